@@ -79,7 +79,8 @@ pub fn take_inode_at<D: BlockDev>(
     requires unused { IsUnused geometry disk.old.blocks number }
     requires some { 1 ≤ kind }
     requires kind { kind ≤ 3 }
-    ensures { Steps D.identity disk.old disk.new result (λ _. TakesNode geometry disk.old.blocks disk.new.blocks number kind major minor links) }
+    ensures { Steps D.identity disk.old disk.new result (λ _.
+        TakesNode geometry disk.old.blocks disk.new.blocks number kind major minor links) }
 {
     let inode = DiskInode {
         kind,

@@ -155,7 +155,8 @@ impl<D: BlockDev, A: Allocator + Clone> Cache<D, A> {
     pub fn write(&mut self, n: usize, at: usize, bytes: &[u8]) -> Result<(), DeviceFault>
         requires block { n < length self.old.blocks }
         requires fits { at + length bytes.now ≤ 1024 }
-        ensures { Steps D.identity self.old self.new result (λ _. self.new.blocks ≡ slice_set self.old.blocks n (splice at bytes.now (block_at self.old.blocks n))) }
+        ensures { Steps D.identity self.old self.new result (λ _. self.new.blocks ≡
+            slice_set self.old.blocks n (splice at bytes.now (block_at self.old.blocks n))) }
     {
         if let Some(slot) = self.held.get_mut(&n) {
             change(slot, at, bytes);
@@ -169,7 +170,8 @@ impl<D: BlockDev, A: Allocator + Clone> Cache<D, A> {
     fn write_unheld(&mut self, n: usize, at: usize, bytes: &[u8]) -> Result<(), DeviceFault>
         requires block { n < length self.old.blocks }
         requires fits { at + length bytes.now ≤ 1024 }
-        ensures { Steps D.identity self.old self.new result (λ _. self.new.blocks ≡ slice_set self.old.blocks n (splice at bytes.now (block_at self.old.blocks n))) }
+        ensures { Steps D.identity self.old self.new result (λ _. self.new.blocks ≡
+            slice_set self.old.blocks n (splice at bytes.now (block_at self.old.blocks n))) }
     {
         let mut block = self.read(n)?;
         if let Some(slot) = self.held.get_mut(&n) {

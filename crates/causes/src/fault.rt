@@ -33,11 +33,7 @@ pub struct Fault {
 }
 
 // What explains that an access isn't allowed.
-fn barred<D: BlockDev, T: Translate + Drop>(
-    machine: &Machine<D, T>,
-    pid: u32,
-    address: u64,
-) -> Why {
+fn barred<D: BlockDev, T: Translate>(machine: &Machine<D, T>, pid: u32, address: u64) -> Why {
     match machine.peek(pid, address / 4096) {
         None => Why::NoPage,
         Some((_, marks)) if !marks.u => Why::Guard,
@@ -47,10 +43,7 @@ fn barred<D: BlockDev, T: Translate + Drop>(
 
 /// The fault that the next instruction of the process with a pid would raise if it were done now; `None` where it would raise none, and
 /// where there is no such process.
-pub fn fault_of<D: BlockDev, T: Translate + Drop>(
-    machine: &Machine<D, T>,
-    pid: u32,
-) -> Option<Fault> {
+pub fn fault_of<D: BlockDev, T: Translate>(machine: &Machine<D, T>, pid: u32) -> Option<Fault> {
     let trap = cause(machine, pid)?;
     let pc = machine.inspect(pid)?.pc;
     let why = match trap.cause {

@@ -45,7 +45,7 @@ fn branch(taken: bool, target: u64) -> Option<Trap>
 }
 
 // A load from this address.
-fn load<D: BlockDev, T: Translate + Drop>(
+fn load<D: BlockDev, T: Translate>(
     machine: &Machine<D, T>,
     pid: u32,
     op: LoadOp,
@@ -63,7 +63,7 @@ fn load<D: BlockDev, T: Translate + Drop>(
 }
 
 // A store to this address.
-fn store<D: BlockDev, T: Translate + Drop>(
+fn store<D: BlockDev, T: Translate>(
     machine: &Machine<D, T>,
     pid: u32,
     op: StoreOp,
@@ -95,7 +95,7 @@ fn sum(seen: &Seen, rs1: Reg, imm: Imm12) -> u64
 
 // An instruction of this process, at its pc.
 #[tactic(auto, unfolding(unixmodel::specs::Meaning::act))]
-fn act<D: BlockDev, T: Translate + Drop>(
+fn act<D: BlockDev, T: Translate>(
     machine: &Machine<D, T>,
     pid: u32,
     seen: &Seen,
@@ -123,7 +123,7 @@ fn act<D: BlockDev, T: Translate + Drop>(
 }
 
 // What a word spells, at the pc of this process.
-fn act_word<D: BlockDev, T: Translate + Drop>(
+fn act_word<D: BlockDev, T: Translate>(
     machine: &Machine<D, T>,
     pid: u32,
     seen: &Seen,
@@ -139,7 +139,7 @@ fn act_word<D: BlockDev, T: Translate + Drop>(
 
 /// What the next instruction of the process with a pid would fault with if it were done now: the trap that the cycle of the process
 /// ends in, if that is no call. `None` where it would not fault, and where there is no such process.
-pub fn cause<D: BlockDev, T: Translate + Drop>(machine: &Machine<D, T>, pid: u32) -> Option<Trap>
+pub fn cause<D: BlockDev, T: Translate>(machine: &Machine<D, T>, pid: u32) -> Option<Trap>
     ensures { result ≡ option_and_then trap_shown (shown_process machine.now.state pid) }
 {
     let seen = machine.inspect(pid)?;

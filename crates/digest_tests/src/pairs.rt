@@ -55,24 +55,20 @@ fn image_of(alloc: Global, blocks: u32) -> Option<Vec<u8>> {
 }
 
 // A machine that boots from an image of so many blocks.
-fn booted<T: Translate + Drop>(
-    alloc: Global,
-    translator: T,
-    blocks: u32,
-) -> Option<Machine<MemDisk, T>> {
+fn booted<T: Translate>(alloc: Global, translator: T, blocks: u32) -> Option<Machine<MemDisk, T>> {
     let disk = MemDisk::new(image_of(alloc, blocks)?).ok()?;
     boot(alloc, disk, translator, FRAMES).ok()
 }
 
 // The digest of a machine after an event.
-fn after<T: Translate + Drop>(machine: &mut Machine<MemDisk, T>, event: Event) -> Option<u64> {
+fn after<T: Translate>(machine: &mut Machine<MemDisk, T>, event: Event) -> Option<u64> {
     let mut out = Writer::new(sink());
     machine.step(event, &mut out).ok()?;
     machine.digest().ok()
 }
 
 // Whether two machines have the same digest after each of so many steps.
-fn go_together<S: Translate + Drop, T: Translate + Drop>(
+fn go_together<S: Translate, T: Translate>(
     one: &mut Machine<MemDisk, S>,
     other: &mut Machine<MemDisk, T>,
     steps: u32,
@@ -87,7 +83,7 @@ fn go_together<S: Translate + Drop, T: Translate + Drop>(
 }
 
 // Whether two machines have other digests after each of so many steps.
-fn stay_apart<T: Translate + Drop>(
+fn stay_apart<T: Translate>(
     one: &mut Machine<MemDisk, T>,
     other: &mut Machine<MemDisk, T>,
     steps: u32,

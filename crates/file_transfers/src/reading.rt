@@ -16,7 +16,7 @@ use tree::Tree;
 const SHORT: usize = 64;
 
 // Reads as many bytes as fit in a buffer, and puts them into the memory of a place.
-fn read_piece<D: BlockDev, T: Translate + Drop>(
+fn read_piece<D: BlockDev, T: Translate>(
     tree: &mut Tree<D>,
     spaces: &mut Spaces<T>,
     at: usize,
@@ -41,7 +41,7 @@ fn read_piece<D: BlockDev, T: Translate + Drop>(
 
 /// Reads bytes of a node from the place `offset` on into the memory of a place from `address` on, at most `count` of them,
 /// and tells how many. Where the device fails the first of them may have come.
-pub fn read_node<D: BlockDev, T: Translate + Drop>(
+pub fn read_node<D: BlockDev, T: Translate>(
     tree: &mut Tree<D>,
     spaces: &mut Spaces<T>,
     at: usize,
@@ -69,7 +69,7 @@ pub fn read_node<D: BlockDev, T: Translate + Drop>(
 
 // The same by way of a buffer of one block. It is out of line: a short read needs no room for the block.
 #[inline(never)]
-fn read_blocks<D: BlockDev, T: Translate + Drop>(
+fn read_blocks<D: BlockDev, T: Translate>(
     tree: &mut Tree<D>,
     spaces: &mut Spaces<T>,
     at: usize,

@@ -17,7 +17,7 @@ use sv39::Translate;
 use tree::Tree;
 
 // The bytes of a place from an address on, up to the end of its page, and so many at the most.
-fn piece<T: Translate + Drop>(spaces: &Spaces<T>, at: usize, address: u64, most: u64) -> &[u8]
+fn piece<T: Translate>(spaces: &Spaces<T>, at: usize, address: u64, most: u64) -> &[u8]
     requires { has_space spaces.now at ≡ true }
     ensures { result.now ≡ take most (piece_at Load (view_at spaces.now at).memory address) }
 {
@@ -49,7 +49,7 @@ fn write_piece<D: BlockDev>(
 /// Writes `count` bytes of the memory of a place from `address` on into a file from the place `offset` on, as many as there
 /// are blocks for, and tells how many. `None` comes where `offset` lies past the file's end or the file would be longer than
 /// any file of the disk's format; nothing is written then.
-pub fn write_node<D: BlockDev, T: Translate + Drop>(
+pub fn write_node<D: BlockDev, T: Translate>(
     tree: &mut Tree<D>,
     spaces: &Spaces<T>,
     at: usize,
@@ -73,7 +73,7 @@ pub fn write_node<D: BlockDev, T: Translate + Drop>(
 }
 
 // The same where the bytes lie in several pages.
-fn write_pages<D: BlockDev, T: Translate + Drop>(
+fn write_pages<D: BlockDev, T: Translate>(
     tree: &mut Tree<D>,
     spaces: &Spaces<T>,
     at: usize,

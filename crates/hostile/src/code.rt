@@ -227,11 +227,7 @@ const ROWS: [Row; 7] = [
 ];
 
 // Gives a machine so many steps.
-fn go<T: Translate + Drop>(
-    machine: &mut Machine<MemDisk, T>,
-    steps: u32,
-    way: Way,
-) -> Result<(), Halt> {
+fn go<T: Translate>(machine: &mut Machine<MemDisk, T>, steps: u32, way: Way) -> Result<(), Halt> {
     let mut out = Writer::new(sink());
     let size = match way {
         Way::Events => return singly(machine, steps),
@@ -244,7 +240,7 @@ fn go<T: Translate + Drop>(
 }
 
 // Gives a machine so many steps, each as an event.
-fn singly<T: Translate + Drop>(machine: &mut Machine<MemDisk, T>, steps: u32) -> Result<(), Halt> {
+fn singly<T: Translate>(machine: &mut Machine<MemDisk, T>, steps: u32) -> Result<(), Halt> {
     let mut out = Writer::new(sink());
     for _ in 0..steps {
         machine.step(Event::Step, &mut out)?;
@@ -253,7 +249,7 @@ fn singly<T: Translate + Drop>(machine: &mut Machine<MemDisk, T>, steps: u32) ->
 }
 
 // The digest of a machine after so many steps of a program, and why it stops at the next one.
-fn shown<T: Translate + Drop>(
+fn shown<T: Translate>(
     alloc: Global,
     program: &[u8],
     translator: T,

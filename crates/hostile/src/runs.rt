@@ -15,7 +15,7 @@ const STEPS: u32 = 10_000;
 
 /// A machine that ran.
 #[derive(Drop)]
-pub struct Run<T: Translate + Drop> {
+pub struct Run<T: Translate> {
     pub machine: Machine<MemDisk, T>,
     pub printed: Vec<u8>,
     /// How many steps it took, and why it stopped at the next one, if it did.
@@ -23,7 +23,7 @@ pub struct Run<T: Translate + Drop> {
 }
 
 // The keys, and all steps and ticks behind them.
-fn go<T: Translate + Drop>(
+fn go<T: Translate>(
     machine: &mut Machine<MemDisk, T>,
     keys: &[u8],
     out: &mut Writer<Vec<u8>>,
@@ -43,7 +43,7 @@ fn go<T: Translate + Drop>(
 }
 
 // A run over a translator.
-fn run_over<T: Translate + Drop>(
+fn run_over<T: Translate>(
     alloc: Global,
     program: &[u8],
     keys: &[u8],
@@ -61,7 +61,7 @@ fn run_over<T: Translate + Drop>(
 }
 
 // Whether a page of a process is the same in both; `None` where neither has it.
-fn is_same_page<T: Translate + Drop>(
+fn is_same_page<T: Translate>(
     first: &Machine<MemDisk, Plain>,
     other: &Machine<MemDisk, T>,
     pid: u32,
@@ -75,7 +75,7 @@ fn is_same_page<T: Translate + Drop>(
 }
 
 // Whether all pages of a process are the same in both.
-fn has_same_pages<T: Translate + Drop>(
+fn has_same_pages<T: Translate>(
     first: &Machine<MemDisk, Plain>,
     other: &Machine<MemDisk, T>,
     pid: u32,
@@ -91,7 +91,7 @@ fn has_same_pages<T: Translate + Drop>(
 }
 
 // Whether both have the same processes with the same pages. A pid takes a step, so there are no more pids than steps and one.
-fn has_same_processes<T: Translate + Drop>(
+fn has_same_processes<T: Translate>(
     first: &Machine<MemDisk, Plain>,
     other: &Machine<MemDisk, T>,
     steps: u32,
@@ -105,7 +105,7 @@ fn has_same_processes<T: Translate + Drop>(
 }
 
 // Whether a run over this translator shows what the first run shows.
-fn is_like<T: Translate + Drop>(
+fn is_like<T: Translate>(
     alloc: Global,
     program: &[u8],
     keys: &[u8],

@@ -140,7 +140,8 @@ impl<D: BlockDev> Volume<D> {
     pub fn write_at(&mut self, number: usize, at: usize, bytes: &[u8]) -> Result<(), InodeFault>
         requires up { self.old.failed ≡ false }
         requires node { IsSome (slot self.old.nodes number) }
-        ensures { Serves D.identity is_device self.old self.new result (λ _. Writes self.old self.new number at bytes.now) (LacksWriting self.old self.new number at bytes.now) }
+        ensures { Serves D.identity is_device self.old self.new result
+            (λ _. Writes self.old self.new number at bytes.now) (LacksWriting self.old self.new number at bytes.now) }
     {
         let written = match self.try_writing(number, at, bytes)? {
             Outcome::PastEnd => return Err(InodeFault::PastEnd),
@@ -225,7 +226,8 @@ impl<D: BlockDev> Volume<D> {
         requires free { slot self.old.nodes number ≡ None }
         requires some { 1 ≤ kind }
         requires kind { kind ≤ 3 }
-        ensures { Tries D.identity self.old self.new result (λ _. Changes self.old self.new number (Some (fresh_node kind major minor links))) }
+        ensures { Tries D.identity self.old self.new result (λ _. Changes self.old self.new number
+            (Some (fresh_node kind major minor links))) }
     {
         let result = take_inode_at(
             &mut self.disk,

@@ -35,13 +35,13 @@ const FIVE: [u32; 3] = [
 
 // ---- what calls need
 
-fn expect_space<T: Translate + Drop>(rt: &impl Abort, spaces: &Spaces<T>, at: usize)
+fn expect_space<T: Translate>(rt: &impl Abort, spaces: &Spaces<T>, at: usize)
     ensures { has_space spaces.now at ≡ true }
 {
     assert!(rt; spaces.has_space(at));
 }
 
-fn expect_free<T: Translate + Drop>(rt: &impl Abort, spaces: &Spaces<T>, at: usize)
+fn expect_free<T: Translate>(rt: &impl Abort, spaces: &Spaces<T>, at: usize)
     ensures { has_space spaces.now at ≡ false }
 {
     assert!(rt; !spaces.has_space(at));
@@ -49,7 +49,7 @@ fn expect_free<T: Translate + Drop>(rt: &impl Abort, spaces: &Spaces<T>, at: usi
 
 // ---- calls
 
-fn create<T: Translate + Drop>(rt: &impl Abort, spaces: &mut Spaces<T>, at: usize) -> bool {
+fn create<T: Translate>(rt: &impl Abort, spaces: &mut Spaces<T>, at: usize) -> bool {
     assert!(rt; at < 64);
     expect_free(rt, spaces, at);
     spaces.create(at)
@@ -62,17 +62,12 @@ fn copy(rt: &impl Abort, spaces: &mut Flat, from: usize, to: usize) -> bool {
     spaces.copy(from, to)
 }
 
-fn grow<T: Translate + Drop>(
-    rt: &impl Abort,
-    spaces: &mut Spaces<T>,
-    at: usize,
-    bytes: u64,
-) -> bool {
+fn grow<T: Translate>(rt: &impl Abort, spaces: &mut Spaces<T>, at: usize, bytes: u64) -> bool {
     expect_space(rt, spaces, at);
     spaces.grow(at, bytes, HEAP)
 }
 
-fn shrink<T: Translate + Drop>(rt: &impl Abort, spaces: &mut Spaces<T>, at: usize, bytes: u64) {
+fn shrink<T: Translate>(rt: &impl Abort, spaces: &mut Spaces<T>, at: usize, bytes: u64) {
     expect_space(rt, spaces, at);
     let size = spaces.size(at);
     assert!(rt; bytes <= size);
@@ -91,7 +86,7 @@ fn destroy(rt: &impl Abort, spaces: &mut Flat, at: usize) {
     spaces.destroy(at);
 }
 
-fn activate<T: Translate + Drop>(rt: &impl Abort, spaces: &mut Spaces<T>, at: usize) {
+fn activate<T: Translate>(rt: &impl Abort, spaces: &mut Spaces<T>, at: usize) {
     expect_space(rt, spaces, at);
     spaces.activate(at, &[0; 32], 0);
 }

@@ -49,7 +49,7 @@ fn is_answer(ram: &Ram, plain: &mut Plain, va: u64, access: Access, want: Option
 }
 
 // Whether one that remembers what this translator answers says so, after a fence.
-fn is_recalled<T: Translate + Drop>(
+fn is_recalled<T: Translate>(
     ram: &Ram,
     below: T,
     va: u64,

@@ -28,7 +28,7 @@ const LOOP: u32 = 8;
 // One event, at which somebody looks on. It is inlined, so that the loop of a run has the machine's step in it: what calls it else
 // gives an event that is known.
 #[inline(always)]
-fn step<D: BlockDev, T: Translate + Drop, V: Watch, W: Out>(
+fn step<D: BlockDev, T: Translate, V: Watch, W: Out>(
     machine: &mut Machine<D, T>,
     event: Event,
     watch: &mut V,
@@ -44,7 +44,7 @@ fn step<D: BlockDev, T: Translate + Drop, V: Watch, W: Out>(
 }
 
 // The same event, so many times, with nothing between: each by itself.
-fn each<D: BlockDev, T: Translate + Drop, V: Watch, W: Out>(
+fn each<D: BlockDev, T: Translate, V: Watch, W: Out>(
     machine: &mut Machine<D, T>,
     event: Event,
     times: u32,
@@ -64,7 +64,7 @@ fn each<D: BlockDev, T: Translate + Drop, V: Watch, W: Out>(
 }
 
 // The same event, so many times, with nothing between: steps that nobody looks at go in one loop.
-fn batch<D: BlockDev, T: Translate + Drop, V: Watch, W: Out>(
+fn batch<D: BlockDev, T: Translate, V: Watch, W: Out>(
     machine: &mut Machine<D, T>,
     event: Event,
     times: u32,
@@ -103,7 +103,7 @@ fn write_out<V: Watch, W: Write>(
 }
 
 // The same event, so many times.
-fn repeat<D: BlockDev, T: Translate + Drop, V: Watch, W: Write>(
+fn repeat<D: BlockDev, T: Translate, V: Watch, W: Write>(
     machine: &mut Machine<D, T>,
     event: Event,
     times: u32,
@@ -127,7 +127,7 @@ fn repeat<D: BlockDev, T: Translate + Drop, V: Watch, W: Write>(
 }
 
 // Keys, one after the other.
-pub(crate) fn press<D: BlockDev, T: Translate + Drop, V: Watch, W: Out>(
+pub(crate) fn press<D: BlockDev, T: Translate, V: Watch, W: Out>(
     machine: &mut Machine<D, T>,
     keys: &[u8],
     watch: &mut V,
@@ -144,7 +144,7 @@ pub(crate) fn press<D: BlockDev, T: Translate + Drop, V: Watch, W: Out>(
 }
 
 // The events of one command.
-fn obey<D: BlockDev, T: Translate + Drop, V: Watch, W: Write>(
+fn obey<D: BlockDev, T: Translate, V: Watch, W: Write>(
     machine: &mut Machine<D, T>,
     command: &Command<'_>,
     since: &mut u32,
@@ -168,7 +168,7 @@ fn obey<D: BlockDev, T: Translate + Drop, V: Watch, W: Write>(
 
 /// The events of a script, up to the first at which the machine halts: the machine's run over them
 /// all, without a list of them. The console's bytes are written out as the machine runs.
-pub fn play<D: BlockDev, T: Translate + Drop, V: Watch, W: Write>(
+pub fn play<D: BlockDev, T: Translate, V: Watch, W: Write>(
     machine: &mut Machine<D, T>,
     script: &[Command<'_>],
     watch: &mut V,

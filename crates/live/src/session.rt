@@ -17,7 +17,7 @@ use sv39::Translate;
 use unixmodel::event::Event;
 
 // What a machine does.
-fn mood<D: BlockDev, T: Translate + Drop>(machine: &Machine<D, T>) -> Mood
+fn mood<D: BlockDev, T: Translate>(machine: &Machine<D, T>) -> Mood
     ensures { result ≡ mood_of machine.now.state }
 {
     if !machine.is_idle() {
@@ -57,7 +57,7 @@ fn ticks(mood: Mood, given: &Given) -> bool
 }
 
 // Steps until no process runs and none is ready, so many at most; and how many they were, with the one at which the machine halted.
-fn work<D: BlockDev, T: Translate + Drop, W: Out>(
+fn work<D: BlockDev, T: Translate, W: Out>(
     machine: &mut Machine<D, T>,
     most: u32,
     out: &mut W,
@@ -80,7 +80,7 @@ fn work<D: BlockDev, T: Translate + Drop, W: Out>(
 }
 
 // A quantum of steps, which is recorded.
-fn advance<D: BlockDev, T: Translate + Drop, S: Terminal, W: Out>(
+fn advance<D: BlockDev, T: Translate, S: Terminal, W: Out>(
     machine: &mut Machine<D, T>,
     quantum: u32,
     terminal: &mut S,
@@ -97,7 +97,7 @@ fn advance<D: BlockDev, T: Translate + Drop, S: Terminal, W: Out>(
 }
 
 // Keys, which are recorded.
-fn type_keys<D: BlockDev, T: Translate + Drop, S: Terminal, W: Out>(
+fn type_keys<D: BlockDev, T: Translate, S: Terminal, W: Out>(
     machine: &mut Machine<D, T>,
     keys: &[u8],
     terminal: &mut S,
@@ -113,7 +113,7 @@ fn type_keys<D: BlockDev, T: Translate + Drop, S: Terminal, W: Out>(
 }
 
 // A tick where it is due, which is recorded.
-fn tick_if<D: BlockDev, T: Translate + Drop, S: Terminal, W: Out>(
+fn tick_if<D: BlockDev, T: Translate, S: Terminal, W: Out>(
     machine: &mut Machine<D, T>,
     is_due: bool,
     terminal: &mut S,
@@ -133,7 +133,7 @@ fn tick_if<D: BlockDev, T: Translate + Drop, S: Terminal, W: Out>(
 }
 
 // What comes at once of what the keyboard gave.
-fn answer<D: BlockDev, T: Translate + Drop, S: Terminal, W: Out>(
+fn answer<D: BlockDev, T: Translate, S: Terminal, W: Out>(
     machine: &mut Machine<D, T>,
     mood: Mood,
     given: &Given,
@@ -150,7 +150,7 @@ fn answer<D: BlockDev, T: Translate + Drop, S: Terminal, W: Out>(
 }
 
 // Shows the processes where that is wished.
-fn show_if<D: BlockDev, T: Translate + Drop, S: Terminal>(
+fn show_if<D: BlockDev, T: Translate, S: Terminal>(
     machine: &Machine<D, T>,
     given: &Given,
     terminal: &mut S,
@@ -164,7 +164,7 @@ fn show_if<D: BlockDev, T: Translate + Drop, S: Terminal>(
 }
 
 // What comes of what the keyboard gave, which isn't its end: the events, and the quantum behind them.
-fn go_on<D: BlockDev, T: Translate + Drop, S: Terminal, W: Out>(
+fn go_on<D: BlockDev, T: Translate, S: Terminal, W: Out>(
     machine: &mut Machine<D, T>,
     quantum: u32,
     given: &Given,
@@ -185,7 +185,7 @@ fn go_on<D: BlockDev, T: Translate + Drop, S: Terminal, W: Out>(
 /// A session: quanta of steps, keys and ticks, as the keyboard gives keys or none, until its end. The events are recorded, and the
 /// console's bytes are written out before each question to the keyboard; where that fails, the session ends too. `Err` says how
 /// the machine halted.
-pub fn session<D: BlockDev, T: Translate + Drop, S: Terminal, W: Write>(
+pub fn session<D: BlockDev, T: Translate, S: Terminal, W: Write>(
     machine: &mut Machine<D, T>,
     quantum: u32,
     terminal: &mut S,

@@ -67,7 +67,7 @@ pub trait Terminal {
         ensures gives { gives self.new ≡ gives self.old };
 
     /// Shows the processes of the machine, as was wished at the keyboard.
-    fn show<D: BlockDev, T: Translate + Drop>(&mut self, machine: &Machine<D, T>)
+    fn show<D: BlockDev, T: Translate>(&mut self, machine: &Machine<D, T>)
         ensures kept { kept self.new ≡ kept self.old }
         ensures gives { gives self.new ≡ gives self.old };
 }

@@ -8,10 +8,10 @@ use unixmodel::event::Event;
 /// Looks at a machine before and after each of its events. It can't change what they do.
 pub trait Watch {
     /// The machine is about to be given this event.
-    fn before<D: BlockDev, T: Translate + Drop>(&mut self, machine: &Machine<D, T>, event: Event);
+    fn before<D: BlockDev, T: Translate>(&mut self, machine: &Machine<D, T>, event: Event);
 
     /// The machine was given this event. `ended` is what it answered.
-    fn after<D: BlockDev, T: Translate + Drop>(
+    fn after<D: BlockDev, T: Translate>(
         &mut self,
         machine: &Machine<D, T>,
         event: Event,
@@ -34,7 +34,7 @@ pub trait Watch {
     fn repeated(&mut self, _event: Event, _times: u32) {}
 
     /// No more events come.
-    fn end<D: BlockDev, T: Translate + Drop>(&mut self, machine: &Machine<D, T>);
+    fn end<D: BlockDev, T: Translate>(&mut self, machine: &Machine<D, T>);
 }
 
 /// Looks at nothing.
@@ -43,14 +43,10 @@ pub struct Nobody;
 
 impl Watch for Nobody {
     #[inline]
-    fn before<D: BlockDev, T: Translate + Drop>(
-        &mut self,
-        _machine: &Machine<D, T>,
-        _event: Event,
-    ) {}
+    fn before<D: BlockDev, T: Translate>(&mut self, _machine: &Machine<D, T>, _event: Event) {}
 
     #[inline]
-    fn after<D: BlockDev, T: Translate + Drop>(
+    fn after<D: BlockDev, T: Translate>(
         &mut self,
         _machine: &Machine<D, T>,
         _event: Event,
@@ -63,5 +59,5 @@ impl Watch for Nobody {
     }
 
     #[inline]
-    fn end<D: BlockDev, T: Translate + Drop>(&mut self, _machine: &Machine<D, T>) {}
+    fn end<D: BlockDev, T: Translate>(&mut self, _machine: &Machine<D, T>) {}
 }

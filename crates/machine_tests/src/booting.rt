@@ -38,7 +38,7 @@ fn disk_of(alloc: Global, image: &[u8]) -> Option<MemDisk> {
 }
 
 // A machine over this translator in so many frames.
-fn booted<T: Translate + Drop>(
+fn booted<T: Translate>(
     alloc: Global,
     image: &[u8],
     translator: T,
@@ -76,7 +76,7 @@ fn its_path_is_its_argument(rt: HostRuntime) {
 }
 
 // Whether it prints nothing, since it has no descriptors, and ends at the ninth step.
-fn is_silent<T: Translate + Drop>(alloc: Global, machine: &mut Machine<MemDisk, T>) -> bool {
+fn is_silent<T: Translate>(alloc: Global, machine: &mut Machine<MemDisk, T>) -> bool {
     let mut out = Writer::new(Vec::new(alloc));
     let begun = machine.run(&[Event::Step; 8], &mut out);
     let done = machine.run(&[Event::Step; 1], &mut out);
@@ -85,7 +85,7 @@ fn is_silent<T: Translate + Drop>(alloc: Global, machine: &mut Machine<MemDisk, 
 }
 
 // The same of one that boots from an image.
-fn ends<T: Translate + Drop>(alloc: Global, image: &[u8], translator: T) -> Option<bool> {
+fn ends<T: Translate>(alloc: Global, image: &[u8], translator: T) -> Option<bool> {
     let mut machine = booted(alloc, image, translator, 64)?;
     Some(is_silent(alloc, &mut machine))
 }

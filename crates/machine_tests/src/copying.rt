@@ -76,7 +76,7 @@ fn copy_of(alloc: Global, machine: &Machine<MemDisk, Plain>) -> Option<Machine<M
 }
 
 /// Whether two machines tell the same of themselves.
-pub(crate) fn is_even<T: Translate + Drop, U: Translate + Drop>(
+pub(crate) fn is_even<T: Translate, U: Translate>(
     one: &Machine<MemDisk, T>,
     other: &Machine<MemDisk, U>,
 ) -> bool {
@@ -88,7 +88,7 @@ pub(crate) fn is_even<T: Translate + Drop, U: Translate + Drop>(
     one.free_frames() == other.free_frames() && one.is_idle() == other.is_idle()
 }
 
-fn go<T: Translate + Drop>(
+fn go<T: Translate>(
     machine: &mut Machine<MemDisk, T>,
     from: usize,
     to: usize,
@@ -100,7 +100,7 @@ fn go<T: Translate + Drop>(
 }
 
 // Whether two machines go alike through the events that are left.
-fn go_alike<T: Translate + Drop, U: Translate + Drop>(
+fn go_alike<T: Translate, U: Translate>(
     (one, out): (&mut Machine<MemDisk, T>, &mut Writer<Vec<u8>>),
     (other, written): (&mut Machine<MemDisk, U>, &mut Writer<Vec<u8>>),
     from: usize,

@@ -348,12 +348,12 @@ pub(crate) fn narrow_console(alloc: Global, room: usize) -> Writer<Narrow> {
 
 // A machine, and what it prints.
 #[derive(Drop)]
-struct Play<T: Translate + Drop> {
+struct Play<T: Translate> {
     machine: Machine<MemDisk, T>,
     out: Writer<Narrow>,
 }
 
-impl<T: Translate + Drop> Play<T> {
+impl<T: Translate> Play<T> {
     // Boots a program over a translator in so many frames, with a console that takes so many bytes.
     fn boot(
         alloc: Global,
@@ -600,7 +600,7 @@ fn none_wrong(rt: &impl Abort, wrong: Option<usize>) {
 
 // Boots a program over a translator in so many frames, with a console that takes so many bytes, and does these acts. After
 // them it has printed the text, where one is given.
-fn run_over<T: Translate + Drop>(
+fn run_over<T: Translate>(
     rt: &(impl Abort + AllocGlobal),
     program: Program<'_>,
     translator: T,
@@ -617,7 +617,7 @@ fn run_over<T: Translate + Drop>(
 
 /// Boots a program over a translator in 64 frames, with a console that takes so many bytes, does these acts, and gives the
 /// machine up: the disk that it leaves, or why there is none.
-pub(crate) fn saved<T: Translate + Drop>(
+pub(crate) fn saved<T: Translate>(
     rt: &(impl Abort + AllocGlobal),
     program: Program<'_>,
     translator: T,
@@ -674,7 +674,7 @@ pub(crate) fn prints(
 }
 
 // After each of these calls, over a translator: what it answers, and how many frames are free.
-fn expect_answers_over<T: Translate + Drop>(
+fn expect_answers_over<T: Translate>(
     rt: &(impl Abort + AllocGlobal),
     frames: u32,
     translator: T,

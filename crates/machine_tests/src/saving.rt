@@ -51,7 +51,7 @@ fn image_of(alloc: Global, names: &[Name<'_>]) -> Option<Vec<u8>> {
 }
 
 // After these acts the machine over this translator leaves this image, in which so much is in use.
-fn leaves_over<T: Translate + Drop>(
+fn leaves_over<T: Translate>(
     rt: &(impl Abort + AllocGlobal),
     program: Program<'_>,
     translator: T,

@@ -52,7 +52,7 @@ pub struct Unreached {
 }
 
 // One event, which is recorded.
-fn give<D: BlockDev, T: Translate + Drop, R: Record, V: Watch, W: Write>(
+fn give<D: BlockDev, T: Translate, R: Record, V: Watch, W: Write>(
     machine: &mut Machine<D, T>,
     event: Event,
     keeper: &mut R,
@@ -70,7 +70,7 @@ fn give<D: BlockDev, T: Translate + Drop, R: Record, V: Watch, W: Write>(
 }
 
 // The same event, so many times.
-fn repeat<D: BlockDev, T: Translate + Drop, R: Record, V: Watch, W: Write>(
+fn repeat<D: BlockDev, T: Translate, R: Record, V: Watch, W: Write>(
     machine: &mut Machine<D, T>,
     event: Event,
     times: u32,
@@ -88,7 +88,7 @@ fn repeat<D: BlockDev, T: Translate + Drop, R: Record, V: Watch, W: Write>(
 }
 
 // Keys, one after the other.
-fn press<D: BlockDev, T: Translate + Drop, R: Record, V: Watch, W: Write>(
+fn press<D: BlockDev, T: Translate, R: Record, V: Watch, W: Write>(
     machine: &mut Machine<D, T>,
     keys: &[u8],
     keeper: &mut R,
@@ -105,7 +105,7 @@ fn press<D: BlockDev, T: Translate + Drop, R: Record, V: Watch, W: Write>(
 }
 
 // A tick where it is due.
-fn tick_if<D: BlockDev, T: Translate + Drop, R: Record, V: Watch, W: Write>(
+fn tick_if<D: BlockDev, T: Translate, R: Record, V: Watch, W: Write>(
     machine: &mut Machine<D, T>,
     is_due: bool,
     keeper: &mut R,
@@ -123,7 +123,7 @@ fn tick_if<D: BlockDev, T: Translate + Drop, R: Record, V: Watch, W: Write>(
 }
 
 // A step, and a tick where the clock strikes.
-fn pace<D: BlockDev, T: Translate + Drop, R: Record, V: Watch, W: Write>(
+fn pace<D: BlockDev, T: Translate, R: Record, V: Watch, W: Write>(
     machine: &mut Machine<D, T>,
     clock: &mut Clock,
     keeper: &mut R,
@@ -139,7 +139,7 @@ fn pace<D: BlockDev, T: Translate + Drop, R: Record, V: Watch, W: Write>(
 
 // The first of so many steps behind none of which the clock strikes, and at none of which anybody looks on: as many as are done in
 // one go, and all where no process runs and none is ready; and how many they were.
-fn stride<D: BlockDev, T: Translate + Drop, R: Record, W: Write>(
+fn stride<D: BlockDev, T: Translate, R: Record, W: Write>(
     machine: &mut Machine<D, T>,
     most: u32,
     keeper: &mut R,
@@ -163,7 +163,7 @@ fn stride<D: BlockDev, T: Translate + Drop, R: Record, W: Write>(
 
 // The first of so many steps, with a tick where the clock strikes behind it; and how many they were. Where nobody looks on at each
 // step they are as many as are done in one go.
-fn go_on<D: BlockDev, T: Translate + Drop, R: Record, V: Watch, W: Write>(
+fn go_on<D: BlockDev, T: Translate, R: Record, V: Watch, W: Write>(
     machine: &mut Machine<D, T>,
     most: u32,
     clock: &mut Clock,
@@ -187,7 +187,7 @@ fn go_on<D: BlockDev, T: Translate + Drop, R: Record, V: Watch, W: Write>(
 }
 
 // Whether that has come for which a play waits. A halt ends the play before.
-fn is_reached<D: BlockDev, T: Translate + Drop, W: Write>(
+fn is_reached<D: BlockDev, T: Translate, W: Write>(
     machine: &Machine<D, T>,
     goal: Option<&Goal>,
     out: &Tail<W>,
@@ -211,7 +211,7 @@ fn write_out_at<V: Watch, W: Write>(made: u32, watch: &mut V, out: &mut Tail<W>)
 }
 
 // Steps until that has come for which a play waits, so many at most; and whether it has come.
-fn walk<D: BlockDev, T: Translate + Drop, R: Record, V: Watch, W: Write>(
+fn walk<D: BlockDev, T: Translate, R: Record, V: Watch, W: Write>(
     machine: &mut Machine<D, T>,
     goal: Option<&Goal>,
     most: u32,
@@ -238,7 +238,7 @@ fn walk<D: BlockDev, T: Translate + Drop, R: Record, V: Watch, W: Write>(
 }
 
 // The events of a command.
-fn command<D: BlockDev, T: Translate + Drop, R: Record, V: Watch, W: Write>(
+fn command<D: BlockDev, T: Translate, R: Record, V: Watch, W: Write>(
     machine: &mut Machine<D, T>,
     command: &Command<'_>,
     clock: &mut Clock,
@@ -264,7 +264,7 @@ fn command<D: BlockDev, T: Translate + Drop, R: Record, V: Watch, W: Write>(
 }
 
 // The events of an act; and what it waited for in vain, if it did.
-fn act<D: BlockDev, T: Translate + Drop, R: Record, V: Watch, W: Write>(
+fn act<D: BlockDev, T: Translate, R: Record, V: Watch, W: Write>(
     machine: &mut Machine<D, T>,
     act: &Act<'_>,
     clock: &mut Clock,
@@ -295,7 +295,7 @@ fn act<D: BlockDev, T: Translate + Drop, R: Record, V: Watch, W: Write>(
 
 /// The events of a play, up to the first at which the machine halts, or to a line that waits in vain, which is told then: the
 /// machine's run over them all, and just these are recorded. The console's bytes are written out as the machine runs.
-pub fn perform<D: BlockDev, T: Translate + Drop, R: Record, V: Watch, W: Write>(
+pub fn perform<D: BlockDev, T: Translate, R: Record, V: Watch, W: Write>(
     machine: &mut Machine<D, T>,
     play: &Play<'_>,
     keeper: &mut R,

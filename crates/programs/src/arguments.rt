@@ -27,7 +27,7 @@ pub struct Arguments {
 }
 
 // The word of 8 bytes at an address of a place; `None` where its program may not read it.
-fn word_at<T: Translate + Drop>(spaces: &Spaces<T>, at: usize, address: u64) -> Option<u64>
+fn word_at<T: Translate>(spaces: &Spaces<T>, at: usize, address: u64) -> Option<u64>
     requires { has_space spaces.now at ≡ true }
     ensures { result ≡ word_in (reach Load (view_at spaces.now at).memory address) }
 {
@@ -54,7 +54,7 @@ fn push(page: &mut [u8; FRAME_SIZE], top: usize, bytes: &[u8]) -> Option<usize>
 
 // Pushes the string at an address of a place with its NUL, and tells where it stands. `None`: its program may not read it,
 // or there is no room for it.
-fn push_string<T: Translate + Drop>(
+fn push_string<T: Translate>(
     spaces: &Spaces<T>,
     at: usize,
     address: u64,
@@ -110,7 +110,7 @@ fn finish(
 
 /// The arguments that argv points at in a place, as they stand on the stack of a program whose segments have so many pages.
 /// `None` where there are more than 31, a word or a string can't be read, or the stack's page has no room for them.
-pub fn read_arguments<T: Translate + Drop>(
+pub fn read_arguments<T: Translate>(
     spaces: &Spaces<T>,
     at: usize,
     argv: u64,

@@ -39,7 +39,7 @@ const STACK: Perm = Perm {
 };
 
 /// All pages of a place go.
-pub fn clear<T: Translate + Drop>(spaces: &mut Spaces<T>, at: usize)
+pub fn clear<T: Translate>(spaces: &mut Spaces<T>, at: usize)
     requires { has_space spaces.old at ≡ true }
     ensures { spaces.new ≡ with_view spaces.old at no_pages }
 {
@@ -48,7 +48,7 @@ pub fn clear<T: Translate + Drop>(spaces: &mut Spaces<T>, at: usize)
 }
 
 // Adds so many pages of zeros, for which there are frames.
-fn add_pages<T: Translate + Drop>(spaces: &mut Spaces<T>, at: usize, count: u64, perm: Perm)
+fn add_pages<T: Translate>(spaces: &mut Spaces<T>, at: usize, count: u64, perm: Perm)
     requires space { has_space spaces.old at ≡ true }
     requires paged { IsPaged (view_at spaces.old at) }
     requires few { count < 2 ^ 32 }
@@ -61,7 +61,7 @@ fn add_pages<T: Translate + Drop>(spaces: &mut Spaces<T>, at: usize, count: u64,
 }
 
 // Reads as many bytes of a file as fit in a buffer, all of which it has, and puts them into the pages of a place.
-fn fill_piece<D: BlockDev, T: Translate + Drop>(
+fn fill_piece<D: BlockDev, T: Translate>(
     tree: &mut Tree<D>,
     spaces: &mut Spaces<T>,
     at: usize,
@@ -85,7 +85,7 @@ fn fill_piece<D: BlockDev, T: Translate + Drop>(
 }
 
 // Puts bytes of a file, which it has, into the pages of a place from an address on, whatever their marks.
-fn fill_node<D: BlockDev, T: Translate + Drop>(
+fn fill_node<D: BlockDev, T: Translate>(
     tree: &mut Tree<D>,
     spaces: &mut Spaces<T>,
     at: usize,
@@ -118,7 +118,7 @@ fn fill_node<D: BlockDev, T: Translate + Drop>(
 }
 
 // Brings a segment of a file behind the pages of a place: those of the gap before it come too.
-fn load_segment<D: BlockDev, T: Translate + Drop>(
+fn load_segment<D: BlockDev, T: Translate>(
     tree: &mut Tree<D>,
     spaces: &mut Spaces<T>,
     at: usize,
@@ -156,7 +156,7 @@ fn load_segment<D: BlockDev, T: Translate + Drop>(
 }
 
 // Loads what the program header at a place asks for, which isn't refused, and tells where it ends.
-fn load_next<D: BlockDev, T: Translate + Drop>(
+fn load_next<D: BlockDev, T: Translate>(
     tree: &mut Tree<D>,
     spaces: &mut Spaces<T>,
     at: usize,
@@ -188,7 +188,7 @@ fn load_next<D: BlockDev, T: Translate + Drop>(
 }
 
 // Loads the segments of a file, none of which is refused, into a place without pages.
-fn load_segments<D: BlockDev, T: Translate + Drop>(
+fn load_segments<D: BlockDev, T: Translate>(
     tree: &mut Tree<D>,
     spaces: &mut Spaces<T>,
     at: usize,
@@ -216,7 +216,7 @@ fn load_segments<D: BlockDev, T: Translate + Drop>(
 }
 
 /// A guard page and a page for the stack, which has these bytes, come behind the pages of a place.
-pub fn add_stack<T: Translate + Drop>(spaces: &mut Spaces<T>, at: usize, page: &[u8; FRAME_SIZE])
+pub fn add_stack<T: Translate>(spaces: &mut Spaces<T>, at: usize, page: &[u8; FRAME_SIZE])
     requires space { has_space spaces.old at ≡ true }
     requires paged { IsPaged (view_at spaces.old at) }
     requires room { HasRoom spaces.old at (length (view_at spaces.old at).memory + 2) }
@@ -230,7 +230,7 @@ pub fn add_stack<T: Translate + Drop>(spaces: &mut Spaces<T>, at: usize, page: &
 
 /// Puts a program with its arguments in the place of what a place holds. Where the device fails no more is promised of that place
 /// than that it has a space.
-pub fn load<D: BlockDev, T: Translate + Drop>(
+pub fn load<D: BlockDev, T: Translate>(
     tree: &mut Tree<D>,
     spaces: &mut Spaces<T>,
     at: usize,

@@ -123,7 +123,7 @@ fn state_of(state: ProcessState) -> (&'static str, Option<i32>) {
     }
 }
 
-impl<D: BlockDev, T: Translate + Drop> Report<'_, D, T> {
+impl<D: BlockDev, T: Translate> Report<'_, D, T> {
     fn descriptor_rows(&self, alloc: Global, pid: u32) -> Result<Vec<DescriptorRow>, AllocError> {
         let mut rows = Vec::new(alloc);
         for descriptor in 0..16 {

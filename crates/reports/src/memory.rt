@@ -8,7 +8,7 @@ use sv39::Translate;
 
 /// The pages of a process with their marks, those that follow one another with the same marks in one line.
 #[derive(Drop)]
-pub struct MemoryReport<'a, D: BlockDev, T: Translate + Drop> {
+pub struct MemoryReport<'a, D: BlockDev, T: Translate> {
     who: Who,
     machine: &'a Machine<D, T>,
 }
@@ -36,7 +36,7 @@ impl fmt::Display for Pages {
     }
 }
 
-impl<'a, D: BlockDev, T: Translate + Drop> MemoryReport<'a, D, T> {
+impl<'a, D: BlockDev, T: Translate> MemoryReport<'a, D, T> {
     pub(crate) fn new(who: Who, machine: &'a Machine<D, T>) -> MemoryReport<'a, D, T> {
         MemoryReport { who, machine }
     }
@@ -72,7 +72,7 @@ impl<'a, D: BlockDev, T: Translate + Drop> MemoryReport<'a, D, T> {
     }
 }
 
-impl<D: BlockDev, T: Translate + Drop> fmt::Display for MemoryReport<'_, D, T> {
+impl<D: BlockDev, T: Translate> fmt::Display for MemoryReport<'_, D, T> {
     fn fmt<W: fmt::Write>(&self, f: &mut fmt::Formatter<W>) -> fmt::Result {
         let who = self.who;
         let Some(seen) = self.machine.inspect(who.pid) else {

@@ -10,7 +10,7 @@ use sv39::Translate;
 
 /// What a run was, at its end.
 #[derive(Drop)]
-pub struct Report<'a, D: BlockDev, T: Translate + Drop> {
+pub struct Report<'a, D: BlockDev, T: Translate> {
     pub(crate) reporter: &'a Reporter,
     pub(crate) machine: &'a Machine<D, T>,
     pub(crate) ended: Result<(), Halt>,
@@ -77,14 +77,14 @@ impl fmt::Display for Doing {
 
 /// What a process waits for, in words.
 #[derive(Drop)]
-pub(crate) struct Waiting<'a, D: BlockDev, T: Translate + Drop> {
+pub(crate) struct Waiting<'a, D: BlockDev, T: Translate> {
     pub reporter: &'a Reporter,
     pub machine: &'a Machine<D, T>,
     pub pid: u32,
     pub wait: Wait,
 }
 
-impl<D: BlockDev, T: Translate + Drop> Waiting<'_, D, T> {
+impl<D: BlockDev, T: Translate> Waiting<'_, D, T> {
     // Whether the process with a pid is one that can end the wait: a child, or one that holds the other end of a pipe.
     fn is_cause(&self, pid: u32) -> bool {
         match self.wait {
@@ -133,7 +133,7 @@ impl<D: BlockDev, T: Translate + Drop> Waiting<'_, D, T> {
     }
 }
 
-impl<D: BlockDev, T: Translate + Drop> fmt::Display for Waiting<'_, D, T> {
+impl<D: BlockDev, T: Translate> fmt::Display for Waiting<'_, D, T> {
     fn fmt<W: fmt::Write>(&self, f: &mut fmt::Formatter<W>) -> fmt::Result {
         match self.wait {
             Wait::Console => write!(f, "reads the console"),
@@ -155,7 +155,7 @@ impl<D: BlockDev, T: Translate + Drop> fmt::Display for Waiting<'_, D, T> {
     }
 }
 
-impl<'a, D: BlockDev, T: Translate + Drop> Report<'a, D, T> {
+impl<'a, D: BlockDev, T: Translate> Report<'a, D, T> {
     pub(crate) fn new(
         reporter: &'a Reporter,
         machine: &'a Machine<D, T>,
@@ -284,7 +284,7 @@ impl<'a, D: BlockDev, T: Translate + Drop> Report<'a, D, T> {
     }
 }
 
-impl<D: BlockDev, T: Translate + Drop> fmt::Display for Report<'_, D, T> {
+impl<D: BlockDev, T: Translate> fmt::Display for Report<'_, D, T> {
     fn fmt<W: fmt::Write>(&self, f: &mut fmt::Formatter<W>) -> fmt::Result {
         self.write_counts(f)?;
         self.write_stop(f)?;

@@ -69,7 +69,7 @@ pub struct Reporter {
 }
 
 // What a process does next that is noted.
-fn next_of<D: BlockDev, T: Translate + Drop>(machine: &Machine<D, T>, pid: u32) -> Next {
+fn next_of<D: BlockDev, T: Translate>(machine: &Machine<D, T>, pid: u32) -> Next {
     if let Some(fault) = fault_of(machine, pid) {
         return Next::Faults(fault);
     }
@@ -90,7 +90,7 @@ fn next_of<D: BlockDev, T: Translate + Drop>(machine: &Machine<D, T>, pid: u32) 
 }
 
 // Whether the process with a pid has the hart.
-fn is_running<D: BlockDev, T: Translate + Drop>(machine: &Machine<D, T>, pid: u32) -> bool {
+fn is_running<D: BlockDev, T: Translate>(machine: &Machine<D, T>, pid: u32) -> bool {
     match machine.inspect(pid) {
         Some(seen) => seen.state == ProcessState::Running,
         None => false,
@@ -98,7 +98,7 @@ fn is_running<D: BlockDev, T: Translate + Drop>(machine: &Machine<D, T>, pid: u3
 }
 
 /// The pids of all processes.
-pub(crate) fn pids<D: BlockDev, T: Translate + Drop>(
+pub(crate) fn pids<D: BlockDev, T: Translate>(
     machine: &Machine<D, T>,
 ) -> ArrayVec<u32, MOST_PROCESSES> {
     let mut pids = ArrayVec::new();
@@ -116,7 +116,7 @@ pub(crate) fn pids<D: BlockDev, T: Translate + Drop>(
 }
 
 /// The process that has the hart.
-pub(crate) fn running<D: BlockDev, T: Translate + Drop>(machine: &Machine<D, T>) -> Option<u32> {
+pub(crate) fn running<D: BlockDev, T: Translate>(machine: &Machine<D, T>) -> Option<u32> {
     for pid in pids(machine).as_slice() {
         if is_running(machine, *pid) {
             return Some(*pid);
@@ -126,7 +126,7 @@ pub(crate) fn running<D: BlockDev, T: Translate + Drop>(machine: &Machine<D, T>)
 }
 
 // The answer of a call that wasn't refused.
-fn answer<D: BlockDev, T: Translate + Drop>(machine: &Machine<D, T>, pid: u32) -> Option<u64> {
+fn answer<D: BlockDev, T: Translate>(machine: &Machine<D, T>, pid: u32) -> Option<u64> {
     let answer = machine.inspect(pid)?.registers[A0];
     if answer == u64::MAX {
         return None;
@@ -153,7 +153,7 @@ impl Reporter {
     }
 
     /// The report of the machine after its last event.
-    pub fn report<'a, D: BlockDev, T: Translate + Drop>(
+    pub fn report<'a, D: BlockDev, T: Translate>(
         &'a self,
         machine: &'a Machine<D, T>,
     ) -> Report<'a, D, T> {
@@ -161,7 +161,7 @@ impl Reporter {
     }
 
     /// The registers of a process of the machine.
-    pub fn registers<D: BlockDev, T: Translate + Drop>(
+    pub fn registers<D: BlockDev, T: Translate>(
         &self,
         machine: &Machine<D, T>,
         pid: u32,
@@ -170,7 +170,7 @@ impl Reporter {
     }
 
     /// The pages of a process of the machine.
-    pub fn memory<'a, D: BlockDev, T: Translate + Drop>(
+    pub fn memory<'a, D: BlockDev, T: Translate>(
         &self,
         machine: &'a Machine<D, T>,
         pid: u32,
@@ -198,10 +198,7 @@ impl Reporter {
     }
 
     // Finds the process that runs, mostly the one that ran last.
-    fn find_running<D: BlockDev, T: Translate + Drop>(
-        &mut self,
-        machine: &Machine<D, T>,
-    ) -> Option<u32> {
+    fn find_running<D: BlockDev, T: Translate>(&mut self, machine: &Machine<D, T>) -> Option<u32> {
         if !is_running(machine, self.running) {
             self.running = running(machine)?;
         }
@@ -217,7 +214,7 @@ impl Reporter {
     }
 
     // A child runs its parent's program.
-    fn note_child<D: BlockDev, T: Translate + Drop>(&mut self, machine: &Machine<D, T>) {
+    fn note_child<D: BlockDev, T: Translate>(&mut self, machine: &Machine<D, T>) {
         let Some(child) = answer(machine, self.running) else {
             return;
         };
@@ -227,11 +224,7 @@ impl Reporter {
     }
 
     /// Looks at the machine before an event.
-    pub fn before<D: BlockDev, T: Translate + Drop>(
-        &mut self,
-        machine: &Machine<D, T>,
-        event: Event,
-    ) {
+    pub fn before<D: BlockDev, T: Translate>(&mut self, machine: &Machine<D, T>, event: Event) {
         self.next = Next::Other;
         let counts = &mut self.counts;
         match event {
@@ -247,7 +240,7 @@ impl Reporter {
     }
 
     /// Looks at the machine after the event, which was answered so.
-    pub fn after<D: BlockDev, T: Translate + Drop>(
+    pub fn after<D: BlockDev, T: Translate>(
         &mut self,
         machine: &Machine<D, T>,
         ended: Result<(), Halt>,

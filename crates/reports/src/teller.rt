@@ -29,7 +29,7 @@ pub struct Told {
 }
 
 // The text that is wanted of a machine.
-fn text_of<D: BlockDev, T: Translate + Drop>(
+fn text_of<D: BlockDev, T: Translate>(
     alloc: Global,
     reporter: &Reporter,
     machine: &Machine<D, T>,
@@ -52,7 +52,7 @@ fn text_of<D: BlockDev, T: Translate + Drop>(
 }
 
 // The JSON text that is wanted of a machine.
-fn json_of<D: BlockDev, T: Translate + Drop>(
+fn json_of<D: BlockDev, T: Translate>(
     alloc: Global,
     reporter: &Reporter,
     machine: &Machine<D, T>,
@@ -69,7 +69,7 @@ fn json_of<D: BlockDev, T: Translate + Drop>(
 
 impl Reporter {
     /// What is wanted of the machine after its last event.
-    pub fn tell<D: BlockDev, T: Translate + Drop>(
+    pub fn tell<D: BlockDev, T: Translate>(
         &self,
         alloc: Global,
         machine: &Machine<D, T>,

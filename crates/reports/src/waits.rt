@@ -20,7 +20,7 @@ pub enum Wait {
 }
 
 // The open file that a descriptor of a process names, as a call takes it.
-fn file_of<D: BlockDev, T: Translate + Drop>(
+fn file_of<D: BlockDev, T: Translate>(
     machine: &Machine<D, T>,
     holdings: &Holdings,
     descriptor: u64,
@@ -46,10 +46,7 @@ fn wait_on(file: Opened) -> Wait {
 }
 
 /// What the process with a pid waits for, if it does.
-pub fn wait_of<D: BlockDev, T: Translate + Drop>(
-    machine: &Machine<D, T>,
-    pid: u32,
-) -> Option<Wait> {
+pub fn wait_of<D: BlockDev, T: Translate>(machine: &Machine<D, T>, pid: u32) -> Option<Wait> {
     let holdings = machine.holdings(pid)?;
     let pending = holdings.pending?;
     match pending.number {
@@ -64,11 +61,7 @@ pub fn wait_of<D: BlockDev, T: Translate + Drop>(
 }
 
 /// Whether a process has a descriptor on this end of a pipe.
-pub fn holds<D: BlockDev, T: Translate + Drop>(
-    machine: &Machine<D, T>,
-    pid: u32,
-    end: OpenOn,
-) -> bool {
+pub fn holds<D: BlockDev, T: Translate>(machine: &Machine<D, T>, pid: u32, end: OpenOn) -> bool {
     let Some(holdings) = machine.holdings(pid) else {
         return false;
     };

@@ -17,7 +17,7 @@ pub struct Name {
 }
 
 // A byte that a process may read.
-fn byte_at<D: BlockDev, T: Translate + Drop>(
+fn byte_at<D: BlockDev, T: Translate>(
     machine: &Machine<D, T>,
     pid: u32,
     address: u64,
@@ -39,7 +39,7 @@ impl Name {
     }
 
     /// The string that stands at an address of a process, if it is a path.
-    pub(crate) fn at<D: BlockDev, T: Translate + Drop>(
+    pub(crate) fn at<D: BlockDev, T: Translate>(
         machine: &Machine<D, T>,
         pid: u32,
         address: u64,
@@ -107,11 +107,7 @@ impl Programs {
     }
 
     // The place of a pid, else one that is free or whose process is gone: there are as many places as processes at a time.
-    fn place<D: BlockDev, T: Translate + Drop>(
-        &self,
-        machine: &Machine<D, T>,
-        pid: u32,
-    ) -> Option<usize> {
+    fn place<D: BlockDev, T: Translate>(&self, machine: &Machine<D, T>, pid: u32) -> Option<usize> {
         let mut free = None;
         for (place, entry) in self.known.iter().enumerate() {
             match entry {
@@ -124,7 +120,7 @@ impl Programs {
     }
 
     /// The name of a process's program from now on.
-    pub fn set<D: BlockDev, T: Translate + Drop>(
+    pub fn set<D: BlockDev, T: Translate>(
         &mut self,
         machine: &Machine<D, T>,
         pid: u32,

@@ -53,7 +53,7 @@ pub(crate) fn disk_of(alloc: Global, image: &[u8]) -> Option<MemDisk> {
 
 /// A machine on a disk in memory, and what it prints.
 #[derive(Drop)]
-pub(crate) struct Run<T: Translate + Drop> {
+pub(crate) struct Run<T: Translate> {
     pub(crate) machine: Machine<MemDisk, T>,
     out: Writer<Vec<u8>>,
 }
@@ -78,7 +78,7 @@ pub(crate) fn run_of(alloc: Global, text: &str, big: usize, room: Room) -> Optio
     Run::boot(alloc, disk, Plain::new(), room.frames)
 }
 
-impl<T: Translate + Drop> Run<T> {
+impl<T: Translate> Run<T> {
     /// A machine of so many frames that boots from a disk. `None`: it doesn't boot.
     pub(crate) fn boot(alloc: Global, disk: MemDisk, translator: T, frames: u32) -> Option<Run<T>> {
         let machine = boot(alloc, disk, translator, frames).ok()?;

@@ -144,7 +144,7 @@ fn is_even(mut whole: Whole, mut parted: Parted) -> bool {
 }
 
 // A machine that boots from an image.
-fn booted<T: Translate + Drop>(alloc: Global, image: &[u8], translator: T) -> Option<Run<T>> {
+fn booted<T: Translate>(alloc: Global, image: &[u8], translator: T) -> Option<Run<T>> {
     let disk = disk_of(alloc, image)?;
     Run::boot(alloc, disk, translator, 64)
 }

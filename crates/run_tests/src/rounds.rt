@@ -39,7 +39,7 @@ fn round(alloc: Global, dice: &mut Dice) -> Result<Vec<Event>, AllocError> {
 }
 
 // Whether process 1 waits for a key, and is alone.
-fn is_waiting<T: Translate + Drop>(run: &Run<T>) -> bool {
+fn is_waiting<T: Translate>(run: &Run<T>) -> bool {
     match run.machine.inspect(1) {
         Some(seen) => seen.state == ProcessState::Waiting(5) && run.machine.free_frames() == 55,
         None => false,
@@ -47,7 +47,7 @@ fn is_waiting<T: Translate + Drop>(run: &Run<T>) -> bool {
 }
 
 // Steps until process 1 waits and goes on waiting, and tells how many.
-fn settle<T: Translate + Drop>(run: &mut Run<T>) -> Option<usize> {
+fn settle<T: Translate>(run: &mut Run<T>) -> Option<usize> {
     let mut rests = 0u32;
     for count in 0..STEPS {
         run.event(Event::Step).ok()?;
@@ -64,7 +64,7 @@ fn settle<T: Translate + Drop>(run: &mut Run<T>) -> Option<usize> {
 }
 
 // A machine that boots from a disk and waits for a key.
-fn waiting<T: Translate + Drop>(alloc: Global, disk: MemDisk, translator: T) -> Option<Run<T>> {
+fn waiting<T: Translate>(alloc: Global, disk: MemDisk, translator: T) -> Option<Run<T>> {
     let mut run = Run::boot(alloc, disk, translator, 64)?;
     if settle(&mut run).is_some() {
         Some(run)
@@ -147,7 +147,7 @@ fn is_same(alloc: Global, mut whole: Whole, parted: Parted, seed: u64) -> bool {
 }
 
 // A machine that boots from an image and waits for a key.
-fn begun<T: Translate + Drop>(alloc: Global, image: &[u8], translator: T) -> Option<Run<T>> {
+fn begun<T: Translate>(alloc: Global, image: &[u8], translator: T) -> Option<Run<T>> {
     let disk = disk_of(alloc, image)?;
     waiting(alloc, disk, translator)
 }

@@ -1,17 +1,8 @@
 -- Many instructions of the process of a place.
-use Rattle.std.proofs.Common.{◌≡◌, ◌≤◌, ◌+◌, ◌-◌, ◌%◌, ◌/◌, ℕ, zero, suc, true, List, [], ◌∷◌, length, take, drop, Option, Some, None, Ok, Err, refl, sym, ap, subst, ◌∙◌, arith, take-append-drop, length-append}
-use Rattle.std.specs.Prelude.{IfNone, IfSome, is_some, unwrap_or}
+use Rattle.spaces.proofs.Common.{◌≡◌, ◌≤◌, ◌+◌, ◌-◌, ◌%◌, ◌/◌, ℕ, zero, suc, true, List, [], ◌∷◌, length, take, drop, Option, Some, None, Ok, Err, refl, sym, ap, subst, ◌∙◌, arith}
+use Rattle.spaces.proofs.Common.{take-append-drop, length-append, IfNone, IfSome, is_some, unwrap_or, Advances, Does, Spaces, SpaceView, Traps, computed, frames_in, no_pages}
+use Rattle.spaces.proofs.Common.{taken_frames, view_at, page_frames, cycle, Trap, slot, Change, Computed, Bytes, Nothing, Memory, Page, write_bytes, write_from, memory_after}
 use Rattle.spaces.proofs.SpacesLemmas.{taken-placed, within}
-use Rattle.spaces.specs.Instructions.{Advances, Does}
-use Rattle.spaces.specs.Spaces.{Spaces, SpaceView, Traps, computed, frames_in, no_pages, taken_frames, view_at}
-use Rattle.unixmodel.specs.Counts.{page_frames}
-use Rattle.unixmodel.specs.Cycle.{cycle}
-use Rattle.unixmodel.specs.declared.trap.Trap.{Trap}
-use Rattle.unixmodel.specs.Files.{slot}
-use Rattle.unixmodel.specs.Meaning.{Change, Computed}
-use Rattle.unixmodel.specs.Meaning.Change.{Bytes, Nothing}
-use Rattle.unixmodel.specs.Memory.{Memory, Page, write_bytes, write_from}
-use Rattle.unixmodel.specs.Next.{memory_after}
 
 -- ---- one after the other
 

@@ -1,21 +1,9 @@
 -- What the walk lets through of a space, beside what its program may do by right.
-use Rattle.hart.proofs.Retries.{Alike, Narrows}
-use Rattle.hart.specs.Changes.{changed, put_in}
-use Rattle.std.proofs.Common.{◌≡◌, ◌⊎◌, ◌&&◌, inl, inr, ℕ, ◌%◌, ◌/◌, ◌^◌, ◌<◌, ◌≤◌, Bool, true, false, cond, List, Option, Some, None, refl, sym, ap, ◌∙◌}
-use Rattle.std.specs.Prelude.{option_and_then, option_map, slice_get}
-use Rattle.std.proofs.lemmas.Bool.{cases_Bool, cases_lt}
-use Rattle.sv39.specs.Mapping.{Mapped, memory_of, page_in}
+use Rattle.spaces.proofs.Common.{Alike, Narrows, changed, put_in, ◌≡◌, ◌⊎◌, ◌&&◌, inl, inr, ℕ, ◌%◌, ◌/◌, ◌^◌, ◌<◌, ◌≤◌, Bool, true, false, cond, List, Option, Some, None, refl, sym, ap, ◌∙◌, option_and_then, option_map, slice_get}
+use Rattle.spaces.proofs.Common.{cases_Bool, cases_lt, Mapped, memory_of, page_in, Fetch, Load, Store, Change, Bytes, Nothing, ShowsByte, ShowsMemory, byte_at, is_shared, page_byte, walk, Perm, Memory, Page, page_for, permits}
+use Rattle.spaces.proofs.Common.{permitted, marks_at, read_at, read_below, entries_below, pages_below, mapping_below, IsUserLeaf, entry_marks, is_open, right_marks, user_leaf, get-mapping, mapped-page, mapping-past, unmapped-page}
 use Rattle.unixmodel.specs.declared.trap.Access.{Access}
-use Rattle.unixmodel.specs.declared.trap.Access.TheVariants.{Fetch, Load, Store}
-use Rattle.unixmodel.specs.Meaning.{Change}
-use Rattle.unixmodel.specs.Meaning.Change.{Bytes, Nothing}
-use Rattle.unixmodel.specs.Shown.{ShowsByte, ShowsMemory, byte_at, is_shared, page_byte}
-use Rattle.unixmodel.specs.Translation.{walk}
-use Rattle.unixmodel.specs.Memory.{Perm, Memory, Page, page_for, permits, permitted}
-use Rattle.vm.specs.Dense.{marks_at, read_at, read_below, entries_below, pages_below, mapping_below}
-use Rattle.vm.specs.Leaf.{IsUserLeaf, entry_marks, is_open, right_marks, user_leaf}
 use Rattle.vm.proofs.LeafLemmas.{leaf-open, open-right, open-unshared, right-leaf}
-use Rattle.vm.proofs.WalkLaw.{get-mapping, mapped-page, mapping-past, unmapped-page}
 
 -- ---- a page
 

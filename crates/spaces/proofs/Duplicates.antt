@@ -1,12 +1,7 @@
 -- Spaces over duplicates of what they stand on.
-use Rattle.std.proofs.Common.{List, None, Option, Some, ℕ, ◌≡◌}
-use Rattle.frames.specs.Free.{IsDuplicate}
-use Rattle.spaces.specs.declared.Spaces.TheInside.{Inside}
-use Rattle.spaces.specs.View.{IsActive, IsSpaces, pipe_frames}
+use Rattle.spaces.proofs.Common.{List, None, Option, Some, ℕ, ◌≡◌, IsDuplicate, Inside, IsActive, IsSpaces, pipe_frames, HoldsNothing, Space}
 use Rattle.unixmodel.specs.Translation as translation
-use Rattle.unixmodel.specs.Translation.{HoldsNothing}
 use Rattle.vm.proofs.Duplicates.{same-machine}
-use Rattle.vm.specs.declared.Space.{Space}
 
 -- where nothing is held, nothing else than before is
 active-fenced : (old new : translation.Held) (m : List (List ℕ)) (root : ℕ) (places : List (Option Space)) (a : Option ℕ) → HoldsNothing new → IsActive old m root places a → IsActive new m root places a

@@ -1,3 +1,4 @@
+mod Common
 mod Duplicates
 mod Pipes
 mod Places

@@ -1,29 +1,14 @@
 -- One pipe trades frames, or is read or written: what is left of the fields, and what they show then.
-use Rattle.frames.specs.declared.Frames.{Frames}
-use Rattle.frames.specs.Free.{IsFreeList, SameBut, among, extra_of, free_count, free_of, further_at}
-use Rattle.frames.proofs.HolderLemmas.{Trades-give, Trades-take, count_of-append, count_of-first, held-inside, one_if-le}
-use Rattle.frames.specs.Holders.{Trades, count_of, holders_of}
-use Rattle.pipe.specs.Pipe.{Pipe, Stays, bytes_of}
-use Rattle.ram.specs.Memory.{frame_of}
+use Rattle.spaces.proofs.Common.{Frames, IsFreeList, SameBut, among, extra_of, free_count, free_of, further_at, Trades-give, Trades-take, count_of-append, count_of-first, held-inside, one_if-le, Trades, count_of, holders_of}
+use Rattle.spaces.proofs.Common.{Pipe, Stays, bytes_of, frame_of, Inside, IsOpen, bytes_in, has_pipe, taken_frames, with_pipe, IsActive, IsSpaces, frames_at, pipe_frames, pipe_shown, shown, spaces_of, ◌≡◌, ◌≢◌, ℕ, ◌+◌, ◌<◌}
+use Rattle.spaces.proofs.Common.{◌≤◌, inl, inr, List, [], ◌∷◌, false, length, get_or, map, slice_set, subst, true, Option, Some, None, refl, sym, ap, ◌∙◌, arith, length-set, get_or-set_other, get_or-set_same, eqb, cases_eq}
+use Rattle.spaces.proofs.Common.{length-map, flat_map, refill, Bool, is_some, not, unwrap_or, ◌||◌, slot, Space, AllUntouched, IsMachine, Trades-write, one-place, rest-held, rest-machine, rest-untouched, set-place, two-places}
 use Rattle.spaces.proofs.Pipes.{pipe-found, pipe-free, pipe-held, pipe-slot, pipes-placed}
 use Rattle.spaces.proofs.Places.{free-taken, taken-fits}
 use Rattle.spaces.proofs.Traded.{same-shown}
-use Rattle.spaces.specs.declared.Spaces.TheInside.{Inside}
-use Rattle.spaces.specs.Ends.{IsOpen}
-use Rattle.spaces.specs.Spaces.{bytes_in, has_pipe, taken_frames, with_pipe}
 use Rattle.spaces.proofs.SpacesLemmas.{map-same, none-pipe, refilled, some-pipe, taken-piped, within}
-use Rattle.spaces.specs.View.{IsActive, IsSpaces, frames_at, pipe_frames, pipe_shown, shown, spaces_of}
-use Rattle.std.proofs.Common.{◌≡◌, ◌≢◌, ℕ, ◌+◌, ◌<◌, ◌≤◌, inl, inr, List, [], ◌∷◌, false, length, get_or, map, slice_set, subst, true, Option, Some, None, refl, sym, ap, ◌∙◌, arith, length-set, get_or-set_other, get_or-set_same, eqb}
-use Rattle.std.proofs.lemmas.Bool.{cases_eq}
-use Rattle.std.proofs.lemmas.List.{length-map}
-use Rattle.std.specs.List.{flat_map, refill}
-use Rattle.std.specs.Prelude.{Bool, is_some, not, unwrap_or, ◌||◌}
-use Rattle.unixmodel.specs.Files.{slot}
 use Rattle.unixmodel.specs.Translation as translation
-use Rattle.vm.specs.declared.Space.{Space}
 use Rattle.vm.specs.Shares as shares
-use Rattle.vm.specs.Shares.{AllUntouched, IsMachine}
-use Rattle.vm.proofs.SharesLemmas.{Trades-write, one-place, rest-held, rest-machine, rest-untouched, set-place, two-places}
 
 -- ---- the frame of a pipe
 

@@ -1,21 +1,8 @@
 -- What the places for pipes show, and the frames that they hold.
-use Rattle.frames.specs.declared.Frames.{Frames}
-use Rattle.frames.proofs.HolderLemmas.{count_of-first}
-use Rattle.frames.specs.Holders.{Trades, count_of}
-use Rattle.pipe.specs.Pipe.{Pipe}
+use Rattle.spaces.proofs.Common.{Frames, count_of-first, Trades, count_of, Pipe, frame_of, frames_at, pipe_frames, pipe_shown, ◌≡◌, ◌≢◌, ℕ, suc, ◌+◌, ◌<◌, List, [], ◌∷◌, length, get_or, map, slice_set, Option}
+use Rattle.spaces.proofs.Common.{Some, None, refl, sym, ap, ◌∙◌, arith, get_or_default, length-map, prefix_len, cond, is_none, not, free_slot, slot, taken, Space, IsMachine, one-place, trade-rest, get_or-map}
 use Rattle.pipe.proofs.PipeLemmas.{bytes_of-same}
-use Rattle.ram.specs.Memory.{frame_of}
-use Rattle.spaces.specs.View.{frames_at, pipe_frames, pipe_shown}
-use Rattle.std.proofs.Common.{◌≡◌, ◌≢◌, ℕ, suc, ◌+◌, ◌<◌, List, [], ◌∷◌, length, get_or, map, slice_set, Option, Some, None, refl, sym, ap, ◌∙◌, arith}
-use Rattle.std.proofs.lemmas.List.{get_or_default, length-map}
-use Rattle.std.specs.List.{prefix_len}
-use Rattle.std.specs.Prelude.{cond, is_none, not}
-use Rattle.unixmodel.specs.Files.{free_slot, slot, taken}
-use Rattle.vm.specs.declared.Space.{Space}
 use Rattle.vm.specs.Shares as shares
-use Rattle.vm.specs.Shares.{IsMachine}
-use Rattle.vm.proofs.SharesLemmas.{one-place, trade-rest}
-use Rattle.std.proofs.Math.ListN.{get_or-map}
 use Rattle.spaces.proofs.SpacesLemmas.{map-placed, map-same}
 
 -- ---- one place

@@ -1,25 +1,9 @@
 -- What the fields show at a place, and how many frames the places take.
-use Rattle.frames.specs.Free.{free_count}
-use Rattle.frames.specs.Holders.{one_if}
-use Rattle.spaces.specs.declared.Spaces.TheInside.{Inside}
-use Rattle.spaces.specs.Spaces.{frames_in, has_space, view_at, no_pages, taken_frames}
-use Rattle.spaces.specs.View.{IsSpaces, view_with, pipe_frames, shown, spaces_of}
+use Rattle.spaces.proofs.Common.{free_count, one_if, Inside, frames_in, has_space, view_at, no_pages, taken_frames, IsSpaces, view_with, pipe_frames, shown, spaces_of, ◌≡◌, ℕ, ◌+◌, ◌≤◌, Bool}
+use Rattle.spaces.proofs.Common.{true, false, List, [], ◌∷◌, length, get_or, map, nat_lt, Option, Some, None, refl, sym, ap, ◌∙◌, arith, if◌then◌else◌, is_some, sum_by, unwrap_or, get_or-map}
+use Rattle.spaces.proofs.Common.{length-map, sum_by-cons, page_frames, slot, Space, frames_for, length-mapping, right_marks, frames_used, free-left, mapping_of, pages_in, pages_of}
 use Rattle.spaces.proofs.Pipes.{pipes-taken}
-use Rattle.std.proofs.Common.{◌≡◌, ℕ, ◌+◌, ◌≤◌, Bool, true, false, List, [], ◌∷◌, length, get_or, map, nat_lt, Option, Some, None, refl, sym, ap, ◌∙◌, arith}
-use Rattle.std.specs.Prelude.{if◌then◌else◌, is_some, sum_by, unwrap_or}
-use Rattle.std.proofs.Math.ListN.{get_or-map}
-use Rattle.std.proofs.lemmas.List.{length-map}
-use Rattle.std.proofs.lemmas.List.Sums.{sum_by-cons}
-use Rattle.unixmodel.specs.Counts.{page_frames}
-use Rattle.unixmodel.specs.Files.{slot}
 use Rattle.unixmodel.specs.Translation as translation
-use Rattle.vm.specs.declared.Space.{Space}
-use Rattle.vm.specs.Dense.{frames_for}
-use Rattle.vm.proofs.PageLemmas.{length-mapping}
-use Rattle.vm.specs.Leaf.{right_marks}
-use Rattle.vm.specs.Shares.{frames_used}
-use Rattle.vm.proofs.SharesLemmas.{free-left}
-use Rattle.vm.specs.Space.{mapping_of, pages_in, pages_of}
 
 -- a place of the fields, by the slice that a borrow of them shows
 pub there : (xs ys : List (Option Space)) (at : ℕ) (x : Space) → xs ≡ ys → get_or xs at None ≡ Some x → slot ys at ≡ Some x

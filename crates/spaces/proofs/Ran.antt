@@ -1,12 +1,9 @@
 -- Instructions of the process of a place, as the hart ran them.
-use Rattle.std.proofs.Common.{◌≡◌, ℕ, zero, suc, ◌+◌, ◌≤◌, true, List, length, map, Option, Some, None, Ok, Err, refl, sym, ap, ◌∙◌, inl, inr, arith, subst, slice_set}
-use Rattle.std.specs.Prelude.{IfSome, is_some}
-use Rattle.hart.proofs.ChangeLemmas.{memory_of-cycle}
-use Rattle.hart.proofs.Retries.{cycle-retries}
-use Rattle.hart.specs.Changes.{WritesOnly, changed}
+use Rattle.spaces.proofs.Common.{◌≡◌, ℕ, zero, suc, ◌+◌, ◌≤◌, true, List, length, map, Option, Some, None, Ok, Err, refl, sym, ap, ◌∙◌, inl, inr, arith, subst, slice_set, IfSome, is_some}
+use Rattle.spaces.proofs.Common.{memory_of-cycle, cycle-retries, WritesOnly, changed, Hart, FrameNo, Inside, Advances, Does, Spaces, computed, view_at, IsActive, IsSpaces, Runs, pipe_frames}
+use Rattle.spaces.proofs.Common.{pipe_shown, shown, spaces_of, view_with, IsCoherent, Mapped, WalksTo, memory_of, cycle, StorePageFault, Trap, slot, memory_after, HoldsInside, Space, entry_marks}
+use Rattle.spaces.proofs.Common.{right_marks, IsMachine, OthersUntouched, trade-machine, trade-others, IsMapped, Stands, entries_of, holds, mapping_of, pages_in, pages_of, walks-entries}
 use Rattle.hart.specs.Runs.{DoesOne, Goes, GoesOn, Point, Reaches, RunsTo, StaysWhole, point_of}
-use Rattle.hart.specs.declared.state.Hart.{Hart}
-use Rattle.ram.specs.declared.FrameNo.{FrameNo}
 use Rattle.spaces.proofs.Advancing.{AdvancesTo, advances-more, advances-none}
 use Rattle.spaces.proofs.Closed.{changed-right}
 use Rattle.spaces.proofs.Pipes.{pipes-beside}
@@ -14,24 +11,7 @@ use Rattle.spaces.proofs.Places.{held-is}
 use Rattle.spaces.proofs.SpacesLemmas.{within}
 use Rattle.spaces.proofs.Stepped.{let_through, narrows, ok-no-fault, sound, stands-only, trap-parts}
 use Rattle.spaces.proofs.Traded.{same-place, shown-as, shown-placed}
-use Rattle.spaces.specs.declared.Spaces.TheInside.{Inside}
-use Rattle.spaces.specs.Instructions.{Advances, Does}
-use Rattle.spaces.specs.Spaces.{Spaces, computed, view_at}
-use Rattle.spaces.specs.View.{IsActive, IsSpaces, Runs, pipe_frames, pipe_shown, shown, spaces_of, view_with}
-use Rattle.sv39.specs.Mapping.{IsCoherent, Mapped, WalksTo, memory_of}
-use Rattle.unixmodel.specs.Cycle.{cycle}
-use Rattle.unixmodel.specs.declared.trap.Cause.TheVariants.{StorePageFault}
-use Rattle.unixmodel.specs.declared.trap.Trap.{Trap}
-use Rattle.unixmodel.specs.Files.{slot}
-use Rattle.unixmodel.specs.Next.{memory_after}
 use Rattle.unixmodel.specs.Translation as translation
-use Rattle.unixmodel.specs.Translation.{HoldsInside}
-use Rattle.vm.specs.declared.Space.{Space}
-use Rattle.vm.specs.Leaf.{entry_marks, right_marks}
-use Rattle.vm.specs.Shares.{IsMachine, OthersUntouched}
-use Rattle.vm.proofs.SharesLemmas.{trade-machine, trade-others}
-use Rattle.vm.specs.Space.{IsMapped, Stands, entries_of, holds, mapping_of, pages_in, pages_of}
-use Rattle.vm.proofs.WalkLaw.{walks-entries}
 
 -- ---- the memory behind some instructions
 

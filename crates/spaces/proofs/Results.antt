@@ -1,8 +1,5 @@
 -- What is known of a result, by whether it is one.
-use Rattle.std.proofs.Common.{◌≡◌, ℕ, Bool, List, Option, Some, None, Result, Ok, Err, refl}
-use Rattle.std.specs.Bool.{OnFalse, OnTrue}
-use Rattle.std.specs.Prelude.{◌↔◌, IsErrOf, OnErr, OnOk, is_ok, is_some}
-use Rattle.vm.specs.declared.VmFault.{VmFault}
+use Rattle.spaces.proofs.Common.{◌≡◌, ℕ, Bool, List, Option, Some, None, Result, Ok, Err, refl, OnFalse, OnTrue, ◌↔◌, IsErrOf, OnErr, OnOk, is_ok, is_some, VmFault}
 use Rattle.vm.specs.declared.VmFault.TheVariants.{BadAddress}
 
 pub ok-true : {X E : Type 0} (r : Result X E) (b : Bool) (A B P : Type 0) → b ≡ is_ok r → OnOk r A → OnOk r B → (A → B → P) → OnTrue b P

@@ -1,46 +1,20 @@
 -- A step of the hart in the space of the active place.
-use Rattle.hart.proofs.ChangeLemmas.{memory_of-cycle}
-use Rattle.hart.specs.Changes.{IsSound, WritesOnly, WritesPage}
-use Rattle.hart.specs.declared.state.Hart.{Hart}
+use Rattle.spaces.proofs.Common.{memory_of-cycle, IsSound, WritesOnly, WritesPage, Hart, Alike, Narrows, cycle-again, cycle-retries, IsMemory, Inside, SpaceView, Spaces, computed, view_at, with_place, IsActive, IsSpaces, Runs}
+use Rattle.spaces.proofs.Common.{view_with, pipe_frames, shown, spaces_of, ◌≡◌, inl, inr, ℕ, ◌/◌, ◌<◌, ◌≤◌, List, length, map, slice_set, subst, true, Option, Some, None, Ok, Err, refl, sym, ap, ◌∙◌, arith, IfNone, IfSome}
+use Rattle.spaces.proofs.Common.{is_some, option_map, slice_get, IsCoherent, Mapped, Shows, WalksTo, memory_of, coherent-kept, shows-coherent, cycle, Trap, Computed, Effect, trap, memory_after, HoldsInside, HoldsNothing}
+use Rattle.spaces.proofs.Common.{IsKept, slot, Frames, and_parts, set-get_or, Space, Perm, Memory, Page, page_for, Store, StorePageFault, frame_at, marks_at, read_below, OthersUntouched, trade-machine, trade-others, IsMapped}
+use Rattle.spaces.proofs.Common.{IsOnce, IsRearranged, IsSpace, Stands, holds, entries_of, mapping_of, pages_in, pages_of, mapping-is, mapping-within, walks-entries, entry_marks, is_open, right_marks, user_leaf}
 use Rattle.hart.specs.Follows.{Follows}
-use Rattle.hart.proofs.Retries.{Alike, Narrows, cycle-again, cycle-retries}
 use Rattle.hart.proofs.FollowsLemmas.{follows-cases, follows-only}
-use Rattle.ram.specs.Memory.{IsMemory}
 use Rattle.spaces.proofs.Places.{held-is, slot-is}
 use Rattle.spaces.proofs.Traded.{reframed-showing, same-place, shown-as, shown-placed}
-use Rattle.spaces.specs.declared.Spaces.TheInside.{Inside}
 use Rattle.spaces.proofs.Closed.{changed-right, narrows-right, opened-alike}
-use Rattle.spaces.specs.Spaces.{SpaceView, Spaces, computed, view_at, with_place}
 use Rattle.spaces.proofs.SpacesLemmas.{within}
-use Rattle.spaces.specs.View.{IsActive, IsSpaces, Runs, view_with, pipe_frames, shown, spaces_of}
 use Rattle.spaces.proofs.Pipes.{pipes-beside}
-use Rattle.std.proofs.Common.{◌≡◌, inl, inr, ℕ, ◌/◌, ◌<◌, ◌≤◌, List, length, map, slice_set, subst, true, Option, Some, None, Ok, Err, refl, sym, ap, ◌∙◌, arith}
-use Rattle.std.specs.Prelude.{IfNone, IfSome, is_some, option_map, slice_get}
-use Rattle.sv39.specs.Mapping.{IsCoherent, Mapped, Shows, WalksTo, memory_of}
-use Rattle.sv39.proofs.Coherence.{coherent-kept, shows-coherent}
 use Rattle.sv39.proofs.WalkLemmas.{walk_page-inside}
-use Rattle.unixmodel.specs.Cycle.{cycle}
-use Rattle.unixmodel.specs.declared.trap.Trap.{Trap}
-use Rattle.unixmodel.specs.Meaning.{Computed, Effect, trap}
-use Rattle.unixmodel.specs.Next.{memory_after}
 use Rattle.unixmodel.specs.Translation as translation
-use Rattle.unixmodel.specs.Translation.{HoldsInside, HoldsNothing, IsKept}
-use Rattle.unixmodel.specs.Files.{slot}
-use Rattle.frames.specs.declared.Frames.{Frames}
-use Rattle.std.proofs.lemmas.Bool.{and_parts}
-use Rattle.std.proofs.lemmas.List.{set-get_or}
-use Rattle.vm.specs.declared.Space.{Space}
-use Rattle.unixmodel.specs.Memory.{Perm, Memory, Page, page_for}
-use Rattle.unixmodel.specs.declared.trap.Access.TheVariants.{Store}
 use Rattle.unixmodel.specs.declared.trap.Cause.{Cause}
-use Rattle.unixmodel.specs.declared.trap.Cause.TheVariants.{StorePageFault}
-use Rattle.vm.specs.Dense.{frame_at, marks_at, read_below}
-use Rattle.vm.specs.Shares.{OthersUntouched}
-use Rattle.vm.proofs.SharesLemmas.{trade-machine, trade-others}
-use Rattle.vm.specs.Space.{IsMapped, IsOnce, IsRearranged, IsSpace, Stands, holds, entries_of, mapping_of, pages_in, pages_of}
 use Rattle.vm.proofs.StoreLemmas.{Stands-none, page-inside, pages-same, space-stored}
-use Rattle.vm.proofs.WalkLaw.{mapping-is, mapping-within, walks-entries}
-use Rattle.vm.specs.Leaf.{entry_marks, is_open, right_marks, user_leaf}
 
 -- ---- one space
 

@@ -1,36 +1,14 @@
 -- One place trades frames: what is left of the fields, and what they show then.
-use Rattle.frames.specs.declared.Frames.{Frames}
-use Rattle.frames.specs.Free.{IsFreeList, free_count}
-use Rattle.frames.specs.Holders.{Trades}
-use Rattle.ram.specs.declared.FrameNo.{FrameNo}
-use Rattle.spaces.specs.declared.Spaces.TheInside.{Inside}
-use Rattle.spaces.specs.Spaces.{SpaceView, frames_in, grown, has_space, no_pages, taken_frames, with_place}
+use Rattle.spaces.proofs.Common.{Frames, IsFreeList, free_count, Trades, FrameNo, Inside, SpaceView, frames_in, grown, has_space, no_pages, taken_frames, with_place, IsActive, IsSpaces, Runs, view_with, pipe_frames}
+use Rattle.spaces.proofs.Common.{shown, spaces_of, refill, ◌≡◌, ◌≢◌, ℕ, ◌+◌, ◌-◌, ◌<◌, ◌≤◌, ◌⊎◌, inl, inr, List, [], ◌∷◌, ◌++◌, Bool, false, true, length, map, replicate, slice_set, subst, take, Option, Some, None}
+use Rattle.spaces.proofs.Common.{Result, Ok, Err, refl, sym, ap, ◌∙◌, arith, length-append, length-set, get_or-set_other, get_or-set_same, cases_eq, length-replicate, set-get_or, take_all, OnFalse, OnTrue, OnErr}
+use Rattle.spaces.proofs.Common.{OnOk, IsCoherent, Mapped, coherent-nothing, slot, Translation, HoldsNothing, page_frames, Perm, Memory, zero_page, Space, VmFault, frames_for, length-mapping, entry_marks, IsMachine}
+use Rattle.spaces.proofs.Common.{IsPlace, OthersUntouched, fork-machine, trade-machine, trade-others, IsSpace, IsUntouched, Reframes, Stands, holds, entries_of, pages_in, pages_of}
 use Rattle.spaces.proofs.SpacesLemmas.{map-placed, place-free, refilled, taken-placed, within}
-use Rattle.spaces.specs.View.{IsActive, IsSpaces, Runs, view_with, pipe_frames, shown, spaces_of}
 use Rattle.spaces.proofs.Pipes.{pipes-beside}
 use Rattle.spaces.proofs.Places.{frames-shown, frames_for-pages, free-is, free-taken, length-pages_of, places-count, slot-is, taken-fits}
-use Rattle.std.specs.List.{refill}
-use Rattle.std.proofs.Common.{◌≡◌, ◌≢◌, ℕ, ◌+◌, ◌-◌, ◌<◌, ◌≤◌, ◌⊎◌, inl, inr, List, [], ◌∷◌, ◌++◌, Bool, false, true, length, map, replicate, slice_set, subst, take, Option, Some, None, Result, Ok, Err, refl, sym, ap, ◌∙◌, arith, length-append, length-set, get_or-set_other, get_or-set_same}
-use Rattle.std.proofs.lemmas.Bool.{cases_eq}
-use Rattle.std.proofs.lemmas.List.{length-replicate, set-get_or, take_all}
-use Rattle.std.specs.Bool.{OnFalse, OnTrue}
-use Rattle.std.specs.Prelude.{OnErr, OnOk}
-use Rattle.sv39.specs.Mapping.{IsCoherent, Mapped}
-use Rattle.sv39.proofs.Coherence.{coherent-nothing}
-use Rattle.unixmodel.specs.Files.{slot}
 use Rattle.unixmodel.specs.Translation as translation
-use Rattle.unixmodel.specs.Translation.{Translation, HoldsNothing}
-use Rattle.unixmodel.specs.Counts.{page_frames}
-use Rattle.unixmodel.specs.Memory.{Perm, Memory, zero_page}
-use Rattle.vm.specs.declared.Space.{Space}
-use Rattle.vm.specs.declared.VmFault.{VmFault}
-use Rattle.vm.specs.Dense.{frames_for}
-use Rattle.vm.proofs.PageLemmas.{length-mapping}
-use Rattle.vm.specs.Leaf.{entry_marks}
 use Rattle.vm.specs.Shares as shares
-use Rattle.vm.specs.Shares.{IsMachine, IsPlace, OthersUntouched}
-use Rattle.vm.proofs.SharesLemmas.{fork-machine, trade-machine, trade-others}
-use Rattle.vm.specs.Space.{IsSpace, IsUntouched, Reframes, Stands, holds, entries_of, pages_in, pages_of}
 
 -- a place that stays
 pub same-place : (xs : List (Option Space)) (at : ℕ) (x : Space) → slot xs at ≡ Some x → xs ≡ slice_set xs at (Some x)

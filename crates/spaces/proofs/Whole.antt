@@ -1,19 +1,8 @@
 -- The pages of a place that has a space are no more than frames, as many as its size asks for, and of 4096 bytes each.
-use Rattle.ram.specs.Memory.{IsMemory}
-use Rattle.spaces.specs.declared.Spaces.TheInside.{Inside}
-use Rattle.spaces.specs.Spaces.{view_at}
-use Rattle.spaces.specs.View.{IsSpaces, spaces_of}
+use Rattle.spaces.proofs.Common.{IsMemory, Inside, view_at, IsSpaces, spaces_of, ◌≡◌, ◌≤◌, List, ℕ, length, Option, Some, None, true, is_some, slot, Page, ceil_div, IsSized, Space, pages_in}
 use Rattle.spaces.proofs.Places.{held-is, length-pages_of}
-use Rattle.std.proofs.Common.{◌≡◌, ◌≤◌, List, ℕ, length, Option, Some, None, true}
-use Rattle.std.specs.Prelude.{is_some}
-use Rattle.unixmodel.specs.Files.{slot}
-use Rattle.unixmodel.specs.Memory.{Page}
-use Rattle.unixmodel.specs.Numbers.{ceil_div}
 use Rattle.unixmodel.specs.Translation as translation
-use Rattle.vm.specs.Reach.{IsSized}
 use Rattle.vm.proofs.SizedLemmas.{pages-sized}
-use Rattle.vm.specs.declared.Space.{Space}
-use Rattle.vm.specs.Space.{pages_in}
 
 pub record IsWhole (memory : List Page) (size : ℕ) : Type 0 where
   pub few : length memory ≤ 32768

@@ -20,7 +20,7 @@ fn is_store_fault(trap: Trap) -> bool
     }
 }
 
-impl<T: Translate + Drop> Spaces<T> {
+impl<T: Translate> Spaces<T> {
     // Does at most so many instructions in the memory of the active place, up to the first that its pages don't let through: how many,
     // and what that one traps into. A store that faulted may be one to a closed page, which `execute` does.
     fn run(&mut self, count: u32) -> (u32, Option<Trap>)
@@ -30,7 +30,8 @@ impl<T: Translate + Drop> Spaces<T> {
         ensures within { result.0 ≤ count }
         ensures all { IfNone result.1 (result.0 ≡ count) }
         ensures some { IfSome result.1 (λ t. result.0 < count) }
-        ensures trap { IfSome result.1 (λ t. (t.cause ≡ StorePageFault → ⊥) → IfSome self.old.active (λ at. cycle self.new.registers self.new.pc (view_at self.new at).memory ≡ Err t)) }
+        ensures trap { IfSome result.1 (λ t. (t.cause ≡ StorePageFault → ⊥) →
+            IfSome self.old.active (λ at. cycle self.new.registers self.new.pc (view_at self.new at).memory ≡ Err t)) }
     {
         self.ram.frames_are_whole();
         self.hart.run(
@@ -58,7 +59,8 @@ impl<T: Translate + Drop> Spaces<T> {
         ensures done { IfSome self.old.active (λ at. Advances result.0 self.old at self.new) }
         ensures within { result.0 ≤ count }
         ensures all { IfNone result.1 (result.0 ≡ count) }
-        ensures trap { IfSome result.1 (λ t. (result.0 < count) × IfSome self.old.active (λ at. cycle self.new.registers self.new.pc (view_at self.new at).memory ≡ Err t)) }
+        ensures trap { IfSome result.1 (λ t. (result.0 < count) ×
+            IfSome self.old.active (λ at. cycle self.new.registers self.new.pc (view_at self.new at).memory ≡ Err t)) }
     {
         let mut left = count;
         while left > 0 {

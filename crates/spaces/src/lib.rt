@@ -66,7 +66,7 @@ const FREE: Option<Space> = None;
 
 /// The address spaces of a machine and its hart.
 #[derive(Drop)]
-pub struct Spaces<T: Translate + Drop> {
+pub struct Spaces<T: Translate> {
     ram: Ram,
     frames: Frames,
     translator: T,
@@ -77,7 +77,7 @@ pub struct Spaces<T: Translate + Drop> {
     pipes: ArrayVec<Option<Pipe>, 100>,
 }
 
-impl<T: Translate + Drop> Model for Spaces<T> {
+impl<T: Translate> Model for Spaces<T> {
     ghost use Rattle.spaces.specs.Spaces.{Spaces};
 
     ghost Value = { Spaces };
@@ -247,7 +247,7 @@ fn nothing_decoded(alloc: Global) -> Result<Decoded, NoMemory> {
     }
 }
 
-impl<T: Translate + Drop> Spaces<T> {
+impl<T: Translate> Spaces<T> {
     /// No spaces over a memory; the hart's registers are 0. The translator is fenced: it may hold anything.
     ///
     /// It takes 2 bytes a frame of the host, and 768 KiB for decoded words: `NoMemory` where it has none for them.
@@ -280,7 +280,7 @@ impl<T: Translate + Drop> Spaces<T> {
     ///
     /// It takes 4098 bytes a frame of the host, and 768 KiB for decoded words, of which it has none yet: `NoMemory` where it has none
     /// for them.
-    pub fn duplicate<U: Translate + Drop>(
+    pub fn duplicate<U: Translate>(
         &self,
         alloc: Global,
         translator: U,

@@ -138,7 +138,7 @@ fn short(argument: u64) -> i16 {
 }
 
 // Writes the text that stands in memory up to a 0, quoted, or the address where none can be read.
-fn write_string<D: BlockDev, T: Translate + Drop>(
+fn write_string<D: BlockDev, T: Translate>(
     out: &mut String,
     machine: &Machine<D, T>,
     pid: u32,
@@ -167,7 +167,7 @@ fn write_string<D: BlockDev, T: Translate + Drop>(
 }
 
 // Writes the arguments of a program: texts up to an address of 0.
-fn write_strings<D: BlockDev, T: Translate + Drop>(
+fn write_strings<D: BlockDev, T: Translate>(
     out: &mut String,
     machine: &Machine<D, T>,
     pid: u32,
@@ -210,7 +210,7 @@ fn write_flags(out: &mut String, flags: u64) -> Result<(), AllocError> {
 }
 
 // Takes the first bytes of a buffer; whether they can be read.
-fn take_data<D: BlockDev, T: Translate + Drop>(
+fn take_data<D: BlockDev, T: Translate>(
     text: &mut CallText,
     machine: &Machine<D, T>,
     pid: u32,
@@ -235,7 +235,7 @@ fn take_data<D: BlockDev, T: Translate + Drop>(
 }
 
 // A buffer, of which so many bytes are known, and the count that was asked for.
-fn write_buffer<D: BlockDev, T: Translate + Drop>(
+fn write_buffer<D: BlockDev, T: Translate>(
     text: &mut CallText,
     machine: &Machine<D, T>,
     asked: &Asked,
@@ -256,7 +256,7 @@ fn write_buffer<D: BlockDev, T: Translate + Drop>(
 }
 
 // The arguments of wait: where a status goes, or the one that came.
-fn write_status<D: BlockDev, T: Translate + Drop>(
+fn write_status<D: BlockDev, T: Translate>(
     text: &mut CallText,
     machine: &Machine<D, T>,
     asked: &Asked,
@@ -276,7 +276,7 @@ fn write_status<D: BlockDev, T: Translate + Drop>(
 }
 
 // The arguments of pipe: where its descriptors go, or those that came.
-fn write_ends<D: BlockDev, T: Translate + Drop>(
+fn write_ends<D: BlockDev, T: Translate>(
     text: &mut CallText,
     machine: &Machine<D, T>,
     asked: &Asked,
@@ -293,7 +293,7 @@ fn write_ends<D: BlockDev, T: Translate + Drop>(
 }
 
 // The arguments of a call whose first one is a path.
-fn write_path_call<D: BlockDev, T: Translate + Drop>(
+fn write_path_call<D: BlockDev, T: Translate>(
     text: &mut CallText,
     machine: &Machine<D, T>,
     asked: &Asked,
@@ -332,7 +332,7 @@ fn write_unknown(text: &mut CallText, asked: &Asked) -> Result<(), AllocError> {
 }
 
 /// Writes the arguments of a call; what it fills in is told where its answer is known.
-pub fn describe<D: BlockDev, T: Translate + Drop>(
+pub fn describe<D: BlockDev, T: Translate>(
     text: &mut CallText,
     machine: &Machine<D, T>,
     asked: &Asked,

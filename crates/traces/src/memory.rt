@@ -8,7 +8,7 @@ use sv39::Translate;
 pub const PAGE_SIZE: u64 = 4096;
 
 /// The byte at an address; `None` where the process may not read it.
-pub fn byte<D: BlockDev, T: Translate + Drop>(
+pub fn byte<D: BlockDev, T: Translate>(
     machine: &Machine<D, T>,
     pid: u32,
     address: u64,
@@ -21,7 +21,7 @@ pub fn byte<D: BlockDev, T: Translate + Drop>(
 }
 
 /// The number at an address, of so many bytes from the least one on, at most 8; `None` where the process may not read one of them.
-pub fn number<D: BlockDev, T: Translate + Drop>(
+pub fn number<D: BlockDev, T: Translate>(
     machine: &Machine<D, T>,
     pid: u32,
     address: u64,

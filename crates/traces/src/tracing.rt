@@ -161,7 +161,7 @@ impl<S: Sinks + Drop> Tracer<S> {
     }
 
     // What the machine's next event shows.
-    fn look_ahead<D: BlockDev, T: Translate + Drop>(
+    fn look_ahead<D: BlockDev, T: Translate>(
         &mut self,
         machine: &Machine<D, T>,
         event: Event,
@@ -176,11 +176,7 @@ impl<S: Sinks + Drop> Tracer<S> {
     }
 
     // What the process that has the hart is about to do.
-    fn look_at<D: BlockDev, T: Translate + Drop>(
-        &mut self,
-        machine: &Machine<D, T>,
-        pid: u32,
-    ) -> Ahead {
+    fn look_at<D: BlockDev, T: Translate>(&mut self, machine: &Machine<D, T>, pid: u32) -> Ahead {
         let Some(seen) = machine.inspect(pid) else {
             return Ahead::Nothing;
         };
@@ -197,7 +193,7 @@ impl<S: Sinks + Drop> Tracer<S> {
     }
 
     // Takes the arguments of a call as text.
-    fn describe<D: BlockDev, T: Translate + Drop>(
+    fn describe<D: BlockDev, T: Translate>(
         &mut self,
         machine: &Machine<D, T>,
         asked: &Asked,
@@ -213,11 +209,7 @@ impl<S: Sinks + Drop> Tracer<S> {
     }
 
     // Takes the path of a program that is to run.
-    fn take_path<D: BlockDev, T: Translate + Drop>(
-        &mut self,
-        machine: &Machine<D, T>,
-        asked: &Asked,
-    ) {
+    fn take_path<D: BlockDev, T: Translate>(&mut self, machine: &Machine<D, T>, asked: &Asked) {
         self.path.clear();
         let [address, ..] = asked.arguments;
         for at in 0..MOST_NAME as u64 {
@@ -244,7 +236,7 @@ impl<S: Sinks + Drop> Tracer<S> {
     }
 
     // What an instruction did that was no call.
-    fn after_instruction<D: BlockDev, T: Translate + Drop>(
+    fn after_instruction<D: BlockDev, T: Translate>(
         &mut self,
         machine: &Machine<D, T>,
         before: &Seen,
@@ -261,11 +253,7 @@ impl<S: Sinks + Drop> Tracer<S> {
     }
 
     // What a call did.
-    fn after_call<D: BlockDev, T: Translate + Drop>(
-        &mut self,
-        machine: &Machine<D, T>,
-        asked: &Asked,
-    ) {
+    fn after_call<D: BlockDev, T: Translate>(&mut self, machine: &Machine<D, T>, asked: &Asked) {
         if asked.call() == Some(Call::Exit) {
             return self.left(machine, asked);
         }
@@ -283,7 +271,7 @@ impl<S: Sinks + Drop> Tracer<S> {
     }
 
     // What an event did that was ahead.
-    fn follow<D: BlockDev, T: Translate + Drop>(&mut self, machine: &Machine<D, T>) {
+    fn follow<D: BlockDev, T: Translate>(&mut self, machine: &Machine<D, T>) {
         match self.ahead {
             Ahead::Nothing => (),
             Ahead::Instruction { seen, word } => self.after_instruction(machine, &seen, word),
@@ -316,7 +304,7 @@ impl<S: Sinks + Drop> Tracer<S> {
 }
 
 impl<S: Sinks + Drop> Watch for Tracer<S> {
-    fn before<D: BlockDev, T: Translate + Drop>(&mut self, machine: &Machine<D, T>, event: Event) {
+    fn before<D: BlockDev, T: Translate>(&mut self, machine: &Machine<D, T>, event: Event) {
         if !self.is_begun {
             self.begin(machine);
         }
@@ -326,7 +314,7 @@ impl<S: Sinks + Drop> Watch for Tracer<S> {
         self.ahead = self.look_ahead(machine, event);
     }
 
-    fn after<D: BlockDev, T: Translate + Drop>(
+    fn after<D: BlockDev, T: Translate>(
         &mut self,
         machine: &Machine<D, T>,
         _event: Event,
@@ -344,7 +332,7 @@ impl<S: Sinks + Drop> Watch for Tracer<S> {
         }
     }
 
-    fn end<D: BlockDev, T: Translate + Drop>(&mut self, _machine: &Machine<D, T>) {
+    fn end<D: BlockDev, T: Translate>(&mut self, _machine: &Machine<D, T>) {
         self.close();
     }
 }

@@ -82,7 +82,7 @@ fn migrate<R: Files + AllocGlobal>(desk: &mut Desk<'_, R>, image: &str) -> anyho
 }
 
 // Plays a session on a disk in memory: what is shown, and the image that is left.
-fn play_plainly<T: Translate + Drop>(
+fn play_plainly<T: Translate>(
     alloc: Global,
     session: &Session<'_>,
     image: &[u8],
@@ -116,7 +116,7 @@ fn play_starved(
 }
 
 // Plays a session over another translator: it has to show the same, and to leave the same image.
-fn play_over<T: Translate + Drop>(
+fn play_over<T: Translate>(
     alloc: Global,
     session: &Session<'_>,
     image: &[u8],

@@ -108,7 +108,7 @@ pub fn disk_of(alloc: Global, bytes: &[u8]) -> anyhow::Result<MemDisk> {
 }
 
 // Does what the commands say: how it ended, and what stands on the console.
-fn run<D: BlockDev, T: Translate + Drop>(
+fn run<D: BlockDev, T: Translate>(
     alloc: Global,
     machine: &mut Machine<D, T>,
     commands: &[Command<'_>],
@@ -125,7 +125,7 @@ fn run<D: BlockDev, T: Translate + Drop>(
 }
 
 // Does what the commands say, and saves the machine.
-fn play_booted<D: BlockDev, T: Translate + Drop>(
+fn play_booted<D: BlockDev, T: Translate>(
     alloc: Global,
     mut machine: Machine<D, T>,
     commands: &[Command<'_>],
@@ -143,7 +143,7 @@ fn play_booted<D: BlockDev, T: Translate + Drop>(
 }
 
 /// Boots a machine from a disk, does what the script says, and saves the machine: what it shows, and the disk that it leaves.
-pub fn play_on<D: BlockDev, T: Translate + Drop>(
+pub fn play_on<D: BlockDev, T: Translate>(
     alloc: Global,
     session: &Session<'_>,
     disk: D,

@@ -44,7 +44,7 @@ fn parts(ended: Result<Option<Unreached>, Halt>) -> (Result<(), Halt>, Option<Un
 }
 
 // The events of a play, whose bytes for the console are written out.
-fn play_out<D: BlockDev, T: Translate + Drop, R: Record, V: Watch, W: Write>(
+fn play_out<D: BlockDev, T: Translate, R: Record, V: Watch, W: Write>(
     machine: &mut Machine<D, T>,
     play: &playtext::Play<'_>,
     keeper: &mut R,
@@ -68,7 +68,7 @@ fn play_out<D: BlockDev, T: Translate + Drop, R: Record, V: Watch, W: Write>(
 
 // Boots a machine from a disk over a translator and gives it the events of a play; then it is saved, if it is to be and the play
 // came to its end.
-fn play_disk<D: BlockDev, T: Translate + Drop, R: Record, V: Watch, W: Write>(
+fn play_disk<D: BlockDev, T: Translate, R: Record, V: Watch, W: Write>(
     alloc: Global,
     disk: D,
     translator: T,
@@ -86,7 +86,7 @@ fn play_disk<D: BlockDev, T: Translate + Drop, R: Record, V: Watch, W: Write>(
 }
 
 // The same, with a disk of which one access fails, if the words ask for it.
-fn play_with<T: Translate + Drop, R: Record, V: Watch, W: Write>(
+fn play_with<T: Translate, R: Record, V: Watch, W: Write>(
     alloc: Global,
     disk: MemDisk,
     translator: T,

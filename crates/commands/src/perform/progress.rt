@@ -189,14 +189,10 @@ pub struct Gauge<'a, S> {
 
 impl<S: Screen> Watch for Gauge<'_, S> {
     #[inline]
-    fn before<D: BlockDev, T: Translate + Drop>(
-        &mut self,
-        _machine: &Machine<D, T>,
-        _event: Event,
-    ) {}
+    fn before<D: BlockDev, T: Translate>(&mut self, _machine: &Machine<D, T>, _event: Event) {}
 
     #[inline]
-    fn after<D: BlockDev, T: Translate + Drop>(
+    fn after<D: BlockDev, T: Translate>(
         &mut self,
         _machine: &Machine<D, T>,
         _event: Event,
@@ -219,7 +215,7 @@ impl<S: Screen> Watch for Gauge<'_, S> {
         }
     }
 
-    fn end<D: BlockDev, T: Translate + Drop>(&mut self, _machine: &Machine<D, T>) {
+    fn end<D: BlockDev, T: Translate>(&mut self, _machine: &Machine<D, T>) {
         self.meter.clear();
     }
 }

@@ -49,7 +49,7 @@ pub fn end_of(ended: Result<(), Halt>, is_written: bool) -> End
 }
 
 // The events of a script, whose bytes for the console are written out.
-fn play_out<D: BlockDev, T: Translate + Drop, V: Watch, W: Write>(
+fn play_out<D: BlockDev, T: Translate, V: Watch, W: Write>(
     machine: &mut Machine<D, T>,
     script: &[Command<'_>],
     watch: &mut V,
@@ -68,7 +68,7 @@ fn play_out<D: BlockDev, T: Translate + Drop, V: Watch, W: Write>(
 
 /// The disk that a machine leaves whose events ended so, if it is to be saved and neither its device nor the console has failed; and how
 /// that ended.
-pub fn leave<D: BlockDev, T: Translate + Drop>(
+pub fn leave<D: BlockDev, T: Translate>(
     machine: Machine<D, T>,
     saves: bool,
     end: End,
@@ -85,7 +85,7 @@ pub fn leave<D: BlockDev, T: Translate + Drop>(
 }
 
 // The events of a script; then the machine is saved, if it is to be and neither its device nor the console has failed.
-fn run_machine<D: BlockDev, T: Translate + Drop, V: Watch, W: Write>(
+fn run_machine<D: BlockDev, T: Translate, V: Watch, W: Write>(
     mut machine: Machine<D, T>,
     script: &[Command<'_>],
     saves: bool,
@@ -101,7 +101,7 @@ fn run_machine<D: BlockDev, T: Translate + Drop, V: Watch, W: Write>(
 }
 
 // Boots a flat program over a translator and gives it the events of a script.
-fn run_flat<T: Translate + Drop, V: Watch, W: Write + Drop>(
+fn run_flat<T: Translate, V: Watch, W: Write + Drop>(
     alloc: Global,
     program: &[u8],
     translator: T,
@@ -120,7 +120,7 @@ fn run_flat<T: Translate + Drop, V: Watch, W: Write + Drop>(
 }
 
 // Boots a machine from a disk over a translator and gives it the events of a script.
-fn run_disk<D: BlockDev, T: Translate + Drop, V: Watch, W: Write + Drop>(
+fn run_disk<D: BlockDev, T: Translate, V: Watch, W: Write + Drop>(
     alloc: Global,
     disk: D,
     translator: T,
@@ -144,7 +144,7 @@ pub fn inner_of<D: BlockDev>(failing: Option<FailAt<D>>) -> Option<D>
 }
 
 // The same, with a disk of which one access fails, if the words ask for it.
-fn run_with<D: BlockDev, T: Translate + Drop, V: Watch, W: Write + Drop>(
+fn run_with<D: BlockDev, T: Translate, V: Watch, W: Write + Drop>(
     alloc: Global,
     disk: D,
     translator: T,

@@ -267,7 +267,7 @@ impl<H: Host, S: Screen, E: Write> Terminal for Seat<'_, '_, H, S, E> {
         }
     }
 
-    fn show<D: BlockDev, T: Translate + Drop>(&mut self, machine: &Machine<D, T>) {
+    fn show<D: BlockDev, T: Translate>(&mut self, machine: &Machine<D, T>) {
         self.meter.clear();
         let _ = writeln!(self.stderr);
         let mut pid = 0;

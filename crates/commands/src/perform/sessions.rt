@@ -48,7 +48,7 @@ pub fn end_with(ended: Result<(), Halt>, failures: u64, is_written: bool) -> End
 }
 
 // A session at a terminal, whose bytes for the console are written out.
-fn sit_out<D: BlockDev, T: Translate + Drop, S: Terminal, W: Write>(
+fn sit_out<D: BlockDev, T: Translate, S: Terminal, W: Write>(
     machine: &mut Machine<D, T>,
     quantum: u32,
     terminal: &mut S,
@@ -66,7 +66,7 @@ fn sit_out<D: BlockDev, T: Translate + Drop, S: Terminal, W: Write>(
 }
 
 // A session at a terminal; then the machine is saved, if it is to be and neither its device nor the console has failed.
-fn sit<D: BlockDev, T: Translate + Drop, S: Terminal, W: Write>(
+fn sit<D: BlockDev, T: Translate, S: Terminal, W: Write>(
     mut machine: Machine<D, T>,
     quantum: u32,
     terminal: &mut S,
@@ -74,7 +74,8 @@ fn sit<D: BlockDev, T: Translate + Drop, S: Terminal, W: Write>(
     stdout: W,
 ) -> Ran<D, W>
     requires { IsUp machine }
-    ensures { SatTo D.content D.identity D.failures W.contents S.gives S.kept quantum terminal.old terminal.new machine stdout saves result }
+    ensures { SatTo D.content D.identity D.failures W.contents S.gives S.kept quantum terminal.old
+        terminal.new machine stdout saves result }
 {
     let (end, stdout) = sit_out(&mut machine, quantum, terminal, stdout);
     let (end, disk) = leave(machine, saves, end);

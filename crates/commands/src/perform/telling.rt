@@ -49,11 +49,11 @@ impl Teller {
 }
 
 impl Watch for Teller {
-    fn before<D: BlockDev, T: Translate + Drop>(&mut self, machine: &Machine<D, T>, event: Event) {
+    fn before<D: BlockDev, T: Translate>(&mut self, machine: &Machine<D, T>, event: Event) {
         self.reporter.before(machine, event);
     }
 
-    fn after<D: BlockDev, T: Translate + Drop>(
+    fn after<D: BlockDev, T: Translate>(
         &mut self,
         machine: &Machine<D, T>,
         _event: Event,
@@ -62,7 +62,7 @@ impl Watch for Teller {
         self.reporter.after(machine, ended);
     }
 
-    fn end<D: BlockDev, T: Translate + Drop>(&mut self, machine: &Machine<D, T>) {
+    fn end<D: BlockDev, T: Translate>(&mut self, machine: &Machine<D, T>) {
         self.told = Some(self.reporter.tell(self.alloc, machine, self.wanted));
     }
 }
@@ -75,12 +75,12 @@ pub struct Both<A, B> {
 }
 
 impl<A: Watch, B: Watch> Watch for Both<A, B> {
-    fn before<D: BlockDev, T: Translate + Drop>(&mut self, machine: &Machine<D, T>, event: Event) {
+    fn before<D: BlockDev, T: Translate>(&mut self, machine: &Machine<D, T>, event: Event) {
         self.first.before(machine, event);
         self.second.before(machine, event);
     }
 
-    fn after<D: BlockDev, T: Translate + Drop>(
+    fn after<D: BlockDev, T: Translate>(
         &mut self,
         machine: &Machine<D, T>,
         event: Event,
@@ -104,7 +104,7 @@ impl<A: Watch, B: Watch> Watch for Both<A, B> {
         self.second.repeated(event, times);
     }
 
-    fn end<D: BlockDev, T: Translate + Drop>(&mut self, machine: &Machine<D, T>) {
+    fn end<D: BlockDev, T: Translate>(&mut self, machine: &Machine<D, T>) {
         self.first.end(machine);
         self.second.end(machine);
     }

@@ -1,7 +1,4 @@
-use Rattle.std.proofs.Common.{refl, sym}
-use Rattle.vm.specs.Leaf.{mapped_as, right_marks}
-use Rattle.vm.specs.Space.{pages_in}
-use Rattle.vm.proofs.WalkLaw.{mapping-within}
+use Rattle.spaces.proofs.Common.{refl, sym, mapped_as, right_marks, pages_in, mapping-within}
 use Rattle.spaces.proofs.closed_page.Goals as goal
 
 pub returns-in-Some-clause-some : goal.returns-in-Some-clause-some

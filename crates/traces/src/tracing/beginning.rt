@@ -23,15 +23,12 @@ fn asked_before(seen: &Seen, number: u32, pending: &Pending) -> Asked {
 }
 
 // How many bytes a process that waits has read or written, and the call.
-fn pending_of<D: BlockDev, T: Translate + Drop>(
-    machine: &Machine<D, T>,
-    pid: u32,
-) -> Option<Pending> {
+fn pending_of<D: BlockDev, T: Translate>(machine: &Machine<D, T>, pid: u32) -> Option<Pending> {
     machine.holdings(pid)?.pending
 }
 
 /// How many bytes the call that a process waits in has read or written so far.
-pub fn done_of<D: BlockDev, T: Translate + Drop>(machine: &Machine<D, T>, pid: u32) -> u64 {
+pub fn done_of<D: BlockDev, T: Translate>(machine: &Machine<D, T>, pid: u32) -> u64 {
     match pending_of(machine, pid) {
         Some(pending) => pending.done,
         None => 0,
@@ -39,7 +36,7 @@ pub fn done_of<D: BlockDev, T: Translate + Drop>(machine: &Machine<D, T>, pid: u
 }
 
 // A process as it is at first.
-fn lane_of<D: BlockDev, T: Translate + Drop>(machine: &Machine<D, T>, seen: &Seen) -> Lane {
+fn lane_of<D: BlockDev, T: Translate>(machine: &Machine<D, T>, seen: &Seen) -> Lane {
     let mut lane = Lane::new(seen.pid, doing_in(seen.state, 0));
     if let ProcessState::Waiting(number) = seen.state
         && let Some(pending) = pending_of(machine, seen.pid)
@@ -62,7 +59,7 @@ impl<S: Sinks + Drop> Tracer<S> {
     }
 
     // Looks at all processes that there are before the first event.
-    pub(super) fn begin<D: BlockDev, T: Translate + Drop>(&mut self, machine: &Machine<D, T>) {
+    pub(super) fn begin<D: BlockDev, T: Translate>(&mut self, machine: &Machine<D, T>) {
         self.is_begun = true;
         self.draw_head();
         let mut pid = 0;

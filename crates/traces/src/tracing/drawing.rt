@@ -193,7 +193,7 @@ impl<S: Sinks + Drop> Tracer<S> {
     }
 
     // Writes how full the pipes are that a call changed, and the arrows of bytes that it read.
-    pub(super) fn draw_pipes<D: BlockDev, T: Translate + Drop>(
+    pub(super) fn draw_pipes<D: BlockDev, T: Translate>(
         &mut self,
         machine: &Machine<D, T>,
         asked: Option<&Asked>,
@@ -208,7 +208,7 @@ impl<S: Sinks + Drop> Tracer<S> {
     }
 
     // Writes how full a pipe is, where that has changed.
-    fn draw_pipe<D: BlockDev, T: Translate + Drop>(
+    fn draw_pipe<D: BlockDev, T: Translate>(
         &mut self,
         machine: &Machine<D, T>,
         number: usize,

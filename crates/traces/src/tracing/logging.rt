@@ -54,7 +54,7 @@ impl<S: Sinks + Drop> Tracer<S> {
     }
 
     // Writes what a call answered and wrote.
-    pub(super) fn log_answer<D: BlockDev, T: Translate + Drop>(
+    pub(super) fn log_answer<D: BlockDev, T: Translate>(
         &mut self,
         machine: &Machine<D, T>,
         asked: &Asked,
@@ -79,7 +79,7 @@ impl<S: Sinks + Drop> Tracer<S> {
     }
 
     // Writes bytes of the memory of a process in rows, also those of zeros where all are wanted.
-    fn log_memory<D: BlockDev, T: Translate + Drop>(
+    fn log_memory<D: BlockDev, T: Translate>(
         &mut self,
         machine: &Machine<D, T>,
         pid: u32,
@@ -95,7 +95,7 @@ impl<S: Sinks + Drop> Tracer<S> {
     }
 
     // Writes a row of bytes, if not all of them are zeros or such rows are wanted.
-    fn log_row<D: BlockDev, T: Translate + Drop>(
+    fn log_row<D: BlockDev, T: Translate>(
         &mut self,
         machine: &Machine<D, T>,
         pid: u32,
@@ -119,7 +119,7 @@ impl<S: Sinks + Drop> Tracer<S> {
     }
 
     // Writes a process whole, as one who follows it from here on needs it.
-    pub(super) fn log_process<D: BlockDev, T: Translate + Drop>(
+    pub(super) fn log_process<D: BlockDev, T: Translate>(
         &mut self,
         machine: &Machine<D, T>,
         pid: u32,
@@ -150,7 +150,7 @@ impl<S: Sinks + Drop> Tracer<S> {
     }
 
     // Writes all processes whole.
-    pub(super) fn log_all<D: BlockDev, T: Translate + Drop>(&mut self, machine: &Machine<D, T>) {
+    pub(super) fn log_all<D: BlockDev, T: Translate>(&mut self, machine: &Machine<D, T>) {
         if !self.pen.has(Form::Commits) {
             return;
         }

@@ -14,7 +14,7 @@ use machine::{Call, Machine, ProcessState, Seen};
 use sv39::Translate;
 
 // Whether a turn picked a process that did this before: it got the hart, ended, or read or wrote more.
-fn is_picked<D: BlockDev, T: Translate + Drop>(
+fn is_picked<D: BlockDev, T: Translate>(
     machine: &Machine<D, T>,
     before: Doing,
     seen: &Seen,
@@ -28,7 +28,7 @@ fn is_picked<D: BlockDev, T: Translate + Drop>(
 
 impl<S: Sinks + Drop> Tracer<S> {
     // The process that a turn picked; `None` where it shows on none.
-    fn picked<D: BlockDev, T: Translate + Drop>(&self, machine: &Machine<D, T>) -> Option<Seen> {
+    fn picked<D: BlockDev, T: Translate>(&self, machine: &Machine<D, T>) -> Option<Seen> {
         for lane in self.lanes.iter() {
             if let Some(seen) = machine.inspect(lane.pid)
                 && is_picked(machine, lane.doing, &seen)
@@ -40,7 +40,7 @@ impl<S: Sinks + Drop> Tracer<S> {
     }
 
     // What a turn did.
-    pub(super) fn after_turn<D: BlockDev, T: Translate + Drop>(&mut self, machine: &Machine<D, T>) {
+    pub(super) fn after_turn<D: BlockDev, T: Translate>(&mut self, machine: &Machine<D, T>) {
         let Some(seen) = self.picked(machine) else {
             return;
         };
@@ -52,7 +52,7 @@ impl<S: Sinks + Drop> Tracer<S> {
     }
 
     // A process got the hart, with the answer of its call, if it waited in one.
-    fn runs<D: BlockDev, T: Translate + Drop>(&mut self, machine: &Machine<D, T>, seen: &Seen) {
+    fn runs<D: BlockDev, T: Translate>(&mut self, machine: &Machine<D, T>, seen: &Seen) {
         let pid = seen.pid;
         self.set_doing(pid, Doing::Runs);
         self.give_hart(Some(pid));
@@ -69,7 +69,7 @@ impl<S: Sinks + Drop> Tracer<S> {
     }
 
     // A call that waits has written a part.
-    fn goes_on<D: BlockDev, T: Translate + Drop>(&mut self, machine: &Machine<D, T>, pid: u32) {
+    fn goes_on<D: BlockDev, T: Translate>(&mut self, machine: &Machine<D, T>, pid: u32) {
         self.set_doing(pid, Doing::Waits(done_of(machine, pid)));
         let pending = match self.lane_mut(pid) {
             Some(lane) => lane.pending,
@@ -91,7 +91,7 @@ impl<S: Sinks + Drop> Tracer<S> {
     }
 
     // A call waits.
-    pub(super) fn waits<D: BlockDev, T: Translate + Drop>(
+    pub(super) fn waits<D: BlockDev, T: Translate>(
         &mut self,
         machine: &Machine<D, T>,
         asked: &Asked,
@@ -107,7 +107,7 @@ impl<S: Sinks + Drop> Tracer<S> {
     }
 
     // A call was answered, at once or in a turn.
-    pub(super) fn answered<D: BlockDev, T: Translate + Drop>(
+    pub(super) fn answered<D: BlockDev, T: Translate>(
         &mut self,
         machine: &Machine<D, T>,
         asked: &Asked,
@@ -130,7 +130,7 @@ impl<S: Sinks + Drop> Tracer<S> {
     }
 
     // What an answered call does to processes.
-    fn take_effect<D: BlockDev, T: Translate + Drop>(
+    fn take_effect<D: BlockDev, T: Translate>(
         &mut self,
         machine: &Machine<D, T>,
         asked: &Asked,
@@ -147,7 +147,7 @@ impl<S: Sinks + Drop> Tracer<S> {
     }
 
     // A process was forked.
-    fn born<D: BlockDev, T: Translate + Drop>(
+    fn born<D: BlockDev, T: Translate>(
         &mut self,
         machine: &Machine<D, T>,
         asked: &Asked,
@@ -216,7 +216,7 @@ impl<S: Sinks + Drop> Tracer<S> {
     }
 
     // A process ended: where an arrow leaves is kept if its slice is shown.
-    fn ends<D: BlockDev, T: Translate + Drop>(
+    fn ends<D: BlockDev, T: Translate>(
         &mut self,
         machine: &Machine<D, T>,
         pid: u32,
@@ -236,7 +236,7 @@ impl<S: Sinks + Drop> Tracer<S> {
     }
 
     // A process called exit.
-    pub(super) fn left<D: BlockDev, T: Translate + Drop>(
+    pub(super) fn left<D: BlockDev, T: Translate>(
         &mut self,
         machine: &Machine<D, T>,
         asked: &Asked,
@@ -259,7 +259,7 @@ impl<S: Sinks + Drop> Tracer<S> {
     }
 
     // A process faulted.
-    pub(super) fn faulted<D: BlockDev, T: Translate + Drop>(
+    pub(super) fn faulted<D: BlockDev, T: Translate>(
         &mut self,
         machine: &Machine<D, T>,
         before: &Seen,
@@ -285,11 +285,7 @@ impl<S: Sinks + Drop> Tracer<S> {
     }
 
     // A process that was killed ended.
-    pub(super) fn killed<D: BlockDev, T: Translate + Drop>(
-        &mut self,
-        machine: &Machine<D, T>,
-        pid: u32,
-    ) {
+    pub(super) fn killed<D: BlockDev, T: Translate>(&mut self, machine: &Machine<D, T>, pid: u32) {
         let (killer, pending) = match self.lane_mut(pid) {
             Some(lane) => (lane.killer, lane.pending),
             None => (None, None),

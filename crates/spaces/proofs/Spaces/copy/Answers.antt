@@ -2,10 +2,7 @@ use Rattle.spaces.proofs.Spaces.copy.Goals as goal
 use Rattle.spaces.proofs.Places.{frames-shown, held-is, places-count, slot-is, stands-there}
 use Rattle.spaces.proofs.SpacesLemmas.{taken-forked}
 use Rattle.spaces.proofs.Traded.{free-place, over-free, shared-there, shown-as}
-use Rattle.spaces.specs.View.{view_with, shown, spaces_of}
-use Rattle.std.proofs.Common.{Some, ap, arith, refl}
-use Rattle.unixmodel.specs.Memory.{shared_memory}
-use Rattle.vm.specs.Space.{pages_of}
+use Rattle.spaces.proofs.Common.{view_with, shown, spaces_of, Some, ap, arith, refl, shared_memory, pages_of}
 
 pub space_at-space-requires : goal.space_at-space-requires
 space_at-space-requires g c = stands-there c.self.inside c.args.from (rw (← c.self.view_is) at c.requires.from)

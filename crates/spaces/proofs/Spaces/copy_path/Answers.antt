@@ -1,6 +1,5 @@
-use Rattle.std.proofs.Common.{arith, length, ◌∙◌}
+use Rattle.spaces.proofs.Common.{arith, length, ◌∙◌, view_at}
 use Rattle.spaces.proofs.Strings.{path-is}
-use Rattle.spaces.specs.Spaces.{view_at}
 use Rattle.spaces.proofs.Spaces.copy_path.Goals as goal
 
 pub returns-clause-path : goal.returns-clause-path

@@ -1,8 +1,6 @@
 use Rattle.spaces.proofs.Spaces.create.Goals as goal
 use Rattle.spaces.proofs.Traded.{over-free, settled-there, shown-bare}
-use Rattle.spaces.specs.Spaces.{no_pages}
-use Rattle.spaces.specs.View.{spaces_of}
-use Rattle.std.proofs.Common.{Some, ap}
+use Rattle.spaces.proofs.Common.{no_pages, spaces_of, Some, ap}
 
 pub invariant_of-self : goal.invariant_of-self
 invariant_of-self g c =

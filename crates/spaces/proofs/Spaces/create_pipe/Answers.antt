@@ -1,8 +1,6 @@
 use Rattle.spaces.proofs.Spaces.create_pipe.Goals as goal
 use Rattle.spaces.proofs.Piped.{over-free, piped-there}
-use Rattle.spaces.specs.Ends.{IsOpen}
-use Rattle.spaces.specs.View.{spaces_of}
-use Rattle.std.proofs.Common.{ap, refl}
+use Rattle.spaces.proofs.Common.{IsOpen, spaces_of, ap, refl}
 
 pub invariant_of-self : goal.invariant_of-self
 invariant_of-self g c =

@@ -2,10 +2,7 @@ use Rattle.spaces.proofs.Spaces.execute.Given as given
 use Rattle.spaces.proofs.Spaces.execute.Goals as goal
 use Rattle.spaces.proofs.Spaces.execute.Goals.{After-fence, After-step}
 use Rattle.spaces.proofs.Stepped.{Reopened, Steps, done-for, first-done, first-trap, reopened, second, sound-stepped, trap-for, trap-space}
-use Rattle.spaces.specs.declared.Spaces.TheInside.{Inside}
-use Rattle.std.proofs.Common.{ap, sym, ◌∙◌}
-use Rattle.vm.specs.Dense.{marks_at}
-use Rattle.vm.specs.Leaf.{right_marks}
+use Rattle.spaces.proofs.Common.{Inside, ap, sym, ◌∙◌, marks_at, right_marks}
 
 steps : (g : given.Over) (c : After-step g) → Steps g.T.Translate.held c.self.inside c.step.new.trans c.step.new.self c.step.new.ram c.step.result
 steps g c = let e = c.step.ensures in let whole = c.frames_are_whole.ensures in record { memory = whole.memory; small = whole.small; step = e.step; kept = e.kept; count = e.count }

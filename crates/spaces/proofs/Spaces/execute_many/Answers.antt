@@ -1,12 +1,8 @@
-use Rattle.std.proofs.Common.{◌≡◌, ◌<◌, ◌-◌, ◌+◌, ◌∙◌, Err, arith, refl, subst}
-use Rattle.std.specs.Prelude.{IfSome}
+use Rattle.spaces.proofs.Common.{◌≡◌, ◌<◌, ◌-◌, ◌+◌, ◌∙◌, Err, arith, refl, subst, IfSome, view_at, cycle, StorePageFault}
 use Rattle.spaces.proofs.Advancing.{AdvancesTo, advances-on, all-done, begins, goes-on, stops-at, told-of}
 use Rattle.spaces.proofs.Spaces.execute_many.Given as given
 use Rattle.spaces.proofs.Spaces.execute_many.Goals as goal
 use Rattle.spaces.proofs.Spaces.execute_many.Goals.{After-run-done}
-use Rattle.spaces.specs.Spaces.{view_at}
-use Rattle.unixmodel.specs.Cycle.{cycle}
-use Rattle.unixmodel.specs.declared.trap.Cause.TheVariants.{StorePageFault}
 
 -- behind a run
 ran : (g : given.Over) (c : After-run-done g) → AdvancesTo (c.args.count - (c.loop-left.left - c.run-done.result.0)) c.args.self.now.active c.args.self.now c.run-done.new.self

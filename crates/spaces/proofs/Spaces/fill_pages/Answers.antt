@@ -2,10 +2,7 @@ use Rattle.spaces.proofs.Spaces.fill_pages.Given as given
 use Rattle.spaces.proofs.Spaces.fill_pages.Goals as goal
 use Rattle.spaces.proofs.Places.{held-is, length-pages_of, stands-there}
 use Rattle.spaces.proofs.Traded.{Placed, reframed-showing}
-use Rattle.spaces.specs.View.{view_with}
-use Rattle.std.proofs.Common.{Some}
-use Rattle.unixmodel.specs.Memory.{write_bytes}
-use Rattle.vm.specs.Space.{pages_of}
+use Rattle.spaces.proofs.Common.{view_with, Some, write_bytes, pages_of}
 
 pub space_at-space-requires : goal.space_at-space-requires
 space_at-space-requires g c = stands-there c.self.inside c.args.at (rw (← c.self.view_is) at c.requires.space)

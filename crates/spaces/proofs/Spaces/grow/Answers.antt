@@ -1,16 +1,9 @@
 use Rattle.spaces.proofs.Spaces.grow.Goals as goal
-use Rattle.frames.specs.Free.{free_count}
+use Rattle.spaces.proofs.Common.{free_count, view_with, shown, ◌+◌, ◌++◌, ◌-◌, ◌<◌, ◌⊎◌, Some, inl, inr, refl, replicate, zero_page, frames_for, marks_from, entries_of, pages_in, pages_of, coherent-grown}
 use Rattle.spaces.proofs.Places.{held-is, missing, there}
 use Rattle.spaces.proofs.Results.{err-false, ok-true}
 use Rattle.spaces.proofs.Traded.{changed, grown-front, over-grown, placed-as, shown-as, view-same}
 use Rattle.spaces.proofs.SpacesLemmas.{refilled}
-use Rattle.spaces.specs.View.{view_with, shown}
-use Rattle.std.proofs.Common.{◌+◌, ◌++◌, ◌-◌, ◌<◌, ◌⊎◌, Some, inl, inr, refl, replicate}
-use Rattle.unixmodel.specs.Memory.{zero_page}
-use Rattle.vm.specs.Dense.{frames_for}
-use Rattle.vm.specs.Leaf.{marks_from}
-use Rattle.vm.specs.Space.{entries_of, pages_in, pages_of}
-use Rattle.vm.proofs.WalkLaw.{coherent-grown}
 
 pub grow-requires : goal.grow-requires
 grow-requires g c =

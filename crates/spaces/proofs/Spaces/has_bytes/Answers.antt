@@ -1,8 +1,6 @@
 use Rattle.spaces.proofs.Spaces.has_bytes.Goals as goal
-use Rattle.pipe.specs.Pipe.{bytes_of}
+use Rattle.spaces.proofs.Common.{bytes_of, ◌∙◌, not}
 use Rattle.spaces.proofs.Piped.{or-open, pipe-is, pipe-stands}
-use Rattle.std.proofs.Common.{◌∙◌}
-use Rattle.std.specs.Prelude.{not}
 use Rattle.unixmodel.specs.Turn.{is_empty}
 
 pub pipe_at-pipe-requires : goal.pipe_at-pipe-requires

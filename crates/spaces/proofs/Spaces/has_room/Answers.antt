@@ -1,8 +1,6 @@
 use Rattle.spaces.proofs.Spaces.has_room.Goals as goal
-use Rattle.pipe.specs.Pipe.{bytes_of}
+use Rattle.spaces.proofs.Common.{bytes_of, ◌∙◌, length, nat_lt}
 use Rattle.spaces.proofs.Piped.{or-open, pipe-is, pipe-stands}
-use Rattle.std.proofs.Common.{◌∙◌, length}
-use Rattle.std.specs.Prelude.{nat_lt}
 
 pub pipe_at-pipe-requires : goal.pipe_at-pipe-requires
 pipe_at-pipe-requires g c = pipe-stands c.self.inside c.args.q (rw (← c.self.view_is) at c.requires)

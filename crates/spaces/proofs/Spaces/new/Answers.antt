@@ -1,7 +1,5 @@
 use Rattle.spaces.proofs.Spaces.new.Goals as goal
-use Rattle.spaces.specs.View.{frames_at}
-use Rattle.std.proofs.Common.{refl}
-use Rattle.vm.proofs.SharesLemmas.{machine-new, none-flat, none-there}
+use Rattle.spaces.proofs.Common.{frames_at, refl, machine-new, none-flat, none-there}
 
 pub invariant_of-result-2 : goal.invariant_of-result-2
 invariant_of-result-2 g c = record {

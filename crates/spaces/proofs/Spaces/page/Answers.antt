@@ -1,11 +1,6 @@
 use Rattle.spaces.proofs.Spaces.page.Goals as goal
 use Rattle.spaces.proofs.Places.{held-is, stands-there}
-use Rattle.std.proofs.Common.{ap, sym}
-use Rattle.std.specs.Prelude.{option_map}
-use Rattle.unixmodel.specs.Shown.{told_page}
-use Rattle.vm.specs.Leaf.{mapped_as}
-use Rattle.vm.specs.Space.{mapping_of}
-use Rattle.vm.proofs.WalkLaw.{mapped-page, unmapped-page}
+use Rattle.spaces.proofs.Common.{ap, sym, option_map, told_page, mapped_as, mapping_of, mapped-page, unmapped-page}
 
 pub space_at-space-requires : goal.space_at-space-requires
 space_at-space-requires g c = stands-there c.self.inside c.args.at (rw (← c.self.view_is) at c.requires)

@@ -1,7 +1,6 @@
 use Rattle.spaces.proofs.Spaces.pages.Goals as goal
 use Rattle.spaces.proofs.Places.{held-is, length-pages_of, stands-there}
-use Rattle.std.proofs.Common.{◌≤◌, ◌∙◌, ap, arith, sym}
-use Rattle.vm.specs.Space.{pages_in}
+use Rattle.spaces.proofs.Common.{◌≤◌, ◌∙◌, ap, arith, sym, pages_in}
 
 pub space_at-space-requires : goal.space_at-space-requires
 space_at-space-requires g c = stands-there c.self.inside c.args.at (rw (← c.self.view_is) at c.requires)

@@ -1,8 +1,7 @@
 use Rattle.spaces.proofs.Spaces.put_bytes.Goals as goal
-use Rattle.ram.specs.Memory.{frame_of}
+use Rattle.spaces.proofs.Common.{frame_of, Some, ap, refl}
 use Rattle.spaces.proofs.Piped.{pipe-frame, pipe-is, pipe-missing, pipe-there, piped-as, piped-written}
 use Rattle.spaces.proofs.SpacesLemmas.{refilled}
-use Rattle.std.proofs.Common.{Some, ap, refl}
 
 pub put_in-requires : goal.put_in-requires
 put_in-requires g c =

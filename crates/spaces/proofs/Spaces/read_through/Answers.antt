@@ -1,8 +1,5 @@
-use Rattle.std.proofs.Common.{ap, arith, length}
-use Rattle.std.proofs.lemmas.List.{length-take}
+use Rattle.spaces.proofs.Common.{ap, arith, length, length-take, view_at, page-there}
 use Rattle.spaces.proofs.Spaces.read_through.Goals as goal
-use Rattle.spaces.specs.Spaces.{view_at}
-use Rattle.vm.proofs.ReachLemmas.{page-there}
 
 pub fill-requires-clause-inside : goal.fill-requires-clause-inside
 fill-requires-clause-inside g c = λ i low.

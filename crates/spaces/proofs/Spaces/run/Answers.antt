@@ -1,10 +1,9 @@
-use Rattle.std.proofs.Common.{refl}
+use Rattle.spaces.proofs.Common.{refl, IsSpaces, spaces_of}
 use Rattle.spaces.proofs.Advancing.{AdvancesTo}
 use Rattle.spaces.proofs.Ran.{RanOn, ran-sound, ran-trap}
 use Rattle.spaces.proofs.Spaces.run.Given as given
 use Rattle.spaces.proofs.Spaces.run.Goals as goal
 use Rattle.spaces.proofs.Spaces.run.Goals.{After-run}
-use Rattle.spaces.specs.View.{IsSpaces, spaces_of}
 
 went : (g : given.Over) (c : After-run g) → RanOn g.T.Translate.held c.self.inside c.run.new.trans c.run.new.self c.run.new.ram c.run.result.0 c.run.result.1
 went g c = let did = c.run.ensures in record { small = c.frames_are_whole.ensures.small; goes = did.goes; whole = did.whole }

@@ -2,10 +2,7 @@ use Rattle.spaces.proofs.Spaces.shrink.Goals as goal
 use Rattle.spaces.proofs.Places.{held-is, missing, there}
 use Rattle.spaces.proofs.Traded.{changed, placed-as, shown-as}
 use Rattle.spaces.proofs.SpacesLemmas.{refilled}
-use Rattle.spaces.specs.View.{view_with, shown}
-use Rattle.std.proofs.Common.{◌≡◌, ◌-◌, Some, arith, refl, take}
-use Rattle.sv39.proofs.Coherence.{coherent-nothing}
-use Rattle.vm.specs.Space.{entries_of, pages_in, pages_of}
+use Rattle.spaces.proofs.Common.{view_with, shown, ◌≡◌, ◌-◌, Some, arith, refl, take, coherent-nothing, entries_of, pages_in, pages_of}
 
 pub shrink-requires-clause-space : goal.shrink-requires-clause-space
 shrink-requires-clause-space g c =

@@ -1,9 +1,7 @@
 use Rattle.spaces.proofs.Spaces.take_bytes.Goals as goal
 use Rattle.spaces.proofs.Piped.{pipe-frame, pipe-is, pipe-missing, pipe-there, piped-as, piped-written}
 use Rattle.spaces.proofs.SpacesLemmas.{refilled}
-use Rattle.ram.specs.Memory.{frame_of}
-use Rattle.std.proofs.Common.{Some, [], ap, refl, sym}
-use Rattle.std.proofs.lemmas.List.{set-get_or}
+use Rattle.spaces.proofs.Common.{frame_of, Some, [], ap, refl, sym, set-get_or}
 
 pub take_out-requires : goal.take_out-requires
 take_out-requires g c =

@@ -1,5 +1,4 @@
-use Rattle.std.proofs.Common.{length, sym}
-use Rattle.vm.proofs.ReachLemmas.{page-there}
+use Rattle.spaces.proofs.Common.{length, sym, page-there}
 use Rattle.spaces.proofs.Spaces.write.Goals as goal
 
 pub fill-requires-clause-inside : goal.fill-requires-clause-inside

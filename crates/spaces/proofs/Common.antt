@@ -1,0 +1,58 @@
+-- The names that the lemmas of this crate import from elsewhere, passed on from one place. Declares nothing.
+pub use Rattle.std.proofs.Common.{◌%◌, ◌&&◌, ◌+◌, ◌++◌, ◌-◌, ◌/◌, ◌<◌, [], ◌^◌, All, ap, append-nil, arith, Bool, cond, drop, eqb, Err, false, get_or, get_or-set_other}
+pub use Rattle.std.proofs.Common.{get_or-set_same, IfSome, if◌then◌else◌, inl, inr, length, length-append, length-set, List, map, nat_le, nat_lt, None, Ok, Option}
+pub use Rattle.std.proofs.Common.{option_map, refl, replicate, Result, slice_set, Some, subst, suc, sym, take, take-append-drop, true, zero, ℕ, ◌∙◌, ◌∷◌, ◌≡◌, ◌≢◌, ◌≤◌, ◌⊎◌}
+pub use Rattle.std.proofs.Math.ListN.{get_or-map}
+pub use Rattle.std.proofs.lemmas.Bool.{and_parts, cases_Bool, cases_eq, cases_lt}
+pub use Rattle.std.proofs.lemmas.List.{get_or_default, length-map, length-replicate, length-take, set-get_or, take_all}
+pub use Rattle.std.proofs.lemmas.List.Sums.{sum_by-cons}
+pub use Rattle.std.specs.Bool.{OnFalse, OnTrue}
+pub use Rattle.std.specs.List.{flat_map, prefix_len, refill}
+pub use Rattle.std.specs.Prelude.{IfNone, is_none, is_ok, is_some, IsErrOf, not, OnErr, OnOk, option_and_then, slice_get, sum_by, unwrap_or, ◌||◌, ◌↔◌}
+pub use Rattle.frames.proofs.HolderLemmas.{count_of-append, count_of-first, held-inside, one_if-le, Trades-give, Trades-take}
+pub use Rattle.frames.specs.Free.{among, free_count, further_at, IsDuplicate, IsFreeList, SameBut}
+unfoldable pub use Rattle.frames.specs.Free.{extra_of, free_of}
+pub use Rattle.frames.specs.Holders.{count_of, one_if, Trades}
+unfoldable pub use Rattle.frames.specs.Holders.{holders_of}
+pub use Rattle.frames.specs.declared.Frames.{Frames}
+pub use Rattle.hart.proofs.ChangeLemmas.{memory_of-cycle}
+pub use Rattle.hart.proofs.Retries.{Alike, cycle-again, cycle-retries, Narrows}
+pub use Rattle.hart.specs.Changes.{changed, IsSound, put_in, WritesOnly, WritesPage}
+pub use Rattle.hart.specs.declared.state.Hart.{Hart}
+pub use Rattle.pipe.specs.Pipe.{bytes_of, Pipe, Stays}
+pub use Rattle.ram.specs.Memory.{frame_of, IsMemory}
+pub use Rattle.ram.specs.declared.FrameNo.{FrameNo}
+pub use Rattle.sv39.proofs.Coherence.{coherent-kept, coherent-nothing, shows-coherent}
+pub use Rattle.sv39.specs.Mapping.{IsCoherent, Mapped, memory_of, page_in, Shows, WalksTo}
+pub use Rattle.unixmodel.specs.Counts.{page_frames}
+unfoldable pub use Rattle.unixmodel.specs.Cycle.{cycle}
+pub use Rattle.unixmodel.specs.Files.{free_slot, slot, taken}
+pub use Rattle.unixmodel.specs.Meaning.{Change, Computed, Effect, trap}
+pub use Rattle.unixmodel.specs.Meaning.Change.{Bytes, Nothing}
+pub use Rattle.unixmodel.specs.Memory.{before_nul, Memory, Page, page_for, Perm, permits, permitted, shared_memory, shared_page, short_path, write_from, zero_page}
+unfoldable pub use Rattle.unixmodel.specs.Memory.{path_at, reach, string_at, write_bytes}
+pub use Rattle.unixmodel.specs.Next.{memory_after}
+pub use Rattle.unixmodel.specs.Numbers.{ceil_div}
+pub use Rattle.unixmodel.specs.Shown.{byte_at, is_shared, page_byte, ShowsByte, ShowsMemory, told_page}
+pub use Rattle.unixmodel.specs.Translation.{HoldsInside, HoldsNothing, IsKept, Translation, walk}
+pub use Rattle.unixmodel.specs.declared.trap.Access.TheVariants.{Fetch, Load, Store}
+pub use Rattle.unixmodel.specs.declared.trap.Cause.TheVariants.{StorePageFault}
+pub use Rattle.unixmodel.specs.declared.trap.Trap.{Trap}
+pub use Rattle.vm.proofs.PageLemmas.{length-mapping}
+pub use Rattle.vm.proofs.ReachLemmas.{page-there}
+pub use Rattle.vm.proofs.SharesLemmas.{fork-machine, free-left, machine-new, none-flat, none-there, one-place, rest-held, rest-machine, rest-untouched, set-place, trade-machine, trade-others, trade-rest, Trades-write, two-places}
+pub use Rattle.vm.proofs.WalkLaw.{coherent-grown, get-mapping, mapped-page, mapping-is, mapping-past, mapping-within, unmapped-page, walks-entries}
+pub use Rattle.vm.specs.Dense.{entries_below, frame_at, frames_for, mapping_below, marks_at, pages_below, read_at}
+unfoldable pub use Rattle.vm.specs.Dense.{read_below}
+pub use Rattle.vm.specs.Leaf.{entry_marks, is_open, IsUserLeaf, mapped_as, marks_from, right_marks, user_leaf}
+pub use Rattle.vm.specs.Reach.{IsSized, short_string, string_in}
+pub use Rattle.vm.specs.Shares.{AllUntouched, frames_used, IsMachine, IsPlace, OthersUntouched}
+pub use Rattle.vm.specs.Space.{entries_of, holds, IsMapped, IsOnce, IsRearranged, IsSpace, IsUntouched, mapping_of, pages_in, pages_of, Reframes, Stands}
+pub use Rattle.vm.specs.declared.Space.{Space}
+pub use Rattle.vm.specs.declared.VmFault.{VmFault}
+pub use Rattle.spaces.specs.Ends.{IsOpen}
+pub use Rattle.spaces.specs.Instructions.{Does}
+unfoldable pub use Rattle.spaces.specs.Instructions.{Advances}
+pub use Rattle.spaces.specs.Spaces.{bytes_in, computed, forked, frames_in, grown, has_pipe, has_space, no_pages, shrunk, Spaces, SpaceView, taken_frames, Traps, view_at, with_pipe, with_place, with_view}
+pub use Rattle.spaces.specs.View.{frames_at, IsActive, IsSpaces, pipe_frames, pipe_shown, Runs, shown, spaces_of, view_with}
+pub use Rattle.spaces.specs.declared.Spaces.TheInside.{Inside}
