@@ -46,25 +46,29 @@ use Rattle.unixmodel.specs.ProcessCalls.{sleep_on}
 use Rattle.unixmodel.specs.Process as unix
 use Rattle.unixmodel.specs.State.{State, put_process}
 
--- the running process and its space, in a kernel that is sound
+-- the running process and its space, in a kernel that is sound, whose device has not failed
 pub record Here (k : Kernel) (i : ℕ) : Type 0 where
   pub process : Process
   pub held : SpaceView
   pub run : IsRun k i process held
   pub sound : IsKernel k
+  pub up : k.tree.failed ≡ false
 
-pub here-of : (k : Kernel) (i : ℕ) → IsKernel k → k.spaces.active ≡ Some i → Here k i
-here-of k i is active = let run = run-of k i is active in record { process = run.0; held = run.1.0; run = run.1.1; sound = is }
+pub runs-of : {k : Kernel} {i : ℕ} → k.spaces.active ≡ Some i → k.tree.failed ≡ false → IsKernel k → slice_index k.spaces.registers 0 ≡ 0 → k.spaces.pc % 4 ≡ 0 → Runs k i
+runs-of active up sound zero aligned = record { active = active; up = up; sound = sound; zero = zero; aligned = aligned }
+
+pub here-of : (k : Kernel) (i : ℕ) → Runs k i → Here k i
+here-of k i runs = let run = run-of k i runs.sound runs.active in record { process = run.0; held = run.1.0; run = run.1.1; sound = runs.sound; up = runs.up }
 
 -- over the fields: at is what they show, and k is the kernel's value
-pub here-now : {at k : Kernel} {i : ℕ} → at ≡ k → IsKernel at → Runs k i → Here at i
-here-now {at = at} {i = i} same is x = here-of at i is (ap (λ (y : Kernel). y.spaces.active) same ∙ x.active)
+pub here-now : {at k : Kernel} {i : ℕ} → at ≡ k → Runs k i → Here at i
+here-now {at} {k} {i} same runs = here-of at i (subst (λ (y : Kernel). Runs y i) (sym same) runs)
 
 pub begins : (k e : Kernel) (i : ℕ) → e ≡ entered k → Runs k i → IsBegun k e i
 begins k e i same x =
-    let y = here-of k i x.sound x.active in
+    let y = here-of k i x in
     rw same (record {
-      runs = record { active = x.active; sound = enters-kernel k i y.process y.held y.run y.sound; zero = x.zero; aligned = aligned-next k.spaces.pc x.aligned };
+      runs = record { active = x.active; up = x.up; sound = enters-kernel k i y.process y.held y.run y.sound; zero = x.zero; aligned = aligned-next k.spaces.pc x.aligned };
       tree = refl;
       row = λ call number. numbered k i y.process y.held y.run y.sound call number ∙ ap (settle (state_of (entered k)) i) (sym (ap (outcome_by (state_of (entered k)) i call) (process-run (entered k) i y.process y.held (enters-run k i y.process y.held y.run y.sound))));
     })
@@ -78,22 +82,20 @@ pub answers : {k e new : Kernel} {i : ℕ} {call : Option Call} {bytes : List �
     → Comes e new i (outcome_at (state_of e) i call) bytes came → (last : State) → last ≡ settled_by (state_of new) i came → called (state_of k) i ≡ after last bytes
 answers {call = call} {bytes = bytes} b number a last done = b.row call number ∙ a.makes ∙ ap (λ (s : State). after s bytes) (sym done)
 
-module _ (k last : Kernel) (i : ℕ) (is : IsKernel k) (active : k.spaces.active ≡ Some i) where
+module _ (k last : Kernel) (i : ℕ) (runs : Runs k i) where
   abbrev at-work : Here k i
-  at-work = here-of k i is active
+  at-work = here-of k i runs
 
   pub settles-answer : (value : ℕ) → last ≡ answered k value → state_of last ≡ settled_by (state_of k) i (Answers value)
   settles-answer value made = let x = at-work in rw made (sym (answer-run k i x.process x.held x.run x.sound value))
 
-  module _ (z : slice_index k.spaces.registers 0 ≡ 0) (a : k.spaces.pc % 4 ≡ 0) where
-    pub settles-blocks : (w : Pending) → CanCome k i (Blocks w) → last ≡ blocked k i w → state_of last ≡ settled_by (state_of k) i (Blocks w)
-    settles-blocks w can made = let x = at-work in rw made (sym (waits-run k i x.process x.held x.run x.sound z a w (rw (ap (λ (o : Option SpaceView). unwrap_or o no_pages) x.run.space, ap descriptors_in x.run.process) at can.0) (rw (ap descriptors_in x.run.process) at can.1)))
+  pub settles-blocks : (w : Pending) → CanCome k i (Blocks w) → last ≡ blocked k i w → state_of last ≡ settled_by (state_of k) i (Blocks w)
+  settles-blocks w can made = let x = at-work in rw made (sym (waits-run k i x.process x.held x.run x.sound runs.zero runs.aligned w (rw (ap (λ (o : Option SpaceView). unwrap_or o no_pages) x.run.space, ap descriptors_in x.run.process) at can.0) (rw (ap descriptors_in x.run.process) at can.1) x.up))
 
   -- it ended, or an access failed
-  module _ (z : slice_index k.spaces.registers 0 ≡ 0) (a : k.spaces.pc % 4 ≡ 0) where
-    pub settles-exits-if : (status meant : ℤ) → meant ≡ status → (r : Result (Unit {0}) DeviceFault) → IfOk r (λ done. last ≡ waking (counting (ended k i meant) last.tree.failures) last.table.awake) → OnOk r (state_of last ≡ settled_by (state_of k) i (Exits status))
-    settles-exits-if status meant same (Err fault) made = tt
-    settles-exits-if status meant same (Ok done) made = let x = at-work in state-but (counting (ended k i meant) last.tree.failures) made ∙ ap (λ n. state_of (ended k i n)) same ∙ sym (ends-at k i x.process x.held x.run x.sound z a status)
+  pub settles-exits-if : (status meant : ℤ) → meant ≡ status → (r : Result (Unit {0}) DeviceFault) → IfOk r (λ done. last ≡ waking (counting (ended k i meant) last.tree.failures) last.table.awake) → OnOk r (state_of last ≡ settled_by (state_of k) i (Exits status))
+  settles-exits-if status meant same (Err fault) made = tt
+  settles-exits-if status meant same (Ok done) made = let x = at-work in state-but (counting (ended k i meant) last.tree.failures) made ∙ ap (λ n. state_of (ended k i n)) same ∙ sym (ends-at k i x.process x.held x.run x.sound runs.zero runs.aligned status x.up)
 
 -- where the device and the console's writer may fail
 module _ {k e : Kernel} {i : ℕ} {call : Option Call} (begun : IsBegun k e i) (number : call_of (low (slice_index k.spaces.registers 17)) ≡ call) (new : Kernel) (before after : Option (List ℕ)) where
@@ -131,7 +133,7 @@ module _ (k : Kernel) (i : ℕ) (x : Here k i) where
   outcome-here call = ap (outcome_by (state_of k) i call) (process-run k i x.process x.held x.run)
 
   pub came : (call : Option Call) (c : Came) → CanCome k i c → settle (state_of k) i (outcome_of (state_of k) i me call) ≡ quiet (settled_by (state_of k) i c) → Acts k k i call c
-  came call c can is = record { makes = ap (settle (state_of k) i) (outcome-here call) ∙ is; active = x.run.active; sound = x.sound; can = can; printed = quietly c; served = same-served refl x.run.up }
+  came call c can is = record { makes = ap (settle (state_of k) i) (outcome-here call) ∙ is; active = x.run.active; sound = x.sound; can = can; printed = quietly c; served = same-served refl x.up }
 
   pub refused : (call : Option Call) → outcome_of (state_of k) i me call ≡ Refused → Acts k k i call Refuses
   refused call is = came call Refuses tt (ap (settle (state_of k) i) is)
@@ -149,14 +151,14 @@ module _ (k : Kernel) (i : ℕ) (x : Here k i) where
   }
 
   pub settled : (new : Kernel) (call : Call) (answer : ℕ) → Here new i → new.tree ≡ k.tree → settle (state_of k) i (outcome_of (state_of k) i me (Some call)) ≡ quiet (state_of (answered new answer)) → Acts k new i (Some call) (Answers answer)
-  settled new call answer y same is = settles new call answer [] y (same-served same x.run.up) is
+  settled new call answer y same is = settles new call answer [] y (same-served same x.up) is
 
   pub prints : (new : Kernel) (call : Call) (answer : ℕ) (bytes : List ℕ) → Here new i → IsServed k.tree new.tree → row (state_of k) i me call ≡ Done (state_of new) answer bytes → Comes k new i (outcome_at (state_of k) i (Some call)) bytes (Answers answer)
-  prints new call answer bytes y served is = settles new call answer bytes y served (ap (λ (o : Outcome). settle (state_of k) i (limited o)) is ∙ settle-limited new i y.process y.held y.run y.sound (state_of k) answer bytes)
+  prints new call answer bytes y served is = settles new call answer bytes y served (ap (λ (o : Outcome). settle (state_of k) i (limited o)) is ∙ settle-limited new i y.process y.held y.run y.sound y.up (state_of k) answer bytes)
 
   -- the files of the disk are as they were
   pub does : (new : Kernel) (call : Call) (answer : ℕ) → Here new i → new.tree ≡ k.tree → row (state_of k) i me call ≡ Done (state_of new) answer [] → Acts k new i (Some call) (Answers answer)
-  does new call answer y same is = prints new call answer [] y (same-served same x.run.up) is
+  does new call answer y same is = prints new call answer [] y (same-served same x.up) is
 
   -- ---- a pending call that goes on
 
@@ -171,22 +173,22 @@ module _ (k : Kernel) (i : ℕ) (x : Here k i) where
     pub goes-serves : (new : Kernel) (answer : ℕ) → Here new i → IsServed k.tree new.tree → going ≡ Done (state_of new) answer [] → GoesOn k new i w (Answers answer)
     goes-serves new answer y served is = record {
       comes = record {
-        makes = ap (settle (state_of k) i) (going-here ∙ is) ∙ settle-done new i y.process y.held y.run y.sound (state_of k) answer [] ∙ ap quiet (sym (answer-run new i y.process y.held y.run y.sound answer));
+        makes = ap (settle (state_of k) i) (going-here ∙ is) ∙ settle-done new i y.process y.held y.run y.sound y.up (state_of k) answer [] ∙ ap quiet (sym (answer-run new i y.process y.held y.run y.sound answer));
         active = y.run.active;
         sound = y.sound;
         can = tt;
         printed = tt;
         served = served;
       };
-      within = rw (going-here ∙ is) (ap (λ (b : Bool). provided b (Done (state_of new) answer [])) (within-state new y.sound y.run.up));
+      within = rw (going-here ∙ is) (ap (λ (b : Bool). provided b (Done (state_of new) answer [])) (within-state new y.sound y.up));
     }
 
     pub goes-done : (new : Kernel) (answer : ℕ) → Here new i → new.tree ≡ k.tree → going ≡ Done (state_of new) answer [] → GoesOn k new i w (Answers answer)
-    goes-done new answer y same is = goes-serves new answer y (same-served same x.run.up) is
+    goes-done new answer y same is = goes-serves new answer y (same-served same x.up) is
 
     pub goes-waits : (new : Kernel) (v : Pending) → Here new i → new.tree ≡ k.tree → CanCome new i (Blocks v) → going ≡ Waits (state_of new) v → GoesOn k new i w (Blocks v)
     goes-waits new v y same can is = record {
-      comes = record { makes = ap (settle (state_of k) i) (going-here ∙ is); active = y.run.active; sound = y.sound; can = can; printed = refl; served = same-served same x.run.up };
+      comes = record { makes = ap (settle (state_of k) i) (going-here ∙ is); active = y.run.active; sound = y.sound; can = can; printed = refl; served = same-served same x.up };
       within = rw (going-here ∙ is) refl;
     }
 
@@ -204,7 +206,7 @@ module _ (k : Kernel) (i : ℕ) (x : Here k i) where
 -- a call of no number
 pub unbuilt : {k : Kernel} {i : ℕ} {call : Option Call} → (other : Option Call) → Runs k i → call ≡ other → ((p : unix.Process) → outcome_of (state_of k) i p other ≡ Refused) → (at : Option (List ℕ))
     → (bytes : List ℕ) × Comes k k i (outcome_at (state_of k) i call) bytes Refuses × Appends at at bytes
-unbuilt {k = k} {i = i} other runs is none at = let x = here-of k i runs.sound runs.active in rw is ([], refused k i x other (none (me k i x)), Appends-none at)
+unbuilt {k = k} {i = i} other runs is none at = let x = here-of k i runs in rw is ([], refused k i x other (none (me k i x)), Appends-none at)
 
 -- ---- getpid
 
@@ -212,13 +214,13 @@ pub getpid-is : (o : Option Process) (p : Process) (pid : ℕ) → o ≡ Some p 
 getpid-is o p pid at is = subst (λ (u : Option Process). IfSome u (λ r. pid ≡ r.pid)) at is
 
 pub getpids : (k : Kernel) (i pid : ℕ) → Runs k i → IfSome (slot k.table.places i) (λ p. pid ≡ p.pid) → Acts k k i (Some Getpid) (Answers pid)
-getpids k i pid runs is = let x = here-of k i runs.sound runs.active in rw (getpid-is (slot k.table.places i) x.process pid x.run.process is) (does k i x k Getpid x.process.pid x refl refl)
+getpids k i pid runs is = let x = here-of k i runs in rw (getpid-is (slot k.table.places i) x.process pid x.run.process is) (does k i x k Getpid x.process.pid x refl refl)
 
 -- ---- uptime, exit and sleep
 
 module _ (k : Kernel) (i : ℕ) (runs : Runs k i) where
   abbrev now : Here k i
-  now = here-of k i runs.sound runs.active
+  now = here-of k i runs
 
   pub uptimes : (ticks : ℕ) → ticks ≡ k.ticks → Acts k k i (Some Uptime) (Answers ticks)
   uptimes ticks is = rw is (does k i now k Uptime k.ticks now refl refl)
@@ -254,13 +256,14 @@ module _ (k : Kernel) (i : ℕ) (x : Here k i) (tree : FileTree) (q : Process) (
       record {
         process = q;
         held = h;
-        run = record { active = r.active; process = slot-put k.table.places i (Some q) short; space = slot-put k.spaces.places i (Some h) low; placed = placed; runs = runs; up = up };
+        run = record { active = r.active; process = slot-put k.table.places i (Some q) short; space = slot-put k.spaces.places i (Some h) low; placed = placed; runs = runs };
+        up = up;
         sound = record {
           all = length-set k.table.places i (Some q) ∙ is.all;
           spaces = length-set k.spaces.places i (Some h) ∙ is.spaces;
           stands = stands-set k.table.places k.spaces.places i (Some q) (Some h) short low placed is.stands;
           runs = runs-set k.table.places i (Some q) k.spaces.active k.spaces.active short (rw (runs, r.active) (sym (eq-self i))) (λ j other. refl) is.runs;
-          filed = record { up = λ j e. up; used = λ good. used };
+          used = λ good. used;
           fits = fits;
           opened = opened;
         };
@@ -289,7 +292,7 @@ named-placed k i x ds directory m same = let l = live k i x.process x.held x.run
 
 -- the files are in use, also where the running process is another one that works where it did
 pub used-here : (k : Kernel) (i : ℕ) (x : Here k i) → IsInUse k.tree k.files k.table.places
-used-here k i x = x.sound.filed.used x.run.up
+used-here k i x = x.sound.used x.up
 
 pub used-turned : (k : Kernel) (i : ℕ) (x : Here k i) (q : Process) → q.mode ≡ Running → q.directory ≡ x.process.directory → IsInUse k.tree k.files (put k.table.places i q)
 used-turned k i x q runs same = used-put (used-here k i x) i (Some q) (home-running q runs ∙ ap Some same ∙ sym (home-running x.process x.run.runs) ∙ sym (ap home_in x.run.process))

@@ -1,7 +1,7 @@
 -- wait: the first zombie child of the running process goes, and its status is written.
 use Rattle.kernel.specs.Holding.{home_in}
 use Rattle.std.proofs.lemmas.List.Folds.{prefix_len-set}
-use Rattle.kernel.proofs.Holding.{filed-put}
+use Rattle.kernel.proofs.Holding.{used-put}
 use Rattle.std.proofs.Common.{◌≡◌, ◌≢◌, ℕ, zero, suc, ◌+◌, ◌<◌, ◌≤◌, Bool, true, false, nat_eq, List, [], ◌∷◌, length, IfSome, Option, Some, None, ℤ, refl, ap, sym, subst, ◌∙◌, arith}
 use Rattle.std.specs.Prelude.{if◌then◌else◌, is_some, not, option_map, slice_index_or, slice_set}
 use Rattle.std.specs.Int.{cast_unsigned, w32}
@@ -87,7 +87,6 @@ module _ (k : Kernel) (i : ℕ) (x : Here k i) (j : ℕ) (child : Process) (z : 
   cleared-run : IsRun cleared i x.process x.held
   cleared-run = record {
     active = x.run.active;
-    up = x.run.up;
     process = slot-other k.table.places j i None back ∙ x.run.process;
     space = slot-other k.spaces.places j i None back ∙ x.run.space;
     placed = x.run.placed;
@@ -116,7 +115,7 @@ module _ (k : Kernel) (i : ℕ) (x : Here k i) (j : ℕ) (child : Process) (z : 
     spaces = length-set k.spaces.places j None ∙ is.spaces;
     stands = stands-set k.table.places k.spaces.places j None None in-table in-spaces tt is.stands;
     runs = runs-set k.table.places j None k.spaces.active k.spaces.active in-table (sym (ap (is_at j) x.run.active ∙ other-at i j z.apart)) (λ n other. refl) is.runs;
-    filed = filed-put is.filed j None (sym (ap home_in z.at ∙ ap (λ b. if b then None else Some child.directory) z.ended));
+    used = λ up. used-put (is.used up) j None (sym (ap home_in z.at ∙ ap (λ b. if b then None else Some child.directory) z.ended));
     fits = fewer;
     opened = opened-names k.files k.spaces.pipes k.table.places j None (λ n. sym (ap (names_in n) z.at ∙ ap (names n) no-names ∙ names-none n)) tt is.opened;
   }
@@ -187,6 +186,7 @@ module _ (k : Kernel) (i : ℕ) (x : Here k i) (j : ℕ) (child : Process) (z : 
         held = h;
         run = moved-run rest i x.process x.held run is x.process h k.spaces.registers k.spaces.pc placed x.run.runs;
         sound = moved-kernel rest i x.process x.held run is x.process h k.spaces.registers k.spaces.pc placed x.run.runs refl refl no-more;
+        up = x.up;
       }
 
   collected-state : state_of collected_to ≡ record (state_of k) { places = clear (put (state_of k).places i (rows.with_status (me k i x) a status)) j }
@@ -291,7 +291,7 @@ pub record Collects (k at : Kernel) (i : ℕ) (w : Pending) (parent : ℕ) (r : 
 
 module _ {k : Kernel} {i : ℕ} (runs : Runs k i) (parent : ℕ) (named : IfSome (slot k.table.places i) (λ p. parent ≡ p.pid)) where
   abbrev x : Here k i
-  x = here-of k i runs.sound runs.active
+  x = here-of k i runs
 
   parent-is : parent ≡ x.process.pid
   parent-is = getpid-is (slot k.table.places i) x.process parent x.run.process named

@@ -100,7 +100,7 @@ module _ (k : Kernel) (i : ℕ) (w : Pending) (q : ℕ) (on : OnThePipe k i end.
   to-here =
       let rest = piped-kernel k x.sound q bytes (drop count bytes) at-pipe in
       let opened = subst (IsOpened k.files pipes) (sym (set-slot k.table.places i (Some x.process) x.run.process)) rest.opened in
-      turned-here k i x k.tree x.process h' k.files pipes (placed-with k i x.process x.held x.run x.sound (write_bytes x.held.memory address (take count bytes))) x.run.runs x.run.up (used-turned k i x x.process x.run.runs refl) opened
+      turned-here k i x k.tree x.process h' k.files pipes (placed-with k i x.process x.held x.run x.sound (write_bytes x.held.memory address (take count bytes))) x.run.runs x.up (used-turned k i x x.process x.run.runs refl) opened
       (rewritten-fits (with_pipe k.spaces q (Some (drop count bytes))) i k.spaces.frames x.held address (take count bytes) x.run.space rest.fits)
 
   row-taken : (all : List ℕ) → bytes ≡ all → 0 < length all → read_pipe (state_of k) i (me k i x) w q all ≡ Done (state_of to) (min count (length all)) []

@@ -15,7 +15,7 @@ use Rattle.kernel.proofs.Finishes.{counting-kernel}
 use Rattle.kernel.proofs.Running.{live, not-killed, runs-mode}
 use Rattle.kernel.proofs.Runs.{moved, moved-kernel, moved-run, moved-state, slot-put, slot-within}
 use Rattle.kernel.proofs.Shown.{frames-state}
-use Rattle.kernel.proofs.Steps.{fail-keeps, held-run}
+use Rattle.kernel.proofs.Steps.{fail-kernel, held-run}
 use Rattle.kernel.specs.Kernel.{Kernel, argument, counting, idle, left_as, on_hart, state_of}
 use Rattle.kernel.specs.Sound.{IsKernel, IsPlaced}
 use Rattle.proc.specs.declared.process.Process.{Process}
@@ -75,7 +75,7 @@ replaces s i p new = provided (fits_beside s new) (answers (put_process s i (rep
 
 module _ (k : Kernel) (i : ℕ) (runs : Runs k i) where
   abbrev x : Here k i
-  x = here-of k i runs.sound runs.active
+  x = here-of k i runs
 
   abbrev mine : unix.Process
   mine = me k i x
@@ -150,7 +150,8 @@ module _ (k : Kernel) (i : ℕ) (runs : Runs k i) where
       there = let r' = moved-run k i x.process x.held x.run x.sound q (view_by p) (exec_registers k.spaces.registers p) p.pc placed x.run.runs in record {
         process = q;
         held = view_by p;
-        run = record { active = r'.active; process = r'.process; space = r'.space; placed = placed; runs = x.run.runs; up = x.run.up };
+        run = record { active = r'.active; process = r'.process; space = r'.space; placed = placed; runs = x.run.runs };
+        up = x.up;
         sound = counting-kernel over failures (moved-kernel k i x.process x.held x.run x.sound q (view_by p) (exec_registers k.spaces.registers p) p.pc placed x.run.runs refl refl few);
       }
 
@@ -158,7 +159,7 @@ module _ (k : Kernel) (i : ℕ) (runs : Runs k i) where
       state = moved-state k i x.process x.held x.run x.sound q (view_by p) (exec_registers k.spaces.registers p) p.pc placed x.run.runs
 
       exec-done : Acts k to i (Some Exec) (Answers p.argc)
-      exec-done = prints k i x to Exec p.argc [] there (record { up = x.run.up; same_device = refl; later = later }) (
+      exec-done = prints k i x to Exec p.argc [] there (record { up = x.up; same_device = refl; later = later }) (
           exec-row
           ∙ ap (λ o. given o (replaces (state_of k) i mine)) is
           ∙ ap (λ b. provided b (answers (put_process (state_of k) i (replaced mine p)) p.argc)) (fits-is p ∙ le-leb _ _ fits)
@@ -184,14 +185,11 @@ module _ (k : Kernel) (i : ℕ) (runs : Runs k i) where
     half-sound : IsKernel half
     half-sound = moved-kernel k i x.process x.held x.run x.sound sized h k.spaces.registers k.spaces.pc sized-placed x.run.runs refl refl few
 
-    half-fails : (t : FileTree) → t.failed ≡ true → IsKernel (record (left_as half i Ready) { tree = t })
-    half-fails t down = fail-keeps half half i t refl half-sound runs.active runs.zero runs.aligned down
-
 -- ---- over the fields: at is what they show, t and s what execute left of its tree and its spaces
 
 module _ (k : Kernel) (i : ℕ) (runs : Runs k i) (at : Kernel) (same : at ≡ k) where
   exec-within : i < length at.spaces.places
-  exec-within = let x' = here-of k i runs.sound runs.active in subst (λ (y : Kernel). i < length y.spaces.places) (sym same) (slot-within k.spaces.places i x'.held x'.run.space)
+  exec-within = let x' = here-of k i runs in subst (λ (y : Kernel). i < length y.spaces.places) (sym same) (slot-within k.spaces.places i x'.held x'.run.space)
 
   -- it has a space still
   pub held-has : (s : Spaces) (h : SpaceView) → s ≡ with_view at.spaces i h → has_space s i ≡ true
@@ -229,7 +227,7 @@ module _ (k : Kernel) (i : ℕ) (runs : Runs k i) (at : Kernel) (same : at ≡ k
               let is : plan_at k.tree.files n (view_at k.spaces i).memory (argument k 1) ≡ Some p = subst (λ (y : Kernel). plan_at y.tree.files n (view_at y.spaces i).memory (argument k 1) ≡ Some p) same (subst (λ a. plan_at at.tree.files n (view_at at.spaces i).memory a ≡ Some p) asks told.is) in
               let fits : frames_beside k.spaces p ≤ k.spaces.frames = subst (λ (y : Kernel). frames_beside y.spaces p ≤ y.spaces.frames) same told.fits in
               let later' : k.tree.failures ≤ t.failures = subst (λ (y : Kernel). y.tree.failures ≤ t.failures) same later in
-              let x' = here-of k i runs.sound runs.active in
+              let x' = here-of k i runs in
               let shows : record at { tree = t; table = changed at.table i (with_size p.size); spaces = begun s (started_by p) } ≡ to k i runs n r p is fits few t.failures later' =
               ap (λ (z : Spaces). record at { tree = t; table = changed at.table i (with_size p.size); spaces = begun z (started_by p) }) told.held
               ∙ ap (λ (u : FileTree). record at { tree = u; table = changed at.table i (with_size p.size); spaces = begun (with_view at.spaces i (view_by p)) (started_by p) }) leaves
@@ -240,10 +238,10 @@ module _ (k : Kernel) (i : ℕ) (runs : Runs k i) (at : Kernel) (same : at ≡ k
 
   -- the device failed
   pub exec-fails : (t : FileTree) → t.failed ≡ true → (s : Spaces) (h : SpaceView) → s ≡ with_view at.spaces i h → taken_frames s ≤ s.frames → (size : ℕ) → size ≡ (view_at s i).size
-      → IsKernel (record at { tree = t; table = changed (changed at.table i (with_size size)) i (λ p. with_mode Ready (on_hart s p)); spaces = idle s })
+      → IsKernel (record at { tree = t; table = changed at.table i (with_size size); spaces = s })
   exec-fails t down s h is suffice size sized' =
-      let x' = here-of k i runs.sound runs.active in
+      let x' = here-of k i runs in
       let size' : size ≡ h.size = sized' ∙ ap (λ (z : Spaces). (view_at z i).size) is ∙ ap (λ (g : SpaceView). g.size) (held-same at.spaces i h exec-within) in
       let is' : s ≡ with_view k.spaces i h = is ∙ ap (λ (y : Kernel). with_view y.spaces i h) same in
       let few : taken_frames (with_view k.spaces i h) ≤ k.spaces.frames = subst (λ (z : Spaces). taken_frames z ≤ z.frames) is' suffice in
-      rw (size', is', same, x'.run.process) (half-fails k i runs h few t down)
+      rw (size', is', same, x'.run.process) (fail-kernel (half-sound k i runs h few) t down)

@@ -22,7 +22,7 @@ use Rattle.kernel.specs.Kernel.{Kernel, descriptors_at, idle, left_as, on_hart, 
 use Rattle.kernel.specs.Sound.{IsKernel, IsOpened, IsPlaced, IsReading}
 use Rattle.kernel.proofs.Opens.{IsNamed}
 use Rattle.kernel.proofs.Runs.{set-slot}
-use Rattle.kernel.proofs.Steps.{fail-keeps, placed-with}
+use Rattle.kernel.proofs.Steps.{fail-kernel, placed-with}
 use Rattle.names.proofs.Quiet.{changed-same}
 use Rattle.names.specs.Changes.{Changed}
 use Rattle.proc.specs.Places.{Places, changed, with_mode}
@@ -120,15 +120,11 @@ module _ (k : Kernel) (i : ℕ) (w : Pending) (number offset : ℕ) (u : Uses k 
 
   -- ---- the device fails
 
-  lost : (t : FileTree) (bs : List ℕ) → t.failed ≡ true → IsKernel (record (left_as (record k { spaces = with_bytes k.spaces i address bs }) i Ready) { tree = t })
-  lost t bs down =
-      let now = record k { spaces = with_bytes k.spaces i address bs } in
-      let sound : IsKernel now = rw (to-is k.tree k.files bs) (to-here k.tree k.files bs x.run.up (used-turned k i x x.process x.run.runs refl) x.sound.opened).sound in
-      fail-keeps now now i t refl sound x.run.active g.runs.zero g.runs.aligned down
+  lost : (bs : List ℕ) → IsKernel (record k { spaces = with_bytes k.spaces i address bs })
+  lost bs = rw (to-is k.tree k.files bs) (to-here k.tree k.files bs x.up (used-turned k i x x.process x.run.runs refl) x.sound.opened).sound
 
-  pub reads-lost : (at : Kernel) → at ≡ k → (t : FileTree) (fault : DeviceFault) (m : ℕ) → Serves at.tree t (Err fault) (IsRead at.tree t number offset m) → (s : Spaces) → (done : ℕ) × (s ≡ with_bytes at.spaces i address (bytes_read at.tree.files number offset done))
-      → (table : Places) → table ≡ changed at.table i (λ p. with_mode Ready (on_hart s p)) → (last : Spaces) → last ≡ idle s → IsKernel (record at { tree = t; table = table; spaces = last })
-  reads-lost at same t fault m serves s some table left last gone = rw (gone, left, some.1, same) (lost t (bytes_read k.tree.files number offset some.0) serves.down)
+  pub reads-lost : (at : Kernel) → at ≡ k → (t : FileTree) → t.failed ≡ true → (s : Spaces) (done : ℕ) → s ≡ with_bytes at.spaces i address (bytes_read at.tree.files number offset done) → IsKernel (record at { tree = t; spaces = s })
+  reads-lost at same t down s done some = fail-kernel {k = record at { spaces = s }} (rw (some, same) (lost (bytes_read k.tree.files number offset done))) t down
 
   -- ---- all came
 

@@ -7,7 +7,7 @@ use Rattle.std.proofs.lemmas.Option.{none-some, same_Some}
 use Rattle.blockdev.specs.declared.DeviceFault.{DeviceFault}
 use Rattle.calls.specs.Acts.{Acts, Runs}
 use Rattle.calls.specs.Gives.{IsLost}
-use Rattle.calls.specs.Reads.{HasRead}
+use Rattle.calls.specs.Reads.{FindsFrom, HasRead}
 use Rattle.calls.specs.Replaced.{Reaches}
 use Rattle.calls.specs.declared.outcome.Came.TheVariants.{Answers, Refuses}
 use Rattle.calls.proofs.Acts.{Here, here-of, me, outcome-here, refused, settles, turned, turned-here, used-here, named-placed}
@@ -29,7 +29,7 @@ use Rattle.kernel.proofs.Opens.{opened-put, waits-running}
 use Rattle.kernel.proofs.Reaped.{away-loaded, opened-loaded}
 use Rattle.kernel.proofs.Running.{not-killed, regs-kernel, regs-run}
 use Rattle.kernel.proofs.Runs.{IsRun, home-running, loaded-run, moved-run, self, set-slot, set-twice, slot-within}
-use Rattle.kernel.proofs.Steps.{fail-keeps}
+use Rattle.kernel.proofs.Steps.{fail-kernel}
 use Rattle.kernel.specs.Descriptors.{descriptors_in}
 use Rattle.kernel.specs.Holding.{AreHeld, IsFolder, IsInUse, dropped, files_on, home_in, homes_at}
 use Rattle.kernel.specs.Kernel.{Kernel, answered, argument, left_as, loaded, memories, on_hart, state_of}
@@ -120,8 +120,15 @@ module _ {t : FileTree} {opens : List (Option Counted)} {os : List (Option Proce
 
 -- ---- after the disk was read
 
+-- what a path reaches from the directory that process i works in
+pub found-from : (k : Kernel) (i d : ℕ) → IfSome (slot k.table.places i) (λ p. d ≡ p.directory) → (path : List ℕ) (n : Option ℕ) → n ≡ find k.tree.files d path → FindsFrom k i path n
+found-from k i d home path n is = go (slot k.table.places i) home where
+  go : (o : Option Process) → IfSome o (λ p. d ≡ p.directory) → IfSome o (λ p. n ≡ find k.tree.files p.directory path)
+  go None at = tt
+  go (Some p) at = is ∙ ap (λ m. find k.tree.files m path) at
+
 pub read-runs : (k e : Kernel) (i : ℕ) → HasRead k e → Runs k i → Runs e i
-read-runs k e i has runs = subst (λ (y : Kernel). Runs y i) (sym has.same) (record { active = runs.active; sound = counting-kernel k e.tree.failures runs.sound; zero = runs.zero; aligned = runs.aligned })
+read-runs k e i has runs = subst (λ (y : Kernel). Runs y i) (sym has.same) (record { active = runs.active; up = runs.up; sound = counting-kernel k e.tree.failures runs.sound; zero = runs.zero; aligned = runs.aligned })
 
 -- a call that is refused then
 pub refused-read : (k e : Kernel) (i : ℕ) (x : Here k i) (call : Call) → HasRead k e → outcome_of (state_of k) i (me k i x) (Some call) ≡ Refused → Acts k e i (Some call) Refuses
@@ -131,7 +138,7 @@ refused-read k e i x call has is = subst (λ (y : Kernel). Acts k y i (Some call
   sound = counting-kernel k e.tree.failures x.sound;
   can = tt;
   printed = refl;
-  served = record { up = x.run.up; same_device = refl; later = has.later };
+  served = record { up = x.up; same_device = refl; later = has.later };
 })
 
 -- ---- the running process works in directory n now
@@ -164,10 +171,10 @@ module _ (k : Kernel) (i : ℕ) (x : Here k i) (n : ℕ) (short : n < length k.t
     to = turned k i x tree q x.held k.files k.spaces.pipes placed x.run.runs
 
     there : Here to i
-    there = turned-here k i x tree q x.held k.files k.spaces.pipes placed x.run.runs x.run.up used opened (changed-fits k i x q placed x.run.runs)
+    there = turned-here k i x tree q x.held k.files k.spaces.pipes placed x.run.runs x.up used opened (changed-fits k i x q placed x.run.runs)
 
     to-run : IsRun to i q x.held
-    to-run = let r = moved-run k i x.process x.held x.run x.sound q x.held k.spaces.registers k.spaces.pc placed x.run.runs in record { active = r.active; process = r.process; space = r.space; placed = placed; runs = x.run.runs; up = x.run.up }
+    to-run = let r = moved-run k i x.process x.held x.run x.sound q x.held k.spaces.registers k.spaces.pc placed x.run.runs in record { active = r.active; process = r.process; space = r.space; placed = placed; runs = x.run.runs }
 
     abbrev regs : List ℕ
     regs = slice_set k.spaces.registers 10 0
@@ -189,7 +196,7 @@ module _ (k : Kernel) (i : ℕ) (x : Here k i) (n : ℕ) (short : n < length k.t
 
     pub chdir-acts : row (state_of k) i (me k i x) Chdir ≡ Done (put_process (state_of k) i (self k q x.held)) 0 [] → Acts k to i (Some Chdir) (Answers 0)
     chdir-acts made =
-        settles k i x to Chdir 0 [] there (record { up = x.run.up; same_device = refl; later = later })
+        settles k i x to Chdir 0 [] there (record { up = x.up; same_device = refl; later = later })
         (ap (λ (o : Outcome). settle (state_of k) i (limited o)) made ∙ settles-gone k i x q placed x.run.runs (not-killed k i x.process x.held x.run x.sound) there.sound.stands reaped)
 
 -- ---- chdir, step by step
@@ -211,7 +218,7 @@ folder-is o (Directory links places) at is = refl
 
 module _ (k : Kernel) (i : ℕ) (runs : Runs k i) where
   abbrev x : Here k i
-  x = here-of k i runs.sound runs.active
+  x = here-of k i runs
 
   abbrev home : ℕ
   home = x.process.directory
@@ -317,12 +324,8 @@ module _ (k : Kernel) (i : ℕ) (runs : Runs k i) where
           chdirs done e = dropped-acts t (ok-told (λ done. t ≡ drops t.failures) r' done e serves.told) serves.cause.later
 
           -- an access failed
-          pub chdir-fails : (fault : DeviceFault) → r' ≡ Err fault → IsKernel (record (left_as (record at { tree = held; table = changed at.table i (with_directory n) }) i Ready) { tree = t })
-          chdir-fails fault e =
-              let u = drops held.failures in
-              let made = dropped-acts u refl (omega arith) in
-              let to' = record at { tree = u; table = changed at.table i (with_directory n) } in
-              fail-keeps to' to' i t refl made.sound made.active (rw same runs.zero) (rw same runs.aligned) (on-err r' fault e serves.down)
+          pub chdir-fails : (fault : DeviceFault) → r' ≡ Err fault → IsKernel (record at { tree = t; table = changed at.table i (with_directory n) })
+          chdir-fails fault e = fail-kernel (dropped-acts (drops held.failures) refl (omega arith)).sound t (on-err r' fault e serves.down)
 
           pub chdir-gone : (fault : DeviceFault) → r' ≡ Err fault → IsLost k.tree t
           chdir-gone fault e = let lost = serves-lost r' fault e serves in subst (λ (u : FileTree). IsLost (record k.tree { failures = u.failures }) t) held-is (record { down = lost.down; same_device = lost.same_device ∙ ap (λ (u : FileTree). u.identity) held-is; later = lost.later; rises = lost.rises })

@@ -61,7 +61,6 @@ module _ (k : Kernel) (i : ℕ) (x : Here k i) where
     mark-run : IsRun (marked_to k j q) i p h
     mark-run = record {
       active = r.active;
-      up = r.up;
       process = slot-other k.table.places j i (Some (with_mark q)) (λ e. apart (sym e)) ∙ r.process;
       space = r.space;
       placed = r.placed;
@@ -69,7 +68,7 @@ module _ (k : Kernel) (i : ℕ) (x : Here k i) where
     }
 
     mark-here : Here (marked_to k j q) i
-    mark-here = record { process = p; held = h; run = mark-run; sound = marked-kernel k j q is at (ap (is_at j) r.active ∙ other-at i j apart) }
+    mark-here = record { process = p; held = h; run = mark-run; sound = marked-kernel k j q is at (ap (is_at j) r.active ∙ other-at i j apart); up = x.up }
 
     mark-state : change_process (state_of k) j rows.marked ≡ state_of (marked_to k j q)
     mark-state =
@@ -125,7 +124,7 @@ module _ (k : Kernel) (i : ℕ) (x : Here k i) where
   self-within : is_within (change_process (state_of k) i rows.marked) ≡ true
   self-within =
       ap is_within self-marked
-      ∙ within-state_with k t (is.filed.used r.up).within is.opened.table match-self
+      ∙ within-state_with k t (is.used x.up).within is.opened.table match-self
       ∙ le-leb _ _ is.fits
 
   -- ---- it has its answer
@@ -231,7 +230,7 @@ module _ (k : Kernel) (i : ℕ) (x : Here k i) where
         let last = marked_to gone i zombie in
         let middle = record last { tree = k.tree } in
         let old = record (state_of middle) { opens = opens_of k.files; pipes = k.spaces.pipes } in
-        let used = used-loaded k' kernel' r.up in
+        let used = used-loaded k' kernel' x.up in
         let files = old-all_closed k.files q.descriptors in
         let gives = fewer-nodes used gone.files after ns after-counted files after-old (state_of middle) (memories k.spaces) (are-away after k.spaces.places gone-kernel.stands) refl refl refl in
         ap reap (with_zombie-with_table rest answered_table (memories k.spaces) i (with_mark q) (negsuc 0))
@@ -261,7 +260,7 @@ named-is os (suc n) some = refl
 
 module _ {k : Kernel} {i : ℕ} (runs : Runs k i) where
   abbrev here : Here k i
-  here = here-of k i runs.sound runs.active
+  here = here-of k i runs
 
   pid-run : (pid : ℕ) → place_of_pid (state_of k) pid ≡ place_where k.table.places (has_pid pid)
   pid-run pid =

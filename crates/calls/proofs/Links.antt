@@ -2,10 +2,13 @@
 use Rattle.calls.proofs.Served.{ok-told}
 use Rattle.std.proofs.Common.{◌≡◌, ◌≢◌, ℕ, ◌∙◌, List, None, Option, Some, ap, refl, subst, sym}
 use Rattle.std.specs.Prelude.{All, IfSome, Ok, Result, option_and_then}
-use Rattle.calls.specs.Acts.{Acts, Runs}
+use Rattle.calls.specs.Acts.{Acts, ActsOnDisk, Runs}
+use Rattle.blockdev.specs.declared.DeviceFault.{DeviceFault}
+use Rattle.calls.specs.Named.{IsNamed}
+use Rattle.calls.specs.declared.outcome.Came.{Came}
 use Rattle.calls.specs.declared.outcome.Came.TheVariants.{Answers, Refuses}
 use Rattle.calls.proofs.Acts.{refused}
-use Rattle.calls.proofs.Names.{NameFails, given-then, here, home-is, made-over, mine, name-fails, name-made, names-rules, path-is, with_made}
+use Rattle.calls.proofs.Names.{given-then, here, home-is, made-over, mine, named-acts, name-made, names-rules, path-is, with_made}
 use Rattle.kernel.specs.Kernel.{Kernel, argument, state_of}
 use Rattle.spaces.specs.Spaces.{view_at}
 use Rattle.tree.specs.Answers.{Overflows}
@@ -61,10 +64,9 @@ module _ (k : Kernel) (i : ℕ) (runs : Runs k i) where
 
     -- at is what the kernel's fields show
     module _ (at : Kernel) (same : at ≡ k) where
-      pub link-done : All (λ b. b ≢ 0) to → MakesLink at.tree t d from to r → (v : Unit {0}) → r ≡ Ok v → IsWhole t → Acts k (record at { tree = t }) i (Some Link) (Answers 0)
-      link-done plain = subst (λ (y : Kernel). MakesLink y.tree t d from to r → (v : Unit {0}) → r ≡ Ok v → IsWhole t → Acts k (record y { tree = t }) i (Some Link) (Answers 0)) (sym same) (λ acts v e whole.
+      pub link-acts : All (λ b. b ≢ 0) to → MakesLink at.tree t d from to r → (came : Result Came DeviceFault) → IsNamed t r came → ActsOnDisk k (record at { tree = t }) i (Some Link) came
+      link-acts plain = subst (λ (y : Kernel). MakesLink y.tree t d from to r → (came : Result Came DeviceFault) → IsNamed t r came → ActsOnDisk k (record y { tree = t }) i (Some Link) came) (sym same) (λ acts. named-acts k i (here k i runs) t r acts Link
+          (λ v e whole.
           let made : linked_in k.tree.files d from to ≡ Some t.files = ok-told _ r v e acts.done in
           name-made k i (here k i runs) t r acts Link (linked_in k.tree.files d from to) link-makes v e made (linked-changed (names-rules k i runs) d to plain from t.files made) whole)
-
-      pub link-fails : MakesLink at.tree t d from to r → NameFails k at i t r Link
-      link-fails = subst (λ (y : Kernel). MakesLink y.tree t d from to r → NameFails k y i t r Link) (sym same) (λ acts. name-fails k i (here k i runs) t r acts Link runs link-over)
+          link-over)

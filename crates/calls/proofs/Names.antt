@@ -5,14 +5,13 @@ use Rattle.std.proofs.Common.{◌≡◌, ◌≢◌, ℕ, ◌<◌, ◌∙◌, Boo
 use Rattle.std.specs.Prelude.{All, Err, IfErr, IfOk, IfSome, IsSome, Ok, OnErr, Result, if◌then◌else◌, nat_le, option_and_then, option_map, ◌%◌, ◌&&◌, ◌^◌}
 use Rattle.std.proofs.lemmas.Bool.{false≢true, lt-leb, and_left, and_right}
 use Rattle.calls.specs.Acts.{Acts, ActsOnDisk, Runs}
+use Rattle.calls.specs.Named.{IsNamed, IsRefused}
 use Rattle.calls.specs.declared.outcome.Came.{Came}
 use Rattle.calls.specs.declared.outcome.Came.TheVariants.{Answers, Refuses}
 use Rattle.calls.proofs.Acts.{Here, here-of, me, outcome-here, prints, refused, used-here}
 use Rattle.calls.proofs.Shapes.{folder-there, used-changed, used-shaped}
 use Rattle.kernel.specs.Holding.{IsInUse, home_in}
-use Rattle.calls.proofs.Woken.{running-now, watched-refuse}
 use Rattle.kernel.specs.View.{Keeps}
-use Rattle.kernel.specs.Watch.{Watches}
 use Rattle.kernel.specs.Kernel.{Kernel, argument, idle, on_hart, state_of}
 use Rattle.kernel.specs.Sound.{IsKernel}
 use Rattle.kernel.proofs.Holding.{home-folder}
@@ -97,13 +96,6 @@ is-device _ is = absurd (false≢true is)
 -- ---- the kernel with other files
 
 -- where an access failed process i runs no more
-abbrev pub faulted : Kernel → ℕ → FileTree → Bool → Kernel
-faulted k i t failed = record k {
-  tree = t;
-  table = if failed then changed k.table i (λ p. with_mode Ready (on_hart k.spaces p)) else k.table;
-  spaces = if failed then idle k.spaces else k.spaces;
-}
-
 -- what the calls of a tree promise
 abbrev pub MakesNode : FileTree → FileTree → ℕ → List ℕ → Leaf → Result ℕ TreeFault → Type 0
 MakesNode old new d path it r =
@@ -114,10 +106,10 @@ abbrev pub MakesFolder : FileTree → FileTree → ℕ → List ℕ → Result (
 MakesFolder old new d path r =
     tree.Acts old new r (λ done. folder_in old.files d path ≡ Some new.files) (Overflows old.block_limit (folder_in old.files d path)) (LacksFolder old.block_limit old.files d path)
 
--- what is left where the tree refuses; at is what the kernel's fields show
-pub record NameFails (k at : Kernel) (i : ℕ) (t : FileTree) {T : Type 0} (r : Result T TreeFault) (call : Call) : Type 0 where
-  pub keeps : (fault : TreeFault) → r ≡ Err fault → Watches at → Keeps (faulted at i t (is_device fault))
-  pub acts : (fault : TreeFault) → r ≡ Err fault → (came : Result Came DeviceFault) → IfOk came (λ c. (c ≡ Refuses) × (is_device fault ≡ false)) → OnErr came (is_device fault ≡ true) → ActsOnDisk k (faulted at i t (is_device fault)) i (Some call) came
+-- a call that leaves this tree; at is what the kernel's fields show
+pub acts-keep : (k : Kernel) {at : Kernel} (i : ℕ) (call : Call) → Keeps at → (t : FileTree) (came : Result Came DeviceFault) → ActsOnDisk k (record at { tree = t }) i (Some call) came → Keeps (record at { tree = t })
+acts-keep k i call keeps t (Ok c) acts = record { sound = acts.sound; watched = keeps.watched }
+acts-keep k i call keeps t (Err fault) lost = fail-keeps keeps t lost.down
 
 module _ (k : Kernel) (i : ℕ) (x : Here k i) (t : FileTree) where
   abbrev pub over : Kernel
@@ -127,8 +119,9 @@ module _ (k : Kernel) (i : ℕ) (x : Here k i) (t : FileTree) where
   over-here up used = let r = x.run in record {
     process = x.process;
     held = x.held;
-    run = record { active = r.active; process = r.process; space = r.space; placed = r.placed; runs = r.runs; up = up };
-    sound = with-tree k t x.sound (record { up = λ j e. up; used = λ good. used });
+    run = record { active = r.active; process = r.process; space = r.space; placed = r.placed; runs = r.runs };
+    sound = with-tree x.sound t (λ good. used);
+    up = up;
   }
 
   pub over-state : t.block_limit ≡ k.tree.block_limit → state_of over ≡ with_files (state_of k) t.files
@@ -162,35 +155,29 @@ module _ (k : Kernel) (i : ℕ) (x : Here k i) (t : FileTree) where
           served = record { up = up; same_device = acts.same_device; later = acts.later };
         }
 
-    -- nothing was made: the call is refused, or an access failed and the process runs no more
-    module _ (runs : Runs k i) (bad : Bad → outcome_of (state_of k) i (me k i x) (Some call) ≡ Refused) (fault : TreeFault) (e : r ≡ Err fault) where
+    -- nothing was made: the call is refused, or an access failed
+    module _ (bad : Bad → outcome_of (state_of k) i (me k i x) (Some call) ≡ Refused) (fault : TreeFault) (e : r ≡ Err fault) where
       fails : t.failed ≡ is_device fault
       fails = acts.failed ∙ ap has_failed e
 
       refuses : is_device fault ≡ false → Acts k over i (Some call) Refuses
       refuses none = let why = err-why _ r fault e acts.refused (device-is fault none) in same-refused (fails ∙ none) why.same (bad why.refused)
 
-      fault-sound : (b : Bool) → is_device fault ≡ b → IsKernel (faulted k i t b)
-      fault-sound false is = (refuses is).sound
-      fault-sound true is = fail-keeps k k i t refl x.sound x.run.active runs.zero runs.aligned (fails ∙ is)
+      pub refused-acts : (came : Result Came DeviceFault) → IsRefused fault came → ActsOnDisk k over i (Some call) came
+      refused-acts (Ok c) is = subst (λ c. Acts k over i (Some call) c) (sym is.0) (refuses is.1)
+      refused-acts (Err f) is = record { down = fails ∙ is; same_device = acts.same_device; later = acts.later; rises = acts.cause (e ∙ ap Err (is-device fault is)) }
 
-      fault-acts : (b : Bool) → is_device fault ≡ b → (came : Result Came DeviceFault) → IfOk came (λ c. (c ≡ Refuses) × (is_device fault ≡ false)) → OnErr came (is_device fault ≡ true) → ActsOnDisk k (faulted k i t b) i (Some call) came
-      fault-acts false is (Ok c) ok err = subst (λ c. Acts k over i (Some call) c) (sym ok.0) (refuses is)
-      fault-acts false is (Err f) ok err = absurd (false≢true (sym is ∙ err))
-      fault-acts true is (Ok c) ok err = absurd (false≢true (sym ok.1 ∙ is))
-      fault-acts true is (Err f) ok err = record { down = fails ∙ is; same_device = acts.same_device; later = acts.later; rises = acts.cause (e ∙ ap Err (is-device fault is)) }
-
-    pub name-fails : Runs k i → (Bad → outcome_of (state_of k) i (me k i x) (Some call) ≡ Refused) → NameFails k k i t r call
-    name-fails runs bad = record {
-      keeps = λ fault e watched. record { sound = fault-sound runs bad fault e (is_device fault) refl; watched = watched-refuse k watched i (running-now i refl runs) (is_device fault) };
-      acts = λ fault e. fault-acts runs bad fault e (is_device fault) refl;
-    }
+    pub named-acts : ((v : T) → r ≡ Ok v → IsWhole t → Acts k over i (Some call) (Answers 0)) → (Bad → outcome_of (state_of k) i (me k i x) (Some call) ≡ Refused) → (came : Result Came DeviceFault) → IsNamed t r came → ActsOnDisk k over i (Some call) came
+    named-acts done bad = go r refl where
+      go : (s : Result T TreeFault) → r ≡ s → (came : Result Came DeviceFault) → IsNamed t s came → ActsOnDisk k over i (Some call) came
+      go (Ok v) e came named = rw named.0 (done v e named.1)
+      go (Err fault) e came named = refused-acts bad fault e came named
 
 -- ---- the process that calls
 
 module _ (k : Kernel) (i : ℕ) (runs : Runs k i) where
   abbrev pub here : Here k i
-  here = here-of k i runs.sound runs.active
+  here = here-of k i runs
 
   abbrev pub mine : unix.Process
   mine = me k i here
@@ -200,9 +187,6 @@ module _ (k : Kernel) (i : ℕ) (runs : Runs k i) where
 
   pub path-is : (n : ℕ) (o : Option (List ℕ)) → o ≡ path_at (view_at k.spaces i).memory (argument k n) → path_arg mine n ≡ o
   path-is n o is = sym (is ∙ ap (λ (h : SpaceView). path_at h.memory (argument k n)) (held-run k i here.process here.held here.run here.sound))
-
-  pub names-up : k.tree.failed ≡ false
-  names-up = here.run.up
 
   pub names-rules : KeepsTree k.tree.files
   names-rules = (used-here k i here).rules
@@ -214,7 +198,7 @@ module _ (k : Kernel) (i : ℕ) (runs : Runs k i) where
 
   -- what a call of the tree asks for; at is what the fields show
   pub names-may : (at : Kernel) → at ≡ k → (d : ℕ) → IfSome (slot k.table.places i) (λ p. d ≡ p.directory) → (at.tree.failed ≡ false) × KeepsTree at.tree.files × IsSome (slot at.tree.files d)
-  names-may at same d home = subst (λ (y : Kernel). (y.tree.failed ≡ false) × KeepsTree y.tree.files × IsSome (slot y.tree.files d)) (sym same) (names-up, names-rules, names-home d home)
+  names-may at same d home = subst (λ (y : Kernel). (y.tree.failed ≡ false) × KeepsTree y.tree.files × IsSome (slot y.tree.files d)) (sym same) (here.up, names-rules, names-home d home)
 
   -- ---- no path
 
@@ -243,13 +227,12 @@ module _ (k : Kernel) (i : ℕ) (runs : Runs k i) where
       mknod-over over = ap limited mknod-makes ∙ made-over (state_of k) (made_files node_made) over
 
       module _ (at : Kernel) (same : at ≡ k) where
-        pub mknod-done : All (λ b. b ≢ 0) path → MakesNode at.tree t d path it r → (v : ℕ) → r ≡ Ok v → IsWhole t → Acts k (record at { tree = t }) i (Some Mknod) (Answers 0)
-        mknod-done plain = subst (λ (y : Kernel). MakesNode y.tree t d path it r → (v : ℕ) → r ≡ Ok v → IsWhole t → Acts k (record y { tree = t }) i (Some Mknod) (Answers 0)) (sym same) (λ acts v e whole.
+        pub mknod-acts : All (λ b. b ≢ 0) path → MakesNode at.tree t d path it r → (came : Result Came DeviceFault) → IsNamed t r came → ActsOnDisk k (record at { tree = t }) i (Some Mknod) came
+        mknod-acts plain = subst (λ (y : Kernel). MakesNode y.tree t d path it r → (came : Result Came DeviceFault) → IsNamed t r came → ActsOnDisk k (record y { tree = t }) i (Some Mknod) came) (sym same) (λ acts. named-acts k i here t r acts Mknod
+            (λ v e whole.
             let made : node_made ≡ Some (record { files = t.files; number = v }) = ok-told _ r v e acts.done in
             name-made k i here t r acts Mknod (made_files node_made) mknod-makes v e (ap made_files made) (created-changed names-rules d path plain it (record { files = t.files; number = v }) made) whole)
-
-        pub mknod-fails : MakesNode at.tree t d path it r → NameFails k at i t r Mknod
-        mknod-fails = subst (λ (y : Kernel). MakesNode y.tree t d path it r → NameFails k y i t r Mknod) (sym same) (λ acts. name-fails k i here t r acts Mknod runs mknod-over)
+            mknod-over)
 
     module _ (t : FileTree) (r : Result (Unit {0}) TreeFault) where
       mkdir-makes : row (state_of k) i mine Mkdir ≡ with_made (state_of k) (folder_in k.tree.files d path)
@@ -259,10 +242,9 @@ module _ (k : Kernel) (i : ℕ) (runs : Runs k i) where
       mkdir-over over = ap limited mkdir-makes ∙ made-over (state_of k) (folder_in k.tree.files d path) over
 
       module _ (at : Kernel) (same : at ≡ k) where
-        pub mkdir-done : All (λ b. b ≢ 0) path → MakesFolder at.tree t d path r → (v : Unit {0}) → r ≡ Ok v → IsWhole t → Acts k (record at { tree = t }) i (Some Mkdir) (Answers 0)
-        mkdir-done plain = subst (λ (y : Kernel). MakesFolder y.tree t d path r → (v : Unit {0}) → r ≡ Ok v → IsWhole t → Acts k (record y { tree = t }) i (Some Mkdir) (Answers 0)) (sym same) (λ acts v e whole.
+        pub mkdir-acts : All (λ b. b ≢ 0) path → MakesFolder at.tree t d path r → (came : Result Came DeviceFault) → IsNamed t r came → ActsOnDisk k (record at { tree = t }) i (Some Mkdir) came
+        mkdir-acts plain = subst (λ (y : Kernel). MakesFolder y.tree t d path r → (came : Result Came DeviceFault) → IsNamed t r came → ActsOnDisk k (record y { tree = t }) i (Some Mkdir) came) (sym same) (λ acts. named-acts k i here t r acts Mkdir
+            (λ v e whole.
             let made : folder_in k.tree.files d path ≡ Some t.files = ok-told _ r v e acts.done in
             name-made k i here t r acts Mkdir (folder_in k.tree.files d path) mkdir-makes v e made (folder-changed names-rules d path plain t.files made) whole)
-
-        pub mkdir-fails : MakesFolder at.tree t d path r → NameFails k at i t r Mkdir
-        mkdir-fails = subst (λ (y : Kernel). MakesFolder y.tree t d path r → NameFails k y i t r Mkdir) (sym same) (λ acts. name-fails k i here t r acts Mkdir runs mkdir-over)
+            mkdir-over)

@@ -11,12 +11,13 @@ use Rattle.calls.specs.Acts.{Acts, ActsOnDisk, Runs, outcome_at, settled_by}
 use Rattle.calls.specs.declared.outcome.Came.{Came}
 use Rattle.calls.specs.declared.outcome.Came.TheVariants.{Answers, Refuses}
 use Rattle.calls.specs.Gives.{IsServed}
+use Rattle.calls.specs.Named.{IsRefused}
 use Rattle.calls.specs.Opened.{Asks, Cuts, IsCut, IsOpenable, Opens, cut_tree, file_by, has_seat, may_open_by, target_by, with_open}
 use Rattle.calls.specs.Reads.{HasRead}
 use Rattle.calls.specs.Renamed.{OpensAs, free_descriptors}
 use Rattle.calls.proofs.Acts.{Here, here-of, me, named-placed, prints, refused, turned, turned-here, turned-state, used-here, used-turned}
 use Rattle.calls.proofs.Homes.{few-hold, found-here, node-here, refused-read}
-use Rattle.calls.proofs.Names.{MakesNode, NameFails, home-is, name-fails, names-rules, over-blocks, path-is}
+use Rattle.calls.proofs.Names.{MakesNode, home-is, names-rules, refused-acts, over-blocks, path-is}
 use Rattle.calls.proofs.Pipes.{given-refused}
 use Rattle.calls.proofs.Served.{lost-after, served-after, ok-told}
 use Rattle.calls.proofs.Shapes.{used-changed}
@@ -39,7 +40,7 @@ use Rattle.kernel.proofs.Steps.{with-tree}
 use Rattle.kernel.specs.Descriptors.{IsCounted, descriptors_in}
 use Rattle.kernel.specs.Holding.{FitsNode, IsInUse, files_on, node_in, node_of, node_on}
 use Rattle.kernel.specs.Kernel.{Kernel, argument, state_of}
-use Rattle.kernel.specs.Sound.{IsOpenFile, IsOpened, IsPlaced}
+use Rattle.kernel.specs.Sound.{IsKernel, IsOpenFile, IsOpened, IsPlaced}
 use Rattle.names.proofs.Finding.{enter-parts, make-parts}
 use Rattle.names.proofs.Quiet as quiet
 use Rattle.names.proofs.Spots.{spot-absent}
@@ -55,7 +56,7 @@ use Rattle.tree.specs.Entering.{made_files, made_in}
 use Rattle.tree.specs.Holding.{holders, with_hold}
 use Rattle.tree.specs.Leaves.{leaf_node}
 use Rattle.tree.specs.Telling.{Tells, TellsMajor}
-use Rattle.tree.specs.Tree.{FileTree, has_failed}
+use Rattle.tree.specs.Tree.{HasFiles, FileTree, has_failed}
 use Rattle.tree.specs.Whole.{IsWhole}
 use Rattle.unixmodel.specs.Calls.{outcome_of, row, settle}
 use Rattle.unixmodel.specs.Counts.{blocks_of}
@@ -227,7 +228,7 @@ module _ (k : Kernel) (i : ℕ) (x : Here k i) (n : ℕ) (f : OpenFile) (place f
   to = turned k i x tree q x.held files k.spaces.pipes placed x.run.runs
 
   pub opens-here : Here to i
-  opens-here = turned-here k i x tree q x.held files k.spaces.pipes placed x.run.runs x.run.up used has-opened (rw (set-slot k.spaces.places i (Some x.held) x.run.space) x.sound.fits)
+  opens-here = turned-here k i x tree q x.held files k.spaces.pipes placed x.run.runs x.up used has-opened (rw (set-slot k.spaces.places i (Some x.held) x.run.space) x.sound.fits)
 
   opens-state : state_of to ≡ with_open (state_of k) i (me k i x) fd place (file_of f)
   opens-state = turned-state k i x tree q x.held files k.spaces.pipes placed x.run.runs ∙ ap (λ (os : List (Option unix_files.OpenFile)). record (with_open (state_of k) i (me k i x) fd place (file_of f)) { opens = os }) opens-is
@@ -241,14 +242,14 @@ module _ (k : Kernel) (i : ℕ) (x : Here k i) (n : ℕ) (f : OpenFile) (place f
     first = first;
     free = ap (λ (o : Option Process). free_slot (descriptors_in o)) x.run.process ∙ free;
     state = λ p at. opens-state ∙ ap (λ (y : unix.Process). with_open (state_of k) i y fd place (file_of f)) (same_Some (me k i x) p (sym (process-run k i x.process x.held x.run) ∙ at)) ∙ ap (with_open (state_of k) i p fd place) means';
-    runs = record { active = opens-here.run.active; sound = opens-here.sound; zero = runs.zero; aligned = runs.aligned };
-    served = record { up = x.run.up; same_device = refl; later = omega arith };
+    runs = record { active = opens-here.run.active; up = opens-here.up; sound = opens-here.sound; zero = runs.zero; aligned = runs.aligned };
+    served = record { up = x.up; same_device = refl; later = omega arith };
   }
 
 -- over the fields: at is what they show
 module _ {k : Kernel} {i : ℕ} (runs : Runs k i) {n f : ℕ} {told : InodeStat} (is : IsOpenable k.tree.files n f told) {at : Kernel} (same : at ≡ k) (whole : IsWhole at.tree) where
   abbrev x : Here k i
-  x = here-of k i runs.sound runs.active
+  x = here-of k i runs
 
   pub open-there : slot at.tree.files n ≢ None
   open-there none = none-some is.node (sym none ∙ ap (λ (y : Kernel). slot y.tree.files n) same ∙ is.here)
@@ -291,31 +292,28 @@ module _ {k : Kernel} {i : ℕ} (runs : Runs k i) {n f : ℕ} {told : InodeStat}
 
 -- ---- a file that is emptied
 
-module _ {k : Kernel} {i : ℕ} (runs : Runs k i) (f n : ℕ) where
-  -- another tree, whose files the running process may use
-  retreed : (t : FileTree) → t.failed ≡ false → Changed k.tree.files t.files → t.holds ≡ k.tree.holds → IsWhole t → Runs (record k { tree = t }) i
-  retreed t up changes same whole =
-      let x = here-of k i runs.sound runs.active in
-      let used = used-changed (used-here k i x) t changes same whole.zero whole.within in
-      record { active = runs.active; sound = with-tree k t runs.sound (record { up = λ j e. up; used = λ good. used }); zero = runs.zero; aligned = runs.aligned }
+module _ {k : Kernel} (is : IsKernel k) (up : k.tree.failed ≡ false) where
+  -- another tree, whose files the processes may use
+  retreed : (t : FileTree) → Changed k.tree.files t.files → t.holds ≡ k.tree.holds → IsWhole t → IsKernel (record k { tree = t })
+  retreed t changes same whole = with-tree is t (λ good. used-changed (is.used up) t changes same whole.zero whole.within)
 
-  pub cut-done : {at : Kernel} → at ≡ k → truncates f ≡ true → (t : FileTree) → t ≡ record at.tree { files = change_node at.tree.files n emptied; failures = t.failures } → at.tree.failures ≤ t.failures → IsWhole t → IsCut k (record at { tree = t }) i f n
-  cut-done {at} same yes' t told later whole =
-      let told' : t ≡ record k.tree { files = change_node k.tree.files n emptied; failures = t.failures } = told ∙ ap (λ (y : Kernel). let u : FileTree = record y.tree { files = change_node y.tree.files n emptied; failures = t.failures } in u) same in
-      let x = here-of k i runs.sound runs.active in
-      let changes : Changed k.tree.files t.files = subst (λ (u : FileTree). Changed k.tree.files u.files) (sym told') (quiet.truncates (names-rules k i runs) n) in
-      rw same (record {
-        same = ap (λ (u : FileTree). record k { tree = u }) (told' ∙ rw yes' refl);
-        later = subst (λ (y : Kernel). y.tree.failures ≤ t.failures) same later;
-        runs = retreed t (ap (λ (u : FileTree). u.failed) told' ∙ x.run.up) changes (ap (λ (u : FileTree). u.holds) told') whole;
-      })
+  module _ (f n : ℕ) where
+    pub cut-done : truncates f ≡ true → (t : FileTree) → HasFiles k.tree t (change_node k.tree.files n emptied) → k.tree.failures ≤ t.failures → IsWhole t → IsCut k (record k { tree = t }) f n
+    cut-done yes' t told later whole = record {
+      same = ap (λ (u : FileTree). record k { tree = u }) (told ∙ rw yes' refl);
+      later = later;
+      sound = retreed t (subst (λ (u : FileTree). Changed k.tree.files u.files) (sym told) (quiet.truncates (is.used up).rules n)) (ap (λ (u : FileTree). u.holds) told) whole;
+    }
 
-  pub uncut : truncates f ≡ false → IsCut k k i f n
-  uncut none = record { same = rw none refl; later = omega arith; runs = runs }
+    pub uncut : truncates f ≡ false → IsCut k k f n
+    uncut none = record { same = rw none refl; later = omega arith; sound = is }
 
-pub cut-ok : {old new : Kernel} {i f n : ℕ} (r : Result (Unit {0}) DeviceFault) (u : Unit {0}) → r ≡ Ok u → Cuts old new i f n r → IsCut old new i f n
+pub cut-ok : {old new : Kernel} {f n : ℕ} (r : Result (Unit {0}) DeviceFault) (u : Unit {0}) → r ≡ Ok u → Cuts old new f n r → IsCut old new f n
 cut-ok (Ok done) u e cuts = cuts
 cut-ok (Err fault) u e cuts = absurd (cc)
+
+pub cut-runs : {old new : Kernel} {f n : ℕ} → IsCut old new f n → (i : ℕ) → Runs old i → Runs new i
+cut-runs cut i runs = subst (λ (y : Kernel). Runs y i) (sym cut.same) (record { active = runs.active; up = runs.up; sound = subst IsKernel cut.same cut.sound; zero = runs.zero; aligned = runs.aligned })
 
 -- ---- a new file
 
@@ -359,7 +357,7 @@ provided-not b rest no' = rw no' refl
 
 module _ (k : Kernel) (i : ℕ) (runs : Runs k i) where
   abbrev now : Here k i
-  now = here-of k i runs.sound runs.active
+  now = here-of k i runs
 
   abbrev home : ℕ
   home = now.process.directory
@@ -396,7 +394,7 @@ module _ (k : Kernel) (i : ℕ) (runs : Runs k i) where
       one.state mine (process-run k i now.process now.held now.run)
       ∙ ap (λ (fs : Files). record last { files = fs; block_limit = tree.block_limit }) cut
       ∙ ap (λ (b : ℕ). record last { files = truncated f got; block_limit = b }) limit in
-      prints k i now new Open fd [] (here-of new i one.runs.sound one.runs.active) (record { up = one.served.up; same_device = one.served.same_device ∙ device; later = le_trans later one.served.later })
+      prints k i now new Open fd [] (here-of new i one.runs) (record { up = one.served.up; same_device = one.served.same_device ∙ device; later = le_trans later one.served.later })
       (made
       ∙ ap (λ (o : Option Node). given o (λ m. provided (may_open f m) (opens_seat (state_of k) i mine f got))) here
       ∙ ap (λ (b : Bool). provided b (opens_seat (state_of k) i mine f got)) may
@@ -427,7 +425,7 @@ module _ (k : Kernel) (i : ℕ) (runs : Runs k i) where
       pub node-then : slot k1.tree.files n ≢ None
       node-then none = none-some open-node.0 (sym none ∙ ap (λ (y : Kernel). slot y.tree.files n) reads.0.same ∙ open-node.1)
 
-      module _ (may : may_open_by f told.kind told.major ≡ true) (k2 : Kernel) (cut : IsCut k1 k2 i f n) where
+      module _ (may : may_open_by f told.kind told.major ≡ true) (k2 : Kernel) (cut : IsCut k1 k2 f n) where
         may-open : IsOpenable k.tree.files n f told
         may-open = openable-told k.tree.files n f told open-node reads.1 may
 
@@ -484,8 +482,8 @@ module _ (k : Kernel) (i : ℕ) (runs : Runs k i) where
             ap (λ (b : Bool). provided b (Done last fd [])) (over-blocks last (subst (λ (fs : Files). k.tree.block_limit < blocks_of fs) (sym empty) (over made.files (ap made_files (made-from ∙ e1))))))))))
 
         module _ (t : FileTree) (r : Result ℕ TreeFault) (at : Kernel) (same : at ≡ k) where
-          pub create-fails : MakesNode at.tree t d path leaf.File r → NameFails k at i t r Open
-          create-fails = subst (λ (y : Kernel). MakesNode y.tree t d path leaf.File r → NameFails k y i t r Open) (sym same) (λ acts. name-fails k i now t r acts Open runs new-over)
+          pub create-fails : MakesNode at.tree t d path leaf.File r → (fault : TreeFault) → r ≡ Err fault → (came : Result Came DeviceFault) → IsRefused fault came → ActsOnDisk k (record at { tree = t }) i (Some Open) came
+          create-fails = subst (λ (y : Kernel). MakesNode y.tree t d path leaf.File r → (fault : TreeFault) → r ≡ Err fault → (came : Result Came DeviceFault) → IsRefused fault came → ActsOnDisk k (record y { tree = t }) i (Some Open) came) (sym same) (λ acts. refused-acts k i now t r acts Open new-over)
 
           module _ (acts : MakesNode at.tree t d path leaf.File r) (plain : All (λ b. b ≢ 0) path) (v : ℕ) (done : r ≡ Ok v) (whole : IsWhole t) where
             created : MakesNode k.tree t d path leaf.File r
@@ -501,7 +499,7 @@ module _ (k : Kernel) (i : ℕ) (runs : Runs k i) where
             new-there = made-there new_node (sym made-from ∙ made)
 
             pub created-runs : Runs (record at { tree = t }) i
-            created-runs = rw same (retreed runs f v t (created.failed ∙ ap has_failed done) (created-changed (names-rules k i runs) d path plain leaf.File new_node made) created.holds whole)
+            created-runs = rw same (record { active = runs.active; up = created.failed ∙ ap has_failed done; sound = retreed runs.sound runs.up t (created-changed (names-rules k i runs) d path plain leaf.File new_node made) created.holds whole; zero = runs.zero; aligned = runs.aligned })
 
             pub created-openable : (told : InodeStat) → told.kind ≡ 2 → IsOpenable t.files v f told
             created-openable told kind = record { node = File 1 []; here = new-there; kind = kind; major = tt; may = refl }

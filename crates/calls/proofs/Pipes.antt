@@ -254,7 +254,7 @@ given-refused (Some x) rest each = each x refl
 
 module _ {k : Kernel} {i : ℕ} (runs : Runs k i) where
   abbrev here : Here k i
-  here = here-of k i runs.sound runs.active
+  here = here-of k i runs
 
   names-here : descriptors_at k i ≡ here.process.descriptors
   names-here = ap descriptors_in here.run.process
@@ -276,7 +276,7 @@ module _ {k : Kernel} {i : ℕ} (runs : Runs k i) where
         let new = to k i here a x free in
         let one : free_slot here.process.descriptors ≡ Some x.read_fd = rw (← names-here) free.read_fd in
         let two : free_slot (put here.process.descriptors x.read_fd x.reader) ≡ Some x.write_fd = rw (← names-here) free.write_fd in
-        let there = turned-here k i here k.tree (q k i here a x free) (h k i here a x free) (both k i here a x free) (pipes k i here a x free) (placed k i here a x free) here.run.runs here.run.up (both-used k i here a x free) (both-opened k i here a x free) (let same = to-frames k i here a x free in omega (arith, same, fits)) in
+        let there = turned-here k i here k.tree (q k i here a x free) (h k i here a x free) (both k i here a x free) (pipes k i here a x free) (placed k i here a x free) here.run.runs here.up (both-used k i here a x free) (both-opened k i here a x free) (let same = to-frames k i here a x free in omega (arith, same, fits)) in
         does k i here new Pipe 0 there refl (rw (can-here true can, free.pipe, free.reader, free.writer, one, two) (ap (λ (s : State). Done s 0 []) (sym (to-state k i here a x free))))
 
     -- some of the places isn't there, or the frames don't suffice
@@ -340,7 +340,7 @@ module _ {k : Kernel} {i : ℕ} (runs : Runs k i) (can : can_write (view_at k.sp
 module _ {k : Kernel} {i : ℕ} (runs : Runs k i) {at : Kernel} (same : at ≡ k) {b r w : ℕ} (place : free_slot at.spaces.pipes ≡ Some b) {t1 t2 : Places} {files1 files2 : List (Option Counted)}
     (one : OpensAs at.table t1 at.files files1 i (pipe_file b end.Read) r) (two : OpensAs t1 t2 files1 files2 i (pipe_file b end.Write) w) where
   abbrev x : Here k i
-  x = here-of k i runs.sound runs.active
+  x = here-of k i runs
 
   abbrev ends : Ends
   ends = record { pipe = b; reader = one.number; writer = two.number; read_fd = r; write_fd = w }

@@ -61,7 +61,7 @@ module _ (k : Kernel) (i : ℕ) (w : Pending) (on : OnConsole k i end.Write w) w
       ∙ ap (λ (n : ℕ). Done (state_of k) n bytes) (length-read (view_at k.spaces i).memory (pending_arg w 1) count bytes read)
 
   settles : settle (state_of k) i (limited (going_at (state_of k) i w)) ≡ after (state_of (answered k count)) bytes
-  settles = ap (λ (o : Outcome). settle (state_of k) i (limited o)) (going-here k i x w ∙ row) ∙ settle-limited k i x.process x.held x.run x.sound (state_of k) count bytes
+  settles = ap (λ (o : Outcome). settle (state_of k) i (limited o)) (going-here k i x w ∙ row) ∙ settle-limited k i x.process x.held x.run x.sound x.up (state_of k) count bytes
 
   module _ (n : ℕ) (all : n ≡ count) (before now : Option (List ℕ)) where
     pub puts-all : Appends before now (unwrap_or (read_bytes (view_at k.spaces i).memory (pending_arg w 1) n) []) → (bs : List ℕ) × Comes k k i (limited (going_at (state_of k) i w)) bs (Answers n) × Appends before now bs
@@ -73,7 +73,7 @@ module _ (k : Kernel) (i : ℕ) (w : Pending) (on : OnConsole k i end.Write w) w
         sound = x.sound;
         can = tt;
         printed = tt;
-        served = same-served refl x.run.up;
+        served = same-served refl x.up;
       },
       rw all at printed,
     )

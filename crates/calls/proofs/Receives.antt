@@ -176,8 +176,9 @@ module _ (k : Kernel) (i : ℕ) (w : Pending) (on : OnConsole k i end.Read w) wh
     rest-here = let r = x.run in let is = x.sound in record {
       process = x.process;
       held = x.held;
-      run = record { active = r.active; process = r.process; space = r.space; placed = r.placed; runs = r.runs; up = r.up };
-      sound = record { all = is.all; spaces = is.spaces; stands = is.stands; runs = is.runs; fits = is.fits; opened = is.opened; filed = is.filed };
+      run = record { active = r.active; process = r.process; space = r.space; placed = r.placed; runs = r.runs };
+      up = x.up;
+      sound = record { all = is.all; spaces = is.spaces; stands = is.stands; runs = is.runs; fits = is.fits; opened = is.opened; used = is.used };
     }
 
     placed : IsPlaced x.process (written x.held address bytes)
@@ -188,7 +189,7 @@ module _ (k : Kernel) (i : ℕ) (w : Pending) (on : OnConsole k i end.Read w) wh
 
     to-here : Here to i
     to-here =
-        turned-here rest i rest-here k.tree x.process (written x.held address bytes) k.files k.spaces.pipes placed x.run.runs x.run.up (used-turned k i x x.process x.run.runs refl) (subst (IsOpened k.files k.spaces.pipes) (sym (set-slot k.table.places i (Some x.process) x.run.process)) x.sound.opened)
+        turned-here rest i rest-here k.tree x.process (written x.held address bytes) k.files k.spaces.pipes placed x.run.runs x.up (used-turned k i x x.process x.run.runs refl) (subst (IsOpened k.files k.spaces.pipes) (sym (set-slot k.table.places i (Some x.process) x.run.process)) x.sound.opened)
         (rewritten-fits k.spaces i k.spaces.frames x.held address bytes x.run.space x.sound.fits)
 
     made-is : made ≡ to

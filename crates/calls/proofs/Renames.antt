@@ -68,12 +68,12 @@ module _ (k : Kernel) (i : ℕ) (x : Here k i) (n fd : ℕ) (named : slot x.proc
       let to = turned k i x k.tree q x.held (shared k.files n) k.spaces.pipes placed x.run.runs in
       let state : state_of to ≡ put_process (state_of k) i (with_descriptor (me k i x) fd n) =
       turned-state k i x k.tree q x.held (shared k.files n) k.spaces.pipes placed x.run.runs ∙ ap (λ (os : List (Option OpenFile)). record (put_process (state_of k) i (with_descriptor (me k i x) fd n)) { opens = os }) (opens-shared k.files n) in
-      let acts = does k i x to Dup fd (turned-here k i x k.tree q x.held (shared k.files n) k.spaces.pipes placed x.run.runs x.run.up (used-shared (used-turned k i x q x.run.runs refl) n) opened (rw same x.sound.fits)) refl (rw (named, free) (ap (λ (s : State). Done s fd []) (sym state))) in
+      let acts = does k i x to Dup fd (turned-here k i x k.tree q x.held (shared k.files n) k.spaces.pipes placed x.run.runs x.up (used-shared (used-turned k i x q x.run.runs refl) n) opened (rw same x.sound.fits)) refl (rw (named, free) (ap (λ (s : State). Done s fd []) (sym state))) in
       subst (λ (y : Kernel). Acts k y i (Some Dup) (Answers fd)) (rw (x.run.process, same) refl) acts
 
 module _ (k : Kernel) (i : ℕ) (runs : Runs k i) where
   abbrev x : Here k i
-  x = here-of k i runs.sound runs.active
+  x = here-of k i runs
 
   ds : descriptors_at k i ≡ x.process.descriptors
   ds = ap descriptors_in x.run.process

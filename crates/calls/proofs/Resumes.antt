@@ -67,17 +67,17 @@ module _ (k : Kernel) (i : ℕ) (p : Process) (h : SpaceView) (w : Pending) (is 
   goes : resumed (state_of k) i ≡ settle (state_of to) i (going_at (state_of to) i w)
   unfolding resume
   goes =
-      let run = started-run k i p h is none f.there.process f.there.space f.alive f.live f.free up in
+      let run = started-run k i p h is none f.there.process f.there.space f.alive f.live f.free in
       ap (resumed_by (state_of k) i) (process-idle k i p h is none f.there f.alive)
       ∙ ap (resumed_in (state_of k) i (with_memory h.memory p)) f.waits
-      ∙ ap (λ (s : State). settle s i (goes_on s i (with_memory h.memory q) w w.number)) (sym (started-state k i p h is none f.there.process f.there.space f.alive f.live f.free up))
+      ∙ ap (λ (s : State). settle s i (goes_on s i (with_memory h.memory q) w w.number)) (sym (started-state k i p h is none f.there.process f.there.space f.alive f.live f.free))
       ∙ sym (ap (λ (o : Option unix.Process). settle (state_of to) i (going_by (state_of to) i w o)) (process-run to i q h run))
 
   resting : Resumes k to i w
   resting =
-      let run = started-run k i p h is none f.there.process f.there.space f.alive f.live f.free up in
+      let run = started-run k i p h is none f.there.process f.there.space f.alive f.live f.free in
       record {
-        runs = record { active = refl; sound = started-kernel k i p h is none f.there.process f.there.space f.alive f.live f.free up; zero = f.there.placed.zero; aligned = f.there.placed.aligned };
+        runs = record { active = refl; up = up; sound = started-kernel k i p h is none f.there.process f.there.space f.alive f.live f.free; zero = f.there.placed.zero; aligned = f.there.placed.aligned };
         can = (rw (ap descriptors_in run.process, ap (λ (o : Option SpaceView). unwrap_or o no_pages) run.space) f.pending, rw (ap descriptors_in run.process) awaits);
         tree = refl;
         row = goes;

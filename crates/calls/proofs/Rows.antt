@@ -58,9 +58,9 @@ module _ (k : Kernel) (i : ℕ) (p : Process) (h : SpaceView) (r : IsRun k i p h
   unfolding execute effect_of
   executes-call t effect ecall = effect-run k i p h r is ∙ rw (effect, ecall) (sym (called-run k i p h r is))
 
-  pub executes-fault : (t : Trap) → cycle k.spaces.registers k.spaces.pc h.memory ≡ Err t → is_ecall t.cause ≡ false → execute_at (state_of k) i (process_at (state_of k) i) ≡ quiet (state_of (ended k i (negsuc 0)))
+  pub executes-fault : k.tree.failed ≡ false → (t : Trap) → cycle k.spaces.registers k.spaces.pc h.memory ≡ Err t → is_ecall t.cause ≡ false → execute_at (state_of k) i (process_at (state_of k) i) ≡ quiet (state_of (ended k i (negsuc 0)))
   unfolding execute effect_of
-  executes-fault t effect fault = effect-run k i p h r is ∙ rw (effect, fault) (ap quiet (ends-run k i p h r is z a (negsuc 0)))
+  executes-fault up t effect fault = effect-run k i p h r is ∙ rw (effect, fault) (ap quiet (ends-run k i p h r is z a (negsuc 0) up))
 
 -- an int is what its bits are read as
 pub int-bits : (x : ℕ) → cast_signed w32 (cast_unsigned w32 (int_of x)) ≡ int_of x

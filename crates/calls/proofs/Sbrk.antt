@@ -70,7 +70,7 @@ module _ (k : Kernel) (i : ℕ) (x : Here k i) (size : ℕ) (can : asked k i (in
 
   sbrk-acts : taken_frames (resized k i size).spaces ≤ k.spaces.frames → Acts k (resized k i size) i (Some Sbrk) (Answers (view_at k.spaces i).size)
   sbrk-acts fits = subst (λ (y : Kernel). Acts k y i (Some Sbrk) (Answers (view_at k.spaces i).size)) (sym resized-is)
-      (rw held (does k i x to Sbrk x.held.size (turned-here k i x k.tree q h k.files k.spaces.pipes placed x.run.runs x.run.up (used-turned k i x q x.run.runs refl) opened (subst (λ (y : Kernel). taken_frames y.spaces ≤ k.spaces.frames) resized-is fits)) refl made))
+      (rw held (does k i x to Sbrk x.held.size (turned-here k i x k.tree q h k.files k.spaces.pipes placed x.run.runs x.up (used-turned k i x q x.run.runs refl) opened (subst (λ (y : Kernel). taken_frames y.spaces ≤ k.spaces.frames) resized-is fits)) refl made))
 
   sbrk-over : k.spaces.frames < taken_frames (resized k i size).spaces → Acts k k i (Some Sbrk) Refuses
   sbrk-over over = turned-over k i x k.tree q h k.files k.spaces.pipes placed x.run.runs Sbrk x.held.size made (subst (λ (y : Kernel). k.spaces.frames < taken_frames y.spaces) resized-is over)
@@ -86,7 +86,7 @@ resized-made k i size n new t x spaces asks table =
 
 module _ (k : Kernel) (i : ℕ) (runs : Runs k i) where
   abbrev x : Here k i
-  x = here-of k i runs.sound runs.active
+  x = here-of k i runs
 
   pub sbrk-below : asked k i (int_of (argument k 0)) ≡ None → Acts k k i (Some Sbrk) Refuses
   unfolding sbrk_row

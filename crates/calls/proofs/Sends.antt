@@ -51,7 +51,7 @@ piped-kernel k is q old new at = record {
   spaces = is.spaces;
   stands = is.stands;
   runs = is.runs;
-  filed = is.filed;
+  used = is.used;
   fits = omega (arith, is.fits, taken-same k.spaces.pipes q old new at);
   opened = record {
     table = is.opened.table;
@@ -137,7 +137,8 @@ module _ (k : Kernel) (i : ℕ) (w : Pending) (q : ℕ) (on : OnThePipe k i end.
   sent-here = let r = x.run in record {
     process = x.process;
     held = x.held;
-    run = record { active = r.active; process = r.process; space = r.space; placed = r.placed; runs = r.runs; up = r.up };
+    run = record { active = r.active; process = r.process; space = r.space; placed = r.placed; runs = r.runs };
+    up = x.up;
     sound = piped-kernel k x.sound q held (filled held left) at-pipe;
   }
 

@@ -32,15 +32,15 @@ settle-reaped begun new i value bytes {full = full} {p = p} answered at alive re
 
 module _ (k : Kernel) (i : ℕ) (p : Process) (h : SpaceView) (r : IsRun k i p h) (is : IsKernel k) where
   -- a call that is done
-  pub settle-done : (begun : State) (value : ℕ) (bytes : List ℕ) → settle begun i (Done (state_of k) value bytes) ≡ record { state = state_of (answered k value); bytes = bytes }
-  settle-done begun value bytes =
+  pub settle-done : k.tree.failed ≡ false → (begun : State) (value : ℕ) (bytes : List ℕ) → settle begun i (Done (state_of k) value bytes) ≡ record { state = state_of (answered k value); bytes = bytes }
+  settle-done up begun value bytes =
       let k' = answered k value in
       let regs = slice_set k.spaces.registers 10 value in
       settle-reaped begun (state_of k) i value bytes (answer-run k i p h r is value)
-      (process-run k' i p h (regs-run k i p h r is regs k.spaces.pc)) (not-killed k i p h r is) (reap-state k' (regs-kernel k is regs k.spaces.pc) r.up)
+      (process-run k' i p h (regs-run k i p h r is regs k.spaces.pc)) (not-killed k i p h r is) (reap-state k' (regs-kernel k is regs k.spaces.pc) up)
 
-  pub settle-limited : (begun : State) (value : ℕ) (bytes : List ℕ) → settle begun i (limited (Done (state_of k) value bytes)) ≡ record { state = state_of (answered k value); bytes = bytes }
-  settle-limited begun value bytes = rw (within-state k is r.up) (settle-done begun value bytes)
+  pub settle-limited : k.tree.failed ≡ false → (begun : State) (value : ℕ) (bytes : List ℕ) → settle begun i (limited (Done (state_of k) value bytes)) ≡ record { state = state_of (answered k value); bytes = bytes }
+  settle-limited up begun value bytes = rw (within-state k is up) (settle-done up begun value bytes)
 
   -- ---- the call that it makes
 

@@ -1,9 +1,10 @@
 -- fstat: a node tells of itself.
 use Rattle.std.proofs.Common.{Bool, Err, List, None, Ok, Option, Some, [], ap, arith, false, refl, subst, sym, true, ℕ, ◌%◌, ◌/◌, ◌∙◌, ◌∷◌, ◌≡◌, ◌≤◌}
 use Rattle.std.specs.Bool.{OnTrue}
-use Rattle.std.specs.Prelude.{Result, length, option_map}
+use Rattle.std.specs.Prelude.{IfOk, OnErr, Result, length, option_map}
 use Rattle.blockdev.specs.declared.DeviceFault.{DeviceFault}
 use Rattle.calls.specs.Acts.{Acts, Runs}
+use Rattle.calls.specs.Gives.{LeavesDisk}
 use Rattle.calls.specs.Reads.{HasRead, ReadsDisk, stat_told}
 use Rattle.calls.specs.declared.outcome.Came.TheVariants.{Answers, Refuses}
 use Rattle.calls.proofs.Acts.{Here, here-of, me, prints, refused, turned, turned-here, turned-state, used-here}
@@ -16,24 +17,22 @@ use Rattle.files.specs.declared.table.FileFault.{FileFault}
 use Rattle.files.specs.Meant.{file_of, target_of}
 use Rattle.files.specs.Places.{file_at, node_at, node_from}
 use Rattle.inode.specs.declared.InodeStat.{InodeStat}
-use Rattle.kernel.proofs.Finishes.{counting-used}
+use Rattle.kernel.proofs.Finishes.{counting-kernel, counting-used}
 use Rattle.kernel.proofs.Opens.{slot-file}
 use Rattle.kernel.proofs.Runs.{set-slot}
 use Rattle.kernel.proofs.Steps.{fail-keeps, held-run, placed-with}
 use Rattle.kernel.specs.Descriptors.{descriptors_in}
 use Rattle.kernel.specs.Holding.{FitsNode, IsInUse, node_of, node_on}
-use Rattle.calls.proofs.Woken.{running-now, watched-stop}
+use Rattle.calls.proofs.Served.{serves-disk}
 use Rattle.kernel.specs.View.{Keeps}
-use Rattle.kernel.specs.Watch.{Watches}
-use Rattle.kernel.specs.Kernel.{Kernel, argument, counting, descriptors_at, left_as, state_of}
+use Rattle.kernel.specs.Kernel.{Kernel, argument, counting, descriptors_at, state_of}
 use Rattle.kernel.specs.Sound.{IsOpened}
 use Rattle.spaces.specs.Spaces.{SpaceView, Spaces, view_at, with_view, written}
 use Rattle.std.proofs.lemmas.Option.{none-some, same_Some}
 use Rattle.tree.specs.Telling.{Tells}
-use Rattle.tree.specs.Tree.{FileTree}
+use Rattle.tree.specs.Tree.{FileTree, Serves}
 use Rattle.unixmodel.specs.Calls.{row}
 use Rattle.unixmodel.specs.declared.call.Call.TheVariants.{Fstat}
-use Rattle.unixmodel.specs.declared.process.Mode.TheVariants.{Ready}
 use Rattle.unixmodel.specs.FileCalls.{fstat_row, node_number, stat_bytes}
 use Rattle.unixmodel.specs.Files.{Files, Node, put, slot}
 use Rattle.unixmodel.specs.Memory.{can_write, zeros}
@@ -70,9 +69,19 @@ module _ (at k : Kernel) (same : at ≡ k) (t : FileTree) where
   pub has-read : t ≡ record at.tree { failures = t.failures } → at.tree.failures ≤ t.failures → HasRead k (record at { tree = t })
   has-read told later = record { same = ap (λ (u : FileTree). record at { tree = u }) told ∙ ap (λ (y : Kernel). counting y t.failures) same; later = rw (← same) later }
 
-  -- an access failed, and the running process is stopped
-  pub read-fails : (i : ℕ) → Runs k i → Watches at → t.failed ≡ true → Keeps (record (left_as at i Ready) { tree = t })
-  read-fails i runs watched down = record { sound = fail-keeps at k i t same runs.sound runs.active runs.zero runs.aligned down; watched = watched-stop watched at.spaces i (running-now i same runs) }
+-- whatever it tells; k is what the fields show
+module _ {X : Type 0} {Told : X → Type 0} (k : Kernel) (t : FileTree) (r : Result X DeviceFault) (serves : Serves k.tree t r Told) (same : (x : X) → Told x → t ≡ record k.tree { failures = t.failures }) where
+  pub reads-keep : Keeps k → Keeps (record k { tree = t })
+  reads-keep keeps = go r serves.told serves.down where
+    go : (r : Result X DeviceFault) → IfOk r Told → OnErr r (t.failed ≡ true) → Keeps (record k { tree = t })
+    go (Ok x) told down = subst (λ (u : FileTree). Keeps (record k { tree = u })) (sym (same x told)) (record { sound = counting-kernel k t.failures keeps.sound; watched = keeps.watched })
+    go (Err fault) told down = fail-keeps keeps t down
+
+  pub reads-disk : {Says : X → Type 0} → ((x : X) → Told x → Says x) → ReadsDisk k (record k { tree = t }) Says r
+  reads-disk {Says} says = go r serves.told (serves-disk serves) where
+    go : (r : Result X DeviceFault) → IfOk r Told → LeavesDisk k.tree t r → ReadsDisk k (record k { tree = t }) Says r
+    go (Ok x) told leaves = (has-read k k refl t (same x told) leaves.later, says x told)
+    go (Err fault) told leaves = leaves
 
 pub reads-ok : {X : Type 0} {old new : Kernel} (Told : X → Type 0) (r : Result X DeviceFault) (x : X) → r ≡ Ok x → ReadsDisk old new Told r → HasRead old new × Told x
 reads-ok {old = old} {new = new} Told (Ok y) x e reads = let same : y ≡ x = cc in (reads.0, subst Told same reads.1)
@@ -128,7 +137,7 @@ length-told n told = refl
 
 module _ (k : Kernel) (i : ℕ) (runs : Runs k i) where
   abbrev x : Here k i
-  x = here-of k i runs.sound runs.active
+  x = here-of k i runs
 
   ds : descriptors_at k i ≡ x.process.descriptors
   ds = ap descriptors_in x.run.process
@@ -189,13 +198,13 @@ module _ (k : Kernel) (i : ℕ) (runs : Runs k i) where
 
         there : Here to i
         there =
-            turned-here k i x tree x.process made k.files k.spaces.pipes (placed-with k i x.process x.held x.run x.sound made.memory) x.run.runs x.run.up
+            turned-here k i x tree x.process made k.files k.spaces.pipes (placed-with k i x.process x.held x.run x.sound made.memory) x.run.runs x.up
             (subst (IsInUse tree k.files) (sym same-places) (counting-used failures (used-here k i x)))
             (subst (IsOpened k.files k.spaces.pipes) (sym same-places) x.sound.opened)
             (rewritten-fits k.spaces i k.spaces.frames x.held address (stat_bytes n node) x.run.space x.sound.fits)
 
         fstat-done : Acts k to i (Some Fstat) (Answers 0)
-        fstat-done = prints k i x to Fstat 0 [] there (record { up = x.run.up; same_device = refl; later = later }) (
+        fstat-done = prints k i x to Fstat 0 [] there (record { up = x.up; same_device = refl; later = later }) (
             row-is
             ∙ ap (λ (b : Bool). provided b (answers (put_process (state_of k) i (record (me k i x) { memory = made.memory })) 0)) (can-here true can)
             ∙ ap (λ (s : State). Done s 0 []) (sym (turned-state k i x tree x.process made k.files k.spaces.pipes (placed-with k i x.process x.held x.run x.sound made.memory) x.run.runs)))

@@ -23,7 +23,6 @@ use Rattle.kernel.specs.Kernel.{Kernel, descriptors_at, idle, on_hart, state_of}
 use Rattle.kernel.specs.Sound.{IsKernel, IsOpened, IsWriting}
 use Rattle.kernel.proofs.Opens.{IsNamed}
 use Rattle.kernel.proofs.Runs.{set-slot}
-use Rattle.kernel.proofs.Steps.{fail-keeps}
 use Rattle.names.specs.Changes.{Changed}
 use Rattle.proc.specs.Places.{Places, changed, with_mode}
 use Rattle.spaces.proofs.SpacesLemmas.{some-pipe}
@@ -157,11 +156,6 @@ module _ (k : Kernel) (i : ℕ) (w : Pending) (number offset : ℕ) (u : Uses k 
 
   pub writes-is_file : (at : Kernel) → at ≡ k → IsFile at.tree.files number
   writes-is_file at same = rw same is-file
-
-  -- ---- the device fails
-
-  pub writes-lost : (at : Kernel) → at ≡ k → (t : FileTree) → t.failed ≡ true → (table : Places) → table ≡ changed at.table i (λ p. with_mode Ready (on_hart at.spaces p)) → (last : Spaces) → last ≡ idle at.spaces → IsKernel (record at { tree = t; table = table; spaces = last })
-  writes-lost at same t down table left last gone = rw (gone, left, same) (fail-keeps k k i t refl x.sound x.run.active g.runs.zero g.runs.aligned down)
 
   -- ---- it answers
 

@@ -81,12 +81,12 @@ module _ (k : Kernel) (i : ℕ) (is : IsKernel k) (active : k.spaces.active ≡ 
       let r = run.1.1 in
       executes-call k i run.0 run.1.0 r is z a t (rw (held-run k i run.0 run.1.0 r is) at effect) ecall
 
-  pub step-faults : slice_index k.spaces.registers 0 ≡ 0 → k.spaces.pc % 4 ≡ 0 → (t : Trap) → cycle k.spaces.registers k.spaces.pc (view_at k.spaces i).memory ≡ Err t → is_ecall t.cause ≡ false
+  pub step-faults : k.tree.failed ≡ false → slice_index k.spaces.registers 0 ≡ 0 → k.spaces.pc % 4 ≡ 0 → (t : Trap) → cycle k.spaces.registers k.spaces.pc (view_at k.spaces i).memory ≡ Err t → is_ecall t.cause ≡ false
       → (same : Kernel) → same ≡ k → execute_at (state_of k) i (process_at (state_of k) i) ≡ quiet (state_of (ended same i (negsuc 0)))
-  step-faults z a t effect fault same kept =
+  step-faults up z a t effect fault same kept =
       let run = run-of k i is active in
       let r = run.1.1 in
-      executes-fault k i run.0 run.1.0 r is z a t (rw (held-run k i run.0 run.1.0 r is) at effect) fault ∙ ap (λ (x : Kernel). quiet (state_of (ended x i (negsuc 0)))) (sym kept)
+      executes-fault k i run.0 run.1.0 r is z a up t (rw (held-run k i run.0 run.1.0 r is) at effect) fault ∙ ap (λ (x : Kernel). quiet (state_of (ended x i (negsuc 0)))) (sym kept)
 
 -- ---- a picked process
 
@@ -116,7 +116,7 @@ module _ (k : Kernel) (i : ℕ) (p : Process) (is : IsKernel k) (none : k.spaces
   takes-ready free ready =
       let alive : lives p ≡ true = rw ready refl in
       let t = taken-is alive in
-      t.1.1 ∙ picks-ready k i p t.0 is none at t.1.0.space alive (live-mode p t.0.memory p.mode ready t.1.0.placed.mode) free up ready
+      t.1.1 ∙ picks-ready k i p t.0 is none at t.1.0.space alive (live-mode p t.0.memory p.mode ready t.1.0.placed.mode) free ready
 
   pub takes-waiting : (w : Pending) → p.killed ≡ false → p.mode ≡ Waiting w → taken (state_of k) i ≡ resumed (state_of k) i
   takes-waiting w free waits =

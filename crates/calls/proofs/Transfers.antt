@@ -140,7 +140,7 @@ start-fresh opens ds w start = λ read. fresh-go (file_named opens ds (low (pend
 
 module _ (k : Kernel) (i : ℕ) (runs : Runs k i) (e : End) where
   abbrev x : Here k i
-  x = here-of k i runs.sound runs.active
+  x = here-of k i runs
 
   abbrev named : Option OpenFile
   named = file_named k.files (descriptors_at k i) (low (argument k 0))
@@ -266,7 +266,7 @@ begun-acts b new (Err fault) lost = lost
 
 module _ {k : Kernel} {i : ℕ} {e : End} {t : Target} {w : Pending} (g : Transfers k i e t w) where
   abbrev pub here : Here k i
-  here = here-of k i g.runs.sound g.runs.active
+  here = here-of k i g.runs
 
   -- its open file, which is also what the process's descriptor names
   pub file : IsFileAt k.files (descriptors_at k i) (low (pending_arg w 0)) t
@@ -333,7 +333,7 @@ module _ {k : Kernel} {i : ℕ} {w : Pending} (e : End) (runs : Runs k i) (can :
   -- it is open on something
   pub target-some : r ≡ None → ⊥
   target-some none =
-      let x = here-of k i runs.sound runs.active in
+      let x = here-of k i runs in
       let n = some-named (slot (descriptors_at k i) (low (pending_arg w 0))) (pending-named e (descriptors_at k i) (view_at k.spaces i).memory w pending) in
       let there = open-named k.files k.spaces.pipes k.table.places x.sound.opened i x.process (low (pending_arg w 0)) n.0 x.run.process (ap (λ (o : Option Process). slot (descriptors_in o) (low (pending_arg w 0))) (sym x.run.process) ∙ n.1) in
       let named : file_named k.files (descriptors_at k i) (low (pending_arg w 0)) ≡ file_at k.files n.0 = ap (option_and_then (file_at k.files)) n.1 in

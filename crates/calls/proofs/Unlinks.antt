@@ -5,10 +5,13 @@ use Rattle.std.specs.Prelude.{IfSome, Ok, Result, if◌then◌else◌, nat_le, n
 use Rattle.std.proofs.lemmas.Bool.{cases_lt, cases_eq, lt-ltb, ltb-true, or_right}
 use Rattle.std.proofs.lemmas.List.{get_or-set_other, get_or-set_same, length-set}
 use Rattle.std.proofs.lemmas.Option.{none-some, same_Some}
-use Rattle.calls.specs.Acts.{Acts, Runs}
+use Rattle.calls.specs.Acts.{Acts, ActsOnDisk, Runs}
+use Rattle.blockdev.specs.declared.DeviceFault.{DeviceFault}
+use Rattle.calls.specs.Named.{IsNamed}
+use Rattle.calls.specs.declared.outcome.Came.{Came}
 use Rattle.calls.specs.declared.outcome.Came.TheVariants.{Answers, Refuses}
 use Rattle.calls.proofs.Acts.{Here, me, refused, settles, used-here}
-use Rattle.calls.proofs.Names.{NameFails, given-then, here, home-is, mine, name-fails, over, over-here, over-state, path-is, with_made}
+use Rattle.calls.proofs.Names.{given-then, here, home-is, mine, named-acts, over, over-here, over-state, path-is, with_made}
 use Rattle.calls.proofs.Settles.{settle-reaped}
 use Rattle.calls.proofs.Shapes.{there, used-shaped}
 use Rattle.files.proofs.CountsLemmas.{Counts}
@@ -230,7 +233,7 @@ module _ (k : Kernel) (i : ℕ) (x : Here k i) (t : FileTree) (d : ℕ) (path : 
   settles-so : settle (state_of k) i (limited (Done (with_files (state_of k) g.less) 0 [])) ≡ quiet (state_of last)
   settles-so =
       let here-last = process-run last i here-then.process here-then.held (regs-run to i here-then.process here-then.held here-then.run here-then.sound (slice_set k.spaces.registers 10 0) k.spaces.pc) in
-      let within : is_within (with_files (state_of k) g.less) ≡ true = within-files (state_of k) g.less (unlinked-less k.tree.files g.at g.less g.made).blocks ∙ within-state k x.sound x.run.up in
+      let within : is_within (with_files (state_of k) g.less) ≡ true = within-files (state_of k) g.less (unlinked-less k.tree.files g.at g.less g.made).blocks ∙ within-state k x.sound x.up in
       rw within (settle-reaped (state_of k) (with_files (state_of k) g.less) i 0 [] answered-is here-last (not-killed to i here-then.process here-then.held here-then.run here-then.sound) reaped)
 
   made-is : nameless k.tree.files d path ≡ Some g.less
@@ -261,11 +264,10 @@ module _ (k : Kernel) (i : ℕ) (runs : Runs k i) where
 
     -- at is what the kernel's fields show
     module _ (at : Kernel) (same : at ≡ k) where
-      pub unlink-done : TakesName at.tree t d path r → (v : Unit {0}) → r ≡ Ok v → IsWhole t → Acts k (record at { tree = t }) i (Some Unlink) (Answers 0)
-      unlink-done = subst (λ (y : Kernel). TakesName y.tree t d path r → (v : Unit {0}) → r ≡ Ok v → IsWhole t → Acts k (record y { tree = t }) i (Some Unlink) (Answers 0)) (sym same) (λ acts v e whole.
+      pub unlink-acts : TakesName at.tree t d path r → (came : Result Came DeviceFault) → IsNamed t r came → ActsOnDisk k (record at { tree = t }) i (Some Unlink) came
+      unlink-acts = subst (λ (y : Kernel). TakesName y.tree t d path r → (came : Result Came DeviceFault) → IsNamed t r came → ActsOnDisk k (record y { tree = t }) i (Some Unlink) came) (sym same) (λ acts. named-acts k i (here k i runs) t r acts Unlink
+          (λ v e whole.
           let made : unlinked_in k.tree.holds k.tree.files d path ≡ Some t.files = ok-told _ r v e acts.done in
           let g = unlinked-reaps (used-here k i (here k i runs)).rules k.tree.holds d path t.files made in
           unlinks k i (here k i runs) t d path g acts.limit acts.holds (acts.failed ∙ ap has_failed e) acts.same_device acts.later whole unlink-makes)
-
-      pub unlink-fails : TakesName at.tree t d path r → NameFails k at i t r Unlink
-      unlink-fails = subst (λ (y : Kernel). TakesName y.tree t d path r → NameFails k y i t r Unlink) (sym same) (λ acts. name-fails k i (here k i runs) t r acts Unlink runs unlink-none)
+          unlink-none)

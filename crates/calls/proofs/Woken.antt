@@ -59,7 +59,7 @@ pub goes-waking : {old new : Kernel} {i : ℕ} {w : Pending} {came : Came} → G
 goes-waking goes awake = record { comes = comes-waking goes.comes awake; within = goes.within }
 
 pub runs-waking : {k : Kernel} {i : ℕ} → Runs k i → (awake : List Bool) → Runs (waking k awake) i
-runs-waking runs awake = record { active = runs.active; sound = kernel-waking runs.sound awake; zero = runs.zero; aligned = runs.aligned }
+runs-waking runs awake = record { active = runs.active; up = runs.up; sound = kernel-waking runs.sound awake; zero = runs.zero; aligned = runs.aligned }
 
 pub opens-waking : {old new : Kernel} {i : ℕ} {f : unix.OpenFile} {fd : ℕ} → Opens old new i f fd → (awake : List Bool) → Opens old (waking new awake) i f fd
 opens-waking {new = new} opens awake = record {
@@ -84,18 +84,6 @@ still-runs f same [] i runs = runs
 still-runs f same (None ∷ os) zero runs = runs
 still-runs f same (Some p ∷ os) zero runs = same p ∙ runs
 still-runs f same (o ∷ os) (suc i) runs = still-runs f same os i runs
-
-module _ {a : State} {os : List (Option Process)} {awake : List Bool} (watched : IsWatched a os awake) (s : Spaces) (i : ℕ) (runs : holds table.is_running (slot os i) ≡ true) where
-  -- it runs no more, and is ready
-  pub watched-stop : IsWatched a (slice_set os i (option_map (λ p. with_mode Ready (on_hart s p)) (slot os i))) awake
-  watched-stop = watched-running watched i (λ p. with_mode Ready (on_hart s p)) runs (no-zombie Ready refl)
-
--- where a call on names is refused: it is stopped, or all is as it was
-pub watched-refuse : (k : Kernel) → Watches k → (i : ℕ) → holds table.is_running (slot k.table.places i) ≡ true → (b : Bool)
-    → IsWatched (awaited_in (opens_of k.files) (if b then idle k.spaces else k.spaces).pipes k.console k.ticks) (if b then changed k.table i (λ p. with_mode Ready (on_hart k.spaces p)) else k.table).places
-    (if b then changed k.table i (λ p. with_mode Ready (on_hart k.spaces p)) else k.table).awake
-watched-refuse k watched i runs true = watched-stop watched k.spaces i runs
-watched-refuse k watched i runs false = watched
 
 -- ---- processes that come and go
 

@@ -1,6 +1,6 @@
 -- What a call of the running process makes of the state, once it has begun, and what the kernel's function for it promises.
 use Rattle.std.specs.Io.KnownBytes.{Appends}
-use Rattle.std.specs.Prelude.{Err, List, None, Ok, Option, Result, Some, [], negsuc, slice_index, ℕ, ◌%◌, ◌∷◌, ◌≡◌}
+use Rattle.std.specs.Prelude.{Err, List, false, None, Ok, Option, Result, Some, [], negsuc, slice_index, ℕ, ◌%◌, ◌∷◌, ◌≡◌}
 use Rattle.std.specs.Int.{cast_signed, cast_unsigned, w32}
 use Rattle.blockdev.specs.declared.DeviceFault.{DeviceFault}
 use Rattle.calls.specs.declared.halt.Halt.{Halt}
@@ -41,6 +41,7 @@ called s i = called_by s i (process_at s i)
 -- the process in place i runs
 pub record Runs (k : Kernel) (i : ℕ) : Type 0 where
   pub active : k.spaces.active ≡ Some i
+  pub up : k.tree.failed ≡ false
   pub sound : IsKernel k
   pub zero : slice_index k.spaces.registers 0 ≡ 0
   pub aligned : k.spaces.pc % 4 ≡ 0

@@ -6,5 +6,6 @@ pub mod Resuming
 pub mod Transfers
 pub mod Renamed
 pub mod Reads
+pub mod Named
 pub mod Opened
 pub mod Replaced

@@ -10,6 +10,7 @@ use Rattle.files.specs.declared.file.Target.TheVariants as target
 use Rattle.files.specs.Places.{free_count, opens_of}
 use Rattle.inode.specs.declared.InodeStat.{InodeStat}
 use Rattle.kernel.specs.Kernel.{Kernel, argument, descriptors_at, state_of}
+use Rattle.kernel.specs.Sound.{IsKernel}
 use Rattle.spaces.specs.Spaces.{view_at}
 use Rattle.tree.specs.Telling.{TellsMajor}
 use Rattle.tree.specs.Tree.{FileTree}
@@ -76,11 +77,11 @@ pub record Opens (old new : Kernel) (i : ℕ) (f : unix.OpenFile) (fd : ℕ) : T
 abbrev pub cut_tree : FileTree → ℕ → ℕ → ℕ → FileTree
 cut_tree t f n failures = record t { files = truncated f (record { files = t.files; number = n }); failures = failures }
 
-pub record IsCut (old new : Kernel) (i f n : ℕ) : Type 0 where
+pub record IsCut (old new : Kernel) (f n : ℕ) : Type 0 where
   pub same : new ≡ record old { tree = cut_tree old.tree f n new.tree.failures }
   pub later : old.tree.failures ≤ new.tree.failures
-  pub runs : Runs new i
+  pub sound : IsKernel new
 
-abbrev pub Cuts : Kernel → Kernel → ℕ → ℕ → ℕ → Result (Unit {0}) DeviceFault → Type 0
-Cuts old new i f n (Ok done) = IsCut old new i f n
-Cuts old new i f n (Err fault) = IsLost old.tree new.tree
+abbrev pub Cuts : Kernel → Kernel → ℕ → ℕ → Result (Unit {0}) DeviceFault → Type 0
+Cuts old new f n (Ok done) = IsCut old new f n
+Cuts old new f n (Err fault) = IsLost old.tree new.tree

@@ -1,5 +1,5 @@
 //! The calls: each row of the table of calls is a function.
-ghost use Rattle.std.specs.Prelude.{◌≡◌, ◌≤◌, Some};
+ghost use Rattle.std.specs.Prelude.{false, ◌≡◌, ◌≤◌, Some};
 ghost use Rattle.calls.specs.Acts.{CallTries, IsBegun, Runs, called};
 ghost use Rattle.calls.specs.Gives.{DispatchesTo, LeavesTree};
 ghost use Rattle.kernel.specs.Kernel.{state_of};
@@ -53,7 +53,8 @@ fn call_of(number: u32) -> Option<Call>
 
 /// The running process begins its call: the pc goes on by 4.
 pub(crate) fn begin<D: BlockDev, T: Translate + Drop>(kernel: &mut Kernel<D, T>, at: usize)
-    requires { kernel.old.spaces.active ≡ Some at }
+    requires running { kernel.old.spaces.active ≡ Some at }
+    requires up { kernel.old.tree.failed ≡ false }
     ensures { IsBegun kernel.old kernel.new at }
 {
     kernel.is_sound();
@@ -109,6 +110,7 @@ pub fn call<D: BlockDev, T: Translate + Drop, W: Out>(
     console: &mut W,
 ) -> Result<(), Halt>
     requires running { kernel.old.spaces.active ≡ Some at }
+    requires up { kernel.old.tree.failed ≡ false }
     ensures gives { DispatchesTo W.contents W.failures kernel.new console.old console.new (called (state_of kernel.old) at) result }
     ensures tree { LeavesTree kernel.old.tree kernel.new.tree result }
     ensures later { W.failures console.old ≤ W.failures console.new }

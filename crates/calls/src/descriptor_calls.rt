@@ -16,7 +16,7 @@ use crate::outcome::Came;
 use blockdev::{BlockDev, DeviceFault};
 use files::{End, Files, OpenFile, Target};
 use kernel::numbers::low;
-use kernel::{Channel, Kernel, descriptors, stop, wakeup};
+use kernel::{Channel, Kernel, descriptors, wakeup};
 use proc::Table;
 use sv39::Translate;
 
@@ -114,10 +114,7 @@ pub(crate) fn close<D: BlockDev, T: Translate + Drop>(
     let gone = descriptors::close(&mut kernel.files, &mut kernel.spaces, usize::from(id));
     wakeup(&mut kernel.table, Channel::Bytes); // a pipe may have lost an end
     if let Some(node) = gone {
-        if let Err(fault) = kernel.tree.drop_hold(node as usize) {
-            stop(&mut kernel.table, &mut kernel.spaces, at);
-            return Err(fault);
-        }
+        kernel.tree.drop_hold(node as usize)?;
     }
     Ok(Came::Answers(0))
 }

@@ -86,6 +86,7 @@ pub fn dispatch<D: BlockDev, T: Translate + Drop, W: Out>(
     console: &mut W,
 ) -> Result<Outcome, Halt>
     requires running { kernel.old.spaces.active ≡ Some at }
+    requires up { kernel.old.tree.failed ≡ false }
     ensures gives { DispatchesTo W.contents W.failures kernel.new console.old console.new (called (state_of kernel.old) at) result }
     ensures told { IfOk result (λ o. o ≡ became kernel.new at) }
     ensures tree { LeavesTree kernel.old.tree kernel.new.tree result }
@@ -183,7 +184,8 @@ fn instruct<D: BlockDev, T: Translate + Drop, W: Out>(
     at: usize,
     console: &mut W,
 ) -> Result<(), Halt>
-    requires { kernel.old.spaces.active ≡ Some at }
+    requires running { kernel.old.spaces.active ≡ Some at }
+    requires up { kernel.old.tree.failed ≡ false }
     ensures gives { DispatchesTo W.contents W.failures kernel.new console.old console.new (executed kernel.old at) result }
     ensures tree { LeavesTree kernel.old.tree kernel.new.tree result }
     ensures later { W.failures console.old ≤ W.failures console.new }
@@ -203,6 +205,7 @@ pub(crate) fn take_trap<D: BlockDev, T: Translate + Drop, W: Out>(
     console: &mut W,
 ) -> Result<(), Halt>
     requires running { kernel.old.spaces.active ≡ Some at }
+    requires up { kernel.old.tree.failed ≡ false }
     requires traps { cycle kernel.old.spaces.registers kernel.old.spaces.pc (view_at kernel.old.spaces at).memory ≡ Err trap }
     ensures gives { DispatchesTo W.contents W.failures kernel.new console.old console.new (executed kernel.old at) result }
     ensures tree { LeavesTree kernel.old.tree kernel.new.tree result }

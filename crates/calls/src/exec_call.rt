@@ -8,7 +8,7 @@ use crate::name_calls::copy_path;
 use crate::open_calls::find;
 use crate::outcome::Came;
 use blockdev::{BlockDev, DeviceFault};
-use kernel::{Kernel, stop};
+use kernel::Kernel;
 use programs::{Started, execute};
 use spaces::Spaces;
 use sv39::Translate;
@@ -48,7 +48,6 @@ fn exec_found<D: BlockDev, T: Translate + Drop>(
             kernel.spaces.frames_suffice();
             let size = kernel.spaces.size(at);
             kernel.table.set_size(at, size);
-            stop(&mut kernel.table, &mut kernel.spaces, at);
             Err(fault)
         }
     }

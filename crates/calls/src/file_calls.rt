@@ -1,5 +1,5 @@
 //! The calls on what a descriptor is open on: fstat.
-ghost use Rattle.std.specs.Prelude.{◌≡◌, Some};
+ghost use Rattle.std.specs.Prelude.{false, ◌≡◌, Some};
 ghost use Rattle.calls.specs.Acts.{ActsOnDisk, Runs};
 ghost use Rattle.calls.specs.Reads.{ReadsDisk, TellsOf, stat_told};
 ghost use Rattle.unixmodel.specs.declared.call.Call.TheVariants as Call;
@@ -8,28 +8,21 @@ ghost use Rattle.unixmodel.specs.Files.{Node, slot};
 use crate::outcome::Came;
 use blockdev::{BlockDev, DeviceFault};
 use inode::InodeStat;
+use kernel::Kernel;
 use kernel::numbers::low;
-use kernel::{Kernel, stop};
 use sv39::Translate;
 use unixmodel::call::Call;
 
 // What a node tells of itself.
 pub(crate) fn stat<D: BlockDev, T: Translate + Drop>(
     kernel: &mut Kernel<D, T>,
-    at: usize,
     number: usize,
 ) -> Result<InodeStat, DeviceFault>
-    requires runs { Runs kernel.old at }
+    requires up { kernel.old.tree.failed ≡ false }
     requires node { (node : Node) × (slot kernel.old.tree.files number ≡ Some node) }
     ensures { ReadsDisk kernel.old kernel.new (TellsOf kernel.old number) result }
 {
-    match kernel.tree.stat(number) {
-        Ok(told) => Ok(told),
-        Err(fault) => {
-            stop(&mut kernel.table, &mut kernel.spaces, at);
-            Err(fault)
-        }
-    }
+    kernel.tree.stat(number)
 }
 
 // What fstat writes of a node: device 1, its number, type, links and length.
@@ -63,7 +56,7 @@ pub(crate) fn fstat<D: BlockDev, T: Translate + Drop>(
     if !kernel.can_write(at, address, 24) {
         return Ok(Came::Refuses);
     }
-    let told = stat(kernel, at, number as usize)?;
+    let told = stat(kernel, number as usize)?;
     let _written = kernel.spaces.write(at, address, &stat_bytes(number, told));
     Ok(Came::Answers(0))
 }

@@ -92,6 +92,7 @@ fn trap_once<D: BlockDev, T: Translate + Drop, W: Out>(
     console: &mut W,
 ) -> Result<(), Halt>
     requires running { kernel.old.spaces.active ≡ Some at }
+    requires up { kernel.old.tree.failed ≡ false }
     requires traps { cycle kernel.old.spaces.registers kernel.old.spaces.pc (view_at kernel.old.spaces at).memory ≡ Err trap }
     ensures does { EventGivesTo W.contents W.failures kernel.new console.old console.new (executed kernel.old at) result }
     ensures tree { LeavesTree kernel.old.tree kernel.new.tree result }

@@ -1,22 +1,18 @@
 //! The calls on names: mknod, mkdir, link, unlink.
-ghost use Rattle.std.specs.Prelude.{◌≡◌, ◌≢◌, ◌≤◌, ◌<◌, All, IfOk, IfSome, OnErr, Some, false, if◌then◌else◌, take, true};
+ghost use Rattle.std.specs.Prelude.{◌≡◌, ◌≢◌, ◌≤◌, ◌<◌, All, IfSome, Some, take};
 ghost use Rattle.calls.specs.Acts.{ActsOnDisk, Runs};
-ghost use Rattle.calls.specs.declared.outcome.Came.TheVariants.{Refuses};
-ghost use Rattle.kernel.specs.Kernel.{idle, left_in};
-ghost use Rattle.tree.specs.Tree.{is_device};
+ghost use Rattle.calls.specs.Named.{IsNamed, IsRefused};
+ghost use Rattle.tree.specs.Tree.{has_failed};
 ghost use Rattle.unixmodel.specs.declared.call.Call.TheVariants as Call;
-ghost use Rattle.unixmodel.specs.declared.process.Mode.TheVariants.{Ready};
 ghost use Rattle.unixmodel.specs.Files.{slot};
 ghost use Rattle.calls.specs.Reads.{path_argument};
 ghost use Rattle.vm.specs.Reach.{string_in};
 
 use crate::outcome::Came;
 use blockdev::{BlockDev, DeviceFault};
-use kernel::{Kernel, stop};
-use proc::Table;
-use spaces::Spaces;
+use kernel::Kernel;
 use sv39::Translate;
-use tree::{Leaf, TreeFault};
+use tree::{Leaf, Tree, TreeFault};
 use unixmodel::call::Call;
 
 // The directory that the running process works in.
@@ -45,23 +41,29 @@ pub(crate) fn copy_path<D: BlockDev, T: Translate + Drop>(
     kernel.spaces.copy_path(at, kernel.argument(place), buffer)
 }
 
-// What a call on names comes to that made nothing. Where an access of the device failed the process runs no more.
-pub(crate) fn refuse<T: Translate + Drop>(
-    table: &mut Table,
-    spaces: &mut Spaces<T>,
-    at: usize,
-    fault: TreeFault,
-) -> Result<Came, DeviceFault>
-    ensures came { IfOk result (λ came. (came ≡ Refuses) × (is_device fault ≡ false)) }
-    ensures failed { OnErr result (is_device fault ≡ true) }
-    ensures table { table.new ≡ (if is_device fault then left_in table.old spaces.old at Ready else table.old) }
-    ensures spaces { spaces.new ≡ (if is_device fault then idle spaces.old else spaces.old) }
+// What a call comes to that made nothing.
+pub(crate) fn refuse(fault: TreeFault) -> Result<Came, DeviceFault>
+    ensures { IsRefused fault result }
 {
     if fault == TreeFault::Device {
-        stop(table, spaces, at);
-        return Err(DeviceFault);
+        Err(DeviceFault)
+    } else {
+        Ok(Came::Refuses)
     }
-    Ok(Came::Refuses)
+}
+
+// What a call on names comes to.
+fn named<D: BlockDev, X>(tree: &Tree<D>, made: &Result<X, TreeFault>) -> Result<Came, DeviceFault>
+    requires { tree.now.failed ≡ has_failed made.now }
+    ensures { IsNamed tree.now made.now result }
+{
+    match made {
+        Ok(_) => {
+            tree.is_whole();
+            Ok(Came::Answers(0))
+        }
+        Err(fault) => refuse(*fault),
+    }
 }
 
 /// mknod(path, major, minor): a device with the lowest free number, and a name for it; major and minor are cut to 16 bits.
@@ -81,13 +83,8 @@ pub(crate) fn mknod<D: BlockDev, T: Translate + Drop>(
         major: (kernel.argument(1) % 0x1_0000) as u16,
         minor: (kernel.argument(2) % 0x1_0000) as u16,
     };
-    match kernel.tree.create(directory, &buffer[..count], leaf) {
-        Ok(_) => {
-            kernel.tree.is_whole();
-            Ok(Came::Answers(0))
-        }
-        Err(fault) => refuse(&mut kernel.table, &mut kernel.spaces, at, fault),
-    }
+    let made = kernel.tree.create(directory, &buffer[..count], leaf);
+    named(&kernel.tree, &made)
 }
 
 /// mkdir(path): a directory with the lowest free number, and a name for it.
@@ -103,13 +100,8 @@ pub(crate) fn mkdir<D: BlockDev, T: Translate + Drop>(
         return Ok(Came::Refuses);
     };
     let directory = home(kernel, at);
-    match kernel.tree.create_directory(directory, &buffer[..count]) {
-        Ok(()) => {
-            kernel.tree.is_whole();
-            Ok(Came::Answers(0))
-        }
-        Err(fault) => refuse(&mut kernel.table, &mut kernel.spaces, at, fault),
-    }
+    let made = kernel.tree.create_directory(directory, &buffer[..count]);
+    named(&kernel.tree, &made)
 }
 
 /// link(old, new): another name for a file or a device.
@@ -129,16 +121,10 @@ pub(crate) fn link<D: BlockDev, T: Translate + Drop>(
         return Ok(Came::Refuses);
     };
     let directory = home(kernel, at);
-    match kernel
+    let made = kernel
         .tree
-        .link(directory, &old[..old_count], &new[..new_count])
-    {
-        Ok(()) => {
-            kernel.tree.is_whole();
-            Ok(Came::Answers(0))
-        }
-        Err(fault) => refuse(&mut kernel.table, &mut kernel.spaces, at, fault),
-    }
+        .link(directory, &old[..old_count], &new[..new_count]);
+    named(&kernel.tree, &made)
 }
 
 /// unlink(path): a name is taken away, and its node too where that has no links any more and nobody holds it.
@@ -154,11 +140,6 @@ pub(crate) fn unlink<D: BlockDev, T: Translate + Drop>(
         return Ok(Came::Refuses);
     };
     let directory = home(kernel, at);
-    match kernel.tree.unlink(directory, &buffer[..count]) {
-        Ok(()) => {
-            kernel.tree.is_whole();
-            Ok(Came::Answers(0))
-        }
-        Err(fault) => refuse(&mut kernel.table, &mut kernel.spaces, at, fault),
-    }
+    let made = kernel.tree.unlink(directory, &buffer[..count]);
+    named(&kernel.tree, &made)
 }

@@ -1,5 +1,5 @@
 //! The calls that look for what a path names: open, chdir.
-ghost use Rattle.std.specs.Prelude.{◌≡◌, ◌≢◌, All, List, None, Some, true, ℕ};
+ghost use Rattle.std.specs.Prelude.{◌≡◌, ◌≢◌, All, List, None, Some, false, true, ℕ};
 ghost use Rattle.calls.specs.Acts.{ActsOnDisk, Runs};
 ghost use Rattle.calls.specs.Opened.{Asks, Cuts, IsOpenable, Opens, file_by, has_seat, may_open_by, target_by};
 ghost use Rattle.calls.specs.Reads.{FindsFrom, ReadsDisk};
@@ -17,7 +17,7 @@ use blockdev::{BlockDev, DeviceFault};
 use files::{OpenFile, Target};
 use inode::InodeStat;
 use kernel::numbers::low;
-use kernel::{Channel, Kernel, descriptors, stop, wakeup};
+use kernel::{Channel, Kernel, descriptors, wakeup};
 use sv39::Translate;
 use tree::{DEVICE, DIRECTORY, FILE, Leaf};
 use unixmodel::call::Call;
@@ -43,13 +43,7 @@ pub(crate) fn find<D: BlockDev, T: Translate + Drop>(
     ensures { ReadsDisk kernel.old kernel.new (FindsFrom kernel.old at path.now) result }
 {
     let directory = home(kernel, at);
-    match kernel.tree.resolve(directory, path) {
-        Ok(number) => Ok(number),
-        Err(fault) => {
-            stop(&mut kernel.table, &mut kernel.spaces, at);
-            Err(fault)
-        }
-    }
+    kernel.tree.resolve(directory, path)
 }
 
 // Whether a file is made where a path reaches nothing.
@@ -136,27 +130,20 @@ fn open_on<D: BlockDev, T: Translate + Drop>(
 // A file is emptied, if the flags ask for it.
 fn cut<D: BlockDev, T: Translate + Drop>(
     kernel: &mut Kernel<D, T>,
-    at: usize,
     number: usize,
     flags: u32,
 ) -> Result<(), DeviceFault>
-    requires runs { Runs kernel.old at }
+    requires up { kernel.old.tree.failed ≡ false }
     requires node { slot kernel.old.tree.files number ≢ None }
-    ensures { Cuts kernel.old kernel.new at flags number result }
+    ensures { Cuts kernel.old kernel.new flags number result }
 {
+    kernel.is_sound();
     if !truncates(flags) {
         return Ok(());
     }
-    match kernel.tree.truncate(number) {
-        Ok(()) => {
-            kernel.tree.is_whole();
-            Ok(())
-        }
-        Err(fault) => {
-            stop(&mut kernel.table, &mut kernel.spaces, at);
-            Err(fault)
-        }
-    }
+    kernel.tree.truncate(number)?;
+    kernel.tree.is_whole();
+    Ok(())
 }
 
 // open of what its path reaches.
@@ -170,14 +157,14 @@ fn open_found<D: BlockDev, T: Translate + Drop>(
     requires asks { (path : List ℕ) × Asks kernel.old at path flags (Some number) }
     ensures { ActsOnDisk kernel.old kernel.new at (Some Call.Open) result }
 {
-    let told = stat(kernel, at, number)?;
+    let told = stat(kernel, number)?;
     if !may_open(flags, told) {
         return Ok(Came::Refuses);
     }
     if !has_seat(kernel, at) {
         return Ok(Came::Refuses);
     }
-    cut(kernel, at, number, flags)?;
+    cut(kernel, number, flags)?;
     let descriptor = open_on(kernel, at, number, flags, told);
     Ok(Came::Answers(descriptor as u64))
 }
@@ -207,7 +194,7 @@ fn open_new<D: BlockDev, T: Translate + Drop>(
             let descriptor = open_on(kernel, at, number, flags, NEW_FILE);
             Ok(Came::Answers(descriptor as u64))
         }
-        Err(fault) => refuse(&mut kernel.table, &mut kernel.spaces, at, fault),
+        Err(fault) => refuse(fault),
     }
 }
 
@@ -246,10 +233,7 @@ fn work_in<D: BlockDev, T: Translate + Drop>(
     kernel.tree.is_whole();
     kernel.tree.hold(number);
     kernel.table.set_directory(at, number as u32);
-    if let Err(fault) = kernel.tree.drop_hold(left) {
-        stop(&mut kernel.table, &mut kernel.spaces, at);
-        return Err(fault);
-    }
+    kernel.tree.drop_hold(left)?;
     Ok(Came::Answers(0))
 }
 
@@ -263,7 +247,7 @@ fn chdir_found<D: BlockDev, T: Translate + Drop>(
     requires reaches { Reaches kernel.old at number }
     ensures { ActsOnDisk kernel.old kernel.new at (Some Call.Chdir) result }
 {
-    if stat(kernel, at, number)?.kind != DIRECTORY {
+    if stat(kernel, number)?.kind != DIRECTORY {
         return Ok(Came::Refuses);
     }
     work_in(kernel, at, number)

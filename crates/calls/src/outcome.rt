@@ -1,5 +1,5 @@
 //! What a call came to, and how that is settled.
-ghost use Rattle.std.specs.Prelude.{◌≡◌, OnErr, OnOk, Some};
+ghost use Rattle.std.specs.Prelude.{false, ◌≡◌, OnErr, OnOk, Some};
 ghost use Rattle.calls.specs.Acts.{CanCome, IsEnd, pending_for, settled_by};
 ghost use Rattle.calls.specs.Gives.{LeavesDisk};
 ghost use Rattle.kernel.specs.Kernel.{state_of};
@@ -57,13 +57,14 @@ pub(crate) fn pending<D: BlockDev, T: Translate + Drop>(
     }
 }
 
-/// A call of the running process is done. Where an access of the device fails, a process ended, and none runs.
+/// A call of the running process is done. Where an access of the device fails, a process ended.
 pub(crate) fn settle<D: BlockDev, T: Translate + Drop>(
     kernel: &mut Kernel<D, T>,
     at: usize,
     came: Came,
 ) -> Result<(), DeviceFault>
     requires running { kernel.old.spaces.active ≡ Some at }
+    requires up { kernel.old.tree.failed ≡ false }
     requires can { CanCome kernel.old at came }
     ensures gives { OnOk result (state_of kernel.new ≡ settled_by (state_of kernel.old) at came) }
     ensures fails { OnErr result (IsEnd came) }

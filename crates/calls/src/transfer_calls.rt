@@ -27,7 +27,7 @@ use console::{Out, OutFault, ROOM};
 use file_transfers::{read_node, write_node};
 use files::{End, Target};
 use kernel::numbers::{low, natural};
-use kernel::{Channel, Kernel, stop, wakeup};
+use kernel::{Channel, Kernel, wakeup};
 use sv39::Translate;
 use unixmodel::call::Call;
 use unixmodel::process::Pending;
@@ -214,10 +214,7 @@ fn read_file<D: BlockDev, T: Translate + Drop>(
             kernel.files.set_offset(usize::from(id), offset + low(read));
             Ok(Came::Answers(read))
         }
-        Err(fault) => {
-            stop(&mut kernel.table, &mut kernel.spaces, at);
-            Err(fault)
-        }
+        Err(fault) => Err(fault),
     }
 }
 
@@ -405,10 +402,7 @@ fn write_file<D: BlockDev, T: Translate + Drop>(
                 .set_offset(usize::from(id), offset + low(wrote));
             Ok(Came::Answers(write_answer(wrote, count)))
         }
-        Err(fault) => {
-            stop(&mut kernel.table, &mut kernel.spaces, at);
-            Err(fault)
-        }
+        Err(fault) => Err(fault),
     }
 }
 

@@ -8,7 +8,7 @@ use Rattle.std.specs.Option.{option_eq}
 use Rattle.kernel.specs.Descriptors.{all_closed, descriptors_in, standing}
 use Rattle.kernel.specs.Holding.{AreHeld, IsInUse, all_dropped, files_on, gone_nodes, home_in, homes_at}
 use Rattle.files.proofs.Whole.{all-set}
-use Rattle.kernel.proofs.Holding.{AreOldHomes, all-failed, fewer-held, fewer-leaves, fewer-nodes, fewer-used, filed-put, idle-filed, named_in, same-map, slot-map}
+use Rattle.kernel.proofs.Holding.{AreOldHomes, all-failed, fewer-held, fewer-leaves, fewer-nodes, fewer-used, used-put, named_in, same-map, slot-map}
 use Rattle.kernel.specs.Kernel.{Kernel, base, descriptors_at, ended, halted_by, idle, left_as, left_home, lives, loaded, memories, memory_in, on_hart, rest_of, state_of}
 use Rattle.kernel.specs.Sound.{IsKernel, IsMode, IsPlace, IsPlaced, WaitsWell, is_at}
 use Rattle.kernel.proofs.Named.{Leaves, counted-ended, counts-joined, fewer-pipes, files-all_closed, files_on-all_closed, leaves-standing, named_in-append, old-all_closed, opens-all_closed, orphan-same, reap-closed, table-all_closed}
@@ -109,7 +109,7 @@ module _ (k : Kernel) (i : ℕ) (p : Process) (h : SpaceView) (r : IsRun k i p h
       spaces = is.spaces;
       stands = stands-put k.table.places k.spaces.places i (Some q) (within-run k i p h r) (rw r.space placed) is.stands;
       runs = runs-set k.table.places i (Some q) k.spaces.active None (within-run k i p h r) rests (λ j other. rw (r.active, other-at i j other) refl) is.runs;
-      filed = idle-filed (filed-put is.filed i (Some q) (home ∙ sym (ap home_in r.process)));
+      used = λ up. used-put (is.used up) i (Some q) (home ∙ sym (ap home_in r.process));
       fits = is.fits;
       opened = opened-put k.files k.spaces.pipes k.table.places i (Some q) (same ∙ sym (ap descriptors_in r.process)) well is.opened;
     }
@@ -248,7 +248,7 @@ module _ (k : Kernel) (is : IsKernel k) (z : slice_index k.spaces.registers 0 �
     spaces = is.spaces;
     stands = stands-put orphans k.spaces.places i (Some gone) short (rw space gone-placed) orphans-placed;
     runs = runs-set orphans i (Some gone) k.spaces.active None short refl (λ j other. sym (alone j other)) orphans-run;
-    filed = record { up = λ j e. absurd (none-some j e); used = λ up. used-ended (sym (all-failed k.tree nodes) ∙ up) };
+    used = λ up. used-ended (sym (all-failed k.tree nodes) ∙ up);
     fits = fewer;
     opened = record {
       table = table-all_closed k.files q.descriptors is.opened.table;

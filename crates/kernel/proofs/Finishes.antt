@@ -9,9 +9,8 @@ use Rattle.unixmodel.specs.Process.{is_zombie_mode}
 use Rattle.kernel.specs.Kernel.{Kernel, base, counting, ended, halted_by, idle, lives, loaded, memories, memory_in, on_hart, rest_of, state_of, waking}
 use Rattle.kernel.specs.Sound.{IsKernel, IsPlaced, is_at, CanEnd, CanEndIn, IsAlive}
 use Rattle.kernel.proofs.Changes.{ended-held, ended-is, ended-kernel, ended-made, loaded-placed, other-at}
-use Rattle.kernel.proofs.Holding.{failed-filed}
 use Rattle.kernel.proofs.Dropping.{counted}
-use Rattle.kernel.proofs.Steps.{with-tree}
+use Rattle.kernel.proofs.Steps.{fail-kernel, with-tree}
 use Rattle.kernel.specs.Holding.{IsInUse}
 use Rattle.blockdev.specs.declared.DeviceFault.{DeviceFault}
 use Rattle.tree.specs.Tree.{FileTree, Serves}
@@ -60,17 +59,17 @@ ends-idle k i (Some p) status is z a none at alive up =
     ap (end_at (state_of k) i status) (process-idle k i p t.0 is none t.1 alive)
     ∙ killed-ends k i p t.0 is none at t.1.space alive up z a status
 
-ends-go : (k : Kernel) (i : ℕ) (o : Option ℕ) (status : ℤ) → IsKernel k → slice_index k.spaces.registers 0 ≡ 0 → k.spaces.pc % 4 ≡ 0 → k.spaces.active ≡ o → CanEndIn k i o
+ends-go : (k : Kernel) (i : ℕ) (o : Option ℕ) (status : ℤ) → IsKernel k → slice_index k.spaces.registers 0 ≡ 0 → k.spaces.pc % 4 ≡ 0 → k.spaces.active ≡ o → CanEndIn k i o → k.tree.failed ≡ false
     → end_at (state_of k) i status (process_at (state_of k) i) ≡ state_of (ended k i status)
-ends-go k i (Some j) status is z a active can =
+ends-go k i (Some j) status is z a active can up =
     let run = run-of k i is (active ∙ ap Some can) in
-    ends-at k i run.0 run.1.0 run.1.1 is z a status
-ends-go k i None status is z a active can = ends-idle k i (slot k.table.places i) status is z a active refl can.0 can.1
+    ends-at k i run.0 run.1.0 run.1.1 is z a status up
+ends-go k i None status is z a active can up = ends-idle k i (slot k.table.places i) status is z a active refl can up
 
 -- what the end of a process makes of the state
 pub ends-can : (k : Kernel) (i : ℕ) (status : ℤ) → IsKernel k → slice_index k.spaces.registers 0 ≡ 0 → k.spaces.pc % 4 ≡ 0 → CanEnd k i
     → end_at (state_of k) i status (process_at (state_of k) i) ≡ state_of (ended k i status)
-ends-can k i status is z a can = ends-go k i k.spaces.active status is z a refl can
+ends-can k i status is z a can = ends-go k i k.spaces.active status is z a refl can.can can.up
 
 -- process q is what the loaded table has in place i, and no other place runs
 pub record IsWhole (k : Kernel) (i : ℕ) (q : Process) : Type 0 where
@@ -78,7 +77,6 @@ pub record IsWhole (k : Kernel) (i : ℕ) (q : Process) : Type 0 where
   pub pids : halted_by (slot k.table.places i) ≡ halted_by (Some q)
   pub alone : (j : ℕ) → j ≢ i → is_at j k.spaces.active ≡ false
   pub living : lives q ≡ true
-  pub up : k.tree.failed ≡ false
 
 alive-in : (o : Option Process) (q : Process) → o ≡ Some q → IsAlive o → lives q ≡ true
 alive-in None q at alive = absurd alive
@@ -96,7 +94,6 @@ whole-go k i q (Some j) is active can at =
       pids = ap halted_by run.1.1.process ∙ ap (λ (x : Process). halted_by (Some x)) e;
       alone = λ n other. ap (is_at n) here ∙ other-at i n other;
       living = ap lives (sym e) ∙ ap (λ (m : Mode). not (is_zombie_mode m)) run.1.1.runs;
-      up = run.1.1.up;
     }
 whole-go k i q None is active can at =
     let same : loaded k ≡ k.table = rw active refl in
@@ -105,12 +102,11 @@ whole-go k i q None is active can at =
       put = same ∙ ap (λ (places : List (Option Process)). record k.table { places = places }) (sym (set-slot k.table.places i (Some q) there));
       pids = ap halted_by there;
       alone = λ n other. ap (is_at n) active;
-      living = alive-in (slot k.table.places i) q there can.0;
-      up = can.1;
+      living = alive-in (slot k.table.places i) q there can;
     }
 
 pub whole-of : (k : Kernel) (i : ℕ) (q : Process) → IsKernel k → CanEnd k i → slot (loaded k).places i ≡ Some q → IsWhole k i q
-whole-of k i q is can at = whole-go k i q k.spaces.active is refl can at
+whole-of k i q is can at = whole-go k i q k.spaces.active is refl can.can at
 
 -- it is put back, its descriptors are closed, and it ends
 abbrev pub finished : Kernel → ℕ → Process → ℤ → Kernel
@@ -133,7 +129,7 @@ held-whole : (k : Kernel) (i : ℕ) (q : Process) → IsKernel k → CanEnd k i 
 held-whole k i q is can z a at =
     let w = whole-of k i q is can at in
     let s = space-of (slot (loaded k).places i) (slot k.spaces.places i) q at (loaded-placed k is z a i) in
-    ended-held k is z a i q s.0 at s.1.0 w.pids w.alone w.living (pos 0) w.up
+    ended-held k is z a i q s.0 at s.1.0 w.pids w.alone w.living (pos 0) can.up
 
 finish-keeps : (k : Kernel) (i : ℕ) (q : Process) (status : ℤ) → IsKernel k → CanEnd k i → slice_index k.spaces.registers 0 ≡ 0 → k.spaces.pc % 4 ≡ 0 → slot (loaded k).places i ≡ Some q → IsKernel (ended k i status)
 finish-keeps k i q status is can z a at =
@@ -146,7 +142,7 @@ pub counting-used : {t : FileTree} {opens : List (Option Counted)} {places : Lis
 counting-used failures is = record { rules = is.rules; zero = is.zero; within = is.within; holds = is.holds; held = is.held; fits = is.fits; homes = is.homes }
 
 pub counting-kernel : (k : Kernel) (failures : ℕ) → IsKernel k → IsKernel (counting k failures)
-counting-kernel k failures is = with-tree k (record k.tree { failures = failures }) is (record { up = is.filed.up; used = λ up. counting-used failures (is.filed.used up) })
+counting-kernel k failures is = with-tree is (record k.tree { failures = failures }) (λ up. counting-used failures (is.used up))
 
 -- over the fields: k is what they show, and now is the kernel's value
 module _ (k now : Kernel) (i : ℕ) (q : Process) (status : ℤ) (same : k ≡ now) (is : IsKernel now) (can : CanEnd now i) (said : Some q ≡ slot (loaded now).places i) where
@@ -162,7 +158,7 @@ module _ (k now : Kernel) (i : ℕ) (q : Process) (status : ℤ) (same : k ≡ n
     -- it let go all, or an access failed on the way
     pub finish-closes : (t : FileTree) (r : Result (Unit {0}) DeviceFault) → IfOk r (λ done. t ≡ counted (finished k i q status).tree t.failures) → OnErr r (t.failed ≡ true) → IsKernel (record (finished k i q status) { tree = t })
     finish-closes t (Ok done) told down = subst (λ (x : FileTree). IsKernel (record (finished k i q status) { tree = x })) (sym told) (counting-kernel (finished k i q status) t.failures closes)
-    finish-closes t (Err fault) told down = with-tree (finished k i q status) t closes (failed-filed (finished k i q status).files (finished k i q status).table.places down)
+    finish-closes t (Err fault) told down = fail-kernel closes t down
 
     pub finish-held : AreHeld k.tree (gone_nodes k.files q.descriptors ++ q.directory ∷ [])
     finish-held = rw same (held-whole now i q is can z a at)

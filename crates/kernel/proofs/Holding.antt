@@ -17,7 +17,6 @@ use Rattle.files.specs.Meant.{target_of}
 use Rattle.files.specs.Places.{Counted, more, opened, opens_of, shared}
 use Rattle.files.proofs.Whole.{all-set}
 use Rattle.kernel.specs.Holding.{AreHeld, FitsNode, IsFolder, IsInUse, all_dropped, dropped, files_on, home_in, homes_at, node_in, node_of, node_on}
-use Rattle.kernel.specs.Sound.{IsFiled}
 use Rattle.names.proofs.Finding.{slot-within}
 use Rattle.names.specs.Rules.{KeepsTree}
 use Rattle.names.proofs.Reaped.{is_held, kept-same}
@@ -153,23 +152,6 @@ module _ {t : FileTree} {opens : List (Option Counted)} {os : List (Option Proce
       (all-set (λ k o. (c : Counted) → o ≡ Some c → FitsNode c.file c.file.target (node_of t.files (node_on c.file.target))) opens i (Some (record { file = f; count = 1 }))
       (λ c at. subst (λ (d : Counted). FitsNode d.file d.file.target (node_of t.files (node_on d.file.target))) (same_Some (record { file = f; count = 1 }) c at) (subst (λ o. FitsNode f f.target (node_of t.files o)) (sym none) fitting))
       is.fits)
-
--- ---- a process runs, or none
-
-module _ {t : FileTree} {opens : List (Option Counted)} {os : List (Option Process)} {active : Option ℕ} (is : IsFiled t opens os active) where
-  pub filed-as : (after : Option ℕ) → ((j : ℕ) → after ≡ Some j → t.failed ≡ false) → IsFiled t opens os after
-  filed-as after up = record { up = up; used = is.used }
-
-  -- where none runs any more
-  pub idle-filed : IsFiled t opens os None
-  idle-filed = filed-as None (λ j e. absurd (none-some j e))
-
-  pub filed-put : (i : ℕ) (o : Option Process) → home_in o ≡ home_in (slot os i) → IsFiled t opens (slice_set os i o) active
-  filed-put i o same = record { up = is.up; used = λ up. used-put (is.used up) i o same }
-
--- an access has failed, and none runs
-pub failed-filed : {t : FileTree} (opens : List (Option Counted)) (os : List (Option Process)) → t.failed ≡ true → IsFiled t opens os None
-failed-filed opens os down = record { up = λ i e. absurd (none-some i e); used = λ up. absurd (let bad : true ≡ false = sym down ∙ up in cc) }
 
 -- ---- what the abstract Unix says is used
 

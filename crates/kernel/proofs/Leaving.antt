@@ -34,13 +34,13 @@ module _ (k : Kernel) (i : ℕ) (p : Process) (h : SpaceView) (r : IsRun k i p h
     living : lives (on_hart k.spaces p) ≡ true
     living = ap (λ (m : Mode). not (is_zombie_mode m)) r.runs
 
-    pub ends-run : (status : ℤ) → end_process (state_of k) i (self k p h) status ≡ state_of (ended k i status)
-    ends-run status =
-        ended-state k is z a i (on_hart k.spaces p) h there r.space pids alone living status r.up
+    pub ends-run : (status : ℤ) → k.tree.failed ≡ false → end_process (state_of k) i (self k p h) status ≡ state_of (ended k i status)
+    ends-run status up =
+        ended-state k is z a i (on_hart k.spaces p) h there r.space pids alone living status up
         ∙ sym (ap state_of (ended-is k is z a i (on_hart k.spaces p) h there r.space pids alone living status))
 
-    pub ends-at : (status : ℤ) → end_at (state_of k) i status (process_at (state_of k) i) ≡ state_of (ended k i status)
-    ends-at status = ap (end_at (state_of k) i status) (process-run k i p h r) ∙ ends-run status
+    pub ends-at : (status : ℤ) → k.tree.failed ≡ false → end_at (state_of k) i status (process_at (state_of k) i) ≡ state_of (ended k i status)
+    ends-at status up = ap (end_at (state_of k) i status) (process-run k i p h r) ∙ ends-run status up
 
     -- ---- the process waits
 
@@ -55,12 +55,12 @@ module _ (k : Kernel) (i : ℕ) (p : Process) (h : SpaceView) (r : IsRun k i p h
     pub waits-kernel : (w : Pending) → IsPending p.descriptors h.memory w w.number → IsAwaiting k.files p.descriptors w → IsKernel (blocked k i w)
     waits-kernel w pending for = rw (left-as k i p h r is (Waiting w)) (left-kernel k i p h r is (record p { registers = k.spaces.registers; pc = k.spaces.pc; mode = Waiting w }) (waits-placed w pending) refl refl (sym (home-running p r.runs)) for)
 
-    pub waits-run : (w : Pending) → IsPending p.descriptors h.memory w w.number → IsAwaiting k.files p.descriptors w → reap (change_process (state_of k) i (unix.with_mode (Waiting w))) ≡ state_of (blocked k i w)
-    waits-run w pending for =
+    pub waits-run : (w : Pending) → IsPending p.descriptors h.memory w w.number → IsAwaiting k.files p.descriptors w → k.tree.failed ≡ false → reap (change_process (state_of k) i (unix.with_mode (Waiting w))) ≡ state_of (blocked k i w)
+    waits-run w pending for up =
         let q = record p { registers = k.spaces.registers; pc = k.spaces.pc; mode = Waiting w } in
         let is' = left-kernel k i p h r is q (waits-placed w pending) refl refl (sym (home-running p r.runs)) for in
         ap reap (change-run k i p h r is (unix.with_mode (Waiting w)) ∙ sym (left-state k i p h r is q (waits-placed w pending) refl))
-        ∙ reap-state (left_to k i q) is' r.up
+        ∙ reap-state (left_to k i q) is' up
         ∙ sym (ap state_of (left-as k i p h r is (Waiting w)))
 
     -- it is ready again

@@ -6,7 +6,7 @@ use Rattle.kernel.specs.Kernel.{Kernel, marked}
 use Rattle.kernel.specs.Sound.{IsKernel, IsMode, IsPlace, WaitsWell, is_at}
 use Rattle.kernel.proofs.Changes.{other-at, stands-put}
 use Rattle.kernel.specs.Holding.{home_in}
-use Rattle.kernel.proofs.Holding.{filed-put}
+use Rattle.kernel.proofs.Holding.{used-put}
 use Rattle.kernel.proofs.Opens.{opened-put}
 use Rattle.kernel.proofs.Runs.{runs-set, set-slot, slot-within, with_process}
 use Rattle.proc.specs.declared.process.Process.{Process}
@@ -46,7 +46,7 @@ marked-kernel k j q is at rests =
       spaces = is.spaces;
       stands = stands-put k.table.places k.spaces.places j (Some (with_mark q)) short (mark-placed q (slot k.spaces.places j) stays there) is.stands;
       runs = runs-set k.table.places j (Some (with_mark q)) k.spaces.active k.spaces.active short (stays ∙ sym rests) (λ n other. refl) is.runs;
-      filed = filed-put is.filed j (Some (with_mark q)) (sym (ap home_in at));
+      used = λ up. used-put (is.used up) j (Some (with_mark q)) (sym (ap home_in at));
       fits = is.fits;
       opened = opened-put k.files k.spaces.pipes k.table.places j (Some (with_mark q)) (sym (ap descriptors_in at)) (subst (WaitsWell k.files) at (is.opened.waits j)) is.opened;
     }

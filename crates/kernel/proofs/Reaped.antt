@@ -113,7 +113,7 @@ used-active k None is = is
 used-active k (Some i) is = used-put is i (option_map (on_hart k.spaces) (slot k.table.places i)) (hart-same home_in k.spaces (λ p. refl) (slot k.table.places i))
 
 pub used-loaded : (k : Kernel) → IsKernel k → k.tree.failed ≡ false → IsInUse k.tree k.files (loaded k).places
-used-loaded k is up = used-active k k.spaces.active (is.filed.used up)
+used-loaded k is up = used-active k k.spaces.active (is.used up)
 
 away-hart : (s : Spaces) (o : Option Process) → ((p : Process) → o ≡ Some p → is_zombie_mode p.mode ≡ true → p.directory ≡ 0) → (p : Process) → option_map (on_hart s) o ≡ Some p → is_zombie_mode p.mode ≡ true → p.directory ≡ 0
 away-hart s None away p at zombie = absurd (none-some p at)
@@ -129,7 +129,7 @@ pub reap-state : (k : Kernel) → IsKernel k → k.tree.failed ≡ false → rea
 reap-state k is up = reap-with k (loaded k) (memories k.spaces) (opened-loaded k is) (used-loaded k is up) (away-loaded k is)
 
 pub within-state : (k : Kernel) → IsKernel k → k.tree.failed ≡ false → is_within (state_of k) ≡ true
-within-state k is up = within-state_with k (loaded k) (is.filed.used up).within is.opened.table (match-loaded k is) ∙ le-leb _ _ is.fits
+within-state k is up = within-state_with k (loaded k) (is.used up).within is.opened.table (match-loaded k is) ∙ le-leb _ _ is.fits
 
 pub over-state : (k : Kernel) → ((i : ℕ) → IsMatch (slot (loaded k).places i) (slot k.spaces.places i)) → k.spaces.frames < taken_frames k.spaces → is_within (state_of k) ≡ false
 over-state k is over = let full : nat_le (taken_frames k.spaces) k.spaces.frames ≡ false = lt-leb _ _ over in rw (frames-with k (loaded k) is, full) refl

@@ -30,14 +30,14 @@ change-put i s p change short =
 
 -- the hart alone changes
 pub regs-kernel : (k : Kernel) → IsKernel k → (registers : List ℕ) (pc : ℕ) → IsKernel (on_regs k registers pc)
-regs-kernel k is registers pc = record { all = is.all; spaces = is.spaces; stands = is.stands; runs = is.runs; fits = is.fits; opened = is.opened; filed = is.filed }
+regs-kernel k is registers pc = record { all = is.all; spaces = is.spaces; stands = is.stands; runs = is.runs; fits = is.fits; opened = is.opened; used = is.used }
 
 run-mode : (p : Process) (memory : Memory) (mode : Mode) → mode ≡ Running → IsMode p memory mode → IsLive p × (p.killed ≡ false)
 run-mode p memory mode e is = rw e at is
 
 module _ (k : Kernel) (i : ℕ) (p : Process) (h : SpaceView) (r : IsRun k i p h) (is : IsKernel k) where
   pub regs-run : (registers : List ℕ) (pc : ℕ) → IsRun (on_regs k registers pc) i p h
-  regs-run registers pc = record { active = r.active; process = r.process; space = r.space; placed = r.placed; runs = r.runs; up = r.up }
+  regs-run registers pc = record { active = r.active; process = r.process; space = r.space; placed = r.placed; runs = r.runs }
 
   pub regs-state : (registers : List ℕ) (pc : ℕ) → state_of (on_regs k registers pc) ≡ put_process (state_of k) i (with_memory h.memory (record p { registers = registers; pc = pc }))
   regs-state registers pc =

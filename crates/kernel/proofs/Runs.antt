@@ -10,7 +10,7 @@ use Rattle.std.proofs.lemmas.Option.{none-some, same_Some}
 use Rattle.kernel.specs.Kernel.{Kernel, base, lives, loaded, memories, memory_in, on_hart, rest_of, state_of}
 use Rattle.kernel.specs.Sound.{IsKernel, IsPlace, IsPlaced, is_at}
 use Rattle.kernel.specs.Holding.{home_in}
-use Rattle.kernel.proofs.Holding.{filed-put}
+use Rattle.kernel.proofs.Holding.{used-put}
 use Rattle.kernel.proofs.Opens.{opened-put, waits-running}
 use Rattle.proc.specs.declared.process.Process.{Process}
 use Rattle.proc.specs.Places as table
@@ -78,7 +78,6 @@ pub record IsRun (k : Kernel) (i : ℕ) (p : Process) (h : SpaceView) : Type 0 w
   pub space : slot k.spaces.places i ≡ Some h
   pub placed : IsPlaced p h
   pub runs : p.mode ≡ Running
-  pub up : k.tree.failed ≡ false
 
 pub eq-self : (i : ℕ) → nat_eq i i ≡ true
 eq-self i = grind (arith, nat_tests)
@@ -106,7 +105,7 @@ run-of k i is active =
     let here : is_at i k.spaces.active ≡ true = rw active (eq-self i) in
     let p = running-process (slot k.table.places i) (is.runs i ∙ here) in
     let h = space-of (slot k.table.places i) (slot k.spaces.places i) p.0 p.1.0 (is.stands i) in
-    (p.0, (h.0, record { active = active; process = p.1.0; space = h.1.0; placed = h.1.1; runs = p.1.1; up = is.filed.up i active }))
+    (p.0, (h.0, record { active = active; process = p.1.0; space = h.1.0; placed = h.1.1; runs = p.1.1 }))
 
 -- over the fields: k is what they show, and now is the kernel's value
 module _ (k now : Kernel) (i : ℕ) (same : k ≡ now) (is : IsKernel k) (active : now.spaces.active ≡ Some i) where
@@ -180,7 +179,6 @@ module _ (k : Kernel) (i : ℕ) (p : Process) (h : SpaceView) (r : IsRun k i p h
     pub moved-run : IsRun (moved k i p' h' registers pc) i p' h'
     moved-run = record {
       active = r.active;
-      up = r.up;
       process = slot-put k.table.places i (Some p') (within-run k i p h r);
       space = slot-put k.spaces.places i (Some h') within-space;
       placed = placed;
@@ -193,7 +191,7 @@ module _ (k : Kernel) (i : ℕ) (p : Process) (h : SpaceView) (r : IsRun k i p h
       spaces = length-set k.spaces.places i (Some h') ∙ is.spaces;
       stands = stands-set k.table.places k.spaces.places i (Some p') (Some h') (within-run k i p h r) within-space placed is.stands;
       runs = runs-set k.table.places i (Some p') k.spaces.active k.spaces.active (within-run k i p h r) (rw (runs, r.active) (sym (eq-self i))) (λ j other. refl) is.runs;
-      filed = filed-put is.filed i (Some p') (home-running p' runs ∙ ap Some home ∙ sym (home-running p r.runs) ∙ sym (ap home_in r.process));
+      used = λ up. used-put (is.used up) i (Some p') (home-running p' runs ∙ ap Some home ∙ sym (home-running p r.runs) ∙ sym (ap home_in r.process));
       fits = fits;
       opened = opened-put k.files k.spaces.pipes k.table.places i (Some p') (same ∙ sym (ap descriptors_in r.process)) (waits-running k.files p' runs) is.opened;
     }

@@ -157,4 +157,4 @@ fits-in k None f is each = absurd (cc)
 fits-in k (Some c) f is each = let same : f ≡ c.file = cc in subst (Fits k) (sym same) (each c refl)
 
 pub fits-shown : (k : Kernel) → IsKernel k → k.tree.failed ≡ false → (n : ℕ) (f : OpenFile) → Some f ≡ file_at k.files n → Fits k f
-fits-shown k is up n f at = fits-in k (slot k.files n) f at ((is.filed.used up).fits n)
+fits-shown k is up n f at = fits-in k (slot k.files n) f at ((is.used up).fits n)

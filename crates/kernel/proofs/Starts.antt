@@ -8,7 +8,7 @@ use Rattle.kernel.specs.Sound.{CanRun, IsKernel, IsLive, IsPlace, IsPlaced, is_a
 use Rattle.kernel.proofs.Changes.{ended-is, ended-state, other-at, stands-put}
 use Rattle.kernel.proofs.Opens.{opened-put}
 use Rattle.kernel.specs.Holding.{home_in}
-use Rattle.kernel.proofs.Holding.{filed-as, filed-put}
+use Rattle.kernel.proofs.Holding.{used-put}
 use Rattle.kernel.proofs.Runs.{IsRun, eq-self, runs-set, set-twice, slot-put, slot-within, state-run, with_process, home-living, put-same}
 use Rattle.proc.specs.declared.process.Process.{Process}
 use Rattle.proc.specs.Places.{changed, with_mode}
@@ -60,12 +60,12 @@ module _ (k : Kernel) (i : ℕ) (p : Process) (h : SpaceView) (is : IsKernel k) 
   pub started-is : started k i ≡ started_to
   started-is = ap (started_as k i) process ∙ rw process refl
 
-  module _ (l : IsLive p) (n : p.killed ≡ false) (up : k.tree.failed ≡ false) where
+  module _ (l : IsLive p) (n : p.killed ≡ false) where
     q-placed : IsPlaced q h
     q-placed = record { size = placed.size; zero = placed.zero; aligned = placed.aligned; mode = (record { descriptors = l.descriptors }, n) }
 
     pub started-run : IsRun started_to i q h
-    started-run = record { active = refl; process = slot-put k.table.places i (Some q) short; space = space; placed = q-placed; runs = refl; up = up }
+    started-run = record { active = refl; process = slot-put k.table.places i (Some q) short; space = space; placed = q-placed; runs = refl }
 
     pub started-kernel : IsKernel started_to
     started-kernel = record {
@@ -73,7 +73,7 @@ module _ (k : Kernel) (i : ℕ) (p : Process) (h : SpaceView) (is : IsKernel k) 
       spaces = is.spaces;
       stands = stands-put k.table.places k.spaces.places i (Some q) short (rw space q-placed) is.stands;
       runs = runs-set k.table.places i (Some q) k.spaces.active (Some i) short (sym (eq-self i)) (λ j other. other-at i j other ∙ sym (ap (is_at j) idle)) is.runs;
-      filed = filed-as (filed-put is.filed i (Some q) (sym (home-living p alive) ∙ sym (ap home_in process))) (Some i) (λ j e. up);
+      used = λ up. used-put (is.used up) i (Some q) (sym (home-living p alive) ∙ sym (ap home_in process));
       fits = is.fits;
       opened = opened-put k.files k.spaces.pipes k.table.places i (Some q) (sym (ap descriptors_in process)) tt is.opened;
     }
@@ -136,8 +136,8 @@ pub record Takes (k : Kernel) (i : ℕ) (x : Process) : Type 0 where
   pub starts : started k i ≡ record k { table = changed k.table i (with_mode Running); spaces = record k.spaces { active = Some i; registers = x.registers; pc = x.pc } }
   pub keeps : IsKernel (record k { table = changed k.table i (with_mode Running); spaces = record k.spaces { active = Some i; registers = x.registers; pc = x.pc } })
 
-pub takes : (k : Kernel) (i : ℕ) (x : Process) → IsKernel k → k.spaces.active ≡ None → k.tree.failed ≡ false → CanRun (slot k.table.places i) → slot k.table.places i ≡ Some x → Takes k i x
-takes k i x is idle up can at =
+pub takes : (k : Kernel) (i : ℕ) (x : Process) → IsKernel k → k.spaces.active ≡ None → CanRun (slot k.table.places i) → slot k.table.places i ≡ Some x → Takes k i x
+takes k i x is idle can at =
     let f = idle-of k i is can in
     let r = f.1.1 in
     let e : x ≡ f.0 = let a = r.process in cc in
@@ -148,5 +148,5 @@ takes k i x is idle up can at =
       zero = ap (λ (y : Process). slice_index y.registers 0) e ∙ start-zero k i f.0 f.1.0 is idle r.process r.space r.alive;
       aligned = ap (λ (y : Process). y.pc % 4) e ∙ start-aligned k i f.0 f.1.0 is idle r.process r.space r.alive;
       starts = starts;
-      keeps = subst (λ (y : Kernel). IsKernel y) (sym (started-is k i f.0 f.1.0 is idle r.process r.space r.alive) ∙ starts) (started-kernel k i f.0 f.1.0 is idle r.process r.space r.alive r.live r.free up);
+      keeps = subst (λ (y : Kernel). IsKernel y) (sym (started-is k i f.0 f.1.0 is idle r.process r.space r.alive) ∙ starts) (started-kernel k i f.0 f.1.0 is idle r.process r.space r.alive r.live r.free);
     }

@@ -1,11 +1,13 @@
 -- The kernel's own steps keep what a kernel keeps.
-use Rattle.std.proofs.Common.{true, ◌≡◌, ℕ, ◌≤◌, ◌%◌, Option, Some, None, Ok, Err, refl, ap, subst, sym, ◌∙◌}
+use Rattle.std.proofs.Common.{true, false, ◌≡◌, ℕ, ◌≤◌, ◌%◌, Option, Some, None, Ok, Err, refl, ap, subst, sym, ◌∙◌}
 use Rattle.std.specs.Prelude.{IfNone, IfSome, slice_index, unwrap_or}
 use Rattle.kernel.specs.Descriptors.{descriptors_in}
 use Rattle.kernel.specs.Kernel.{Kernel, blocked, computed, descriptors_at, left_as}
 use Rattle.tree.specs.Tree.{FileTree}
-use Rattle.kernel.specs.Sound.{IsAwaiting, IsFiled, IsKernel, IsPending, IsPlaced}
-use Rattle.kernel.proofs.Holding.{failed-filed}
+use Rattle.kernel.specs.Holding.{IsInUse}
+use Rattle.kernel.specs.Sound.{IsAwaiting, IsKernel, IsPending, IsPlaced}
+use Rattle.kernel.specs.View.{Keeps}
+use Rattle.std.proofs.lemmas.Bool.{true≢false}
 use Rattle.kernel.proofs.Leaving.{stops-kernel, waits-kernel}
 use Rattle.kernel.proofs.Runs.{IsRun, moved, moved-kernel, run-of, set-slot}
 use Rattle.kernel.proofs.Running.{live, not-killed, runs-mode}
@@ -30,13 +32,16 @@ block-keeps k i w is active z a pending for =
     let held : view_at k.spaces i ≡ run.1.0 = ap (λ o. unwrap_or o no_pages) run.1.1.space in
     waits-kernel k i run.0 run.1.0 run.1.1 is z a w (rw (held, ap descriptors_in run.1.1.process) at pending) (rw (ap descriptors_in run.1.1.process) at for)
 
--- where the device fails none runs any more
-pub with-tree : (k : Kernel) (t : FileTree) → IsKernel k → IsFiled t k.files k.table.places k.spaces.active → IsKernel (record k { tree = t })
-with-tree k t is filed = record { all = is.all; spaces = is.spaces; stands = is.stands; runs = is.runs; fits = is.fits; opened = is.opened; filed = filed }
+-- other files, which are in use while no access of the device has failed
+pub with-tree : {k : Kernel} → IsKernel k → (t : FileTree) → (t.failed ≡ false → IsInUse t k.files k.table.places) → IsKernel (record k { tree = t })
+with-tree is t used = record { all = is.all; spaces = is.spaces; stands = is.stands; runs = is.runs; fits = is.fits; opened = is.opened; used = used }
 
-pub fail-keeps : (k now : Kernel) (i : ℕ) (t : FileTree) → k ≡ now → IsKernel now → now.spaces.active ≡ Some i → slice_index now.spaces.registers 0 ≡ 0 → now.spaces.pc % 4 ≡ 0 → t.failed ≡ true → IsKernel (record (left_as k i Ready) { tree = t })
-fail-keeps k now i t same is active z a down =
-    with-tree (left_as k i Ready) t (subst (λ (x : Kernel). IsKernel (left_as x i Ready)) (sym same) (stop-keeps now i is active z a)) (failed-filed k.files (left_as k i Ready).table.places down)
+-- an access has failed
+pub fail-kernel : {k : Kernel} → IsKernel k → (t : FileTree) → t.failed ≡ true → IsKernel (record k { tree = t })
+fail-kernel is t down = with-tree is t (λ up. absurd (true≢false (sym down ∙ up)))
+
+pub fail-keeps : {k : Kernel} → Keeps k → (t : FileTree) → t.failed ≡ true → Keeps (record k { tree = t })
+fail-keeps keeps t down = record { sound = fail-kernel keeps.sound t down; watched = keeps.watched }
 
 -- ---- an instruction
 

@@ -40,7 +40,7 @@ state-waking k awake = go k.spaces.active where
   go (Some i) = refl
 
 pub kernel-waking : {k : Kernel} → IsKernel k → (awake : List Bool) → IsKernel (waking k awake)
-kernel-waking is awake = record { all = is.all; spaces = is.spaces; stands = is.stands; runs = is.runs; fits = is.fits; opened = is.opened; filed = is.filed }
+kernel-waking is awake = record { all = is.all; spaces = is.spaces; stands = is.stands; runs = is.runs; fits = is.fits; opened = is.opened; used = is.used }
 
 -- a kernel that is one but for its mask
 pub state-but : {new : Kernel} (k : Kernel) → new ≡ waking k new.table.awake → state_of new ≡ state_of k
@@ -52,7 +52,7 @@ pub typed-keeps : {k : Kernel} → Keeps k → (console : Console) → Keeps (re
 typed-keeps keeps console =
     let is = keeps.sound in
     record {
-      sound = record { all = is.all; spaces = is.spaces; stands = is.stands; runs = is.runs; fits = is.fits; opened = is.opened; filed = is.filed };
+      sound = record { all = is.all; spaces = is.spaces; stands = is.stands; runs = is.runs; fits = is.fits; opened = is.opened; used = is.used };
       watched = watched-bytes keeps.watched _ refl;
     }
 
@@ -60,7 +60,7 @@ pub ticked-keeps : {k : Kernel} → Keeps k → (now : ℕ) → Keeps (record k 
 ticked-keeps keeps now =
     let is = keeps.sound in
     record {
-      sound = record { all = is.all; spaces = is.spaces; stands = is.stands; runs = is.runs; fits = is.fits; opened = is.opened; filed = is.filed };
+      sound = record { all = is.all; spaces = is.spaces; stands = is.stands; runs = is.runs; fits = is.fits; opened = is.opened; used = is.used };
       watched = watched-ticks keeps.watched now;
     }
 
@@ -102,7 +102,7 @@ executes-pipes s new (Some at) i (Some t) active done trap = ap (λ (x : Spaces)
 pub table-kernel : {k : Kernel} → IsKernel k → (t : Places) → t.places ≡ k.table.places → IsKernel (record k { table = t })
 table-kernel {k} is t same =
     let s = subst (λ (os : List (Option Process)). IsKernel (record k { table = record k.table { places = os } })) (sym same) is in
-    record { all = s.all; spaces = s.spaces; stands = s.stands; runs = s.runs; fits = s.fits; opened = s.opened; filed = s.filed }
+    record { all = s.all; spaces = s.spaces; stands = s.stands; runs = s.runs; fits = s.fits; opened = s.opened; used = s.used }
 
 pub picked-places : (old new : Places) (result : Option ℕ) → IfSome result (λ i. new ≡ record old { last = i; awake = new.awake }) → IfNone result (new ≡ record old { awake = new.awake }) → new.places ≡ old.places
 picked-places old new None picked none = ap (λ (t : Places). t.places) none

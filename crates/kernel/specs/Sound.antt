@@ -24,7 +24,6 @@ use Rattle.unixmodel.specs.OpenFiles as unix
 use Rattle.unixmodel.specs.OpenFiles.Target.{OnNode, OnPipe}
 use Rattle.unixmodel.specs.Outcome.{no_descriptors, pending_arg}
 use Rattle.unixmodel.specs.Process.{is_zombie_mode}
-use Rattle.tree.specs.Tree.{FileTree}
 use Rattle.unixmodel.specs.State.{holds}
 
 -- a status can be written there: at no address, or in 4 bytes that may be written
@@ -153,13 +152,6 @@ pub record IsOpened (files : List (Option Counted)) (pipes : List (Option (List 
   pub piped : IsPiped pipes (opens_of files)
   pub waits : (i : ℕ) → WaitsWell files (slot places i)
 
--- ---- files
-
--- a process runs only while no access of the device has failed; until then the files are in use
-pub record IsFiled (t : FileTree) (opens : List (Option Counted)) (places : List (Option Process)) (active : Option ℕ) : Type 0 where
-  pub up : (i : ℕ) → active ≡ Some i → t.failed ≡ false
-  pub used : t.failed ≡ false → IsInUse t opens places
-
 -- ---- the kernel
 
 pub record IsKernel (k : Kernel) : Type 0 where
@@ -170,7 +162,8 @@ pub record IsKernel (k : Kernel) : Type 0 where
   pub runs : (i : ℕ) → holds is_running (slot k.table.places i) ≡ is_at i k.spaces.active
   pub fits : taken_frames k.spaces ≤ k.spaces.frames
   pub opened : IsOpened k.files k.spaces.pipes k.table.places
-  pub filed : IsFiled k.tree k.files k.table.places k.spaces.active
+  -- while no access of the device has failed
+  pub used : k.tree.failed ≡ false → IsInUse k.tree k.files k.table.places
 
 -- a process that may run: it has not ended, and is not killed
 abbrev pub CanRun : Option Process → Type 0
@@ -184,9 +177,10 @@ IsAlive None = ⊥
 IsAlive (Some p) = lives p ≡ true
 
 abbrev pub CanEndIn : Kernel → ℕ → Option ℕ → Type 0
-CanEndIn k i None = IsAlive (slot k.table.places i) × (k.tree.failed ≡ false)
+CanEndIn k i None = IsAlive (slot k.table.places i)
 CanEndIn k i (Some j) = j ≡ i
 
--- process i runs; or none runs, it has not ended, and no access of the device has failed
-abbrev pub CanEnd : Kernel → ℕ → Type 0
-CanEnd k i = CanEndIn k i k.spaces.active
+-- no access of the device has failed, and process i runs; or none runs, and it has not ended
+pub record CanEnd (k : Kernel) (i : ℕ) : Type 0 where
+  pub up : k.tree.failed ≡ false
+  pub can : CanEndIn k i k.spaces.active

@@ -3,7 +3,7 @@ ghost use Rattle.std.specs.Prelude.{false, ◌≡◌, ◌≢◌, ◌+◌, ◌++�
 ghost use Rattle.std.specs.Prelude.{if◌then◌else◌, ◌==◌, option_map, OnOk, OnErr, Ok, Err};
 ghost use Rattle.std.specs.Io.KnownBytes.{Appends};
 ghost use Rattle.std.specs.Option.{option_copied};
-ghost use Rattle.kernel.specs.Kernel.{answered, argument, begun, blocked, descriptors_at, entered, idle, left_as, loaded, marked, on_hart, picked, started, state_of, ticked, typed, waking, Executes, HasEnded, left_in};
+ghost use Rattle.kernel.specs.Kernel.{answered, argument, begun, blocked, descriptors_at, entered, idle, left_as, loaded, marked, on_hart, picked, started, state_of, ticked, typed, waking, Executes, HasEnded};
 ghost use Rattle.kernel.specs.Sound.{CanRun, IsAwaiting, IsKernel, IsPending, can_answer};
 ghost use Rattle.kernel.specs.Sound.{CanEnd};
 ghost use Rattle.kernel.specs.Ready.{awaited, seen};
@@ -24,7 +24,6 @@ ghost use Rattle.unixmodel.specs.Memory.{can_write, reach, read_bytes};
 ghost use Rattle.unixmodel.specs.declared.trap.Access.TheVariants.{Load};
 ghost use Rattle.vm.specs.Reach.{piece_at};
 ghost use Rattle.unixmodel.specs.Turn.{ready, turn};
-ghost use Rattle.unixmodel.specs.declared.process.Mode.TheVariants.{Ready};
 
 mod duplicate;
 mod idle;
@@ -84,23 +83,6 @@ fn halted_after(pid: u32, status: i32, halted: Option<i32>) -> Option<i32>
     ensures { result ≡ (if pid == 1 then Some status else halted) }
 {
     if pid == 1 { Some(status) } else { halted }
-}
-
-// The process that ran, in a place, runs no more.
-fn leave<T: Translate + Drop>(table: &mut Table, spaces: &mut Spaces<T>, at: usize, mode: Mode)
-    ensures table { table.new ≡ left_in table.old spaces.old at mode }
-    ensures spaces { spaces.new ≡ idle spaces.old }
-{
-    table.leave(at, spaces.registers(), spaces.pc(), mode);
-    spaces.deactivate();
-}
-
-/// The process that ran, in a place, runs no more, and is ready: for a call that a failed access of the device broke off.
-pub fn stop<T: Translate + Drop>(table: &mut Table, spaces: &mut Spaces<T>, at: usize)
-    ensures table { table.new ≡ left_in table.old spaces.old at Ready }
-    ensures spaces { spaces.new ≡ idle spaces.old }
-{
-    leave(table, spaces, at, Mode::Ready);
 }
 
 // The process of a place ends: its descriptors are closed, who may wait for that is woken, and none runs. The nodes that it held are
@@ -274,7 +256,9 @@ impl<D: BlockDev, T: Translate + Drop> Kernel<D, T> {
         requires watched { Watches (left_as self.old at mode) }
         ensures { self.new ≡ left_as self.old at mode }
     {
-        leave(&mut self.table, &mut self.spaces, at, mode);
+        self.table
+            .leave(at, self.spaces.registers(), self.spaces.pc(), mode);
+        self.spaces.deactivate();
     }
 
     /// The running process waits.
@@ -300,7 +284,7 @@ impl<D: BlockDev, T: Translate + Drop> Kernel<D, T> {
         }
     }
 
-    /// The running process ends with this status, or a process where none runs. Where an access of the device fails, none runs.
+    /// The running process ends with this status, or a process where none runs; also where an access of the device fails.
     #[inline(never)]
     pub fn finish(&mut self, at: usize, status: i32) -> Result<(), DeviceFault>
         requires { CanEnd self.old at }
@@ -348,7 +332,6 @@ impl<D: BlockDev, T: Translate + Drop> Kernel<D, T> {
     /// A process runs, where none did.
     pub fn start(&mut self, at: usize)
         requires idle { self.old.spaces.active ≡ None }
-        requires up { self.old.tree.failed ≡ false }
         requires can { CanRun (slot self.old.table.places at) }
         ensures { self.new ≡ waking (started self.old at) self.new.table.awake }
     {

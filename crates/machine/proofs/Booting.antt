@@ -182,7 +182,7 @@ module _ (old tree : FileTree) (unheld : IsUnheld old) (same : tree ≡ record o
     runs = one-rests (first_of new) refl;
     fits = rw (taken-alone frames (view_by new)) fits;
     opened = init-opened new;
-    filed = record { up = λ i e. absurd (cc); used = λ up. init-used new };
+    used = λ up. init-used new;
   }
 
 pub table-init : (new : Plan) → seated (record { places = free_slots 64; last = 63; next_pid = 1; awake = all_in 64 }) (first_of new) (record { place = 0; pid = 1 }) ≡ first_places new

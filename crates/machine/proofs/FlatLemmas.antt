@@ -5,7 +5,7 @@ use Rattle.files.specs.Meant.{file_of}
 use Rattle.kernel.specs.Holding.{FitsNode, IsFolder, IsInUse, files_on, home_in, homes_at, node_in, node_of, node_on}
 use Rattle.kernel.specs.Descriptors.{IsCounted, named_by, names_in}
 use Rattle.kernel.specs.Kernel.{memory_in, state_of}
-use Rattle.kernel.specs.Sound.{IsFiled, IsKernel, IsLive, IsOpenFile, IsOpened, IsPlace, IsPlaced, WaitsWell}
+use Rattle.kernel.specs.Sound.{IsKernel, IsLive, IsOpenFile, IsOpened, IsPlace, IsPlaced, WaitsWell}
 use Rattle.files.specs.Counts.{names, one_in}
 use Rattle.files.proofs.CountsLemmas.{names-free}
 use Rattle.files.specs.declared.file.OpenFile.{OpenFile}
@@ -259,9 +259,6 @@ first-used tree flat size = record {
   homes = first-homes tree flat size;
 }
 
-first-filed : (tree : FileTree) → IsFlat tree → (size : ℕ) → IsFiled (first_tree tree) first_files (first_table size).places None
-first-filed tree flat size = record { up = λ i e. absurd (cc); used = λ up. first-used tree flat size }
-
 -- what the holds ask for
 pub hold-root : (tree : FileTree) → IsFlat tree → slot tree.files 1 ≢ None
 unfolding flat_files free_slots
@@ -285,7 +282,7 @@ first-sound tree flat frames h fits = record {
   runs = one-rests (first h.size) refl;
   fits = rw (taken-alone frames h) fits;
   opened = first-opened h.size;
-  filed = first-filed tree flat h.size;
+  used = λ up. first-used tree flat h.size;
 }
 
 pub table-first : (size : ℕ) → seated (record { places = free_slots 64; last = 63; next_pid = 1; awake = all_in 64 }) (first size) (record { place = 0; pid = 1 }) ≡ first_table size

@@ -2,13 +2,9 @@
 use Rattle.calls.specs.declared.halt.Halt.{Halt}
 use Rattle.calls.specs.declared.halt.Halt.TheVariants.{Console, Device, Halted, InitEnded}
 use Rattle.inode.specs.declared.InodeStat.{InodeStat}
-use Rattle.kernel.specs.Kernel.{on_hart}
 use Rattle.machine.specs.declared.inodes.Stat.{Stat}
 use Rattle.machine.specs.View.{View}
-use Rattle.proc.specs.Places.{Places, changed, with_mode}
-use Rattle.spaces.specs.Spaces.{Spaces}
 use Rattle.std.specs.Prelude.{Err, List, None, Ok, Option, Result, Some, drop, false, length, true, ℕ, ◌++◌, ◌≡◌, ◌≤◌}
-use Rattle.unixmodel.specs.declared.process.Mode.TheVariants.{Ready}
 use Rattle.unixmodel.specs.Failures.{Rises}
 use Rattle.unixmodel.specs.Shown as shown
 use Rattle.unixmodel.specs.State.{State}
@@ -60,10 +56,3 @@ LookGives old new Tells (Err Device) = IsLost old new
 LookGives old new Tells (Err Halted) = HasStopped old new
 LookGives old new Tells (Err (InitEnded status)) = ⊥
 LookGives old new Tells (Err Console) = ⊥
-
--- ---- the running process
-
--- the table of a kernel whose process in this place, if there is one, runs no more
-abbrev pub stopped_in : Places → Spaces → Option ℕ → Places
-stopped_in t s None = t
-stopped_in t s (Some i) = changed t i (λ p. with_mode Ready (on_hart s p))

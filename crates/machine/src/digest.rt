@@ -4,7 +4,6 @@ ghost use Rattle.calls.specs.Reads.{ReadsDisk};
 ghost use Rattle.digests.specs.Digest.{digest_of};
 ghost use Rattle.kernel.specs.Kernel.{state_of};
 
-use crate::inodes::stop_running;
 use blockdev::{BlockDev, DeviceFault};
 use calls::Kernel;
 use digests::{digest_but_files, mix_files};
@@ -17,13 +16,6 @@ pub fn digest_kernel<D: BlockDev, T: Translate + Drop>(
     requires { kernel.old.tree.failed ≡ false }
     ensures { ReadsDisk kernel.old kernel.new (λ digest. digest ≡ digest_of (state_of kernel.old)) result }
 {
-    kernel.is_sound();
     let but_files = digest_but_files(kernel);
-    match mix_files(but_files, &mut kernel.tree) {
-        Ok(digest) => Ok(digest),
-        Err(fault) => {
-            stop_running(&mut kernel.table, &mut kernel.spaces);
-            Err(fault)
-        }
-    }
+    mix_files(but_files, &mut kernel.tree)
 }

@@ -1,7 +1,7 @@
-use Rattle.calls.proofs.Acts.{begins}
+use Rattle.calls.proofs.Acts.{begins, runs-of}
 use Rattle.calls.proofs.calls.begin.Goals as goal
 
 pub returns : goal.returns
 returns g c =
     let s = c.is_sound.ensures in
-    begins c.args.kernel.now c.enter.new.self c.args.at c.enter.ensures (record { active = c.requires; sound = s.sound; zero = s.zero; aligned = s.aligned })
+    begins c.args.kernel.now c.enter.new.self c.args.at c.enter.ensures (runs-of c.requires.running c.requires.up s.sound s.zero s.aligned)

@@ -1,10 +1,11 @@
 use Rattle.std.proofs.Common.{ap, sym, ◌∙◌, None, refl}
+use Rattle.std.proofs.lemmas.Result.{err_from_is_err_and}
 use Rattle.kernel.specs.View.{kernel_of}
 use Rattle.kernel.specs.Watch.{awaited_of}
 use Rattle.kernel.proofs.Watching.{watched-bytes, watched-running}
 use Rattle.kernel.proofs.Wakes.{kernel-waking}
 use Rattle.proc.specs.Places.{with_descriptor}
-use Rattle.calls.proofs.Woken.{comes-waking, running-now, still-runs, watched-stop}
+use Rattle.calls.proofs.Woken.{comes-waking, running-now}
 use Rattle.calls.proofs.Closes.{close-fails, close-node, close-unnamed, close-up, closes-none, closes-some, closing_to}
 use Rattle.calls.proofs.Served.{tree-lost}
 use Rattle.unixmodel.specs.Numbers.{low}
@@ -19,29 +20,28 @@ drop_hold-requires g c =
     record { up = close-up c.args.kernel.now c.args.at c.requires (kernel_of c.kernel.inside) c.kernel.view_is c.low-descriptor.result c.in-Some.id c.from.result c.argument.result c.low-descriptor.ensures c.argument.ensures c.in-Some.ensures.named c.from.ensures; node = held.0; some = held.1.0 }
 
 -- an access failed
-pub invariant_of-kernel : goal.invariant_of-kernel
-invariant_of-kernel g c =
-    let runs = running-now c.args.at c.kernel.view_is c.requires in
-    let name = with_descriptor c.low-descriptor.result None in
-    rw (c.stop.ensures.table, c.stop.ensures.spaces, c.wakeup.ensures, c.close-gone.ensures.pipes, c.close-gone.ensures.files, c.set_descriptor.ensures)
-    (record {
-      sound = kernel-waking (close-fails c.args.kernel.now c.args.at c.requires (kernel_of c.kernel.inside) c.kernel.view_is c.low-descriptor.result c.in-Some.id c.from.result c.argument.result c.low-descriptor.ensures c.argument.ensures c.in-Some.ensures.named c.from.ensures c.in-Some-gone.node c.in-Some-gone.ensures.node c.drop_hold.new.self c.drop_hold.result c.drop_hold.ensures c.in-Err.fault c.in-Err.is) _;
-      watched = watched-stop (watched-bytes (watched-running c.kernel.invariant.watched c.args.at name runs (λ p pid is. is)) (awaited_of (closing_to (kernel_of c.kernel.inside) c.args.at c.low-descriptor.result c.from.result c.kernel.inside.tree)) refl) c.kernel.inside.spaces c.args.at (still-runs name (λ p. refl) c.kernel.inside.table.places c.args.at runs);
-    })
-
-pub returns-in-Err : goal.returns-in-Err
-returns-in-Err g c = tree-lost c.kernel.view_is c.drop_hold.result c.in-Err.fault c.in-Err.is c.drop_hold.ensures
-
--- the node was let go
-pub invariant_of-kernel-in_default-drop_hold : goal.invariant_of-kernel-in_default-drop_hold
-invariant_of-kernel-in_default-drop_hold g c =
+pub invariant_of-kernel-in_err-drop_hold : goal.invariant_of-kernel-in_err-drop_hold
+invariant_of-kernel-in_err-drop_hold g c =
     rw (c.wakeup.ensures, c.close-gone.ensures.pipes, c.close-gone.ensures.files, c.set_descriptor.ensures) (record {
-      sound = kernel-waking (closes-some c.args.kernel.now c.args.at c.requires (kernel_of c.kernel.inside) c.kernel.view_is c.low-descriptor.result c.in-Some.id c.from.result c.argument.result c.low-descriptor.ensures c.argument.ensures c.in-Some.ensures.named c.from.ensures c.in-Some-gone.node c.in-Some-gone.ensures.node c.drop_hold.new.self c.drop_hold.result c.drop_hold.ensures _ c.in_default-drop_hold.is).sound _;
+      sound = kernel-waking (close-fails c.args.kernel.now c.args.at c.requires (kernel_of c.kernel.inside) c.kernel.view_is c.low-descriptor.result c.in-Some.id c.from.result c.argument.result c.low-descriptor.ensures c.argument.ensures c.in-Some.ensures.named c.from.ensures c.in-Some-gone.node c.in-Some-gone.ensures.node c.drop_hold.new.self c.drop_hold.result c.drop_hold.ensures _ c.in_err-drop_hold.was) _;
       watched = watched-bytes (watched-running c.kernel.invariant.watched c.args.at (with_descriptor c.low-descriptor.result None) (running-now c.args.at c.kernel.view_is c.requires) (λ p pid is. is)) (awaited_of (closing_to (kernel_of c.kernel.inside) c.args.at c.low-descriptor.result c.from.result c.kernel.inside.tree)) refl;
     })
 
-pub returns-in_default-drop_hold : goal.returns-in_default-drop_hold
-returns-in_default-drop_hold g c = rw (c.wakeup.ensures, c.close-gone.ensures.pipes, c.close-gone.ensures.files, c.set_descriptor.ensures) (comes-waking (closes-some c.args.kernel.now c.args.at c.requires (kernel_of c.kernel.inside) c.kernel.view_is c.low-descriptor.result c.in-Some.id c.from.result c.argument.result c.low-descriptor.ensures c.argument.ensures c.in-Some.ensures.named c.from.ensures c.in-Some-gone.node c.in-Some-gone.ensures.node c.drop_hold.new.self c.drop_hold.result c.drop_hold.ensures _ c.in_default-drop_hold.is) _)
+pub returns-in_err-drop_hold : goal.returns-in_err-drop_hold
+returns-in_err-drop_hold g c =
+    let e = err_from_is_err_and c.from_residual.result c.from_residual.ensures.1 in
+    rw e.1 (tree-lost c.kernel.view_is c.drop_hold.result _ c.in_err-drop_hold.was c.drop_hold.ensures)
+
+-- the node was let go
+pub invariant_of-kernel : goal.invariant_of-kernel
+invariant_of-kernel g c =
+    rw (c.wakeup.ensures, c.close-gone.ensures.pipes, c.close-gone.ensures.files, c.set_descriptor.ensures) (record {
+      sound = kernel-waking (closes-some c.args.kernel.now c.args.at c.requires (kernel_of c.kernel.inside) c.kernel.view_is c.low-descriptor.result c.in-Some.id c.from.result c.argument.result c.low-descriptor.ensures c.argument.ensures c.in-Some.ensures.named c.from.ensures c.in-Some-gone.node c.in-Some-gone.ensures.node c.drop_hold.new.self c.drop_hold.result c.drop_hold.ensures _ c.in_ok-drop_hold.was).sound _;
+      watched = watched-bytes (watched-running c.kernel.invariant.watched c.args.at (with_descriptor c.low-descriptor.result None) (running-now c.args.at c.kernel.view_is c.requires) (λ p pid is. is)) (awaited_of (closing_to (kernel_of c.kernel.inside) c.args.at c.low-descriptor.result c.from.result c.kernel.inside.tree)) refl;
+    })
+
+pub returns-in_ok-drop_hold : goal.returns-in_ok-drop_hold
+returns-in_ok-drop_hold g c = rw (c.wakeup.ensures, c.close-gone.ensures.pipes, c.close-gone.ensures.files, c.set_descriptor.ensures) (comes-waking (closes-some c.args.kernel.now c.args.at c.requires (kernel_of c.kernel.inside) c.kernel.view_is c.low-descriptor.result c.in-Some.id c.from.result c.argument.result c.low-descriptor.ensures c.argument.ensures c.in-Some.ensures.named c.from.ensures c.in-Some-gone.node c.in-Some-gone.ensures.node c.drop_hold.new.self c.drop_hold.result c.drop_hold.ensures _ c.in_ok-drop_hold.was) _)
 
 -- no node goes
 pub invariant_of-kernel-in_default-gone : goal.invariant_of-kernel-in_default-gone

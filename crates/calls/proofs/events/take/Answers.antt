@@ -6,6 +6,9 @@ use Rattle.calls.proofs.Takes.{ends-if, takes-killed, takes-ready, takes-waiting
 use Rattle.std.proofs.Common.{ap, negsuc, sym, ◌∙◌}
 use Rattle.calls.proofs.events.take.Goals as goal
 
+pub finish-requires : goal.finish-requires
+finish-requires g c = record { up = c.requires.up; can = rw c.requires.idle c.requires.alive }
+
 pub returns-then-process-clause-gives : goal.returns-then-process-clause-gives
 returns-then-process-clause-gives g c =
     let s = c.is_sound.ensures in

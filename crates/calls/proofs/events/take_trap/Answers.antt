@@ -11,12 +11,15 @@ returns-then-is_call-clause-gives g c =
     let s = c.is_sound.ensures in
     rw (step-calls c.args.kernel.now c.args.at s.sound c.requires.running s.zero s.aligned c.args.trap c.requires.traps (sym c.if-is_call.ensures)) c.call.ensures.gives
 
+pub finish-requires : goal.finish-requires
+finish-requires g c = record { up = c.requires.up; can = rw c.requires.running refl }
+
 pub returns-clause-gives : goal.returns-clause-gives
 returns-clause-gives g c =
     let k = c.args.kernel.now in
     let s = c.is_sound.ensures in
     let told = ok-told _ c.finish.result _ c.in_ok-finish.was c.finish.ensures.told in
-    let e = step-faults k c.args.at s.sound c.requires.running s.zero s.aligned c.args.trap c.requires.traps (sym c.if-is_call.ensures) k refl in
+    let e = step-faults k c.args.at s.sound c.requires.running c.requires.up s.zero s.aligned c.args.trap c.requires.traps (sym c.if-is_call.ensures) k refl in
     made-quiet c.finish.new.self _ (g.W.Out.contents c.args.console.now) (e ∙ ap quiet (sym (ended-told k c.finish.new.self c.args.at (negsuc 0) (negsuc 0) refl told)))
 
 pub returns-in_err-finish : goal.returns-in_err-finish

@@ -3,7 +3,7 @@ use Rattle.kernel.proofs.Watching.{watched-running}
 use Rattle.proc.specs.Places.{with_size}
 use Rattle.spaces.specs.Spaces.{Spaces}
 use Rattle.std.proofs.Common.{ap, refl}
-use Rattle.calls.proofs.Woken.{executes-piped, running-now, still-runs, watched-piped, watched-stop}
+use Rattle.calls.proofs.Woken.{executes-piped, running-now, watched-piped}
 use Rattle.calls.proofs.Execs.{exec-aligned, exec-fails, exec-none, exec-there, execs, held-has}
 use Rattle.calls.proofs.exec_call.exec_found.Goals as goal
 
@@ -31,12 +31,9 @@ pub invariant_of-kernel-in-Err : goal.invariant_of-kernel-in-Err
 invariant_of-kernel-in-Err g c =
     let e = c.in-Err.ensures in
     let runs = running-now c.args.at c.kernel.view_is c.requires.runs in
-    let sized = with_size c.size-size.result in
-    rw (c.stop.ensures.table, c.stop.ensures.spaces, c.set_size-in-Err.ensures)
-    (record {
+    rw c.set_size-in-Err.ensures (record {
       sound = exec-fails c.args.kernel.now c.args.at c.requires.runs (kernel_of c.kernel.inside) c.kernel.view_is c.execute.new.tree e.serves.down c.execute.new.spaces e.failed.0 e.failed.1 c.frames_suffice-in-Err.ensures _ c.size-size.ensures;
-      watched = watched-stop (watched-piped (kernel_of c.kernel.inside) (watched-running c.kernel.invariant.watched c.args.at sized runs (λ p pid is. is)) c.execute.new.spaces (ap (λ (s : Spaces). s.pipes) e.failed.1)) c.execute.new.spaces c.args.at
-          (still-runs sized (λ p. refl) c.kernel.inside.table.places c.args.at runs);
+      watched = watched-piped (kernel_of c.kernel.inside) (watched-running c.kernel.invariant.watched c.args.at (with_size c.size-size.result) runs (λ p pid is. is)) c.execute.new.spaces (ap (λ (s : Spaces). s.pipes) e.failed.1);
     })
 
 pub returns-in-Ok-Some : goal.returns-in-Ok-Some

@@ -1,12 +1,9 @@
 use Rattle.kernel.specs.View.{kernel_of}
-use Rattle.calls.proofs.Served.{on-err, tree-lost}
-use Rattle.calls.proofs.Stats.{read-fails}
+use Rattle.calls.proofs.Stats.{reads-disk, reads-keep}
 use Rattle.calls.proofs.file_calls.stat.Goals as goal
 
-pub invariant_of-kernel-in-Err : goal.invariant_of-kernel-in-Err
-invariant_of-kernel-in-Err g c =
-    rw (c.stop.ensures.table, c.stop.ensures.spaces)
-    (read-fails (kernel_of c.kernel.inside) c.args.kernel.now c.kernel.view_is c.stat.new.self c.args.at c.requires.runs c.kernel.invariant.watched (on-err c.stat.result _ c.in-Err.is c.stat.ensures.down))
+pub invariant_of-kernel : goal.invariant_of-kernel
+invariant_of-kernel g c = reads-keep (kernel_of c.kernel.inside) c.stat.new.self c.stat.result c.stat.ensures (λ x told. told.0) c.kernel.invariant
 
-pub returns-in-Err : goal.returns-in-Err
-returns-in-Err g c = tree-lost c.kernel.view_is c.stat.result c.in-Err.fault c.in-Err.is c.stat.ensures
+pub returns : goal.returns
+returns g c = rw (← c.kernel.view_is) (reads-disk (kernel_of c.kernel.inside) c.stat.new.self c.stat.result c.stat.ensures (λ x told. told.0) (λ x told. told.1))

@@ -8,6 +8,11 @@ trap_once-requires-clause-running g c =
     let e = c.execute_many.ensures in
     (begun c.execute_many.result.0 c.args.kernel.now c.execute_many.new.self c.args.at (g.W.Out.contents c.args.console.now) c.is_sound.ensures.sound c.requires.running c.requires.goes c.requires.up e.done).active
 
+pub trap_once-requires-clause-up : goal.trap_once-requires-clause-up
+trap_once-requires-clause-up g c =
+    let e = c.execute_many.ensures in
+    (begun c.execute_many.result.0 c.args.kernel.now c.execute_many.new.self c.args.at (g.W.Out.contents c.args.console.now) c.is_sound.ensures.sound c.requires.running c.requires.goes c.requires.up e.done).went.served.up
+
 pub returns-in_default-None-clause-does : goal.returns-in_default-None-clause-does
 returns-in_default-None-clause-does g c =
     let k = c.args.kernel.now in

@@ -1,27 +1,24 @@
 use Rattle.std.proofs.Common.{arith}
 use Rattle.kernel.specs.View.{kernel_of}
-use Rattle.calls.proofs.Unlinks.{unlink-done, unlink-fails, unlink-pathless}
-use Rattle.calls.proofs.Names.{names-may}
+use Rattle.calls.proofs.Unlinks.{unlink-acts, unlink-pathless}
+use Rattle.calls.proofs.Names.{acts-keep, names-may}
+use Rattle.unixmodel.specs.declared.call.Call.TheVariants.{Unlink}
 use Rattle.calls.proofs.name_calls.unlink.Goals as goal
 
 pub returns-in_default : goal.returns-in_default
 returns-in_default g c = unlink-pathless c.args.kernel.now c.args.at c.requires c.in_default.ensures.path
 
 pub invariant_of-kernel : goal.invariant_of-kernel
-invariant_of-kernel g c = record { sound = (unlink-done c.args.kernel.now c.args.at c.requires c.home-directory.result c.home-directory.ensures _ c.in-Some.ensures.path c.unlink.new.self c.unlink.result (kernel_of c.kernel.inside) c.kernel.view_is c.unlink.ensures _ c.in-Ok.is c.is_whole.ensures).sound; watched = c.kernel.invariant.watched }
+invariant_of-kernel g c = acts-keep c.args.kernel.now c.args.at Unlink c.kernel.invariant _ c.named.result (unlink-acts c.args.kernel.now c.args.at c.requires c.home-directory.result c.home-directory.ensures _ c.in-Some.ensures.path c.unlink-made.new.self c.unlink-made.result (kernel_of c.kernel.inside) c.kernel.view_is c.unlink-made.ensures c.named.result c.named.ensures)
 
-pub invariant_of-kernel-in-Err : goal.invariant_of-kernel-in-Err
-invariant_of-kernel-in-Err g c = rw (c.refuse.ensures.table, c.refuse.ensures.spaces)
-    ((unlink-fails c.args.kernel.now c.args.at c.requires c.home-directory.result c.home-directory.ensures _ c.in-Some.ensures.path c.unlink.new.self c.unlink.result (kernel_of c.kernel.inside) c.kernel.view_is c.unlink.ensures).keeps c.in-Err.fault c.in-Err.is c.kernel.invariant.watched)
+pub returns : goal.returns
+returns g c = unlink-acts c.args.kernel.now c.args.at c.requires c.home-directory.result c.home-directory.ensures _ c.in-Some.ensures.path c.unlink-made.new.self c.unlink-made.result (kernel_of c.kernel.inside) c.kernel.view_is c.unlink-made.ensures c.named.result c.named.ensures
 
-pub returns-in-Ok : goal.returns-in-Ok
-returns-in-Ok g c = unlink-done c.args.kernel.now c.args.at c.requires c.home-directory.result c.home-directory.ensures _ c.in-Some.ensures.path c.unlink.new.self c.unlink.result (kernel_of c.kernel.inside) c.kernel.view_is c.unlink.ensures _ c.in-Ok.is c.is_whole.ensures
-
-pub returns-in-Err : goal.returns-in-Err
-returns-in-Err g c = rw (c.refuse.ensures.table, c.refuse.ensures.spaces) ((unlink-fails c.args.kernel.now c.args.at c.requires c.home-directory.result c.home-directory.ensures _ c.in-Some.ensures.path c.unlink.new.self c.unlink.result (kernel_of c.kernel.inside) c.kernel.view_is c.unlink.ensures).acts c.in-Err.fault c.in-Err.is c.refuse.result c.refuse.ensures.came c.refuse.ensures.failed)
-
-pub unlink-requires : goal.unlink-requires
-unlink-requires g c = let may = names-may c.args.kernel.now c.args.at c.requires (kernel_of c.kernel.inside) c.kernel.view_is c.home-directory.result c.home-directory.ensures in record { up = may.0; rules = may.1; directory = may.2 }
+pub unlink-made-requires : goal.unlink-made-requires
+unlink-made-requires g c = let may = names-may c.args.kernel.now c.args.at c.requires (kernel_of c.kernel.inside) c.kernel.view_is c.home-directory.result c.home-directory.ensures in record { up = may.0; rules = may.1; directory = may.2 }
 
 pub copy_path-requires : goal.copy_path-requires
 copy_path-requires g c = record { active = c.requires.active; place = omega arith }
+
+pub named-requires : goal.named-requires
+named-requires g c = c.unlink-made.ensures.failed

@@ -1,7 +1,6 @@
 use Rattle.std.proofs.Common.{arith}
 use Rattle.calls.proofs.Execs.{reaches}
 use Rattle.calls.proofs.Homes.{chdir-lost, chdir-pathless, read-runs}
-use Rattle.calls.proofs.Names.{names-up}
 use Rattle.calls.proofs.Opens.{after-look}
 use Rattle.calls.proofs.Served.{err-lost}
 use Rattle.calls.proofs.Stats.{reads-ok}
@@ -29,4 +28,4 @@ pub returns-in_err-number : goal.returns-in_err-number
 returns-in_err-number g c = err-lost c.args.kernel.now _ c.args.at Chdir c.from_residual.result c.from_residual.ensures.0 c.in_err-number.ensures
 
 pub returns : goal.returns
-returns g c = after-look c.args.kernel.now _ _ c.args.at (reads-ok _ c.find.result _ c.in_ok-number.was c.find.ensures).0 (names-up c.args.kernel.now c.args.at c.requires) Chdir _ c.chdir_found.ensures
+returns g c = after-look c.args.kernel.now _ _ c.args.at (reads-ok _ c.find.result _ c.in_ok-number.was c.find.ensures).0 c.requires.up Chdir _ c.chdir_found.ensures

@@ -1,6 +1,5 @@
 use Rattle.std.proofs.Common.{ap, arith, ◌∙◌}
 use Rattle.calls.proofs.Homes.{read-runs}
-use Rattle.calls.proofs.Names.{names-up}
 use Rattle.calls.proofs.Opens.{after-look, asked, open-pathless}
 use Rattle.calls.proofs.Served.{err-lost}
 use Rattle.calls.proofs.Stats.{reads-ok}
@@ -31,7 +30,7 @@ open_new-requires g c =
     record { runs = read-runs c.args.kernel.now _ c.args.at reads.0 c.requires; asks = asked c.args.at _ _ _ reads c.in-Some.ensures.path (c.low-flags.ensures ∙ ap low c.argument.ensures) _ c.in-None.is; path = c.in-Some.ensures.bytes }
 
 pub returns-in-Some-2 : goal.returns-in-Some-2
-returns-in-Some-2 g c = after-look c.args.kernel.now _ _ c.args.at (reads-ok _ c.find.result _ c.in_ok-number.was c.find.ensures).0 (names-up c.args.kernel.now c.args.at c.requires) Open _ c.open_found.ensures
+returns-in-Some-2 g c = after-look c.args.kernel.now _ _ c.args.at (reads-ok _ c.find.result _ c.in_ok-number.was c.find.ensures).0 c.requires.up Open _ c.open_found.ensures
 
 pub returns-in-None : goal.returns-in-None
-returns-in-None g c = after-look c.args.kernel.now _ _ c.args.at (reads-ok _ c.find.result _ c.in_ok-number.was c.find.ensures).0 (names-up c.args.kernel.now c.args.at c.requires) Open _ c.open_new.ensures
+returns-in-None g c = after-look c.args.kernel.now _ _ c.args.at (reads-ok _ c.find.result _ c.in_ok-number.was c.find.ensures).0 c.requires.up Open _ c.open_new.ensures

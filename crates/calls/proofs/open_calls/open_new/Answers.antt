@@ -1,7 +1,8 @@
 use Rattle.std.proofs.Common.{refl, sym}
 use Rattle.kernel.specs.View.{kernel_of}
-use Rattle.calls.proofs.Names.{names-may}
+use Rattle.calls.proofs.Names.{acts-keep, names-may}
 use Rattle.calls.proofs.Opens.{create-fails, created-openable, created-runs, created-seat, open-absent, open-created, open-new-full}
+use Rattle.unixmodel.specs.declared.call.Call.TheVariants.{Open}
 use Rattle.calls.proofs.open_calls.open_new.Goals as goal
 
 pub returns-then-not-creates : goal.returns-then-not-creates
@@ -21,14 +22,13 @@ open_on-descriptor-requires g c = record {
 }
 
 pub invariant_of-kernel-in-Err : goal.invariant_of-kernel-in-Err
-invariant_of-kernel-in-Err g c = rw (c.refuse.ensures.table, c.refuse.ensures.spaces)
-    ((create-fails c.args.kernel.now c.args.at c.requires.runs c.args.path.now c.args.flags c.requires.asks (sym c.if-not-creates.ensures) c.home-directory.result c.home-directory.ensures c.create.new.self c.create.result (kernel_of c.kernel.inside) c.kernel.view_is c.create.ensures).keeps c.in-Err.fault c.in-Err.is c.kernel.invariant.watched)
+invariant_of-kernel-in-Err g c = acts-keep c.args.kernel.now c.args.at Open c.kernel.invariant _ c.refuse.result (create-fails c.args.kernel.now c.args.at c.requires.runs c.args.path.now c.args.flags c.requires.asks (sym c.if-not-creates.ensures) c.home-directory.result c.home-directory.ensures c.create.new.self c.create.result (kernel_of c.kernel.inside) c.kernel.view_is c.create.ensures c.in-Err.fault c.in-Err.is c.refuse.result c.refuse.ensures)
 
 pub returns-in-Ok : goal.returns-in-Ok
 returns-in-Ok g c = open-created c.args.kernel.now c.args.at c.requires.runs c.args.path.now c.args.flags c.requires.asks (sym c.if-not-creates.ensures) c.home-directory.result c.home-directory.ensures c.create.new.self c.create.result (kernel_of c.kernel.inside) c.kernel.view_is c.create.ensures c.requires.path c.in-Ok.number c.in-Ok.is c.is_whole.ensures c.open_on-descriptor.new.kernel c.open_on-descriptor.result c.open_on-descriptor.ensures
 
 pub returns-in-Err : goal.returns-in-Err
-returns-in-Err g c = rw (c.refuse.ensures.table, c.refuse.ensures.spaces) ((create-fails c.args.kernel.now c.args.at c.requires.runs c.args.path.now c.args.flags c.requires.asks (sym c.if-not-creates.ensures) c.home-directory.result c.home-directory.ensures c.create.new.self c.create.result (kernel_of c.kernel.inside) c.kernel.view_is c.create.ensures).acts c.in-Err.fault c.in-Err.is c.refuse.result c.refuse.ensures.came c.refuse.ensures.failed)
+returns-in-Err g c = create-fails c.args.kernel.now c.args.at c.requires.runs c.args.path.now c.args.flags c.requires.asks (sym c.if-not-creates.ensures) c.home-directory.result c.home-directory.ensures c.create.new.self c.create.result (kernel_of c.kernel.inside) c.kernel.view_is c.create.ensures c.in-Err.fault c.in-Err.is c.refuse.result c.refuse.ensures
 
 pub create-requires : goal.create-requires
 create-requires g c = let may = names-may c.args.kernel.now c.args.at c.requires.runs (kernel_of c.kernel.inside) c.kernel.view_is c.home-directory.result c.home-directory.ensures in record { up = may.0; rules = may.1; directory = may.2; path = c.requires.path }

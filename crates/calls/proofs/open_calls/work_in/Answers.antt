@@ -1,8 +1,9 @@
 use Rattle.std.proofs.Common.{arith, refl}
+use Rattle.std.proofs.lemmas.Result.{err_from_is_err_and}
 use Rattle.kernel.specs.View.{kernel_of}
 use Rattle.kernel.proofs.Watching.{watched-running}
 use Rattle.proc.specs.Places.{with_directory}
-use Rattle.calls.proofs.Woken.{running-now, still-runs, watched-stop}
+use Rattle.calls.proofs.Woken.{running-now}
 use Rattle.calls.proofs.Homes.{chdir-fails, chdir-few, chdir-fits, chdir-gone, chdir-held, chdir-hold, chdirs}
 use Rattle.calls.proofs.open_calls.work_in.Goals as goal
 
@@ -20,24 +21,22 @@ drop_hold-requires-clause-some g c = chdir-held c.args.kernel.now c.args.at c.re
 
 pub invariant_of-kernel : goal.invariant_of-kernel
 invariant_of-kernel g c =
-    let runs = running-now c.args.at c.kernel.view_is c.requires.runs in
-    rw (c.stop.ensures.table, c.stop.ensures.spaces, c.set_directory.ensures)
-    (record {
-      sound = chdir-fails c.args.kernel.now c.args.at c.requires.runs c.args.number c.requires.reaches c.requires.directory (kernel_of c.kernel.inside) c.kernel.view_is c.is_whole.ensures c.home-left.result c.home-left.ensures c.hold.new.self c.hold.ensures c.drop_hold.new.self c.drop_hold.result c.drop_hold.ensures c.in-Err.fault c.in-Err.is;
-      watched = watched-stop (watched-running c.kernel.invariant.watched c.args.at (with_directory c.args.number) runs (λ p pid is. is)) c.kernel.inside.spaces c.args.at
-          (still-runs (with_directory c.args.number) (λ p. refl) c.kernel.inside.table.places c.args.at runs);
+    rw c.set_directory.ensures (record {
+      sound = chdir-fails c.args.kernel.now c.args.at c.requires.runs c.args.number c.requires.reaches c.requires.directory (kernel_of c.kernel.inside) c.kernel.view_is c.is_whole.ensures c.home-left.result c.home-left.ensures c.hold.new.self c.hold.ensures c.drop_hold.new.self c.drop_hold.result c.drop_hold.ensures _ c.in_err-drop_hold.was;
+      watched = watched-running c.kernel.invariant.watched c.args.at (with_directory c.args.number) (running-now c.args.at c.kernel.view_is c.requires.runs) (λ p pid is. is);
     })
 
-pub invariant_of-kernel-in_default : goal.invariant_of-kernel-in_default
-invariant_of-kernel-in_default g c =
-    let runs = running-now c.args.at c.kernel.view_is c.requires.runs in
+pub invariant_of-kernel-2 : goal.invariant_of-kernel-2
+invariant_of-kernel-2 g c =
     rw c.set_directory.ensures (record {
-      sound = (chdirs c.args.kernel.now c.args.at c.requires.runs c.args.number c.requires.reaches c.requires.directory (kernel_of c.kernel.inside) c.kernel.view_is c.is_whole.ensures c.home-left.result c.home-left.ensures c.hold.new.self c.hold.ensures c.drop_hold.new.self c.drop_hold.result c.drop_hold.ensures _ c.in_default.is).sound;
-      watched = watched-running c.kernel.invariant.watched c.args.at (with_directory c.args.number) runs (λ p pid is. is);
+      sound = (chdirs c.args.kernel.now c.args.at c.requires.runs c.args.number c.requires.reaches c.requires.directory (kernel_of c.kernel.inside) c.kernel.view_is c.is_whole.ensures c.home-left.result c.home-left.ensures c.hold.new.self c.hold.ensures c.drop_hold.new.self c.drop_hold.result c.drop_hold.ensures _ c.in_ok-drop_hold.was).sound;
+      watched = watched-running c.kernel.invariant.watched c.args.at (with_directory c.args.number) (running-now c.args.at c.kernel.view_is c.requires.runs) (λ p pid is. is);
     })
 
 pub returns : goal.returns
-returns g c = rw c.set_directory.ensures (chdirs c.args.kernel.now c.args.at c.requires.runs c.args.number c.requires.reaches c.requires.directory (kernel_of c.kernel.inside) c.kernel.view_is c.is_whole.ensures c.home-left.result c.home-left.ensures c.hold.new.self c.hold.ensures c.drop_hold.new.self c.drop_hold.result c.drop_hold.ensures _ c.in_default.is)
+returns g c = rw c.set_directory.ensures (chdirs c.args.kernel.now c.args.at c.requires.runs c.args.number c.requires.reaches c.requires.directory (kernel_of c.kernel.inside) c.kernel.view_is c.is_whole.ensures c.home-left.result c.home-left.ensures c.hold.new.self c.hold.ensures c.drop_hold.new.self c.drop_hold.result c.drop_hold.ensures _ c.in_ok-drop_hold.was)
 
-pub returns-in-Err : goal.returns-in-Err
-returns-in-Err g c = chdir-gone c.args.kernel.now c.args.at c.requires.runs c.args.number c.requires.reaches c.requires.directory (kernel_of c.kernel.inside) c.kernel.view_is c.is_whole.ensures c.home-left.result c.home-left.ensures c.hold.new.self c.hold.ensures c.drop_hold.new.self c.drop_hold.result c.drop_hold.ensures c.in-Err.fault c.in-Err.is
+pub returns-in_err-drop_hold : goal.returns-in_err-drop_hold
+returns-in_err-drop_hold g c =
+    let e = err_from_is_err_and c.from_residual.result c.from_residual.ensures.1 in
+    rw e.1 (chdir-gone c.args.kernel.now c.args.at c.requires.runs c.args.number c.requires.reaches c.requires.directory (kernel_of c.kernel.inside) c.kernel.view_is c.is_whole.ensures c.home-left.result c.home-left.ensures c.hold.new.self c.hold.ensures c.drop_hold.new.self c.drop_hold.result c.drop_hold.ensures _ c.in_err-drop_hold.was)

@@ -16,7 +16,7 @@ returns-then-not-grow g c =
 
 pub invariant_of-kernel-2 : goal.invariant_of-kernel-2
 invariant_of-kernel-2 g c =
-    let x = here-now c.kernel.view_is c.kernel.invariant.sound c.requires.runs in
+    let x = here-now c.kernel.view_is c.requires.runs in
     let d = c.if-not-grow.ensures.done in
     record {
       sound = (grow-acts c.args.kernel.now c.args.at c.requires.runs (kernel_of c.kernel.inside) c.kernel.view_is c.args.bytes c.grow.new.self c.pages_are_whole.ensures.whole c.set_size.new.self c.size-size.result c.size-size.ensures c.set_size.ensures x c.requires.asked d.0 d.1).sound;
@@ -25,7 +25,7 @@ invariant_of-kernel-2 g c =
 
 pub returns : goal.returns
 returns g c =
-    let x = here-now c.kernel.view_is c.kernel.invariant.sound c.requires.runs in
+    let x = here-now c.kernel.view_is c.requires.runs in
     let d = c.if-not-grow.ensures.done in
     rw c.size-old.ensures (grow-acts c.args.kernel.now c.args.at c.requires.runs (kernel_of c.kernel.inside) c.kernel.view_is c.args.bytes c.grow.new.self c.pages_are_whole.ensures.whole c.set_size.new.self c.size-size.result c.size-size.ensures c.set_size.ensures x c.requires.asked d.0 d.1)
 

@@ -3,7 +3,7 @@ use Rattle.kernel.specs.View.{kernel_of}
 use Rattle.calls.proofs.Transfers.{named-number}
 use Rattle.kernel.proofs.Watching.{watched-moved}
 use Rattle.spaces.specs.Spaces.{Spaces}
-use Rattle.calls.proofs.Woken.{running-now, watched-piped, watched-stop}
+use Rattle.calls.proofs.Woken.{watched-piped}
 use Rattle.calls.proofs.Fetches.{reads-done, reads-lost, reads-near, reads-node}
 use Rattle.calls.proofs.transfer_calls.read_file.Goals as goal
 
@@ -27,12 +27,10 @@ invariant_of-kernel g c =
 
 pub invariant_of-kernel-in-Err : goal.invariant_of-kernel-in-Err
 invariant_of-kernel-in-Err g c =
-    let k = kernel_of c.kernel.inside in
-    let piped = watched-piped (kernel_of c.kernel.inside) c.kernel.invariant.watched c.read_node-read.new.spaces (ap (λ (s : Spaces). s.pipes) c.in-Err.ensures.failed.2) in
-    let stopped = watched-stop piped c.read_node-read.new.spaces c.args.at (running-now c.args.at c.kernel.view_is c.requires.goes.runs) in
+    let e = c.in-Err.ensures in
     record {
-      sound = reads-lost c.args.kernel.now c.args.at c.args.pending c.args.number c.args.offset c.requires (kernel_of c.kernel.inside) c.kernel.view_is _ c.in-Err.fault _ c.in-Err.ensures.serves _ (c.in-Err.ensures.failed.0, c.in-Err.ensures.failed.2) _ c.stop.ensures.table _ c.stop.ensures.spaces;
-      watched = rw (c.stop.ensures.table, c.stop.ensures.spaces) stopped;
+      sound = reads-lost c.args.kernel.now c.args.at c.args.pending c.args.number c.args.offset c.requires (kernel_of c.kernel.inside) c.kernel.view_is c.read_node-read.new.tree e.serves.down _ e.failed.0 e.failed.2;
+      watched = watched-piped (kernel_of c.kernel.inside) c.kernel.invariant.watched c.read_node-read.new.spaces (ap (λ (s : Spaces). s.pipes) e.failed.2);
     }
 
 pub returns-in-Ok : goal.returns-in-Ok

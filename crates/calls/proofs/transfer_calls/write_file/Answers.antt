@@ -2,8 +2,8 @@ use Rattle.std.proofs.Common.{arith, ◌∙◌, ◌+◌}
 use Rattle.kernel.specs.View.{kernel_of}
 use Rattle.calls.proofs.Transfers.{named-number}
 use Rattle.kernel.proofs.Watching.{watched-moved}
-use Rattle.calls.proofs.Woken.{running-now, watched-stop}
-use Rattle.calls.proofs.Stores.{writes-done, writes-is_file, writes-lost, writes-near, writes-refused}
+use Rattle.kernel.proofs.Steps.{fail-keeps}
+use Rattle.calls.proofs.Stores.{writes-done, writes-is_file, writes-near, writes-refused}
 use Rattle.calls.proofs.transfer_calls.write_file.Goals as goal
 
 pub write_node-wrote-requires-clause-file : goal.write_node-wrote-requires-clause-file
@@ -31,11 +31,7 @@ invariant_of-kernel-in-Ok g c =
     }
 
 pub invariant_of-kernel-in-Err : goal.invariant_of-kernel-in-Err
-invariant_of-kernel-in-Err g c =
-    record {
-      sound = writes-lost c.args.kernel.now c.args.at c.args.pending c.args.number c.args.offset c.requires (kernel_of c.kernel.inside) c.kernel.view_is _ c.in-Err.ensures.down _ c.stop.ensures.table _ c.stop.ensures.spaces;
-      watched = rw (c.stop.ensures.table, c.stop.ensures.spaces) (watched-stop c.kernel.invariant.watched c.kernel.inside.spaces c.args.at (running-now c.args.at c.kernel.view_is c.requires.goes.runs));
-    }
+invariant_of-kernel-in-Err g c = fail-keeps c.kernel.invariant _ c.in-Err.ensures.down
 
 pub returns-in-Some-wrote : goal.returns-in-Some-wrote
 returns-in-Some-wrote g c =

@@ -1,20 +1,25 @@
-use Rattle.calls.proofs.Served.{ok-told, on-err}
-use Rattle.calls.proofs.Stats.{has-read}
+use Rattle.calls.proofs.Served.{ok-told, on-err, tree-lost}
+use Rattle.calls.proofs.Stats.{has-read, reads-keep}
+use Rattle.kernel.proofs.Steps.{fail-keeps}
 use Rattle.kernel.specs.View.{kernel_of}
-use Rattle.machine.proofs.Looking.{lost-keeps, lost-read, told-shown}
+use Rattle.machine.proofs.Looking.{told-shown}
 use Rattle.std.proofs.Common.{refl, ◌∙◌}
+use Rattle.std.proofs.lemmas.Result.{err_from_is_err_and}
 use Rattle.machine.proofs.inodes.look.Goals as goal
 
-pub invariant_of-kernel-in-Err : goal.invariant_of-kernel-in-Err
-invariant_of-kernel-in-Err g c =
-    rw (c.stop_running.ensures.table, c.stop_running.ensures.spaces)
-    (lost-keeps (kernel_of c.kernel.inside) c.args.kernel.now c.kernel.view_is c.is_sound.ensures.sound c.is_sound.ensures.watched c.is_sound.ensures.zero c.is_sound.ensures.aligned c.look.new.self (on-err c.look.result _ c.in-Err.is c.look.ensures.down))
+pub invariant_of-kernel : goal.invariant_of-kernel
+invariant_of-kernel g c = fail-keeps c.kernel.invariant c.look.new.self (on-err c.look.result _ c.in_err-seen.was c.look.ensures.down)
 
-pub returns-in-Ok : goal.returns-in-Ok
-returns-in-Ok g c =
+pub returns-in_err-seen : goal.returns-in_err-seen
+returns-in_err-seen g c =
+    let e = err_from_is_err_and c.from_residual.result c.from_residual.ensures.1 in
+    rw e.1 (tree-lost c.kernel.view_is c.look.result _ c.in_err-seen.was c.look.ensures)
+
+pub invariant_of-kernel-2 : goal.invariant_of-kernel-2
+invariant_of-kernel-2 g c = reads-keep (kernel_of c.kernel.inside) c.look.new.self c.look.result c.look.ensures (λ x told. told.0) c.kernel.invariant
+
+pub returns : goal.returns
+returns g c =
     let k = kernel_of c.kernel.inside in
-    let t = ok-told _ c.look.result _ c.in-Ok.is c.look.ensures.told in
+    let t = ok-told _ c.look.result _ c.in_ok-seen.was c.look.ensures.told in
     rw (← c.kernel.view_is) (has-read k k refl c.look.new.self t.0 c.look.ensures.cause.later, c.told.ensures ∙ told-shown _ _ t.1)
-
-pub returns-in-Err : goal.returns-in-Err
-returns-in-Err g c = lost-read c.kernel.view_is _ c.in-Err.is c.look.ensures

@@ -1,14 +1,18 @@
-use Rattle.std.proofs.Common.{arith, refl, subst, length, ◌<◌, ◌∙◌, ◌++◌, ◌∷◌, [], ◌≡◌}
+use Rattle.std.proofs.Common.{ap, arith, refl, subst, length, ◌<◌, ◌∙◌, ◌++◌, ◌∷◌, [], ◌≡◌}
 use Rattle.std.proofs.lemmas.Int.{to_z-of_z}
 use Rattle.std.specs.Int.{w32}
 use Rattle.std.specs.Prelude.{IfOk}
 use Rattle.kernel.specs.Holding.{all_dropped, gone_nodes}
+use Rattle.kernel.specs.Kernel.{Kernel}
 use Rattle.kernel.specs.View.{kernel_of}
 use Rattle.kernel.proofs.Dropping.{counted}
 use Rattle.kernel.proofs.Finishes.{finish-closes, finish-held, finish-serves, serves-waking}
 use Rattle.kernel.proofs.Wakes.{finish-watched, kernel-waking}
 use Rattle.tree.specs.Tree.{Serves}
 use Rattle.kernel.proofs.kernel.Kernel.finish.Goals as goal
+
+pub let_go-requires-clause-up : goal.let_go-requires-clause-up
+let_go-requires-clause-up g c = ap (λ (k : Kernel). k.tree.failed) c.self.view_is ∙ c.requires.up
 
 pub let_go-requires-clause-held : goal.let_go-requires-clause-held
 let_go-requires-clause-held g c =

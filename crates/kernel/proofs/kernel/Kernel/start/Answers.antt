@@ -16,7 +16,7 @@ invariant_of-self g c =
     let there = sym c.process.ensures.process ∙ ap option_copied c.in-Some.is in
     rw (c.wake.ensures, c.run.ensures, c.activate.ensures)
     (record {
-      sound = kernel-waking (takes k c.args.at c.in-Some.process.now c.self.invariant.sound idle (ap (λ (x : Kernel). x.tree.failed) c.self.view_is ∙ c.requires.up) can there).keeps _;
+      sound = kernel-waking (takes k c.args.at c.in-Some.process.now c.self.invariant.sound idle can there).keeps _;
       watched = watched-started c.self.invariant.watched c.args.at;
     })
 
@@ -27,4 +27,4 @@ returns-in-Some g c =
     let can = subst (λ (x : Kernel). CanRun (slot x.table.places c.args.at)) (sym c.self.view_is) c.requires.can in
     let there = sym c.process.ensures.process ∙ ap option_copied c.in-Some.is in
     rw (c.wake.ensures, c.run.ensures, c.activate.ensures)
-    (ap (λ (x : Kernel). waking x (slice_set k.table.awake c.args.at true)) (sym (takes k c.args.at c.in-Some.process.now c.self.invariant.sound idle (ap (λ (x : Kernel). x.tree.failed) c.self.view_is ∙ c.requires.up) can there).starts ∙ ap (λ (x : Kernel). started x c.args.at) c.self.view_is))
+    (ap (λ (x : Kernel). waking x (slice_set k.table.awake c.args.at true)) (sym (takes k c.args.at c.in-Some.process.now c.self.invariant.sound idle can there).starts ∙ ap (λ (x : Kernel). started x c.args.at) c.self.view_is))

@@ -9,7 +9,7 @@ pub give_up-requires-clause-up : goal.give_up-requires-clause-up
 give_up-requires-clause-up g c = ap (λ (t : FileTree). t.failed) c.tree_of.ensures ∙ c.self.invariant c.if-self.false
 
 pub give_up-requires-clause-rules : goal.give_up-requires-clause-rules
-give_up-requires-clause-rules g c = subst (λ (t : FileTree). KeepsTree t.files) (sym c.tree_of.ensures) (c.is_sound.ensures.sound.filed.used (c.self.invariant c.if-self.false)).rules
+give_up-requires-clause-rules g c = subst (λ (t : FileTree). KeepsTree t.files) (sym c.tree_of.ensures) (c.is_sound.ensures.sound.used (c.self.invariant c.if-self.false)).rules
 
 pub returns : goal.returns
 returns g c =
