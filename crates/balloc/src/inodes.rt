@@ -14,6 +14,7 @@ use cache::Cache;
 use layout::{DiskInode, Geometry};
 
 /// The record of an inode.
+#[inline]
 pub fn read_inode<D: BlockDev>(
     disk: &mut Cache<D>,
     geometry: Geometry,
