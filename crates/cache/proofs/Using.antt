@@ -1,6 +1,7 @@
 -- A cache between the look-up of a block and the end of the call.
 use Rattle.std.proofs.Common.{◌≡◌, ℕ, ◌+◌, ◌-◌, drop, take, ◌<◌, ◌≤◌, Bool, false, true, Bor, MutBor, List, length, set, Result, Ok, Err, OnOk, OnErr, Option, Some, None, nat_eq, sym, ap, subst, ◌∙◌, arith}
-use Rattle.std.specs.Option.{option_copied, option_copied_mut}
+use Rattle.std.specs.Prelude.{IfOk, MatchResult}
+use Rattle.std.specs.Option.{UnwrapsOrElse, option_copied, option_copied_mut}
 use Rattle.std.specs.Map.{lookup, set_value}
 use borrow.Rule.Slice.PartMut.{put_mid}
 use Rattle.lru.specs.LruCache.{LruCache, lru_cache, promoted, put_entries}
@@ -63,6 +64,14 @@ read-held l new c b blocks n s (Err x) u sizes safe none same ok err = subst (λ
 pub read-shows : {X E : Type 0} (l new : LruCache ℕ Slot) (c : List (List ℕ)) (b : Bool) (blocks : List (List ℕ)) (n : ℕ) (s : Slot) (r : Result X E) → IsUsed l c b blocks n → IsLastSafe l c → lookup (nat_eq n) l.entries ≡ None → s.bytes ≡ block_at c n → OnOk r (new ≡ lru_cache (put_entries nat_eq l n s) l.cap) → OnErr r (new ≡ l) → overlay new.entries c ≡ blocks
 read-shows l new c b blocks n s (Ok x) u safe none same ok err = ap (λ (m : LruCache ℕ Slot). overlay m.entries c) ok ∙ overlay-read l n s none c safe same ∙ u.shows
 read-shows l new c b blocks n s (Err x) u safe none same ok err = ap (λ (m : LruCache ℕ Slot). overlay m.entries c) err ∙ u.shows
+
+-- what becomes of a cache as a block comes in that it doesn't hold
+pub came-in : {E : Type 0} (l new : LruCache ℕ Slot) (n : ℕ) (s : Slot) (r : Result (Bor Slot) E) → lookup (nat_eq n) l.entries ≡ None → MatchResult r (λ x. new ≡ lru_cache (put_entries nat_eq l n x.now) l.cap) (λ _. new ≡ l)
+    → IfOk r (λ x. UnwrapsOrElse (lookup (nat_eq n) l.entries) (λ t. t ≡ s) x.now) → OnOk r (new ≡ lru_cache (put_entries nat_eq l n s) l.cap) × OnErr r (new ≡ l)
+came-in l new n s (Ok x) none did value =
+    let is : x.now ≡ s = subst (λ (o : Option Slot). UnwrapsOrElse o (λ t. t ≡ s) x.now) none value in
+    (did ∙ ap (λ t. lru_cache (put_entries nat_eq l n t) l.cap) is, tt)
+came-in l new n s (Err e) none did value = (tt, did)
 
 -- what a held block shows
 pub hit : (old : LruCache ℕ Slot) (c blocks : List (List ℕ)) (n : ℕ) (s : Slot) → overlay old.entries c ≡ blocks → n < length blocks → lookup (nat_eq n) old.entries ≡ Some s → s.bytes ≡ block_at blocks n

@@ -105,8 +105,13 @@ impl<D: BlockDev, A: Allocator + Clone> Cache<D, A> {
             bytes,
             changed: false,
         };
-        // Without memory for it the block isn't held.
-        let _ = self.held.put(n, slot);
+        // Without memory for it the block isn't held. `put` would hand on what had to leave, which costs more than all else.
+        let _ = self.held.get_or_insert(
+            n,
+            ||
+                ensures { result ≡ slot }
+            { slot },
+        );
         Ok(bytes)
     }
 
