@@ -18,7 +18,7 @@ HERE = pathlib.Path(__file__).resolve().parent
 LISTED = "accesses: blockdev console image machine sv39 scripts unixmodel\n"
 
 # Where a block that was read comes into the cache. Without it the cache passes everything through, as where there is no memory.
-HOLDING = re.compile(r"let _ = self\s*\.held\s*\.get_or_insert\(n, [^;]*\);")
+HOLDING = re.compile(r"let _ =\s*self\s*\.held\s*\.get_or_insert\(\s*n,[^;]*\);")
 PASSING = "let _ = slot;"
 
 # How long the compiled program may run.
