@@ -2,8 +2,8 @@ use Rattle.std.proofs.Common.{sym, ◌∙◌}
 use Rattle.migrate.proofs.Devices.{minor-device, minor-other}
 use Rattle.migrate.proofs.copy.device_minor.Goals as goal
 
-pub returns-then-kind-eq3 : goal.returns-then-kind-eq3
-returns-then-kind-eq3 c = λ node is. c.minor.ensures ∙ minor-device c.args.old.now c.args.n node is (sym c.kind.ensures ∙ c.if-kind-eq3.true)
+pub returns-then-kind-eq-DEVICE : goal.returns-then-kind-eq-DEVICE
+returns-then-kind-eq-DEVICE c = λ node is. c.minor.ensures ∙ minor-device c.args.old.now c.args.n node is (sym c.kind.ensures ∙ c.if-kind-eq-DEVICE.true)
 
-pub returns-else-kind-eq3 : goal.returns-else-kind-eq3
-returns-else-kind-eq3 c = λ node is. minor-other c.args.old.now c.args.n node is (λ device. c.if-kind-eq3.false (c.kind.ensures ∙ device))
+pub returns-else-kind-eq-DEVICE : goal.returns-else-kind-eq-DEVICE
+returns-else-kind-eq-DEVICE c = λ node is. minor-other c.args.old.now c.args.n node is (λ device. c.if-kind-eq-DEVICE.false (c.kind.ensures ∙ device))
