@@ -7,7 +7,7 @@ use Rattle.blockdev.specs.declared.DeviceFault.{DeviceFault}
 use Rattle.unixmodel.specs.Failures.{HasCause}
 use Rattle.calls.specs.Acts.{ActsOnDisk}
 use Rattle.calls.specs.declared.outcome.Came.{Came}
-use Rattle.calls.specs.Gives.{Ends, IsLost, IsServed, LeavesDisk, halt_of}
+use Rattle.calls.specs.Gives.{IsLost, IsServed, LeavesDisk}
 use Rattle.kernel.specs.Kernel.{Kernel, started, started_as, state_of, stopped_at, ticked}
 use Rattle.proc.specs.declared.process.Process.{Process}
 use Rattle.tree.specs.Tree.{FileTree, Serves}
@@ -73,11 +73,6 @@ on-err {T} {P} r fault e p = subst (λ (y : Result T DeviceFault). OnErr y P) e 
 pub where-err : {T : Type 0} {P : Type 0} (r : Result T DeviceFault) → P → OnErr r P
 where-err (Ok x) p = tt
 where-err (Err f) p = p
-
--- a process ended, and the machine halts or not
-pub ends-goes : (new : Kernel) (s : State) (o : Option ℤ) → new.halted ≡ o → state_of new ≡ s → Ends new s (halt_of o)
-ends-goes new s None halts made = (made, ap (λ (x : State). x.halted) (sym made) ∙ halts)
-ends-goes new s (Some status) halts made = (made, ap (λ (x : State). x.halted) (sym made) ∙ halts)
 
 -- ---- events that do not touch them
 

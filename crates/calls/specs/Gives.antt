@@ -56,14 +56,6 @@ EventGivesTo contents failures new from to a result = EventGives new a (contents
 abbrev pub executed : Kernel → ℕ → After
 executed k at = execute_at (state_of k) at (process_at (state_of k) at)
 
--- what the end of a process, which leaves that state, is answered with
-abbrev pub Ends : Kernel → State → Result (Unit {0}) Halt → Type 0
-Ends new s (Ok u) = (state_of new ≡ s) × (s.halted ≡ None)
-Ends new s (Err (InitEnded status)) = (state_of new ≡ s) × (s.halted ≡ Some status)
-Ends new s (Err Device) = Unit {0}
-Ends new s (Err Console) = ⊥
-Ends new s (Err Halted) = ⊥
-
 -- ---- the files of the disk
 
 -- no access of the device has failed: it is the same, and its count of failures is not lower

@@ -1,27 +1,26 @@
-//! What a machine asks of the kernel: an event, or a part of one.
+//! What a machine asks of the kernel: an event.
 //!
 //! What seldom happens is kept out of line (`inline(never)`), so that the code of a step that only does an
 //! instruction stays small.
-ghost use Rattle.std.specs.Prelude.{false, ◌≡◌, ◌≤◌, Err, Ok, Some, None, true, IfErr, IfOk, OnErr, OnOk};
-ghost use Rattle.calls.specs.Acts.{CanWait, GoesOn, Runs, called};
-ghost use Rattle.calls.specs.declared.halt.Halt.TheVariants.{Console, Device};
-ghost use Rattle.calls.specs.Gives.{DispatchesTo, EventGivesTo, Ends, LeavesDisk, LeavesTree, executed, halt_of};
+ghost use Rattle.std.specs.Prelude.{false, ◌≡◌, ◌≤◌, Err, Some, None, IfErr, OnErr, OnOk};
+ghost use Rattle.calls.specs.Acts.{CanWait, GoesOn, Runs};
+ghost use Rattle.calls.specs.declared.halt.Halt.TheVariants.{Console};
+ghost use Rattle.calls.specs.Gives.{DispatchesTo, EventGivesTo, LeavesDisk, LeavesTree, executed, halt_of};
 ghost use Rattle.kernel.specs.Kernel.{state_of};
-ghost use Rattle.kernel.specs.Sound.{CanEnd, IsAlive};
-ghost use Rattle.calls.specs.Resuming.{CanResume, WaitsIn, became, resumed, taken};
+ghost use Rattle.kernel.specs.Sound.{IsAlive};
+ghost use Rattle.calls.specs.Resuming.{WaitsIn, resumed, taken};
 ghost use Rattle.spaces.specs.Spaces.{view_at};
-ghost use Rattle.unixmodel.specs.Calls.{end_at, quiet};
+ghost use Rattle.unixmodel.specs.Calls.{quiet};
 ghost use Rattle.unixmodel.specs.Cycle.{cycle};
 ghost use Rattle.unixmodel.specs.declared.call.Call.TheVariants as Call;
 ghost use Rattle.unixmodel.specs.declared.event.Event.TheVariants.{Key, Step, Tick};
 ghost use Rattle.unixmodel.specs.Files.{slot};
 ghost use Rattle.unixmodel.specs.Next.{is_ecall, next, take_turn};
-ghost use Rattle.unixmodel.specs.State.{process_at};
 ghost use Rattle.unixmodel.specs.Turn.{turn};
 
 use crate::calls;
 use crate::halt::Halt;
-use crate::outcome::{Came, KILLED, Outcome, settle};
+use crate::outcome::{Came, KILLED, settle};
 use crate::process_calls::{sleep_on, wait_on};
 use crate::transfer_calls::{read_on, write_on};
 use blockdev::{BlockDev, DeviceFault};
@@ -79,60 +78,6 @@ pub fn key<D: BlockDev, T: Translate + Drop, W: Out>(
     }
 }
 
-/// The call of the running process. `Device`, `Console`: the device failed, the console did.
-pub fn dispatch<D: BlockDev, T: Translate + Drop, W: Out>(
-    kernel: &mut Kernel<D, T>,
-    at: usize,
-    console: &mut W,
-) -> Result<Outcome, Halt>
-    requires running { kernel.old.spaces.active ≡ Some at }
-    requires up { kernel.old.tree.failed ≡ false }
-    ensures gives { DispatchesTo W.contents W.failures kernel.new console.old console.new (called (state_of kernel.old) at) result }
-    ensures told { IfOk result (λ o. o ≡ became kernel.new at) }
-    ensures tree { LeavesTree kernel.old.tree kernel.new.tree result }
-    ensures later { W.failures console.old ≤ W.failures console.new }
-{
-    calls::call(kernel, at, console)?;
-    Ok(outcome(kernel, at))
-}
-
-/// A picked process that waits, where none runs, goes on with its pending call. `Device`: the device failed.
-pub fn resume<D: BlockDev, T: Translate + Drop>(
-    kernel: &mut Kernel<D, T>,
-    at: usize,
-) -> Result<Outcome, Halt>
-    requires idle { kernel.old.spaces.active ≡ None }
-    requires up { kernel.old.tree.failed ≡ false }
-    requires waits { CanResume (slot kernel.old.table.places at) }
-    ensures gives { OnOk result (resumed (state_of kernel.old) at ≡ quiet (state_of kernel.new)) }
-    ensures told { IfOk result (λ o. o ≡ became kernel.new at) }
-    ensures fault { IfErr result (λ halt. halt ≡ Device) }
-    ensures tree { LeavesTree kernel.old.tree kernel.new.tree result }
-{
-    if let Some(process) = kernel.process(at).copied() {
-        if let Mode::Waiting(pending) = process.mode {
-            go_on(kernel, at, pending)?;
-        }
-    }
-    Ok(outcome(kernel, at))
-}
-
-/// Ends the running process with a status, or a process where none runs. `InitEnded`: it was process 1; `Device`: the device failed.
-pub fn end<D: BlockDev, T: Translate + Drop>(
-    kernel: &mut Kernel<D, T>,
-    at: usize,
-    status: i32,
-) -> Result<(), Halt>
-    requires goes { kernel.old.halted ≡ None }
-    requires can { CanEnd kernel.old at }
-    ensures gives { Ends kernel.new (end_at (state_of kernel.old) at status (process_at (state_of kernel.old) at)) result }
-    ensures tree { LeavesTree kernel.old.tree kernel.new.tree result }
-{
-    kernel.is_sound();
-    kernel.finish(at, status)?;
-    goes(kernel)
-}
-
 /// One step: the running process does an instruction, and the call or the end that it traps into; where none runs
 /// there is a turn.
 pub fn step<D: BlockDev, T: Translate + Drop, W: Out>(
@@ -160,21 +105,6 @@ pub(crate) fn goes<D: BlockDev, T: Translate + Drop>(kernel: &Kernel<D, T>) -> R
     match kernel.halted() {
         None => Ok(()),
         Some(status) => Err(Halt::InitEnded(status)),
-    }
-}
-
-// What the call of a process came to.
-fn outcome<D: BlockDev, T: Translate + Drop>(kernel: &Kernel<D, T>, at: usize) -> Outcome
-    ensures { result ≡ became kernel.now at }
-{
-    match kernel.process(at) {
-        None => Outcome::Done(0),
-        Some(process) => match process.mode {
-            Mode::Running => Outcome::Done(kernel.argument(0).cast_signed()),
-            Mode::Ready => Outcome::Done(process.registers[10].cast_signed()),
-            Mode::Waiting(pending) => Outcome::Blocks(pending),
-            Mode::Zombie(status) => Outcome::Ends(status),
-        },
     }
 }
 

@@ -14,8 +14,7 @@ mod outcome;
 mod process_calls;
 mod transfer_calls;
 
-pub use events::{dispatch, end, key, resume, step, tick};
+pub use events::{key, step, tick};
 pub use halt::Halt;
 pub use kernel::Kernel;
 pub use many_steps::{advance, steps};
-pub use outcome::Outcome;

@@ -16,17 +16,6 @@ pub const REFUSED: u64 = u64::MAX;
 /// The status of a process that kill or a fault ended.
 pub const KILLED: i32 = -1;
 
-/// What a call of a process came to.
-#[derive(Clone, Copy, Debug, PartialEq, Eq)]
-pub enum Outcome {
-    /// It is done and answers this in a0, here as a signed number.
-    Done(i64),
-    /// The process waits in this call.
-    Blocks(Pending),
-    /// The process ended with this status.
-    Ends(i32),
-}
-
 /// What a call has come to, once all is done but this.
 #[derive(Clone, Copy)]
 pub enum Came {

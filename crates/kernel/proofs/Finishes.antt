@@ -15,15 +15,13 @@ use Rattle.kernel.specs.Holding.{IsInUse}
 use Rattle.blockdev.specs.declared.DeviceFault.{DeviceFault}
 use Rattle.tree.specs.Tree.{FileTree, Serves}
 use Rattle.unixmodel.specs.Failures.{HasCause}
-use Rattle.kernel.proofs.Leaving.{ends-at}
 use Rattle.kernel.proofs.Runs.{loaded-run, memory-at, process-with, run-of, set-slot, slot-put, with_process, within-run, space-of}
-use Rattle.kernel.proofs.Starts.{killed-ends, state-idle}
+use Rattle.kernel.proofs.Starts.{state-idle}
 use Rattle.files.specs.Places.{Counted, opens_of}
 use Rattle.proc.specs.declared.process.Process.{Process}
 use Rattle.proc.specs.Places.{Places, exited}
 use Rattle.proc.specs.Whole.{with_memory}
 use Rattle.spaces.specs.Spaces.{SpaceView}
-use Rattle.unixmodel.specs.Calls.{end_at}
 use Rattle.unixmodel.specs.Files.{slot}
 use Rattle.unixmodel.specs.Memory.{Memory}
 use Rattle.unixmodel.specs.State.{State, process_at}
@@ -50,26 +48,6 @@ module _ (k : Kernel) (i : ℕ) (p : Process) (h : SpaceView) (is : IsKernel k) 
       ∙ ap (λ (m : Memory). Some (with_memory m p)) memory
 
 -- ---- the end of a process
-
-ends-idle : (k : Kernel) (i : ℕ) (o : Option Process) (status : ℤ) → IsKernel k → slice_index k.spaces.registers 0 ≡ 0 → k.spaces.pc % 4 ≡ 0 → k.spaces.active ≡ None → slot k.table.places i ≡ o → IsAlive o → k.tree.failed ≡ false
-    → end_at (state_of k) i status (process_at (state_of k) i) ≡ state_of (ended k i status)
-ends-idle k i None status is z a none at alive up = absurd alive
-ends-idle k i (Some p) status is z a none at alive up =
-    let t = there-of k i p is at in
-    ap (end_at (state_of k) i status) (process-idle k i p t.0 is none t.1 alive)
-    ∙ killed-ends k i p t.0 is none at t.1.space alive up z a status
-
-ends-go : (k : Kernel) (i : ℕ) (o : Option ℕ) (status : ℤ) → IsKernel k → slice_index k.spaces.registers 0 ≡ 0 → k.spaces.pc % 4 ≡ 0 → k.spaces.active ≡ o → CanEndIn k i o → k.tree.failed ≡ false
-    → end_at (state_of k) i status (process_at (state_of k) i) ≡ state_of (ended k i status)
-ends-go k i (Some j) status is z a active can up =
-    let run = run-of k i is (active ∙ ap Some can) in
-    ends-at k i run.0 run.1.0 run.1.1 is z a status up
-ends-go k i None status is z a active can up = ends-idle k i (slot k.table.places i) status is z a active refl can up
-
--- what the end of a process makes of the state
-pub ends-can : (k : Kernel) (i : ℕ) (status : ℤ) → IsKernel k → slice_index k.spaces.registers 0 ≡ 0 → k.spaces.pc % 4 ≡ 0 → CanEnd k i
-    → end_at (state_of k) i status (process_at (state_of k) i) ≡ state_of (ended k i status)
-ends-can k i status is z a can = ends-go k i k.spaces.active status is z a refl can.can can.up
 
 -- process q is what the loaded table has in place i, and no other place runs
 pub record IsWhole (k : Kernel) (i : ℕ) (q : Process) : Type 0 where

@@ -1,5 +1,5 @@
 -- Who waits on a channel is woken, one after the other.
-use Rattle.std.proofs.Common.{Bool, List, None, Option, Some, ap, arith, false, inl, inr, length, refl, suc, subst, sym, take, true, zero, ℕ, ◌+◌, ◌-◌, ◌<◌, ◌∙◌, ◌≡◌, ◌≤◌}
+use Rattle.std.proofs.Common.{Bool, List, None, Option, Some, ap, arith, false, length, refl, suc, sym, take, true, zero, ℕ, ◌+◌, ◌-◌, ◌<◌, ◌∙◌, ◌≡◌, ◌≤◌}
 use Rattle.std.proofs.lemmas.List.{take_all}
 use Rattle.kernel.specs.Watch.{kind_of, roused, waits_as, waits_in, waits_on, woken_by}
 use Rattle.kernel.specs.declared.channels.Channel.{Channel}

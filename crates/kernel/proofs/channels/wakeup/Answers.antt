@@ -1,4 +1,4 @@
-use Rattle.std.proofs.Common.{ap, arith, sym, ◌+◌, ◌<◌, ◌∙◌, ◌≡◌}
+use Rattle.std.proofs.Common.{ap, arith, sym, ◌∙◌, ◌≡◌}
 use Rattle.std.specs.Option.{option_copied}
 use Rattle.kernel.specs.Watch.{waits_on}
 use Rattle.kernel.proofs.Rousing.{Roused, roused-begins, roused-low, roused-passed, roused-rest, roused-to, roused-woken}
