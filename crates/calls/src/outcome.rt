@@ -47,6 +47,7 @@ pub(crate) fn pending<D: BlockDev, T: Translate + Drop>(
 }
 
 /// A call of the running process is done. Where an access of the device fails, a process ended.
+#[inline(always)]
 pub(crate) fn settle<D: BlockDev, T: Translate + Drop>(
     kernel: &mut Kernel<D, T>,
     at: usize,

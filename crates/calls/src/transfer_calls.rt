@@ -103,6 +103,7 @@ fn can_transfer<D: BlockDev, T: Translate + Drop>(
 }
 
 // A read or a write begins: its arguments are tested. `Err`: it goes on with nothing, and comes to this.
+#[inline]
 fn begin_transfer<D: BlockDev, T: Translate + Drop>(
     kernel: &Kernel<D, T>,
     at: usize,
