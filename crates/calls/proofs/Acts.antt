@@ -1,50 +1,17 @@
 -- Calls of the running process that are answered at once.
-use Rattle.blockdev.specs.declared.DeviceFault.{DeviceFault}
-use Rattle.unixmodel.specs.Memory.{Memory}
-use Rattle.std.proofs.Common.{◌≡◌, Err, ℕ, ◌<◌, ◌≤◌, List, [], length, Option, Some, refl, ap, subst, sym, ◌∙◌, Bool, true, false, ◌%◌, ℤ}
-use Rattle.std.specs.Prelude.{IfOk, IfSome, Ok, OnOk, Result, slice_index, slice_set, unwrap_or}
-use Rattle.std.proofs.lemmas.List.{length-set}
-use Rattle.std.specs.Io.KnownBytes.{Appends}
-use Rattle.kernel.specs.Holding.{IsInUse, home_in}
-use Rattle.kernel.proofs.Holding.{used-put}
-use Rattle.calls.specs.Acts.{Acts, CanCome, Comes, MayPrint, GoesOn, IsBegun, Runs, Tries, going_at, going_by, outcome_at, outcome_by, settled_by, called, pending_for}
-use Rattle.calls.specs.declared.halt.Halt.{Halt}
-use Rattle.calls.specs.declared.halt.Halt.TheVariants.{Console, Device, Halted, InitEnded}
-use Rattle.calls.specs.declared.outcome.Came.{Came}
-use Rattle.calls.specs.declared.outcome.Came.TheVariants.{Answers, Blocks, Exits, KillsItself, Refuses}
-use Rattle.kernel.specs.Descriptors.{descriptors_in}
-use Rattle.calls.specs.Gives.{Dispatches, IsLost, IsMade, IsServed, LeavesTree}
+use Rattle.calls.proofs.Common.{DeviceFault, Memory, ◌≡◌, Err, ℕ, ◌<◌, ◌≤◌, List, [], length, Option, Some, refl, ap, subst, sym, ◌∙◌, Bool, true, false, ◌%◌, ℤ, IfOk, IfSome, Ok, OnOk, Result, slice_index, slice_set, unwrap_or, length-set}
+use Rattle.calls.proofs.Common.{Appends, IsInUse, home_in, used-put, Acts, CanCome, Comes, MayPrint, GoesOn, IsBegun, Runs, Tries, going_at, going_by, outcome_at, outcome_by, settled_by, called, pending_for, Halt, Halted, InitEnded, Came}
+use Rattle.calls.proofs.Common.{Answers, Blocks, Exits, KillsItself, Refuses, descriptors_in, Dispatches, IsLost, IsMade, IsServed, LeavesTree, waits-other, Kernel, answered, argument, blocked, counting, ended, entered, on_hart, state_of}
+use Rattle.calls.proofs.Common.{waking, has_slept, IsKernel, IsOpened, IsPlaced, match-active, match-place, over-state, within-state, ends-at, waits-run, state-but, IsRun, eq-self, home-running, moved-state, process-run, run-of, runs-set}
+use Rattle.calls.proofs.Common.{self, slot-put, stands-set, with_process, within-run, within-space, answer-run, live, not-killed, runs-mode, Counted, Process, with_memory, SpaceView, no_pages, taken_frames, FileTree, call_of, end_at}
+use Rattle.calls.proofs.Common.{outcome_of, quiet, row, settle, goes_on, Call, Getpid, Exit, Sleep, Uptime, Running, put, slot, low, int_of, Outcome, limited, provided, Done, Refused, Waits, is_within, Pending, sleep_on, State, put_process}
+use Rattle.calls.specs.declared.halt.Halt.TheVariants.{Console, Device}
 use Rattle.calls.proofs.Prints.{Appends-none}
 use Rattle.calls.proofs.Served.{same-served}
-use Rattle.kernel.proofs.Opens.{waits-other}
-use Rattle.kernel.specs.Kernel.{Kernel, answered, argument, blocked, counting, ended, entered, on_hart, state_of, waking}
-use Rattle.kernel.specs.Ready.{has_slept}
-use Rattle.kernel.specs.Sound.{IsKernel, IsOpened, IsPlaced}
-use Rattle.kernel.proofs.Reaped.{match-active, match-place, over-state, within-state}
 use Rattle.calls.proofs.Rows.{aligned-next, int-bits, enters-kernel, enters-run, numbered}
-use Rattle.kernel.proofs.Leaving.{ends-at, waits-run}
-use Rattle.kernel.proofs.Wakes.{state-but}
-use Rattle.kernel.proofs.Runs.{IsRun, eq-self, home-running, moved-state, process-run, run-of, runs-set, self, slot-put, stands-set, with_process, within-run, within-space}
 use Rattle.calls.proofs.Settles.{after, settle-limited, settle-done}
-use Rattle.kernel.proofs.Running.{answer-run, live, not-killed, runs-mode}
-use Rattle.files.specs.Places.{Counted, opens_of}
-use Rattle.proc.specs.declared.process.Process.{Process}
-use Rattle.proc.specs.Whole.{with_memory}
-use Rattle.spaces.specs.Spaces.{SpaceView, no_pages, taken_frames}
-use Rattle.tree.specs.Tree.{FileTree}
-use Rattle.unixmodel.specs.Calls.{call_of, end_at, outcome_of, quiet, row, settle, goes_on}
-use Rattle.unixmodel.specs.declared.call.Call.{Call}
-use Rattle.unixmodel.specs.declared.call.Call.TheVariants.{Getpid, Exit, Sleep, Uptime}
-use Rattle.unixmodel.specs.declared.process.Mode.TheVariants.{Running}
-use Rattle.unixmodel.specs.Files.{put, slot}
-use Rattle.unixmodel.specs.Numbers.{low, int_of}
-use Rattle.unixmodel.specs.Outcome.{Outcome, limited, provided}
-use Rattle.unixmodel.specs.Outcome.Outcome.{Done, Refused, Waits}
-use Rattle.unixmodel.specs.Counts.{is_within}
-use Rattle.unixmodel.specs.declared.process.Pending.{Pending}
-use Rattle.unixmodel.specs.ProcessCalls.{sleep_on}
+use Rattle.files.specs.Places.{opens_of}
 use Rattle.unixmodel.specs.Process as unix
-use Rattle.unixmodel.specs.State.{State, put_process}
 
 -- the running process and its space, in a kernel that is sound, whose device has not failed
 pub record Here (k : Kernel) (i : ℕ) : Type 0 where

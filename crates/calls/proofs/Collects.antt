@@ -1,50 +1,19 @@
 -- wait: the first zombie child of the running process goes, and its status is written.
-use Rattle.kernel.specs.Holding.{home_in}
-use Rattle.std.proofs.lemmas.List.Folds.{prefix_len-set}
-use Rattle.kernel.proofs.Holding.{used-put}
-use Rattle.std.proofs.Common.{◌≡◌, ◌≢◌, ℕ, zero, suc, ◌+◌, ◌<◌, ◌≤◌, Bool, true, false, nat_eq, List, [], ◌∷◌, length, IfSome, Option, Some, None, ℤ, refl, ap, sym, subst, ◌∙◌, arith}
-use Rattle.std.specs.Prelude.{if◌then◌else◌, is_some, not, option_map, slice_index_or, slice_set}
-use Rattle.std.specs.Int.{cast_unsigned, w32}
-use Rattle.std.proofs.lemmas.Bool.{ne_eqb, and_parts}
-use Rattle.std.proofs.lemmas.List.{length-set, map-set, set_comm}
-use Rattle.calls.specs.Acts.{Acts, GoesOn, Runs, pending_for}
-use Rattle.calls.specs.declared.outcome.Came.{Came}
-use Rattle.calls.specs.declared.outcome.Came.TheVariants.{Answers, Blocks, Refuses}
-use Rattle.kernel.specs.Descriptors.{names_in}
-use Rattle.kernel.specs.Kernel.{Kernel, argument, base, descriptors_at, memories, memory_in, on_hart, rest_of, state_of}
-use Rattle.calls.specs.Processes.{collected, with_status}
-use Rattle.kernel.specs.Sound.{IsEnded, IsKernel, IsMode, IsPending, IsPlace, IsPlaced, can_answer, is_at}
+use Rattle.calls.proofs.Common.{home_in, prefix_len-set, used-put, ◌≡◌, ◌≢◌, ℕ, zero, suc, ◌+◌, ◌<◌, ◌≤◌, Bool, true, false, nat_eq, List, [], ◌∷◌, length, IfSome, Option, Some, None, ℤ, refl, ap, sym, subst, ◌∙◌, arith}
+use Rattle.calls.proofs.Common.{if◌then◌else◌, is_some, not, option_map, slice_index_or, slice_set, cast_unsigned, ne_eqb, and_parts, length-set, map-set, set_comm, Acts, GoesOn, Runs, pending_for, Came, Answers, Blocks}
+use Rattle.calls.proofs.Common.{Refuses, names_in, Kernel, argument, base, descriptors_at, memories, memory_in, on_hart, rest_of, state_of, collected, with_status, IsEnded, IsKernel, IsMode, IsPending, IsPlace, IsPlaced}
+use Rattle.calls.proofs.Common.{can_answer, is_at, other-at, opened-names, waits-other, IsRun, moved-kernel, moved-run, moved-state, place-space, process-with, runs-set, self, set-slot, slot-other, slot-within}
+use Rattle.calls.proofs.Common.{stands-set, state-run, with_process, held-run, placed-with, names, names-none, length-write, Process, Places, is_child_of, is_zombie_child_of, place_where, reaped_at, reaped_from, without}
+use Rattle.calls.proofs.Common.{zombie_place, cleared-with_table, has_child-with_table, place_where-Some, zombie_child-with_table, joined, with_memory, with_table, SpaceView, frames_in, has_space, view_at, taken_frames}
+use Rattle.calls.proofs.Common.{with_view, with_place, taken-placed, goes_on, page_frames, Wait, Mode, Ready, Running, Waiting, Zombie, Pending, clear, put, slot, Memory, write_bytes, le, Outcome, given, limited}
+use Rattle.calls.proofs.Common.{no_descriptors, pending_arg, provided, Done, Refused, Waits, is_zombie_mode, has_child, status_of, wait_for, wait_on, wait_row, zombie_child, State, holds, process_at, put_process}
+use Rattle.std.specs.Int.{w32}
 use Rattle.calls.proofs.Acts.{Here, begins-on, getpid-is, goes-done, goes-waits, here-of, me, refused}
-use Rattle.kernel.proofs.Changes.{other-at}
-use Rattle.kernel.proofs.Opens.{opened-names, waits-other}
-use Rattle.kernel.proofs.Runs.{IsRun, moved, moved-kernel, moved-run, moved-state, place-space, process-with, runs-set, self, set-slot, slot-other, slot-within, stands-set, state-run, with_process}
-use Rattle.kernel.proofs.Steps.{held-run, placed-with}
-use Rattle.files.specs.Counts.{names}
-use Rattle.files.proofs.CountsLemmas.{names-none}
-use Rattle.programs.proofs.Places.{length-write}
-use Rattle.proc.specs.declared.process.Process.{Process}
+use Rattle.kernel.proofs.Runs.{moved}
 use Rattle.proc.specs.declared.table.Reaped.{Reaped}
-use Rattle.proc.specs.Places.{Places, is_child_of, is_zombie_child_of, place_where, reaped_at, reaped_from, without, zombie_place}
-use Rattle.proc.proofs.Joined.{cleared-with_table, has_child-with_table, place_where-Some, zombie_child-with_table}
-use Rattle.proc.specs.Whole.{joined, with_memory, with_table}
-use Rattle.spaces.specs.Spaces.{SpaceView, frames_in, has_space, view_at, taken_frames, with_view, with_place, written}
-use Rattle.spaces.proofs.SpacesLemmas.{taken-placed}
-use Rattle.unixmodel.specs.Calls.{goes_on}
-use Rattle.unixmodel.specs.Counts.{page_frames}
-use Rattle.unixmodel.specs.declared.call.Call.TheVariants.{Wait}
-use Rattle.unixmodel.specs.declared.process.Mode.{Mode}
-use Rattle.unixmodel.specs.declared.process.Mode.TheVariants.{Ready, Running, Waiting, Zombie}
-use Rattle.unixmodel.specs.declared.process.Pending.{Pending}
-use Rattle.unixmodel.specs.Files.{clear, put, slot}
-use Rattle.unixmodel.specs.Memory.{Memory, write_bytes}
-use Rattle.unixmodel.specs.Numbers.{le}
-use Rattle.unixmodel.specs.Outcome.{Outcome, given, limited, no_descriptors, pending_arg, provided}
-use Rattle.unixmodel.specs.Outcome.Outcome.{Done, Refused, Waits}
+use Rattle.spaces.specs.Spaces.{written}
 use Rattle.unixmodel.specs.Process as unix
-use Rattle.unixmodel.specs.Process.{is_zombie_mode}
 use Rattle.unixmodel.specs.ProcessCalls as rows
-use Rattle.unixmodel.specs.ProcessCalls.{has_child, status_of, wait_for, wait_on, wait_row, zombie_child}
-use Rattle.unixmodel.specs.State.{State, holds, process_at, put_process}
 
 -- ---- searches
 

@@ -1,36 +1,16 @@
 -- A read from a pipe goes on.
-use Rattle.std.proofs.Common.{◌≡◌, ℕ, ◌+◌, ◌<◌, ◌≤◌, Bool, true, false, List, [], ◌∷◌, length, min, take, drop, Option, Some, None, refl, ap, subst, sym, ◌∙◌, arith}
-use Rattle.std.specs.Prelude.{if◌then◌else◌, IfSome, not, ◌==◌}
-use Rattle.std.proofs.lemmas.Bool.Decides.{nat_tests}
-use Rattle.calls.specs.Acts.{GoesOn}
-use Rattle.calls.specs.declared.outcome.Came.TheVariants.{Answers, Blocks}
-use Rattle.kernel.specs.Kernel.{Kernel, descriptors_at, state_of}
-use Rattle.kernel.specs.Sound.{IsForBytes, IsOpened, IsPending, file_named, is_on_pipe}
-use Rattle.calls.specs.Transfers.{OnThePipe, Transfers}
+use Rattle.calls.proofs.Common.{◌≡◌, ℕ, ◌+◌, ◌<◌, ◌≤◌, Bool, true, false, List, [], ◌∷◌, length, min, take, drop, Option, Some, None, refl, ap, subst, sym, ◌∙◌, arith, if◌then◌else◌, IfSome, not}
+use Rattle.calls.proofs.Common.{◌==◌, nat_tests, GoesOn, Answers, Blocks, Kernel, descriptors_at, state_of, IsForBytes, IsOpened, IsPending, file_named, is_on_pipe, OnThePipe, Transfers, length-write}
+use Rattle.calls.proofs.Common.{waits-reading, set-slot, slot-within, placed-with, has_end, SpaceView, Spaces, bytes_in, frames_in, view_at, taken_frames, taken_to, with_view, with_pipe, some-pipe}
+use Rattle.calls.proofs.Common.{taken-placed, page_frames, Pending, read_on, read_pipe, put, slot, write_bytes, low, WriteEnd, answers, pending_arg, Done, Waits, State, put_process, is_empty}
 use Rattle.calls.proofs.Acts.{Here, goes-done, goes-waits, going, me, turned, turned-here, turned-state, used-turned}
-use Rattle.programs.proofs.Places.{length-write}
-use Rattle.kernel.proofs.Opens.{waits-reading}
-use Rattle.kernel.proofs.Runs.{set-slot, slot-within}
 use Rattle.calls.proofs.Sends.{piped-kernel}
-use Rattle.kernel.proofs.Steps.{placed-with}
 use Rattle.calls.proofs.Transfers.{file, file-named, going-is, held-here, here, transfer-stands}
 use Rattle.files.specs.declared.file.End.TheVariants as end
 use Rattle.files.specs.declared.file.OpenFile.{OpenFile}
 use Rattle.files.specs.declared.file.Target.TheVariants as target
-use Rattle.files.specs.Places.{has_end, opens_of}
-use Rattle.spaces.specs.Spaces.{SpaceView, Spaces, bytes_in, frames_in, has_pipe, view_at, taken_frames, taken_to, with_view, with_pipe, written}
-use Rattle.spaces.proofs.SpacesLemmas.{some-pipe, taken-placed}
-use Rattle.unixmodel.specs.Counts.{page_frames}
-use Rattle.unixmodel.specs.declared.process.Pending.{Pending}
-use Rattle.unixmodel.specs.FileCalls.{read_on, read_pipe}
-use Rattle.unixmodel.specs.Files.{put, slot}
-use Rattle.unixmodel.specs.Memory.{write_bytes}
-use Rattle.unixmodel.specs.Numbers.{low}
-use Rattle.unixmodel.specs.OpenFiles.End.{WriteEnd}
-use Rattle.unixmodel.specs.Outcome.{answers, pending_arg}
-use Rattle.unixmodel.specs.Outcome.Outcome.{Done, Waits}
-use Rattle.unixmodel.specs.State.{State, put_process}
-use Rattle.unixmodel.specs.Turn.{is_empty}
+use Rattle.files.specs.Places.{opens_of}
+use Rattle.spaces.specs.Spaces.{has_pipe, written}
 
 some-bytes : (n : ℕ) → not (n == 0) ≡ true → 0 < n
 some-bytes n some = grind (arith, nat_tests)

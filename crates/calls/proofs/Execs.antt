@@ -1,43 +1,16 @@
 -- exec: another program comes in the place of the one that runs.
-use Rattle.std.proofs.Common.{List, None, Option, Some, [], ap, arith, false, length, refl, subst, sym, true, ℕ, ◌%◌, ◌+◌, ◌-◌, ◌<◌, ◌*◌, ◌∙◌, ◌≡◌, ◌≤◌}
-use Rattle.std.specs.Prelude.{IfSome, is_some, nat_le, option_and_then}
-use Rattle.std.proofs.lemmas.Bool.{le-leb, lt-leb}
-use Rattle.std.proofs.lemmas.Option.{option_and_then_some, cond_some}
-use Rattle.calls.specs.Acts.{Acts, Runs}
-use Rattle.calls.specs.declared.outcome.Came.TheVariants.{Answers, Refuses}
-use Rattle.calls.specs.Reads.{HasRead}
-use Rattle.calls.specs.Replaced.{Reaches, begun}
+use Rattle.calls.proofs.Common.{List, None, Option, Some, [], ap, arith, false, length, refl, subst, sym, true, ℕ, ◌%◌, ◌+◌, ◌-◌, ◌<◌, ◌*◌, ◌∙◌, ◌≡◌, ◌≤◌, IfSome, is_some, nat_le, option_and_then, le-leb, lt-leb, option_and_then_some}
+use Rattle.calls.proofs.Common.{cond_some, Acts, Runs, Answers, Refuses, HasRead, Reaches, begun, counting-kernel, live, not-killed, runs-mode, moved-kernel, moved-run, moved-state, slot-put, slot-within, fail-kernel, held-run, Kernel}
+use Rattle.calls.proofs.Common.{argument, counting, idle, left_as, on_hart, state_of, IsKernel, IsPlaced, Process, changed, with_mode, with_size, Started, Executes, IsExecuted, frames_beside, view_by, plan_at, started_by, held-same}
+use Rattle.calls.proofs.Common.{SpaceView, Spaces, has_space, view_at, taken_frames, with_view, FileTree, row, page_frames, Exec, Ready, Files, Node, find, slot, Memory, path_at, number_at, round_down, Outcome, answers, given, limited}
+use Rattle.calls.proofs.Common.{provided, Done, Loaded, Plan, Stack, loaded_of, plan, push_pointers, push_strings, with_args, with_stack, args_at, exec_registers, exec_row, file_bytes, fits_beside, replaced, State, put_process}
 use Rattle.calls.proofs.Acts.{Here, here-of, me, prints, refused}
 use Rattle.calls.proofs.Homes.{found-here, node-here, refused-read}
 use Rattle.calls.proofs.Names.{path-is}
 use Rattle.calls.proofs.Pipes.{given-refused}
-use Rattle.kernel.proofs.Finishes.{counting-kernel}
-use Rattle.kernel.proofs.Running.{live, not-killed, runs-mode}
-use Rattle.kernel.proofs.Runs.{moved, moved-kernel, moved-run, moved-state, slot-put, slot-within}
+use Rattle.kernel.proofs.Runs.{moved}
 use Rattle.kernel.proofs.Shown.{frames-state}
-use Rattle.kernel.proofs.Steps.{fail-kernel, held-run}
-use Rattle.kernel.specs.Kernel.{Kernel, argument, counting, idle, left_as, on_hart, state_of}
-use Rattle.kernel.specs.Sound.{IsKernel, IsPlaced}
-use Rattle.proc.specs.declared.process.Process.{Process}
-use Rattle.proc.specs.Places.{changed, with_mode, with_size}
-use Rattle.programs.specs.declared.executing.Started.{Started}
-use Rattle.programs.specs.Executed.{Executes, IsExecuted, frames_beside, view_by, plan_at, started_by}
-use Rattle.spaces.proofs.SpacesLemmas.{held-same}
-use Rattle.spaces.specs.Spaces.{SpaceView, Spaces, has_space, view_at, taken_frames, with_view}
-use Rattle.tree.specs.Tree.{FileTree}
-use Rattle.unixmodel.specs.Calls.{row}
-use Rattle.unixmodel.specs.Counts.{page_frames}
-use Rattle.unixmodel.specs.declared.call.Call.TheVariants.{Exec}
-use Rattle.unixmodel.specs.declared.process.Mode.TheVariants.{Ready}
-use Rattle.unixmodel.specs.Files.{Files, Node, find, slot}
-use Rattle.unixmodel.specs.Memory.{Memory, path_at}
-use Rattle.unixmodel.specs.Numbers.{number_at, round_down}
-use Rattle.unixmodel.specs.Outcome.{Outcome, answers, given, limited, provided}
-use Rattle.unixmodel.specs.Outcome.Outcome.{Done}
-use Rattle.unixmodel.specs.Plan.{Loaded, Plan, Stack, loaded_of, plan, push_pointers, push_strings, with_args, with_stack}
 use Rattle.unixmodel.specs.Process as unix
-use Rattle.unixmodel.specs.ProcessCalls.{args_at, exec_registers, exec_row, file_bytes, fits_beside, replaced}
-use Rattle.unixmodel.specs.State.{State, put_process}
 
 -- ---- where a program begins
 

@@ -1,11 +1,8 @@
 -- A read of a file or a directory.
-use Rattle.std.proofs.Common.{◌≡◌, ℕ, ◌+◌, ◌<◌, ◌≤◌, ◌^◌, true, false, List, [], length, take, drop, Option, Some, None, refl, ap, subst, sym, ◌∙◌, arith}
-use Rattle.std.specs.Prelude.{Err, Ok}
-use Rattle.std.proofs.lemmas.List.{length-drop, length-take}
-use Rattle.blockdev.specs.declared.DeviceFault.{DeviceFault}
-use Rattle.calls.specs.Acts.{GoesOn}
-use Rattle.calls.specs.declared.outcome.Came.TheVariants.{Answers}
-use Rattle.calls.specs.Transfers.{Uses, Transfers}
+use Rattle.calls.proofs.Common.{◌≡◌, ℕ, ◌+◌, ◌<◌, ◌≤◌, ◌^◌, true, false, List, [], length, take, drop, Option, Some, None, refl, ap, subst, sym, ◌∙◌, arith, Err, Ok, length-drop, length-take, DeviceFault, GoesOn}
+use Rattle.calls.proofs.Common.{Answers, Uses, Transfers, file_of, target_of, Counted, opens-moved, FitsNode, IsInUse, Kernel, descriptors_at, idle, left_as, on_hart, state_of, IsKernel, IsOpened, IsPlaced}
+use Rattle.calls.proofs.Common.{IsReading, set-slot, fail-kernel, placed-with, changed-same, Changed, Places, changed, with_mode, Spaces, view_at, IsRead, bytes_of, bytes_read, whole-node, FileTree, Serves}
+use Rattle.calls.proofs.Common.{IsWhole, Ready, Pending, read_file, read_node, read_on, Files, Node, longest, node_bytes, put, slot, Directory, File, write_bytes, low, OnNode, pending_arg, Done, State, put_process}
 use Rattle.calls.proofs.Acts.{Here, goes-serves, going, me, turned, turned-here, turned-state, used-here, used-turned}
 use Rattle.calls.proofs.Draws.{rewritten-fits}
 use Rattle.calls.proofs.Moving.{opened-moved, used-moved}
@@ -14,38 +11,15 @@ use Rattle.calls.proofs.Transfers.{file, file-fits, file-named, going-is, held-h
 use Rattle.files.specs.declared.file.End.TheVariants as end
 use Rattle.files.specs.declared.file.OpenFile.{OpenFile}
 use Rattle.files.specs.declared.file.Target.TheVariants as target
-use Rattle.files.specs.Meant.{file_of, target_of}
-use Rattle.files.specs.Places.{Counted, moved, opens_of}
-use Rattle.files.proofs.Whole.{opens-moved}
-use Rattle.kernel.specs.Holding.{FitsNode, IsInUse}
-use Rattle.kernel.specs.Kernel.{Kernel, descriptors_at, idle, left_as, on_hart, state_of}
-use Rattle.kernel.specs.Sound.{IsKernel, IsOpened, IsPlaced, IsReading}
+use Rattle.files.specs.Places.{moved, opens_of}
 use Rattle.kernel.proofs.Opens.{IsNamed}
-use Rattle.kernel.proofs.Runs.{set-slot}
-use Rattle.kernel.proofs.Steps.{fail-kernel, placed-with}
-use Rattle.names.proofs.Quiet.{changed-same}
-use Rattle.names.specs.Changes.{Changed}
-use Rattle.proc.specs.Places.{Places, changed, with_mode}
-use Rattle.spaces.specs.Spaces.{Spaces, view_at, written}
-use Rattle.file_transfers.specs.Moved.{IsRead, bytes_of, bytes_read, with_bytes}
-use Rattle.tree.proofs.Storing.{whole-node}
+use Rattle.spaces.specs.Spaces.{written}
+use Rattle.file_transfers.specs.Moved.{with_bytes}
 use Rattle.tree.specs.Stored.{FitsPlaces}
-use Rattle.tree.specs.Tree.{FileTree, Serves}
-use Rattle.tree.specs.Whole.{IsWhole}
-use Rattle.unixmodel.specs.declared.process.Mode.TheVariants.{Ready}
-use Rattle.unixmodel.specs.declared.process.Pending.{Pending}
-use Rattle.unixmodel.specs.FileCalls.{read_file, read_node, read_on}
-use Rattle.unixmodel.specs.Files.{Files, Node, longest, node_bytes, put, slot}
-use Rattle.unixmodel.specs.Files.Node.{Device, Directory, File}
+use Rattle.unixmodel.specs.Files.Node.{Device}
 use Rattle.unixmodel.specs.Image.{KeepsSize}
-use Rattle.unixmodel.specs.Memory.{write_bytes}
-use Rattle.unixmodel.specs.Numbers.{low}
 use Rattle.unixmodel.specs.OpenFiles as unix_files
-use Rattle.unixmodel.specs.OpenFiles.Target.{OnNode}
-use Rattle.unixmodel.specs.Outcome.{pending_arg}
-use Rattle.unixmodel.specs.Outcome.Outcome.{Done}
 use Rattle.unixmodel.specs.Process as unix
-use Rattle.unixmodel.specs.State.{State, put_process}
 
 -- ---- a node that has bytes
 

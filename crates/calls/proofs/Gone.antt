@@ -1,25 +1,9 @@
 -- The running process changes, and what nothing names any more is gone once the call is answered.
-use Rattle.std.proofs.Common.{◌≡◌, ◌≤◌, ◌∙◌, ℕ, List, [], Some, false, true, ap, sym}
-use Rattle.std.specs.Prelude.{slice_set}
-use Rattle.std.proofs.lemmas.Bool.{le-leb}
+use Rattle.calls.proofs.Common.{◌≡◌, ◌≤◌, ◌∙◌, ℕ, List, [], Some, false, true, ap, sym, slice_set, le-leb, match-active, match-place, within-state_with, change-put, moved-run, moved-state, process-run, self, set-slot}
+use Rattle.calls.proofs.Common.{slot-within, Kernel, loaded, state_of, IsPlace, IsPlaced, Process, taken_frames, quiet, settle, is_within, Running, slot, limited, Done, with_answer, reap, State, put_process}
 use Rattle.calls.proofs.Acts.{Here, me, used-here}
 use Rattle.calls.proofs.Settles.{settle-reaped}
-use Rattle.kernel.proofs.Reaped.{match-active, match-place, within-state_with}
-use Rattle.kernel.proofs.Running.{change-put}
-use Rattle.kernel.proofs.Runs.{moved, moved-run, moved-state, process-run, self, set-slot, slot-within}
-use Rattle.kernel.specs.Kernel.{Kernel, loaded, state_of}
-use Rattle.kernel.specs.Sound.{IsPlace, IsPlaced}
-use Rattle.proc.specs.declared.process.Process.{Process}
-use Rattle.spaces.specs.Spaces.{taken_frames}
-use Rattle.unixmodel.specs.Calls.{quiet, settle}
-use Rattle.unixmodel.specs.Counts.{is_within}
-use Rattle.unixmodel.specs.declared.process.Mode.TheVariants.{Running}
-use Rattle.unixmodel.specs.Files.{slot}
-use Rattle.unixmodel.specs.Outcome.{limited}
-use Rattle.unixmodel.specs.Outcome.Outcome.{Done}
-use Rattle.unixmodel.specs.Process.{with_answer}
-use Rattle.unixmodel.specs.Reap.{reap}
-use Rattle.unixmodel.specs.State.{State, put_process}
+use Rattle.kernel.proofs.Runs.{moved}
 
 module _ (k : Kernel) (i : ℕ) (x : Here k i) (q : Process) (placed : IsPlaced q x.held) (runs : q.mode ≡ Running) where
   abbrev mid : List ℕ → Kernel

@@ -1,60 +1,20 @@
 -- chdir: the running process works in another directory, and the one that it leaves may go.
-use Rattle.std.proofs.Common.{Bool, List, None, Option, Some, [], ap, arith, false, refl, subst, sym, true, zero, suc, ℕ, ◌+◌, ◌<◌, ◌++◌, ◌∙◌, ◌∷◌, ◌≡◌, ◌≢◌, ◌≤◌, length}
-use Rattle.std.specs.Prelude.{Err, IfSome, IsSome, Ok, Result, slice_set}
-use Rattle.std.proofs.lemmas.Bool.{ne_eqb}
-use Rattle.std.proofs.lemmas.List.Sums.{sum_by-cons, sum_by-set, sum_by-append}
-use Rattle.std.proofs.lemmas.Option.{none-some, same_Some}
-use Rattle.blockdev.specs.declared.DeviceFault.{DeviceFault}
-use Rattle.calls.specs.Acts.{Acts, Runs}
-use Rattle.calls.specs.Gives.{IsLost}
-use Rattle.calls.specs.Reads.{FindsFrom, HasRead}
-use Rattle.calls.specs.Replaced.{Reaches}
-use Rattle.calls.specs.declared.outcome.Came.TheVariants.{Answers, Refuses}
+use Rattle.calls.proofs.Common.{Bool, List, None, Option, Some, [], ap, arith, false, refl, subst, sym, true, zero, suc, ℕ, ◌+◌, ◌<◌, ◌++◌, ◌∙◌, ◌∷◌, ◌≡◌, ◌≢◌, ◌≤◌, length, Err, IfSome, IsSome, Ok, Result, slice_set, ne_eqb}
+use Rattle.calls.proofs.Common.{sum_by-cons, sum_by-set, sum_by-append, none-some, same_Some, DeviceFault, Acts, Runs, IsLost, FindsFrom, HasRead, Reaches, Answers, Refuses, one_in, Counts, one_at, without_pipes-same, Counted}
+use Rattle.calls.proofs.Common.{without_opens-same, InodeStat, counting-kernel, counting-used, AreAway, AreOldHomes, fewer-held, fewer-nodes, fewer-used, hold-more, holders-few, home-folder, homes-set, named_in, counts-joined}
+use Rattle.calls.proofs.Common.{opened-put, waits-running, away-loaded, opened-loaded, not-killed, regs-kernel, regs-run, IsRun, home-running, loaded-run, moved-run, self, set-slot, set-twice, slot-within, fail-kernel}
+use Rattle.calls.proofs.Common.{descriptors_in, AreHeld, IsFolder, IsInUse, dropped, files_on, home_in, homes_at, Kernel, answered, argument, left_as, loaded, memories, on_hart, state_of, IsKernel, IsOpened, IsPlaced, Process}
+use Rattle.calls.proofs.Common.{changed, with_directory, joined, view_at, holders, let_go, with_hold, without_hold, Tells, FileTree, Serves, IsWhole, outcome_of, row, settle, Call, Chdir, Ready, Node, find, is_directory}
+use Rattle.calls.proofs.Common.{kind_of, put, slot, Directory, File, Memory, path_at, chdir_row, path_arg, Outcome, answers, given, limited, provided, Done, Refused, reap, without_nodes, without_pipes, State, put_process}
 use Rattle.calls.proofs.Acts.{Here, here-of, me, outcome-here, refused, settles, turned, turned-here, used-here, named-placed}
 use Rattle.calls.proofs.Gone.{changed-fits, changed_answered, settles-gone}
 use Rattle.calls.proofs.Names.{home-is, names-rules, path-is}
 use Rattle.calls.proofs.Served.{ok-told, on-err, serves-lost}
 use Rattle.calls.proofs.Shapes.{folder-there}
-use Rattle.files.specs.Counts.{one_in}
-use Rattle.files.proofs.CountsLemmas.{Counts, one_at}
-use Rattle.files.proofs.PipesLemmas.{without_pipes-same}
-use Rattle.files.specs.Places.{Counted, opens_of}
-use Rattle.files.proofs.Whole.{without_opens-same}
-use Rattle.inode.specs.declared.InodeStat.{InodeStat}
+use Rattle.files.specs.Places.{opens_of}
 use Rattle.kernel.proofs.Dropping.{counted}
-use Rattle.kernel.proofs.Finishes.{counting-kernel, counting-used}
-use Rattle.kernel.proofs.Holding.{AreAway, AreOldHomes, fewer-held, fewer-nodes, fewer-used, hold-more, holders-few, home-folder, homes-set, named_in}
-use Rattle.kernel.proofs.Named.{counts-joined}
-use Rattle.kernel.proofs.Opens.{opened-put, waits-running}
-use Rattle.kernel.proofs.Reaped.{away-loaded, opened-loaded}
-use Rattle.kernel.proofs.Running.{not-killed, regs-kernel, regs-run}
-use Rattle.kernel.proofs.Runs.{IsRun, home-running, loaded-run, moved-run, self, set-slot, set-twice, slot-within}
-use Rattle.kernel.proofs.Steps.{fail-kernel}
-use Rattle.kernel.specs.Descriptors.{descriptors_in}
-use Rattle.kernel.specs.Holding.{AreHeld, IsFolder, IsInUse, dropped, files_on, home_in, homes_at}
-use Rattle.kernel.specs.Kernel.{Kernel, answered, argument, left_as, loaded, memories, on_hart, state_of}
-use Rattle.kernel.specs.Sound.{IsKernel, IsOpened, IsPlaced}
 use Rattle.names.proofs.Naming.{find-used}
-use Rattle.proc.specs.declared.process.Process.{Process}
-use Rattle.proc.specs.Places.{changed, with_directory}
-use Rattle.proc.specs.Whole.{joined}
-use Rattle.spaces.specs.Spaces.{view_at}
-use Rattle.tree.specs.Holding.{holders, let_go, with_hold, without_hold}
-use Rattle.tree.specs.Telling.{Tells}
-use Rattle.tree.specs.Tree.{FileTree, Serves}
-use Rattle.tree.specs.Whole.{IsWhole}
-use Rattle.unixmodel.specs.Calls.{outcome_of, row, settle}
-use Rattle.unixmodel.specs.declared.call.Call.{Call}
-use Rattle.unixmodel.specs.declared.call.Call.TheVariants.{Chdir}
-use Rattle.unixmodel.specs.declared.process.Mode.TheVariants.{Ready}
-use Rattle.unixmodel.specs.Files.{Node, find, is_directory, kind_of, put, slot}
-use Rattle.unixmodel.specs.Files.Node.{Device, Directory, File}
-use Rattle.unixmodel.specs.Memory.{Memory, path_at}
-use Rattle.unixmodel.specs.NameCalls.{chdir_row, path_arg}
-use Rattle.unixmodel.specs.Outcome.{Outcome, answers, given, limited, provided}
-use Rattle.unixmodel.specs.Outcome.Outcome.{Done, Refused}
-use Rattle.unixmodel.specs.Reap.{reap, without_nodes, without_pipes}
-use Rattle.unixmodel.specs.State.{State, put_process}
+use Rattle.unixmodel.specs.Files.Node.{Device}
 
 -- ---- who holds what
 

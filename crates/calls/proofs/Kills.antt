@@ -1,46 +1,18 @@
 -- kill: a process is marked; one that marks itself is answered, and ends.
-use Rattle.unixmodel.specs.declared.process.Mode.{Mode}
-use Rattle.std.proofs.lemmas.Option.{none-some}
-use Rattle.files.specs.Counts.{one_in}
-use Rattle.kernel.specs.Holding.{files_on, home_in, homes_at}
-use Rattle.kernel.proofs.Holding.{AreOldHomes, fewer-leaves, fewer-nodes, named_in, same-set}
-use Rattle.std.proofs.Common.{List, None, Option, Some, [], ap, arith, false, inl, inr, length, map, nat_le, negsuc, refl, subst, suc, sym, true, zero, ℕ, ◌%◌, ◌+◌, ◌<◌, ◌∙◌, ◌≡◌, ◌≢◌}
-use Rattle.std.specs.Prelude.{not, option_map, slice_index, slice_index_or, slice_set}
-use Rattle.std.proofs.lemmas.Bool.{le-leb}
-use Rattle.std.proofs.lemmas.List.{get_or-set_other, length-map, map-set, set-get_or, set_comm}
-use Rattle.calls.specs.Acts.{Acts, Runs, marked_by, settled_by}
-use Rattle.calls.specs.declared.outcome.Came.TheVariants.{Answers, KillsItself, Refuses}
-use Rattle.kernel.specs.Kernel.{Kernel, answered, argument, base, ended, halted_by, lives, loaded, marked, memories, memory_in, on_hart, rest_of, state_of}
-use Rattle.calls.specs.Processes.{place_called}
-use Rattle.kernel.specs.Sound.{IsKernel, is_at}
+use Rattle.calls.proofs.Common.{Mode, none-some, one_in, files_on, home_in, homes_at, AreOldHomes, fewer-leaves, fewer-nodes, named_in, same-set, List, None, Option, Some, [], ap, arith, false, inl, inr, length, map}
+use Rattle.calls.proofs.Common.{nat_le, negsuc, refl, subst, suc, sym, true, zero, ℕ, ◌%◌, ◌+◌, ◌<◌, ◌∙◌, ◌≡◌, ◌≢◌, not, option_map, slice_index, slice_index_or, slice_set, le-leb, get_or-set_other, length-map, map-set}
+use Rattle.calls.proofs.Common.{set-get_or, set_comm, Acts, Runs, marked_by, settled_by, Answers, KillsItself, Refuses, Kernel, answered, argument, base, ended, halted_by, lives, loaded, marked, memories, memory_in}
+use Rattle.calls.proofs.Common.{on_hart, rest_of, state_of, place_called, IsKernel, is_at, ended-is, ended-kernel, ended_to, nodes, nodes-counted, old-homes, other-at, counts-joined, old-all_closed, reap-closed, IsMatch}
+use Rattle.calls.proofs.Common.{are-away, match-loaded, used-loaded, within-state_with, IsRun, loaded-run, memory-at, process-run, process-with, put-with, same_or_not, self, set-twice, slot-other, slot-put, slot-within}
+use Rattle.calls.proofs.Common.{state-run, with_process, within-run, change-put, change-run, regs-kernel, regs-run, Process, Places, has_pid, orphaned, place_where, with_mark, zombie_of, change_process-with_table}
+use Rattle.calls.proofs.Common.{place_of_pid-with_table, place_where-Some, with_zombie-with_table, with_memory, with_table, SpaceView, end_at, quiet, settle, is_within, Kill, put, slot, Memory, int_of, natural, Outcome}
+use Rattle.calls.proofs.Common.{answers, end_process, given, limited, provided, Done, is_zombie_mode, with_answer, kill_row, reap, State, change_process, place_of_pid, process_at, put_process}
 use Rattle.calls.proofs.Acts.{Here, came, does, here-of, me, refused}
-use Rattle.kernel.proofs.Changes.{ended-is, ended-kernel, ended_to, nodes, nodes-counted, old-homes, other-at}
 use Rattle.calls.proofs.Collects.{where-put}
 use Rattle.kernel.proofs.Marks.{marked-is, marked-kernel, marked_to}
-use Rattle.kernel.proofs.Named.{counts-joined, old-all_closed, reap-closed}
-use Rattle.kernel.proofs.Reaped.{IsMatch, are-away, match-loaded, used-loaded, within-state_with}
-use Rattle.kernel.proofs.Runs.{IsRun, loaded-run, memory-at, process-run, process-with, put-with, same_or_not, self, set-twice, slot-other, slot-put, slot-within, state-run, with_process, within-run}
-use Rattle.kernel.proofs.Running.{change-put, change-run, regs-kernel, regs-run}
 use Rattle.files.specs.Places.{opens_of}
-use Rattle.proc.specs.declared.process.Process.{Process}
 use Rattle.proc.specs.Places as table
-use Rattle.proc.specs.Places.{Places, has_pid, orphaned, place_where, with_mark, zombie_of}
-use Rattle.proc.proofs.Joined.{change_process-with_table, place_of_pid-with_table, place_where-Some, with_zombie-with_table}
-use Rattle.proc.specs.Whole.{with_memory, with_table}
-use Rattle.spaces.specs.Spaces.{SpaceView}
-use Rattle.unixmodel.specs.Calls.{end_at, quiet, settle}
-use Rattle.unixmodel.specs.Counts.{is_within}
-use Rattle.unixmodel.specs.declared.call.Call.TheVariants.{Kill}
-use Rattle.unixmodel.specs.Files.{put, slot}
-use Rattle.unixmodel.specs.Memory.{Memory}
-use Rattle.unixmodel.specs.Numbers.{int_of, natural}
-use Rattle.unixmodel.specs.Outcome.{Outcome, answers, end_process, given, limited, provided}
-use Rattle.unixmodel.specs.Outcome.Outcome.{Done}
-use Rattle.unixmodel.specs.Process.{is_zombie_mode, with_answer}
 use Rattle.unixmodel.specs.ProcessCalls as rows
-use Rattle.unixmodel.specs.ProcessCalls.{kill_row}
-use Rattle.unixmodel.specs.Reap.{reap}
-use Rattle.unixmodel.specs.State.{State, change_process, place_of_pid, process_at, put_process}
 
 module _ (k : Kernel) (i : ℕ) (x : Here k i) where
   abbrev p : Process

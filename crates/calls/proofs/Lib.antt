@@ -1,3 +1,4 @@
+mod Common
 pub mod Settles
 pub mod Rows
 pub mod Served

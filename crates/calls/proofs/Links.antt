@@ -1,33 +1,13 @@
 -- link: a name more for a file or a device.
 use Rattle.calls.proofs.Served.{ok-told}
-use Rattle.std.proofs.Common.{◌≡◌, ◌≢◌, ℕ, ◌∙◌, List, None, Option, Some, ap, refl, subst, sym}
-use Rattle.std.specs.Prelude.{All, IfSome, Ok, Result, option_and_then}
-use Rattle.calls.specs.Acts.{Acts, ActsOnDisk, Runs}
-use Rattle.blockdev.specs.declared.DeviceFault.{DeviceFault}
+use Rattle.calls.proofs.Common.{◌≡◌, ◌≢◌, ℕ, ◌∙◌, List, None, Option, Some, ap, refl, subst, sym, All, IfSome, Ok, Result, option_and_then, Acts, ActsOnDisk, Runs, DeviceFault}
+use Rattle.calls.proofs.Common.{Came, Answers, Refuses, Kernel, argument, state_of, view_at, Overflows, TreeFault, linked_in, LacksLinking, FileTree, IsWhole, linked-changed}
+use Rattle.calls.proofs.Common.{outcome_of, row, Link, find, slot, spot_of, path_at, link_row, linked, path_arg, with_files, answers, given, limited, Refused, State}
 use Rattle.calls.specs.Named.{IsNamed}
-use Rattle.calls.specs.declared.outcome.Came.{Came}
-use Rattle.calls.specs.declared.outcome.Came.TheVariants.{Answers, Refuses}
 use Rattle.calls.proofs.Acts.{refused}
 use Rattle.calls.proofs.Names.{given-then, here, home-is, made-over, mine, named-acts, name-made, names-rules, path-is, with_made}
-use Rattle.kernel.specs.Kernel.{Kernel, argument, state_of}
-use Rattle.spaces.specs.Spaces.{view_at}
-use Rattle.tree.specs.Answers.{Overflows}
-use Rattle.tree.specs.declared.TreeFault.{TreeFault}
-use Rattle.tree.specs.Entering.{linked_in}
-use Rattle.tree.specs.Lacking.{LacksLinking}
 use Rattle.tree.specs.Tree as tree
-use Rattle.tree.specs.Tree.{FileTree}
-use Rattle.tree.specs.Whole.{IsWhole}
-use Rattle.tree.proofs.Keeping.{linked-changed}
-use Rattle.unixmodel.specs.Calls.{outcome_of, row}
-use Rattle.unixmodel.specs.declared.call.Call.TheVariants.{Link}
-use Rattle.unixmodel.specs.Files.{find, slot, spot_of}
-use Rattle.unixmodel.specs.Memory.{path_at}
-use Rattle.unixmodel.specs.NameCalls.{link_row, linked, path_arg, with_files}
-use Rattle.unixmodel.specs.Outcome.{answers, given, limited}
-use Rattle.unixmodel.specs.Outcome.Outcome.{Refused}
 use Rattle.unixmodel.specs.Process as unix
-use Rattle.unixmodel.specs.State.{State}
 
 link-row : (s : State) (i : ℕ) (p : unix.Process) (old new : List ℕ) → path_arg p 0 ≡ Some old → path_arg p 1 ≡ Some new → link_row s i p ≡ with_made s (linked_in s.files p.directory old new)
 unfolding link_row linked_in

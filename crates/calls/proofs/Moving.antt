@@ -1,25 +1,12 @@
 -- What holds of open files and of who holds nodes, where an open file goes on from another offset.
-use Rattle.std.proofs.Common.{◌≡◌, ℕ, zero, suc, ◌≤◌, ◌⊎◌, inl, inr, List, [], ◌∷◌, Option, Some, None, refl, ap, subst, sym, ◌∙◌}
-use Rattle.std.specs.Prelude.{option_map, ◌||◌}
-use Rattle.std.proofs.lemmas.Option.{none-some, same_Some}
-use Rattle.files.specs.Counts.{one_in}
-use Rattle.files.proofs.CountsLemmas.{count-moved}
+use Rattle.calls.proofs.Common.{◌≡◌, ℕ, zero, suc, ◌≤◌, ◌⊎◌, inl, inr, List, [], ◌∷◌, Option, Some, None, refl, ap, subst, sym, ◌∙◌, option_map, ◌||◌, none-some, same_Some, one_in}
+use Rattle.calls.proofs.Common.{count-moved, Target, file_of, target_of, Counted, file_at, moved_in, moved_to, table-moved, FitsNode, IsInUse, node_in, node_of, node_on, IsOpenFile}
+use Rattle.calls.proofs.Common.{IsOpened, is_awaited, is_on_pipe, same-set, used-files, WasAlike, slot-file, waits-kept, Process, FileTree, Node, longest, slot, Directory, File, is_pipe}
 use Rattle.files.specs.declared.file.OpenFile.{OpenFile}
-use Rattle.files.specs.declared.file.Target.{Target}
 use Rattle.files.specs.declared.file.Target.TheVariants as target
-use Rattle.files.specs.Meant.{file_of, target_of}
-use Rattle.files.specs.Places.{Counted, file_at, has_pipe, moved, moved_in, moved_to, opens_of}
-use Rattle.files.proofs.Whole.{table-moved}
-use Rattle.kernel.specs.Holding.{FitsNode, IsInUse, node_in, node_of, node_on}
-use Rattle.kernel.specs.Sound.{IsOpenFile, IsOpened, is_awaited, is_on_pipe}
-use Rattle.kernel.proofs.Holding.{same-set, used-files}
-use Rattle.kernel.proofs.Opens.{WasAlike, slot-file, waits-kept}
-use Rattle.proc.specs.declared.process.Process.{Process}
-use Rattle.tree.specs.Tree.{FileTree}
-use Rattle.unixmodel.specs.Files.{Node, longest, slot}
-use Rattle.unixmodel.specs.Files.Node.{Device, Directory, File}
+use Rattle.files.specs.Places.{has_pipe, moved, opens_of}
+use Rattle.unixmodel.specs.Files.Node.{Device}
 use Rattle.unixmodel.specs.OpenFiles as unix
-use Rattle.unixmodel.specs.OpenFiles.{is_pipe}
 
 -- what stands in a place was there, or is the open file itself, which goes on from there
 pub record WasAt (opens : List (Option Counted)) (n offset m : ℕ) (c : Counted) : Type 0 where

@@ -1,52 +1,20 @@
 -- Calls on names: the running process stays as it is, and the files alone change.
-use Rattle.blockdev.specs.declared.DeviceFault.{DeviceFault}
+use Rattle.calls.proofs.Common.{DeviceFault, ◌≡◌, ◌≢◌, ℕ, ◌<◌, ◌∙◌, Bool, List, [], None, Option, Some, ap, arith, false, refl, subst, sym, true, All, Err, IfErr, IfOk, IfSome, IsSome, Ok, OnErr, Result}
+use Rattle.calls.proofs.Common.{if◌then◌else◌, nat_le, option_and_then, option_map, ◌%◌, ◌&&◌, ◌^◌, false≢true, lt-leb, and_left, and_right, Acts, ActsOnDisk, Runs, IsRefused, Came, Answers, Refuses, IsInUse}
+use Rattle.calls.proofs.Common.{home_in, Keeps, Kernel, argument, idle, on_hart, state_of, IsKernel, home-folder, home-running, fail-keeps, held-run, with-tree, Changed, shape, KeepsTree, Process, changed}
+use Rattle.calls.proofs.Common.{with_mode, SpaceView, view_at, Overflows, TreeFault, folder_in, made_files, made_in, LacksFolder, LacksMaking, leaf_node, FileTree, has_failed, is_device, IsWhole, created-changed}
+use Rattle.calls.proofs.Common.{device-is, folder-changed, outcome_of, quiet, row, settle, blocks_of, frames_of, is_within, Call, Mkdir, Mknod, Ready, Files, Node, slot, spot_of, path_at, Made, made_at}
+use Rattle.calls.proofs.Common.{made_directory, mkdir_row, mknod_row, path_arg, with_files, Outcome, answers, given, limited, minus_one, provided, Done, Refused, arg, with_answer, State, change_process, open_limit}
 use Rattle.calls.proofs.Served.{ok-told}
-use Rattle.std.proofs.Common.{◌≡◌, ◌≢◌, ℕ, ◌<◌, ◌∙◌, Bool, List, [], None, Option, Some, ap, arith, false, refl, subst, sym, true}
-use Rattle.std.specs.Prelude.{All, Err, IfErr, IfOk, IfSome, IsSome, Ok, OnErr, Result, if◌then◌else◌, nat_le, option_and_then, option_map, ◌%◌, ◌&&◌, ◌^◌}
-use Rattle.std.proofs.lemmas.Bool.{false≢true, lt-leb, and_left, and_right}
-use Rattle.calls.specs.Acts.{Acts, ActsOnDisk, Runs}
-use Rattle.calls.specs.Named.{IsNamed, IsRefused}
-use Rattle.calls.specs.declared.outcome.Came.{Came}
-use Rattle.calls.specs.declared.outcome.Came.TheVariants.{Answers, Refuses}
+use Rattle.calls.specs.Named.{IsNamed}
 use Rattle.calls.proofs.Acts.{Here, here-of, me, outcome-here, prints, refused, used-here}
 use Rattle.calls.proofs.Shapes.{folder-there, used-changed, used-shaped}
-use Rattle.kernel.specs.Holding.{IsInUse, home_in}
-use Rattle.kernel.specs.View.{Keeps}
-use Rattle.kernel.specs.Kernel.{Kernel, argument, idle, on_hart, state_of}
-use Rattle.kernel.specs.Sound.{IsKernel}
-use Rattle.kernel.proofs.Holding.{home-folder}
-use Rattle.kernel.proofs.Runs.{home-running}
-use Rattle.kernel.proofs.Steps.{fail-keeps, held-run, with-tree}
-use Rattle.names.specs.Changes.{Changed, shape}
-use Rattle.names.specs.Rules.{KeepsTree}
-use Rattle.proc.specs.declared.process.Process.{Process}
-use Rattle.proc.specs.Places.{changed, with_mode}
-use Rattle.spaces.specs.Spaces.{SpaceView, view_at}
-use Rattle.tree.specs.Answers.{Overflows}
-use Rattle.tree.specs.declared.TreeFault.{TreeFault}
 use Rattle.tree.specs.declared.TreeFault.TheVariants.{Device}
-use Rattle.tree.specs.Entering.{folder_in, made_files, made_in}
-use Rattle.tree.specs.Lacking.{LacksFolder, LacksMaking}
-use Rattle.tree.specs.Leaves.{leaf_node}
 use Rattle.tree.specs.declared.making.Leaf.{Leaf}
 use Rattle.tree.specs.declared.making.Leaf.TheVariants as leaf
 use Rattle.tree.specs.Tree as tree
-use Rattle.tree.specs.Tree.{FileTree, has_failed, is_device}
-use Rattle.tree.specs.Whole.{IsWhole}
-use Rattle.tree.proofs.Keeping.{created-changed, device-is, folder-changed}
-use Rattle.unixmodel.specs.Calls.{outcome_of, quiet, row, settle}
-use Rattle.unixmodel.specs.Counts.{blocks_of, frames_of, is_within, opens_of}
-use Rattle.unixmodel.specs.declared.call.Call.{Call}
-use Rattle.unixmodel.specs.declared.call.Call.TheVariants.{Mkdir, Mknod}
-use Rattle.unixmodel.specs.declared.process.Mode.TheVariants.{Ready}
-use Rattle.unixmodel.specs.Files.{Files, Node, slot, spot_of}
-use Rattle.unixmodel.specs.Memory.{path_at}
-use Rattle.unixmodel.specs.NameCalls.{Made, made_at, made_directory, mkdir_row, mknod_row, path_arg, with_files}
-use Rattle.unixmodel.specs.Outcome.{Outcome, answers, given, limited, minus_one, provided}
-use Rattle.unixmodel.specs.Outcome.Outcome.{Done, Refused}
+use Rattle.unixmodel.specs.Counts.{opens_of}
 use Rattle.unixmodel.specs.Process as unix
-use Rattle.unixmodel.specs.Process.{arg, with_answer}
-use Rattle.unixmodel.specs.State.{State, change_process, open_limit}
 
 -- ---- rows
 

@@ -1,78 +1,32 @@
 -- open: the running process has a new open file on a node.
-use Rattle.std.proofs.Common.{Bool, Err, List, None, Ok, Option, Some, [], ap, arith, false, inl, inr, le_trans, length, refl, subst, suc, sym, true, ℕ, ◌+◌, ◌<◌, ◌∙◌, ◌≡◌, ◌≢◌, ◌≤◌}
+use Rattle.calls.proofs.Common.{Bool, Err, List, None, Ok, Option, Some, [], ap, arith, false, inl, inr, le_trans, length, refl, subst, suc, sym, true, ℕ, ◌+◌, ◌<◌, ◌∙◌, ◌≡◌, ◌≢◌, ◌≤◌, All, IfSome, Result, count_by, if◌then◌else◌}
+use Rattle.calls.proofs.Common.{is_none, nat_lt, not, option_and_then, option_map, slice_set, ◌==◌, ◌||◌, cases_eq, eqb-true, false≢true, lt-ltb, get_or-set_other, get_or-set_same, length-set, sum_by-set, none-some}
+use Rattle.calls.proofs.Common.{option_and_then_some, same_Some, DeviceFault, Acts, ActsOnDisk, Runs, outcome_at, settled_by, Came, Answers, Refuses, IsServed, IsRefused, Asks, Cuts, IsCut, IsOpenable, Opens, cut_tree, file_by}
+use Rattle.calls.proofs.Common.{has_seat, may_open_by, target_by, with_open, HasRead, OpensAs, free_descriptors, one_in, count-opened, names-put, file_of, target_of, IsPiped, has_pipe-put, Counted, count_at, count_in, file_at}
+use Rattle.calls.proofs.Common.{free_count, free_slot-opens, opens-opened, table-opened, free-None, free-opens, free-place, InodeStat, hold-more, alike-same, file-opened, place-counts, waits-kept, waits-running, waits-set, process-run}
+use Rattle.calls.proofs.Common.{same_or_not, set-slot, slot-other, slot-put, slot-within, with-tree, IsCounted, descriptors_in, FitsNode, IsInUse, files_on, node_in, node_of, node_on, Kernel, argument, state_of, IsKernel, IsOpenFile}
+use Rattle.calls.proofs.Common.{IsOpened, IsPlaced, enter-parts, make-parts, Changed, Process, Places, changed, view_at, created-changed, Overflows, TreeFault, made_files, made_in, holders, with_hold, leaf_node, Tells, TellsMajor}
+use Rattle.calls.proofs.Common.{HasFiles, FileTree, has_failed, IsWhole, outcome_of, row, settle, blocks_of, Call, Open, Files, Node, Spot, change_node, find, free_slot, kind_of, put, slot, spot_of, Directory, File, path_at, Made}
+use Rattle.calls.proofs.Common.{creates, emptied, found_or_made, make_at, made_at, may_open, new_file, open_row, truncated, truncates, has_bit, low, OnNode, Outcome, answers, given, limited, provided, Done, Refused, State}
 use Rattle.calls.proofs.Renames.{named-put}
-use Rattle.std.specs.Prelude.{All, IfSome, Result, count_by, if◌then◌else◌, is_none, nat_lt, not, option_and_then, option_map, slice_set, ◌==◌, ◌||◌}
-use Rattle.std.proofs.lemmas.Bool.{cases_eq, eqb-true, false≢true, lt-ltb}
-use Rattle.std.proofs.lemmas.List.{get_or-set_other, get_or-set_same, length-set}
-use Rattle.std.proofs.lemmas.List.Sums.{sum_by-set}
-use Rattle.std.proofs.lemmas.Option.{none-some, option_and_then_some, same_Some}
-use Rattle.blockdev.specs.declared.DeviceFault.{DeviceFault}
-use Rattle.calls.specs.Acts.{Acts, ActsOnDisk, Runs, outcome_at, settled_by}
-use Rattle.calls.specs.declared.outcome.Came.{Came}
-use Rattle.calls.specs.declared.outcome.Came.TheVariants.{Answers, Refuses}
-use Rattle.calls.specs.Gives.{IsServed}
-use Rattle.calls.specs.Named.{IsRefused}
-use Rattle.calls.specs.Opened.{Asks, Cuts, IsCut, IsOpenable, Opens, cut_tree, file_by, has_seat, may_open_by, target_by, with_open}
-use Rattle.calls.specs.Reads.{HasRead}
-use Rattle.calls.specs.Renamed.{OpensAs, free_descriptors}
 use Rattle.calls.proofs.Acts.{Here, here-of, me, named-placed, prints, refused, turned, turned-here, turned-state, used-here, used-turned}
 use Rattle.calls.proofs.Homes.{few-hold, found-here, node-here, refused-read}
 use Rattle.calls.proofs.Names.{MakesNode, home-is, names-rules, refused-acts, over-blocks, path-is}
 use Rattle.calls.proofs.Pipes.{given-refused}
 use Rattle.calls.proofs.Served.{lost-after, served-after, ok-told}
 use Rattle.calls.proofs.Shapes.{used-changed}
-use Rattle.files.specs.Counts.{one_in}
-use Rattle.files.proofs.CountsLemmas.{count-opened, names-put}
 use Rattle.files.specs.declared.file.OpenFile.{OpenFile}
 use Rattle.files.specs.declared.file.Target.TheVariants as target
-use Rattle.files.specs.Meant.{file_of, target_of}
-use Rattle.files.specs.Pipes.{IsPiped}
-use Rattle.files.proofs.PipesLemmas.{has_pipe-put}
 use Rattle.files.specs.Places as places
-use Rattle.files.specs.Places.{Counted, count_at, count_in, file_at, free_count, opens_of}
-use Rattle.files.proofs.Whole.{free_slot-opens, opens-opened, table-opened}
-use Rattle.files.proofs.Free.{free-None, free-opens, free-place}
-use Rattle.inode.specs.declared.InodeStat.{InodeStat}
-use Rattle.kernel.proofs.Holding.{hold-more}
-use Rattle.kernel.proofs.Opens.{alike-same, file-opened, place-counts, waits-kept, waits-running, waits-set}
-use Rattle.kernel.proofs.Runs.{process-run, same_or_not, set-slot, slot-other, slot-put, slot-within}
-use Rattle.kernel.proofs.Steps.{with-tree}
-use Rattle.kernel.specs.Descriptors.{IsCounted, descriptors_in}
-use Rattle.kernel.specs.Holding.{FitsNode, IsInUse, files_on, node_in, node_of, node_on}
-use Rattle.kernel.specs.Kernel.{Kernel, argument, state_of}
-use Rattle.kernel.specs.Sound.{IsKernel, IsOpenFile, IsOpened, IsPlaced}
-use Rattle.names.proofs.Finding.{enter-parts, make-parts}
+use Rattle.files.specs.Places.{opens_of}
 use Rattle.names.proofs.Quiet as quiet
 use Rattle.names.proofs.Spots.{spot-absent}
-use Rattle.names.specs.Changes.{Changed}
-use Rattle.proc.specs.declared.process.Process.{Process}
-use Rattle.proc.specs.Places.{Places, changed, with_descriptor}
-use Rattle.spaces.specs.Spaces.{view_at}
-use Rattle.tree.proofs.Keeping.{created-changed}
-use Rattle.tree.specs.Answers.{Overflows}
+use Rattle.proc.specs.Places.{with_descriptor}
 use Rattle.tree.specs.declared.making.Leaf.TheVariants as leaf
-use Rattle.tree.specs.declared.TreeFault.{TreeFault}
-use Rattle.tree.specs.Entering.{made_files, made_in}
-use Rattle.tree.specs.Holding.{holders, with_hold}
-use Rattle.tree.specs.Leaves.{leaf_node}
-use Rattle.tree.specs.Telling.{Tells, TellsMajor}
-use Rattle.tree.specs.Tree.{HasFiles, FileTree, has_failed}
-use Rattle.tree.specs.Whole.{IsWhole}
-use Rattle.unixmodel.specs.Calls.{outcome_of, row, settle}
-use Rattle.unixmodel.specs.Counts.{blocks_of}
-use Rattle.unixmodel.specs.declared.call.Call.{Call}
-use Rattle.unixmodel.specs.declared.call.Call.TheVariants.{Open}
-use Rattle.unixmodel.specs.Files.{Files, Node, Spot, change_node, find, free_slot, kind_of, put, slot, spot_of}
-use Rattle.unixmodel.specs.Files.Node.{Device, Directory, File}
-use Rattle.unixmodel.specs.Memory.{path_at}
-use Rattle.unixmodel.specs.NameCalls.{Made, creates, emptied, found_or_made, make_at, made_at, may_open, new_file, open_row, opened, truncated, truncates}
-use Rattle.unixmodel.specs.Numbers.{has_bit, low}
+use Rattle.unixmodel.specs.Files.Node.{Device}
+use Rattle.unixmodel.specs.NameCalls.{opened}
 use Rattle.unixmodel.specs.OpenFiles as unix_files
-use Rattle.unixmodel.specs.OpenFiles.Target.{OnNode}
-use Rattle.unixmodel.specs.Outcome.{Outcome, answers, given, limited, provided}
-use Rattle.unixmodel.specs.Outcome.Outcome.{Done, Refused}
 use Rattle.unixmodel.specs.Process as unix
-use Rattle.unixmodel.specs.State.{State}
 
 -- ---- flags and types
 

@@ -1,40 +1,20 @@
 -- Many steps, piece by piece.
-use Rattle.std.proofs.Common.{inl, inr, true, ◌&&◌, is_none, ◌≡◌, ◌<◌, ◌≤◌, ◌+◌, ◌-◌, ◌++◌, ℕ, ℤ, zero, suc, false, List, [], ◌∷◌, replicate, Option, Some, None, Ok, Err, refl, ap, subst, sym, ◌∙◌, arith, append-nil}
-use Rattle.std.proofs.lemmas.Bool.{cases_lt}
-use Rattle.std.proofs.lemmas.List.{replicate-append-replicate}
-use Rattle.std.specs.Prelude.{IfNone, IfSome, Result}
-use Rattle.calls.specs.declared.halt.Halt.{Halt}
-use Rattle.calls.specs.declared.halt.Halt.TheVariants.{Console, Device, Halted, InitEnded}
-use Rattle.calls.specs.Gives.{EventGives, IsServed, LeavesTree, Makes}
+use Rattle.calls.proofs.Common.{inl, inr, true, ◌&&◌, is_none, ◌≡◌, ◌<◌, ◌≤◌, ◌+◌, ◌-◌, ◌++◌, ℕ, ℤ, zero, suc, false, List, [], ◌∷◌, replicate, Option, Some, None, Ok, Err, refl, ap, subst, sym, ◌∙◌, arith}
+use Rattle.calls.proofs.Common.{append-nil, cases_lt, replicate-append-replicate, IfNone, IfSome, Result, Halt, Halted, InitEnded, EventGives, IsServed, LeavesTree, Makes, IsBusy, IsBusyFor, LeavesFiles}
+use Rattle.calls.proofs.Common.{PieceGives, PieceGoes, StepsGive, StopsAt, Went, stepped, state-but, busy-state, idle-turn, Kernel, computed, picked, state_of, waking, IsKernel, run-of, held-run, Spaces}
+use Rattle.calls.proofs.Common.{view_at, FileTree, After, quiet, cycle, Step, Trap, Computed, execute_at, next, step, take_turn, after_bytes, followed_by, run, State, process_at, running, turn}
+use Rattle.calls.specs.declared.halt.Halt.TheVariants.{Console, Device}
 use Rattle.calls.proofs.Takes.{turn-takes}
-use Rattle.calls.specs.Steps.{IsBusy, IsBusyFor, LeavesFiles, PieceGives, PieceGoes, StepsGive, StopsAt, Went, stepped}
 use Rattle.calls.proofs.Prints.{Appends-none, Appends-trans, begins_more}
 use Rattle.calls.proofs.Runs.{run-append, run-one, then_begins, then_runs}
 use Rattle.calls.proofs.Served.{lost-after, same-served, served-after}
 use Rattle.calls.specs.Resuming.{taken}
-use Rattle.kernel.proofs.Wakes.{state-but}
 use Rattle.calls.proofs.Rows.{computed-state}
 use Rattle.calls.proofs.Turned.{next-executes, next-turns}
 use Rattle.kernel.proofs.Advancing.{advances-on}
-use Rattle.kernel.proofs.Idle.{busy-state, idle-turn}
 use Rattle.kernel.specs.Idle.{is_idle}
-use Rattle.kernel.specs.Kernel.{Kernel, computed, picked, state_of, waking}
-use Rattle.kernel.specs.Sound.{IsKernel}
-use Rattle.kernel.proofs.Runs.{run-of}
-use Rattle.kernel.proofs.Steps.{held-run}
 use Rattle.spaces.proofs.Advancing.{advances-last, advances-same}
 use Rattle.spaces.specs.Instructions.{Advances}
-use Rattle.spaces.specs.Spaces.{Spaces, view_at}
-use Rattle.tree.specs.Tree.{FileTree}
-use Rattle.unixmodel.specs.Calls.{After, quiet}
-use Rattle.unixmodel.specs.Cycle.{cycle}
-use Rattle.unixmodel.specs.declared.event.Event.TheVariants.{Step}
-use Rattle.unixmodel.specs.declared.trap.Trap.{Trap}
-use Rattle.unixmodel.specs.Meaning.{Computed}
-use Rattle.unixmodel.specs.Next.{execute_at, next, step, take_turn}
-use Rattle.unixmodel.specs.Run.{after_bytes, followed_by, run}
-use Rattle.unixmodel.specs.State.{State, process_at, running}
-use Rattle.unixmodel.specs.Turn.{turn}
 
 -- ---- runs of steps
 

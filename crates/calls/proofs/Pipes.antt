@@ -1,47 +1,18 @@
 -- pipe: the running process opens both ends of a new pipe.
-use Rattle.std.proofs.Common.{◌≡◌, ◌≢◌, ℕ, ◌+◌, ◌<◌, ◌≤◌, ◌⊎◌, inl, inr, Bool, true, false, List, [], ◌++◌, length, Option, Some, None, Err, refl, ap, sym, subst, ◌∙◌, arith}
+use Rattle.calls.proofs.Common.{◌≡◌, ◌≢◌, ℕ, ◌+◌, ◌<◌, ◌≤◌, ◌⊎◌, inl, inr, Bool, true, false, List, [], ◌++◌, length, Option, Some, None, Err, refl, ap, sym, subst, ◌∙◌, arith, OnTrue, count_by, is_none, option_map}
+use Rattle.calls.proofs.Common.{slice_set, length-set, Acts, Runs, Answers, Refuses, IsCounted, descriptors_in, Kernel, argument, descriptors_at, state_of, OpensAs, free_descriptors, pipe_file, IsKernel, IsOpenFile}
+use Rattle.calls.proofs.Common.{IsOpened, IsPlaced, length-write, IsInUse, used-opened, alike-same, file-opened, place-counts, waits-kept, waits-running, waits-set, same_or_not, set-twice, slot-other, slot-put}
+use Rattle.calls.proofs.Common.{slot-within, with_process, held-run, count-opened, names-put, free-None, free-Some, free-opens, free-place, free-put, IsPiped, piped-both, FileFault, file_of, Counted, count_at, count_in}
+use Rattle.calls.proofs.Common.{file_at, free_count, place_for, place_from, free_slot-opens, opens-opened, table-opened, Process, Places, changed, SpaceView, Spaces, frames_in, view_at, taken_frames, with_view}
+use Rattle.calls.proofs.Common.{with_pipe, taken-placed, is_within, page_frames, Pipe, pipe_end, pipe_row, with_both, free_slot, put, slot, can_write, le, ReadEnd, WriteEnd, Outcome, given, limited, Done, Refused, State}
 use Rattle.calls.proofs.Renames.{named-put}
-use Rattle.std.specs.Bool.{OnTrue}
-use Rattle.std.specs.Prelude.{count_by, is_none, option_map, slice_set}
-use Rattle.std.proofs.lemmas.List.{length-set}
-use Rattle.calls.specs.Acts.{Acts, Runs}
-use Rattle.calls.specs.declared.outcome.Came.TheVariants.{Answers, Refuses}
-use Rattle.kernel.specs.Descriptors.{IsCounted, descriptors_in}
-use Rattle.kernel.specs.Kernel.{Kernel, argument, descriptors_at, state_of}
-use Rattle.calls.specs.Renamed.{OpensAs, free_descriptors, pipe_file}
-use Rattle.kernel.specs.Sound.{IsKernel, IsOpenFile, IsOpened, IsPlaced}
 use Rattle.calls.proofs.Acts.{Here, does, here-of, me, refused, turned, turned-full, turned-here, turned-state, used-turned, named-placed}
-use Rattle.programs.proofs.Places.{length-write}
-use Rattle.kernel.specs.Holding.{IsInUse}
-use Rattle.kernel.proofs.Holding.{used-opened}
-use Rattle.kernel.proofs.Opens.{alike-same, file-opened, place-counts, waits-kept, waits-running, waits-set}
-use Rattle.kernel.proofs.Runs.{same_or_not, set-twice, slot-other, slot-put, slot-within, with_process}
-use Rattle.kernel.proofs.Steps.{held-run}
-use Rattle.files.proofs.CountsLemmas.{count-opened, names-put}
-use Rattle.files.proofs.Free.{free-None, free-Some, free-opens, free-place, free-put}
-use Rattle.files.specs.Pipes.{IsPiped}
-use Rattle.files.proofs.PipesLemmas.{piped-both}
-use Rattle.files.specs.declared.table.FileFault.{FileFault}
 use Rattle.files.specs.declared.file.End.TheVariants as end
 use Rattle.files.specs.declared.file.OpenFile as file
-use Rattle.files.specs.Meant.{file_of}
-use Rattle.files.specs.Places.{Counted, count_at, count_in, file_at, free_count, opened, opens_of, place_for, place_from}
-use Rattle.files.proofs.Whole.{free_slot-opens, opens-opened, table-opened}
-use Rattle.proc.specs.declared.process.Process.{Process}
-use Rattle.proc.specs.Places.{Places, changed, with_descriptor}
-use Rattle.spaces.specs.Spaces.{SpaceView, Spaces, frames_in, view_at, taken_frames, with_view, with_pipe, written}
-use Rattle.spaces.proofs.SpacesLemmas.{taken-placed}
-use Rattle.unixmodel.specs.Counts.{is_within, page_frames}
-use Rattle.unixmodel.specs.declared.call.Call.TheVariants.{Pipe}
-use Rattle.unixmodel.specs.FileCalls.{pipe_end, pipe_row, with_both}
-use Rattle.unixmodel.specs.Files.{free_slot, put, slot}
-use Rattle.unixmodel.specs.Memory.{can_write}
-use Rattle.unixmodel.specs.Numbers.{le}
+use Rattle.files.specs.Places.{opened, opens_of}
+use Rattle.proc.specs.Places.{with_descriptor}
+use Rattle.spaces.specs.Spaces.{written}
 use Rattle.unixmodel.specs.OpenFiles.{End, OpenFile}
-use Rattle.unixmodel.specs.OpenFiles.End.{ReadEnd, WriteEnd}
-use Rattle.unixmodel.specs.Outcome.{Outcome, given, limited}
-use Rattle.unixmodel.specs.Outcome.Outcome.{Done, Refused}
-use Rattle.unixmodel.specs.State.{State}
 
 -- ---- places
 

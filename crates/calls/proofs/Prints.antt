@@ -1,16 +1,6 @@
 -- Bytes that are put out in pieces.
-use Rattle.std.proofs.Common.{◌≡◌, ℕ, ◌+◌, ◌-◌, ◌<◌, ◌≤◌, ◌^◌, true, List, [], ◌++◌, length, take, drop, Option, Some, None, is_some, unwrap_or, ap, subst, sym, ◌∙◌, arith, append_assoc, append-nil}
-use Rattle.std.specs.Io.KnownBytes.{Appends}
-use Rattle.std.proofs.lemmas.List.{length-drop, take-append-drop, take-take}
-use Rattle.console.specs.Output.{AppendsBeginning}
-use Rattle.kernel.specs.Kernel.{Kernel}
-use Rattle.calls.specs.Transfers.{IsFront}
-use Rattle.file_transfers.proofs.Memory.{readable-count}
-use Rattle.spaces.specs.Spaces.{view_at}
-use Rattle.unixmodel.specs.declared.trap.Access.TheVariants.{Load}
-use Rattle.unixmodel.specs.Memory.{Memory, reach, read_bytes}
-use Rattle.vm.specs.Reach.{IsSized, piece_at}
-use Rattle.vm.proofs.ReachLemmas.{reach-drop, reach-next, reach-page}
+use Rattle.calls.proofs.Common.{◌≡◌, ℕ, ◌+◌, ◌-◌, ◌<◌, ◌≤◌, ◌^◌, true, List, [], ◌++◌, length, take, drop, Option, Some, None, is_some, unwrap_or, ap, subst, sym, ◌∙◌, arith, append_assoc, append-nil, Appends}
+use Rattle.calls.proofs.Common.{length-drop, take-append-drop, take-take, AppendsBeginning, Kernel, IsFront, readable-count, view_at, Load, Memory, reach, read_bytes, IsSized, piece_at, reach-drop, reach-next, reach-page}
 
 front-rest : (xs : List ℕ) (a n : ℕ) → a ≤ n → take a xs ++ drop a (take n xs) ≡ take n xs
 front-rest xs a n less = ap (λ ys. ys ++ drop a (take n xs)) (sym (take-take a n xs less)) ∙ take-append-drop a (take n xs)

@@ -1,38 +1,18 @@
 -- A write to the console puts out all of its bytes.
-use Rattle.std.proofs.Common.{◌≡◌, ℕ, List, [], Option, Some, length, unwrap_or, refl, ap, sym, ◌∙◌}
-use Rattle.std.specs.Io.KnownBytes.{Appends}
+use Rattle.calls.proofs.Common.{◌≡◌, ℕ, List, [], Option, Some, length, unwrap_or, refl, ap, sym, ◌∙◌, Appends, Comes, GoesOn, going_at, Came, Answers, Kernel, answered, state_of, OnConsole, Transfers, answer-run}
+use Rattle.calls.proofs.Common.{AppendsBeginning, file_of, target_of, SpaceView, view_at, some-pipe, settle, Pending, write_on, slot, read_bytes, low, OnNode, Outcome, limited, pending_arg, Done, State}
 use Rattle.calls.proofs.Served.{same-served}
-use Rattle.calls.specs.Acts.{Comes, GoesOn, going_at}
-use Rattle.calls.specs.declared.outcome.Came.{Came}
-use Rattle.calls.specs.declared.outcome.Came.TheVariants.{Answers}
-use Rattle.kernel.specs.Kernel.{Kernel, answered, state_of}
-use Rattle.calls.specs.Transfers.{OnConsole, Transfers}
 use Rattle.calls.proofs.Acts.{Here, going, going-here, me}
 use Rattle.kernel.proofs.Opens.{IsNamed}
 use Rattle.calls.proofs.Prints.{Appends-none}
 use Rattle.calls.proofs.Settles.{after, settle-limited}
-use Rattle.kernel.proofs.Running.{answer-run}
 use Rattle.calls.proofs.Transfers.{console-here, file, file-named, going-is, held-here, here}
 use Rattle.calls.proofs.Writes.{length-read}
-use Rattle.console.specs.Output.{AppendsBeginning}
 use Rattle.files.specs.declared.file.End.TheVariants as end
 use Rattle.files.specs.declared.file.Target.TheVariants as target
-use Rattle.files.specs.Meant.{file_of, target_of}
-use Rattle.spaces.specs.Spaces.{SpaceView, view_at}
-use Rattle.spaces.proofs.SpacesLemmas.{some-pipe}
-use Rattle.unixmodel.specs.Calls.{settle}
-use Rattle.unixmodel.specs.declared.process.Pending.{Pending}
-use Rattle.unixmodel.specs.FileCalls.{write_on}
-use Rattle.unixmodel.specs.Files.{slot}
 use Rattle.unixmodel.specs.Files.Node.{Device}
-use Rattle.unixmodel.specs.Memory.{read_bytes}
-use Rattle.unixmodel.specs.Numbers.{low}
-use Rattle.unixmodel.specs.OpenFiles.Target.{OnNode}
-use Rattle.unixmodel.specs.Outcome.{Outcome, limited, pending_arg}
-use Rattle.unixmodel.specs.Outcome.Outcome.{Done}
 use Rattle.unixmodel.specs.Process as unix
 use Rattle.unixmodel.specs.OpenFiles.{OpenFile}
-use Rattle.unixmodel.specs.State.{State}
 
 write-bytes : (s : State) (i : ℕ) (p : unix.Process) (w : Pending) (f : OpenFile) → IsNamed s p (low (pending_arg w 0)) f → (n : ℕ) → f.target ≡ OnNode n 0 → (links major minor : ℕ) → slot s.files n ≡ Some (Device links major minor)
     → (bytes : List ℕ) → read_bytes p.memory (pending_arg w 1) (low (pending_arg w 2)) ≡ Some bytes → write_on s i p w ≡ Done s (length bytes) bytes

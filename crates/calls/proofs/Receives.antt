@@ -1,44 +1,20 @@
 -- A read from the console goes on.
-use Rattle.std.proofs.Common.{◌≡◌, ℕ, zero, suc, ◌+◌, ◌-◌, ◌<◌, ◌≤◌, ◌^◌, Bool, true, false, nat_eq, nat_le, nat_lt, List, [], ◌∷◌, length, take, Option, Some, refl, ap, subst, sym, ◌∙◌, arith}
-use Rattle.std.specs.Bool.{OnTrue}
-use Rattle.std.specs.Prelude.{if◌then◌else◌, is_some}
-use Rattle.std.proofs.lemmas.Bool.{false≢true, leb-true}
-use Rattle.std.proofs.lemmas.List.{length-take-le}
-use Rattle.calls.specs.Acts.{GoesOn}
-use Rattle.calls.specs.declared.outcome.Came.TheVariants.{Answers, Blocks}
-use Rattle.kernel.specs.Kernel.{Kernel, descriptors_at, state_of, typed}
-use Rattle.kernel.specs.Sound.{IsKernel, IsOpened, IsPending, IsPlaced, IsForBytes, IsFresh, IsReading, is_on_pipe}
-use Rattle.calls.specs.Transfers.{OnConsole, Transfers}
+use Rattle.calls.proofs.Common.{◌≡◌, ℕ, zero, suc, ◌+◌, ◌-◌, ◌<◌, ◌≤◌, ◌^◌, Bool, true, false, nat_eq, nat_le, nat_lt, List, [], ◌∷◌, length, take, Option, Some, refl, ap, subst, sym, ◌∙◌, arith, OnTrue, if◌then◌else◌, is_some}
+use Rattle.calls.proofs.Common.{false≢true, leb-true, length-take-le, GoesOn, Answers, Blocks, Kernel, descriptors_at, state_of, typed, IsKernel, IsOpened, IsPending, IsPlaced, IsForBytes, IsFresh, IsReading, is_on_pipe}
+use Rattle.calls.proofs.Common.{OnConsole, Transfers, waits-reading, set-slot, slot-put, slot-within, placed-with, file_of, target_of, Process, SpaceView, Spaces, has_space, view_at, with_view, held-same, Taken, take_line}
+use Rattle.calls.proofs.Common.{Pending, Store, slot, read_console, read_on, read_taken, can_write, reach, write_bytes, low, OnNode, pending_arg, Done, Waits, State, put_process, IsSized, reach-written, rest-writes, reach-page}
 use Rattle.calls.proofs.Acts.{Here, goes-done, goes-waits, going, me, turned, turned-here, turned-state, used-turned}
 use Rattle.calls.proofs.Draws.{rewritten-fits}
-use Rattle.kernel.proofs.Opens.{IsNamed, waits-reading}
-use Rattle.kernel.proofs.Runs.{set-slot, slot-put, slot-within}
-use Rattle.kernel.proofs.Steps.{placed-with}
+use Rattle.kernel.proofs.Opens.{IsNamed}
 use Rattle.calls.proofs.Transfers.{console-here, file, file-named, going-is, held-here, here}
 use Rattle.files.specs.declared.file.End.TheVariants as end
 use Rattle.files.specs.declared.file.Target.TheVariants as target
-use Rattle.files.specs.Meant.{file_of, target_of}
-use Rattle.proc.specs.declared.process.Process.{Process}
-use Rattle.spaces.specs.Spaces.{SpaceView, Spaces, has_space, view_at, with_view, written}
-use Rattle.spaces.proofs.SpacesLemmas.{held-same}
-use Rattle.unixmodel.specs.Console.{Console, Taken, take_line}
-use Rattle.unixmodel.specs.declared.process.Pending.{Pending}
-use Rattle.unixmodel.specs.declared.trap.Access.TheVariants.{Store}
+use Rattle.spaces.specs.Spaces.{written}
+use Rattle.unixmodel.specs.Console.{Console}
 use Rattle.unixmodel.specs.FileCalls as rows
-use Rattle.unixmodel.specs.Files.{slot}
 use Rattle.unixmodel.specs.Files.Node.{Device}
-use Rattle.unixmodel.specs.FileCalls.{read_console, read_on, read_taken}
-use Rattle.unixmodel.specs.Memory.{can_write, reach, write_bytes}
-use Rattle.unixmodel.specs.Numbers.{low}
-use Rattle.unixmodel.specs.OpenFiles.Target.{OnNode}
-use Rattle.unixmodel.specs.Outcome.{pending_arg}
-use Rattle.unixmodel.specs.Outcome.Outcome.{Done, Waits}
 use Rattle.unixmodel.specs.Process as unix
 use Rattle.unixmodel.specs.OpenFiles.{OpenFile}
-use Rattle.unixmodel.specs.State.{State, put_process}
-use Rattle.vm.specs.Reach.{IsSized}
-use Rattle.file_transfers.proofs.Memory.{reach-written, rest-writes}
-use Rattle.vm.proofs.ReachLemmas.{reach-page}
 
 -- ---- what a read takes
 

@@ -1,33 +1,10 @@
 -- dup: the lowest free descriptor of the running process names what another one names.
-use Rattle.std.proofs.Common.{◌≡◌, ℕ, ◌+◌, ◌<◌, List, [], Option, Some, None, refl, ap, sym, subst, ◌∙◌, arith}
-use Rattle.std.proofs.lemmas.List.{length-set}
-use Rattle.std.proofs.lemmas.List.Sums.{sum_by-set}
-use Rattle.calls.specs.Acts.{Acts, Runs}
-use Rattle.calls.specs.declared.outcome.Came.TheVariants.{Answers, Refuses}
-use Rattle.kernel.specs.Descriptors.{IsCounted, descriptors_in, named_by, names_in}
-use Rattle.kernel.specs.Kernel.{Kernel, argument, descriptors_at, state_of}
-use Rattle.calls.specs.Renamed.{duplicated}
-use Rattle.kernel.specs.Sound.{IsKernel, IsOpened}
+use Rattle.calls.proofs.Common.{◌≡◌, ℕ, ◌+◌, ◌<◌, List, [], Option, Some, None, refl, ap, sym, subst, ◌∙◌, arith, length-set, sum_by-set, Acts, Runs, Answers, Refuses, IsCounted, descriptors_in, named_by, names_in, Kernel}
+use Rattle.calls.proofs.Common.{argument, descriptors_at, state_of, duplicated, IsKernel, IsOpened, used-shared, file-shared, place-counts, waits-fewer, waits-running, waits-set, IsRun, set-slot, within-run, names, count-shared}
+use Rattle.calls.proofs.Common.{names-put, free-place, IsPiped, count_at, shared, opens-shared, table-shared, Process, SpaceView, Dup, dup_row, free_slot, put, slot, low, limited, Done, Refused, State, put_process}
 use Rattle.calls.proofs.Acts.{Here, does, here-of, me, named-placed, refused, turned, turned-here, turned-state, used-turned}
-use Rattle.kernel.proofs.Holding.{used-shared}
-use Rattle.kernel.proofs.Opens.{file-shared, place-counts, waits-fewer, waits-running, waits-set}
-use Rattle.kernel.proofs.Runs.{IsRun, set-slot, within-run}
-use Rattle.files.specs.Counts.{names}
-use Rattle.files.proofs.CountsLemmas.{count-shared, names-put}
-use Rattle.files.proofs.Free.{free-place}
-use Rattle.files.specs.Pipes.{IsPiped}
-use Rattle.files.specs.Places.{count_at, shared}
-use Rattle.files.proofs.Whole.{opens-shared, table-shared}
-use Rattle.proc.specs.declared.process.Process.{Process}
-use Rattle.spaces.specs.Spaces.{SpaceView}
-use Rattle.unixmodel.specs.declared.call.Call.TheVariants.{Dup}
-use Rattle.unixmodel.specs.FileCalls.{dup_row, with_descriptor}
-use Rattle.unixmodel.specs.Files.{free_slot, put, slot}
-use Rattle.unixmodel.specs.Numbers.{low}
+use Rattle.unixmodel.specs.FileCalls.{with_descriptor}
 use Rattle.unixmodel.specs.OpenFiles.{OpenFile}
-use Rattle.unixmodel.specs.Outcome.{limited}
-use Rattle.unixmodel.specs.Outcome.Outcome.{Done, Refused}
-use Rattle.unixmodel.specs.State.{State, put_process}
 
 -- what a descriptor names is counted
 pub named-counts : (k : Kernel) (i : ℕ) (p : Process) (h : SpaceView) → IsRun k i p h → IsKernel k → (d n : ℕ) → slot p.descriptors d ≡ Some n → 0 < count_at k.files n

@@ -1,29 +1,9 @@
 -- A process that waits runs again, and its call goes on.
-use Rattle.blockdev.specs.declared.DeviceFault.{DeviceFault}
-use Rattle.std.proofs.Common.{◌≡◌, ℕ, Option, None, false, refl, ap, subst, sym, ◌∙◌, true, Some}
-use Rattle.std.specs.Prelude.{Err, Ok, OnOk, Result, unwrap_or}
-use Rattle.calls.specs.Acts.{CanWait, GoesOn, Runs, going_at, going_by, settled_by}
-use Rattle.calls.specs.declared.outcome.Came.{Came}
-use Rattle.kernel.specs.Descriptors.{descriptors_in}
+use Rattle.calls.proofs.Common.{DeviceFault, ◌≡◌, ℕ, Option, None, false, refl, ap, subst, sym, ◌∙◌, true, Some, Err, Ok, OnOk, Result, unwrap_or, CanWait, GoesOn, Runs, going_at, going_by, settled_by, Came, descriptors_in, state-waking}
+use Rattle.calls.proofs.Common.{Kernel, started, state_of, lives, waking, CanRun, IsAwaiting, IsKernel, WaitsAs, WaitsWell, IsLive, IsMode, IsPending, WaitsIn, resumed, resumed_by, resumed_in, IsThere, process-idle, there-of, process-run}
+use Rattle.calls.proofs.Common.{started-is, started-kernel, started-run, started-state, started_to, Process, with_memory, SpaceView, no_pages, goes_on, quiet, resume, settle, Running, Waiting, Pending, slot, State, Mode, Memory}
 use Rattle.calls.proofs.Woken.{runs-waking}
-use Rattle.kernel.proofs.Wakes.{state-waking}
-use Rattle.kernel.specs.Kernel.{Kernel, started, state_of, lives, waking}
-use Rattle.kernel.specs.Sound.{CanRun, IsAwaiting, IsKernel, WaitsAs, WaitsWell, IsLive, IsMode, IsPending}
-use Rattle.calls.specs.Resuming.{WaitsIn, resumed, resumed_by, resumed_in}
-use Rattle.kernel.proofs.Finishes.{IsThere, process-idle, there-of}
-use Rattle.kernel.proofs.Runs.{process-run}
-use Rattle.kernel.proofs.Starts.{started-is, started-kernel, started-run, started-state, started_to}
-use Rattle.proc.specs.declared.process.Process.{Process}
-use Rattle.proc.specs.Whole.{with_memory}
-use Rattle.spaces.specs.Spaces.{SpaceView, no_pages}
-use Rattle.unixmodel.specs.Calls.{goes_on, quiet, resume, settle}
-use Rattle.unixmodel.specs.declared.process.Mode.TheVariants.{Running, Waiting}
-use Rattle.unixmodel.specs.declared.process.Pending.{Pending}
-use Rattle.unixmodel.specs.Files.{slot}
 use Rattle.unixmodel.specs.Process as unix
-use Rattle.unixmodel.specs.State.{State}
-use Rattle.unixmodel.specs.declared.process.Mode.{Mode}
-use Rattle.unixmodel.specs.Memory.{Memory}
 
 -- a process that waits and may go on
 pub record IsResting (k : Kernel) (i : ℕ) (p : Process) (h : SpaceView) (w : Pending) : Type 0 where

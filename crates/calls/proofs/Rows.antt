@@ -1,26 +1,9 @@
 -- The calls of the running process: what each makes of the state.
-use Rattle.std.proofs.Common.{◌≡◌, ℕ, ◌%◌, true, false, Option, Err, Ok, negsuc, ap, sym, ◌∙◌, arith}
-use Rattle.std.specs.Prelude.{slice_index}
-use Rattle.std.specs.Int.{cast_signed, cast_unsigned, w32}
-use Rattle.std.proofs.lemmas.Int.{of_z-to_z}
-use Rattle.kernel.specs.Kernel.{Kernel, computed, ended, entered, state_of}
-use Rattle.calls.specs.Acts.{called, called_by}
-use Rattle.kernel.specs.Sound.{IsKernel}
-use Rattle.kernel.proofs.Runs.{IsRun, moved-state, process-run, self}
+use Rattle.calls.proofs.Common.{◌≡◌, ℕ, ◌%◌, true, false, Option, Err, Ok, negsuc, ap, sym, ◌∙◌, arith, slice_index, cast_signed, cast_unsigned, of_z-to_z, Kernel, computed, ended, entered}
+use Rattle.calls.proofs.Common.{state_of, called, called_by, IsKernel, IsRun, moved-state, process-run, self, ends-run, computed-is, placed-with, regs-kernel, regs-run, Process, SpaceView}
+use Rattle.calls.proofs.Common.{call, call_of, outcome_of, quiet, settle, cycle, Call, Trap, effect_of, execute, execute_at, is_ecall, memory_after, Computed, int_of, low, plus, process_at}
+use Rattle.std.specs.Int.{w32}
 use Rattle.calls.proofs.Settles.{call-run}
-use Rattle.kernel.proofs.Leaving.{ends-run}
-use Rattle.kernel.proofs.Steps.{computed-is, placed-with}
-use Rattle.kernel.proofs.Running.{regs-kernel, regs-run}
-use Rattle.proc.specs.declared.process.Process.{Process}
-use Rattle.spaces.specs.Spaces.{SpaceView}
-use Rattle.unixmodel.specs.Calls.{call, call_of, outcome_of, quiet, settle}
-use Rattle.unixmodel.specs.Cycle.{cycle}
-use Rattle.unixmodel.specs.declared.call.Call.{Call}
-use Rattle.unixmodel.specs.declared.trap.Trap.{Trap}
-use Rattle.unixmodel.specs.Next.{effect_of, execute, execute_at, is_ecall, memory_after}
-use Rattle.unixmodel.specs.Meaning.{Computed}
-use Rattle.unixmodel.specs.Numbers.{int_of, low, plus}
-use Rattle.unixmodel.specs.State.{process_at}
 
 module _ (k : Kernel) (i : ℕ) (p : Process) (h : SpaceView) (r : IsRun k i p h) (is : IsKernel k) where
   -- the running process in the place that the call or the instruction is looked up in

@@ -1,11 +1,6 @@
 -- How runs of the abstract Unix go on.
-use Rattle.std.proofs.Common.{subst, ◌≡◌, ℕ, ℤ, List, [], ◌∷◌, ◌++◌, ◌≤◌, Option, Some, None, refl, ap, sym, ◌∙◌, append_assoc, append-nil, arith}
-use Rattle.unixmodel.specs.Calls.{After, quiet}
+use Rattle.calls.proofs.Common.{subst, ◌≡◌, ℕ, ℤ, List, [], ◌∷◌, ◌++◌, ◌≤◌, Option, Some, None, refl, ap, sym, ◌∙◌, append_assoc, append-nil, arith, After, quiet, Rises, next, after_bytes, followed_by, run, State}
 use Rattle.unixmodel.specs.declared.event.Event.{Event}
-use Rattle.unixmodel.specs.Failures.{Rises}
-use Rattle.unixmodel.specs.Next.{next}
-use Rattle.unixmodel.specs.Run.{after_bytes, followed_by, run}
-use Rattle.unixmodel.specs.State.{State}
 
 -- a run that goes on after a run
 abbrev pub then_runs : List Event → After → Option ℤ → After

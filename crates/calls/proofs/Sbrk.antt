@@ -1,29 +1,8 @@
 -- sbrk: the running process has another size.
-use Rattle.std.proofs.Common.{◌≡◌, ℕ, ◌+◌, ◌-◌, ◌<◌, ◌≤◌, true, [], length, Some, None, pos, refl, ap, subst, sym, ◌∙◌}
-use Rattle.std.specs.Prelude.{◌+ℤ◌}
-use Rattle.calls.specs.Acts.{Acts, Runs}
-use Rattle.calls.specs.declared.outcome.Came.TheVariants.{Answers, Refuses}
-use Rattle.kernel.specs.Descriptors.{descriptors_in}
-use Rattle.kernel.specs.Kernel.{Kernel, argument, state_of}
-use Rattle.calls.specs.Processes.{asked, resized, sized}
-use Rattle.kernel.specs.Sound.{IsOpened, IsPlaced}
+use Rattle.calls.proofs.Common.{◌≡◌, ℕ, ◌+◌, ◌-◌, ◌<◌, ◌≤◌, true, [], length, Some, None, pos, refl, ap, subst, sym, ◌∙◌, ◌+ℤ◌, Acts, Runs, Answers, Refuses, descriptors_in, Kernel, argument, state_of, asked}
+use Rattle.calls.proofs.Common.{resized, sized, IsOpened, IsPlaced, opened-put, waits-running, slot-within, live, not-killed, runs-mode, held-run, Process, Places, changed, with_size, SpaceView, Spaces, grown}
+use Rattle.calls.proofs.Common.{view_at, shrunk, taken_frames, with_view, grown-with_pages, held-same, shrunk-with_pages, Sbrk, put, Memory, ceil_div, int_of, natural, Done, stack_marks, sbrk_row, State}
 use Rattle.calls.proofs.Acts.{Here, does, here-of, me, refused, turned, turned-here, turned-over, turned-state, used-turned}
-use Rattle.kernel.proofs.Opens.{opened-put, waits-running}
-use Rattle.kernel.proofs.Runs.{slot-within}
-use Rattle.kernel.proofs.Running.{live, not-killed, runs-mode}
-use Rattle.kernel.proofs.Steps.{held-run}
-use Rattle.proc.specs.declared.process.Process.{Process}
-use Rattle.proc.specs.Places.{Places, changed, with_size}
-use Rattle.spaces.specs.Spaces.{SpaceView, Spaces, grown, view_at, shrunk, taken_frames, with_view}
-use Rattle.spaces.proofs.SpacesLemmas.{grown-with_pages, held-same, shrunk-with_pages}
-use Rattle.unixmodel.specs.declared.call.Call.TheVariants.{Sbrk}
-use Rattle.unixmodel.specs.Files.{put}
-use Rattle.unixmodel.specs.Memory.{Memory}
-use Rattle.unixmodel.specs.Numbers.{ceil_div, int_of, natural}
-use Rattle.unixmodel.specs.Outcome.Outcome.{Done}
-use Rattle.unixmodel.specs.Plan.{stack_marks}
-use Rattle.unixmodel.specs.ProcessCalls.{sbrk_row}
-use Rattle.unixmodel.specs.State.{State}
 
 -- ---- one space
 

@@ -1,33 +1,16 @@
 -- A write to a pipe goes on.
-use Rattle.std.proofs.Common.{◌≡◌, ◌≢◌, ℕ, zero, suc, ◌+◌, ◌-◌, ◌<◌, ◌≤◌, ◌^◌, Bool, true, false, nat_eq, List, [], ◌∷◌, length, take, drop, eq-eqb, Option, Some, None, is_some, unwrap_or, refl, ap, subst, sym, ◌∙◌, arith}
-use Rattle.std.proofs.lemmas.Bool.{ne_eqb}
-use Rattle.std.proofs.lemmas.List.{drop-take, length-drop, length-set, length-take}
-use Rattle.calls.specs.Acts.{GoesOn}
-use Rattle.calls.specs.declared.outcome.Came.TheVariants.{Answers, Blocks}
-use Rattle.kernel.specs.Kernel.{Kernel, descriptors_at, state_of}
-use Rattle.kernel.specs.Sound.{IsForPipe, IsKernel, IsPending, IsWriting}
-use Rattle.calls.specs.Transfers.{OnThePipe, Transfers}
+use Rattle.calls.proofs.Common.{◌≡◌, ◌≢◌, ℕ, zero, suc, ◌+◌, ◌-◌, ◌<◌, ◌≤◌, ◌^◌, Bool, true, false, nat_eq, List, [], ◌∷◌, length, take, drop, eq-eqb, Option, Some, None, is_some, unwrap_or, refl}
+use Rattle.calls.proofs.Common.{ap, subst, sym, ◌∙◌, arith, ne_eqb, drop-take, length-drop, length-set, length-take, GoesOn, Answers, Blocks, Kernel, descriptors_at, state_of, IsForPipe, IsKernel}
+use Rattle.calls.proofs.Common.{IsPending, IsWriting, OnThePipe, Transfers, waits-writing, readable-count, has_end, SpaceView, Spaces, bytes_in, filled, view_at, read_at, with_pipe, some-pipe}
+use Rattle.calls.proofs.Common.{Pending, Load, write_on, write_pipe, put, slot, Memory, reach, read_bytes, low, pipe_room, ReadEnd, minus_one, pending_arg, IsSized, reach-drop, reach-page}
 use Rattle.calls.proofs.Acts.{Here, goes-done, goes-waits, going}
-use Rattle.kernel.proofs.Opens.{waits-writing}
 use Rattle.calls.proofs.Transfers.{file, file-named, going-is, held-here, here, transfer-stands}
 use Rattle.calls.proofs.Writes.{length-read}
-use Rattle.file_transfers.proofs.Memory.{readable-count}
 use Rattle.files.specs.declared.file.End.TheVariants as end
 use Rattle.files.specs.declared.file.Target.TheVariants as target
-use Rattle.files.specs.Places.{has_end, opens_of}
-use Rattle.spaces.specs.Spaces.{SpaceView, Spaces, bytes_in, filled, fitting, has_pipe, view_at, read_at, with_pipe}
-use Rattle.spaces.proofs.SpacesLemmas.{some-pipe}
-use Rattle.unixmodel.specs.declared.process.Pending.{Pending}
-use Rattle.unixmodel.specs.declared.trap.Access.TheVariants.{Load}
-use Rattle.unixmodel.specs.FileCalls.{write_on, write_pipe}
-use Rattle.unixmodel.specs.Files.{put, slot, taken}
-use Rattle.unixmodel.specs.Memory.{Memory, reach, read_bytes}
-use Rattle.unixmodel.specs.Numbers.{low}
-use Rattle.unixmodel.specs.OpenFiles.{pipe_room}
-use Rattle.unixmodel.specs.OpenFiles.End.{ReadEnd}
-use Rattle.unixmodel.specs.Outcome.{minus_one, pending_arg}
-use Rattle.vm.specs.Reach.{IsSized}
-use Rattle.vm.proofs.ReachLemmas.{reach-drop, reach-page}
+use Rattle.files.specs.Places.{opens_of}
+use Rattle.spaces.specs.Spaces.{fitting, has_pipe}
+use Rattle.unixmodel.specs.Files.{taken}
 
 -- ---- pipes that keep standing
 

@@ -1,18 +1,6 @@
 -- What becomes of the files of the disk.
-use Rattle.unixmodel.specs.State.{State}
-use Rattle.std.proofs.Common.{None, Option, Result, Some, ap, arith, false, le_trans, refl, subst, sym, true, ℕ, ℤ, ◌∙◌, ◌≡◌}
-use Rattle.std.specs.Prelude.{Err, IfOk, Ok, OnErr, OnOk}
-use Rattle.std.specs.Result.{IsErr}
-use Rattle.blockdev.specs.declared.DeviceFault.{DeviceFault}
-use Rattle.unixmodel.specs.Failures.{HasCause}
-use Rattle.calls.specs.Acts.{ActsOnDisk}
-use Rattle.calls.specs.declared.outcome.Came.{Came}
-use Rattle.calls.specs.Gives.{IsLost, IsServed, LeavesDisk}
-use Rattle.kernel.specs.Kernel.{Kernel, started, started_as, state_of, stopped_at, ticked}
-use Rattle.proc.specs.declared.process.Process.{Process}
-use Rattle.tree.specs.Tree.{FileTree, Serves}
-use Rattle.unixmodel.specs.declared.call.Call.{Call}
-use Rattle.unixmodel.specs.Files.{slot}
+use Rattle.calls.proofs.Common.{State, None, Option, Result, Some, ap, arith, false, le_trans, refl, subst, sym, true, ℕ, ℤ, ◌∙◌, ◌≡◌, Err, IfOk, Ok, OnErr, OnOk, IsErr, DeviceFault}
+use Rattle.calls.proofs.Common.{HasCause, ActsOnDisk, Came, IsLost, IsServed, LeavesDisk, Kernel, started, started_as, state_of, stopped_at, ticked, Process, FileTree, Serves, Call, slot}
 
 -- they are as before
 pub same-served : {old new : FileTree} → new ≡ old → old.failed ≡ false → IsServed old new

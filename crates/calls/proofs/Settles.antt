@@ -1,22 +1,8 @@
 -- What the outcome of a call of the running process makes of the state.
-use Rattle.std.proofs.Common.{◌≡◌, ℕ, Bool, false, List, Option, Some, refl, ap, ◌∙◌}
-use Rattle.std.specs.Prelude.{if◌then◌else◌, negsuc, slice_index, slice_set}
-use Rattle.kernel.specs.Kernel.{Kernel, answered, entered, state_of}
-use Rattle.kernel.specs.Sound.{IsKernel}
-use Rattle.kernel.proofs.Reaped.{reap-state, within-state}
-use Rattle.kernel.proofs.Running.{answer-run, not-killed, regs-kernel, regs-run, regs-state}
-use Rattle.kernel.proofs.Runs.{IsRun, process-run, self}
-use Rattle.proc.specs.declared.process.Process.{Process}
-use Rattle.spaces.specs.Spaces.{SpaceView}
-use Rattle.unixmodel.specs.Calls.{After, call, call_of, end_if_killed, outcome_of, settle}
-use Rattle.unixmodel.specs.declared.call.Call.{Call}
-use Rattle.unixmodel.specs.Reap.{reap}
-use Rattle.unixmodel.specs.Numbers.{low, plus}
-use Rattle.unixmodel.specs.Outcome.{end_process, limited}
-use Rattle.unixmodel.specs.Outcome.Outcome.{Done}
+use Rattle.calls.proofs.Common.{◌≡◌, ℕ, Bool, false, List, Option, Some, refl, ap, ◌∙◌, if◌then◌else◌, negsuc, slice_index, slice_set, Kernel, answered, entered, state_of}
+use Rattle.calls.proofs.Common.{IsKernel, reap-state, within-state, answer-run, not-killed, regs-kernel, regs-run, regs-state, IsRun, process-run, self, Process, SpaceView, After}
+use Rattle.calls.proofs.Common.{call, call_of, end_if_killed, outcome_of, settle, Call, reap, low, plus, end_process, limited, Done, with_answer, State, change_process, process_at}
 use Rattle.unixmodel.specs.Process as unix
-use Rattle.unixmodel.specs.Process.{with_answer}
-use Rattle.unixmodel.specs.State.{State, change_process, process_at}
 
 abbrev pub after : State → List ℕ → After
 after state bytes = record { state = state; bytes = bytes }

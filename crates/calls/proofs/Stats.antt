@@ -1,46 +1,16 @@
 -- fstat: a node tells of itself.
-use Rattle.std.proofs.Common.{Bool, Err, List, None, Ok, Option, Some, [], ap, arith, false, refl, subst, sym, true, ℕ, ◌%◌, ◌/◌, ◌∙◌, ◌∷◌, ◌≡◌, ◌≤◌}
-use Rattle.std.specs.Bool.{OnTrue}
-use Rattle.std.specs.Prelude.{IfOk, OnErr, Result, length, option_map}
-use Rattle.blockdev.specs.declared.DeviceFault.{DeviceFault}
-use Rattle.calls.specs.Acts.{Acts, Runs}
-use Rattle.calls.specs.Gives.{LeavesDisk}
-use Rattle.calls.specs.Reads.{HasRead, ReadsDisk, stat_told}
-use Rattle.calls.specs.declared.outcome.Came.TheVariants.{Answers, Refuses}
+use Rattle.calls.proofs.Common.{Bool, Err, List, None, Ok, Option, Some, [], ap, arith, false, refl, subst, sym, true, ℕ, ◌%◌, ◌/◌, ◌∙◌, ◌∷◌, ◌≡◌, ◌≤◌, OnTrue, IfOk, OnErr, Result, length, option_map, DeviceFault, Acts, Runs, LeavesDisk}
+use Rattle.calls.proofs.Common.{HasRead, ReadsDisk, stat_told, Answers, Refuses, Target, FileFault, file_of, target_of, file_at, node_at, node_from, InodeStat, counting-kernel, counting-used, slot-file, set-slot, fail-keeps, held-run}
+use Rattle.calls.proofs.Common.{placed-with, descriptors_in, FitsNode, IsInUse, node_of, node_on, Keeps, Kernel, argument, counting, descriptors_at, state_of, IsOpened, SpaceView, Spaces, view_at, with_view, none-some, same_Some, Tells}
+use Rattle.calls.proofs.Common.{FileTree, Serves, row, Fstat, fstat_row, node_number, stat_bytes, Files, Node, put, slot, can_write, zeros, le, low, Outcome, answers, given, limited, provided, Done, Refused, State, put_process}
 use Rattle.calls.proofs.Acts.{Here, here-of, me, prints, refused, turned, turned-here, turned-state, used-here}
 use Rattle.calls.proofs.Draws.{rewritten-fits}
 use Rattle.calls.proofs.Writes.{fits-at}
 use Rattle.files.specs.declared.file.OpenFile.{OpenFile}
-use Rattle.files.specs.declared.file.Target.{Target}
 use Rattle.files.specs.declared.file.Target.TheVariants as target
-use Rattle.files.specs.declared.table.FileFault.{FileFault}
-use Rattle.files.specs.Meant.{file_of, target_of}
-use Rattle.files.specs.Places.{file_at, node_at, node_from}
-use Rattle.inode.specs.declared.InodeStat.{InodeStat}
-use Rattle.kernel.proofs.Finishes.{counting-kernel, counting-used}
-use Rattle.kernel.proofs.Opens.{slot-file}
-use Rattle.kernel.proofs.Runs.{set-slot}
-use Rattle.kernel.proofs.Steps.{fail-keeps, held-run, placed-with}
-use Rattle.kernel.specs.Descriptors.{descriptors_in}
-use Rattle.kernel.specs.Holding.{FitsNode, IsInUse, node_of, node_on}
 use Rattle.calls.proofs.Served.{serves-disk}
-use Rattle.kernel.specs.View.{Keeps}
-use Rattle.kernel.specs.Kernel.{Kernel, argument, counting, descriptors_at, state_of}
-use Rattle.kernel.specs.Sound.{IsOpened}
-use Rattle.spaces.specs.Spaces.{SpaceView, Spaces, view_at, with_view, written}
-use Rattle.std.proofs.lemmas.Option.{none-some, same_Some}
-use Rattle.tree.specs.Telling.{Tells}
-use Rattle.tree.specs.Tree.{FileTree, Serves}
-use Rattle.unixmodel.specs.Calls.{row}
-use Rattle.unixmodel.specs.declared.call.Call.TheVariants.{Fstat}
-use Rattle.unixmodel.specs.FileCalls.{fstat_row, node_number, stat_bytes}
-use Rattle.unixmodel.specs.Files.{Files, Node, put, slot}
-use Rattle.unixmodel.specs.Memory.{can_write, zeros}
-use Rattle.unixmodel.specs.Numbers.{le, low}
+use Rattle.spaces.specs.Spaces.{written}
 use Rattle.unixmodel.specs.OpenFiles as unix
-use Rattle.unixmodel.specs.Outcome.{Outcome, answers, given, limited, provided}
-use Rattle.unixmodel.specs.Outcome.Outcome.{Done, Refused}
-use Rattle.unixmodel.specs.State.{State, put_process}
 
 -- ---- bytes of numbers
 

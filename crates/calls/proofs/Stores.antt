@@ -1,11 +1,8 @@
 -- A write to a file.
-use Rattle.std.proofs.Common.{◌≡◌, ℕ, ◌+◌, ◌<◌, ◌≤◌, ◌^◌, Bool, true, false, nat_le, List, [], length, take, Option, Some, None, refl, ap, subst, sym, ◌∙◌, arith}
-use Rattle.std.specs.Prelude.{if◌then◌else◌, Ok, ◌&&◌, ◌==◌}
-use Rattle.std.proofs.lemmas.Bool.{and_parts, leb-true}
-use Rattle.std.proofs.lemmas.Option.{none-some, same_Some, cond_some}
-use Rattle.calls.specs.Acts.{GoesOn, settled_by}
-use Rattle.calls.specs.declared.outcome.Came.TheVariants.{Answers, Refuses}
-use Rattle.calls.specs.Transfers.{Transfers, Uses}
+use Rattle.calls.proofs.Common.{◌≡◌, ℕ, ◌+◌, ◌<◌, ◌≤◌, ◌^◌, Bool, true, false, nat_le, List, [], length, take, Option, Some, None, refl, ap, subst, sym, ◌∙◌, arith, if◌then◌else◌, Ok, ◌&&◌, ◌==◌, and_parts, leb-true, none-some}
+use Rattle.calls.proofs.Common.{same_Some, cond_some, GoesOn, settled_by, Answers, Refuses, Transfers, Uses, file_of, target_of, Counted, opens-moved, FitsNode, IsInUse, Kernel, descriptors_at, idle, on_hart, state_of, IsKernel}
+use Rattle.calls.proofs.Common.{IsOpened, IsWriting, set-slot, Changed, Places, changed, with_mode, some-pipe, SpaceView, Spaces, view_at, bytes_given, written-changed, FileTree, Serves, IsWhole, quiet, settle, Ready, Pending, blocks_of}
+use Rattle.calls.proofs.Common.{room_for, with_file, with_offset, write_node, write_on, Files, Node, longest, put, slot, Directory, File, Memory, overwrite, read_bytes, low, OnNode, minus_one, pending_arg, Done, Refused, State}
 use Rattle.calls.proofs.Acts.{Here, goes-serves, going, going-here, me, turned, turned-here, used-turned}
 use Rattle.calls.proofs.Fetches.{low-same}
 use Rattle.calls.proofs.Moving.{opened-moved, used-moved}
@@ -15,39 +12,13 @@ use Rattle.calls.proofs.Writes.{length-read}
 use Rattle.files.specs.declared.file.End.TheVariants as end
 use Rattle.files.specs.declared.file.OpenFile.{OpenFile}
 use Rattle.files.specs.declared.file.Target.TheVariants as target
-use Rattle.files.specs.Meant.{file_of, target_of}
-use Rattle.files.specs.Places.{Counted, moved, opens_of}
-use Rattle.files.proofs.Whole.{opens-moved}
-use Rattle.kernel.specs.Holding.{FitsNode, IsInUse}
-use Rattle.kernel.specs.Kernel.{Kernel, descriptors_at, idle, on_hart, state_of}
-use Rattle.kernel.specs.Sound.{IsKernel, IsOpened, IsWriting}
+use Rattle.files.specs.Places.{moved, opens_of}
 use Rattle.kernel.proofs.Opens.{IsNamed}
-use Rattle.kernel.proofs.Runs.{set-slot}
-use Rattle.names.specs.Changes.{Changed}
-use Rattle.proc.specs.Places.{Places, changed, with_mode}
-use Rattle.spaces.proofs.SpacesLemmas.{some-pipe}
-use Rattle.spaces.specs.Spaces.{SpaceView, Spaces, view_at}
 use Rattle.file_transfers.proofs.Fits.{greatest-low}
-use Rattle.file_transfers.specs.Moved.{bytes_given}
-use Rattle.tree.proofs.Keeping.{written-changed}
-use Rattle.tree.specs.Tree.{FileTree, Serves}
-use Rattle.tree.specs.Whole.{IsWhole}
 use Rattle.tree.specs.Written.{IsFile, Written, count_of, files_after, fitting, with_bytes, written}
-use Rattle.unixmodel.specs.Calls.{quiet, settle}
-use Rattle.unixmodel.specs.declared.process.Mode.TheVariants.{Ready}
-use Rattle.unixmodel.specs.declared.process.Pending.{Pending}
-use Rattle.unixmodel.specs.Counts.{blocks_of}
-use Rattle.unixmodel.specs.FileCalls.{room_for, with_file, with_offset, write_node, write_on}
-use Rattle.unixmodel.specs.Files.{Files, Node, longest, put, slot}
-use Rattle.unixmodel.specs.Files.Node.{Device, Directory, File}
-use Rattle.unixmodel.specs.Memory.{Memory, overwrite, read_bytes}
-use Rattle.unixmodel.specs.Numbers.{low}
+use Rattle.unixmodel.specs.Files.Node.{Device}
 use Rattle.unixmodel.specs.OpenFiles as unix_files
-use Rattle.unixmodel.specs.OpenFiles.Target.{OnNode}
-use Rattle.unixmodel.specs.Outcome.{minus_one, pending_arg}
-use Rattle.unixmodel.specs.Outcome.Outcome.{Done, Refused}
 use Rattle.unixmodel.specs.Process as unix
-use Rattle.unixmodel.specs.State.{State}
 
 -- ---- the row
 

@@ -1,38 +1,13 @@
 -- A step: the running process does an instruction, or a turn where none runs.
-use Rattle.blockdev.specs.declared.DeviceFault.{DeviceFault}
-use Rattle.std.proofs.Common.{◌≡◌, ℕ, ◌%◌, Bool, true, false, List, Option, Some, None, Ok, Err, ℤ, negsuc, refl, ap, subst, sym, ◌∙◌}
-use Rattle.std.specs.Prelude.{IfOk, OnOk, Result, if◌then◌else◌, slice_index}
-use Rattle.calls.specs.declared.halt.Halt.{Halt}
-use Rattle.calls.specs.declared.halt.Halt.TheVariants.{Console, Device, Halted, InitEnded}
-use Rattle.calls.specs.Gives.{Dispatches, EventGives, IsMade, halt_of}
-use Rattle.kernel.specs.Kernel.{Kernel, computed, counting, ended, lives, picked, started, state_of, waking}
-use Rattle.calls.specs.Acts.{called}
-use Rattle.kernel.specs.Sound.{IsKernel, IsLive, IsMode, IsAlive}
-use Rattle.calls.specs.Resuming.{resumed, resumed_by, resumed_in, taken, taken_by}
-use Rattle.kernel.proofs.Finishes.{IsThere, process-idle, there-of}
+use Rattle.calls.proofs.Common.{DeviceFault, ◌≡◌, ℕ, ◌%◌, Bool, true, false, List, Option, Some, None, Ok, Err, ℤ, negsuc, refl, ap, subst, sym, ◌∙◌, IfOk, OnOk, Result, if◌then◌else◌, slice_index, Halt}
+use Rattle.calls.proofs.Common.{Halted, InitEnded, Dispatches, EventGives, IsMade, halt_of, Kernel, computed, counting, ended, lives, picked, started, state_of, waking, called, IsKernel, IsLive, IsMode}
+use Rattle.calls.proofs.Common.{IsAlive, resumed, resumed_by, resumed_in, IsThere, process-idle, there-of, turn-alive, run-of, picked-state, picks-killed, picks-ready, held-run, state-but, Process, with_memory}
+use Rattle.calls.proofs.Common.{SpaceView, view_at, After, quiet, cycle, Mode, Ready, Waiting, Pending, Trap, slot, Computed, Memory, execute_at, is_ecall, pick, take_turn, end_process, State, process_at}
+use Rattle.calls.specs.declared.halt.Halt.TheVariants.{Console, Device}
+use Rattle.calls.specs.Resuming.{taken, taken_by}
 use Rattle.calls.proofs.Prints.{Appends-none}
-use Rattle.kernel.proofs.Readies.{turn-alive}
 use Rattle.calls.proofs.Rows.{executes-call, executes-fault, computed-state}
-use Rattle.kernel.proofs.Runs.{run-of}
-use Rattle.kernel.proofs.Starts.{picked-state, picks-killed, picks-ready}
-use Rattle.kernel.proofs.Steps.{held-run}
-use Rattle.kernel.proofs.Wakes.{state-but}
-use Rattle.proc.specs.declared.process.Process.{Process}
-use Rattle.proc.specs.Whole.{with_memory}
-use Rattle.spaces.specs.Spaces.{SpaceView, view_at}
-use Rattle.unixmodel.specs.Calls.{After, quiet}
-use Rattle.unixmodel.specs.Cycle.{cycle}
-use Rattle.unixmodel.specs.declared.process.Mode.{Mode}
-use Rattle.unixmodel.specs.declared.process.Mode.TheVariants.{Ready, Waiting}
-use Rattle.unixmodel.specs.declared.process.Pending.{Pending}
-use Rattle.unixmodel.specs.declared.trap.Trap.{Trap}
-use Rattle.unixmodel.specs.Files.{slot}
-use Rattle.unixmodel.specs.Meaning.{Computed}
-use Rattle.unixmodel.specs.Memory.{Memory}
 use Rattle.unixmodel.specs.Next as next
-use Rattle.unixmodel.specs.Next.{execute_at, is_ecall, pick, take_turn}
-use Rattle.unixmodel.specs.Outcome.{end_process}
-use Rattle.unixmodel.specs.State.{State, process_at}
 use Rattle.unixmodel.specs.Turn as turn
 
 -- ---- what is told

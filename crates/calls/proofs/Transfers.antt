@@ -1,46 +1,19 @@
 -- How a read and a write begin, and what they go on with: their tests are the same.
-use Rattle.std.proofs.Common.{◌≡◌, ◌≢◌, ℕ, zero, suc, ◌<◌, Bool, true, false, ◌&&◌, List, Option, Some, None, refl, ap, subst, sym, ◌∙◌, arith}
-use Rattle.std.specs.Prelude.{if◌then◌else◌, Err, IfSome, IsSome, Ok, Result, is_some, option_and_then, option_map}
-use Rattle.std.specs.Result.{result_ok}
-use Rattle.std.proofs.lemmas.Bool.{false≢true}
-use Rattle.std.proofs.lemmas.Option.{none-some, same_Some}
-use Rattle.blockdev.specs.declared.DeviceFault.{DeviceFault}
-use Rattle.calls.specs.Acts.{Acts, ActsOnDisk, CanWait, GoesOnDisk, Runs, pending_for}
-use Rattle.calls.specs.declared.outcome.Came.{Came}
-use Rattle.calls.specs.declared.outcome.Came.TheVariants.{Answers, Refuses}
-use Rattle.kernel.specs.Descriptors.{descriptors_in}
-use Rattle.kernel.specs.Holding.{FitsNode, node_of, node_on}
-use Rattle.kernel.specs.Kernel.{Kernel, argument, descriptors_at, state_of}
-use Rattle.kernel.specs.Ready.{Stands}
-use Rattle.kernel.specs.Sound.{IsFresh, IsPending, file_named, is_on_pipe}
-use Rattle.calls.specs.Transfers.{Begins, MayUse, Transfers, call_on, can_transfer, target_for, target_named}
+use Rattle.calls.proofs.Common.{◌≡◌, ◌≢◌, ℕ, zero, suc, ◌<◌, Bool, true, false, ◌&&◌, List, Option, Some, None, refl, ap, subst, sym, ◌∙◌, arith, if◌then◌else◌, Err, IfSome, IsSome, Ok, Result, is_some, option_and_then}
+use Rattle.calls.proofs.Common.{option_map, result_ok, false≢true, none-some, same_Some, DeviceFault, Acts, ActsOnDisk, CanWait, GoesOnDisk, Runs, pending_for, Came, Answers, Refuses, descriptors_in, FitsNode, node_of}
+use Rattle.calls.proofs.Common.{node_on, Kernel, argument, descriptors_at, state_of, Stands, IsFresh, IsPending, file_named, is_on_pipe, Begins, MayUse, Transfers, call_on, can_transfer, target_for, target_named}
+use Rattle.calls.proofs.Common.{IsFileAt, file-at, open-named, slot-file, stands-open, held-run, Target, file_of, target_of, Counted, file_at, usable, Process, SpaceView, view_at, goes_on, row, Call, Pending, is_usable}
+use Rattle.calls.proofs.Common.{read_row, unless_empty, write_row, Files, slot, Memory, can_write, read_bytes, int_of, low, natural, Outcome, given, limited, pending_arg, pending_of, provided, Refused, arg, State}
 use Rattle.calls.proofs.Acts.{Here, does, going, going-here, here-of, me, outcome-here, refused, used-here}
-use Rattle.kernel.proofs.Opens.{IsFileAt, IsNamed, file-at, open-named, slot-file}
-use Rattle.kernel.proofs.Readies.{stands-open}
-use Rattle.kernel.proofs.Steps.{held-run}
+use Rattle.kernel.proofs.Opens.{IsNamed}
 use Rattle.calls.proofs.Writes.{IsDevice, console-device, fits-at, int-low, usable-open}
 use Rattle.files.specs.declared.file.End.{End}
 use Rattle.files.specs.declared.file.End.TheVariants.{Read, Write}
 use Rattle.files.specs.declared.file.OpenFile.{OpenFile}
-use Rattle.files.specs.declared.file.Target.{Target}
 use Rattle.files.specs.declared.file.Target.TheVariants as target
-use Rattle.files.specs.Meant.{file_of, target_of}
-use Rattle.files.specs.Places.{Counted, file_at, opens_of, usable}
-use Rattle.proc.specs.declared.process.Process.{Process}
-use Rattle.spaces.specs.Spaces.{SpaceView, view_at}
-use Rattle.unixmodel.specs.Calls.{goes_on, row}
-use Rattle.unixmodel.specs.declared.call.Call.{Call}
-use Rattle.unixmodel.specs.declared.process.Pending.{Pending}
-use Rattle.unixmodel.specs.FileCalls.{is_usable, read_row, unless_empty, write_row}
-use Rattle.unixmodel.specs.Files.{Files, slot}
-use Rattle.unixmodel.specs.Memory.{Memory, can_write, read_bytes}
-use Rattle.unixmodel.specs.Numbers.{int_of, low, natural}
+use Rattle.files.specs.Places.{opens_of}
 use Rattle.unixmodel.specs.OpenFiles as unix_files
-use Rattle.unixmodel.specs.Outcome.{Outcome, given, limited, pending_arg, pending_of, provided}
-use Rattle.unixmodel.specs.Outcome.Outcome.{Refused}
 use Rattle.unixmodel.specs.Process as unix
-use Rattle.unixmodel.specs.Process.{arg}
-use Rattle.unixmodel.specs.State.{State}
 
 -- ---- an open file, for reading or for writing
 

@@ -1,21 +1,7 @@
 -- Who runs, and what an event begins with.
-use Rattle.std.proofs.Common.{◌≡◌, ℕ, ◌+◌, ◌%◌, ◌^◌, List, Option, Some, None, refl, ap, ◌∙◌}
-use Rattle.std.specs.Prelude.{slice_index}
-use Rattle.std.specs.Io.KnownBytes.{Appends}
-use Rattle.calls.specs.Gives.{IsMade}
-use Rattle.kernel.specs.Kernel.{Kernel, state_of, stopped_at, ticked, typed, waking}
-use Rattle.kernel.specs.Sound.{IsKernel}
-use Rattle.kernel.proofs.Idle.{running-state}
-use Rattle.kernel.proofs.Leaving.{stops-run}
-use Rattle.kernel.proofs.Wakes.{state-but}
-use Rattle.kernel.proofs.Runs.{run-of}
-use Rattle.unixmodel.specs.Calls.{quiet}
-use Rattle.unixmodel.specs.Console.{key}
-use Rattle.unixmodel.specs.declared.event.Event.TheVariants.{Key, Step, Tick}
+use Rattle.calls.proofs.Common.{◌≡◌, ℕ, ◌+◌, ◌%◌, ◌^◌, List, Option, Some, None, refl, ap, ◌∙◌, slice_index, Appends, IsMade, Kernel, state_of, stopped_at, ticked, typed}
+use Rattle.calls.proofs.Common.{waking, IsKernel, running-state, stops-run, state-but, run-of, quiet, key, Key, Step, Tick, execute_at, step, take_turn, State, process_at, turn}
 use Rattle.unixmodel.specs.Next as next
-use Rattle.unixmodel.specs.Next.{execute_at, step, take_turn}
-use Rattle.unixmodel.specs.State.{State, process_at}
-use Rattle.unixmodel.specs.Turn.{turn}
 
 -- a step where a process runs does an instruction
 pub next-executes : (k : Kernel) (i : ℕ) → IsKernel k → k.spaces.active ≡ Some i → next.next (state_of k) Step ≡ execute_at (state_of k) i (process_at (state_of k) i)

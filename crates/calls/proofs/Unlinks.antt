@@ -1,57 +1,24 @@
 -- unlink: a name less, and its node is given up where nothing keeps it any more.
 use Rattle.calls.proofs.Served.{ok-told}
-use Rattle.std.proofs.Common.{◌≡◌, ◌≢◌, ℕ, ◌*◌, ◌<◌, ◌≤◌, ◌∙◌, Bool, List, [], None, Option, Some, ap, arith, false, inl, inr, length, refl, subst, sym, true}
-use Rattle.std.specs.Prelude.{IfSome, Ok, Result, if◌then◌else◌, nat_le, nat_lt, option_and_then, option_map, slice_set, ◌&&◌, ◌||◌}
-use Rattle.std.proofs.lemmas.Bool.{cases_lt, cases_eq, lt-ltb, ltb-true, or_right}
-use Rattle.std.proofs.lemmas.List.{get_or-set_other, get_or-set_same, length-set}
-use Rattle.std.proofs.lemmas.Option.{none-some, same_Some}
-use Rattle.calls.specs.Acts.{Acts, ActsOnDisk, Runs}
-use Rattle.blockdev.specs.declared.DeviceFault.{DeviceFault}
+use Rattle.calls.proofs.Common.{◌≡◌, ◌≢◌, ℕ, ◌*◌, ◌<◌, ◌≤◌, ◌∙◌, Bool, List, [], None, Option, Some, ap, arith, false, inl, inr, length, refl, subst, sym, true, IfSome, Ok, Result, if◌then◌else◌, nat_le, nat_lt, option_and_then}
+use Rattle.calls.proofs.Common.{option_map, slice_set, ◌&&◌, ◌||◌, cases_lt, cases_eq, lt-ltb, ltb-true, or_right, get_or-set_other, get_or-set_same, length-set, none-some, same_Some, Acts, ActsOnDisk, Runs, DeviceFault, Came}
+use Rattle.calls.proofs.Common.{Answers, Refuses, Counts, without_pipes-same, set_outside, without_opens-same, IsInUse, Kernel, answered, argument, loaded, memories, state_of, IsKernel, held-there, is_by, kept-cong, settled-by}
+use Rattle.calls.proofs.Common.{used-is, counts-joined, away-loaded, opened-loaded, used-loaded, within-state, answer-run, not-killed, regs-kernel, regs-run, process-run, Loses, shape, unlink-parts, kept-gone, kept-here}
+use Rattle.calls.proofs.Common.{kept-none, view_at, TreeFault, holders, let_go, LacksUnlinking, FileTree, has_failed, IsWhole, Reaps, unlinked-reaps, blocks_of-set, outcome_of, quiet, row, settle, blocks_of, frames_of, is_within}
+use Rattle.calls.proofs.Common.{Unlink, Files, Node, Spot, blocks_for, change_node, erase, is_directory, links_of, lookup, size_of, slot, spot_of, without_place, Directory, File, path_at, fewer_links, path_arg, unlink_row}
+use Rattle.calls.proofs.Common.{unlinked, with_files, without_name, Outcome, answers, limited, Done, Refused, with_answer, is_used, kept, reap, without_nodes, without_opens, without_pipes, State, change_process, open_limit}
 use Rattle.calls.specs.Named.{IsNamed}
-use Rattle.calls.specs.declared.outcome.Came.{Came}
-use Rattle.calls.specs.declared.outcome.Came.TheVariants.{Answers, Refuses}
 use Rattle.calls.proofs.Acts.{Here, me, refused, settles, used-here}
 use Rattle.calls.proofs.Names.{given-then, here, home-is, mine, named-acts, over, over-here, over-state, path-is, with_made}
 use Rattle.calls.proofs.Settles.{settle-reaped}
 use Rattle.calls.proofs.Shapes.{there, used-shaped}
-use Rattle.files.proofs.CountsLemmas.{Counts}
-use Rattle.files.proofs.PipesLemmas.{without_pipes-same}
-use Rattle.files.proofs.Whole.{set_outside, without_opens-same}
-use Rattle.kernel.specs.Holding.{IsInUse}
-use Rattle.kernel.specs.Kernel.{Kernel, answered, argument, loaded, memories, state_of}
-use Rattle.kernel.specs.Sound.{IsKernel}
-use Rattle.kernel.proofs.Holding.{held-there, is_by, kept-cong, settled-by, used-is}
-use Rattle.kernel.proofs.Named.{counts-joined}
-use Rattle.kernel.proofs.Reaped.{away-loaded, opened-loaded, used-loaded, within-state}
-use Rattle.kernel.proofs.Running.{answer-run, not-killed, regs-kernel, regs-run}
-use Rattle.kernel.proofs.Runs.{process-run}
-use Rattle.names.specs.Changes.{Loses, shape}
-use Rattle.names.proofs.Finding.{unlink-parts}
-use Rattle.names.proofs.Quiet.{kept-gone, kept-here, kept-none}
 use Rattle.names.proofs.Unlinking.{keeps-unlinked}
-use Rattle.spaces.specs.Spaces.{view_at}
-use Rattle.tree.specs.declared.TreeFault.{TreeFault}
-use Rattle.tree.specs.Holding.{holders, let_go}
-use Rattle.tree.specs.Lacking.{LacksUnlinking}
 use Rattle.tree.specs.Tree as tree
-use Rattle.tree.specs.Tree.{FileTree, has_failed}
 use Rattle.tree.specs.Unlinks.{unlinked_in}
-use Rattle.tree.specs.Whole.{IsWhole}
-use Rattle.tree.proofs.Keeping.{Reaps, unlinked-reaps}
-use Rattle.tree.proofs.Storing.{blocks_of-set, taken_by}
-use Rattle.unixmodel.specs.Calls.{outcome_of, quiet, row, settle}
-use Rattle.unixmodel.specs.Counts.{blocks_of, frames_of, is_within, opens_of}
-use Rattle.unixmodel.specs.declared.call.Call.TheVariants.{Unlink}
-use Rattle.unixmodel.specs.Files.{Files, Node, Spot, blocks_for, change_node, erase, is_directory, links_of, lookup, size_of, slot, spot_of, without_place}
-use Rattle.unixmodel.specs.Files.Node.{Device, Directory, File}
-use Rattle.unixmodel.specs.Memory.{path_at}
-use Rattle.unixmodel.specs.NameCalls.{fewer_links, path_arg, unlink_row, unlinked, with_files, without_name}
-use Rattle.unixmodel.specs.Outcome.{Outcome, answers, limited}
-use Rattle.unixmodel.specs.Outcome.Outcome.{Done, Refused}
+use Rattle.tree.proofs.Storing.{taken_by}
+use Rattle.unixmodel.specs.Counts.{opens_of}
+use Rattle.unixmodel.specs.Files.Node.{Device}
 use Rattle.unixmodel.specs.Process as unix
-use Rattle.unixmodel.specs.Process.{with_answer}
-use Rattle.unixmodel.specs.Reap.{is_used, kept, reap, without_nodes, without_opens, without_pipes}
-use Rattle.unixmodel.specs.State.{State, change_process, open_limit}
 
 -- ---- the row
 

@@ -1,39 +1,15 @@
 -- What calls leave of who is awake.
-use Rattle.std.proofs.Common.{Bool, List, None, Option, Some, [], ap, arith, false, inl, inr, length, option_map, refl, subst, suc, sym, true, zero, ℕ, ◌∙◌, ◌∷◌, ◌≡◌}
-use Rattle.std.specs.Bool.{OnFalse, OnTrue}
-use Rattle.std.specs.Prelude.{if◌then◌else◌, slice_set}
-use Rattle.std.proofs.lemmas.Bool.{and_parts, cases_lt, eqb-true, true≢false}
-use Rattle.calls.specs.Acts.{CanCome, Comes, GoesOn, Runs, settled_by}
-use Rattle.calls.specs.Opened.{Opens}
-use Rattle.calls.specs.Renamed.{OpensAs}
-use Rattle.calls.specs.declared.outcome.Came.{Came}
-use Rattle.calls.specs.declared.outcome.Came.TheVariants.{Answers, Blocks, Exits, KillsItself, Refuses}
+use Rattle.calls.proofs.Common.{Bool, List, None, Option, Some, [], ap, arith, false, inl, inr, length, option_map, refl, subst, suc, sym, true, zero, ℕ, ◌∙◌, ◌∷◌, ◌≡◌, OnFalse, OnTrue, if◌then◌else◌, slice_set, and_parts}
+use Rattle.calls.proofs.Common.{cases_lt, eqb-true, true≢false, CanCome, Comes, GoesOn, Runs, settled_by, Opens, OpensAs, Came, Answers, Blocks, Exits, KillsItself, Refuses, Counted, shared, opens-shared, opens-all_shared}
+use Rattle.calls.proofs.Common.{kernel-waking, running-at, state-waking, watched-roused, no-zombie, watched-put, watched-running, all_shared, Kernel, idle, on_hart, waking, awaited_in, IsWatched, Watches, awaited_of}
+use Rattle.calls.proofs.Common.{Process, Places, changed, with_mode, without, Started, Executes, SpaceView, Spaces, with_view, After, Taken, take_line, Ready, Pending, Files, put, slot, Outcome, is_zombie_mode, State, holds}
 use Rattle.files.specs.declared.file.OpenFile.{OpenFile}
-use Rattle.files.specs.Places.{Counted, opens_of, shared}
-use Rattle.files.proofs.Whole.{opens-shared}
+use Rattle.files.specs.Places.{opens_of}
 use Rattle.kernel.proofs.Masks.{set-past}
-use Rattle.kernel.proofs.Named.{opens-all_shared}
-use Rattle.kernel.proofs.Wakes.{kernel-waking, running-at, state-waking, watched-roused}
-use Rattle.kernel.proofs.Watching.{no-zombie, watched-put, watched-running}
-use Rattle.kernel.specs.Descriptors.{all_shared}
-use Rattle.kernel.specs.Kernel.{Kernel, idle, on_hart, waking}
-use Rattle.kernel.specs.Ready.{awaited_in}
-use Rattle.kernel.specs.Watch.{IsWatched, Watches, awaited_of}
-use Rattle.proc.specs.declared.process.Process.{Process}
 use Rattle.proc.specs.Places as table
-use Rattle.proc.specs.Places.{Places, changed, with_descriptor, with_mode, without}
-use Rattle.programs.specs.declared.executing.Started.{Started}
-use Rattle.programs.specs.Executed.{Executes}
-use Rattle.spaces.specs.Spaces.{SpaceView, Spaces, with_view}
-use Rattle.unixmodel.specs.Calls.{After}
-use Rattle.unixmodel.specs.Console.{Console, Taken, take_line}
-use Rattle.unixmodel.specs.declared.process.Mode.TheVariants.{Ready}
-use Rattle.unixmodel.specs.declared.process.Pending.{Pending}
-use Rattle.unixmodel.specs.Files.{Files, put, slot}
-use Rattle.unixmodel.specs.Outcome.{Outcome}
+use Rattle.proc.specs.Places.{with_descriptor}
+use Rattle.unixmodel.specs.Console.{Console}
 use Rattle.unixmodel.specs.OpenFiles as unix
-use Rattle.unixmodel.specs.Process.{is_zombie_mode}
-use Rattle.unixmodel.specs.State.{State, holds}
 use Rattle.unixmodel.specs.Turn as turn
 
 -- ---- other places are awake

@@ -1,26 +1,11 @@
 -- Bytes that are read, and nodes that are open.
-use Rattle.std.proofs.Common.{◌≡◌, ℕ, ◌<◌, ◌^◌, true, false, nat_le, List, length, take, Option, Some, None, is_some, ℤ, pos, negsuc, refl, ap, subst, sym, ◌∙◌, arith}
-use Rattle.std.specs.Int.{cast_signed, cast_unsigned, w32}
-use Rattle.std.proofs.lemmas.Bool.{leb-true}
-use Rattle.std.proofs.lemmas.Int.{of_z-to_z}
-use Rattle.std.proofs.lemmas.List.{length-take-le}
-use Rattle.std.proofs.lemmas.Option.{none-some, same_Some, cond_some}
-use Rattle.std.specs.Result.{result_ok}
-use Rattle.std.specs.Prelude.{option_map}
+use Rattle.calls.proofs.Common.{◌≡◌, ℕ, ◌<◌, ◌^◌, true, false, nat_le, List, length, take, Option, Some, None, is_some, ℤ, pos, negsuc, refl, ap, subst, sym, ◌∙◌, arith, cast_signed}
+use Rattle.calls.proofs.Common.{cast_unsigned, leb-true, of_z-to_z, length-take-le, none-some, same_Some, cond_some, result_ok, option_map, Target, target_of, Counted, file_at, usable, FitsNode}
+use Rattle.calls.proofs.Common.{IsInUse, node_of, node_on, Process, FileTree, Load, is_usable, is_usable_node, Files, Node, slot, Directory, File, Memory, reach, read_bytes, int_of, low, natural}
+use Rattle.std.specs.Int.{w32}
 use Rattle.files.specs.declared.file.OpenFile.{OpenFile}
-use Rattle.files.specs.declared.file.Target.{Target}
 use Rattle.files.specs.declared.file.Target.TheVariants as target
-use Rattle.files.specs.Meant.{target_of}
-use Rattle.files.specs.Places.{Counted, file_at, usable}
-use Rattle.kernel.specs.Holding.{FitsNode, IsInUse, node_of, node_on}
-use Rattle.proc.specs.declared.process.Process.{Process}
-use Rattle.tree.specs.Tree.{FileTree}
-use Rattle.unixmodel.specs.declared.trap.Access.TheVariants.{Load}
-use Rattle.unixmodel.specs.FileCalls.{is_usable, is_usable_node}
-use Rattle.unixmodel.specs.Files.{Files, Node, slot}
-use Rattle.unixmodel.specs.Files.Node.{Device, Directory, File}
-use Rattle.unixmodel.specs.Memory.{Memory, reach, read_bytes}
-use Rattle.unixmodel.specs.Numbers.{int_of, low, natural}
+use Rattle.unixmodel.specs.Files.Node.{Device}
 
 -- ---- bytes that are read
 

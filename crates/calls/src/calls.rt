@@ -52,7 +52,7 @@ fn call_of(number: u32) -> Option<Call>
 }
 
 /// The running process begins its call: the pc goes on by 4.
-pub(crate) fn begin<D: BlockDev, T: Translate + Drop>(kernel: &mut Kernel<D, T>, at: usize)
+pub(crate) fn begin<D: BlockDev, T: Translate>(kernel: &mut Kernel<D, T>, at: usize)
     requires running { kernel.old.spaces.active ≡ Some at }
     requires up { kernel.old.tree.failed ≡ false }
     ensures { IsBegun kernel.old kernel.new at }
@@ -63,7 +63,7 @@ pub(crate) fn begin<D: BlockDev, T: Translate + Drop>(kernel: &mut Kernel<D, T>,
 
 // The table of calls: a call that has begun, but for what it comes to; a number of no call is refused. `Device`, `Console`: the
 // device failed, the console did.
-fn act<D: BlockDev, T: Translate + Drop, W: Out>(
+fn act<D: BlockDev, T: Translate, W: Out>(
     kernel: &mut Kernel<D, T>,
     at: usize,
     call: Option<Call>,
@@ -104,7 +104,7 @@ fn act<D: BlockDev, T: Translate + Drop, W: Out>(
 
 /// The call that the running process makes.
 #[inline(never)]
-pub fn call<D: BlockDev, T: Translate + Drop, W: Out>(
+pub fn call<D: BlockDev, T: Translate, W: Out>(
     kernel: &mut Kernel<D, T>,
     at: usize,
     console: &mut W,

@@ -71,10 +71,7 @@ fn ints(first: usize, second: usize) -> [u8; 8]
 }
 
 // The lowest free descriptor of the process in a place.
-fn free_descriptor<D: BlockDev, T: Translate + Drop>(
-    kernel: &Kernel<D, T>,
-    at: usize,
-) -> Option<usize>
+fn free_descriptor<D: BlockDev, T: Translate>(kernel: &Kernel<D, T>, at: usize) -> Option<usize>
     ensures place { result ≡ free_slot (descriptors_at kernel.now at) }
     ensures within { IfSome result (λ free. free < 16) }
 {
@@ -82,7 +79,7 @@ fn free_descriptor<D: BlockDev, T: Translate + Drop>(
 }
 
 /// dup(descriptor): the lowest free descriptor names the same open file, and is the answer.
-pub(crate) fn dup<D: BlockDev, T: Translate + Drop>(kernel: &mut Kernel<D, T>, at: usize) -> Came
+pub(crate) fn dup<D: BlockDev, T: Translate>(kernel: &mut Kernel<D, T>, at: usize) -> Came
     requires { Runs kernel.old at }
     ensures { Acts kernel.old kernel.new at (Some Call.Dup) result }
 {
@@ -99,7 +96,7 @@ pub(crate) fn dup<D: BlockDev, T: Translate + Drop>(kernel: &mut Kernel<D, T>, a
 
 /// close(descriptor): the descriptor is free; a pipe that has no end any more goes, and so does a node without links that nobody holds
 /// any more.
-pub(crate) fn close<D: BlockDev, T: Translate + Drop>(
+pub(crate) fn close<D: BlockDev, T: Translate>(
     kernel: &mut Kernel<D, T>,
     at: usize,
 ) -> Result<Came, DeviceFault>
@@ -120,7 +117,7 @@ pub(crate) fn close<D: BlockDev, T: Translate + Drop>(
 }
 
 /// pipe(address): a new pipe, whose ends the two lowest free descriptors name; they are written at the address.
-pub(crate) fn pipe<D: BlockDev, T: Translate + Drop>(kernel: &mut Kernel<D, T>, at: usize) -> Came
+pub(crate) fn pipe<D: BlockDev, T: Translate>(kernel: &mut Kernel<D, T>, at: usize) -> Came
     requires { Runs kernel.old at }
     ensures { Acts kernel.old kernel.new at (Some Call.Pipe) result }
 {

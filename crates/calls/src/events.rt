@@ -50,7 +50,7 @@ fn is_call(cause: Cause) -> bool
 
 /// A timer interrupt.
 #[inline(never)]
-pub fn tick<D: BlockDev, T: Translate + Drop>(kernel: &mut Kernel<D, T>)
+pub fn tick<D: BlockDev, T: Translate>(kernel: &mut Kernel<D, T>)
     ensures gives { next (state_of kernel.old) Tick ≡ quiet (state_of kernel.new) }
     ensures tree { kernel.new.tree ≡ kernel.old.tree }
 {
@@ -61,7 +61,7 @@ pub fn tick<D: BlockDev, T: Translate + Drop>(kernel: &mut Kernel<D, T>)
 /// A key was typed: it changes the line that is edited, and what shows that is printed. `Console`: the console failed,
 /// and the key is lost.
 #[inline(never)]
-pub fn key<D: BlockDev, T: Translate + Drop, W: Out>(
+pub fn key<D: BlockDev, T: Translate, W: Out>(
     kernel: &mut Kernel<D, T>,
     byte: u8,
     console: &mut W,
@@ -80,7 +80,7 @@ pub fn key<D: BlockDev, T: Translate + Drop, W: Out>(
 
 /// One step: the running process does an instruction, and the call or the end that it traps into; where none runs
 /// there is a turn.
-pub fn step<D: BlockDev, T: Translate + Drop, W: Out>(
+pub fn step<D: BlockDev, T: Translate, W: Out>(
     kernel: &mut Kernel<D, T>,
     console: &mut W,
 ) -> Result<(), Halt>
@@ -99,7 +99,7 @@ pub fn step<D: BlockDev, T: Translate + Drop, W: Out>(
 }
 
 // Whether the machine goes on.
-pub(crate) fn goes<D: BlockDev, T: Translate + Drop>(kernel: &Kernel<D, T>) -> Result<(), Halt>
+pub(crate) fn goes<D: BlockDev, T: Translate>(kernel: &Kernel<D, T>) -> Result<(), Halt>
     ensures { result ≡ halt_of kernel.now.halted }
 {
     match kernel.halted() {
@@ -109,7 +109,7 @@ pub(crate) fn goes<D: BlockDev, T: Translate + Drop>(kernel: &Kernel<D, T>) -> R
 }
 
 // The running process does an instruction, and the call or the end that it traps into.
-fn instruct<D: BlockDev, T: Translate + Drop, W: Out>(
+fn instruct<D: BlockDev, T: Translate, W: Out>(
     kernel: &mut Kernel<D, T>,
     at: usize,
     console: &mut W,
@@ -128,7 +128,7 @@ fn instruct<D: BlockDev, T: Translate + Drop, W: Out>(
 }
 
 // The call or the end that the running process traps into.
-pub(crate) fn take_trap<D: BlockDev, T: Translate + Drop, W: Out>(
+pub(crate) fn take_trap<D: BlockDev, T: Translate, W: Out>(
     kernel: &mut Kernel<D, T>,
     at: usize,
     trap: Trap,
@@ -150,7 +150,7 @@ pub(crate) fn take_trap<D: BlockDev, T: Translate + Drop, W: Out>(
 
 // A turn, where none runs.
 #[inline(never)]
-fn take_turn<D: BlockDev, T: Translate + Drop>(kernel: &mut Kernel<D, T>) -> Result<(), DeviceFault>
+fn take_turn<D: BlockDev, T: Translate>(kernel: &mut Kernel<D, T>) -> Result<(), DeviceFault>
     requires idle { kernel.old.spaces.active ≡ None }
     requires up { kernel.old.tree.failed ≡ false }
     ensures gives { OnOk result (take_turn (state_of kernel.old) (turn (state_of kernel.old)) ≡ quiet (state_of kernel.new)) }
@@ -164,7 +164,7 @@ fn take_turn<D: BlockDev, T: Translate + Drop>(kernel: &mut Kernel<D, T>) -> Res
 }
 
 // The process in a place, which was picked, ends if it is killed; else it runs, or goes on with its call.
-pub(crate) fn take<D: BlockDev, T: Translate + Drop>(
+pub(crate) fn take<D: BlockDev, T: Translate>(
     kernel: &mut Kernel<D, T>,
     at: usize,
 ) -> Result<(), DeviceFault>
@@ -192,7 +192,7 @@ pub(crate) fn take<D: BlockDev, T: Translate + Drop>(
 }
 
 // The process in a place, where none runs, goes on with its pending call.
-fn go_on<D: BlockDev, T: Translate + Drop>(
+fn go_on<D: BlockDev, T: Translate>(
     kernel: &mut Kernel<D, T>,
     at: usize,
     pending: Pending,
@@ -210,11 +210,7 @@ fn go_on<D: BlockDev, T: Translate + Drop>(
 }
 
 // What a pending call of the running process comes to.
-fn act_on<D: BlockDev, T: Translate + Drop>(
-    kernel: &mut Kernel<D, T>,
-    at: usize,
-    pending: Pending,
-) -> Came
+fn act_on<D: BlockDev, T: Translate>(kernel: &mut Kernel<D, T>, at: usize, pending: Pending) -> Came
     requires runs { Runs kernel.old at }
     requires can { CanWait kernel.old at pending }
     ensures { GoesOn kernel.old kernel.new at pending result }

@@ -15,7 +15,7 @@ use sv39::Translate;
 use unixmodel::call::Call;
 
 // The hart begins a program.
-fn begin<T: Translate + Drop>(spaces: &mut Spaces<T>, started: &Started)
+fn begin<T: Translate>(spaces: &mut Spaces<T>, started: &Started)
     requires { started.now.pc % 4 ≡ 0 }
     ensures { spaces.new ≡ begun spaces.old started.now }
 {
@@ -26,7 +26,7 @@ fn begin<T: Translate + Drop>(spaces: &mut Spaces<T>, started: &Started)
 }
 
 // exec of the file that its path reaches.
-fn exec_found<D: BlockDev, T: Translate + Drop>(
+fn exec_found<D: BlockDev, T: Translate>(
     kernel: &mut Kernel<D, T>,
     at: usize,
     number: usize,
@@ -55,7 +55,7 @@ fn exec_found<D: BlockDev, T: Translate + Drop>(
 
 /// exec(path, argv): the program of the file that the path reaches comes in the place of the one that runs, with the arguments
 /// that argv points at.
-pub(crate) fn exec<D: BlockDev, T: Translate + Drop>(
+pub(crate) fn exec<D: BlockDev, T: Translate>(
     kernel: &mut Kernel<D, T>,
     at: usize,
 ) -> Result<Came, DeviceFault>

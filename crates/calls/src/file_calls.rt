@@ -14,7 +14,7 @@ use sv39::Translate;
 use unixmodel::call::Call;
 
 // What a node tells of itself.
-pub(crate) fn stat<D: BlockDev, T: Translate + Drop>(
+pub(crate) fn stat<D: BlockDev, T: Translate>(
     kernel: &mut Kernel<D, T>,
     number: usize,
 ) -> Result<InodeStat, DeviceFault>
@@ -39,7 +39,7 @@ fn stat_bytes(number: u32, told: InodeStat) -> [u8; 24]
 }
 
 /// fstat(descriptor, address): what the node tells of itself that the descriptor is open on is written at the address.
-pub(crate) fn fstat<D: BlockDev, T: Translate + Drop>(
+pub(crate) fn fstat<D: BlockDev, T: Translate>(
     kernel: &mut Kernel<D, T>,
     at: usize,
 ) -> Result<Came, DeviceFault>

@@ -20,7 +20,7 @@ use sv39::Translate;
 use unixmodel::trap::Trap;
 
 /// So many steps, up to the first at which the machine halts.
-pub fn steps<D: BlockDev, T: Translate + Drop, W: Out>(
+pub fn steps<D: BlockDev, T: Translate, W: Out>(
     kernel: &mut Kernel<D, T>,
     count: u32,
     console: &mut W,
@@ -46,7 +46,7 @@ pub fn steps<D: BlockDev, T: Translate + Drop, W: Out>(
 
 /// The first of so many steps, as many as are done in one go: how many they are, with the one at which the machine halts. They are
 /// none where no process runs and none is ready.
-pub fn advance<D: BlockDev, T: Translate + Drop, W: Out>(
+pub fn advance<D: BlockDev, T: Translate, W: Out>(
     kernel: &mut Kernel<D, T>,
     most: u32,
     console: &mut W,
@@ -64,7 +64,7 @@ pub fn advance<D: BlockDev, T: Translate + Drop, W: Out>(
 }
 
 // Instructions of the running process up to the first that traps, with the call or the end that it traps into.
-fn instruct_many<D: BlockDev, T: Translate + Drop, W: Out>(
+fn instruct_many<D: BlockDev, T: Translate, W: Out>(
     kernel: &mut Kernel<D, T>,
     at: usize,
     most: u32,
@@ -85,7 +85,7 @@ fn instruct_many<D: BlockDev, T: Translate + Drop, W: Out>(
 }
 
 // The step at which the running process traps.
-fn trap_once<D: BlockDev, T: Translate + Drop, W: Out>(
+fn trap_once<D: BlockDev, T: Translate, W: Out>(
     kernel: &mut Kernel<D, T>,
     at: usize,
     trap: Trap,
@@ -104,7 +104,7 @@ fn trap_once<D: BlockDev, T: Translate + Drop, W: Out>(
 
 // A turn; none where nobody is ready.
 #[inline(never)]
-fn turn_once<D: BlockDev, T: Translate + Drop>(kernel: &mut Kernel<D, T>) -> (u32, Result<(), Halt>)
+fn turn_once<D: BlockDev, T: Translate>(kernel: &mut Kernel<D, T>) -> (u32, Result<(), Halt>)
     requires idle { kernel.old.spaces.active ≡ None }
     requires goes { kernel.old.halted ≡ None }
     requires up { kernel.old.tree.failed ≡ false }
@@ -118,10 +118,7 @@ fn turn_once<D: BlockDev, T: Translate + Drop>(kernel: &mut Kernel<D, T>) -> (u3
 }
 
 // The step at which the process in a place, which was picked, is taken.
-fn take_once<D: BlockDev, T: Translate + Drop>(
-    kernel: &mut Kernel<D, T>,
-    at: usize,
-) -> Result<(), Halt>
+fn take_once<D: BlockDev, T: Translate>(kernel: &mut Kernel<D, T>, at: usize) -> Result<(), Halt>
     requires idle { kernel.old.spaces.active ≡ None }
     requires up { kernel.old.tree.failed ≡ false }
     requires alive { IsAlive (slot kernel.old.table.places at) }

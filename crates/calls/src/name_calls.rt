@@ -16,7 +16,7 @@ use tree::{Leaf, Tree, TreeFault};
 use unixmodel::call::Call;
 
 // The directory that the running process works in.
-pub(crate) fn home<D: BlockDev, T: Translate + Drop>(kernel: &Kernel<D, T>, at: usize) -> usize
+pub(crate) fn home<D: BlockDev, T: Translate>(kernel: &Kernel<D, T>, at: usize) -> usize
     ensures { IfSome (slot kernel.now.table.places at) (λ p. result ≡ p.directory) }
 {
     match kernel.table.process(at) {
@@ -26,7 +26,7 @@ pub(crate) fn home<D: BlockDev, T: Translate + Drop>(kernel: &Kernel<D, T>, at: 
 }
 
 // Copies the path in an argument of the call into a buffer, and tells its length.
-pub(crate) fn copy_path<D: BlockDev, T: Translate + Drop>(
+pub(crate) fn copy_path<D: BlockDev, T: Translate>(
     kernel: &Kernel<D, T>,
     at: usize,
     place: usize,
@@ -67,7 +67,7 @@ fn named<D: BlockDev, X>(tree: &Tree<D>, made: &Result<X, TreeFault>) -> Result<
 }
 
 /// mknod(path, major, minor): a device with the lowest free number, and a name for it; major and minor are cut to 16 bits.
-pub(crate) fn mknod<D: BlockDev, T: Translate + Drop>(
+pub(crate) fn mknod<D: BlockDev, T: Translate>(
     kernel: &mut Kernel<D, T>,
     at: usize,
 ) -> Result<Came, DeviceFault>
@@ -88,7 +88,7 @@ pub(crate) fn mknod<D: BlockDev, T: Translate + Drop>(
 }
 
 /// mkdir(path): a directory with the lowest free number, and a name for it.
-pub(crate) fn mkdir<D: BlockDev, T: Translate + Drop>(
+pub(crate) fn mkdir<D: BlockDev, T: Translate>(
     kernel: &mut Kernel<D, T>,
     at: usize,
 ) -> Result<Came, DeviceFault>
@@ -105,7 +105,7 @@ pub(crate) fn mkdir<D: BlockDev, T: Translate + Drop>(
 }
 
 /// link(old, new): another name for a file or a device.
-pub(crate) fn link<D: BlockDev, T: Translate + Drop>(
+pub(crate) fn link<D: BlockDev, T: Translate>(
     kernel: &mut Kernel<D, T>,
     at: usize,
 ) -> Result<Came, DeviceFault>
@@ -128,7 +128,7 @@ pub(crate) fn link<D: BlockDev, T: Translate + Drop>(
 }
 
 /// unlink(path): a name is taken away, and its node too where that has no links any more and nobody holds it.
-pub(crate) fn unlink<D: BlockDev, T: Translate + Drop>(
+pub(crate) fn unlink<D: BlockDev, T: Translate>(
     kernel: &mut Kernel<D, T>,
     at: usize,
 ) -> Result<Came, DeviceFault>

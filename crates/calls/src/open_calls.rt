@@ -34,7 +34,7 @@ const NEW_FILE: InodeStat = InodeStat {
 };
 
 // The number that a path reaches from the directory that the running process works in.
-pub(crate) fn find<D: BlockDev, T: Translate + Drop>(
+pub(crate) fn find<D: BlockDev, T: Translate>(
     kernel: &mut Kernel<D, T>,
     at: usize,
     path: &[u8],
@@ -96,7 +96,7 @@ fn opened(flags: u32, target: Target) -> OpenFile
 }
 
 // Whether a descriptor of the process in a place and a place for an open file are free.
-fn has_seat<D: BlockDev, T: Translate + Drop>(kernel: &Kernel<D, T>, at: usize) -> bool
+fn has_seat<D: BlockDev, T: Translate>(kernel: &Kernel<D, T>, at: usize) -> bool
     ensures { result ≡ has_seat kernel.now at }
 {
     match kernel.table.process(at) {
@@ -107,7 +107,7 @@ fn has_seat<D: BlockDev, T: Translate + Drop>(kernel: &Kernel<D, T>, at: usize) 
 }
 
 // A new open file is on a node, and the lowest free descriptor names it.
-fn open_on<D: BlockDev, T: Translate + Drop>(
+fn open_on<D: BlockDev, T: Translate>(
     kernel: &mut Kernel<D, T>,
     at: usize,
     node: usize,
@@ -128,7 +128,7 @@ fn open_on<D: BlockDev, T: Translate + Drop>(
 }
 
 // A file is emptied, if the flags ask for it.
-fn cut<D: BlockDev, T: Translate + Drop>(
+fn cut<D: BlockDev, T: Translate>(
     kernel: &mut Kernel<D, T>,
     number: usize,
     flags: u32,
@@ -147,7 +147,7 @@ fn cut<D: BlockDev, T: Translate + Drop>(
 }
 
 // open of what its path reaches.
-fn open_found<D: BlockDev, T: Translate + Drop>(
+fn open_found<D: BlockDev, T: Translate>(
     kernel: &mut Kernel<D, T>,
     at: usize,
     number: usize,
@@ -170,7 +170,7 @@ fn open_found<D: BlockDev, T: Translate + Drop>(
 }
 
 // open of a path that reaches nothing: a new file, if the flags ask for one.
-fn open_new<D: BlockDev, T: Translate + Drop>(
+fn open_new<D: BlockDev, T: Translate>(
     kernel: &mut Kernel<D, T>,
     at: usize,
     path: &[u8],
@@ -200,7 +200,7 @@ fn open_new<D: BlockDev, T: Translate + Drop>(
 
 /// open(path, flags): the lowest free descriptor names a new open file on what the path reaches, and is the answer. Bit 9 of the flags
 /// makes a file where the path reaches nothing, and bit 10 empties a file.
-pub(crate) fn open<D: BlockDev, T: Translate + Drop>(
+pub(crate) fn open<D: BlockDev, T: Translate>(
     kernel: &mut Kernel<D, T>,
     at: usize,
 ) -> Result<Came, DeviceFault>
@@ -219,7 +219,7 @@ pub(crate) fn open<D: BlockDev, T: Translate + Drop>(
 }
 
 // The process works in the directory that its path reaches; the one that it leaves goes where it has no links and nobody holds it any more.
-fn work_in<D: BlockDev, T: Translate + Drop>(
+fn work_in<D: BlockDev, T: Translate>(
     kernel: &mut Kernel<D, T>,
     at: usize,
     number: usize,
@@ -238,7 +238,7 @@ fn work_in<D: BlockDev, T: Translate + Drop>(
 }
 
 // chdir to what its path reaches.
-fn chdir_found<D: BlockDev, T: Translate + Drop>(
+fn chdir_found<D: BlockDev, T: Translate>(
     kernel: &mut Kernel<D, T>,
     at: usize,
     number: usize,
@@ -255,7 +255,7 @@ fn chdir_found<D: BlockDev, T: Translate + Drop>(
 
 /// chdir(path): the process works in another directory; the one that it leaves goes where it has no links and nobody holds it any
 /// more.
-pub(crate) fn chdir<D: BlockDev, T: Translate + Drop>(
+pub(crate) fn chdir<D: BlockDev, T: Translate>(
     kernel: &mut Kernel<D, T>,
     at: usize,
 ) -> Result<Came, DeviceFault>

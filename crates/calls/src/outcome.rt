@@ -32,10 +32,7 @@ pub enum Came {
 }
 
 /// The call that the process in place `at` makes, as it begins to wait.
-pub(crate) fn pending<D: BlockDev, T: Translate + Drop>(
-    kernel: &Kernel<D, T>,
-    number: Call,
-) -> Pending
+pub(crate) fn pending<D: BlockDev, T: Translate>(kernel: &Kernel<D, T>, number: Call) -> Pending
     ensures { result ≡ pending_for kernel.now number }
 {
     Pending {
@@ -48,7 +45,7 @@ pub(crate) fn pending<D: BlockDev, T: Translate + Drop>(
 
 /// A call of the running process is done. Where an access of the device fails, a process ended.
 #[inline(always)]
-pub(crate) fn settle<D: BlockDev, T: Translate + Drop>(
+pub(crate) fn settle<D: BlockDev, T: Translate>(
     kernel: &mut Kernel<D, T>,
     at: usize,
     came: Came,

@@ -29,11 +29,7 @@ const HEAP: Perm = Perm {
 };
 
 // Whether a status can be written at an address of the running process; at address 0 none is.
-fn can_answer<D: BlockDev, T: Translate + Drop>(
-    kernel: &Kernel<D, T>,
-    at: usize,
-    address: u64,
-) -> bool
+fn can_answer<D: BlockDev, T: Translate>(kernel: &Kernel<D, T>, at: usize, address: u64) -> bool
     requires { kernel.now.spaces.active ≡ Some at }
     ensures { result ≡ can_answer (view_at kernel.now.spaces at).memory address }
 {
@@ -41,7 +37,7 @@ fn can_answer<D: BlockDev, T: Translate + Drop>(
 }
 
 // Writes the status of a child at an address of a place, unless that is 0.
-fn write_status<T: Translate + Drop>(spaces: &mut Spaces<T>, at: usize, address: u64, status: i32)
+fn write_status<T: Translate>(spaces: &mut Spaces<T>, at: usize, address: u64, status: i32)
     requires space { has_space spaces.old at ≡ true }
     requires can { can_answer (view_at spaces.old at).memory address ≡ true }
     ensures { spaces.new ≡ with_view spaces.old at (with_status (view_at spaces.old at) address status) }
@@ -52,7 +48,7 @@ fn write_status<T: Translate + Drop>(spaces: &mut Spaces<T>, at: usize, address:
 }
 
 /// fork(): a child that is ready, with the same pages, descriptors and directory, to which it answers 0.
-pub(crate) fn fork<D: BlockDev, T: Translate + Drop>(kernel: &mut Kernel<D, T>, at: usize) -> Came
+pub(crate) fn fork<D: BlockDev, T: Translate>(kernel: &mut Kernel<D, T>, at: usize) -> Came
     requires { Runs kernel.old at }
     ensures { Acts kernel.old kernel.new at (Some Call.Fork) result }
 {
@@ -81,7 +77,7 @@ pub(crate) fn fork<D: BlockDev, T: Translate + Drop>(kernel: &mut Kernel<D, T>, 
 }
 
 /// exit(status): the process ends.
-pub(crate) fn exit<D: BlockDev, T: Translate + Drop>(kernel: &Kernel<D, T>, at: usize) -> Came
+pub(crate) fn exit<D: BlockDev, T: Translate>(kernel: &Kernel<D, T>, at: usize) -> Came
     requires { Runs kernel.now at }
     ensures { Acts kernel.now kernel.now at (Some Call.Exit) result }
 {
@@ -90,7 +86,7 @@ pub(crate) fn exit<D: BlockDev, T: Translate + Drop>(kernel: &Kernel<D, T>, at: 
 
 /// wait(address): waits for a zombie child, whose status is written at the address, unless that is 0, and whose pid is
 /// the answer.
-pub(crate) fn wait<D: BlockDev, T: Translate + Drop>(kernel: &mut Kernel<D, T>, at: usize) -> Came
+pub(crate) fn wait<D: BlockDev, T: Translate>(kernel: &mut Kernel<D, T>, at: usize) -> Came
     requires { Runs kernel.old at }
     ensures { Acts kernel.old kernel.new at (Some Call.Wait) result }
 {
@@ -103,7 +99,7 @@ pub(crate) fn wait<D: BlockDev, T: Translate + Drop>(kernel: &mut Kernel<D, T>, 
 }
 
 /// A wait goes on: it takes the first zombie child, or waits still.
-pub(crate) fn wait_on<D: BlockDev, T: Translate + Drop>(
+pub(crate) fn wait_on<D: BlockDev, T: Translate>(
     kernel: &mut Kernel<D, T>,
     at: usize,
     pending: Pending,
@@ -123,10 +119,7 @@ pub(crate) fn wait_on<D: BlockDev, T: Translate + Drop>(
 }
 
 // The place of the process that an argument names by its pid.
-fn place_called<D: BlockDev, T: Translate + Drop>(
-    kernel: &Kernel<D, T>,
-    argument: u64,
-) -> Option<usize>
+fn place_called<D: BlockDev, T: Translate>(kernel: &Kernel<D, T>, argument: u64) -> Option<usize>
     ensures { result ≡ place_called kernel.now.table.places (natural (int_of argument)) }
 {
     let pid = natural(argument)?;
@@ -134,7 +127,7 @@ fn place_called<D: BlockDev, T: Translate + Drop>(
 }
 
 /// kill(pid): the process is marked, and ends when its turn comes; a process that kills itself ends at once.
-pub(crate) fn kill<D: BlockDev, T: Translate + Drop>(kernel: &mut Kernel<D, T>, at: usize) -> Came
+pub(crate) fn kill<D: BlockDev, T: Translate>(kernel: &mut Kernel<D, T>, at: usize) -> Came
     requires { Runs kernel.old at }
     ensures { Acts kernel.old kernel.new at (Some Call.Kill) result }
 {
@@ -149,7 +142,7 @@ pub(crate) fn kill<D: BlockDev, T: Translate + Drop>(kernel: &mut Kernel<D, T>, 
 }
 
 /// getpid()
-pub(crate) fn getpid<D: BlockDev, T: Translate + Drop>(kernel: &Kernel<D, T>, at: usize) -> Came
+pub(crate) fn getpid<D: BlockDev, T: Translate>(kernel: &Kernel<D, T>, at: usize) -> Came
     requires { Runs kernel.now at }
     ensures { Acts kernel.now kernel.now at (Some Call.Getpid) result }
 {
@@ -157,7 +150,7 @@ pub(crate) fn getpid<D: BlockDev, T: Translate + Drop>(kernel: &Kernel<D, T>, at
 }
 
 // sbrk of more: pages of zeros that the process reads and writes.
-fn grow<D: BlockDev, T: Translate + Drop>(kernel: &mut Kernel<D, T>, at: usize, bytes: u64) -> Came
+fn grow<D: BlockDev, T: Translate>(kernel: &mut Kernel<D, T>, at: usize, bytes: u64) -> Came
     requires runs { Runs kernel.old at }
     requires asked { asked kernel.old at (int_of (argument kernel.old 0)) ≡ Some ((view_at kernel.old.spaces at).size + bytes) }
     ensures { Acts kernel.old kernel.new at (Some Call.Sbrk) result }
@@ -173,11 +166,7 @@ fn grow<D: BlockDev, T: Translate + Drop>(kernel: &mut Kernel<D, T>, at: usize, 
 }
 
 // sbrk of less: pages go.
-fn shrink<D: BlockDev, T: Translate + Drop>(
-    kernel: &mut Kernel<D, T>,
-    at: usize,
-    bytes: u64,
-) -> Came
+fn shrink<D: BlockDev, T: Translate>(kernel: &mut Kernel<D, T>, at: usize, bytes: u64) -> Came
     requires runs { Runs kernel.old at }
     requires less { bytes ≤ (view_at kernel.old.spaces at).size }
     requires asked { asked kernel.old at (int_of (argument kernel.old 0)) ≡ Some ((view_at kernel.old.spaces at).size - bytes) }
@@ -194,7 +183,7 @@ fn shrink<D: BlockDev, T: Translate + Drop>(
 
 /// sbrk(bytes): the size changes by so many bytes, unless that leaves one below 0 or the frames don't suffice, and the
 /// old one is the answer.
-pub(crate) fn sbrk<D: BlockDev, T: Translate + Drop>(kernel: &mut Kernel<D, T>, at: usize) -> Came
+pub(crate) fn sbrk<D: BlockDev, T: Translate>(kernel: &mut Kernel<D, T>, at: usize) -> Came
     requires { Runs kernel.old at }
     ensures { Acts kernel.old kernel.new at (Some Call.Sbrk) result }
 {
@@ -210,7 +199,7 @@ pub(crate) fn sbrk<D: BlockDev, T: Translate + Drop>(kernel: &mut Kernel<D, T>, 
 }
 
 /// sleep(ticks): waits until so many ticks have passed.
-pub(crate) fn sleep<D: BlockDev, T: Translate + Drop>(kernel: &Kernel<D, T>, at: usize) -> Came
+pub(crate) fn sleep<D: BlockDev, T: Translate>(kernel: &Kernel<D, T>, at: usize) -> Came
     requires { Runs kernel.now at }
     ensures { Acts kernel.now kernel.now at (Some Call.Sleep) result }
 {
@@ -218,7 +207,7 @@ pub(crate) fn sleep<D: BlockDev, T: Translate + Drop>(kernel: &Kernel<D, T>, at:
 }
 
 /// A sleep goes on, or waits still.
-pub(crate) fn sleep_on<D: BlockDev, T: Translate + Drop>(
+pub(crate) fn sleep_on<D: BlockDev, T: Translate>(
     kernel: &Kernel<D, T>,
     at: usize,
     pending: Pending,
@@ -235,7 +224,7 @@ pub(crate) fn sleep_on<D: BlockDev, T: Translate + Drop>(
 }
 
 /// uptime(): the ticks so far.
-pub(crate) fn uptime<D: BlockDev, T: Translate + Drop>(kernel: &Kernel<D, T>, at: usize) -> Came
+pub(crate) fn uptime<D: BlockDev, T: Translate>(kernel: &Kernel<D, T>, at: usize) -> Came
     requires { Runs kernel.now at }
     ensures { Acts kernel.now kernel.now at (Some Call.Uptime) result }
 {

@@ -43,7 +43,7 @@ fn call_on(end: End) -> Call
 }
 
 // What the open file that a descriptor of the process in a place names is open on.
-fn open_target<D: BlockDev, T: Translate + Drop>(
+fn open_target<D: BlockDev, T: Translate>(
     kernel: &Kernel<D, T>,
     at: usize,
     descriptor: u32,
@@ -60,14 +60,14 @@ fn open_target<D: BlockDev, T: Translate + Drop>(
 }
 
 // Whether an end of a pipe is open.
-fn has_end<D: BlockDev, T: Translate + Drop>(kernel: &Kernel<D, T>, pipe: usize, end: End) -> bool
+fn has_end<D: BlockDev, T: Translate>(kernel: &Kernel<D, T>, pipe: usize, end: End) -> bool
     ensures { result ≡ has_end (opens_of kernel.now.files) pipe (end_of end) }
 {
     kernel.files.has_end(pipe, end)
 }
 
 // What the open file that a descriptor names is open on, where it is open for reading or writing.
-fn target_for<D: BlockDev, T: Translate + Drop>(
+fn target_for<D: BlockDev, T: Translate>(
     kernel: &Kernel<D, T>,
     end: End,
     at: usize,
@@ -86,7 +86,7 @@ fn target_for<D: BlockDev, T: Translate + Drop>(
 }
 
 // Whether the running process may transfer so many bytes: a read writes them, and a write reads them.
-fn can_transfer<D: BlockDev, T: Translate + Drop>(
+fn can_transfer<D: BlockDev, T: Translate>(
     kernel: &Kernel<D, T>,
     end: End,
     at: usize,
@@ -104,7 +104,7 @@ fn can_transfer<D: BlockDev, T: Translate + Drop>(
 
 // A read or a write begins: its arguments are tested. `Err`: it goes on with nothing, and comes to this.
 #[inline]
-fn begin_transfer<D: BlockDev, T: Translate + Drop>(
+fn begin_transfer<D: BlockDev, T: Translate>(
     kernel: &Kernel<D, T>,
     at: usize,
     end: End,
@@ -133,7 +133,7 @@ fn begin_transfer<D: BlockDev, T: Translate + Drop>(
 
 /// read(descriptor, address, count) from a file or a directory, the console or a pipe. Its bytes go to an address that may be
 /// written for all of the count, which is tested first.
-pub(crate) fn read<D: BlockDev, T: Translate + Drop>(
+pub(crate) fn read<D: BlockDev, T: Translate>(
     kernel: &mut Kernel<D, T>,
     at: usize,
 ) -> Result<Came, DeviceFault>
@@ -147,7 +147,7 @@ pub(crate) fn read<D: BlockDev, T: Translate + Drop>(
 }
 
 /// The process goes on with its pending read, which is one of the console or of a pipe.
-pub(crate) fn read_on<D: BlockDev, T: Translate + Drop>(
+pub(crate) fn read_on<D: BlockDev, T: Translate>(
     kernel: &mut Kernel<D, T>,
     at: usize,
     pending: Pending,
@@ -168,7 +168,7 @@ pub(crate) fn read_on<D: BlockDev, T: Translate + Drop>(
 }
 
 // A read goes on, of what is open there.
-fn read_from<D: BlockDev, T: Translate + Drop>(
+fn read_from<D: BlockDev, T: Translate>(
     kernel: &mut Kernel<D, T>,
     at: usize,
     target: Target,
@@ -186,7 +186,7 @@ fn read_from<D: BlockDev, T: Translate + Drop>(
 }
 
 // From a file or a directory: the process takes what there is from the offset on, which goes on behind it.
-fn read_file<D: BlockDev, T: Translate + Drop>(
+fn read_file<D: BlockDev, T: Translate>(
     kernel: &mut Kernel<D, T>,
     at: usize,
     number: u32,
@@ -220,7 +220,7 @@ fn read_file<D: BlockDev, T: Translate + Drop>(
 }
 
 // From the console: the process takes what was typed, and waits on for the rest of a line.
-fn read_console<D: BlockDev, T: Translate + Drop>(
+fn read_console<D: BlockDev, T: Translate>(
     kernel: &mut Kernel<D, T>,
     at: usize,
     pending: Pending,
@@ -246,7 +246,7 @@ fn read_console<D: BlockDev, T: Translate + Drop>(
 
 // From a pipe: the process takes what is there; from an empty one it takes nothing where no byte can come, and else
 // waits.
-fn read_pipe<D: BlockDev, T: Translate + Drop>(
+fn read_pipe<D: BlockDev, T: Translate>(
     kernel: &mut Kernel<D, T>,
     at: usize,
     pipe: usize,
@@ -271,7 +271,7 @@ fn read_pipe<D: BlockDev, T: Translate + Drop>(
 // ---- write
 
 // The next bytes to put out: at most so many, and at least one.
-fn piece<D: BlockDev, T: Translate + Drop>(
+fn piece<D: BlockDev, T: Translate>(
     kernel: &Kernel<D, T>,
     at: usize,
     address: u64,
@@ -294,7 +294,7 @@ fn piece<D: BlockDev, T: Translate + Drop>(
 }
 
 // Puts out so many bytes of the running process, a page at a time.
-fn print<D: BlockDev, T: Translate + Drop, W: Out>(
+fn print<D: BlockDev, T: Translate, W: Out>(
     kernel: &Kernel<D, T>,
     at: usize,
     address: u64,
@@ -304,7 +304,8 @@ fn print<D: BlockDev, T: Translate + Drop, W: Out>(
     requires running { kernel.now.spaces.active ≡ Some at }
     requires readable { is_some (read_bytes (view_at kernel.now.spaces at).memory address count) ≡ true }
     ensures ok { OnOk result (Appends (W.contents out.old) (W.contents out.new) (bytes_given kernel.now.spaces at address count)) }
-    ensures err { OnErr result (AppendsBeginning (W.contents out.old) (W.contents out.new) (bytes_given kernel.now.spaces at address count)) }
+    ensures err { OnErr result (AppendsBeginning (W.contents out.old) (W.contents out.new)
+        (bytes_given kernel.now.spaces at address count)) }
     ensures later { W.failures out.old ≤ W.failures out.new }
     ensures cause { OnErr result (Rises (W.failures out.old) (W.failures out.new)) }
 {
@@ -320,7 +321,7 @@ fn print<D: BlockDev, T: Translate + Drop, W: Out>(
 
 /// write(descriptor, address, count) to a file, the console or a pipe. Its bytes are all readable, which is tested first.
 /// `Device`, `Console`: the device failed, the console did.
-pub(crate) fn write<D: BlockDev, T: Translate + Drop, W: Out>(
+pub(crate) fn write<D: BlockDev, T: Translate, W: Out>(
     kernel: &mut Kernel<D, T>,
     at: usize,
     console: &mut W,
@@ -336,7 +337,7 @@ pub(crate) fn write<D: BlockDev, T: Translate + Drop, W: Out>(
 }
 
 // A write begins, to what is open there: to the console it puts out all of its bytes.
-fn write_to<D: BlockDev, T: Translate + Drop, W: Out>(
+fn write_to<D: BlockDev, T: Translate, W: Out>(
     kernel: &mut Kernel<D, T>,
     at: usize,
     target: Target,
@@ -369,7 +370,7 @@ fn write_answer(wrote: u64, count: u64) -> u64
 }
 
 // To a file: as many of its bytes go as there are blocks for, and the offset goes on behind them; it answers -1 where some are left.
-fn write_file<D: BlockDev, T: Translate + Drop>(
+fn write_file<D: BlockDev, T: Translate>(
     kernel: &mut Kernel<D, T>,
     at: usize,
     number: u32,
@@ -408,7 +409,7 @@ fn write_file<D: BlockDev, T: Translate + Drop>(
 }
 
 /// The process goes on with its pending write, which is one to a pipe.
-pub(crate) fn write_on<D: BlockDev, T: Translate + Drop>(
+pub(crate) fn write_on<D: BlockDev, T: Translate>(
     kernel: &mut Kernel<D, T>,
     at: usize,
     pending: Pending,
@@ -429,7 +430,7 @@ pub(crate) fn write_on<D: BlockDev, T: Translate + Drop>(
 
 // To a pipe: what fits of its bytes is put in, and the process waits while some are left. Without a read end it answers
 // -1.
-fn write_pipe<D: BlockDev, T: Translate + Drop>(
+fn write_pipe<D: BlockDev, T: Translate>(
     kernel: &mut Kernel<D, T>,
     at: usize,
     pipe: usize,

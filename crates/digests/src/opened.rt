@@ -35,7 +35,7 @@ fn mix_target(digest: u64, target: Target) -> u64
 }
 
 // The open file with a number goes in.
-fn mix_open<D: BlockDev, T: Translate + Drop>(digest: u64, kernel: &Kernel<D, T>, id: usize) -> u64
+fn mix_open<D: BlockDev, T: Translate>(digest: u64, kernel: &Kernel<D, T>, id: usize) -> u64
     ensures { result ≡ open_mixed digest (slot (state_of kernel.now).opens id) }
 {
     match kernel.opened(id) {
@@ -48,7 +48,7 @@ fn mix_open<D: BlockDev, T: Translate + Drop>(digest: u64, kernel: &Kernel<D, T>
 }
 
 /// All open files go in.
-pub fn mix_opens<D: BlockDev, T: Translate + Drop>(digest: u64, kernel: &Kernel<D, T>) -> u64
+pub fn mix_opens<D: BlockDev, T: Translate>(digest: u64, kernel: &Kernel<D, T>) -> u64
     ensures { result ≡ opens_mixed digest (state_of kernel.now).opens }
 {
     let mut digest = digest;
@@ -59,7 +59,7 @@ pub fn mix_opens<D: BlockDev, T: Translate + Drop>(digest: u64, kernel: &Kernel<
 }
 
 // The pipe with a number goes in.
-fn mix_pipe<D: BlockDev, T: Translate + Drop>(digest: u64, kernel: &Kernel<D, T>, q: usize) -> u64
+fn mix_pipe<D: BlockDev, T: Translate>(digest: u64, kernel: &Kernel<D, T>, q: usize) -> u64
     ensures { result ≡ pipe_mixed digest (slot (state_of kernel.now).pipes q) }
 {
     match kernel.pipe(q) {
@@ -72,7 +72,7 @@ fn mix_pipe<D: BlockDev, T: Translate + Drop>(digest: u64, kernel: &Kernel<D, T>
 }
 
 /// All pipes go in.
-pub fn mix_pipes<D: BlockDev, T: Translate + Drop>(digest: u64, kernel: &Kernel<D, T>) -> u64
+pub fn mix_pipes<D: BlockDev, T: Translate>(digest: u64, kernel: &Kernel<D, T>) -> u64
     ensures { result ≡ pipes_mixed digest (state_of kernel.now).pipes }
 {
     let mut digest = digest;

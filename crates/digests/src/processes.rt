@@ -88,7 +88,7 @@ fn mix_process(digest: u64, process: &Process) -> u64
 }
 
 // A page of a place's memory goes in, if there is one with this number.
-fn mix_page<T: Translate + Drop>(digest: u64, spaces: &Spaces<T>, at: usize, n: u64) -> u64
+fn mix_page<T: Translate>(digest: u64, spaces: &Spaces<T>, at: usize, n: u64) -> u64
     requires { has_space spaces.now at ≡ true }
     ensures { result ≡ page_or_same digest (slice_get (view_at spaces.now at).memory n) }
 {
@@ -102,7 +102,7 @@ fn mix_page<T: Translate + Drop>(digest: u64, spaces: &Spaces<T>, at: usize, n: 
 }
 
 // The memory of a place goes in.
-fn mix_memory<T: Translate + Drop>(digest: u64, spaces: &Spaces<T>, at: usize) -> u64
+fn mix_memory<T: Translate>(digest: u64, spaces: &Spaces<T>, at: usize) -> u64
     ensures { result ≡ memory_mixed digest (memory_in (slot spaces.now.places at)) }
 {
     if !spaces.has_space(at) {
@@ -117,7 +117,7 @@ fn mix_memory<T: Translate + Drop>(digest: u64, spaces: &Spaces<T>, at: usize) -
 }
 
 // The process of a place goes in.
-fn mix_place<D: BlockDev, T: Translate + Drop>(digest: u64, kernel: &Kernel<D, T>, at: usize) -> u64
+fn mix_place<D: BlockDev, T: Translate>(digest: u64, kernel: &Kernel<D, T>, at: usize) -> u64
     ensures { result ≡ place_mixed digest (process_at (state_of kernel.now) at) }
 {
     match kernel.whole(at) {
@@ -127,7 +127,7 @@ fn mix_place<D: BlockDev, T: Translate + Drop>(digest: u64, kernel: &Kernel<D, T
 }
 
 /// All processes go in.
-pub fn mix_places<D: BlockDev, T: Translate + Drop>(digest: u64, kernel: &Kernel<D, T>) -> u64
+pub fn mix_places<D: BlockDev, T: Translate>(digest: u64, kernel: &Kernel<D, T>) -> u64
     ensures { result ≡ places_mixed digest (state_of kernel.now) }
 {
     let mut digest = digest;

@@ -38,7 +38,7 @@ fn mix_counts(ticks: u32, table: &Table, halted: Option<i32>) -> u64
 }
 
 // The same of a kernel.
-fn mix_front<D: BlockDev, T: Translate + Drop>(kernel: &Kernel<D, T>) -> u64
+fn mix_front<D: BlockDev, T: Translate>(kernel: &Kernel<D, T>) -> u64
     ensures { result ≡ mixed start (front_of (state_of kernel.now)) }
 {
     mix_counts(kernel.ticks, &kernel.table, kernel.halted)
@@ -46,7 +46,7 @@ fn mix_front<D: BlockDev, T: Translate + Drop>(kernel: &Kernel<D, T>) -> u64
 
 /// The digest of a state, but for its files: they go in by `mix_files`.
 #[tactic(auto, unfolding(crate::specs::Digest::digest_but_files))]
-pub fn digest_but_files<D: BlockDev, T: Translate + Drop>(kernel: &Kernel<D, T>) -> u64
+pub fn digest_but_files<D: BlockDev, T: Translate>(kernel: &Kernel<D, T>) -> u64
     ensures { result ≡ digest_but_files (state_of kernel.now) }
 {
     let digest = mix_console(mix_front(kernel), &kernel.console);

@@ -1,18 +1,9 @@
 -- Many instructions of the running process.
-use Rattle.std.proofs.Common.{◌≡◌, ◌<◌, ℕ, zero, suc, List, Option, Some, Err, refl, subst, sym}
-use Rattle.std.specs.Prelude.{IfSome}
-use Rattle.kernel.specs.Kernel.{Kernel, computed}
-use Rattle.kernel.specs.Ready.{awaited_in}
-use Rattle.kernel.specs.Sound.{IsKernel}
-use Rattle.kernel.specs.Watch.{IsWatched, Watches}
+use Rattle.kernel.proofs.Common.{◌≡◌, ◌<◌, ℕ, zero, suc, List, Option, Some, Err, refl, subst, sym, IfSome, Kernel, computed, awaited_in, IsKernel, IsWatched, Watches, opens_of, Spaces, taken_frames, view_at, cycle, Trap}
 use Rattle.kernel.proofs.Runs.{run-of}
 use Rattle.kernel.proofs.Steps.{computed-kernel}
-use Rattle.files.specs.Places.{opens_of}
 use Rattle.spaces.proofs.Advancing.{advances-last, advances-same, computed-frames}
 use Rattle.spaces.specs.Instructions.{Advances, Does}
-use Rattle.spaces.specs.Spaces.{Spaces, taken_frames, view_at}
-use Rattle.unixmodel.specs.Cycle.{cycle}
-use Rattle.unixmodel.specs.declared.trap.Trap.{Trap}
 
 -- a kernel with other spaces, in which a process runs
 pub record GoesOn (k : Kernel) (i : ℕ) (new : Spaces) : Type 0 where

@@ -1,40 +1,16 @@
 -- Which process runs, and the end of a process.
-use Rattle.std.proofs.Common.{◌≡◌, ◌≢◌, ℕ, zero, suc, ◌+◌, ◌<◌, ◌≤◌, ◌%◌, inl, inr, true, false, nat_eq, List, [], ◌∷◌, ◌++◌, length, map, Option, Some, None, ℤ, refl, ap, sym, ◌∙◌, arith}
-use Rattle.std.specs.Prelude.{if◌then◌else◌, option_map, slice_index, slice_index_or, slice_set}
-use Rattle.std.proofs.lemmas.Bool.{ne_eqb}
-use Rattle.std.proofs.lemmas.Bool.Decides.{nat_tests}
-use Rattle.std.proofs.lemmas.List.{get_or-set_other, length-map, length-set}
-use Rattle.std.specs.Option.{option_eq}
-use Rattle.kernel.specs.Descriptors.{all_closed, descriptors_in, standing}
-use Rattle.kernel.specs.Holding.{AreHeld, IsInUse, all_dropped, files_on, gone_nodes, home_in, homes_at}
-use Rattle.files.proofs.Whole.{all-set}
+use Rattle.kernel.proofs.Common.{◌≡◌, ◌≢◌, ℕ, zero, suc, ◌+◌, ◌<◌, ◌≤◌, ◌%◌, inl, inr, true, false, nat_eq, List, [], ◌∷◌, ◌++◌, length, map, Option, Some, None, ℤ, refl, ap, sym, ◌∙◌, arith, if◌then◌else◌, option_map}
+use Rattle.kernel.proofs.Common.{slice_index, slice_index_or, slice_set, ne_eqb, nat_tests, get_or-set_other, length-map, length-set, option_eq, all_closed, descriptors_in, standing, AreHeld, IsInUse, all_dropped, files_on}
+use Rattle.kernel.proofs.Common.{gone_nodes, home_in, homes_at, all-set, Kernel, base, descriptors_at, ended, halted_by, idle, left_as, left_home, lives, loaded, memories, memory_in, on_hart, rest_of, state_of, IsKernel, IsMode}
+use Rattle.kernel.proofs.Common.{IsPlace, IsPlaced, WaitsWell, is_at, one_in, Counts, one_at, sum_by-cons, sum_by-set, none-some, Counted, opens_of, Process, changed_at, exited, orphaned, zombie_of, with_zombie-with_table}
+use Rattle.kernel.proofs.Common.{with_memory, with_table, SpaceView, Spaces, taken_frames, Mode, Ready, Running, Waiting, Zombie, put, slot, Memory, end_process, is_running_mode, reap, State, holds, put_process}
 use Rattle.kernel.proofs.Holding.{AreOldHomes, all-failed, fewer-held, fewer-leaves, fewer-nodes, fewer-used, used-put, named_in, same-map, slot-map}
-use Rattle.kernel.specs.Kernel.{Kernel, base, descriptors_at, ended, halted_by, idle, left_as, left_home, lives, loaded, memories, memory_in, on_hart, rest_of, state_of}
-use Rattle.kernel.specs.Sound.{IsKernel, IsMode, IsPlace, IsPlaced, WaitsWell, is_at}
 use Rattle.kernel.proofs.Named.{Leaves, counted-ended, counts-joined, fewer-pipes, files-all_closed, files_on-all_closed, leaves-standing, named_in-append, old-all_closed, opens-all_closed, orphan-same, reap-closed, table-all_closed}
 use Rattle.kernel.proofs.Opens.{active-by, active-same, opened-put, waits-fewer, waits-set}
 use Rattle.kernel.proofs.Reaped.{are-away, opened-loaded, used-loaded}
 use Rattle.kernel.proofs.Runs.{IsRun, home-living, memory-at, put-same, runs-set, same_or_not, set-twice, slot-other, slot-put, slot-within, state-run, with_process, within-run}
-use Rattle.files.specs.Counts.{one_in}
-use Rattle.files.proofs.CountsLemmas.{Counts, one_at}
-use Rattle.std.proofs.lemmas.List.Sums.{sum_by-cons, sum_by-set}
-use Rattle.std.proofs.lemmas.Option.{none-some}
-use Rattle.files.specs.Places.{Counted, opens_of}
-use Rattle.proc.specs.declared.process.Process.{Process}
 use Rattle.proc.specs.Places as table
-use Rattle.proc.specs.Places.{changed_at, exited, orphaned, zombie_of}
-use Rattle.proc.proofs.Joined.{with_zombie-with_table}
-use Rattle.proc.specs.Whole.{with_memory, with_table}
-use Rattle.spaces.specs.Spaces.{SpaceView, Spaces, taken_frames}
-use Rattle.unixmodel.specs.declared.process.Mode.{Mode}
-use Rattle.unixmodel.specs.declared.process.Mode.TheVariants.{Ready, Running, Waiting, Zombie}
-use Rattle.unixmodel.specs.Files.{put, slot}
-use Rattle.unixmodel.specs.Memory.{Memory}
 use Rattle.unixmodel.specs.Outcome as ends
-use Rattle.unixmodel.specs.Outcome.{end_process}
-use Rattle.unixmodel.specs.Process.{is_running_mode}
-use Rattle.unixmodel.specs.Reap.{reap}
-use Rattle.unixmodel.specs.State.{State, holds, put_process}
 
 -- ---- places
 

@@ -1,12 +1,6 @@
 -- Nodes are let go one after the other, and the device counts its failures on the way.
-use Rattle.std.proofs.lemmas.List.{drop_all}
-use Rattle.std.proofs.Common.{drop-cons, ◌≡◌, ◌≢◌, ℕ, suc, ◌+◌, ◌<◌, ◌≤◌, false, true, le_trans, List, [], ◌∷◌, drop, length, None, refl, ap, sym, subst, ◌∙◌, arith}
-use Rattle.std.specs.Prelude.{Err, IsErr, Ok, Result, slice_index}
-use Rattle.blockdev.specs.declared.DeviceFault.{DeviceFault}
-use Rattle.kernel.specs.Holding.{AreHeld, all_dropped, dropped}
-use Rattle.tree.specs.Holding.{holders}
-use Rattle.unixmodel.specs.Files.{slot}
-use Rattle.tree.specs.Tree.{FileTree, Serves}
+use Rattle.kernel.proofs.Common.{drop_all, drop-cons, ◌≡◌, ◌≢◌, ℕ, suc, ◌+◌, ◌<◌, ◌≤◌, false, true, le_trans, List, [], ◌∷◌, drop, length, None, refl, ap, sym}
+use Rattle.kernel.proofs.Common.{subst, ◌∙◌, arith, Err, IsErr, Ok, Result, slice_index, DeviceFault, AreHeld, all_dropped, dropped, holders, slot, FileTree, Serves}
 
 -- the tree with another count
 abbrev pub counted : FileTree → ℕ → FileTree

@@ -1,30 +1,13 @@
 -- The end of a process that runs, or where none runs.
-use Rattle.std.proofs.Common.{Bool, ◌≡◌, ◌≢◌, ℕ, ◌%◌, true, false, List, [], ◌∷◌, ◌++◌, Option, Some, None, ℤ, pos, refl, ap, subst, sym, ◌∙◌}
-use Rattle.std.specs.Prelude.{Err, IfOk, Ok, OnErr, Result, not, slice_index, slice_index_or}
-use Rattle.kernel.specs.Descriptors.{all_closed, standing}
-use Rattle.kernel.specs.Holding.{AreHeld, all_dropped, gone_nodes}
-use Rattle.std.proofs.lemmas.Option.{same_Some}
-use Rattle.unixmodel.specs.declared.process.Mode.{Mode}
-use Rattle.unixmodel.specs.Process.{is_zombie_mode}
-use Rattle.kernel.specs.Kernel.{Kernel, base, counting, ended, halted_by, idle, lives, loaded, memories, memory_in, on_hart, rest_of, state_of, waking}
-use Rattle.kernel.specs.Sound.{IsKernel, IsPlaced, is_at, CanEnd, CanEndIn, IsAlive}
+use Rattle.kernel.proofs.Common.{Bool, ◌≡◌, ◌≢◌, ℕ, ◌%◌, true, false, List, [], ◌∷◌, ◌++◌, Option, Some, None, ℤ, pos, refl, ap, subst, sym, ◌∙◌, Err, IfOk, Ok, OnErr, Result, not, slice_index, slice_index_or, all_closed}
+use Rattle.kernel.proofs.Common.{standing, AreHeld, all_dropped, gone_nodes, same_Some, Mode, is_zombie_mode, Kernel, base, counting, ended, halted_by, idle, lives, loaded, memories, memory_in, on_hart, rest_of, state_of, waking}
+use Rattle.kernel.proofs.Common.{IsKernel, IsPlaced, is_at, CanEnd, CanEndIn, IsAlive, IsInUse, DeviceFault, FileTree, Serves, Counted, opens_of, Process, Places, exited, with_memory, SpaceView, slot, Memory, State, process_at}
 use Rattle.kernel.proofs.Changes.{ended-held, ended-is, ended-kernel, ended-made, loaded-placed, other-at}
 use Rattle.kernel.proofs.Dropping.{counted}
 use Rattle.kernel.proofs.Steps.{fail-kernel, with-tree}
-use Rattle.kernel.specs.Holding.{IsInUse}
-use Rattle.blockdev.specs.declared.DeviceFault.{DeviceFault}
-use Rattle.tree.specs.Tree.{FileTree, Serves}
 use Rattle.unixmodel.specs.Failures.{HasCause}
 use Rattle.kernel.proofs.Runs.{loaded-run, memory-at, process-with, run-of, set-slot, slot-put, with_process, within-run, space-of}
 use Rattle.kernel.proofs.Starts.{state-idle}
-use Rattle.files.specs.Places.{Counted, opens_of}
-use Rattle.proc.specs.declared.process.Process.{Process}
-use Rattle.proc.specs.Places.{Places, exited}
-use Rattle.proc.specs.Whole.{with_memory}
-use Rattle.spaces.specs.Spaces.{SpaceView}
-use Rattle.unixmodel.specs.Files.{slot}
-use Rattle.unixmodel.specs.Memory.{Memory}
-use Rattle.unixmodel.specs.State.{State, process_at}
 
 -- ---- where none runs
 

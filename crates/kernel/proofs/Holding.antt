@@ -1,41 +1,18 @@
 -- Who holds the nodes of the disk: what comes of processes, open files and nodes that change.
-use Rattle.std.proofs.Common.{◌≡◌, ◌≢◌, ℕ, zero, suc, ◌+◌, ◌-◌, ◌<◌, ◌≤◌, Bool, true, false, cond, List, [], ◌∷◌, length, map, Option, Some, None, inl, inr, refl, ap, ap₂, sym, subst, ◌∙◌, arith}
-use Rattle.std.specs.Prelude.{IfSome, nat_lt, option_map, slice_set, sum_by, unwrap_or, ◌||◌, ◌==◌}
-use Rattle.std.specs.List.{list_any}
-use Rattle.std.proofs.Math.ListN.{get_or-map}
-use Rattle.std.proofs.lemmas.Bool.{cases_eq, cases_lt, lt-ltb, ltb-true, or_left, or_right}
-use Rattle.std.proofs.lemmas.Bool.Decides.{nat_tests}
-use Rattle.std.proofs.lemmas.List.{get_or-set_other, get_or-set_same}
-use Rattle.std.proofs.lemmas.List.Sums.{sum_by-cons, sum_by-set}
-use Rattle.std.proofs.lemmas.Option.{none-some, same_Some}
-use Rattle.files.specs.Counts.{one_in}
-use Rattle.files.proofs.CountsLemmas.{lt-no, lt-yes, one_at}
+use Rattle.kernel.proofs.Common.{◌≡◌, ◌≢◌, ℕ, zero, suc, ◌+◌, ◌-◌, ◌<◌, ◌≤◌, Bool, true, false, cond, List, [], ◌∷◌, length, map, Option, Some, None, inl, inr, refl, ap, ap₂, sym, subst, ◌∙◌, arith, IfSome, nat_lt, option_map, slice_set}
+use Rattle.kernel.proofs.Common.{sum_by, unwrap_or, ◌||◌, ◌==◌, list_any, get_or-map, cases_eq, cases_lt, lt-ltb, ltb-true, or_left, or_right, nat_tests, get_or-set_other, get_or-set_same, sum_by-cons, sum_by-set, none-some, same_Some}
+use Rattle.kernel.proofs.Common.{one_in, lt-no, lt-yes, one_at, target_of, Counted, more, opened, opens_of, shared, all-set, AreHeld, FitsNode, IsFolder, IsInUse, all_dropped, dropped, files_on, home_in, homes_at, node_in, node_of}
+use Rattle.kernel.proofs.Common.{node_on, slot-within, Process, joined, holders, with_hold, without_hold, FileTree, blocks_of, Files, Node, clear, links_of, slot, taken, Memory, is_node, is_zombie_mode, is_used, kept, without_nodes, State}
 use Rattle.files.specs.declared.file.OpenFile.{OpenFile}
 use Rattle.files.specs.declared.file.Target.{Target}
 use Rattle.files.specs.declared.file.Target.TheVariants as target
-use Rattle.files.specs.Meant.{target_of}
-use Rattle.files.specs.Places.{Counted, more, opened, opens_of, shared}
-use Rattle.files.proofs.Whole.{all-set}
-use Rattle.kernel.specs.Holding.{AreHeld, FitsNode, IsFolder, IsInUse, all_dropped, dropped, files_on, home_in, homes_at, node_in, node_of, node_on}
-use Rattle.names.proofs.Finding.{slot-within}
 use Rattle.names.specs.Rules.{KeepsTree}
 use Rattle.names.proofs.Reaped.{is_held, kept-same}
-use Rattle.proc.specs.declared.process.Process.{Process}
-use Rattle.proc.specs.Whole.{joined}
 use Rattle.tree.proofs.Keeping.{let-go-keeps}
 use Rattle.tree.proofs.Letting.{let-go-clear, let-go-held, let-go-linked, let-go-reaps}
 use Rattle.tree.proofs.Storing.{blocks_of-set}
-use Rattle.tree.specs.Holding.{holders, with_hold, without_hold}
-use Rattle.tree.specs.Tree.{FileTree}
-use Rattle.unixmodel.specs.Counts.{blocks_of}
-use Rattle.unixmodel.specs.Files.{Files, Node, clear, links_of, slot, taken}
-use Rattle.unixmodel.specs.Memory.{Memory}
-use Rattle.unixmodel.specs.OpenFiles.{is_node}
 use Rattle.unixmodel.specs.OpenFiles as unix_files
 use Rattle.unixmodel.specs.Process as unix
-use Rattle.unixmodel.specs.Process.{is_zombie_mode}
-use Rattle.unixmodel.specs.Reap.{is_used, kept, without_nodes}
-use Rattle.unixmodel.specs.State.{State}
 
 -- ---- what holds of each place
 

@@ -1,25 +1,11 @@
 -- Whether a kernel has anything to do, in the words of its state.
-use Rattle.std.proofs.Common.{Bool, List, None, Option, Some, [], ap, arith, false, length, nat_lt, not, refl, sym, true, ◌&&◌, ◌<◌, ◌||◌, ◌∙◌, ◌≡◌, ◌∷◌, ℕ}
-use Rattle.std.specs.Prelude.{is_none, is_some}
-use Rattle.std.specs.List.{list_any, position_or_len}
-use Rattle.std.proofs.lemmas.Bool.{le-ltb, lt-ltb}
-use Rattle.std.proofs.lemmas.List.Sums.{position_or_len_is}
-use Rattle.kernel.specs.Idle.{is_anyone_asleep, is_idle, is_sleeping, is_sleeping_mode}
-use Rattle.kernel.specs.Kernel.{Kernel, base, loaded, memories, rest_of, state_of}
-use Rattle.kernel.specs.Sound.{IsKernel, is_at}
+use Rattle.kernel.proofs.Common.{Bool, List, None, Option, Some, [], ap, arith, false, length, nat_lt, not, refl, sym, true, ◌&&◌, ◌<◌, ◌||◌, ◌∙◌, ◌≡◌, ◌∷◌, ℕ, is_none, is_some}
+use Rattle.kernel.proofs.Common.{list_any, position_or_len, le-ltb, lt-ltb, position_or_len_is, is_anyone_asleep, is_idle, is_sleeping, is_sleeping_mode, Kernel, base, loaded}
+use Rattle.kernel.proofs.Common.{memories, rest_of, state_of, IsKernel, is_at, Process, place_where, joined, found-any, running-with_table, slot, Memory, holds, running, turn}
 use Rattle.kernel.proofs.Changes.{length-active, other-at, running-active}
 use Rattle.kernel.proofs.Runs.{eq-self, run-of, slot-within}
 use Rattle.kernel.proofs.Shown.{place-changed}
-use Rattle.proc.specs.declared.process.Process.{Process}
 use Rattle.proc.specs.Places as table
-use Rattle.proc.specs.Places.{place_where}
-use Rattle.proc.specs.Whole.{joined}
-use Rattle.proc.proofs.Following.{found-any}
-use Rattle.proc.proofs.Joined.{running-with_table}
-use Rattle.unixmodel.specs.Files.{slot}
-use Rattle.unixmodel.specs.Memory.{Memory}
-use Rattle.unixmodel.specs.State.{holds, running}
-use Rattle.unixmodel.specs.Turn.{turn}
 
 -- ---- who runs
 

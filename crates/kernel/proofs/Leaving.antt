@@ -1,24 +1,11 @@
 -- The running process runs no more: it ends, waits, or is ready again.
-use Rattle.std.proofs.Common.{◌≡◌, ◌≢◌, ℕ, ◌%◌, false, true, Some, ℤ, refl, ap, sym, ◌∙◌}
-use Rattle.std.specs.Prelude.{not, slice_index}
-use Rattle.kernel.specs.Kernel.{Kernel, blocked, ended, halted_by, left_as, lives, loaded, on_hart, state_of}
-use Rattle.kernel.specs.Sound.{IsAwaiting, IsKernel, IsPending, IsPlaced, is_at}
+use Rattle.kernel.proofs.Common.{◌≡◌, ◌≢◌, ℕ, ◌%◌, false, true, Some, ℤ, refl, ap, sym, ◌∙◌, not, slice_index, Kernel, blocked, ended, halted_by, left_as, lives, loaded, on_hart, state_of, IsAwaiting}
+use Rattle.kernel.proofs.Common.{IsKernel, IsPending, IsPlaced, is_at, Process, SpaceView, end_at, Mode, is_zombie_mode, Ready, Waiting, Pending, slot, end_process, reap, change_process, process_at}
 use Rattle.kernel.proofs.Changes.{ended-is, ended-state, left-as, left-kernel, left-state, left_to, other-at}
 use Rattle.kernel.proofs.Reaped.{reap-state}
 use Rattle.kernel.proofs.Runs.{IsRun, home-running, loaded-run, process-run, self, slot-put, within-run}
 use Rattle.kernel.proofs.Running.{change-run, live}
-use Rattle.proc.specs.declared.process.Process.{Process}
-use Rattle.spaces.specs.Spaces.{SpaceView}
-use Rattle.unixmodel.specs.Calls.{end_at}
-use Rattle.unixmodel.specs.declared.process.Mode.{Mode}
-use Rattle.unixmodel.specs.Process.{is_zombie_mode}
-use Rattle.unixmodel.specs.declared.process.Mode.TheVariants.{Ready, Waiting}
-use Rattle.unixmodel.specs.declared.process.Pending.{Pending}
-use Rattle.unixmodel.specs.Files.{slot}
-use Rattle.unixmodel.specs.Outcome.{end_process}
 use Rattle.unixmodel.specs.Process as unix
-use Rattle.unixmodel.specs.Reap.{reap}
-use Rattle.unixmodel.specs.State.{change_process, process_at}
 
 module _ (k : Kernel) (i : ℕ) (p : Process) (h : SpaceView) (r : IsRun k i p h) (is : IsKernel k) where
   module _ (z : slice_index k.spaces.registers 0 ≡ 0) (a : k.spaces.pc % 4 ≡ 0) where

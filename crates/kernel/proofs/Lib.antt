@@ -1,3 +1,4 @@
+mod Common
 pub mod Opens
 pub mod Holding
 pub mod Named

@@ -1,24 +1,11 @@
 -- A process that doesn't run is marked.
-use Rattle.std.proofs.Common.{◌≡◌, ◌≢◌, ℕ, ◌<◌, false, length, Option, Some, None, refl, ap, sym, subst, ◌∙◌}
-use Rattle.std.proofs.lemmas.List.{length-set}
-use Rattle.kernel.specs.Descriptors.{descriptors_in}
-use Rattle.kernel.specs.Kernel.{Kernel, marked}
-use Rattle.kernel.specs.Sound.{IsKernel, IsMode, IsPlace, WaitsWell, is_at}
+use Rattle.kernel.proofs.Common.{◌≡◌, ◌≢◌, ℕ, ◌<◌, false, length, Option, Some, None, refl, ap, sym, subst, ◌∙◌, length-set, descriptors_in, Kernel, marked, IsKernel, IsMode}
+use Rattle.kernel.proofs.Common.{IsPlace, WaitsWell, is_at, home_in, Process, with_mark, SpaceView, Mode, Ready, Running, Waiting, Zombie, slot, Memory, is_running_mode, holds}
 use Rattle.kernel.proofs.Changes.{other-at, stands-put}
-use Rattle.kernel.specs.Holding.{home_in}
 use Rattle.kernel.proofs.Holding.{used-put}
 use Rattle.kernel.proofs.Opens.{opened-put}
 use Rattle.kernel.proofs.Runs.{runs-set, set-slot, slot-within, with_process}
-use Rattle.proc.specs.declared.process.Process.{Process}
 use Rattle.proc.specs.Places as table
-use Rattle.proc.specs.Places.{with_mark}
-use Rattle.spaces.specs.Spaces.{SpaceView}
-use Rattle.unixmodel.specs.declared.process.Mode.{Mode}
-use Rattle.unixmodel.specs.declared.process.Mode.TheVariants.{Ready, Running, Waiting, Zombie}
-use Rattle.unixmodel.specs.Files.{slot}
-use Rattle.unixmodel.specs.Memory.{Memory}
-use Rattle.unixmodel.specs.Process.{is_running_mode}
-use Rattle.unixmodel.specs.State.{holds}
 
 mark-mode : (p : Process) (m : Memory) (mode : Mode) → is_running_mode mode ≡ false → IsMode p m mode → IsMode (with_mark p) m mode
 mark-mode p m Running rests is = absurd (cc)

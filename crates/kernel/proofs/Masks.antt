@@ -1,17 +1,7 @@
 -- Masks in which places are woken, and searches in places that change.
-use Rattle.std.proofs.Common.{Bool, List, None, Option, Some, [], add-one, ap, arith, cond, false, inl, inr, is_some, length, nat_lt, refl, sym, take, true, suc, zero, ℕ, ◌+◌, ◌<◌, ◌||◌, ◌∙◌, ◌∷◌, ◌≡◌, ◌≤◌}
-use Rattle.std.specs.Prelude.{slice_set}
-use Rattle.std.specs.List.{position_or_len}
-use Rattle.std.proofs.lemmas.Bool.{cases_lt, false_from_ne_true, le-ltb, ltb-false, or_left, or_parts, true≢false}
-use Rattle.std.proofs.lemmas.List.{get_or_past}
-use Rattle.std.proofs.lemmas.List.Sums.{fails_before_first, position_or_len_is}
-use Rattle.kernel.specs.Watch.{roused}
+use Rattle.kernel.proofs.Common.{Bool, List, None, Option, Some, [], add-one, ap, arith, cond, false, inl, inr, is_some, length, nat_lt, refl, sym, take, true, suc, zero, ℕ, ◌+◌, ◌<◌, ◌||◌, ◌∙◌, ◌∷◌, ◌≡◌, ◌≤◌, slice_set}
+use Rattle.kernel.proofs.Common.{position_or_len, cases_lt, false_from_ne_true, le-ltb, ltb-false, or_left, or_parts, true≢false, get_or_past, fails_before_first, position_or_len_is, roused, Process, is_in, place_where, slot, holds}
 use Rattle.kernel.proofs.Runs.{same_or_not, slot-other, slot-put}
-use Rattle.proc.specs.declared.process.Process.{Process}
-use Rattle.proc.specs.Mask.{is_in}
-use Rattle.proc.specs.Places.{place_where}
-use Rattle.unixmodel.specs.Files.{slot}
-use Rattle.unixmodel.specs.State.{holds}
 -- there is no such place
 pub use Rattle.std.proofs.lemmas.List.{set_past as set-past}
 

@@ -1,39 +1,18 @@
 -- The open files and the pipes keep what holds of them where descriptors come and go, and what is left of them is what
 -- the abstract Unix leaves.
-use Rattle.tree.specs.Tree.{FileTree}
-use Rattle.std.proofs.Common.{drop-cons, eq-eqb, append_assoc, Bool, List, None, Option, Some, [], ap, arith, cond, false, inl, inr, length, refl, subst, suc, sym, true, ℕ, ℤ, ◌+◌, ◌++◌, ◌<◌, ◌≡◌, ◌≤◌, ◌∙◌, ◌∷◌}
-use Rattle.std.specs.Prelude.{drop, is_some, map, option_and_then, option_map, slice_set, ◌==◌}
-use Rattle.std.proofs.lemmas.Bool.{cases_lt}
-use Rattle.std.proofs.lemmas.Option.{none-some}
-use Rattle.std.proofs.lemmas.List.{get_or_past, length-append, length-map, set-get_or}
-use Rattle.std.proofs.lemmas.List.Sums.{sum_by-cons, sum_by-set}
-use Rattle.kernel.specs.Descriptors.{IsCounted, after_close, all_closed, all_shared, closed_in, named_by, names_in, shared_in, standing}
+use Rattle.kernel.proofs.Common.{FileTree, drop-cons, eq-eqb, append_assoc, Bool, List, None, Option, Some, [], ap, arith, cond, false, inl, inr, length, refl, subst, suc, sym, true, ℕ, ℤ, ◌+◌, ◌++◌, ◌<◌, ◌≡◌, ◌≤◌, ◌∙◌, ◌∷◌, drop}
+use Rattle.kernel.proofs.Common.{is_some, map, option_and_then, option_map, slice_set, ◌==◌, cases_lt, none-some, get_or_past, length-append, length-map, set-get_or, sum_by-cons, sum_by-set, IsCounted, after_close, all_closed}
+use Rattle.kernel.proofs.Common.{all_shared, closed_in, named_by, names_in, shared_in, standing, slot-within, IsInUse, files_on, gone_nodes, last_node, listed, node_in, node_on, names, one_in, Counts, count-closed, count-shared, lt-no}
+use Rattle.kernel.proofs.Common.{lt-yes, names-none, one_at, IsPiped, IsLeftOf, has_pipe-clear, pipes-clear, pipes-left, pipes-same, piped-end, piped-last, piped-node, without_pipes-left, end_of, file_of, target_of, Counted, IsTable}
+use Rattle.kernel.proofs.Common.{closed, count_at, fewer, file_at, has_pipe, last_in, last_target, opens_of, shared, all-set, fewer-from, IsLeft, left-closed, left-same, opens-closed, opens-closed_last, opens-shared, set_outside}
+use Rattle.kernel.proofs.Common.{slot-opens, table-closed, table-shared, without_opens-left, Process, orphaned, zombie_of, joined, Spaces, Files, clear, put, slot, taken, Memory, End, OnPipe, reap, without_nodes, without_pipes, State}
 use Rattle.kernel.proofs.Opens.{count-joined, file-shared}
 use Rattle.kernel.proofs.Holding.{AreOld, named_in, one_at-self, same-map, slot-map, used-shared}
-use Rattle.names.proofs.Finding.{slot-within}
-use Rattle.kernel.specs.Holding.{IsInUse, files_on, gone_nodes, last_node, listed, node_in, node_on}
-use Rattle.files.specs.Counts.{names, one_in}
-use Rattle.files.proofs.CountsLemmas.{Counts, count-closed, count-shared, lt-no, lt-yes, names-none, one_at}
-use Rattle.files.specs.Pipes.{IsPiped}
-use Rattle.files.proofs.PipesLemmas.{IsLeftOf, has_pipe-clear, pipes-clear, pipes-left, pipes-same, piped-end, piped-last, piped-node, without_pipes-left}
 use Rattle.files.specs.declared.file.End as files_end
 use Rattle.files.specs.declared.file.OpenFile.{OpenFile}
 use Rattle.files.specs.declared.file.Target.{Target}
 use Rattle.files.specs.declared.file.Target.TheVariants as target
-use Rattle.files.specs.Meant.{end_of, file_of, target_of}
-use Rattle.files.specs.Places.{Counted, IsTable, closed, count_at, fewer, file_at, has_pipe, last_in, last_target, opens_of, shared}
-use Rattle.files.proofs.Whole.{all-set, fewer-from, IsLeft, left-closed, left-same, opens-closed, opens-closed_last, opens-shared, set_outside, slot-opens, table-closed, table-shared, without_opens-left}
-use Rattle.proc.specs.declared.process.Process.{Process}
-use Rattle.proc.specs.Places.{orphaned, zombie_of}
-use Rattle.proc.specs.Whole.{joined}
-use Rattle.spaces.specs.Spaces.{Spaces}
-use Rattle.unixmodel.specs.Files.{Files, clear, put, slot, taken}
-use Rattle.unixmodel.specs.Memory.{Memory}
 use Rattle.unixmodel.specs.OpenFiles as unix
-use Rattle.unixmodel.specs.OpenFiles.{End}
-use Rattle.unixmodel.specs.OpenFiles.Target.{OnPipe}
-use Rattle.unixmodel.specs.Reap.{reap, without_nodes, without_pipes}
-use Rattle.unixmodel.specs.State.{State}
 
 -- ---- descriptors that a table counts
 

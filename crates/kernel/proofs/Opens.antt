@@ -1,37 +1,14 @@
 -- The open files of a kernel where the descriptors of its processes stay, and what a descriptor names.
-use Rattle.std.proofs.Common.{◌≡◌, ◌≢◌, ℕ, ◌+◌, ◌<◌, ◌≤◌, true, List, [], ◌∷◌, length, Option, Some, None, refl, ap, subst, sym, ◌∙◌, arith}
-use Rattle.std.specs.Prelude.{IfSome, option_and_then, option_map, slice_set}
-use Rattle.std.proofs.lemmas.List.Sums.{sum_by-cons}
-use Rattle.kernel.specs.Descriptors.{IsCounted, descriptors_in, named_by, names_in}
+use Rattle.kernel.proofs.Common.{◌≡◌, ◌≢◌, ℕ, ◌+◌, ◌<◌, ◌≤◌, true, List, [], ◌∷◌, length, Option, Some, None, refl, ap, subst, sym, ◌∙◌, arith, IfSome, option_and_then, option_map, slice_set, sum_by-cons}
+use Rattle.kernel.proofs.Common.{IsCounted, descriptors_in, named_by, names_in, Kernel, on_hart, slot-within, IsAwaiting, IsForBytes, IsForPipe, IsFresh, IsOpenFile, IsOpened, WaitsAs, WaitsWell, file_named}
+use Rattle.kernel.proofs.Common.{is_awaited, is_on_pipe, names, count_of, names-clear, file_of, Counted, count_at, count_in, file_at, more, opened, opens_of, shared, get_or-set_other, all-set, file-opens}
+use Rattle.kernel.proofs.Common.{slot-opens, Process, changed_at, joined, with_memory, Spaces, Call, Read, Write, Mode, Ready, Running, Waiting, Zombie, Pending, slot, taken, Memory, low, pending_arg, State}
 use Rattle.kernel.proofs.Holding.{least, one_at-self, same-set}
-use Rattle.kernel.specs.Kernel.{Kernel, on_hart}
-use Rattle.names.proofs.Finding.{slot-within}
-use Rattle.kernel.specs.Sound.{IsAwaiting, IsForBytes, IsForPipe, IsFresh, IsOpenFile, IsOpened, WaitsAs, WaitsWell, file_named, is_awaited, is_on_pipe}
 use Rattle.files.proofs.CountsLemmas as counts
-use Rattle.files.specs.Counts.{names}
-use Rattle.files.proofs.CountsLemmas.{count_of, names-clear}
 use Rattle.files.specs.declared.file.OpenFile.{OpenFile}
 use Rattle.files.specs.declared.file.Target.{Target}
-use Rattle.files.specs.Meant.{file_of}
-use Rattle.files.specs.Places.{Counted, count_at, count_in, file_at, more, opened, opens_of, shared}
-use Rattle.std.proofs.lemmas.List.{get_or-set_other}
-use Rattle.files.proofs.Whole.{all-set, file-opens, slot-opens}
-use Rattle.proc.specs.declared.process.Process.{Process}
-use Rattle.proc.specs.Places.{changed_at}
-use Rattle.proc.specs.Whole.{joined, with_memory}
-use Rattle.spaces.specs.Spaces.{Spaces}
-use Rattle.unixmodel.specs.declared.call.Call.{Call}
-use Rattle.unixmodel.specs.declared.call.Call.TheVariants.{Read, Write}
-use Rattle.unixmodel.specs.declared.process.Mode.{Mode}
-use Rattle.unixmodel.specs.declared.process.Mode.TheVariants.{Ready, Running, Waiting, Zombie}
-use Rattle.unixmodel.specs.declared.process.Pending.{Pending}
-use Rattle.unixmodel.specs.Files.{slot, taken}
-use Rattle.unixmodel.specs.Memory.{Memory}
-use Rattle.unixmodel.specs.Numbers.{low}
 use Rattle.unixmodel.specs.OpenFiles as unix_files
-use Rattle.unixmodel.specs.Outcome.{pending_arg}
 use Rattle.unixmodel.specs.Process as unix
-use Rattle.unixmodel.specs.State.{State}
 
 -- ---- who waits in a read or a write
 

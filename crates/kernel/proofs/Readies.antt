@@ -1,28 +1,8 @@
 -- Who is ready: that depends on the processes, the console, the ticks, and the open files with their pipes.
-use Rattle.std.proofs.Common.{◌≡◌, ℕ, Bool, true, false, ◌||◌, List, Option, Some, None, refl, ap, subst, sym, ◌∙◌, arith}
-use Rattle.std.specs.Prelude.{cond, find, is_some, option_map, slice_index_or, [], ◌∷◌, ◌==◌}
-use Rattle.std.proofs.lemmas.Bool.Decides.{nat_tests}
-use Rattle.kernel.specs.Kernel.{Kernel, Rest, base, lives, memories, rest_of, state_of}
-use Rattle.kernel.specs.Ready.{Stands, awaited_in, seen}
-use Rattle.kernel.specs.Sound.{IsAlive}
-use Rattle.files.specs.Pipes.{IsPiped}
-use Rattle.files.proofs.PipesLemmas.{has_pipe-clear}
-use Rattle.files.specs.Places.{has_pipe}
-use Rattle.proc.specs.declared.process.Process.{Process}
-use Rattle.proc.specs.Places.{Places, is_zombie_child_of, place_where}
-use Rattle.proc.proofs.Joined.{slot-joined, zombie_child-with_table}
-use Rattle.proc.specs.Whole.{with_memory, with_table}
-use Rattle.spaces.specs.Spaces.{Spaces}
-use Rattle.unixmodel.specs.declared.call.Call.{Call}
-use Rattle.unixmodel.specs.declared.call.Call.TheVariants.{Read, Wait, Write}
-use Rattle.unixmodel.specs.declared.process.Mode.{Mode}
-use Rattle.unixmodel.specs.declared.process.Mode.TheVariants.{Ready, Running, Waiting, Zombie}
-use Rattle.unixmodel.specs.declared.process.Pending.{Pending}
-use Rattle.unixmodel.specs.Files.{clear, slot}
-use Rattle.unixmodel.specs.Memory.{Memory}
-use Rattle.unixmodel.specs.OpenFiles.{OpenFile, Target, is_pipe}
-use Rattle.unixmodel.specs.OpenFiles.Target.{OnNode, OnPipe}
-use Rattle.unixmodel.specs.State.{State, holds}
+use Rattle.kernel.proofs.Common.{◌≡◌, ℕ, Bool, true, false, ◌||◌, List, Option, Some, None, refl, ap, subst, sym, ◌∙◌, arith, cond, find, is_some, option_map, slice_index_or, [], ◌∷◌, ◌==◌, nat_tests, Kernel, Rest, base}
+use Rattle.kernel.proofs.Common.{lives, memories, rest_of, state_of, Stands, awaited_in, seen, IsAlive, IsPiped, has_pipe-clear, has_pipe, Process, Places, is_zombie_child_of, place_where, slot-joined}
+use Rattle.kernel.proofs.Common.{zombie_child-with_table, with_memory, with_table, Spaces, Call, Read, Wait, Write, Mode, Ready, Running, Waiting, Zombie, Pending, clear, slot, Memory, is_pipe, OnNode, OnPipe, State, holds}
+use Rattle.unixmodel.specs.OpenFiles.{OpenFile, Target}
 use Rattle.unixmodel.specs.Turn as turn
 
 -- ---- the pipe of an open file

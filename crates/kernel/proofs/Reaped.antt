@@ -1,31 +1,11 @@
 -- What nothing names any more: a kernel's state has none of it. And the frames that its processes and pipes take.
-use Rattle.std.proofs.Common.{◌≡◌, ℕ, suc, ◌<◌, ◌≤◌, Bool, true, false, ◌&&◌, nat_le, List, [], ◌∷◌, length, map, Option, Some, None, refl, ap, sym, ◌∙◌, arith, ◌+◌}
-use Rattle.std.specs.Prelude.{option_map, sum_by}
-use Rattle.std.proofs.lemmas.Bool.{le-leb, lt-leb}
-use Rattle.std.proofs.lemmas.List.Sums.{sum_by-cons}
-use Rattle.kernel.specs.Kernel.{Kernel, loaded, memories, memory_in, on_hart, rest_of, state_of, state_with}
-use Rattle.kernel.specs.Sound.{IsKernel, IsMode, IsOpened, IsPlace}
+use Rattle.kernel.proofs.Common.{◌≡◌, ℕ, suc, ◌<◌, ◌≤◌, Bool, true, false, ◌&&◌, nat_le, List, [], ◌∷◌, length, map, Option, Some, None, refl, ap, sym, ◌∙◌, arith, ◌+◌, option_map, sum_by, le-leb, lt-leb}
+use Rattle.kernel.proofs.Common.{sum_by-cons, Kernel, loaded, memories, memory_in, on_hart, rest_of, state_of, state_with, IsKernel, IsMode, IsOpened, IsPlace, Counts, without_pipes-same, IsTable}
+use Rattle.kernel.proofs.Common.{opens_of, length-opens, without_opens-same, Process, Places, changed_at, joined, with_memory, SpaceView, Spaces, frames_in, taken_frames, blocks_of, frames_of, is_within}
+use Rattle.kernel.proofs.Common.{process_frames, slot, taken, Memory, reap, without_nodes, without_opens, without_pipes, Mode, Zombie, is_zombie_mode, none-some, same_Some, IsInUse, home_in, State}
 use Rattle.kernel.proofs.Opens.{active-by, count-joined, few-taken, hart-same, opened-active}
-use Rattle.files.proofs.CountsLemmas.{Counts}
-use Rattle.files.proofs.PipesLemmas.{without_pipes-same}
-use Rattle.files.specs.Places.{IsTable, opens_of}
-use Rattle.files.proofs.Whole.{length-opens, without_opens-same}
-use Rattle.proc.specs.declared.process.Process.{Process}
-use Rattle.proc.specs.Places.{Places, changed_at}
-use Rattle.proc.specs.Whole.{joined, with_memory}
-use Rattle.spaces.specs.Spaces.{SpaceView, Spaces, frames_in, taken_frames}
-use Rattle.unixmodel.specs.Counts.{blocks_of, frames_of, is_within, process_frames}
-use Rattle.unixmodel.specs.Files.{slot, taken}
-use Rattle.unixmodel.specs.Memory.{Memory}
-use Rattle.unixmodel.specs.Reap.{reap, without_nodes, without_opens, without_pipes}
-use Rattle.unixmodel.specs.declared.process.Mode.{Mode}
-use Rattle.unixmodel.specs.declared.process.Mode.TheVariants.{Zombie}
-use Rattle.unixmodel.specs.Process.{is_zombie_mode}
-use Rattle.std.proofs.lemmas.Option.{none-some, same_Some}
 use Rattle.kernel.proofs.Runs.{space-of}
-use Rattle.kernel.specs.Holding.{IsInUse, home_in}
 use Rattle.kernel.proofs.Holding.{AreAway, nodes-stay, used-put}
-use Rattle.unixmodel.specs.State.{State}
 
 -- ---- processes and spaces
 

@@ -1,21 +1,10 @@
 -- Who waits on a channel is woken, one after the other.
-use Rattle.std.proofs.Common.{Bool, List, None, Option, Some, ap, arith, false, length, refl, suc, sym, take, true, zero, ℕ, ◌+◌, ◌-◌, ◌<◌, ◌∙◌, ◌≡◌, ◌≤◌}
-use Rattle.std.proofs.lemmas.List.{take_all}
-use Rattle.kernel.specs.Watch.{kind_of, roused, waits_as, waits_in, waits_on, woken_by}
+use Rattle.kernel.proofs.Common.{Bool, List, None, Option, Some, ap, arith, false, length, refl, suc, sym, take, true, zero, ℕ, ◌+◌, ◌-◌, ◌<◌, ◌∙◌, ◌≡◌, ◌≤◌, take_all, kind_of, roused, waits_as}
+use Rattle.kernel.proofs.Common.{waits_in, waits_on, woken_by, Bytes, Children, Ticks, Process, Places, woken, Call, Read, Sleep, Wait, Write, Mode, Ready, Running, Waiting, Zombie, Pending, slot, holds}
 use Rattle.kernel.specs.declared.channels.Channel.{Channel}
-use Rattle.kernel.specs.declared.channels.Channel.TheVariants.{Bytes, Children, Ticks}
 use Rattle.kernel.proofs.Masks.{roused-more, roused-none, roused-same}
-use Rattle.proc.specs.declared.process.Process.{Process}
 use Rattle.proc.specs.declared.waits.WaitKind.{WaitKind}
-use Rattle.proc.specs.Places.{Places, woken}
 use Rattle.proc.specs.Waits.{IsFirstWaiting, NoneWaits, call_waits, mode_waits, waits_so}
-use Rattle.unixmodel.specs.declared.call.Call.{Call}
-use Rattle.unixmodel.specs.declared.call.Call.TheVariants.{Read, Sleep, Wait, Write}
-use Rattle.unixmodel.specs.declared.process.Mode.{Mode}
-use Rattle.unixmodel.specs.declared.process.Mode.TheVariants.{Ready, Running, Waiting, Zombie}
-use Rattle.unixmodel.specs.declared.process.Pending.{Pending}
-use Rattle.unixmodel.specs.Files.{slot}
-use Rattle.unixmodel.specs.State.{holds}
 
 -- ---- who doesn't wait for what a channel tells doesn't wait on the channel
 

@@ -1,19 +1,8 @@
 -- The running process, and a change of its registers.
-use Rattle.std.proofs.Common.{◌≡◌, ℕ, ◌<◌, false, List, Option, Some, length, refl, ap, sym, ◌∙◌}
-use Rattle.std.specs.Prelude.{option_map, slice_set}
-use Rattle.kernel.specs.Kernel.{Kernel, answered, state_of}
-use Rattle.kernel.specs.Sound.{IsKernel, IsLive, IsMode}
+use Rattle.kernel.proofs.Common.{◌≡◌, ℕ, ◌<◌, false, List, Option, Some, length, refl, ap, sym, ◌∙◌, option_map, slice_set, Kernel, answered, state_of, IsKernel}
+use Rattle.kernel.proofs.Common.{IsLive, IsMode, Process, with_memory, SpaceView, Mode, Running, put, Memory, with_answer, State, change_process, put_process}
 use Rattle.kernel.proofs.Runs.{IsRun, moved, moved-state, process-run, self, set-slot, set-twice, slot-put}
-use Rattle.proc.specs.declared.process.Process.{Process}
-use Rattle.proc.specs.Whole.{with_memory}
-use Rattle.spaces.specs.Spaces.{SpaceView}
-use Rattle.unixmodel.specs.declared.process.Mode.{Mode}
-use Rattle.unixmodel.specs.declared.process.Mode.TheVariants.{Running}
-use Rattle.unixmodel.specs.Files.{put}
-use Rattle.unixmodel.specs.Memory.{Memory}
 use Rattle.unixmodel.specs.Process as unix
-use Rattle.unixmodel.specs.Process.{with_answer}
-use Rattle.unixmodel.specs.State.{State, change_process, put_process}
 
 abbrev pub on_regs : Kernel → List ℕ → ℕ → Kernel
 on_regs k registers pc = record k { spaces = record k.spaces { registers = registers; pc = pc } }

@@ -1,30 +1,13 @@
 -- The running process, and what becomes of the state where it alone changes.
-use Rattle.std.proofs.Common.{Bool, subst, ◌≡◌, ◌≢◌, ℕ, zero, suc, ◌<◌, ◌≤◌, ◌⊎◌, inl, inr, true, nat_eq, List, [], ◌∷◌, length, Option, Some, None, refl, ap, sym, ◌∙◌, arith}
-use Rattle.std.specs.Prelude.{if◌then◌else◌, is_some, option_map, slice_set, slice_index_or}
-use Rattle.std.proofs.lemmas.Bool.Decides.{nat_tests}
-use Rattle.std.proofs.lemmas.List.{get_or-set_other, get_or-set_same, length-map, length-set, map-set, set-get_or}
+use Rattle.kernel.proofs.Common.{Bool, subst, ◌≡◌, ◌≢◌, ℕ, zero, suc, ◌<◌, ◌≤◌, ◌⊎◌, inl, inr, true, nat_eq, List, [], ◌∷◌, length, Option, Some, None, refl, ap, sym, ◌∙◌, arith, if◌then◌else◌, is_some}
+use Rattle.kernel.proofs.Common.{option_map, slice_set, slice_index_or, nat_tests, get_or-set_other, get_or-set_same, length-map, length-set, map-set, set-get_or, descriptors_in, not-true, none-some}
+use Rattle.kernel.proofs.Common.{same_Some, Kernel, base, lives, loaded, memories, memory_in, on_hart, rest_of, state_of, IsKernel, IsPlace, IsPlaced, is_at, home_in, Process, Places, put-joined, slot-joined}
+use Rattle.kernel.proofs.Common.{with_memory, with_table, SpaceView, Spaces, has_space, taken_frames, Mode, Running, put, slot, Memory, is_running_mode, is_zombie_mode, State, holds, process_at, put_process}
 use Rattle.std.proofs.Math.ListN as listn
-use Rattle.kernel.specs.Descriptors.{descriptors_in}
-use Rattle.std.proofs.lemmas.Bool.{not-true}
-use Rattle.std.proofs.lemmas.Option.{none-some, same_Some}
-use Rattle.kernel.specs.Kernel.{Kernel, base, lives, loaded, memories, memory_in, on_hart, rest_of, state_of}
-use Rattle.kernel.specs.Sound.{IsKernel, IsPlace, IsPlaced, is_at}
-use Rattle.kernel.specs.Holding.{home_in}
 use Rattle.kernel.proofs.Holding.{used-put}
 use Rattle.kernel.proofs.Opens.{opened-put, waits-running}
-use Rattle.proc.specs.declared.process.Process.{Process}
 use Rattle.proc.specs.Places as table
-use Rattle.proc.specs.Places.{Places}
-use Rattle.proc.proofs.Joined.{put-joined, slot-joined}
-use Rattle.proc.specs.Whole.{with_memory, with_table}
-use Rattle.spaces.specs.Spaces.{SpaceView, Spaces, has_space, taken_frames}
-use Rattle.unixmodel.specs.declared.process.Mode.{Mode}
-use Rattle.unixmodel.specs.declared.process.Mode.TheVariants.{Running}
-use Rattle.unixmodel.specs.Files.{put, slot}
-use Rattle.unixmodel.specs.Memory.{Memory}
 use Rattle.unixmodel.specs.Process as unix
-use Rattle.unixmodel.specs.Process.{is_running_mode, is_zombie_mode}
-use Rattle.unixmodel.specs.State.{State, holds, process_at, put_process}
 pub use Rattle.names.proofs.Finding.{slot-within}
 
 -- ---- places

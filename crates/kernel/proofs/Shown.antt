@@ -1,31 +1,14 @@
 -- What a kernel shows of its processes, in the words of its state.
-use Rattle.std.proofs.Common.{◌≡◌, ℕ, Bool, true, false, arith, List, [], ◌∷◌, Option, Some, None, refl, ap, subst, sym, ◌∙◌, ◌+◌}
-use Rattle.std.specs.Prelude.{IfSome, is_some, option_and_then, option_map, position, slice_get, slice_set, sum_by, unwrap_or}
-use Rattle.std.proofs.lemmas.List.{length-set}
-use Rattle.std.proofs.lemmas.List.Sums.{sum_by-cons}
-use Rattle.files.specs.Counts.{names}
+use Rattle.kernel.proofs.Common.{◌≡◌, ℕ, Bool, true, false, arith, List, [], ◌∷◌, Option, Some, None, refl, ap, subst, sym, ◌∙◌, ◌+◌, IfSome, is_some, option_and_then, option_map, position, slice_get}
+use Rattle.kernel.proofs.Common.{slice_set, sum_by, unwrap_or, length-set, sum_by-cons, names, file_of, Counted, count_at, file_at, opens_of, get_or-map, Kernel, base, loaded, memories, memory_in, on_hart}
+use Rattle.kernel.proofs.Common.{rest_of, state_of, named_by, names_in, FitsNode, node_of, node_on, IsKernel, Process, Places, changed_at, has_pid, place_where, place_of_pid-with_table, place_where-Some}
+use Rattle.kernel.proofs.Common.{slot-joined, joined, with_memory, SpaceView, Spaces, has_space, view_at, no_pages, taken_frames, frames_of, slot, Memory, holds, place_of_pid, process_at}
 use Rattle.files.specs.declared.file.OpenFile.{OpenFile}
-use Rattle.files.specs.Meant.{file_of}
-use Rattle.files.specs.Places.{Counted, count_at, file_at, opens_of}
-use Rattle.std.proofs.Math.ListN.{get_or-map}
 use Rattle.kernel.proofs.Reaped.{frames-with, match-loaded, opened-loaded}
 use Rattle.kernel.proofs.Runs.{memory-at, place-space}
-use Rattle.kernel.specs.Kernel.{Kernel, base, loaded, memories, memory_in, on_hart, rest_of, state_of}
-use Rattle.kernel.specs.Descriptors.{named_by, names_in}
-use Rattle.kernel.specs.Holding.{FitsNode, node_of, node_on}
 use Rattle.kernel.specs.Shows.{bare, descriptors_on, naming}
-use Rattle.kernel.specs.Sound.{IsKernel}
-use Rattle.proc.specs.declared.process.Process.{Process}
-use Rattle.proc.specs.Places.{Places, changed_at, has_pid, place_where}
-use Rattle.proc.proofs.Joined.{place_of_pid-with_table, place_where-Some, slot-joined}
-use Rattle.proc.specs.Whole.{joined, with_memory}
-use Rattle.spaces.specs.Spaces.{SpaceView, Spaces, has_space, view_at, no_pages, taken_frames}
-use Rattle.unixmodel.specs.Counts.{frames_of}
-use Rattle.unixmodel.specs.Files.{slot}
-use Rattle.unixmodel.specs.Memory.{Memory}
 use Rattle.unixmodel.specs.Process as unix
 use Rattle.unixmodel.specs.Shown.{ShowsMemory, shown_page, shown_process, told_page}
-use Rattle.unixmodel.specs.State.{holds, place_of_pid, process_at}
 use Rattle.kernel.proofs.Opens.{active-by, hart-same}
 use Rattle.std.proofs.lemmas.List.Folds.{position_or_len-set}
 

@@ -1,26 +1,12 @@
 -- A process is picked.
-use Rattle.std.proofs.Common.{◌≡◌, ◌≢◌, ℕ, ◌<◌, ◌%◌, Bool, true, false, List, length, Option, Some, None, ℤ, negsuc, refl, ap, sym, subst, ◌∙◌}
-use Rattle.std.specs.Prelude.{if◌then◌else◌, is_some, not, slice_index}
-use Rattle.std.proofs.lemmas.List.{length-set}
-use Rattle.kernel.specs.Descriptors.{descriptors_in}
-use Rattle.kernel.specs.Kernel.{Kernel, base, ended, halted_by, lives, loaded, memories, picked, rest_of, started, started_as, state_of}
-use Rattle.kernel.specs.Sound.{CanRun, IsKernel, IsLive, IsPlace, IsPlaced, is_at}
+use Rattle.kernel.proofs.Common.{◌≡◌, ◌≢◌, ℕ, ◌<◌, ◌%◌, Bool, true, false, List, length, Option, Some, None, ℤ, negsuc, refl, ap, sym, subst, ◌∙◌, if◌then◌else◌, is_some, not, slice_index, length-set}
+use Rattle.kernel.proofs.Common.{descriptors_in, Kernel, base, ended, halted_by, lives, loaded, memories, picked, rest_of, started, started_as, state_of, CanRun, IsKernel, IsLive, IsPlace, IsPlaced}
+use Rattle.kernel.proofs.Common.{is_at, home_in, Process, changed, with_mode, with_memory, with_table, SpaceView, has_space, quiet, Mode, Ready, Running, slot, end_process, State, put_process}
 use Rattle.kernel.proofs.Changes.{ended-is, ended-state, other-at, stands-put}
 use Rattle.kernel.proofs.Opens.{opened-put}
-use Rattle.kernel.specs.Holding.{home_in}
 use Rattle.kernel.proofs.Holding.{used-put}
 use Rattle.kernel.proofs.Runs.{IsRun, eq-self, runs-set, set-twice, slot-put, slot-within, state-run, with_process, home-living, put-same}
-use Rattle.proc.specs.declared.process.Process.{Process}
-use Rattle.proc.specs.Places.{changed, with_mode}
-use Rattle.proc.specs.Whole.{with_memory, with_table}
-use Rattle.spaces.specs.Spaces.{SpaceView, has_space}
-use Rattle.unixmodel.specs.Calls.{quiet}
-use Rattle.unixmodel.specs.declared.process.Mode.{Mode}
-use Rattle.unixmodel.specs.declared.process.Mode.TheVariants.{Ready, Running}
-use Rattle.unixmodel.specs.Files.{slot}
 use Rattle.unixmodel.specs.Next as next
-use Rattle.unixmodel.specs.Outcome.{end_process}
-use Rattle.unixmodel.specs.State.{State, put_process}
 
 -- none runs: the state has the table as it is
 pub picked-state : (k : Kernel) (i : ℕ) → k.spaces.active ≡ None → state_of (picked k i) ≡ record (state_of k) { last = i }

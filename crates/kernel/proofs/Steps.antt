@@ -1,25 +1,10 @@
 -- The kernel's own steps keep what a kernel keeps.
-use Rattle.std.proofs.Common.{true, false, ◌≡◌, ℕ, ◌≤◌, ◌%◌, Option, Some, None, Ok, Err, refl, ap, subst, sym, ◌∙◌}
-use Rattle.std.specs.Prelude.{IfNone, IfSome, slice_index, unwrap_or}
-use Rattle.kernel.specs.Descriptors.{descriptors_in}
-use Rattle.kernel.specs.Kernel.{Kernel, blocked, computed, descriptors_at, left_as}
-use Rattle.tree.specs.Tree.{FileTree}
-use Rattle.kernel.specs.Holding.{IsInUse}
-use Rattle.kernel.specs.Sound.{IsAwaiting, IsKernel, IsPending, IsPlaced}
-use Rattle.kernel.specs.View.{Keeps}
-use Rattle.std.proofs.lemmas.Bool.{true≢false}
+use Rattle.kernel.proofs.Common.{true, false, ◌≡◌, ℕ, ◌≤◌, ◌%◌, Option, Some, None, Ok, Err, refl, ap, subst, sym, ◌∙◌, IfNone, IfSome, slice_index, unwrap_or, descriptors_in, Kernel, blocked, computed, descriptors_at, left_as}
+use Rattle.kernel.proofs.Common.{FileTree, IsInUse, IsAwaiting, IsKernel, IsPending, IsPlaced, Keeps, true≢false, Process, SpaceView, Spaces, view_at, no_pages, taken_frames, cycle, Ready, Pending, Trap, Computed, Memory}
 use Rattle.kernel.proofs.Leaving.{stops-kernel, waits-kernel}
 use Rattle.kernel.proofs.Runs.{IsRun, moved, moved-kernel, run-of, set-slot}
 use Rattle.kernel.proofs.Running.{live, not-killed, runs-mode}
-use Rattle.proc.specs.declared.process.Process.{Process}
 use Rattle.spaces.specs.Spaces as spaces
-use Rattle.spaces.specs.Spaces.{SpaceView, Spaces, view_at, no_pages, taken_frames}
-use Rattle.unixmodel.specs.Cycle.{cycle}
-use Rattle.unixmodel.specs.declared.process.Mode.TheVariants.{Ready}
-use Rattle.unixmodel.specs.declared.process.Pending.{Pending}
-use Rattle.unixmodel.specs.declared.trap.Trap.{Trap}
-use Rattle.unixmodel.specs.Meaning.{Computed}
-use Rattle.unixmodel.specs.Memory.{Memory}
 use Rattle.unixmodel.specs.Next.{memory_after}
 
 pub stop-keeps : (k : Kernel) (i : ℕ) → IsKernel k → k.spaces.active ≡ Some i → slice_index k.spaces.registers 0 ≡ 0 → k.spaces.pc % 4 ≡ 0 → IsKernel (left_as k i Ready)

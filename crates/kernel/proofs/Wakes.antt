@@ -1,35 +1,15 @@
 -- The kernel's steps, and who is awake after them.
-use Rattle.std.proofs.Common.{Bool, Err, List, None, Ok, Option, Some, ap, false, inl, inr, length, option_map, refl, subst, sym, true, ℕ, ℤ, ◌<◌, ◌∙◌, ◌≡◌}
-use Rattle.std.specs.Prelude.{IfNone, IfSome, slice_set}
-use Rattle.std.proofs.lemmas.Bool.{cases_lt, true≢false}
-use Rattle.kernel.specs.Kernel.{Kernel, left_as, memories, on_hart, rest_of, state_of, state_with, waking}
-use Rattle.kernel.specs.Sound.{IsKernel, is_at}
-use Rattle.kernel.specs.View.{Keeps}
-use Rattle.kernel.specs.Watch.{IsAsleep, IsWatched, Watches, awaited_of, roused, waits_on, woken_by}
-use Rattle.kernel.specs.declared.channels.Channel.TheVariants.{Bytes, Children, Ticks}
-use Rattle.kernel.specs.Ready.{seen}
+use Rattle.kernel.proofs.Common.{Bool, Err, List, None, Ok, Option, Some, ap, false, inl, inr, length, option_map, refl, subst, sym, true, ℕ, ℤ, ◌<◌, ◌∙◌, ◌≡◌, IfNone, IfSome, slice_set, cases_lt, true≢false, Kernel}
+use Rattle.kernel.proofs.Common.{left_as, memories, on_hart, rest_of, state_of, state_with, waking, IsKernel, is_at, Keeps, IsAsleep, IsWatched, Watches, awaited_of, roused, waits_on, woken_by, Bytes, Children, Ticks, seen}
+use Rattle.kernel.proofs.Common.{Process, is_in, Places, changed_at, exited, is_zombie_child_of, with_mode, Spaces, view_at, Console, cycle, Mode, Running, Trap, put, slot, Computed, is_zombie_mode, State, holds, ready}
 use Rattle.kernel.proofs.Masks.{set-in, set-past}
 use Rattle.kernel.proofs.Runs.{eq-self}
 use Rattle.kernel.proofs.Watching.{exited-is, no-zombie, unready-asleep, watched-bytes, watched-ended, watched-put, watched-running, watched-ticks, watched-woken, child-map}
-use Rattle.proc.specs.declared.process.Process.{Process}
-use Rattle.proc.specs.Mask.{is_in}
 use Rattle.proc.specs.Pick.{Answers}
 use Rattle.proc.specs.Places as table
-use Rattle.proc.specs.Places.{Places, changed_at, exited, is_zombie_child_of, with_mode}
 use Rattle.spaces.specs.Spaces as spaces
-use Rattle.spaces.specs.Spaces.{Spaces, view_at}
 use Rattle.std.specs.Borrow.{Bor}
 use Rattle.std.specs.Fn.{FnReturns, Shared}
-use Rattle.unixmodel.specs.Console.{Console}
-use Rattle.unixmodel.specs.Cycle.{cycle}
-use Rattle.unixmodel.specs.declared.process.Mode.{Mode}
-use Rattle.unixmodel.specs.declared.process.Mode.TheVariants.{Running}
-use Rattle.unixmodel.specs.declared.trap.Trap.{Trap}
-use Rattle.unixmodel.specs.Files.{put, slot}
-use Rattle.unixmodel.specs.Meaning.{Computed}
-use Rattle.unixmodel.specs.Process.{is_zombie_mode}
-use Rattle.unixmodel.specs.State.{State, holds}
-use Rattle.unixmodel.specs.Turn.{ready}
 
 -- ---- the mask says nothing of the rest
 

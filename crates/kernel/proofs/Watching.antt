@@ -1,40 +1,19 @@
 -- Whoever may be ready is awake, whatever changes.
-use Rattle.std.proofs.Common.{Bool, List, None, Option, Some, [], ap, arith, false, inl, inr, is_some, length, map, nat_eq, not, option_map, refl, subst, sym, true, ℕ, ℤ, ◌<◌, ◌||◌, ◌∙◌, ◌≡◌, ◌≢◌, ◌==◌, unwrap_or, nat_lt, ◌∷◌, zero, suc}
-use Rattle.std.specs.Prelude.{if◌then◌else◌, option_and_then, slice_set}
-use Rattle.std.specs.List.{list_any}
-use Rattle.std.proofs.lemmas.Bool.{and_parts, not-false, not_from_true, or_from, or_parts, true≢false, true_from_ne_false}
-use Rattle.std.proofs.lemmas.List.{length-map, length-set}
+use Rattle.kernel.proofs.Common.{Bool, List, None, Option, Some, [], ap, arith, false, inl, inr, is_some, length, map, nat_eq, not, option_map, refl, subst, sym, true, ℕ, ℤ, ◌<◌, ◌||◌, ◌∙◌, ◌≡◌, ◌≢◌, ◌==◌}
+use Rattle.kernel.proofs.Common.{unwrap_or, nat_lt, ◌∷◌, zero, suc, if◌then◌else◌, option_and_then, slice_set, list_any, and_parts, not-false, not_from_true, or_from, or_parts, true≢false, true_from_ne_false}
+use Rattle.kernel.proofs.Common.{length-map, length-set, target_of, Counted, moved, moved_to, opens_of, awaited_in, has_slept, seen, IsAsleep, IsAsleepAs, IsWatched, roused, waits_as, waits_in, waits_on}
+use Rattle.kernel.proofs.Common.{Bytes, Children, Ticks, Process, all_in, is_in, Places, exited, is_zombie_child_of, orphaned, place_where, zombie_of, with_memory, Call, Read, Sleep, Wait, Write, Mode, Ready}
+use Rattle.kernel.proofs.Common.{Running, Waiting, Zombie, Pending, put, slot, taken, low, Console, End, is_end, pipe_room, OnNode, OnPipe, pending_arg, is_running_mode, is_zombie_mode, State, has_end, holds}
 use Rattle.files.specs.declared.file.Target as file
 use Rattle.files.specs.declared.file.Target.TheVariants as target
-use Rattle.files.specs.Meant.{target_of}
-use Rattle.files.specs.Places.{Counted, moved, moved_to, opens_of}
-use Rattle.kernel.specs.Ready.{awaited_in, has_slept, seen}
-use Rattle.kernel.specs.Watch.{IsAsleep, IsAsleepAs, IsWatched, roused, waits_as, waits_in, waits_on}
-use Rattle.kernel.specs.declared.channels.Channel.TheVariants.{Bytes, Children, Ticks}
 use Rattle.kernel.proofs.Holding.{slot-map}
 use Rattle.kernel.proofs.Masks.{fewer-put, holds-within, roused-out, set-other}
 use Rattle.kernel.proofs.Readies.{children-seen, held-same, ready-seen}
 use Rattle.kernel.proofs.Runs.{same_or_not, slot-other, slot-put}
-use Rattle.proc.specs.declared.process.Process.{Process}
-use Rattle.proc.specs.Mask.{all_in, is_in}
 use Rattle.proc.proofs.Looking.{all-in}
 use Rattle.proc.specs.Places as table
-use Rattle.proc.specs.Places.{Places, exited, is_zombie_child_of, orphaned, place_where, zombie_of}
-use Rattle.proc.specs.Whole.{with_memory}
-use Rattle.unixmodel.specs.declared.call.Call.{Call}
-use Rattle.unixmodel.specs.declared.call.Call.TheVariants.{Read, Sleep, Wait, Write}
-use Rattle.unixmodel.specs.declared.process.Mode.{Mode}
-use Rattle.unixmodel.specs.declared.process.Mode.TheVariants.{Ready, Running, Waiting, Zombie}
-use Rattle.unixmodel.specs.declared.process.Pending.{Pending}
-use Rattle.unixmodel.specs.Files.{put, slot, taken}
-use Rattle.unixmodel.specs.Numbers.{low}
-use Rattle.unixmodel.specs.Console.{Console}
-use Rattle.unixmodel.specs.OpenFiles.{End, OpenFile, Target, is_end, pipe_room}
+use Rattle.unixmodel.specs.OpenFiles.{OpenFile, Target}
 use Rattle.unixmodel.specs.OpenFiles.End.{ReadEnd, WriteEnd}
-use Rattle.unixmodel.specs.OpenFiles.Target.{OnNode, OnPipe}
-use Rattle.unixmodel.specs.Outcome.{pending_arg}
-use Rattle.unixmodel.specs.Process.{is_running_mode, is_zombie_mode}
-use Rattle.unixmodel.specs.State.{State, has_end, holds}
 use Rattle.unixmodel.specs.Turn as turn
 
 -- ---- who is asleep is not ready, and who is not ready is asleep

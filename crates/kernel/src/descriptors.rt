@@ -56,11 +56,7 @@ pub fn share_all(files: &mut Files, descriptors: &[Option<u8>; 16])
 
 /// One descriptor of an open file is closed, and a pipe that has no end any more goes. Where it was the last one of an open file
 /// on a node, that is told.
-pub fn close<T: Translate + Drop>(
-    files: &mut Files,
-    spaces: &mut Spaces<T>,
-    id: usize,
-) -> Option<u32>
+pub fn close<T: Translate>(files: &mut Files, spaces: &mut Spaces<T>, id: usize) -> Option<u32>
     requires { IsPiped spaces.old.pipes (opens_of files.old) }
     ensures node { result ≡ last_node files.old id }
     ensures files { files.new ≡ closed files.old id }
@@ -80,7 +76,7 @@ pub fn close<T: Translate + Drop>(
 }
 
 /// The descriptors are closed, and a pipe that has no end any more goes. The nodes of the open files that go are told.
-pub fn close_all<T: Translate + Drop>(
+pub fn close_all<T: Translate>(
     files: &mut Files,
     spaces: &mut Spaces<T>,
     descriptors: &[Option<u8>; 16],

@@ -49,7 +49,7 @@ use unixmodel::trap::Trap;
 /// The processes of a machine, their spaces, the hart that runs one of them, their open files, and what is typed at the
 /// console.
 #[derive(Drop)]
-pub struct Kernel<D: BlockDev, T: Translate + Drop> {
+pub struct Kernel<D: BlockDev, T: Translate> {
     /// The files of the disk.
     pub tree: Tree<D>,
     /// The processes.
@@ -66,7 +66,7 @@ pub struct Kernel<D: BlockDev, T: Translate + Drop> {
     pub halted: Option<i32>,
 }
 
-impl<D: BlockDev, T: Translate + Drop> Model for Kernel<D, T> {
+impl<D: BlockDev, T: Translate> Model for Kernel<D, T> {
     ghost use Rattle.kernel.specs.Kernel.{Kernel};
 
     ghost Value = { Kernel };
@@ -87,7 +87,7 @@ fn halted_after(pid: u32, status: i32, halted: Option<i32>) -> Option<i32>
 
 // The process of a place ends: its descriptors are closed, who may wait for that is woken, and none runs. The nodes that it held are
 // told.
-fn end<T: Translate + Drop>(
+fn end<T: Translate>(
     table: &mut Table,
     files: &mut Files,
     spaces: &mut Spaces<T>,
@@ -112,7 +112,7 @@ fn end<T: Translate + Drop>(
     nodes
 }
 
-impl<D: BlockDev, T: Translate + Drop> Kernel<D, T> {
+impl<D: BlockDev, T: Translate> Kernel<D, T> {
     /// A kernel over processes, their spaces and their open files.
     pub fn new(tree: Tree<D>, table: Table, spaces: Spaces<T>, files: Files) -> Kernel<D, T>
         requires sound { IsKernel (begun tree table spaces files) }

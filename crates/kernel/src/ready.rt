@@ -27,14 +27,14 @@ pub fn has_slept(ticks: u32, pending: &Pending) -> bool
 
 /// What processes wait for, beside one another: the ticks, the console, and the open files with their pipes.
 #[derive(Drop)]
-pub(crate) struct Awaited<'a, T: Translate + Drop> {
+pub(crate) struct Awaited<'a, T: Translate> {
     pub ticks: u32,
     pub console: &'a Console,
     pub files: &'a Files,
     pub spaces: &'a Spaces<T>,
 }
 
-impl<T: Translate + Drop> Awaited<'_, T> {
+impl<T: Translate> Awaited<'_, T> {
     // What the open file of a pending read or write is open on.
     fn pending_target(&self, process: &Process, pending: &Pending) -> Option<Target>
         requires { IsPiped self.now.spaces.now.pipes (opens_of self.now.files.now) }

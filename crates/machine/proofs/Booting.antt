@@ -1,45 +1,14 @@
 -- The kernel and the state that begin with the plan of /init.
-use Rattle.files.specs.Counts.{one_in}
-use Rattle.files.proofs.CountsLemmas.{names-none}
-use Rattle.files.specs.Places.{Counted, count_at, count_in, opens_of}
-use Rattle.files.specs.Meant.{file_of}
-use Rattle.files.proofs.Whole.{slot-opens}
-use Rattle.kernel.specs.Descriptors.{IsCounted, names_in}
-use Rattle.kernel.specs.Holding.{FitsNode, IsFolder, IsInUse, files_on, home_in, homes_at, node_in, node_of, node_on}
-use Rattle.kernel.specs.Kernel.{Kernel, begun, memory_in, state_of}
-use Rattle.kernel.specs.Sound.{IsKernel, IsLive, IsOpenFile, IsOpened, IsPlaced}
+use Rattle.machine.proofs.Common.{one_in, names-none, Counted, count_at, count_in, opens_of, file_of, slot-opens, IsCounted, names_in, FitsNode, IsFolder, IsInUse, files_on, home_in, homes_at, node_in, node_of, node_on, Kernel}
+use Rattle.machine.proofs.Common.{begun, memory_in, state_of, IsKernel, IsLive, IsOpenFile, IsOpened, IsPlaced, Init, IsBegun, IsInPlace, IsUnheld, LacksInit, PutsInit, bare_of, first_of, first_places, view_by, init_kernel, alone}
+use Rattle.machine.proofs.Common.{View, sound_view, KeepsTree, Process, all_in, Places, seated, joined-free_slots, joined, SpaceView, Spaces, List, None, Option, Some, ap, arith, false, is_some, le_trans, length, map, nat_le}
+use Rattle.machine.proofs.Common.{refl, replicate, subst, suc, sym, true, zero, ℕ, ◌%◌, ◌+◌, ◌<◌, ◌∙◌, ◌∷◌, ◌≡◌, ◌≢◌, ◌≤◌, le-leb, lt-leb, nat_tests, length-replicate, sum_by-replicate, sum_by-cons, none-some, IfSome, option_map}
+use Rattle.machine.proofs.Common.{slice_index, ◌==◌, holders, with_hold, FileTree, frames_of, page_frames, Files, free_slots, slot, zeros, Plan, first_process, first_state, if_fits, init_plan, start, State, open_limit}
 use Rattle.machine.proofs.FlatLemmas.{none-free, one-all, one-home, one-rests, one-stands, one-waits, same-past, taken-alone}
-use Rattle.machine.specs.declared.image_boot.Init.{Init}
-use Rattle.machine.specs.Booted.{IsBegun, IsInPlace, IsUnheld, LacksInit, PutsInit, bare_of, first_of, first_places, view_by, init_kernel}
-use Rattle.machine.specs.Flat.{alone}
-use Rattle.machine.specs.View.{View, sound_view}
-use Rattle.names.specs.Rules.{KeepsTree}
-use Rattle.proc.specs.declared.process.Process.{Process}
-use Rattle.proc.specs.Mask.{all_in}
-use Rattle.proc.specs.Places.{Places, seated}
-use Rattle.proc.proofs.Joined.{joined-free_slots}
-use Rattle.proc.specs.Whole.{joined}
-use Rattle.spaces.specs.Spaces.{SpaceView, Spaces}
-use Rattle.std.proofs.Common.{List, None, Option, Some, ap, arith, false, is_some, le_trans, length, map, nat_le, refl, replicate, subst, suc, sym, true, zero, ℕ, ◌%◌, ◌+◌, ◌<◌, ◌∙◌, ◌∷◌, ◌≡◌, ◌≢◌, ◌≤◌}
-use Rattle.std.proofs.lemmas.Bool.{le-leb, lt-leb}
-use Rattle.std.proofs.lemmas.Bool.Decides.{nat_tests}
-use Rattle.std.proofs.lemmas.List.{length-replicate}
-use Rattle.std.proofs.lemmas.List.Folds.{sum_by-replicate}
-use Rattle.std.proofs.lemmas.List.Sums.{sum_by-cons}
-use Rattle.std.proofs.lemmas.Option.{none-some}
-use Rattle.std.specs.Prelude.{IfSome, option_map, slice_index, ◌==◌}
-use Rattle.tree.specs.Holding.{holders, with_hold}
-use Rattle.tree.specs.Tree.{FileTree}
 use Rattle.tree.specs.Whole.{IsWhole}
-use Rattle.unixmodel.specs.Counts.{frames_of, page_frames}
-use Rattle.unixmodel.specs.Files.{Files, free_slots, slot}
-use Rattle.unixmodel.specs.Memory.{zeros}
 use Rattle.unixmodel.specs.OpenFiles as unix_files
 use Rattle.unixmodel.specs.Outcome.{no_descriptors}
-use Rattle.unixmodel.specs.Plan.{Plan}
 use Rattle.unixmodel.specs.Process as unix
-use Rattle.unixmodel.specs.Start.{first_process, first_state, if_fits, init_plan, start}
-use Rattle.unixmodel.specs.State.{State, open_limit}
 
 -- ---- the state
 

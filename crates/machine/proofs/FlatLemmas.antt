@@ -1,49 +1,20 @@
 -- A flat program in memory, and the state and the kernel that begin with it.
-use Rattle.std.proofs.lemmas.Option.{none-some, same_Some}
-use Rattle.tree.specs.Holding.{holders, with_hold}
-use Rattle.files.specs.Meant.{file_of}
-use Rattle.kernel.specs.Holding.{FitsNode, IsFolder, IsInUse, files_on, home_in, homes_at, node_in, node_of, node_on}
-use Rattle.kernel.specs.Descriptors.{IsCounted, named_by, names_in}
-use Rattle.kernel.specs.Kernel.{memory_in, state_of}
-use Rattle.kernel.specs.Sound.{IsKernel, IsLive, IsOpenFile, IsOpened, IsPlace, IsPlaced, WaitsWell}
-use Rattle.files.specs.Counts.{names, one_in}
-use Rattle.files.proofs.CountsLemmas.{names-free}
+use Rattle.machine.proofs.Common.{none-some, same_Some, holders, with_hold, file_of, FitsNode, IsFolder, IsInUse, files_on, home_in, homes_at, node_in, node_of, node_on, IsCounted, named_by, names_in, memory_in, state_of}
+use Rattle.machine.proofs.Common.{IsKernel, IsLive, IsOpenFile, IsOpened, IsPlace, IsPlaced, WaitsWell, names, one_in, names-free, Counted, count_at, count_in, opened, opens_of, place_for, slot-opens, stacked, BootFault}
+use Rattle.machine.proofs.Common.{FrameCount, NoInit, NoMemory, LoadsFlat, alone, bare_plan, console_file, first, first_files, first_kernel, first_table, first_tree, flat_memory, flat_space, RefusesFlat, IsFlat, Process}
+use Rattle.machine.proofs.Common.{all_in, is_running, seated, joined-free_slots, joined, SpaceView, Spaces, frames_in, grown, has_space, view_at, no_pages, no_spaces, taken_frames, with_view, written, Bool, Err, List}
+use Rattle.machine.proofs.Common.{None, Ok, Option, Result, Some, [], ap, append_assoc, ap₂, arith, false, get_or, inl, inr, is_some, length, length-append, map, nat_le, refl, replicate, subst, suc, sym, true, zero, ℕ}
+use Rattle.machine.proofs.Common.{◌*◌, ◌++◌, ◌+◌, ◌-◌, ◌/◌, ◌<◌, ◌∙◌, ◌∷◌, ◌≡◌, ◌≢◌, ◌≤◌, ◌⊎◌, ◌↔◌, le-leb, lt-leb, nat_tests, length-replicate, sum_by-replicate, sum_by-cons, IfOk, IfSome, IsErrOf, OnErr, option_map}
+use Rattle.machine.proofs.Common.{slice_index, sum_by, ◌==◌, FileTree, blocks_of, frames_of, page_frames, Files, free_slots, slot, Perm, Memory, overwrite, pages_of, write_bytes, zero_page, zeros, ceil_div, le, round_down}
+use Rattle.machine.proofs.Common.{plan_flat, push, push_pointers, push_strings, stack_marks, with_args, with_stack, first_process, first_state, flat_descriptors, flat_files, flat_opens, if_fits, start_flat, State, holds}
 use Rattle.files.specs.declared.file.OpenFile.{OpenFile}
 use Rattle.files.specs.declared.table.FileFault.{FileFault}
-use Rattle.files.specs.Places.{Counted, count_at, count_in, opened, opens_of, place_for}
-use Rattle.files.proofs.Whole.{slot-opens}
 use Rattle.programs.proofs.Headings.{length-pages}
 use Rattle.programs.proofs.Places.{filled, page_frames-more}
 use Rattle.programs.proofs.Stacks.{write-stack}
-use Rattle.programs.specs.Passed.{stacked}
-use Rattle.machine.specs.declared.fault.BootFault.{BootFault}
-use Rattle.machine.specs.declared.fault.BootFault.TheVariants.{FrameCount, NoInit, NoMemory}
-use Rattle.machine.specs.Flat.{LoadsFlat, alone, bare_plan, console_file, first, first_files, first_kernel, first_table, first_tree, flat_memory, flat_space, RefusesFlat}
-use Rattle.mount.specs.Mounted.{IsFlat}
-use Rattle.proc.specs.declared.process.Process.{Process}
-use Rattle.proc.specs.Mask.{all_in}
-use Rattle.proc.specs.Places.{is_running, seated}
-use Rattle.proc.proofs.Joined.{joined-free_slots}
-use Rattle.proc.specs.Whole.{joined}
-use Rattle.spaces.specs.Spaces.{SpaceView, Spaces, frames_in, grown, has_space, view_at, no_pages, no_spaces, taken_frames, with_view, written}
-use Rattle.std.proofs.Common.{Bool, Err, List, None, Ok, Option, Result, Some, [], ap, append_assoc, ap₂, arith, false, get_or, inl, inr, is_some, length, length-append, map, nat_le, refl, replicate, subst, suc, sym, true, zero, ℕ, ◌*◌, ◌++◌, ◌+◌, ◌-◌, ◌/◌, ◌<◌, ◌∙◌, ◌∷◌, ◌≡◌, ◌≢◌, ◌≤◌, ◌⊎◌, ◌↔◌}
 use Rattle.std.specs.Bool.{OnFalse, OnTrue}
-use Rattle.std.proofs.lemmas.Bool.{le-leb, lt-leb}
-use Rattle.std.proofs.lemmas.Bool.Decides.{nat_tests}
-use Rattle.std.proofs.lemmas.List.{length-replicate}
-use Rattle.std.proofs.lemmas.List.Folds.{sum_by-replicate}
-use Rattle.std.proofs.lemmas.List.Sums.{sum_by-cons}
-use Rattle.std.specs.Prelude.{IfOk, IfSome, IsErrOf, OnErr, option_map, slice_index, sum_by, ◌==◌}
-use Rattle.tree.specs.Tree.{FileTree}
-use Rattle.unixmodel.specs.Counts.{blocks_of, frames_of, page_frames}
-use Rattle.unixmodel.specs.Files.{Files, free_slots, slot}
-use Rattle.unixmodel.specs.Memory.{Perm, Memory, overwrite, pages_of, write_bytes, zero_page, zeros}
-use Rattle.unixmodel.specs.Numbers.{ceil_div, le, round_down}
 use Rattle.unixmodel.specs.OpenFiles as unix_files
-use Rattle.unixmodel.specs.Plan.{plan_flat, push, push_pointers, push_strings, stack_marks, with_args, with_stack}
 use Rattle.unixmodel.specs.Process as unix
-use Rattle.unixmodel.specs.Start.{first_process, first_state, flat_descriptors, flat_files, flat_opens, if_fits, start_flat}
-use Rattle.unixmodel.specs.State.{State, holds}
 
 -- ---- the stack of a program without arguments
 

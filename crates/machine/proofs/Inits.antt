@@ -1,31 +1,19 @@
 -- What /init has process 1 execute, and how it comes into the first place.
-use Rattle.std.proofs.Common.{List, None, Ok, Option, Some, [], ap, arith, true, le_trans, length, refl, subst, sym, ℕ, ◌%◌, ◌*◌, ◌++◌, ◌+◌, ◌/◌, ◌<◌, ◌^◌, ◌∙◌, ◌∷◌, ◌≡◌, ◌≤◌}
+use Rattle.machine.proofs.Common.{List, None, Ok, Option, Some, [], ap, arith, true, le_trans, length, refl, subst, sym, ℕ, ◌%◌, ◌*◌, ◌++◌, ◌+◌, ◌/◌, ◌<◌, ◌^◌, ◌∙◌, ◌∷◌, ◌≡◌, ◌≤◌, none-some, same_Some, IfSome, IsSome}
+use Rattle.machine.proofs.Common.{is_some, option_and_then, option_map, Init, FindsInit, IsInPlace, IsInit, LacksInit, first_of, alone, KeepsTree, PassesOne, plan_with, stacked, SpaceView, Spaces, has_space, no_pages}
+use Rattle.machine.proofs.Common.{no_spaces, taken_frames, with_view, with_place, FileTree, Serves, page_frames, Files, Node, find, slot, number_at, Loaded, Plan, loaded_of, plan, with_args, init_path, init_plan}
 use Rattle.calls.proofs.Homes.{some-there}
-use Rattle.std.proofs.lemmas.Option.{none-some, same_Some}
-use Rattle.std.specs.Prelude.{IfSome, IsSome, is_some, option_and_then, option_map}
 use Rattle.machine.proofs.FlatLemmas.{alone-space, no-frames}
-use Rattle.machine.specs.declared.image_boot.Init.{Init}
-use Rattle.machine.specs.Booted.{FindsInit, IsInPlace, IsInit, LacksInit, first_of}
-use Rattle.machine.specs.Flat.{alone}
 use Rattle.names.proofs.Naming.{find-used}
-use Rattle.names.specs.Rules.{KeepsTree}
 use Rattle.programs.proofs.Loads.{IsProgram, is-program}
 use Rattle.programs.proofs.Executions.{HasProgram, args-long, has-program, length-stacked, no-plan, plan-is}
 use Rattle.programs.proofs.Serving.{serves-told}
 use Rattle.programs.specs.declared.arguments.Arguments.{Arguments}
 use Rattle.programs.specs.declared.headers.Program.{Program}
 use Rattle.programs.specs.Headed.{IsRead, file_at, program_in}
-use Rattle.programs.specs.Passed.{PassesOne, plan_with, stacked}
 use Rattle.programs.specs.Placed.{HasRoom, Leaves, paged}
-use Rattle.spaces.specs.Spaces.{SpaceView, Spaces, has_space, no_pages, no_spaces, taken_frames, with_view, with_place}
-use Rattle.tree.specs.Tree.{FileTree, Serves}
 use Rattle.tree.specs.Written.{IsFile}
-use Rattle.unixmodel.specs.Counts.{page_frames}
-use Rattle.unixmodel.specs.Files.{Files, Node, find, slot}
-use Rattle.unixmodel.specs.Numbers.{number_at}
-use Rattle.unixmodel.specs.Plan.{Loaded, Plan, loaded_of, plan, with_args}
 use Rattle.unixmodel.specs.ProcessCalls.{file_bytes}
-use Rattle.unixmodel.specs.Start.{init_path, init_plan}
 
 -- ---- the plan of /init
 

@@ -1,15 +1,10 @@
 -- What is told of the files of the disk is what the abstract Unix shows.
-use Rattle.std.proofs.Common.{Err, None, Option, Result, Some, ap, length, min, refl, subst, sym, true, ℕ, ◌%◌, ◌++◌, ◌-◌, ◌∙◌, ◌≡◌}
-use Rattle.std.proofs.lemmas.List.{length-drop, length-take, take_min}
-use Rattle.std.specs.Prelude.{List, drop, option_map, take}
+use Rattle.machine.proofs.Common.{Err, None, Option, Result, Some, ap, length, min, refl, subst, sym, true, ℕ, ◌%◌, ◌++◌, ◌-◌, ◌∙◌, ◌≡◌, length-drop}
+use Rattle.machine.proofs.Common.{length-take, take_min, List, drop, option_map, take, digest_but_files, digest_of, files_mixed, Kernel, state_of, Node, stat_of}
 use Rattle.blockdev.specs.Splice.{part}
-use Rattle.digests.specs.Digest.{digest_but_files, digest_of, files_mixed}
 use Rattle.inode.specs.declared.InodeStat.{InodeStat}
-use Rattle.kernel.specs.Kernel.{Kernel, state_of}
 use Rattle.machine.specs.Looks.{IsRead, stat_from, stat_seen}
 use Rattle.tree.specs.Telling.{Tells, TellsAny}
-use Rattle.unixmodel.specs.Files.{Node}
-use Rattle.unixmodel.specs.Shown.{stat_of}
 
 stat-same : (s : InodeStat) (node : Node) → Tells s node → stat_from s ≡ stat_seen (stat_of node)
 stat-same s node (kind, links, size, major) = rw (kind, links, size) refl

@@ -1,15 +1,9 @@
 -- From the files of an image to the machine that boots from it.
-use Rattle.std.proofs.Common.{Err, List, Ok, Result, ap, arith, inl, inr, le_trans, refl, subst, sym, ℕ, ◌<◌, ◌∙◌, ◌≤◌, ◌⊎◌, ◌↔◌}
-use Rattle.std.specs.Prelude.{IfErr, IfOk, IsErrOf}
+use Rattle.machine.proofs.Common.{Err, List, Ok, Result, ap, arith, inl, inr, le_trans, refl, subst, sym, ℕ, ◌<◌, ◌∙◌, ◌≤◌, ◌⊎◌, ◌↔◌, IfErr, IfOk, IsErrOf, BootFault, FrameCount}
+use Rattle.machine.proofs.Common.{Image, NoInit, NoMemory, IsAccepted, IsBegun, IsBooted, IsNotBegun, IsUnbooted, boot_fault, View, IsMounted, IsUnmounted, FileTree, start}
 use Rattle.imagecheck.specs.declared.ImageFault.{ImageFault}
 use Rattle.imagecheck.specs.declared.ImageFault.TheVariants as fault
-use Rattle.machine.specs.declared.fault.BootFault.{BootFault}
-use Rattle.machine.specs.declared.fault.BootFault.TheVariants.{Device, FrameCount, Image, NoInit, NoMemory}
-use Rattle.machine.specs.Booted.{IsAccepted, IsBegun, IsBooted, IsNotBegun, IsUnbooted, boot_fault}
-use Rattle.machine.specs.View.{View}
-use Rattle.mount.specs.Mounted.{IsMounted, IsUnmounted}
-use Rattle.tree.specs.Tree.{FileTree}
-use Rattle.unixmodel.specs.Start.{start}
+use Rattle.machine.specs.declared.fault.BootFault.TheVariants.{Device}
 
 module _ {image identity : List ℕ} {failures : ℕ} {tree : FileTree} (mounted : IsMounted image identity failures tree) (frames : ℕ) where
   accepted : IsAccepted image tree.files

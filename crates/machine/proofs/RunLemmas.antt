@@ -1,18 +1,9 @@
 -- How a run goes on by one step.
-use Rattle.std.proofs.Common.{◌≡◌, ℕ, ℤ, ◌+◌, ◌<◌, List, [], ◌∷◌, ◌++◌, take, drop, length, Option, Some, None, Err, refl, ap, sym, ◌∙◌, arith, append-nil}
-use Rattle.std.proofs.lemmas.List.{take-append-drop}
+use Rattle.machine.proofs.Common.{◌≡◌, ℕ, ℤ, ◌+◌, ◌<◌, List, [], ◌∷◌, ◌++◌, take, drop, length, Option, Some, None, Err, refl, ap, sym, ◌∙◌, arith, append-nil, take-append-drop}
+use Rattle.machine.proofs.Common.{run-append, run-more, then_runs, Halt, Console, Halted, InitEnded, IsDone, RunGives, StepGives, IsUp, View, After, Event, next, after_bytes, run, State}
 pub use Rattle.calls.proofs.Prints.{Appends-none, Appends-trans, begins_more}
 pub use Rattle.calls.proofs.Runs.{Rises-later, then_begins}
-use Rattle.calls.proofs.Runs.{run-append, run-more, then_runs}
-use Rattle.calls.specs.declared.halt.Halt.{Halt}
-use Rattle.calls.specs.declared.halt.Halt.TheVariants.{Console, Device, Halted, InitEnded}
-use Rattle.machine.specs.Gives.{IsDone, RunGives, StepGives}
-use Rattle.machine.specs.View.{IsUp, View}
-use Rattle.unixmodel.specs.Calls.{After}
-use Rattle.unixmodel.specs.declared.event.Event.{Event}
-use Rattle.unixmodel.specs.Next.{next}
-use Rattle.unixmodel.specs.Run.{after_bytes, run}
-use Rattle.unixmodel.specs.State.{State}
+use Rattle.calls.specs.declared.halt.Halt.TheVariants.{Device}
 
 -- all events so far are done as the model says, and the machine takes more
 pub record SoFar (first now : View) (events : List Event) (before after : Option (List ℕ)) : Type 0 where

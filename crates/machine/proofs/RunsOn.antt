@@ -1,21 +1,11 @@
 -- How a run over some events goes on over others.
-use Rattle.std.proofs.Common.{true, false, ◌≡◌, ◌∙◌, ℕ, ℤ, ◌+◌, List, ◌++◌, take, length, Option, Some, None, Result, Ok, Err, ap, sym, arith, append_assoc, append-nil, length-append, refl, []}
+use Rattle.machine.proofs.Common.{true, false, ◌≡◌, ◌∙◌, ℕ, ℤ, ◌+◌, List, ◌++◌, take, length, Option, Some, None, Result, Ok, Err, ap, sym, arith, append_assoc, append-nil, length-append, refl}
+use Rattle.machine.proofs.Common.{[], take-append-le, OnOk, is_err, run-append, then_runs, Halt, Console, Halted, InitEnded, IsDone, RunGives, View, After, Event, after_bytes, run, State}
 use Rattle.std.proofs.KnownBytes.{Appends-kept}
 use Rattle.std.proofs.Math.Seq.{take-append-add}
-use Rattle.std.proofs.lemmas.List.{take-append-le}
 use Rattle.std.specs.Io.KnownBytes.{Keeps}
-use Rattle.std.specs.Prelude.{OnOk}
-use Rattle.std.specs.Result.{is_err}
-use Rattle.calls.proofs.Runs.{run-append, then_runs}
 use Rattle.machine.proofs.RunLemmas.{Appends-trans, Rises-later, SoFar, up_now}
-use Rattle.calls.specs.declared.halt.Halt.{Halt}
-use Rattle.calls.specs.declared.halt.Halt.TheVariants.{Console, Device, Halted, InitEnded}
-use Rattle.machine.specs.Gives.{IsDone, RunGives}
-use Rattle.machine.specs.View.{View}
-use Rattle.unixmodel.specs.Calls.{After}
-use Rattle.unixmodel.specs.declared.event.Event.{Event}
-use Rattle.unixmodel.specs.Run.{after_bytes, run}
-use Rattle.unixmodel.specs.State.{State}
+use Rattle.calls.specs.declared.halt.Halt.TheVariants.{Device}
 
 -- the bytes are written out
 pub done-kept : {first now : View} {all : After} {before mid after : Option (List ℕ)} {r : Option ℤ} → IsDone first now all before mid r → Keeps mid after → IsDone first now all before after r

@@ -1,20 +1,12 @@
 -- What is left of a machine: nothing names a node but links.
-use Rattle.std.proofs.Common.{◌≡◌, ℕ, ◌+◌, Bool, false, List, [], ◌∷◌, None, Option, Some, ap, refl, subst, sym, ◌∙◌}
-use Rattle.std.specs.Prelude.{nat_lt, ◌||◌}
+use Rattle.machine.proofs.Common.{◌≡◌, ℕ, ◌+◌, Bool, false, List, [], ◌∷◌, None, Option, Some, ap, refl, subst, sym, ◌∙◌, nat_lt, ◌||◌, image_of}
+use Rattle.machine.proofs.Common.{Kernel, state_of, unheld, FileTree, Node, free_slots, links_of, taken, Denotes, left, State, place_limit}
 use Rattle.std.proofs.Math.Bool.{or-false}
 use Rattle.std.specs.List.{list_any}
-use Rattle.imagerules.specs.Content.{image_of}
-use Rattle.kernel.specs.Kernel.{Kernel, state_of}
 use Rattle.machine.proofs.Steps.{told}
 use Rattle.machine.specs.Saved.{IsLost, IsSaved, LosesDevice}
-use Rattle.tree.specs.Holding.{unheld}
-use Rattle.tree.specs.Tree.{FileTree}
-use Rattle.unixmodel.specs.Files.{Node, free_slots, links_of, taken}
-use Rattle.unixmodel.specs.Image.{Denotes}
 use Rattle.unixmodel.specs.OpenFiles.{OpenFile, is_node}
 use Rattle.unixmodel.specs.Reap.{is_used, kept, reap, without_nodes, without_opens, without_pipes}
-use Rattle.unixmodel.specs.Shown.{left}
-use Rattle.unixmodel.specs.State.{State, place_limit}
 
 none-kept : (opens : List (Option OpenFile)) (k : ℕ) → taken (kept (λ j f. false) k opens) ≡ []
 none-kept [] k = refl

@@ -1,23 +1,13 @@
 -- What an event comes to, from what the kernel makes of it.
-use Rattle.std.specs.Prelude.{IfErr}
+use Rattle.machine.proofs.Common.{IfErr, Halt, Console, Halted, InitEnded, Kernel, state_of, ConsoleFails, IsDone, RunGives, StepGives, fails, IsUp, View, FileTree, After, quiet, Key, Step, Tick, next, stopped}
+use Rattle.machine.proofs.Common.{State, running, length-replicate, take-replicate, ◌≡◌, ◌≤◌, ℕ, ℤ, Bool, true, false, List, replicate, take, Option, Some, None, Result, Ok, Err, arith, le_refl, refl, ap}
 use Rattle.calls.specs.Gives.{Dispatches, EventGives, LeavesTree, Makes}
 use Rattle.calls.specs.Steps.{LeavesFiles, PieceGives, PieceGoes, StepsGive, stepped}
-use Rattle.calls.specs.declared.halt.Halt.{Halt}
-use Rattle.calls.specs.declared.halt.Halt.TheVariants.{Console, Device, Halted, InitEnded}
-use Rattle.kernel.specs.Kernel.{Kernel, state_of}
-use Rattle.machine.specs.Gives.{ConsoleFails, IsDone, RunGives, StepGives, fails}
+use Rattle.calls.specs.declared.halt.Halt.TheVariants.{Device}
 use Rattle.calls.proofs.Pieces.{stops-rest, went-all, went-none}
 use Rattle.calls.proofs.Prints.{Appends-none}
 use Rattle.machine.specs.Pieces.{IsPiece}
-use Rattle.machine.specs.View.{IsUp, View}
 use Rattle.console.specs.Output.{AppendsBeginning}
-use Rattle.tree.specs.Tree.{FileTree}
-use Rattle.unixmodel.specs.Calls.{After, quiet}
-use Rattle.unixmodel.specs.declared.event.Event.TheVariants.{Key, Step, Tick}
-use Rattle.unixmodel.specs.Next.{next, stopped}
-use Rattle.unixmodel.specs.State.{State, running}
-use Rattle.std.proofs.lemmas.List.{length-replicate, take-replicate}
-use Rattle.std.proofs.Common.{◌≡◌, ◌≤◌, ℕ, ℤ, Bool, true, false, List, replicate, take, Option, Some, None, Result, Ok, Err, arith, le_refl, refl, ap}
 
 abbrev pub told : Kernel → Bool → View
 told k failed = record { state = state_of k; failures = k.tree.failures; failed = failed; identity = k.tree.identity }

@@ -10,7 +10,7 @@ use digests::{digest_but_files, mix_files};
 use sv39::Translate;
 
 /// The digest of the state, whose files are read from the device.
-pub fn digest_kernel<D: BlockDev, T: Translate + Drop>(
+pub fn digest_kernel<D: BlockDev, T: Translate>(
     kernel: &mut Kernel<D, T>,
 ) -> Result<u64, DeviceFault>
     requires { kernel.old.tree.failed ≡ false }

@@ -63,7 +63,7 @@ const STACK: Perm = Perm {
 
 // Puts a flat program into the first of the address spaces of a machine that has none: its bytes from address 0 on, a
 // guard page, and a page for the stack. It tells whether the frames suffice.
-fn load<T: Translate + Drop>(spaces: &mut Spaces<T>, bytes: &[u8]) -> bool
+fn load<T: Translate>(spaces: &mut Spaces<T>, bytes: &[u8]) -> bool
     requires { spaces.old ≡ no_spaces spaces.old.frames }
     ensures { LoadsFlat bytes.now spaces.old spaces.new result }
 {
@@ -155,7 +155,7 @@ pub fn boot_flat(
 }
 
 /// `boot_flat` with a translator, which is fenced first: it may hold anything.
-pub fn boot_flat_with<T: Translate + Drop>(
+pub fn boot_flat_with<T: Translate>(
     alloc: Global,
     bytes: &[u8],
     translator: T,
@@ -177,7 +177,7 @@ pub fn boot_flat_with<T: Translate + Drop>(
 }
 
 /// `boot_flat_with` over files in use that are a root and the console, on any device.
-pub fn boot_flat_on<D: BlockDev, T: Translate + Drop>(
+pub fn boot_flat_on<D: BlockDev, T: Translate>(
     alloc: Global,
     bytes: &[u8],
     mut tree: Tree<D>,

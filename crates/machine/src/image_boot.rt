@@ -75,7 +75,7 @@ fn read_init<D: BlockDev>(tree: &mut Tree<D>, frames: u32) -> Result<Option<Init
 }
 
 // Puts `/init` in the first place, where there is no process yet. `None`: it can't be executed, or the frames don't suffice.
-fn put_init<D: BlockDev, T: Translate + Drop>(
+fn put_init<D: BlockDev, T: Translate>(
     tree: &mut Tree<D>,
     spaces: &mut Spaces<T>,
 ) -> Result<Option<Init>, DeviceFault>
@@ -137,7 +137,7 @@ fn first_table(init: &Init) -> Table
 }
 
 // A machine over files in use that nobody holds, whose process 1 executes `/init`.
-fn boot_on<D: BlockDev, T: Translate + Drop>(
+fn boot_on<D: BlockDev, T: Translate>(
     alloc: Global,
     mut tree: Tree<D>,
     translator: T,
@@ -187,7 +187,7 @@ fn unmounted(fault: ImageFault) -> BootFault
 /// `FrameCount` where `frames` is below 64 or above 32768, `Image` where the check refuses the image, `Device` where an access
 /// of the device failed, `NoMemory` where the host has no memory, and else `NoInit` where `/init` can't be executed: there is no
 /// such file, it is no program, or the frames don't suffice.
-pub fn boot<D: BlockDev, T: Translate + Drop>(
+pub fn boot<D: BlockDev, T: Translate>(
     alloc: Global,
     disk: D,
     translator: T,

@@ -36,7 +36,7 @@ fn told(seen: Option<InodeStat>) -> Option<Stat>
 }
 
 /// What is told of the node with a number; `None` where there is none.
-pub fn look<D: BlockDev, T: Translate + Drop>(
+pub fn look<D: BlockDev, T: Translate>(
     kernel: &mut Kernel<D, T>,
     number: usize,
 ) -> Result<Option<Stat>, DeviceFault>
@@ -48,7 +48,7 @@ pub fn look<D: BlockDev, T: Translate + Drop>(
 }
 
 /// Reads bytes of the node with a number from the place `at` on, as many as there are, and tells how many.
-pub fn read<D: BlockDev, T: Translate + Drop>(
+pub fn read<D: BlockDev, T: Translate>(
     kernel: &mut Kernel<D, T>,
     number: usize,
     at: usize,

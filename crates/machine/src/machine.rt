@@ -31,12 +31,12 @@ use vm::Perm;
 
 /// A machine over the device of its disk and a translator.
 #[derive(Drop)]
-pub struct Machine<D: BlockDev, T: Translate + Drop> {
+pub struct Machine<D: BlockDev, T: Translate> {
     kernel: Kernel<D, T>,
     failed: bool,
 }
 
-impl<D: BlockDev, T: Translate + Drop> Model for Machine<D, T> {
+impl<D: BlockDev, T: Translate> Model for Machine<D, T> {
     ghost use Rattle.machine.specs.View.{View};
 
     ghost Value = { View };
@@ -55,7 +55,7 @@ fn is_failure(done: &Result<(), Halt>) -> bool
     matches!(done, Err(Halt::Device | Halt::Console))
 }
 
-impl<D: BlockDev, T: Translate + Drop> Machine<D, T> {
+impl<D: BlockDev, T: Translate> Machine<D, T> {
     ghost use Rattle.machine.specs.View.{IsUp, View};
     ghost use Rattle.machine.specs.Gives.{ConsoleFails, halt_of, RunGivesTo, StepGivesTo};
 

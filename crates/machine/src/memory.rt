@@ -9,11 +9,7 @@ use std::alloc::Global;
 use sv39::Translate;
 
 /// No spaces over a memory of so many frames.
-pub fn empty<T: Translate + Drop>(
-    alloc: Global,
-    translator: T,
-    frames: u32,
-) -> Result<Spaces<T>, NoMemory>
+pub fn empty<T: Translate>(alloc: Global, translator: T, frames: u32) -> Result<Spaces<T>, NoMemory>
     requires { frames ≤ 32768 }
     ensures { IfOk result (λ s. s ≡ no_spaces frames) }
 {

@@ -38,7 +38,7 @@ fn any_sleeping(places: &[Place]) -> bool
     })
 }
 
-impl<D: BlockDev, T: Translate + Drop> Kernel<D, T> {
+impl<D: BlockDev, T: Translate> Kernel<D, T> {
     /// The place of the process whose turn it is; `None`: none is ready.
     pub fn next_turn(&self) -> Option<usize>
         requires { self.now.spaces.active ≡ None }

@@ -8,7 +8,7 @@ use blockdev::BlockDev;
 use sv39::Translate;
 use unixmodel::trap::Trap;
 
-impl<D: BlockDev, T: Translate + Drop> Kernel<D, T> {
+impl<D: BlockDev, T: Translate> Kernel<D, T> {
     /// Does so many instructions of the running process, up to the first that isn't done: how many were done, and why the next
     /// one isn't.
     pub fn execute_many(&mut self, at: usize, count: u32) -> (u32, Option<Trap>)

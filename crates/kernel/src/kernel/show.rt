@@ -18,7 +18,7 @@ use ram::{FRAME_SIZE, FrameNo, Ram};
 use sv39::Translate;
 use vm::Perm;
 
-impl<D: BlockDev, T: Translate + Drop> Kernel<D, T> {
+impl<D: BlockDev, T: Translate> Kernel<D, T> {
     /// The least pid above another, among those of all processes, also of zombies.
     pub fn next_pid(&self, after: u32) -> Option<u32>
         ensures { IsNextOf (λ pid. is_some (shown_process (state_of self.now) pid)) after result }

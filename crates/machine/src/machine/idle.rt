@@ -6,7 +6,7 @@ use crate::machine::Machine;
 use blockdev::BlockDev;
 use sv39::Translate;
 
-impl<D: BlockDev, T: Translate + Drop> Machine<D, T> {
+impl<D: BlockDev, T: Translate> Machine<D, T> {
     /// Whether no process runs and none is ready, so that a step changes nothing.
     pub fn is_idle(&self) -> bool
         ensures { result ≡ is_idle self.now.state }

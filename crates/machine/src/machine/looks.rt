@@ -16,7 +16,7 @@ use blockdev::BlockDev;
 use calls::Halt;
 use sv39::Translate;
 
-impl<D: BlockDev, T: Translate + Drop> Machine<D, T> {
+impl<D: BlockDev, T: Translate> Machine<D, T> {
     /// The least pid above another, among those of which `inspect` tells; `None` where there is none. From 0 on these are all
     /// processes, in the order of their pids.
     pub fn next_pid(&self, after: u32) -> Option<u32>

@@ -33,14 +33,14 @@ fn give_up<D: BlockDev>(tree: Tree<D>) -> Result<D, DeviceFault>
 }
 
 // The files of a kernel, whose processes go.
-fn tree_of<D: BlockDev, T: Translate + Drop>(kernel: Kernel<D, T>) -> Tree<D>
+fn tree_of<D: BlockDev, T: Translate>(kernel: Kernel<D, T>) -> Tree<D>
     ensures { result ≡ kernel.tree }
 {
     let Kernel { tree, .. } = kernel;
     tree
 }
 
-impl<D: BlockDev, T: Translate + Drop> Machine<D, T> {
+impl<D: BlockDev, T: Translate> Machine<D, T> {
     ghost use Rattle.machine.specs.Saved.{SaveGives};
 
     /// Gives up all processes and hands back the disk, whose bytes denote the files that are left: what nothing names any

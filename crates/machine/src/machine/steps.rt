@@ -10,7 +10,7 @@ use calls::Halt;
 use console::Out;
 use sv39::Translate;
 
-impl<D: BlockDev, T: Translate + Drop> Machine<D, T> {
+impl<D: BlockDev, T: Translate> Machine<D, T> {
     /// So many steps, up to the first at which the machine stops: what `run` does with so many `Event::Step`, in less time.
     pub fn steps<W: Out>(&mut self, count: u32, console: &mut W) -> Result<(), Halt>
         ensures gives { RunGivesTo W.contents W.failures self.old self.new console.old console.new (replicate count Step) result }

@@ -1,6 +1,4 @@
-use Rattle.std.proofs.Common.{None, Some, [], arith, refl}
-use Rattle.std.proofs.lemmas.Result.{err_from_is_err_and}
-use Rattle.calls.specs.Acts.{ActsOnDisk}
+use Rattle.calls.proofs.Common.{None, Some, [], arith, refl, err_from_is_err_and, ActsOnDisk}
 use Rattle.calls.proofs.Acts.{unbuilt}
 use Rattle.calls.proofs.Prints.{Appends-none}
 use Rattle.calls.proofs.calls.act.Given as given

@@ -1,6 +1,4 @@
-use Rattle.std.proofs.lemmas.Result.{err_from_is_err_and}
-use Rattle.unixmodel.specs.Failures.{Rises}
-use Rattle.std.proofs.Common.{rules}
+use Rattle.calls.proofs.Common.{err_from_is_err_and, Rises, rules}
 use Rattle.calls.proofs.Acts.{fails-leave, fails-of, makes-of, numbers}
 use Rattle.calls.proofs.Served.{on-ok}
 use Rattle.calls.proofs.calls.call.Goals as goal

@@ -1,14 +1,8 @@
-use Rattle.std.proofs.Common.{ap, sym, ◌∙◌, None, refl}
-use Rattle.std.proofs.lemmas.Result.{err_from_is_err_and}
-use Rattle.kernel.specs.View.{kernel_of}
-use Rattle.kernel.specs.Watch.{awaited_of}
-use Rattle.kernel.proofs.Watching.{watched-bytes, watched-running}
-use Rattle.kernel.proofs.Wakes.{kernel-waking}
+use Rattle.calls.proofs.Common.{ap, sym, ◌∙◌, None, refl, err_from_is_err_and, kernel_of, awaited_of, watched-bytes, watched-running, kernel-waking, low}
 use Rattle.proc.specs.Places.{with_descriptor}
 use Rattle.calls.proofs.Woken.{comes-waking, running-now}
 use Rattle.calls.proofs.Closes.{close-fails, close-node, close-unnamed, close-up, closes-none, closes-some, closing_to}
 use Rattle.calls.proofs.Served.{tree-lost}
-use Rattle.unixmodel.specs.Numbers.{low}
 use Rattle.calls.proofs.descriptor_calls.close.Goals as goal
 
 pub returns-in_default : goal.returns-in_default

@@ -1,11 +1,8 @@
-use Rattle.std.proofs.Common.{ap, arith, sym, ◌∙◌, Some}
-use Rattle.kernel.specs.View.{kernel_of}
-use Rattle.kernel.proofs.Watching.{watched-running}
+use Rattle.calls.proofs.Common.{ap, arith, sym, ◌∙◌, Some, kernel_of, watched-running, low}
 use Rattle.proc.specs.Places.{with_descriptor}
 use Rattle.calls.proofs.Woken.{running-now, watched-shared}
 use Rattle.calls.proofs.Forks.{counts-few}
 use Rattle.calls.proofs.Renames.{dup-full, dup-unnamed, dups}
-use Rattle.unixmodel.specs.Numbers.{low}
 use Rattle.calls.proofs.descriptor_calls.dup.Goals as goal
 
 pub returns-in_default : goal.returns-in_default

@@ -1,7 +1,4 @@
-use Rattle.std.proofs.Common.{◌<◌, ap, sym, subst, ◌∙◌}
-use Rattle.std.specs.Prelude.{count_by, is_none}
-use Rattle.std.specs.Option.{option_copied}
-use Rattle.kernel.specs.Descriptors.{descriptors_in}
+use Rattle.calls.proofs.Common.{◌<◌, ap, sym, subst, ◌∙◌, count_by, is_none, option_copied, descriptors_in}
 use Rattle.calls.proofs.Pipes.{no-free, no-place}
 use Rattle.calls.proofs.descriptor_calls.open_as.Goals as goal
 

@@ -1,13 +1,6 @@
-use Rattle.std.proofs.Common.{ap, arith, sym, ◌∙◌, refl}
-use Rattle.std.specs.Prelude.{is_some}
-use Rattle.std.specs.Option.{option_copied}
-use Rattle.kernel.specs.View.{kernel_of}
-use Rattle.kernel.proofs.Watching.{watched-bytes}
-use Rattle.kernel.proofs.Wakes.{kernel-waking}
+use Rattle.calls.proofs.Common.{ap, arith, sym, ◌∙◌, refl, is_some, option_copied, kernel_of, watched-bytes, kernel-waking, free-place, Spaces}
 use Rattle.calls.proofs.Woken.{comes-waking, running-now, watched-opened}
 use Rattle.calls.proofs.Pipes.{descriptor-left, lacks-descriptors, lacks-frames, lacks-places, lacks-room, pipe-unwritable, pipes-open, place-left}
-use Rattle.files.proofs.Free.{free-place}
-use Rattle.spaces.specs.Spaces.{Spaces}
 use Rattle.calls.proofs.descriptor_calls.pipe.Goals.{then-free_count-lt2-via-then-free_count-lt2, then-free_count-lt2-via-else-free_count-lt2+then-free_places-lt2}
 use Rattle.calls.proofs.descriptor_calls.pipe.Goals as goal
 

@@ -1,7 +1,6 @@
 use Rattle.calls.proofs.Served.{same-served}
-use Rattle.kernel.specs.Kernel.{Kernel}
+use Rattle.calls.proofs.Common.{Kernel, ap}
 use Rattle.calls.proofs.Takes.{step-computes}
-use Rattle.std.proofs.Common.{ap}
 use Rattle.calls.proofs.events.instruct.Goals as goal
 
 pub returns-in-None-clause-gives : goal.returns-in-None-clause-gives

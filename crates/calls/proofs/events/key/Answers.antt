@@ -1,5 +1,4 @@
-use Rattle.std.proofs.Common.{ap}
-use Rattle.kernel.specs.Kernel.{Kernel}
+use Rattle.calls.proofs.Common.{ap, Kernel}
 use Rattle.calls.proofs.Turned.{keys-made, next-keys}
 use Rattle.calls.proofs.events.key.Goals as goal
 

@@ -1,8 +1,7 @@
 use Rattle.calls.proofs.Served.{on-ok}
 use Rattle.calls.proofs.Takes.{does-err, does-made, made-quiet}
 use Rattle.calls.proofs.Turned.{next-executes, next-turns}
-use Rattle.std.proofs.Common.{refl, sym, ◌∙◌, rules}
-use Rattle.std.proofs.lemmas.Result.{err_from_is_err_and}
+use Rattle.calls.proofs.Common.{refl, sym, ◌∙◌, rules, err_from_is_err_and}
 use Rattle.calls.proofs.events.step.Goals.{in-None+in_ok-take_turn-in-None, in-Some+in_ok-instruct-in-Some}
 use Rattle.calls.proofs.events.step.Goals as goal
 

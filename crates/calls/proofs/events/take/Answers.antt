@@ -1,9 +1,6 @@
-use Rattle.kernel.proofs.Wakes.{state-but}
-use Rattle.unixmodel.specs.Calls.{quiet}
+use Rattle.calls.proofs.Common.{state-but, quiet, Kernel, ended, started, ap, negsuc, sym, ◌∙◌}
 use Rattle.calls.proofs.Served.{on-after, same-served, serves-disk, started-tree}
-use Rattle.kernel.specs.Kernel.{Kernel, ended, started}
 use Rattle.calls.proofs.Takes.{ends-if, takes-killed, takes-ready, takes-waiting}
-use Rattle.std.proofs.Common.{ap, negsuc, sym, ◌∙◌}
 use Rattle.calls.proofs.events.take.Goals as goal
 
 pub finish-requires : goal.finish-requires

@@ -1,8 +1,6 @@
-use Rattle.std.proofs.lemmas.Result.{err_from_is_err_and}
+use Rattle.calls.proofs.Common.{err_from_is_err_and, quiet, arith, ap, negsuc, refl, sym, ◌∙◌}
 use Rattle.calls.proofs.Served.{disk-served, ok-told, serves-disk, serves-lost}
-use Rattle.unixmodel.specs.Calls.{quiet}
 use Rattle.calls.proofs.Takes.{ended-told, made-quiet, step-calls, step-faults}
-use Rattle.std.proofs.Common.{arith, ap, negsuc, refl, sym, ◌∙◌}
 use Rattle.calls.proofs.Prints.{Appends-none}
 use Rattle.calls.proofs.events.take_trap.Goals as goal
 

@@ -1,11 +1,7 @@
-use Rattle.kernel.proofs.Readies.{turn-alive}
-use Rattle.kernel.proofs.Wakes.{state-but}
-use Rattle.kernel.specs.Kernel.{picked}
+use Rattle.calls.proofs.Common.{turn-alive, state-but, picked, ap, sym, ◌∙◌, State}
 use Rattle.calls.proofs.Served.{on-after}
 use Rattle.calls.proofs.Takes.{turn-takes}
 use Rattle.calls.specs.Resuming.{taken}
-use Rattle.std.proofs.Common.{ap, sym, ◌∙◌}
-use Rattle.unixmodel.specs.State.{State}
 use Rattle.calls.proofs.events.take_turn.Goals as goal
 
 pub take-requires-clause-alive : goal.take-requires-clause-alive

@@ -1,9 +1,6 @@
 use Rattle.calls.proofs.Served.{ticked-tree}
 use Rattle.calls.proofs.Turned.{next-ticks}
-use Rattle.kernel.proofs.Wakes.{state-but}
-use Rattle.kernel.specs.Kernel.{Kernel, ticked}
-use Rattle.std.proofs.Common.{ap, sym, ◌∙◌}
-use Rattle.unixmodel.specs.Calls.{quiet}
+use Rattle.calls.proofs.Common.{state-but, Kernel, ticked, ap, sym, ◌∙◌, quiet}
 use Rattle.calls.proofs.events.tick.Goals as goal
 
 pub returns-clause-gives : goal.returns-clause-gives

@@ -1,10 +1,9 @@
-use Rattle.std.proofs.Common.{arith}
+use Rattle.calls.proofs.Common.{arith, Exec}
 use Rattle.calls.proofs.Execs.{exec-lost, exec-pathless, reaches}
 use Rattle.calls.proofs.Homes.{read-runs}
 use Rattle.calls.proofs.Opens.{after-look}
 use Rattle.calls.proofs.Served.{err-lost}
 use Rattle.calls.proofs.Stats.{reads-ok}
-use Rattle.unixmodel.specs.declared.call.Call.TheVariants.{Exec}
 use Rattle.calls.proofs.exec_call.exec.Goals as goal
 
 pub returns-in_default : goal.returns-in_default

@@ -1,8 +1,6 @@
-use Rattle.std.proofs.Common.{ap, sym, ◌∙◌}
-use Rattle.kernel.specs.View.{kernel_of}
+use Rattle.calls.proofs.Common.{ap, sym, ◌∙◌, kernel_of, low}
 use Rattle.calls.proofs.Woken.{watched-piped, writes-piped}
 use Rattle.calls.proofs.Stats.{fstat-acts, fstat-nodeless, fstat-there, fstat-unnamed, fstat-unwritable, node-told, reads-ok}
-use Rattle.unixmodel.specs.Numbers.{low}
 use Rattle.calls.proofs.file_calls.fstat.Goals as goal
 
 pub returns-in_default : goal.returns-in_default

@@ -1,8 +1,5 @@
-use Rattle.std.proofs.Common.{ap, refl, ◌∙◌}
+use Rattle.calls.proofs.Common.{ap, refl, ◌∙◌, stat_told, zeros, le}
 use Rattle.calls.proofs.Stats.{le-2, le-4, le-8}
-use Rattle.calls.specs.Reads.{stat_told}
-use Rattle.unixmodel.specs.Memory.{zeros}
-use Rattle.unixmodel.specs.Numbers.{le}
 use Rattle.calls.proofs.file_calls.stat_bytes.Goals as goal
 
 pub returns : goal.returns

@@ -1,6 +1,5 @@
-use Rattle.std.proofs.Common.{arith}
+use Rattle.calls.proofs.Common.{arith, executed}
 use Rattle.calls.proofs.Pieces.{begun, busy-advances, last-goes, none-told, trap-told}
-use Rattle.calls.specs.Gives.{executed}
 use Rattle.calls.proofs.many_steps.instruct_many.Goals as goal
 
 pub trap_once-requires-clause-running : goal.trap_once-requires-clause-running

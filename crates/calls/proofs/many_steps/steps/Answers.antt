@@ -1,5 +1,4 @@
-use Rattle.std.proofs.Common.{arith, ◌+◌, ◌-◌}
-use Rattle.std.proofs.lemmas.Result.{err_from_is_err_and}
+use Rattle.calls.proofs.Common.{arith, ◌+◌, ◌-◌, err_from_is_err_and}
 use Rattle.calls.proofs.Runs.{Rises-later}
 use Rattle.calls.proofs.Pieces.{came, stops-rest, went-all, went-idle, went-none, went-trans, went-up}
 use Rattle.calls.proofs.many_steps.steps.Goals as goal

@@ -1,11 +1,6 @@
-use Rattle.std.proofs.Common.{ap, arith, subst, sym, ◌≡◌}
-use Rattle.kernel.proofs.Readies.{turn-alive}
-use Rattle.kernel.proofs.Wakes.{state-but}
-use Rattle.kernel.specs.Kernel.{Kernel, state_of}
+use Rattle.calls.proofs.Common.{ap, arith, subst, sym, ◌≡◌, turn-alive, state-but, Kernel, state_of, LeavesTree, FileTree}
 use Rattle.calls.proofs.Pieces.{busy-turn, idle-now, last-goes, turn-is, went-none, went-still}
-use Rattle.calls.specs.Gives.{LeavesTree}
 use Rattle.calls.specs.Resuming.{taken}
-use Rattle.tree.specs.Tree.{FileTree}
 use Rattle.calls.proofs.many_steps.turn_once.Goals as goal
 
 pub take_once-requires-clause-alive : goal.take_once-requires-clause-alive

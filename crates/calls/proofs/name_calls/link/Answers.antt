@@ -1,8 +1,6 @@
-use Rattle.std.proofs.Common.{arith}
-use Rattle.kernel.specs.View.{kernel_of}
+use Rattle.calls.proofs.Common.{arith, kernel_of, Link}
 use Rattle.calls.proofs.Links.{link-acts, link-newless, link-oldless}
 use Rattle.calls.proofs.Names.{acts-keep, names-may}
-use Rattle.unixmodel.specs.declared.call.Call.TheVariants.{Link}
 use Rattle.calls.proofs.name_calls.link.Goals as goal
 
 pub returns-in_default : goal.returns-in_default

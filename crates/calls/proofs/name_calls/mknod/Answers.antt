@@ -1,7 +1,5 @@
-use Rattle.std.proofs.Common.{arith}
-use Rattle.kernel.specs.View.{kernel_of}
+use Rattle.calls.proofs.Common.{arith, kernel_of, Mknod}
 use Rattle.calls.proofs.Names.{acts-keep, names-may, mknod-acts, mknod-pathless}
-use Rattle.unixmodel.specs.declared.call.Call.TheVariants.{Mknod}
 use Rattle.calls.proofs.name_calls.mknod.Goals as goal
 
 pub returns-in_default : goal.returns-in_default

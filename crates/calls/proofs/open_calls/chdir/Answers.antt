@@ -1,10 +1,9 @@
-use Rattle.std.proofs.Common.{arith}
+use Rattle.calls.proofs.Common.{arith, Chdir}
 use Rattle.calls.proofs.Execs.{reaches}
 use Rattle.calls.proofs.Homes.{chdir-lost, chdir-pathless, read-runs}
 use Rattle.calls.proofs.Opens.{after-look}
 use Rattle.calls.proofs.Served.{err-lost}
 use Rattle.calls.proofs.Stats.{reads-ok}
-use Rattle.unixmodel.specs.declared.call.Call.TheVariants.{Chdir}
 use Rattle.calls.proofs.open_calls.chdir.Goals as goal
 
 pub returns-in_default : goal.returns-in_default

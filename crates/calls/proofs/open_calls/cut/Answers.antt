@@ -1,8 +1,4 @@
-use Rattle.std.proofs.Common.{ap, sym, ◌∙◌}
-use Rattle.std.proofs.lemmas.Result.{err_from_is_err_and}
-use Rattle.kernel.proofs.Steps.{fail-keeps}
-use Rattle.kernel.specs.Kernel.{Kernel}
-use Rattle.kernel.specs.View.{kernel_of}
+use Rattle.calls.proofs.Common.{ap, sym, ◌∙◌, err_from_is_err_and, fail-keeps, Kernel, kernel_of}
 use Rattle.calls.proofs.Opens.{cut-done, uncut}
 use Rattle.calls.proofs.Served.{ok-told, on-err, tree-lost}
 use Rattle.calls.proofs.open_calls.cut.Goals as goal

@@ -1,11 +1,7 @@
-use Rattle.std.proofs.Common.{subst, sym, ◌≡◌}
-use Rattle.std.specs.Prelude.{IfSome}
-use Rattle.kernel.specs.Kernel.{Kernel}
-use Rattle.kernel.specs.View.{kernel_of}
+use Rattle.calls.proofs.Common.{subst, sym, ◌≡◌, IfSome, Kernel, kernel_of, slot}
 use Rattle.calls.proofs.Names.{names-may}
 use Rattle.calls.proofs.Homes.{found-from}
 use Rattle.calls.proofs.Stats.{reads-disk, reads-keep}
-use Rattle.unixmodel.specs.Files.{slot}
 use Rattle.calls.proofs.open_calls.find.Goals as goal
 
 pub resolve-requires : goal.resolve-requires

@@ -1,10 +1,8 @@
-use Rattle.std.proofs.Common.{ap, arith, ◌∙◌}
+use Rattle.calls.proofs.Common.{ap, arith, ◌∙◌, Open, low}
 use Rattle.calls.proofs.Homes.{read-runs}
 use Rattle.calls.proofs.Opens.{after-look, asked, open-pathless}
 use Rattle.calls.proofs.Served.{err-lost}
 use Rattle.calls.proofs.Stats.{reads-ok}
-use Rattle.unixmodel.specs.declared.call.Call.TheVariants.{Open}
-use Rattle.unixmodel.specs.Numbers.{low}
 use Rattle.calls.proofs.open_calls.open.Goals as goal
 
 pub copy_path-requires : goal.copy_path-requires

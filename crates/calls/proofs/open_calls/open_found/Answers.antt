@@ -1,9 +1,8 @@
-use Rattle.std.proofs.Common.{sym}
+use Rattle.calls.proofs.Common.{sym, Open}
 use Rattle.calls.proofs.Homes.{read-runs}
 use Rattle.calls.proofs.Opens.{after-look, cut-ok, cut-runs, may-open-cut, open-closed, open-found, open-full, open-node, node-then, seat-cut}
 use Rattle.calls.proofs.Served.{err-lost}
 use Rattle.calls.proofs.Stats.{reads-ok}
-use Rattle.unixmodel.specs.declared.call.Call.TheVariants.{Open}
 use Rattle.calls.proofs.open_calls.open_found.Goals as goal
 
 pub stat-requires-clause-node : goal.stat-requires-clause-node

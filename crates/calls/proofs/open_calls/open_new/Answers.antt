@@ -1,8 +1,6 @@
-use Rattle.std.proofs.Common.{refl, sym}
-use Rattle.kernel.specs.View.{kernel_of}
+use Rattle.calls.proofs.Common.{refl, sym, kernel_of, Open}
 use Rattle.calls.proofs.Names.{acts-keep, names-may}
 use Rattle.calls.proofs.Opens.{create-fails, created-openable, created-runs, created-seat, open-absent, open-created, open-new-full}
-use Rattle.unixmodel.specs.declared.call.Call.TheVariants.{Open}
 use Rattle.calls.proofs.open_calls.open_new.Goals as goal
 
 pub returns-then-not-creates : goal.returns-then-not-creates

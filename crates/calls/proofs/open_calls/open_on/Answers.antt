@@ -1,7 +1,4 @@
-use Rattle.std.proofs.Common.{ap, ◌∙◌, refl}
-use Rattle.calls.specs.Opened.{file_by}
-use Rattle.kernel.proofs.Wakes.{kernel-waking}
-use Rattle.kernel.proofs.Watching.{watched-bytes}
+use Rattle.calls.proofs.Common.{ap, ◌∙◌, refl, file_by, kernel-waking, watched-bytes}
 use Rattle.calls.proofs.Woken.{opens-waking, running-now, watched-opened}
 use Rattle.calls.proofs.Opens.{open-few, opens-on}
 use Rattle.calls.proofs.open_calls.open_on.Goals as goal

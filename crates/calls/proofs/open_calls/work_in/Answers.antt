@@ -1,8 +1,4 @@
-use Rattle.std.proofs.Common.{arith, refl}
-use Rattle.std.proofs.lemmas.Result.{err_from_is_err_and}
-use Rattle.kernel.specs.View.{kernel_of}
-use Rattle.kernel.proofs.Watching.{watched-running}
-use Rattle.proc.specs.Places.{with_directory}
+use Rattle.calls.proofs.Common.{arith, refl, err_from_is_err_and, kernel_of, watched-running, with_directory}
 use Rattle.calls.proofs.Woken.{running-now}
 use Rattle.calls.proofs.Homes.{chdir-fails, chdir-few, chdir-fits, chdir-gone, chdir-held, chdir-hold, chdirs}
 use Rattle.calls.proofs.open_calls.work_in.Goals as goal

@@ -1,7 +1,4 @@
-use Rattle.std.proofs.Common.{ap, negsuc, refl, subst, sym, ◌∙◌}
-use Rattle.calls.specs.Acts.{CanCome, IsEnd}
-use Rattle.kernel.specs.Kernel.{Kernel, answered, counting, ended, marked, state_of, waking}
-use Rattle.kernel.proofs.Wakes.{state-but, state-waking}
+use Rattle.calls.proofs.Common.{ap, negsuc, refl, subst, sym, ◌∙◌, CanCome, IsEnd, Kernel, answered, counting, ended, marked, state_of, waking, state-but, state-waking}
 use Rattle.calls.proofs.Acts.{runs-of, settles-answer, settles-blocks, settles-exits-if}
 use Rattle.calls.proofs.Kills.{settles-killed}
 use Rattle.calls.proofs.Served.{ok-told, same-served, serves-disk, where-err}

@@ -1,9 +1,7 @@
-use Rattle.std.proofs.Common.{◌≡◌, ℤ, ap, ◌∙◌}
-use Rattle.std.specs.Int.{cast_signed, cast_unsigned, w32}
-use Rattle.kernel.specs.Kernel.{argument}
+use Rattle.calls.proofs.Common.{◌≡◌, ℤ, ap, ◌∙◌, cast_signed, cast_unsigned, argument, int_of}
+use Rattle.std.specs.Int.{w32}
 use Rattle.calls.proofs.Acts.{exits}
 use Rattle.calls.proofs.Rows.{int-bits}
-use Rattle.unixmodel.specs.Numbers.{int_of}
 use Rattle.calls.proofs.process_calls.exit.Goals as goal
 
 pub returns : goal.returns

@@ -1,12 +1,6 @@
-use Rattle.std.proofs.Common.{◌≡◌, Ok, ap, sym, ◌∙◌, refl}
-use Rattle.calls.specs.Processes.{child_of}
-use Rattle.kernel.specs.View.{kernel_of}
-use Rattle.kernel.proofs.Wakes.{kernel-waking}
+use Rattle.calls.proofs.Common.{◌≡◌, Ok, ap, sym, ◌∙◌, refl, child_of, kernel_of, kernel-waking, active-space, seat_of, seated, Spaces}
 use Rattle.calls.proofs.Woken.{comes-waking, watched-forked}
 use Rattle.calls.proofs.Forks.{counts-few, fork-unfit, fork-unseated, forks, hold-few, hold-there, hold-up, seat-free}
-use Rattle.kernel.proofs.Runs.{active-space}
-use Rattle.proc.specs.Places.{seat_of, seated}
-use Rattle.spaces.specs.Spaces.{Spaces}
 use Rattle.calls.proofs.process_calls.fork.Goals as goal
 
 pub returns-in_default-next_seat : goal.returns-in_default-next_seat

@@ -1,11 +1,7 @@
-use Rattle.std.proofs.Common.{ap, ◌∙◌}
-use Rattle.kernel.specs.View.{kernel_of}
-use Rattle.kernel.proofs.Watching.{watched-running}
-use Rattle.proc.specs.Places.{with_size}
+use Rattle.calls.proofs.Common.{ap, ◌∙◌, kernel_of, watched-running, with_size, Spaces}
 use Rattle.calls.proofs.Woken.{running-now}
 use Rattle.calls.proofs.Acts.{here-now}
 use Rattle.calls.proofs.Sbrk.{grow-acts, grow-over}
-use Rattle.spaces.specs.Spaces.{Spaces}
 use Rattle.calls.proofs.process_calls.grow.Goals as goal
 
 pub returns-then-not-grow : goal.returns-then-not-grow

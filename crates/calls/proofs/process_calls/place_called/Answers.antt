@@ -1,5 +1,4 @@
-use Rattle.std.proofs.Common.{ap, sym, ◌∙◌}
-use Rattle.calls.specs.Processes.{place_called}
+use Rattle.calls.proofs.Common.{ap, sym, ◌∙◌, place_called}
 use Rattle.calls.proofs.Kills.{named-is}
 use Rattle.calls.proofs.process_calls.place_called.Goals as goal
 

@@ -1,8 +1,5 @@
-use Rattle.std.proofs.Common.{None, rules, ◌≡◌}
-use Rattle.kernel.specs.Kernel.{argument}
-use Rattle.calls.specs.Processes.{asked}
+use Rattle.calls.proofs.Common.{None, rules, ◌≡◌, argument, asked, int_of}
 use Rattle.calls.proofs.Sbrk.{sbrk-below}
-use Rattle.unixmodel.specs.Numbers.{int_of}
 use Rattle.calls.proofs.process_calls.sbrk.Goals as goal
 
 pub returns-then-bytes-size : goal.returns-then-bytes-size

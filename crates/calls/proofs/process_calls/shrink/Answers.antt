@@ -1,6 +1,4 @@
-use Rattle.kernel.specs.View.{kernel_of}
-use Rattle.kernel.proofs.Watching.{watched-running}
-use Rattle.proc.specs.Places.{with_size}
+use Rattle.calls.proofs.Common.{kernel_of, watched-running, with_size}
 use Rattle.calls.proofs.Woken.{running-now}
 use Rattle.calls.proofs.Acts.{here-now}
 use Rattle.calls.proofs.Sbrk.{shrink-acts}

@@ -1,14 +1,7 @@
-use Rattle.std.proofs.Common.{ap, rules, sym, w32, ◌∙◌}
-use Rattle.std.proofs.lemmas.Int.{to_z-of_z}
-use Rattle.kernel.specs.Kernel.{Kernel}
-use Rattle.kernel.specs.Sound.{can_answer}
-use Rattle.kernel.specs.View.{kernel_of}
-use Rattle.proc.specs.Places.{zombie_place}
+use Rattle.calls.proofs.Common.{ap, rules, sym, ◌∙◌, to_z-of_z, Kernel, can_answer, kernel_of, zombie_place, active-space, view_at, pending_arg}
+use Rattle.std.proofs.Common.{w32}
 use Rattle.calls.proofs.Woken.{watched-without}
 use Rattle.calls.proofs.Collects.{collects, wait-blocks}
-use Rattle.kernel.proofs.Runs.{active-space}
-use Rattle.spaces.specs.Spaces.{view_at}
-use Rattle.unixmodel.specs.Outcome.{pending_arg}
 use mir.Val.{SFits}
 use Rattle.calls.proofs.process_calls.wait_on.Goals as goal
 

@@ -1,10 +1,5 @@
-use Rattle.std.proofs.Common.{◌<◌, length}
-use Rattle.kernel.specs.View.{kernel_of}
+use Rattle.calls.proofs.Common.{◌<◌, length, kernel_of, view_at, Load, piece_at, piece-some}
 use Rattle.calls.proofs.transfer_calls.piece.Goals as goal
-use Rattle.spaces.specs.Spaces.{view_at}
-use Rattle.unixmodel.specs.declared.trap.Access.TheVariants.{Load}
-use Rattle.vm.specs.Reach.{piece_at}
-use Rattle.vm.proofs.ReachLemmas.{piece-some}
 
 pub returns-else-piece-most-clause-some : goal.returns-else-piece-most-clause-some
 returns-else-piece-most-clause-some g c =

@@ -1,6 +1,5 @@
 use Rattle.calls.proofs.Prints.{Appends-none, next-fits, next-readable, prints-all, prints-front, prints-more, prints-within}
-use Rattle.std.proofs.Common.{arith}
-use Rattle.std.proofs.lemmas.Result.{err_from_is_err_and}
+use Rattle.calls.proofs.Common.{arith, err_from_is_err_and}
 use Rattle.calls.proofs.transfer_calls.print.Goals as goal
 
 pub loop-done-init : goal.loop-done-init

@@ -1,8 +1,4 @@
-use Rattle.std.proofs.Common.{◌≤◌, ◌-◌, take}
-use Rattle.std.specs.Io.KnownBytes.{Appends}
-use Rattle.spaces.specs.Spaces.{view_at}
-use Rattle.unixmodel.specs.declared.trap.Access.TheVariants.{Load}
-use Rattle.unixmodel.specs.Memory.{reach}
+use Rattle.calls.proofs.Common.{◌≤◌, ◌-◌, take, Appends, view_at, Load, reach}
 use Rattle.calls.proofs.transfer_calls.print.Given as goal
 
 -- the bytes so far are put out

@@ -1,6 +1,4 @@
-use Rattle.std.proofs.Common.{arith, ◌∙◌}
-use Rattle.kernel.specs.View.{kernel_of}
-use Rattle.kernel.proofs.Watching.{watched-taken}
+use Rattle.calls.proofs.Common.{arith, ◌∙◌, kernel_of, watched-taken}
 use Rattle.calls.proofs.Woken.{read-empty, watched-piped, writes-piped}
 use Rattle.calls.proofs.Receives.{reads-fit, reads-receive}
 use Rattle.calls.proofs.transfer_calls.read_console.Goals as goal

@@ -1,8 +1,5 @@
-use Rattle.std.proofs.Common.{arith, ◌∙◌, ap, ◌+◌}
-use Rattle.kernel.specs.View.{kernel_of}
+use Rattle.calls.proofs.Common.{arith, ◌∙◌, ap, ◌+◌, kernel_of, watched-moved, Spaces}
 use Rattle.calls.proofs.Transfers.{named-number}
-use Rattle.kernel.proofs.Watching.{watched-moved}
-use Rattle.spaces.specs.Spaces.{Spaces}
 use Rattle.calls.proofs.Woken.{watched-piped}
 use Rattle.calls.proofs.Fetches.{reads-done, reads-lost, reads-near, reads-node}
 use Rattle.calls.proofs.transfer_calls.read_file.Goals as goal

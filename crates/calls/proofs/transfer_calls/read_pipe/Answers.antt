@@ -1,8 +1,5 @@
-use Rattle.kernel.specs.View.{kernel_of}
-use Rattle.kernel.proofs.Watching.{watched-bytes}
+use Rattle.calls.proofs.Common.{kernel_of, watched-bytes, kernel-waking, refl}
 use Rattle.calls.proofs.Transfers.{stands-now}
-use Rattle.kernel.proofs.Wakes.{kernel-waking}
-use Rattle.std.proofs.Common.{refl}
 use Rattle.calls.proofs.Woken.{goes-waking}
 use Rattle.calls.proofs.Draws.{reads-ended, reads-taken, reads-waiting}
 use Rattle.calls.proofs.transfer_calls.read_pipe.Goals as goal

@@ -1,8 +1,5 @@
-use Rattle.std.proofs.Common.{arith, ◌∙◌, ◌+◌}
-use Rattle.kernel.specs.View.{kernel_of}
+use Rattle.calls.proofs.Common.{arith, ◌∙◌, ◌+◌, kernel_of, watched-moved, fail-keeps}
 use Rattle.calls.proofs.Transfers.{named-number}
-use Rattle.kernel.proofs.Watching.{watched-moved}
-use Rattle.kernel.proofs.Steps.{fail-keeps}
 use Rattle.calls.proofs.Stores.{writes-done, writes-is_file, writes-near, writes-refused}
 use Rattle.calls.proofs.transfer_calls.write_file.Goals as goal
 

@@ -1,8 +1,5 @@
-use Rattle.std.proofs.Common.{◌≡◌, ℕ, ◌-◌, ap, arith, sym, ◌∙◌, refl}
-use Rattle.kernel.specs.View.{kernel_of}
+use Rattle.calls.proofs.Common.{◌≡◌, ℕ, ◌-◌, ap, arith, sym, ◌∙◌, refl, kernel_of, watched-bytes, kernel-waking}
 use Rattle.calls.proofs.Transfers.{stands-now}
-use Rattle.kernel.proofs.Watching.{watched-bytes}
-use Rattle.kernel.proofs.Wakes.{kernel-waking}
 use Rattle.calls.proofs.Woken.{goes-waking}
 use Rattle.calls.proofs.Sends.{sends-closed, sends-fits, sends-keeps, sends-on, sends-over, sends-readable, sends-within}
 use Rattle.calls.proofs.transfer_calls.write_pipe.Goals as goal

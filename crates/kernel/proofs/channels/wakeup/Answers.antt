@@ -1,10 +1,5 @@
-use Rattle.std.proofs.Common.{ap, arith, sym, ◌∙◌, ◌≡◌}
-use Rattle.std.specs.Option.{option_copied}
-use Rattle.kernel.specs.Watch.{waits_on}
+use Rattle.kernel.proofs.Common.{ap, arith, sym, ◌∙◌, ◌≡◌, option_copied, waits_on, Places, woken, slot, holds}
 use Rattle.kernel.proofs.Rousing.{Roused, roused-begins, roused-low, roused-passed, roused-rest, roused-to, roused-woken}
-use Rattle.proc.specs.Places.{Places, woken}
-use Rattle.unixmodel.specs.Files.{slot}
-use Rattle.unixmodel.specs.State.{holds}
 use Rattle.kernel.proofs.channels.wakeup.Goals.{else-waits, in-None, in-Some-process, then-waits}
 use Rattle.kernel.proofs.channels.wakeup.Goals as goal
 

@@ -1,5 +1,4 @@
-use Rattle.std.proofs.Common.{sym, ◌∙◌, ap}
-use Rattle.std.specs.Prelude.{Some}
+use Rattle.kernel.proofs.Common.{sym, ◌∙◌, ap, Some}
 use Rattle.kernel.proofs.Named.{stands-last}
 use Rattle.kernel.proofs.descriptors.close.Goals as goal
 

@@ -1,6 +1,4 @@
-use Rattle.std.proofs.Common.{drop, ℕ, ◌+◌, ◌≡◌, ◌≤◌}
-use Rattle.kernel.specs.Descriptors.{all_shared}
-use Rattle.files.specs.Places.{count_at}
+use Rattle.kernel.proofs.Common.{drop, ℕ, ◌+◌, ◌≡◌, ◌≤◌, all_shared, count_at}
 use Rattle.kernel.proofs.descriptors.share_all.Given as goal
 
 -- the descriptors that are left make of the open files what all make of the old ones

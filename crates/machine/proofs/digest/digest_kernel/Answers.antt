@@ -1,9 +1,5 @@
-use Rattle.calls.proofs.Stats.{reads-disk, reads-keep}
-use Rattle.kernel.specs.View.{kernel_of}
+use Rattle.machine.proofs.Common.{reads-disk, reads-keep, kernel_of, digest_but_files, Kernel, state_of, ap, sym, ◌∙◌}
 use Rattle.machine.proofs.Looking.{digest-told}
-use Rattle.digests.specs.Digest.{digest_but_files}
-use Rattle.kernel.specs.Kernel.{Kernel, state_of}
-use Rattle.std.proofs.Common.{ap, sym, ◌∙◌}
 use Rattle.machine.proofs.digest.digest_kernel.Goals as goal
 
 pub invariant_of-kernel : goal.invariant_of-kernel

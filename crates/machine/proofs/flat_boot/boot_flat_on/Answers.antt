@@ -1,12 +1,6 @@
-use Rattle.kernel.specs.Kernel.{Kernel, state_of}
-use Rattle.kernel.proofs.Watching.{watched-all}
+use Rattle.machine.proofs.Common.{Kernel, state_of, watched-all, first_kernel, flat_memory, flat_space, View, Spaces, view_at, FileTree, ◌≡◌, ◌*◌, Some, length, ap, arith, refl, sym, ◌∙◌}
 use Rattle.machine.proofs.flat_boot.boot_flat_on.Goals as goal
 use Rattle.machine.proofs.FlatLemmas.{few-console, few-root, first-sound, frames-of, hold-console, hold-root, length-flat, none-of, start-fits, start-over}
-use Rattle.machine.specs.Flat.{first_kernel, flat_memory, flat_space}
-use Rattle.machine.specs.View.{View}
-use Rattle.spaces.specs.Spaces.{Spaces, view_at}
-use Rattle.tree.specs.Tree.{FileTree}
-use Rattle.std.proofs.Common.{◌≡◌, ◌*◌, Some, length, ap, arith, refl, sym, ◌∙◌}
 
 pub load-requires : goal.load-requires
 load-requires g c = none-of c.in-Ok.ensures

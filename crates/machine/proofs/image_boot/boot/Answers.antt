@@ -1,8 +1,6 @@
 use Rattle.machine.proofs.image_boot.boot.Goals as goal
 use Rattle.machine.proofs.Mounts.{booted-from, counted-from, refused-from, unmounted-why}
-use Rattle.imagerules.specs.Content.{image_of}
-use Rattle.std.proofs.Common.{arith, subst, sym}
-use Rattle.machine.specs.Booted.{IsUnbooted}
+use Rattle.machine.proofs.Common.{image_of, arith, subst, sym, IsUnbooted}
 
 pub returns-in-Ok : goal.returns-in-Ok
 returns-in-Ok g c = record {

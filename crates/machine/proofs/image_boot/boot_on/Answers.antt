@@ -1,11 +1,7 @@
 use Rattle.machine.proofs.image_boot.boot_on.Goals as goal
-use Rattle.kernel.proofs.Watching.{watched-all}
-use Rattle.kernel.specs.Kernel.{Kernel}
+use Rattle.machine.proofs.Common.{watched-all, Kernel, ap, arith, refl, subst, sym, ◌∙◌, ◌≤◌, FileTree, Rises}
 use Rattle.machine.proofs.Booting.{begun-init, few-init, kernel-sound, not-begun, root-few, root-there}
 use Rattle.machine.proofs.FlatLemmas.{frames-of, none-of}
-use Rattle.std.proofs.Common.{ap, arith, refl, subst, sym, ◌∙◌, ◌≤◌}
-use Rattle.tree.specs.Tree.{FileTree}
-use Rattle.unixmodel.specs.Failures.{Rises}
 
 pub new-kernel-requires : goal.new-kernel-requires
 new-kernel-requires g c = record {

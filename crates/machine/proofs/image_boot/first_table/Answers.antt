@@ -1,10 +1,6 @@
 use Rattle.machine.proofs.image_boot.first_table.Goals as goal
 use Rattle.machine.proofs.Booting.{table-init}
-use Rattle.machine.specs.Booted.{bare_of}
-use Rattle.proc.specs.Mask.{all_in}
-use Rattle.proc.specs.Places.{seat_of}
-use Rattle.proc.proofs.Joined.{seat_of-first}
-use Rattle.std.proofs.Common.{ap, arith, ◌∙◌}
+use Rattle.machine.proofs.Common.{bare_of, all_in, seat_of, seat_of-first, ap, arith, ◌∙◌}
 
 pub returns : goal.returns
 returns c =

@@ -1,10 +1,6 @@
-use Rattle.calls.proofs.Served.{ok-told, on-err, tree-lost}
-use Rattle.calls.proofs.Stats.{has-read, reads-keep}
+use Rattle.machine.proofs.Common.{ok-told, on-err, tree-lost, has-read, reads-keep, kernel_of, refl, ◌∙◌, err_from_is_err_and}
 use Rattle.kernel.proofs.Steps.{fail-keeps}
-use Rattle.kernel.specs.View.{kernel_of}
 use Rattle.machine.proofs.Looking.{told-shown}
-use Rattle.std.proofs.Common.{refl, ◌∙◌}
-use Rattle.std.proofs.lemmas.Result.{err_from_is_err_and}
 use Rattle.machine.proofs.inodes.look.Goals as goal
 
 pub invariant_of-kernel : goal.invariant_of-kernel

@@ -1,5 +1,4 @@
-use Rattle.calls.proofs.Stats.{reads-disk, reads-keep}
-use Rattle.kernel.specs.View.{kernel_of}
+use Rattle.machine.proofs.Common.{reads-disk, reads-keep, kernel_of}
 use Rattle.machine.proofs.Looking.{read-shown}
 use Rattle.machine.proofs.inodes.read.Goals as goal
 

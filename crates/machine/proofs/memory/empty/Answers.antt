@@ -1,8 +1,5 @@
 use Rattle.machine.proofs.memory.empty.Goals as goal
-use Rattle.spaces.specs.Spaces.{no_spaces}
-use Rattle.std.proofs.Common.{ap, length, replicate, subst, ◌∙◌, ◌≡◌}
-use Rattle.std.proofs.lemmas.List.{length-replicate}
-use Rattle.std.specs.Prelude.{IfOk}
+use Rattle.machine.proofs.Common.{no_spaces, ap, length, replicate, subst, ◌∙◌, ◌≡◌, length-replicate, IfOk}
 
 pub returns : goal.returns
 returns g c = subst (λ n. IfOk c.new-2.result (λ s. s ≡ no_spaces n)) (ap length c.in_ok-ram.ensures ∙ length-replicate c.args.frames (replicate 4096 0)) c.new-2.ensures

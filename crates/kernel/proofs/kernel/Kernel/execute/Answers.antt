@@ -1,11 +1,6 @@
-use Rattle.std.proofs.Common.{List, Option, ap, subst, sym, ℕ, ◌∙◌}
-use Rattle.kernel.specs.Kernel.{Kernel}
-use Rattle.kernel.specs.Ready.{awaited_in}
-use Rattle.kernel.specs.View.{kernel_of}
-use Rattle.kernel.specs.Watch.{IsWatched}
+use Rattle.kernel.proofs.Common.{List, Option, ap, subst, sym, ℕ, ◌∙◌, Kernel, awaited_in, kernel_of, IsWatched, opens_of}
 use Rattle.kernel.proofs.Steps.{execute-closes}
 use Rattle.kernel.proofs.Wakes.{executes-pipes}
-use Rattle.files.specs.Places.{opens_of}
 use Rattle.kernel.proofs.kernel.Kernel.execute.Goals as goal
 
 pub invariant_of-self : goal.invariant_of-self

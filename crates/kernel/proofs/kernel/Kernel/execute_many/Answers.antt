@@ -1,6 +1,4 @@
-use Rattle.std.proofs.Common.{◌∙◌, ap, refl}
-use Rattle.kernel.specs.Kernel.{Kernel}
-use Rattle.kernel.specs.View.{kernel_of}
+use Rattle.kernel.proofs.Common.{◌∙◌, ap, refl, Kernel, kernel_of}
 use Rattle.kernel.proofs.Advancing.{advances-at, advances-on, advances-watched, trap-at}
 use Rattle.kernel.proofs.kernel.Kernel.execute_many.Goals as goal
 

@@ -1,14 +1,9 @@
-use Rattle.std.proofs.Common.{ap, arith, refl, subst, length, ◌<◌, ◌∙◌, ◌++◌, ◌∷◌, [], ◌≡◌}
+use Rattle.kernel.proofs.Common.{ap, arith, refl, subst, length, ◌<◌, ◌∙◌, ◌++◌, ◌∷◌, [], ◌≡◌, IfOk, all_dropped, gone_nodes, Kernel, kernel_of, Serves}
 use Rattle.std.proofs.lemmas.Int.{to_z-of_z}
 use Rattle.std.specs.Int.{w32}
-use Rattle.std.specs.Prelude.{IfOk}
-use Rattle.kernel.specs.Holding.{all_dropped, gone_nodes}
-use Rattle.kernel.specs.Kernel.{Kernel}
-use Rattle.kernel.specs.View.{kernel_of}
 use Rattle.kernel.proofs.Dropping.{counted}
 use Rattle.kernel.proofs.Finishes.{finish-closes, finish-held, finish-serves, serves-waking}
 use Rattle.kernel.proofs.Wakes.{finish-watched, kernel-waking}
-use Rattle.tree.specs.Tree.{Serves}
 use Rattle.kernel.proofs.kernel.Kernel.finish.Goals as goal
 
 pub let_go-requires-clause-up : goal.let_go-requires-clause-up

@@ -1,6 +1,5 @@
-use Rattle.kernel.specs.View.{kernel_of}
+use Rattle.kernel.proofs.Common.{kernel_of, ◌+◌, ap, ◌∙◌}
 use Rattle.kernel.proofs.Shown.{frames-state}
-use Rattle.std.proofs.Common.{◌+◌, ap, ◌∙◌}
 use Rattle.kernel.proofs.kernel.Kernel.free_frames.Goals as goal
 
 pub returns : goal.returns

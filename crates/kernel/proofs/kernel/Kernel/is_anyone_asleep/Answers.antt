@@ -1,10 +1,5 @@
-use Rattle.std.proofs.Common.{List, Option, ap, ◌∙◌}
-use Rattle.std.specs.List.{list_any}
-use Rattle.kernel.specs.Idle.{is_sleeping_mode}
-use Rattle.kernel.specs.View.{kernel_of}
+use Rattle.kernel.proofs.Common.{List, Option, ap, ◌∙◌, list_any, is_sleeping_mode, kernel_of, Process, holds}
 use Rattle.kernel.proofs.Idle.{asleep-state}
-use Rattle.proc.specs.declared.process.Process.{Process}
-use Rattle.unixmodel.specs.State.{holds}
 use Rattle.kernel.proofs.kernel.Kernel.is_anyone_asleep.Goals as goal
 
 pub returns : goal.returns

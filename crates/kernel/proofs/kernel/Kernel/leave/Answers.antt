@@ -1,6 +1,4 @@
-use Rattle.kernel.specs.Kernel.{Kernel, left_as}
-use Rattle.kernel.specs.View.{Keeps}
-use Rattle.std.proofs.Common.{ap, subst, sym}
+use Rattle.kernel.proofs.Common.{Kernel, left_as, Keeps, ap, subst, sym}
 use Rattle.kernel.proofs.kernel.Kernel.leave.Goals as goal
 
 pub invariant_of-self : goal.invariant_of-self

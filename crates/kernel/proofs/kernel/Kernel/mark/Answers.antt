@@ -1,9 +1,6 @@
 use Rattle.kernel.proofs.Marks.{marks-keeps}
 use Rattle.kernel.proofs.Wakes.{kernel-waking, watched-changed}
-use Rattle.kernel.specs.Kernel.{marked, waking}
-use Rattle.kernel.specs.View.{kernel_of}
-use Rattle.proc.specs.Places.{with_mark}
-use Rattle.std.proofs.Common.{ap, slice_set, true}
+use Rattle.kernel.proofs.Common.{marked, waking, kernel_of, with_mark, ap, slice_set, true}
 use Rattle.kernel.proofs.kernel.Kernel.mark.Goals as goal
 
 pub invariant_of-self : goal.invariant_of-self

@@ -1,6 +1,5 @@
-use Rattle.kernel.specs.View.{kernel_of}
+use Rattle.kernel.proofs.Common.{kernel_of, next-same}
 use Rattle.kernel.proofs.Shown.{pid-shown}
-use Rattle.proc.proofs.Following.{next-same}
 use Rattle.kernel.proofs.kernel.Kernel.next_pid.Goals as goal
 
 pub returns : goal.returns

@@ -1,13 +1,6 @@
-use Rattle.std.proofs.Common.{false, refl, rules, ap, sym, ◌∙◌, ◌≡◌}
-use Rattle.kernel.specs.Kernel.{Kernel, base, memories, rest_of}
-use Rattle.kernel.specs.Ready.{seen}
-use Rattle.kernel.specs.View.{kernel_of}
-use Rattle.kernel.specs.Watch.{awaited_of}
+use Rattle.kernel.proofs.Common.{false, refl, rules, ap, sym, ◌∙◌, ◌≡◌, Kernel, base, memories, rest_of, seen, kernel_of, awaited_of, turn-from_pick, with_table, ready, turn}
 use Rattle.kernel.proofs.Readies.{ready-same, turn-idle}
 use Rattle.kernel.proofs.Watching.{asleep-unready}
-use Rattle.proc.proofs.Turns.{turn-from_pick}
-use Rattle.proc.specs.Whole.{with_table}
-use Rattle.unixmodel.specs.Turn.{ready, turn}
 use Rattle.kernel.proofs.kernel.Kernel.next_turn.Goals as goal
 
 pub next_ready-requires-clause-awake : goal.next_ready-requires-clause-awake

@@ -1,5 +1,4 @@
-use Rattle.std.proofs.Common.{false, ◌∙◌, ◌≡◌}
-use Rattle.kernel.specs.View.{kernel_of}
+use Rattle.kernel.proofs.Common.{false, ◌∙◌, ◌≡◌, kernel_of}
 use Rattle.kernel.proofs.Shown.{count-shown, file-shown, fits-shown}
 use Rattle.kernel.proofs.kernel.Kernel.opened.Goals as goal
 

@@ -1,6 +1,5 @@
-use Rattle.kernel.specs.View.{kernel_of}
+use Rattle.kernel.proofs.Common.{kernel_of, sym, ◌∙◌, refl}
 use Rattle.kernel.proofs.Shown.{found-space, page-shown, shown-none}
-use Rattle.std.proofs.Common.{sym, ◌∙◌, refl}
 use Rattle.kernel.proofs.kernel.Kernel.page.Goals as goal
 
 pub returns-in_err-at : goal.returns-in_err-at

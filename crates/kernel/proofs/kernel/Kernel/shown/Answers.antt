@@ -1,6 +1,5 @@
-use Rattle.kernel.specs.View.{kernel_of}
+use Rattle.kernel.proofs.Common.{kernel_of, refl, sym, ◌∙◌}
 use Rattle.kernel.proofs.Shown.{shown-none, whole-shown}
-use Rattle.std.proofs.Common.{refl, sym, ◌∙◌}
 use Rattle.kernel.proofs.kernel.Kernel.shown.Goals as goal
 
 pub returns-in_err-at : goal.returns-in_err-at

@@ -1,11 +1,6 @@
-use Rattle.std.proofs.Common.{ap, slice_set, subst, sym, true, ◌∙◌}
-use Rattle.std.specs.Option.{option_copied}
+use Rattle.kernel.proofs.Common.{ap, slice_set, subst, sym, true, ◌∙◌, option_copied, Kernel, started, waking, CanRun, kernel_of, slot}
 use Rattle.kernel.proofs.Starts.{takes}
 use Rattle.kernel.proofs.Wakes.{kernel-waking, watched-started}
-use Rattle.kernel.specs.Kernel.{Kernel, started, waking}
-use Rattle.kernel.specs.Sound.{CanRun}
-use Rattle.kernel.specs.View.{kernel_of}
-use Rattle.unixmodel.specs.Files.{slot}
 use Rattle.kernel.proofs.kernel.Kernel.start.Goals as goal
 
 pub invariant_of-self : goal.invariant_of-self

@@ -1,6 +1,5 @@
-use Rattle.kernel.specs.View.{kernel_of}
+use Rattle.kernel.proofs.Common.{kernel_of, sym, ◌∙◌, refl}
 use Rattle.kernel.proofs.Shown.{found-space, shown-none, some-shown, tables-shown}
-use Rattle.std.proofs.Common.{sym, ◌∙◌, refl}
 use Rattle.kernel.proofs.kernel.Kernel.tables.Goals as goal
 
 pub returns-in_err-at-clause-some : goal.returns-in_err-at-clause-some

@@ -1,14 +1,7 @@
-use Rattle.std.proofs.Common.{false, refl, rules, ap, sym, ◌∙◌, ◌≡◌}
-use Rattle.kernel.specs.Kernel.{Kernel, base, memories, rest_of}
-use Rattle.kernel.specs.Ready.{seen}
-use Rattle.kernel.specs.View.{kernel_of}
-use Rattle.kernel.specs.Watch.{awaited_of}
+use Rattle.kernel.proofs.Common.{false, refl, rules, ap, sym, ◌∙◌, ◌≡◌, Kernel, base, memories, rest_of, seen, kernel_of, awaited_of, turn-from_pick, with_table, ready, turn}
 use Rattle.kernel.proofs.Readies.{ready-same, turn-idle}
 use Rattle.kernel.proofs.Wakes.{picked-places, watched-picked}
 use Rattle.kernel.proofs.Watching.{asleep-unready}
-use Rattle.proc.proofs.Turns.{turn-from_pick}
-use Rattle.proc.specs.Whole.{with_table}
-use Rattle.unixmodel.specs.Turn.{ready, turn}
 use Rattle.kernel.proofs.kernel.Kernel.turn.Goals as goal
 
 pub pick-requires-clause-awake : goal.pick-requires-clause-awake

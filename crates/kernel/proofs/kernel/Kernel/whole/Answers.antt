@@ -1,9 +1,5 @@
-use Rattle.std.proofs.Common.{Some, ap, nat_eq, sym, ◌∙◌}
-use Rattle.std.specs.Option.{option_eq}
-use Rattle.kernel.specs.Kernel.{Kernel, loaded}
-use Rattle.kernel.specs.View.{kernel_of}
+use Rattle.kernel.proofs.Common.{Some, ap, nat_eq, sym, ◌∙◌, option_eq, Kernel, loaded, kernel_of, slot}
 use Rattle.kernel.proofs.Changes.{is-active, slot-active, slot-idle}
-use Rattle.unixmodel.specs.Files.{slot}
 use Rattle.kernel.proofs.kernel.Kernel.whole.Goals as goal
 
 pub returns-else-eq-clause-process : goal.returns-else-eq-clause-process

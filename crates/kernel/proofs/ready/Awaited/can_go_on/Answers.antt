@@ -1,9 +1,5 @@
 use Rattle.kernel.proofs.Readies.{children-seen}
-use Rattle.kernel.specs.Ready.{awaited, seen}
-use Rattle.proc.specs.Whole.{with_memory}
-use Rattle.std.proofs.Common.{[], ap, is_some, sym, ◌∙◌}
-use Rattle.unixmodel.specs.declared.call.Call.{Call}
-use Rattle.unixmodel.specs.Turn.{can_go_on}
+use Rattle.kernel.proofs.Common.{awaited, seen, with_memory, [], ap, is_some, sym, ◌∙◌, Call, can_go_on}
 use Rattle.kernel.proofs.ready.Awaited.can_go_on.Goals as goal
 
 pub returns-in-Wait : goal.returns-in-Wait

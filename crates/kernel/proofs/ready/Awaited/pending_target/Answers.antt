@@ -1,9 +1,6 @@
 use Rattle.kernel.proofs.Opens.{slot-file}
 use Rattle.kernel.proofs.Readies.{stands-open}
-use Rattle.files.specs.Meant.{file_of, target_of}
-use Rattle.files.specs.Places.{opens_of}
-use Rattle.std.proofs.Common.{ap, refl, sym, ◌∙◌}
-use Rattle.std.specs.Prelude.{option_map}
+use Rattle.kernel.proofs.Common.{file_of, target_of, opens_of, ap, refl, sym, ◌∙◌, option_map}
 use Rattle.kernel.proofs.ready.Awaited.pending_target.Goals as goal
 
 pub returns-in-Some-file-clause-stands : goal.returns-in-Some-file-clause-stands

@@ -1,6 +1,4 @@
-use Rattle.std.proofs.Common.{◌<◌, arith, length}
-use Rattle.std.proofs.lemmas.List.{take_more}
-use Rattle.std.proofs.lemmas.Result.{err_from_is_err_and}
+use Rattle.machine.proofs.Common.{◌<◌, arith, length, take_more, err_from_is_err_and}
 use Rattle.machine.proofs.RunLemmas.{Rises-later, so_far_at_first, goes_on, stops}
 use Rattle.machine.proofs.machine.Machine.run.Goals as goal
 

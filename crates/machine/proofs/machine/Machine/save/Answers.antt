@@ -1,9 +1,6 @@
-use Rattle.std.proofs.Common.{ap, subst, sym, ◌∙◌}
-use Rattle.std.proofs.lemmas.Result.{err_from_is_err_and}
+use Rattle.machine.proofs.Common.{ap, subst, sym, ◌∙◌, err_from_is_err_and, KeepsTree, FileTree}
 use Rattle.machine.proofs.Saving.{lost-saving, saved}
 use Rattle.machine.proofs.machine.Machine.save.Goals as goal
-use Rattle.names.specs.Rules.{KeepsTree}
-use Rattle.tree.specs.Tree.{FileTree}
 
 pub give_up-requires-clause-up : goal.give_up-requires-clause-up
 give_up-requires-clause-up g c = ap (λ (t : FileTree). t.failed) c.tree_of.ensures ∙ c.self.invariant c.if-self.false

@@ -1,9 +1,6 @@
 use Rattle.machine.proofs.machine.Machine.step.Goals as goal
 use Rattle.machine.proofs.Steps.{does-gives, goes-gives, key-halts, quiet-gives, tick-halts}
-use Rattle.kernel.specs.Kernel.{state_of}
-use Rattle.std.proofs.Common.{◌∙◌}
-use Rattle.unixmodel.specs.declared.event.Event.TheVariants.{Key, Step, Tick}
-use Rattle.unixmodel.specs.Next.{next}
+use Rattle.machine.proofs.Common.{state_of, ◌∙◌, Key, Step, Tick, next}
 
 pub step-done-requires-clause-goes : goal.step-done-requires-clause-goes
 step-done-requires-clause-goes g c = (rw (← c.self.view_is) at (c.is_stopped.ensures.up c.if-is_stopped.false)).goes

@@ -1,14 +1,5 @@
-use Rattle.std.proofs.Common.{ap, arith, le_trans, subst, sym, ◌∙◌, ◌≤◌}
-use Rattle.std.specs.Prelude.{OnOk}
-use Rattle.std.specs.Result.{is_err}
-use Rattle.calls.proofs.Served.{where-err}
-use Rattle.imagerules.specs.Content.{image_of}
-use Rattle.mount.specs.Mounted.{AreLinked}
+use Rattle.machine.proofs.Common.{ap, arith, le_trans, subst, sym, ◌∙◌, ◌≤◌, OnOk, is_err, where-err, image_of, AreLinked, KeepsTree, FileTree, Rises, Denotes}
 use Rattle.names.proofs.Quiet.{leaves, left-linked}
-use Rattle.names.specs.Rules.{KeepsTree}
-use Rattle.tree.specs.Tree.{FileTree}
-use Rattle.unixmodel.specs.Failures.{Rises}
-use Rattle.unixmodel.specs.Image.{Denotes}
 use Rattle.machine.proofs.machine.save.give_up.Goals as goal
 
 pub unmount-disk-requires-clause-rules : goal.unmount-disk-requires-clause-rules

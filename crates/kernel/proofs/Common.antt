@@ -1,0 +1,72 @@
+-- The names that the lemmas of this crate import from elsewhere, passed on from one place. Declares nothing.
+pub use Rattle.std.proofs.Common.{◌%◌, ◌&&◌, ◌+◌, ◌++◌, ◌-◌, ◌<◌, ◌==◌, [], ◌^◌, add-one, ap, append-nil, append_assoc, ap₂, arith, Bool, cond, drop, drop-cons, eq-eqb, Err, false, inl, inr, is_some, le_trans, length, List, map}
+pub use Rattle.std.proofs.Common.{nat_eq, nat_le, nat_lt, negsuc, None, not, Ok, Option, option_map, pos, refl, rules, slice_set, Some, subst, suc, sym, take, true, unwrap_or, zero, ◌||◌, ℕ, ℤ, ◌∙◌, ◌∷◌, ◌≡◌, ◌≢◌, ◌≤◌, ◌⊎◌}
+pub use Rattle.std.proofs.Math.ListN.{get_or-map}
+pub use Rattle.std.proofs.lemmas.Bool.{and_parts, cases_eq, cases_lt, false_from_ne_true, le-leb, le-ltb, lt-leb, lt-ltb, ltb-false, ltb-true, ne_eqb}
+pub use Rattle.std.proofs.lemmas.Bool.{not-false, not-true, not_from_true, or_from, or_left, or_parts, or_right, true_from_ne_false, true≢false}
+pub use Rattle.std.proofs.lemmas.Bool.Decides.{nat_tests}
+pub use Rattle.std.proofs.lemmas.List.{drop_all, get_or-set_other, get_or-set_same, get_or_past, length-append, length-map, length-set, map-set, set-get_or, take_all}
+pub use Rattle.std.proofs.lemmas.List.Sums.{fails_before_first, position_or_len_is, sum_by-cons, sum_by-set}
+pub use Rattle.std.proofs.lemmas.Option.{none-some, same_Some}
+pub use Rattle.std.specs.List.{list_any, position_or_len}
+pub use Rattle.std.specs.Option.{option_copied, option_eq}
+pub use Rattle.std.specs.Prelude.{find, IfNone, IfOk, IfSome, if◌then◌else◌, is_none, IsErr, OnErr, option_and_then, position, Result, slice_get, slice_index, slice_index_or, sum_by}
+pub use Rattle.blockdev.specs.declared.DeviceFault.{DeviceFault}
+pub use Rattle.files.proofs.CountsLemmas.{count-closed, count-shared, count_of, Counts, lt-no, lt-yes, names-clear, names-none, one_at}
+pub use Rattle.files.proofs.PipesLemmas.{has_pipe-clear, IsLeftOf, piped-end, piped-last, piped-node, pipes-clear, pipes-left, pipes-same, without_pipes-left, without_pipes-same}
+pub use Rattle.files.proofs.Whole.{all-set, fewer-from, file-opens, IsLeft, left-closed, left-same, length-opens, opens-closed, opens-closed_last}
+pub use Rattle.files.proofs.Whole.{opens-shared, set_outside, slot-opens, table-closed, table-shared, without_opens-left, without_opens-same}
+pub use Rattle.files.specs.Counts.{names, one_in}
+pub use Rattle.files.specs.Meant.{end_of, file_of, target_of}
+pub use Rattle.files.specs.Pipes.{IsPiped}
+pub use Rattle.files.specs.Places.{closed, count_at, count_in, Counted, fewer, file_at, has_pipe, IsTable, last_in, last_target, more, moved, moved_to, opened, opens_of, shared}
+pub use Rattle.names.proofs.Finding.{slot-within}
+pub use Rattle.proc.proofs.Following.{found-any, next-same}
+pub use Rattle.proc.proofs.Joined.{place_of_pid-with_table, place_where-Some, put-joined, running-with_table, slot-joined, with_zombie-with_table, zombie_child-with_table}
+pub use Rattle.proc.proofs.Turns.{turn-from_pick}
+pub use Rattle.proc.specs.Mask.{is_in}
+unfoldable pub use Rattle.proc.specs.Mask.{all_in}
+pub use Rattle.proc.specs.Places.{changed, changed_at, exited, has_pid, is_zombie_child_of, orphaned, place_where, Places, with_mark, with_mode, woken, zombie_of}
+pub use Rattle.proc.specs.Whole.{with_memory, with_table}
+unfoldable pub use Rattle.proc.specs.Whole.{joined}
+pub use Rattle.proc.specs.declared.process.Process.{Process}
+pub use Rattle.spaces.specs.Spaces.{frames_in, has_space, no_pages, Spaces, SpaceView, taken_frames, view_at}
+pub use Rattle.tree.specs.Holding.{holders, with_hold, without_hold}
+pub use Rattle.tree.specs.Tree.{FileTree, Serves}
+pub use Rattle.unixmodel.specs.Calls.{end_at, quiet}
+pub use Rattle.unixmodel.specs.Console.{Console}
+pub use Rattle.unixmodel.specs.Counts.{is_within, process_frames}
+unfoldable pub use Rattle.unixmodel.specs.Counts.{blocks_of, frames_of}
+unfoldable pub use Rattle.unixmodel.specs.Cycle.{cycle}
+pub use Rattle.unixmodel.specs.Files.{clear, Files, links_of, Node, put, slot, taken}
+pub use Rattle.unixmodel.specs.Meaning.{Computed}
+pub use Rattle.unixmodel.specs.Memory.{Memory}
+pub use Rattle.unixmodel.specs.Numbers.{low}
+pub use Rattle.unixmodel.specs.OpenFiles.{End, is_end, is_node, is_pipe, pipe_room}
+pub use Rattle.unixmodel.specs.OpenFiles.Target.{OnNode, OnPipe}
+pub use Rattle.unixmodel.specs.Outcome.{pending_arg}
+unfoldable pub use Rattle.unixmodel.specs.Outcome.{end_process}
+pub use Rattle.unixmodel.specs.Process.{is_running_mode, is_zombie_mode, with_answer}
+pub use Rattle.unixmodel.specs.Reap.{is_used, kept}
+unfoldable pub use Rattle.unixmodel.specs.Reap.{reap, without_nodes, without_opens, without_pipes}
+pub use Rattle.unixmodel.specs.State.{change_process, has_end, holds, place_of_pid, process_at, put_process, running, State}
+pub use Rattle.unixmodel.specs.Turn.{can_go_on, ready}
+unfoldable pub use Rattle.unixmodel.specs.Turn.{turn}
+pub use Rattle.unixmodel.specs.declared.call.Call.{Call}
+pub use Rattle.unixmodel.specs.declared.call.Call.TheVariants.{Read, Sleep, Wait, Write}
+pub use Rattle.unixmodel.specs.declared.process.Mode.{Mode}
+pub use Rattle.unixmodel.specs.declared.process.Mode.TheVariants.{Ready, Running, Waiting, Zombie}
+pub use Rattle.unixmodel.specs.declared.process.Pending.{Pending}
+pub use Rattle.unixmodel.specs.declared.trap.Trap.{Trap}
+pub use Rattle.kernel.specs.Descriptors.{after_close, all_closed, all_shared, closed_in, descriptors_in, IsCounted, named_by, names_in, shared_in, standing}
+pub use Rattle.kernel.specs.Holding.{all_dropped, AreHeld, dropped, files_on, FitsNode, gone_nodes, home_in, homes_at, IsFolder, IsInUse, last_node, listed, node_in, node_of, node_on}
+pub use Rattle.kernel.specs.Idle.{is_anyone_asleep, is_idle, is_sleeping, is_sleeping_mode}
+pub use Rattle.kernel.specs.Kernel.{answered, base, blocked, computed, counting, descriptors_at, ended, halted_by, idle, Kernel, left_as, left_home, lives}
+pub use Rattle.kernel.specs.Kernel.{loaded, marked, memories, memory_in, on_hart, picked, Rest, rest_of, started, started_as, state_of, state_with, waking}
+pub use Rattle.kernel.specs.Ready.{awaited, awaited_in, has_slept, seen, Stands}
+pub use Rattle.kernel.specs.Sound.{CanEnd, CanEndIn, CanRun, file_named, is_at, is_awaited, is_on_pipe, IsAlive, IsAwaiting, IsForBytes, IsForPipe}
+pub use Rattle.kernel.specs.Sound.{IsFresh, IsKernel, IsLive, IsMode, IsOpened, IsOpenFile, IsPending, IsPlace, IsPlaced, WaitsAs, WaitsWell}
+pub use Rattle.kernel.specs.View.{Keeps, kernel_of}
+pub use Rattle.kernel.specs.Watch.{awaited_of, IsAsleep, IsAsleepAs, IsWatched, kind_of, waits_as, waits_in, waits_on, Watches, woken_by}
+unfoldable pub use Rattle.kernel.specs.Watch.{roused}
+pub use Rattle.kernel.specs.declared.channels.Channel.TheVariants.{Bytes, Children, Ticks}
