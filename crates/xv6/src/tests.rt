@@ -509,12 +509,13 @@ fn reads_files_in_order(rt: HostRuntime) {
     }
 }
 
-// Takes one byte at a time, so many of them, and then fails; a flush may fail too.
+// Takes one byte at a time, so many of them, and then fails; a flush may fail too. It notes how many bytes it has at each that doesn't.
 #[derive(Drop)]
 struct Narrow {
     taken: Vec<u8>,
     room: usize,
     flushes: bool,
+    flushed: Vec<usize>,
 }
 
 impl Write for Narrow {
@@ -529,10 +530,11 @@ impl Write for Narrow {
     }
 
     fn flush(&mut self) -> io::Result<()> {
-        if self.flushes {
-            return Ok(());
+        if !self.flushes {
+            return Err(io::Error::from(io::ErrorKind::StorageFull));
         }
-        Err(io::Error::from(io::ErrorKind::StorageFull))
+        self.flushed.push(self.taken.len())?;
+        Ok(())
     }
 }
 
@@ -550,6 +552,7 @@ fn output_of(alloc: Global, room: usize, flushes: bool) -> Narrow {
         taken: Vec::new(alloc),
         room,
         flushes,
+        flushed: Vec::new(alloc),
     }
 }
 
@@ -574,5 +577,47 @@ fn halts_where_the_console_fails(rt: HostRuntime) {
     let mut files = files_of(rt.alloc(), program, b"step 9").expect(&rt, "memory");
     for row in &CONSOLES {
         expect_narrow(&rt, &mut files, &flat(256, false), *row);
+    }
+}
+
+// Writes one byte after the other, for ever: of its steps, the first of which is its turn, every other one writes a byte from the sixth on.
+const WRITES: &[u32] = &[
+    0x0010_0513, // addi a0, zero, 1
+    0x0000_0593, // addi a1, zero, 0
+    0x0010_0613, // addi a2, zero, 1
+    0x0100_0893, // addi a7, zero, 16
+    0x0000_0073, // ecall                # write answers 1
+    0xffdf_f06f, // jal  zero, -4
+];
+
+// A script, and how many bytes there are each time that the output is written out: before more of a command's events, where there would
+// be more than 65536 since the last time, and at the end.
+static BATCHES: [(&str, &[usize]); 8] = [
+    ("", &[0]),
+    ("step 65536", &[32766]),
+    ("step 65538", &[32766, 32767]),
+    ("step 131074", &[32766, 65534, 65535]),
+    ("tick 65536\nstep 1", &[0, 0]),
+    ("step 6\nstep 65536", &[1, 32769]),
+    ("step 65000\nstep 536\ntick 1", &[32766, 32766]),
+    (
+        "step 30000\nstep 30000\nstep 30000\nstep 30000\nstep 30000",
+        &[29998, 59998, 74998],
+    ),
+];
+
+#[test]
+fn writes_out_as_it_runs(rt: HostRuntime) {
+    for (script, flushed) in &BATCHES {
+        let program = program_of(rt.alloc(), WRITES).expect(&rt, "memory");
+        let mut files = files_of(rt.alloc(), program, script.as_bytes()).expect(&rt, "memory");
+        let mut out = output_of(rt.alloc(), usize::MAX, true);
+        let mut err = Vec::new(rt.alloc());
+        let job = flat(256, false);
+        let status = perform(rt.alloc(), &job, &mut files, &mut out, &mut err);
+        assert!(rt;
+            status == 0 && out.flushed.as_slice() == *flushed,
+            "{script}"
+        );
     }
 }

@@ -4,7 +4,7 @@ use crate::tests::program_files::ASM;
 use crate::tests::telling::expect_explained;
 use crate::tests::{DEAD, Files, UNTOLD, expect, expect_narrow, files_of};
 use commands::perform::perform;
-use commands::{Job, Run};
+use commands::{Job, Play, Run, Telling};
 use std::mem::swap;
 use std::num::NonZeroU64;
 use std::process::Abort;
@@ -47,8 +47,8 @@ fn run(frames: u32, tlb: bool, save: Option<&'static str>) -> Job<'static> {
 }
 
 // The access of this number fails.
-fn run_failing(fail: u64, frames: u32, tlb: bool, save: Option<&'static str>) -> Job<'static> {
-    Job::Run(Run {
+fn failing(fail: u64, frames: u32, tlb: bool, save: Option<&'static str>) -> Run<'static> {
+    Run {
         frames,
         tlb,
         fail: NonZeroU64::new(fail),
@@ -56,6 +56,18 @@ fn run_failing(fail: u64, frames: u32, tlb: bool, save: Option<&'static str>) ->
         telling: UNTOLD,
         image: "image",
         script: "script",
+    }
+}
+
+fn run_failing(fail: u64, frames: u32, tlb: bool, save: Option<&'static str>) -> Job<'static> {
+    Job::Run(failing(fail, frames, tlb, save))
+}
+
+// The same, as a play; of number 0 none fails.
+fn play_failing(fail: u64, tlb: bool, save: Option<&'static str>) -> Job<'static> {
+    Job::Play(Play {
+        run: failing(fail, 256, tlb, save),
+        script: None,
     })
 }
 
@@ -191,6 +203,52 @@ fn tells_an_image_that_cannot_be_written(rt: HostRuntime) {
     put_text(&rt, &mut files, b"step 9");
     let told = "halt 1 InitEnded 0\ncannot write none\n";
     expect(&rt, &mut files, &job, "", told, 1);
+    expect(
+        &rt,
+        &mut files,
+        &play_failing(0, false, Some("none")),
+        "",
+        told,
+        1,
+    );
+}
+
+// A play that waited in vain isn't saved, so nothing is told of an image that can't be written.
+#[test]
+fn saves_no_play_that_waited_in_vain(rt: HostRuntime) {
+    let mut files = with_image(&rt, HELLO, INIT, 32);
+    put_text(&rt, &mut files, b"until idle 3");
+    let job = play_failing(0, false, Some("none"));
+    expect(
+        &rt,
+        &mut files,
+        &job,
+        "",
+        "script:1: not reached in 3 steps\n",
+        1,
+    );
+}
+
+// A run on which somebody looks on fails and is saved as any other.
+#[test]
+fn watches_a_run_that_fails_or_is_saved(rt: HostRuntime) {
+    let mut files = with_image(&rt, HELLO, INIT, 32);
+    put_text(&rt, &mut files, b"step 9");
+    let telling = Telling {
+        registers: NonZeroU64::new(7),
+        ..UNTOLD
+    };
+    let job = Job::Run(Run {
+        telling,
+        ..failing(1, 64, false, None)
+    });
+    expect(&rt, &mut files, &job, "", "fault 3 Device\n", 1);
+    let job = Job::Run(Run {
+        telling,
+        ..failing(0, 64, false, Some("none"))
+    });
+    let told = "pid 7: no process\nhalt 1 InitEnded 0\ncannot write none\n";
+    expect(&rt, &mut files, &job, "", told, 1);
 }
 
 // How many bytes the console takes, whether it can be flushed, which bytes it took, standard error and status. Where it
@@ -232,7 +290,7 @@ fn failure_of(rt: &(impl Abort + AllocGlobal), files: &mut Files, job: &Job<'_>)
     failure.expect(rt, "a line of a failure")
 }
 
-// How many accesses fail the boot, and how many the run or the save.
+// How many accesses fail the boot, and how many the run or the save. A play of the script does the same at each.
 fn failures_of(rt: &(impl Abort + AllocGlobal), tlb: bool, save: Option<&'static str>) -> [u64; 2] {
     let mut files = with_image(rt, MAKES, INIT, 32);
     put_text(rt, &mut files, b"step 15");
@@ -246,6 +304,8 @@ fn failures_of(rt: &(impl Abort + AllocGlobal), tlb: bool, save: Option<&'static
             Some(count) => *count = n,
             None => return counts,
         }
+        let played = failure_of(rt, &mut files, &play_failing(n, tlb, save));
+        assert!(rt; played == failure, "access {n} of a play");
     }
     assert!(rt; false, "it never ends well");
     counts

@@ -5,18 +5,21 @@ use crate::tests::telling::expect_explained;
 use crate::tests::{UNTOLD, expect_told};
 use commands::perform::perform;
 use commands::{Job, Lines, Part, Run, Trace};
+use std::num::NonZeroU64;
 use std::process::Abort;
 
+const RUN: Run<'static> = Run {
+    frames: 64,
+    tlb: false,
+    fail: None,
+    save: None,
+    telling: UNTOLD,
+    image: "image",
+    script: "record",
+};
+
 const ALL: Trace<'static> = Trace {
-    run: Run {
-        frames: 64,
-        tlb: false,
-        fail: None,
-        save: None,
-        telling: UNTOLD,
-        image: "image",
-        script: "record",
-    },
+    run: RUN,
     part: Part {
         pid: None,
         calls: None,
@@ -46,7 +49,11 @@ const ENDED: &str = "halt 1 InitEnded 0\n";
 
 const LOST: &str = "halt 1 InitEnded 0\ncannot write record\n";
 
-const TRACED: [Row; 5] = [
+const UNSAVED: &str = "halt 1 InitEnded 0\ncannot write none\n";
+
+const UNBOOTED: &str = "fault 3 Device\n";
+
+const TRACED: [Row; 7] = [
     (
         Trace {
             text: Some("record"),
@@ -97,6 +104,34 @@ const TRACED: [Row; 5] = [
         LOST,
         "",
     ),
+    (
+        Trace {
+            run: Run {
+                save: Some("none"),
+                ..RUN
+            },
+            text: Some("record"),
+            ..ALL
+        },
+        1000,
+        false,
+        UNSAVED,
+        TEXT,
+    ),
+    (
+        Trace {
+            run: Run {
+                fail: Some(NonZeroU64::MIN),
+                ..RUN
+            },
+            text: Some("record"),
+            ..ALL
+        },
+        1000,
+        false,
+        UNBOOTED,
+        "",
+    ),
 ];
 
 // Traces a run of nine steps.
@@ -115,7 +150,7 @@ fn expect_traced(rt: &(impl Abort + AllocGlobal), image: &[u8], row: &Row) {
     );
     let text = if has_text { TEXT } else { "" };
     let wanted = format!(in rt.alloc(); "{text}{told}").expect(rt, "memory");
-    let status = u8::from(told == LOST);
+    let status = u8::from(told != ENDED);
     let seen = (out.as_slice(), err.as_slice(), ended);
     expect_told(rt, seen, "", wanted.as_str(), status);
     assert!(rt; desk.record.as_slice().ends_with(end.as_bytes()));
