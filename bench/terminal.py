@@ -35,7 +35,7 @@ there: .ascii "there\\n"
 """
 
 # Works for some seconds, and then says so.
-SPIN = """li s0, 50000000
+SPIN = """li s0, 400000000
 again: addi s0, s0, -1
 bne s0, zero, again
 li a0, 1
