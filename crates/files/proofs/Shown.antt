@@ -5,7 +5,11 @@ use Rattle.arrayvec.proofs.ArrayVecLemmas.{items-with_items}
 use Rattle.files.specs.declared.table.Slot.{Slot}
 use Rattle.files.proofs.Mapped.{any-told, free_slot-told, length-told, set-told, slot-told}
 use Rattle.files.specs.Meant.{file_of, is_slot_end, is_slot_pipe}
-use Rattle.files.specs.Places.{Counted, IsTable, counted_of, has_end, has_pipe, opens_of}
+use Rattle.files.specs.declared.file.Target.{Target}
+use Rattle.files.specs.declared.table.Files.TheInside.{Inside}
+use Rattle.files.specs.Places.{Counted, IsTable, counted_of, has_end, has_pipe, moved, moved_in, moved_to, opens_of}
+use Rattle.files.specs.Sound.{IsSound}
+use Rattle.files.proofs.Whole.{all-set}
 use Rattle.unixmodel.specs.Files.{free_slot, slot}
 use Rattle.unixmodel.specs.OpenFiles.{End, OpenFile, is_end, is_pipe}
 use Rattle.unixmodel.specs.State.{holds}
@@ -39,6 +43,44 @@ refilled xs ys i o same = items-with_items (record { items = xs }) (slice_set ys
 
 pub shown-refilled : (xs ys : List (Option Slot)) (i : ℕ) (o : Option Slot) → ys ≡ xs → shown (refill (length xs) xs (slice_set ys i o)) ≡ slice_set (shown xs) i (option_map counted_of o)
 shown-refilled xs ys i o same = ap shown (refilled xs ys i o same) ∙ set-told counted_of xs i o
+
+-- ---- what an open file is open on, written in its place
+
+-- an open file that is open on something else
+abbrev pub retargeted : Slot → Target → Slot
+retargeted s t = record s { file = record s.file { target = t } }
+
+-- a table one place of which was lent
+abbrev lent : List (Option Slot) → List (Option Slot) → ℕ → Option Slot → Inside
+lent xs ys i o = record { slots = record { items = refill (length xs) xs (slice_set ys i o) } }
+
+sound-lent : (xs ys : List (Option Slot)) (i : ℕ) (o : Option Slot) → ys ≡ xs → length xs ≡ 100 → AreNamed xs → ((s : Slot) → o ≡ Some s → 0 < s.references) → IsSound (lent xs ys i o)
+sound-lent xs ys i o same all named here =
+    let is = refilled xs ys i o same in
+    record {
+      all = ap length is ∙ length-set xs i o ∙ all;
+      named = subst (λ l. AreNamed l) (sym is) (all-set (λ k x. (s : Slot) → x ≡ Some s → 0 < s.references) xs i o here named);
+    }
+
+pub sound-kept : (xs ys : List (Option Slot)) (i : ℕ) → ys ≡ xs → length xs ≡ 100 → AreNamed xs → IsSound (lent xs ys i (slot ys i))
+sound-kept xs ys i same all named = sound-lent xs ys i (slot ys i) same all named (λ s at. named i s (sym (ap (λ l. slot l i) same) ∙ at))
+
+pub sound-moved : (xs ys : List (Option Slot)) (i : ℕ) (s : Slot) (t : Target) → ys ≡ xs → slot ys i ≡ Some s → length xs ≡ 100 → AreNamed xs → IsSound (lent xs ys i (Some (retargeted s t)))
+sound-moved xs ys i s t same at all named =
+    let some = named i s (sym (ap (λ l. slot l i) same) ∙ at) in
+    sound-lent xs ys i (Some (retargeted s t)) same all named (λ u is. let count : s.references ≡ u.references = cc in omega (arith, some, count))
+
+pub kept-shown : (xs ys : List (Option Slot)) (i offset : ℕ) → ys ≡ xs → slot ys i ≡ None → shown (refill (length xs) xs (slice_set ys i (slot ys i))) ≡ moved (shown xs) i offset
+kept-shown xs ys i offset same none =
+    shown-refilled xs ys i (slot ys i) same
+    ∙ ap (λ o. slice_set (shown xs) i (option_map counted_of o)) none
+    ∙ ap (λ o. slice_set (shown xs) i (option_map (moved_in offset) o)) (sym (slot-told counted_of xs i ∙ ap (option_map counted_of) (sym (ap (λ l. slot l i) same) ∙ none)))
+
+pub moved-shown : (xs ys : List (Option Slot)) (i offset : ℕ) (s : Slot) (t : Target) → ys ≡ xs → slot ys i ≡ Some s → t ≡ moved_to offset s.file.target → shown (refill (length xs) xs (slice_set ys i (Some (retargeted s t)))) ≡ moved (shown xs) i offset
+moved-shown xs ys i offset s t same at is =
+    shown-refilled xs ys i (Some (retargeted s t)) same
+    ∙ ap (λ u. slice_set (shown xs) i (Some (counted_of (retargeted s u)))) is
+    ∙ ap (λ o. slice_set (shown xs) i (option_map (moved_in offset) o)) (sym (slot-told counted_of xs i ∙ ap (option_map counted_of) (sym (ap (λ l. slot l i) same) ∙ at)))
 
 -- ---- the whole table
 

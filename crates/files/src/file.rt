@@ -45,13 +45,12 @@ impl Target {
         }
     }
 
-    // The same, where it is a file or a directory from another offset on.
-    pub(crate) fn moved(self, offset: u32) -> Target
-        ensures { result ≡ moved_to offset self }
+    // What is a file or a directory goes on from another offset.
+    pub(crate) fn move_to(&mut self, offset: u32)
+        ensures { self.new ≡ moved_to offset self.old }
     {
-        match self {
-            Target::File { number, .. } => Target::File { number, offset },
-            other => other,
+        if let Target::File { offset: at, .. } = self {
+            *at = offset;
         }
     }
 

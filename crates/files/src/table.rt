@@ -259,18 +259,12 @@ impl Files {
     pub fn set_offset(&mut self, id: usize, offset: u32)
         ensures { self.new ≡ moved self.old id offset }
     {
-        if let Some(slot) = self.slot(id) {
-            let target = slot.file.target.moved(offset);
-            self.set(
-                id,
-                Some(Slot {
-                    file: OpenFile {
-                        target,
-                        ..slot.file
-                    },
-                    ..slot
-                }),
-            );
+        if id >= self.slots.len() {
+            return;
+        }
+        match &mut self.slots[id] {
+            Some(slot) => slot.file.target.move_to(offset),
+            None => {}
         }
     }
 
