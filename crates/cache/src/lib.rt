@@ -6,7 +6,7 @@
 //! device at once.
 #![tactic(auto)]
 
-ghost use Rattle.std.specs.Prelude.{◌≡◌, ℕ, ◌+◌, ◌<◌, ◌≤◌, List, length, IfOk, slice_set};
+ghost use Rattle.std.specs.Prelude.{◌≡◌, ℕ, ◌+◌, ◌<◌, ◌≤◌, List, length, IfOk, IfSome, slice_set};
 ghost use Rattle.blockdev.specs.Blocks.{AreBlocks, block_at};
 ghost use Rattle.blockdev.specs.Splice.{part, splice};
 ghost use Rattle.cache.specs.Steps.{AsBefore, Reads, Steps};
@@ -113,6 +113,18 @@ impl<D: BlockDev, A: Allocator + Clone> Cache<D, A> {
             { slot },
         );
         Ok(bytes)
+    }
+
+    /// The bytes of block `n`, where it is held and was used of late: nothing is copied then.
+    #[inline]
+    pub fn recent(&self, n: usize) -> Option<&Block>
+        requires { n < length self.now.blocks }
+        ensures { IfSome result (λ block. block.now ≡ block_at self.now.blocks n) }
+    {
+        match recent(&self.held, n) {
+            Some(slot) => Some(&slot.bytes),
+            None => None,
+        }
     }
 
     /// Reads bytes of block `n` from the place `at` on, as many as `out` has. Of a held block nothing else is copied.
