@@ -1,3 +1,4 @@
+pub mod Finding
 pub mod OnDisk
 pub mod Reading
 pub mod Writing

@@ -1,5 +1,5 @@
 use Rattle.inode.proofs.Common.{◌≡◌, ◌-◌, ◌≤◌, HasRead, Goes}
-use Rattle.inode.proofs.read.read_at.Given as goal
+use Rattle.inode.proofs.read.read_blocks.Given as goal
 
 abbrev pub invariant-chunk : goal.invariant-chunk
 invariant-chunk g l = record {
