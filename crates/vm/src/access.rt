@@ -9,7 +9,7 @@ ghost use Rattle.unixmodel.specs.Memory.{permits, reach, can_write, read_bytes, 
 ghost use Rattle.vm.specs.Dense.{marks_at};
 ghost use Rattle.vm.specs.Leaf.{rights_from, is_open, mapped_as, right_marks};
 ghost use Rattle.vm.specs.Reach.{run_of, piece_at, short_string, string_in};
-ghost use Rattle.vm.specs.Space.{pages_in, IsMapped, IsOnce, IsSpace, Stands, entries_of, mapping_of, page_frame, pages_of, Reframes, StaysOpen, stored};
+ghost use Rattle.vm.specs.Space.{pages_in, max_size, IsMapped, IsOnce, IsSpace, Stands, entries_of, mapping_of, page_frame, pages_of, Reframes, StaysOpen, stored};
 
 use crate::{Marks, Perm, RIGHT, SHARED, Space, VmFault, pages_in};
 use bitflags::Flags;
@@ -78,6 +78,7 @@ impl Space {
     }
 
     /// The frame and the marks of a page; `None` past the last page.
+    #[inline(always)]
     pub fn find_page(&self, ram: &Ram, page: u64) -> Option<(FrameNo, Marks)>
         requires { IsMapped ram.now self.now }
         ensures found { option_map (λ x. mapped_as x.0.0 x.1) result ≡ slice_get (mapping_of ram.now self.now) page }
@@ -107,6 +108,7 @@ impl Space {
     }
 
     // Whether there is a page that permits an access.
+    #[inline(always)]
     fn allows(&self, ram: &Ram, page: u64, access: Access) -> bool
         requires { IsMapped ram.now self.now }
         ensures { result ≡ nat_le 1 (run_of access (pages_of ram.now self.now) page) }
@@ -134,6 +136,7 @@ impl Space {
     }
 
     // Whether `len` bytes from an address on can be accessed.
+    #[inline(always)]
     fn reaches(&self, ram: &Ram, address: u64, len: u64, access: Access) -> bool
         requires { IsMapped ram.now self.now }
         ensures { result ≡ nat_le len (length (reach access (pages_of ram.now self.now) address)) }
@@ -149,11 +152,25 @@ impl Space {
         if end <= 4096 {
             return self.allows(ram, address / 4096, access);
         }
+        self.reaches_pages(ram, address, len, access)
+    }
+
+    // The same page by page. It is out of line, so that the way of few bytes is short.
+    #[inline(never)]
+    fn reaches_pages(&self, ram: &Ram, address: u64, len: u64, access: Access) -> bool
+        requires mapped { IsMapped ram.now self.now }
+        requires some { 0 < len }
+        requires most { len ≤ max_size }
+        ensures { result ≡ nat_le len (length (reach access (pages_of ram.now self.now) address)) }
+    {
+        ram.frames_are_whole();
+        let end = address % 4096 + len;
         let run = self.run(ram, address / 4096, end.div_ceil(4096), access);
         end <= 4096 * run
     }
 
     /// Whether a program may read `len` bytes from an address on. It looks at each page once.
+    #[inline(always)]
     pub fn can_read(&self, ram: &Ram, address: u64, len: u64) -> bool
         requires { IsMapped ram.now self.now }
         ensures reach { result ≡ nat_le len (length (reach Load (pages_of ram.now self.now) address)) }
@@ -163,6 +180,7 @@ impl Space {
     }
 
     /// Whether a program may write `len` bytes from an address on. It looks at each page once.
+    #[inline(always)]
     pub fn can_write(&self, ram: &Ram, address: u64, len: u64) -> bool
         requires { IsMapped ram.now self.now }
         ensures { result ≡ can_write (pages_of ram.now self.now) address len }

@@ -1,5 +1,5 @@
 use Rattle.vm.proofs.Common.{arith, ◌∙◌, pages_in, pages_of}
-use Rattle.vm.proofs.ReachLemmas.{test-long, test-page, test-reach}
+use Rattle.vm.proofs.ReachLemmas.{test-long, test-page}
 use Rattle.vm.proofs.SizedLemmas.{pages-sized}
 use Rattle.vm.proofs.PageLemmas.{length-pages}
 use Rattle.vm.proofs.Space.reaches.Goals as goal
@@ -17,10 +17,3 @@ returns-then-end-le4096 c =
     let m = c.args.ram.now in
     let s = c.args.self.now in
     c.allows.ensures ∙ test-page c.args.access (pages_of m s) c.args.address c.args.len (pages-sized m s.root.0 s.trap.0 (pages_in s.size) c.frames_are_whole.ensures.memory c.requires) (omega arith) (omega arith)
-
-pub returns : goal.returns
-returns c =
-    let m = c.args.ram.now in
-    let r = c.args.self.now.root.0 in
-    let n = pages_in c.args.self.now.size in
-    test-reach c.args.access (pages_of m c.args.self.now) c.args.address c.args.len _ _ (pages-sized m r c.args.self.now.trap.0 n c.frames_are_whole.ensures.memory c.requires) (omega arith) (omega arith) c.run-run.ensures
