@@ -134,6 +134,7 @@ impl Hart {
     }
 
     /// Does at most so many instructions, up to the first that isn't done: how many were done, and the trap of that one.
+    #[inline(always)]
     pub fn run<T: Translate>(
         &mut self,
         ram: &mut Ram,

@@ -1,5 +1,5 @@
 -- Many instructions of the process of a place.
-use Rattle.spaces.proofs.Common.{◌≡◌, ◌≤◌, ◌+◌, ◌-◌, ◌%◌, ◌/◌, ℕ, zero, suc, true, List, [], ◌∷◌, length, take, drop, Option, Some, None, Ok, Err, refl, sym, ap, subst, ◌∙◌, arith}
+use Rattle.spaces.proofs.Common.{◌≡◌, ◌≤◌, ◌+◌, ◌-◌, ◌%◌, ◌/◌, ℕ, zero, suc, true, List, [], ◌∷◌, length, take, drop, ◌<◌, Option, Some, None, Ok, Err, refl, sym, ap, subst, ◌∙◌, arith}
 use Rattle.spaces.proofs.Common.{take-append-drop, length-append, IfNone, IfSome, is_some, unwrap_or, Advances, Does, Spaces, SpaceView, Traps, computed, frames_in, no_pages}
 use Rattle.spaces.proofs.Common.{taken_frames, view_at, page_frames, cycle, Trap, slot, Change, Computed, Bytes, Nothing, Memory, Page, write_bytes, write_from, memory_after}
 use Rattle.spaces.proofs.SpacesLemmas.{taken-placed, within}
@@ -108,3 +108,16 @@ all-done (Some t) done left count none all few = absurd (cc)
 pub told-of : (o : Option Trap) (t : Trap) (P : Trap → Type 0) → o ≡ Some t → IfSome o P → P t
 told-of None t P is told = absurd (cc)
 told-of (Some u) t P is told = let same : u ≡ t = cc in subst P same told
+
+pub told-none : (o : Option Trap) (P : Type 0) → o ≡ None → IfNone o P → P
+told-none None P is told = told
+told-none (Some t) P is told = absurd (cc)
+
+-- what the rest of a run told of its end, told of all
+pub all-behind : (o : Option Trap) (done more count : ℕ) → done ≤ count → IfNone o (more ≡ count - done) → IfNone o (done + more ≡ count)
+all-behind None done more count within all = omega (arith, within, all)
+all-behind (Some t) done more count within all = tt
+
+pub trap-behind : (o : Option Trap) (done more count : ℕ) (a b : Option ℕ) (P : Trap → ℕ → Type 0) → b ≡ a → IfSome o (λ t. (more < count - done) × IfSome b (P t)) → IfSome o (λ t. (done + more < count) × IfSome a (P t))
+trap-behind None done more count a b P same traps = tt
+trap-behind (Some t) done more count a b P same traps = let few = traps.0 in (omega (arith, few), subst (λ o. IfSome o (P t)) same traps.1)

@@ -11,10 +11,10 @@ use sv39::Translate;
 use unixmodel::trap::{Cause, Trap};
 
 // Whether a store faulted.
-fn is_store_fault(trap: Trap) -> bool
-    ensures { OnFalse result (trap.cause ≡ StorePageFault → ⊥) }
+fn is_store_fault(cause: Cause) -> bool
+    ensures { OnFalse result (cause ≡ StorePageFault → ⊥) }
 {
-    match trap.cause {
+    match cause {
         Cause::StorePageFault => true,
         _ => false,
     }
@@ -23,6 +23,7 @@ fn is_store_fault(trap: Trap) -> bool
 impl<T: Translate> Spaces<T> {
     // Does at most so many instructions in the memory of the active place, up to the first that its pages don't let through: how many,
     // and what that one traps into. A store that faulted may be one to a closed page, which `execute` does.
+    #[inline(always)]
     fn run(&mut self, count: u32) -> (u32, Option<Trap>)
         requires { is_some self.old.active ≡ true }
         ensures done { IfSome self.old.active (λ at. Advances result.0 self.old at self.new) }
@@ -54,7 +55,30 @@ impl<T: Translate> Spaces<T> {
 
     /// Does so many instructions in the memory of the active place, up to the first that isn't done: how many were done, and why
     /// the next one isn't. Each is done as `execute` does it.
+    #[inline(always)]
     pub fn execute_many(&mut self, count: u32) -> (u32, Option<Trap>)
+        requires { is_some self.old.active ≡ true }
+        ensures done { IfSome self.old.active (λ at. Advances result.0 self.old at self.new) }
+        ensures within { result.0 ≤ count }
+        ensures all { IfNone result.1 (result.0 ≡ count) }
+        ensures trap { IfSome result.1 (λ t. (result.0 < count) ×
+            IfSome self.old.active (λ at. cycle self.new.registers self.new.pc (view_at self.new at).memory ≡ Err t)) }
+    {
+        let (done, stopped) = self.run(count);
+        let Some(Trap { cause, address }) = stopped else {
+            return (count, None);
+        };
+        if is_store_fault(cause) {
+            let (more, stopped) = self.execute_behind(count - done);
+            return (done + more, stopped);
+        }
+        (done, Some(Trap { cause, address }))
+    }
+
+    // The same, of which the first may be a store to a closed page. It is out of line: few instructions need it, and the way from
+    // a call to the next is short.
+    #[inline(never)]
+    fn execute_behind(&mut self, count: u32) -> (u32, Option<Trap>)
         requires { is_some self.old.active ≡ true }
         ensures done { IfSome self.old.active (λ at. Advances result.0 self.old at self.new) }
         ensures within { result.0 ≤ count }
@@ -64,19 +88,18 @@ impl<T: Translate> Spaces<T> {
     {
         let mut left = count;
         while left > 0 {
+            if let Some(trap) = self.execute_one() {
+                return (count - left, Some(trap));
+            }
+            left -= 1;
             let (done, stopped) = self.run(left);
             left -= done;
             let Some(trap) = stopped else {
                 return (count, None);
             };
-            if !is_store_fault(trap) {
+            if !is_store_fault(trap.cause) {
                 return (count - left, Some(trap));
             }
-            // a store to a closed page is done here, and the others go on
-            if let Some(trap) = self.execute_one() {
-                return (count - left, Some(trap));
-            }
-            left -= 1;
         }
         (count, None)
     }

@@ -367,6 +367,7 @@ impl<T: Translate> Spaces<T> {
     }
 
     /// Whether the program of a place may read so many bytes.
+    #[inline(always)]
     pub fn can_read(&self, at: usize, address: u64, count: u64) -> bool
         requires { has_space self.now at ≡ true }
         ensures reach { result ≡ nat_le count (length (reach Load (view_at self.now at).memory address)) }
@@ -377,6 +378,7 @@ impl<T: Translate> Spaces<T> {
     }
 
     /// Whether the program of a place may write so many bytes.
+    #[inline(always)]
     pub fn can_write(&self, at: usize, address: u64, count: u64) -> bool
         requires { has_space self.now at ≡ true }
         ensures { result ≡ can_write (view_at self.now at).memory address count }

@@ -1,6 +1,6 @@
 use Rattle.std.proofs.Common.{◌≡◌, ◌≤◌, ◌-◌}
 use Rattle.spaces.proofs.Advancing.{AdvancesTo}
-use Rattle.spaces.proofs.Spaces.execute_many.Given as goal
+use Rattle.spaces.proofs.Spaces.execute_behind.Given as goal
 
 -- so many instructions are done so far
 abbrev pub invariant-loop-left : goal.invariant-loop-left

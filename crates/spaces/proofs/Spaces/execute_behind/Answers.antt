@@ -1,0 +1,71 @@
+use Rattle.spaces.proofs.Common.{◌≡◌, ◌<◌, ◌≤◌, ◌-◌, ◌+◌, ◌∙◌, Err, arith, refl, subst, IfSome, view_at, cycle, StorePageFault}
+use Rattle.spaces.proofs.Advancing.{AdvancesTo, advances-on, all-done, begins, goes-on, stops-at, told-of}
+use Rattle.spaces.proofs.Spaces.execute_behind.Given as given
+use Rattle.spaces.proofs.Spaces.execute_behind.Goals as goal
+use Rattle.spaces.proofs.Spaces.execute_behind.Goals.{After-run-done}
+
+-- behind the first one
+one : (g : given.Over) (c : After-run-done g) → (c.execute_one.new.self.active ≡ c.args.self.now.active) × AdvancesTo (c.args.count - c.loop-left.left + 1) c.args.self.now.active c.args.self.now c.execute_one.new.self
+one g c =
+    let before = c.loop-left.invariant in
+    goes-on (c.args.count - c.loop-left.left) c.args.self.now c.loop-left.self c.execute_one.new.self c.args.self.now.active c.execute_one.result c.requires before.active before.advances c.in_default.is c.execute_one.ensures.done
+
+-- behind a run
+ran : (g : given.Over) (c : After-run-done g) → (c.run-done.new.self.active ≡ c.args.self.now.active) × AdvancesTo (c.args.count - (c.loop-left.left - 1 - c.run-done.result.0)) c.args.self.now.active c.args.self.now c.run-done.new.self
+ran g c =
+    let now = one g c in
+    let sum : c.args.count - c.loop-left.left + 1 + c.run-done.result.0 ≡ c.args.count - (c.loop-left.left - 1 - c.run-done.result.0) = omega (arith, c.loop-left.invariant.bounded, c.loop-left-test.true, c.run-done.ensures.within) in (
+      c.run-done.ensures.active ∙ now.0,
+      advances-on (c.args.count - c.loop-left.left + 1) c.run-done.result.0 (c.args.count - (c.loop-left.left - 1 - c.run-done.result.0)) c.args.self.now.active c.args.self.now c.execute_one.new.self c.run-done.new.self
+          sum now.0 now.1 c.run-done.ensures.done,
+    )
+
+pub loop-left-init : goal.loop-left-init
+loop-left-init g c = record {
+  bounded = omega arith;
+  active = refl;
+  advances = (let none : c.args.count - c.args.count ≡ 0 = omega arith in rw none (begins c.args.self.now c.args.self.now.active));
+}
+
+pub loop-left-preserved : goal.loop-left-preserved
+loop-left-preserved g c =
+    let now = ran g (goal.at.loop-left-preserved g c).After-run-done in
+    record { bounded = omega (arith, c.loop-left.invariant.bounded); active = now.0; advances = now.1 }
+
+-- the first one traps
+pub returns-in-Some-clause-done : goal.returns-in-Some-clause-done
+returns-in-Some-clause-done g c =
+    (stops-at (c.args.count - c.loop-left.left) c.args.self.now.active c.args.self.now c.loop-left.self c.execute_one.new.self c.in-Some.trap c.requires c.loop-left.invariant.active c.loop-left.invariant.advances c.in-Some.ensures.trap).0
+
+pub returns-in-Some-clause-trap : goal.returns-in-Some-clause-trap
+returns-in-Some-clause-trap g c = (
+  omega (arith, c.loop-left-test.true, c.loop-left.invariant.bounded),
+  (stops-at (c.args.count - c.loop-left.left) c.args.self.now.active c.args.self.now c.loop-left.self c.execute_one.new.self c.in-Some.trap c.requires c.loop-left.invariant.active c.loop-left.invariant.advances c.in-Some.ensures.trap).1,
+)
+
+-- all are done
+pub returns-in_default-stopped-clause-done : goal.returns-in_default-stopped-clause-done
+returns-in_default-stopped-clause-done g c =
+    let few : c.loop-left.left - 1 ≤ c.args.count = omega (arith, c.loop-left.invariant.bounded) in
+    let all = all-done c.run-done.result.1 c.run-done.result.0 (c.loop-left.left - 1) c.args.count c.in_default-stopped.is c.run-done.ensures.all few in
+    subst (λ n. AdvancesTo n c.args.self.now.active c.args.self.now c.run-done.new.self) all ((ran g (goal.at.returns-in_default-stopped-clause-done g c).After-run-done).1)
+
+-- the next one traps
+pub returns-then-not-is_store_fault-clause-done : goal.returns-then-not-is_store_fault-clause-done
+returns-then-not-is_store_fault-clause-done g c = (ran g (goal.at.returns-then-not-is_store_fault-clause-done g c).After-run-done).1
+
+pub returns-then-not-is_store_fault-clause-trap : goal.returns-then-not-is_store_fault-clause-trap
+returns-then-not-is_store_fault-clause-trap g c =
+    let some = told-of c.run-done.result.1 c.in-Some-stopped.trap (λ _. c.run-done.result.0 < c.loop-left.left - 1) c.in-Some-stopped.is c.run-done.ensures.some in
+    let traps = told-of c.run-done.result.1 c.in-Some-stopped.trap
+    (λ t. (t.cause ≡ StorePageFault → ⊥) → IfSome c.execute_one.new.self.active (λ at. cycle c.run-done.new.self.registers c.run-done.new.self.pc (view_at c.run-done.new.self at).memory ≡ Err t))
+    c.in-Some-stopped.is c.run-done.ensures.trap c.if-not-is_store_fault.ensures in
+    let active = (one g (goal.at.returns-then-not-is_store_fault-clause-trap g c).After-run-done).0 in (
+      omega (arith, some, c.loop-left.invariant.bounded),
+      subst (λ o. IfSome o (λ at. cycle c.run-done.new.self.registers c.run-done.new.self.pc (view_at c.run-done.new.self at).memory ≡ Err c.in-Some-stopped.trap)) active traps,
+    )
+
+pub returns-clause-done : goal.returns-clause-done
+returns-clause-done g c =
+    let all : c.args.count - c.loop-left.left ≡ c.args.count = omega (arith, c.loop-left-test.false) in
+    subst (λ n. AdvancesTo n c.args.self.now.active c.args.self.now c.loop-left.self) all c.loop-left.invariant.advances
