@@ -16,6 +16,7 @@ use tree::Tree;
 const SHORT: usize = 64;
 
 // Reads as many bytes as fit in a buffer, and puts them into the memory of a place.
+#[inline(always)]
 fn read_piece<D: BlockDev, T: Translate>(
     tree: &mut Tree<D>,
     spaces: &mut Spaces<T>,
