@@ -86,6 +86,7 @@ fn target_for<D: BlockDev, T: Translate>(
 }
 
 // Whether the running process may transfer so many bytes: a read writes them, and a write reads them.
+#[inline(always)]
 fn can_transfer<D: BlockDev, T: Translate>(
     kernel: &Kernel<D, T>,
     end: End,
@@ -103,7 +104,7 @@ fn can_transfer<D: BlockDev, T: Translate>(
 }
 
 // A read or a write begins: its arguments are tested. `Err`: it goes on with nothing, and comes to this.
-#[inline]
+#[inline(always)]
 fn begin_transfer<D: BlockDev, T: Translate>(
     kernel: &Kernel<D, T>,
     at: usize,
