@@ -1,6 +1,6 @@
 //! The blocks of a device as one list, for the layers above.
 //!
-//! At most 30 blocks are held, those that were used last; a read of a part of one of the first three leaves the three in
+//! At most 30 blocks are held, those that were used last; a read of a part of one of the first four leaves the four in
 //! their order. A write changes the held block alone; the device has it once the block had to leave, or after `flush`. Where
 //! there is no memory for a block it isn't held: a read answers from the one block that was read, and a write goes to the
 //! device at once.
