@@ -221,6 +221,7 @@ fn read_file<D: BlockDev, T: Translate>(
 }
 
 // From the console: the process takes what was typed, and waits on for the rest of a line.
+#[inline(always)]
 fn read_console<D: BlockDev, T: Translate>(
     kernel: &mut Kernel<D, T>,
     at: usize,
@@ -247,6 +248,7 @@ fn read_console<D: BlockDev, T: Translate>(
 
 // From a pipe: the process takes what is there; from an empty one it takes nothing where no byte can come, and else
 // waits.
+#[inline(always)]
 fn read_pipe<D: BlockDev, T: Translate>(
     kernel: &mut Kernel<D, T>,
     at: usize,
@@ -431,6 +433,7 @@ pub(crate) fn write_on<D: BlockDev, T: Translate>(
 
 // To a pipe: what fits of its bytes is put in, and the process waits while some are left. Without a read end it answers
 // -1.
+#[inline(always)]
 fn write_pipe<D: BlockDev, T: Translate>(
     kernel: &mut Kernel<D, T>,
     at: usize,
