@@ -10,9 +10,8 @@ ghost use Rattle.imagecheck.specs.Reach.{IsDirectoryIn};
 ghost use Rattle.imagerules.specs.Places.{place_of_bytes};
 
 use crate::contents::front_place;
-use crate::entries::{before_zeros, is_zero, place};
-use crate::fields::{kind, number16};
-use imagerules::are_same;
+use crate::fields::kind;
+use imagerules::{are_same, is_free, name_in, number_in, place_at};
 use layout::{DIRECTORY, Geometry};
 
 // Whether a place has this name and number.
@@ -20,13 +19,13 @@ fn holds(place: &[u8], name: &[u8], number: usize) -> bool
     requires { length place.now ≡ 16 }
     ensures { IsTrue result ↔ (place_of_bytes place.now ≡ Some (record { name = name.now; number = number })) }
 {
-    if is_zero(place) {
+    if is_free(place) {
         return false;
     }
-    if number16(place, 0) as usize != number {
+    if number_in(place) as usize != number {
         return false;
     }
-    are_same(before_zeros(&place[2..]), name)
+    are_same(name_in(place), name)
 }
 
 // Whether the first two places of directory n are ".", which is itself, and "..", which is its parent.
@@ -34,10 +33,10 @@ fn fits_front(bytes: &[u8], n: usize, parent: usize) -> bool
     requires { 32 ≤ length bytes.now }
     ensures { IsTrue result ↔ FitsFront n parent bytes.now }
 {
-    if !holds(place(bytes, 0), b".".as_slice(), n) {
+    if !holds(place_at(bytes, 0), b".".as_slice(), n) {
         return false;
     }
-    holds(place(bytes, 1), b"..".as_slice(), parent)
+    holds(place_at(bytes, 1), b"..".as_slice(), parent)
 }
 
 // The same, of the bytes of directory n in the image.

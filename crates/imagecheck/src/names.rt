@@ -5,8 +5,8 @@ ghost use Rattle.std.specs.Option.{option_to_list};
 ghost use Rattle.imagecheck.specs.Entries.{entries_in, name_numbers};
 ghost use Rattle.imagerules.specs.Places.{place_of_bytes};
 
-use crate::entries::{is_zero, place};
 use byteorder::{ByteOrder, LittleEndian};
+use imagerules::{is_free, place_at};
 use std::alloc::{AllocError, Allocator};
 
 // Appends the number of the name in a place, if it is taken.
@@ -14,7 +14,7 @@ fn add_name<A: Allocator>(place: &[u8], names: &mut Vec<u128, A>) -> Result<(), 
     requires { length place.now ≡ 16 }
     ensures { OnOk result (names.new.items ≡ names.old.items ++ name_numbers (option_to_list (place_of_bytes place.now))) }
 {
-    if is_zero(place) {
+    if is_free(place) {
         return Ok(());
     }
     names.push(LittleEndian::read_uint128(&place[2..], 14))?;
@@ -28,7 +28,7 @@ pub fn read_names<A: Allocator>(bytes: &[u8], names: &mut Vec<u128, A>) -> Resul
 {
     names.clear();
     for k in 2..bytes.len() / 16 {
-        add_name(place(bytes, k), names)?;
+        add_name(place_at(bytes, k), names)?;
     }
     Ok(())
 }

@@ -6,8 +6,7 @@ ghost use Rattle.imagecheck.specs.Entries.{entries_in};
 ghost use Rattle.imagecheck.specs.Namings.{namings_of};
 ghost use Rattle.imagerules.specs.Places.{place_of_bytes};
 
-use crate::entries::{is_zero, place};
-use crate::fields::number16;
+use imagerules::{is_free, number_in, place_at};
 use std::alloc::{AllocError, Allocator};
 
 // An entry of a directory.
@@ -28,12 +27,12 @@ fn add_entry<A: Allocator>(
     requires { length place.now ≡ 16 }
     ensures { OnOk result (namings.new.items ≡ namings.old.items ++ namings_of directory (option_to_list (place_of_bytes place.now))) }
 {
-    if is_zero(place) {
+    if is_free(place) {
         return Ok(());
     }
     namings.push(Naming {
         directory,
-        number: number16(place, 0),
+        number: number_in(place),
     })?;
     Ok(())
 }
@@ -48,7 +47,7 @@ pub fn add_entries<A: Allocator>(
     ensures { OnOk result (namings.new.items ≡ namings.old.items ++ namings_of directory (entries_in bytes.now)) }
 {
     for k in 2..bytes.len() / 16 {
-        add_entry(place(bytes, k), directory, namings)?;
+        add_entry(place_at(bytes, k), directory, namings)?;
     }
     Ok(())
 }

@@ -1,10 +1,9 @@
 -- The places that a scan of a directory goes through.
-use Rattle.tree.proofs.Common.{◌≡◌, ℕ, ◌+◌, ◌-◌, ◌*◌, ◌/◌, ◌%◌, ◌<◌, ◌≤◌, Bool, List, [], ◌∷◌, ◌++◌, None, Option, Some, length, min, take, drop, ap, sym, refl, ◌∙◌, arith, subst, true, false}
+use Rattle.tree.proofs.Common.{◌≡◌, ℕ, ◌+◌, ◌-◌, ◌*◌, ◌/◌, ◌%◌, ◌<◌, ◌≤◌, Bool, List, ◌++◌, None, Option, Some, length, min, take, drop, ap, sym, refl, ◌∙◌, arith, subst, true, false}
 use Rattle.tree.proofs.Common.{inl, inr, All, flat_map, is_none, is_some, not, cases_lt, false≢true, append-nil, drop-drop, drop-take, drop_all, length-drop, length-take, length-take-le}
 use Rattle.tree.proofs.Common.{take-take, part, Found, Free, Name, Taken, found_at, found_in, is_bare, room_behind, room_in, IsFirst, Scans, is_sought, place_in, IsFolder, FitsPlaces}
 use Rattle.tree.proofs.Common.{FileTree, IsWhole, PlaceFits, place_of_bytes, length-spelling, places_in-back, slot-places_in, Files, Node, has_name, place_bytes, slot, Directory, number_at}
 use Rattle.std.specs.Borrow.{Bor}
-use Rattle.byteorder.specs.Endian.{little_number}
 use Rattle.tree.specs.declared.place.Sought.{Sought}
 use Rattle.unixmodel.specs.Files.{Entry}
 use Rattle.tree.proofs.Reading.{bare-no, bare-yes, found-at, found-none, named-place}
@@ -79,12 +78,6 @@ module _ (bytes : List ℕ) (k m : ℕ) (fits : 16 * (k + m) ≤ length bytes) w
           here = ap (λ b. is_sought sought (place_of_bytes b)) (sym (part-some found.place within)) ∙ is.here;
           number = is.number ∙ ap (number_at 2 0) (part-some found.place within);
         }
-
--- the number in a place
-pub number-first : (bytes : List ℕ) → 2 ≤ length bytes → little_number 2 bytes ≡ number_at 2 0 bytes
-number-first [] some = absurd (omega arith)
-number-first (a ∷ []) some = absurd (omega arith)
-number-first (a ∷ b ∷ rest) some = refl
 
 -- ---- what is sought
 

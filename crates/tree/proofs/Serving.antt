@@ -1,5 +1,5 @@
 -- What calls on files answer, by those on the volume below.
-use Rattle.tree.proofs.Common.{◌≡◌, ◌≢◌, ◌+◌, ◌≤◌, ◌∙◌, ℕ, Bool, List, None, Option, Some, Result, Err, Ok, ap, false, length, refl, subst, sym, true, OnOk, is_some, not, false≢true, DeviceFault, Follows, IsLaidOut}
+use Rattle.tree.proofs.Common.{◌≡◌, ◌+◌, ◌≤◌, ◌∙◌, ℕ, Bool, List, None, Option, Some, Result, Err, Ok, ap, false, length, refl, subst, sym, OnOk, is_some, not, false≢true, DeviceFault, Follows, IsLaidOut}
 use Rattle.tree.proofs.Common.{Keeps, Looks, Store, InodeStat, Geometry, IsFileSystem, IsStored, Stores, StoresFiles, files_of, Reads, Tries, TellsAny, FileTree, tree_with, blocks_of, Files, Node, slot, data_blocks_of}
 use Rattle.inode.specs.Store.{Tries as Volumes}
 use Rattle.tree.proofs.Storing.{files-are}

@@ -1,23 +1,19 @@
 //! The places of a directory.
 
 ghost use Rattle.std.specs.Prelude.{◌≡◌, IsSome, ℕ, ◌+◌, ◌-◌, ◌*◌, ◌/◌, ◌%◌, ◌<◌, ◌≤◌, ◌==◌, List, false, get_or, length, nat_lt, ◌&&◌};
-ghost use Rattle.std.specs.List.{list_all};
-ghost use Rattle.blockdev.specs.Splice.{part};
 ghost use Rattle.tree.specs.Entering.{room_behind, room_in};
 ghost use Rattle.tree.specs.Names.{is_bare};
 ghost use Rattle.tree.specs.Scanning.{Scans, is_sought};
-ghost use Rattle.imagerules.specs.Places.{place_of_bytes, without_zeros};
+ghost use Rattle.imagerules.specs.Places.{place_of_bytes};
 ghost use Rattle.tree.specs.Steps.{IsFolder, Reads};
 ghost use Rattle.unixmodel.specs.Files.{has_name, lookup, slot};
 ghost use Rattle.tree.specs.Calls.{ArePlaces, FindsName, ScansFolder};
 
 use crate::Tree;
 use blockdev::{BLOCK_SIZE, BlockDev, DeviceFault};
+use imagerules::{PLACE_SIZE, is_free, name_in, number_in, place_at};
 use inode::InodeStat;
-use layout::{DIRECTORY, Entry, LONGEST};
-
-// How many bytes a place has.
-const PLACE_SIZE: usize = 16;
+use layout::{DIRECTORY, LONGEST};
 
 // How many places a block has.
 const PLACES: usize = BLOCK_SIZE / PLACE_SIZE;
@@ -32,29 +28,6 @@ pub struct Found {
     pub place: usize,
     /// The number of the node.
     pub number: usize,
-}
-
-// Whether all bytes are 0.
-fn is_zero(bytes: &[u8]) -> bool
-    ensures { result ≡ list_all (λ b. b == 0) bytes.now }
-{
-    for byte in bytes {
-        if *byte != 0 {
-            return false;
-        }
-    }
-    true
-}
-
-// The bytes before the zeros at the end.
-fn before_zeros(bytes: &[u8]) -> &[u8]
-    ensures { result.now ≡ without_zeros bytes.now }
-{
-    let mut end = bytes.len();
-    while end > 0 && bytes[end - 1] == 0 {
-        end -= 1;
-    }
-    &bytes[..end]
 }
 
 // The byte that a name begins with, 0 where it is empty.
@@ -72,10 +45,10 @@ fn has_name(place: &[u8], name: &[u8]) -> bool
     requires { length place.now ≡ 16 }
     ensures { result ≡ has_name name.now (place_of_bytes place.now) }
 {
-    if place[2] != first_byte(name) || is_zero(place) {
+    if place[2] != first_byte(name) || is_free(place) {
         return false;
     }
-    before_zeros(&place[2..]) == name
+    name_in(place) == name
 }
 
 // What is sought in a directory.
@@ -96,18 +69,9 @@ fn is_sought(place: &[u8], sought: &Sought) -> bool
 {
     match sought {
         Sought::Name(name) => has_name(place, name),
-        Sought::Free => is_zero(place),
-        Sought::Taken => !is_zero(place),
+        Sought::Free => is_free(place),
+        Sought::Taken => !is_free(place),
     }
-}
-
-// The bytes of place `k`.
-fn place_at(places: &[u8], k: usize) -> &[u8]
-    requires { 16 * k + 16 ≤ length places.now }
-    ensures place { result.now ≡ part (16 * k) 16 places.now }
-    ensures long { length result.now ≡ 16 }
-{
-    &places[PLACE_SIZE * k..PLACE_SIZE * k + PLACE_SIZE]
 }
 
 // The first of these places that is what is sought.
@@ -119,7 +83,7 @@ fn first(places: &[u8], sought: &Sought) -> Option<Found>
         if is_sought(place, sought) {
             return Some(Found {
                 place: k,
-                number: usize::from(Entry::from_front(place).number),
+                number: usize::from(number_in(place)),
             });
         }
     }

@@ -8,15 +8,15 @@ entry_of name number = Some (record { name = name; number = number })
 
 pub returns-then-not-holds : goal.returns-then-not-holds
 returns-then-not-holds c =
-    let own : slot (places_in c.args.bytes.now) 0 ≡ place_of_bytes c.place.result.now = slot-places_in c.args.bytes.now 0 (omega arith) ∙ ap place_of_bytes (sym c.place.ensures.place) in
+    let own : slot (places_in c.args.bytes.now) 0 ≡ place_of_bytes c.place_at.result.now = slot-places_in c.args.bytes.now 0 (omega arith) ∙ ap place_of_bytes (sym c.place_at.ensures.place) in
     let name : c.as_slice.result.now ≡ dot = c.as_slice.ensures in
     refused c.if-not-holds.true c.holds.ensures (λ h. sym own ∙ h.own ∙ ap (λ x. entry_of x c.args.n) (sym name))
 
 pub returns : goal.returns
 returns c =
-    let own : slot (places_in c.args.bytes.now) 0 ≡ place_of_bytes c.place.result.now = slot-places_in c.args.bytes.now 0 (omega arith) ∙ ap place_of_bytes (sym c.place.ensures.place) in
+    let own : slot (places_in c.args.bytes.now) 0 ≡ place_of_bytes c.place_at.result.now = slot-places_in c.args.bytes.now 0 (omega arith) ∙ ap place_of_bytes (sym c.place_at.ensures.place) in
     let name : c.as_slice.result.now ≡ dot = c.as_slice.ensures in
-    let above : slot (places_in c.args.bytes.now) 1 ≡ place_of_bytes c.place-2.result.now = slot-places_in c.args.bytes.now 1 (omega arith) ∙ ap place_of_bytes (sym c.place-2.ensures.place) in
+    let above : slot (places_in c.args.bytes.now) 1 ≡ place_of_bytes c.place_at-2.result.now = slot-places_in c.args.bytes.now 1 (omega arith) ∙ ap place_of_bytes (sym c.place_at-2.ensures.place) in
     let name2 : c.as_slice-2.result.now ≡ dot_dot = c.as_slice-2.ensures in
     Decides-like _ (λ e. record {
       own = own ∙ c.holds.ensures.0 c.if-not-holds.false ∙ ap (λ x. entry_of x c.args.n) name;

@@ -8,7 +8,7 @@ loop-k-init g c = c.clear.ensures.items ∙ ap name_numbers (sym (entries_none c
 
 pub loop-k-preserved : goal.loop-k-preserved
 loop-k-preserved g c =
-    numbers-place c.loop-k.names.items c.add_name.new.names.items c.loop-k.k c.args.bytes.now c.place.result.now (omega arith) (omega arith) c.place.ensures.place c.loop-k.invariant
+    numbers-place c.loop-k.names.items c.add_name.new.names.items c.loop-k.k c.args.bytes.now c.place_at.result.now (omega arith) (omega arith) c.place_at.ensures.place c.loop-k.invariant
     c.in_ok-add_name.ensures
 
 pub returns : goal.returns

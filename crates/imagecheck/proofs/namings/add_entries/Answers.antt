@@ -5,7 +5,7 @@ use Rattle.imagecheck.proofs.namings.add_entries.Goals as goal
 
 pub loop-k-preserved : goal.loop-k-preserved
 loop-k-preserved g c =
-    namings-place c.args.namings.now.items c.loop-k.namings.items c.add_entry.new.namings.items c.args.directory c.loop-k.k c.args.bytes.now c.place.result.now (omega arith) (omega arith) c.place.ensures.place c.loop-k.invariant
+    namings-place c.args.namings.now.items c.loop-k.namings.items c.add_entry.new.namings.items c.args.directory c.loop-k.k c.args.bytes.now c.place_at.result.now (omega arith) (omega arith) c.place_at.ensures.place c.loop-k.invariant
     c.in_ok-add_entry.ensures
 
 pub returns : goal.returns

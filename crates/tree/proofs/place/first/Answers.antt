@@ -1,6 +1,4 @@
 use Rattle.tree.proofs.Common.{below_more, below_none, ◌≡◌, ◌≤◌, false, ap, sym, ◌∙◌, arith, is_sought, place_in, place_of_bytes, number_at}
-use Rattle.layout.specs.declared.Entry.{Entry}
-use Rattle.tree.proofs.Scanned.{number-first}
 use Rattle.tree.proofs.place.first.Goals as goal
 
 pub loop-k-init : goal.loop-k-init
@@ -19,7 +17,7 @@ returns-then-is_sought c =
       within = omega arith;
       before = c.loop-k.invariant;
       here = ap (λ b. is_sought c.args.sought.now (place_of_bytes b)) (sym place) ∙ sym c.is_sought.ensures ∙ c.if-is_sought.true;
-      number = c.from.ensures ∙ ap (λ (e : Entry). e.number) c.from_front.ensures ∙ number-first c.place_at-place.result.now (let l = c.place_at-place.ensures.long in omega arith) ∙ ap (number_at 2 0) place;
+      number = c.from.ensures ∙ c.number_in.ensures ∙ ap (number_at 2 0) place;
     }
 
 pub returns : goal.returns

@@ -1,5 +1,6 @@
-use Rattle.imagecheck.proofs.Common.{◌≡◌, ◌≤◌, length, take, without_zeros}
-use Rattle.imagecheck.proofs.entries.before_zeros.Given as goal
+use Rattle.std.specs.Prelude.{◌≡◌, ◌≤◌, length, take}
+use Rattle.imagerules.specs.Places.{without_zeros}
+use Rattle.imagerules.proofs.places.before_zeros.Given as goal
 
 abbrev pub invariant-loop-end : goal.invariant-loop-end
 invariant-loop-end l = record {
