@@ -24,8 +24,11 @@ pub record Here (k : Kernel) (i : ℕ) : Type 0 where
 pub runs-of : {k : Kernel} {i : ℕ} → k.spaces.active ≡ Some i → k.tree.failed ≡ false → IsKernel k → slice_index k.spaces.registers 0 ≡ 0 → k.spaces.pc % 4 ≡ 0 → Runs k i
 runs-of active up sound zero aligned = record { active = active; up = up; sound = sound; zero = zero; aligned = aligned }
 
+pub here-in : {k : Kernel} {i : ℕ} → IsKernel k → k.spaces.active ≡ Some i → k.tree.failed ≡ false → Here k i
+here-in {k} {i} sound active up = let run = run-of k i sound active in record { process = run.0; held = run.1.0; run = run.1.1; sound = sound; up = up }
+
 pub here-of : (k : Kernel) (i : ℕ) → Runs k i → Here k i
-here-of k i runs = let run = run-of k i runs.sound runs.active in record { process = run.0; held = run.1.0; run = run.1.1; sound = runs.sound; up = runs.up }
+here-of k i runs = here-in runs.sound runs.active runs.up
 
 -- over the fields: at is what they show, and k is the kernel's value
 pub here-now : {at k : Kernel} {i : ℕ} → at ≡ k → Runs k i → Here at i

@@ -43,16 +43,20 @@ pub use Rattle.kernel.proofs.Opens.{slot-file, waits-fewer, waits-kept, waits-ot
 pub use Rattle.kernel.proofs.Readies.{stands-open, turn-alive}
 pub use Rattle.kernel.proofs.Reaped.{are-away, away-loaded, IsMatch, match-active, match-loaded, match-place, opened-loaded, over-state, reap-state, used-active, used-loaded, within-state, within-state_with}
 pub use Rattle.kernel.proofs.Running.{answer-run, change-put, change-run, live, not-killed, regs-kernel, regs-run, regs-state, runs-mode}
+pub use Rattle.kernel.proofs.Reading.{serves-disk}
 pub use Rattle.kernel.proofs.Runs.{active-space, eq-self, home-running, IsRun, loaded-run, memory-at, moved-kernel, moved-run, moved-state, place-space, process-run, process-with, put-with}
 pub use Rattle.kernel.proofs.Runs.{run-of, runs-set, same_or_not, self, set-slot, set-twice, slot-other, slot-put, slot-within, stands-set, state-run, with_process, within-run, within-space}
+pub use Rattle.kernel.proofs.Shapes.{folder-there, there, used-changed, used-shaped}
 pub use Rattle.kernel.proofs.Starts.{picked-state, picks-killed, picks-ready, started-is, started-kernel, started-run, started-state, started_to}
 pub use Rattle.kernel.proofs.Steps.{computed-is, fail-keeps, fail-kernel, held-run, placed-with, with-tree}
 pub use Rattle.kernel.proofs.Wakes.{kernel-waking, running-at, state-but, state-waking, watched-roused}
 pub use Rattle.kernel.proofs.Watching.{no-zombie, watched-bytes, watched-moved, watched-put, watched-running, watched-taken}
 pub use Rattle.kernel.specs.Descriptors.{after_close, all_shared, descriptors_in, IsCounted, named_by, names_in, standing}
+pub use Rattle.kernel.specs.Disk.{directory_at, directory_in, HasFiled, HasRead, IsLost, IsServed, LeavesDisk, ReadsDisk, with_tree}
 pub use Rattle.kernel.specs.Holding.{all_dropped, AreHeld, dropped, files_on, FitsNode, home_in, homes_at, IsFolder, IsInUse, last_node, listed, node_in, node_of, node_on}
 pub use Rattle.kernel.specs.Kernel.{answered, argument, base, blocked, computed, counting, descriptors_at, ended, entered, halted_by, idle, Kernel, left_as, lives}
 pub use Rattle.kernel.specs.Kernel.{loaded, marked, memories, memory_in, on_hart, picked, rest_of, started, started_as, state_of, stopped_at, ticked, typed, waking}
+pub use Rattle.kernel.specs.Memory.{drew, resized, sent, sized, wrote}
 pub use Rattle.kernel.specs.Ready.{awaited_in, has_slept, Stands}
 pub use Rattle.kernel.specs.Sound.{can_answer, CanRun, file_named, is_at, is_awaited, is_on_pipe, IsAlive, IsAwaiting, IsEnded, IsForBytes, IsForPipe, IsFresh}
 pub use Rattle.kernel.specs.Sound.{IsKernel, IsLive, IsMode, IsOpened, IsOpenFile, IsPending, IsPlace, IsPlaced, IsReading, IsWriting, WaitsAs, WaitsWell}
@@ -136,11 +140,10 @@ pub use Rattle.unixmodel.specs.declared.trap.Trap.{Trap}
 pub use Rattle.vm.proofs.ReachLemmas.{piece-some, reach-drop, reach-next, reach-page}
 pub use Rattle.vm.specs.Reach.{IsSized, piece_at}
 pub use Rattle.calls.specs.Acts.{Acts, ActsOnDisk, called, called_by, CanCome, CanWait, Comes, GoesOn, GoesOnDisk, going_at, going_by, IsBegun, IsEnd, marked_by, MayPrint, outcome_at, outcome_by, pending_for, Runs, settled_by, Tries}
-pub use Rattle.calls.specs.Gives.{Dispatches, EventGives, executed, halt_of, IsLost, IsMade, IsServed, LeavesDisk, LeavesTree, Makes}
+pub use Rattle.calls.specs.Gives.{Dispatches, EventGives, executed, halt_of, IsMade, LeavesTree, Makes}
 pub use Rattle.calls.specs.Named.{IsRefused}
 pub use Rattle.calls.specs.Opened.{Asks, cut_tree, Cuts, file_by, has_seat, IsCut, IsOpenable, may_open_by, Opens, target_by, with_open}
-pub use Rattle.calls.specs.Processes.{asked, child_of, collected, place_called, resized, sized, with_status}
-pub use Rattle.calls.specs.Reads.{FindsFrom, HasRead, ReadsDisk}
+pub use Rattle.calls.specs.Processes.{asked, child_of, collected, place_called, with_status}
 unfoldable pub use Rattle.calls.specs.Reads.{stat_told}
 pub use Rattle.calls.specs.Renamed.{duplicated, free_descriptors, OpensAs, pipe_file}
 pub use Rattle.calls.specs.Replaced.{begun, Reaches}

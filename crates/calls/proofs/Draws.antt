@@ -1,11 +1,12 @@
 -- A read from a pipe goes on.
-use Rattle.calls.proofs.Common.{◌≡◌, ℕ, ◌+◌, ◌<◌, ◌≤◌, Bool, true, false, List, [], ◌∷◌, length, min, take, drop, Option, Some, None, refl, ap, subst, sym, ◌∙◌, arith, if◌then◌else◌, IfSome, not}
-use Rattle.calls.proofs.Common.{◌==◌, nat_tests, GoesOn, Answers, Blocks, Kernel, descriptors_at, state_of, IsForBytes, IsOpened, IsPending, file_named, is_on_pipe, OnThePipe, Transfers, length-write}
-use Rattle.calls.proofs.Common.{waits-reading, set-slot, slot-within, placed-with, has_end, SpaceView, Spaces, bytes_in, frames_in, view_at, taken_frames, taken_to, with_view, with_pipe, some-pipe}
+use Rattle.calls.proofs.Common.{◌≡◌, ℕ, ◌+◌, ◌<◌, ◌≤◌, Bool, true, false, List, [], ◌∷◌, length, min, take, drop, Option, Some, None, refl, ap, subst, sym, ◌∙◌, arith, if◌then◌else◌, IfSome, not, drew, waking, IsKernel}
+use Rattle.calls.proofs.Common.{◌==◌, nat_tests, GoesOn, Answers, Blocks, Kernel, descriptors_at, state_of, IsForBytes, IsPending, file_named, is_on_pipe, OnThePipe, Transfers, length-write}
+use Rattle.calls.proofs.Common.{waits-reading, slot-within, has_end, SpaceView, Spaces, bytes_in, frames_in, view_at, taken_frames, with_view, some-pipe}
 use Rattle.calls.proofs.Common.{taken-placed, page_frames, Pending, read_on, read_pipe, put, slot, write_bytes, low, WriteEnd, answers, pending_arg, Done, Waits, State, put_process, is_empty}
-use Rattle.calls.proofs.Acts.{Here, goes-done, goes-waits, going, me, turned, turned-here, turned-state, used-turned}
-use Rattle.calls.proofs.Sends.{piped-kernel}
-use Rattle.calls.proofs.Transfers.{file, file-named, going-is, held-here, here, transfer-stands}
+use Rattle.calls.proofs.Acts.{Here, goes-done, goes-waits, going, here-in, me}
+use Rattle.calls.proofs.Woken.{goes-but, sound-but}
+use Rattle.kernel.proofs.Memories.{drew-state}
+use Rattle.calls.proofs.Transfers.{file, file-named, going-is, here, transfer-stands}
 use Rattle.files.specs.declared.file.End.TheVariants as end
 use Rattle.files.specs.declared.file.OpenFile.{OpenFile}
 use Rattle.files.specs.declared.file.Target.TheVariants as target
@@ -61,42 +62,23 @@ module _ (k : Kernel) (i : ℕ) (w : Pending) (q : ℕ) (on : OnThePipe k i end.
 
   -- ---- its bytes go to the process
 
-  abbrev pub drawn : Kernel
-  drawn = record k { spaces = taken_to k.spaces q i address count }
+  abbrev drawn : Kernel
+  drawn = drew k i q address count
 
-  abbrev pipes : List (Option (List ℕ))
-  pipes = put k.spaces.pipes q (drop count bytes)
-
-  abbrev h' : SpaceView
-  h' = written x.held address (take count bytes)
-
-  abbrev to : Kernel
-  to = turned k i x k.tree x.process h' k.files pipes (placed-with k i x.process x.held x.run x.sound (write_bytes x.held.memory address (take count bytes))) x.run.runs
-
-  drawn-is : drawn ≡ to
-  drawn-is = rw (held-here g, set-slot k.table.places i (Some x.process) x.run.process) refl
-
-  to-here : Here to i
-  to-here =
-      let rest = piped-kernel k x.sound q bytes (drop count bytes) at-pipe in
-      let opened = subst (IsOpened k.files pipes) (sym (set-slot k.table.places i (Some x.process) x.run.process)) rest.opened in
-      turned-here k i x k.tree x.process h' k.files pipes (placed-with k i x.process x.held x.run x.sound (write_bytes x.held.memory address (take count bytes))) x.run.runs x.up (used-turned k i x x.process x.run.runs refl) opened
-      (rewritten-fits (with_pipe k.spaces q (Some (drop count bytes))) i k.spaces.frames x.held address (take count bytes) x.run.space rest.fits)
-
-  row-taken : (all : List ℕ) → bytes ≡ all → 0 < length all → read_pipe (state_of k) i (me k i x) w q all ≡ Done (state_of to) (min count (length all)) []
+  row-taken : (all : List ℕ) → bytes ≡ all → 0 < length all → read_pipe (state_of k) i (me k i x) w q all ≡ Done (state_of drawn) (min count (length all)) []
   row-taken [] same some = absurd (omega (arith, some))
   row-taken (b ∷ bs) same some =
       ap (λ (n : ℕ). answers (put_process (record (state_of k) { pipes = put k.spaces.pipes q (drop count (b ∷ bs)) }) i (record (me k i x) { memory = write_bytes x.held.memory n (take count (b ∷ bs)) })) (min count (length (b ∷ bs)))) (let s = start in omega (arith, s))
       ∙ ap (λ (all : List ℕ). answers (put_process (record (state_of k) { pipes = put k.spaces.pipes q (drop count all) }) i (record (me k i x) { memory = write_bytes x.held.memory address (take count all) })) (min count (length (b ∷ bs)))) (sym same)
-      ∙ ap (λ (s : State). Done s (min count (length (b ∷ bs))) []) (sym (turned-state k i x k.tree x.process h' k.files pipes (placed-with k i x.process x.held x.run x.sound (write_bytes x.held.memory address (take count bytes))) x.run.runs))
-
-  drawn-acts : 0 < length bytes → GoesOn k drawn i w (Answers (min count (length bytes)))
-  drawn-acts some = rw drawn-is (goes-done k i x w to (min count (length bytes)) to-here refl (row ∙ row-taken bytes refl some))
+      ∙ ap (λ (s : State). Done s (min count (length (b ∷ bs))) []) (sym (drew-state x.run x.sound q address count))
 
   -- at is what the kernel's fields show
-  pub reads-taken : (at : Kernel) → at ≡ k → (b : Bool) → b ≡ not (is_empty (bytes_in at.spaces q)) → b ≡ true → (m : ℕ) → m ≡ count → (new : Spaces) (n : ℕ) → new ≡ taken_to at.spaces q i address m → n ≡ min m (length (bytes_in at.spaces q))
-      → GoesOn k (record at { spaces = new }) i w (Answers n)
-  reads-taken at same b told some m wide new n made counted = rw (made, counted, wide, same) (drawn-acts (some-bytes (length bytes) (sym (rw same at told) ∙ some)))
+  pub reads-taken : (at : Kernel) → at ≡ k → {b : Bool} → b ≡ not (is_empty (bytes_in at.spaces q)) → b ≡ true → {m : ℕ} → m ≡ count → {new : Kernel} {n : ℕ} → new ≡ waking (drew k i q address m) new.table.awake → IsKernel new → n ≡ min m (length bytes)
+      → GoesOn k new i w (Answers n)
+  reads-taken at same told full wide {new} made sound counted =
+      let some = some-bytes (length bytes) (sym (rw same at told) ∙ full) in
+      let made' : new ≡ waking drawn new.table.awake = made ∙ ap (λ m. waking (drew k i q address m) new.table.awake) wide in
+      rw (counted, wide) (goes-but made' (goes-done k i x w drawn (min count (length bytes)) (here-in (sound-but drawn made' sound) x.run.active x.up) refl (row ∙ row-taken bytes refl some)))
 
   -- ---- it is empty
 

@@ -1,8 +1,8 @@
 -- exec: another program comes in the place of the one that runs.
-use Rattle.calls.proofs.Common.{List, None, Option, Some, [], ap, arith, false, length, refl, subst, sym, true, ℕ, ◌%◌, ◌+◌, ◌-◌, ◌<◌, ◌*◌, ◌∙◌, ◌≡◌, ◌≤◌, IfSome, is_some, nat_le, option_and_then, le-leb, lt-leb, option_and_then_some}
+use Rattle.calls.proofs.Common.{directory_at, List, None, Option, Some, [], ap, arith, false, length, refl, subst, sym, true, ℕ, ◌%◌, ◌+◌, ◌-◌, ◌<◌, ◌*◌, ◌∙◌, ◌≡◌, ◌≤◌, is_some, nat_le, option_and_then, le-leb, lt-leb, option_and_then_some}
 use Rattle.calls.proofs.Common.{cond_some, Acts, Runs, Answers, Refuses, HasRead, Reaches, begun, counting-kernel, live, not-killed, runs-mode, moved-kernel, moved-run, moved-state, slot-put, slot-within, fail-kernel, held-run, Kernel}
-use Rattle.calls.proofs.Common.{argument, counting, idle, left_as, on_hart, state_of, IsKernel, IsPlaced, Process, changed, with_mode, with_size, Started, Executes, IsExecuted, frames_beside, view_by, plan_at, started_by, held-same}
-use Rattle.calls.proofs.Common.{SpaceView, Spaces, has_space, view_at, taken_frames, with_view, FileTree, row, page_frames, Exec, Ready, Files, Node, find, slot, Memory, path_at, number_at, round_down, Outcome, answers, given, limited}
+use Rattle.calls.proofs.Common.{argument, counting, state_of, IsKernel, IsPlaced, Process, changed, with_size, Started, Executes, IsExecuted, frames_beside, view_by, plan_at, started_by, held-same}
+use Rattle.calls.proofs.Common.{SpaceView, Spaces, has_space, view_at, taken_frames, with_view, FileTree, row, page_frames, Exec, Files, Node, find, slot, Memory, path_at, number_at, round_down, Outcome, answers, given, limited}
 use Rattle.calls.proofs.Common.{provided, Done, Loaded, Plan, Stack, loaded_of, plan, push_pointers, push_strings, with_args, with_stack, args_at, exec_registers, exec_row, file_bytes, fits_beside, replaced, State, put_process}
 use Rattle.calls.proofs.Acts.{Here, here-of, me, prints, refused}
 use Rattle.calls.proofs.Homes.{found-here, node-here, refused-read}
@@ -58,7 +58,7 @@ module _ (k : Kernel) (i : ℕ) (runs : Runs k i) where
   exec-pathless none = let at = path-is k i runs 0 None none in refused k i x (Some Exec) (rw at refl)
 
   -- what its path reaches
-  module _ (k1 : Kernel) (o : Option ℕ) (path : List ℕ) (is : Some path ≡ path_at (view_at k.spaces i).memory (argument k 0)) (reads : HasRead k k1 × IfSome (slot k.table.places i) (λ p. o ≡ find k.tree.files p.directory path)) where
+  module _ (k1 : Kernel) (o : Option ℕ) (path : List ℕ) (is : Some path ≡ path_at (view_at k.spaces i).memory (argument k 0)) (reads : HasRead k k1 × (o ≡ find k.tree.files (directory_at k i) path)) where
     pub exec-lost : o ≡ None → Acts k k1 i (Some Exec) Refuses
     unfolding exec_row
     exec-lost none =
@@ -67,7 +67,7 @@ module _ (k : Kernel) (i : ℕ) (runs : Runs k i) where
         refused-read k k1 i x Exec reads.0 (rw (at, found) refl)
 
     pub reaches : (n : ℕ) → o ≡ Some n → Reaches k1 i n
-    reaches n some = subst (λ (y : Kernel). Reaches y i n) (sym reads.0.same) (record { path = path; named = is; found = subst (λ r. IfSome (slot k.table.places i) (λ p. r ≡ find k.tree.files p.directory path)) some reads.1 })
+    reaches n some = subst (λ (y : Kernel). Reaches y i n) (sym reads.0.same) (record { path = path; named = is; found = sym some ∙ reads.1 })
 
   -- it reaches number n
   module _ (n : ℕ) (r : Reaches k i n) where

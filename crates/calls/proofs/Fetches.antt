@@ -1,12 +1,11 @@
 -- A read of a file or a directory.
-use Rattle.calls.proofs.Common.{◌≡◌, ℕ, ◌+◌, ◌<◌, ◌≤◌, ◌^◌, true, false, List, [], length, take, drop, Option, Some, None, refl, ap, subst, sym, ◌∙◌, arith, Err, Ok, length-drop, length-take, DeviceFault, GoesOn}
-use Rattle.calls.proofs.Common.{Answers, Uses, Transfers, file_of, target_of, Counted, opens-moved, FitsNode, IsInUse, Kernel, descriptors_at, idle, left_as, on_hart, state_of, IsKernel, IsOpened, IsPlaced}
-use Rattle.calls.proofs.Common.{IsReading, set-slot, fail-kernel, placed-with, changed-same, Changed, Places, changed, with_mode, Spaces, view_at, IsRead, bytes_of, bytes_read, whole-node, FileTree, Serves}
-use Rattle.calls.proofs.Common.{IsWhole, Ready, Pending, read_file, read_node, read_on, Files, Node, longest, node_bytes, put, slot, Directory, File, write_bytes, low, OnNode, pending_arg, Done, State, put_process}
+use Rattle.calls.proofs.Common.{used-changed, ◌≡◌, ℕ, ◌+◌, ◌<◌, ◌≤◌, ◌^◌, true, false, List, [], length, take, drop, Option, Some, None, refl, ap, subst, sym, ◌∙◌, arith, Ok, length-drop, length-take, GoesOn}
+use Rattle.calls.proofs.Common.{Answers, Uses, Transfers, file_of, target_of, Counted, opens-moved, FitsNode, IsInUse, Kernel, descriptors_at, state_of, IsKernel, IsOpened, IsPlaced}
+use Rattle.calls.proofs.Common.{IsReading, set-slot, fail-kernel, placed-with, changed-same, Changed, Spaces, view_at, IsRead, bytes_of, bytes_read, whole-node, FileTree, Serves}
+use Rattle.calls.proofs.Common.{IsWhole, Pending, read_file, read_node, read_on, Files, Node, longest, node_bytes, put, slot, Directory, File, write_bytes, low, OnNode, pending_arg, Done, State, put_process}
 use Rattle.calls.proofs.Acts.{Here, goes-serves, going, me, turned, turned-here, turned-state, used-here, used-turned}
 use Rattle.calls.proofs.Draws.{rewritten-fits}
 use Rattle.calls.proofs.Moving.{opened-moved, used-moved}
-use Rattle.calls.proofs.Shapes.{used-changed}
 use Rattle.calls.proofs.Transfers.{file, file-fits, file-named, going-is, held-here, here}
 use Rattle.files.specs.declared.file.End.TheVariants as end
 use Rattle.files.specs.declared.file.OpenFile.{OpenFile}

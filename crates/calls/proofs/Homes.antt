@@ -1,16 +1,15 @@
 -- chdir: the running process works in another directory, and the one that it leaves may go.
 use Rattle.calls.proofs.Common.{Bool, List, None, Option, Some, [], ap, arith, false, refl, subst, sym, true, zero, suc, ℕ, ◌+◌, ◌<◌, ◌++◌, ◌∙◌, ◌∷◌, ◌≡◌, ◌≢◌, ◌≤◌, length, Err, IfSome, IsSome, Ok, Result, slice_set, ne_eqb}
-use Rattle.calls.proofs.Common.{sum_by-cons, sum_by-set, sum_by-append, none-some, same_Some, DeviceFault, Acts, Runs, IsLost, FindsFrom, HasRead, Reaches, Answers, Refuses, one_in, Counts, one_at, without_pipes-same, Counted}
+use Rattle.calls.proofs.Common.{sum_by-cons, sum_by-set, sum_by-append, none-some, same_Some, DeviceFault, Acts, Runs, IsLost, HasRead, Reaches, Answers, Refuses, one_in, Counts, one_at, without_pipes-same, Counted}
 use Rattle.calls.proofs.Common.{without_opens-same, InodeStat, counting-kernel, counting-used, AreAway, AreOldHomes, fewer-held, fewer-nodes, fewer-used, hold-more, holders-few, home-folder, homes-set, named_in, counts-joined}
-use Rattle.calls.proofs.Common.{opened-put, waits-running, away-loaded, opened-loaded, not-killed, regs-kernel, regs-run, IsRun, home-running, loaded-run, moved-run, self, set-slot, set-twice, slot-within, fail-kernel}
-use Rattle.calls.proofs.Common.{descriptors_in, AreHeld, IsFolder, IsInUse, dropped, files_on, home_in, homes_at, Kernel, answered, argument, left_as, loaded, memories, on_hart, state_of, IsKernel, IsOpened, IsPlaced, Process}
-use Rattle.calls.proofs.Common.{changed, with_directory, joined, view_at, holders, let_go, with_hold, without_hold, Tells, FileTree, Serves, IsWhole, outcome_of, row, settle, Call, Chdir, Ready, Node, find, is_directory}
+use Rattle.calls.proofs.Common.{directory_at, directory_in, folder-there, opened-put, waits-running, away-loaded, opened-loaded, not-killed, regs-kernel, regs-run, IsRun, home-running, loaded-run, moved-run, self, set-slot, set-twice, slot-within, fail-kernel}
+use Rattle.calls.proofs.Common.{descriptors_in, AreHeld, IsFolder, IsInUse, dropped, files_on, home_in, homes_at, Kernel, answered, argument, loaded, memories, on_hart, state_of, IsKernel, IsOpened, IsPlaced, Process}
+use Rattle.calls.proofs.Common.{changed, with_directory, joined, view_at, holders, let_go, with_hold, without_hold, Tells, FileTree, Serves, IsWhole, outcome_of, row, settle, Call, Chdir, Node, find, is_directory}
 use Rattle.calls.proofs.Common.{kind_of, put, slot, Directory, File, Memory, path_at, chdir_row, path_arg, Outcome, answers, given, limited, provided, Done, Refused, reap, without_nodes, without_pipes, State, put_process}
 use Rattle.calls.proofs.Acts.{Here, here-of, me, outcome-here, refused, settles, turned, turned-here, used-here, named-placed}
 use Rattle.calls.proofs.Gone.{changed-fits, changed_answered, settles-gone}
-use Rattle.calls.proofs.Names.{home-is, names-rules, path-is}
+use Rattle.calls.proofs.Names.{path-is}
 use Rattle.calls.proofs.Served.{ok-told, on-err, serves-lost}
-use Rattle.calls.proofs.Shapes.{folder-there}
 use Rattle.files.specs.Places.{opens_of}
 use Rattle.kernel.proofs.Dropping.{counted}
 use Rattle.names.proofs.Naming.{find-used}
@@ -79,13 +78,6 @@ module _ {t : FileTree} {opens : List (Option Counted)} {os : List (Option Proce
   leaves-nodes s ms away same opened placed = fewer-nodes between opens moves (old ∷ []) counts (λ k c there. (c, (there, refl))) (homes-front moves (Some p)) s ms away same opened placed
 
 -- ---- after the disk was read
-
--- what a path reaches from the directory that process i works in
-pub found-from : (k : Kernel) (i d : ℕ) → IfSome (slot k.table.places i) (λ p. d ≡ p.directory) → (path : List ℕ) (n : Option ℕ) → n ≡ find k.tree.files d path → FindsFrom k i path n
-found-from k i d home path n is = go (slot k.table.places i) home where
-  go : (o : Option Process) → IfSome o (λ p. d ≡ p.directory) → IfSome o (λ p. n ≡ find k.tree.files p.directory path)
-  go None at = tt
-  go (Some p) at = is ∙ ap (λ m. find k.tree.files m path) at
 
 pub read-runs : (k e : Kernel) (i : ℕ) → HasRead k e → Runs k i → Runs e i
 read-runs k e i has runs = subst (λ (y : Kernel). Runs y i) (sym has.same) (record { active = runs.active; up = runs.up; sound = counting-kernel k e.tree.failures runs.sound; zero = runs.zero; aligned = runs.aligned })
@@ -184,14 +176,14 @@ module _ (k : Kernel) (i : ℕ) (runs : Runs k i) where
   home = x.process.directory
 
   -- what a path reaches from there
-  pub found-here : (path : List ℕ) (o : Option ℕ) → IfSome (slot k.table.places i) (λ p. o ≡ find k.tree.files p.directory path) → find k.tree.files home path ≡ o
-  found-here path o is = sym (subst (λ (q : Option Process). IfSome q (λ p. o ≡ find k.tree.files p.directory path)) x.run.process is)
+  pub found-here : (path : List ℕ) (o : Option ℕ) → o ≡ find k.tree.files (directory_at k i) path → find k.tree.files home path ≡ o
+  found-here path o is = sym (is ∙ ap (λ q. find k.tree.files (directory_in q) path) x.run.process)
 
   -- that is a node
   pub node-here : (path : List ℕ) (n : ℕ) → find k.tree.files home path ≡ Some n → (node : Node) × (slot k.tree.files n ≡ Some node)
   node-here path n at =
       let there = folder-there (slot k.tree.files home) (home-folder (used-here k i x) i home (ap home_in x.run.process ∙ home-running x.process x.run.runs)) in
-      some-there (slot k.tree.files n) (find-used (names-rules k i runs) home path n there at)
+      some-there (slot k.tree.files n) (find-used ((used-here k i x).rules) home path n there at)
 
   -- no more hold a node than there are open files and processes
   pub few-hold : (n : ℕ) → holders k.tree.holds n < 65535
@@ -211,7 +203,7 @@ module _ (k : Kernel) (i : ℕ) (runs : Runs k i) where
   unfolding chdir_row
   chdir-row path at = rw at refl
 
-  pub chdir-lost : (k1 : Kernel) (o : Option ℕ) (path : List ℕ) → Some path ≡ path_at (view_at k.spaces i).memory (argument k 0) → HasRead k k1 × IfSome (slot k.table.places i) (λ p. o ≡ find k.tree.files p.directory path)
+  pub chdir-lost : (k1 : Kernel) (o : Option ℕ) (path : List ℕ) → Some path ≡ path_at (view_at k.spaces i).memory (argument k 0) → HasRead k k1 × (o ≡ find k.tree.files (directory_at k i) path)
       → o ≡ None → Acts k k1 i (Some Chdir) Refuses
   chdir-lost k1 o path is reads none =
       refused-read k k1 i x Chdir reads.0 (ap limited (chdir-row path (path-is k i runs 0 (Some path) is) ∙ ap (λ f. given f (λ n. with_node n (slot k.tree.files n))) (found-here path o reads.1 ∙ none)))
@@ -258,7 +250,7 @@ module _ (k : Kernel) (i : ℕ) (runs : Runs k i) where
 
       module _ (left : ℕ) (leaves : IfSome (slot k.table.places i) (λ p. left ≡ p.directory)) (held : FileTree) (holds : held ≡ record at.tree { holds = with_hold at.tree.holds n }) where
         left-is : left ≡ home
-        left-is = home-is k i runs left leaves
+        left-is = subst (λ (o : Option Process). IfSome o (λ p. left ≡ p.directory)) x.run.process leaves
 
         held-is : held ≡ holding k i x n number.0 folder
         held-is = holds ∙ ap (λ (y : Kernel). let u : FileTree = record y.tree { holds = with_hold y.tree.holds n } in u) same

@@ -20,7 +20,6 @@ pub mod Closes
 pub mod Pipes
 pub mod Sends
 pub mod Draws
-pub mod Shapes
 pub mod Names
 pub mod Links
 pub mod Unlinks

@@ -1,25 +1,23 @@
 -- open: the running process has a new open file on a node.
-use Rattle.calls.proofs.Common.{Bool, Err, List, None, Ok, Option, Some, [], ap, arith, false, inl, inr, le_trans, length, refl, subst, suc, sym, true, ℕ, ◌+◌, ◌<◌, ◌∙◌, ◌≡◌, ◌≢◌, ◌≤◌, All, IfSome, Result, count_by, if◌then◌else◌}
+use Rattle.calls.proofs.Common.{Bool, Err, List, None, Ok, Option, Some, [], ap, arith, false, inl, inr, le_trans, length, refl, subst, suc, sym, true, ℕ, ◌+◌, ◌<◌, ◌∙◌, ◌≡◌, ◌≢◌, ◌≤◌, Result, count_by, if◌then◌else◌, with_tree, HasFiled, ◌%◌, slice_index}
 use Rattle.calls.proofs.Common.{is_none, nat_lt, not, option_and_then, option_map, slice_set, ◌==◌, ◌||◌, cases_eq, eqb-true, false≢true, lt-ltb, get_or-set_other, get_or-set_same, length-set, sum_by-set, none-some}
-use Rattle.calls.proofs.Common.{option_and_then_some, same_Some, DeviceFault, Acts, ActsOnDisk, Runs, outcome_at, settled_by, Came, Answers, Refuses, IsServed, IsRefused, Asks, Cuts, IsCut, IsOpenable, Opens, cut_tree, file_by}
+use Rattle.calls.proofs.Common.{option_and_then_some, same_Some, DeviceFault, Acts, ActsOnDisk, Runs, outcome_at, settled_by, Came, Answers, Refuses, IsServed, IsRefused, Asks, IsCut, IsOpenable, Opens, cut_tree, file_by}
 use Rattle.calls.proofs.Common.{has_seat, may_open_by, target_by, with_open, HasRead, OpensAs, free_descriptors, one_in, count-opened, names-put, file_of, target_of, IsPiped, has_pipe-put, Counted, count_at, count_in, file_at}
 use Rattle.calls.proofs.Common.{free_count, free_slot-opens, opens-opened, table-opened, free-None, free-opens, free-place, InodeStat, hold-more, alike-same, file-opened, place-counts, waits-kept, waits-running, waits-set, process-run}
-use Rattle.calls.proofs.Common.{same_or_not, set-slot, slot-other, slot-put, slot-within, with-tree, IsCounted, descriptors_in, FitsNode, IsInUse, files_on, node_in, node_of, node_on, Kernel, argument, state_of, IsKernel, IsOpenFile}
-use Rattle.calls.proofs.Common.{IsOpened, IsPlaced, enter-parts, make-parts, Changed, Process, Places, changed, view_at, created-changed, Overflows, TreeFault, made_files, made_in, holders, with_hold, leaf_node, Tells, TellsMajor}
-use Rattle.calls.proofs.Common.{HasFiles, FileTree, has_failed, IsWhole, outcome_of, row, settle, blocks_of, Call, Open, Files, Node, Spot, change_node, find, free_slot, kind_of, put, slot, spot_of, Directory, File, path_at, Made}
+use Rattle.calls.proofs.Common.{same_or_not, set-slot, slot-other, slot-put, slot-within, IsCounted, descriptors_in, FitsNode, IsInUse, files_on, node_in, node_of, node_on, Kernel, argument, state_of, IsKernel, IsOpenFile}
+use Rattle.calls.proofs.Common.{IsOpened, IsPlaced, enter-parts, make-parts, Process, Places, changed, view_at, Overflows, TreeFault, made_files, made_in, holders, with_hold, leaf_node, Tells, TellsMajor}
+use Rattle.calls.proofs.Common.{directory_at, FileTree, has_failed, IsWhole, outcome_of, row, settle, blocks_of, Call, Open, Files, Node, Spot, change_node, find, free_slot, kind_of, put, slot, spot_of, Directory, File, path_at, Made}
 use Rattle.calls.proofs.Common.{creates, emptied, found_or_made, make_at, made_at, may_open, new_file, open_row, truncated, truncates, has_bit, low, OnNode, Outcome, answers, given, limited, provided, Done, Refused, State}
 use Rattle.calls.proofs.Renames.{named-put}
-use Rattle.calls.proofs.Acts.{Here, here-of, me, named-placed, prints, refused, turned, turned-here, turned-state, used-here, used-turned}
+use Rattle.calls.proofs.Acts.{Here, here-of, me, named-placed, prints, refused, turned, turned-here, turned-state, used-turned, runs-of}
 use Rattle.calls.proofs.Homes.{few-hold, found-here, node-here, refused-read}
-use Rattle.calls.proofs.Names.{MakesNode, home-is, names-rules, refused-acts, over-blocks, path-is}
+use Rattle.calls.proofs.Names.{home-is, refused-acts, over-blocks, path-is}
 use Rattle.calls.proofs.Pipes.{given-refused}
 use Rattle.calls.proofs.Served.{lost-after, served-after, ok-told}
-use Rattle.calls.proofs.Shapes.{used-changed}
 use Rattle.files.specs.declared.file.OpenFile.{OpenFile}
 use Rattle.files.specs.declared.file.Target.TheVariants as target
 use Rattle.files.specs.Places as places
 use Rattle.files.specs.Places.{opens_of}
-use Rattle.names.proofs.Quiet as quiet
 use Rattle.names.proofs.Spots.{spot-absent}
 use Rattle.proc.specs.Places.{with_descriptor}
 use Rattle.tree.specs.declared.making.Leaf.TheVariants as leaf
@@ -27,6 +25,7 @@ use Rattle.unixmodel.specs.Files.Node.{Device}
 use Rattle.unixmodel.specs.NameCalls.{opened}
 use Rattle.unixmodel.specs.OpenFiles as unix_files
 use Rattle.unixmodel.specs.Process as unix
+use Rattle.tree.specs.Calls.{MakesNode}
 
 -- ---- flags and types
 
@@ -246,25 +245,12 @@ module _ {k : Kernel} {i : ℕ} (runs : Runs k i) {n f : ℕ} {told : InodeStat}
 
 -- ---- a file that is emptied
 
-module _ {k : Kernel} (is : IsKernel k) (up : k.tree.failed ≡ false) where
-  -- another tree, whose files the processes may use
-  retreed : (t : FileTree) → Changed k.tree.files t.files → t.holds ≡ k.tree.holds → IsWhole t → IsKernel (record k { tree = t })
-  retreed t changes same whole = with-tree is t (λ good. used-changed (is.used up) t changes same whole.zero whole.within)
+module _ {k new : Kernel} (f n : ℕ) (sound : IsKernel new) where
+  pub cut-done : truncates f ≡ true → HasFiled k new (change_node k.tree.files n emptied) → IsCut k new f n
+  cut-done yes' has = record { same = has.same ∙ rw yes' refl; later = has.later; sound = sound }
 
-  module _ (f n : ℕ) where
-    pub cut-done : truncates f ≡ true → (t : FileTree) → HasFiles k.tree t (change_node k.tree.files n emptied) → k.tree.failures ≤ t.failures → IsWhole t → IsCut k (record k { tree = t }) f n
-    cut-done yes' t told later whole = record {
-      same = ap (λ (u : FileTree). record k { tree = u }) (told ∙ rw yes' refl);
-      later = later;
-      sound = retreed t (subst (λ (u : FileTree). Changed k.tree.files u.files) (sym told) (quiet.truncates (is.used up).rules n)) (ap (λ (u : FileTree). u.holds) told) whole;
-    }
-
-    pub uncut : truncates f ≡ false → IsCut k k f n
-    uncut none = record { same = rw none refl; later = omega arith; sound = is }
-
-pub cut-ok : {old new : Kernel} {f n : ℕ} (r : Result (Unit {0}) DeviceFault) (u : Unit {0}) → r ≡ Ok u → Cuts old new f n r → IsCut old new f n
-cut-ok (Ok done) u e cuts = cuts
-cut-ok (Err fault) u e cuts = absurd (cc)
+  pub uncut : truncates f ≡ false → new ≡ k → IsCut k new f n
+  uncut none same = rw same (record { same = rw none refl; later = omega arith; sound = subst IsKernel same sound })
 
 pub cut-runs : {old new : Kernel} {f n : ℕ} → IsCut old new f n → (i : ℕ) → Runs old i → Runs new i
 cut-runs cut i runs = subst (λ (y : Kernel). Runs y i) (sym cut.same) (record { active = runs.active; up = runs.up; sound = subst IsKernel cut.same cut.sound; zero = runs.zero; aligned = runs.aligned })
@@ -422,59 +408,55 @@ module _ (k : Kernel) (i : ℕ) (runs : Runs k i) where
       made-there : (made : Made) → made_here ≡ Some made → slot made.files made.number ≡ Some (File 1 [])
       made-there made e = option_and_then_some (λ at. make_at k.tree.files at new_file) (spot_of k.tree.files home path) made e (λ at spot is. made-new k.tree.files at made is)
 
-      module _ (d : ℕ) (at-home : IfSome (slot k.table.places i) (λ p. d ≡ p.directory)) where
-        made-from : made_in k.tree.files d path (leaf_node leaf.File) ≡ made_here
-        made-from = ap (λ (m : ℕ). made_in k.tree.files m path (File 1 [])) (home-is k i runs d at-home) ∙ made-is
+      made-from : made_in k.tree.files (directory_at k i) path (leaf_node leaf.File) ≡ made_here
+      made-from = ap (λ (m : ℕ). made_in k.tree.files m path (File 1 [])) (home-is k i runs) ∙ made-is
 
-        new-over : Overflows k.tree.block_limit (made_files (made_in k.tree.files d path (leaf_node leaf.File))) → outcome_of (state_of k) i mine (Some Open) ≡ Refused
-        new-over over =
-            ap limited new-row
-            ∙ given-refused made_here _ (λ made e1.
-            let empty = truncated-new f made (made-there made e1) in
-            given-refused (slot made.files made.number) _ (λ node e2. provided-refused (may_open f node) _ (given-refused (free_slot now.process.descriptors) _ (λ fd e3. given-refused (free_slot (opens_of k.files)) _ (λ place e4.
-            let last : State = record (with_open (state_of k) i mine fd place (opened f made.number)) { files = truncated f made } in
-            ap (λ (b : Bool). provided b (Done last fd [])) (over-blocks last (subst (λ (fs : Files). k.tree.block_limit < blocks_of fs) (sym empty) (over made.files (ap made_files (made-from ∙ e1))))))))))
+      new-over : Overflows k.tree.block_limit (made_files (made_in k.tree.files (directory_at k i) path (leaf_node leaf.File))) → outcome_of (state_of k) i mine (Some Open) ≡ Refused
+      new-over over =
+          ap limited new-row
+          ∙ given-refused made_here _ (λ made e1.
+          let empty = truncated-new f made (made-there made e1) in
+          given-refused (slot made.files made.number) _ (λ node e2. provided-refused (may_open f node) _ (given-refused (free_slot now.process.descriptors) _ (λ fd e3. given-refused (free_slot (opens_of k.files)) _ (λ place e4.
+          let last : State = record (with_open (state_of k) i mine fd place (opened f made.number)) { files = truncated f made } in
+          ap (λ (b : Bool). provided b (Done last fd [])) (over-blocks last (subst (λ (fs : Files). k.tree.block_limit < blocks_of fs) (sym empty) (over made.files (ap made_files (made-from ∙ e1))))))))))
 
-        module _ (t : FileTree) (r : Result ℕ TreeFault) (at : Kernel) (same : at ≡ k) where
-          pub create-fails : MakesNode at.tree t d path leaf.File r → (fault : TreeFault) → r ≡ Err fault → (came : Result Came DeviceFault) → IsRefused fault came → ActsOnDisk k (record at { tree = t }) i (Some Open) came
-          create-fails = subst (λ (y : Kernel). MakesNode y.tree t d path leaf.File r → (fault : TreeFault) → r ≡ Err fault → (came : Result Came DeviceFault) → IsRefused fault came → ActsOnDisk k (record y { tree = t }) i (Some Open) came) (sym same) (λ acts. refused-acts k i now t r acts Open new-over)
+      module _ {mid : Kernel} (rest : mid ≡ with_tree k mid.tree) (sound : IsKernel mid) {r : Result ℕ TreeFault} (acts : MakesNode k.tree mid.tree (directory_at k i) path (leaf_node leaf.File) r) where
+        pub create-fails : (fault : TreeFault) → r ≡ Err fault → (came : Result Came DeviceFault) → IsRefused fault came → ActsOnDisk k mid i (Some Open) came
+        create-fails = refused-acts k i now rest sound acts Open new-over
 
-          module _ (acts : MakesNode at.tree t d path leaf.File r) (plain : All (λ b. b ≢ 0) path) (v : ℕ) (done : r ≡ Ok v) (whole : IsWhole t) where
-            created : MakesNode k.tree t d path leaf.File r
-            created = subst (λ (y : Kernel). MakesNode y.tree t d path leaf.File r) same acts
+        module _ (v : ℕ) (done : r ≡ Ok v) where
+          abbrev new_node : Made
+          new_node = record { files = mid.tree.files; number = v }
 
-            abbrev new_node : Made
-            new_node = record { files = t.files; number = v }
+          made : made_in k.tree.files (directory_at k i) path (leaf_node leaf.File) ≡ Some new_node
+          made = ok-told _ r v done acts.done
 
-            made : made_in k.tree.files d path (leaf_node leaf.File) ≡ Some new_node
-            made = ok-told _ r v done created.done
+          new-there : slot mid.tree.files v ≡ Some (File 1 [])
+          new-there = made-there new_node (sym made-from ∙ made)
 
-            new-there : slot t.files v ≡ Some (File 1 [])
-            new-there = made-there new_node (sym made-from ∙ made)
+          pub created-runs : Runs mid i
+          created-runs = runs-of (ap (λ (y : Kernel). y.spaces.active) rest ∙ runs.active) (acts.failed ∙ ap has_failed done) sound (ap (λ (y : Kernel). slice_index y.spaces.registers 0) rest ∙ runs.zero) (ap (λ (y : Kernel). y.spaces.pc % 4) rest ∙ runs.aligned)
 
-            pub created-runs : Runs (record at { tree = t }) i
-            created-runs = rw same (record { active = runs.active; up = created.failed ∙ ap has_failed done; sound = retreed runs.sound runs.up t (created-changed (names-rules k i runs) d path plain leaf.File new_node made) created.holds whole; zero = runs.zero; aligned = runs.aligned })
+          pub created-openable : (told : InodeStat) → told.kind ≡ 2 → IsOpenable mid.tree.files v f told
+          created-openable told kind = record { node = File 1 []; here = new-there; kind = kind; major = tt; may = refl }
 
-            pub created-openable : (told : InodeStat) → told.kind ≡ 2 → IsOpenable t.files v f told
-            created-openable told kind = record { node = File 1 []; here = new-there; kind = kind; major = tt; may = refl }
+          pub created-seat : has_seat k i ≡ true → has_seat mid i ≡ true
+          created-seat is = ap (λ (y : Kernel). has_seat y i) rest ∙ is
 
-            pub created-seat : has_seat k i ≡ true → has_seat (record at { tree = t }) i ≡ true
-            created-seat is = rw same is
-
-            pub open-created : (new : Kernel) (fd : ℕ) → Opens (record at { tree = t }) new i (opened f v) fd → Acts k new i (Some Open) (Answers fd)
-            open-created new fd opens =
-                let made-here = sym made-from ∙ made in
-                opens-acts t created.limit created.same_device created.later (record at { tree = t }) (rw same refl) f new_node (sym (truncated-new f new_node new-there))
-                (new-row ∙ ap (λ o. given o (opens_got (state_of k) i mine f)) made-here) (File 1 []) new-there refl new fd opens
+          pub open-created : (new : Kernel) (fd : ℕ) → Opens mid new i (opened f v) fd → Acts k new i (Some Open) (Answers fd)
+          open-created new fd opens =
+              let made-here = sym made-from ∙ made in
+              opens-acts mid.tree acts.limit acts.same_device acts.later mid rest f new_node (sym (truncated-new f new_node new-there))
+              (new-row ∙ ap (λ o. given o (opens_got (state_of k) i mine f)) made-here) (File 1 []) new-there refl new fd opens
 
 -- ---- once the path was looked up
 
 -- that is asked for then
-pub asked : {k k1 : Kernel} (i : ℕ) (path : List ℕ) (f : ℕ) (o : Option ℕ) → HasRead k k1 × IfSome (slot k.table.places i) (λ p. o ≡ find k.tree.files p.directory path) → Some path ≡ path_at (view_at k.spaces i).memory (argument k 0) → f ≡ low (argument k 1)
+pub asked : {k k1 : Kernel} (i : ℕ) (path : List ℕ) (f : ℕ) (o : Option ℕ) → HasRead k k1 × (o ≡ find k.tree.files (directory_at k i) path) → Some path ≡ path_at (view_at k.spaces i).memory (argument k 0) → f ≡ low (argument k 1)
     → (q : Option ℕ) → o ≡ q → Asks k1 i path f q
 asked {k} {k1} i path f o reads named flags q is =
     subst (λ (y : Kernel). Asks y i path f q) (sym reads.0.same)
-    (record { named = named; flags = flags; found = subst (λ (r : Option ℕ). IfSome (slot k.table.places i) (λ p. r ≡ find k.tree.files p.directory path)) is reads.1 })
+    (record { named = named; flags = flags; found = sym is ∙ reads.1 })
 
 module _ (k k1 new : Kernel) (i : ℕ) (has : HasRead k k1) where
   looked : k.tree.failed ≡ false → IsServed k.tree k1.tree

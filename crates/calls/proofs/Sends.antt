@@ -1,50 +1,16 @@
 -- A write to a pipe goes on.
-use Rattle.calls.proofs.Common.{◌≡◌, ◌≢◌, ℕ, zero, suc, ◌+◌, ◌-◌, ◌<◌, ◌≤◌, ◌^◌, Bool, true, false, nat_eq, List, [], ◌∷◌, length, take, drop, eq-eqb, Option, Some, None, is_some, unwrap_or, refl}
-use Rattle.calls.proofs.Common.{ap, subst, sym, ◌∙◌, arith, ne_eqb, drop-take, length-drop, length-set, length-take, GoesOn, Answers, Blocks, Kernel, descriptors_at, state_of, IsForPipe, IsKernel}
-use Rattle.calls.proofs.Common.{IsPending, IsWriting, OnThePipe, Transfers, waits-writing, readable-count, has_end, SpaceView, Spaces, bytes_in, filled, view_at, read_at, with_pipe, some-pipe}
-use Rattle.calls.proofs.Common.{Pending, Load, write_on, write_pipe, put, slot, Memory, reach, read_bytes, low, pipe_room, ReadEnd, minus_one, pending_arg, IsSized, reach-drop, reach-page}
-use Rattle.calls.proofs.Acts.{Here, goes-done, goes-waits, going}
+use Rattle.calls.proofs.Common.{◌≡◌, ◌≢◌, ℕ, ◌+◌, ◌-◌, ◌<◌, ◌≤◌, ◌^◌, Bool, true, false, nat_eq, List, [], length, take, drop, eq-eqb, Some, is_some, unwrap_or, refl, sent, waking}
+use Rattle.calls.proofs.Common.{ap, subst, sym, ◌∙◌, arith, ne_eqb, drop-take, length-drop, length-take, GoesOn, Answers, Blocks, Kernel, descriptors_at, state_of, IsForPipe, IsKernel}
+use Rattle.calls.proofs.Common.{IsPending, IsWriting, OnThePipe, Transfers, waits-writing, readable-count, has_end, SpaceView, bytes_in, view_at, read_at, some-pipe}
+use Rattle.calls.proofs.Common.{Pending, Load, write_on, write_pipe, slot, Memory, reach, read_bytes, low, pipe_room, ReadEnd, minus_one, pending_arg, IsSized, reach-drop, reach-page}
+use Rattle.calls.proofs.Acts.{Here, goes-done, goes-waits, going, here-in}
 use Rattle.calls.proofs.Transfers.{file, file-named, going-is, held-here, here, transfer-stands}
+use Rattle.calls.proofs.Woken.{goes-but, sound-but}
 use Rattle.calls.proofs.Writes.{length-read}
 use Rattle.files.specs.declared.file.End.TheVariants as end
 use Rattle.files.specs.declared.file.Target.TheVariants as target
 use Rattle.files.specs.Places.{opens_of}
-use Rattle.spaces.specs.Spaces.{fitting, has_pipe}
-use Rattle.unixmodel.specs.Files.{taken}
-
--- ---- pipes that keep standing
-
-pub taken-same : (pipes : List (Option (List ℕ))) (q : ℕ) (old new : List ℕ) → slot pipes q ≡ Some old → length (taken (put pipes q new)) ≡ length (taken pipes)
-taken-same [] q old new at = refl
-taken-same (o ∷ pipes) zero old new at = rw at refl
-taken-same (None ∷ pipes) (suc q) old new at = taken-same pipes q old new at
-taken-same (Some b ∷ pipes) (suc q) old new at = ap suc (taken-same pipes q old new at)
-
-pub some-same : (pipes : List (Option (List ℕ))) (q : ℕ) (old new : List ℕ) → slot pipes q ≡ Some old → (r : ℕ) → is_some (slot (put pipes q new) r) ≡ is_some (slot pipes r)
-some-same [] q old new at r = refl
-some-same (o ∷ pipes) zero old new at zero = rw at refl
-some-same (o ∷ pipes) zero old new at (suc r) = refl
-some-same (o ∷ pipes) (suc q) old new at zero = refl
-some-same (o ∷ pipes) (suc q) old new at (suc r) = some-same pipes q old new at r
-
--- a pipe that stands has other bytes
-pub piped-kernel : (k : Kernel) → IsKernel k → (q : ℕ) (old new : List ℕ) → slot k.spaces.pipes q ≡ Some old → IsKernel (record k { spaces = with_pipe k.spaces q (Some new) })
-piped-kernel k is q old new at = record {
-  all = is.all;
-  spaces = is.spaces;
-  stands = is.stands;
-  runs = is.runs;
-  used = is.used;
-  fits = omega (arith, is.fits, taken-same k.spaces.pipes q old new at);
-  opened = record {
-    table = is.opened.table;
-    counted = is.opened.counted;
-    each = is.opened.each;
-    all = length-set k.spaces.pipes q (Some new) ∙ is.opened.all;
-    piped = λ x. some-same k.spaces.pipes q old new at x ∙ is.opened.piped x;
-    waits = is.opened.waits;
-  };
-}
+use Rattle.spaces.specs.Spaces.{fitting, has_pipe, put_behind}
 
 -- ---- what is left of a buffer that can be read
 
@@ -98,32 +64,23 @@ module _ (k : Kernel) (i : ℕ) (w : Pending) (q : ℕ) (on : OnThePipe k i end.
   abbrev n : ℕ
   n = length (fitting held left)
 
-  abbrev sent : Kernel
-  sent = record k { spaces = with_pipe k.spaces q (Some (filled held left)) }
+  abbrev full : Kernel
+  full = record k { spaces = put_behind k.spaces q left }
 
   can : IsWriting (descriptors_at k i) memory w
   can = g.can
 
-  stands : has_pipe k.spaces q ≡ true
-  stands = transfer-stands g
+  pub sends-stands : has_pipe k.spaces q ≡ true
+  sends-stands = transfer-stands g
 
   at-pipe : slot k.spaces.pipes q ≡ Some held
-  at-pipe = some-pipe (slot k.spaces.pipes q) stands
+  at-pipe = some-pipe (slot k.spaces.pipes q) sends-stands
 
   read-new : read_bytes memory (pending_arg w 1) (low (pending_arg w 2)) ≡ Some new
   read-new = some-pipe (read_bytes memory (pending_arg w 1) (low (pending_arg w 2))) can.readable
 
   length-new : length new ≡ low (pending_arg w 2)
   length-new = length-read memory (pending_arg w 1) (low (pending_arg w 2)) new read-new
-
-  sent-here : Here sent i
-  sent-here = let r = x.run in record {
-    process = x.process;
-    held = x.held;
-    run = record { active = r.active; process = r.process; space = r.space; placed = r.placed; runs = r.runs };
-    up = x.up;
-    sound = piped-kernel k x.sound q held (filled held left) at-pipe;
-  }
 
   row : going k i x w ≡ write_pipe (state_of k) w q held new
   unfolding write_on
@@ -136,60 +93,57 @@ module _ (k : Kernel) (i : ℕ) (w : Pending) (q : ℕ) (on : OnThePipe k i end.
   pub sends-closed : (e : Bool) → e ≡ has_end (opens_of k.files) q ReadEnd → e ≡ false → GoesOn k k i w (Answers minus_one)
   sends-closed e told closed = let none : has_end (opens_of k.files) q ReadEnd ≡ false = sym told ∙ closed in goes-done k i x w k minus_one x refl (row ∙ rw none refl)
 
-  module _ (e : Bool) (told : e ≡ has_end (opens_of k.files) q ReadEnd) (yes : e ≡ true) where
+  module _ {e : Bool} (told : e ≡ has_end (opens_of k.files) q ReadEnd) (yes : e ≡ true) (sound : IsKernel full) where
     some : has_end (opens_of k.files) q ReadEnd ≡ true
     some = sym told ∙ yes
+
+    full-here : Here full i
+    full-here = here-in sound x.run.active x.up
 
     all-test : (b : Bool) → nat_eq (w.done + n) (low (pending_arg w 2)) ≡ b → nat_eq (w.done + n) (length new) ≡ b
     all-test b test = ap (nat_eq (w.done + n)) length-new ∙ test
 
-    sends-all : w.done + n ≡ low (pending_arg w 2) → GoesOn k sent i w (Answers (w.done + n))
-    sends-all all = let test = all-test true (eq-eqb (w.done + n) (low (pending_arg w 2)) all) in goes-done k i x w sent (w.done + n) sent-here refl (row ∙ rw (some, test) refl)
+    sends-all : w.done + n ≡ low (pending_arg w 2) → GoesOn k full i w (Answers (w.done + n))
+    sends-all all = let test = all-test true (eq-eqb (w.done + n) (low (pending_arg w 2)) all) in goes-done k i x w full (w.done + n) full-here refl (row ∙ rw (some, test) refl)
 
-    sends-waits : w.done + n ≢ low (pending_arg w 2) → w.done + n ≤ low (pending_arg w 2) → GoesOn k sent i w (Blocks (record w { done = w.done + n }))
+    sends-waits : w.done + n ≢ low (pending_arg w 2) → w.done + n ≤ low (pending_arg w 2) → GoesOn k full i w (Blocks (record w { done = w.done + n }))
     sends-waits rests within =
         let test = all-test false (ne_eqb (w.done + n) (low (pending_arg w 2)) rests) in
         let further = record w { done = w.done + n } in
         let f = file g in
         let writing : IsWriting (descriptors_at k i) memory further = record { named = can.named; readable = can.readable; left = omega (arith, rests, within) } in
         let for : IsForPipe k.files (descriptors_at k i) further = λ write. rw (f.named, f.opened, f.on) refl in
-        goes-waits k i x w sent further sent-here refl (subst (IsPending (descriptors_at k i) memory further) (sym g.number) writing, waits-writing k.files (descriptors_at k i) further g.number for) (row ∙ rw (some, test) refl)
+        goes-waits k i x w full further full-here refl (subst (IsPending (descriptors_at k i) memory further) (sym g.number) writing, waits-writing k.files (descriptors_at k i) further g.number for) (row ∙ rw (some, test) refl)
 
-  -- at is what the kernel's fields show, and m what is left to put
-  module _ (at : Kernel) (same : at ≡ k) (sized : IsSized (view_at at.spaces i).memory) (m : ℕ) (wide : m ≡ low (pending_arg w 2) - w.done) where
-    sized' : IsSized memory
-    sized' = rw same at sized
-
+  -- m: what is left to put
+  module _ (sized : IsSized memory) {m : ℕ} (wide : m ≡ low (pending_arg w 2) - w.done) where
     abbrev bytes : List ℕ
-    bytes = read_at (view_at at.spaces i) (pending_arg w 1 + w.done) m
+    bytes = read_at (view_at k.spaces i) (pending_arg w 1 + w.done) m
 
     bytes-are : bytes ≡ left
-    bytes-are = rw (wide, same) (rest-is memory (pending_arg w 1) (low (pending_arg w 2)) w.done sized' can.readable can.left)
+    bytes-are = rw wide (rest-is memory (pending_arg w 1) (low (pending_arg w 2)) w.done sized can.readable can.left)
 
-    pub sends-fits : length (view_at at.spaces i).memory ≤ 32768 → pending_arg w 1 + w.done < 2 ^ 64
-    sends-fits few = rest-fits memory (pending_arg w 1) (low (pending_arg w 2)) w.done sized' can.readable can.left (rw same at few)
+    pub sends-fits : length memory ≤ 32768 → pending_arg w 1 + w.done < 2 ^ 64
+    sends-fits few = rest-fits memory (pending_arg w 1) (low (pending_arg w 2)) w.done sized can.readable can.left few
 
-    pub sends-readable : m ≤ length (reach Load (view_at at.spaces i).memory (pending_arg w 1 + w.done))
-    sends-readable = rw (wide, same) (rest-readable memory (pending_arg w 1) (low (pending_arg w 2)) w.done sized' can.readable can.left)
+    pub sends-readable : m ≤ length (reach Load memory (pending_arg w 1 + w.done))
+    sends-readable = rw wide (rest-readable memory (pending_arg w 1) (low (pending_arg w 2)) w.done sized can.readable can.left)
 
-    makes : (to : Spaces) → to ≡ with_pipe at.spaces q (Some (filled (bytes_in at.spaces q) bytes)) → record at { spaces = to } ≡ sent
-    makes to made = rw (made, bytes-are, same) refl
-
-    pub sends-keeps : (to : Spaces) → to ≡ with_pipe at.spaces q (Some (filled (bytes_in at.spaces q) bytes)) → IsKernel (record at { spaces = to })
-    sends-keeps to made = rw (makes to made) sent-here.sound
-
-    module _ (c : ℕ) (count : c ≡ length (fitting (bytes_in at.spaces q) bytes)) where
+    module _ {c : ℕ} (count : c ≡ length (fitting held bytes)) where
       count-is : c ≡ n
-      count-is = count ∙ ap (λ (bs : List ℕ). length (fitting (bytes_in at.spaces q) bs)) bytes-are ∙ ap (λ (y : Kernel). length (fitting (bytes_in y.spaces q) left)) same
+      count-is = count ∙ ap (λ (bs : List ℕ). length (fitting held bs)) bytes-are
 
       pub sends-within : w.done + c ≤ low (pending_arg w 2)
       sends-within =
           let few : n ≤ length left = fitting-less held left in
           omega (arith, count-is, few, length-drop w.done new, length-new, can.left)
 
-      module _ (e : Bool) (told : e ≡ has_end (opens_of k.files) q ReadEnd) (yes : e ≡ true) (to : Spaces) (made : to ≡ with_pipe at.spaces q (Some (filled (bytes_in at.spaces q) bytes))) where
-        pub sends-over : w.done + c ≡ low (pending_arg w 2) → GoesOn k (record at { spaces = to }) i w (Answers (w.done + c))
-        sends-over all = rw (makes to made, count-is) (sends-all e told yes (ap (λ (y : ℕ). w.done + y) (sym count-is) ∙ all))
+      module _ {e : Bool} (told : e ≡ has_end (opens_of k.files) q ReadEnd) (yes : e ≡ true) {to : Kernel} (made : to ≡ waking (sent k i q (pending_arg w 1 + w.done) m) to.table.awake) (sound : IsKernel to) where
+        made-full : to ≡ waking full to.table.awake
+        made-full = made ∙ ap (λ (bs : List ℕ). waking (record k { spaces = put_behind k.spaces q bs }) to.table.awake) bytes-are
 
-        pub sends-on : w.done + c ≢ low (pending_arg w 2) → GoesOn k (record at { spaces = to }) i w (Blocks (record w { done = w.done + c }))
-        sends-on rests = rw (makes to made, count-is) (sends-waits e told yes (rw count-is at rests) (rw count-is at sends-within))
+        pub sends-over : w.done + c ≡ low (pending_arg w 2) → GoesOn k to i w (Answers (w.done + c))
+        sends-over all = rw count-is (goes-but made-full (sends-all told yes (sound-but full made-full sound) (ap (λ (y : ℕ). w.done + y) (sym count-is) ∙ all)))
+
+        pub sends-on : w.done + c ≢ low (pending_arg w 2) → GoesOn k to i w (Blocks (record w { done = w.done + c }))
+        sends-on rests = rw count-is (goes-but made-full (sends-waits told yes (sound-but full made-full sound) (rw count-is at rests) (rw count-is at sends-within)))

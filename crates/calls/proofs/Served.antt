@@ -1,17 +1,10 @@
 -- What becomes of the files of the disk.
-use Rattle.calls.proofs.Common.{State, None, Option, Result, Some, ap, arith, false, le_trans, refl, subst, sym, true, ℕ, ℤ, ◌∙◌, ◌≡◌, Err, IfOk, Ok, OnErr, OnOk, IsErr, DeviceFault}
-use Rattle.calls.proofs.Common.{HasCause, ActsOnDisk, Came, IsLost, IsServed, LeavesDisk, Kernel, started, started_as, state_of, stopped_at, ticked, Process, FileTree, Serves, Call, slot}
+use Rattle.calls.proofs.Common.{None, Option, Result, Some, arith, false, le_trans, refl, subst, ℕ, ◌∙◌, ◌≡◌, Err, IfOk, Ok, OnErr, OnOk, IsErr, DeviceFault}
+use Rattle.calls.proofs.Common.{serves-disk, ActsOnDisk, Came, IsLost, IsServed, LeavesDisk, Kernel, started, started_as, stopped_at, ticked, Process, FileTree, Serves, Call, slot}
 
 -- they are as before
 pub same-served : {old new : FileTree} → new ≡ old → old.failed ≡ false → IsServed old new
 same-served same up = rw same (record { up = up; same_device = refl; later = omega arith })
-
--- a step that may fail
-pub serves-disk : {T : Type 0} {old new : FileTree} {r : Result T DeviceFault} {Told : T → Type 0} → Serves old new r Told → LeavesDisk old new r
-serves-disk {T} {old} {new} {r} {Told} serves = go r serves.up serves.down serves.cause where
-  go : (r : Result T DeviceFault) → OnOk r (new.failed ≡ false) → OnErr r (new.failed ≡ true) → HasCause old.failures new.failures r → LeavesDisk old new r
-  go (Ok x) up down cause = record { up = up; same_device = serves.same_device; later = cause.later }
-  go (Err fault) up down cause = record { down = down; same_device = serves.same_device; later = cause.later; rises = cause.failed refl }
 
 -- what is lost behind a part that served
 pub lost-after : {a b c : FileTree} → IsServed a b → IsLost b c → IsLost a c

@@ -1,12 +1,11 @@
 -- A write to a file.
-use Rattle.calls.proofs.Common.{◌≡◌, ℕ, ◌+◌, ◌<◌, ◌≤◌, ◌^◌, Bool, true, false, nat_le, List, [], length, take, Option, Some, None, refl, ap, subst, sym, ◌∙◌, arith, if◌then◌else◌, Ok, ◌&&◌, ◌==◌, and_parts, leb-true, none-some}
-use Rattle.calls.proofs.Common.{same_Some, cond_some, GoesOn, settled_by, Answers, Refuses, Transfers, Uses, file_of, target_of, Counted, opens-moved, FitsNode, IsInUse, Kernel, descriptors_at, idle, on_hart, state_of, IsKernel}
-use Rattle.calls.proofs.Common.{IsOpened, IsWriting, set-slot, Changed, Places, changed, with_mode, some-pipe, SpaceView, Spaces, view_at, bytes_given, written-changed, FileTree, Serves, IsWhole, quiet, settle, Ready, Pending, blocks_of}
+use Rattle.calls.proofs.Common.{used-changed, ◌≡◌, ℕ, ◌+◌, ◌<◌, ◌≤◌, ◌^◌, Bool, true, false, nat_le, List, [], length, take, Option, Some, None, refl, ap, subst, sym, ◌∙◌, arith, if◌then◌else◌, Ok, ◌&&◌, ◌==◌, and_parts, leb-true, none-some}
+use Rattle.calls.proofs.Common.{same_Some, cond_some, GoesOn, settled_by, Answers, Refuses, Transfers, Uses, file_of, target_of, Counted, opens-moved, FitsNode, IsInUse, Kernel, descriptors_at, state_of}
+use Rattle.calls.proofs.Common.{IsOpened, IsWriting, set-slot, Changed, some-pipe, SpaceView, view_at, bytes_given, written-changed, FileTree, Serves, IsWhole, quiet, settle, Pending, blocks_of}
 use Rattle.calls.proofs.Common.{room_for, with_file, with_offset, write_node, write_on, Files, Node, longest, put, slot, Directory, File, Memory, overwrite, read_bytes, low, OnNode, minus_one, pending_arg, Done, Refused, State}
 use Rattle.calls.proofs.Acts.{Here, goes-serves, going, going-here, me, turned, turned-here, used-turned}
 use Rattle.calls.proofs.Fetches.{low-same}
 use Rattle.calls.proofs.Moving.{opened-moved, used-moved}
-use Rattle.calls.proofs.Shapes.{used-changed}
 use Rattle.calls.proofs.Transfers.{file, file-fits, file-named, going-is, held-here, here, named-file}
 use Rattle.calls.proofs.Writes.{length-read}
 use Rattle.files.specs.declared.file.End.TheVariants as end

@@ -1,24 +1,23 @@
 -- unlink: a name less, and its node is given up where nothing keeps it any more.
 use Rattle.calls.proofs.Served.{ok-told}
-use Rattle.calls.proofs.Common.{◌≡◌, ◌≢◌, ℕ, ◌*◌, ◌<◌, ◌≤◌, ◌∙◌, Bool, List, [], None, Option, Some, ap, arith, false, inl, inr, length, refl, subst, sym, true, IfSome, Ok, Result, if◌then◌else◌, nat_le, nat_lt, option_and_then}
-use Rattle.calls.proofs.Common.{option_map, slice_set, ◌&&◌, ◌||◌, cases_lt, cases_eq, lt-ltb, ltb-true, or_right, get_or-set_other, get_or-set_same, length-set, none-some, same_Some, Acts, ActsOnDisk, Runs, DeviceFault, Came}
-use Rattle.calls.proofs.Common.{Answers, Refuses, Counts, without_pipes-same, set_outside, without_opens-same, IsInUse, Kernel, answered, argument, loaded, memories, state_of, IsKernel, held-there, is_by, kept-cong, settled-by}
-use Rattle.calls.proofs.Common.{used-is, counts-joined, away-loaded, opened-loaded, used-loaded, within-state, answer-run, not-killed, regs-kernel, regs-run, process-run, Loses, shape, unlink-parts, kept-gone, kept-here}
-use Rattle.calls.proofs.Common.{kept-none, view_at, TreeFault, holders, let_go, LacksUnlinking, FileTree, has_failed, IsWhole, Reaps, unlinked-reaps, blocks_of-set, outcome_of, quiet, row, settle, blocks_of, frames_of, is_within}
+use Rattle.calls.proofs.Common.{◌≡◌, ◌≢◌, ℕ, ◌*◌, ◌<◌, ◌≤◌, ◌∙◌, Bool, List, [], None, Option, Some, ap, arith, false, inl, inr, length, refl, subst, sym, true, Result, if◌then◌else◌, nat_le, nat_lt, option_and_then, directory_at, with_tree}
+use Rattle.calls.proofs.Common.{option_map, slice_set, ◌&&◌, ◌||◌, cases_lt, cases_eq, get_or-set_other, get_or-set_same, length-set, none-some, Acts, ActsOnDisk, Runs, DeviceFault, Came}
+use Rattle.calls.proofs.Common.{Answers, Refuses, Counts, without_pipes-same, set_outside, without_opens-same, IsInUse, Kernel, answered, argument, loaded, memories, state_of, IsKernel, is_by, kept-cong}
+use Rattle.calls.proofs.Common.{used-is, counts-joined, away-loaded, opened-loaded, used-loaded, within-state, answer-run, not-killed, regs-kernel, regs-run, process-run, unlink-parts}
+use Rattle.calls.proofs.Common.{view_at, TreeFault, let_go, has_failed, Reaps, blocks_of-set, quiet, row, settle, blocks_of, frames_of, is_within}
 use Rattle.calls.proofs.Common.{Unlink, Files, Node, Spot, blocks_for, change_node, erase, is_directory, links_of, lookup, size_of, slot, spot_of, without_place, Directory, File, path_at, fewer_links, path_arg, unlink_row}
-use Rattle.calls.proofs.Common.{unlinked, with_files, without_name, Outcome, answers, limited, Done, Refused, with_answer, is_used, kept, reap, without_nodes, without_opens, without_pipes, State, change_process, open_limit}
+use Rattle.calls.proofs.Common.{unlinked, with_files, without_name, Outcome, answers, limited, Done, with_answer, is_used, kept, reap, without_nodes, without_opens, without_pipes, State, change_process, open_limit}
 use Rattle.calls.specs.Named.{IsNamed}
 use Rattle.calls.proofs.Acts.{Here, me, refused, settles, used-here}
-use Rattle.calls.proofs.Names.{given-then, here, home-is, mine, named-acts, over, over-here, over-state, path-is, with_made}
+use Rattle.calls.proofs.Names.{given-then, here, home-is, mine, named-acts, over-here, over-state, path-is, with_made}
 use Rattle.calls.proofs.Settles.{settle-reaped}
-use Rattle.calls.proofs.Shapes.{there, used-shaped}
-use Rattle.names.proofs.Unlinking.{keeps-unlinked}
-use Rattle.tree.specs.Tree as tree
 use Rattle.tree.specs.Unlinks.{unlinked_in}
 use Rattle.tree.proofs.Storing.{taken_by}
 use Rattle.unixmodel.specs.Counts.{opens_of}
 use Rattle.unixmodel.specs.Files.Node.{Device}
 use Rattle.unixmodel.specs.Process as unix
+use Rattle.kernel.proofs.Unlinking.{kept-is, reaps}
+use Rattle.tree.specs.Calls.{TakesName}
 
 -- ---- the row
 
@@ -110,54 +109,16 @@ within-files s files same = ap (λ n. nat_le (frames_of s) s.frame_limit && nat_
 
 -- ---- the kernel with a name less
 
-module _ (k : Kernel) (i : ℕ) (x : Here k i) (t : FileTree) (d : ℕ) (path : List ℕ) (g : Reaps k.tree.holds k.tree.files d path t.files)
-    (limit : t.block_limit ≡ k.tree.block_limit) (holds : t.holds ≡ k.tree.holds) (up : t.failed ≡ false) (device : t.identity ≡ k.tree.identity) (later : k.tree.failures ≤ t.failures) (whole : IsWhole t) where
+module _ (k : Kernel) (i : ℕ) (x : Here k i) (d : ℕ) (path : List ℕ) {to : Kernel} (rest : to ≡ with_tree k to.tree) (sound : IsKernel to) (made : unlinked_in k.tree.holds k.tree.files d path ≡ Some to.tree.files)
+    (limit : to.tree.block_limit ≡ k.tree.block_limit) (holds : to.tree.holds ≡ k.tree.holds) (up : to.tree.failed ≡ false) (device : to.tree.identity ≡ k.tree.identity) (later : k.tree.failures ≤ to.tree.failures) where
   is : IsInUse k.tree k.files k.table.places
   is = used-here k i x
 
-  loses : Loses k.tree.files g.less g.at
-  loses = keeps-unlinked is.rules g.at g.less g.made
-
-  -- nodes that nothing keeps are gone
-  kept-is : t.files ≡ kept (is_by k.tree.holds) 0 g.less
-  kept-is = g.reaped (settled-by k.tree.holds k.tree.files is.held)
-
-  held-kept : (n : ℕ) → 1 ≤ holders k.tree.holds n → (o : Option Node) → slot g.less n ≡ o → slot (kept (is_by k.tree.holds) 0 g.less) n ≡ o
-  held-kept n some None at = kept-none (is_by k.tree.holds) g.less n at
-  held-kept n some (Some node) at = kept-here (is_by k.tree.holds) g.less n node at (or_right (nat_lt 0 (links_of node)) (nat_lt 0 (holders k.tree.holds n)) (lt-ltb 0 (holders k.tree.holds n) some))
-
-  stays : (n : ℕ) → 1 ≤ holders k.tree.holds n → option_map shape (slot t.files n) ≡ option_map shape (slot k.tree.files n)
-  stays n some =
-      ap (λ (fs : Files). option_map shape (slot fs n)) kept-is
-      ∙ ap (option_map shape) (held-kept n some (slot g.less n) refl)
-      ∙ loses.stays n (there (slot k.tree.files n) (held-there is n some))
-
-  -- a node that is there still has a link, or is held
-  bare-held : (n : ℕ) (node : Node) → slot t.files n ≡ Some node → links_of node ≡ 0 → 1 ≤ holders k.tree.holds n
-  bare-held n node at bare = go (slot g.less n) refl where
-    was : slot (kept (is_by k.tree.holds) 0 g.less) n ≡ Some node
-    was = ap (λ (fs : Files). slot fs n) (sym kept-is) ∙ at
-
-    tested : (y : Node) → slot g.less n ≡ Some y → (b : Bool) → is_by k.tree.holds n y ≡ b → 1 ≤ holders k.tree.holds n
-    tested y e false by = absurd (none-some node (sym (kept-gone (is_by k.tree.holds) g.less n y e by) ∙ was))
-    tested y e true by =
-        let same : y ≡ node = same_Some y node (sym (kept-here (is_by k.tree.holds) g.less n y e by) ∙ was) in
-        let none : links_of y ≡ 0 = ap links_of same ∙ bare in
-        let held : nat_lt 0 (holders k.tree.holds n) ≡ true = rw none at by in
-        ltb-true 0 (holders k.tree.holds n) held
-
-    go : (o : Option Node) → slot g.less n ≡ o → 1 ≤ holders k.tree.holds n
-    go None e = absurd (none-some node (sym (kept-none (is_by k.tree.holds) g.less n e) ∙ was))
-    go (Some y) e = tested y e (is_by k.tree.holds n y) refl
-
-  used : IsInUse t k.files k.table.places
-  used = used-shaped is t stays g.tree holds whole.zero whole.within bare-held
-
-  abbrev to : Kernel
-  to = over k i x t
+  abbrev g : Reaps k.tree.holds k.tree.files d path to.tree.files
+  g = reaps is to.tree d path made
 
   here-then : Here to i
-  here-then = over-here k i x t up used
+  here-then = over-here k i x rest sound up
 
   -- ---- what the row makes, once it is settled
 
@@ -165,7 +126,7 @@ module _ (k : Kernel) (i : ℕ) (x : Here k i) (t : FileTree) (d : ℕ) (path : 
   last = answered to 0
 
   last-sound : IsKernel last
-  last-sound = regs-kernel to here-then.sound (slice_set k.spaces.registers 10 0) k.spaces.pc
+  last-sound = regs-kernel to sound (slice_set to.spaces.registers 10 0) to.spaces.pc
 
   -- before nodes are given up
   abbrev full : State
@@ -176,12 +137,12 @@ module _ (k : Kernel) (i : ℕ) (x : Here k i) (t : FileTree) (d : ℕ) (path : 
   nodes-reaped =
       let now = used-loaded last last-sound up in
       ap (λ (fs : Files). record full { files = fs })
-      (kept-cong (λ n node. nat_lt 0 (links_of node) || is_used full n) (is_by t.holds) 0 g.less (λ a j y e at.
+      (kept-cong (λ n node. nat_lt 0 (links_of node) || is_used full n) (is_by to.tree.holds) 0 g.less (λ a j y e at.
       let same : j ≡ a = omega (arith, e) in
       let some : j ≢ 0 = λ z. none-some y (sym ((unlinked-less k.tree.files g.at g.less g.made).none 0 is.zero) ∙ ap (slot g.less) (sym z ∙ same) ∙ at) in
       ap (λ b. nat_lt 0 (links_of y) || b) (used-is last.files (loaded last).places (memories last.spaces) (away-loaded last last-sound) full refl refl j some ∙ ap (nat_lt 0) (sym (now.holds j))))
       ∙ ap (λ hs. kept (is_by hs) 0 g.less) holds
-      ∙ sym kept-is)
+      ∙ sym (kept-is is to.tree d path made))
 
   reaped : reap full ≡ state_of last
   unfolding reap
@@ -194,12 +155,12 @@ module _ (k : Kernel) (i : ℕ) (x : Here k i) (t : FileTree) (d : ℕ) (path : 
 
   answered-is : change_process (with_files (state_of k) g.less) i (with_answer 0) ≡ full
   answered-is =
-      ap (λ (s : State). change_process (with_files s g.less) i (with_answer 0)) (sym (over-state k i x t limit))
+      ap (λ (s : State). change_process (with_files s g.less) i (with_answer 0)) (sym (over-state k i x rest sound limit))
       ∙ ap (λ (s : State). with_files s g.less) (answer-run to i here-then.process here-then.held here-then.run here-then.sound 0)
 
   settles-so : settle (state_of k) i (limited (Done (with_files (state_of k) g.less) 0 [])) ≡ quiet (state_of last)
   settles-so =
-      let here-last = process-run last i here-then.process here-then.held (regs-run to i here-then.process here-then.held here-then.run here-then.sound (slice_set k.spaces.registers 10 0) k.spaces.pc) in
+      let here-last = process-run last i here-then.process here-then.held (regs-run to i here-then.process here-then.held here-then.run here-then.sound (slice_set to.spaces.registers 10 0) to.spaces.pc) in
       let within : is_within (with_files (state_of k) g.less) ≡ true = within-files (state_of k) g.less (unlinked-less k.tree.files g.at g.less g.made).blocks ∙ within-state k x.sound x.up in
       rw within (settle-reaped (state_of k) (with_files (state_of k) g.less) i 0 [] answered-is here-last (not-killed to i here-then.process here-then.held here-then.run here-then.sound) reaped)
 
@@ -213,28 +174,16 @@ module _ (k : Kernel) (i : ℕ) (x : Here k i) (t : FileTree) (d : ℕ) (path : 
 
 -- ---- the process that calls
 
--- what the tree promises
-abbrev pub TakesName : FileTree → FileTree → ℕ → List ℕ → Result (Unit {0}) TreeFault → Type 0
-TakesName old new d path r = tree.Acts old new r (λ done. unlinked_in old.holds old.files d path ≡ Some new.files) (unlinked_in old.holds old.files d path ≡ None) (LacksUnlinking old.files d path)
-
 module _ (k : Kernel) (i : ℕ) (runs : Runs k i) where
   pub unlink-pathless : None ≡ path_at (view_at k.spaces i).memory (argument k 0) → Acts k k i (Some Unlink) Refuses
   unfolding unlink_row
   unlink-pathless none = let at = path-is k i runs 0 None none in refused k i (here k i runs) (Some Unlink) (rw at refl)
 
-  module _ (d : ℕ) (home : IfSome (slot k.table.places i) (λ p. d ≡ p.directory)) (path : List ℕ) (is : Some path ≡ path_at (view_at k.spaces i).memory (argument k 0)) (t : FileTree) (r : Result (Unit {0}) TreeFault) where
-    unlink-makes : row (state_of k) i (mine k i runs) Unlink ≡ with_made (state_of k) (nameless k.tree.files d path)
-    unlink-makes = rw (home-is k i runs d home) (unlink-row (state_of k) i (mine k i runs) path (path-is k i runs 0 (Some path) is))
+  module _ {path : List ℕ} (is : Some path ≡ path_at (view_at k.spaces i).memory (argument k 0)) {new : Kernel} (rest : new ≡ with_tree k new.tree) (sound : IsKernel new) where
+    unlink-makes : row (state_of k) i (mine k i runs) Unlink ≡ with_made (state_of k) (nameless k.tree.files (directory_at k i) path)
+    unlink-makes = rw (home-is k i runs) (unlink-row (state_of k) i (mine k i runs) path (path-is k i runs 0 (Some path) is))
 
-    unlink-none : unlinked_in k.tree.holds k.tree.files d path ≡ None → outcome_of (state_of k) i (mine k i runs) (Some Unlink) ≡ Refused
-    unlink-none none = ap limited unlink-makes ∙ ap (λ (o : Option Files). limited (with_made (state_of k) o)) (nameless-none k.tree.holds k.tree.files d path none)
-
-    -- at is what the kernel's fields show
-    module _ (at : Kernel) (same : at ≡ k) where
-      pub unlink-acts : TakesName at.tree t d path r → (came : Result Came DeviceFault) → IsNamed t r came → ActsOnDisk k (record at { tree = t }) i (Some Unlink) came
-      unlink-acts = subst (λ (y : Kernel). TakesName y.tree t d path r → (came : Result Came DeviceFault) → IsNamed t r came → ActsOnDisk k (record y { tree = t }) i (Some Unlink) came) (sym same) (λ acts. named-acts k i (here k i runs) t r acts Unlink
-          (λ v e whole.
-          let made : unlinked_in k.tree.holds k.tree.files d path ≡ Some t.files = ok-told _ r v e acts.done in
-          let g = unlinked-reaps (used-here k i (here k i runs)).rules k.tree.holds d path t.files made in
-          unlinks k i (here k i runs) t d path g acts.limit acts.holds (acts.failed ∙ ap has_failed e) acts.same_device acts.later whole unlink-makes)
-          unlink-none)
+    pub unlink-acts : {r : Result (Unit {0}) TreeFault} → TakesName k.tree new.tree (directory_at k i) path r → (came : Result Came DeviceFault) → IsNamed r came → ActsOnDisk k new i (Some Unlink) came
+    unlink-acts {r} acts = named-acts k i (here k i runs) rest sound acts Unlink
+        (λ v e. unlinks k i (here k i runs) (directory_at k i) path rest sound (ok-told _ r v e acts.done) acts.limit acts.holds (acts.failed ∙ ap has_failed e) acts.same_device acts.later unlink-makes)
+        (λ none. ap limited unlink-makes ∙ ap (λ (o : Option Files). limited (with_made (state_of k) o)) (nameless-none k.tree.holds k.tree.files (directory_at k i) path none))

@@ -1,16 +1,14 @@
 -- What calls leave of who is awake.
-use Rattle.calls.proofs.Common.{Bool, List, None, Option, Some, [], ap, arith, false, inl, inr, length, option_map, refl, subst, suc, sym, true, zero, ℕ, ◌∙◌, ◌∷◌, ◌≡◌, OnFalse, OnTrue, if◌then◌else◌, slice_set, and_parts}
-use Rattle.calls.proofs.Common.{cases_lt, eqb-true, true≢false, CanCome, Comes, GoesOn, Runs, settled_by, Opens, OpensAs, Came, Answers, Blocks, Exits, KillsItself, Refuses, Counted, shared, opens-shared, opens-all_shared}
-use Rattle.calls.proofs.Common.{kernel-waking, running-at, state-waking, watched-roused, no-zombie, watched-put, watched-running, all_shared, Kernel, idle, on_hart, waking, awaited_in, IsWatched, Watches, awaited_of}
-use Rattle.calls.proofs.Common.{Process, Places, changed, with_mode, without, Started, Executes, SpaceView, Spaces, with_view, After, Taken, take_line, Ready, Pending, Files, put, slot, Outcome, is_zombie_mode, State, holds}
+use Rattle.calls.proofs.Common.{Bool, List, None, Option, Some, [], ap, false, inl, inr, length, option_map, refl, subst, suc, sym, true, zero, ℕ, ◌∙◌, ◌∷◌, ◌≡◌, slice_set, and_parts, IsKernel}
+use Rattle.calls.proofs.Common.{cases_lt, true≢false, CanCome, Comes, GoesOn, Runs, settled_by, Opens, OpensAs, Came, Answers, Blocks, Exits, KillsItself, Refuses, Counted, shared, opens-shared, opens-all_shared}
+use Rattle.calls.proofs.Common.{kernel-waking, running-at, state-waking, watched-roused, watched-put, watched-running, all_shared, Kernel, waking, awaited_in, IsWatched, Watches, awaited_of}
+use Rattle.calls.proofs.Common.{Process, Places, without, Started, Executes, Spaces, After, Pending, Files, put, slot, Outcome, is_zombie_mode, State, holds}
 use Rattle.files.specs.declared.file.OpenFile.{OpenFile}
 use Rattle.files.specs.Places.{opens_of}
 use Rattle.kernel.proofs.Masks.{set-past}
 use Rattle.proc.specs.Places as table
 use Rattle.proc.specs.Places.{with_descriptor}
-use Rattle.unixmodel.specs.Console.{Console}
 use Rattle.unixmodel.specs.OpenFiles as unix
-use Rattle.unixmodel.specs.Turn as turn
 
 -- ---- other places are awake
 
@@ -33,6 +31,13 @@ comes-waking {new = new} {i = i} {bytes = bytes} {came = came} comes awake = rec
 
 pub goes-waking : {old new : Kernel} {i : ℕ} {w : Pending} {came : Came} → GoesOn old new i w came → (awake : List Bool) → GoesOn old (waking new awake) i w came
 goes-waking goes awake = record { comes = comes-waking goes.comes awake; within = goes.within }
+
+-- where a step woke some
+pub sound-but : {new : Kernel} (k : Kernel) → new ≡ waking k new.table.awake → IsKernel new → IsKernel k
+sound-but k made sound = kernel-waking (subst IsKernel made sound) k.table.awake
+
+pub goes-but : {old new k : Kernel} {i : ℕ} {w : Pending} {came : Came} → new ≡ waking k new.table.awake → GoesOn old k i w came → GoesOn old new i w came
+goes-but {old} {new} {k} {i} {w} {came} made goes = subst (λ (y : Kernel). GoesOn old y i w came) (sym made) (goes-waking goes new.table.awake)
 
 pub runs-waking : {k : Kernel} {i : ℕ} → Runs k i → (awake : List Bool) → Runs (waking k awake) i
 runs-waking runs awake = record { active = runs.active; up = runs.up; sound = kernel-waking runs.sound awake; zero = runs.zero; aligned = runs.aligned }
@@ -91,10 +96,6 @@ pub executes-piped : (files : Files) (old new : Spaces) (at number argv : ℕ) (
 executes-piped files old new at number argv None is = ap (λ (s : Spaces). s.pipes) is.0
 executes-piped files old new at number argv (Some started) is = ap (λ (s : Spaces). s.pipes) is.held
 
-pub writes-piped : (old new : Spaces) (at : ℕ) (held : SpaceView) (b : Bool) → OnTrue b (new ≡ with_view old at held) → OnFalse b (new ≡ old) → new.pipes ≡ old.pipes
-writes-piped old new at held true done refused = ap (λ (s : Spaces). s.pipes) done
-writes-piped old new at held false done refused = ap (λ (s : Spaces). s.pipes) refused
-
 -- a descriptor of the running process names an open file that was opened
 pub watched-opened : {a : State} {t new : Places} {files files' : List (Option Counted)} {i fd : ℕ} {f : OpenFile} → IsWatched a t.places t.awake → holds table.is_running (slot t.places i) ≡ true → OpensAs t new files files' i f fd
     → IsWatched a new.places new.awake × (holds table.is_running (slot new.places i) ≡ true)
@@ -102,15 +103,3 @@ watched-opened {a} {t} {new} {i = i} {fd = fd} watched runs opens =
     let name = with_descriptor fd (Some opens.number) in
     subst (λ (x : Places). IsWatched a x.places x.awake × (holds table.is_running (slot x.places i) ≡ true)) (sym opens.names)
     (watched-running watched i name runs (λ p pid is. is), still-runs name (λ p. refl) t.places i runs)
-
--- ---- the console
-
--- of no bytes a read takes none, and leaves none
-pub taken-empty : (has : Bool) (n : ℕ) (bytes : List ℕ) → turn.is_empty bytes ≡ true → turn.is_empty (take_line has n bytes).rest ≡ true
-unfolding take_line
-taken-empty has zero bytes empty = empty
-taken-empty has (suc n) [] empty = refl
-taken-empty has (suc n) (b ∷ bs) empty = absurd (let none : length (b ∷ bs) ≡ 0 = eqb-true (length (b ∷ bs)) 0 empty in omega arith)
-
-pub read-empty : (has : Bool) (n : ℕ) (console new : Console) {bytes : List ℕ} {over : Bool} → take_line has n console.committed ≡ record { bytes = bytes; rest = new.committed; over = over } → turn.is_empty console.committed ≡ true → turn.is_empty new.committed ≡ true
-read-empty has n console new took empty = ap (λ (t : Taken). turn.is_empty t.rest) (sym took) ∙ taken-empty has n console.committed empty

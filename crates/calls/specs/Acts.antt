@@ -7,7 +7,7 @@ use Rattle.calls.specs.declared.halt.Halt.{Halt}
 use Rattle.calls.specs.declared.halt.Halt.TheVariants.{Console, Device, Halted, InitEnded}
 use Rattle.calls.specs.declared.outcome.Came.{Came}
 use Rattle.calls.specs.declared.outcome.Came.TheVariants.{Answers, Blocks, Exits, KillsItself, Refuses}
-use Rattle.calls.specs.Gives.{IsLost, IsServed}
+use Rattle.kernel.specs.Disk.{IsLost, IsServed}
 use Rattle.kernel.specs.Kernel.{Kernel, argument, descriptors_at, state_of}
 use Rattle.kernel.specs.Sound.{IsAwaiting, IsKernel, IsPending}
 use Rattle.console.specs.Output.{AppendsBeginning}

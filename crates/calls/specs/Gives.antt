@@ -1,16 +1,16 @@
 -- What a step of the kernel comes to.
 use Rattle.console.specs.Output.{AppendsBeginning}
-use Rattle.blockdev.specs.declared.DeviceFault.{DeviceFault}
 use Rattle.calls.specs.declared.halt.Halt.{Halt}
 use Rattle.calls.specs.declared.halt.Halt.TheVariants.{Console, Device, Halted, InitEnded}
+use Rattle.kernel.specs.Disk.{IsLost, IsServed}
 use Rattle.kernel.specs.Kernel.{Kernel, state_of}
 use Rattle.std.specs.Io.KnownBytes.{Appends}
-use Rattle.std.specs.Prelude.{Err, List, None, Ok, Option, Result, Some, [], false, true, ℕ, ℤ, ◌≡◌, ◌≤◌}
+use Rattle.std.specs.Prelude.{Err, List, None, Ok, Option, Result, Some, [], ℕ, ℤ, ◌≡◌}
 use Rattle.tree.specs.Tree.{FileTree}
 use Rattle.unixmodel.specs.Failures.{Rises}
 use Rattle.unixmodel.specs.Calls.{After}
 use Rattle.unixmodel.specs.Next.{execute_at}
-use Rattle.unixmodel.specs.State.{State, process_at}
+use Rattle.unixmodel.specs.State.{process_at}
 
 -- the kernel's state is the one that is made, it halts so, and its bytes were printed
 pub record Makes (new : Kernel) (a : After) (before after : Option (List ℕ)) (halted : Option ℤ) : Type 0 where
@@ -58,19 +58,6 @@ executed k at = execute_at (state_of k) at (process_at (state_of k) at)
 
 -- ---- the files of the disk
 
--- no access of the device has failed: it is the same, and its count of failures is not lower
-pub record IsServed (old new : FileTree) : Type 0 where
-  pub up : new.failed ≡ false
-  pub same_device : new.identity ≡ old.identity
-  pub later : old.failures ≤ new.failures
-
--- an access of the device has failed: it is the same, and its count of failures rose
-pub record IsLost (old new : FileTree) : Type 0 where
-  pub down : new.failed ≡ true
-  pub same_device : new.identity ≡ old.identity
-  pub later : old.failures ≤ new.failures
-  pub rises : Rises old.failures new.failures
-
 -- what an event that is answered so leaves of the files of the disk
 abbrev pub LeavesTree : {X : Type 0} → FileTree → FileTree → Result X Halt → Type 0
 LeavesTree old new (Ok x) = IsServed old new
@@ -78,8 +65,3 @@ LeavesTree old new (Err (InitEnded status)) = IsServed old new
 LeavesTree old new (Err Device) = IsLost old new
 LeavesTree old new (Err Console) = new ≡ old
 LeavesTree old new (Err Halted) = new ≡ old
-
--- and what a part of one does
-abbrev pub LeavesDisk : {X : Type 0} → FileTree → FileTree → Result X DeviceFault → Type 0
-LeavesDisk old new (Ok x) = IsServed old new
-LeavesDisk old new (Err fault) = IsLost old new

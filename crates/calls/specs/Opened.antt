@@ -1,14 +1,14 @@
 -- What open makes of a kernel, step by step.
-use Rattle.std.specs.Prelude.{Bool, Err, IfSome, List, Ok, Option, Result, Some, if◌then◌else◌, nat_le, nat_lt, not, true, ℕ, ◌&&◌, ◌==◌, ◌||◌, ◌≡◌, ◌≤◌}
+use Rattle.std.specs.Prelude.{Bool, Err, List, Ok, Option, Result, Some, if◌then◌else◌, nat_le, nat_lt, not, true, ℕ, ◌&&◌, ◌==◌, ◌||◌, ◌≡◌, ◌≤◌}
 use Rattle.blockdev.specs.declared.DeviceFault.{DeviceFault}
 use Rattle.calls.specs.Acts.{Runs}
-use Rattle.calls.specs.Gives.{IsLost, IsServed}
 use Rattle.calls.specs.Renamed.{free_descriptors}
 use Rattle.files.specs.declared.file.OpenFile.{OpenFile}
 use Rattle.files.specs.declared.file.Target.{Target}
 use Rattle.files.specs.declared.file.Target.TheVariants as target
 use Rattle.files.specs.Places.{free_count, opens_of}
 use Rattle.inode.specs.declared.InodeStat.{InodeStat}
+use Rattle.kernel.specs.Disk.{IsLost, IsServed, directory_at}
 use Rattle.kernel.specs.Kernel.{Kernel, argument, descriptors_at, state_of}
 use Rattle.kernel.specs.Sound.{IsKernel}
 use Rattle.spaces.specs.Spaces.{view_at}
@@ -29,7 +29,7 @@ use Rattle.unixmodel.specs.State.{State, process_at}
 pub record Asks (k : Kernel) (i : ℕ) (path : List ℕ) (f : ℕ) (o : Option ℕ) : Type 0 where
   pub named : Some path ≡ path_at (view_at k.spaces i).memory (argument k 0)
   pub flags : f ≡ low (argument k 1)
-  pub found : IfSome (slot k.table.places i) (λ p. o ≡ find k.tree.files p.directory path)
+  pub found : o ≡ find k.tree.files (directory_at k i) path
 
 -- ---- an open file
 

@@ -2,26 +2,14 @@
 use Rattle.std.specs.Prelude.{List, None, Option, Some, false, if◌then◌else◌, pos, slice_set, ℕ, ℤ, ◌+ℤ◌, ◌==◌, suc, zero}
 use Rattle.std.specs.Int.{cast_unsigned, w32}
 use Rattle.proc.specs.declared.process.Process.{Process}
-use Rattle.proc.specs.Places.{changed, with_size, without, has_pid, place_where}
+use Rattle.proc.specs.Places.{without, has_pid, place_where}
 use Rattle.spaces.specs.Spaces as spaces
 use Rattle.spaces.specs.Spaces.{SpaceView, view_at, with_view, with_place}
 use Rattle.unixmodel.specs.declared.process.Mode.TheVariants.{Ready}
-use Rattle.unixmodel.specs.Numbers.{ceil_div, le, natural}
-use Rattle.unixmodel.specs.ProcessCalls.{with_pages}
+use Rattle.unixmodel.specs.Numbers.{le, natural}
 use Rattle.kernel.specs.Kernel.{Kernel}
 
 -- ---- sbrk
-
--- a space with another size
-abbrev pub sized : SpaceView → ℕ → SpaceView
-sized h size = record { memory = with_pages h.memory (ceil_div size 4096); size = size }
-
--- process i with another size
-abbrev pub resized : Kernel → ℕ → ℕ → Kernel
-resized k i size = record k {
-  table = changed k.table i (with_size size);
-  spaces = with_view k.spaces i (sized (view_at k.spaces i) size);
-}
 
 -- the size that is asked for, if it is not below 0
 abbrev pub asked : Kernel → ℕ → ℤ → Option ℕ

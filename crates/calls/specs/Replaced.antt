@@ -1,16 +1,17 @@
 -- What exec and chdir find, and what a program begins with.
-use Rattle.std.specs.Prelude.{IfSome, List, Some, slice_set, ℕ, ◌≡◌}
+use Rattle.std.specs.Prelude.{List, Some, slice_set, ℕ, ◌≡◌}
+use Rattle.kernel.specs.Disk.{directory_at}
 use Rattle.kernel.specs.Kernel.{Kernel, argument}
 use Rattle.programs.specs.declared.executing.Started.{Started}
 use Rattle.spaces.specs.Spaces.{Spaces, view_at}
-use Rattle.unixmodel.specs.Files.{find, slot}
+use Rattle.unixmodel.specs.Files.{find}
 use Rattle.unixmodel.specs.Memory.{path_at}
 
 -- argument 0 is a path that reaches number n
 pub record Reaches (k : Kernel) (i n : ℕ) : Type 0 where
   pub path : List ℕ
   pub named : Some path ≡ path_at (view_at k.spaces i).memory (argument k 0)
-  pub found : IfSome (slot k.table.places i) (λ p. Some n ≡ find k.tree.files p.directory path)
+  pub found : Some n ≡ find k.tree.files (directory_at k i) path
 
 -- the hart begins a program
 abbrev pub begun : Spaces → Started → Spaces

@@ -4,7 +4,8 @@ use Rattle.std.specs.Io.KnownBytes.{Appends}
 use Rattle.console.specs.Output.{AppendsBeginning}
 use Rattle.calls.specs.declared.halt.Halt.{Halt}
 use Rattle.calls.specs.declared.halt.Halt.TheVariants.{Console, Device, Halted, InitEnded}
-use Rattle.calls.specs.Gives.{EventGives, IsLost, IsServed, LeavesTree, Makes}
+use Rattle.calls.specs.Gives.{EventGives, LeavesTree, Makes}
+use Rattle.kernel.specs.Disk.{IsLost, IsServed}
 use Rattle.kernel.specs.Idle.{is_idle}
 use Rattle.kernel.specs.Kernel.{Kernel, state_of}
 use Rattle.tree.specs.Tree.{FileTree}

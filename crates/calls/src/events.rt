@@ -5,7 +5,8 @@
 ghost use Rattle.std.specs.Prelude.{false, ◌≡◌, ◌≤◌, Err, Some, None, IfErr, OnErr, OnOk};
 ghost use Rattle.calls.specs.Acts.{CanWait, GoesOn, Runs};
 ghost use Rattle.calls.specs.declared.halt.Halt.TheVariants.{Console};
-ghost use Rattle.calls.specs.Gives.{DispatchesTo, EventGivesTo, LeavesDisk, LeavesTree, executed, halt_of};
+ghost use Rattle.calls.specs.Gives.{DispatchesTo, EventGivesTo, LeavesTree, executed, halt_of};
+ghost use Rattle.kernel.specs.Disk.{LeavesDisk};
 ghost use Rattle.kernel.specs.Kernel.{state_of};
 ghost use Rattle.kernel.specs.Sound.{IsAlive};
 ghost use Rattle.calls.specs.Resuming.{WaitsIn, resumed, taken};

@@ -5,7 +5,6 @@ ghost use Rattle.calls.specs.Replaced.{Reaches, begun};
 ghost use Rattle.unixmodel.specs.declared.call.Call.TheVariants as Call;
 
 use crate::name_calls::copy_path;
-use crate::open_calls::find;
 use crate::outcome::Came;
 use blockdev::{BlockDev, DeviceFault};
 use kernel::Kernel;
@@ -66,7 +65,7 @@ pub(crate) fn exec<D: BlockDev, T: Translate>(
     let Some(count) = copy_path(kernel, at, 0, &mut buffer) else {
         return Ok(Came::Refuses);
     };
-    let Some(number) = find(kernel, at, &buffer[..count])? else {
+    let Some(number) = kernel.resolve(at, &buffer[..count])? else {
         return Ok(Came::Refuses);
     };
     exec_found(kernel, at, number)

@@ -1,9 +1,8 @@
 //! The calls on what a descriptor is open on: fstat.
-ghost use Rattle.std.specs.Prelude.{false, ◌≡◌, Some};
+ghost use Rattle.std.specs.Prelude.{◌≡◌, Some};
 ghost use Rattle.calls.specs.Acts.{ActsOnDisk, Runs};
-ghost use Rattle.calls.specs.Reads.{ReadsDisk, TellsOf, stat_told};
+ghost use Rattle.calls.specs.Reads.{stat_told};
 ghost use Rattle.unixmodel.specs.declared.call.Call.TheVariants as Call;
-ghost use Rattle.unixmodel.specs.Files.{Node, slot};
 
 use crate::outcome::Came;
 use blockdev::{BlockDev, DeviceFault};
@@ -12,18 +11,6 @@ use kernel::Kernel;
 use kernel::numbers::low;
 use sv39::Translate;
 use unixmodel::call::Call;
-
-// What a node tells of itself.
-pub(crate) fn stat<D: BlockDev, T: Translate>(
-    kernel: &mut Kernel<D, T>,
-    number: usize,
-) -> Result<InodeStat, DeviceFault>
-    requires up { kernel.old.tree.failed ≡ false }
-    requires node { (node : Node) × (slot kernel.old.tree.files number ≡ Some node) }
-    ensures { ReadsDisk kernel.old kernel.new (TellsOf kernel.old number) result }
-{
-    kernel.tree.stat(number)
-}
 
 // What fstat writes of a node: device 1, its number, type, links and length.
 fn stat_bytes(number: u32, told: InodeStat) -> [u8; 24]
@@ -56,7 +43,8 @@ pub(crate) fn fstat<D: BlockDev, T: Translate>(
     if !kernel.can_write(at, address, 24) {
         return Ok(Came::Refuses);
     }
-    let told = stat(kernel, number as usize)?;
-    let _written = kernel.spaces.write(at, address, &stat_bytes(number, told));
+    let told = kernel.stat(number as usize)?;
+    kernel.write(at, address, &stat_bytes(number, told));
+    kernel.is_sound();
     Ok(Came::Answers(0))
 }

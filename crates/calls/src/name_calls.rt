@@ -2,7 +2,7 @@
 ghost use Rattle.std.specs.Prelude.{◌≡◌, ◌≢◌, ◌≤◌, ◌<◌, All, IfSome, Some, take};
 ghost use Rattle.calls.specs.Acts.{ActsOnDisk, Runs};
 ghost use Rattle.calls.specs.Named.{IsNamed, IsRefused};
-ghost use Rattle.tree.specs.Tree.{has_failed};
+ghost use Rattle.kernel.specs.Sound.{IsKernel};
 ghost use Rattle.unixmodel.specs.declared.call.Call.TheVariants as Call;
 ghost use Rattle.unixmodel.specs.Files.{slot};
 ghost use Rattle.calls.specs.Reads.{path_argument};
@@ -12,7 +12,7 @@ use crate::outcome::Came;
 use blockdev::{BlockDev, DeviceFault};
 use kernel::Kernel;
 use sv39::Translate;
-use tree::{Leaf, Tree, TreeFault};
+use tree::{Leaf, TreeFault};
 use unixmodel::call::Call;
 
 // The directory that the running process works in.
@@ -53,15 +53,16 @@ pub(crate) fn refuse(fault: TreeFault) -> Result<Came, DeviceFault>
 }
 
 // What a call on names comes to.
-fn named<D: BlockDev, X>(tree: &Tree<D>, made: &Result<X, TreeFault>) -> Result<Came, DeviceFault>
-    requires { tree.now.failed ≡ has_failed made.now }
-    ensures { IsNamed tree.now made.now result }
+fn named<D: BlockDev, T: Translate, X>(
+    kernel: &Kernel<D, T>,
+    made: &Result<X, TreeFault>,
+) -> Result<Came, DeviceFault>
+    ensures comes { IsNamed made.now result }
+    ensures sound { IsKernel kernel.now }
 {
+    kernel.is_sound();
     match made {
-        Ok(_) => {
-            tree.is_whole();
-            Ok(Came::Answers(0))
-        }
+        Ok(_) => Ok(Came::Answers(0)),
         Err(fault) => refuse(*fault),
     }
 }
@@ -78,13 +79,12 @@ pub(crate) fn mknod<D: BlockDev, T: Translate>(
     let Some(count) = copy_path(kernel, at, 0, &mut buffer) else {
         return Ok(Came::Refuses);
     };
-    let directory = home(kernel, at);
     let leaf = Leaf::Device {
         major: (kernel.argument(1) % 0x1_0000) as u16,
         minor: (kernel.argument(2) % 0x1_0000) as u16,
     };
-    let made = kernel.tree.create(directory, &buffer[..count], leaf);
-    named(&kernel.tree, &made)
+    let made = kernel.create(at, &buffer[..count], leaf);
+    named(kernel, &made)
 }
 
 /// mkdir(path): a directory with the lowest free number, and a name for it.
@@ -99,9 +99,8 @@ pub(crate) fn mkdir<D: BlockDev, T: Translate>(
     let Some(count) = copy_path(kernel, at, 0, &mut buffer) else {
         return Ok(Came::Refuses);
     };
-    let directory = home(kernel, at);
-    let made = kernel.tree.create_directory(directory, &buffer[..count]);
-    named(&kernel.tree, &made)
+    let made = kernel.create_directory(at, &buffer[..count]);
+    named(kernel, &made)
 }
 
 /// link(old, new): another name for a file or a device.
@@ -120,11 +119,8 @@ pub(crate) fn link<D: BlockDev, T: Translate>(
     let Some(new_count) = copy_path(kernel, at, 1, &mut new) else {
         return Ok(Came::Refuses);
     };
-    let directory = home(kernel, at);
-    let made = kernel
-        .tree
-        .link(directory, &old[..old_count], &new[..new_count]);
-    named(&kernel.tree, &made)
+    let made = kernel.link(at, &old[..old_count], &new[..new_count]);
+    named(kernel, &made)
 }
 
 /// unlink(path): a name is taken away, and its node too where that has no links any more and nobody holds it.
@@ -139,7 +135,6 @@ pub(crate) fn unlink<D: BlockDev, T: Translate>(
     let Some(count) = copy_path(kernel, at, 0, &mut buffer) else {
         return Ok(Came::Refuses);
     };
-    let directory = home(kernel, at);
-    let made = kernel.tree.unlink(directory, &buffer[..count]);
-    named(&kernel.tree, &made)
+    let made = kernel.unlink(at, &buffer[..count]);
+    named(kernel, &made)
 }

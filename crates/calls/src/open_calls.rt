@@ -2,15 +2,13 @@
 ghost use Rattle.std.specs.Prelude.{◌≡◌, ◌≢◌, All, List, None, Some, false, true, ℕ};
 ghost use Rattle.calls.specs.Acts.{ActsOnDisk, Runs};
 ghost use Rattle.calls.specs.Opened.{Asks, Cuts, IsOpenable, Opens, file_by, has_seat, may_open_by, target_by};
-ghost use Rattle.calls.specs.Reads.{FindsFrom, ReadsDisk};
 ghost use Rattle.calls.specs.Replaced.{Reaches};
 ghost use Rattle.kernel.specs.Holding.{IsFolder};
 ghost use Rattle.unixmodel.specs.declared.call.Call.TheVariants as Call;
-ghost use Rattle.unixmodel.specs.Files.{find, slot};
+ghost use Rattle.unixmodel.specs.Files.{slot};
 ghost use Rattle.unixmodel.specs.NameCalls.{creates, opened, truncates};
 
 use crate::descriptor_calls::open_as;
-use crate::file_calls::stat;
 use crate::name_calls::{copy_path, home, refuse};
 use crate::outcome::Came;
 use blockdev::{BlockDev, DeviceFault};
@@ -32,19 +30,6 @@ const NEW_FILE: InodeStat = InodeStat {
     links: 1,
     size: 0,
 };
-
-// The number that a path reaches from the directory that the running process works in.
-pub(crate) fn find<D: BlockDev, T: Translate>(
-    kernel: &mut Kernel<D, T>,
-    at: usize,
-    path: &[u8],
-) -> Result<Option<usize>, DeviceFault>
-    requires { Runs kernel.old at }
-    ensures { ReadsDisk kernel.old kernel.new (FindsFrom kernel.old at path.now) result }
-{
-    let directory = home(kernel, at);
-    kernel.tree.resolve(directory, path)
-}
 
 // Whether a file is made where a path reaches nothing.
 fn creates(flags: u32) -> bool
@@ -137,12 +122,10 @@ fn cut<D: BlockDev, T: Translate>(
     requires node { slot kernel.old.tree.files number ≢ None }
     ensures { Cuts kernel.old kernel.new flags number result }
 {
-    kernel.is_sound();
-    if !truncates(flags) {
-        return Ok(());
+    if truncates(flags) {
+        kernel.truncate(number)?;
     }
-    kernel.tree.truncate(number)?;
-    kernel.tree.is_whole();
+    kernel.is_sound();
     Ok(())
 }
 
@@ -157,7 +140,7 @@ fn open_found<D: BlockDev, T: Translate>(
     requires asks { (path : List ℕ) × Asks kernel.old at path flags (Some number) }
     ensures { ActsOnDisk kernel.old kernel.new at (Some Call.Open) result }
 {
-    let told = stat(kernel, number)?;
+    let told = kernel.stat(number)?;
     if !may_open(flags, told) {
         return Ok(Came::Refuses);
     }
@@ -187,10 +170,10 @@ fn open_new<D: BlockDev, T: Translate>(
     if !has_seat(kernel, at) {
         return Ok(Came::Refuses);
     }
-    let directory = home(kernel, at);
-    match kernel.tree.create(directory, path, Leaf::File) {
+    let made = kernel.create(at, path, Leaf::File);
+    kernel.is_sound();
+    match made {
         Ok(number) => {
-            kernel.tree.is_whole();
             let descriptor = open_on(kernel, at, number, flags, NEW_FILE);
             Ok(Came::Answers(descriptor as u64))
         }
@@ -212,7 +195,7 @@ pub(crate) fn open<D: BlockDev, T: Translate>(
         return Ok(Came::Refuses);
     };
     let flags = low(kernel.argument(1));
-    match find(kernel, at, &buffer[..count])? {
+    match kernel.resolve(at, &buffer[..count])? {
         Some(number) => open_found(kernel, at, number, flags),
         None => open_new(kernel, at, &buffer[..count], flags),
     }
@@ -247,7 +230,7 @@ fn chdir_found<D: BlockDev, T: Translate>(
     requires reaches { Reaches kernel.old at number }
     ensures { ActsOnDisk kernel.old kernel.new at (Some Call.Chdir) result }
 {
-    if stat(kernel, number)?.kind != DIRECTORY {
+    if kernel.stat(number)?.kind != DIRECTORY {
         return Ok(Came::Refuses);
     }
     work_in(kernel, at, number)
@@ -266,7 +249,7 @@ pub(crate) fn chdir<D: BlockDev, T: Translate>(
     let Some(count) = copy_path(kernel, at, 0, &mut buffer) else {
         return Ok(Came::Refuses);
     };
-    let Some(number) = find(kernel, at, &buffer[..count])? else {
+    let Some(number) = kernel.resolve(at, &buffer[..count])? else {
         return Ok(Came::Refuses);
     };
     chdir_found(kernel, at, number)

@@ -1,7 +1,7 @@
 //! What a call came to, and how that is settled.
 ghost use Rattle.std.specs.Prelude.{false, ◌≡◌, OnErr, OnOk, Some};
 ghost use Rattle.calls.specs.Acts.{CanCome, IsEnd, pending_for, settled_by};
-ghost use Rattle.calls.specs.Gives.{LeavesDisk};
+ghost use Rattle.kernel.specs.Disk.{LeavesDisk};
 ghost use Rattle.kernel.specs.Kernel.{state_of};
 
 use blockdev::{BlockDev, DeviceFault};

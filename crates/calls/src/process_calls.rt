@@ -19,14 +19,6 @@ use spaces::Spaces;
 use sv39::Translate;
 use unixmodel::call::Call;
 use unixmodel::process::{Mode, Pending};
-use vm::Perm;
-
-/// The marks of the pages that sbrk adds.
-const HEAP: Perm = Perm {
-    w: true,
-    x: false,
-    u: true,
-};
 
 // Whether a status can be written at an address of the running process; at address 0 none is.
 fn can_answer<D: BlockDev, T: Translate>(kernel: &Kernel<D, T>, at: usize, address: u64) -> bool
@@ -156,12 +148,10 @@ fn grow<D: BlockDev, T: Translate>(kernel: &mut Kernel<D, T>, at: usize, bytes: 
     ensures { Acts kernel.old kernel.new at (Some Call.Sbrk) result }
 {
     let old = kernel.size(at);
-    kernel.spaces.pages_are_whole(at);
-    if !kernel.spaces.grow(at, bytes, HEAP) {
+    if !kernel.grow(at, bytes) {
         return Came::Refuses;
     }
-    let size = kernel.spaces.size(at);
-    kernel.table.set_size(at, size);
+    kernel.is_sound();
     Came::Answers(old)
 }
 
@@ -173,11 +163,8 @@ fn shrink<D: BlockDev, T: Translate>(kernel: &mut Kernel<D, T>, at: usize, bytes
     ensures { Acts kernel.old kernel.new at (Some Call.Sbrk) result }
 {
     let old = kernel.size(at);
-    kernel.spaces.pages_are_whole(at);
-    kernel.spaces.shrink(at, bytes);
-    let size = kernel.spaces.size(at);
-    kernel.spaces.frames_suffice();
-    kernel.table.set_size(at, size);
+    kernel.shrink(at, bytes);
+    kernel.is_sound();
     Came::Answers(old)
 }
 

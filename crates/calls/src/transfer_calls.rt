@@ -26,8 +26,8 @@ use blockdev::{BlockDev, DeviceFault};
 use console::{Out, OutFault, ROOM};
 use file_transfers::{read_node, write_node};
 use files::{End, Target};
+use kernel::Kernel;
 use kernel::numbers::{low, natural};
-use kernel::{Channel, Kernel, wakeup};
 use sv39::Translate;
 use unixmodel::call::Call;
 use unixmodel::process::Pending;
@@ -230,15 +230,13 @@ fn read_console<D: BlockDev, T: Translate>(
     requires { OnConsole kernel.old at End.Read pending }
     ensures { GoesOn kernel.old kernel.new at pending result }
 {
-    kernel.spaces.pages_are_whole(at);
+    kernel.pages_are_whole(at);
     let left = u64::from(low(pending.args[2])) - pending.done;
     let mut buffer = [0; ROOM];
-    let taken = kernel
-        .console
-        .take(left as usize, pending.done > 0, &mut buffer);
+    let taken = kernel.take_line(left as usize, pending.done > 0, &mut buffer);
     let address = pending.args[1] + pending.done;
-    let _written = kernel.spaces.write(at, address, &buffer[..taken.count]);
-    kernel.spaces.pages_are_whole(at);
+    kernel.write(at, address, &buffer[..taken.count]);
+    kernel.is_sound();
     let done = pending.done + taken.count as u64;
     if taken.over {
         return Came::Answers(done);
@@ -260,8 +258,8 @@ fn read_pipe<D: BlockDev, T: Translate>(
 {
     if kernel.spaces.has_bytes(pipe) {
         let count = low(pending.args[2]) as usize;
-        let taken = kernel.spaces.read_pipe(pipe, at, pending.args[1], count);
-        wakeup(&mut kernel.table, Channel::Bytes); // who writes to the pipe
+        let taken = kernel.read_pipe(at, pipe, pending.args[1], count);
+        kernel.is_sound();
         return Came::Answers(taken as u64);
     }
     if has_end(kernel, pipe, End::Write) {
@@ -446,11 +444,11 @@ fn write_pipe<D: BlockDev, T: Translate>(
     if !has_end(kernel, pipe, End::Read) {
         return Came::Answers(REFUSED);
     }
-    kernel.spaces.pages_are_whole(at);
+    kernel.pages_are_whole(at);
     let left = u64::from(low(pending.args[2])) - pending.done;
     let address = pending.args[1] + pending.done;
-    let sent = kernel.spaces.write_pipe(pipe, at, address, left as usize);
-    wakeup(&mut kernel.table, Channel::Bytes); // who reads the pipe
+    let sent = kernel.write_pipe(at, pipe, address, left as usize);
+    kernel.is_sound();
     let done = pending.done + sent as u64;
     if done == u64::from(low(pending.args[2])) {
         return Came::Answers(done);

@@ -1,58 +1,40 @@
 -- Files that go into a digest step by step.
-use Rattle.std.proofs.Common.{◌≡◌, ℕ, ◌+◌, ◌*◌, ◌-◌, ◌≤◌, false, List, ◌∷◌, [], ◌++◌, length, take, drop, min, Ok, Err, Option, None, Some, Result, IsErrAnd, ap, ap₂, arith, le_trans, refl, subst, sym, ◌∙◌}
-use Rattle.std.specs.Prelude.{IfOk}
+use Rattle.std.proofs.Common.{◌≡◌, ℕ, ◌+◌, ◌*◌, ◌-◌, ◌≤◌, false, List, ◌∷◌, [], ◌++◌, length, take, drop, min, Err, Ok, Option, None, Some, Result, ap, ap₂, arith, refl, subst, ◌∙◌}
 use Rattle.std.proofs.lemmas.List.{length-drop, length-take-le, take-append-le, take_all, take_min}
-use Rattle.std.proofs.lemmas.Result.{err_from_is_err_and}
 use Rattle.blockdev.specs.declared.DeviceFault.{DeviceFault}
 use Rattle.blockdev.specs.Splice.{part}
 use Rattle.digests.specs.Digest.{bytes_mixed, contents_mixed, each, mix, mixed, node_mixed, major_of}
-use Rattle.digests.specs.Reads.{HasMixed, major_told, node_numbers}
+use Rattle.digests.specs.Reads.{major_told, node_numbers}
 use Rattle.digests.proofs.Steps.{each-all, each-next, each-none}
 use Rattle.inode.specs.declared.InodeStat.{InodeStat}
+use Rattle.kernel.proofs.Reading.{lost-then, read-then}
+use Rattle.kernel.specs.Disk.{HasRead, ReadsDisk}
+use Rattle.kernel.specs.Kernel.{Kernel}
+use Rattle.tree.specs.Calls.{IsPart}
 use Rattle.tree.specs.Telling.{Tells, TellsAny}
-use Rattle.tree.specs.Tree.{FileTree, Serves}
-use Rattle.unixmodel.specs.Failures.{HasCause}
-use Rattle.unixmodel.specs.Files.{Files, Node, kind_of, links_of, node_bytes, size_of, slot}
+use Rattle.unixmodel.specs.Files.{Node, kind_of, links_of, node_bytes, size_of, slot}
 use Rattle.unixmodel.specs.Files.Node.{Device, Directory, File}
 use Rattle.unixmodel.specs.Shown.{bytes_or_none}
 
 -- so far no access has failed, and the files are as they were
-pub record SoFar (old now : FileTree) (is digest : ℕ) : Type 0 where
-  pub up : now.failed ≡ false
-  pub later : old.failures ≤ now.failures
-  pub same : now ≡ record old { failures = now.failures }
+pub record SoFar (old now : Kernel) (is digest : ℕ) : Type 0 where
+  pub up : now.tree.failed ≡ false
+  pub read : HasRead old now
   pub value : digest ≡ is
 
-pub begun : (tree : FileTree) (step : ℕ → ℕ → ℕ) (digest : ℕ) → tree.failed ≡ false → SoFar tree tree (each step 0 digest) digest
-begun tree step digest up = record { up = up; later = omega arith; same = refl; value = each-none step digest }
+pub begun : (k : Kernel) (step : ℕ → ℕ → ℕ) (digest : ℕ) → k.tree.failed ≡ false → SoFar k k (each step 0 digest) digest
+begun k step digest up = record { up = up; read = record { same = refl; later = omega arith }; value = each-none step digest }
 
 -- what a step makes of a digest
-pub step-on : {old now new : FileTree} (step : ℕ → ℕ → ℕ) (n digest : ℕ) {so_far next : ℕ} → SoFar old now (each step n digest) so_far
-    → new ≡ record now { failures = new.failures } → new.failed ≡ false → now.failures ≤ new.failures → next ≡ step so_far n → SoFar old new (each step (n + 1) digest) next
-step-on {new = new} step n digest {so_far = so_far} {next = next} before same up later told = record {
-  up = up;
-  later = le_trans before.later later;
-  same = same ∙ ap (λ (t : FileTree). record t { failures = new.failures }) before.same;
+pub step-on : {old now new : Kernel} (step : ℕ → ℕ → ℕ) (n digest : ℕ) {so_far next : ℕ} → SoFar old now (each step n digest) so_far → HasRead now new → next ≡ step so_far n → SoFar old new (each step (n + 1) digest) next
+step-on step n digest {so_far} {next} before read told = record {
+  up = ap (λ (k : Kernel). k.tree.failed) read.same ∙ before.up;
+  read = read-then before.read read;
   value = each-next step n digest so_far next before.value told;
 }
 
-pub all-done : {old now : FileTree} (step : ℕ → ℕ → ℕ) (n m digest : ℕ) {so_far : ℕ} → SoFar old now (each step n digest) so_far → n ≡ m → Serves old now (Ok so_far) (HasMixed old now (each step m digest))
-all-done step n m digest {so_far = so_far} before all = record {
-  told = record { same = before.same; value = each-all step n m digest so_far before.value all };
-  up = before.up;
-  down = tt;
-  same_device = ap (λ (t : FileTree). t.identity) before.same;
-  cause = record { later = before.later; failed = λ e. absurd (cc) };
-}
-
--- ---- a step that fails
-
-module _ {B : Type 0} (r : Result B DeviceFault) (Q : DeviceFault → Type 0) (exit : IsErrAnd r Q) where
-  pub lost-later : {A : Type 0} {old mid new : FileTree} {given : DeviceFault} {Told : A → Type 0} (P : B → Type 0) → mid.identity ≡ old.identity → old.failures ≤ mid.failures → Serves mid new (Err given) Told → Serves old new r P
-  lost-later {old = old} {mid = mid} {new = new} P same first serves =
-      let after = serves.cause.later in
-      subst (λ (x : Result B DeviceFault). Serves old new x P) (sym (err_from_is_err_and r exit).1)
-      (record { told = tt; up = tt; down = serves.down; same_device = serves.same_device ∙ same; cause = record { later = le_trans first after; failed = λ e. let rises = serves.cause.failed e in omega (arith, rises, first) } })
+pub all-done : {old now : Kernel} (step : ℕ → ℕ → ℕ) (n m digest : ℕ) {so_far : ℕ} → SoFar old now (each step n digest) so_far → n ≡ m → ReadsDisk old now (λ told. told ≡ each step m digest) (Ok so_far)
+all-done step n m digest {so_far} before all = (before.read, each-all step n m digest so_far before.value all)
 
 -- ---- the bytes of a node
 
@@ -71,25 +53,16 @@ read-front bytes old new at count long is told =
     ∙ ap (λ n. take n (drop at bytes)) count_is
     ∙ take_min 1024 (drop at bytes)
 
--- what a read of any number tells
-abbrev pub HasRead : FileTree → FileTree → ℕ → ℕ → List ℕ → List ℕ → ℕ → Type 0
-HasRead old new number at out out' k =
-    (new ≡ record old { failures = new.failures })
-    × ((k ≡ min (length out) (length (bytes_or_none (slot old.files number)) - at))
-    × (out' ≡ part at k (bytes_or_none (slot old.files number)) ++ drop k out))
-
-pub block-next : {old now new : FileTree} (number k digest : ℕ) {so_far next count : ℕ} {out out' : List ℕ}
-    → SoFar old now (each (block_step (bytes_or_none (slot old.files number))) k digest) so_far
+pub block-next : {old now new : Kernel} (number k digest : ℕ) (out : List ℕ) {so_far next count : ℕ} {out' : List ℕ}
+    → SoFar old now (each (block_step (bytes_or_none (slot old.tree.files number))) k digest) so_far
     → length out ≡ 1024
-    → Serves now new (Ok count) (HasRead now new number (1024 * k) out out')
+    → ReadsDisk now new (IsPart (bytes_or_none (slot now.tree.files number)) (1024 * k) out out') (Ok count)
     → next ≡ bytes_mixed so_far (take count out')
-    → SoFar old new (each (block_step (bytes_or_none (slot old.files number))) (k + 1) digest) next
-block-next {old = old} {now = now} number k digest {so_far = so_far} {count = count} {out = out} {out' = out'} before long serves told =
-    let files : now.files ≡ old.files = ap (λ (t : FileTree). t.files) before.same in
-    let bytes = bytes_or_none (slot now.files number) in
-    step-on (block_step (bytes_or_none (slot old.files number))) k digest before serves.told.0 serves.up serves.cause.later
-    (told ∙ ap (bytes_mixed so_far) (read-front bytes out out' (1024 * k) count long serves.told.1.0 serves.told.1.1
-    ∙ ap (λ (f : Files). take 1024 (drop (1024 * k) (bytes_or_none (slot f number)))) files))
+    → SoFar old new (each (block_step (bytes_or_none (slot old.tree.files number))) (k + 1) digest) next
+block-next {old} {now} number k digest out {so_far} {count = count} {out' = out'} before long reads told =
+    step-on (block_step (bytes_or_none (slot old.tree.files number))) k digest before reads.0
+    (told ∙ ap (bytes_mixed so_far) (read-front (bytes_or_none (slot now.tree.files number)) out out' (1024 * k) count long reads.1.0 reads.1.1
+    ∙ ap (λ (y : Kernel). take 1024 (drop (1024 * k) (bytes_or_none (slot y.tree.files number)))) before.read.same))
 
 -- ---- a node
 
@@ -114,49 +87,30 @@ node-same s None digest tells = absurd tells
 node-same s (Some node) digest tells = ap₂ (λ numbers size. contents_mixed (mixed digest numbers) size (node_bytes node)) (numbers-same s node tells) tells.2
 
 -- no number of the disk's: nothing was read but that
-pub none-done : {old new : FileTree} {told : Option InodeStat} (digest now number : ℕ) → Serves old new (Ok told) (λ t. (new ≡ record old { failures = new.failures }) × TellsAny t (slot old.files number)) → told ≡ None → now ≡ mix digest 0
-    → Serves old new (Ok now) (HasMixed old new (node_mixed digest (slot old.files number)))
-none-done {old = old} digest now number serves is mixed_is = record {
-  told = record { same = serves.told.0; value = no-node digest now (slot old.files number) is serves.told.1 mixed_is };
-  up = serves.up;
-  down = tt;
-  same_device = serves.same_device;
-  cause = record { later = serves.cause.later; failed = λ e. absurd (cc) };
-}
+pub none-done : {old new : Kernel} {told : Option InodeStat} (digest now number : ℕ) → ReadsDisk old new (λ t. TellsAny t (slot old.tree.files number)) (Ok told) → told ≡ None → now ≡ mix digest 0
+    → ReadsDisk old new (λ d. d ≡ node_mixed digest (slot old.tree.files number)) (Ok now)
+none-done {old = old} digest now number reads is mixed_is = (reads.0, no-node digest now (slot old.tree.files number) is reads.1 mixed_is)
 
 -- behind a look, what goes on is told of the whole
-told-on : (old mid new : FileTree) (is was : ℕ) (r : Result ℕ DeviceFault) → mid ≡ record old { failures = mid.failures } → was ≡ is → IfOk r (HasMixed mid new was) → IfOk r (HasMixed old new is)
-told-on old mid new is was (Err fault) same value told = tt
-told-on old mid new is was (Ok x) same value told = record { same = told.same ∙ ap (λ (t : FileTree). record t { failures = new.failures }) same; value = told.value ∙ value }
-
-cause-on : (old mid new : FileTree) (r : Result ℕ DeviceFault) → old.failures ≤ mid.failures → HasCause mid.failures new.failures r → HasCause old.failures new.failures r
-cause-on old mid new r first cause = record { later = le_trans first cause.later; failed = λ e. let rises = cause.failed e in omega (arith, rises, first) }
-
-pub node-done : {old mid new : FileTree} {told : Option InodeStat} {s : InodeStat} {front : ℕ} (digest number : ℕ) (r : Result ℕ DeviceFault)
-    → Serves old mid (Ok told) (λ t. (mid ≡ record old { failures = mid.failures }) × TellsAny t (slot old.files number)) → told ≡ Some s → front ≡ mixed digest (node_numbers s)
-    → Serves mid new r (HasMixed mid new (contents_mixed front s.size (bytes_or_none (slot mid.files number))))
-    → Serves old new r (HasMixed old new (node_mixed digest (slot old.files number)))
-node-done {old = old} {mid = mid} {new = new} {s = s} {front = front} digest number r look is front_is serves =
-    let files : mid.files ≡ old.files = ap (λ (t : FileTree). t.files) look.told.0 in
-    let tells : TellsAny (Some s) (slot old.files number) = subst (λ (t : Option InodeStat). TellsAny t (slot old.files number)) is look.told.1 in
-    let value : contents_mixed front s.size (bytes_or_none (slot mid.files number)) ≡ node_mixed digest (slot old.files number) =
-    ap (λ (f : Files). contents_mixed front s.size (bytes_or_none (slot f number))) files
-    ∙ ap (λ d. contents_mixed d s.size (bytes_or_none (slot old.files number))) front_is
-    ∙ node-same s (slot old.files number) digest tells in
-    record {
-      told = told-on old mid new _ _ r look.told.0 value serves.told;
-      up = serves.up;
-      down = serves.down;
-      same_device = serves.same_device ∙ look.same_device;
-      cause = cause-on old mid new r look.cause.later serves.cause;
-    }
+pub node-done : {old mid : Kernel} (new : Kernel) {told : Option InodeStat} {s : InodeStat} {front : ℕ} (digest number : ℕ) (r : Result ℕ DeviceFault)
+    → ReadsDisk old mid (λ t. TellsAny t (slot old.tree.files number)) (Ok told) → told ≡ Some s → front ≡ mixed digest (node_numbers s)
+    → ReadsDisk mid new (λ d. d ≡ contents_mixed front s.size (bytes_or_none (slot mid.tree.files number))) r
+    → ReadsDisk old new (λ d. d ≡ node_mixed digest (slot old.tree.files number)) r
+node-done new digest number (Err fault) look is front_is lost = lost-then look.0 lost
+node-done {old = old} new {s = s} {front = front} digest number (Ok d) look is front_is reads =
+    let tells : TellsAny (Some s) (slot old.tree.files number) = subst (λ (t : Option InodeStat). TellsAny t (slot old.tree.files number)) is look.1 in (
+      read-then look.0 reads.0,
+      reads.1
+          ∙ ap (λ (k : Kernel). contents_mixed front s.size (bytes_or_none (slot k.tree.files number))) look.0.same
+          ∙ ap (λ d. contents_mixed d s.size (bytes_or_none (slot old.tree.files number))) front_is
+          ∙ node-same s (slot old.tree.files number) digest tells,
+    )
 
 -- ---- all nodes
 
-pub node-next : {old now new : FileTree} (n digest : ℕ) {so_far next : ℕ}
-    → SoFar old now (each (λ d n. node_mixed d (slot old.files n)) n digest) so_far
-    → Serves now new (Ok next) (HasMixed now new (node_mixed so_far (slot now.files n)))
-    → SoFar old new (each (λ d n. node_mixed d (slot old.files n)) (n + 1) digest) next
-node-next {old = old} n digest {so_far = so_far} before serves =
-    let files = ap (λ (t : FileTree). t.files) before.same in
-    step-on (λ d n. node_mixed d (slot old.files n)) n digest before serves.told.same serves.up serves.cause.later (serves.told.value ∙ ap (λ (f : Files). node_mixed so_far (slot f n)) files)
+pub node-next : {old now new : Kernel} (n digest : ℕ) {so_far next : ℕ}
+    → SoFar old now (each (λ d n. node_mixed d (slot old.tree.files n)) n digest) so_far
+    → ReadsDisk now new (λ d. d ≡ node_mixed so_far (slot now.tree.files n)) (Ok next)
+    → SoFar old new (each (λ d n. node_mixed d (slot old.tree.files n)) (n + 1) digest) next
+node-next {old = old} n digest {so_far = so_far} before reads =
+    step-on (λ d n. node_mixed d (slot old.tree.files n)) n digest before reads.0 (reads.1 ∙ ap (λ (k : Kernel). node_mixed so_far (slot k.tree.files n)) before.read.same)

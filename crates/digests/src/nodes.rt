@@ -1,14 +1,17 @@
 //! How the files of a disk go into a digest.
 ghost use Rattle.std.specs.Prelude.{◌≡◌, false};
-ghost use Rattle.digests.specs.Digest.{files_mixed, mixed, node_mixed};
-ghost use Rattle.digests.specs.Reads.{HasMixed, HasMixedNode, major_told, node_numbers};
-ghost use Rattle.tree.specs.Tree.{Serves};
+ghost use Rattle.digests.specs.Digest.{contents_mixed, files_mixed, mixed, node_mixed};
+ghost use Rattle.digests.specs.Reads.{major_told, node_numbers};
+ghost use Rattle.kernel.specs.Disk.{ReadsDisk};
 ghost use Rattle.unixmodel.specs.Files.{slot};
+ghost use Rattle.unixmodel.specs.Shown.{bytes_or_none};
 
 use crate::mixing::{mix, mix_bytes, mix_numbers};
 use blockdev::{BLOCK_SIZE, BlockDev, DeviceFault};
 use inode::InodeStat;
-use tree::{DEVICE, Tree};
+use kernel::Kernel;
+use sv39::Translate;
+use tree::DEVICE;
 
 /// How many numbers of nodes a disk has at most.
 const NUMBERS: usize = 8192;
@@ -38,43 +41,50 @@ fn mix_stat(digest: u64, stat: InodeStat) -> u64
 }
 
 // The bytes of a node of a size go in, block by block.
-fn mix_contents<D: BlockDev>(
+fn mix_contents<D: BlockDev, T: Translate>(
     digest: u64,
-    tree: &mut Tree<D>,
+    kernel: &mut Kernel<D, T>,
     number: usize,
     size: u32,
 ) -> Result<u64, DeviceFault>
-    requires { tree.old.failed ≡ false }
-    ensures { Serves tree.old tree.new result (HasMixedNode tree.old tree.new digest number size) }
+    requires { kernel.old.tree.failed ≡ false }
+    ensures { ReadsDisk kernel.old kernel.new (λ told. told ≡ contents_mixed digest size (bytes_or_none (slot kernel.old.tree.files number))) result }
 {
     let mut block = [0; BLOCK_SIZE];
     let mut digest = digest;
     for k in 0..size.div_ceil(BLOCK_SIZE as u32) {
-        let count = tree.read_any(number, BLOCK_SIZE * k as usize, &mut block)?;
+        let count = kernel.read_any(number, BLOCK_SIZE * k as usize, &mut block)?;
         digest = mix_bytes(digest, &block[..count]);
     }
     Ok(digest)
 }
 
 // The node with a number goes in, if there is one.
-fn mix_node<D: BlockDev>(digest: u64, tree: &mut Tree<D>, number: usize) -> Result<u64, DeviceFault>
-    requires { tree.old.failed ≡ false }
-    ensures { Serves tree.old tree.new result (HasMixed tree.old tree.new (node_mixed digest (slot tree.old.files number))) }
+fn mix_node<D: BlockDev, T: Translate>(
+    digest: u64,
+    kernel: &mut Kernel<D, T>,
+    number: usize,
+) -> Result<u64, DeviceFault>
+    requires { kernel.old.tree.failed ≡ false }
+    ensures { ReadsDisk kernel.old kernel.new (λ told. told ≡ node_mixed digest (slot kernel.old.tree.files number)) result }
 {
-    let Some(stat) = tree.look(number)? else {
+    let Some(stat) = kernel.look(number)? else {
         return Ok(mix(digest, 0));
     };
-    mix_contents(mix_stat(digest, stat), tree, number, stat.size)
+    mix_contents(mix_stat(digest, stat), kernel, number, stat.size)
 }
 
-/// All files of a disk go into a digest.
-pub fn mix_files<D: BlockDev>(digest: u64, tree: &mut Tree<D>) -> Result<u64, DeviceFault>
-    requires { tree.old.failed ≡ false }
-    ensures { Serves tree.old tree.new result (HasMixed tree.old tree.new (files_mixed digest tree.old.files)) }
+/// All files of the disk go into a digest.
+pub fn mix_files<D: BlockDev, T: Translate>(
+    digest: u64,
+    kernel: &mut Kernel<D, T>,
+) -> Result<u64, DeviceFault>
+    requires { kernel.old.tree.failed ≡ false }
+    ensures { ReadsDisk kernel.old kernel.new (λ told. told ≡ files_mixed digest kernel.old.tree.files) result }
 {
     let mut digest = digest;
     for number in 0..NUMBERS {
-        digest = mix_node(digest, tree, number)?;
+        digest = mix_node(digest, kernel, number)?;
     }
     Ok(digest)
 }

@@ -12,6 +12,11 @@ pub mod Advancing
 pub mod Starts
 pub mod Dropping
 pub mod Finishes
+pub mod Shapes
+pub mod Reading
+pub mod Unlinking
+pub mod Naming
+pub mod Memories
 pub mod Marks
 pub mod Readies
 pub mod Shown

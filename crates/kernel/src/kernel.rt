@@ -25,9 +25,11 @@ ghost use Rattle.unixmodel.specs.declared.trap.Access.TheVariants.{Load};
 ghost use Rattle.vm.specs.Reach.{piece_at};
 ghost use Rattle.unixmodel.specs.Turn.{ready, turn};
 
+mod disk;
 mod duplicate;
 mod idle;
 mod instructions;
+mod memory;
 mod show;
 
 use crate::channels::{Channel, wakeup};

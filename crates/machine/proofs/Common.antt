@@ -12,7 +12,6 @@ pub use Rattle.std.specs.Prelude.{◌==◌, IfErr, IfOk, IfSome, IsErrOf, IsSome
 pub use Rattle.std.specs.Result.{is_err}
 pub use Rattle.calls.proofs.Runs.{run-append, run-more, then_runs}
 pub use Rattle.calls.proofs.Served.{ok-told, on-err, tree-lost, where-err}
-pub use Rattle.calls.proofs.Stats.{has-read, reads-disk, reads-keep}
 pub use Rattle.calls.specs.declared.halt.Halt.{Halt}
 pub use Rattle.calls.specs.declared.halt.Halt.TheVariants.{Console, Halted, InitEnded}
 unfoldable pub use Rattle.digests.specs.Digest.{digest_but_files, digest_of, files_mixed}

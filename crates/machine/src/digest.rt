@@ -1,7 +1,7 @@
 //! The digest of a machine's state.
 ghost use Rattle.std.specs.Prelude.{◌≡◌, false};
-ghost use Rattle.calls.specs.Reads.{ReadsDisk};
 ghost use Rattle.digests.specs.Digest.{digest_of};
+ghost use Rattle.kernel.specs.Disk.{ReadsDisk};
 ghost use Rattle.kernel.specs.Kernel.{state_of};
 
 use blockdev::{BlockDev, DeviceFault};
@@ -17,5 +17,5 @@ pub fn digest_kernel<D: BlockDev, T: Translate>(
     ensures { ReadsDisk kernel.old kernel.new (λ digest. digest ≡ digest_of (state_of kernel.old)) result }
 {
     let but_files = digest_but_files(kernel);
-    mix_files(but_files, &mut kernel.tree)
+    mix_files(but_files, kernel)
 }

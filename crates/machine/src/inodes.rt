@@ -1,6 +1,6 @@
 //! What a machine tells of the files of its disk.
 ghost use Rattle.std.specs.Prelude.{◌≡◌, false, option_map};
-ghost use Rattle.calls.specs.Reads.{ReadsDisk};
+ghost use Rattle.kernel.specs.Disk.{ReadsDisk};
 ghost use Rattle.kernel.specs.Kernel.{state_of};
 ghost use Rattle.machine.specs.Looks.{ReadsAt, stat_from, stat_seen};
 ghost use Rattle.unixmodel.specs.Shown.{shown_stat};
@@ -43,7 +43,7 @@ pub fn look<D: BlockDev, T: Translate>(
     requires { kernel.old.tree.failed ≡ false }
     ensures { ReadsDisk kernel.old kernel.new (λ stat. stat ≡ option_map stat_seen (shown_stat (state_of kernel.old) number)) result }
 {
-    let seen = kernel.tree.look(number)?;
+    let seen = kernel.look(number)?;
     Ok(told(seen))
 }
 
@@ -57,5 +57,5 @@ pub fn read<D: BlockDev, T: Translate>(
     requires { kernel.old.tree.failed ≡ false }
     ensures { ReadsDisk kernel.old kernel.new (ReadsAt (state_of kernel.old) number at out.old out.new) result }
 {
-    kernel.tree.read_any(number, at, out)
+    kernel.read_any(number, at, out)
 }

@@ -1,5 +1,5 @@
-use Rattle.calls.proofs.Common.{state-but, quiet, Kernel, ended, started, ap, negsuc, sym, ◌∙◌}
-use Rattle.calls.proofs.Served.{on-after, same-served, serves-disk, started-tree}
+use Rattle.calls.proofs.Common.{serves-disk, state-but, quiet, Kernel, ended, started, ap, negsuc, sym, ◌∙◌}
+use Rattle.calls.proofs.Served.{on-after, same-served, started-tree}
 use Rattle.calls.proofs.Takes.{ends-if, takes-killed, takes-ready, takes-waiting}
 use Rattle.calls.proofs.events.take.Goals as goal
 

@@ -1,5 +1,5 @@
-use Rattle.calls.proofs.Common.{err_from_is_err_and, quiet, arith, ap, negsuc, refl, sym, ◌∙◌}
-use Rattle.calls.proofs.Served.{disk-served, ok-told, serves-disk, serves-lost}
+use Rattle.calls.proofs.Common.{serves-disk, err_from_is_err_and, quiet, arith, ap, negsuc, refl, sym, ◌∙◌}
+use Rattle.calls.proofs.Served.{disk-served, ok-told, serves-lost}
 use Rattle.calls.proofs.Takes.{ended-told, made-quiet, step-calls, step-faults}
 use Rattle.calls.proofs.Prints.{Appends-none}
 use Rattle.calls.proofs.events.take_trap.Goals as goal

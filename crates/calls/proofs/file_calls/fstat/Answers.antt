@@ -1,6 +1,5 @@
 use Rattle.calls.proofs.Common.{ap, sym, ◌∙◌, kernel_of, low}
-use Rattle.calls.proofs.Woken.{watched-piped, writes-piped}
-use Rattle.calls.proofs.Stats.{fstat-acts, fstat-nodeless, fstat-there, fstat-unnamed, fstat-unwritable, node-told, reads-ok}
+use Rattle.calls.proofs.Stats.{fstat-acts, fstat-can, fstat-nodeless, fstat-there, fstat-unnamed, fstat-unwritable, node-told}
 use Rattle.calls.proofs.file_calls.fstat.Goals as goal
 
 pub returns-in_default : goal.returns-in_default
@@ -22,21 +21,14 @@ stat-requires-2-clause-node g c =
     let on = node-told (kernel_of c.kernel.inside) _ c.kernel.view_is c.from.result c.in-Some.id c.from.ensures c.stat.result _ c.stat.ensures c.in-Ok.is in
     fstat-there c.args.kernel.now c.args.at c.requires c.low.result c.in-Some.id (c.low.ensures ∙ ap low c.argument.ensures) (sym c.in-Some.ensures.named) c.in-Ok.number on
 
-pub invariant_of-kernel : goal.invariant_of-kernel
-invariant_of-kernel g c =
+pub write-requires-clause-can : goal.write-requires-clause-can
+write-requires-clause-can g c =
     let on = node-told (kernel_of c.kernel.inside) _ c.kernel.view_is c.from.result c.in-Some.id c.from.ensures c.stat.result _ c.stat.ensures c.in-Ok.is in
     let can = rw c.argument-address.ensures at (sym c.if-not-can_write.ensures) in
-    let told = reads-ok _ c.stat-2.result _ c.in_ok-told.was c.stat-2.ensures in
-    let w = c.write-written.ensures in
-    record {
-      sound = (fstat-acts c.args.kernel.now c.args.at c.requires c.low.result c.in-Some.id (c.low.ensures ∙ ap low c.argument.ensures) (sym c.in-Some.ensures.named) c.in-Ok.number on can (kernel_of c.kernel-2.inside) _ c.kernel-2.view_is told.0 _ told.1 _ _ c.argument-address.ensures _ c.stat_bytes.ensures _ c.write-written.ensures.can c.write-written.ensures.done).sound;
-      watched = watched-piped (kernel_of c.kernel-2.inside) c.kernel-2.invariant.watched c.write-written.new.self (writes-piped c.kernel-2.inside.spaces c.write-written.new.self _ _ c.write-written.result w.done w.refused);
-    }
+    fstat-can c.args.kernel.now c.args.at c.requires c.low.result c.in-Some.id (c.low.ensures ∙ ap low c.argument.ensures) (sym c.in-Some.ensures.named) c.in-Ok.number on can c.in_ok-told.ensures.0 c.argument-address.ensures _ c.stat_bytes.ensures
 
 pub returns : goal.returns
 returns g c =
     let on = node-told (kernel_of c.kernel.inside) _ c.kernel.view_is c.from.result c.in-Some.id c.from.ensures c.stat.result _ c.stat.ensures c.in-Ok.is in
     let can = rw c.argument-address.ensures at (sym c.if-not-can_write.ensures) in
-    let told = reads-ok _ c.stat-2.result _ c.in_ok-told.was c.stat-2.ensures in
-    fstat-acts c.args.kernel.now c.args.at c.requires c.low.result c.in-Some.id (c.low.ensures ∙ ap low c.argument.ensures) (sym c.in-Some.ensures.named) c.in-Ok.number on can (kernel_of c.kernel-2.inside) _ c.kernel-2.view_is told.0 _ told.1
-    _ _ c.argument-address.ensures _ c.stat_bytes.ensures _ c.write-written.ensures.can c.write-written.ensures.done
+    fstat-acts c.args.kernel.now c.args.at c.requires c.low.result c.in-Some.id (c.low.ensures ∙ ap low c.argument.ensures) (sym c.in-Some.ensures.named) c.in-Ok.number on can c.in_ok-told.ensures.0 c.argument-address.ensures _ c.stat_bytes.ensures c.in_ok-told.ensures.1 c.write.ensures c.is_sound.ensures.sound

@@ -3,22 +3,21 @@ use Rattle.calls.proofs.Execs.{reaches}
 use Rattle.calls.proofs.Homes.{chdir-lost, chdir-pathless, read-runs}
 use Rattle.calls.proofs.Opens.{after-look}
 use Rattle.calls.proofs.Served.{err-lost}
-use Rattle.calls.proofs.Stats.{reads-ok}
 use Rattle.calls.proofs.open_calls.chdir.Goals as goal
 
 pub returns-in_default : goal.returns-in_default
 returns-in_default g c = chdir-pathless c.args.kernel.now c.args.at c.requires c.in_default.ensures.path
 
 pub returns-in_default-2 : goal.returns-in_default-2
-returns-in_default-2 g c = chdir-lost c.args.kernel.now c.args.at c.requires _ _ _ c.in-Some.ensures.path (reads-ok _ c.find.result _ c.in_ok-number.was c.find.ensures) c.in_default-2.is
+returns-in_default-2 g c = chdir-lost c.args.kernel.now c.args.at c.requires _ _ _ c.in-Some.ensures.path c.in_ok-number.ensures c.in_default-2.is
 
 pub chdir_found-requires : goal.chdir_found-requires
 chdir_found-requires g c =
-    let reads = reads-ok _ c.find.result _ c.in_ok-number.was c.find.ensures in
+    let reads = c.in_ok-number.ensures in
     record { runs = read-runs c.args.kernel.now _ c.args.at reads.0 c.requires; reaches = reaches c.args.kernel.now c.args.at c.requires _ _ _ c.in-Some.ensures.path reads _ c.in-Some-2.is }
 
-pub find-requires : goal.find-requires
-find-requires g c = c.requires
+pub resolve-requires : goal.resolve-requires
+resolve-requires g c = record { running = c.requires.active; up = c.requires.up }
 
 pub copy_path-requires : goal.copy_path-requires
 copy_path-requires g c = record { active = c.requires.active; place = omega arith }
@@ -27,4 +26,4 @@ pub returns-in_err-number : goal.returns-in_err-number
 returns-in_err-number g c = err-lost c.args.kernel.now _ c.args.at Chdir c.from_residual.result c.from_residual.ensures.0 c.in_err-number.ensures
 
 pub returns : goal.returns
-returns g c = after-look c.args.kernel.now _ _ c.args.at (reads-ok _ c.find.result _ c.in_ok-number.was c.find.ensures).0 c.requires.up Chdir _ c.chdir_found.ensures
+returns g c = after-look c.args.kernel.now _ _ c.args.at c.in_ok-number.ensures.0 c.requires.up Chdir _ c.chdir_found.ensures

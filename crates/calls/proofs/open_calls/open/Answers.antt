@@ -2,7 +2,6 @@ use Rattle.calls.proofs.Common.{ap, arith, ◌∙◌, Open, low}
 use Rattle.calls.proofs.Homes.{read-runs}
 use Rattle.calls.proofs.Opens.{after-look, asked, open-pathless}
 use Rattle.calls.proofs.Served.{err-lost}
-use Rattle.calls.proofs.Stats.{reads-ok}
 use Rattle.calls.proofs.open_calls.open.Goals as goal
 
 pub copy_path-requires : goal.copy_path-requires
@@ -11,24 +10,24 @@ copy_path-requires g c = record { active = c.requires.active; place = omega arit
 pub returns-in_default : goal.returns-in_default
 returns-in_default g c = open-pathless c.args.kernel.now c.args.at c.requires c.in_default.ensures.path
 
-pub find-requires : goal.find-requires
-find-requires g c = c.requires
+pub resolve-requires : goal.resolve-requires
+resolve-requires g c = record { running = c.requires.active; up = c.requires.up }
 
 pub returns-in_err-number : goal.returns-in_err-number
 returns-in_err-number g c = err-lost c.args.kernel.now _ c.args.at Open c.from_residual.result c.from_residual.ensures.0 c.in_err-number.ensures
 
 pub open_found-requires : goal.open_found-requires
 open_found-requires g c =
-    let reads = reads-ok _ c.find.result _ c.in_ok-number.was c.find.ensures in
+    let reads = c.in_ok-number.ensures in
     record { runs = read-runs c.args.kernel.now _ c.args.at reads.0 c.requires; asks = (_, asked c.args.at _ _ _ reads c.in-Some.ensures.path (c.low-flags.ensures ∙ ap low c.argument.ensures) _ c.in-Some-2.is) }
 
 pub open_new-requires : goal.open_new-requires
 open_new-requires g c =
-    let reads = reads-ok _ c.find.result _ c.in_ok-number.was c.find.ensures in
+    let reads = c.in_ok-number.ensures in
     record { runs = read-runs c.args.kernel.now _ c.args.at reads.0 c.requires; asks = asked c.args.at _ _ _ reads c.in-Some.ensures.path (c.low-flags.ensures ∙ ap low c.argument.ensures) _ c.in-None.is; path = c.in-Some.ensures.bytes }
 
 pub returns-in-Some-2 : goal.returns-in-Some-2
-returns-in-Some-2 g c = after-look c.args.kernel.now _ _ c.args.at (reads-ok _ c.find.result _ c.in_ok-number.was c.find.ensures).0 c.requires.up Open _ c.open_found.ensures
+returns-in-Some-2 g c = after-look c.args.kernel.now _ _ c.args.at c.in_ok-number.ensures.0 c.requires.up Open _ c.open_found.ensures
 
 pub returns-in-None : goal.returns-in-None
-returns-in-None g c = after-look c.args.kernel.now _ _ c.args.at (reads-ok _ c.find.result _ c.in_ok-number.was c.find.ensures).0 c.requires.up Open _ c.open_new.ensures
+returns-in-None g c = after-look c.args.kernel.now _ _ c.args.at c.in_ok-number.ensures.0 c.requires.up Open _ c.open_new.ensures

@@ -1,7 +1,7 @@
-use Rattle.calls.proofs.Common.{ap, negsuc, refl, subst, sym, ◌∙◌, CanCome, IsEnd, Kernel, answered, counting, ended, marked, state_of, waking, state-but, state-waking}
+use Rattle.calls.proofs.Common.{serves-disk, ap, negsuc, refl, subst, sym, ◌∙◌, CanCome, IsEnd, Kernel, answered, counting, ended, marked, state_of, waking, state-but, state-waking}
 use Rattle.calls.proofs.Acts.{runs-of, settles-answer, settles-blocks, settles-exits-if}
 use Rattle.calls.proofs.Kills.{settles-killed}
-use Rattle.calls.proofs.Served.{ok-told, same-served, serves-disk, where-err}
+use Rattle.calls.proofs.Served.{ok-told, same-served, where-err}
 use Rattle.calls.proofs.outcome.settle.Goals as goal
 
 pub returns-in-Answers : goal.returns-in-Answers

@@ -1,17 +1,17 @@
-use Rattle.std.proofs.Common.{ap, arith, rules, ◌∙◌, ◌≡◌}
+use Rattle.std.proofs.Common.{arith, rules, ◌∙◌, ◌≡◌}
 use Rattle.digests.specs.Digest.{contents_mixed}
-use Rattle.digests.proofs.Reading.{all-done, begun, block-next, lost-later}
-use Rattle.tree.specs.Tree.{FileTree}
+use Rattle.digests.proofs.Reading.{all-done, begun, block-next}
+use Rattle.kernel.proofs.Reading.{lost-reads, lost-then}
 use Rattle.digests.proofs.nodes.mix_contents.Goals as goal
 
 pub loop-k-init : goal.loop-k-init
-loop-k-init g c = begun c.args.tree.now _ _ c.requires
+loop-k-init g c = begun c.args.kernel.now _ _ c.requires
 
 pub returns-in_err-count : goal.returns-in_err-count
-returns-in_err-count g c = lost-later c.from_residual.result _ c.from_residual.ensures.1 _ (ap (λ (t : FileTree). t.identity) c.loop-k.invariant.same) c.loop-k.invariant.later c.in_err-count.ensures
+returns-in_err-count g c = lost-reads _ _ _ c.from_residual.result c.from_residual.ensures.0 (lost-then c.loop-k.invariant.read c.in_err-count.ensures)
 
 pub loop-k-preserved : goal.loop-k-preserved
-loop-k-preserved g c = block-next c.args.number c.loop-k.k c.args.digest c.loop-k.invariant (search rules) c.in_ok-count.ensures c.mix_bytes-digest.ensures
+loop-k-preserved g c = block-next c.args.number c.loop-k.k c.args.digest _ c.loop-k.invariant (search rules) c.in_ok-count.ensures c.mix_bytes-digest.ensures
 
 pub returns : goal.returns
 unfolding contents_mixed

@@ -5,4 +5,4 @@ use Rattle.unixmodel.specs.Files.{slot}
 use Rattle.unixmodel.specs.Shown.{bytes_or_none}
 
 abbrev pub invariant-loop-k : goal.invariant-loop-k
-invariant-loop-k g l = SoFar l.fn.tree l.tree (each (block_step (bytes_or_none (slot l.fn.tree.files l.number))) l.k l.fn.digest) l.digest
+invariant-loop-k g l = SoFar l.fn.kernel l.kernel (each (block_step (bytes_or_none (slot l.fn.kernel.tree.files l.number))) l.k l.fn.digest) l.digest

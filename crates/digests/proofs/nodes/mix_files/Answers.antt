@@ -1,14 +1,14 @@
-use Rattle.std.proofs.Common.{ap, arith}
+use Rattle.std.proofs.Common.{arith}
 use Rattle.digests.specs.Digest.{files_mixed}
-use Rattle.digests.proofs.Reading.{all-done, begun, lost-later, node-next}
-use Rattle.tree.specs.Tree.{FileTree}
+use Rattle.digests.proofs.Reading.{all-done, begun, node-next}
+use Rattle.kernel.proofs.Reading.{lost-reads, lost-then}
 use Rattle.digests.proofs.nodes.mix_files.Goals as goal
 
 pub loop-number-init : goal.loop-number-init
-loop-number-init g c = begun c.args.tree.now _ _ c.requires
+loop-number-init g c = begun c.args.kernel.now _ _ c.requires
 
 pub returns-in_err-digest : goal.returns-in_err-digest
-returns-in_err-digest g c = lost-later c.from_residual.result _ c.from_residual.ensures.1 _ (ap (λ (t : FileTree). t.identity) c.loop-number.invariant.same) c.loop-number.invariant.later c.in_err-digest.ensures
+returns-in_err-digest g c = lost-reads _ _ _ c.from_residual.result c.from_residual.ensures.0 (lost-then c.loop-number.invariant.read c.in_err-digest.ensures)
 
 pub loop-number-preserved : goal.loop-number-preserved
 loop-number-preserved g c = node-next c.loop-number.number c.args.digest c.loop-number.invariant c.in_ok-digest.ensures

@@ -1,9 +1,14 @@
 -- What holds of who holds nodes, where files change and the nodes that somebody holds stay of their type.
-use Rattle.calls.proofs.Common.{◌≡◌, ℕ, ◌≤◌, List, None, Option, Some, ap, arith, refl, subst, sym, IfSome, IsSome, option_map, ◌↔◌, nat_tests, one_in, Target, Counted, FitsNode, IsFolder, IsInUse}
-use Rattle.calls.proofs.Common.{home_in, node_in, node_of, node_on, held-there, home-held, least, Changed, shape, KeepsTree, Process, holders, FileTree, blocks_of, Node, links_of, slot, Directory, File}
+use Rattle.kernel.proofs.Common.{◌≡◌, ℕ, ◌≤◌, List, None, Option, Some, ap, arith, refl, subst, sym, IfSome, option_map, nat_tests, one_in, Counted, FitsNode, IsFolder, IsInUse, home_in, node_in, node_of, node_on, Process, holders, FileTree, Node, links_of, slot}
+use Rattle.std.specs.Prelude.{IsSome, ◌↔◌}
 use Rattle.files.specs.declared.file.OpenFile.{OpenFile}
+use Rattle.files.specs.declared.file.Target.{Target}
 use Rattle.files.specs.declared.file.Target.TheVariants as target
-use Rattle.unixmodel.specs.Files.Node.{Device}
+use Rattle.kernel.proofs.Holding.{held-there, home-held, least}
+use Rattle.names.specs.Changes.{Changed, shape}
+use Rattle.names.specs.Rules.{KeepsTree}
+use Rattle.unixmodel.specs.Counts.{blocks_of}
+use Rattle.unixmodel.specs.Files.Node.{Device, Directory, File}
 
 -- a node fits by its shape
 fits-shape : (f : OpenFile) (t : Target) (o : Option Node) → FitsNode f t o ↔ FitsNode f t (option_map shape o)

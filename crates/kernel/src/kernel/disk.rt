@@ -1,0 +1,162 @@
+//! The kernel's steps on the files of its disk.
+ghost use Rattle.std.specs.Prelude.{◌≡◌, ◌≢◌, All, IsSome, None, OnOk, Some, false};
+ghost use Rattle.kernel.specs.Disk.{FilesDisk, ReadsDisk, directory_at, with_tree};
+ghost use Rattle.names.specs.Rules.{KeepsTree};
+ghost use Rattle.tree.specs.Calls.{IsPart, MakesDirectory, MakesLink, MakesNode, TakesName};
+ghost use Rattle.tree.specs.Leaves.{leaf_node};
+ghost use Rattle.tree.specs.Telling.{Tells, TellsAny};
+ghost use Rattle.tree.specs.Whole.{IsWhole};
+ghost use Rattle.unixmodel.specs.Files.{Node, change_node, find, slot};
+ghost use Rattle.unixmodel.specs.NameCalls.{emptied};
+ghost use Rattle.unixmodel.specs.Shown.{bytes_or_none};
+
+use crate::kernel::Kernel;
+use blockdev::{BlockDev, DeviceFault};
+use inode::InodeStat;
+use sv39::Translate;
+use tree::{Leaf, Tree, TreeFault};
+
+// A law: the files are whole where that was done. It runs no code.
+#[inline]
+fn is_done<D: BlockDev, X, E>(tree: &Tree<D>, done: &Result<X, E>)
+    requires { OnOk done.now (tree.now.failed ≡ false) }
+    ensures { OnOk done.now (IsWhole tree.now) }
+{
+    if done.is_ok() {
+        tree.is_whole();
+    }
+}
+
+impl<D: BlockDev, T: Translate> Kernel<D, T> {
+    // The directory that the running process works in, from which a path is looked for.
+    #[inline]
+    pub(super) fn home(&self, at: usize) -> usize
+        requires running { self.now.spaces.active ≡ Some at }
+        requires up { self.now.tree.failed ≡ false }
+        ensures is { result ≡ directory_at self.now at }
+        ensures there { IsSome (slot self.now.tree.files result) }
+        ensures rules { KeepsTree self.now.tree.files }
+    {
+        self.is_sound();
+        match self.table.process(at) {
+            Some(process) => process.directory as usize,
+            None => 0,
+        }
+    }
+
+    /// The number that a path reaches from the directory that the running process works in.
+    #[inline]
+    pub fn resolve(&mut self, at: usize, path: &[u8]) -> Result<Option<usize>, DeviceFault>
+        requires running { self.old.spaces.active ≡ Some at }
+        requires up { self.old.tree.failed ≡ false }
+        ensures { ReadsDisk self.old self.new (λ number. number ≡ find self.old.tree.files (directory_at self.old at) path.now) result }
+    {
+        let directory = self.home(at);
+        self.tree.resolve(directory, path)
+    }
+
+    /// What a node tells of itself.
+    #[inline]
+    pub fn stat(&mut self, number: usize) -> Result<InodeStat, DeviceFault>
+        requires up { self.old.tree.failed ≡ false }
+        requires node { (node : Node) × (slot self.old.tree.files number ≡ Some node) }
+        ensures { ReadsDisk self.old self.new (λ told. (node : Node) → slot self.old.tree.files number ≡ Some node → Tells told node) result }
+    {
+        self.tree.stat(number)
+    }
+
+    /// What the node with a number tells of itself; `None` where there is none.
+    #[inline]
+    pub fn look(&mut self, number: usize) -> Result<Option<InodeStat>, DeviceFault>
+        requires { self.old.tree.failed ≡ false }
+        ensures { ReadsDisk self.old self.new (λ told. TellsAny told (slot self.old.tree.files number)) result }
+    {
+        self.tree.look(number)
+    }
+
+    /// Reads bytes of what any number names from the place `from` on, as many as there are, and tells how many: none of a device, and
+    /// none where it names nothing.
+    #[inline]
+    pub fn read_any(
+        &mut self,
+        number: usize,
+        from: usize,
+        out: &mut [u8],
+    ) -> Result<usize, DeviceFault>
+        requires { self.old.tree.failed ≡ false }
+        ensures { ReadsDisk self.old self.new (IsPart (bytes_or_none (slot self.old.tree.files number)) from out.old out.new) result }
+    {
+        self.tree.read_any(number, from, out)
+    }
+
+    /// A file or a device with the lowest free number, which it tells, and a name for it.
+    #[inline]
+    pub fn create(&mut self, at: usize, path: &[u8], leaf: Leaf) -> Result<usize, TreeFault>
+        requires running { self.old.spaces.active ≡ Some at }
+        requires up { self.old.tree.failed ≡ false }
+        requires path { All (λ b. b ≢ 0) path.now }
+        ensures made { MakesNode self.old.tree self.new.tree (directory_at self.old at) path.now (leaf_node leaf) result }
+        ensures rest { self.new ≡ with_tree self.old self.new.tree }
+    {
+        let directory = self.home(at);
+        let made = self.tree.create(directory, path, leaf);
+        is_done(&self.tree, &made);
+        made
+    }
+
+    /// A directory with the lowest free number, and a name for it.
+    #[inline]
+    pub fn create_directory(&mut self, at: usize, path: &[u8]) -> Result<(), TreeFault>
+        requires running { self.old.spaces.active ≡ Some at }
+        requires up { self.old.tree.failed ≡ false }
+        requires path { All (λ b. b ≢ 0) path.now }
+        ensures made { MakesDirectory self.old.tree self.new.tree (directory_at self.old at) path.now result }
+        ensures rest { self.new ≡ with_tree self.old self.new.tree }
+    {
+        let directory = self.home(at);
+        let made = self.tree.create_directory(directory, path);
+        is_done(&self.tree, &made);
+        made
+    }
+
+    /// Another name for a file or a device.
+    #[inline]
+    pub fn link(&mut self, at: usize, old: &[u8], new: &[u8]) -> Result<(), TreeFault>
+        requires running { self.old.spaces.active ≡ Some at }
+        requires up { self.old.tree.failed ≡ false }
+        requires path { All (λ b. b ≢ 0) new.now }
+        ensures made { MakesLink self.old.tree self.new.tree (directory_at self.old at) old.now new.now result }
+        ensures rest { self.new ≡ with_tree self.old self.new.tree }
+    {
+        let directory = self.home(at);
+        let made = self.tree.link(directory, old, new);
+        is_done(&self.tree, &made);
+        made
+    }
+
+    /// A name is taken away, and its node too where that has no links any more and nobody holds it.
+    #[inline]
+    pub fn unlink(&mut self, at: usize, path: &[u8]) -> Result<(), TreeFault>
+        requires running { self.old.spaces.active ≡ Some at }
+        requires up { self.old.tree.failed ≡ false }
+        ensures made { TakesName self.old.tree self.new.tree (directory_at self.old at) path.now result }
+        ensures rest { self.new ≡ with_tree self.old self.new.tree }
+    {
+        let directory = self.home(at);
+        let made = self.tree.unlink(directory, path);
+        is_done(&self.tree, &made);
+        made
+    }
+
+    /// Empties a file. Nothing becomes of a device or a directory.
+    #[inline]
+    pub fn truncate(&mut self, number: usize) -> Result<(), DeviceFault>
+        requires up { self.old.tree.failed ≡ false }
+        requires node { slot self.old.tree.files number ≢ None }
+        ensures { FilesDisk self.old self.new (change_node self.old.tree.files number emptied) result }
+    {
+        let done = self.tree.truncate(number);
+        is_done(&self.tree, &done);
+        done
+    }
+}
