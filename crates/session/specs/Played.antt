@@ -1,6 +1,6 @@
 -- What a session answers to events and looks, and what it leaves. Its disk is in memory and never fails.
 use Rattle.std.proofs.Common.{Global, Vec}
-use Rattle.std.specs.Prelude.{Err, IsErrOf, List, Ok, OnOk, Option, Result, Some, [], false, replicate, true, ℕ, ◌<◌, ◌≡◌, ◌≤◌}
+use Rattle.std.specs.Prelude.{Err, IsErrOf, List, Ok, OnOk, Option, Result, Some, [], false, length, replicate, true, ℕ, ◌<◌, ◌∷◌, ◌≡◌, ◌≤◌}
 use Rattle.calls.specs.declared.halt.Halt.{Halt}
 use Rattle.calls.specs.declared.halt.Halt.TheVariants.{Console, Device, Halted, InitEnded}
 use Rattle.calls.specs.Steps.{IsBusyFor}
@@ -17,7 +17,6 @@ use Rattle.unixmodel.specs.Calls.{After}
 use Rattle.unixmodel.specs.declared.event.Event.{Event}
 use Rattle.unixmodel.specs.declared.event.Event.TheVariants.{Step}
 use Rattle.unixmodel.specs.Image.{Denotes}
-use Rattle.unixmodel.specs.Run.{run}
 use Rattle.unixmodel.specs.Shown.{left}
 use Rattle.unixmodel.specs.Failures.{Rises}
 
@@ -82,9 +81,9 @@ LookTells old new Told result = LookGives old new Told result
 abbrev pub Looks : {X : Type 0} → Session → Session → (X → Type 0) → Result X Halt → Type 0
 Looks old new Told result = LookTells old.machine new.machine Told result × (console_of new ≡ console_of old)
 
--- the bytes of the disk denote the files that are left without the processes
+-- the bytes of the disk, as many as it has, denote the files that are left without the processes
 abbrev pub Saves : View → Result (Vec ℕ Global) Halt → Type 0
-Saves m (Ok image) = (m.failed ≡ false) × Denotes image.items (left m.state)
+Saves m (Ok image) = (m.failed ≡ false) × (length image.items ∷ [] ≡ m.identity) × Denotes image.items (left m.state)
 Saves m (Err (InitEnded status)) = ⊥
 Saves m (Err Device) = ⊥
 Saves m (Err Console) = ⊥

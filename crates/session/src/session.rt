@@ -142,8 +142,8 @@ impl Session {
         count
     }
 
-    /// Gives up all processes and hands back the bytes of the disk, which denote the files that are left. The console's bytes that
-    /// nobody took are gone. It works after `InitEnded`, too.
+    /// Gives up all processes and hands back the bytes of the disk, as many as the image had that booted, which denote the files that
+    /// are left. The console's bytes that nobody took are gone. It works after `InitEnded`, too.
     ///
     /// `Halted` after `Console`.
     pub fn save(self) -> Result<Vec<u8>, Halt>
