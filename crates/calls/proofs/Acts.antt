@@ -1,16 +1,18 @@
 -- Calls of the running process that are answered at once.
-use Rattle.calls.proofs.Common.{DeviceFault, Memory, ◌≡◌, Err, ℕ, ◌<◌, ◌≤◌, List, [], length, Option, Some, refl, ap, subst, sym, ◌∙◌, Bool, true, false, ◌%◌, ℤ, IfOk, IfSome, Ok, OnOk, Result, slice_index, slice_set, unwrap_or, length-set}
-use Rattle.calls.proofs.Common.{Appends, IsInUse, home_in, used-put, Acts, CanCome, Comes, MayPrint, GoesOn, IsBegun, Runs, Tries, going_at, going_by, outcome_at, outcome_by, settled_by, called, pending_for, Halt, Halted, InitEnded, Came}
+use Rattle.calls.proofs.Common.{DeviceFault, Memory, ◌≡◌, Err, ℕ, ◌<◌, List, [], length, Option, Some, refl, ap, subst, sym, ◌∙◌, Bool, true, false, ◌%◌, ℤ, IfOk, IfSome, Ok, OnOk, Result, slice_index, slice_set, unwrap_or}
+use Rattle.calls.proofs.Common.{Appends, IsInUse, Acts, CanCome, Comes, MayPrint, GoesOn, IsBegun, Runs, Tries, going_at, going_by, outcome_at, outcome_by, settled_by, called, pending_for, Halt, Halted, InitEnded, Came}
 use Rattle.calls.proofs.Common.{Answers, Blocks, Exits, KillsItself, Refuses, descriptors_in, Dispatches, IsLost, IsMade, IsServed, LeavesTree, waits-other, Kernel, answered, argument, blocked, counting, ended, entered, on_hart, state_of}
-use Rattle.calls.proofs.Common.{waking, has_slept, IsKernel, IsOpened, IsPlaced, match-active, match-place, over-state, within-state, ends-at, waits-run, state-but, IsRun, eq-self, home-running, moved-state, process-run, run-of, runs-set}
-use Rattle.calls.proofs.Common.{self, slot-put, stands-set, with_process, within-run, within-space, answer-run, live, not-killed, runs-mode, Counted, Process, with_memory, SpaceView, no_pages, taken_frames, FileTree, call_of, end_at}
-use Rattle.calls.proofs.Common.{outcome_of, quiet, row, settle, goes_on, Call, Getpid, Exit, Sleep, Uptime, Running, put, slot, low, int_of, Outcome, limited, provided, Done, Refused, Waits, is_within, Pending, sleep_on, State, put_process}
+use Rattle.calls.proofs.Common.{waking, has_slept, IsKernel, IsPlaced, match-active, match-place, over-state, within-state, ends-at, waits-run, state-but, IsRun, moved-state, process-run, run-of}
+use Rattle.calls.proofs.Common.{self, stands-set, with_process, within-run, within-space, answer-run, live, not-killed, runs-mode, Counted, Process, with_memory, SpaceView, no_pages, taken_frames, FileTree, call_of, end_at}
+use Rattle.calls.proofs.Common.{outcome_of, quiet, row, settle, goes_on, Call, Getpid, Exit, Sleep, Uptime, Running, slot, low, int_of, Outcome, limited, provided, Done, Refused, Waits, is_within, Pending, sleep_on, State, put_process}
 use Rattle.calls.specs.declared.halt.Halt.TheVariants.{Console, Device}
 use Rattle.calls.proofs.Prints.{Appends-none}
 use Rattle.calls.proofs.Served.{same-served}
 use Rattle.calls.proofs.Rows.{aligned-next, int-bits, enters-kernel, enters-run, numbered}
 use Rattle.calls.proofs.Settles.{after, settle-limited, settle-done}
 use Rattle.files.specs.Places.{opens_of}
+use Rattle.kernel.proofs.Running.{regs-kernel, regs-run}
+use Rattle.kernel.proofs.Turning.{Runner}
 use Rattle.unixmodel.specs.Process as unix
 
 -- the running process and its space, in a kernel that is sound, whose device has not failed
@@ -21,6 +23,15 @@ pub record Here (k : Kernel) (i : ℕ) : Type 0 where
   pub sound : IsKernel k
   pub up : k.tree.failed ≡ false
 
+abbrev pub runner : {k : Kernel} {i : ℕ} → Here k i → Runner k i
+runner x = record { process = x.process; held = x.held; run = x.run; sound = x.sound }
+
+-- the same with an answer in a0
+abbrev pub answered-runner : {k : Kernel} {i : ℕ} (x : Here k i) (value : ℕ) → Runner (answered k value) i
+answered-runner {k} {i} x value =
+    let regs = slice_set k.spaces.registers 10 value in
+    record { process = x.process; held = x.held; run = regs-run k i x.process x.held x.run x.sound regs k.spaces.pc; sound = regs-kernel k x.sound regs k.spaces.pc }
+
 pub runs-of : {k : Kernel} {i : ℕ} → k.spaces.active ≡ Some i → k.tree.failed ≡ false → IsKernel k → slice_index k.spaces.registers 0 ≡ 0 → k.spaces.pc % 4 ≡ 0 → Runs k i
 runs-of active up sound zero aligned = record { active = active; up = up; sound = sound; zero = zero; aligned = aligned }
 
@@ -29,10 +40,6 @@ here-in {k} {i} sound active up = let run = run-of k i sound active in record { 
 
 pub here-of : (k : Kernel) (i : ℕ) → Runs k i → Here k i
 here-of k i runs = here-in runs.sound runs.active runs.up
-
--- over the fields: at is what they show, and k is the kernel's value
-pub here-now : {at k : Kernel} {i : ℕ} → at ≡ k → Runs k i → Here at i
-here-now {at} {k} {i} same runs = here-of at i (subst (λ (y : Kernel). Runs y i) (sym same) runs)
 
 pub begins : (k e : Kernel) (i : ℕ) → e ≡ entered k → Runs k i → IsBegun k e i
 begins k e i same x =
@@ -130,6 +137,10 @@ module _ (k : Kernel) (i : ℕ) (x : Here k i) where
   pub does : (new : Kernel) (call : Call) (answer : ℕ) → Here new i → new.tree ≡ k.tree → row (state_of k) i me call ≡ Done (state_of new) answer [] → Acts k new i (Some call) (Answers answer)
   does new call answer y same is = prints new call answer [] y (same-served same x.up) is
 
+  -- a step of the kernel that makes state s
+  pub makes : {new : Kernel} {s : State} (call : Call) (answer : ℕ) → IsKernel new → new.spaces.active ≡ Some i → new.tree ≡ k.tree → state_of new ≡ s → row (state_of k) i me call ≡ Done s answer [] → Acts k new i (Some call) (Answers answer)
+  makes {new} call answer sound active same state is = does new call answer (here-in sound active (ap (λ (t : FileTree). t.failed) same ∙ x.up)) same (rw state is)
+
   -- ---- a pending call that goes on
 
   module _ (w : Pending) where
@@ -217,28 +228,6 @@ module _ (k : Kernel) (i : ℕ) (x : Here k i) (tree : FileTree) (q : Process) (
   abbrev pub turned : Kernel
   turned = record k { tree = tree; table = with_process k.table i q; spaces = record k.spaces { places = slice_set k.spaces.places i (Some h); pipes = pipes }; files = files }
 
-  pub turned-here : tree.failed ≡ false → IsInUse tree files (put k.table.places i q) → IsOpened files pipes (put k.table.places i q) → taken_frames turned.spaces ≤ k.spaces.frames → Here turned i
-  turned-here up used opened fits =
-      let r = x.run in
-      let is = x.sound in
-      let short = within-run k i x.process x.held r in
-      let low = within-space k i x.process x.held r is in
-      record {
-        process = q;
-        held = h;
-        run = record { active = r.active; process = slot-put k.table.places i (Some q) short; space = slot-put k.spaces.places i (Some h) low; placed = placed; runs = runs };
-        up = up;
-        sound = record {
-          all = length-set k.table.places i (Some q) ∙ is.all;
-          spaces = length-set k.spaces.places i (Some h) ∙ is.spaces;
-          stands = stands-set k.table.places k.spaces.places i (Some q) (Some h) short low placed is.stands;
-          runs = runs-set k.table.places i (Some q) k.spaces.active k.spaces.active short (rw (runs, r.active) (sym (eq-self i))) (λ j other. refl) is.runs;
-          used = λ good. used;
-          fits = fits;
-          opened = opened;
-        };
-      }
-
   pub turned-state : state_of turned ≡ record (put_process (state_of k) i (with_memory h.memory (on_hart k.spaces q))) { files = tree.files; block_limit = tree.block_limit; opens = opens_of files; pipes = pipes }
   turned-state = ap (λ (s : State). record s { files = tree.files; block_limit = tree.block_limit; opens = opens_of files; pipes = pipes }) (moved-state k i x.process x.held x.run x.sound q h k.spaces.registers k.spaces.pc placed runs)
 
@@ -247,9 +236,6 @@ module _ (k : Kernel) (i : ℕ) (x : Here k i) (tree : FileTree) (q : Process) (
   turned-full over =
       let stands = stands-set k.table.places k.spaces.places i (Some q) (Some h) (within-run k i x.process x.held x.run) (within-space k i x.process x.held x.run x.sound) placed x.sound.stands in
       over-state turned (match-active turned turned.spaces.active (λ j. match-place (slot turned.table.places j) (slot turned.spaces.places j) (stands j))) over
-
-  pub turned-over : (call : Call) (answer : ℕ) → row (state_of k) i (me k i x) call ≡ Done (state_of turned) answer [] → k.spaces.frames < taken_frames turned.spaces → Acts k k i (Some call) Refuses
-  turned-over call answer made over = refused k i x (Some call) (ap limited made ∙ rw (turned-full over) refl)
 
 -- with other descriptors, another directory and another memory
 pub named-placed : (k : Kernel) (i : ℕ) (x : Here k i) (ds : List (Option ℕ)) (directory : ℕ) (m : Memory) → length ds ≡ length x.process.descriptors → IsPlaced (record x.process { descriptors = ds; directory = directory }) (record x.held { memory = m })
@@ -260,9 +246,6 @@ named-placed k i x ds directory m same = let l = live k i x.process x.held x.run
   mode = runs-mode (record x.process { descriptors = ds; directory = directory }) m x.process.mode x.run.runs (record { descriptors = same ∙ l.descriptors }) (not-killed k i x.process x.held x.run x.sound);
 }
 
--- the files are in use, also where the running process is another one that works where it did
+-- the files are in use
 pub used-here : (k : Kernel) (i : ℕ) (x : Here k i) → IsInUse k.tree k.files k.table.places
 used-here k i x = x.sound.used x.up
-
-pub used-turned : (k : Kernel) (i : ℕ) (x : Here k i) (q : Process) → q.mode ≡ Running → q.directory ≡ x.process.directory → IsInUse k.tree k.files (put k.table.places i q)
-used-turned k i x q runs same = used-put (used-here k i x) i (Some q) (home-running q runs ∙ ap Some same ∙ sym (home-running x.process x.run.runs) ∙ sym (ap home_in x.run.process))

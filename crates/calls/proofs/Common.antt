@@ -1,93 +1,85 @@
 -- The names that the lemmas of this crate import from elsewhere, passed on from one place. Declares nothing.
 pub use Rattle.std.proofs.Common.{◌%◌, ◌&&◌, ◌*◌, ◌+◌, ◌++◌, ◌-◌, ◌/◌, ◌<◌, [], ◌^◌, ap, append-nil, append_assoc, arith, Bool, drop, eq-eqb, Err, false, IfSome, inl, inr, is_none, is_some, le_trans, length, List, map, min}
-pub use Rattle.std.proofs.Common.{nat_eq, nat_le, nat_lt, negsuc, None, Ok, Option, option_map, pos, refl, replicate, Result, rules, Some, subst, suc, sym, take, true, unwrap_or, zero, ℕ, ℤ, ◌∙◌, ◌∷◌, ◌≡◌, ◌≢◌, ◌≤◌, ◌⊎◌}
-pub use Rattle.std.proofs.lemmas.Bool.{and_left, and_parts, and_right, cases_eq, cases_lt, eqb-true, false≢true, le-leb, leb-true, lt-leb, lt-ltb, ltb-true, ne_eqb, or_right, true≢false}
+pub use Rattle.std.proofs.Common.{nat_eq, nat_le, nat_lt, negsuc, None, Ok, Option, option_map, pos, refl, replicate, Result, rules, Some, subst, suc, sym, take, true, unwrap_or, zero, ℕ, ℤ, ◌∙◌, ◌∷◌, ◌≡◌, ◌≢◌, ◌≤◌}
+pub use Rattle.std.proofs.lemmas.Bool.{and_left, and_parts, and_right, cases_eq, cases_lt, eqb-true, false≢true, le-leb, leb-true, lt-leb, lt-ltb, ltb-true, ne_eqb, true≢false}
 pub use Rattle.std.proofs.lemmas.Bool.Decides.{nat_tests}
 pub use Rattle.std.proofs.lemmas.Int.{of_z-to_z, to_z-of_z}
 pub use Rattle.std.proofs.lemmas.List.{drop-take, get_or-set_other, get_or-set_same, length-drop, length-map, length-set, length-take, length-take-le, map-set, replicate-append-replicate, set-get_or, set_comm, take-append-drop, take-take}
 pub use Rattle.std.proofs.lemmas.List.Folds.{prefix_len-set}
-pub use Rattle.std.proofs.lemmas.List.Sums.{count_by-le-length, sum_by-append, sum_by-cons, sum_by-set}
 pub use Rattle.std.proofs.lemmas.Option.{cond_some, none-some, option_and_then_some, same_Some}
 pub use Rattle.std.proofs.lemmas.Result.{err_from_is_err_and}
-pub use Rattle.std.specs.Bool.{OnFalse, OnTrue}
 pub use Rattle.std.specs.Int.{cast_signed, cast_unsigned}
 pub use Rattle.std.specs.Io.KnownBytes.{Appends}
 pub use Rattle.std.specs.Option.{option_copied}
-pub use Rattle.std.specs.Prelude.{◌+ℤ◌, ◌==◌, All, count_by, IfErr, IfNone, IfOk, if◌then◌else◌, IsSome, not, OnErr, OnOk, option_and_then, slice_index, slice_index_or, slice_set, ◌||◌, ◌↔◌}
+pub use Rattle.std.specs.Prelude.{◌+ℤ◌, ◌==◌, count_by, IfErr, IfNone, IfOk, if◌then◌else◌, IsSome, not, OnErr, OnOk, option_and_then, slice_index, slice_index_or, slice_set, ◌||◌}
 pub use Rattle.std.specs.Result.{IsErr, result_ok}
 pub use Rattle.blockdev.specs.declared.DeviceFault.{DeviceFault}
 pub use Rattle.console.specs.Output.{AppendsBeginning}
 pub use Rattle.file_transfers.proofs.Memory.{reach-written, readable-count, rest-writes}
-pub use Rattle.file_transfers.specs.Moved.{bytes_given, bytes_of, bytes_read, IsRead}
-pub use Rattle.files.proofs.CountsLemmas.{count-closed, count-moved, count-opened, count-shared, Counts, names-clear, names-none, names-put, one_at}
-pub use Rattle.files.proofs.Free.{free-None, free-opens, free-place, free-put, free-Some}
-pub use Rattle.files.proofs.PipesLemmas.{has_pipe-put, piped-both, pipes-same, without_pipes-same}
-pub use Rattle.files.proofs.Whole.{free_slot-opens, opens-moved, opens-opened, opens-shared, set_outside, table-closed, table-moved, table-opened, table-shared, without_opens-same}
+pub use Rattle.file_transfers.specs.Moved.{bytes_given, bytes_of, bytes_read}
+pub use Rattle.files.proofs.CountsLemmas.{Counts}
+pub use Rattle.files.proofs.Free.{free-None, free-opens, free-place, free-put}
+pub use Rattle.files.proofs.PipesLemmas.{without_pipes-same}
+pub use Rattle.files.proofs.Whole.{opens-moved, opens-opened, set_outside, without_opens-same}
 pub use Rattle.files.specs.Counts.{names, one_in}
 pub use Rattle.files.specs.Meant.{file_of, target_of}
-pub use Rattle.files.specs.Pipes.{IsPiped}
-pub use Rattle.files.specs.Places.{closed, count_at, count_in, Counted, file_at, free_count, has_end, last_target, moved_in, moved_to, node_at, node_from, place_for, place_from, shared, usable}
+pub use Rattle.files.specs.Places.{closed, Counted, file_at, free_count, has_end, node_at, node_from, usable}
 pub use Rattle.files.specs.declared.file.Target.{Target}
 pub use Rattle.files.specs.declared.table.FileFault.{FileFault}
 pub use Rattle.inode.specs.declared.InodeStat.{InodeStat}
 pub use Rattle.kernel.proofs.Changes.{ended-is, ended-kernel, ended_to, nodes, nodes-counted, old-homes, other-at}
-pub use Rattle.kernel.proofs.Finishes.{counting-kernel, counting-used, IsThere, process-idle, there-of}
-pub use Rattle.kernel.proofs.Holding.{all-device, all-failed, all-failures, AreAway, AreOldHomes, fewer-held, fewer-leaves, fewer-nodes, fewer-used, held-there, hold-more, holders-few, home-folder}
-pub use Rattle.kernel.proofs.Holding.{home-held, homes-set, is_by, kept-cong, least, named_in, same-set, settled-by, used-child, used-files, used-is, used-opened, used-put, used-shared}
+pub use Rattle.kernel.proofs.Finishes.{counting-kernel, IsThere, process-idle, there-of}
+pub use Rattle.kernel.proofs.Holding.{AreOldHomes, fewer-leaves, fewer-nodes, holders-few, home-folder}
+pub use Rattle.kernel.proofs.Holding.{is_by, kept-cong, least, named_in, same-set, used-is, used-put}
 pub use Rattle.kernel.proofs.Idle.{busy-state, idle-turn, running-state}
 pub use Rattle.kernel.proofs.Leaving.{ends-at, ends-run, stops-run, waits-run}
-pub use Rattle.kernel.proofs.Named.{counted-forked, counts-joined, fewer-pipes, file-all_shared, files-all_closed, files_on-closed, Leaves, leaves-standing, left-close_pipe}
-pub use Rattle.kernel.proofs.Named.{old-all_closed, opens-all_closed, opens-all_shared, piped-close, reap-closed, standing-is, table-all_shared, used-all_shared}
-pub use Rattle.kernel.proofs.Opens.{alike-same, file-at, file-opened, file-shared, IsFileAt, open-named, opened-names, opened-put, place-counts}
-pub use Rattle.kernel.proofs.Opens.{slot-file, waits-fewer, waits-kept, waits-other, waits-reading, waits-running, waits-set, waits-writing, WasAlike}
+pub use Rattle.kernel.proofs.Named.{counts-joined}
+pub use Rattle.kernel.proofs.Named.{old-all_closed, reap-closed}
+pub use Rattle.kernel.proofs.Opens.{file-at, IsFileAt, open-named}
+pub use Rattle.kernel.proofs.Opens.{slot-file, waits-other, waits-reading, waits-writing}
 pub use Rattle.kernel.proofs.Readies.{stands-open, turn-alive}
-pub use Rattle.kernel.proofs.Reaped.{are-away, away-loaded, IsMatch, match-active, match-loaded, match-place, opened-loaded, over-state, reap-state, used-active, used-loaded, within-state, within-state_with}
+pub use Rattle.kernel.proofs.Reaped.{are-away, away-loaded, IsMatch, match-active, match-loaded, match-place, opened-loaded, over-state, reap-state, used-loaded, within-state, within-state_with}
 pub use Rattle.kernel.proofs.Running.{answer-run, change-put, change-run, live, not-killed, regs-kernel, regs-run, regs-state, runs-mode}
 pub use Rattle.kernel.proofs.Reading.{serves-disk}
-pub use Rattle.kernel.proofs.Runs.{active-space, eq-self, home-running, IsRun, loaded-run, memory-at, moved-kernel, moved-run, moved-state, place-space, process-run, process-with, put-with}
+pub use Rattle.kernel.proofs.Runs.{eq-self, home-running, IsRun, loaded-run, memory-at, moved-kernel, moved-run, moved-state, process-run, process-with, put-with}
 pub use Rattle.kernel.proofs.Runs.{run-of, runs-set, same_or_not, self, set-slot, set-twice, slot-other, slot-put, slot-within, stands-set, state-run, with_process, within-run, within-space}
-pub use Rattle.kernel.proofs.Shapes.{folder-there, there, used-changed, used-shaped}
+pub use Rattle.kernel.proofs.Shapes.{folder-there, there}
 pub use Rattle.kernel.proofs.Starts.{picked-state, picks-killed, picks-ready, started-is, started-kernel, started-run, started-state, started_to}
-pub use Rattle.kernel.proofs.Steps.{computed-is, fail-keeps, fail-kernel, held-run, placed-with, with-tree}
-pub use Rattle.kernel.proofs.Wakes.{kernel-waking, running-at, state-but, state-waking, watched-roused}
-pub use Rattle.kernel.proofs.Watching.{no-zombie, watched-bytes, watched-moved, watched-put, watched-running, watched-taken}
-pub use Rattle.kernel.specs.Descriptors.{after_close, all_shared, descriptors_in, IsCounted, named_by, names_in, standing}
-pub use Rattle.kernel.specs.Disk.{directory_at, directory_in, HasFiled, HasRead, IsLost, IsServed, LeavesDisk, ReadsDisk, with_tree}
-pub use Rattle.kernel.specs.Holding.{all_dropped, AreHeld, dropped, files_on, FitsNode, home_in, homes_at, IsFolder, IsInUse, last_node, listed, node_in, node_of, node_on}
-pub use Rattle.kernel.specs.Kernel.{answered, argument, base, blocked, computed, counting, descriptors_at, ended, entered, halted_by, idle, Kernel, left_as, lives}
+pub use Rattle.kernel.proofs.Steps.{computed-is, fail-kernel, held-run, placed-with}
+pub use Rattle.kernel.proofs.Wakes.{kernel-waking, running-at, state-but, state-waking}
+pub use Rattle.kernel.proofs.Watching.{watched-put, watched-running}
+pub use Rattle.kernel.specs.Descriptors.{descriptors_in}
+pub use Rattle.kernel.specs.Disk.{directory_at, directory_in, HasFiled, HasRead, IsLost, IsServed, LeavesDisk, with_tree}
+pub use Rattle.kernel.specs.Holding.{files_on, FitsNode, home_in, homes_at, IsFolder, IsInUse, node_of, node_on}
+pub use Rattle.kernel.specs.Kernel.{answered, argument, base, blocked, computed, counting, descriptors_at, ended, entered, halted_by, idle, Kernel, lives}
 pub use Rattle.kernel.specs.Kernel.{loaded, marked, memories, memory_in, on_hart, picked, rest_of, started, started_as, state_of, stopped_at, ticked, typed, waking}
 pub use Rattle.kernel.specs.Memory.{drew, resized, sent, sized, wrote}
 pub use Rattle.kernel.specs.Ready.{awaited_in, has_slept, Stands}
-pub use Rattle.kernel.specs.Sound.{can_answer, CanRun, file_named, is_at, is_awaited, is_on_pipe, IsAlive, IsAwaiting, IsEnded, IsForBytes, IsForPipe, IsFresh}
-pub use Rattle.kernel.specs.Sound.{IsKernel, IsLive, IsMode, IsOpened, IsOpenFile, IsPending, IsPlace, IsPlaced, IsReading, IsWriting, WaitsAs, WaitsWell}
-pub use Rattle.kernel.specs.View.{Keeps, kernel_of}
-pub use Rattle.kernel.specs.Watch.{awaited_of, IsWatched, Watches}
+pub use Rattle.kernel.specs.Sound.{can_answer, CanRun, file_named, is_at, is_on_pipe, IsAlive, IsAwaiting, IsForBytes, IsForPipe, IsFresh}
+pub use Rattle.kernel.specs.Sound.{IsKernel, IsLive, IsMode, IsOpened, IsPending, IsPlaced, IsReading, IsWriting, WaitsAs, WaitsWell}
+pub use Rattle.kernel.specs.View.{kernel_of}
+pub use Rattle.kernel.specs.Watch.{awaited_of, IsWatched}
 pub use Rattle.names.proofs.Finding.{enter-parts, make-parts, unlink-parts}
-pub use Rattle.names.proofs.Quiet.{changed-same, kept-gone, kept-here, kept-none}
-pub use Rattle.names.specs.Changes.{Changed, Loses, shape}
-pub use Rattle.names.specs.Rules.{KeepsTree}
-pub use Rattle.proc.proofs.Joined.{change_process-with_table, cleared-with_table, free_slot-joined, has_child-with_table, place_of_pid-with_table, place_where-Some, seated-with_table, with_zombie-with_table, zombie_child-with_table}
-pub use Rattle.proc.specs.Places.{changed, has_pid, is_child_of, is_zombie_child_of, orphaned, place_where, Places, reaped_at, reaped_from}
-pub use Rattle.proc.specs.Places.{seat_at, seat_of, seated, with_directory, with_mark, with_mode, with_size, without, zombie_of, zombie_place}
+pub use Rattle.proc.proofs.Joined.{change_process-with_table, has_child-with_table, place_of_pid-with_table, place_where-Some, with_zombie-with_table, zombie_child-with_table}
+pub use Rattle.proc.specs.Places.{changed, has_pid, is_child_of, is_zombie_child_of, orphaned, place_where, Places, reaped_at}
+pub use Rattle.proc.specs.Places.{seat_at, seat_of, with_mark, with_size, without, zombie_of, zombie_place}
 pub use Rattle.proc.specs.Whole.{with_memory, with_table}
-unfoldable pub use Rattle.proc.specs.Whole.{joined}
 pub use Rattle.proc.specs.declared.process.Process.{Process}
 pub use Rattle.programs.proofs.Places.{length-write}
 pub use Rattle.programs.specs.Executed.{Executes, frames_beside, IsExecuted, plan_at, started_by, view_by}
 pub use Rattle.programs.specs.declared.executing.Started.{Started}
-pub use Rattle.spaces.proofs.SpacesLemmas.{grown-with_pages, held-same, shrunk-with_pages, some-pipe, taken-placed}
-pub use Rattle.spaces.specs.Spaces.{bytes_in, copied, filled, forked, frames_in, grown, has_space, no_pages, read_at, shrunk, Spaces, SpaceView, taken_frames, taken_to, view_at, with_pipe, with_place, with_view}
-pub use Rattle.tree.proofs.Keeping.{created-changed, device-is, folder-changed, linked-changed, Reaps, unlinked-reaps, written-changed}
+pub use Rattle.spaces.proofs.SpacesLemmas.{held-same, some-pipe, taken-placed}
+pub use Rattle.spaces.specs.Spaces.{bytes_in, copied, frames_in, has_space, no_pages, read_at, Spaces, SpaceView, taken_frames, view_at, with_pipe, with_view}
+pub use Rattle.tree.proofs.Keeping.{device-is, Reaps}
 pub use Rattle.tree.proofs.Storing.{blocks_of-set, whole-node}
 pub use Rattle.tree.specs.Answers.{Overflows}
 pub use Rattle.tree.specs.Entering.{made_files}
 unfoldable pub use Rattle.tree.specs.Entering.{folder_in, linked_in, made_in}
-pub use Rattle.tree.specs.Holding.{holders, with_hold, without_hold}
+pub use Rattle.tree.specs.Holding.{holders}
 unfoldable pub use Rattle.tree.specs.Holding.{let_go}
-pub use Rattle.tree.specs.Lacking.{LacksFolder, LacksLinking, LacksMaking, LacksUnlinking}
 pub use Rattle.tree.specs.Leaves.{leaf_node}
 pub use Rattle.tree.specs.Telling.{Tells, TellsMajor}
-pub use Rattle.tree.specs.Tree.{FileTree, has_failed, HasFiles, is_device, Serves}
+pub use Rattle.tree.specs.Tree.{FileTree, has_failed, is_device, Serves}
 pub use Rattle.tree.specs.Whole.{IsWhole}
 pub use Rattle.tree.specs.declared.TreeFault.{TreeFault}
 pub use Rattle.unixmodel.specs.Calls.{After, call_of, end_at, end_if_killed, goes_on, outcome_of, quiet, row, settle}
@@ -97,32 +89,32 @@ unfoldable pub use Rattle.unixmodel.specs.Console.{key, take_line}
 pub use Rattle.unixmodel.specs.Counts.{is_within, page_frames}
 unfoldable pub use Rattle.unixmodel.specs.Counts.{blocks_of, frames_of}
 unfoldable pub use Rattle.unixmodel.specs.Cycle.{cycle}
-pub use Rattle.unixmodel.specs.Failures.{HasCause, Rises}
+pub use Rattle.unixmodel.specs.Failures.{Rises}
 pub use Rattle.unixmodel.specs.FileCalls.{is_usable, is_usable_node, node_number, pipe_end, read_console, read_file, read_node, read_pipe, read_taken, unless_empty, with_both, with_file, with_offset, write_node, write_pipe}
 unfoldable pub use Rattle.unixmodel.specs.FileCalls.{close_row, dup_row, fstat_row, pipe_row, read_on, read_row, room_for, stat_bytes, write_on, write_row}
 pub use Rattle.unixmodel.specs.Files.{blocks_for, change_node, clear, Files, free_slot, is_directory, kind_of, links_of, longest, Node, node_bytes, put, size_of, slot, Spot, without_place}
 unfoldable pub use Rattle.unixmodel.specs.Files.{erase, find, lookup, spot_of}
 pub use Rattle.unixmodel.specs.Files.Node.{Directory, File}
 pub use Rattle.unixmodel.specs.Meaning.{Computed}
-pub use Rattle.unixmodel.specs.Memory.{can_write, Memory, overwrite, read_bytes, shared_page}
+pub use Rattle.unixmodel.specs.Memory.{can_write, Memory, overwrite, read_bytes}
 unfoldable pub use Rattle.unixmodel.specs.Memory.{path_at, reach, write_bytes, zeros}
 pub use Rattle.unixmodel.specs.NameCalls.{creates, emptied, fewer_links, found_or_made, Made, may_open, new_file, path_arg, truncated, truncates, with_files, without_name}
 unfoldable pub use Rattle.unixmodel.specs.NameCalls.{chdir_row, link_row, linked, made_at, made_directory, make_at, mkdir_row, mknod_row, open_row, unlink_row, unlinked}
 pub use Rattle.unixmodel.specs.Next.{execute_at, is_ecall, memory_after, pick, step, take_turn}
 unfoldable pub use Rattle.unixmodel.specs.Next.{effect_of, execute, next}
-pub use Rattle.unixmodel.specs.Numbers.{ceil_div, has_bit, int_of, le, low, natural, number_at, plus, round_down}
-pub use Rattle.unixmodel.specs.OpenFiles.{is_pipe, pipe_room}
+pub use Rattle.unixmodel.specs.Numbers.{has_bit, int_of, le, low, natural, number_at, plus, round_down}
+pub use Rattle.unixmodel.specs.OpenFiles.{pipe_room}
 pub use Rattle.unixmodel.specs.OpenFiles.End.{ReadEnd, WriteEnd}
 pub use Rattle.unixmodel.specs.OpenFiles.Target.{OnNode}
 pub use Rattle.unixmodel.specs.Outcome.{answers, given, limited, minus_one, Outcome, pending_arg, pending_of, provided}
-unfoldable pub use Rattle.unixmodel.specs.Outcome.{end_process, no_descriptors}
+unfoldable pub use Rattle.unixmodel.specs.Outcome.{end_process}
 pub use Rattle.unixmodel.specs.Outcome.Outcome.{Done, Refused, Waits}
-pub use Rattle.unixmodel.specs.Plan.{Loaded, loaded_of, Plan, Stack, stack_marks}
+pub use Rattle.unixmodel.specs.Plan.{Loaded, loaded_of, Plan, Stack}
 unfoldable pub use Rattle.unixmodel.specs.Plan.{plan, push_pointers, push_strings, with_args, with_stack}
 pub use Rattle.unixmodel.specs.Process.{arg, is_zombie_mode, last_pid, with_answer}
-pub use Rattle.unixmodel.specs.ProcessCalls.{exec_registers, file_bytes, fits_beside, has_child, replaced, status_of, wait_for, zombie_child}
+pub use Rattle.unixmodel.specs.ProcessCalls.{exec_registers, file_bytes, fits_beside, has_child, replaced, wait_for, zombie_child}
 unfoldable pub use Rattle.unixmodel.specs.ProcessCalls.{args_at, exec_row, fork_row, kill_row, sbrk_row, sleep_on, wait_on, wait_row}
-pub use Rattle.unixmodel.specs.Reap.{is_same, is_used, kept}
+pub use Rattle.unixmodel.specs.Reap.{is_used, kept}
 unfoldable pub use Rattle.unixmodel.specs.Reap.{reap, without_nodes, without_opens, without_pipes}
 pub use Rattle.unixmodel.specs.Run.{after_bytes, followed_by}
 unfoldable pub use Rattle.unixmodel.specs.Run.{run}
@@ -133,7 +125,7 @@ pub use Rattle.unixmodel.specs.declared.call.Call.{Call}
 pub use Rattle.unixmodel.specs.declared.call.Call.TheVariants.{Chdir, Close, Dup, Exec, Exit, Fork, Fstat, Getpid, Kill, Link, Mkdir, Mknod, Open, Pipe, Sbrk, Sleep, Unlink, Uptime, Wait}
 pub use Rattle.unixmodel.specs.declared.event.Event.TheVariants.{Key, Step, Tick}
 pub use Rattle.unixmodel.specs.declared.process.Mode.{Mode}
-pub use Rattle.unixmodel.specs.declared.process.Mode.TheVariants.{Ready, Running, Waiting, Zombie}
+pub use Rattle.unixmodel.specs.declared.process.Mode.TheVariants.{Ready, Running, Waiting}
 pub use Rattle.unixmodel.specs.declared.process.Pending.{Pending}
 pub use Rattle.unixmodel.specs.declared.trap.Access.TheVariants.{Load, Store}
 pub use Rattle.unixmodel.specs.declared.trap.Trap.{Trap}
@@ -142,10 +134,10 @@ pub use Rattle.vm.specs.Reach.{IsSized, piece_at}
 pub use Rattle.calls.specs.Acts.{Acts, ActsOnDisk, called, called_by, CanCome, CanWait, Comes, GoesOn, GoesOnDisk, going_at, going_by, IsBegun, IsEnd, marked_by, MayPrint, outcome_at, outcome_by, pending_for, Runs, settled_by, Tries}
 pub use Rattle.calls.specs.Gives.{Dispatches, EventGives, executed, halt_of, IsMade, LeavesTree, Makes}
 pub use Rattle.calls.specs.Named.{IsRefused}
-pub use Rattle.calls.specs.Opened.{Asks, cut_tree, Cuts, file_by, has_seat, IsCut, IsOpenable, may_open_by, Opens, target_by, with_open}
-pub use Rattle.calls.specs.Processes.{asked, child_of, collected, place_called, with_status}
+pub use Rattle.calls.specs.Opened.{Asks, cut_tree, file_by, has_seat, IsCut, IsOpenable, may_open_by, Opens, target_by, with_open}
+pub use Rattle.calls.specs.Processes.{asked, place_called, with_status}
 unfoldable pub use Rattle.calls.specs.Reads.{stat_told}
-pub use Rattle.calls.specs.Renamed.{duplicated, free_descriptors, OpensAs, pipe_file}
+pub use Rattle.kernel.specs.Opening.{free_descriptors, OpensAs}
 pub use Rattle.calls.specs.Replaced.{begun, Reaches}
 pub use Rattle.calls.specs.Resuming.{resumed, resumed_by, resumed_in, WaitsIn}
 pub use Rattle.calls.specs.Steps.{IsBusy, IsBusyFor, LeavesFiles, PieceGives, PieceGoes, stepped, StepsGive, StopsAt, Went}

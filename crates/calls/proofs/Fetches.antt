@@ -1,19 +1,19 @@
 -- A read of a file or a directory.
-use Rattle.calls.proofs.Common.{used-changed, ◌≡◌, ℕ, ◌+◌, ◌<◌, ◌≤◌, ◌^◌, true, false, List, [], length, take, drop, Option, Some, None, refl, ap, subst, sym, ◌∙◌, arith, Ok, length-drop, length-take, GoesOn}
-use Rattle.calls.proofs.Common.{Answers, Uses, Transfers, file_of, target_of, Counted, opens-moved, FitsNode, IsInUse, Kernel, descriptors_at, state_of, IsKernel, IsOpened, IsPlaced}
-use Rattle.calls.proofs.Common.{IsReading, set-slot, fail-kernel, placed-with, changed-same, Changed, Spaces, view_at, IsRead, bytes_of, bytes_read, whole-node, FileTree, Serves}
-use Rattle.calls.proofs.Common.{IsWhole, Pending, read_file, read_node, read_on, Files, Node, longest, node_bytes, put, slot, Directory, File, write_bytes, low, OnNode, pending_arg, Done, State, put_process}
-use Rattle.calls.proofs.Acts.{Here, goes-serves, going, me, turned, turned-here, turned-state, used-here, used-turned}
-use Rattle.calls.proofs.Draws.{rewritten-fits}
-use Rattle.calls.proofs.Moving.{opened-moved, used-moved}
-use Rattle.calls.proofs.Transfers.{file, file-fits, file-named, going-is, held-here, here}
+use Rattle.calls.proofs.Common.{◌≡◌, ℕ, ◌+◌, ◌<◌, ◌≤◌, ◌^◌, List, [], length, take, drop, Option, Some, None, refl, ap, subst, sym, ◌∙◌, arith, length-drop, length-take, GoesOn}
+use Rattle.calls.proofs.Common.{Answers, Uses, Transfers, file_of, target_of, opens-moved, FitsNode, Kernel, descriptors_at, state_of, IsKernel}
+use Rattle.calls.proofs.Common.{IsReading, view_at, bytes_of, bytes_read, whole-node, FileTree}
+use Rattle.calls.proofs.Common.{IsWhole, Pending, read_file, read_node, read_on, Node, longest, node_bytes, put, slot, Directory, File, write_bytes, low, OnNode, pending_arg, Done, State, put_process}
+use Rattle.calls.proofs.Acts.{Here, goes-serves, going, here-in, me, used-here}
+use Rattle.calls.proofs.Common.{IsServed, counting, option_map}
+use Rattle.kernel.proofs.Memories.{wrote-state}
+use Rattle.kernel.specs.Memory.{wrote}
+use Rattle.kernel.specs.Opening.{HasFetched, MayMove, advanced}
+use Rattle.calls.proofs.Transfers.{file, file-fits, file-named, going-is, here}
 use Rattle.files.specs.declared.file.End.TheVariants as end
 use Rattle.files.specs.declared.file.OpenFile.{OpenFile}
 use Rattle.files.specs.declared.file.Target.TheVariants as target
 use Rattle.files.specs.Places.{moved, opens_of}
 use Rattle.kernel.proofs.Opens.{IsNamed}
-use Rattle.spaces.specs.Spaces.{written}
-use Rattle.file_transfers.specs.Moved.{with_bytes}
 use Rattle.tree.specs.Stored.{FitsPlaces}
 use Rattle.unixmodel.specs.Files.Node.{Device}
 use Rattle.unixmodel.specs.Image.{KeepsSize}
@@ -71,35 +71,10 @@ module _ (k : Kernel) (i : ℕ) (w : Pending) (number offset : ℕ) (u : Uses k 
 
   -- ---- what is asked for
 
-  pub reads-node : (at : Kernel) → at ≡ k → (node : Node) × (slot at.tree.files number ≡ Some node)
-  reads-node at same = (content.node, rw same content.here)
+  pub reads-node : (node : Node) × (slot k.tree.files number ≡ Some node)
+  reads-node = (content.node, content.here)
 
-  -- ---- bytes that come
-
-  placed : (bs : List ℕ) → IsPlaced x.process (written x.held address bs)
-  placed bs = placed-with k i x.process x.held x.run x.sound (write_bytes x.held.memory address bs)
-
-  abbrev to : FileTree → List (Option Counted) → List ℕ → Kernel
-  to t files bs = turned k i x t x.process (written x.held address bs) files k.spaces.pipes (placed bs) x.run.runs
-
-  to-is : (t : FileTree) (files : List (Option Counted)) (bs : List ℕ) → record k { tree = t; spaces = with_bytes k.spaces i address bs; files = files } ≡ to t files bs
-  to-is t files bs = rw (held-here g, set-slot k.table.places i (Some x.process) x.run.process) refl
-
-  to-here : (t : FileTree) (files : List (Option Counted)) (bs : List ℕ) → t.failed ≡ false → IsInUse t files (put k.table.places i x.process) → IsOpened files k.spaces.pipes k.table.places → Here (to t files bs) i
-  to-here t files bs up used opened =
-      turned-here k i x t x.process (written x.held address bs) files k.spaces.pipes (placed bs) x.run.runs up used
-      (subst (IsOpened files k.spaces.pipes) (sym (set-slot k.table.places i (Some x.process) x.run.process)) opened)
-      (rewritten-fits k.spaces i k.spaces.frames x.held address bs x.run.space x.sound.fits)
-
-  -- ---- the device fails
-
-  lost : (bs : List ℕ) → IsKernel (record k { spaces = with_bytes k.spaces i address bs })
-  lost bs = rw (to-is k.tree k.files bs) (to-here k.tree k.files bs x.up (used-turned k i x x.process x.run.runs refl) x.sound.opened).sound
-
-  pub reads-lost : (at : Kernel) → at ≡ k → (t : FileTree) → t.failed ≡ true → (s : Spaces) (done : ℕ) → s ≡ with_bytes at.spaces i address (bytes_read at.tree.files number offset done) → IsKernel (record at { tree = t; spaces = s })
-  reads-lost at same t down s done some = fail-kernel {k = record at { spaces = s }} (rw (some, same) (lost (bytes_read k.tree.files number offset done))) t down
-
-  -- ---- all came
+  -- ---- what comes
 
   module _ (whole : IsWhole k.tree) where
     -- where the open file stands then
@@ -111,70 +86,50 @@ module _ (k : Kernel) (i : ℕ) (w : Pending) (number offset : ℕ) (u : Uses k 
         let short = subst KeepsSize c.here ((used-here k i x).rules.sizes number) in
         omega (arith, same, size, short, c.near, length-take count (drop offset (node_bytes c.node)), length-drop offset (node_bytes c.node))
 
-    module _ (t : FileTree) (n : ℕ) (serves : Serves k.tree t (Ok n) (IsRead k.tree t number offset count)) where
-      told : IsRead k.tree t number offset count n
-      told = serves.told
-
-      abbrev files : List (Option Counted)
-      files = moved k.files (file g).number (offset + n)
+    -- m is what the read left, and new what goes on behind it
+    module _ {m : Kernel} {n c : ℕ} (wide : c ≡ count) (fetched : HasFetched k m i number offset address c n) where
+      told : HasFetched k m i number offset address count n
+      told = rw wide at fetched
 
       near : offset + n ≤ longest
-      near = omega (arith, most, told.count)
+      near = omega (arith, most, told.counted)
 
-      used : IsInUse t files (put k.table.places i x.process)
-      used =
-          let was = used-turned k i x x.process x.run.runs refl in
-          let same = told.same in
-          let now = used-changed was t (subst (Changed k.tree.files) (ap (λ (y : FileTree). y.files) (sym same)) (changed-same was.rules)) (ap (λ (y : FileTree). y.holds) same) (rw same was.zero) (rw same was.within) in
-          used-moved now (file g).number (offset + n) number offset (file g).file (file g).opened (file g).on near
+      same : low n ≡ n
+      same = let low = near in low-same n longest (omega (arith, low)) (omega arith)
 
-      read-here : Here (to t files piece) i
-      read-here = to-here t files piece serves.up used (opened-moved k.files (file g).number (offset + n) k.spaces.pipes k.table.places x.sound.opened)
+      pub reads-near : offset + low n < 2 ^ 32
+      reads-near = let low = near in omega (arith, low, same)
+
+      pub reads-may : (id : ℕ) → id ≡ (file g).number → (l : ℕ) → l ≡ low n → MayMove m id (offset + l)
+      reads-may id named l cut = rw (told.same, named, cut, same) (record { number = number; old = offset; on = ap (option_map (λ (f : OpenFile). f.target)) (file g).opened ∙ ap Some (file g).on; within = near })
 
       -- the state with that
-      abbrev left : Files → ℕ → List (Option unix_files.OpenFile) → ℕ → List ℕ → State
-      left all limit opens at bs = record (put_process (state_of k) i (record (me k i x) { memory = write_bytes x.held.memory at bs })) { files = all; block_limit = limit; opens = opens }
+      abbrev left : List (Option unix_files.OpenFile) → ℕ → List ℕ → State
+      left opens at bs = record (put_process (state_of k) i (record (me k i x) { memory = write_bytes x.held.memory at bs })) { opens = opens }
 
       abbrev opens : ℕ → List (Option unix_files.OpenFile)
-      opens m = put (opens_of k.files) (file g).number (record (file_of (file g).file) { target = OnNode number (offset + m) })
+      opens o = put (opens_of k.files) (file g).number (record (file_of (file g).file) { target = OnNode number (offset + o) })
 
-      state : left k.tree.files k.tree.block_limit (opens n) (address + w.done) bytes ≡ state_of (to t files piece)
-      state =
-          let start = u.start in
-          let from : address + w.done ≡ address = omega (arith, start) in
-          let come : bytes ≡ piece = sym (ap (λ (o : Option Node). take count (drop offset (bytes_of o))) content.here) in
-          ap (λ a. left k.tree.files k.tree.block_limit (opens n) a bytes) from
-          ∙ ap (λ bs. left k.tree.files k.tree.block_limit (opens n) address bs) come
-          ∙ ap (λ os. left k.tree.files k.tree.block_limit os address piece) (sym (opens-moved k.files (file g).number (offset + n) number offset (file g).file (file g).opened (file g).on))
-          ∙ ap (λ (y : FileTree). left y.files y.block_limit (opens_of files) address piece) (sym told.same)
-          ∙ sym (turned-state k i x t x.process (written x.held address piece) files k.spaces.pipes (placed piece) x.run.runs)
-
-      row : going k i x w ≡ Done (state_of (to t files piece)) n []
+      row : going k i x w ≡ Done (left (opens n) address piece) n []
       row =
           let c = content in
-          let counted : length bytes ≡ n = sym (ap (λ (o : Option Node). length (take count (drop offset (bytes_of o)))) c.here) ∙ sym told.count in
+          let start = u.start in
+          let from : address + w.done ≡ address = omega (arith, start) in
+          let counted : length bytes ≡ n = sym (ap (λ (o : Option Node). length (take count (drop offset (bytes_of o)))) c.here) ∙ sym told.counted in
           going-is g
           ∙ reads-file (state_of k) i (me k i x) w (file_of (file g).file) (file-named g) number offset (ap target_of (file g).on) c.node c.here
           ∙ c.reads (state_of k) i (me k i x) w (file g).number (file_of (file g).file) number offset
-          ∙ ap (λ (m : ℕ). Done (left k.tree.files k.tree.block_limit (opens m) (address + w.done) bytes) m []) counted
-          ∙ ap (λ (s : State). Done s n []) state
+          ∙ ap (λ (o : ℕ). Done (left (opens o) (address + w.done) bytes) o []) counted
+          ∙ ap (λ (at : ℕ). Done (left (opens n) at bytes) n []) from
+          ∙ ap (λ (bs : List ℕ). Done (left (opens n) address bs) n []) (sym (ap (λ (o : Option Node). take count (drop offset (bytes_of o))) c.here))
 
-      done : GoesOn k (record k { tree = t; spaces = with_bytes k.spaces i address piece; files = files }) i w (Answers n)
-      done = rw (to-is t files piece) (goes-serves k i x w (to t files piece) n read-here (record { up = serves.up; same_device = serves.same_device; later = serves.cause.later }) row)
-
-  -- at is what the kernel's fields show
-  module _ (at : Kernel) (same : at ≡ k) (whole : IsWhole at.tree) (m : ℕ) (wide : m ≡ count) (t : FileTree) (n : ℕ) (serves : Serves at.tree t (Ok n) (IsRead at.tree t number offset m)) where
-    serves-here : Serves k.tree t (Ok n) (IsRead k.tree t number offset count)
-    serves-here = rw (same, wide) at serves
-
-    whole-here : IsWhole k.tree
-    whole-here = rw same at whole
-
-    pub reads-near : offset + low n < 2 ^ 32
-    reads-near = let low = near whole-here t n serves-here in omega (arith, low)
-
-    pub reads-done : (s : Spaces) → s ≡ with_bytes at.spaces i address (bytes_read at.tree.files number offset m) → (id : ℕ) → id ≡ (file g).number → (l : ℕ) → l ≡ low n → (all : List (Option Counted)) → all ≡ moved at.files id (offset + l)
-        → GoesOn k (record at { tree = t; spaces = s; files = all }) i w (Answers n)
-    reads-done s made id named l cut all moves =
-        let short = near whole-here t n serves-here in
-        rw (moves, made, named, cut, wide, low-same n longest (omega (arith, short)) (omega arith), same) (done whole-here t n serves-here)
+      pub reads-done : {new : Kernel} (id : ℕ) → id ≡ (file g).number → (l : ℕ) → l ≡ low n → new ≡ advanced m id (offset + l) → IsKernel new → IsServed k.tree m.tree → GoesOn k new i w (Answers n)
+      reads-done {new} id named l cut is sound served =
+          let files = moved k.files (file g).number (offset + n) in
+          let made : new ≡ advanced (counting (wrote k i address piece) m.tree.failures) (file g).number (offset + n) =
+          is ∙ ap (λ (j : ℕ). advanced m j (offset + l)) named ∙ ap (λ (d : ℕ). advanced m (file g).number (offset + d)) (cut ∙ same) ∙ ap (λ (y : Kernel). advanced y (file g).number (offset + n)) told.same in
+          let tree : new.tree ≡ m.tree = ap (λ (y : Kernel). y.tree) is in
+          let state : state_of new ≡ left (opens n) address piece =
+          ap state_of made ∙ ap (λ (s : State). record s { opens = opens_of files }) (wrote-state x.run x.sound address piece)
+          ∙ ap (λ (os : List (Option unix_files.OpenFile)). left os address piece) (opens-moved k.files (file g).number (offset + n) number offset (file g).file (file g).opened (file g).on) in
+          goes-serves k i x w new n (here-in sound (ap (λ (y : Kernel). y.spaces.active) made ∙ x.run.active) (ap (λ (t : FileTree). t.failed) tree ∙ served.up)) (rw tree served) (row ∙ ap (λ (s : State). Done s n []) (sym state))

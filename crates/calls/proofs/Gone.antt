@@ -1,39 +1,33 @@
 -- The running process changes, and what nothing names any more is gone once the call is answered.
-use Rattle.calls.proofs.Common.{◌≡◌, ◌≤◌, ◌∙◌, ℕ, List, [], Some, false, true, ap, sym, slice_set, le-leb, match-active, match-place, within-state_with, change-put, moved-run, moved-state, process-run, self, set-slot}
-use Rattle.calls.proofs.Common.{slot-within, Kernel, loaded, state_of, IsPlace, IsPlaced, Process, taken_frames, quiet, settle, is_within, Running, slot, limited, Done, with_answer, reap, State, put_process}
-use Rattle.calls.proofs.Acts.{Here, me, used-here}
+use Rattle.calls.proofs.Common.{◌≡◌, ◌∙◌, ℕ, List, [], length, Option, Some, ap, sym, slice_set, change-put, process-run, regs-run, regs-state, not-killed, set-twice, slot-put, slot-within, Kernel, answered, state_of}
+use Rattle.calls.proofs.Common.{quiet, settle, limited, Done, with_answer, reap, State, put_process}
+use Rattle.calls.proofs.Acts.{Here, me, runner}
 use Rattle.calls.proofs.Settles.{settle-reaped}
-use Rattle.kernel.proofs.Runs.{moved}
+use Rattle.kernel.proofs.Renaming.{renamed-within}
+use Rattle.unixmodel.specs.Process as unix
 
-module _ (k : Kernel) (i : ℕ) (x : Here k i) (q : Process) (placed : IsPlaced q x.held) (runs : q.mode ≡ Running) where
-  abbrev mid : List ℕ → Kernel
-  mid registers = moved k i q x.held registers k.spaces.pc
-
-  -- before anything goes, and with the answer 0
-  abbrev pub changed : Kernel
-  changed = mid k.spaces.registers
-
-  abbrev pub changed_answered : Kernel
-  changed_answered = mid (slice_set k.spaces.registers 10 0)
-
-  pub changed-fits : taken_frames changed.spaces ≤ k.spaces.frames
-  changed-fits = rw (set-slot k.spaces.places i (Some x.held) x.run.space) x.sound.fits
+-- it has other descriptors, or works in another directory
+module _ (k : Kernel) (i : ℕ) (x : Here k i) (ds : List (Option ℕ)) (directory : ℕ) (same : length ds ≡ length x.process.descriptors) where
+  abbrev p : unix.Process
+  p = record (me k i x) { descriptors = ds; directory = directory }
 
   abbrev new : State
-  new = put_process (state_of k) i (self k q x.held)
+  new = put_process (state_of k) i p
 
-  module _ (alive : q.killed ≡ false) (stands : (j : ℕ) → IsPlace (slot changed.table.places j) (slot changed.spaces.places j)) where
-    new-within : is_within new ≡ true
-    new-within =
-        ap is_within (sym (moved-state k i x.process x.held x.run x.sound q x.held k.spaces.registers k.spaces.pc placed runs))
-        ∙ within-state_with changed (loaded changed) (used-here k i x).within x.sound.opened.table
-        (match-active changed changed.spaces.active (λ j. match-place (slot changed.table.places j) (slot changed.spaces.places j) (stands j)))
-        ∙ le-leb _ _ changed-fits
+  abbrev regs : List ℕ
+  regs = slice_set k.spaces.registers 10 0
 
-    pub settles-gone : {last : State} → reap (state_of changed_answered) ≡ last → settle (state_of k) i (limited (Done new 0 [])) ≡ quiet last
-    settles-gone reaped =
-        let regs = slice_set k.spaces.registers 10 0 in
-        rw new-within (settle-reaped (state_of k) new i 0 []
-        (change-put i (state_of k) (self k q x.held) (with_answer 0) (slot-within (state_of k).places i (me k i x) (process-run k i x.process x.held x.run))
-        ∙ sym (moved-state k i x.process x.held x.run x.sound q x.held regs k.spaces.pc placed runs))
-        (process-run changed_answered i q x.held (moved-run k i x.process x.held x.run x.sound q x.held regs k.spaces.pc placed runs)) alive reaped)
+  -- it has its answer first
+  answered-is : put_process (state_of k) i (with_answer 0 p) ≡ put_process (state_of (answered k 0)) i (with_answer 0 p)
+  answered-is =
+      ap (λ (ps : List (Option unix.Process)). record (state_of k) { places = ps }) (sym (set-twice (state_of k).places i (Some (with_answer 0 (me k i x))) (Some (with_answer 0 p))))
+      ∙ ap (λ (s : State). put_process s i (with_answer 0 p)) (sym (regs-state k i x.process x.held x.run x.sound regs k.spaces.pc))
+
+  pub settles-gone : {last : State} → reap (put_process (state_of (answered k 0)) i (with_answer 0 p)) ≡ last → settle (state_of k) i (limited (Done new 0 [])) ≡ quiet last
+  settles-gone reaped =
+      let short = slot-within (state_of k).places i (me k i x) (process-run k i x.process x.held x.run) in
+      let run = process-run (answered k 0) i x.process x.held (regs-run k i x.process x.held x.run x.sound regs k.spaces.pc) in
+      let low = slot-within (state_of (answered k 0)).places i _ run in
+      rw (renamed-within (runner x) ds directory same x.up)
+      (settle-reaped (state_of k) new i 0 [] (change-put i (state_of k) p (with_answer 0) short ∙ answered-is)
+      (slot-put (state_of (answered k 0)).places i (Some (with_answer 0 p)) low) (not-killed k i x.process x.held x.run x.sound) reaped)

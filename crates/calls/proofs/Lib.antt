@@ -24,7 +24,6 @@ pub mod Names
 pub mod Links
 pub mod Unlinks
 pub mod Puts
-pub mod Moving
 pub mod Fetches
 pub mod Stores
 pub mod Stats

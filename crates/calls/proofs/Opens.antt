@@ -1,31 +1,34 @@
 -- open: the running process has a new open file on a node.
-use Rattle.calls.proofs.Common.{Bool, Err, List, None, Ok, Option, Some, [], ap, arith, false, inl, inr, le_trans, length, refl, subst, suc, sym, true, ℕ, ◌+◌, ◌<◌, ◌∙◌, ◌≡◌, ◌≢◌, ◌≤◌, Result, count_by, if◌then◌else◌, with_tree, HasFiled, ◌%◌, slice_index}
-use Rattle.calls.proofs.Common.{is_none, nat_lt, not, option_and_then, option_map, slice_set, ◌==◌, ◌||◌, cases_eq, eqb-true, false≢true, lt-ltb, get_or-set_other, get_or-set_same, length-set, sum_by-set, none-some}
+use Rattle.calls.proofs.Common.{Bool, Err, List, None, Ok, Option, Some, [], ap, arith, false, inl, inr, le_trans, refl, subst, suc, sym, true, ℕ, ◌<◌, ◌∙◌, ◌≡◌, ◌≢◌, ◌≤◌, Result, count_by, if◌then◌else◌}
+use Rattle.calls.proofs.Common.{state-but, is_none, nat_lt, not, option_and_then, option_map, slice_set, ◌==◌, ◌||◌, cases_eq, eqb-true, false≢true, lt-ltb, get_or-set_other, get_or-set_same, none-some}
 use Rattle.calls.proofs.Common.{option_and_then_some, same_Some, DeviceFault, Acts, ActsOnDisk, Runs, outcome_at, settled_by, Came, Answers, Refuses, IsServed, IsRefused, Asks, IsCut, IsOpenable, Opens, cut_tree, file_by}
-use Rattle.calls.proofs.Common.{has_seat, may_open_by, target_by, with_open, HasRead, OpensAs, free_descriptors, one_in, count-opened, names-put, file_of, target_of, IsPiped, has_pipe-put, Counted, count_at, count_in, file_at}
-use Rattle.calls.proofs.Common.{free_count, free_slot-opens, opens-opened, table-opened, free-None, free-opens, free-place, InodeStat, hold-more, alike-same, file-opened, place-counts, waits-kept, waits-running, waits-set, process-run}
-use Rattle.calls.proofs.Common.{same_or_not, set-slot, slot-other, slot-put, slot-within, IsCounted, descriptors_in, FitsNode, IsInUse, files_on, node_in, node_of, node_on, Kernel, argument, state_of, IsKernel, IsOpenFile}
-use Rattle.calls.proofs.Common.{IsOpened, IsPlaced, enter-parts, make-parts, Process, Places, changed, view_at, Overflows, TreeFault, made_files, made_in, holders, with_hold, leaf_node, Tells, TellsMajor}
-use Rattle.calls.proofs.Common.{directory_at, FileTree, has_failed, IsWhole, outcome_of, row, settle, blocks_of, Call, Open, Files, Node, Spot, change_node, find, free_slot, kind_of, put, slot, spot_of, Directory, File, path_at, Made}
+use Rattle.calls.proofs.Common.{has_seat, may_open_by, target_by, with_open, HasRead, free_descriptors, file_of, target_of}
+use Rattle.calls.proofs.Common.{free_count, free-None, free-opens, InodeStat, process-run}
+use Rattle.calls.proofs.Common.{set-slot, slot-within, descriptors_in, FitsNode, node_on, Kernel, argument, state_of, IsKernel}
+use Rattle.calls.proofs.Common.{enter-parts, make-parts, Process, view_at, Overflows, TreeFault, made_files, made_in, leaf_node, Tells, TellsMajor}
+use Rattle.calls.proofs.Common.{FileTree, has_failed, outcome_of, row, settle, blocks_of, Call, Open, Files, Node, Spot, change_node, find, free_slot, kind_of, put, slot, spot_of, Directory, File, path_at, Made}
 use Rattle.calls.proofs.Common.{creates, emptied, found_or_made, make_at, made_at, may_open, new_file, open_row, truncated, truncates, has_bit, low, OnNode, Outcome, answers, given, limited, provided, Done, Refused, State}
-use Rattle.calls.proofs.Renames.{named-put}
-use Rattle.calls.proofs.Acts.{Here, here-of, me, named-placed, prints, refused, turned, turned-here, turned-state, used-turned, runs-of}
-use Rattle.calls.proofs.Homes.{few-hold, found-here, node-here, refused-read}
+use Rattle.kernel.proofs.Opening.{open-state}
+use Rattle.kernel.specs.Opening.{MayOpen, OpensOn, opened_on}
+use Rattle.std.proofs.lemmas.Bool.{and_parts, ltb-true}
+use Rattle.calls.proofs.Acts.{Here, here-of, me, prints, refused, runner}
+use Rattle.calls.proofs.Homes.{found-here, node-here, refused-read}
 use Rattle.calls.proofs.Names.{home-is, refused-acts, over-blocks, path-is}
+use Rattle.tree.specs.Calls.{MakesNode}
+use Rattle.calls.proofs.Common.{with_tree, HasFiled, ◌%◌, slice_index}
+use Rattle.calls.proofs.Common.{directory_at}
+use Rattle.calls.proofs.Acts.{runs-of}
 use Rattle.calls.proofs.Pipes.{given-refused}
 use Rattle.calls.proofs.Served.{lost-after, served-after, ok-told}
 use Rattle.files.specs.declared.file.OpenFile.{OpenFile}
 use Rattle.files.specs.declared.file.Target.TheVariants as target
-use Rattle.files.specs.Places as places
 use Rattle.files.specs.Places.{opens_of}
 use Rattle.names.proofs.Spots.{spot-absent}
-use Rattle.proc.specs.Places.{with_descriptor}
 use Rattle.tree.specs.declared.making.Leaf.TheVariants as leaf
 use Rattle.unixmodel.specs.Files.Node.{Device}
 use Rattle.unixmodel.specs.NameCalls.{opened}
 use Rattle.unixmodel.specs.OpenFiles as unix_files
 use Rattle.unixmodel.specs.Process as unix
-use Rattle.tree.specs.Calls.{MakesNode}
 
 -- ---- flags and types
 
@@ -88,160 +91,35 @@ some-place xs n at = elim (cases_eq (count_by is_none xs) 0) [
 
 -- ---- the kernel with one open file more
 
-module _ (k : Kernel) (i : ℕ) (x : Here k i) (n : ℕ) (f : OpenFile) (place fd : ℕ) (first : free_slot (opens_of k.files) ≡ Some place) (free : free_slot x.process.descriptors ≡ Some fd)
-    (short : n < length k.tree.holds) (on : node_on f.target ≡ Some n) (fits : FitsNode f f.target (slot k.tree.files n)) (means : target_of f.target ≡ OnNode n 0) where
-  abbrev q : Process
-  q = record x.process { descriptors = put x.process.descriptors fd place }
+module _ {k : Kernel} {i : ℕ} (runs : Runs k i) {n f : ℕ} {told : InodeStat} (is : IsOpenable k.tree.files n f told) where
+  abbrev g : OpenFile
+  g = file_by f (target_by n told.kind told.major)
 
-  abbrev tree : FileTree
-  tree = record k.tree { holds = with_hold k.tree.holds n }
+  pub may-be-open : has_seat k i ≡ true → MayOpen k i n g
+  may-be-open seat =
+      let parts = and_parts (nat_lt 0 (free_descriptors k.table i)) (nat_lt 0 (free_count k.files)) seat in
+      record {
+        running = runs.active;
+        descriptor = ltb-true 0 (free_descriptors k.table i) parts.0;
+        place = ltb-true 0 (free_count k.files) parts.1;
+        on = (target-of n told.kind told.major).1;
+        fits = rw is.here (fits-by f n is.node told.kind told.major is.kind is.major is.may);
+        up = runs.up;
+      }
 
-  abbrev files : List (Option Counted)
-  files = places.opened k.files place f
-
-  abbrev one : Counted
-  one = record { file = f; count = 1 }
-
-  place-free : (place < length k.files) × (slot k.files place ≡ None)
-  place-free = free-place k.files place (sym (free_slot-opens k.files) ∙ first)
-
-  fd-free : (fd < length x.process.descriptors) × (slot x.process.descriptors fd ≡ None)
-  fd-free = free-place x.process.descriptors fd free
-
-  pub placed : IsPlaced q x.held
-  placed = named-placed k i x q.descriptors x.process.directory x.held.memory (length-set x.process.descriptors fd (Some place))
-
-  opens-is : opens_of files ≡ put (opens_of k.files) place (file_of f)
-  opens-is = opens-opened k.files place f
-
-  counted : IsCounted files (put k.table.places i q)
-  counted m =
-      let more = count-opened k.files place f place-free.0 place-free.1 m in
-      let put_one = names-put m x.process.descriptors fd place fd-free.0 fd-free.1 in
-      omega (arith, more, named-put k i x q m, put_one, x.sound.opened.counted m)
-
-  -- each open file but the new one was there
-  each : (m : ℕ) (g : unix_files.OpenFile) → slot (opens_of files) m ≡ Some g → IsOpenFile g
-  each m g at =
-      let opens = opens_of k.files in
-      let there : slot (put opens place (file_of f)) m ≡ Some g = ap (λ (os : List (Option unix_files.OpenFile)). slot os m) (sym opens-is) ∙ at in
-      elim (same_or_not m place) [
-        | inl same ↦
-            let e : file_of f ≡ g = same_Some (file_of f) g (sym (slot-put opens place (Some (file_of f)) (free-place opens place first).0) ∙ ap (slot (put opens place (file_of f))) (sym same) ∙ there) in
-            subst IsOpenFile e (rw means tt)
-        | inr other ↦ x.sound.opened.each m g (sym (slot-other opens place m (Some (file_of f)) other) ∙ there)
-      ]
-
-  was-there : (m : ℕ) (g : OpenFile) → 0 < count_at k.files m → file_at files m ≡ Some g → file_at k.files m ≡ Some g
-  was-there m g some at =
-      let apart : m ≢ place = λ same. (let none : count_at k.files m ≡ 0 = ap (count_at k.files) same ∙ ap count_in place-free.1 in omega (arith, some, none)) in
-      sym (file-opened k.files place f m apart) ∙ at
-
-  piped : IsPiped k.spaces.pipes (opens_of files)
-  piped = let at = free-place (opens_of k.files) place first in subst (IsPiped k.spaces.pipes) (sym opens-is) (λ r. x.sound.opened.piped r ∙ sym (has_pipe-put (opens_of k.files) place (file_of f) r at.0 at.1 ∙ rw means refl))
-
-  has-opened : IsOpened files k.spaces.pipes (put k.table.places i q)
-  has-opened = let was = x.sound.opened in record {
-    table = table-opened k.files place f was.table;
-    counted = counted;
-    each = each;
-    all = was.all;
-    piped = piped;
-    waits = waits-set files k.table.places i (Some q) (waits-running files q x.run.runs)
-        (λ j. waits-kept k.files files (slot k.table.places j) (λ d m g named at. (g, (was-there m g (place-counts k.files k.table.places was.counted j (slot k.table.places j) refl d m named) at, alike-same g))) (was.waits j));
-  }
-
-  before : IsInUse k.tree k.files (put k.table.places i q)
-  before = used-turned k i x q x.run.runs refl
-
-  files-more : (m : ℕ) → files_on files m ≡ files_on k.files m + one_in m (Some n)
-  files-more m =
-      let sums : files_on files m + one_in m (node_in (slot k.files place)) ≡ files_on k.files m + one_in m (node_in (Some one)) = sum_by-set (λ o. one_in m (node_in o)) k.files place (Some one) None place-free.0 in
-      let none : one_in m (node_in (slot k.files place)) ≡ 0 = ap (λ (o : Option Counted). one_in m (node_in o)) place-free.1 in
-      let new : one_in m (node_in (Some one)) ≡ one_in m (Some n) = ap (one_in m) on in
-      omega (arith, sums, none, new)
-
-  used : IsInUse tree files (put k.table.places i q)
-  used = record {
-    rules = before.rules;
-    zero = before.zero;
-    within = before.within;
-    holds = λ m. omega (arith, hold-more k.tree.holds n short m, before.holds m, files-more m);
-    held = λ m node here bare. omega (arith, hold-more k.tree.holds n short m, before.held m node here bare);
-    fits = λ j c at. elim (same_or_not j place) [
-      | inl same ↦
-          let e : one ≡ c = same_Some one c (sym (slot-put k.files place (Some one) place-free.0) ∙ ap (slot files) (sym same) ∙ at) in
-          subst (λ (d : Counted). FitsNode d.file d.file.target (node_of k.tree.files (node_on d.file.target))) e (subst (λ o. FitsNode f f.target (node_of k.tree.files o)) (sym on) fits)
-      | inr other ↦ before.fits j c (sym (slot-other k.files place j (Some one) other) ∙ at)
-    ];
-    homes = before.homes;
-  }
-
-  abbrev to : Kernel
-  to = turned k i x tree q x.held files k.spaces.pipes placed x.run.runs
-
-  pub opens-here : Here to i
-  opens-here = turned-here k i x tree q x.held files k.spaces.pipes placed x.run.runs x.up used has-opened (rw (set-slot k.spaces.places i (Some x.held) x.run.space) x.sound.fits)
-
-  opens-state : state_of to ≡ with_open (state_of k) i (me k i x) fd place (file_of f)
-  opens-state = turned-state k i x tree q x.held files k.spaces.pipes placed x.run.runs ∙ ap (λ (os : List (Option unix_files.OpenFile)). record (with_open (state_of k) i (me k i x) fd place (file_of f)) { opens = os }) opens-is
-
-  pub opens-is-to : record k { tree = tree; table = changed k.table i (with_descriptor fd (Some place)); files = files } ≡ to
-  opens-is-to = rw (x.run.process, set-slot k.spaces.places i (Some x.held) x.run.space) refl
-
-  pub opens-so : (runs : Runs k i) (g : unix_files.OpenFile) → file_of f ≡ g → Opens k to i g fd
-  opens-so runs g means' = record {
-    place = place;
-    first = first;
-    free = ap (λ (o : Option Process). free_slot (descriptors_in o)) x.run.process ∙ free;
-    state = λ p at. opens-state ∙ ap (λ (y : unix.Process). with_open (state_of k) i y fd place (file_of f)) (same_Some (me k i x) p (sym (process-run k i x.process x.held x.run) ∙ at)) ∙ ap (with_open (state_of k) i p fd place) means';
-    runs = record { active = opens-here.run.active; up = opens-here.up; sound = opens-here.sound; zero = runs.zero; aligned = runs.aligned };
-    served = record { up = x.up; same_device = refl; later = omega arith };
-  }
-
--- over the fields: at is what they show
-module _ {k : Kernel} {i : ℕ} (runs : Runs k i) {n f : ℕ} {told : InodeStat} (is : IsOpenable k.tree.files n f told) {at : Kernel} (same : at ≡ k) (whole : IsWhole at.tree) where
-  abbrev x : Here k i
-  x = here-of k i runs
-
-  pub open-there : slot at.tree.files n ≢ None
-  open-there none = none-some is.node (sym none ∙ ap (λ (y : Kernel). slot y.tree.files n) same ∙ is.here)
-
-  pub open-few : holders at.tree.holds n < 65535
-  open-few = subst (λ (y : Kernel). holders y.tree.holds n < 65535) (sym same) (few-hold k i runs n)
-
-  open-short : n < length k.tree.holds
-  open-short = subst (λ (y : Kernel). n < length y.tree.holds) same (whole.numbers n open-there).0
-
-  module _ {g : OpenFile} (asks : g ≡ file_by f (target_by n told.kind told.major)) {held : FileTree} (holds : held ≡ record at.tree { holds = with_hold at.tree.holds n }) {t : Places} {files : List (Option Counted)} {fd : ℕ} (one : OpensAs at.table t at.files files i g fd) where
-    abbrev g' : OpenFile
-    g' = file_by f (target_by n told.kind told.major)
-
-    one' : OpensAs k.table t k.files files i g' fd
-    one' = subst (λ (y : Kernel). OpensAs y.table t y.files files i g' fd) same (subst (λ (h : OpenFile). OpensAs at.table t at.files files i h fd) asks one)
-
-    fits : FitsNode g' g'.target (slot k.tree.files n)
-    fits = rw is.here (fits-by f n is.node told.kind told.major is.kind is.major is.may)
-
-    free-here : free_slot x.process.descriptors ≡ Some fd
-    free-here = ap (λ (o : Option Process). free_slot (descriptors_in o)) (sym x.run.process) ∙ one'.free
-
-    abbrev with_parts : Kernel → FileTree → Places → List (Option Counted) → Kernel
-    with_parts y u places opens = record y { tree = u; table = places; files = opens }
-
-    made-so : record at { tree = held; table = t; files = files } ≡ to k i x n g' one'.number fd one'.place free-here open-short (target-of n told.kind told.major).1 fits (target-of n told.kind told.major).0
-    made-so =
-        let u : FileTree = record k.tree { holds = with_hold k.tree.holds n } in
-        ap (λ (v : FileTree). with_parts at v t files) holds
-        ∙ ap (λ (y : Kernel). with_parts y (record y.tree { holds = with_hold y.tree.holds n }) t files) same
-        ∙ ap (λ (places : Places). with_parts k u places files) one'.names
-        ∙ ap (λ (opens : List (Option Counted)). with_parts k u (changed k.table i (with_descriptor fd (Some one'.number))) opens) one'.opens
-        ∙ opens-is-to k i x n g' one'.number fd one'.place free-here open-short (target-of n told.kind told.major).1 fits (target-of n told.kind told.major).0
-
-    pub opens-on : Opens k (record at { tree = held; table = t; files = files }) i (opened f n) fd
-    opens-on =
-        subst (λ (y : Kernel). Opens k y i (opened f n) fd) (sym made-so)
-        (opens-so k i x n g' one'.number fd one'.place free-here open-short (target-of n told.kind told.major).1 fits (target-of n told.kind told.major).0 runs (opened f n) (file-by f n told.kind told.major))
+  pub opens-so : {new : Kernel} {fd : ℕ} → OpensOn k new i n g fd → IsKernel new → Opens k new i (opened f n) fd
+  opens-so {new} {fd} o sound =
+      let x = here-of k i runs in
+      record {
+        place = o.place;
+        first = o.first;
+        free = o.free;
+        state = λ p at.
+            state-but (opened_on k i n g o.place fd) o.same ∙ open-state (runner x) g o.place fd n
+            ∙ ap (λ (y : unix.Process). with_open (state_of k) i y fd o.place (file_of g)) (same_Some (me k i x) p (sym (process-run k i x.process x.held x.run) ∙ at)) ∙ ap (with_open (state_of k) i p fd o.place) (file-by f n told.kind told.major);
+        runs = subst (λ (y : Kernel). Runs y i) (sym o.same) (record { active = runs.active; up = runs.up; sound = subst IsKernel o.same sound; zero = runs.zero; aligned = runs.aligned });
+        served = rw o.same (record { up = runs.up; same_device = refl; later = omega arith });
+      }
 
 -- ---- a file that is emptied
 

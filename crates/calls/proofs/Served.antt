@@ -43,6 +43,9 @@ on-ok {T} {P} r x e p = subst (λ (y : Result T DeviceFault). OnOk y P) e p
 pub ok-told : {T E : Type 0} (Told : T → Type 0) (r : Result T E) (x : T) → r ≡ Ok x → IfOk r Told → Told x
 ok-told {T} {E} Told r x e told = subst (λ (y : Result T E). IfOk y Told) e told
 
+pub ok-served : {T : Type 0} {old new : FileTree} {Told : T → Type 0} (r : Result T DeviceFault) (x : T) → r ≡ Ok x → Serves old new r Told → Told x × IsServed old new
+ok-served {Told = Told} r x e serves = (ok-told Told r x e serves.told, disk-served r x e (serves-disk serves))
+
 -- what is made is made of another state
 pub on-after : {A T : Type 0} (x y z : A) (r : Result T DeviceFault) → x ≡ y → OnOk r (y ≡ z) → OnOk r (x ≡ z)
 on-after x y z (Ok t) same made = same ∙ made

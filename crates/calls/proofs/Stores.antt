@@ -1,11 +1,13 @@
 -- A write to a file.
-use Rattle.calls.proofs.Common.{used-changed, ◌≡◌, ℕ, ◌+◌, ◌<◌, ◌≤◌, ◌^◌, Bool, true, false, nat_le, List, [], length, take, Option, Some, None, refl, ap, subst, sym, ◌∙◌, arith, if◌then◌else◌, Ok, ◌&&◌, ◌==◌, and_parts, leb-true, none-some}
-use Rattle.calls.proofs.Common.{same_Some, cond_some, GoesOn, settled_by, Answers, Refuses, Transfers, Uses, file_of, target_of, Counted, opens-moved, FitsNode, IsInUse, Kernel, descriptors_at, state_of}
-use Rattle.calls.proofs.Common.{IsOpened, IsWriting, set-slot, Changed, some-pipe, SpaceView, view_at, bytes_given, written-changed, FileTree, Serves, IsWhole, quiet, settle, Pending, blocks_of}
-use Rattle.calls.proofs.Common.{room_for, with_file, with_offset, write_node, write_on, Files, Node, longest, put, slot, Directory, File, Memory, overwrite, read_bytes, low, OnNode, minus_one, pending_arg, Done, Refused, State}
-use Rattle.calls.proofs.Acts.{Here, goes-serves, going, going-here, me, turned, turned-here, used-turned}
+use Rattle.calls.proofs.Common.{◌≡◌, ℕ, ◌+◌, ◌<◌, ◌≤◌, ◌^◌, Bool, true, false, nat_le, List, [], length, take, Option, Some, None, refl, ap, subst, sym, ◌∙◌, arith, if◌then◌else◌, ◌&&◌, ◌==◌, and_parts, leb-true, none-some}
+use Rattle.calls.proofs.Common.{same_Some, cond_some, GoesOn, settled_by, Answers, Refuses, Transfers, Uses, file_of, target_of, opens-moved, FitsNode, Kernel, descriptors_at, state_of}
+use Rattle.calls.proofs.Common.{IsWriting, some-pipe, SpaceView, view_at, bytes_given, FileTree, quiet, settle, Pending, blocks_of}
+use Rattle.calls.proofs.Common.{room_for, with_file, with_offset, write_node, write_on, Files, Node, longest, slot, Directory, File, Memory, overwrite, read_bytes, low, OnNode, minus_one, pending_arg, Done, Refused, State}
+use Rattle.calls.proofs.Acts.{Here, goes-serves, going, going-here, here-in, me}
 use Rattle.calls.proofs.Fetches.{low-same}
-use Rattle.calls.proofs.Moving.{opened-moved, used-moved}
+use Rattle.calls.proofs.Common.{IsServed, option_map, IsKernel}
+use Rattle.kernel.specs.Disk.{with_tree}
+use Rattle.kernel.specs.Opening.{HasStored, MayMove, advanced}
 use Rattle.calls.proofs.Transfers.{file, file-fits, file-named, going-is, held-here, here, named-file}
 use Rattle.calls.proofs.Writes.{length-read}
 use Rattle.files.specs.declared.file.End.TheVariants as end
@@ -124,98 +126,66 @@ module _ (k : Kernel) (i : ℕ) (w : Pending) (number offset : ℕ) (u : Uses k 
       going-is g
       ∙ writes-file (state_of k) i (me k i x) w (file_of (file g).file) (file-named g) number offset (ap target_of (file g).on) is-file.links is-file.bytes is-file.here new read
 
-  pub writes-is_file : (at : Kernel) → at ≡ k → IsFile at.tree.files number
-  writes-is_file at same = rw same is-file
+  pub writes-is_file : IsFile k.tree.files number
+  writes-is_file = is-file
 
-  -- ---- it answers
-
-  to-here : (t : FileTree) (files : List (Option Counted)) → t.failed ≡ false → IsInUse t files (put k.table.places i x.process) → IsOpened files k.spaces.pipes k.table.places → Here (record k { tree = t; files = files }) i
-  to-here t files up used opened =
-      let same : turned k i x t x.process x.held files k.spaces.pipes x.run.placed x.run.runs ≡ record k { tree = t; files = files } = rw (set-slot k.table.places i (Some x.process) x.run.process, set-slot k.spaces.places i (Some x.held) x.run.space) refl in
-      subst (λ (y : Kernel). Here y i) same
-      (turned-here k i x t x.process x.held files k.spaces.pipes x.run.placed x.run.runs up used
-      (subst (IsOpened files k.spaces.pipes) (sym (set-slot k.table.places i (Some x.process) x.run.process)) opened)
-      (rw (set-slot k.spaces.places i (Some x.held) x.run.space) x.sound.fits))
-
-  module _ (t : FileTree) (up : t.failed ≡ false) (later : k.tree.failures ≤ t.failures) (whole : IsWhole t) (same : t ≡ record k.tree { files = files_after k.tree.files went; failures = t.failures }) where
-    used : IsInUse t k.files (put k.table.places i x.process)
-    used =
-        let was = used-turned k i x x.process x.run.runs refl in
-        used-changed was t (subst (Changed k.tree.files) (ap (λ (y : FileTree). y.files) (sym same)) (written-changed was.rules k.tree.block_limit number offset new is-file)) (ap (λ (y : FileTree). y.holds) same) whole.zero whole.within
-
-    state-of : (files : List (Option Counted)) (o : Option Written) → went ≡ o → state_of (record k { tree = t; files = files }) ≡ record (state_of k) { files = files_after k.tree.files o; opens = opens_of files }
-    state-of files o is =
-        ap (λ (y : FileTree). state_of (record k { tree = y; files = files })) same
-        ∙ ap (λ (v : Option Written). record (state_of k) { files = files_after k.tree.files v; opens = opens_of files }) is
+  -- m is what the write left
+  module _ {m : Kernel} {c : ℕ} {r : Option ℕ} (wide : c ≡ count) (stores : HasStored k m i number offset address c r) where
+    told : HasStored k m i number offset address count r
+    told = rw wide at stores
 
     -- nothing is written
-    store-refuses : went ≡ None → GoesOn k (record k { tree = t }) i w Refuses
-    store-refuses none =
-        let h = to-here t k.files up used x.sound.opened in
-        let refused = row ∙ is-refused (state_of k) (file g).number (file_of (file g).file) number offset is-file.links is-file.bytes new is-file.here none in
+    pub writes-refused : r ≡ None → IsKernel m → IsServed k.tree m.tree → GoesOn k m i w Refuses
+    writes-refused none sound served =
+        let gone = none-count went (sym none ∙ told.counted) in
+        let state : state_of m ≡ state_of k = ap state_of told.same ∙ ap (λ (v : Option Written). record (state_of k) { files = files_after k.tree.files v }) gone in
+        let refused = row ∙ is-refused (state_of k) (file g).number (file_of (file g).file) number offset is-file.links is-file.bytes new is-file.here gone in
         record {
           comes = record {
-            makes = ap (settle (state_of k) i) (going-here k i x w ∙ refused) ∙ ap (λ (s : State). quiet (settled_by s i Refuses)) (sym (state-of k.files None none));
-            active = h.run.active;
-            sound = h.sound;
+            makes = ap (settle (state_of k) i) (going-here k i x w ∙ refused) ∙ ap (λ (s : State). quiet (settled_by s i Refuses)) (sym state);
+            active = ap (λ (y : Kernel). y.spaces.active) told.same ∙ x.run.active;
+            sound = sound;
             can = tt;
             printed = refl;
-            served = record { up = up; same_device = ap (λ (y : FileTree). y.identity) same; later = later };
+            served = served;
           };
           within = rw (going-here k i x w ∙ refused) refl;
         }
 
-    module _ (v : Written) (some : went ≡ Some v) where
+    module _ {n : ℕ} (some : r ≡ Some n) where
+      here-is : HasCount went n
+      here-is = some-count went n (sym some ∙ told.counted)
+
+      abbrev v : Written
+      v = here-is.is
+
       stored : IsStored (state_of k) (file g).number (file_of (file g).file) number offset is-file.links is-file.bytes new v
-      stored = is-stored (state_of k) (file g).number (file_of (file g).file) number offset is-file.links is-file.bytes new is-file.here v some
+      stored = is-stored (state_of k) (file g).number (file_of (file g).file) number offset is-file.links is-file.bytes new is-file.here v here-is.here
 
-      near : offset + v.count ≤ longest
-      near = omega (arith, stored.low, stored.few)
+      near : offset + n ≤ longest
+      near = omega (arith, stored.low, stored.few, here-is.counted)
 
-      abbrev files : List (Option Counted)
-      files = moved k.files (file g).number (offset + v.count)
-
-      store-here : Here (record k { tree = t; files = files }) i
-      store-here = to-here t files up (used-moved used (file g).number (offset + v.count) number offset (file g).file (file g).opened (file g).on near) (opened-moved k.files (file g).number (offset + v.count) k.spaces.pipes k.table.places x.sound.opened)
-
-      state : state_of (record k { tree = t; files = files }) ≡ record (with_offset (state_of k) (file g).number (file_of (file g).file) number (offset + v.count)) { files = v.files }
-      state =
-          state-of files (Some v) some
-          ∙ ap (λ os. record (state_of k) { files = v.files; opens = os }) (opens-moved k.files (file g).number (offset + v.count) number offset (file g).file (file g).opened (file g).on)
-
-      store-answers : (answer : ℕ) → (if v.count == length new then v.count else minus_one) ≡ answer → GoesOn k (record k { tree = t; files = files }) i w (Answers answer)
-      store-answers answer is =
-          goes-serves k i x w (record k { tree = t; files = files }) answer store-here (record { up = up; same_device = ap (λ (y : FileTree). y.identity) same; later = later })
-          (row ∙ stored.row ∙ ap (λ (s : State). Done s (if v.count == length new then v.count else minus_one) []) (sym state) ∙ ap (λ m. Done (state_of (record k { tree = t; files = files })) m []) is)
-
-  -- what is told of it
-  abbrev Tells : Kernel → ℕ → FileTree → Option ℕ → Type 0
-  Tells at m t r =
-      (t ≡ record at.tree { files = files_after at.tree.files (written at.tree.block_limit at.tree.files number offset (bytes_given at.spaces i address m)); failures = t.failures })
-      × (r ≡ count_of (written at.tree.block_limit at.tree.files number offset (bytes_given at.spaces i address m)))
-
-  -- at is what the kernel's fields show
-  module _ (at : Kernel) (same : at ≡ k) (m : ℕ) (wide : m ≡ count) (t : FileTree) (whole : IsWhole t) (r : Option ℕ) (serves : Serves at.tree t (Ok r) (Tells at m t)) where
-    told : Serves k.tree t (Ok r) (Tells k count t)
-    told = rw (same, wide) at serves
-
-    pub writes-refused : r ≡ None → GoesOn k (record at { tree = t }) i w Refuses
-    writes-refused none = rw same (store-refuses t told.up told.cause.later whole told.told.0 (none-count went (sym none ∙ told.told.1)))
-
-    module _ (n : ℕ) (some : r ≡ Some n) where
-      count-here : HasCount went n
-      count-here = some-count went n (sym some ∙ told.told.1)
-
-      short : offset + n ≤ longest
-      short = let c = count-here in let low = near t told.up told.cause.later whole told.told.0 c.is c.here in omega (arith, low, c.counted)
+      same : low n ≡ n
+      same = let low = near in low-same n longest (omega (arith, low)) (omega arith)
 
       pub writes-near : offset + low n < 2 ^ 32
-      writes-near = let low = short in omega (arith, low)
+      writes-near = let low = near in omega (arith, low, same)
 
-      pub writes-done : (id : ℕ) → id ≡ (file g).number → (l : ℕ) → l ≡ low n → (all : List (Option Counted)) → all ≡ moved at.files id (offset + l) → (answer : ℕ) → answer ≡ (if n == m then n else minus_one) → GoesOn k (record at { tree = t; files = all }) i w (Answers answer)
-      writes-done id named l cut all moves answer is =
-          let c = count-here in
-          let low = short in
-          rw (moves, named, cut, low-same n longest (omega (arith, low)) (omega arith), same, ← c.counted)
-          (store-answers t told.up told.cause.later whole told.told.0 c.is c.here answer
-          (ap (λ c. if c == length new then c else minus_one) c.counted ∙ ap (λ l. if n == l then n else minus_one) (length-new ∙ sym wide) ∙ sym is))
+      pub writes-may : (id : ℕ) → id ≡ (file g).number → (l : ℕ) → l ≡ low n → MayMove m id (offset + l)
+      writes-may id named l cut = rw (told.same, named, cut, same) (record { number = number; old = offset; on = ap (option_map (λ (f : OpenFile). f.target)) (file g).opened ∙ ap Some (file g).on; within = near })
+
+      pub writes-done : {last : Kernel} (id : ℕ) → id ≡ (file g).number → (l : ℕ) → l ≡ low n → last ≡ advanced m id (offset + l) → IsKernel last → IsServed k.tree m.tree → (answer : ℕ) → answer ≡ (if n == c then n else minus_one) → GoesOn k last i w (Answers answer)
+      writes-done {last} id named l cut is sound served answer answers =
+          let at = (file g).number in
+          let files = moved k.files at (offset + n) in
+          let made : last ≡ advanced m at (offset + n) = is ∙ ap (λ (j : ℕ). advanced m j (offset + l)) named ∙ ap (λ (d : ℕ). advanced m at (offset + d)) (cut ∙ same) in
+          let tree : last.tree ≡ m.tree = ap (λ (y : Kernel). y.tree) is in
+          let all : last ≡ advanced (with_tree k (record k.tree { files = files_after k.tree.files went; failures = m.tree.failures })) at (offset + n) = made ∙ ap (λ (y : Kernel). advanced y at (offset + n)) told.same in
+          let state : state_of last ≡ record (with_offset (state_of k) at (file_of (file g).file) number (offset + n)) { files = v.files } =
+          ap state_of all ∙ ap (λ (o : Option Written). record (state_of k) { files = files_after k.tree.files o; opens = opens_of files }) here-is.here
+          ∙ ap (λ (os : List (Option unix_files.OpenFile)). record (state_of k) { files = v.files; opens = os }) (opens-moved k.files at (offset + n) number offset (file g).file (file g).opened (file g).on) in
+          goes-serves k i x w last answer (here-in sound (ap (λ (y : Kernel). y.spaces.active) all ∙ x.run.active) (ap (λ (t : FileTree). t.failed) tree ∙ served.up)) (rw tree served)
+          (row ∙ stored.row
+          ∙ ap (λ (o : ℕ). Done (record (with_offset (state_of k) at (file_of (file g).file) number (offset + o)) { files = v.files }) (if o == length new then o else minus_one) []) here-is.counted
+          ∙ ap (λ (s : State). Done s (if n == length new then n else minus_one) []) (sym state)
+          ∙ ap (λ (o : ℕ). Done (state_of last) o []) (ap (λ (l : ℕ). if n == l then n else minus_one) (length-new ∙ sym wide) ∙ sym answers))

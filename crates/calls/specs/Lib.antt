@@ -4,7 +4,6 @@ pub mod Gives
 pub mod Steps
 pub mod Resuming
 pub mod Transfers
-pub mod Renamed
 pub mod Reads
 pub mod Named
 pub mod Opened

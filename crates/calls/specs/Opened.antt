@@ -2,7 +2,7 @@
 use Rattle.std.specs.Prelude.{Bool, Err, List, Ok, Option, Result, Some, if◌then◌else◌, nat_le, nat_lt, not, true, ℕ, ◌&&◌, ◌==◌, ◌||◌, ◌≡◌, ◌≤◌}
 use Rattle.blockdev.specs.declared.DeviceFault.{DeviceFault}
 use Rattle.calls.specs.Acts.{Runs}
-use Rattle.calls.specs.Renamed.{free_descriptors}
+use Rattle.kernel.specs.Opening.{free_descriptors}
 use Rattle.files.specs.declared.file.OpenFile.{OpenFile}
 use Rattle.files.specs.declared.file.Target.{Target}
 use Rattle.files.specs.declared.file.Target.TheVariants as target

@@ -1,13 +1,12 @@
 -- What the calls on processes make of a kernel.
-use Rattle.std.specs.Prelude.{List, None, Option, Some, false, if◌then◌else◌, pos, slice_set, ℕ, ℤ, ◌+ℤ◌, ◌==◌, suc, zero}
+use Rattle.std.specs.Prelude.{List, None, Option, Some, if◌then◌else◌, pos, ℕ, ℤ, ◌+ℤ◌, ◌==◌, suc, zero}
 use Rattle.std.specs.Int.{cast_unsigned, w32}
 use Rattle.proc.specs.declared.process.Process.{Process}
-use Rattle.proc.specs.Places.{without, has_pid, place_where}
-use Rattle.spaces.specs.Spaces as spaces
-use Rattle.spaces.specs.Spaces.{SpaceView, view_at, with_view, with_place}
-use Rattle.unixmodel.specs.declared.process.Mode.TheVariants.{Ready}
+use Rattle.proc.specs.Places.{has_pid, place_where}
+use Rattle.spaces.specs.Spaces.{view_at}
 use Rattle.unixmodel.specs.Numbers.{le, natural}
 use Rattle.kernel.specs.Kernel.{Kernel}
+use Rattle.kernel.specs.Memory.{wrote}
 
 -- ---- sbrk
 
@@ -15,23 +14,11 @@ use Rattle.kernel.specs.Kernel.{Kernel}
 abbrev pub asked : Kernel → ℕ → ℤ → Option ℕ
 asked k i delta = natural (pos (view_at k.spaces i).size +ℤ delta)
 
--- ---- fork
-
-abbrev pub child_of : Process → Process
-child_of p = record p { parent = p.pid; registers = slice_set p.registers 10 0; killed = false; mode = Ready }
-
 -- ---- wait
 
-abbrev pub with_status : SpaceView → ℕ → ℤ → SpaceView
-with_status h address status =
-    if address == 0 then h else spaces.written h address (le 4 (cast_unsigned w32 status))
-
--- the zombie in place j is waited for by process i, and its place is free
-abbrev pub collected : Kernel → ℕ → ℕ → ℕ → ℤ → Kernel
-collected k i address j status = record k {
-  table = without k.table (Some j);
-  spaces = with_place (with_view k.spaces i (with_status (view_at k.spaces i) address status)) j None;
-}
+-- the status of a child stands at an address of process i, unless that is 0
+abbrev pub with_status : Kernel → ℕ → ℕ → ℤ → Kernel
+with_status k i address status = if address == 0 then k else wrote k i address (le 4 (cast_unsigned w32 status))
 
 -- ---- kill
 

@@ -8,14 +8,13 @@ ghost use Rattle.unixmodel.specs.declared.call.Call.TheVariants as Call;
 ghost use Rattle.unixmodel.specs.Files.{slot};
 ghost use Rattle.unixmodel.specs.NameCalls.{creates, opened, truncates};
 
-use crate::descriptor_calls::open_as;
-use crate::name_calls::{copy_path, home, refuse};
+use crate::name_calls::{copy_path, refuse};
 use crate::outcome::Came;
 use blockdev::{BlockDev, DeviceFault};
 use files::{OpenFile, Target};
 use inode::InodeStat;
 use kernel::numbers::low;
-use kernel::{Channel, Kernel, descriptors, wakeup};
+use kernel::{Kernel, descriptors};
 use sv39::Translate;
 use tree::{DEVICE, DIRECTORY, FILE, Leaf};
 use unixmodel::call::Call;
@@ -105,10 +104,9 @@ fn open_on<D: BlockDev, T: Translate>(
     ensures { Opens kernel.old kernel.new at (opened flags node) result }
 {
     kernel.tree.is_whole();
-    kernel.tree.hold(node);
     let file = opened(flags, target(node as u32, told));
-    let descriptor = open_as(&mut kernel.table, &mut kernel.files, at, file);
-    wakeup(&mut kernel.table, Channel::Bytes);
+    let descriptor = kernel.open_on(at, node, file);
+    kernel.is_sound();
     descriptor
 }
 
@@ -212,11 +210,9 @@ fn work_in<D: BlockDev, T: Translate>(
     requires directory { IsFolder (slot kernel.old.tree.files number) }
     ensures { ActsOnDisk kernel.old kernel.new at (Some Call.Chdir) result }
 {
-    let left = home(kernel, at);
     kernel.tree.is_whole();
-    kernel.tree.hold(number);
-    kernel.table.set_directory(at, number as u32);
-    kernel.tree.drop_hold(left)?;
+    kernel.work_in(at, number)?;
+    kernel.is_sound();
     Ok(Came::Answers(0))
 }
 

@@ -4,21 +4,18 @@ ghost use Rattle.calls.specs.Acts.{Acts, GoesOn, Runs};
 ghost use Rattle.kernel.specs.Kernel.{argument};
 ghost use Rattle.calls.specs.Processes.{asked, place_called, with_status};
 ghost use Rattle.kernel.specs.Sound.{can_answer};
-ghost use Rattle.spaces.specs.Spaces.{has_space, view_at, with_view};
+ghost use Rattle.spaces.specs.Spaces.{view_at};
 ghost use Rattle.unixmodel.specs.declared.call.Call.TheVariants as Call;
 ghost use Rattle.unixmodel.specs.Numbers.{int_of, natural};
 ghost use Rattle.unixmodel.specs.Outcome.{pending_arg};
 
 use crate::outcome::{Came, pending};
 use blockdev::BlockDev;
-use kernel::descriptors::share_all;
 use kernel::numbers::{int, natural};
 use kernel::{Kernel, has_slept};
-use proc::Process;
-use spaces::Spaces;
 use sv39::Translate;
 use unixmodel::call::Call;
-use unixmodel::process::{Mode, Pending};
+use unixmodel::process::Pending;
 
 // Whether a status can be written at an address of the running process; at address 0 none is.
 fn can_answer<D: BlockDev, T: Translate>(kernel: &Kernel<D, T>, at: usize, address: u64) -> bool
@@ -28,14 +25,19 @@ fn can_answer<D: BlockDev, T: Translate>(kernel: &Kernel<D, T>, at: usize, addre
     address == 0 || kernel.can_write(at, address, 4)
 }
 
-// Writes the status of a child at an address of a place, unless that is 0.
-fn write_status<T: Translate>(spaces: &mut Spaces<T>, at: usize, address: u64, status: i32)
-    requires space { has_space spaces.old at ≡ true }
-    requires can { can_answer (view_at spaces.old at).memory address ≡ true }
-    ensures { spaces.new ≡ with_view spaces.old at (with_status (view_at spaces.old at) address status) }
+// Writes the status of a child at an address of the running process, unless that is 0.
+fn write_status<D: BlockDev, T: Translate>(
+    kernel: &mut Kernel<D, T>,
+    at: usize,
+    address: u64,
+    status: i32,
+)
+    requires running { kernel.old.spaces.active ≡ Some at }
+    requires can { can_answer (view_at kernel.old.spaces at).memory address ≡ true }
+    ensures { kernel.new ≡ with_status kernel.old at address status }
 {
     if address != 0 {
-        let _written = spaces.write(at, address, &status.to_le_bytes());
+        kernel.write(at, address, &status.to_le_bytes());
     }
 }
 
@@ -44,27 +46,13 @@ pub(crate) fn fork<D: BlockDev, T: Translate>(kernel: &mut Kernel<D, T>, at: usi
     requires { Runs kernel.old at }
     ensures { Acts kernel.old kernel.new at (Some Call.Fork) result }
 {
-    let Some(process) = kernel.on_hart(at) else {
-        return Came::Refuses;
-    };
     let Ok(seat) = kernel.table.next_seat() else {
         return Came::Refuses;
     };
-    if !kernel.spaces.copy(at, seat.place) {
+    if !kernel.fork(at, seat) {
         return Came::Refuses;
     }
-    share_all(&mut kernel.files, &process.descriptors);
-    kernel.tree.hold(process.directory as usize);
-    let mut registers = process.registers;
-    registers[10] = 0;
-    let _seat = kernel.table.alloc(Process {
-        parent: process.pid,
-        registers,
-        killed: false,
-        mode: Mode::Ready,
-        ..process
-    });
-    kernel.table.wake(seat.place);
+    kernel.is_sound();
     Came::Answers(u64::from(seat.pid))
 }
 
@@ -102,11 +90,11 @@ pub(crate) fn wait_on<D: BlockDev, T: Translate>(
     ensures { GoesOn kernel.old kernel.new at pending result }
 {
     let parent = kernel.pid(at);
-    let Some(reaped) = kernel.table.reap(parent) else {
+    let Some(reaped) = kernel.collect(parent) else {
         return Came::Blocks(pending);
     };
-    write_status(&mut kernel.spaces, at, pending.args[0], reaped.status);
-    kernel.spaces.destroy(reaped.place);
+    write_status(kernel, at, pending.args[0], reaped.status);
+    kernel.is_sound();
     Came::Answers(u64::from(reaped.pid))
 }
 

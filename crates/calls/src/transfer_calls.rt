@@ -1,5 +1,5 @@
 //! The calls read and write, and how they go on. Which of them it is goes by the end of a pipe that it would use.
-ghost use Rattle.std.specs.Prelude.{◌<◌, ◌≡◌, ◌≤◌, IfErr, IfOk, OnErr, OnOk, Some, is_some, length, option_map, true};
+ghost use Rattle.std.specs.Prelude.{◌<◌, ◌≡◌, ◌≤◌, IfErr, IfOk, OnErr, OnOk, Some, is_some, length, true};
 ghost use Rattle.std.specs.Prelude.{if◌then◌else◌, ◌==◌};
 ghost use Rattle.std.specs.Io.KnownBytes.{Appends};
 ghost use Rattle.calls.specs.Acts.{Acts, ActsOnDisk, CanWait, GoesOn, GoesOnDisk, Runs, CallTries, PendingTries};
@@ -9,7 +9,7 @@ ghost use Rattle.kernel.specs.Sound.{file_named};
 ghost use Rattle.calls.specs.Transfers.{Begins, OnConsole, OnThePipe, Uses, IsFront, call_on, can_transfer, target_for, target_named};
 ghost use Rattle.files.specs.declared.file.End.TheVariants as End;
 ghost use Rattle.console.specs.Output.{AppendsBeginning};
-ghost use Rattle.files.specs.Meant.{end_of, target_of};
+ghost use Rattle.files.specs.Meant.{end_of};
 ghost use Rattle.files.specs.Places.{has_end, opens_of};
 ghost use Rattle.spaces.specs.Spaces.{view_at};
 ghost use Rattle.unixmodel.specs.declared.call.Call.TheVariants as Call;
@@ -24,7 +24,6 @@ use crate::halt::Halt;
 use crate::outcome::{Came, REFUSED, pending};
 use blockdev::{BlockDev, DeviceFault};
 use console::{Out, OutFault, ROOM};
-use file_transfers::{read_node, write_node};
 use files::{End, Target};
 use kernel::Kernel;
 use kernel::numbers::{low, natural};
@@ -202,18 +201,10 @@ fn read_file<D: BlockDev, T: Translate>(
     };
     kernel.tree.is_whole();
     let count = u64::from(low(pending.args[2]));
-    let read = read_node(
-        &mut kernel.tree,
-        &mut kernel.spaces,
-        at,
-        number as usize,
-        offset,
-        pending.args[1],
-        count,
-    );
-    match read {
+    match kernel.read_node(at, number as usize, offset, pending.args[1], count) {
         Ok(read) => {
-            kernel.files.set_offset(usize::from(id), offset + low(read));
+            kernel.set_offset(usize::from(id), offset + low(read));
+            kernel.is_sound();
             Ok(Came::Answers(read))
         }
         Err(fault) => Err(fault),
@@ -385,24 +376,14 @@ fn write_file<D: BlockDev, T: Translate>(
         unreachable!()
     };
     let count = u64::from(low(pending.args[2]));
-    let wrote = write_node(
-        &mut kernel.tree,
-        &kernel.spaces,
-        at,
-        number as usize,
-        offset,
-        pending.args[1],
-        count,
-    );
-    match wrote {
+    match kernel.write_node(at, number as usize, offset, pending.args[1], count) {
         Ok(wrote) => {
-            kernel.tree.is_whole();
             let Some(wrote) = wrote else {
+                kernel.is_sound();
                 return Ok(Came::Refuses);
             };
-            kernel
-                .files
-                .set_offset(usize::from(id), offset + low(wrote));
+            kernel.set_offset(usize::from(id), offset + low(wrote));
+            kernel.is_sound();
             Ok(Came::Answers(write_answer(wrote, count)))
         }
         Err(fault) => Err(fault),

@@ -25,3 +25,14 @@ pub mod Masks
 pub mod Watching
 pub mod Wakes
 mod Rousing
+pub mod Turning
+pub mod Renaming
+pub mod Counting
+pub mod Closing
+pub mod Opening
+pub mod Working
+pub mod Forking
+pub mod Piping
+pub mod Collecting
+pub mod Moving
+pub mod Transferring

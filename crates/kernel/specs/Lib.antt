@@ -1,6 +1,8 @@
 pub mod Descriptors
 pub mod Holding
 pub mod Kernel
+pub mod Opening
+pub mod Processes
 pub mod Disk
 pub mod Memory
 pub mod Sound

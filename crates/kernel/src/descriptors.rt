@@ -1,15 +1,17 @@
 //! The open files that the descriptors of a process name.
 ghost use Rattle.std.specs.Prelude.{◌≡◌, ◌<◌, ◌≤◌, ℕ, IfSome, count_by, false, is_none, length};
 ghost use Rattle.kernel.specs.Descriptors.{all_closed, all_shared, standing, without_end};
-ghost use Rattle.kernel.specs.Holding.{AreHeld, HasDropped, gone_nodes, last_node};
+ghost use Rattle.kernel.specs.Holding.{AreHeld, HasDropped, gone_nodes, last_node, listed};
 ghost use Rattle.files.specs.Pipes.{IsPiped};
-ghost use Rattle.files.specs.Places.{closed, count_at, opens_of};
+ghost use Rattle.kernel.specs.Opening.{OpensAs, free_descriptors};
+ghost use Rattle.files.specs.Places.{closed, count_at, free_count, opens_of};
 ghost use Rattle.tree.specs.Tree.{Serves};
 ghost use Rattle.unixmodel.specs.Files.{free_slot, slot};
 
 use arrayvec::ArrayVec;
 use blockdev::{BlockDev, DeviceFault};
-use files::{Files, Target};
+use files::{Files, OpenFile, Target};
+use proc::Table;
 use spaces::Spaces;
 use sv39::Translate;
 use tree::Tree;
@@ -54,6 +56,26 @@ pub fn share_all(files: &mut Files, descriptors: &[Option<u8>; 16])
     }
 }
 
+/// The lowest free descriptor of the process in a place names a new open file, and is the answer.
+pub fn open_as(table: &mut Table, files: &mut Files, at: usize, file: OpenFile) -> usize
+    requires place { 0 < free_count files.old }
+    requires free { 0 < free_descriptors table.old at }
+    ensures opens { OpensAs table.old table.new files.old files.new at file result }
+    ensures within { result < 16 }
+{
+    let Some(process) = table.process(at) else {
+        unreachable!()
+    };
+    let Some(free) = free_descriptor(&process.descriptors) else {
+        unreachable!()
+    };
+    let Ok(id) = files.open(file) else {
+        unreachable!()
+    };
+    table.set_descriptor(at, free, Some(id as u8));
+    free
+}
+
 /// One descriptor of an open file is closed, and a pipe that has no end any more goes. Where it was the last one of an open file
 /// on a node, that is told.
 pub fn close<T: Translate>(files: &mut Files, spaces: &mut Spaces<T>, id: usize) -> Option<u32>
@@ -96,6 +118,18 @@ pub fn close_all<T: Translate>(
         }
     }
     gone
+}
+
+/// The one that held this node lets go, if there is one.
+pub fn let_one_go<D: BlockDev>(tree: &mut Tree<D>, node: Option<u32>) -> Result<(), DeviceFault>
+    requires up { tree.old.failed ≡ false }
+    requires held { AreHeld tree.old (listed node) }
+    ensures { Serves tree.old tree.new result (λ done. HasDropped tree.old tree.new (listed node)) }
+{
+    match node {
+        Some(node) => tree.drop_hold(node as usize),
+        None => Ok(()),
+    }
 }
 
 /// Those that held these nodes let go, one after the other.

@@ -30,6 +30,8 @@ mod duplicate;
 mod idle;
 mod instructions;
 mod memory;
+mod open_files;
+mod processes;
 mod show;
 
 use crate::channels::{Channel, wakeup};

@@ -18,7 +18,7 @@ use tree::{Leaf, Tree, TreeFault};
 
 // A law: the files are whole where that was done. It runs no code.
 #[inline]
-fn is_done<D: BlockDev, X, E>(tree: &Tree<D>, done: &Result<X, E>)
+pub(super) fn is_done<D: BlockDev, X, E>(tree: &Tree<D>, done: &Result<X, E>)
     requires { OnOk done.now (tree.now.failed ≡ false) }
     ensures { OnOk done.now (IsWhole tree.now) }
 {

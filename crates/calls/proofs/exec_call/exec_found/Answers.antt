@@ -1,4 +1,4 @@
-use Rattle.calls.proofs.Common.{kernel_of, watched-running, with_size, Spaces, ap, refl}
+use Rattle.calls.proofs.Common.{kernel_of, watched-running, with_size, Spaces, ap}
 use Rattle.calls.proofs.Woken.{executes-piped, running-now, watched-piped}
 use Rattle.calls.proofs.Execs.{exec-aligned, exec-fails, exec-none, exec-there, execs, held-has}
 use Rattle.calls.proofs.exec_call.exec_found.Goals as goal

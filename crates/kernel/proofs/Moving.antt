@@ -1,11 +1,21 @@
 -- What holds of open files and of who holds nodes, where an open file goes on from another offset.
-use Rattle.calls.proofs.Common.{◌≡◌, ℕ, zero, suc, ◌≤◌, ◌⊎◌, inl, inr, List, [], ◌∷◌, Option, Some, None, refl, ap, subst, sym, ◌∙◌, option_map, ◌||◌, none-some, same_Some, one_in}
-use Rattle.calls.proofs.Common.{count-moved, Target, file_of, target_of, Counted, file_at, moved_in, moved_to, table-moved, FitsNode, IsInUse, node_in, node_of, node_on, IsOpenFile}
-use Rattle.calls.proofs.Common.{IsOpened, is_awaited, is_on_pipe, same-set, used-files, WasAlike, slot-file, waits-kept, Process, FileTree, Node, longest, slot, Directory, File, is_pipe}
+use Rattle.kernel.proofs.Common.{◌≡◌, ℕ, zero, suc, ◌≤◌, ◌⊎◌, inl, inr, List, [], ◌∷◌, Option, Some, None, refl, ap, subst, sym, ◌∙◌, option_map, ◌||◌, none-some, same_Some, one_in}
+use Rattle.kernel.proofs.Common.{file_of, target_of, Counted, file_at, moved_to, FitsNode, IsInUse, node_in, node_of, node_on, IsOpenFile}
+use Rattle.kernel.proofs.Common.{IsOpened, is_awaited, is_on_pipe, Process, FileTree, Node, slot, is_pipe}
+use Rattle.files.proofs.CountsLemmas.{count-moved}
+use Rattle.files.proofs.Whole.{table-moved}
 use Rattle.files.specs.declared.file.OpenFile.{OpenFile}
+use Rattle.files.specs.declared.file.Target.{Target}
 use Rattle.files.specs.declared.file.Target.TheVariants as target
-use Rattle.files.specs.Places.{has_pipe, moved, opens_of}
-use Rattle.unixmodel.specs.Files.Node.{Device}
+use Rattle.files.specs.Places.{has_pipe, moved, moved_in, opens_of}
+use Rattle.kernel.proofs.Holding.{same-set, used-files}
+use Rattle.kernel.proofs.Opens.{WasAlike, slot-file, waits-kept}
+use Rattle.kernel.proofs.Watching.{watched-moved}
+use Rattle.kernel.specs.Kernel.{Kernel}
+use Rattle.kernel.specs.Opening.{MayMove, advanced}
+use Rattle.kernel.specs.View.{Keeps}
+use Rattle.unixmodel.specs.Files.{longest}
+use Rattle.unixmodel.specs.Files.Node.{Device, Directory, File}
 use Rattle.unixmodel.specs.OpenFiles as unix
 
 -- what stands in a place was there, or is the open file itself, which goes on from there
@@ -123,3 +133,18 @@ used-moved {t} {opens} {os} is n offset number old f at on low = used-files is (
     | inl kept ↦ subst (λ (x : Counted). FitsNode x.file x.file.target (node_of t.files (node_on x.file.target))) (sym kept) (is.fits m w.was w.at)
     | inr here ↦ subst (λ (x : Counted). FitsNode x.file x.file.target (node_of t.files (node_on x.file.target))) (sym here.1) (here-fits w.was (ap (slot opens) (sym here.0) ∙ w.at))
   ]
+
+-- ---- the step
+
+target-at : (o : Option OpenFile) (t : Target) → option_map (λ (f : OpenFile). f.target) o ≡ Some t → (f : OpenFile) × ((o ≡ Some f) × (f.target ≡ t))
+target-at None t at = absurd (none-some t at)
+target-at (Some f) t at = (f, (refl, same_Some f.target t at))
+
+pub advance-keeps : {k : Kernel} → Keeps k → (n offset : ℕ) → MayMove k n offset → Keeps (advanced k n offset)
+advance-keeps {k} keeps n offset may =
+    let is = keeps.sound in
+    let f = target-at (file_at k.files n) (target.File may.number may.old) may.on in
+    record {
+      sound = record { all = is.all; spaces = is.spaces; stands = is.stands; runs = is.runs; fits = is.fits; opened = opened-moved k.files n offset k.spaces.pipes k.table.places is.opened; used = λ up. used-moved (is.used up) n offset may.number may.old f.0 f.1.0 f.1.1 may.within };
+      watched = watched-moved _ _ _ _ _ n offset keeps.watched;
+    }

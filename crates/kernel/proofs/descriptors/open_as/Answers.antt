@@ -1,6 +1,7 @@
-use Rattle.calls.proofs.Common.{◌<◌, ap, sym, subst, ◌∙◌, count_by, is_none, option_copied, descriptors_in}
-use Rattle.calls.proofs.Pipes.{no-free, no-place}
-use Rattle.calls.proofs.descriptor_calls.open_as.Goals as goal
+use Rattle.kernel.proofs.Common.{◌<◌, ap, sym, subst, ◌∙◌, is_none, option_copied, descriptors_in}
+use Rattle.std.specs.Prelude.{count_by}
+use Rattle.kernel.proofs.Opening.{no-free, no-place}
+use Rattle.kernel.proofs.descriptors.open_as.Goals as goal
 
 pub unreachable-requires-in_default-free_descriptor : goal.unreachable-requires-in_default-free_descriptor
 unreachable-requires-in_default-free_descriptor c =

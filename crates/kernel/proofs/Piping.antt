@@ -1,0 +1,149 @@
+-- The running process opens both ends of a new pipe.
+use Rattle.kernel.proofs.Common.{◌≡◌, ℕ, ◌<◌, ◌≤◌, inl, inr, List, [], length, Option, Some, None, refl, ap, arith, subst, sym, ◌∙◌, length-set, get_or-set_other, get_or-set_same, cases_eq, ne_eqb, is_none}
+use Rattle.kernel.proofs.Common.{descriptors_in, Kernel, IsKernel, Keeps, Counted, opened, opens_of, file_of, IsPiped, Process, Places, put, slot, taken_frames, woken_by, Bytes, End, descriptors_at, option_map, slice_set, slot-within}
+use Rattle.files.proofs.Free.{free-opens, free-place, free-put}
+use Rattle.files.proofs.PipesLemmas.{has_pipe-put}
+use Rattle.files.proofs.Whole.{free_slot-opens, opens-opened}
+use Rattle.files.specs.declared.file.End.TheVariants as end
+use Rattle.files.specs.declared.file.OpenFile.{OpenFile}
+use Rattle.files.specs.Places.{free_count}
+use Rattle.kernel.proofs.Holding.{used-opened}
+use Rattle.kernel.proofs.Opening.{has-opened, opens-made}
+use Rattle.kernel.proofs.Renaming.{descriptors-run}
+use Rattle.kernel.proofs.Runs.{eq-self, set-twice, slot-put}
+use Rattle.kernel.proofs.Turning.{Runner, renamed-kernel, renamed-run, renamed_to, used-turned}
+use Rattle.kernel.proofs.Wakes.{kernel-waking, running-at}
+use Rattle.kernel.proofs.Watching.{watched-bytes, watched-running}
+use Rattle.kernel.specs.Opening.{AreFree, Ends, HasPiped, OpensAs, free_descriptors, half_piped, pipe_file, piped}
+use Rattle.proc.specs.Places.{with_descriptor}
+use Rattle.spaces.specs.Spaces.{with_pipe}
+use Rattle.std.specs.Prelude.{count_by}
+use Rattle.unixmodel.specs.FileCalls.{pipe_end}
+use Rattle.unixmodel.specs.Files.{free_slot}
+use Rattle.unixmodel.specs.OpenFiles as unix_files
+use Rattle.unixmodel.specs.OpenFiles.End.{ReadEnd, WriteEnd}
+
+-- an end comes of a pipe that is put in its place
+end-comes : (pipes : List (Option (List ℕ))) (opens : List (Option unix_files.OpenFile)) (q k : ℕ) (e : End) (bytes : List ℕ) → IsPiped pipes opens → q < length pipes → k < length opens → slot opens k ≡ None → IsPiped (put pipes q bytes) (put opens k (pipe_end q e))
+end-comes pipes opens q k ReadEnd bytes is inside low free r = elim (cases_eq r q) [
+  | inl same ↦ rw (same, has_pipe-put opens k (pipe_end q ReadEnd) q low free, get_or-set_same pipes q (Some bytes) None inside, eq-self q) refl
+  | inr other ↦ rw (has_pipe-put opens k (pipe_end q ReadEnd) r low free, get_or-set_other pipes q r (Some bytes) None other, ne_eqb q r (λ same. other (sym same))) (is r)
+]
+end-comes pipes opens q k WriteEnd bytes is inside low free r = elim (cases_eq r q) [
+  | inl same ↦ rw (same, has_pipe-put opens k (pipe_end q WriteEnd) q low free, get_or-set_same pipes q (Some bytes) None inside, eq-self q) refl
+  | inr other ↦ rw (has_pipe-put opens k (pipe_end q WriteEnd) r low free, get_or-set_other pipes q r (Some bytes) None other, ne_eqb q r (λ same. other (sym same))) (is r)
+]
+
+module _ {k : Kernel} {i : ℕ} (x : Runner k i) (e : Ends) where
+  abbrev pipes : List (Option (List ℕ))
+  pipes = put k.spaces.pipes e.pipe []
+
+  abbrev first : List (Option ℕ)
+  first = put x.process.descriptors e.read_fd e.reader
+
+  same : length first ≡ length x.process.descriptors
+  same = length-set x.process.descriptors e.read_fd (Some e.reader)
+
+  abbrev files : List (Option Counted)
+  files = opened k.files e.reader (pipe_file e.pipe end.Read)
+
+  half-is : renamed_to x first x.process.directory same k.tree files pipes ≡ half_piped k i e
+  half-is = opens-made x (pipe_file e.pipe end.Read) e.reader e.read_fd k.tree pipes
+
+  module _ (free : AreFree k i e) (fits : taken_frames (with_pipe k.spaces e.pipe (Some [])) ≤ k.spaces.frames) where
+    reader-free : (e.reader < length k.files) × (slot k.files e.reader ≡ None)
+    reader-free = free-place k.files e.reader (sym (free_slot-opens k.files) ∙ free.reader)
+
+    room : e.pipe < length k.spaces.pipes
+    room = (free-place k.spaces.pipes e.pipe free.pipe).0
+
+    half-kernel : IsKernel (renamed_to x first x.process.directory same k.tree files pipes)
+    half-kernel =
+        let f = pipe_file e.pipe end.Read in
+        let at = free-place (opens_of k.files) e.reader free.reader in
+        renamed-kernel x first x.process.directory same k.tree files pipes (λ up. used-opened (used-turned x (record x.process { descriptors = first }) x.run.runs refl up) e.reader f reader-free.0 reader-free.1 refl tt)
+        (has-opened x f e.reader e.read_fd free.reader free.read_fd refl pipes (length-set k.spaces.pipes e.pipe (Some []) ∙ x.sound.opened.all)
+        (subst (IsPiped pipes) (sym (opens-opened k.files e.reader f)) (end-comes k.spaces.pipes (opens_of k.files) e.pipe e.reader ReadEnd [] x.sound.opened.piped room at.0 at.1))) fits
+
+    abbrev half : Runner (half_piped k i e) i
+    half = record { process = record x.process { descriptors = first }; held = x.held; run = rw (← half-is) (renamed-run x first x.process.directory same k.tree files pipes); sound = rw (← half-is) half-kernel }
+
+    writer-first : free_slot (opens_of files) ≡ Some e.writer
+    writer-first = ap free_slot (opens-opened k.files e.reader (pipe_file e.pipe end.Read)) ∙ free.writer
+
+    writer-fd : free_slot (descriptors_at (half_piped k i e) i) ≡ Some e.write_fd
+    writer-fd = ap free_slot (descriptors-run half) ∙ ap (λ (ds : List (Option ℕ)). free_slot (put ds e.read_fd e.reader)) (sym (descriptors-run x)) ∙ free.write_fd
+
+    piped-kernel : IsKernel (piped k i e)
+    piped-kernel =
+        let f = pipe_file e.pipe end.Write in
+        let at = free-place (opens_of files) e.writer writer-first in
+        let place = free-place files e.writer (sym (free_slot-opens files) ∙ writer-first) in
+        let second = put first e.write_fd e.writer in
+        let comes = end-comes pipes (opens_of files) e.pipe e.writer WriteEnd [] half.sound.opened.piped (omega (arith, room, length-set k.spaces.pipes e.pipe (Some []))) at.0 at.1 in
+        rw (← opens-made half f e.writer e.write_fd k.tree pipes)
+        (renamed-kernel half second x.process.directory (length-set first e.write_fd (Some e.writer)) k.tree (opened files e.writer f) pipes
+        (λ up. used-opened (used-turned half (record half.process { descriptors = second }) x.run.runs refl up) e.writer f place.0 place.1 refl tt)
+        (has-opened half f e.writer e.write_fd writer-first writer-fd refl pipes half.sound.opened.all
+        (subst (IsPiped pipes) (sym (opens-opened files e.writer f)) (subst (λ ps. IsPiped ps (put (opens_of files) e.writer (pipe_end e.pipe WriteEnd))) (set-twice k.spaces.pipes e.pipe (Some []) (Some [])) comes))) fits)
+
+    piped-watched : Keeps k → Keeps (record (piped k i e) { table = woken_by Bytes (piped k i e).table })
+    piped-watched keeps = record {
+      sound = kernel-waking piped-kernel _;
+      watched = watched-bytes (watched-running (watched-running keeps.watched i (with_descriptor e.read_fd (Some e.reader)) (running-at x.sound i x.run.active) (λ p pid is. is)) i (with_descriptor e.write_fd (Some e.writer)) (running-at half.sound i x.run.active) (λ p pid is. is)) _ refl;
+    }
+
+-- ---- one end is open
+
+module _ {t t1 : Places} {opens opens1 : List (Option Counted)} {i : ℕ} {f : OpenFile} {fd : ℕ} {p : Process} (at : slot t.places i ≡ Some p) (one : OpensAs t t1 opens opens1 i f fd) where
+  names-one : descriptors_in (slot t1.places i) ≡ put p.descriptors fd one.number
+  names-one =
+      let name = with_descriptor fd (Some one.number) in
+      ap (λ (u : Places). descriptors_in (slot u.places i)) (one.names ∙ ap (λ (o : Option Process). let u : Places = record t { places = slice_set t.places i (option_map name o) } in u) at)
+      ∙ ap descriptors_in (slot-put t.places i (Some (name p)) (slot-within t.places i p at))
+
+  opens-one : opens_of opens1 ≡ put (opens_of opens) one.number (file_of f)
+  opens-one = ap opens_of one.opens ∙ opens-opened opens one.number f
+
+  -- and a place and a descriptor are left
+  pub place-left : 2 ≤ free_count opens → 0 < free_count opens1
+  place-left two =
+      let there = free-place (opens_of opens) one.number one.place in
+      let left = free-put (opens_of opens) one.number (file_of f) there.0 there.1 in
+      let now : count_by is_none (opens_of opens1) ≡ count_by is_none (put (opens_of opens) one.number (file_of f)) = ap (count_by is_none) opens-one in
+      omega (arith, left, now, two, free-opens opens, free-opens opens1)
+
+  pub descriptor-left : 2 ≤ free_descriptors t i → 0 < free_descriptors t1 i
+  descriptor-left two =
+      let was : free_descriptors t i ≡ count_by is_none p.descriptors = ap (λ (o : Option Process). count_by is_none (descriptors_in o)) at in
+      let there = free-place p.descriptors fd (ap (λ (o : Option Process). free_slot (descriptors_in o)) (sym at) ∙ one.free) in
+      let left = free-put p.descriptors fd one.number there.0 there.1 in
+      let now : free_descriptors t1 i ≡ count_by is_none (put p.descriptors fd one.number) = ap (count_by is_none) names-one in
+      omega (arith, left, now, two, was)
+
+-- both are
+module _ {k : Kernel} {i q r w : ℕ} {t1 t2 : Places} {files1 files2 : List (Option Counted)} (x : Runner k i) (room : free_slot k.spaces.pipes ≡ Some q) (one : OpensAs k.table t1 k.files files1 i (pipe_file q end.Read) r) (two : OpensAs t1 t2 files1 files2 i (pipe_file q end.Write) w) where
+  abbrev ends : Ends
+  ends = record { pipe = q; reader = one.number; writer = two.number; read_fd = r; write_fd = w }
+
+  ends-free : AreFree k i ends
+  ends-free = record {
+    pipe = room;
+    reader = one.place;
+    writer = ap free_slot (sym (opens-one x.run.process one)) ∙ two.place;
+    read_fd = one.free;
+    write_fd = ap (λ (ds : List (Option ℕ)). free_slot (put ds r one.number)) (descriptors-run x) ∙ ap free_slot (sym (names-one x.run.process one)) ∙ two.free;
+  }
+
+  abbrev made : Kernel
+  made = record k { table = woken_by Bytes t2; spaces = with_pipe k.spaces q (Some []); files = files2 }
+
+  made-is : record (piped k i ends) { table = woken_by Bytes (piped k i ends).table } ≡ made
+  made-is = rw (two.names, one.names, two.opens, one.opens) refl
+
+  module _ (fits : taken_frames (with_pipe k.spaces q (Some [])) ≤ k.spaces.frames) where
+    pub pipe-keeps : Keeps k → Keeps made
+    pipe-keeps keeps = subst Keeps made-is (piped-watched x ends ends-free fits keeps)
+
+    pub pipe-made : HasPiped k made i q r w
+    pipe-made = record { ends = ends; free = ends-free; is = (refl, refl, refl); fits = fits; same = rw (two.names, one.names, two.opens, one.opens) refl }

@@ -1,0 +1,50 @@
+use Rattle.kernel.proofs.Common.{◌≡◌, ap, true, kernel_of, slice_set, waking, Kernel, Spaces}
+use Rattle.kernel.proofs.Counting.{counts-few}
+use Rattle.kernel.proofs.Forking.{fork-by, fork-home, fork-keeps, fork-there, seat-free}
+use Rattle.kernel.proofs.Opening.{hold-few}
+use Rattle.kernel.proofs.Runs.{active-space}
+use Rattle.kernel.proofs.Turning.{runner-of}
+use Rattle.kernel.specs.Processes.{child_of}
+use Rattle.proc.specs.Places.{seated}
+use Rattle.kernel.proofs.kernel.Kernel.fork.Goals as goal
+
+pub unreachable-requires : goal.unreachable-requires
+unreachable-requires g c = fork-there (runner-of c.is_sound.ensures.sound c.requires.may.running) c.in_default.ensures.process
+
+pub copy-requires-clause-from : goal.copy-requires-clause-from
+copy-requires-clause-from g c = active-space (kernel_of c.self.inside) c.args.self.now c.args.at c.self.view_is c.self.invariant.sound c.requires.may.running
+
+pub copy-requires-clause-free : goal.copy-requires-clause-free
+copy-requires-clause-free g c = let may = rw (← c.self.view_is) at c.requires.may in seat-free (kernel_of c.self.inside) c.self.invariant.sound c.args.seat may.next
+
+pub invariant_of-self : goal.invariant_of-self
+invariant_of-self g c = rw c.if-not-copy.ensures.refused.1 c.self.invariant
+
+pub share_all-requires : goal.share_all-requires
+share_all-requires g c = record { few = counts-few (kernel_of c.self.inside) c.self.invariant.sound }
+
+pub hold-requires : goal.hold-requires
+hold-requires g c =
+    let may = rw (← c.self.view_is) at c.requires.may in
+    let said = rw (← c.self.view_is) at c.in-Some.ensures.process in
+    record { up = may.up; node = fork-home (runner-of c.self.invariant.sound may.running) may.up said; few = hold-few c.self.invariant.sound may.up c.in-Some.process.directory }
+
+pub invariant_of-self-2 : goal.invariant_of-self-2
+invariant_of-self-2 g c =
+    let may = rw (← c.self.view_is) at c.requires.may in
+    let said = rw (← c.self.view_is) at c.in-Some.ensures.process in
+    let table : c.alloc-seat.new.self ≡ seated c.self.inside.table (child_of c.in-Some.process) c.args.seat = rw (c.alloc-seat.ensures.seat, may.next) at c.alloc-seat.ensures.ok in
+    let s = rw (← c.self.view_is) at c.is_sound.ensures.zero in
+    let a = rw (← c.self.view_is) at c.is_sound.ensures.aligned in
+    rw (c.wake.ensures, table, c.if-not-copy.ensures.done.1, c.share_all.ensures, c.hold.ensures) (fork-keeps c.self.invariant may s a said c.if-not-copy.ensures.done.0)
+
+pub returns-then-not-copy : goal.returns-then-not-copy
+returns-then-not-copy g c = let d = c.if-not-copy.ensures.refused in rw (← c.self.view_is) (d.0, ap (λ (s : Spaces). record (kernel_of c.self.inside) { spaces = s }) d.1)
+
+pub returns : goal.returns
+returns g c =
+    let may = rw (← c.self.view_is) at c.requires.may in
+    let said = rw (← c.self.view_is) at c.in-Some.ensures.process in
+    let table : c.alloc-seat.new.self ≡ seated c.self.inside.table (child_of c.in-Some.process) c.args.seat = rw (c.alloc-seat.ensures.seat, may.next) at c.alloc-seat.ensures.ok in
+    let d = c.if-not-copy.ensures.done in
+    rw (c.wake.ensures, table, d.1, c.share_all.ensures, c.hold.ensures, ← c.self.view_is) (d.0, λ p at. ap (λ (k : Kernel). waking k (slice_set c.self.inside.table.awake c.args.seat.place true)) (fork-by (kernel_of c.self.inside) c.args.at c.args.seat said at))

@@ -1,0 +1,67 @@
+-- What the kernel's steps make of the running process, and of others.
+use Rattle.std.specs.Prelude.{Bool, None, Ok, Option, Some, false, option_map, slice_set, true, ℕ, ◌<◌, ◌≡◌, ◌≤◌}
+use Rattle.kernel.specs.Descriptors.{all_shared}
+use Rattle.kernel.specs.Holding.{IsFolder, all_dropped, listed}
+use Rattle.kernel.specs.Kernel.{Kernel, counting, on_hart, waking}
+use Rattle.proc.specs.declared.process.Process.{Process}
+use Rattle.proc.specs.declared.table.Seat.{Seat}
+use Rattle.proc.specs.Places.{changed, seat_of, seated, with_directory, without}
+use Rattle.spaces.specs.Spaces.{copied, taken_frames, with_place}
+use Rattle.tree.specs.Holding.{with_hold}
+use Rattle.unixmodel.specs.declared.process.Mode.TheVariants.{Ready}
+use Rattle.unixmodel.specs.Files.{slot}
+
+-- ---- where it works
+
+-- the running process, in place i, may work in directory n; no access of the device has failed
+pub record MayWorkIn (k : Kernel) (i n : ℕ) : Type 0 where
+  pub running : k.spaces.active ≡ Some i
+  pub folder : IsFolder (slot k.tree.files n)
+  pub up : k.tree.failed ≡ false
+
+-- the directory of the process in place i
+abbrev pub home_at : Kernel → ℕ → Option ℕ
+home_at k i = option_map (λ (p : Process). p.directory) (slot k.table.places i)
+
+-- process i works in directory n; the one that it leaves goes where it has no links and nobody holds it any more
+abbrev pub working_in : Kernel → ℕ → ℕ → Kernel
+working_in k i n = record k {
+  tree = all_dropped (record k.tree { holds = with_hold k.tree.holds n }) (listed (home_at k i));
+  table = changed k.table i (with_directory n);
+}
+
+-- the same, but for the count of the device's failures
+abbrev pub WorksIn : Kernel → Kernel → ℕ → ℕ → Type 0
+WorksIn old new i n = new ≡ counting (working_in old i n) new.tree.failures
+
+-- ---- fork
+
+-- the running process, in place i, may have a child in a seat, which is the next one; no access of the device has failed
+pub record MayFork (k : Kernel) (i : ℕ) (seat : Seat) : Type 0 where
+  pub running : k.spaces.active ≡ Some i
+  pub next : seat_of k.table ≡ Ok seat
+  pub up : k.tree.failed ≡ false
+
+abbrev pub child_of : Process → Process
+child_of p = record p { parent = p.pid; registers = slice_set p.registers 10 0; killed = false; mode = Ready }
+
+-- process p, in place i, has a child there, with the same pages, descriptors and directory
+abbrev pub forked_as : Kernel → ℕ → Seat → Process → Kernel
+forked_as k i seat p = record k {
+  tree = record k.tree { holds = with_hold k.tree.holds p.directory };
+  table = seated k.table (child_of p) seat;
+  spaces = copied k.spaces i seat.place;
+  files = all_shared k.files p.descriptors;
+}
+
+-- whether the frames suffice for that; the child is awake
+abbrev pub Forks : Kernel → Kernel → ℕ → Seat → Bool → Type 0
+Forks old new i seat true = (taken_frames (copied old.spaces i seat.place) ≤ old.spaces.frames) × ((p : Process) → slot old.table.places i ≡ Some p → new ≡ waking (forked_as old i seat (on_hart old.spaces p)) new.table.awake)
+Forks old new i seat false = (old.spaces.frames < taken_frames (copied old.spaces i seat.place)) × (new ≡ old)
+
+-- ---- wait
+
+-- the zombie in a place, if there is one, is waited for, and its place is free
+abbrev pub collected : Kernel → Option ℕ → Kernel
+collected k None = k
+collected k (Some j) = record k { table = without k.table (Some j); spaces = with_place k.spaces j None }

@@ -1,0 +1,165 @@
+//! The kernel's steps on the descriptors of the running process, and on the open files that they name.
+ghost use Rattle.std.specs.Prelude.{◌≡◌, ◌<◌, IfSome, Some, false, is_some, true};
+ghost use Rattle.kernel.specs.Opening.{HasClosed, HasFetched, HasStored, MayClose, MayMove, MayOpen, MayPipe, MayShare, OpensOn, PipesInto, advanced, duplicated, pipe_file};
+ghost use Rattle.spaces.specs.Spaces.{view_at};
+ghost use Rattle.tree.specs.Tree.{Serves};
+ghost use Rattle.tree.specs.Written.{IsFile};
+ghost use Rattle.unixmodel.specs.Files.{Node, slot};
+ghost use Rattle.unixmodel.specs.Memory.{can_write, read_bytes};
+
+use crate::channels::{Channel, wakeup};
+use crate::descriptors::{close, let_one_go, open_as};
+use crate::kernel::Kernel;
+use crate::kernel::disk::is_done;
+use blockdev::{BlockDev, DeviceFault};
+use file_transfers::{read_node, write_node};
+use files::{End, OpenFile, Target};
+use sv39::Translate;
+
+// An end of a pipe, as an open file.
+fn pipe_end(pipe: usize, end: End) -> OpenFile
+    ensures { result ≡ pipe_file pipe end }
+{
+    OpenFile {
+        target: Target::Pipe { pipe, end },
+        readable: end == End::Read,
+        writable: end == End::Write,
+    }
+}
+
+impl<D: BlockDev, T: Translate> Kernel<D, T> {
+    /// The lowest free descriptor of the running process names an open file too that another one names.
+    #[inline]
+    pub fn dup(&mut self, at: usize, free: usize, id: u8)
+        requires may { MayShare self.old at free id }
+        requires within { free < 16 }
+        ensures { self.new ≡ duplicated self.old at free id }
+    {
+        self.table.set_descriptor(at, free, Some(id));
+        self.files.dup(usize::from(id));
+    }
+
+    /// A new open file is on a node of the disk, and the lowest free descriptor of the running process, which is told, names it.
+    #[inline]
+    pub fn open_on(&mut self, at: usize, node: usize, file: OpenFile) -> usize
+        requires { MayOpen self.old at node file }
+        ensures { OpensOn self.old self.new at node file result }
+    {
+        self.tree.is_whole();
+        self.tree.hold(node);
+        let descriptor = open_as(&mut self.table, &mut self.files, at, file);
+        wakeup(&mut self.table, Channel::Bytes);
+        descriptor
+    }
+
+    /// Makes a pipe in the lowest free place. The lowest free descriptors of the running process, which are told, name its read end and
+    /// its write end. `None`: the frames don't suffice; then nothing changes.
+    #[inline]
+    pub fn open_pipe(&mut self, at: usize, pipe: usize) -> Option<(usize, usize)>
+        requires may { MayPipe self.old at pipe }
+        requires within { pipe < 100 }
+        ensures pipes { PipesInto self.old self.new at pipe result }
+        ensures within { IfSome result (λ ends. (ends.0 < 16) × (ends.1 < 16)) }
+    {
+        if !self.spaces.create_pipe(pipe) {
+            return None;
+        }
+        let reader = open_as(
+            &mut self.table,
+            &mut self.files,
+            at,
+            pipe_end(pipe, End::Read),
+        );
+        let writer = open_as(
+            &mut self.table,
+            &mut self.files,
+            at,
+            pipe_end(pipe, End::Write),
+        );
+        wakeup(&mut self.table, Channel::Bytes);
+        Some((reader, writer))
+    }
+
+    /// A descriptor of the running process, which names an open file, is free. A pipe that has no end any more goes, and so does a node
+    /// without links that nobody holds any more.
+    #[inline]
+    pub fn close(&mut self, at: usize, descriptor: usize, id: u8) -> Result<(), DeviceFault>
+        requires may { MayClose self.old at descriptor id }
+        requires within { descriptor < 16 }
+        ensures { Serves self.old.tree self.new.tree result (λ done. HasClosed self.old self.new at descriptor id) }
+    {
+        self.table.set_descriptor(at, descriptor, None);
+        let gone = close(&mut self.files, &mut self.spaces, usize::from(id));
+        wakeup(&mut self.table, Channel::Bytes); // a pipe may have lost an end
+        let_one_go(&mut self.tree, gone)
+    }
+
+    /// What is open on a file or a directory goes on from this offset, in bytes.
+    #[inline]
+    pub fn set_offset(&mut self, id: usize, offset: u32)
+        requires { MayMove self.old id offset }
+        ensures { self.new ≡ advanced self.old id offset }
+    {
+        self.files.set_offset(id, offset);
+    }
+
+    /// Reads bytes of a node from the place `offset` on into the memory of the running process from `address` on, at most `count` of
+    /// them, and tells how many.
+    #[inline]
+    pub fn read_node(
+        &mut self,
+        at: usize,
+        number: usize,
+        offset: u32,
+        address: u64,
+        count: u64,
+    ) -> Result<u64, DeviceFault>
+        requires running { self.old.spaces.active ≡ Some at }
+        requires up { self.old.tree.failed ≡ false }
+        requires node { (node : Node) × (slot self.old.tree.files number ≡ Some node) }
+        requires writable { can_write (view_at self.old.spaces at).memory address count ≡ true }
+        ensures { Serves self.old.tree self.new.tree result (HasFetched self.old self.new at number offset address count) }
+    {
+        let read = read_node(
+            &mut self.tree,
+            &mut self.spaces,
+            at,
+            number,
+            offset,
+            address,
+            count,
+        );
+        self.spaces.frames_suffice();
+        read
+    }
+
+    /// Writes bytes of the memory of the running process from `address` on into a file from the place `offset` on, as many as there
+    /// are blocks for, and tells how many. `None`: `offset` lies past the file's end, or the file would be too long; nothing is written.
+    #[inline]
+    pub fn write_node(
+        &mut self,
+        at: usize,
+        number: usize,
+        offset: u32,
+        address: u64,
+        count: u64,
+    ) -> Result<Option<u64>, DeviceFault>
+        requires running { self.old.spaces.active ≡ Some at }
+        requires up { self.old.tree.failed ≡ false }
+        requires file { IsFile self.old.tree.files number }
+        requires readable { is_some (read_bytes (view_at self.old.spaces at).memory address count) ≡ true }
+        ensures { Serves self.old.tree self.new.tree result (HasStored self.old self.new at number offset address count) }
+    {
+        let wrote = write_node(
+            &mut self.tree,
+            &self.spaces,
+            at,
+            number,
+            offset,
+            address,
+            count,
+        );
+        is_done(&self.tree, &wrote);
+        wrote
+    }
+}

@@ -1,0 +1,77 @@
+//! The kernel's steps on the running process, and on others.
+ghost use Rattle.std.specs.Prelude.{◌≡◌, ◌<◌};
+ghost use Rattle.kernel.specs.Processes.{Forks, MayFork, MayWorkIn, WorksIn, collected, home_at};
+ghost use Rattle.proc.specs.Places.{reaped_at, zombie_place};
+ghost use Rattle.tree.specs.Tree.{Serves};
+
+use crate::descriptors::{let_one_go, share_all};
+use crate::kernel::Kernel;
+use blockdev::{BlockDev, DeviceFault};
+use proc::{Process, Reaped, Seat};
+use sv39::Translate;
+use unixmodel::process::Mode;
+
+impl<D: BlockDev, T: Translate> Kernel<D, T> {
+    // The directory that the process in a place works in.
+    fn directory(&self, at: usize) -> Option<u32>
+        ensures { result ≡ home_at self.now at }
+    {
+        Some(self.table.process(at)?.directory)
+    }
+
+    /// A child of the running process takes a seat, which is the next one: it is ready, with the same pages, descriptors and directory,
+    /// and a0 is 0. `false`: the frames don't suffice; then nothing changes.
+    #[inline]
+    pub fn fork(&mut self, at: usize, seat: Seat) -> bool
+        requires may { MayFork self.old at seat }
+        requires within { seat.place < 64 }
+        ensures { Forks self.old self.new at seat result }
+    {
+        self.is_sound();
+        let Some(process) = self.on_hart(at) else {
+            unreachable!()
+        };
+        if !self.spaces.copy(at, seat.place) {
+            return false;
+        }
+        share_all(&mut self.files, &process.descriptors);
+        self.tree.hold(process.directory as usize);
+        let mut registers = process.registers;
+        registers[10] = 0;
+        let _seat = self.table.alloc(Process {
+            parent: process.pid,
+            registers,
+            killed: false,
+            mode: Mode::Ready,
+            ..process
+        });
+        self.table.wake(seat.place);
+        true
+    }
+
+    /// Waits for the first zombie child of a process: its place and its space are free then. `None`: there is no zombie child.
+    #[inline]
+    pub fn collect(&mut self, parent: u32) -> Option<Reaped>
+        ensures reaped { result ≡ reaped_at self.old.table (zombie_place self.old.table parent) }
+        ensures collected { self.new ≡ collected self.old (zombie_place self.old.table parent) }
+    {
+        let Some(reaped) = self.table.reap(parent) else {
+            return None;
+        };
+        self.spaces.destroy(reaped.place);
+        Some(reaped)
+    }
+
+    /// The running process works in a directory. The one that it leaves goes where it has no links and nobody holds it any more.
+    #[inline]
+    pub fn work_in(&mut self, at: usize, number: usize) -> Result<(), DeviceFault>
+        requires { MayWorkIn self.old at number }
+        ensures { Serves self.old.tree self.new.tree result (λ done. WorksIn self.old self.new at number) }
+    {
+        let left = self.directory(at);
+        self.tree.is_whole();
+        self.tree.hold(number);
+        self.table.set_directory(at, number as u32);
+        let_one_go(&mut self.tree, left)
+    }
+}
