@@ -1,7 +1,7 @@
 -- The names that the lemmas of this crate import from elsewhere, passed on from one place. Declares nothing.
 pub use Rattle.std.proofs.Common.{◌%◌, ◌&&◌, ◌*◌, ◌+◌, ◌++◌, ◌-◌, ◌/◌, ◌<◌, [], ◌^◌, ap, append-nil, append_assoc, arith, Bool, drop, eq-eqb, Err, false, IfSome, inl, inr, is_none, is_some, le_trans, length, List, map, min}
 pub use Rattle.std.proofs.Common.{nat_eq, nat_le, nat_lt, negsuc, None, Ok, Option, option_map, pos, refl, replicate, Result, rules, Some, subst, suc, sym, take, true, unwrap_or, zero, ℕ, ℤ, ◌∙◌, ◌∷◌, ◌≡◌, ◌≢◌, ◌≤◌}
-pub use Rattle.std.proofs.lemmas.Bool.{and_left, and_parts, and_right, cases_eq, cases_lt, eqb-true, false≢true, le-leb, leb-true, lt-leb, lt-ltb, ltb-true, ne_eqb, true≢false}
+pub use Rattle.std.proofs.lemmas.Bool.{and_left, and_parts, and_right, cases_eq, cases_lt, eqb-true, false≢true, le-leb, leb-true, lt-leb, lt-ltb, ne_eqb}
 pub use Rattle.std.proofs.lemmas.Bool.Decides.{nat_tests}
 pub use Rattle.std.proofs.lemmas.Int.{of_z-to_z, to_z-of_z}
 pub use Rattle.std.proofs.lemmas.List.{drop-take, get_or-set_other, get_or-set_same, length-drop, length-map, length-set, length-take, length-take-le, map-set, replicate-append-replicate, set-get_or, set_comm, take-append-drop, take-take}
@@ -21,16 +21,16 @@ pub use Rattle.files.proofs.CountsLemmas.{Counts}
 pub use Rattle.files.proofs.Free.{free-None, free-opens, free-place, free-put}
 pub use Rattle.files.proofs.PipesLemmas.{without_pipes-same}
 pub use Rattle.files.proofs.Whole.{opens-moved, opens-opened, set_outside, without_opens-same}
-pub use Rattle.files.specs.Counts.{names, one_in}
+pub use Rattle.files.specs.Counts.{one_in}
 pub use Rattle.files.specs.Meant.{file_of, target_of}
-pub use Rattle.files.specs.Places.{closed, Counted, file_at, free_count, has_end, node_at, node_from, usable}
+pub use Rattle.files.specs.Places.{Counted, file_at, free_count, has_end, node_at, node_from, usable}
 pub use Rattle.files.specs.declared.file.Target.{Target}
 pub use Rattle.files.specs.declared.table.FileFault.{FileFault}
 pub use Rattle.inode.specs.declared.InodeStat.{InodeStat}
 pub use Rattle.kernel.proofs.Changes.{ended-is, ended-kernel, ended_to, nodes, nodes-counted, old-homes, other-at}
 pub use Rattle.kernel.proofs.Finishes.{counting-kernel, IsThere, process-idle, there-of}
 pub use Rattle.kernel.proofs.Holding.{AreOldHomes, fewer-leaves, fewer-nodes, holders-few, home-folder}
-pub use Rattle.kernel.proofs.Holding.{is_by, kept-cong, least, named_in, same-set, used-is, used-put}
+pub use Rattle.kernel.proofs.Holding.{is_by, kept-cong, named_in, same-set, used-is}
 pub use Rattle.kernel.proofs.Idle.{busy-state, idle-turn, running-state}
 pub use Rattle.kernel.proofs.Leaving.{ends-at, ends-run, stops-run, waits-run}
 pub use Rattle.kernel.proofs.Named.{counts-joined}
@@ -41,35 +41,33 @@ pub use Rattle.kernel.proofs.Readies.{stands-open, turn-alive}
 pub use Rattle.kernel.proofs.Reaped.{are-away, away-loaded, IsMatch, match-active, match-loaded, match-place, opened-loaded, over-state, reap-state, used-loaded, within-state, within-state_with}
 pub use Rattle.kernel.proofs.Running.{answer-run, change-put, change-run, live, not-killed, regs-kernel, regs-run, regs-state, runs-mode}
 pub use Rattle.kernel.proofs.Reading.{serves-disk}
-pub use Rattle.kernel.proofs.Runs.{eq-self, home-running, IsRun, loaded-run, memory-at, moved-kernel, moved-run, moved-state, process-run, process-with, put-with}
-pub use Rattle.kernel.proofs.Runs.{run-of, runs-set, same_or_not, self, set-slot, set-twice, slot-other, slot-put, slot-within, stands-set, state-run, with_process, within-run, within-space}
-pub use Rattle.kernel.proofs.Shapes.{folder-there, there}
+pub use Rattle.kernel.proofs.Runs.{home-running, IsRun, loaded-run, memory-at, moved-state, process-run, process-with, put-with}
+pub use Rattle.kernel.proofs.Runs.{run-of, same_or_not, self, set-slot, set-twice, slot-other, slot-put, slot-within, stands-set, state-run, with_process, within-run, within-space}
+pub use Rattle.kernel.proofs.Shapes.{folder-there}
 pub use Rattle.kernel.proofs.Starts.{picked-state, picks-killed, picks-ready, started-is, started-kernel, started-run, started-state, started_to}
-pub use Rattle.kernel.proofs.Steps.{computed-is, fail-kernel, held-run, placed-with}
+pub use Rattle.kernel.proofs.Steps.{computed-is, held-run, placed-with}
 pub use Rattle.kernel.proofs.Wakes.{kernel-waking, running-at, state-but, state-waking}
-pub use Rattle.kernel.proofs.Watching.{watched-put, watched-running}
 pub use Rattle.kernel.specs.Descriptors.{descriptors_in}
 pub use Rattle.kernel.specs.Disk.{directory_at, directory_in, HasFiled, HasRead, IsLost, IsServed, LeavesDisk, with_tree}
 pub use Rattle.kernel.specs.Holding.{files_on, FitsNode, home_in, homes_at, IsFolder, IsInUse, node_of, node_on}
-pub use Rattle.kernel.specs.Kernel.{answered, argument, base, blocked, computed, counting, descriptors_at, ended, entered, halted_by, idle, Kernel, lives}
+pub use Rattle.kernel.specs.Kernel.{answered, argument, base, blocked, computed, counting, descriptors_at, ended, entered, halted_by, Kernel, lives}
 pub use Rattle.kernel.specs.Kernel.{loaded, marked, memories, memory_in, on_hart, picked, rest_of, started, started_as, state_of, stopped_at, ticked, typed, waking}
-pub use Rattle.kernel.specs.Memory.{drew, resized, sent, sized, wrote}
+pub use Rattle.kernel.specs.Memory.{drew, resized, sent, wrote}
 pub use Rattle.kernel.specs.Ready.{awaited_in, has_slept, Stands}
 pub use Rattle.kernel.specs.Sound.{can_answer, CanRun, file_named, is_at, is_on_pipe, IsAlive, IsAwaiting, IsForBytes, IsForPipe, IsFresh}
-pub use Rattle.kernel.specs.Sound.{IsKernel, IsLive, IsMode, IsOpened, IsPending, IsPlaced, IsReading, IsWriting, WaitsAs, WaitsWell}
-pub use Rattle.kernel.specs.View.{kernel_of}
+pub use Rattle.kernel.specs.Sound.{IsKernel, IsLive, IsMode, IsPending, IsPlaced, IsReading, IsWriting, WaitsAs, WaitsWell}
 pub use Rattle.kernel.specs.Watch.{awaited_of, IsWatched}
 pub use Rattle.names.proofs.Finding.{enter-parts, make-parts, unlink-parts}
 pub use Rattle.proc.proofs.Joined.{change_process-with_table, has_child-with_table, place_of_pid-with_table, place_where-Some, with_zombie-with_table, zombie_child-with_table}
 pub use Rattle.proc.specs.Places.{changed, has_pid, is_child_of, is_zombie_child_of, orphaned, place_where, Places, reaped_at}
-pub use Rattle.proc.specs.Places.{seat_at, seat_of, with_mark, with_size, without, zombie_of, zombie_place}
+pub use Rattle.proc.specs.Places.{seat_at, seat_of, with_mark, zombie_of, zombie_place}
 pub use Rattle.proc.specs.Whole.{with_memory, with_table}
 pub use Rattle.proc.specs.declared.process.Process.{Process}
 pub use Rattle.programs.proofs.Places.{length-write}
-pub use Rattle.programs.specs.Executed.{Executes, frames_beside, IsExecuted, plan_at, started_by, view_by}
+pub use Rattle.programs.specs.Executed.{Executes, frames_beside, plan_at}
 pub use Rattle.programs.specs.declared.executing.Started.{Started}
 pub use Rattle.spaces.proofs.SpacesLemmas.{held-same, some-pipe, taken-placed}
-pub use Rattle.spaces.specs.Spaces.{bytes_in, copied, frames_in, has_space, no_pages, read_at, Spaces, SpaceView, taken_frames, view_at, with_pipe, with_view}
+pub use Rattle.spaces.specs.Spaces.{bytes_in, copied, frames_in, no_pages, read_at, Spaces, SpaceView, taken_frames, view_at, with_pipe, with_view}
 pub use Rattle.tree.proofs.Keeping.{device-is, Reaps}
 pub use Rattle.tree.proofs.Storing.{blocks_of-set, whole-node}
 pub use Rattle.tree.specs.Answers.{Overflows}
@@ -102,17 +100,17 @@ pub use Rattle.unixmodel.specs.NameCalls.{creates, emptied, fewer_links, found_o
 unfoldable pub use Rattle.unixmodel.specs.NameCalls.{chdir_row, link_row, linked, made_at, made_directory, make_at, mkdir_row, mknod_row, open_row, unlink_row, unlinked}
 pub use Rattle.unixmodel.specs.Next.{execute_at, is_ecall, memory_after, pick, step, take_turn}
 unfoldable pub use Rattle.unixmodel.specs.Next.{effect_of, execute, next}
-pub use Rattle.unixmodel.specs.Numbers.{has_bit, int_of, le, low, natural, number_at, plus, round_down}
+pub use Rattle.unixmodel.specs.Numbers.{has_bit, int_of, le, low, natural, plus}
 pub use Rattle.unixmodel.specs.OpenFiles.{pipe_room}
 pub use Rattle.unixmodel.specs.OpenFiles.End.{ReadEnd, WriteEnd}
 pub use Rattle.unixmodel.specs.OpenFiles.Target.{OnNode}
 pub use Rattle.unixmodel.specs.Outcome.{answers, given, limited, minus_one, Outcome, pending_arg, pending_of, provided}
 unfoldable pub use Rattle.unixmodel.specs.Outcome.{end_process}
 pub use Rattle.unixmodel.specs.Outcome.Outcome.{Done, Refused, Waits}
-pub use Rattle.unixmodel.specs.Plan.{Loaded, loaded_of, Plan, Stack}
-unfoldable pub use Rattle.unixmodel.specs.Plan.{plan, push_pointers, push_strings, with_args, with_stack}
+pub use Rattle.unixmodel.specs.Plan.{Plan}
+unfoldable pub use Rattle.unixmodel.specs.Plan.{plan}
 pub use Rattle.unixmodel.specs.Process.{arg, is_zombie_mode, last_pid, with_answer}
-pub use Rattle.unixmodel.specs.ProcessCalls.{exec_registers, file_bytes, fits_beside, has_child, replaced, wait_for, zombie_child}
+pub use Rattle.unixmodel.specs.ProcessCalls.{file_bytes, fits_beside, has_child, replaced, wait_for, zombie_child}
 unfoldable pub use Rattle.unixmodel.specs.ProcessCalls.{args_at, exec_row, fork_row, kill_row, sbrk_row, sleep_on, wait_on, wait_row}
 pub use Rattle.unixmodel.specs.Reap.{is_used, kept}
 unfoldable pub use Rattle.unixmodel.specs.Reap.{reap, without_nodes, without_opens, without_pipes}
@@ -137,8 +135,8 @@ pub use Rattle.calls.specs.Named.{IsRefused}
 pub use Rattle.calls.specs.Opened.{Asks, cut_tree, file_by, has_seat, IsCut, IsOpenable, may_open_by, Opens, target_by, with_open}
 pub use Rattle.calls.specs.Processes.{asked, place_called, with_status}
 unfoldable pub use Rattle.calls.specs.Reads.{stat_told}
-pub use Rattle.kernel.specs.Opening.{free_descriptors, OpensAs}
-pub use Rattle.calls.specs.Replaced.{begun, Reaches}
+pub use Rattle.kernel.specs.Opening.{free_descriptors}
+pub use Rattle.calls.specs.Replaced.{Reaches}
 pub use Rattle.calls.specs.Resuming.{resumed, resumed_by, resumed_in, WaitsIn}
 pub use Rattle.calls.specs.Steps.{IsBusy, IsBusyFor, LeavesFiles, PieceGives, PieceGoes, stepped, StepsGive, StopsAt, Went}
 pub use Rattle.calls.specs.Transfers.{Begins, call_on, can_transfer, IsFront, MayUse, OnConsole, OnThePipe, target_for, target_named, Transfers, Uses}

@@ -28,7 +28,7 @@ fn free_descriptor<D: BlockDev, T: Translate>(kernel: &Kernel<D, T>, at: usize) 
     ensures place { result ≡ free_slot (descriptors_at kernel.now at) }
     ensures within { IfSome result (λ free. free < 16) }
 {
-    descriptors::free_descriptor(&kernel.table.process(at)?.descriptors)
+    descriptors::free_descriptor(&kernel.process(at)?.descriptors)
 }
 
 /// dup(descriptor): the lowest free descriptor names the same open file, and is the answer.
@@ -74,13 +74,13 @@ pub(crate) fn pipe<D: BlockDev, T: Translate>(kernel: &mut Kernel<D, T>, at: usi
     if !kernel.can_write(at, address, 8) {
         return Came::Refuses;
     }
-    let Some(process) = kernel.table.process(at) else {
+    let Some(process) = kernel.process(at) else {
         return Came::Refuses;
     };
-    if descriptors::free_count(&process.descriptors) < 2 || kernel.files.free_places() < 2 {
+    if descriptors::free_count(&process.descriptors) < 2 || kernel.free_places() < 2 {
         return Came::Refuses;
     }
-    let Some(pipe) = kernel.spaces.free_pipe() else {
+    let Some(pipe) = kernel.free_pipe() else {
         return Came::Refuses;
     };
     let Some((reader, writer)) = kernel.open_pipe(at, pipe) else {

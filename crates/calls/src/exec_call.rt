@@ -1,28 +1,15 @@
 //! exec: another program in the place of the one that runs.
-ghost use Rattle.std.specs.Prelude.{◌≡◌, ◌%◌, Some};
+ghost use Rattle.std.specs.Prelude.{◌≡◌, Some};
 ghost use Rattle.calls.specs.Acts.{ActsOnDisk, Runs};
-ghost use Rattle.calls.specs.Replaced.{Reaches, begun};
+ghost use Rattle.calls.specs.Replaced.{Reaches};
 ghost use Rattle.unixmodel.specs.declared.call.Call.TheVariants as Call;
 
 use crate::name_calls::copy_path;
 use crate::outcome::Came;
 use blockdev::{BlockDev, DeviceFault};
 use kernel::Kernel;
-use programs::{Started, execute};
-use spaces::Spaces;
 use sv39::Translate;
 use unixmodel::call::Call;
-
-// The hart begins a program.
-fn begin<T: Translate>(spaces: &mut Spaces<T>, started: &Started)
-    requires { started.now.pc % 4 ≡ 0 }
-    ensures { spaces.new ≡ begun spaces.old started.now }
-{
-    spaces.set_register(2, started.sp);
-    spaces.set_register(10, started.count);
-    spaces.set_register(11, started.sp);
-    spaces.set_pc(started.pc);
-}
 
 // exec of the file that its path reaches.
 fn exec_found<D: BlockDev, T: Translate>(
@@ -35,20 +22,13 @@ fn exec_found<D: BlockDev, T: Translate>(
     ensures { ActsOnDisk kernel.old kernel.new at (Some Call.Exec) result }
 {
     let argv = kernel.argument(1);
-    match execute(&mut kernel.tree, &mut kernel.spaces, at, number, argv) {
-        Ok(Some(started)) => {
-            kernel.spaces.frames_suffice();
-            begin(&mut kernel.spaces, &started);
-            kernel.table.set_size(at, started.size);
+    let replaced = kernel.replace(at, number, argv)?;
+    match replaced {
+        Some(started) => {
+            kernel.is_sound();
             Ok(Came::Answers(started.count))
         }
-        Ok(None) => Ok(Came::Refuses),
-        Err(fault) => {
-            kernel.spaces.frames_suffice();
-            let size = kernel.spaces.size(at);
-            kernel.table.set_size(at, size);
-            Err(fault)
-        }
+        None => Ok(Came::Refuses),
     }
 }
 

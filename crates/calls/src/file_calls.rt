@@ -36,7 +36,7 @@ pub(crate) fn fstat<D: BlockDev, T: Translate>(
     let Some(id) = kernel.open_id(at, low(kernel.argument(0))) else {
         return Ok(Came::Refuses);
     };
-    let Ok(number) = kernel.files.stat(usize::from(id)) else {
+    let Ok(number) = kernel.node_of(usize::from(id)) else {
         return Ok(Came::Refuses);
     };
     let address = kernel.argument(1);

@@ -15,16 +15,6 @@ use sv39::Translate;
 use tree::{Leaf, TreeFault};
 use unixmodel::call::Call;
 
-// The directory that the running process works in.
-pub(crate) fn home<D: BlockDev, T: Translate>(kernel: &Kernel<D, T>, at: usize) -> usize
-    ensures { IfSome (slot kernel.now.table.places at) (λ p. result ≡ p.directory) }
-{
-    match kernel.table.process(at) {
-        Some(process) => process.directory as usize,
-        None => 0,
-    }
-}
-
 // Copies the path in an argument of the call into a buffer, and tells its length.
 pub(crate) fn copy_path<D: BlockDev, T: Translate>(
     kernel: &Kernel<D, T>,
@@ -38,7 +28,7 @@ pub(crate) fn copy_path<D: BlockDev, T: Translate>(
     ensures within { IfSome result (λ n. n ≤ 127) }
     ensures bytes { IfSome result (λ n. All (λ b. b ≢ 0) (take n buffer.new)) }
 {
-    kernel.spaces.copy_path(at, kernel.argument(place), buffer)
+    kernel.copy_path(at, kernel.argument(place), buffer)
 }
 
 // What a call comes to that made nothing.

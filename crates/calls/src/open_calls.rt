@@ -83,9 +83,9 @@ fn opened(flags: u32, target: Target) -> OpenFile
 fn has_seat<D: BlockDev, T: Translate>(kernel: &Kernel<D, T>, at: usize) -> bool
     ensures { result ≡ has_seat kernel.now at }
 {
-    match kernel.table.process(at) {
+    match kernel.process(at) {
         Some(process) => descriptors::free_count(&process.descriptors) > 0
-            && kernel.files.free_places() > 0,
+            && kernel.free_places() > 0,
         None => false,
     }
 }
@@ -103,7 +103,7 @@ fn open_on<D: BlockDev, T: Translate>(
     requires may { IsOpenable kernel.old.tree.files node flags told }
     ensures { Opens kernel.old kernel.new at (opened flags node) result }
 {
-    kernel.tree.is_whole();
+    kernel.files_are_whole();
     let file = opened(flags, target(node as u32, told));
     let descriptor = kernel.open_on(at, node, file);
     kernel.is_sound();
@@ -210,7 +210,7 @@ fn work_in<D: BlockDev, T: Translate>(
     requires directory { IsFolder (slot kernel.old.tree.files number) }
     ensures { ActsOnDisk kernel.old kernel.new at (Some Call.Chdir) result }
 {
-    kernel.tree.is_whole();
+    kernel.files_are_whole();
     kernel.work_in(at, number)?;
     kernel.is_sound();
     Ok(Came::Answers(0))

@@ -39,7 +39,7 @@ pub(crate) fn pending<D: BlockDev, T: Translate>(kernel: &Kernel<D, T>, number: 
         number,
         args: [kernel.argument(0), kernel.argument(1), kernel.argument(2)],
         done: 0,
-        since: kernel.ticks,
+        since: kernel.ticks(),
     }
 }
 

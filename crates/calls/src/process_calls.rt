@@ -46,7 +46,7 @@ pub(crate) fn fork<D: BlockDev, T: Translate>(kernel: &mut Kernel<D, T>, at: usi
     requires { Runs kernel.old at }
     ensures { Acts kernel.old kernel.new at (Some Call.Fork) result }
 {
-    let Ok(seat) = kernel.table.next_seat() else {
+    let Ok(seat) = kernel.next_seat() else {
         return Came::Refuses;
     };
     if !kernel.fork(at, seat) {
@@ -71,7 +71,7 @@ pub(crate) fn wait<D: BlockDev, T: Translate>(kernel: &mut Kernel<D, T>, at: usi
     ensures { Acts kernel.old kernel.new at (Some Call.Wait) result }
 {
     let parent = kernel.pid(at);
-    if !kernel.table.has_child(parent) || !can_answer(kernel, at, kernel.argument(0)) {
+    if !kernel.has_child(parent) || !can_answer(kernel, at, kernel.argument(0)) {
         return Came::Refuses;
     }
     let pending = pending(kernel, Call::Wait);

@@ -52,7 +52,7 @@ fn open_target<D: BlockDev, T: Translate>(
     let Some(id) = kernel.open_id(at, descriptor) else {
         return None;
     };
-    match kernel.files.file(usize::from(id)) {
+    match kernel.file(usize::from(id)) {
         Some(file) => Some(file.target),
         None => None,
     }
@@ -62,7 +62,7 @@ fn open_target<D: BlockDev, T: Translate>(
 fn has_end<D: BlockDev, T: Translate>(kernel: &Kernel<D, T>, pipe: usize, end: End) -> bool
     ensures { result ≡ has_end (opens_of kernel.now.files) pipe (end_of end) }
 {
-    kernel.files.has_end(pipe, end)
+    kernel.has_end(pipe, end)
 }
 
 // What the open file that a descriptor names is open on, where it is open for reading or writing.
@@ -79,8 +79,8 @@ fn target_for<D: BlockDev, T: Translate>(
     };
     let id = usize::from(id);
     match end {
-        End::Read => kernel.files.read(id).ok(),
-        End::Write => kernel.files.write(id).ok(),
+        End::Read => kernel.source(id).ok(),
+        End::Write => kernel.sink(id).ok(),
     }
 }
 
@@ -97,8 +97,8 @@ fn can_transfer<D: BlockDev, T: Translate>(
     ensures { result ≡ can_transfer end (view_at kernel.now.spaces at).memory address count }
 {
     match end {
-        End::Read => kernel.spaces.can_write(at, address, count),
-        End::Write => kernel.spaces.can_read(at, address, count),
+        End::Read => kernel.can_write(at, address, count),
+        End::Write => kernel.can_read(at, address, count),
     }
 }
 
@@ -199,7 +199,7 @@ fn read_file<D: BlockDev, T: Translate>(
     let Some(id) = kernel.open_id(at, low(pending.args[0])) else {
         unreachable!()
     };
-    kernel.tree.is_whole();
+    kernel.files_are_whole();
     let count = u64::from(low(pending.args[2]));
     match kernel.read_node(at, number as usize, offset, pending.args[1], count) {
         Ok(read) => {
@@ -247,7 +247,7 @@ fn read_pipe<D: BlockDev, T: Translate>(
     requires { OnThePipe kernel.old at End.Read pipe pending }
     ensures { GoesOn kernel.old kernel.new at pending result }
 {
-    if kernel.spaces.has_bytes(pipe) {
+    if kernel.has_bytes(pipe) {
         let count = low(pending.args[2]) as usize;
         let taken = kernel.read_pipe(at, pipe, pending.args[1], count);
         kernel.is_sound();
@@ -276,8 +276,8 @@ fn piece<D: BlockDev, T: Translate>(
     ensures most { length result.now ≤ most }
     ensures piece { IsFront result.now (piece_at Load (view_at kernel.now.spaces at).memory address) }
 {
-    kernel.spaces.pages_are_whole(at);
-    let piece = kernel.spaces.readable(at, address);
+    kernel.pages_are_whole(at);
+    let piece = kernel.readable(at, address);
     if piece.len() as u64 > most {
         &piece[..most as usize]
     } else {
@@ -301,7 +301,7 @@ fn print<D: BlockDev, T: Translate, W: Out>(
     ensures later { W.failures out.old ≤ W.failures out.new }
     ensures cause { OnErr result (Rises (W.failures out.old) (W.failures out.new)) }
 {
-    kernel.spaces.pages_are_whole(at);
+    kernel.pages_are_whole(at);
     let mut done = 0;
     while done < count {
         let piece = piece(kernel, at, address + done, count - done);

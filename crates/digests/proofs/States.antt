@@ -45,16 +45,11 @@ bare-same : (digest : ℕ) (memory : Memory) (p : Process) → bare_mixed digest
 unfolding bare_mixed
 bare-same digest memory p = refl
 
-place-done : (k : Kernel) (i digest bare now : ℕ) (p : Process) → Some p ≡ slot (loaded k).places i → bare ≡ bare_mixed digest (with_memory [] p) → now ≡ memory_mixed bare (memory_in (slot k.spaces.places i))
+pub place-done : (k : Kernel) (i digest bare now : ℕ) (p : Process) → Some p ≡ slot (loaded k).places i → bare ≡ bare_mixed digest (with_memory [] p) → now ≡ memory_mixed bare (memory_in (slot k.spaces.places i))
     → now ≡ place_mixed digest (process_at (state_of k) i)
 place-done k i digest bare now p is told all =
     let memory = memory_in (slot k.spaces.places i) in
     all ∙ ap (λ d. memory_mixed d memory) (told ∙ bare-same digest memory p) ∙ place-told k i digest (Some p) is
-
--- at is what the fields show, and k the kernel's value
-pub place-at : (at k : Kernel) → at ≡ k → (i digest bare now : ℕ) (p : Process) → Some p ≡ slot (loaded k).places i → bare ≡ bare_mixed digest (with_memory [] p) → now ≡ memory_mixed bare (memory_in (slot at.spaces.places i))
-    → now ≡ place_mixed digest (process_at (state_of k) i)
-place-at at k same i digest bare now p is told all = place-done k i digest bare now p is told (all ∙ ap (λ (x : Kernel). memory_mixed bare (memory_in (slot x.spaces.places i))) same)
 
 -- ---- the console
 

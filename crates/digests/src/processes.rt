@@ -122,7 +122,7 @@ fn mix_place<D: BlockDev, T: Translate>(digest: u64, kernel: &Kernel<D, T>, at: 
 {
     match kernel.whole(at) {
         None => mix(digest, 0),
-        Some(process) => mix_memory(mix_process(digest, &process), &kernel.spaces, at),
+        Some(process) => mix_memory(mix_process(digest, &process), kernel.spaces(), at),
     }
 }
 

@@ -41,7 +41,7 @@ fn mix_counts(ticks: u32, table: &Table, halted: Option<i32>) -> u64
 fn mix_front<D: BlockDev, T: Translate>(kernel: &Kernel<D, T>) -> u64
     ensures { result ≡ mixed start (front_of (state_of kernel.now)) }
 {
-    mix_counts(kernel.ticks, &kernel.table, kernel.halted)
+    mix_counts(kernel.ticks(), kernel.table(), kernel.halted())
 }
 
 /// The digest of a state, but for its files: they go in by `mix_files`.
@@ -49,7 +49,7 @@ fn mix_front<D: BlockDev, T: Translate>(kernel: &Kernel<D, T>) -> u64
 pub fn digest_but_files<D: BlockDev, T: Translate>(kernel: &Kernel<D, T>) -> u64
     ensures { result ≡ digest_but_files (state_of kernel.now) }
 {
-    let digest = mix_console(mix_front(kernel), &kernel.console);
+    let digest = mix_console(mix_front(kernel), kernel.console());
     let digest = mix_opens(mix_places(digest, kernel), kernel);
     mix_pipes(digest, kernel)
 }

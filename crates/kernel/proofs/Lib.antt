@@ -31,6 +31,7 @@ pub mod Counting
 pub mod Closing
 pub mod Opening
 pub mod Working
+pub mod Replacing
 pub mod Forking
 pub mod Piping
 pub mod Collecting

@@ -29,7 +29,7 @@ module _ {k : Kernel} {i : ℕ} {p : Process} {old : SpaceView} (r : IsRun k i p
     reheld-is : reheld k i h ≡ moved k i (with_size h.size p) h k.spaces.registers k.spaces.pc
     reheld-is = rw r.process refl
 
-    placed : IsPlaced (with_size h.size p) h
+    pub placed : IsPlaced (with_size h.size p) h
     placed = record {
       size = refl;
       zero = r.placed.zero;

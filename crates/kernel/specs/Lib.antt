@@ -3,6 +3,7 @@ pub mod Holding
 pub mod Kernel
 pub mod Opening
 pub mod Processes
+pub mod Replacing
 pub mod Disk
 pub mod Memory
 pub mod Sound

@@ -25,6 +25,7 @@ ghost use Rattle.unixmodel.specs.declared.trap.Access.TheVariants.{Load};
 ghost use Rattle.vm.specs.Reach.{piece_at};
 ghost use Rattle.unixmodel.specs.Turn.{ready, turn};
 
+mod asking;
 mod disk;
 mod duplicate;
 mod idle;
@@ -32,6 +33,7 @@ mod instructions;
 mod memory;
 mod open_files;
 mod processes;
+mod replacing;
 mod show;
 
 use crate::channels::{Channel, wakeup};
@@ -54,20 +56,20 @@ use unixmodel::trap::Trap;
 /// console.
 #[derive(Drop)]
 pub struct Kernel<D: BlockDev, T: Translate> {
-    /// The files of the disk.
-    pub tree: Tree<D>,
-    /// The processes.
-    pub table: Table,
-    /// Their spaces, and the hart.
-    pub spaces: Spaces<T>,
-    /// What their descriptors name.
-    pub files: Files,
-    /// What is typed.
-    pub console: Console,
-    /// Modulo 2^32.
-    pub ticks: u32,
-    /// The status of process 1, once it has ended.
-    pub halted: Option<i32>,
+    // The files of the disk.
+    tree: Tree<D>,
+    // The processes.
+    table: Table,
+    // Their spaces, and the hart.
+    spaces: Spaces<T>,
+    // What their descriptors name.
+    files: Files,
+    // What is typed.
+    console: Console,
+    // Modulo 2^32.
+    ticks: u32,
+    // The status of process 1, once it has ended.
+    halted: Option<i32>,
 }
 
 impl<D: BlockDev, T: Translate> Model for Kernel<D, T> {
@@ -159,6 +161,14 @@ impl<D: BlockDev, T: Translate> Kernel<D, T> {
     {
         let _registers = self.spaces.registers();
         let _pc = self.spaces.pc();
+    }
+
+    /// Gives up all processes for the files of the disk.
+    pub fn into_tree(self) -> Tree<D>
+        ensures { result ≡ self.tree }
+    {
+        let Kernel { tree, .. } = self;
+        tree
     }
 
     /// The status of process 1, once it has ended.

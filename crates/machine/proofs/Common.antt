@@ -11,7 +11,7 @@ pub use Rattle.std.proofs.lemmas.Result.{err_from_is_err_and}
 pub use Rattle.std.specs.Prelude.{◌==◌, IfErr, IfOk, IfSome, IsErrOf, IsSome, nat_lt, OnErr, OnOk, option_and_then, option_map, slice_index, sum_by, ◌||◌}
 pub use Rattle.std.specs.Result.{is_err}
 pub use Rattle.calls.proofs.Runs.{run-append, run-more, then_runs}
-pub use Rattle.calls.proofs.Served.{ok-told, on-err, tree-lost, where-err}
+pub use Rattle.calls.proofs.Served.{where-err}
 pub use Rattle.calls.specs.declared.halt.Halt.{Halt}
 pub use Rattle.calls.specs.declared.halt.Halt.TheVariants.{Console, Halted, InitEnded}
 unfoldable pub use Rattle.digests.specs.Digest.{digest_but_files, digest_of, files_mixed}
@@ -26,7 +26,6 @@ pub use Rattle.kernel.specs.Descriptors.{IsCounted, named_by, names_in}
 pub use Rattle.kernel.specs.Holding.{files_on, FitsNode, home_in, homes_at, IsFolder, IsInUse, node_in, node_of, node_on}
 pub use Rattle.kernel.specs.Kernel.{begun, Kernel, memory_in, state_of}
 pub use Rattle.kernel.specs.Sound.{IsKernel, IsLive, IsOpened, IsOpenFile, IsPlace, IsPlaced, WaitsWell}
-pub use Rattle.kernel.specs.View.{kernel_of}
 pub use Rattle.mount.specs.Mounted.{AreLinked, IsFlat, IsMounted, IsUnmounted}
 pub use Rattle.names.specs.Rules.{KeepsTree}
 pub use Rattle.proc.proofs.Joined.{joined-free_slots, seat_of-first}

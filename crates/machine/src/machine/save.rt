@@ -9,7 +9,7 @@ ghost use Rattle.unixmodel.specs.Image.{Denotes};
 
 use super::Machine;
 use blockdev::{BlockDev, DeviceFault};
-use calls::{Halt, Kernel};
+use calls::Halt;
 use mount::unmount;
 use sv39::Translate;
 use tree::Tree;
@@ -32,14 +32,6 @@ fn give_up<D: BlockDev>(tree: Tree<D>) -> Result<D, DeviceFault>
     Ok(disk)
 }
 
-// The files of a kernel, whose processes go.
-fn tree_of<D: BlockDev, T: Translate>(kernel: Kernel<D, T>) -> Tree<D>
-    ensures { result ≡ kernel.tree }
-{
-    let Kernel { tree, .. } = kernel;
-    tree
-}
-
 impl<D: BlockDev, T: Translate> Machine<D, T> {
     ghost use Rattle.machine.specs.Saved.{SaveGives};
 
@@ -55,6 +47,6 @@ impl<D: BlockDev, T: Translate> Machine<D, T> {
         }
         self.kernel.is_sound();
         let Machine { kernel, .. } = self;
-        Ok(give_up(tree_of(kernel))?)
+        Ok(give_up(kernel.into_tree())?)
     }
 }

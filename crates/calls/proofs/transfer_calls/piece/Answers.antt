@@ -1,9 +1,9 @@
-use Rattle.calls.proofs.Common.{◌<◌, length, kernel_of, view_at, Load, piece_at, piece-some}
+use Rattle.calls.proofs.Common.{◌<◌, length, view_at, Load, piece_at, piece-some}
 use Rattle.calls.proofs.transfer_calls.piece.Goals as goal
 
 pub returns-else-piece-most-clause-some : goal.returns-else-piece-most-clause-some
 returns-else-piece-most-clause-some g c =
-    let k = kernel_of c.kernel.inside in
+    let k = c.args.kernel.now in
     let some : 0 < length (piece_at Load (view_at k.spaces c.args.at).memory c.args.address) =
-    piece-some Load (view_at k.spaces c.args.at).memory c.args.address c.pages_are_whole.ensures.sized (rw (← c.kernel.view_is) at c.requires.readable) in
+    piece-some Load (view_at k.spaces c.args.at).memory c.args.address c.pages_are_whole.ensures.sized c.requires.readable in
     rw c.readable-piece.ensures some

@@ -9,19 +9,19 @@ read_node-requires-clause-node g c = reads-node c.args.kernel.now c.args.at c.ar
 
 pub overflow_add-offset : goal.overflow_add-offset
 overflow_add-offset g c =
-    let near = reads-near c.args.kernel.now c.args.at c.args.pending c.args.number c.args.offset c.requires (rw (← c.kernel.view_is) c.is_whole.ensures) (c.from-count.ensures ∙ c.low-2.ensures) c.in-Ok.ensures.told in
+    let near = reads-near c.args.kernel.now c.args.at c.args.pending c.args.number c.args.offset c.requires c.files_are_whole.ensures (c.from-count.ensures ∙ c.low-2.ensures) c.in-Ok.ensures.told in
     let low = c.low-in-Ok.ensures in
     omega (arith, near, low)
 
 pub set_offset-requires : goal.set_offset-requires
 set_offset-requires g c =
     let at = named-number c.requires.goes c.low.ensures _ c.open_id.ensures.named _ c.in-Some.is in
-    reads-may c.args.kernel.now c.args.at c.args.pending c.args.number c.args.offset c.requires (rw (← c.kernel.view_is) c.is_whole.ensures) (c.from-count.ensures ∙ c.low-2.ensures) c.in-Ok.ensures.told _ (c.from.ensures ∙ at) _ c.low-in-Ok.ensures
+    reads-may c.args.kernel.now c.args.at c.args.pending c.args.number c.args.offset c.requires c.files_are_whole.ensures (c.from-count.ensures ∙ c.low-2.ensures) c.in-Ok.ensures.told _ (c.from.ensures ∙ at) _ c.low-in-Ok.ensures
 
 pub returns-in-Ok : goal.returns-in-Ok
 returns-in-Ok g c =
     let at = named-number c.requires.goes c.low.ensures _ c.open_id.ensures.named _ c.in-Some.is in
-    reads-done c.args.kernel.now c.args.at c.args.pending c.args.number c.args.offset c.requires (rw (← c.kernel.view_is) c.is_whole.ensures) (c.from-count.ensures ∙ c.low-2.ensures) c.in-Ok.ensures.told _ (c.from.ensures ∙ at) _ c.low-in-Ok.ensures c.set_offset.ensures c.is_sound.ensures.sound (serves-disk c.in-Ok.ensures)
+    reads-done c.args.kernel.now c.args.at c.args.pending c.args.number c.args.offset c.requires c.files_are_whole.ensures (c.from-count.ensures ∙ c.low-2.ensures) c.in-Ok.ensures.told _ (c.from.ensures ∙ at) _ c.low-in-Ok.ensures c.set_offset.ensures c.is_sound.ensures.sound (serves-disk c.in-Ok.ensures)
 
 pub returns-in-Err : goal.returns-in-Err
 returns-in-Err g c = serves-disk c.in-Err.ensures

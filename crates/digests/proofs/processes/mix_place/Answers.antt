@@ -1,6 +1,5 @@
 use Rattle.std.proofs.Common.{sym, ◌∙◌}
-use Rattle.digests.proofs.States.{no-place, place-at}
-use Rattle.kernel.specs.View.{kernel_of}
+use Rattle.digests.proofs.States.{no-place, place-done}
 use Rattle.digests.proofs.processes.mix_place.Goals as goal
 
 pub returns-in-None : goal.returns-in-None
@@ -8,5 +7,5 @@ returns-in-None g c = c.mix.ensures ∙ no-place c.args.kernel.now c.args.at c.a
 
 pub returns-in-Some : goal.returns-in-Some
 returns-in-Some g c =
-    place-at (kernel_of c.kernel.inside) c.args.kernel.now c.kernel.view_is c.args.at c.args.digest c.mix_process.result c.mix_memory.result c.in-Some.process
-    (sym c.in-Some.is ∙ c.whole.ensures.process) c.mix_process.ensures c.mix_memory.ensures
+    place-done c.args.kernel.now c.args.at c.args.digest c.mix_process.result c.mix_memory.result c.in-Some.process
+    (sym c.in-Some.is ∙ c.whole.ensures.process) c.mix_process.ensures (rw c.spaces.ensures at c.mix_memory.ensures)
