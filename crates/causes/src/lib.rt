@@ -9,6 +9,3 @@ mod traps;
 pub use access::word;
 pub use fault::{Fault, Why, fault_of};
 pub use traps::cause;
-
-#[cfg(test)]
-mod rows;

@@ -11,6 +11,3 @@ pub use guesses::nearest;
 pub use manifests::{Misfit, misfit_of};
 pub use meanings::meaning;
 pub use noting::Noting;
-
-#[cfg(test)]
-mod rows;

@@ -6,8 +6,6 @@ mod fault;
 mod folder;
 mod put;
 mod system;
-#[cfg(test)]
-mod tests;
 
 pub use fault::{PutFault, StepFault};
 pub use folder::Folder;

@@ -2,8 +2,6 @@
 #![tactic(auto)]
 
 mod host;
-#[cfg(test)]
-mod tests;
 
 use commands::perform::perform;
 use commands::{Job, explain, explain_words, explains, job, refuse};

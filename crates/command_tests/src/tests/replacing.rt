@@ -1,5 +1,5 @@
 //! A folder in memory, in which each step fails in turn.
-use crate::{Folder, PutFault, StepFault, replace};
+use outputs::{Folder, PutFault, StepFault, replace};
 use std::alloc::{AllocError, Global};
 use std::process::Abort;
 

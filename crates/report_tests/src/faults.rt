@@ -1,5 +1,5 @@
 //! Programs of a few words, each run to its last: the fault that is told is the one that comes.
-use crate::fault_of;
+use causes::fault_of;
 use machine::{Halt, boot_flat};
 use std::alloc::Global;
 use unixmodel::event::Event;

@@ -1,11 +1,13 @@
 //! Stored runs: jobs done with files in memory, and what they have to write.
 mod images;
 mod living;
+mod meanings;
 mod migrating;
 mod openings;
 mod plays;
 mod program_files;
 mod progress;
+mod replacing;
 mod runs;
 mod telling;
 mod tracing;

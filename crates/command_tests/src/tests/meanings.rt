@@ -1,6 +1,6 @@
 //! Lines and what is told of them.
-use crate::words::{first_word, line_of, number_behind};
-use crate::{Noting, meaning, misfit_of, nearest};
+use explanations::words::{first_word, line_of, number_behind};
+use explanations::{Noting, meaning, misfit_of, nearest};
 use std::io::{Write, sink};
 
 #[test]
