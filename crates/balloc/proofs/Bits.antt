@@ -1,16 +1,6 @@
 -- One bit of a bitmap is written.
-use Rattle.std.proofs.Common.{◌≡◌, ◌≢◌, ℕ, ◌+◌, ◌-◌, ◌/◌, ◌%◌, ◌<◌, List, [], ◌∷◌, length, get_or, set, ap, sym, ◌∙◌, arith, inl, inr}
-use Rattle.std.proofs.lemmas.Bool.{cases_lt, cases_eq}
-use Rattle.std.specs.Int.{bit_at}
-use Rattle.blockdev.specs.Blocks.{block_at}
-use Rattle.blockdev.specs.Splice.{part, splice}
-use Rattle.blockdev.proofs.SpliceLemmas.{get_or-part, get_or-splice_before, get_or-splice_inside, get_or-splice_after}
-use Rattle.layout.specs.Super.{bitmap_start_of}
-use Rattle.layout.specs.declared.Geometry.{Geometry}
-use Rattle.layout.specs.Image.{bit_in}
-use Rattle.layout.specs.Sound.{HasParts}
-use Rattle.layout.proofs.Puts.{HasParts-kept, PutsBlock-write}
-use Rattle.balloc.specs.Bitmap.{SetsBit}
+use Rattle.balloc.proofs.Common.{◌≡◌, ◌≢◌, ℕ, ◌+◌, ◌-◌, ◌/◌, ◌%◌, ◌<◌, List, [], ◌∷◌, length, get_or, set, ap, sym, ◌∙◌, arith, inl, inr, cases_lt, cases_eq, bit_at, block_at, part, splice}
+use Rattle.balloc.proofs.Common.{get_or-part, get_or-splice_before, get_or-splice_inside, get_or-splice_after, bitmap_start_of, Geometry, bit_in, HasParts, HasParts-kept, PutsBlock-write, SetsBit}
 
 -- a bit of the byte that is written, and of another
 bit_in-same : (block : List ℕ) (p v j : ℕ) → p < length block → j / 8 ≡ p → bit_in (splice p (v ∷ []) block) j ≡ bit_at v (j % 8)

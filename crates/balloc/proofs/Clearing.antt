@@ -1,16 +1,11 @@
 -- The lowest clear bit of a block.
-use Rattle.std.proofs.Common.{◌≡◌, ◌≢◌, ℕ, ◌+◌, ◌-◌, ◌*◌, ◌/◌, ◌%◌, ◌^◌, ◌<◌, ◌≤◌, Bool, true, false, cond, eqb, not, List, length, get_or, map, replicate, None, Some, zero, suc, ap, sym, refl, ◌∙◌, arith, inl, inr, w8}
+use Rattle.balloc.proofs.Common.{◌≡◌, ◌≢◌, ℕ, ◌+◌, ◌-◌, ◌*◌, ◌/◌, ◌%◌, ◌^◌, ◌<◌, ◌≤◌, Bool, true, false, cond, eqb, not, List, length, get_or, map, replicate, None, Some, zero, suc, ap}
+use Rattle.balloc.proofs.Common.{sym, refl, ◌∙◌, arith, inl, inr, w8, ◌==◌, find, bit_at, cases_eq, cond-false, cond-true, eq-eqb, eqb-false, eqb-true, ne_eqb, not-false, not-true}
+use Rattle.balloc.proofs.Common.{bitmask_splat, length-chunk, none_from_empty_mask, run_in_chunk_fails, run_in_chunk_stops, trailing_mask_l, bit_at-lt, bit_at_ones, bit_in, lowest_clear}
 use lib.Count.{count_trailing_zeros}
-use Rattle.std.specs.Prelude.{◌==◌, find}
-use Rattle.std.specs.Int.{bit_at}
 use Rattle.std.specs.List.{prefix_len, range_with_len}
 use Rattle.std.specs.Simd.Lanes.{chunk, mask_l, top, zip2}
-use Rattle.std.proofs.lemmas.Bool.{cases_eq, cond-false, cond-true, eq-eqb, eqb-false, eqb-true, ne_eqb, not-false, not-true}
 use Rattle.std.proofs.lemmas.Option.{none-some, same_Some}
-use Rattle.std.proofs.lemmas.Simd.{bitmask_splat, length-chunk, none_from_empty_mask, run_in_chunk_fails, run_in_chunk_stops, trailing_mask_l}
-use Rattle.std.proofs.lemmas.Nat.Bits.{bit_at-lt, bit_at_ones}
-use Rattle.layout.specs.Image.{bit_in}
-use Rattle.balloc.specs.Bitmap.{lowest_clear}
 
 -- ---- the first number of a range that passes
 

@@ -1,14 +1,8 @@
 -- How a change of one bit changes the count of free blocks.
-use Rattle.std.proofs.Common.{set, drop, ap, sym, ◌∙◌, arith, refl, add-zero, Bool, true, false, cond}
-use Rattle.std.specs.Prelude.{◌≡◌, ℕ, ◌+◌, ◌-◌, ◌<◌, ◌≤◌, ◌==◌, List, [], ◌∷◌, length, get_or, count_by, zero, suc}
-use Rattle.std.proofs.lemmas.List.{ext_get_or}
+use Rattle.balloc.proofs.Common.{set, drop, ap, sym, ◌∙◌, arith, refl, add-zero, cond, ◌≡◌, ℕ, ◌+◌, ◌-◌, ◌<◌, ◌≤◌, ◌==◌, List, [], ◌∷◌, length, get_or}
+use Rattle.balloc.proofs.Common.{count_by, zero, suc, ext_get_or, bitmap_start_of, data_start_of, Geometry, set_from, IsFree, bit_of, data_bits, free_blocks, SetsBit}
 use Rattle.std.proofs.lemmas.List.Sums.{sum_by-cons, sum_by-set}
 use Rattle.std.proofs.lemmas.List.FromFn.{length-map-range_with_len, get_or-map-range_with_len}
-use Rattle.layout.specs.Super.{bitmap_start_of, data_start_of}
-use Rattle.layout.specs.declared.Geometry.{Geometry}
-use Rattle.layout.proofs.Frame.{set_from}
-use Rattle.layout.specs.Image.{IsFree, bit_of, data_bits, free_blocks}
-use Rattle.balloc.specs.Bitmap.{SetsBit}
 
 pub length-data_bits : (g : Geometry) (blocks : List (List ℕ)) → length (data_bits g blocks) ≡ g.size - data_start_of g.size g.inodes
 unfolding data_bits

@@ -1,11 +1,5 @@
 -- Free blocks are counted from a place on.
-use Rattle.std.proofs.Common.{◌≡◌, ℕ, ◌+◌, ◌-◌, ◌<◌, ◌≤◌, List, [], ◌∷◌, false, length, get_or, drop, zero, suc, ap, sym, ◌∙◌, arith}
-use Rattle.std.specs.Prelude.{nat_le}
-use Rattle.std.proofs.lemmas.Bool.{lt-leb}
-use Rattle.layout.specs.Super.{bitmap_start_of, data_start_of}
-use Rattle.layout.specs.declared.Geometry.{Geometry}
-use Rattle.layout.specs.Image.{bit_of, data_bits}
-use Rattle.balloc.specs.Bitmap.{IsFirstFree, IsFullFrom}
+use Rattle.balloc.proofs.Common.{◌≡◌, ℕ, ◌+◌, ◌-◌, ◌<◌, ◌≤◌, List, [], ◌∷◌, false, length, get_or, drop, zero, suc, ap, sym, ◌∙◌, arith, nat_le, lt-leb, bitmap_start_of, data_start_of, Geometry, bit_of, data_bits, IsFirstFree, IsFullFrom}
 use Rattle.balloc.proofs.Counting.{get_or-data_bits, length-data_bits, zeros-first, zeros-past, zeros-skip, zeros_in}
 
 zeros-here : (xs : List ℕ) (j : ℕ) → j < length xs → get_or xs j 0 ≡ 0 → zeros_in (drop j xs) ≡ 1 + zeros_in (drop (j + 1) xs)

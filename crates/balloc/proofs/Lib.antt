@@ -1,3 +1,4 @@
+mod Common
 mod Bits
 mod Clearing
 pub mod Enough

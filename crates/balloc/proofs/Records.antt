@@ -1,18 +1,11 @@
 -- The record of an inode without blocks is written.
-use Rattle.std.proofs.Common.{◌≡◌, ◌≢◌, ℕ, ◌+◌, ◌*◌, ◌/◌, ◌%◌, ◌^◌, ◌<◌, ◌≤◌, List, [], ◌∷◌, length, get_or, set, Option, Some, None, ap, ◌∙◌, arith, inr, refl}
-use Rattle.layout.specs.Inode.{Fits, inode_bytes}
+use Rattle.balloc.proofs.Common.{◌≡◌, ◌≢◌, ℕ, ◌+◌, ◌*◌, ◌/◌, ◌%◌, ◌^◌, ◌<◌, ◌≤◌, List, [], ◌∷◌, length, get_or, set, Option, Some, None, ap, ◌∙◌, arith, inr, refl, Fits, inode_bytes, bitmap_start_of}
+use Rattle.balloc.proofs.Common.{Geometry, IsInode, IsUsed, RawNode, bit_in, inode_at, node_at, node_with, nodes_of, IsSound, IsSound-replace, KeepsOthers, node_at-none, nodes_of-changed}
+use Rattle.balloc.proofs.Common.{Grows-keeps, Grows-node, Grows-sound, Grows-empty, HoldsBytes-empty, asks_none, zero_at, IsLowestUnused, IsUnused, SetsNode, fresh_inode, fresh_node}
 use Rattle.layout.specs.Numbers.{spelled}
-use Rattle.layout.specs.Super.{bitmap_start_of}
 use Rattle.layout.specs.declared.DiskInode.{DiskInode}
-use Rattle.layout.specs.declared.Geometry.{Geometry}
-use Rattle.layout.specs.Image.{IsInode, IsUsed, RawNode, bit_in, inode_at, node_at, node_with, nodes_of}
-use Rattle.layout.specs.Sound.{IsSound}
-use Rattle.layout.proofs.Frame.{IsSound-replace, KeepsOthers, node_at-none, nodes_of-changed}
 use Rattle.layout.specs.Grow.{Grows, WritesInode}
-use Rattle.layout.proofs.GrowLemmas.{Grows-keeps, Grows-node, Grows-sound}
-use Rattle.layout.proofs.Plain.{Grows-empty, HoldsBytes-empty, asks_none, zero_at}
 use Rattle.balloc.proofs.Counting.{free_blocks-same}
-use Rattle.balloc.specs.Inodes.{IsLowestUnused, IsUnused, SetsNode, fresh_inode, fresh_node}
 
 length-spelled : (xs : List ℕ) → length (spelled xs) ≡ 4 * length xs
 length-spelled [] = refl

@@ -1,12 +1,5 @@
 -- The records of one block are those of 16 numbers.
-use Rattle.std.proofs.Common.{◌≡◌, ◌≢◌, ℕ, ◌+◌, ◌-◌, ◌*◌, ◌/◌, ◌%◌, ◌<◌, ◌≤◌, List, ap, sym, ◌∙◌, arith, inl, inr}
-use Rattle.std.proofs.lemmas.Bool.{cases_lt}
-use Rattle.blockdev.specs.Blocks.{block_at}
-use Rattle.blockdev.specs.Splice.{part}
-use Rattle.layout.specs.declared.Geometry.{Geometry}
-use Rattle.layout.specs.Image.{inode_at}
-use Rattle.layout.specs.Inode.{inode_of}
-use Rattle.balloc.specs.Inodes.{IsLowestUnused}
+use Rattle.balloc.proofs.Common.{◌≡◌, ◌≢◌, ℕ, ◌+◌, ◌-◌, ◌*◌, ◌/◌, ◌%◌, ◌<◌, ◌≤◌, List, ap, sym, ◌∙◌, arith, inl, inr, cases_lt, block_at, part, Geometry, inode_at, inode_of, IsLowestUnused}
 
 abbrev pub kind_in : List ℕ → ℕ → ℕ
 kind_in block i = (inode_of (part (64 * i) 64 block)).kind

@@ -1,11 +1,5 @@
 -- The bits of one block of the bitmap are those of 8192 blocks.
-use Rattle.std.proofs.Common.{◌≡◌, ℕ, ◌+◌, ◌-◌, ◌*◌, ◌/◌, ◌%◌, ◌<◌, ◌≤◌, List, None, Some, ap, sym, ◌∙◌, arith, inl, inr}
-use Rattle.std.proofs.lemmas.Bool.{cases_lt}
-use Rattle.blockdev.specs.Blocks.{block_at}
-use Rattle.layout.specs.Super.{bitmap_start_of, data_start_of}
-use Rattle.layout.specs.declared.Geometry.{Geometry}
-use Rattle.layout.specs.Image.{bit_in, bit_of}
-use Rattle.balloc.specs.Bitmap.{IsFirstFree, lowest_clear}
+use Rattle.balloc.proofs.Common.{◌≡◌, ℕ, ◌+◌, ◌-◌, ◌*◌, ◌/◌, ◌%◌, ◌<◌, ◌≤◌, List, None, Some, ap, sym, ◌∙◌, arith, inl, inr, cases_lt, block_at, bitmap_start_of, data_start_of, Geometry, bit_in, bit_of, IsFirstFree, lowest_clear}
 use Rattle.balloc.proofs.Clearing.{clear_found, none_clear}
 
 module _ (g : Geometry) (blocks : List (List ℕ)) (block : List ℕ) {start : ℕ} (b : ℕ) (begins : start ≡ bitmap_start_of g.inodes) (is : block ≡ block_at blocks (start + b / 8192)) where

@@ -1,9 +1,5 @@
 -- Free blocks that a search found are taken.
-use Rattle.std.proofs.Common.{◌≡◌, ℕ, ◌+◌, List, subst, arith}
-use Rattle.layout.specs.Super.{data_start_of}
-use Rattle.layout.specs.declared.Geometry.{Geometry}
-use Rattle.layout.specs.Image.{free_blocks}
-use Rattle.balloc.specs.Bitmap.{IsFirstFree, IsFullFrom, SetsBit, TakesLowest}
+use Rattle.balloc.proofs.Common.{◌≡◌, ℕ, ◌+◌, List, subst, arith, data_start_of, Geometry, free_blocks, IsFirstFree, IsFullFrom, SetsBit, TakesLowest}
 use Rattle.balloc.proofs.Counting.{free_blocks-none, free_blocks-take}
 
 pub TakesLowest-free : {g : Geometry} {old new : List (List ℕ)} {b : ℕ} → TakesLowest g old new b → free_blocks g new + 1 ≡ free_blocks g old

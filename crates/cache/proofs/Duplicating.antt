@@ -1,14 +1,8 @@
 -- The blocks of a cache are put into another one, from the last used to the first.
-use Rattle.std.proofs.Common.{◌≡◌, ℕ, ◌-◌, ◌≤◌, List, [], ◌∷◌, ◌++◌, length, None, nat_eq, sym, ap, subst, ◌∙◌, arith}
-use Rattle.std.specs.List.{IsDistinct}
-use Rattle.std.specs.Map.{keys_of, lookup}
-use Rattle.std.specs.Cmp.{nat_eq_equiv}
-use Rattle.std.proofs.lemmas.List.{append_assoc, length-append, take_all}
+use Rattle.cache.proofs.Common.{◌≡◌, ℕ, ◌-◌, ◌≤◌, List, [], ◌∷◌, ◌++◌, length, None, nat_eq, sym, ap, subst, ◌∙◌, arith, IsDistinct, keys_of, lookup}
+use Rattle.cache.proofs.Common.{nat_eq_equiv, append_assoc, length-append, take_all, none_past_head, LruCache, IsValid, lru_cache, put_entries, Slot}
 use Rattle.std.proofs.lemmas.Map.{lookup-none}
-use Rattle.std.proofs.lemmas.Map.Entries.{none_past_head}
 use Rattle.std.proofs.lemmas.Map.Keys.{IsDistinct-tail}
-use Rattle.lru.specs.LruCache.{LruCache, IsValid, lru_cache, put_entries}
-use Rattle.cache.specs.declared.held.Slot.{Slot}
 use Rattle.cache.proofs.Entries.{put-is}
 
 -- the blocks of held that stand before rest are those of copy

@@ -1,11 +1,6 @@
 -- How steps on a disk follow one another, and how a call of several ends.
-use Rattle.std.proofs.Common.{◌≡◌, ◌≤◌, ℕ, Err, List, Ok, Result, ap, arith, refl, ◌∙◌}
+use Rattle.cache.proofs.Common.{◌≡◌, ◌≤◌, ℕ, Err, List, Ok, Result, ap, arith, refl, ◌∙◌, IsErrAnd, is_err, DeviceFault, Disk, Goes, Reads, Steps, Rises}
 use Rattle.std.proofs.lemmas.Result.{err_from_is_err_and}
-use Rattle.std.specs.Result.{IsErrAnd, is_err}
-use Rattle.blockdev.specs.declared.DeviceFault.{DeviceFault}
-use Rattle.cache.specs.Disk.{Disk}
-use Rattle.cache.specs.Steps.{Goes, Reads, Steps}
-use Rattle.unixmodel.specs.Failures.{Rises}
 
 pub rises-before : {a b c : ℕ} → a ≤ b → Rises b c → Rises a c
 rises-before {a} {b} {c} h f = omega arith

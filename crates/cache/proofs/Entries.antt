@@ -1,10 +1,6 @@
 -- What a look-up finds in the entries of a map after a use, a new value and a new entry.
-use Rattle.std.proofs.Common.{◌≡◌, ◌≢◌, ◌⊎◌, ℕ, zero, suc, ◌-◌, ◌≤◌, true, false, cond, List, [], ◌∷◌, length, take, slice_get, Option, Some, None, nat_eq, ap, sym, ◌∙◌, refl, arith, inl, inr}
-use Rattle.std.specs.Map.{lookup, lookup_entry, remove_entry, set_value}
-use Rattle.std.specs.Option.{option_map_or}
-use Rattle.std.proofs.lemmas.Bool.{cases_eq}
-use Rattle.std.proofs.lemmas.Bool.Decides.{nat_tests}
-use Rattle.lru.specs.LruCache.{promoted, put_entries, LruCache}
+use Rattle.cache.proofs.Common.{◌≡◌, ◌≢◌, ◌⊎◌, ℕ, zero, suc, ◌-◌, ◌≤◌, true, false, cond, List, [], ◌∷◌, length, take, slice_get, Option, Some, None, nat_eq, ap, sym, ◌∙◌}
+use Rattle.cache.proofs.Common.{refl, arith, inl, inr, lookup, lookup_entry, remove_entry, set_value, option_map_or, cases_eq, nat_tests, promoted, put_entries, LruCache}
 
 pub eq_true : (a b : ℕ) → a ≡ b → nat_eq a b ≡ true
 eq_true a b h = grind (arith, nat_tests)

@@ -1,14 +1,6 @@
 -- The held blocks are written in rising order of number.
-use Rattle.std.proofs.Common.{◌≡◌, ℕ, ◌+◌, ◌-◌, ◌^◌, ◌≤◌, ◌<◌, Bool, true, false, ◌||◌, List, [], length, set, get_or, Some, None, nat_eq, sym, ap, subst, ◌∙◌, arith, inl, inr, Fits, w64}
-use Rattle.std.specs.Option.{option_map_or}
-use Rattle.std.specs.Map.{lookup, set_value}
-use Rattle.std.proofs.lemmas.List.{length-set, get_or-set_same, get_or-set_other}
-use Rattle.std.proofs.lemmas.Bool.{cases_eq, cases_lt, or_parts}
-use Rattle.blockdev.specs.Blocks.{block_at}
-use Rattle.cache.specs.declared.held.Slot.{Slot}
-use Rattle.lru.specs.LruCache.{LruCache}
-use Rattle.cache.specs.Next.{next_of}
-use Rattle.cache.specs.Overlay.{AreFlushed, AreKept, cleaned, overlay}
+use Rattle.cache.proofs.Common.{◌≡◌, ℕ, ◌+◌, ◌-◌, ◌^◌, ◌≤◌, ◌<◌, Bool, true, false, ◌||◌, List, [], length, set, get_or, Some, None, nat_eq, sym, ap, subst, ◌∙◌, arith, inl, inr, Fits, w64, option_map_or}
+use Rattle.cache.proofs.Common.{lookup, set_value, length-set, get_or-set_same, get_or-set_other, cases_eq, cases_lt, or_parts, block_at, Slot, LruCache, next_of, AreFlushed, AreKept, cleaned, overlay}
 use Rattle.cache.proofs.Entries.{lookup-set_other, lookup-set_same}
 use Rattle.cache.proofs.Overlays.{AreKept-doubt, AreKept-set, AreKept-written, held-some, length-overlay, overlay-is, overlay-same}
 use Rattle.cache.proofs.Scanning.{IsAtMost, found-of, settled}

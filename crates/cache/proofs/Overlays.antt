@@ -1,14 +1,7 @@
 -- Equations on what a device and the blocks over it show.
-use Rattle.std.proofs.Common.{◌≡◌, ◌≢◌, ℕ, ◌<◌, Bool, true, List, [], length, get_or, set, Result, Ok, Err, OnOk, OnErr, Option, Some, None, nat_eq, refl, sym, ap, subst, ◌∙◌, arith, inl, inr}
-use Rattle.std.specs.Option.{option_map_or}
-use Rattle.std.specs.Map.{lookup, set_value}
-use Rattle.std.proofs.lemmas.List.{length-set, get_or-set_same, get_or-set_other, ext_get_or}
+use Rattle.cache.proofs.Common.{◌≡◌, ◌≢◌, ℕ, ◌<◌, Bool, true, List, [], length, get_or, set, Result, Ok, Err, OnOk, OnErr, Option, Some, None, nat_eq, refl, sym, ap, subst, ◌∙◌, arith, inl, inr}
+use Rattle.cache.proofs.Common.{option_map_or, lookup, set_value, length-set, get_or-set_same, get_or-set_other, ext_get_or, cases_eq, promoted, AreBlocks, block_at, Slot, AreKept, IsKept, kept_or, overlay}
 use Rattle.std.proofs.lemmas.List.FromFn.{length-map-range_with_len, get_or-map-range_with_len}
-use Rattle.std.proofs.lemmas.Bool.{cases_eq}
-use Rattle.lru.specs.LruCache.{promoted}
-use Rattle.blockdev.specs.Blocks.{AreBlocks, block_at}
-use Rattle.cache.specs.declared.held.Slot.{Slot}
-use Rattle.cache.specs.Overlay.{AreKept, IsKept, kept_or, overlay}
 use Rattle.cache.proofs.Entries.{lookup-promoted, lookup-set_other, lookup-set_same}
 
 pub held-some : (es : List (ℕ × Slot)) (c : List (List ℕ)) (k : ℕ) (s : Slot) → lookup (nat_eq k) es ≡ Some s → kept_or es c k ≡ s.bytes

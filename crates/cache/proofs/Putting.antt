@@ -1,17 +1,8 @@
 -- A block comes into the cache, and another leaves.
-use Rattle.std.proofs.Common.{◌≡◌, ◌≢◌, ℕ, ◌-◌, ◌<◌, ◌≤◌, Bool, false, ◌||◌, Bor, List, [], ◌∷◌, length, set, take, slice_get, Result, Ok, Err, OnOk, Option, Some, None, nat_eq, refl, sym, ap, subst, ◌∙◌, arith, inl, inr}
-use Rattle.std.specs.List.{IsDistinct}
-use Rattle.std.specs.Option.{option_map_or, option_map}
+use Rattle.cache.proofs.Common.{◌≡◌, ◌≢◌, ℕ, ◌-◌, ◌<◌, ◌≤◌, Bool, false, ◌||◌, Bor, List, [], ◌∷◌, length, set, take, slice_get, Result, Ok, Err, OnOk, Option, Some, None}
+use Rattle.cache.proofs.Common.{nat_eq, refl, sym, ap, subst, ◌∙◌, arith, inl, inr, IsDistinct, option_map_or, option_map, keys_of, lookup, nat_eq_equiv, cases_eq, or_parts}
+use Rattle.cache.proofs.Common.{lookup_from_place, get_or-set_same, LruCache, put_entries, last_entry, block_at, Slot, AreKept, IsKept, IsLastSafe, kept_or, overlay}
 use Rattle.std.specs.Map.Iter.{deref_pair}
-use Rattle.std.specs.Map.{keys_of, lookup}
-use Rattle.std.specs.Cmp.{nat_eq_equiv}
-use Rattle.std.proofs.lemmas.Bool.{cases_eq, or_parts}
-use Rattle.std.proofs.lemmas.Map.Entries.{lookup_from_place}
-use Rattle.std.proofs.lemmas.List.{get_or-set_same}
-use Rattle.lru.specs.LruCache.{LruCache, put_entries, last_entry}
-use Rattle.blockdev.specs.Blocks.{block_at}
-use Rattle.cache.specs.declared.held.Slot.{Slot}
-use Rattle.cache.specs.Overlay.{AreKept, IsKept, IsLastSafe, kept_or, overlay}
 use Rattle.cache.proofs.Entries.{lookup-cut, lookup-here, lookup-later, put-is}
 use Rattle.cache.proofs.Overlays.{held-some, held-none, overlay-same}
 

@@ -1,10 +1,6 @@
 -- What the search for the next block to write finds.
-use Rattle.std.proofs.Common.{◌≡◌, ◌⊎◌, ℕ, ◌≤◌, Bool, true, false, ◌&&◌, ◌||◌, cond, List, [], ◌∷◌, Option, Some, None, min, nat_eq, nat_le, refl, sym, ap, subst, ◌∙◌, arith, inl, inr}
-use Rattle.std.specs.Map.{lookup}
-use Rattle.std.proofs.lemmas.Bool.{cases_eq, cases_lt}
-use Rattle.std.proofs.lemmas.Bool.Decides.{nat_tests}
-use Rattle.cache.specs.declared.held.Slot.{Slot}
-use Rattle.cache.specs.Next.{is_due, lower, next_of, scan}
+use Rattle.cache.proofs.Common.{◌≡◌, ◌⊎◌, ℕ, ◌≤◌, Bool, true, false, ◌&&◌, ◌||◌, cond, List, [], ◌∷◌, Option, Some, None, min, nat_eq, nat_le, refl}
+use Rattle.cache.proofs.Common.{sym, ap, subst, ◌∙◌, arith, inl, inr, lookup, cases_eq, cases_lt, nat_tests, Slot, is_due, lower, next_of, scan}
 use Rattle.cache.proofs.Entries.{lookup-here, lookup-later}
 
 -- a number is there, and not above k

@@ -1,14 +1,7 @@
 -- What is seen of a cache, before and after accesses of its device.
-use Rattle.std.proofs.Common.{◌≡◌, ◌≤◌, ℕ, ap, arith, length, subst, sym, ◌∙◌, Err, List, Ok, OnOk, Result}
-use Rattle.std.specs.Result.{IsErrAnd, is_err}
-use Rattle.blockdev.specs.declared.DeviceFault.{DeviceFault}
-use Rattle.cache.specs.Disk.{Disk}
-use Rattle.cache.specs.Overlay.{overlay}
-use Rattle.cache.specs.Steps.{Goes, Steps}
-use Rattle.cache.specs.declared.held.Slot.{Slot}
+use Rattle.cache.proofs.Common.{◌≡◌, ◌≤◌, ℕ, ap, arith, length, subst, sym, ◌∙◌, Err, List, Ok, OnOk, Result, IsErrAnd, is_err, DeviceFault, Disk, overlay, Goes, Steps, Slot, HasCause, Rises}
 use Rattle.cache.proofs.Ending.{rises-before, step-lost}
 use Rattle.cache.proofs.Overlays.{length-overlay}
-use Rattle.unixmodel.specs.Failures.{HasCause, Rises}
 
 module _ {D : Type 0} (content : D → List (List ℕ)) (failures : D → ℕ) where
   abbrev pub seen : List (ℕ × Slot) → D → Disk D

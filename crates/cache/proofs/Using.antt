@@ -1,16 +1,8 @@
 -- A cache between the look-up of a block and the end of the call.
-use Rattle.std.proofs.Common.{◌≡◌, ℕ, ◌+◌, ◌-◌, drop, take, ◌<◌, ◌≤◌, Bool, false, true, Bor, MutBor, List, length, set, Result, Ok, Err, OnOk, OnErr, Option, Some, None, nat_eq, sym, ap, subst, ◌∙◌, arith}
+use Rattle.cache.proofs.Common.{◌≡◌, ℕ, ◌+◌, ◌-◌, drop, take, ◌<◌, ◌≤◌, Bool, false, true, Bor, MutBor, List, length, set, Result, Ok, Err, OnOk, OnErr, Option, Some, None, nat_eq, sym, ap, subst, ◌∙◌, arith, UnwrapsOrElse}
+use Rattle.cache.proofs.Common.{option_copied, option_copied_mut, lookup, set_value, LruCache, lru_cache, promoted, put_entries, AreBlocks, block_at, part, splice, length-splice, put_mid-splice, Disk, Slot, AreKept, IsLastSafe, overlay}
 use Rattle.std.specs.Prelude.{IfOk, MatchResult}
-use Rattle.std.specs.Option.{UnwrapsOrElse, option_copied, option_copied_mut}
-use Rattle.std.specs.Map.{lookup, set_value}
 use borrow.Rule.Slice.PartMut.{put_mid}
-use Rattle.lru.specs.LruCache.{LruCache, lru_cache, promoted, put_entries}
-use Rattle.blockdev.specs.Blocks.{AreBlocks, block_at}
-use Rattle.blockdev.specs.Splice.{part, splice}
-use Rattle.blockdev.proofs.SpliceLemmas.{length-splice, put_mid-splice}
-use Rattle.cache.specs.Disk.{Disk}
-use Rattle.cache.specs.declared.held.Slot.{Slot}
-use Rattle.cache.specs.Overlay.{AreKept, IsLastSafe, overlay}
 use Rattle.cache.proofs.Entries.{lookup-promoted}
 use Rattle.cache.proofs.Overlays.{AreKept-passed, AreKept-promoted, AreKept-set, at-overlay, held-none, held-some, length-overlay, overlay-other, overlay-promoted, overlay-set}
 use Rattle.cache.proofs.Putting.{AreKept-put, overlay-read}

@@ -1,25 +1,17 @@
 -- What instructions give, against values that were worked out by another program.
 -- Register 6 is a, register 7 is b, the pc is 0x1000, and rd is 5.
-use Rattle.std.specs.Prelude.{Err, List, None, Ok, Option, Some, [], false, flat_map, map, refl, slice_index, slice_range, true, ℕ, ◌++◌, ◌+◌, ◌∷◌, ◌≡◌}
+use Rattle.model_examples.proofs.Common.{Err, List, None, Ok, Option, Some, [], false, flat_map, map, refl, slice_index, slice_range, true, ℕ, ◌++◌, ◌+◌, ◌∷◌, ◌≡◌, Addi, Andi, Ori}
+use Rattle.model_examples.proofs.Common.{Slti, Sltiu, Xori, RegOp, Add, And, Or, Sll, Slt, Sltu, Sra, Srl, Sub, Xor, RegOpW, Addw, Sllw, Sraw, Srlw, Subw, InstructionMisaligned}
+use Rattle.model_examples.proofs.Common.{LoadMisaligned, LoadPageFault, StoreMisaligned, StorePageFault, Trap, Effect, act, Memory, Page, pages_of, zero_page, zeros, memory_after}
 use Rattle.unixmodel.specs.declared.instr.BranchOp.{BranchOp}
 use Rattle.unixmodel.specs.declared.instr.BranchOp.TheVariants.{Beq, Bge, Bgeu, Blt, Bltu, Bne}
 use Rattle.unixmodel.specs.declared.instr.ImmOp.{ImmOp}
-use Rattle.unixmodel.specs.declared.instr.ImmOp.TheVariants.{Addi, Andi, Ori, Slti, Sltiu, Xori}
 use Rattle.unixmodel.specs.declared.instr.Instr.{Instr}
 use Rattle.unixmodel.specs.declared.instr.LoadOp.{LoadOp}
 use Rattle.unixmodel.specs.declared.instr.LoadOp.TheVariants.{Lb, Lbu, Ld, Lh, Lhu, Lw, Lwu}
-use Rattle.unixmodel.specs.declared.instr.RegOp.{RegOp}
-use Rattle.unixmodel.specs.declared.instr.RegOp.TheVariants.{Add, And, Or, Sll, Slt, Sltu, Sra, Srl, Sub, Xor}
-use Rattle.unixmodel.specs.declared.instr.RegOpW.{RegOpW}
-use Rattle.unixmodel.specs.declared.instr.RegOpW.TheVariants.{Addw, Sllw, Sraw, Srlw, Subw}
 use Rattle.unixmodel.specs.declared.instr.StoreOp.{StoreOp}
 use Rattle.unixmodel.specs.declared.instr.StoreOp.TheVariants.{Sb, Sd, Sh, Sw}
-use Rattle.unixmodel.specs.declared.trap.Cause.TheVariants.{InstructionMisaligned, LoadMisaligned, LoadPageFault, StoreMisaligned, StorePageFault}
-use Rattle.unixmodel.specs.declared.trap.Trap.{Trap}
 use Rattle.model_examples.proofs.Opened.{all_opened}
-use Rattle.unixmodel.specs.Meaning.{Effect, act}
-use Rattle.unixmodel.specs.Memory.{Memory, Page, pages_of, zero_page, zeros}
-use Rattle.unixmodel.specs.Next.{memory_after}
 use Rattle.unixmodel.specs.declared.instr.Instr.TheVariants as instr
 use Rattle.unixmodel.specs.declared.instr.ShiftOp.{ShiftOp}
 use Rattle.unixmodel.specs.declared.instr.ShiftOp.TheVariants as shift

@@ -1,10 +1,6 @@
 -- What assembly texts mean, or what is wrong with them, and the texts of words.
-use Rattle.std.specs.Prelude.{Err, List, Ok, Result, [], codes, length, map, refl, replicate, ℕ, ◌++◌, ◌∷◌, ◌≡◌}
+use Rattle.model_examples.proofs.Common.{Err, List, Ok, Result, [], codes, length, map, refl, replicate, ℕ, ◌++◌, ◌∷◌, ◌≡◌, assembled, object, word_text, elf_file, le}
 use Rattle.model_examples.proofs.Opened.{all_opened}
-use Rattle.unixmodel.specs.Assembly.{assembled, object}
-use Rattle.unixmodel.specs.Disassembly.{word_text}
-use Rattle.unixmodel.specs.ElfFile.{elf_file}
-use Rattle.unixmodel.specs.Numbers.{le}
 use Rattle.unixmodel.specs.declared.assembly.AsmKind.{AsmKind}
 use Rattle.unixmodel.specs.declared.assembly.AsmKind.TheVariants.{Align, Label, Mnemonic, Operand, Range, Syntax, Twice}
 

@@ -1,15 +1,8 @@
 -- Small cases of the console.
-use Rattle.std.specs.Prelude.{List, None, Some, [], map, refl, replicate, slice_index, unwrap_or, ℕ, ◌++◌, ◌∷◌, ◌≡◌}
+use Rattle.model_examples.proofs.Common.{List, None, Some, [], map, refl, replicate, slice_index, unwrap_or, ℕ, ◌++◌, ◌∷◌, ◌≡◌, Event, Key, Step, Waiting, After, read_bytes, run, State, process_at}
 use Rattle.unixmodel.specs.declared.call.Call.TheVariants.{Read}
-use Rattle.unixmodel.specs.declared.event.Event.{Event}
-use Rattle.unixmodel.specs.declared.event.Event.TheVariants.{Key, Step}
-use Rattle.unixmodel.specs.declared.process.Mode.TheVariants.{Waiting}
 use Rattle.model_examples.proofs.Opened.{all_opened}
 use Rattle.model_examples.proofs.Scripts.{Asked, answer_at, answers_to, ask, bytes_in, flat_state, mode_of, plain}
-use Rattle.unixmodel.specs.Calls.{After}
-use Rattle.unixmodel.specs.Memory.{read_bytes}
-use Rattle.unixmodel.specs.Run.{run}
-use Rattle.unixmodel.specs.State.{State, process_at}
 
 abbrev pub keys : List ℕ → List Event
 keys = map Key

@@ -1,17 +1,9 @@
 -- Small cases of many processes: fork, exit, wait, kill, sleep and the turn.
-use Rattle.std.specs.Prelude.{Bool, List, None, Option, Some, [], false, map, negsuc, option_map, refl, replicate, true, ℕ, ◌++◌, ◌∷◌, ◌≡◌}
+use Rattle.model_examples.proofs.Common.{Bool, List, None, Option, Some, [], false, map, negsuc, option_map, refl, replicate, true, ℕ, ◌++◌, ◌∷◌, ◌≡◌}
+use Rattle.model_examples.proofs.Common.{frames_of, free_frames, Step, Tick, Zombie, Page, minus_one, Process, run, turns, shown_process, State, process_at}
 use Rattle.model_examples.proofs.Opened.{all_opened}
 use Rattle.model_examples.proofs.ProcessRows.{below_zero, free_after, sbrk}
 use Rattle.model_examples.proofs.Scripts.{Asked, answers_to, ask, ask_all, bytes_in, flat_state, on_flat, plain, runs_with}
-use Rattle.unixmodel.specs.Counts.{frames_of, free_frames}
-use Rattle.unixmodel.specs.declared.event.Event.TheVariants.{Step, Tick}
-use Rattle.unixmodel.specs.declared.process.Mode.TheVariants.{Zombie}
-use Rattle.unixmodel.specs.Memory.{Page}
-use Rattle.unixmodel.specs.Outcome.{minus_one}
-use Rattle.unixmodel.specs.Process.{Process}
-use Rattle.unixmodel.specs.Run.{run, turns}
-use Rattle.unixmodel.specs.Shown.{shown_process}
-use Rattle.unixmodel.specs.State.{State, process_at}
 
 abbrev pub fork : Asked
 fork = plain 1 []

@@ -1,21 +1,9 @@
 -- Programs of bytes alone: one that prints hi and ends with status 0 in nine steps, one of no bytes, some that
 -- access what isn't theirs, and the longest that 64 frames hold.
-use Rattle.std.specs.Prelude.{Err, List, None, Ok, Option, Some, false, is_some, map, negsuc, option_and_then, option_map, pos, refl, replicate, slice_index, true, [], ℕ, ℤ, ◌++◌, ◌+◌, ◌∷◌, ◌≡◌}
-use Rattle.unixmodel.specs.declared.event.Event.{Event}
-use Rattle.unixmodel.specs.declared.event.Event.TheVariants.{Step, Tick}
+use Rattle.model_examples.proofs.Common.{Err, List, None, Ok, Option, Some, false, is_some, map, negsuc, option_and_then, option_map, pos, refl, replicate, slice_index, true, [], ℕ, ℤ, ◌++◌, ◌+◌, ◌∷◌, ◌≡◌}
+use Rattle.model_examples.proofs.Common.{Event, Step, Tick, After, le, run, start_flat, turn, Breakpoint, IllegalInstruction, LoadPageFault, StorePageFault, Trap, Effect, effect_of, Process, process_at}
 use Rattle.model_examples.proofs.Opened.{all_opened}
-use Rattle.unixmodel.specs.Calls.{After}
-use Rattle.unixmodel.specs.Numbers.{le}
-use Rattle.unixmodel.specs.Run.{run}
-use Rattle.unixmodel.specs.Start.{start_flat}
-use Rattle.unixmodel.specs.Turn.{turn}
 use Rattle.unixmodel.specs.declared.trap.Cause.{Cause}
-use Rattle.unixmodel.specs.declared.trap.Cause.TheVariants.{Breakpoint, IllegalInstruction, LoadPageFault, StorePageFault}
-use Rattle.unixmodel.specs.declared.trap.Trap.{Trap}
-use Rattle.unixmodel.specs.Meaning.{Effect}
-use Rattle.unixmodel.specs.Next.{effect_of}
-use Rattle.unixmodel.specs.Process.{Process}
-use Rattle.unixmodel.specs.State.{process_at}
 
 -- the file: seven instructions and ecalls, then the bytes of hi and a line feed
 abbrev pub hi_program : List ℕ

@@ -1,19 +1,14 @@
 -- The image of a root with the console: 32 blocks, 16 inodes.
-use Rattle.std.specs.Prelude.{Bool, IsSome, List, None, Option, Some, T, [], drop, false, is_some, length, map, nat_lt, refl, suc, true, zero, ℕ, ◌*◌, ◌++◌, ◌-◌, ◌<◌, ◌==◌, ◌||◌, ◌∷◌, ◌≡◌, ◌≤◌}
+use Rattle.model_examples.proofs.Common.{Bool, IsSome, List, None, Option, Some, T, [], drop, false, is_some, length, map, nat_lt, refl, suc, true, zero, ℕ, ◌*◌, ◌++◌, ◌-◌, ◌<◌, ◌==◌, ◌||◌, ◌∷◌, ◌≡◌, ◌≤◌, range_with_len, Entry}
+use Rattle.model_examples.proofs.Common.{dot, dot_dot, find, node_bytes, slot, taken, Denotes, HasSpares, HasSuper, IsDirectory, KeepsNode, KeepsRules, KeepsSize, Stands, bit_of, contents_in, is_data_block, is_name, is_named}
+use Rattle.model_examples.proofs.Common.{named_blocks, names_of, number_in, numbers_in_use, parent_of, subdirectories, super_number, zeros, le, low, IsSpare, first_of, holder_of, in_record, console_name, console_root, flat_files}
 use Rattle.std.proofs.Common.{get_or, ap, arith, eqb→eq, lit≤, subst, sym, ◌∙◌}
 use Rattle.std.proofs.lemmas.Bool.{false≢true}
 use Rattle.std.proofs.lemmas.Bool.Decides.{nat_tests}
 use Rattle.std.proofs.lemmas.List.FromFn.{get_or-map-range_with_len}
 use Rattle.std.proofs.lemmas.List.Sums.{AllPass-from_list_all}
-use Rattle.std.specs.List.{range_with_len}
 use Rattle.model_examples.proofs.Opened.{all_opened}
-use Rattle.unixmodel.specs.Files.{Entry, dot, dot_dot, find, node_bytes, slot, taken}
 use Rattle.unixmodel.specs.Formats.{large}
-use Rattle.unixmodel.specs.Image.{Denotes, HasSpares, HasSuper, IsDirectory, KeepsNode, KeepsRules, KeepsSize, Stands, bit_of, contents_in, is_data_block, is_name, is_named, named_blocks, names_of, number_in, numbers_in_use, parent_of, subdirectories, super_number}
-use Rattle.unixmodel.specs.Memory.{zeros}
-use Rattle.unixmodel.specs.Numbers.{le, low}
-use Rattle.unixmodel.specs.Slots.{IsSpare, first_of, holder_of, in_record}
-use Rattle.unixmodel.specs.Start.{console_name, console_root, flat_files}
 
 abbrev pub console_image : List ℕ
 console_image =

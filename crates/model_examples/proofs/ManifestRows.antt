@@ -1,14 +1,9 @@
 -- Small manifests: what they make, and what is wrong with others.
-use Rattle.std.specs.Prelude.{Err, List, None, Ok, Option, Result, Some, [], codes, length, map, refl, replicate, ℕ, ◌++◌, ◌+◌, ◌∷◌, ◌≡◌}
-use Rattle.std.specs.List.{range_with_len}
+use Rattle.model_examples.proofs.Common.{Err, List, None, Ok, Option, Result, Some, [], codes, length, map, refl, replicate, ℕ, ◌++◌, ◌+◌, ◌∷◌, ◌≡◌, range_with_len}
+use Rattle.model_examples.proofs.Common.{blocks_of, Files, find, links_of, slot, taken, ManifestEntry, Wrong, data_blocks_of, files_made, zeros, flat_files}
 use Rattle.model_examples.proofs.Opened.{all_opened}
-use Rattle.unixmodel.specs.Counts.{blocks_of}
-use Rattle.unixmodel.specs.Files.{Files, find, links_of, slot, taken}
-use Rattle.unixmodel.specs.Manifest.{ManifestEntry, Wrong, data_blocks_of, files_made}
 use Rattle.unixmodel.specs.Manifest.Thing.{Bytes, Folder, Special}
 use Rattle.unixmodel.specs.Manifest.Wrong.{Blocks, Inodes, Name, Numbers, Parent, Twice}
-use Rattle.unixmodel.specs.Memory.{zeros}
-use Rattle.unixmodel.specs.Start.{flat_files}
 
 abbrev pub dir : List ℕ → ManifestEntry
 dir path = record { path = path; thing = Folder }

@@ -1,16 +1,9 @@
 -- What multiplications and divisions give: the rows that the manual's tables of special cases have, and values that were
 -- worked out by another program. Register 6 is a, register 7 is b, and rd is 5.
-use Rattle.std.specs.Prelude.{List, None, Ok, Some, [], codes, map, refl, ℕ, ◌∷◌, ◌≡◌}
-use Rattle.unixmodel.specs.declared.instr.RegOp.{RegOp}
-use Rattle.unixmodel.specs.declared.instr.RegOp.TheVariants.{Div, Divu, Mul, Mulh, Mulhsu, Mulhu, Rem, Remu}
-use Rattle.unixmodel.specs.declared.instr.RegOpW.{RegOpW}
-use Rattle.unixmodel.specs.declared.instr.RegOpW.TheVariants.{Divuw, Divw, Mulw, Remuw, Remw}
+use Rattle.model_examples.proofs.Common.{List, None, Ok, Some, [], codes, map, refl, ℕ, ◌∷◌, ◌≡◌, RegOp, Div, Divu, Mul, Mulh, Mulhsu, Mulhu, Rem, Remu, RegOpW, Divuw, Divw, Mulw, Remuw, Remw, object, word_text, instruction_of}
 use Rattle.model_examples.proofs.ActRows.{Cases, given, value, wanted}
 use Rattle.model_examples.proofs.AssemblyRows.{text, words as bytes_of}
 use Rattle.model_examples.proofs.Opened.{all_opened}
-use Rattle.unixmodel.specs.Assembly.{object}
-use Rattle.unixmodel.specs.Disassembly.{word_text}
-use Rattle.unixmodel.specs.Words.{instruction_of}
 use Rattle.unixmodel.specs.declared.instr.Instr.TheVariants as instr
 
 -- ---- words

@@ -1,18 +1,8 @@
 -- Small cases of the calls on names and nodes, by their rows.
-use Rattle.std.specs.Prelude.{List, None, Option, Some, [], codes, flat_map, map, option_map, refl, replicate, take, ℕ, ◌++◌, ◌-◌, ◌∷◌, ◌≡◌}
-use Rattle.std.specs.List.{range_with_len}
+use Rattle.model_examples.proofs.Common.{List, None, Option, Some, [], codes, flat_map, map, option_map, refl, replicate, take, ℕ, ◌++◌, ◌-◌, ◌∷◌, ◌≡◌, range_with_len, settle, blocks_of, close_row, fstat_row, read_row, write_row}
+use Rattle.model_examples.proofs.Common.{find, links_of, size_of, slot, File, chdir_row, link_row, mkdir_row, mknod_row, open_row, unlink_row, Outcome, limited, minus_one, Process, sbrk_row, State, process_at, put_process}
 use Rattle.model_examples.proofs.Opened.{all_opened, names_opened}
 use Rattle.model_examples.proofs.Scripts.{Asked, answer_at, asking, bytes_in, flat_state, plain}
-use Rattle.unixmodel.specs.Calls.{settle}
-use Rattle.unixmodel.specs.Counts.{blocks_of}
-use Rattle.unixmodel.specs.FileCalls.{close_row, fstat_row, read_row, write_row}
-use Rattle.unixmodel.specs.Files.{find, links_of, size_of, slot}
-use Rattle.unixmodel.specs.Files.Node.{File}
-use Rattle.unixmodel.specs.NameCalls.{chdir_row, link_row, mkdir_row, mknod_row, open_row, unlink_row}
-use Rattle.unixmodel.specs.Outcome.{Outcome, limited, minus_one}
-use Rattle.unixmodel.specs.Process.{Process}
-use Rattle.unixmodel.specs.ProcessCalls.{sbrk_row}
-use Rattle.unixmodel.specs.State.{State, process_at, put_process}
 
 -- a call by its row: its path stands at 8192, a second one at 8448
 pub record Named : Type 0 where

@@ -1,15 +1,9 @@
 -- Small cases of descriptors, pipes and turns.
-use Rattle.std.specs.Prelude.{None, Option, Some, [], length, refl, replicate, unwrap_or, ℕ, ◌++◌, ◌∷◌, ◌≡◌}
-use Rattle.std.specs.List.{range_with_len}
+use Rattle.model_examples.proofs.Common.{None, Option, Some, [], length, refl, replicate, unwrap_or, ℕ, ◌++◌, ◌∷◌, ◌≡◌, range_with_len, Step, Tick, slot, minus_one, run, turns, State}
 use Rattle.model_examples.proofs.FamilyRows.{fork}
 use Rattle.model_examples.proofs.Opened.{all_opened}
 use Rattle.model_examples.proofs.ProcessRows.{free_after, sbrk}
 use Rattle.model_examples.proofs.Scripts.{Asked, answer_at, ask, ask_all, bytes_in, flat_state, on_flat, plain, runs_with}
-use Rattle.unixmodel.specs.declared.event.Event.TheVariants.{Step, Tick}
-use Rattle.unixmodel.specs.Files.{slot}
-use Rattle.unixmodel.specs.Outcome.{minus_one}
-use Rattle.unixmodel.specs.Run.{run, turns}
-use Rattle.unixmodel.specs.State.{State}
 
 abbrev pub dup : ℕ → Asked
 dup fd = plain 10 (fd ∷ [])

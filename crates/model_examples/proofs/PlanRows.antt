@@ -1,16 +1,8 @@
 -- Small cases of programs.
-use Rattle.std.specs.Prelude.{List, None, Some, [], codes, false, is_some, length, map, option_map, pos, refl, replicate, ℕ, ◌++◌, ◌∷◌, ◌≡◌}
+use Rattle.model_examples.proofs.Common.{List, None, Some, [], codes, false, is_some, length, map, option_map, pos, refl, replicate, ℕ, ◌++◌, ◌∷◌, ◌≡◌, elf_file, elf_header, program_header}
+use Rattle.model_examples.proofs.Common.{Files, dot, dot_dot, Directory, File, overwrite, read_bytes, zeros, le, Plan, plan, plan_flat, run, Step, flat_files, init_path, start}
 use Rattle.model_examples.proofs.FlatRows.{bytes_and_end, hi_program}
 use Rattle.model_examples.proofs.Opened.{all_opened}
-use Rattle.unixmodel.specs.ElfFile.{elf_file, elf_header, program_header}
-use Rattle.unixmodel.specs.Files.{Files, dot, dot_dot}
-use Rattle.unixmodel.specs.Files.Node.{Directory, File}
-use Rattle.unixmodel.specs.Memory.{overwrite, read_bytes, zeros}
-use Rattle.unixmodel.specs.Numbers.{le}
-use Rattle.unixmodel.specs.Plan.{Plan, plan, plan_flat}
-use Rattle.unixmodel.specs.Run.{run}
-use Rattle.unixmodel.specs.declared.event.Event.TheVariants.{Step}
-use Rattle.unixmodel.specs.Start.{flat_files, init_path, start}
 
 abbrev pub numbers_of : Plan → List ℕ
 numbers_of new = length new.memory ∷ new.size ∷ new.pc ∷ new.argc ∷ new.sp ∷ []

@@ -1,16 +1,8 @@
 -- Small cases of processes, memory and frames.
-use Rattle.std.specs.Prelude.{List, None, Option, Some, length, map, negsuc, pos, refl, [], ℕ, ◌++◌, ◌-◌, ◌^◌, ◌∷◌, ◌≡◌, ℤ}
-use Rattle.unixmodel.specs.declared.event.Event.TheVariants.{Step, Tick}
-use Rattle.unixmodel.specs.declared.process.Mode.TheVariants.{Zombie}
+use Rattle.model_examples.proofs.Common.{List, None, Option, Some, length, map, negsuc, pos, refl, [], ℕ, ◌++◌, ◌-◌, ◌^◌, ◌∷◌, ◌≡◌, ℤ, Step, Tick}
+use Rattle.model_examples.proofs.Common.{Zombie, free_frames, write_bytes, minus_one, Process, run, State, change_process, process_at, Event}
 use Rattle.model_examples.proofs.Opened.{all_opened}
 use Rattle.model_examples.proofs.Scripts.{Asked, answer_at, answers_to, ask, ask_all, bytes_in, flat_state, mode_of, on_flat, plain}
-use Rattle.unixmodel.specs.Counts.{free_frames}
-use Rattle.unixmodel.specs.Memory.{write_bytes}
-use Rattle.unixmodel.specs.Outcome.{minus_one}
-use Rattle.unixmodel.specs.Process.{Process}
-use Rattle.unixmodel.specs.Run.{run}
-use Rattle.unixmodel.specs.State.{State, change_process, process_at}
-use Rattle.unixmodel.specs.declared.event.Event.{Event}
 
 -- ---- sbrk: 3 pages take 9 frames of the 64
 

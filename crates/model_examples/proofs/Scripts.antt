@@ -1,13 +1,7 @@
 -- Calls of process 1 in a row, and what they answer.
-use Rattle.std.specs.Prelude.{List, None, Option, Some, [], option_map, slice_index, slice_set, unwrap_or, ℕ, ◌++◌, ◌+◌, ◌∷◌}
+use Rattle.model_examples.proofs.Common.{List, None, Option, Some, [], option_map, slice_index, slice_set, unwrap_or, ℕ, ◌++◌, ◌+◌, ◌∷◌, Running, After}
+use Rattle.model_examples.proofs.Common.{call, calls, quiet, Memory, read_bytes, write_bytes, number, Process, start_flat, State, process_at, put_process}
 use Rattle.unixmodel.specs.declared.process.Mode.{Mode}
-use Rattle.unixmodel.specs.declared.process.Mode.TheVariants.{Running}
-use Rattle.unixmodel.specs.Calls.{After, call, calls, quiet}
-use Rattle.unixmodel.specs.Memory.{Memory, read_bytes, write_bytes}
-use Rattle.unixmodel.specs.Numbers.{number}
-use Rattle.unixmodel.specs.Process.{Process}
-use Rattle.unixmodel.specs.Start.{start_flat}
-use Rattle.unixmodel.specs.State.{State, process_at, put_process}
 
 -- a call: its number, a path that stands at 8192, one that stands at 8448, and its arguments
 pub record Asked : Type 0 where

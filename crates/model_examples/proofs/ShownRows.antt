@@ -1,9 +1,7 @@
 -- What is shown of files, by their numbers.
-use Rattle.std.specs.Prelude.{List, None, Option, Some, [], codes, map, refl, replicate, ℕ, ◌++◌, ◌∷◌, ◌≡◌}
+use Rattle.model_examples.proofs.Common.{List, None, Option, Some, [], codes, map, refl, replicate, ℕ, ◌++◌, ◌∷◌, ◌≡◌, Stat, shown_bytes, shown_stat, State}
 use Rattle.model_examples.proofs.NameRows.{after_all, at_first, close_of, does, mkdir, open_path, unlink, write_of}
 use Rattle.model_examples.proofs.Opened.{all_opened, names_opened}
-use Rattle.unixmodel.specs.Shown.{Stat, shown_bytes, shown_stat}
-use Rattle.unixmodel.specs.State.{State}
 
 -- type, links and size
 abbrev pub told : ℕ → ℕ → ℕ → Option Stat

@@ -1,11 +1,8 @@
 -- Small cases of the page-table walk.
-use Rattle.std.specs.Prelude.{Bool, List, None, Option, Some, false, is_some, map, refl, true, [], ℕ, ◌*◌, ◌++◌, ◌+◌, ◌-◌, ◌^◌, ◌∷◌, ◌≡◌}
+use Rattle.model_examples.proofs.Common.{Bool, List, None, Option, Some, false, is_some, map, refl, true, [], ℕ, ◌*◌, ◌++◌, ◌+◌, ◌-◌, ◌^◌, ◌∷◌, ◌≡◌, zeros, le, walk, walk_count}
 use Rattle.unixmodel.specs.declared.trap.Access.{Access}
 use Rattle.unixmodel.specs.declared.trap.Access.TheVariants.{Fetch, Load, Store}
 use Rattle.model_examples.proofs.Opened.{all_opened}
-use Rattle.unixmodel.specs.Memory.{zeros}
-use Rattle.unixmodel.specs.Numbers.{le}
-use Rattle.unixmodel.specs.Translation.{walk, walk_count}
 
 -- where an access at an address comes to by the tables from a root, and how many entries were read
 abbrev pub walked : List (List ℕ) → ℕ × ℕ × Access → Option ℕ × ℕ

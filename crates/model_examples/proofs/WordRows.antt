@@ -1,8 +1,6 @@
 -- Words that are instructions, and words that aren't.
-use Rattle.std.specs.Prelude.{None, Some, refl, ◌≡◌}
-use Rattle.unixmodel.specs.declared.instr.ImmOp.TheVariants.{Addi}
+use Rattle.model_examples.proofs.Common.{None, Some, refl, ◌≡◌, Addi, instruction_of}
 use Rattle.model_examples.proofs.Opened.{all_opened}
-use Rattle.unixmodel.specs.Words.{instruction_of}
 use Rattle.unixmodel.specs.declared.instr.Instr.TheVariants as instr
 use Rattle.unixmodel.specs.declared.instr.ShiftOp.TheVariants as shift
 

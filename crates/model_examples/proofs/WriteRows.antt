@@ -1,15 +1,8 @@
 -- Small cases of writes to the console and to files.
-use Rattle.std.specs.Prelude.{List, codes, map, refl, true, unwrap_or, [], ℕ, ◌+◌, ◌∷◌, ◌≡◌}
+use Rattle.model_examples.proofs.Common.{List, codes, map, refl, true, unwrap_or, [], ℕ, ◌+◌, ◌∷◌, ◌≡◌, blocks_of, with_descriptor, blocks_for, enter, put, File, zeros, minus_one, State, change_process}
 use Rattle.model_examples.proofs.Opened.{all_opened}
 use Rattle.model_examples.proofs.Scripts.{Asked, answer_at, answers_to, ask, ask_all, flat_state, plain}
-use Rattle.unixmodel.specs.Counts.{blocks_of}
-use Rattle.unixmodel.specs.FileCalls.{with_descriptor}
-use Rattle.unixmodel.specs.Files.{blocks_for, enter, put}
-use Rattle.unixmodel.specs.Files.Node.{File}
-use Rattle.unixmodel.specs.Memory.{zeros}
 use Rattle.unixmodel.specs.OpenFiles.Target.{OnNode}
-use Rattle.unixmodel.specs.Outcome.{minus_one}
-use Rattle.unixmodel.specs.State.{State, change_process}
 
 -- a flat disk with a file f of some bytes, and so many data blocks
 abbrev pub with_f : State → List ℕ → ℕ → State

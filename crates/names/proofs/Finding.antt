@@ -1,18 +1,9 @@
 -- What the definitions of calls on names tell where they answer.
-use Rattle.std.proofs.Common.{◌≡◌, ◌≢◌, ℕ, suc, ◌+◌, ◌*◌, ◌<◌, ◌≤◌, Bool, true, false, cond, List, [], ◌∷◌, ◌++◌, None, Option, Some, inl, inr, length, drop, get_or, set, ap, sym, refl, ◌∙◌, arith, subst}
-use Rattle.std.specs.Prelude.{bytes_eq, count_by, is_none, nat_lt, option_and_then, option_map, position}
-use Rattle.std.specs.List.{position_or_len}
-use Rattle.std.proofs.lemmas.Bool.{cases_eq, cases_lt, cond-true, false≢true, false_from_ne_true, lt-ltb, ltb-true, or_from}
-use Rattle.std.proofs.lemmas.List.{get_or-drop, get_or-set_other, get_or-set_same, get_or_past, length-append, length-drop, length-set}
-use Rattle.std.proofs.lemmas.List.Quantifiers.{position-Some}
-use Rattle.std.proofs.lemmas.List.Sums.{fails_before_first, sum_by-le}
-use Rattle.std.proofs.lemmas.Option.{cond_some, none-some, option_and_then_some, same_Some}
-use Rattle.std.proofs.lemmas.Slice.Eq.{bytes_eq-Decides}
-use Rattle.unixmodel.specs.Files.{Entry, Files, Node, Spot, change_node, dot, dot_dot, enter, entry_number, free_number, free_slot, has_name, is_dot_name, live_places, longest, lookup, most_places, place_of, put, slot, with_entry, with_entry_at, with_places}
-use Rattle.unixmodel.specs.Files.Node.{Directory}
-use Rattle.unixmodel.specs.Image.{is_name}
-use Rattle.unixmodel.specs.NameCalls.{Made, make_at, may_remove, removed_node, unlinked, without_name}
-use Rattle.names.specs.Rules.{IsLive, entries}
+use Rattle.names.proofs.Common.{◌≡◌, ◌≢◌, ℕ, suc, ◌+◌, ◌*◌, ◌<◌, ◌≤◌, Bool, true, false, cond, List, [], ◌∷◌, ◌++◌, None, Option, Some, inl, inr, length, drop, get_or, set, ap, sym, refl, ◌∙◌, arith, subst, bytes_eq}
+use Rattle.names.proofs.Common.{count_by, is_none, nat_lt, option_and_then, option_map, position, position_or_len, cases_eq, cases_lt, cond-true, false≢true, false_from_ne_true, lt-ltb, ltb-true, or_from, get_or-drop}
+use Rattle.names.proofs.Common.{get_or-set_other, get_or-set_same, get_or_past, length-append, length-drop, length-set, position-Some, fails_before_first, sum_by-le, cond_some, none-some, option_and_then_some}
+use Rattle.names.proofs.Common.{same_Some, bytes_eq-Decides, Entry, Files, Node, Spot, change_node, dot, dot_dot, enter, entry_number, free_number, free_slot, has_name, is_dot_name, live_places, longest, lookup}
+use Rattle.names.proofs.Common.{most_places, place_of, put, slot, with_entry, with_entry_at, with_places, Directory, is_name, Made, make_at, may_remove, removed_node, unlinked, without_name, IsLive, entries}
 use Rattle.names.proofs.Counts.{counted-none}
 use Rattle.names.proofs.Placed.{HasTwo, count-taken, none-is, two-places, weight}
 

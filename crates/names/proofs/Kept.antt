@@ -1,12 +1,6 @@
 -- What calls on names make of files keeps the rules, where they answer.
-use Rattle.std.proofs.Common.{◌≡◌, ℕ, Bool, true, false, cond, not, None, Option, Some, refl, subst}
-use Rattle.std.specs.Prelude.{option_map, ◌&&◌}
-use Rattle.std.proofs.lemmas.Bool.{and_parts, not-true}
-use Rattle.std.proofs.lemmas.Option.{none-some, same_Some}
-use Rattle.unixmodel.specs.Files.{Files, Node, Spot, change_node, enter, is_directory, slot}
-use Rattle.names.specs.Changes.{Changed}
-use Rattle.unixmodel.specs.NameCalls.{Made, has_room_for_link, is_free_name, linked, linked_node, made_at, made_below, made_directory, make_at, more_links, new_directory}
-use Rattle.names.specs.Rules.{KeepsTree}
+use Rattle.names.proofs.Common.{◌≡◌, ℕ, Bool, true, false, cond, not, None, Option, Some, refl, subst, option_map, ◌&&◌, and_parts, not-true, none-some, same_Some, Files, Node, Spot, change_node, enter}
+use Rattle.names.proofs.Common.{is_directory, slot, Changed, Made, has_room_for_link, is_free_name, linked, linked_node, made_at, made_below, made_directory, make_at, more_links, new_directory, KeepsTree}
 use Rattle.names.proofs.Placed.{none-is}
 use Rattle.names.proofs.Making.{IsNewFile, links-file, makes-directory, makes-file}
 use Rattle.names.proofs.Spots.{IsSpot, gap-from}

@@ -1,15 +1,8 @@
 -- A name more keeps the rules: of a new node, or of a file that has names.
-use Rattle.std.proofs.Common.{◌≡◌, ◌≢◌, ℕ, suc, ◌+◌, ◌<◌, ◌≤◌, true, false, cond, List, None, Option, Some, inl, inr, length, ap, sym, refl, ◌∙◌, arith, subst}
-use Rattle.std.specs.Prelude.{IsSome, bytes_eq, count_by, is_some, option_map, unwrap_or, ◌==◌}
-use Rattle.std.proofs.lemmas.Bool.{cases_eq, cond-false, false≢true, ltb-true, ne_eqb}
-use Rattle.std.proofs.lemmas.List.{get_or-set_other, get_or-set_same, length-set, set-set}
-use Rattle.std.proofs.lemmas.Option.{none-some}
-use Rattle.unixmodel.specs.Files.{Entry, Files, Node, Spot, change_node, dot, dot_dot, enter, is_directory, links_of, most_links, put, slot, with_entry}
-use Rattle.unixmodel.specs.Files.Node.{Directory}
-use Rattle.unixmodel.specs.Image.{KeepsSize, is_directory_at, is_name, names_of}
-use Rattle.names.specs.Changes.{Changed, IsIdle, shape}
-use Rattle.unixmodel.specs.NameCalls.{Made, has_room_for_link, make_at, more_links, new_directory}
-use Rattle.names.specs.Rules.{IsLive, KeepsLive, KeepsTree, entries, folders, names_by, names_for}
+use Rattle.names.proofs.Common.{◌≡◌, ◌≢◌, ℕ, suc, ◌+◌, ◌<◌, ◌≤◌, true, false, cond, List, None, Option, Some, inl, inr, length, ap, sym, refl, ◌∙◌, arith, subst, IsSome, bytes_eq, count_by}
+use Rattle.names.proofs.Common.{is_some, option_map, unwrap_or, ◌==◌, cases_eq, cond-false, false≢true, ltb-true, ne_eqb, get_or-set_other, get_or-set_same, length-set, set-set, none-some, Entry}
+use Rattle.names.proofs.Common.{Files, Node, Spot, change_node, dot, dot_dot, enter, is_directory, links_of, most_links, put, slot, with_entry, Directory, KeepsSize, is_directory_at, is_name}
+use Rattle.names.proofs.Common.{names_of, Changed, IsIdle, shape, Made, has_room_for_link, make_at, more_links, new_directory, IsLive, KeepsLive, KeepsTree, entries, folders, names_by, names_for}
 use Rattle.names.proofs.Changing.{Alters, directory-is, keeps-gained, relinked-kind, relinked-links, relinked-shape, relinked-size}
 use Rattle.names.proofs.Counts.{counted-none, names_by-none}
 use Rattle.names.proofs.Finding.{IsFree, IsGap, absent-none, change-is, enter-parts, entered-size, entry_at, make-parts, slot-within}

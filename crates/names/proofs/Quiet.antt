@@ -1,17 +1,9 @@
 -- Changes that leave all names: a node without links goes, or a file has other bytes.
-use Rattle.std.proofs.Common.{◌≡◌, ◌≢◌, ℕ, zero, suc, ◌+◌, ◌≤◌, Bool, true, false, cond, List, [], ◌∷◌, ◌++◌, None, Option, Some, inl, inr, ◌⊎◌, drop, length, set, take, ap, sym, refl, ◌∙◌, arith, subst}
-use Rattle.std.specs.Prelude.{count_by, nat_lt, option_map, unwrap_or, ◌==◌}
-use Rattle.std.proofs.lemmas.Bool.{cases_eq, cond-false, cond-true, false≢true, lt-ltb, ltb-true}
-use Rattle.std.proofs.lemmas.List.{get_or-set_other, get_or-set_same, length-append, length-drop, length-set, length-take, set-get_or}
-use Rattle.std.proofs.lemmas.Option.{none-some, same_Some}
-use Rattle.unixmodel.specs.Files.{Entry, Files, Node, change_node, clear, is_directory, links_of, longest, put, slot}
-use Rattle.unixmodel.specs.Files.Node.{Directory, File}
-use Rattle.unixmodel.specs.Image.{KeepsSize, is_directory_at, names_of}
+use Rattle.names.proofs.Common.{◌≡◌, ◌≢◌, ℕ, zero, suc, ◌+◌, ◌≤◌, Bool, true, false, cond, List, [], ◌∷◌, ◌++◌, None, Option, Some, inl, inr, ◌⊎◌, drop, length, set, take, ap, sym, refl, ◌∙◌}
+use Rattle.names.proofs.Common.{arith, subst, count_by, nat_lt, option_map, unwrap_or, ◌==◌, cases_eq, cond-false, cond-true, false≢true, lt-ltb, ltb-true, get_or-set_other, get_or-set_same}
+use Rattle.names.proofs.Common.{length-append, length-drop, length-set, length-take, set-get_or, none-some, same_Some, Entry, Files, Node, change_node, clear, is_directory, links_of, longest}
+use Rattle.names.proofs.Common.{put, slot, Directory, File, KeepsSize, is_directory_at, names_of, kept, Changed, shape, emptied, HasRoot, KeepsLive, KeepsTree, entries, names_by, names_for}
 use Rattle.unixmodel.specs.Memory.{overwrite}
-use Rattle.unixmodel.specs.Reap.{kept}
-use Rattle.names.specs.Changes.{Changed, shape}
-use Rattle.unixmodel.specs.NameCalls.{emptied}
-use Rattle.names.specs.Rules.{HasRoot, KeepsLive, KeepsTree, entries, names_by, names_for}
 use Rattle.names.proofs.Counts.{names-same, names_by-le}
 use Rattle.names.proofs.Finding.{change-is, slot-set, slot-within}
 use Rattle.names.proofs.Steps.{IsStep, live-kept}

@@ -1,16 +1,8 @@
 -- A name less keeps the rules.
-use Rattle.std.proofs.Common.{◌≡◌, ◌≢◌, ℕ, zero, suc, ◌+◌, ◌-◌, ◌*◌, ◌<◌, ◌≤◌, Bool, true, false, cond, List, [], ◌∷◌, None, Some, inl, inr, length, set, ap, sym, refl, ◌∙◌, arith, subst}
-use Rattle.std.specs.Prelude.{bytes_eq, option_map, ◌==◌}
-use Rattle.std.proofs.lemmas.Bool.{cases_eq, cond-false, eqb-true, false≢true, ne_eqb, or_parts}
-use Rattle.std.proofs.lemmas.List.{get_or-set_other, length-set, set-set, set_comm}
-use Rattle.std.proofs.lemmas.Option.{same_Some}
-use Rattle.std.proofs.lemmas.Slice.Eq.{bytes_eq-Decides}
-use Rattle.unixmodel.specs.Files.{Entry, Files, Node, Spot, change_node, clear, dot, dot_dot, erase, is_directory, is_dot_name, links_of, longest, lookup, put, slot, without_place}
-use Rattle.unixmodel.specs.Files.Node.{Directory}
-use Rattle.unixmodel.specs.Image.{KeepsSize, is_directory_at}
-use Rattle.names.specs.Changes.{Loses, shape}
-use Rattle.unixmodel.specs.NameCalls.{fewer_links, may_remove, unlinked}
-use Rattle.names.specs.Rules.{IsLive, KeepsLive, KeepsTree, entries, folders, names_by, names_for}
+use Rattle.names.proofs.Common.{◌≡◌, ◌≢◌, ℕ, zero, suc, ◌+◌, ◌-◌, ◌*◌, ◌<◌, ◌≤◌, Bool, true, false, cond, List, [], ◌∷◌, None, Some, inl, inr, length, set, ap, sym, refl, ◌∙◌, arith, subst}
+use Rattle.names.proofs.Common.{bytes_eq, option_map, ◌==◌, cases_eq, cond-false, eqb-true, false≢true, ne_eqb, or_parts, get_or-set_other, length-set, set-set, set_comm, same_Some}
+use Rattle.names.proofs.Common.{bytes_eq-Decides, Entry, Files, Node, Spot, change_node, clear, dot, dot_dot, erase, is_directory, is_dot_name, links_of, longest, lookup, put, slot, without_place}
+use Rattle.names.proofs.Common.{Directory, KeepsSize, is_directory_at, Loses, shape, fewer_links, may_remove, unlinked, IsLive, KeepsLive, KeepsTree, entries, folders, names_by, names_for}
 use Rattle.names.proofs.Changing.{Alters, directory-is, keeps-lost, relinked-kind, relinked-names, relinked-shape, relinked-size}
 use Rattle.names.proofs.Counts.{counted-none, counted-one, names_by-le}
 use Rattle.names.proofs.Finding.{IsNamed, change-is, slot-within, unlink-parts}

@@ -1,16 +1,12 @@
 -- Lemmas on what `specs/Agree` defines.
-use Rattle.std.proofs.Common.{◌≡◌, ℕ, ◌+◌, ◌-◌, ◌*◌, ◌/◌, ◌%◌, ◌^◌, ◌<◌, ◌≤◌, Bool, true, false, List, length, Option, Some, None, refl, sym, ap, ◌∙◌, arith, bit_and, eq-eqb, ltb, leb}
+use Rattle.pagetable.proofs.Common.{◌≡◌, ℕ, ◌+◌, ◌-◌, ◌*◌, ◌/◌, ◌%◌, ◌^◌, ◌<◌, ◌≤◌, Bool, true, false, List, length, Option, Some, None, refl, sym, ap, ◌∙◌, arith, bit_and, eq-eqb, ltb, leb}
+use Rattle.pagetable.proofs.Common.{eqb-true, lt-ltb, le-leb, div-mul-add, mod-mul-add, and_assoc, Access, has, allows, marks_of, number_of, is_sound, is_table, turn_by, turn_of, walk_of-is}
+use Rattle.pagetable.proofs.Common.{canonical-is, walk_page, base, frame_at, entry_of, follow, then_at, is_canonical, walk_low, walk_mid, walk_high, walk_of, table_entry, leaf_entry, child_of}
+use Rattle.pagetable.proofs.Common.{leaf_of, table_at, child_at, leaf_at, lookup_of, low_node, mid_node, IsTree, IsTableEntry, no_table, a_table, IsLeafEntry, no_leaf, a_leaf, IsLeafMarks}
 use Rattle.std.specs.Prelude.{if◌then◌else◌}
 use Rattle.std.proofs.Math.Bool.{or-true}
-use Rattle.std.proofs.lemmas.Bool.{eqb-true, lt-ltb, le-leb}
-use Rattle.std.proofs.lemmas.Nat.{div-mul-add, mod-mul-add, and_assoc}
-use Rattle.unixmodel.specs.declared.trap.Access.{Access}
-use Rattle.sv39.specs.Entry.{has, allows, marks_of, number_of, is_sound, is_table, turn_by, turn_of}
-use Rattle.sv39.proofs.WalkLemmas.{walk_of-is, canonical-is}
-use Rattle.unixmodel.specs.Translation.{walk_page, is_canonical as is_canonical_page}
+use Rattle.unixmodel.specs.Translation.{is_canonical as is_canonical_page}
 use Rattle.pagetable.proofs.MarksLemmas.{allows-marks}
-use Rattle.sv39.specs.Walk.{base, frame_at, entry_of, follow, then_at, is_canonical, walk_low, walk_mid, walk_high, walk_of}
-use Rattle.pagetable.specs.Tree.{table_entry, leaf_entry, child_of, leaf_of, table_at, child_at, leaf_at, lookup_of, low_node, mid_node, IsTree, IsTableEntry, no_table, a_table, IsLeafEntry, no_leaf, a_leaf, IsLeafMarks}
 use Rattle.pagetable.proofs.TreeLemmas.{child_of-zero, child_of-table, leaf_of-zero, leaf_of-leaf, tree-mid_sound, tree-low_sound, tree-leaf_sound, table_at-mid, table_at-low, lookup_of-low, tree-root}
 use Rattle.pagetable.specs.Agree.{given_frame, translation}
 

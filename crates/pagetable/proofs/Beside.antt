@@ -1,8 +1,5 @@
 -- A page table outlives what is done beside it.
-use Rattle.std.proofs.Common.{◌≡◌, ℕ, ◌%◌, List, length, Some, refl, sym, ap, ◌∙◌}
-use Rattle.ram.specs.Memory.{frame_of}
-use Rattle.sv39.specs.Walk.{entry_of}
-use Rattle.pagetable.specs.Tree.{child_of, Node, Root, Mid, Low, IsNode, table_at, child_at, leaf_at, low_node, lookup_of, IsTree, HasTable, SameTables}
+use Rattle.pagetable.proofs.Common.{◌≡◌, ℕ, ◌%◌, List, length, Some, refl, sym, ap, ◌∙◌, frame_of, entry_of, child_of, Node, Root, Mid, Low, IsNode, table_at, child_at, leaf_at, low_node, lookup_of, IsTree, HasTable, SameTables}
 use Rattle.pagetable.proofs.TreeLemmas.{entry_of-frame, child_at-same, leaf_at-same, low_is_node}
 
 held_at : (m : List (List ℕ)) (r : ℕ) (x : Node) (v : ℕ) → IsNode x → table_at m r x ≡ Some v → HasTable m r v

@@ -1,13 +1,7 @@
 -- A page table that maps nothing.
-use Rattle.std.proofs.Common.{◌≡◌, ◌≢◌, ℕ, ◌<◌, true, List, [], ◌∷◌, length, Some, None, refl, sym, ap, ◌∙◌, arith, slice_set, get_or-set_other, length-set, replicate}
-use Rattle.frames.specs.declared.Frames.{Frames}
-use Rattle.frames.specs.Free.{among, free_of, extra_of, IsFreeList}
-use Rattle.frames.proofs.FreeLemmas.{free_of-same, IsFreeList-same}
-use Rattle.ram.specs.Memory.{frame_of}
-use Rattle.sv39.specs.Walk.{entry_of}
-use Rattle.pagetable.specs.Tree.{Node, Root, Mid, Low, IsNode, table_at, low_node, lookup_of, no_table, IsPaged}
+use Rattle.pagetable.proofs.Common.{◌≡◌, ◌≢◌, ℕ, ◌<◌, true, List, [], ◌∷◌, length, Some, None, refl, sym, ap, ◌∙◌, arith, slice_set, get_or-set_other, length-set, replicate, Frames, among, free_of}
+use Rattle.pagetable.proofs.Common.{extra_of, IsFreeList, free_of-same, IsFreeList-same, frame_of, entry_of, Node, Root, Mid, Low, IsNode, table_at, low_node, lookup_of, no_table, IsPaged, IsTidy, IsEmpty}
 use Rattle.pagetable.proofs.TreeLemmas.{further-taken, child_of-zero, root_at, free-first, entry_of-zeros}
-use Rattle.pagetable.specs.Shape.{IsTidy, IsEmpty}
 
 pub empty-tables : (k : List (List ℕ)) (r : ℕ) → ((i : ℕ) → i < 512 → entry_of k r i ≡ 0) → (x : Node) → IsNode x → x ≢ Root → table_at k r x ≡ None
 unfolding table_at

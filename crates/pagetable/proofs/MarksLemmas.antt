@@ -1,9 +1,5 @@
 -- Lemmas on what `specs/Marks` defines.
-use Rattle.std.proofs.Common.{◌≡◌, ℕ, ◌%◌, ◌<◌, sym, ap, ◌∙◌, arith}
-use Rattle.unixmodel.specs.declared.trap.Access.{Access}
-use Rattle.unixmodel.specs.Translation.{leaf_allows}
-use Rattle.sv39.specs.Entry.{allows, marks_of}
-use Rattle.sv39.proofs.WalkLemmas.{allows-is}
+use Rattle.pagetable.proofs.Common.{◌≡◌, ℕ, ◌%◌, ◌<◌, sym, ap, ◌∙◌, arith, Access, leaf_allows, allows, marks_of, allows-is}
 
 -- the walk's test of a leaf's marks is the model's
 pub allows-marks : (marks : ℕ) (access : Access) → marks < 1024 → allows marks access ≡ leaf_allows access marks

@@ -1,11 +1,7 @@
 -- Lemmas on the tables that come and go.
-use Rattle.std.proofs.Common.{◌≡◌, ◌≢◌, ℕ, ◌^◌, ◌<◌, ◌⊎◌, inl, inr, List, [], ◌∷◌, length, Option, Some, None, refl, sym, ap, ◌∙◌}
-use Rattle.std.proofs.lemmas.Bool.{cases_eq}
-use Rattle.frames.specs.declared.Frames.{Frames}
-use Rattle.frames.specs.Free.{free_of}
-use Rattle.pagetable.specs.Tree.{Node, IsNode, IsUpper, next_node, table_at, low_node, mid_node, lookup_of, Links, IsPaged, Inserts, missing, missing_by, SameMap, SameTables, SameTablesBut}
+use Rattle.pagetable.proofs.Common.{◌≡◌, ◌≢◌, ℕ, ◌^◌, ◌<◌, ◌⊎◌, inl, inr, List, [], ◌∷◌, length, Option, Some, None, refl, sym, ap, ◌∙◌, cases_eq, Frames, free_of, Node, IsNode, IsUpper, next_node}
+use Rattle.pagetable.proofs.Common.{table_at, low_node, mid_node, lookup_of, Links, IsPaged, Inserts, missing, missing_by, SameMap, SameTables, SameTablesBut, table_of, IsUsed, IsTidy, made, made_by, Adds}
 use Rattle.pagetable.proofs.TreeLemmas.{low_is_node, mid_is_node, cases_node, table_at-link_other, held_absent, no_low}
-use Rattle.pagetable.specs.Shape.{table_of, IsUsed, IsTidy, made, made_by, Adds}
 
 -- ---- a page that comes
 

@@ -1,18 +1,13 @@
 -- What writes leave of a page table.
-use Rattle.std.proofs.Common.{◌≡◌, ◌≢◌, ℕ, ◌+◌, ◌-◌, ◌*◌, ◌/◌, ◌%◌, ◌^◌, ◌<◌, ◌≤◌, ◌⊎◌, inl, inr, true, false, List, [], ◌∷◌, length, Option, Some, None, refl, sym, ap, ◌∙◌, arith, slice_set, get_or-set_other, get_or, replicate, length-set}
-use Rattle.std.proofs.lemmas.Bool.{cases_eq, cases_lt}
-use Rattle.ram.specs.Memory.{frame_of, word_bytes, put, IsMemory}
+use Rattle.pagetable.proofs.Common.{◌≡◌, ◌≢◌, ℕ, ◌+◌, ◌-◌, ◌*◌, ◌/◌, ◌%◌, ◌^◌, ◌<◌, ◌≤◌, ◌⊎◌, inl, inr, true, false, List, [], ◌∷◌, length, Option, Some, None, refl, sym, ap, ◌∙◌, arith, slice_set}
+use Rattle.pagetable.proofs.Common.{get_or-set_other, get_or, replicate, length-set, cases_eq, cases_lt, frame_of, word_bytes, put, IsMemory, Frames, among, free_of, free_count, extra_of, further_at}
+use Rattle.pagetable.proofs.Common.{IsFreeList, among_first, apart-not, among_first_not, free_of-same, further-free, shared-is, IsFreeList-same, base, entry_of, table_entry, leaf_entry, child_of}
+use Rattle.pagetable.proofs.Common.{leaf_of, Node, Root, Mid, Low, IsNode, child_at, table_at, leaf_at, low_node, mid_node, lookup_of, IsTableEntry, no_table, a_table, IsLeafEntry, no_leaf, IsEntry}
+use Rattle.pagetable.proofs.Common.{IsTree, HasTable, Writes, Links, next_node, IsUpper, IsPaged, Keeps, missing, missing_by, Maps, SameMap, SameTables, div-mul-add, mod-mul-add, ne_eqb}
 use Rattle.ram.proofs.MemoryLemmas.{word_of-frame, word_of-put_same, word_of-put_beside, frame_of-put_other, length-put, length-word_bytes, word_of-put_other, IsMemory-set, word_of-zeros}
 use Rattle.std.proofs.lemmas.List.{length-replicate}
 use Rattle.std.specs.List.{IsDistinct}
-use Rattle.frames.specs.declared.Frames.{Frames}
-use Rattle.frames.specs.Free.{among, free_of, free_count, extra_of, further_at, IsFreeList}
-use Rattle.frames.proofs.FreeLemmas.{among_first, apart-not, among_first_not, free_of-same, further-free, shared-is, IsFreeList-same}
-use Rattle.sv39.specs.Walk.{base, entry_of}
-use Rattle.pagetable.specs.Tree.{table_entry, leaf_entry, child_of, leaf_of, Node, Root, Mid, Low, IsNode, child_at, table_at, leaf_at, low_node, mid_node, lookup_of, IsTableEntry, no_table, a_table, IsLeafEntry, no_leaf, IsEntry, IsTree, HasTable, Writes, Links, next_node, IsUpper, IsPaged, Keeps, missing, missing_by, Maps, SameMap, SameTables}
 use Rattle.std.proofs.Math.Nat.{div-div-eq-div-mul}
-use Rattle.std.proofs.lemmas.Nat.{div-mul-add, mod-mul-add}
-use Rattle.std.proofs.lemmas.Bool.{ne_eqb}
 
 -- ---- entries
 

@@ -1,13 +1,7 @@
 -- A table that maps nothing leaves the tree.
-use Rattle.std.proofs.Common.{◌≡◌, ◌≢◌, ℕ, ◌<◌, inl, inr, false, List, [], ◌∷◌, length, Some, None, refl, sym, ap, ◌∙◌}
-use Rattle.std.proofs.lemmas.Bool.{cases_eq, ne_eqb}
-use Rattle.frames.specs.declared.Frames.{Frames}
-use Rattle.frames.specs.Free.{among, free_of, extra_of, IsFreeList, SameBut}
-use Rattle.frames.proofs.FreeLemmas.{free_of-same, IsFreeList-same}
+use Rattle.pagetable.proofs.Common.{◌≡◌, ◌≢◌, ℕ, ◌<◌, inl, inr, false, List, [], ◌∷◌, length, Some, None, refl, sym, ap, ◌∙◌, cases_eq, ne_eqb, Frames, among, free_of, extra_of, IsFreeList, SameBut, free_of-same}
+use Rattle.pagetable.proofs.Common.{IsFreeList-same, frame_of, entry_of, child_of, leaf_of, Node, IsNode, IsUpper, next_node, table_at, child_at, leaf_at, IsTree, HasTable, Writes, IsPaged, Keeps, SameMap}
 use Rattle.pagetable.proofs.Beside.{IsTree-same, table_at-same, lookup_of-same}
-use Rattle.ram.specs.Memory.{frame_of}
-use Rattle.sv39.specs.Walk.{entry_of}
-use Rattle.pagetable.specs.Tree.{child_of, leaf_of, Node, IsNode, IsUpper, next_node, table_at, child_at, leaf_at, IsTree, HasTable, Writes, IsPaged, Keeps, SameMap}
 use Rattle.pagetable.proofs.TreeLemmas.{further-same, KeepsBut-write, table_at-kept, table_at-next, next-kept, lookup_of-kept, tables_apart, entry-write, entry_zero, child_of-zero, leaf_of-zero, cases_node, write-stays}
 
 -- the table u, which the entry c of the table t in x leads to, maps nothing, and the entry is cleared

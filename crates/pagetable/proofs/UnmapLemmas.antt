@@ -1,10 +1,7 @@
 -- A page that goes.
-use Rattle.std.proofs.Common.{◌≡◌, ◌≢◌, ℕ, ◌+◌, ◌*◌, ◌/◌, ◌%◌, ◌^◌, ◌<◌, ◌⊎◌, inl, inr, List, Option, Some, None, sym, ap, ◌∙◌, arith}
-use Rattle.std.proofs.lemmas.Bool.{cases_eq}
-use Rattle.sv39.specs.Walk.{entry_of}
-use Rattle.pagetable.specs.Tree.{leaf_of, Node, Mid, Low, IsNode, table_at, child_at, leaf_at, low_node, mid_node, lookup_of, IsTree, Writes, SameMap, SameTablesBut}
+use Rattle.pagetable.proofs.Common.{◌≡◌, ◌≢◌, ℕ, ◌+◌, ◌*◌, ◌/◌, ◌%◌, ◌^◌, ◌<◌, ◌⊎◌, inl, inr, List, Option, Some, None, sym, ap, ◌∙◌, arith, cases_eq, entry_of, leaf_of, Node}
+use Rattle.pagetable.proofs.Common.{Mid, Low, IsNode, table_at, child_at, leaf_at, low_node, mid_node, lookup_of, IsTree, Writes, SameMap, SameTablesBut, IsUsed, IsTidy, Removes}
 use Rattle.pagetable.proofs.TreeLemmas.{lookup_of-write_other, lookup_of-write_same, leaf_of-zero, leaf_of-some, child_of-some, cases_node}
-use Rattle.pagetable.specs.Shape.{IsUsed, IsTidy, Removes}
 
 -- ---- the entry of the page
 

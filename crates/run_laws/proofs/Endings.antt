@@ -1,14 +1,7 @@
 -- How a process ends, and what its end leaves of the others.
-use Rattle.std.proofs.Common.{◌≡◌, ◌∙◌, ℕ, ℤ, Bool, true, false, Option, Some, None, map, refl, sym, ap, subst}
-use Rattle.std.specs.Prelude.{if◌then◌else◌, option_map}
+use Rattle.run_laws.proofs.Common.{◌≡◌, ◌∙◌, ℕ, ℤ, Bool, true, false, Option, Some, None, map, refl, sym, ap, subst, if◌then◌else◌, option_map, get_or-set_other, slot, end_process}
+use Rattle.run_laws.proofs.Common.{orphaned, with_zombie, zombie_of, Process, is_child_of, reap, without_nodes, without_opens, without_pipes, State, process_at, Rests}
 use Rattle.std.proofs.Math.ListN.{get_or-map}
-use Rattle.std.proofs.lemmas.List.{get_or-set_other}
-use Rattle.unixmodel.specs.Files.{slot}
-use Rattle.unixmodel.specs.Outcome.{end_process, orphaned, with_zombie, zombie_of}
-use Rattle.unixmodel.specs.Process.{Process, is_child_of}
-use Rattle.unixmodel.specs.Reap.{reap, without_nodes, without_opens, without_pipes}
-use Rattle.unixmodel.specs.State.{State, process_at}
-use Rattle.run_laws.specs.Resting.{Rests}
 use Rattle.run_laws.proofs.Others.{IsSame, Spares}
 
 reap-places : (s : State) → (reap s).places ≡ s.places

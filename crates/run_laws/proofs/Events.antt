@@ -1,17 +1,7 @@
 -- What an event leaves in the place of a process that doesn't run, and which place was picked last after it.
-use Rattle.std.proofs.Common.{◌≡◌, ◌≢◌, ◌∙◌, ℕ, true, false, Option, Some, None, refl, sym, ap, subst}
+use Rattle.run_laws.proofs.Common.{◌≡◌, ◌≢◌, ◌∙◌, ℕ, true, false, Option, Some, None, refl, sym, ap, subst, unwrap_or, position-Some, Event, Key, Step, Tick, Ready, execute, execute_at, next, pick}
+use Rattle.run_laws.proofs.Common.{step, stopped, take_turn, Process, is_running, with_mode, picked_by, picked_unless, State, change_process, holds, process_at, running, is_ready, ready, turn, IsLeft}
 use Rattle.run_laws.proofs.Rounds.{turn-ready}
-use Rattle.std.specs.Prelude.{unwrap_or}
-use Rattle.std.proofs.lemmas.List.Quantifiers.{position-Some}
-use Rattle.unixmodel.specs.declared.event.Event.{Event}
-use Rattle.unixmodel.specs.declared.event.Event.TheVariants.{Key, Step, Tick}
-use Rattle.unixmodel.specs.declared.process.Mode.TheVariants.{Ready}
-use Rattle.unixmodel.specs.Next.{execute, execute_at, next, pick, step, stopped, take_turn}
-use Rattle.unixmodel.specs.Process.{Process, is_running, with_mode}
-use Rattle.unixmodel.specs.Run.{picked_by, picked_unless}
-use Rattle.unixmodel.specs.State.{State, change_process, holds, process_at, running}
-use Rattle.unixmodel.specs.Turn.{is_ready, ready, turn}
-use Rattle.run_laws.specs.Resting.{IsLeft}
 use Rattle.run_laws.proofs.Others.{IsPassed, Passes, spares-own, spares-passes}
 use Rattle.run_laws.proofs.Settling.{execute-passes, picked-passes}
 

@@ -1,22 +1,11 @@
 -- The place that was picked last is one of the 64, and a process that is let be stays.
-use Rattle.std.proofs.Common.{◌≡◌, ◌≢◌, ◌∙◌, ℕ, ℤ, ◌<◌, true, false, Option, Some, None, List, [], ◌∷◌, refl, sym, ap, arith}
-use Rattle.std.specs.Prelude.{is_some, nat_le, option_and_then, unwrap_or}
-use Rattle.std.proofs.lemmas.Option.{cond_some}
-use Rattle.unixmodel.specs.declared.event.Event.{Event}
-use Rattle.unixmodel.specs.Calls.{After}
-use Rattle.unixmodel.specs.Counts.{frames_of}
-use Rattle.unixmodel.specs.Files.{Files}
-use Rattle.unixmodel.specs.Next.{next}
-use Rattle.unixmodel.specs.Plan.{Plan, plan_flat}
-use Rattle.unixmodel.specs.Process.{Process, is_running}
-use Rattle.unixmodel.specs.Run.{UnlessHalted, followed_by, picked_by, run}
+use Rattle.run_laws.proofs.Common.{◌≡◌, ◌≢◌, ◌∙◌, ℕ, ℤ, ◌<◌, true, false, Option, Some, None, List, [], ◌∷◌, refl, sym, ap, arith, is_some, nat_le, option_and_then, unwrap_or, cond_some, Event, After}
+use Rattle.run_laws.proofs.Common.{frames_of, Files, next, Plan, plan_flat, Process, is_running, UnlessHalted, followed_by, picked_by, run, State, place_limit, process_at, IsLeft, IsLetBe, Rests}
 use Rattle.unixmodel.specs.Start.{if_fits, init_plan, start, start_flat}
-use Rattle.unixmodel.specs.State.{State, place_limit, process_at}
 use Rattle.run_laws.proofs.Events.{next-takes}
 use Rattle.run_laws.proofs.Others.{rests-then}
 use Rattle.run_laws.proofs.Passing.{picked-turn}
 use Rattle.run_laws.proofs.Rounds.{turn-place}
-use Rattle.run_laws.specs.Resting.{IsLeft, IsLetBe, Rests}
 
 -- ---- the place that was picked last
 

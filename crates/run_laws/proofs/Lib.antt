@@ -1,3 +1,4 @@
+mod Common
 pub mod Others
 pub mod Endings
 pub mod Yielding

@@ -1,16 +1,7 @@
 -- What the rows of the calls on names leave in the places of other processes.
-use Rattle.std.proofs.Common.{ℕ, refl}
-use Rattle.std.specs.Prelude.{◌%◌, ◌^◌}
-use Rattle.unixmodel.specs.FileCalls.{descriptor, fstat_row, node_number}
-use Rattle.unixmodel.specs.Files.{find, free_slot, is_directory, slot, spot_of}
-use Rattle.unixmodel.specs.Files.Node.{Device}
-use Rattle.unixmodel.specs.Memory.{can_write, path_at}
+use Rattle.run_laws.proofs.Common.{ℕ, refl, ◌%◌, ◌^◌, descriptor, fstat_row, node_number, free_slot, is_directory, slot, spot_of, Device, can_write, path_at, low, plan, Process, arg, args_at, exec_row, file_bytes, fits_beside, State}
+use Rattle.unixmodel.specs.Files.{find}
 use Rattle.unixmodel.specs.NameCalls.{chdir_row, found_or_made, link_row, linked, made_at, made_directory, may_open, mkdir_row, mknod_row, open_row, path_arg, unlink_row, unlinked}
-use Rattle.unixmodel.specs.Numbers.{low}
-use Rattle.unixmodel.specs.Plan.{plan}
-use Rattle.unixmodel.specs.Process.{Process, arg}
-use Rattle.unixmodel.specs.ProcessCalls.{args_at, exec_row, file_bytes, fits_beside}
-use Rattle.unixmodel.specs.State.{State}
 use Rattle.run_laws.proofs.Yielding.{Yields, passes-all, passes-own, yields-given, yields-provided}
 
 pub open-yields : (s : State) (r : ℕ) (p : Process) → Yields r s (open_row s r p)

@@ -1,10 +1,5 @@
 -- What a step of the process in one place leaves in the others.
-use Rattle.std.proofs.Common.{◌≡◌, ◌≢◌, ◌∙◌, ℕ, true, Option, Some, None, set, refl, sym, ap, subst}
-use Rattle.std.proofs.lemmas.List.{get_or-set_other}
-use Rattle.unixmodel.specs.Files.{slot}
-use Rattle.unixmodel.specs.Process.{Process, is_zombie}
-use Rattle.unixmodel.specs.State.{State, process_at}
-use Rattle.run_laws.specs.Resting.{Rests}
+use Rattle.run_laws.proofs.Common.{◌≡◌, ◌≢◌, ◌∙◌, ℕ, true, Option, Some, None, set, refl, sym, ap, subst, get_or-set_other, slot, Process, is_zombie, State, process_at, Rests}
 
 -- the process of a place stays, as far as others can't change it; and a free place stays free
 abbrev pub IsSame : Option Process → Option Process → Type 0

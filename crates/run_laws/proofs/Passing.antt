@@ -1,15 +1,8 @@
 -- A run in which a place is passed over picks places that come ever nearer to it.
-use Rattle.std.proofs.Common.{◌≡◌, ◌≢◌, ℕ, ℤ, ◌<◌, Option, Some, None, List, [], ◌∷◌, ◌++◌, get_or, length, refl, ap, subst, arith}
-use Rattle.std.specs.Prelude.{option_to_list, unwrap_or}
-use Rattle.std.specs.List.{All}
+use Rattle.run_laws.proofs.Common.{◌≡◌, ◌≢◌, ℕ, ℤ, ◌<◌, Option, Some, None, List, [], ◌∷◌, ◌++◌, get_or, length, refl, ap, subst, arith, option_to_list, unwrap_or, All, Event, Key, Step}
+use Rattle.run_laws.proofs.Common.{Tick, next, IsPassedOver, NoneTwice, PassesOver, UnlessHalted, picked_by, picked_unless, turns, unless_halted, State, place_limit, running, turn}
 use Rattle.std.proofs.lemmas.List.Elements.{All-cons, All-nil}
 use Rattle.std.proofs.lemmas.List.Kept.{AllPairs-cons}
-use Rattle.unixmodel.specs.declared.event.Event.{Event}
-use Rattle.unixmodel.specs.declared.event.Event.TheVariants.{Key, Step, Tick}
-use Rattle.unixmodel.specs.Next.{next}
-use Rattle.unixmodel.specs.Run.{IsPassedOver, NoneTwice, PassesOver, UnlessHalted, picked_by, picked_unless, turns, unless_halted}
-use Rattle.unixmodel.specs.State.{State, place_limit, running}
-use Rattle.unixmodel.specs.Turn.{turn}
 use Rattle.run_laws.proofs.Events.{next-takes}
 use Rattle.run_laws.proofs.Rounds.{distance, picked-nearer}
 use Rattle.run_laws.specs.Waiting.{IsBounded}

@@ -1,25 +1,13 @@
 -- What the rows of the calls on processes and descriptors leave in the places of other processes.
-use Rattle.std.proofs.Common.{◌≡◌, ◌≢◌, ◌∙◌, ℕ, true, Option, Some, None, List, [], ◌∷◌, zero, suc, set, refl, sym, ap, subst, inl, inr, length}
-use Rattle.std.specs.Prelude.{is_none, is_some, nat_le, not, option_map, pos, take, drop, ◌&&◌, ◌||◌, ◌==◌, ◌+◌, ◌-◌, ◌+ℤ◌}
-use Rattle.std.proofs.lemmas.Bool.{and_parts, cases_eq}
-use Rattle.std.proofs.lemmas.Option.{same_Some}
-use Rattle.std.proofs.lemmas.List.{get_or-set_other}
-use Rattle.std.proofs.lemmas.List.Quantifiers.{position-Some}
-use Rattle.unixmodel.specs.declared.call.Call.TheVariants.{Read, Wait, Write}
-use Rattle.unixmodel.specs.declared.process.Pending.{Pending}
+use Rattle.run_laws.proofs.Common.{◌≡◌, ◌≢◌, ◌∙◌, ℕ, true, Option, Some, None, List, [], ◌∷◌, zero, suc, set, refl, sym, ap, subst, inl, inr, length, is_none, is_some, nat_le, not, option_map, pos, take, drop, ◌&&◌}
+use Rattle.run_laws.proofs.Common.{◌||◌, ◌==◌, ◌+◌, ◌-◌, ◌+ℤ◌, and_parts, cases_eq, same_Some, get_or-set_other, position-Some, Read, Wait, Write, Pending, close_row, descriptor, dup_row, is_usable, pipe_end, pipe_row}
+use Rattle.run_laws.proofs.Common.{read_file, read_on, read_pipe, read_row, read_taken, read_target, unless_empty, write_file, write_on, write_pipe, write_row, write_target, Node, clear, free_slot, longest, put, slot}
+use Rattle.run_laws.proofs.Common.{Device, Directory, File, can_write, read_bytes, int_of, low, natural, Outcome, pending_arg, pending_of, Process, arg, is_child_of, is_zombie, last_pid, child_of, collect, fork_row}
+use Rattle.run_laws.proofs.Common.{has_child, has_slept, kill_row, marked, sbrk_row, sharing, sleep_on, wait_for, wait_on, wait_row, zombie_child, State, change_process, has_end, holds, place_of_pid, process_at}
 use Rattle.unixmodel.specs.Console.{Taken}
-use Rattle.unixmodel.specs.FileCalls.{close_row, descriptor, dup_row, is_usable, pipe_end, pipe_row, read_file, read_on, read_pipe, read_row, read_taken, read_target, unless_empty, write_file, write_on, write_pipe, write_row, write_target}
-use Rattle.unixmodel.specs.Files.{Node, clear, free_slot, longest, put, slot}
-use Rattle.unixmodel.specs.Files.Node.{Device, Directory, File}
-use Rattle.unixmodel.specs.Memory.{can_write, read_bytes}
-use Rattle.unixmodel.specs.Numbers.{int_of, low, natural}
 use Rattle.unixmodel.specs.OpenFiles.{OpenFile, Target, pipe_room}
 use Rattle.unixmodel.specs.OpenFiles.End.{ReadEnd, WriteEnd}
 use Rattle.unixmodel.specs.OpenFiles.Target.{OnNode, OnPipe}
-use Rattle.unixmodel.specs.Outcome.{Outcome, pending_arg, pending_of}
-use Rattle.unixmodel.specs.Process.{Process, arg, is_child_of, is_zombie, last_pid}
-use Rattle.unixmodel.specs.ProcessCalls.{child_of, collect, fork_row, has_child, has_slept, kill_row, marked, sbrk_row, sharing, sleep_on, wait_for, wait_on, wait_row, zombie_child}
-use Rattle.unixmodel.specs.State.{State, change_process, has_end, holds, place_of_pid, process_at}
 use Rattle.run_laws.proofs.Others.{IsPassed, IsSame, Passes, passed-is, same-is, spares-passes}
 use Rattle.run_laws.proofs.Yielding.{Yields, passes-all, passes-own, passes-refl, yields-either, yields-given, yields-provided}
 

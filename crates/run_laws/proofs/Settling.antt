@@ -1,21 +1,10 @@
 -- What a call, an end and an instruction leave in the places of other processes.
-use Rattle.std.proofs.Common.{ℕ, ℤ, Bool, true, false, Option, Some, None, Ok, Err, [], refl}
-use Rattle.std.specs.Prelude.{negsuc}
-use Rattle.std.specs.Prelude.{if◌then◌else◌}
-use Rattle.unixmodel.specs.declared.call.Call.{Call}
+use Rattle.run_laws.proofs.Common.{ℕ, ℤ, Bool, true, false, Option, Some, None, Ok, Err, [], refl, negsuc, if◌then◌else◌, Call, Ready, Running, Waiting, Zombie, Pending, call, call_of}
+use Rattle.run_laws.proofs.Common.{end_at, end_if_killed, entered, goes_on, outcome, outcome_of, resume, row, settle, acted, effect_of, execute, is_ecall, picked, picked_in, trapped}
+use Rattle.run_laws.proofs.Common.{low, Outcome, end_process, Done, Ends, Refused, Waits, Process, arg, with_answer, with_mode, reap, State, change_process, process_at, put_process}
 use Rattle.unixmodel.specs.declared.process.Mode.{Mode}
-use Rattle.unixmodel.specs.declared.process.Mode.TheVariants.{Ready, Running, Waiting, Zombie}
-use Rattle.unixmodel.specs.declared.process.Pending.{Pending}
 use Rattle.unixmodel.specs.declared.trap.Cause.{Cause}
-use Rattle.unixmodel.specs.Calls.{call, call_of, end_at, end_if_killed, entered, goes_on, outcome, outcome_of, resume, row, settle}
 use Rattle.unixmodel.specs.Meaning.{Effect}
-use Rattle.unixmodel.specs.Next.{acted, effect_of, execute, is_ecall, picked, picked_in, trapped}
-use Rattle.unixmodel.specs.Numbers.{low}
-use Rattle.unixmodel.specs.Outcome.{Outcome, end_process}
-use Rattle.unixmodel.specs.Outcome.Outcome.{Done, Ends, Refused, Waits}
-use Rattle.unixmodel.specs.Process.{Process, arg, with_answer, with_mode}
-use Rattle.unixmodel.specs.Reap.{reap}
-use Rattle.unixmodel.specs.State.{State, change_process, process_at, put_process}
 use Rattle.run_laws.proofs.Endings.{end-spares, reap-spares}
 use Rattle.run_laws.proofs.Others.{Passes, Spares, passes-then, spares-all, spares-own, spares-passes, spares-then}
 use Rattle.run_laws.proofs.Table.{goes-on-yields, row-yields}

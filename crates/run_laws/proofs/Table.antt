@@ -1,12 +1,5 @@
 -- What the table of calls leaves in the places of other processes, whether a call is served or refused for now.
-use Rattle.std.proofs.Common.{ℕ}
-use Rattle.unixmodel.specs.declared.call.Call.{Call}
-use Rattle.unixmodel.specs.declared.call.Call.TheVariants.{Chdir, Close, Dup, Exec, Exit, Fork, Fstat, Getpid, Kill, Link, Mkdir, Mknod, Open, Pipe, Read, Sbrk, Sleep, Unlink, Uptime, Wait, Write}
-use Rattle.unixmodel.specs.declared.process.Pending.{Pending}
-use Rattle.unixmodel.specs.Calls.{goes_on, row}
-use Rattle.unixmodel.specs.Outcome.{pending_of}
-use Rattle.unixmodel.specs.Process.{Process}
-use Rattle.unixmodel.specs.State.{State}
+use Rattle.run_laws.proofs.Common.{ℕ, Call, Chdir, Close, Dup, Exec, Exit, Fork, Fstat, Getpid, Kill, Link, Mkdir, Mknod, Open, Pipe, Read, Sbrk, Sleep, Unlink, Uptime, Wait, Write, Pending, goes_on, row, pending_of, Process, State}
 use Rattle.run_laws.proofs.NameRows.{chdir-yields, exec-yields, fstat-yields, link-yields, mkdir-yields, mknod-yields, open-yields, unlink-yields}
 use Rattle.run_laws.proofs.Rows.{close-yields, dup-yields, fork-yields, kill-yields, pipe-yields, read-on-yields, read-yields, sbrk-yields, sleep-on-yields, wait-on-yields, wait-yields, write-on-yields, write-yields}
 use Rattle.run_laws.proofs.Yielding.{Yields, passes-refl}

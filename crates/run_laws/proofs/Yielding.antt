@@ -1,11 +1,5 @@
 -- What the outcome of a call leaves in the places of other processes, however the row comes to it.
-use Rattle.std.proofs.Common.{◌≡◌, ℕ, Bool, true, false, Option, Some, None, set, refl}
-use Rattle.std.specs.Prelude.{if◌then◌else◌}
-use Rattle.unixmodel.specs.Counts.{is_within}
-use Rattle.unixmodel.specs.Outcome.{Outcome, given, limited, provided}
-use Rattle.unixmodel.specs.Outcome.Outcome.{Done, Ends, Refused, Waits}
-use Rattle.unixmodel.specs.Process.{Process}
-use Rattle.unixmodel.specs.State.{State}
+use Rattle.run_laws.proofs.Common.{◌≡◌, ℕ, Bool, true, false, Option, Some, None, set, refl, if◌then◌else◌, is_within, Outcome, given, limited, provided, Done, Ends, Refused, Waits, Process, State}
 use Rattle.run_laws.proofs.Others.{Passes, spares-all, spares-own, spares-passes}
 
 -- the state that an outcome makes

@@ -1,5 +1,4 @@
-use Rattle.std.proofs.Common.{◌≡◌, ℕ, ◌<◌}
-use Rattle.sv39.specs.Walk.{entry_of}
+use Rattle.pagetable.proofs.Common.{◌≡◌, ℕ, ◌<◌, entry_of}
 use Rattle.pagetable.proofs.is_used.Given as goal
 
 abbrev pub invariant-loop-i : goal.invariant-loop-i

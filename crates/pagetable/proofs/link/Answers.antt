@@ -1,5 +1,4 @@
-use Rattle.std.proofs.Common.{arith}
-use Rattle.frames.specs.Free.{free_of}
+use Rattle.pagetable.proofs.Common.{arith, free_of}
 use Rattle.pagetable.proofs.TreeLemmas.{Links-put, free-first, free_of-link, IsFreeList-link, taken_apart}
 use Rattle.pagetable.proofs.link.Goals as goal
 

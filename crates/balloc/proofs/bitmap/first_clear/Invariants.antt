@@ -1,5 +1,4 @@
-use Rattle.std.proofs.Common.{◌≡◌, ℕ, ◌-◌, ◌<◌, ◌≤◌}
-use Rattle.layout.specs.Image.{bit_in}
+use Rattle.balloc.proofs.Common.{◌≡◌, ℕ, ◌-◌, ◌<◌, ◌≤◌, bit_in}
 use Rattle.balloc.proofs.bitmap.first_clear.Given as goal
 
 abbrev pub invariant-scan : goal.invariant-scan

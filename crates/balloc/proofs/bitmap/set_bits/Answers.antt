@@ -1,5 +1,4 @@
-use Rattle.std.proofs.Common.{◌≡◌, ◌+◌, ◌-◌, ◌/◌, ap, arith, get_or, ◌∙◌, sym}
-use Rattle.std.proofs.lemmas.Simd.{get_or-chunk}
+use Rattle.balloc.proofs.Common.{◌≡◌, ◌+◌, ◌-◌, ◌/◌, ap, arith, get_or, ◌∙◌, sym, get_or-chunk}
 use Rattle.balloc.proofs.Clearing.{full_set}
 use Rattle.balloc.proofs.bitmap.set_bits.Goals as goal
 

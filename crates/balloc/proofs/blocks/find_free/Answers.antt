@@ -1,6 +1,4 @@
-use Rattle.std.proofs.Common.{◌+◌, ◌-◌, ◌*◌, ◌/◌, ◌%◌, ◌<◌, ap, sym, ◌∙◌, arith, refl}
-use Rattle.blockdev.specs.Blocks.{block_at}
-use Rattle.cache.proofs.Ending.{goes-after, goes-stays, read-done, step-failed}
+use Rattle.balloc.proofs.Common.{◌+◌, ◌-◌, ◌*◌, ◌/◌, ◌%◌, ◌<◌, ap, sym, ◌∙◌, arith, refl, block_at, goes-after, goes-stays, read-done, step-failed}
 use Rattle.balloc.proofs.Clearing.{clear_found}
 use Rattle.balloc.proofs.Searching.{first_here, set_here}
 use Rattle.balloc.proofs.blocks.find_free.Goals as goal

@@ -1,7 +1,4 @@
-use Rattle.std.proofs.Common.{◌≡◌, ℕ, ◌-◌, ◌<◌, ◌≤◌}
-use Rattle.layout.specs.Super.{bitmap_start_of}
-use Rattle.layout.specs.Image.{bit_of}
-use Rattle.cache.specs.Steps.{Goes}
+use Rattle.balloc.proofs.Common.{◌≡◌, ℕ, ◌-◌, ◌<◌, ◌≤◌, bitmap_start_of, bit_of, Goes}
 use Rattle.balloc.proofs.blocks.find_free.Given as goal
 
 abbrev pub invariant-scan : goal.invariant-scan

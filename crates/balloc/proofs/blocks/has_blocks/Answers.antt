@@ -1,9 +1,5 @@
-use Rattle.std.proofs.Common.{◌∙◌, arith, subst, sym}
-use Rattle.std.proofs.lemmas.Bool.{le-leb}
-use Rattle.layout.specs.Image.{free_blocks}
-use Rattle.balloc.specs.Bitmap.{Finds, IsFirstFree, IsFullFrom}
+use Rattle.balloc.proofs.Common.{◌∙◌, arith, subst, sym, le-leb, free_blocks, Finds, IsFirstFree, IsFullFrom, goes-after, read-done, step-failed}
 use Rattle.balloc.proofs.Enough.{enough-no, free_from, free_from-first, free_from-none}
-use Rattle.cache.proofs.Ending.{goes-after, read-done, step-failed}
 use Rattle.balloc.proofs.blocks.has_blocks.Goals as goal
 
 pub returns-in_err-b : goal.returns-in_err-b

@@ -1,8 +1,5 @@
-use Rattle.std.proofs.Common.{◌≡◌, ◌+◌, ◌-◌, ◌≤◌}
-use Rattle.layout.specs.Super.{data_start_of}
-use Rattle.layout.specs.Image.{free_blocks}
+use Rattle.balloc.proofs.Common.{◌≡◌, ◌+◌, ◌-◌, ◌≤◌, data_start_of, free_blocks, Goes}
 use Rattle.balloc.proofs.Enough.{free_from}
-use Rattle.cache.specs.Steps.{Goes}
 use Rattle.balloc.proofs.blocks.has_blocks.Given as goal
 
 abbrev pub invariant-search : goal.invariant-search

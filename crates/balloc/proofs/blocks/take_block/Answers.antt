@@ -1,7 +1,5 @@
-use Rattle.std.proofs.Common.{subst}
-use Rattle.balloc.specs.Bitmap.{Finds}
+use Rattle.balloc.proofs.Common.{subst, Finds, goes-after, goes-stays, step-done, step-failed}
 use Rattle.balloc.proofs.Taking.{TakesLowest-free, found_takes, full_none}
-use Rattle.cache.proofs.Ending.{goes-after, goes-stays, step-done, step-failed}
 use Rattle.balloc.proofs.blocks.take_block.Goals as goal
 
 pub returns-in_err-b : goal.returns-in_err-b

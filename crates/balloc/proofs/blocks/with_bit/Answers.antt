@@ -1,5 +1,4 @@
-use Rattle.std.proofs.Common.{w8}
-use Rattle.std.proofs.lemmas.Nat.Bits.{bit_at_set_same, bit_at_set_other}
+use Rattle.balloc.proofs.Common.{w8, bit_at_set_same, bit_at_set_other}
 use Rattle.balloc.proofs.blocks.with_bit.Goals as goal
 
 pub returns-clause-here : goal.returns-clause-here

@@ -1,5 +1,4 @@
-use Rattle.std.proofs.Common.{w8}
-use Rattle.std.proofs.lemmas.Nat.Bits.{bit_at_clear_same, bit_at_clear_other}
+use Rattle.balloc.proofs.Common.{w8, bit_at_clear_same, bit_at_clear_other}
 use Rattle.balloc.proofs.blocks.without_bit.Goals as goal
 
 pub returns-clause-here : goal.returns-clause-here

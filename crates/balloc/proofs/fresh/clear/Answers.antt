@@ -1,6 +1,5 @@
-use Rattle.std.proofs.Common.{◌<◌, replicate, arith, refl}
+use Rattle.balloc.proofs.Common.{◌<◌, replicate, arith, refl, goes-after, goes-stays, step-done, step-failed}
 use Rattle.balloc.proofs.Formatting.{Cleared-more, HasParts-write}
-use Rattle.cache.proofs.Ending.{goes-after, goes-stays, step-done, step-failed}
 use Rattle.balloc.proofs.fresh.clear.Goals as goal
 
 pub block-init : goal.block-init

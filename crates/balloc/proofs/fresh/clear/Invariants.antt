@@ -1,7 +1,4 @@
-use Rattle.std.proofs.Common.{◌-◌, ◌≤◌}
-use Rattle.layout.specs.Sound.{HasParts}
-use Rattle.balloc.specs.Format.{Cleared}
-use Rattle.cache.specs.Steps.{Goes}
+use Rattle.balloc.proofs.Common.{◌-◌, ◌≤◌, HasParts, Cleared, Goes}
 use Rattle.balloc.proofs.fresh.clear.Given as goal
 
 abbrev pub invariant-block : goal.invariant-block

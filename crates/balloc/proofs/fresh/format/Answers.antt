@@ -1,7 +1,5 @@
-use Rattle.std.proofs.Common.{ap, arith, ◌∙◌}
-use Rattle.layout.specs.Super.{super_bytes}
+use Rattle.balloc.proofs.Common.{ap, arith, ◌∙◌, super_bytes, goes-after, goes-stays, step-failed, step-last}
 use Rattle.balloc.proofs.Formatting.{HasParts-write, new_system, written_bits}
-use Rattle.cache.proofs.Ending.{goes-after, goes-stays, step-failed, step-last}
 use Rattle.balloc.proofs.fresh.format.Goals as goal
 
 pub returns-in_err-clear : goal.returns-in_err-clear

@@ -1,7 +1,5 @@
-use Rattle.std.proofs.Common.{arith, refl, subst}
-use Rattle.balloc.specs.Format.{HasFront}
+use Rattle.balloc.proofs.Common.{arith, refl, subst, HasFront, goes-after, goes-stays, step-done, step-failed}
 use Rattle.balloc.proofs.Formatting.{front-more}
-use Rattle.cache.proofs.Ending.{goes-after, goes-stays, step-done, step-failed}
 use Rattle.balloc.proofs.fresh.mark_front.Goals as goal
 
 pub block-init : goal.block-init

@@ -1,6 +1,4 @@
-use Rattle.std.proofs.Common.{◌-◌, ◌≤◌}
-use Rattle.balloc.specs.Format.{HasFront}
-use Rattle.cache.specs.Steps.{Goes}
+use Rattle.balloc.proofs.Common.{◌-◌, ◌≤◌, HasFront, Goes}
 use Rattle.balloc.proofs.fresh.mark_front.Given as goal
 
 abbrev pub invariant-block : goal.invariant-block

@@ -1,6 +1,4 @@
-use Rattle.std.proofs.Common.{◌≡◌, ◌≢◌, ℕ, ◌+◌, ◌-◌, ◌*◌, ◌/◌, ◌%◌, ◌<◌, ◌≤◌, ap, ◌∙◌, arith, refl}
-use Rattle.blockdev.specs.Blocks.{block_at}
-use Rattle.cache.proofs.Ending.{goes-after, goes-stays, read-done, step-failed}
+use Rattle.balloc.proofs.Common.{◌≡◌, ◌≢◌, ℕ, ◌+◌, ◌-◌, ◌*◌, ◌/◌, ◌%◌, ◌<◌, ◌≤◌, ap, ◌∙◌, arith, refl, block_at, goes-after, goes-stays, read-done, step-failed}
 use Rattle.balloc.proofs.Scanning.{kind_in, lowest_here, used_up_to}
 use Rattle.balloc.proofs.inodes.find_unused.Goals as goal
 

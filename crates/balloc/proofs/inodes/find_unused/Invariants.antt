@@ -1,6 +1,4 @@
-use Rattle.std.proofs.Common.{◌≡◌, ◌≢◌, ℕ, ◌-◌, ◌<◌, ◌≤◌}
-use Rattle.layout.specs.Image.{inode_at}
-use Rattle.cache.specs.Steps.{Goes}
+use Rattle.balloc.proofs.Common.{◌≡◌, ◌≢◌, ℕ, ◌-◌, ◌<◌, ◌≤◌, inode_at, Goes}
 use Rattle.balloc.proofs.inodes.find_unused.Given as goal
 
 abbrev pub invariant-scan : goal.invariant-scan

@@ -1,6 +1,4 @@
-use Rattle.std.proofs.Common.{◌≢◌, ℕ, ◌*◌, ◌<◌, ◌≤◌}
-use Rattle.blockdev.specs.Splice.{part}
-use Rattle.layout.specs.Inode.{inode_of}
+use Rattle.balloc.proofs.Common.{◌≢◌, ℕ, ◌*◌, ◌<◌, ◌≤◌, part, inode_of}
 use Rattle.balloc.proofs.inodes.first_unused.Given as goal
 
 abbrev pub invariant-loop-i : goal.invariant-loop-i

@@ -1,6 +1,4 @@
-use Rattle.std.proofs.Common.{ap, ◌∙◌}
-use Rattle.layout.specs.Inode.{inode_of}
-use Rattle.cache.proofs.Ending.{goes-stays, read-done, step-failed}
+use Rattle.balloc.proofs.Common.{ap, ◌∙◌, inode_of, goes-stays, read-done, step-failed}
 use Rattle.balloc.proofs.inodes.read_inode.Goals as goal
 
 pub returns-in_err-read_part : goal.returns-in_err-read_part

@@ -1,7 +1,5 @@
-use Rattle.std.proofs.Common.{subst}
-use Rattle.balloc.specs.Inodes.{FindsInode, TakesNode}
+use Rattle.balloc.proofs.Common.{subst, FindsInode, TakesNode, goes-after, goes-stays, step-done, step-failed}
 use Rattle.balloc.proofs.Records.{unused-lowest}
-use Rattle.cache.proofs.Ending.{goes-after, goes-stays, step-done, step-failed}
 use Rattle.balloc.proofs.inodes.take_inode.Goals as goal
 
 pub returns-in_err-number : goal.returns-in_err-number

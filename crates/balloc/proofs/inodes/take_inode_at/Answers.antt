@@ -1,6 +1,5 @@
-use Rattle.std.proofs.Common.{arith}
+use Rattle.balloc.proofs.Common.{arith, goes-stays, step-last}
 use Rattle.balloc.proofs.Records.{fresh_fits, recorded_fresh}
-use Rattle.cache.proofs.Ending.{goes-stays, step-last}
 use Rattle.balloc.proofs.inodes.take_inode_at.Goals as goal
 
 pub write_inode-requires : goal.write_inode-requires

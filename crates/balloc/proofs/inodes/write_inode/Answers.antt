@@ -1,7 +1,5 @@
-use Rattle.std.proofs.Common.{◌≡◌, ◌∙◌, ap, length}
-use Rattle.layout.proofs.GrowLemmas.{WritesInode-write}
+use Rattle.balloc.proofs.Common.{◌≡◌, ◌∙◌, ap, length, WritesInode-write, goes-stays, step-last}
 use Rattle.balloc.proofs.Records.{length-inode_bytes}
-use Rattle.cache.proofs.Ending.{goes-stays, step-last}
 use Rattle.balloc.proofs.inodes.write_inode.Goals as goal
 
 pub returns : goal.returns

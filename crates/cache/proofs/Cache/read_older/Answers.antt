@@ -1,8 +1,6 @@
-use Rattle.std.proofs.Common.{ap, arith, ◌∙◌, length, refl}
+use Rattle.cache.proofs.Common.{ap, arith, ◌∙◌, length, refl, block_at, part}
 use Rattle.cache.proofs.Ending.{read-done, step-last}
 use Rattle.cache.proofs.Seeing.{goes-seen}
-use Rattle.blockdev.specs.Blocks.{block_at}
-use Rattle.blockdev.specs.Splice.{part}
 use Rattle.cache.proofs.Using.{blocks-are, hit, hit-is, parted, used}
 use Rattle.cache.proofs.Cache.read_older.Goals as goal
 

@@ -1,6 +1,4 @@
-use Rattle.std.proofs.Common.{ap, arith, true}
-use Rattle.blockdev.proofs.SpliceLemmas.{put_mid-splice}
-use Rattle.cache.specs.declared.held.Slot.{Slot}
+use Rattle.cache.proofs.Common.{ap, arith, true, put_mid-splice, Slot}
 use Rattle.cache.proofs.held.change.Goals as goal
 
 pub returns : goal.returns

@@ -1,5 +1,4 @@
-use Rattle.std.proofs.Common.{◌≡◌, ◌<◌, nat_eq}
-use Rattle.std.specs.Map.{lookup}
+use Rattle.cache.proofs.Common.{◌≡◌, ◌<◌, nat_eq, lookup}
 use Rattle.cache.proofs.held.recent.Given as goal
 
 -- the blocks that were looked at have other numbers

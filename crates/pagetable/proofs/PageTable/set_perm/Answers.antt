@@ -1,5 +1,4 @@
-use Rattle.std.proofs.Common.{◌≡◌, ℕ, ◌%◌, Option, Some, None, length, sym, ◌∙◌}
-use Rattle.sv39.specs.Walk.{entry_of}
+use Rattle.pagetable.proofs.Common.{◌≡◌, ℕ, ◌%◌, Option, Some, None, length, sym, ◌∙◌, entry_of}
 use Rattle.pagetable.proofs.TreeLemmas.{tree-leaf_sound, lookup_of-low}
 use Rattle.pagetable.proofs.LookupLemmas.{leaf_of-sound, first-same}
 use Rattle.pagetable.proofs.ShapeLemmas.{IsTidy-set}

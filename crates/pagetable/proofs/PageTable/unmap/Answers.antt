@@ -1,6 +1,5 @@
-use Rattle.std.proofs.Common.{ℕ, inl, inr, Some, None, sym, ap, ◌∙◌}
+use Rattle.pagetable.proofs.Common.{ℕ, inl, inr, Some, None, sym, ap, ◌∙◌, mid_node, low_node}
 use Rattle.std.specs.Option.{option_map}
-use Rattle.pagetable.specs.Tree.{mid_node, low_node}
 use Rattle.pagetable.proofs.TreeLemmas.{tree-leaf_sound, lookup_of-low, low_is_node, mid_is_node, table_at-low}
 use Rattle.pagetable.proofs.ShapeLemmas.{Adds-zero, Adds-one, Adds-two}
 use Rattle.pagetable.proofs.UnmapLemmas.{IsTidy-remove, used-low, used-mid, Removes-after, stood-gone, gone-used}
