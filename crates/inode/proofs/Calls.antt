@@ -2,6 +2,7 @@
 use Rattle.inode.proofs.Common.{◌≡◌, ◌+◌, ◌<◌, ◌≤◌, ◌∙◌, ℕ, Bool, List, None, Option, Some, [], ap, arith, inl, inr, length, refl, set, subst, sym, IsSome, false, take, unwrap_or, cases_eq, cases_lt, get_or-set_same, get_or_past}
 use Rattle.inode.proofs.Common.{set-set, take_all, splice, Disk, IsTold, Tells, TellsAny, node_in, IsReadInto, Changes, Store, IsFull, Writes, WritesFrom, WritesSome, no_node, raw_at, store_over, used_by, with_bytes, LacksAt}
 use Rattle.inode.proofs.Common.{Wrote, WritesAt, WritesFront, with_links, InodeStat, length-bytes_of, length-nodes_of, Geometry, IsInode, RawNode, bytes_of, free_blocks, inode_at, nodes_of, taken_for, IsSound, longest, slot}
+use Rattle.std.proofs.lemmas.Option.{none-some}
 use Rattle.balloc.specs.Inodes.{IsUnused, SetsNode, TakesInode, TakesNode, fresh_node}
 use Rattle.inode.proofs.Shown.{inode-some, raw-inode, slot-free, slot-inode, used-inode, whole-sound}
 use Rattle.inode.specs.Store.{TakesLowest}
@@ -24,6 +25,9 @@ asked {g = g} {d} is sound up n some = record { sound = sound (up-inside is up);
 
 -- ---- looks
 
+taken-none : (blocks : List (List ℕ)) (inodes m : ℕ) → IsInode blocks inodes m → slot (nodes_of blocks inodes) m ≡ None → ⊥
+taken-none blocks inodes m used none = none-some _ (sym none ∙ slot-inode blocks inodes m used)
+
 module _ (blocks : List (List ℕ)) (inodes n : ℕ) where
   pub told-raw : IsInode blocks inodes n → (s : InodeStat) → IsTold (node_in blocks n) s → IsTold (raw_at (nodes_of blocks inodes) n) s
   told-raw used s = subst (λ raw. IsTold raw s) (sym (raw-inode blocks inodes n used))
@@ -43,10 +47,8 @@ module _ (blocks : List (List ℕ)) (inodes n : ℕ) where
   unused-free e low high free = record {
     low = low;
     high = omega arith;
-    unused = elim (cases_eq (inode_at blocks n).kind 0) [ inl z ↦ z | inr kind ↦ absurd (both (slot-inode blocks inodes n (record { low = low; high = high; kind = kind })) free) ];
-  } where
-    both : {o : Option RawNode} {x : RawNode} → o ≡ Some x → o ≡ None → ⊥
-    both e f = cc
+    unused = elim (cases_eq (inode_at blocks n).kind 0) [ inl z ↦ z | inr kind ↦ absurd (taken-none blocks inodes n (record { low = low; high = high; kind = kind }) free) ];
+  }
 
   -- a node without bytes
   pub empty-raw : IsInode blocks inodes n → length (raw_at (nodes_of blocks inodes) n).bytes ≡ 0 → (inode_at blocks n).size ≡ 0
@@ -98,11 +100,6 @@ module _ {D : Type 0} {g : Geometry} {d d' : Disk D} {f b : Bool} {n : ℕ} wher
   -- a node more
   pub changes-taken : {kind major minor links : ℕ} → slot (nodes_of d.blocks g.inodes) n ≡ None → TakesNode g d.blocks d'.blocks n kind major minor links → Changes (store_over g d f) (store_over g d' b) n (Some (fresh_node kind major minor links))
   changes-taken free takes = changes-sets takes.sets refl (sym (ap used_by free))
-
-taken-none : (blocks : List (List ℕ)) (inodes m : ℕ) → IsInode blocks inodes m → slot (nodes_of blocks inodes) m ≡ None → ⊥
-taken-none blocks inodes m used none = go (slot-inode blocks inodes m used) none where
-  go : {o : Option RawNode} {x : RawNode} → o ≡ Some x → o ≡ None → ⊥
-  go e f = cc
 
 pub takes-lowest : {D : Type 0} (g : Geometry) (d d' : Disk D) (f b : Bool) (kind major minor links : ℕ) (o : Option ℕ) → TakesInode g d.blocks d'.blocks kind major minor links o → TakesLowest (store_over g d f) (store_over g d' b) kind major minor links o
 takes-lowest g d d' f b kind major minor links (Some n) takes =

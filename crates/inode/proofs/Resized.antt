@@ -1,8 +1,9 @@
 -- The size of a record is written, and nothing else of it.
-use Rattle.inode.proofs.Common.{◌≡◌, ℕ, ◌+◌, ◌-◌, ◌*◌, ◌/◌, ◌%◌, ◌^◌, ◌<◌, ◌≤◌, ◌⊎◌, List, [], length, take, drop, set, ap, sym, ◌∙◌, arith, inl, inr, refl, cases_eq, cases_lt, ext_get_or, block_at, little_bytes, little_number, part, splice, part-splice_apart, part-splice_same}
-use Rattle.inode.proofs.Common.{Geometry, HasParts, PutsBlock-write, WritesInode, inode_at, inode_of}
+use Rattle.inode.proofs.Common.{◌≡◌, ℕ, ◌+◌, ◌-◌, ◌*◌, ◌/◌, ◌%◌, ◌^◌, ◌<◌, ◌≤◌, ◌⊎◌, List, [], length, take, drop, set, ap, sym, ◌∙◌, arith, inl, inr, refl, ext_get_or, block_at, little_bytes, little_number, part, splice, part-splice_apart, part-splice_same}
+use Rattle.inode.proofs.Common.{Geometry, HasParts, WritesInode, inode_at, inode_of}
 use Rattle.std.proofs.lemmas.List.{append-nil, drop-drop, drop-take}
 use Rattle.byteorder.specs.Numbers.{little_from-take, little_number-reads_back}
+use Rattle.layout.proofs.GrowLemmas.{WritesInode-part}
 use Rattle.layout.proofs.NumberLemmas.{get_or-numbers_in, length-numbers_in, same_inode}
 use Rattle.layout.specs.Numbers.{numbers_in}
 
@@ -17,9 +18,6 @@ number-placed w k at block fits =
     ∙ sym (little_from-take 0 w w (drop (at + k) block) (omega arith))
 
 module _ (at s : ℕ) (block : List ℕ) (room : at + 64 ≤ length block) where
-  now : List ℕ
-  now = splice (at + 8) (little_bytes 4 s) block
-
   -- one beside the size is as before
   number-beside : (w k : ℕ) → (k + w ≤ 8) ⊎ (12 ≤ k) → k + w ≤ 64 → little_number w (drop k (part at 64 (splice (at + 8) (little_bytes 4 s) block))) ≡ little_number w (drop k (part at 64 block))
   number-beside w k apart fits =
@@ -49,22 +47,5 @@ module _ (at s : ℕ) (block : List ℕ) (room : at + 64 ≤ length block) where
 pub WritesInode-size : (g : Geometry) (old new : List (List ℕ)) (n s : ℕ) → HasParts g old → n < g.inodes → s < 2 ^ 32
     → new ≡ set old (2 + n / 16) (splice (64 * (n % 16) + 8) (little_bytes 4 s) (block_at old (2 + n / 16))) → WritesInode g old new n (record (inode_at old n) { size = s })
 WritesInode-size g old new n s parts high small e =
-    let within : 2 + n / 16 < length old = omega (arith, parts.count, parts.room) in
-    let size : length (block_at old (2 + n / 16)) ≡ 1024 = parts.sizes (2 + n / 16) within in
-    let puts = PutsBlock-write old new (2 + n / 16) (64 * (n % 16) + 8) (little_bytes 4 s) parts.sizes within (omega arith) e in
-    record {
-      count = puts.count;
-      sizes = puts.sizes;
-      here = ap (λ b. inode_of (part (64 * (n % 16)) 64 b)) puts.here ∙ inode_of-resized (64 * (n % 16)) s (block_at old (2 + n / 16)) (omega arith) small;
-      others = λ m apart. elim (cases_eq (m / 16) (n / 16)) [
-        | inl met ↦
-            let place : 2 + m / 16 ≡ 2 + n / 16 = omega arith in
-            ap (λ q. inode_of (part (64 * (m % 16)) 64 (block_at new q))) place
-            ∙ ap (λ b. inode_of (part (64 * (m % 16)) 64 b)) puts.here
-            ∙ ap inode_of (part-splice_apart (64 * (m % 16)) 64 (64 * (n % 16) + 8) (little_bytes 4 s) (block_at old (2 + n / 16)) (omega arith) (omega arith)
-            (elim (cases_lt (m % 16) (n % 16)) [ inl below ↦ inl (omega arith) | inr above ↦ inr (omega arith) ]))
-            ∙ sym (ap (λ q. inode_of (part (64 * (m % 16)) 64 (block_at old q))) place)
-        | inr other ↦ ap (λ b. inode_of (part (64 * (m % 16)) 64 b)) (puts.rest (2 + m / 16) (omega arith))
-      ];
-      rest = puts.rest;
-    }
+    let size = parts.sizes (2 + n / 16) (omega (arith, parts.count, parts.room)) in
+    WritesInode-part g old new n (64 * (n % 16) + 8) _ (little_bytes 4 s) parts high (omega arith) (omega arith) (inode_of-resized (64 * (n % 16)) s (block_at old (2 + n / 16)) (omega (arith, size)) small) e

@@ -1,5 +1,6 @@
 -- What a sound disk shows of its nodes.
-use Rattle.inode.proofs.Common.{◌≡◌, ◌∙◌, ℕ, Bool, List, None, Option, Some, ap, arith, inl, inr, length, refl, subst, IsSome, unwrap_or, cases_eq, cases_lt, get_or_past, Disk, node_in, IsNode, IsWhole, no_node, raw_at}
+use Rattle.inode.proofs.Common.{◌≡◌, ◌∙◌, ℕ, Bool, List, None, Option, Some, ap, arith, inl, inr, length, refl, subst, sym, IsSome, false≢true, ◌⊎◌, unwrap_or, cases_eq, cases_lt, get_or_past, Disk, node_in, IsNode, IsWhole, no_node, raw_at}
+use Rattle.std.specs.Prelude.{is_some}
 use Rattle.inode.proofs.Common.{store_over, used_by, Geometry, IsInode, RawNode, bytes_of, inode_at, nodes_of, taken_for, IsSound, get_or-nodes_of, length-bytes_of, length-nodes_of, node_at-none, node_at-some, slot}
 
 module _ (blocks : List (List ℕ)) (inodes n : ℕ) where
@@ -7,39 +8,24 @@ module _ (blocks : List (List ℕ)) (inodes n : ℕ) where
   pub slot-inode : IsInode blocks inodes n → slot (nodes_of blocks inodes) n ≡ Some (node_in blocks n)
   slot-inode used = get_or-nodes_of blocks inodes n used.high ∙ node_at-some blocks n used.low used.kind
 
-  none-free : (n ≡ 0) → slot (nodes_of blocks inodes) n ≡ None
-  none-free e = elim (cases_lt n inodes) [
-    | inl high ↦ get_or-nodes_of blocks inodes n high ∙ node_at-none blocks n (inl e)
-    | inr past ↦ get_or_past (nodes_of blocks inodes) n None (omega (arith, length-nodes_of blocks inodes))
-  ]
-
-  -- and what is none is free
-  pub slot-free : (IsInode blocks inodes n → ⊥) → slot (nodes_of blocks inodes) n ≡ None
-  slot-free none = elim (cases_lt n inodes) [
+  -- a number is that of an inode in use, or it names nothing
+  inode-cases : IsInode blocks inodes n ⊎ (slot (nodes_of blocks inodes) n ≡ None)
+  inode-cases = elim (cases_lt n inodes) [
     | inl high ↦ elim (cases_eq n 0) [
-      | inl e ↦ none-free e
-      | inr some ↦ elim (cases_eq (inode_at blocks n).kind 0) [
-        | inl z ↦ get_or-nodes_of blocks inodes n high ∙ node_at-none blocks n (inr z)
-        | inr kind ↦ absurd (none (record { low = omega arith; high = high; kind = kind }))
-      ]
-    ]
-    | inr past ↦ get_or_past (nodes_of blocks inodes) n None (omega (arith, length-nodes_of blocks inodes))
-  ]
-
-  -- a number that names a node is that of an inode in use
-  pub inode-some : IsSome (slot (nodes_of blocks inodes) n) → IsInode blocks inodes n
-  inode-some some = elim (cases_lt n inodes) [
-    | inl high ↦ elim (cases_eq n 0) [
-      | inl e ↦ absurd (nothing (none-free e) some)
+      | inl e ↦ inr (get_or-nodes_of blocks inodes n high ∙ node_at-none blocks n (inl e))
       | inr low ↦ elim (cases_eq (inode_at blocks n).kind 0) [
-        | inl z ↦ absurd (nothing (get_or-nodes_of blocks inodes n high ∙ node_at-none blocks n (inr z)) some)
-        | inr kind ↦ record { low = omega arith; high = high; kind = kind }
+        | inl z ↦ inr (get_or-nodes_of blocks inodes n high ∙ node_at-none blocks n (inr z))
+        | inr kind ↦ inl (record { low = omega arith; high = high; kind = kind })
       ]
     ]
-    | inr past ↦ absurd (nothing (get_or_past (nodes_of blocks inodes) n None (omega (arith, length-nodes_of blocks inodes))) some)
-  ] where
-    nothing : {o : Option RawNode} → o ≡ None → IsSome o → ⊥
-    nothing e some = cc
+    | inr past ↦ inr (get_or_past (nodes_of blocks inodes) n None (omega (arith, length-nodes_of blocks inodes)))
+  ]
+
+  pub slot-free : (IsInode blocks inodes n → ⊥) → slot (nodes_of blocks inodes) n ≡ None
+  slot-free none = elim inode-cases [ inl used ↦ absurd (none used) | inr free ↦ free ]
+
+  pub inode-some : IsSome (slot (nodes_of blocks inodes) n) → IsInode blocks inodes n
+  inode-some some = elim inode-cases [ inl used ↦ used | inr free ↦ absurd (false≢true (sym (ap is_some free) ∙ some)) ]
 
   -- its node
   pub raw-inode : IsInode blocks inodes n → raw_at (nodes_of blocks inodes) n ≡ node_in blocks n
