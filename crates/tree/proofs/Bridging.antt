@@ -1,6 +1,6 @@
 -- What the calls of a volume make of the files that it holds.
 use Rattle.tree.proofs.Common.{◌≡◌, ◌≢◌, ◌+◌, ◌*◌, ◌/◌, ◌-◌, ◌<◌, ◌≤◌, ◌∙◌, ◌++◌, ℕ, Bool, List, None, Option, Some, ap, arith, inl, inr, length, refl, subst, suc, sym, zero, All, drop, false, flat_map, is_none}
-use Rattle.tree.proofs.Common.{min, nat_le, option_map, take, cases_lt, le-leb, lt-leb, get_or-drop, get_or_past, length-append, length-drop, length-take-le, part, splice, Changes, IsFull, IsLowestFree, Store}
+use Rattle.tree.proofs.Common.{none-some, min, nat_le, option_map, take, cases_lt, le-leb, lt-leb, get_or-drop, get_or_past, length-append, length-drop, length-take-le, part, splice, Changes, IsFull, IsLowestFree, Store}
 use Rattle.tree.proofs.Common.{Writes, raw_at, InodeStat, RawNode, index_for, taken_for, length-spelling, PlaceFits, fresh, Rewrites, Agrees, FitsPlaces, IsFileSystem, IsRaw, Stores, files_of, Tells, TellsAny}
 use Rattle.tree.proofs.Common.{TellsMajor, FileTree, tree_with, IsFile, blocks_of, Files, Node, change_node, clear, free_number, node_bytes, place_bytes, put, size_of, slot, with_links, Directory, File}
 use Rattle.std.proofs.lemmas.Bool.Decides.{nat_tests}
@@ -11,7 +11,7 @@ use Rattle.inode.specs.Looking as looking
 use Rattle.inode.specs.Store.{with_bytes}
 use Rattle.inode.specs.Writing as writing
 use Rattle.tree.proofs.Reading.{position-at, position-none}
-use Rattle.tree.proofs.Storing.{Stores-set, blocks_of-set, change-is, held-fits, held-raw, held-size, length-held, raw-some, slot-within, some-node, taken_by, whole-node}
+use Rattle.tree.proofs.Storing.{Stores-set, blocks_of-set, change-is, held-fits, held-none, held-raw, held-size, length-held, raw-some, slot-within, some-node, taken_by, whole-node}
 use Rattle.unixmodel.specs.Files.{Entry}
 use Rattle.unixmodel.specs.Files.Node.{Device}
 
@@ -98,17 +98,12 @@ module _ {D : Type 0} {v : Store D} {files : Files} (holds : Stores v files) whe
   unused n high none = go (slot files n) refl where
     go : (o : Option Node) → slot files n ≡ o → o ≡ None
     go None here = refl
-    go (Some node) here = absurd (raw-none (raw-some (slot v.nodes n) node (subst (Agrees (slot v.nodes n)) here (holds.nodes.each n high))).1 none) where
-      raw-none : {o : Option RawNode} {x : RawNode} → o ≡ Some x → o ≡ None → ⊥
-      raw-none e f = cc
+    go (Some node) here = absurd (none-some _ (sym none ∙ (raw-some (slot v.nodes n) node (subst (Agrees (slot v.nodes n)) here (holds.nodes.each n high))).1))
 
   used : (n : ℕ) → n < length files → slot v.nodes n ≢ None → is_none (slot files n) ≡ false
   used n high some = go (slot files n) refl where
     go : (o : Option Node) → slot files n ≡ o → is_none o ≡ false
-    go None here = absurd (some (free-raw (slot v.nodes n) (subst (Agrees (slot v.nodes n)) here (holds.nodes.each n high)))) where
-      free-raw : (o : Option RawNode) → Agrees o None → o ≡ None
-      free-raw None is = refl
-      free-raw (Some raw) is = absurd is
+    go None here = absurd (some (held-none holds n high here))
     go (Some node) here = refl
 
   pub lowest-number : (n : ℕ) → IsLowestFree v.nodes n → free_number files ≡ Some n

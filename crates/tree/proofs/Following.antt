@@ -102,21 +102,19 @@ turned-last {old} {new = new} now {T} r turns same = last-is now r turns (λ x i
 
 -- ---- it is done
 
-pub end-read : {old now : FileTree} {T : Type 0} {Told : T → Type 0} {x : T} → old.failed ≡ false → IsNow old now old.files → Told x → Reads old now (Ok x) Told
-end-read up now told = record {
-  serves = record { told = (now.is, told); up = now-up now up; down = tt; same_device = now-device now; cause = record { later = now.later; failed = λ e. absurd (false≢true e) } };
+pub end-done : {old now : FileTree} {T : Type 0} {Told : T → Type 0} {files : Files} {x : T} → old.failed ≡ false → IsNow old now files → Told x → Tries old now (Ok x) Told
+end-done up now told = record {
+  serves = record { told = told; up = now-up now up; down = tt; same_device = now-device now; cause = record { later = now.later; failed = λ e. absurd (false≢true e) } };
   size = ap (λ (t : FileTree). t.size) now.is;
   limit = ap (λ (t : FileTree). t.block_limit) now.is;
   holds = ap (λ (t : FileTree). t.holds) now.is;
 }
 
+pub end-read : {old now : FileTree} {T : Type 0} {Told : T → Type 0} {x : T} → old.failed ≡ false → IsNow old now old.files → Told x → Reads old now (Ok x) Told
+end-read up now told = end-done up now (now.is, told)
+
 pub end-turned : {old now : FileTree} {T : Type 0} {files : Files} {x : T} → old.failed ≡ false → IsNow old now files → Turns old now (Ok x) files
-end-turned up now = record {
-  serves = record { told = now.is; up = now-up now up; down = tt; same_device = now-device now; cause = record { later = now.later; failed = λ e. absurd (false≢true e) } };
-  size = ap (λ (t : FileTree). t.size) now.is;
-  limit = ap (λ (t : FileTree). t.block_limit) now.is;
-  holds = ap (λ (t : FileTree). t.holds) now.is;
-}
+end-turned up now = end-done up now now.is
 
 -- ---- a call on names
 

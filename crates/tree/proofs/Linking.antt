@@ -2,7 +2,7 @@
 use Rattle.tree.proofs.Common.{◌+◌, ◌≡◌, ℕ, Some, ap, sym, refl, ◌∙◌, arith, blocks_of, more_links, Files, Node, links_of, blocks_for, change_node, put, size_of, slot, with_links, File}
 use Rattle.tree.proofs.Storing.{blocks_of-set, change-is, slot-within, taken_by}
 
-links-size : (node : Node) (k : ℕ) → size_of (with_links node k) ≡ size_of node
+pub links-size : (node : Node) (k : ℕ) → size_of (with_links node k) ≡ size_of node
 links-size (File links bytes) k = refl
 links-size _ k = refl
 

@@ -9,10 +9,6 @@ pub IfNone-of : {X P : Type 0} (o : Option X) → P → IfNone o P
 IfNone-of None h = h
 IfNone-of (Some x) h = tt
 
-pub not-none : (o : Option Node) → IsSome o → o ≢ None
-not-none None h = λ e. absurd (false≢true h)
-not-none (Some node) h = λ e. cc
-
 -- ---- directories with links
 
 -- d is a directory with links

@@ -28,14 +28,14 @@ parts-skip (b ∷ bs) (suc i) h slashes =
     ap (λ ws. map (take 14) (filter (λ w. nat_lt 0 (length w)) ws)) (cond-true (b == 0x2f) ([] ∷ pieces bs) (onto_first b (pieces bs)) (slashes 0 (omega arith)))
     ∙ parts-skip bs i (omega arith) (λ k l. slashes (suc k) (omega arith))
 
-pieces-split : (bs : List ℕ) (i : ℕ) → i < length bs → is_slash (get_or bs i 0) ≡ true → ((k : ℕ) → k < i → is_slash (get_or bs k 0) ≡ false) → pieces bs ≡ take i bs ∷ pieces (drop (suc i) bs)
+pub pieces-split : (bs : List ℕ) (i : ℕ) → i < length bs → is_slash (get_or bs i 0) ≡ true → ((k : ℕ) → k < i → is_slash (get_or bs k 0) ≡ false) → pieces bs ≡ take i bs ∷ pieces (drop (suc i) bs)
 pieces-split [] i h slash none = absurd (omega arith)
 pieces-split (b ∷ bs) zero h slash none = cond-true (b == 0x2f) ([] ∷ pieces bs) (onto_first b (pieces bs)) slash
 pieces-split (b ∷ bs) (suc i) h slash none =
     cond-false (b == 0x2f) ([] ∷ pieces bs) (onto_first b (pieces bs)) (none 0 (omega arith))
     ∙ ap (onto_first b) (pieces-split bs i (omega arith) slash (λ k l. none (suc k) (omega arith)))
 
-pieces-whole : (bs : List ℕ) → ((k : ℕ) → k < length bs → is_slash (get_or bs k 0) ≡ false) → pieces bs ≡ bs ∷ []
+pub pieces-whole : (bs : List ℕ) → ((k : ℕ) → k < length bs → is_slash (get_or bs k 0) ≡ false) → pieces bs ≡ bs ∷ []
 pieces-whole [] none = refl
 pieces-whole (b ∷ bs) none =
     cond-false (b == 0x2f) ([] ∷ pieces bs) (onto_first b (pieces bs)) (none 0 (omega arith))

@@ -1,7 +1,8 @@
 -- What is read of a directory's places.
 use Rattle.tree.proofs.Common.{◌≡◌, ℕ, ◌+◌, ◌-◌, ◌<◌, ◌≤◌, Bool, List, [], ◌∷◌, None, Option, Some, length, get_or, ap, refl, sym, ◌∙◌, arith, cond, true, false, suc, drop}
 use Rattle.tree.proofs.Common.{nat_lt, option_and_then, position, ◌==◌, list_all, position_or_len, cond-false, cond-true, false≢true, le-ltb, lt-ltb, ne_eqb, get_or-drop}
-use Rattle.tree.proofs.Common.{length-drop, none-some, position_or_len_is, Found, found_at, found_in, is_bare, place_of_bytes, without_zeros, has_name, slot, taken, number_at}
+use Rattle.tree.proofs.Common.{length-drop, none-some, position_or_len_is, Found, found_at, found_in, is_bare, place_of_bytes, has_name, slot, taken, number_at}
+use Rattle.imagerules.proofs.Spelling.{place-free, place-taken}
 use Rattle.unixmodel.specs.Files.{Entry}
 
 -- ---- the first that passes
@@ -50,18 +51,9 @@ bare-no places k e low here =
     let some = some-taken (drop 2 places) (k - 2) e (slot-drop places (k - 2) ∙ ap (slot places) s ∙ here) in
     ne_eqb (length (taken (drop 2 places))) 0 (λ z. absurd (omega arith))
 
-place-free : (bytes : List ℕ) → list_all (λ b. b == 0) bytes ≡ true → place_of_bytes bytes ≡ None
-place-free bytes h = cond-true (list_all (λ b. b == 0) bytes) None (Some (record { name = without_zeros (drop 2 bytes); number = number_at 2 0 bytes })) h
-
-place-taken : (bytes : List ℕ) → list_all (λ b. b == 0) bytes ≡ false → place_of_bytes bytes ≡ Some (record { name = without_zeros (drop 2 bytes); number = number_at 2 0 bytes })
-place-taken bytes h = cond-false (list_all (λ b. b == 0) bytes) None (Some (record { name = without_zeros (drop 2 bytes); number = number_at 2 0 bytes })) h
-
-has-free : (name : List ℕ) (o : Option Entry) → o ≡ None → has_name name o ≡ false
-has-free name o e = ap (has_name name) e
-
 -- a place with a name is taken, by the number that stands in front
 pub named-place : (bytes name : List ℕ) (k n : ℕ) → has_name name (place_of_bytes bytes) ≡ true → n ≡ number_at 2 0 bytes → found_at k (place_of_bytes bytes) ≡ Some (record { place = k; number = n })
 named-place bytes name k n has is = go (list_all (λ b. b == 0) bytes) refl where
   go : (t : Bool) → list_all (λ b. b == 0) bytes ≡ t → found_at k (place_of_bytes bytes) ≡ Some (record { place = k; number = n })
-  go true e = absurd (false≢true (sym (has-free name (place_of_bytes bytes) (place-free bytes e)) ∙ has))
+  go true e = absurd (false≢true (sym (ap (has_name name) (place-free bytes e)) ∙ has))
   go false e = ap (found_at k) (place-taken bytes e) ∙ ap (λ m. let f : Found = record { place = k; number = m } in Some f) (sym is)

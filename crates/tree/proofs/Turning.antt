@@ -57,6 +57,11 @@ module _ {old mid : FileTree} {files : Files} (now : IsNow old mid files) where
         let device : new.identity ≡ old.identity = acts.same_device ∙ now-device now in
         record { is = λ i. record { files = same i; size = size i; block_limit = limit i; holds = holds i; failed = failed i; failures = new.failures; identity = device i }; later = let l = now.later in let m = acts.later in omega arith }
 
+  -- that left the files as they were
+  pub now-kept : {new : FileTree} {T : Type 0} {r : Result T TreeFault} {Done : T → Type 0} {Refused : Type 0} {Why : TreeFault → Type 0} → Acts mid new r (λ x. Done x × (new.files ≡ mid.files)) Refused Why
+      → old.failed ≡ false → {x : T} → r ≡ Ok x → IsNow old new files
+  now-kept acts up is = now-passed acts up is ((done-of acts is).1 ∙ now-files now)
+
 -- by what is known of the files
 pub now-wanted : {old now : FileTree} {files wanted : Files} → IsNow old now files → files ≡ wanted → IsNow old now wanted
 now-wanted {old} {now} is e = subst (IsNow old now) e is

@@ -2,7 +2,7 @@ use Rattle.tree.proofs.Common.{[], Some, ap, arith, le_refl, refl, suc, sym, ◌
 use Rattle.tree.proofs.Folders.{above-asked, first-above, first-bare, first-block, folder-is, folder-many, folder-unnumbered, name-asked, next-is, weaker-folder}
 use Rattle.tree.proofs.Following.{acts-done, acts-lost, acts-not, now-begin, now-files, now-node, now-read, now-up, told-now}
 use Rattle.tree.proofs.Gaps.{overflow-none}
-use Rattle.tree.proofs.Turning.{acts-refused, at-now, done-of, now-changed, now-none, now-passed, now-took, now-wanted}
+use Rattle.tree.proofs.Turning.{acts-refused, at-now, done-of, now-changed, now-kept, now-none, now-took, now-wanted}
 use Rattle.unixmodel.specs.Files.{Entry}
 use Rattle.tree.proofs.tree.Tree.create_directory.Goals as goal
 
@@ -18,19 +18,18 @@ returns-in_err-gap g c =
 pub node-requires : goal.node-requires
 node-requires g c =
     let first = done-of c.find_gap.ensures c.in_ok-gap.was in
-    let now = now-passed now-begin c.find_gap.ensures c.requires.up c.in_ok-gap.was first.1 in
+    let now = now-kept now-begin c.find_gap.ensures c.requires.up c.in_ok-gap.was in
     record { up = now-up now c.requires.up; node = now-node now c.in_ok-gap.gap.directory (Directory (suc first.0.links) first.0.places, first.0.here) }
 
 pub returns-in_err-above : goal.returns-in_err-above
 returns-in_err-above g c =
-    let first = done-of c.find_gap.ensures c.in_ok-gap.was in
-    acts-lost c.requires.up (now-passed now-begin c.find_gap.ensures c.requires.up c.in_ok-gap.was first.1) c.node.ensures c.in_err-above.was c.from_residual-in_err-above.ensures.1
+    acts-lost c.requires.up (now-kept now-begin c.find_gap.ensures c.requires.up c.in_ok-gap.was) c.node.ensures c.in_err-above.was c.from_residual-in_err-above.ensures.1
 
 pub returns-then-above-ge-MOST_LINKS : goal.returns-then-above-ge-MOST_LINKS
 returns-then-above-ge-MOST_LINKS g c =
     let first = done-of c.find_gap.ensures c.in_ok-gap.was in
     let gap = first.0 in
-    let now = now-passed now-begin c.find_gap.ensures c.requires.up c.in_ok-gap.was first.1 in
+    let now = now-kept now-begin c.find_gap.ensures c.requires.up c.in_ok-gap.was in
     let parent = Directory (suc gap.links) gap.places in
     let links = (told-now now c.in_ok-gap.gap.directory c.in_ok-above.ensures.serves.told.1 parent gap.here).1 in
     let many = c.if-above-ge-MOST_LINKS.true in
@@ -42,20 +41,18 @@ returns-then-above-ge-MOST_LINKS g c =
 -- behind the look at the directory above
 pub take_node-requires : goal.take_node-requires
 take_node-requires g c =
-    let first = done-of c.find_gap.ensures c.in_ok-gap.was in
-    let now = now-read (now-passed now-begin c.find_gap.ensures c.requires.up c.in_ok-gap.was first.1) c.node.ensures c.in_ok-above.was in
+    let now = now-read (now-kept now-begin c.find_gap.ensures c.requires.up c.in_ok-gap.was) c.node.ensures c.in_ok-above.was in
     record { up = now-up now c.requires.up; some = omega arith; kind = omega arith }
 
 pub returns-in_err-number : goal.returns-in_err-number
 returns-in_err-number g c =
-    let first = done-of c.find_gap.ensures c.in_ok-gap.was in
-    acts-lost c.requires.up (now-read (now-passed now-begin c.find_gap.ensures c.requires.up c.in_ok-gap.was first.1) c.node.ensures c.in_ok-above.was) c.take_node.ensures c.in_err-number.was c.from_residual-in_err-number.ensures.1
+    acts-lost c.requires.up (now-read (now-kept now-begin c.find_gap.ensures c.requires.up c.in_ok-gap.was) c.node.ensures c.in_ok-above.was) c.take_node.ensures c.in_err-number.was c.from_residual-in_err-number.ensures.1
 
 pub returns-in_default : goal.returns-in_default
 returns-in_default g c =
     let first = done-of c.find_gap.ensures c.in_ok-gap.was in
     let gap = first.0 in
-    let none = now-none (now-read (now-passed now-begin c.find_gap.ensures c.requires.up c.in_ok-gap.was first.1) c.node.ensures c.in_ok-above.was) 1 0 0 c.take_node.ensures c.in_ok-number.was c.in_default.is in
+    let none = now-none (now-read (now-kept now-begin c.find_gap.ensures c.requires.up c.in_ok-gap.was) c.node.ensures c.in_ok-above.was) 1 0 0 c.take_node.ensures c.in_ok-number.was c.in_default.is in
     acts-not c.requires.up none.1 refl
     (overflow-none c.args.self.now.block_limit (folder-unnumbered c.args.self.now.files c.args.directory c.args.path.now _ gap.spot (Directory (suc gap.links) gap.places) gap.here none.0)) none.0
 
@@ -63,7 +60,7 @@ returns-in_default g c =
 pub put_dots-requires : goal.put_dots-requires
 put_dots-requires g c =
     let first = done-of c.find_gap.ensures c.in_ok-gap.was in
-    let took = now-took (now-read (now-passed now-begin c.find_gap.ensures c.requires.up c.in_ok-gap.was first.1) c.node.ensures c.in_ok-above.was) 1 0 0 c.take_node.ensures c.in_ok-number.was c.in-Some.is in
+    let took = now-took (now-read (now-kept now-begin c.find_gap.ensures c.requires.up c.in_ok-gap.was) c.node.ensures c.in_ok-above.was) 1 0 0 c.take_node.ensures c.in_ok-number.was c.in-Some.is in
     record {
       up = now-up took.1 c.requires.up;
       bare = at-now took.1 (λ t. slot t.files c.in-Some.number ≡ Some (Directory 1 [])) (first-bare c.args.self.now first.0 took.0);
@@ -73,23 +70,21 @@ put_dots-requires g c =
 
 pub returns-in_err-put_dots : goal.returns-in_err-put_dots
 returns-in_err-put_dots g c =
-    let first = done-of c.find_gap.ensures c.in_ok-gap.was in
-    let took = now-took (now-read (now-passed now-begin c.find_gap.ensures c.requires.up c.in_ok-gap.was first.1) c.node.ensures c.in_ok-above.was) 1 0 0 c.take_node.ensures c.in_ok-number.was c.in-Some.is in
+    let took = now-took (now-read (now-kept now-begin c.find_gap.ensures c.requires.up c.in_ok-gap.was) c.node.ensures c.in_ok-above.was) 1 0 0 c.take_node.ensures c.in_ok-number.was c.in-Some.is in
     acts-lost c.requires.up took.1 c.put_dots.ensures c.in_err-put_dots.was c.from_residual-in_err-put_dots.ensures.1
 
 -- behind its own entries
 pub put_entry-requires : goal.put_entry-requires
 put_entry-requires g c =
     let first = done-of c.find_gap.ensures c.in_ok-gap.was in
-    let took = now-took (now-read (now-passed now-begin c.find_gap.ensures c.requires.up c.in_ok-gap.was first.1) c.node.ensures c.in_ok-above.was) 1 0 0 c.take_node.ensures c.in_ok-number.was c.in-Some.is in
+    let took = now-took (now-read (now-kept now-begin c.find_gap.ensures c.requires.up c.in_ok-gap.was) c.node.ensures c.in_ok-above.was) 1 0 0 c.take_node.ensures c.in_ok-number.was c.in-Some.is in
     let dots = now-wanted (now-changed took.1 (λ fs. put fs c.in-Some.number (new_directory c.in_ok-gap.gap.directory c.in-Some.number)) c.put_dots.ensures c.in_ok-put_dots.was) (next-is c.args.self.now first.0 took.0) in
     let asked = name-asked c.args.self.now first.0 took.0 dots c.requires.path in
     record { up = now-up dots c.requires.up; plain = asked.plain; number = asked.node; room = asked.room; fits = asked.fits }
 
 pub returns-in_err-put_entry : goal.returns-in_err-put_entry
 returns-in_err-put_entry g c =
-    let first = done-of c.find_gap.ensures c.in_ok-gap.was in
-    let took = now-took (now-read (now-passed now-begin c.find_gap.ensures c.requires.up c.in_ok-gap.was first.1) c.node.ensures c.in_ok-above.was) 1 0 0 c.take_node.ensures c.in_ok-number.was c.in-Some.is in
+    let took = now-took (now-read (now-kept now-begin c.find_gap.ensures c.requires.up c.in_ok-gap.was) c.node.ensures c.in_ok-above.was) 1 0 0 c.take_node.ensures c.in_ok-number.was c.in-Some.is in
     let dots = now-changed took.1 (λ fs. put fs c.in-Some.number (new_directory c.in_ok-gap.gap.directory c.in-Some.number)) c.put_dots.ensures c.in_ok-put_dots.was in
     acts-lost c.requires.up dots c.put_entry.ensures c.in_err-put_entry.was c.from_residual-in_err-put_entry.ensures.1
 
@@ -98,7 +93,7 @@ pub add_link-requires : goal.add_link-requires
 add_link-requires g c =
     let first = done-of c.find_gap.ensures c.in_ok-gap.was in
     let gap = first.0 in
-    let begun = now-passed now-begin c.find_gap.ensures c.requires.up c.in_ok-gap.was first.1 in
+    let begun = now-kept now-begin c.find_gap.ensures c.requires.up c.in_ok-gap.was in
     let took = now-took (now-read begun c.node.ensures c.in_ok-above.was) 1 0 0 c.take_node.ensures c.in_ok-number.was c.in-Some.is in
     let dots = now-wanted (now-changed took.1 (λ fs. put fs c.in-Some.number (new_directory c.in_ok-gap.gap.directory c.in-Some.number)) c.put_dots.ensures c.in_ok-put_dots.was) (next-is c.args.self.now gap took.0) in
     let e : Entry = record { name = c.in_ok-gap.gap.name.now; number = c.in-Some.number } in
@@ -109,8 +104,7 @@ add_link-requires g c =
 
 pub returns-in_err-add_link : goal.returns-in_err-add_link
 returns-in_err-add_link g c =
-    let first = done-of c.find_gap.ensures c.in_ok-gap.was in
-    let took = now-took (now-read (now-passed now-begin c.find_gap.ensures c.requires.up c.in_ok-gap.was first.1) c.node.ensures c.in_ok-above.was) 1 0 0 c.take_node.ensures c.in_ok-number.was c.in-Some.is in
+    let took = now-took (now-read (now-kept now-begin c.find_gap.ensures c.requires.up c.in_ok-gap.was) c.node.ensures c.in_ok-above.was) 1 0 0 c.take_node.ensures c.in_ok-number.was c.in-Some.is in
     let dots = now-changed took.1 (λ fs. put fs c.in-Some.number (new_directory c.in_ok-gap.gap.directory c.in-Some.number)) c.put_dots.ensures c.in_ok-put_dots.was in
     let e : Entry = record { name = c.in_ok-gap.gap.name.now; number = c.in-Some.number } in
     acts-lost c.requires.up (now-changed dots (λ fs. entered fs c.in_ok-gap.gap.directory c.in_ok-gap.gap.place e) c.put_entry.ensures c.in_ok-put_entry.was) c.add_link.ensures c.in_err-add_link.was c.from_residual-in_err-add_link.ensures.1
@@ -119,7 +113,7 @@ pub returns : goal.returns
 returns g c =
     let first = done-of c.find_gap.ensures c.in_ok-gap.was in
     let gap = first.0 in
-    let begun = now-passed now-begin c.find_gap.ensures c.requires.up c.in_ok-gap.was first.1 in
+    let begun = now-kept now-begin c.find_gap.ensures c.requires.up c.in_ok-gap.was in
     let took = now-took (now-read begun c.node.ensures c.in_ok-above.was) 1 0 0 c.take_node.ensures c.in_ok-number.was c.in-Some.is in
     let dots = now-wanted (now-changed took.1 (λ fs. put fs c.in-Some.number (new_directory c.in_ok-gap.gap.directory c.in-Some.number)) c.put_dots.ensures c.in_ok-put_dots.was) (next-is c.args.self.now gap took.0) in
     let e : Entry = record { name = c.in_ok-gap.gap.name.now; number = c.in-Some.number } in

@@ -2,7 +2,7 @@ use Rattle.tree.proofs.Common.{inl, sym, ◌∙◌, refl, ap, Some, ◌<◌, ◌
 use Rattle.tree.proofs.Following.{acts-done, acts-lost, acts-not, now-begin, now-files, now-node, now-read, now-up, told-now, used-now}
 use Rattle.tree.proofs.Gaps.{none-more, overflow-none}
 use Rattle.tree.proofs.Links.{link-asked, linked-asked, linked-into, linked-nothing, reached, seen, seen-directory, seen-many, seen-weaker}
-use Rattle.tree.proofs.Turning.{acts-refused, at-now, done-of, now-changed, now-passed, was-now}
+use Rattle.tree.proofs.Turning.{acts-refused, at-now, done-of, now-changed, now-kept, was-now}
 use Rattle.unixmodel.specs.Files.{Entry}
 use Rattle.tree.proofs.tree.Tree.link.Goals as goal
 
@@ -62,15 +62,13 @@ add_link-requires g c =
     let before = now-read now-begin c.find.ensures c.in_ok-number.was in
     let s = seen c.requires.rules c.args.directory c.args.old.now c.requires.directory (sym c.in_ok-number.ensures.serves.told.1 ∙ c.in-Some.is) (told-now before c.in-Some.number c.in_ok-node.ensures.serves.told.1) in
     let second = now-read before c.node.ensures c.in_ok-node.was in
-    let first = done-of c.find_gap.ensures c.in_ok-gap.was in
-    let now = now-passed second c.find_gap.ensures c.requires.up c.in_ok-gap.was (first.1 ∙ now-files second) in
+    let now = now-kept second c.find_gap.ensures c.requires.up c.in_ok-gap.was in
     record { up = now-up now c.requires.up; node = at-now now (λ t. (node : Node) × (slot t.files c.in-Some.number ≡ Some node) × (links_of node < 65535)) (link-asked c.args.self.now s c.args.new.now c.if-node-eq-DIRECTORY.false c.if-node-ge-MOST_LINKS.false) }
 
 pub returns-in_err-add_link : goal.returns-in_err-add_link
 returns-in_err-add_link g c =
     let second = now-read (now-read now-begin c.find.ensures c.in_ok-number.was) c.node.ensures c.in_ok-node.was in
-    let first = done-of c.find_gap.ensures c.in_ok-gap.was in
-    acts-lost c.requires.up (now-passed second c.find_gap.ensures c.requires.up c.in_ok-gap.was (first.1 ∙ now-files second)) c.add_link.ensures c.in_err-add_link.was c.from_residual-in_err-add_link.ensures.1
+    acts-lost c.requires.up (now-kept second c.find_gap.ensures c.requires.up c.in_ok-gap.was) c.add_link.ensures c.in_err-add_link.was c.from_residual-in_err-add_link.ensures.1
 
 pub put_entry-requires : goal.put_entry-requires
 put_entry-requires g c =
@@ -78,7 +76,7 @@ put_entry-requires g c =
     let s = seen c.requires.rules c.args.directory c.args.old.now c.requires.directory (sym c.in_ok-number.ensures.serves.told.1 ∙ c.in-Some.is) (told-now before c.in-Some.number c.in_ok-node.ensures.serves.told.1) in
     let second = now-read before c.node.ensures c.in_ok-node.was in
     let first = done-of c.find_gap.ensures c.in_ok-gap.was in
-    let third = now-passed second c.find_gap.ensures c.requires.up c.in_ok-gap.was (first.1 ∙ now-files second) in
+    let third = now-kept second c.find_gap.ensures c.requires.up c.in_ok-gap.was in
     let now = now-changed third (λ fs. change_node fs c.in-Some.number more_links) c.add_link.ensures c.in_ok-add_link.was in
     let at : Spot = record { directory = c.in_ok-gap.gap.directory; name = c.in_ok-gap.gap.name.now } in
     let gap = was-now second (λ t. HasGap t.block_limit t.files c.args.directory c.args.new.now 0 at c.in_ok-gap.gap.place) first.0 in
@@ -88,8 +86,7 @@ put_entry-requires g c =
 pub returns-in_err-put_entry : goal.returns-in_err-put_entry
 returns-in_err-put_entry g c =
     let second = now-read (now-read now-begin c.find.ensures c.in_ok-number.was) c.node.ensures c.in_ok-node.was in
-    let first = done-of c.find_gap.ensures c.in_ok-gap.was in
-    let third = now-passed second c.find_gap.ensures c.requires.up c.in_ok-gap.was (first.1 ∙ now-files second) in
+    let third = now-kept second c.find_gap.ensures c.requires.up c.in_ok-gap.was in
     acts-lost c.requires.up (now-changed third (λ fs. change_node fs c.in-Some.number more_links) c.add_link.ensures c.in_ok-add_link.was) c.put_entry.ensures c.in_err-put_entry.was c.from_residual-in_err-put_entry.ensures.1
 
 pub returns : goal.returns
@@ -98,7 +95,7 @@ returns g c =
     let s = seen c.requires.rules c.args.directory c.args.old.now c.requires.directory (sym c.in_ok-number.ensures.serves.told.1 ∙ c.in-Some.is) (told-now before c.in-Some.number c.in_ok-node.ensures.serves.told.1) in
     let second = now-read before c.node.ensures c.in_ok-node.was in
     let first = done-of c.find_gap.ensures c.in_ok-gap.was in
-    let third = now-passed second c.find_gap.ensures c.requires.up c.in_ok-gap.was (first.1 ∙ now-files second) in
+    let third = now-kept second c.find_gap.ensures c.requires.up c.in_ok-gap.was in
     let now = now-changed third (λ fs. change_node fs c.in-Some.number more_links) c.add_link.ensures c.in_ok-add_link.was in
     let at : Spot = record { directory = c.in_ok-gap.gap.directory; name = c.in_ok-gap.gap.name.now } in
     let gap = was-now second (λ t. HasGap t.block_limit t.files c.args.directory c.args.new.now 0 at c.in_ok-gap.gap.place) first.0 in

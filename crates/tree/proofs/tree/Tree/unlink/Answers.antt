@@ -1,6 +1,6 @@
 use Rattle.tree.proofs.Common.{Some, ap, sym, ◌∙◌, ◌≡◌, refl, None, let_go, IsNaming, LacksName, Unlinks, Spot, unlinked}
 use Rattle.tree.proofs.Following.{acts-done, acts-lost, now-begin, now-files, now-holds, now-up, now-turned}
-use Rattle.tree.proofs.Turning.{acts-refused, at-now, done-of, now-passed, was-now}
+use Rattle.tree.proofs.Turning.{acts-refused, at-now, done-of, now-kept, now-passed, was-now}
 use Rattle.tree.proofs.Unnaming.{gone-name, refused-at, spot-naming, without-spot}
 use Rattle.tree.proofs.tree.Tree.unlink.Goals as goal
 
@@ -15,13 +15,13 @@ returns-in_err-above g c =
 pub remove_name-requires : goal.remove_name-requires
 remove_name-requires g c =
     let first = done-of c.spot.ensures c.in_ok-above.was in
-    let now = now-passed now-begin c.spot.ensures c.requires.up c.in_ok-above.was first.1 in
+    let now = now-kept now-begin c.spot.ensures c.requires.up c.in_ok-above.was in
     record { up = now-up now c.requires.up; naming = at-now now (λ t. IsNaming t.files c.in_ok-above.above) (spot-naming c.args.self.now.holds c.args.self.now.files c.args.directory c.args.path.now c.requires.rules _ first.0) }
 
 pub returns-in_err-number : goal.returns-in_err-number
 returns-in_err-number g c =
     let first = done-of c.spot.ensures c.in_ok-above.was in
-    let now = now-passed now-begin c.spot.ensures c.requires.up c.in_ok-above.was first.1 in
+    let now = now-kept now-begin c.spot.ensures c.requires.up c.in_ok-above.was in
     let at : Spot = record { directory = c.in_ok-above.above; name = c.in_ok-above.name.now } in
     acts-refused c.requires.up now c.remove_name.ensures c.in_err-number.was
     (λ known none why. refused-at c.args.self.now.holds c.args.self.now.files c.args.directory c.args.path.now at first.0 c.in_err-number.field-0.0 known (was-now now (λ t. unlinked t.files at ≡ None) none) (was-now now (λ t. LacksName t.files at c.in_err-number.field-0.0) why)) c.from_residual-in_err-number.ensures.1
@@ -29,22 +29,20 @@ returns-in_err-number g c =
 -- behind the name that went
 pub let_go-requires : goal.let_go-requires
 let_go-requires g c =
-    let first = done-of c.spot.ensures c.in_ok-above.was in
     let second = done-of c.remove_name.ensures c.in_ok-number.was in
-    let now = now-passed (now-passed now-begin c.spot.ensures c.requires.up c.in_ok-above.was first.1) c.remove_name.ensures c.requires.up c.in_ok-number.was refl in
+    let now = now-passed (now-kept now-begin c.spot.ensures c.requires.up c.in_ok-above.was) c.remove_name.ensures c.requires.up c.in_ok-number.was refl in
     record { up = now-up now c.requires.up; node = second.stands }
 
 pub returns-in_err-let_go : goal.returns-in_err-let_go
 returns-in_err-let_go g c =
-    let first = done-of c.spot.ensures c.in_ok-above.was in
-    let now = now-passed (now-passed now-begin c.spot.ensures c.requires.up c.in_ok-above.was first.1) c.remove_name.ensures c.requires.up c.in_ok-number.was refl in
+    let now = now-passed (now-kept now-begin c.spot.ensures c.requires.up c.in_ok-above.was) c.remove_name.ensures c.requires.up c.in_ok-number.was refl in
     acts-lost c.requires.up now c.let_go.ensures c.in_err-let_go.was c.from_residual-in_err-let_go.ensures.1
 
 pub returns : goal.returns
 returns g c =
     let at : Spot = record { directory = c.in_ok-above.above; name = c.in_ok-above.name.now } in
     let first = done-of c.spot.ensures c.in_ok-above.was in
-    let begun = now-passed now-begin c.spot.ensures c.requires.up c.in_ok-above.was first.1 in
+    let begun = now-kept now-begin c.spot.ensures c.requires.up c.in_ok-above.was in
     let second = was-now begun (λ t. Unlinks t.files c.remove_name.new.self.files at c.in_ok-number.number) (done-of c.remove_name.ensures c.in_ok-number.was) in
     let now = now-passed begun c.remove_name.ensures c.requires.up c.in_ok-number.was refl in
     let last = now-turned now c.let_go.ensures c.in_ok-let_go.was in
