@@ -30,7 +30,7 @@ is-short files n node e = ap (λ o. unwrap_or (option_map (λ (x : Node). nat_le
 
 -- ---- the files
 
-module _ (t : FileTree) (d : ℕ) (name : List ℕ) (n : ℕ) (thing : Thing) (can : CanAdd t.files d name n) where
+module _ (t : FileTree) {d : ℕ} {name : List ℕ} {n : ℕ} (thing : Thing) (can : CanAdd t.files d name n) where
   abbrev entry : Entry
   entry = record { name = name; number = n }
 

@@ -1,7 +1,7 @@
 -- From a blank disk to the bytes of an image that denotes files.
 use Rattle.imagemake.proofs.Common.{◌≡◌, ℕ, ◌+◌, ◌*◌, ◌&&◌, true, false, cond, List, None, Ok, Err, Option, Result, get_or, length, nat_le, nat_lt, ap, sym, refl, ◌∙◌, arith, inl, inr, subst}
 use Rattle.imagemake.proofs.Common.{replicate, OnOk, IsErrAnd, and_parts, cases_lt, false≢true, nat_tests, get_or-replicate, get_or_past, length-replicate, Geometry, RawNode, FitsPlaces, IsFileSystem}
-use Rattle.imagemake.proofs.Common.{IsStored, files_of, FileTree, tree_with, IsNow, now-limit, files-are, held-again, Files, free_slots, format, Denotes, data_start, ManifestEntry, Wrong, bare_files}
+use Rattle.imagemake.proofs.Common.{IsStored, FileTree, tree_with, IsNow, now-limit, files-are, held-again, Files, free_slots, format, Denotes, data_start, ManifestEntry, Wrong, bare_files}
 use Rattle.imagemake.proofs.Common.{data_blocks_of, files_made, has_numbers, with_entries, Numbers, IsBlank, IsPossible, MakesEntries, made_by, image_of, MakesImage, Refuses, MakeFault, NoMemory}
 use Rattle.std.specs.Prelude.{IfErr, IfOk, IsOk}
 use Rattle.balloc.specs.Format.{IsNew}
@@ -21,8 +21,16 @@ blank-made {g = g} new is = subst (IsBlank g) (sym is) (record { numbers = refl;
 slot-none : (n m : ℕ) → get_or (replicate {A = Option RawNode} n None) m None ≡ None
 slot-none n m = elim (cases_lt m n) [ inl l ↦ get_or-replicate n m None None l | inr r ↦ get_or_past (replicate n None) m None (omega (arith, length-replicate {A = Option RawNode} n None)) ]
 
+-- its tree has no file
+pub record IsBareTree (g : Geometry) (tree : FileTree) : Type 0 where
+  pub up : tree.failed ≡ false
+  pub long : length tree.files ≡ g.inodes
+  pub none : tree.files ≡ free_slots (length tree.files)
+  pub limit : tree.block_limit ≡ data_blocks_of g.size g.inodes
+  pub size : tree.size ≡ g.size
+
 module _ {D : Type 0} {g : Geometry} {s : Store D} (possible : IsPossible g) (blank : IsBlank g s) (whole : IsWhole s) where
-  blank-stores : Stores s (free_slots g.inodes)
+  pub blank-stores : Stores s (free_slots g.inodes)
   blank-stores =
       let free = blank.free in
       let room = possible.room in
@@ -40,27 +48,17 @@ module _ {D : Type 0} {g : Geometry} {s : Store D} (possible : IsPossible g) (bl
   pub blank-held : IsFileSystem s
   blank-held = held-again blank-stores
 
-  pub blank-files : files_of s.nodes ≡ free_slots g.inodes
-  blank-files = files-are blank-stores
-
-  module _ {tree : FileTree} {identity : List ℕ} (is : tree ≡ tree_with identity s (replicate s.geometry.inodes 0)) where
-    pub tree-up : tree.failed ≡ false
-    tree-up = ap (λ (t : FileTree). t.failed) is ∙ blank.up
-
-    tree-files : tree.files ≡ free_slots g.inodes
-    tree-files = ap (λ (t : FileTree). t.files) is ∙ blank-files
-
-    pub tree-long : length tree.files ≡ g.inodes
-    tree-long = ap length tree-files ∙ length-free g.inodes
-
-    pub tree-none : tree.files ≡ free_slots (length tree.files)
-    tree-none = tree-files ∙ ap free_slots (sym tree-long)
-
-    pub tree-limit : tree.block_limit ≡ data_blocks_of g.size g.inodes
-    tree-limit = ap (λ (t : FileTree). t.block_limit) is ∙ ap (λ (g : Geometry). data_blocks_of g.size g.inodes) blank.numbers
-
-    pub tree-size : tree.size ≡ g.size
-    tree-size = ap (λ (t : FileTree). t.size) is ∙ ap (λ (g : Geometry). g.size) blank.numbers
+  pub bare-tree : {tree : FileTree} {identity : List ℕ} → tree ≡ tree_with identity s (replicate s.geometry.inodes 0) → IsBareTree g tree
+  bare-tree {tree} is =
+      let files : tree.files ≡ free_slots g.inodes = ap (λ (t : FileTree). t.files) is ∙ files-are blank-stores in
+      let long = ap length files ∙ length-free g.inodes in
+      record {
+        up = ap (λ (t : FileTree). t.failed) is ∙ blank.up;
+        long = long;
+        none = files ∙ ap free_slots (sym long);
+        limit = ap (λ (t : FileTree). t.block_limit) is ∙ ap (λ (g : Geometry). data_blocks_of g.size g.inodes) blank.numbers;
+        size = ap (λ (t : FileTree). t.size) is ∙ ap (λ (g : Geometry). g.size) blank.numbers;
+      }
 
 -- ---- numbers that an image can have
 
@@ -99,19 +97,19 @@ module _ (entries : List ManifestEntry) (size inodes : ℕ) where
   made-with h = ap (λ b. cond b (with_entries (data_blocks_of size inodes) inodes (bare_files inodes) 2 entries) (Err Numbers)) h
 
   -- by a tree that is blank
-  module _ (h : has_numbers size inodes ≡ true) (t : FileTree) (limit : t.block_limit ≡ data_blocks_of size inodes) (long : length t.files ≡ inodes) where
+  module _ (h : has_numbers size inodes ≡ true) {t : FileTree} (bare : IsBareTree (record { size = size; inodes = inodes }) t) where
     made-is : files_made entries size inodes ≡ made_by t entries
-    made-is = made-with h ∙ (λ i. with_entries (sym limit i) (sym long i) (bare_files (sym long i)) 2 entries)
+    made-is = made-with h ∙ (λ i. with_entries (sym bare.limit i) (sym bare.long i) (bare_files (sym bare.long i)) 2 entries)
 
     pub refused-entries : (fault : MakeFault) → Refuses (made_by t entries) fault → Refuses (files_made entries size inodes) fault
     refused-entries fault told = subst (λ r. Refuses r fault) (sym made-is) told
 
-    pub makes-image : {new : FileTree} → MakesEntries t new entries → t.size ≡ size → {blocks : List (List ℕ)} {image : List ℕ} → IsStored new.size blocks new.files → image ≡ image_of blocks → MakesImage entries size inodes image
-    makes-image {new} makes same {blocks} stored bytes = record {
+    pub makes-image : {new : FileTree} → MakesEntries t new entries → {blocks : List (List ℕ)} {image : List ℕ} → IsStored new.size blocks new.files → image ≡ image_of blocks → MakesImage entries size inodes image
+    makes-image {new} makes {blocks} stored bytes = record {
       files = new.files;
       made = made-is ∙ makes.is;
       denotes = subst (λ b. Denotes b new.files) (sym bytes) (Denotes-stored stored makes.rules);
-      whole = ap length bytes ∙ length-stored stored ∙ ap (λ k. 1024 * k) (ap (λ (t : FileTree). t.size) makes.rest ∙ same);
+      whole = ap length bytes ∙ length-stored stored ∙ ap (λ k. 1024 * k) (ap (λ (t : FileTree). t.size) makes.rest ∙ bare.size);
     }
 
 -- ---- behind the root

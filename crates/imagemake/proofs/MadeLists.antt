@@ -54,13 +54,6 @@ filter-none p (x ∷ xs) h =
 pub count_by-none : {X : Type 0} (p : X → Bool) (xs : List X) → All (λ x. p x ≡ false) xs → count_by p xs ≡ 0
 count_by-none p xs h = sym (length-filter p xs) ∙ ap length (filter-none p xs h)
 
-pub count_by-same : {X : Type 0} (p q : X → Bool) (xs : List X) → All (λ x. p x ≡ q x) xs → count_by p xs ≡ count_by q xs
-count_by-same p q [] h = refl
-count_by-same p q (x ∷ xs) h =
-    sum_by-cons (λ y. cond (p y) 1 0) x xs
-    ∙ ap₂ (λ b n. cond b 1 0 + n) (All-head (λ y. p y ≡ q y) x xs h) (count_by-same p q xs (All-tail (λ y. p y ≡ q y) x xs h))
-    ∙ sym (sum_by-cons (λ y. cond (q y) 1 0) x xs)
-
 pub count_by-push : {X : Type 0} (p : X → Bool) (xs : List X) (x : X) → count_by p (xs ++ x ∷ []) ≡ count_by p xs + cond (p x) 1 0
 count_by-push p xs x = sum_by_push (λ y. cond (p y) 1 0) xs x
 

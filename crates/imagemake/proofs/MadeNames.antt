@@ -3,11 +3,12 @@ use Rattle.imagemake.proofs.Common.{◌≡◌, ◌≢◌, ℕ, ◌+◌, ◌≤�
 use Rattle.imagemake.proofs.Common.{filter, option_map, slice_get, unwrap_or, ◌==◌, range_with_len, cond-false, All-map, All-nil, Files, Node, is_directory, slot, IsDirectory, KeepsNode}
 use Rattle.imagemake.proofs.Common.{KeepsRules, all_entries, entries_of, is_directory_at, names_number, names_of, parent_of, subdirectories, node_for, Folder, All-flat_map, two_places}
 use Rattle.std.proofs.lemmas.Bool.{eq-eqb, ne_eqb}
+use Rattle.names.proofs.Counts.{count_by-same}
 use Rattle.unixmodel.specs.Files.{Entry}
 use Rattle.unixmodel.specs.Files.Node.{Directory}
 use Rattle.unixmodel.specs.Manifest.{Thing}
 use Rattle.imagemake.proofs.MadeEntry.{Adds, each-more, entries-above, entries-here, entries-other, entry_for, links_with, one_entry_more, used-not_new}
-use Rattle.imagemake.proofs.MadeLists.{count_by-none, count_by-one_more, count_by-push, count_by-same, filter-first, filter-none, filter-other}
+use Rattle.imagemake.proofs.MadeLists.{count_by-none, count_by-one_more, count_by-push, filter-first, filter-none, filter-other}
 
 -- ---- every entry's number is in use
 

@@ -4,7 +4,6 @@ use Rattle.imagemake.proofs.Common.{option_and_then, option_map, position, slice
 use Rattle.imagemake.proofs.Common.{false_from_ne_true, or_parts, le-ltb, lt-ltb, cond-false, cond-true, length_push, bytes_eq-Decides, Files, dot, dot_dot, entry_number, follow, is_directory, lookup, KeepsRules}
 use Rattle.imagemake.proofs.Common.{is_directory_at, is_name, bare_directory, bare_files, node_for, Folder, IsListed, MadeName, is_folder, seek, stands_at, IsGiven-name, position_or_len_push, prefix_len-le-length}
 use Rattle.std.proofs.Common.{eq-eqb, ne_eqb}
-use Rattle.std.proofs.lemmas.Bool.{eq-eqb, ne_eqb}
 use Rattle.unixmodel.specs.Files.{Entry}
 use Rattle.unixmodel.specs.Manifest.{Thing}
 use Rattle.imagemake.specs.Made.{found as made_found}

@@ -1,10 +1,11 @@
 -- A name at the end of a directory of which each place is in use.
 use Rattle.imagemake.proofs.Common.{◌≡◌, ℕ, ◌+◌, ◌-◌, ◌<◌, ◌≤◌, ◌∙◌, ◌++◌, ◌∷◌, List, [], None, Option, Some, Result, Ok, ap, arith, inl, inr, length, refl, subst, sym, OnOk, false, is_some, nat_lt, IfOk-at_ok, cond-false, cond-true}
 use Rattle.imagemake.proofs.Common.{le-ltb, lt-ltb, cases_lt, false≢true, get_or-append_right, get_or_append_left, length_push, set-set, none-some, same_Some, entered, growth, placed, room_behind, room_in, FileTree, Looks, IsNow, now-files}
-use Rattle.imagemake.proofs.Common.{blocks_of-set, slot-within, Files, Node, blocks_for, change_node, links_of, most_places, put, size_of, slot, with_links, File, appended, linked, Folder, more_links, HasDirectory, IsPacked, LacksRoomFor}
+use Rattle.imagemake.proofs.Common.{blocks_of-set, slot-within, Files, Node, blocks_for, change_node, links_of, most_places, put, size_of, slot, with_links, appended, linked, Folder, more_links, HasDirectory, IsPacked, LacksRoomFor}
 use Rattle.blockdev.specs.declared.DeviceFault.{DeviceFault}
 use Rattle.names.proofs.Finding.{change-is}
 use Rattle.tree.specs.Entering.{HasRoom}
+use Rattle.tree.proofs.Linking.{links-size}
 use Rattle.tree.proofs.Rooms.{blocks_of-entered, entered-is, room-end}
 use Rattle.unixmodel.specs.Counts.{blocks_of}
 use Rattle.unixmodel.specs.Files.{Entry}
@@ -42,10 +43,6 @@ pub placed-end : (places : List (Option Entry)) (e : Entry) → placed places (l
 placed-end places e = cond-false (nat_lt (length places) (length places)) (put places (length places) e) (places ++ Some e ∷ []) (le-ltb (length places) (length places) (omega arith))
 
 -- ---- what it takes
-
-links-size : (node : Node) (k : ℕ) → size_of (with_links node k) ≡ size_of node
-links-size (File links bytes) k = refl
-links-size node k = refl
 
 pub linked-size : (t : Thing) (node : Node) → size_of (linked t node) ≡ size_of node
 linked-size Folder node = links-size node (links_of node + 1)

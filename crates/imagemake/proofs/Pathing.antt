@@ -1,39 +1,19 @@
 -- The pieces of a path, one after the other, and what they reach in the list of what is made.
-use Rattle.imagemake.proofs.Common.{◌≡◌, ℕ, ◌+◌, ◌-◌, ◌<◌, ◌≤◌, Bool, List, [], ◌∷◌, None, Option, Some, length, get_or, take, drop, ap, sym, refl, ◌∙◌, arith, cond, true, false, zero, suc, inl, inr, add-one}
-use Rattle.imagemake.proofs.Common.{nat_lt, option_and_then, option_map, position, slice_get, unwrap_or, ◌&&◌, ◌==◌, list_all, position_or_len, cases_lt, cond-false, cond-true, le-ltb, lt-ltb, drop-drop}
-use Rattle.imagemake.proofs.Common.{length-drop, take_rest, position-Some, fails_before_first, none-some, onto_first, pieces, split_last, with_last, is_name, MadeName, found, is_folder, reach, seek}
+use Rattle.imagemake.proofs.Common.{◌≡◌, ℕ, ◌+◌, ◌-◌, ◌<◌, ◌≤◌, Bool, List, [], ◌∷◌, None, Option, Some, length, take, drop, ap, sym, refl, ◌∙◌, arith, cond, true, false, add-one}
+use Rattle.imagemake.proofs.Common.{nat_lt, option_and_then, option_map, position, slice_get, unwrap_or, ◌&&◌, ◌==◌, list_all, cond-false, cond-true, le-ltb, lt-ltb, drop-drop}
+use Rattle.imagemake.proofs.Common.{length-drop, take_rest, position-Some, onto_first, pieces, split_last, with_last, is_name, MadeName, found, is_folder, reach, seek}
 use Rattle.std.proofs.Math.Bool.{and-true}
-
--- where no item passes
-pub position-None : {X : Type 0} (p : X → Bool) (xs : List X) (d : X) → position p xs ≡ None → (k : ℕ) → k < length xs → p (get_or xs k d) ≡ false
-position-None p xs d none k h =
-    elim (cases_lt (position_or_len p xs) (length xs)) [
-      | inl l ↦ absurd (none-some (position_or_len p xs) (sym none ∙ cond-true _ (Some (position_or_len p xs)) None (lt-ltb (position_or_len p xs) (length xs) l)))
-      | inr m ↦ fails_before_first p xs k d (omega arith)
-    ]
-
-pieces_split : (bs : List ℕ) (i : ℕ) → i < length bs → (get_or bs i 0 == 0x2f) ≡ true → ((k : ℕ) → k < i → (get_or bs k 0 == 0x2f) ≡ false)
-    → pieces bs ≡ take i bs ∷ pieces (drop (suc i) bs)
-pieces_split [] i h slash none = absurd (omega arith)
-pieces_split (b ∷ bs) zero h slash none = cond-true (b == 0x2f) ([] ∷ pieces bs) (onto_first b (pieces bs)) slash
-pieces_split (b ∷ bs) (suc i) h slash none =
-    cond-false (b == 0x2f) ([] ∷ pieces bs) (onto_first b (pieces bs)) (none 0 (omega arith))
-    ∙ ap (onto_first b) (pieces_split bs i (omega arith) slash (λ k l. none (suc k) (omega arith)))
-
-pieces_whole : (bs : List ℕ) → ((k : ℕ) → k < length bs → (get_or bs k 0 == 0x2f) ≡ false) → pieces bs ≡ bs ∷ []
-pieces_whole [] none = refl
-pieces_whole (b ∷ bs) none =
-    cond-false (b == 0x2f) ([] ∷ pieces bs) (onto_first b (pieces bs)) (none 0 (omega arith))
-    ∙ ap (onto_first b) (pieces_whole bs (λ k l. none (suc k) (omega arith)))
+use Rattle.names.proofs.Finding.{position-None}
+use Rattle.tree.proofs.Parts.{pieces-split, pieces-whole}
 
 -- up to the first slash
 pub pieces_first : (bs : List ℕ) (i : ℕ) → position (λ b. b == 0x2f) bs ≡ Some i → pieces bs ≡ take i bs ∷ pieces (drop (i + 1) bs)
 pieces_first bs i at =
     let s = position-Some (λ b. b == 0x2f) bs i 0 at in
-    pieces_split bs i s.0 s.1 s.2 ∙ ap (λ n. take i bs ∷ pieces (drop n bs)) (sym (add-one i))
+    pieces-split bs i s.0 s.1 s.2 ∙ ap (λ n. take i bs ∷ pieces (drop n bs)) (sym (add-one i))
 
 pub pieces_last : (bs : List ℕ) → position (λ b. b == 0x2f) bs ≡ None → pieces bs ≡ bs ∷ []
-pieces_last bs none = pieces_whole bs (position-None (λ b. b == 0x2f) bs 0 none)
+pieces_last bs none = pieces-whole bs (position-None (λ b. b == 0x2f) bs 0 none)
 
 -- what stands from a place on, as a range of a slice has it
 pub first-in : (path : List ℕ) (at : ℕ) (o : Option ℕ) → o ≡ position (λ b. b == 0x2f) (take (length path - at) (drop at path)) → position (λ b. b == 0x2f) (drop at path) ≡ o

@@ -1,5 +1,5 @@
 use Rattle.imagemake.proofs.Common.{ap, arith, refl, sym, subst, ◌∙◌, IfOk-from_err, err_from_is_err_and, files_made, FileTree, MakesEntries, made_by, Refuses, meaning}
-use Rattle.imagemake.proofs.Imaging.{blank-held, makes-image, none-refused, only-memory, possible, refused-entries, refused-numbers, tree-limit, tree-long, tree-none, tree-size, tree-up, when-ok}
+use Rattle.imagemake.proofs.Imaging.{bare-tree, blank-held, makes-image, none-refused, only-memory, possible, refused-entries, refused-numbers, when-ok}
 use Rattle.imagemake.proofs.make.Goals as goal
 
 pub returns-then-not-is_possible-clause-refused : goal.returns-then-not-is_possible-clause-refused
@@ -35,48 +35,39 @@ returns-in_err-made c = record {
 pub put_files-requires : goal.put_files-requires
 put_files-requires c =
     let p = possible c.args.size c.args.inodes (sym c.if-not-is_possible.ensures) in
-    let blank = c.in_ok-volume.ensures.blank in
-    let whole = c.is_whole.ensures in
-    let is = c.in_ok-tree.ensures in
+    let bare = bare-tree p c.in_ok-volume.ensures.blank c.is_whole.ensures c.in_ok-tree.ensures in
     record {
-      up = tree-up p blank whole is;
-      none = tree-none p blank whole is;
-      some = omega (arith, tree-long p blank whole is, p.inodes_low);
-      block = omega (arith, tree-limit p blank whole is, p.room);
+      up = bare.up;
+      none = bare.none;
+      some = omega (arith, bare.long, p.inodes_low);
+      block = omega (arith, bare.limit, p.room);
       empty = c.in_ok-made.ensures.empty;
-      room = omega (arith, c.in_ok-made.ensures.room, tree-long p blank whole is);
+      room = omega (arith, c.in_ok-made.ensures.room, bare.long);
     }
 
 pub returns-in_err-put_files : goal.returns-in_err-put_files
 returns-in_err-put_files c =
     let told = err_from_is_err_and c.from_residual-in_err-put_files.result c.from_residual-in_err-put_files.ensures.1 in
-    let p = possible c.args.size c.args.inodes (sym c.if-not-is_possible.ensures) in
-    let blank = c.in_ok-volume.ensures.blank in
-    let whole = c.is_whole.ensures in
-    let is = c.in_ok-tree.ensures in
+    let bare = bare-tree (possible c.args.size c.args.inodes (sym c.if-not-is_possible.ensures)) c.in_ok-volume.ensures.blank c.is_whole.ensures c.in_ok-tree.ensures in
     let fault = c.in_err-put_files.field-0.0 in
     record {
       made = IfOk-from_err c.from_residual-in_err-put_files.result _ c.from_residual-in_err-put_files.ensures.0;
       refused = rw (told.1, told.2)
-          (refused-entries (meaning c.args.manifest.now.entries.items) c.args.size c.args.inodes (sym c.if-not-is_possible.ensures) c.in_ok-tree.tree (tree-limit p blank whole is) (tree-long p blank whole is) fault
+          (refused-entries (meaning c.args.manifest.now.entries.items) c.args.size c.args.inodes (sym c.if-not-is_possible.ensures) bare fault
           (subst (λ entries. Refuses (made_by c.in_ok-tree.tree (meaning entries)) fault) c.deref.ensures.value c.in_err-put_files.ensures.refused));
     }
 
 pub into_device-device-requires : goal.into_device-device-requires
 into_device-device-requires c =
-    let p = possible c.args.size c.args.inodes (sym c.if-not-is_possible.ensures) in
-    record { up = ap (λ (t : FileTree). t.failed) c.in_ok-put_files.ensures.made.rest ∙ tree-up p c.in_ok-volume.ensures.blank c.is_whole.ensures c.in_ok-tree.ensures }
+    let bare = bare-tree (possible c.args.size c.args.inodes (sym c.if-not-is_possible.ensures)) c.in_ok-volume.ensures.blank c.is_whole.ensures c.in_ok-tree.ensures in
+    record { up = ap (λ (t : FileTree). t.failed) c.in_ok-put_files.ensures.made.rest ∙ bare.up }
 
 pub returns-clause-made : goal.returns-clause-made
 returns-clause-made c =
-    let entries = meaning c.args.manifest.now.entries.items in
-    let p = possible c.args.size c.args.inodes (sym c.if-not-is_possible.ensures) in
-    let blank = c.in_ok-volume.ensures.blank in
-    let whole = c.is_whole.ensures in
-    let is = c.in_ok-tree.ensures in
+    let bare = bare-tree (possible c.args.size c.args.inodes (sym c.if-not-is_possible.ensures)) c.in_ok-volume.ensures.blank c.is_whole.ensures c.in_ok-tree.ensures in
     let makes = subst (λ es. MakesEntries c.in_ok-tree.tree c.put_files.new.tree (meaning es)) c.deref.ensures.value c.in_ok-put_files.ensures.made in
     when-ok c.into_device-device.result.1 c.bytes_left.result c.into_device-device.ensures.stored c.bytes_left.ensures.flushed c.bytes_left.ensures.bytes
-    (λ image stored bytes. makes-image entries c.args.size c.args.inodes (sym c.if-not-is_possible.ensures) c.in_ok-tree.tree (tree-limit p blank whole is) (tree-long p blank whole is) makes (tree-size p blank whole is) stored bytes)
+    (λ image stored bytes. makes-image (meaning c.args.manifest.now.entries.items) c.args.size c.args.inodes (sym c.if-not-is_possible.ensures) bare makes stored bytes)
 
 pub returns-clause-refused : goal.returns-clause-refused
 returns-clause-refused c = only-memory (files_made (meaning c.args.manifest.now.entries.items) c.args.size c.args.inodes) c.bytes_left.result c.bytes_left.ensures.only

@@ -9,40 +9,31 @@ store_node-requires g c =
     record { up = c.requires.up; number = can.number; directory = λ none. none-some (Directory can.links can.places) (sym none ∙ can.directory) }
 
 pub returns-in_err-store_node : goal.returns-in_err-store_node
-returns-in_err-store_node g c = node-refused c.args.tree.now c.args.directory c.args.name.now c.args.number (thing_of c.args.thing.now) c.requires.able c.in_err-store_node.ensures c.from_residual.ensures.1
+returns-in_err-store_node g c = node-refused c.args.tree.now (thing_of c.args.thing.now) c.requires.able c.in_err-store_node.ensures c.from_residual.ensures.1
 
 pub store_name-requires : goal.store_name-requires
 store_name-requires g c =
-    let t = c.args.tree.now in
     let can = c.requires.able in
     let put = c.in_ok-store_node.ensures in
     record {
-      up = now-up (now-one t c.args.directory c.args.name.now c.args.number (thing_of c.args.thing.now) can put) c.requires.up;
-      able = directory-after t c.args.directory c.args.name.now c.args.number (thing_of c.args.thing.now) can put;
+      up = now-up (now-one c.args.tree.now (thing_of c.args.thing.now) can put) c.requires.up;
+      able = directory-after c.args.tree.now (thing_of c.args.thing.now) can put;
       name = can.named;
-      number = number-after t c.args.directory c.args.name.now c.args.number (thing_of c.args.thing.now) can put;
+      number = number-after c.args.tree.now (thing_of c.args.thing.now) can put;
     }
 
 pub returns-in_err-store_name : goal.returns-in_err-store_name
 returns-in_err-store_name g c =
-    let t = c.args.tree.now in
-    let can = c.requires.able in
     let put = c.in_ok-store_node.ensures in
-    name-refused t c.args.directory c.args.name.now c.args.number (thing_of c.args.thing.now) can put
-    (c.in_err-store_name.ensures (directory-after t c.args.directory c.args.name.now c.args.number (thing_of c.args.thing.now) can put)) c.from_residual-in_err-store_name.ensures.1
+    name-refused c.args.tree.now (thing_of c.args.thing.now) c.requires.able put (c.in_err-store_name.ensures (directory-after c.args.tree.now (thing_of c.args.thing.now) c.requires.able put)) c.from_residual-in_err-store_name.ensures.1
 
 pub is_whole-requires : goal.is_whole-requires
 is_whole-requires g c =
-    let t = c.args.tree.now in
-    let can = c.requires.able in
     let put = c.in_ok-store_node.ensures in
-    let named = c.in_ok-store_name.ensures (directory-after t c.args.directory c.args.name.now c.args.number (thing_of c.args.thing.now) can put) in
-    ap (λ (t : FileTree). t.failed) named.done ∙ now-up (now-one t c.args.directory c.args.name.now c.args.number (thing_of c.args.thing.now) can put) c.requires.up
+    let named = c.in_ok-store_name.ensures (directory-after c.args.tree.now (thing_of c.args.thing.now) c.requires.able put) in
+    ap (λ (t : FileTree). t.failed) named.done ∙ now-up (now-one c.args.tree.now (thing_of c.args.thing.now) c.requires.able put) c.requires.up
 
 pub returns : goal.returns
 returns g c =
-    let t = c.args.tree.now in
-    let can = c.requires.able in
     let put = c.in_ok-store_node.ensures in
-    stores-named t c.args.directory c.args.name.now c.args.number (thing_of c.args.thing.now) can put
-    (c.in_ok-store_name.ensures (directory-after t c.args.directory c.args.name.now c.args.number (thing_of c.args.thing.now) can put)) c.is_whole.ensures
+    stores-named c.args.tree.now (thing_of c.args.thing.now) c.requires.able put (c.in_ok-store_name.ensures (directory-after c.args.tree.now (thing_of c.args.thing.now) c.requires.able put)) c.is_whole.ensures
