@@ -1,5 +1,5 @@
 -- The entries of all directories, one directory after the other, and what tables of them tell of the files.
-use Rattle.imagecheck.proofs.Common.{◌≡◌, ◌≢◌, ℕ, ◌+◌, ◌*◌, ◌/◌, ◌<◌, ◌≤◌, Bool, List, [], ◌∷◌, ◌++◌, Some, length, get_or, map, replicate, take, drop, ap, sym, refl, ◌∙◌, add-zero, arith, subst, cond, inl, inr, true, false, zero, suc}
+use Rattle.imagecheck.proofs.Common.{◌≡◌, ◌≢◌, ℕ, ◌+◌, ◌*◌, ◌/◌, ◌<◌, ◌≤◌, Bool, List, [], ◌∷◌, ◌++◌, Some, length, get_or, map, replicate, take, drop, ap, sym, refl, ◌∙◌, arith, subst, cond, inl, inr, true, false, zero, suc}
 use Rattle.imagecheck.proofs.Common.{All, count_by, filter, flat_map, option_map, slice_get, unwrap_or, ◌&&◌, ◌==◌, option_to_list, range_with_len, sum_by, cases_eq, append_assoc, map-append, flat_map-append, All-map, All-nil}
 use Rattle.imagecheck.proofs.Common.{All-replicate, sum_by-append, sum_by-cons, Geometry, slot, all_entries, contents_in, entries_of, inodes_in, is_directory_at, kind_in, names_number, names_of, parent_of, subdirectories}
 use Rattle.imagecheck.proofs.Common.{NamesDirectories, entries_in, entries_to, BlockRules, HasBlocks, HasBlocks-of, CountsNames, CountsSubdirectories, HasParents, HasParentsAmong, IsListed, IsNaming, TellsNames, TellsSubdirectories}
@@ -149,13 +149,9 @@ sum-none h d z a (suc n) l =
 sum-one : (h : ℕ → ℕ) (d : ℕ) → ((k : ℕ) → k ≢ d → h k ≡ 0) → (a n : ℕ) → a ≤ d → d < a + n → sum_by h (range_with_len a n) ≡ h d
 sum-one h d z a zero low high = absurd (omega arith)
 sum-one h d z a (suc n) low high = elim (cases_eq a d) [
-  | inl here ↦ sum_by-cons h a (range_with_len (a + 1) n) ∙ ap (λ s. h a + s) (sum-none h d z (a + 1) n (omega arith)) ∙ add-zero (h a) ∙ ap h here
-  | inr other ↦ sum_by-cons h a (range_with_len (a + 1) n) ∙ ap (λ s. s + sum_by h (range_with_len (a + 1) n)) (z a other) ∙ first (sum_by h (range_with_len (a + 1) n))
-      ∙ sum-one h d z (a + 1) n (omega arith) (omega arith)
+  | inl here ↦ sum_by-cons h a (range_with_len (a + 1) n) ∙ omega (arith, ap h here, sum-none h d z (a + 1) n (omega arith))
+  | inr other ↦ sum_by-cons h a (range_with_len (a + 1) n) ∙ omega (arith, z a other, sum-one h d z (a + 1) n (omega arith) (omega arith))
 ]
-  where
-    first : (x : ℕ) → 0 + x ≡ x
-    first x = omega arith
 
 count-and : {X : Type 0} (t : Bool) (q : X → Bool) (xs : List X) → count_by (λ x. t && q x) xs ≡ cond t (count_by q xs) 0
 count-and true q xs = refl

@@ -9,7 +9,8 @@ use Rattle.std.proofs.lemmas.Map.Keys.{IsDistinct-IsPermutation}
 use Rattle.std.proofs.lemmas.Map.Made.{AllPairs-from_IsDistinct, IsDistinct-from_AllPairs}
 use Rattle.unixmodel.specs.Files.{Entry}
 use Rattle.unixmodel.specs.Memory.{zeros}
-use Rattle.imagecheck.proofs.Entering.{all_more, entries_all, entries_more, entries_none, place-taken}
+use Rattle.imagerules.proofs.Spelling.{place-taken}
+use Rattle.imagecheck.proofs.Entering.{all_more, entries_all, entries_more, entries_none}
 use Rattle.imagecheck.proofs.Judging.{never, told}
 
 -- ---- names and their numbers

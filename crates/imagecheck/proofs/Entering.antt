@@ -1,8 +1,8 @@
 -- The places of a directory, one after the other.
 use Rattle.imagecheck.proofs.Common.{◌≡◌, ◌≢◌, ℕ, ◌+◌, ◌*◌, ◌/◌, ◌<◌, ◌≤◌, List, [], ◌∷◌, ◌++◌, None, Option, Some, length, get_or, take, drop, ap, sym, refl, ◌∙◌, arith, subst, true, false, inl, inr}
-use Rattle.imagecheck.proofs.Common.{not, All, IsSome, is_some, ◌==◌, option_to_list, list_all, cases_eq, cond-false, cond-true, false≢true, drop-append-le, drop_all, length-take, length-take-le}
-use Rattle.imagecheck.proofs.Common.{take-append-drop, take_more, All-append, All-cons, All-head, All-nil, filter_map-append, Node, slot, taken, inodes_in, kind_in, number_at, IfTaken, entries_in}
-use Rattle.imagecheck.proofs.Common.{entries_to, files_in, place_of_bytes, places_in, without_zeros, All-left, All-right, file_in-used, slot-files_in, slot-free, length-places_in, slot-places_in}
+use Rattle.imagecheck.proofs.Common.{not, All, IsSome, is_some, ◌==◌, option_to_list, cases_eq, false≢true, drop-append-le, drop_all, length-take, length-take-le}
+use Rattle.imagecheck.proofs.Common.{take-append-drop, take_more, All-append, All-cons, All-head, All-nil, filter_map-append, Node, slot, taken, inodes_in, kind_in, IfTaken, entries_in}
+use Rattle.imagecheck.proofs.Common.{entries_to, files_in, place_of_bytes, places_in, All-left, All-right, file_in-used, slot-files_in, slot-free, length-places_in, slot-places_in}
 use Rattle.std.proofs.lemmas.Bool.{ne_eqb}
 use Rattle.std.proofs.lemmas.List.{take_all}
 use Rattle.unixmodel.specs.Files.{Entry}
@@ -20,14 +20,6 @@ used-is image n low high = elim (cases_eq (kind_in image n) 0) [
 
 pub none_used : {o : Option Node} → o ≡ None → IsSome o → ⊥
 none_used e used = false≢true (sym (ap is_some e) ∙ used)
-
--- ---- one place
-
-pub place-free : (bytes : List ℕ) → list_all (λ b. b == 0) bytes ≡ true → place_of_bytes bytes ≡ None
-place-free bytes h = cond-true (list_all (λ b. b == 0) bytes) None (Some (record { name = without_zeros (drop 2 bytes); number = number_at 2 0 bytes })) h
-
-pub place-taken : (bytes : List ℕ) → list_all (λ b. b == 0) bytes ≡ false → place_of_bytes bytes ≡ Some (record { name = without_zeros (drop 2 bytes); number = number_at 2 0 bytes })
-place-taken bytes h = cond-false (list_all (λ b. b == 0) bytes) None (Some (record { name = without_zeros (drop 2 bytes); number = number_at 2 0 bytes })) h
 
 -- ---- the entries, one place more
 

@@ -1,5 +1,5 @@
 -- The number in a slot, from its place, and what a walk over the slots is told.
-use Rattle.imagecheck.proofs.Common.{cond, get_or, inl, inr, nat_lt, ◌==◌, ◌≡◌, ℕ, ◌+◌, ◌-◌, ◌*◌, ◌<◌, ◌≤◌, List, Bool, refl, ap, arith, false, length, subst, sym, true, ◌∙◌, cases_lt, false≢true, format_named, Geometry}
+use Rattle.imagecheck.proofs.Common.{cond, get_or, inl, inr, nat_lt, ◌==◌, ◌≡◌, ℕ, ◌+◌, ◌-◌, ◌*◌, ◌<◌, ◌≤◌, List, refl, ap, arith, false, length, subst, sym, true, ◌∙◌, cases_lt, false≢true, format_named, Geometry}
 use Rattle.imagecheck.proofs.Common.{index_blocks, most_bytes, HasSuper, count_in, format_of, inode_at, is_data_block, named_by, number_in, size_in, number_at, address_of, holder_of, in_record, level_of, place_of, single}
 use Rattle.imagecheck.proofs.Common.{slot_at, taken_blocks, there, direct-high, direct-low, length-is, super-is, number_in-block, number_in-record, HasGeometry, is_data_in, FitsAddresses, FitsKind, FitsSlot, IsFound}
 use Rattle.std.proofs.Common.{eq-eqb, eqb-true}
@@ -9,9 +9,6 @@ use Rattle.imagecheck.proofs.Slotting.{named-at, named-long, named-low}
 use Rattle.imagerules.proofs.Named.{cond_no, cond_yes, is_data_in-is}
 
 module _ (image : List ℕ) (n k : ℕ) (format : Format) (e : format_named format ≡ format_of image) where
-  pub record_told : {b : Bool} → b ≡ in_record (format_named format) k → b ≡ in_record (format_of image) k
-  record_told h = h ∙ ap (λ f. in_record f k) e
-
   pub number-own : in_record (format_named format) k ≡ true → {place number : ℕ} → place ≡ address_of (format_named format) k
       → number ≡ number_at 4 (inode_at n + 12 + 4 * place) image → number ≡ number_in image n k
   number-own here at is =

@@ -107,7 +107,7 @@ Climbs-parent files n h = go h.steps h.root where
 pub Climbs-child : (files : Files) (n : ℕ) → Climbs files (parent_of files n) → Climbs files n
 Climbs-child files n h = record { steps = suc h.steps; root = h.root }
 
-entries_at : (files : Files) (P : ℕ × Entry → Type 0) → All P (all_entries files) → (d : ℕ) → d < length files → All (λ e. P (d, e)) (entries_of (slot files d))
+pub entries_at : (files : Files) (P : ℕ × Entry → Type 0) → All P (all_entries files) → (d : ℕ) → d < length files → All (λ e. P (d, e)) (entries_of (slot files d))
 unfolding all_entries
 entries_at files P h d l =
     let e : get_or (range_with_len 0 (length files)) d 0 ≡ d = get_or-range_with_len 0 (length files) d 0 l ∙ omega arith in
@@ -115,10 +115,9 @@ entries_at files P h d l =
     let here : All P (map (λ e. (d, e)) (entries_of (slot files d))) = subst (λ m. All P (map (λ e. (m, e)) (entries_of (slot files m)))) {x = get_or (range_with_len 0 (length files)) d 0} e there in
     All-from_map P (λ (y : Entry). (d, y)) (entries_of (slot files d)) here
 
-all_alone : (xs : List (ℕ × Entry)) → length xs ≡ 1 → All (λ x. unwrap_or (option_map (λ (y : ℕ × Entry). y.0) (slice_get xs 0)) 0 ≡ x.0) xs
-all_alone [] h = absurd (omega arith)
+pub all_alone : (xs : List (ℕ × Entry)) → length xs ≡ 1 → All (λ x. unwrap_or (option_map (λ (y : ℕ × Entry). y.0) (slice_get xs 0)) 0 ≡ x.0) xs
 all_alone (x ∷ []) h = All-cons (λ (y : ℕ × Entry). x.0 ≡ y.0) x [] refl (All-nil (λ (y : ℕ × Entry). x.0 ≡ y.0))
-all_alone (x ∷ y ∷ ys) h = absurd (omega arith)
+all_alone _ h = absurd (omega arith)
 
 directory_named : (files : Files) (n : ℕ) (o : Option Node) → EntriesAt files n o → unwrap_or (option_map is_directory o) false ≡ true → n ≢ 1 → names_of files n ≡ 1
 directory_named files n (Some (Directory links places)) e h other = e.named ∙ cond-false (n == 1) 0 1 (ne_eqb n 1 other)

@@ -1,6 +1,6 @@
 use Rattle.imagecheck.proofs.Common.{◌≡◌, ℕ, List, Some, drop, sym, ap, ◌∙◌, bytes_eq, is_some, Option, false≢true, Decides-at, Decides-like, same_Some, bytes_eq-Decides, number_at, without_zeros}
 use Rattle.unixmodel.specs.Files.{Entry}
-use Rattle.imagecheck.proofs.Entering.{place-free, place-taken}
+use Rattle.imagerules.proofs.Spelling.{place-free, place-taken}
 use Rattle.imagecheck.proofs.Judging.{never}
 use Rattle.imagecheck.proofs.fronts.holds.Goals as goal
 
