@@ -1,6 +1,5 @@
 -- The nodes of an old image are copied one after the other.
 use Rattle.std.proofs.Common.{◌≡◌, ◌≢◌, ℕ, ◌+◌, ◌<◌, ◌≤◌, ◌==◌, List, None, Option, Some, length, ap, sym, ◌∙◌, arith, subst, cond}
-use Rattle.std.proofs.lemmas.List.{length-replicate}
 use Rattle.unixmodel.specs.Files.{Files, Node, free_slots, longest, put, slot}
 use Rattle.unixmodel.specs.Formats.{large, most_bytes, small}
 use Rattle.unixmodel.specs.Image.{DenotesSmall, FitsSize, KeepsNode, KeepsRules, KeepsRulesTo, Stands, format_of, kind_in}
@@ -16,7 +15,7 @@ use Rattle.imagerules.proofs.Bounds.{inodes-least}
 use Rattle.imagerules.proofs.Denoting.{node_fits}
 use Rattle.imagerules.proofs.Nodes.{PlacesFit}
 use Rattle.unixmodel.specs.Files.Node.{Device, Directory, File}
-use Rattle.imagemake.proofs.MadeBare.{slot-free}
+use Rattle.imagemake.proofs.MadeBare.{length-free, slot-free}
 use Rattle.migrate.specs.Copies.{CanStand, Copies, Lacks}
 use Rattle.migrate.specs.declared.fault.MigrateFault.{MigrateFault}
 use Rattle.migrate.specs.declared.fault.MigrateFault.TheVariants.{Blocks, Image, NoMemory}
@@ -46,10 +45,6 @@ places-fit : (node : Node) → PlacesFit node → FitsPlaces (Some node)
 places-fit (Directory links places) h = h
 places-fit (File links bytes) h = tt
 places-fit (Device links major minor) h = tt
-
-length-free : (n : ℕ) → length (free_slots {X = Node} n) ≡ n
-unfolding free_slots
-length-free n = length-replicate n None
 
 module _ (old : List ℕ) (d : DenotesSmall old (files_in old)) where
   pub blocks-sound : BlockRules old

@@ -1,21 +1,18 @@
 -- The image that an old one becomes.
-use Rattle.std.proofs.Common.{◌≡◌, ◌+◌, ℕ, List, None, length, get_or, ap, sym, ◌∙◌, arith, subst}
-use Rattle.std.proofs.lemmas.List.{get_or-replicate, length-replicate}
+use Rattle.std.proofs.Common.{◌≡◌, ℕ, List, ap, sym, ◌∙◌, arith, subst}
 use Rattle.inode.specs.Store.{IsLaidOut, IsWhole, Store}
 use Rattle.layout.proofs.Frame.{length-nodes_of}
 use Rattle.layout.specs.declared.Geometry.{Geometry}
-use Rattle.unixmodel.specs.Counts.{blocks_of}
 use Rattle.unixmodel.specs.Files.{Files, free_slots}
 use Rattle.unixmodel.specs.Formats.{Format}
 use Rattle.unixmodel.specs.Image.{Denotes, DenotesSmall, inodes_in, size_in}
-use Rattle.unixmodel.specs.Manifest.{data_blocks_of}
 use Rattle.imagerules.specs.Content.{image_of}
 use Rattle.imagerules.specs.Fields.{HasGeometry}
 use Rattle.imagerules.specs.Places.{files_in}
 use Rattle.imagerules.proofs.Denoting.{Denotes-files}
 use Rattle.imagemake.specs.Added.{IsBlank, IsPossible}
 use Rattle.imagemake.proofs.Denoted.{Denotes-stored, legible}
-use Rattle.imagemake.proofs.MadeBare.{length-free, no-files, slot-free}
+use Rattle.imagemake.proofs.Imaging.{blank-stores}
 use Rattle.migrate.proofs.Copied.{count-files, rules-more, small-format}
 use Rattle.migrate.specs.Copies.{Copies}
 use Rattle.std.proofs.lemmas.Bool.{false≢true}
@@ -23,7 +20,7 @@ use Rattle.std.specs.Prelude.{Err, IsOk, Ok, OnOk, Result}
 use Rattle.blockdev.specs.declared.DeviceFault.{DeviceFault}
 use Rattle.tree.proofs.Serving.{stored-after}
 use Rattle.tree.proofs.Storing.{files-are, held-again}
-use Rattle.tree.specs.Stored.{FitsPlaces, IsStored, files_of}
+use Rattle.tree.specs.Stored.{IsStored, files_of}
 
 -- what the device has that is left
 pub left-stored : {D : Type 0} {g : Geometry} {s : Store D} {files : Files} (left : List (List ℕ)) → Copies g s files → (r : Result (Unit {0}) DeviceFault) → IsOk r → OnOk r (IsLaidOut s.geometry left s.nodes s.free) → IsStored g.size left files
@@ -45,24 +42,7 @@ module _ (old : List ℕ) (d : DenotesSmall old (files_in old)) (g : Geometry) (
 
   -- a disk without files
   pub blank-copies : {D : Type 0} {s : Store D} → IsBlank g s → IsWhole s → Copies g s (free_slots g.inodes)
-  unfolding free_slots
-  blank-copies {D} {s} blank whole = record {
-    numbers = blank.numbers;
-    up = blank.up;
-    stores = record {
-      whole = whole;
-      nodes = record {
-        count = ap length blank.nodes ∙ length-replicate g.inodes None ∙ sym (length-free g.inodes);
-        each = λ n l. rw (ap (λ ns. get_or ns n None) blank.nodes ∙ get_or-replicate g.inodes n None None (omega (arith, length-free g.inodes)), slot-free g.inodes n) tt;
-      };
-      free =
-          let none = no-files g.inodes in
-          let free = blank.free in
-          let all : s.free + blocks_of (free_slots g.inodes) ≡ data_blocks_of g.size g.inodes = omega arith in
-          all ∙ ap (λ (g : Geometry). data_blocks_of g.size g.inodes) (sym blank.numbers);
-      places = λ n. subst FitsPlaces (sym (slot-free g.inodes n)) tt;
-    };
-  }
+  blank-copies blank whole = record { numbers = blank.numbers; up = blank.up; stores = blank-stores possible blank whole }
 
   module _ (blocks : List (List ℕ)) (stored : IsStored g.size blocks (files_in old)) where
     pub denotes-migrated : (files : Files) → DenotesSmall old files → Denotes (image_of blocks) files

@@ -1,5 +1,5 @@
 -- What is told of an image that isn't migrated.
-use Rattle.std.proofs.Common.{◌≡◌, ◌∙◌, ℕ, List, Err, Ok, Result, ap, subst, refl}
+use Rattle.std.proofs.Common.{◌≡◌, ℕ, List, Err, Ok, Result, ap, subst, refl}
 use Rattle.unixmodel.specs.Files.{Files}
 use Rattle.unixmodel.specs.Formats.{small}
 use Rattle.unixmodel.specs.Image.{DenotesSmall}
@@ -7,7 +7,7 @@ use Rattle.imagecheck.specs.Faults.{IsOfImage, Tells}
 use Rattle.imagecheck.specs.declared.ImageFault.{ImageFault}
 use Rattle.imagecheck.specs.declared.ImageFault.TheVariants as checked
 use Rattle.std.specs.Result.{IsErrAnd}
-use Rattle.std.proofs.lemmas.Result.{err_from_is_err_and}
+use Rattle.imagemake.proofs.Owned.{told_err}
 use Rattle.inode.specs.Store.{Store}
 use Rattle.layout.specs.declared.Geometry.{Geometry}
 use Rattle.migrate.specs.Copies.{IsCopied, Lacks, image_fault}
@@ -15,16 +15,6 @@ use Rattle.migrate.specs.declared.fault.MigrateFault.{MigrateFault}
 use Rattle.migrate.specs.declared.fault.MigrateFault.TheVariants.{Blocks, Image, NoMemory}
 
 -- ---- of a result
-
-pub told_err : {T E : Type 0} {fault : E} (r : Result T E) → IsErrAnd r (λ f. f ≡ fault) → r ≡ Err fault
-told_err r h = let p = err_from_is_err_and r h in p.1 ∙ ap Err p.2
-
-abbrev fault_or : {T E : Type 0} → Result T E → E → E
-fault_or (Ok x) other = other
-fault_or (Err fault) other = fault
-
-pub err_is : {T E : Type 0} (e f : E) → ◌≡◌ {A = Result T E} (Err e) (Err f) → e ≡ f
-err_is e f h = ap (λ r. fault_or r e) h
 
 pub not_err : {T E : Type 0} (x : T) (e : E) → ◌≡◌ {A = Result T E} (Ok x) (Err e) → ⊥
 not_err x e h = cc

@@ -7,7 +7,8 @@ use Rattle.unixmodel.specs.Manifest.{data_blocks_of}
 use Rattle.migrate.specs.Copies.{Lacks, image_fault}
 use Rattle.migrate.specs.declared.fault.MigrateFault.TheVariants.{Blocks, Image}
 use Rattle.migrate.proofs.Migrated.{blank-copies, denotes-migrated, inodes-migrated, left-stored, possible, size-migrated}
-use Rattle.migrate.proofs.Told.{err_is, image_fault-room, not_err, refused-image, told_err}
+use Rattle.migrate.proofs.Told.{image_fault-room, not_err, refused-image}
+use Rattle.imagemake.proofs.Owned.{err_is, told_err}
 use Rattle.migrate.proofs.migrate.Goals as goal
 
 pub blank-requires : goal.blank-requires
