@@ -4,14 +4,13 @@ pub use Rattle.std.proofs.Common.{nat_eq, nat_le, nat_lt, negsuc, None, Ok, Opti
 pub use Rattle.std.proofs.lemmas.Bool.{and_left, and_parts, and_right, cases_eq, cases_lt, eqb-true, false≢true, le-leb, leb-true, lt-leb, lt-ltb, ne_eqb}
 pub use Rattle.std.proofs.lemmas.Bool.Decides.{nat_tests}
 pub use Rattle.std.proofs.lemmas.Int.{of_z-to_z, to_z-of_z}
-pub use Rattle.std.proofs.lemmas.List.{drop-take, get_or-set_other, get_or-set_same, length-drop, length-map, length-set, length-take, length-take-le, map-set, replicate-append-replicate, set-get_or, set_comm, take-append-drop, take-take}
-pub use Rattle.std.proofs.lemmas.List.Folds.{prefix_len-set}
+pub use Rattle.std.proofs.lemmas.List.{drop-take, get_or-set_other, get_or-set_same, length-drop, length-set, length-take, length-take-le, replicate-append-replicate, set_comm, take-append-drop, take-take}
 pub use Rattle.std.proofs.lemmas.Option.{cond_some, none-some, option_and_then_some, same_Some}
 pub use Rattle.std.proofs.lemmas.Result.{err_from_is_err_and}
 pub use Rattle.std.specs.Int.{cast_signed, cast_unsigned}
 pub use Rattle.std.specs.Io.KnownBytes.{Appends}
 pub use Rattle.std.specs.Option.{option_copied}
-pub use Rattle.std.specs.Prelude.{◌+ℤ◌, ◌==◌, count_by, IfErr, IfNone, IfOk, if◌then◌else◌, IsSome, not, OnErr, OnOk, option_and_then, slice_index, slice_index_or, slice_set, ◌||◌}
+pub use Rattle.std.specs.Prelude.{◌+ℤ◌, ◌==◌, count_by, IfErr, IfOk, if◌then◌else◌, IsSome, not, OnErr, OnOk, option_and_then, slice_index, slice_set, ◌||◌}
 pub use Rattle.std.specs.Result.{IsErr, result_ok}
 pub use Rattle.blockdev.specs.declared.DeviceFault.{DeviceFault}
 pub use Rattle.console.specs.Output.{AppendsBeginning}
@@ -20,56 +19,52 @@ pub use Rattle.file_transfers.specs.Moved.{bytes_given, bytes_of, bytes_read}
 pub use Rattle.files.proofs.CountsLemmas.{Counts}
 pub use Rattle.files.proofs.Free.{free-None, free-opens, free-place, free-put}
 pub use Rattle.files.proofs.PipesLemmas.{without_pipes-same}
-pub use Rattle.files.proofs.Whole.{opens-moved, opens-opened, set_outside, without_opens-same}
-pub use Rattle.files.specs.Counts.{one_in}
+pub use Rattle.files.proofs.Whole.{opens-moved, opens-opened, without_opens-same}
 pub use Rattle.files.specs.Meant.{file_of, target_of}
 pub use Rattle.files.specs.Places.{Counted, file_at, free_count, has_end, node_at, node_from, usable}
 pub use Rattle.files.specs.declared.file.Target.{Target}
 pub use Rattle.files.specs.declared.table.FileFault.{FileFault}
 pub use Rattle.inode.specs.declared.InodeStat.{InodeStat}
-pub use Rattle.kernel.proofs.Changes.{ended-is, ended-kernel, ended_to, nodes, nodes-counted, old-homes, other-at}
 pub use Rattle.kernel.proofs.Finishes.{counting-kernel, IsThere, process-idle, there-of}
-pub use Rattle.kernel.proofs.Holding.{AreOldHomes, fewer-leaves, fewer-nodes, holders-few, home-folder}
-pub use Rattle.kernel.proofs.Holding.{is_by, kept-cong, named_in, same-set, used-is}
+pub use Rattle.kernel.proofs.Holding.{holders-few, home-folder}
+pub use Rattle.kernel.proofs.Holding.{is_by, kept-cong, used-is}
 pub use Rattle.kernel.proofs.Idle.{busy-state, idle-turn, running-state}
 pub use Rattle.kernel.proofs.Leaving.{ends-at, ends-run, stops-run, waits-run}
 pub use Rattle.kernel.proofs.Named.{counts-joined}
-pub use Rattle.kernel.proofs.Named.{old-all_closed, reap-closed}
 pub use Rattle.kernel.proofs.Opens.{file-at, IsFileAt, open-named}
 pub use Rattle.kernel.proofs.Opens.{slot-file, waits-other, waits-reading, waits-writing}
 pub use Rattle.kernel.proofs.Readies.{stands-open, turn-alive}
-pub use Rattle.kernel.proofs.Reaped.{are-away, away-loaded, IsMatch, match-active, match-loaded, match-place, opened-loaded, over-state, reap-state, used-loaded, within-state, within-state_with}
+pub use Rattle.kernel.proofs.Reaped.{away-loaded, match-active, match-place, opened-loaded, over-state, reap-state, used-loaded, within-state}
 pub use Rattle.kernel.proofs.Running.{answer-run, change-put, change-run, live, not-killed, regs-kernel, regs-run, regs-state, runs-mode}
 pub use Rattle.kernel.proofs.Reading.{serves-disk}
-pub use Rattle.kernel.proofs.Runs.{home-running, IsRun, loaded-run, memory-at, moved-state, process-run, process-with, put-with}
-pub use Rattle.kernel.proofs.Runs.{run-of, same_or_not, self, set-slot, set-twice, slot-other, slot-put, slot-within, stands-set, state-run, with_process, within-run, within-space}
+pub use Rattle.kernel.proofs.Runs.{home-running, IsRun, loaded-run, moved-state, process-run}
+pub use Rattle.kernel.proofs.Runs.{run-of, self, set-slot, set-twice, slot-other, slot-put, slot-within, stands-set, with_process, within-run, within-space}
 pub use Rattle.kernel.proofs.Shapes.{folder-there}
 pub use Rattle.kernel.proofs.Starts.{picked-state, picks-killed, picks-ready, started-is, started-kernel, started-run, started-state, started_to}
 pub use Rattle.kernel.proofs.Steps.{computed-is, held-run, placed-with}
-pub use Rattle.kernel.proofs.Wakes.{kernel-waking, running-at, state-but, state-waking}
+pub use Rattle.kernel.proofs.Wakes.{kernel-waking, state-but, state-waking}
 pub use Rattle.kernel.specs.Descriptors.{descriptors_in}
 pub use Rattle.kernel.specs.Disk.{directory_at, directory_in, HasFiled, HasRead, IsLost, IsServed, LeavesDisk, with_tree}
-pub use Rattle.kernel.specs.Holding.{files_on, FitsNode, home_in, homes_at, IsFolder, IsInUse, node_of, node_on}
-pub use Rattle.kernel.specs.Kernel.{answered, argument, base, blocked, computed, counting, descriptors_at, ended, entered, halted_by, Kernel, lives}
+pub use Rattle.kernel.specs.Holding.{FitsNode, home_in, IsFolder, IsInUse, node_of, node_on}
+pub use Rattle.kernel.specs.Kernel.{answered, argument, base, blocked, computed, counting, descriptors_at, ended, entered, Kernel, lives}
 pub use Rattle.kernel.specs.Kernel.{loaded, marked, memories, memory_in, on_hart, picked, rest_of, started, started_as, state_of, stopped_at, ticked, typed, waking}
 pub use Rattle.kernel.specs.Memory.{drew, resized, sent, wrote}
-pub use Rattle.kernel.specs.Ready.{awaited_in, has_slept, Stands}
-pub use Rattle.kernel.specs.Sound.{can_answer, CanRun, file_named, is_at, is_on_pipe, IsAlive, IsAwaiting, IsForBytes, IsForPipe, IsFresh}
+pub use Rattle.kernel.specs.Ready.{has_slept, Stands}
+pub use Rattle.kernel.specs.Sound.{can_answer, CanRun, file_named, is_on_pipe, IsAlive, IsAwaiting, IsForBytes, IsForPipe, IsFresh}
 pub use Rattle.kernel.specs.Sound.{IsKernel, IsLive, IsMode, IsPending, IsPlaced, IsReading, IsWriting, WaitsAs, WaitsWell}
-pub use Rattle.kernel.specs.Watch.{awaited_of, IsWatched}
 pub use Rattle.names.proofs.Finding.{enter-parts, make-parts, unlink-parts}
-pub use Rattle.proc.proofs.Joined.{change_process-with_table, has_child-with_table, place_of_pid-with_table, place_where-Some, with_zombie-with_table, zombie_child-with_table}
-pub use Rattle.proc.specs.Places.{changed, has_pid, is_child_of, is_zombie_child_of, orphaned, place_where, Places, reaped_at}
-pub use Rattle.proc.specs.Places.{seat_at, seat_of, with_mark, zombie_of, zombie_place}
+pub use Rattle.proc.proofs.Joined.{change_process-with_table, has_child-with_table, zombie_child-with_table}
+pub use Rattle.proc.specs.Places.{changed, has_pid, is_child_of, is_zombie_child_of, place_where, Places, reaped_at}
+pub use Rattle.proc.specs.Places.{seat_at, seat_of, with_mark, zombie_place}
 pub use Rattle.proc.specs.Whole.{with_memory, with_table}
 pub use Rattle.proc.specs.declared.process.Process.{Process}
 pub use Rattle.programs.proofs.Places.{length-write}
-pub use Rattle.programs.specs.Executed.{Executes, frames_beside, plan_at}
+pub use Rattle.programs.specs.Executed.{frames_beside, plan_at}
 pub use Rattle.programs.specs.declared.executing.Started.{Started}
 pub use Rattle.spaces.proofs.SpacesLemmas.{held-same, some-pipe, taken-placed}
-pub use Rattle.spaces.specs.Spaces.{bytes_in, copied, frames_in, no_pages, read_at, Spaces, SpaceView, taken_frames, view_at, with_pipe, with_view}
+pub use Rattle.spaces.specs.Spaces.{bytes_in, copied, frames_in, no_pages, read_at, Spaces, SpaceView, taken_frames, view_at, with_pipe}
 pub use Rattle.tree.proofs.Keeping.{device-is, Reaps}
-pub use Rattle.tree.proofs.Storing.{blocks_of-set, whole-node}
+pub use Rattle.tree.proofs.Storing.{whole-node}
 pub use Rattle.tree.specs.Answers.{Overflows}
 pub use Rattle.tree.specs.Entering.{made_files}
 unfoldable pub use Rattle.tree.specs.Entering.{folder_in, linked_in, made_in}
@@ -77,7 +72,7 @@ pub use Rattle.tree.specs.Holding.{holders}
 unfoldable pub use Rattle.tree.specs.Holding.{let_go}
 pub use Rattle.tree.specs.Leaves.{leaf_node}
 pub use Rattle.tree.specs.Telling.{Tells, TellsMajor}
-pub use Rattle.tree.specs.Tree.{FileTree, has_failed, is_device, Serves}
+pub use Rattle.tree.specs.Tree.{FileTree, has_failed, is_device}
 pub use Rattle.tree.specs.Whole.{IsWhole}
 pub use Rattle.tree.specs.declared.TreeFault.{TreeFault}
 pub use Rattle.unixmodel.specs.Calls.{After, call_of, end_at, end_if_killed, goes_on, outcome_of, quiet, row, settle}
@@ -109,14 +104,14 @@ unfoldable pub use Rattle.unixmodel.specs.Outcome.{end_process}
 pub use Rattle.unixmodel.specs.Outcome.Outcome.{Done, Refused, Waits}
 pub use Rattle.unixmodel.specs.Plan.{Plan}
 unfoldable pub use Rattle.unixmodel.specs.Plan.{plan}
-pub use Rattle.unixmodel.specs.Process.{arg, is_zombie_mode, last_pid, with_answer}
+pub use Rattle.unixmodel.specs.Process.{arg, last_pid, with_answer}
 pub use Rattle.unixmodel.specs.ProcessCalls.{file_bytes, fits_beside, has_child, replaced, wait_for, zombie_child}
 unfoldable pub use Rattle.unixmodel.specs.ProcessCalls.{args_at, exec_row, fork_row, kill_row, sbrk_row, sleep_on, wait_on, wait_row}
 pub use Rattle.unixmodel.specs.Reap.{is_used, kept}
 unfoldable pub use Rattle.unixmodel.specs.Reap.{reap, without_nodes, without_opens, without_pipes}
 pub use Rattle.unixmodel.specs.Run.{after_bytes, followed_by}
 unfoldable pub use Rattle.unixmodel.specs.Run.{run}
-pub use Rattle.unixmodel.specs.State.{change_process, holds, open_limit, place_of_pid, process_at, put_process, running, State}
+pub use Rattle.unixmodel.specs.State.{change_process, open_limit, place_of_pid, process_at, put_process, running, State}
 pub use Rattle.unixmodel.specs.Turn.{is_empty}
 unfoldable pub use Rattle.unixmodel.specs.Turn.{turn}
 pub use Rattle.unixmodel.specs.declared.call.Call.{Call}

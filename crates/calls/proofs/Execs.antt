@@ -1,13 +1,10 @@
 -- exec: another program comes in the place of the one that runs.
-use Rattle.calls.proofs.Common.{directory_at, List, None, Option, Some, [], ap, false, length, refl, subst, sym, ℕ, ◌+◌, ◌<◌, ◌∙◌, ◌≡◌, nat_le, option_and_then, le-leb, lt-leb}
-use Rattle.calls.proofs.Common.{Acts, Runs, Answers, Refuses, HasRead, Reaches, held-run, Kernel}
-use Rattle.calls.proofs.Common.{argument, state_of, IsKernel, Started, frames_beside, plan_at}
-use Rattle.calls.proofs.Common.{view_at, row, page_frames, Exec, Node, find, slot, path_at, Outcome, answers, given, limited}
-use Rattle.calls.proofs.Common.{provided, Done, Plan, plan, args_at, exec_row, file_bytes, fits_beside, replaced, State, put_process}
-use Rattle.calls.proofs.Acts.{Here, here-in, here-of, me, prints, refused, runner}
+use Rattle.calls.proofs.Common.{directory_at, List, None, Option, Some, [], ap, false, length, refl, subst, sym, ℕ, ◌+◌, ◌<◌, ◌∙◌, ◌≡◌, nat_le, option_and_then, le-leb, lt-leb, Acts, Runs}
+use Rattle.calls.proofs.Common.{Answers, Refuses, HasRead, Reaches, held-run, Kernel, argument, state_of, IsKernel, Started, frames_beside, plan_at, view_at, row, page_frames, Exec, Node}
+use Rattle.calls.proofs.Common.{find, slot, path_at, Outcome, answers, given, limited, provided, Done, Plan, plan, args_at, exec_row, file_bytes, fits_beside, replaced, State, put_process}
+use Rattle.calls.proofs.Acts.{Here, given-refused, here-in, here-of, me, prints, runner}
 use Rattle.calls.proofs.Homes.{found-here, node-here, refused-read}
 use Rattle.calls.proofs.Names.{path-is}
-use Rattle.calls.proofs.Pipes.{given-refused}
 use Rattle.kernel.proofs.Replacing.{replaced-state}
 use Rattle.kernel.specs.Replacing.{HasReplaced}
 use Rattle.kernel.proofs.Shown.{frames-state}
@@ -30,10 +27,6 @@ module _ (k : Kernel) (i : ℕ) (runs : Runs k i) where
 
   abbrev mine : unix.Process
   mine = me k i x
-
-  pub exec-pathless : None ≡ path_at (view_at k.spaces i).memory (argument k 0) → Acts k k i (Some Exec) Refuses
-  unfolding exec_row
-  exec-pathless none = let at = path-is k i runs 0 None none in refused k i x (Some Exec) (rw at refl)
 
   -- what its path reaches
   module _ (k1 : Kernel) (o : Option ℕ) (path : List ℕ) (is : Some path ≡ path_at (view_at k.spaces i).memory (argument k 0)) (reads : HasRead k k1 × (o ≡ find k.tree.files (directory_at k i) path)) where

@@ -1,10 +1,8 @@
 -- A read of a file or a directory.
-use Rattle.calls.proofs.Common.{◌≡◌, ℕ, ◌+◌, ◌<◌, ◌≤◌, ◌^◌, List, [], length, take, drop, Option, Some, None, refl, ap, subst, sym, ◌∙◌, arith, length-drop, length-take, GoesOn}
-use Rattle.calls.proofs.Common.{Answers, Uses, Transfers, file_of, target_of, opens-moved, FitsNode, Kernel, descriptors_at, state_of, IsKernel}
-use Rattle.calls.proofs.Common.{IsReading, view_at, bytes_of, bytes_read, whole-node, FileTree}
-use Rattle.calls.proofs.Common.{IsWhole, Pending, read_file, read_node, read_on, Node, longest, node_bytes, put, slot, Directory, File, write_bytes, low, OnNode, pending_arg, Done, State, put_process}
+use Rattle.calls.proofs.Common.{◌≡◌, ℕ, ◌+◌, ◌<◌, ◌≤◌, ◌^◌, List, [], length, take, drop, Option, Some, refl, ap, subst, sym, ◌∙◌, arith, length-drop, length-take, GoesOn, Answers, Uses, Transfers, file_of}
+use Rattle.calls.proofs.Common.{target_of, opens-moved, FitsNode, Kernel, descriptors_at, state_of, IsKernel, IsReading, view_at, bytes_of, bytes_read, whole-node, FileTree, IsWhole, Pending, read_file}
+use Rattle.calls.proofs.Common.{read_node, read_on, Node, longest, node_bytes, put, slot, Directory, File, write_bytes, low, OnNode, pending_arg, Done, State, put_process, IsServed, counting, option_map}
 use Rattle.calls.proofs.Acts.{Here, goes-serves, going, here-in, me, used-here}
-use Rattle.calls.proofs.Common.{IsServed, counting, option_map}
 use Rattle.kernel.proofs.Memories.{wrote-state}
 use Rattle.kernel.specs.Memory.{wrote}
 use Rattle.kernel.specs.Opening.{HasFetched, MayMove, advanced}
@@ -15,7 +13,6 @@ use Rattle.files.specs.declared.file.Target.TheVariants as target
 use Rattle.files.specs.Places.{moved, opens_of}
 use Rattle.kernel.proofs.Opens.{IsNamed}
 use Rattle.tree.specs.Stored.{FitsPlaces}
-use Rattle.unixmodel.specs.Files.Node.{Device}
 use Rattle.unixmodel.specs.Image.{KeepsSize}
 use Rattle.unixmodel.specs.OpenFiles as unix_files
 use Rattle.unixmodel.specs.Process as unix
@@ -29,10 +26,9 @@ record HasBytes (o : Option Node) (offset : ℕ) : Type 0 where
   reads : (s : State) (i : ℕ) (p : unix.Process) (w : Pending) (k : ℕ) (f : unix_files.OpenFile) (n at : ℕ) → read_file s i p w k f n at node ≡ read_node s i p w k f n at (node_bytes node)
 
 has-bytes : (f : OpenFile) (n offset : ℕ) (o : Option Node) → FitsNode f (target.File n offset) o → HasBytes o offset
-has-bytes f n offset None fits = absurd fits
 has-bytes f n offset (Some (File links bytes)) fits = record { node = File links bytes; here = refl; near = fits; reads = λ s i p w k f n at. refl }
-has-bytes f n offset (Some (Device links major minor)) fits = absurd fits
 has-bytes f n offset (Some (Directory links places)) fits = record { node = Directory links places; here = refl; near = fits.0; reads = λ s i p w k f n at. refl }
+has-bytes f n offset _ fits = absurd fits
 
 -- the row
 reads-file : (s : State) (i : ℕ) (p : unix.Process) (w : Pending) (f : unix_files.OpenFile) (is : IsNamed s p (low (pending_arg w 0)) f) (n at : ℕ) → f.target ≡ OnNode n at → (node : Node) → slot s.files n ≡ Some node
@@ -132,4 +128,4 @@ module _ (k : Kernel) (i : ℕ) (w : Pending) (number offset : ℕ) (u : Uses k 
           let state : state_of new ≡ left (opens n) address piece =
           ap state_of made ∙ ap (λ (s : State). record s { opens = opens_of files }) (wrote-state x.run x.sound address piece)
           ∙ ap (λ (os : List (Option unix_files.OpenFile)). left os address piece) (opens-moved k.files (file g).number (offset + n) number offset (file g).file (file g).opened (file g).on) in
-          goes-serves k i x w new n (here-in sound (ap (λ (y : Kernel). y.spaces.active) made ∙ x.run.active) (ap (λ (t : FileTree). t.failed) tree ∙ served.up)) (rw tree served) (row ∙ ap (λ (s : State). Done s n []) (sym state))
+          goes-serves k i x w n (here-in sound (ap (λ (y : Kernel). y.spaces.active) made ∙ x.run.active) (ap (λ (t : FileTree). t.failed) tree ∙ served.up)) (rw tree served) (row ∙ ap (λ (s : State). Done s n []) (sym state))

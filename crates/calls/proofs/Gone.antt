@@ -1,6 +1,6 @@
 -- The running process changes, and what nothing names any more is gone once the call is answered.
-use Rattle.calls.proofs.Common.{◌≡◌, ◌∙◌, ℕ, List, [], length, Option, Some, ap, sym, slice_set, change-put, process-run, regs-run, regs-state, not-killed, set-twice, slot-put, slot-within, Kernel, answered, state_of}
-use Rattle.calls.proofs.Common.{quiet, settle, limited, Done, with_answer, reap, State, put_process}
+use Rattle.calls.proofs.Common.{◌≡◌, ◌∙◌, ℕ, List, [], length, Option, Some, ap, sym, slice_set, change-put, process-run, regs-run, regs-state, not-killed}
+use Rattle.calls.proofs.Common.{set-twice, slot-put, slot-within, Kernel, answered, state_of, quiet, settle, limited, Done, with_answer, reap, State, put_process}
 use Rattle.calls.proofs.Acts.{Here, me, runner}
 use Rattle.calls.proofs.Settles.{settle-reaped}
 use Rattle.kernel.proofs.Renaming.{renamed-within}

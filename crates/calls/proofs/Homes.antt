@@ -1,18 +1,12 @@
 -- chdir: the running process works in another directory, and the one that it leaves may go.
-use Rattle.calls.proofs.Common.{Bool, List, None, Option, Some, [], ap, arith, false, refl, subst, sym, true, ℕ, ◌<◌, ◌∙◌, ◌≡◌, ◌≢◌, IsSome, ne_eqb}
-use Rattle.calls.proofs.Common.{IsServed, none-some, same_Some, Acts, Runs, HasRead, Reaches, Answers, Refuses}
-use Rattle.calls.proofs.Common.{InodeStat, counting-kernel, holders-few, home-folder}
-use Rattle.calls.proofs.Common.{home-running}
-use Rattle.calls.proofs.Common.{IsFolder, home_in, Kernel, answered, argument, state_of, IsKernel}
-use Rattle.calls.proofs.Common.{view_at, holders, Tells, IsWhole, outcome_of, row, settle, Call, Chdir, Node, find, is_directory}
-use Rattle.calls.proofs.Common.{kind_of, slot, Directory, File, path_at, chdir_row, path_arg, Outcome, answers, given, limited, provided, Refused, State, put_process}
-use Rattle.calls.proofs.Acts.{Here, answered-runner, here-in, here-of, me, outcome-here, refused, settles, used-here}
+use Rattle.calls.proofs.Common.{Bool, List, None, Option, Some, [], ap, arith, false, refl, subst, sym, true, ℕ, ◌<◌, ◌∙◌, ◌≡◌, ◌≢◌, IsSome, ne_eqb, IsServed, none-some, same_Some, Acts, Runs, HasRead, Reaches, Answers, Refuses}
+use Rattle.calls.proofs.Common.{InodeStat, counting-kernel, holders-few, home-folder, home-running, IsFolder, home_in, Kernel, answered, argument, state_of, IsKernel, view_at, holders, Tells, IsWhole, outcome_of, row, settle, Call, Chdir}
+use Rattle.calls.proofs.Common.{Node, find, is_directory, kind_of, slot, Directory, File, path_at, chdir_row, path_arg, Outcome, answers, given, limited, provided, Refused, State, put_process, folder-there, directory_at, directory_in}
+use Rattle.calls.proofs.Acts.{Here, answered-runner, here-in, here-of, me, outcome-here, refuses-on, settles, used-here}
 use Rattle.calls.proofs.Gone.{settles-gone}
 use Rattle.calls.proofs.Names.{path-is}
-use Rattle.calls.proofs.Common.{folder-there}
 use Rattle.kernel.proofs.Working.{work-reaps}
 use Rattle.kernel.specs.Processes.{WorksIn}
-use Rattle.calls.proofs.Common.{directory_at, directory_in}
 use Rattle.names.proofs.Naming.{find-used}
 use Rattle.unixmodel.specs.Files.Node.{Device}
 
@@ -21,16 +15,13 @@ use Rattle.unixmodel.specs.Files.Node.{Device}
 pub read-runs : (k e : Kernel) (i : ℕ) → HasRead k e → Runs k i → Runs e i
 read-runs k e i has runs = subst (λ (y : Kernel). Runs y i) (sym has.same) (record { active = runs.active; up = runs.up; sound = counting-kernel k e.tree.failures runs.sound; zero = runs.zero; aligned = runs.aligned })
 
+pub read-served : {k e : Kernel} → HasRead k e → k.tree.failed ≡ false → IsServed k.tree e.tree
+read-served has up = record { up = ap (λ (y : Kernel). y.tree.failed) has.same ∙ up; same_device = ap (λ (y : Kernel). y.tree.identity) has.same; later = has.later }
+
 -- a call that is refused then
 pub refused-read : (k e : Kernel) (i : ℕ) (x : Here k i) (call : Call) → HasRead k e → outcome_of (state_of k) i (me k i x) (Some call) ≡ Refused → Acts k e i (Some call) Refuses
-refused-read k e i x call has is = subst (λ (y : Kernel). Acts k y i (Some call) Refuses) (sym has.same) (record {
-  makes = ap (settle (state_of k) i) (outcome-here k i x (Some call) ∙ is);
-  active = x.run.active;
-  sound = counting-kernel k e.tree.failures x.sound;
-  can = tt;
-  printed = refl;
-  served = record { up = x.up; same_device = refl; later = has.later };
-})
+refused-read k e i x call has is =
+    refuses-on (outcome-here k i x (Some call) ∙ is) (ap state_of has.same) (ap (λ (y : Kernel). y.spaces.active) has.same ∙ x.run.active) (subst IsKernel (sym has.same) (counting-kernel k e.tree.failures x.sound)) (read-served has x.up)
 
 -- ---- chdir, step by step
 
@@ -45,9 +36,8 @@ folder-kind (Some (Device links major minor)) node at kind = absurd (let bad : 3
 folder-kind (Some (Directory links places)) node at kind = tt
 
 folder-is : (o : Option Node) (node : Node) → o ≡ Some node → IsFolder o → is_directory node ≡ true
-folder-is o (File links bytes) at is = absurd (subst IsFolder at is)
-folder-is o (Device links major minor) at is = absurd (subst IsFolder at is)
 folder-is o (Directory links places) at is = refl
+folder-is o _ at is = absurd (subst IsFolder at is)
 
 module _ (k : Kernel) (i : ℕ) (runs : Runs k i) where
   abbrev x : Here k i
@@ -69,10 +59,6 @@ module _ (k : Kernel) (i : ℕ) (runs : Runs k i) where
   -- no more hold a node than there are open files and processes
   pub few-hold : (n : ℕ) → holders k.tree.holds n < 65535
   few-hold n = let few = holders-few (used-here k i x) n in let opens = x.sound.opened.table.all in let places = x.sound.all in omega arith
-
-  pub chdir-pathless : None ≡ path_at (view_at k.spaces i).memory (argument k 0) → Acts k k i (Some Chdir) Refuses
-  unfolding chdir_row
-  chdir-pathless none = let at = path-is k i runs 0 None none in refused k i x (Some Chdir) (rw at refl)
 
   abbrev works : ℕ → State
   works n = put_process (state_of k) i (record (me k i x) { directory = n })

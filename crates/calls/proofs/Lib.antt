@@ -1,4 +1,5 @@
 mod Common
+mod Altered
 pub mod Settles
 pub mod Rows
 pub mod Served
@@ -30,6 +31,5 @@ pub mod Stats
 pub mod Homes
 pub mod Opens
 pub mod Execs
-pub mod Woken
 pub mod Runs
 pub mod Pieces

@@ -1,7 +1,6 @@
 -- link: a name more for a file or a device.
-use Rattle.calls.proofs.Common.{◌≡◌, ℕ, List, None, Option, Some, refl, Result, option_and_then, Acts, ActsOnDisk, Runs, DeviceFault, directory_at, with_tree, IsKernel}
-use Rattle.calls.proofs.Common.{Came, Refuses, Kernel, argument, state_of, view_at, TreeFault, linked_in}
-use Rattle.calls.proofs.Common.{Link, find, spot_of, path_at, link_row, linked, path_arg, with_files, answers, given, State}
+use Rattle.calls.proofs.Common.{◌≡◌, ℕ, List, None, Option, Some, refl, Result, option_and_then, Acts, ActsOnDisk, Runs, DeviceFault, directory_at, with_tree, IsKernel, Came, Refuses}
+use Rattle.calls.proofs.Common.{Kernel, argument, state_of, view_at, TreeFault, linked_in, Link, find, spot_of, path_at, link_row, linked, path_arg, with_files, answers, given, State}
 use Rattle.calls.specs.Named.{IsNamed}
 use Rattle.calls.proofs.Acts.{refused}
 use Rattle.calls.proofs.Names.{given-then, here, home-is, mine, path-is, with_made, makes-acts}
@@ -16,12 +15,6 @@ link-row s i p old new from to = rw (from, to) (go (find s.files p.directory old
   go (Some n) = given-then (spot_of s.files p.directory new) (λ at. linked s.files at n) (λ files. answers (with_files s files) 0)
 
 module _ (k : Kernel) (i : ℕ) (runs : Runs k i) where
-  -- ---- no path
-
-  pub link-oldless : None ≡ path_at (view_at k.spaces i).memory (argument k 0) → Acts k k i (Some Link) Refuses
-  unfolding link_row
-  link-oldless none = let at = path-is k i runs 0 None none in refused k i (here k i runs) (Some Link) (rw at refl)
-
   pub link-newless : {old : List ℕ} → Some old ≡ path_at (view_at k.spaces i).memory (argument k 0) → None ≡ path_at (view_at k.spaces i).memory (argument k 1) → Acts k k i (Some Link) Refuses
   unfolding link_row
   link-newless {old} some none = let from = path-is k i runs 0 (Some old) some in let to = path-is k i runs 1 None none in refused k i (here k i runs) (Some Link) (rw (from, to) refl)

@@ -1,13 +1,11 @@
 -- Calls on names: the running process stays as it is, and the files alone change.
-use Rattle.calls.proofs.Common.{DeviceFault, ◌≡◌, ℕ, ◌<◌, ◌∙◌, List, [], None, Option, Some, ap, false, refl, subst, sym, true, Err, IfErr, Ok, Result, IsRun, directory_in, directory_at, with_tree}
-use Rattle.calls.proofs.Common.{nat_le, option_and_then, option_map, ◌%◌, ◌&&◌, ◌^◌, false≢true, lt-leb, and_left, and_right, Acts, ActsOnDisk, Runs, IsRefused, Came, Answers, Refuses}
-use Rattle.calls.proofs.Common.{Kernel, argument, state_of, IsKernel, held-run}
-use Rattle.calls.proofs.Common.{SpaceView, view_at, Overflows, TreeFault, folder_in, made_files, made_in, leaf_node, has_failed, is_device}
-use Rattle.calls.proofs.Common.{device-is, outcome_of, quiet, row, settle, blocks_of, frames_of, is_within, Call, Mkdir, Mknod, Files, Node, spot_of, path_at, Made, made_at}
-use Rattle.calls.proofs.Common.{made_directory, mkdir_row, mknod_row, path_arg, with_files, Outcome, answers, given, limited, minus_one, provided, Done, Refused, arg, with_answer, State, change_process, open_limit}
+use Rattle.calls.proofs.Common.{DeviceFault, ◌≡◌, ℕ, ◌<◌, ◌∙◌, List, [], None, Option, Some, ap, false, refl, subst, sym, true, Err, IfErr, Ok, Result, IsRun, directory_in, directory_at, with_tree, nat_le, option_and_then}
+use Rattle.calls.proofs.Common.{option_map, ◌%◌, ◌&&◌, ◌^◌, false≢true, lt-leb, and_left, and_right, Acts, ActsOnDisk, Runs, IsRefused, Came, Answers, Refuses, Kernel, argument, state_of, IsKernel, held-run, SpaceView}
+use Rattle.calls.proofs.Common.{view_at, Overflows, TreeFault, folder_in, made_files, made_in, leaf_node, has_failed, is_device, device-is, outcome_of, row, blocks_of, frames_of, is_within, Call, Mkdir, Mknod, Files, Node}
+use Rattle.calls.proofs.Common.{spot_of, path_at, Made, made_at, made_directory, mkdir_row, mknod_row, path_arg, with_files, Outcome, answers, given, limited, provided, Done, Refused, arg, State, open_limit}
 use Rattle.calls.proofs.Served.{ok-told}
 use Rattle.calls.specs.Named.{IsNamed}
-use Rattle.calls.proofs.Acts.{Here, here-of, me, outcome-here, prints, refused}
+use Rattle.calls.proofs.Acts.{Here, here-of, me, outcome-here, prints, refused, refuses-on}
 use Rattle.tree.specs.declared.TreeFault.TheVariants.{Device}
 use Rattle.tree.specs.declared.making.Leaf.TheVariants as leaf
 use Rattle.tree.specs.Tree as tree
@@ -85,16 +83,7 @@ module _ (k : Kernel) (i : ℕ) (x : Here k i) {new : Kernel} (rest : new ≡ wi
 
     -- the files are as they were
     same-refused : new.tree.failed ≡ false → new.tree.files ≡ k.tree.files → outcome_of (state_of k) i (me k i x) (Some call) ≡ Refused → Acts k new i (Some call) Refuses
-    same-refused up same is =
-        let before : state_of new ≡ state_of k = over-state acts.limit ∙ ap (with_files (state_of k)) same in
-        record {
-          makes = ap (settle (state_of k) i) (outcome-here k i x (Some call) ∙ is) ∙ ap (λ (s : State). quiet (change_process s i (with_answer minus_one))) (sym before);
-          active = (over-here up).run.active;
-          sound = sound;
-          can = tt;
-          printed = refl;
-          served = record { up = up; same_device = acts.same_device; later = acts.later };
-        }
+    same-refused up same is = refuses-on (outcome-here k i x (Some call) ∙ is) (over-state acts.limit ∙ ap (with_files (state_of k)) same) (over-here up).run.active sound (record { up = up; same_device = acts.same_device; later = acts.later })
 
     -- nothing was made: the call is refused, or an access failed
     module _ (bad : Bad → outcome_of (state_of k) i (me k i x) (Some call) ≡ Refused) (fault : TreeFault) (e : r ≡ Err fault) where
@@ -136,13 +125,8 @@ module _ (k : Kernel) (i : ℕ) (runs : Runs k i) where
 
   -- ---- no path
 
-  pub mknod-pathless : None ≡ path_at (view_at k.spaces i).memory (argument k 0) → Acts k k i (Some Mknod) Refuses
-  unfolding mknod_row
-  mknod-pathless none = let at = path-is 0 None none in refused k i here (Some Mknod) (rw at refl)
-
-  pub mkdir-pathless : None ≡ path_at (view_at k.spaces i).memory (argument k 0) → Acts k k i (Some Mkdir) Refuses
-  unfolding mkdir_row
-  mkdir-pathless none = let at = path-is 0 None none in refused k i here (Some Mkdir) (rw at refl)
+  pub pathless : (rest : List ℕ → Outcome) (call : Call) → row (state_of k) i mine call ≡ given (path_arg mine 0) rest → None ≡ path_at (view_at k.spaces i).memory (argument k 0) → Acts k k i (Some call) Refuses
+  pathless rest call is none = refused k i here (Some call) (ap limited (is ∙ ap (λ o. given o rest) (path-is 0 None none)))
 
   -- ---- the rows
 

@@ -1,24 +1,18 @@
 -- open: the running process has a new open file on a node.
-use Rattle.calls.proofs.Common.{Bool, Err, List, None, Ok, Option, Some, [], ap, arith, false, inl, inr, le_trans, refl, subst, suc, sym, true, ℕ, ◌<◌, ◌∙◌, ◌≡◌, ◌≢◌, ◌≤◌, Result, count_by, if◌then◌else◌}
-use Rattle.calls.proofs.Common.{state-but, is_none, nat_lt, not, option_and_then, option_map, slice_set, ◌==◌, ◌||◌, cases_eq, eqb-true, false≢true, lt-ltb, get_or-set_other, get_or-set_same, none-some}
-use Rattle.calls.proofs.Common.{option_and_then_some, same_Some, DeviceFault, Acts, ActsOnDisk, Runs, outcome_at, settled_by, Came, Answers, Refuses, IsServed, IsRefused, Asks, IsCut, IsOpenable, Opens, cut_tree, file_by}
-use Rattle.calls.proofs.Common.{has_seat, may_open_by, target_by, with_open, HasRead, free_descriptors, file_of, target_of}
-use Rattle.calls.proofs.Common.{free_count, free-None, free-opens, InodeStat, process-run}
-use Rattle.calls.proofs.Common.{set-slot, slot-within, descriptors_in, FitsNode, node_on, Kernel, argument, state_of, IsKernel}
-use Rattle.calls.proofs.Common.{enter-parts, make-parts, Process, view_at, Overflows, TreeFault, made_files, made_in, leaf_node, Tells, TellsMajor}
-use Rattle.calls.proofs.Common.{FileTree, has_failed, outcome_of, row, settle, blocks_of, Call, Open, Files, Node, Spot, change_node, find, free_slot, kind_of, put, slot, spot_of, Directory, File, path_at, Made}
-use Rattle.calls.proofs.Common.{creates, emptied, found_or_made, make_at, made_at, may_open, new_file, open_row, truncated, truncates, has_bit, low, OnNode, Outcome, answers, given, limited, provided, Done, Refused, State}
+use Rattle.calls.proofs.Common.{Bool, Err, List, None, Ok, Option, Some, [], ap, arith, false, inl, inr, le_trans, refl, subst, suc, sym, true, ℕ, ◌<◌, ◌∙◌, ◌≡◌, ◌≢◌, ◌≤◌, Result, count_by, if◌then◌else◌, state-but, is_none}
+use Rattle.calls.proofs.Common.{nat_lt, not, option_and_then, option_map, slice_set, ◌==◌, ◌||◌, cases_eq, eqb-true, false≢true, lt-ltb, get_or-set_other, get_or-set_same, none-some, option_and_then_some, same_Some}
+use Rattle.calls.proofs.Common.{DeviceFault, Acts, ActsOnDisk, Runs, outcome_at, settled_by, Came, Answers, Refuses, IsRefused, Asks, IsCut, IsOpenable, Opens, cut_tree, file_by, has_seat, may_open_by, target_by, with_open}
+use Rattle.calls.proofs.Common.{HasRead, free_descriptors, file_of, target_of, free_count, free-None, free-opens, InodeStat, process-run, set-slot, slot-within, descriptors_in, FitsNode, node_on, Kernel, argument, state_of}
+use Rattle.calls.proofs.Common.{IsKernel, enter-parts, make-parts, Process, view_at, Overflows, TreeFault, made_files, made_in, leaf_node, Tells, TellsMajor, FileTree, has_failed, outcome_of, row, settle, blocks_of, Call}
+use Rattle.calls.proofs.Common.{Open, Files, Node, Spot, change_node, find, free_slot, kind_of, put, slot, spot_of, Directory, File, path_at, Made, creates, emptied, found_or_made, make_at, made_at, may_open, new_file}
+use Rattle.calls.proofs.Common.{open_row, truncated, truncates, has_bit, low, OnNode, Outcome, answers, given, limited, provided, Done, Refused, State, with_tree, HasFiled, ◌%◌, slice_index, directory_at}
 use Rattle.kernel.proofs.Opening.{open-state}
 use Rattle.kernel.specs.Opening.{MayOpen, OpensOn, opened_on}
 use Rattle.std.proofs.lemmas.Bool.{and_parts, ltb-true}
-use Rattle.calls.proofs.Acts.{Here, here-of, me, prints, refused, runner}
-use Rattle.calls.proofs.Homes.{found-here, node-here, refused-read}
+use Rattle.calls.proofs.Acts.{Here, given-refused, here-of, me, prints, provided-refused, refused, runner, runs-of}
+use Rattle.calls.proofs.Homes.{found-here, node-here, read-served, refused-read}
 use Rattle.calls.proofs.Names.{home-is, refused-acts, over-blocks, path-is}
 use Rattle.tree.specs.Calls.{MakesNode}
-use Rattle.calls.proofs.Common.{with_tree, HasFiled, ◌%◌, slice_index}
-use Rattle.calls.proofs.Common.{directory_at}
-use Rattle.calls.proofs.Acts.{runs-of}
-use Rattle.calls.proofs.Pipes.{given-refused}
 use Rattle.calls.proofs.Served.{lost-after, served-after, ok-told}
 use Rattle.files.specs.declared.file.OpenFile.{OpenFile}
 use Rattle.files.specs.declared.file.Target.TheVariants as target
@@ -166,13 +160,6 @@ opens_seat s i p f got =
 abbrev opens_got : State → ℕ → unix.Process → ℕ → Made → Outcome
 opens_got s i p f got = given (slot got.files got.number) λ node. provided (may_open f node) (opens_seat s i p f got)
 
-provided-refused : (b : Bool) (rest : Outcome) → limited rest ≡ Refused → limited (provided b rest) ≡ Refused
-provided-refused true rest is = is
-provided-refused false rest is = refl
-
-provided-not : (b : Bool) (rest : Outcome) → b ≡ false → limited (provided b rest) ≡ Refused
-provided-not b rest no' = rw no' refl
-
 module _ (k : Kernel) (i : ℕ) (runs : Runs k i) where
   abbrev now : Here k i
   now = here-of k i runs
@@ -182,10 +169,6 @@ module _ (k : Kernel) (i : ℕ) (runs : Runs k i) where
 
   abbrev mine : unix.Process
   mine = me k i now
-
-  pub open-pathless : None ≡ path_at (view_at k.spaces i).memory (argument k 0) → Acts k k i (Some Open) Refuses
-  unfolding open_row
-  open-pathless none = let at = path-is k i runs 0 None none in refused k i now (Some Open) (rw at refl)
 
   open-row : (path : List ℕ) (f : ℕ) (o : Option ℕ) → Asks k i path f o → row (state_of k) i mine Open ≡ given (found_or_made k.tree.files home path f o) (opens_got (state_of k) i mine f)
   unfolding open_row
@@ -235,7 +218,7 @@ module _ (k : Kernel) (i : ℕ) (runs : Runs k i) where
       open-closed no' =
           refused-read k k1 i now Open reads.0 (
           ap limited open-got
-          ∙ given-refused (slot k.tree.files n) _ (λ node here. let t = reads.1 node here in provided-not (may_open f node) _ (sym (may-by f node told.kind told.major t.0 t.3) ∙ no')))
+          ∙ given-refused (slot k.tree.files n) _ (λ node here. let t = reads.1 node here in rw (sym (may-by f node told.kind told.major t.0 t.3) ∙ no') refl))
 
       pub open-full : has_seat k1 i ≡ false → Acts k k1 i (Some Open) Refuses
       open-full none = refused-read k k1 i now Open reads.0 (ap limited open-got ∙ full (subst (λ (y : Kernel). has_seat y i ≡ false) reads.0.same none) f (Some got))
@@ -249,9 +232,6 @@ module _ (k : Kernel) (i : ℕ) (runs : Runs k i) where
 
         pub may-open-cut : IsOpenable k2.tree.files n f told
         may-open-cut = subst (λ (y : Kernel). IsOpenable y.tree.files n f told) (sym cut.same) (openable-cut k1.tree.files n f f told (subst (λ (y : Kernel). IsOpenable y.tree.files n f told) (sym reads.0.same) may-open))
-
-        pub seat-cut : has_seat k1 i ≡ true → has_seat k2 i ≡ true
-        seat-cut is = subst (λ (y : Kernel). has_seat y i ≡ true) (sym cut.same) is
 
         after-cut : k2 ≡ record k { tree = cut_tree k.tree f n k2.tree.failures }
         after-cut = cut.same ∙ ap (λ (y : Kernel). record y { tree = cut_tree y.tree f n k2.tree.failures }) reads.0.same
@@ -318,9 +298,6 @@ module _ (k : Kernel) (i : ℕ) (runs : Runs k i) where
           pub created-openable : (told : InodeStat) → told.kind ≡ 2 → IsOpenable mid.tree.files v f told
           created-openable told kind = record { node = File 1 []; here = new-there; kind = kind; major = tt; may = refl }
 
-          pub created-seat : has_seat k i ≡ true → has_seat mid i ≡ true
-          created-seat is = ap (λ (y : Kernel). has_seat y i) rest ∙ is
-
           pub open-created : (new : Kernel) (fd : ℕ) → Opens mid new i (opened f v) fd → Acts k new i (Some Open) (Answers fd)
           open-created new fd opens =
               let made-here = sym made-from ∙ made in
@@ -336,17 +313,13 @@ asked {k} {k1} i path f o reads named flags q is =
     subst (λ (y : Kernel). Asks y i path f q) (sym reads.0.same)
     (record { named = named; flags = flags; found = sym is ∙ reads.1 })
 
-module _ (k k1 new : Kernel) (i : ℕ) (has : HasRead k k1) where
-  looked : k.tree.failed ≡ false → IsServed k.tree k1.tree
-  looked up = record { up = ap (λ (y : Kernel). y.tree.failed) has.same ∙ up; same_device = ap (λ (y : Kernel). y.tree.identity) has.same; later = has.later }
-
-  pub after-look : k.tree.failed ≡ false → (call : Call) (r : Result Came DeviceFault) → ActsOnDisk k1 new i (Some call) r → ActsOnDisk k new i (Some call) r
-  after-look up call (Err fault) lost = lost-after (looked up) lost
-  after-look up call (Ok came) acts = record {
-    makes = subst (λ (y : Kernel). settle (state_of y) i (outcome_at (state_of y) i (Some call)) ≡ record { state = settled_by (state_of new) i came; bytes = [] }) has.same acts.makes;
-    active = acts.active;
-    sound = acts.sound;
-    can = acts.can;
-    printed = acts.printed;
-    served = served-after (looked up) acts.served;
-  }
+pub after-look : (k k1 new : Kernel) (i : ℕ) → HasRead k k1 → k.tree.failed ≡ false → (call : Call) (r : Result Came DeviceFault) → ActsOnDisk k1 new i (Some call) r → ActsOnDisk k new i (Some call) r
+after-look k k1 new i has up call (Err fault) lost = lost-after (read-served has up) lost
+after-look k k1 new i has up call (Ok came) acts = record {
+  makes = subst (λ (y : Kernel). settle (state_of y) i (outcome_at (state_of y) i (Some call)) ≡ record { state = settled_by (state_of new) i came; bytes = [] }) has.same acts.makes;
+  active = acts.active;
+  sound = acts.sound;
+  can = acts.can;
+  printed = acts.printed;
+  served = served-after (read-served has up) acts.served;
+}

@@ -1,15 +1,13 @@
 -- Many steps, piece by piece.
-use Rattle.calls.proofs.Common.{inl, inr, true, ◌&&◌, is_none, ◌≡◌, ◌<◌, ◌≤◌, ◌+◌, ◌-◌, ◌++◌, ℕ, ℤ, zero, suc, false, List, [], ◌∷◌, replicate, Option, Some, None, Ok, Err, refl, ap, subst, sym, ◌∙◌, arith}
-use Rattle.calls.proofs.Common.{append-nil, cases_lt, replicate-append-replicate, IfNone, IfSome, Result, Halt, Halted, InitEnded, EventGives, IsServed, LeavesTree, Makes, IsBusy, IsBusyFor, LeavesFiles}
-use Rattle.calls.proofs.Common.{PieceGives, PieceGoes, StepsGive, StopsAt, Went, stepped, state-but, busy-state, idle-turn, Kernel, computed, picked, state_of, waking, IsKernel, run-of, held-run, Spaces}
-use Rattle.calls.proofs.Common.{view_at, FileTree, After, quiet, cycle, Step, Trap, Computed, execute_at, next, step, take_turn, after_bytes, followed_by, run, State, process_at, running, turn}
+use Rattle.calls.proofs.Common.{inl, inr, true, ◌&&◌, is_none, ◌≡◌, ◌<◌, ◌≤◌, ◌+◌, ◌-◌, ◌++◌, ℕ, ℤ, zero, suc, false, List, [], ◌∷◌, replicate, Option, Some, None, Ok, Err, refl, ap, subst, sym, ◌∙◌, arith, append-nil, cases_lt}
+use Rattle.calls.proofs.Common.{replicate-append-replicate, Result, Halt, Halted, InitEnded, EventGives, IsServed, LeavesTree, Makes, IsBusy, IsBusyFor, LeavesFiles, PieceGives, PieceGoes, StepsGive, StopsAt, Went, stepped, state-but}
+use Rattle.calls.proofs.Common.{busy-state, idle-turn, Kernel, picked, state_of, waking, IsKernel, Spaces, FileTree, After, quiet, Step, execute_at, next, step, take_turn, after_bytes, followed_by, run, State, process_at, running, turn}
 use Rattle.calls.specs.declared.halt.Halt.TheVariants.{Console, Device}
-use Rattle.calls.proofs.Takes.{turn-takes}
+use Rattle.calls.proofs.Takes.{step-computes, turn-takes}
 use Rattle.calls.proofs.Prints.{Appends-none, Appends-trans, begins_more}
 use Rattle.calls.proofs.Runs.{run-append, run-one, then_begins, then_runs}
 use Rattle.calls.proofs.Served.{lost-after, same-served, served-after}
 use Rattle.calls.specs.Resuming.{taken}
-use Rattle.calls.proofs.Rows.{computed-state}
 use Rattle.calls.proofs.Turned.{next-executes, next-turns}
 use Rattle.kernel.proofs.Advancing.{advances-on}
 use Rattle.kernel.specs.Idle.{is_idle}
@@ -21,12 +19,9 @@ use Rattle.spaces.specs.Instructions.{Advances}
 steps-split : (s : State) (n m : ℕ) → s.halted ≡ None → run s (replicate (n + m) Step) ≡ then_runs (replicate m Step) (run s (replicate n Step)) (run s (replicate n Step)).state.halted
 steps-split s n m up = ap (run s) (sym (replicate-append-replicate n m Step)) ∙ run-append (replicate n Step) (replicate m Step) s up
 
-then-goes : (m : ℕ) (a : After) → a.state.halted ≡ None → then_runs (replicate m Step) a a.state.halted ≡ after_bytes a.bytes (run a.state (replicate m Step))
-then-goes m a goes = ap (then_runs (replicate m Step) a) goes
-
 -- steps that go on are followed by others
 steps-go : (s : State) (n m : ℕ) → s.halted ≡ None → (run s (replicate n Step)).state.halted ≡ None → run s (replicate (n + m) Step) ≡ after_bytes (run s (replicate n Step)).bytes (run (run s (replicate n Step)).state (replicate m Step))
-steps-go s n m up goes = steps-split s n m up ∙ then-goes m (run s (replicate n Step)) goes
+steps-go s n m up goes = steps-split s n m up ∙ ap (then_runs (replicate m Step) (run s (replicate n Step))) goes
 
 -- steps that halt are followed by none
 steps-halt : (s : State) (n count : ℕ) (status : ℤ) → s.halted ≡ None → n ≤ count → (run s (replicate n Step)).state.halted ≡ Some status → run s (replicate count Step) ≡ run s (replicate n Step)
@@ -106,11 +101,6 @@ went-more old mid new n before at after up went made served = record {
 
 -- ---- instructions
 
-computes-quiet : (k : Kernel) (i : ℕ) (d : Computed) → IsKernel k → k.spaces.active ≡ Some i → cycle k.spaces.registers k.spaces.pc (view_at k.spaces i).memory ≡ Ok d → execute_at (state_of k) i (process_at (state_of k) i) ≡ quiet (state_of (computed k i d))
-computes-quiet k i d is active means =
-    let run = run-of k i is active in
-    computed-state k i run.0 run.1.0 run.1.1 is d (rw (held-run k i run.0 run.1.0 run.1.1 is) at means)
-
 pub run-advances : (n : ℕ) (k : Kernel) (i : ℕ) (new : Spaces) → IsKernel k → k.spaces.active ≡ Some i → k.halted ≡ None → Advances n k.spaces i new → stepped k n ≡ quiet (state_of (record k { spaces = new }))
 unfolding run
 run-advances zero k i new is active up all = ap (λ (s : Spaces). quiet (state_of (record k { spaces = s }))) (sym (advances-same k.spaces i new all))
@@ -125,7 +115,7 @@ run-advances (suc n) k i new is active up all =
     ∙ ap (λ (a : After). after_bytes a.bytes (run a.state (Step ∷ []))) first
     ∙ run-one Step (state_of mid) (next (state_of mid) Step).state.halted refl
     ∙ next-executes mid i on.sound on.active
-    ∙ computes-quiet mid i last.2.done on.sound on.active last.2.means
+    ∙ step-computes on.sound on.active last.2.means
     ∙ ap (λ (s : Spaces). quiet (state_of (record k { spaces = s }))) (sym last.2.leaves)
 
 pub went-advances : (n : ℕ) (k new : Kernel) (i : ℕ) (at : Option (List ℕ)) → IsKernel k → k.spaces.active ≡ Some i → k.halted ≡ None → k.tree.failed ≡ false → Advances n k.spaces i new.spaces → new ≡ record k { spaces = new.spaces } → Went k new n at at
@@ -241,13 +231,6 @@ begun n k mid i at is active up sound done =
       is = subst (λ (x : Kernel). next (state_of x) Step ≡ execute_at (state_of x) i (process_at (state_of x) i)) (sym done.1) (next-executes (record k { spaces = mid.spaces }) i on.sound on.active);
     }
 
-pub trap-told : (mid : Kernel) (i n count : ℕ) (r : Option Trap) (t : Trap) → r ≡ Some t → IfSome r (λ t. (n < count) × (cycle mid.spaces.registers mid.spaces.pc (view_at mid.spaces i).memory ≡ Err t))
-    → (n < count) × (cycle mid.spaces.registers mid.spaces.pc (view_at mid.spaces i).memory ≡ Err t)
-trap-told mid i n count r t is h = subst (λ (x : Option Trap). IfSome x (λ t. (n < count) × (cycle mid.spaces.registers mid.spaces.pc (view_at mid.spaces i).memory ≡ Err t))) is h
-
-pub none-told : {P : Type 0} (r : Option Trap) → r ≡ None → IfNone r P → P
-none-told {P} r is h = subst (λ (x : Option Trap). IfNone x P) is h
-
 -- a step behind those that went, which makes b, is the last of the piece
 pub last-goes : (k mid new : Kernel) (n : ℕ) (before after : Option (List ℕ)) (rising : Type 0) (b : After) (r : Result (Unit {0}) Halt) → k.halted ≡ None → Went k mid n before before → next (state_of mid) Step ≡ b
     → EventGives new b before after rising r → LeavesTree {X = Unit {0}} mid.tree new.tree r → PieceGoes k new (n + 1) before after rising r
@@ -270,10 +253,8 @@ came {old} {new} {most} {count} {before} {after} {rising} {r} piece x is = subst
 -- a piece at which no failure of the console rises
 silent-goes : (old new : Kernel) (count : ℕ) (before after : Option (List ℕ)) (rising : Type 0) (r : Result (Unit {0}) Halt) → PieceGoes old new count before after ⊥ r → PieceGoes old new count before after rising r
 silent-goes old new count before after rising (Ok u) h = h
-silent-goes old new count before after rising (Err (InitEnded status)) h = record { mid = h.mid; done = h.done; more = h.more; went = h.went; last = h.last; leaves = h.leaves }
-silent-goes old new count before after rising (Err Device) h = record { mid = h.mid; done = h.done; more = h.more; went = h.went; last = h.last; leaves = h.leaves }
 silent-goes old new count before after rising (Err Console) h = absurd h.last.0
-silent-goes old new count before after rising (Err Halted) h = absurd h.last
+silent-goes old new count before after rising (Err _) h = record { mid = h.mid; done = h.done; more = h.more; went = h.went; last = h.last; leaves = h.leaves }
 
 pub silent : (old new : Kernel) (most : ℕ) (before after : Option (List ℕ)) (rising : Type 0) (count : ℕ) (r : Result (Unit {0}) Halt) → PieceGives old new most before after ⊥ count r → PieceGives old new most before after rising count r
 silent old new most before after rising count r h = record { within = h.within; busy = h.busy; goes = silent-goes old new count before after rising r h.goes }

@@ -1,14 +1,12 @@
 -- pipe: the running process opens both ends of a new pipe.
-use Rattle.calls.proofs.Common.{◌≡◌, ℕ, ◌+◌, ◌<◌, Bool, true, false, List, [], ◌++◌, Option, Some, None, refl, ap, sym, subst, ◌∙◌, arith, count_by, is_none, option_map}
-use Rattle.calls.proofs.Common.{slice_set, length-set, Acts, Runs, Answers, Refuses, descriptors_in, Kernel, argument, descriptors_at, state_of, waking, IsKernel}
-use Rattle.calls.proofs.Common.{IsPlaced, length-write, set-twice, slot-put}
-use Rattle.calls.proofs.Common.{slot-within, with_process, held-run, free-None, free-opens, free-place, free-put, Counted}
-use Rattle.calls.proofs.Common.{free_count, opens-opened, Process, Places, changed, SpaceView, frames_in, view_at, taken_frames}
-use Rattle.calls.proofs.Common.{with_pipe, taken-placed, is_within, page_frames, Pipe, pipe_end, pipe_row, with_both, free_slot, put, slot, can_write, le, ReadEnd, WriteEnd, Outcome, given, limited, Done, Refused, State}
+use Rattle.calls.proofs.Common.{◌≡◌, ℕ, ◌+◌, ◌<◌, Bool, true, false, List, [], ◌++◌, Option, Some, None, refl, ap, sym, subst, ◌∙◌, arith, count_by, is_none, option_map, slice_set, length-set, Acts, Runs, Answers, Refuses}
+use Rattle.calls.proofs.Common.{descriptors_in, Kernel, argument, descriptors_at, state_of, waking, IsKernel, IsPlaced, length-write, set-twice, slot-put, slot-within, with_process, held-run, free-None, free-opens, free-place}
+use Rattle.calls.proofs.Common.{free-put, Counted, free_count, opens-opened, Process, Places, changed, SpaceView, frames_in, view_at, taken_frames, with_pipe, taken-placed, is_within, page_frames, Pipe, pipe_end, pipe_row, with_both}
+use Rattle.calls.proofs.Common.{free_slot, put, slot, can_write, le, ReadEnd, WriteEnd, limited, Done, State, match-active, match-place, over-state, live, not-killed, runs-mode, moved-state, stands-set, within-run, within-space}
 use Rattle.kernel.specs.Opening.{AreFree, Ends, HasPiped, pipe_file, piped}
 use Rattle.kernel.specs.Memory.{wrote}
 use Rattle.kernel.proofs.Wakes.{state-waking}
-use Rattle.calls.proofs.Acts.{Here, makes, here-of, me, named-placed, refused, turned, turned-full, turned-state}
+use Rattle.calls.proofs.Acts.{Here, given-refused, makes, here-of, me, refused}
 use Rattle.files.specs.declared.file.End.TheVariants as end
 use Rattle.files.specs.Places.{opened, opens_of}
 use Rattle.proc.specs.Places.{with_descriptor}
@@ -71,10 +69,15 @@ module _ (k : Kernel) (i : ℕ) (y : Here k i) (a : ℕ) (x : Ends) where
   opens-both = opens-opened first x.writer (pipe_file x.pipe end.Write) ∙ ap (λ (os : List (Option OpenFile)). put os x.writer (pipe_end x.pipe WriteEnd)) opens-first
 
   placed : IsPlaced q h
-  placed = named-placed k i y q.descriptors p.directory h.memory (length-set (put p.descriptors x.read_fd x.reader) x.write_fd (Some x.writer) ∙ length-set p.descriptors x.read_fd (Some x.reader))
+  placed = let l = live k i p y.held y.run is in let placed = y.run.placed in record {
+    size = placed.size;
+    zero = placed.zero;
+    aligned = placed.aligned;
+    mode = runs-mode q h.memory p.mode y.run.runs (record { descriptors = length-set (put p.descriptors x.read_fd x.reader) x.write_fd (Some x.writer) ∙ length-set p.descriptors x.read_fd (Some x.reader) ∙ l.descriptors }) (not-killed k i p y.held y.run is);
+  }
 
   abbrev to : Kernel
-  to = turned k i y k.tree q h both pipes placed y.run.runs
+  to = record k { table = with_process k.table i q; spaces = record k.spaces { places = slice_set k.spaces.places i (Some h); pipes = pipes }; files = both }
 
   piped-is : wrote (piped k i x) i a (le 4 x.read_fd ++ le 4 x.write_fd) ≡ to
   piped-is = rw (changed-twice k.table i p (with_descriptor x.read_fd (Some x.reader)) (with_descriptor x.write_fd (Some x.writer)) y.run.process, held-run k i p y.held y.run is) refl
@@ -94,17 +97,15 @@ module _ (k : Kernel) (i : ℕ) (y : Here k i) (a : ℕ) (x : Ends) where
     pipes = pipes;
   }
   to-state =
-      turned-state k i y k.tree q h both pipes placed y.run.runs
+      ap (λ (s : State). record s { opens = opens_of both; pipes = pipes }) (moved-state k i p y.held y.run is q h k.spaces.registers k.spaces.pc placed y.run.runs)
       ∙ ap (λ (os : List (Option OpenFile)). record (state_of k) { places = put (state_of k).places i (with_both (me k i y) a x.read_fd x.reader x.write_fd x.writer); opens = os; pipes = pipes }) opens-both
 
   to-full : k.spaces.frames < taken_frames (with_pipe k.spaces x.pipe (Some [])) → is_within (state_of to) ≡ false
-  to-full over = turned-full k i y k.tree q h both pipes placed y.run.runs (let same = to-frames in omega (arith, same, over))
+  to-full over =
+      let stands = stands-set k.table.places k.spaces.places i (Some q) (Some h) (within-run k i p y.held y.run) (within-space k i p y.held y.run is) placed is.stands in
+      over-state to (match-active to to.spaces.active (λ j. match-place (slot to.table.places j) (slot to.spaces.places j) (stands j))) (omega (arith, to-frames, over))
 
 -- ---- the row
-
-pub given-refused : {X : Type 0} (o : Option X) (rest : X → Outcome) → ((x : X) → o ≡ Some x → limited (rest x) ≡ Refused) → limited (given o rest) ≡ Refused
-given-refused None rest each = refl
-given-refused (Some x) rest each = each x refl
 
 module _ {k : Kernel} {i : ℕ} (runs : Runs k i) where
   abbrev here : Here k i
@@ -143,7 +144,7 @@ module _ {k : Kernel} {i : ℕ} (runs : Runs k i) where
     pipe-can {mid = mid} has = subst (λ (y : Kernel). (y.spaces.active ≡ Some i) × (can_write (view_at y.spaces i).memory a 8 ≡ true)) (sym has.same) (runs.active, can)
 
     -- some of the places isn't there, or the frames don't suffice
-    pub pipe-lacks : ((x : Ends) → AreFree k i x → k.spaces.frames < taken_frames (with_pipe k.spaces x.pipe (Some []))) → Acts k k i (Some Pipe) Refuses
+    pipe-lacks : ((x : Ends) → AreFree k i x → k.spaces.frames < taken_frames (with_pipe k.spaces x.pipe (Some []))) → Acts k k i (Some Pipe) Refuses
     unfolding pipe_row
     pipe-lacks over = refused k i here (Some Pipe) (rw (can-here true can) (
         given-refused _ _ (λ pipe e1. given-refused _ _ (λ reader e2. given-refused _ _ (λ writer e3. given-refused _ _ (λ read_fd e4. given-refused _ _ (λ write_fd e5.
@@ -151,25 +152,19 @@ module _ {k : Kernel} {i : ℕ} (runs : Runs k i) where
         let free : AreFree k i x = record { pipe = e1; reader = e2; writer = e3; read_fd = rw names-here e4; write_fd = rw names-here e5 } in
         ap (λ (s : State). limited (Done s 0 [])) (sym (to-state k i here a x)) ∙ rw (to-full k i here a x (over x free)) refl)))))))
 
--- ---- over the fields: at is what they show
+    pub lacks-descriptors : {p : Process} → slot k.table.places i ≡ Some p → count_by is_none p.descriptors < 2 → Acts k k i (Some Pipe) Refuses
+    lacks-descriptors {p = p} there few = pipe-lacks (λ x free. absurd (
+        let d : descriptors_at k i ≡ p.descriptors = ap descriptors_in there in
+        two-free p.descriptors x.reader x.read_fd x.write_fd (rw (← d) free.read_fd) (rw (← d) free.write_fd) few))
 
-module _ {k : Kernel} {i : ℕ} (runs : Runs k i) (can : can_write (view_at k.spaces i).memory (argument k 0) 8 ≡ true) {at : Kernel} (same : at ≡ k) where
-  lacks : ((x : Ends) → AreFree at i x → at.spaces.frames < taken_frames (with_pipe at.spaces x.pipe (Some []))) → Acts k k i (Some Pipe) Refuses
-  lacks over = pipe-lacks runs can (rw same at over)
+    pub lacks-places : free_count k.files < 2 → Acts k k i (Some Pipe) Refuses
+    lacks-places few = pipe-lacks (λ x free. absurd (two-free (opens_of k.files) (pipe_end x.pipe ReadEnd) x.reader x.writer free.reader free.writer (omega (arith, few, free-opens k.files))))
 
-  pub lacks-descriptors : {p : Process} → slot at.table.places i ≡ Some p → count_by is_none p.descriptors < 2 → Acts k k i (Some Pipe) Refuses
-  lacks-descriptors {p = p} there few = lacks (λ x free. absurd (
-      let d : descriptors_at at i ≡ p.descriptors = ap descriptors_in there in
-      two-free p.descriptors x.reader x.read_fd x.write_fd (rw (← d) free.read_fd) (rw (← d) free.write_fd) few))
+    pub lacks-room : free_slot k.spaces.pipes ≡ None → Acts k k i (Some Pipe) Refuses
+    lacks-room none = pipe-lacks (λ x free. let some = free.pipe in absurd (cc))
 
-  pub lacks-places : free_count at.files < 2 → Acts k k i (Some Pipe) Refuses
-  lacks-places few = lacks (λ x free. absurd (two-free (opens_of at.files) (pipe_end x.pipe ReadEnd) x.reader x.writer free.reader free.writer (omega (arith, few, free-opens at.files))))
-
-  pub lacks-room : free_slot at.spaces.pipes ≡ None → Acts k k i (Some Pipe) Refuses
-  lacks-room none = lacks (λ x free. let some = free.pipe in absurd (cc))
-
-  pub lacks-frames : {b : ℕ} → free_slot at.spaces.pipes ≡ Some b → at.spaces.frames < taken_frames (with_pipe at.spaces b (Some [])) → Acts k k i (Some Pipe) Refuses
-  lacks-frames {b = b} place over = lacks (λ x free.
-      let there : Some b ≡ Some x.pipe = sym place ∙ free.pipe in
-      let e : b ≡ x.pipe = cc in
-      rw (← e) over)
+    pub lacks-frames : {b : ℕ} → free_slot k.spaces.pipes ≡ Some b → k.spaces.frames < taken_frames (with_pipe k.spaces b (Some [])) → Acts k k i (Some Pipe) Refuses
+    lacks-frames {b = b} place over = pipe-lacks (λ x free.
+        let there : Some b ≡ Some x.pipe = sym place ∙ free.pipe in
+        let e : b ≡ x.pipe = cc in
+        rw (← e) over)

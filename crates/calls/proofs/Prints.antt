@@ -1,6 +1,6 @@
 -- Bytes that are put out in pieces.
 use Rattle.calls.proofs.Common.{◌≡◌, ℕ, ◌+◌, ◌-◌, ◌<◌, ◌≤◌, ◌^◌, true, List, [], ◌++◌, length, take, drop, Option, Some, None, is_some, unwrap_or, ap, subst, sym, ◌∙◌, arith, append_assoc, append-nil, Appends}
-use Rattle.calls.proofs.Common.{length-drop, take-append-drop, take-take, AppendsBeginning, Kernel, IsFront, readable-count, view_at, Load, Memory, reach, read_bytes, IsSized, piece_at, reach-drop, reach-next, reach-page}
+use Rattle.calls.proofs.Common.{length-drop, take-append-drop, take-take, AppendsBeginning, IsFront, readable-count, Load, Memory, reach, read_bytes, IsSized, piece_at, reach-drop, reach-next, reach-page}
 
 front-rest : (xs : List ℕ) (a n : ℕ) → a ≤ n → take a xs ++ drop a (take n xs) ≡ take n xs
 front-rest xs a n less = ap (λ ys. ys ++ drop a (take n xs)) (sym (take-take a n xs less)) ∙ take-append-drop a (take n xs)
@@ -25,24 +25,15 @@ begins_more before mid after xs ys zs all h k e = record {
   took = Appends-trans before mid after xs k.front h k.took;
 }
 
--- ---- the bytes of a process: k is what the fields show, and now is the kernel's value
+-- ---- the bytes of a process
 
-module _ (k now : Kernel) (i address count done : ℕ) (same : k ≡ now) (kept : IsSized (view_at k.spaces i).memory) (readable : is_some (read_bytes (view_at now.spaces i).memory address count) ≡ true) (less : done < count) where
-  abbrev mem : Memory
-  mem = (view_at now.spaces i).memory
-
-  sized : IsSized mem
-  sized = subst (λ (x : Kernel). IsSized (view_at x.spaces i).memory) same kept
-
+module _ (mem : Memory) (address count done : ℕ) (sized : IsSized mem) (readable : is_some (read_bytes mem address count) ≡ true) (less : done < count) where
   near : done < length (reach Load mem address)
   near = let all = (readable-count mem address count readable).0 in omega (arith, all, less)
 
   -- the next byte has an address, and can be read
-  pub next-fits : length (view_at k.spaces i).memory ≤ 32768 → address + done < 2 ^ 64
-  next-fits few =
-      let page = (reach-page Load mem address done sized near).0 in
-      let few' : length mem ≤ 32768 = subst (λ (x : Kernel). length (view_at x.spaces i).memory ≤ 32768) same few in
-      omega (arith, page, few')
+  pub next-fits : length mem ≤ 32768 → address + done < 2 ^ 64
+  next-fits few = let page = (reach-page Load mem address done sized near).0 in omega (arith, page, few)
 
   pub next-readable : 0 < length (reach Load mem (address + done))
   next-readable =

@@ -1,8 +1,8 @@
 -- A write to the console puts out all of its bytes.
-use Rattle.calls.proofs.Common.{◌≡◌, ℕ, List, [], Option, Some, length, unwrap_or, refl, ap, sym, ◌∙◌, Appends, Comes, GoesOn, going_at, Came, Answers, Kernel, answered, state_of, OnConsole, Transfers, answer-run}
+use Rattle.calls.proofs.Common.{◌≡◌, ℕ, List, [], Option, Some, length, unwrap_or, refl, ap, sym, ◌∙◌, Appends, Comes, GoesOn, going_at, Came, Answers, Kernel, answered, state_of, OnConsole, Transfers}
 use Rattle.calls.proofs.Common.{AppendsBeginning, file_of, target_of, SpaceView, view_at, some-pipe, settle, Pending, write_on, slot, read_bytes, low, OnNode, Outcome, limited, pending_arg, Done, State}
 use Rattle.calls.proofs.Served.{same-served}
-use Rattle.calls.proofs.Acts.{Here, going, going-here, me}
+use Rattle.calls.proofs.Acts.{Here, going, going-here, me, settles-to}
 use Rattle.kernel.proofs.Opens.{IsNamed}
 use Rattle.calls.proofs.Prints.{Appends-none}
 use Rattle.calls.proofs.Settles.{after, settle-limited}
@@ -45,18 +45,7 @@ module _ (k : Kernel) (i : ℕ) (w : Pending) (on : OnConsole k i end.Write w) w
 
   module _ (n : ℕ) (all : n ≡ count) (before now : Option (List ℕ)) where
     pub puts-all : Appends before now (unwrap_or (read_bytes (view_at k.spaces i).memory (pending_arg w 1) n) []) → (bs : List ℕ) × Comes k k i (limited (going_at (state_of k) i w)) bs (Answers n) × Appends before now bs
-    puts-all printed = rw all (
-      bytes,
-      record {
-        makes = settles ∙ ap (λ (s : State). after s bytes) (sym (answer-run k i x.process x.held x.run x.sound count));
-        active = x.run.active;
-        sound = x.sound;
-        can = tt;
-        printed = tt;
-        served = same-served refl x.up;
-      },
-      rw all at printed,
-    )
+    puts-all printed = rw all (bytes, settles-to count bytes x (same-served refl x.up) settles, rw all at printed)
 
     -- the console failed
     pub puts-beginning : AppendsBeginning before now (unwrap_or (read_bytes (view_at k.spaces i).memory (pending_arg w 1) n) []) → AppendsBeginning before now (settle (state_of k) i (limited (going_at (state_of k) i w))).bytes

@@ -1,9 +1,9 @@
 -- A read from the console goes on.
-use Rattle.calls.proofs.Common.{◌≡◌, ℕ, zero, suc, ◌+◌, ◌-◌, ◌<◌, ◌≤◌, ◌^◌, Bool, true, false, nat_eq, nat_le, nat_lt, List, [], ◌∷◌, length, take, Some, refl, ap, subst, sym, ◌∙◌, arith, if◌then◌else◌, wrote}
-use Rattle.calls.proofs.Common.{false≢true, leb-true, length-take-le, GoesOn, Answers, Blocks, Kernel, descriptors_at, state_of, typed, IsKernel, IsPending, IsForBytes, IsFresh, IsReading, is_on_pipe}
-use Rattle.calls.proofs.Common.{OnConsole, Transfers, waits-reading, slot-within, file_of, target_of, SpaceView, view_at, held-same, Taken, take_line}
-use Rattle.calls.proofs.Common.{Pending, Store, slot, read_console, read_on, read_taken, can_write, reach, write_bytes, low, OnNode, pending_arg, Done, Waits, State, put_process, IsSized, reach-written, rest-writes, reach-page}
-use Rattle.calls.proofs.Acts.{Here, goes-done, goes-waits, going, here-in, me}
+use Rattle.calls.proofs.Common.{◌≡◌, ℕ, zero, suc, ◌+◌, ◌-◌, ◌<◌, ◌≤◌, ◌^◌, Bool, true, false, nat_eq, nat_le, nat_lt, List, [], ◌∷◌, length, take, Some, refl, ap, subst, sym, ◌∙◌, arith, if◌then◌else◌}
+use Rattle.calls.proofs.Common.{wrote, false≢true, leb-true, length-take-le, GoesOn, Answers, Blocks, Kernel, descriptors_at, state_of, typed, IsKernel, IsPending, IsForBytes, IsFresh, IsReading}
+use Rattle.calls.proofs.Common.{is_on_pipe, OnConsole, Transfers, waits-reading, slot-within, file_of, target_of, SpaceView, view_at, held-same, Taken, take_line, Pending, Store, slot, read_console}
+use Rattle.calls.proofs.Common.{read_on, read_taken, can_write, reach, write_bytes, low, OnNode, pending_arg, Done, Waits, State, put_process, IsSized, reach-written, rest-writes, reach-page, CanWait}
+use Rattle.calls.proofs.Acts.{Here, goes-done, goes-waits, going, me}
 use Rattle.kernel.proofs.Memories.{wrote-state}
 use Rattle.kernel.proofs.Opens.{IsNamed}
 use Rattle.calls.proofs.Transfers.{console-here, file, file-named, going-is, here}
@@ -17,32 +17,20 @@ use Rattle.unixmodel.specs.OpenFiles.{OpenFile}
 
 -- ---- what a read takes
 
-step-most : (x y has : Bool) (b n : ℕ) (bs : List ℕ) (more : Taken) → length more.bytes ≤ n
-    → length (let t : Taken = if x then record { bytes = []; rest = if has then b ∷ bs else bs; over = true } else if y then record { bytes = b ∷ []; rest = bs; over = true } else record more { bytes = b ∷ more.bytes } in t).bytes ≤ suc n
-step-most true y has b n bs more h = omega (arith, h)
-step-most false true has b n bs more h = omega (arith, h)
-step-most false false has b n bs more h = omega (arith, h)
+-- no more than its count, and less than that if it isn't over
+abbrev FitsIn : ℕ → Taken → Type 0
+FitsIn n t = (length t.bytes ≤ n) × (t.over ≡ false → length t.bytes < n)
 
--- no more than its count
-pub line-most : (has : Bool) (n : ℕ) (bytes : List ℕ) → length (take_line has n bytes).bytes ≤ n
+step-fits : (x y has : Bool) (b n : ℕ) (bs : List ℕ) (more : Taken) → FitsIn n more → FitsIn (suc n) (let t : Taken = if x then record { bytes = []; rest = if has then b ∷ bs else bs; over = true } else if y then record { bytes = b ∷ []; rest = bs; over = true } else record more { bytes = b ∷ more.bytes } in t)
+step-fits true y has b n bs more fits = (omega arith, λ over. absurd (cc))
+step-fits false true has b n bs more fits = (omega arith, λ over. absurd (cc))
+step-fits false false has b n bs more fits = (let most = fits.0 in omega (arith, most), λ over. let less = fits.1 over in omega (arith, less))
+
+line-fits : (has : Bool) (n : ℕ) (bytes : List ℕ) → FitsIn n (take_line has n bytes)
 unfolding take_line
-line-most has zero bytes = omega arith
-line-most has (suc n) [] = omega arith
-line-most has (suc n) (b ∷ bs) = step-most (nat_eq b 4) (nat_eq b 10) has b n bs (take_line true n bs) (line-most true n bs)
-
-step-less : (x y has : Bool) (b n : ℕ) (bs : List ℕ) (more : Taken) → (more.over ≡ false → length more.bytes < n)
-    → (let t : Taken = if x then record { bytes = []; rest = if has then b ∷ bs else bs; over = true } else if y then record { bytes = b ∷ []; rest = bs; over = true } else record more { bytes = b ∷ more.bytes } in t).over ≡ false
-    → length (let t : Taken = if x then record { bytes = []; rest = if has then b ∷ bs else bs; over = true } else if y then record { bytes = b ∷ []; rest = bs; over = true } else record more { bytes = b ∷ more.bytes } in t).bytes < suc n
-step-less true y has b n bs more h over = absurd (cc)
-step-less false true has b n bs more h over = absurd (cc)
-step-less false false has b n bs more h over = let l = h over in omega (arith, l)
-
--- and less than that if it isn't over
-pub line-less : (has : Bool) (n : ℕ) (bytes : List ℕ) → (take_line has n bytes).over ≡ false → length (take_line has n bytes).bytes < n
-unfolding take_line
-line-less has zero bytes over = absurd (cc)
-line-less has (suc n) [] over = omega arith
-line-less has (suc n) (b ∷ bs) over = step-less (nat_eq b 4) (nat_eq b 10) has b n bs (take_line true n bs) (line-less true n bs) over
+line-fits has zero bytes = (omega arith, λ over. absurd (cc))
+line-fits has (suc n) [] = (omega arith, λ over. omega arith)
+line-fits has (suc n) (b ∷ bs) = step-fits (nat_eq b 4) (nat_eq b 10) has b n bs (take_line true n bs) (line-fits true n bs)
 
 -- ---- the row of a read that goes on
 
@@ -53,11 +41,8 @@ reads-console s i p w f is n on links major minor device = rw (is.named, is.open
 abbrev left_with : State → ℕ → unix.Process → Pending → Taken → State
 left_with s i p w t = put_process (record s { console = record s.console { committed = t.rest } }) i (rows.received p w t.bytes)
 
-taken-over : (s : State) (i : ℕ) (p : unix.Process) (w : Pending) (t : Taken) → t.over ≡ true → read_taken s i p w t ≡ Done (left_with s i p w t) (w.done + length t.bytes) []
-taken-over s i p w t over = ap (λ (b : Bool). if b then Done (left_with s i p w t) (w.done + length t.bytes) [] else Waits (left_with s i p w t) (record w { done = w.done + length t.bytes })) over
-
-taken-waits : (s : State) (i : ℕ) (p : unix.Process) (w : Pending) (t : Taken) → t.over ≡ false → read_taken s i p w t ≡ Waits (left_with s i p w t) (record w { done = w.done + length t.bytes })
-taken-waits s i p w t over = ap (λ (b : Bool). if b then Done (left_with s i p w t) (w.done + length t.bytes) [] else Waits (left_with s i p w t) (record w { done = w.done + length t.bytes })) over
+taken-by : (s : State) (i : ℕ) (p : unix.Process) (w : Pending) (t : Taken) (b : Bool) → t.over ≡ b → read_taken s i p w t ≡ (if b then Done (left_with s i p w t) (w.done + length t.bytes) [] else Waits (left_with s i p w t) (record w { done = w.done + length t.bytes }))
+taken-by s i p w t b over = ap (λ (b : Bool). if b then Done (left_with s i p w t) (w.done + length t.bytes) [] else Waits (left_with s i p w t) (record w { done = w.done + length t.bytes })) over
 
 -- ---- what console and spaces answer
 
@@ -127,7 +112,7 @@ module _ (k : Kernel) (i : ℕ) (w : Pending) (on : OnConsole k i end.Read w) wh
 
     pub reads-write : can_write (view_at k1.spaces i).memory address (length bytes) ≡ true
     reads-write =
-        let most : length (line_for k w).bytes ≤ low (pending_arg w 2) - w.done = line-most (nat_lt 0 w.done) (low (pending_arg w 2) - w.done) k.console.committed in
+        let most : length (line_for k w).bytes ≤ low (pending_arg w 2) - w.done = (line-fits (nat_lt 0 w.done) (low (pending_arg w 2) - w.done) k.console.committed).0 in
         let left = can.left in
         let all = same in
         ap (λ (y : Kernel). can_write (view_at y.spaces i).memory address (length bytes)) f.rest
@@ -144,33 +129,36 @@ module _ (k : Kernel) (i : ℕ) (w : Pending) (on : OnConsole k i end.Read w) wh
       made-is : new ≡ made
       made-is = is ∙ ap (λ (y : Kernel). wrote y i address bytes) f.rest
 
-      made-here : Here made i
-      made-here = here-in (subst IsKernel made-is sound) x.run.active x.up
+      active : new.spaces.active ≡ Some i
+      active = ap (λ (y : Kernel). y.spaces.active) made-is ∙ x.run.active
+
+      state : state_of new ≡ left_with (state_of k) i (me k i x) w t
+      state = ap state_of made-is ∙ sym left-is
 
       pub reads-over : over ≡ true → GoesOn k new i w (Answers (w.done + n))
       reads-over passed =
-          rw made-is (subst (λ (m : ℕ). GoesOn k made i w (Answers (w.done + m))) count
-          (goes-done k i x w made (w.done + length bytes) made-here refl (row ∙ ap (read_taken (state_of k) i (me k i x) w) f.took ∙ taken-over (state_of k) i (me k i x) w t passed ∙ ap (λ (s : State). Done s (w.done + length bytes) []) left-is)))
+          goes-done k i x w (w.done + n) sound active (ap (λ (y : Kernel). y.tree) made-is) state
+          (row ∙ ap (read_taken (state_of k) i (me k i x) w) f.took ∙ taken-by (state_of k) i (me k i x) w t true passed ∙ ap (λ (m : ℕ). Done (left_with (state_of k) i (me k i x) w t) (w.done + m) []) count)
+
+      abbrev further : Pending
+      further = record w { done = w.done + n }
 
       -- a read that is not over goes on in its buffer
-      reading : over ≡ false → IsReading (descriptors_at k i) (view_at made.spaces i).memory (record w { done = w.done + n })
+      reading : over ≡ false → IsReading (descriptors_at k i) (view_at made.spaces i).memory further
       reading more =
           let mem = (view_at k.spaces i).memory in
-          let less : length (line_for k w).bytes < low (pending_arg w 2) - w.done = line-less (nat_lt 0 w.done) (low (pending_arg w 2) - w.done) k.console.committed (ap (λ (t : Taken). t.over) f.took ∙ more) in
+          let less : length (line_for k w).bytes < low (pending_arg w 2) - w.done = (line-fits (nat_lt 0 w.done) (low (pending_arg w 2) - w.done) k.console.committed).1 (ap (λ (t : Taken). t.over) f.took ∙ more) in
           let all = same in
           let some = count in
-          let on : IsReading (descriptors_at k i) (write_bytes mem address bytes) (record w { done = w.done + n }) = record {
+          let on : IsReading (descriptors_at k i) (write_bytes mem address bytes) further = record {
             named = can.named;
             buffer = ap (nat_le (low (pending_arg w 2))) (reach-written Store mem (pending_arg w 1) address bytes f.sized) ∙ can.buffer;
             left = omega (arith, less, all, some);
           } in
-          subst (λ (h : SpaceView). IsReading (descriptors_at k i) h.memory (record w { done = w.done + n })) (sym (held-same k.spaces i (written (view_at k.spaces i) address bytes) (slot-within k.spaces.places i x.held x.run.space))) on
+          subst (λ (h : SpaceView). IsReading (descriptors_at k i) h.memory further) (sym (held-same k.spaces i (written (view_at k.spaces i) address bytes) (slot-within k.spaces.places i x.held x.run.space))) on
 
-      pub reads-on : over ≡ false → GoesOn k new i w (Blocks (record w { done = w.done + n }))
+      pub reads-on : over ≡ false → GoesOn k new i w (Blocks further)
       reads-on more =
-          let further = record w { done = w.done + n } in
-          let pending : IsPending (descriptors_at k i) (view_at made.spaces i).memory further w.number = subst (IsPending (descriptors_at k i) (view_at made.spaces i).memory further) (sym g.number) (reading more) in
-          rw made-is (goes-waits k i x w made further made-here refl (pending, waits-reading k.files (descriptors_at k i) further g.number for (fresh further refl))
-          (row ∙ ap (read_taken (state_of k) i (me k i x) w) f.took ∙ taken-waits (state_of k) i (me k i x) w t more
-          ∙ ap (λ (s : State). Waits s (record w { done = w.done + length bytes })) left-is
-          ∙ ap (λ (m : ℕ). Waits (state_of made) (record w { done = w.done + m })) count))
+          let may : CanWait made i further = (subst (IsPending (descriptors_at k i) (view_at made.spaces i).memory further) (sym g.number) (reading more), waits-reading k.files (descriptors_at k i) further g.number for (fresh further refl)) in
+          goes-waits k i x w further sound active (ap (λ (y : Kernel). y.tree) made-is) (subst (λ (y : Kernel). CanWait y i further) (sym made-is) may) state
+          (row ∙ ap (read_taken (state_of k) i (me k i x) w) f.took ∙ taken-by (state_of k) i (me k i x) w t false more ∙ ap (λ (m : ℕ). Waits (left_with (state_of k) i (me k i x) w t) (record w { done = w.done + m })) count)

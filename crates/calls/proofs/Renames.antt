@@ -1,6 +1,6 @@
 -- dup: the lowest free descriptor of the running process names what another one names.
 use Rattle.calls.proofs.Common.{◌≡◌, ℕ, Option, Some, None, refl, ap, ◌∙◌, Acts, Runs, Answers, Refuses, Kernel, argument, descriptors_at, state_of, IsKernel, Dup, dup_row, free_slot, slot, low, limited, Refused}
-use Rattle.calls.proofs.Acts.{Here, here-of, makes, me, refused, runner}
+use Rattle.calls.proofs.Acts.{Here, descriptor-is, here-of, makes, me, refused, runner}
 use Rattle.kernel.proofs.Renaming.{descriptors-run, dup-state}
 use Rattle.kernel.specs.Opening.{duplicated}
 
@@ -8,16 +8,11 @@ module _ (k : Kernel) (i : ℕ) (runs : Runs k i) where
   abbrev x : Here k i
   x = here-of k i runs
 
-  pub dups : (d n fd : ℕ) → d ≡ low (argument k 0) → slot (descriptors_at k i) d ≡ Some n → free_slot (descriptors_at k i) ≡ Some fd → (new : Kernel) → new ≡ duplicated k i fd n → IsKernel new → Acts k new i (Some Dup) (Answers fd)
+  pub dups : {d n fd : ℕ} → d ≡ low (argument k 0) → slot (descriptors_at k i) d ≡ Some n → free_slot (descriptors_at k i) ≡ Some fd → {new : Kernel} → new ≡ duplicated k i fd n → IsKernel new → Acts k new i (Some Dup) (Answers fd)
   unfolding dup_row
-  dups d n fd is named free new made sound =
-      let named' : slot x.process.descriptors (low (argument k 0)) ≡ Some n = rw (← descriptors-run (runner x), ← is) named in
+  dups {d} {n} {fd} is named free made sound =
       let free' : free_slot x.process.descriptors ≡ Some fd = rw (← descriptors-run (runner x)) free in
-      makes k i x Dup fd sound (ap (λ (y : Kernel). y.spaces.active) made ∙ runs.active) (ap (λ (y : Kernel). y.tree) made) (ap state_of made ∙ dup-state (runner x) fd n) (rw (named', free') refl)
-
-  pub dup-unnamed : (d : ℕ) → d ≡ low (argument k 0) → slot (descriptors_at k i) d ≡ None → Acts k k i (Some Dup) Refuses
-  unfolding dup_row
-  dup-unnamed d is none = let none' : slot x.process.descriptors (low (argument k 0)) ≡ None = rw (← descriptors-run (runner x), ← is) none in refused k i x (Some Dup) (rw none' refl)
+      makes k i x Dup fd sound (ap (λ (y : Kernel). y.spaces.active) made ∙ runs.active) (ap (λ (y : Kernel). y.tree) made) (ap state_of made ∙ dup-state (runner x) fd n) (rw (descriptor-is k i x is named, free') refl)
 
   full-go : (o : Option ℕ) → slot x.process.descriptors (low (argument k 0)) ≡ o → free_slot x.process.descriptors ≡ None → limited (dup_row (state_of k) i (me k i x)) ≡ Refused
   unfolding dup_row

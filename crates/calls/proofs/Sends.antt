@@ -1,11 +1,9 @@
 -- A write to a pipe goes on.
-use Rattle.calls.proofs.Common.{◌≡◌, ◌≢◌, ℕ, ◌+◌, ◌-◌, ◌<◌, ◌≤◌, ◌^◌, Bool, true, false, nat_eq, List, [], length, take, drop, eq-eqb, Some, is_some, unwrap_or, refl, sent, waking}
-use Rattle.calls.proofs.Common.{ap, subst, sym, ◌∙◌, arith, ne_eqb, drop-take, length-drop, length-take, GoesOn, Answers, Blocks, Kernel, descriptors_at, state_of, IsForPipe, IsKernel}
-use Rattle.calls.proofs.Common.{IsPending, IsWriting, OnThePipe, Transfers, waits-writing, readable-count, has_end, SpaceView, bytes_in, view_at, read_at, some-pipe}
-use Rattle.calls.proofs.Common.{Pending, Load, write_on, write_pipe, slot, Memory, reach, read_bytes, low, pipe_room, ReadEnd, minus_one, pending_arg, IsSized, reach-drop, reach-page}
-use Rattle.calls.proofs.Acts.{Here, goes-done, goes-waits, going, here-in}
+use Rattle.calls.proofs.Common.{◌≡◌, ◌≢◌, ℕ, ◌+◌, ◌-◌, ◌<◌, ◌≤◌, ◌^◌, Bool, true, false, nat_eq, List, [], length, take, drop, eq-eqb, Some, is_some, unwrap_or, refl, sent, waking, ap, subst, sym, ◌∙◌, arith, ne_eqb, drop-take, length-drop}
+use Rattle.calls.proofs.Common.{length-take, GoesOn, Answers, Blocks, Kernel, descriptors_at, state_of, IsForPipe, IsKernel, IsPending, IsWriting, OnThePipe, Transfers, waits-writing, readable-count, has_end, SpaceView, bytes_in, view_at}
+use Rattle.calls.proofs.Common.{read_at, some-pipe, Pending, Load, write_on, write_pipe, slot, Memory, reach, read_bytes, low, pipe_room, ReadEnd, minus_one, pending_arg, IsSized, reach-drop, reach-page, state-but, CanWait}
+use Rattle.calls.proofs.Acts.{Here, goes-done, goes-waits, going}
 use Rattle.calls.proofs.Transfers.{file, file-named, going-is, held-here, here, transfer-stands}
-use Rattle.calls.proofs.Woken.{goes-but, sound-but}
 use Rattle.calls.proofs.Writes.{length-read}
 use Rattle.files.specs.declared.file.End.TheVariants as end
 use Rattle.files.specs.declared.file.Target.TheVariants as target
@@ -90,30 +88,8 @@ module _ (k : Kernel) (i : ℕ) (w : Pending) (q : ℕ) (on : OnThePipe k i end.
       going-is g ∙ rw (f.named, f.opened, read, (file g).on, at-pipe) refl
 
   -- nobody can read it
-  pub sends-closed : (e : Bool) → e ≡ has_end (opens_of k.files) q ReadEnd → e ≡ false → GoesOn k k i w (Answers minus_one)
-  sends-closed e told closed = let none : has_end (opens_of k.files) q ReadEnd ≡ false = sym told ∙ closed in goes-done k i x w k minus_one x refl (row ∙ rw none refl)
-
-  module _ {e : Bool} (told : e ≡ has_end (opens_of k.files) q ReadEnd) (yes : e ≡ true) (sound : IsKernel full) where
-    some : has_end (opens_of k.files) q ReadEnd ≡ true
-    some = sym told ∙ yes
-
-    full-here : Here full i
-    full-here = here-in sound x.run.active x.up
-
-    all-test : (b : Bool) → nat_eq (w.done + n) (low (pending_arg w 2)) ≡ b → nat_eq (w.done + n) (length new) ≡ b
-    all-test b test = ap (nat_eq (w.done + n)) length-new ∙ test
-
-    sends-all : w.done + n ≡ low (pending_arg w 2) → GoesOn k full i w (Answers (w.done + n))
-    sends-all all = let test = all-test true (eq-eqb (w.done + n) (low (pending_arg w 2)) all) in goes-done k i x w full (w.done + n) full-here refl (row ∙ rw (some, test) refl)
-
-    sends-waits : w.done + n ≢ low (pending_arg w 2) → w.done + n ≤ low (pending_arg w 2) → GoesOn k full i w (Blocks (record w { done = w.done + n }))
-    sends-waits rests within =
-        let test = all-test false (ne_eqb (w.done + n) (low (pending_arg w 2)) rests) in
-        let further = record w { done = w.done + n } in
-        let f = file g in
-        let writing : IsWriting (descriptors_at k i) memory further = record { named = can.named; readable = can.readable; left = omega (arith, rests, within) } in
-        let for : IsForPipe k.files (descriptors_at k i) further = λ write. rw (f.named, f.opened, f.on) refl in
-        goes-waits k i x w full further full-here refl (subst (IsPending (descriptors_at k i) memory further) (sym g.number) writing, waits-writing k.files (descriptors_at k i) further g.number for) (row ∙ rw (some, test) refl)
+  pub sends-closed : {e : Bool} → e ≡ has_end (opens_of k.files) q ReadEnd → e ≡ false → GoesOn k k i w (Answers minus_one)
+  sends-closed told closed = let none : has_end (opens_of k.files) q ReadEnd ≡ false = sym told ∙ closed in goes-done k i x w minus_one x.sound x.run.active refl refl (row ∙ rw none refl)
 
   -- m: what is left to put
   module _ (sized : IsSized memory) {m : ℕ} (wide : m ≡ low (pending_arg w 2) - w.done) where
@@ -139,11 +115,30 @@ module _ (k : Kernel) (i : ℕ) (w : Pending) (q : ℕ) (on : OnThePipe k i end.
           omega (arith, count-is, few, length-drop w.done new, length-new, can.left)
 
       module _ {e : Bool} (told : e ≡ has_end (opens_of k.files) q ReadEnd) (yes : e ≡ true) {to : Kernel} (made : to ≡ waking (sent k i q (pending_arg w 1 + w.done) m) to.table.awake) (sound : IsKernel to) where
+        some : has_end (opens_of k.files) q ReadEnd ≡ true
+        some = sym told ∙ yes
+
         made-full : to ≡ waking full to.table.awake
         made-full = made ∙ ap (λ (bs : List ℕ). waking (record k { spaces = put_behind k.spaces q bs }) to.table.awake) bytes-are
 
+        active : to.spaces.active ≡ Some i
+        active = ap (λ (y : Kernel). y.spaces.active) made-full ∙ x.run.active
+
+        tested : (b : Bool) → nat_eq (w.done + c) (low (pending_arg w 2)) ≡ b → nat_eq (w.done + n) (length new) ≡ b
+        tested b test = ap (λ (y : ℕ). nat_eq (w.done + y) (length new)) (sym count-is) ∙ ap (nat_eq (w.done + c)) length-new ∙ test
+
         pub sends-over : w.done + c ≡ low (pending_arg w 2) → GoesOn k to i w (Answers (w.done + c))
-        sends-over all = rw count-is (goes-but made-full (sends-all told yes (sound-but full made-full sound) (ap (λ (y : ℕ). w.done + y) (sym count-is) ∙ all)))
+        sends-over all =
+            let test = tested true (eq-eqb (w.done + c) (low (pending_arg w 2)) all) in
+            rw count-is (goes-done k i x w (w.done + n) sound active (ap (λ (y : Kernel). y.tree) made-full) (state-but full made-full) (row ∙ rw (some, test) refl))
 
         pub sends-on : w.done + c ≢ low (pending_arg w 2) → GoesOn k to i w (Blocks (record w { done = w.done + c }))
-        sends-on rests = rw count-is (goes-but made-full (sends-waits told yes (sound-but full made-full sound) (rw count-is at rests) (rw count-is at sends-within)))
+        sends-on rests =
+            let test = tested false (ne_eqb (w.done + c) (low (pending_arg w 2)) rests) in
+            let further = record w { done = w.done + n } in
+            let f = file g in
+            let within = sends-within in
+            let writing : IsWriting (descriptors_at k i) memory further = record { named = can.named; readable = can.readable; left = omega (arith, rests, within, count-is) } in
+            let for : IsForPipe k.files (descriptors_at k i) further = λ write. rw (f.named, f.opened, f.on) refl in
+            let may : CanWait full i further = (subst (IsPending (descriptors_at k i) memory further) (sym g.number) writing, waits-writing k.files (descriptors_at k i) further g.number for) in
+            rw count-is (goes-waits k i x w further sound active (ap (λ (y : Kernel). y.tree) made-full) (subst (λ (y : Kernel). CanWait y i further) (sym made-full) may) (state-but full made-full) (row ∙ rw (some, test) refl))

@@ -1,6 +1,6 @@
 -- What becomes of the files of the disk.
 use Rattle.calls.proofs.Common.{None, Option, Result, Some, arith, false, le_trans, refl, subst, ℕ, ◌∙◌, ◌≡◌, Err, IfOk, Ok, OnErr, OnOk, IsErr, DeviceFault}
-use Rattle.calls.proofs.Common.{serves-disk, ActsOnDisk, Came, IsLost, IsServed, LeavesDisk, Kernel, started, started_as, stopped_at, ticked, Process, FileTree, Serves, Call, slot}
+use Rattle.calls.proofs.Common.{ActsOnDisk, Came, IsLost, IsServed, LeavesDisk, Kernel, started, started_as, stopped_at, ticked, Process, FileTree, Call, slot}
 
 -- they are as before
 pub same-served : {old new : FileTree} → new ≡ old → old.failed ≡ false → IsServed old new
@@ -17,42 +17,18 @@ pub disk-after : (a b c : FileTree) (r : Result (Unit {0}) DeviceFault) → IsSe
 disk-after a b c (Ok x) first then = served-after first then
 disk-after a b c (Err fault) first then = lost-after first then
 
--- an answer is handed on
-pub disk-lost : {T : Type 0} {old new : FileTree} (r : Result T DeviceFault) (fault : DeviceFault) → r ≡ Err fault → LeavesDisk old new r → IsLost old new
-disk-lost {old = old} {new = new} r fault e leaves = subst (LeavesDisk old new) e leaves
-
--- it failed
-pub serves-lost : {T : Type 0} {old new : FileTree} {Told : T → Type 0} (r : Result T DeviceFault) (fault : DeviceFault) → r ≡ Err fault → Serves old new r Told → IsLost old new
-serves-lost r fault e serves = disk-lost r fault e (serves-disk serves)
-
--- at is what the fields show, and k the kernel's value
-pub tree-lost : {at k : Kernel} → at ≡ k → {T : Type 0} {new : FileTree} {Told : T → Type 0} (r : Result T DeviceFault) (fault : DeviceFault) → r ≡ Err fault → Serves at.tree new r Told → IsLost k.tree new
-tree-lost same {new = new} r fault e serves = subst (λ (y : Kernel). IsLost y.tree new) same (serves-lost r fault e serves)
-
 module _ (k new : Kernel) (i : ℕ) (call : Call) where
   pub err-lost : (r : Result Came DeviceFault) → IsErr r → IsLost k.tree new.tree → ActsOnDisk k new i (Some call) r
   err-lost (Ok came) e lost = absurd (cc)
   err-lost (Err fault) e lost = lost
 
-pub disk-served : {T : Type 0} {old new : FileTree} (r : Result T DeviceFault) (x : T) → r ≡ Ok x → LeavesDisk old new r → IsServed old new
-disk-served {old = old} {new = new} r x e leaves = subst (LeavesDisk old new) e leaves
-
-pub on-ok : {T : Type 0} {P : Type 0} (r : Result T DeviceFault) (x : T) → r ≡ Ok x → OnOk r P → P
-on-ok {T} {P} r x e p = subst (λ (y : Result T DeviceFault). OnOk y P) e p
-
 pub ok-told : {T E : Type 0} (Told : T → Type 0) (r : Result T E) (x : T) → r ≡ Ok x → IfOk r Told → Told x
 ok-told {T} {E} Told r x e told = subst (λ (y : Result T E). IfOk y Told) e told
-
-pub ok-served : {T : Type 0} {old new : FileTree} {Told : T → Type 0} (r : Result T DeviceFault) (x : T) → r ≡ Ok x → Serves old new r Told → Told x × IsServed old new
-ok-served {Told = Told} r x e serves = (ok-told Told r x e serves.told, disk-served r x e (serves-disk serves))
 
 -- what is made is made of another state
 pub on-after : {A T : Type 0} (x y z : A) (r : Result T DeviceFault) → x ≡ y → OnOk r (y ≡ z) → OnOk r (x ≡ z)
 on-after x y z (Ok t) same made = same ∙ made
 on-after x y z (Err fault) same made = tt
-
-pub on-err : {T : Type 0} {P : Type 0} (r : Result T DeviceFault) (fault : DeviceFault) → r ≡ Err fault → OnErr r P → P
-on-err {T} {P} r fault e p = subst (λ (y : Result T DeviceFault). OnErr y P) e p
 
 pub where-err : {T : Type 0} {P : Type 0} (r : Result T DeviceFault) → P → OnErr r P
 where-err (Ok x) p = tt

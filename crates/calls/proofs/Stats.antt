@@ -1,9 +1,8 @@
 -- fstat: a node tells of itself.
-use Rattle.calls.proofs.Common.{Bool, Err, List, None, Ok, Option, Some, [], ap, arith, false, refl, subst, sym, true, ℕ, ◌%◌, ◌/◌, ◌∙◌, ◌∷◌, ◌≡◌, Result, length, option_map, Acts, Runs, wrote, IsKernel}
-use Rattle.calls.proofs.Common.{HasRead, stat_told, Answers, Refuses, Target, FileFault, file_of, target_of, file_at, node_at, node_from, InodeStat, slot-file, held-run}
-use Rattle.calls.proofs.Common.{descriptors_in, FitsNode, node_of, node_on, Kernel, argument, counting, descriptors_at, state_of, SpaceView, view_at, none-some, same_Some, Tells}
-use Rattle.calls.proofs.Common.{row, Fstat, fstat_row, node_number, stat_bytes, Files, Node, slot, can_write, zeros, le, low, Outcome, answers, given, limited, provided, Done, Refused, State, put_process}
-use Rattle.calls.proofs.Acts.{Here, here-of, me, prints, refused, used-here, here-in}
+use Rattle.calls.proofs.Common.{Bool, Err, List, None, Ok, Option, Some, [], ap, arith, false, refl, subst, sym, true, ℕ, ◌%◌, ◌/◌, ◌∙◌, ◌∷◌, ◌≡◌, length, option_map, Acts, Runs, wrote, IsKernel, HasRead, stat_told, Answers, Refuses}
+use Rattle.calls.proofs.Common.{Target, FileFault, file_of, target_of, file_at, node_at, node_from, InodeStat, slot-file, held-run, FitsNode, node_of, node_on, Kernel, argument, counting, descriptors_at, state_of, SpaceView, view_at}
+use Rattle.calls.proofs.Common.{none-some, Tells, row, Fstat, fstat_row, node_number, stat_bytes, Node, slot, can_write, zeros, le, low, Outcome, answers, given, limited, provided, Done, Refused, State, put_process}
+use Rattle.calls.proofs.Acts.{Here, descriptor-is, here-of, me, prints, refused, used-here, here-in}
 use Rattle.calls.proofs.Writes.{fits-at}
 use Rattle.files.specs.declared.file.OpenFile.{OpenFile}
 use Rattle.files.specs.declared.file.Target.TheVariants as target
@@ -42,10 +41,6 @@ node-named : (o : Option OpenFile) (n : ℕ) → node_at o ≡ Ok n → (f : Ope
 node-named None n e = absurd (cc)
 node-named (Some f) n e = (f, refl, from-ok (node_number (target_of f.target)) n e)
 
--- what the kernel's fields say of the node that a descriptor is open on
-pub node-told : (at k : Kernel) → at ≡ k → (m id : ℕ) → m ≡ id → (r s : Result ℕ FileFault) → r ≡ node_at (file_at at.files m) → r ≡ s → node_at (file_at k.files id) ≡ s
-node-told at k same m id is r s told found = rw (← same, ← is) (sym told ∙ found)
-
 no-number : (o : Option ℕ) (fault : FileFault) → node_from o ≡ Err fault → (rest : ℕ → Outcome) → limited (given o rest) ≡ Refused
 no-number None fault e rest = refl
 no-number (Some n) fault e rest = absurd (cc)
@@ -54,21 +49,15 @@ no-node : (o : Option OpenFile) (fault : FileFault) → node_at o ≡ Err fault 
 no-node None fault e rest = refl
 no-node (Some f) fault e rest = no-number (node_number (target_of f.target)) fault e (rest (file_of f))
 
+node-on : (t : Target) → node_on t ≡ node_number (target_of t)
+node-on (target.Pipe q e) = refl
+node-on _ = refl
+
 -- it is there
-node-there : (files : Files) (f : OpenFile) (t : Target) (n : ℕ) → FitsNode f t (node_of files (node_on t)) → node_number (target_of t) ≡ Some n → (node : Node) × (slot files n ≡ Some node)
-node-there files f (target.Pipe pipe e) n fits on = absurd (none-some n on)
-node-there files f (target.File number offset) n fits on = subst (λ m. (node : Node) × (slot files m ≡ Some node)) (same_Some number n on) (go (slot files number) refl fits) where
-  go : (o : Option Node) → slot files number ≡ o → FitsNode f (target.File number offset) o → (node : Node) × (slot files number ≡ Some node)
-  go None at is = absurd is
-  go (Some node) at is = (node, at)
-node-there files f (target.Console number) n fits on = subst (λ m. (node : Node) × (slot files m ≡ Some node)) (same_Some number n on) (go (slot files number) refl fits) where
-  go : (o : Option Node) → slot files number ≡ o → FitsNode f (target.Console number) o → (node : Node) × (slot files number ≡ Some node)
-  go None at is = absurd is
-  go (Some node) at is = (node, at)
-node-there files f (target.Device number) n fits on = subst (λ m. (node : Node) × (slot files m ≡ Some node)) (same_Some number n on) (go (slot files number) refl fits) where
-  go : (o : Option Node) → slot files number ≡ o → FitsNode f (target.Device number) o → (node : Node) × (slot files number ≡ Some node)
-  go None at is = absurd is
-  go (Some node) at is = (node, at)
+node-there : (f : OpenFile) (t : Target) (n : ℕ) (o : Option Node) → node_on t ≡ Some n → FitsNode f t o → (node : Node) × (o ≡ Some node)
+node-there f t n (Some node) on fits = (node, refl)
+node-there f (target.Pipe q e) n None on fits = absurd (none-some n on)
+node-there f _ n None on fits = absurd fits
 
 told-is : (n : ℕ) (told : InodeStat) (node : Node) → Tells told node → stat_told n told ≡ stat_bytes n node
 unfolding stat_told stat_bytes
@@ -84,16 +73,9 @@ module _ (k : Kernel) (i : ℕ) (runs : Runs k i) where
   abbrev x : Here k i
   x = here-of k i runs
 
-  ds : descriptors_at k i ≡ x.process.descriptors
-  ds = ap descriptors_in x.run.process
-
-  pub fstat-unnamed : (d : ℕ) → d ≡ low (argument k 0) → slot (descriptors_at k i) d ≡ None → Acts k k i (Some Fstat) Refuses
-  unfolding fstat_row
-  fstat-unnamed d is none = let none' : slot x.process.descriptors (low (argument k 0)) ≡ None = rw (← ds, ← is) none in refused k i x (Some Fstat) (rw none' refl)
-
   module _ (d id : ℕ) (is : d ≡ low (argument k 0)) (named : slot (descriptors_at k i) d ≡ Some id) where
     here : slot x.process.descriptors (low (argument k 0)) ≡ Some id
-    here = rw (← ds, ← is) named
+    here = descriptor-is k i x is named
 
     pub fstat-nodeless : (fault : FileFault) → node_at (file_at k.files id) ≡ Err fault → Acts k k i (Some Fstat) Refuses
     unfolding fstat_row
@@ -110,7 +92,9 @@ module _ (k : Kernel) (i : ℕ) (runs : Runs k i) where
       number = (node-named (file_at k.files id) n on).2
 
       pub fstat-there : (node : Node) × (slot k.tree.files n ≡ Some node)
-      fstat-there = node-there k.tree.files f f.target n (fits-at (used-here k i x) id f opened) number
+      fstat-there =
+          let on : node_on f.target ≡ Some n = node-on f.target ∙ number in
+          node-there f f.target n (slot k.tree.files n) on (subst (λ o. FitsNode f f.target (node_of k.tree.files o)) on (fits-at (used-here k i x) id f opened))
 
       abbrev node : Node
       node = fstat-there.0

@@ -1,11 +1,10 @@
 -- A write to a file.
-use Rattle.calls.proofs.Common.{◌≡◌, ℕ, ◌+◌, ◌<◌, ◌≤◌, ◌^◌, Bool, true, false, nat_le, List, [], length, take, Option, Some, None, refl, ap, subst, sym, ◌∙◌, arith, if◌then◌else◌, ◌&&◌, ◌==◌, and_parts, leb-true, none-some}
-use Rattle.calls.proofs.Common.{same_Some, cond_some, GoesOn, settled_by, Answers, Refuses, Transfers, Uses, file_of, target_of, opens-moved, FitsNode, Kernel, descriptors_at, state_of}
-use Rattle.calls.proofs.Common.{IsWriting, some-pipe, SpaceView, view_at, bytes_given, FileTree, quiet, settle, Pending, blocks_of}
-use Rattle.calls.proofs.Common.{room_for, with_file, with_offset, write_node, write_on, Files, Node, longest, slot, Directory, File, Memory, overwrite, read_bytes, low, OnNode, minus_one, pending_arg, Done, Refused, State}
-use Rattle.calls.proofs.Acts.{Here, goes-serves, going, going-here, here-in, me}
+use Rattle.calls.proofs.Common.{◌≡◌, ℕ, ◌+◌, ◌<◌, ◌≤◌, ◌^◌, Bool, true, false, nat_le, List, [], length, take, Option, Some, None, refl, ap, subst, sym, ◌∙◌, arith, if◌then◌else◌, ◌&&◌, ◌==◌}
+use Rattle.calls.proofs.Common.{and_parts, leb-true, none-some, same_Some, cond_some, GoesOn, Answers, Refuses, Transfers, Uses, file_of, target_of, opens-moved, FitsNode, Kernel, descriptors_at}
+use Rattle.calls.proofs.Common.{state_of, IsWriting, some-pipe, SpaceView, view_at, bytes_given, FileTree, Pending, blocks_of, room_for, with_file, with_offset, write_node, write_on, Files, Node}
+use Rattle.calls.proofs.Common.{longest, slot, Directory, File, Memory, overwrite, read_bytes, low, OnNode, minus_one, pending_arg, Done, Refused, State, IsServed, option_map, IsKernel}
+use Rattle.calls.proofs.Acts.{Here, goes-serves, going, going-here, here-in, me, refuses-on}
 use Rattle.calls.proofs.Fetches.{low-same}
-use Rattle.calls.proofs.Common.{IsServed, option_map, IsKernel}
 use Rattle.kernel.specs.Disk.{with_tree}
 use Rattle.kernel.specs.Opening.{HasStored, MayMove, advanced}
 use Rattle.calls.proofs.Transfers.{file, file-fits, file-named, going-is, held-here, here, named-file}
@@ -17,7 +16,6 @@ use Rattle.files.specs.Places.{moved, opens_of}
 use Rattle.kernel.proofs.Opens.{IsNamed}
 use Rattle.file_transfers.proofs.Fits.{greatest-low}
 use Rattle.tree.specs.Written.{IsFile, Written, count_of, files_after, fitting, with_bytes, written}
-use Rattle.unixmodel.specs.Files.Node.{Device}
 use Rattle.unixmodel.specs.OpenFiles as unix_files
 use Rattle.unixmodel.specs.Process as unix
 
@@ -79,10 +77,9 @@ none-count (Some v) is = absurd (none-some v.count is)
 
 -- a file that is open for writing
 open-file : (f : OpenFile) (n offset : ℕ) (files : Files) (o : Option Node) → slot files n ≡ o → f.writable ≡ true → FitsNode f (target.File n offset) o → IsFile files n
-open-file f n offset files None here writable fits = absurd fits
 open-file f n offset files (Some (File links bytes)) here writable fits = record { links = links; bytes = bytes; here = here }
-open-file f n offset files (Some (Device links major minor)) here writable fits = absurd fits
 open-file f n offset files (Some (Directory links places)) here writable fits = absurd (let bad : true ≡ false = sym writable ∙ fits.1 in cc)
+open-file f n offset files _ here writable fits = absurd fits
 
 -- ---- the call
 
@@ -139,18 +136,8 @@ module _ (k : Kernel) (i : ℕ) (w : Pending) (number offset : ℕ) (u : Uses k 
     writes-refused none sound served =
         let gone = none-count went (sym none ∙ told.counted) in
         let state : state_of m ≡ state_of k = ap state_of told.same ∙ ap (λ (v : Option Written). record (state_of k) { files = files_after k.tree.files v }) gone in
-        let refused = row ∙ is-refused (state_of k) (file g).number (file_of (file g).file) number offset is-file.links is-file.bytes new is-file.here gone in
-        record {
-          comes = record {
-            makes = ap (settle (state_of k) i) (going-here k i x w ∙ refused) ∙ ap (λ (s : State). quiet (settled_by s i Refuses)) (sym state);
-            active = ap (λ (y : Kernel). y.spaces.active) told.same ∙ x.run.active;
-            sound = sound;
-            can = tt;
-            printed = refl;
-            served = served;
-          };
-          within = rw (going-here k i x w ∙ refused) refl;
-        }
+        let refused = going-here k i x w ∙ row ∙ is-refused (state_of k) (file g).number (file_of (file g).file) number offset is-file.links is-file.bytes new is-file.here gone in
+        record { comes = refuses-on refused state (ap (λ (y : Kernel). y.spaces.active) told.same ∙ x.run.active) sound served; within = rw refused refl }
 
     module _ {n : ℕ} (some : r ≡ Some n) where
       here-is : HasCount went n
@@ -184,7 +171,7 @@ module _ (k : Kernel) (i : ℕ) (w : Pending) (number offset : ℕ) (u : Uses k 
           let state : state_of last ≡ record (with_offset (state_of k) at (file_of (file g).file) number (offset + n)) { files = v.files } =
           ap state_of all ∙ ap (λ (o : Option Written). record (state_of k) { files = files_after k.tree.files o; opens = opens_of files }) here-is.here
           ∙ ap (λ (os : List (Option unix_files.OpenFile)). record (state_of k) { files = v.files; opens = os }) (opens-moved k.files at (offset + n) number offset (file g).file (file g).opened (file g).on) in
-          goes-serves k i x w last answer (here-in sound (ap (λ (y : Kernel). y.spaces.active) all ∙ x.run.active) (ap (λ (t : FileTree). t.failed) tree ∙ served.up)) (rw tree served)
+          goes-serves k i x w answer (here-in sound (ap (λ (y : Kernel). y.spaces.active) all ∙ x.run.active) (ap (λ (t : FileTree). t.failed) tree ∙ served.up)) (rw tree served)
           (row ∙ stored.row
           ∙ ap (λ (o : ℕ). Done (record (with_offset (state_of k) at (file_of (file g).file) number (offset + o)) { files = v.files }) (if o == length new then o else minus_one) []) here-is.counted
           ∙ ap (λ (s : State). Done s (if n == length new then n else minus_one) []) (sym state)

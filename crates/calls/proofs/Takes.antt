@@ -1,12 +1,13 @@
 -- A step: the running process does an instruction, or a turn where none runs.
-use Rattle.calls.proofs.Common.{DeviceFault, ◌≡◌, ℕ, ◌%◌, Bool, true, false, List, Option, Some, None, Ok, Err, ℤ, negsuc, refl, ap, subst, sym, ◌∙◌, IfOk, OnOk, Result, if◌then◌else◌, slice_index, Halt}
-use Rattle.calls.proofs.Common.{Halted, InitEnded, Dispatches, EventGives, IsMade, halt_of, Kernel, computed, counting, ended, lives, picked, started, state_of, waking, called, IsKernel, IsLive, IsMode}
-use Rattle.calls.proofs.Common.{IsAlive, resumed, resumed_by, resumed_in, IsThere, process-idle, there-of, turn-alive, run-of, picked-state, picks-killed, picks-ready, held-run, state-but, Process, with_memory}
-use Rattle.calls.proofs.Common.{SpaceView, view_at, After, quiet, cycle, Mode, Ready, Waiting, Pending, Trap, slot, Computed, Memory, execute_at, is_ecall, pick, take_turn, end_process, State, process_at}
+use Rattle.calls.proofs.Common.{DeviceFault, ◌≡◌, ℕ, ◌%◌, Bool, true, false, List, Option, Some, None, Ok, Err, ℤ, negsuc, refl, ap, subst, sym, ◌∙◌, IfOk, OnOk, Result, if◌then◌else◌, slice_index, Halt, Dispatches, EventGives}
+use Rattle.calls.proofs.Common.{IsMade, halt_of, Kernel, computed, counting, ended, lives, picked, started, state_of, waking, called, IsKernel, IsLive, IsMode, IsAlive, resumed, resumed_by, resumed_in, IsThere, process-idle}
+use Rattle.calls.proofs.Common.{there-of, turn-alive, picked-state, picks-killed, picks-ready, held-run, state-but, Process, with_memory, SpaceView, view_at, After, quiet, cycle, Mode, Ready, Waiting, Pending, Trap, slot}
+use Rattle.calls.proofs.Common.{Computed, Memory, execute_at, is_ecall, pick, take_turn, end_process, State, process_at, ends-run, moved-state, process-run, computed-is, placed-with, memory_after, effect_of, execute, called_by}
 use Rattle.calls.specs.declared.halt.Halt.TheVariants.{Console, Device}
 use Rattle.calls.specs.Resuming.{taken, taken_by}
 use Rattle.calls.proofs.Prints.{Appends-none}
-use Rattle.calls.proofs.Rows.{executes-call, executes-fault, computed-state}
+use Rattle.kernel.proofs.Turning.{Runner, me_of, runner-of}
+use Rattle.unixmodel.specs.Next.{acted}
 use Rattle.unixmodel.specs.Next as next
 use Rattle.unixmodel.specs.Turn as turn
 
@@ -21,20 +22,15 @@ pub ends-if : (new e : Kernel) (a : After) (r : Result (Unit {0}) DeviceFault) �
 ends-if new e a (Ok done) made is = is ∙ ap quiet (sym (state-but (counting e new.tree.failures) made))
 ends-if new e a (Err fault) made is = tt
 
--- a process ended, with a status that is the same number
-pub ended-told : (k new : Kernel) (i : ℕ) (status meant : ℤ) → meant ≡ status → new ≡ waking (counting (ended k i meant) new.tree.failures) new.table.awake → state_of new ≡ state_of (ended k i status)
-ended-told k new i status meant same told = state-but (counting (ended k i meant) new.tree.failures) told ∙ ap (λ n. state_of (ended k i n)) same
-
 -- what is made tells how the machine halts
 pub does-made : (new : Kernel) (a : After) (before after : Option (List ℕ)) (rising : Type 0) (o : Option ℤ) → new.halted ≡ o → IsMade new a before after → EventGives new a before after rising (halt_of o)
 does-made new a before after rising None halts made = record { state = made.state; halts = ap (λ (s : State). s.halted) (sym made.state) ∙ halts; printed = made.printed }
 does-made new a before after rising (Some status) halts made = record { state = made.state; halts = ap (λ (s : State). s.halted) (sym made.state) ∙ halts; printed = made.printed }
 
 fails-err : (new : Kernel) (a : After) (before after : Option (List ℕ)) (rising : Type 0) (e : Halt) → Dispatches {X = Unit {0}} new a before after rising (Err e) → EventGives new a before after rising (Err e)
-fails-err new a before after rising (InitEnded status) made = absurd made
 fails-err new a before after rising Device made = made
 fails-err new a before after rising Console made = made
-fails-err new a before after rising Halted made = absurd made
+fails-err new a before after rising _ made = absurd made
 
 -- the console failed
 pub does-err : (new : Kernel) (a b : After) (before after : Option (List ℕ)) (rising : Type 0) (e : Halt) → a ≡ b → Dispatches {X = Unit {0}} new b before after rising (Err e) → EventGives new a before after rising (Err e)
@@ -42,26 +38,27 @@ does-err new a b before after rising e same made = subst (λ (x : After). EventG
 
 -- ---- the running process
 
-module _ (k : Kernel) (i : ℕ) (is : IsKernel k) (active : k.spaces.active ≡ Some i) where
-  pub step-computes : (d : Computed) → cycle k.spaces.registers k.spaces.pc (view_at k.spaces i).memory ≡ Ok d → (new : Kernel) → new ≡ computed k i d → (bytes : Option (List ℕ)) → IsMade new (execute_at (state_of k) i (process_at (state_of k) i)) bytes bytes
-  step-computes d effect new made bytes =
-      let run = run-of k i is active in
-      let r = run.1.1 in
-      let e = computed-state k i run.0 run.1.0 r is d (rw (held-run k i run.0 run.1.0 r is) at effect) in
-      made-quiet new (execute_at (state_of k) i (process_at (state_of k) i)) bytes (e ∙ ap (λ (x : Kernel). quiet (state_of x)) (sym made))
+module _ {k : Kernel} {i : ℕ} (is : IsKernel k) (active : k.spaces.active ≡ Some i) where
+  abbrev x : Runner k i
+  x = runner-of is active
 
-  pub step-calls : slice_index k.spaces.registers 0 ≡ 0 → k.spaces.pc % 4 ≡ 0 → (t : Trap) → cycle k.spaces.registers k.spaces.pc (view_at k.spaces i).memory ≡ Err t → is_ecall t.cause ≡ true → execute_at (state_of k) i (process_at (state_of k) i) ≡ called (state_of k) i
-  step-calls z a t effect ecall =
-      let run = run-of k i is active in
-      let r = run.1.1 in
-      executes-call k i run.0 run.1.0 r is z a t (rw (held-run k i run.0 run.1.0 r is) at effect) ecall
+  effect-run : {r : Result Computed Trap} → cycle k.spaces.registers k.spaces.pc (view_at k.spaces i).memory ≡ r → execute_at (state_of k) i (process_at (state_of k) i) ≡ acted (state_of k) i (me_of x) r
+  unfolding execute effect_of
+  effect-run means =
+      ap (execute_at (state_of k) i) (process-run k i x.process x.held x.run)
+      ∙ ap (acted (state_of k) i (me_of x)) (ap (λ (h : SpaceView). cycle k.spaces.registers k.spaces.pc h.memory) (sym (held-run k i x.process x.held x.run is)) ∙ means)
 
-  pub step-faults : k.tree.failed ≡ false → slice_index k.spaces.registers 0 ≡ 0 → k.spaces.pc % 4 ≡ 0 → (t : Trap) → cycle k.spaces.registers k.spaces.pc (view_at k.spaces i).memory ≡ Err t → is_ecall t.cause ≡ false
-      → (same : Kernel) → same ≡ k → execute_at (state_of k) i (process_at (state_of k) i) ≡ quiet (state_of (ended same i (negsuc 0)))
-  step-faults up z a t effect fault same kept =
-      let run = run-of k i is active in
-      let r = run.1.1 in
-      executes-fault k i run.0 run.1.0 r is z a up t (rw (held-run k i run.0 run.1.0 r is) at effect) fault ∙ ap (λ (x : Kernel). quiet (state_of (ended x i (negsuc 0)))) (sym kept)
+  pub step-computes : {d : Computed} → cycle k.spaces.registers k.spaces.pc (view_at k.spaces i).memory ≡ Ok d → execute_at (state_of k) i (process_at (state_of k) i) ≡ quiet (state_of (computed k i d))
+  step-computes {d} means =
+      effect-run means
+      ∙ ap quiet (sym (ap state_of (computed-is k i x.process x.held x.run is d) ∙ moved-state k i x.process x.held x.run is x.process (record x.held { memory = memory_after x.held.memory d.change }) d.regs d.pc (placed-with k i x.process x.held x.run is (memory_after x.held.memory d.change)) x.run.runs))
+
+  module _ {t : Trap} (means : cycle k.spaces.registers k.spaces.pc (view_at k.spaces i).memory ≡ Err t) where
+    pub step-calls : is_ecall t.cause ≡ true → execute_at (state_of k) i (process_at (state_of k) i) ≡ called (state_of k) i
+    step-calls ecall = effect-run means ∙ rw ecall (sym (ap (called_by (state_of k) i) (process-run k i x.process x.held x.run)))
+
+    pub step-faults : k.tree.failed ≡ false → slice_index k.spaces.registers 0 ≡ 0 → k.spaces.pc % 4 ≡ 0 → is_ecall t.cause ≡ false → execute_at (state_of k) i (process_at (state_of k) i) ≡ quiet (state_of (ended k i (negsuc 0)))
+    step-faults up z a fault = effect-run means ∙ rw fault (ap quiet (ends-run k i x.process x.held x.run is z a (negsuc 0) up))
 
 -- ---- a picked process
 

@@ -2,7 +2,7 @@
 use Rattle.calls.proofs.Common.{◌≡◌, ◌≢◌, ℕ, zero, suc, ◌<◌, Bool, true, false, ◌&&◌, List, Option, Some, None, refl, ap, subst, sym, ◌∙◌, arith, if◌then◌else◌, Err, IfSome, IsSome, Ok, Result, is_some, option_and_then}
 use Rattle.calls.proofs.Common.{option_map, result_ok, false≢true, none-some, same_Some, DeviceFault, Acts, ActsOnDisk, CanWait, GoesOnDisk, Runs, pending_for, Came, Answers, Refuses, descriptors_in, FitsNode, node_of}
 use Rattle.calls.proofs.Common.{node_on, Kernel, argument, descriptors_at, state_of, Stands, IsFresh, IsPending, file_named, is_on_pipe, Begins, MayUse, Transfers, call_on, can_transfer, target_for, target_named}
-use Rattle.calls.proofs.Common.{IsFileAt, file-at, open-named, slot-file, stands-open, held-run, Target, file_of, target_of, Counted, file_at, usable, Process, SpaceView, view_at, goes_on, row, Call, Pending, is_usable}
+use Rattle.calls.proofs.Common.{IsFileAt, file-at, open-named, slot-file, stands-open, held-run, Target, file_of, target_of, Counted, file_at, usable, Process, SpaceView, view_at, goes_on, row, Pending, is_usable}
 use Rattle.calls.proofs.Common.{read_row, unless_empty, write_row, Files, slot, Memory, can_write, read_bytes, int_of, low, natural, Outcome, given, limited, pending_arg, pending_of, provided, Refused, arg, State}
 use Rattle.calls.proofs.Acts.{Here, does, going, going-here, here-of, me, outcome-here, refused, used-here}
 use Rattle.kernel.proofs.Opens.{IsNamed}
@@ -46,8 +46,7 @@ may-go e f t false flag is = absurd (none-some t (sym (may-is e f false flag) �
 target-is : (e : End) (o : Option OpenFile) (t : Target) → target_for e o ≡ Some t → option_map (λ (f : OpenFile). f.target) o ≡ Some t
 target-is Read None t is = absurd (none-some t is)
 target-is Write None t is = absurd (none-some t is)
-target-is Read (Some f) t is = ap Some (may-go Read f t (may Read f) refl is).on
-target-is Write (Some f) t is = ap Some (may-go Write f t (may Write f) refl is).on
+target-is e (Some f) t is = ap Some (may-go e f t (may e f) refl is).on
 
 mode-is : (e : End) (o : Option OpenFile) (f : OpenFile) → o ≡ Some f → may e f ≡ true → MayUse e o
 mode-is Read o f at flag = rw at flag
@@ -111,7 +110,8 @@ start-fresh opens ds w start = λ read. fresh-go (file_named opens ds (low (pend
 
 -- ---- the call of the running process
 
-module _ (k : Kernel) (i : ℕ) (runs : Runs k i) (e : End) where
+-- r is what its descriptor is open on, if such a call may be made on it
+module _ {k : Kernel} {i : ℕ} (runs : Runs k i) (e : End) {r : Option Target} (found : r ≡ target_for e (file_named k.files (descriptors_at k i) (low (argument k 0)))) where
   abbrev x : Here k i
   x = here-of k i runs
 
@@ -140,12 +140,12 @@ module _ (k : Kernel) (i : ℕ) (runs : Runs k i) (e : End) where
   refuses : row (state_of k) i (me k i x) (call_on e) ≡ Refused → Acts k k i (Some (call_on e)) Refuses
   refuses is = refused k i x (Some (call_on e)) (ap limited is)
 
-  unnamed : target_for e named ≡ None → Acts k k i (Some (call_on e)) Refuses
-  unnamed none = refuses (row-here ∙ shut e (state_of k) named rest fits-named none)
+  pub begins-unnamed : r ≡ None → Acts k k i (Some (call_on e)) Refuses
+  begins-unnamed none = refuses (row-here ∙ shut e (state_of k) named rest fits-named (sym found ∙ none))
 
-  module _ (t : Target) (is : target_for e named ≡ Some t) where
+  module _ {t : Target} (is : r ≡ Some t) {o : Option ℕ} (told : o ≡ natural (int_of (argument k 2))) where
     on : target_named k i (low (argument k 0)) ≡ Some t
-    on = target-is e named t is
+    on = target-is e named t (sym found ∙ is)
 
     abbrev f : IsFileAt k.files (descriptors_at k i) (low (argument k 0)) t
     f = file-at k.files (descriptors_at k i) (low (argument k 0)) t on
@@ -154,7 +154,7 @@ module _ (k : Kernel) (i : ℕ) (runs : Runs k i) (e : End) where
     there = ap (option_and_then (file_at k.files)) f.named ∙ f.opened
 
     opened : IsFor e f.file t
-    opened = may-go e f.file t (may e f.file) refl (ap (target_for e) (sym there) ∙ is)
+    opened = may-go e f.file t (may e f.file) refl (ap (target_for e) (sym there) ∙ sym found ∙ is)
 
     row-counted : row (state_of k) i (me k i x) (call_on e) ≡ rest
     row-counted =
@@ -164,71 +164,42 @@ module _ (k : Kernel) (i : ℕ) (runs : Runs k i) (e : End) where
         ∙ ap (λ (b : Bool). provided (b && is_usable k.tree.files (target_of f.file.target)) rest) opened.may
         ∙ ap (λ (b : Bool). provided b rest) usable
 
-    below : natural (int_of (argument k 2)) ≡ None → Acts k k i (Some (call_on e)) Refuses
-    below none = refuses (row-counted ∙ rw none refl)
-
-    nothing : natural (int_of (argument k 2)) ≡ Some 0 → Acts k k i (Some (call_on e)) (Answers 0)
-    nothing none = does k i x k (call_on e) 0 x refl (row-counted ∙ rw none refl)
-
-    module _ (n : ℕ) (count : natural (int_of (argument k 2)) ≡ Some n) (some : 0 < n) (b : Bool) (can : can_transfer e (view_at k.spaces i).memory (argument k 1) n ≡ b) where
-      row-tested : row (state_of k) i (me k i x) (call_on e) ≡ provided b (going k i x w)
-      row-tested =
-          row-counted
-          ∙ rw count (unless-some (state_of k) n (provided (can_transfer e x.held.memory (argument k 1) n) (going k i x w)) some)
-          ∙ ap (λ (b : Bool). provided b (going k i x w)) (ap (λ (h : SpaceView). can_transfer e h.memory (argument k 1) n) (sym (held-run k i x.process x.held x.run x.sound)) ∙ can)
-
-      unusable : b ≡ false → Acts k k i (Some (call_on e)) Refuses
-      unusable failed = refuses (row-tested ∙ ap (λ (b : Bool). provided b (going k i x w)) failed)
-
-      begins : b ≡ true → Begins k i e t w
-      begins passed = record {
-        uses = record {
-          goes = record {
-            runs = runs;
-            number = refl;
-            can = pending-can e k (descriptors_at k i) (view_at k.spaces i).memory n (ap is_some f.named) count some (can ∙ passed);
-            fresh = start-fresh k.files (descriptors_at k i) w refl;
-            target = on;
-          };
-          start = refl;
-          usable = opened.usable;
-          mode = mode-is e named f.file there opened.may;
-        };
-        row = outcome-here k i x (Some (call_on e)) ∙ ap limited (row-tested ∙ ap (λ (b : Bool). provided b (going k i x w)) passed ∙ sym (going-here k i x w));
-      }
-
--- by what the kernel answers: w is the pending call, and r what its descriptor d is open on
-module _ {k : Kernel} {i : ℕ} (runs : Runs k i) (e : End) {call : Call} (same : call ≡ call_on e) {w : Pending} (made : w ≡ pending_for k call) {d : ℕ} (place : d ≡ low (pending_arg w 0))
-    (r : Option Target) (found : r ≡ target_for e (file_named k.files (descriptors_at k i) d)) where
-  begun : w ≡ pending_for k (call_on e)
-  begun = made ∙ ap (pending_for k) same
-
-  source : (s : Option Target) → r ≡ s → target_for e (file_named k.files (descriptors_at k i) (low (argument k 0))) ≡ s
-  source s is = ap (λ (m : ℕ). target_for e (file_named k.files (descriptors_at k i) m)) (sym (place ∙ ap (λ (v : Pending). low (pending_arg v 0)) begun)) ∙ sym found ∙ is
-
-  third : (o : Option ℕ) → o ≡ natural (int_of (pending_arg w 2)) → natural (int_of (argument k 2)) ≡ o
-  third o told = ap (λ (v : Pending). natural (int_of (pending_arg v 2))) (sym begun) ∙ sym told
-
-  pub begins-unnamed : r ≡ None → Acts k k i (Some (call_on e)) Refuses
-  begins-unnamed none = unnamed k i runs e (source None none)
-
-  module _ {t : Target} (is : r ≡ Some t) {o : Option ℕ} (told : o ≡ natural (int_of (pending_arg w 2))) where
     pub begins-below : o ≡ None → Acts k k i (Some (call_on e)) Refuses
-    begins-below none = below k i runs e t (source (Some t) is) (third o told ∙ none)
+    begins-below none = let below : natural (int_of (argument k 2)) ≡ None = sym told ∙ none in refuses (row-counted ∙ rw below refl)
 
-    module _ {n : ℕ} (count : o ≡ Some n) where
+    module _ {n : ℕ} (some : o ≡ Some n) where
+      count : natural (int_of (argument k 2)) ≡ Some n
+      count = sym told ∙ some
+
       pub begins-nothing : n ≡ 0 → Acts k k i (Some (call_on e)) (Answers 0)
-      begins-nothing none = nothing k i runs e t (source (Some t) is) (third o told ∙ count ∙ ap Some none)
+      begins-nothing none = does k i x k (call_on e) 0 x refl (row-counted ∙ rw (count, none) refl)
 
-      module _ (some : n ≢ 0) {m : ℕ} (wide : m ≡ n) {b : Bool} (can : b ≡ can_transfer e (view_at k.spaces i).memory (pending_arg w 1) m) where
-        passes : can_transfer e (view_at k.spaces i).memory (argument k 1) n ≡ b
-        passes = ap (λ (v : Pending). can_transfer e (view_at k.spaces i).memory (pending_arg v 1) n) (sym begun) ∙ ap (can_transfer e (view_at k.spaces i).memory (pending_arg w 1)) (sym wide) ∙ sym can
+      module _ (more : n ≢ 0) {b : Bool} (can : b ≡ can_transfer e (view_at k.spaces i).memory (argument k 1) n) where
+        row-tested : row (state_of k) i (me k i x) (call_on e) ≡ provided b (going k i x w)
+        row-tested =
+            row-counted
+            ∙ rw count (unless-some (state_of k) n (provided (can_transfer e x.held.memory (argument k 1) n) (going k i x w)) (omega arith))
+            ∙ ap (λ (b : Bool). provided b (going k i x w)) (ap (λ (h : SpaceView). can_transfer e h.memory (argument k 1) n) (sym (held-run k i x.process x.held x.run x.sound)) ∙ sym can)
 
         pub begins-unusable : b ≡ false → Acts k k i (Some (call_on e)) Refuses
-        begins-unusable failed = unusable k i runs e t (source (Some t) is) n (third o told ∙ count) (omega arith) b passes failed
+        begins-unusable failed = refuses (row-tested ∙ ap (λ (b : Bool). provided b (going k i x w)) failed)
 
-        pub begins-on-it : b ≡ true → Begins k i e t w
-        begins-on-it passed = rw begun (begins k i runs e t (source (Some t) is) n (third o told ∙ count) (omega arith) b passes passed)
+        pub begins-on-it : b ≡ true → {v : Pending} → v ≡ w → Begins k i e t v
+        begins-on-it passed made = rw made (record {
+          uses = record {
+            goes = record {
+              runs = runs;
+              number = refl;
+              can = pending-can e k (descriptors_at k i) (view_at k.spaces i).memory n (ap is_some f.named) count (omega arith) (sym can ∙ passed);
+              fresh = start-fresh k.files (descriptors_at k i) w refl;
+              target = on;
+            };
+            start = refl;
+            usable = opened.usable;
+            mode = mode-is e named f.file there opened.may;
+          };
+          row = outcome-here k i x (Some (call_on e)) ∙ ap limited (row-tested ∙ ap (λ (b : Bool). provided b (going k i x w)) passed ∙ sym (going-here k i x w));
+        })
 
 -- ---- it goes on
 
@@ -259,9 +230,6 @@ module _ {k : Kernel} {i : ℕ} {e : End} {t : Target} {w : Pending} (g : Transf
   -- the pipe that it is an end of is there
   pub transfer-stands : Stands k.spaces (target_of t)
   transfer-stands = stands-open k.spaces (opens_of k.files) file.number (file_of file.file) (target_of t) g.runs.sound.opened.piped (slot-file k.files file.number ∙ ap (option_map file_of) file.opened) (ap target_of file.on)
-
-  pub stands-now : {at : Kernel} → at ≡ k → Stands at.spaces (target_of t)
-  stands-now same = rw same transfer-stands
 
   -- the number of its open file
   pub named-number : {d : ℕ} → d ≡ low (pending_arg w 0) → (o : Option ℕ) → o ≡ slot (descriptors_at k i) d → (n : ℕ) → o ≡ Some n → n ≡ file.number

@@ -1,20 +1,18 @@
 -- unlink: a name less, and its node is given up where nothing keeps it any more.
 use Rattle.calls.proofs.Served.{ok-told}
-use Rattle.calls.proofs.Common.{◌≡◌, ◌≢◌, ℕ, ◌*◌, ◌<◌, ◌≤◌, ◌∙◌, Bool, List, [], None, Option, Some, ap, arith, false, inl, inr, length, refl, subst, sym, true, Result, if◌then◌else◌, nat_le, nat_lt, option_and_then, directory_at, with_tree}
-use Rattle.calls.proofs.Common.{option_map, slice_set, ◌&&◌, ◌||◌, cases_lt, cases_eq, get_or-set_other, get_or-set_same, length-set, none-some, Acts, ActsOnDisk, Runs, DeviceFault, Came}
-use Rattle.calls.proofs.Common.{Answers, Refuses, Counts, without_pipes-same, set_outside, without_opens-same, IsInUse, Kernel, answered, argument, loaded, memories, state_of, IsKernel, is_by, kept-cong}
-use Rattle.calls.proofs.Common.{used-is, counts-joined, away-loaded, opened-loaded, used-loaded, within-state, answer-run, not-killed, regs-kernel, regs-run, process-run, unlink-parts}
-use Rattle.calls.proofs.Common.{view_at, TreeFault, let_go, has_failed, Reaps, blocks_of-set, quiet, row, settle, blocks_of, frames_of, is_within}
-use Rattle.calls.proofs.Common.{Unlink, Files, Node, Spot, blocks_for, change_node, erase, is_directory, links_of, lookup, size_of, slot, spot_of, without_place, Directory, File, path_at, fewer_links, path_arg, unlink_row}
-use Rattle.calls.proofs.Common.{unlinked, with_files, without_name, Outcome, answers, limited, Done, with_answer, is_used, kept, reap, without_nodes, without_opens, without_pipes, State, change_process, open_limit}
+use Rattle.calls.proofs.Common.{◌≡◌, ◌≢◌, ℕ, ◌*◌, ◌≤◌, ◌∙◌, Bool, List, [], None, Option, Some, ap, arith, false, refl, subst, sym, true, Result, if◌then◌else◌, nat_le, nat_lt, option_and_then, directory_at}
+use Rattle.calls.proofs.Common.{with_tree, option_map, slice_set, ◌&&◌, ◌||◌, length-set, none-some, Acts, ActsOnDisk, Runs, DeviceFault, Came, Answers, Counts, without_pipes-same, without_opens-same, IsInUse, Kernel}
+use Rattle.calls.proofs.Common.{answered, argument, loaded, memories, state_of, IsKernel, is_by, kept-cong, used-is, counts-joined, away-loaded, opened-loaded, used-loaded, within-state, answer-run, not-killed}
+use Rattle.calls.proofs.Common.{regs-kernel, regs-run, process-run, unlink-parts, view_at, TreeFault, let_go, has_failed, Reaps, quiet, row, settle, blocks_of, frames_of, is_within, Unlink, Files, Node, Spot}
+use Rattle.calls.proofs.Common.{blocks_for, change_node, erase, is_directory, links_of, lookup, size_of, slot, spot_of, without_place, Directory, File, path_at, fewer_links, path_arg, unlink_row, unlinked, with_files}
+use Rattle.calls.proofs.Common.{without_name, Outcome, answers, limited, Done, with_answer, is_used, kept, reap, without_nodes, without_opens, without_pipes, State, change_process, open_limit, zero, ◌∷◌, suc}
 use Rattle.calls.specs.Named.{IsNamed}
-use Rattle.calls.proofs.Acts.{Here, me, refused, settles, used-here}
+use Rattle.calls.proofs.Acts.{Here, me, settles, used-here}
+use Rattle.calls.proofs.Altered.{sum-altered}
 use Rattle.calls.proofs.Names.{given-then, here, home-is, mine, named-acts, over-here, over-state, path-is, with_made}
 use Rattle.calls.proofs.Settles.{settle-reaped}
 use Rattle.tree.specs.Unlinks.{unlinked_in}
-use Rattle.tree.proofs.Storing.{taken_by}
 use Rattle.unixmodel.specs.Counts.{opens_of}
-use Rattle.unixmodel.specs.Files.Node.{Device}
 use Rattle.unixmodel.specs.Process as unix
 use Rattle.kernel.proofs.Unlinking.{kept-is, reaps}
 use Rattle.tree.specs.Calls.{TakesName}
@@ -61,30 +59,22 @@ less-then first second = record { blocks = second.blocks ∙ first.blocks; none 
 
 fewer-size : (x : Node) → size_of (fewer_links x) ≡ size_of x
 fewer-size (File links bytes) = refl
-fewer-size (Device links major minor) = refl
-fewer-size (Directory links places) = refl
+fewer-size _ = refl
 
 placeless-size : (k : ℕ) (x : Node) → size_of (without_place k x) ≡ size_of x
-placeless-size k (File links bytes) = refl
-placeless-size k (Device links major minor) = refl
 placeless-size k (Directory links places) = ap (λ n. 16 * n) (length-set places k None)
+placeless-size k _ = refl
 
-module _ (files : Files) (n : ℕ) (f : Node → Node) (sized : (x : Node) → size_of (f x) ≡ size_of x) where
-  used-same : (o : Option Node) → taken_by (option_map f o) ≡ taken_by o
-  used-same None = refl
-  used-same (Some x) = ap blocks_for (sized x)
+changed-none : (files : Files) (n : ℕ) (f : Node → Node) (m : ℕ) → slot files m ≡ None → slot (change_node files n f) m ≡ None
+changed-none [] n f m gone = refl
+changed-none (o ∷ files) zero f zero gone = ap (option_map f) gone
+changed-none (o ∷ files) zero f (suc m) gone = gone
+changed-none (o ∷ files) (suc n) f zero gone = gone
+changed-none (o ∷ files) (suc n) f (suc m) gone = changed-none files n f m gone
 
-  changed-none : n < length files → (m : ℕ) → slot files m ≡ None → slot (change_node files n f) m ≡ None
-  changed-none inside m gone = elim (cases_eq m n) [
-    | inl same ↦ ap (slot (change_node files n f)) same ∙ get_or-set_same files n (option_map f (slot files n)) None inside ∙ ap (option_map f) (ap (slot files) (sym same) ∙ gone)
-    | inr other ↦ get_or-set_other files n m (option_map f (slot files n)) None other ∙ gone
-  ]
-
-  changed-less : IsLess files (change_node files n f)
-  changed-less = elim (cases_lt n (length files)) [
-    | inl inside ↦ record { blocks = omega (arith, blocks_of-set files n (option_map f (slot files n)) inside, used-same (slot files n)); none = changed-none inside }
-    | inr outside ↦ rw (set_outside files n (option_map f (slot files n)) outside) (record { blocks = refl; none = λ m gone. gone })
-  ]
+changed-less : (files : Files) (n : ℕ) (f : Node → Node) → ((x : Node) → size_of (f x) ≡ size_of x) → IsLess files (change_node files n f)
+unfolding blocks_of
+changed-less files n f sized = record { blocks = sum-altered (λ (x : Node). blocks_for (size_of x)) f (λ x. ap blocks_for (sized x)) files n; none = changed-none files n f }
 
 erased-less : (files : Files) (d k : ℕ) → IsLess files (erase files d k)
 unfolding erase
@@ -175,10 +165,6 @@ module _ (k : Kernel) (i : ℕ) (x : Here k i) (d : ℕ) (path : List ℕ) {to :
 -- ---- the process that calls
 
 module _ (k : Kernel) (i : ℕ) (runs : Runs k i) where
-  pub unlink-pathless : None ≡ path_at (view_at k.spaces i).memory (argument k 0) → Acts k k i (Some Unlink) Refuses
-  unfolding unlink_row
-  unlink-pathless none = let at = path-is k i runs 0 None none in refused k i (here k i runs) (Some Unlink) (rw at refl)
-
   module _ {path : List ℕ} (is : Some path ≡ path_at (view_at k.spaces i).memory (argument k 0)) {new : Kernel} (rest : new ≡ with_tree k new.tree) (sound : IsKernel new) where
     unlink-makes : row (state_of k) i (mine k i runs) Unlink ≡ with_made (state_of k) (nameless k.tree.files (directory_at k i) path)
     unlink-makes = rw (home-is k i runs) (unlink-row (state_of k) i (mine k i runs) path (path-is k i runs 0 (Some path) is))

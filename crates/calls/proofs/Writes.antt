@@ -29,22 +29,17 @@ int-low x c is = natural-cast (low x) c (omega arith) is
 -- ---- what is open
 
 usable-file : (f : OpenFile) (n offset : ℕ) (o : Option Node) → FitsNode f (target.File n offset) o → is_usable_node o ≡ true
-usable-file f n offset None fits = absurd fits
 usable-file f n offset (Some (File links bytes)) fits = refl
-usable-file f n offset (Some (Device links major minor)) fits = absurd fits
 usable-file f n offset (Some (Directory links places)) fits = refl
+usable-file f n offset _ fits = absurd fits
 
 usable-console : (f : OpenFile) (n : ℕ) (o : Option Node) → FitsNode f (target.Console n) o → is_usable_node o ≡ true
-usable-console f n None fits = absurd fits
-usable-console f n (Some (File links bytes)) fits = absurd fits
 usable-console f n (Some (Device links major minor)) fits = rw fits refl
-usable-console f n (Some (Directory links places)) fits = absurd fits
+usable-console f n _ fits = absurd fits
 
 usable-device : (f : OpenFile) (n : ℕ) (o : Option Node) → FitsNode f (target.Device n) o → is_usable_node o ≡ false
-usable-device f n None fits = absurd fits
-usable-device f n (Some (File links bytes)) fits = absurd fits
 usable-device f n (Some (Device links major minor)) fits = fits
-usable-device f n (Some (Directory links places)) fits = absurd fits
+usable-device f n _ fits = absurd fits
 
 -- what is open may be read and written, but for a device that isn't the console
 pub usable-open : (files : Files) (f : OpenFile) (t : Target) → FitsNode f t (node_of files (node_on t)) → is_usable files (target_of t) ≡ is_some (result_ok (usable t))
@@ -62,10 +57,8 @@ pub record IsDevice (o : Option Node) : Type 0 where
 
 -- the console is one
 pub console-device : (f : OpenFile) (n : ℕ) (o : Option Node) → FitsNode f (target.Console n) o → IsDevice o
-console-device f n None fits = absurd fits
-console-device f n (Some (File links bytes)) fits = absurd fits
 console-device f n (Some (Device links major minor)) fits = record { links = links; major = major; minor = minor; here = refl }
-console-device f n (Some (Directory links places)) fits = absurd fits
+console-device f n _ fits = absurd fits
 
 -- what an open file is on fits it
 module _ {t : FileTree} {opens : List (Option Counted)} {places : List (Option Process)} (is : IsInUse t opens places) (n : ℕ) where

@@ -118,6 +118,7 @@ pub(crate) fn kill<D: BlockDev, T: Translate>(kernel: &mut Kernel<D, T>, at: usi
         return Came::KillsItself;
     }
     kernel.mark(place);
+    kernel.is_sound();
     Came::Answers(0)
 }
 

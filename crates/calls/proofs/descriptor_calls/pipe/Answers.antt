@@ -1,4 +1,4 @@
-use Rattle.calls.proofs.Common.{refl, ap, arith, sym, ◌∙◌, option_copied, descriptors_in, count_by, is_none}
+use Rattle.calls.proofs.Common.{ap, arith, sym, ◌∙◌, option_copied, descriptors_in, count_by, is_none}
 use Rattle.calls.proofs.Pipes.{lacks-descriptors, lacks-frames, lacks-places, lacks-room, pipe-can, pipe-opens, pipe-unwritable}
 use Rattle.calls.proofs.descriptor_calls.pipe.Goals.{then-free_count-lt2-via-then-free_count-lt2, then-free_count-lt2-via-else-free_count-lt2+then-free_places-lt2}
 use Rattle.calls.proofs.descriptor_calls.pipe.Goals as goal
@@ -10,12 +10,12 @@ pub returns-then-free_count-lt2 : goal.returns-then-free_count-lt2
 returns-then-free_count-lt2 g c =
     let can = rw c.argument-address.ensures at (sym c.if-not-can_write.ensures) in
     elim c.then-free_count-lt2.branch [
-      | then-free_count-lt2-via-then-free_count-lt2 w ↦ lacks-descriptors c.requires can refl (sym c.process.ensures ∙ ap option_copied c.in-Some.is) (omega arith)
-      | then-free_count-lt2-via-else-free_count-lt2+then-free_places-lt2 w ↦ lacks-places c.requires can refl (omega arith)
+      | then-free_count-lt2-via-then-free_count-lt2 w ↦ lacks-descriptors c.requires can (sym c.process.ensures ∙ ap option_copied c.in-Some.is) (omega arith)
+      | then-free_count-lt2-via-else-free_count-lt2+then-free_places-lt2 w ↦ lacks-places c.requires can (omega arith)
     ]
 
 pub returns-in_default-free_pipe : goal.returns-in_default-free_pipe
-returns-in_default-free_pipe g c = lacks-room c.requires (rw c.argument-address.ensures at (sym c.if-not-can_write.ensures)) refl (sym c.in_default-free_pipe.ensures.place)
+returns-in_default-free_pipe g c = lacks-room c.requires (rw c.argument-address.ensures at (sym c.if-not-can_write.ensures)) (sym c.in_default-free_pipe.ensures.place)
 
 pub open_pipe-requires-clause-may : goal.open_pipe-requires-clause-may
 open_pipe-requires-clause-may g c =
@@ -25,7 +25,7 @@ open_pipe-requires-clause-may g c =
 pub returns-in_default-open_pipe : goal.returns-in_default-open_pipe
 returns-in_default-open_pipe g c =
     let d = c.in_default-open_pipe.ensures.pipes in
-    rw d.1 (lacks-frames c.requires (rw c.argument-address.ensures at (sym c.if-not-can_write.ensures)) refl (sym c.in-Some-free_pipe.ensures.place) d.0)
+    rw d.1 (lacks-frames c.requires (rw c.argument-address.ensures at (sym c.if-not-can_write.ensures)) (sym c.in-Some-free_pipe.ensures.place) d.0)
 
 pub write-requires : goal.write-requires
 write-requires g c =

@@ -1,4 +1,3 @@
-use Rattle.calls.proofs.Served.{on-ok}
 use Rattle.calls.proofs.Takes.{does-err, does-made, made-quiet}
 use Rattle.calls.proofs.Turned.{next-executes, next-turns}
 use Rattle.calls.proofs.Common.{refl, sym, ◌∙◌, rules, err_from_is_err_and}
@@ -23,5 +22,5 @@ returns-clause-does g c =
       | in-Some+in_ok-instruct-in-Some w ↦
           rw (w.kernel-is, w.console-is, next-executes c.args.kernel.now w.in-Some.at s.sound (sym c.active.ensures ∙ w.in-Some.is)) w.in_ok-instruct-in-Some.ensures.gives
       | in-None+in_ok-take_turn-in-None w ↦
-          rw (w.kernel-is, w.console-is, next-turns c.args.kernel.now s.sound (sym c.active.ensures ∙ w.in-None.is)) (made-quiet _ _ _ (on-ok w.take_turn.result _ w.in_ok-take_turn-in-None.was w.take_turn.ensures.gives))
+          rw (w.kernel-is, w.console-is, next-turns c.args.kernel.now s.sound (sym c.active.ensures ∙ w.in-None.is)) (made-quiet _ _ _ w.in_ok-take_turn-in-None.ensures.gives)
     ]))

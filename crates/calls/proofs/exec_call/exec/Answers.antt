@@ -1,12 +1,14 @@
-use Rattle.calls.proofs.Common.{arith, Exec}
-use Rattle.calls.proofs.Execs.{exec-lost, exec-pathless, reaches}
+use Rattle.calls.proofs.Common.{arith, Exec, refl, exec_row}
+use Rattle.calls.proofs.Execs.{exec-lost, reaches}
 use Rattle.calls.proofs.Homes.{read-runs}
 use Rattle.calls.proofs.Opens.{after-look}
 use Rattle.calls.proofs.Served.{err-lost}
+use Rattle.calls.proofs.Names.{pathless}
 use Rattle.calls.proofs.exec_call.exec.Goals as goal
 
 pub returns-in_default : goal.returns-in_default
-returns-in_default g c = exec-pathless c.args.kernel.now c.args.at c.requires c.in_default.ensures.path
+unfolding exec_row
+returns-in_default g c = pathless c.args.kernel.now c.args.at c.requires _ Exec refl c.in_default.ensures.path
 
 pub returns-in_default-2 : goal.returns-in_default-2
 returns-in_default-2 g c = exec-lost c.args.kernel.now c.args.at c.requires _ _ _ c.in-Some.ensures.path c.in_ok-number.ensures c.in_default-2.is

@@ -1,5 +1,5 @@
 use Rattle.calls.proofs.Common.{arith, executed}
-use Rattle.calls.proofs.Pieces.{begun, busy-advances, last-goes, none-told, trap-told}
+use Rattle.calls.proofs.Pieces.{begun, busy-advances, last-goes}
 use Rattle.calls.proofs.many_steps.instruct_many.Goals as goal
 
 pub trap_once-requires-clause-running : goal.trap_once-requires-clause-running
@@ -18,7 +18,7 @@ returns-in_default-None-clause-does g c =
     let done = c.execute_many.result.0 in
     let e = c.execute_many.ensures in
     let b = begun done k c.execute_many.new.self c.args.at (g.W.Out.contents c.args.console.now) c.is_sound.ensures.sound c.requires.running c.requires.goes c.requires.up e.done in
-    let all = none-told c.execute_many.result.1 c.in_default-None.is-1 e.all in
+    let all = rw c.in_default-None.is-1 at e.all in
     let some = c.requires.some in
     record {
       within = e.within;
@@ -34,7 +34,7 @@ returns-in_default-Some-clause-does g c =
     let at = c.args.at in
     let e = c.execute_many.ensures in
     let b = begun done k mid at (g.W.Out.contents c.args.console.now) c.is_sound.ensures.sound c.requires.running c.requires.goes c.requires.up e.done in
-    let more = (trap-told mid at done c.args.most c.execute_many.result.1 _ c.in_default-Some.is-1 e.trap).0 in
+    let more = (rw c.in_default-Some.is-1 at e.trap).0 in
     let told = c.trap_once.ensures in
     record {
       within = omega (arith, more);

@@ -1,9 +1,11 @@
-use Rattle.calls.proofs.Common.{arith}
-use Rattle.calls.proofs.Links.{link-acts, link-newless, link-oldless}
+use Rattle.calls.proofs.Common.{arith, refl, Link, link_row}
+use Rattle.calls.proofs.Links.{link-acts, link-newless}
+use Rattle.calls.proofs.Names.{pathless}
 use Rattle.calls.proofs.name_calls.link.Goals as goal
 
 pub returns-in_default : goal.returns-in_default
-returns-in_default g c = link-oldless c.args.kernel.now c.args.at c.requires c.in_default.ensures.path
+unfolding link_row
+returns-in_default g c = pathless c.args.kernel.now c.args.at c.requires _ Link refl c.in_default.ensures.path
 
 pub returns-in_default-copy_path : goal.returns-in_default-copy_path
 returns-in_default-copy_path g c = link-newless c.args.kernel.now c.args.at c.requires c.in-Some.ensures.path c.in_default-copy_path.ensures.path

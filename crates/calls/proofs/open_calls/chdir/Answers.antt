@@ -1,12 +1,14 @@
-use Rattle.calls.proofs.Common.{arith, Chdir}
+use Rattle.calls.proofs.Common.{arith, Chdir, refl, chdir_row}
 use Rattle.calls.proofs.Execs.{reaches}
-use Rattle.calls.proofs.Homes.{chdir-lost, chdir-pathless, read-runs}
+use Rattle.calls.proofs.Homes.{chdir-lost, read-runs}
 use Rattle.calls.proofs.Opens.{after-look}
 use Rattle.calls.proofs.Served.{err-lost}
+use Rattle.calls.proofs.Names.{pathless}
 use Rattle.calls.proofs.open_calls.chdir.Goals as goal
 
 pub returns-in_default : goal.returns-in_default
-returns-in_default g c = chdir-pathless c.args.kernel.now c.args.at c.requires c.in_default.ensures.path
+unfolding chdir_row
+returns-in_default g c = pathless c.args.kernel.now c.args.at c.requires _ Chdir refl c.in_default.ensures.path
 
 pub returns-in_default-2 : goal.returns-in_default-2
 returns-in_default-2 g c = chdir-lost c.args.kernel.now c.args.at c.requires _ _ _ c.in-Some.ensures.path c.in_ok-number.ensures c.in_default-2.is

@@ -1,14 +1,16 @@
-use Rattle.calls.proofs.Common.{ap, arith, ◌∙◌, Open, low}
+use Rattle.calls.proofs.Common.{ap, arith, ◌∙◌, Open, low, refl, open_row}
 use Rattle.calls.proofs.Homes.{read-runs}
-use Rattle.calls.proofs.Opens.{after-look, asked, open-pathless}
+use Rattle.calls.proofs.Opens.{after-look, asked}
 use Rattle.calls.proofs.Served.{err-lost}
+use Rattle.calls.proofs.Names.{pathless}
 use Rattle.calls.proofs.open_calls.open.Goals as goal
 
 pub copy_path-requires : goal.copy_path-requires
 copy_path-requires g c = record { active = c.requires.active; place = omega arith }
 
 pub returns-in_default : goal.returns-in_default
-returns-in_default g c = open-pathless c.args.kernel.now c.args.at c.requires c.in_default.ensures.path
+unfolding open_row
+returns-in_default g c = pathless c.args.kernel.now c.args.at c.requires _ Open refl c.in_default.ensures.path
 
 pub resolve-requires : goal.resolve-requires
 resolve-requires g c = record { running = c.requires.active; up = c.requires.up }

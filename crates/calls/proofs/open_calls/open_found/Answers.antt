@@ -1,6 +1,6 @@
-use Rattle.calls.proofs.Common.{sym, Open}
+use Rattle.calls.proofs.Common.{ap, sym, ◌∙◌, has_seat, Kernel, Open}
 use Rattle.calls.proofs.Homes.{read-runs}
-use Rattle.calls.proofs.Opens.{after-look, cut-runs, may-open-cut, open-closed, open-found, open-full, open-node, node-then, seat-cut}
+use Rattle.calls.proofs.Opens.{after-look, cut-runs, may-open-cut, open-closed, open-found, open-full, open-node, node-then}
 use Rattle.calls.proofs.Served.{err-lost}
 use Rattle.calls.proofs.open_calls.open_found.Goals as goal
 
@@ -19,7 +19,7 @@ cut-requires-clause-node g c = node-then c.args.kernel.now c.args.at c.requires.
 pub open_on-descriptor-requires : goal.open_on-descriptor-requires
 open_on-descriptor-requires g c = record {
   runs = cut-runs c.in_ok-cut.ensures c.args.at (read-runs c.args.kernel.now _ c.args.at c.in_ok-told.ensures.0 c.requires.runs);
-  seat = seat-cut c.args.kernel.now c.args.at c.requires.runs c.args.number c.args.flags c.requires.asks c.stat.new.self c.in_ok-told.told c.in_ok-told.ensures (sym c.if-not-may_open.ensures) c.cut.new.kernel c.in_ok-cut.ensures (sym c.if-not-has_seat.ensures);
+  seat = ap (λ (y : Kernel). has_seat y c.args.at) c.in_ok-cut.ensures.same ∙ sym c.if-not-has_seat.ensures;
   may = may-open-cut c.args.kernel.now c.args.at c.requires.runs c.args.number c.args.flags c.requires.asks c.stat.new.self c.in_ok-told.told c.in_ok-told.ensures (sym c.if-not-may_open.ensures) c.cut.new.kernel c.in_ok-cut.ensures;
 }
 

@@ -1,5 +1,5 @@
-use Rattle.calls.proofs.Common.{refl, sym}
-use Rattle.calls.proofs.Opens.{create-fails, created-openable, created-runs, created-seat, open-absent, open-created, open-new-full}
+use Rattle.calls.proofs.Common.{ap, refl, sym, ◌∙◌, has_seat, Kernel}
+use Rattle.calls.proofs.Opens.{create-fails, created-openable, created-runs, open-absent, open-created, open-new-full}
 use Rattle.calls.proofs.open_calls.open_new.Goals as goal
 
 pub returns-then-not-creates : goal.returns-then-not-creates
@@ -14,7 +14,7 @@ create-made-requires g c = record { running = c.requires.runs.active; up = c.req
 pub open_on-descriptor-requires : goal.open_on-descriptor-requires
 open_on-descriptor-requires g c = record {
   runs = created-runs c.args.kernel.now c.args.at c.requires.runs c.args.path.now c.args.flags c.requires.asks (sym c.if-not-creates.ensures) c.create-made.ensures.rest c.is_sound.ensures.sound c.create-made.ensures.made c.in-Ok.number c.in-Ok.is;
-  seat = created-seat c.args.kernel.now c.args.at c.requires.runs c.args.path.now c.args.flags c.requires.asks (sym c.if-not-creates.ensures) c.create-made.ensures.rest c.is_sound.ensures.sound c.create-made.ensures.made c.in-Ok.number c.in-Ok.is (sym c.if-not-has_seat.ensures);
+  seat = ap (λ (y : Kernel). has_seat y c.args.at) c.create-made.ensures.rest ∙ sym c.if-not-has_seat.ensures;
   may = created-openable c.args.kernel.now c.args.at c.requires.runs c.args.path.now c.args.flags c.requires.asks (sym c.if-not-creates.ensures) c.create-made.ensures.rest c.is_sound.ensures.sound c.create-made.ensures.made c.in-Ok.number c.in-Ok.is _ refl;
 }
 

@@ -1,5 +1,4 @@
 use Rattle.std.proofs.Common.{Some, ap, sym, ◌∙◌}
-use Rattle.calls.proofs.Woken.{comes-waking}
 use Rattle.calls.proofs.Kills.{kills-none, kills-other, kills-self}
 use Rattle.calls.proofs.process_calls.kill.Goals as goal
 
@@ -10,4 +9,4 @@ pub returns-then-place-at : goal.returns-then-place-at
 returns-then-place-at g c = kills-self c.requires (rw c.argument.ensures at (sym c.in-Some.ensures ∙ ap Some c.if-place-at.true))
 
 pub returns : goal.returns
-returns g c = rw c.mark.ensures (comes-waking (kills-other c.requires c.in-Some.place (rw c.argument.ensures at (sym c.in-Some.ensures)) c.if-place-at.false) c.mark.new.self.table.awake)
+returns g c = kills-other c.requires (rw c.argument.ensures at (sym c.in-Some.ensures)) c.mark.ensures c.is_sound.ensures.sound

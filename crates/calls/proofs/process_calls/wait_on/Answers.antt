@@ -15,4 +15,4 @@ write_status-requires g c =
 pub returns : goal.returns
 returns g c =
     let fits : SFits w32 c.in-Some.reaped.status = search rules in
-    rw c.from.ensures (collects c.requires.runs c.pid-parent.result c.pid-parent.ensures c.args.pending c.requires.number c.in-Some.ensures.reaped c.in-Some.ensures.collected c.write_status.new.kernel c.is_sound.ensures.sound (rw (to_z-of_z w32 c.in-Some.reaped.status fits) at c.write_status.ensures))
+    rw c.from.ensures (collects c.requires.runs c.pid-parent.result c.pid-parent.ensures c.args.pending c.requires.number c.in-Some.ensures.reaped c.in-Some.ensures.collected c.is_sound.ensures.sound (rw (to_z-of_z w32 c.in-Some.reaped.status fits) at c.write_status.ensures))

@@ -6,7 +6,7 @@ left : {m n l : ℕ} (d : ℕ) → m ≡ n → n ≡ l → m - d ≡ l - d
 left d e f = ap (λ (x : ℕ). x - d) (e ∙ f)
 
 pub returns-then-not-has_end : goal.returns-then-not-has_end
-returns-then-not-has_end g c = sends-closed c.args.kernel.now c.args.at c.args.pending c.args.pipe c.requires _ c.has_end.ensures c.if-not-has_end.true
+returns-then-not-has_end g c = sends-closed c.args.kernel.now c.args.at c.args.pending c.args.pipe c.requires c.has_end.ensures c.if-not-has_end.true
 
 pub overflow_add-address : goal.overflow_add-address
 overflow_add-address g c = let fits = sends-fits c.args.kernel.now c.args.at c.args.pending c.args.pipe c.requires c.pages_are_whole.ensures.sized (left c.args.pending.done c.from.ensures c.low.ensures) c.pages_are_whole.ensures.few in omega (arith, fits)
