@@ -1,20 +1,20 @@
 -- Files at rest keep the rules of a running machine.
-use Rattle.std.proofs.Common.{◌≡◌, ◌≢◌, ℕ, zero, suc, ◌≤◌, Bool, true, false, cond, List, None, Option, Some, inl, inr, get_or, ap, sym, refl, ◌∙◌, arith, subst}
-use Rattle.std.specs.Prelude.{count_by, is_some, option_map, unwrap_or, ◌==◌}
+use Rattle.std.proofs.Common.{◌≡◌, ◌≢◌, ℕ, zero, suc, ◌≤◌, Bool, true, false, cond, None, Option, Some, inl, inr, get_or, ap, sym, refl, ◌∙◌, arith, subst}
+use Rattle.std.specs.Prelude.{is_some, option_map, unwrap_or, ◌==◌}
 use Rattle.std.proofs.lemmas.Bool.{cases_eq, cond-false, cond-true, eq-eqb, false≢true, ne_eqb}
 use Rattle.unixmodel.specs.Files.{Entry, Files, Node, is_directory, links_of, slot}
 use Rattle.unixmodel.specs.Files.Node.{Directory}
-use Rattle.unixmodel.specs.Image.{KeepsNode, KeepsRules, all_entries, entries_of, is_directory_at, names_of, parent_of, subdirectories}
-use Rattle.imagerules.specs.Places.{EntriesAt}
+use Rattle.unixmodel.specs.Image.{KeepsNode, KeepsRules, all_entries, entries_of, is_directory_at, names_of, parent_of}
+use Rattle.imagerules.proofs.Denoting.{EntriesAt-from}
 use Rattle.imagecheck.specs.Reach.{Climbs, ancestor}
 use Rattle.imagemake.proofs.MadeLists.{count_by-none}
 use Rattle.imagemake.proofs.MadeNames.{entry-numbers}
 use Rattle.imagecheck.proofs.Reaching.{Climbs-reached, parent_root}
-use Rattle.names.specs.Rules.{HasRoot, IsRanked, KeepsLive, KeepsTree, entries, folders, names_for}
+use Rattle.names.specs.Rules.{HasRoot, IsRanked, KeepsLive, KeepsTree, entries, names_for}
 use Rattle.names.proofs.Counts.{names_by-le}
 use Rattle.mount.proofs.Counted.{good-count, once-count}
 use Rattle.mount.proofs.Parents.{all-entries, parent-names, parent-only}
-use Rattle.mount.proofs.ToRules.{naming-directory}
+use Rattle.mount.proofs.ToRules.{folders-are, naming-directory}
 
 -- ---- how many steps lead to the root, of at most so many
 
@@ -41,12 +41,8 @@ level-same files (suc j) (suc k) n g h = elim (cases_eq n 1) [
 ]
 
 module _ {files : Files} (rules : KeepsRules files) where
-  entries-rules : (n : ℕ) (o : Option Node) → KeepsNode files n o → EntriesAt files n o
-  entries-rules n (Some (Directory links places)) k = record { own = k.own; parent = k.parent; names = k.names; once = k.once; numbers = k.numbers; named = k.named }
-  entries-rules n _ k = tt
-
   climbs : (n : ℕ) → is_directory_at files n ≡ true → Climbs files n
-  climbs = Climbs-reached files (λ n. entries-rules n (slot files n) (rules.nodes n)) rules.reached
+  climbs = Climbs-reached files (λ n. EntriesAt-from files n (slot files n) (rules.nodes n)) rules.reached
 
   -- ---- how many names there are
 
@@ -66,10 +62,6 @@ module _ {files : Files} (rules : KeepsRules files) where
 
   -- ---- directories
 
-  folders-are : (d links : ℕ) (places : List (Option Entry)) → slot files d ≡ Some (Directory links places) → folders files (entries places) ≡ subdirectories files d
-  unfolding folders subdirectories
-  folders-are d links places here = ap (λ o. count_by (λ (e : Entry). is_directory_at files e.number) (entries_of o)) (sym here)
-
   live-from : (n : ℕ) (o : Option Node) → slot files n ≡ o → KeepsNode files n o → KeepsLive files n o
   live-from n None here k = tt
   live-from n (Some (Directory zero places)) here k = absurd (let c = k.counted in omega arith)
@@ -83,7 +75,7 @@ module _ {files : Files} (rules : KeepsRules files) where
     };
     good = good-count (entries places) k.names;
     once = once-count (entries places) k.once;
-    counted = let c = k.counted in omega (arith, folders-are n (suc links) places here);
+    counted = let c = k.counted in omega (arith, folders-are files n (suc links) places here);
   }
   live-from n _ here k = k.most
 

@@ -4,12 +4,12 @@ use Rattle.std.specs.Prelude.{All, filter, option_map, slice_get, unwrap_or, ◌
 use Rattle.std.specs.List.{range_with_len}
 use Rattle.std.proofs.lemmas.Bool.{cases_lt, cond-false, eq-eqb, eqb-true, ne_eqb}
 use Rattle.std.proofs.lemmas.List.{get_or_past}
-use Rattle.std.proofs.lemmas.List.Elements.{All-cons, All-filter, All-head, All-map, All-nil, filter_passes}
-use Rattle.std.proofs.lemmas.List.FromFn.{get_or-range_with_len, length-range_with_len}
+use Rattle.std.proofs.lemmas.List.Elements.{All-filter, All-head, All-map, filter_passes}
 use Rattle.std.proofs.lemmas.List.Sums.{length-filter}
 use Rattle.unixmodel.specs.Files.{Entry, Files, slot}
 use Rattle.unixmodel.specs.Image.{all_entries, entries_of, names_number, names_of, parent_of}
-use Rattle.imagerules.proofs.Lists.{All-flat_map, All-from_flat_map, All-from_map, All-from_passing}
+use Rattle.imagerules.proofs.Lists.{All-flat_map, All-from_passing}
+use Rattle.imagecheck.proofs.Reaching.{all_alone, entries_at}
 use Rattle.names.specs.Rules.{names_by}
 use Rattle.names.proofs.Counts.{count_by-item, counted-one, names_by-none}
 use Rattle.mount.proofs.Counted.{counted-among}
@@ -23,14 +23,6 @@ all-entries files P h =
     let at = get_or (range_with_len 0 (length files)) k d in
     All-map P (λ (x : Entry). (at, x)) (entries_of (slot files at)) (h at))
 
-pub entries-at : (files : Files) (P : ℕ × Entry → Type 0) → All P (all_entries files) → (d : ℕ) → d < length files → All (λ e. P (d, e)) (entries_of (slot files d))
-unfolding all_entries
-entries-at files P h d l =
-    let e : get_or (range_with_len 0 (length files)) d 0 ≡ d = get_or-range_with_len 0 (length files) d 0 l ∙ omega arith in
-    let there = All-from_flat_map P (λ d. map (λ e. (d, e)) (entries_of (slot files d))) (range_with_len 0 (length files)) h d 0 (omega (arith, length-range_with_len 0 (length files))) in
-    let here : All P (map (λ e. (d, e)) (entries_of (slot files d))) = subst (λ m. All P (map (λ e. (m, e)) (entries_of (slot files m)))) {x = get_or (range_with_len 0 (length files)) d 0} e there in
-    All-from_map P (λ (y : Entry). (d, y)) (entries_of (slot files d)) here
-
 -- ---- the first of those that name n
 
 abbrev first_of_them : List (ℕ × Entry) → ℕ
@@ -39,10 +31,6 @@ first_of_them xs = unwrap_or (option_map (λ (y : ℕ × Entry). y.0) (slice_get
 parent-first : (files : Files) (n : ℕ) → n ≢ 1 → parent_of files n ≡ first_of_them (filter (names_number n) (all_entries files))
 unfolding parent_of
 parent-first files n other = cond-false (n == 1) 1 (first_of_them (filter (names_number n) (all_entries files))) (ne_eqb n 1 other)
-
-all-alone : (xs : List (ℕ × Entry)) → length xs ≡ 1 → All (λ x. first_of_them xs ≡ x.0) xs
-all-alone (x ∷ []) h = All-cons (λ (y : ℕ × Entry). x.0 ≡ y.0) x [] refl (All-nil (λ (y : ℕ × Entry). x.0 ≡ y.0))
-all-alone _ h = absurd (omega arith)
 
 naming-within : (files : Files) (d n : ℕ) → 1 ≤ names_by (slot files d) n → d < length files
 naming-within files d n h = elim (cases_lt d (length files)) [
@@ -55,11 +43,11 @@ pub parent-only : (files : Files) (n d : ℕ) → n ≢ 1 → names_of files n �
 unfolding names_of names_by
 parent-only files n d other once h =
     let named = filter (names_number n) (all_entries files) in
-    let only = All-from_passing (λ x. first_of_them named ≡ x.0) (names_number n) (all_entries files) (all-alone named (length-filter (names_number n) (all_entries files) ∙ once)) in
+    let only = All-from_passing (λ x. first_of_them named ≡ x.0) (names_number n) (all_entries files) (all_alone named (length-filter (names_number n) (all_entries files) ∙ once)) in
     let nobody : Entry = record { name = []; number = 0 } in
     let at = counted-among (λ (e : Entry). e.number == n) (entries_of (slot files d)) nobody h in
     parent-first files n other
-    ∙ entries-at files (λ x. names_number n x ≡ true → first_of_them named ≡ x.0) only d (naming-within files d n h) at.place nobody at.within at.passes
+    ∙ entries_at files (λ x. names_number n x ≡ true → first_of_them named ≡ x.0) only d (naming-within files d n h) at.place nobody at.within at.passes
 
 first-names : (files : Files) (n : ℕ) (xs : List (ℕ × Entry)) → 1 ≤ length xs → All (λ x. 1 ≤ names_by (slot files x.0) x.1.number) xs → All (λ x. names_number n x ≡ true) xs → 1 ≤ names_by (slot files (first_of_them xs)) n
 first-names files n [] some by named = absurd (omega arith)

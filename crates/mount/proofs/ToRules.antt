@@ -4,8 +4,9 @@ use Rattle.std.specs.Prelude.{count_by, option_map, unwrap_or, ◌==◌}
 use Rattle.std.proofs.lemmas.Bool.{cases_eq, cond-false, false≢true, ne_eqb}
 use Rattle.unixmodel.specs.Files.{Entry, Files, Node, dot_dot, is_directory, slot}
 use Rattle.unixmodel.specs.Files.Node.{Directory}
-use Rattle.unixmodel.specs.Image.{KeepsNode, KeepsRules, entries_of, is_directory_at, names_of, parent_of, subdirectories}
+use Rattle.unixmodel.specs.Image.{KeepsRules, entries_of, is_directory_at, names_of, parent_of, subdirectories}
 use Rattle.imagerules.specs.Places.{EntriesAt, FitsEntries, HasEntries, HasLinks, LinksAt}
+use Rattle.imagerules.proofs.Denoting.{KeepsNode-from}
 use Rattle.imagecheck.specs.Reach.{Climbs}
 use Rattle.imagecheck.proofs.Reaching.{Climbs-child, IsReached-from, parent_root}
 use Rattle.names.specs.Rules.{IsLive, KeepsLive, KeepsTree, entries, folders, names_by, names_for}
@@ -24,11 +25,11 @@ directory-from files d _ at n h = absurd (omega arith)
 pub naming-directory : (files : Files) (d n : ℕ) → 1 ≤ names_by (slot files d) n → is_directory_at files d ≡ true
 naming-directory files d n h = directory-from files d (slot files d) refl n h
 
-module _ {files : Files} (keeps : KeepsTree files) (linked : HasLinked files) where
-  folders-are : (d links : ℕ) (places : List (Option Entry)) → slot files d ≡ Some (Directory links places) → folders files (entries places) ≡ subdirectories files d
-  unfolding folders subdirectories
-  folders-are d links places here = ap (λ o. count_by (λ (e : Entry). is_directory_at files e.number) (entries_of o)) (sym here)
+pub folders-are : (files : Files) (d links : ℕ) (places : List (Option Entry)) → slot files d ≡ Some (Directory links places) → folders files (entries places) ≡ subdirectories files d
+unfolding folders subdirectories
+folders-are files d links places here = ap (λ o. count_by (λ (e : Entry). is_directory_at files e.number) (entries_of o)) (sym here)
 
+module _ {files : Files} (keeps : KeepsTree files) (linked : HasLinked files) where
   module _ (d links : ℕ) (places : List (Option Entry)) (here : slot files d ≡ Some (Directory (suc links) places)) where
     live : IsLive files d links places
     live = subst (KeepsLive files d) here (keeps.nodes d)
@@ -53,7 +54,7 @@ module _ {files : Files} (keeps : KeepsTree files) (linked : HasLinked files) wh
     }
 
     counted : suc links ≡ 1 + subdirectories files d
-    counted = omega (arith, live.counted, folders-are d (suc links) places here)
+    counted = omega (arith, live.counted, folders-are files d (suc links) places here)
 
   entries-fit : (n : ℕ) (o : Option Node) → slot files n ≡ o → EntriesAt files n o
   entries-fit n (Some (Directory zero places)) here = absurd (let some = linked n (Directory zero places) here in omega arith)
@@ -94,15 +95,10 @@ module _ {files : Files} (keeps : KeepsTree files) (linked : HasLinked files) wh
 
   -- ---- the rules
 
-  node-rules : (n : ℕ) (o : Option Node) → EntriesAt files n o → LinksAt files n o → KeepsNode files n o
-  node-rules n None e l = tt
-  node-rules n (Some (Directory links places)) e l = record { own = e.own; parent = e.parent; names = e.names; once = e.once; numbers = e.numbers; named = e.named; counted = l }
-  node-rules n _ e l = record { counted = l.0; least = l.1; most = l.2 }
-
   pub KeepsRules-live : KeepsRules files
   KeepsRules-live = record {
     root = ap (λ o. unwrap_or (option_map is_directory o) false) keeps.root.here;
     sizes = keeps.sizes;
-    nodes = λ n. node-rules n (slot files n) (HasEntries-live n) (HasLinks-live n);
+    nodes = λ n. KeepsNode-from files n (slot files n) (HasEntries-live n) (HasLinks-live n);
     reached = IsReached-from files HasEntries-live HasLinks-live Climbs-live;
   }
