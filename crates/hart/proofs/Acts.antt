@@ -1,23 +1,8 @@
 -- Operations without an access, and those with one.
-use Rattle.std.proofs.Common.{◌≡◌, ◌==◌, ◌%◌, ℕ, List, [], length, Option, Some, None, Ok, Err, refl, sym, ap, inl, false, true, Bool}
-use Rattle.std.specs.Prelude.{option_map, slice_index_or, slice_set}
-use Rattle.unixmodel.specs.declared.instr.LoadOp.{LoadOp}
-use Rattle.unixmodel.specs.declared.instr.StoreOp.{StoreOp}
-use Rattle.unixmodel.specs.declared.trap.Access.{Access}
-use Rattle.unixmodel.specs.declared.trap.Access.TheVariants.{Load, Store}
-use Rattle.unixmodel.specs.declared.trap.Cause.TheVariants.{LoadMisaligned, LoadPageFault, StoreMisaligned, StorePageFault}
-use Rattle.unixmodel.specs.Meaning.{Effect, load_from, load_size, store_size}
-use Rattle.unixmodel.specs.Memory.{overwrite}
-use Rattle.unixmodel.specs.Numbers.{le}
-use Rattle.unixmodel.specs.Translation.{Held, IsAnswer, IsKept, place_in}
-use Rattle.hart.specs.Acts.{Acts, Leaves, Turns}
-use Rattle.hart.specs.Answered.{Answers, Sight, given, load_by, seen, store_by, stored}
-use Rattle.hart.specs.Operations.{op_by}
-use Rattle.hart.specs.declared.act.Next.{Next}
-use Rattle.hart.specs.declared.act.Next.TheVariants.{Behind, Stop}
-use Rattle.hart.specs.declared.operation.Op.{Op}
+use Rattle.hart.proofs.Common.{◌≡◌, ◌==◌, ◌%◌, ℕ, List, [], length, Option, Some, None, Ok, Err, refl, sym, ap, inl, false, true, Bool, option_map, slice_index_or, slice_set, LoadOp}
+use Rattle.hart.proofs.Common.{StoreOp, Access, Load, Store, LoadMisaligned, LoadPageFault, StoreMisaligned, StorePageFault, Effect, load_from, load_size, store_size, overwrite, le}
+use Rattle.hart.proofs.Common.{Held, IsAnswer, IsKept, place_in, Acts, Leaves, Turns, Answers, Sight, given, load_by, seen, store_by, stored, op_by, Next, Behind, Stop, Op, Hart}
 use Rattle.hart.specs.declared.operation.Op.TheVariants as op
-use Rattle.hart.specs.declared.state.Hart.{Hart}
 use Rattle.hart.proofs.Steps.{walked, with_answer, with_answer-allowed, with_answer-itself}
 
 turned-leaves : (effect : Effect) (answers : Answers) (next : Next) (pc : ℕ) (old new : Hart) (ram : List (List ℕ)) → Turns effect next pc old new → Leaves effect answers next pc old new ram ram

@@ -1,22 +1,13 @@
 -- The frames after a store show the memory after it, and nothing else is new.
-use Rattle.std.proofs.Common.{Bool, true, false, cond, arith, refl, ap, sym, ◌∙◌, ◌≡◌, ◌≢◌, ℕ, suc, ◌+◌, ◌-◌, ◌/◌, ◌%◌, ◌<◌, ◌≤◌, ◌⊎◌, inl, inr, List, [], ◌∷◌, ◌++◌, append_assoc, length, length-set, take, drop, set, get_or, get_or-set_same, get_or-set_other, Option, Some, None, Ok}
-use Rattle.std.specs.Prelude.{slice_get, slice_set, slice_index_or, option_map}
+use Rattle.hart.proofs.Common.{Bool, true, false, cond, arith, refl, ap, sym, ◌∙◌, ◌≡◌, ◌≢◌, ℕ, suc, ◌+◌, ◌-◌, ◌/◌, ◌%◌, ◌<◌, ◌≤◌, ◌⊎◌, inl, inr, List, [], ◌∷◌, ◌++◌, append_assoc, length, length-set}
+use Rattle.hart.proofs.Common.{take, drop, set, get_or, get_or-set_same, get_or-set_other, Option, Some, None, Ok, slice_get, slice_set, slice_index_or, option_map, cases_eq, get_or_from_slice_get}
+use Rattle.hart.proofs.Common.{slice_get-get_or, slice_get-map, slice_get_within, Store, cycle, Change, Computed, Bytes, Nothing, Memory, Page, overwrite, permits, permitted, write_bytes, write_from}
+use Rattle.hart.proofs.Common.{IsMemory, frame_of, put, put_bytes, Mapped, memory_of, page_in, IsAlone, IsSound, IsStore, Stores, WritesOnly, WritesPage, changed, put_in, IsSize}
 use Rattle.std.proofs.Math.Seq.{drop-cons}
-use Rattle.std.proofs.lemmas.Bool.{cases_eq}
 use Rattle.std.proofs.lemmas.List.{drop_all, length-map, same_lists, set_split, take_all}
-use Rattle.std.proofs.lemmas.Option.{get_or_from_slice_get, slice_get-get_or, slice_get-map, slice_get_within}
-use Rattle.unixmodel.specs.declared.trap.Access.TheVariants.{Store}
-use Rattle.unixmodel.specs.Cycle.{cycle}
-use Rattle.unixmodel.specs.Meaning.{Change, Computed}
-use Rattle.unixmodel.specs.Meaning.Change.{Bytes, Nothing}
-use Rattle.unixmodel.specs.Memory.{Memory, Page, overwrite, permits, permitted, write_bytes, write_from}
 use Rattle.unixmodel.specs.Next.{memory_after}
-use Rattle.ram.specs.Memory.{IsMemory, frame_of, put, put_bytes}
 use Rattle.ram.proofs.MemoryLemmas.{length-put_bytes}
-use Rattle.sv39.specs.Mapping.{Mapped, memory_of, page_in}
-use Rattle.hart.specs.Changes.{IsAlone, IsSound, IsStore, Stores, WritesOnly, WritesPage, changed, put_in}
 use Rattle.hart.proofs.CycleLemmas.{cycle-stores}
-use Rattle.hart.specs.Sizes.{IsSize}
 
 -- ---- what a store needs
 

@@ -1,21 +1,10 @@
 -- What an instruction leaves of the memory, whichever it is.
-use Rattle.std.proofs.Common.{Bool, true, false, cond, arith, refl, ap, ◌≡◌, ℕ, zero, suc, ◌*◌, ◌/◌, ◌%◌, inl, inr, subst, List, length, Option, Some, None, Ok, Err}
-use Rattle.std.specs.Prelude.{◌==◌, slice_index}
+use Rattle.hart.proofs.Common.{Bool, true, false, cond, arith, refl, ap, ◌≡◌, ℕ, zero, suc, ◌*◌, ◌/◌, ◌%◌, inl, inr, subst, List, length, Option, Some, None, Ok, Err, ◌==◌}
+use Rattle.hart.proofs.Common.{slice_index, Instr, LoadOp, StoreOp, Fetch, Load, Store, IllegalInstruction, InstructionPageFault, act_word, cycle, fetched, Computed, Effect, act}
+use Rattle.hart.proofs.Common.{is_taken, load_from, load_size, store_size, store_to, trap, Memory, Page, bytes_at, page_for, extend, le, number, plus, instruction_of, Stores, IsSize}
 use Rattle.std.proofs.lemmas.Bool.Decides.{nat_tests}
-use Rattle.unixmodel.specs.declared.instr.Instr.{Instr}
-use Rattle.unixmodel.specs.declared.instr.LoadOp.{LoadOp}
-use Rattle.unixmodel.specs.declared.instr.StoreOp.{StoreOp}
 use Rattle.unixmodel.specs.declared.instr.StoreOp.TheVariants.{Sb, Sd, Sh, Sw}
-use Rattle.unixmodel.specs.declared.trap.Access.TheVariants.{Fetch, Load, Store}
 use Rattle.unixmodel.specs.declared.trap.Cause.{Cause}
-use Rattle.unixmodel.specs.declared.trap.Cause.TheVariants.{IllegalInstruction, InstructionPageFault}
-use Rattle.unixmodel.specs.Cycle.{act_word, cycle, fetched}
-use Rattle.unixmodel.specs.Meaning.{Computed, Effect, act, is_taken, load_from, load_size, store_size, store_to, trap}
-use Rattle.unixmodel.specs.Memory.{Memory, Page, bytes_at, page_for}
-use Rattle.unixmodel.specs.Numbers.{extend, le, number, plus}
-use Rattle.unixmodel.specs.Words.{instruction_of}
-use Rattle.hart.specs.Changes.{Stores}
-use Rattle.hart.specs.Sizes.{IsSize}
 use Rattle.unixmodel.specs.declared.instr.Instr.TheVariants as instr
 
 -- ---- what holds of traps and of each instruction's effect holds of a cycle's

@@ -1,14 +1,6 @@
 -- What a caller of a step goes on with.
-use Rattle.std.proofs.Common.{◌≡◌, ◌⊎◌, inl, inr, ℕ, List, Option, Some, None, Ok, Err, refl}
-use Rattle.unixmodel.specs.declared.trap.Trap.{Trap}
-use Rattle.unixmodel.specs.Cycle.{cycle}
-use Rattle.unixmodel.specs.Meaning.{Computed, Effect}
-use Rattle.ram.specs.Memory.{IsMemory}
-use Rattle.sv39.specs.Mapping.{Mapped, memory_of}
+use Rattle.hart.proofs.Common.{◌≡◌, ◌⊎◌, inl, inr, ℕ, List, Option, Some, None, Ok, Err, refl, Trap, cycle, Computed, Effect, IsMemory, Mapped, memory_of, IsSound, WritesOnly, changed, Follows, Hart}
 use Rattle.hart.proofs.ChangeLemmas.{cycle-only}
-use Rattle.hart.specs.Changes.{IsSound, WritesOnly, changed}
-use Rattle.hart.specs.Follows.{Follows}
-use Rattle.hart.specs.declared.state.Hart.{Hart}
 
 -- an instruction was done
 pub record IsDone (effect : Effect) (mapping : List Mapped) (result : Option Trap) (old new : Hart) (ram ram' : List (List ℕ)) : Type 0 where

@@ -1,3 +1,4 @@
+mod Common
 pub mod Bytes
 pub mod Mappings
 pub mod Products

@@ -1,16 +1,7 @@
 -- What is done at a memory that lets fewer stores through.
-use Rattle.std.proofs.Common.{◌≡◌, ℕ, ◌%◌, ◌⊎◌, inl, inr, Bool, true, false, cond, List, Option, Some, None, Ok, Err, subst, refl, ap, sym, ◌∙◌}
-use Rattle.std.specs.Prelude.{◌==◌, option_map, slice_index}
-use Rattle.unixmodel.specs.declared.instr.Instr.{Instr}
+use Rattle.hart.proofs.Common.{◌≡◌, ℕ, ◌%◌, ◌⊎◌, inl, inr, Bool, true, false, cond, List, Option, Some, None, Ok, Err, subst, refl, ap, sym, ◌∙◌, ◌==◌, option_map, slice_index, Instr, LoadOp, Fetch, Load, Store, StoreMisaligned}
+use Rattle.hart.proofs.Common.{StorePageFault, act_word, cycle, fetched, Effect, act, load_from, load_size, store_size, store_to, trap, Memory, Page, bytes_at, page_for, extend, le, number, plus, instruction_of}
 use Rattle.unixmodel.specs.declared.instr.Instr.TheVariants as instr
-use Rattle.unixmodel.specs.declared.instr.LoadOp.{LoadOp}
-use Rattle.unixmodel.specs.declared.trap.Access.TheVariants.{Fetch, Load, Store}
-use Rattle.unixmodel.specs.declared.trap.Cause.TheVariants.{StoreMisaligned, StorePageFault}
-use Rattle.unixmodel.specs.Cycle.{act_word, cycle, fetched}
-use Rattle.unixmodel.specs.Meaning.{Effect, act, load_from, load_size, store_size, store_to, trap}
-use Rattle.unixmodel.specs.Memory.{Memory, Page, bytes_at, page_for}
-use Rattle.unixmodel.specs.Numbers.{extend, le, number, plus}
-use Rattle.unixmodel.specs.Words.{instruction_of}
 
 -- two pages with the same bytes, or none
 abbrev pub Alike : Option Page → Option Page → Type 0

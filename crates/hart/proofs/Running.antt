@@ -1,25 +1,8 @@
 -- A program that goes on, one instruction after the other.
-use Rattle.std.proofs.Common.{◌≡◌, ℕ, suc, ◌/◌, List, length, Option, Some, None, Ok, Err, refl, sym, ap, ◌∙◌, inl, inr, subst}
-use Rattle.std.specs.Prelude.{option_map, slice_get}
-use Rattle.unixmodel.specs.declared.trap.Access.{Access}
-use Rattle.unixmodel.specs.declared.trap.Access.TheVariants.{Fetch}
-use Rattle.unixmodel.specs.declared.trap.Cause.TheVariants.{InstructionPageFault}
-use Rattle.unixmodel.specs.declared.trap.Trap.{Trap}
-use Rattle.unixmodel.specs.Cycle.{act_word, cycle, fetched}
-use Rattle.unixmodel.specs.Meaning.{Computed, Effect, trap}
-use Rattle.unixmodel.specs.Memory.{Memory}
-use Rattle.unixmodel.specs.Translation.{Held, HoldsInside, IsAnswer, IsKept, place_in}
-use Rattle.unixmodel.specs.Words.{instruction_of}
-use Rattle.ram.specs.Memory.{IsMemory}
-use Rattle.sv39.specs.Mapping.{Mapped, Shows, WalksTo, allowed, frame_for, memory_of, page_in}
+use Rattle.hart.proofs.Common.{◌≡◌, ℕ, suc, ◌/◌, List, length, Option, Some, None, Ok, Err, refl, sym, ap, ◌∙◌, inl, inr, subst, option_map, slice_get, Access, Fetch, InstructionPageFault, Trap, act_word}
+use Rattle.hart.proofs.Common.{cycle, fetched, Computed, Effect, trap, Memory, Held, HoldsInside, IsAnswer, IsKept, place_in, instruction_of, IsMemory, Mapped, Shows, WalksTo, allowed, frame_for, memory_of}
+use Rattle.hart.proofs.Common.{page_in, walk_page-inside, Acts, Leaves, pc_after, trap_of, Answers, Sight, seen, word_by, IsSound, Stores, changed, Goes, Point, Reaches, RunsTo, word_in, Next, Hart}
 use Rattle.sv39.proofs.Coherence.{coherent-kept, shows-coherent}
-use Rattle.sv39.proofs.WalkLemmas.{walk_page-inside}
-use Rattle.hart.specs.Acts.{Acts, Leaves, pc_after, trap_of}
-use Rattle.hart.specs.Answered.{Answers, Sight, seen, word_by}
-use Rattle.hart.specs.Changes.{IsSound, Stores, changed}
-use Rattle.hart.specs.Runs.{Goes, Point, Reaches, RunsTo, word_in}
-use Rattle.hart.specs.declared.act.Next.{Next}
-use Rattle.hart.specs.declared.state.Hart.{Hart}
 use Rattle.hart.proofs.ChangeLemmas.{cycle-only}
 use Rattle.hart.proofs.CycleLemmas.{cycle-stores}
 use Rattle.hart.proofs.Mappings.{page_for-memory_of}

@@ -1,29 +1,12 @@
 -- Steps whose accesses a translator answers.
-use Rattle.std.proofs.Common.{◌≡◌, ℕ, ◌-◌, ◌/◌, ◌%◌, List, [], Option, Some, None, Ok, Err, refl, arith, ap, sym, subst, ◌∙◌, inl, inr, Bool, true, false, ◌&&◌, ◌==◌}
-use Rattle.std.specs.Prelude.{if◌then◌else◌, IfSome, slice_get, slice_index, slice_index_or, slice_set, option_map}
-use Rattle.std.proofs.lemmas.Bool.{and_parts, eqb-true, eq-eqb}
-use Rattle.unixmodel.specs.declared.instr.Instr.{Instr}
-use Rattle.unixmodel.specs.declared.instr.LoadOp.{LoadOp}
-use Rattle.unixmodel.specs.declared.instr.StoreOp.{StoreOp}
-use Rattle.unixmodel.specs.declared.trap.Access.{Access}
-use Rattle.unixmodel.specs.declared.trap.Access.TheVariants.{Fetch, Load, Store}
-use Rattle.unixmodel.specs.declared.trap.Cause.TheVariants.{IllegalInstruction, InstructionPageFault, LoadMisaligned, StoreMisaligned, StorePageFault}
-use Rattle.unixmodel.specs.declared.trap.Trap.{Trap}
-use Rattle.unixmodel.specs.Cycle.{act_word, cycle, fetched}
-use Rattle.unixmodel.specs.Meaning.{Change, Computed, Effect, act, load_from, load_size, store_size, trap}
-use Rattle.unixmodel.specs.Meaning.Change.{Bytes, Nothing}
-use Rattle.unixmodel.specs.Memory.{Memory, Page, bytes_at, overwrite, page_for}
-use Rattle.unixmodel.specs.Numbers.{extend, le, number, plus}
-use Rattle.unixmodel.specs.Translation.{Held, IsAnswer, IsKept, place_in, walk_page}
-use Rattle.unixmodel.specs.Words.{instruction_of}
-use Rattle.sv39.specs.Mapping.{Mapped, Shows, allowed, frame_for, memory_of, page_in}
+use Rattle.hart.proofs.Common.{◌≡◌, ℕ, ◌-◌, ◌/◌, ◌%◌, List, [], Option, Some, None, Ok, Err, refl, arith, ap, sym, subst, ◌∙◌, inl, inr, Bool, true, false, ◌&&◌, ◌==◌, if◌then◌else◌, IfSome, slice_get}
+use Rattle.hart.proofs.Common.{slice_index, slice_index_or, slice_set, option_map, and_parts, eqb-true, eq-eqb, Instr, LoadOp, StoreOp, Access, Fetch, Load, Store, IllegalInstruction, InstructionPageFault}
+use Rattle.hart.proofs.Common.{LoadMisaligned, StoreMisaligned, StorePageFault, Trap, act_word, cycle, fetched, Change, Computed, Effect, act, load_from, load_size, store_size, trap, Bytes, Nothing, Memory, Page}
+use Rattle.hart.proofs.Common.{bytes_at, overwrite, page_for, extend, le, number, plus, Held, IsAnswer, IsKept, place_in, walk_page, instruction_of, Mapped, Shows, allowed, frame_for, memory_of, page_in, Answers}
+use Rattle.hart.proofs.Common.{AreAllowed, HasEffect, IsStep, Sight, act_by, cycle_by, fetched_by, given, put_at, seen, stored, word_by, load_on, store_on, Stores, changed, put_in, Computes, Follows, Hart}
 use Rattle.hart.proofs.Retries.{Alike, load-same, store-same}
-use Rattle.hart.specs.Answered.{Answers, AreAllowed, HasEffect, IsStep, Sight, act_by, cycle_by, fetched_by, given, put_at, seen, stored, word_by, load_on, store_on}
 use Rattle.hart.proofs.ChangeLemmas.{stored-entry}
-use Rattle.hart.specs.Changes.{Stores, changed, put_in}
 use Rattle.hart.proofs.CycleLemmas.{cycle-stores}
-use Rattle.hart.specs.Follows.{Computes, Follows}
-use Rattle.hart.specs.declared.state.Hart.{Hart}
 use Rattle.hart.proofs.Mappings.{page_for-memory_of}
 use Rattle.unixmodel.specs.declared.instr.Instr.TheVariants as instr
 

@@ -1,23 +1,8 @@
 -- Places in a page, and the words there.
-use Rattle.std.proofs.Common.{◌≡◌, ℕ, suc, ◌+◌, ◌-◌, ◌*◌, ◌/◌, ◌%◌, ◌^◌, ◌<◌, ◌≤◌, List, [], Option, Some, None, Ok, Err, refl, sym, ap, ◌∙◌, subst, arith, slice_index_or, slice_range}
-use Rattle.unixmodel.specs.declared.trap.Access.TheVariants.{Fetch}
-use Rattle.unixmodel.specs.declared.trap.Cause.TheVariants.{InstructionPageFault}
-use Rattle.unixmodel.specs.declared.trap.Trap.{Trap}
-use Rattle.unixmodel.specs.Meaning.{Effect}
-use Rattle.unixmodel.specs.Numbers.{number, plus}
-use Rattle.unixmodel.specs.Translation.{Held, HoldsInside, IsAnswer, IsKept, place_in}
-use Rattle.unixmodel.specs.Words.{instruction_of}
-use Rattle.ram.specs.Memory.{IsMemory, word_of}
+use Rattle.hart.proofs.Common.{◌≡◌, ℕ, suc, ◌+◌, ◌-◌, ◌*◌, ◌/◌, ◌%◌, ◌^◌, ◌<◌, ◌≤◌, List, [], Option, Some, None, Ok, Err, refl, sym, ap, ◌∙◌, subst, arith, slice_index_or, slice_range, Fetch}
+use Rattle.hart.proofs.Common.{InstructionPageFault, Trap, Effect, number, plus, Held, HoldsInside, IsAnswer, IsKept, place_in, instruction_of, IsMemory, word_of, Mapped, frame_for, Acts}
+use Rattle.hart.proofs.Common.{Leaves, pc_after, trap_of, Answers, Sight, seen, word_by, IsOp, op_by, Goes, GoesOn, Point, StaysWhole, pc_at, point_at, point_of, word_in, Next, Behind, Op, Hart}
 use Rattle.ram.specs.declared.FrameNo.{FrameNo}
-use Rattle.sv39.specs.Mapping.{Mapped, frame_for}
-use Rattle.hart.specs.Acts.{Acts, Leaves, pc_after, trap_of}
-use Rattle.hart.specs.Answered.{Answers, Sight, seen, word_by}
-use Rattle.hart.specs.Operations.{IsOp, op_by}
-use Rattle.hart.specs.Runs.{Goes, GoesOn, Point, StaysWhole, pc_at, point_at, point_of, word_in}
-use Rattle.hart.specs.declared.act.Next.{Next}
-use Rattle.hart.specs.declared.act.Next.TheVariants.{Behind}
-use Rattle.hart.specs.declared.operation.Op.{Op}
-use Rattle.hart.specs.declared.state.Hart.{Hart}
 use Rattle.hart.proofs.Bytes.{number_of_word}
 use Rattle.hart.proofs.Running.{acts-inside, cycle-unfound, frame-found, goes-kept, goes-not, goes-on}
 

@@ -1,6 +1,4 @@
-use Rattle.std.proofs.Common.{refl}
-use Rattle.unixmodel.specs.Words.{instruction_of}
-use Rattle.hart.specs.Operations.{op_by}
+use Rattle.hart.proofs.Common.{refl, instruction_of, op_by}
 use Rattle.hart.proofs.decoded.Decoded.new.Goals as goal
 
 pub invariant_of-push : goal.invariant_of-push

@@ -1,5 +1,4 @@
-use Rattle.std.proofs.Common.{◌≡◌, ◌==◌, ◌%◌, false, true, rules}
-use Rattle.unixmodel.specs.Meaning.{store_size}
+use Rattle.hart.proofs.Common.{◌≡◌, ◌==◌, ◌%◌, false, true, rules, store_size}
 use Rattle.hart.proofs.Acts.{store-found, store-lost, store-odd}
 use Rattle.hart.proofs.state.Hart.give.Goals as goal
 

@@ -1,5 +1,4 @@
-use Rattle.std.proofs.Common.{◌≡◌, ◌==◌, ◌%◌, true, false, Some, None, refl, rules}
-use Rattle.unixmodel.specs.Meaning.{load_size}
+use Rattle.hart.proofs.Common.{◌≡◌, ◌==◌, ◌%◌, true, false, Some, None, refl, rules, load_size}
 use Rattle.hart.proofs.Steps.{load-answered, load-misaligned}
 use Rattle.hart.proofs.state.Hart.load.Goals as goal
 

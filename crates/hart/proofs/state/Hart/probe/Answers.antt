@@ -1,5 +1,4 @@
-use Rattle.std.proofs.Common.{◌≡◌, ◌==◌, ◌%◌, false, true, refl, rules}
-use Rattle.unixmodel.specs.Meaning.{load_size}
+use Rattle.hart.proofs.Common.{◌≡◌, ◌==◌, ◌%◌, false, true, refl, rules, load_size}
 use Rattle.hart.proofs.Acts.{load-found, load-lost, load-odd}
 use Rattle.hart.proofs.state.Hart.probe.Goals as goal
 

@@ -1,7 +1,6 @@
-use Rattle.std.proofs.Common.{◌≡◌, ◌-◌, Some, None, arith, refl, subst}
+use Rattle.hart.proofs.Common.{◌≡◌, ◌-◌, Some, None, arith, refl, subst, GoesOn, point_of}
 use Rattle.hart.proofs.Mappings.{inside-kept}
 use Rattle.hart.proofs.Straight.{goes-none, run-faults, run-then, whole-then}
-use Rattle.hart.specs.Runs.{GoesOn, point_of}
 use Rattle.hart.proofs.state.Hart.run.Goals as goal
 
 pub run_page-rest-requires-clause-inside : goal.run_page-rest-requires-clause-inside

@@ -1,6 +1,4 @@
-use Rattle.std.proofs.Common.{◌≤◌, ◌-◌, List, None}
-use Rattle.sv39.specs.Mapping.{Mapped}
-use Rattle.hart.specs.Runs.{GoesOn, StaysWhole, point_of}
+use Rattle.hart.proofs.Common.{◌≤◌, ◌-◌, List, None, Mapped, GoesOn, StaysWhole, point_of}
 use Rattle.hart.proofs.state.Hart.run.Given as goal
 
 abbrev pub invariant-loop-left : goal.invariant-loop-left

@@ -1,7 +1,5 @@
-use Rattle.std.proofs.Common.{◌+◌, ◌-◌, ◌*◌, ◌/◌, ◌%◌, Some, None, arith, refl, inl, inr}
-use Rattle.unixmodel.specs.Numbers.{plus}
+use Rattle.hart.proofs.Common.{◌+◌, ◌-◌, ◌*◌, ◌/◌, ◌%◌, Some, None, arith, refl, inl, inr, plus, point_of}
 use Rattle.hart.proofs.Straight.{goes-none, page-then, pc-of, whole-then}
-use Rattle.hart.specs.Runs.{point_of}
 use Rattle.hart.proofs.state.Hart.run_page.Goals as goal
 
 pub loop-left-init : goal.loop-left-init

@@ -1,5 +1,4 @@
-use Rattle.std.proofs.Common.{◌≡◌, ◌==◌, ◌%◌, true, false, refl, rules}
-use Rattle.unixmodel.specs.Meaning.{store_size}
+use Rattle.hart.proofs.Common.{◌≡◌, ◌==◌, ◌%◌, true, false, refl, rules, store_size}
 use Rattle.hart.proofs.Steps.{store-done, store-fault, store-misaligned}
 use Rattle.hart.proofs.state.Hart.store.Goals as goal
 

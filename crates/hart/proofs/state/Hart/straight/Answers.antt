@@ -1,5 +1,4 @@
-use Rattle.std.proofs.Common.{◌≡◌, ◌+◌, ◌-◌, arith, refl}
-use Rattle.hart.specs.declared.act.Next.TheVariants.{At, Stop}
+use Rattle.hart.proofs.Common.{◌≡◌, ◌+◌, ◌-◌, arith, refl, At, Stop}
 use Rattle.hart.proofs.Straight.{straight-begins, straight-more, straight-on, straight-stops, whole-after}
 use Rattle.hart.proofs.state.Hart.straight.Goals as goal
 
