@@ -1,4 +1,3 @@
-mod Answering
 mod Refusing
 mod Repeating
 mod Standing

@@ -1,5 +1,5 @@
 -- Why a session doesn't begin, and the bytes of its disk.
-use Rattle.std.proofs.Common.{Err, List, Ok, Result, ap, arith, inl, inr, length, refl, subst, sym, ℕ, ◌%◌, ◌<◌, ◌∙◌, ◌≡◌, ◌≢◌, ◌≤◌, ◌⊎◌, ◌↔◌}
+use Rattle.std.proofs.Common.{Err, List, Ok, Result, ap, arith, inl, inr, length, subst, sym, ℕ, ◌%◌, ◌<◌, ◌∙◌, ◌≡◌, ◌≢◌, ◌≤◌, ◌⊎◌, ◌↔◌}
 use Rattle.std.proofs.lemmas.Bool.{cases_eq}
 use Rattle.std.specs.Prelude.{IfErr, IsErrOf}
 use Rattle.std.specs.Result.{IsErrAnd}
@@ -11,14 +11,13 @@ use Rattle.machine.specs.Booted.{IsUnbooted}
 use Rattle.machine.specs.declared.fault.BootFault.{BootFault}
 use Rattle.machine.specs.declared.fault.BootFault.TheVariants.{Device, FrameCount, Image, NoInit, NoMemory}
 use Rattle.session.specs.Played.{Refuses}
-use Rattle.session.proofs.Answering.{no-rise}
 
 -- bytes that are no whole blocks
 pub length-refused : (image : List ℕ) (frames : ℕ) → length image % 1024 ≢ 0 → Refuses image frames (Image Length)
 length-refused image frames odd = (tt, λ h. odd (let w = h.whole in omega arith), λ files d. odd (let w = d.super.whole in omega arith))
 
 fault-refused : {D : Type 0} (identity : D → List ℕ) (at : D) (image : List ℕ) (frames : ℕ) (f : BootFault) → IsUnbooted identity (λ d. 0) at image frames f → Refuses image frames f
-fault-refused identity at image frames Device why = absurd (no-rise 0 0 why.1.rises refl)
+fault-refused identity at image frames Device why = absurd (let rises = why.1.rises in omega (arith, rises))
 fault-refused identity at image frames (Image fault) why = why
 fault-refused identity at image frames FrameCount why = why
 fault-refused identity at image frames NoMemory why = why
