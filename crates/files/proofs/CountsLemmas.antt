@@ -1,5 +1,5 @@
 -- Lemmas on what `specs/Counts` defines.
-use Rattle.std.specs.Prelude.{Bool, List, None, Option, Some, [], cond, count_by, false, length, map, nat_lt, option_and_then, option_map, slice_set, suc, sum_by, true, zero, ℕ, ◌+◌, ◌<◌, ◌≡◌, ◌≢◌, ◌≤◌, ◌==◌, ◌||◌, ◌∷◌}
+use Rattle.std.specs.Prelude.{Bool, List, None, Option, Some, [], cond, count_by, false, length, nat_lt, option_and_then, option_map, slice_set, suc, sum_by, true, zero, ℕ, ◌+◌, ◌<◌, ◌≡◌, ◌≢◌, ◌≤◌, ◌==◌, ◌||◌, ◌∷◌}
 use Rattle.std.specs.List.{list_any}
 use Rattle.std.proofs.Common.{ap, arith, get_or-set_other, get_or-set_same, inl, inr, refl, ◌∙◌}
 use Rattle.std.proofs.lemmas.Bool.{cases_eq, cases_lt}
@@ -57,12 +57,6 @@ unfolding no_descriptors
 names-none k = names-free k 16
 
 -- ---- processes
-
--- processes change but for their descriptors
-pub count-map : (change : Process → Process) → ((p : Process) → (change p).descriptors ≡ p.descriptors) → (k : ℕ) (places : List (Option Process)) → count_of (map (option_map change) places) k ≡ count_of places k
-count-map change same k [] = refl
-count-map change same k (None ∷ ps) = rw (sum_by-cons (names_in k) None (map (option_map change) ps), sum_by-cons (names_in k) None ps, count-map change same k ps) refl
-count-map change same k (Some p ∷ ps) = rw (sum_by-cons (names_in k) (Some (change p)) (map (option_map change) ps), sum_by-cons (names_in k) (Some p) ps, count-map change same k ps, same p) refl
 
 -- ---- the table
 

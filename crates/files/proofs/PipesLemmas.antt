@@ -1,15 +1,13 @@
 -- Lemmas on what `specs/Pipes` defines.
 use Rattle.std.specs.Prelude.{Bool, List, None, Option, Some, [], false, is_some, length, suc, true, zero, ℕ, ◌<◌, ◌≡◌, ◌≢◌, ◌||◌, ◌==◌, ◌∷◌}
 use Rattle.std.specs.List.{list_any}
-use Rattle.std.proofs.Common.{ap, arith, get_or-set_other, get_or-set_same, inl, inr, length-set, refl, sym, ◌∙◌}
+use Rattle.std.proofs.Common.{ap, arith, get_or-set_other, inl, inr, length-set, refl, sym, ◌∙◌}
 use Rattle.std.proofs.lemmas.Bool.{cases_eq}
 use Rattle.std.proofs.lemmas.Bool.Decides.{nat_tests}
 use Rattle.files.specs.Places.{has_pipe}
 use Rattle.files.proofs.Whole.{all-set, kept-each, kept_in}
-use Rattle.unixmodel.specs.FileCalls.{pipe_end}
 use Rattle.unixmodel.specs.Files.{clear, put, slot, taken}
 use Rattle.unixmodel.specs.OpenFiles.{End, OpenFile, is_pipe}
-use Rattle.unixmodel.specs.OpenFiles.End.{ReadEnd, WriteEnd}
 use Rattle.unixmodel.specs.OpenFiles.Target.{OnNode, OnPipe}
 use Rattle.unixmodel.specs.Reap.{kept, without_pipes}
 use Rattle.unixmodel.specs.State.{State}
@@ -75,17 +73,6 @@ piped-last pipes opens k q f e is at on gone r = elim (cases_eq r q) [
   | inl same ↦ rw (same, slot-clear pipes q, gone) refl
   | inr other ↦ rw (get_or-set_other pipes q r None None other) (is r ∙ sym (other-pipe opens k q r f e at on other))
 ]
-
--- a pipe comes with both its ends
-pub piped-both : (pipes : List (Option (List ℕ))) (opens : List (Option OpenFile)) (q k m : ℕ) → IsPiped pipes opens → q < length pipes → k < length opens → m < length opens → slot opens k ≡ None → slot (put opens k (pipe_end q ReadEnd)) m ≡ None
-    → IsPiped (put pipes q []) (put (put opens k (pipe_end q ReadEnd)) m (pipe_end q WriteEnd))
-piped-both pipes opens q k m is hq hk hm free_k free_m r =
-    let second = has_pipe-put (put opens k (pipe_end q ReadEnd)) m (pipe_end q WriteEnd) r (omega (arith, hm, length-set opens k (Some (pipe_end q ReadEnd)))) free_m in
-    let first = has_pipe-put opens k (pipe_end q ReadEnd) r hk free_k in
-    elim (cases_eq r q) [
-      | inl same ↦ rw (second, same, eq-self q, get_or-set_same pipes q (Some []) None hq) refl
-      | inr other ↦ rw (second, first, eq-other r q other, get_or-set_other pipes q r (Some []) None other) (is r)
-    ]
 
 -- ---- what reaping leaves
 
