@@ -2,4 +2,3 @@ pub mod Erases
 pub mod Lines
 pub mod ReadSteps
 pub mod Rubs
-pub mod Takes
