@@ -138,10 +138,10 @@ module _ (k : Kernel) (i : ℕ) (x : Here k i) where
   refused call is = came call Refuses tt (ap (settle (state_of k) i) is)
 
   -- what its descriptors name
-  pub descriptor-is : {d : ℕ} {o : Option ℕ} → d ≡ low (argument k 0) → slot (descriptors_at k i) d ≡ o → slot x.process.descriptors (low (argument k 0)) ≡ o
-  descriptor-is is at = rw (← descriptors-run (runner x), ← is) at
+  pub descriptor-is : {d : ℕ} {o : Option ℕ} → d ≡ low (argument k 0) → o ≡ slot (descriptors_at k i) d → slot x.process.descriptors (low (argument k 0)) ≡ o
+  descriptor-is is at = rw (← descriptors-run (runner x), ← is) (sym at)
 
-  pub unnamed : (rest : ℕ → Outcome) (call : Call) → row (state_of k) i me call ≡ given (slot x.process.descriptors (low (argument k 0))) rest → {d : ℕ} → d ≡ low (argument k 0) → slot (descriptors_at k i) d ≡ None → Acts k k i (Some call) Refuses
+  pub unnamed : (rest : ℕ → Outcome) (call : Call) → row (state_of k) i me call ≡ given (slot x.process.descriptors (low (argument k 0))) rest → {d : ℕ} → d ≡ low (argument k 0) → None ≡ slot (descriptors_at k i) d → Acts k k i (Some call) Refuses
   unnamed rest call same is none = refused (Some call) (ap limited (same ∙ ap (λ o. given o rest) (descriptor-is is none)))
 
   -- what the row makes once it is settled, with bytes for the console

@@ -30,13 +30,6 @@ module _ (k : Kernel) (i : ℕ) (runs : Runs k i) where
 
   -- what its path reaches
   module _ (k1 : Kernel) (o : Option ℕ) (path : List ℕ) (is : Some path ≡ path_at (view_at k.spaces i).memory (argument k 0)) (reads : HasRead k k1 × (o ≡ find k.tree.files (directory_at k i) path)) where
-    pub exec-lost : o ≡ None → Acts k k1 i (Some Exec) Refuses
-    unfolding exec_row
-    exec-lost none =
-        let at = path-is k i runs 0 (Some path) is in
-        let found : find k.tree.files x.process.directory path ≡ None = found-here k i runs path o reads.1 ∙ none in
-        refused-read k k1 i x Exec reads.0 (rw (at, found) refl)
-
     pub reaches : (n : ℕ) → o ≡ Some n → Reaches k1 i n
     reaches n some = subst (λ (y : Kernel). Reaches y i n) (sym reads.0.same) (record { path = path; named = is; found = sym some ∙ reads.1 })
 

@@ -1,14 +1,13 @@
 -- chdir: the running process works in another directory, and the one that it leaves may go.
-use Rattle.calls.proofs.Common.{Bool, List, None, Option, Some, [], ap, arith, false, refl, subst, sym, true, ℕ, ◌<◌, ◌∙◌, ◌≡◌, ◌≢◌, IsSome, ne_eqb, IsServed, none-some, same_Some, Acts, Runs, HasRead, Reaches, Answers, Refuses}
-use Rattle.calls.proofs.Common.{InodeStat, counting-kernel, holders-few, home-folder, home-running, IsFolder, home_in, Kernel, answered, argument, state_of, IsKernel, view_at, holders, Tells, IsWhole, outcome_of, row, settle, Call, Chdir}
-use Rattle.calls.proofs.Common.{Node, find, is_directory, kind_of, slot, Directory, File, path_at, chdir_row, path_arg, Outcome, answers, given, limited, provided, Refused, State, put_process, folder-there, directory_at, directory_in}
+use Rattle.calls.proofs.Common.{Bool, List, None, Option, Some, [], ap, arith, false, refl, subst, sym, true, ℕ, ◌<◌, ◌∙◌, ◌≡◌, ◌≢◌, IsSome, ne_eqb, IsServed, Acts, Runs, HasRead, Reaches, Answers, Refuses, InodeStat}
+use Rattle.calls.proofs.Common.{counting-kernel, holders-few, home-folder, home-running, IsFolder, home_in, Kernel, answered, argument, state_of, IsKernel, view_at, holders, Tells, IsWhole, outcome_of, row, settle, Call, Chdir}
+use Rattle.calls.proofs.Common.{Node, find, is_directory, kind_of, slot, Directory, path_at, chdir_row, path_arg, Outcome, answers, given, limited, provided, Refused, State, put_process, folder-there, directory_at, directory_in}
 use Rattle.calls.proofs.Acts.{Here, answered-runner, here-in, here-of, me, outcome-here, refuses-on, settles, used-here}
 use Rattle.calls.proofs.Gone.{settles-gone}
 use Rattle.calls.proofs.Names.{path-is}
 use Rattle.kernel.proofs.Working.{work-reaps}
 use Rattle.kernel.specs.Processes.{WorksIn}
 use Rattle.names.proofs.Naming.{find-used}
-use Rattle.unixmodel.specs.Files.Node.{Device}
 
 -- ---- after the disk was read
 
@@ -29,11 +28,9 @@ pub some-there : (o : Option Node) → IsSome o → (node : Node) × (o ≡ Some
 some-there None is = absurd (cc)
 some-there (Some node) is = (node, refl)
 
-folder-kind : (o : Option Node) (node : Node) → o ≡ Some node → kind_of node ≡ 1 → IsFolder o
-folder-kind None node at kind = absurd (none-some node at)
-folder-kind (Some (File links bytes)) node at kind = absurd (let bad : 2 ≡ kind_of node = ap kind_of (same_Some (File links bytes) node at) in omega (arith, bad, kind))
-folder-kind (Some (Device links major minor)) node at kind = absurd (let bad : 3 ≡ kind_of node = ap kind_of (same_Some (Device links major minor) node at) in omega (arith, bad, kind))
-folder-kind (Some (Directory links places)) node at kind = tt
+folder-kind : (node : Node) → kind_of node ≡ 1 → IsFolder (Some node)
+folder-kind (Directory links places) kind = tt
+folder-kind node kind = absurd (omega arith)
 
 folder-is : (o : Option Node) (node : Node) → o ≡ Some node → IsFolder o → is_directory node ≡ true
 folder-is o (Directory links places) at is = refl
@@ -56,6 +53,12 @@ module _ (k : Kernel) (i : ℕ) (runs : Runs k i) where
       let there = folder-there (slot k.tree.files home) (home-folder (used-here k i x) i home (ap home_in x.run.process ∙ home-running x.process x.run.runs)) in
       some-there (slot k.tree.files n) (find-used ((used-here k i x).rules) home path n there at)
 
+  -- the path reaches nothing
+  pub lost-path : {k1 : Kernel} {path : List ℕ} (rest : List ℕ → ℕ → Outcome) (call : Call) → row (state_of k) i (me k i x) call ≡ given (path_arg (me k i x) 0) (λ path. given (find k.tree.files home path) (rest path)) → Some path ≡ path_at (view_at k.spaces i).memory (argument k 0)
+      → HasRead k k1 × (None ≡ find k.tree.files (directory_at k i) path) → Acts k k1 i (Some call) Refuses
+  lost-path {k1} {path} rest call row is reads =
+      refused-read k k1 i x call reads.0 (ap limited (row ∙ ap (λ (o : Option (List ℕ)). given o (λ path. given (find k.tree.files home path) (rest path))) (path-is k i runs 0 (Some path) is) ∙ ap (λ (o : Option ℕ). given o (rest path)) (found-here path None reads.1)))
+
   -- no more hold a node than there are open files and processes
   pub few-hold : (n : ℕ) → holders k.tree.holds n < 65535
   few-hold n = let few = holders-few (used-here k i x) n in let opens = x.sound.opened.table.all in let places = x.sound.all in omega arith
@@ -69,11 +72,6 @@ module _ (k : Kernel) (i : ℕ) (runs : Runs k i) where
   chdir-row : (path : List ℕ) → path_arg (me k i x) 0 ≡ Some path → row (state_of k) i (me k i x) Chdir ≡ given (find k.tree.files home path) (λ n. with_node n (slot k.tree.files n))
   unfolding chdir_row
   chdir-row path at = rw at refl
-
-  pub chdir-lost : (k1 : Kernel) (o : Option ℕ) (path : List ℕ) → Some path ≡ path_at (view_at k.spaces i).memory (argument k 0) → HasRead k k1 × (o ≡ find k.tree.files (directory_at k i) path)
-      → o ≡ None → Acts k k1 i (Some Chdir) Refuses
-  chdir-lost k1 o path is reads none =
-      refused-read k k1 i x Chdir reads.0 (ap limited (chdir-row path (path-is k i runs 0 (Some path) is) ∙ ap (λ f. given f (λ n. with_node n (slot k.tree.files n))) (found-here path o reads.1 ∙ none)))
 
   -- its path reaches number n
   module _ (n : ℕ) (r : Reaches k i n) where
@@ -99,7 +97,7 @@ module _ (k : Kernel) (i : ℕ) (runs : Runs k i) where
       chdir-other other = refused-read k k1 i x Chdir reads.0 (ap limited (chdir-made false (rw (← tells.0) (ne_eqb told.kind 1 other))))
 
       pub chdir-goes : told.kind ≡ 1 → Reaches k1 i n × IsFolder (slot k1.tree.files n)
-      chdir-goes kind = subst (λ (y : Kernel). Reaches y i n × IsFolder (slot y.tree.files n)) (sym reads.0.same) (record { path = r.path; named = r.named; found = r.found }, folder-kind (slot k.tree.files n) chdir-there.0 chdir-there.1 (sym tells.0 ∙ kind))
+      chdir-goes kind = subst (λ (y : Kernel). Reaches y i n × IsFolder (slot y.tree.files n)) (sym reads.0.same) (record { path = r.path; named = r.named; found = r.found }, subst IsFolder (sym chdir-there.1) (folder-kind chdir-there.0 (sym tells.0 ∙ kind)))
 
     -- it is a directory, and the process works there now
     pub chdirs : IsFolder (slot k.tree.files n) → IsWhole k.tree → (new : Kernel) → IsKernel new → WorksIn k new i n × IsServed k.tree new.tree → Acts k new i (Some Chdir) (Answers 0)

@@ -39,9 +39,8 @@ file-by : (f n kind major : ℕ) → file_of (file_by f (target_by n kind major)
 file-by f n kind major = ap (λ (t : unix_files.Target). let g : unix_files.OpenFile = record { target = t; readable = not (has_bit f 0); writable = has_bit f 0 || has_bit f 1 } in g) (target-of n kind major).0
 
 may-by : (f : ℕ) (node : Node) (kind major : ℕ) → kind ≡ kind_of node → TellsMajor major node → may_open_by f kind major ≡ may_open f node
-may-by f (File links bytes) kind major e m = rw e refl
 may-by f (Device links a b) kind major e m = rw (e, m) refl
-may-by f (Directory links places) kind major e m = rw e refl
+may-by f node kind major e m = rw e refl
 
 device-fits : (f : OpenFile) (n links a b : ℕ) (c : Bool) → (a == 1) ≡ c → FitsNode f (if c then target.Console n else target.Device n) (Some (Device links a b))
 device-fits f n links a b true e = eqb-true a 1 e
@@ -60,8 +59,7 @@ openable-told files n f told here tells may =
 -- a file that is emptied stays of its type
 emptied-same : (node : Node) → (kind_of (emptied node) ≡ kind_of node) × ((m : ℕ) → TellsMajor m node → TellsMajor m (emptied node)) × ((f : ℕ) → may_open f (emptied node) ≡ may_open f node)
 emptied-same (File links bytes) = (refl, λ m is. is, λ f. refl)
-emptied-same (Device links major minor) = (refl, λ m is. is, λ f. refl)
-emptied-same (Directory links places) = (refl, λ m is. is, λ f. refl)
+emptied-same node = (refl, λ m is. is, λ f. refl)
 
 openable-cut : (files : Files) (n f g : ℕ) (told : InodeStat) → IsOpenable files n f told → IsOpenable (truncated g (record { files = files; number = n })) n f told
 openable-cut files n f g told is = go (truncates g) where

@@ -157,8 +157,7 @@ idle-now k new is none nobody same = ap is_idle same ∙ sym (idle-turn k is non
 
 stands : (s : State) (r t : Option ℕ) → turn s ≡ t → (is_none r && is_none t) ≡ true → step s r ≡ quiet s
 stands s None None is idle = ap (take_turn s) is
-stands s None (Some i) is idle = absurd (cc)
-stands s (Some i) t is idle = absurd (cc)
+stands s r t is idle = absurd (cc)
 
 next-idle : (s : State) → is_idle s ≡ true → next s Step ≡ quiet s
 unfolding next

@@ -117,14 +117,14 @@ module _ {k : Kernel} {i : ℕ} (runs : Runs k i) where
   abbrev a : ℕ
   a = argument k 0
 
-  can-here : (b : Bool) → can_write (view_at k.spaces i).memory a 8 ≡ b → can_write here.held.memory a 8 ≡ b
-  can-here b can = ap (λ (y : SpaceView). can_write y.memory a 8) (sym (held-run k i here.process here.held here.run here.sound)) ∙ can
+  can-here : (b : Bool) → b ≡ can_write (view_at k.spaces i).memory a 8 → can_write here.held.memory a 8 ≡ b
+  can-here b can = ap (λ (y : SpaceView). can_write y.memory a 8) (sym (held-run k i here.process here.held here.run here.sound)) ∙ sym can
 
-  pub pipe-unwritable : can_write (view_at k.spaces i).memory a 8 ≡ false → Acts k k i (Some Pipe) Refuses
+  pub pipe-unwritable : false ≡ can_write (view_at k.spaces i).memory a 8 → Acts k k i (Some Pipe) Refuses
   unfolding pipe_row
   pipe-unwritable cannot = refused k i here (Some Pipe) (rw (can-here false cannot) refl)
 
-  module _ (can : can_write (view_at k.spaces i).memory a 8 ≡ true) where
+  module _ (can : true ≡ can_write (view_at k.spaces i).memory a 8) where
     -- both ends are open, and their descriptors are written
     pub pipe-opens : {q r w : ℕ} {mid : Kernel} → HasPiped k mid i q r w → (new : Kernel) → IsKernel new → new ≡ wrote mid i a (le 4 r ++ le 4 w) → Acts k new i (Some Pipe) (Answers 0)
     unfolding pipe_row
@@ -141,7 +141,7 @@ module _ {k : Kernel} {i : ℕ} (runs : Runs k i) where
 
     -- and those may be
     pub pipe-can : {q r w : ℕ} {mid : Kernel} → HasPiped k mid i q r w → (mid.spaces.active ≡ Some i) × (can_write (view_at mid.spaces i).memory a 8 ≡ true)
-    pipe-can {mid = mid} has = subst (λ (y : Kernel). (y.spaces.active ≡ Some i) × (can_write (view_at y.spaces i).memory a 8 ≡ true)) (sym has.same) (runs.active, can)
+    pipe-can {mid = mid} has = subst (λ (y : Kernel). (y.spaces.active ≡ Some i) × (can_write (view_at y.spaces i).memory a 8 ≡ true)) (sym has.same) (runs.active, sym can)
 
     -- some of the places isn't there, or the frames don't suffice
     pipe-lacks : ((x : Ends) → AreFree k i x → k.spaces.frames < taken_frames (with_pipe k.spaces x.pipe (Some []))) → Acts k k i (Some Pipe) Refuses
@@ -160,11 +160,11 @@ module _ {k : Kernel} {i : ℕ} (runs : Runs k i) where
     pub lacks-places : free_count k.files < 2 → Acts k k i (Some Pipe) Refuses
     lacks-places few = pipe-lacks (λ x free. absurd (two-free (opens_of k.files) (pipe_end x.pipe ReadEnd) x.reader x.writer free.reader free.writer (omega (arith, few, free-opens k.files))))
 
-    pub lacks-room : free_slot k.spaces.pipes ≡ None → Acts k k i (Some Pipe) Refuses
+    pub lacks-room : None ≡ free_slot k.spaces.pipes → Acts k k i (Some Pipe) Refuses
     lacks-room none = pipe-lacks (λ x free. let some = free.pipe in absurd (cc))
 
-    pub lacks-frames : {b : ℕ} → free_slot k.spaces.pipes ≡ Some b → k.spaces.frames < taken_frames (with_pipe k.spaces b (Some [])) → Acts k k i (Some Pipe) Refuses
+    pub lacks-frames : {b : ℕ} → Some b ≡ free_slot k.spaces.pipes → k.spaces.frames < taken_frames (with_pipe k.spaces b (Some [])) → Acts k k i (Some Pipe) Refuses
     lacks-frames {b = b} place over = pipe-lacks (λ x free.
-        let there : Some b ≡ Some x.pipe = sym place ∙ free.pipe in
+        let there : Some b ≡ Some x.pipe = place ∙ free.pipe in
         let e : b ≡ x.pipe = cc in
         rw (← e) over)

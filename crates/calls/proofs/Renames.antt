@@ -8,7 +8,7 @@ module _ (k : Kernel) (i : ℕ) (runs : Runs k i) where
   abbrev x : Here k i
   x = here-of k i runs
 
-  pub dups : {d n fd : ℕ} → d ≡ low (argument k 0) → slot (descriptors_at k i) d ≡ Some n → free_slot (descriptors_at k i) ≡ Some fd → {new : Kernel} → new ≡ duplicated k i fd n → IsKernel new → Acts k new i (Some Dup) (Answers fd)
+  pub dups : {d n fd : ℕ} → d ≡ low (argument k 0) → Some n ≡ slot (descriptors_at k i) d → free_slot (descriptors_at k i) ≡ Some fd → {new : Kernel} → new ≡ duplicated k i fd n → IsKernel new → Acts k new i (Some Dup) (Answers fd)
   unfolding dup_row
   dups {d} {n} {fd} is named free made sound =
       let free' : free_slot x.process.descriptors ≡ Some fd = rw (← descriptors-run (runner x)) free in

@@ -73,23 +73,23 @@ module _ (k : Kernel) (i : ℕ) (runs : Runs k i) where
   abbrev x : Here k i
   x = here-of k i runs
 
-  module _ (d id : ℕ) (is : d ≡ low (argument k 0)) (named : slot (descriptors_at k i) d ≡ Some id) where
+  module _ (d id : ℕ) (is : d ≡ low (argument k 0)) (named : Some id ≡ slot (descriptors_at k i) d) where
     here : slot x.process.descriptors (low (argument k 0)) ≡ Some id
     here = descriptor-is k i x is named
 
-    pub fstat-nodeless : (fault : FileFault) → node_at (file_at k.files id) ≡ Err fault → Acts k k i (Some Fstat) Refuses
+    pub fstat-nodeless : (fault : FileFault) → Err fault ≡ node_at (file_at k.files id) → Acts k k i (Some Fstat) Refuses
     unfolding fstat_row
-    fstat-nodeless fault none = refused k i x (Some Fstat) (rw (here, slot-file k.files id) (no-node (file_at k.files id) fault none _))
+    fstat-nodeless fault none = refused k i x (Some Fstat) (rw (here, slot-file k.files id) (no-node (file_at k.files id) fault (sym none) _))
 
-    module _ (n : ℕ) (on : node_at (file_at k.files id) ≡ Ok n) where
+    module _ (n : ℕ) (on : Ok n ≡ node_at (file_at k.files id)) where
       abbrev f : OpenFile
-      f = (node-named (file_at k.files id) n on).0
+      f = (node-named (file_at k.files id) n (sym on)).0
 
       opened : file_at k.files id ≡ Some f
-      opened = (node-named (file_at k.files id) n on).1
+      opened = (node-named (file_at k.files id) n (sym on)).1
 
       number : node_number (target_of f.target) ≡ Some n
-      number = (node-named (file_at k.files id) n on).2
+      number = (node-named (file_at k.files id) n (sym on)).2
 
       pub fstat-there : (node : Node) × (slot k.tree.files n ≡ Some node)
       fstat-there =
@@ -109,16 +109,16 @@ module _ (k : Kernel) (i : ℕ) (runs : Runs k i) where
       unfolding fstat_row
       row-is = rw (here, slot-file k.files id, opened, number, fstat-there.1) refl
 
-      can-here : (b : Bool) → can_write (view_at k.spaces i).memory address 24 ≡ b → can_write x.held.memory address 24 ≡ b
-      can-here b can = ap (λ (y : SpaceView). can_write y.memory address 24) (sym (held-run k i x.process x.held x.run x.sound)) ∙ can
+      can-here : (b : Bool) → b ≡ can_write (view_at k.spaces i).memory address 24 → can_write x.held.memory address 24 ≡ b
+      can-here b can = ap (λ (y : SpaceView). can_write y.memory address 24) (sym (held-run k i x.process x.held x.run x.sound)) ∙ sym can
 
-      pub fstat-unwritable : can_write (view_at k.spaces i).memory address 24 ≡ false → Acts k k i (Some Fstat) Refuses
+      pub fstat-unwritable : false ≡ can_write (view_at k.spaces i).memory address 24 → Acts k k i (Some Fstat) Refuses
       fstat-unwritable cannot = refused k i x (Some Fstat) (ap limited (row-is ∙ ap (λ (b : Bool). provided b (answers (put_process (state_of k) i (record (me k i x) { memory = made_so.memory })) 0)) (can-here false cannot)))
 
       -- the node was told, and its bytes are written
-      module _ (can : can_write (view_at k.spaces i).memory address 24 ≡ true) {read : Kernel} (has : HasRead k read) {a : ℕ} (is-a : a ≡ argument k 1) (told : InodeStat) {bytes : List ℕ} (numbers : bytes ≡ stat_told n told) where
+      module _ (can : true ≡ can_write (view_at k.spaces i).memory address 24) {read : Kernel} (has : HasRead k read) {a : ℕ} (is-a : a ≡ argument k 1) (told : InodeStat) {bytes : List ℕ} (numbers : bytes ≡ stat_told n told) where
         pub fstat-can : can_write (view_at read.spaces i).memory a (length bytes) ≡ true
-        fstat-can = ap (λ (y : Kernel). can_write (view_at y.spaces i).memory a (length bytes)) has.same ∙ rw (is-a, ap length numbers ∙ length-told n told) can
+        fstat-can = ap (λ (y : Kernel). can_write (view_at y.spaces i).memory a (length bytes)) has.same ∙ rw (is-a, ap length numbers ∙ length-told n told) (sym can)
 
         pub fstat-acts : ((node : Node) → slot k.tree.files n ≡ Some node → Tells told node) → {new : Kernel} → new ≡ wrote read i a bytes → IsKernel new → Acts k new i (Some Fstat) (Answers 0)
         fstat-acts tells {new} is sound =

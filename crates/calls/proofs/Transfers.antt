@@ -1,12 +1,13 @@
 -- How a read and a write begin, and what they go on with: their tests are the same.
-use Rattle.calls.proofs.Common.{◌≡◌, ◌≢◌, ℕ, zero, suc, ◌<◌, Bool, true, false, ◌&&◌, List, Option, Some, None, refl, ap, subst, sym, ◌∙◌, arith, if◌then◌else◌, Err, IfSome, IsSome, Ok, Result, is_some, option_and_then}
-use Rattle.calls.proofs.Common.{option_map, result_ok, false≢true, none-some, same_Some, DeviceFault, Acts, ActsOnDisk, CanWait, GoesOnDisk, Runs, pending_for, Came, Answers, Refuses, descriptors_in, FitsNode, node_of}
-use Rattle.calls.proofs.Common.{node_on, Kernel, argument, descriptors_at, state_of, Stands, IsFresh, IsPending, file_named, is_on_pipe, Begins, MayUse, Transfers, call_on, can_transfer, target_for, target_named}
-use Rattle.calls.proofs.Common.{IsFileAt, file-at, open-named, slot-file, stands-open, held-run, Target, file_of, target_of, Counted, file_at, usable, Process, SpaceView, view_at, goes_on, row, Pending, is_usable}
-use Rattle.calls.proofs.Common.{read_row, unless_empty, write_row, Files, slot, Memory, can_write, read_bytes, int_of, low, natural, Outcome, given, limited, pending_arg, pending_of, provided, Refused, arg, State}
+use Rattle.calls.proofs.Common.{◌≡◌, ◌≢◌, ℕ, zero, suc, ◌<◌, Bool, true, false, ◌&&◌, List, Option, Some, None, refl, ap, subst, sym, ◌∙◌, arith, if◌then◌else◌, Err, IfSome, IsSome, Ok, Result, is_some}
+use Rattle.calls.proofs.Common.{option_and_then, option_map, result_ok, false≢true, none-some, same_Some, DeviceFault, Acts, ActsOnDisk, CanWait, GoesOnDisk, Runs, pending_for, Came, Answers, Refuses, descriptors_in}
+use Rattle.calls.proofs.Common.{FitsNode, node_of, node_on, Kernel, argument, descriptors_at, state_of, Stands, IsFresh, IsPending, file_named, is_on_pipe, Begins, MayUse, Transfers, call_on, can_transfer, target_for}
+use Rattle.calls.proofs.Common.{target_named, IsFileAt, file-at, open-named, slot-file, stands-open, held-run, Target, file_of, target_of, Counted, file_at, usable, Process, SpaceView, view_at, goes_on, row, Pending}
+use Rattle.calls.proofs.Common.{is_usable, read_row, unless_empty, write_row, slot, Memory, can_write, read_bytes, int_of, low, natural, Outcome, given, limited, pending_arg, pending_of, provided, Refused, arg, State}
 use Rattle.calls.proofs.Acts.{Here, does, going, going-here, here-of, me, outcome-here, refused, used-here}
 use Rattle.kernel.proofs.Opens.{IsNamed}
-use Rattle.calls.proofs.Writes.{IsDevice, console-device, fits-at, int-low, usable-open}
+use Rattle.calls.proofs.Writes.{IsDevice, console-device, fits-at, fits-named, int-low, usable-open}
+use Rattle.kernel.specs.Holding.{FitsFiles}
 use Rattle.files.specs.declared.file.End.{End}
 use Rattle.files.specs.declared.file.End.TheVariants.{Read, Write}
 use Rattle.files.specs.declared.file.OpenFile.{OpenFile}
@@ -34,10 +35,8 @@ may-is Write f true is = rw is refl
 may-is Write f false is = rw is refl
 
 usable-is : (x t : Target) → result_ok (usable x) ≡ Some t → (x ≡ t) × (usable t ≡ Ok t)
-usable-is (target.File n offset) t is = let same = same_Some (target.File n offset) t is in (same, subst (λ (y : Target). usable y ≡ Ok y) same refl)
-usable-is (target.Console n) t is = let same = same_Some (target.Console n) t is in (same, subst (λ (y : Target). usable y ≡ Ok y) same refl)
 usable-is (target.Device n) t is = absurd (none-some t is)
-usable-is (target.Pipe q end) t is = let same = same_Some (target.Pipe q end) t is in (same, subst (λ (y : Target). usable y ≡ Ok y) same refl)
+usable-is x t is = let same = same_Some x t is in (same, subst (λ (y : Target). usable y ≡ Ok y) same refl)
 
 may-go : (e : End) (f : OpenFile) (t : Target) (b : Bool) → may e f ≡ b → target_for e (Some f) ≡ Some t → IsFor e f t
 may-go e f t true flag is = let u = usable-is f.target t (sym (may-is e f true flag) ∙ is) in record { may = flag; on = u.0; usable = u.1 }
@@ -74,17 +73,15 @@ unfolding read_row write_row
 row-files Read k i p = given-named k.files (slot p.descriptors (low (arg p 0))) (λ (f : unix_files.OpenFile). provided (f.readable && is_usable k.tree.files f.target) (counted Read (state_of k) i p))
 row-files Write k i p = given-named k.files (slot p.descriptors (low (arg p 0))) (λ (f : unix_files.OpenFile). provided (f.writable && is_usable k.tree.files f.target) (counted Write (state_of k) i p))
 
-shut-go : (e : End) (files : Files) (f : OpenFile) (rest : Outcome) → FitsNode f f.target (node_of files (node_on f.target)) → target_for e (Some f) ≡ None → (b : Bool) → may e f ≡ b → (u : Option Target) → result_ok (usable f.target) ≡ u
-    → provided (may e f && is_usable files (target_of f.target)) rest ≡ Refused
-shut-go e files f rest fits none true flag (Some t) on = absurd (none-some t (sym none ∙ may-is e f true flag ∙ on))
-shut-go e files f rest fits none true flag None on =
-    ap (λ b. provided (b && is_usable files (target_of f.target)) rest) flag
-    ∙ ap (λ b. provided b rest) (usable-open files f f.target fits ∙ ap is_some on)
-shut-go e files f rest fits none false flag u on = ap (λ (b : Bool). provided (b && is_usable files (target_of f.target)) rest) flag
-
-shut : (e : End) (s : State) (o : Option OpenFile) (rest : Outcome) → IfSome o (λ f. FitsNode f f.target (node_of s.files (node_on f.target))) → target_for e o ≡ None → filed e s o rest ≡ Refused
-shut e s None rest fits none = refl
-shut e s (Some f) rest fits none = shut-go e s.files f rest fits none (may e f) refl (result_ok (usable f.target)) refl
+-- the file's test is what the kernel answers
+filed-is : (o : Option OpenFile) (e : End) (s : State) (rest : Outcome) → IfSome o (λ f. FitsFiles s.files f) → filed e s o rest ≡ given (target_for e o) (λ t. rest)
+filed-is (Some f) e s rest fits = ap (λ b. provided (may e f && b) rest) (usable-open s.files f f.target fits) ∙ go (may e f) refl (result_ok (usable f.target)) refl where
+  go : (b : Bool) → may e f ≡ b → (u : Option Target) → result_ok (usable f.target) ≡ u → provided (may e f && is_some (result_ok (usable f.target))) rest ≡ given (target_for e (Some f)) (λ t. rest)
+  go false flag u on = rw (flag, may-is e f false flag) refl
+  go true flag (Some t) on = rw (flag, may-is e f true flag, on) refl
+  go true flag None on = rw (flag, may-is e f true flag, on) refl
+filed-is None Read s rest fits = refl
+filed-is None Write s rest fits = refl
 
 unless-some : (s : State) (n : ℕ) (rest : Outcome) → 0 < n → unless_empty s n rest ≡ rest
 unless-some s zero rest some = absurd (omega (arith, some))
@@ -124,24 +121,18 @@ module _ {k : Kernel} {i : ℕ} (runs : Runs k i) (e : End) {r : Option Target} 
   abbrev w : Pending
   w = pending_for k (call_on e)
 
-  fits-named : IfSome named (λ f. FitsNode f f.target (node_of k.tree.files (node_on f.target)))
-  fits-named = go (slot (descriptors_at k i) (low (argument k 0))) where
-    at : (n : ℕ) (o : Option OpenFile) → file_at k.files n ≡ o → IfSome o (λ f. FitsNode f f.target (node_of k.tree.files (node_on f.target)))
-    at n None here = tt
-    at n (Some f) here = fits-at (used-here k i x) n f here
-
-    go : (o : Option ℕ) → IfSome (option_and_then (file_at k.files) o) (λ f. FitsNode f f.target (node_of k.tree.files (node_on f.target)))
-    go None = tt
-    go (Some n) = at n (file_at k.files n) refl
-
-  row-here : row (state_of k) i (me k i x) (call_on e) ≡ filed e (state_of k) named rest
-  row-here = row-files e k i (me k i x) ∙ ap (λ (o : Option Process). filed e (state_of k) (file_named k.files (descriptors_in o) (low (argument k 0))) rest) (sym x.run.process)
+  row-here : row (state_of k) i (me k i x) (call_on e) ≡ given r (λ t. rest)
+  row-here =
+      row-files e k i (me k i x)
+      ∙ ap (λ (o : Option Process). filed e (state_of k) (file_named k.files (descriptors_in o) (low (argument k 0))) rest) (sym x.run.process)
+      ∙ filed-is named e (state_of k) rest (fits-named (used-here k i x) (slot (descriptors_at k i) (low (argument k 0))))
+      ∙ ap (λ (o : Option Target). given o (λ t. rest)) (sym found)
 
   refuses : row (state_of k) i (me k i x) (call_on e) ≡ Refused → Acts k k i (Some (call_on e)) Refuses
   refuses is = refused k i x (Some (call_on e)) (ap limited is)
 
   pub begins-unnamed : r ≡ None → Acts k k i (Some (call_on e)) Refuses
-  begins-unnamed none = refuses (row-here ∙ shut e (state_of k) named rest fits-named (sym found ∙ none))
+  begins-unnamed none = refuses (row-here ∙ rw none refl)
 
   module _ {t : Target} (is : r ≡ Some t) {o : Option ℕ} (told : o ≡ natural (int_of (argument k 2))) where
     on : target_named k i (low (argument k 0)) ≡ Some t
@@ -157,12 +148,7 @@ module _ {k : Kernel} {i : ℕ} (runs : Runs k i) (e : End) {r : Option Target} 
     opened = may-go e f.file t (may e f.file) refl (ap (target_for e) (sym there) ∙ sym found ∙ is)
 
     row-counted : row (state_of k) i (me k i x) (call_on e) ≡ rest
-    row-counted =
-        let usable = usable-open k.tree.files f.file f.file.target (fits-at (used-here k i x) f.number f.file f.opened) ∙ ap (λ y. is_some (result_ok (usable y))) opened.on ∙ ap (λ r. is_some (result_ok r)) opened.usable in
-        row-here
-        ∙ ap (λ (o : Option OpenFile). filed e (state_of k) o rest) there
-        ∙ ap (λ (b : Bool). provided (b && is_usable k.tree.files (target_of f.file.target)) rest) opened.may
-        ∙ ap (λ (b : Bool). provided b rest) usable
+    row-counted = row-here ∙ rw is refl
 
     pub begins-below : o ≡ None → Acts k k i (Some (call_on e)) Refuses
     begins-below none = let below : natural (int_of (argument k 2)) ≡ None = sym told ∙ none in refuses (row-counted ∙ rw below refl)

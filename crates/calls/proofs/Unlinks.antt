@@ -31,21 +31,13 @@ unlink-row s i p path at = rw at (given-then (spot_of s.files p.directory path) 
 nameless-none : (holds : List ℕ) (files : Files) (d : ℕ) (path : List ℕ) → unlinked_in holds files d path ≡ None → nameless files d path ≡ None
 unfolding unlinked_in
 nameless-none holds files d path none = go (spot_of files d path) none where
-  unnamed : (at : Spot) → lookup files at.directory at.name ≡ None → (o : Option Files) → unlinked files at ≡ o → o ≡ None
-  unnamed at e None h = refl
-  unnamed at e (Some more) h = let u = unlink-parts files at more h in absurd (none-some u.number (sym e ∙ u.found))
-
-  unmapped : (n : ℕ) (o : Option Files) → option_map (λ (less : Files). let_go holds less n) o ≡ None → o ≡ None
-  unmapped n None h = refl
-  unmapped n (Some less) h = absurd (none-some (let_go holds less n) (sym h))
-
-  taken : (at : Spot) (n : Option ℕ) → lookup files at.directory at.name ≡ n → option_and_then (λ n. option_map (λ (less : Files). let_go holds less n) (unlinked files at)) n ≡ None → unlinked files at ≡ None
-  taken at None e h = unnamed at e (unlinked files at) refl
-  taken at (Some n) e h = unmapped n (unlinked files at) h
+  taken : (at : Spot) → option_and_then (λ n. option_map (λ (less : Files). let_go holds less n) (unlinked files at)) (lookup files at.directory at.name) ≡ None → (o : Option Files) → unlinked files at ≡ o → o ≡ None
+  taken at h None e = refl
+  taken at h (Some more) e = let u = unlink-parts files at more e in absurd (none-some (let_go holds more u.number) (sym h ∙ rw (u.found, e) refl))
 
   go : (o : Option Spot) → option_and_then (λ at. option_and_then (λ n. option_map (λ (less : Files). let_go holds less n) (unlinked files at)) (lookup files at.directory at.name)) o ≡ None → option_and_then (unlinked files) o ≡ None
   go None h = refl
-  go (Some at) h = taken at (lookup files at.directory at.name) refl h
+  go (Some at) h = taken at h (unlinked files at) refl
 
 -- ---- what stays of files with a name less
 

@@ -1,7 +1,8 @@
 -- Bytes that are read, and nodes that are open.
-use Rattle.calls.proofs.Common.{◌≡◌, ℕ, ◌<◌, ◌^◌, true, false, nat_le, List, length, take, Option, Some, None, is_some, ℤ, pos, negsuc, refl, ap, subst, sym, ◌∙◌, arith, cast_signed}
-use Rattle.calls.proofs.Common.{cast_unsigned, leb-true, of_z-to_z, length-take-le, none-some, same_Some, cond_some, result_ok, option_map, Target, target_of, Counted, file_at, usable, FitsNode}
-use Rattle.calls.proofs.Common.{IsInUse, node_of, node_on, Process, FileTree, Load, is_usable, is_usable_node, Files, Node, slot, Directory, File, Memory, reach, read_bytes, int_of, low, natural}
+use Rattle.calls.proofs.Common.{IfSome, option_and_then, ◌≡◌, ℕ, ◌<◌, ◌^◌, true, false, nat_le, List, length, take, Option, Some, None, is_some, ℤ, pos, negsuc, refl, ap, subst, sym, ◌∙◌, arith}
+use Rattle.calls.proofs.Common.{cast_signed, cast_unsigned, leb-true, of_z-to_z, length-take-le, cond_some, result_ok, option_map, Target, target_of, Counted, file_at, usable, FitsNode, IsInUse}
+use Rattle.calls.proofs.Common.{node_of, node_on, Process, FileTree, Load, is_usable, is_usable_node, Files, Node, slot, Directory, File, Memory, reach, read_bytes, int_of, low, natural}
+use Rattle.kernel.specs.Holding.{FitsFiles}
 use Rattle.std.specs.Int.{w32}
 use Rattle.files.specs.declared.file.OpenFile.{OpenFile}
 use Rattle.files.specs.declared.file.Target.TheVariants as target
@@ -61,9 +62,16 @@ console-device f n (Some (Device links major minor)) fits = record { links = lin
 console-device f n _ fits = absurd fits
 
 -- what an open file is on fits it
-module _ {t : FileTree} {opens : List (Option Counted)} {places : List (Option Process)} (is : IsInUse t opens places) (n : ℕ) where
-  pub fits-at : (f : OpenFile) → file_at opens n ≡ Some f → FitsNode f f.target (node_of t.files (node_on f.target))
-  fits-at f at = go (slot opens n) refl at where
-    go : (o : Option Counted) → slot opens n ≡ o → option_map (λ (c : Counted). c.file) o ≡ Some f → FitsNode f f.target (node_of t.files (node_on f.target))
-    go None here at = absurd (none-some f at)
-    go (Some c) here at = subst (λ (g : OpenFile). FitsNode g g.target (node_of t.files (node_on g.target))) (same_Some c.file f at) (is.fits n c here)
+module _ {t : FileTree} {opens : List (Option Counted)} {places : List (Option Process)} (is : IsInUse t opens places) where
+  fits-of : (n : ℕ) → IfSome (file_at opens n) (λ f. FitsFiles t.files f)
+  fits-of n = go (slot opens n) refl where
+    go : (o : Option Counted) → slot opens n ≡ o → IfSome (option_map (λ (c : Counted). c.file) o) (λ f. FitsFiles t.files f)
+    go None at = tt
+    go (Some c) at = is.fits n c at
+
+  pub fits-at : (n : ℕ) (f : OpenFile) → file_at opens n ≡ Some f → FitsFiles t.files f
+  fits-at n f at = subst (λ (o : Option OpenFile). IfSome o (λ f. FitsFiles t.files f)) at (fits-of n)
+
+  pub fits-named : (o : Option ℕ) → IfSome (option_and_then (file_at opens) o) (λ f. FitsFiles t.files f)
+  fits-named None = tt
+  fits-named (Some n) = fits-of n

@@ -6,14 +6,14 @@ use Rattle.calls.proofs.descriptor_calls.close.Goals as goal
 
 pub returns-in_default : goal.returns-in_default
 unfolding close_row
-returns-in_default g c = unnamed c.args.kernel.now c.args.at (here-of c.args.kernel.now c.args.at c.requires) _ Close refl (c.low-descriptor.ensures ∙ ap low c.argument.ensures) (sym c.in_default.ensures.named)
+returns-in_default g c = unnamed c.args.kernel.now c.args.at (here-of c.args.kernel.now c.args.at c.requires) _ Close refl (c.low-descriptor.ensures ∙ ap low c.argument.ensures) c.in_default.ensures.named
 
 pub close-requires-clause-may : goal.close-requires-clause-may
 close-requires-clause-may g c = record { running = c.requires.active; named = sym c.in-Some.ensures.named; up = c.requires.up }
 
 pub returns : goal.returns
 returns g c =
-    closes c.args.kernel.now c.args.at c.requires (c.low-descriptor.ensures ∙ ap low c.argument.ensures) (sym c.in-Some.ensures.named) c.is_sound.ensures.sound (c.in_ok-close.ensures.told, serves-disk c.in_ok-close.ensures)
+    closes c.args.kernel.now c.args.at c.requires (c.low-descriptor.ensures ∙ ap low c.argument.ensures) c.in-Some.ensures.named c.is_sound.ensures.sound (c.in_ok-close.ensures.told, serves-disk c.in_ok-close.ensures)
 
 pub returns-in_err-close : goal.returns-in_err-close
 returns-in_err-close g c = err-lost c.args.kernel.now _ c.args.at Close c.from_residual.result c.from_residual.ensures.0 (serves-disk c.in_err-close.ensures)

@@ -1,6 +1,6 @@
-use Rattle.calls.proofs.Common.{arith, Chdir, refl, chdir_row}
+use Rattle.calls.proofs.Common.{◌∙◌, sym, arith, Chdir, refl, chdir_row}
 use Rattle.calls.proofs.Execs.{reaches}
-use Rattle.calls.proofs.Homes.{chdir-lost, read-runs}
+use Rattle.calls.proofs.Homes.{lost-path, read-runs}
 use Rattle.calls.proofs.Opens.{after-look}
 use Rattle.calls.proofs.Served.{err-lost}
 use Rattle.calls.proofs.Names.{pathless}
@@ -11,7 +11,8 @@ unfolding chdir_row
 returns-in_default g c = pathless c.args.kernel.now c.args.at c.requires _ Chdir refl c.in_default.ensures.path
 
 pub returns-in_default-2 : goal.returns-in_default-2
-returns-in_default-2 g c = chdir-lost c.args.kernel.now c.args.at c.requires _ _ _ c.in-Some.ensures.path c.in_ok-number.ensures c.in_default-2.is
+unfolding chdir_row
+returns-in_default-2 g c = lost-path c.args.kernel.now c.args.at c.requires _ Chdir refl c.in-Some.ensures.path (c.in_ok-number.ensures.0, sym c.in_default-2.is ∙ c.in_ok-number.ensures.1)
 
 pub chdir_found-requires : goal.chdir_found-requires
 chdir_found-requires g c =
