@@ -1,8 +1,8 @@
 -- wait: the first zombie child of the running process goes, and its status is written.
 use Rattle.calls.proofs.Common.{◌≡◌, ◌≢◌, ℕ, zero, suc, true, false, nat_eq, List, IfSome, Option, Some, None, ℤ, refl, ap, sym, subst, ◌∙◌, arith, is_some, cast_unsigned, ne_eqb, set_comm, Acts, GoesOn, Runs, pending_for, Came}
-use Rattle.calls.proofs.Common.{Answers, Blocks, Refuses, Kernel, argument, base, descriptors_at, memories, on_hart, rest_of, state_of, with_status, IsKernel, IsPending, can_answer, waits-other, set-slot, slot-other, held-run}
-use Rattle.calls.proofs.Common.{Places, is_child_of, is_zombie_child_of, place_where, reaped_at, zombie_place, has_child-with_table, zombie_child-with_table, with_memory, SpaceView, view_at, goes_on, Wait, Pending, clear}
-use Rattle.calls.proofs.Common.{put, slot, le, given, pending_arg, has_child, wait_for, wait_on, wait_row, zombie_child, State, process_at, put_process, process-run, unwrap_or, no_pages, option_map, loaded-run, loaded, memory_in}
+use Rattle.calls.proofs.Common.{Answers, Blocks, Refuses, Kernel, argument, base, descriptors_at, on_hart, rest_of, state_of, with_status, IsKernel, IsPending, can_answer, waits-other, set-slot, slot-other, held-run}
+use Rattle.calls.proofs.Common.{Places, is_child_of, is_zombie_child_of, place_where, reaped_at, zombie_place, has_child-with_table, zombie_child-with_table, with_space, SpaceView, view_at, goes_on, Wait, Pending, clear}
+use Rattle.calls.proofs.Common.{put, slot, le, given, pending_arg, has_child, wait_for, wait_on, wait_row, zombie_child, State, process_at, put_process, process-run, unwrap_or, no_pages, option_map, loaded-run, loaded}
 use Rattle.std.specs.Int.{w32}
 use Rattle.calls.proofs.Acts.{Here, begins-on, getpid-is, goes-done, goes-waits, going, here-of, me, provided-refused, refused, runner}
 use Rattle.kernel.proofs.Collecting.{HasReaped, collected-kernel, collected-run, collected-state, has-reaped, unreaped-go, zombie-idle}
@@ -32,13 +32,13 @@ module _ {k : Kernel} {i : ℕ} (runs : Runs k i) (parent : ℕ) (named : IfSome
 
   zombie-is : zombie_child (state_of k) x.process.pid ≡ zombie_place k.table parent
   zombie-is =
-      zombie_child-with_table (base (rest_of k)) (loaded k) (memories k.spaces) x.process.pid
+      zombie_child-with_table (base (rest_of k)) (loaded k) k.spaces.places x.process.pid
       ∙ place-changed (is_zombie_child_of x.process.pid) (λ s p. refl) k.table k.spaces k.spaces.active
       ∙ ap (zombie_place k.table) parent-is
 
   child-is : has_child (state_of k) x.process.pid ≡ is_some (place_where k.table.places (is_child_of parent))
   child-is =
-      has_child-with_table (base (rest_of k)) (loaded k) (memories k.spaces) x.process.pid
+      has_child-with_table (base (rest_of k)) (loaded k) k.spaces.places x.process.pid
       ∙ ap is_some (place-changed (is_child_of x.process.pid) (λ s p. refl) k.table k.spaces k.spaces.active)
       ∙ ap (λ (n : ℕ). is_some (place_where k.table.places (is_child_of n))) parent-is
 
@@ -64,10 +64,10 @@ module _ {k : Kernel} {i : ℕ} (runs : Runs k i) (parent : ℕ) (named : IfSome
       abbrev mid-here : Here mid i
       mid-here = record { process = x.process; held = x.held; run = collected-run (runner x) r.place apart; sound = collected-kernel x.sound r.place has.child has.zombie; up = x.up }
 
-      child-at : process_at (state_of k) r.place ≡ Some (with_memory (memory_in (slot k.spaces.places r.place)) has.child)
+      child-at : process_at (state_of k) r.place ≡ Some (with_space (view_at k.spaces r.place) has.child)
       child-at =
           process-state k r.place
-          ∙ ap (option_map (with_memory (memory_in (slot k.spaces.places r.place)))) (ap (λ (t : Places). slot t.places r.place) (loaded-run k i x.process x.held x.run) ∙ slot-other k.table.places i r.place (Some (on_hart k.spaces x.process)) apart ∙ has.zombie.at)
+          ∙ ap (option_map (with_space (view_at k.spaces r.place))) (ap (λ (t : Places). slot t.places r.place) (loaded-run k i x.process x.held x.run) ∙ slot-other k.table.places i r.place (Some (on_hart k.spaces x.process)) apart ∙ has.zombie.at)
 
       pub collects-can : can_answer (view_at k.spaces i).memory (pending_arg w 0) ≡ true → (m.spaces.active ≡ Some i) × (can_answer (view_at m.spaces i).memory (pending_arg w 0) ≡ true)
       collects-can can = rw mid-is (runs.active, ap (λ (o : Option SpaceView). can_answer (unwrap_or o no_pages).memory (pending_arg w 0)) (slot-other k.spaces.places r.place i None (λ e. apart (sym e))) ∙ can)

@@ -47,16 +47,16 @@ pub use Rattle.kernel.specs.Descriptors.{descriptors_in}
 pub use Rattle.kernel.specs.Disk.{directory_at, directory_in, HasFiled, HasRead, IsLost, IsServed, LeavesDisk, with_tree}
 pub use Rattle.kernel.specs.Holding.{FitsNode, home_in, IsFolder, IsInUse, node_of, node_on}
 pub use Rattle.kernel.specs.Kernel.{answered, argument, base, blocked, computed, counting, descriptors_at, ended, entered, Kernel, lives}
-pub use Rattle.kernel.specs.Kernel.{loaded, marked, memories, memory_in, on_hart, picked, rest_of, started, started_as, state_of, stopped_at, ticked, typed, waking}
+pub use Rattle.kernel.specs.Kernel.{loaded, marked, on_hart, picked, rest_of, started, started_as, state_of, stopped_at, ticked, typed, waking}
 pub use Rattle.kernel.specs.Memory.{drew, resized, sent, wrote}
 pub use Rattle.kernel.specs.Ready.{has_slept, Stands}
 pub use Rattle.kernel.specs.Sound.{can_answer, CanRun, file_named, is_on_pipe, IsAlive, IsAwaiting, IsForBytes, IsForPipe, IsFresh}
 pub use Rattle.kernel.specs.Sound.{IsKernel, IsLive, IsMode, IsPending, IsPlaced, IsReading, IsWriting, WaitsAs, WaitsWell}
 pub use Rattle.names.proofs.Finding.{enter-parts, make-parts, unlink-parts}
-pub use Rattle.proc.proofs.Joined.{change_process-with_table, has_child-with_table, zombie_child-with_table}
+pub use Rattle.kernel.proofs.Joined.{change_process-with_table, has_child-with_table, zombie_child-with_table}
 pub use Rattle.proc.specs.Places.{changed, has_pid, is_child_of, is_zombie_child_of, place_where, Places, reaped_at}
 pub use Rattle.proc.specs.Places.{seat_at, seat_of, with_mark, zombie_place}
-pub use Rattle.proc.specs.Whole.{with_memory, with_table}
+pub use Rattle.kernel.specs.Whole.{with_space, with_table}
 pub use Rattle.proc.specs.declared.process.Process.{Process}
 pub use Rattle.programs.proofs.Places.{length-write}
 pub use Rattle.programs.specs.Executed.{frames_beside, plan_at}

@@ -1,6 +1,6 @@
 -- kill: a process is marked; one that marks itself is answered, and ends.
 use Rattle.calls.proofs.Common.{List, None, Option, Some, [], ap, arith, negsuc, refl, sym, true, zero, suc, ℕ, ℤ, ◌+◌, ◌&&◌, ◌||◌, ◌∙◌, ◌≡◌, ◌≢◌, length, nat_le, nat_lt, slice_index, le-leb, get_or-set_other}
-use Rattle.calls.proofs.Common.{Acts, Runs, marked_by, settled_by, Answers, KillsItself, Refuses, Kernel, answered, argument, base, ended, marked, memories, on_hart, rest_of, state_of, waking, place_called}
+use Rattle.calls.proofs.Common.{Acts, Runs, marked_by, settled_by, Answers, KillsItself, Refuses, Kernel, answered, argument, base, ended, marked, on_hart, rest_of, state_of, waking, place_called}
 use Rattle.calls.proofs.Common.{IsKernel, kept-cong, ends-run, within-state, process-run, self, slot-put, slot-within, answer-run, change-run, state-but, Process, Places, changed, has_pid, place_where, with_mark}
 use Rattle.calls.proofs.Common.{change_process-with_table, with_table, Files, links_of, blocks_of, frames_of, end_at, quiet, settle, is_within, Kill, int_of, natural, Outcome, answers, end_process, given, limited}
 use Rattle.calls.proofs.Common.{provided, Done, kill_row, reap, without_nodes, without_opens, without_pipes, State, change_process, open_limit, place_of_pid, process_at, with_answer, option_map, ◌==◌, loaded}
@@ -23,8 +23,8 @@ use Rattle.unixmodel.specs.Reap.{is_described, is_same}
 -- whichever it is
 mark-state : (k : Kernel) (j : ℕ) → change_process (state_of k) j rows.marked ≡ state_of (marked k j)
 mark-state k j =
-    change_process-with_table rows.marked with_mark (λ m x. refl) (base (rest_of k)) (loaded k) (memories k.spaces) j
-    ∙ ap (λ (t : Places). with_table (base (rest_of k)) t (memories k.spaces)) (go k.spaces.active)
+    change_process-with_table rows.marked with_mark (λ g x. refl) (base (rest_of k)) (loaded k) k.spaces.places j
+    ∙ ap (λ (t : Places). with_table (base (rest_of k)) t k.spaces.places) (go k.spaces.active)
   where
     go : (o : Option ℕ) → changed (changed_at k.table (on_hart k.spaces) o) j with_mark ≡ changed_at (changed k.table j with_mark) (on_hart k.spaces) o
     go None = refl

@@ -70,7 +70,6 @@ module _ (k : Kernel) (i : ℕ) (y : Here k i) (a : ℕ) (x : Ends) where
 
   placed : IsPlaced q h
   placed = let l = live k i p y.held y.run is in let placed = y.run.placed in record {
-    size = placed.size;
     zero = placed.zero;
     aligned = placed.aligned;
     mode = runs-mode q h.memory p.mode y.run.runs (record { descriptors = length-set (put p.descriptors x.read_fd x.reader) x.write_fd (Some x.writer) ∙ length-set p.descriptors x.read_fd (Some x.reader) ∙ l.descriptors }) (not-killed k i p y.held y.run is);

@@ -2,7 +2,7 @@
 use Rattle.calls.proofs.Common.{DeviceFault, ◌≡◌, ℕ, Option, None, false, refl, ap, subst, sym, ◌∙◌, true, Some, Err, Ok, OnOk, Result, unwrap_or, CanWait, GoesOn, Runs, going_at, going_by}
 use Rattle.calls.proofs.Common.{settled_by, Came, descriptors_in, state-waking, Kernel, started, state_of, lives, waking, CanRun, IsAwaiting, IsKernel, WaitsAs, WaitsWell, IsLive, IsMode}
 use Rattle.calls.proofs.Common.{IsPending, WaitsIn, resumed, resumed_by, resumed_in, IsThere, process-idle, there-of, process-run, started-is, started-kernel, started-run, started-state}
-use Rattle.calls.proofs.Common.{started_to, Process, with_memory, SpaceView, no_pages, goes_on, quiet, resume, settle, Running, Waiting, Pending, slot, State, Mode, Memory, kernel-waking}
+use Rattle.calls.proofs.Common.{started_to, Process, with_space, SpaceView, no_pages, goes_on, quiet, resume, settle, Running, Waiting, Pending, slot, State, Mode, Memory, kernel-waking}
 use Rattle.unixmodel.specs.Process as unix
 
 -- a process that waits and may go on
@@ -45,8 +45,8 @@ module _ (k : Kernel) (i : ℕ) (p : Process) (h : SpaceView) (w : Pending) (is 
   goes =
       let run = started-run k i p h is none f.there.process f.there.space f.alive f.live f.free in
       ap (resumed_by (state_of k) i) (process-idle k i p h is none f.there f.alive)
-      ∙ ap (resumed_in (state_of k) i (with_memory h.memory p)) f.waits
-      ∙ ap (λ (s : State). settle s i (goes_on s i (with_memory h.memory q) w w.number)) (sym (started-state k i p h is none f.there.process f.there.space f.alive f.live f.free))
+      ∙ ap (resumed_in (state_of k) i (with_space h p)) f.waits
+      ∙ ap (λ (s : State). settle s i (goes_on s i (with_space h q) w w.number)) (sym (started-state k i p h is none f.there.process f.there.space f.alive f.live f.free))
       ∙ sym (ap (λ (o : Option unix.Process). settle (state_of to) i (going_by (state_of to) i w o)) (process-run to i q h run))
 
   resting : Resumes k to i w

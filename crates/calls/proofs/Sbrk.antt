@@ -14,14 +14,14 @@ module _ (k : Kernel) (i : ℕ) (runs : Runs k i) where
   unfolding sbrk_row
   sbrk-below below =
       let none : natural (pos x.held.size +ℤ int_of (argument k 0)) ≡ None = rw held at below in
-      refused k i x (Some Sbrk) (rw (x.run.placed.size, none) refl)
+      refused k i x (Some Sbrk) (rw none refl)
 
   module _ {size : ℕ} (can : asked k i (int_of (argument k 0)) ≡ Some size) where
     made : row (state_of k) i (me k i x) Sbrk ≡ Done (state_of (resized k i size)) x.held.size []
     unfolding sbrk_row
     made =
         let can' : natural (pos x.held.size +ℤ int_of (argument k 0)) ≡ Some size = rw held at can in
-        rw (x.run.placed.size, can') (ap (λ (s : State). Done s x.held.size []) (sym (resized-state x.run x.sound size)))
+        rw can' (ap (λ (s : State). Done s x.held.size []) (sym (resized-state x.run x.sound size)))
 
     pub sbrk-acts : {new : Kernel} → new ≡ resized k i size → IsKernel new → {old : ℕ} → old ≡ (view_at k.spaces i).size → Acts k new i (Some Sbrk) (Answers old)
     sbrk-acts is sound old = rw (is, old ∙ ap (λ (h : SpaceView). h.size) held) (does k i x (resized k i size) Sbrk x.held.size (here-in (subst IsKernel is sound) x.run.active x.up) refl made)

@@ -1,7 +1,7 @@
 -- A step: the running process does an instruction, or a turn where none runs.
 use Rattle.calls.proofs.Common.{DeviceFault, ◌≡◌, ℕ, ◌%◌, Bool, true, false, List, Option, Some, None, Ok, Err, ℤ, negsuc, refl, ap, subst, sym, ◌∙◌, IfOk, OnOk, Result, if◌then◌else◌, slice_index, Halt, Dispatches, EventGives}
 use Rattle.calls.proofs.Common.{IsMade, halt_of, Kernel, computed, counting, ended, lives, picked, started, state_of, waking, called, IsKernel, IsLive, IsMode, IsAlive, resumed, resumed_by, resumed_in, IsThere, process-idle}
-use Rattle.calls.proofs.Common.{there-of, turn-alive, picked-state, picks-killed, picks-ready, held-run, state-but, Process, with_memory, SpaceView, view_at, After, quiet, cycle, Mode, Ready, Waiting, Pending, Trap, slot}
+use Rattle.calls.proofs.Common.{there-of, turn-alive, picked-state, picks-killed, picks-ready, held-run, state-but, Process, with_space, SpaceView, view_at, After, quiet, cycle, Mode, Ready, Waiting, Pending, Trap, slot}
 use Rattle.calls.proofs.Common.{Computed, Memory, execute_at, is_ecall, pick, take_turn, end_process, State, process_at, ends-run, moved-state, process-run, computed-is, placed-with, memory_after, effect_of, execute, called_by}
 use Rattle.calls.specs.declared.halt.Halt.TheVariants.{Console, Device}
 use Rattle.calls.specs.Resuming.{taken, taken_by}
@@ -51,7 +51,7 @@ module _ {k : Kernel} {i : ℕ} (is : IsKernel k) (active : k.spaces.active ≡ 
   pub step-computes : {d : Computed} → cycle k.spaces.registers k.spaces.pc (view_at k.spaces i).memory ≡ Ok d → execute_at (state_of k) i (process_at (state_of k) i) ≡ quiet (state_of (computed k i d))
   step-computes {d} means =
       effect-run means
-      ∙ ap quiet (sym (ap state_of (computed-is k i x.process x.held x.run is d) ∙ moved-state k i x.process x.held x.run is x.process (record x.held { memory = memory_after x.held.memory d.change }) d.regs d.pc (placed-with k i x.process x.held x.run is (memory_after x.held.memory d.change)) x.run.runs))
+      ∙ ap quiet (sym (ap state_of (computed-is k i x.process x.held x.run is d) ∙ moved-state k i x.process x.held x.run is x.process (record x.held { memory = memory_after x.held.memory d.change }) d.regs d.pc (placed-with k i x.process x.held x.run is (record x.held { memory = memory_after x.held.memory d.change })) x.run.runs))
 
   module _ {t : Trap} (means : cycle k.spaces.registers k.spaces.pc (view_at k.spaces i).memory ≡ Err t) where
     pub step-calls : is_ecall t.cause ≡ true → execute_at (state_of k) i (process_at (state_of k) i) ≡ called (state_of k) i
@@ -70,7 +70,7 @@ live-mode : (p : Process) (m : Memory) (mode : Mode) → mode ≡ Ready → IsMo
 live-mode p m mode e is = rw e at is
 
 module _ (k : Kernel) (i : ℕ) (p : Process) (is : IsKernel k) (none : k.spaces.active ≡ None) (at : slot k.table.places i ≡ Some p) (up : k.tree.failed ≡ false) where
-  taken-is : (alive : lives p ≡ true) → (h : SpaceView) × (IsThere k i p h × (taken (state_of k) i ≡ next.picked (state_of k) i (with_memory h.memory p)))
+  taken-is : (alive : lives p ≡ true) → (h : SpaceView) × (IsThere k i p h × (taken (state_of k) i ≡ next.picked (state_of k) i (with_space h p)))
   taken-is alive =
       let t = there-of k i p is at in
       (t.0, (t.1, ap (taken_by (state_of k) i) (process-idle k i p t.0 is none t.1 alive)))
@@ -94,7 +94,7 @@ module _ (k : Kernel) (i : ℕ) (p : Process) (is : IsKernel k) (none : k.spaces
   takes-waiting w free waits =
       let alive : lives p ≡ true = rw waits refl in
       let t = taken-is alive in
-      let whole = with_memory t.0.memory p in
+      let whole = with_space t.0 p in
       t.1.1
       ∙ ap (λ (b : Bool). if b then quiet (end_process (state_of k) i whole (negsuc 0)) else next.picked_in (state_of k) i whole whole.mode) free
       ∙ ap (next.picked_in (state_of k) i whole) waits

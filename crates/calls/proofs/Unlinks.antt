@@ -2,7 +2,7 @@
 use Rattle.calls.proofs.Served.{ok-told}
 use Rattle.calls.proofs.Common.{◌≡◌, ◌≢◌, ℕ, ◌*◌, ◌≤◌, ◌∙◌, Bool, List, [], None, Option, Some, ap, arith, false, refl, subst, sym, true, Result, if◌then◌else◌, nat_le, nat_lt, option_and_then, directory_at}
 use Rattle.calls.proofs.Common.{with_tree, option_map, slice_set, ◌&&◌, ◌||◌, length-set, none-some, Acts, ActsOnDisk, Runs, DeviceFault, Came, Answers, Counts, without_pipes-same, without_opens-same, IsInUse, Kernel}
-use Rattle.calls.proofs.Common.{answered, argument, loaded, memories, state_of, IsKernel, is_by, kept-cong, used-is, counts-joined, away-loaded, opened-loaded, used-loaded, within-state, answer-run, not-killed}
+use Rattle.calls.proofs.Common.{answered, argument, loaded, state_of, IsKernel, is_by, kept-cong, used-is, counts-joined, away-loaded, opened-loaded, used-loaded, within-state, answer-run, not-killed}
 use Rattle.calls.proofs.Common.{regs-kernel, regs-run, process-run, unlink-parts, view_at, TreeFault, let_go, has_failed, Reaps, quiet, row, settle, blocks_of, frames_of, is_within, Unlink, Files, Node, Spot}
 use Rattle.calls.proofs.Common.{blocks_for, change_node, erase, is_directory, links_of, lookup, size_of, slot, spot_of, without_place, Directory, File, path_at, fewer_links, path_arg, unlink_row, unlinked, with_files}
 use Rattle.calls.proofs.Common.{without_name, Outcome, answers, limited, Done, with_answer, is_used, kept, reap, without_nodes, without_opens, without_pipes, State, change_process, open_limit, zero, ◌∷◌, suc}
@@ -122,7 +122,7 @@ module _ (k : Kernel) (i : ℕ) (x : Here k i) (d : ℕ) (path : List ℕ) {to :
       (kept-cong (λ n node. nat_lt 0 (links_of node) || is_used full n) (is_by to.tree.holds) 0 g.less (λ a j y e at.
       let same : j ≡ a = omega (arith, e) in
       let some : j ≢ 0 = λ z. none-some y (sym ((unlinked-less k.tree.files g.at g.less g.made).none 0 is.zero) ∙ ap (slot g.less) (sym z ∙ same) ∙ at) in
-      ap (λ b. nat_lt 0 (links_of y) || b) (used-is last.files (loaded last).places (memories last.spaces) (away-loaded last last-sound) full refl refl j some ∙ ap (nat_lt 0) (sym (now.holds j))))
+      ap (λ b. nat_lt 0 (links_of y) || b) (used-is last.files (loaded last).places last.spaces.places (away-loaded last last-sound) full refl refl j some ∙ ap (nat_lt 0) (sym (now.holds j))))
       ∙ ap (λ hs. kept (is_by hs) 0 g.less) holds
       ∙ sym (kept-is is to.tree d path made))
 
@@ -130,7 +130,7 @@ module _ (k : Kernel) (i : ℕ) (x : Here k i) (d : ℕ) (path : List ℕ) {to :
   unfolding reap
   reaped =
       let opened = opened-loaded last last-sound in
-      let counts : Counts last.files full.places = counts-joined last.files (loaded last).places (memories last.spaces) opened.counted in
+      let counts : Counts last.files full.places = counts-joined last.files (loaded last).places last.spaces.places opened.counted in
       let opens : without_opens full ≡ full = without_opens-same full last.files opened.table counts in
       let pipes : without_pipes full ≡ full = without_pipes-same full opened.piped in
       ap (λ (s : State). without_nodes (without_pipes s)) opens ∙ ap without_nodes pipes ∙ nodes-reaped

@@ -1,16 +1,18 @@
 -- The parts of a kernel's state, as they go into its digest.
-use Rattle.std.proofs.Common.{◌≡◌, ℕ, ◌+◌, ◌<◌, false, true, List, [], ◌∷◌, ◌++◌, length, take, Option, None, Some, ap, ap₂, arith, get_or, length-append, refl, sym, ◌∙◌}
-use Rattle.std.specs.Prelude.{is_some, option_map, slice_get, unwrap_or}
+use Rattle.std.proofs.Common.{◌≡◌, ℕ, ◌+◌, ◌<◌, true, List, [], ◌∷◌, ◌++◌, length, take, Option, None, Some, ap, ap₂, arith, get_or, length-append, refl, subst, sym, ◌∙◌}
+use Rattle.std.specs.Prelude.{is_some, option_map, slice_get}
 use Rattle.std.proofs.lemmas.List.{take_all}
 use Rattle.std.proofs.lemmas.List.Sums.{fold_more}
 use Rattle.digests.specs.Digest.{bare_mixed, console_mixed, each, front_of, memory_mixed, mix, mixed, page_or_same, place_mixed, status_number}
 use Rattle.digests.proofs.Steps.{each-all}
+use Rattle.kernel.proofs.Reaped.{IsMatch, match-loaded}
 use Rattle.kernel.proofs.Shown.{process-state}
-use Rattle.kernel.specs.Kernel.{Kernel, loaded, memory_in, on_hart, state_of}
+use Rattle.kernel.specs.Kernel.{Kernel, loaded, on_hart, state_of}
 use Rattle.proc.specs.declared.process.Process.{Process}
 use Rattle.proc.specs.Places.{Places, changed_at}
-use Rattle.proc.specs.Whole.{with_memory}
-use Rattle.spaces.specs.Spaces.{SpaceView, no_pages}
+use Rattle.kernel.specs.Sound.{IsKernel}
+use Rattle.kernel.specs.Whole.{with_space}
+use Rattle.spaces.specs.Spaces.{SpaceView, has_space, view_at}
 use Rattle.unixmodel.specs.Console.{Console}
 use Rattle.unixmodel.specs.Files.{slot}
 use Rattle.unixmodel.specs.Memory.{Memory}
@@ -22,34 +24,35 @@ use Rattle.unixmodel.specs.State.{process_at}
 abbrev pub pages_step : Memory → ℕ → ℕ → ℕ
 pages_step memory digest n = page_or_same digest (slice_get memory n)
 
-pub no-memory : (o : Option SpaceView) (digest : ℕ) → is_some o ≡ false → mix digest 0 ≡ memory_mixed digest (memory_in o)
-unfolding memory_mixed each
-no-memory None digest none = refl
-no-memory (Some h) digest none = absurd (cc)
-
-pub memory-done : (o : Option SpaceView) (digest now n pages : ℕ) → is_some o ≡ true → pages ≡ length (unwrap_or o no_pages).memory
-    → now ≡ each (pages_step (unwrap_or o no_pages).memory) n (mix digest pages) → n ≡ pages → now ≡ memory_mixed digest (memory_in o)
+pub memory-done : (h : SpaceView) (digest now n pages : ℕ) → pages ≡ length h.memory → now ≡ each (pages_step h.memory) n (mix digest pages) → n ≡ pages → now ≡ memory_mixed digest h.memory
 unfolding memory_mixed
-memory-done None digest now n pages some count is all = absurd (cc)
-memory-done (Some h) digest now n pages some count is all =
+memory-done h digest now n pages count is all =
     each-all (pages_step h.memory) n (length h.memory) (mix digest pages) now is (all ∙ count) ∙ ap (λ k. each (pages_step h.memory) (length h.memory) (mix digest k)) count
 
-place-told : (k : Kernel) (i digest : ℕ) (o : Option Process) → o ≡ slot (loaded k).places i
-    → place_mixed digest (option_map (with_memory (memory_in (slot k.spaces.places i))) o) ≡ place_mixed digest (process_at (state_of k) i)
-place-told k i digest o is = ap (λ (p : Option Process). place_mixed digest (option_map (with_memory (memory_in (slot k.spaces.places i))) p)) is ∙ ap (place_mixed digest) (sym (process-state k i))
+place-told : (k : Kernel) (i digest : ℕ) (o : Option Process) → o ≡ slot (loaded k).places i → place_mixed digest (option_map (with_space (view_at k.spaces i)) o) ≡ place_mixed digest (process_at (state_of k) i)
+place-told k i digest o is = ap (λ (p : Option Process). place_mixed digest (option_map (with_space (view_at k.spaces i)) p)) is ∙ ap (place_mixed digest) (sym (process-state k i))
 
 pub no-place : (k : Kernel) (i digest : ℕ) → None ≡ slot (loaded k).places i → mix digest 0 ≡ place_mixed digest (process_at (state_of k) i)
 no-place k i digest is = place-told k i digest None is
 
-bare-same : (digest : ℕ) (memory : Memory) (p : Process) → bare_mixed digest (with_memory [] p) ≡ bare_mixed digest (with_memory memory p)
+-- a process with its size alone goes in as with its space
+bare-same : (digest : ℕ) (h : SpaceView) (p : Process) → bare_mixed digest (with_space (record { memory = []; size = h.size }) p) ≡ bare_mixed digest (with_space h p)
 unfolding bare_mixed
-bare-same digest memory p = refl
+bare-same digest h p = refl
 
-pub place-done : (k : Kernel) (i digest bare now : ℕ) (p : Process) → Some p ≡ slot (loaded k).places i → bare ≡ bare_mixed digest (with_memory [] p) → now ≡ memory_mixed bare (memory_in (slot k.spaces.places i))
+-- where there is a process there is a space
+space-match : (o : Option Process) (q : Option SpaceView) (p : Process) → Some p ≡ o → IsMatch o q → is_some q ≡ true
+space-match o None p is fits = absurd (subst (λ (x : Option Process). IsMatch x None) (sym is) fits)
+space-match o (Some h) p is fits = refl
+
+pub space-there : (k : Kernel) → IsKernel k → (i : ℕ) (p : Process) → Some p ≡ slot (loaded k).places i → has_space k.spaces i ≡ true
+space-there k sound i p is = space-match (slot (loaded k).places i) (slot k.spaces.places i) p is (match-loaded k sound i)
+
+pub place-done : (k : Kernel) (i digest size bare now : ℕ) (p : Process) → Some p ≡ slot (loaded k).places i → size ≡ (view_at k.spaces i).size → bare ≡ bare_mixed digest (with_space (record { memory = []; size = size }) p) → now ≡ memory_mixed bare (view_at k.spaces i).memory
     → now ≡ place_mixed digest (process_at (state_of k) i)
-place-done k i digest bare now p is told all =
-    let memory = memory_in (slot k.spaces.places i) in
-    all ∙ ap (λ d. memory_mixed d memory) (told ∙ bare-same digest memory p) ∙ place-told k i digest (Some p) is
+place-done k i digest size bare now p is long told all =
+    let h = view_at k.spaces i in
+    all ∙ ap (λ d. memory_mixed d h.memory) (told ∙ ap (λ (n : ℕ). bare_mixed digest (with_space (record { memory = []; size = n }) p)) long ∙ bare-same digest h p) ∙ place-told k i digest (Some p) is
 
 -- ---- the console
 

@@ -1,10 +1,9 @@
 //! How processes go into a digest.
 ghost use Rattle.std.specs.Prelude.{◌≡◌, [], slice_get, true};
 ghost use Rattle.digests.specs.Digest.{bare_mixed, descriptor_number, descriptors_mixed, memory_mixed, mixed, mode_numbers, page_or_same, place_mixed, places_mixed, waiting_number};
-ghost use Rattle.kernel.specs.Kernel.{memory_in, state_of};
-ghost use Rattle.proc.specs.Whole.{with_memory};
+ghost use Rattle.kernel.specs.Kernel.{state_of};
+ghost use Rattle.kernel.specs.Whole.{with_space};
 ghost use Rattle.spaces.specs.Spaces.{has_space, view_at};
-ghost use Rattle.unixmodel.specs.Files.{slot};
 ghost use Rattle.unixmodel.specs.State.{process_at};
 
 use crate::mixing::{flag, mix, mix_bytes, mix_numbers};
@@ -70,16 +69,16 @@ fn mix_descriptors(digest: u64, descriptors: &[Option<u8>]) -> u64
     digest
 }
 
-// A process goes in, but for its memory.
+// A process of so many bytes goes in, but for its memory.
 #[tactic(auto, unfolding(crate::specs::Digest::bare_mixed))]
-fn mix_process(digest: u64, process: &Process) -> u64
-    ensures { result ≡ bare_mixed digest (with_memory [] process.now) }
+fn mix_process(digest: u64, process: &Process, size: u64) -> u64
+    ensures { result ≡ bare_mixed digest (with_space (record { memory = []; size = size }) process.now) }
 {
     let front = [
         u64::from(process.pid),
         u64::from(process.parent),
         process.pc,
-        process.size,
+        size,
         u64::from(process.directory),
         flag(process.killed),
     ];
@@ -103,11 +102,9 @@ fn mix_page<T: Translate>(digest: u64, spaces: &Spaces<T>, at: usize, n: u64) ->
 
 // The memory of a place goes in.
 fn mix_memory<T: Translate>(digest: u64, spaces: &Spaces<T>, at: usize) -> u64
-    ensures { result ≡ memory_mixed digest (memory_in (slot spaces.now.places at)) }
+    requires { has_space spaces.now at ≡ true }
+    ensures { result ≡ memory_mixed digest (view_at spaces.now at).memory }
 {
-    if !spaces.has_space(at) {
-        return mix(digest, 0);
-    }
     let pages = spaces.pages(at);
     let mut digest = mix(digest, pages);
     for n in 0..pages {
@@ -122,7 +119,11 @@ fn mix_place<D: BlockDev, T: Translate>(digest: u64, kernel: &Kernel<D, T>, at: 
 {
     match kernel.whole(at) {
         None => mix(digest, 0),
-        Some(process) => mix_memory(mix_process(digest, &process), kernel.spaces(), at),
+        Some(process) => {
+            kernel.is_sound();
+            let spaces = kernel.spaces();
+            mix_memory(mix_process(digest, &process, spaces.size(at)), spaces, at)
+        }
     }
 }
 

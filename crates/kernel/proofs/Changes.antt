@@ -1,14 +1,14 @@
 -- Which process runs, and the end of a process.
-use Rattle.kernel.proofs.Common.{◌≡◌, ◌≢◌, ℕ, zero, suc, ◌+◌, ◌<◌, ◌≤◌, ◌%◌, inl, inr, true, false, nat_eq, List, [], ◌∷◌, ◌++◌, length, map, Option, Some, None, ℤ, refl, ap, sym, ◌∙◌, arith, if◌then◌else◌, option_map}
-use Rattle.kernel.proofs.Common.{slice_index, slice_index_or, slice_set, ne_eqb, nat_tests, get_or-set_other, length-map, length-set, option_eq, all_closed, descriptors_in, standing, AreHeld, IsInUse, all_dropped, files_on}
-use Rattle.kernel.proofs.Common.{gone_nodes, home_in, homes_at, all-set, Kernel, base, descriptors_at, ended, halted_by, idle, left_as, left_home, lives, loaded, memories, memory_in, on_hart, rest_of, state_of, IsKernel, IsMode}
+use Rattle.kernel.proofs.Common.{◌≡◌, ◌≢◌, ℕ, zero, suc, ◌+◌, ◌<◌, ◌≤◌, ◌%◌, inl, inr, true, false, nat_eq, List, [], ◌∷◌, ◌++◌, length, map, Option, Some, None, ℤ, refl, ap, sym, ◌∙◌, arith, if◌then◌else◌, option_map, no_pages, unwrap_or, with_space}
+use Rattle.kernel.proofs.Common.{slice_index, slice_set, ne_eqb, nat_tests, get_or-set_other, length-map, length-set, option_eq, all_closed, descriptors_in, standing, AreHeld, IsInUse, all_dropped, files_on}
+use Rattle.kernel.proofs.Common.{gone_nodes, home_in, homes_at, all-set, Kernel, base, descriptors_at, ended, halted_by, idle, left_as, left_home, lives, loaded, on_hart, rest_of, state_of, IsKernel, IsMode}
 use Rattle.kernel.proofs.Common.{IsPlace, IsPlaced, WaitsWell, is_at, one_in, Counts, one_at, sum_by-cons, sum_by-set, none-some, Counted, opens_of, Process, changed_at, exited, orphaned, zombie_of, with_zombie-with_table}
-use Rattle.kernel.proofs.Common.{with_memory, with_table, SpaceView, Spaces, taken_frames, Mode, Ready, Running, Waiting, Zombie, put, slot, Memory, end_process, is_running_mode, reap, State, holds, put_process}
+use Rattle.kernel.proofs.Common.{with_table, SpaceView, Spaces, taken_frames, Mode, Ready, Running, Waiting, Zombie, put, slot, Memory, end_process, is_running_mode, reap, State, holds, put_process}
 use Rattle.kernel.proofs.Holding.{AreOldHomes, all-failed, fewer-held, fewer-leaves, fewer-nodes, fewer-used, used-put, named_in, same-map, slot-map}
 use Rattle.kernel.proofs.Named.{Leaves, counted-ended, counts-joined, fewer-pipes, files-all_closed, files_on-all_closed, leaves-standing, named_in-append, old-all_closed, opens-all_closed, orphan-same, reap-closed, table-all_closed}
 use Rattle.kernel.proofs.Opens.{active-by, active-same, opened-put, waits-fewer, waits-set}
 use Rattle.kernel.proofs.Reaped.{are-away, opened-loaded, used-loaded}
-use Rattle.kernel.proofs.Runs.{IsRun, home-living, memory-at, put-same, runs-set, same_or_not, set-twice, slot-other, slot-put, slot-within, state-run, with_process, within-run}
+use Rattle.kernel.proofs.Runs.{IsRun, home-living, put-same, runs-set, same_or_not, set-twice, slot-other, slot-put, slot-within, state-run, with_process, within-run}
 use Rattle.proc.specs.Places as table
 use Rattle.unixmodel.specs.Outcome as ends
 
@@ -28,7 +28,7 @@ mode-kept p parent registers pc m (Zombie status) is = record { descriptors = is
 
 -- the hart's process stands as well as its table's
 hart-placed : (s : Spaces) → slice_index s.registers 0 ≡ 0 → s.pc % 4 ≡ 0 → (o : Option Process) (q : Option SpaceView) → IsPlace o q → IsPlace (option_map (on_hart s) o) q
-hart-placed s zero' aligned (Some p) (Some h) is = record { size = is.size; zero = zero'; aligned = aligned; mode = mode-kept p p.parent s.registers s.pc h.memory p.mode is.mode }
+hart-placed s zero' aligned (Some p) (Some h) is = record { zero = zero'; aligned = aligned; mode = mode-kept p p.parent s.registers s.pc h.memory p.mode is.mode }
 hart-placed s zero' aligned _ _ is = is
 
 pub loaded-placed : (k : Kernel) → IsKernel k → slice_index k.spaces.registers 0 ≡ 0 → k.spaces.pc % 4 ≡ 0 → (j : ℕ) → IsPlace (slot (loaded k).places j) (slot k.spaces.places j)
@@ -90,19 +90,19 @@ module _ (k : Kernel) (i : ℕ) (p : Process) (h : SpaceView) (r : IsRun k i p h
       opened = opened-put k.files k.spaces.pipes k.table.places i (Some q) (same ∙ sym (ap descriptors_in r.process)) well is.opened;
     }
 
-    pub left-state : state_of (left_to k i q) ≡ put_process (state_of k) i (with_memory h.memory q)
+    pub left-state : state_of (left_to k i q) ≡ put_process (state_of k) i (with_space h q)
     left-state =
         let old = with_process k.table i (on_hart k.spaces p) in
         let twice : put k.table.places i q ≡ put (put k.table.places i (on_hart k.spaces p)) i q = sym (set-twice k.table.places i (Some (on_hart k.spaces p)) (Some q)) in
-        ap (λ (places : List (Option Process)). with_table (base (rest_of k)) (record k.table { places = places }) (memories k.spaces)) twice
-        ∙ put-same (base (rest_of k)) old k.spaces i q h r.space
-        ∙ sym (ap (λ (s : State). put_process s i (with_memory h.memory q)) (state-run k i p h r))
+        ap (λ (places : List (Option Process)). with_table (base (rest_of k)) (record k.table { places = places }) k.spaces.places) twice
+        ∙ put-same (base (rest_of k)) old k.spaces.places i q r.space
+        ∙ sym (ap (λ (s : State). put_process s i (with_space h q)) (state-run k i p h r))
 
 -- ---- the end of a process
 
 orphan-placed : (pid : ℕ) (o : Option Process) (q : Option SpaceView) → IsPlace o q → IsPlace (option_map (orphaned pid) o) q
 orphan-placed pid (Some p) (Some h) is = elim (nat_eq p.parent pid) as (λ b. IsPlaced (if b then record p { parent = 1 } else p) h) [
-  | true ↦ record { size = is.size; zero = is.zero; aligned = is.aligned; mode = mode-kept p 1 p.registers p.pc h.memory p.mode is.mode }
+  | true ↦ record { zero = is.zero; aligned = is.aligned; mode = mode-kept p 1 p.registers p.pc h.memory p.mode is.mode }
   | false ↦ is
 ]
 orphan-placed pid _ _ is = is
@@ -171,7 +171,7 @@ module _ (k : Kernel) (is : IsKernel k) (z : slice_index k.spaces.registers 0 �
   placed-q = rw (there, space) at (loaded-placed k is z a i)
 
   gone-placed : IsPlaced gone h
-  gone-placed = record { size = placed-q.size; zero = placed-q.zero; aligned = placed-q.aligned; mode = record { descriptors = refl; directory = refl } }
+  gone-placed = record { zero = placed-q.zero; aligned = placed-q.aligned; mode = record { descriptors = refl; directory = refl } }
 
   orphans-placed : (j : ℕ) → IsPlace (slot orphans j) (slot k.spaces.places j)
   orphans-placed j = rw (slot-map (orphaned q.pid) (loaded k).places j) (orphan-placed q.pid (slot (loaded k).places j) (slot k.spaces.places j) (loaded-placed k is z a j))
@@ -236,18 +236,17 @@ module _ (k : Kernel) (is : IsKernel k) (z : slice_index k.spaces.registers 0 �
     };
   }
 
-  pub ended-state : k.tree.failed ≡ false → end_process (state_of k) i (with_memory h.memory q) status ≡ state_of ended_to
+  pub ended-state : k.tree.failed ≡ false → end_process (state_of k) i (with_space h q) status ≡ state_of ended_to
   unfolding end_process
   ended-state up =
-      let at : h.memory ≡ slice_index_or (memories k.spaces) i [] = sym (memory-at k.spaces i ∙ ap memory_in space) in
       let rest = base (rest_of k) in
       let middle = record ended_to { tree = k.tree } in
       let old = record (state_of middle) { opens = opens_of k.files; pipes = k.spaces.pipes } in
-      let counts : Counts left old.places = counts-joined left ended_to.table.places (memories k.spaces) ended-kernel.opened.counted in
+      let counts : Counts left old.places = counts-joined left ended_to.table.places k.spaces.places ended-kernel.opened.counted in
       let used = used-loaded k is up in
       let old-files = old-all_closed k.files q.descriptors in
-      let gives = fewer-nodes used left (put orphans i gone) nodes nodes-counted old-files old-homes (state_of middle) (memories k.spaces) (are-away (put orphans i gone) k.spaces.places ended-kernel.stands) refl refl refl in
-      ap (λ (m : Memory). reap (ends.with_zombie (with_table rest (loaded k) (memories k.spaces)) i (with_memory m q) status)) at
-      ∙ ap reap (with_zombie-with_table rest (loaded k) (memories k.spaces) i q status)
+      let gives = fewer-nodes used left (put orphans i gone) nodes nodes-counted old-files old-homes (state_of middle) k.spaces.places (are-away (put orphans i gone) k.spaces.places ended-kernel.stands) refl refl refl in
+      ap (λ (o : Option SpaceView). reap (ends.with_zombie (with_table rest (loaded k) k.spaces.places) i (with_space (unwrap_or o no_pages) q) status)) (sym space)
+      ∙ ap reap (with_zombie-with_table rest (loaded k) k.spaces.places i q status)
       ∙ reap-closed old k.files k.spaces.pipes q.descriptors ended_to.tree.files is.opened.table is.opened.piped counts gives
       ∙ ap (λ b. record (state_of middle) { files = ended_to.tree.files; block_limit = b }) (sym (fewer-leaves used left (put orphans i gone) nodes nodes-counted old-files old-homes).limit)

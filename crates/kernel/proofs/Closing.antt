@@ -1,5 +1,5 @@
 -- A descriptor of the running process is closed.
-use Rattle.kernel.proofs.Common.{◌≡◌, ℕ, ◌+◌, ◌∷◌, [], true, List, length, Option, Some, None, refl, ap, arith, subst, sym, ◌∙◌, Ok, Err, IfOk, OnErr, Result, length-set, DeviceFault, FileTree, Serves, Kernel, memories, loaded, state_of}
+use Rattle.kernel.proofs.Common.{◌≡◌, ℕ, ◌+◌, ◌∷◌, [], true, List, length, Option, Some, None, refl, ap, arith, subst, sym, ◌∙◌, Ok, Err, IfOk, OnErr, Result, length-set, DeviceFault, FileTree, Serves, Kernel, loaded, state_of}
 use Rattle.kernel.proofs.Common.{IsKernel, IsOpened, Keeps, IsInUse, IsCounted, AreHeld, all_dropped, files_on, homes_at, last_node, listed, after_close, standing, count-closed, names-clear, pipes-same, Counted, closed, last_target, opens_of}
 use Rattle.kernel.proofs.Common.{table-closed, slot-within, Process, clear, put, slot, reap, put_process, woken_by, Bytes}
 use Rattle.kernel.proofs.Dropping.{counted as counted_tree}
@@ -101,9 +101,9 @@ module _ {k : Kernel} {i : ℕ} (x : Runner k i) (fd n : ℕ) (may : MayClose k 
       let shown = record middle { files = k.files } in
       let all : IsInUse k.tree k.files places = used-active shown shown.spaces.active before in
       let files = old-all_closed k.files (Some n ∷ []) in
-      let gives = fewer-nodes all left places gone (gone-counted places) files (λ j d at. at) (state_of middle) (memories to.spaces) (away-loaded to to-kernel) refl refl refl in
+      let gives = fewer-nodes all left places gone (gone-counted places) files (λ j d at. at) (state_of middle) to.spaces.places (away-loaded to to-kernel) refl refl refl in
       ap reap (sym (renamed-state x ds x.process.directory same k.tree k.files k.spaces.pipes))
-      ∙ reap-closed old k.files k.spaces.pipes (Some n ∷ []) tree.files x.sound.opened.table x.sound.opened.piped (counts-joined left places (memories to.spaces) (opened-loaded to to-kernel).counted) gives
+      ∙ reap-closed old k.files k.spaces.pipes (Some n ∷ []) tree.files x.sound.opened.table x.sound.opened.piped (counts-joined left places to.spaces.places (opened-loaded to to-kernel).counted) gives
       ∙ ap (λ b. record (state_of middle) { files = tree.files; block_limit = b }) (sym (fewer-leaves all left places gone (gone-counted places) files (λ j d at. at)).limit)
       ∙ ap state_of close-is
 

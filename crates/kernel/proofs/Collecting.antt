@@ -1,7 +1,7 @@
 -- A zombie child is waited for.
-use Rattle.kernel.proofs.Common.{◌≡◌, ◌≢◌, ℕ, zero, suc, ◌<◌, true, false, List, [], ◌∷◌, length, Option, Some, None, inl, inr, if◌then◌else◌, refl, ap, subst, sym, ◌∙◌, arith, cases_lt, true≢false, and_parts}
-use Rattle.kernel.proofs.Common.{slice_set, length-set, map-set, option_map, Kernel, base, memories, on_hart, rest_of, state_of, IsKernel, IsMode, IsPlace, is_at, Keeps, IsWatched, names_in, home_in, names, names-none, Process, Places}
-use Rattle.kernel.proofs.Common.{place_where-Some, is_zombie_child_of, with_memory, with_table, SpaceView, has_space, Memory, Mode, Ready, Running, Waiting, Zombie, clear, put, slot, slot-within, is_running_mode, is_zombie_mode, State, holds, memory_in}
+use Rattle.kernel.proofs.Common.{◌≡◌, ◌≢◌, ℕ, ◌<◌, true, false, List, length, Option, Some, None, inl, inr, if◌then◌else◌, refl, ap, subst, sym, ◌∙◌, arith, cases_lt, true≢false, and_parts}
+use Rattle.kernel.proofs.Common.{slice_set, length-set, option_map, Kernel, base, on_hart, rest_of, state_of, IsKernel, IsMode, IsPlace, is_at, Keeps, IsWatched, names_in, home_in, names, names-none, Process, Places}
+use Rattle.kernel.proofs.Common.{place_where-Some, is_zombie_child_of, with_table, SpaceView, has_space, Memory, Mode, Ready, Running, Waiting, Zombie, clear, put, slot, slot-within, is_running_mode, is_zombie_mode, State, holds}
 use Rattle.kernel.proofs.Holding.{used-put}
 use Rattle.kernel.proofs.Masks.{set-past}
 use Rattle.kernel.proofs.Opens.{opened-names}
@@ -10,26 +10,17 @@ use Rattle.kernel.proofs.Turning.{Runner}
 use Rattle.kernel.proofs.Watching.{watched-put}
 use Rattle.kernel.specs.Processes.{collected}
 use Rattle.kernel.specs.Sound.{IsEnded}
-use Rattle.proc.proofs.Joined.{cleared-with_table}
+use Rattle.kernel.proofs.Joined.{cleared-with_table}
 use Rattle.proc.specs.declared.table.Reaped.{Reaped}
 use Rattle.proc.specs.Places as table
 use Rattle.proc.specs.Places.{reaped_at, reaped_from, without, zombie_place}
-use Rattle.proc.specs.Whole.{joined}
 use Rattle.spaces.proofs.SpacesLemmas.{taken-placed}
 use Rattle.spaces.specs.Spaces.{with_place}
 use Rattle.std.proofs.lemmas.List.{set_comm}
 use Rattle.unixmodel.specs.Outcome.{no_descriptors}
-use Rattle.unixmodel.specs.Process as unix
 use Rattle.unixmodel.specs.ProcessCalls.{status_of}
 
 -- ---- a place is cleared
-
-joined-cleared : (os : List (Option Process)) (ms : List Memory) (j : ℕ) (m : Memory) → joined (clear os j) (slice_set ms j m) ≡ joined (clear os j) ms
-unfolding joined
-joined-cleared [] ms j m = refl
-joined-cleared (o ∷ os) [] j m = refl
-joined-cleared (o ∷ os) (n ∷ ms) zero m = refl
-joined-cleared (o ∷ os) (n ∷ ms) (suc j) m = ap (λ qs. option_map (with_memory n) o ∷ qs) (joined-cleared os ms j m)
 
 ended-mode : (p : Process) (memory : Memory) (mode : Mode) → is_zombie_mode mode ≡ true → IsMode p memory mode → IsEnded p
 ended-mode p memory Running zombie is = absurd (cc)
@@ -92,12 +83,9 @@ collected-state {k} {i} x j child z apart =
     let rest = base (rest_of k) in
     let old = with_process k.table i q in
     let swap : put (clear k.table.places j) i q ≡ clear (put k.table.places i q) j = set_comm k.table.places j i None (Some q) apart in
-    let shown : memories (with_place k.spaces j None) ≡ slice_set (memories k.spaces) j [] = map-set memory_in k.spaces.places j None in
     state-run (collected k (Some j)) i x.process x.held (collected-run x j apart)
-    ∙ ap (λ (places : List (Option Process)). with_table rest (record k.table { places = places }) (memories (with_place k.spaces j None))) swap
-    ∙ ap (λ (ms : List Memory). with_table rest (without old (Some j)) ms) shown
-    ∙ ap (λ (places : List (Option unix.Process)). record (with_table rest (without old (Some j)) (memories k.spaces)) { places = places }) (joined-cleared old.places (memories k.spaces) j [])
-    ∙ sym (cleared-with_table rest old (memories k.spaces) j)
+    ∙ ap (λ (places : List (Option Process)). with_table rest (record k.table { places = places }) (slice_set k.spaces.places j None)) swap
+    ∙ sym (cleared-with_table rest old k.spaces.places j)
     ∙ sym (ap (λ (s : State). record s { places = clear s.places j }) (state-run k i x.process x.held x.run))
 
 -- ---- the step

@@ -22,13 +22,13 @@ pub use Rattle.files.specs.Pipes.{IsPiped}
 pub use Rattle.files.specs.Places.{closed, count_at, count_in, Counted, fewer, file_at, has_pipe, IsTable, last_in, last_target, more, moved, moved_to, opened, opens_of, shared}
 pub use Rattle.names.proofs.Finding.{slot-within}
 pub use Rattle.proc.proofs.Following.{found-any, next-same}
-pub use Rattle.proc.proofs.Joined.{place_of_pid-with_table, place_where-Some, put-joined, running-with_table, slot-joined, with_zombie-with_table, zombie_child-with_table}
-pub use Rattle.proc.proofs.Turns.{turn-from_pick}
+pub use Rattle.kernel.proofs.Joined.{place_of_pid-with_table, place_where-Some, put-joined, put_kept-joined, running-with_table, slot-joined, with_zombie-with_table, zombie_child-with_table}
+pub use Rattle.kernel.proofs.Turns.{turn-from_pick}
 pub use Rattle.proc.specs.Mask.{is_in}
 unfoldable pub use Rattle.proc.specs.Mask.{all_in}
 pub use Rattle.proc.specs.Places.{changed, changed_at, exited, has_pid, is_zombie_child_of, orphaned, place_where, Places, with_mark, with_mode, woken, zombie_of}
-pub use Rattle.proc.specs.Whole.{with_memory, with_table}
-unfoldable pub use Rattle.proc.specs.Whole.{joined}
+pub use Rattle.kernel.specs.Whole.{space_in, with_space, with_table}
+unfoldable pub use Rattle.kernel.specs.Whole.{joined}
 pub use Rattle.proc.specs.declared.process.Process.{Process}
 pub use Rattle.spaces.specs.Spaces.{frames_in, has_space, no_pages, Spaces, SpaceView, taken_frames, view_at}
 pub use Rattle.tree.specs.Holding.{holders, with_hold, without_hold}
@@ -62,7 +62,7 @@ pub use Rattle.kernel.specs.Descriptors.{after_close, all_closed, all_shared, cl
 pub use Rattle.kernel.specs.Holding.{all_dropped, AreHeld, dropped, files_on, FitsNode, gone_nodes, home_in, homes_at, IsFolder, IsInUse, last_node, listed, node_in, node_of, node_on}
 pub use Rattle.kernel.specs.Idle.{is_anyone_asleep, is_idle, is_sleeping, is_sleeping_mode}
 pub use Rattle.kernel.specs.Kernel.{answered, base, blocked, computed, counting, descriptors_at, ended, halted_by, idle, Kernel, left_as, left_home, lives}
-pub use Rattle.kernel.specs.Kernel.{loaded, marked, memories, memory_in, on_hart, picked, Rest, rest_of, started, started_as, state_of, state_with, waking}
+pub use Rattle.kernel.specs.Kernel.{loaded, marked, on_hart, picked, Rest, rest_of, started, started_as, state_of, state_with, waking}
 pub use Rattle.kernel.specs.Ready.{awaited, awaited_in, has_slept, seen, Stands}
 pub use Rattle.kernel.specs.Sound.{CanEnd, CanEndIn, CanRun, file_named, is_at, is_awaited, is_on_pipe, IsAlive, IsAwaiting, IsForBytes, IsForPipe}
 pub use Rattle.kernel.specs.Sound.{IsFresh, IsKernel, IsLive, IsMode, IsOpened, IsOpenFile, IsPending, IsPlace, IsPlaced, WaitsAs, WaitsWell}

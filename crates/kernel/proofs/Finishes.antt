@@ -1,12 +1,12 @@
 -- The end of a process that runs, or where none runs.
-use Rattle.kernel.proofs.Common.{Bool, ◌≡◌, ◌≢◌, ℕ, ◌%◌, true, false, List, [], ◌∷◌, ◌++◌, Option, Some, None, ℤ, pos, refl, ap, subst, sym, ◌∙◌, Err, IfOk, Ok, OnErr, Result, not, slice_index, slice_index_or, all_closed}
-use Rattle.kernel.proofs.Common.{standing, AreHeld, all_dropped, gone_nodes, same_Some, Mode, is_zombie_mode, Kernel, base, counting, ended, halted_by, idle, lives, loaded, memories, memory_in, on_hart, rest_of, state_of, waking}
-use Rattle.kernel.proofs.Common.{IsKernel, IsPlaced, is_at, CanEnd, CanEndIn, IsAlive, IsInUse, DeviceFault, FileTree, Serves, Counted, opens_of, Process, Places, exited, with_memory, SpaceView, slot, Memory, State, process_at}
+use Rattle.kernel.proofs.Common.{Bool, ◌≡◌, ◌≢◌, ℕ, ◌%◌, true, false, List, [], ◌∷◌, ◌++◌, Option, Some, None, ℤ, pos, refl, ap, subst, sym, ◌∙◌, Err, IfOk, Ok, OnErr, Result, not, slice_index, all_closed, no_pages, unwrap_or, with_space}
+use Rattle.kernel.proofs.Common.{standing, AreHeld, all_dropped, gone_nodes, same_Some, Mode, is_zombie_mode, Kernel, base, counting, ended, halted_by, idle, lives, loaded, on_hart, rest_of, state_of, waking}
+use Rattle.kernel.proofs.Common.{IsKernel, IsPlaced, is_at, CanEnd, CanEndIn, IsAlive, IsInUse, DeviceFault, FileTree, Serves, Counted, opens_of, Process, Places, exited, SpaceView, slot, State, process_at}
 use Rattle.kernel.proofs.Changes.{ended-held, ended-is, ended-kernel, ended-made, loaded-placed, other-at}
 use Rattle.kernel.proofs.Dropping.{counted}
 use Rattle.kernel.proofs.Steps.{fail-kernel, with-tree}
 use Rattle.unixmodel.specs.Failures.{HasCause}
-use Rattle.kernel.proofs.Runs.{loaded-run, memory-at, process-with, run-of, set-slot, slot-put, with_process, within-run, space-of}
+use Rattle.kernel.proofs.Runs.{loaded-run, process-with, run-of, set-slot, slot-put, with_process, within-run, space-of}
 use Rattle.kernel.proofs.Starts.{state-idle}
 
 -- ---- where none runs
@@ -23,12 +23,11 @@ there-of k i p is at =
     (h.0, record { process = at; space = h.1.0; placed = h.1.1 })
 
 module _ (k : Kernel) (i : ℕ) (p : Process) (h : SpaceView) (is : IsKernel k) (none : k.spaces.active ≡ None) (t : IsThere k i p h) (alive : lives p ≡ true) where
-  pub process-idle : process_at (state_of k) i ≡ Some (with_memory h.memory p)
+  pub process-idle : process_at (state_of k) i ≡ Some (with_space h p)
   process-idle =
-      let memory : slice_index_or (memories k.spaces) i [] ≡ h.memory = memory-at k.spaces i ∙ ap memory_in t.space in
       ap (λ (s : State). process_at s i) (state-idle k i p h is none t.process t.space alive)
-      ∙ process-with (base (rest_of k)) k.table (memories k.spaces) i p t.process
-      ∙ ap (λ (m : Memory). Some (with_memory m p)) memory
+      ∙ process-with (base (rest_of k)) k.table k.spaces.places i p t.process
+      ∙ ap (λ (o : Option SpaceView). Some (with_space (unwrap_or o no_pages) p)) t.space
 
 -- ---- the end of a process
 

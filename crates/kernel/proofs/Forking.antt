@@ -1,7 +1,7 @@
 -- A process forks.
-use Rattle.kernel.proofs.Common.{with_hold, IsInUse, home_in, ◌≡◌, ◌≢◌, ℕ, ◌+◌, ◌<◌, ◌≤◌, ◌%◌, Bool, true, false, nat_le, List, length, Option, Some, None, Ok, refl, ap, subst, sym, ◌∙◌, arith, is_none, is_some, not, option_map}
-use Rattle.kernel.proofs.Common.{slice_index, slice_set, get_or-set_other, length-map, length-set, map-set, all_shared, Kernel, base, memories, memory_in, on_hart, rest_of, state_of, IsKernel, IsOpened, IsPlace, IsPlaced, is_at}
-use Rattle.kernel.proofs.Common.{Process, Places, with_memory, with_table, SpaceView, frames_in, has_space, taken_frames, put, slot, Memory, is_within, State, put_process}
+use Rattle.kernel.proofs.Common.{with_hold, IsInUse, home_in, ◌≡◌, ◌≢◌, ℕ, ◌+◌, ◌<◌, ◌≤◌, ◌%◌, Bool, true, false, nat_le, List, length, Option, Some, None, Ok, refl, ap, subst, sym, ◌∙◌, arith, is_none, is_some, not, option_map, with_space}
+use Rattle.kernel.proofs.Common.{slice_index, slice_set, get_or-set_other, length-map, length-set, all_shared, Kernel, base, on_hart, rest_of, state_of, IsKernel, IsOpened, IsPlace, IsPlaced, is_at}
+use Rattle.kernel.proofs.Common.{Process, Places, with_table, SpaceView, frames_in, has_space, taken_frames, put, slot, is_within, State, put_process}
 use Rattle.kernel.proofs.Common.{Keeps, IsWatched, Watches, awaited_in, opens_of, has_pipe, is_zombie_mode, true≢false, and_parts}
 use Rattle.kernel.proofs.Changes.{other-at}
 use Rattle.kernel.proofs.Holding.{home-folder, used-child}
@@ -10,17 +10,17 @@ use Rattle.kernel.proofs.Opens.{waits-fewer, waits-set}
 use Rattle.kernel.proofs.Reaped.{match-active, match-place, over-state}
 use Rattle.kernel.proofs.Runs.{IsRun, home-running, runs-set, self, slot-other, slot-put, stands-set, state-run, with_process, within-space}
 use Rattle.kernel.proofs.Running.{live}
-use Rattle.kernel.proofs.Memories.{held-kernel, held-state}
+use Rattle.kernel.proofs.Memories.{reheld-kernel, reheld-state}
 use Rattle.kernel.proofs.Steps.{held-run, placed-with}
 use Rattle.kernel.proofs.Turning.{Runner, runner-of}
 use Rattle.kernel.proofs.Wakes.{kernel-waking, watched-roused}
 use Rattle.kernel.proofs.Working.{folder-there}
 use Rattle.kernel.specs.Processes.{MayFork, child_of, forked_as}
-use Rattle.proc.proofs.Joined.{free_slot-joined, seated-with_table}
+use Rattle.kernel.proofs.Joined.{free_slot-joined, seated-with_table}
 use Rattle.proc.specs.declared.table.Seat.{Seat}
 use Rattle.proc.specs.Places as table
 use Rattle.proc.specs.Places.{seat_at, seat_of, seated, woken}
-use Rattle.proc.specs.Whole.{joined}
+use Rattle.kernel.specs.Whole.{joined}
 use Rattle.spaces.proofs.SpacesLemmas.{taken-placed}
 use Rattle.spaces.specs.Spaces.{copied, forked, with_view}
 use Rattle.std.proofs.lemmas.List.{set_comm}
@@ -70,7 +70,7 @@ module _ (k : Kernel) (i : ℕ) (p : Process) (h : SpaceView) (r : IsRun k i p h
   pub free-run : free_slot (state_of k).places ≡ free_slot k.table.places
   free-run =
       ap (λ (s : State). free_slot s.places) (state-run k i p h r)
-      ∙ free_slot-joined (put k.table.places i (on_hart k.spaces p)) (memories k.spaces)
+      ∙ free_slot-joined (put k.table.places i (on_hart k.spaces p)) k.spaces.places
       ∙ free-put k.table.places i p (on_hart k.spaces p) r.process
 
   pub next-run : (state_of k).next_pid ≡ k.table.next_pid
@@ -97,7 +97,6 @@ module _ (k : Kernel) (i : ℕ) (p : Process) (h : SpaceView) (r : IsRun k i p h
 
   child-placed : IsPlaced child h
   child-placed = let l = live k i p h r is in record {
-    size = r.placed.size;
     zero = get_or-set_other k.spaces.registers 10 0 0 0 (λ e. absurd (omega arith)) ∙ z;
     aligned = a;
     mode = record { descriptors = l.descriptors };
@@ -155,16 +154,13 @@ module _ (k : Kernel) (i : ℕ) (p : Process) (h : SpaceView) (r : IsRun k i p h
   pub forked-state : record (state_of k) { places = put (state_of k).places j (rows.child_of (self k p h) (state_of k).next_pid); next_pid = (state_of k).next_pid + 1 } ≡ state_of forked_to
   forked-state =
       let whole : State → State = λ s. record s { places = put s.places j (rows.child_of (self k p h) s.next_pid); next_pid = s.next_pid + 1 } in
-      let short : j < length (memories k.spaces) = rw (length-map k.spaces.places memory_in) free-space in
       let swap : put (put k.table.places j child) i (on_hart k.spaces p) ≡ put (put k.table.places i (on_hart k.spaces p)) j child = set_comm k.table.places j i (Some child) (Some (on_hart k.spaces p)) apart in
-      let shown : memories forked_to.spaces ≡ slice_set (memories k.spaces) j h.memory = map-set memory_in k.spaces.places j (Some h) in
       ap whole (state-run k i p h r)
-      ∙ ap (λ (n : ℕ). record (with_table rest old (memories k.spaces)) { places = put (joined old.places (memories k.spaces)) j (with_memory h.memory (record (child_of (on_hart k.spaces p)) { pid = n })); next_pid = k.table.next_pid + 1 }) (sym seats.pid)
-      ∙ seated-with_table rest old (memories k.spaces) (child_of (on_hart k.spaces p)) seat h.memory short
+      ∙ ap (λ (n : ℕ). record (with_table rest old k.spaces.places) { places = put (joined old.places k.spaces.places) j (with_space h (record (child_of (on_hart k.spaces p)) { pid = n })); next_pid = k.table.next_pid + 1 }) (sym seats.pid)
+      ∙ seated-with_table rest old k.spaces.places (child_of (on_hart k.spaces p)) seat h free-space
       ∙ sym (state-run forked_to i p h forked-run
-      ∙ ap (λ (os : List (Option OpenFile)). with_table (base (record (rest_of k) { opens = os })) (with_process forked_to.table i (on_hart k.spaces p)) (memories forked_to.spaces)) shared-opens
-      ∙ ap (λ (places : List (Option Process)). with_table rest (record k.table { places = places; next_pid = k.table.next_pid + 1 }) (memories forked_to.spaces)) swap
-      ∙ ap (λ (ms : List Memory). with_table rest (seated old (child_of (on_hart k.spaces p)) seat) ms) shown)
+      ∙ ap (λ (os : List (Option OpenFile)). with_table (base (record (rest_of k) { opens = os })) (with_process forked_to.table i (on_hart k.spaces p)) forked_to.spaces.places) shared-opens
+      ∙ ap (λ (places : List (Option Process)). with_table rest (record k.table { places = places; next_pid = k.table.next_pid + 1 }) forked_to.spaces.places) swap)
 
   free-state : free_slot (state_of k).places ≡ Some j
   free-state = free-run k i p h r is ∙ seats.free
@@ -180,15 +176,15 @@ module _ (k : Kernel) (i : ℕ) (p : Process) (h : SpaceView) (r : IsRun k i p h
   marked_to = record k { spaces = with_view k.spaces i (forked h) }
 
   pub marked-kernel : IsKernel marked_to
-  marked-kernel = held-kernel r is (forked h) refl (
+  marked-kernel = reheld-kernel r is (forked h) (
       let same : frames_in (Some (forked h)) ≡ frames_in (Some h) = ap (λ n. 4 + page_frames n) (length-map h.memory shared_page) in
       omega (arith, same, is.fits, taken-placed k.spaces i (Some (forked h)) (within-space k i p h r is), ap frames_in r.space))
 
   pub marked-run : IsRun marked_to i p (forked h)
-  marked-run = record { active = r.active; process = r.process; space = slot-put k.spaces.places i (Some (forked h)) (within-space k i p h r is); placed = placed-with k i p h r is (forked h).memory; runs = r.runs }
+  marked-run = record { active = r.active; process = r.process; space = slot-put k.spaces.places i (Some (forked h)) (within-space k i p h r is); placed = placed-with k i p h r is (forked h); runs = r.runs }
 
   pub marked-state : state_of marked_to ≡ put_process (state_of k) i (rows.sharing (self k p h))
-  marked-state = held-state r is (forked h) refl
+  marked-state = reheld-state r is (forked h)
 
 module _ (k : Kernel) (i : ℕ) (p : Process) (h : SpaceView) (r : IsRun k i p h) (is : IsKernel k) (z : slice_index k.spaces.registers 0 ≡ 0) (a : k.spaces.pc % 4 ≡ 0) (seat : Seat) (seats : IsSeat k.table seat) where
   abbrev both : Kernel

@@ -1,8 +1,8 @@
 -- Who holds the nodes of the disk: what comes of processes, open files and nodes that change.
-use Rattle.kernel.proofs.Common.{◌≡◌, ◌≢◌, ℕ, zero, suc, ◌+◌, ◌-◌, ◌<◌, ◌≤◌, Bool, true, false, cond, List, [], ◌∷◌, length, map, Option, Some, None, inl, inr, refl, ap, ap₂, sym, subst, ◌∙◌, arith, IfSome, nat_lt, option_map, slice_set}
+use Rattle.kernel.proofs.Common.{◌≡◌, ◌≢◌, ℕ, zero, suc, ◌+◌, ◌-◌, ◌<◌, ◌≤◌, Bool, true, false, cond, List, [], ◌∷◌, length, map, Option, Some, None, inl, inr, refl, ap, ap₂, sym, subst, ◌∙◌, arith, IfSome, nat_lt, option_map, slice_set, SpaceView, drop}
 use Rattle.kernel.proofs.Common.{sum_by, unwrap_or, ◌||◌, ◌==◌, list_any, get_or-map, cases_eq, cases_lt, lt-ltb, ltb-true, or_left, or_right, nat_tests, get_or-set_other, get_or-set_same, sum_by-cons, sum_by-set, none-some, same_Some}
 use Rattle.kernel.proofs.Common.{one_in, lt-no, lt-yes, one_at, target_of, Counted, more, opened, opens_of, shared, all-set, AreHeld, FitsNode, IsFolder, IsInUse, all_dropped, dropped, files_on, home_in, homes_at, node_in, node_of}
-use Rattle.kernel.proofs.Common.{node_on, slot-within, Process, joined, holders, with_hold, without_hold, FileTree, blocks_of, Files, Node, clear, links_of, slot, taken, Memory, is_node, is_zombie_mode, is_used, kept, without_nodes, State}
+use Rattle.kernel.proofs.Common.{node_on, slot-within, Process, joined, holders, with_hold, without_hold, FileTree, blocks_of, Files, Node, clear, links_of, slot, taken, is_node, is_zombie_mode, is_used, kept, without_nodes, State}
 use Rattle.files.specs.declared.file.OpenFile.{OpenFile}
 use Rattle.files.specs.declared.file.Target.{Target}
 use Rattle.files.specs.declared.file.Target.TheVariants as target
@@ -164,25 +164,20 @@ home-same n some p away = go (is_zombie_mode p.mode) refl where
   go true e = let nowhere = away e in grind (arith, nat_tests)
   go false e = sym (lt-one (p.directory == n))
 
-any-homes : (n : ℕ) → n ≢ 0 → (os : List (Option Process)) (ms : List Memory) → AreAway os → list_any (λ (p : unix.Process). p.directory == n) (taken (joined os ms)) ≡ nat_lt 0 (homes_at os n)
+any-homes : (n : ℕ) → n ≢ 0 → (os : List (Option Process)) (hs : List (Option SpaceView)) → AreAway os → list_any (λ (p : unix.Process). p.directory == n) (taken (joined os hs)) ≡ nat_lt 0 (homes_at os n)
 unfolding joined
-any-homes n some [] ms away = refl
-any-homes n some (None ∷ os) [] away = let same : homes_at os n ≡ homes_at (None ∷ os) n = omega (arith, sum_by-cons (λ o. one_in n (home_in o)) None os) in any-homes n some os [] (λ j. away (suc j)) ∙ ap (nat_lt 0) same
-any-homes n some (None ∷ os) (m ∷ ms) away = let same : homes_at os n ≡ homes_at (None ∷ os) n = omega (arith, sum_by-cons (λ o. one_in n (home_in o)) None os) in any-homes n some os ms (λ j. away (suc j)) ∙ ap (nat_lt 0) same
-any-homes n some (Some p ∷ os) [] away =
-    ap₂ ◌||◌ (home-same n some p (away 0 p refl)) (any-homes n some os [] (λ j. away (suc j)))
-    ∙ or-lt (one_in n (home_in (Some p))) (homes_at os n)
-    ∙ ap (nat_lt 0) (sym (sum_by-cons (λ o. one_in n (home_in o)) (Some p) os))
-any-homes n some (Some p ∷ os) (m ∷ ms) away =
-    ap₂ ◌||◌ (home-same n some p (away 0 p refl)) (any-homes n some os ms (λ j. away (suc j)))
+any-homes n some [] hs away = refl
+any-homes n some (None ∷ os) hs away = let same : homes_at os n ≡ homes_at (None ∷ os) n = omega (arith, sum_by-cons (λ o. one_in n (home_in o)) None os) in any-homes n some os (drop 1 hs) (λ j. away (suc j)) ∙ ap (nat_lt 0) same
+any-homes n some (Some p ∷ os) hs away =
+    ap₂ ◌||◌ (home-same n some p (away 0 p refl)) (any-homes n some os (drop 1 hs) (λ j. away (suc j)))
     ∙ or-lt (one_in n (home_in (Some p))) (homes_at os n)
     ∙ ap (nat_lt 0) (sym (sum_by-cons (λ o. one_in n (home_in o)) (Some p) os))
 
-pub used-is : (opens : List (Option Counted)) (os : List (Option Process)) (ms : List Memory) → AreAway os → (s : State) → s.opens ≡ opens_of opens → s.places ≡ joined os ms
+pub used-is : (opens : List (Option Counted)) (os : List (Option Process)) (hs : List (Option SpaceView)) → AreAway os → (s : State) → s.opens ≡ opens_of opens → s.places ≡ joined os hs
     → (n : ℕ) → n ≢ 0 → is_used s n ≡ nat_lt 0 (files_on opens n + homes_at os n)
-used-is opens os ms away s files places n some =
+used-is opens os hs away s files places n some =
     ap₂ (λ fs ps. list_any (λ (f : unix_files.OpenFile). is_node n f.target) (taken fs) || list_any (λ (p : unix.Process). p.directory == n) (taken ps)) files places
-    ∙ ap₂ ◌||◌ (any-files n opens) (any-homes n some os ms away)
+    ∙ ap₂ ◌||◌ (any-files n opens) (any-homes n some os hs away)
     ∙ or-lt (files_on opens n) (homes_at os n)
 
 -- ---- what is kept of places
@@ -448,22 +443,22 @@ module _ {t : FileTree} {opens : List (Option Counted)} {os : List (Option Proce
   }
 
   -- the abstract Unix gives up the same nodes
-  pub fewer-nodes : (s : State) (ms : List Memory) → AreAway after → s.files ≡ t.files → s.opens ≡ opens_of left → s.places ≡ joined after ms → without_nodes s ≡ record s { files = now.files }
+  pub fewer-nodes : (s : State) (hs : List (Option SpaceView)) → AreAway after → s.files ≡ t.files → s.opens ≡ opens_of left → s.places ≡ joined after hs → without_nodes s ≡ record s { files = now.files }
   unfolding without_nodes
-  fewer-nodes s ms away same opened placed =
+  fewer-nodes s hs away same opened placed =
       ap (λ fs. record s { files = fs })
       (ap (kept (λ n node. nat_lt 0 (links_of node) || is_used s n) 0) same
       ∙ kept-cong (λ n node. nat_lt 0 (links_of node) || is_used s n) (is_by now.holds) 0 t.files (λ i j x e at.
       let same_at : j ≡ i = omega (arith, e) in
       let some : j ≢ 0 = λ z. none-some x (sym is.zero ∙ ap (slot t.files) (sym z ∙ same_at) ∙ at) in
-      ap (λ b. nat_lt 0 (links_of x) || b) (used-is left after ms away s opened placed j some ∙ ap (nat_lt 0) (omega (arith, fewer-leaves.counts j, counts j, is.holds j))))
+      ap (λ b. nat_lt 0 (links_of x) || b) (used-is left after hs away s opened placed j some ∙ ap (nat_lt 0) (omega (arith, fewer-leaves.counts j, counts j, is.holds j))))
       ∙ sym fewer-leaves.reaps)
 
 -- nothing goes
 module _ {t : FileTree} {opens : List (Option Counted)} {os : List (Option Process)} (is : IsInUse t opens os) where
-  pub nodes-stay : (s : State) (ms : List Memory) → AreAway os → s.files ≡ t.files → s.opens ≡ opens_of opens → s.places ≡ joined os ms → without_nodes s ≡ s
-  nodes-stay s ms away same opened placed =
-      fewer-nodes is opens os [] (λ m. omega arith) (λ k c at. (c, (at, refl))) (λ j d at. at) s ms away same opened placed
+  pub nodes-stay : (s : State) (hs : List (Option SpaceView)) → AreAway os → s.files ≡ t.files → s.opens ≡ opens_of opens → s.places ≡ joined os hs → without_nodes s ≡ s
+  nodes-stay s hs away same opened placed =
+      fewer-nodes is opens os [] (λ m. omega arith) (λ k c at. (c, (at, refl))) (λ j d at. at) s hs away same opened placed
       ∙ ap (λ fs. record s { files = fs }) (sym same)
 
 -- ---- a process more works in a directory

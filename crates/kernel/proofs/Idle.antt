@@ -1,7 +1,7 @@
 -- Whether a kernel has anything to do, in the words of its state.
-use Rattle.kernel.proofs.Common.{Bool, List, None, Option, Some, [], ap, arith, false, length, nat_lt, not, refl, sym, true, ◌&&◌, ◌<◌, ◌||◌, ◌∙◌, ◌≡◌, ◌∷◌, ℕ, is_none, is_some}
+use Rattle.kernel.proofs.Common.{Bool, List, None, Option, Some, [], ap, arith, false, length, nat_lt, not, refl, sym, true, ◌&&◌, ◌<◌, ◌||◌, ◌∙◌, ◌≡◌, ◌∷◌, ℕ, is_none, is_some, SpaceView, drop}
 use Rattle.kernel.proofs.Common.{list_any, position_or_len, le-ltb, lt-ltb, position_or_len_is, is_anyone_asleep, is_idle, is_sleeping, is_sleeping_mode, Kernel, base, loaded}
-use Rattle.kernel.proofs.Common.{memories, rest_of, state_of, IsKernel, is_at, Process, place_where, joined, found-any, running-with_table, slot, Memory, holds, running, turn}
+use Rattle.kernel.proofs.Common.{rest_of, state_of, IsKernel, is_at, Process, place_where, joined, found-any, running-with_table, slot, holds, running, turn}
 use Rattle.kernel.proofs.Changes.{length-active, other-at, running-active}
 use Rattle.kernel.proofs.Runs.{eq-self, run-of, slot-within}
 use Rattle.kernel.proofs.Shown.{place-changed}
@@ -24,7 +24,7 @@ runs-position os (Some i) runs within =
 
 pub running-state : (k : Kernel) → IsKernel k → running (state_of k) ≡ k.spaces.active
 running-state k is =
-    running-with_table (base (rest_of k)) (loaded k) (memories k.spaces)
+    running-with_table (base (rest_of k)) (loaded k) k.spaces.places
     ∙ runs-position (loaded k).places k.spaces.active (λ j. running-active k k.spaces.active j ∙ is.runs j)
     (λ i active. let run = run-of k i is active in let h = slot-within k.table.places i run.0 run.1.1.process in omega (arith, length-active k k.spaces.active, h))
 
@@ -48,17 +48,15 @@ module _ (k : Kernel) (is : IsKernel k) where
 abbrev sleeps : Process → Bool
 sleeps p = is_sleeping_mode p.mode
 
-sleeping-joined : (os : List (Option Process)) (ms : List Memory) → list_any (holds is_sleeping) (joined os ms) ≡ list_any (holds sleeps) os
+sleeping-joined : (os : List (Option Process)) (hs : List (Option SpaceView)) → list_any (holds is_sleeping) (joined os hs) ≡ list_any (holds sleeps) os
 unfolding joined
-sleeping-joined [] ms = refl
-sleeping-joined (None ∷ os) [] = sleeping-joined os []
-sleeping-joined (Some p ∷ os) [] = ap (λ b. sleeps p || b) (sleeping-joined os [])
-sleeping-joined (None ∷ os) (m ∷ ms) = sleeping-joined os ms
-sleeping-joined (Some p ∷ os) (m ∷ ms) = ap (λ b. sleeps p || b) (sleeping-joined os ms)
+sleeping-joined [] hs = refl
+sleeping-joined (None ∷ os) hs = sleeping-joined os (drop 1 hs)
+sleeping-joined (Some p ∷ os) hs = ap (λ b. sleeps p || b) (sleeping-joined os (drop 1 hs))
 
 pub asleep-state : (k : Kernel) → list_any (holds sleeps) k.table.places ≡ is_anyone_asleep (state_of k)
 asleep-state k =
     sym (found-any (holds sleeps) k.table.places)
     ∙ ap is_some (sym (place-changed sleeps (λ s p. refl) k.table k.spaces k.spaces.active))
     ∙ found-any (holds sleeps) (loaded k).places
-    ∙ sym (sleeping-joined (loaded k).places (memories k.spaces))
+    ∙ sym (sleeping-joined (loaded k).places k.spaces.places)

@@ -33,7 +33,6 @@ module _ (k : Kernel) (i : ℕ) (p : Process) (h : SpaceView) (r : IsRun k i p h
 
     waits-placed : (w : Pending) → IsPending p.descriptors h.memory w w.number → IsPlaced (record p { registers = k.spaces.registers; pc = k.spaces.pc; mode = Waiting w }) h
     waits-placed w pending = let l = live k i p h r is in record {
-      size = r.placed.size;
       zero = z;
       aligned = a;
       mode = (record { descriptors = l.descriptors }, pending);
@@ -53,7 +52,6 @@ module _ (k : Kernel) (i : ℕ) (p : Process) (h : SpaceView) (r : IsRun k i p h
     -- it is ready again
     stops-placed : IsPlaced (record p { registers = k.spaces.registers; pc = k.spaces.pc; mode = Ready }) h
     stops-placed = let l = live k i p h r is in record {
-      size = r.placed.size;
       zero = z;
       aligned = a;
       mode = record { descriptors = l.descriptors };

@@ -1,4 +1,6 @@
 mod Common
+pub mod Joined
+pub mod Turns
 pub mod Opens
 pub mod Holding
 pub mod Named

@@ -15,7 +15,7 @@ mark-mode p m (Zombie status) rests is = record { descriptors = is.descriptors; 
 
 mark-placed : (q : Process) (o : Option SpaceView) → is_running_mode q.mode ≡ false → IsPlace (Some q) o → IsPlace (Some (with_mark q)) o
 mark-placed q None rests is = is
-mark-placed q (Some h) rests is = record { size = is.size; zero = is.zero; aligned = is.aligned; mode = mark-mode q h.memory q.mode rests is.mode }
+mark-placed q (Some h) rests is = record { zero = is.zero; aligned = is.aligned; mode = mark-mode q h.memory q.mode rests is.mode }
 
 abbrev pub marked_to : Kernel → ℕ → Process → Kernel
 marked_to k j q = record k { table = with_process k.table j (with_mark q) }

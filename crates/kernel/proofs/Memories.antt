@@ -1,19 +1,17 @@
 -- Steps on the memory of the running process keep what a kernel keeps, and are what the abstract Unix puts in its place.
-use Rattle.kernel.proofs.Common.{false, is_within, ◌<◌, ◌≡◌, ◌≤◌, ◌+◌, ◌-◌, ◌∷◌, ◌∙◌, ℕ, zero, suc, Bool, true, List, [], length, take, drop, is_some, Option, Some, None, option_map, refl, ap, subst, sym, arith, slice_set, length-set, Kernel, IsKernel, Keeps, IsPlaced, state_of}
-use Rattle.kernel.proofs.Common.{Process, Places, changed, SpaceView, Spaces, taken_frames, view_at, Console, put, slot, put_process, State}
-use Rattle.std.specs.Bool.{OnTrue}
+use Rattle.kernel.proofs.Common.{false, is_within, ◌<◌, ◌≡◌, ◌≤◌, ◌+◌, ◌-◌, ◌∷◌, ◌∙◌, ℕ, zero, suc, Bool, true, List, [], length, take, drop, is_some, Option, Some, None, refl, ap, subst, sym, arith, length-set, Kernel, IsKernel, Keeps, state_of}
+use Rattle.kernel.proofs.Common.{Process, SpaceView, Spaces, taken_frames, view_at, Console, put, slot, put_process, State}
+use Rattle.std.specs.Bool.{OnFalse, OnTrue}
 use Rattle.kernel.proofs.Reaped.{match-active, match-place, over-state}
 use Rattle.kernel.proofs.Runs.{IsRun, moved, moved-kernel, moved-state, run-of, self, set-slot, stands-set, within-run, within-space}
-use Rattle.kernel.proofs.Running.{live, not-killed, runs-mode}
-use Rattle.kernel.proofs.Steps.{held-run}
-use Rattle.kernel.proofs.Wakes.{kernel-waking, running-at}
-use Rattle.kernel.proofs.Watching.{watched-bytes, watched-running, watched-taken}
+use Rattle.kernel.proofs.Steps.{held-run, placed-with}
+use Rattle.kernel.proofs.Wakes.{kernel-waking}
+use Rattle.kernel.proofs.Watching.{watched-bytes, watched-taken}
 use Rattle.kernel.specs.Memory.{drew, reheld, resized, sized, wrote}
 use Rattle.kernel.specs.Watch.{woken_by}
 use Rattle.kernel.specs.declared.channels.Channel.TheVariants.{Bytes}
-use Rattle.proc.specs.Places.{with_size}
-use Rattle.spaces.proofs.SpacesLemmas.{grown-with_pages, held-same, shrunk-with_pages, some-pipe}
-use Rattle.spaces.specs.Spaces.{bytes_in, grown, has_pipe, shrunk, with_pipe, with_view, written}
+use Rattle.spaces.proofs.SpacesLemmas.{grown-with_pages, shrunk-with_pages, some-pipe}
+use Rattle.spaces.specs.Spaces.{Fits, Lacks, bytes_in, grown, has_pipe, shrunk, with_pipe, with_view, written}
 use Rattle.std.proofs.lemmas.Bool.{eqb-true}
 use Rattle.unixmodel.specs.Console.{Taken, take_line}
 use Rattle.unixmodel.specs.Files.{taken}
@@ -26,48 +24,25 @@ use Rattle.unixmodel.specs.Turn.{is_empty}
 
 module _ {k : Kernel} {i : ℕ} {p : Process} {old : SpaceView} (r : IsRun k i p old) (is : IsKernel k) where
   module _ (h : SpaceView) where
-    reheld-is : reheld k i h ≡ moved k i (with_size h.size p) h k.spaces.registers k.spaces.pc
-    reheld-is = rw r.process refl
-
-    pub placed : IsPlaced (with_size h.size p) h
-    placed = record {
-      size = refl;
-      zero = r.placed.zero;
-      aligned = r.placed.aligned;
-      mode = runs-mode (with_size h.size p) h.memory p.mode r.runs (let l = live k i p old r is in record { descriptors = l.descriptors }) (not-killed k i p old r is);
-    }
+    reheld-is : reheld k i h ≡ moved k i p h k.spaces.registers k.spaces.pc
+    reheld-is = rw (set-slot k.table.places i (Some p) r.process) refl
 
     pub reheld-kernel : taken_frames (with_view k.spaces i h) ≤ k.spaces.frames → IsKernel (reheld k i h)
-    reheld-kernel fits = rw reheld-is (moved-kernel k i p old r is (with_size h.size p) h k.spaces.registers k.spaces.pc placed r.runs refl refl fits)
+    reheld-kernel fits = rw reheld-is (moved-kernel k i p old r is p h k.spaces.registers k.spaces.pc (placed-with k i p old r is h) r.runs refl refl fits)
 
-    pub reheld-state : state_of (reheld k i h) ≡ put_process (state_of k) i (record (self k p old) { size = h.size; memory = h.memory })
-    reheld-state = ap state_of reheld-is ∙ moved-state k i p old r is (with_size h.size p) h k.spaces.registers k.spaces.pc placed r.runs
+    pub reheld-state : state_of (reheld k i h) ≡ put_process (state_of k) i (self k p h)
+    reheld-state = ap state_of reheld-is ∙ moved-state k i p old r is p h k.spaces.registers k.spaces.pc (placed-with k i p old r is h) r.runs
 
     -- the frames don't suffice for it
     pub reheld-full : k.spaces.frames < taken_frames (with_view k.spaces i h) → is_within (state_of (reheld k i h)) ≡ false
     reheld-full over =
-        let to = moved k i (with_size h.size p) h k.spaces.registers k.spaces.pc in
-        let stands = stands-set k.table.places k.spaces.places i (Some (with_size h.size p)) (Some h) (within-run k i p old r) (within-space k i p old r is) placed is.stands in
+        let to = moved k i p h k.spaces.registers k.spaces.pc in
+        let stands = stands-set k.table.places k.spaces.places i (Some p) (Some h) (within-run k i p old r) (within-space k i p old r is) (placed-with k i p old r is h) is.stands in
         subst (λ (y : Kernel). is_within (state_of y) ≡ false) (sym reheld-is) (over-state to (match-active to k.spaces.active (λ j. match-place (slot to.table.places j) (slot to.spaces.places j) (stands j))) over)
-
-    -- of the same size
-    module _ (same : h.size ≡ old.size) where
-      size-is : h.size ≡ p.size
-      size-is = same ∙ sym r.placed.size
-
-      held-is : reheld k i h ≡ record k { spaces = with_view k.spaces i h }
-      held-is = ap (λ (places : List (Option Process)). record k { table = record k.table { places = places }; spaces = with_view k.spaces i h })
-          (ap (λ o. slice_set k.table.places i (option_map (with_size h.size) o)) r.process ∙ ap (λ n. slice_set k.table.places i (Some (with_size n p))) size-is ∙ set-slot k.table.places i (Some p) r.process)
-
-      pub held-kernel : taken_frames (with_view k.spaces i h) ≤ k.spaces.frames → IsKernel (record k { spaces = with_view k.spaces i h })
-      held-kernel fits = subst IsKernel held-is (reheld-kernel fits)
-
-      pub held-state : state_of (record k { spaces = with_view k.spaces i h }) ≡ put_process (state_of k) i (record (self k p old) { memory = h.memory })
-      held-state = ap state_of (sym held-is) ∙ reheld-state ∙ ap (λ n. put_process (state_of k) i (record (self k p old) { size = n; memory = h.memory })) size-is
 
   -- bytes are written
   pub wrote-state : (address : ℕ) (bytes : List ℕ) → state_of (wrote k i address bytes) ≡ put_process (state_of k) i (record (self k p old) { memory = write_bytes old.memory address bytes })
-  wrote-state address bytes = rw (held-run k i p old r is) (held-state (written old address bytes) refl)
+  wrote-state address bytes = rw (held-run k i p old r is) (reheld-state (written old address bytes))
 
   pub drew-state : (q address count : ℕ) → state_of (drew k i q address count) ≡ put_process (record (state_of k) { pipes = put k.spaces.pipes q (drop count (bytes_in k.spaces q)) }) i (record (self k p old) { memory = write_bytes old.memory address (take count (bytes_in k.spaces q)) })
   drew-state q address count = ap (λ (s : State). record s { pipes = put k.spaces.pipes q (drop count (bytes_in k.spaces q)) }) (wrote-state address (take count (bytes_in k.spaces q)))
@@ -75,16 +50,11 @@ module _ {k : Kernel} {i : ℕ} {p : Process} {old : SpaceView} (r : IsRun k i p
   pub resized-state : (size : ℕ) → state_of (resized k i size) ≡ put_process (state_of k) i (record (self k p old) { size = size; memory = (sized old size).memory })
   resized-state size = rw (held-run k i p old r is) (reheld-state (sized old size))
 
-module _ {k : Kernel} (keeps : Keeps k) {i : ℕ} (active : k.spaces.active ≡ Some i) where
-  pub reheld-keeps : (h : SpaceView) → taken_frames (with_view k.spaces i h) ≤ k.spaces.frames → Keeps (reheld k i h)
-  reheld-keeps h fits =
-      let run = run-of k i keeps.sound active in
-      record { sound = reheld-kernel run.1.1 keeps.sound h fits; watched = watched-running keeps.watched i (with_size h.size) (running-at keeps.sound i active) (λ p pid is. is) }
+pub reheld-keeps : {k : Kernel} → Keeps k → {i : ℕ} → k.spaces.active ≡ Some i → (h : SpaceView) → taken_frames (with_view k.spaces i h) ≤ k.spaces.frames → Keeps (reheld k i h)
+reheld-keeps {k} keeps {i} active h fits = record { sound = reheld-kernel (run-of k i keeps.sound active).1.1 keeps.sound h fits; watched = keeps.watched }
 
-  pub wrote-keeps : (address : ℕ) (bytes : List ℕ) → taken_frames (wrote k i address bytes).spaces ≤ k.spaces.frames → Keeps (wrote k i address bytes)
-  wrote-keeps address bytes fits =
-      let run = run-of k i keeps.sound active in
-      record { sound = held-kernel run.1.1 keeps.sound (written (view_at k.spaces i) address bytes) (ap (λ (h : SpaceView). h.size) (held-run k i run.0 run.1.0 run.1.1 keeps.sound)) fits; watched = keeps.watched }
+pub wrote-keeps : {k : Kernel} → Keeps k → {i : ℕ} → k.spaces.active ≡ Some i → (address : ℕ) (bytes : List ℕ) → taken_frames (wrote k i address bytes).spaces ≤ k.spaces.frames → Keeps (wrote k i address bytes)
+wrote-keeps {k} keeps {i} active address bytes fits = reheld-keeps keeps active (written (view_at k.spaces i) address bytes) fits
 
 -- what is written where all of it may be
 pub written-all : {at k : Kernel} → at ≡ k → (i address : ℕ) (bytes : List ℕ) {b : Bool} {new : Spaces} → can_write (view_at k.spaces i).memory address (length bytes) ≡ true → b ≡ can_write (view_at at.spaces i).memory address (length bytes)
@@ -100,23 +70,26 @@ grown-sized h bytes whole = ap (λ (m : Memory). let g : SpaceView = record { me
 pub shrunk-sized : (h : SpaceView) (bytes : ℕ) → length h.memory ≡ ceil_div h.size 4096 → shrunk h bytes ≡ sized h (h.size - bytes)
 shrunk-sized h bytes whole = ap (λ (m : Memory). let g : SpaceView = record { memory = m; size = h.size - bytes } in g) (shrunk-with_pages h bytes whole)
 
--- the table follows the space; k is what the fields show
-module _ {k now : Kernel} (keeps : Keeps k) (at : k ≡ now) {i : ℕ} (active : now.spaces.active ≡ Some i) {size n : ℕ} {h : SpaceView} {new : Spaces} {t : Places} (spaces : new ≡ with_view k.spaces i h) (held : h ≡ sized (view_at k.spaces i) size)
-    (asks : n ≡ (view_at new i).size) (table : t ≡ changed k.table i (with_size n)) where
-  runs : k.spaces.active ≡ Some i
-  runs = ap (λ (y : Kernel). y.spaces.active) at ∙ active
+-- over the fields: k is what they show
+module _ {k now : Kernel} (keeps : Keeps k) (at : k ≡ now) {i : ℕ} (active : now.spaces.active ≡ Some i) {size : ℕ} {h : SpaceView} {new : Spaces} (held : h ≡ sized (view_at k.spaces i) size) where
+  pub resized-keeps : new ≡ with_view k.spaces i h → taken_frames new ≤ new.frames → Keeps (record k { spaces = new })
+  resized-keeps is fits = rw is (reheld-keeps keeps (ap (λ (y : Kernel). y.spaces.active) at ∙ active) h (rw is at fits))
 
-  spaces-are : new ≡ (resized k i size).spaces
-  spaces-are = spaces ∙ ap (with_view k.spaces i) held
+  pub grown-keeps : (b : Bool) → OnTrue b (Fits k.spaces new (with_view k.spaces i h)) → OnFalse b (Lacks k.spaces new (with_view k.spaces i h)) → Keeps (record k { spaces = new })
+  grown-keeps true done lacks = resized-keeps done.1 (rw done.1 done.0)
+  grown-keeps false done lacks = rw lacks.1 keeps
 
-  pub resized-made : record k { table = t; spaces = new } ≡ resized k i size
-  resized-made =
-      let run = run-of k i keeps.sound runs in
-      let same : n ≡ size = asks ∙ ap (λ (s : Spaces). (view_at s i).size) spaces-are ∙ ap (λ (h : SpaceView). h.size) (held-same k.spaces i (sized (view_at k.spaces i) size) (within-space k i run.0 run.1.0 run.1.1 keeps.sound)) in
-      rw (table, same, spaces-are) refl
+module _ (k : Kernel) (i : ℕ) {size : ℕ} {h : SpaceView} (held : h ≡ sized (view_at k.spaces i) size) (new : Spaces) where
+  pub resized-made : new ≡ with_view k.spaces i h → record k { spaces = new } ≡ resized k i size
+  resized-made is = rw (is, held) refl
 
-  pub resized-keeps : taken_frames new ≤ new.frames → Keeps (record k { table = t; spaces = new })
-  resized-keeps fits = rw resized-made (reheld-keeps keeps runs (sized (view_at k.spaces i) size) (rw spaces-are at fits))
+  pub grown-done : (b : Bool) → OnTrue b (Fits k.spaces new (with_view k.spaces i h)) → OnTrue b (record k { spaces = new } ≡ resized k i size)
+  grown-done true done = resized-made done.1
+  grown-done false done = tt
+
+  pub grown-over : (b : Bool) → OnFalse b (Lacks k.spaces new (with_view k.spaces i h)) → OnFalse b (k.spaces.frames < taken_frames (resized k i size).spaces)
+  grown-over true lacks = tt
+  grown-over false lacks = rw (← held) lacks.0
 
 -- ---- what was typed
 

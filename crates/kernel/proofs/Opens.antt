@@ -1,8 +1,8 @@
 -- The open files of a kernel where the descriptors of its processes stay, and what a descriptor names.
-use Rattle.kernel.proofs.Common.{◌≡◌, ◌≢◌, ℕ, ◌+◌, ◌<◌, ◌≤◌, true, List, [], ◌∷◌, length, Option, Some, None, refl, ap, subst, sym, ◌∙◌, arith, IfSome, option_and_then, option_map, slice_set, sum_by-cons}
+use Rattle.kernel.proofs.Common.{◌≡◌, ◌≢◌, ℕ, ◌+◌, ◌<◌, ◌≤◌, true, List, [], ◌∷◌, length, Option, Some, None, refl, ap, subst, sym, ◌∙◌, arith, IfSome, option_and_then, option_map, slice_set, sum_by-cons, SpaceView, space_in, with_space, drop}
 use Rattle.kernel.proofs.Common.{IsCounted, descriptors_in, named_by, names_in, Kernel, on_hart, slot-within, IsAwaiting, IsForBytes, IsForPipe, IsFresh, IsOpenFile, IsOpened, WaitsAs, WaitsWell, file_named}
 use Rattle.kernel.proofs.Common.{is_awaited, is_on_pipe, names, count_of, names-clear, file_of, Counted, count_at, count_in, file_at, more, opened, opens_of, shared, get_or-set_other, all-set, file-opens}
-use Rattle.kernel.proofs.Common.{slot-opens, Process, changed_at, joined, with_memory, Spaces, Call, Read, Write, Mode, Ready, Running, Waiting, Zombie, Pending, slot, taken, Memory, low, pending_arg, State}
+use Rattle.kernel.proofs.Common.{slot-opens, Process, changed_at, joined, Spaces, Call, Read, Write, Mode, Ready, Running, Waiting, Zombie, Pending, slot, taken, low, pending_arg, State}
 use Rattle.kernel.proofs.Holding.{least, one_at-self, same-set}
 use Rattle.files.proofs.CountsLemmas as counts
 use Rattle.files.specs.declared.file.OpenFile.{OpenFile}
@@ -118,14 +118,15 @@ pub active-same : {X : Type 0} (f : Option Process → X) (k : Kernel) → ((p :
     → f (slot (changed_at k.table (on_hart k.spaces) a).places j) ≡ f (slot k.table.places j)
 active-same f k same a = active-by (λ j o. f o ≡ f (slot k.table.places j)) k (λ j o e. hart-same f k.spaces same o ∙ e) a (λ j. refl)
 
--- the processes with their memories name the same
-pub count-joined : (os : List (Option Process)) (ms : List Memory) (n : ℕ) → count_of (joined os ms) n ≡ named_by os n
+-- the processes with their spaces name the same
+pub count-joined : (os : List (Option Process)) (hs : List (Option SpaceView)) (n : ℕ) → count_of (joined os hs) n ≡ named_by os n
 unfolding joined
-count-joined [] ms n = refl
-count-joined (None ∷ os) [] n = omega (arith, sum_by-cons (counts.names_in n) None (joined os []), count-joined os [] n, sum_by-cons (names_in n) None os)
-count-joined (Some p ∷ os) [] n = sum_by-cons (counts.names_in n) (Some (with_memory [] p)) (joined os []) ∙ ap (λ (m : ℕ). names n p.descriptors + m) (count-joined os [] n) ∙ sym (sum_by-cons (names_in n) (Some p) os)
-count-joined (None ∷ os) (m ∷ ms) n = omega (arith, sum_by-cons (counts.names_in n) None (joined os ms), count-joined os ms n, sum_by-cons (names_in n) None os)
-count-joined (Some p ∷ os) (m ∷ ms) n = sum_by-cons (counts.names_in n) (Some (with_memory m p)) (joined os ms) ∙ ap (λ (c : ℕ). names n p.descriptors + c) (count-joined os ms n) ∙ sym (sum_by-cons (names_in n) (Some p) os)
+count-joined [] hs n = refl
+count-joined (None ∷ os) hs n = omega (arith, sum_by-cons (counts.names_in n) None (joined os (drop 1 hs)), count-joined os (drop 1 hs) n, sum_by-cons (names_in n) None os)
+count-joined (Some p ∷ os) hs n =
+    sum_by-cons (counts.names_in n) (Some (with_space (space_in hs 0) p)) (joined os (drop 1 hs))
+    ∙ ap (λ (m : ℕ). names n p.descriptors + m) (count-joined os (drop 1 hs) n)
+    ∙ sym (sum_by-cons (names_in n) (Some p) os)
 
 -- no more are taken than there are places
 pub few-taken : {X : Type 0} (xs : List (Option X)) → length (taken xs) ≤ length xs

@@ -1,7 +1,7 @@
 -- What nothing names any more: a kernel's state has none of it. And the frames that its processes and pipes take.
-use Rattle.kernel.proofs.Common.{◌≡◌, ℕ, suc, ◌<◌, ◌≤◌, Bool, true, false, ◌&&◌, nat_le, List, [], ◌∷◌, length, map, Option, Some, None, refl, ap, sym, ◌∙◌, arith, ◌+◌, option_map, sum_by, le-leb, lt-leb}
-use Rattle.kernel.proofs.Common.{sum_by-cons, Kernel, loaded, memories, memory_in, on_hart, rest_of, state_of, state_with, IsKernel, IsMode, IsOpened, IsPlace, Counts, without_pipes-same, IsTable}
-use Rattle.kernel.proofs.Common.{opens_of, length-opens, without_opens-same, Process, Places, changed_at, joined, with_memory, SpaceView, Spaces, frames_in, taken_frames, blocks_of, frames_of, is_within}
+use Rattle.kernel.proofs.Common.{◌≡◌, ℕ, suc, ◌<◌, ◌≤◌, Bool, true, false, ◌&&◌, nat_le, List, [], ◌∷◌, length, Option, Some, None, refl, ap, sym, ◌∙◌, arith, ◌+◌, option_map, sum_by, le-leb, lt-leb, with_space}
+use Rattle.kernel.proofs.Common.{sum_by-cons, Kernel, loaded, on_hart, rest_of, state_of, state_with, IsKernel, IsMode, IsOpened, IsPlace, Counts, without_pipes-same, IsTable}
+use Rattle.kernel.proofs.Common.{opens_of, length-opens, without_opens-same, Process, Places, changed_at, joined, SpaceView, Spaces, frames_in, taken_frames, blocks_of, frames_of, is_within}
 use Rattle.kernel.proofs.Common.{process_frames, slot, taken, Memory, reap, without_nodes, without_opens, without_pipes, Mode, Zombie, is_zombie_mode, none-some, same_Some, IsInUse, home_in, State}
 use Rattle.kernel.proofs.Opens.{active-by, count-joined, few-taken, hart-same, opened-active}
 use Rattle.kernel.proofs.Runs.{space-of}
@@ -47,29 +47,29 @@ away-in o q is p at zombie = let h = space-of o q p at is in go h.0.memory p.mod
 pub are-away : (os : List (Option Process)) (hs : List (Option SpaceView)) → ((j : ℕ) → IsPlace (slot os j) (slot hs j)) → AreAway os
 are-away os hs stands j p at zombie = away-in (slot os j) (slot hs j) (stands j) p at zombie
 
-pub reap-with : (k : Kernel) (t : Places) (ms : List Memory) → IsOpened k.files k.spaces.pipes t.places → IsInUse k.tree k.files t.places → AreAway t.places → reap (state_with t ms (rest_of k)) ≡ state_with t ms (rest_of k)
+pub reap-with : (k : Kernel) (t : Places) (hs : List (Option SpaceView)) → IsOpened k.files k.spaces.pipes t.places → IsInUse k.tree k.files t.places → AreAway t.places → reap (state_with t hs (rest_of k)) ≡ state_with t hs (rest_of k)
 unfolding reap
-reap-with k t ms is used away =
-    let s = state_with t ms (rest_of k) in
-    let counts : Counts k.files s.places = λ n. is.counted n ∙ sym (count-joined t.places ms n) in
+reap-with k t hs is used away =
+    let s = state_with t hs (rest_of k) in
+    let counts : Counts k.files s.places = λ n. is.counted n ∙ sym (count-joined t.places hs n) in
     let opens : without_opens s ≡ s = without_opens-same s k.files is.table counts in
     let pipes : without_pipes s ≡ s = without_pipes-same s is.piped in
-    ap (λ (x : State). without_nodes (without_pipes x)) opens ∙ ap without_nodes pipes ∙ nodes-stay used s ms away refl refl refl
+    ap (λ (x : State). without_nodes (without_pipes x)) opens ∙ ap without_nodes pipes ∙ nodes-stay used s hs away refl refl refl
 
 -- ---- frames
 
-sum-joined : (os : List (Option Process)) (hs : List (Option SpaceView)) → ((i : ℕ) → IsMatch (slot os i) (slot hs i)) → sum_by process_frames (taken (joined os (map memory_in hs))) ≡ sum_by frames_in hs
+sum-joined : (os : List (Option Process)) (hs : List (Option SpaceView)) → ((i : ℕ) → IsMatch (slot os i) (slot hs i)) → sum_by process_frames (taken (joined os hs)) ≡ sum_by frames_in hs
 unfolding joined
 sum-joined [] [] stands = refl
 sum-joined [] (None ∷ hs) stands = omega (arith, sum_by-cons frames_in None hs, sum-joined [] hs (λ i. stands (suc i)))
 sum-joined (None ∷ os) [] stands = sum-joined os [] (λ i. stands (suc i))
 sum-joined (None ∷ os) (None ∷ hs) stands = omega (arith, sum_by-cons frames_in None hs, sum-joined os hs (λ i. stands (suc i)))
 sum-joined (Some p ∷ os) (Some h ∷ hs) stands =
-    omega (arith, sum_by-cons frames_in (Some h) hs, sum_by-cons process_frames (with_memory h.memory p) (taken (joined os (map memory_in hs))), sum-joined os hs (λ i. stands (suc i)))
+    omega (arith, sum_by-cons frames_in (Some h) hs, sum_by-cons process_frames (with_space h p) (taken (joined os hs)), sum-joined os hs (λ i. stands (suc i)))
 sum-joined _ _ stands = absurd (stands 0)
 
 pub frames-with : (k : Kernel) (t : Places) → ((i : ℕ) → IsMatch (slot t.places i) (slot k.spaces.places i))
-    → frames_of (state_with t (memories k.spaces) (rest_of k)) ≡ taken_frames k.spaces
+    → frames_of (state_with t k.spaces.places (rest_of k)) ≡ taken_frames k.spaces
 unfolding frames_of
 frames-with k t stands = ap (λ (n : ℕ). n + length (taken k.spaces.pipes)) (sum-joined t.places k.spaces.places stands)
 
@@ -79,7 +79,7 @@ and-trues false = refl
 
 -- the limits are kept where the frames suffice
 pub within-state_with : (k : Kernel) (t : Places) → blocks_of k.tree.files ≤ k.tree.block_limit → IsTable k.files → ((i : ℕ) → IsMatch (slot t.places i) (slot k.spaces.places i))
-    → is_within (state_with t (memories k.spaces) (rest_of k)) ≡ nat_le (taken_frames k.spaces) k.spaces.frames
+    → is_within (state_with t k.spaces.places (rest_of k)) ≡ nat_le (taken_frames k.spaces) k.spaces.frames
 within-state_with k t fits is stands =
     let few : length (taken (opens_of k.files)) ≤ 100 = omega (arith, few-taken (opens_of k.files), length-opens k.files, is.all) in
     let opens : nat_le (length (taken (opens_of k.files))) 100 ≡ true = le-leb _ _ few in
@@ -106,7 +106,7 @@ pub away-loaded : (k : Kernel) → IsKernel k → AreAway (loaded k).places
 away-loaded k is = away-active k k.spaces.active (are-away k.table.places k.spaces.places is.stands)
 
 pub reap-state : (k : Kernel) → IsKernel k → k.tree.failed ≡ false → reap (state_of k) ≡ state_of k
-reap-state k is up = reap-with k (loaded k) (memories k.spaces) (opened-loaded k is) (used-loaded k is up) (away-loaded k is)
+reap-state k is up = reap-with k (loaded k) k.spaces.places (opened-loaded k is) (used-loaded k is up) (away-loaded k is)
 
 pub within-state : (k : Kernel) → IsKernel k → k.tree.failed ≡ false → is_within (state_of k) ≡ true
 within-state k is up = within-state_with k (loaded k) (is.used up).within is.opened.table (match-loaded k is) ∙ le-leb _ _ is.fits

@@ -1,18 +1,14 @@
 -- Another program comes in the place of the one that runs.
-use Rattle.kernel.proofs.Common.{◌%◌, ◌+◌, ◌-◌, ◌∙◌, ◌≡◌, ◌≤◌, [], List, Option, Some, ap, arith, refl, sym, ◌<◌, is_some, length, nat_le, option_and_then, subst, true, ℕ, counting, has_space, state_of, taken_frames, view_at}
-use Rattle.kernel.proofs.Common.{FileTree, Files, IsKernel, Keeps, Kernel, Memory, SpaceView, Spaces, changed, put_process, slot}
+use Rattle.kernel.proofs.Common.{◌%◌, ◌+◌, ◌-◌, ◌∙◌, ◌≡◌, ◌≤◌, [], List, Option, Some, ap, arith, refl, sym, length, nat_le, option_and_then, subst, true, ℕ, counting, state_of, taken_frames, view_at}
+use Rattle.kernel.proofs.Common.{FileTree, Files, IsKernel, IsPlaced, Keeps, Kernel, Memory, SpaceView, Spaces, put_process, slot}
 use Rattle.kernel.proofs.Finishes.{counting-kernel}
-use Rattle.kernel.proofs.Memories.{placed, reheld-keeps}
-use Rattle.kernel.proofs.Runs.{moved, moved-kernel, moved-state, run-of, slot-put, within-space}
-use Rattle.kernel.proofs.Steps.{fail-keeps}
+use Rattle.kernel.proofs.Memories.{reheld-keeps}
+use Rattle.kernel.proofs.Runs.{moved, moved-kernel, moved-state, set-slot}
+use Rattle.kernel.proofs.Steps.{fail-keeps, placed-with}
 use Rattle.kernel.proofs.Turning.{Runner, me_of, runner-of}
-use Rattle.kernel.proofs.Wakes.{running-at}
-use Rattle.kernel.proofs.Watching.{watched-running}
 use Rattle.kernel.specs.Replacing.{HasReplaced, begun, replaced_by}
-use Rattle.proc.specs.Places.{with_size}
 use Rattle.programs.specs.declared.executing.Started.{Started}
 use Rattle.programs.specs.Executed.{Executes, IsExecuted, plan_at, started_by, view_by}
-use Rattle.spaces.proofs.SpacesLemmas.{held-same}
 use Rattle.spaces.specs.Spaces.{with_view}
 use Rattle.std.proofs.lemmas.Option.{cond_some, option_and_then_some}
 use Rattle.std.specs.Prelude.{◌*◌}
@@ -45,16 +41,17 @@ plan-aligned files n mem argv q is =
 -- ---- a program is in the place of the old one
 
 module _ {k : Kernel} {i : ℕ} (x : Runner k i) (new : Plan) where
-  replaced-is : replaced_by k i new ≡ moved k i (with_size new.size x.process) (view_by new) (exec_registers k.spaces.registers new) new.pc
-  replaced-is = rw x.run.process refl
+  replaced-is : replaced_by k i new ≡ moved k i x.process (view_by new) (exec_registers k.spaces.registers new) new.pc
+  replaced-is = rw (set-slot k.table.places i (Some x.process) x.run.process) refl
+
+  fits-new : IsPlaced x.process (view_by new)
+  fits-new = placed-with k i x.process x.held x.run x.sound (view_by new)
 
   pub replaced-kernel : taken_frames (with_view k.spaces i (view_by new)) ≤ k.spaces.frames → IsKernel (replaced_by k i new)
-  replaced-kernel fits =
-      rw replaced-is (moved-kernel k i x.process x.held x.run x.sound (with_size new.size x.process) (view_by new) (exec_registers k.spaces.registers new) new.pc (placed x.run x.sound (view_by new)) x.run.runs refl refl fits)
+  replaced-kernel fits = rw replaced-is (moved-kernel k i x.process x.held x.run x.sound x.process (view_by new) (exec_registers k.spaces.registers new) new.pc fits-new x.run.runs refl refl fits)
 
   pub replaced-state : state_of (replaced_by k i new) ≡ put_process (state_of k) i (replaced (me_of x) new)
-  replaced-state =
-      ap state_of replaced-is ∙ moved-state k i x.process x.held x.run x.sound (with_size new.size x.process) (view_by new) (exec_registers k.spaces.registers new) new.pc (placed x.run x.sound (view_by new)) x.run.runs
+  replaced-state = ap state_of replaced-is ∙ moved-state k i x.process x.held x.run x.sound x.process (view_by new) (exec_registers k.spaces.registers new) new.pc fits-new x.run.runs
 
 -- ---- what execute leaves of the tree and the spaces
 
@@ -67,12 +64,12 @@ module _ (k : Kernel) (i n argv : ℕ) (t : FileTree) (s : Spaces) (o : Option S
 
   module _ (leaves : t ≡ record k.tree { failures = t.failures }) where
     abbrev to : Kernel
-    to = record k { tree = t; table = changed k.table i (with_size started.size); spaces = begun s started }
+    to = record k { tree = t; spaces = begun s started }
 
     made : to ≡ counting (replaced_by k i does.plan) t.failures
     made =
-        ap (λ (b : Started). record k { tree = t; table = changed k.table i (with_size b.size); spaces = begun s b }) does.started
-        ∙ ap (λ (z : Spaces). record k { tree = t; table = changed k.table i (with_size does.plan.size); spaces = begun z (started_by does.plan) }) does.held
+        ap (λ (b : Started). record k { tree = t; spaces = begun s b }) does.started
+        ∙ ap (λ (z : Spaces). record k { tree = t; spaces = begun z (started_by does.plan) }) does.held
         ∙ ap (λ (u : FileTree). record (replaced_by k i does.plan) { tree = u }) leaves
 
     pub replaced-done : k.tree.failures ≤ t.failures → HasReplaced k to i n argv started
@@ -81,18 +78,9 @@ module _ (k : Kernel) (i n argv : ℕ) (t : FileTree) (s : Spaces) (o : Option S
     pub replaced-keeps : Keeps k → k.spaces.active ≡ Some i → taken_frames s ≤ s.frames → Keeps to
     replaced-keeps keeps active fits = rw made (record {
       sound = counting-kernel (replaced_by k i does.plan) t.failures (replaced-kernel (runner-of keeps.sound active) does.plan (rw does.held at fits));
-      watched = watched-running keeps.watched i (with_size does.plan.size) (running-at keeps.sound i active) (λ p pid is. is);
+      watched = keeps.watched;
     })
 
 -- the device failed on the way: the process has some space
-module _ {k : Kernel} (keeps : Keeps k) {i : ℕ} (active : k.spaces.active ≡ Some i) {s : Spaces} (h : SpaceView) (is : s ≡ with_view k.spaces i h) where
-  within : i < length k.spaces.places
-  within = let run = run-of k i keeps.sound active in within-space k i run.0 run.1.0 run.1.1 keeps.sound
-
-  pub held-has : has_space s i ≡ true
-  held-has = ap (λ (z : Spaces). has_space z i) is ∙ ap is_some (slot-put k.spaces.places i (Some h) within)
-
-  pub lost-keeps : (t : FileTree) → t.failed ≡ true → taken_frames s ≤ s.frames → {size : ℕ} → size ≡ (view_at s i).size → Keeps (record k { tree = t; table = changed k.table i (with_size size); spaces = s })
-  lost-keeps t down fits {size} asks =
-      let same : size ≡ h.size = asks ∙ ap (λ (z : Spaces). (view_at z i).size) is ∙ ap (λ (g : SpaceView). g.size) (held-same k.spaces i h within) in
-      rw (same, is) (fail-keeps (reheld-keeps keeps active h (rw is at fits)) t down)
+pub lost-keeps : {k : Kernel} → Keeps k → {i : ℕ} → k.spaces.active ≡ Some i → {s : Spaces} (h : SpaceView) → s ≡ with_view k.spaces i h → (t : FileTree) → t.failed ≡ true → taken_frames s ≤ s.frames → Keeps (record k { tree = t; spaces = s })
+lost-keeps keeps active h is t down fits = rw is (fail-keeps (reheld-keeps keeps active h (rw is at fits)) t down)

@@ -1,6 +1,6 @@
 -- The running process, and a change of its registers.
-use Rattle.kernel.proofs.Common.{◌≡◌, ℕ, ◌<◌, false, List, Option, Some, length, refl, ap, sym, ◌∙◌, option_map, slice_set, Kernel, answered, state_of, IsKernel}
-use Rattle.kernel.proofs.Common.{IsLive, IsMode, Process, with_memory, SpaceView, Mode, Running, put, Memory, with_answer, State, change_process, put_process}
+use Rattle.kernel.proofs.Common.{◌≡◌, ℕ, ◌<◌, false, List, Option, Some, length, refl, ap, sym, ◌∙◌, option_map, slice_set, Kernel, answered, state_of, IsKernel, with_space}
+use Rattle.kernel.proofs.Common.{IsLive, IsMode, Process, SpaceView, Mode, Running, put, Memory, with_answer, State, change_process, put_process}
 use Rattle.kernel.proofs.Runs.{IsRun, moved, moved-state, process-run, self, set-slot, set-twice, slot-put}
 use Rattle.unixmodel.specs.Process as unix
 
@@ -28,7 +28,7 @@ module _ (k : Kernel) (i : ℕ) (p : Process) (h : SpaceView) (r : IsRun k i p h
   pub regs-run : (registers : List ℕ) (pc : ℕ) → IsRun (on_regs k registers pc) i p h
   regs-run registers pc = record { active = r.active; process = r.process; space = r.space; placed = r.placed; runs = r.runs }
 
-  pub regs-state : (registers : List ℕ) (pc : ℕ) → state_of (on_regs k registers pc) ≡ put_process (state_of k) i (with_memory h.memory (record p { registers = registers; pc = pc }))
+  pub regs-state : (registers : List ℕ) (pc : ℕ) → state_of (on_regs k registers pc) ≡ put_process (state_of k) i (with_space h (record p { registers = registers; pc = pc }))
   regs-state registers pc =
       let table = set-slot k.table.places i (Some p) r.process in
       let places = set-slot k.spaces.places i (Some h) r.space in

@@ -1,9 +1,8 @@
 -- The running process, and what becomes of the state where it alone changes.
-use Rattle.kernel.proofs.Common.{Bool, subst, ◌≡◌, ◌≢◌, ℕ, zero, suc, ◌<◌, ◌≤◌, ◌⊎◌, inl, inr, true, nat_eq, List, [], ◌∷◌, length, Option, Some, None, refl, ap, sym, ◌∙◌, arith, if◌then◌else◌, is_some}
-use Rattle.kernel.proofs.Common.{option_map, slice_set, slice_index_or, nat_tests, get_or-set_other, get_or-set_same, length-map, length-set, map-set, set-get_or, descriptors_in, not-true, none-some}
-use Rattle.kernel.proofs.Common.{same_Some, Kernel, base, lives, loaded, memories, memory_in, on_hart, rest_of, state_of, IsKernel, IsPlace, IsPlaced, is_at, home_in, Process, Places, put-joined, slot-joined}
-use Rattle.kernel.proofs.Common.{with_memory, with_table, SpaceView, Spaces, has_space, taken_frames, Mode, Running, put, slot, Memory, is_running_mode, is_zombie_mode, State, holds, process_at, put_process}
-use Rattle.std.proofs.Math.ListN as listn
+use Rattle.kernel.proofs.Common.{Bool, subst, ◌≡◌, ◌≢◌, ℕ, zero, suc, ◌<◌, ◌≤◌, ◌⊎◌, inl, inr, true, nat_eq, List, [], ◌∷◌, length, Option, Some, None, refl, ap, sym, ◌∙◌, arith, if◌then◌else◌, is_some, no_pages, unwrap_or, space_in, with_space}
+use Rattle.kernel.proofs.Common.{option_map, slice_set, nat_tests, get_or-set_other, get_or-set_same, length-set, set-get_or, descriptors_in, not-true, none-some}
+use Rattle.kernel.proofs.Common.{same_Some, Kernel, base, lives, loaded, on_hart, rest_of, state_of, IsKernel, IsPlace, IsPlaced, is_at, home_in, Process, Places, put-joined, put_kept-joined, slot-joined}
+use Rattle.kernel.proofs.Common.{with_table, SpaceView, has_space, taken_frames, Mode, Running, put, slot, is_running_mode, is_zombie_mode, State, holds, process_at, put_process}
 use Rattle.kernel.proofs.Holding.{used-put}
 use Rattle.kernel.proofs.Opens.{opened-put, waits-running}
 use Rattle.proc.specs.Places as table
@@ -30,28 +29,22 @@ set-twice (x ∷ xs) (suc i) a b = ap (λ ys. x ∷ ys) (set-twice xs i a b)
 pub set-slot : {X : Type 0} (xs : List (Option X)) (i : ℕ) (o : Option X) → slot xs i ≡ o → slice_set xs i o ≡ xs
 set-slot xs i o is = rw (← is) (set-get_or xs i None)
 
-pub memory-at : (s : Spaces) (i : ℕ) → slice_index_or (memories s) i [] ≡ memory_in (slot s.places i)
-memory-at s i = listn.get_or-map memory_in s.places i None
-
 abbrev pub with_process : Places → ℕ → Process → Places
 with_process t i p = record t { places = put t.places i p }
 
--- a process and its memory are put in place i
-module _ (s : State) (t : Places) (ms : List Memory) (i : ℕ) where
-  pub put-with : (p : Process) (m : Memory) → i < length ms → put_process (with_table s t ms) i (with_memory m p) ≡ with_table s (with_process t i p) (slice_set ms i m)
-  put-with p m h = ap (λ places. record (with_table s t ms) { places = places }) (put-joined t.places ms i p m h)
+-- a process and its space are put in place i
+module _ (s : State) (t : Places) (hs : List (Option SpaceView)) (i : ℕ) (p : Process) where
+  pub put-with : (h : SpaceView) → i < length hs → put_process (with_table s t hs) i (with_space h p) ≡ with_table s (with_process t i p) (slice_set hs i (Some h))
+  put-with h low = ap (λ places. record (with_table s t hs) { places = places }) (put-joined t.places hs i p h low)
 
-  pub process-with : (p : Process) → slot t.places i ≡ Some p → process_at (with_table s t ms) i ≡ Some (with_memory (slice_index_or ms i []) p)
-  process-with p is = slot-joined t.places ms i ∙ ap (option_map (with_memory (slice_index_or ms i []))) is
+  pub process-with : slot t.places i ≡ Some p → process_at (with_table s t hs) i ≡ Some (with_space (space_in hs i) p)
+  process-with is = slot-joined t.places hs i ∙ ap (option_map (with_space (space_in hs i))) is
 
--- a process is put in place i, and its memory stays
-pub put-same : (s : State) (t : Places) (sp : Spaces) (i : ℕ) (q : Process) (h : SpaceView) → slot sp.places i ≡ Some h
-    → with_table s (with_process t i q) (memories sp) ≡ put_process (with_table s t (memories sp)) i (with_memory h.memory q)
-put-same s t sp i q h space =
-    let at : slice_index_or (memories sp) i [] ≡ h.memory = memory-at sp i ∙ ap memory_in space in
-    let same : memories sp ≡ slice_set (memories sp) i h.memory = sym (ap (λ m. slice_set (memories sp) i m) (sym at) ∙ set-get_or (memories sp) i []) in
-    let short : i < length (memories sp) = rw (length-map sp.places memory_in) (slot-within sp.places i h space) in
-    ap (λ (ms : List Memory). with_table s (with_process t i q) ms) same ∙ sym (put-with s t (memories sp) i q h.memory short)
+  -- a process is put in place i, and its space stays
+  pub put-same : {h : SpaceView} → slot hs i ≡ Some h → with_table s (with_process t i p) hs ≡ put_process (with_table s t hs) i (with_space h p)
+  put-same space =
+      ap (λ places. record (with_table s t hs) { places = places }) (sym (put_kept-joined t.places hs i p))
+      ∙ ap (λ (o : Option SpaceView). put_process (with_table s t hs) i (with_space (unwrap_or o no_pages) p)) space
 
 -- ---- the running process
 
@@ -100,7 +93,7 @@ module _ (k now : Kernel) (i : ℕ) (same : k ≡ now) (is : IsKernel k) (active
 
 -- as the abstract Unix sees it
 abbrev pub self : Kernel → Process → SpaceView → unix.Process
-self k p h = with_memory h.memory (on_hart k.spaces p)
+self k p h = with_space h (on_hart k.spaces p)
 
 module _ (k : Kernel) (i : ℕ) (p : Process) (h : SpaceView) (r : IsRun k i p h) where
   pub loaded-run : loaded k ≡ with_process k.table i (on_hart k.spaces p)
@@ -109,16 +102,15 @@ module _ (k : Kernel) (i : ℕ) (p : Process) (h : SpaceView) (r : IsRun k i p h
   pub within-run : i < length k.table.places
   within-run = slot-within k.table.places i p r.process
 
-  pub state-run : state_of k ≡ with_table (base (rest_of k)) (with_process k.table i (on_hart k.spaces p)) (memories k.spaces)
+  pub state-run : state_of k ≡ with_table (base (rest_of k)) (with_process k.table i (on_hart k.spaces p)) k.spaces.places
   state-run = rw loaded-run refl
 
   pub process-run : process_at (state_of k) i ≡ Some (self k p h)
   process-run =
-      let memory : slice_index_or (memories k.spaces) i [] ≡ h.memory = memory-at k.spaces i ∙ ap memory_in r.space in
       let table = with_process k.table i (on_hart k.spaces p) in
       ap (λ (s : State). process_at s i) state-run
-      ∙ process-with (base (rest_of k)) table (memories k.spaces) i (on_hart k.spaces p) (slot-put k.table.places i (Some (on_hart k.spaces p)) within-run)
-      ∙ ap (λ (m : Memory). Some (with_memory m (on_hart k.spaces p))) memory
+      ∙ process-with (base (rest_of k)) table k.spaces.places i (on_hart k.spaces p) (slot-put k.table.places i (Some (on_hart k.spaces p)) within-run)
+      ∙ ap (λ (o : Option SpaceView). Some (with_space (unwrap_or o no_pages) (on_hart k.spaces p))) r.space
 
 -- it works in its directory
 pub home-running : (p : Process) → p.mode ≡ Running → home_in (Some p) ≡ Some p.directory
@@ -180,18 +172,13 @@ module _ (k : Kernel) (i : ℕ) (p : Process) (h : SpaceView) (r : IsRun k i p h
     }
 
     -- that is what the abstract Unix puts in its place
-    pub moved-state : state_of (moved k i p' h' registers pc) ≡ put_process (state_of k) i (with_memory h'.memory (record p' { registers = registers; pc = pc }))
+    pub moved-state : state_of (moved k i p' h' registers pc) ≡ put_process (state_of k) i (with_space h' (record p' { registers = registers; pc = pc }))
     moved-state =
-        let new = moved k i p' h' registers pc in
         let q = record p' { registers = registers; pc = pc } in
-        let short : i < length (memories k.spaces) = rw (length-map k.spaces.places memory_in) within-space in
         let twice : put (put k.table.places i p') i q ≡ put (put k.table.places i (on_hart k.spaces p)) i q =
         set-twice k.table.places i (Some p') (Some q) ∙ sym (set-twice k.table.places i (Some (on_hart k.spaces p)) (Some q)) in
-        let shown : memories new.spaces ≡ slice_set (memories k.spaces) i h'.memory = map-set memory_in k.spaces.places i (Some h') in
-        let rest = base (rest_of k) in
-        let old = with_process k.table i (on_hart k.spaces p) in
-        state-run new i p' h' moved-run
-        ∙ ap (λ (places : List (Option Process)). with_table rest (record k.table { places = places }) (memories new.spaces)) twice
-        ∙ ap (λ (ms : List Memory). with_table rest (with_process old i q) ms) shown
-        ∙ sym (put-with rest old (memories k.spaces) i q h'.memory short)
-        ∙ sym (ap (λ (s : State). put_process s i (with_memory h'.memory q)) (state-run k i p h r))
+        let hs = slice_set k.spaces.places i (Some h') in
+        state-run (moved k i p' h' registers pc) i p' h' moved-run
+        ∙ ap (λ (places : List (Option Process)). with_table (base (rest_of k)) (record k.table { places = places }) hs) twice
+        ∙ sym (put-with (base (rest_of k)) (with_process k.table i (on_hart k.spaces p)) k.spaces.places i q h' within-space)
+        ∙ sym (ap (λ (s : State). put_process s i (with_space h' q)) (state-run k i p h r))

@@ -1,12 +1,13 @@
 -- What a kernel shows of its processes, in the words of its state.
-use Rattle.kernel.proofs.Common.{◌≡◌, ℕ, Bool, true, false, arith, List, [], ◌∷◌, Option, Some, None, refl, ap, subst, sym, ◌∙◌, ◌+◌, IfSome, is_some, option_and_then, option_map, position, slice_get}
-use Rattle.kernel.proofs.Common.{slice_set, sum_by, unwrap_or, length-set, sum_by-cons, names, file_of, Counted, count_at, file_at, opens_of, get_or-map, Kernel, base, loaded, memories, memory_in, on_hart}
+use Rattle.kernel.proofs.Common.{◌≡◌, ℕ, Bool, true, false, arith, List, [], ◌∷◌, Option, Some, None, refl, ap, subst, sym, ◌∙◌, ◌+◌, IfSome, is_some, option_and_then, option_map, position, slice_get, space_in, with_space, drop}
+use Rattle.kernel.proofs.Common.{slice_set, sum_by, length-set, sum_by-cons, names, file_of, Counted, count_at, file_at, opens_of, get_or-map, Kernel, base, loaded, on_hart}
 use Rattle.kernel.proofs.Common.{rest_of, state_of, named_by, names_in, FitsNode, node_of, node_on, IsKernel, Process, Places, changed_at, has_pid, place_where, place_of_pid-with_table, place_where-Some}
-use Rattle.kernel.proofs.Common.{slot-joined, joined, with_memory, SpaceView, Spaces, has_space, view_at, no_pages, taken_frames, frames_of, slot, Memory, holds, place_of_pid, process_at}
+use Rattle.kernel.proofs.Common.{slot-joined, joined, SpaceView, Spaces, has_space, view_at, taken_frames, frames_of, slot, holds, place_of_pid, process_at}
 use Rattle.files.specs.declared.file.OpenFile.{OpenFile}
 use Rattle.kernel.proofs.Reaped.{frames-with, match-loaded, opened-loaded}
-use Rattle.kernel.proofs.Runs.{memory-at, place-space}
-use Rattle.kernel.specs.Shows.{bare, descriptors_on, naming}
+use Rattle.kernel.proofs.Runs.{place-space}
+use Rattle.kernel.specs.Shows.{descriptors_on, naming, shown_as}
+use Rattle.kernel.specs.declared.kernel.show.ShownProcess.{ShownProcess}
 use Rattle.unixmodel.specs.Process as unix
 use Rattle.unixmodel.specs.Shown.{ShowsMemory, shown_page, shown_process, told_page}
 use Rattle.kernel.proofs.Opens.{active-by, hart-same}
@@ -27,11 +28,11 @@ place-changed test same t s (Some i) = position-set (holds test) t.places i (opt
 module _ (k : Kernel) where
   pub place-state : (pid : ℕ) → place_of_pid (state_of k) pid ≡ place_where k.table.places (has_pid pid)
   place-state pid =
-      place_of_pid-with_table (base (rest_of k)) (loaded k) (memories k.spaces) pid
+      place_of_pid-with_table (base (rest_of k)) (loaded k) k.spaces.places pid
       ∙ place-changed (has_pid pid) (λ s p. refl) k.table k.spaces k.spaces.active
 
-  pub process-state : (i : ℕ) → process_at (state_of k) i ≡ option_map (with_memory (memory_in (slot k.spaces.places i))) (slot (loaded k).places i)
-  process-state i = slot-joined (loaded k).places (memories k.spaces) i ∙ ap (λ (m : Memory). option_map (with_memory m) (slot (loaded k).places i)) (memory-at k.spaces i)
+  pub process-state : (i : ℕ) → process_at (state_of k) i ≡ option_map (with_space (view_at k.spaces i)) (slot (loaded k).places i)
+  process-state i = slot-joined (loaded k).places k.spaces.places i
 
   shown-go : (pid : ℕ) (o : Option ℕ) → place_where k.table.places (has_pid pid) ≡ o → shown_process (state_of k) pid ≡ option_and_then (process_at (state_of k)) o
   shown-go pid o found = ap (option_and_then (process_at (state_of k))) (place-state pid ∙ found)
@@ -39,33 +40,29 @@ module _ (k : Kernel) where
   pub shown-none : (pid : ℕ) → place_where k.table.places (has_pid pid) ≡ None → shown_process (state_of k) pid ≡ None
   shown-none pid found = shown-go pid None found
 
-  pub shown-at : (pid i : ℕ) → place_where k.table.places (has_pid pid) ≡ Some i → shown_process (state_of k) pid ≡ option_map (with_memory (memory_in (slot k.spaces.places i))) (slot (loaded k).places i)
+  pub shown-at : (pid i : ℕ) → place_where k.table.places (has_pid pid) ≡ Some i → shown_process (state_of k) pid ≡ option_map (with_space (view_at k.spaces i)) (slot (loaded k).places i)
   shown-at pid i found = shown-go pid (Some i) found ∙ process-state i
 
-bare-with : (m : Memory) (o : Option Process) → option_map bare (option_map (with_memory m) o) ≡ o
-bare-with m None = refl
-bare-with m (Some p) = refl
+-- what is shown of a process of a place
+abbrev shown_with : SpaceView → Process → ShownProcess
+shown_with h p = record { process = p; size = h.size }
 
-pub shown-loaded : (k : Kernel) (pid i : ℕ) → place_where k.table.places (has_pid pid) ≡ Some i → option_map bare (shown_process (state_of k) pid) ≡ slot (loaded k).places i
-shown-loaded k pid i found = ap (option_map bare) (shown-at k pid i found) ∙ bare-with (memory_in (slot k.spaces.places i)) (slot (loaded k).places i)
+bare-with : (h : SpaceView) (o : Option Process) → option_map shown_as (option_map (with_space h) o) ≡ option_map (shown_with h) o
+bare-with h None = refl
+bare-with h (Some p) = refl
 
 -- over the fields: k is what they show, and now is the kernel's value; r is the place that was found
-pub whole-shown : (k now : Kernel) (pid i : ℕ) → k ≡ now → (r : Option ℕ) → r ≡ place_where k.table.places (has_pid pid) → r ≡ Some i → (o : Option Process) → o ≡ slot (loaded now).places i → o ≡ option_map bare (shown_process (state_of now) pid)
+pub whole-shown : (k now : Kernel) (pid i : ℕ) → k ≡ now → (r : Option ℕ) → r ≡ place_where k.table.places (has_pid pid) → r ≡ Some i → (o : Option Process) → o ≡ slot (loaded now).places i → option_map (shown_with (view_at k.spaces i)) o ≡ option_map shown_as (shown_process (state_of now) pid)
 whole-shown k now pid i same r told found o whole =
-    whole
-    ∙ ap (λ (x : Kernel). slot (loaded x).places i) (sym same)
-    ∙ sym (shown-loaded k pid i (sym told ∙ found))
-    ∙ ap (λ (x : Kernel). option_map bare (shown_process (state_of x) pid)) same
+    ap (option_map (shown_with (view_at k.spaces i))) (whole ∙ ap (λ (x : Kernel). slot (loaded x).places i) (sym same))
+    ∙ sym (ap (option_map shown_as) (shown-at k pid i (sym told ∙ found)) ∙ bare-with (view_at k.spaces i) (slot (loaded k).places i))
+    ∙ ap (λ (x : Kernel). option_map shown_as (shown_process (state_of x) pid)) same
 
 -- ---- its memory
 
 loaded-some : (k : Kernel) (i : ℕ) (p : Process) (o : Option ℕ) → slot k.table.places i ≡ Some p → (q : Process) × (slot (changed_at k.table (on_hart k.spaces) o).places i ≡ Some q)
 loaded-some k i p a is =
     active-by (λ j o. j ≡ i → (q : Process) × (o ≡ Some q)) k (λ j o was e. let q = was e in (on_hart k.spaces q.0, ap (option_map (on_hart k.spaces)) q.1)) a (λ j e. (p, ap (slot k.table.places) e ∙ is)) i refl
-
-memory-held : (o : Option SpaceView) → memory_in o ≡ (unwrap_or o no_pages).memory
-memory-held None = refl
-memory-held (Some h) = refl
 
 module _ (k : Kernel) (pid i : ℕ) (found : place_where k.table.places (has_pid pid) ≡ Some i) where
   -- the place that is found has a space
@@ -74,14 +71,11 @@ module _ (k : Kernel) (pid i : ℕ) (found : place_where k.table.places (has_pid
       let p = place_where-Some (has_pid pid) k.table.places i found in
       place-space (slot k.table.places i) (slot k.spaces.places i) p.0 p.1.0 (is.stands i)
 
-  pub shown-some : (q : Process) × (shown_process (state_of k) pid ≡ Some (with_memory (view_at k.spaces i).memory q))
+  pub shown-some : (q : Process) × (shown_process (state_of k) pid ≡ Some (with_space (view_at k.spaces i) q))
   shown-some =
       let p = place_where-Some (has_pid pid) k.table.places i found in
-      let q = loaded-some k i p.0 k.spaces.active p.1.0 in (
-        q.0,
-        shown-at k pid i found ∙ ap (option_map (with_memory (memory_in (slot k.spaces.places i)))) q.1
-            ∙ ap (λ (m : Memory). Some (with_memory m q.0)) (memory-held (slot k.spaces.places i)),
-      )
+      let q = loaded-some k i p.0 k.spaces.active p.1.0 in
+      (q.0, shown-at k pid i found ∙ ap (option_map (with_space (view_at k.spaces i))) q.1)
 
   pub page-shown : (n : ℕ) → shown_page (state_of k) pid n ≡ option_map told_page (slice_get (view_at k.spaces i).memory n)
   page-shown n = ap (option_and_then (λ (p : unix.Process). option_map told_page (slice_get p.memory n))) shown-some.1
@@ -120,16 +114,15 @@ file-shown t n f at = ap (option_map file_of) at ∙ sym (file-of t n)
 pub no-file : (t : List (Option Counted)) (n : ℕ) → None ≡ file_at t n → None ≡ slot (opens_of t) n
 no-file t n at = ap (option_map file_of) at ∙ sym (file-of t n)
 
-named-joined : (os : List (Option Process)) (ms : List Memory) (n : ℕ) → sum_by (naming n) (joined os ms) ≡ named_by os n
+named-joined : (os : List (Option Process)) (hs : List (Option SpaceView)) (n : ℕ) → sum_by (naming n) (joined os hs) ≡ named_by os n
 unfolding joined
-named-joined [] ms n = refl
-named-joined (None ∷ os) [] n = omega (arith, sum_by-cons (naming n) None (joined os []), named-joined os [] n, sum_by-cons (names_in n) None os)
-named-joined (Some p ∷ os) [] n = sum_by-cons (naming n) (Some (with_memory [] p)) (joined os []) ∙ ap (λ (m : ℕ). names n p.descriptors + m) (named-joined os [] n) ∙ sym (sum_by-cons (names_in n) (Some p) os)
-named-joined (None ∷ os) (m ∷ ms) n = omega (arith, sum_by-cons (naming n) None (joined os ms), named-joined os ms n, sum_by-cons (names_in n) None os)
-named-joined (Some p ∷ os) (m ∷ ms) n = sum_by-cons (naming n) (Some (with_memory m p)) (joined os ms) ∙ ap (λ (c : ℕ). names n p.descriptors + c) (named-joined os ms n) ∙ sym (sum_by-cons (names_in n) (Some p) os)
+named-joined [] hs n = refl
+named-joined (None ∷ os) hs n = omega (arith, sum_by-cons (naming n) None (joined os (drop 1 hs)), named-joined os (drop 1 hs) n, sum_by-cons (names_in n) None os)
+named-joined (Some p ∷ os) hs n =
+    sum_by-cons (naming n) (Some (with_space (space_in hs 0) p)) (joined os (drop 1 hs)) ∙ ap (λ (c : ℕ). names n p.descriptors + c) (named-joined os (drop 1 hs) n) ∙ sym (sum_by-cons (names_in n) (Some p) os)
 
 pub count-shown : (k : Kernel) → IsKernel k → (n : ℕ) → count_at k.files n ≡ descriptors_on (state_of k) n
-count-shown k is n = (opened-loaded k is).counted n ∙ sym (named-joined (loaded k).places (memories k.spaces) n)
+count-shown k is n = (opened-loaded k is).counted n ∙ sym (named-joined (loaded k).places k.spaces.places n)
 
 -- an open file fits its node
 abbrev Fits : Kernel → OpenFile → Type 0

@@ -1,7 +1,7 @@
 -- A process is picked.
-use Rattle.kernel.proofs.Common.{◌≡◌, ◌≢◌, ℕ, ◌<◌, ◌%◌, Bool, true, false, List, length, Option, Some, None, ℤ, negsuc, refl, ap, sym, subst, ◌∙◌, if◌then◌else◌, is_some, not, slice_index, length-set}
-use Rattle.kernel.proofs.Common.{descriptors_in, Kernel, base, ended, halted_by, lives, loaded, memories, picked, rest_of, started, started_as, state_of, CanRun, IsKernel, IsLive, IsPlace, IsPlaced}
-use Rattle.kernel.proofs.Common.{is_at, home_in, Process, changed, with_mode, with_memory, with_table, SpaceView, has_space, quiet, Mode, Ready, Running, slot, end_process, State, put_process}
+use Rattle.kernel.proofs.Common.{◌≡◌, ◌≢◌, ℕ, ◌<◌, ◌%◌, Bool, true, false, List, length, Option, Some, None, ℤ, negsuc, refl, ap, sym, subst, ◌∙◌, if◌then◌else◌, is_some, not, slice_index, length-set, with_space}
+use Rattle.kernel.proofs.Common.{descriptors_in, Kernel, base, ended, halted_by, lives, loaded, picked, rest_of, started, started_as, state_of, CanRun, IsKernel, IsLive, IsPlace, IsPlaced}
+use Rattle.kernel.proofs.Common.{is_at, home_in, Process, changed, with_mode, with_table, SpaceView, has_space, quiet, Mode, Ready, Running, slot, end_process, State, put_process}
 use Rattle.kernel.proofs.Changes.{ended-is, ended-state, other-at, stands-put}
 use Rattle.kernel.proofs.Opens.{opened-put}
 use Rattle.kernel.proofs.Holding.{used-put}
@@ -23,12 +23,12 @@ module _ (k : Kernel) (i : ℕ) (p : Process) (h : SpaceView) (is : IsKernel k) 
   placed : IsPlaced p h
   placed = rw (process, space) at (is.stands i)
 
-  pub state-idle : state_of k ≡ with_table (base (rest_of k)) k.table (memories k.spaces)
+  pub state-idle : state_of k ≡ with_table (base (rest_of k)) k.table k.spaces.places
   state-idle = rw idle refl
 
   -- ---- it is killed
 
-  pub killed-ends : k.tree.failed ≡ false → slice_index k.spaces.registers 0 ≡ 0 → k.spaces.pc % 4 ≡ 0 → (status : ℤ) → end_process (state_of k) i (with_memory h.memory p) status ≡ state_of (ended k i status)
+  pub killed-ends : k.tree.failed ≡ false → slice_index k.spaces.registers 0 ≡ 0 → k.spaces.pc % 4 ≡ 0 → (status : ℤ) → end_process (state_of k) i (with_space h p) status ≡ state_of (ended k i status)
   killed-ends up z a status =
       let there : slot (loaded k).places i ≡ Some p = ap (λ t. slot t.places i) table-idle ∙ process in
       let pids : halted_by (slot k.table.places i) ≡ halted_by (Some p) = ap halted_by process in
@@ -48,7 +48,7 @@ module _ (k : Kernel) (i : ℕ) (p : Process) (h : SpaceView) (is : IsKernel k) 
 
   module _ (l : IsLive p) (n : p.killed ≡ false) where
     q-placed : IsPlaced q h
-    q-placed = record { size = placed.size; zero = placed.zero; aligned = placed.aligned; mode = (record { descriptors = l.descriptors }, n) }
+    q-placed = record { zero = placed.zero; aligned = placed.aligned; mode = (record { descriptors = l.descriptors }, n) }
 
     pub started-run : IsRun started_to i q h
     started-run = record { active = refl; process = slot-put k.table.places i (Some q) short; space = space; placed = q-placed; runs = refl }
@@ -64,25 +64,25 @@ module _ (k : Kernel) (i : ℕ) (p : Process) (h : SpaceView) (is : IsKernel k) 
       opened = opened-put k.files k.spaces.pipes k.table.places i (Some q) (sym (ap descriptors_in process)) tt is.opened;
     }
 
-    pub started-state : state_of started_to ≡ put_process (state_of k) i (with_memory h.memory q)
+    pub started-state : state_of started_to ≡ put_process (state_of k) i (with_space h q)
     started-state =
         state-run started_to i q h started-run
-        ∙ ap (λ (places : List (Option Process)). with_table (base (rest_of k)) (record k.table { places = places }) (memories k.spaces)) (set-twice k.table.places i (Some q) (Some q))
-        ∙ put-same (base (rest_of k)) k.table k.spaces i q h space
-        ∙ sym (ap (λ (s : State). put_process s i (with_memory h.memory q)) state-idle)
+        ∙ ap (λ (places : List (Option Process)). with_table (base (rest_of k)) (record k.table { places = places }) k.spaces.places) (set-twice k.table.places i (Some q) (Some q))
+        ∙ put-same (base (rest_of k)) k.table k.spaces.places i q space
+        ∙ sym (ap (λ (s : State). put_process s i (with_space h q)) state-idle)
 
     -- a picked process in user state runs
-    pub picks-ready : p.mode ≡ Ready → next.picked (state_of k) i (with_memory h.memory p) ≡ quiet (state_of (started k i))
+    pub picks-ready : p.mode ≡ Ready → next.picked (state_of k) i (with_space h p) ≡ quiet (state_of (started k i))
     picks-ready ready =
-        let self = with_memory h.memory p in
+        let self = with_space h p in
         ap (λ (b : Bool). if b then quiet (end_process (state_of k) i self (negsuc 0)) else next.picked_in (state_of k) i self self.mode) n
         ∙ ap (λ (m : Mode). next.picked_in (state_of k) i self m) ready
         ∙ ap quiet (sym (ap state_of started-is ∙ started-state))
 
   -- a picked process that is killed ends
-  pub picks-killed : k.tree.failed ≡ false → slice_index k.spaces.registers 0 ≡ 0 → k.spaces.pc % 4 ≡ 0 → p.killed ≡ true → next.picked (state_of k) i (with_memory h.memory p) ≡ quiet (state_of (ended k i (negsuc 0)))
+  pub picks-killed : k.tree.failed ≡ false → slice_index k.spaces.registers 0 ≡ 0 → k.spaces.pc % 4 ≡ 0 → p.killed ≡ true → next.picked (state_of k) i (with_space h p) ≡ quiet (state_of (ended k i (negsuc 0)))
   picks-killed up z a killed =
-      let self = with_memory h.memory p in
+      let self = with_space h p in
       ap (λ (b : Bool). if b then quiet (end_process (state_of k) i self (negsuc 0)) else next.picked_in (state_of k) i self self.mode) killed
       ∙ ap quiet (killed-ends up z a (negsuc 0))
 

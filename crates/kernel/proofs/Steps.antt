@@ -1,6 +1,6 @@
 -- The kernel's own steps keep what a kernel keeps.
 use Rattle.kernel.proofs.Common.{true, false, ◌≡◌, ℕ, ◌≤◌, ◌%◌, Option, Some, None, Ok, Err, refl, ap, subst, sym, ◌∙◌, IfNone, IfSome, slice_index, unwrap_or, descriptors_in, Kernel, blocked, computed, descriptors_at, left_as}
-use Rattle.kernel.proofs.Common.{FileTree, IsInUse, IsAwaiting, IsKernel, IsPending, IsPlaced, Keeps, true≢false, Process, SpaceView, Spaces, view_at, no_pages, taken_frames, cycle, Ready, Pending, Trap, Computed, Memory}
+use Rattle.kernel.proofs.Common.{FileTree, IsInUse, IsAwaiting, IsKernel, IsPending, IsPlaced, Keeps, true≢false, Process, SpaceView, Spaces, view_at, no_pages, taken_frames, cycle, Ready, Pending, Trap, Computed}
 use Rattle.kernel.proofs.Leaving.{stops-kernel, waits-kernel}
 use Rattle.kernel.proofs.Runs.{IsRun, moved, moved-kernel, run-of, set-slot}
 use Rattle.kernel.proofs.Running.{live, not-killed, runs-mode}
@@ -31,13 +31,12 @@ fail-keeps keeps t down = record { sound = fail-kernel keeps.sound t down; watch
 -- ---- an instruction
 
 module _ (k : Kernel) (i : ℕ) (p : Process) (h : SpaceView) (r : IsRun k i p h) (is : IsKernel k) where
-  -- the running process may have any memory
-  pub placed-with : (memory : Memory) → IsPlaced p (record h { memory = memory })
-  placed-with memory = record {
-    size = r.placed.size;
+  -- the running process may have any space
+  pub placed-with : (other : SpaceView) → IsPlaced p other
+  placed-with other = record {
     zero = r.placed.zero;
     aligned = r.placed.aligned;
-    mode = runs-mode p memory p.mode r.runs (live k i p h r is) (not-killed k i p h r is);
+    mode = runs-mode p other.memory p.mode r.runs (live k i p h r is) (not-killed k i p h r is);
   }
 
   pub held-run : view_at k.spaces i ≡ h
@@ -49,7 +48,7 @@ module _ (k : Kernel) (i : ℕ) (p : Process) (h : SpaceView) (r : IsRun k i p h
 
     pub computed-kernel : taken_frames (computed k i d).spaces ≤ k.spaces.frames → IsKernel (computed k i d)
     computed-kernel fits =
-        rw computed-is (moved-kernel k i p h r is p (record h { memory = memory_after h.memory d.change }) d.regs d.pc (placed-with (memory_after h.memory d.change)) r.runs refl refl (subst (λ (x : Kernel). taken_frames x.spaces ≤ k.spaces.frames) computed-is fits))
+        rw computed-is (moved-kernel k i p h r is p (record h { memory = memory_after h.memory d.change }) d.regs d.pc (placed-with (record h { memory = memory_after h.memory d.change })) r.runs refl refl (subst (λ (x : Kernel). taken_frames x.spaces ≤ k.spaces.frames) computed-is fits))
 
 execute-ends : (k : Kernel) (i : ℕ) (new : Spaces) (result : Option Trap) → IsKernel k → k.spaces.active ≡ Some i → taken_frames new ≤ new.frames
     → IfNone result (IfSome (Some i) (λ at. (d : Computed) × (cycle k.spaces.registers k.spaces.pc (view_at k.spaces at).memory ≡ Ok d) × (new ≡ spaces.computed k.spaces at d)))

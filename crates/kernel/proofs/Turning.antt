@@ -30,7 +30,6 @@ module _ {k : Kernel} {i : ℕ} (x : Runner k i) (ds : List (Option ℕ)) (direc
 
   named-placed : IsPlaced renamed x.held
   named-placed = let l = live k i x.process x.held x.run x.sound in let placed = x.run.placed in record {
-    size = placed.size;
     zero = placed.zero;
     aligned = placed.aligned;
     mode = runs-mode renamed x.held.memory x.process.mode x.run.runs (record { descriptors = same ∙ l.descriptors }) (not-killed k i x.process x.held x.run x.sound);

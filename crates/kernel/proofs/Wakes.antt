@@ -1,6 +1,6 @@
 -- The kernel's steps, and who is awake after them.
 use Rattle.kernel.proofs.Common.{Bool, Err, List, None, Ok, Option, Some, ap, false, inl, inr, length, option_map, refl, subst, sym, true, ℕ, ℤ, ◌<◌, ◌∙◌, ◌≡◌, IfNone, IfSome, slice_set, cases_lt, true≢false, Kernel}
-use Rattle.kernel.proofs.Common.{left_as, memories, on_hart, rest_of, state_of, state_with, waking, IsKernel, is_at, Keeps, IsAsleep, IsWatched, Watches, awaited_of, roused, waits_on, woken_by, Bytes, Children, Ticks, seen}
+use Rattle.kernel.proofs.Common.{left_as, on_hart, rest_of, state_of, state_with, waking, IsKernel, is_at, Keeps, IsAsleep, IsWatched, Watches, awaited_of, roused, waits_on, woken_by, Bytes, Children, Ticks, seen}
 use Rattle.kernel.proofs.Common.{Process, is_in, Places, changed_at, exited, is_zombie_child_of, with_mode, Spaces, view_at, Console, cycle, Mode, Running, Trap, put, slot, Computed, is_zombie_mode, State, holds, ready}
 use Rattle.kernel.proofs.Masks.{set-in, set-past}
 use Rattle.kernel.proofs.Runs.{eq-self}
@@ -15,7 +15,7 @@ use Rattle.std.specs.Fn.{FnReturns, Shared}
 
 pub state-waking : (k : Kernel) (awake : List Bool) → state_of (waking k awake) ≡ state_of k
 state-waking k awake = go k.spaces.active where
-  go : (o : Option ℕ) → state_with (changed_at (record k.table { awake = awake }) (on_hart k.spaces) o) (memories k.spaces) (rest_of k) ≡ state_with (changed_at k.table (on_hart k.spaces) o) (memories k.spaces) (rest_of k)
+  go : (o : Option ℕ) → state_with (changed_at (record k.table { awake = awake }) (on_hart k.spaces) o) k.spaces.places (rest_of k) ≡ state_with (changed_at k.table (on_hart k.spaces) o) k.spaces.places (rest_of k)
   go None = refl
   go (Some i) = refl
 

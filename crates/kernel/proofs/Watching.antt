@@ -1,8 +1,8 @@
 -- Whoever may be ready is awake, whatever changes.
-use Rattle.kernel.proofs.Common.{Bool, List, None, Option, Some, [], ap, arith, false, inl, inr, is_some, length, map, nat_eq, not, option_map, refl, subst, sym, true, ℕ, ℤ, ◌<◌, ◌||◌, ◌∙◌, ◌≡◌, ◌≢◌, ◌==◌}
+use Rattle.kernel.proofs.Common.{Bool, List, None, Option, Some, [], ap, arith, false, inl, inr, is_some, length, map, nat_eq, not, option_map, refl, subst, sym, true, ℕ, ℤ, ◌<◌, ◌||◌, ◌∙◌, ◌≡◌, ◌≢◌, ◌==◌, no_pages, with_space}
 use Rattle.kernel.proofs.Common.{unwrap_or, nat_lt, ◌∷◌, zero, suc, if◌then◌else◌, option_and_then, slice_set, list_any, and_parts, not-false, not_from_true, or_from, or_parts, true≢false, true_from_ne_false}
 use Rattle.kernel.proofs.Common.{length-map, length-set, target_of, Counted, moved, moved_to, opens_of, awaited_in, has_slept, seen, IsAsleep, IsAsleepAs, IsWatched, roused, waits_as, waits_in, waits_on}
-use Rattle.kernel.proofs.Common.{Bytes, Children, Ticks, Process, all_in, is_in, Places, exited, is_zombie_child_of, orphaned, place_where, zombie_of, with_memory, Call, Read, Sleep, Wait, Write, Mode, Ready}
+use Rattle.kernel.proofs.Common.{Bytes, Children, Ticks, Process, all_in, is_in, Places, exited, is_zombie_child_of, orphaned, place_where, zombie_of, Call, Read, Sleep, Wait, Write, Mode, Ready}
 use Rattle.kernel.proofs.Common.{Running, Waiting, Zombie, Pending, put, slot, taken, low, Console, End, is_end, pipe_room, OnNode, OnPipe, pending_arg, is_running_mode, is_zombie_mode, State, has_end, holds}
 use Rattle.files.specs.declared.file.Target as file
 use Rattle.files.specs.declared.file.Target.TheVariants as target
@@ -19,13 +19,13 @@ use Rattle.unixmodel.specs.Turn as turn
 -- ---- who is asleep is not ready, and who is not ready is asleep
 
 module _ (a : State) (os : List (Option Process)) where
-  as-unready : (p : Process) (mode : Mode) → IsAsleepAs a os p mode → turn.is_ready_in (seen a os) (with_memory [] p) mode ≡ false
+  as-unready : (p : Process) (mode : Mode) → IsAsleepAs a os p mode → turn.is_ready_in (seen a os) (with_space no_pages p) mode ≡ false
   as-unready p Running is = absurd is
   as-unready p Ready is = absurd is
-  as-unready p (Waiting w) is = or_from (turn.can_go_on (seen a os) (with_memory [] p) w w.number) p.killed is.1 is.0
+  as-unready p (Waiting w) is = or_from (turn.can_go_on (seen a os) (with_space no_pages p) w w.number) p.killed is.1 is.0
   as-unready p (Zombie status) is = refl
 
-  o-unready : (o : Option Process) → IsAsleep a os o → holds (turn.is_ready (seen a os)) (option_map (with_memory []) o) ≡ false
+  o-unready : (o : Option Process) → IsAsleep a os o → holds (turn.is_ready (seen a os)) (option_map (with_space no_pages) o) ≡ false
   unfolding turn.is_ready
   o-unready None is = refl
   o-unready (Some p) is = as-unready p p.mode is
@@ -33,13 +33,13 @@ module _ (a : State) (os : List (Option Process)) where
   pub asleep-unready : (j : ℕ) → IsAsleep a os (slot os j) → turn.ready (seen a os) j ≡ false
   asleep-unready j is = ready-seen a os j (slot os j) refl ∙ o-unready (slot os j) is
 
-  as-asleep : (p : Process) (mode : Mode) → is_running_mode mode ≡ false → turn.is_ready_in (seen a os) (with_memory [] p) mode ≡ false → IsAsleepAs a os p mode
+  as-asleep : (p : Process) (mode : Mode) → is_running_mode mode ≡ false → turn.is_ready_in (seen a os) (with_space no_pages p) mode ≡ false → IsAsleepAs a os p mode
   as-asleep p Running rests unready = absurd (cc)
   as-asleep p Ready rests unready = absurd (cc)
-  as-asleep p (Waiting w) rests unready = let parts = or_parts (turn.can_go_on (seen a os) (with_memory [] p) w w.number) p.killed unready in (parts.1, parts.0)
+  as-asleep p (Waiting w) rests unready = let parts = or_parts (turn.can_go_on (seen a os) (with_space no_pages p) w w.number) p.killed unready in (parts.1, parts.0)
   as-asleep p (Zombie status) rests unready = tt
 
-  o-asleep : (o : Option Process) → holds table.is_running o ≡ false → holds (turn.is_ready (seen a os)) (option_map (with_memory []) o) ≡ false → IsAsleep a os o
+  o-asleep : (o : Option Process) → holds table.is_running o ≡ false → holds (turn.is_ready (seen a os)) (option_map (with_space no_pages) o) ≡ false → IsAsleep a os o
   unfolding turn.is_ready
   o-asleep None rests unready = tt
   o-asleep (Some p) rests unready = as-asleep p p.mode rests unready
@@ -80,19 +80,19 @@ module _ (s r : State) (opens : s.opens ≡ r.opens) (pipes : s.pipes ≡ r.pipe
 
   -- of a process with the same descriptors
   module _ (p q : Process) (w : Pending) (descriptors : p.descriptors ≡ q.descriptors) where
-    file-as : turn.pending_file s (with_memory [] p) w ≡ turn.pending_file r (with_memory [] q) w
+    file-as : turn.pending_file s (with_space no_pages p) w ≡ turn.pending_file r (with_space no_pages q) w
     file-as = ap (λ xs. option_and_then (slot xs) (slot p.descriptors (low (pending_arg w 0)))) opens ∙ ap (λ ds. option_and_then (slot r.opens) (slot ds (low (pending_arg w 0)))) descriptors
 
-    pub read-as : turn.can_go_on s (with_memory [] p) w Read ≡ turn.can_go_on r (with_memory [] q) w Read
-    read-as = held-same (turn.can_read_from s) (turn.can_read_from r) reads-as (turn.pending_file s (with_memory [] p) w) ∙ ap (turn.holds_of (turn.can_read_from r)) file-as
+    pub read-as : turn.can_go_on s (with_space no_pages p) w Read ≡ turn.can_go_on r (with_space no_pages q) w Read
+    read-as = held-same (turn.can_read_from s) (turn.can_read_from r) reads-as (turn.pending_file s (with_space no_pages p) w) ∙ ap (turn.holds_of (turn.can_read_from r)) file-as
 
-    pub write-as : turn.can_go_on s (with_memory [] p) w Write ≡ turn.can_go_on r (with_memory [] q) w Write
-    write-as = held-same (turn.can_write_to s) (turn.can_write_to r) writes-as (turn.pending_file s (with_memory [] p) w) ∙ ap (turn.holds_of (turn.can_write_to r)) file-as
+    pub write-as : turn.can_go_on s (with_space no_pages p) w Write ≡ turn.can_go_on r (with_space no_pages q) w Write
+    write-as = held-same (turn.can_write_to s) (turn.can_write_to r) writes-as (turn.pending_file s (with_space no_pages p) w) ∙ ap (turn.holds_of (turn.can_write_to r)) file-as
 
 -- a pending call can't go on: shown for those that wait
 module _ (a : State) (os : List (Option Process)) (p : Process) (w : Pending) (was : Call → Bool) where
   abbrev CannotStill : Call → Type 0
-  CannotStill number = was number ≡ false → turn.can_go_on (seen a os) (with_memory [] p) w number ≡ false
+  CannotStill number = was number ≡ false → turn.can_go_on (seen a os) (with_space no_pages p) w number ≡ false
 
   stays-out : CannotStill Wait → CannotStill Read → CannotStill Write → CannotStill Sleep → (number : Call) → CannotStill number
   stays-out wait read write sleep Wait = wait
@@ -107,24 +107,24 @@ module _ (a : State) (os : List (Option Process)) (p : Process) (w : Pending) (w
 record Goes (a a' : State) (os os' : List (Option Process)) (p p' : Process) (woken : Pending → Call → Bool) : Type 0 where
   pub killed : p'.killed ≡ p.killed
   pub mode : p'.mode ≡ p.mode
-  pub wait : (w : Pending) → woken w Wait ≡ false → turn.can_go_on (seen a os) (with_memory [] p) w Wait ≡ false → turn.can_go_on (seen a' os') (with_memory [] p') w Wait ≡ false
-  pub read : (w : Pending) → woken w Read ≡ false → turn.can_go_on (seen a os) (with_memory [] p) w Read ≡ false → turn.can_go_on (seen a' os') (with_memory [] p') w Read ≡ false
-  pub write : (w : Pending) → woken w Write ≡ false → turn.can_go_on (seen a os) (with_memory [] p) w Write ≡ false → turn.can_go_on (seen a' os') (with_memory [] p') w Write ≡ false
-  pub sleep : (w : Pending) → woken w Sleep ≡ false → turn.can_go_on (seen a os) (with_memory [] p) w Sleep ≡ false → turn.can_go_on (seen a' os') (with_memory [] p') w Sleep ≡ false
+  pub wait : (w : Pending) → woken w Wait ≡ false → turn.can_go_on (seen a os) (with_space no_pages p) w Wait ≡ false → turn.can_go_on (seen a' os') (with_space no_pages p') w Wait ≡ false
+  pub read : (w : Pending) → woken w Read ≡ false → turn.can_go_on (seen a os) (with_space no_pages p) w Read ≡ false → turn.can_go_on (seen a' os') (with_space no_pages p') w Read ≡ false
+  pub write : (w : Pending) → woken w Write ≡ false → turn.can_go_on (seen a os) (with_space no_pages p) w Write ≡ false → turn.can_go_on (seen a' os') (with_space no_pages p') w Write ≡ false
+  pub sleep : (w : Pending) → woken w Sleep ≡ false → turn.can_go_on (seen a os) (with_space no_pages p) w Sleep ≡ false → turn.can_go_on (seen a' os') (with_space no_pages p') w Sleep ≡ false
 
 module _ {a a' : State} {os os' : List (Option Process)} {p p' : Process} {woken : Pending → Call → Bool} (goes : Goes a a' os os' p p' woken) where
   as-still : (mode : Mode) → ((w : Pending) → mode ≡ Waiting w → woken w w.number ≡ false) → IsAsleepAs a os p mode → IsAsleepAs a' os' p' mode
   as-still Running out is = is
   as-still Ready out is = is
   as-still (Waiting w) out is =
-      let was = λ (number : Call). woken w number || turn.can_go_on (seen a os) (with_memory [] p) w number in (
+      let was = λ (number : Call). woken w number || turn.can_go_on (seen a os) (with_space no_pages p) w number in (
         goes.killed ∙ is.0,
         stays-out a' os' p' w was
-            (λ none. let parts = or_parts (woken w Wait) (turn.can_go_on (seen a os) (with_memory [] p) w Wait) none in goes.wait w parts.0 parts.1)
-            (λ none. let parts = or_parts (woken w Read) (turn.can_go_on (seen a os) (with_memory [] p) w Read) none in goes.read w parts.0 parts.1)
-            (λ none. let parts = or_parts (woken w Write) (turn.can_go_on (seen a os) (with_memory [] p) w Write) none in goes.write w parts.0 parts.1)
-            (λ none. let parts = or_parts (woken w Sleep) (turn.can_go_on (seen a os) (with_memory [] p) w Sleep) none in goes.sleep w parts.0 parts.1)
-            w.number (or_from (woken w w.number) (turn.can_go_on (seen a os) (with_memory [] p) w w.number) (out w refl) is.1),
+            (λ none. let parts = or_parts (woken w Wait) (turn.can_go_on (seen a os) (with_space no_pages p) w Wait) none in goes.wait w parts.0 parts.1)
+            (λ none. let parts = or_parts (woken w Read) (turn.can_go_on (seen a os) (with_space no_pages p) w Read) none in goes.read w parts.0 parts.1)
+            (λ none. let parts = or_parts (woken w Write) (turn.can_go_on (seen a os) (with_space no_pages p) w Write) none in goes.write w parts.0 parts.1)
+            (λ none. let parts = or_parts (woken w Sleep) (turn.can_go_on (seen a os) (with_space no_pages p) w Sleep) none in goes.sleep w parts.0 parts.1)
+            w.number (or_from (woken w w.number) (turn.can_go_on (seen a os) (with_space no_pages p) w w.number) (out w refl) is.1),
       )
   as-still (Zombie status) out is = tt
 
@@ -275,11 +275,11 @@ module _ (files : List (Option Counted)) (pipes : List (Option (List ℕ))) (con
         mode = refl;
         wait = λ w out none. none;
         read = λ w out none.
-            held-same (turn.can_read_from (seen after os)) (turn.can_read_from (seen before os)) reads-moved (turn.pending_file (seen after os) (with_memory [] p) w)
+            held-same (turn.can_read_from (seen after os)) (turn.can_read_from (seen before os)) reads-moved (turn.pending_file (seen after os) (with_space no_pages p) w)
             ∙ file-moved (turn.can_read_from (seen before os)) read-kind (slot p.descriptors (low (pending_arg w 0)))
             ∙ none;
         write = λ w out none.
-            held-same (turn.can_write_to (seen after os)) (turn.can_write_to (seen before os)) writes-moved (turn.pending_file (seen after os) (with_memory [] p) w)
+            held-same (turn.can_write_to (seen after os)) (turn.can_write_to (seen before os)) writes-moved (turn.pending_file (seen after os) (with_space no_pages p) w)
             ∙ file-moved (turn.can_write_to (seen before os)) write-kind (slot p.descriptors (low (pending_arg w 0)))
             ∙ none;
         sleep = λ w out none. none;
@@ -313,8 +313,8 @@ module _ (opens : List (Option OpenFile)) (pipes : List (Option (List ℕ))) (co
         killed = refl;
         mode = refl;
         wait = λ w out none. none;
-        read = λ w out none. file-less (turn.pending_file (seen was os) (with_memory [] p) w) none;
-        write = λ w out none. held-same (turn.can_write_to (seen now os)) (turn.can_write_to (seen was os)) writes-same (turn.pending_file (seen was os) (with_memory [] p) w) ∙ none;
+        read = λ w out none. file-less (turn.pending_file (seen was os) (with_space no_pages p) w) none;
+        write = λ w out none. held-same (turn.can_write_to (seen now os)) (turn.can_write_to (seen was os)) writes-same (turn.pending_file (seen was os) (with_space no_pages p) w) ∙ none;
         sleep = λ w out none. none;
       } in
       still goes (λ w at. refl) is

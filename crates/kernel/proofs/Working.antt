@@ -1,7 +1,7 @@
 -- The running process works in another directory.
-use Rattle.kernel.proofs.Common.{◌≡◌, ◌≢◌, ℕ, zero, suc, ◌+◌, ◌<◌, ◌++◌, ◌∷◌, [], List, length, Option, Some, None, refl, ap, arith, subst, sym, ◌∙◌, IfSome, Result, slice_set, sum_by-cons, sum_by-set, none-some, DeviceFault}
-use Rattle.kernel.proofs.Common.{FileTree, Serves, Kernel, memories, loaded, state_of, on_hart, IsKernel, Keeps, IsInUse, IsFolder, AreHeld, dropped, all_dropped, listed, descriptors_in, files_on, home_in, homes_at, one_in, one_at}
-use Rattle.kernel.proofs.Common.{with_hold, Node, Counted, opens_of, without_opens-same, Process, put, slot, slot-within, Memory, State, put_process}
+use Rattle.kernel.proofs.Common.{◌≡◌, ◌≢◌, ℕ, zero, suc, ◌+◌, ◌<◌, ◌++◌, ◌∷◌, [], List, length, Option, Some, None, refl, ap, arith, subst, sym, ◌∙◌, IfSome, Result, slice_set, sum_by-cons, sum_by-set, none-some, DeviceFault, SpaceView}
+use Rattle.kernel.proofs.Common.{FileTree, Serves, Kernel, loaded, state_of, on_hart, IsKernel, Keeps, IsInUse, IsFolder, AreHeld, dropped, all_dropped, listed, descriptors_in, files_on, home_in, homes_at, one_in, one_at}
+use Rattle.kernel.proofs.Common.{with_hold, Node, Counted, opens_of, without_opens-same, Process, put, slot, slot-within, State, put_process}
 use Rattle.files.proofs.PipesLemmas.{without_pipes-same}
 use Rattle.std.proofs.lemmas.List.Sums.{sum_by-append}
 use Rattle.kernel.proofs.Closing.{told-as, told-kernel}
@@ -16,7 +16,7 @@ use Rattle.kernel.proofs.Wakes.{running-at}
 use Rattle.kernel.proofs.Watching.{watched-running}
 use Rattle.kernel.specs.Processes.{MayWorkIn, WorksIn, home_at, working_in}
 use Rattle.proc.specs.Places.{with_directory}
-use Rattle.proc.specs.Whole.{joined}
+use Rattle.kernel.specs.Whole.{joined}
 use Rattle.tree.specs.Whole.{IsWhole}
 use Rattle.unixmodel.specs.Reap.{reap, without_nodes, without_pipes}
 
@@ -79,8 +79,8 @@ module _ {t : FileTree} {opens : List (Option Counted)} {os : List (Option Proce
   leaves-used = fewer-used between opens moves (old ∷ []) counts (λ k c there. (c, (there, refl))) (homes-front moves (Some p))
 
   -- the abstract Unix gives up the same node
-  leaves-nodes : (s : State) (ms : List Memory) → AreAway moves → s.files ≡ t.files → s.opens ≡ opens_of opens → s.places ≡ joined moves ms → without_nodes s ≡ record s { files = (dropped held old).files }
-  leaves-nodes s ms away same opened placed = fewer-nodes between opens moves (old ∷ []) counts (λ k c there. (c, (there, refl))) (homes-front moves (Some p)) s ms away same opened placed
+  leaves-nodes : (s : State) (hs : List (Option SpaceView)) → AreAway moves → s.files ≡ t.files → s.opens ≡ opens_of opens → s.places ≡ joined moves hs → without_nodes s ≡ record s { files = (dropped held old).files }
+  leaves-nodes s hs away same opened placed = fewer-nodes between opens moves (old ∷ []) counts (λ k c there. (c, (there, refl))) (homes-front moves (Some p)) s hs away same opened placed
 
 -- ---- it works in directory n
 
@@ -129,9 +129,9 @@ module _ {k : Kernel} {i : ℕ} (x : Runner k i) (n : ℕ) (may : MayWorkIn k i 
       let opened = opened-loaded to to-kernel in
       let q' = on_hart to.spaces q in
       let shown : (loaded to).places ≡ put k.table.places i q' = ap (λ t. t.places) (loaded-run to i q x.held (renamed-run x x.process.descriptors n refl (dropped holding x.process.directory) k.files k.spaces.pipes)) ∙ set-twice k.table.places i (Some q) (Some q') in
-      let nodes = leaves-nodes (x.sound.used may.up) i x.process q' x.process.directory n x.run.process was (home-running q' x.run.runs) work-fits.0 may.folder s (memories to.spaces) (subst AreAway shown (away-loaded to to-kernel)) refl refl (ap (λ os. joined os (memories to.spaces)) shown) in
+      let nodes = leaves-nodes (x.sound.used may.up) i x.process q' x.process.directory n x.run.process was (home-running q' x.run.runs) work-fits.0 may.folder s to.spaces.places (subst AreAway shown (away-loaded to to-kernel)) refl refl (ap (λ os. joined os to.spaces.places) shown) in
       ap reap (sym (renamed-state x x.process.descriptors n refl k.tree k.files k.spaces.pipes))
-      ∙ ap (λ (y : State). without_nodes (without_pipes y)) (without_opens-same s k.files opened.table (counts-joined k.files (loaded to).places (memories to.spaces) opened.counted))
+      ∙ ap (λ (y : State). without_nodes (without_pipes y)) (without_opens-same s k.files opened.table (counts-joined k.files (loaded to).places to.spaces.places opened.counted))
       ∙ ap without_nodes (without_pipes-same s opened.piped) ∙ nodes ∙ ap state_of work-is
 
 pub work-keeps : {k : Kernel} {i n : ℕ} → Keeps k → MayWorkIn k i n → IsWhole k.tree → (t : FileTree) (r : Result (Unit {0}) DeviceFault)

@@ -1,11 +1,11 @@
 -- A kernel of many processes, as plain values, and the state of the abstract Unix that it stands for.
-use Rattle.std.specs.Prelude.{Bool, List, None, Ok, Option, Some, [], if◌then◌else◌, map, not, slice_index, slice_set, ℕ, ℤ, ◌%◌, ◌+◌, ◌++◌, ◌==◌, ◌^◌, ◌∷◌, ◌≡◌}
+use Rattle.std.specs.Prelude.{Bool, List, None, Ok, Option, Some, [], if◌then◌else◌, not, slice_index, slice_set, ℕ, ℤ, ◌%◌, ◌+◌, ◌++◌, ◌==◌, ◌^◌, ◌∷◌, ◌≡◌}
 use Rattle.kernel.specs.Descriptors.{all_closed, descriptors_in, standing}
 use Rattle.kernel.specs.Holding.{all_dropped, gone_nodes}
 use Rattle.files.specs.Places.{Counted, opens_of}
 use Rattle.proc.specs.declared.process.Process.{Process}
 use Rattle.proc.specs.Places.{Places, changed, changed_at, exited, with_mark, with_mode}
-use Rattle.proc.specs.Whole.{with_table}
+use Rattle.kernel.specs.Whole.{with_table}
 use Rattle.spaces.specs.Spaces as spaces
 use Rattle.spaces.specs.Spaces.{SpaceView, Spaces, cycle_at}
 use Rattle.unixmodel.specs.declared.process.Mode.{Mode}
@@ -15,7 +15,6 @@ use Rattle.unixmodel.specs.Console.{Console}
 use Rattle.tree.specs.Tree.{FileTree}
 use Rattle.unixmodel.specs.Files.{Files, slot}
 use Rattle.unixmodel.specs.Meaning.{Computed}
-use Rattle.unixmodel.specs.Memory.{Memory}
 use Rattle.unixmodel.specs.Numbers.{plus}
 use Rattle.unixmodel.specs.OpenFiles.{OpenFile}
 use Rattle.unixmodel.specs.Process.{is_zombie_mode}
@@ -56,13 +55,6 @@ on_hart s p = record p { registers = s.registers; pc = s.pc }
 abbrev pub loaded : Kernel → Places
 loaded k = changed_at k.table (on_hart k.spaces) k.spaces.active
 
-abbrev pub memory_in : Option SpaceView → Memory
-memory_in None = []
-memory_in (Some h) = h.memory
-
-abbrev pub memories : Spaces → List Memory
-memories s = map memory_in s.places
-
 -- a process that has not ended
 abbrev pub lives : Process → Bool
 lives p = not (is_zombie_mode p.mode)
@@ -97,12 +89,12 @@ base rest = record {
   halted = rest.halted;
 }
 
--- the state with these places and memories
-abbrev pub state_with : Places → List Memory → Rest → State
-state_with t memories rest = with_table (base rest) t memories
+-- the state with these places and spaces
+abbrev pub state_with : Places → List (Option SpaceView) → Rest → State
+state_with t hs rest = with_table (base rest) t hs
 
 abbrev pub state_of : Kernel → State
-state_of k = state_with (loaded k) (memories k.spaces) (rest_of k)
+state_of k = state_with (loaded k) k.spaces.places (rest_of k)
 
 -- ---- what calls do to the running process, in place i
 

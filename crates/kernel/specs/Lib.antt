@@ -1,5 +1,6 @@
 pub mod Descriptors
 pub mod Holding
+pub mod Whole
 pub mod Kernel
 pub mod Opening
 pub mod Processes

@@ -1,14 +1,17 @@
 -- What the kernel's steps make of the memory of the running process.
 use Rattle.std.specs.Prelude.{List, ℕ}
 use Rattle.kernel.specs.Kernel.{Kernel}
-use Rattle.proc.specs.Places.{changed, with_size}
 use Rattle.spaces.specs.Spaces.{SpaceView, put_behind, read_at, taken_to, view_at, with_view, written}
 use Rattle.unixmodel.specs.Numbers.{ceil_div}
 use Rattle.unixmodel.specs.ProcessCalls.{with_pages}
 
+-- process i has another space
+abbrev pub reheld : Kernel → ℕ → SpaceView → Kernel
+reheld k i h = record k { spaces = with_view k.spaces i h }
+
 -- these bytes stand in the memory of process i from an address on
 abbrev pub wrote : Kernel → ℕ → ℕ → List ℕ → Kernel
-wrote k i address bytes = record k { spaces = with_view k.spaces i (written (view_at k.spaces i) address bytes) }
+wrote k i address bytes = reheld k i (written (view_at k.spaces i) address bytes)
 
 -- process i takes bytes of pipe q to an address, so many at the most
 abbrev pub drew : Kernel → ℕ → ℕ → ℕ → ℕ → Kernel
@@ -17,10 +20,6 @@ drew k i q address count = record k { spaces = taken_to k.spaces q i address cou
 -- process i puts bytes from an address on into pipe q, so many at the most, and as many as fit
 abbrev pub sent : Kernel → ℕ → ℕ → ℕ → ℕ → Kernel
 sent k i q address count = record k { spaces = put_behind k.spaces q (read_at (view_at k.spaces i) address count) }
-
--- process i has another space, and its size
-abbrev pub reheld : Kernel → ℕ → SpaceView → Kernel
-reheld k i h = record k { table = changed k.table i (with_size h.size); spaces = with_view k.spaces i h }
 
 -- a space with another size
 abbrev pub sized : SpaceView → ℕ → SpaceView

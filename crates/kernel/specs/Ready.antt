@@ -4,8 +4,8 @@ use Rattle.kernel.specs.declared.ready.Awaited.{Awaited}
 use Rattle.kernel.specs.Kernel.{base}
 use Rattle.files.specs.Places.{opens_of}
 use Rattle.proc.specs.declared.process.Process.{Process}
-use Rattle.proc.specs.Whole.{with_memory, with_table}
-use Rattle.spaces.specs.Spaces.{Spaces, has_pipe}
+use Rattle.kernel.specs.Whole.{with_space, with_table}
+use Rattle.spaces.specs.Spaces.{Spaces, has_pipe, no_pages}
 use Rattle.unixmodel.specs.Console.{Console}
 use Rattle.unixmodel.specs.declared.process.Pending.{Pending}
 use Rattle.unixmodel.specs.OpenFiles.{OpenFile, Target}
@@ -29,7 +29,7 @@ awaited_in opens pipes console ticks =
 abbrev pub awaited : {T : Type 0} → Awaited T → State
 awaited a = awaited_in (opens_of a.files.now) a.spaces.now.pipes a.console.now a.ticks
 
--- with these processes, whose memories don't count
+-- with these processes, whose spaces don't count
 abbrev pub seen : State → List (Option Process) → State
 seen s places = with_table s (record { places = places; last = 0; next_pid = 0; awake = [] }) []
 
@@ -40,4 +40,4 @@ Stands s (OnPipe q end) = has_pipe s q ≡ true
 
 -- what the open file of a pending read or write is open on
 abbrev pub pending_target : State → Process → Pending → Option Target
-pending_target s p w = option_map (λ (f : OpenFile). f.target) (pending_file s (with_memory [] p) w)
+pending_target s p w = option_map (λ (f : OpenFile). f.target) (pending_file s (with_space no_pages p) w)

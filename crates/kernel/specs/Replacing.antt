@@ -3,7 +3,6 @@ use Rattle.std.specs.Prelude.{Err, None, Ok, Option, Result, Some, slice_set, �
 use Rattle.blockdev.specs.declared.DeviceFault.{DeviceFault}
 use Rattle.kernel.specs.Disk.{HasRead, IsLost}
 use Rattle.kernel.specs.Kernel.{Kernel, counting}
-use Rattle.proc.specs.Places.{changed, with_size}
 use Rattle.programs.specs.declared.executing.Started.{Started}
 use Rattle.programs.specs.Executed.{frames_beside, plan_at, started_by, view_by}
 use Rattle.spaces.specs.Spaces.{Spaces, view_at, with_view}
@@ -15,7 +14,7 @@ begun s p = record s { registers = slice_set (slice_set (slice_set s.registers 2
 
 -- a program is in the place of the one that process i ran
 abbrev pub replaced_by : Kernel → ℕ → Plan → Kernel
-replaced_by k i new = record k { table = changed k.table i (with_size new.size); spaces = begun (with_view k.spaces i (view_by new)) (started_by new) }
+replaced_by k i new = record k { spaces = begun (with_view k.spaces i (view_by new)) (started_by new) }
 
 -- the program of number n is, with the arguments that argv points at
 pub record HasReplaced (old new : Kernel) (i n argv : ℕ) (started : Started) : Type 0 where

@@ -1,23 +1,27 @@
 -- What is shown of processes and of open files.
 use Rattle.std.specs.Prelude.{None, Option, Some, sum_by, ℕ}
 use Rattle.files.specs.Counts.{names}
+use Rattle.kernel.specs.declared.kernel.show.ShownProcess.{ShownProcess}
 use Rattle.proc.specs.declared.process.Process.{Process}
 use Rattle.unixmodel.specs.Process as unix
 use Rattle.unixmodel.specs.State.{State}
 
--- a process of the abstract Unix, but for its memory
+-- a process of the abstract Unix, but for its memory and the size of that
 abbrev pub bare : unix.Process → Process
 bare p = record {
   pid = p.pid;
   parent = p.parent;
   registers = p.registers;
   pc = p.pc;
-  size = p.size;
   descriptors = p.descriptors;
   directory = p.directory;
   killed = p.killed;
   mode = p.mode;
 }
+
+-- the same, and the size
+abbrev pub shown_as : unix.Process → ShownProcess
+shown_as p = record { process = bare p; size = p.size }
 
 -- how many descriptors of a place name open file n
 abbrev pub naming : ℕ → Option unix.Process → ℕ

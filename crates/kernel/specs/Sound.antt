@@ -66,7 +66,6 @@ IsMode p memory (Zombie status) = IsEnded p
 
 -- a process with its space
 pub record IsPlaced (p : Process) (h : SpaceView) : Type 0 where
-  pub size : p.size ≡ h.size
   pub zero : slice_index p.registers 0 ≡ 0
   pub aligned : p.pc % 4 ≡ 0
   pub mode : IsMode p h.memory p.mode

@@ -10,7 +10,8 @@ use Rattle.proc.specs.declared.waits.WaitKind.{WaitKind}
 use Rattle.proc.specs.declared.waits.WaitKind.TheVariants.{Child, Time, Transfer}
 use Rattle.proc.specs.Mask.{is_in}
 use Rattle.proc.specs.Places.{Places, exited}
-use Rattle.proc.specs.Whole.{with_memory}
+use Rattle.kernel.specs.Whole.{with_space}
+use Rattle.spaces.specs.Spaces.{no_pages}
 use Rattle.unixmodel.specs.declared.call.Call.{Call}
 use Rattle.unixmodel.specs.declared.call.Call.TheVariants.{Read, Sleep, Wait, Write}
 use Rattle.unixmodel.specs.declared.process.Mode.{Mode}
@@ -67,7 +68,7 @@ ended_in t at process status = woken_by Bytes (woken_by Children (exited (record
 abbrev pub IsAsleepAs : State → List (Option Process) → Process → Mode → Type 0
 IsAsleepAs a places p Running = ⊥
 IsAsleepAs a places p Ready = ⊥
-IsAsleepAs a places p (Waiting w) = (p.killed ≡ false) × (can_go_on (seen a places) (with_memory [] p) w w.number ≡ false)
+IsAsleepAs a places p (Waiting w) = (p.killed ≡ false) × (can_go_on (seen a places) (with_space no_pages p) w w.number ≡ false)
 IsAsleepAs a places p (Zombie status) = Unit {0}
 
 abbrev pub IsAsleep : State → List (Option Process) → Option Process → Type 0

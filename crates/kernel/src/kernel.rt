@@ -44,6 +44,7 @@ use blockdev::{BlockDev, DeviceFault};
 use console::{Console, Out, OutFault};
 use files::{End, Files, Target};
 use proc::{Process, Table};
+pub use show::ShownProcess;
 use spaces::Spaces;
 use std::marker::Model;
 use sv39::Translate;

@@ -8,5 +8,5 @@ pub mod numbers;
 mod ready;
 
 pub use channels::{Channel, wakeup};
-pub use kernel::Kernel;
+pub use kernel::{Kernel, ShownProcess};
 pub use ready::has_slept;

@@ -1,10 +1,11 @@
 //! Who is ready.
-ghost use Rattle.std.specs.Prelude.{◌≡◌, ◌≤◌, ◌+◌, ◌-◌, ◌%◌, ◌^◌, [], IfSome, Some, None, option_map, true, nat_le};
+ghost use Rattle.std.specs.Prelude.{◌≡◌, ◌≤◌, ◌+◌, ◌-◌, ◌%◌, ◌^◌, IfSome, Some, None, option_map, true, nat_le};
 ghost use Rattle.kernel.specs.Ready.{Stands, awaited, has_slept, pending_target, seen};
 ghost use Rattle.files.specs.Meant.{target_of};
 ghost use Rattle.files.specs.Pipes.{IsPiped};
 ghost use Rattle.files.specs.Places.{opens_of};
-ghost use Rattle.proc.specs.Whole.{with_memory};
+ghost use Rattle.kernel.specs.Whole.{with_space};
+ghost use Rattle.spaces.specs.Spaces.{no_pages};
 ghost use Rattle.unixmodel.specs.Turn.{can_go_on, can_read_from, can_write_to, is_ready, ready};
 
 use crate::descriptors::named;
@@ -81,7 +82,7 @@ impl<T: Translate> Awaited<'_, T> {
     // Whether the condition of a waiting call holds.
     fn can_go_on(&self, places: &[Place], process: &Process, pending: &Pending) -> bool
         requires { IsPiped self.now.spaces.now.pipes (opens_of self.now.files.now) }
-        ensures { result ≡ can_go_on (seen (awaited self.now) places.now) (with_memory [] process.now) pending.now pending.now.number }
+        ensures { result ≡ can_go_on (seen (awaited self.now) places.now) (with_space no_pages process.now) pending.now pending.now.number }
     {
         match pending.number {
             Call::Wait => zombie_child(places, process.pid).is_some(),
@@ -102,7 +103,7 @@ impl<T: Translate> Awaited<'_, T> {
     #[tactic(auto, unfolding(unixmodel::specs::Turn::is_ready))]
     fn is_process_ready(&self, places: &[Place], process: &Process) -> bool
         requires { IsPiped self.now.spaces.now.pipes (opens_of self.now.files.now) }
-        ensures { result ≡ is_ready (seen (awaited self.now) places.now) (with_memory [] process.now) }
+        ensures { result ≡ is_ready (seen (awaited self.now) places.now) (with_space no_pages process.now) }
     {
         match process.mode {
             Mode::Running => process.killed,

@@ -10,7 +10,6 @@ fn child_of(parent: u32) -> Process {
         parent,
         registers: [0; 32],
         pc: 0,
-        size: 12288,
         descriptors: [Some(0); 16],
         directory: 1,
         killed: false,

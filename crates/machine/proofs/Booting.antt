@@ -1,7 +1,7 @@
 -- The kernel and the state that begin with the plan of /init.
 use Rattle.machine.proofs.Common.{one_in, names-none, Counted, count_at, count_in, opens_of, file_of, slot-opens, IsCounted, names_in, FitsNode, IsFolder, IsInUse, files_on, home_in, homes_at, node_in, node_of, node_on, Kernel}
-use Rattle.machine.proofs.Common.{begun, memory_in, state_of, IsKernel, IsLive, IsOpenFile, IsOpened, IsPlaced, Init, IsBegun, IsInPlace, IsUnheld, LacksInit, PutsInit, bare_of, first_of, first_places, view_by, init_kernel, alone}
-use Rattle.machine.proofs.Common.{View, sound_view, KeepsTree, Process, all_in, Places, seated, joined-free_slots, joined, SpaceView, Spaces, List, None, Option, Some, ap, arith, false, is_some, le_trans, length, map, nat_le}
+use Rattle.machine.proofs.Common.{begun, state_of, IsKernel, IsLive, IsOpenFile, IsOpened, IsPlaced, Init, IsBegun, IsInPlace, IsUnheld, LacksInit, PutsInit, bare_of, first_of, first_places, view_by, init_kernel, alone}
+use Rattle.machine.proofs.Common.{View, sound_view, KeepsTree, Process, all_in, Places, seated, joined-free_slots, joined, SpaceView, Spaces, List, None, Option, Some, ap, arith, false, is_some, length, nat_le}
 use Rattle.machine.proofs.Common.{refl, replicate, subst, suc, sym, true, zero, ℕ, ◌%◌, ◌+◌, ◌<◌, ◌∙◌, ◌∷◌, ◌≡◌, ◌≢◌, ◌≤◌, le-leb, lt-leb, nat_tests, length-replicate, sum_by-replicate, sum_by-cons, none-some, IfSome, option_map}
 use Rattle.machine.proofs.Common.{slice_index, ◌==◌, holders, with_hold, FileTree, frames_of, page_frames, Files, free_slots, slot, zeros, Plan, first_process, first_state, if_fits, init_plan, start, State, open_limit}
 use Rattle.machine.proofs.FlatLemmas.{none-free, one-all, one-home, one-rests, one-stands, one-waits, same-past, taken-alone}
@@ -20,7 +20,7 @@ pub state-init : (tree : FileTree) (frames : ℕ) (new : Plan) → state_of (ini
 unfolding joined free_slots
 state-init tree frames new =
     ap (λ (places : List (Option unix.Process)). record (begun_with tree.files tree.block_limit frames new) { places = Some (first_process new no_descriptors) ∷ places })
-    (joined-free_slots 63 (map memory_in (replicate 63 None)))
+    (joined-free_slots 63 (replicate 63 None))
 
 frames-init : (files : Files) (limit frames : ℕ) (new : Plan) → frames_of (begun_with files limit frames new) ≡ 4 + page_frames (length new.memory)
 unfolding frames_of free_slots
@@ -59,7 +59,7 @@ unfolding zeros
 init-zero new = refl
 
 init-placed : (new : Plan) → new.pc % 4 ≡ 0 → IsPlaced (first_of new) (view_by new)
-init-placed new aligned = record { size = refl; zero = init-zero new; aligned = aligned; mode = init-live new }
+init-placed new aligned = record { zero = init-zero new; aligned = aligned; mode = init-live new }
 
 -- ---- no file is open
 
@@ -159,10 +159,6 @@ unfolding free_slots
 table-init new = refl
 
 -- ---- the kernel as it is made
-
--- so few pages
-pub few-init : (files : Files) (frames : ℕ) (put : Spaces) (o : Option Init) (init : Init) → o ≡ Some init → PutsInit files frames put o → frames ≤ 32768 → init.program.pages ≤ 32768
-few-init files frames put o init is puts few = le_trans (subst (PutsInit files frames put) is puts).few few
 
 -- the frames don't suffice, or there is no plan
 pub not-begun : (tree : FileTree) (frames : ℕ) (s put : Spaces) → s.frames ≡ frames → (told : Option Init) → told ≡ None → PutsInit tree.files s.frames put told → start tree.files tree.block_limit frames ≡ None

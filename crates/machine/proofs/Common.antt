@@ -24,14 +24,14 @@ pub use Rattle.imagerules.specs.Content.{image_of}
 pub use Rattle.kernel.proofs.Watching.{watched-all}
 pub use Rattle.kernel.specs.Descriptors.{IsCounted, named_by, names_in}
 pub use Rattle.kernel.specs.Holding.{files_on, FitsNode, home_in, homes_at, IsFolder, IsInUse, node_in, node_of, node_on}
-pub use Rattle.kernel.specs.Kernel.{begun, Kernel, memory_in, state_of}
+pub use Rattle.kernel.specs.Kernel.{begun, Kernel, state_of}
 pub use Rattle.kernel.specs.Sound.{IsKernel, IsLive, IsOpened, IsOpenFile, IsPlace, IsPlaced, WaitsWell}
 pub use Rattle.mount.specs.Mounted.{AreLinked, IsFlat, IsMounted, IsUnmounted}
 pub use Rattle.names.specs.Rules.{KeepsTree}
-pub use Rattle.proc.proofs.Joined.{joined-free_slots, seat_of-first}
+pub use Rattle.kernel.proofs.Joined.{joined-free_slots, seat_of-first}
 unfoldable pub use Rattle.proc.specs.Mask.{all_in}
 pub use Rattle.proc.specs.Places.{is_running, Places, seat_of, seated}
-unfoldable pub use Rattle.proc.specs.Whole.{joined}
+unfoldable pub use Rattle.kernel.specs.Whole.{joined}
 pub use Rattle.proc.specs.declared.process.Process.{Process}
 pub use Rattle.programs.specs.Passed.{PassesOne, plan_with, stacked}
 pub use Rattle.spaces.specs.Spaces.{frames_in, grown, has_space, no_pages, no_spaces, Spaces, SpaceView, taken_frames, view_at, with_place, with_view, written}

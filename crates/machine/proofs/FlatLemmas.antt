@@ -1,9 +1,9 @@
 -- A flat program in memory, and the state and the kernel that begin with it.
-use Rattle.machine.proofs.Common.{none-some, same_Some, holders, with_hold, file_of, FitsNode, IsFolder, IsInUse, files_on, home_in, homes_at, node_in, node_of, node_on, IsCounted, named_by, names_in, memory_in, state_of}
+use Rattle.machine.proofs.Common.{none-some, same_Some, holders, with_hold, file_of, FitsNode, IsFolder, IsInUse, files_on, home_in, homes_at, node_in, node_of, node_on, IsCounted, named_by, names_in, state_of}
 use Rattle.machine.proofs.Common.{IsKernel, IsLive, IsOpenFile, IsOpened, IsPlace, IsPlaced, WaitsWell, names, one_in, names-free, Counted, count_at, count_in, opened, opens_of, place_for, slot-opens, stacked, BootFault}
 use Rattle.machine.proofs.Common.{FrameCount, NoInit, NoMemory, LoadsFlat, alone, bare_plan, console_file, first, first_files, first_kernel, first_table, first_tree, flat_memory, flat_space, RefusesFlat, IsFlat, Process}
 use Rattle.machine.proofs.Common.{all_in, is_running, seated, joined-free_slots, joined, SpaceView, Spaces, frames_in, grown, has_space, view_at, no_pages, no_spaces, taken_frames, with_view, written, Bool, Err, List}
-use Rattle.machine.proofs.Common.{None, Ok, Option, Result, Some, [], ap, append_assoc, ap₂, arith, false, get_or, inl, inr, is_some, length, length-append, map, nat_le, refl, replicate, subst, suc, sym, true, zero, ℕ}
+use Rattle.machine.proofs.Common.{None, Ok, Option, Result, Some, [], ap, append_assoc, ap₂, arith, false, get_or, inl, inr, is_some, length, length-append, nat_le, refl, replicate, subst, suc, sym, true, zero, ℕ}
 use Rattle.machine.proofs.Common.{◌*◌, ◌++◌, ◌+◌, ◌-◌, ◌/◌, ◌<◌, ◌∙◌, ◌∷◌, ◌≡◌, ◌≢◌, ◌≤◌, ◌⊎◌, ◌↔◌, le-leb, lt-leb, nat_tests, length-replicate, sum_by-replicate, sum_by-cons, IfOk, IfSome, IsErrOf, OnErr, option_map}
 use Rattle.machine.proofs.Common.{slice_index, sum_by, ◌==◌, FileTree, blocks_of, frames_of, page_frames, Files, free_slots, slot, Perm, Memory, overwrite, pages_of, write_bytes, zero_page, zeros, ceil_div, le, round_down}
 use Rattle.machine.proofs.Common.{plan_flat, push, push_pointers, push_strings, stack_marks, with_args, with_stack, first_process, first_state, flat_descriptors, flat_files, flat_opens, if_fits, start_flat, State, holds}
@@ -82,7 +82,7 @@ state-first tree flat frames h =
     ap (λ (files : Files). record (state_of (first_kernel tree frames h)) { files = files }) flat.files
     ∙ ap (λ (limit : ℕ). record (state_of (first_kernel tree frames h)) { files = flat_files; block_limit = limit }) flat.limit
     ∙ ap (λ (places : List (Option unix.Process)). record (begun frames h) { places = Some (first_process (bare_plan h.memory h.size) flat_descriptors) ∷ places })
-    (joined-free_slots 63 (map memory_in (replicate 63 None)))
+    (joined-free_slots 63 (replicate 63 None))
 
 frames-begun : (frames : ℕ) (h : SpaceView) → frames_of (begun frames h) ≡ 4 + page_frames (length h.memory)
 unfolding frames_of free_slots
@@ -113,7 +113,7 @@ unfolding zeros
 first-zero size = refl
 
 first-placed : (h : SpaceView) → IsPlaced (first h.size) h
-first-placed h = record { size = refl; zero = first-zero h.size; aligned = refl; mode = first-live h.size }
+first-placed h = record { zero = first-zero h.size; aligned = refl; mode = first-live h.size }
 
 -- a process alone in the first place
 pub one-stands : (p : Process) (h : SpaceView) → IsPlaced p h → (i : ℕ) → IsPlace (slot (Some p ∷ free_slots 63) i) (slot (Some h ∷ replicate 63 None) i)

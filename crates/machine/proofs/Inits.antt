@@ -1,6 +1,6 @@
 -- What /init has process 1 execute, and how it comes into the first place.
 use Rattle.machine.proofs.Common.{List, None, Ok, Option, Some, [], ap, arith, true, le_trans, length, refl, subst, sym, ℕ, ◌%◌, ◌*◌, ◌++◌, ◌+◌, ◌/◌, ◌<◌, ◌^◌, ◌∙◌, ◌∷◌, ◌≡◌, ◌≤◌, none-some, same_Some, IfSome, IsSome}
-use Rattle.machine.proofs.Common.{is_some, option_and_then, option_map, Init, FindsInit, IsInPlace, IsInit, LacksInit, first_of, alone, KeepsTree, PassesOne, plan_with, stacked, SpaceView, Spaces, has_space, no_pages}
+use Rattle.machine.proofs.Common.{is_some, option_and_then, option_map, Init, FindsInit, IsInPlace, IsInit, LacksInit, alone, KeepsTree, PassesOne, plan_with, stacked, SpaceView, Spaces, has_space, no_pages}
 use Rattle.machine.proofs.Common.{no_spaces, taken_frames, with_view, with_place, FileTree, Serves, page_frames, Files, Node, find, slot, number_at, Loaded, Plan, loaded_of, plan, with_args, init_path, init_plan}
 use Rattle.calls.proofs.Homes.{some-there}
 use Rattle.machine.proofs.FlatLemmas.{alone-space, no-frames}
@@ -152,14 +152,12 @@ module _ (files : Files) (frames : ℕ) (init : Init) (is : IsInit files frames 
       let pages = program-of.pages in
       let fits = is.fits in
       let size : 4096 * length (the_plan).memory ≡ (the_plan).size = omega (arith, long, pages) in
-      let bare : 4096 * (init.program.pages + 2) ≡ (the_plan).size = omega (arith, pages) in
       record {
         plan = the_plan;
         is = plan-of;
         fits = rw long fits;
-        few = omega (arith, fits);
         spaces = done program-of.loaded program-of.is ∙ ap (λ (s : Spaces). with_view s 0 (paged (the_plan).memory)) is-made ∙ ap (λ (k : ℕ). alone frames (let h : SpaceView = record { memory = (the_plan).memory; size = k } in h)) size;
-        bare = ap (λ (k : ℕ). first_of (let p : Plan = record { memory = []; size = k; pc = init.program.header.entry; argc = init.arguments.count; sp = init.arguments.sp } in p)) bare;
+        bare = refl;
         aligned = aligned;
       }
 

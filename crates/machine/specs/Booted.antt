@@ -127,7 +127,6 @@ first_of new = record {
   parent = 0;
   registers = exec_registers (zeros 32) new;
   pc = new.pc;
-  size = new.size;
   descriptors = no_descriptors;
   directory = 1;
   killed = false;
@@ -139,7 +138,6 @@ pub record IsInPlace (files : Files) (frames : ℕ) (new : Spaces) (init : Init)
   pub plan : Plan
   pub is : init_plan files ≡ Some plan
   pub fits : 4 + page_frames (length plan.memory) ≤ frames
-  pub few : init.program.pages ≤ frames
   pub spaces : new ≡ alone frames (view_by plan)
   pub bare : first_of (bare_of init) ≡ first_of plan
   pub aligned : plan.pc % 4 ≡ 0

@@ -57,7 +57,6 @@ first size = record {
   parent = 0;
   registers = exec_registers (zeros 32) (bare_plan [] size);
   pc = 0;
-  size = size;
   descriptors = flat_descriptors;
   directory = 1;
   killed = false;

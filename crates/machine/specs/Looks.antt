@@ -4,7 +4,7 @@ use Rattle.calls.specs.declared.halt.Halt.TheVariants.{Console, Device, Halted, 
 use Rattle.inode.specs.declared.InodeStat.{InodeStat}
 use Rattle.machine.specs.declared.inodes.Stat.{Stat}
 use Rattle.machine.specs.View.{View}
-use Rattle.std.specs.Prelude.{Err, List, None, Ok, Option, Result, Some, drop, false, length, true, ℕ, ◌++◌, ◌≡◌, ◌≤◌}
+use Rattle.std.specs.Prelude.{Err, List, Ok, Result, drop, false, length, true, ℕ, ◌++◌, ◌≡◌, ◌≤◌}
 use Rattle.unixmodel.specs.Failures.{Rises}
 use Rattle.unixmodel.specs.Shown as shown
 use Rattle.unixmodel.specs.State.{State}

@@ -51,14 +51,14 @@ seen_of p = record {
   state = state_seen p.mode;
 }
 
--- the same, from what the table has of it
-abbrev pub told_as : table.Process → Seen
-told_as p = record {
+-- the same, from what the table has of it, and its size
+abbrev pub told_as : table.Process → ℕ → Seen
+told_as p size = record {
   pid = p.pid;
   parent = p.parent;
   registers = p.registers;
   pc = p.pc;
-  size = p.size;
+  size = size;
   killed = p.killed;
   state = state_seen p.mode;
 }

@@ -102,7 +102,6 @@ fn first(size: u64) -> Process
         parent: 0,
         registers,
         pc: 0,
-        size,
         descriptors,
         directory: 1,
         killed: false,

@@ -18,7 +18,6 @@ use image::ImageFault;
 use mount::mount;
 use proc::{Process, Table};
 use programs::{Arguments, Program, load, one_argument, read_program};
-use ram::FRAME_SIZE;
 use spaces::Spaces;
 use std::alloc::Global;
 use sv39::Translate;
@@ -106,7 +105,6 @@ fn put_init<D: BlockDev, T: Translate>(
 // Process 1, about to execute its first instruction with its arguments.
 #[tactic(auto, unfolding(unixmodel::specs::Memory::zeros, unixmodel::specs::Outcome::no_descriptors, unixmodel::specs::Files::free_slots))]
 fn first(init: &Init) -> Process
-    requires { init.now.program.pages ≤ 32768 }
     ensures { result ≡ first_of (bare_of init.now) }
 {
     let mut registers = [0; 32];
@@ -118,7 +116,6 @@ fn first(init: &Init) -> Process
         parent: 0,
         registers,
         pc: init.program.header.entry,
-        size: FRAME_SIZE as u64 * (init.program.pages + 2),
         descriptors: [None; 16],
         directory: 1,
         killed: false,
@@ -128,7 +125,6 @@ fn first(init: &Init) -> Process
 
 // The table with process 1 alone.
 fn first_table(init: &Init) -> Table
-    requires { init.now.program.pages ≤ 32768 }
     ensures { result ≡ first_places (bare_of init.now) }
 {
     let mut table = Table::starting_at(1);

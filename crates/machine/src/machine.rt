@@ -159,8 +159,8 @@ impl<D: BlockDev, T: Translate> Machine<D, T> {
     pub fn inspect(&self, pid: u32) -> Option<Seen>
         ensures { result ≡ option_map seen_of (shown_process self.now.state pid) }
     {
-        let process = self.kernel.shown(pid)?;
-        Some(told(&process))
+        let shown = self.kernel.shown(pid)?;
+        Some(told(&shown.process, shown.size))
     }
 
     /// The bytes and the marks of a page of a process; `None` past its last page, and where there is no such process.

@@ -78,16 +78,16 @@ fn state(mode: Mode) -> ProcessState
     }
 }
 
-/// What a process is told as.
-pub fn told(process: &Process) -> Seen
-    ensures { result ≡ told_as process.now }
+/// What a process of so many bytes is told as.
+pub fn told(process: &Process, size: u64) -> Seen
+    ensures { result ≡ told_as process.now size }
 {
     Seen {
         pid: process.pid,
         parent: process.parent,
         registers: process.registers,
         pc: process.pc,
-        size: process.size,
+        size,
         killed: process.killed,
         state: state(process.mode),
     }

@@ -2,6 +2,4 @@ pub mod Mapped
 pub mod Bits
 pub mod Looking
 pub mod Following
-pub mod Turns
-pub mod Joined
 pub mod Waiting

@@ -3,6 +3,5 @@ pub mod Mask
 pub mod Waits
 pub mod Places
 pub mod Sound
-pub mod Whole
 pub mod Lending
 pub mod Next

@@ -48,9 +48,6 @@ is_zombie_child_of pid p = is_child_of pid p && is_zombie_mode p.mode
 abbrev pub with_mode : Mode → Process → Process
 with_mode mode p = record p { mode = mode }
 
-abbrev pub with_size : ℕ → Process → Process
-with_size size p = record p { size = size }
-
 abbrev pub with_directory : ℕ → Process → Process
 with_directory directory p = record p { directory = directory }
 

@@ -13,8 +13,6 @@ pub struct Process {
     pub registers: [u64; 32],
     /// The address of its next instruction, while it doesn't run.
     pub pc: u64,
-    /// The size of its memory in bytes.
-    pub size: u64,
     /// Each free, or the number of an open file.
     pub descriptors: [Option<u8>; 16],
     /// The number of the working directory, and 0 once it is given up.

@@ -155,7 +155,7 @@ fn status(mode: Mode) -> i32
 }
 
 impl Table {
-    ghost use Rattle.proc.specs.Places.{Places, changed, exited, has_pid, is_awake, is_child_of, is_running, left, reaped_at, seat_of, seated, with_descriptor, with_directory, with_mark, with_mode, with_running, with_size, without, woken, zombie_place};
+    ghost use Rattle.proc.specs.Places.{Places, changed, exited, has_pid, is_awake, is_child_of, is_running, left, reaped_at, seat_of, seated, with_descriptor, with_directory, with_mark, with_mode, with_running, without, woken, zombie_place};
     ghost use Rattle.proc.specs.Lending.{LendsProcess};
     ghost use Rattle.proc.specs.Pick.{Answers, Picks};
     ghost use Rattle.proc.specs.Mask.{Passes};
@@ -231,15 +231,6 @@ impl Table {
     {
         self.waiting.set(at);
         self.places[at] = Some(process);
-    }
-
-    /// The process in a place has another size. Nothing changes where the place is free.
-    pub fn set_size(&mut self, at: usize, size: u64)
-        ensures { self.new ≡ changed self.old at (with_size size) }
-    {
-        if let Some(process) = self.process_mut(at) {
-            process.size = size;
-        }
     }
 
     /// The process in a place works in another directory. Nothing changes where the place is free.

@@ -144,19 +144,17 @@ module _ {files : Files} {n : ℕ} {program : Program} (of : HasProgram files n 
   not-passed passes p is = absurd (none-some p (sym (planned of mem argv ∙ plan-passed (file_at files n) program of.is mem argv None passes) ∙ is))
 
   -- it is executed
-  pub is-executed : (new : Spaces) (a : Arguments) (size frames free : ℕ) → has_space s at ≡ true → Passes mem argv program.pages (Some a) → frames ≡ 3 + page_frames (program.pages + 2) → free + taken_frames s ≡ s.frames → frames ≤ free
-      → new ≡ with_view s at (paged (stacked of.is.loaded.pages a.page)) → size ≡ (view_at new at).size
-      → IsExecuted (plan_at files n mem argv) s new at (record { pc = program.header.entry; count = a.count; sp = a.sp; size = size })
-  is-executed new a size frames free has passes are left enough put told =
+  pub is-executed : (new : Spaces) (a : Arguments) (frames free : ℕ) → Passes mem argv program.pages (Some a) → frames ≡ 3 + page_frames (program.pages + 2) → free + taken_frames s ≡ s.frames → frames ≤ free
+      → new ≡ with_view s at (paged (stacked of.is.loaded.pages a.page))
+      → IsExecuted (plan_at files n mem argv) s new at (record { pc = program.header.entry; count = a.count; sp = a.sp })
+  is-executed new a frames free passes are left enough put =
       let pages = of.is.loaded.pages in
       let long : length (stacked pages a.page) ≡ program.pages + 2 = length-stacked pages a.page ∙ ap (λ k. k + 2) of.is.pages in
       let whole : 4096 * length (stacked pages a.page) ≡ 4096 * (length pages + 2) = ap (λ k. 4096 * k) (length-stacked pages a.page) in
-      let shown : size ≡ 4096 * (length pages + 2) =
-      told ∙ ap (λ (k : Spaces). (view_at k at).size) put ∙ ap (λ (h : SpaceView). h.size) (held-same s at (paged (stacked pages a.page)) (space-within s at has)) ∙ whole in
       record {
         plan = plan_with pages program.header.entry a;
         is = planned of mem argv ∙ plan-passed (file_at files n) program of.is mem argv (Some a) passes;
         fits = subst (λ k. taken_frames s + 3 + page_frames k ≤ s.frames) (sym long) (omega (arith, are, left, enough));
         held = put ∙ ap (λ k. with_view s at (let h : SpaceView = record { memory = stacked pages a.page; size = k } in h)) whole;
-        started = ap (λ k. let t : Started = record { pc = program.header.entry; count = a.count; sp = a.sp; size = k } in t) shown;
+        started = refl;
       }

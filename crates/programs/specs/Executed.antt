@@ -20,7 +20,7 @@ abbrev pub view_by : Plan → SpaceView
 view_by new = record { memory = new.memory; size = new.size }
 
 abbrev pub started_by : Plan → Started
-started_by new = record { pc = new.pc; count = new.argc; sp = new.sp; size = new.size }
+started_by new = record { pc = new.pc; count = new.argc; sp = new.sp }
 
 -- a program that is executed
 pub record IsExecuted (planned : Option Plan) (old new : Spaces) (at : ℕ) (s : Started) : Type 0 where

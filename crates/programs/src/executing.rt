@@ -24,8 +24,6 @@ pub struct Started {
     pub count: u64,
     /// The address of their pointers, down to which its stack reaches.
     pub sp: u64,
-    /// The size of its memory in bytes.
-    pub size: u64,
 }
 
 /// Puts the program of the file that a number names in the place of what a place holds, with the arguments that argv points at
@@ -59,6 +57,5 @@ pub fn execute<D: BlockDev, T: Translate>(
         pc: program.header.entry,
         count: arguments.count,
         sp: arguments.sp,
-        size: spaces.size(at),
     }))
 }

@@ -99,12 +99,7 @@ impl<D: BlockDev, T: Translate> Kernel<D, T> {
         ensures refused { OnFalse result (self.new ≡ self.old) }
     {
         self.spaces.pages_are_whole(at);
-        if !self.spaces.grow(at, bytes, HEAP) {
-            return false;
-        }
-        let size = self.spaces.size(at);
-        self.table.set_size(at, size);
-        true
+        self.spaces.grow(at, bytes, HEAP)
     }
 
     /// Takes so many bytes from the end of the memory of the running process.
@@ -117,7 +112,5 @@ impl<D: BlockDev, T: Translate> Kernel<D, T> {
         self.spaces.pages_are_whole(at);
         self.spaces.shrink(at, bytes);
         self.spaces.frames_suffice();
-        let size = self.spaces.size(at);
-        self.table.set_size(at, size);
     }
 }

@@ -39,14 +39,11 @@ impl<D: BlockDev, T: Translate> Kernel<D, T> {
             Ok(Some(started)) => {
                 self.spaces.frames_suffice();
                 begin(&mut self.spaces, &started);
-                self.table.set_size(at, started.size);
                 Ok(Some(started))
             }
             Ok(None) => Ok(None),
             Err(fault) => {
                 self.spaces.frames_suffice();
-                let size = self.spaces.size(at);
-                self.table.set_size(at, size);
                 Err(fault)
             }
         }

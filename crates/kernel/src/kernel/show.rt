@@ -3,7 +3,7 @@ ghost use Rattle.std.specs.Prelude.{◌≡◌, ◌+◌, ◌++◌, IfSome, false,
 ghost use Rattle.files.specs.Meant.{file_of};
 ghost use Rattle.kernel.specs.Holding.{FitsFiles};
 ghost use Rattle.kernel.specs.Kernel.{state_of};
-ghost use Rattle.kernel.specs.Shows.{bare, descriptors_on};
+ghost use Rattle.kernel.specs.Shows.{descriptors_on, shown_as};
 ghost use Rattle.proc.specs.Next.{IsNextOf};
 ghost use Rattle.unixmodel.specs.Counts.{frames_of};
 ghost use Rattle.unixmodel.specs.Files.{slot};
@@ -18,6 +18,15 @@ use ram::{FRAME_SIZE, FrameNo, Ram};
 use sv39::Translate;
 use vm::Perm;
 
+/// What is shown of a process: all but its pages.
+#[derive(Clone, Copy)]
+pub struct ShownProcess {
+    /// All that it has but its memory.
+    pub process: Process,
+    /// The size of its memory in bytes.
+    pub size: u64,
+}
+
 impl<D: BlockDev, T: Translate> Kernel<D, T> {
     /// The least pid above another, among those of all processes, also of zombies.
     pub fn next_pid(&self, after: u32) -> Option<u32>
@@ -26,12 +35,14 @@ impl<D: BlockDev, T: Translate> Kernel<D, T> {
         self.table.next_pid(after)
     }
 
-    /// The process with a pid, but for its memory; `None` where there is none.
-    pub fn shown(&self, pid: u32) -> Option<Process>
-        ensures { result ≡ option_map bare (shown_process (state_of self.now) pid) }
+    /// The process with a pid, but for its pages; `None` where there is none.
+    pub fn shown(&self, pid: u32) -> Option<ShownProcess>
+        ensures { result ≡ option_map shown_as (shown_process (state_of self.now) pid) }
     {
         let at = self.table.find(pid)?;
-        self.whole(at)
+        let process = self.whole(at)?;
+        let size = self.spaces.size(at);
+        Some(ShownProcess { process, size })
     }
 
     /// The bytes and the marks of a page of the process with a pid; `None` past its last page, and where there is no
@@ -58,6 +69,7 @@ impl<D: BlockDev, T: Translate> Kernel<D, T> {
     {
         self.spaces.free()
     }
+
     /// An open file, and how many descriptors of all processes name it; `None` where there is none with this number.
     pub fn opened(&self, id: usize) -> Option<(OpenFile, u32)>
         ensures file { option_map (λ r. file_of r.0) result ≡ slot (state_of self.now).opens id }

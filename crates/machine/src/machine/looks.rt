@@ -29,8 +29,8 @@ impl<D: BlockDev, T: Translate> Machine<D, T> {
     pub fn holdings(&self, pid: u32) -> Option<Holdings>
         ensures { result ≡ option_map holdings_of (shown_process self.now.state pid) }
     {
-        let process = self.kernel.shown(pid)?;
-        Some(held(&process))
+        let shown = self.kernel.shown(pid)?;
+        Some(held(&shown.process))
     }
 
     /// The open file with a number, which descriptors name; `None` where there is none. Once the machine has failed a node may be told

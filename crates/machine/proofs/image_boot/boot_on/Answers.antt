@@ -1,6 +1,6 @@
 use Rattle.machine.proofs.image_boot.boot_on.Goals as goal
 use Rattle.machine.proofs.Common.{watched-all, Kernel, ap, arith, refl, subst, sym, ◌∙◌, ◌≤◌, FileTree, Rises}
-use Rattle.machine.proofs.Booting.{begun-init, few-init, kernel-sound, not-begun, root-few, root-there}
+use Rattle.machine.proofs.Booting.{begun-init, kernel-sound, not-begun, root-few, root-there}
 use Rattle.machine.proofs.FlatLemmas.{frames-of, none-of}
 
 pub new-kernel-requires : goal.new-kernel-requires
@@ -32,9 +32,6 @@ hold-requires g c = record {
   node = root-there c.args.tree c.put_init.new.tree c.requires.unheld c.in-Ok-Some.ensures.serves.told c.is_whole.ensures;
   few = root-few c.args.tree c.put_init.new.tree c.requires.unheld c.in-Ok-Some.ensures.serves.told c.is_whole.ensures;
 }
-
-pub first_table-table-requires : goal.first_table-table-requires
-first_table-table-requires g c = few-init c.args.tree.files c.in-Ok.spaces.frames c.put_init.new.spaces c.in-Ok-Some.field-0 c.in-Ok-Some.init c.in-Ok-Some.field-0-is c.in-Ok-Some.ensures.put (omega (arith, frames-of c.in-Ok.ensures, c.requires.few))
 
 pub new-machine-requires : goal.new-machine-requires
 new-machine-requires g c = ap (λ (k : Kernel). k.tree.failed) c.new-kernel.ensures ∙ ap (λ (t : FileTree). t.failed) c.hold.ensures ∙ c.in-Ok-Some.ensures.serves.up

@@ -1,7 +1,7 @@
 use Rattle.std.proofs.Common.{arith, refl, sym, ◌∙◌}
 use Rattle.std.proofs.lemmas.Option.{none-some}
 use Rattle.programs.proofs.Executions.{few-told, file-there, is-executed, loaded-there, not-passed, over-frames, program-none, program-of, program-there}
-use Rattle.programs.proofs.Places.{has-held, held-still, room-beside}
+use Rattle.programs.proofs.Places.{held-still, room-beside}
 use Rattle.programs.proofs.Serving.{err-left, err-told, kept-first, kept-then, lost-first, lost-later}
 use Rattle.programs.proofs.executing.execute.Goals as goal
 
@@ -37,16 +37,11 @@ load-requires g c = record {
   room = room-beside c.args.spaces.now c.args.at _ c.requires.space (omega (arith, c.frames.ensures, c.free.ensures, c.if-frames-from.false, c.from.ensures));
 }
 
-pub size-requires : goal.size-requires
-size-requires g c =
-    let of = program-of c.args.number c.in_ok-program.ensures c.in-Some.is in
-    has-held c.args.spaces.now c.args.at _ (c.in_ok-load.ensures.loaded of.is.loaded (loaded-there c.args.number c.in_ok-program.ensures of)) c.requires.space
-
 pub returns-clause-executed : goal.returns-clause-executed
 returns-clause-executed g c =
     let of = program-of c.args.number c.in_ok-program.ensures c.in-Some.is in
-    is-executed of c.args.spaces.now c.args.at c.args.argv c.load.new.spaces c.in-Some-read_arguments.arguments c.size.result c.frames.result c.free.result c.requires.space c.in-Some-read_arguments.ensures
-    c.frames.ensures c.free.ensures (omega (arith, c.if-frames-from.false, c.from.ensures)) (c.in_ok-load.ensures.loaded of.is.loaded (loaded-there c.args.number c.in_ok-program.ensures of)) c.size.ensures
+    is-executed of c.args.spaces.now c.args.at c.args.argv c.load.new.spaces c.in-Some-read_arguments.arguments c.frames.result c.free.result c.in-Some-read_arguments.ensures
+    c.frames.ensures c.free.ensures (omega (arith, c.if-frames-from.false, c.from.ensures)) (c.in_ok-load.ensures.loaded of.is.loaded (loaded-there c.args.number c.in_ok-program.ensures of))
 
 pub frames-requires : goal.frames-requires
 frames-requires g c =

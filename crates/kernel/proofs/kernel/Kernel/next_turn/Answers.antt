@@ -1,4 +1,4 @@
-use Rattle.kernel.proofs.Common.{false, refl, rules, ap, sym, ◌∙◌, ◌≡◌, Kernel, base, memories, rest_of, seen, kernel_of, awaited_of, turn-from_pick, with_table, ready, turn}
+use Rattle.kernel.proofs.Common.{false, refl, rules, ap, sym, ◌∙◌, ◌≡◌, Kernel, base, rest_of, seen, kernel_of, awaited_of, turn-from_pick, with_table, ready, turn}
 use Rattle.kernel.proofs.Readies.{ready-same, turn-idle}
 use Rattle.kernel.proofs.Watching.{asleep-unready}
 use Rattle.kernel.proofs.kernel.Kernel.next_turn.Goals as goal
@@ -12,7 +12,7 @@ next_ready-requires-clause-awake g c i out =
 pub returns : goal.returns
 returns g c =
     let k = kernel_of c.self.inside in
-    turn-from_pick _ _ (base (rest_of k)) k.table (memories k.spaces) c.next_ready.result c.next_ready.ensures.first
-    (λ shown i b r. (search rules) ∙ sym (ready-same (rest_of k) (record k.table { places = shown.now }) (memories k.spaces) i))
-    ∙ ap (λ (x : Kernel). turn (with_table (base (rest_of x)) x.table (memories x.spaces))) c.self.view_is
+    turn-from_pick _ _ (base (rest_of k)) k.table k.spaces.places c.next_ready.result c.next_ready.ensures.first
+    (λ shown i b r. (search rules) ∙ sym (ready-same (rest_of k) (record k.table { places = shown.now }) k.spaces.places i))
+    ∙ ap (λ (x : Kernel). turn (with_table (base (rest_of x)) x.table x.spaces.places)) c.self.view_is
     ∙ turn-idle c.args.self.now c.requires

@@ -1,5 +1,5 @@
 use Rattle.kernel.proofs.Common.{ap, ◌∙◌, Kernel, kernel_of}
-use Rattle.kernel.proofs.Replacing.{begins-aligned, held-has, lost-keeps, replaced-done, replaced-keeps}
+use Rattle.kernel.proofs.Replacing.{begins-aligned, lost-keeps, replaced-done, replaced-keeps}
 use Rattle.kernel.proofs.kernel.Kernel.replace.Goals as goal
 
 pub begin-requires : goal.begin-requires
@@ -8,17 +8,14 @@ begin-requires g c = begins-aligned (kernel_of c.self.inside) c.args.at c.args.n
 pub invariant_of-self : goal.invariant_of-self
 invariant_of-self g c =
     let e = c.in-Ok-Some.ensures in
-    rw (c.set_size.ensures, c.begin.ensures) (replaced-keeps (kernel_of c.self.inside) c.args.at c.args.number c.args.argv c.execute.new.tree c.execute.new.spaces _ e.executed _ c.in-Ok-Some.field-0-is e.serves.told c.self.invariant (ap (λ (k : Kernel). k.spaces.active) c.self.view_is ∙ c.requires.running) c.frames_suffice.ensures)
+    rw c.begin.ensures (replaced-keeps (kernel_of c.self.inside) c.args.at c.args.number c.args.argv c.execute.new.tree c.execute.new.spaces _ e.executed _ c.in-Ok-Some.field-0-is e.serves.told c.self.invariant (ap (λ (k : Kernel). k.spaces.active) c.self.view_is ∙ c.requires.running) c.frames_suffice.ensures)
 
 pub returns-in-Ok-Some : goal.returns-in-Ok-Some
 returns-in-Ok-Some g c =
     let e = c.in-Ok-Some.ensures in
-    rw (← c.self.view_is, c.set_size.ensures, c.begin.ensures) (replaced-done (kernel_of c.self.inside) c.args.at c.args.number c.args.argv c.execute.new.tree c.execute.new.spaces _ e.executed _ c.in-Ok-Some.field-0-is e.serves.told e.serves.cause.later)
-
-pub size-size-requires : goal.size-size-requires
-size-size-requires g c = let e = c.in-Err.ensures.failed in held-has c.self.invariant (ap (λ (k : Kernel). k.spaces.active) c.self.view_is ∙ c.requires.running) e.0 e.1
+    rw (← c.self.view_is, c.begin.ensures) (replaced-done (kernel_of c.self.inside) c.args.at c.args.number c.args.argv c.execute.new.tree c.execute.new.spaces _ e.executed _ c.in-Ok-Some.field-0-is e.serves.told e.serves.cause.later)
 
 pub invariant_of-self-in-Err : goal.invariant_of-self-in-Err
 invariant_of-self-in-Err g c =
     let e = c.in-Err.ensures in
-    rw c.set_size-in-Err.ensures (lost-keeps c.self.invariant (ap (λ (k : Kernel). k.spaces.active) c.self.view_is ∙ c.requires.running) e.failed.0 e.failed.1 c.execute.new.tree e.serves.down c.frames_suffice-in-Err.ensures c.size-size.ensures)
+    lost-keeps c.self.invariant (ap (λ (k : Kernel). k.spaces.active) c.self.view_is ∙ c.requires.running) e.failed.0 e.failed.1 c.execute.new.tree e.serves.down c.frames_suffice-in-Err.ensures

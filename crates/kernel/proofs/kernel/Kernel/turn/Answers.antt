@@ -1,4 +1,4 @@
-use Rattle.kernel.proofs.Common.{false, refl, rules, ap, sym, ◌∙◌, ◌≡◌, Kernel, base, memories, rest_of, seen, kernel_of, awaited_of, turn-from_pick, with_table, ready, turn}
+use Rattle.kernel.proofs.Common.{false, refl, rules, ap, sym, ◌∙◌, ◌≡◌, Kernel, base, rest_of, seen, kernel_of, awaited_of, turn-from_pick, with_table, ready, turn}
 use Rattle.kernel.proofs.Readies.{ready-same, turn-idle}
 use Rattle.kernel.proofs.Wakes.{picked-places, watched-picked}
 use Rattle.kernel.proofs.Watching.{asleep-unready}
@@ -19,7 +19,7 @@ invariant_of-self g c =
 pub returns-clause-turn : goal.returns-clause-turn
 returns-clause-turn g c =
     let k = kernel_of c.self.inside in
-    turn-from_pick _ _ (base (rest_of k)) k.table (memories k.spaces) c.pick.result c.pick.ensures.first
-    (λ shown i b r. (search rules) ∙ sym (ready-same (rest_of k) (record k.table { places = shown.now }) (memories k.spaces) i))
-    ∙ ap (λ (x : Kernel). turn (with_table (base (rest_of x)) x.table (memories x.spaces))) c.self.view_is
+    turn-from_pick _ _ (base (rest_of k)) k.table k.spaces.places c.pick.result c.pick.ensures.first
+    (λ shown i b r. (search rules) ∙ sym (ready-same (rest_of k) (record k.table { places = shown.now }) k.spaces.places i))
+    ∙ ap (λ (x : Kernel). turn (with_table (base (rest_of x)) x.table x.spaces.places)) c.self.view_is
     ∙ turn-idle c.args.self.now c.requires

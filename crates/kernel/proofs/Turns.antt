@@ -7,8 +7,8 @@ use Rattle.std.proofs.Common.{ap, arith, inl, inr, refl, subst, sym, ◌∙◌}
 use Rattle.proc.specs.declared.process.Process.{Process}
 use Rattle.proc.specs.Pick.{Answers, Picks, place_in_round}
 use Rattle.proc.specs.Places.{Places}
-use Rattle.proc.specs.Whole.{with_table}
-use Rattle.unixmodel.specs.Memory.{Memory}
+use Rattle.spaces.specs.Spaces.{SpaceView}
+use Rattle.kernel.specs.Whole.{with_table}
 use Rattle.unixmodel.specs.State.{State, place_limit}
 use Rattle.unixmodel.specs.Turn.{ready, round_from, turn}
 
@@ -46,8 +46,8 @@ find-from_answers says test last (Some i) picks same =
     ∙ sym (find_first test (place_in_round last) place_limit 1 picks.turn (omega arith) (omega arith) yes (λ j low high. sym (same (place_in_round last j) false (picks.before j low high))))
 
 -- who is ready in the state with these places
-abbrev pub ready_with : State → Places → List Memory → List (Option Process) → ℕ → Bool
-ready_with s t memories places i = ready (with_table s (record t { places = places }) memories) i
+abbrev pub ready_with : State → Places → List (Option SpaceView) → List (Option Process) → ℕ → Bool
+ready_with s t hs places i = ready (with_table s (record t { places = places }) hs) i
 
 module _ {F : Type 0} (g : Shared F (Bor (List (Option Process)) × (ℕ × Unit {0})) Bool) (f : F) where
   -- what the closure answers is the test of what it is handed
@@ -59,6 +59,6 @@ module _ {F : Type 0} (g : Shared F (Bor (List (Option Process)) × (ℕ × Unit
   find-from_pick places test last result picks is = find-from_answers (Answers g f places) (test places) last result picks (λ i b h. is h.shown i b h.says ∙ ap (λ os. test os i) h.shows)
 
   -- the pick is the turn of the state
-  pub turn-from_pick : (s : State) (t : Places) (memories : List Memory) (result : Option ℕ) → Picks (Answers g f t.places) t.last result → IsTest (ready_with s t memories) → result ≡ turn (with_table s t memories)
+  pub turn-from_pick : (s : State) (t : Places) (hs : List (Option SpaceView)) (result : Option ℕ) → Picks (Answers g f t.places) t.last result → IsTest (ready_with s t hs) → result ≡ turn (with_table s t hs)
   unfolding turn
-  turn-from_pick s t memories result picks is = find-from_pick t.places (ready_with s t memories) t.last result picks is
+  turn-from_pick s t hs result picks is = find-from_pick t.places (ready_with s t hs) t.last result picks is
