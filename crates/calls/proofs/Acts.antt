@@ -1,9 +1,9 @@
 -- Calls of the running process that are answered at once.
-use Rattle.calls.proofs.Common.{None, DeviceFault, ◌≡◌, Err, ℕ, List, [], Option, Some, refl, ap, subst, sym, ◌∙◌, Bool, true, false, ◌%◌, ℤ, IfOk, IfSome, Ok, OnOk, Result, slice_index, slice_set, unwrap_or}
-use Rattle.calls.proofs.Common.{Appends, IsInUse, Acts, CanCome, Comes, MayPrint, GoesOn, IsBegun, Runs, Tries, going_at, going_by, outcome_at, outcome_by, settled_by, called, pending_for, Halt, Came, Answers}
-use Rattle.calls.proofs.Common.{Blocks, Exits, Refuses, descriptors_in, Dispatches, IsLost, IsMade, IsServed, LeavesTree, waits-other, Kernel, answered, argument, blocked, counting, ended, entered, state_of, waking}
-use Rattle.calls.proofs.Common.{has_slept, IsKernel, within-state, ends-at, waits-run, state-but, IsRun, process-run, run-of, self, answer-run, Process, SpaceView, no_pages, FileTree, call_of, end_at, outcome_of}
-use Rattle.calls.proofs.Common.{quiet, row, settle, goes_on, Call, Getpid, Exit, Sleep, Uptime, slot, low, int_of, Outcome, limited, provided, Done, Refused, Waits, Pending, sleep_on, State, descriptors_at, given}
+use Rattle.calls.proofs.Common.{None, DeviceFault, ◌≡◌, Err, ℕ, List, [], Option, Some, refl, ap, subst, sym, ◌∙◌, Bool, true, false, ◌%◌, ℤ, IfOk, IfSome, Ok, OnOk, Result, slice_index, slice_set, unwrap_or, Appends}
+use Rattle.calls.proofs.Common.{IsInUse, Acts, CanCome, Comes, MayPrint, GoesOn, IsBegun, Runs, Tries, going_at, going_by, outcome_at, outcome_by, settled_by, called, pending_for, Halt, Came, Answers, Blocks, Exits}
+use Rattle.calls.proofs.Common.{Refuses, descriptors_in, Dispatches, IsLost, IsMade, IsServed, LeavesTree, waits-other, Kernel, answered, argument, blocked, counting, ended, entered, state_of, waking, has_slept}
+use Rattle.calls.proofs.Common.{IsKernel, within-state, ends-at, waits-run, state-but, IsRun, process-run, run-of, self, answer-run, Process, SpaceView, no_pages, FileTree, call_of, end_at, outcome_of, quiet, row}
+use Rattle.calls.proofs.Common.{settle, goes_on, Call, Getpid, Exit, Sleep, Uptime, slot, low, int_of, Outcome, limited, provided, Done, Refused, Waits, Pending, sleep_on, State, descriptors_at, given, After}
 use Rattle.calls.specs.declared.halt.Halt.TheVariants.{Console, Device}
 use Rattle.calls.proofs.Prints.{Appends-none}
 use Rattle.calls.proofs.Served.{same-served}
@@ -53,11 +53,6 @@ begins k e i same x =
 pub numbers : (k : Kernel) {a n : ℕ} {call : Option Call} → a ≡ argument k 7 → n ≡ low a → call ≡ call_of n → call_of (low (slice_index k.spaces.registers 17)) ≡ call
 numbers k a n call = sym (call ∙ ap call_of (n ∙ ap low a))
 
--- the row is done once it is settled
-pub answers : {k e new : Kernel} {i : ℕ} {call : Option Call} {bytes : List ℕ} {came : Came} → IsBegun k e i → call_of (low (slice_index k.spaces.registers 17)) ≡ call
-    → Comes e new i (outcome_at (state_of e) i call) bytes came → (last : State) → last ≡ settled_by (state_of new) i came → called (state_of k) i ≡ after last bytes
-answers {call = call} {bytes = bytes} b number a last done = b.row call number ∙ a.makes ∙ ap (λ (s : State). after s bytes) (sym done)
-
 module _ {k : Kernel} {i : ℕ} (runs : Runs k i) where
   abbrev at-work : Here k i
   at-work = here-of k i runs
@@ -76,7 +71,7 @@ module _ {k : Kernel} {i : ℕ} (runs : Runs k i) where
 -- where the device and the console's writer may fail
 module _ {k e : Kernel} {i : ℕ} {call : Option Call} (begun : IsBegun k e i) (number : call_of (low (slice_index k.spaces.registers 17)) ≡ call) (new : Kernel) (before after : Option (List ℕ)) where
   pub makes-of : {bytes : List ℕ} {came : Came} → Comes e new i (outcome_at (state_of e) i call) bytes came → Appends before after bytes → (last : Kernel) → state_of last ≡ settled_by (state_of new) i came → IsMade last (called (state_of k) i) before after
-  makes-of comes printed last done = rw (answers begun number comes _ done) (record { state = refl; printed = printed })
+  makes-of {bytes} comes printed last done = rw (begun.row call number ∙ comes.makes ∙ ap (λ (s : State). let a : After = record { state = s; bytes = bytes } in a) (sym done)) (record { state = refl; printed = printed })
 
   -- with what that leaves of the files of the disk
   pub fails-of : (rising : Type 0) (halt : Halt) → Tries e new i (outcome_at (state_of e) i call) before after rising (Err halt) → Dispatches {X = Unit {0}} new (called (state_of k) i) before after rising (Err halt) × LeavesTree {X = Unit {0}} k.tree new.tree (Err halt)

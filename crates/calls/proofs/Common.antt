@@ -26,7 +26,7 @@ pub use Rattle.files.specs.declared.file.Target.{Target}
 pub use Rattle.files.specs.declared.table.FileFault.{FileFault}
 pub use Rattle.inode.specs.declared.InodeStat.{InodeStat}
 pub use Rattle.kernel.proofs.Finishes.{counting-kernel, IsThere, process-idle, there-of}
-pub use Rattle.kernel.proofs.Holding.{holders-few, home-folder}
+pub use Rattle.kernel.proofs.Holding.{home-folder}
 pub use Rattle.kernel.proofs.Holding.{is_by, kept-cong, used-is}
 pub use Rattle.kernel.proofs.Idle.{busy-state, idle-turn, running-state}
 pub use Rattle.kernel.proofs.Leaving.{ends-at, ends-run, stops-run, waits-run}
@@ -44,7 +44,7 @@ pub use Rattle.kernel.proofs.Starts.{picked-state, picks-killed, picks-ready, st
 pub use Rattle.kernel.proofs.Steps.{computed-is, held-run, placed-with}
 pub use Rattle.kernel.proofs.Wakes.{kernel-waking, state-but, state-waking}
 pub use Rattle.kernel.specs.Descriptors.{descriptors_in}
-pub use Rattle.kernel.specs.Disk.{directory_at, directory_in, HasFiled, HasRead, IsLost, IsServed, LeavesDisk, with_tree}
+pub use Rattle.kernel.specs.Disk.{directory_at, directory_in, HasRead, IsLost, IsServed, LeavesDisk, with_tree}
 pub use Rattle.kernel.specs.Holding.{FitsNode, home_in, IsFolder, IsInUse, node_of, node_on}
 pub use Rattle.kernel.specs.Kernel.{answered, argument, base, blocked, computed, counting, descriptors_at, ended, entered, Kernel, lives}
 pub use Rattle.kernel.specs.Kernel.{loaded, marked, on_hart, picked, rest_of, started, started_as, state_of, stopped_at, ticked, typed, waking}
@@ -68,7 +68,6 @@ pub use Rattle.tree.proofs.Storing.{whole-node}
 pub use Rattle.tree.specs.Answers.{Overflows}
 pub use Rattle.tree.specs.Entering.{made_files}
 unfoldable pub use Rattle.tree.specs.Entering.{folder_in, linked_in, made_in}
-pub use Rattle.tree.specs.Holding.{holders}
 unfoldable pub use Rattle.tree.specs.Holding.{let_go}
 pub use Rattle.tree.specs.Leaves.{leaf_node}
 pub use Rattle.tree.specs.Telling.{Tells, TellsMajor}
@@ -83,7 +82,7 @@ pub use Rattle.unixmodel.specs.Counts.{is_within, page_frames}
 unfoldable pub use Rattle.unixmodel.specs.Counts.{blocks_of, frames_of}
 unfoldable pub use Rattle.unixmodel.specs.Cycle.{cycle}
 pub use Rattle.unixmodel.specs.Failures.{Rises}
-pub use Rattle.unixmodel.specs.FileCalls.{is_usable, is_usable_node, node_number, pipe_end, read_console, read_file, read_node, read_pipe, read_taken, unless_empty, with_both, with_file, with_offset, write_node, write_pipe}
+pub use Rattle.unixmodel.specs.FileCalls.{is_usable, is_usable_node, node_number, pipe_end, read_file, read_node, read_pipe, read_taken, unless_empty, with_both, with_file, with_offset, write_node, write_pipe}
 unfoldable pub use Rattle.unixmodel.specs.FileCalls.{close_row, dup_row, fstat_row, pipe_row, read_on, read_row, room_for, stat_bytes, write_on, write_row}
 pub use Rattle.unixmodel.specs.Files.{blocks_for, change_node, clear, Files, free_slot, is_directory, kind_of, links_of, longest, Node, node_bytes, put, size_of, slot, Spot, without_place}
 unfoldable pub use Rattle.unixmodel.specs.Files.{erase, find, lookup, spot_of}

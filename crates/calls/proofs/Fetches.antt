@@ -1,7 +1,7 @@
 -- A read of a file or a directory.
-use Rattle.calls.proofs.Common.{◌≡◌, ℕ, ◌+◌, ◌<◌, ◌≤◌, ◌^◌, List, [], length, take, drop, Option, Some, refl, ap, subst, sym, ◌∙◌, arith, length-drop, length-take, GoesOn, Answers, Uses, Transfers, file_of}
-use Rattle.calls.proofs.Common.{target_of, opens-moved, FitsNode, Kernel, descriptors_at, state_of, IsKernel, IsReading, view_at, bytes_of, bytes_read, whole-node, FileTree, IsWhole, Pending, read_file}
-use Rattle.calls.proofs.Common.{read_node, read_on, Node, longest, node_bytes, put, slot, Directory, File, write_bytes, low, OnNode, pending_arg, Done, State, put_process, IsServed, counting, option_map}
+use Rattle.calls.proofs.Common.{◌≡◌, ℕ, ◌+◌, ◌<◌, ◌≤◌, ◌^◌, List, [], length, take, drop, Option, Some, refl, ap, subst, sym, ◌∙◌, arith, length-drop, length-take, GoesOn, Answers, Uses, Transfers}
+use Rattle.calls.proofs.Common.{file_of, target_of, opens-moved, FitsNode, Kernel, state_of, IsKernel, bytes_of, bytes_read, whole-node, FileTree, IsWhole, Pending, read_file, read_node, read_on}
+use Rattle.calls.proofs.Common.{Node, longest, node_bytes, put, slot, Directory, File, write_bytes, low, OnNode, pending_arg, Done, State, put_process, IsServed, counting, option_map}
 use Rattle.calls.proofs.Acts.{Here, goes-serves, going, here-in, me, used-here}
 use Rattle.kernel.proofs.Memories.{wrote-state}
 use Rattle.kernel.specs.Memory.{wrote}
@@ -52,9 +52,6 @@ module _ (k : Kernel) (i : ℕ) (w : Pending) (number offset : ℕ) (u : Uses k 
 
   abbrev address : ℕ
   address = pending_arg w 1
-
-  can : IsReading (descriptors_at k i) (view_at k.spaces i).memory w
-  can = g.can
 
   content : HasBytes (slot k.tree.files number) offset
   content = has-bytes (file g).file number offset (slot k.tree.files number) (file-fits g)

@@ -1,7 +1,7 @@
 -- chdir: the running process works in another directory, and the one that it leaves may go.
-use Rattle.calls.proofs.Common.{Bool, List, None, Option, Some, [], ap, arith, false, refl, subst, sym, true, ℕ, ◌<◌, ◌∙◌, ◌≡◌, ◌≢◌, IsSome, ne_eqb, IsServed, Acts, Runs, HasRead, Reaches, Answers, Refuses, InodeStat}
-use Rattle.calls.proofs.Common.{counting-kernel, holders-few, home-folder, home-running, IsFolder, home_in, Kernel, answered, argument, state_of, IsKernel, view_at, holders, Tells, IsWhole, outcome_of, row, settle, Call, Chdir}
-use Rattle.calls.proofs.Common.{Node, find, is_directory, kind_of, slot, Directory, path_at, chdir_row, path_arg, Outcome, answers, given, limited, provided, Refused, State, put_process, folder-there, directory_at, directory_in}
+use Rattle.calls.proofs.Common.{Bool, List, None, Option, Some, [], ap, arith, false, refl, subst, sym, true, ℕ, ◌∙◌, ◌≡◌, ◌≢◌, IsSome, ne_eqb, IsServed, Acts, Runs, HasRead, Reaches, Answers, Refuses, InodeStat}
+use Rattle.calls.proofs.Common.{counting-kernel, home-folder, home-running, IsFolder, home_in, Kernel, answered, argument, state_of, IsKernel, view_at, Tells, IsWhole, outcome_of, row, settle, Call, Chdir, Node, find}
+use Rattle.calls.proofs.Common.{is_directory, kind_of, slot, Directory, path_at, chdir_row, path_arg, Outcome, answers, given, limited, provided, Refused, State, put_process, folder-there, directory_at, directory_in}
 use Rattle.calls.proofs.Acts.{Here, answered-runner, here-in, here-of, me, outcome-here, refuses-on, settles, used-here}
 use Rattle.calls.proofs.Gone.{settles-gone}
 use Rattle.calls.proofs.Names.{path-is}
@@ -58,10 +58,6 @@ module _ (k : Kernel) (i : ℕ) (runs : Runs k i) where
       → HasRead k k1 × (None ≡ find k.tree.files (directory_at k i) path) → Acts k k1 i (Some call) Refuses
   lost-path {k1} {path} rest call row is reads =
       refused-read k k1 i x call reads.0 (ap limited (row ∙ ap (λ (o : Option (List ℕ)). given o (λ path. given (find k.tree.files home path) (rest path))) (path-is k i runs 0 (Some path) is) ∙ ap (λ (o : Option ℕ). given o (rest path)) (found-here path None reads.1)))
-
-  -- no more hold a node than there are open files and processes
-  pub few-hold : (n : ℕ) → holders k.tree.holds n < 65535
-  few-hold n = let few = holders-few (used-here k i x) n in let opens = x.sound.opened.table.all in let places = x.sound.all in omega arith
 
   abbrev works : ℕ → State
   works n = put_process (state_of k) i (record (me k i x) { directory = n })

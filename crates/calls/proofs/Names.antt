@@ -1,11 +1,11 @@
 -- Calls on names: the running process stays as it is, and the files alone change.
-use Rattle.calls.proofs.Common.{DeviceFault, ◌≡◌, ℕ, ◌<◌, ◌∙◌, List, [], None, Option, Some, ap, false, refl, subst, sym, true, Err, IfErr, Ok, Result, IsRun, directory_in, directory_at, with_tree, nat_le, option_and_then}
+use Rattle.calls.proofs.Common.{DeviceFault, ◌≡◌, ℕ, ◌<◌, ◌∙◌, List, [], None, Option, Some, ap, false, refl, subst, sym, true, Err, IfErr, Ok, Result, directory_in, directory_at, with_tree, nat_le, option_and_then}
 use Rattle.calls.proofs.Common.{option_map, ◌%◌, ◌&&◌, ◌^◌, false≢true, lt-leb, and_left, and_right, Acts, ActsOnDisk, Runs, IsRefused, Came, Answers, Refuses, Kernel, argument, state_of, IsKernel, held-run, SpaceView}
-use Rattle.calls.proofs.Common.{view_at, Overflows, TreeFault, folder_in, made_files, made_in, leaf_node, has_failed, is_device, device-is, outcome_of, row, blocks_of, frames_of, is_within, Call, Mkdir, Mknod, Files, Node}
-use Rattle.calls.proofs.Common.{spot_of, path_at, Made, made_at, made_directory, mkdir_row, mknod_row, path_arg, with_files, Outcome, answers, given, limited, provided, Done, Refused, arg, State, open_limit}
+use Rattle.calls.proofs.Common.{view_at, Overflows, TreeFault, folder_in, made_files, made_in, leaf_node, has_failed, is_device, device-is, outcome_of, row, blocks_of, frames_of, is_within, Call, Mkdir, Mknod, Files}
+use Rattle.calls.proofs.Common.{Node, spot_of, path_at, Made, made_at, made_directory, mkdir_row, mknod_row, path_arg, with_files, Outcome, answers, given, limited, provided, Done, Refused, arg, State, open_limit}
 use Rattle.calls.proofs.Served.{ok-told}
 use Rattle.calls.specs.Named.{IsNamed}
-use Rattle.calls.proofs.Acts.{Here, here-of, me, outcome-here, prints, refused, refuses-on}
+use Rattle.calls.proofs.Acts.{Here, here-in, here-of, me, outcome-here, prints, refused, refuses-on}
 use Rattle.tree.specs.declared.TreeFault.TheVariants.{Device}
 use Rattle.tree.specs.declared.making.Leaf.TheVariants as leaf
 use Rattle.tree.specs.Tree as tree
@@ -63,13 +63,7 @@ is-device _ is = absurd (false≢true is)
 -- new is that, and keeps what a kernel keeps
 module _ (k : Kernel) (i : ℕ) (x : Here k i) {new : Kernel} (rest : new ≡ with_tree k new.tree) (sound : IsKernel new) where
   pub over-here : new.tree.failed ≡ false → Here new i
-  over-here up = let r = x.run in record {
-    process = x.process;
-    held = x.held;
-    run = subst (λ (y : Kernel). IsRun y i x.process x.held) (sym rest) (record { active = r.active; process = r.process; space = r.space; placed = r.placed; runs = r.runs });
-    sound = sound;
-    up = up;
-  }
+  over-here up = here-in sound (ap (λ (y : Kernel). y.spaces.active) rest ∙ x.run.active) up
 
   pub over-state : new.tree.block_limit ≡ k.tree.block_limit → state_of new ≡ with_files (state_of k) new.tree.files
   over-state limit = ap state_of rest ∙ ap (λ b. record (state_of k) { files = new.tree.files; block_limit = b }) limit

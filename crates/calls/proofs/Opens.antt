@@ -1,11 +1,11 @@
 -- open: the running process has a new open file on a node.
-use Rattle.calls.proofs.Common.{Bool, Err, List, None, Ok, Option, Some, [], ap, arith, false, inl, inr, le_trans, refl, subst, suc, sym, true, ℕ, ◌<◌, ◌∙◌, ◌≡◌, ◌≢◌, ◌≤◌, Result, count_by, if◌then◌else◌, state-but, is_none}
-use Rattle.calls.proofs.Common.{nat_lt, not, option_and_then, option_map, slice_set, ◌==◌, ◌||◌, cases_eq, eqb-true, false≢true, lt-ltb, get_or-set_other, get_or-set_same, none-some, option_and_then_some, same_Some}
-use Rattle.calls.proofs.Common.{DeviceFault, Acts, ActsOnDisk, Runs, outcome_at, settled_by, Came, Answers, Refuses, IsRefused, Asks, IsCut, IsOpenable, Opens, cut_tree, file_by, has_seat, may_open_by, target_by, with_open}
-use Rattle.calls.proofs.Common.{HasRead, free_descriptors, file_of, target_of, free_count, free-None, free-opens, InodeStat, process-run, set-slot, slot-within, descriptors_in, FitsNode, node_on, Kernel, argument, state_of}
-use Rattle.calls.proofs.Common.{IsKernel, enter-parts, make-parts, Process, view_at, Overflows, TreeFault, made_files, made_in, leaf_node, Tells, TellsMajor, FileTree, has_failed, outcome_of, row, settle, blocks_of, Call}
-use Rattle.calls.proofs.Common.{Open, Files, Node, Spot, change_node, find, free_slot, kind_of, put, slot, spot_of, Directory, File, path_at, Made, creates, emptied, found_or_made, make_at, made_at, may_open, new_file}
-use Rattle.calls.proofs.Common.{open_row, truncated, truncates, has_bit, low, OnNode, Outcome, answers, given, limited, provided, Done, Refused, State, with_tree, HasFiled, ◌%◌, slice_index, directory_at}
+use Rattle.calls.proofs.Common.{Bool, Err, List, None, Ok, Option, Some, [], ap, arith, false, inl, inr, le_trans, refl, subst, suc, sym, true, ℕ, ◌<◌, ◌∙◌, ◌≡◌, ◌≢◌, ◌≤◌, Result, count_by, if◌then◌else◌, state-but}
+use Rattle.calls.proofs.Common.{is_none, nat_lt, not, option_and_then, option_map, slice_set, ◌==◌, ◌||◌, cases_eq, eqb-true, false≢true, lt-ltb, get_or-set_other, get_or-set_same, none-some, option_and_then_some}
+use Rattle.calls.proofs.Common.{same_Some, DeviceFault, Acts, ActsOnDisk, Runs, outcome_at, settled_by, Came, Answers, Refuses, IsRefused, Asks, IsCut, IsOpenable, Opens, cut_tree, file_by, has_seat, may_open_by, target_by}
+use Rattle.calls.proofs.Common.{with_open, HasRead, free_descriptors, file_of, target_of, free_count, free-None, free-opens, InodeStat, process-run, set-slot, slot-within, descriptors_in, FitsNode, node_on, Kernel}
+use Rattle.calls.proofs.Common.{argument, state_of, IsKernel, enter-parts, make-parts, Process, view_at, Overflows, TreeFault, made_files, made_in, leaf_node, Tells, TellsMajor, FileTree, has_failed, outcome_of, row}
+use Rattle.calls.proofs.Common.{settle, blocks_of, Call, Open, Files, Node, Spot, change_node, find, free_slot, kind_of, put, slot, spot_of, Directory, File, path_at, Made, creates, emptied, found_or_made, make_at, made_at}
+use Rattle.calls.proofs.Common.{may_open, new_file, open_row, truncated, truncates, has_bit, low, OnNode, Outcome, answers, given, limited, provided, Done, Refused, State, with_tree, ◌%◌, slice_index, directory_at}
 use Rattle.kernel.proofs.Opening.{open-state}
 use Rattle.kernel.specs.Opening.{MayOpen, OpensOn, opened_on}
 use Rattle.std.proofs.lemmas.Bool.{and_parts, ltb-true}
@@ -114,13 +114,6 @@ module _ {k : Kernel} {i : ℕ} (runs : Runs k i) {n f : ℕ} {told : InodeStat}
       }
 
 -- ---- a file that is emptied
-
-module _ {k new : Kernel} (f n : ℕ) (sound : IsKernel new) where
-  pub cut-done : truncates f ≡ true → HasFiled k new (change_node k.tree.files n emptied) → IsCut k new f n
-  cut-done yes' has = record { same = has.same ∙ rw yes' refl; later = has.later; sound = sound }
-
-  pub uncut : truncates f ≡ false → new ≡ k → IsCut k new f n
-  uncut none same = rw same (record { same = rw none refl; later = omega arith; sound = subst IsKernel same sound })
 
 pub cut-runs : {old new : Kernel} {f n : ℕ} → IsCut old new f n → (i : ℕ) → Runs old i → Runs new i
 cut-runs cut i runs = subst (λ (y : Kernel). Runs y i) (sym cut.same) (record { active = runs.active; up = runs.up; sound = subst IsKernel cut.same cut.sound; zero = runs.zero; aligned = runs.aligned })

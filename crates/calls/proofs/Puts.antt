@@ -1,23 +1,15 @@
 -- A write to the console puts out all of its bytes.
-use Rattle.calls.proofs.Common.{◌≡◌, ℕ, List, [], Option, Some, length, unwrap_or, refl, ap, sym, ◌∙◌, Appends, Comes, GoesOn, going_at, Came, Answers, Kernel, answered, state_of, OnConsole, Transfers}
-use Rattle.calls.proofs.Common.{AppendsBeginning, file_of, target_of, SpaceView, view_at, some-pipe, settle, Pending, write_on, slot, read_bytes, low, OnNode, Outcome, limited, pending_arg, Done, State}
+use Rattle.calls.proofs.Common.{◌≡◌, ℕ, List, [], Option, Some, unwrap_or, refl, ap, sym, ◌∙◌, Appends, Comes, GoesOn, going_at, Came, Answers, Kernel, answered, state_of, OnConsole}
+use Rattle.calls.proofs.Common.{Transfers, AppendsBeginning, SpaceView, view_at, some-pipe, settle, Pending, write_on, read_bytes, low, Outcome, limited, pending_arg, Done}
 use Rattle.calls.proofs.Served.{same-served}
-use Rattle.calls.proofs.Acts.{Here, going, going-here, me, settles-to}
-use Rattle.kernel.proofs.Opens.{IsNamed}
+use Rattle.calls.proofs.Acts.{Here, going, going-here, settles-to}
 use Rattle.calls.proofs.Prints.{Appends-none}
 use Rattle.calls.proofs.Settles.{after, settle-limited}
 use Rattle.calls.proofs.Transfers.{console-here, file, file-named, going-is, held-here, here}
 use Rattle.calls.proofs.Writes.{length-read}
 use Rattle.files.specs.declared.file.End.TheVariants as end
 use Rattle.files.specs.declared.file.Target.TheVariants as target
-use Rattle.unixmodel.specs.Files.Node.{Device}
 use Rattle.unixmodel.specs.Process as unix
-use Rattle.unixmodel.specs.OpenFiles.{OpenFile}
-
-write-bytes : (s : State) (i : ℕ) (p : unix.Process) (w : Pending) (f : OpenFile) → IsNamed s p (low (pending_arg w 0)) f → (n : ℕ) → f.target ≡ OnNode n 0 → (links major minor : ℕ) → slot s.files n ≡ Some (Device links major minor)
-    → (bytes : List ℕ) → read_bytes p.memory (pending_arg w 1) (low (pending_arg w 2)) ≡ Some bytes → write_on s i p w ≡ Done s (length bytes) bytes
-unfolding write_on
-write-bytes s i p w f is n on links major minor device bytes read = rw (is.named, is.opened, read, on, device) refl
 
 module _ (k : Kernel) (i : ℕ) (w : Pending) (on : OnConsole k i end.Write w) where
   abbrev g : Transfers k i end.Write (target.Console on.0) w
@@ -33,12 +25,12 @@ module _ (k : Kernel) (i : ℕ) (w : Pending) (on : OnConsole k i end.Write w) w
   bytes = unwrap_or (read_bytes (view_at k.spaces i).memory (pending_arg w 1) count) []
 
   row : going k i x w ≡ Done (state_of k) count bytes
+  unfolding write_on
   row =
-      let read : read_bytes (view_at k.spaces i).memory (pending_arg w 1) count ≡ Some bytes = some-pipe (read_bytes (view_at k.spaces i).memory (pending_arg w 1) count) g.can.readable in
-      let device = console-here g in
-      going-is g
-      ∙ write-bytes (state_of k) i (me k i x) w (file_of (file g).file) (file-named g) on.0 (ap target_of (file g).on) device.links device.major device.minor device.here bytes (ap (λ (h : SpaceView). read_bytes h.memory (pending_arg w 1) count) (sym (held-here g)) ∙ read)
-      ∙ ap (λ (n : ℕ). Done (state_of k) n bytes) (length-read (view_at k.spaces i).memory (pending_arg w 1) count bytes read)
+      let f = file-named g in
+      let some : read_bytes (view_at k.spaces i).memory (pending_arg w 1) count ≡ Some bytes = some-pipe (read_bytes (view_at k.spaces i).memory (pending_arg w 1) count) g.can.readable in
+      let read = ap (λ (h : SpaceView). read_bytes h.memory (pending_arg w 1) count) (sym (held-here g)) ∙ some in
+      going-is g ∙ rw (f.named, f.opened, read, (file g).on, (console-here g).here, length-read (view_at k.spaces i).memory (pending_arg w 1) count bytes some) refl
 
   settles : settle (state_of k) i (limited (going_at (state_of k) i w)) ≡ after (state_of (answered k count)) bytes
   settles = ap (λ (o : Outcome). settle (state_of k) i (limited o)) (going-here k i x w ∙ row) ∙ settle-limited k i x.process x.held x.run x.sound x.up (state_of k) count bytes

@@ -1,19 +1,16 @@
 -- A read from the console goes on.
-use Rattle.calls.proofs.Common.{◌≡◌, ℕ, zero, suc, ◌+◌, ◌-◌, ◌<◌, ◌≤◌, ◌^◌, Bool, true, false, nat_eq, nat_le, nat_lt, List, [], ◌∷◌, length, take, Some, refl, ap, subst, sym, ◌∙◌, arith, if◌then◌else◌}
-use Rattle.calls.proofs.Common.{wrote, false≢true, leb-true, length-take-le, GoesOn, Answers, Blocks, Kernel, descriptors_at, state_of, typed, IsKernel, IsPending, IsForBytes, IsFresh, IsReading}
-use Rattle.calls.proofs.Common.{is_on_pipe, OnConsole, Transfers, waits-reading, slot-within, file_of, target_of, SpaceView, view_at, held-same, Taken, take_line, Pending, Store, slot, read_console}
-use Rattle.calls.proofs.Common.{read_on, read_taken, can_write, reach, write_bytes, low, OnNode, pending_arg, Done, Waits, State, put_process, IsSized, reach-written, rest-writes, reach-page, CanWait}
+use Rattle.calls.proofs.Common.{◌≡◌, ℕ, zero, suc, ◌+◌, ◌-◌, ◌<◌, ◌≤◌, ◌^◌, Bool, true, false, nat_eq, nat_le, nat_lt, List, [], ◌∷◌, length, take, Some, refl, ap, subst, sym, ◌∙◌, arith}
+use Rattle.calls.proofs.Common.{if◌then◌else◌, wrote, false≢true, leb-true, length-take-le, GoesOn, Answers, Blocks, Kernel, descriptors_at, state_of, typed, IsKernel, IsPending, IsForBytes}
+use Rattle.calls.proofs.Common.{IsFresh, IsReading, is_on_pipe, OnConsole, Transfers, waits-reading, slot-within, SpaceView, view_at, held-same, Taken, take_line, Pending, Store, read_on}
+use Rattle.calls.proofs.Common.{read_taken, can_write, reach, write_bytes, low, pending_arg, Done, Waits, State, put_process, IsSized, reach-written, rest-writes, reach-page, CanWait}
 use Rattle.calls.proofs.Acts.{Here, goes-done, goes-waits, going, me}
 use Rattle.kernel.proofs.Memories.{wrote-state}
-use Rattle.kernel.proofs.Opens.{IsNamed}
 use Rattle.calls.proofs.Transfers.{console-here, file, file-named, going-is, here}
 use Rattle.files.specs.declared.file.End.TheVariants as end
 use Rattle.files.specs.declared.file.Target.TheVariants as target
 use Rattle.spaces.specs.Spaces.{written}
 use Rattle.unixmodel.specs.FileCalls as rows
-use Rattle.unixmodel.specs.Files.Node.{Device}
 use Rattle.unixmodel.specs.Process as unix
-use Rattle.unixmodel.specs.OpenFiles.{OpenFile}
 
 -- ---- what a read takes
 
@@ -33,10 +30,6 @@ line-fits has (suc n) [] = (omega arith, λ over. omega arith)
 line-fits has (suc n) (b ∷ bs) = step-fits (nat_eq b 4) (nat_eq b 10) has b n bs (take_line true n bs) (line-fits true n bs)
 
 -- ---- the row of a read that goes on
-
-reads-console : (s : State) (i : ℕ) (p : unix.Process) (w : Pending) (f : OpenFile) → IsNamed s p (low (pending_arg w 0)) f → (n : ℕ) → f.target ≡ OnNode n 0 → (links major minor : ℕ) → slot s.files n ≡ Some (Device links major minor) → read_on s i p w ≡ read_console s i p w
-unfolding read_on
-reads-console s i p w f is n on links major minor device = rw (is.named, is.opened, on, device) refl
 
 abbrev left_with : State → ℕ → unix.Process → Pending → Taken → State
 left_with s i p w t = put_process (record s { console = record s.console { committed = t.rest } }) i (rows.received p w t.bytes)
@@ -90,9 +83,8 @@ module _ (k : Kernel) (i : ℕ) (w : Pending) (on : OnConsole k i end.Read w) wh
       omega (arith, page, few)
 
   row : going k i x w ≡ read_taken (state_of k) i (me k i x) w (line_for k w)
-  row =
-      let device = console-here g in
-      going-is g ∙ reads-console (state_of k) i (me k i x) w (file_of (file g).file) (file-named g) on.0 (ap target_of (file g).on) device.links device.major device.minor device.here
+  unfolding read_on
+  row = let f = file-named g in going-is g ∙ rw (f.named, f.opened, (file g).on, (console-here g).here) refl
 
   module _ {k1 : Kernel} {n : ℕ} {buffer : List ℕ} {over : Bool} (f : Took k k1 i w n buffer over) where
     abbrev address : ℕ

@@ -75,10 +75,7 @@ module _ {k : Kernel} (i : ℕ) (w : Pending) (is : IsKernel k) (none : k.spaces
     row = resumes-started.row ∙ ap (λ (x : State). settle x i (going_at x i w)) (sym (state-waking (started k i) s.table.awake));
   })
 
--- it is resumed once its call is settled
-resumes-settled : {k s new : Kernel} {i : ℕ} {w : Pending} {came : Came} → Resumes k s i w → GoesOn s new i w came → (last : State) → last ≡ settled_by (state_of new) i came → resumed (state_of k) i ≡ quiet last
-resumes-settled x goes last done = x.row ∙ goes.comes.makes ∙ ap quiet (sym done)
-
+-- it is resumed once its call is settled, unless an access failed
 pub resumes-if : {k s new : Kernel} {i : ℕ} {w : Pending} {came : Came} → Resumes k s i w → GoesOn s new i w came → (last : State) → (r : Result (Unit {0}) DeviceFault) → OnOk r (last ≡ settled_by (state_of new) i came) → OnOk r (resumed (state_of k) i ≡ quiet last)
-resumes-if x on last (Ok done) settled = resumes-settled x on last settled
+resumes-if x on last (Ok done) settled = x.row ∙ on.comes.makes ∙ ap quiet (sym settled)
 resumes-if x on last (Err fault) settled = tt

@@ -1,9 +1,9 @@
 -- A write to a file.
-use Rattle.calls.proofs.Common.{◌≡◌, ℕ, ◌+◌, ◌<◌, ◌≤◌, ◌^◌, Bool, true, false, nat_le, List, [], length, take, Option, Some, None, refl, ap, subst, sym, ◌∙◌, arith, if◌then◌else◌, ◌&&◌, ◌==◌}
-use Rattle.calls.proofs.Common.{and_parts, leb-true, none-some, same_Some, cond_some, GoesOn, Answers, Refuses, Transfers, Uses, file_of, target_of, opens-moved, FitsNode, Kernel, descriptors_at}
-use Rattle.calls.proofs.Common.{state_of, IsWriting, some-pipe, SpaceView, view_at, bytes_given, FileTree, Pending, blocks_of, room_for, with_file, with_offset, write_node, write_on, Files, Node}
-use Rattle.calls.proofs.Common.{longest, slot, Directory, File, Memory, overwrite, read_bytes, low, OnNode, minus_one, pending_arg, Done, Refused, State, IsServed, option_map, IsKernel}
-use Rattle.calls.proofs.Acts.{Here, goes-serves, going, going-here, here-in, me, refuses-on}
+use Rattle.calls.proofs.Common.{◌≡◌, ℕ, ◌+◌, ◌<◌, ◌≤◌, ◌^◌, Bool, true, false, nat_le, List, [], length, take, Option, Some, None, refl, ap, subst, sym, ◌∙◌, arith, if◌then◌else◌, ◌&&◌}
+use Rattle.calls.proofs.Common.{◌==◌, and_parts, leb-true, none-some, same_Some, cond_some, GoesOn, Answers, Refuses, Transfers, Uses, file_of, opens-moved, FitsNode, Kernel, descriptors_at}
+use Rattle.calls.proofs.Common.{state_of, IsWriting, some-pipe, SpaceView, view_at, bytes_given, FileTree, Pending, blocks_of, room_for, with_file, with_offset, write_node, write_on, Files}
+use Rattle.calls.proofs.Common.{Node, longest, slot, Directory, File, Memory, overwrite, read_bytes, low, minus_one, pending_arg, Done, Refused, State, IsServed, option_map, IsKernel}
+use Rattle.calls.proofs.Acts.{Here, goes-serves, going, going-here, here-in, refuses-on}
 use Rattle.calls.proofs.Fetches.{low-same}
 use Rattle.kernel.specs.Disk.{with_tree}
 use Rattle.kernel.specs.Opening.{HasStored, MayMove, advanced}
@@ -13,7 +13,6 @@ use Rattle.files.specs.declared.file.End.TheVariants as end
 use Rattle.files.specs.declared.file.OpenFile.{OpenFile}
 use Rattle.files.specs.declared.file.Target.TheVariants as target
 use Rattle.files.specs.Places.{moved, opens_of}
-use Rattle.kernel.proofs.Opens.{IsNamed}
 use Rattle.file_transfers.proofs.Fits.{greatest-low}
 use Rattle.tree.specs.Written.{IsFile, Written, count_of, files_after, fitting, with_bytes, written}
 use Rattle.unixmodel.specs.OpenFiles as unix_files
@@ -55,11 +54,6 @@ module _ (s : State) (k : ℕ) (f : unix_files.OpenFile) (n at links : ℕ) (old
 
   is-refused : written s.block_limit s.files n at new ≡ None → write_node s k f n at links old new ≡ Refused
   is-refused same = refused-go test refl (sym written-is ∙ same)
-
-writes-file : (s : State) (i : ℕ) (p : unix.Process) (w : Pending) (f : unix_files.OpenFile) (is : IsNamed s p (low (pending_arg w 0)) f) (n at : ℕ) → f.target ≡ OnNode n at → (links : ℕ) (old : List ℕ) → slot s.files n ≡ Some (File links old)
-    → (new : List ℕ) → read_bytes p.memory (pending_arg w 1) (low (pending_arg w 2)) ≡ Some new → write_on s i p w ≡ write_node s is.number f n at links old new
-unfolding write_on
-writes-file s i p w f is n at on links old here new read = rw (is.named, is.opened, read, on, here) refl
 
 -- how many were written, if any
 record HasCount (o : Option Written) (n : ℕ) : Type 0 where
@@ -118,10 +112,11 @@ module _ (k : Kernel) (i : ℕ) (w : Pending) (number offset : ℕ) (u : Uses k 
   went = written k.tree.block_limit k.tree.files number offset new
 
   row : going k i x w ≡ write_node (state_of k) (file g).number (file_of (file g).file) number offset is-file.links is-file.bytes new
+  unfolding write_on
   row =
+      let f = file-named g in
       let read = ap (λ (h : SpaceView). read_bytes h.memory address count) (sym (held-here g)) ∙ read-new in
-      going-is g
-      ∙ writes-file (state_of k) i (me k i x) w (file_of (file g).file) (file-named g) number offset (ap target_of (file g).on) is-file.links is-file.bytes is-file.here new read
+      going-is g ∙ rw (f.named, f.opened, read, (file g).on, is-file.here) refl
 
   pub writes-is_file : IsFile k.tree.files number
   writes-is_file = is-file

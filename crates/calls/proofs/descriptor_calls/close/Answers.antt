@@ -1,4 +1,4 @@
-use Rattle.calls.proofs.Common.{Close, serves-disk, ap, sym, ◌∙◌, low, refl, close_row}
+use Rattle.calls.proofs.Common.{Close, serves-disk, ap, ◌∙◌, low, refl, close_row}
 use Rattle.calls.proofs.Acts.{here-of, unnamed}
 use Rattle.calls.proofs.Closes.{closes}
 use Rattle.calls.proofs.Served.{err-lost}
@@ -7,9 +7,6 @@ use Rattle.calls.proofs.descriptor_calls.close.Goals as goal
 pub returns-in_default : goal.returns-in_default
 unfolding close_row
 returns-in_default g c = unnamed c.args.kernel.now c.args.at (here-of c.args.kernel.now c.args.at c.requires) _ Close refl (c.low-descriptor.ensures ∙ ap low c.argument.ensures) c.in_default.ensures.named
-
-pub close-requires-clause-may : goal.close-requires-clause-may
-close-requires-clause-may g c = record { running = c.requires.active; named = sym c.in-Some.ensures.named; up = c.requires.up }
 
 pub returns : goal.returns
 returns g c =

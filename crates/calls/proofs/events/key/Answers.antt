@@ -1,4 +1,3 @@
-use Rattle.calls.proofs.Common.{ap, Kernel}
 use Rattle.calls.proofs.Turned.{keys-made, next-keys}
 use Rattle.calls.proofs.events.key.Goals as goal
 
@@ -10,9 +9,3 @@ pub returns-in-Err-Writer-clause-gives : goal.returns-in-Err-Writer-clause-gives
 returns-in-Err-Writer-clause-gives g c =
     let k = c.args.kernel.now in
     rw (next-keys k c.args.byte) (c.in-Err-Writer.ensures.cause, c.in-Err-Writer.ensures.beginning)
-
-pub returns-in-Ok-clause-tree : goal.returns-in-Ok-clause-tree
-returns-in-Ok-clause-tree g c = ap (λ (k : Kernel). k.tree) c.in-Ok.ensures.ok
-
-pub returns-in-Err-Writer-clause-tree : goal.returns-in-Err-Writer-clause-tree
-returns-in-Err-Writer-clause-tree g c = ap (λ (k : Kernel). k.tree) c.in-Err-Writer.ensures.err

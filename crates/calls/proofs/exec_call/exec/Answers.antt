@@ -1,4 +1,4 @@
-use Rattle.calls.proofs.Common.{◌∙◌, sym, arith, Exec, refl, exec_row}
+use Rattle.calls.proofs.Common.{◌∙◌, sym, Exec, refl, exec_row}
 use Rattle.calls.proofs.Execs.{reaches}
 use Rattle.calls.proofs.Homes.{lost-path, read-runs}
 use Rattle.calls.proofs.Opens.{after-look}
@@ -21,9 +21,6 @@ exec_found-requires g c =
 
 pub resolve-requires : goal.resolve-requires
 resolve-requires g c = record { running = c.requires.active; up = c.requires.up }
-
-pub copy_path-requires : goal.copy_path-requires
-copy_path-requires g c = record { active = c.requires.active; place = omega arith }
 
 pub returns-in_err-number : goal.returns-in_err-number
 returns-in_err-number g c = err-lost c.args.kernel.now _ c.args.at Exec c.from_residual.result c.from_residual.ensures.0 c.in_err-number.ensures

@@ -1,4 +1,4 @@
-use Rattle.calls.proofs.Common.{arith, refl, Link, link_row}
+use Rattle.calls.proofs.Common.{refl, Link, link_row}
 use Rattle.calls.proofs.Links.{link-acts, link-newless}
 use Rattle.calls.proofs.Names.{pathless}
 use Rattle.calls.proofs.name_calls.link.Goals as goal
@@ -12,12 +12,3 @@ returns-in_default-copy_path g c = link-newless c.args.kernel.now c.args.at c.re
 
 pub returns : goal.returns
 returns g c = link-acts c.args.kernel.now c.args.at c.requires c.in-Some.ensures.path c.in-Some-copy_path.ensures.path c.link-made.ensures.rest c.named.ensures.sound c.link-made.ensures.made _ c.named.ensures.comes
-
-pub copy_path-requires : goal.copy_path-requires
-copy_path-requires g c = record { active = c.requires.active; place = omega arith }
-
-pub copy_path-requires-2 : goal.copy_path-requires-2
-copy_path-requires-2 g c = record { active = c.requires.active; place = omega arith }
-
-pub link-made-requires : goal.link-made-requires
-link-made-requires g c = record { running = c.requires.active; up = c.requires.up; path = c.in-Some-copy_path.ensures.bytes }

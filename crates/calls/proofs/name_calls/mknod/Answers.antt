@@ -1,4 +1,4 @@
-use Rattle.calls.proofs.Common.{arith, refl, Mknod, mknod_row}
+use Rattle.calls.proofs.Common.{refl, Mknod, mknod_row}
 use Rattle.calls.proofs.Names.{mknod-acts, pathless}
 use Rattle.calls.proofs.name_calls.mknod.Goals as goal
 
@@ -8,9 +8,3 @@ returns-in_default g c = pathless c.args.kernel.now c.args.at c.requires _ Mknod
 
 pub returns : goal.returns
 returns g c = mknod-acts c.args.kernel.now c.args.at c.requires c.in-Some.ensures.path c.create-made.ensures.rest c.named.ensures.sound c.argument.ensures c.argument-2.ensures c.create-made.ensures.made _ c.named.ensures.comes
-
-pub copy_path-requires : goal.copy_path-requires
-copy_path-requires g c = record { active = c.requires.active; place = omega arith }
-
-pub create-made-requires : goal.create-made-requires
-create-made-requires g c = record { running = c.requires.active; up = c.requires.up; path = c.in-Some.ensures.bytes }

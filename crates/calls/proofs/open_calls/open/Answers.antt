@@ -1,12 +1,9 @@
-use Rattle.calls.proofs.Common.{ap, arith, ◌∙◌, Open, low, refl, open_row}
+use Rattle.calls.proofs.Common.{ap, ◌∙◌, Open, low, refl, open_row}
 use Rattle.calls.proofs.Homes.{read-runs}
 use Rattle.calls.proofs.Opens.{after-look, asked}
 use Rattle.calls.proofs.Served.{err-lost}
 use Rattle.calls.proofs.Names.{pathless}
 use Rattle.calls.proofs.open_calls.open.Goals as goal
-
-pub copy_path-requires : goal.copy_path-requires
-copy_path-requires g c = record { active = c.requires.active; place = omega arith }
 
 pub returns-in_default : goal.returns-in_default
 unfolding open_row

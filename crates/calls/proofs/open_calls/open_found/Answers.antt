@@ -26,9 +26,6 @@ open_on-descriptor-requires g c = record {
 pub returns : goal.returns
 returns g c = open-found c.args.kernel.now c.args.at c.requires.runs c.args.number c.args.flags c.requires.asks c.stat.new.self c.in_ok-told.told c.in_ok-told.ensures (sym c.if-not-may_open.ensures) c.cut.new.kernel c.in_ok-cut.ensures c.open_on-descriptor.new.kernel c.open_on-descriptor.result c.open_on-descriptor.ensures
 
-pub stat-requires-clause-up : goal.stat-requires-clause-up
-stat-requires-clause-up g c = c.requires.runs.up
-
 pub returns-in_err-told : goal.returns-in_err-told
 returns-in_err-told g c = err-lost c.args.kernel.now _ c.args.at Open c.from_residual.result c.from_residual.ensures.0 c.in_err-told.ensures
 

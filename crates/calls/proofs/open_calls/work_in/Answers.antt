@@ -3,9 +3,6 @@ use Rattle.calls.proofs.Served.{err-lost}
 use Rattle.calls.proofs.Common.{Chdir, serves-disk}
 use Rattle.calls.proofs.open_calls.work_in.Goals as goal
 
-pub work_in-requires : goal.work_in-requires
-work_in-requires g c = record { running = c.requires.runs.active; folder = c.requires.directory; up = c.requires.runs.up }
-
 pub returns : goal.returns
 returns g c =
     chdirs c.args.kernel.now c.args.at c.requires.runs c.args.number c.requires.reaches c.requires.directory c.files_are_whole.ensures c.work_in.new.self c.is_sound.ensures.sound (c.in_ok-work_in.ensures.told, serves-disk c.in_ok-work_in.ensures)
