@@ -1,9 +1,9 @@
 -- Which process runs, and the end of a process.
-use Rattle.kernel.proofs.Common.{◌≡◌, ◌≢◌, ℕ, zero, suc, ◌+◌, ◌<◌, ◌≤◌, ◌%◌, inl, inr, true, false, nat_eq, List, [], ◌∷◌, ◌++◌, length, map, Option, Some, None, ℤ, refl, ap, sym, ◌∙◌, arith, if◌then◌else◌, option_map, no_pages, unwrap_or, with_space}
-use Rattle.kernel.proofs.Common.{slice_index, slice_set, ne_eqb, nat_tests, get_or-set_other, length-map, length-set, option_eq, all_closed, descriptors_in, standing, AreHeld, IsInUse, all_dropped, files_on}
-use Rattle.kernel.proofs.Common.{gone_nodes, home_in, homes_at, all-set, Kernel, base, descriptors_at, ended, halted_by, idle, left_as, left_home, lives, loaded, on_hart, rest_of, state_of, IsKernel, IsMode}
-use Rattle.kernel.proofs.Common.{IsPlace, IsPlaced, WaitsWell, is_at, one_in, Counts, one_at, sum_by-cons, sum_by-set, none-some, Counted, opens_of, Process, changed_at, exited, orphaned, zombie_of, with_zombie-with_table}
-use Rattle.kernel.proofs.Common.{with_table, SpaceView, Spaces, taken_frames, Mode, Ready, Running, Waiting, Zombie, put, slot, Memory, end_process, is_running_mode, reap, State, holds, put_process}
+use Rattle.kernel.proofs.Common.{◌≡◌, ◌≢◌, ℕ, zero, suc, ◌+◌, ◌<◌, ◌≤◌, ◌%◌, inl, inr, true, false, nat_eq, List, [], ◌∷◌, ◌++◌, length, map, Option, Some, None, ℤ, refl, ap, sym, ◌∙◌, arith, if◌then◌else◌, option_map}
+use Rattle.kernel.proofs.Common.{no_pages, unwrap_or, with_space, slice_index, slice_set, ne_eqb, nat_tests, get_or-set_other, length-map, length-set, option_eq, all_closed, descriptors_in, standing, AreHeld, IsInUse}
+use Rattle.kernel.proofs.Common.{all_dropped, files_on, gone_nodes, home_in, homes_at, all-set, Kernel, base, descriptors_at, ended, halted_by, idle, left_as, left_home, lives, loaded, on_hart, rest_of, state_of, IsKernel}
+use Rattle.kernel.proofs.Common.{IsMode, IsPlace, IsPlaced, WaitsWell, is_at, one_in, Counts, one_at, sum_by-cons, sum_by-set, none-some, Counted, opens_of, Process, changed_at, exited, orphaned, zombie_of}
+use Rattle.kernel.proofs.Common.{with_zombie-with_table, with_table, SpaceView, Spaces, taken_frames, Mode, Ready, Running, Waiting, Zombie, put, slot, Memory, end_process, is_running_mode, reap, State, holds, put_process}
 use Rattle.kernel.proofs.Holding.{AreOldHomes, all-failed, fewer-held, fewer-leaves, fewer-nodes, fewer-used, used-put, named_in, same-map, slot-map}
 use Rattle.kernel.proofs.Named.{Leaves, counted-ended, counts-joined, fewer-pipes, files-all_closed, files_on-all_closed, leaves-standing, named_in-append, old-all_closed, opens-all_closed, orphan-same, reap-closed, table-all_closed}
 use Rattle.kernel.proofs.Opens.{active-by, active-same, opened-put, waits-fewer, waits-set}

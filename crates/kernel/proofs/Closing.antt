@@ -1,7 +1,7 @@
 -- A descriptor of the running process is closed.
-use Rattle.kernel.proofs.Common.{◌≡◌, ℕ, ◌+◌, ◌∷◌, [], true, List, length, Option, Some, None, refl, ap, arith, subst, sym, ◌∙◌, Ok, Err, IfOk, OnErr, Result, length-set, DeviceFault, FileTree, Serves, Kernel, loaded, state_of}
-use Rattle.kernel.proofs.Common.{IsKernel, IsOpened, Keeps, IsInUse, IsCounted, AreHeld, all_dropped, files_on, homes_at, last_node, listed, after_close, standing, count-closed, names-clear, pipes-same, Counted, closed, last_target, opens_of}
-use Rattle.kernel.proofs.Common.{table-closed, slot-within, Process, clear, put, slot, reap, put_process, woken_by, Bytes}
+use Rattle.kernel.proofs.Common.{◌≡◌, ℕ, ◌+◌, ◌∷◌, [], true, List, length, Option, Some, None, refl, ap, arith, subst, sym, ◌∙◌, Ok, Err, IfOk, OnErr, Result, length-set, DeviceFault, FileTree, Serves, Kernel, loaded}
+use Rattle.kernel.proofs.Common.{state_of, IsKernel, IsOpened, Keeps, IsInUse, IsCounted, AreHeld, all_dropped, files_on, homes_at, last_node, listed, after_close, standing, count-closed, names-clear, pipes-same}
+use Rattle.kernel.proofs.Common.{Counted, closed, last_target, opens_of, table-closed, slot-within, Process, clear, put, slot, reap, put_process, woken_by, Bytes, HasClosed, MayClose, closed_at, with_descriptor}
 use Rattle.kernel.proofs.Dropping.{counted as counted_tree}
 use Rattle.kernel.proofs.Finishes.{counting-kernel}
 use Rattle.kernel.proofs.Holding.{fewer-held, fewer-leaves, fewer-nodes, fewer-used, named_in}
@@ -13,8 +13,6 @@ use Rattle.kernel.proofs.Steps.{fail-kernel}
 use Rattle.kernel.proofs.Turning.{Runner, me_of, renamed, renamed-kernel, renamed-state, renamed_to, runner-of, used-turned}
 use Rattle.kernel.proofs.Wakes.{kernel-waking, running-at}
 use Rattle.kernel.proofs.Watching.{watched-bytes, watched-running}
-use Rattle.kernel.specs.Opening.{HasClosed, MayClose, closed_at}
-use Rattle.proc.specs.Places.{with_descriptor}
 
 -- the pipe of a last end goes, and the others stand
 close-standing : (k : Kernel) → IsKernel k → (n : ℕ) → after_close k.spaces.pipes (opens_of (closed k.files n)) (last_target k.files n) ≡ standing k.spaces.pipes (opens_of (closed k.files n))

@@ -1,24 +1,17 @@
 -- A zombie child is waited for.
-use Rattle.kernel.proofs.Common.{◌≡◌, ◌≢◌, ℕ, ◌<◌, true, false, List, length, Option, Some, None, inl, inr, if◌then◌else◌, refl, ap, subst, sym, ◌∙◌, arith, cases_lt, true≢false, and_parts}
-use Rattle.kernel.proofs.Common.{slice_set, length-set, option_map, Kernel, base, on_hart, rest_of, state_of, IsKernel, IsMode, IsPlace, is_at, Keeps, IsWatched, names_in, home_in, names, names-none, Process, Places}
-use Rattle.kernel.proofs.Common.{place_where-Some, is_zombie_child_of, with_table, SpaceView, has_space, Memory, Mode, Ready, Running, Waiting, Zombie, clear, put, slot, slot-within, is_running_mode, is_zombie_mode, State, holds}
+use Rattle.kernel.proofs.Common.{◌≡◌, ◌≢◌, ℕ, ◌<◌, true, false, List, length, Option, Some, None, inl, inr, if◌then◌else◌, refl, ap, subst, sym, ◌∙◌, arith, cases_lt, true≢false, and_parts, slice_set}
+use Rattle.kernel.proofs.Common.{length-set, option_map, Kernel, base, on_hart, rest_of, state_of, IsKernel, IsMode, IsPlace, is_at, Keeps, IsWatched, names_in, home_in, names, names-none, Process, Places}
+use Rattle.kernel.proofs.Common.{place_where-Some, is_zombie_child_of, with_table, SpaceView, has_space, Memory, Mode, Ready, Running, Waiting, Zombie, clear, put, slot, slot-within, is_running_mode}
+use Rattle.kernel.proofs.Common.{is_zombie_mode, State, holds, collected, IsEnded, reaped_at, reaped_from, without, zombie_place, taken-placed, with_place, set_comm, no_descriptors, status_of}
 use Rattle.kernel.proofs.Holding.{used-put}
 use Rattle.kernel.proofs.Masks.{set-past}
 use Rattle.kernel.proofs.Opens.{opened-names}
 use Rattle.kernel.proofs.Runs.{IsRun, eq-self, place-space, runs-set, slot-other, stands-set, state-run, with_process}
 use Rattle.kernel.proofs.Turning.{Runner}
 use Rattle.kernel.proofs.Watching.{watched-put}
-use Rattle.kernel.specs.Processes.{collected}
-use Rattle.kernel.specs.Sound.{IsEnded}
 use Rattle.kernel.proofs.Joined.{cleared-with_table}
 use Rattle.proc.specs.declared.table.Reaped.{Reaped}
 use Rattle.proc.specs.Places as table
-use Rattle.proc.specs.Places.{reaped_at, reaped_from, without, zombie_place}
-use Rattle.spaces.proofs.SpacesLemmas.{taken-placed}
-use Rattle.spaces.specs.Spaces.{with_place}
-use Rattle.std.proofs.lemmas.List.{set_comm}
-use Rattle.unixmodel.specs.Outcome.{no_descriptors}
-use Rattle.unixmodel.specs.ProcessCalls.{status_of}
 
 -- ---- a place is cleared
 

@@ -2,71 +2,100 @@
 pub use Rattle.std.proofs.Common.{◌%◌, ◌&&◌, ◌+◌, ◌++◌, ◌-◌, ◌<◌, ◌==◌, [], ◌^◌, add-one, ap, append-nil, append_assoc, ap₂, arith, Bool, cond, drop, drop-cons, eq-eqb, Err, false, inl, inr, is_some, le_trans, length, List, map}
 pub use Rattle.std.proofs.Common.{nat_eq, nat_le, nat_lt, negsuc, None, not, Ok, Option, option_map, pos, refl, rules, slice_set, Some, subst, suc, sym, take, true, unwrap_or, zero, ◌||◌, ℕ, ℤ, ◌∙◌, ◌∷◌, ◌≡◌, ◌≢◌, ◌≤◌, ◌⊎◌}
 pub use Rattle.std.proofs.Math.ListN.{get_or-map}
-pub use Rattle.std.proofs.lemmas.Bool.{and_parts, cases_eq, cases_lt, false_from_ne_true, le-leb, le-ltb, lt-leb, lt-ltb, ltb-false, ltb-true, ne_eqb}
-pub use Rattle.std.proofs.lemmas.Bool.{not-false, not-true, not_from_true, or_from, or_left, or_parts, or_right, true_from_ne_false, true≢false}
+pub use Rattle.std.proofs.lemmas.Bool.{and_parts, cases_eq, cases_lt, eqb-true, false_from_ne_true, le-leb, le-ltb, lt-leb, lt-ltb, ltb-false, ltb-true}
+pub use Rattle.std.proofs.lemmas.Bool.{ne_eqb, not-false, not-true, not_from_true, or_from, or_left, or_parts, or_right, true_from_ne_false, true≢false}
 pub use Rattle.std.proofs.lemmas.Bool.Decides.{nat_tests}
-pub use Rattle.std.proofs.lemmas.List.{drop_all, get_or-set_other, get_or-set_same, get_or_past, length-append, length-map, length-set, map-set, set-get_or, take_all}
-pub use Rattle.std.proofs.lemmas.List.Sums.{fails_before_first, position_or_len_is, sum_by-cons, sum_by-set}
-pub use Rattle.std.proofs.lemmas.Option.{none-some, same_Some}
-pub use Rattle.std.specs.List.{list_any, position_or_len}
+pub use Rattle.std.proofs.lemmas.List.{drop_all, get_or-set_other, get_or-set_same, get_or_past, length-append, length-map, length-set, set-get_or, set_comm, take_all}
+pub use Rattle.std.proofs.lemmas.List.Folds.{position_or_len-set, prefix_len-set}
+pub use Rattle.std.proofs.lemmas.List.Quantifiers.{position-Some}
+pub use Rattle.std.proofs.lemmas.List.Sums.{count_by-le-length, fails_before_first, position_or_len_is, sum_by-append, sum_by-cons, sum_by-set}
+pub use Rattle.std.proofs.lemmas.Option.{cond_some, none-some, option_and_then_some, same_Some}
+pub use Rattle.std.specs.Borrow.{Bor}
+pub use Rattle.std.specs.Fn.{FnReturns, Shared}
+pub use Rattle.std.specs.List.{list_any, position_or_len, prefix_len, range_with_len}
 pub use Rattle.std.specs.Option.{option_copied, option_eq}
-pub use Rattle.std.specs.Prelude.{find, IfNone, IfOk, IfSome, if◌then◌else◌, is_none, IsErr, OnErr, option_and_then, position, Result, slice_get, slice_index, slice_index_or, sum_by}
+pub use Rattle.std.specs.Prelude.{◌*◌, All, count_by, find, IfErr, IfNone, IfOk, IfSome, if◌then◌else◌, is_none, IsSome, OnErr, OnOk, option_and_then, position, Result, slice_get, slice_index, sum_by, ◌↔◌}
 pub use Rattle.blockdev.specs.declared.DeviceFault.{DeviceFault}
-pub use Rattle.files.proofs.CountsLemmas.{count-closed, count-shared, count_of, Counts, lt-no, lt-yes, names-clear, names-none, one_at}
-pub use Rattle.files.proofs.PipesLemmas.{has_pipe-clear, IsLeftOf, piped-end, piped-last, piped-node, pipes-clear, pipes-left, pipes-same, without_pipes-left, without_pipes-same}
-pub use Rattle.files.proofs.Whole.{all-set, fewer-from, file-opens, IsLeft, left-closed, left-same, length-opens, opens-closed, opens-closed_last}
-pub use Rattle.files.proofs.Whole.{opens-shared, set_outside, slot-opens, table-closed, table-shared, without_opens-left, without_opens-same}
+pub use Rattle.files.proofs.CountsLemmas.{count-closed, count-moved, count-opened, count-shared, count_of, Counts, lt-no, lt-yes, names-clear, names-none, names-put, one_at}
+pub use Rattle.files.proofs.Free.{free-opens, free-place, free-put, free-Some}
+pub use Rattle.files.proofs.PipesLemmas.{has_pipe-clear, has_pipe-put, IsLeftOf, piped-end, piped-last, piped-node, pipes-clear, pipes-left, pipes-same, without_pipes-left, without_pipes-same}
+pub use Rattle.files.proofs.Whole.{all-set, fewer-from, file-opens, free_slot-opens, IsLeft, left-closed, left-same, length-opens, opens-closed, opens-closed_last, opens-opened}
+pub use Rattle.files.proofs.Whole.{opens-shared, set_outside, slot-opens, table-closed, table-moved, table-opened, table-shared, without_opens-left, without_opens-same}
 pub use Rattle.files.specs.Counts.{names, one_in}
 pub use Rattle.files.specs.Meant.{end_of, file_of, target_of}
 pub use Rattle.files.specs.Pipes.{IsPiped}
-pub use Rattle.files.specs.Places.{closed, count_at, count_in, Counted, fewer, file_at, has_pipe, IsTable, last_in, last_target, more, moved, moved_to, opened, opens_of, shared}
+pub use Rattle.files.specs.Places.{closed, count_at, count_in, Counted, fewer, file_at, free_count, IsTable, last_in, last_target, more, moved, moved_in, moved_to, opened, opens_of, place_for, place_from, shared}
 pub use Rattle.names.proofs.Finding.{slot-within}
+pub use Rattle.names.specs.Changes.{Changed, Loses, shape}
+pub use Rattle.names.specs.Rules.{KeepsTree}
 pub use Rattle.proc.proofs.Following.{found-any, next-same}
-pub use Rattle.kernel.proofs.Joined.{place_of_pid-with_table, place_where-Some, put-joined, put_kept-joined, running-with_table, slot-joined, with_zombie-with_table, zombie_child-with_table}
-pub use Rattle.kernel.proofs.Turns.{turn-from_pick}
 pub use Rattle.proc.specs.Mask.{is_in}
 unfoldable pub use Rattle.proc.specs.Mask.{all_in}
-pub use Rattle.proc.specs.Places.{changed, changed_at, exited, has_pid, is_zombie_child_of, orphaned, place_where, Places, with_mark, with_mode, woken, zombie_of}
-pub use Rattle.kernel.specs.Whole.{space_in, with_space, with_table}
-unfoldable pub use Rattle.kernel.specs.Whole.{joined}
+pub use Rattle.proc.specs.Pick.{Answers, Picks, place_in_round}
+pub use Rattle.proc.specs.Places.{changed, changed_at, exited, has_pid, is_zombie_child_of, orphaned, place_where, Places, reaped_at, reaped_from, seat_at}
+pub use Rattle.proc.specs.Places.{seat_of, seated, with_descriptor, with_directory, with_mark, with_mode, without, woken, zombie_of, zombie_place}
 pub use Rattle.proc.specs.declared.process.Process.{Process}
-pub use Rattle.spaces.specs.Spaces.{frames_in, has_space, no_pages, Spaces, SpaceView, taken_frames, view_at}
+pub use Rattle.proc.specs.declared.table.Seat.{Seat}
+pub use Rattle.spaces.proofs.SpacesLemmas.{grown-with_pages, shrunk-with_pages, some-pipe, taken-placed}
+pub use Rattle.spaces.specs.Spaces.{bytes_in, copied, Fits, forked, frames_in, grown, has_space, Lacks, no_pages, shrunk, Spaces, SpaceView, taken_frames, view_at, with_pipe, with_place, with_view, written}
+pub use Rattle.tree.proofs.Keeping.{created-changed, device-is, folder-changed, let-go-keeps, linked-changed, Reaps, unlinked-reaps, written-changed}
+pub use Rattle.tree.specs.Calls.{MakesDirectory, MakesLink, MakesNode, TakesName, Writes}
 pub use Rattle.tree.specs.Holding.{holders, with_hold, without_hold}
-pub use Rattle.tree.specs.Tree.{FileTree, Serves}
+pub use Rattle.tree.specs.Tree.{FileTree, has_failed, HasFiles, Serves}
+pub use Rattle.tree.specs.Whole.{IsWhole}
 pub use Rattle.unixmodel.specs.Calls.{end_at, quiet}
-pub use Rattle.unixmodel.specs.Console.{Console}
-pub use Rattle.unixmodel.specs.Counts.{is_within, process_frames}
+pub use Rattle.unixmodel.specs.Console.{Console, Taken}
+unfoldable pub use Rattle.unixmodel.specs.Console.{take_line}
+pub use Rattle.unixmodel.specs.Counts.{is_within, page_frames, process_frames}
 unfoldable pub use Rattle.unixmodel.specs.Counts.{blocks_of, frames_of}
 unfoldable pub use Rattle.unixmodel.specs.Cycle.{cycle}
-pub use Rattle.unixmodel.specs.Files.{clear, Files, links_of, Node, put, slot, taken}
+pub use Rattle.unixmodel.specs.Failures.{HasCause}
+pub use Rattle.unixmodel.specs.Files.{change_node, clear, Files, free_slot, links_of, longest, Node, put, slot, taken}
+unfoldable pub use Rattle.unixmodel.specs.Files.{free_slots}
+pub use Rattle.unixmodel.specs.Files.Node.{Directory, File}
 pub use Rattle.unixmodel.specs.Meaning.{Computed}
-pub use Rattle.unixmodel.specs.Memory.{Memory}
-pub use Rattle.unixmodel.specs.Numbers.{low}
+pub use Rattle.unixmodel.specs.Memory.{can_write, Memory, shared_page}
+unfoldable pub use Rattle.unixmodel.specs.Memory.{write_bytes}
+pub use Rattle.unixmodel.specs.Numbers.{ceil_div, low, number_at, round_down}
 pub use Rattle.unixmodel.specs.OpenFiles.{End, is_end, is_node, is_pipe, pipe_room}
+pub use Rattle.unixmodel.specs.OpenFiles.End.{ReadEnd, WriteEnd}
 pub use Rattle.unixmodel.specs.OpenFiles.Target.{OnNode, OnPipe}
 pub use Rattle.unixmodel.specs.Outcome.{pending_arg}
-unfoldable pub use Rattle.unixmodel.specs.Outcome.{end_process}
-pub use Rattle.unixmodel.specs.Process.{is_running_mode, is_zombie_mode, with_answer}
-pub use Rattle.unixmodel.specs.Reap.{is_used, kept}
+unfoldable pub use Rattle.unixmodel.specs.Outcome.{end_process, no_descriptors}
+pub use Rattle.unixmodel.specs.Plan.{Loaded, loaded_of, Plan, Stack, stack_marks}
+unfoldable pub use Rattle.unixmodel.specs.Plan.{plan, push_pointers, push_strings, with_args, with_stack}
+pub use Rattle.unixmodel.specs.Process.{is_running_mode, is_zombie_mode, last_pid, with_answer}
+pub use Rattle.unixmodel.specs.ProcessCalls.{exec_registers, file_bytes, has_child, replaced, status_of, zombie_child}
+unfoldable pub use Rattle.unixmodel.specs.ProcessCalls.{args_at}
+pub use Rattle.unixmodel.specs.Reap.{is_same, is_used, kept}
 unfoldable pub use Rattle.unixmodel.specs.Reap.{reap, without_nodes, without_opens, without_pipes}
-pub use Rattle.unixmodel.specs.State.{change_process, has_end, holds, place_of_pid, process_at, put_process, running, State}
-pub use Rattle.unixmodel.specs.Turn.{can_go_on, ready}
-unfoldable pub use Rattle.unixmodel.specs.Turn.{turn}
+pub use Rattle.unixmodel.specs.State.{change_process, has_end, holds, place_limit, place_of_pid, process_at, put_process, running, State}
+pub use Rattle.unixmodel.specs.Turn.{can_go_on, is_empty, ready}
+unfoldable pub use Rattle.unixmodel.specs.Turn.{round_from, turn}
 pub use Rattle.unixmodel.specs.declared.call.Call.{Call}
 pub use Rattle.unixmodel.specs.declared.call.Call.TheVariants.{Read, Sleep, Wait, Write}
 pub use Rattle.unixmodel.specs.declared.process.Mode.{Mode}
 pub use Rattle.unixmodel.specs.declared.process.Mode.TheVariants.{Ready, Running, Waiting, Zombie}
 pub use Rattle.unixmodel.specs.declared.process.Pending.{Pending}
 pub use Rattle.unixmodel.specs.declared.trap.Trap.{Trap}
+pub use Rattle.kernel.proofs.Joined.{place_of_pid-with_table, place_where-Some, put-joined, put_kept-joined, running-with_table, slot-joined, with_zombie-with_table, zombie_child-with_table}
+pub use Rattle.kernel.proofs.Turns.{turn-from_pick}
 pub use Rattle.kernel.specs.Descriptors.{after_close, all_closed, all_shared, closed_in, descriptors_in, IsCounted, named_by, names_in, shared_in, standing}
+pub use Rattle.kernel.specs.Disk.{HasRead, IsLost, LeavesDisk, ReadsDisk, with_tree}
 pub use Rattle.kernel.specs.Holding.{all_dropped, AreHeld, dropped, files_on, FitsNode, gone_nodes, home_in, homes_at, IsFolder, IsInUse, last_node, listed, node_in, node_of, node_on}
 pub use Rattle.kernel.specs.Idle.{is_anyone_asleep, is_idle, is_sleeping, is_sleeping_mode}
-pub use Rattle.kernel.specs.Kernel.{answered, base, blocked, computed, counting, descriptors_at, ended, halted_by, idle, Kernel, left_as, left_home, lives}
-pub use Rattle.kernel.specs.Kernel.{loaded, marked, on_hart, picked, Rest, rest_of, started, started_as, state_of, state_with, waking}
+pub use Rattle.kernel.specs.Kernel.{answered, base, blocked, computed, counting, descriptors_at, ended, halted_by, idle, Kernel, left_as, left_home}
+pub use Rattle.kernel.specs.Kernel.{lives, loaded, marked, on_hart, picked, Rest, rest_of, started, started_as, state_of, state_with, waking}
+pub use Rattle.kernel.specs.Memory.{drew, reheld, resized, sized, wrote}
+pub use Rattle.kernel.specs.Opening.{advanced, AreFree, closed_at, duplicated, Ends, free_descriptors, half_piped, HasClosed, HasFetched, HasPiped}
+pub use Rattle.kernel.specs.Opening.{HasStored, MayClose, MayMove, MayOpen, MayShare, opened_at, opened_on, OpensAs, OpensOn, pipe_file, piped}
+pub use Rattle.kernel.specs.Processes.{child_of, collected, forked_as, home_at, MayFork, MayWorkIn, working_in, WorksIn}
 pub use Rattle.kernel.specs.Ready.{awaited, awaited_in, has_slept, seen, Stands}
-pub use Rattle.kernel.specs.Sound.{CanEnd, CanEndIn, CanRun, file_named, is_at, is_awaited, is_on_pipe, IsAlive, IsAwaiting, IsForBytes, IsForPipe}
-pub use Rattle.kernel.specs.Sound.{IsFresh, IsKernel, IsLive, IsMode, IsOpened, IsOpenFile, IsPending, IsPlace, IsPlaced, WaitsAs, WaitsWell}
+pub use Rattle.kernel.specs.Sound.{CanEnd, CanEndIn, CanRun, file_named, is_at, is_awaited, is_on_pipe, IsAlive, IsAwaiting, IsEnded, IsForBytes, IsForPipe}
+pub use Rattle.kernel.specs.Sound.{IsFresh, IsKernel, IsLive, IsMode, IsOpened, IsOpenFile, IsOpenOn, IsPending, IsPlace, IsPlaced, WaitsAs, WaitsWell}
 pub use Rattle.kernel.specs.View.{Keeps, kernel_of}
 pub use Rattle.kernel.specs.Watch.{awaited_of, IsAsleep, IsAsleepAs, IsWatched, kind_of, waits_as, waits_in, waits_on, Watches, woken_by}
 unfoldable pub use Rattle.kernel.specs.Watch.{roused}
+pub use Rattle.kernel.specs.Whole.{space_in, with_space, with_table}
+unfoldable pub use Rattle.kernel.specs.Whole.{joined}
 pub use Rattle.kernel.specs.declared.channels.Channel.TheVariants.{Bytes, Children, Ticks}

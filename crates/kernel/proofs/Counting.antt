@@ -1,9 +1,6 @@
 -- No open file is named by many descriptors.
-use Rattle.kernel.proofs.Common.{◌≡◌, ℕ, suc, ◌≤◌, List, [], ◌∷◌, length, Option, Some, None, ap, ◌∙◌, arith, sum_by-cons, named_by, names_in, Kernel, IsKernel, IsLive, IsMode, IsPlace, names, names-none, count_at}
-use Rattle.kernel.proofs.Common.{Process, SpaceView, Mode, Ready, Running, Waiting, Zombie, slot, Memory}
-use Rattle.std.specs.Prelude.{◌*◌}
-use Rattle.std.proofs.lemmas.List.Sums.{count_by-le-length}
-use Rattle.unixmodel.specs.Reap.{is_same}
+use Rattle.kernel.proofs.Common.{◌≡◌, ℕ, suc, ◌≤◌, List, [], ◌∷◌, length, Option, Some, None, ap, ◌∙◌, arith, sum_by-cons, named_by, names_in, Kernel, IsKernel, IsLive, IsMode}
+use Rattle.kernel.proofs.Common.{IsPlace, names, names-none, count_at, Process, SpaceView, Mode, Ready, Running, Waiting, Zombie, slot, Memory, ◌*◌, count_by-le-length, is_same}
 
 live-few : (n : ℕ) (p : Process) → IsLive p → names n p.descriptors ≤ 16
 live-few n p is = omega (arith, count_by-le-length (is_same n) p.descriptors, is.descriptors)

@@ -1,6 +1,7 @@
 -- Nodes are let go one after the other, and the device counts its failures on the way.
 use Rattle.kernel.proofs.Common.{drop_all, drop-cons, ◌≡◌, ◌≢◌, ℕ, suc, ◌+◌, ◌<◌, ◌≤◌, false, true, le_trans, List, [], ◌∷◌, drop, length, None, refl, ap, sym}
-use Rattle.kernel.proofs.Common.{subst, ◌∙◌, arith, Err, IsErr, Ok, Result, slice_index, DeviceFault, AreHeld, all_dropped, dropped, holders, slot, FileTree, Serves}
+use Rattle.kernel.proofs.Common.{subst, ◌∙◌, arith, Err, Ok, Result, slice_index, DeviceFault, AreHeld, all_dropped, dropped, holders, slot, FileTree, Serves}
+use Rattle.std.specs.Prelude.{IsErr}
 
 -- the tree with another count
 abbrev pub counted : FileTree → ℕ → FileTree

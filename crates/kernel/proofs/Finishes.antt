@@ -1,11 +1,10 @@
 -- The end of a process that runs, or where none runs.
-use Rattle.kernel.proofs.Common.{Bool, ◌≡◌, ◌≢◌, ℕ, ◌%◌, true, false, List, [], ◌∷◌, ◌++◌, Option, Some, None, ℤ, pos, refl, ap, subst, sym, ◌∙◌, Err, IfOk, Ok, OnErr, Result, not, slice_index, all_closed, no_pages, unwrap_or, with_space}
-use Rattle.kernel.proofs.Common.{standing, AreHeld, all_dropped, gone_nodes, same_Some, Mode, is_zombie_mode, Kernel, base, counting, ended, halted_by, idle, lives, loaded, on_hart, rest_of, state_of, waking}
-use Rattle.kernel.proofs.Common.{IsKernel, IsPlaced, is_at, CanEnd, CanEndIn, IsAlive, IsInUse, DeviceFault, FileTree, Serves, Counted, opens_of, Process, Places, exited, SpaceView, slot, State, process_at}
+use Rattle.kernel.proofs.Common.{Bool, ◌≡◌, ◌≢◌, ℕ, ◌%◌, true, false, List, [], ◌∷◌, ◌++◌, Option, Some, None, ℤ, pos, refl, ap, subst, sym, ◌∙◌, Err, IfOk, Ok, OnErr, Result, not, slice_index, all_closed, no_pages}
+use Rattle.kernel.proofs.Common.{unwrap_or, with_space, standing, AreHeld, all_dropped, gone_nodes, same_Some, Mode, is_zombie_mode, Kernel, base, counting, ended, halted_by, idle, lives, loaded, on_hart, rest_of, state_of}
+use Rattle.kernel.proofs.Common.{waking, IsKernel, IsPlaced, is_at, CanEnd, CanEndIn, IsAlive, IsInUse, DeviceFault, FileTree, Serves, Counted, opens_of, Process, Places, exited, SpaceView, slot, State, process_at, HasCause}
 use Rattle.kernel.proofs.Changes.{ended-held, ended-is, ended-kernel, ended-made, loaded-placed, other-at}
 use Rattle.kernel.proofs.Dropping.{counted}
 use Rattle.kernel.proofs.Steps.{fail-kernel, with-tree}
-use Rattle.unixmodel.specs.Failures.{HasCause}
 use Rattle.kernel.proofs.Runs.{loaded-run, process-with, run-of, set-slot, slot-put, with_process, within-run, space-of}
 use Rattle.kernel.proofs.Starts.{state-idle}
 

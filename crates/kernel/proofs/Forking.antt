@@ -1,8 +1,9 @@
 -- A process forks.
-use Rattle.kernel.proofs.Common.{with_hold, IsInUse, home_in, ◌≡◌, ◌≢◌, ℕ, ◌+◌, ◌<◌, ◌≤◌, ◌%◌, Bool, true, false, nat_le, List, length, Option, Some, None, Ok, refl, ap, subst, sym, ◌∙◌, arith, is_none, is_some, not, option_map, with_space}
-use Rattle.kernel.proofs.Common.{slice_index, slice_set, get_or-set_other, length-map, length-set, all_shared, Kernel, base, on_hart, rest_of, state_of, IsKernel, IsOpened, IsPlace, IsPlaced, is_at}
-use Rattle.kernel.proofs.Common.{Process, Places, with_table, SpaceView, frames_in, has_space, taken_frames, put, slot, is_within, State, put_process}
-use Rattle.kernel.proofs.Common.{Keeps, IsWatched, Watches, awaited_in, opens_of, has_pipe, is_zombie_mode, true≢false, and_parts}
+use Rattle.kernel.proofs.Common.{with_hold, IsInUse, home_in, ◌≡◌, ◌≢◌, ℕ, ◌+◌, ◌<◌, ◌≤◌, ◌%◌, Bool, true, false, nat_le, List, length, Option, Some, None, Ok, refl, ap, subst, sym, ◌∙◌, arith, is_none, is_some, not, option_map}
+use Rattle.kernel.proofs.Common.{with_space, slice_index, slice_set, get_or-set_other, length-map, length-set, all_shared, Kernel, base, on_hart, rest_of, state_of, IsKernel, IsOpened, IsPlace, IsPlaced, is_at, Process, Places}
+use Rattle.kernel.proofs.Common.{with_table, SpaceView, frames_in, has_space, taken_frames, put, slot, is_within, State, put_process, Keeps, IsWatched, Watches, awaited_in, opens_of, is_zombie_mode, true≢false, and_parts, MayFork}
+use Rattle.kernel.proofs.Common.{child_of, forked_as, Seat, seat_at, seat_of, seated, woken, joined, taken-placed, copied, forked, with_view, set_comm, prefix_len-set, position-Some, page_frames, free_slot, shared_page, last_pid}
+use Rattle.files.specs.Places.{has_pipe}
 use Rattle.kernel.proofs.Changes.{other-at}
 use Rattle.kernel.proofs.Holding.{home-folder, used-child}
 use Rattle.kernel.proofs.Named.{counted-forked, file-all_shared, opens-all_shared, table-all_shared, used-all_shared}
@@ -15,22 +16,9 @@ use Rattle.kernel.proofs.Steps.{held-run, placed-with}
 use Rattle.kernel.proofs.Turning.{Runner, runner-of}
 use Rattle.kernel.proofs.Wakes.{kernel-waking, watched-roused}
 use Rattle.kernel.proofs.Working.{folder-there}
-use Rattle.kernel.specs.Processes.{MayFork, child_of, forked_as}
 use Rattle.kernel.proofs.Joined.{free_slot-joined, seated-with_table}
-use Rattle.proc.specs.declared.table.Seat.{Seat}
 use Rattle.proc.specs.Places as table
-use Rattle.proc.specs.Places.{seat_at, seat_of, seated, woken}
-use Rattle.kernel.specs.Whole.{joined}
-use Rattle.spaces.proofs.SpacesLemmas.{taken-placed}
-use Rattle.spaces.specs.Spaces.{copied, forked, with_view}
-use Rattle.std.proofs.lemmas.List.{set_comm}
-use Rattle.std.proofs.lemmas.List.Folds.{prefix_len-set}
-use Rattle.std.proofs.lemmas.List.Quantifiers.{position-Some}
-use Rattle.unixmodel.specs.Counts.{page_frames}
-use Rattle.unixmodel.specs.Files.{free_slot}
-use Rattle.unixmodel.specs.Memory.{shared_page}
 use Rattle.unixmodel.specs.OpenFiles.{OpenFile}
-use Rattle.unixmodel.specs.Process.{last_pid}
 use Rattle.unixmodel.specs.ProcessCalls as rows
 
 -- ---- places

@@ -1,14 +1,13 @@
 -- Who holds the nodes of the disk: what comes of processes, open files and nodes that change.
-use Rattle.kernel.proofs.Common.{◌≡◌, ◌≢◌, ℕ, zero, suc, ◌+◌, ◌-◌, ◌<◌, ◌≤◌, Bool, true, false, cond, List, [], ◌∷◌, length, map, Option, Some, None, inl, inr, refl, ap, ap₂, sym, subst, ◌∙◌, arith, IfSome, nat_lt, option_map, slice_set, SpaceView, drop}
-use Rattle.kernel.proofs.Common.{sum_by, unwrap_or, ◌||◌, ◌==◌, list_any, get_or-map, cases_eq, cases_lt, lt-ltb, ltb-true, or_left, or_right, nat_tests, get_or-set_other, get_or-set_same, sum_by-cons, sum_by-set, none-some, same_Some}
-use Rattle.kernel.proofs.Common.{one_in, lt-no, lt-yes, one_at, target_of, Counted, more, opened, opens_of, shared, all-set, AreHeld, FitsNode, IsFolder, IsInUse, all_dropped, dropped, files_on, home_in, homes_at, node_in, node_of}
-use Rattle.kernel.proofs.Common.{node_on, slot-within, Process, joined, holders, with_hold, without_hold, FileTree, blocks_of, Files, Node, clear, links_of, slot, taken, is_node, is_zombie_mode, is_used, kept, without_nodes, State}
+use Rattle.kernel.proofs.Common.{◌≡◌, ◌≢◌, ℕ, zero, suc, ◌+◌, ◌-◌, ◌<◌, ◌≤◌, Bool, true, false, cond, List, [], ◌∷◌, length, map, Option, Some, None, inl, inr, refl, ap, ap₂, sym, subst, ◌∙◌, arith, IfSome}
+use Rattle.kernel.proofs.Common.{nat_lt, option_map, slice_set, SpaceView, drop, sum_by, unwrap_or, ◌||◌, ◌==◌, list_any, get_or-map, cases_eq, cases_lt, lt-ltb, ltb-true, or_left, or_right, nat_tests}
+use Rattle.kernel.proofs.Common.{get_or-set_other, get_or-set_same, sum_by-cons, sum_by-set, none-some, same_Some, one_in, lt-no, lt-yes, one_at, target_of, Counted, more, opened, opens_of, shared, all-set}
+use Rattle.kernel.proofs.Common.{AreHeld, FitsNode, IsFolder, IsInUse, all_dropped, dropped, files_on, home_in, homes_at, node_in, node_of, node_on, slot-within, Process, joined, holders, with_hold}
+use Rattle.kernel.proofs.Common.{without_hold, FileTree, blocks_of, Files, Node, clear, links_of, slot, taken, is_node, is_zombie_mode, is_used, kept, without_nodes, State, KeepsTree, let-go-keeps}
 use Rattle.files.specs.declared.file.OpenFile.{OpenFile}
 use Rattle.files.specs.declared.file.Target.{Target}
 use Rattle.files.specs.declared.file.Target.TheVariants as target
-use Rattle.names.specs.Rules.{KeepsTree}
 use Rattle.names.proofs.Reaped.{is_held, kept-same}
-use Rattle.tree.proofs.Keeping.{let-go-keeps}
 use Rattle.tree.proofs.Letting.{let-go-clear, let-go-held, let-go-linked, let-go-reaps}
 use Rattle.tree.proofs.Storing.{blocks_of-set}
 use Rattle.unixmodel.specs.OpenFiles as unix_files

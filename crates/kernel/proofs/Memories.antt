@@ -1,24 +1,14 @@
 -- Steps on the memory of the running process keep what a kernel keeps, and are what the abstract Unix puts in its place.
-use Rattle.kernel.proofs.Common.{false, is_within, ◌<◌, ◌≡◌, ◌≤◌, ◌+◌, ◌-◌, ◌∷◌, ◌∙◌, ℕ, zero, suc, Bool, true, List, [], length, take, drop, is_some, Option, Some, None, refl, ap, subst, sym, arith, length-set, Kernel, IsKernel, Keeps, state_of}
-use Rattle.kernel.proofs.Common.{Process, SpaceView, Spaces, taken_frames, view_at, Console, put, slot, put_process, State}
+use Rattle.kernel.proofs.Common.{false, is_within, ◌<◌, ◌≡◌, ◌≤◌, ◌+◌, ◌-◌, ◌∷◌, ◌∙◌, ℕ, zero, suc, Bool, true, List, [], length, take, drop, is_some, Option, Some, None, refl, ap, subst, sym, arith, length-set, Kernel, IsKernel}
+use Rattle.kernel.proofs.Common.{Keeps, state_of, Process, SpaceView, Spaces, taken_frames, view_at, Console, put, slot, put_process, State, drew, reheld, resized, sized, wrote, woken_by, Bytes, grown-with_pages, shrunk-with_pages}
+use Rattle.kernel.proofs.Common.{some-pipe, Fits, Lacks, bytes_in, grown, shrunk, with_pipe, with_view, written, eqb-true, Taken, take_line, taken, Memory, can_write, write_bytes, ceil_div, stack_marks, is_empty}
 use Rattle.std.specs.Bool.{OnFalse, OnTrue}
 use Rattle.kernel.proofs.Reaped.{match-active, match-place, over-state}
 use Rattle.kernel.proofs.Runs.{IsRun, moved, moved-kernel, moved-state, run-of, self, set-slot, stands-set, within-run, within-space}
 use Rattle.kernel.proofs.Steps.{held-run, placed-with}
 use Rattle.kernel.proofs.Wakes.{kernel-waking}
 use Rattle.kernel.proofs.Watching.{watched-bytes, watched-taken}
-use Rattle.kernel.specs.Memory.{drew, reheld, resized, sized, wrote}
-use Rattle.kernel.specs.Watch.{woken_by}
-use Rattle.kernel.specs.declared.channels.Channel.TheVariants.{Bytes}
-use Rattle.spaces.proofs.SpacesLemmas.{grown-with_pages, shrunk-with_pages, some-pipe}
-use Rattle.spaces.specs.Spaces.{Fits, Lacks, bytes_in, grown, has_pipe, shrunk, with_pipe, with_view, written}
-use Rattle.std.proofs.lemmas.Bool.{eqb-true}
-use Rattle.unixmodel.specs.Console.{Taken, take_line}
-use Rattle.unixmodel.specs.Files.{taken}
-use Rattle.unixmodel.specs.Memory.{Memory, can_write, write_bytes}
-use Rattle.unixmodel.specs.Numbers.{ceil_div}
-use Rattle.unixmodel.specs.Plan.{stack_marks}
-use Rattle.unixmodel.specs.Turn.{is_empty}
+use Rattle.spaces.specs.Spaces.{has_pipe}
 
 -- ---- another space
 

@@ -1,21 +1,15 @@
 -- What holds of open files and of who holds nodes, where an open file goes on from another offset.
 use Rattle.kernel.proofs.Common.{◌≡◌, ℕ, zero, suc, ◌≤◌, ◌⊎◌, inl, inr, List, [], ◌∷◌, Option, Some, None, refl, ap, subst, sym, ◌∙◌, option_map, ◌||◌, none-some, same_Some, one_in}
-use Rattle.kernel.proofs.Common.{file_of, target_of, Counted, file_at, moved_to, FitsNode, IsInUse, node_in, node_of, node_on, IsOpenFile}
-use Rattle.kernel.proofs.Common.{IsOpened, is_awaited, is_on_pipe, Process, FileTree, Node, slot, is_pipe}
-use Rattle.files.proofs.CountsLemmas.{count-moved}
-use Rattle.files.proofs.Whole.{table-moved}
+use Rattle.kernel.proofs.Common.{file_of, target_of, Counted, file_at, moved_to, FitsNode, IsInUse, node_in, node_of, node_on, IsOpenFile, IsOpened, is_awaited, is_on_pipe, Process}
+use Rattle.kernel.proofs.Common.{FileTree, Node, slot, is_pipe, count-moved, table-moved, moved, moved_in, opens_of, Kernel, MayMove, advanced, Keeps, longest, Directory, File}
 use Rattle.files.specs.declared.file.OpenFile.{OpenFile}
 use Rattle.files.specs.declared.file.Target.{Target}
 use Rattle.files.specs.declared.file.Target.TheVariants as target
-use Rattle.files.specs.Places.{has_pipe, moved, moved_in, opens_of}
+use Rattle.files.specs.Places.{has_pipe}
 use Rattle.kernel.proofs.Holding.{same-set, used-files}
 use Rattle.kernel.proofs.Opens.{WasAlike, slot-file, waits-kept}
 use Rattle.kernel.proofs.Watching.{watched-moved}
-use Rattle.kernel.specs.Kernel.{Kernel}
-use Rattle.kernel.specs.Opening.{MayMove, advanced}
-use Rattle.kernel.specs.View.{Keeps}
-use Rattle.unixmodel.specs.Files.{longest}
-use Rattle.unixmodel.specs.Files.Node.{Device, Directory, File}
+use Rattle.unixmodel.specs.Files.Node.{Device}
 use Rattle.unixmodel.specs.OpenFiles as unix
 
 -- what stands in a place was there, or is the open file itself, which goes on from there

@@ -1,11 +1,12 @@
 -- The open files and the pipes keep what holds of them where descriptors come and go, and what is left of them is what
 -- the abstract Unix leaves.
-use Rattle.kernel.proofs.Common.{FileTree, drop-cons, eq-eqb, append_assoc, Bool, List, None, Option, Some, [], ap, arith, cond, false, inl, inr, length, refl, subst, suc, sym, true, ℕ, ℤ, ◌+◌, ◌++◌, ◌<◌, ◌≡◌, ◌≤◌, ◌∙◌, ◌∷◌, drop, SpaceView}
-use Rattle.kernel.proofs.Common.{is_some, map, option_and_then, option_map, slice_set, ◌==◌, cases_lt, none-some, get_or_past, length-append, length-map, set-get_or, sum_by-cons, sum_by-set, IsCounted, after_close, all_closed}
+use Rattle.kernel.proofs.Common.{FileTree, drop-cons, eq-eqb, append_assoc, Bool, List, None, Option, Some, [], ap, arith, cond, false, inl, inr, length, refl, subst, suc, sym, true, ℕ, ℤ, ◌+◌, ◌++◌, ◌<◌, ◌≡◌, ◌≤◌, ◌∙◌, ◌∷◌, drop}
+use Rattle.kernel.proofs.Common.{SpaceView, is_some, map, option_and_then, option_map, slice_set, ◌==◌, cases_lt, none-some, get_or_past, length-append, length-map, set-get_or, sum_by-cons, sum_by-set, IsCounted, after_close, all_closed}
 use Rattle.kernel.proofs.Common.{all_shared, closed_in, named_by, names_in, shared_in, standing, slot-within, IsInUse, files_on, gone_nodes, last_node, listed, node_in, node_on, names, one_in, Counts, count-closed, count-shared, lt-no}
 use Rattle.kernel.proofs.Common.{lt-yes, names-none, one_at, IsPiped, IsLeftOf, has_pipe-clear, pipes-clear, pipes-left, pipes-same, piped-end, piped-last, piped-node, without_pipes-left, end_of, file_of, target_of, Counted, IsTable}
-use Rattle.kernel.proofs.Common.{closed, count_at, fewer, file_at, has_pipe, last_in, last_target, opens_of, shared, all-set, fewer-from, IsLeft, left-closed, left-same, opens-closed, opens-closed_last, opens-shared, set_outside}
-use Rattle.kernel.proofs.Common.{slot-opens, table-closed, table-shared, without_opens-left, Process, orphaned, zombie_of, joined, Spaces, Files, clear, put, slot, taken, End, OnPipe, reap, without_nodes, without_pipes, State}
+use Rattle.kernel.proofs.Common.{closed, count_at, fewer, file_at, last_in, last_target, opens_of, shared, all-set, fewer-from, IsLeft, left-closed, left-same, opens-closed, opens-closed_last, opens-shared, set_outside, slot-opens}
+use Rattle.kernel.proofs.Common.{table-closed, table-shared, without_opens-left, Process, orphaned, zombie_of, joined, Spaces, Files, clear, put, slot, taken, End, OnPipe, reap, without_nodes, without_pipes, State}
+use Rattle.files.specs.Places.{has_pipe}
 use Rattle.kernel.proofs.Opens.{count-joined, file-shared}
 use Rattle.kernel.proofs.Holding.{AreOld, named_in, one_at-self, same-map, slot-map, used-shared}
 use Rattle.files.specs.declared.file.End as files_end

@@ -1,23 +1,15 @@
 -- Calls on names, and a file that is emptied, keep what a kernel keeps.
-use Rattle.kernel.proofs.Common.{Err, Ok, OnErr, Result, ap, arith, subst, sym, false, true, Bool, ℕ, List, ◌∙◌, ◌≡◌, ◌≢◌, IfOk, DeviceFault, FileTree, Files, Serves, blocks_of, slot, Kernel, Keeps, IsInUse}
-use Rattle.std.specs.Prelude.{All, IfErr, OnOk, option_map}
+use Rattle.kernel.proofs.Common.{Err, Ok, OnErr, Result, ap, arith, subst, sym, false, true, Bool, ℕ, List, ◌∙◌, ◌≡◌, ◌≢◌, IfOk, DeviceFault, FileTree, Files, Serves, blocks_of, slot, Kernel, Keeps, IsInUse, All, IfErr, OnOk}
+use Rattle.kernel.proofs.Common.{option_map, with_tree, Changed, shape, KeepsTree, created-changed, device-is, folder-changed, linked-changed, MakesDirectory, MakesLink, MakesNode, TakesName, HasFiles, has_failed, IsWhole, change_node}
 use Rattle.kernel.proofs.Shapes.{used-changed, used-shaped}
 use Rattle.kernel.proofs.Steps.{fail-keeps, with-tree}
 use Rattle.kernel.proofs.Unlinking.{used-unlinked}
-use Rattle.kernel.specs.Disk.{with_tree}
 use Rattle.names.proofs.Quiet as quiet
-use Rattle.names.specs.Changes.{Changed, shape}
-use Rattle.names.specs.Rules.{KeepsTree}
-use Rattle.tree.proofs.Keeping.{created-changed, device-is, folder-changed, linked-changed}
-use Rattle.tree.specs.Calls.{MakesDirectory, MakesLink, MakesNode, TakesName}
 use Rattle.tree.specs.declared.making.Leaf.{Leaf}
 use Rattle.tree.specs.declared.TreeFault.{TreeFault}
 use Rattle.tree.specs.declared.TreeFault.TheVariants.{Device}
 use Rattle.tree.specs.Leaves.{leaf_node}
 use Rattle.tree.specs.Tree as tree
-use Rattle.tree.specs.Tree.{HasFiles, has_failed}
-use Rattle.tree.specs.Whole.{IsWhole}
-use Rattle.unixmodel.specs.Files.{change_node}
 use Rattle.unixmodel.specs.NameCalls.{emptied}
 
 -- what was done has not failed

@@ -1,15 +1,10 @@
 -- The running process has a new open file.
-use Rattle.kernel.proofs.Common.{Err, is_none, ◌≡◌, ◌≢◌, ℕ, ◌+◌, ◌<◌, inl, inr, false, List, length, Option, Some, None, refl, ap, arith, subst, sym, ◌∙◌, length-set, sum_by-set, same_Some, IsCounted, Kernel, state_of, IsKernel, IsOpened}
-use Rattle.kernel.proofs.Common.{IsOpenFile, IsInUse, Keeps, FitsNode, files_on, node_in, node_of, node_on, one_in, Counted, count_at, count_in, file_at, opened, opens_of, file_of, target_of, IsPiped, Process, put, slot, FileTree, holders}
-use Rattle.kernel.proofs.Common.{with_hold, put_process, descriptors_at, woken_by, Bytes, Node, none-some, ◌||◌, has_pipe, is_pipe, Places}
-use Rattle.kernel.specs.Sound.{IsOpenOn}
-use Rattle.files.proofs.CountsLemmas.{count-opened, names-put}
-use Rattle.files.proofs.Free.{free-Some, free-opens, free-place}
-use Rattle.files.specs.Places.{free_count, place_for, place_from}
+use Rattle.kernel.proofs.Common.{Err, is_none, ◌≡◌, ◌≢◌, ℕ, ◌+◌, ◌<◌, inl, inr, false, List, length, Option, Some, None, refl, ap, arith, subst, sym, ◌∙◌, length-set, sum_by-set, same_Some, IsCounted, Kernel, state_of, IsKernel}
+use Rattle.kernel.proofs.Common.{IsOpened, IsOpenFile, IsInUse, Keeps, FitsNode, files_on, node_in, node_of, node_on, one_in, Counted, count_at, count_in, file_at, opened, opens_of, file_of, target_of, IsPiped, Process, put}
+use Rattle.kernel.proofs.Common.{slot, FileTree, holders, with_hold, put_process, descriptors_at, woken_by, Bytes, Node, none-some, ◌||◌, is_pipe, Places, IsOpenOn, count-opened, names-put, free-Some, free-opens, free-place}
+use Rattle.kernel.proofs.Common.{free_count, place_for, place_from, count_by, has_pipe-put, free_slot-opens, opens-opened, table-opened, MayOpen, OpensAs, OpensOn, opened_at, opened_on, with_descriptor, IsWhole, free_slot}
+use Rattle.files.specs.Places.{has_pipe}
 use Rattle.files.specs.declared.table.FileFault.{FileFault}
-use Rattle.std.specs.Prelude.{count_by}
-use Rattle.files.proofs.PipesLemmas.{has_pipe-put}
-use Rattle.files.proofs.Whole.{free_slot-opens, opens-opened, table-opened}
 use Rattle.files.specs.declared.file.OpenFile.{OpenFile}
 use Rattle.files.specs.declared.file.Target.{Target}
 use Rattle.files.specs.declared.file.Target.TheVariants as target
@@ -20,11 +15,7 @@ use Rattle.kernel.proofs.Runs.{same_or_not, slot-other, slot-put}
 use Rattle.kernel.proofs.Turning.{Runner, me_of, renamed, renamed-kernel, renamed-state, renamed_to, runner-of, used-turned}
 use Rattle.kernel.proofs.Wakes.{kernel-waking, running-at}
 use Rattle.kernel.proofs.Watching.{watched-bytes, watched-running}
-use Rattle.kernel.specs.Opening.{MayOpen, OpensAs, OpensOn, opened_at, opened_on}
-use Rattle.proc.specs.Places.{with_descriptor}
-use Rattle.tree.specs.Whole.{IsWhole}
 use Rattle.unixmodel.specs.FileCalls as row
-use Rattle.unixmodel.specs.Files.{free_slot}
 use Rattle.unixmodel.specs.OpenFiles as unix_files
 
 -- a place is found where one is free

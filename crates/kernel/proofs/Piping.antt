@@ -1,12 +1,9 @@
 -- The running process opens both ends of a new pipe.
-use Rattle.kernel.proofs.Common.{◌≡◌, ℕ, ◌<◌, ◌≤◌, inl, inr, List, [], length, Option, Some, None, refl, ap, arith, subst, sym, ◌∙◌, length-set, get_or-set_other, get_or-set_same, cases_eq, ne_eqb, is_none}
-use Rattle.kernel.proofs.Common.{descriptors_in, Kernel, IsKernel, Keeps, Counted, opened, opens_of, file_of, IsPiped, Process, Places, put, slot, taken_frames, woken_by, Bytes, End, descriptors_at, option_map, slice_set, slot-within}
-use Rattle.files.proofs.Free.{free-opens, free-place, free-put}
-use Rattle.files.proofs.PipesLemmas.{has_pipe-put}
-use Rattle.files.proofs.Whole.{free_slot-opens, opens-opened}
+use Rattle.kernel.proofs.Common.{◌≡◌, ℕ, ◌<◌, ◌≤◌, inl, inr, List, [], length, Option, Some, None, refl, ap, arith, subst, sym, ◌∙◌, length-set, get_or-set_other, get_or-set_same, cases_eq, ne_eqb, is_none, descriptors_in, Kernel, IsKernel}
+use Rattle.kernel.proofs.Common.{Keeps, Counted, opened, opens_of, file_of, IsPiped, Process, Places, put, slot, taken_frames, woken_by, Bytes, End, descriptors_at, option_map, slice_set, slot-within, free-opens, free-place, free-put}
+use Rattle.kernel.proofs.Common.{has_pipe-put, free_slot-opens, opens-opened, free_count, AreFree, Ends, HasPiped, OpensAs, free_descriptors, half_piped, pipe_file, piped, with_descriptor, with_pipe, count_by, free_slot, ReadEnd, WriteEnd}
 use Rattle.files.specs.declared.file.End.TheVariants as end
 use Rattle.files.specs.declared.file.OpenFile.{OpenFile}
-use Rattle.files.specs.Places.{free_count}
 use Rattle.kernel.proofs.Holding.{used-opened}
 use Rattle.kernel.proofs.Opening.{has-opened, opens-made}
 use Rattle.kernel.proofs.Renaming.{descriptors-run}
@@ -14,14 +11,8 @@ use Rattle.kernel.proofs.Runs.{eq-self, set-twice, slot-put}
 use Rattle.kernel.proofs.Turning.{Runner, renamed-kernel, renamed-run, renamed_to, used-turned}
 use Rattle.kernel.proofs.Wakes.{kernel-waking, running-at}
 use Rattle.kernel.proofs.Watching.{watched-bytes, watched-running}
-use Rattle.kernel.specs.Opening.{AreFree, Ends, HasPiped, OpensAs, free_descriptors, half_piped, pipe_file, piped}
-use Rattle.proc.specs.Places.{with_descriptor}
-use Rattle.spaces.specs.Spaces.{with_pipe}
-use Rattle.std.specs.Prelude.{count_by}
 use Rattle.unixmodel.specs.FileCalls.{pipe_end}
-use Rattle.unixmodel.specs.Files.{free_slot}
 use Rattle.unixmodel.specs.OpenFiles as unix_files
-use Rattle.unixmodel.specs.OpenFiles.End.{ReadEnd, WriteEnd}
 
 -- an end comes of a pipe that is put in its place
 end-comes : (pipes : List (Option (List ℕ))) (opens : List (Option unix_files.OpenFile)) (q k : ℕ) (e : End) (bytes : List ℕ) → IsPiped pipes opens → q < length pipes → k < length opens → slot opens k ≡ None → IsPiped (put pipes q bytes) (put opens k (pipe_end q e))

@@ -1,7 +1,8 @@
 -- Who is ready: that depends on the processes, the console, the ticks, and the open files with their pipes.
-use Rattle.kernel.proofs.Common.{◌≡◌, ℕ, Bool, true, false, ◌||◌, List, Option, Some, None, refl, ap, subst, sym, ◌∙◌, arith, cond, find, is_some, option_map, [], ◌∷◌, ◌==◌, nat_tests, Kernel, Rest, base, SpaceView, no_pages, space_in, with_space}
-use Rattle.kernel.proofs.Common.{lives, rest_of, state_of, Stands, awaited_in, seen, IsAlive, IsPiped, has_pipe-clear, has_pipe, Process, Places, is_zombie_child_of, place_where, slot-joined}
+use Rattle.kernel.proofs.Common.{◌≡◌, ℕ, Bool, true, false, ◌||◌, List, Option, Some, None, refl, ap, subst, sym, ◌∙◌, arith, cond, find, is_some, option_map, [], ◌∷◌, ◌==◌, nat_tests, Kernel, Rest, base, SpaceView}
+use Rattle.kernel.proofs.Common.{no_pages, space_in, with_space, lives, rest_of, state_of, Stands, awaited_in, seen, IsAlive, IsPiped, has_pipe-clear, Process, Places, is_zombie_child_of, place_where, slot-joined}
 use Rattle.kernel.proofs.Common.{zombie_child-with_table, with_table, Spaces, Call, Read, Wait, Write, Mode, Ready, Running, Waiting, Zombie, Pending, clear, slot, is_pipe, OnNode, OnPipe, State, holds}
+use Rattle.files.specs.Places.{has_pipe}
 use Rattle.unixmodel.specs.OpenFiles.{OpenFile, Target}
 use Rattle.unixmodel.specs.Turn as turn
 

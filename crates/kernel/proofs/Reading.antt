@@ -1,9 +1,6 @@
 -- What steps that reach the disk come to, one after the other.
-use Rattle.kernel.proofs.Common.{counting, arith, le_trans, Err, Ok, OnErr, Result, ap, refl, true, false, ◌∙◌, ◌≡◌, DeviceFault, FileTree, Serves, Kernel}
-use Rattle.std.specs.Prelude.{OnOk}
+use Rattle.kernel.proofs.Common.{counting, arith, le_trans, Err, Ok, OnErr, Result, ap, refl, true, false, ◌∙◌, ◌≡◌, DeviceFault, FileTree, Serves, Kernel, OnOk, HasRead, IsLost, LeavesDisk, ReadsDisk, HasCause}
 use Rattle.std.specs.Result.{IsErr}
-use Rattle.kernel.specs.Disk.{HasRead, IsLost, LeavesDisk, ReadsDisk}
-use Rattle.unixmodel.specs.Failures.{HasCause}
 
 -- what a step that may fail leaves
 pub serves-disk : {T : Type 0} {old new : FileTree} {r : Result T DeviceFault} {Told : T → Type 0} → Serves old new r Told → LeavesDisk old new r

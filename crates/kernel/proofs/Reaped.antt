@@ -1,6 +1,6 @@
 -- What nothing names any more: a kernel's state has none of it. And the frames that its processes and pipes take.
-use Rattle.kernel.proofs.Common.{◌≡◌, ℕ, suc, ◌<◌, ◌≤◌, Bool, true, false, ◌&&◌, nat_le, List, [], ◌∷◌, length, Option, Some, None, refl, ap, sym, ◌∙◌, arith, ◌+◌, option_map, sum_by, le-leb, lt-leb, with_space}
-use Rattle.kernel.proofs.Common.{sum_by-cons, Kernel, loaded, on_hart, rest_of, state_of, state_with, IsKernel, IsMode, IsOpened, IsPlace, Counts, without_pipes-same, IsTable}
+use Rattle.kernel.proofs.Common.{◌≡◌, ℕ, suc, ◌<◌, ◌≤◌, Bool, true, false, ◌&&◌, nat_le, List, [], ◌∷◌, length, Option, Some, None, refl, ap, sym, ◌∙◌, arith, ◌+◌, option_map, sum_by, le-leb}
+use Rattle.kernel.proofs.Common.{lt-leb, with_space, sum_by-cons, Kernel, loaded, on_hart, rest_of, state_of, state_with, IsKernel, IsMode, IsOpened, IsPlace, Counts, without_pipes-same, IsTable}
 use Rattle.kernel.proofs.Common.{opens_of, length-opens, without_opens-same, Process, Places, changed_at, joined, SpaceView, Spaces, frames_in, taken_frames, blocks_of, frames_of, is_within}
 use Rattle.kernel.proofs.Common.{process_frames, slot, taken, Memory, reap, without_nodes, without_opens, without_pipes, Mode, Zombie, is_zombie_mode, none-some, same_Some, IsInUse, home_in, State}
 use Rattle.kernel.proofs.Opens.{active-by, count-joined, few-taken, hart-same, opened-active}

@@ -1,8 +1,7 @@
 -- A descriptor more of the running process names an open file.
-use Rattle.kernel.proofs.Common.{◌≡◌, ℕ, ◌+◌, ◌<◌, Bool, List, length, Option, Some, None, refl, ap, arith, subst, sym, ◌∙◌, length-set, sum_by-set, descriptors_in, IsCounted, named_by, names_in, Kernel, descriptors_at, state_of}
-use Rattle.kernel.proofs.Common.{IsKernel, IsOpened, Keeps, names, count-shared, IsPiped, count_at, shared, opens-shared, table-shared, opens_of, Process, put, slot, put_process, IsWatched, awaited_of, awaited_in, false, true, is_within, loaded, le-leb}
-use Rattle.files.proofs.CountsLemmas.{names-put}
-use Rattle.files.proofs.Free.{free-place}
+use Rattle.kernel.proofs.Common.{◌≡◌, ℕ, ◌+◌, ◌<◌, Bool, List, length, Option, Some, None, refl, ap, arith, subst, sym, ◌∙◌, length-set, sum_by-set, descriptors_in, IsCounted, named_by, names_in}
+use Rattle.kernel.proofs.Common.{Kernel, descriptors_at, state_of, IsKernel, IsOpened, Keeps, names, count-shared, IsPiped, count_at, shared, opens-shared, table-shared, opens_of, Process, put}
+use Rattle.kernel.proofs.Common.{slot, put_process, IsWatched, awaited_of, awaited_in, false, true, is_within, loaded, le-leb, names-put, free-place, MayShare, duplicated, with_descriptor}
 use Rattle.kernel.proofs.Holding.{used-shared}
 use Rattle.kernel.proofs.Opens.{file-shared, place-counts, waits-fewer, waits-running, waits-set}
 use Rattle.kernel.proofs.Reaped.{match-active, match-place, within-state_with}
@@ -10,8 +9,6 @@ use Rattle.kernel.proofs.Runs.{within-run}
 use Rattle.kernel.proofs.Turning.{Runner, me_of, renamed, renamed-kernel, renamed-stands, renamed-state, renamed_to, runner-of, used-turned}
 use Rattle.kernel.proofs.Wakes.{running-at}
 use Rattle.kernel.proofs.Watching.{watched-running}
-use Rattle.kernel.specs.Opening.{MayShare, duplicated}
-use Rattle.proc.specs.Places.{with_descriptor}
 use Rattle.unixmodel.specs.FileCalls as row
 use Rattle.unixmodel.specs.OpenFiles.{OpenFile}
 

@@ -1,6 +1,7 @@
 -- Another program comes in the place of the one that runs.
-use Rattle.kernel.proofs.Common.{◌%◌, ◌+◌, ◌-◌, ◌∙◌, ◌≡◌, ◌≤◌, [], List, Option, Some, ap, arith, refl, sym, length, nat_le, option_and_then, subst, true, ℕ, counting, state_of, taken_frames, view_at}
-use Rattle.kernel.proofs.Common.{FileTree, Files, IsKernel, IsPlaced, Keeps, Kernel, Memory, SpaceView, Spaces, put_process, slot}
+use Rattle.kernel.proofs.Common.{◌%◌, ◌+◌, ◌-◌, ◌∙◌, ◌≡◌, ◌≤◌, [], List, Option, Some, ap, arith, refl, sym, length, nat_le, option_and_then, subst, true, ℕ, counting, state_of, taken_frames}
+use Rattle.kernel.proofs.Common.{view_at, FileTree, Files, IsKernel, IsPlaced, Keeps, Kernel, Memory, SpaceView, Spaces, put_process, slot, with_view, cond_some, option_and_then_some, ◌*◌}
+use Rattle.kernel.proofs.Common.{number_at, round_down, Loaded, Plan, Stack, loaded_of, plan, push_pointers, push_strings, with_args, with_stack, args_at, exec_registers, file_bytes, replaced}
 use Rattle.kernel.proofs.Finishes.{counting-kernel}
 use Rattle.kernel.proofs.Memories.{reheld-keeps}
 use Rattle.kernel.proofs.Runs.{moved, moved-kernel, moved-state, set-slot}
@@ -9,12 +10,6 @@ use Rattle.kernel.proofs.Turning.{Runner, me_of, runner-of}
 use Rattle.kernel.specs.Replacing.{HasReplaced, begun, replaced_by}
 use Rattle.programs.specs.declared.executing.Started.{Started}
 use Rattle.programs.specs.Executed.{Executes, IsExecuted, plan_at, started_by, view_by}
-use Rattle.spaces.specs.Spaces.{with_view}
-use Rattle.std.proofs.lemmas.Option.{cond_some, option_and_then_some}
-use Rattle.std.specs.Prelude.{◌*◌}
-use Rattle.unixmodel.specs.Numbers.{number_at, round_down}
-use Rattle.unixmodel.specs.Plan.{Loaded, Plan, Stack, loaded_of, plan, push_pointers, push_strings, with_args, with_stack}
-use Rattle.unixmodel.specs.ProcessCalls.{args_at, exec_registers, file_bytes, replaced}
 
 -- ---- where a program begins: at a multiple of 4
 

@@ -1,6 +1,6 @@
 -- The running process, and a change of its registers.
-use Rattle.kernel.proofs.Common.{◌≡◌, ℕ, ◌<◌, false, List, Option, Some, length, refl, ap, sym, ◌∙◌, option_map, slice_set, Kernel, answered, state_of, IsKernel, with_space}
-use Rattle.kernel.proofs.Common.{IsLive, IsMode, Process, SpaceView, Mode, Running, put, Memory, with_answer, State, change_process, put_process}
+use Rattle.kernel.proofs.Common.{◌≡◌, ℕ, ◌<◌, false, List, Option, Some, length, refl, ap, sym, ◌∙◌, option_map, slice_set, Kernel, answered, state_of, IsKernel}
+use Rattle.kernel.proofs.Common.{with_space, IsLive, IsMode, Process, SpaceView, Mode, Running, put, Memory, with_answer, State, change_process, put_process}
 use Rattle.kernel.proofs.Runs.{IsRun, moved, moved-state, process-run, self, set-slot, set-twice, slot-put}
 use Rattle.unixmodel.specs.Process as unix
 

@@ -1,8 +1,8 @@
 -- The running process, and what becomes of the state where it alone changes.
-use Rattle.kernel.proofs.Common.{Bool, subst, ◌≡◌, ◌≢◌, ℕ, zero, suc, ◌<◌, ◌≤◌, ◌⊎◌, inl, inr, true, nat_eq, List, [], ◌∷◌, length, Option, Some, None, refl, ap, sym, ◌∙◌, arith, if◌then◌else◌, is_some, no_pages, unwrap_or, space_in, with_space}
-use Rattle.kernel.proofs.Common.{option_map, slice_set, nat_tests, get_or-set_other, get_or-set_same, length-set, set-get_or, descriptors_in, not-true, none-some}
-use Rattle.kernel.proofs.Common.{same_Some, Kernel, base, lives, loaded, on_hart, rest_of, state_of, IsKernel, IsPlace, IsPlaced, is_at, home_in, Process, Places, put-joined, put_kept-joined, slot-joined}
-use Rattle.kernel.proofs.Common.{with_table, SpaceView, has_space, taken_frames, Mode, Running, put, slot, is_running_mode, is_zombie_mode, State, holds, process_at, put_process}
+use Rattle.kernel.proofs.Common.{Bool, subst, ◌≡◌, ◌≢◌, ℕ, zero, suc, ◌<◌, ◌≤◌, ◌⊎◌, inl, inr, true, nat_eq, List, [], ◌∷◌, length, Option, Some, None, refl, ap, sym, ◌∙◌, arith, if◌then◌else◌, is_some}
+use Rattle.kernel.proofs.Common.{no_pages, unwrap_or, space_in, with_space, option_map, slice_set, nat_tests, get_or-set_other, get_or-set_same, length-set, set-get_or, descriptors_in, not-true}
+use Rattle.kernel.proofs.Common.{none-some, same_Some, Kernel, base, lives, loaded, on_hart, rest_of, state_of, IsKernel, IsPlace, IsPlaced, is_at, home_in, Process, Places, put-joined, put_kept-joined}
+use Rattle.kernel.proofs.Common.{slot-joined, with_table, SpaceView, has_space, taken_frames, Mode, Running, put, slot, is_running_mode, is_zombie_mode, State, holds, process_at, put_process}
 use Rattle.kernel.proofs.Holding.{used-put}
 use Rattle.kernel.proofs.Opens.{opened-put, waits-running}
 use Rattle.proc.specs.Places as table

@@ -1,14 +1,11 @@
 -- What holds of who holds nodes, where files change and the nodes that somebody holds stay of their type.
-use Rattle.kernel.proofs.Common.{◌≡◌, ℕ, ◌≤◌, List, None, Option, Some, ap, arith, refl, subst, sym, IfSome, option_map, nat_tests, one_in, Counted, FitsNode, IsFolder, IsInUse, home_in, node_in, node_of, node_on, Process, holders, FileTree, Node, links_of, slot}
-use Rattle.std.specs.Prelude.{IsSome, ◌↔◌}
+use Rattle.kernel.proofs.Common.{◌≡◌, ℕ, ◌≤◌, List, None, Option, Some, ap, arith, refl, subst, sym, IfSome, option_map, nat_tests, one_in, Counted, FitsNode, IsFolder, IsInUse, home_in}
+use Rattle.kernel.proofs.Common.{node_in, node_of, node_on, Process, holders, FileTree, Node, links_of, slot, IsSome, ◌↔◌, Changed, shape, KeepsTree, blocks_of, Directory, File}
 use Rattle.files.specs.declared.file.OpenFile.{OpenFile}
 use Rattle.files.specs.declared.file.Target.{Target}
 use Rattle.files.specs.declared.file.Target.TheVariants as target
 use Rattle.kernel.proofs.Holding.{held-there, home-held, least}
-use Rattle.names.specs.Changes.{Changed, shape}
-use Rattle.names.specs.Rules.{KeepsTree}
-use Rattle.unixmodel.specs.Counts.{blocks_of}
-use Rattle.unixmodel.specs.Files.Node.{Device, Directory, File}
+use Rattle.unixmodel.specs.Files.Node.{Device}
 
 -- a node fits by its shape
 fits-shape : (f : OpenFile) (t : Target) (o : Option Node) → FitsNode f t o ↔ FitsNode f t (option_map shape o)

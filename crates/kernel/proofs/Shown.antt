@@ -1,8 +1,8 @@
 -- What a kernel shows of its processes, in the words of its state.
-use Rattle.kernel.proofs.Common.{◌≡◌, ℕ, Bool, true, false, arith, List, [], ◌∷◌, Option, Some, None, refl, ap, subst, sym, ◌∙◌, ◌+◌, IfSome, is_some, option_and_then, option_map, position, slice_get, space_in, with_space, drop}
-use Rattle.kernel.proofs.Common.{slice_set, sum_by, length-set, sum_by-cons, names, file_of, Counted, count_at, file_at, opens_of, get_or-map, Kernel, base, loaded, on_hart}
-use Rattle.kernel.proofs.Common.{rest_of, state_of, named_by, names_in, FitsNode, node_of, node_on, IsKernel, Process, Places, changed_at, has_pid, place_where, place_of_pid-with_table, place_where-Some}
-use Rattle.kernel.proofs.Common.{slot-joined, joined, SpaceView, Spaces, has_space, view_at, taken_frames, frames_of, slot, holds, place_of_pid, process_at}
+use Rattle.kernel.proofs.Common.{◌≡◌, ℕ, Bool, true, false, arith, List, [], ◌∷◌, Option, Some, None, refl, ap, subst, sym, ◌∙◌, ◌+◌, IfSome, is_some, option_and_then, option_map, position, slice_get}
+use Rattle.kernel.proofs.Common.{space_in, with_space, drop, slice_set, sum_by, length-set, sum_by-cons, names, file_of, Counted, count_at, file_at, opens_of, get_or-map, Kernel, base, loaded}
+use Rattle.kernel.proofs.Common.{on_hart, rest_of, state_of, named_by, names_in, FitsNode, node_of, node_on, IsKernel, Process, Places, changed_at, has_pid, place_where, place_of_pid-with_table}
+use Rattle.kernel.proofs.Common.{place_where-Some, slot-joined, joined, SpaceView, Spaces, has_space, view_at, taken_frames, frames_of, slot, holds, place_of_pid, process_at, position_or_len-set}
 use Rattle.files.specs.declared.file.OpenFile.{OpenFile}
 use Rattle.kernel.proofs.Reaped.{frames-with, match-loaded, opened-loaded}
 use Rattle.kernel.proofs.Runs.{place-space}
@@ -11,7 +11,6 @@ use Rattle.kernel.specs.declared.kernel.show.ShownProcess.{ShownProcess}
 use Rattle.unixmodel.specs.Process as unix
 use Rattle.unixmodel.specs.Shown.{ShowsMemory, shown_page, shown_process, told_page}
 use Rattle.kernel.proofs.Opens.{active-by, hart-same}
-use Rattle.std.proofs.lemmas.List.Folds.{position_or_len-set}
 
 -- ---- a search
 

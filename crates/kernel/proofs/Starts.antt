@@ -1,7 +1,7 @@
 -- A process is picked.
-use Rattle.kernel.proofs.Common.{◌≡◌, ◌≢◌, ℕ, ◌<◌, ◌%◌, Bool, true, false, List, length, Option, Some, None, ℤ, negsuc, refl, ap, sym, subst, ◌∙◌, if◌then◌else◌, is_some, not, slice_index, length-set, with_space}
-use Rattle.kernel.proofs.Common.{descriptors_in, Kernel, base, ended, halted_by, lives, loaded, picked, rest_of, started, started_as, state_of, CanRun, IsKernel, IsLive, IsPlace, IsPlaced}
-use Rattle.kernel.proofs.Common.{is_at, home_in, Process, changed, with_mode, with_table, SpaceView, has_space, quiet, Mode, Ready, Running, slot, end_process, State, put_process}
+use Rattle.kernel.proofs.Common.{◌≡◌, ◌≢◌, ℕ, ◌<◌, ◌%◌, Bool, true, false, List, length, Option, Some, None, ℤ, negsuc, refl, ap, sym, subst, ◌∙◌, if◌then◌else◌, is_some, not, slice_index}
+use Rattle.kernel.proofs.Common.{length-set, with_space, descriptors_in, Kernel, base, ended, halted_by, lives, loaded, picked, rest_of, started, started_as, state_of, CanRun, IsKernel, IsLive}
+use Rattle.kernel.proofs.Common.{IsPlace, IsPlaced, is_at, home_in, Process, changed, with_mode, with_table, SpaceView, has_space, quiet, Mode, Ready, Running, slot, end_process, State, put_process}
 use Rattle.kernel.proofs.Changes.{ended-is, ended-state, other-at, stands-put}
 use Rattle.kernel.proofs.Opens.{opened-put}
 use Rattle.kernel.proofs.Holding.{used-put}

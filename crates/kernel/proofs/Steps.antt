@@ -1,6 +1,6 @@
 -- The kernel's own steps keep what a kernel keeps.
-use Rattle.kernel.proofs.Common.{true, false, ◌≡◌, ℕ, ◌≤◌, ◌%◌, Option, Some, None, Ok, Err, refl, ap, subst, sym, ◌∙◌, IfNone, IfSome, slice_index, unwrap_or, descriptors_in, Kernel, blocked, computed, descriptors_at, left_as}
-use Rattle.kernel.proofs.Common.{FileTree, IsInUse, IsAwaiting, IsKernel, IsPending, IsPlaced, Keeps, true≢false, Process, SpaceView, Spaces, view_at, no_pages, taken_frames, cycle, Ready, Pending, Trap, Computed}
+use Rattle.kernel.proofs.Common.{true, false, ◌≡◌, ℕ, ◌≤◌, ◌%◌, Option, Some, None, Ok, Err, refl, ap, subst, sym, ◌∙◌, IfNone, IfSome, slice_index, unwrap_or, descriptors_in, Kernel, blocked, computed, descriptors_at}
+use Rattle.kernel.proofs.Common.{left_as, FileTree, IsInUse, IsAwaiting, IsKernel, IsPending, IsPlaced, Keeps, true≢false, Process, SpaceView, Spaces, view_at, no_pages, taken_frames, cycle, Ready, Pending, Trap, Computed}
 use Rattle.kernel.proofs.Leaving.{stops-kernel, waits-kernel}
 use Rattle.kernel.proofs.Runs.{IsRun, moved, moved-kernel, run-of, set-slot}
 use Rattle.kernel.proofs.Running.{live, not-killed, runs-mode}

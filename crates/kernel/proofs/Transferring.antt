@@ -1,17 +1,11 @@
 -- Bytes between nodes and the memory of the running process.
-use Rattle.kernel.proofs.Common.{◌≡◌, ℕ, ◌≤◌, false, true, Option, Some, Ok, Err, Result, ap, subst, sym, IfOk, OnErr, DeviceFault, FileTree, Kernel, Keeps, Spaces, taken_frames}
+use Rattle.kernel.proofs.Common.{◌≡◌, ℕ, ◌≤◌, false, true, Option, Some, Ok, Err, Result, ap, subst, sym, IfOk, OnErr, DeviceFault, FileTree}
+use Rattle.kernel.proofs.Common.{Kernel, Keeps, Spaces, taken_frames, wrote, HasFetched, HasStored, Changed, OnOk, written-changed, Writes, IsWhole}
 use Rattle.file_transfers.specs.Moved.{IsRead, ReadsSome, bytes_read, with_read, written_from}
 use Rattle.kernel.proofs.Finishes.{counting-kernel}
 use Rattle.kernel.proofs.Memories.{wrote-keeps}
 use Rattle.kernel.proofs.Shapes.{used-changed}
 use Rattle.kernel.proofs.Steps.{fail-keeps, with-tree}
-use Rattle.kernel.specs.Memory.{wrote}
-use Rattle.kernel.specs.Opening.{HasFetched, HasStored}
-use Rattle.names.specs.Changes.{Changed}
-use Rattle.std.specs.Prelude.{OnOk}
-use Rattle.tree.proofs.Keeping.{written-changed}
-use Rattle.tree.specs.Calls.{Writes}
-use Rattle.tree.specs.Whole.{IsWhole}
 use Rattle.tree.specs.Written.{IsFile}
 
 -- ---- a read

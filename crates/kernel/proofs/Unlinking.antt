@@ -1,13 +1,11 @@
 -- Who holds nodes, where a name is taken away: nodes that nothing keeps any more go.
-use Rattle.kernel.proofs.Common.{◌≡◌, ℕ, ◌≤◌, ◌∙◌, Bool, List, None, Option, Some, ap, false, refl, sym, true, nat_lt, option_map, lt-ltb, ltb-true, or_right, none-some, same_Some, Counted, IsInUse, Process, holders, FileTree, Files, Node, kept, links_of, slot}
+use Rattle.kernel.proofs.Common.{◌≡◌, ℕ, ◌≤◌, ◌∙◌, Bool, List, None, Option, Some, ap, false, refl, sym, true, nat_lt, option_map, lt-ltb, ltb-true, or_right, none-some}
+use Rattle.kernel.proofs.Common.{same_Some, Counted, IsInUse, Process, holders, FileTree, Files, Node, kept, links_of, slot, Loses, shape, IsWhole, Reaps, unlinked-reaps}
 use Rattle.kernel.proofs.Holding.{held-there, is_by, settled-by}
 use Rattle.kernel.proofs.Shapes.{there, used-shaped}
-use Rattle.names.specs.Changes.{Loses, shape}
 use Rattle.names.proofs.Quiet.{kept-gone, kept-here, kept-none}
 use Rattle.names.proofs.Unlinking.{keeps-unlinked}
 use Rattle.tree.specs.Unlinks.{unlinked_in}
-use Rattle.tree.specs.Whole.{IsWhole}
-use Rattle.tree.proofs.Keeping.{Reaps, unlinked-reaps}
 
 module _ {old : FileTree} {opens : List (Option Counted)} {os : List (Option Process)} (is : IsInUse old opens os) (t : FileTree) (d : ℕ) (path : List ℕ) (made : unlinked_in old.holds old.files d path ≡ Some t.files) where
   pub reaps : Reaps old.holds old.files d path t.files

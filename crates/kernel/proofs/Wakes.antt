@@ -1,15 +1,12 @@
 -- The kernel's steps, and who is awake after them.
-use Rattle.kernel.proofs.Common.{Bool, Err, List, None, Ok, Option, Some, ap, false, inl, inr, length, option_map, refl, subst, sym, true, ℕ, ℤ, ◌<◌, ◌∙◌, ◌≡◌, IfNone, IfSome, slice_set, cases_lt, true≢false, Kernel}
-use Rattle.kernel.proofs.Common.{left_as, on_hart, rest_of, state_of, state_with, waking, IsKernel, is_at, Keeps, IsAsleep, IsWatched, Watches, awaited_of, roused, waits_on, woken_by, Bytes, Children, Ticks, seen}
-use Rattle.kernel.proofs.Common.{Process, is_in, Places, changed_at, exited, is_zombie_child_of, with_mode, Spaces, view_at, Console, cycle, Mode, Running, Trap, put, slot, Computed, is_zombie_mode, State, holds, ready}
+use Rattle.kernel.proofs.Common.{Bool, Err, List, None, Ok, Option, Some, ap, false, inl, inr, length, option_map, refl, subst, sym, true, ℕ, ℤ, ◌<◌, ◌∙◌, ◌≡◌, IfNone, IfSome, slice_set, cases_lt, true≢false, Kernel, left_as}
+use Rattle.kernel.proofs.Common.{on_hart, rest_of, state_of, state_with, waking, IsKernel, is_at, Keeps, IsAsleep, IsWatched, Watches, awaited_of, roused, waits_on, woken_by, Bytes, Children, Ticks, seen, Process, is_in, Places}
+use Rattle.kernel.proofs.Common.{changed_at, exited, is_zombie_child_of, with_mode, Spaces, view_at, Console, cycle, Mode, Running, Trap, put, slot, Computed, is_zombie_mode, State, holds, ready, Answers, Bor, FnReturns, Shared}
 use Rattle.kernel.proofs.Masks.{set-in, set-past}
 use Rattle.kernel.proofs.Runs.{eq-self}
 use Rattle.kernel.proofs.Watching.{exited-is, no-zombie, unready-asleep, watched-bytes, watched-ended, watched-put, watched-running, watched-ticks, watched-woken, child-map}
-use Rattle.proc.specs.Pick.{Answers}
 use Rattle.proc.specs.Places as table
 use Rattle.spaces.specs.Spaces as spaces
-use Rattle.std.specs.Borrow.{Bor}
-use Rattle.std.specs.Fn.{FnReturns, Shared}
 
 -- ---- the mask says nothing of the rest
 

@@ -1,9 +1,9 @@
 -- Whoever may be ready is awake, whatever changes.
-use Rattle.kernel.proofs.Common.{Bool, List, None, Option, Some, [], ap, arith, false, inl, inr, is_some, length, map, nat_eq, not, option_map, refl, subst, sym, true, ℕ, ℤ, ◌<◌, ◌||◌, ◌∙◌, ◌≡◌, ◌≢◌, ◌==◌, no_pages, with_space}
-use Rattle.kernel.proofs.Common.{unwrap_or, nat_lt, ◌∷◌, zero, suc, if◌then◌else◌, option_and_then, slice_set, list_any, and_parts, not-false, not_from_true, or_from, or_parts, true≢false, true_from_ne_false}
-use Rattle.kernel.proofs.Common.{length-map, length-set, target_of, Counted, moved, moved_to, opens_of, awaited_in, has_slept, seen, IsAsleep, IsAsleepAs, IsWatched, roused, waits_as, waits_in, waits_on}
-use Rattle.kernel.proofs.Common.{Bytes, Children, Ticks, Process, all_in, is_in, Places, exited, is_zombie_child_of, orphaned, place_where, zombie_of, Call, Read, Sleep, Wait, Write, Mode, Ready}
-use Rattle.kernel.proofs.Common.{Running, Waiting, Zombie, Pending, put, slot, taken, low, Console, End, is_end, pipe_room, OnNode, OnPipe, pending_arg, is_running_mode, is_zombie_mode, State, has_end, holds}
+use Rattle.kernel.proofs.Common.{Bool, List, None, Option, Some, [], ap, arith, false, inl, inr, is_some, length, map, nat_eq, not, option_map, refl, subst, sym, true, ℕ, ℤ, ◌<◌, ◌||◌, ◌∙◌, ◌≡◌, ◌≢◌, ◌==◌, no_pages}
+use Rattle.kernel.proofs.Common.{with_space, unwrap_or, nat_lt, ◌∷◌, zero, suc, if◌then◌else◌, option_and_then, slice_set, list_any, and_parts, not-false, not_from_true, or_from, or_parts, true≢false}
+use Rattle.kernel.proofs.Common.{true_from_ne_false, length-map, length-set, target_of, Counted, moved, moved_to, opens_of, awaited_in, has_slept, seen, IsAsleep, IsAsleepAs, IsWatched, roused, waits_as, waits_in}
+use Rattle.kernel.proofs.Common.{waits_on, Bytes, Children, Ticks, Process, all_in, is_in, Places, exited, is_zombie_child_of, orphaned, place_where, zombie_of, Call, Read, Sleep, Wait, Write, Mode, Ready, Running}
+use Rattle.kernel.proofs.Common.{Waiting, Zombie, Pending, put, slot, taken, low, Console, End, is_end, pipe_room, OnNode, OnPipe, pending_arg, is_running_mode, is_zombie_mode, State, has_end, holds, ReadEnd, WriteEnd}
 use Rattle.files.specs.declared.file.Target as file
 use Rattle.files.specs.declared.file.Target.TheVariants as target
 use Rattle.kernel.proofs.Holding.{slot-map}
@@ -13,7 +13,6 @@ use Rattle.kernel.proofs.Runs.{same_or_not, slot-other, slot-put}
 use Rattle.proc.proofs.Looking.{all-in}
 use Rattle.proc.specs.Places as table
 use Rattle.unixmodel.specs.OpenFiles.{OpenFile, Target}
-use Rattle.unixmodel.specs.OpenFiles.End.{ReadEnd, WriteEnd}
 use Rattle.unixmodel.specs.Turn as turn
 
 -- ---- who is asleep is not ready, and who is not ready is asleep

@@ -1,9 +1,8 @@
 -- The running process works in another directory.
-use Rattle.kernel.proofs.Common.{◌≡◌, ◌≢◌, ℕ, zero, suc, ◌+◌, ◌<◌, ◌++◌, ◌∷◌, [], List, length, Option, Some, None, refl, ap, arith, subst, sym, ◌∙◌, IfSome, Result, slice_set, sum_by-cons, sum_by-set, none-some, DeviceFault, SpaceView}
-use Rattle.kernel.proofs.Common.{FileTree, Serves, Kernel, loaded, state_of, on_hart, IsKernel, Keeps, IsInUse, IsFolder, AreHeld, dropped, all_dropped, listed, descriptors_in, files_on, home_in, homes_at, one_in, one_at}
-use Rattle.kernel.proofs.Common.{with_hold, Node, Counted, opens_of, without_opens-same, Process, put, slot, slot-within, State, put_process}
-use Rattle.files.proofs.PipesLemmas.{without_pipes-same}
-use Rattle.std.proofs.lemmas.List.Sums.{sum_by-append}
+use Rattle.kernel.proofs.Common.{◌≡◌, ◌≢◌, ℕ, zero, suc, ◌+◌, ◌<◌, ◌++◌, ◌∷◌, [], List, length, Option, Some, None, refl, ap, arith, subst, sym, ◌∙◌, IfSome, Result, slice_set, sum_by-cons}
+use Rattle.kernel.proofs.Common.{sum_by-set, none-some, DeviceFault, SpaceView, FileTree, Serves, Kernel, loaded, state_of, on_hart, IsKernel, Keeps, IsInUse, IsFolder, AreHeld, dropped, all_dropped}
+use Rattle.kernel.proofs.Common.{listed, descriptors_in, files_on, home_in, homes_at, one_in, one_at, with_hold, Node, Counted, opens_of, without_opens-same, Process, put, slot, slot-within, State}
+use Rattle.kernel.proofs.Common.{put_process, without_pipes-same, sum_by-append, MayWorkIn, WorksIn, home_at, working_in, with_directory, joined, IsWhole, reap, without_nodes, without_pipes}
 use Rattle.kernel.proofs.Closing.{told-as, told-kernel}
 use Rattle.kernel.proofs.Dropping.{counted}
 use Rattle.kernel.proofs.Holding.{AreAway, AreOldHomes, fewer-held, fewer-nodes, fewer-used, hold-more, homes-set, named_in}
@@ -14,11 +13,6 @@ use Rattle.kernel.proofs.Runs.{home-running, loaded-run, set-twice}
 use Rattle.kernel.proofs.Turning.{Runner, me_of, renamed-kernel, renamed-run, renamed-state, renamed_to, runner-of}
 use Rattle.kernel.proofs.Wakes.{running-at}
 use Rattle.kernel.proofs.Watching.{watched-running}
-use Rattle.kernel.specs.Processes.{MayWorkIn, WorksIn, home_at, working_in}
-use Rattle.proc.specs.Places.{with_directory}
-use Rattle.kernel.specs.Whole.{joined}
-use Rattle.tree.specs.Whole.{IsWhole}
-use Rattle.unixmodel.specs.Reap.{reap, without_nodes, without_pipes}
 
 -- ---- who holds what
 

@@ -1,13 +1,10 @@
 -- The bits of a number, and the places of a mask.
-use Rattle.std.proofs.Common.{Bool, List, ap, arith, false, inl, inr, length, refl, sym, suc, true, w64, zero, ℕ, ◌%◌, ◌*◌, ◌+◌, ◌-◌, ◌/◌, ◌<◌, ◌==◌, ◌∙◌, ◌≡◌, ◌≢◌, ◌≤◌, ◌^◌, max}
-use Rattle.std.specs.Prelude.{bit_and, bit_or, slice_set}
+use Rattle.proc.proofs.Common.{Bool, List, ap, arith, false, inl, inr, length, refl, sym, suc, true, w64, zero, ℕ, ◌%◌, ◌*◌, ◌+◌, ◌-◌, ◌/◌, ◌<◌, ◌==◌, ◌∙◌, ◌≡◌, ◌≢◌, ◌≤◌, ◌^◌, max}
+use Rattle.proc.proofs.Common.{bit_and, bit_or, slice_set, cases_eq, cases_lt, ext_get_or, get_or-set_other, get_or-set_same, set_past, IsNext, NoneIsIn, bits_of, is_in, place_in_round}
 use Rattle.std.specs.Int.{bit_at, bit_not, rotate_right, trailing_zeros}
-use Rattle.std.proofs.lemmas.Bool.{cases_eq, cases_lt}
-use Rattle.std.proofs.lemmas.List.{ext_get_or, get_or-set_other, get_or-set_same, length-set, set_past}
+use Rattle.std.proofs.lemmas.List.{length-set}
 use Rattle.std.proofs.lemmas.Nat.{mod_below, or_lt, pow_pos, shr-shr, shr_le, shr_split}
 use Rattle.std.proofs.lemmas.Nat.Bits.{bit_at-suc, bit_at-trailing_zeros, bit_at-zero, bit_at_above, bit_at_cat_high, bit_at_cat_low, bit_at_clear_other, bit_at_clear_same, bit_at_lowest, bit_at_or, bit_at_set_other, bit_at_set_same, shr_and_one}
-use Rattle.proc.specs.Mask.{IsNext, NoneIsIn, bits_of, is_in}
-use Rattle.proc.specs.Pick.{place_in_round}
 
 -- ---- the list of bits
 

@@ -1,15 +1,7 @@
 -- The least pid above another, found by a walk over the places.
-use Rattle.std.proofs.Common.{Bool, List, None, Option, Some, [], ap, arith, false, inl, inr, length, refl, suc, sym, take, true, ℕ, ◌+◌, ◌<◌, ◌≤◌, ◌∙◌, ◌≡◌, ◌∷◌}
-use Rattle.std.specs.Prelude.{cond, is_some, nat_lt, not, position, ◌==◌, ◌||◌}
-use Rattle.std.specs.List.{list_any, position_or_len}
-use Rattle.std.proofs.lemmas.Bool.{cases_lt, eq-eqb, le-ltb, lt-ltb, ne_eqb}
-use Rattle.std.proofs.lemmas.List.{take_all}
+use Rattle.proc.proofs.Common.{Bool, List, None, Option, Some, [], ap, arith, false, inl, inr, length, refl, suc, sym, take, true, ℕ, ◌+◌, ◌<◌, ◌≤◌, ◌∙◌, ◌≡◌, ◌∷◌, cond, is_some, nat_lt, not}
+use Rattle.proc.proofs.Common.{position, ◌==◌, ◌||◌, list_any, position_or_len, cases_lt, eq-eqb, le-ltb, lt-ltb, ne_eqb, take_all, IsNextOf, lesser, has_pid, place_where, Process, slot, holds}
 use Rattle.std.proofs.lemmas.List.Folds.{list_any_more}
-use Rattle.proc.specs.Next.{IsNextOf, lesser}
-use Rattle.proc.specs.Places.{has_pid, place_where}
-use Rattle.proc.specs.declared.process.Process.{Process}
-use Rattle.unixmodel.specs.Files.{slot}
-use Rattle.unixmodel.specs.State.{holds}
 
 -- ---- of pids
 

@@ -1,10 +1,6 @@
 -- A pick that goes on from a turn of its round.
-use Rattle.std.proofs.Common.{Bool, List, arith, false, inl, inr, length, refl, subst, suc, sym, true, zero, ℕ, ◌+◌, ◌<◌, ◌∙◌, ◌≡◌, ◌≤◌}
-use Rattle.std.specs.Prelude.{slice_set}
-use Rattle.std.proofs.lemmas.Bool.{cases_eq, cases_lt}
-use Rattle.std.proofs.lemmas.List.{get_or-set_other, get_or-set_same}
-use Rattle.proc.specs.Mask.{IsNext, NoneIsIn, all_in, is_in}
-use Rattle.proc.specs.Pick.{IsFirst, NoneSays, place_in_round}
+use Rattle.proc.proofs.Common.{Bool, List, arith, false, inl, inr, length, refl, subst, suc, sym, true, zero, ℕ, ◌+◌, ◌<◌, ◌∙◌, ◌≡◌, ◌≤◌, slice_set}
+use Rattle.proc.proofs.Common.{cases_eq, cases_lt, get_or-set_other, get_or-set_same, IsNext, NoneIsIn, all_in, is_in, IsFirst, NoneSays, place_in_round}
 
 -- in the set of all places each is
 pub all-in : (n i : ℕ) → is_in (all_in n) i ≡ true

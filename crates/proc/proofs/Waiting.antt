@@ -1,26 +1,16 @@
 -- Where processes may wait.
-use Rattle.std.proofs.Common.{Bool, List, None, Ok, Option, Some, [], ap, arith, false, inl, inr, length, length-set, map, option_map, refl, subst, suc, sym, true, zero, ℕ, ◌+◌, ◌-◌, ◌<◌, ◌∙◌, ◌∷◌, ◌≡◌, ◌≤◌}
-use Rattle.std.specs.Prelude.{Err, if◌then◌else◌, nat_le, slice_set}
-use Rattle.std.specs.List.{refill}
-use Rattle.std.proofs.lemmas.Bool.{cases_eq, cases_lt, leb-true, true≢false}
-use Rattle.std.proofs.lemmas.List.{get_or-set_other}
+use Rattle.proc.proofs.Common.{Bool, List, None, Ok, Option, Some, [], ap, arith, false, inl, inr, length, map, option_map, refl, subst, suc, sym, true, zero, ℕ, ◌+◌, ◌-◌, ◌<◌, ◌∙◌, ◌∷◌, ◌≡◌, ◌≤◌, Err}
+use Rattle.proc.proofs.Common.{if◌then◌else◌, nat_le, slice_set, refill, cases_eq, cases_lt, leb-true, true≢false, get_or-set_other, IsFirstFrom, IsNext, NoneFrom, NoneIsIn, all_in, is_in, place_in_round}
+use Rattle.proc.proofs.Common.{Places, is_child_of, orphaned, seat_at, seat_of, AreWithin, IsFirstWaiting, IsWithin, NoneWaits, waits_so, with_place, Process, Inside, WaitPlaces, free_slot, slot, holds}
+use Rattle.std.proofs.Common.{length-set}
 use Rattle.arrayvec.proofs.ArrayVecLemmas.{items-with_items}
-use Rattle.proc.specs.Mask.{IsFirstFrom, IsNext, NoneFrom, NoneIsIn, all_in, is_in}
-use Rattle.proc.specs.Pick.{place_in_round}
-use Rattle.proc.specs.Places.{Places, is_child_of, orphaned, seat_at, seat_of}
 use Rattle.proc.specs.Sound.{IsSound}
-use Rattle.proc.specs.Waits.{AreWithin, IsFirstWaiting, IsWithin, NoneWaits, waits_so, with_place}
-use Rattle.proc.specs.declared.process.Process.{Process}
 use Rattle.proc.specs.declared.table.ProcFault.TheVariants.{Pids}
 use Rattle.proc.specs.declared.table.Seat.{Seat}
-use Rattle.proc.specs.declared.table.Table.TheInside.{Inside}
 use Rattle.proc.specs.declared.waits.WaitKind.{WaitKind}
 use Rattle.proc.specs.declared.waits.WaitKind.TheVariants.{Child, Time, Transfer}
-use Rattle.proc.specs.declared.waits.WaitPlaces.{WaitPlaces}
 use Rattle.proc.proofs.Looking.{all-in}
-use Rattle.unixmodel.specs.Files.{free_slot, slot}
 use Rattle.unixmodel.specs.Process.{last_pid}
-use Rattle.unixmodel.specs.State.{holds}
 
 -- ---- the first place of a mask from one on: a round that begins after the last place
 

@@ -1,30 +1,13 @@
 -- A program in the place of another.
-use Rattle.std.proofs.Common.{ap, arith, length, length-append, refl, subst, sym, ℕ, ◌*◌, ◌++◌, ◌+◌, ◌-◌, ◌<◌, ◌≤◌, ◌^◌, ◌∙◌, ◌≡◌, ◌∷◌, [], true, false, List, None, Ok, Option, Some}
-use Rattle.std.specs.List.{flat_map}
-use Rattle.std.specs.Prelude.{IfSome, nat_le, option_and_then, option_map}
-use Rattle.std.proofs.lemmas.Option.{none-some, cond_some}
-use Rattle.programs.specs.declared.arguments.Arguments.{Arguments}
+use Rattle.programs.proofs.Common.{ap, arith, length, length-append, refl, subst, sym, ℕ, ◌*◌, ◌++◌, ◌+◌, ◌-◌, ◌<◌, ◌≤◌, ◌^◌, ◌∙◌, ◌≡◌, ◌∷◌, [], true, false, List, None, Ok, Option, Some, flat_map, IfSome}
+use Rattle.programs.proofs.Common.{nat_le, option_and_then, option_map, none-some, cond_some, Arguments, Program, file_at, program_in, TellsProgram, Passes, plan_with, stacked, paged, space-within}
+use Rattle.programs.proofs.Common.{SpaceView, Spaces, has_space, view_at, taken_frames, with_view, held-same, FileTree, Serves, IsFile, page_frames, Files, Node, slot, Device, Directory, File, Memory}
+use Rattle.programs.proofs.Common.{zero_page, le, number_at, round_down, Loaded, Plan, Stack, loaded_of, plan, push, push_pointers, push_strings, stack_marks, with_args, with_stack, args_at, file_bytes}
 use Rattle.programs.specs.declared.executing.Started.{Started}
-use Rattle.programs.specs.declared.headers.Program.{Program}
 use Rattle.programs.specs.Executed.{IsExecuted, frames_beside, plan_at}
-use Rattle.programs.specs.Headed.{file_at, program_in, TellsProgram}
-use Rattle.programs.specs.Passed.{Passes, plan_with, stacked}
-use Rattle.programs.specs.Placed.{paged}
 use Rattle.programs.proofs.Loads.{IsProgram, is-program}
 use Rattle.programs.proofs.Places.{length-write}
 use Rattle.programs.proofs.Serving.{file-kept-on}
-use Rattle.file_transfers.proofs.Pieces.{space-within}
-use Rattle.spaces.specs.Spaces.{SpaceView, Spaces, has_space, view_at, taken_frames, with_view}
-use Rattle.spaces.proofs.SpacesLemmas.{held-same}
-use Rattle.tree.specs.Tree.{FileTree, Serves}
-use Rattle.tree.specs.Written.{IsFile}
-use Rattle.unixmodel.specs.Counts.{page_frames}
-use Rattle.unixmodel.specs.Files.{Files, Node, slot}
-use Rattle.unixmodel.specs.Files.Node.{Device, Directory, File}
-use Rattle.unixmodel.specs.Memory.{Memory, zero_page}
-use Rattle.unixmodel.specs.Numbers.{le, number_at, round_down}
-use Rattle.unixmodel.specs.Plan.{Loaded, Plan, Stack, loaded_of, plan, push, push_pointers, push_strings, stack_marks, with_args, with_stack}
-use Rattle.unixmodel.specs.ProcessCalls.{args_at, file_bytes}
 
 -- ---- how many pages a plan has
 

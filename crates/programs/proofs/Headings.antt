@@ -1,33 +1,14 @@
 -- What the headers of a program file say, as they are read one after the other.
-use Rattle.std.proofs.Common.{ap, append-nil, arith, drop, le_trans, length, refl, subst, sym, take, ℕ, zero, suc, ◌%◌, ◌*◌, ◌++◌, ◌+◌, ◌-◌, ◌/◌, ◌<◌, ◌∙◌, ◌≡◌, ◌≢◌, ◌≤◌, Bool, true, false, List, None, Ok, Err, Option, Result, Some, length-append}
-use Rattle.std.specs.Prelude.{IfSome, if◌then◌else◌, nat_le, option_and_then, option_map, replicate, slice_range, ◌&&◌, ◌==◌, ◌^◌}
-use Rattle.std.proofs.lemmas.Bool.{le-leb}
-use Rattle.std.proofs.lemmas.Bool.Decides.{nat_tests}
-use Rattle.std.proofs.lemmas.List.{drop_all, length-replicate}
-use Rattle.std.proofs.lemmas.Option.{none-some, same_Some}
-use Rattle.blockdev.specs.declared.DeviceFault.{DeviceFault}
-use Rattle.blockdev.specs.Splice.{part}
-use Rattle.elf.specs.declared.ElfFault.{ElfFault}
-use Rattle.elf.specs.declared.ElfFault.TheVariants.{Magic, Short}
-use Rattle.elf.specs.declared.FileHeader.{FileHeader}
-use Rattle.elf.specs.declared.LoadSegment.{LoadSegment}
-use Rattle.elf.specs.Headers.{header_in, header_of, is_within, segment_if, segment_shown, wrong}
-use Rattle.elf.proofs.Plans.{header_in-part, headers_by, loaded_by, loads-header, loads-segment, segment_at-part}
-use Rattle.inode.specs.declared.InodeStat.{InodeStat}
-use Rattle.programs.specs.declared.headers.Program.{Program}
-use Rattle.programs.specs.Headed.{IsRead, end_behind, end_by, file_at, headed, program_in, segment_behind, unless_refused, Tells, TellsProgram, end_of}
+use Rattle.programs.proofs.Common.{ap, append-nil, arith, drop, le_trans, length, refl, subst, sym, take, ℕ, zero, suc, ◌%◌, ◌*◌, ◌++◌, ◌+◌, ◌-◌, ◌/◌, ◌<◌, ◌∙◌, ◌≡◌, ◌≢◌, ◌≤◌, Bool, true, false, List, None, Ok}
+use Rattle.programs.proofs.Common.{Err, Option, Result, Some, length-append, IfSome, if◌then◌else◌, nat_le, option_and_then, option_map, replicate, slice_range, ◌&&◌, ◌==◌, ◌^◌, le-leb, nat_tests, drop_all}
+use Rattle.programs.proofs.Common.{length-replicate, none-some, same_Some, DeviceFault, part, ElfFault, Magic, Short, FileHeader, LoadSegment, header_in, header_of, is_within, segment_if, segment_shown, wrong}
+use Rattle.programs.proofs.Common.{header_in-part, headers_by, loaded_by, loads-header, loads-segment, segment_at-part, InodeStat, Program, IsRead, end_behind, end_by, file_at, headed, program_in}
+use Rattle.programs.proofs.Common.{segment_behind, unless_refused, TellsProgram, end_of, FileTree, Serves, IsFile, Files, Node, slot, Device, Directory, File, Perm, pages_of, zero_page, ceil_div, number_at}
+use Rattle.programs.proofs.Common.{Loaded, Segment, load_segment, load_segments, loaded_of, may_follow, nothing_loaded, segment_at, segment_marks, segment_pages, with_segment, file_bytes, bytes_or_none}
+use Rattle.programs.specs.Headed.{Tells}
 use Rattle.file_transfers.proofs.Fits.{serves-told}
 use Rattle.programs.proofs.Serving.{HasRead, HasSeen}
 use Rattle.tree.specs.Telling as telling
-use Rattle.tree.specs.Tree.{FileTree, Serves}
-use Rattle.tree.specs.Written.{IsFile}
-use Rattle.unixmodel.specs.Files.{Files, Node, slot}
-use Rattle.unixmodel.specs.Files.Node.{Device, Directory, File}
-use Rattle.unixmodel.specs.Memory.{Perm, pages_of, zero_page}
-use Rattle.unixmodel.specs.Numbers.{ceil_div, number_at}
-use Rattle.unixmodel.specs.Plan.{Loaded, Segment, load_segment, load_segments, loaded_of, may_follow, nothing_loaded, segment_at, segment_marks, segment_pages, with_segment}
-use Rattle.unixmodel.specs.ProcessCalls.{file_bytes}
-use Rattle.unixmodel.specs.Shown.{bytes_or_none}
 
 -- ---- what a read of bytes that the file has tells
 

@@ -1,3 +1,4 @@
+mod Common
 pub mod Executions
 pub mod Headings
 pub mod Loads

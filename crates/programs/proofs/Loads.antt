@@ -1,30 +1,13 @@
 -- The program headers of a file, as their segments are loaded.
-use Rattle.std.proofs.Common.{ap, arith, length, refl, subst, sym, take, drop, ℕ, suc, ◌%◌, ◌*◌, ◌++◌, ◌+◌, ◌-◌, ◌<◌, ◌∙◌, ◌≡◌, ◌≤◌, ◌^◌, ◌&&◌, Bool, true, false, List, None, Ok, Err, Option, Some, Result, length-append, le_trans}
-use Rattle.std.specs.Prelude.{IfSome, if◌then◌else◌, nat_le, nat_lt, not, option_map, ◌==◌}
-use Rattle.std.proofs.lemmas.Bool.Decides.{nat_tests}
-use Rattle.std.proofs.lemmas.Option.{none-some, same_Some}
-use Rattle.elf.specs.declared.ElfFault.{ElfFault}
-use Rattle.elf.specs.declared.ElfFault.TheVariants.{Align, Overlap, Short, Sizes}
-use Rattle.elf.specs.declared.FileHeader.{FileHeader}
-use Rattle.elf.specs.declared.LoadSegment.{LoadSegment}
-use Rattle.elf.specs.Headers.{header_in, header_of, is_within, segment_if, segment_shown, wrong}
-use Rattle.elf.proofs.Plans.{headers_by, loaded_by, loads-header, loads-segment, segment_at-part}
-use Rattle.programs.specs.declared.headers.Program.{Program}
-use Rattle.programs.specs.Headed.{file_at, program_in, segment_behind, unless_refused, Tells}
-use Rattle.programs.specs.Placed.{Follows, HasRoom, IsPaged, Leaves, next_in, paged, LoadsSegment}
+use Rattle.programs.proofs.Common.{ap, arith, length, refl, subst, sym, take, drop, ℕ, suc, ◌%◌, ◌*◌, ◌++◌, ◌+◌, ◌-◌, ◌<◌, ◌∙◌, ◌≡◌, ◌≤◌, ◌^◌, ◌&&◌, Bool, true, false, List, None, Ok, Err, Option, Some, Result}
+use Rattle.programs.proofs.Common.{length-append, le_trans, IfSome, if◌then◌else◌, nat_le, nat_lt, not, option_map, ◌==◌, nat_tests, none-some, same_Some, ElfFault, Align, Overlap, Short, Sizes, FileHeader}
+use Rattle.programs.proofs.Common.{LoadSegment, header_in, header_of, is_within, segment_if, segment_shown, wrong, headers_by, loaded_by, loads-header, loads-segment, segment_at-part, Program, file_at, program_in}
+use Rattle.programs.proofs.Common.{segment_behind, unless_refused, Follows, HasRoom, IsPaged, Leaves, next_in, paged, LoadsSegment, IsFile, SpaceView, Spaces, has_space, view_at, no_pages, with_view, FileTree}
+use Rattle.programs.proofs.Common.{Serves, File, bytes_or_none, InodeStat, stacked, Memory, ceil_div, Loaded, load_segment, load_segments, loaded_of, nothing_loaded, segment_at, segment_pages, with_segment}
+use Rattle.programs.specs.Headed.{Tells}
 use Rattle.programs.proofs.Headings.{HasLoaded, header-within, is-headed, loads-next, loads-one, none-read, whole-more, KeepsWhole, all-related}
 use Rattle.programs.proofs.Places.{has-held, held-twice, is-held, room-less, room-with, self-held}
 use Rattle.programs.proofs.Serving.{HasSeen}
-use Rattle.tree.specs.Written.{IsFile}
-use Rattle.spaces.specs.Spaces.{SpaceView, Spaces, has_space, view_at, no_pages, with_view}
-use Rattle.tree.specs.Tree.{FileTree, Serves}
-use Rattle.unixmodel.specs.Files.Node.{File}
-use Rattle.unixmodel.specs.Shown.{bytes_or_none}
-use Rattle.inode.specs.declared.InodeStat.{InodeStat}
-use Rattle.programs.specs.Passed.{stacked}
-use Rattle.unixmodel.specs.Memory.{Memory}
-use Rattle.unixmodel.specs.Numbers.{ceil_div}
-use Rattle.unixmodel.specs.Plan.{Loaded, load_segment, load_segments, loaded_of, nothing_loaded, segment_at, segment_pages, with_segment}
 
 -- ---- a segment that isn't refused
 

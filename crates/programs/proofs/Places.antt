@@ -1,31 +1,13 @@
 -- The pages of a place, as a program comes into them.
-use Rattle.std.proofs.Common.{ap, append-nil, append_assoc, arith, drop, get_or-set_same, None, Ok, Option, Some, List, slice_set, length, length-append, refl, replicate, subst, sym, take, ℕ, zero, suc, ◌%◌, ◌*◌, ◌++◌, ◌+◌, ◌-◌, ◌/◌, ◌<◌, ◌∙◌, ◌≡◌, ◌≤◌, ◌∷◌, [], Bool, true, false}
+use Rattle.programs.proofs.Common.{ap, append-nil, append_assoc, arith, drop, get_or-set_same, None, Ok, Option, Some, List, slice_set, length, length-append, refl, replicate, subst, sym, take, ℕ, zero, suc, ◌%◌, ◌*◌, ◌++◌, ◌+◌, ◌-◌}
+use Rattle.programs.proofs.Common.{◌/◌, ◌<◌, ◌∙◌, ◌≡◌, ◌≤◌, ◌∷◌, [], Bool, true, false, Err, OnErr, OnOk, Result, if◌then◌else◌, is_some, lt-ltb, nat_tests, drop-replicate, drop_all, drop_at, replicate-append-replicate, set-get_or}
+use Rattle.programs.proofs.Common.{take_at, drop-drop, length-drop, length-replicate, length-take, length-take-le, set-set, length-map, take-add, part, LoadSegment, is_within, segment_shown, DeviceFault, stacked, file_at, Follows}
+use Rattle.programs.proofs.Common.{HasRoom, IsPaged, Leaves, paged, with_more, SpaceView, Spaces, frames_in, has_space, view_at, taken_frames, with_view, written, held-same, taken-placed, within, held-there, none-written, space-within}
+use Rattle.programs.proofs.Common.{with-more, FileTree, Serves, page_frames, slot, Perm, Memory, Page, overwrite, pages_of, write_bytes, write_from, zero_page, zeros, ceil_div, Segment, segment_marks, segment_pages, stack_marks, IsSized}
 use Rattle.file_transfers.proofs.Memory.{marks-written}
-use Rattle.std.specs.Prelude.{Err, OnErr, OnOk, Result, if◌then◌else◌, is_some}
-use Rattle.std.proofs.lemmas.Bool.{lt-ltb}
-use Rattle.std.proofs.lemmas.Bool.Decides.{nat_tests}
 use Rattle.std.proofs.Math.Nat.{zero-add}
-use Rattle.std.proofs.lemmas.List.{drop-replicate, drop_all, drop_at, replicate-append-replicate, set-get_or, take_at, drop-drop, length-drop, length-replicate, length-take, length-take-le, set-set, length-map}
-use Rattle.std.proofs.Math.Seq.{take-add}
-use Rattle.blockdev.specs.Splice.{part}
-use Rattle.elf.specs.declared.LoadSegment.{LoadSegment}
-use Rattle.elf.specs.Headers.{is_within, segment_shown}
-use Rattle.blockdev.specs.declared.DeviceFault.{DeviceFault}
-use Rattle.programs.specs.Passed.{stacked}
 use Rattle.programs.proofs.Stacks.{write-stack}
-use Rattle.programs.specs.Headed.{file_at}
-use Rattle.programs.specs.Placed.{Follows, HasRoom, IsPaged, Leaves, paged, with_more}
-use Rattle.spaces.specs.Spaces.{SpaceView, Spaces, frames_in, has_space, view_at, taken_frames, with_view, written}
-use Rattle.spaces.proofs.SpacesLemmas.{held-same, taken-placed, within}
 use Rattle.file_transfers.specs.Moved.{with_bytes}
-use Rattle.file_transfers.proofs.Pieces.{held-there, none-written, space-within, with-more}
-use Rattle.tree.specs.Tree.{FileTree, Serves}
-use Rattle.unixmodel.specs.Counts.{page_frames}
-use Rattle.unixmodel.specs.Files.{slot}
-use Rattle.unixmodel.specs.Memory.{Perm, Memory, Page, overwrite, pages_of, write_bytes, write_from, zero_page, zeros}
-use Rattle.unixmodel.specs.Numbers.{ceil_div}
-use Rattle.unixmodel.specs.Plan.{Segment, segment_marks, segment_pages, stack_marks}
-use Rattle.vm.specs.Reach.{IsSized}
 
 -- ---- frames
 

@@ -1,16 +1,9 @@
 -- The exits of functions that read a file in steps.
-use Rattle.std.proofs.Common.{Err, IsErrAnd, List, Ok, Result, Some, ap, arith, drop, false, le_trans, length, refl, subst, sym, ℕ, ◌++◌, ◌-◌, ◌∙◌, ◌≡◌, ◌≤◌}
-use Rattle.std.specs.Prelude.{IfOk, OnErr, OnOk, min}
+use Rattle.programs.proofs.Common.{Err, IsErrAnd, List, Ok, Result, Some, ap, arith, drop, false, le_trans, length, refl, subst, sym, ℕ, ◌++◌, ◌-◌, ◌∙◌, ◌≡◌}
+use Rattle.programs.proofs.Common.{◌≤◌, IfOk, OnErr, OnOk, min, DeviceFault, part, InodeStat, Leaves, FileTree, Serves, IsFile, Files, Node, node_bytes, slot}
 use Rattle.std.proofs.lemmas.Result.{err_from_is_err_and}
-use Rattle.blockdev.specs.declared.DeviceFault.{DeviceFault}
-use Rattle.blockdev.specs.Splice.{part}
-use Rattle.inode.specs.declared.InodeStat.{InodeStat}
-use Rattle.programs.specs.Placed.{Leaves}
 pub use Rattle.file_transfers.proofs.Fits.{serves-told}
 use Rattle.tree.specs.Telling.{Tells}
-use Rattle.tree.specs.Tree.{FileTree, Serves}
-use Rattle.tree.specs.Written.{IsFile}
-use Rattle.unixmodel.specs.Files.{Files, Node, node_bytes, slot}
 
 -- ---- what steps tell
 

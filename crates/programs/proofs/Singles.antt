@@ -1,13 +1,7 @@
 -- One string as the only argument.
-use Rattle.std.proofs.Common.{ap, arith, length, length-append, refl, subst, take, ℕ, ◌*◌, ◌++◌, ◌+◌, ◌<◌, ◌∙◌, ◌≡◌, ◌≤◌, ◌∷◌, [], List, None, Option}
-use Rattle.std.specs.List.{flat_map}
-use Rattle.std.specs.Prelude.{option_map}
-use Rattle.programs.specs.declared.arguments.Arguments.{Arguments}
-use Rattle.programs.specs.Passed.{Finishes, HasPushed, PassesOne, plan_with}
+use Rattle.programs.proofs.Common.{ap, arith, length, length-append, refl, subst, take, ℕ, ◌*◌, ◌++◌, ◌+◌, ◌<◌, ◌∙◌, ◌≡◌, ◌≤◌, ◌∷◌, [], List, None, Option, flat_map, option_map}
+use Rattle.programs.proofs.Common.{Arguments, Finishes, HasPushed, PassesOne, plan_with, Memory, overwrite, zeros, le, finished, push, push_pointers, push_strings, with_args, with_stack}
 use Rattle.programs.proofs.Stacks.{finishes, pointers-low, push-under, pushed, refused-under, spelled-all, spelled-more, stack_with}
-use Rattle.unixmodel.specs.Memory.{Memory, overwrite, zeros}
-use Rattle.unixmodel.specs.Numbers.{le}
-use Rattle.unixmodel.specs.Plan.{finished, push, push_pointers, push_strings, with_args, with_stack}
 
 module _ (pages : Memory) (pc : ℕ) (string : List ℕ) where
   abbrev bytes : List ℕ

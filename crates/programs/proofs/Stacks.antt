@@ -1,23 +1,11 @@
 -- The stack of a program as its arguments are pushed.
-use Rattle.std.proofs.Common.{ap, append-nil, append_assoc, arith, drop, length, length-append, refl, subst, sym, take, ℕ, zero, suc, ◌%◌, ◌*◌, ◌++◌, ◌+◌, ◌-◌, ◌/◌, ◌<◌, ◌∙◌, ◌≡◌, ◌≢◌, ◌≤◌, ◌∷◌, [], Bool, true, false, List, None, Option, Some}
+use Rattle.programs.proofs.Common.{ap, append-nil, append_assoc, arith, drop, length, length-append, refl, subst, sym, take, ℕ, zero, suc, ◌%◌, ◌*◌, ◌++◌, ◌+◌, ◌-◌, ◌/◌, ◌<◌, ◌∙◌, ◌≡◌, ◌≢◌, ◌≤◌, ◌∷◌, [], Bool, true, false, List, None}
+use Rattle.programs.proofs.Common.{Option, Some, flat_map, if◌then◌else◌, nat_le, nat_lt, option_and_then, option_map, ◌==◌, le-leb, lt-leb, nat_tests, drop-drop, drop-replicate, length-drop, length-take, take-replicate, take_all, take_at}
+use Rattle.programs.proofs.Common.{none-some, same_Some, take-append-add, Arguments, Finishes, HasPushed, Passes, PushesString, plan_with, stacked, word_in, Load, Memory, Page, overwrite, reach, string_at, write_bytes, write_from}
+use Rattle.programs.proofs.Common.{zero_page, zeros, le, number_at, round_down, Plan, Stack, finished, push, push_pointers, push_strings, stack_marks, with_args, with_stack, and_then_strings, args_at, strings_at, words_before_zero, IsSized}
 use Rattle.std.proofs.lemmas.Grind.{flat_map-append}
-use Rattle.std.specs.List.{flat_map}
-use Rattle.std.specs.Prelude.{if◌then◌else◌, nat_le, nat_lt, option_and_then, option_map, ◌==◌}
-use Rattle.std.proofs.lemmas.Bool.{le-leb, lt-leb}
-use Rattle.std.proofs.lemmas.Bool.Decides.{nat_tests}
-use Rattle.std.proofs.lemmas.List.{drop-drop, drop-replicate, length-drop, length-take, take-replicate, take_all, take_at}
 use Rattle.std.proofs.lemmas.List.Concat.{flat_map-cons}
-use Rattle.std.proofs.lemmas.Option.{none-some, same_Some}
-use Rattle.std.proofs.Math.Seq.{take-append-add}
 use lib.Seq.{drop-append-add}
-use Rattle.programs.specs.declared.arguments.Arguments.{Arguments}
-use Rattle.programs.specs.Passed.{Finishes, HasPushed, Passes, PushesString, plan_with, stacked, word_in}
-use Rattle.unixmodel.specs.declared.trap.Access.TheVariants.{Load}
-use Rattle.unixmodel.specs.Memory.{Memory, Page, overwrite, reach, string_at, write_bytes, write_from, zero_page, zeros}
-use Rattle.unixmodel.specs.Numbers.{le, number_at, round_down}
-use Rattle.unixmodel.specs.Plan.{Plan, Stack, finished, push, push_pointers, push_strings, stack_marks, with_args, with_stack}
-use Rattle.unixmodel.specs.ProcessCalls.{and_then_strings, args_at, strings_at, words_before_zero}
-use Rattle.vm.specs.Reach.{IsSized}
 use Rattle.vm.proofs.ReachLemmas.{reach-drop}
 
 -- ---- bytes in the page of a stack

@@ -1,5 +1,4 @@
-use Rattle.kernel.proofs.Common.{◌<◌, ap, sym, subst, ◌∙◌, is_none, option_copied, descriptors_in}
-use Rattle.std.specs.Prelude.{count_by}
+use Rattle.kernel.proofs.Common.{◌<◌, ap, sym, subst, ◌∙◌, is_none, option_copied, descriptors_in, count_by}
 use Rattle.kernel.proofs.Opening.{no-free, no-place}
 use Rattle.kernel.proofs.descriptors.open_as.Goals as goal
 

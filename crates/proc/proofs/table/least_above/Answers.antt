@@ -1,5 +1,4 @@
-use Rattle.std.proofs.Common.{Option, subst, sym, ℕ, ◌+◌, ◌∙◌}
-use Rattle.proc.specs.Next.{IsNextOf}
+use Rattle.proc.proofs.Common.{Option, subst, sym, ℕ, ◌+◌, ◌∙◌, IsNextOf}
 use Rattle.proc.proofs.Following.{among-all, among-free, among-more, among-none, is_among}
 use Rattle.proc.proofs.table.least_above.Goals.{in-Some, in_default}
 use Rattle.proc.proofs.table.least_above.Goals as goal

@@ -1,5 +1,4 @@
-use Rattle.std.proofs.Common.{None, arith, option_map, sym, ◌∙◌}
-use Rattle.proc.specs.Places.{orphaned}
+use Rattle.proc.proofs.Common.{None, arith, option_map, sym, ◌∙◌, orphaned}
 use Rattle.proc.proofs.Mapped.{mapped_to-all, mapped_to-none, set-mapped_to}
 use Rattle.proc.proofs.table.orphan_all.Goals as goal
 

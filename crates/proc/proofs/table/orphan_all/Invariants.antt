@@ -1,5 +1,4 @@
-use Rattle.std.proofs.Common.{option_map, ◌≡◌}
-use Rattle.proc.specs.Places.{orphaned}
+use Rattle.proc.proofs.Common.{option_map, ◌≡◌, orphaned}
 use Rattle.proc.proofs.Mapped.{mapped_to}
 use Rattle.proc.proofs.table.orphan_all.Given as goal
 

@@ -1,6 +1,5 @@
-use Rattle.std.proofs.Common.{refl}
+use Rattle.programs.proofs.Common.{refl, zeros}
 use Rattle.programs.proofs.Singles.{one-passed, one-refused}
-use Rattle.unixmodel.specs.Memory.{zeros}
 use Rattle.programs.proofs.arguments.one_argument.Goals as goal
 
 pub returns-in_default : goal.returns-in_default

@@ -1,7 +1,5 @@
-use Rattle.std.proofs.Common.{arith, refl}
+use Rattle.programs.proofs.Common.{arith, refl, Load, zeros}
 use Rattle.programs.proofs.Stacks.{all-pushed, ended, none-pushed, string-pushed, string-refused, word-refused}
-use Rattle.unixmodel.specs.declared.trap.Access.TheVariants.{Load}
-use Rattle.unixmodel.specs.Memory.{zeros}
 use Rattle.vm.proofs.StringLemmas.{string-fits}
 use Rattle.programs.proofs.arguments.read_arguments.Goals as goal
 

@@ -1,5 +1,4 @@
-use Rattle.std.proofs.Common.{arith, refl, sym, ◌∙◌}
-use Rattle.std.proofs.lemmas.Option.{none-some}
+use Rattle.programs.proofs.Common.{arith, refl, sym, ◌∙◌, none-some}
 use Rattle.programs.proofs.Executions.{few-told, file-there, is-executed, loaded-there, not-passed, over-frames, program-none, program-of, program-there}
 use Rattle.programs.proofs.Places.{held-still, room-beside}
 use Rattle.programs.proofs.Serving.{err-left, err-told, kept-first, kept-then, lost-first, lost-later}

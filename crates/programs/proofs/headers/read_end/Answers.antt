@@ -1,7 +1,6 @@
-use Rattle.std.proofs.Common.{Ok, ap, sym, ◌∙◌}
+use Rattle.programs.proofs.Common.{Ok, ap, sym, ◌∙◌, end_by, file_at}
 use Rattle.programs.proofs.Headings.{end-told}
 use Rattle.programs.proofs.Serving.{lost-first}
-use Rattle.programs.specs.Headed.{end_by, file_at}
 use Rattle.programs.proofs.headers.read_end.Goals as goal
 
 pub returns-in_err-read_segment : goal.returns-in_err-read_segment

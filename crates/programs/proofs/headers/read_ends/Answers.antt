@@ -1,5 +1,4 @@
-use Rattle.std.proofs.Common.{ap, sym, ◌*◌, ◌+◌, ◌∙◌}
-use Rattle.elf.specs.Headers.{is_within}
+use Rattle.programs.proofs.Common.{ap, sym, ◌*◌, ◌+◌, ◌∙◌, is_within}
 use Rattle.programs.proofs.Headings.{all-loaded, loaded-more, none-loaded, refused-more}
 use Rattle.programs.proofs.headers.read_ends.Goals as goal
 

@@ -1,7 +1,5 @@
-use Rattle.std.proofs.Common.{ap, arith, length, sym, ◌∙◌}
+use Rattle.programs.proofs.Common.{ap, arith, length, sym, ◌∙◌, file_at, FileTree}
 use Rattle.programs.proofs.Serving.{file-kept-on, lost-first, lost-later}
-use Rattle.programs.specs.Headed.{file_at}
-use Rattle.tree.specs.Tree.{FileTree}
 use Rattle.programs.proofs.Headings.{ends-refused, head-refused, header-fits, program-told}
 use Rattle.programs.proofs.headers.read_headers.Goals as goal
 

@@ -1,8 +1,6 @@
-use Rattle.std.proofs.Common.{ap, length, rules, take, ◌∙◌}
+use Rattle.programs.proofs.Common.{ap, length, rules, take, ◌∙◌, size-fits, size-whole, FileTree}
 use Rattle.programs.proofs.Places.{filled-inside, filled-more, has-held, none-filled}
 use Rattle.programs.proofs.Serving.{err-done, err-left, file-kept-on, kept-on, lost-later}
-use Rattle.file_transfers.proofs.Pieces.{size-fits, size-whole}
-use Rattle.tree.specs.Tree.{FileTree}
 use Rattle.programs.proofs.loading.fill_node.Goals as goal
 
 pub loop-done-init : goal.loop-done-init

@@ -1,8 +1,7 @@
 use Rattle.programs.proofs.Loads.{header-still, is-program, last-still, stack-fits, stack-put, stat-long}
 use Rattle.programs.proofs.Places.{has-held, is-held, left-held}
 use Rattle.programs.proofs.Serving.{err-done, err-left, file-kept-on, kept-then, lost-first, lost-later}
-use Rattle.spaces.specs.Spaces.{no_pages}
-use Rattle.unixmodel.specs.Files.Node.{File}
+use Rattle.programs.proofs.Common.{no_pages, File}
 use Rattle.programs.proofs.loading.load.Goals as goal
 
 pub load_segments-requires : goal.load_segments-requires

@@ -1,9 +1,7 @@
 use Rattle.programs.proofs.Loads.{fits-next, loaded-next, never-refused, skipped-next}
 use Rattle.programs.proofs.Places.{held-still}
 use Rattle.programs.proofs.Serving.{err-told, file-kept-on, kept-first, kept-then, lost-first}
-use Rattle.std.proofs.Common.{ap, arith, length}
-use Rattle.programs.specs.Headed.{file_at}
-use Rattle.tree.specs.Tree.{FileTree}
+use Rattle.programs.proofs.Common.{ap, arith, length, file_at, FileTree}
 use Rattle.programs.proofs.loading.load_next.Goals as goal
 
 pub returns-in_err-segment : goal.returns-in_err-segment

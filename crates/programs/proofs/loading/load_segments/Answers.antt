@@ -1,5 +1,4 @@
-use Rattle.std.proofs.Common.{ap, rules, sym, ◌*◌, ◌+◌, ◌∙◌}
-use Rattle.elf.specs.Headers.{is_within}
+use Rattle.programs.proofs.Common.{ap, rules, sym, ◌*◌, ◌+◌, ◌∙◌, is_within}
 use Rattle.programs.proofs.Loads.{file-long, has-now, loading-all, loading-more, next-now, none-loading, paged-now, whole-now}
 use Rattle.programs.proofs.Places.{left-held}
 use Rattle.programs.proofs.Serving.{err-left, file-kept-on}

@@ -1,6 +1,5 @@
-use Rattle.kernel.proofs.Common.{refl, sym, kernel_of}
+use Rattle.kernel.proofs.Common.{refl, sym, kernel_of, zombie_place}
 use Rattle.kernel.proofs.Collecting.{collect-keeps, has-reaped, unreaped-go, zombie-idle, zombie-stands}
-use Rattle.proc.specs.Places.{zombie_place}
 use Rattle.kernel.proofs.kernel.Kernel.collect.Goals as goal
 
 pub invariant_of-self : goal.invariant_of-self

@@ -1,7 +1,6 @@
-use Rattle.kernel.proofs.Common.{ap, arith, Kernel, kernel_of}
+use Rattle.kernel.proofs.Common.{ap, arith, Kernel, kernel_of, duplicated}
 use Rattle.kernel.proofs.Counting.{counts-few}
 use Rattle.kernel.proofs.Renaming.{dup-keeps}
-use Rattle.kernel.specs.Opening.{duplicated}
 use Rattle.kernel.proofs.kernel.Kernel.dup.Goals as goal
 
 pub dup-requires : goal.dup-requires

@@ -1,11 +1,9 @@
-use Rattle.kernel.proofs.Common.{◌≡◌, ap, true, kernel_of, slice_set, waking, Kernel, Spaces}
+use Rattle.kernel.proofs.Common.{◌≡◌, ap, true, kernel_of, slice_set, waking, Kernel, Spaces, child_of, seated}
 use Rattle.kernel.proofs.Counting.{counts-few}
 use Rattle.kernel.proofs.Forking.{fork-by, fork-home, fork-keeps, fork-there, seat-free}
 use Rattle.kernel.proofs.Opening.{hold-few}
 use Rattle.kernel.proofs.Runs.{active-space}
 use Rattle.kernel.proofs.Turning.{runner-of}
-use Rattle.kernel.specs.Processes.{child_of}
-use Rattle.proc.specs.Places.{seated}
 use Rattle.kernel.proofs.kernel.Kernel.fork.Goals as goal
 
 pub unreachable-requires : goal.unreachable-requires

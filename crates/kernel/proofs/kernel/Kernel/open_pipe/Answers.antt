@@ -1,5 +1,4 @@
-use Rattle.kernel.proofs.Common.{ap, arith, is_some, kernel_of, Spaces}
-use Rattle.files.proofs.Free.{free-place}
+use Rattle.kernel.proofs.Common.{ap, arith, is_some, kernel_of, Spaces, free-place}
 use Rattle.kernel.proofs.Piping.{descriptor-left, pipe-keeps, pipe-made, place-left}
 use Rattle.kernel.proofs.Turning.{runner-of}
 use Rattle.kernel.proofs.kernel.Kernel.open_pipe.Goals as goal

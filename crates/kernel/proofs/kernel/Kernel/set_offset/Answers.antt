@@ -1,6 +1,5 @@
-use Rattle.kernel.proofs.Common.{ap, Kernel}
+use Rattle.kernel.proofs.Common.{ap, Kernel, advanced}
 use Rattle.kernel.proofs.Moving.{advance-keeps}
-use Rattle.kernel.specs.Opening.{advanced}
 use Rattle.kernel.proofs.kernel.Kernel.set_offset.Goals as goal
 
 pub invariant_of-self : goal.invariant_of-self

@@ -1,5 +1,4 @@
-use Rattle.std.proofs.Common.{refl}
-use Rattle.proc.specs.Mask.{all_in, bits_of}
+use Rattle.proc.proofs.Common.{refl, all_in, bits_of}
 use Rattle.proc.proofs.mask.Mask.all.Goals as goal
 
 pub returns : goal.returns

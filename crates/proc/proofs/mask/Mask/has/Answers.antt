@@ -1,5 +1,4 @@
-use Rattle.std.proofs.Common.{ap, ◌∙◌}
-use Rattle.proc.specs.Mask.{is_in}
+use Rattle.proc.proofs.Common.{ap, ◌∙◌, is_in}
 use Rattle.proc.proofs.Bits.{bit-tested}
 use Rattle.proc.proofs.mask.Mask.has.Goals as goal
 

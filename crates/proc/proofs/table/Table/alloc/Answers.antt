@@ -1,6 +1,4 @@
-use Rattle.std.proofs.Common.{Option, Some, ap, arith, ◌+◌, ◌≤◌}
-use Rattle.proc.specs.Places.{Places}
-use Rattle.proc.specs.declared.process.Process.{Process}
+use Rattle.proc.proofs.Common.{Option, Some, ap, arith, ◌+◌, ◌≤◌, Places, Process}
 use Rattle.proc.proofs.Waiting.{refilled-set, seat-pid, sound-put}
 use Rattle.proc.proofs.table.Table.alloc.Goals as goal
 

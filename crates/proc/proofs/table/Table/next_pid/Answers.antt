@@ -1,7 +1,4 @@
-use Rattle.std.proofs.Common.{List, Option, ap, is_some, subst, ◌∙◌}
-use Rattle.proc.specs.declared.process.Process.{Process}
-use Rattle.proc.specs.Next.{IsNextOf}
-use Rattle.proc.specs.Places.{Places, has_pid, place_where}
+use Rattle.proc.proofs.Common.{List, Option, ap, is_some, subst, ◌∙◌, Process, IsNextOf, Places, has_pid, place_where}
 use Rattle.proc.proofs.table.Table.next_pid.Goals as goal
 
 pub returns : goal.returns

@@ -1,7 +1,4 @@
-use Rattle.std.proofs.Common.{false, subst, sym, true, ℕ, ◌≡◌}
-use Rattle.proc.specs.Mask.{is_in}
-use Rattle.proc.specs.Pick.{Answers, IsFirst, NoneSays, place_in_round}
-use Rattle.proc.specs.Places.{Places}
+use Rattle.proc.proofs.Common.{false, subst, sym, true, ℕ, ◌≡◌, is_in, Answers, IsFirst, NoneSays, place_in_round, Places}
 use Rattle.proc.proofs.Looking.{looked-all, looked-first, looked-none, looked-on}
 use Rattle.proc.proofs.table.Table.next_ready.Goals as goal
 

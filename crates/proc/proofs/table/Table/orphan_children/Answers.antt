@@ -1,5 +1,4 @@
-use Rattle.std.proofs.Common.{option_map}
-use Rattle.proc.specs.Places.{orphaned}
+use Rattle.proc.proofs.Common.{option_map, orphaned}
 use Rattle.proc.proofs.Waiting.{refilled-map, sound-orphaned}
 use Rattle.proc.proofs.table.Table.orphan_children.Goals as goal
 

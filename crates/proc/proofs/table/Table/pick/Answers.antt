@@ -1,8 +1,4 @@
-use Rattle.std.proofs.Common.{Bool, List, [], ap, false, refl, subst, sym, true, ℕ, ◌+◌, ◌∙◌, ◌≡◌}
-use Rattle.proc.specs.Mask.{is_in}
-use Rattle.proc.specs.Pick.{Answers, IsFirst, place_in_round}
-use Rattle.proc.specs.Places.{Places}
-use Rattle.proc.specs.declared.table.Table.TheInside.{Inside}
+use Rattle.proc.proofs.Common.{Bool, List, [], ap, false, refl, subst, sym, true, ℕ, ◌+◌, ◌∙◌, ◌≡◌, is_in, Answers, IsFirst, place_in_round, Places, Inside}
 use Rattle.proc.proofs.Looking.{IsLooking, first-says, looks-begin, looks-on}
 use Rattle.proc.proofs.table.Table.pick.Goals as goal
 

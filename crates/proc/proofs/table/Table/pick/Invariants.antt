@@ -1,5 +1,4 @@
-use Rattle.std.proofs.Common.{◌-◌, ◌≡◌}
-use Rattle.proc.specs.Pick.{Answers}
+use Rattle.proc.proofs.Common.{◌-◌, ◌≡◌, Answers}
 use Rattle.proc.proofs.Looking.{IsLooking}
 use Rattle.proc.proofs.table.Table.pick.Given as goal
 

@@ -1,6 +1,4 @@
-use Rattle.std.proofs.Common.{arith, subst, sym}
-use Rattle.proc.specs.Waits.{AreWithin}
-use Rattle.proc.specs.declared.waits.WaitPlaces.{WaitPlaces}
+use Rattle.proc.proofs.Common.{arith, subst, sym, AreWithin, WaitPlaces}
 use Rattle.proc.proofs.Waiting.{within-all}
 use Rattle.proc.proofs.table.Table.starting_at.Goals as goal
 
