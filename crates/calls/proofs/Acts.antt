@@ -1,17 +1,14 @@
 -- Calls of the running process that are answered at once.
-use Rattle.calls.proofs.Common.{None, DeviceFault, ◌≡◌, Err, ℕ, List, [], Option, Some, refl, ap, subst, sym, ◌∙◌, Bool, true, false, ◌%◌, ℤ, IfOk, IfSome, Ok, OnOk, Result, slice_index, slice_set, unwrap_or, Appends}
-use Rattle.calls.proofs.Common.{IsInUse, Acts, CanCome, Comes, MayPrint, GoesOn, IsBegun, Runs, Tries, going_at, going_by, outcome_at, outcome_by, settled_by, called, pending_for, Halt, Came, Answers, Blocks, Exits}
-use Rattle.calls.proofs.Common.{Refuses, descriptors_in, Dispatches, IsLost, IsMade, IsServed, LeavesTree, waits-other, Kernel, answered, argument, blocked, counting, ended, entered, state_of, waking, has_slept}
-use Rattle.calls.proofs.Common.{IsKernel, within-state, ends-at, waits-run, state-but, IsRun, process-run, run-of, self, answer-run, Process, SpaceView, no_pages, FileTree, call_of, end_at, outcome_of, quiet, row}
-use Rattle.calls.proofs.Common.{settle, goes_on, Call, Getpid, Exit, Sleep, Uptime, slot, low, int_of, Outcome, limited, provided, Done, Refused, Waits, Pending, sleep_on, State, descriptors_at, given, After}
-use Rattle.calls.specs.declared.halt.Halt.TheVariants.{Console, Device}
+use Rattle.calls.proofs.Common.{None, DeviceFault, ◌≡◌, Err, ℕ, List, [], Option, Some, refl, ap, subst, sym, ◌∙◌, Bool, true, false, ◌%◌, ℤ, IfOk, IfSome, Ok, OnOk, Result, slice_index, slice_set, unwrap_or, Appends, IsInUse}
+use Rattle.calls.proofs.Common.{Acts, CanCome, Comes, MayPrint, GoesOn, IsBegun, Runs, Tries, going_at, going_by, outcome_at, outcome_by, settled_by, called, pending_for, Halt, Came, Answers, Blocks, Exits, Refuses}
+use Rattle.calls.proofs.Common.{descriptors_in, Dispatches, IsLost, IsMade, IsServed, LeavesTree, waits-other, Kernel, answered, argument, blocked, counting, ended, entered, state_of, waking, has_slept, IsKernel, within-state}
+use Rattle.calls.proofs.Common.{ends-at, waits-run, state-but, IsRun, process-run, run-of, self, answer-run, Process, SpaceView, no_pages, FileTree, call_of, end_at, outcome_of, quiet, row, settle, goes_on, Call, Getpid, Exit}
+use Rattle.calls.proofs.Common.{Sleep, Uptime, slot, low, int_of, Outcome, limited, provided, Done, Refused, Waits, Pending, sleep_on, State, descriptors_at, given, After, Console, descriptors-run, regs-kernel, regs-run, Runner}
+use Rattle.calls.specs.declared.halt.Halt.TheVariants.{Device}
 use Rattle.calls.proofs.Prints.{Appends-none}
 use Rattle.calls.proofs.Served.{same-served}
 use Rattle.calls.proofs.Rows.{aligned-next, int-bits, enters-kernel, enters-run, numbered}
 use Rattle.calls.proofs.Settles.{after, settle-limited, settle-done}
-use Rattle.kernel.proofs.Renaming.{descriptors-run}
-use Rattle.kernel.proofs.Running.{regs-kernel, regs-run}
-use Rattle.kernel.proofs.Turning.{Runner}
 use Rattle.unixmodel.specs.Process as unix
 
 -- the running process and its space, in a kernel that is sound, whose device has not failed

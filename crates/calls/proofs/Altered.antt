@@ -1,8 +1,6 @@
 -- Lists in which one place changes.
-use Rattle.calls.proofs.Common.{◌≡◌, ℕ, ◌+◌, Bool, zero, suc, List, [], ◌∷◌, Option, Some, None, refl, ap, sym, ◌∙◌, ◌||◌, map, option_map, slice_set, put, slot}
+use Rattle.calls.proofs.Common.{◌≡◌, ℕ, ◌+◌, Bool, zero, suc, List, [], ◌∷◌, Option, Some, None, refl, ap, sym, ◌∙◌, ◌||◌, map, option_map, slice_set, put, slot, list_any, sum_by}
 use Rattle.std.proofs.lemmas.List.Sums.{sum_by-cons}
-use Rattle.std.specs.List.{list_any}
-use Rattle.std.specs.Prelude.{sum_by}
 use Rattle.unixmodel.specs.Files.{taken}
 
 abbrev pub altered : {X : Type 0} → List (Option X) → ℕ → (X → X) → List (Option X)

@@ -1,14 +1,11 @@
 -- wait: the first zombie child of the running process goes, and its status is written.
-use Rattle.calls.proofs.Common.{◌≡◌, ◌≢◌, ℕ, zero, suc, true, false, nat_eq, List, IfSome, Option, Some, None, ℤ, refl, ap, sym, subst, ◌∙◌, arith, is_some, cast_unsigned, ne_eqb, set_comm, Acts, GoesOn, Runs, pending_for, Came}
-use Rattle.calls.proofs.Common.{Answers, Blocks, Refuses, Kernel, argument, base, descriptors_at, on_hart, rest_of, state_of, with_status, IsKernel, IsPending, can_answer, waits-other, set-slot, slot-other, held-run}
-use Rattle.calls.proofs.Common.{Places, is_child_of, is_zombie_child_of, place_where, reaped_at, zombie_place, has_child-with_table, zombie_child-with_table, with_space, SpaceView, view_at, goes_on, Wait, Pending, clear}
-use Rattle.calls.proofs.Common.{put, slot, le, given, pending_arg, has_child, wait_for, wait_on, wait_row, zombie_child, State, process_at, put_process, process-run, unwrap_or, no_pages, option_map, loaded-run, loaded}
+use Rattle.calls.proofs.Common.{◌≡◌, ◌≢◌, ℕ, zero, suc, true, false, nat_eq, List, IfSome, Option, Some, None, ℤ, refl, ap, sym, subst, ◌∙◌, arith, is_some, cast_unsigned, ne_eqb, set_comm, Acts, GoesOn, Runs, pending_for, Came, Answers}
+use Rattle.calls.proofs.Common.{Blocks, Refuses, Kernel, argument, base, descriptors_at, on_hart, rest_of, state_of, with_status, IsKernel, IsPending, can_answer, waits-other, set-slot, slot-other, held-run, Places, is_child_of}
+use Rattle.calls.proofs.Common.{is_zombie_child_of, place_where, reaped_at, zombie_place, has_child-with_table, zombie_child-with_table, with_space, SpaceView, view_at, goes_on, Wait, Pending, clear, put, slot, le, given, pending_arg}
+use Rattle.calls.proofs.Common.{has_child, wait_for, wait_on, wait_row, zombie_child, State, process_at, put_process, process-run, unwrap_or, no_pages, option_map, loaded-run, loaded, wrote-state, place-changed, process-state, collected}
 use Rattle.std.specs.Int.{w32}
 use Rattle.calls.proofs.Acts.{Here, begins-on, getpid-is, goes-done, goes-waits, going, here-of, me, provided-refused, refused, runner}
 use Rattle.kernel.proofs.Collecting.{HasReaped, collected-kernel, collected-run, collected-state, has-reaped, unreaped-go, zombie-idle}
-use Rattle.kernel.proofs.Memories.{wrote-state}
-use Rattle.kernel.proofs.Shown.{place-changed, process-state}
-use Rattle.kernel.specs.Processes.{collected}
 use Rattle.proc.specs.declared.table.Reaped.{Reaped}
 use Rattle.unixmodel.specs.Process as unix
 use Rattle.unixmodel.specs.ProcessCalls as rows

@@ -1,15 +1,14 @@
 -- A read from a pipe goes on.
-use Rattle.calls.proofs.Common.{◌≡◌, ℕ, ◌<◌, Bool, true, false, List, [], ◌∷◌, length, min, take, drop, Some, refl, ap, subst, sym, ◌∙◌, arith, if◌then◌else◌, not, drew, waking, IsKernel, ◌==◌}
-use Rattle.calls.proofs.Common.{nat_tests, GoesOn, Answers, Blocks, Kernel, descriptors_at, state_of, IsForBytes, IsPending, is_on_pipe, OnThePipe, Transfers, waits-reading, has_end, bytes_in}
-use Rattle.calls.proofs.Common.{view_at, some-pipe, Pending, read_on, read_pipe, put, slot, write_bytes, low, WriteEnd, answers, pending_arg, Done, Waits, State, put_process, is_empty, state-but}
+use Rattle.calls.proofs.Common.{◌≡◌, ℕ, ◌<◌, Bool, true, false, List, [], ◌∷◌, length, min, take, drop, Some, refl, ap, subst, sym, ◌∙◌, arith, if◌then◌else◌, not, drew, waking, IsKernel, ◌==◌, GoesOn}
+use Rattle.calls.proofs.Common.{Answers, Blocks, Kernel, descriptors_at, state_of, IsForBytes, IsPending, is_on_pipe, OnThePipe, Transfers, waits-reading, has_end, bytes_in, view_at, some-pipe}
+use Rattle.calls.proofs.Common.{Pending, read_on, read_pipe, put, slot, write_bytes, low, WriteEnd, answers, pending_arg, Done, Waits, State, put_process, is_empty, state-but, drew-state, has_pipe}
+use Rattle.std.proofs.lemmas.Bool.Decides.{nat_tests}
 use Rattle.calls.proofs.Acts.{Here, goes-done, goes-waits, going, me}
-use Rattle.kernel.proofs.Memories.{drew-state}
 use Rattle.calls.proofs.Transfers.{file, file-named, going-is, here, named-file, transfer-stands}
 use Rattle.files.specs.declared.file.End.TheVariants as end
 use Rattle.files.specs.declared.file.OpenFile.{OpenFile}
 use Rattle.files.specs.declared.file.Target.TheVariants as target
 use Rattle.files.specs.Places.{opens_of}
-use Rattle.spaces.specs.Spaces.{has_pipe}
 
 some-bytes : (n : ℕ) → not (n == 0) ≡ true → 0 < n
 some-bytes n some = grind (arith, nat_tests)

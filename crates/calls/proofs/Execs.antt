@@ -1,13 +1,14 @@
 -- exec: another program comes in the place of the one that runs.
-use Rattle.calls.proofs.Common.{directory_at, List, None, Option, Some, [], ap, false, length, refl, subst, sym, ℕ, ◌+◌, ◌<◌, ◌∙◌, ◌≡◌, nat_le, option_and_then, le-leb, lt-leb, Acts, Runs}
-use Rattle.calls.proofs.Common.{Answers, Refuses, HasRead, Reaches, held-run, Kernel, argument, state_of, IsKernel, Started, frames_beside, plan_at, view_at, row, page_frames, Exec, Node}
-use Rattle.calls.proofs.Common.{find, slot, path_at, Outcome, answers, given, limited, provided, Done, Plan, plan, args_at, exec_row, file_bytes, fits_beside, replaced, State, put_process}
+use Rattle.calls.proofs.Common.{directory_at, List, None, Option, Some, [], ap, false, length, refl, subst, sym, ℕ, ◌+◌, ◌<◌, ◌∙◌, ◌≡◌, nat_le, option_and_then, le-leb, lt-leb, Acts}
+use Rattle.calls.proofs.Common.{Runs, Answers, Refuses, HasRead, Reaches, held-run, Kernel, argument, state_of, IsKernel, view_at, row, page_frames, Exec, Node, find, slot, path_at}
+use Rattle.calls.proofs.Common.{Outcome, answers, given, limited, provided, Done, args_at, exec_row, file_bytes, fits_beside, replaced, State, put_process, HasReplaced, frames-state}
+use Rattle.programs.specs.declared.executing.Started.{Started}
+use Rattle.programs.specs.Executed.{frames_beside, plan_at}
+use Rattle.unixmodel.specs.Plan.{Plan, plan}
 use Rattle.calls.proofs.Acts.{Here, given-refused, here-in, here-of, me, prints, runner}
 use Rattle.calls.proofs.Homes.{found-here, node-here, refused-read}
 use Rattle.calls.proofs.Names.{path-is}
 use Rattle.kernel.proofs.Replacing.{replaced-state}
-use Rattle.kernel.specs.Replacing.{HasReplaced}
-use Rattle.kernel.proofs.Shown.{frames-state}
 use Rattle.unixmodel.specs.Process as unix
 
 -- ---- the row

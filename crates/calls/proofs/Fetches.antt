@@ -1,16 +1,14 @@
 -- A read of a file or a directory.
-use Rattle.calls.proofs.Common.{◌≡◌, ℕ, ◌+◌, ◌<◌, ◌≤◌, ◌^◌, List, [], length, take, drop, Option, Some, refl, ap, subst, sym, ◌∙◌, arith, length-drop, length-take, GoesOn, Answers, Uses, Transfers}
-use Rattle.calls.proofs.Common.{file_of, target_of, opens-moved, FitsNode, Kernel, state_of, IsKernel, bytes_of, bytes_read, whole-node, FileTree, IsWhole, Pending, read_file, read_node, read_on}
-use Rattle.calls.proofs.Common.{Node, longest, node_bytes, put, slot, Directory, File, write_bytes, low, OnNode, pending_arg, Done, State, put_process, IsServed, counting, option_map}
+use Rattle.calls.proofs.Common.{◌≡◌, ℕ, ◌+◌, ◌<◌, ◌≤◌, ◌^◌, List, [], length, take, drop, Option, Some, refl, ap, subst, sym, ◌∙◌, arith, length-drop, length-take, GoesOn, Answers, Uses, Transfers, file_of}
+use Rattle.calls.proofs.Common.{target_of, opens-moved, FitsNode, Kernel, state_of, IsKernel, bytes_of, bytes_read, FileTree, IsWhole, Pending, read_file, read_node, read_on, Node, longest, node_bytes, put}
+use Rattle.calls.proofs.Common.{slot, Directory, File, write_bytes, low, OnNode, pending_arg, Done, State, put_process, IsServed, counting, option_map, wrote-state, wrote, HasFetched, MayMove, advanced, moved}
+use Rattle.tree.proofs.Storing.{whole-node}
 use Rattle.calls.proofs.Acts.{Here, goes-serves, going, here-in, me, used-here}
-use Rattle.kernel.proofs.Memories.{wrote-state}
-use Rattle.kernel.specs.Memory.{wrote}
-use Rattle.kernel.specs.Opening.{HasFetched, MayMove, advanced}
 use Rattle.calls.proofs.Transfers.{file, file-fits, file-named, going-is, here}
 use Rattle.files.specs.declared.file.End.TheVariants as end
 use Rattle.files.specs.declared.file.OpenFile.{OpenFile}
 use Rattle.files.specs.declared.file.Target.TheVariants as target
-use Rattle.files.specs.Places.{moved, opens_of}
+use Rattle.files.specs.Places.{opens_of}
 use Rattle.kernel.proofs.Opens.{IsNamed}
 use Rattle.tree.specs.Stored.{FitsPlaces}
 use Rattle.unixmodel.specs.Image.{KeepsSize}

@@ -1,9 +1,8 @@
 -- The running process changes, and what nothing names any more is gone once the call is answered.
-use Rattle.calls.proofs.Common.{◌≡◌, ◌∙◌, ℕ, List, [], length, Option, Some, ap, sym, slice_set, change-put, process-run, regs-run, regs-state, not-killed}
-use Rattle.calls.proofs.Common.{set-twice, slot-put, slot-within, Kernel, answered, state_of, quiet, settle, limited, Done, with_answer, reap, State, put_process}
+use Rattle.calls.proofs.Common.{◌≡◌, ◌∙◌, ℕ, List, [], length, Option, Some, ap, sym, slice_set, change-put, process-run, regs-run, regs-state, not-killed, set-twice}
+use Rattle.calls.proofs.Common.{slot-put, slot-within, Kernel, answered, state_of, quiet, settle, limited, Done, with_answer, reap, State, put_process, renamed-within}
 use Rattle.calls.proofs.Acts.{Here, me, runner}
 use Rattle.calls.proofs.Settles.{settle-reaped}
-use Rattle.kernel.proofs.Renaming.{renamed-within}
 use Rattle.unixmodel.specs.Process as unix
 
 -- it has other descriptors, or works in another directory

@@ -1,12 +1,12 @@
 -- chdir: the running process works in another directory, and the one that it leaves may go.
 use Rattle.calls.proofs.Common.{Bool, List, None, Option, Some, [], ap, arith, false, refl, subst, sym, true, ℕ, ◌∙◌, ◌≡◌, ◌≢◌, IsSome, ne_eqb, IsServed, Acts, Runs, HasRead, Reaches, Answers, Refuses, InodeStat}
 use Rattle.calls.proofs.Common.{counting-kernel, home-folder, home-running, IsFolder, home_in, Kernel, answered, argument, state_of, IsKernel, view_at, Tells, IsWhole, outcome_of, row, settle, Call, Chdir, Node, find}
-use Rattle.calls.proofs.Common.{is_directory, kind_of, slot, Directory, path_at, chdir_row, path_arg, Outcome, answers, given, limited, provided, Refused, State, put_process, folder-there, directory_at, directory_in}
+use Rattle.calls.proofs.Common.{is_directory, kind_of, slot, Directory, path_at, chdir_row, path_arg, Outcome, answers, given, limited, provided, Refused, State, put_process, directory_at, directory_in, WorksIn}
+use Rattle.kernel.proofs.Shapes.{folder-there}
 use Rattle.calls.proofs.Acts.{Here, answered-runner, here-in, here-of, me, outcome-here, refuses-on, settles, used-here}
 use Rattle.calls.proofs.Gone.{settles-gone}
 use Rattle.calls.proofs.Names.{path-is}
 use Rattle.kernel.proofs.Working.{work-reaps}
-use Rattle.kernel.specs.Processes.{WorksIn}
 use Rattle.names.proofs.Naming.{find-used}
 
 -- ---- after the disk was read

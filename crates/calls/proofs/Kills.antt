@@ -1,22 +1,16 @@
 -- kill: a process is marked; one that marks itself is answered, and ends.
-use Rattle.calls.proofs.Common.{List, None, Option, Some, [], ap, arith, negsuc, refl, sym, true, zero, suc, ℕ, ℤ, ◌+◌, ◌&&◌, ◌||◌, ◌∙◌, ◌≡◌, ◌≢◌, length, nat_le, nat_lt, slice_index, le-leb, get_or-set_other}
-use Rattle.calls.proofs.Common.{Acts, Runs, marked_by, settled_by, Answers, KillsItself, Refuses, Kernel, answered, argument, base, ended, marked, on_hart, rest_of, state_of, waking, place_called}
-use Rattle.calls.proofs.Common.{IsKernel, kept-cong, ends-run, within-state, process-run, self, slot-put, slot-within, answer-run, change-run, state-but, Process, Places, changed, has_pid, place_where, with_mark}
-use Rattle.calls.proofs.Common.{change_process-with_table, with_table, Files, links_of, blocks_of, frames_of, end_at, quiet, settle, is_within, Kill, int_of, natural, Outcome, answers, end_process, given, limited}
-use Rattle.calls.proofs.Common.{provided, Done, kill_row, reap, without_nodes, without_opens, without_pipes, State, change_process, open_limit, place_of_pid, process_at, with_answer, option_map, ◌==◌, loaded}
+use Rattle.calls.proofs.Common.{List, None, Option, Some, [], ap, arith, negsuc, refl, sym, true, zero, suc, ℕ, ℤ, ◌+◌, ◌&&◌, ◌||◌, ◌∙◌, ◌≡◌, ◌≢◌, length, nat_le, nat_lt, slice_index, le-leb, get_or-set_other, Acts, Runs, marked_by}
+use Rattle.calls.proofs.Common.{settled_by, Answers, KillsItself, Refuses, Kernel, answered, argument, base, ended, marked, on_hart, rest_of, state_of, waking, place_called, IsKernel, kept-cong, ends-run, within-state, process-run, self}
+use Rattle.calls.proofs.Common.{slot-put, slot-within, answer-run, change-run, state-but, Process, Places, changed, has_pid, place_where, with_mark, change_process-with_table, with_table, Files, links_of, blocks_of, frames_of, end_at}
+use Rattle.calls.proofs.Common.{quiet, settle, is_within, Kill, int_of, natural, Outcome, answers, end_process, given, limited, provided, Done, kill_row, reap, without_nodes, without_opens, without_pipes, State, change_process, open_limit}
+use Rattle.calls.proofs.Common.{place_of_pid, process_at, with_answer, option_map, ◌==◌, loaded, place-state, Runner, changed_at, list_any, process_frames, is_node, halt_status, orphaned, with_zombie, zombie_of, is_described, is_same}
 use Rattle.calls.proofs.Acts.{Here, answered-runner, came, here-of, makes, me, refused}
 use Rattle.calls.proofs.Altered.{altered-swap, any-altered, put-altered, sum-altered}
-use Rattle.kernel.proofs.Shown.{place-state}
-use Rattle.kernel.proofs.Turning.{Runner}
-use Rattle.proc.specs.Places.{changed_at}
-use Rattle.std.specs.List.{list_any}
-use Rattle.unixmodel.specs.Counts.{opens_of, process_frames}
+use Rattle.unixmodel.specs.Counts.{opens_of}
 use Rattle.unixmodel.specs.Files.{taken}
-use Rattle.unixmodel.specs.OpenFiles.{OpenFile, is_node}
-use Rattle.unixmodel.specs.Outcome.{halt_status, orphaned, with_zombie, zombie_of}
+use Rattle.unixmodel.specs.OpenFiles.{OpenFile}
 use Rattle.unixmodel.specs.Process as unix
 use Rattle.unixmodel.specs.ProcessCalls as rows
-use Rattle.unixmodel.specs.Reap.{is_described, is_same}
 
 -- ---- a process is marked
 

@@ -1,11 +1,10 @@
 -- link: a name more for a file or a device.
-use Rattle.calls.proofs.Common.{◌≡◌, ℕ, List, None, Option, Some, refl, Result, option_and_then, Acts, ActsOnDisk, Runs, DeviceFault, directory_at, with_tree, IsKernel, Came, Refuses}
-use Rattle.calls.proofs.Common.{Kernel, argument, state_of, view_at, TreeFault, linked_in, Link, find, spot_of, path_at, link_row, linked, path_arg, with_files, answers, given, State}
+use Rattle.calls.proofs.Common.{◌≡◌, ℕ, List, None, Option, Some, refl, Result, option_and_then, Acts, ActsOnDisk, Runs, DeviceFault, directory_at, with_tree, IsKernel, Came, Refuses, Kernel}
+use Rattle.calls.proofs.Common.{argument, state_of, view_at, TreeFault, linked_in, Link, find, spot_of, path_at, link_row, linked, path_arg, with_files, answers, given, State, MakesLink}
 use Rattle.calls.specs.Named.{IsNamed}
 use Rattle.calls.proofs.Acts.{refused}
 use Rattle.calls.proofs.Names.{given-then, here, home-is, mine, path-is, with_made, makes-acts}
 use Rattle.unixmodel.specs.Process as unix
-use Rattle.tree.specs.Calls.{MakesLink}
 
 link-row : (s : State) (i : ℕ) (p : unix.Process) (old new : List ℕ) → path_arg p 0 ≡ Some old → path_arg p 1 ≡ Some new → link_row s i p ≡ with_made s (linked_in s.files p.directory old new)
 unfolding link_row linked_in

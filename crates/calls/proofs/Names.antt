@@ -1,8 +1,8 @@
 -- Calls on names: the running process stays as it is, and the files alone change.
-use Rattle.calls.proofs.Common.{DeviceFault, ◌≡◌, ℕ, ◌<◌, ◌∙◌, List, [], None, Option, Some, ap, false, refl, subst, sym, true, Err, IfErr, Ok, Result, directory_in, directory_at, with_tree, nat_le, option_and_then}
-use Rattle.calls.proofs.Common.{option_map, ◌%◌, ◌&&◌, ◌^◌, false≢true, lt-leb, and_left, and_right, Acts, ActsOnDisk, Runs, IsRefused, Came, Answers, Refuses, Kernel, argument, state_of, IsKernel, held-run, SpaceView}
-use Rattle.calls.proofs.Common.{view_at, Overflows, TreeFault, folder_in, made_files, made_in, leaf_node, has_failed, is_device, device-is, outcome_of, row, blocks_of, frames_of, is_within, Call, Mkdir, Mknod, Files}
-use Rattle.calls.proofs.Common.{Node, spot_of, path_at, Made, made_at, made_directory, mkdir_row, mknod_row, path_arg, with_files, Outcome, answers, given, limited, provided, Done, Refused, arg, State, open_limit}
+use Rattle.calls.proofs.Common.{DeviceFault, ◌≡◌, ℕ, ◌<◌, ◌∙◌, List, [], None, Option, Some, ap, false, refl, subst, sym, true, Err, IfErr, Ok, Result, directory_in, directory_at, with_tree, nat_le, option_and_then, option_map}
+use Rattle.calls.proofs.Common.{◌%◌, ◌&&◌, ◌^◌, false≢true, lt-leb, and_left, and_right, Acts, ActsOnDisk, Runs, IsRefused, Came, Answers, Refuses, Kernel, argument, state_of, IsKernel, held-run, SpaceView, view_at, Overflows}
+use Rattle.calls.proofs.Common.{TreeFault, folder_in, made_files, made_in, leaf_node, has_failed, is_device, device-is, outcome_of, row, blocks_of, frames_of, is_within, Call, Mkdir, Mknod, Files, Node, spot_of, path_at, Made}
+use Rattle.calls.proofs.Common.{made_at, made_directory, mkdir_row, mknod_row, path_arg, with_files, Outcome, answers, given, limited, provided, Done, Refused, arg, State, open_limit, MakesDirectory, MakesNode}
 use Rattle.calls.proofs.Served.{ok-told}
 use Rattle.calls.specs.Named.{IsNamed}
 use Rattle.calls.proofs.Acts.{Here, here-in, here-of, me, outcome-here, prints, refused, refuses-on}
@@ -11,7 +11,6 @@ use Rattle.tree.specs.declared.making.Leaf.TheVariants as leaf
 use Rattle.tree.specs.Tree as tree
 use Rattle.unixmodel.specs.Counts.{opens_of}
 use Rattle.unixmodel.specs.Process as unix
-use Rattle.tree.specs.Calls.{MakesDirectory, MakesNode}
 
 -- ---- rows
 

@@ -1,18 +1,15 @@
 -- open: the running process has a new open file on a node.
-use Rattle.calls.proofs.Common.{Bool, Err, List, None, Ok, Option, Some, [], ap, arith, false, inl, inr, le_trans, refl, subst, suc, sym, true, ℕ, ◌<◌, ◌∙◌, ◌≡◌, ◌≢◌, ◌≤◌, Result, count_by, if◌then◌else◌, state-but}
-use Rattle.calls.proofs.Common.{is_none, nat_lt, not, option_and_then, option_map, slice_set, ◌==◌, ◌||◌, cases_eq, eqb-true, false≢true, lt-ltb, get_or-set_other, get_or-set_same, none-some, option_and_then_some}
-use Rattle.calls.proofs.Common.{same_Some, DeviceFault, Acts, ActsOnDisk, Runs, outcome_at, settled_by, Came, Answers, Refuses, IsRefused, Asks, IsCut, IsOpenable, Opens, cut_tree, file_by, has_seat, may_open_by, target_by}
-use Rattle.calls.proofs.Common.{with_open, HasRead, free_descriptors, file_of, target_of, free_count, free-None, free-opens, InodeStat, process-run, set-slot, slot-within, descriptors_in, FitsNode, node_on, Kernel}
-use Rattle.calls.proofs.Common.{argument, state_of, IsKernel, enter-parts, make-parts, Process, view_at, Overflows, TreeFault, made_files, made_in, leaf_node, Tells, TellsMajor, FileTree, has_failed, outcome_of, row}
-use Rattle.calls.proofs.Common.{settle, blocks_of, Call, Open, Files, Node, Spot, change_node, find, free_slot, kind_of, put, slot, spot_of, Directory, File, path_at, Made, creates, emptied, found_or_made, make_at, made_at}
-use Rattle.calls.proofs.Common.{may_open, new_file, open_row, truncated, truncates, has_bit, low, OnNode, Outcome, answers, given, limited, provided, Done, Refused, State, with_tree, ◌%◌, slice_index, directory_at}
+use Rattle.calls.proofs.Common.{Bool, Err, List, None, Ok, Option, Some, [], ap, arith, false, inl, inr, le_trans, refl, subst, suc, sym, true, ℕ, ◌<◌, ◌∙◌, ◌≡◌, ◌≢◌, ◌≤◌, Result, count_by, if◌then◌else◌, state-but, is_none}
+use Rattle.calls.proofs.Common.{nat_lt, not, option_and_then, option_map, slice_set, ◌==◌, ◌||◌, cases_eq, eqb-true, false≢true, lt-ltb, get_or-set_other, get_or-set_same, none-some, option_and_then_some, same_Some, DeviceFault}
+use Rattle.calls.proofs.Common.{Acts, ActsOnDisk, Runs, outcome_at, settled_by, Came, Answers, Refuses, IsRefused, Asks, IsCut, IsOpenable, Opens, cut_tree, file_by, has_seat, may_open_by, target_by, with_open, HasRead}
+use Rattle.calls.proofs.Common.{free_descriptors, file_of, target_of, free_count, free-None, free-opens, InodeStat, process-run, set-slot, slot-within, descriptors_in, FitsNode, node_on, Kernel, argument, state_of, IsKernel}
+use Rattle.calls.proofs.Common.{enter-parts, make-parts, Process, view_at, Overflows, TreeFault, made_files, made_in, leaf_node, Tells, TellsMajor, FileTree, has_failed, outcome_of, row, settle, blocks_of, Call, Open, Files, Node}
+use Rattle.calls.proofs.Common.{Spot, change_node, find, free_slot, kind_of, put, slot, spot_of, Directory, File, path_at, Made, creates, emptied, found_or_made, make_at, made_at, may_open, new_file, open_row, truncated, truncates}
+use Rattle.calls.proofs.Common.{has_bit, low, OnNode, Outcome, answers, given, limited, provided, Done, Refused, State, with_tree, ◌%◌, slice_index, directory_at, MayOpen, OpensOn, opened_on, and_parts, ltb-true, MakesNode}
 use Rattle.kernel.proofs.Opening.{open-state}
-use Rattle.kernel.specs.Opening.{MayOpen, OpensOn, opened_on}
-use Rattle.std.proofs.lemmas.Bool.{and_parts, ltb-true}
 use Rattle.calls.proofs.Acts.{Here, given-refused, here-of, me, prints, provided-refused, refused, runner, runs-of}
 use Rattle.calls.proofs.Homes.{found-here, node-here, read-served, refused-read}
 use Rattle.calls.proofs.Names.{home-is, refused-acts, over-blocks, path-is}
-use Rattle.tree.specs.Calls.{MakesNode}
 use Rattle.calls.proofs.Served.{lost-after, served-after, ok-told}
 use Rattle.files.specs.declared.file.OpenFile.{OpenFile}
 use Rattle.files.specs.declared.file.Target.TheVariants as target

@@ -1,8 +1,9 @@
 -- Many steps, piece by piece.
-use Rattle.calls.proofs.Common.{inl, inr, true, ◌&&◌, is_none, ◌≡◌, ◌<◌, ◌≤◌, ◌+◌, ◌-◌, ◌++◌, ℕ, ℤ, zero, suc, false, List, [], ◌∷◌, replicate, Option, Some, None, Ok, Err, refl, ap, subst, sym, ◌∙◌, arith, append-nil, cases_lt}
-use Rattle.calls.proofs.Common.{replicate-append-replicate, Result, Halt, Halted, InitEnded, EventGives, IsServed, LeavesTree, Makes, IsBusy, IsBusyFor, LeavesFiles, PieceGives, PieceGoes, StepsGive, StopsAt, Went, stepped, state-but}
-use Rattle.calls.proofs.Common.{busy-state, idle-turn, Kernel, picked, state_of, waking, IsKernel, Spaces, FileTree, After, quiet, Step, execute_at, next, step, take_turn, after_bytes, followed_by, run, State, process_at, running, turn}
-use Rattle.calls.specs.declared.halt.Halt.TheVariants.{Console, Device}
+use Rattle.calls.proofs.Common.{inl, inr, true, ◌&&◌, is_none, ◌≡◌, ◌<◌, ◌≤◌, ◌+◌, ◌-◌, ◌++◌, ℕ, ℤ, zero, suc, false, List, [], ◌∷◌, replicate, Option, Some, None, Ok, Err, refl, ap}
+use Rattle.calls.proofs.Common.{subst, sym, ◌∙◌, arith, append-nil, cases_lt, replicate-append-replicate, Result, Halt, Halted, InitEnded, EventGives, IsServed, LeavesTree, Makes, IsBusy}
+use Rattle.calls.proofs.Common.{IsBusyFor, LeavesFiles, PieceGives, PieceGoes, StepsGive, StopsAt, Went, stepped, state-but, busy-state, idle-turn, Kernel, picked, state_of, waking}
+use Rattle.calls.proofs.Common.{IsKernel, Spaces, FileTree, After, quiet, Step, execute_at, next, step, take_turn, after_bytes, followed_by, run, State, process_at, running, turn, Console}
+use Rattle.calls.specs.declared.halt.Halt.TheVariants.{Device}
 use Rattle.calls.proofs.Takes.{step-computes, turn-takes}
 use Rattle.calls.proofs.Prints.{Appends-none, Appends-trans, begins_more}
 use Rattle.calls.proofs.Runs.{run-append, run-one, then_begins, then_runs}

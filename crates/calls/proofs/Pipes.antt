@@ -1,15 +1,13 @@
 -- pipe: the running process opens both ends of a new pipe.
-use Rattle.calls.proofs.Common.{◌≡◌, ℕ, ◌+◌, ◌<◌, Bool, true, false, List, [], ◌++◌, Option, Some, None, refl, ap, sym, subst, ◌∙◌, arith, count_by, is_none, option_map, slice_set, length-set, Acts, Runs, Answers, Refuses}
-use Rattle.calls.proofs.Common.{descriptors_in, Kernel, argument, descriptors_at, state_of, waking, IsKernel, IsPlaced, length-write, set-twice, slot-put, slot-within, with_process, held-run, free-None, free-opens, free-place}
-use Rattle.calls.proofs.Common.{free-put, Counted, free_count, opens-opened, Process, Places, changed, SpaceView, frames_in, view_at, taken_frames, with_pipe, taken-placed, is_within, page_frames, Pipe, pipe_end, pipe_row, with_both}
-use Rattle.calls.proofs.Common.{free_slot, put, slot, can_write, le, ReadEnd, WriteEnd, limited, Done, State, match-active, match-place, over-state, live, not-killed, runs-mode, moved-state, stands-set, within-run, within-space}
-use Rattle.kernel.specs.Opening.{AreFree, Ends, HasPiped, pipe_file, piped}
-use Rattle.kernel.specs.Memory.{wrote}
-use Rattle.kernel.proofs.Wakes.{state-waking}
+use Rattle.calls.proofs.Common.{◌≡◌, ℕ, ◌+◌, ◌<◌, Bool, true, false, List, [], ◌++◌, Option, Some, None, refl, ap, sym, subst, ◌∙◌, arith, count_by, is_none, option_map, slice_set, length-set, Acts, Runs}
+use Rattle.calls.proofs.Common.{Answers, Refuses, descriptors_in, Kernel, argument, descriptors_at, state_of, waking, IsKernel, IsPlaced, set-twice, slot-put, slot-within, with_process, held-run, free-None}
+use Rattle.calls.proofs.Common.{free-opens, free-place, free-put, Counted, free_count, opens-opened, Process, Places, changed, SpaceView, frames_in, view_at, taken_frames, with_pipe, taken-placed}
+use Rattle.calls.proofs.Common.{is_within, page_frames, Pipe, pipe_end, pipe_row, with_both, free_slot, put, slot, can_write, le, ReadEnd, WriteEnd, limited, Done, State, match-active, match-place}
+use Rattle.calls.proofs.Common.{over-state, live, not-killed, runs-mode, moved-state, stands-set, within-run, within-space, AreFree, Ends, HasPiped, pipe_file, piped, wrote, state-waking, with_descriptor}
+use Rattle.programs.proofs.Places.{length-write}
 use Rattle.calls.proofs.Acts.{Here, given-refused, makes, here-of, me, refused}
 use Rattle.files.specs.declared.file.End.TheVariants as end
 use Rattle.files.specs.Places.{opened, opens_of}
-use Rattle.proc.specs.Places.{with_descriptor}
 use Rattle.spaces.specs.Spaces.{written}
 use Rattle.unixmodel.specs.OpenFiles.{OpenFile}
 

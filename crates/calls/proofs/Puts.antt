@@ -9,7 +9,6 @@ use Rattle.calls.proofs.Transfers.{console-here, file, file-named, going-is, hel
 use Rattle.calls.proofs.Writes.{length-read}
 use Rattle.files.specs.declared.file.End.TheVariants as end
 use Rattle.files.specs.declared.file.Target.TheVariants as target
-use Rattle.unixmodel.specs.Process as unix
 
 module _ (k : Kernel) (i : ℕ) (w : Pending) (on : OnConsole k i end.Write w) where
   abbrev g : Transfers k i end.Write (target.Console on.0) w

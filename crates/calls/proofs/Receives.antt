@@ -2,9 +2,8 @@
 use Rattle.calls.proofs.Common.{◌≡◌, ℕ, zero, suc, ◌+◌, ◌-◌, ◌<◌, ◌≤◌, ◌^◌, Bool, true, false, nat_eq, nat_le, nat_lt, List, [], ◌∷◌, length, take, Some, refl, ap, subst, sym, ◌∙◌, arith}
 use Rattle.calls.proofs.Common.{if◌then◌else◌, wrote, false≢true, leb-true, length-take-le, GoesOn, Answers, Blocks, Kernel, descriptors_at, state_of, typed, IsKernel, IsPending, IsForBytes}
 use Rattle.calls.proofs.Common.{IsFresh, IsReading, is_on_pipe, OnConsole, Transfers, waits-reading, slot-within, SpaceView, view_at, held-same, Taken, take_line, Pending, Store, read_on}
-use Rattle.calls.proofs.Common.{read_taken, can_write, reach, write_bytes, low, pending_arg, Done, Waits, State, put_process, IsSized, reach-written, rest-writes, reach-page, CanWait}
+use Rattle.calls.proofs.Common.{read_taken, can_write, reach, write_bytes, low, pending_arg, Done, Waits, State, put_process, IsSized, reach-written, rest-writes, reach-page, CanWait, wrote-state}
 use Rattle.calls.proofs.Acts.{Here, goes-done, goes-waits, going, me}
-use Rattle.kernel.proofs.Memories.{wrote-state}
 use Rattle.calls.proofs.Transfers.{console-here, file, file-named, going-is, here}
 use Rattle.files.specs.declared.file.End.TheVariants as end
 use Rattle.files.specs.declared.file.Target.TheVariants as target

@@ -1,8 +1,7 @@
 -- dup: the lowest free descriptor of the running process names what another one names.
-use Rattle.calls.proofs.Common.{◌≡◌, ℕ, Option, Some, None, refl, ap, ◌∙◌, Acts, Runs, Answers, Refuses, Kernel, argument, descriptors_at, state_of, IsKernel, Dup, dup_row, free_slot, slot, low, limited, Refused}
+use Rattle.calls.proofs.Common.{◌≡◌, ℕ, Option, Some, None, refl, ap, ◌∙◌, Acts, Runs, Answers, Refuses, Kernel, argument, descriptors_at}
+use Rattle.calls.proofs.Common.{state_of, IsKernel, Dup, dup_row, free_slot, slot, low, limited, Refused, descriptors-run, dup-state, duplicated}
 use Rattle.calls.proofs.Acts.{Here, descriptor-is, here-of, makes, me, refused, runner}
-use Rattle.kernel.proofs.Renaming.{descriptors-run, dup-state}
-use Rattle.kernel.specs.Opening.{duplicated}
 
 module _ (k : Kernel) (i : ℕ) (runs : Runs k i) where
   abbrev x : Here k i

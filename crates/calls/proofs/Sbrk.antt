@@ -1,7 +1,7 @@
 -- sbrk: the running process has another size.
-use Rattle.calls.proofs.Common.{◌≡◌, ℕ, ◌<◌, [], Some, None, pos, refl, ap, subst, sym, ◌∙◌, ◌+ℤ◌, Acts, Runs, Answers, Refuses, Kernel, IsKernel, argument, state_of, asked, resized, held-run, SpaceView, view_at, taken_frames, row, Sbrk, int_of, natural, Done, limited, sbrk_row, State}
+use Rattle.calls.proofs.Common.{◌≡◌, ℕ, ◌<◌, [], Some, None, pos, refl, ap, subst, sym, ◌∙◌, ◌+ℤ◌, Acts, Runs, Answers, Refuses, Kernel, IsKernel, argument, state_of, asked}
+use Rattle.calls.proofs.Common.{resized, held-run, SpaceView, view_at, taken_frames, row, Sbrk, int_of, natural, Done, limited, sbrk_row, State, reheld-full, resized-state}
 use Rattle.calls.proofs.Acts.{Here, does, here-in, here-of, me, refused}
-use Rattle.kernel.proofs.Memories.{reheld-full, resized-state}
 
 module _ (k : Kernel) (i : ℕ) (runs : Runs k i) where
   abbrev x : Here k i

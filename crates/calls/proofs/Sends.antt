@@ -1,14 +1,15 @@
 -- A write to a pipe goes on.
-use Rattle.calls.proofs.Common.{◌≡◌, ◌≢◌, ℕ, ◌+◌, ◌-◌, ◌<◌, ◌≤◌, ◌^◌, Bool, true, false, nat_eq, List, [], length, take, drop, eq-eqb, Some, is_some, unwrap_or, refl, sent, waking, ap, subst, sym, ◌∙◌, arith, ne_eqb, drop-take, length-drop}
-use Rattle.calls.proofs.Common.{length-take, GoesOn, Answers, Blocks, Kernel, descriptors_at, state_of, IsForPipe, IsKernel, IsPending, IsWriting, OnThePipe, Transfers, waits-writing, readable-count, has_end, SpaceView, bytes_in, view_at}
-use Rattle.calls.proofs.Common.{read_at, some-pipe, Pending, Load, write_on, write_pipe, slot, Memory, reach, read_bytes, low, pipe_room, ReadEnd, minus_one, pending_arg, IsSized, reach-drop, reach-page, state-but, CanWait}
+use Rattle.calls.proofs.Common.{◌≡◌, ◌≢◌, ℕ, ◌+◌, ◌-◌, ◌<◌, ◌≤◌, ◌^◌, Bool, true, false, nat_eq, List, [], length, take, drop, eq-eqb, Some, is_some, unwrap_or, refl, sent, waking, ap, subst}
+use Rattle.calls.proofs.Common.{sym, ◌∙◌, arith, ne_eqb, drop-take, length-drop, length-take, GoesOn, Answers, Blocks, Kernel, descriptors_at, state_of, IsForPipe, IsKernel, IsPending}
+use Rattle.calls.proofs.Common.{IsWriting, OnThePipe, Transfers, waits-writing, readable-count, has_end, SpaceView, bytes_in, view_at, read_at, some-pipe, Pending, Load, write_on, write_pipe}
+use Rattle.calls.proofs.Common.{slot, Memory, reach, read_bytes, low, pipe_room, ReadEnd, minus_one, pending_arg, IsSized, reach-drop, reach-page, state-but, CanWait, has_pipe, put_behind}
 use Rattle.calls.proofs.Acts.{Here, goes-done, goes-waits, going}
 use Rattle.calls.proofs.Transfers.{file, file-named, going-is, held-here, here, transfer-stands}
 use Rattle.calls.proofs.Writes.{length-read}
 use Rattle.files.specs.declared.file.End.TheVariants as end
 use Rattle.files.specs.declared.file.Target.TheVariants as target
 use Rattle.files.specs.Places.{opens_of}
-use Rattle.spaces.specs.Spaces.{fitting, has_pipe, put_behind}
+use Rattle.spaces.specs.Spaces.{fitting}
 
 -- ---- what is left of a buffer that can be read
 

@@ -1,14 +1,14 @@
 -- fstat: a node tells of itself.
-use Rattle.calls.proofs.Common.{Bool, Err, List, None, Ok, Option, Some, [], ap, arith, false, refl, subst, sym, true, ℕ, ◌%◌, ◌/◌, ◌∙◌, ◌∷◌, ◌≡◌, length, option_map, Acts, Runs, wrote, IsKernel, HasRead, stat_told, Answers, Refuses}
-use Rattle.calls.proofs.Common.{Target, FileFault, file_of, target_of, file_at, node_at, node_from, InodeStat, slot-file, held-run, FitsNode, node_of, node_on, Kernel, argument, counting, descriptors_at, state_of, SpaceView, view_at}
-use Rattle.calls.proofs.Common.{none-some, Tells, row, Fstat, fstat_row, node_number, stat_bytes, Node, slot, can_write, zeros, le, low, Outcome, answers, given, limited, provided, Done, Refused, State, put_process}
+use Rattle.calls.proofs.Common.{Bool, Err, List, None, Ok, Option, Some, [], ap, arith, false, refl, subst, sym, true, ℕ, ◌%◌, ◌/◌, ◌∙◌, ◌∷◌, ◌≡◌, length, option_map, Acts, Runs, wrote, IsKernel, HasRead, stat_told, Answers}
+use Rattle.calls.proofs.Common.{Refuses, Target, file_of, target_of, file_at, node_at, node_from, InodeStat, slot-file, held-run, FitsNode, node_of, node_on, Kernel, argument, counting, descriptors_at, state_of, SpaceView, view_at}
+use Rattle.calls.proofs.Common.{none-some, Tells, row, Fstat, fstat_row, node_number, stat_bytes, Node, slot, can_write, zeros, le, low, Outcome, answers, given, limited, provided, Done, Refused, State, put_process, wrote-state}
+use Rattle.files.specs.declared.table.FileFault.{FileFault}
 use Rattle.calls.proofs.Acts.{Here, descriptor-is, here-of, me, prints, refused, used-here, here-in}
 use Rattle.calls.proofs.Writes.{fits-at}
 use Rattle.files.specs.declared.file.OpenFile.{OpenFile}
 use Rattle.files.specs.declared.file.Target.TheVariants as target
 use Rattle.spaces.specs.Spaces.{written}
 use Rattle.unixmodel.specs.OpenFiles as unix
-use Rattle.kernel.proofs.Memories.{wrote-state}
 
 -- ---- bytes of numbers
 

@@ -1,22 +1,19 @@
 -- A write to a file.
-use Rattle.calls.proofs.Common.{◌≡◌, ℕ, ◌+◌, ◌<◌, ◌≤◌, ◌^◌, Bool, true, false, nat_le, List, [], length, take, Option, Some, None, refl, ap, subst, sym, ◌∙◌, arith, if◌then◌else◌, ◌&&◌}
-use Rattle.calls.proofs.Common.{◌==◌, and_parts, leb-true, none-some, same_Some, cond_some, GoesOn, Answers, Refuses, Transfers, Uses, file_of, opens-moved, FitsNode, Kernel, descriptors_at}
-use Rattle.calls.proofs.Common.{state_of, IsWriting, some-pipe, SpaceView, view_at, bytes_given, FileTree, Pending, blocks_of, room_for, with_file, with_offset, write_node, write_on, Files}
-use Rattle.calls.proofs.Common.{Node, longest, slot, Directory, File, Memory, overwrite, read_bytes, low, minus_one, pending_arg, Done, Refused, State, IsServed, option_map, IsKernel}
+use Rattle.calls.proofs.Common.{◌≡◌, ℕ, ◌+◌, ◌<◌, ◌≤◌, ◌^◌, Bool, true, false, nat_le, List, [], length, take, Option, Some, None, refl, ap, subst, sym, ◌∙◌, arith, if◌then◌else◌, ◌&&◌, ◌==◌, and_parts}
+use Rattle.calls.proofs.Common.{leb-true, none-some, same_Some, cond_some, GoesOn, Answers, Refuses, Transfers, Uses, file_of, opens-moved, FitsNode, Kernel, descriptors_at, state_of, IsWriting}
+use Rattle.calls.proofs.Common.{some-pipe, SpaceView, view_at, bytes_given, FileTree, Pending, blocks_of, room_for, with_file, with_offset, write_node, write_on, Files, Node, longest, slot, Directory}
+use Rattle.calls.proofs.Common.{File, Memory, overwrite, read_bytes, low, minus_one, pending_arg, Done, Refused, State, IsServed, option_map, IsKernel, with_tree, HasStored, MayMove, advanced, moved}
 use Rattle.calls.proofs.Acts.{Here, goes-serves, going, going-here, here-in, refuses-on}
 use Rattle.calls.proofs.Fetches.{low-same}
-use Rattle.kernel.specs.Disk.{with_tree}
-use Rattle.kernel.specs.Opening.{HasStored, MayMove, advanced}
 use Rattle.calls.proofs.Transfers.{file, file-fits, file-named, going-is, held-here, here, named-file}
 use Rattle.calls.proofs.Writes.{length-read}
 use Rattle.files.specs.declared.file.End.TheVariants as end
 use Rattle.files.specs.declared.file.OpenFile.{OpenFile}
 use Rattle.files.specs.declared.file.Target.TheVariants as target
-use Rattle.files.specs.Places.{moved, opens_of}
+use Rattle.files.specs.Places.{opens_of}
 use Rattle.file_transfers.proofs.Fits.{greatest-low}
 use Rattle.tree.specs.Written.{IsFile, Written, count_of, files_after, fitting, with_bytes, written}
 use Rattle.unixmodel.specs.OpenFiles as unix_files
-use Rattle.unixmodel.specs.Process as unix
 
 -- ---- the row
 

@@ -1,13 +1,14 @@
 -- A step: the running process does an instruction, or a turn where none runs.
 use Rattle.calls.proofs.Common.{DeviceFault, ◌≡◌, ℕ, ◌%◌, Bool, true, false, List, Option, Some, None, Ok, Err, ℤ, negsuc, refl, ap, subst, sym, ◌∙◌, IfOk, OnOk, Result, if◌then◌else◌, slice_index, Halt, Dispatches, EventGives}
-use Rattle.calls.proofs.Common.{IsMade, halt_of, Kernel, computed, counting, ended, lives, picked, started, state_of, waking, called, IsKernel, IsLive, IsMode, IsAlive, resumed, resumed_by, resumed_in, IsThere, process-idle}
-use Rattle.calls.proofs.Common.{there-of, turn-alive, picked-state, picks-killed, picks-ready, held-run, state-but, Process, with_space, SpaceView, view_at, After, quiet, cycle, Mode, Ready, Waiting, Pending, Trap, slot}
-use Rattle.calls.proofs.Common.{Computed, Memory, execute_at, is_ecall, pick, take_turn, end_process, State, process_at, ends-run, moved-state, process-run, computed-is, placed-with, memory_after, effect_of, execute, called_by}
-use Rattle.calls.specs.declared.halt.Halt.TheVariants.{Console, Device}
-use Rattle.calls.specs.Resuming.{taken, taken_by}
+use Rattle.calls.proofs.Common.{IsMade, halt_of, Kernel, computed, counting, ended, lives, picked, started, state_of, waking, called, IsKernel, IsLive, IsMode, IsAlive, resumed, resumed_by, resumed_in, IsThere, process-idle, there-of}
+use Rattle.calls.proofs.Common.{turn-alive, picked-state, picks-killed, picks-ready, held-run, state-but, Process, with_space, SpaceView, view_at, After, quiet, Mode, Ready, Waiting, Pending, slot, Memory, execute_at, is_ecall, pick}
+use Rattle.calls.proofs.Common.{take_turn, end_process, State, process_at, ends-run, moved-state, process-run, computed-is, placed-with, memory_after, effect_of, execute, called_by, Console, taken_by, Runner, me_of, runner-of, acted}
+use Rattle.unixmodel.specs.Cycle.{cycle}
+use Rattle.unixmodel.specs.declared.trap.Trap.{Trap}
+use Rattle.unixmodel.specs.Meaning.{Computed}
+use Rattle.calls.specs.declared.halt.Halt.TheVariants.{Device}
+use Rattle.calls.specs.Resuming.{taken}
 use Rattle.calls.proofs.Prints.{Appends-none}
-use Rattle.kernel.proofs.Turning.{Runner, me_of, runner-of}
-use Rattle.unixmodel.specs.Next.{acted}
 use Rattle.unixmodel.specs.Next as next
 use Rattle.unixmodel.specs.Turn as turn
 

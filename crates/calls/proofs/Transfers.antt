@@ -1,13 +1,12 @@
 -- How a read and a write begin, and what they go on with: their tests are the same.
-use Rattle.calls.proofs.Common.{◌≡◌, ◌≢◌, ℕ, zero, suc, ◌<◌, Bool, true, false, ◌&&◌, List, Option, Some, None, refl, ap, subst, sym, ◌∙◌, arith, if◌then◌else◌, Err, IfSome, IsSome, Ok, Result, is_some}
-use Rattle.calls.proofs.Common.{option_and_then, option_map, result_ok, false≢true, none-some, same_Some, DeviceFault, Acts, ActsOnDisk, CanWait, GoesOnDisk, Runs, pending_for, Came, Answers, Refuses, descriptors_in}
-use Rattle.calls.proofs.Common.{FitsNode, node_of, node_on, Kernel, argument, descriptors_at, state_of, Stands, IsFresh, IsPending, file_named, is_on_pipe, Begins, MayUse, Transfers, call_on, can_transfer, target_for}
-use Rattle.calls.proofs.Common.{target_named, IsFileAt, file-at, open-named, slot-file, stands-open, held-run, Target, file_of, target_of, Counted, file_at, usable, Process, SpaceView, view_at, goes_on, row, Pending}
-use Rattle.calls.proofs.Common.{is_usable, read_row, unless_empty, write_row, slot, Memory, can_write, read_bytes, int_of, low, natural, Outcome, given, limited, pending_arg, pending_of, provided, Refused, arg, State}
+use Rattle.calls.proofs.Common.{◌≡◌, ◌≢◌, ℕ, zero, suc, ◌<◌, Bool, true, false, ◌&&◌, List, Option, Some, None, refl, ap, subst, sym, ◌∙◌, arith, if◌then◌else◌, Err, IfSome, IsSome, Ok, Result, is_some, option_and_then}
+use Rattle.calls.proofs.Common.{option_map, result_ok, false≢true, none-some, same_Some, DeviceFault, Acts, ActsOnDisk, CanWait, GoesOnDisk, Runs, pending_for, Came, Answers, Refuses, descriptors_in, FitsNode, node_of}
+use Rattle.calls.proofs.Common.{node_on, Kernel, argument, descriptors_at, state_of, Stands, IsFresh, IsPending, file_named, is_on_pipe, Begins, MayUse, Transfers, call_on, can_transfer, target_for, target_named}
+use Rattle.calls.proofs.Common.{IsFileAt, file-at, open-named, slot-file, stands-open, held-run, Target, file_of, target_of, Counted, file_at, usable, Process, SpaceView, view_at, goes_on, row, Pending, is_usable}
+use Rattle.calls.proofs.Common.{read_row, unless_empty, write_row, slot, Memory, can_write, read_bytes, int_of, low, natural, Outcome, given, limited, pending_arg, pending_of, provided, Refused, arg, State, FitsFiles}
 use Rattle.calls.proofs.Acts.{Here, does, going, going-here, here-of, me, outcome-here, refused, used-here}
 use Rattle.kernel.proofs.Opens.{IsNamed}
 use Rattle.calls.proofs.Writes.{IsDevice, console-device, fits-at, fits-named, int-low, usable-open}
-use Rattle.kernel.specs.Holding.{FitsFiles}
 use Rattle.files.specs.declared.file.End.{End}
 use Rattle.files.specs.declared.file.End.TheVariants.{Read, Write}
 use Rattle.files.specs.declared.file.OpenFile.{OpenFile}

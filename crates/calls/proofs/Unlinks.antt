@@ -1,11 +1,15 @@
 -- unlink: a name less, and its node is given up where nothing keeps it any more.
 use Rattle.calls.proofs.Served.{ok-told}
 use Rattle.calls.proofs.Common.{◌≡◌, ◌≢◌, ℕ, ◌*◌, ◌≤◌, ◌∙◌, Bool, List, [], None, Option, Some, ap, arith, false, refl, subst, sym, true, Result, if◌then◌else◌, nat_le, nat_lt, option_and_then, directory_at}
-use Rattle.calls.proofs.Common.{with_tree, option_map, slice_set, ◌&&◌, ◌||◌, length-set, none-some, Acts, ActsOnDisk, Runs, DeviceFault, Came, Answers, Counts, without_pipes-same, without_opens-same, IsInUse, Kernel}
-use Rattle.calls.proofs.Common.{answered, argument, loaded, state_of, IsKernel, is_by, kept-cong, used-is, counts-joined, away-loaded, opened-loaded, used-loaded, within-state, answer-run, not-killed}
-use Rattle.calls.proofs.Common.{regs-kernel, regs-run, process-run, unlink-parts, view_at, TreeFault, let_go, has_failed, Reaps, quiet, row, settle, blocks_of, frames_of, is_within, Unlink, Files, Node, Spot}
-use Rattle.calls.proofs.Common.{blocks_for, change_node, erase, is_directory, links_of, lookup, size_of, slot, spot_of, without_place, Directory, File, path_at, fewer_links, path_arg, unlink_row, unlinked, with_files}
-use Rattle.calls.proofs.Common.{without_name, Outcome, answers, limited, Done, with_answer, is_used, kept, reap, without_nodes, without_opens, without_pipes, State, change_process, open_limit, zero, ◌∷◌, suc}
+use Rattle.calls.proofs.Common.{with_tree, option_map, slice_set, ◌&&◌, ◌||◌, length-set, none-some, Acts, ActsOnDisk, Runs, DeviceFault, Came, Answers, without_opens-same, IsInUse, Kernel, answered}
+use Rattle.calls.proofs.Common.{argument, loaded, state_of, IsKernel, is_by, kept-cong, used-is, away-loaded, opened-loaded, used-loaded, within-state, answer-run, not-killed, regs-kernel, regs-run}
+use Rattle.calls.proofs.Common.{process-run, unlink-parts, view_at, TreeFault, has_failed, Reaps, quiet, row, settle, blocks_of, frames_of, is_within, Unlink, Files, Node, Spot, blocks_for, change_node}
+use Rattle.calls.proofs.Common.{erase, is_directory, links_of, lookup, size_of, slot, spot_of, without_place, Directory, File, path_at, fewer_links, path_arg, unlink_row, unlinked, with_files, without_name}
+use Rattle.calls.proofs.Common.{Outcome, answers, limited, Done, with_answer, is_used, kept, reap, without_nodes, without_opens, without_pipes, State, change_process, open_limit, zero, ◌∷◌, suc, TakesName}
+use Rattle.files.proofs.CountsLemmas.{Counts}
+use Rattle.files.proofs.PipesLemmas.{without_pipes-same}
+use Rattle.kernel.proofs.Named.{counts-joined}
+use Rattle.tree.specs.Holding.{let_go}
 use Rattle.calls.specs.Named.{IsNamed}
 use Rattle.calls.proofs.Acts.{Here, me, settles, used-here}
 use Rattle.calls.proofs.Altered.{sum-altered}
@@ -15,7 +19,6 @@ use Rattle.tree.specs.Unlinks.{unlinked_in}
 use Rattle.unixmodel.specs.Counts.{opens_of}
 use Rattle.unixmodel.specs.Process as unix
 use Rattle.kernel.proofs.Unlinking.{kept-is, reaps}
-use Rattle.tree.specs.Calls.{TakesName}
 
 -- ---- the row
 

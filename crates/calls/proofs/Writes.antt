@@ -1,8 +1,7 @@
 -- Bytes that are read, and nodes that are open.
 use Rattle.calls.proofs.Common.{IfSome, option_and_then, ◌≡◌, ℕ, ◌<◌, ◌^◌, true, false, nat_le, List, length, take, Option, Some, None, is_some, ℤ, pos, negsuc, refl, ap, subst, sym, ◌∙◌, arith}
 use Rattle.calls.proofs.Common.{cast_signed, cast_unsigned, leb-true, of_z-to_z, length-take-le, cond_some, result_ok, option_map, Target, target_of, Counted, file_at, usable, FitsNode, IsInUse}
-use Rattle.calls.proofs.Common.{node_of, node_on, Process, FileTree, Load, is_usable, is_usable_node, Files, Node, slot, Directory, File, Memory, reach, read_bytes, int_of, low, natural}
-use Rattle.kernel.specs.Holding.{FitsFiles}
+use Rattle.calls.proofs.Common.{node_of, node_on, Process, FileTree, Load, is_usable, is_usable_node, Files, Node, slot, Directory, File, Memory, reach, read_bytes, int_of, low, natural, FitsFiles}
 use Rattle.std.specs.Int.{w32}
 use Rattle.files.specs.declared.file.OpenFile.{OpenFile}
 use Rattle.files.specs.declared.file.Target.TheVariants as target

@@ -1,3 +1,4 @@
+mod Common
 mod Steps
 mod States
 mod Reading

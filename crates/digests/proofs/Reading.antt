@@ -1,20 +1,15 @@
 -- Files that go into a digest step by step.
-use Rattle.std.proofs.Common.{◌≡◌, ℕ, ◌+◌, ◌*◌, ◌-◌, ◌≤◌, false, List, ◌∷◌, [], ◌++◌, length, take, drop, min, Err, Ok, Option, None, Some, Result, ap, ap₂, arith, refl, subst, ◌∙◌}
-use Rattle.std.proofs.lemmas.List.{length-drop, length-take-le, take-append-le, take_all, take_min}
+use Rattle.digests.proofs.Common.{◌≡◌, ℕ, ◌+◌, ◌*◌, ◌-◌, ◌≤◌, false, List, ◌∷◌, [], ◌++◌, length, take, drop, min, Err, Ok, Option, None, Some, Result, ap, ap₂, arith, refl, subst, ◌∙◌, length-drop, length-take-le, take-append-le}
+use Rattle.digests.proofs.Common.{take_all, take_min, bytes_mixed, contents_mixed, each, mix, mixed, node_mixed, major_of, lost-then, read-then, Kernel, Node, kind_of, links_of, node_bytes, size_of, slot, bytes_or_none}
 use Rattle.blockdev.specs.declared.DeviceFault.{DeviceFault}
 use Rattle.blockdev.specs.Splice.{part}
-use Rattle.digests.specs.Digest.{bytes_mixed, contents_mixed, each, mix, mixed, node_mixed, major_of}
 use Rattle.digests.specs.Reads.{major_told, node_numbers}
 use Rattle.digests.proofs.Steps.{each-all, each-next, each-none}
 use Rattle.inode.specs.declared.InodeStat.{InodeStat}
-use Rattle.kernel.proofs.Reading.{lost-then, read-then}
 use Rattle.kernel.specs.Disk.{HasRead, ReadsDisk}
-use Rattle.kernel.specs.Kernel.{Kernel}
 use Rattle.tree.specs.Calls.{IsPart}
 use Rattle.tree.specs.Telling.{Tells, TellsAny}
-use Rattle.unixmodel.specs.Files.{Node, kind_of, links_of, node_bytes, size_of, slot}
 use Rattle.unixmodel.specs.Files.Node.{Device, Directory, File}
-use Rattle.unixmodel.specs.Shown.{bytes_or_none}
 
 -- so far no access has failed, and the files are as they were
 pub record SoFar (old now : Kernel) (is digest : ℕ) : Type 0 where

@@ -1,22 +1,17 @@
 -- The parts of a kernel's state, as they go into its digest.
-use Rattle.std.proofs.Common.{◌≡◌, ℕ, ◌+◌, ◌<◌, true, List, [], ◌∷◌, ◌++◌, length, take, Option, None, Some, ap, ap₂, arith, get_or, length-append, refl, subst, sym, ◌∙◌}
+use Rattle.digests.proofs.Common.{◌≡◌, ℕ, ◌+◌, ◌<◌, true, List, [], ◌∷◌, ◌++◌, length, take, Option, None, Some, ap, ap₂, arith, get_or, length-append, refl, subst, sym, ◌∙◌, take_all, bare_mixed, console_mixed}
+use Rattle.digests.proofs.Common.{each, front_of, memory_mixed, mix, mixed, page_or_same, place_mixed, status_number, Kernel, loaded, on_hart, state_of, SpaceView, has_space, view_at, slot, process_at}
 use Rattle.std.specs.Prelude.{is_some, option_map, slice_get}
-use Rattle.std.proofs.lemmas.List.{take_all}
 use Rattle.std.proofs.lemmas.List.Sums.{fold_more}
-use Rattle.digests.specs.Digest.{bare_mixed, console_mixed, each, front_of, memory_mixed, mix, mixed, page_or_same, place_mixed, status_number}
 use Rattle.digests.proofs.Steps.{each-all}
 use Rattle.kernel.proofs.Reaped.{IsMatch, match-loaded}
 use Rattle.kernel.proofs.Shown.{process-state}
-use Rattle.kernel.specs.Kernel.{Kernel, loaded, on_hart, state_of}
 use Rattle.proc.specs.declared.process.Process.{Process}
 use Rattle.proc.specs.Places.{Places, changed_at}
 use Rattle.kernel.specs.Sound.{IsKernel}
 use Rattle.kernel.specs.Whole.{with_space}
-use Rattle.spaces.specs.Spaces.{SpaceView, has_space, view_at}
 use Rattle.unixmodel.specs.Console.{Console}
-use Rattle.unixmodel.specs.Files.{slot}
 use Rattle.unixmodel.specs.Memory.{Memory}
-use Rattle.unixmodel.specs.State.{process_at}
 
 -- ---- processes
 

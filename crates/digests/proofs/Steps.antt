@@ -1,6 +1,5 @@
 -- Steps that follow one another.
-use Rattle.std.proofs.Common.{◌≡◌, ℕ, suc, ◌+◌, ap, arith, refl, sym, ◌∙◌}
-use Rattle.digests.specs.Digest.{each}
+use Rattle.digests.proofs.Common.{◌≡◌, ℕ, suc, ◌+◌, ap, arith, refl, sym, ◌∙◌, each}
 
 pub each-none : (step : ℕ → ℕ → ℕ) (digest : ℕ) → digest ≡ each step 0 digest
 unfolding each

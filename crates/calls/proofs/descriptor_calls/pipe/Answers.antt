@@ -1,4 +1,5 @@
-use Rattle.calls.proofs.Common.{ap, arith, sym, ◌∙◌, option_copied, descriptors_in, count_by, is_none}
+use Rattle.calls.proofs.Common.{ap, arith, sym, ◌∙◌, descriptors_in, count_by, is_none}
+use Rattle.std.specs.Option.{option_copied}
 use Rattle.calls.proofs.Pipes.{lacks-descriptors, lacks-frames, lacks-places, lacks-room, pipe-can, pipe-opens, pipe-unwritable}
 use Rattle.calls.proofs.descriptor_calls.pipe.Goals.{then-free_count-lt2-via-then-free_count-lt2, then-free_count-lt2-via-else-free_count-lt2+then-free_places-lt2}
 use Rattle.calls.proofs.descriptor_calls.pipe.Goals as goal

@@ -1,6 +1,5 @@
-use Rattle.calls.proofs.Common.{argument, subst}
+use Rattle.calls.proofs.Common.{argument, subst, Replaces}
 use Rattle.calls.proofs.Execs.{exec-done, exec-node, exec-refused}
-use Rattle.kernel.specs.Replacing.{Replaces}
 use Rattle.calls.proofs.exec_call.exec_found.Goals as goal
 
 pub replace-requires-clause-node : goal.replace-requires-clause-node

@@ -1,7 +1,6 @@
-use Rattle.calls.proofs.Common.{arith, ◌∙◌}
+use Rattle.calls.proofs.Common.{arith, ◌∙◌, serves-disk}
 use Rattle.calls.proofs.Transfers.{named-number}
 use Rattle.calls.proofs.Fetches.{reads-done, reads-may, reads-near, reads-node}
-use Rattle.kernel.proofs.Reading.{serves-disk}
 use Rattle.calls.proofs.transfer_calls.read_file.Goals as goal
 
 pub read_node-requires-clause-node : goal.read_node-requires-clause-node

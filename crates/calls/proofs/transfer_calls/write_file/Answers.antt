@@ -1,7 +1,6 @@
-use Rattle.calls.proofs.Common.{arith, ◌∙◌}
+use Rattle.calls.proofs.Common.{arith, ◌∙◌, serves-disk}
 use Rattle.calls.proofs.Transfers.{named-number}
 use Rattle.calls.proofs.Stores.{writes-done, writes-is_file, writes-may, writes-near, writes-refused}
-use Rattle.kernel.proofs.Reading.{serves-disk}
 use Rattle.calls.proofs.transfer_calls.write_file.Goals as goal
 
 pub write_node-requires-clause-file : goal.write_node-requires-clause-file

@@ -1,5 +1,4 @@
-use Rattle.std.proofs.Common.{◌≡◌, take}
-use Rattle.digests.specs.Digest.{mixed}
+use Rattle.digests.proofs.Common.{◌≡◌, take, mixed}
 use Rattle.digests.proofs.mixing.mix_each.Given as goal
 
 abbrev pub invariant-loop-byte : goal.invariant-loop-byte

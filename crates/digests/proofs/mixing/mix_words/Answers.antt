@@ -1,5 +1,4 @@
-use Rattle.std.proofs.Common.{ap, ◌∙◌}
-use Rattle.digests.specs.Digest.{mix, word_mixed}
+use Rattle.digests.proofs.Common.{ap, ◌∙◌, mix, word_mixed}
 use Rattle.digests.proofs.Steps.{each-next, each-none}
 use Rattle.digests.proofs.mixing.mix_words.Goals as goal
 

@@ -1,5 +1,4 @@
-use Rattle.std.proofs.Common.{◌≡◌}
-use Rattle.digests.specs.Digest.{each, word_mixed}
+use Rattle.digests.proofs.Common.{◌≡◌, each, word_mixed}
 use Rattle.digests.proofs.mixing.mix_words.Given as goal
 
 abbrev pub invariant-loop-k : goal.invariant-loop-k

@@ -1,7 +1,5 @@
-use Rattle.std.proofs.Common.{arith, rules, ◌∙◌, ◌≡◌}
-use Rattle.digests.specs.Digest.{contents_mixed}
+use Rattle.digests.proofs.Common.{arith, rules, ◌∙◌, ◌≡◌, contents_mixed, lost-reads, lost-then}
 use Rattle.digests.proofs.Reading.{all-done, begun, block-next}
-use Rattle.kernel.proofs.Reading.{lost-reads, lost-then}
 use Rattle.digests.proofs.nodes.mix_contents.Goals as goal
 
 pub loop-k-init : goal.loop-k-init

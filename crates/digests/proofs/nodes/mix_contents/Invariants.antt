@@ -1,8 +1,6 @@
-use Rattle.digests.specs.Digest.{each}
+use Rattle.digests.proofs.Common.{each, slot, bytes_or_none}
 use Rattle.digests.proofs.Reading.{SoFar, block_step}
 use Rattle.digests.proofs.nodes.mix_contents.Given as goal
-use Rattle.unixmodel.specs.Files.{slot}
-use Rattle.unixmodel.specs.Shown.{bytes_or_none}
 
 abbrev pub invariant-loop-k : goal.invariant-loop-k
 invariant-loop-k g l = SoFar l.fn.kernel l.kernel (each (block_step (bytes_or_none (slot l.fn.kernel.tree.files l.number))) l.k l.fn.digest) l.digest

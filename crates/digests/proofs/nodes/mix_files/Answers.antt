@@ -1,7 +1,5 @@
-use Rattle.std.proofs.Common.{arith}
-use Rattle.digests.specs.Digest.{files_mixed}
+use Rattle.digests.proofs.Common.{arith, files_mixed, lost-reads, lost-then}
 use Rattle.digests.proofs.Reading.{all-done, begun, node-next}
-use Rattle.kernel.proofs.Reading.{lost-reads, lost-then}
 use Rattle.digests.proofs.nodes.mix_files.Goals as goal
 
 pub loop-number-init : goal.loop-number-init

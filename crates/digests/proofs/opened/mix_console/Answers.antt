@@ -1,5 +1,4 @@
-use Rattle.std.proofs.Common.{arith, length-append, ◌∙◌, ap}
-use Rattle.digests.specs.Digest.{mix}
+use Rattle.digests.proofs.Common.{arith, length-append, ◌∙◌, ap, mix}
 use Rattle.digests.proofs.States.{byte-next, console-done, typed}
 use Rattle.digests.proofs.opened.mix_console.Goals as goal
 

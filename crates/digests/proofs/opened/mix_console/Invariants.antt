@@ -1,5 +1,4 @@
-use Rattle.std.proofs.Common.{◌≡◌, take, ◌∷◌, []}
-use Rattle.digests.specs.Digest.{mixed}
+use Rattle.digests.proofs.Common.{◌≡◌, take, ◌∷◌, [], mixed}
 use Rattle.digests.proofs.States.{typed}
 use Rattle.digests.proofs.opened.mix_console.Given as goal
 

@@ -1,5 +1,4 @@
-use Rattle.std.proofs.Common.{arith}
-use Rattle.digests.specs.Digest.{pipes_mixed}
+use Rattle.digests.proofs.Common.{arith, pipes_mixed}
 use Rattle.digests.proofs.Steps.{each-all, each-next, each-none}
 use Rattle.digests.proofs.opened.mix_pipes.Goals as goal
 

@@ -1,5 +1,4 @@
-use Rattle.std.proofs.Common.{◌≡◌, take}
-use Rattle.digests.specs.Digest.{descriptors_mixed}
+use Rattle.digests.proofs.Common.{◌≡◌, take, descriptors_mixed}
 use Rattle.digests.proofs.processes.mix_descriptors.Given as goal
 
 abbrev pub invariant-loop-descriptor : goal.invariant-loop-descriptor

@@ -1,7 +1,6 @@
-use Rattle.std.proofs.Common.{arith, ◌∙◌}
+use Rattle.digests.proofs.Common.{arith, ◌∙◌, view_at}
 use Rattle.digests.proofs.States.{memory-done}
 use Rattle.digests.proofs.Steps.{each-next, each-none}
-use Rattle.spaces.specs.Spaces.{view_at}
 use Rattle.digests.proofs.processes.mix_memory.Goals as goal
 
 pub loop-n-init : goal.loop-n-init

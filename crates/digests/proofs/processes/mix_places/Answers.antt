@@ -1,5 +1,4 @@
-use Rattle.std.proofs.Common.{arith}
-use Rattle.digests.specs.Digest.{places_mixed}
+use Rattle.digests.proofs.Common.{arith, places_mixed}
 use Rattle.digests.proofs.Steps.{each-all, each-next, each-none}
 use Rattle.digests.proofs.processes.mix_places.Goals as goal
 

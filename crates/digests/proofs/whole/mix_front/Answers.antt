@@ -1,5 +1,4 @@
-use Rattle.std.proofs.Common.{ap, ◌∙◌}
-use Rattle.digests.specs.Digest.{mixed, start}
+use Rattle.digests.proofs.Common.{ap, ◌∙◌, mixed, start}
 use Rattle.digests.proofs.States.{front-state}
 use Rattle.digests.proofs.whole.mix_front.Goals as goal
 
