@@ -80,7 +80,7 @@ check-library: $(IMAGE) library
 test:
 	rt ci
 
-# The wrong bodies that the gate leaves out: those of the functions inside and of the tools. It takes some four hours of a processor.
+# The wrong bodies that the gate leaves out: those of the functions inside and of the tools. It takes some four hours of a processor, by estimate.
 edits:
 	tools/edits.py
 
