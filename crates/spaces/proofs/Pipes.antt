@@ -1,6 +1,6 @@
 -- What the places for pipes show, and the frames that they hold.
-use Rattle.spaces.proofs.Common.{Frames, count_of-first, Trades, count_of, Pipe, frame_of, frames_at, pipe_frames, pipe_shown, ◌≡◌, ◌≢◌, ℕ, suc, ◌+◌, ◌<◌, List, [], ◌∷◌, length, get_or, map, slice_set, Option}
-use Rattle.spaces.proofs.Common.{Some, None, refl, sym, ap, ◌∙◌, arith, get_or_default, length-map, prefix_len, cond, is_none, not, free_slot, slot, taken, Space, IsMachine, one-place, trade-rest, get_or-map}
+use Rattle.spaces.proofs.Common.{Frames, count_of-first, Trades, count_of, Pipe, frame_of, frames_at, pipe_frames, pipe_shown, ◌≡◌, ◌≢◌, ℕ, suc, ◌+◌, ◌<◌, List, [], ◌∷◌, length, map, slice_set, Option}
+use Rattle.spaces.proofs.Common.{Some, None, refl, ap, arith, length-map, prefix_len, cond, is_none, not, free_slot, slot, taken, Space, IsMachine, one-place, trade-rest, get_or-map}
 use Rattle.pipe.proofs.PipeLemmas.{bytes_of-same}
 use Rattle.vm.specs.Shares as shares
 use Rattle.spaces.proofs.SpacesLemmas.{map-placed, map-same}
@@ -25,10 +25,6 @@ taken_first m (o ∷ ps) = rw (is_none-shown m o) (ap (λ n. cond (not (is_none 
 -- the lowest free place
 pub free-shown : (m : List (List ℕ)) (ps : List (Option Pipe)) → free_slot (map (pipe_shown m) ps) ≡ free_slot ps
 free-shown m ps = rw (taken_first m ps, length-map ps (pipe_shown m)) refl
-
--- a place of the fields, by what is read of the slice that a borrow of them shows
-pub pipe-found : (shown ps : List (Option Pipe)) (q : ℕ) (o y : Option Pipe) → shown ≡ ps → get_or shown q o ≡ y → q < length ps → slot ps q ≡ y
-pipe-found shown ps q o y same is hi = get_or_default ps q None o hi ∙ ap (λ l. get_or l q o) (sym same) ∙ is
 
 -- ---- counts
 

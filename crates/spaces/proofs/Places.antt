@@ -6,8 +6,8 @@ use Rattle.spaces.proofs.Pipes.{pipes-taken}
 use Rattle.unixmodel.specs.Translation as translation
 
 -- a place of the fields, by the slice that a borrow of them shows
-pub there : (xs ys : List (Option Space)) (at : ℕ) (x : Space) → xs ≡ ys → get_or xs at None ≡ Some x → slot ys at ≡ Some x
-there xs ys at x same e = ap (λ l. get_or l at None) (sym same) ∙ e
+pub there : {xs ys : List (Option Space)} {x : Space} (at : ℕ) → xs ≡ ys → get_or xs at None ≡ Some x → slot ys at ≡ Some x
+there at same e = ap (λ l. get_or l at None) (sym same) ∙ e
 
 shown-slot : (m : List (List ℕ)) (places : List (Option Space)) (at : ℕ) → slot (map (shown m) places) at ≡ shown m (slot places at)
 shown-slot m places at = get_or-map (shown m) places at None
@@ -26,8 +26,8 @@ shown-there i at = some-shown i.ram (slot i.places.items at) ∙ ap is_some (sym
 pub stands-there : {T : Type 0} (i : Inside T) (at : ℕ) → has_space (spaces_of i) at ≡ true → is_some (slot i.places.items at) ≡ true
 stands-there i at has = shown-there i at ∙ has
 
-pub missing : {T : Type 0} (i : Inside T) (at : ℕ) (xs : List (Option Space)) → has_space (spaces_of i) at ≡ true → xs ≡ i.places.items → get_or xs at None ≡ None → ⊥
-missing i at xs has same e =
+pub missing : {T : Type 0} (i : Inside T) (at : ℕ) {xs : List (Option Space)} → has_space (spaces_of i) at ≡ true → xs ≡ i.places.items → get_or xs at None ≡ None → ⊥
+missing i at has same e =
     let bad : false ≡ true = ap is_some (sym e) ∙ ap (λ l. is_some (get_or l at None)) same ∙ stands-there i at has in
     cc
 

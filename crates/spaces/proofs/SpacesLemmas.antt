@@ -12,8 +12,8 @@ within (y ∷ xs) zero x e = omega arith
 within (y ∷ xs) (suc i) x e = let h = within xs i x e in omega (arith, h)
 
 -- a write of one place through the slice of all
-pub refilled : {X : Type 0} (xs ys : List (Option X)) (at : ℕ) (y z : Option X) → ys ≡ xs → z ≡ y → refill (length xs) xs (slice_set ys at z) ≡ slice_set xs at y
-refilled xs ys at y z same new =
+pub refilled : {X : Type 0} {xs ys : List (Option X)} {y z : Option X} (at : ℕ) → ys ≡ xs → z ≡ y → refill (length xs) xs (slice_set ys at z) ≡ slice_set xs at y
+refilled {xs = xs} {ys} {z = z} at same new =
     items-with_items (record { items = xs }) (slice_set ys at z) (length-set ys at z ∙ ap length same)
     ∙ ap (λ l. slice_set l at z) same
     ∙ ap (slice_set xs at) new

@@ -1,22 +1,21 @@
+use Rattle.spaces.proofs.Spaces.create.Given as given
 use Rattle.spaces.proofs.Spaces.create.Goals as goal
-use Rattle.spaces.proofs.Traded.{over-free, settled-there, shown-bare}
+use Rattle.spaces.proofs.Spaces.create.Goals.{After-deref_mut}
+use Rattle.spaces.proofs.Traded.{Placed, over-free, set_in, settled-there}
 use Rattle.spaces.proofs.Common.{no_pages, spaces_of, Some, ap}
 
+made : (g : given.Over) (c : After-deref_mut g) → Placed g.T.Translate.held c.self.inside (set_in c.self.inside c.new.new.ram c.new.new.frames c.self.inside.translator c.deref_mut.result.now c.args.at (Some c.in-Ok.space)) c.args.at (Some no_pages)
+made g c = settled-there c.self.invariant c.args.at c.in-Ok.space c.requires.inside (rw (← c.self.view_is) at c.requires.free) c.deref_mut.ensures.value c.in-Ok.ensures.space c.in-Ok.ensures.trades c.in-Ok.ensures.size
+
 pub invariant_of-self : goal.invariant_of-self
-invariant_of-self g c =
-    let z = c.in-Ok.space in
-    (settled-there g.T.Translate.held c.self.inside c.args.at z c.new.new.ram c.new.new.frames c.deref_mut.result.now (Some no_pages) c.self.invariant c.requires.inside (rw (← c.self.view_is) at c.requires.free)
-    c.deref_mut.ensures.value c.in-Ok.ensures.space c.in-Ok.ensures.trades (shown-bare c.new.new.ram z c.in-Ok.ensures.size)).sound
+invariant_of-self g c = (made g (goal.at.invariant_of-self g c).After-deref_mut).sound
 
 pub returns-in-Ok-clause-done : goal.returns-in-Ok-clause-done
 returns-in-Ok-clause-done g c =
-    let z = c.in-Ok.space in
-    let made = settled-there g.T.Translate.held c.self.inside c.args.at z c.new.new.ram c.new.new.frames c.deref_mut.result.now (Some no_pages) c.self.invariant c.requires.inside (rw (← c.self.view_is) at c.requires.free)
-    c.deref_mut.ensures.value c.in-Ok.ensures.space c.in-Ok.ensures.trades (shown-bare c.new.new.ram z c.in-Ok.ensures.size) in
-    rw (← c.self.view_is) (made.fits, made.view)
+    let all = made g (goal.at.returns-in-Ok-clause-done g c).After-deref_mut in
+    rw (← c.self.view_is) (all.fits, all.view)
 
 pub returns-in-Err-clause-refused : goal.returns-in-Err-clause-refused
 returns-in-Err-clause-refused g c =
-    let i = c.self.inside in
-    let less = over-free g.T.Translate.held i c.args.at (Some no_pages) c.self.invariant c.requires.inside (rw (← c.self.view_is) at c.requires.free) (c.in-Err.ensures.full.0 c.in-Err.ensures.only) in
-    rw (← c.self.view_is) (less, ap (λ m. spaces_of (record i { ram = m })) c.in-Err.ensures.unchanged.0)
+    let less = over-free c.self.invariant c.args.at (Some no_pages) c.requires.inside (rw (← c.self.view_is) at c.requires.free) (c.in-Err.ensures.full.0 c.in-Err.ensures.only) in
+    rw (← c.self.view_is) (less, ap (λ m. spaces_of (record c.self.inside { ram = m })) c.in-Err.ensures.unchanged.0)

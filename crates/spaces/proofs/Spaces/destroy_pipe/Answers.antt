@@ -1,34 +1,26 @@
+use Rattle.spaces.proofs.Spaces.destroy_pipe.Given as given
 use Rattle.spaces.proofs.Spaces.destroy_pipe.Goals as goal
-use Rattle.spaces.proofs.Piped.{pipe-frame, pipe-missing, pipe-there, piped-gone}
-use Rattle.spaces.proofs.SpacesLemmas.{refilled}
+use Rattle.spaces.proofs.Spaces.destroy_pipe.Goals.{After-give}
+use Rattle.spaces.proofs.Piped.{Piped, pipe-found, pipe-frame, pipe-missing, piped-gone, set_pipe}
 use Rattle.std.proofs.Common.{None, sym, ◌∙◌}
 
 pub give-requires : goal.give-requires
 give-requires g c =
-    let i = c.self.inside in
-    let p = c.in-Some.pipe in
-    let e = pipe-there i c.args.q c.deref_mut.result.now _ p (rw (← c.self.view_is) at c.requires) c.deref_mut.ensures.value (sym c.take.ensures.value ∙ c.in-Some.is) in
-    let frame = pipe-frame g.T.Translate.held i c.args.q p c.self.invariant e in
+    let e = pipe-found c.self.inside c.args.q _ (rw (← c.self.view_is) at c.requires) c.deref_mut.ensures.value (sym c.take.ensures.value ∙ c.in-Some.is) in
+    let frame = pipe-frame c.self.invariant c.args.q c.in-Some.pipe e in
     record { valid = c.self.invariant.machine.free; inside = rw c.frame.ensures.frame frame.0; held = rw c.frame.ensures.frame frame.1 }
 
+gone : (g : given.Over) (c : After-give g) → Piped g.T.Translate.held c.self.inside (set_pipe c.self.inside c.give.new.ram c.give.new.self c.deref_mut.result.now c.args.q c.take.new.self) c.args.q None
+gone g c =
+    let e = pipe-found c.self.inside c.args.q _ (rw (← c.self.view_is) at c.requires) c.deref_mut.ensures.value (sym c.take.ensures.value ∙ c.in-Some.is) in
+    let frame = c.frame.ensures.frame in
+    piped-gone c.self.invariant c.args.q c.in-Some.pipe e c.deref_mut.ensures.value c.take.ensures.after c.give.ensures.valid (rw frame at c.give.ensures.holders) (rw frame at c.give.ensures.others) (λ more. (c.give.ensures.stays (rw frame more)).1)
+
 pub invariant_of-self : goal.invariant_of-self
-invariant_of-self g c =
-    let i = c.self.inside in
-    let p = c.in-Some.pipe in
-    let e = pipe-there i c.args.q c.deref_mut.result.now _ p (rw (← c.self.view_is) at c.requires) c.deref_mut.ensures.value (sym c.take.ensures.value ∙ c.in-Some.is) in
-    (piped-gone g.T.Translate.held i c.args.q p c.give.new.ram c.give.new.self _ c.self.invariant e
-    (refilled i.pipes.items c.deref_mut.result.now c.args.q None c.take.new.self c.deref_mut.ensures.value c.take.ensures.after)
-    c.give.ensures.valid (rw c.frame.ensures.frame at c.give.ensures.holders) (rw c.frame.ensures.frame at c.give.ensures.others) (λ more. (c.give.ensures.stays (rw c.frame.ensures.frame more)).1)).sound
+invariant_of-self g c = (gone g (goal.at.invariant_of-self g c).After-give).sound
 
 pub returns : goal.returns
-returns g c =
-    let i = c.self.inside in
-    let p = c.in-Some.pipe in
-    let e = pipe-there i c.args.q c.deref_mut.result.now _ p (rw (← c.self.view_is) at c.requires) c.deref_mut.ensures.value (sym c.take.ensures.value ∙ c.in-Some.is) in
-    let gone = piped-gone g.T.Translate.held i c.args.q p c.give.new.ram c.give.new.self _ c.self.invariant e
-    (refilled i.pipes.items c.deref_mut.result.now c.args.q None c.take.new.self c.deref_mut.ensures.value c.take.ensures.after)
-    c.give.ensures.valid (rw c.frame.ensures.frame at c.give.ensures.holders) (rw c.frame.ensures.frame at c.give.ensures.others) (λ more. (c.give.ensures.stays (rw c.frame.ensures.frame more)).1) in
-    rw (← c.self.view_is) gone.view
+returns g c = rw (← c.self.view_is) (gone g (goal.at.returns g c).After-give).view
 
 pub unreachable-requires : goal.unreachable-requires
-unreachable-requires g c = pipe-missing c.self.inside c.args.q c.deref_mut.result.now _ (rw (← c.self.view_is) at c.requires) c.deref_mut.ensures.value (sym c.take.ensures.value ∙ c.in-None.is)
+unreachable-requires g c = pipe-missing c.self.inside c.args.q _ (rw (← c.self.view_is) at c.requires) c.deref_mut.ensures.value (sym c.take.ensures.value ∙ c.in-None.is)

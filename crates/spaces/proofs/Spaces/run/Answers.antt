@@ -11,8 +11,7 @@ went g c = let did = c.run.ensures in record { small = c.frames_are_whole.ensure
 ran : (g : given.Over) (c : After-run g)
     → IsSpaces g.T.Translate.held (record c.self.inside { ram = c.run.new.ram; translator = c.run.new.trans; hart = c.run.new.self })
     × AdvancesTo c.run.result.0 c.self.inside.active (spaces_of c.self.inside) (spaces_of (record c.self.inside { ram = c.run.new.ram; translator = c.run.new.trans; hart = c.run.new.self }))
-ran g c =
-    ran-sound g.T.Translate.held c.self.inside c.run.new.trans c.run.new.self c.run.new.ram c.run.result.0 c.run.result.1 c.self.invariant (went g c) (rw (← c.self.view_is) at c.requires)
+ran g c = ran-sound c.self.inside.active c.self.invariant (went g c) refl (rw (← c.self.view_is) at c.requires)
 
 pub invariant_of-self : goal.invariant_of-self
 invariant_of-self g c =
@@ -26,4 +25,4 @@ pub returns-clause-active : goal.returns-clause-active
 returns-clause-active g c = rw (← c.self.view_is) refl
 
 pub returns-clause-trap : goal.returns-clause-trap
-returns-clause-trap g c = rw (← c.self.view_is) (ran-trap g.T.Translate.held c.self.inside c.run.new.trans c.run.new.self c.run.new.ram c.run.result.0 c.run.result.1 c.self.invariant (went g c))
+returns-clause-trap g c = rw (← c.self.view_is) (ran-trap c.run.result.1 c.self.inside.active c.self.invariant (went g c) refl)

@@ -12,12 +12,12 @@ pub store-requires-clause-once : goal.store-requires-clause-once
 store-requires-clause-once g c = (c.self.invariant.machine.each c.args.at c.space_at-space.result.now c.space_at-space.ensures).once
 
 pub invariant_of-self : goal.invariant_of-self
-invariant_of-self g c = stored-sound g.T.Translate.held c.self.inside c.args.at c.space_at-space.result.now c.store.new.ram c.store.result c.self.invariant c.space_at-space.ensures c.store.ensures.stands c.store.ensures.refused
+invariant_of-self g c = stored-sound c.self.invariant c.args.at c.space_at-space.result.now c.store.new.ram c.store.result c.space_at-space.ensures c.store.ensures.stands c.store.ensures.refused
 
 pub returns-clause-done : goal.returns-clause-done
 returns-clause-done g c =
     rw (← c.self.view_is, held-is c.self.inside c.args.at c.space_at-space.result.now c.space_at-space.ensures)
-    (stored-showing g.T.Translate.held c.self.inside c.args.at c.space_at-space.result.now c.store.new.ram _ c.store.result c.self.invariant c.space_at-space.ensures c.store.ensures.stands c.store.ensures.written)
+    (stored-showing c.self.invariant c.args.at c.space_at-space.result.now c.store.new.ram _ c.store.result c.space_at-space.ensures c.store.ensures.stands c.store.ensures.written)
 
 pub returns-clause-refused : goal.returns-clause-refused
 returns-clause-refused g c = rw (← c.self.view_is) (stored-same c.self.inside c.store.new.ram c.store.result c.store.ensures.refused)
