@@ -1,8 +1,9 @@
 -- Many instructions of the process of a place.
-use Rattle.spaces.proofs.Common.{◌≡◌, ◌≤◌, ◌+◌, ◌-◌, ◌%◌, ◌/◌, ℕ, zero, suc, true, List, [], ◌∷◌, length, take, drop, ◌<◌, Option, Some, None, Ok, Err, refl, sym, ap, subst, ◌∙◌, arith}
+use Rattle.spaces.proofs.Common.{◌≡◌, ◌≤◌, ◌+◌, ◌-◌, ◌%◌, ◌/◌, ℕ, zero, suc, true, List, [], ◌∷◌, length, take, drop, ◌<◌, Option, Some, None, Err, refl, sym, ap, subst, ◌∙◌, arith}
 use Rattle.spaces.proofs.Common.{take-append-drop, length-append, IfNone, IfSome, is_some, unwrap_or, Advances, Does, Spaces, SpaceView, Traps, computed, frames_in, no_pages}
 use Rattle.spaces.proofs.Common.{taken_frames, view_at, page_frames, cycle, Trap, slot, Change, Computed, Bytes, Nothing, Memory, Page, write_bytes, write_from, memory_after}
 use Rattle.spaces.proofs.SpacesLemmas.{taken-placed, within}
+use Rattle.spaces.specs.Spaces.{Executes}
 
 -- ---- one after the other
 
@@ -31,19 +32,15 @@ begins s None = tt
 begins s (Some at) = advances-none s at
 
 -- an instruction more
-more : (n : ℕ) (old mid new : Spaces) (o : Option ℕ) → is_some o ≡ true → mid.active ≡ o → AdvancesTo n o old mid
-    → IfSome o (λ at. (d : Computed) × (cycle mid.registers mid.pc (view_at mid at).memory ≡ Ok d) × (new ≡ computed mid at d)) → (new.active ≡ o) × AdvancesTo (suc n) o old new
-more n old mid new None some active first done = absurd (cc)
-more n old mid new (Some at) some active first done =
-    let does : Does mid at new = record { done = done.0; means = done.1; leaves = done.2 } in
-    (ap (λ (s : Spaces). s.active) done.2 ∙ active, advances-more n old mid new at first does)
-
 pub goes-on : (n : ℕ) (old mid new : Spaces) (o : Option ℕ) (result : Option Trap) → is_some o ≡ true → mid.active ≡ o → AdvancesTo n o old mid → result ≡ None
-    → IfNone result (IfSome mid.active (λ at. (d : Computed) × (cycle mid.registers mid.pc (view_at mid at).memory ≡ Ok d) × (new ≡ computed mid at d))) → (new.active ≡ o) × AdvancesTo (n + 1) o old new
+    → IfNone result (IfSome mid.active (Executes mid new)) → (new.active ≡ o) × AdvancesTo (n + 1) o old new
 goes-on n old mid new o (Some t) some active first none done = absurd (cc)
-goes-on n old mid new o None some active first none done =
+goes-on n old mid new None None some active first none done = absurd (cc)
+goes-on n old mid new (Some at) None some active first none done =
     let one : suc n ≡ n + 1 = omega arith in
-    subst (λ (k : ℕ). (new.active ≡ o) × AdvancesTo k o old new) one (more n old mid new o some active first (subst (λ (a : Option ℕ). IfSome a (λ at. (d : Computed) × (cycle mid.registers mid.pc (view_at mid at).memory ≡ Ok d) × (new ≡ computed mid at d))) active done))
+    let does = subst (λ (a : Option ℕ). IfSome a (Executes mid new)) active done in
+    let all = advances-more n old mid new at first (record { done = does.0; means = does.1; leaves = does.2 }) in
+    (ap (λ (s : Spaces). s.active) does.2 ∙ active, subst (λ (k : ℕ). Advances k old at new) one all)
 
 -- ---- the frames
 
@@ -100,18 +97,6 @@ stops-at n (Some at) old mid new t some active first traps =
     rw here.1 (first, here.0)
 
 -- ---- what a run told of its end
-
-pub all-done : (o : Option Trap) (done left count : ℕ) → o ≡ None → IfNone o (done ≡ left) → left ≤ count → count - (left - done) ≡ count
-all-done None done left count none all few = omega (arith, all, few)
-all-done (Some t) done left count none all few = absurd (cc)
-
-pub told-of : (o : Option Trap) (t : Trap) (P : Trap → Type 0) → o ≡ Some t → IfSome o P → P t
-told-of None t P is told = absurd (cc)
-told-of (Some u) t P is told = let same : u ≡ t = cc in subst P same told
-
-pub told-none : (o : Option Trap) (P : Type 0) → o ≡ None → IfNone o P → P
-told-none None P is told = told
-told-none (Some t) P is told = absurd (cc)
 
 -- what the rest of a run told of its end, told of all
 pub all-behind : (o : Option Trap) (done more count : ℕ) → done ≤ count → IfNone o (more ≡ count - done) → IfNone o (done + more ≡ count)

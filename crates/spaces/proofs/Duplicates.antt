@@ -1,17 +1,8 @@
 -- Spaces over duplicates of what they stand on.
-use Rattle.spaces.proofs.Common.{List, None, Option, Some, ℕ, ◌≡◌, IsDuplicate, Inside, IsActive, IsSpaces, pipe_frames, HoldsNothing, Space}
+use Rattle.spaces.proofs.Common.{◌≡◌, IsDuplicate, Inside, IsSpaces, pipe_frames, HoldsNothing, coherent-nothing, entries_of}
+use Rattle.spaces.proofs.Traded.{still-active}
 use Rattle.unixmodel.specs.Translation as translation
 use Rattle.vm.proofs.Duplicates.{same-machine}
-
--- where nothing is held, nothing else than before is
-active-fenced : (old new : translation.Held) (m : List (List ℕ)) (root : ℕ) (places : List (Option Space)) (a : Option ℕ) → HoldsNothing new → IsActive old m root places a → IsActive new m root places a
-active-fenced old new m root places None nothing is = tt
-active-fenced old new m root places (Some at) nothing is = record {
-  space = is.space;
-  stands = is.stands;
-  same = is.same;
-  coherent = record { walks = λ t held. absurd (nothing t held) };
-}
 
 -- the parts of a duplicate, with a translator that is fenced
 pub record IsParts {T U : Type 0} (held : U → translation.Held) (i : Inside T) (j : Inside U) : Type 0 where
@@ -27,7 +18,8 @@ pub parts-sound : {T U : Type 0} (old : T → translation.Held) (new : U → tra
 parts-sound old new i j is spaces = record {
   machine = rw (is.ram, is.places, is.pipes) (same-machine i.ram i.frames j.frames i.places.items (pipe_frames i.pipes.items) is.frames spaces.machine);
   all = rw is.places spaces.all;
-  active = rw (is.ram, is.places, is.hart, is.active) (active-fenced (old i.translator) (new j.translator) i.ram i.hart.root.0 i.places.items i.active is.fenced spaces.active);
+  active = rw (is.ram, is.places, is.hart, is.active) (still-active (old i.translator) (new j.translator) i.ram i.ram i.hart.root.0 i.places.items i.places.items i.active
+      (λ k a run. record { space = run.space; stands = run.stands; same = run.same; coherent = coherent-nothing (new j.translator) run.space.root.0 (entries_of i.ram run.space) is.fenced }) spaces.active);
   inside = λ t held. absurd (is.fenced t held);
   pipes = rw is.pipes spaces.pipes;
   both = rw is.pipes spaces.both;

@@ -5,7 +5,7 @@ use Rattle.spaces.proofs.Common.{IsFreeList, SameBut, extra_of, free_of, count_o
 use Rattle.spaces.proofs.Common.{two-places, IsOpen, bytes_in, has_pipe, taken_frames, with_pipe, frames_at, IsSpaces, pipe_frames, pipe_shown, shown, spaces_of, Inside}
 use Rattle.spaces.proofs.Pipes.{pipe-free, pipe-held, pipe-slot, pipes-placed}
 use Rattle.spaces.proofs.Places.{free-taken, taken-fits}
-use Rattle.spaces.proofs.SpacesLemmas.{map-same, none-pipe, refilled, some-pipe, taken-piped, within}
+use Rattle.spaces.proofs.SpacesLemmas.{map-same, none-of, refilled, some-pipe, taken-piped, within}
 use Rattle.spaces.proofs.Stepped.{here}
 use Rattle.spaces.proofs.Traded.{runs-on, same-shown, still-active}
 use Rattle.unixmodel.specs.Translation as translation
@@ -111,7 +111,7 @@ module _ {T : Type 0} {held : T → translation.Held} {i : Inside T} (is : IsSpa
       piped q (Some z) (within i.pipes.items q p at) same refl both.1 (rw (at, stays.frame) both.0) (open-is z (record { read = stays.read_open ∙ opens.read; write = stays.write_open ∙ opens.write }))
 
   free-place : (q : ℕ) → q < 100 → has_pipe (spaces_of i) q ≡ false → (q < length i.pipes.items) × (slot (spaces_of i).pipes q ≡ None)
-  free-place q low free = (let all = is.pipes in omega (arith, low, all), none-pipe (slot (spaces_of i).pipes q) free)
+  free-place q low free = (let all = is.pipes in omega (arith, low, all), none-of (slot (spaces_of i).pipes q) free)
 
   -- a pipe comes into a free place
   pub piped-there : {n : Frames} {xs : List (Option Pipe)} (q : ℕ) (p : Pipe) → q < 100 → has_pipe (spaces_of i) q ≡ false → xs ≡ i.pipes.items

@@ -30,12 +30,12 @@ map-placed g h (x ∷ xs) (suc i) y same =
     ap (λ o. o ∷ map h (slice_set xs i y)) (same 0 (omega arith))
     ∙ ap (λ l. g x ∷ l) (map-placed g h xs i y (λ j ne. same (suc j) (λ e. ne (omega (arith, e)))))
 
-none-place : (o : Option SpaceView) → is_some o ≡ false → o ≡ None
-none-place None e = refl
-none-place (Some h) e = absurd (cc)
+pub none-of : {X : Type 0} (o : Option X) → is_some o ≡ false → o ≡ None
+none-of None e = refl
+none-of (Some x) e = absurd (cc)
 
 pub place-free : (s : Spaces) (at : ℕ) → has_space s at ≡ false → slot s.places at ≡ None
-place-free s at free = none-place (slot s.places at) free
+place-free s at free = none-of (slot s.places at) free
 
 sum-placed : (xs : List (Option SpaceView)) (i : ℕ) (y : Option SpaceView) → i < length xs → sum_by frames_in (slice_set xs i y) + frames_in (get_or xs i None) ≡ sum_by frames_in xs + frames_in y
 sum-placed [] i y h = absurd (omega (arith, h))
@@ -104,7 +104,3 @@ taken-piped s q bytes h none = omega (arith, taken-put s.pipes q bytes h none)
 pub some-pipe : (o : Option (List ℕ)) → is_some o ≡ true → o ≡ Some (unwrap_or o [])
 some-pipe None e = absurd (cc)
 some-pipe (Some bytes) e = refl
-
-pub none-pipe : (o : Option (List ℕ)) → is_some o ≡ false → o ≡ None
-none-pipe None e = refl
-none-pipe (Some bytes) e = absurd (cc)

@@ -1,5 +1,5 @@
-use Rattle.spaces.proofs.Common.{◌≡◌, ◌<◌, ◌≤◌, ◌-◌, ◌+◌, ◌∙◌, Err, arith, refl, subst, IfSome, view_at, cycle, StorePageFault}
-use Rattle.spaces.proofs.Advancing.{AdvancesTo, advances-on, all-done, begins, goes-on, stops-at, told-of}
+use Rattle.spaces.proofs.Common.{◌≡◌, ◌-◌, ◌+◌, ◌∙◌, Err, arith, refl, subst, IfSome, view_at, cycle}
+use Rattle.spaces.proofs.Advancing.{AdvancesTo, advances-on, begins, goes-on, stops-at}
 use Rattle.spaces.proofs.Spaces.execute_behind.Given as given
 use Rattle.spaces.proofs.Spaces.execute_behind.Goals as goal
 use Rattle.spaces.proofs.Spaces.execute_behind.Goals.{After-run-done}
@@ -46,8 +46,8 @@ returns-in-Some-clause-trap g c = (
 -- all are done
 pub returns-in_default-stopped-clause-done : goal.returns-in_default-stopped-clause-done
 returns-in_default-stopped-clause-done g c =
-    let few : c.loop-left.left - 1 ≤ c.args.count = omega (arith, c.loop-left.invariant.bounded) in
-    let all = all-done c.run-done.result.1 c.run-done.result.0 (c.loop-left.left - 1) c.args.count c.in_default-stopped.is c.run-done.ensures.all few in
+    let told = rw c.in_default-stopped.is at c.run-done.ensures.all in
+    let all : c.args.count - (c.loop-left.left - 1 - c.run-done.result.0) ≡ c.args.count = omega (arith, c.loop-left.invariant.bounded, told) in
     subst (λ n. AdvancesTo n c.args.self.now.active c.args.self.now c.run-done.new.self) all ((ran g (goal.at.returns-in_default-stopped-clause-done g c).After-run-done).1)
 
 -- the next one traps
@@ -56,10 +56,8 @@ returns-then-not-is_store_fault-clause-done g c = (ran g (goal.at.returns-then-n
 
 pub returns-then-not-is_store_fault-clause-trap : goal.returns-then-not-is_store_fault-clause-trap
 returns-then-not-is_store_fault-clause-trap g c =
-    let some = told-of c.run-done.result.1 c.in-Some-stopped.trap (λ _. c.run-done.result.0 < c.loop-left.left - 1) c.in-Some-stopped.is c.run-done.ensures.some in
-    let traps = told-of c.run-done.result.1 c.in-Some-stopped.trap
-    (λ t. (t.cause ≡ StorePageFault → ⊥) → IfSome c.execute_one.new.self.active (λ at. cycle c.run-done.new.self.registers c.run-done.new.self.pc (view_at c.run-done.new.self at).memory ≡ Err t))
-    c.in-Some-stopped.is c.run-done.ensures.trap c.if-not-is_store_fault.ensures in
+    let some = rw c.in-Some-stopped.is at c.run-done.ensures.some in
+    let traps = (rw c.in-Some-stopped.is at c.run-done.ensures.trap) c.if-not-is_store_fault.ensures in
     let active = (one g (goal.at.returns-then-not-is_store_fault-clause-trap g c).After-run-done).0 in (
       omega (arith, some, c.loop-left.invariant.bounded),
       subst (λ o. IfSome o (λ at. cycle c.run-done.new.self.registers c.run-done.new.self.pc (view_at c.run-done.new.self at).memory ≡ Err c.in-Some-stopped.trap)) active traps,

@@ -1,11 +1,11 @@
-use Rattle.spaces.proofs.Common.{◌≡◌, ◌<◌, ◌+◌, Err, refl, subst, IfSome, view_at, cycle, StorePageFault}
-use Rattle.spaces.proofs.Advancing.{AdvancesTo, advances-on, all-behind, told-none, told-of, trap-behind}
+use Rattle.spaces.proofs.Common.{◌≡◌, ◌+◌, Err, refl, subst, view_at, cycle}
+use Rattle.spaces.proofs.Advancing.{AdvancesTo, advances-on, all-behind, trap-behind}
 use Rattle.spaces.proofs.Spaces.execute_many.Goals as goal
 
 -- all are done
 pub returns-in_default-clause-done : goal.returns-in_default-clause-done
 returns-in_default-clause-done g c =
-    subst (λ n. AdvancesTo n c.args.self.now.active c.args.self.now c.run-done.new.self) (told-none c.run-done.result.1 (c.run-done.result.0 ≡ c.args.count) c.in_default.is c.run-done.ensures.all) c.run-done.ensures.done
+    subst (λ n. AdvancesTo n c.args.self.now.active c.args.self.now c.run-done.new.self) (rw c.in_default.is at c.run-done.ensures.all) c.run-done.ensures.done
 
 -- a store faulted: it is done, and those behind it
 pub returns-then-is_store_fault-clause-done : goal.returns-then-is_store_fault-clause-done
@@ -23,9 +23,4 @@ returns-then-is_store_fault-clause-trap g c =
 
 -- the next one traps
 pub returns-clause-trap : goal.returns-clause-trap
-returns-clause-trap g c = (
-  told-of c.run-done.result.1 c.in-Some.field-0 (λ _. c.run-done.result.0 < c.args.count) c.in-Some.is c.run-done.ensures.some,
-  told-of c.run-done.result.1 c.in-Some.field-0
-      (λ t. (t.cause ≡ StorePageFault → ⊥) → IfSome c.args.self.now.active (λ at. cycle c.run-done.new.self.registers c.run-done.new.self.pc (view_at c.run-done.new.self at).memory ≡ Err t))
-      c.in-Some.is c.run-done.ensures.trap c.if-is_store_fault.ensures,
-)
+returns-clause-trap g c = (rw c.in-Some.is at c.run-done.ensures.some, (rw c.in-Some.is at c.run-done.ensures.trap) c.if-is_store_fault.ensures)
