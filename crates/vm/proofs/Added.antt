@@ -1,9 +1,9 @@
 -- A page comes to a space: its frame is one that the space is counted to hold already, a new one or a shared one.
-use Rattle.vm.proofs.Common.{◌≡◌, ◌≢◌, ℕ, suc, ◌+◌, ◌<◌, ◌≤◌, inl, inr, false, true, List, [], ◌∷◌, ◌++◌, refl, sym, ap, ◌∙◌, arith, add-one, nat_eq, cases_eq, frame_of, Frames, free_of, free_count, further_at, IsFreeList}
-use Rattle.vm.proofs.Common.{further-free, one_if, count_of, holders_of, Trades, count_of-append, count_of-first, count_of-other, held-inside, holders-free, holders-table, free-holders, distinct-count, count-cases}
-use Rattle.vm.proofs.Common.{lookup_of, missing, Adds, further-same, trap_page, frame_at, marks_at, page_at, page_with, pages_below, frames_below, tables_for, tables_below, held, frames_for, IsDense, OwnsFrames, is_open}
+use Rattle.vm.proofs.Common.{◌+◌, ◌++◌, ◌<◌, [], add-one, ap, arith, false, inl, inr, List, nat_eq, refl, suc, sym, true, ℕ, ◌∙◌, ◌∷◌, ◌≡◌, ◌≢◌, ◌≤◌, cases_eq, further-free, count-cases, count_of-append, count_of-first, count_of-other}
+use Rattle.vm.proofs.Common.{distinct-count, free-holders, held-inside, holders-free, holders-table, free_count, further_at, IsFreeList, free_of, count_of, one_if, Trades, holders_of, Frames, further-same, Adds, lookup_of, missing}
+use Rattle.vm.proofs.Common.{frame_of, held, frame_at, frames_for, IsDense, marks_at, OwnsFrames, page_at, page_with, pages_below, tables_for, frames_below, tables_below, is_open}
 use Rattle.vm.proofs.DenseLemmas.{count-held, page-held, pages_below-more, table-held}
-use Rattle.vm.proofs.GrowLemmas.{lookup-parts, frame_at-is, marks_at-is, frame_at-same, marks_at-same, held-same, made-tables, missing-next}
+use Rattle.vm.proofs.GrowLemmas.{dense-set, frame_at-is, frame_at-same, held-same, made-tables, marks_at-is, marks_at-same, missing-next}
 use Rattle.vm.proofs.StepLemmas.{IsNext, beyond-held, pages_below-same}
 
 -- the space before, beside whoever else holds the page's frame
@@ -13,26 +13,6 @@ pub record IsBefore (z : List (List ℕ)) (r t n f marks : ℕ) (q : Frames) : T
   pub room : (v : ℕ) → count_of v (held z r t n) + count_of v (f ∷ []) ≤ holders_of z q v
   pub absent : count_of f (held z r t n) ≡ 0
   pub sole : is_open marks ≡ true → further_at q f ≡ 0
-
-next-dense : (z k : List (List ℕ)) (r t n f marks : ℕ) (q w : Frames) → IsBefore z r t n f marks q → IsNext z k r n f marks q w → IsDense k r t (suc n)
-next-dense z k r t n f marks q w b e =
-    let is = b.space.dense in
-    let small = b.small in
-    record {
-      tree = e.paged.tree;
-      tidy = e.tidy;
-      small = omega (arith, small);
-      pages = λ p h. elim (cases_eq p n) [
-        | inl same ↦ lookup-parts k r p (f, marks) (ap (lookup_of k r) same ∙ e.inserts.changed)
-        | inr ne ↦ lookup-parts k r p (frame_at z r p, marks_at z r p) (e.inserts.others p (omega (arith, h, small)) ne ∙ is.pages p (omega (arith, h, ne)))
-      ];
-      leaves = λ p h. elim (cases_eq p n) [
-        | inl same ↦ rw (same, marks_at-is k r n f marks e.inserts.changed) e.leaf
-        | inr ne ↦ rw (marks_at-same z k r p (e.inserts.others p (omega (arith, h, small)) ne)) (is.leaves p (omega (arith, h, ne)))
-      ];
-      trap = e.inserts.others trap_page (omega arith) (omega (arith, small)) ∙ is.trap;
-      rest = λ p high low ne. e.inserts.others p low (omega (arith, high)) ∙ is.rest p (omega (arith, high)) low ne;
-    }
 
 -- pages below n stay mapped, page n has frame f, and the tables that it needs come
 pub record IsAdded (z k : List (List ℕ)) (r t n f : ℕ) (q w : Frames) : Type 0 where
@@ -61,14 +41,6 @@ added-count z k r t n f q w e v =
     let tables : count_of v (tables_below k r (suc n)) ≡ count_of v (tables_for k r n) + count_of v (tables_below z r n) = count_of-append v (tables_for k r n) (tables_below k r n) ∙ ap (λ l. count_of v (tables_for k r n) + count_of v l) (both.0) in
     record { held = omega (arith, count-held z r t n v, count-held k r t (suc n) v, frames, tables); free = taken; tables = tables }
 
-next-added : (z k : List (List ℕ)) (r t n f marks : ℕ) (q w : Frames) → IsBefore z r t n f marks q → IsNext z k r n f marks q w → IsAdded z k r t n f q w
-next-added z k r t n f marks q w b e =
-    let small = b.small in
-    record { dense = b.space.dense; small = small; frame = frame_at-is k r n f marks e.inserts.changed; looks = λ p h. e.inserts.others p (omega (arith, small, h)) (omega (arith, small, h)); adds = e.adds }
-
-pub next-count : (z k : List (List ℕ)) (r t n f marks : ℕ) (q w : Frames) → IsBefore z r t n f marks q → IsNext z k r n f marks q w → (v : ℕ) → IsCounted z k r t n f q w v
-next-count z k r t n f marks q w b e = added-count z k r t n f q w (next-added z k r t n f marks q w b e)
-
 -- a frame of the list has no holder and no further one
 free-none : (m : List (List ℕ)) (s : Frames) (v : ℕ) → IsFreeList m s → 0 < count_of v (free_of m s) → (holders_of m s v ≡ 0) × (further_at s v ≡ 0)
 free-none m s v is some = elim (count-cases v (free_of m s)) [
@@ -76,79 +48,75 @@ free-none m s v is some = elim (count-cases v (free_of m s)) [
   | inr none ↦ absurd (omega (arith, some, none))
 ]
 
-next-holders : (z k : List (List ℕ)) (r n f marks : ℕ) (q w : Frames) → IsFreeList z q → IsNext z k r n f marks q w → (v : ℕ) → holders_of k w v + count_of v (free_of k w) ≡ holders_of z q v + count_of v (free_of z q)
-next-holders z k r n f marks q w is e v = holders-table z k q w is e.paged.free e.keeps.count e.extra v
+module _ {z k : List (List ℕ)} {r t n f marks : ℕ} {q w : Frames} (b : IsBefore z r t n f marks q) (e : IsNext z k r n f marks q w) where
+  next-looks : (p : ℕ) → p < suc n → p ≢ n → lookup_of k r p ≡ lookup_of z r p
+  next-looks p h ne = let small = b.small in e.inserts.others p (omega (arith, h, small)) ne
 
-pub next-held : (z k : List (List ℕ)) (r t n f marks : ℕ) (q w : Frames) → IsBefore z r t n f marks q → IsNext z k r n f marks q w → OwnsFrames k r t (suc n) w
-next-held z k r t n f marks q w b e =
-    let is = b.space in
-    let counts = next-count z k r t n f marks q w b e in
-    let holders = next-holders z k r n f marks q w is.free e in
-    let further : (v : ℕ) → further_at w v ≡ further_at q v = λ (v : ℕ). further-same q w v e.extra in
-    record {
-      dense = next-dense z k r t n f marks q w b e;
-      once = λ v. elim (cases_eq (count_of v (free_of z q)) 0) [
-        | inl none ↦ elim (cases_eq v f) [
-          | inl same ↦ omega (arith, counts v, none, count_of-first v f [] same, ap (λ x. count_of x (held z r t n)) same, b.absent)
-          | inr other ↦ omega (arith, counts v, none, count_of-other v f [] other, is.once v)
-        ]
-        | inr some ↦ omega (arith, counts v, distinct-count v (free_of z q) is.free.distinct, b.room v, (free-none z q v is.free (omega (arith, some))).0)
-      ];
-      free = e.paged.free;
-      held = λ v. omega (arith, counts v, holders v, b.room v);
-      own = λ v some. elim (cases_eq (count_of v (tables_for k r n)) 0) [
-        | inl none ↦ omega (arith, further v, is.own v (omega (arith, some, none, counts v)))
-        | inr new ↦ omega (arith, further v, (free-none z q v is.free (omega (arith, new, counts v))).1)
-      ];
-      alone = λ p h wide. elim (cases_eq p n) [
-        | inl same ↦
-            let marks_is = ap (marks_at k r) same ∙ marks_at-is k r n f marks e.inserts.changed in
-            let frame_is = ap (frame_at k r) same ∙ frame_at-is k r n f marks e.inserts.changed in
-            ap (further_at w) frame_is ∙ further f ∙ b.sole (ap is_open (sym marks_is) ∙ wide)
-        | inr ne ↦
-            let small = b.small in
-            let looks = e.inserts.others p (omega (arith, h, small)) ne in
-            ap (further_at w) (frame_at-same z k r p looks) ∙ further (frame_at z r p) ∙ is.alone p (omega (arith, h, ne)) (ap is_open (sym (marks_at-same z k r p looks)) ∙ wide)
-      ];
-    }
+  pub next-count : (v : ℕ) → IsCounted z k r t n f q w v
+  next-count = added-count z k r t n f q w (record { dense = b.space.dense; small = b.small; frame = frame_at-is k r n f marks e.inserts.changed; looks = λ p h. next-looks p (omega (arith, h)) (omega (arith, h)); adds = e.adds })
 
--- a frame that has a holder and is no table of the space keeps its bytes
-next-bytes : (z k : List (List ℕ)) (r t n f marks : ℕ) (q w : Frames) → IsBefore z r t n f marks q → IsNext z k r n f marks q w → (v : ℕ) → 0 < holders_of z q v → count_of v (tables_below z r n) ≡ 0 → frame_of k v ≡ frame_of z v
-next-bytes z k r t n f marks q w b e v some none = e.keeps.others v (λ h. omega (arith, none, table-held z r t n v b.space.dense h)) (held-inside z q v b.space.free some).1
+  next-holders : (v : ℕ) → holders_of k w v + count_of v (free_of k w) ≡ holders_of z q v + count_of v (free_of z q)
+  next-holders v = holders-table z k q w b.space.free e.paged.free e.keeps.count e.extra v
 
--- the space trades for the page's frame, which it was counted to hold, and the tables that came
-pub next-trades : (z k : List (List ℕ)) (r t n f marks : ℕ) (q w : Frames) → IsBefore z r t n f marks q → IsNext z k r n f marks q w → Trades z k q w (f ∷ held z r t n) (held k r t (suc n))
-next-trades z k r t n f marks q w b e =
-    let is = b.space in
-    let counts = next-count z k r t n f marks q w b e in
-    record {
-      count = e.keeps.count;
-      moved = λ v. omega (arith, counts v, next-holders z k r n f marks q w is.free e v);
-      others = λ v more.
-          let none = (beyond-held z r t n q is v (omega (arith, more))).0 in
-          next-bytes z k r t n f marks q w b e v (omega (arith, more)) (omega (arith, none));
-      fresh = λ v none some. (free-none z q v is.free (omega (arith, none, some, counts v))).0;
-    }
+  pub next-held : OwnsFrames k r t (suc n) w
+  next-held =
+      let is = b.space in
+      let small = b.small in
+      let further : (v : ℕ) → further_at w v ≡ further_at q v = λ (v : ℕ). further-same q w v e.extra in
+      record {
+        dense = dense-set z k r t n (suc n) n f marks is.dense e.paged.tree e.tidy (omega arith) (omega (arith, small)) e.inserts.changed e.leaf e.inserts.others (omega arith) (λ p h ne. omega (arith, h, ne));
+        once = λ v. elim (cases_eq (count_of v (free_of z q)) 0) [
+          | inl none ↦ elim (cases_eq v f) [
+            | inl same ↦ omega (arith, next-count v, none, count_of-first v f [] same, ap (λ x. count_of x (held z r t n)) same, b.absent)
+            | inr other ↦ omega (arith, next-count v, none, count_of-other v f [] other, is.once v)
+          ]
+          | inr some ↦ omega (arith, next-count v, distinct-count v (free_of z q) is.free.distinct, b.room v, (free-none z q v is.free (omega (arith, some))).0)
+        ];
+        free = e.paged.free;
+        held = λ v. omega (arith, next-count v, next-holders v, b.room v);
+        own = λ v some. elim (cases_eq (count_of v (tables_for k r n)) 0) [
+          | inl none ↦ omega (arith, further v, is.own v (omega (arith, some, none, next-count v)))
+          | inr new ↦ omega (arith, further v, (free-none z q v is.free (omega (arith, new, next-count v))).1)
+        ];
+        alone = λ p h wide. elim (cases_eq p n) [
+          | inl same ↦
+              let marks_is = ap (marks_at k r) same ∙ marks_at-is k r n f marks e.inserts.changed in
+              let frame_is = ap (frame_at k r) same ∙ frame_at-is k r n f marks e.inserts.changed in
+              ap (further_at w) frame_is ∙ further f ∙ b.sole (ap is_open (sym marks_is) ∙ wide)
+          | inr ne ↦
+              let looks = next-looks p h ne in
+              ap (further_at w) (frame_at-same z k r p looks) ∙ further (frame_at z r p) ∙ is.alone p (omega (arith, h, ne)) (ap is_open (sym (marks_at-same z k r p looks)) ∙ wide)
+        ];
+      }
 
-pub next-pages : (z k : List (List ℕ)) (r t n f marks : ℕ) (q w : Frames) → IsBefore z r t n f marks q → IsNext z k r n f marks q w → pages_below k r (suc n) ≡ pages_below z r n ++ (page_with (frame_of z f) marks ∷ [])
-next-pages z k r t n f marks q w b e =
-    let is = b.space in
-    let small = b.small in
-    let old : pages_below k r n ≡ pages_below z r n = pages_below-same z k r n
-    (λ p h. e.inserts.others p (omega (arith, h, small)) (omega (arith, h)))
-    (λ p h. let g = frame_at z r p in let at = page-held z r n p h in next-bytes z k r t n f marks q w b e g
-    (omega (arith, is.held g, count-held z r t n g, at))
-    (omega (arith, is.once g, count-held z r t n g, at))) in
-    let here : frame_at k r n ≡ f = frame_at-is k r n f marks e.inserts.changed in
-    let bytes : frame_of k f ≡ frame_of z f = next-bytes z k r t n f marks q w b e f (omega (arith, b.room f, count_of-first f f [] refl)) (omega (arith, b.absent, count-held z r t n f)) in
-    let page : page_at k r n ≡ page_with (frame_of z f) marks = ap (λ x. page_with x (marks_at k r n)) (ap (frame_of k) here ∙ bytes) ∙ ap (page_with (frame_of z f)) (marks_at-is k r n f marks e.inserts.changed) in
-    pages_below-more k r n ∙ ap (λ x. pages_below k r n ++ (x ∷ [])) page ∙ ap (λ l. l ++ (page_with (frame_of z f) marks ∷ [])) old
+  -- a frame that has a holder and is no table of the space keeps its bytes
+  next-bytes : (v : ℕ) → 0 < holders_of z q v → count_of v (tables_below z r n) ≡ 0 → frame_of k v ≡ frame_of z v
+  next-bytes v some none = e.keeps.others v (λ h. omega (arith, none, table-held z r t n v b.space.dense h)) (held-inside z q v b.space.free some).1
 
-pub next-trap : (z k : List (List ℕ)) (r t n f marks : ℕ) (q w : Frames) → IsBefore z r t n f marks q → IsNext z k r n f marks q w → frame_of k t ≡ frame_of z t
-next-trap z k r t n f marks q w b e =
-    let is = b.space in
-    let one = count_of-first t t [] refl in
-    next-bytes z k r t n f marks q w b e t (omega (arith, is.held t, count-held z r t n t, one)) (omega (arith, is.once t, count-held z r t n t, one))
+  -- the space trades for the page's frame, which it was counted to hold, and the tables that came
+  pub next-trades : Trades z k q w (f ∷ held z r t n) (held k r t (suc n))
+  next-trades = record {
+    count = e.keeps.count;
+    moved = λ v. omega (arith, next-count v, next-holders v);
+    others = λ v more. let none = (beyond-held z r t n q b.space v (omega (arith, more))).0 in next-bytes v (omega (arith, more)) (omega (arith, none));
+    fresh = λ v none some. (free-none z q v b.space.free (omega (arith, none, some, next-count v))).0;
+  }
+
+  pub next-pages : pages_below k r (suc n) ≡ pages_below z r n ++ (page_with (frame_of z f) marks ∷ [])
+  next-pages =
+      let is = b.space in
+      let old : pages_below k r n ≡ pages_below z r n = pages_below-same z k r n (λ p h. next-looks p (omega (arith, h)) (omega (arith, h)))
+      (λ p h. let g = frame_at z r p in let at = page-held z r n p h in next-bytes g (omega (arith, is.held g, count-held z r t n g, at)) (omega (arith, is.once g, count-held z r t n g, at))) in
+      let here : frame_at k r n ≡ f = frame_at-is k r n f marks e.inserts.changed in
+      let bytes : frame_of k f ≡ frame_of z f = next-bytes f (omega (arith, b.room f, count_of-first f f [] refl)) (omega (arith, b.absent, count-held z r t n f)) in
+      let page : page_at k r n ≡ page_with (frame_of z f) marks = ap (λ x. page_with x (marks_at k r n)) (ap (frame_of k) here ∙ bytes) ∙ ap (page_with (frame_of z f)) (marks_at-is k r n f marks e.inserts.changed) in
+      pages_below-more k r n ∙ ap (λ x. pages_below k r n ++ (x ∷ [])) page ∙ ap (λ l. l ++ (page_with (frame_of z f) marks ∷ [])) old
+
+  pub next-trap : frame_of k t ≡ frame_of z t
+  next-trap =
+      let is = b.space in
+      let one = count_of-first t t [] refl in
+      next-bytes t (omega (arith, is.held t, count-held z r t n t, one)) (omega (arith, is.once t, count-held z r t n t, one))
 
 -- its tables fit where the count of the next page does
 pub next-fits : (z : List (List ℕ)) (r t n : ℕ) (q : Frames) → OwnsFrames z r t n q → n < 32768 → frames_for (n + 1) ≤ 1 + frames_for n + free_count z q → missing z r n ≤ free_count z q

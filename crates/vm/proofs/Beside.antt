@@ -1,6 +1,6 @@
 -- A space outlives what is done beside it, also where it shares frames.
 use Rattle.vm.proofs.Common.{◌≡◌, ℕ, ◌+◌, ◌<◌, ◌≤◌, inl, inr, List, [], ◌∷◌, ◌++◌, refl, sym, ap, ◌∙◌, arith, cases_eq, frame_of, Frames, further_at, IsFreeList, count_of, holders_of}
-use Rattle.vm.proofs.Common.{Trades, count_of-append, count_of-first, one-holder, single, Trades-beside, HasTable, SameMap, table_at-same, lookup_of-same, Space, held, tables_below}
+use Rattle.vm.proofs.Common.{Trades, count_of-first, one-holder, single, Trades-beside, HasTable, SameMap, table_at-same, lookup_of-same, Space, held, tables_below}
 use Rattle.vm.proofs.Common.{frames_below, frame_at, pages_below, IsDense, OwnsFrames, SameLeaves, entry_marks, is_open, right_marks, IsSpace, holds, pages_in, IsUntouched}
 use Rattle.vm.proofs.DenseLemmas.{count-held, page-held, table-held}
 use Rattle.vm.proofs.GrowLemmas.{IsDense-same, held-same, frame_at-same, marks_at-same}
@@ -84,18 +84,11 @@ Trades-space m k s n old new b is room t free = (Trades-held m k s n old new b.r
 
 -- ---- trades of more than one holder
 
-pub Trades-as : (m k : List (List ℕ)) (s n : Frames) (old new before after : List ℕ) → Trades m k s n old new → ((v : ℕ) → count_of v before ≡ count_of v old) → ((v : ℕ) → count_of v after ≡ count_of v new) → Trades m k s n before after
-Trades-as m k s n old new before after t a b = record {
+pub Trades-with : (m k : List (List ℕ)) (s n : Frames) (old new rest before after : List ℕ) → Trades m k s n old new → ((v : ℕ) → count_of v before ≡ count_of v rest + count_of v old) → ((v : ℕ) → count_of v after ≡ count_of v rest + count_of v new)
+    → Trades m k s n before after
+Trades-with m k s n old new rest before after t a b = record {
   count = t.count;
   moved = λ v. omega (arith, t.moved v, a v, b v);
   others = λ v more. t.others v (omega (arith, more, a v));
-  fresh = λ v none some. t.fresh v (omega (arith, none, a v)) (omega (arith, some, b v));
-}
-
-pub Trades-frame : (m k : List (List ℕ)) (s n : Frames) (old new rest : List ℕ) → Trades m k s n old new → Trades m k s n (rest ++ old) (rest ++ new)
-Trades-frame m k s n old new rest t = record {
-  count = t.count;
-  moved = λ v. omega (arith, t.moved v, count_of-append v rest old, count_of-append v rest new);
-  others = λ v more. t.others v (omega (arith, more, count_of-append v rest old));
-  fresh = λ v none some. t.fresh v (omega (arith, none, count_of-append v rest old)) (omega (arith, none, some, count_of-append v rest old, count_of-append v rest new));
+  fresh = λ v none some. t.fresh v (omega (arith, none, a v)) (omega (arith, none, some, a v, b v));
 }

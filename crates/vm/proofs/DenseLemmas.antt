@@ -1,7 +1,7 @@
 -- Lemmas on dense spaces.
 use Rattle.vm.proofs.Common.{◌≡◌, ◌≢◌, ℕ, zero, suc, ◌+◌, ◌-◌, ◌*◌, ◌/◌, ◌%◌, ◌^◌, ◌<◌, ◌≤◌, ◌⊎◌, inl, inr, Bool, false, true, List, [], ◌∷◌, ◌++◌, length, Some, refl, sym, ap, ◌∙◌, arith, length-append, eqb, eq-eqb, ltb, if◌then◌else◌}
 use Rattle.vm.proofs.Common.{cases_eq, cases_lt, ne_eqb, lt-ltb, le-ltb, one_if, count_of, count_of-append, count_of-first, Node, Root, Mid, Low, mid_node, low_node, table_at, lookup_of, HasTable, root_at, table_of, IsUsed}
-use Rattle.vm.proofs.Common.{table_of-some, map-append, memory_of, page_in, right_marks, trap_page, frame_at, page_at, read_at, read_below, mapping_below, pages_below, frames_below, tables_for, tables_below, held, frames_for, IsDense}
+use Rattle.vm.proofs.Common.{table_of-some, map-append, page_in, right_marks, trap_page, frame_at, page_at, read_at, read_below, mapping_below, pages_below, frames_below, tables_for, tables_below, held, frames_for, IsDense}
 
 -- ---- how many
 
@@ -151,13 +151,10 @@ table-held m r t n v is h = elim (cases_root h.place) [
 
 -- ---- the pages
 
-mapping_below-more : (m : List (List ℕ)) (r n : ℕ) → mapping_below m r (suc n) ≡ mapping_below m r n ++ (read_at right_marks m r n ∷ [])
-unfolding read_below
-mapping_below-more m r n = refl
-
 pub pages_below-zero : (m : List (List ℕ)) (r : ℕ) → pages_below m r 0 ≡ []
 unfolding read_below
 pages_below-zero m r = refl
 
 pub pages_below-more : (m : List (List ℕ)) (r n : ℕ) → pages_below m r (suc n) ≡ pages_below m r n ++ (page_at m r n ∷ [])
-pages_below-more m r n = ap (memory_of m) (mapping_below-more m r n) ∙ map-append (page_in m) (mapping_below m r n) (read_at right_marks m r n ∷ [])
+unfolding read_below
+pages_below-more m r n = map-append (page_in m) (mapping_below m r n) (read_at right_marks m r n ∷ [])

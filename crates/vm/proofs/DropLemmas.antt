@@ -4,7 +4,7 @@ use Rattle.vm.proofs.Common.{extra_of, further_at, IsFreeList, SameBut, count_of
 use Rattle.vm.proofs.Common.{Adds, Removes, lookup-sound, trap_page, frame_at, marks_at, pages_below, frames_below, tables_for, tables_below, held, IsDense, OwnsFrames, SameLeavesUpTo, further-same, is_open}
 use Rattle.std.specs.Option.{option_map}
 use Rattle.vm.proofs.Added.{IsAdded, IsCounted, added-count, added-same}
-use Rattle.vm.proofs.Beside.{Besides, Trades-held}
+use Rattle.vm.proofs.Beside.{Trades-held}
 use Rattle.vm.proofs.DenseLemmas.{count-held, page-held, table-held}
 use Rattle.vm.proofs.GrowLemmas.{frame_at-same, lookup-parts, marks_at-same}
 use Rattle.vm.proofs.StepLemmas.{held-not_free, beyond-held, read_below-same, pages_below-same}
@@ -99,16 +99,6 @@ stays-unmapped m j r t n f s a is u v some =
 
 -- ---- and then it goes
 
-releases : (m j k : List (List ℕ)) (r t n f : ℕ) (s a w : Frames) → OwnsFrames m r t (suc n) s → IsUnmapped m j r n f s a → IsReleased j k f a w → Trades j k a w (f ∷ []) []
-releases m j k r t n f s a w is u g = Trades-give j k a w f u.paged.free g.holders g.others g.stays
-    (omega (arith, is.held f, count-unmapped m j r t n f s a is u f, holders-unmapped m j r t n f s a is u f, count_of-first f f [] refl))
-
-beside-drop : (m j k : List (List ℕ)) (r t n f : ℕ) (s a w : Frames) → OwnsFrames m r t (suc n) s → IsUnmapped m j r n f s a → IsReleased j k f a w → Besides j k w r t n
-beside-drop m j k r t n f s a w is u g =
-    Trades-held j k a w (f ∷ []) [] r t n (OwnsFrames-unmapped m j r t n f s a is u)
-    (λ v. omega (arith, is.held v, count-unmapped m j r t n f s a is u v, holders-unmapped m j r t n f s a is u v))
-    (releases m j k r t n f s a w is u g) g.valid
-
 -- the space has a page less
 pub record IsDropped (m k : List (List ℕ)) (r t n : ℕ) (s w : Frames) : Type 0 where
   pub space : OwnsFrames k r t n w
@@ -119,11 +109,11 @@ pub record IsDropped (m k : List (List ℕ)) (r t n : ℕ) (s w : Frames) : Type
 
 pub dropped : (m j k : List (List ℕ)) (r t n f : ℕ) (s a w : Frames) → OwnsFrames m r t (suc n) s → IsUnmapped m j r n f s a → IsReleased j k f a w → IsDropped m k r t n s w
 dropped m j k r t n f s a w is u g =
-    let beside = beside-drop m j k r t n f s a w is u g in
-    let stays = beside.stays in
-    let give = releases m j k r t n f s a w is u g in
     let counts = count-unmapped m j r t n f s a is u in
     let holders = holders-unmapped m j r t n f s a is u in
+    let give : Trades j k a w (f ∷ []) [] = Trades-give j k a w f u.paged.free g.holders g.others g.stays (omega (arith, is.held f, counts f, holders f, count_of-first f f [] refl)) in
+    let beside = Trades-held j k a w (f ∷ []) [] r t n (OwnsFrames-unmapped m j r t n f s a is u) (λ v. omega (arith, is.held v, counts v, holders v)) give g.valid in
+    let stays = beside.stays in
     let looks : (p : ℕ) → p < n → lookup_of j r p ≡ lookup_of m r p = λ (p : ℕ) (h : p < n). u.removes.others p (omega (arith, is.dense.small, h)) (omega (arith, h)) in
     record {
       space = beside.space;

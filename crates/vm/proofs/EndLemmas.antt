@@ -77,11 +77,6 @@ end-free : (m j k : List (List ℕ)) (r t f : ℕ) (s a w : Frames) → OwnsFram
 end-free m j k r t f s a w is u g =
     g.last (further-same s a f u.extra ∙ is.own f (omega (arith, first-one t, ap (λ x. count_of x (t ∷ [])) (end-trap m j r t f s a is u))))
 
-root-free : (m j k l : List (List ℕ)) (r t f : ℕ) (s a w q : Frames) → OwnsFrames m r t 0 s → IsUnmapped m j r trap_page f s a → IsGiven j k f a w → IsGiven k l r w q → (free_of l q ≡ r ∷ free_of k w) × (extra_of q ≡ extra_of w)
-root-free m j k l r t f s a w q is u g e =
-    let root : HasTable m r r = record { place = Root; is_node = tt; at_place = root_at m r } in
-    e.last (further-same s w r ((end-free m j k r t f s a w is u g).1 ∙ u.extra) ∙ is.own r (omega (arith, table-held m r t 0 r is.dense root)))
-
 pub end-paged : (m j k : List (List ℕ)) (r t f : ℕ) (s a w : Frames) → OwnsFrames m r t 0 s → IsUnmapped m j r trap_page f s a → IsGiven j k f a w → IsPaged k r w
 end-paged m j k r t f s a w is u g =
     let same = end-same m j k r t f s a w is u g in
@@ -101,7 +96,8 @@ Trades-end m j k l r t f s a w q is u g e =
     let len : length l ≡ length m = e.others.count ∙ g.others.count ∙ u.keeps.count in
     let trap = end-trap m j r t f s a is u in
     let given = end-free m j k r t f s a w is u g in
-    let root = root-free m j k l r t f s a w q is u g e in
+    let own = is.own r (omega (arith, table-held m r t 0 r is.dense (record { place = Root; is_node = tt; at_place = root_at m r }))) in
+    let root = e.last (further-same s w r (given.1 ∙ u.extra) ∙ own) in
     record {
       count = len;
       moved = λ v. omega (arith, count-unmapped m j r t f s a is u v, ap (count_of v) given.0, ap (count_of v) root.0, ap (λ x. one_if (eqb v x)) trap, holders-table m l s q is.free e.valid len (root.1 ∙ given.1 ∙ u.extra) v);

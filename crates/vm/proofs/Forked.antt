@@ -7,7 +7,7 @@ use Rattle.vm.proofs.GrowLemmas.{frame_at-is, frame_at-same, missing-next}
 use Rattle.vm.proofs.PageLemmas.{get_or-pages}
 use Rattle.vm.proofs.DenseLemmas.{count-held, frames_for-more, page-held, pages_below-more, pages_below-zero, length-held}
 use Rattle.vm.proofs.Added.{IsBefore, next-held, next-pages, next-trades, next-trap, share-stands}
-use Rattle.vm.proofs.Beside.{Trades-as, Trades-frame, Trades-held}
+use Rattle.vm.proofs.Beside.{Trades-held, Trades-with}
 use Rattle.vm.proofs.StepLemmas.{IsNext}
 use Rattle.vm.proofs.StoreLemmas.{pages-same}
 
@@ -132,24 +132,20 @@ part-more m k l x c n f leaf s q w is low was e after more list next =
     let part = part-closed m k x c n f leaf s is low e in
     let before = part-before k x c n f leaf s q part.0 low e.frame e.marks e.closed after more list in
     let b = before.1 in
-    let trades = next-trades k l r t n f leaf q w b next in
+    let trades = next-trades b next in
     let room : (v : ℕ) → count_of v (f ∷ held k r t n) + count_of v (holds k x) ≤ holders_of k q v = λ (v : ℕ). omega (arith, part.0.room v, more v) in
     let parent = Trades-held k l q w (f ∷ held k r t n) (held l r t (suc n)) x.root.0 x.trap.0 (pages_in x.size) before.0 room trades next.paged.free in
     let stays = parent.stays in
-    let child = next-held k l r t n f leaf q w b next in
+    let child = next-held b next in
     let here = page-once k x.root.0 x.trap.0 (pages_in x.size) n f s part.0.parent low e.frame in
     let first : Trades m k s s (holds m x ++ held m r t n) (held k r t n ++ holds k x) =
-    Trades-as m k s s (held m r t n ++ holds m x) (held m r t n ++ holds k x) (holds m x ++ held m r t n) (held k r t n ++ holds k x)
-    (Trades-frame m k s s (holds m x) (holds k x) (held m r t n) e.stands.trades)
-    (λ v. omega (arith, count_of-append v (holds m x) (held m r t n), count_of-append v (held m r t n) (holds m x)))
-    (λ v. omega (arith, count_of-append v (held k r t n) (holds k x), count_of-append v (held m r t n) (holds k x), part.1 v)) in
+    Trades-with m k s s (holds m x) (holds k x) (held m r t n) (holds m x ++ held m r t n) (held k r t n ++ holds k x) e.stands.trades
+    (λ v. omega (arith, count_of-append v (holds m x) (held m r t n))) (λ v. omega (arith, count_of-append v (held k r t n) (holds k x), part.1 v)) in
     let second : Trades k k s q (held k r t n ++ holds k x) (f ∷ (held k r t n ++ holds k x)) =
     Trades-more k s q f (held k r t n ++ holds k x) more (omega (arith, here.2, count_of-append f (held k r t n) (holds k x))) in
     let third : Trades k l q w (f ∷ (held k r t n ++ holds k x)) (holds l x ++ held l r t (suc n)) =
-    Trades-as k l q w (holds k x ++ (f ∷ held k r t n)) (holds k x ++ held l r t (suc n)) (f ∷ (held k r t n ++ holds k x)) (holds l x ++ held l r t (suc n))
-    (Trades-frame k l q w (f ∷ held k r t n) (held l r t (suc n)) (holds k x) trades)
-    (λ v. omega (arith, count_of-append v (held k r t n) (holds k x), count_of-append v (holds k x) (f ∷ held k r t n)))
-    (λ v. omega (arith, count_of-append v (holds l x) (held l r t (suc n)), count_of-append v (holds k x) (held l r t (suc n)), ap (count_of v) parent.same)) in
+    Trades-with k l q w (f ∷ held k r t n) (held l r t (suc n)) (holds k x) (f ∷ (held k r t n ++ holds k x)) (holds l x ++ held l r t (suc n)) trades
+    (λ v. omega (arith, count_of-append v (held k r t n) (holds k x))) (λ v. omega (arith, count_of-append v (holds l x) (held l r t (suc n)), ap (count_of v) parent.same)) in
     let all = Trades-twice m k l s s w (holds m x ++ held m r t n) (held k r t n ++ holds k x) (holds l x ++ held l r t (suc n)) first
     (Trades-twice k k l s q w (held k r t n ++ holds k x) (f ∷ (held k r t n ++ holds k x)) (holds l x ++ held l r t (suc n)) second third) in
     let lengths = Trades-lengths m l s w (holds m x ++ held m r t n) (holds l x ++ held l r t (suc n)) is.parent.free child.free (λ v. omega (arith, is.room v, count_of-append v (holds m x) (held m r t n))) all in
@@ -169,10 +165,10 @@ part-more m k l x c n f leaf s q w is low was e after more list next =
       pages = λ p h ne. page-of k l x p h stays.pages ∙ e.pages p h ne;
       registers = stays.trap ∙ e.stands.registers;
       frames = λ p h. frame_at-same k l x.root.0 p (stays.looks p) ∙ e.frames p h;
-      child = next-pages k l r t n f leaf q w b next
+      child = next-pages b next
           ∙ ap (λ (y : Page). pages_below k r n ++ (y ∷ [])) (closed-page m k x n f leaf s (frame_of k f) e (bytes m k x n f leaf s was e))
           ∙ ap (λ (l : List Page). l ++ (shared_page (page_at m x.root.0 n) ∷ [])) (part.2);
-      trap = next-trap k l r t n f leaf q w b next ∙ part.3;
+      trap = next-trap b next ∙ part.3;
       trades = all;
       free = omega (arith, lengths, length-append (holds m x) (held m r t n), length-append (holds l x) (held l r t (suc n)), length-held m x.root.0 x.trap.0 (pages_in x.size), length-held l x.root.0 x.trap.0 (pages_in x.size), length-held m r t n, length-held l r t (suc n));
     }
@@ -242,33 +238,27 @@ room-for m k x c n s w low room so =
     let e : d + (n + 1) ≡ pages_in x.size = omega (arith, low) in
     omega (arith, room, so.free, frames_for-grows (n + 1) d, ap frames_for e)
 
--- a page that both have has one holder more
-no-frames : (m : List (List ℕ)) (r f : ℕ) → count_of f (frames_below m r 0) ≡ 0
+-- the frames of the pages are the same, and have one holder more
+pub shared-frames : (m k : List (List ℕ)) (x c : Space) (p : ℕ) (s w : Frames) → IsPart m x c 0 s → IsSoFar m k x c (pages_in x.size) s w → p < pages_in x.size
+    → (frame_at k c.root.0 p ≡ frame_at m x.root.0 p) × (holders_of k w (frame_at m x.root.0 p) ≡ holders_of m s (frame_at m x.root.0 p) + 1)
 unfolding frames_below
-no-frames m r f = refl
-
-pub shared-holders : (m k : List (List ℕ)) (x c : Space) (n p : ℕ) (s w : Frames) → IsPart m x c 0 s → IsSoFar m k x c n s w → p < n → n ≤ pages_in x.size → holders_of k w (frame_at k x.root.0 p) ≡ holders_of m s (frame_at k x.root.0 p) + 1
-shared-holders m k x c n p s w is so low most =
-    let same = so.frames p (omega (arith, low, most)) in
-    let f = frame_at k x.root.0 p in
-    let before = page-once m x.root.0 x.trap.0 (pages_in x.size) p f s is.parent (omega (arith, low, most)) (sym same) in
-    let now = page-once k x.root.0 x.trap.0 (pages_in x.size) p f w so.part.parent (omega (arith, low, most)) refl in
-    let in_child = page-once k c.root.0 c.trap.0 n p f w so.part.child low (so.part.shared p low) in
+shared-frames m k x c p s w is so low =
+    let same = so.frames p low in
+    let n = pages_in x.size in
+    let f = frame_at m x.root.0 p in
+    let before = page-once m x.root.0 x.trap.0 n p f s is.parent low refl in
+    let now = page-once k x.root.0 x.trap.0 n p f w so.part.parent low same in
+    let in_child = page-once k c.root.0 c.trap.0 n p f w so.part.child low (so.part.shared p low ∙ same) in
     let none : count_of f (held m c.root.0 c.trap.0 0) ≡ 0 = elim (cases_eq (count_of f (held m c.root.0 c.trap.0 0)) 0) [
       | inl gone ↦ gone
       | inr some ↦
           let at = held-inside m s f is.parent.free (omega (arith, is.room f, before.2)) in
-          let own = is.child.own f (omega (arith, some, count-held m c.root.0 c.trap.0 0 f, no-frames m c.root.0 f)) in
+          let own = is.child.own f (omega (arith, some, count-held m c.root.0 c.trap.0 0 f)) in
           absurd (omega (arith, is.room f, before.2, some, own, not-free-held m s f is.parent.free at.0 at.1))
-    ] in
-    omega (arith, so.trades.moved f, before.2, now.2, in_child.2, none, count_of-append f (holds m x) (held m c.root.0 c.trap.0 0), count_of-append f (holds k x) (held k c.root.0 c.trap.0 n))
-
--- the frames of the pages are the same, and have one holder more
-pub shared-frames : (m k : List (List ℕ)) (x c : Space) (p : ℕ) (s w : Frames) → IsPart m x c 0 s → IsSoFar m k x c (pages_in x.size) s w → p < pages_in x.size
-    → (frame_at k c.root.0 p ≡ frame_at m x.root.0 p) × (holders_of k w (frame_at m x.root.0 p) ≡ holders_of m s (frame_at m x.root.0 p) + 1)
-shared-frames m k x c p s w is so low =
-    let same = so.frames p low in
-    (so.part.shared p low ∙ same, ap (holders_of k w) (sym same) ∙ shared-holders m k x c (pages_in x.size) p s w is so low (omega arith) ∙ ap (λ v. holders_of m s v + 1) same)
+    ] in (
+      so.part.shared p low ∙ same,
+      omega (arith, so.trades.moved f, before.2, now.2, in_child.2, none, count_of-append f (holds m x) (held m c.root.0 c.trap.0 0), count_of-append f (holds k x) (held k c.root.0 c.trap.0 n)),
+    )
 
 -- ---- a space that is made, and all pages
 
@@ -309,10 +299,8 @@ forked m k l x c s q w is new t so =
     let part = part-start m k x c s q is new t in
     let same : (p : ℕ) → frame_at k x.root.0 p ≡ frame_at m x.root.0 p = λ (p : ℕ). frame_at-same m k x.root.0 p (beside.stays.looks p) in
     let first : Trades m k s q (holds m x) (holds k x ++ held k c.root.0 c.trap.0 0) =
-    Trades-as m k s q (holds m x ++ []) (holds m x ++ held k c.root.0 c.trap.0 0) (holds m x) (holds k x ++ held k c.root.0 c.trap.0 0)
-    (Trades-frame m k s q [] (held k c.root.0 c.trap.0 0) (holds m x) t)
-    (λ v. omega (arith, count_of-append v (holds m x) []))
-    (λ v. omega (arith, count_of-append v (holds k x) (held k c.root.0 c.trap.0 0), count_of-append v (holds m x) (held k c.root.0 c.trap.0 0), ap (count_of v) beside.same)) in
+    Trades-with m k s q [] (held k c.root.0 c.trap.0 0) (holds m x) (holds m x) (holds k x ++ held k c.root.0 c.trap.0 0) t
+    (λ v. omega arith) (λ v. omega (arith, count_of-append v (holds k x) (held k c.root.0 c.trap.0 0), ap (count_of v) beside.same)) in
     let both : (p : ℕ) → p < pages_in x.size → (frame_at l c.root.0 p ≡ frame_at k x.root.0 p) × (holders_of l w (frame_at k x.root.0 p) ≡ holders_of k q (frame_at k x.root.0 p) + 1) = λ (p : ℕ) (h : p < pages_in x.size). shared-frames k l x c p q w part so h in
     record {
       child = so.part.child;

@@ -2,6 +2,8 @@
 use Rattle.vm.proofs.Common.{◌≡◌, ◌≢◌, ℕ, zero, suc, ◌+◌, ◌-◌, ◌/◌, ◌%◌, ◌<◌, ◌⊎◌, inl, inr, List, [], ◌∷◌, length, Option, Some, None, unwrap_or, refl, sym, ap, ◌∙◌, arith, eq-eqb, cases_eq, ne_eqb}
 use Rattle.vm.proofs.Common.{frame_of, Node, Mid, Low, IsNode, leaf_at, mid_node, low_node, table_at, lookup_of, HasTable, missing, low_is_node, mid_is_node, no_low, IsTree-same, table_at-same}
 use Rattle.vm.proofs.Common.{lookup_of-same, table_of, IsTidy, made, table_of-some, length-made, trap_page, trap_marks, frame_at, marks_at, frames_below, tables_for, tables_below, frames_for, IsDense}
+use Rattle.vm.proofs.Common.{◌≤◌, ◌^◌, IsUserLeaf}
+use Rattle.pagetable.specs.Tree.{IsTree}
 use Rattle.vm.proofs.DenseLemmas.{mapped-cases, low-0, mid-0, length-tables_for, frames_for-more}
 
 -- ---- what stays where the frames of the tables stay
@@ -42,21 +44,43 @@ IsDense-same m k r t n is len same =
       rest = λ p high small ne. looks p ∙ is.rest p high small ne;
     }
 
--- a mapped page has its tables
-leaf-table : (m : List (List ℕ)) (o : Option ℕ) (i : ℕ) (v : ℕ × ℕ) → leaf_at m o i ≡ Some v → o ≢ None
-leaf-table m None i v e z = cc
-leaf-table m (Some t) i v e z = cc
+-- one page is mapped, and the others are as they were
+pub dense-set : (m k : List (List ℕ)) (r t n w p f marks : ℕ) → IsDense m r t n → IsTree k r → IsTidy k r → p < w → w ≤ 32768 → lookup_of k r p ≡ Some (f, marks) → IsUserLeaf marks → ((j : ℕ) → j < 2 ^ 27 → j ≢ p → lookup_of k r j ≡ lookup_of m r j)
+    → n ≤ w → ((j : ℕ) → j < w → j ≢ p → j < n) → IsDense k r t w
+dense-set m k r t n w p f marks is tree tidy low small changed leaf looks more within = record {
+  tree = tree;
+  tidy = tidy;
+  small = small;
+  pages = λ j h. elim (cases_eq j p) [
+    | inl here ↦ lookup-parts k r j (f, marks) (ap (lookup_of k r) here ∙ changed)
+    | inr ne ↦ lookup-parts k r j (frame_at m r j, marks_at m r j) (looks j (omega (arith, h, small)) ne ∙ is.pages j (within j h ne))
+  ];
+  leaves = λ j h. elim (cases_eq j p) [
+    | inl here ↦ rw (here, marks_at-is k r p f marks changed) leaf
+    | inr ne ↦ rw (marks_at-same m k r j (looks j (omega (arith, h, small)) ne)) (is.leaves j (within j h ne))
+  ];
+  trap = looks trap_page (omega arith) (omega (arith, low, small)) ∙ is.trap;
+  rest = λ j high bound ne. looks j bound (omega (arith, low, high)) ∙ is.rest j (omega (arith, more, high)) bound ne;
+}
 
-not-none : (o : Option ℕ) → o ≢ None → o ≡ Some (unwrap_or o 0)
-not-none None ne = absurd (ne refl)
-not-none (Some t) ne = refl
+-- a mapped page has its tables
+none-or : (o : Option ℕ) → (o ≡ None) ⊎ (o ≡ Some (unwrap_or o 0))
+none-or None = inl refl
+none-or (Some t) = inr refl
+
+leaf-table : (m : List (List ℕ)) (o : Option ℕ) (i : ℕ) (v : ℕ × ℕ) → leaf_at m o i ≡ Some v → o ≡ Some (unwrap_or o 0)
+leaf-table m None i v e = absurd cc
+leaf-table m (Some t) i v e = refl
 
 pub mapped-low : (m : List (List ℕ)) (r p : ℕ) (v : ℕ × ℕ) → lookup_of m r p ≡ Some v → table_at m r (low_node p) ≡ Some (table_of m r (low_node p))
 unfolding lookup_of
-mapped-low m r p v e = not-none (table_at m r (low_node p)) (leaf-table m (table_at m r (low_node p)) (p % 512) v e)
+mapped-low m r p v e = leaf-table m (table_at m r (low_node p)) (p % 512) v e
 
 pub mapped-mid : (m : List (List ℕ)) (r p : ℕ) (v : ℕ × ℕ) → lookup_of m r p ≡ Some v → table_at m r (mid_node p) ≡ Some (table_of m r (mid_node p))
-mapped-mid m r p v e = not-none (table_at m r (mid_node p)) (λ z. let none = no_low m r p z in let some = mapped-low m r p v e in cc)
+mapped-mid m r p v e = elim (none-or (table_at m r (mid_node p))) [
+  | inl z ↦ absurd (let none = no_low m r p z in let some = mapped-low m r p v e in cc)
+  | inr h ↦ h
+]
 
 -- the lists go by the tables and pages below n
 pub frames_below-same : (m k : List (List ℕ)) (r n : ℕ) → ((p : ℕ) → p < n → lookup_of k r p ≡ lookup_of m r p) → frames_below k r n ≡ frames_below m r n
@@ -91,10 +115,6 @@ held-same m k r t n is looks stand =
     )
 
 -- ---- which tables the next page needs
-
-none-or : (o : Option ℕ) → (o ≡ None) ⊎ (o ≡ Some (unwrap_or o 0))
-none-or None = inl refl
-none-or (Some t) = inr refl
 
 no-mid : (m : List (List ℕ)) (r t : ℕ) → IsDense m r t 0 → table_at m r (mid_node 0) ≡ None
 no-mid m r t is = elim (none-or (table_at m r (mid_node 0))) [

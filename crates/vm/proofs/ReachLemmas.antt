@@ -4,6 +4,7 @@ use Rattle.vm.proofs.Common.{◌∙◌, arith, length-append, length-drop, lengt
 use Rattle.vm.proofs.Common.{get_or-drop, take-append-le, get_or_from_slice_get, slice_get_cases, slice_get_within, take_while-cons, prefix_len-le-length, prefix_len_passes, prefix_len_stops, flat_map}
 use Rattle.vm.proofs.Common.{prefix_len, take_while, if◌then◌else◌, slice_get, Access, Store, Page, Memory, can_write, permits, permitted, reach, IsSized, run_of, rest_of, piece_at}
 use Rattle.std.proofs.lemmas.List.Concat.{flat_map-cons}
+use Rattle.std.proofs.lemmas.Bool.{leb-false}
 
 -- an item of a list, and where there is none
 pub item-at : {A : Type 0} (xs : List A) (i : ℕ) (x : A) → slice_get xs i ≡ Some x → (drop i xs ≡ x ∷ drop (suc i) xs) × (i < length xs) × (get_or xs i x ≡ x)
@@ -52,33 +53,27 @@ length-flat a (x ∷ xs) h = elim (cases_Bool (permits a x.marks)) [
 
 -- ---- the run of pages
 
--- one more page of a run, and where it ends
-pub run-more : (a : Access) (mem : Memory) (first i : ℕ) (p : Page) → i ≤ run_of a mem first → slice_get mem (first + i) ≡ Some p → permits a p.marks ≡ true → i < run_of a mem first
+-- whether one more page is of the run
+run-test : (a : Access) (mem : Memory) (first i : ℕ) (p : Page) → i ≤ run_of a mem first → slice_get mem (first + i) ≡ Some p → permits a p.marks ≡ leb (suc i) (run_of a mem first)
 unfolding run_of
-run-more a mem first i p h at ok =
+run-test a mem first i p h at =
     let xs = drop first mem in
     let test : Page → Bool = λ (q : Page). permits a q.marks in
     let item = item-at mem (first + i) p at in
+    let here : test p ≡ test (get_or xs i p) = ap test (sym (get_or-drop first mem i p ∙ item.2)) in
     elim (cases_lt i (run a xs)) [
-      | inl low ↦ low
+      | inl low ↦ here ∙ prefix_len_passes test xs i p low ∙ sym (le-leb (suc i) (run a xs) (omega (arith, low)))
       | inr high ↦
           let same : run a xs ≡ i = omega (arith, h, high) in
-          let stops : test (get_or xs i p) ≡ false = ap (λ j. test (get_or xs j p)) (sym same) ∙ prefix_len_stops test xs p (omega (arith, item.1, same, length-drop first mem)) in
-          let bad : true ≡ false = sym ok ∙ ap test (sym (get_or-drop first mem i p ∙ item.2)) ∙ stops in
-          absurd cc
+          here ∙ ap (λ j. test (get_or xs j p)) (sym same) ∙ prefix_len_stops test xs p (omega (arith, item.1, same, length-drop first mem)) ∙ sym (lt-leb (suc i) (run a xs) (omega (arith, high)))
     ]
 
+-- one more page of it, and where it ends
+pub run-more : (a : Access) (mem : Memory) (first i : ℕ) (p : Page) → i ≤ run_of a mem first → slice_get mem (first + i) ≡ Some p → permits a p.marks ≡ true → i < run_of a mem first
+run-more a mem first i p h at ok = omega (arith, leb-true (suc i) (run_of a mem first) (sym (run-test a mem first i p h at) ∙ ok))
+
 pub run-stop : (a : Access) (mem : Memory) (first i : ℕ) (p : Page) → i ≤ run_of a mem first → slice_get mem (first + i) ≡ Some p → permits a p.marks ≡ false → run_of a mem first ≡ i
-unfolding run_of
-run-stop a mem first i p h at ok =
-    let xs = drop first mem in
-    let test : Page → Bool = λ (q : Page). permits a q.marks in
-    elim (cases_lt i (run a xs)) [
-      | inl low ↦
-          let bad : true ≡ false = sym (prefix_len_passes test xs i p low) ∙ ap test (get_or-drop first mem i p ∙ (item-at mem (first + i) p at).2) ∙ ok in
-          absurd cc
-      | inr high ↦ omega (arith, h, high)
-    ]
+run-stop a mem first i p h at ok = omega (arith, h, leb-false (suc i) (run_of a mem first) (sym (run-test a mem first i p h at) ∙ ok))
 
 pub run-end : (a : Access) (mem : Memory) (first i : ℕ) → i ≤ run_of a mem first → slice_get mem (first + i) ≡ None → run_of a mem first ≡ i
 unfolding run_of
@@ -86,12 +81,7 @@ run-end a mem first i h at = omega (arith, h, prefix_len-le-length (λ (p : Page
 
 -- whether a page begins one
 pub page-allows : (a : Access) (mem : Memory) (page : ℕ) (p : Page) (b : Bool) → slice_get mem page ≡ Some p → permits a p.marks ≡ b → b ≡ leb 1 (run_of a mem page)
-page-allows a mem page p true at ok =
-    let low = run-more a mem page 0 p (omega arith) (ap (slice_get mem) (omega arith) ∙ at) ok in
-    sym (le-leb 1 (run_of a mem page) (omega (arith, low)))
-page-allows a mem page p false at ok =
-    let none = run-stop a mem page 0 p (omega arith) (ap (slice_get mem) (omega arith) ∙ at) ok in
-    sym (lt-leb 1 (run_of a mem page) (omega (arith, none)))
+page-allows a mem page p b at ok = sym ok ∙ run-test a mem page 0 p (omega arith) (ap (slice_get mem) (omega arith) ∙ at)
 
 pub no-page-allows : (a : Access) (mem : Memory) (page : ℕ) → slice_get mem page ≡ None → false ≡ leb 1 (run_of a mem page)
 no-page-allows a mem page at =

@@ -1,13 +1,13 @@
 -- A page gets another frame with the same bytes, or other marks.
-use Rattle.vm.proofs.Common.{◌≡◌, ◌≢◌, ℕ, zero, suc, ◌+◌, ◌^◌, ◌<◌, ◌≤◌, ◌⊎◌, inl, inr, Bool, false, true, List, [], ◌∷◌, length, slice_set, length-set, get_or-set_other, get_or-set_same, Some, None, unwrap_or, nat_eq, ltb, subst, refl}
-use Rattle.vm.proofs.Common.{sym, ap, ◌∙◌, arith, cases_eq, Page, Perm, frame_of, Frames, among, free_of, further_at, IsFreeList, among_first, among_first_not, free_of-same, further-free, IsFreeList-same, one_if, count_of, holders_of}
-use Rattle.vm.proofs.Common.{Trades, one_if-le, count_of-first, count_of-other, held-inside, not-free-held, holders-free, holders-table, free-holders, Trades-none, Trades-twice, IsLeafMarks, Node, IsNode, mid_node, low_node, table_at}
-use Rattle.vm.proofs.Common.{lookup_of, IsPaged, HasTable, Keeps, Maps, SameMap, SameTables, low_is_node, mid_is_node, free-first, lookup-sound, IsTree-same, table_at-same, lookup_of-same, IsTidy, trap_page, frame_at, marks_at, page_at}
-use Rattle.vm.proofs.Common.{page_with, pages_below, frames_below, tables_below, held, IsDense, OwnsFrames, IsUserLeaf, right_marks, is_open, user_leaf, Space, pages_in, IsRearranged, IsSpace, Reframes, holds, HasRights}
+use Rattle.vm.proofs.Common.{◌+◌, ◌<◌, [], ◌^◌, ap, arith, Bool, false, get_or-set_other, get_or-set_same, inl, inr, length, length-set, List, ltb, nat_eq, None, refl, slice_set, Some, subst, suc, sym, true, unwrap_or, zero, ℕ, ◌∙◌, ◌∷◌}
+use Rattle.vm.proofs.Common.{◌≡◌, ◌≢◌, ◌≤◌, ◌⊎◌, cases_eq, among_first, among_first_not, further-free, count_of-first, count_of-other, free-holders, held-inside, holders-free, holders-table, not-free-held, one_if-le, Trades-none}
+use Rattle.vm.proofs.Common.{Trades-twice, among, further_at, IsFreeList, free_of, count_of, one_if, Trades, holders_of, Frames, IsTree-same, lookup_of-same, table_at-same, lookup-sound, free-first, low_is_node, mid_is_node, IsTidy}
+use Rattle.vm.proofs.Common.{HasTable, IsLeafMarks, IsNode, IsPaged, Keeps, low_node, Maps, mid_node, Node, SameMap, SameTables, lookup_of, table_at, frame_of, Page, Perm, frame_at, held, marks_at, OwnsFrames, page_at, page_with}
+use Rattle.vm.proofs.Common.{pages_below, frames_below, tables_below, is_open, IsUserLeaf, right_marks, user_leaf, HasRights, holds, IsRearranged, IsSpace, pages_in, Reframes, Space}
 use Rattle.vm.proofs.DenseLemmas.{count-held, page-held, table-held}
-use Rattle.vm.proofs.StepLemmas.{beyond-held, page-kept, pages-each}
-use Rattle.vm.proofs.GrowLemmas.{IsTidy-same, lookup-parts, frame_at-is, marks_at-is, frame_at-same, marks_at-same, frames_below-same, tables_below-same}
+use Rattle.vm.proofs.GrowLemmas.{IsTidy-same, dense-set, frame_at-is, frame_at-same, frames_below-same, marks_at-is, marks_at-same, tables_below-same}
 use Rattle.vm.proofs.LeafLemmas.{leaf-user, leaf-valid, right-leaf}
+use Rattle.vm.proofs.StepLemmas.{beyond-held, list-after, page-kept, pages-each}
 
 -- Page p, whose frame was f, has frame g and these marks now. Frame g is f, or was free and has f's bytes.
 pub record IsRemap (m z k : List (List ℕ)) (r p f g marks : ℕ) (s q : Frames) : Type 0 where
@@ -28,38 +28,8 @@ pub record IsRemap (m z k : List (List ℕ)) (r p f g marks : ℕ) (s q : Frames
   pub paged : IsPaged k r q
   pub keeps : Keeps z k r q q
 
-held-some : (m : List (List ℕ)) (r t n : ℕ) (s : Frames) → OwnsFrames m r t n s → (v : ℕ) → 0 < count_of v (held m r t n) → 0 < holders_of m s v
-held-some m r t n s is v some = omega (arith, some, is.held v)
-
-table-stays : (m z k : List (List ℕ)) (r t n p f g marks : ℕ) (s q : Frames) → OwnsFrames m r t n s → IsRemap m z k r p f g marks s q → (v : ℕ) → HasTable m r v → frame_of z v ≡ frame_of m v
-table-stays m z k r t n p f g marks s q is e v h = e.rest v (held-some m r t n s is v (omega (arith, count-held m r t n v, table-held m r t n v is.dense h)))
-
--- what is mapped at other pages
-pub remap-others : (m z k : List (List ℕ)) (r t n p f g marks : ℕ) (s q : Frames) → OwnsFrames m r t n s → IsRemap m z k r p f g marks s q → (j : ℕ) → j < 2 ^ 27 → j ≢ p → lookup_of k r j ≡ lookup_of m r j
-remap-others m z k r t n p f g marks s q is e j small ne = e.inserts.others j small ne ∙ lookup_of-same m z r (table-stays m z k r t n p f g marks s q is e) j
-
-remap-tables : (m z k : List (List ℕ)) (r t n p f g marks : ℕ) (s q : Frames) → OwnsFrames m r t n s → IsRemap m z k r p f g marks s q → SameTables m k r
-remap-tables m z k r t n p f g marks s q is e x nx = e.tables x nx ∙ table_at-same m z r (table-stays m z k r t n p f g marks s q is e) x nx
-
-pub remap-dense : (m z k : List (List ℕ)) (r t n p f g marks : ℕ) (s q : Frames) → OwnsFrames m r t n s → p < n → IsRemap m z k r p f g marks s q → IsDense k r t n
-remap-dense m z k r t n p f g marks s q is low e =
-    let small = is.dense.small in
-    let looks = remap-others m z k r t n p f g marks s q is e in
-    record {
-      tree = e.paged.tree;
-      tidy = e.tidy;
-      small = small;
-      pages = λ j h. elim (cases_eq j p) [
-        | inl here ↦ lookup-parts k r j (g, marks) (ap (lookup_of k r) here ∙ e.inserts.changed)
-        | inr ne ↦ lookup-parts k r j (frame_at m r j, marks_at m r j) (looks j (omega (arith, h, small)) ne ∙ is.dense.pages j h)
-      ];
-      leaves = λ j h. elim (cases_eq j p) [
-        | inl here ↦ rw (here, marks_at-is k r p g marks e.inserts.changed) e.leaf
-        | inr ne ↦ rw (marks_at-same m k r j (looks j (omega (arith, h, small)) ne)) (is.dense.leaves j h)
-      ];
-      trap = looks trap_page (omega arith) (omega (arith, low, small)) ∙ is.dense.trap;
-      rest = λ j high bound ne. looks j bound (omega (arith, low, high)) ∙ is.dense.rest j high bound ne;
-    }
+held-some : {m : List (List ℕ)} {r t n : ℕ} {s : Frames} → OwnsFrames m r t n s → (v : ℕ) → 0 < count_of v (held m r t n) → 0 < holders_of m s v
+held-some is v some = omega (arith, some, is.held v)
 
 -- the frames of the pages: one for another
 count-frames : (m k : List (List ℕ)) (r n p f g : ℕ) → ((j : ℕ) → j < n → j ≢ p → lookup_of k r j ≡ lookup_of m r j) → frame_at k r p ≡ g → frame_at m r p ≡ f → p < n
@@ -75,151 +45,135 @@ count-frames m k r (suc n) p f g looks new old low v = elim (cases_eq n p) [
       omega (arith, rest, ap (λ x. one_if (nat_eq v x)) (frame_at-same m k r n (looks n (omega arith) ne)))
 ]
 
-tables-same : (m z k : List (List ℕ)) (r t n p f g marks : ℕ) (s q : Frames) → OwnsFrames m r t n s → IsRemap m z k r p f g marks s q → tables_below k r n ≡ tables_below m r n
-tables-same m z k r t n p f g marks s q is e =
-    let same = remap-tables m z k r t n p f g marks s q is e in
-    tables_below-same m k r n (λ j h. (ap (λ o. unwrap_or o 0) (same (mid_node j) (mid_is_node j)), ap (λ o. unwrap_or o 0) (same (low_node j) (low_is_node j))))
-
--- what is held: one frame for another
-pub remap-held : (m z k : List (List ℕ)) (r t n p f g marks : ℕ) (s q : Frames) → OwnsFrames m r t n s → p < n → IsRemap m z k r p f g marks s q
-    → (v : ℕ) → count_of v (held k r t n) + count_of v (f ∷ []) ≡ count_of v (held m r t n) + count_of v (g ∷ [])
-remap-held m z k r t n p f g marks s q is low e v =
-    let small = is.dense.small in
-    let frames = count-frames m k r n p f g (λ j h ne. remap-others m z k r t n p f g marks s q is e j (omega (arith, h, small)) ne) (frame_at-is k r p g marks e.inserts.changed) e.was low v in
-    omega (arith, count-held m r t n v, count-held k r t n v, frames, ap (count_of v) (tables-same m z k r t n p f g marks s q is e))
-
--- where the page keeps its frame, all pages do, and what is held stays
-pub remap-frames : (m z k : List (List ℕ)) (r t n p f marks : ℕ) (s q : Frames) → OwnsFrames m r t n s → p < n → IsRemap m z k r p f f marks s q → (j : ℕ) → j < n → frame_at k r j ≡ frame_at m r j
-remap-frames m z k r t n p f marks s q is low e j h =
-    let small = is.dense.small in
-    elim (cases_eq j p) [
-      | inl at ↦ ap (frame_at k r) at ∙ frame_at-is k r p f marks e.inserts.changed ∙ sym e.was ∙ ap (frame_at m r) (sym at)
-      | inr ne ↦ frame_at-same m k r j (remap-others m z k r t n p f f marks s q is e j (omega (arith, h, small)) ne)
-    ]
-
-pub remap-kept : (m z k : List (List ℕ)) (r t n p f marks : ℕ) (s q : Frames) → OwnsFrames m r t n s → p < n → IsRemap m z k r p f f marks s q → (v : ℕ) → count_of v (held k r t n) ≡ count_of v (held m r t n)
-remap-kept m z k r t n p f marks s q is low e v = omega (arith, remap-held m z k r t n p f f marks s q is low e v)
-
 page-is-held : (m : List (List ℕ)) (r t n p f : ℕ) → p < n → frame_at m r p ≡ f → 0 < count_of f (held m r t n)
 page-is-held m r t n p f low was = omega (arith, count-held m r t n f, page-held m r n p low, ap (λ x. count_of x (frames_below m r n)) was)
 
--- the space stands
-pub remap-space : (m z k : List (List ℕ)) (r t n p f g marks : ℕ) (s q : Frames) → OwnsFrames m r t n s → p < n → IsRemap m z k r p f g marks s q → OwnsFrames k r t n q
-remap-space m z k r t n p f g marks s q is low e =
-    let small = is.dense.small in
-    let moved = remap-held m z k r t n p f g marks s q is low e in
-    let here = page-is-held m r t n p f low e.was in
-    record {
-      dense = remap-dense m z k r t n p f g marks s q is low e;
-      once = λ v. elim (cases_eq v g) [
-        | inl same ↦ elim e.new [
-          | inl old ↦ omega (arith, moved v, is.once v, count_of-first v f [] (same ∙ old), count_of-first v g [] same)
-          | inr free ↦ omega (arith, moved v, is.held v, ap (holders_of m s) same, free, count_of-first v g [] same)
-        ]
-        | inr other ↦ omega (arith, moved v, is.once v, count_of-other v g [] other)
-      ];
-      free = e.paged.free;
-      held = λ v. omega (arith, moved v, is.held v, e.moved v);
-      own = λ v some. omega (arith, e.fewer v, is.own v (omega (arith, some, ap (count_of v) (tables-same m z k r t n p f g marks s q is e))));
-      alone = λ j h wide. elim (cases_eq j p) [
-        | inl same ↦ rw (same, frame_at-is k r p g marks e.inserts.changed) (e.sole (ap is_open (sym (ap (marks_at k r) same ∙ marks_at-is k r p g marks e.inserts.changed)) ∙ wide))
-        | inr ne ↦
-            let looks = remap-others m z k r t n p f g marks s q is e j (omega (arith, h, small)) ne in
-            let before = is.alone j h (ap is_open (sym (marks_at-same m k r j looks)) ∙ wide) in
-            rw (frame_at-same m k r j looks) (omega (arith, e.fewer (frame_at m r j), before))
-      ];
-    }
+module _ {m z k : List (List ℕ)} {r t n p f g marks : ℕ} {s q : Frames} (is : OwnsFrames m r t n s) (low : p < n) (e : IsRemap m z k r p f g marks s q) where
+  table-stays : (v : ℕ) → HasTable m r v → frame_of z v ≡ frame_of m v
+  table-stays v h = e.rest v (held-some is v (omega (arith, count-held m r t n v, table-held m r t n v is.dense h)))
 
--- a frame that has a holder and is no table of the space keeps its bytes
-remap-bytes : (m z k : List (List ℕ)) (r t n p f g marks : ℕ) (s q : Frames) → OwnsFrames m r t n s → IsRemap m z k r p f g marks s q → (v : ℕ) → 0 < holders_of m s v → count_of v (tables_below m r n) ≡ 0 → frame_of k v ≡ frame_of m v
-remap-bytes m z k r t n p f g marks s q is e v some none =
-    let stays = table-stays m z k r t n p f g marks s q is e in
-    e.keeps.others v
-    (λ h. omega (arith, none, table-held m r t n v is.dense (record { place = h.place; is_node = h.is_node; at_place = sym (table_at-same m z r stays h.place h.is_node) ∙ h.at_place })))
-    (e.apart v some)
-    ∙ e.rest v some
+  table-was : (v : ℕ) → HasTable z r v → 0 < count_of v (tables_below m r n)
+  table-was v h = table-held m r t n v is.dense (record { place = h.place; is_node = h.is_node; at_place = sym (table_at-same m z r table-stays h.place h.is_node) ∙ h.at_place })
 
--- it trades a frame for another
-pub remap-trades : (m z k : List (List ℕ)) (r t n p f g marks : ℕ) (s q : Frames) → OwnsFrames m r t n s → p < n → IsRemap m z k r p f g marks s q → Trades m k s q (held m r t n) (held k r t n)
-remap-trades m z k r t n p f g marks s q is low e =
-    let moved = remap-held m z k r t n p f g marks s q is low e in
-    record {
-      count = e.keeps.count ∙ e.count;
-      moved = λ v. omega (arith, moved v, e.moved v);
-      others = λ v more.
-          let none = (beyond-held m r t n s is v more).0 in
-          remap-bytes m z k r t n p f g marks s q is e v (omega (arith, more)) (omega (arith, none));
-      fresh = λ v none some. elim e.new [
-        | inl old ↦ absurd (omega (arith, none, some, moved v, ap (λ x. count_of v (x ∷ [])) old))
-        | inr free ↦ elim (cases_eq v g) [
-          | inl same ↦ ap (holders_of m s) same ∙ free
-          | inr other ↦ absurd (omega (arith, none, some, moved v, count_of-other v g [] other))
-        ]
-      ];
-    }
+  -- what is mapped at other pages
+  remap-others : (j : ℕ) → j < 2 ^ 27 → j ≢ p → lookup_of k r j ≡ lookup_of m r j
+  remap-others j small ne = e.inserts.others j small ne ∙ lookup_of-same m z r table-stays j
 
--- the page has the bytes that it had, and these marks
-pub remap-page : (m z k : List (List ℕ)) (r t n p f g marks : ℕ) (s q : Frames) → OwnsFrames m r t n s → p < n → IsRemap m z k r p f g marks s q → page_at k r p ≡ page_with (frame_of m f) marks
-remap-page m z k r t n p f g marks s q is low e =
-    let stays = table-stays m z k r t n p f g marks s q is e in
-    let no_table : count_of g (tables_below m r n) ≡ 0 = elim e.new [
-      | inl old ↦ omega (arith, ap (λ x. count_of x (tables_below m r n)) old, is.once f, count-held m r t n f, page-held m r n p low, ap (λ x. count_of x (frames_below m r n)) e.was)
-      | inr free ↦ omega (arith, free, is.held g, count-held m r t n g)
-    ] in
-    let bytes : frame_of k g ≡ frame_of m f = e.keeps.others g
-    (λ h. omega (arith, no_table, table-held m r t n g is.dense (record { place = h.place; is_node = h.is_node; at_place = sym (table_at-same m z r stays h.place h.is_node) ∙ h.at_place })))
-    e.taken
-    ∙ e.bytes in
-    ap (λ x. page_with (frame_of k x) (marks_at k r p)) (frame_at-is k r p g marks e.inserts.changed)
-    ∙ ap (λ x. page_with (frame_of k g) x) (marks_at-is k r p g marks e.inserts.changed)
-    ∙ ap (λ b. page_with b marks) bytes
+  remap-looks : (j : ℕ) → j < n → j ≢ p → lookup_of k r j ≡ lookup_of m r j
+  remap-looks j h ne = let small = is.dense.small in remap-others j (omega (arith, h, small)) ne
 
--- and the others are as they were
-pub remap-other : (m z k : List (List ℕ)) (r t n p f g marks : ℕ) (s q : Frames) → OwnsFrames m r t n s → p < n → IsRemap m z k r p f g marks s q → (j : ℕ) → j < n → j ≢ p → page_at k r j ≡ page_at m r j
-remap-other m z k r t n p f g marks s q is low e j h ne =
-    let small = is.dense.small in
-    let looks = remap-others m z k r t n p f g marks s q is e j (omega (arith, h, small)) ne in
-    let v = frame_at m r j in
-    let some = page-held m r n j h in
-    page-kept m k r j looks (remap-bytes m z k r t n p f g marks s q is e v (held-some m r t n s is v (omega (arith, count-held m r t n v, some))) (omega (arith, is.once v, count-held m r t n v, some)))
+  tables-same : tables_below k r n ≡ tables_below m r n
+  tables-same =
+      let same : SameTables m k r = λ (x : Node) (nx : IsNode x). e.tables x nx ∙ table_at-same m z r table-stays x nx in
+      tables_below-same m k r n (λ j h. (ap (λ o. unwrap_or o 0) (same (mid_node j) (mid_is_node j)), ap (λ o. unwrap_or o 0) (same (low_node j) (low_is_node j))))
 
--- the program's memory is the same, where the rights are
-pub remap-pages : (m z k : List (List ℕ)) (r t n p f g marks : ℕ) (s q : Frames) → OwnsFrames m r t n s → p < n → IsRemap m z k r p f g marks s q → right_marks marks ≡ right_marks (marks_at m r p) → pages_below k r n ≡ pages_below m r n
-remap-pages m z k r t n p f g marks s q is low e right =
-    pages-each m k r n (λ j h. elim (cases_eq j p) [
-      | inl same ↦
-          ap (page_at k r) same
-          ∙ remap-page m z k r t n p f g marks s q is low e
-          ∙ ap (λ v. page_with (frame_of m v) marks) (sym e.was)
-          ∙ ap (λ x. let d : Page = record { bytes = frame_of m (frame_at m r p); marks = x } in d) right
-          ∙ ap (page_at m r) (sym same)
-      | inr ne ↦ remap-other m z k r t n p f g marks s q is low e j h ne
-    ])
+  -- what is held: one frame for another
+  remap-held : (v : ℕ) → count_of v (held k r t n) + count_of v (f ∷ []) ≡ count_of v (held m r t n) + count_of v (g ∷ [])
+  remap-held v =
+      let frames = count-frames m k r n p f g remap-looks (frame_at-is k r p g marks e.inserts.changed) e.was low v in
+      omega (arith, count-held m r t n v, count-held k r t n v, frames, ap (count_of v) tables-same)
 
--- and so are the registers
-pub remap-trap : (m z k : List (List ℕ)) (r t n p f g marks : ℕ) (s q : Frames) → OwnsFrames m r t n s → IsRemap m z k r p f g marks s q → frame_of k t ≡ frame_of m t
-remap-trap m z k r t n p f g marks s q is e =
-    let one = count_of-first t t [] refl in
-    remap-bytes m z k r t n p f g marks s q is e t (held-some m r t n s is t (omega (arith, one, count-held m r t n t))) (omega (arith, one, is.once t, count-held m r t n t))
+  -- the space stands
+  remap-space : OwnsFrames k r t n q
+  remap-space =
+      let here = page-is-held m r t n p f low e.was in
+      record {
+        dense = dense-set m k r t n n p g marks is.dense e.paged.tree e.tidy low is.dense.small e.inserts.changed e.leaf remap-others (omega arith) (λ j h ne. h);
+        once = λ v. elim (cases_eq v g) [
+          | inl same ↦ elim e.new [
+            | inl old ↦ omega (arith, remap-held v, is.once v, count_of-first v f [] (same ∙ old), count_of-first v g [] same)
+            | inr free ↦ omega (arith, remap-held v, is.held v, ap (holders_of m s) same, free, count_of-first v g [] same)
+          ]
+          | inr other ↦ omega (arith, remap-held v, is.once v, count_of-other v g [] other)
+        ];
+        free = e.paged.free;
+        held = λ v. omega (arith, remap-held v, is.held v, e.moved v);
+        own = λ v some. omega (arith, e.fewer v, is.own v (omega (arith, some, ap (count_of v) tables-same)));
+        alone = λ j h wide. elim (cases_eq j p) [
+          | inl same ↦ rw (same, frame_at-is k r p g marks e.inserts.changed) (e.sole (ap is_open (sym (ap (marks_at k r) same ∙ marks_at-is k r p g marks e.inserts.changed)) ∙ wide))
+          | inr ne ↦
+              let looks = remap-looks j h ne in
+              let before = is.alone j h (ap is_open (sym (marks_at-same m k r j looks)) ∙ wide) in
+              rw (frame_at-same m k r j looks) (omega (arith, e.fewer (frame_at m r j), before))
+        ];
+      }
+
+  -- a frame that has a holder and is no table of the space keeps its bytes
+  remap-bytes : (v : ℕ) → 0 < holders_of m s v → count_of v (tables_below m r n) ≡ 0 → frame_of k v ≡ frame_of m v
+  remap-bytes v some none = e.keeps.others v (λ h. omega (arith, none, table-was v h)) (e.apart v some) ∙ e.rest v some
+
+  -- it trades a frame for another
+  remap-trades : Trades m k s q (held m r t n) (held k r t n)
+  remap-trades = record {
+    count = e.keeps.count ∙ e.count;
+    moved = λ v. omega (arith, remap-held v, e.moved v);
+    others = λ v more. let none = (beyond-held m r t n s is v more).0 in remap-bytes v (omega (arith, more)) (omega (arith, none));
+    fresh = λ v none some. elim e.new [
+      | inl old ↦ absurd (omega (arith, none, some, remap-held v, ap (λ x. count_of v (x ∷ [])) old))
+      | inr free ↦ elim (cases_eq v g) [
+        | inl same ↦ ap (holders_of m s) same ∙ free
+        | inr other ↦ absurd (omega (arith, none, some, remap-held v, count_of-other v g [] other))
+      ]
+    ];
+  }
+
+  -- the page has the bytes that it had, and these marks
+  pub remap-page : page_at k r p ≡ page_with (frame_of m f) marks
+  remap-page =
+      let no_table : count_of g (tables_below m r n) ≡ 0 = elim e.new [
+        | inl old ↦ omega (arith, ap (λ x. count_of x (tables_below m r n)) old, is.once f, count-held m r t n f, page-held m r n p low, ap (λ x. count_of x (frames_below m r n)) e.was)
+        | inr free ↦ omega (arith, free, is.held g, count-held m r t n g)
+      ] in
+      let bytes : frame_of k g ≡ frame_of m f = e.keeps.others g (λ h. omega (arith, no_table, table-was g h)) e.taken ∙ e.bytes in
+      ap (λ x. page_with (frame_of k x) (marks_at k r p)) (frame_at-is k r p g marks e.inserts.changed)
+      ∙ ap (λ x. page_with (frame_of k g) x) (marks_at-is k r p g marks e.inserts.changed)
+      ∙ ap (λ b. page_with b marks) bytes
+
+  -- and the others are as they were
+  pub remap-other : (j : ℕ) → j < n → j ≢ p → page_at k r j ≡ page_at m r j
+  remap-other j h ne =
+      let v = frame_at m r j in
+      let some = page-held m r n j h in
+      page-kept m k r j (remap-looks j h ne) (remap-bytes v (held-some is v (omega (arith, count-held m r t n v, some))) (omega (arith, is.once v, count-held m r t n v, some)))
+
+  -- the program's memory is the same, where the rights are
+  remap-pages : right_marks marks ≡ right_marks (marks_at m r p) → pages_below k r n ≡ pages_below m r n
+  remap-pages right =
+      pages-each m k r n (λ j h. elim (cases_eq j p) [
+        | inl same ↦
+            ap (page_at k r) same
+            ∙ remap-page
+            ∙ ap (λ v. page_with (frame_of m v) marks) (sym e.was)
+            ∙ ap (λ x. let d : Page = record { bytes = frame_of m (frame_at m r p); marks = x } in d) right
+            ∙ ap (page_at m r) (sym same)
+        | inr ne ↦ remap-other j h ne
+      ])
+
+  -- and so are the registers
+  remap-trap : frame_of k t ≡ frame_of m t
+  remap-trap =
+      let one = count_of-first t t [] refl in
+      remap-bytes t (held-some is t (omega (arith, one, count-held m r t n t))) (omega (arith, one, is.once t, count-held m r t n t))
+
+-- where the page keeps its frame, all pages do, and what is held stays
+module _ {m z k : List (List ℕ)} {r t n p f marks : ℕ} {s q : Frames} (is : OwnsFrames m r t n s) (low : p < n) (e : IsRemap m z k r p f f marks s q) where
+  pub remap-frames : (j : ℕ) → j < n → frame_at k r j ≡ frame_at m r j
+  remap-frames j h = elim (cases_eq j p) [
+    | inl at ↦ ap (frame_at k r) at ∙ frame_at-is k r p f marks e.inserts.changed ∙ sym e.was ∙ ap (frame_at m r) (sym at)
+    | inr ne ↦ frame_at-same m k r j (remap-looks is low e j h ne)
+  ]
+
+  pub remap-kept : (v : ℕ) → count_of v (held k r t n) ≡ count_of v (held m r t n)
+  remap-kept v = omega (arith, remap-held is low e v)
 
 -- ---- the whole space
 
-pub reframed : (m z k : List (List ℕ)) (x : Space) (p f g marks : ℕ) (s q : Frames) → IsSpace m x s → p < pages_in x.size → IsRemap m z k x.root.0 p f g marks s q → Reframes m k x s q
-reframed m z k x p f g marks s q is low e =
-    let r = x.root.0 in
-    let t = x.trap.0 in
-    let n = pages_in x.size in
-    record {
-      space = remap-space m z k r t n p f g marks s q is low e;
-      registers = remap-trap m z k r t n p f g marks s q is e;
-      trades = remap-trades m z k r t n p f g marks s q is low e;
-    }
+module _ {m z k : List (List ℕ)} {p f g marks : ℕ} {s q : Frames} (x : Space) (is : IsSpace m x s) (low : p < pages_in x.size) (e : IsRemap m z k x.root.0 p f g marks s q) where
+  pub reframed : Reframes m k x s q
+  reframed = record { space = remap-space is low e; registers = remap-trap is low e; trades = remap-trades is low e }
 
-pub rearranged : (m z k : List (List ℕ)) (x : Space) (p f g marks : ℕ) (s q : Frames) → IsSpace m x s → p < pages_in x.size → IsRemap m z k x.root.0 p f g marks s q → HasRights m x p marks → IsRearranged m k x s q
-rearranged m z k x p f g marks s q is low e right = record {
-  frames = reframed m z k x p f g marks s q is low e;
-  pages = remap-pages m z k x.root.0 x.trap.0 (pages_in x.size) p f g marks s q is low e right;
-}
+  pub rearranged : HasRights m x p marks → IsRearranged m k x s q
+  rearranged right = record { frames = reframed; pages = remap-pages is low e right }
 
 -- ---- frames that change, one after another
 
@@ -231,17 +185,16 @@ reframes-twice m k l x s q w a b = record { space = b.space; registers = b.regis
 
 -- ---- other marks for the same frame
 
-pub remap-marks : (m k : List (List ℕ)) (r t n p f marks : ℕ) (s : Frames) → OwnsFrames m r t n s → p < n → frame_at m r p ≡ f → IsUserLeaf marks → (is_open marks ≡ true → further_at s f ≡ 0)
-    → Maps m k r p f marks → SameTables m k r → IsTidy k r → IsPaged k r s → Keeps m k r s s → free_of k s ≡ free_of m s
-    → IsRemap m m k r p f f marks s s
-remap-marks m k r t n p f marks s is low was leaf sole inserts tables tidy paged keeps free = record {
+pub remap-marks : {m k : List (List ℕ)} {r t n p f marks : ℕ} {s : Frames} → OwnsFrames m r t n s → p < n → frame_at m r p ≡ f → IsUserLeaf marks → (is_open marks ≡ true → further_at s f ≡ 0)
+    → Maps m k r p f marks → SameTables m k r → IsTidy k r → IsPaged k r s → Keeps m k r s s → free_of k s ≡ free_of m s → IsRemap m m k r p f f marks s s
+remap-marks {m} {k} {r} {t} {n} {p} {f} {s = s} is low was leaf sole inserts tables tidy paged keeps free = record {
   was = was;
   count = refl;
   rest = λ v some. refl;
   bytes = refl;
   new = inl refl;
   apart = λ v some. (held-inside m s v is.free some).1;
-  taken = (held-inside m s f is.free (held-some m r t n s is f (page-is-held m r t n p f low was))).1;
+  taken = (held-inside m s f is.free (held-some is f (page-is-held m r t n p f low was))).1;
   moved = λ v. omega (arith, holders-table m k s s is.free paged.free keeps.count refl v, ap (count_of v) free);
   fewer = λ v. omega arith;
   leaf = leaf;
@@ -262,93 +215,88 @@ pub record IsSplit (m z : List (List ℕ)) (s q : Frames) (f g : ℕ) : Type 0 w
   pub holders : (v : ℕ) → holders_of m q v + count_of v (f ∷ []) ≡ holders_of m s v + count_of v (g ∷ [])
   pub is : z ≡ slice_set m g (frame_of m f)
 
-split-fewer : (m z : List (List ℕ)) (s q : Frames) (f g : ℕ) → IsFreeList m s → IsSplit m z s q f g → (v : ℕ) → further_at q v ≤ further_at s v
-split-fewer m z s q f g is e v = omega (arith, e.holders v, holders-free m s is v, holders-free m q e.after v, ap (count_of v) e.taken)
+module _ {m z : List (List ℕ)} {s q : Frames} {f g : ℕ} (is : IsFreeList m s) (e : IsSplit m z s q f g) where
+  split-first : among g (free_of m s) ≡ true
+  split-first = ap (among g) e.taken ∙ among_first g (free_of m q)
 
-split-others : (m z : List (List ℕ)) (s q : Frames) (f g : ℕ) → IsFreeList m s → IsSplit m z s q f g → (v : ℕ) → v ≢ g → frame_of z v ≡ frame_of m v
-split-others m z s q f g is e v ne = ap (λ x. frame_of x v) e.is ∙ get_or-set_other m g v (frame_of m f) [] ne
+  split-fewer : (v : ℕ) → further_at q v ≤ further_at s v
+  split-fewer v = omega (arith, e.holders v, holders-free m s is v, holders-free m q e.after v, ap (count_of v) e.taken)
 
-split-not : (m z : List (List ℕ)) (s q : Frames) (f g : ℕ) → IsFreeList m s → IsSplit m z s q f g → (v : ℕ) → 0 < holders_of m s v → v ≢ g
-split-not m z s q f g is e v some same = omega (arith, some, ap (holders_of m s) same, free-holders m s g is (ap (among g) e.taken ∙ among_first g (free_of m q)))
+  split-others : (v : ℕ) → v ≢ g → frame_of z v ≡ frame_of m v
+  split-others v ne = ap (λ x. frame_of x v) e.is ∙ get_or-set_other m g v (frame_of m f) [] ne
 
-pub split-rest : (m z : List (List ℕ)) (s q : Frames) (f g : ℕ) → IsFreeList m s → IsSplit m z s q f g → (v : ℕ) → 0 < holders_of m s v → frame_of z v ≡ frame_of m v
-split-rest m z s q f g is e v some = split-others m z s q f g is e v (split-not m z s q f g is e v some)
+  split-rest : (v : ℕ) → 0 < holders_of m s v → frame_of z v ≡ frame_of m v
+  split-rest v some = split-others v (λ same. omega (arith, some, ap (holders_of m s) same, free-holders m s g is split-first))
 
-pub split-count : (m z : List (List ℕ)) (s q : Frames) (f g : ℕ) → IsSplit m z s q f g → length z ≡ length m
-split-count m z s q f g e = ap length e.is ∙ length-set m g (frame_of m f)
+  pub split-count : length z ≡ length m
+  split-count = ap length e.is ∙ length-set m g (frame_of m f)
 
-split-free : (m z : List (List ℕ)) (s q : Frames) (f g : ℕ) → IsFreeList m s → IsSplit m z s q f g → (free_of z q ≡ free_of m q) × IsFreeList z q
-split-free m z s q f g is e =
-    let first = free-first m s g (free_of m q) is e.taken in
-    let same : (v : ℕ) → among v (free_of m q) ≡ true → frame_of z v ≡ frame_of m v = λ (v : ℕ) (at : among v (free_of m q) ≡ true). split-others m z s q f g is e v (λ z. cc (ap (λ x. among x (free_of m q)) z, at, first.1)) in
-    (free_of-same m z q same, IsFreeList-same m z q e.after (split-count m z s q f g e) same)
+  split-free : (free_of z q ≡ free_of m q) × IsFreeList z q
+  split-free = list-after m z s q g is e.taken e.after split-count split-others
 
-split-apart : (m z : List (List ℕ)) (s q : Frames) (f g : ℕ) → IsFreeList m s → IsSplit m z s q f g → (v : ℕ) → 0 < holders_of m s v → among v (free_of z q) ≡ false
-split-apart m z s q f g is e v some =
-    ap (among v) (split-free m z s q f g is e).0 ∙ (among_first_not v g (free_of m q) (sym (ap (among v) e.taken) ∙ (held-inside m s v is some).1)).1
+  split-apart : (v : ℕ) → 0 < holders_of m s v → among v (free_of z q) ≡ false
+  split-apart v some = ap (among v) split-free.0 ∙ (among_first_not v g (free_of m q) (sym (ap (among v) e.taken) ∙ (held-inside m s v is some).1)).1
 
--- the tables may be written then
-pub split-paged : (m z : List (List ℕ)) (r t n : ℕ) (s q : Frames) (f g : ℕ) → OwnsFrames m r t n s → IsSplit m z s q f g → IsPaged z r q × IsTidy z r × SameMap m z r
-split-paged m z r t n s q f g is e =
-    let some : (v : ℕ) → HasTable m r v → 0 < count_of v (tables_below m r n) = λ (v : ℕ) (h : HasTable m r v). table-held m r t n v is.dense h in
-    let same : (v : ℕ) → HasTable m r v → frame_of z v ≡ frame_of m v = λ (v : ℕ) (h : HasTable m r v). split-rest m z s q f g is.free e v (held-some m r t n s is v (omega (arith, some v h, count-held m r t n v))) in
-    let holds : (x : Node) (v : ℕ) → IsNode x → table_at z r x ≡ Some v → HasTable m r v = λ (x : Node) (v : ℕ) (nx : IsNode x) (h : table_at z r x ≡ Some v). record { place = x; is_node = nx; at_place = sym (table_at-same m z r same x nx) ∙ h } in (
+  -- the frame that came has one holder
+  pub split-sole : further_at q g ≡ 0
+  split-sole = omega (arith, split-fewer g, further-free m s g is split-first)
+
+module _ {m z : List (List ℕ)} {r t n : ℕ} {s q : Frames} {f g : ℕ} (is : OwnsFrames m r t n s) (e : IsSplit m z s q f g) where
+  -- the tables may be written then
+  pub split-paged : IsPaged z r q × IsTidy z r × SameMap m z r
+  split-paged =
+      let some : (v : ℕ) → HasTable m r v → 0 < count_of v (tables_below m r n) = λ (v : ℕ) (h : HasTable m r v). table-held m r t n v is.dense h in
+      let same : (v : ℕ) → HasTable m r v → frame_of z v ≡ frame_of m v = λ (v : ℕ) (h : HasTable m r v). split-rest is.free e v (held-some is v (omega (arith, some v h, count-held m r t n v))) in
+      let holds : (x : Node) (v : ℕ) → IsNode x → table_at z r x ≡ Some v → HasTable m r v = λ (x : Node) (v : ℕ) (nx : IsNode x) (h : table_at z r x ≡ Some v). record { place = x; is_node = nx; at_place = sym (table_at-same m z r same x nx) ∙ h } in (
+        record {
+          tree = IsTree-same m z r is.dense.tree (split-count is.free e) same;
+          free = (split-free is.free e).1;
+          apart = λ x v nx h. split-apart is.free e v (held-some is v (omega (arith, some v (holds x v nx h), count-held m r t n v)));
+          own = λ x v nx h. omega (arith, split-fewer is.free e v, is.own v (omega (arith, some v (holds x v nx h))));
+        },
+        IsTidy-same m z r is.dense.tidy same,
+        λ p. lookup_of-same m z r same p,
+      )
+
+  pub split-mapped : (p : ℕ) → p < n → lookup_of z r p ≢ None
+  split-mapped p low none = cc (split-paged.2 p, none, is.dense.pages p low)
+
+  pub remap-split : {k : List (List ℕ)} {p marks : ℕ} → p < n → frame_at m r p ≡ f → IsUserLeaf marks → Maps z k r p g marks → SameTables z k r → IsTidy k r → IsPaged k r q → Keeps z k r q q → free_of k q ≡ free_of z q
+      → IsRemap m z k r p f g marks s q
+  remap-split {k} low was leaf inserts tables tidy paged keeps free =
+      let first = free-first m s g (free_of m q) is.free e.taken in
       record {
-        tree = IsTree-same m z r is.dense.tree (split-count m z s q f g e) same;
-        free = (split-free m z s q f g is.free e).1;
-        apart = λ x v nx h. split-apart m z s q f g is.free e v (held-some m r t n s is v (omega (arith, some v (holds x v nx h), count-held m r t n v)));
-        own = λ x v nx h. omega (arith, split-fewer m z s q f g is.free e v, is.own v (omega (arith, some v (holds x v nx h))));
-      },
-      IsTidy-same m z r is.dense.tidy same,
-      λ p. lookup_of-same m z r same p,
-    )
-
--- the frame that came has one holder
-pub split-sole : (m z : List (List ℕ)) (s q : Frames) (f g : ℕ) → IsFreeList m s → IsSplit m z s q f g → further_at q g ≡ 0
-split-sole m z s q f g is e = omega (arith, split-fewer m z s q f g is e g, further-free m s g is (ap (among g) e.taken ∙ among_first g (free_of m q)))
-
-pub remap-split : (m z k : List (List ℕ)) (r t n p f g marks : ℕ) (s q : Frames) → OwnsFrames m r t n s → p < n → IsSplit m z s q f g → frame_at m r p ≡ f → IsUserLeaf marks
-    → Maps z k r p g marks → SameTables z k r → IsTidy k r → IsPaged k r q → Keeps z k r q q → free_of k q ≡ free_of z q
-    → IsRemap m z k r p f g marks s q
-remap-split m z k r t n p f g marks s q is low e was leaf inserts tables tidy paged keeps free =
-    let first = free-first m s g (free_of m q) is.free e.taken in
-    let at : among g (free_of m s) ≡ true = ap (among g) e.taken ∙ among_first g (free_of m q) in
-    record {
-      was = was;
-      count = split-count m z s q f g e;
-      rest = split-rest m z s q f g is.free e;
-      bytes = ap (λ x. frame_of x g) e.is ∙ get_or-set_same m g (frame_of m f) [] first.0;
-      new = inr (free-holders m s g is.free at);
-      apart = split-apart m z s q f g is.free e;
-      taken = ap (among g) (split-free m z s q f g is.free e).0 ∙ first.1;
-      moved = λ v. omega (arith, e.holders v, holders-table m k q q e.after paged.free (keeps.count ∙ split-count m z s q f g e) refl v, ap (count_of v) (free ∙ (split-free m z s q f g is.free e).0));
-      fewer = split-fewer m z s q f g is.free e;
-      leaf = leaf;
-      sole = λ wide. split-sole m z s q f g is.free e;
-      inserts = inserts;
-      tables = tables;
-      tidy = tidy;
-      paged = paged;
-      keeps = keeps;
-    }
+        was = was;
+        count = split-count is.free e;
+        rest = split-rest is.free e;
+        bytes = ap (λ x. frame_of x g) e.is ∙ get_or-set_same m g (frame_of m f) [] first.0;
+        new = inr (free-holders m s g is.free (split-first is.free e));
+        apart = split-apart is.free e;
+        taken = ap (among g) (split-free is.free e).0 ∙ first.1;
+        moved = λ v. omega (arith, e.holders v, holders-table m k q q e.after paged.free (keeps.count ∙ split-count is.free e) refl v, ap (count_of v) (free ∙ (split-free is.free e).0));
+        fewer = split-fewer is.free e;
+        leaf = leaf;
+        sole = λ wide. split-sole is.free e;
+        inserts = inserts;
+        tables = tables;
+        tidy = tidy;
+        paged = paged;
+        keeps = keeps;
+      }
 
 -- ---- what a caller knows
 
-pub page-inside-is : (m : List (List ℕ)) (r t n p f : ℕ) (s : Frames) → OwnsFrames m r t n s → p < n → frame_at m r p ≡ f → f < length m
-page-inside-is m r t n p f s is low was = omega (arith, was, (lookup-sound m r p (frame_at m r p) (marks_at m r p) is.dense.tree (is.dense.pages p low)).0)
+module _ {m : List (List ℕ)} {r t n : ℕ} {s : Frames} (is : OwnsFrames m r t n s) (p : ℕ) (f : ℕ) (low : p < n) (was : frame_at m r p ≡ f) where
+  pub page-inside-is : f < length m
+  page-inside-is = omega (arith, was, (lookup-sound m r p (frame_at m r p) (marks_at m r p) is.dense.tree (is.dense.pages p low)).0)
+
+  pub page-single : holders_of m s f ≤ 1 → further_at s f ≡ 0
+  page-single few =
+      let at = held-inside m s f is.free (held-some is f (page-is-held m r t n p f low was)) in
+      omega (arith, few, not-free-held m s f is.free at.0 at.1)
 
 pub split-inside : (m : List (List ℕ)) (s q : Frames) (g : ℕ) → IsFreeList m s → free_of m s ≡ g ∷ free_of m q → g < length m
 split-inside m s q g is taken = (free-first m s g (free_of m q) is taken).0
-
-pub split-mapped : (m z : List (List ℕ)) (r t n p : ℕ) (s q : Frames) (f g : ℕ) → OwnsFrames m r t n s → p < n → IsSplit m z s q f g → lookup_of z r p ≢ None
-split-mapped m z r t n p s q f g is low e none =
-    let same : lookup_of z r p ≡ lookup_of m r p = (split-paged m z r t n s q f g is e).2 p in
-    cc (same, none, is.dense.pages p low)
-
-pub page-single : (m : List (List ℕ)) (r t n p f : ℕ) (s : Frames) → OwnsFrames m r t n s → p < n → frame_at m r p ≡ f → holders_of m s f ≤ 1 → further_at s f ≡ 0
-page-single m r t n p f s is low was few =
-    let at = held-inside m s f is.free (held-some m r t n s is f (page-is-held m r t n p f low was)) in
-    omega (arith, few, not-free-held m s f is.free at.0 at.1)
 
 -- and with more than one it has further ones
 pub page-shared : (m : List (List ℕ)) (s : Frames) (f : ℕ) → IsFreeList m s → 1 < holders_of m s f → further_at s f ≢ 0

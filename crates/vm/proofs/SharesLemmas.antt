@@ -41,6 +41,14 @@ set-place g h f (x ∷ xs) (suc i) y hi same =
       set-place g h f xs i y (omega arith) (λ j ne. same (suc j) (λ e. ne (omega arith))),
     )
 
+-- what holds of the one that comes and of the others holds of each
+pub each-set : {X : Type 0} (P : X → Type 0) (xs : List (Option X)) (i : ℕ) (y : Option X) → i < length xs → ((x : X) → y ≡ Some x → P x) → ((j : ℕ) (x : X) → j ≢ i → get_or xs j None ≡ Some x → P x)
+    → (j : ℕ) (x : X) → get_or (slice_set xs i y) j None ≡ Some x → P x
+each-set P xs i y hi here others j x e = elim (cases_eq j i) [
+  | inl same ↦ here x (sym (get_or-set_same xs i y None hi) ∙ ap (λ p. get_or (slice_set xs i y) p None) (sym same) ∙ e)
+  | inr ne ↦ others j x ne (sym (get_or-set_other xs i j y None ne) ∙ e)
+]
+
 within-places : (xs : List (Option Space)) (i : ℕ) (x : Space) → get_or xs i None ≡ Some x → i < length xs
 within-places [] i x e = absurd cc
 within-places (y ∷ xs) zero x e = omega arith
@@ -48,10 +56,14 @@ within-places (y ∷ xs) (suc i) x e = let h = within-places xs i x e in omega (
 
 -- ---- one place trades
 
+-- what is held in all
+all-count : (m : List (List ℕ)) (places : List (Option Space)) (others : List ℕ) (f : ℕ) → count_of f (all_held m places others) ≡ count_of f (flat_map (held_at m) places) + count_of f others
+all-count m places others f = count_of-append f (flat_map (held_at m) places) others
+
 room-of : (m : List (List ℕ)) (s : Frames) (places : List (Option Space)) (others : List ℕ) (i j : ℕ) (x : Space) → IsMachine m s places others → j ≢ i → get_or places j None ≡ Some x
     → (f : ℕ) → count_of f (held_at m (get_or places i None)) + count_of f (holds m x) ≤ holders_of m s f
 room-of m s places others i j x is ne e f =
-    omega (arith, is.shared.each f, count_of-append f (flat_map (held_at m) places) others, two-places (held_at m) f places i j refl ne, ap (λ o. count_of f (held_at m o)) e)
+    omega (arith, is.shared.each f, all-count m places others f, two-places (held_at m) f places i j refl ne, ap (λ o. count_of f (held_at m o)) e)
 
 -- what one place trades leaves the others as they were
 pub trade-others : OnePlaceSpares
@@ -75,22 +87,13 @@ trade-machine m k s n places others i y is hi new t =
     let stay = trade-others m k s n places others (held_at k y) i is t in
     record {
       free = place-free k y n new;
-      each = λ j x e. elim (cases_eq j i) [
-        | inl same ↦ place-space k y n x new (sym (get_or-set_same places i y None hi) ∙ ap (λ p. get_or (slice_set places i y) p None) (sym same) ∙ e)
-        | inr ne ↦
-            let old : get_or places j None ≡ Some x = sym (get_or-set_other places i j y None ne) ∙ e in
-            Trades-space m k s n (held_at m (get_or places i None)) (held_at k y) x (is.each j x old) (room-of m s places others i j x is ne old) t (place-free k y n new)
-      ];
+      each = each-set (λ x. IsSpace k x n) places i y hi (λ x e. place-space k y n x new e)
+          (λ j x ne e. Trades-space m k s n (held_at m (get_or places i None)) (held_at k y) x (is.each j x e) (room-of m s places others i j x is ne e) t (place-free k y n new));
       shared = IsShared-trade m k s n (all_held m places others) (all_held k (slice_set places i y) others) (held_at m (get_or places i None)) (held_at k y) is.shared t
-          (λ f. omega (
-            arith,
-            count_of-append f (flat_map (held_at m) places) others,
-            count_of-append f (flat_map (held_at k) (slice_set places i y)) others,
-            set-place (held_at m) (held_at k) f places i y hi (λ j ne. same-held m k (get_or places j None) (λ x e. stay j x ne e)),
-          ));
+          (λ f. omega (arith, all-count m places others f, all-count k (slice_set places i y) others f, set-place (held_at m) (held_at k) f places i y hi (λ j ne. same-held m k (get_or places j None) (λ x e. stay j x ne e))));
       alone = λ f some.
           let room : count_of f (held_at m (get_or places i None)) + count_of f others ≤ holders_of m s f =
-          omega (arith, is.shared.each f, count_of-append f (flat_map (held_at m) places) others, one-place (held_at m) f places i refl) in
+          omega (arith, is.shared.each f, all-count m places others f, one-place (held_at m) f places i refl) in
           alone-stays m k s n (held_at m (get_or places i None)) (held_at k y) f is.free (place-free k y n new) t (omega (arith, room, some)) (is.alone f some);
     }
 
@@ -102,72 +105,37 @@ fork-machine m k s n places others i j x c is at hi none parent child t =
     let low : i < length places = within-places places i x at in
     let same : slice_set places i (Some x) ≡ places = ap (slice_set places i) (sym at) ∙ set-get_or places i None in
     let one : (f : ℕ) → count_of f (flat_map (held_at k) places) + count_of f (holds m x) ≡ count_of f (flat_map (held_at m) places) + count_of f (holds k x) = λ (f : ℕ).
-    omega (
-      arith,
-      set-place (held_at m) (held_at k) f places i (Some x) low (λ p ne. same-held m k (get_or places p None) (λ y e. stay p y ne e)),
-      ap (λ (l : List (Option Space)). count_of f (flat_map (held_at k) l)) same,
-      ap (λ o. count_of f (held_at m o)) at,
-    ) in
+    omega (arith, set-place (held_at m) (held_at k) f places i (Some x) low (λ p ne. same-held m k (get_or places p None) (λ y e. stay p y ne e)), ap (λ (l : List (Option Space)). count_of f (flat_map (held_at k) l)) same, ap (λ o. count_of f (held_at m o)) at) in
     let room : (f : ℕ) → count_of f (holds m x) + count_of f others ≤ holders_of m s f = λ (f : ℕ).
-    omega (arith, is.shared.each f, count_of-append f (flat_map (held_at m) places) others, one-place (held_at m) f places i refl, ap (λ o. count_of f (held_at m o)) at) in
+    omega (arith, is.shared.each f, all-count m places others f, one-place (held_at m) f places i refl, ap (λ o. count_of f (held_at m o)) at) in
     record {
       free = child.free;
-      each = λ p y e. elim (cases_eq p j) [
-        | inl new ↦ place-space k (Some c) n y child (sym (get_or-set_same places j (Some c) None hi) ∙ ap (λ q. get_or (slice_set places j (Some c)) q None) (sym new) ∙ e)
-        | inr ne ↦
-            let old : get_or places p None ≡ Some y = sym (get_or-set_other places j p (Some c) None ne) ∙ e in
-            elim (cases_eq p i) [
-              | inl is_i ↦ place-space k (Some x) n y parent (sym at ∙ ap (λ q. get_or places q None) (sym is_i) ∙ old)
-              | inr other ↦ Trades-space m k s n (held_at m (get_or places i None)) (holds k x ++ holds k c) y (is.each p y old) (room-of m s places others i p y is other old) first child.free
-            ]
-      ];
+      each = each-set (λ y. IsSpace k y n) places j (Some c) hi (λ y e. place-space k (Some c) n y child e) (λ p y ne e. elim (cases_eq p i) [
+        | inl is_i ↦ place-space k (Some x) n y parent (sym at ∙ ap (λ q. get_or places q None) (sym is_i) ∙ e)
+        | inr other ↦ Trades-space m k s n (held_at m (get_or places i None)) (holds k x ++ holds k c) y (is.each p y e) (room-of m s places others i p y is other e) first child.free
+      ]);
       shared = IsShared-trade m k s n (all_held m places others) (all_held k (slice_set places j (Some c)) others) (holds m x) (holds k x ++ holds k c) is.shared t
-          (λ f. omega (
-            arith,
-            count_of-append f (flat_map (held_at m) places) others,
-            count_of-append f (flat_map (held_at k) (slice_set places j (Some c))) others,
-            count_of-append f (holds k x) (holds k c),
-            one f,
-            set-place (held_at k) (held_at k) f places j (Some c) hi (λ p ne. refl),
-            ap (λ o. count_of f (held_at k o)) none,
-          ));
+          (λ f. omega (arith, all-count m places others f, all-count k (slice_set places j (Some c)) others f, count_of-append f (holds k x) (holds k c), one f, set-place (held_at k) (held_at k) f places j (Some c) hi (λ p ne. refl), ap (λ o. count_of f (held_at k o)) none));
       alone = λ f some. alone-stays m k s n (holds m x) (holds k x ++ holds k c) f is.free child.free t (omega (arith, room f, some)) (is.alone f some);
     }
 
 -- the other frames keep their bytes then
 pub trade-rest : OnePlaceSparesOthers
 trade-rest m k s n places others new i f is t some =
-    t.others f (omega (arith, some, is.shared.each f, count_of-append f (flat_map (held_at m) places) others, one-place (held_at m) f places i refl))
+    t.others f (omega (arith, some, is.shared.each f, all-count m places others f, one-place (held_at m) f places i refl))
 
 -- ---- the others trade
 
 beside-rest : (m : List (List ℕ)) (s : Frames) (places : List (Option Space)) (others old : List ℕ) (j : ℕ) (x : Space) → IsMachine m s places others → ((f : ℕ) → count_of f old ≤ count_of f others) → get_or places j None ≡ Some x
     → (f : ℕ) → count_of f old + count_of f (holds m x) ≤ holders_of m s f
 beside-rest m s places others old j x is low e f =
-    omega (arith, low f, is.shared.each f, count_of-append f (flat_map (held_at m) places) others, one-place (held_at m) f places j refl, ap (λ o. count_of f (held_at m o)) e)
+    omega (arith, low f, is.shared.each f, all-count m places others f, one-place (held_at m) f places j refl, ap (λ o. count_of f (held_at m o)) e)
 
 -- all spaces are as they were where other frames come, go or are written
 pub rest-untouched : OthersSpare
 rest-untouched m k s n places others old new is low t j x e = Trades-untouched m k s n old new x (is.each j x e) (beside-rest m s places others old j x is low e) t
 
--- what is of the others then, they alone hold
-rest-alone : (m k : List (List ℕ)) (s n : Frames) (places : List (Option Space)) (others after old new : List ℕ) → IsMachine m s places others → IsFreeList k n → ((f : ℕ) → count_of f old ≤ count_of f others)
-    → Trades m k s n old new → ((f : ℕ) → count_of f new ≤ 1) → ((f : ℕ) → count_of f after + count_of f old ≡ count_of f others + count_of f new) → (f : ℕ) → 0 < count_of f after → further_at n f ≡ 0
-rest-alone m k s n places others after old new is free low t once moved f some =
-    let held : count_of f others ≤ holders_of m s f = omega (arith, is.shared.each f, count_of-append f (flat_map (held_at m) places) others) in
-    single k n f free (elim (cases_eq (count_of f others) 0) [
-      | inl none ↦ omega (arith, t.moved f, once f, t.fresh f (omega (arith, none, low f)) (omega (arith, none, some, moved f)))
-      | inr there ↦
-          let one = one-holder m s f is.free (is.alone f (omega (arith, there))) in
-          elim (cases_eq (count_of f old) 0) [
-            | inl kept ↦ elim (cases_eq (count_of f new) 0) [
-              | inl none ↦ omega (arith, t.moved f, one, none)
-              | inr fresh ↦ absurd (omega (arith, t.fresh f kept (omega (arith, fresh)), held, there))
-            ]
-            | inr given ↦ omega (arith, t.moved f, one, given, once f)
-          ]
-    ])
-
+-- and the machine stays one
 pub rest-machine : OthersTrade
 rest-machine m k s n places others after old new is free low t once moved =
     let stay = rest-untouched m k s n places others old new is low t in
@@ -175,14 +143,21 @@ rest-machine m k s n places others after old new is free low t once moved =
       free = free;
       each = λ j x e. Trades-space m k s n old new x (is.each j x e) (beside-rest m s places others old j x is low e) t free;
       shared = IsShared-trade m k s n (all_held m places others) (all_held k places after) old new is.shared t
-          (λ f. omega (
-            arith,
-            moved f,
-            count_of-append f (flat_map (held_at m) places) others,
-            count_of-append f (flat_map (held_at k) places) after,
-            ap (count_of f) (same-places (held_at m) (held_at k) places (λ j. same-held m k (get_or places j None) (λ x e. stay j x e))),
-          ));
-      alone = λ f some. rest-alone m k s n places others after old new is free low t once moved f some;
+          (λ f. omega (arith, moved f, all-count m places others f, all-count k places after f, ap (count_of f) (same-places (held_at m) (held_at k) places (λ j. same-held m k (get_or places j None) (λ x e. stay j x e)))));
+      alone = λ f some.
+          let held : count_of f others ≤ holders_of m s f = omega (arith, is.shared.each f, all-count m places others f) in
+          single k n f free (elim (cases_eq (count_of f others) 0) [
+            | inl none ↦ omega (arith, t.moved f, once f, t.fresh f (omega (arith, none, low f)) (omega (arith, none, some, moved f)))
+            | inr there ↦
+                let one = one-holder m s f is.free (is.alone f (omega (arith, there))) in
+                elim (cases_eq (count_of f old) 0) [
+                  | inl kept ↦ elim (cases_eq (count_of f new) 0) [
+                    | inl none ↦ omega (arith, t.moved f, one, none)
+                    | inr fresh ↦ absurd (omega (arith, t.fresh f kept (omega (arith, fresh)), held, there))
+                  ]
+                  | inr given ↦ omega (arith, t.moved f, one, given, once f)
+                ]
+          ]);
     }
 
 -- one of the others is written
@@ -204,7 +179,7 @@ Trades-write m k s f w is some alone e =
 
 -- one of the others has a holder
 pub rest-held : (m : List (List ℕ)) (s : Frames) (places : List (Option Space)) (others : List ℕ) (f : ℕ) → IsMachine m s places others → 0 < count_of f others → 0 < holders_of m s f
-rest-held m s places others f is some = omega (arith, some, is.shared.each f, count_of-append f (flat_map (held_at m) places) others)
+rest-held m s places others f is some = omega (arith, some, is.shared.each f, all-count m places others f)
 
 -- ---- a space is made beside the others, and gets a place
 
@@ -212,20 +187,9 @@ rest-held m s places others f is some = omega (arith, some, is.shared.each f, co
 pub settle-machine : NewSpaceSettles
 settle-machine m s places others i y is hi none new = record {
   free = is.free;
-  each = λ j x e. elim (cases_eq j i) [
-    | inl same ↦ place-space m (Some y) s x new (sym (get_or-set_same places i (Some y) None hi) ∙ ap (λ p. get_or (slice_set places i (Some y)) p None) (sym same) ∙ e)
-    | inr ne ↦ is.each j x (sym (get_or-set_other places i j (Some y) None ne) ∙ e)
-  ];
+  each = each-set (λ x. IsSpace m x s) places i (Some y) hi (λ x e. place-space m (Some y) s x new e) (λ j x ne e. is.each j x e);
   shared = record {
-    each = λ f. omega (
-      arith,
-      is.shared.each f,
-      count_of-append f (flat_map (held_at m) places) (others ++ holds m y),
-      count_of-append f others (holds m y),
-      count_of-append f (flat_map (held_at m) (slice_set places i (Some y))) others,
-      set-place (held_at m) (held_at m) f places i (Some y) hi (λ j ne. refl),
-      ap (λ o. count_of f (held_at m o)) none,
-    );
+    each = λ f. omega (arith, is.shared.each f, all-count m places (others ++ holds m y) f, count_of-append f others (holds m y), all-count m (slice_set places i (Some y)) others f, set-place (held_at m) (held_at m) f places i (Some y) hi (λ j ne. refl), ap (λ o. count_of f (held_at m o)) none);
   };
   alone = λ f some. is.alone f (omega (arith, some, count_of-append f others (holds m y)));
 }

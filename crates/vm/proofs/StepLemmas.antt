@@ -30,11 +30,14 @@ beyond-held m r t n s is f more =
       | inr some ↦ absurd (omega (arith, more, some, count-held m r t n f, one-holder m s f is.free (is.own f (omega (arith, some)))))
     ]
 
+pub list-after : (m z : List (List ℕ)) (s q : Frames) (f : ℕ) → IsFreeList m s → free_of m s ≡ f ∷ free_of m q → IsFreeList m q → length z ≡ length m → ((g : ℕ) → g ≢ f → frame_of z g ≡ frame_of m g) → (free_of z q ≡ free_of m q) × IsFreeList z q
+list-after m z s q f is taken after count others =
+    let first = free-first m s f (free_of m q) is taken in
+    let same : (g : ℕ) → among g (free_of m q) ≡ true → frame_of z g ≡ frame_of m g = λ (g : ℕ) (at : among g (free_of m q) ≡ true). others g (λ e. cc (ap (λ x. among x (free_of m q)) e, at, first.1)) in
+    (free_of-same m z q same, IsFreeList-same m z q after count same)
+
 pub free-after : (m z : List (List ℕ)) (s q : Frames) (f : ℕ) → IsFreeList m s → IsTaken m z s q f → (free_of z q ≡ free_of m q) × IsFreeList z q
-free-after m z s q f is k =
-    let first = free-first m s f (free_of m q) is k.taken in
-    let same : (g : ℕ) → among g (free_of m q) ≡ true → frame_of z g ≡ frame_of m g = λ (g : ℕ) (at : among g (free_of m q) ≡ true). k.others g (λ e. cc (ap (λ x. among x (free_of m q)) e, at, first.1)) in
-    (free_of-same m z q same, IsFreeList-same m z q k.after k.count same)
+free-after m z s q f is k = list-after m z s q f is k.taken k.after k.count k.others
 
 -- the page has come
 pub record IsNext (z k : List (List ℕ)) (r n f marks : ℕ) (q w : Frames) : Type 0 where

@@ -1,10 +1,10 @@
 -- A frame that is taken becomes the next page.
 use Rattle.vm.proofs.Common.{◌≡◌, ℕ, suc, ◌+◌, ◌<◌, ◌≤◌, inl, inr, true, List, [], ◌∷◌, ◌++◌, ap, ◌∙◌, arith, add-one, cases_eq, frame_of, Frames, among, free_of, free_count, IsFreeList, among_first, further-free, count_of}
-use Rattle.vm.proofs.Common.{holders_of, Trades, count_of-append, count_of-other, free-holders, holders-table, Trades-lengths, Trades-twice, missing, further-same, page_with, pages_below, held, frames_for, OwnsFrames, SameLeavesUpTo}
+use Rattle.vm.proofs.Common.{holders_of, Trades, count_of-other, free-holders, holders-table, Trades-lengths, Trades-twice, missing, further-same, page_with, pages_below, held, frames_for, OwnsFrames, SameLeavesUpTo}
 use Rattle.vm.proofs.DenseLemmas.{length-held}
 use Rattle.vm.proofs.StepLemmas.{IsTaken, IsNext, free-after, read_below-same}
 use Rattle.vm.proofs.Added.{IsBefore, next-fits, next-held, next-pages, next-trades, next-trap}
-use Rattle.vm.proofs.Beside.{Besides, Trades-as, Trades-frame, Trades-held}
+use Rattle.vm.proofs.Beside.{Besides, Trades-held, Trades-with}
 
 taken-free : (m z : List (List ℕ)) (s q : Frames) (f : ℕ) → IsTaken m z s q f → among f (free_of m s) ≡ true
 taken-free m z s q f k = ap (among f) k.taken ∙ among_first f (free_of m q)
@@ -57,17 +57,15 @@ taken-grown m z k r t n f marks bytes s q w is k1 small e next =
     let b = taken-before m z r t n f marks s q is k1 small in
     let beside = taken-beside m z r t n s q f is k1 in
     let stays = beside.stays in
-    let space = next-held z k r t n f marks q w b next in
+    let space = next-held b next in
     let first : Trades m z s q (held m r t n) (f ∷ held z r t n) =
-    Trades-as m z s q (held m r t n ++ []) (held m r t n ++ (f ∷ [])) (held m r t n) (f ∷ held z r t n) (Trades-frame m z s q [] (f ∷ []) (held m r t n) (taken-trades m z s q f is.free k1))
-    (λ v. omega (arith, count_of-append v (held m r t n) []))
-    (λ v. omega (arith, count_of-append v (held m r t n) (f ∷ []), ap (count_of v) beside.same)) in
-    let trades = Trades-twice m z k s q w (held m r t n) (f ∷ held z r t n) (held k r t (suc n)) first (next-trades z k r t n f marks q w b next) in
+    Trades-with m z s q [] (f ∷ []) (held m r t n) (held m r t n) (f ∷ held z r t n) (taken-trades m z s q f is.free k1) (λ v. omega arith) (λ v. omega (arith, ap (count_of v) beside.same)) in
+    let trades = Trades-twice m z k s q w (held m r t n) (f ∷ held z r t n) (held k r t (suc n)) first (next-trades b next) in
     record {
       space = rw add-one space;
-      pages = rw add-one (next-pages z k r t n f marks q w b next) ∙ ap (λ l. l ++ (page_with (frame_of z f) marks ∷ [])) stays.pages ∙ ap (λ x. pages_below m r n ++ (page_with x marks ∷ [])) e;
+      pages = rw add-one (next-pages b next) ∙ ap (λ l. l ++ (page_with (frame_of z f) marks ∷ [])) stays.pages ∙ ap (λ x. pages_below m r n ++ (page_with x marks ∷ [])) e;
       mapping = λ read b le. read_below-same read m k r b (λ p h. next.inserts.others p (omega (arith, h, le, small)) (omega (arith, h, le)) ∙ stays.looks p);
-      trap = next-trap z k r t n f marks q w b next ∙ stays.trap;
+      trap = next-trap b next ∙ stays.trap;
       trades = rw add-one trades;
       room = rw add-one (omega (arith, Trades-lengths m k s w (held m r t n) (held k r t (suc n)) is.free space.free is.held trades, length-held m r t n, length-held k r t (suc n)));
     }

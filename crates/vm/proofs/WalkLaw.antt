@@ -120,16 +120,14 @@ get-take (x ∷ xs) zero p h = absurd (omega (arith, h))
 get-take (x ∷ xs) (suc n) zero h = refl
 get-take (x ∷ xs) (suc n) (suc p) h = get-take xs n p (omega (arith, h))
 
-none-found : (xs : List Mapped) (p f : ℕ) (a : Access) → length xs ≤ p → frame_for xs p a ≡ Some f → ⊥
-none-found xs p f a h e =
-    let none : frame_for xs p a ≡ None = ap (λ o. option_map (λ x. x.frame) (allowed a o)) (slice_get_past xs p h) in
-    cc
-
 -- what a translator holds of a mapping it may hold when pages come after it
 pub coherent-grown : (held : Held) (root : ℕ) (old new : List Mapped) → take (length old) new ≡ old → IsCoherent held root old → IsCoherent held root new
 coherent-grown held root old new front is = record {
   walks = λ t h same. elim (cases_lt t.page (length old)) [
     | inl low ↦ ap (λ o. option_map (λ x. x.frame) (allowed t.access o)) (sym (get-take new (length old) t.page low) ∙ ap (λ l. slice_get l t.page) front) ∙ is.walks t h same
-    | inr high ↦ absurd (none-found old t.page t.frame t.access high (is.walks t h same))
+    | inr high ↦
+        let none : frame_for old t.page t.access ≡ None = ap (λ o. option_map (λ x. x.frame) (allowed t.access o)) (slice_get_past old t.page high) in
+        let some = is.walks t h same in
+        absurd cc
   ];
 }

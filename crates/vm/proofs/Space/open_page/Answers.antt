@@ -8,7 +8,7 @@ made : (c : After-leaf-open) → IsMadeLeaf c.args.ram.now c.args.self.now.root.
 made c = made-leaf _ _ _ _ c.in-Some.leaf.0 _ (λ (a : Perm). a) true c.in-Some.ensures (c.leaf-open.ensures ∙ ap (λ (a : Perm). user_leaf a true) c.marks_of.ensures)
 
 pub holders-requires-clause-inside : goal.holders-requires-clause-inside
-holders-requires-clause-inside c = page-inside-is _ _ _ _ _ _ _ c.requires.space c.requires.page (made (goal.at.holders-requires-clause-inside c).After-leaf-open).frame
+holders-requires-clause-inside c = page-inside-is c.requires.space _ _ c.requires.page (made (goal.at.holders-requires-clause-inside c).After-leaf-open).frame
 
 pub split_page-requires : goal.split_page-requires
 split_page-requires c =
@@ -18,7 +18,7 @@ split_page-requires c =
 pub set_page-requires : goal.set_page-requires
 set_page-requires c =
     let m = made (goal.at.set_page-requires c).After-leaf-open in
-    let sole = page-single _ _ _ _ _ _ _ c.requires.space c.requires.page m.frame (omega (arith, c.holders.ensures, c.if-holders-gt1.false)) in
+    let sole = page-single c.requires.space _ _ c.requires.page m.frame (omega (arith, c.holders.ensures, c.if-holders-gt1.false)) in
     record { space = c.requires.space; page = c.requires.page; frame = m.frame; marks = m.marks; leaf = m.leaf; sole = λ wide. sole }
 
 pub returns-else-holders-gt1-clause-same : goal.returns-else-holders-gt1-clause-same
@@ -28,7 +28,7 @@ pub returns-then-holders-gt1-clause-kept : goal.returns-then-holders-gt1-clause-
 returns-then-holders-gt1-clause-kept c = λ alone. absurd (page-shared c.args.ram.now c.args.frames.now c.in-Some.frame.0 c.requires.space.free (omega (arith, c.holders.ensures, c.if-holders-gt1.true)) (ap (further_at c.args.frames.now) (sym (made (goal.at.returns-then-holders-gt1-clause-kept c).After-leaf-open).frame) ∙ alone))
 
 pub returns-else-holders-gt1-clause-sole : goal.returns-else-holders-gt1-clause-sole
-returns-else-holders-gt1-clause-sole c = page-single _ _ _ _ _ _ _ c.requires.space c.requires.page (made (goal.at.returns-else-holders-gt1-clause-sole c).After-leaf-open).frame (omega (arith, c.holders.ensures, c.if-holders-gt1.false))
+returns-else-holders-gt1-clause-sole c = page-single c.requires.space _ _ c.requires.page (made (goal.at.returns-else-holders-gt1-clause-sole c).After-leaf-open).frame (omega (arith, c.holders.ensures, c.if-holders-gt1.false))
 
 pub returns-then-holders-gt1-clause-opens : goal.returns-then-holders-gt1-clause-opens
 returns-then-holders-gt1-clause-opens c = λ first h.

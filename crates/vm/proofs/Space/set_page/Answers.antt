@@ -8,21 +8,21 @@ pub remap-requires-clause-paged : goal.remap-requires-clause-paged
 remap-requires-clause-paged c = OwnsFrames-paged _ _ _ _ _ c.requires.space
 
 pub remap-requires-clause-frame : goal.remap-requires-clause-frame
-remap-requires-clause-frame c = page-inside-is _ _ _ _ _ _ _ c.requires.space c.requires.page c.requires.frame
+remap-requires-clause-frame c = page-inside-is c.requires.space _ _ c.requires.page c.requires.frame
 
 pub returns : goal.returns
 returns c =
     let now = c.requires in
     let r = c.remap.ensures in
-    let e = remap-marks c.args.ram.now c.remap.new.ram _ _ _ _ _ _ _ now.space now.page now.frame now.leaf now.sole r.inserts r.tables (r.tidy now.space.dense.tidy) r.paged r.keeps r.free in
+    let e = remap-marks now.space now.page now.frame now.leaf now.sole r.inserts r.tables (r.tidy now.space.dense.tidy) r.paged r.keeps r.free in
     record {
-      stands = reframed _ _ _ _ _ _ _ _ _ _ now.space now.page e;
-      same = λ right. rearranged _ _ _ _ _ _ _ _ _ _ now.space now.page e right;
-      page = remap-page _ _ _ _ _ _ _ _ _ _ _ _ now.space now.page e;
-      pages = remap-other _ _ _ _ _ _ _ _ _ _ _ _ now.space now.page e;
+      stands = reframed _ now.space now.page e;
+      same = λ right. rearranged _ now.space now.page e right;
+      page = remap-page now.space now.page e;
+      pages = remap-other now.space now.page e;
       frame = frame_at-is _ _ _ _ _ r.inserts.changed;
       marks = marks_at-is _ _ _ _ _ r.inserts.changed;
       others = λ p low ne. marks_at-same _ _ _ p (r.inserts.others p (omega (arith, low, now.space.dense.small)) ne);
-      frames = remap-frames _ _ _ _ _ _ _ _ _ _ _ now.space now.page e;
-      held = remap-kept _ _ _ _ _ _ _ _ _ _ _ now.space now.page e;
+      frames = remap-frames now.space now.page e;
+      held = remap-kept now.space now.page e;
     }

@@ -51,7 +51,7 @@ pub map-requires : goal.map-requires
 map-requires c =
     let at = goal.at.map-requires c in
     let before = (both at.After-share c.if-not-share.false).1 in
-    let inside = page-inside-is _ _ _ _ _ _ _ c.set_page.ensures.stands.space c.requires.page c.set_page.ensures.frame in
+    let inside = page-inside-is c.set_page.ensures.stands.space _ _ c.requires.page c.set_page.ensures.frame in
     record { paged = OwnsFrames-paged _ _ _ _ _ before.space; page = omega (arith, before.small); frame = inside; marks = (made at.After-closed_leaf-closed).marks }
 
 pub unreachable-requires-in-Err : goal.unreachable-requires-in-Err

@@ -1,25 +1,18 @@
-use Rattle.vm.proofs.Common.{◌-◌, ◌≤◌, ap, ◌∙◌, sym, arith, entries_below, mapping_below, pages_below, entry_marks, right_marks, pages_in}
+use Rattle.vm.proofs.Common.{◌-◌, ◌∙◌, sym, arith, entry_marks, right_marks, pages_in}
 use Rattle.vm.proofs.OpenLemmas.{open-fewer, open-read}
 use Rattle.vm.proofs.PageLemmas.{take-pages, take-mapping}
 use Rattle.vm.proofs.Space.shrink.Goals as goal
 
 pub returns-clause-pages : goal.returns-clause-pages
-returns-clause-pages c =
-    let less : pages_in (c.args.self.now.size - c.args.bytes) ≤ pages_in c.args.self.now.size = omega arith in
-    ap (pages_below c.drop_pages.new.ram c.args.self.now.root.0) (sym c.pages_in-2.ensures) ∙ c.drop_pages.ensures.pages ∙ ap (pages_below c.args.ram.now c.args.self.now.root.0) c.pages_in-2.ensures
-    ∙ sym (take-pages c.args.ram.now c.args.self.now.root.0 (pages_in c.args.self.now.size) (pages_in (c.args.self.now.size - c.args.bytes)) less)
+returns-clause-pages c = (rw c.pages_in-2.ensures at c.drop_pages.ensures.pages) ∙ sym (take-pages c.args.ram.now c.args.self.now.root.0 (pages_in c.args.self.now.size) (pages_in (c.args.self.now.size - c.args.bytes)) (omega arith))
 
 pub returns-clause-mapping : goal.returns-clause-mapping
 returns-clause-mapping c =
-    let less : pages_in (c.args.self.now.size - c.args.bytes) ≤ pages_in c.args.self.now.size = omega arith in
-    ap (mapping_below c.drop_pages.new.ram c.args.self.now.root.0) (sym c.pages_in-2.ensures) ∙ c.drop_pages.ensures.mapping right_marks ∙ ap (mapping_below c.args.ram.now c.args.self.now.root.0) c.pages_in-2.ensures
-    ∙ sym (take-mapping right_marks c.args.ram.now c.args.self.now.root.0 (pages_in c.args.self.now.size) (pages_in (c.args.self.now.size - c.args.bytes)) less)
+    (rw c.pages_in-2.ensures at c.drop_pages.ensures.mapping right_marks) ∙ sym (take-mapping right_marks c.args.ram.now c.args.self.now.root.0 (pages_in c.args.self.now.size) (pages_in (c.args.self.now.size - c.args.bytes)) (omega arith))
 
 pub returns-clause-entries : goal.returns-clause-entries
 returns-clause-entries c =
-    let less : pages_in (c.args.self.now.size - c.args.bytes) ≤ pages_in c.args.self.now.size = omega arith in
-    ap (entries_below c.drop_pages.new.ram c.args.self.now.root.0) (sym c.pages_in-2.ensures) ∙ c.drop_pages.ensures.mapping entry_marks ∙ ap (entries_below c.args.ram.now c.args.self.now.root.0) c.pages_in-2.ensures
-    ∙ sym (take-mapping entry_marks c.args.ram.now c.args.self.now.root.0 (pages_in c.args.self.now.size) (pages_in (c.args.self.now.size - c.args.bytes)) less)
+    (rw c.pages_in-2.ensures at c.drop_pages.ensures.mapping entry_marks) ∙ sym (take-mapping entry_marks c.args.ram.now c.args.self.now.root.0 (pages_in c.args.self.now.size) (pages_in (c.args.self.now.size - c.args.bytes)) (omega arith))
 
 pub returns-clause-opens : goal.returns-clause-opens
 returns-clause-opens c = λ first h.

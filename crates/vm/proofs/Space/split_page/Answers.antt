@@ -1,4 +1,4 @@
-use Rattle.vm.proofs.Common.{arith, ◌∙◌, pages_in}
+use Rattle.vm.proofs.Common.{arith, ◌∙◌}
 use Rattle.vm.proofs.GrowLemmas.{frame_at-is, marks_at-is, marks_at-same}
 use Rattle.vm.proofs.Remap.{IsSplit, page-inside-is, rearranged, remap-split, split-count, split-inside, split-mapped, split-paged, split-sole}
 use Rattle.vm.proofs.Space.split_page.Goals as goal
@@ -9,7 +9,7 @@ split c = record { taken = c.split-own.ensures.taken; after = c.split-own.ensure
 
 pub copy-requires : goal.copy-requires
 copy-requires c = record {
-  from = page-inside-is _ _ _ _ _ _ _ c.requires.space c.requires.page c.requires.frame;
+  from = page-inside-is c.requires.space _ _ c.requires.page c.requires.frame;
   to = split-inside _ c.args.frames.now c.split-own.new.self _ c.requires.space.free c.split-own.ensures.taken;
 }
 
@@ -17,10 +17,10 @@ pub remap-requires : goal.remap-requires
 remap-requires c =
     let e = split (goal.at.remap-requires c).After-copy in
     record {
-      paged = (split-paged _ _ _ _ (pages_in c.args.self.now.size) _ _ _ _ c.requires.space e).0;
+      paged = (split-paged c.requires.space e).0;
       page = omega (arith, c.requires.space.dense.small);
-      mapped = split-mapped _ _ _ _ _ _ _ _ _ _ c.requires.space c.requires.page e;
-      frame = omega (arith, split-inside c.args.ram.now _ c.split-own.new.self _ c.requires.space.free c.split-own.ensures.taken, split-count _ _ _ _ _ _ e);
+      mapped = split-mapped c.requires.space e _ c.requires.page;
+      frame = omega (arith, split-inside c.args.ram.now _ c.split-own.new.self _ c.requires.space.free c.split-own.ensures.taken, split-count c.requires.space.free e);
       marks = c.requires.marks;
     }
 
@@ -28,12 +28,12 @@ pub returns : goal.returns
 returns c =
     let e = split (goal.at.returns c).After-copy in
     let r = c.remap.ensures in
-    let paged = split-paged _ _ _ _ (pages_in c.args.self.now.size) _ _ _ _ c.requires.space e in
+    let paged = split-paged c.requires.space e in
     let tidy = r.tidy paged.1 in
     record {
-      same = rearranged _ c.copy.new.self _ _ _ _ _ _ _ _ c.requires.space c.requires.page
-          (remap-split _ _ _ _ _ _ _ _ _ _ _ _ c.requires.space c.requires.page e c.requires.frame c.requires.leaf r.inserts r.tables tidy r.paged r.keeps r.free) c.requires.right;
-      sole = split-sole _ _ _ _ _ _ c.requires.space.free e;
+      same = rearranged _ c.requires.space c.requires.page
+          (remap-split c.requires.space e c.requires.page c.requires.frame c.requires.leaf r.inserts r.tables tidy r.paged r.keeps r.free) c.requires.right;
+      sole = split-sole c.requires.space.free e;
       frame = frame_at-is _ _ _ _ _ r.inserts.changed;
       marks = marks_at-is _ _ _ _ _ r.inserts.changed;
       others = λ p low ne. marks_at-same _ _ _ p (r.inserts.others p (omega (arith, low, c.requires.space.dense.small)) ne ∙ paged.2 p);

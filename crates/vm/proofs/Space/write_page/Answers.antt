@@ -6,9 +6,7 @@ use Rattle.vm.proofs.WriteLemmas.{put-reads, put-reframes, put-written, write-pa
 use Rattle.vm.proofs.Space.write_page.Goals as goal
 
 pub write_part-requires-clause-frame : goal.write_part-requires-clause-frame
-write_part-requires-clause-frame c =
-    let x = c.args.self.now in
-    page-inside-is c.open_page-frame.new.ram x.root.0 x.trap.0 (pages_in x.size) (c.args.address / 4096) c.open_page-frame.result.0 c.open_page-frame.new.frames c.open_page-frame.ensures.same.frames.space c.requires.page c.open_page-frame.ensures.frame
+write_part-requires-clause-frame c = page-inside-is c.open_page-frame.ensures.same.frames.space (c.args.address / 4096) c.open_page-frame.result.0 c.requires.page c.open_page-frame.ensures.frame
 
 pub returns-clause-rest : goal.returns-clause-rest
 returns-clause-rest c =
