@@ -1,6 +1,6 @@
 -- What the walk lets through of a space, beside what its program may do by right.
 use Rattle.spaces.proofs.Common.{Alike, Narrows, changed, put_in, ◌≡◌, ◌⊎◌, ◌&&◌, inl, inr, ℕ, ◌%◌, ◌/◌, ◌^◌, ◌<◌, ◌≤◌, Bool, true, false, cond, List, Option, Some, None, refl, sym, ap, ◌∙◌, option_and_then, option_map, slice_get}
-use Rattle.spaces.proofs.Common.{cases_Bool, cases_lt, Mapped, memory_of, page_in, Fetch, Load, Store, Change, Bytes, Nothing, ShowsByte, ShowsMemory, byte_at, is_shared, page_byte, walk, Perm, Memory, Page, page_for, permits}
+use Rattle.spaces.proofs.Common.{cases_Bool, cases_lt, memory_of, page_in, Fetch, Load, Store, Change, Bytes, Nothing, ShowsByte, ShowsMemory, byte_at, is_shared, page_byte, walk, Perm, Memory, Page, page_for, permits}
 use Rattle.spaces.proofs.Common.{permitted, marks_at, read_at, read_below, entries_below, pages_below, mapping_below, IsUserLeaf, entry_marks, is_open, right_marks, user_leaf, get-mapping, mapped-page, mapping-past, unmapped-page}
 use Rattle.unixmodel.specs.declared.trap.Access.{Access}
 use Rattle.vm.proofs.LeafLemmas.{leaf-open, open-right, open-unshared, right-leaf}
@@ -65,20 +65,15 @@ opened-alike m r n address g made =
 
 -- ---- stores go by frames alone
 
-put-frame : (m : List (List ℕ)) (o w : Option Mapped) (e d : Mapped) (at : ℕ) (bytes : List ℕ) → o ≡ Some e → w ≡ Some d → e.frame ≡ d.frame → put_in m o at bytes ≡ put_in m w at bytes
-put-frame m o w e d at bytes here there same =
-    ap (λ (x : Option Mapped). put_in m x at bytes) here
-    ∙ ap (λ (f : ℕ). put_in m (Some (record { frame = f; marks = d.marks })) at bytes) same
-    ∙ sym (ap (λ (x : Option Mapped). put_in m x at bytes) there)
-
 pub changed-right : (m : List (List ℕ)) (r n : ℕ) (c : Change) → changed m (entries_below m r n) c ≡ changed m (mapping_below m r n) c
 changed-right m r n Nothing = refl
 changed-right m r n (Bytes address bytes) =
     let p = address / 4096 in
-    elim (cases_lt p n) [
-      | inl low ↦ put-frame m (slice_get (entries_below m r n) p) (slice_get (mapping_below m r n) p) (read_at entry_marks m r p) (read_at right_marks m r p) (address % 4096) bytes (get-mapping entry_marks m r n p low) (get-mapping right_marks m r n p low) refl
-      | inr high ↦ ap (λ (o : Option Mapped). put_in m o (address % 4096) bytes) (mapping-past entry_marks m r n p high ∙ sym (mapping-past right_marks m r n p high))
-    ]
+    let same : put_in m (slice_get (entries_below m r n) p) (address % 4096) bytes ≡ put_in m (slice_get (mapping_below m r n) p) (address % 4096) bytes = elim (cases_lt p n) [
+      | inl low ↦ rw (get-mapping entry_marks m r n p low, get-mapping right_marks m r n p low) refl
+      | inr high ↦ rw (mapping-past entry_marks m r n p high, mapping-past right_marks m r n p high) refl
+    ] in
+    same
 
 -- ---- what walks reach
 

@@ -17,7 +17,7 @@ unfoldable pub use Rattle.frames.specs.Holders.{holders_of}
 pub use Rattle.frames.specs.declared.Frames.{Frames}
 pub use Rattle.hart.proofs.ChangeLemmas.{memory_of-cycle}
 pub use Rattle.hart.proofs.Retries.{Alike, cycle-again, cycle-retries, Narrows}
-pub use Rattle.hart.specs.Changes.{changed, IsSound, put_in, WritesOnly, WritesPage}
+pub use Rattle.hart.specs.Changes.{changed, IsSound, put_in, WritesOnly}
 pub use Rattle.hart.specs.declared.state.Hart.{Hart}
 pub use Rattle.pipe.specs.Pipe.{bytes_of, Pipe, Stays}
 pub use Rattle.ram.specs.Memory.{frame_of, IsMemory}
@@ -46,7 +46,7 @@ pub use Rattle.vm.specs.Dense.{entries_below, frame_at, frames_for, mapping_belo
 unfoldable pub use Rattle.vm.specs.Dense.{read_below}
 pub use Rattle.vm.specs.Leaf.{entry_marks, is_open, IsUserLeaf, mapped_as, marks_from, right_marks, user_leaf}
 pub use Rattle.vm.specs.Reach.{IsSized, short_string, string_in}
-pub use Rattle.vm.specs.Shares.{AllUntouched, frames_used, IsMachine, IsPlace, OthersUntouched}
+pub use Rattle.vm.specs.Shares.{frames_used, IsMachine, IsPlace, OthersUntouched}
 pub use Rattle.vm.specs.Space.{entries_of, holds, IsMapped, IsOnce, IsRearranged, IsSpace, IsUntouched, mapping_of, pages_in, pages_of, Reframes, Stands}
 pub use Rattle.vm.specs.declared.Space.{Space}
 pub use Rattle.vm.specs.declared.VmFault.{VmFault}

@@ -1,6 +1,6 @@
 -- One pipe trades frames, or is read or written: what is left of the fields, and what they show then.
-use Rattle.spaces.proofs.Common.{◌+◌, ◌<◌, [], ap, arith, Bool, eqb, false, get_or, get_or-set_other, get_or-set_same, inl, inr, length, length-set, List, map, None, Option, refl, slice_set, Some, subst, sym, true, ℕ, ◌∙◌, ◌∷◌, ◌≡◌, ◌≢◌}
-use Rattle.spaces.proofs.Common.{◌≤◌, cases_eq, get_or_default, length-map, flat_map, refill, is_some, not, unwrap_or, ◌||◌, count_of-append, count_of-first, held-inside, one_if-le, Trades-give, Trades-take, among, free_count, further_at}
+use Rattle.spaces.proofs.Common.{◌+◌, ◌<◌, [], ap, arith, Bool, eqb, false, get_or, length, length-set, List, map, None, Option, refl, slice_set, Some, subst, sym, true, ℕ, ◌∙◌, ◌∷◌, ◌≡◌, ◌≢◌}
+use Rattle.spaces.proofs.Common.{◌≤◌, get_or_default, length-map, flat_map, refill, is_some, not, unwrap_or, ◌||◌, count_of-append, count_of-first, held-inside, one_if-le, Trades-give, Trades-take, among, free_count, further_at}
 use Rattle.spaces.proofs.Common.{IsFreeList, SameBut, extra_of, free_of, count_of, Trades, holders_of, Frames, bytes_of, Pipe, Stays, frame_of, slot, taken, one-place, rest-held, rest-machine, rest-untouched, set-place, Trades-write}
 use Rattle.spaces.proofs.Common.{two-places, IsOpen, bytes_in, has_pipe, taken_frames, with_pipe, frames_at, IsSpaces, pipe_frames, pipe_shown, shown, spaces_of, Inside}
 use Rattle.spaces.proofs.Pipes.{pipe-free, pipe-held, pipe-slot, pipes-placed}
@@ -9,6 +9,7 @@ use Rattle.spaces.proofs.SpacesLemmas.{map-same, none-of, refilled, some-pipe, t
 use Rattle.spaces.proofs.Stepped.{here}
 use Rattle.spaces.proofs.Traded.{runs-on, same-shown, still-active}
 use Rattle.unixmodel.specs.Translation as translation
+use Rattle.vm.proofs.SharesLemmas.{each-set}
 use Rattle.vm.specs.Shares as shares
 
 -- ---- what the places for pipes show
@@ -39,12 +40,6 @@ pipe-missing i q o has same e =
     cc
 
 -- ---- one of them changes
-
-both-set : (ps : List (Option Pipe)) (q : ℕ) (y : Option Pipe) → q < length ps → ((r : ℕ) (p : Pipe) → slot ps r ≡ Some p → IsOpen p) → ((p : Pipe) → y ≡ Some p → IsOpen p) → (r : ℕ) (p : Pipe) → slot (slice_set ps q y) r ≡ Some p → IsOpen p
-both-set ps q y hi both here r p at = elim (cases_eq r q) [
-  | inl same ↦ here p (sym (get_or-set_same ps q y None hi) ∙ ap (slot (slice_set ps q y)) (sym same) ∙ at)
-  | inr other ↦ both r p (sym (get_or-set_other ps q r y None other) ∙ at)
-]
 
 one-each : (y : Option Pipe) → (f : ℕ) → count_of f (frames_at y) ≤ 1
 one-each None f = omega arith
@@ -90,7 +85,7 @@ module _ {T : Type 0} {held : T → translation.Held} {i : Inside T} (is : IsSpa
         active = still-active (held i.translator) (held i.translator) i.ram k i.hart.root.0 i.places.items i.places.items i.active (λ j a run. runs-on run run.stands (all j run.space run.stands) (λ t h. h)) is.active;
         inside = λ x h. let old = is.inside x h in let count = trades.count in omega (arith, old, count);
         pipes = ap length e ∙ length-set ps q y ∙ is.pipes;
-        both = rw e (both-set ps q y hi is.both here);
+        both = rw e (each-set IsOpen ps q y hi here (λ r p ne at. is.both r p at));
       } in
       let shows : map (shown k) i.places.items ≡ map (shown i.ram) i.places.items = map-same (shown i.ram) (shown k) i.places.items (λ j. same-shown i.ram k (slot i.places.items j) (all j)) in
       let view : spaces_of (set_pipe i k n xs q z) ≡ with_pipe (spaces_of i) q (pipe_shown k y) = rw (e, shows, pipes-placed i.ram k ps q y kept, trades.count) refl in
