@@ -109,29 +109,26 @@ mid-0 p h = let a : p / 262144 % 512 ≡ 0 = omega arith in rw a refl
 block-start : (p : ℕ) → p < 32768 → low_node (p / 512 * 512) ≡ low_node p
 block-start p h = let a : p / 512 * 512 / 512 ≡ p / 512 = omega arith in low-0 (p / 512 * 512) (omega arith) ∙ ap (Low 0) a ∙ sym (low-0 p h)
 
-held_mid : (m : List (List ℕ)) (r t n p v : ℕ) → IsDense m r t n → (p < n) ⊎ (p ≡ trap_page) → table_at m r (mid_node p) ≡ Some v → 0 < count_of v (tables_below m r n)
-held_mid m r t n p v is (inl low) at =
-    let e : table_of m r (mid_node 0) ≡ v = ap (table_of m r) (mid-0 0 (omega arith) ∙ sym (mid-0 p (omega (arith, is.small)))) ∙ table_of-some m r (mid_node p) v at in
-    rw (← e) (omega (arith, mid-first m r, tables-grow m r 1 n (table_of m r (mid_node 0)) (omega arith)))
-held_mid m r t n p v is (inr same) at =
-    let e : table_of m r (mid_node trap_page) ≡ v = ap (λ q. table_of m r (mid_node q)) (sym same) ∙ table_of-some m r (mid_node p) v at in
-    rw (← e) (omega (arith, (base m r).1, tables-grow m r 0 n (table_of m r (mid_node trap_page)) (omega arith)))
-
-held_low : (m : List (List ℕ)) (r t n p v : ℕ) → IsDense m r t n → (p < n) ⊎ (p ≡ trap_page) → table_at m r (low_node p) ≡ Some v → 0 < count_of v (tables_below m r n)
-held_low m r t n p v is (inl low) at =
-    let q = p / 512 * 512 in
-    let e : table_of m r (low_node q) ≡ v = ap (table_of m r) (block-start p (omega (arith, is.small))) ∙ table_of-some m r (low_node p) v at in
-    rw (← e) (omega (arith, low-first m r q (omega arith), tables-grow m r (suc q) n (table_of m r (low_node q)) (omega arith)))
-held_low m r t n p v is (inr same) at =
-    let e : table_of m r (low_node trap_page) ≡ v = ap (λ q. table_of m r (low_node q)) (sym same) ∙ table_of-some m r (low_node p) v at in
-    rw (← e) (omega (arith, (base m r).2, tables-grow m r 0 n (table_of m r (low_node trap_page)) (omega arith)))
+-- a table that is counted among those of fewer pages
+counted : (m : List (List ℕ)) (r : ℕ) (x y : Node) (v k n : ℕ) → x ≡ y → table_at m r y ≡ Some v → 0 < count_of (table_of m r x) (tables_below m r k) → k ≤ n → 0 < count_of v (tables_below m r n)
+counted m r x y v k n e at some low =
+    let same : table_of m r x ≡ v = ap (table_of m r) e ∙ table_of-some m r y v at in
+    rw (← same) (omega (arith, some, tables-grow m r k n (table_of m r x) low))
 
 used-held : (m : List (List ℕ)) (r t n : ℕ) (x : Node) (v : ℕ) → IsDense m r t n → IsUsed m r x → table_at m r x ≡ Some v → 0 < count_of v (tables_below m r n)
 used-held m r t n x v is u at =
-    let cases = mapped-cases m r t n u.page u.value is u.inside u.mapped in
-    elim u.over [
-      | inl e ↦ held_mid m r t n u.page v is cases (ap (table_at m r) (sym e) ∙ at)
-      | inr e ↦ held_low m r t n u.page v is cases (ap (table_at m r) (sym e) ∙ at)
+    let small = is.small in
+    let p = u.page in
+    let q = p / 512 * 512 in
+    elim (mapped-cases m r t n p u.value is u.inside u.mapped) [
+      | inl low ↦ elim u.over [
+        | inl e ↦ counted m r (mid_node 0) x v 1 n (mid-0 0 (omega arith) ∙ sym (mid-0 p (omega (arith, low, small))) ∙ sym e) at (mid-first m r) (omega (arith, low))
+        | inr e ↦ counted m r (low_node q) x v (suc q) n (block-start p (omega (arith, low, small)) ∙ sym e) at (low-first m r q (omega arith)) (omega (arith, low))
+      ]
+      | inr trap ↦ elim u.over [
+        | inl e ↦ counted m r (mid_node trap_page) x v 0 n (ap mid_node (sym trap) ∙ sym e) at (base m r).1 (omega arith)
+        | inr e ↦ counted m r (low_node trap_page) x v 0 n (ap low_node (sym trap) ∙ sym e) at (base m r).2 (omega arith)
+      ]
     ]
 
 pub cases_root : (x : Node) → (x ≡ Root) ⊎ (x ≢ Root)

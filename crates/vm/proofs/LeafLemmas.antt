@@ -1,6 +1,6 @@
 -- Lemmas on the marks of leaves.
 use Rattle.vm.proofs.Common.{◌≡◌, ◌+◌, ℕ, Bool, true, false, List, replicate, refl, sym, ap, subst, ◌∙◌, arith, rules, ◌&&◌, ◌||◌, ◌*◌, one_if, not, and_parts, Access, Fetch, Load, Store}
-use Rattle.vm.proofs.Common.{Perm, Page, permits, shared_marks, zeros, zero_page, leaf_allows, IsLeafMarks, trap_marks, page_with, IsUserLeaf, entry_marks, is_open, right_marks, user_leaf}
+use Rattle.vm.proofs.Common.{Perm, Page, permits, shared_marks, zeros, zero_page, leaf_allows, IsLeafMarks, page_with, IsUserLeaf, entry_marks, is_open, right_marks, user_leaf}
 use Rattle.pagetable.specs.Marks.{leaf_marks}
 
 abbrev marks_by : Bool → Bool → Bool → Bool → Perm
@@ -41,10 +41,6 @@ leaf-open marks = open-each marks true ∙ both (λ w. (w && true) ≡ w) (refl,
 
 pub leaf-closed : (marks : Perm) → is_open (user_leaf (shared_marks marks) false) ≡ false
 leaf-closed marks = open-each (shared_marks marks) false ∙ both (λ w. (w && false) ≡ false) (refl, refl) marks.writable
-
--- the trap frame's page is one that programs may not use
-pub leaf-trap : IsUserLeaf trap_marks
-leaf-trap = refl
 
 -- the leaf that the code makes, with the bits that the walk doesn't look at
 pub leaf-made : (w x u s : Bool) → leaf_marks (marks_by w x u false) + (256 * one_if w + 512 * one_if s) ≡ user_leaf (marks_by w x u s) true

@@ -1,6 +1,6 @@
 -- A page gets another frame with the same bytes, or other marks.
 use Rattle.vm.proofs.Common.{◌+◌, ◌<◌, [], ◌^◌, ap, arith, Bool, false, get_or-set_other, get_or-set_same, inl, inr, length, length-set, List, ltb, nat_eq, None, refl, slice_set, Some, subst, suc, sym, true, unwrap_or, zero, ℕ, ◌∙◌, ◌∷◌}
-use Rattle.vm.proofs.Common.{◌≡◌, ◌≢◌, ◌≤◌, ◌⊎◌, cases_eq, among_first, among_first_not, further-free, count_of-first, count_of-other, free-holders, held-inside, holders-free, holders-table, not-free-held, one_if-le, Trades-none}
+use Rattle.vm.proofs.Common.{◌≡◌, ◌≢◌, ◌≤◌, ◌⊎◌, cases_eq, among_first, among_first_not, further-free, count_of-first, count_of-other, free-holders, held-inside, holders-free, holders-table, not-free-held, one_if-le}
 use Rattle.vm.proofs.Common.{Trades-twice, among, further_at, IsFreeList, free_of, count_of, one_if, Trades, holders_of, Frames, IsTree-same, lookup_of-same, table_at-same, lookup-sound, free-first, low_is_node, mid_is_node, IsTidy}
 use Rattle.vm.proofs.Common.{HasTable, IsLeafMarks, IsNode, IsPaged, Keeps, low_node, Maps, mid_node, Node, SameMap, SameTables, lookup_of, table_at, frame_of, Page, Perm, frame_at, held, marks_at, OwnsFrames, page_at, page_with}
 use Rattle.vm.proofs.Common.{pages_below, frames_below, tables_below, is_open, IsUserLeaf, right_marks, user_leaf, HasRights, holds, IsRearranged, IsSpace, pages_in, Reframes, Space}
@@ -176,9 +176,6 @@ module _ {m z k : List (List ℕ)} {p f g marks : ℕ} {s q : Frames} (x : Space
   rearranged right = record { frames = reframed; pages = remap-pages is low e right }
 
 -- ---- frames that change, one after another
-
-pub reframes-none : (m : List (List ℕ)) (x : Space) (s : Frames) → IsSpace m x s → Reframes m m x s s
-reframes-none m x s is = record { space = is; registers = refl; trades = Trades-none m s (holds m x) }
 
 pub reframes-twice : (m k l : List (List ℕ)) (x : Space) (s q w : Frames) → Reframes m k x s q → Reframes k l x q w → Reframes m l x s w
 reframes-twice m k l x s q w a b = record { space = b.space; registers = b.registers ∙ a.registers; trades = Trades-twice m k l s q w (holds m x) (holds k x) (holds l x) a.trades b.trades }

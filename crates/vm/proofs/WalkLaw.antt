@@ -53,9 +53,6 @@ frame-mapped m r n p a h =
     ap (λ o. option_map (λ x. x.frame) (allowed a o)) (get-mapping entry_marks m r n p h)
     ∙ framed (permits a (entry_marks (marks_at m r p))) (read_at entry_marks m r p)
 
-frame-past : (m : List (List ℕ)) (r n p : ℕ) (a : Access) → n ≤ p → frame_for (entries_below m r n) p a ≡ None
-frame-past m r n p a h = ap (λ o. option_map (λ x. x.frame) (allowed a o)) (mapping-past entry_marks m r n p h)
-
 -- the trap frame's page allows programs nothing
 trap-closed : (a : Access) → leaf_allows a trap_marks ≡ false
 trap-closed Fetch = refl
@@ -107,7 +104,7 @@ pub walks-entries : (m : List (List ℕ)) (r t n : ℕ) → length m ≤ 32768 �
 walks-entries m r t n small is = record {
   walks = λ p a. walk_page-tree m r p a small is.tree ∙ (elim (cases_lt p n) [
     | inl low ↦ given-mapped m r t n p a is low ∙ sym (frame-mapped m r n p a low)
-    | inr high ↦ given-past m r t n p a (is_canonical p) is high refl ∙ sym (frame-past m r n p a high)
+    | inr high ↦ given-past m r t n p a (is_canonical p) is high refl ∙ sym (ap (λ o. option_map (λ x. x.frame) (allowed a o)) (mapping-past entry_marks m r n p high))
   ]);
 }
 

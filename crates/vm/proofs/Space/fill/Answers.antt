@@ -1,5 +1,5 @@
-use Rattle.vm.proofs.Common.{◌≡◌, ◌+◌, ◌-◌, ◌%◌, [], length, take, drop, min, sym, ap, ◌∙◌, arith, length-drop, drop_all, drop-drop, take_all, write_bytes, pages_of}
-use Rattle.vm.proofs.Remap.{reframes-none, reframes-twice}
+use Rattle.vm.proofs.Common.{◌≡◌, ◌+◌, ◌-◌, ◌%◌, [], length, take, drop, min, sym, ap, ◌∙◌, refl, arith, Trades-none, holds, length-drop, drop_all, drop-drop, take_all, write_bytes, pages_of}
+use Rattle.vm.proofs.Remap.{reframes-twice}
 use Rattle.vm.proofs.WriteLemmas.{write-none}
 use Rattle.vm.proofs.Space.fill.Goals as goal
 
@@ -9,7 +9,7 @@ loop-done-init c =
     record {
       within = omega arith;
       rest = ap (λ at. write_bytes (pages_of c.args.ram.now c.args.self.now) at c.args.bytes.now) start;
-      frames = reframes-none c.args.ram.now c.args.self.now c.args.frames.now c.requires.space;
+      frames = record { space = c.requires.space; registers = refl; trades = Trades-none c.args.ram.now c.args.frames.now (holds c.args.ram.now c.args.self.now) };
       opens = λ first h. h;
     }
 

@@ -1,6 +1,5 @@
-use Rattle.vm.proofs.Common.{arith, ap, ◌∙◌, replicate, get_or-set_same, frame_of, free-first, IsTidy-empty}
+use Rattle.vm.proofs.Common.{arith, ap, refl, ◌∙◌, replicate, get_or-set_same, frame_of, free-first, IsTidy-empty}
 use Rattle.vm.proofs.StepLemmas.{IsTaken-set}
-use Rattle.vm.proofs.LeafLemmas.{leaf-trap}
 use Rattle.vm.proofs.NewLemmas.{IsMade, IsStart, start-count, start-empty, start-made, start-missing, start-paged}
 use Rattle.vm.proofs.Space.new.Goals as goal
 use Rattle.vm.proofs.Space.new.Goals.{After-zero, In-Ok}
@@ -16,7 +15,7 @@ made c =
     let is = start (goal.at.In-Ok c).After-zero in
     let e = c.in-Ok.ensures in
     let tidy = e.tidy (IsTidy-empty _ _ (start-empty _ _ _ _ _ _ _ _ is)) in
-    start-made _ _ _ _ _ _ _ _ _ _ is (record { leaf = leaf-trap; inserts = e.mapped; adds = e.adds; tidy = tidy; paged = e.paged; keeps = e.keeps; extra = e.extra })
+    start-made _ _ _ _ _ _ _ _ _ _ is (record { leaf = refl; inserts = e.mapped; adds = e.adds; tidy = tidy; paged = e.paged; keeps = e.keeps; extra = e.extra })
 
 pub zero-requires : goal.zero-requires
 zero-requires c = (free-first c.new.new.ram c.new.new.frames c.in-Some-take.trap.0 _ c.in-Some.ensures.paged.free c.in-Some-take.ensures.some).0
