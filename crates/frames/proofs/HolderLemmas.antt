@@ -156,10 +156,6 @@ pub sum_below-same : (n : ℕ) (g h : ℕ → ℕ) → ((f : ℕ) → f < n → 
 sum_below-same zero g h same = refl
 sum_below-same (suc n) g h same = omega (arith, same n (omega arith), sum_below-same n g h (λ f l. same f (omega arith)))
 
-sum_below-le : (n : ℕ) (g : ℕ → ℕ) → ((f : ℕ) → g f ≤ 1) → sum_below n g ≤ n
-sum_below-le zero g h = omega arith
-sum_below-le (suc n) g h = omega (arith, h n, sum_below-le n g h)
-
 pub sum_below-mono : (n : ℕ) (g h : ℕ → ℕ) → ((f : ℕ) → g f ≤ h f) → sum_below n g ≤ sum_below n h
 sum_below-mono zero g h le = omega arith
 sum_below-mono (suc n) g h le = omega (arith, le n, sum_below-mono n g h le)

@@ -14,11 +14,6 @@ get-set [] i y h = absurd (omega arith)
 get-set (x ∷ xs) zero y h = refl
 get-set (x ∷ xs) (suc i) y h = get-set xs i y (omega arith)
 
-get-there : {X : Type 0} (xs : List X) (i : ℕ) (y z : X) → slice_get (slice_set xs i y) i ≡ Some z → y ≡ z
-get-there [] i y z h = absurd cc
-get-there (x ∷ xs) zero y z h = cc
-get-there (x ∷ xs) (suc i) y z h = get-there xs i y z h
-
 get-other : {X : Type 0} (xs : List X) (i j : ℕ) (y : X) → j ≢ i → slice_get (slice_set xs i y) j ≡ slice_get xs j
 get-other [] i j y h = refl
 get-other (x ∷ xs) zero zero y h = absurd (h refl)
