@@ -56,10 +56,13 @@ pub length-zeros : length (replicate {A = ℕ} 4096 0) ≡ 4096
 length-zeros = length-replicate {A = ℕ} 4096 0
 
 -- after a write of bs and what followed them to the part of a frame from place a
-pub put-view : (m v : List (List ℕ)) (f a : ℕ) (r part bs : List ℕ) → map sized m ≡ v → length r ≡ 4096 → r ≡ frame_of v f → a + length bs ≤ 4096
+pub put-view : (m v : List (List ℕ)) (f a : ℕ) (q r part bs : List ℕ) → map sized m ≡ v → f < length v → q ≡ get_or m f q → r ≡ get_or m f r → length q ≡ 4096 → a + length bs ≤ 4096
     → part ≡ bs ++ drop (length bs) (take (4096 - a) (drop a r)) → map sized (set m f (take a r ++ (part ++ post_of a (4096 - a) r))) ≡ put v f a bs
 unfolding put put_bytes
-put-view m v f a r part bs is full read fits given =
+put-view m v f a q r part bs is h once again size fits given =
+    let both = frame-read m v f q r is h once again size in
+    let full = both.0 in
+    let read = both.1 in
     let e : part ≡ bs ++ drop (length bs) (drop a r) = given ∙ ap (λ x. bs ++ drop (length bs) x) (take_all (4096 - a) (drop a r) (omega (arith, length-drop a r, full))) in
     let rest : post_of a (4096 - a) r ≡ [] = drop_all (4096 - a) (drop a r) (omega (arith, length-drop a r, full)) in
     let whole : length (take a r ++ (part ++ post_of a (4096 - a) r)) ≡ 4096 =
