@@ -1,66 +1,56 @@
 -- Bytes of a program that are written into a file in pieces.
-use Rattle.std.proofs.Common.{◌≡◌, ℕ, zero, suc, ◌+◌, ◌-◌, ◌<◌, ◌≤◌, ◌^◌, ◌⊎◌, inl, inr, Bool, false, true, List, [], ◌++◌, length, take, drop, min, None, Ok, Option, Some, is_some, unwrap_or, slice_set, refl, ap, subst, sym, ◌∙◌, arith}
-use Rattle.std.specs.Prelude.{nat_le, ◌&&◌}
-use Rattle.std.proofs.Math.Seq.{take-append-add}
-use Rattle.std.proofs.lemmas.Bool.{and_from, and_left, and_right, cases_Bool, cases_eq, cases_lt, cond-false, cond-true, false≢true, le-leb, leb-false, lt-leb}
-use Rattle.std.proofs.lemmas.List.{get_or-set_same, length-append, length-drop, length-take, length-take-le, set-get_or, set-set, take-take, take_min}
+use Rattle.file_transfers.proofs.Common.{◌≡◌, ℕ, zero, suc, ◌+◌, ◌-◌, ◌<◌, ◌≤◌, ◌^◌, ◌⊎◌, inl, inr, Bool, false, true, List, [], ◌++◌, length, take, min, None, Ok, Option, Some, is_some, unwrap_or}
+use Rattle.file_transfers.proofs.Common.{slice_set, refl, ap, subst, sym, ◌∙◌, arith, nat_le, ◌&&◌, take-append-add, cases_eq, cases_lt, cond-true}
+use Rattle.file_transfers.proofs.Common.{false≢true, leb-false, lt-leb, get_or-set_same, length-take, length-take-le, set-get_or, set-set, take-take, take_min, FileTree}
+use Rattle.file_transfers.proofs.Common.{Serves, Load, Files, Node, longest, put, File, Memory, overwrite, reach, read_bytes, IsSized, piece_at, length-piece, reach-front, reach-next, reach-page}
+use Rattle.std.proofs.lemmas.Bool.Decides.{nat_tests}
 use Rattle.std.proofs.lemmas.Option.{none-some}
-use Rattle.file_transfers.proofs.Memory.{overwrite-none, overwrite-twice, readable-count}
-use Rattle.tree.specs.Tree.{FileTree, Serves}
+use Rattle.file_transfers.proofs.Memory.{length-overwrite, overwrite-none, overwrite-twice, readable-count}
 use Rattle.tree.specs.Written.{IsFile, Written, count_of, files_after, fitting, with_bytes, write_to, written}
 use Rattle.tree.proofs.Bridging.{taken-grows}
 use Rattle.tree.proofs.Storing.{blocks_of-set, slot-within}
-use Rattle.unixmodel.specs.declared.trap.Access.TheVariants.{Load}
 use Rattle.unixmodel.specs.Counts.{blocks_of}
 use Rattle.unixmodel.specs.FileCalls.{greatest, with_file}
-use Rattle.unixmodel.specs.Files.{Files, Node, longest, put, slot}
-use Rattle.unixmodel.specs.Files.Node.{File}
-use Rattle.unixmodel.specs.Memory.{Memory, overwrite, reach, read_bytes}
-use Rattle.vm.specs.Reach.{IsSized, piece_at}
-use Rattle.vm.proofs.ReachLemmas.{length-piece, reach-front, reach-next, reach-page}
 
 -- ---- the greatest number that passes
 
-module _ (test : ℕ → Bool) where
-  here-is : (n : ℕ) → test (suc n) ≡ true → greatest test (suc n) ≡ suc n
-  here-is n e = ap (λ (b : Bool). elim b [ true ↦ suc n | false ↦ greatest test n ]) e
+-- no number up to n that is greater passes
+record IsGreatest (test : ℕ → Bool) (n k : ℕ) : Type 0 where
+  low : k ≤ n
+  passes : (k ≡ 0) ⊎ (test k ≡ true)
+  above : (j : ℕ) → k < j → j ≤ n → test j ≡ false
 
-  below-is : (n : ℕ) → test (suc n) ≡ false → greatest test (suc n) ≡ greatest test n
-  below-is n e = ap (λ (b : Bool). elim b [ true ↦ suc n | false ↦ greatest test n ]) e
-
-  pub greatest-low : (n : ℕ) → greatest test n ≤ n
-  greatest-low zero = omega arith
-  greatest-low (suc n) = elim (cases_Bool (test (suc n))) [
-    | inl e ↦ omega (arith, here-is n e)
-    | inr e ↦ omega (arith, below-is n e, greatest-low n)
-  ]
-
-  greatest-passes : (n : ℕ) → (greatest test n ≡ 0) ⊎ (test (greatest test n) ≡ true)
-  greatest-passes zero = inl refl
-  greatest-passes (suc n) = elim (cases_Bool (test (suc n))) [
-    | inl e ↦ inr (ap test (here-is n e) ∙ e)
-    | inr e ↦ subst (λ k. (k ≡ 0) ⊎ (test k ≡ true)) (sym (below-is n e)) (greatest-passes n)
-  ]
-
-  greatest-above : (n j : ℕ) → greatest test n < j → j ≤ n → test j ≡ false
-  greatest-above zero j above low = absurd (omega (arith, above, low))
-  greatest-above (suc n) j above low = elim (cases_Bool (test (suc n))) [
-    | inl e ↦ absurd (omega (arith, here-is n e, above, low))
-    | inr e ↦ elim (cases_eq j (suc n)) [
+greatest-stands : (test : ℕ → Bool) (n : ℕ) → IsGreatest test n (greatest test n)
+greatest-stands test zero = record { low = omega arith; passes = inl refl; above = λ j above low. absurd (omega (arith, above, low)) }
+greatest-stands test (suc n) = go (greatest-stands test n) (test (suc n)) refl where
+  go : IsGreatest test n (greatest test n) → (b : Bool) → test (suc n) ≡ b → IsGreatest test (suc n) (elim b [ true ↦ suc n | false ↦ greatest test n ])
+  go rest true e = record { low = omega arith; passes = inr e; above = λ j above low. absurd (omega (arith, above, low)) }
+  go rest false e = let within = rest.low in record {
+    low = omega (arith, within);
+    passes = rest.passes;
+    above = λ j above low. elim (cases_eq j (suc n)) [
       | inl same ↦ ap test same ∙ e
-      | inr other ↦ greatest-above n j (omega (arith, below-is n e, above)) (omega (arith, low, other))
-    ]
-  ]
+      | inr other ↦ rest.above j above (omega (arith, low, other))
+    ];
+  }
 
-  greatest-is : (n k : ℕ) → k ≤ n → (k ≡ 0) ⊎ (test k ≡ true) → ((j : ℕ) → k < j → j ≤ n → test j ≡ false) → greatest test n ≡ k
-  greatest-is zero k high passes above = omega (arith, high)
-  greatest-is (suc n) k high passes above = elim (cases_eq k (suc n)) [
-    | inl same ↦ elim passes [
-      | inl none ↦ absurd (omega (arith, same, none))
-      | inr e ↦ here-is n (ap test (sym same) ∙ e) ∙ sym same
-    ]
-    | inr other ↦ below-is n (above (suc n) (omega (arith, high, other)) (omega arith)) ∙ greatest-is n k (omega (arith, high, other)) passes (λ j l m. above j l (omega (arith, m)))
+pub greatest-low : (test : ℕ → Bool) (n : ℕ) → greatest test n ≤ n
+greatest-low test n = (greatest-stands test n).low
+
+not-above : (test : ℕ → Bool) (n j k : ℕ) → IsGreatest test n j → IsGreatest test n k → j < k → ⊥
+not-above test n j k first second less = elim second.passes [
+  | inl none ↦ omega (arith, none, less)
+  | inr e ↦ absurd (false≢true (sym (first.above k less second.low) ∙ e))
+]
+
+greatest-is : (test : ℕ → Bool) (n j k : ℕ) → IsGreatest test n j → IsGreatest test n k → j ≡ k
+greatest-is test n j k first second = elim (cases_lt j k) [
+  | inl less ↦ absurd (not-above test n j k first second less)
+  | inr more ↦ elim (cases_eq j k) [
+    | inl same ↦ same
+    | inr other ↦ absurd (not-above test n k j second first (omega (arith, more, other)))
   ]
+]
 
 -- ---- a file of which the first bytes are written
 
@@ -81,20 +71,10 @@ module _ (limit : ℕ) (files : Files) (n : ℕ) (file : IsFile files n) (at : �
   unfolding written
   written-some =
       ap (write_to limit files n at new) file.here
-      ∙ cond-true (nat_le at (length file.bytes) && nat_le (at + length new) longest) (Some (with_bytes files n at file.links file.bytes new fits-all)) None
-      (and_from (nat_le at (length file.bytes)) (nat_le (at + length new) longest) (le-leb at (length file.bytes) start) (le-leb (at + length new) longest short))
+      ∙ cond-true (nat_le at (length file.bytes) && nat_le (at + length new) longest) (Some (with_bytes files n at file.links file.bytes new fits-all)) None (grind (arith, nat_tests, start, short))
 
   length-front : (k : ℕ) → k ≤ length new → length (overwrite file.bytes at (take k new)) ≡ at + k + (length file.bytes - (at + k))
-  length-front k low =
-      let size : length (take k new) ≡ k = length-take-le k new low in
-      omega (
-        arith,
-        size,
-        length-append (take at file.bytes ++ take k new) (drop (at + length (take k new)) file.bytes),
-        length-append (take at file.bytes) (take k new),
-        length-take-le at file.bytes start,
-        length-drop (at + length (take k new)) file.bytes,
-      )
+  length-front k low = omega (arith, length-overwrite file.bytes at (take k new) start, length-take-le k new low)
 
   -- more bytes take no fewer blocks
   front-grows : (j k : ℕ) → j ≤ k → k ≤ length new → blocks_of (front j) ≤ blocks_of (front k)
@@ -110,44 +90,28 @@ module _ (limit : ℕ) (files : Files) (n : ℕ) (file : IsFile files n) (at : �
   test-falls j k less high over = lt-leb (blocks_of (front k)) limit (omega (arith, leb-false (blocks_of (front j)) limit over, front-grows j k less high))
 
   -- so many go, and no more
-  fitting-is : (k : ℕ) → k ≤ length new → (k ≡ 0) ⊎ (test k ≡ true) → ((j : ℕ) → k < j → j ≤ length new → test j ≡ false) → fits-all ≡ k
+  fitting-stands : IsGreatest test (length new) fits-all
   unfolding fitting
-  fitting-is k high passes above = greatest-is test (length new) k high passes above
-
-  fitting-low : fits-all ≤ length new
-  unfolding fitting
-  fitting-low = greatest-low test (length new)
-
-  fitting-passes : (fits-all ≡ 0) ⊎ (test fits-all ≡ true)
-  unfolding fitting
-  fitting-passes = greatest-passes test (length new)
-
-  fitting-above : (j : ℕ) → fits-all < j → j ≤ length new → test j ≡ false
-  unfolding fitting
-  fitting-above j above low = greatest-above test (length new) j above low
+  fitting-stands = greatest-stands test (length new)
 
   -- what is told of a write of them
   pub told-written : (k : ℕ) → fits-all ≡ k → (files_after files (written limit files n at new) ≡ front k) × (Some k ≡ count_of (written limit files n at new))
-  told-written k is =
-      let all : written limit files n at new ≡ Some (with_bytes files n at file.links file.bytes new k) = written-some ∙ ap (λ j. Some (with_bytes files n at file.links file.bytes new j)) is in
-      (ap (files_after files) all, ap count_of (sym all))
+  told-written k is = rw (written-some, is) (refl, refl)
 
   -- nothing is written yet
   pub front-none : front 0 ≡ files
   front-none = ap (λ bytes. put files n (File file.links bytes)) (overwrite-none file.bytes at) ∙ ap (λ (o : Option Node). slice_set files n o) (sym file.here) ∙ set-get_or files n None
 
--- where the place lies past the end, or the file would be too long, nothing is written
-pub written-none : (limit : ℕ) (files : Files) (n : ℕ) (file : IsFile files n) (at : ℕ) (new : List ℕ) → (length file.bytes < at) ⊎ (longest < at + length new) → written limit files n at new ≡ None
-unfolding written
-written-none limit files n file at new over =
-    let never : (nat_le at (length file.bytes) && nat_le (at + length new) longest) ≡ false = elim over [
-      | inl past ↦ and_left (nat_le at (length file.bytes)) (nat_le (at + length new) longest) (lt-leb at (length file.bytes) past)
-      | inr long ↦ and_right (nat_le at (length file.bytes)) (nat_le (at + length new) longest) (lt-leb (at + length new) longest long)
-    ] in
-    ap (write_to limit files n at new) file.here
-    ∙ cond-false (nat_le at (length file.bytes) && nat_le (at + length new) longest) (Some (with_bytes files n at file.links file.bytes new (fitting limit files n at file.links file.bytes new))) None never
-
 -- ---- the pieces of a write
+
+pub serves-told : {T : Type 0} {old now : FileTree} {Told : T → Type 0} (x : T) → Told x → now.failed ≡ false → now.identity ≡ old.identity → old.failures ≤ now.failures → Serves old now (Ok x) Told
+serves-told x told up same later = record { told = told; up = up; down = tt; same_device = same; cause = record { later = later; failed = λ e. absurd (false≢true e) } }
+
+-- the next piece of some bytes
+pub record IsPiece (new : List ℕ) (done : ℕ) (q : List ℕ) : Type 0 where
+  pub some : 0 < length q
+  pub within : done + length q ≤ length new
+  pub part : take done new ++ q ≡ take (done + length q) new
 
 -- what a write tells
 abbrev pub Tells : FileTree → FileTree → ℕ → ℕ → List ℕ → Option ℕ → Type 0
@@ -164,9 +128,12 @@ pub record HasWritten (old now : FileTree) (n at : ℕ) (new : List ℕ) (done :
   pub fits : (done ≡ 0) ⊎ (nat_le (blocks_of (with_file old.files n file.links (overwrite file.bytes at (take done new)))) old.block_limit ≡ true)
   pub later : old.failures ≤ now.failures
 
+-- where the place lies past the end, or the file would be too long, nothing is written
 pub write-refused : (old now : FileTree) (n at : ℕ) (new : List ℕ) (file : IsFile old.files n) → now ≡ record old { failures = now.failures } → (length file.bytes < at) ⊎ (longest < at + length new) → Tells old now n at new None
+unfolding written
 write-refused old now n at new file same over =
-    let none = written-none old.block_limit old.files n file at new over in
+    let never : (nat_le at (length file.bytes) && nat_le (at + length new) longest) ≡ false = grind (arith, nat_tests, over) in
+    let none : written old.block_limit old.files n at new ≡ None = rw (file.here, never) refl in
     (same ∙ ap (λ (o : Option Written). record old { files = files_after old.files o; failures = now.failures }) (sym none), ap count_of (sym none))
 
 pub write-begun : {old now : FileTree} {n at : ℕ} {new : List ℕ} (file : IsFile old.files n) → at ≤ length file.bytes → at + length new ≤ longest → now ≡ record old { failures = now.failures } → old.failures ≤ now.failures → HasWritten old now n at new 0
@@ -184,38 +151,34 @@ module _ {old now : FileTree} {n at : ℕ} {new : List ℕ} {done : ℕ} (has : 
   abbrev first : ℕ → Files
   first k = with_file old.files n has.file.links (overwrite has.file.bytes at (take k new))
 
-  tells-first : (next : FileTree) (k : ℕ) → fits-all old.block_limit old.files n has.file at new has.start has.short ≡ k → next ≡ record old { files = first k; failures = next.failures } → Tells old next n at new (Some k)
-  tells-first next k is same =
-      let told = told-written old.block_limit old.files n has.file at new has.start has.short k is in
+  tells-first : (next : FileTree) (k : ℕ) → IsGreatest (test old.block_limit old.files n has.file at new has.start has.short) (length new) k → next ≡ record old { files = first k; failures = next.failures } → Tells old next n at new (Some k)
+  tells-first next k stands same =
+      let most = fitting-stands old.block_limit old.files n has.file at new has.start has.short in
+      let told = told-written old.block_limit old.files n has.file at new has.start has.short k (greatest-is _ (length new) _ k most stands) in
       (same ∙ ap (λ (f : Files). record old { files = f; failures = next.failures }) (sym told.0), told.1)
+
+  pub write-serves : {T : Type 0} {Told : T → Type 0} → old.failed ≡ false → (x : T) → Told x → Serves old now (Ok x) Told
+  write-serves up x told = serves-told x told (ap (λ (t : FileTree). t.failed) has.same ∙ up) (ap (λ (t : FileTree). t.identity) has.same) has.later
 
   -- all are written
   pub write-all : length new ≤ done → Tells old now n at new (Some done)
   write-all over =
-      let low = has.within in
-      tells-first now done (fitting-is old.block_limit old.files n has.file at new has.start has.short done low has.fits (λ j above high. absurd (omega (arith, above, high, over)))) has.same
+      tells-first now done (record { low = has.within; passes = has.fits; above = λ j above high. absurd (omega (arith, above, high, over)) }) has.same
 
-  pub file-now : IsFile now.files n
-  file-now = record {
+  abbrev mid : IsFile (first done) n
+  mid = record {
     links = has.file.links;
     bytes = overwrite has.file.bytes at (take done new);
-    here = ap (λ (t : FileTree). slot t.files n) has.same ∙ get_or-set_same old.files n (Some (File has.file.links (overwrite has.file.bytes at (take done new)))) None (slot-within old.files n (File has.file.links has.file.bytes) has.file.here);
+    here = get_or-set_same old.files n (Some (File has.file.links (overwrite has.file.bytes at (take done new)))) None (slot-within old.files n (File has.file.links has.file.bytes) has.file.here);
   }
 
-  pub same-failed : now.failed ≡ old.failed
-  same-failed = ap (λ (t : FileTree). t.failed) has.same
-
-  pub same-device : now.identity ≡ old.identity
-  same-device = ap (λ (t : FileTree). t.identity) has.same
+  pub file-now : IsFile now.files n
+  file-now = subst (λ (t : FileTree). IsFile t.files n) (sym has.same) mid
 
   -- a piece more
-  module _ (q : List ℕ) (fits : done + length q ≤ length new) (part : take done new ++ q ≡ take (done + length q) new) where
-    abbrev mid : IsFile (first done) n
-    mid = record {
-      links = has.file.links;
-      bytes = overwrite has.file.bytes at (take done new);
-      here = get_or-set_same old.files n (Some (File has.file.links (overwrite has.file.bytes at (take done new)))) None (slot-within old.files n (File has.file.links has.file.bytes) has.file.here);
-    }
+  module _ {q : List ℕ} (piece : IsPiece new done q) where
+    fits : done + length q ≤ length new
+    fits = piece.within
 
     mid-start : at + done ≤ length (overwrite has.file.bytes at (take done new))
     mid-start = omega (arith, length-front old.block_limit old.files n has.file at new has.start has.short done (omega (arith, fits)))
@@ -230,7 +193,7 @@ module _ {old now : FileTree} {n at : ℕ} {new : List ℕ} {done : ℕ} (has : 
     joined k low =
         sym (take-append-add (take done new) q k)
         ∙ ap (λ m. take (m + k) (take done new ++ q)) done-length
-        ∙ ap (take (done + k)) part
+        ∙ ap (take (done + k)) piece.part
         ∙ take-take (done + k) (done + length q) new (omega (arith, low))
 
     -- bytes of the piece behind the first ones
@@ -244,19 +207,12 @@ module _ {old now : FileTree} {n at : ℕ} {new : List ℕ} {done : ℕ} (has : 
     abbrev piece-fits : ℕ
     piece-fits = fits-all old.block_limit (first done) n mid (at + done) q mid-start mid-short
 
-    piece-low : piece-fits ≤ length q
-    piece-low = fitting-low old.block_limit (first done) n mid (at + done) q mid-start mid-short
+    piece-stands : IsGreatest (test old.block_limit (first done) n mid (at + done) q mid-start mid-short) (length q) piece-fits
+    piece-stands = fitting-stands old.block_limit (first done) n mid (at + done) q mid-start mid-short
 
     module _ {next : FileTree} {told : Option ℕ} (tells : Tells now next n (at + done) q told) where
       told-is : told ≡ Some piece-fits
       told-is = tells.1 ∙ ap (λ (t : FileTree). count_of (written t.block_limit t.files n (at + done) q)) has.same ∙ ap count_of (written-some old.block_limit (first done) n mid (at + done) q mid-start mid-short)
-
-      next-is : next ≡ record old { files = first (done + piece-fits); failures = next.failures }
-      next-is =
-          tells.0
-          ∙ ap (λ (t : FileTree). record t { files = files_after t.files (written t.block_limit t.files n (at + done) q); failures = next.failures }) has.same
-          ∙ ap (λ (f : Files). record old { files = f; failures = next.failures })
-          ((told-written old.block_limit (first done) n mid (at + done) q mid-start mid-short piece-fits refl).0 ∙ joins piece-fits piece-low)
 
       -- a write that is refused would have begun elsewhere
       pub never-refused : told ≡ None → ⊥
@@ -266,24 +222,23 @@ module _ {old now : FileTree} {n at : ℕ} {new : List ℕ} {done : ℕ} (has : 
         went-is : piece-fits ≡ k
         went-is = let e : Some piece-fits ≡ Some k = sym told-is ∙ went in cc
 
+        stands : IsGreatest (test old.block_limit (first done) n mid (at + done) q mid-start mid-short) (length q) k
+        stands = subst (IsGreatest (test old.block_limit (first done) n mid (at + done) q mid-start mid-short) (length q)) went-is piece-stands
+
         pub went-low : k ≤ length q
-        went-low = omega (arith, went-is, piece-low)
+        went-low = stands.low
 
         next-first : next ≡ record old { files = first (done + k); failures = next.failures }
-        next-first = next-is ∙ ap (λ j. record old { files = first (done + j); failures = next.failures }) went-is
+        next-first =
+            tells.0
+            ∙ ap (λ (t : FileTree). record t { files = files_after t.files (written t.block_limit t.files n (at + done) q); failures = next.failures }) has.same
+            ∙ ap (λ (f : Files). record old { files = f; failures = next.failures }) ((told-written old.block_limit (first done) n mid (at + done) q mid-start mid-short k went-is).0 ∙ joins k went-low)
 
         -- where some go, there are blocks for them
-        passes : (k ≡ 0) ⊎ (nat_le (blocks_of (first (done + k))) old.block_limit ≡ true)
-        passes = subst (λ j. (j ≡ 0) ⊎ (nat_le (blocks_of (first (done + j))) old.block_limit ≡ true)) went-is (elim (fitting-passes old.block_limit (first done) n mid (at + done) q mid-start mid-short) [
-          | inl none ↦ inl none
-          | inr can ↦ inr (ap (λ (f : Files). nat_le (blocks_of f) old.block_limit) (sym (joins piece-fits piece-low)) ∙ can)
-        ])
-
-        passes-all : (done + k ≡ 0) ⊎ (nat_le (blocks_of (first (done + k))) old.block_limit ≡ true)
-        passes-all = elim passes [
-          | inr can ↦ inr can
-          | inl none ↦ let e : done + k ≡ done = omega (arith, none) in
-              subst (λ j. (j ≡ 0) ⊎ (nat_le (blocks_of (first j)) old.block_limit ≡ true)) (sym e) has.fits
+        passes : (done + k ≡ 0) ⊎ (nat_le (blocks_of (first (done + k))) old.block_limit ≡ true)
+        passes = elim stands.passes [
+          | inr can ↦ inr (ap (λ (f : Files). nat_le (blocks_of f) old.block_limit) (sym (joins k went-low)) ∙ can)
+          | inl none ↦ let e : done ≡ done + k = omega (arith, none) in subst (λ j. (j ≡ 0) ⊎ (nat_le (blocks_of (first j)) old.block_limit ≡ true)) e has.fits
         ]
 
         pub write-more : now.failures ≤ next.failures → HasWritten old next n at new (done + k)
@@ -293,7 +248,7 @@ module _ {old now : FileTree} {n at : ℕ} {new : List ℕ} {done : ℕ} (has : 
           start = has.start;
           short = has.short;
           same = next-first;
-          fits = passes-all;
+          fits = passes;
           later = omega (arith, was, later);
         }
 
@@ -305,14 +260,12 @@ module _ {old now : FileTree} {n at : ℕ} {new : List ℕ} {done : ℕ} (has : 
             let low : j - done ≤ length q = omega (arith, high) in
             ap (λ i. nat_le (blocks_of (first i)) old.block_limit) (sym e)
             ∙ ap (λ (f : Files). nat_le (blocks_of f) old.block_limit) (sym (joins (j - done) low))
-            ∙ fitting-above old.block_limit (first done) n mid (at + done) q mid-start mid-short (j - done) (omega (arith, above, went-is)) low in
-            tells-first next (done + k)
-            (fitting-is old.block_limit old.files n has.file at new has.start has.short (done + k) (omega (arith, fits, less)) passes-all
-            (λ j above high. elim (cases_lt (done + length q) j) [
+            ∙ stands.above (j - done) (omega (arith, above)) low in
+            let past : (j : ℕ) → done + k < j → j ≤ length new → nat_le (blocks_of (first j)) old.block_limit ≡ false = λ j above high. elim (cases_lt (done + length q) j) [
               | inr near ↦ over j above near
               | inl far ↦ test-falls old.block_limit old.files n has.file at new has.start has.short (done + length q) j (omega (arith, far)) high (over (done + length q) (omega (arith, less)) (omega arith))
-            ]))
-            next-first
+            ] in
+            tells-first next (done + k) (record { low = omega (arith, fits, less); passes = passes; above = past }) next-first
 
 -- ---- the bytes of a program
 
@@ -351,23 +304,16 @@ module _ (mem : Memory) (address count : ℕ) (readable : is_some (read_bytes me
       long : length q ≡ min (count - done) (length (piece_at Load mem (address + done)))
       long = ap length is ∙ length-take (count - done) (piece_at Load mem (address + done))
 
-      pub piece-some : 0 < length q
-      piece-some = omega (arith, long, less, (reach-page Load mem address done sized near).1)
-
-      pub piece-within : done + length q ≤ length given
-      piece-within = omega (arith, long, less, given-length)
-
-      pub piece-part : take done given ++ q ≡ take (done + length q) given
-      piece-part =
+      pub is-piece : IsPiece given done q
+      is-piece =
           let p = piece_at Load mem (address + done) in
           let begin : (k : ℕ) → k ≤ count → take k given ≡ take k (reach Load mem address) = λ k low. ap (take k) given-is.1 ∙ take-take k count (reach Load mem address) low in
           let same : q ≡ take (length q) p = is ∙ sym (take_min (count - done) p) ∙ ap (λ j. take j p) (sym long) in
-          ap (λ l. l ++ q) (begin done (omega (arith, less)))
-          ∙ ap (λ l. take done (reach Load mem address) ++ l) same
-          ∙ reach-next Load mem address done (length q) sized (omega (arith, near)) (omega (arith, long))
-          ∙ sym (begin (done + length q) (omega (arith, long, less)))
-
--- ---- what is answered
-
-pub serves-told : {T : Type 0} {old now : FileTree} {Told : T → Type 0} (x : T) → Told x → now.failed ≡ false → now.identity ≡ old.identity → old.failures ≤ now.failures → Serves old now (Ok x) Told
-serves-told x told up same later = record { told = told; up = up; down = tt; same_device = same; cause = record { later = later; failed = λ e. absurd (false≢true e) } }
+          record {
+            some = omega (arith, long, less, (reach-page Load mem address done sized near).1);
+            within = omega (arith, long, less, given-length);
+            part = ap (λ l. l ++ q) (begin done (omega (arith, less)))
+                ∙ ap (λ l. take done (reach Load mem address) ++ l) same
+                ∙ reach-next Load mem address done (length q) sized (omega (arith, near)) (omega (arith, long))
+                ∙ sym (begin (done + length q) (omega (arith, long, less)));
+          }

@@ -1,17 +1,11 @@
 -- Bytes that are written into a program's memory in two parts.
-use Rattle.std.proofs.Common.{◌≡◌, ℕ, zero, suc, ◌+◌, ◌-◌, ◌*◌, ◌/◌, ◌%◌, ◌<◌, ◌≤◌, inl, inr, Bool, true, false, List, [], ◌∷◌, ◌++◌, length, take, drop, map, None, Some, is_some, unwrap_or, refl, ap, sym, ◌∙◌, arith, append_assoc, append-nil}
+use Rattle.file_transfers.proofs.Common.{◌≡◌, ℕ, zero, suc, ◌+◌, ◌-◌, ◌*◌, ◌/◌, ◌%◌, ◌<◌, ◌≤◌, inl, inr, Bool, true, false, List, [], ◌∷◌, ◌++◌, length, take, drop, map, None, Some, is_some, unwrap_or, refl}
+use Rattle.file_transfers.proofs.Common.{ap, sym, ◌∙◌, arith, append_assoc, append-nil, cond, if◌then◌else◌, nat_le, slice_get, drop-append-add, take-append-add, cases_lt, le-leb, leb-true, drop-append-le}
+use Rattle.file_transfers.proofs.Common.{drop-drop, drop_all, length-append, length-drop, length-take, length-take-le, take-append-drop, take-append-le, take_all, take_at, drop-map, map-append, Load, Store}
+use Rattle.file_transfers.proofs.Common.{Perm, Memory, Page, can_write, overwrite, permits, reach, read_bytes, write_bytes, write_from, IsSized, run_of, length-reach, reach-drop, write-none}
 use Rattle.std.specs.List.{prefix_len}
-use Rattle.std.specs.Prelude.{cond, if◌then◌else◌, nat_le, slice_get}
-use Rattle.std.proofs.Math.Seq.{drop-append-add, take-append-add}
-use Rattle.std.proofs.lemmas.Bool.{cases_lt, le-leb, leb-true}
-use Rattle.std.proofs.lemmas.List.{drop-append-le, drop-drop, drop_all, length-append, length-drop, length-take, length-take-le, take-append-drop, take-append-le, take_all, take_at, drop-map, map-append}
 use Rattle.unixmodel.specs.declared.trap.Access.{Access}
-use Rattle.unixmodel.specs.declared.trap.Access.TheVariants.{Load, Store}
-use Rattle.unixmodel.specs.Memory.{Perm, Memory, Page, can_write, overwrite, permits, reach, read_bytes, write_bytes, write_from}
-use Rattle.vm.specs.Reach.{IsSized, run_of}
 use Rattle.vm.specs.Reach as vm
-use Rattle.vm.proofs.ReachLemmas.{length-reach, reach-drop}
-use Rattle.vm.proofs.WriteLemmas.{write-none}
 
 -- ---- bytes of a list
 
@@ -20,9 +14,9 @@ overwrite-none bytes at =
     let e : at + 0 ≡ at = omega arith in
     ap (λ n. (take at bytes ++ []) ++ drop n bytes) e ∙ ap (λ l. l ++ drop at bytes) (append-nil (take at bytes)) ∙ take-append-drop at bytes
 
-pub length-overwrite : (bytes : List ℕ) (at : ℕ) (new : List ℕ) → at + length new ≤ length bytes → length (overwrite bytes at new) ≡ length bytes
-length-overwrite bytes at new fits =
-    omega (arith, length-append (take at bytes ++ new) (drop (at + length new) bytes), length-append (take at bytes) new, length-drop (at + length new) bytes, length-take-le at bytes (omega arith))
+pub length-overwrite : (bytes : List ℕ) (at : ℕ) (new : List ℕ) → at ≤ length bytes → length (overwrite bytes at new) ≡ at + length new + (length bytes - (at + length new))
+length-overwrite bytes at new low =
+    omega (arith, length-append (take at bytes ++ new) (drop (at + length new) bytes), length-append (take at bytes) new, length-drop (at + length new) bytes, length-take-le at bytes low)
 
 -- bytes that stand behind others
 pub overwrite-twice : (bytes : List ℕ) (at : ℕ) (xs ys : List ℕ) → at ≤ length bytes → overwrite (overwrite bytes at xs) (at + length xs) ys ≡ overwrite bytes at (xs ++ ys)
@@ -35,21 +29,17 @@ overwrite-twice bytes at xs ys low =
     let sum : at + length xs + length ys ≡ at + length (xs ++ ys) = omega (arith, length-append xs ys) in
     let end : drop (at + length xs + length ys) (front ++ rest) ≡ drop (at + length (xs ++ ys)) bytes =
     ap (λ n. drop n (front ++ rest)) after ∙ drop-append-add front rest (length ys) ∙ drop-drop (length ys) (at + length xs) bytes ∙ ap (λ n. drop n bytes) sum in
-    ap (λ l. (l ++ ys) ++ drop (at + length xs + length ys) (front ++ rest)) begin
-    ∙ ap (λ l. (front ++ ys) ++ l) end
-    ∙ ap (λ l. l ++ drop (at + length (xs ++ ys)) bytes) (append_assoc (take at bytes) xs ys)
+    rw (begin, end) (ap (λ l. l ++ drop (at + length (xs ++ ys)) bytes) (append_assoc (take at bytes) xs ys))
 
 -- ---- bytes that are read
 
-readable-go : (xs : List ℕ) (n : ℕ) (b : Bool) → nat_le n (length xs) ≡ b → is_some (if b then Some (take n xs) else None) ≡ true
-    → (n ≤ length xs) × (unwrap_or (if b then Some (take n xs) else None) [] ≡ take n xs)
-readable-go xs n true fits can = (leb-true n (length xs) fits, refl)
-readable-go xs n false fits can = absurd (cc)
-
 -- bytes that can be read are the first that are reached
-pub readable-count : (mem : Memory) (at n : ℕ) → is_some (read_bytes mem at n) ≡ true
-    → (n ≤ length (reach Load mem at)) × (unwrap_or (read_bytes mem at n) [] ≡ take n (reach Load mem at))
-readable-count mem at n can = readable-go (reach Load mem at) n (nat_le n (length (reach Load mem at))) refl can
+pub readable-count : (mem : Memory) (at n : ℕ) → is_some (read_bytes mem at n) ≡ true → (n ≤ length (reach Load mem at)) × (unwrap_or (read_bytes mem at n) [] ≡ take n (reach Load mem at))
+readable-count mem at n can = go (nat_le n (length (reach Load mem at))) refl can where
+  go : (b : Bool) → nat_le n (length (reach Load mem at)) ≡ b → is_some (if b then Some (take n (reach Load mem at)) else None) ≡ true
+      → (n ≤ length (reach Load mem at)) × (unwrap_or (if b then Some (take n (reach Load mem at)) else None) [] ≡ take n (reach Load mem at))
+  go true fits can = (leb-true n (length (reach Load mem at)) fits, refl)
+  go false fits can = absurd (cc)
 
 -- ---- pages
 
@@ -102,7 +92,7 @@ written-sized (p ∷ ps) at new sized = elim (cases_lt at 4096) [
       let size : length p.bytes ≡ 4096 = sized 0 p refl in
       rw (write-here p ps at new here)
       (sized-more (vm.written p at (take (4096 - at) new)) (write_bytes ps 0 (drop (4096 - at) new))
-      (length-overwrite p.bytes at (take (4096 - at) new) (omega (arith, here, size, length-take (4096 - at) new)) ∙ size)
+      (omega (arith, here, size, length-take (4096 - at) new, length-overwrite p.bytes at (take (4096 - at) new) (omega (arith, here, size))))
       (written-sized ps 0 (drop (4096 - at) new) (sized-tail p ps sized)))
   | inr later ↦ rw (write-later p ps at new later) (sized-more p (write_bytes ps (at - 4096) new) (sized 0 p refl) (written-sized ps (at - 4096) new (sized-tail p ps sized)))
 ]
@@ -113,12 +103,9 @@ written-twice [] at xs ys sized = ap (λ (m : Memory). write_bytes m (at + lengt
 written-twice (p ∷ ps) at xs ys sized = elim (cases_lt at 4096) [
   | inr later ↦
       let n : at + length xs - 4096 ≡ at - 4096 + length xs = omega (arith, later) in
-      ap (λ (m : Memory). write_bytes m (at + length xs) ys) (write-later p ps at xs later)
-      ∙ write-later p (write_bytes ps (at - 4096) xs) (at + length xs) ys (omega (arith, later))
-      ∙ ap (λ k. p ∷ write_bytes (write_bytes ps (at - 4096) xs) k ys) n
-      ∙ ap (λ (m : Memory). p ∷ m) (written-twice ps (at - 4096) xs ys (sized-tail p ps sized))
-      ∙ sym (write-later p ps at (xs ++ ys) later)
-  | inl here ↦ ap (λ (m : Memory). write_bytes m (at + length xs) ys) (write-here p ps at xs here) ∙ elim (cases_lt (at + length xs) 4096) [
+      rw (write-later p ps at xs later, write-later p (write_bytes ps (at - 4096) xs) (at + length xs) ys (omega (arith, later)), n, write-later p ps at (xs ++ ys) later)
+      (ap (λ (m : Memory). p ∷ m) (written-twice ps (at - 4096) xs ys (sized-tail p ps sized)))
+  | inl here ↦ rw (write-here p ps at xs here, write-here p ps at (xs ++ ys) here) (elim (cases_lt (at + length xs) 4096) [
     | inl short ↦
         let size : length p.bytes ≡ 4096 = sized 0 p refl in
         let all : take (4096 - at) xs ≡ xs = take_all (4096 - at) xs (omega (arith, short)) in
@@ -126,26 +113,15 @@ written-twice (p ∷ ps) at xs ys sized = elim (cases_lt at 4096) [
         let left : 4096 - at ≡ length xs + (4096 - (at + length xs)) = omega (arith, short) in
         let front : take (4096 - at) (xs ++ ys) ≡ xs ++ take (4096 - (at + length xs)) ys = ap (λ k. take k (xs ++ ys)) left ∙ take-append-add xs ys (4096 - (at + length xs)) in
         let back : drop (4096 - at) (xs ++ ys) ≡ drop (4096 - (at + length xs)) ys = ap (λ k. drop k (xs ++ ys)) left ∙ drop-append-add xs ys (4096 - (at + length xs)) in
-        ap (λ l. write_bytes (vm.written p at (take (4096 - at) xs) ∷ write_bytes ps 0 l) (at + length xs) ys) none
-        ∙ ap (λ (m : Memory). write_bytes (vm.written p at (take (4096 - at) xs) ∷ m) (at + length xs) ys) (write-none ps 0)
-        ∙ ap (λ l. write_bytes (vm.written p at l ∷ ps) (at + length xs) ys) all
-        ∙ write-here (vm.written p at xs) ps (at + length xs) ys short
-        ∙ ap (λ (l : List ℕ). record { bytes = l; marks = p.marks } ∷ write_bytes ps 0 (drop (4096 - (at + length xs)) ys)) (overwrite-twice p.bytes at xs (take (4096 - (at + length xs)) ys) (omega (arith, here, size)))
-        ∙ ap (λ l. vm.written p at l ∷ write_bytes ps 0 (drop (4096 - (at + length xs)) ys)) (sym front)
-        ∙ ap (λ l. vm.written p at (take (4096 - at) (xs ++ ys)) ∷ write_bytes ps 0 l) (sym back)
-        ∙ sym (write-here p ps at (xs ++ ys) here)
+        rw (none, write-none ps 0, all, write-here (vm.written p at xs) ps (at + length xs) ys short, front, back)
+        (ap (λ (l : List ℕ). record { bytes = l; marks = p.marks } ∷ write_bytes ps 0 (drop (4096 - (at + length xs)) ys)) (overwrite-twice p.bytes at xs (take (4096 - (at + length xs)) ys) (omega (arith, here, size))))
     | inr long ↦
         let w = vm.written p at (take (4096 - at) xs) in
         let n : at + length xs - 4096 ≡ 0 + length (drop (4096 - at) xs) = omega (arith, long, here, length-drop (4096 - at) xs) in
         let front : take (4096 - at) (xs ++ ys) ≡ take (4096 - at) xs = take-append-le (4096 - at) xs ys (omega (arith, long, here)) in
         let back : drop (4096 - at) (xs ++ ys) ≡ drop (4096 - at) xs ++ ys = drop-append-le (4096 - at) xs ys (omega (arith, long, here)) in
-        write-later w (write_bytes ps 0 (drop (4096 - at) xs)) (at + length xs) ys long
-        ∙ ap (λ k. w ∷ write_bytes (write_bytes ps 0 (drop (4096 - at) xs)) k ys) n
-        ∙ ap (λ (m : Memory). w ∷ m) (written-twice ps 0 (drop (4096 - at) xs) ys (sized-tail p ps sized))
-        ∙ ap (λ l. w ∷ write_bytes ps 0 l) (sym back)
-        ∙ ap (λ l. vm.written p at l ∷ write_bytes ps 0 (drop (4096 - at) (xs ++ ys))) (sym front)
-        ∙ sym (write-here p ps at (xs ++ ys) here)
-  ]
+        rw (write-later w (write_bytes ps 0 (drop (4096 - at) xs)) (at + length xs) ys long, n, written-twice ps 0 (drop (4096 - at) xs) ys (sized-tail p ps sized), front, back) refl
+  ])
 ]
 
 -- ---- what may be written

@@ -1,21 +1,12 @@
 -- Bytes of a node that are read in pieces.
-use Rattle.std.proofs.Common.{◌≡◌, ℕ, ◌+◌, ◌-◌, ◌<◌, ◌≤◌, ◌^◌, true, List, [], ◌++◌, length, take, drop, min, None, Ok, Err, Option, Result, Some, is_some, replicate, unwrap_or, slice_set, refl, ap, subst, sym, ◌∙◌, arith}
-use Rattle.std.specs.Prelude.{OnErr}
-use Rattle.std.proofs.Math.Seq.{take-add}
-use Rattle.std.proofs.lemmas.Bool.{leb-true}
-use Rattle.std.proofs.lemmas.List.{drop-drop, length-append, length-drop, length-replicate, length-take, length-take-le, set-get_or, set-set, take_min}
+use Rattle.file_transfers.proofs.Common.{◌≡◌, ℕ, ◌+◌, ◌-◌, ◌<◌, ◌≤◌, ◌^◌, true, List, [], ◌++◌, length, take, drop, min, None, Ok, Err, Option, Result, Some, is_some, replicate, unwrap_or, slice_set, refl, ap, sym, ◌∙◌}
+use Rattle.file_transfers.proofs.Common.{arith, OnErr, take-add, leb-true, drop-drop, length-append, length-drop, length-replicate, length-take, length-take-le, set-get_or, set-set, take_min, SpaceView, Spaces, has_space}
+use Rattle.file_transfers.proofs.Common.{view_at, no_pages, with_view, IsRead, ReadsSome, bytes_of, bytes_read, FileTree, Store, Files, Node, node_bytes, slot, Memory, can_write, reach, IsSized, reach-page, write-none}
 use Rattle.blockdev.specs.Splice.{part}
-use Rattle.spaces.specs.Spaces.{SpaceView, Spaces, has_space, view_at, no_pages, with_view, written}
+use Rattle.spaces.specs.Spaces.{written}
 use Rattle.spaces.proofs.SpacesLemmas.{held-same, within}
-use Rattle.file_transfers.specs.Moved.{IsRead, ReadsSome, bytes_of, bytes_read, with_bytes}
+use Rattle.file_transfers.specs.Moved.{with_bytes}
 use Rattle.file_transfers.proofs.Memory.{written-twice, writes-rest}
-use Rattle.tree.specs.Tree.{FileTree}
-use Rattle.unixmodel.specs.declared.trap.Access.TheVariants.{Store}
-use Rattle.unixmodel.specs.Files.{Files, Node, node_bytes, slot}
-use Rattle.unixmodel.specs.Memory.{Memory, can_write, reach}
-use Rattle.vm.specs.Reach.{IsSized}
-use Rattle.vm.proofs.ReachLemmas.{reach-page}
-use Rattle.vm.proofs.WriteLemmas.{write-none}
 
 -- ---- a piece
 
@@ -24,11 +15,8 @@ module _ (files : Files) (number offset : ℕ) (node : Node) (here : slot files 
   abbrev all : List ℕ
   all = drop offset (node_bytes node)
 
-  piece-length : length (take k all) ≡ k
-  piece-length = length-take-le k all (omega (arith, count, length-drop offset (node_bytes node)))
-
   pub piece-fits : k ≤ length new
-  piece-fits = omega (arith, ap length bytes, length-append (take k all) (drop k old), piece-length)
+  piece-fits = omega (arith, ap length bytes, length-append (take k all) (drop k old), length-take-le k all (omega (arith, count, length-drop offset (node_bytes node))))
 
 -- ---- the spaces
 
@@ -41,31 +29,26 @@ held-there s at has = go (slot s.places at) has where
 pub space-within : (s : Spaces) (at : ℕ) → has_space s at ≡ true → at < length s.places
 space-within s at has = within s.places at (view_at s at) (sym (held-there s at has))
 
+-- a place that has what it had
+pub self-held : (s : Spaces) (at : ℕ) → has_space s at ≡ true → s ≡ with_view s at (view_at s at)
+self-held s at has = ap (λ (ps : List (Option SpaceView)). record s { places = ps }) (sym (ap (λ (o : Option SpaceView). slice_set s.places at o) (held-there s at has) ∙ set-get_or s.places at None))
+
 module _ (s : Spaces) (at address : ℕ) (has : has_space s at ≡ true) where
   -- nothing is written
   pub none-written : s ≡ with_bytes s at address []
   none-written =
       let same : written (view_at s at) address [] ≡ view_at s at = ap (λ (m : Memory). record { memory = m; size = (view_at s at).size }) (write-none (view_at s at).memory address) in
-      let put : slice_set s.places at (Some (written (view_at s at) address [])) ≡ s.places =
-      ap (λ (h : SpaceView). slice_set s.places at (Some h)) same ∙ ap (λ (o : Option SpaceView). slice_set s.places at o) (held-there s at has) ∙ set-get_or s.places at None in
-      ap (λ (ps : List (Option SpaceView)). record s { places = ps }) (sym put)
+      self-held s at has ∙ ap (λ (h : SpaceView). with_view s at h) (sym same)
 
   module _ (bytes : List ℕ) where
     held-with : view_at (with_bytes s at address bytes) at ≡ written (view_at s at) address bytes
     held-with = held-same s at (written (view_at s at) address bytes) (space-within s at has)
 
-    -- the rest of the buffer may be written
-    pub writes-with : (d l c : ℕ) → IsSized (view_at s at).memory → can_write (view_at s at).memory address c ≡ true → d + l ≤ c → can_write (view_at (with_bytes s at address bytes) at).memory (address + d) l ≡ true
-    writes-with d l c sized can fits = rw held-with (writes-rest (view_at s at).memory address address d l c bytes sized can fits)
-
     -- bytes that come behind
     pub with-more : (more : List ℕ) → IsSized (view_at s at).memory → with_bytes (with_bytes s at address bytes) at (address + length bytes) more ≡ with_bytes s at address (bytes ++ more)
     with-more more sized =
-        let twice = written-twice (view_at s at).memory address bytes more sized in
-        let held : written (view_at (with_bytes s at address bytes) at) (address + length bytes) more ≡ written (view_at s at) address (bytes ++ more) =
-        ap (λ (h : SpaceView). written h (address + length bytes) more) held-with ∙ ap (λ (m : Memory). record { memory = m; size = (view_at s at).size }) twice in
-        let put = set-set s.places at (Some (written (view_at s at) address bytes)) (Some (written (view_at s at) address (bytes ++ more))) in
-        ap (λ (h : SpaceView). with_view (with_bytes s at address bytes) at h) held ∙ ap (λ (ps : List (Option SpaceView)). record s { places = ps }) put
+        rw (held-with, written-twice (view_at s at).memory address bytes more sized)
+        (ap (λ (ps : List (Option SpaceView)). record s { places = ps }) (set-set s.places at (Some (written (view_at s at) address bytes)) (Some (written (view_at s at) address (bytes ++ more)))))
 
 -- ---- the pieces of a read
 
@@ -170,4 +153,5 @@ size-whole buffer size left long is = length-take-le size buffer (omega (arith, 
 pub read-writes : {old now : FileTree} {before after : Spaces} {at number offset address count done : ℕ} → HasRead old now before after at number offset address count done → has_space before at ≡ true → IsSized (view_at before at).memory
     → can_write (view_at before at).memory address count ≡ true → (l : ℕ) → done + l ≤ count → can_write (view_at after at).memory (address + done) l ≡ true
 read-writes {old} {before = before} {at = at} {number = number} {offset = offset} {address = address} {count = count} {done = done} has space sized can l fits =
-    subst (λ (s : Spaces). can_write (view_at s at).memory (address + done) l ≡ true) (sym has.bytes) (writes-with before at address space (bytes_read old.files number offset done) done l count sized can fits)
+    let bytes = bytes_read old.files number offset done in
+    rw (has.bytes, held-with before at address space bytes) (writes-rest (view_at before at).memory address address done l count bytes sized can fits)

@@ -1,9 +1,5 @@
-use Rattle.std.proofs.Common.{◌≡◌, Ok, subst, sym, true}
-use Rattle.file_transfers.specs.Moved.{IsRead, with_read}
+use Rattle.file_transfers.proofs.Common.{◌≡◌, Ok, subst, sym, true, IsRead, with_read, Serves, view_at, can_write}
 use Rattle.file_transfers.proofs.Pieces.{front-long, none-read}
-use Rattle.tree.specs.Tree.{Serves}
-use Rattle.spaces.specs.Spaces.{view_at}
-use Rattle.unixmodel.specs.Memory.{can_write}
 use Rattle.file_transfers.proofs.reading.read_node.Goals as goal
 
 pub read_piece-requires-clause-writable : goal.read_piece-requires-clause-writable

@@ -1,7 +1,5 @@
-use Rattle.std.proofs.Common.{arith, length, sym}
-use Rattle.std.proofs.lemmas.List.{length-take, length-take-le}
+use Rattle.file_transfers.proofs.Common.{arith, length, sym, length-take, length-take-le, page-there}
 use Rattle.file_transfers.proofs.Pieces.{piece-fits}
-use Rattle.vm.proofs.ReachLemmas.{page-there}
 use Rattle.file_transfers.proofs.reading.read_piece.Goals as goal
 
 pub slice_bounds-fill-end : goal.slice_bounds-fill-end

@@ -1,7 +1,6 @@
-use Rattle.std.proofs.Common.{List, subst, ℕ}
+use Rattle.file_transfers.proofs.Common.{List, subst, ℕ, Serves}
 use Rattle.file_transfers.proofs.Fits.{given-whole}
 use Rattle.tree.specs.Calls.{WritesAt}
-use Rattle.tree.specs.Tree.{Serves}
 use Rattle.file_transfers.proofs.writing.write_node.Goals as goal
 
 pub returns-then-first-count : goal.returns-then-first-count

@@ -1,5 +1,4 @@
-use Rattle.std.proofs.Common.{◌-◌}
-use Rattle.file_transfers.specs.Moved.{bytes_given}
+use Rattle.file_transfers.proofs.Common.{◌-◌, bytes_given}
 use Rattle.file_transfers.proofs.Fits.{HasWritten}
 use Rattle.file_transfers.proofs.writing.write_pages.Given as goal
 
