@@ -1,7 +1,6 @@
 -- The names that the lemmas of this crate import from elsewhere, passed on from one place. Declares nothing.
 pub use Rattle.std.proofs.Common.{◌%◌, ◌&&◌, ◌*◌, ◌+◌, ◌++◌, ◌-◌, ◌/◌, ◌<◌, [], ◌^◌, ap, append-nil, append_assoc, arith, Bool, drop, Err, false, get_or-set_same, IsErrAnd, le_trans, length}
 pub use Rattle.std.proofs.Common.{length-append, List, None, Ok, Option, refl, replicate, Result, rules, slice_set, Some, subst, suc, sym, take, true, zero, ℕ, ◌∙◌, ◌∷◌, ◌≡◌, ◌≢◌, ◌≤◌}
-pub use Rattle.std.proofs.Math.Seq.{take-add, take-append-add}
 pub use Rattle.std.proofs.lemmas.Bool.{le-leb, lt-leb, lt-ltb}
 pub use Rattle.std.proofs.lemmas.Bool.Decides.{nat_tests}
 pub use Rattle.std.proofs.lemmas.List.{drop-drop, drop-replicate, drop_all, drop_at, length-drop, length-map, length-replicate, length-take, length-take-le, replicate-append-replicate, set-get_or, set-set, take-replicate, take_all, take_at}
@@ -16,15 +15,14 @@ pub use Rattle.elf.specs.declared.ElfFault.{ElfFault}
 pub use Rattle.elf.specs.declared.ElfFault.TheVariants.{Align, Magic, Overlap, Short, Sizes}
 pub use Rattle.elf.specs.declared.FileHeader.{FileHeader}
 pub use Rattle.elf.specs.declared.LoadSegment.{LoadSegment}
-pub use Rattle.file_transfers.proofs.Pieces.{held-there, none-written, size-fits, size-whole, space-within, with-more}
+pub use Rattle.file_transfers.proofs.Pieces.{HasRead, held-there, self-held, read-all, read-end, read-more, read-none, size-fits, size-whole, space-within}
 pub use Rattle.inode.specs.declared.InodeStat.{InodeStat}
-pub use Rattle.spaces.proofs.SpacesLemmas.{held-same, taken-placed, within}
 pub use Rattle.spaces.specs.Spaces.{frames_in, has_space, no_pages, Spaces, SpaceView, taken_frames, view_at, with_view, written}
 pub use Rattle.tree.specs.Tree.{FileTree, Serves}
 pub use Rattle.tree.specs.Written.{IsFile}
 pub use Rattle.unixmodel.specs.Counts.{page_frames}
 pub use Rattle.unixmodel.specs.Files.{Files, Node, node_bytes, slot}
-pub use Rattle.unixmodel.specs.Files.Node.{Device, Directory, File}
+pub use Rattle.unixmodel.specs.Files.Node.{File}
 pub use Rattle.unixmodel.specs.Memory.{Memory, overwrite, Page, Perm, write_from, zero_page}
 unfoldable pub use Rattle.unixmodel.specs.Memory.{pages_of, reach, string_at, write_bytes, zeros}
 pub use Rattle.unixmodel.specs.Numbers.{ceil_div, le, number_at, round_down}
@@ -37,6 +35,6 @@ pub use Rattle.unixmodel.specs.declared.trap.Access.TheVariants.{Load}
 pub use Rattle.vm.specs.Reach.{IsSized}
 pub use Rattle.programs.specs.Headed.{end_behind, end_by, end_of, file_at, headed, IsRead, program_in, segment_behind, TellsProgram, unless_refused}
 pub use Rattle.programs.specs.Passed.{Finishes, HasPushed, Passes, PassesOne, plan_with, PushesString, stacked, word_in}
-pub use Rattle.programs.specs.Placed.{Follows, HasRoom, IsPaged, Leaves, LoadsSegment, next_in, paged, with_more}
+pub use Rattle.programs.specs.Placed.{Follows, HasRoom, IsPaged, Leaves, LoadsSegment, next_in, paged, with_more, with_paged}
 pub use Rattle.programs.specs.declared.arguments.Arguments.{Arguments}
 pub use Rattle.programs.specs.declared.headers.Program.{Program}

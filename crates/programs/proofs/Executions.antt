@@ -1,13 +1,12 @@
 -- A program in the place of another.
-use Rattle.programs.proofs.Common.{ap, arith, length, length-append, refl, subst, sym, ℕ, ◌*◌, ◌++◌, ◌+◌, ◌-◌, ◌<◌, ◌≤◌, ◌^◌, ◌∙◌, ◌≡◌, ◌∷◌, [], true, false, List, None, Ok, Option, Some, flat_map, IfSome}
-use Rattle.programs.proofs.Common.{nat_le, option_and_then, option_map, none-some, cond_some, Arguments, Program, file_at, program_in, TellsProgram, Passes, plan_with, stacked, paged, space-within}
-use Rattle.programs.proofs.Common.{SpaceView, Spaces, has_space, view_at, taken_frames, with_view, held-same, FileTree, Serves, IsFile, page_frames, Files, Node, slot, Device, Directory, File, Memory}
-use Rattle.programs.proofs.Common.{zero_page, le, number_at, round_down, Loaded, Plan, Stack, loaded_of, plan, push, push_pointers, push_strings, stack_marks, with_args, with_stack, args_at, file_bytes}
-use Rattle.programs.specs.declared.executing.Started.{Started}
+use Rattle.programs.proofs.Common.{◌*◌, ◌+◌, ◌++◌, ◌-◌, ◌<◌, [], ap, arith, false, length, length-append, List, None, Ok, Option, refl, Some, subst, sym, true, ℕ, ◌∙◌, ◌∷◌, ◌≡◌, ◌≤◌, cond_some, none-some, flat_map, nat_le, option_and_then}
+use Rattle.programs.proofs.Common.{option_map, Spaces, SpaceView, taken_frames, view_at, with_view, FileTree, Serves, IsFile, page_frames, Files, Node, slot, File, Memory, zero_page, le, number_at, round_down, Loaded, loaded_of, Plan}
+use Rattle.programs.proofs.Common.{Stack, stack_marks, plan, push, push_pointers, push_strings, with_args, with_stack, file_bytes, args_at, file_at, program_in, TellsProgram, Passes, plan_with, stacked, paged, Arguments, Program}
 use Rattle.programs.specs.Executed.{IsExecuted, frames_beside, plan_at}
 use Rattle.programs.proofs.Loads.{IsProgram, is-program}
 use Rattle.programs.proofs.Places.{length-write}
-use Rattle.programs.proofs.Serving.{file-kept-on}
+use Rattle.programs.proofs.Headings.{none-of}
+use Rattle.programs.proofs.Serving.{IsKept, kept-file, kept-one}
 
 -- ---- how many pages a plan has
 
@@ -44,10 +43,7 @@ module _ (file : List ℕ) where
   pub no-plan : program_in file ≡ None → (o : Option (List (List ℕ))) → option_and_then (plan file) o ≡ None
   unfolding plan
   no-plan none None = refl
-  no-plan none (Some args) = ap (option_and_then (λ (l : Loaded). with_args l.pages (round_down (number_at 8 24 file) 4) args)) (not-loaded (loaded_of file) none) where
-    not-loaded : (o : Option Loaded) → option_map (λ (l : Loaded). let p : Program = record { header = record { entry = round_down (number_at 8 24 file) 4; program_headers = number_at 8 32 file; count = number_at 2 56 file }; pages = length l.pages } in p) o ≡ None → o ≡ None
-    not-loaded None e = refl
-    not-loaded (Some l) e = absurd (none-some _ (sym e))
+  no-plan none (Some args) = ap (option_and_then (λ (l : Loaded). with_args l.pages (round_down (number_at 8 24 file) 4) args)) (none-of _ (loaded_of file) none)
 
   module _ (program : Program) (is : IsProgram file program) where
     pub plan-is : (o : Option (List (List ℕ))) → option_and_then (plan file) o ≡ option_and_then (with_args is.loaded.pages program.header.entry) o
@@ -57,14 +53,9 @@ module _ (file : List ℕ) where
         ap (option_and_then (λ (l : Loaded). with_args l.pages (round_down (number_at 8 24 file) 4) args)) is.is
         ∙ ap (λ pc. with_args is.loaded.pages pc args) (sym (ap (λ h. h.entry) is.read))
 
-    plan-passed : (mem : Memory) (argv : ℕ) (told : Option Arguments) → Passes mem argv program.pages told → option_and_then (plan file) (args_at mem argv) ≡ option_map (plan_with is.loaded.pages program.header.entry) told
-    plan-passed mem argv told passes = plan-is (args_at mem argv) ∙ passes is.loaded.pages program.header.entry is.pages
-
-    plan-long : (o : Option (List (List ℕ))) (new : Plan) → option_and_then (plan file) o ≡ Some new → length new.memory ≡ program.pages + 2
-    plan-long o new some = go o (sym (plan-is o) ∙ some) where
-      go : (o : Option (List (List ℕ))) → option_and_then (with_args is.loaded.pages program.header.entry) o ≡ Some new → length new.memory ≡ program.pages + 2
-      go None e = absurd (none-some new e)
-      go (Some args) e = args-long is.loaded.pages program.header.entry args new e ∙ ap (λ n. n + 2) is.pages
+    plan-long : (o : Option (List (List ℕ))) (new : Plan) → option_and_then (with_args is.loaded.pages program.header.entry) o ≡ Some new → length new.memory ≡ program.pages + 2
+    plan-long None new e = absurd (none-some new e)
+    plan-long (Some args) new e = args-long is.loaded.pages program.header.entry args new e ∙ ap (λ n. n + 2) is.pages
 
 -- ---- the file
 
@@ -78,12 +69,10 @@ pub record HasProgram (files : Files) (n : ℕ) (program : Program) : Type 0 whe
 pub has-program : (files : Files) (n : ℕ) (program : Program) → option_and_then program_in (file_bytes (slot files n)) ≡ Some program → HasProgram files n program
 has-program files n program some = go (slot files n) refl some where
   go : (o : Option Node) → slot files n ≡ o → option_and_then program_in (file_bytes o) ≡ Some program → HasProgram files n program
-  go None here is = absurd (none-some program is)
   go (Some (File links bytes)) here is =
       let made : program_in (file_at files n) ≡ Some program = rw here is in
       record { file = record { links = links; bytes = bytes; here = here }; bytes = rw here refl; program_is = made; is = is-program (file_at files n) program made }
-  go (Some (Device links major minor)) here is = absurd (none-some program is)
-  go (Some (Directory links places)) here is = absurd (none-some program is)
+  go o here is = absurd (none-some program is)
 
 module _ {old mid : FileTree} (number : ℕ) {told : Option Program} (serves : Serves old mid (Ok told) (TellsProgram old mid (option_and_then program_in (file_bytes (slot old.files number))))) where
   pub program-none : told ≡ None → (mem : Memory) (argv : ℕ) → plan_at old.files number mem argv ≡ None
@@ -95,36 +84,35 @@ module _ {old mid : FileTree} (number : ℕ) {told : Option Program} (serves : S
   pub program-of : {program : Program} → told ≡ Some program → HasProgram old.files number program
   program-of {program} some = has-program old.files number program (sym serves.told.0.value ∙ some)
 
-  module _ {program : Program} (of : HasProgram old.files number program) where
-    pub file-there : IsFile mid.files number
-    file-there = file-kept-on old number serves.told.0.same of.file
+  pub program-kept : IsKept old mid
+  program-kept = kept-one serves.told.0.same serves
 
+  module _ {program : Program} (of : HasProgram old.files number program) where
     pub program-there : program_in (file_at mid.files number) ≡ Some program
-    program-there = ap (λ (t : FileTree). program_in (file_at t.files number)) serves.told.0.same ∙ of.program_is
+    program-there = ap program_in (kept-file program-kept number) ∙ of.program_is
 
     pub loaded-there : loaded_of (file_at mid.files number) ≡ Some of.is.loaded
-    loaded-there = ap (λ (t : FileTree). loaded_of (file_at t.files number)) serves.told.0.same ∙ of.is.is
-
--- it has few pages
-pub few-told : (o : Option Program) (program : Program) → o ≡ Some program → IfSome o (λ p. p.pages ≤ 2 ^ 52) → program.pages ≤ 2 ^ 52
-few-told o program some few = subst (λ (x : Option Program). IfSome x (λ p. p.pages ≤ 2 ^ 52)) some few
-
-planned : {files : Files} {n : ℕ} {program : Program} (of : HasProgram files n program) (mem : Memory) (argv : ℕ) → plan_at files n mem argv ≡ option_and_then (plan (file_at files n)) (args_at mem argv)
-planned {files} {n} of mem argv = ap (option_and_then (λ file. option_and_then (plan file) (args_at mem argv))) of.bytes
+    loaded-there = ap loaded_of (kept-file program-kept number) ∙ of.is.is
 
 module _ {files : Files} {n : ℕ} {program : Program} (of : HasProgram files n program) (s : Spaces) (at argv : ℕ) where
   abbrev mem : Memory
   mem = (view_at s at).memory
 
+  planned : plan_at files n mem argv ≡ option_and_then (with_args of.is.loaded.pages program.header.entry) (args_at mem argv)
+  planned = ap (option_and_then (λ file. option_and_then (plan file) (args_at mem argv))) of.bytes ∙ plan-is (file_at files n) program of.is (args_at mem argv)
+
+  passed : (told : Option Arguments) → Passes mem argv program.pages told → plan_at files n mem argv ≡ option_map (plan_with of.is.loaded.pages program.header.entry) told
+  passed told passes = planned ∙ passes of.is.loaded.pages program.header.entry of.is.pages
+
   -- the frames don't suffice
   pub over-frames : (frames free : ℕ) → frames ≡ 3 + page_frames (program.pages + 2) → free + taken_frames s ≡ s.frames → free < frames → (p : Plan) → plan_at files n mem argv ≡ Some p → s.frames < frames_beside s p
   over-frames frames free are left over p is =
-      let long : length p.memory ≡ program.pages + 2 = plan-long (file_at files n) program of.is (args_at mem argv) p (sym (planned of mem argv) ∙ is) in
+      let long : length p.memory ≡ program.pages + 2 = plan-long (file_at files n) program of.is (args_at mem argv) p (sym planned ∙ is) in
       subst (λ k. s.frames < taken_frames s + 3 + page_frames k) (sym long) (omega (arith, are, left, over))
 
   -- the arguments can't be given
   pub not-passed : Passes mem argv program.pages None → (p : Plan) → plan_at files n mem argv ≡ Some p → s.frames < frames_beside s p
-  not-passed passes p is = absurd (none-some p (sym (planned of mem argv ∙ plan-passed (file_at files n) program of.is mem argv None passes) ∙ is))
+  not-passed passes p is = absurd (none-some p (sym (passed None passes) ∙ is))
 
   -- it is executed
   pub is-executed : (new : Spaces) (a : Arguments) (frames free : ℕ) → Passes mem argv program.pages (Some a) → frames ≡ 3 + page_frames (program.pages + 2) → free + taken_frames s ≡ s.frames → frames ≤ free
@@ -136,7 +124,7 @@ module _ {files : Files} {n : ℕ} {program : Program} (of : HasProgram files n 
       let whole : 4096 * length (stacked pages a.page) ≡ 4096 * (length pages + 2) = ap (λ k. 4096 * k) (length-stacked pages a.page) in
       record {
         plan = plan_with pages program.header.entry a;
-        is = planned of mem argv ∙ plan-passed (file_at files n) program of.is mem argv (Some a) passes;
+        is = passed (Some a) passes;
         fits = subst (λ k. taken_frames s + 3 + page_frames k ≤ s.frames) (sym long) (omega (arith, are, left, enough));
         held = put ∙ ap (λ k. with_view s at (let h : SpaceView = record { memory = stacked pages a.page; size = k } in h)) whole;
         started = refl;

@@ -1,17 +1,23 @@
 -- What the headers of a program file say, as they are read one after the other.
-use Rattle.programs.proofs.Common.{ap, append-nil, arith, drop, le_trans, length, refl, subst, sym, take, ℕ, zero, suc, ◌%◌, ◌*◌, ◌++◌, ◌+◌, ◌-◌, ◌/◌, ◌<◌, ◌∙◌, ◌≡◌, ◌≢◌, ◌≤◌, Bool, true, false, List, None, Ok}
-use Rattle.programs.proofs.Common.{Err, Option, Result, Some, length-append, IfSome, if◌then◌else◌, nat_le, option_and_then, option_map, replicate, slice_range, ◌&&◌, ◌==◌, ◌^◌, le-leb, nat_tests, drop_all}
-use Rattle.programs.proofs.Common.{length-replicate, none-some, same_Some, DeviceFault, part, ElfFault, Magic, Short, FileHeader, LoadSegment, header_in, header_of, is_within, segment_if, segment_shown, wrong}
-use Rattle.programs.proofs.Common.{header_in-part, headers_by, loaded_by, loads-header, loads-segment, segment_at-part, InodeStat, Program, IsRead, end_behind, end_by, file_at, headed, program_in}
-use Rattle.programs.proofs.Common.{segment_behind, unless_refused, TellsProgram, end_of, FileTree, Serves, IsFile, Files, Node, slot, Device, Directory, File, Perm, pages_of, zero_page, ceil_div, number_at}
-use Rattle.programs.proofs.Common.{Loaded, Segment, load_segment, load_segments, loaded_of, may_follow, nothing_loaded, segment_at, segment_marks, segment_pages, with_segment, file_bytes, bytes_or_none}
+use Rattle.programs.proofs.Common.{◌%◌, ◌&&◌, ◌*◌, ◌+◌, ◌-◌, ◌/◌, ◌<◌, ◌^◌, ap, append-nil, arith, Bool, drop, Err, false, le_trans, length, length-append, List, None, Ok, Option, refl, replicate, Result, Some, subst, suc, sym, take}
+use Rattle.programs.proofs.Common.{true, zero, ℕ, ◌∙◌, ◌≡◌, ◌≢◌, ◌≤◌, le-leb, nat_tests, drop_all, length-replicate, none-some, same_Some, ◌==◌, IfSome, if◌then◌else◌, nat_le, option_and_then, option_map, slice_range, part, DeviceFault}
+use Rattle.programs.proofs.Common.{header_in-part, headers_by, loaded_by, loads-header, loads-segment, segment_at-part, header_in, header_of, is_within, segment_if, segment_shown, wrong, ElfFault, Magic, Short, FileHeader, LoadSegment}
+use Rattle.programs.proofs.Common.{InodeStat, FileTree, Serves, IsFile, Files, Node, slot, File, Perm, zero_page, pages_of, ceil_div, number_at, load_segment, Loaded, loaded_of, may_follow, nothing_loaded, Segment, segment_marks}
+use Rattle.programs.proofs.Common.{with_segment, load_segments, segment_at, segment_pages, file_bytes, bytes_or_none, end_behind, end_by, end_of, file_at, headed, IsRead, program_in, segment_behind, TellsProgram, unless_refused, Program}
 use Rattle.programs.specs.Headed.{Tells}
-use Rattle.file_transfers.proofs.Fits.{serves-told}
-use Rattle.programs.proofs.Serving.{HasRead, HasSeen}
+use Rattle.programs.proofs.Serving.{HasRead, HasSeen, IsKept, kept-file, kept-is-file, kept-more, kept-none, kept-one, kept-told, lost-then}
 use Rattle.tree.specs.Telling as telling
 
--- ---- what a read of bytes that the file has tells
+-- ---- what is told
 
+-- what was read is told
+pub read-serves : {T : Type 0} {old new : FileTree} {told is : T} → IsKept old new → told ≡ is → Serves old new (Ok told) (λ t. IsRead old new t is)
+read-serves {told = told} kept value = kept-told kept told (record { same = kept.same; value = value })
+
+program-serves : {old new : FileTree} {told is : Option Program} → IsKept old new → told ≡ is → IfSome told (λ program. program.pages ≤ 2 ^ 52) → Serves old new (Ok told) (TellsProgram old new is)
+program-serves {told = told} kept value few = kept-told kept told (record { same = kept.same; value = value }, few)
+
+-- a read of bytes that the file has
 pub whole-read : (old new : FileTree) (number at : ℕ) (out out' : List ℕ) (k : ℕ) → IsFile old.files number → at + length out ≤ length (file_at old.files number)
     → Serves old new (Ok k) (HasRead old new number at out out')
     → Serves {T = Unit {0}} old new (Ok tt) (λ done. IsRead old new out' (part at (length out) (file_at old.files number)))
@@ -19,23 +25,12 @@ whole-read old new number at out out' k file within serves =
     let bytes : file_at old.files number ≡ file.bytes = ap bytes_or_none file.here in
     let told = serves.told.1 (File file.links file.bytes) file.here in
     let count : k ≡ length out = omega (arith, told.0, within, ap length bytes) in
-    let value : out' ≡ part at (length out) (file_at old.files number) =
-    told.1
-    ∙ ap (λ n. part at n file.bytes ++ drop n out) count
-    ∙ ap (λ l. part at (length out) file.bytes ++ l) (drop_all (length out) out (omega arith))
-    ∙ append-nil (part at (length out) file.bytes)
-    ∙ ap (part at (length out)) (sym bytes) in
-    serves-told tt (record { same = serves.told.0; value = value }) serves.up serves.same_device serves.cause.later
-
--- ---- what is told
-
--- what was read is told
-pub read-serves : {T : Type 0} {old new : FileTree} {told is : T} → new ≡ record old { failures = new.failures } → new.failed ≡ false → old.failures ≤ new.failures → told ≡ is → Serves old new (Ok told) (λ t. IsRead old new t is)
-read-serves {told = told} same up later value = serves-told told (record { same = same; value = value }) up (ap (λ (t : FileTree). t.identity) same) later
+    let value : out' ≡ part at (length out) (file_at old.files number) = told.1 ∙ rw (count, drop_all (length out) out (omega arith), bytes) (append-nil (part at (length out) file.bytes)) in
+    kept-told (kept-one serves.told.0 serves) tt (record { same = serves.told.0; value = value })
 
 -- where what is loaded ends, by what a program header asks for
 pub end-told : {old new : FileTree} {told : Result (Option LoadSegment) ElfFault} (file : List ℕ) (at end : ℕ) (o : Option ℕ) → Serves old new (Ok told) (Tells old new (segment_behind file at end)) → o ≡ end_by end told → Serves old new (Ok o) (Tells old new (end_behind file at end))
-end-told file at end o serves is = read-serves serves.told.same serves.up serves.cause.later (is ∙ ap (end_by end) serves.told.value)
+end-told file at end o serves is = read-serves (kept-one serves.told.same serves) (is ∙ ap (end_by end) serves.told.value)
 
 -- ---- the header
 
@@ -47,12 +42,10 @@ pub record IsHeaded (file : List ℕ) (header : FileHeader) : Type 0 where
 
 accepted : (m a w : Bool) (h header : FileHeader) → (if m then (if a && w then Ok h else Err Short) else Err Magic) ≡ Ok header → (h ≡ header) × (w ≡ true)
 accepted true true true h header e = (cc, refl)
-accepted true true false h header e = absurd (cc)
-accepted true false w h header e = absurd (cc)
-accepted false a w h header e = absurd (cc)
+accepted m a w h header e = absurd (cc)
 
 ok-of : (r : Result FileHeader ElfFault) (header : FileHeader) → unless_refused r ≡ Some header → r ≡ Ok header
-ok-of (Ok h) header e = let same : h ≡ header = same_Some h header e in ap Ok same
+ok-of (Ok h) header e = ap Ok (same_Some h header e)
 ok-of (Err fault) header e = absurd (none-some header e)
 
 pub is-headed : (file : List ℕ) (header : FileHeader) → headed file ≡ Some header → IsHeaded file header
@@ -72,14 +65,10 @@ none-headed file (Err fault) e = refl
 
 -- ---- the program headers
 
-by-fault : (file : List ℕ) (l : Loaded) (g : Segment) (o : Option ElfFault) → option_map (λ (n : Loaded). n.end) (loaded_by file l g (segment_if (segment_shown g) o)) ≡ end_by l.end (segment_if (segment_shown g) o)
-by-fault file l g None = refl
-by-fault file l g (Some fault) = refl
-
 by-kind : (file : List ℕ) (l : Loaded) (g : Segment) (b : Bool) (o : Option ElfFault)
     → option_map (λ (n : Loaded). n.end) (loaded_by file l g (if b then segment_if (segment_shown g) o else Ok None)) ≡ end_by l.end (if b then segment_if (segment_shown g) o else Ok None)
-by-kind file l g true o = by-fault file l g o
-by-kind file l g false o = refl
+by-kind file l g true None = refl
+by-kind file l g b o = refl
 
 -- one program header moves the end as the definitions do
 end-moves : (file : List ℕ) (l : Loaded) (at : ℕ) → option_map (λ (n : Loaded). n.end) (load_segment file l (segment_at file at)) ≡ end_behind file at l.end
@@ -91,14 +80,22 @@ some-of : (o : Option Loaded) (end : ℕ) → option_map (λ (n : Loaded). n.end
 some-of None end e = absurd (none-some end e)
 some-of (Some l) end e = (l, refl, same_Some l.end end e)
 
-none-of : (o : Option Loaded) → option_map (λ (n : Loaded). n.end) o ≡ None → o ≡ None
-none-of None e = refl
-none-of (Some l) e = absurd (none-some l.end (sym e))
+pub none-of : {A : Type 0} (f : Loaded → A) (o : Option Loaded) → option_map f o ≡ None → o ≡ None
+none-of f None e = refl
+none-of f (Some l) e = absurd (none-some (f l) (sym e))
 
-pub loads-next : (file : List ℕ) (n at : ℕ) (l : Loaded) (o : Option Loaded) → at + 56 ≤ length file → load_segment file l (segment_at file at) ≡ o
-    → load_segments file (suc n) at l ≡ option_and_then (λ next. load_segments file n (at + 56) next) o
+-- the first of several program headers, and what is loaded of the rest behind it
+pub record HasNext (file : List ℕ) (n at : ℕ) (l last : Loaded) : Type 0 where
+  pub next : Loaded
+  pub loads : load_segment file l (segment_at file at) ≡ Some next
+  pub rest : load_segments file n (at + 56) next ≡ Some last
+
+pub has-next : (file : List ℕ) (n at : ℕ) (l last : Loaded) → load_segments file (suc n) at l ≡ Some last → HasNext file n at l last
 unfolding load_segments
-loads-next file n at l o within e = let yes : nat_le (at + 56) (length file) ≡ true = le-leb (at + 56) (length file) within in rw (yes, e) refl
+has-next file n at l last all = go (nat_le (at + 56) (length file)) (load_segment file l (segment_at file at)) refl all where
+  go : (b : Bool) (o : Option Loaded) → load_segment file l (segment_at file at) ≡ o → (if b then option_and_then (λ next. load_segments file n (at + 56) next) o else None) ≡ Some last → HasNext file n at l last
+  go true (Some next) loads rest = record { next = next; loads = loads; rest = rest }
+  go b o loads rest = absurd (none-some last rest)
 
 -- a program header that is within the file with all others
 pub header-within : (at count i len : ℕ) → is_within at (56 * count) len ≡ true → i < count → at + 56 * i + 56 ≤ len
@@ -106,74 +103,56 @@ header-within at count i len within more = grind (arith, nat_tests, within, more
 
 -- the program headers so far are read
 pub record HasLoaded (old now : FileTree) (file : List ℕ) (count at i end : ℕ) : Type 0 where
-  pub same : now ≡ record old { failures = now.failures }
-  pub up : now.failed ≡ false
-  pub later : old.failures ≤ now.failures
+  pub kept : IsKept old now
   pub loaded : Loaded
   pub ends : loaded.end ≡ end
   pub rest : load_segments file count at nothing_loaded ≡ load_segments file (count - i) (at + 56 * i) loaded
 
-pub none-read : (file : List ℕ) (count at : ℕ) → load_segments file count at nothing_loaded ≡ load_segments file (count - 0) (at + 56 * 0) nothing_loaded
-none-read file count at = let n : count - 0 ≡ count = omega arith in let a : at + 56 * 0 ≡ at = omega arith in rw (n, a) refl
+abbrev pub none-loaded : (tree : FileTree) (file : List ℕ) (count at : ℕ) → tree.failed ≡ false → HasLoaded tree tree file count at 0 0
+none-loaded tree file count at up = record { kept = kept-none tree up; loaded = nothing_loaded; ends = refl; rest = let n : count - 0 ≡ count = omega arith in let a : at + 56 * 0 ≡ at = omega arith in rw (n, a) refl }
 
-pub none-loaded : (tree : FileTree) (file : List ℕ) (count at : ℕ) → tree.failed ≡ false → HasLoaded tree tree file count at 0 0
-none-loaded tree file count at up = record { same = refl; up = up; later = omega arith; loaded = nothing_loaded; ends = refl; rest = none-read file count at }
+module _ {old now : FileTree} {file : List ℕ} {count at i end : ℕ} (has : HasLoaded old now file count at i end) (more : i < count) where
+  pub rest-next : load_segments file count at nothing_loaded ≡ load_segments file (suc (count - (i + 1))) (at + 56 * i) has.loaded
+  rest-next = let left : count - i ≡ suc (count - (i + 1)) = omega (arith, more) in has.rest ∙ ap (λ n. load_segments file n (at + 56 * i) has.loaded) left
+
+  module _ (fits : is_within at (56 * count) (length file) ≡ true) where
+    pub rest-is : (o : Option Loaded) → load_segment file has.loaded (segment_at file (at + 56 * i)) ≡ o
+        → load_segments file count at nothing_loaded ≡ option_and_then (λ next. load_segments file (count - (i + 1)) (at + 56 * (i + 1)) next) o
+    unfolding load_segments
+    rest-is o e =
+        let yes : nat_le (at + 56 * i + 56) (length file) ≡ true = le-leb (at + 56 * i + 56) (length file) (header-within at count i (length file) fits more) in
+        let behind : at + 56 * i + 56 ≡ at + 56 * (i + 1) = omega arith in
+        rest-next ∙ rw (yes, e, behind) refl
+
+    -- one more is loaded
+    abbrev pub loaded-next : {next : FileTree} {n : ℕ} (l : Loaded) → IsKept old next → load_segment file has.loaded (segment_at file (at + 56 * i)) ≡ Some l → l.end ≡ n → HasLoaded old next file count at (i + 1) n
+    loaded-next l kept loads ends = record { kept = kept; loaded = l; ends = ends; rest = rest-is (Some l) loads }
 
 module _ {old now next : FileTree} {count at i end place : ℕ} {told : Option ℕ} (number : ℕ) (has : HasLoaded old now (file_at old.files number) count at i end) (more : i < count) (is : place ≡ at + 56 * i)
     (fits : is_within at (56 * count) (length (file_at old.files number)) ≡ true) (serves : Serves now next (Ok told) (Tells now next (end_behind (file_at now.files number) place end))) where
   abbrev bytes : List ℕ
   bytes = file_at old.files number
 
-  told-is : told ≡ end_behind bytes (at + 56 * i) has.loaded.end
-  told-is =
-      serves.told.value
-      ∙ ap (λ (t : FileTree). end_behind (file_at t.files number) place end) has.same
-      ∙ ap (λ p. end_behind bytes p end) is
-      ∙ ap (end_behind bytes (at + 56 * i)) (sym has.ends)
+  kept-next : IsKept old next
+  kept-next = kept-more has.kept serves.told.same serves
 
-  left : count - i ≡ suc (count - (i + 1))
-  left = omega (arith, more)
-
-  rest-is : (o : Option Loaded) → load_segment bytes has.loaded (segment_at bytes (at + 56 * i)) ≡ o → load_segments bytes count at nothing_loaded ≡ option_and_then (λ l. load_segments bytes (count - (i + 1)) (at + 56 * i + 56) l) o
-  rest-is o e =
-      has.rest
-      ∙ ap (λ n. load_segments bytes n (at + 56 * i) has.loaded) left
-      ∙ loads-next bytes (count - (i + 1)) (at + 56 * i) has.loaded o (header-within at count i (length bytes) fits more) e
-
-  same-more : next ≡ record old { failures = next.failures }
-  same-more = serves.told.same ∙ ap (λ (t : FileTree). record t { failures = next.failures }) has.same
-
-  later-more : old.failures ≤ next.failures
-  later-more = let was = has.later in let later = serves.cause.later in omega (arith, was, later)
+  moves : option_map (λ (n : Loaded). n.end) (load_segment bytes has.loaded (segment_at bytes (at + 56 * i))) ≡ told
+  moves = end-moves bytes has.loaded (at + 56 * i) ∙ sym (serves.told.value ∙ rw (kept-file has.kept number, is, sym has.ends) refl)
 
   pub refused-more : told ≡ None → Serves old next (Ok None) (λ t. IsRead old next t (option_map (λ (l : Loaded). l.end) (load_segments bytes count at nothing_loaded)))
-  refused-more none =
-      let refused : load_segments bytes count at nothing_loaded ≡ None = rest-is None (none-of _ (end-moves bytes has.loaded (at + 56 * i) ∙ sym told-is ∙ none)) in
-      read-serves same-more serves.up later-more (sym (ap (option_map (λ (l : Loaded). l.end)) refused))
+  refused-more none = read-serves kept-next (sym (ap (option_map (λ (l : Loaded). l.end)) (rest-is has more fits None (none-of (λ l. l.end) _ (moves ∙ none)))))
 
   pub loaded-more : (n : ℕ) → told ≡ Some n → HasLoaded old next bytes count at (i + 1) n
-  loaded-more n some =
-      let loads : (l : Loaded) × (load_segment bytes has.loaded (segment_at bytes (at + 56 * i)) ≡ Some l) × (l.end ≡ n) = some-of _ n (end-moves bytes has.loaded (at + 56 * i) ∙ sym told-is ∙ some) in
-      let behind : at + 56 * i + 56 ≡ at + 56 * (i + 1) = omega arith in
-      record {
-        same = same-more;
-        up = serves.up;
-        later = later-more;
-        loaded = loads.0;
-        ends = loads.2;
-        rest = rest-is (Some loads.0) loads.1 ∙ ap (λ a. load_segments bytes (count - (i + 1)) a loads.0) behind;
-      }
+  loaded-more n some = let loads = some-of _ n (moves ∙ some) in loaded-next has more fits loads.0 kept-next loads.1 loads.2
 
 -- all of them are
-ends-all : {old now : FileTree} {file : List ℕ} {count at i end : ℕ} → HasLoaded old now file count at i end → count ≤ i → option_map (λ (l : Loaded). l.end) (load_segments file count at nothing_loaded) ≡ Some end
+pub all-loads : {old now : FileTree} {file : List ℕ} {count at i end : ℕ} (has : HasLoaded old now file count at i end) → count ≤ i → load_segments file count at nothing_loaded ≡ Some has.loaded
 unfolding load_segments
-ends-all {file = file} {count = count} {at = at} {i = i} has all =
-    let none : count - i ≡ 0 = omega (arith, all) in
-    ap (option_map (λ (l : Loaded). l.end)) (has.rest ∙ ap (λ n. load_segments file n (at + 56 * i) has.loaded) none) ∙ ap Some has.ends
+all-loads {count = count} {i = i} has all = let none : count - i ≡ 0 = omega (arith, all) in has.rest ∙ rw none refl
 
 pub all-loaded : {old now : FileTree} {file : List ℕ} {count at i end : ℕ} → HasLoaded old now file count at i end → count ≤ i
     → Serves old now (Ok (Some end)) (λ t. IsRead old now t (option_map (λ (l : Loaded). l.end) (load_segments file count at nothing_loaded)))
-all-loaded has all = read-serves has.same has.up has.later (sym (ends-all has all))
+all-loaded has all = read-serves has.kept (sym (ap (option_map (λ (l : Loaded). l.end)) (all-loads has all) ∙ ap Some has.ends))
 
 -- ---- the pages of what is loaded
 
@@ -196,43 +175,27 @@ whole-more file l g whole aligned after =
     length-append l.pages (segment_pages file (length l.pages) g)
     ∙ omega (arith, length-segment file (length l.pages) g, whole, aligned, after)
 
--- What stays as one segment more is loaded, and joins, holds from what is loaded to what is loaded later.
-module _ (file : List ℕ) (R : Loaded → Loaded → Type 0) (same : (l : Loaded) → R l l) (joined : (a b c : Loaded) → R a b → R b c → R a c)
-    (step : (l : Loaded) (g : Segment) → may_follow file l.end g ≡ true → R l (with_segment file l g)) where
-  kind-related : (l : Loaded) (g : Segment) (kind may : Bool) → may_follow file l.end g ≡ may → IfSome (if kind then (if may then Some (with_segment file l g) else None) else Some l) (R l)
-  kind-related l g true true is = step l g is
-  kind-related l g true false is = tt
-  kind-related l g false may is = same l
+-- whole pages stay whole, and no page goes
+abbrev pub Grows : Loaded → Loaded → Type 0
+Grows l m = (IsWhole l → IsWhole m) × (length l.pages ≤ length m.pages)
 
-  pub one-related : (l : Loaded) (g : Segment) → IfSome (load_segment file l g) (R l)
-  one-related l g = kind-related l g (g.kind == 1) (may_follow file l.end g) refl
+pub grows-one : (file : List ℕ) (l next : Loaded) (g : Segment) → load_segment file l g ≡ Some next → Grows l next
+grows-one file l next g loads = go (g.kind == 1) (may_follow file l.end g) refl loads where
+  go : (kind may : Bool) → may_follow file l.end g ≡ may → (if kind then (if may then Some (with_segment file l g) else None) else Some l) ≡ Some next → Grows l next
+  go true true may is =
+      subst (Grows l) (same_Some (with_segment file l g) next is)
+      (λ whole. whole-more file l g whole (grind (arith, nat_tests, may)) (grind (arith, nat_tests, may)), omega (arith, length-append l.pages (segment_pages file (length l.pages) g)))
+  go true false may is = absurd (none-some next is)
+  go false b may is = subst (Grows l) (same_Some l next is) (λ whole. whole, omega arith)
 
-  then-related : (l : Loaded) (b : Bool) (o : Option Loaded) (f : Loaded → Option Loaded) → IfSome o (R l) → ((m : Loaded) → IfSome (f m) (R m)) → IfSome (if b then option_and_then f o else None) (R l)
-  then-related l false o f first next = tt
-  then-related l true None f first next = tt
-  then-related l true (Some m) f first next = go (f m) (next m) where
-    go : (u : Option Loaded) → IfSome u (R m) → IfSome u (R l)
-    go None is = tt
-    go (Some u) is = joined l m u first is
-
-  pub all-related : (n at : ℕ) (l : Loaded) → IfSome (load_segments file n at l) (R l)
-  unfolding load_segments
-  all-related zero at l = same l
-  all-related (suc n) at l =
-      then-related l (nat_le (at + 56) (length file)) (load_segment file l (segment_at file at)) (λ next. load_segments file n (at + 56) next)
-      (one-related l (segment_at file at)) (λ next. all-related n (at + 56) next)
-
-abbrev pub KeepsWhole : Loaded → Loaded → Type 0
-KeepsWhole l m = IsWhole l → IsWhole m
-
-keeps-whole : (file : List ℕ) (l : Loaded) (g : Segment) → may_follow file l.end g ≡ true → KeepsWhole l (with_segment file l g)
-keeps-whole file l g may whole = whole-more file l g whole (grind (arith, nat_tests, may)) (grind (arith, nat_tests, may))
-
-pub loads-one : (file : List ℕ) (l : Loaded) (g : Segment) → IfSome (load_segment file l g) (KeepsWhole l)
-loads-one file l g = one-related file KeepsWhole (λ m whole. whole) (λ a b c first second whole. second (first whole)) (keeps-whole file) l g
-
-loads-whole : (file : List ℕ) (n at : ℕ) (l : Loaded) → IfSome (load_segments file n at l) (KeepsWhole l)
-loads-whole file n at l = all-related file KeepsWhole (λ m whole. whole) (λ a b c first second whole. second (first whole)) (keeps-whole file) n at l
+pub grows : (file : List ℕ) (n at : ℕ) (l last : Loaded) → load_segments file n at l ≡ Some last → Grows l last
+unfolding load_segments
+grows file zero at l last is = subst (Grows l) (same_Some l last is) (λ whole. whole, omega arith)
+grows file (suc n) at l last is =
+    let next = has-next file n at l last is in
+    let first = grows-one file l next.next (segment_at file at) next.loads in
+    let rest = grows file n (at + 56) next.next last next.rest in
+    (λ whole. rest.0 (first.0 whole), le_trans first.1 rest.1)
 
 -- ---- the program
 
@@ -247,102 +210,82 @@ module _ (file : List ℕ) (header : FileHeader) (head : headed file ≡ Some he
   loads-is = loads-header file ∙ ap (headers_by file) ((is-headed file header head).is)
 
   pub segments-refused : option_map (λ (l : Loaded). l.end) loads ≡ None → program_in file ≡ None
-  segments-refused none = ap (option_map (λ (l : Loaded). record { header = header_in file; pages = length l.pages })) (loads-is ∙ none-of loads none)
+  segments-refused none = ap (option_map (λ (l : Loaded). record { header = header_in file; pages = length l.pages })) (loads-is ∙ none-of (λ l. l.end) loads none)
 
   pub program-is : (end pages : ℕ) → option_map (λ (l : Loaded). l.end) loads ≡ Some end → pages ≡ ceil_div end 4096 → Some (record { header = header; pages = pages }) ≡ program_in file
   program-is end pages some count =
       let last = some-of loads end some in
-      let whole : IsWhole last.0 = subst (λ (o : Option Loaded). IfSome o (KeepsWhole nothing_loaded)) last.1 (loads-whole file header.count header.program_headers nothing_loaded) refl in
+      let whole : IsWhole last.0 = (grows file header.count header.program_headers nothing_loaded last.0 last.1).0 refl in
       let same : pages ≡ length last.0.pages = count ∙ ap (λ n. ceil_div n 4096) (sym last.2) ∙ sym whole in
       ap (λ n. Some (let p : Program = record { header = header; pages = n } in p)) same
       ∙ ap (λ h. Some (let p : Program = record { header = h; pages = length last.0.pages } in p)) ((is-headed file header head).read)
       ∙ sym (ap (option_map (λ (l : Loaded). record { header = header_in file; pages = length l.pages })) (loads-is ∙ last.1))
 
--- ---- what names no file
+-- ---- the steps of `read_headers`
 
-pub no-file : (s : InodeStat) (o : Option Node) (node : Node) → o ≡ Some node → telling.Tells s node → s.kind ≢ 2 → file_bytes o ≡ None
-no-file s o (File links held) here tells other = absurd (other tells.0)
-no-file s o (Device links major minor) here tells other = ap file_bytes here
-no-file s o (Directory links places) here tells other = ap file_bytes here
-
-pub is-file : (s : InodeStat) (files : Files) (n : ℕ) (node : Node) → slot files n ≡ Some node → telling.Tells s node → s.kind ≡ 2 → IsFile files n × (s.size ≡ length (file_at files n)) × (file_bytes (slot files n) ≡ Some (file_at files n))
-is-file s files n (File links held) here tells kind =
-    (record { links = links; bytes = held; here = here }, tells.2 ∙ ap (λ o. length (bytes_or_none o)) (sym here), ap file_bytes here ∙ ap (λ o. Some (bytes_or_none o)) (sym here))
-is-file s files n (Device links major minor) here tells kind = absurd (omega (arith, tells.0, kind))
-is-file s files n (Directory links places) here tells kind = absurd (omega (arith, tells.0, kind))
-
--- ---- the steps of `read_headers` and `read_program`
-
-module _ {old new : FileTree} (number : ℕ) where
-  -- the header is refused
-  pub head-refused : {told : Option FileHeader} → Serves old new (Ok told) (Tells old new (headed (file_at old.files number))) → told ≡ None → Serves old new (Ok None) (TellsProgram old new (program_in (file_at old.files number)))
-  head-refused serves none =
-      serves-told None (record { same = serves.told.same; value = sym (program-refused (file_at old.files number) (sym serves.told.value ∙ none)) }, tt) serves.up serves.same_device serves.cause.later
-
--- its program headers are in the file
-pub header-fits : {old mid : FileTree} (number : ℕ) {head : Option FileHeader} {header : FileHeader} → Serves old mid (Ok head) (Tells old mid (headed (file_at old.files number))) → head ≡ Some header
-    → (len : ℕ) → len ≡ length (file_at old.files number) → is_within header.program_headers (56 * header.count) len ≡ true
-header-fits {old} number {head} {header} first some len long =
-    ap (is_within header.program_headers (56 * header.count)) long ∙ (is-headed (file_at old.files number) header (sym first.told.value ∙ some)).within
-
-module _ {old mid new : FileTree} (number : ℕ) {head : Option FileHeader} {header : FileHeader} {told : Option ℕ}
-    (first : Serves old mid (Ok head) (Tells old mid (headed (file_at old.files number)))) (some : head ≡ Some header)
-    (second : Serves mid new (Ok told) (Tells mid new (end_of (file_at mid.files number) header))) where
+module _ {old mid : FileTree} (number : ℕ) {head : Option FileHeader} (first : Serves old mid (Ok head) (Tells old mid (headed (file_at old.files number)))) where
   abbrev whole_file : List ℕ
   whole_file = file_at old.files number
 
-  headed-is : headed whole_file ≡ Some header
-  headed-is = sym first.told.value ∙ some
+  pub head-kept : IsKept old mid
+  head-kept = kept-one first.told.same first
 
-  ends-is : told ≡ end_of whole_file header
-  ends-is = second.told.value ∙ ap (λ (t : FileTree). end_of (file_at t.files number) header) first.told.same
+  -- the header is refused
+  pub head-refused : head ≡ None → Serves old mid (Ok None) (TellsProgram old mid (program_in whole_file))
+  head-refused none = program-serves head-kept (sym (program-refused whole_file (sym first.told.value ∙ none))) tt
 
-  same-both : new ≡ record old { failures = new.failures }
-  same-both = second.told.same ∙ ap (λ (t : FileTree). record t { failures = new.failures }) first.told.same
+  module _ {header : FileHeader} (some : head ≡ Some header) where
+    headed-is : headed whole_file ≡ Some header
+    headed-is = sym first.told.value ∙ some
 
-  later-both : old.failures ≤ new.failures
-  later-both = le_trans first.cause.later second.cause.later
+    -- its program headers are in the file
+    pub header-fits : (len : ℕ) → len ≡ length whole_file → is_within header.program_headers (56 * header.count) len ≡ true
+    header-fits len long = ap (is_within header.program_headers (56 * header.count)) long ∙ (is-headed whole_file header headed-is).within
 
-  -- a segment is refused
-  pub ends-refused : told ≡ None → Serves old new (Ok None) (TellsProgram old new (program_in whole_file))
-  ends-refused none = serves-told None (record { same = same-both; value = sym (segments-refused whole_file header headed-is (sym ends-is ∙ none)) }, tt) second.up (second.same_device ∙ first.same_device) later-both
+    module _ {new : FileTree} {told : Option ℕ} (second : Serves mid new (Ok told) (Tells mid new (end_of (file_at mid.files number) header))) where
+      ends-is : end_of whole_file header ≡ told
+      ends-is = sym (second.told.value ∙ ap (λ file. end_of file header) (kept-file head-kept number))
 
-  pub program-told : (end pages : ℕ) → told ≡ Some end → end < 2 ^ 64 → pages ≡ ceil_div end 4096 → Serves old new (Ok (Some (record { header = header; pages = pages }))) (TellsProgram old new (program_in whole_file))
-  program-told end pages at fits count =
-      serves-told _ (record { same = same-both; value = program-is whole_file header headed-is end pages (sym ends-is ∙ at) count }, omega (arith, count, fits)) second.up (second.same_device ∙ first.same_device) later-both
+      kept-both : IsKept old new
+      kept-both = kept-more head-kept second.told.same second
+
+      -- a segment is refused
+      pub ends-refused : told ≡ None → Serves old new (Ok None) (TellsProgram old new (program_in whole_file))
+      ends-refused none = program-serves kept-both (sym (segments-refused whole_file header headed-is (ends-is ∙ none))) tt
+
+      pub program-told : (end pages : ℕ) → told ≡ Some end → end < 2 ^ 64 → pages ≡ ceil_div end 4096 → Serves old new (Ok (Some (record { header = header; pages = pages }))) (TellsProgram old new (program_in whole_file))
+      program-told end pages at fits count = program-serves kept-both (program-is whole_file header headed-is end pages (ends-is ∙ at) count) (omega (arith, count, fits))
+
+-- ---- the steps of `read_program`
+
+-- what names no file
+no-file : (s : InodeStat) (o : Option Node) (node : Node) → o ≡ Some node → telling.Tells s node → s.kind ≢ 2 → file_bytes o ≡ None
+no-file s o (File links held) here tells other = absurd (other tells.0)
+no-file s o node here tells other = ap file_bytes here
+
+is-file : (s : InodeStat) (files : Files) (n : ℕ) (node : Node) → slot files n ≡ Some node → telling.Tells s node → s.kind ≡ 2 → IsFile files n × (s.size ≡ length (file_at files n)) × (file_bytes (slot files n) ≡ Some (file_at files n))
+is-file s files n (File links held) here tells kind =
+    (record { links = links; bytes = held; here = here }, tells.2 ∙ ap (λ o. length (bytes_or_none o)) (sym here), ap file_bytes here ∙ ap (λ o. Some (bytes_or_none o)) (sym here))
+is-file s files n node here tells kind = absurd (omega (arith, tells.0, kind))
 
 module _ {old mid : FileTree} (number : ℕ) {s : InodeStat} (node : (n : Node) × (slot old.files number ≡ Some n)) (first : Serves old mid (Ok s) (HasSeen old mid number)) where
-  tells-node : telling.Tells s node.0
-  tells-node = first.told.1 node.0 node.1
+  seen-kept : IsKept old mid
+  seen-kept = kept-one first.told.0 first
 
   pub other-refused : s.kind ≢ 2 → Serves old mid (Ok None) (TellsProgram old mid (option_and_then program_in (file_bytes (slot old.files number))))
-  other-refused other =
-      serves-told None (record { same = first.told.0; value = sym (ap (option_and_then program_in) (no-file s (slot old.files number) node.0 node.1 tells-node other)) }, tt) first.up first.same_device first.cause.later
+  other-refused other = program-serves seen-kept (sym (ap (option_and_then program_in) (no-file s (slot old.files number) node.0 node.1 (first.told.1 node.0 node.1) other))) tt
 
   module _ (kind : s.kind ≡ 2) where
     was : IsFile old.files number × (s.size ≡ length (file_at old.files number)) × (file_bytes (slot old.files number) ≡ Some (file_at old.files number))
-    was = is-file s old.files number node.0 node.1 tells-node kind
+    was = is-file s old.files number node.0 node.1 (first.told.1 node.0 node.1) kind
 
     pub file-stands : IsFile mid.files number
-    file-stands = record { links = was.0.links; bytes = was.0.bytes; here = ap (λ (t : FileTree). slot t.files number) first.told.0 ∙ was.0.here }
+    file-stands = kept-is-file seen-kept was.0
 
     pub file-long : s.size ≡ length (file_at mid.files number)
-    file-long = was.1 ∙ ap (λ (t : FileTree). length (file_at t.files number)) (sym first.told.0)
-
-    is-same : program_in (file_at mid.files number) ≡ option_and_then program_in (file_bytes (slot old.files number))
-    is-same = ap (λ (t : FileTree). program_in (file_at t.files number)) first.told.0 ∙ sym (ap (option_and_then program_in) was.2)
+    file-long = was.1 ∙ ap length (sym (kept-file seen-kept number))
 
     pub program-served : {new : FileTree} (r : Result (Option Program) DeviceFault) → Serves mid new r (TellsProgram mid new (program_in (file_at mid.files number))) → Serves old new r (TellsProgram old new (option_and_then program_in (file_bytes (slot old.files number))))
-    program-served {new} (Ok told) second =
-        serves-told told (record { same = second.told.0.same ∙ ap (λ (t : FileTree). record t { failures = new.failures }) first.told.0; value = second.told.0.value ∙ is-same }, second.told.1)
-        second.up (second.same_device ∙ first.same_device) (le_trans first.cause.later second.cause.later)
-    program-served {new} (Err fault) second = record {
-      told = tt;
-      up = tt;
-      down = second.down;
-      same_device = second.same_device ∙ first.same_device;
-      cause = record {
-        later = le_trans first.cause.later second.cause.later;
-        failed = λ e. let a = first.cause.later in let b = second.cause.failed e in omega (arith, a, b);
-      };
-    }
+    program-served (Ok told) second =
+        program-serves (kept-more seen-kept second.told.0.same second) (second.told.0.value ∙ ap program_in (kept-file seen-kept number) ∙ sym (ap (option_and_then program_in) was.2)) second.told.1
+    program-served (Err fault) second = lost-then seen-kept second

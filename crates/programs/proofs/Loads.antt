@@ -1,23 +1,18 @@
 -- The program headers of a file, as their segments are loaded.
-use Rattle.programs.proofs.Common.{ap, arith, length, refl, subst, sym, take, drop, ℕ, suc, ◌%◌, ◌*◌, ◌++◌, ◌+◌, ◌-◌, ◌<◌, ◌∙◌, ◌≡◌, ◌≤◌, ◌^◌, ◌&&◌, Bool, true, false, List, None, Ok, Err, Option, Some, Result}
-use Rattle.programs.proofs.Common.{length-append, le_trans, IfSome, if◌then◌else◌, nat_le, nat_lt, not, option_map, ◌==◌, nat_tests, none-some, same_Some, ElfFault, Align, Overlap, Short, Sizes, FileHeader}
-use Rattle.programs.proofs.Common.{LoadSegment, header_in, header_of, is_within, segment_if, segment_shown, wrong, headers_by, loaded_by, loads-header, loads-segment, segment_at-part, Program, file_at, program_in}
-use Rattle.programs.proofs.Common.{segment_behind, unless_refused, Follows, HasRoom, IsPaged, Leaves, next_in, paged, LoadsSegment, IsFile, SpaceView, Spaces, has_space, view_at, no_pages, with_view, FileTree}
-use Rattle.programs.proofs.Common.{Serves, File, bytes_or_none, InodeStat, stacked, Memory, ceil_div, Loaded, load_segment, load_segments, loaded_of, nothing_loaded, segment_at, segment_pages, with_segment}
-use Rattle.programs.specs.Headed.{Tells}
-use Rattle.programs.proofs.Headings.{HasLoaded, header-within, is-headed, loads-next, loads-one, none-read, whole-more, KeepsWhole, all-related}
-use Rattle.programs.proofs.Places.{has-held, held-twice, is-held, room-less, room-with, self-held}
-use Rattle.programs.proofs.Serving.{HasSeen}
+use Rattle.programs.proofs.Common.{◌%◌, ◌&&◌, ◌*◌, ◌+◌, ◌++◌, ◌-◌, ◌<◌, ◌^◌, ap, arith, Bool, drop, Err, false, length, List, None, Ok, Option, refl, Result, Some, subst, sym, take, true, ℕ, ◌∙◌, ◌≡◌, ◌≤◌, nat_tests, none-some, same_Some}
+use Rattle.programs.proofs.Common.{◌==◌, if◌then◌else◌, nat_le, nat_lt, not, option_map, headers_by, loaded_by, loads-header, loads-segment, segment_at-part, header_in, header_of, is_within, segment_if, segment_shown, wrong, ElfFault}
+use Rattle.programs.proofs.Common.{Align, Overlap, Short, Sizes, FileHeader, LoadSegment, self-held, InodeStat, has_space, no_pages, Spaces, SpaceView, view_at, with_view, FileTree, Serves, IsFile, File, Memory, ceil_div, load_segment}
+use Rattle.programs.proofs.Common.{Loaded, loaded_of, nothing_loaded, with_segment, load_segments, segment_at, segment_pages, bytes_or_none, file_at, program_in, segment_behind, unless_refused, stacked, Follows, HasRoom, IsPaged, Leaves}
+use Rattle.programs.proofs.Common.{LoadsSegment, next_in, paged, Program}
+use Rattle.programs.proofs.Headings.{HasLoaded, HasNext, IsHeaded, all-loads, grows, grows-one, has-next, is-headed, loaded-next, none-loaded, rest-next, whole-more}
+use Rattle.programs.proofs.Places.{has-held, held-twice, is-held, paged-held, room-held}
+use Rattle.programs.proofs.Serving.{HasSeen, IsKept, kept-file, kept-more, kept-one}
 
 -- ---- a segment that isn't refused
 
 all-right : (a b c d e : Bool) → (if not (a && b) then Some Sizes else if not c then Some Align else if d then Some Overlap else if not e then Some Short else None) ≡ None → (a ≡ true) × (b ≡ true) × (c ≡ true) × (d ≡ false) × (e ≡ true)
 all-right true true true false true is = (refl, refl, refl, refl, refl)
-all-right true true true false false is = absurd (cc)
-all-right true true true true e is = absurd (cc)
-all-right true true false d e is = absurd (cc)
-all-right true false c d e is = absurd (cc)
-all-right false b c d e is = absurd (cc)
+all-right a b c d e is = absurd (cc)
 
 follows-right : (g : LoadSegment) (end len count : ℕ) → wrong g end len ≡ None → count ≡ ceil_div end 4096 → Follows len count g
 follows-right g end len count right is =
@@ -32,13 +27,9 @@ follows-right g end len count right is =
       within = tests.4;
     }
 
-taken-if : (shown g : LoadSegment) (o : Option ElfFault) → segment_if shown o ≡ Ok (Some g) → (shown ≡ g) × (o ≡ None)
-taken-if shown g None is = (cc, refl)
-taken-if shown g (Some fault) is = absurd (cc)
-
 taken-of : (b : Bool) (shown g : LoadSegment) (o : Option ElfFault) → (if b then segment_if shown o else Ok None) ≡ Ok (Some g) → (shown ≡ g) × (o ≡ None)
-taken-of true shown g o is = taken-if shown g o is
-taken-of false shown g o is = absurd (cc)
+taken-of true shown g None is = (cc, refl)
+taken-of b shown g o is = absurd (cc)
 
 -- what comes next, by a segment that isn't refused
 pub record IsNext (file : List ℕ) (place : ℕ) (h : SpaceView) (end : ℕ) (g : LoadSegment) (next : Loaded) : Type 0 where
@@ -47,101 +38,65 @@ pub record IsNext (file : List ℕ) (place : ℕ) (h : SpaceView) (end : ℕ) (g
   pub follows : Follows (length file) (length h.memory) g
   pub count : length next.pages ≡ ceil_div (g.address + g.size) 4096
 
-module _ (file : List ℕ) (place : ℕ) (h : SpaceView) (end : ℕ) (next : Loaded) (some : next_in file place h end ≡ Some next) where
+module _ (file : List ℕ) (place : ℕ) (h : SpaceView) (end : ℕ) {told : Result (Option LoadSegment) ElfFault} (read : told ≡ segment_behind file place end) (next : Loaded) (some : next_in file place h end ≡ Some next) where
   abbrev here : Loaded
   here = record { pages = h.memory; end = end }
 
-  next-by : (r : Result (Option LoadSegment) ElfFault) → segment_behind file place end ≡ r → loaded_by file here (segment_at file place) r ≡ Some next
-  next-by r is = ap (loaded_by file here (segment_at file place)) (sym is) ∙ sym (loads-segment file here place) ∙ some
+  next-by : (r : Result (Option LoadSegment) ElfFault) → told ≡ r → loaded_by file here (segment_at file place) r ≡ Some next
+  next-by r is = ap (loaded_by file here (segment_at file place)) (sym is ∙ read) ∙ sym (loads-segment file here place) ∙ some
 
-  pub not-refused : (fault : ElfFault) → segment_behind file place end ≡ Err fault → ⊥
-  not-refused fault is = none-some next (next-by (Err fault) is)
+  pub never-refused : (fault : ElfFault) → told ≡ Err fault → ⊥
+  never-refused fault is = none-some next (next-by (Err fault) is)
 
-  pub is-skipped : segment_behind file place end ≡ Ok None → here ≡ next
-  is-skipped is = same_Some here next (next-by (Ok None) is)
+  -- it is skipped
+  pub skipped-next : {o : Option LoadSegment} → told ≡ Ok o → o ≡ None → here ≡ next
+  skipped-next ok none = same_Some here next (next-by (Ok None) (ok ∙ ap Ok none))
 
-  pub is-next : (g : LoadSegment) → segment_behind file place end ≡ Ok (Some g) → length h.memory ≡ ceil_div end 4096 → IsNext file place h end g next
-  is-next g is whole =
+  pub is-next : {o : Option LoadSegment} {g : LoadSegment} → told ≡ Ok o → o ≡ Some g → length h.memory ≡ ceil_div end 4096 → IsNext file place h end g next
+  is-next {g = g} ok there whole =
+      let is : told ≡ Ok (Some g) = ok ∙ ap Ok there in
       let part = take 56 (drop place file) in
-      let parts = taken-of ((segment_at part 0).kind == 1) (segment_shown (segment_at part 0)) g (wrong (segment_shown (segment_at part 0)) end (length file)) is in
+      let parts = taken-of ((segment_at part 0).kind == 1) (segment_shown (segment_at part 0)) g (wrong (segment_shown (segment_at part 0)) end (length file)) (sym read ∙ is) in
       let shown : g ≡ segment_shown (segment_at file place) = sym parts.0 ∙ ap segment_shown (segment_at-part file place) in
-      let right : wrong g end (length file) ≡ None = ap (λ (x : LoadSegment). wrong x end (length file)) (sym parts.0) ∙ parts.1 in
-      let follows = follows-right g end (length file) (length h.memory) right whole in
+      let follows = follows-right g end (length file) (length h.memory) (ap (λ (x : LoadSegment). wrong x end (length file)) (sym parts.0) ∙ parts.1) whole in
       let made : next ≡ with_segment file here (segment_at file place) = sym (same_Some (with_segment file here (segment_at file place)) next (next-by (Ok (Some g)) is)) in
-      let aligned : (segment_at file place).address % 4096 ≡ 0 = ap (λ (x : LoadSegment). x.address % 4096) (sym shown) ∙ follows.aligned in
-      let after : 4096 * length h.memory ≤ (segment_at file place).address = subst (λ (x : LoadSegment). 4096 * length h.memory ≤ x.address) shown follows.after in
+      let stands : Follows (length file) (length h.memory) (segment_shown (segment_at file place)) = subst (Follows (length file) (length h.memory)) shown follows in
       record {
         shown = shown;
         is = made;
         follows = follows;
         count = ap (λ (l : Loaded). length l.pages) made
-            ∙ whole-more file here (segment_at file place) whole aligned (subst (λ n. 4096 * n ≤ (segment_at file place).address) whole after)
+            ∙ whole-more file here (segment_at file place) whole stands.aligned (subst (λ n. 4096 * n ≤ (segment_at file place).address) whole stands.after)
             ∙ ap (λ (x : LoadSegment). ceil_div (x.address + x.size) 4096) (sym shown);
       }
 
 -- ---- what `load_next` reads
 
-module _ {old mid : FileTree} (s : Spaces) (at number place end : ℕ) {told : Result (Option LoadSegment) ElfFault} (whole : length (view_at s at).memory ≡ ceil_div end 4096)
-    (serves : Serves old mid (Ok told) (Tells old mid (segment_behind (file_at old.files number) place end))) (next : Loaded) (some : next_in (file_at old.files number) place (view_at s at) end ≡ Some next) where
-  pub never-refused : (fault : ElfFault) → told ≡ Err fault → ⊥
-  never-refused fault is = not-refused (file_at old.files number) place (view_at s at) end next some fault (sym serves.told.value ∙ is)
+module _ {old mid : FileTree} (s : Spaces) (at number place end : ℕ) (kept : IsKept old mid) (next : Loaded) where
+  -- nothing comes
+  pub nothing-more : has_space s at ≡ true → IsPaged (view_at s at) → ◌≡◌ {A = Loaded} (record { pages = (view_at s at).memory; end = end }) next → (end ≡ next.end) × (s ≡ with_view s at (paged next.pages))
+  nothing-more has paged-so is = (
+    ap (λ (l : Loaded). l.end) is,
+    self-held s at has
+        ∙ ap (λ n. with_view s at (let h : SpaceView = record { memory = (view_at s at).memory; size = n } in h)) paged-so
+        ∙ ap (λ (l : Loaded). with_view s at (paged l.pages)) is,
+  )
 
-  -- it is skipped
-  pub skipped-next : {o : Option LoadSegment} → told ≡ Ok o → o ≡ None → has_space s at ≡ true → IsPaged (view_at s at) → (end ≡ next.end) × (s ≡ with_view s at (paged next.pages))
-  skipped-next ok none has paged-so =
-      let is = is-skipped (file_at old.files number) place (view_at s at) end next some (sym serves.told.value ∙ ok ∙ ap Ok none) in (
-        ap (λ (l : Loaded). l.end) is,
-        self-held s at has
-            ∙ ap (λ n. with_view s at (let h : SpaceView = record { memory = (view_at s at).memory; size = n } in h)) paged-so
-            ∙ ap (λ (l : Loaded). with_view s at (paged l.pages)) is,
-      )
-
-  module _ {o : Option LoadSegment} {g : LoadSegment} (ok : told ≡ Ok o) (there : o ≡ Some g) where
-    taken-next : IsNext (file_at old.files number) place (view_at s at) end g next
-    taken-next = is-next (file_at old.files number) place (view_at s at) end next some g (sym serves.told.value ∙ ok ∙ ap Ok there) whole
-
+  module _ {g : LoadSegment} (is : IsNext (file_at old.files number) place (view_at s at) end g next) where
     -- it may be loaded
     pub fits-next : length next.pages < 2 ^ 32 → HasRoom s at (length next.pages)
         → Follows (length (file_at mid.files number)) (length (view_at s at).memory) g × (ceil_div (g.address + g.size) 4096 < 2 ^ 32) × HasRoom s at (ceil_div (g.address + g.size) 4096)
-    fits-next few room = (
-      subst (λ (t : FileTree). Follows (length (file_at t.files number)) (length (view_at s at).memory) g) (sym serves.told.same) taken-next.follows,
-      subst (λ n. n < 2 ^ 32) taken-next.count few,
-      subst (HasRoom s at) taken-next.count room,
+    fits-next few room = rw (kept-file kept number, sym is.count) (is.follows, few, room)
+
+    pub segment-next : {new : Spaces} → LoadsSegment (file_at mid.files number) s new at g → (g.address + g.size ≡ next.end) × (new ≡ with_view s at (paged next.pages))
+    segment-next {new} put = (
+      ap (λ (x : LoadSegment). x.address + x.size) is.shown ∙ ap (λ (l : Loaded). l.end) (sym is.is),
+      put (segment_at (file_at old.files number) place) is.shown
+          ∙ ap (λ file. with_view s at (paged ((view_at s at).memory ++ segment_pages file (length (view_at s at).memory) (segment_at (file_at old.files number) place)))) (kept-file kept number)
+          ∙ ap (λ (l : Loaded). with_view s at (paged l.pages)) (sym is.is),
     )
 
-    pub loaded-next : {new : Spaces} → LoadsSegment (file_at mid.files number) s new at g
-        → (g.address + g.size ≡ next.end) × (new ≡ with_view s at (paged next.pages))
-    loaded-next {new} put =
-        let is = taken-next in
-        let seg = segment_at (file_at old.files number) place in (
-          ap (λ (x : LoadSegment). x.address + x.size) is.shown ∙ ap (λ (l : Loaded). l.end) (sym is.is),
-          put seg is.shown
-              ∙ ap (λ (t : FileTree). with_view s at (paged ((view_at s at).memory ++ segment_pages (file_at t.files number) (length (view_at s at).memory) seg))) serves.told.same
-              ∙ ap (λ (l : Loaded). with_view s at (paged l.pages)) (sym is.is),
-        )
-
 -- ---- all of them
-
--- what is loaded later comes to what was there
-pages-least : (file : List ℕ) (n at : ℕ) (l : Loaded) → IfSome (load_segments file n at l) (λ m. length l.pages ≤ length m.pages)
-pages-least file n at l =
-    all-related file (λ k m. length k.pages ≤ length m.pages) (λ m. omega arith) (λ a b c first second. le_trans first second)
-    (λ k g may. omega (arith, length-append k.pages (segment_pages file (length k.pages) g))) n at l
-
--- the next of several that aren't refused
-pub record HasNext (file : List ℕ) (n at : ℕ) (l last : Loaded) : Type 0 where
-  pub next : Loaded
-  pub loads : load_segment file l (segment_at file at) ≡ Some next
-  pub rest : load_segments file n (at + 56) next ≡ Some last
-  pub less : length next.pages ≤ length last.pages
-
-has-next : (file : List ℕ) (n at : ℕ) (l last : Loaded) → at + 56 ≤ length file → load_segments file (suc n) at l ≡ Some last → HasNext file n at l last
-has-next file n at l last within all = go (load_segment file l (segment_at file at)) refl where
-  go : (o : Option Loaded) → load_segment file l (segment_at file at) ≡ o → HasNext file n at l last
-  go None e = absurd (none-some last (sym (loads-next file n at l None within e) ∙ all))
-  go (Some next) e =
-      let rest : load_segments file n (at + 56) next ≡ Some last = sym (loads-next file n at l (Some next) within e) ∙ all in
-      record { next = next; loads = e; rest = rest; less = subst (λ (o : Option Loaded). IfSome o (λ m. length next.pages ≤ length m.pages)) rest (pages-least file n (at + 56) next) }
 
 -- the program headers so far are loaded
 pub record IsLoading (old now : FileTree) (before after : Spaces) (at number count place i end : ℕ) : Type 0 where
@@ -151,7 +106,7 @@ pub record IsLoading (old now : FileTree) (before after : Spaces) (at number cou
 
 pub none-loading : (tree : FileTree) (s : Spaces) (at number count place : ℕ) → tree.failed ≡ false → has_space s at ≡ true → view_at s at ≡ no_pages → IsLoading tree tree s s at number count place 0 0
 none-loading tree s at number count place up has empty = record {
-  loads = record { same = refl; up = up; later = omega arith; loaded = nothing_loaded; ends = refl; rest = none-read (file_at tree.files number) count place };
+  loads = none-loaded tree (file_at tree.files number) count place up;
   pages = self-held s at has ∙ ap (λ (h : SpaceView). with_view s at h) empty;
   whole = refl;
 }
@@ -170,83 +125,46 @@ module _ {old now : FileTree} {before after : Spaces} {at number count place i e
   held-now : view_at after at ≡ paged has.loads.loaded.pages
   held-now = is-held before at (paged has.loads.loaded.pages) has.pages space
 
-  pub file-same : file_at now.files number ≡ file
-  file-same = ap (λ (t : FileTree). file_at t.files number) has.loads.same
-
   pub file-long : {len : ℕ} → len ≡ length file → len ≡ length (file_at now.files number)
-  file-long is = is ∙ ap length (sym file-same)
+  file-long is = is ∙ ap length (sym (kept-file has.loads.kept number))
 
   pub has-now : has_space after at ≡ true
   has-now = has-held before at (paged has.loads.loaded.pages) has.pages space
 
   pub paged-now : IsPaged (view_at after at)
-  paged-now = subst IsPaged (sym held-now) refl
+  paged-now = paged-held before at has.loads.loaded.pages has.pages space
 
   pub whole-now : length (view_at after at).memory ≡ ceil_div end 4096
   whole-now = ap (λ (h : SpaceView). length h.memory) held-now ∙ has.whole
 
   pub loading-all : count ≤ i → (last : Loaded) → load_segments file count place nothing_loaded ≡ Some last → after ≡ with_view before at (paged last.pages)
-  unfolding load_segments
-  loading-all all last is =
-      let none : count - i ≡ 0 = omega (arith, all) in
-      let same : has.loads.loaded ≡ last = same_Some has.loads.loaded last (sym (has.loads.rest ∙ ap (λ n. load_segments file n (place + 56 * i) has.loads.loaded) none) ∙ is) in
-      has.pages ∙ ap (λ (l : Loaded). with_view before at (paged l.pages)) same
+  loading-all all last is = has.pages ∙ ap (λ (l : Loaded). with_view before at (paged l.pages)) (same_Some has.loads.loaded last (sym (all-loads has.loads all) ∙ is))
 
   module _ (more : i < count) (fits : is_within place (56 * count) (length file) ≡ true) (last : Last before at file count place) where
-    left : count - i ≡ suc (count - (i + 1))
-    left = omega (arith, more)
-
     then-next : HasNext file (count - (i + 1)) (place + 56 * i) has.loads.loaded last.0
-    then-next =
-        has-next file (count - (i + 1)) (place + 56 * i) has.loads.loaded last.0 (header-within place count i (length file) fits more)
-        (sym (has.loads.rest ∙ ap (λ n. load_segments file n (place + 56 * i) has.loads.loaded) left) ∙ last.1)
-
-    here-now : ◌≡◌ {A = Loaded} (record { pages = (view_at after at).memory; end = end }) has.loads.loaded
-    here-now = same-loaded (ap (λ (h : SpaceView). h.memory) held-now) (sym has.loads.ends)
+    then-next = has-next file (count - (i + 1)) (place + 56 * i) has.loads.loaded last.0 (sym (rest-next has.loads more) ∙ last.1)
 
     next-is : {p : ℕ} → p ≡ place + 56 * i → next_in (file_at now.files number) p (view_at after at) end ≡ Some then-next.next
-    next-is {p} is =
-        ap (λ f. next_in f p (view_at after at) end) file-same
-        ∙ ap (λ q. next_in file q (view_at after at) end) is
-        ∙ ap (λ l. load_segment file l (segment_at file (place + 56 * i))) here-now
-        ∙ then-next.loads
+    next-is is =
+        let here = same-loaded (ap (λ (h : SpaceView). h.memory) held-now) (sym has.loads.ends) in
+        rw (kept-file has.loads.kept number, is) (ap (λ l. load_segment file l (segment_at file (place + 56 * i))) here ∙ then-next.loads)
 
     pub next-now : {p : ℕ} → p ≡ place + 56 * i → (next : Loaded) × (next_in (file_at now.files number) p (view_at after at) end ≡ Some next) × (length next.pages < 2 ^ 32) × HasRoom after at (length next.pages)
     next-now is =
-        let low = then-next.less in (
-          then-next.next,
-          next-is is,
-          omega (arith, low, last.2),
-          subst (λ (s : Spaces). HasRoom s at (length then-next.next.pages)) (sym has.pages)
-              (room-with before at (length then-next.next.pages) (paged has.loads.loaded.pages) (room-less before at (length then-next.next.pages) (length last.0.pages) low last.3)),
-        )
+        let low = (grows file (count - (i + 1)) (place + 56 * i + 56) then-next.next last.0 then-next.rest).1 in
+        (then-next.next, next-is is, omega (arith, low, last.2), room-held before at (paged has.loads.loaded.pages) has.pages low last.3)
 
     pub loading-more : {next : FileTree} {put : Spaces} {told p : ℕ} → p ≡ place + 56 * i → Serves now next (Ok told) (Leaves now next)
         → ((l : Loaded) → next_in (file_at now.files number) p (view_at after at) end ≡ Some l → (told ≡ l.end) × (put ≡ with_view after at (paged l.pages))) → IsLoading old next before put at number count place (i + 1) told
-    loading-more {next} {put} {told} is serves loaded =
-        let done = loaded then-next.next (next-is is) in
-        let was = has.loads.later in
-        let later = serves.cause.later in
-        let behind : place + 56 * i + 56 ≡ place + 56 * (i + 1) = omega arith in
-        let segment = is-whole then-next.next then-next.loads in
+    loading-more is serves loaded =
+        let next = then-next.next in
+        let done = loaded next (next-is is) in
+        let whole = (grows-one file has.loads.loaded next (segment_at file (place + 56 * i)) then-next.loads).0 (has.whole ∙ ap (λ n. ceil_div n 4096) (sym has.loads.ends)) in
         record {
-          loads = record {
-            same = serves.told ∙ ap (λ (t : FileTree). record t { failures = next.failures }) has.loads.same;
-            up = serves.up;
-            later = omega (arith, was, later);
-            loaded = then-next.next;
-            ends = sym done.0;
-            rest = has.loads.rest
-                ∙ ap (λ n. load_segments file n (place + 56 * i) has.loads.loaded) left
-                ∙ loads-next file (count - (i + 1)) (place + 56 * i) has.loads.loaded (Some then-next.next) (header-within place count i (length file) fits more) then-next.loads
-                ∙ ap (λ a. load_segments file (count - (i + 1)) a then-next.next) behind;
-          };
-          pages = done.1 ∙ ap (λ (s : Spaces). with_view s at (paged then-next.next.pages)) has.pages ∙ held-twice before at (paged has.loads.loaded.pages) (paged then-next.next.pages);
-          whole = segment ∙ ap (λ n. ceil_div n 4096) (sym done.0);
+          loads = loaded-next has.loads more fits next (kept-more has.loads.kept serves.told serves) then-next.loads (sym done.0);
+          pages = done.1 ∙ ap (λ (s : Spaces). with_view s at (paged next.pages)) has.pages ∙ held-twice before at (paged has.loads.loaded.pages) (paged next.pages);
+          whole = whole ∙ ap (λ n. ceil_div n 4096) (sym done.0);
         }
-      where
-        is-whole : (l : Loaded) → load_segment file has.loads.loaded (segment_at file (place + 56 * i)) ≡ Some l → length l.pages ≡ ceil_div l.end 4096
-        is-whole l e = subst (λ (k : Option Loaded). IfSome k (KeepsWhole has.loads.loaded)) e (loads-one file has.loads.loaded (segment_at file (place + 56 * i))) (has.whole ∙ ap (λ n. ceil_div n 4096) (sym has.loads.ends))
 
 -- ---- a whole program
 
@@ -268,60 +186,46 @@ is-program file program some = go (loaded_of file) (header_of (take 64 file) (le
   go (Some l) (Ok h) is head made =
       let same = same_Some (record { header = header_in file; pages = length l.pages }) program made in
       let headed-by = is-headed file h (ap unless_refused head) in
-      let header : h ≡ program.header = headed-by.read ∙ ap (λ (p : Program). p.header) same in
-      record {
-        loaded = l;
-        is = is;
-        read = sym (ap (λ (p : Program). p.header) same);
-        pages = ap (λ (p : Program). p.pages) same;
-        loads = ap (λ (x : FileHeader). load_segments file x.count x.program_headers nothing_loaded) (sym header) ∙ sym (loads-header file ∙ ap (headers_by file) head) ∙ is;
-        within = ap (λ (x : FileHeader). is_within x.program_headers (56 * x.count) (length file)) (sym header) ∙ headed-by.within;
-      }
+      let read : header_in file ≡ program.header = ap (λ (p : Program). p.header) same in
+      let by : IsHeaded file program.header = subst (IsHeaded file) (headed-by.read ∙ read) headed-by in
+      record { loaded = l; is = is; read = sym read; pages = ap (λ (p : Program). p.pages) same; loads = sym (loads-header file ∙ ap (headers_by file) by.is) ∙ is; within = by.within }
 
 module _ {old mid : FileTree} {number : ℕ} {stat : InodeStat} (file : IsFile old.files number) (serves : Serves old mid (Ok stat) (HasSeen old mid number)) where
-  file-kept : file_at mid.files number ≡ file_at old.files number
-  file-kept = ap (λ (t : FileTree). file_at t.files number) serves.told.0
+  pub stat-kept : IsKept old mid
+  stat-kept = kept-one serves.told.0 serves
 
   pub stat-long : stat.size ≡ length (file_at mid.files number)
-  stat-long = (serves.told.1 (File file.links file.bytes) file.here).2 ∙ ap (λ o. length (bytes_or_none o)) (sym file.here) ∙ ap length (sym file-kept)
+  stat-long = (serves.told.1 (File file.links file.bytes) file.here).2 ∙ ap (λ o. length (bytes_or_none o)) (sym file.here) ∙ ap length (sym (kept-file stat-kept number))
 
-  pub header-still : {program : Program} → IsProgram (file_at old.files number) program → is_within program.header.program_headers (56 * program.header.count) stat.size ≡ true
-  header-still {program} is = ap (is_within program.header.program_headers (56 * program.header.count)) (stat-long ∙ ap length file-kept) ∙ is.within
+  module _ {program : Program} (is : IsProgram (file_at old.files number) program) where
+    pub header-still : is_within program.header.program_headers (56 * program.header.count) stat.size ≡ true
+    header-still = rw (stat-long, kept-file stat-kept number) is.within
 
-  pub loads-still : {program : Program} → (is : IsProgram (file_at old.files number) program) → load_segments (file_at mid.files number) program.header.count program.header.program_headers nothing_loaded ≡ Some is.loaded
-  loads-still {program} is = ap (λ f. load_segments f program.header.count program.header.program_headers nothing_loaded) file-kept ∙ is.loads
+    loads-still : load_segments (file_at mid.files number) program.header.count program.header.program_headers nothing_loaded ≡ Some is.loaded
+    loads-still = rw (kept-file stat-kept number) is.loads
 
-  module _ {program : Program} (is : IsProgram (file_at old.files number) program) (s : Spaces) {s1 : Spaces} (at : ℕ) (cleared : s1 ≡ with_view s at no_pages) where
-    pub last-still : program.pages < 2 ^ 32 → HasRoom s at (program.pages + 2) → Last s1 at (file_at mid.files number) program.header.count program.header.program_headers
-    last-still few room = (
-      is.loaded,
-      loads-still is,
-      subst (λ n. n < 2 ^ 32) (sym is.pages) few,
-      subst (λ (k : Spaces). HasRoom k at (length is.loaded.pages)) (sym cleared) (room-with s at (length is.loaded.pages) no_pages (room-less s at (length is.loaded.pages) (program.pages + 2) (omega (arith, is.pages)) room)),
-    )
+    module _ (s : Spaces) {s1 : Spaces} (at : ℕ) (cleared : s1 ≡ with_view s at no_pages) where
+      pub last-still : program.pages < 2 ^ 32 → HasRoom s at (program.pages + 2) → Last s1 at (file_at mid.files number) program.header.count program.header.program_headers
+      last-still few room = (is.loaded, loads-still, omega (arith, few, is.pages), room-held s at no_pages cleared (omega (arith, is.pages)) room)
 
-    module _ (has : has_space s at ≡ true) {s2 : Spaces} (put : (l : Loaded) → load_segments (file_at mid.files number) program.header.count program.header.program_headers nothing_loaded ≡ Some l → s2 ≡ with_view s1 at (paged l.pages)) where
-      all-put : s2 ≡ with_view s at (paged is.loaded.pages)
-      all-put = put is.loaded (loads-still is) ∙ ap (λ (k : Spaces). with_view k at (paged is.loaded.pages)) cleared ∙ held-twice s at no_pages (paged is.loaded.pages)
+      module _ (has : has_space s at ≡ true) {s2 : Spaces} (put : (l : Loaded) → load_segments (file_at mid.files number) program.header.count program.header.program_headers nothing_loaded ≡ Some l → s2 ≡ with_view s1 at (paged l.pages)) where
+        all-put : s2 ≡ with_view s at (paged is.loaded.pages)
+        all-put = put is.loaded loads-still ∙ ap (λ (k : Spaces). with_view k at (paged is.loaded.pages)) cleared ∙ held-twice s at no_pages (paged is.loaded.pages)
 
-      held-put : view_at s2 at ≡ paged is.loaded.pages
-      held-put = is-held s at (paged is.loaded.pages) all-put has
+        held-put : view_at s2 at ≡ paged is.loaded.pages
+        held-put = is-held s at (paged is.loaded.pages) all-put has
 
-      -- a stack may come behind them
-      pub stack-fits : HasRoom s at (program.pages + 2) → (has_space s2 at ≡ true) × IsPaged (view_at s2 at) × HasRoom s2 at (length (view_at s2 at).memory + 2)
-      stack-fits room = (
-        has-held s at (paged is.loaded.pages) all-put has,
-        subst IsPaged (sym held-put) refl,
-        subst (λ (h : SpaceView). HasRoom s2 at (length h.memory + 2)) (sym held-put)
-            (subst (λ (k : Spaces). HasRoom k at (length is.loaded.pages + 2)) (sym all-put)
-            (room-with s at (length is.loaded.pages + 2) (paged is.loaded.pages) (subst (λ n. HasRoom s at (n + 2)) (sym is.pages) room))),
-      )
+        -- a stack may come behind them
+        pub stack-fits : HasRoom s at (program.pages + 2) → (has_space s2 at ≡ true) × IsPaged (view_at s2 at) × HasRoom s2 at (length (view_at s2 at).memory + 2)
+        stack-fits room =
+            let long : length (view_at s2 at).memory ≡ program.pages = ap (λ (h : SpaceView). length h.memory) held-put ∙ is.pages in
+            (has-held s at (paged is.loaded.pages) all-put has, paged-held s at is.loaded.pages all-put has, room-held s at (paged is.loaded.pages) all-put (omega (arith, long)) room)
 
-      pub stack-put : {s3 : Spaces} (page : List ℕ) → s3 ≡ with_view s2 at (paged (stacked (view_at s2 at).memory page)) → (l : Loaded) → loaded_of (file_at old.files number) ≡ Some l → s3 ≡ with_view s at (paged (stacked l.pages page))
-      stack-put page stack l loaded =
-          let same : is.loaded ≡ l = same_Some is.loaded l (sym is.is ∙ loaded) in
-          stack
-          ∙ ap (λ (h : SpaceView). with_view s2 at (paged (stacked h.memory page))) held-put
-          ∙ ap (λ (k : Spaces). with_view k at (paged (stacked is.loaded.pages page))) all-put
-          ∙ held-twice s at (paged is.loaded.pages) (paged (stacked is.loaded.pages page))
-          ∙ ap (λ (x : Loaded). with_view s at (paged (stacked x.pages page))) same
+        pub stack-put : {s3 : Spaces} (page : List ℕ) → s3 ≡ with_view s2 at (paged (stacked (view_at s2 at).memory page)) → (l : Loaded) → loaded_of (file_at old.files number) ≡ Some l → s3 ≡ with_view s at (paged (stacked l.pages page))
+        stack-put page stack l loaded =
+            let same : is.loaded ≡ l = same_Some is.loaded l (sym is.is ∙ loaded) in
+            stack
+            ∙ ap (λ (h : SpaceView). with_view s2 at (paged (stacked h.memory page))) held-put
+            ∙ ap (λ (k : Spaces). with_view k at (paged (stacked is.loaded.pages page))) all-put
+            ∙ held-twice s at (paged is.loaded.pages) (paged (stacked is.loaded.pages page))
+            ∙ ap (λ (x : Loaded). with_view s at (paged (stacked x.pages page))) same

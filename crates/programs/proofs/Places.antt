@@ -1,13 +1,15 @@
 -- The pages of a place, as a program comes into them.
-use Rattle.programs.proofs.Common.{ap, append-nil, append_assoc, arith, drop, get_or-set_same, None, Ok, Option, Some, List, slice_set, length, length-append, refl, replicate, subst, sym, take, ℕ, zero, suc, ◌%◌, ◌*◌, ◌++◌, ◌+◌, ◌-◌}
-use Rattle.programs.proofs.Common.{◌/◌, ◌<◌, ◌∙◌, ◌≡◌, ◌≤◌, ◌∷◌, [], Bool, true, false, Err, OnErr, OnOk, Result, if◌then◌else◌, is_some, lt-ltb, nat_tests, drop-replicate, drop_all, drop_at, replicate-append-replicate, set-get_or}
-use Rattle.programs.proofs.Common.{take_at, drop-drop, length-drop, length-replicate, length-take, length-take-le, set-set, length-map, take-add, part, LoadSegment, is_within, segment_shown, DeviceFault, stacked, file_at, Follows}
-use Rattle.programs.proofs.Common.{HasRoom, IsPaged, Leaves, paged, with_more, SpaceView, Spaces, frames_in, has_space, view_at, taken_frames, with_view, written, held-same, taken-placed, within, held-there, none-written, space-within}
-use Rattle.programs.proofs.Common.{with-more, FileTree, Serves, page_frames, slot, Perm, Memory, Page, overwrite, pages_of, write_bytes, write_from, zero_page, zeros, ceil_div, Segment, segment_marks, segment_pages, stack_marks, IsSized}
+use Rattle.programs.proofs.Common.{◌%◌, ◌*◌, ◌+◌, ◌++◌, ◌-◌, ◌/◌, ◌<◌, [], ap, append-nil, append_assoc, arith, Bool, drop, Err, false, get_or-set_same, length, length-append, List, None, Ok, Option, refl, replicate, Result, Some, subst}
+use Rattle.programs.proofs.Common.{suc, sym, take, true, zero, ℕ, ◌∙◌, ◌∷◌, ◌≡◌, ◌≤◌, lt-ltb, nat_tests, drop-replicate, drop_all, drop_at, length-drop, length-map, length-replicate, length-take, length-take-le, replicate-append-replicate}
+use Rattle.programs.proofs.Common.{set-set, take_at, if◌then◌else◌, is_some, OnErr, OnOk, part, DeviceFault, is_within, segment_shown, LoadSegment, HasRead, held-there, self-held, read-all, read-end, read-more, space-within, frames_in}
+use Rattle.programs.proofs.Common.{has_space, Spaces, SpaceView, taken_frames, view_at, with_view, written, FileTree, Serves, page_frames, Files, Node, slot, Memory, overwrite, Page, Perm, write_from, zero_page, pages_of, write_bytes}
+use Rattle.programs.proofs.Common.{zeros, ceil_div, Segment, segment_marks, stack_marks, segment_pages, bytes_or_none, IsSized, file_at, stacked, Follows, HasRoom, IsPaged, Leaves, paged, with_more, with_paged}
+use Rattle.spaces.proofs.SpacesLemmas.{held-same, taken-placed}
 use Rattle.file_transfers.proofs.Memory.{marks-written}
 use Rattle.std.proofs.Math.Nat.{zero-add}
+use Rattle.programs.proofs.Serving.{IsKept}
 use Rattle.programs.proofs.Stacks.{write-stack}
-use Rattle.file_transfers.specs.Moved.{with_bytes}
+use Rattle.file_transfers.specs.Moved.{bytes_of, bytes_read, with_bytes}
 
 -- ---- frames
 
@@ -24,74 +26,72 @@ pub room-less : (s : Spaces) (at a b : ℕ) → a ≤ b → HasRoom s at b → H
 room-less s at a b less room = omega (arith, room, page_frames-more a b less)
 
 -- what the place holds doesn't count
-pub room-with : (s : Spaces) (at n : ℕ) (h : SpaceView) → HasRoom s at n → HasRoom (with_view s at h) at n
-room-with s at n h room =
-    subst (λ (ps : List (Option SpaceView)). taken_frames (record s { places = ps }) + 4 + page_frames n ≤ s.frames) (sym (set-set s.places at (Some h) None)) room
+pub room-held : {new : Spaces} (s : Spaces) (at : ℕ) (h : SpaceView) {a b : ℕ} → new ≡ with_view s at h → a ≤ b → HasRoom s at b → HasRoom new at a
+room-held s at h {a} {b} put less room =
+    subst (λ (k : Spaces). HasRoom k at a) (sym put)
+    (subst (λ (ps : List (Option SpaceView)). taken_frames (record s { places = ps }) + 4 + page_frames a ≤ s.frames) (sym (set-set s.places at (Some h) None)) (room-less s at a b less room))
+
+-- ---- a place
+
+pub has-held : {new : Spaces} (s : Spaces) (at : ℕ) (h : SpaceView) → new ≡ with_view s at h → has_space s at ≡ true → has_space new at ≡ true
+has-held s at h put has = ap (λ (k : Spaces). has_space k at) put ∙ ap is_some (get_or-set_same s.places at (Some h) None (space-within s at has))
+
+pub is-held : {new : Spaces} (s : Spaces) (at : ℕ) (h : SpaceView) → new ≡ with_view s at h → has_space s at ≡ true → view_at new at ≡ h
+is-held s at h put has = ap (λ (k : Spaces). view_at k at) put ∙ held-same s at h (space-within s at has)
+
+pub paged-held : {new : Spaces} (s : Spaces) (at : ℕ) (m : Memory) → new ≡ with_paged s at m → has_space s at ≡ true → IsPaged (view_at new at)
+paged-held s at m put has = subst IsPaged (sym (is-held s at (paged m) put has)) refl
+
+-- what comes last stays
+pub held-twice : (s : Spaces) (at : ℕ) (a b : SpaceView) → with_view (with_view s at a) at b ≡ with_view s at b
+held-twice s at a b = ap (λ (ps : List (Option SpaceView)). record s { places = ps }) (set-set s.places at (Some a) (Some b))
+
+-- beside what the place holds, which goes then
+pub room-beside : (s : Spaces) (at n : ℕ) → has_space s at ≡ true → taken_frames s + 3 + page_frames n ≤ s.frames → HasRoom s at n
+room-beside s at n has enough =
+    let placed = taken-placed s at None (space-within s at has) in
+    let four : frames_in (slot s.places at) ≡ 4 + page_frames (length (view_at s at).memory) = ap frames_in (sym (held-there s at has)) in
+    omega (arith, enough, placed, four)
 
 -- ---- bytes of a file
 
 pub length-write : (mem : Memory) (at : ℕ) (bytes : List ℕ) → length (write_bytes mem at bytes) ≡ length mem
 length-write mem at bytes = sym (length-map (write_bytes mem at bytes) (λ (p : Page). p.marks)) ∙ ap length (marks-written mem at bytes) ∙ length-map mem (λ (p : Page). p.marks)
 
--- the bytes of the file so far are in the pages
-pub record HasFilled (old now : FileTree) (before after : Spaces) (at number offset address count done : ℕ) : Type 0 where
-  pub same : now ≡ record old { failures = now.failures }
-  pub up : now.failed ≡ false
-  pub later : old.failures ≤ now.failures
-  pub within : done ≤ count
-  pub bytes : after ≡ with_bytes before at address (part offset done (file_at old.files number))
-
-pub none-filled : (tree : FileTree) (s : Spaces) (at number offset address count : ℕ) → tree.failed ≡ false → has_space s at ≡ true → HasFilled tree tree s s at number offset address count 0
-none-filled tree s at number offset address count up has = record { same = refl; up = up; later = omega arith; within = omega arith; bytes = none-written s at address has }
-
-pub part-more : (bytes : List ℕ) (offset done size : ℕ) → part offset done bytes ++ part (offset + done) size bytes ≡ part offset (done + size) bytes
-part-more bytes offset done size =
-    ap (λ l. take done (drop offset bytes) ++ take size l) (sym (drop-drop done offset bytes)) ∙ sym (take-add done size (drop offset bytes))
+-- what file_transfers reads of it
+file-read : (files : Files) (n offset count : ℕ) → bytes_read files n offset count ≡ part offset count (file_at files n)
+file-read files n offset count = ap (λ bytes. take count (drop offset bytes)) (go (slot files n)) where
+  go : (o : Option Node) → bytes_of o ≡ bytes_or_none o
+  go None = refl
+  go (Some node) = refl
 
 -- the pieces are in the file
 pub piece-within : (offset count len done size : ℕ) → is_within offset count len ≡ true → done < count → done + size ≤ count → offset + done + size ≤ len
 piece-within offset count len done size within more fits = grind (arith, nat_tests, within, more, fits)
 
--- as many as were asked for
-length-part : (bytes : List ℕ) (offset count done : ℕ) → is_within offset count (length bytes) ≡ true → done ≤ count → length (part offset done bytes) ≡ done
-length-part bytes offset count done fits low = length-take-le done (drop offset bytes) (rest-long done low) where
-  rest-long : (done : ℕ) → done ≤ count → done ≤ length (drop offset bytes)
-  rest-long zero low = omega arith
-  rest-long (suc d) low = let all : offset + d + 1 ≤ length bytes = piece-within offset count (length bytes) d 1 fits (omega (arith, low)) (omega (arith, low)) in omega (arith, all, length-drop offset bytes)
+module _ {old now : FileTree} {before after : Spaces} {at number offset address count done : ℕ} (has : HasRead old now before after at number offset address count done) where
+  pub filled-kept : old.failed ≡ false → IsKept old now
+  filled-kept up = record { same = has.same; up = ap (λ (t : FileTree). t.failed) has.same ∙ up; later = has.later }
 
-module _ {old now : FileTree} {before after : Spaces} {at number offset address count done : ℕ} (has : HasFilled old now before after at number offset address count done) (space : has_space before at ≡ true) where
-  pages-stay : length (view_at after at).memory ≡ length (view_at before at).memory
-  pages-stay =
-      let bytes = part offset done (file_at old.files number) in
-      ap (λ (s : Spaces). length (view_at s at).memory) has.bytes
-      ∙ ap (λ (h : SpaceView). length h.memory) (held-same before at (written (view_at before at) address bytes) (space-within before at space))
-      ∙ length-write (view_at before at).memory address bytes
+  pub filled-all : count ≤ done → after ≡ with_bytes before at address (part offset count (file_at old.files number))
+  filled-all over = (read-all has (read-end has over)).1 ∙ ap (with_bytes before at address) (file-read old.files number offset count)
 
-  pub filled-inside : (l : ℕ) → address + count ≤ 4096 * length (view_at before at).memory → done + l ≤ count → address + done + l ≤ 4096 * length (view_at after at).memory
-  filled-inside l inside fits = omega (arith, inside, fits, pages-stay)
+  module _ (space : has_space before at ≡ true) where
+    pub filled-inside : (l : ℕ) → address + count ≤ 4096 * length (view_at before at).memory → done + l ≤ count → address + done + l ≤ 4096 * length (view_at after at).memory
+    filled-inside l inside fits =
+        let bytes = bytes_read old.files number offset done in
+        let stay : length (view_at after at).memory ≡ length (view_at before at).memory =
+        ap (λ (h : SpaceView). length h.memory) (is-held before at (written (view_at before at) address bytes) has.bytes space) ∙ length-write (view_at before at).memory address bytes in
+        omega (arith, inside, fits, stay)
 
-  pub filled-more : {next : FileTree} {more : Spaces} (l size : ℕ) → l ≡ size → done + l ≤ count → IsSized (view_at before at).memory → is_within offset count (length (file_at old.files number)) ≡ true
-      → Serves {T = Unit {0}} now next (Ok tt) (Leaves now next) → more ≡ with_bytes after at (address + done) (part (offset + done) l (file_at now.files number))
-      → HasFilled old next before more at number offset address count (done + size)
-  filled-more {next} {more} l size is fits sized within serves put =
-      let whole = file_at old.files number in
-      let bytes = part offset done whole in
-      let was = has.later in
-      let later = serves.cause.later in
-      let long : length bytes ≡ done = length-part whole offset count done within has.within in
-      record {
-        same = serves.told ∙ ap (λ (t : FileTree). record t { failures = next.failures }) has.same;
-        up = serves.up;
-        later = omega (arith, was, later);
-        within = omega (arith, is, fits);
-        bytes = put
-            ∙ ap (λ (t : FileTree). with_bytes after at (address + done) (part (offset + done) l (file_at t.files number))) has.same
-            ∙ ap (λ (s : Spaces). with_bytes s at (address + done) (part (offset + done) l whole)) has.bytes
-            ∙ ap (λ n. with_bytes (with_bytes before at address bytes) at (address + n) (part (offset + done) l whole)) (sym long)
-            ∙ with-more before at address space bytes (part (offset + done) l whole) sized
-            ∙ ap (with_bytes before at address) (part-more whole offset done l)
-            ∙ ap (λ n. with_bytes before at address (part offset (done + n) whole)) is;
-      }
+    pub filled-more : {next : FileTree} {more : Spaces} (l size : ℕ) → l ≡ size → done < count → done + l ≤ count → IsSized (view_at before at).memory → is_within offset count (length (file_at old.files number)) ≡ true
+        → Serves {T = Unit {0}} now next (Ok tt) (Leaves now next) → more ≡ with_bytes after at (address + done) (part (offset + done) l (file_at now.files number)) → HasRead old next before more at number offset address count (done + size)
+    filled-more {next} {more} l size is less fits sized within serves put =
+        let here = file-read now.files number (offset + done) l in
+        let long : l ≡ length (part (offset + done) l (file_at now.files number)) =
+        sym (length-take-le l (drop (offset + done) (file_at now.files number)) (omega (arith, piece-within offset count _ done l within less fits, length-drop (offset + done) (file_at now.files number), ap (λ (t : FileTree). length (file_at t.files number)) has.same))) in
+        subst (λ n. HasRead old next before more at number offset address count (done + n)) is
+        (read-more has fits (record { same = serves.told; count = long ∙ ap length (sym here) }) space sized serves.cause.later (put ∙ ap (with_bytes after at (address + done)) (sym here)))
 
 -- ---- a segment
 
@@ -151,38 +151,10 @@ segment-filled file mem g aligned after =
     ∙ append_assoc mem (replicate gap z) (pages_of (segment_marks g) count bytes)
     ∙ ap (λ n. mem ++ (replicate gap z ++ pages_of (segment_marks g) count (take n (drop g.offset file)))) taken
 
--- ---- a place
-
-pub has-same : (s : Spaces) (at : ℕ) (h : SpaceView) → has_space s at ≡ true → has_space (with_view s at h) at ≡ true
-has-same s at h has = ap is_some (get_or-set_same s.places at (Some h) None (space-within s at has))
-
-pub has-held : {new : Spaces} (s : Spaces) (at : ℕ) (h : SpaceView) → new ≡ with_view s at h → has_space s at ≡ true → has_space new at ≡ true
-has-held s at h put has = ap (λ (k : Spaces). has_space k at) put ∙ has-same s at h has
-
-pub is-held : {new : Spaces} (s : Spaces) (at : ℕ) (h : SpaceView) → new ≡ with_view s at h → has_space s at ≡ true → view_at new at ≡ h
-is-held s at h put has = ap (λ (k : Spaces). view_at k at) put ∙ held-same s at h (space-within s at has)
-
--- what comes last stays
-pub held-twice : (s : Spaces) (at : ℕ) (a b : SpaceView) → with_view (with_view s at a) at b ≡ with_view s at b
-held-twice s at a b = ap (λ (ps : List (Option SpaceView)). record s { places = ps }) (set-set s.places at (Some a) (Some b))
-
--- beside what the place holds, which goes then
-pub room-beside : (s : Spaces) (at n : ℕ) → has_space s at ≡ true → taken_frames s + 3 + page_frames n ≤ s.frames → HasRoom s at n
-room-beside s at n has enough =
-    let placed = taken-placed s at None (space-within s at has) in
-    let four : frames_in (slot s.places at) ≡ 4 + page_frames (length (view_at s at).memory) = ap frames_in (sym (held-there s at has)) in
-    omega (arith, enough, placed, four)
-
--- a place that has what it had
-pub self-held : (s : Spaces) (at : ℕ) → has_space s at ≡ true → s ≡ with_view s at (view_at s at)
-self-held s at has =
-    ap (λ (ps : List (Option SpaceView)). record s { places = ps })
-    (sym (ap (λ (o : Option SpaceView). slice_set s.places at o) (held-there s at has) ∙ set-get_or s.places at None))
-
 -- bytes that are written into pages
 pub with-written : (s : Spaces) (at : ℕ) (m : Memory) (address : ℕ) (bytes : List ℕ) → has_space s at ≡ true → with_bytes (with_view s at (paged m)) at address bytes ≡ with_view s at (paged (write_bytes m address bytes))
 with-written s at m address bytes has =
-    ap (λ (h : SpaceView). with_view (with_view s at (paged m)) at (written h address bytes)) (held-same s at (paged m) (space-within s at has))
+    ap (λ (h : SpaceView). with_view (with_view s at (paged m)) at (written h address bytes)) (is-held s at (paged m) refl has)
     ∙ held-twice s at (paged m) (written (paged m) address bytes)
     ∙ ap (λ n. with_view s at (let h : SpaceView = record { memory = write_bytes m address bytes; size = 4096 * n } in h)) (sym (length-write m address bytes))
 
@@ -201,28 +173,22 @@ held-still s at (Err fault) has = (view_at s at, self-held s at has)
 
 -- ---- a segment in a place
 
-segment-in : (s s1 s2 : Spaces) (at : ℕ) (file : List ℕ) (mem : Memory) (count : ℕ) (g : Segment) → has_space s at ≡ true → g.address % 4096 ≡ 0 → 4096 * length mem ≤ g.address → count ≡ ceil_div (g.address + g.size) 4096 - length mem
+abbrev marks_of : LoadSegment → Perm
+marks_of g = record { writable = g.writable; executable = g.executable; user = true; shared = false }
+
+segment-in : (s s1 s2 : Spaces) (at : ℕ) (file : List ℕ) (mem : Memory) (count : ℕ) (g : Segment) → has_space s at ≡ true → Follows (length file) (length mem) (segment_shown g) → count ≡ ceil_div (g.address + g.size) 4096 - length mem
     → s1 ≡ with_view s at (paged (mem ++ replicate count (zero_page (segment_marks g)))) → s2 ≡ with_bytes s1 at g.address (part g.offset g.file_size file) → s2 ≡ with_view s at (paged (mem ++ segment_pages file (length mem) g))
-segment-in s s1 s2 at file mem count g has aligned after is added put =
+segment-in s s1 s2 at file mem count g has follows is added put =
     put
     ∙ ap (λ (k : Spaces). with_bytes k at g.address (part g.offset g.file_size file)) (added ∙ ap (λ n. with_view s at (paged (mem ++ replicate n (zero_page (segment_marks g))))) is)
     ∙ with-written s at (mem ++ replicate (ceil_div (g.address + g.size) 4096 - length mem) (zero_page (segment_marks g))) g.address (part g.offset g.file_size file) has
-    ∙ ap (λ (m : Memory). with_view s at (paged m)) (segment-filled file mem g aligned after)
-
-abbrev marks_of : LoadSegment → Perm
-marks_of g = record { writable = g.writable; executable = g.executable; user = true; shared = false }
+    ∙ ap (λ (m : Memory). with_view s at (paged m)) (segment-filled file mem g follows.aligned follows.after)
 
 pub segment-loaded : (s s1 s2 : Spaces) (at : ℕ) (file : List ℕ) (mem : Memory) (count : ℕ) (shown : LoadSegment) → has_space s at ≡ true → Follows (length file) (length mem) shown → count ≡ ceil_div (shown.address + shown.size) 4096 - length mem
     → s1 ≡ with_view s at (paged (mem ++ replicate count (zero_page (marks_of shown)))) → (r : Result (Unit {0}) DeviceFault) → OnOk r (s2 ≡ with_bytes s1 at shown.address (part shown.offset shown.file_size file))
     → OnOk r ((g : Segment) → shown ≡ segment_shown g → s2 ≡ with_view s at (paged (mem ++ segment_pages file (length mem) g)))
 segment-loaded s s1 s2 at file mem count shown has follows is added (Err fault) put = tt
-segment-loaded s s1 s2 at file mem count shown has follows is added (Ok done) put = λ g same.
-    let aligned : g.address % 4096 ≡ 0 = ap (λ (x : LoadSegment). x.address % 4096) (sym same) ∙ follows.aligned in
-    let after : 4096 * length mem ≤ g.address = subst (λ (x : LoadSegment). 4096 * length mem ≤ x.address) same follows.after in
-    segment-in s s1 s2 at file mem count g has aligned after
-    (is ∙ ap (λ (x : LoadSegment). ceil_div (x.address + x.size) 4096 - length mem) same)
-    (added ∙ ap (λ (x : LoadSegment). with_view s at (paged (mem ++ replicate count (zero_page (marks_of x))))) same)
-    (put ∙ ap (λ (x : LoadSegment). with_bytes s1 at x.address (part x.offset x.file_size file)) same)
+segment-loaded s s1 s2 at file mem count shown has follows is added (Ok done) put = λ g same. segment-in s s1 s2 at file mem count g has (rw same at follows) (rw same at is) (rw same at added) (rw same at put)
 
 -- ---- the stack
 
@@ -234,21 +200,8 @@ page-over page whole =
     ap (λ n. page ++ drop n (zeros 4096)) all ∙ ap (λ l. page ++ l) (drop_all 4096 (zeros 4096) (omega (arith, length-replicate {A = ℕ} 4096 0))) ∙ append-nil page
 
 -- the guard page is there, and then the page of the stack
-module _ (s s1 : Spaces) (at : ℕ) (z : Page) (has : has_space s at ≡ true) (put : s1 ≡ with_view s at (paged ((view_at s at).memory ++ replicate 1 z))) where
-  pub one-paged : IsPaged (view_at s1 at)
-  one-paged = subst IsPaged (sym (is-held s at (paged ((view_at s at).memory ++ replicate 1 z)) put has)) refl
-
-  pub one-longer : length (view_at s1 at).memory ≡ length (view_at s at).memory + 1
-  one-longer = ap (λ (h : SpaceView). length h.memory) (is-held s at (paged ((view_at s at).memory ++ replicate 1 z)) put has) ∙ length-append (view_at s at).memory (replicate 1 z)
-
-  pub one-room : HasRoom s at (length (view_at s at).memory + 2) → HasRoom s1 at (length (view_at s1 at).memory + 1)
-  one-room room =
-      let n : length (view_at s at).memory + 2 ≡ length (view_at s1 at).memory + 1 = omega (arith, one-longer) in
-      subst (λ (k : Spaces). HasRoom k at (length (view_at s1 at).memory + 1)) (sym put)
-      (room-with s at (length (view_at s1 at).memory + 1) (paged ((view_at s at).memory ++ replicate 1 z)) (subst (HasRoom s at) n room))
-
-pub stack-inside : (before after pages : ℕ) (page : List ℕ) → length page ≡ 4096 → pages ≡ before → after ≡ before + 2 → (i : ℕ) → i < length page → ((pages + 1) * 4096 + i) / 4096 < after
-stack-inside before after pages page whole count long i less = omega (arith, whole, count, long, less)
+pub one-longer : {s1 : Spaces} (s : Spaces) (at : ℕ) (z : Page) → has_space s at ≡ true → s1 ≡ with_more s at (replicate 1 z) → length (view_at s1 at).memory ≡ length (view_at s at).memory + 1
+one-longer s at z has put = ap (λ (h : SpaceView). length h.memory) (is-held s at (paged ((view_at s at).memory ++ replicate 1 z)) put has) ∙ length-append (view_at s at).memory (replicate 1 z)
 
 pub stack-added : (s s1 s2 s3 : Spaces) (at : ℕ) (page : List ℕ) (address : ℕ) → has_space s at ≡ true → address ≡ (length (view_at s at).memory + 1) * 4096 → length page ≡ 4096
     → s1 ≡ with_more s at (replicate 1 (zero_page (stack_marks false)))

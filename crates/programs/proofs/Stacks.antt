@@ -1,8 +1,9 @@
 -- The stack of a program as its arguments are pushed.
-use Rattle.programs.proofs.Common.{ap, append-nil, append_assoc, arith, drop, length, length-append, refl, subst, sym, take, ℕ, zero, suc, ◌%◌, ◌*◌, ◌++◌, ◌+◌, ◌-◌, ◌/◌, ◌<◌, ◌∙◌, ◌≡◌, ◌≢◌, ◌≤◌, ◌∷◌, [], Bool, true, false, List, None}
-use Rattle.programs.proofs.Common.{Option, Some, flat_map, if◌then◌else◌, nat_le, nat_lt, option_and_then, option_map, ◌==◌, le-leb, lt-leb, nat_tests, drop-drop, drop-replicate, length-drop, length-take, take-replicate, take_all, take_at}
-use Rattle.programs.proofs.Common.{none-some, same_Some, take-append-add, Arguments, Finishes, HasPushed, Passes, PushesString, plan_with, stacked, word_in, Load, Memory, Page, overwrite, reach, string_at, write_bytes, write_from}
-use Rattle.programs.proofs.Common.{zero_page, zeros, le, number_at, round_down, Plan, Stack, finished, push, push_pointers, push_strings, stack_marks, with_args, with_stack, and_then_strings, args_at, strings_at, words_before_zero, IsSized}
+use Rattle.programs.proofs.Common.{◌%◌, ◌*◌, ◌+◌, ◌++◌, ◌-◌, ◌/◌, ◌<◌, [], ap, append-nil, append_assoc, arith, Bool, drop, false, length, length-append, List, None, Option, refl, Some, subst, suc, sym, take, true, zero, ℕ, ◌∙◌, ◌∷◌, ◌≡◌}
+use Rattle.programs.proofs.Common.{◌≢◌, ◌≤◌, le-leb, lt-leb, nat_tests, drop-drop, drop-replicate, length-drop, length-take, take-replicate, take_all, take_at, none-some, flat_map, ◌==◌, if◌then◌else◌, nat_le, nat_lt, option_and_then}
+use Rattle.programs.proofs.Common.{option_map, Memory, overwrite, Page, write_from, zero_page, reach, string_at, write_bytes, zeros, le, number_at, round_down, finished, Plan, Stack, stack_marks, push, push_pointers, push_strings}
+use Rattle.programs.proofs.Common.{with_args, with_stack, and_then_strings, strings_at, args_at, words_before_zero, Load, IsSized, Finishes, HasPushed, Passes, plan_with, PushesString, stacked, word_in, Arguments}
+use Rattle.std.proofs.Math.Seq.{take-append-add}
 use Rattle.std.proofs.lemmas.Grind.{flat_map-append}
 use Rattle.std.proofs.lemmas.List.Concat.{flat_map-cons}
 use lib.Seq.{drop-append-add}
@@ -103,12 +104,12 @@ ends pages pc i s args = finished (4096 * (length pages + 2)) pc (i + length arg
 abbrev pub args_from : Memory → ℕ → List ℕ → Option (List (List ℕ))
 args_from mem n bytes = option_and_then (strings_at mem) (words_before_zero n bytes)
 
-none-under : (pages : Memory) (pc i : ℕ) (s : Stack) → s.sp < 4096 * (length pages + 1) → (o : Option (List (List ℕ))) → option_and_then (ends pages pc i s) o ≡ None
+pub none-under : (pages : Memory) (pc i : ℕ) (s : Stack) → s.sp < 4096 * (length pages + 1) → (o : Option (List (List ℕ))) → option_and_then (ends pages pc i s) o ≡ None
 none-under pages pc i s under None = refl
 none-under pages pc i s under (Some args) =
     refused-under pages pc (i + length args) (push_pointers (push_strings s args)) (omega (arith, under, strings-low s args, pointers-low (push_strings s args)))
 
-one-more : (pages : Memory) (pc i : ℕ) (s : Stack) (string : List ℕ) (args : List (List ℕ)) → ends pages pc i s (string ∷ args) ≡ ends pages pc (i + 1) (push s (string ++ 0 ∷ [])) args
+pub one-more : (pages : Memory) (pc i : ℕ) (s : Stack) (string : List ℕ) (args : List (List ℕ)) → ends pages pc i s (string ∷ args) ≡ ends pages pc (i + 1) (push s (string ++ 0 ∷ [])) args
 unfolding push_strings
 one-more pages pc i s string args =
     let n : i + length (string ∷ args) ≡ i + 1 + length args = omega arith in
@@ -126,33 +127,24 @@ words-more : (mem : Memory) (w : ℕ) (o : Option (List ℕ)) → option_and_the
 words-more mem w None = sym (strings-none (string_at mem w))
 words-more mem w (Some ws) = refl
 
-word-missing : (mem : Memory) (n : ℕ) (bytes : List ℕ) → word_in bytes ≡ None → args_from mem (suc n) bytes ≡ None
+-- what comes of the first word
+abbrev by_word : Memory → ℕ → List ℕ → Option ℕ → Option (List (List ℕ))
+by_word mem n bytes None = None
+by_word mem n bytes (Some w) = option_and_then (strings_at mem) (if w == 0 then Some [] else option_map (λ ws. w ∷ ws) (words_before_zero n (drop 8 bytes)))
+
+word-next : (mem : Memory) (n : ℕ) (bytes : List ℕ) → args_from mem (suc n) bytes ≡ by_word mem n bytes (word_in bytes)
 unfolding words_before_zero
-word-missing mem n bytes none = go (nat_lt (length (take 8 bytes)) 8) refl where
-  go : (b : Bool) → nat_lt (length (take 8 bytes)) 8 ≡ b → args_from mem (suc n) bytes ≡ None
-  go true e = rw e refl
-  go false e = absurd (none-some (number_at 8 0 bytes) (sym (rw e at none)))
+word-next mem n bytes = go (nat_lt (length (take 8 bytes)) 8) where
+  go : (b : Bool) → option_and_then (strings_at mem) (if b then None else if number_at 8 0 bytes == 0 then Some [] else option_map (λ ws. number_at 8 0 bytes ∷ ws) (words_before_zero n (drop 8 bytes)))
+      ≡ by_word mem n bytes (if b then None else Some (number_at 8 0 bytes))
+  go true = refl
+  go false = refl
 
--- a word that is there
-pub record IsWord (bytes : List ℕ) (w : ℕ) : Type 0 where
-  pub long : nat_lt (length (take 8 bytes)) 8 ≡ false
-  pub word : number_at 8 0 bytes ≡ w
-
-is-word : (bytes : List ℕ) (w : ℕ) → word_in bytes ≡ Some w → IsWord bytes w
-is-word bytes w some = go (nat_lt (length (take 8 bytes)) 8) (number_at 8 0 bytes) refl refl some where
-  go : (b : Bool) (n : ℕ) → nat_lt (length (take 8 bytes)) 8 ≡ b → number_at 8 0 bytes ≡ n → (if b then None else Some n) ≡ Some w → IsWord bytes w
-  go true n e f is = absurd (none-some w is)
-  go false n e f is = record { long = e; word = f ∙ same_Some n w is }
-
-word-zero : (mem : Memory) (n : ℕ) (bytes : List ℕ) → IsWord bytes 0 → args_from mem (suc n) bytes ≡ Some []
-unfolding words_before_zero
-word-zero mem n bytes is = rw (is.long, is.word) refl
-
-word-more : (mem : Memory) (n : ℕ) (bytes : List ℕ) (w : ℕ) → IsWord bytes w → w ≢ 0 → args_from mem (suc n) bytes ≡ and_then_strings (string_at mem w) (args_from mem n (drop 8 bytes))
-unfolding words_before_zero
-word-more mem n bytes w is some =
-    let other : (w == 0) ≡ false = grind (arith, nat_tests, some) in
-    rw (is.long, is.word, other) (words-more mem w (words_before_zero n (drop 8 bytes)))
+word-long : (bytes : List ℕ) (w : ℕ) → word_in bytes ≡ Some w → 8 ≤ length (take 8 bytes)
+word-long bytes w some = go (nat_lt (length (take 8 bytes)) 8) refl some where
+  go : (b : Bool) → nat_lt (length (take 8 bytes)) 8 ≡ b → (if b then None else Some (number_at 8 0 bytes)) ≡ Some w → 8 ≤ length (take 8 bytes)
+  go true e is = absurd (none-some w is)
+  go false e is = grind (arith, nat_tests, e)
 
 -- ---- the arguments so far
 
@@ -165,7 +157,7 @@ pub record IsPushing (mem : Memory) (argv count i top : ℕ) (page spelled : Lis
   pub rest : (pages : Memory) (pc : ℕ) → length pages ≡ count
       → option_and_then (with_args pages pc) (args_at mem argv) ≡ option_and_then (ends pages pc i (stack_with pages page top pointers)) (args_from mem (32 - i) (drop (8 * i) (reach Load mem argv)))
 
-begins-some : (pages : Memory) (pc : ℕ) (args : List (List ℕ)) → with_args pages pc args ≡ ends pages pc 0 (stack_with pages (zeros 4096) 4096 []) args
+pub begins-some : (pages : Memory) (pc : ℕ) (args : List (List ℕ)) → with_args pages pc args ≡ ends pages pc 0 (stack_with pages (zeros 4096) 4096 []) args
 unfolding with_args with_stack
 begins-some pages pc args =
     let n : length args ≡ 0 + length args = omega arith in
@@ -208,19 +200,22 @@ spelled-more ps i p count more =
     let long : length (flat_map (le 8) ps) ≡ 8 * i = omega (arith, length-pointers ps, count) in
     let behind : 8 * i + length (le 8 p) ≡ length (flat_map (le 8) ps) + 8 = omega (arith, long) in
     let left : 256 - 8 * i - 8 ≡ 256 - 8 * (i + 1) = omega arith in
-    ap (λ l. (l ++ le 8 p) ++ drop (8 * i + length (le 8 p)) (flat_map (le 8) ps ++ zeros (256 - 8 * i))) (take_at (flat_map (le 8) ps) (zeros (256 - 8 * i)) (8 * i) long)
-    ∙ ap (λ n. (flat_map (le 8) ps ++ le 8 p) ++ drop n (flat_map (le 8) ps ++ zeros (256 - 8 * i))) behind
-    ∙ ap (λ l. (flat_map (le 8) ps ++ le 8 p) ++ l) (drop-append-add (flat_map (le 8) ps) (zeros (256 - 8 * i)) 8 ∙ drop-replicate 8 (256 - 8 * i) 0 ∙ ap zeros left)
-    ∙ ap (λ l. l ++ zeros (256 - 8 * (i + 1))) (sym (flat-more ps p))
+    rw (take_at (flat_map (le 8) ps) (zeros (256 - 8 * i)) (8 * i) long, behind, drop-append-add (flat_map (le 8) ps) (zeros (256 - 8 * i)) 8, flat-more ps p)
+    (ap (λ l. (flat_map (le 8) ps ++ le 8 p) ++ l) (drop-replicate 8 (256 - 8 * i) 0 ∙ ap zeros left))
 
 -- the pointers and the 0 word
 pub spelled-all : (ps : List ℕ) (i : ℕ) → length ps ≡ i → i < 32 → take (8 * i + 8) (flat_map (le 8) ps ++ zeros (256 - 8 * i)) ≡ flat_map (le 8) ps ++ le 8 0
 unfolding zeros
 spelled-all ps i count more =
     let long : 8 * i + 8 ≡ length (flat_map (le 8) ps) + 8 = omega (arith, length-pointers ps, count) in
-    ap (λ n. take n (flat_map (le 8) ps ++ zeros (256 - 8 * i))) long
-    ∙ take-append-add (flat_map (le 8) ps) (zeros (256 - 8 * i)) 8
-    ∙ ap (λ l. flat_map (le 8) ps ++ l) (take-replicate 8 (256 - 8 * i) 0 (omega (arith, more)))
+    rw (long, take-append-add (flat_map (le 8) ps) (zeros (256 - 8 * i)) 8) (ap (λ l. flat_map (le 8) ps ++ l) (take-replicate 8 (256 - 8 * i) 0 (omega (arith, more))))
+
+-- the pointers behind all strings
+pub ends-all : (pages : Memory) (pc : ℕ) (page : List ℕ) (pointers : List ℕ) {spelled : List ℕ} {i top base : ℕ} → top ≤ 4096 → length pointers ≡ i → i < 32 → spelled ≡ flat_map (le 8) pointers ++ zeros (256 - 8 * i) → base ≡ 4096 * (length pages + 1)
+    → (r : Option Arguments) → Finishes page top (take (8 * i + 8) spelled) i base r → ends pages pc i (stack_with pages page top pointers) [] ≡ option_map (plan_with pages pc) r
+unfolding push_strings push_pointers
+ends-all pages pc page pointers {i = i} {top = top} inside few more spells is r made =
+    finishes pages pc page top pointers (flat_map (le 8) pointers ++ le 8 0) inside (omega (arith, length-append (flat_map (le 8) pointers) (le 8 0))) (ap (take (8 * i + 8)) spells ∙ spelled-all pointers i few more) (omega arith) is r made
 
 -- ---- a step
 
@@ -228,37 +223,37 @@ module _ {mem : Memory} {argv count i top : ℕ} {page spelled : List ℕ} (size
   abbrev rest : List ℕ
   rest = drop (8 * i) (reach Load mem argv)
 
-  word-is : told ≡ word_in rest
-  word-is = word ∙ ap word_in (reach-drop Load mem argv (8 * i) sized has.reached)
+  abbrev stack : Memory → Stack
+  stack pages = stack_with pages page top has.pointers
 
-  left : 32 - i ≡ suc (32 - (i + 1))
-  left = omega (arith, more)
+  word-is : word_in rest ≡ told
+  word-is = sym (word ∙ ap word_in (reach-drop Load mem argv (8 * i) sized has.reached))
 
   -- what is told of the rest
-  rest-is : (pages : Memory) (pc : ℕ) → length pages ≡ count → {o : Option (List (List ℕ))} → args_from mem (suc (32 - (i + 1))) rest ≡ o
-      → option_and_then (with_args pages pc) (args_at mem argv) ≡ option_and_then (ends pages pc i (stack_with pages page top has.pointers)) o
-  rest-is pages pc e is = has.rest pages pc e ∙ ap (λ n. option_and_then (ends pages pc i (stack_with pages page top has.pointers)) (args_from mem n rest)) left ∙ ap (option_and_then (ends pages pc i (stack_with pages page top has.pointers))) is
+  rest-is : (pages : Memory) (pc : ℕ) → length pages ≡ count → {o : Option ℕ} → told ≡ o → option_and_then (with_args pages pc) (args_at mem argv) ≡ option_and_then (ends pages pc i (stack pages)) (by_word mem (32 - (i + 1)) rest o)
+  rest-is pages pc e is =
+      let left : 32 - i ≡ suc (32 - (i + 1)) = omega (arith, more) in
+      has.rest pages pc e
+      ∙ ap (λ n. option_and_then (ends pages pc i (stack pages)) (args_from mem n rest)) left
+      ∙ ap (option_and_then (ends pages pc i (stack pages))) (word-next mem (32 - (i + 1)) rest ∙ ap (by_word mem (32 - (i + 1)) rest) (word-is ∙ is))
 
   -- a word that can't be read
   pub word-refused : told ≡ None → Passes mem argv count None
-  word-refused none pages pc e = rest-is pages pc e (word-missing mem (32 - (i + 1)) rest (sym word-is ∙ none))
+  word-refused none pages pc e = rest-is pages pc e none
 
   -- the 0 word
   pub ended : {w : ℕ} → told ≡ Some w → w ≡ 0 → (base : ℕ) → base ≡ 4096 * (count + 1) → (r : Option Arguments) → Finishes page top (take (8 * i + 8) spelled) i base r → Passes mem argv count r
-  unfolding push_strings push_pointers
-  ended some null base is r made pages pc e =
-      let bytes = flat_map (le 8) has.pointers ++ le 8 0 in
-      let spells : take (8 * i + 8) spelled ≡ bytes = ap (take (8 * i + 8)) has.spells ∙ spelled-all has.pointers i has.few more in
-      rest-is pages pc e (word-zero mem (32 - (i + 1)) rest (is-word rest 0 (sym word-is ∙ some ∙ ap Some null)))
-      ∙ finishes pages pc page top has.pointers bytes has.inside (omega (arith, length-append (flat_map (le 8) has.pointers) (le 8 0))) spells (omega arith) (omega (arith, is, e)) r made
+  ended some null base is r made pages pc e = rest-is pages pc e (some ∙ ap Some null) ∙ ends-all pages pc page has.pointers has.inside has.few more has.spells (omega (arith, is, e)) r made
 
   module _ {w : ℕ} (some : told ≡ Some w) (other : w ≢ 0) where
-    here : IsWord rest w
-    here = is-word rest w (sym word-is ∙ some)
+    abbrev others : Option (List (List ℕ))
+    others = args_from mem (32 - (i + 1)) (drop 8 rest)
 
-    string-is : (pages : Memory) (pc : ℕ) → length pages ≡ count → {o : Option (List ℕ)} → string_at mem w ≡ o
-        → option_and_then (with_args pages pc) (args_at mem argv) ≡ option_and_then (ends pages pc i (stack_with pages page top has.pointers)) (and_then_strings o (args_from mem (32 - (i + 1)) (drop 8 rest)))
-    string-is pages pc e is = rest-is pages pc e (word-more mem (32 - (i + 1)) rest w here other) ∙ ap (λ o. option_and_then (ends pages pc i (stack_with pages page top has.pointers)) (and_then_strings o (args_from mem (32 - (i + 1)) (drop 8 rest)))) is
+    string-is : (pages : Memory) (pc : ℕ) → length pages ≡ count → {o : Option (List ℕ)} → string_at mem w ≡ o → option_and_then (with_args pages pc) (args_at mem argv) ≡ option_and_then (ends pages pc i (stack pages)) (and_then_strings o others)
+    string-is pages pc e {o} is =
+        let no : (w == 0) ≡ false = grind (arith, nat_tests, other) in
+        let made : by_word mem (32 - (i + 1)) rest (Some w) ≡ and_then_strings o others = rw (no, ← is) (words-more mem w (words_before_zero (32 - (i + 1)) (drop 8 rest))) in
+        rest-is pages pc e some ∙ ap (option_and_then (ends pages pc i (stack pages))) made
 
     -- a string that can't be read, or isn't room for
     pub string-refused : (new : List ℕ) → PushesString mem w page new top None → Passes mem argv count None
@@ -266,37 +261,28 @@ module _ {mem : Memory} {argv count i top : ℕ} {page spelled : List ℕ} (size
       go : (o : Option (List ℕ)) → string_at mem w ≡ o → option_and_then (with_args pages pc) (args_at mem argv) ≡ None
       go None is = string-is pages pc e is
       go (Some string) is =
-          string-is pages pc e is
-          ∙ string-more pages pc i (stack_with pages page top has.pointers) string (args_from mem (32 - (i + 1)) (drop 8 rest))
-          ∙ none-under pages pc (i + 1) (push (stack_with pages page top has.pointers) (string ++ 0 ∷ []))
-          (push-under pages page top has.pointers (string ++ 0 ∷ []) (omega (arith, over string is, length-append string (0 ∷ []))))
-          (args_from mem (32 - (i + 1)) (drop 8 rest))
-
-    reached-more : 8 * (i + 1) ≤ length (reach Load mem argv)
-    reached-more =
-        let eight : 8 ≤ length (take 8 rest) = grind (arith, nat_tests, here.long) in
-        omega (arith, eight, length-take 8 rest, length-drop (8 * i) (reach Load mem argv))
+          let low = push-under pages page top has.pointers (string ++ 0 ∷ []) (omega (arith, over string is, length-append string (0 ∷ []))) in
+          string-is pages pc e is ∙ string-more pages pc i (stack pages) string others ∙ none-under pages pc (i + 1) (push (stack pages) (string ++ 0 ∷ [])) low others
 
     -- a string more
     pub string-pushed : {new spelled' : List ℕ} {place base : ℕ} → PushesString mem w page new top (Some place) → base ≡ 4096 * (count + 1) → spelled' ≡ overwrite spelled (8 * i) (le 8 (base + place)) → IsPushing mem argv count (i + 1) place new spelled'
     string-pushed {new} {spelled'} {place} {base} made is put =
-        let has_room = made.2.fits in
         let stands = made.2.stands in
         let was = has.inside in
         let long : 0 < length (made.0 ++ 0 ∷ []) = omega (arith, length-append made.0 (0 ∷ [])) in
         let next : drop 8 rest ≡ drop (8 * (i + 1)) (reach Load mem argv) = drop-drop 8 (8 * i) (reach Load mem argv) ∙ ap (λ n. drop n (reach Load mem argv)) (omega arith) in
         record {
           inside = omega (arith, was, stands);
-          reached = reached-more;
+          reached = omega (arith, word-long rest w (word-is ∙ some), length-take 8 rest, length-drop (8 * i) (reach Load mem argv));
           pointers = has.pointers ++ (base + place) ∷ [];
           few = length-append has.pointers ((base + place) ∷ []) ∙ ap (λ n. n + 1) has.few;
           spells = put ∙ ap (λ l. overwrite l (8 * i) (le 8 (base + place))) has.spells ∙ spelled-more has.pointers i (base + place) has.few more;
           rest = λ pages pc e.
               let same : 4096 * (length pages + 1) + place ≡ base + place = omega (arith, e, is) in
               string-is pages pc e made.1
-              ∙ string-more pages pc i (stack_with pages page top has.pointers) made.0 (args_from mem (32 - (i + 1)) (drop 8 rest))
-              ∙ ap (λ s. option_and_then (ends pages pc (i + 1) s) (args_from mem (32 - (i + 1)) (drop 8 rest))) (pushed pages page new top has.pointers (made.0 ++ 0 ∷ []) place was long made.2)
-              ∙ ap (λ p. option_and_then (ends pages pc (i + 1) (stack_with pages new place (has.pointers ++ p ∷ []))) (args_from mem (32 - (i + 1)) (drop 8 rest))) same
+              ∙ string-more pages pc i (stack pages) made.0 others
+              ∙ ap (λ s. option_and_then (ends pages pc (i + 1) s) others) (pushed pages page new top has.pointers (made.0 ++ 0 ∷ []) place was long made.2)
+              ∙ ap (λ p. option_and_then (ends pages pc (i + 1) (stack_with pages new place (has.pointers ++ p ∷ []))) others) same
               ∙ ap (λ l. option_and_then (ends pages pc (i + 1) (stack_with pages new place (has.pointers ++ (base + place) ∷ []))) (args_from mem (32 - (i + 1)) l)) next;
         }
 

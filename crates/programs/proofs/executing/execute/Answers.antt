@@ -1,12 +1,12 @@
 use Rattle.programs.proofs.Common.{arith, refl, sym, ◌∙◌, none-some}
-use Rattle.programs.proofs.Executions.{few-told, file-there, is-executed, loaded-there, not-passed, over-frames, program-none, program-of, program-there}
+use Rattle.programs.proofs.Executions.{is-executed, loaded-there, not-passed, over-frames, program-kept, program-none, program-of, program-there}
 use Rattle.programs.proofs.Places.{held-still, room-beside}
-use Rattle.programs.proofs.Serving.{err-left, err-told, kept-first, kept-then, lost-first, lost-later}
+use Rattle.programs.proofs.Serving.{err-left, err-told, kept-is-file, kept-leaves, kept-more, kept-none, lost}
 use Rattle.programs.proofs.executing.execute.Goals as goal
 
 pub returns-in_err-program : goal.returns-in_err-program
 returns-in_err-program g c = record {
-  serves = lost-first c.from_residual.result _ c.from_residual.ensures.1 _ c.in_err-program.ensures;
+  serves = lost c.from_residual.result _ c.from_residual.ensures.1 _ (kept-none _ c.requires.up) c.in_err-program.ensures;
   executed = err-told c.from_residual.result _ c.from_residual.ensures.1 _;
   failed = held-still c.args.spaces.now c.args.at c.from_residual.result c.requires.space;
 }
@@ -29,7 +29,7 @@ returns-in_default-read_arguments-clause-executed g c = (
 pub load-requires : goal.load-requires
 load-requires g c = record {
   up = c.in_ok-program.ensures.up;
-  file = file-there c.args.number c.in_ok-program.ensures (program-of c.args.number c.in_ok-program.ensures c.in-Some.is);
+  file = kept-is-file (program-kept c.args.number c.in_ok-program.ensures) (program-of c.args.number c.in_ok-program.ensures c.in-Some.is).file;
   program = program-there c.args.number c.in_ok-program.ensures (program-of c.args.number c.in_ok-program.ensures c.in-Some.is);
   few = omega (arith, c.frames.ensures, c.if-frames-from.false, c.from.ensures, c.free.type_inv);
   space = c.requires.space;
@@ -44,27 +44,27 @@ returns-clause-executed g c =
 
 pub frames-requires : goal.frames-requires
 frames-requires g c =
-    let few = few-told _ _ c.in-Some.is c.in_ok-program.ensures.told.1 in
+    let few = rw c.in-Some.is at c.in_ok-program.ensures.told.1 in
     omega (arith, few)
 
 pub returns-in_default-clause-serves : goal.returns-in_default-clause-serves
-returns-in_default-clause-serves g c = kept-first _ c.in_ok-program.ensures.told.0.same c.in_ok-program.ensures
+returns-in_default-clause-serves g c = kept-leaves (program-kept c.args.number c.in_ok-program.ensures) _
 
 pub returns-then-frames-from-clause-serves : goal.returns-then-frames-from-clause-serves
-returns-then-frames-from-clause-serves g c = kept-first _ c.in_ok-program.ensures.told.0.same c.in_ok-program.ensures
+returns-then-frames-from-clause-serves g c = kept-leaves (program-kept c.args.number c.in_ok-program.ensures) _
 
 pub returns-in_default-read_arguments-clause-serves : goal.returns-in_default-read_arguments-clause-serves
-returns-in_default-read_arguments-clause-serves g c = kept-first _ c.in_ok-program.ensures.told.0.same c.in_ok-program.ensures
+returns-in_default-read_arguments-clause-serves g c = kept-leaves (program-kept c.args.number c.in_ok-program.ensures) _
 
 pub read_arguments-requires-clause-fits : goal.read_arguments-requires-clause-fits
 read_arguments-requires-clause-fits g c = omega (arith, c.frames.ensures, c.if-frames-from.false, c.from.ensures, c.free.type_inv)
 
 pub returns-in_err-load : goal.returns-in_err-load
 returns-in_err-load g c = record {
-  serves = lost-later c.from_residual-in_err-load.result _ c.from_residual-in_err-load.ensures.1 _ c.in_ok-program.ensures.same_device c.in_ok-program.ensures.cause.later c.in_err-load.ensures.serves;
+  serves = lost c.from_residual-in_err-load.result _ c.from_residual-in_err-load.ensures.1 _ (program-kept c.args.number c.in_ok-program.ensures) c.in_err-load.ensures.serves;
   executed = err-told c.from_residual-in_err-load.result _ c.from_residual-in_err-load.ensures.1 _;
   failed = err-left c.from_residual-in_err-load.result _ c.from_residual-in_err-load.ensures.1 _ c.in_err-load.ensures.failed;
 }
 
 pub returns-clause-serves : goal.returns-clause-serves
-returns-clause-serves g c = kept-then _ c.in_ok-program.ensures.told.0.same c.in_ok-program.ensures.cause.later c.in_ok-load.ensures.serves
+returns-clause-serves g c = kept-leaves (kept-more (program-kept c.args.number c.in_ok-program.ensures) c.in_ok-load.ensures.serves.told c.in_ok-load.ensures.serves) _

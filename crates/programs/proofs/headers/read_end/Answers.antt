@@ -1,10 +1,10 @@
 use Rattle.programs.proofs.Common.{Ok, ap, sym, ◌∙◌, end_by, file_at}
 use Rattle.programs.proofs.Headings.{end-told}
-use Rattle.programs.proofs.Serving.{lost-first}
+use Rattle.programs.proofs.Serving.{kept-none, lost}
 use Rattle.programs.proofs.headers.read_end.Goals as goal
 
 pub returns-in_err-read_segment : goal.returns-in_err-read_segment
-returns-in_err-read_segment g c = lost-first c.from_residual.result _ c.from_residual.ensures.1 _ c.in_err-read_segment.ensures
+returns-in_err-read_segment g c = lost c.from_residual.result _ c.from_residual.ensures.1 _ (kept-none _ c.requires.up) c.in_err-read_segment.ensures
 
 pub returns-in-Err : goal.returns-in-Err
 returns-in-Err g c = end-told (file_at c.args.tree.now.files c.args.number) c.args.at c.args.end _ c.in_ok-read_segment.ensures (sym (ap (end_by c.args.end) c.in-Err.is))

@@ -1,6 +1,6 @@
-use Rattle.programs.proofs.Common.{ap, arith, length, sym, ◌∙◌, file_at, FileTree}
-use Rattle.programs.proofs.Serving.{file-kept-on, lost-first, lost-later}
-use Rattle.programs.proofs.Headings.{ends-refused, head-refused, header-fits, program-told}
+use Rattle.programs.proofs.Common.{ap, arith, length, sym, ◌∙◌}
+use Rattle.programs.proofs.Serving.{kept-file, kept-is-file, kept-none, lost}
+use Rattle.programs.proofs.Headings.{ends-refused, head-kept, head-refused, header-fits, program-told}
 use Rattle.programs.proofs.headers.read_headers.Goals as goal
 
 pub returns-in_default : goal.returns-in_default
@@ -13,15 +13,17 @@ pub returns : goal.returns
 returns g c = program-told c.args.number c.in_ok-header.ensures c.in-Some.is c.in_ok-end.ensures c.in-Some-2.end _ c.in-Some-2.is (omega arith) (omega (arith, c.div_ceil-pages.ensures))
 
 pub returns-in_err-header : goal.returns-in_err-header
-returns-in_err-header g c = lost-first c.from_residual.result _ c.from_residual.ensures.1 _ c.in_err-header.ensures
+returns-in_err-header g c = lost c.from_residual.result _ c.from_residual.ensures.1 _ (kept-none _ c.requires.up) c.in_err-header.ensures
 
 pub read_ends-requires : goal.read_ends-requires
-read_ends-requires g c = record {
-  up = c.in_ok-header.ensures.up;
-  file = file-kept-on c.args.tree.now c.args.number c.in_ok-header.ensures.told.same c.requires.file;
-  long = c.requires.long ∙ ap (λ (t : FileTree). length (file_at t.files c.args.number)) (sym c.in_ok-header.ensures.told.same);
-  within = header-fits c.args.number c.in_ok-header.ensures c.in-Some.is c.args.len c.requires.long;
-}
+read_ends-requires g c =
+    let kept = head-kept c.args.number c.in_ok-header.ensures in
+    record {
+      up = kept.up;
+      file = kept-is-file kept c.requires.file;
+      long = c.requires.long ∙ ap length (sym (kept-file kept c.args.number));
+      within = header-fits c.args.number c.in_ok-header.ensures c.in-Some.is c.args.len c.requires.long;
+    }
 
 pub returns-in_err-end : goal.returns-in_err-end
-returns-in_err-end g c = lost-later c.from_residual-in_err-end.result _ c.from_residual-in_err-end.ensures.1 _ c.in_ok-header.ensures.same_device c.in_ok-header.ensures.cause.later c.in_err-end.ensures
+returns-in_err-end g c = lost c.from_residual-in_err-end.result _ c.from_residual-in_err-end.ensures.1 _ (head-kept c.args.number c.in_ok-header.ensures) c.in_err-end.ensures

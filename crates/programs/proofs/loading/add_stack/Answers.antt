@@ -1,5 +1,5 @@
 use Rattle.std.proofs.Common.{ap, arith, ◌*◌, ◌+◌}
-use Rattle.programs.proofs.Places.{has-held, one-longer, one-paged, one-room, room-less, stack-added, stack-inside}
+use Rattle.programs.proofs.Places.{has-held, one-longer, paged-held, room-held, room-less, stack-added}
 use Rattle.programs.proofs.loading.add_stack.Goals as goal
 
 pub returns : goal.returns
@@ -16,17 +16,17 @@ add_pages-requires-clause-room g c = room-less c.args.spaces.now c.args.at _ _ (
 pub add_pages-requires-2 : goal.add_pages-requires-2
 add_pages-requires-2 g c = record {
   space = has-held c.args.spaces.now c.args.at _ c.add_pages.ensures c.requires.space;
-  paged = one-paged c.args.spaces.now c.add_pages.new.spaces c.args.at _ c.requires.space c.add_pages.ensures;
+  paged = paged-held c.args.spaces.now c.args.at _ c.add_pages.ensures c.requires.space;
   few = omega arith;
-  room = one-room c.args.spaces.now c.add_pages.new.spaces c.args.at _ c.requires.space c.add_pages.ensures c.requires.room;
+  room = room-held c.args.spaces.now c.args.at _ c.add_pages.ensures (omega (arith, one-longer c.args.spaces.now c.args.at _ c.requires.space c.add_pages.ensures)) c.requires.room;
 }
 
 pub fill-requires : goal.fill-requires
 fill-requires g c =
     let has = has-held c.args.spaces.now c.args.at _ c.add_pages.ensures c.requires.space in
-    let one = one-longer c.args.spaces.now c.add_pages.new.spaces c.args.at _ c.requires.space c.add_pages.ensures in
-    let two = one-longer c.add_pages.new.spaces c.add_pages-2.new.spaces c.args.at _ has c.add_pages-2.ensures in
+    let one = one-longer c.args.spaces.now c.args.at _ c.requires.space c.add_pages.ensures in
+    let two = one-longer c.add_pages.new.spaces c.args.at _ has c.add_pages-2.ensures in
     record {
       space = has-held c.add_pages.new.spaces c.args.at _ c.add_pages-2.ensures has;
-      inside = stack-inside _ _ c.pages-pages.result c.args.page.now c.told-page c.pages-pages.ensures.count (omega (arith, one, two));
+      inside = λ i low. omega (arith, low, c.told-page, c.pages-pages.ensures.count, one, two);
     }

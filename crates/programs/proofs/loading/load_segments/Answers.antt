@@ -1,7 +1,7 @@
 use Rattle.programs.proofs.Common.{ap, rules, sym, ◌*◌, ◌+◌, ◌∙◌, is_within}
 use Rattle.programs.proofs.Loads.{file-long, has-now, loading-all, loading-more, next-now, none-loading, paged-now, whole-now}
 use Rattle.programs.proofs.Places.{left-held}
-use Rattle.programs.proofs.Serving.{err-left, file-kept-on}
+use Rattle.programs.proofs.Serving.{err-left, kept-is-file}
 use Rattle.programs.proofs.loading.load_segments.Goals as goal
 
 pub loop-i-init : goal.loop-i-init
@@ -9,8 +9,8 @@ loop-i-init g c = none-loading c.args.tree.now c.args.spaces.now c.args.at _ _ _
 
 pub load_next-requires : goal.load_next-requires
 load_next-requires g c = record {
-  up = c.loop-i.invariant.loads.up;
-  file = file-kept-on c.args.tree.now c.args.number c.loop-i.invariant.loads.same c.requires.file;
+  up = c.loop-i.invariant.loads.kept.up;
+  file = kept-is-file c.loop-i.invariant.loads.kept c.requires.file;
   long = file-long c.loop-i.invariant c.requires.space c.requires.long;
   within = search rules;
   space = has-now c.loop-i.invariant c.requires.space;
