@@ -36,9 +36,7 @@ self-held s at has = ap (λ (ps : List (Option SpaceView)). record s { places = 
 module _ (s : Spaces) (at address : ℕ) (has : has_space s at ≡ true) where
   -- nothing is written
   pub none-written : s ≡ with_bytes s at address []
-  none-written =
-      let same : written (view_at s at) address [] ≡ view_at s at = ap (λ (m : Memory). record { memory = m; size = (view_at s at).size }) (write-none (view_at s at).memory address) in
-      self-held s at has ∙ ap (λ (h : SpaceView). with_view s at h) (sym same)
+  none-written = self-held s at has ∙ rw (write-none (view_at s at).memory address) refl
 
   module _ (bytes : List ℕ) where
     held-with : view_at (with_bytes s at address bytes) at ≡ written (view_at s at) address bytes
