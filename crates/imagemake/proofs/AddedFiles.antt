@@ -16,9 +16,6 @@ use Rattle.imagemake.proofs.Putting.{TellsFull-weaker}
 
 -- ---- three tests
 
-room-ok : {A : Type 0} (x y z : Bool) (a b : A) → x ≡ true → y ≡ true → z ≡ true → cond (x && y && z) a b ≡ a
-room-ok x y z a b p q r = rw (p, q, r) refl
-
 room-no : {A : Type 0} (x y z : Bool) (a b : A) → (x ≡ false) ⊎ ((y ≡ false) ⊎ (z ≡ false)) → cond (x && y && z) a b ≡ b
 room-no false y z a b h = refl
 room-no true false z a b h = refl
@@ -66,10 +63,9 @@ module _ (t : FileTree) {d : ℕ} {name : List ℕ} {n : ℕ} (thing : Thing) (c
 
   has-room : size_of (node_for n d thing) ≤ longest → size_of named ≤ longest → blocks_of (put one d named) ≤ t.block_limit → if_room t.block_limit d n all ≡ Ok all
   has-room short above_short few =
-      room-ok (is_short all n) (is_short all d) (nat_le (blocks_of all) t.block_limit) (Ok all) (Err Wrong.Blocks)
-      (is-short all n (node_for n d thing) adds.here ∙ le-leb (size_of (node_for n d thing)) longest short)
-      (is-short all d named added-above ∙ le-leb (size_of named) longest above_short)
-      (le-leb (blocks_of all) t.block_limit (omega (arith, ap blocks_of added-is)))
+      let one_fits : is_short all n ≡ true = is-short all n (node_for n d thing) adds.here ∙ le-leb (size_of (node_for n d thing)) longest short in
+      let above_fits : is_short all d ≡ true = is-short all d named added-above ∙ le-leb (size_of named) longest above_short in
+      rw (one_fits, above_fits, le-leb (blocks_of all) t.block_limit (omega (arith, ap blocks_of added-is))) refl
 
   lacks-room : (longest < size_of (node_for n d thing)) ⊎ ((longest < size_of named) ⊎ (t.block_limit < blocks_of (put one d named))) → if_room t.block_limit d n all ≡ Err Wrong.Blocks
   lacks-room why =

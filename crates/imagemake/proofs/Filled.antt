@@ -6,19 +6,12 @@ use Rattle.unixmodel.specs.Counts.{blocks_of}
 use Rattle.unixmodel.specs.FileCalls.{greatest, with_file}
 use Rattle.unixmodel.specs.Memory.{overwrite}
 
-greatest-most : (test : ℕ → Bool) (n : ℕ) → greatest test n ≤ n
-greatest-most test zero = omega arith
-greatest-most test (suc n) = go (test (suc n)) (greatest-most test n) where
-  go : (b : Bool) → greatest test n ≤ n → elim b [ true ↦ suc n | false ↦ greatest test n ] ≤ suc n
-  go true h = omega arith
-  go false h = omega arith
-
-greatest-less : (test : ℕ → Bool) (n : ℕ) → greatest test n < n → test n ≡ false
-greatest-less test zero h = absurd (omega arith)
-greatest-less test (suc n) h = go (test (suc n)) refl h where
-  go : (b : Bool) → test (suc n) ≡ b → elim b [ true ↦ suc n | false ↦ greatest test n ] < suc n → test (suc n) ≡ false
-  go true e l = absurd (omega arith)
-  go false e l = e
+greatest-tells : (test : ℕ → Bool) (n : ℕ) → (greatest test n ≤ n) × (greatest test n < n → test n ≡ false)
+greatest-tells test zero = (omega arith, λ h. absurd (omega arith))
+greatest-tells test (suc n) = go (test (suc n)) refl (greatest-tells test n).0 where
+  go : (b : Bool) → test (suc n) ≡ b → greatest test n ≤ n → (elim b [ true ↦ suc n | false ↦ greatest test n ] ≤ suc n) × (elim b [ true ↦ suc n | false ↦ greatest test n ] < suc n → test (suc n) ≡ false)
+  go true e h = (omega arith, λ l. absurd (omega arith))
+  go false e h = (omega arith, λ l. e)
 
 -- bytes that are written into none are all that there are
 over-none : (bytes : List ℕ) (k : ℕ) → length bytes ≤ k → overwrite [] 0 (take k bytes) ≡ bytes
@@ -60,12 +53,12 @@ module _ (limit : ℕ) (files : Files) (n : ℕ) (bytes : List ℕ) (here : slot
     pub fill-less : count < length bytes → limit < blocks_of (put files n (File 1 bytes))
     unfolding fitting
     fill-less less =
-        let no = greatest-less (λ k. nat_le (blocks_of (with_file files n 1 (overwrite [] 0 (take k bytes)))) limit) (length bytes) (omega (arith, counted)) in
+        let no = (greatest-tells (λ k. nat_le (blocks_of (with_file files n 1 (overwrite [] 0 (take k bytes)))) limit) (length bytes)).1 (omega (arith, counted)) in
         leb-false (blocks_of (put files n (File 1 bytes))) limit (ap (λ bs. nat_le (blocks_of (put files n (File 1 bs))) limit) (sym (over-none bytes (length bytes) (omega arith))) ∙ no)
 
     pub fill-whole : length bytes ≤ count → files_after files w ≡ put files n (File 1 bytes)
     unfolding fitting
     fill-whole whole =
-        let most = greatest-most (λ k. nat_le (blocks_of (with_file files n 1 (overwrite [] 0 (take k bytes)))) limit) (length bytes) in
+        let most = (greatest-tells (λ k. nat_le (blocks_of (with_file files n 1 (overwrite [] 0 (take k bytes)))) limit) (length bytes)).0 in
         let many : length bytes ≤ fit = omega (arith, counted) in
         ap (files_after files) (short fits) ∙ ap (λ bs. put files n (File 1 bs)) (over-none bytes fit many)

@@ -80,22 +80,15 @@ module _ (inodes : ℕ) (some : 2 ≤ inodes) where
   unfolding names_of
   bare-named = ap (count_by (λ (e : ℕ × Entry). e.1.number == 1)) no_entries
 
-  bare-parent : parent_of (bare_files inodes) 1 ≡ 1
-  unfolding parent_of
-  bare-parent = refl
-
   bare-subdirectories : subdirectories (bare_files inodes) 1 ≡ 0
   unfolding subdirectories
   bare-subdirectories = ap (count_by _) (bare-entries 1)
 
-  bare-reached : find (bare_files inodes) 1 [] ≡ Some 1
-  unfolding find parts
-  bare-reached = refl
-
   bare-node : (m : ℕ) → KeepsNode (bare_files inodes) m (slot (bare_files inodes) m)
+  unfolding parent_of
   bare-node = bare-each (KeepsNode (bare_files inodes)) (record {
     own = refl;
-    parent = ap (λ (p : ℕ). Some (record { name = dot_dot; number = p })) (sym bare-parent);
+    parent = refl;
     names = All-nil (λ (x : Entry). IsTrue (is_name x.name));
     once = λ i j x l u. absurd (omega arith);
     numbers = All-nil (λ (x : Entry). IsSome (slot (bare_files inodes) x.number));
@@ -107,17 +100,17 @@ module _ (inodes : ℕ) (some : 2 ≤ inodes) where
   bare-size = bare-each (λ m o. KeepsSize o) (omega arith) (λ m s. tt)
 
   pub KeepsRules-bare : KeepsRules (bare_files inodes)
+  unfolding find parts
   KeepsRules-bare = record {
     root = ap (λ o. unwrap_or (option_map is_directory o) false) slot-root;
     sizes = bare-size;
     nodes = bare-node;
-    reached = λ m h. ([], bare-reached ∙ ap Some (sym (bare-used m h)));
+    reached = λ m h. ([], ap Some (sym (bare-used m h)));
   }
 
   room_bare : blocks_of (bare_files inodes) ≡ 1
   room_bare =
-      let e : inodes ≡ suc (suc (inodes - 2)) = omega arith in
-      ap (λ k. blocks_of (bare_files k)) e ∙ bare-blocks (inodes - 2)
+      let e : inodes ≡ suc (suc (inodes - 2)) = omega arith in ap (λ k. blocks_of (bare_files k)) e ∙ bare-blocks (inodes - 2)
 
   pub IsBegun-bare : (blocks : ℕ) → 1 ≤ blocks → IsBegun blocks inodes (bare_files inodes) 2
   IsBegun-bare blocks h = record {

@@ -59,10 +59,7 @@ count_by-push p xs x = sum_by_push (λ y. cond (p y) 1 0) xs x
 
 nil_parts : {X : Type 0} (xs ys : List X) → xs ++ ys ≡ [] → (xs ≡ []) × (ys ≡ [])
 nil_parts [] ys h = (refl, h)
-nil_parts (x ∷ xs) ys h = absurd (clash h)
-  where
-    clash : x ∷ (xs ++ ys) ≡ [] → ⊥
-    clash e = cc
+nil_parts (x ∷ xs) ys h = absurd (let clash : x ∷ (xs ++ ys) ≡ [] = h in cc)
 
 module _ {X : Type 0} (p : X → Bool) (xs ys : List X) (x : X) (h : HasOneMore xs ys x) where
   pub count_by-one_more : count_by p ys ≡ count_by p xs + cond (p x) 1 0
