@@ -4,7 +4,7 @@ use Rattle.machine.proofs.Common.{begun, state_of, IsKernel, IsLive, IsOpenFile,
 use Rattle.machine.proofs.Common.{View, sound_view, KeepsTree, Process, all_in, Places, seated, joined-free_slots, joined, SpaceView, Spaces, List, None, Option, Some, ap, arith, false, is_some, length, nat_le}
 use Rattle.machine.proofs.Common.{refl, replicate, subst, suc, sym, true, zero, ℕ, ◌%◌, ◌+◌, ◌<◌, ◌∙◌, ◌∷◌, ◌≡◌, ◌≢◌, ◌≤◌, le-leb, lt-leb, nat_tests, length-replicate, sum_by-replicate, sum_by-cons, none-some, IfSome, option_map}
 use Rattle.machine.proofs.Common.{slice_index, ◌==◌, holders, with_hold, FileTree, frames_of, page_frames, Files, free_slots, slot, zeros, Plan, first_process, first_state, if_fits, init_plan, start, State, open_limit}
-use Rattle.machine.proofs.FlatLemmas.{none-free, one-all, one-home, one-rests, one-stands, one-waits, same-past, taken-alone}
+use Rattle.machine.proofs.FlatLemmas.{fresh-fits, fresh-over, none-free, one-all, one-home, one-rests, one-stands, one-waits, same-past, taken-alone}
 use Rattle.tree.specs.Whole.{IsWhole}
 use Rattle.unixmodel.specs.OpenFiles as unix_files
 use Rattle.unixmodel.specs.Outcome.{no_descriptors}
@@ -22,18 +22,13 @@ state-init tree frames new =
     ap (λ (places : List (Option unix.Process)). record (begun_with tree.files tree.block_limit frames new) { places = Some (first_process new no_descriptors) ∷ places })
     (joined-free_slots 63 (replicate 63 None))
 
-frames-init : (files : Files) (limit frames : ℕ) (new : Plan) → frames_of (begun_with files limit frames new) ≡ 4 + page_frames (length new.memory)
-unfolding frames_of free_slots
-frames-init files limit frames new = omega arith
-
 starts-with : (files : Files) (limit frames : ℕ) (new : Plan) → init_plan files ≡ Some new → start files limit frames ≡ if_fits (begun_with files limit frames new)
 unfolding start
 starts-with files limit frames new is = rw is refl
 
 pub start-init : (tree : FileTree) (frames : ℕ) (new : Plan) → init_plan tree.files ≡ Some new → 4 + page_frames (length new.memory) ≤ frames → start tree.files tree.block_limit frames ≡ Some (state_of (init_kernel tree frames new))
 start-init tree frames new is fits =
-    let within : nat_le (frames_of (begun_with tree.files tree.block_limit frames new)) frames ≡ true = rw (frames-init tree.files tree.block_limit frames new) (le-leb _ _ fits) in
-    starts-with tree.files tree.block_limit frames new is ∙ rw within (ap Some (sym (state-init tree frames new)))
+    starts-with tree.files tree.block_limit frames new is ∙ fresh-fits tree.files tree.block_limit frames (free_slots open_limit) new no_descriptors fits ∙ ap Some (sym (state-init tree frames new))
 
 start-planless : (files : Files) (limit frames : ℕ) → init_plan files ≡ None → start files limit frames ≡ None
 unfolding start
@@ -44,22 +39,13 @@ pub start-none : (files : Files) (limit frames : ℕ) → ((p : Plan) → init_p
 start-none files limit frames over = go (init_plan files) refl where
   go : (o : Option Plan) → init_plan files ≡ o → start files limit frames ≡ None
   go None is = start-planless files limit frames is
-  go (Some new) is =
-      let without : nat_le (frames_of (begun_with files limit frames new)) frames ≡ false = rw (frames-init files limit frames new) (lt-leb _ _ (over new is)) in
-      starts-with files limit frames new is ∙ rw without refl
+  go (Some new) is = starts-with files limit frames new is ∙ fresh-over files limit frames (free_slots open_limit) new no_descriptors (over new is)
 
 -- ---- the kernel
 
-init-live : (new : Plan) → IsLive (first_of new)
-unfolding no_descriptors free_slots
-init-live new = record { descriptors = refl }
-
-init-zero : (new : Plan) → slice_index (first_of new).registers 0 ≡ 0
-unfolding zeros
-init-zero new = refl
-
 init-placed : (new : Plan) → new.pc % 4 ≡ 0 → IsPlaced (first_of new) (view_by new)
-init-placed new aligned = record { zero = init-zero new; aligned = aligned; mode = init-live new }
+unfolding no_descriptors free_slots zeros
+init-placed new aligned = record { zero = refl; aligned = aligned; mode = record { descriptors = refl } }
 
 -- ---- no file is open
 
@@ -184,15 +170,12 @@ module _ (old mid : FileTree) (unheld : IsUnheld old) (same : mid ≡ record old
 
   pub begun-init : (kernel : Kernel) → kernel ≡ begun held table put opens → (m : View) → m ≡ sound_view (state_of kernel) kernel.tree.failures kernel.tree.identity → old.failures ≤ mid.failures → IsBegun old frames m
   begun-init kernel made m machine later =
-      let is : kernel ≡ init_kernel mid frames placed.plan = made ∙ kernel-is in
-      let state : m.state ≡ state_of (init_kernel mid frames placed.plan) = ap (λ (x : View). x.state) machine ∙ ap state_of is in
+      let fits = placed.fits in
       let planned : init_plan mid.files ≡ Some placed.plan = ap (λ (t : FileTree). init_plan t.files) same ∙ placed.is in
-      let starts : start mid.files mid.block_limit frames ≡ Some (state_of (init_kernel mid frames placed.plan)) = start-init mid frames placed.plan planned (let fits = placed.fits in omega (arith, fits, count)) in
-      let failures : m.failures ≡ mid.failures = ap (λ (x : View). x.failures) machine ∙ ap (λ (k : Kernel). k.tree.failures) is in
-      let device : m.identity ≡ mid.identity = ap (λ (x : View). x.identity) machine ∙ ap (λ (k : Kernel). k.tree.identity) is in
-      record {
-        starts = sym (ap (λ (t : FileTree). start t.files t.block_limit frames) same) ∙ starts ∙ ap Some (sym state);
-        up = record { sound = ap (λ (x : View). x.failed) machine; goes = ap (λ (x : State). x.halted) state };
-        same_device = device ∙ ap (λ (t : FileTree). t.identity) same;
-        later = omega (arith, later, failures);
-      }
+      let is : kernel ≡ init_kernel mid frames placed.plan = made ∙ kernel-is in
+      rw (machine, is) (record {
+        starts = sym (ap (λ (t : FileTree). start t.files t.block_limit frames) same) ∙ start-init mid frames placed.plan planned (omega (arith, fits, count));
+        up = record { sound = refl; goes = refl };
+        same_device = ap (λ (t : FileTree). t.identity) same;
+        later = later;
+      })

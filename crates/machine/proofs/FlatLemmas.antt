@@ -6,7 +6,7 @@ use Rattle.machine.proofs.Common.{all_in, is_running, seated, joined-free_slots,
 use Rattle.machine.proofs.Common.{None, Ok, Option, Result, Some, [], ap, append_assoc, ap₂, arith, false, get_or, inl, inr, is_some, length, length-append, nat_le, refl, replicate, subst, suc, sym, true, zero, ℕ}
 use Rattle.machine.proofs.Common.{◌*◌, ◌++◌, ◌+◌, ◌-◌, ◌/◌, ◌<◌, ◌∙◌, ◌∷◌, ◌≡◌, ◌≢◌, ◌≤◌, ◌⊎◌, ◌↔◌, le-leb, lt-leb, nat_tests, length-replicate, sum_by-replicate, sum_by-cons, IfOk, IfSome, IsErrOf, OnErr, option_map}
 use Rattle.machine.proofs.Common.{slice_index, sum_by, ◌==◌, FileTree, blocks_of, frames_of, page_frames, Files, free_slots, slot, Perm, Memory, overwrite, pages_of, write_bytes, zero_page, zeros, ceil_div, le, round_down}
-use Rattle.machine.proofs.Common.{plan_flat, push, push_pointers, push_strings, stack_marks, with_args, with_stack, first_process, first_state, flat_descriptors, flat_files, flat_opens, if_fits, start_flat, State, holds}
+use Rattle.machine.proofs.Common.{Plan, plan_flat, push, push_pointers, push_strings, stack_marks, with_args, with_stack, first_process, first_state, flat_descriptors, flat_files, flat_opens, if_fits, start_flat, State, holds}
 use Rattle.files.specs.declared.file.OpenFile.{OpenFile}
 use Rattle.files.specs.declared.table.FileFault.{FileFault}
 use Rattle.programs.proofs.Headings.{length-pages}
@@ -84,36 +84,39 @@ state-first tree flat frames h =
     ∙ ap (λ (places : List (Option unix.Process)). record (begun frames h) { places = Some (first_process (bare_plan h.memory h.size) flat_descriptors) ∷ places })
     (joined-free_slots 63 (replicate 63 None))
 
-frames-begun : (frames : ℕ) (h : SpaceView) → frames_of (begun frames h) ≡ 4 + page_frames (length h.memory)
-unfolding frames_of free_slots
-frames-begun frames h = omega arith
+-- a first state takes the frames of its space
+module _ (files : Files) (limit frames : ℕ) (opens : List (Option unix_files.OpenFile)) (new : Plan) (descriptors : List (Option ℕ)) where
+  abbrev fresh : State
+  fresh = first_state files limit frames opens (first_process new descriptors)
+
+  frames-fresh : frames_of fresh ≡ 4 + page_frames (length new.memory)
+  unfolding frames_of free_slots
+  frames-fresh = omega arith
+
+  pub fresh-fits : 4 + page_frames (length new.memory) ≤ frames → if_fits fresh ≡ Some fresh
+  fresh-fits fits = let within : nat_le (frames_of fresh) frames ≡ true = rw frames-fresh (le-leb _ _ fits) in rw within refl
+
+  pub fresh-over : frames < 4 + page_frames (length new.memory) → if_fits fresh ≡ None
+  fresh-over over = let without : nat_le (frames_of fresh) frames ≡ false = rw frames-fresh (lt-leb _ _ over) in rw without refl
+
+abbrev flat_plan : List ℕ → Plan
+flat_plan bytes = bare_plan (flat_memory bytes) (4096 * length (flat_memory bytes))
 
 starts : (bytes : List ℕ) (frames : ℕ) → start_flat bytes frames ≡ if_fits (begun frames (flat_space bytes))
 unfolding start_flat
 starts bytes frames = rw (plan-is bytes) refl
 
 pub start-fits : (tree : FileTree) → IsFlat tree → (bytes : List ℕ) (frames : ℕ) → 4 + page_frames (length (flat_memory bytes)) ≤ frames → start_flat bytes frames ≡ Some (state_of (first_kernel tree frames (flat_space bytes)))
-start-fits tree flat bytes frames fits =
-    let within : nat_le (frames_of (begun frames (flat_space bytes))) frames ≡ true = rw (frames-begun frames (flat_space bytes)) (le-leb _ _ fits) in
-    starts bytes frames ∙ rw within (ap Some (sym (state-first tree flat frames (flat_space bytes))))
+start-fits tree flat bytes frames fits = starts bytes frames ∙ fresh-fits flat_files 27 frames flat_opens (flat_plan bytes) flat_descriptors fits ∙ ap Some (sym (state-first tree flat frames (flat_space bytes)))
 
 pub start-over : (bytes : List ℕ) (frames : ℕ) → frames < 4 + page_frames (length (flat_memory bytes)) → start_flat bytes frames ≡ None
-start-over bytes frames over =
-    let without : nat_le (frames_of (begun frames (flat_space bytes))) frames ≡ false = rw (frames-begun frames (flat_space bytes)) (lt-leb _ _ over) in
-    starts bytes frames ∙ rw without refl
+start-over bytes frames over = starts bytes frames ∙ fresh-over flat_files 27 frames flat_opens (flat_plan bytes) flat_descriptors over
 
 -- ---- the first kernel
 
-first-live : (size : ℕ) → IsLive (first size)
-unfolding flat_descriptors free_slots
-first-live size = record { descriptors = refl }
-
-first-zero : (size : ℕ) → slice_index (first size).registers 0 ≡ 0
-unfolding zeros
-first-zero size = refl
-
 first-placed : (h : SpaceView) → IsPlaced (first h.size) h
-first-placed h = record { zero = first-zero h.size; aligned = refl; mode = first-live h.size }
+unfolding flat_descriptors free_slots zeros
+first-placed h = record { zero = refl; aligned = refl; mode = record { descriptors = refl } }
 
 -- a process alone in the first place
 pub one-stands : (p : Process) (h : SpaceView) → IsPlaced p h → (i : ℕ) → IsPlace (slot (Some p ∷ free_slots 63) i) (slot (Some h ∷ replicate 63 None) i)
@@ -304,21 +307,15 @@ stacked-is bytes =
     rw (one, size) (ap (λ (memory : Memory). let h : SpaceView = record { memory = memory; size = 4096 * length (flat_memory bytes) } in h) memory)
 
 -- a space that is put in place 0, and one that would not fit
-placed : (frames : ℕ) (s t : Spaces) (h new : SpaceView) (change : SpaceView → SpaceView) → s ≡ alone frames h → change h ≡ new → t ≡ with_view s 0 (change (view_at s 0)) → t ≡ alone frames new
-placed frames s t h new change is to done = rw (done, is, to) refl
+module _ {frames : ℕ} {s : Spaces} {h new : SpaceView} (change : SpaceView → SpaceView) (is : s ≡ alone frames h) (to : change h ≡ new) where
+  placed : {t : Spaces} → t ≡ with_view s 0 (change (view_at s 0)) → t ≡ alone frames new
+  placed done = rw (done, is, to) refl
 
-over : (bytes : List ℕ) (frames : ℕ) (s : Spaces) (h new : SpaceView) (change : SpaceView → SpaceView) → s ≡ alone frames h → change h ≡ new → length new.memory ≤ length (flat_memory bytes)
-    → s.frames < taken_frames (with_view s 0 (change (view_at s 0))) → frames < 4 + page_frames (length (flat_memory bytes))
-over bytes frames s h new change is to less full =
-    let here : frames < taken_frames (alone frames new) = rw (is, to) at full in
-    let more = page_frames-more (length new.memory) (length (flat_memory bytes)) less in
-    omega (arith, here, taken-alone frames new, more)
+  takes : taken_frames (with_view s 0 (change (view_at s 0))) ≡ 4 + page_frames (length new.memory)
+  takes = rw (is, to) (taken-alone frames new)
 
-within : (bytes : List ℕ) (frames : ℕ) (s : Spaces) (h new : SpaceView) (change : SpaceView → SpaceView) → s ≡ alone frames h → change h ≡ new
-    → taken_frames (with_view s 0 (change (view_at s 0))) ≤ s.frames → 4 + page_frames (length new.memory) ≤ frames
-within bytes frames s h new change is to fits =
-    let here : taken_frames (alone frames new) ≤ frames = rw (is, to) at fits in
-    omega (arith, here, taken-alone frames new)
+  over : (bytes : List ℕ) → length new.memory ≤ length (flat_memory bytes) → s.frames < taken_frames (with_view s 0 (change (view_at s 0))) → frames < 4 + page_frames (length (flat_memory bytes))
+  over bytes less full = omega (arith, full, takes, ap (λ (x : Spaces). x.frames) is, page_frames-more (length new.memory) (length (flat_memory bytes)) less)
 
 -- the first place of no spaces is free, and it has the space that stands alone
 pub first-free : {frames : ℕ} {s : Spaces} → s ≡ no_spaces frames → has_space s 0 ≡ false
@@ -334,37 +331,27 @@ frames-of is = ap (λ (x : Spaces). x.frames) is
 pub none-of : {frames : ℕ} {s : Spaces} → s ≡ no_spaces frames → s ≡ no_spaces s.frames
 none-of is = is ∙ ap no_spaces (sym (frames-of is))
 
-pub created : (frames : ℕ) (s t : Spaces) → s ≡ record { places = replicate 64 None; active = None; registers = replicate 32 0; pc = 0; frames = frames; pipes = replicate 100 None } → t ≡ with_view s 0 no_pages → t ≡ alone frames no_pages
-created frames s t is done = rw (done, is) refl
+pub created : {frames : ℕ} {s t : Spaces} → s ≡ no_spaces frames → t ≡ with_view s 0 no_pages → t ≡ alone frames no_pages
+created is done = done ∙ ap (λ (x : Spaces). with_view x 0 no_pages) is
 
-module _ (bytes : List ℕ) (frames : ℕ) (s t : Spaces) where
-  pub segment-made : (b : ℕ) → b ≡ program_pages bytes * 4096 → s ≡ alone frames no_pages → t ≡ with_view s 0 (grown (view_at s 0) b all_marks) → t ≡ alone frames (segment bytes)
-  segment-made b size is done = placed frames s t no_pages (segment bytes) (λ h. grown h b all_marks) is (segment-is bytes b size) done
+module _ (bytes : List ℕ) {frames : ℕ} {s : Spaces} where
+  pub segment-over : (b : ℕ) {none : Spaces} → b ≡ program_pages bytes * 4096 → none ≡ no_spaces frames → s ≡ with_view none 0 no_pages → s.frames < taken_frames (with_view s 0 (grown (view_at s 0) b all_marks)) → frames < 4 + page_frames (length (flat_memory bytes))
+  segment-over b size is done full =
+      over (λ h. grown h b all_marks) (created is done) (segment-is bytes b size) bytes (rw (length-flat bytes, length-replicate (program_pages bytes) (zero_page all_marks)) (omega arith)) full
 
-  pub segment-over : (b : ℕ) → b ≡ program_pages bytes * 4096 → s ≡ alone frames no_pages → s.frames < taken_frames (with_view s 0 (grown (view_at s 0) b all_marks)) → frames < 4 + page_frames (length (flat_memory bytes))
-  segment-over b size is full =
-      over bytes frames s no_pages (segment bytes) (λ h. grown h b all_marks) is (segment-is bytes b size)
-      (rw (length-flat bytes, length-replicate (program_pages bytes) (zero_page all_marks)) (omega arith)) full
+  pub segment-made : (b : ℕ) {none t : Spaces} → b ≡ program_pages bytes * 4096 → none ≡ no_spaces frames → s ≡ with_view none 0 no_pages → t ≡ with_view s 0 (grown (view_at s 0) b all_marks) → t ≡ alone frames (segment bytes)
+  segment-made b size is made done = placed (λ h. grown h b all_marks) (created is made) (segment-is bytes b size) done
 
-  pub filled-made : s ≡ alone frames (segment bytes) → t ≡ with_view s 0 (written (view_at s 0) 0 bytes) → t ≡ alone frames (filled_segment bytes)
-  filled-made is done = placed frames s t (segment bytes) (filled_segment bytes) (λ h. written h 0 bytes) is (filled-is bytes) done
+  pub filled-made : {t : Spaces} → s ≡ alone frames (segment bytes) → t ≡ with_view s 0 (written (view_at s 0) 0 bytes) → t ≡ alone frames (filled_segment bytes)
+  filled-made is done = placed (λ h. written h 0 bytes) is (filled-is bytes) done
 
-  pub guard-made : s ≡ alone frames (filled_segment bytes) → t ≡ with_view s 0 (grown (view_at s 0) 4096 (stack_marks false)) → t ≡ alone frames (guarded bytes)
-  guard-made is done = placed frames s t (filled_segment bytes) (guarded bytes) (λ h. grown h 4096 (stack_marks false)) is (guarded-is bytes) done
+  pub guard-made : {t : Spaces} → s ≡ alone frames (filled_segment bytes) → t ≡ with_view s 0 (grown (view_at s 0) 4096 (stack_marks false)) → t ≡ alone frames (guarded bytes)
+  guard-made is done = placed (λ h. grown h 4096 (stack_marks false)) is (guarded-is bytes) done
 
   pub guard-over : s ≡ alone frames (filled_segment bytes) → s.frames < taken_frames (with_view s 0 (grown (view_at s 0) 4096 (stack_marks false))) → frames < 4 + page_frames (length (flat_memory bytes))
   guard-over is full =
-      over bytes frames s (filled_segment bytes) (guarded bytes) (λ h. grown h 4096 (stack_marks false)) is (guarded-is bytes)
+      over (λ h. grown h 4096 (stack_marks false)) is (guarded-is bytes) bytes
       (rw (length-flat bytes, length-append (pages_of all_marks (program_pages bytes) bytes) (zero_page (stack_marks false) ∷ []), length-pages all_marks (program_pages bytes) bytes) (omega arith)) full
-
-  pub stack-made : s ≡ alone frames (guarded bytes) → t ≡ with_view s 0 (grown (view_at s 0) 4096 (stack_marks true)) → t ≡ alone frames (flat_space bytes)
-  stack-made is done = placed frames s t (guarded bytes) (flat_space bytes) (λ h. grown h 4096 (stack_marks true)) is (stacked-is bytes) done
-
-  pub stack-over : s ≡ alone frames (guarded bytes) → s.frames < taken_frames (with_view s 0 (grown (view_at s 0) 4096 (stack_marks true))) → frames < 4 + page_frames (length (flat_memory bytes))
-  stack-over is full = over bytes frames s (guarded bytes) (flat_space bytes) (λ h. grown h 4096 (stack_marks true)) is (stacked-is bytes) (omega arith) full
-
-  pub stack-fits : s ≡ alone frames (guarded bytes) → taken_frames (with_view s 0 (grown (view_at s 0) 4096 (stack_marks true))) ≤ s.frames → 4 + page_frames (length (flat_memory bytes)) ≤ frames
-  stack-fits is fits = within bytes frames s (guarded bytes) (flat_space bytes) (λ h. grown h 4096 (stack_marks true)) is (stacked-is bytes) fits
 
   -- the bytes are within the pages
   pub fill-inside : s ≡ alone frames (segment bytes) → (i : ℕ) → i < length bytes → (0 + i) / 4096 < length (view_at s 0).memory
@@ -374,19 +361,21 @@ module _ (bytes : List ℕ) (frames : ℕ) (s t : Spaces) where
 pub flat-loaded : (bytes : List ℕ) (old s t : Spaces) → s ≡ alone old.frames (guarded bytes) → (r : Bool)
     → OnTrue r ((taken_frames (with_view s 0 (grown (view_at s 0) 4096 (stack_marks true))) ≤ s.frames) × (t ≡ with_view s 0 (grown (view_at s 0) 4096 (stack_marks true))))
     → OnFalse r ((s.frames < taken_frames (with_view s 0 (grown (view_at s 0) 4096 (stack_marks true)))) × (t ≡ s)) → LoadsFlat bytes old t r
-flat-loaded bytes old s t is true done full = (stack-made bytes old.frames s t is done.1, stack-fits bytes old.frames s t is done.0)
-flat-loaded bytes old s t is false done full = stack-over bytes old.frames s t is full.0
+flat-loaded bytes old s t is true done full =
+    let fits = takes (λ h. grown h 4096 (stack_marks true)) is (stacked-is bytes) in
+    (placed (λ h. grown h 4096 (stack_marks true)) is (stacked-is bytes) done.1, omega (arith, done.0, fits, ap (λ (x : Spaces). x.frames) is))
+flat-loaded bytes old s t is false done full = over (λ h. grown h 4096 (stack_marks true)) is (stacked-is bytes) bytes (omega arith) full.0
+
+pub outside : (frames : ℕ) → 64 ≤ frames → frames ≤ 32768 → (frames < 64) ⊎ (32768 < frames) → ⊥
+outside frames least most (inl low) = omega (arith, low, least)
+outside frames least most (inr high) = omega (arith, high, most)
 
 -- where the count is in range the fault isn't that
 pub counted-flat : {M : Type 0} (frames : ℕ) → 64 ≤ frames → frames ≤ 32768 → (r : Result M BootFault) → OnErr r (IsErrOf r NoInit ⊎ IsErrOf r NoMemory) → IsErrOf r FrameCount ↔ ((frames < 64) ⊎ (32768 < frames))
-counted-flat {M} frames least most r only = (λ e. absurd (other e (subst (λ (x : Result M BootFault). OnErr x (IsErrOf r NoInit ⊎ IsErrOf r NoMemory)) e only)), λ out. absurd (outside out)) where
+counted-flat {M} frames least most r only = (λ e. absurd (other e (subst (λ (x : Result M BootFault). OnErr x (IsErrOf r NoInit ⊎ IsErrOf r NoMemory)) e only)), λ out. absurd (outside frames least most out)) where
   other : IsErrOf r FrameCount → (IsErrOf r NoInit ⊎ IsErrOf r NoMemory) → ⊥
   other e (inl i) = cc
   other e (inr i) = cc
-
-  outside : ((frames < 64) ⊎ (32768 < frames)) → ⊥
-  outside (inl low) = omega (arith, low, least)
-  outside (inr high) = omega (arith, high, most)
 
 pub only-flat : {M : Type 0} (r : Result M BootFault) → OnErr r (IsErrOf r NoInit ⊎ IsErrOf r NoMemory) → RefusesFlat r
 only-flat (Ok m) only = tt

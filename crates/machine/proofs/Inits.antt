@@ -3,7 +3,7 @@ use Rattle.machine.proofs.Common.{List, None, Ok, Option, Some, [], ap, arith, t
 use Rattle.machine.proofs.Common.{is_some, option_and_then, option_map, Init, FindsInit, IsInPlace, IsInit, LacksInit, alone, KeepsTree, PassesOne, plan_with, stacked, SpaceView, Spaces, has_space, no_pages}
 use Rattle.machine.proofs.Common.{no_spaces, taken_frames, with_view, with_place, FileTree, Serves, page_frames, Files, Node, find, slot, number_at, Loaded, Plan, loaded_of, plan, with_args, init_path, init_plan}
 use Rattle.calls.proofs.Homes.{some-there}
-use Rattle.machine.proofs.FlatLemmas.{alone-space, no-frames}
+use Rattle.machine.proofs.FlatLemmas.{alone-space, created, no-frames}
 use Rattle.names.proofs.Naming.{find-used}
 use Rattle.programs.proofs.Loads.{IsProgram, is-program}
 use Rattle.programs.proofs.Executions.{HasProgram, args-long, has-program, length-stacked, no-plan, plan-is}
@@ -34,9 +34,6 @@ pub plan-none : (files : Files) (n : ℕ) → find files 1 init_path ≡ Some n 
 plan-none files n found none = plan_found files n found ∙ no-program (file_bytes (slot files n)) none
 
 module _ (files : Files) (n : ℕ) (program : Program) (found : find files 1 init_path ≡ Some n) (has : HasProgram files n program) where
-  file : List ℕ
-  file = file_at files n
-
   abbrev is : IsProgram (file_at files n) program
   is = has.is
 
@@ -48,14 +45,6 @@ module _ (files : Files) (n : ℕ) (program : Program) (found : find files 1 ini
       planned
       ∙ passes init_path refl is.loaded.pages program.header.entry is.pages
       ∙ ap (λ (x : Loaded). option_map (plan_with x.pages program.header.entry) told) (same_Some is.loaded l (sym is.is ∙ loaded))
-
-  -- its arguments find no room
-  argless : PassesOne (init_path ++ 0 ∷ []) program.pages None → init_plan files ≡ None
-  argless passes = plan-passed None passes is.loaded is.is
-
-  -- they do
-  init-is : (frames : ℕ) (a : Arguments) → PassesOne (init_path ++ 0 ∷ []) program.pages (Some a) → 4 + page_frames (program.pages + 2) ≤ frames → IsInit files frames (record { number = n; program = program; arguments = a })
-  init-is frames a passes fits = record { file = has.file; program = has.program_is; fits = fits; plan = plan-passed (Some a) passes }
 
   -- the frames don't suffice for its pages
   too-long : (frames : ℕ) → frames < 4 + page_frames (program.pages + 2) → LacksInit files frames
@@ -120,10 +109,13 @@ module _ {old mid : FileTree} {number : Option ℕ} (serves : Serves old mid (Ok
         few-pages less small = omega (arith, count, less, small)
 
         pub argless-init : (told : Option Arguments) → PassesOne (init_path ++ 0 ∷ []) program.pages told → told ≡ None → Serves old new (Ok None) (λ told. Leaves old new told × FindsInit old.files frames told)
-        argless-init told passes none = serves-told None (left, lacks-plan old.files frames (argless old.files n program found has (subst (PassesOne (init_path ++ 0 ∷ []) program.pages) none passes))) reads.up device later
+        argless-init told passes none = serves-told None (left, lacks-plan old.files frames (plan-passed old.files n program found has None (subst (PassesOne (init_path ++ 0 ∷ []) program.pages) none passes) has.is.loaded has.is.is)) reads.up device later
 
         pub init-found : needed < frames → (a : Arguments) → PassesOne (init_path ++ 0 ∷ []) program.pages (Some a) → Serves old new (Ok (Some (record { number = n; program = program; arguments = a }))) (λ told. Leaves old new told × FindsInit old.files frames told)
-        init-found less a passes = serves-told (Some (record { number = n; program = program; arguments = a })) (left, init-is old.files n program found has frames a passes (omega (arith, less, count))) reads.up device later
+        init-found less a passes =
+            let is : IsInit old.files frames (record { number = n; program = program; arguments = a }) =
+            record { file = has.file; program = has.program_is; fits = omega (arith, less, count); plan = plan-passed old.files n program found has (Some a) passes } in
+            serves-told (Some (record { number = n; program = program; arguments = a })) (left, is) reads.up device later
 
 -- ---- putting it in its place
 
@@ -131,14 +123,8 @@ module _ (files : Files) (frames : ℕ) (init : Init) (is : IsInit files frames 
   program-of : IsProgram (file_at files init.number) init.program
   program-of = is-program (file_at files init.number) init.program is.program
 
-  loaded : Loaded
-  loaded = program-of.loaded
-
   abbrev the_plan : Plan
   the_plan = plan_with program-of.loaded.pages init.program.header.entry init.arguments
-
-  plan-of : init_plan files ≡ Some the_plan
-  plan-of = is.plan program-of.loaded program-of.is
 
   long : length (the_plan).memory ≡ init.program.pages + 2
   long = length-stacked program-of.loaded.pages init.arguments.page ∙ ap (λ n. n + 2) program-of.pages
@@ -154,7 +140,7 @@ module _ (files : Files) (frames : ℕ) (init : Init) (is : IsInit files frames 
       let size : 4096 * length (the_plan).memory ≡ (the_plan).size = omega (arith, long, pages) in
       record {
         plan = the_plan;
-        is = plan-of;
+        is = is.plan program-of.loaded program-of.is;
         fits = rw long fits;
         spaces = done program-of.loaded program-of.is ∙ ap (λ (s : Spaces). with_view s 0 (paged (the_plan).memory)) is-made ∙ ap (λ (k : ℕ). alone frames (let h : SpaceView = record { memory = (the_plan).memory; size = k } in h)) size;
         bare = refl;
@@ -165,10 +151,6 @@ module _ (files : Files) (frames : ℕ) (init : Init) (is : IsInit files frames 
 pub taken-none : (frames : ℕ) → taken_frames (no_spaces frames) ≡ 0
 taken-none frames = omega (arith, no-frames 64)
 
--- the place of a space without pages
-pub made-alone : (s t : Spaces) → s ≡ no_spaces s.frames → t ≡ with_view s 0 no_pages → t ≡ alone s.frames no_pages
-made-alone s t is done = done ∙ ap (λ (x : Spaces). with_view x 0 no_pages) is
-
 -- what its loading asks for
 pub record IsReady (tree : FileTree) (made : Spaces) (init : Init) : Type 0 where
   pub file : IsFile tree.files init.number
@@ -177,32 +159,32 @@ pub record IsReady (tree : FileTree) (made : Spaces) (init : Init) : Type 0 wher
   pub space : has_space made 0 ≡ true
   pub room : HasRoom made 0 (init.program.pages + 2)
 
-pub ready : {old mid : FileTree} {told : Option Init} {frames : ℕ} → Serves old mid (Ok told) (λ told. Leaves old mid told × FindsInit old.files frames told) → (init : Init) → told ≡ Some init → (s made : Spaces) → s ≡ no_spaces s.frames → made ≡ with_view s 0 no_pages
-    → frames + taken_frames s ≡ s.frames → s.frames ≤ 32768 → IsReady mid made init
-ready {old} {mid} {told} {frames} serves init some s made none done all small =
-    let taken : taken_frames s ≡ 0 = ap taken_frames none ∙ taken-none s.frames in
-    let finds : IsInit old.files frames init = subst (FindsInit old.files frames) some serves.told.1 in
-    let fits = finds.fits in
-    let same : mid.files ≡ old.files = ap (λ (t : FileTree). t.files) serves.told.0 in
-    let is : made ≡ alone s.frames no_pages = made-alone s made none done in
-    let none_there : taken_frames (with_place made 0 None) ≡ 0 = ap (λ (x : Spaces). taken_frames (with_place x 0 None)) is ∙ taken-none s.frames in
-    let count : made.frames ≡ s.frames = ap (λ (x : Spaces). x.frames) is in
-    record {
-      file = subst (λ (files : Files). IsFile files init.number) (sym same) finds.file;
-      program_is = ap (λ (files : Files). program_in (file_at files init.number)) same ∙ finds.program;
-      few = omega (arith, fits, all, small);
-      space = alone-space is;
-      room = omega (arith, none_there, count, fits, all, taken);
-    }
+module _ {old mid : FileTree} {told : Option Init} {frames : ℕ} (serves : Serves old mid (Ok told) (λ told. Leaves old mid told × FindsInit old.files frames told)) (init : Init) (some : told ≡ Some init)
+    (s made : Spaces) (none : s ≡ no_spaces s.frames) (done : made ≡ with_view s 0 no_pages) (all : frames + taken_frames s ≡ s.frames) where
+  every : frames ≡ s.frames
+  every = omega (arith, all, ap taken_frames none ∙ taken-none s.frames)
 
--- /init is in its place
-pub in-place : {old mid : FileTree} {told : Option Init} {frames : ℕ} → Serves old mid (Ok told) (λ told. Leaves old mid told × FindsInit old.files frames told) → (init : Init) → told ≡ Some init → (s made new : Spaces) → s ≡ no_spaces s.frames → made ≡ with_view s 0 no_pages
-    → frames + taken_frames s ≡ s.frames
-    → ((l : Loaded) → loaded_of (file_at mid.files init.number) ≡ Some l → new ≡ with_view made 0 (paged (stacked l.pages init.arguments.page))) → IsInPlace old.files s.frames new init
-in-place {old} {mid} {told} {frames} serves init some s made new none done all loads =
-    let taken : taken_frames s ≡ 0 = ap taken_frames none ∙ taken-none s.frames in
-    let every : frames ≡ s.frames = omega (arith, all, taken) in
-    let finds : IsInit old.files s.frames init = subst (λ n. IsInit old.files n init) every (subst (FindsInit old.files frames) some serves.told.1) in
-    let same : mid.files ≡ old.files = ap (λ (t : FileTree). t.files) serves.told.0 in
-    init-put old.files s.frames init finds made new (made-alone s made none done)
-    (λ l loaded. loads l (ap (λ (files : Files). loaded_of (file_at files init.number)) same ∙ loaded))
+  finds : IsInit old.files s.frames init
+  finds = subst (λ n. IsInit old.files n init) every (subst (FindsInit old.files frames) some serves.told.1)
+
+  same : mid.files ≡ old.files
+  same = ap (λ (t : FileTree). t.files) serves.told.0
+
+  alone-now : made ≡ alone s.frames no_pages
+  alone-now = created none done
+
+  pub ready : s.frames ≤ 32768 → IsReady mid made init
+  ready small =
+      let fits = finds.fits in
+      let none_there : taken_frames (with_place made 0 None) ≡ 0 = ap (λ (x : Spaces). taken_frames (with_place x 0 None)) alone-now ∙ taken-none s.frames in
+      record {
+        file = subst (λ (files : Files). IsFile files init.number) (sym same) finds.file;
+        program_is = ap (λ (files : Files). program_in (file_at files init.number)) same ∙ finds.program;
+        few = omega (arith, fits, small);
+        space = alone-space alone-now;
+        room = omega (arith, none_there, ap (λ (x : Spaces). x.frames) alone-now, fits);
+      }
+
+  -- /init is in its place
+  pub in-place : (new : Spaces) → ((l : Loaded) → loaded_of (file_at mid.files init.number) ≡ Some l → new ≡ with_view made 0 (paged (stacked l.pages init.arguments.page))) → IsInPlace old.files s.frames new init
+  in-place new loads = init-put old.files s.frames init finds made new alone-now (λ l loaded. loads l (ap (λ (files : Files). loaded_of (file_at files init.number)) same ∙ loaded))

@@ -1,6 +1,7 @@
 -- From the files of an image to the machine that boots from it.
 use Rattle.machine.proofs.Common.{Err, List, Ok, Result, ap, arith, inl, inr, le_trans, refl, subst, sym, ℕ, ◌<◌, ◌∙◌, ◌≤◌, ◌⊎◌, ◌↔◌, IfErr, IfOk, IsErrOf, BootFault, FrameCount}
 use Rattle.machine.proofs.Common.{Image, NoInit, NoMemory, IsAccepted, IsBegun, IsBooted, IsNotBegun, IsUnbooted, boot_fault, View, IsMounted, IsUnmounted, FileTree, start}
+use Rattle.machine.proofs.FlatLemmas.{outside}
 use Rattle.imagecheck.specs.declared.ImageFault.{ImageFault}
 use Rattle.imagecheck.specs.declared.ImageFault.TheVariants as fault
 use Rattle.machine.specs.declared.fault.BootFault.TheVariants.{Device}
@@ -41,10 +42,7 @@ module _ {D : Type 0} (identity : D → List ℕ) (count : D → ℕ) (disk : D)
 
 -- where the count is in range the fault isn't that
 pub counted-from : {D : Type 0} (identity : D → List ℕ) (count : D → ℕ) (tree : FileTree) (frames : ℕ) → 64 ≤ frames → frames ≤ 32768 → (r : Result View BootFault) → IfErr r (IsNotBegun identity count tree frames) → IsErrOf r FrameCount ↔ ((frames < 64) ⊎ (32768 < frames))
-counted-from identity count tree frames least most r why = (λ e. absurd (subst (λ x. IfErr x (IsNotBegun identity count tree frames)) e why), λ out. absurd (outside out)) where
-  outside : ((frames < 64) ⊎ (32768 < frames)) → ⊥
-  outside (inl low) = omega (arith, low, least)
-  outside (inr high) = omega (arith, high, most)
+counted-from identity count tree frames least most r why = (λ e. absurd (subst (λ x. IfErr x (IsNotBegun identity count tree frames)) e why), λ out. absurd (outside frames least most out))
 
 -- why there are no files
 pub unmounted-why : {D : Type 0} (identity : D → List ℕ) (count : D → ℕ) (disk : D) (image : List ℕ) (frames : ℕ) (f : ImageFault) → IsUnmounted identity count disk image f → IsUnbooted identity count disk image frames (boot_fault f)

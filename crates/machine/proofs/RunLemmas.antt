@@ -1,7 +1,8 @@
--- How a run goes on by one step.
-use Rattle.machine.proofs.Common.{◌≡◌, ℕ, ℤ, ◌+◌, ◌<◌, List, [], ◌∷◌, ◌++◌, take, drop, length, Option, Some, None, Err, refl, ap, sym, ◌∙◌, arith, append-nil, take-append-drop}
-use Rattle.machine.proofs.Common.{run-append, run-more, then_runs, Halt, Console, Halted, InitEnded, IsDone, RunGives, StepGives, IsUp, View, After, Event, next, after_bytes, run, State}
-pub use Rattle.calls.proofs.Prints.{Appends-none, Appends-trans, begins_more}
+-- How a run goes on by one step or by other events.
+use Rattle.machine.proofs.Common.{◌≡◌, ℕ, ℤ, ◌+◌, ◌<◌, List, [], ◌∷◌, ◌++◌, take, drop, length, Option, Some, None, Result, Ok, Err, refl, ap, sym, subst, ◌∙◌, arith, append-nil, length-append, take-append-drop, take-append-le}
+use Rattle.machine.proofs.Common.{run-append, run-more, Halt, Console, Halted, InitEnded, IsDone, RunGives, StepGives, IsUp, View, After, Event, next, after_bytes, then_runs, run, State}
+use Rattle.std.proofs.Math.Seq.{take-append-add}
+use Rattle.calls.proofs.Prints.{Appends-none, Appends-trans, begins_more}
 pub use Rattle.calls.proofs.Runs.{Rises-later, then_begins}
 use Rattle.calls.specs.declared.halt.Halt.TheVariants.{Device}
 
@@ -13,33 +14,143 @@ pub record SoFar (first now : View) (events : List Event) (before after : Option
 pub up_now : (first now : View) (events : List Event) (before after : Option (List ℕ)) → SoFar first now events before after → IsUp now
 up_now first now events before after h = record { sound = h.done.sound; goes = rw h.done.state h.done.halts }
 
+-- before the first event
+pub so_far_at_first : (first : View) (at : Option (List ℕ)) → IsUp first → SoFar first first [] at at
+unfolding run
+so_far_at_first first at up = record { began = up; done = record { state = refl; halts = up.goes; sound = up.sound; printed = Appends-none at; same_device = refl; later = omega arith } }
+
+-- ---- a run over two lists of events
+
+-- the model's run over both
+pub both : (first now : View) (xs ys : List Event) (before mid : Option (List ℕ)) → SoFar first now xs before mid → run first.state (xs ++ ys) ≡ after_bytes (run first.state xs).bytes (run now.state ys)
+unfolding run
+both first now xs ys before mid h =
+    let goes : then_runs ys (run first.state xs) (run first.state xs).state.halted ≡ after_bytes (run first.state xs).bytes (run (run first.state xs).state ys) = rw h.done.halts refl in
+    run-append xs ys first.state h.began.goes ∙ goes ∙ ap (λ s. after_bytes (run first.state xs).bytes (run s ys)) (sym h.done.state)
+
+-- what the first events print is a beginning of what all print
+pub begins_both : (xs ys : List Event) (s : State) → s.halted ≡ None → (rest : List ℕ) × ((run s xs).bytes ++ rest ≡ (run s (xs ++ ys)).bytes)
+begins_both xs ys s up = rw (run-append xs ys s up) (then_begins ys (run s xs) (run s xs).state.halted)
+
+module _ (first now new : View) (xs ys : List Event) (before mid after : Option (List ℕ)) where
+  done_both : (r : Option ℤ) → SoFar first now xs before mid → IsDone now new (run now.state ys) mid after r → IsDone first new (run first.state (xs ++ ys)) before after r
+  done_both r h k = rw (both first now xs ys before mid h) (record {
+    state = k.state;
+    halts = k.halts;
+    sound = k.sound;
+    printed = Appends-trans _ _ _ _ _ h.done.printed k.printed;
+    same_device = k.same_device ∙ h.done.same_device;
+    later = let l = h.done.later in let m = k.later in omega arith;
+  })
+
+  -- a run that goes on
+  pub goes_on_by : SoFar first now xs before mid → IsDone now new (run now.state ys) mid after None → SoFar first new (xs ++ ys) before after
+  goes_on_by h k = record { began = h.began; done = done_both None h k }
+
+  front-both : SoFar first now xs before mid → (n : ℕ) → run first.state (take (length xs + n) (xs ++ ys)) ≡ after_bytes (run first.state xs).bytes (run now.state (take n ys))
+  front-both h n = ap (run first.state) (take-append-add xs ys n) ∙ both first now xs (take n ys) before mid h
+
+  -- a run that stops
+  pub stops_in : (step_rises rises : Type 0) (halt : Halt) → SoFar first now xs before mid → (step_rises → rises)
+      → RunGives now new ys mid after step_rises (Err halt)
+      → RunGives first new (xs ++ ys) before after rises (Err halt)
+  stops_in step_rises rises (InitEnded status) h r k = (h.began, done_both (Some status) h k.1)
+  stops_in step_rises rises Device h r k = (
+    h.began,
+    record {
+      done = length xs + k.1.done;
+      more = rw (length-append xs ys) (let m = k.1.more in omega arith);
+      goes = rw (front-both h k.1.done) k.1.goes;
+      fails = rw (front-both h k.1.done) (record {
+        rises = Rises-later _ _ _ h.done.later k.1.fails.rises k.1.fails.later;
+        later = let l = h.done.later in let m = k.1.fails.later in omega arith;
+        failed = k.1.fails.failed;
+        printed = Appends-trans _ _ _ _ _ h.done.printed k.1.fails.printed;
+        same_device = k.1.fails.same_device ∙ h.done.same_device;
+      });
+    },
+  )
+  stops_in step_rises rises Console h r k = (
+    h.began,
+    record {
+      rises = r k.1.rises;
+      failed = k.1.failed;
+      printed = rw (both first now xs ys before mid h) (begins_more before mid after _ _ [] _ h.done.printed k.1.printed (append-nil _));
+      done = length xs + k.1.done;
+      more = rw (length-append xs ys) (let m = k.1.more in omega arith);
+      goes = rw (front-both h k.1.done) k.1.goes;
+      files = rw (front-both h k.1.done) k.1.files;
+      same_device = k.1.same_device ∙ h.done.same_device;
+      later = let l = h.done.later in let m = k.1.later in omega arith;
+    },
+  )
+  stops_in step_rises rises Halted h r k = absurd (k.stopped (up_now first now xs before mid h))
+
+-- a run that stopped is answered in the same way whatever events follow
+pub stops_before : (old new : View) (ys zs : List Event) (before after : Option (List ℕ)) (rises : Type 0) (halt : Halt)
+    → RunGives old new ys before after rises (Err halt) → RunGives old new (ys ++ zs) before after rises (Err halt)
+stops_before old new ys zs before after rises (InitEnded status) k =
+    let whole : run old.state (ys ++ zs) ≡ run old.state ys = run-append ys zs old.state k.0.goes ∙ rw k.1.halts refl in
+    (k.0, rw whole k.1)
+stops_before old new ys zs before after rises Device k =
+    let front : take k.1.done (ys ++ zs) ≡ take k.1.done ys = take-append-le k.1.done ys zs (let m = k.1.more in omega arith) in
+    (k.0, record { done = k.1.done; more = rw (length-append ys zs) (let m = k.1.more in omega arith); goes = rw front k.1.goes; fails = rw front k.1.fails })
+stops_before old new ys zs before after rises Console k =
+    let front : take k.1.done (ys ++ zs) ≡ take k.1.done ys = take-append-le k.1.done ys zs (let m = k.1.more in omega arith) in
+    let more = begins_both ys zs old.state k.0.goes in (
+      k.0,
+      record {
+        rises = k.1.rises;
+        failed = k.1.failed;
+        printed = begins_more before before after [] _ more.0 _ (Appends-none before) k.1.printed more.1;
+        done = k.1.done;
+        more = rw (length-append ys zs) (let m = k.1.more in omega arith);
+        goes = rw front k.1.goes;
+        files = rw front k.1.files;
+        same_device = k.1.same_device;
+        later = k.1.later;
+      },
+    )
+stops_before old new ys zs before after rises Halted k = k
+
+-- ---- one step, which is a run over one event
+
+run-one : (s : State) (e : Event) → s.halted ≡ None → run s (e ∷ []) ≡ next s e
+unfolding run
+run-one s e up = run-more [] e s up up
+
+step-runs : (old new : View) (e : Event) (before after : Option (List ℕ)) (rises : Type 0) (halt : Halt) → StepGives old new (next old.state e) before after rises (Err halt) → RunGives old new (e ∷ []) before after rises (Err halt)
+unfolding run
+step-runs old new e before after rises (InitEnded status) k = (k.0, rw (run-one old.state e k.0.goes) k.1)
+step-runs old new e before after rises Device k = (k.0, record { done = 0; more = omega arith; goes = k.0.goes; fails = k.1 })
+step-runs old new e before after rises Console k = (
+  k.0,
+  record {
+    rises = k.1.rises;
+    failed = k.1.failed;
+    printed = rw (run-one old.state e k.0.goes) k.1.printed;
+    done = 0;
+    more = omega arith;
+    goes = k.0.goes;
+    files = k.1.files;
+    same_device = k.1.same_device;
+    later = rw k.1.same (omega arith);
+  },
+)
+step-runs old new e before after rises Halted k = k
+
 -- a step that is done
 pub done_more : (first now new : View) (xs : List Event) (e : Event) (before mid after : Option (List ℕ)) (r : Option ℤ)
     → SoFar first now xs before mid → IsDone now new (next now.state e) mid after r
     → IsDone first new (run first.state (xs ++ e ∷ [])) before after r
-done_more first now new xs e before mid after r h k =
-    let more : run first.state (xs ++ e ∷ []) ≡ after_bytes (run first.state xs).bytes (next now.state e) =
-    run-more xs e first.state h.began.goes h.done.halts ∙ ap (λ s. after_bytes (run first.state xs).bytes (next s e)) (sym h.done.state) in
-    rw more (record {
-      state = k.state;
-      halts = k.halts;
-      sound = k.sound;
-      printed = Appends-trans _ _ _ _ _ h.done.printed k.printed;
-      same_device = k.same_device ∙ h.done.same_device;
-      later = let l = h.done.later in let m = k.later in omega arith;
-    })
+done_more first now new xs e before mid after r h k = done_both first now new xs (e ∷ []) before mid after r h (rw (run-one now.state e (up_now first now xs before mid h).goes) k)
 
--- the whole run is that of the first events and the rest
-whole : (s : State) (i : ℕ) (es : List Event) → s.halted ≡ None → run s es ≡ then_runs (drop i es) (run s (take i es)) (run s (take i es)).state.halted
-whole s i es up = ap (λ xs. run s xs) (sym (take-append-drop i es)) ∙ run-append (take i es) (drop i es) s up
-
--- what the first events halt with the whole run halts with
-pub run-halts : (s : State) (i : ℕ) (es : List Event) (status : ℤ) → s.halted ≡ None → (run s (take i es)).state.halted ≡ Some status → run s es ≡ run s (take i es)
-run-halts s i es status up is = whole s i es up ∙ rw is refl
-
--- what the first events print is a beginning
-pub run-begins : (s : State) (i : ℕ) (es : List Event) → s.halted ≡ None → (rest : List ℕ) × ((run s (take i es)).bytes ++ rest ≡ (run s es).bytes)
-run-begins s i es up = rw (whole s i es up) (then_begins (drop i es) (run s (take i es)) (run s (take i es)).state.halted)
+-- a step that goes on
+pub goes_on : (first now new : View) (i : ℕ) (es : List Event) (e : Event) (before mid after : Option (List ℕ))
+    → i < length es → take (i + 1) es ≡ take i es ++ e ∷ []
+    → SoFar first now (take i es) before mid → IsDone now new (next now.state e) mid after None
+    → SoFar first new (take (i + 1) es) before after
+goes_on first now new i es e before mid after more is h k = rw is (record { began = h.began; done = done_more first now new (take i es) e before mid after None h k })
 
 -- a step that stops a run
 pub stops : (first now new : View) (i : ℕ) (es : List Event) (e : Event) (before mid after : Option (List ℕ)) (step_rises rises : Type 0) (halt : Halt)
@@ -48,66 +159,8 @@ pub stops : (first now new : View) (i : ℕ) (es : List Event) (e : Event) (befo
     → (step_rises → rises)
     → StepGives now new (next now.state e) mid after step_rises (Err halt)
     → RunGives first new es before after rises (Err halt)
-stops first now new i es e before mid after step_rises rises (InitEnded status) more is h r k =
-    let d = done_more first now new (take i es) e before mid after (Some status) h k.1 in
-    let halts : (run first.state (take (i + 1) es)).state.halted ≡ Some status = rw is d.halts in
-    (h.began, rw (run-halts first.state (i + 1) es status h.began.goes halts, is) d)
-stops first now new i es e before mid after step_rises rises Device more is h r k = (
-  h.began,
-  record {
-    done = i;
-    more = more;
-    goes = h.done.halts;
-    fails = record {
-      rises = Rises-later _ _ _ h.done.later k.1.rises k.1.later;
-      later = let l = h.done.later in let m = k.1.later in omega arith;
-      failed = k.1.failed;
-      printed = rw (append-nil (run first.state (take i es)).bytes) at (Appends-trans _ _ _ _ _ h.done.printed k.1.printed);
-      same_device = k.1.same_device ∙ h.done.same_device;
-    };
-  },
-)
-stops first now new i es e before mid after step_rises rises Console more is h r k = (
-  h.began,
-  record {
-    rises = r k.1.rises;
-    failed = k.1.failed;
-    printed =
-        let more_bytes : (run first.state (take (i + 1) es)).bytes ≡ (run first.state (take i es)).bytes ++ (next now.state e).bytes =
-        ap (λ (o : After). o.bytes) (ap (λ xs. run first.state xs) is ∙ run-more (take i es) e first.state h.began.goes h.done.halts ∙ ap (λ s. after_bytes (run first.state (take i es)).bytes (next s e)) (sym h.done.state)) in
-        let all = run-begins first.state (i + 1) es h.began.goes in
-        begins_more before mid after _ _ all.0 _ h.done.printed k.1.printed (ap (λ bs. bs ++ all.0) (sym more_bytes) ∙ all.1);
-    done = i;
-    more = more;
-    goes = h.done.halts;
-    files = k.1.files ∙ ap (λ (s : State). s.files) h.done.state;
-    same_device = k.1.same_device ∙ h.done.same_device;
-    later = let l = h.done.later in rw k.1.same l;
-  },
-)
-stops first now new i es e before mid after step_rises rises Halted more is h r k = absurd (k.stopped (up_now first now (take i es) before mid h))
-
--- before the first event
-pub so_far_at_first : (first : View) (at : Option (List ℕ)) → IsUp first → SoFar first first [] at at
-unfolding run
-so_far_at_first first at up = record {
-  began = up;
-  done = record {
-    state = refl;
-    halts = up.goes;
-    sound = up.sound;
-    printed = Appends-none at;
-    same_device = refl;
-    later = omega arith;
-  };
-}
-
--- a step that goes on
-pub goes_on : (first now new : View) (i : ℕ) (es : List Event) (e : Event) (before mid after : Option (List ℕ))
-    → i < length es → take (i + 1) es ≡ take i es ++ e ∷ []
-    → SoFar first now (take i es) before mid → IsDone now new (next now.state e) mid after None
-    → SoFar first new (take (i + 1) es) before after
-goes_on first now new i es e before mid after more is h k = rw is (record {
-  began = h.began;
-  done = done_more first now new (take i es) e before mid after None h k;
-})
+stops first now new i es e before mid after step_rises rises halt more is h r k =
+    let whole : (take i es ++ e ∷ []) ++ drop (i + 1) es ≡ es = ap (λ xs. xs ++ drop (i + 1) es) (sym is) ∙ take-append-drop (i + 1) es in
+    subst (λ xs. RunGives first new xs before after rises (Err halt)) whole
+    (stops_before first new (take i es ++ e ∷ []) (drop (i + 1) es) before after rises halt
+    (stops_in first now new (take i es) (e ∷ []) before mid after step_rises rises halt h r (step-runs now new e mid after step_rises halt k)))

@@ -125,11 +125,8 @@ steps-give old new failed count before after rising (Err Halted) goes flag made 
 
 -- no step is answered that the machine had stopped
 goes-unhalted : (old new : Kernel) (count : ℕ) (before after : Option (List ℕ)) (rising : Type 0) (result : Result (Unit {0}) Halt) → PieceGoes old new count before after rising result → result ≡ Err Halted → ⊥
-goes-unhalted old new count before after rising (Ok u) goes is = cc
-goes-unhalted old new count before after rising (Err (InitEnded status)) goes is = cc
-goes-unhalted old new count before after rising (Err Console) goes is = cc
-goes-unhalted old new count before after rising (Err Device) goes is = cc
 goes-unhalted old new count before after rising (Err Halted) goes is = goes.last
+goes-unhalted old new count before after rising r goes is = cc
 
 -- what was done in one go
 pub advance-gives : (old new : Kernel) (failed : Bool) (most count : ℕ) (before after : Option (List ℕ)) (rising : Type 0) (result : Result (Unit {0}) Halt)
