@@ -1,9 +1,9 @@
 -- The kernel and the state that begin with the plan of /init.
-use Rattle.machine.proofs.Common.{one_in, names-none, Counted, count_at, count_in, opens_of, file_of, slot-opens, IsCounted, names_in, FitsNode, IsFolder, IsInUse, files_on, home_in, homes_at, node_in, node_of, node_on, Kernel}
-use Rattle.machine.proofs.Common.{begun, state_of, IsKernel, IsLive, IsOpenFile, IsOpened, IsPlaced, Init, IsBegun, IsInPlace, IsUnheld, LacksInit, PutsInit, bare_of, first_of, first_places, view_by, init_kernel, alone}
-use Rattle.machine.proofs.Common.{View, sound_view, KeepsTree, Process, all_in, Places, seated, joined-free_slots, joined, SpaceView, Spaces, List, None, Option, Some, ap, arith, false, is_some, length, nat_le}
-use Rattle.machine.proofs.Common.{refl, replicate, subst, suc, sym, true, zero, ℕ, ◌%◌, ◌+◌, ◌<◌, ◌∙◌, ◌∷◌, ◌≡◌, ◌≢◌, ◌≤◌, le-leb, lt-leb, nat_tests, length-replicate, sum_by-replicate, sum_by-cons, none-some, IfSome, option_map}
-use Rattle.machine.proofs.Common.{slice_index, ◌==◌, holders, with_hold, FileTree, frames_of, page_frames, Files, free_slots, slot, zeros, Plan, first_process, first_state, if_fits, init_plan, start, State, open_limit}
+use Rattle.machine.proofs.Common.{one_in, names-none, Counted, count_at, count_in, opens_of, file_of, slot-opens, IsCounted, names_in, FitsNode, IsFolder, IsInUse, files_on, home_in, homes_at, node_in, node_of, node_on}
+use Rattle.machine.proofs.Common.{Kernel, begun, state_of, IsKernel, IsOpenFile, IsOpened, IsPlaced, Init, IsBegun, IsInPlace, IsUnheld, LacksInit, PutsInit, bare_of, first_of, first_places, view_by, init_kernel}
+use Rattle.machine.proofs.Common.{alone, View, sound_view, KeepsTree, Process, all_in, Places, seated, joined-free_slots, joined, SpaceView, Spaces, List, None, Option, Some, ap, arith, false, is_some, length, refl}
+use Rattle.machine.proofs.Common.{replicate, subst, suc, sym, zero, ℕ, ◌%◌, ◌+◌, ◌<◌, ◌∙◌, ◌∷◌, ◌≡◌, ◌≢◌, ◌≤◌, nat_tests, length-replicate, sum_by-replicate, sum_by-cons, none-some, IfSome, option_map}
+use Rattle.machine.proofs.Common.{◌==◌, holders, with_hold, FileTree, page_frames, Files, free_slots, slot, zeros, Plan, first_process, first_state, if_fits, init_plan, start, State, open_limit}
 use Rattle.machine.proofs.FlatLemmas.{fresh-fits, fresh-over, none-free, one-all, one-home, one-rests, one-stands, one-waits, same-past, taken-alone}
 use Rattle.tree.specs.Whole.{IsWhole}
 use Rattle.unixmodel.specs.OpenFiles as unix_files

@@ -1,6 +1,6 @@
 -- The names that the lemmas of this crate import from elsewhere, passed on from one place. Declares nothing.
 pub use Rattle.std.proofs.Common.{◌%◌, ◌*◌, ◌+◌, ◌++◌, ◌-◌, ◌/◌, ◌<◌, [], ◌^◌, ap, append-nil, append_assoc, ap₂, arith, Bool, drop, Err, false, get_or, inl, inr, is_some, le_refl, le_trans, length}
-pub use Rattle.std.proofs.Common.{length-append, List, map, min, nat_le, None, Ok, Option, refl, replicate, Result, Some, subst, suc, sym, take, true, zero, ℕ, ℤ, ◌↔◌, ◌∙◌, ◌∷◌, ◌≡◌, ◌≢◌, ◌≤◌, ◌⊎◌}
+pub use Rattle.std.proofs.Common.{length-append, List, min, nat_le, None, Ok, Option, refl, replicate, Result, Some, subst, suc, sym, take, true, zero, ℕ, ℤ, ◌↔◌, ◌∙◌, ◌∷◌, ◌≡◌, ◌≢◌, ◌≤◌, ◌⊎◌}
 pub use Rattle.std.proofs.lemmas.Bool.{le-leb, lt-leb}
 pub use Rattle.std.proofs.lemmas.Bool.Decides.{nat_tests}
 pub use Rattle.std.proofs.lemmas.List.{length-drop, length-replicate, length-take, take-append-drop, take-append-le, take-replicate, take_min, take_more}
@@ -10,28 +10,26 @@ pub use Rattle.std.proofs.lemmas.Option.{none-some, same_Some}
 pub use Rattle.std.proofs.lemmas.Result.{err_from_is_err_and}
 pub use Rattle.std.specs.Prelude.{◌==◌, IfErr, IfOk, IfSome, IsErrOf, IsSome, nat_lt, OnErr, OnOk, option_and_then, option_map, slice_index, sum_by, ◌||◌}
 pub use Rattle.std.specs.Result.{is_err}
-pub use Rattle.calls.proofs.Runs.{run-append, run-more, then_runs}
-pub use Rattle.calls.proofs.Served.{where-err}
+pub use Rattle.calls.proofs.Prints.{Appends-none, Appends-trans, begins_more}
 pub use Rattle.calls.specs.declared.halt.Halt.{Halt}
 pub use Rattle.calls.specs.declared.halt.Halt.TheVariants.{Console, Halted, InitEnded}
-unfoldable pub use Rattle.digests.specs.Digest.{digest_but_files, digest_of, files_mixed}
 pub use Rattle.files.proofs.CountsLemmas.{names-free, names-none}
 pub use Rattle.files.proofs.Whole.{slot-opens}
 pub use Rattle.files.specs.Counts.{names, one_in}
 pub use Rattle.files.specs.Meant.{file_of}
 pub use Rattle.files.specs.Places.{count_at, count_in, Counted, opened, opens_of, place_for}
 pub use Rattle.imagerules.specs.Content.{image_of}
+pub use Rattle.kernel.proofs.Joined.{joined-free_slots, seat_of-first}
 pub use Rattle.kernel.proofs.Watching.{watched-all}
 pub use Rattle.kernel.specs.Descriptors.{IsCounted, named_by, names_in}
 pub use Rattle.kernel.specs.Holding.{files_on, FitsNode, home_in, homes_at, IsFolder, IsInUse, node_in, node_of, node_on}
 pub use Rattle.kernel.specs.Kernel.{begun, Kernel, state_of}
 pub use Rattle.kernel.specs.Sound.{IsKernel, IsLive, IsOpened, IsOpenFile, IsPlace, IsPlaced, WaitsWell}
+unfoldable pub use Rattle.kernel.specs.Whole.{joined}
 pub use Rattle.mount.specs.Mounted.{AreLinked, IsFlat, IsMounted, IsUnmounted}
 pub use Rattle.names.specs.Rules.{KeepsTree}
-pub use Rattle.kernel.proofs.Joined.{joined-free_slots, seat_of-first}
 unfoldable pub use Rattle.proc.specs.Mask.{all_in}
 pub use Rattle.proc.specs.Places.{is_running, Places, seat_of, seated}
-unfoldable pub use Rattle.kernel.specs.Whole.{joined}
 pub use Rattle.proc.specs.declared.process.Process.{Process}
 pub use Rattle.programs.specs.Passed.{PassesOne, plan_with, stacked}
 pub use Rattle.spaces.specs.Spaces.{frames_in, grown, has_space, no_pages, no_spaces, Spaces, SpaceView, taken_frames, view_at, with_place, with_view, written}
@@ -51,8 +49,6 @@ unfoldable pub use Rattle.unixmodel.specs.Next.{next}
 pub use Rattle.unixmodel.specs.Numbers.{ceil_div, le, number_at, round_down}
 pub use Rattle.unixmodel.specs.Plan.{Loaded, loaded_of, Plan, stack_marks}
 unfoldable pub use Rattle.unixmodel.specs.Plan.{plan, plan_flat, push, push_pointers, push_strings, with_args, with_stack}
-pub use Rattle.unixmodel.specs.Run.{after_bytes}
-unfoldable pub use Rattle.unixmodel.specs.Run.{run}
 pub use Rattle.unixmodel.specs.Shown.{left, stat_of}
 pub use Rattle.unixmodel.specs.Start.{first_process, first_state, if_fits, init_path}
 unfoldable pub use Rattle.unixmodel.specs.Start.{flat_descriptors, flat_files, flat_opens, init_plan, start, start_flat}

@@ -1,12 +1,12 @@
 -- A flat program in memory, and the state and the kernel that begin with it.
-use Rattle.machine.proofs.Common.{none-some, same_Some, holders, with_hold, file_of, FitsNode, IsFolder, IsInUse, files_on, home_in, homes_at, node_in, node_of, node_on, IsCounted, named_by, names_in, state_of}
-use Rattle.machine.proofs.Common.{IsKernel, IsLive, IsOpenFile, IsOpened, IsPlace, IsPlaced, WaitsWell, names, one_in, names-free, Counted, count_at, count_in, opened, opens_of, place_for, slot-opens, stacked, BootFault}
-use Rattle.machine.proofs.Common.{FrameCount, NoInit, NoMemory, LoadsFlat, alone, bare_plan, console_file, first, first_files, first_kernel, first_table, first_tree, flat_memory, flat_space, RefusesFlat, IsFlat, Process}
-use Rattle.machine.proofs.Common.{all_in, is_running, seated, joined-free_slots, joined, SpaceView, Spaces, frames_in, grown, has_space, view_at, no_pages, no_spaces, taken_frames, with_view, written, Bool, Err, List}
-use Rattle.machine.proofs.Common.{None, Ok, Option, Result, Some, [], ap, append_assoc, ap₂, arith, false, get_or, inl, inr, is_some, length, length-append, nat_le, refl, replicate, subst, suc, sym, true, zero, ℕ}
-use Rattle.machine.proofs.Common.{◌*◌, ◌++◌, ◌+◌, ◌-◌, ◌/◌, ◌<◌, ◌∙◌, ◌∷◌, ◌≡◌, ◌≢◌, ◌≤◌, ◌⊎◌, ◌↔◌, le-leb, lt-leb, nat_tests, length-replicate, sum_by-replicate, sum_by-cons, IfOk, IfSome, IsErrOf, OnErr, option_map}
-use Rattle.machine.proofs.Common.{slice_index, sum_by, ◌==◌, FileTree, blocks_of, frames_of, page_frames, Files, free_slots, slot, Perm, Memory, overwrite, pages_of, write_bytes, zero_page, zeros, ceil_div, le, round_down}
-use Rattle.machine.proofs.Common.{Plan, plan_flat, push, push_pointers, push_strings, stack_marks, with_args, with_stack, first_process, first_state, flat_descriptors, flat_files, flat_opens, if_fits, start_flat, State, holds}
+use Rattle.machine.proofs.Common.{none-some, same_Some, holders, with_hold, file_of, FitsNode, IsFolder, IsInUse, files_on, home_in, homes_at, node_in, node_of, node_on, IsCounted, named_by, names_in, state_of, IsKernel}
+use Rattle.machine.proofs.Common.{IsOpenFile, IsOpened, IsPlace, IsPlaced, WaitsWell, names, one_in, names-free, Counted, count_at, count_in, opened, opens_of, place_for, slot-opens, stacked, BootFault, FrameCount}
+use Rattle.machine.proofs.Common.{NoInit, NoMemory, LoadsFlat, alone, bare_plan, console_file, first, first_files, first_kernel, first_table, first_tree, flat_memory, flat_space, RefusesFlat, IsFlat, Process, all_in}
+use Rattle.machine.proofs.Common.{is_running, seated, joined-free_slots, joined, SpaceView, Spaces, frames_in, grown, has_space, view_at, no_pages, no_spaces, taken_frames, with_view, written, Bool, Err, List, None, Ok}
+use Rattle.machine.proofs.Common.{Option, Result, Some, [], ap, append_assoc, ap₂, arith, false, get_or, inl, inr, is_some, length, length-append, nat_le, refl, replicate, subst, suc, sym, true, zero, ℕ, ◌*◌, ◌++◌, ◌+◌}
+use Rattle.machine.proofs.Common.{◌-◌, ◌/◌, ◌<◌, ◌∙◌, ◌∷◌, ◌≡◌, ◌≢◌, ◌≤◌, ◌⊎◌, ◌↔◌, le-leb, lt-leb, nat_tests, length-replicate, sum_by-replicate, sum_by-cons, IfOk, IfSome, IsErrOf, OnErr, option_map, sum_by}
+use Rattle.machine.proofs.Common.{◌==◌, FileTree, blocks_of, frames_of, page_frames, Files, free_slots, slot, Perm, Memory, overwrite, pages_of, write_bytes, zero_page, zeros, ceil_div, le, round_down, Plan, plan_flat}
+use Rattle.machine.proofs.Common.{push, push_pointers, push_strings, stack_marks, with_args, with_stack, first_process, first_state, flat_descriptors, flat_files, flat_opens, if_fits, start_flat, State, holds}
 use Rattle.files.specs.declared.file.OpenFile.{OpenFile}
 use Rattle.files.specs.declared.table.FileFault.{FileFault}
 use Rattle.programs.proofs.Headings.{length-pages}
@@ -79,10 +79,8 @@ begun frames h = first_state flat_files 27 frames flat_opens (first_process (bar
 state-first : (tree : FileTree) → IsFlat tree → (frames : ℕ) (h : SpaceView) → state_of (first_kernel tree frames h) ≡ begun frames h
 unfolding joined flat_opens free_slots
 state-first tree flat frames h =
-    ap (λ (files : Files). record (state_of (first_kernel tree frames h)) { files = files }) flat.files
-    ∙ ap (λ (limit : ℕ). record (state_of (first_kernel tree frames h)) { files = flat_files; block_limit = limit }) flat.limit
-    ∙ ap (λ (places : List (Option unix.Process)). record (begun frames h) { places = Some (first_process (bare_plan h.memory h.size) flat_descriptors) ∷ places })
-    (joined-free_slots 63 (replicate 63 None))
+    rw (flat.files, flat.limit)
+    (ap (λ (places : List (Option unix.Process)). record (begun frames h) { places = Some (first_process (bare_plan h.memory h.size) flat_descriptors) ∷ places }) (joined-free_slots 63 (replicate 63 None)))
 
 -- a first state takes the frames of its space
 module _ (files : Files) (limit frames : ℕ) (opens : List (Option unix_files.OpenFile)) (new : Plan) (descriptors : List (Option ℕ)) where
@@ -287,8 +285,7 @@ segment-is : (bytes : List ℕ) (b : ℕ) → b ≡ program_pages bytes * 4096 �
 segment-is bytes b is =
     let n : ceil_div (0 + b) 4096 - ceil_div 0 4096 ≡ program_pages bytes = omega (arith, is) in
     let size : 0 + b ≡ program_pages bytes * 4096 = omega (arith, is) in
-    ap (λ (k : ℕ). let h : SpaceView = record { memory = replicate k (zero_page all_marks); size = 0 + b } in h) n
-    ∙ ap (λ (k : ℕ). let h : SpaceView = record { memory = replicate (program_pages bytes) (zero_page all_marks); size = k } in h) size
+    rw (n, size) refl
 
 filled-is : (bytes : List ℕ) → written (segment bytes) 0 bytes ≡ filled_segment bytes
 filled-is bytes = ap (λ (memory : Memory). let h : SpaceView = record { memory = memory; size = program_pages bytes * 4096 } in h) (filled all_marks (program_pages bytes) bytes)

@@ -1,6 +1,6 @@
 -- What /init has process 1 execute, and how it comes into the first place.
-use Rattle.machine.proofs.Common.{List, None, Ok, Option, Some, [], ap, arith, true, le_trans, length, refl, subst, sym, ℕ, ◌%◌, ◌*◌, ◌++◌, ◌+◌, ◌/◌, ◌<◌, ◌^◌, ◌∙◌, ◌∷◌, ◌≡◌, ◌≤◌, none-some, same_Some, IfSome, IsSome}
-use Rattle.machine.proofs.Common.{is_some, option_and_then, option_map, Init, FindsInit, IsInPlace, IsInit, LacksInit, alone, KeepsTree, PassesOne, plan_with, stacked, SpaceView, Spaces, has_space, no_pages}
+use Rattle.machine.proofs.Common.{List, None, Ok, Option, Some, [], ap, arith, true, le_trans, length, refl, subst, sym, ℕ, ◌%◌, ◌*◌, ◌++◌, ◌+◌, ◌/◌, ◌<◌, ◌^◌, ◌∙◌, ◌∷◌, ◌≡◌, ◌≤◌, none-some, same_Some, IfSome}
+use Rattle.machine.proofs.Common.{IsSome, is_some, option_and_then, option_map, Init, FindsInit, IsInPlace, IsInit, LacksInit, alone, KeepsTree, PassesOne, plan_with, stacked, SpaceView, Spaces, has_space, no_pages}
 use Rattle.machine.proofs.Common.{no_spaces, taken_frames, with_view, with_place, FileTree, Serves, page_frames, Files, Node, find, slot, number_at, Loaded, Plan, loaded_of, plan, with_args, init_path, init_plan}
 use Rattle.calls.proofs.Homes.{some-there}
 use Rattle.machine.proofs.FlatLemmas.{alone-space, created, no-frames}
@@ -78,20 +78,17 @@ module _ {old mid : FileTree} {number : Option ℕ} (serves : Serves old mid (Ok
   resolved-node keeps = some-there (slot mid.files n) (subst (λ (files : Files). IsSome (slot files n)) (sym files-same) (find-used keeps 1 init_path n (ap is_some keeps.root.here) found))
 
   module _ {new : FileTree} {told : Option Program} (reads : Serves mid new (Ok told) (Programs mid new n)) where
-    device : new.identity ≡ old.identity
-    device = reads.same_device ∙ serves.same_device
-
-    later : old.failures ≤ new.failures
-    later = le_trans serves.cause.later reads.cause.later
-
     pub left : new ≡ record old { failures = new.failures }
     left = reads.told.0.same ∙ ap (λ (t : FileTree). record t { failures = new.failures }) serves.told.0
+
+    tells : (frames : ℕ) (told : Option Init) → FindsInit old.files frames told → Serves old new (Ok told) (λ told. Leaves old new told × FindsInit old.files frames told)
+    tells frames told finds = serves-told told (left, finds) reads.up (reads.same_device ∙ serves.same_device) (le_trans serves.cause.later reads.cause.later)
 
     told-is : told ≡ option_and_then program_in (file_bytes (slot old.files n))
     told-is = reads.told.0.value ∙ ap (λ (files : Files). option_and_then program_in (file_bytes (slot files n))) files-same
 
     pub no-init : (frames : ℕ) → told ≡ None → Serves old new (Ok None) (λ told. Leaves old new told × FindsInit old.files frames told)
-    no-init frames none = serves-told None (left, lacks-plan old.files frames (plan-none old.files n found (sym told-is ∙ none))) reads.up device later
+    no-init frames none = tells frames None (lacks-plan old.files frames (plan-none old.files n found (sym told-is ∙ none)))
 
     module _ (program : Program) (is : told ≡ Some program) where
       has : HasProgram old.files n program
@@ -103,19 +100,18 @@ module _ {old mid : FileTree} {number : Option ℕ} (serves : Serves old mid (Ok
       -- so many pages come to that many frames
       module _ (needed frames : ℕ) (count : needed ≡ 3 + page_frames (program.pages + 2)) where
         pub large-init : frames ≤ needed → Serves old new (Ok None) (λ told. Leaves old new told × FindsInit old.files frames told)
-        large-init over = serves-told None (left, too-long old.files n program found has frames (omega (arith, over, count))) reads.up device later
+        large-init over = tells frames None (too-long old.files n program found has frames (omega (arith, over, count)))
 
         pub few-pages : needed < frames → frames < 2 ^ 32 → 4096 * (program.pages + 2) < 2 ^ 64
         few-pages less small = omega (arith, count, less, small)
 
         pub argless-init : (told : Option Arguments) → PassesOne (init_path ++ 0 ∷ []) program.pages told → told ≡ None → Serves old new (Ok None) (λ told. Leaves old new told × FindsInit old.files frames told)
-        argless-init told passes none = serves-told None (left, lacks-plan old.files frames (plan-passed old.files n program found has None (subst (PassesOne (init_path ++ 0 ∷ []) program.pages) none passes) has.is.loaded has.is.is)) reads.up device later
+        argless-init told passes none = tells frames None (lacks-plan old.files frames (plan-passed old.files n program found has None (subst (PassesOne (init_path ++ 0 ∷ []) program.pages) none passes) has.is.loaded has.is.is))
 
         pub init-found : needed < frames → (a : Arguments) → PassesOne (init_path ++ 0 ∷ []) program.pages (Some a) → Serves old new (Ok (Some (record { number = n; program = program; arguments = a }))) (λ told. Leaves old new told × FindsInit old.files frames told)
         init-found less a passes =
-            let is : IsInit old.files frames (record { number = n; program = program; arguments = a }) =
-            record { file = has.file; program = has.program_is; fits = omega (arith, less, count); plan = plan-passed old.files n program found has (Some a) passes } in
-            serves-told (Some (record { number = n; program = program; arguments = a })) (left, is) reads.up device later
+            tells frames (Some (record { number = n; program = program; arguments = a }))
+            (record { file = has.file; program = has.program_is; fits = omega (arith, less, count); plan = plan-passed old.files n program found has (Some a) passes })
 
 -- ---- putting it in its place
 

@@ -1,6 +1,6 @@
 -- What is told of the files of the disk is what the abstract Unix shows.
-use Rattle.machine.proofs.Common.{Err, None, Option, Result, Some, ap, length, min, refl, subst, sym, true, ℕ, ◌%◌, ◌++◌, ◌-◌, ◌∙◌, ◌≡◌, length-drop}
-use Rattle.machine.proofs.Common.{length-take, take_min, List, drop, option_map, take, digest_but_files, digest_of, files_mixed, Kernel, state_of, Node, stat_of}
+use Rattle.machine.proofs.Common.{None, Option, Some, ap, length, min, refl, sym, ℕ, ◌++◌, ◌-◌, ◌∙◌, ◌≡◌, length-drop, length-take, take_min, List, drop, option_map, take, Kernel, state_of, Node, stat_of}
+use Rattle.digests.specs.Digest.{digest_but_files, digest_of, files_mixed}
 use Rattle.blockdev.specs.Splice.{part}
 use Rattle.inode.specs.declared.InodeStat.{InodeStat}
 use Rattle.machine.specs.Looks.{IsRead, stat_from, stat_seen}

@@ -1,5 +1,5 @@
 -- From the files of an image to the machine that boots from it.
-use Rattle.machine.proofs.Common.{Err, List, Ok, Result, ap, arith, inl, inr, le_trans, refl, subst, sym, ℕ, ◌<◌, ◌∙◌, ◌≤◌, ◌⊎◌, ◌↔◌, IfErr, IfOk, IsErrOf, BootFault, FrameCount}
+use Rattle.machine.proofs.Common.{Err, List, Ok, Result, ap, arith, le_trans, refl, subst, sym, ℕ, ◌<◌, ◌∙◌, ◌≤◌, ◌⊎◌, ◌↔◌, IfErr, IfOk, IsErrOf, BootFault, FrameCount}
 use Rattle.machine.proofs.Common.{Image, NoInit, NoMemory, IsAccepted, IsBegun, IsBooted, IsNotBegun, IsUnbooted, boot_fault, View, IsMounted, IsUnmounted, FileTree, start}
 use Rattle.machine.proofs.FlatLemmas.{outside}
 use Rattle.imagecheck.specs.declared.ImageFault.{ImageFault}

@@ -1,8 +1,9 @@
 -- How a run goes on by one step or by other events.
-use Rattle.machine.proofs.Common.{◌≡◌, ℕ, ℤ, ◌+◌, ◌<◌, List, [], ◌∷◌, ◌++◌, take, drop, length, Option, Some, None, Result, Ok, Err, refl, ap, sym, subst, ◌∙◌, arith, append-nil, length-append, take-append-drop, take-append-le}
-use Rattle.machine.proofs.Common.{run-append, run-more, Halt, Console, Halted, InitEnded, IsDone, RunGives, StepGives, IsUp, View, After, Event, next, after_bytes, then_runs, run, State}
+use Rattle.machine.proofs.Common.{◌≡◌, ℕ, ℤ, ◌+◌, ◌<◌, List, [], ◌∷◌, ◌++◌, take, drop, length, Option, Some, None, Result, Ok, Err, refl, ap, sym, subst, ◌∙◌, arith, append-nil, length-append, take-append-drop}
+use Rattle.machine.proofs.Common.{take-append-le, Halt, Console, Halted, InitEnded, IsDone, RunGives, StepGives, IsUp, View, Event, next, State, Appends-none, Appends-trans, begins_more}
+use Rattle.calls.proofs.Runs.{run-append, run-more, then_runs}
+use Rattle.unixmodel.specs.Run.{after_bytes, run}
 use Rattle.std.proofs.Math.Seq.{take-append-add}
-use Rattle.calls.proofs.Prints.{Appends-none, Appends-trans, begins_more}
 pub use Rattle.calls.proofs.Runs.{Rises-later, then_begins}
 use Rattle.calls.specs.declared.halt.Halt.TheVariants.{Device}
 
@@ -119,11 +120,12 @@ run-one : (s : State) (e : Event) → s.halted ≡ None → run s (e ∷ []) ≡
 unfolding run
 run-one s e up = run-more [] e s up up
 
-step-runs : (old new : View) (e : Event) (before after : Option (List ℕ)) (rises : Type 0) (halt : Halt) → StepGives old new (next old.state e) before after rises (Err halt) → RunGives old new (e ∷ []) before after rises (Err halt)
+pub step-runs : (old new : View) (e : Event) (before after : Option (List ℕ)) (rises : Type 0) (r : Result (Unit {0}) Halt) → StepGives old new (next old.state e) before after rises r → RunGives old new (e ∷ []) before after rises r
 unfolding run
-step-runs old new e before after rises (InitEnded status) k = (k.0, rw (run-one old.state e k.0.goes) k.1)
-step-runs old new e before after rises Device k = (k.0, record { done = 0; more = omega arith; goes = k.0.goes; fails = k.1 })
-step-runs old new e before after rises Console k = (
+step-runs old new e before after rises (Ok u) k = (k.0, rw (run-one old.state e k.0.goes) k.1)
+step-runs old new e before after rises (Err (InitEnded status)) k = (k.0, rw (run-one old.state e k.0.goes) k.1)
+step-runs old new e before after rises (Err Device) k = (k.0, record { done = 0; more = omega arith; goes = k.0.goes; fails = k.1 })
+step-runs old new e before after rises (Err Console) k = (
   k.0,
   record {
     rises = k.1.rises;
@@ -137,7 +139,7 @@ step-runs old new e before after rises Console k = (
     later = rw k.1.same (omega arith);
   },
 )
-step-runs old new e before after rises Halted k = k
+step-runs old new e before after rises (Err Halted) k = k
 
 -- a step that is done
 pub done_more : (first now new : View) (xs : List Event) (e : Event) (before mid after : Option (List ℕ)) (r : Option ℤ)
@@ -163,4 +165,4 @@ stops first now new i es e before mid after step_rises rises halt more is h r k 
     let whole : (take i es ++ e ∷ []) ++ drop (i + 1) es ≡ es = ap (λ xs. xs ++ drop (i + 1) es) (sym is) ∙ take-append-drop (i + 1) es in
     subst (λ xs. RunGives first new xs before after rises (Err halt)) whole
     (stops_before first new (take i es ++ e ∷ []) (drop (i + 1) es) before after rises halt
-    (stops_in first now new (take i es) (e ∷ []) before mid after step_rises rises halt h r (step-runs now new e mid after step_rises halt k)))
+    (stops_in first now new (take i es) (e ∷ []) before mid after step_rises rises halt h r (step-runs now new e mid after step_rises (Err halt) k)))

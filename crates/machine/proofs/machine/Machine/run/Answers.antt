@@ -3,10 +3,7 @@ use Rattle.machine.proofs.RunLemmas.{Rises-later, so_far_at_first, goes_on, stop
 use Rattle.machine.proofs.machine.Machine.run.Goals as goal
 
 pub loop-event-init : goal.loop-event-init
-loop-event-init g c = record {
-  so_far = so_far_at_first _ _ (c.is_stopped.ensures.up c.if-is_stopped.false);
-  later = omega arith;
-}
+loop-event-init g c = record { so_far = so_far_at_first _ _ (c.is_stopped.ensures.up c.if-is_stopped.false); later = omega arith }
 
 pub returns-in_err-step-clause-gives : goal.returns-in_err-step-clause-gives
 returns-in_err-step-clause-gives g c =
