@@ -1,10 +1,10 @@
 -- The kernel and the state that begin with the plan of /init.
 use Rattle.machine.proofs.Common.{one_in, names-none, Counted, count_at, count_in, opens_of, file_of, slot-opens, IsCounted, names_in, FitsNode, IsFolder, IsInUse, files_on, home_in, homes_at, node_in, node_of, node_on}
 use Rattle.machine.proofs.Common.{Kernel, begun, state_of, IsKernel, IsOpenFile, IsOpened, IsPlaced, Init, IsBegun, IsInPlace, IsUnheld, LacksInit, PutsInit, bare_of, first_of, first_places, view_by, init_kernel}
-use Rattle.machine.proofs.Common.{alone, View, sound_view, KeepsTree, Process, all_in, Places, seated, joined-free_slots, joined, SpaceView, Spaces, List, None, Option, Some, ap, arith, false, is_some, length, refl}
+use Rattle.machine.proofs.Common.{alone, View, sound_view, KeepsTree, Process, all_in, Places, joined-free_slots, joined, Spaces, List, None, Option, Some, ap, arith, false, is_some, length, refl}
 use Rattle.machine.proofs.Common.{replicate, subst, suc, sym, zero, ℕ, ◌%◌, ◌+◌, ◌<◌, ◌∙◌, ◌∷◌, ◌≡◌, ◌≢◌, ◌≤◌, nat_tests, length-replicate, sum_by-replicate, sum_by-cons, none-some, IfSome, option_map}
 use Rattle.machine.proofs.Common.{◌==◌, holders, with_hold, FileTree, page_frames, Files, free_slots, slot, zeros, Plan, first_process, first_state, if_fits, init_plan, start, State, open_limit}
-use Rattle.machine.proofs.FlatLemmas.{fresh-fits, fresh-over, none-free, one-all, one-home, one-rests, one-stands, one-waits, same-past, taken-alone}
+use Rattle.machine.proofs.FlatLemmas.{fresh-fits, fresh-over, none-free, one-home, one-sound, one-waits, same-past}
 use Rattle.tree.specs.Whole.{IsWhole}
 use Rattle.unixmodel.specs.OpenFiles as unix_files
 use Rattle.unixmodel.specs.Outcome.{no_descriptors}
@@ -130,19 +130,8 @@ module _ (old tree : FileTree) (unheld : IsUnheld old) (same : tree ≡ record o
 
   pub init-sound : (frames : ℕ) (new : Plan) → 4 + page_frames (length new.memory) ≤ frames → new.pc % 4 ≡ 0 → IsKernel (init_kernel tree frames new)
   unfolding free_slots
-  init-sound frames new fits aligned = record {
-    all = one-all (first_of new);
-    spaces = ap suc (length-replicate {A = Option SpaceView} 63 None);
-    stands = one-stands (first_of new) (view_by new) (init-placed new aligned);
-    runs = one-rests (first_of new) refl;
-    fits = rw (taken-alone frames (view_by new)) fits;
-    opened = init-opened new;
-    used = λ up. init-used new;
-  }
-
-pub table-init : (new : Plan) → seated (record { places = free_slots 64; last = 63; next_pid = 1; awake = all_in 64 }) (first_of new) (record { place = 0; pid = 1 }) ≡ first_places new
-unfolding free_slots
-table-init new = refl
+  init-sound frames new fits aligned =
+      one-sound (record tree { holds = with_hold tree.holds 1 }) (first_of new) (view_by new) frames no_files (init-placed new aligned) refl fits (init-opened new) (init-used new)
 
 -- ---- the kernel as it is made
 

@@ -9,6 +9,7 @@ use Rattle.machine.proofs.Common.{◌==◌, FileTree, blocks_of, frames_of, page
 use Rattle.machine.proofs.Common.{push, push_pointers, push_strings, stack_marks, with_args, with_stack, first_process, first_state, flat_descriptors, flat_files, flat_opens, if_fits, start_flat, State, holds}
 use Rattle.files.specs.declared.file.OpenFile.{OpenFile}
 use Rattle.files.specs.declared.table.FileFault.{FileFault}
+use Rattle.kernel.specs.Kernel.{begun as begun_by}
 use Rattle.programs.proofs.Headings.{length-pages}
 use Rattle.programs.proofs.Places.{filled, page_frames-more}
 use Rattle.programs.proofs.Stacks.{write-stack}
@@ -117,19 +118,25 @@ unfolding flat_descriptors free_slots zeros
 first-placed h = record { zero = refl; aligned = refl; mode = record { descriptors = refl } }
 
 -- a process alone in the first place
-pub one-stands : (p : Process) (h : SpaceView) → IsPlaced p h → (i : ℕ) → IsPlace (slot (Some p ∷ free_slots 63) i) (slot (Some h ∷ replicate 63 None) i)
+pub one-sound : (tree : FileTree) (p : Process) (h : SpaceView) (frames : ℕ) (opens : List (Option Counted)) → IsPlaced p h → is_running p ≡ false → 4 + page_frames (length h.memory) ≤ frames
+    → IsOpened opens (replicate 100 None) (Some p ∷ free_slots 63) → IsInUse tree opens (Some p ∷ free_slots 63) → IsKernel (begun_by tree (record { places = Some p ∷ free_slots 63; last = 63; next_pid = 2; awake = all_in 64 }) (alone frames h) opens)
 unfolding free_slots
-one-stands p h placed zero = placed
-one-stands p h placed (suc i) = rw (same-past (Option Process) None 63 i, same-past (Option SpaceView) None 63 i) tt
+one-sound tree p h frames opens placed rests fits opened used = record {
+  all = ap suc (length-replicate {A = Option Process} 63 None);
+  spaces = ap suc (length-replicate {A = Option SpaceView} 63 None);
+  stands = stands;
+  runs = runs;
+  fits = rw (taken-alone frames h) fits;
+  opened = opened;
+  used = λ up. used;
+} where
+  stands : (i : ℕ) → IsPlace (slot (Some p ∷ replicate 63 None) i) (slot (Some h ∷ replicate 63 None) i)
+  stands zero = placed
+  stands (suc i) = rw (same-past (Option Process) None 63 i, same-past (Option SpaceView) None 63 i) tt
 
-pub one-rests : (p : Process) → is_running p ≡ false → (i : ℕ) → holds is_running (slot (Some p ∷ free_slots 63) i) ≡ false
-unfolding free_slots
-one-rests p rests zero = rests
-one-rests p rests (suc i) = rw (same-past (Option Process) None 63 i) refl
-
-pub one-all : (p : Process) → length (Some p ∷ free_slots 63) ≡ 64
-unfolding free_slots
-one-all p = ap suc (length-replicate {A = Option Process} 63 None)
+  runs : (i : ℕ) → holds is_running (slot (Some p ∷ replicate 63 None) i) ≡ false
+  runs zero = rests
+  runs (suc i) = rw (same-past (Option Process) None 63 i) refl
 
 pub one-waits : (files : List (Option Counted)) (p : Process) → WaitsWell files (Some p) → (i : ℕ) → WaitsWell files (slot (Some p ∷ free_slots 63) i)
 unfolding free_slots
@@ -247,19 +254,11 @@ pub few-console : (tree : FileTree) → IsFlat tree → holders (with_hold tree.
 few-console tree flat = rw flat.holds (omega arith)
 
 pub first-sound : (tree : FileTree) → IsFlat tree → (frames : ℕ) (h : SpaceView) → 4 + page_frames (length h.memory) ≤ frames → IsKernel (first_kernel tree frames h)
-first-sound tree flat frames h fits = record {
-  all = one-all (first h.size);
-  spaces = ap suc (length-replicate {A = Option SpaceView} 63 None);
-  stands = one-stands (first h.size) h (first-placed h);
-  runs = one-rests (first h.size) refl;
-  fits = rw (taken-alone frames h) fits;
-  opened = first-opened h.size;
-  used = λ up. first-used tree flat h.size;
-}
+first-sound tree flat frames h fits = one-sound (first_tree tree) (first h.size) h frames first_files (first-placed h) refl fits (first-opened h.size) (first-used tree flat h.size)
 
-pub table-first : (size : ℕ) → seated (record { places = free_slots 64; last = 63; next_pid = 1; awake = all_in 64 }) (first size) (record { place = 0; pid = 1 }) ≡ first_table size
+pub one-seated : (p : Process) → seated (record { places = free_slots 64; last = 63; next_pid = 1; awake = all_in 64 }) p (record { place = 0; pid = 1 }) ≡ record { places = Some (record p { pid = 1 }) ∷ free_slots 63; last = 63; next_pid = 2; awake = all_in 64 }
 unfolding free_slots
-table-first size = refl
+one-seated p = refl
 
 -- ---- the space as it is made: the pages of the program, its bytes in them, the guard page, the stack
 

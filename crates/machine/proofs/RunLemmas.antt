@@ -125,20 +125,8 @@ unfolding run
 step-runs old new e before after rises (Ok u) k = (k.0, rw (run-one old.state e k.0.goes) k.1)
 step-runs old new e before after rises (Err (InitEnded status)) k = (k.0, rw (run-one old.state e k.0.goes) k.1)
 step-runs old new e before after rises (Err Device) k = (k.0, record { done = 0; more = omega arith; goes = k.0.goes; fails = k.1 })
-step-runs old new e before after rises (Err Console) k = (
-  k.0,
-  record {
-    rises = k.1.rises;
-    failed = k.1.failed;
-    printed = rw (run-one old.state e k.0.goes) k.1.printed;
-    done = 0;
-    more = omega arith;
-    goes = k.0.goes;
-    files = k.1.files;
-    same_device = k.1.same_device;
-    later = rw k.1.same (omega arith);
-  },
-)
+step-runs old new e before after rises (Err Console) k =
+    (k.0, record { rises = k.1.rises; failed = k.1.failed; printed = rw (run-one old.state e k.0.goes) k.1.printed; done = 0; more = omega arith; goes = k.0.goes; files = k.1.files; same_device = k.1.same_device; later = rw k.1.same (omega arith) })
 step-runs old new e before after rises (Err Halted) k = k
 
 -- a step that is done

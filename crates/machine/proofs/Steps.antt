@@ -16,14 +16,7 @@ up k goes = record { sound = refl; goes = goes }
 
 done-gives : (old new : Kernel) (a : After) (before after : Option (List ℕ)) (r : Option ℤ)
     → Makes new a before after r → new.tree.identity ≡ old.tree.identity → old.tree.failures ≤ new.tree.failures → IsDone (told old false) (told new false) a before after r
-done-gives old new a before after r made device later = record {
-  state = made.state;
-  halts = made.halts;
-  sound = refl;
-  printed = made.printed;
-  same_device = device;
-  later = later;
-}
+done-gives old new a before after r made device later = record { state = made.state; halts = made.halts; sound = refl; printed = made.printed; same_device = device; later = later }
 
 -- the writer failed, and the disk is as it was
 console-gives : (old new : Kernel) (before after : Option (List ℕ)) (rising : Type 0) (bytes : List ℕ)
@@ -62,17 +55,8 @@ goes-gives old new failed a before after rising (Err Halted) goes on flag made o
 pub quiet-gives : (old new : Kernel) (a : After) (at : Option (List ℕ))
     → old.halted ≡ None → a.state.halted ≡ None → a ≡ quiet (state_of new) → new.tree ≡ old.tree
     → IsUp (told old false) × IsDone (told old false) (told new false) a at at None
-quiet-gives old new a at goes on made same = (
-  record { sound = refl; goes = goes },
-  record {
-    state = rw made refl;
-    halts = on;
-    sound = refl;
-    printed = rw made (Appends-none at);
-    same_device = ap (λ (t : FileTree). t.identity) same;
-    later = rw same (omega arith);
-  },
-)
+quiet-gives old new a at goes on made same =
+    (up old goes, done-gives old new a at at None (record { state = rw made refl; halts = on; printed = rw made (Appends-none at) }) (ap (λ (t : FileTree). t.identity) same) (rw same (omega arith)))
 
 stopped-halts : (s : State) (o : Option ℕ) → (stopped s o).halted ≡ s.halted
 stopped-halts s None = refl

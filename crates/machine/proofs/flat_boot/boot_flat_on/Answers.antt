@@ -27,17 +27,12 @@ returns-clause-booted g c =
     let kernel : c.new-kernel.result ≡ first_kernel c.args.tree c.args.frames (flat_space bytes) = c.new-kernel.ensures ∙ rw (c.first_table-table.ensures, c.first_files.ensures, c.hold-2.ensures, c.hold.ensures, size, c.if-not-load.ensures.0, frames) refl in
     rw c.new-machine.ensures (start-fits c.args.tree c.requires.flat bytes c.args.frames (rw frames at c.if-not-load.ensures.1) ∙ ap (λ (k : Kernel). Some (state_of k)) (sym kernel))
 
-pub hold-requires-clause-node : goal.hold-requires-clause-node
-hold-requires-clause-node g c = hold-root c.args.tree c.requires.flat
+pub hold-requires : goal.hold-requires
+hold-requires g c = record { up = c.requires.flat.up; node = hold-root c.args.tree c.requires.flat; few = few-root c.args.tree c.requires.flat }
 
-pub hold-requires-clause-few : goal.hold-requires-clause-few
-hold-requires-clause-few g c = few-root c.args.tree c.requires.flat
-
-pub hold-requires-2-clause-node : goal.hold-requires-2-clause-node
-hold-requires-2-clause-node g c = rw c.hold.ensures (hold-console c.args.tree c.requires.flat)
-
-pub hold-requires-2-clause-few : goal.hold-requires-2-clause-few
-hold-requires-2-clause-few g c = rw c.hold.ensures (few-console c.args.tree c.requires.flat)
+pub hold-requires-2 : goal.hold-requires-2
+hold-requires-2 g c =
+    record { up = rw c.hold.ensures c.requires.flat.up; node = rw c.hold.ensures (hold-console c.args.tree c.requires.flat); few = rw c.hold.ensures (few-console c.args.tree c.requires.flat) }
 
 pub returns-clause-identity : goal.returns-clause-identity
 returns-clause-identity g c =

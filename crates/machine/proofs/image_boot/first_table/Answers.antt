@@ -1,8 +1,8 @@
 use Rattle.machine.proofs.image_boot.first_table.Goals as goal
-use Rattle.machine.proofs.Booting.{table-init}
-use Rattle.machine.proofs.Common.{bare_of, all_in, seat_of, seat_of-first, ap, arith, ◌∙◌}
+use Rattle.machine.proofs.FlatLemmas.{one-seated}
+use Rattle.machine.proofs.Common.{bare_of, first_of, all_in, seat_of, seat_of-first, ap, arith, ◌∙◌}
 
 pub returns : goal.returns
 returns c =
     let seat = ap seat_of c.starting_at-table.ensures ∙ seat_of-first 63 1 (all_in 64) (omega arith) in
-    rw (c.alloc-seat.ensures.seat, seat, c.first.ensures, c.starting_at-table.ensures) at c.alloc-seat.ensures.ok ∙ table-init (bare_of c.args.init.now)
+    rw (c.alloc-seat.ensures.seat, seat, c.first.ensures, c.starting_at-table.ensures) at c.alloc-seat.ensures.ok ∙ one-seated (first_of (bare_of c.args.init.now))

@@ -1,11 +1,8 @@
 use Rattle.machine.proofs.machine.Machine.advance.Goals as goal
 use Rattle.machine.proofs.Steps.{advance-gives}
 
-pub advance-count-requires-clause-goes : goal.advance-count-requires-clause-goes
-advance-count-requires-clause-goes g c = (rw (← c.self.view_is) at (c.is_stopped.ensures.up c.if-is_stopped.false)).goes
-
-pub advance-count-requires-clause-up : goal.advance-count-requires-clause-up
-advance-count-requires-clause-up g c = c.self.invariant (rw (← c.self.view_is) at (c.is_stopped.ensures.up c.if-is_stopped.false)).sound
+pub advance-count-requires : goal.advance-count-requires
+advance-count-requires g c = let up = rw (← c.self.view_is) at (c.is_stopped.ensures.up c.if-is_stopped.false) in record { goes = up.goes; up = c.self.invariant up.sound; some = c.requires }
 
 pub returns-clause-gives : goal.returns-clause-gives
 returns-clause-gives g c =

@@ -2,11 +2,8 @@ use Rattle.machine.proofs.machine.Machine.step.Goals as goal
 use Rattle.machine.proofs.Steps.{does-gives, goes-gives, key-halts, quiet-gives, tick-halts}
 use Rattle.machine.proofs.Common.{state_of, ◌∙◌, Key, Step, Tick, next}
 
-pub step-done-requires-clause-goes : goal.step-done-requires-clause-goes
-step-done-requires-clause-goes g c = (rw (← c.self.view_is) at (c.is_stopped.ensures.up c.if-is_stopped.false)).goes
-
-pub step-done-requires-clause-up : goal.step-done-requires-clause-up
-step-done-requires-clause-up g c = c.self.invariant (rw (← c.self.view_is) at (c.is_stopped.ensures.up c.if-is_stopped.false)).sound
+pub step-done-requires : goal.step-done-requires
+step-done-requires g c = let up = rw (← c.self.view_is) at (c.is_stopped.ensures.up c.if-is_stopped.false) in record { goes = up.goes; up = c.self.invariant up.sound }
 
 pub returns-in-Step-clause-gives : goal.returns-in-Step-clause-gives
 returns-in-Step-clause-gives g c =

@@ -1,11 +1,8 @@
 use Rattle.machine.proofs.machine.Machine.steps.Goals as goal
 use Rattle.machine.proofs.Steps.{steps-give}
 
-pub steps-done-requires-clause-goes : goal.steps-done-requires-clause-goes
-steps-done-requires-clause-goes g c = (rw (← c.self.view_is) at (c.is_stopped.ensures.up c.if-is_stopped.false)).goes
-
-pub steps-done-requires-clause-up : goal.steps-done-requires-clause-up
-steps-done-requires-clause-up g c = c.self.invariant (rw (← c.self.view_is) at (c.is_stopped.ensures.up c.if-is_stopped.false)).sound
+pub steps-done-requires : goal.steps-done-requires
+steps-done-requires g c = let up = rw (← c.self.view_is) at (c.is_stopped.ensures.up c.if-is_stopped.false) in record { goes = up.goes; up = c.self.invariant up.sound }
 
 pub returns-clause-gives : goal.returns-clause-gives
 returns-clause-gives g c =
