@@ -1,9 +1,6 @@
 -- The events of a part of a script.
-use Rattle.std.proofs.Common.{◌≡◌, ◌∙◌, ◌+◌, ◌-◌, ◌<◌, ◌≤◌, ℕ, List, [], ◌∷◌, ◌++◌, ap, sym, refl, take, drop, length, append_assoc, append-nil, get_or, replicate, map, take-append-drop, arith}
-use Rattle.std.proofs.lemmas.List.{get_or-map, get_or-replicate, length-map, length-replicate, replicate-append-replicate, take_more}
-use Rattle.unixmodel.specs.declared.event.Event.{Event}
-use Rattle.unixmodel.specs.declared.event.Event.TheVariants.{Key}
-use Rattle.live.specs.Plays.{events_of, script_events}
+use Rattle.live.proofs.Common.{◌≡◌, ◌∙◌, ◌+◌, ◌-◌, ◌<◌, ◌≤◌, ℕ, List, [], ◌∷◌, ◌++◌, ap, sym, refl, take, drop, length, append_assoc, append-nil, get_or, replicate, map, take-append-drop}
+use Rattle.live.proofs.Common.{arith, get_or-map, get_or-replicate, length-map, length-replicate, replicate-append-replicate, take_more, Event, Key, events_of, script_events}
 use Rattle.scripts.specs.declared.script.lines.Command.{Command}
 
 pub script_events-append : (xs ys : List Command) → script_events (xs ++ ys) ≡ script_events xs ++ script_events ys
@@ -29,16 +26,12 @@ pub repeat-next : (n i : ℕ) (e : Event) → i < n → take (i + 1) (replicate 
 repeat-next n i e within =
     take_more (replicate n e) i e (rw (length-replicate n e) within) ∙ ap (λ x. take i (replicate n e) ++ x ∷ []) (get_or-replicate n i e e within)
 
--- a batch more of those that repeat
-pub batch-next : (n count : ℕ) (e : Event) → replicate (n + count) e ≡ replicate n e ++ replicate count e
-batch-next n count e = sym (replicate-append-replicate n count e)
-
 -- all of them are those before a batch, the batch and the rest
 pub batch-whole : (all n count : ℕ) (e : Event) → n + count ≤ all → replicate all e ≡ (replicate n e ++ replicate count e) ++ replicate (all - (n + count)) e
 batch-whole all n count e fits =
     let whole : all ≡ n + count + (all - (n + count)) = omega arith in
-    ap (λ k. replicate k e) whole ∙ batch-next (n + count) (all - (n + count)) e
-    ∙ ap (λ es. es ++ replicate (all - (n + count)) e) (batch-next n count e)
+    ap (λ k. replicate k e) whole ∙ sym (replicate-append-replicate (n + count) (all - (n + count)) e)
+    ∙ ap (λ es. es ++ replicate (all - (n + count)) e) (sym (replicate-append-replicate n count e))
 
 -- one key more
 pub press-next : (keys : List ℕ) (i : ℕ) → i < length keys → take (i + 1) (map Key keys) ≡ take i (map Key keys) ++ Key (get_or keys i 0) ∷ []

@@ -1,2 +1,3 @@
+mod Common
 pub mod EventLemmas
 pub mod SessionLemmas

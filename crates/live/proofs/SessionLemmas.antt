@@ -1,26 +1,23 @@
 -- How a session goes on, and how it ends.
-use Rattle.std.proofs.Common.{◌≡◌, ◌∙◌, ℕ, ◌+◌, ◌-◌, ◌<◌, ◌≤◌, true, false, inl, inr, length-append, List, [], ◌∷◌, ◌++◌, drop, Option, Some, None, Result, Ok, Err, ap, sym, refl, arith, append_assoc, append-nil, replicate, take-append-drop, subst}
-use Rattle.std.specs.Prelude.{OnErr, OnOk, length, option_map, suc, zero}
+use Rattle.live.proofs.Common.{◌≡◌, ◌∙◌, ℕ, ◌+◌, ◌-◌, ◌≤◌, true, false, inl, inr, length-append, List, [], ◌∷◌, ◌++◌, drop, Option, Some, None, Result, Ok, Err, ap, sym, refl}
+use Rattle.live.proofs.Common.{arith, le_trans, append_assoc, append-nil, replicate, take-append-drop, subst, OnErr, OnOk, length, option_map, suc, zero}
+use Rattle.live.proofs.Common.{replicate-append-replicate, replicate_more, take-replicate, done-kept, runs_on, Rises-later, SoFar, so_far_at_first, up_now, Event, Step, step-runs}
 use Rattle.std.specs.Io.KnownBytes.{Keeps}
+use Rattle.std.proofs.Math.Nat.{zero-add}
 use Rattle.std.specs.Result.{is_err}
-use Rattle.std.proofs.lemmas.List.{replicate-append-replicate, replicate_more, take-replicate}
 use Rattle.std.proofs.lemmas.List.Sums.{fold-append}
 use Rattle.calls.specs.declared.halt.Halt.{Halt}
 use Rattle.kernel.specs.Idle.{is_idle}
-use Rattle.machine.proofs.RunsOn.{done-kept, runs_on, stops_in}
 use Rattle.live.specs.declared.terminal.Given.{Given}
 use Rattle.live.specs.declared.terminal.Mood.{Mood}
 use Rattle.live.specs.declared.terminal.Mood.TheVariants as mood
 use Rattle.live.specs.declared.terminal.Given.TheVariants as given
 use Rattle.live.specs.Sessions.{Follows, GaveFirst, IsGiven, IsSession, answered, goes_on_with, is_end, mood_of, moved, session, steps, steps_after, work}
-use Rattle.machine.proofs.RunLemmas.{Rises-later, SoFar, done_more, goes_on, so_far_at_first, stops, up_now}
 use Rattle.calls.proofs.Runs.{run-more}
 use Rattle.calls.specs.Steps.{IsBusyFor}
-use Rattle.machine.specs.Gives.{IsDone, RunGives, StepGives}
+use Rattle.machine.specs.Gives.{RunGives, StepGives}
 use Rattle.machine.specs.Pieces.{IsPiece}
 use Rattle.machine.specs.View.{IsUp, View}
-use Rattle.unixmodel.specs.declared.event.Event.{Event}
-use Rattle.unixmodel.specs.declared.event.Event.TheVariants.{Step}
 use Rattle.unixmodel.specs.Failures.{Rises}
 use Rattle.unixmodel.specs.Next.{next}
 use Rattle.unixmodel.specs.Calls.{After}
@@ -32,11 +29,7 @@ use Rattle.unixmodel.specs.State.{State}
 -- a step is the run of one event
 pub one-gives : (old new : View) (e : Event) (before after : Option (List ℕ)) (rises : Type 0) (r : Result (Unit {0}) Halt) → IsUp old
     → StepGives old new (next old.state e) before after rises r → RunGives old new (e ∷ []) before after rises r
-one-gives old new e before after rises (Ok u) up k =
-    let h = goes_on old old new 0 (e ∷ []) e before before after (omega arith) refl (so_far_at_first old before up) k.1 in
-    (h.began, h.done)
-one-gives old new e before after rises (Err why) up k =
-    stops old old new 0 (e ∷ []) e before before after rises rises why (omega arith) refl (so_far_at_first old before up) (λ x. x) k
+one-gives old new e before after rises r up k = step-runs old new e before after rises r k
 
 -- ---- what is kept
 
@@ -78,34 +71,20 @@ module _ {first now : View} {before mid : Option (List ℕ)} {f0 f1 : ℕ} {k0 k
     records = kept-then h.events k.events k0 k1 k2 h.records k.records;
     runs = runs_on first now new h.events k.events before mid after (Rises f1 f2) (Rises f0 f2) r (record { began = h.runs.0; done = h.runs.1 })
         (λ rises. Rises-later f0 f1 f2 h.later rises k.later) k.runs;
-    later = let a = h.later in let b = k.later in omega arith;
+    later = le_trans h.later k.later;
   }
 
   -- after a halt nothing more is
   pub given-ends : (more : List Event) {why : Halt} → IsGiven all first now before mid f0 f1 k0 k1 (Err why) → IsGiven (all ++ more) first now before mid f0 f1 k0 k1 (Err why)
-  given-ends more {why} h = record {
-    events = h.events;
-    follows = follows-ends all more h.events why h.follows;
-    records = h.records;
-    runs = h.runs;
-    later = h.later;
-  }
+  given-ends more {why} h = record { events = h.events; follows = follows-ends all more h.events why h.follows; records = h.records; runs = h.runs; later = h.later }
 
   -- the bytes are written out
   pub given-flushed : {u : Unit {0}} {after : Option (List ℕ)} {f2 : ℕ} → IsGiven all first now before mid f0 f1 k0 k1 (Ok u) → Keeps mid after → f1 ≤ f2 → IsGiven all first now before after f0 f2 k0 k1 (Ok u)
-  given-flushed {u} {after} {f2} h keeps later = record {
-    events = h.events;
-    follows = h.follows;
-    records = h.records;
-    runs = (h.runs.0, done-kept h.runs.1 keeps);
-    later = let a = h.later in omega arith;
-  }
+  given-flushed h keeps later = record { events = h.events; follows = h.follows; records = h.records; runs = (h.runs.0, done-kept h.runs.1 keeps); later = le_trans h.later later }
 
 -- nothing is given
 pub given-none : (old : View) (at : Option (List ℕ)) (f : ℕ) (k : Option (List Event)) (u : Unit {0}) → IsUp old → IsGiven [] old old at at f f k k (Ok u)
-given-none old at f k u up =
-    let h = so_far_at_first old at up in
-    record { events = []; follows = refl; records = kept-none k; runs = (h.began, h.done); later = omega arith }
+given-none old at f k u up = record { events = []; follows = refl; records = kept-none k; runs = (up, (so_far_at_first old at up).done); later = omega arith }
 
 -- what was kept before is known by another name
 pub given-from : {all : List Event} {old new : View} {before after : Option (List ℕ)} {f0 f1 : ℕ} {from k0 k1 : Option (List Event)} {r : Result (Unit {0}) Halt} → from ≡ k0
@@ -127,10 +106,7 @@ work-none (suc n) s idle = rw idle refl
 -- of them as many as are done while a process runs or is ready
 worked : (n count : ℕ) (s : State) → IsBusyFor s count → count ≤ n → work n s ≡ count + work (n - count) (run s (replicate count Step)).state
 unfolding run
-worked n zero s busy within =
-    let none : n - 0 ≡ n = omega arith in
-    let same : work (n - 0) (run s (replicate 0 Step)).state ≡ work n s = ap (λ k. work k s) none in
-    omega (arith, same)
+worked n zero s busy within = let none : n - 0 ≡ n = omega arith in rw none (sym (zero-add (work n s)))
 worked n (suc count) s busy within =
     let t = (run s (replicate count Step)).state in
     let first = busy 0 (omega arith) in
@@ -151,12 +127,8 @@ pub record IsWorking (most : ℕ) (first now : View) (done : ℕ) (before after 
   pub later : failed ≤ fails
 
 pub working-begins : (most : ℕ) (first : View) (at : Option (List ℕ)) (f : ℕ) → IsUp first → IsWorking most first first 0 at at f f
-working-begins most first at f up = record {
-  so_far = so_far_at_first first at up;
-  within = omega arith;
-  left = let e : most - 0 ≡ most = omega arith in let w = ap (λ n. work n first.state) e in omega (arith, w);
-  later = omega arith;
-}
+working-begins most first at f up =
+    let e : most - 0 ≡ most = omega arith in record { so_far = so_far_at_first first at up; within = omega arith; left = rw e (sym (zero-add (work most first.state))); later = omega arith }
 
 -- what a quantum answers
 pub record IsWorked (most : ℕ) (first new : View) (before after : Option (List ℕ)) (failed fails : ℕ) (count : ℕ) (r : Result (Unit {0}) Halt) : Type 0 where
@@ -175,9 +147,7 @@ module _ {most : ℕ} {first now : View} {done : ℕ} {before mid : Option (List
   -- no more are to be done
   pub ends-full : most ≤ done → IsWorked most first now before mid f0 f1 done (Ok tt)
   unfolding work
-  ends-full low =
-      let e : most - done ≡ 0 = omega (arith, low) in
-      ends-at (rw e refl)
+  ends-full low = let e : most - done ≡ 0 = omega (arith, low) in ends-at (rw e refl)
 
   module _ {new : View} {more : ℕ} {r : Result (Unit {0}) Halt} (piece : IsPiece now new (most - done) more r) where
     -- those that were done in one go, and those that are left
@@ -205,7 +175,7 @@ module _ {most : ℕ} {first now : View} {done : ℕ} {before mid : Option (List
             so_far = record { began = all.0; done = all.1 };
             within = let p = piece.within in let w = h.within in omega (arith, p, w);
             left = left-behind ∙ ap (λ s. (done + more) + work (most - (done + more)) s) (sym (told u ok).1.state);
-            later = let l = h.later in omega (arith, l, le);
+            later = le_trans h.later le;
           }
 
       whole : (x : Result (Unit {0}) Halt) → r ≡ x → OnOk x (more ≡ 0) → OnOk x (done + more ≡ work most first.state)
@@ -213,35 +183,21 @@ module _ {most : ℕ} {first now : View} {done : ℕ} {before mid : Option (List
       whole (Ok u) ok none =
           let idle = subst (λ (x : Result (Unit {0}) Halt). OnOk x (more ≡ 0 → is_idle new.state ≡ true)) ok piece.idle none in
           let rest : work (most - (done + more)) (run now.state (replicate more Step)).state ≡ 0 = ap (work (most - (done + more))) (sym (told u ok).1.state) ∙ work-none _ new.state idle in
-          let w = left-behind in
-          omega (arith, w, rest)
+          omega (arith, left-behind, rest)
 
       pub ends-by : OnOk r (more ≡ 0) → IsWorked most first new before after f0 f2 (done + more) r
-      ends-by none = record {
-        gives = runs-behind;
-        within = let w = left-behind in omega (arith, w);
-        all = whole r refl none;
-        later = let l = h.later in omega (arith, l, le);
-      }
+      ends-by none = record { gives = runs-behind; within = omega (arith, left-behind); all = whole r refl none; later = le_trans h.later le }
 
 -- so many steps are a beginning of those that there are
-some-steps : (count n : ℕ) → count ≤ n → replicate count Step ++ drop count (replicate n Step) ≡ replicate n Step
-some-steps count n within = ap (λ xs. xs ++ drop count (replicate n Step)) (sym (take-replicate count n Step within)) ∙ take-append-drop count (replicate n Step)
-
 follows-steps : (count n : ℕ) (r : Result (Unit {0}) Halt) → count ≤ n → OnOk r (count ≡ n) → Follows (replicate n Step) (replicate count Step) r
 follows-steps count n (Ok u) within all = ap (λ k. replicate k Step) all
-follows-steps count n (Err why) within all = (drop count (replicate n Step), some-steps count n within)
+follows-steps count n (Err why) within all = (drop count (replicate n Step), ap (λ xs. xs ++ drop count (replicate n Step)) (sym (take-replicate count n Step within)) ∙ take-append-drop count (replicate n Step))
 
 pub given-steps : (quantum count : ℕ) (old new : View) (before after : Option (List ℕ)) (f0 f1 : ℕ) (k0 k1 : Option (List Event)) (r : Result (Unit {0}) Halt)
     → RunGives old new (replicate count Step) before after (Rises f0 f1) r → count ≤ work quantum old.state → OnOk r (count ≡ work quantum old.state) → f0 ≤ f1
     → k1 ≡ option_map (λ es. es ++ replicate count Step) k0 → IsGiven (steps quantum old.state) old new before after f0 f1 k0 k1 r
-given-steps quantum count old new before after f0 f1 k0 k1 r runs within all later kept = record {
-  events = replicate count Step;
-  follows = follows-steps count (work quantum old.state) r within all;
-  records = kept;
-  runs = runs;
-  later = later;
-}
+given-steps quantum count old new before after f0 f1 k0 k1 r runs within all later kept =
+    record { events = replicate count Step; follows = follows-steps count (work quantum old.state) r within all; records = kept; runs = runs; later = later }
 
 -- events that are all given
 follows-all : (es : List Event) (r : Result (Unit {0}) Halt) → Follows es es r
@@ -317,12 +273,8 @@ module _ {quantum : ℕ} {first now : View} {before mid : Option (List ℕ)} {f0
 
     -- the bytes could not be written out
     pub session-lost : {E : Type 0} {after : Option (List ℕ)} {f2 : ℕ} → Keeps mid after → f1 ≤ f2 → (flushed : Result (Unit {0}) E) → OnErr flushed (Rises f1 f2) → is_err flushed ≡ true → IsSession quantum gives later first now before after f0 f2 k0 k1 (Ok tt)
-    session-lost {E} {after} {f2} keeps le flushed cause fails = record {
-      gave = h.gave;
-      first = h.first;
-      given = given-flushed h.given keeps le;
-      ends = inr (inl (Rises-later f0 f1 f2 h.given.later (rises-where flushed cause fails) le));
-    }
+    session-lost {E} {after} {f2} keeps le flushed cause fails =
+        record { gave = h.gave; first = h.first; given = given-flushed h.given keeps le; ends = inr (inl (Rises-later f0 f1 f2 h.given.later (rises-where flushed cause fails) le)) }
 
     -- it was asked as often as can be
     pub session-tires : 0xffff_ffff_ffff_ffff ≤ moves → moves ≤ 0xffff_ffff_ffff_ffff → IsSession quantum gives later first now before mid f0 f1 k0 k1 (Ok tt)
@@ -353,9 +305,5 @@ module _ {quantum : ℕ} {first now : View} {before mid : Option (List ℕ)} {f0
 
         -- the keyboard gave something else
         pub session-goes-on : IsGiven (moved quantum now.state g) now new mid after f1 f2 from k2 (Ok tt) → Sits quantum gives last first new before after f0 f2 k0 k2 (moves + 1)
-        session-goes-on k = record {
-          gave = h.gave ++ g ∷ [];
-          first = gave-more gives later last h.gave g h.first asked;
-          given = goes-on g same k;
-          count = length-append h.gave (g ∷ []) ∙ ap (λ n. n + 1) h.count;
-        }
+        session-goes-on k =
+            record { gave = h.gave ++ g ∷ []; first = gave-more gives later last h.gave g h.first asked; given = goes-on g same k; count = length-append h.gave (g ∷ []) ∙ ap (λ n. n + 1) h.count }

@@ -1,18 +1,11 @@
-use Rattle.std.proofs.Common.{arith, replicate, ◌+◌, ◌-◌, ◌<◌, ◌≡◌}
-use Rattle.std.proofs.lemmas.List.{length-replicate}
-use Rattle.std.proofs.lemmas.Result.{err_from_is_err_and}
-use Rattle.machine.proofs.RunLemmas.{Rises-later, goes_on, so_far_at_first, stops}
+use Rattle.live.proofs.Common.{arith, replicate, ◌+◌, ◌-◌, ◌<◌, ◌≡◌, length-replicate, err_from_is_err_and, Rises-later, goes_on, so_far_at_first, stops}
 use Rattle.live.proofs.EventLemmas.{repeat-next}
 use Rattle.live.proofs.play.each.Goals as goal
 
 pub loop-left-init : goal.loop-left-init
 loop-left-init g c =
     let none : c.args.times - c.args.times ≡ 0 = omega arith in
-    record {
-      so_far = rw none (so_far_at_first _ _ c.requires);
-      later = omega arith;
-      within = omega arith;
-    }
+    record { so_far = rw none (so_far_at_first _ _ c.requires); later = omega arith; within = omega arith }
 
 pub returns-in_err-step-clause-gives : goal.returns-in_err-step-clause-gives
 returns-in_err-step-clause-gives g c =

@@ -1,5 +1,4 @@
-use Rattle.std.proofs.Common.{◌≤◌, ◌-◌, replicate, take}
-use Rattle.machine.proofs.RunLemmas.{SoFar}
+use Rattle.live.proofs.Common.{◌≤◌, ◌-◌, replicate, take, SoFar}
 use Rattle.live.proofs.play.each.Given as goal
 
 -- the events so far are done as the model says

@@ -1,9 +1,4 @@
-use Rattle.std.proofs.Common.{ap, map, ◌∷◌, []}
-use Rattle.std.proofs.lemmas.Result.{err_from_is_err_and}
-use Rattle.machine.proofs.RunLemmas.{Rises-later}
-use Rattle.unixmodel.specs.declared.event.Event.TheVariants.{Key}
-use Rattle.live.specs.Plays.{events_of}
-use Rattle.machine.proofs.RunsOn.{ends_with, runs_on}
+use Rattle.live.proofs.Common.{ap, map, ◌∷◌, [], err_from_is_err_and, Rises-later, Key, events_of, ends_with, runs_on}
 use Rattle.live.proofs.play.obey.Goals as goal
 
 pub returns-in_err-press-in-Type-clause-gives : goal.returns-in_err-press-in-Type-clause-gives

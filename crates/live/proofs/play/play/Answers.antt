@@ -1,15 +1,9 @@
-use Rattle.std.proofs.Common.{arith}
-use Rattle.std.proofs.lemmas.Result.{err_from_is_err_and}
-use Rattle.machine.proofs.RunLemmas.{Rises-later, so_far_at_first, up_now}
+use Rattle.live.proofs.Common.{arith, err_from_is_err_and, Rises-later, so_far_at_first, up_now, ends_with, goes_on_by, stops_in}
 use Rattle.live.proofs.EventLemmas.{script-next, script-whole}
-use Rattle.machine.proofs.RunsOn.{ends_with, goes_on_by, stops_in}
 use Rattle.live.proofs.play.play.Goals as goal
 
 pub loop-command-init : goal.loop-command-init
-loop-command-init g c = record {
-  so_far = so_far_at_first _ _ c.requires;
-  later = omega arith;
-}
+loop-command-init g c = record { so_far = so_far_at_first _ _ c.requires; later = omega arith }
 
 pub obey-requires : goal.obey-requires
 obey-requires g c = up_now _ _ _ _ _ c.loop-command.invariant.so_far

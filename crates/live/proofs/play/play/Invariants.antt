@@ -1,6 +1,4 @@
-use Rattle.std.proofs.Common.{◌≤◌, take}
-use Rattle.machine.proofs.RunLemmas.{SoFar}
-use Rattle.live.specs.Plays.{script_events}
+use Rattle.live.proofs.Common.{◌≤◌, take, SoFar, script_events}
 use Rattle.live.proofs.play.play.Given as goal
 
 -- the commands so far are done as the model says

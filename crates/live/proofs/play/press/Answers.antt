@@ -1,16 +1,9 @@
-use Rattle.std.proofs.Common.{arith, length, map, ◌<◌}
-use Rattle.std.proofs.lemmas.List.{length-map}
-use Rattle.std.proofs.lemmas.Result.{err_from_is_err_and}
-use Rattle.machine.proofs.RunLemmas.{Rises-later, goes_on, so_far_at_first, stops}
-use Rattle.unixmodel.specs.declared.event.Event.TheVariants.{Key}
+use Rattle.live.proofs.Common.{arith, length, map, ◌<◌, length-map, err_from_is_err_and, Rises-later, goes_on, so_far_at_first, stops, Key}
 use Rattle.live.proofs.EventLemmas.{press-next}
 use Rattle.live.proofs.play.press.Goals as goal
 
 pub loop-key-init : goal.loop-key-init
-loop-key-init g c = record {
-  so_far = so_far_at_first _ _ c.requires;
-  later = omega arith;
-}
+loop-key-init g c = record { so_far = so_far_at_first _ _ c.requires; later = omega arith }
 
 pub returns-in_err-step-clause-gives : goal.returns-in_err-step-clause-gives
 returns-in_err-step-clause-gives g c =

@@ -1,6 +1,4 @@
-use Rattle.std.proofs.Common.{◌≤◌, map, take}
-use Rattle.machine.proofs.RunLemmas.{SoFar}
-use Rattle.unixmodel.specs.declared.event.Event.TheVariants.{Key}
+use Rattle.live.proofs.Common.{◌≤◌, map, take, SoFar, Key}
 use Rattle.live.proofs.play.press.Given as goal
 
 -- the keys so far are pressed as the model says

@@ -1,16 +1,9 @@
-use Rattle.std.proofs.Common.{arith}
-use Rattle.std.proofs.lemmas.Result.{err_from_is_err_and}
-use Rattle.machine.proofs.RunLemmas.{Rises-later, so_far_at_first, up_now}
-use Rattle.live.proofs.EventLemmas.{batch-next, batch-whole}
-use Rattle.machine.proofs.RunsOn.{ends_with, goes_on_by, so-far-kept, stops_in}
+use Rattle.live.proofs.Common.{arith, replicate-append-replicate, err_from_is_err_and, Rises-later, so_far_at_first, up_now, ends_with, goes_on_by, so-far-kept, stops_in}
+use Rattle.live.proofs.EventLemmas.{batch-whole}
 use Rattle.live.proofs.play.repeat.Goals as goal
 
 pub loop-made-init : goal.loop-made-init
-loop-made-init g c = record {
-  so_far = so_far_at_first _ _ c.requires;
-  later = omega arith;
-  within = omega arith;
-}
+loop-made-init g c = record { so_far = so_far_at_first _ _ c.requires; later = omega arith; within = omega arith }
 
 pub batch-requires : goal.batch-requires
 batch-requires g c = up_now _ _ _ _ _ c.loop-made.invariant.so_far
@@ -27,7 +20,7 @@ pub loop-made-preserved : goal.loop-made-preserved
 loop-made-preserved g c =
     let before = c.loop-made.invariant in
     record {
-      so_far = rw (batch-next c.loop-made.made c.min-count.result c.args.event)
+      so_far = rw (← replicate-append-replicate c.loop-made.made c.min-count.result c.args.event)
           (goes_on_by _ _ _ _ _ _ _ _ (so-far-kept before.so_far c.write_out.ensures.kept) c.in_ok-batch.ensures.gives.1);
       later = let l = before.later in let k = c.write_out.ensures.later in let m = c.batch.ensures.later in omega arith;
       within = omega arith;

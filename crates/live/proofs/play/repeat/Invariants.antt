@@ -1,5 +1,4 @@
-use Rattle.std.proofs.Common.{◌≤◌, ◌-◌, replicate}
-use Rattle.machine.proofs.RunLemmas.{SoFar}
+use Rattle.live.proofs.Common.{◌≤◌, ◌-◌, replicate, SoFar}
 use Rattle.live.proofs.play.repeat.Given as goal
 
 -- the batches so far are done as the model says

@@ -1,5 +1,4 @@
-use Rattle.std.proofs.Common.{sym, ◌∙◌}
-use Rattle.std.proofs.lemmas.Result.{err_from_is_err_and}
+use Rattle.live.proofs.Common.{sym, ◌∙◌, err_from_is_err_and}
 use Rattle.live.proofs.SessionLemmas.{given-up, session-ends, session-flushed, session-goes-on, session-halts, session-halts-first, session-lost, session-tires, sits-begins}
 use Rattle.live.proofs.session.session.Goals as goal
 

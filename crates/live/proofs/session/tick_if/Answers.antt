@@ -1,5 +1,4 @@
-use Rattle.std.proofs.Common.{[], ◌∷◌}
-use Rattle.unixmodel.specs.declared.event.Event.TheVariants.{Tick}
+use Rattle.live.proofs.Common.{[], ◌∷◌, Tick}
 use Rattle.live.proofs.SessionLemmas.{given-all, given-none, one-gives}
 use Rattle.live.proofs.session.tick_if.Goals as goal
 

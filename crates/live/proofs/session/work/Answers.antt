@@ -1,7 +1,5 @@
-use Rattle.std.proofs.Common.{sym, ◌∙◌, ◌≡◌}
-use Rattle.std.specs.Prelude.{OnOk}
+use Rattle.live.proofs.Common.{sym, ◌∙◌, ◌≡◌, OnOk, ok-of, on-all, on-err}
 use Rattle.live.proofs.SessionLemmas.{ends-by, ends-full, working-begins, works-on}
-use Rattle.machine.proofs.RunsOn.{ok-of, on-all, on-err}
 use Rattle.live.proofs.session.work.Goals.{then-more-eq0-via-else-more-eq0+then-is_err, then-more-eq0-via-then-more-eq0}
 use Rattle.live.proofs.session.work.Goals as goal
 
