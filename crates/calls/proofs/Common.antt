@@ -16,23 +16,23 @@ pub use Rattle.console.specs.Output.{AppendsBeginning}
 pub use Rattle.file_transfers.proofs.Memory.{reach-written, readable-count, rest-writes}
 pub use Rattle.file_transfers.specs.Moved.{bytes_given, bytes_of, bytes_read}
 pub use Rattle.files.proofs.Free.{free-None, free-opens, free-place, free-put}
-pub use Rattle.files.proofs.Whole.{opens-moved, opens-opened, without_opens-same}
+pub use Rattle.files.proofs.Whole.{file-opens, opens-moved, opens-opened, without_opens-same}
 pub use Rattle.files.specs.Meant.{file_of, target_of}
 pub use Rattle.files.specs.Places.{Counted, file_at, free_count, has_end, moved, node_at, node_from, usable}
 pub use Rattle.files.specs.declared.file.Target.{Target}
 pub use Rattle.inode.specs.declared.InodeStat.{InodeStat}
-pub use Rattle.kernel.proofs.Finishes.{counting-kernel, IsThere, process-idle, there-of}
+pub use Rattle.kernel.proofs.Finishes.{counting-kernel}
 pub use Rattle.kernel.proofs.Holding.{home-folder, is_by, kept-cong, used-is}
 pub use Rattle.kernel.proofs.Idle.{busy-state, idle-turn, running-state}
 pub use Rattle.kernel.proofs.Joined.{change_process-with_table, has_child-with_table, zombie_child-with_table}
 pub use Rattle.kernel.proofs.Leaving.{ends-at, ends-run, stops-run, waits-run}
 pub use Rattle.kernel.proofs.Memories.{drew-state, reheld-full, resized-state, wrote-state}
-pub use Rattle.kernel.proofs.Opens.{file-at, IsFileAt, open-named, slot-file, waits-other, waits-reading, waits-writing}
+pub use Rattle.kernel.proofs.Opens.{file-at, IsFileAt, open-named, waits-other, waits-reading, waits-writing}
 pub use Rattle.kernel.proofs.Readies.{stands-open, turn-alive}
 pub use Rattle.kernel.proofs.Reading.{serves-disk}
 pub use Rattle.kernel.proofs.Reaped.{away-loaded, match-active, match-place, opened-loaded, over-state, reap-state, used-loaded, within-state}
 pub use Rattle.kernel.proofs.Renaming.{descriptors-run, dup-state, renamed-within}
-pub use Rattle.kernel.proofs.Running.{answer-run, change-put, change-run, live, not-killed, regs-kernel, regs-run, regs-state, runs-mode}
+pub use Rattle.kernel.proofs.Runs.{answer-run, change-put, change-run, IsThere, live, not-killed, process-idle, regs-kernel, regs-run, regs-state, runs-mode, there-of}
 pub use Rattle.kernel.proofs.Runs.{home-running, IsRun, loaded-run, moved-state, process-run, run-of, self, set-slot, set-twice, slot-other, slot-put, slot-within, stands-set, with_process, within-run, within-space}
 pub use Rattle.kernel.proofs.Shown.{frames-state, place-changed, place-state, process-state}
 pub use Rattle.kernel.proofs.Starts.{picked-state, picks-killed, picks-ready, started-is, started-kernel, started-run, started-state, started_to}

@@ -32,7 +32,7 @@ pub record Resumes (k s : Kernel) (i : ℕ) (w : Pending) : Type 0 where
 
 module _ (k : Kernel) (i : ℕ) (p : Process) (h : SpaceView) (w : Pending) (is : IsKernel k) (none : k.spaces.active ≡ None) (up : k.tree.failed ≡ false) (f : IsResting k i p h w) where
   abbrev to : Kernel
-  to = started_to k i p h is none f.there.process f.there.space f.alive
+  to = started_to k i p h is none f.there f.alive
 
   abbrev q : Process
   q = record p { mode = Running }
@@ -43,17 +43,17 @@ module _ (k : Kernel) (i : ℕ) (p : Process) (h : SpaceView) (w : Pending) (is 
   goes : resumed (state_of k) i ≡ settle (state_of to) i (going_at (state_of to) i w)
   unfolding resume
   goes =
-      let run = started-run k i p h is none f.there.process f.there.space f.alive f.live f.free in
-      ap (resumed_by (state_of k) i) (process-idle k i p h is none f.there f.alive)
+      let run = started-run k i p h is none f.there f.alive f.live f.free in
+      ap (resumed_by (state_of k) i) (process-idle k i none f.there)
       ∙ ap (resumed_in (state_of k) i (with_space h p)) f.waits
-      ∙ ap (λ (s : State). settle s i (goes_on s i (with_space h q) w w.number)) (sym (started-state k i p h is none f.there.process f.there.space f.alive f.live f.free))
+      ∙ ap (λ (s : State). settle s i (goes_on s i (with_space h q) w w.number)) (sym (started-state k i p h is none f.there f.alive f.live f.free))
       ∙ sym (ap (λ (o : Option unix.Process). settle (state_of to) i (going_by (state_of to) i w o)) (process-run to i q h run))
 
   resting : Resumes k to i w
   resting =
-      let run = started-run k i p h is none f.there.process f.there.space f.alive f.live f.free in
+      let run = started-run k i p h is none f.there f.alive f.live f.free in
       record {
-        runs = record { active = refl; up = up; sound = started-kernel k i p h is none f.there.process f.there.space f.alive f.live f.free; zero = f.there.placed.zero; aligned = f.there.placed.aligned };
+        runs = record { active = refl; up = up; sound = started-kernel k i p h is none f.there f.alive f.live f.free; zero = f.there.placed.zero; aligned = f.there.placed.aligned };
         can = (rw (ap descriptors_in run.process, ap (λ (o : Option SpaceView). unwrap_or o no_pages) run.space) f.pending, rw (ap descriptors_in run.process) awaits);
         row = goes;
       }
@@ -66,7 +66,7 @@ module _ {k : Kernel} (i : ℕ) (w : Pending) (is : IsKernel k) (none : k.spaces
   resumes-started =
       let r = resting-of k i w (slot k.table.places i) is refl waits in
       let f = r.1.1 in
-      rw (started-is k i r.0 r.1.0 is none f.there.process f.there.space f.alive) (resting k i r.0 r.1.0 w is none up f)
+      rw (started-is k i r.0 r.1.0 is none f.there f.alive) (resting k i r.0 r.1.0 w is none up f)
 
   pub resumes-as : {s : Kernel} → s ≡ waking (started k i) s.table.awake → Resumes k s i w
   resumes-as {s} same = let runs = resumes-started.runs in subst (λ (y : Kernel). Resumes k y i w) (sym same) (record {

@@ -1,6 +1,6 @@
 -- fstat: a node tells of itself.
 use Rattle.calls.proofs.Common.{Bool, Err, List, None, Ok, Option, Some, [], ap, arith, false, refl, subst, sym, true, ℕ, ◌%◌, ◌/◌, ◌∙◌, ◌∷◌, ◌≡◌, length, option_map, Acts, Runs, wrote, IsKernel, HasRead, stat_told, Answers}
-use Rattle.calls.proofs.Common.{Refuses, Target, file_of, target_of, file_at, node_at, node_from, InodeStat, slot-file, held-run, FitsNode, node_of, node_on, Kernel, argument, counting, descriptors_at, state_of, SpaceView, view_at}
+use Rattle.calls.proofs.Common.{Refuses, Target, file_of, target_of, file_at, node_at, node_from, InodeStat, file-opens, held-run, FitsNode, node_of, node_on, Kernel, argument, counting, descriptors_at, state_of, SpaceView, view_at}
 use Rattle.calls.proofs.Common.{none-some, Tells, row, Fstat, fstat_row, node_number, stat_bytes, Node, slot, can_write, zeros, le, low, Outcome, answers, given, limited, provided, Done, Refused, State, put_process, wrote-state}
 use Rattle.files.specs.declared.table.FileFault.{FileFault}
 use Rattle.calls.proofs.Acts.{Here, descriptor-is, here-of, me, prints, refused, used-here, here-in}
@@ -79,7 +79,7 @@ module _ (k : Kernel) (i : ℕ) (runs : Runs k i) where
 
     pub fstat-nodeless : (fault : FileFault) → Err fault ≡ node_at (file_at k.files id) → Acts k k i (Some Fstat) Refuses
     unfolding fstat_row
-    fstat-nodeless fault none = refused k i x (Some Fstat) (rw (here, slot-file k.files id) (no-node (file_at k.files id) fault (sym none) _))
+    fstat-nodeless fault none = refused k i x (Some Fstat) (rw (here, file-opens k.files id) (no-node (file_at k.files id) fault (sym none) _))
 
     module _ (n : ℕ) (on : Ok n ≡ node_at (file_at k.files id)) where
       abbrev f : OpenFile
@@ -107,7 +107,7 @@ module _ (k : Kernel) (i : ℕ) (runs : Runs k i) where
 
       row-is : row (state_of k) i (me k i x) Fstat ≡ provided (can_write x.held.memory address 24) (answers (put_process (state_of k) i (record (me k i x) { memory = made_so.memory })) 0)
       unfolding fstat_row
-      row-is = rw (here, slot-file k.files id, opened, number, fstat-there.1) refl
+      row-is = rw (here, file-opens k.files id, opened, number, fstat-there.1) refl
 
       can-here : (b : Bool) → b ≡ can_write (view_at k.spaces i).memory address 24 → can_write x.held.memory address 24 ≡ b
       can-here b can = ap (λ (y : SpaceView). can_write y.memory address 24) (sym (held-run k i x.process x.held x.run x.sound)) ∙ sym can

@@ -74,7 +74,7 @@ module _ (k : Kernel) (i : ℕ) (p : Process) (is : IsKernel k) (none : k.spaces
   taken-is : (alive : lives p ≡ true) → (h : SpaceView) × (IsThere k i p h × (taken (state_of k) i ≡ next.picked (state_of k) i (with_space h p)))
   taken-is alive =
       let t = there-of k i p is at in
-      (t.0, (t.1, ap (taken_by (state_of k) i) (process-idle k i p t.0 is none t.1 alive)))
+      (t.0, (t.1, ap (taken_by (state_of k) i) (process-idle k i none t.1)))
 
   alive-here : IsAlive (slot k.table.places i) → lives p ≡ true
   alive-here alive = rw at at alive
@@ -83,13 +83,13 @@ module _ (k : Kernel) (i : ℕ) (p : Process) (is : IsKernel k) (none : k.spaces
   takes-killed z a lives killed =
       let alive = alive-here lives in
       let t = taken-is alive in
-      t.1.1 ∙ picks-killed k i p t.0 is none at t.1.0.space alive up z a killed
+      t.1.1 ∙ picks-killed k i p t.0 is none t.1.0 alive up z a killed
 
   pub takes-ready : p.killed ≡ false → p.mode ≡ Ready → taken (state_of k) i ≡ quiet (state_of (started k i))
   takes-ready free ready =
       let alive : lives p ≡ true = rw ready refl in
       let t = taken-is alive in
-      t.1.1 ∙ picks-ready k i p t.0 is none at t.1.0.space alive (live-mode p t.0.memory p.mode ready t.1.0.placed.mode) free ready
+      t.1.1 ∙ picks-ready k i p t.0 is none t.1.0 alive (live-mode p t.0.memory p.mode ready t.1.0.placed.mode) free ready
 
   pub takes-waiting : (w : Pending) → p.killed ≡ false → p.mode ≡ Waiting w → taken (state_of k) i ≡ resumed (state_of k) i
   takes-waiting w free waits =
@@ -100,7 +100,7 @@ module _ (k : Kernel) (i : ℕ) (p : Process) (is : IsKernel k) (none : k.spaces
       ∙ ap (λ (b : Bool). if b then quiet (end_process (state_of k) i whole (negsuc 0)) else next.picked_in (state_of k) i whole whole.mode) free
       ∙ ap (next.picked_in (state_of k) i whole) waits
       ∙ sym (ap (resumed_in (state_of k) i whole) waits)
-      ∙ sym (ap (resumed_by (state_of k) i) (process-idle k i p t.0 is none t.1.0 alive))
+      ∙ sym (ap (resumed_by (state_of k) i) (process-idle k i none t.1.0))
 
 -- ---- a turn
 
@@ -110,7 +110,7 @@ module _ (k : Kernel) (i : ℕ) (is : IsKernel k) (none : k.spaces.active ≡ No
   turn-takes =
       let some = alive-some (slot k.table.places i) (turn-alive k none i found) in
       let t = there-of k i some.0 is some.1.0 in
-      let at = process-idle k i some.0 t.0 is none t.1 some.1.1 in
+      let at = process-idle k i none t.1 in
       ap (take_turn (state_of k)) found
       ∙ ap (pick (state_of k) i) at
       ∙ sym (ap (taken_by (record (state_of k) { last = i }) i) at)

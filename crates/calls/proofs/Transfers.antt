@@ -2,7 +2,7 @@
 use Rattle.calls.proofs.Common.{◌≡◌, ◌≢◌, ℕ, zero, suc, ◌<◌, Bool, true, false, ◌&&◌, List, Option, Some, None, refl, ap, subst, sym, ◌∙◌, arith, if◌then◌else◌, Err, IfSome, IsSome, Ok, Result, is_some, option_and_then}
 use Rattle.calls.proofs.Common.{option_map, result_ok, false≢true, none-some, same_Some, DeviceFault, Acts, ActsOnDisk, CanWait, GoesOnDisk, Runs, pending_for, Came, Answers, Refuses, descriptors_in, FitsNode, node_of}
 use Rattle.calls.proofs.Common.{node_on, Kernel, argument, descriptors_at, state_of, Stands, IsFresh, IsPending, file_named, is_on_pipe, Begins, MayUse, Transfers, call_on, can_transfer, target_for, target_named}
-use Rattle.calls.proofs.Common.{IsFileAt, file-at, open-named, slot-file, stands-open, held-run, Target, file_of, target_of, Counted, file_at, usable, Process, SpaceView, view_at, goes_on, row, Pending, is_usable}
+use Rattle.calls.proofs.Common.{IsFileAt, file-at, open-named, file-opens, stands-open, held-run, Target, file_of, target_of, Counted, file_at, usable, Process, SpaceView, view_at, goes_on, row, Pending, is_usable}
 use Rattle.calls.proofs.Common.{read_row, unless_empty, write_row, slot, Memory, can_write, read_bytes, int_of, low, natural, Outcome, given, limited, pending_arg, pending_of, provided, Refused, arg, State, FitsFiles}
 use Rattle.calls.proofs.Acts.{Here, does, going, going-here, here-of, me, outcome-here, refused, used-here}
 use Rattle.kernel.proofs.Opens.{IsNamed}
@@ -65,7 +65,7 @@ given-file (Some f) rest = refl
 
 given-named : (opens : List (Option Counted)) (o : Option ℕ) (rest : unix_files.OpenFile → Outcome) → given o (λ n. given (slot (opens_of opens) n) rest) ≡ given (option_and_then (file_at opens) o) (λ f. rest (file_of f))
 given-named opens None rest = refl
-given-named opens (Some n) rest = ap (λ o. given o rest) (slot-file opens n) ∙ given-file (file_at opens n) rest
+given-named opens (Some n) rest = ap (λ o. given o rest) (file-opens opens n) ∙ given-file (file_at opens n) rest
 
 row-files : (e : End) (k : Kernel) (i : ℕ) (p : unix.Process) → row (state_of k) i p (call_on e) ≡ filed e (state_of k) (file_named k.files p.descriptors (low (arg p 0))) (counted e (state_of k) i p)
 unfolding read_row write_row
@@ -205,7 +205,7 @@ module _ {k : Kernel} {i : ℕ} {e : End} {t : Target} {w : Pending} (g : Transf
   file-named = record {
     number = file.number;
     named = ap (λ (o : Option Process). slot (descriptors_in o) (low (pending_arg w 0))) (sym here.run.process) ∙ file.named;
-    opened = slot-file k.files file.number ∙ ap (option_map file_of) file.opened;
+    opened = file-opens k.files file.number ∙ ap (option_map file_of) file.opened;
   }
 
   -- its node fits it
@@ -214,7 +214,7 @@ module _ {k : Kernel} {i : ℕ} {e : End} {t : Target} {w : Pending} (g : Transf
 
   -- the pipe that it is an end of is there
   pub transfer-stands : Stands k.spaces (target_of t)
-  transfer-stands = stands-open k.spaces (opens_of k.files) file.number (file_of file.file) (target_of t) g.runs.sound.opened.piped (slot-file k.files file.number ∙ ap (option_map file_of) file.opened) (ap target_of file.on)
+  transfer-stands = stands-open k.spaces (opens_of k.files) file.number (file_of file.file) (target_of t) g.runs.sound.opened.piped (file-opens k.files file.number ∙ ap (option_map file_of) file.opened) (ap target_of file.on)
 
   -- the number of its open file
   pub named-number : {d : ℕ} → d ≡ low (pending_arg w 0) → (o : Option ℕ) → o ≡ slot (descriptors_at k i) d → (n : ℕ) → o ≡ Some n → n ≡ file.number
@@ -263,7 +263,7 @@ module _ {k : Kernel} {i : ℕ} {w : Pending} (e : End) (runs : Runs k i) (can :
       let n = some-named (slot (descriptors_at k i) (low (pending_arg w 0))) (pending-named e (descriptors_at k i) (view_at k.spaces i).memory w pending) in
       let there = open-named k.files k.spaces.pipes k.table.places x.sound.opened i x.process (low (pending_arg w 0)) n.0 x.run.process (ap (λ (o : Option Process). slot (descriptors_in o) (low (pending_arg w 0))) (sym x.run.process) ∙ n.1) in
       let named : file_named k.files (descriptors_at k i) (low (pending_arg w 0)) ≡ file_at k.files n.0 = ap (option_and_then (file_at k.files)) n.1 in
-      some-file (file_at k.files n.0) (ap is_some (sym (slot-file k.files n.0) ∙ there.1.0)) (sym (ap (option_map (λ (f : OpenFile). f.target)) named) ∙ open-on None none)
+      some-file (file_at k.files n.0) (ap is_some (sym (file-opens k.files n.0) ∙ there.1.0)) (sym (ap (option_map (λ (f : OpenFile). f.target)) named) ∙ open-on None none)
 
   pub goes-transfers : {t : Target} → r ≡ Some t → Transfers k i e t w
   goes-transfers {t = t} is = record { runs = runs; number = number; can = pending; fresh = can.1.fresh; target = open-on (Some t) is }

@@ -4,7 +4,7 @@ use Rattle.digests.proofs.Common.{each, front_of, memory_mixed, mix, mixed, page
 use Rattle.std.specs.Prelude.{is_some, option_map, slice_get}
 use Rattle.std.proofs.lemmas.List.Sums.{fold_more}
 use Rattle.digests.proofs.Steps.{each-all}
-use Rattle.kernel.proofs.Reaped.{IsMatch, match-loaded}
+use Rattle.kernel.proofs.Reaped.{match-loaded}
 use Rattle.kernel.proofs.Shown.{process-state}
 use Rattle.proc.specs.declared.process.Process.{Process}
 use Rattle.proc.specs.Places.{Places, changed_at}
@@ -36,12 +36,8 @@ unfolding bare_mixed
 bare-same digest h p = refl
 
 -- where there is a process there is a space
-space-match : (o : Option Process) (q : Option SpaceView) (p : Process) → Some p ≡ o → IsMatch o q → is_some q ≡ true
-space-match o None p is fits = absurd (subst (λ (x : Option Process). IsMatch x None) (sym is) fits)
-space-match o (Some h) p is fits = refl
-
 pub space-there : (k : Kernel) → IsKernel k → (i : ℕ) (p : Process) → Some p ≡ slot (loaded k).places i → has_space k.spaces i ≡ true
-space-there k sound i p is = space-match (slot (loaded k).places i) (slot k.spaces.places i) p is (match-loaded k sound i)
+space-there k sound i p is = sym (match-loaded k sound i) ∙ ap is_some (sym is)
 
 pub place-done : (k : Kernel) (i digest size bare now : ℕ) (p : Process) → Some p ≡ slot (loaded k).places i → size ≡ (view_at k.spaces i).size → bare ≡ bare_mixed digest (with_space (record { memory = []; size = size }) p) → now ≡ memory_mixed bare (view_at k.spaces i).memory
     → now ≡ place_mixed digest (process_at (state_of k) i)

@@ -1,25 +1,22 @@
 -- A descriptor of the running process is closed.
-use Rattle.kernel.proofs.Common.{◌≡◌, ℕ, ◌+◌, ◌∷◌, [], true, List, length, Option, Some, None, refl, ap, arith, subst, sym, ◌∙◌, Ok, Err, IfOk, OnErr, Result, length-set, DeviceFault, FileTree, Serves, Kernel, loaded}
-use Rattle.kernel.proofs.Common.{state_of, IsKernel, IsOpened, Keeps, IsInUse, IsCounted, AreHeld, all_dropped, files_on, homes_at, last_node, listed, after_close, standing, count-closed, names-clear, pipes-same}
-use Rattle.kernel.proofs.Common.{Counted, closed, last_target, opens_of, table-closed, slot-within, Process, clear, put, slot, reap, put_process, woken_by, Bytes, HasClosed, MayClose, closed_at, with_descriptor}
+use Rattle.kernel.proofs.Common.{◌≡◌, ℕ, ◌+◌, ◌∷◌, [], is_some, List, length, Option, Some, None, refl, ap, arith, sym, ◌∙◌, Result, length-set, DeviceFault, FileTree, Serves, Kernel, loaded, state_of, IsKernel, IsOpened, Keeps, IsInUse}
+use Rattle.kernel.proofs.Common.{IsCounted, AreHeld, all_dropped, files_on, homes_at, last_node, listed, after_close, standing, count-closed, names-clear, pipes-same, Counted, closed, last_target, opens_of, table-closed, slot-within}
+use Rattle.kernel.proofs.Common.{Process, clear, put, slot, reap, put_process, woken_by, Bytes, HasClosed, MayClose, closed_at, with_descriptor}
 use Rattle.kernel.proofs.Dropping.{counted as counted_tree}
-use Rattle.kernel.proofs.Finishes.{counting-kernel}
+use Rattle.kernel.proofs.Finishes.{told-kernel}
 use Rattle.kernel.proofs.Holding.{fewer-held, fewer-leaves, fewer-nodes, fewer-used, named_in}
-use Rattle.kernel.proofs.Named.{Leaves, counts-joined, fewer-pipes, files-all_closed, files_on-closed, leaves-standing, left-close_pipe, old-all_closed, opens-all_closed, piped-close, reap-closed, standing-is}
+use Rattle.kernel.proofs.Named.{Leaves, counts-joined, fewer-pipes, files-all_closed, files_on-closed, leaves-one, leaves-standing, old-all_closed, opens-all_closed, reap-closed, standing-is}
 use Rattle.kernel.proofs.Opens.{waits-fewer, waits-running, waits-set}
+use Rattle.kernel.proofs.Reading.{serves-as}
 use Rattle.kernel.proofs.Reaped.{away-loaded, opened-loaded, used-active}
 use Rattle.kernel.proofs.Renaming.{descriptors-run, named-counts, named-put}
-use Rattle.kernel.proofs.Steps.{fail-kernel}
 use Rattle.kernel.proofs.Turning.{Runner, me_of, renamed, renamed-kernel, renamed-state, renamed_to, runner-of, used-turned}
 use Rattle.kernel.proofs.Wakes.{kernel-waking, running-at}
 use Rattle.kernel.proofs.Watching.{watched-bytes, watched-running}
 
 -- the pipe of a last end goes, and the others stand
 close-standing : (k : Kernel) → IsKernel k → (n : ℕ) → after_close k.spaces.pipes (opens_of (closed k.files n)) (last_target k.files n) ≡ standing k.spaces.pipes (opens_of (closed k.files n))
-close-standing k is n =
-    let opens = opens_of (closed k.files n) in
-    let after = after_close k.spaces.pipes opens (last_target k.files n) in
-    sym (standing-is opens k.spaces.pipes after (piped-close k.spaces.pipes k.files n is.opened.piped) (left-close_pipe k.spaces.pipes k.spaces.pipes opens (last_target k.files n) (pipes-same k.spaces.pipes)))
+close-standing k is n = let left = leaves-one k.files k.spaces.pipes k.spaces.pipes n (is.opened.piped, pipes-same k.spaces.pipes) in sym (standing-is (opens_of (closed k.files n)) k.spaces.pipes (after_close k.spaces.pipes (opens_of (closed k.files n)) (last_target k.files n)) left.0 left.1)
 
 module _ {k : Kernel} {i : ℕ} (x : Runner k i) (fd n : ℕ) (may : MayClose k i fd n) where
   here : slot x.process.descriptors fd ≡ Some n
@@ -85,10 +82,7 @@ module _ {k : Kernel} {i : ℕ} (x : Runner k i) (fd n : ℕ) (may : MayClose k 
   to-kernel : IsKernel to
   to-kernel = renamed-kernel x ds x.process.directory same tree left pipes
       (λ up. fewer-used before left (put k.table.places i q) gone (gone-counted (put k.table.places i q)) (old-all_closed k.files (Some n ∷ [])) (λ j d at. at))
-      opened (let fits = x.sound.fits in omega (arith, fits, fewer-pipes k.spaces.pipes pipes leaves.1.all leaves.1.each))
-
-  pub closed-kernel : IsKernel (closed_at k i fd n)
-  closed-kernel = rw (← close-is) to-kernel
+      opened (let fits = x.sound.fits in omega (arith, fits, fewer-pipes k.spaces.pipes pipes leaves.1.all (λ p bytes at. ap is_some (leaves.1.each p bytes at))))
 
   -- what nothing names any more goes
   pub close-reaps : reap (put_process (state_of k) i (record (me_of x) { descriptors = ds })) ≡ state_of (closed_at k i fd n)
@@ -105,29 +99,13 @@ module _ {k : Kernel} {i : ℕ} (x : Runner k i) (fd n : ℕ) (may : MayClose k 
       ∙ ap (λ b. record (state_of middle) { files = tree.files; block_limit = b }) (sym (fewer-leaves all left places gone (gone-counted places) files (λ j d at. at)).limit)
       ∙ ap state_of close-is
 
--- a step of the disk that tells this tree, or fails
-pub told-kernel : {k : Kernel} → IsKernel k → (t : FileTree) (r : Result (Unit {0}) DeviceFault) → IfOk r (λ done. t ≡ counted_tree k.tree t.failures) → OnErr r (t.failed ≡ true) → IsKernel (record k { tree = t })
-told-kernel {k} is t (Ok done) told down = subst (λ (u : FileTree). IsKernel (record k { tree = u })) (sym told) (counting-kernel k t.failures is)
-told-kernel is t (Err fault) told down = fail-kernel is t down
-
--- and what is told then
-pub told-as : {T : Type 0} {P Q : T → Type 0} → ((x : T) → P x → Q x) → (r : Result T DeviceFault) → IfOk r P → IfOk r Q
-told-as so (Ok x) told = so x told
-told-as so (Err fault) told = tt
-
 pub close-serves : (k : Kernel) (i fd n : ℕ) {t : FileTree} {r : Result (Unit {0}) DeviceFault} → Serves k.tree t r (λ done. t ≡ counted_tree (all_dropped k.tree (listed (last_node k.files n))) t.failures)
     → Serves k.tree t r (λ done. HasClosed k (record (closed_at k i fd n) { tree = t; table = woken_by Bytes (closed_at k i fd n).table }) i fd n)
-close-serves k i fd n {t} {r} serves = record {
-  told = told-as (λ done told. ap (λ (u : FileTree). record (closed_at k i fd n) { tree = u; table = woken_by Bytes (closed_at k i fd n).table }) told) r serves.told;
-  up = serves.up;
-  down = serves.down;
-  same_device = serves.same_device;
-  cause = serves.cause;
-}
+close-serves k i fd n = serves-as refl refl (λ done told. ap (λ (u : FileTree). record (closed_at k i fd n) { tree = u; table = woken_by Bytes (closed_at k i fd n).table }) told)
 
 pub close-keeps : {k : Kernel} {i fd n : ℕ} → Keeps k → (may : MayClose k i fd n) → (t : FileTree) (r : Result (Unit {0}) DeviceFault) → Serves k.tree t r (λ done. t ≡ counted_tree (all_dropped k.tree (listed (last_node k.files n))) t.failures)
     → Keeps (record (closed_at k i fd n) { tree = t; table = woken_by Bytes (closed_at k i fd n).table })
 close-keeps {k} {i} {fd} {n} keeps may t r serves = record {
-  sound = kernel-waking (told-kernel (closed-kernel (runner-of keeps.sound may.running) fd n may) t r serves.told serves.down) _;
+  sound = kernel-waking (told-kernel {k = closed_at k i fd n} (let x = runner-of keeps.sound may.running in rw (← close-is x fd n may) (to-kernel x fd n may)) t r serves.told serves.down) _;
   watched = watched-bytes (watched-running keeps.watched i (with_descriptor fd None) (running-at keeps.sound i may.running) (λ p pid is. is)) _ refl;
 }

@@ -1,25 +1,21 @@
 -- A zombie child is waited for.
-use Rattle.kernel.proofs.Common.{◌≡◌, ◌≢◌, ℕ, ◌<◌, true, false, List, length, Option, Some, None, inl, inr, if◌then◌else◌, refl, ap, subst, sym, ◌∙◌, arith, cases_lt, true≢false, and_parts, slice_set}
-use Rattle.kernel.proofs.Common.{length-set, option_map, Kernel, base, on_hart, rest_of, state_of, IsKernel, IsMode, IsPlace, is_at, Keeps, IsWatched, names_in, home_in, names, names-none, Process, Places}
-use Rattle.kernel.proofs.Common.{place_where-Some, is_zombie_child_of, with_table, SpaceView, has_space, Memory, Mode, Ready, Running, Waiting, Zombie, clear, put, slot, slot-within, is_running_mode}
-use Rattle.kernel.proofs.Common.{is_zombie_mode, State, holds, collected, IsEnded, reaped_at, reaped_from, without, zombie_place, taken-placed, with_place, set_comm, no_descriptors, status_of}
+use Rattle.kernel.proofs.Common.{◌≡◌, ◌≢◌, ℕ, ◌<◌, true, false, List, length, Option, Some, None, if◌then◌else◌, refl, ap, subst, sym, ◌∙◌, arith, true≢false, and_parts, slice_set, length-set, option_map, Kernel, base, on_hart, rest_of}
+use Rattle.kernel.proofs.Common.{state_of, IsKernel, IsMode, IsPlace, is_at, Keeps, IsWatched, names_in, home_in, names, names-none, Process, Places, is_zombie_child_of, with_table, SpaceView, has_space, Memory, Mode, Running, Zombie}
+use Rattle.kernel.proofs.Common.{clear, put, slot, slot-within, is_running_mode, is_zombie_mode, State, holds, collected, IsEnded, reaped_at, reaped_from, without, zombie_place, taken-placed, with_place, set_comm, no_descriptors, status_of}
 use Rattle.kernel.proofs.Holding.{used-put}
-use Rattle.kernel.proofs.Masks.{set-past}
 use Rattle.kernel.proofs.Opens.{opened-names}
 use Rattle.kernel.proofs.Runs.{IsRun, eq-self, place-space, runs-set, slot-other, stands-set, state-run, with_process}
 use Rattle.kernel.proofs.Turning.{Runner}
 use Rattle.kernel.proofs.Watching.{watched-put}
-use Rattle.kernel.proofs.Joined.{cleared-with_table}
+use Rattle.kernel.proofs.Joined.{cleared-with_table, place_where-Some}
 use Rattle.proc.specs.declared.table.Reaped.{Reaped}
 use Rattle.proc.specs.Places as table
 
 -- ---- a place is cleared
 
 ended-mode : (p : Process) (memory : Memory) (mode : Mode) → is_zombie_mode mode ≡ true → IsMode p memory mode → IsEnded p
-ended-mode p memory Running zombie is = absurd (cc)
-ended-mode p memory Ready zombie is = absurd (cc)
-ended-mode p memory (Waiting w) zombie is = absurd (cc)
 ended-mode p memory (Zombie status) zombie is = is
+ended-mode p memory _ zombie is = absurd (cc)
 
 ended-place : (p : Process) (q : Option SpaceView) → is_zombie_mode p.mode ≡ true → IsPlace (Some p) q → p.descriptors ≡ no_descriptors
 ended-place p None zombie is = absurd is
@@ -50,10 +46,6 @@ module _ {k : Kernel} (is : IsKernel k) (j : ℕ) (child : Process) (z : IsZombi
   in-spaces : j < length k.spaces.places
   in-spaces = let low = in-table in omega (arith, is.all, is.spaces, low)
 
-  -- a zombie names nothing
-  no-names : child.descriptors ≡ no_descriptors
-  no-names = ended-place child (slot k.spaces.places j) z.ended (subst (λ (o : Option Process). IsPlace o (slot k.spaces.places j)) z.at (is.stands j))
-
   pub collected-kernel : IsKernel (collected k (Some j))
   collected-kernel = record {
     all = length-set k.table.places j None ∙ is.all;
@@ -62,7 +54,7 @@ module _ {k : Kernel} (is : IsKernel k) (j : ℕ) (child : Process) (z : IsZombi
     runs = runs-set k.table.places j None k.spaces.active k.spaces.active in-table (sym rests) (λ n other. refl) is.runs;
     used = λ up. used-put (is.used up) j None (sym (ap home_in z.at ∙ ap (λ b. if b then None else Some child.directory) z.ended));
     fits = omega (arith, taken-placed k.spaces j None in-spaces, is.fits);
-    opened = opened-names k.files k.spaces.pipes k.table.places j None (λ n. sym (ap (names_in n) z.at ∙ ap (names n) no-names ∙ names-none n)) tt is.opened;
+    opened = opened-names k.files k.spaces.pipes k.table.places j None (λ n. sym (ap (names_in n) z.at ∙ ap (names n) (ended-place child (slot k.spaces.places j) z.ended (subst (λ (o : Option Process). IsPlace o (slot k.spaces.places j)) z.at (is.stands j))) ∙ names-none n)) tt is.opened;
   }
 
 pub collected-run : {k : Kernel} {i : ℕ} (x : Runner k i) (j : ℕ) → j ≢ i → IsRun (collected k (Some j)) i x.process x.held
@@ -75,10 +67,11 @@ collected-state {k} {i} x j child z apart =
     let q = on_hart k.spaces x.process in
     let rest = base (rest_of k) in
     let old = with_process k.table i q in
+    let in-spaces : j < length k.spaces.places = omega (arith, slot-within k.table.places j child z.at, x.sound.all, x.sound.spaces) in
     let swap : put (clear k.table.places j) i q ≡ clear (put k.table.places i q) j = set_comm k.table.places j i None (Some q) apart in
     state-run (collected k (Some j)) i x.process x.held (collected-run x j apart)
     ∙ ap (λ (places : List (Option Process)). with_table rest (record k.table { places = places }) (slice_set k.spaces.places j None)) swap
-    ∙ sym (cleared-with_table rest old k.spaces.places j)
+    ∙ sym (cleared-with_table rest old k.spaces.places j in-spaces)
     ∙ sym (ap (λ (s : State). record s { places = clear s.places j }) (state-run k i x.process x.held x.run))
 
 -- ---- the step
@@ -86,21 +79,7 @@ collected-state {k} {i} x j child z apart =
 -- a place that becomes free, where there is one
 pub watched-without : {a : State} (t : Places) → IsWatched a t.places t.awake → (o : Option ℕ) → IsWatched a (without t o).places (without t o).awake
 watched-without t watched None = watched
-watched-without {a} t watched (Some j) = elim (cases_lt j (length t.places)) [
-  | inl low ↦ watched-put watched j None low (λ pid is. absurd (true≢false (sym is))) (λ out. tt)
-  | inr past ↦ subst (λ xs. IsWatched a xs t.awake) (sym (set-past t.places j None past)) watched
-]
-
--- what the table gives back
-pub reaped-go : (t : Places) (pid : ℕ) (o : Option ℕ) (r : Reaped) → zombie_place t pid ≡ o → reaped_at t o ≡ Some r
-    → (child : Process) × ((zombie_place t pid ≡ Some r.place) × (slot t.places r.place ≡ Some child) × (r.pid ≡ child.pid) × (r.status ≡ status_of child.mode))
-reaped-go t pid None r found is = absurd (cc)
-reaped-go t pid (Some j) r found is =
-    let f = place_where-Some (is_zombie_child_of pid) t.places j found in
-    let e : Some (reaped_from j f.0) ≡ Some r = sym (ap (option_map (reaped_from j)) f.1.0) ∙ is in
-    let g : reaped_from j f.0 ≡ r = cc in
-    let place : j ≡ r.place = ap (λ (y : Reaped). y.place) g in
-    (f.0, (found ∙ ap Some place, ap (slot t.places) (sym place) ∙ f.1.0, sym (ap (λ (y : Reaped). y.pid) g), sym (ap (λ (y : Reaped). y.status) g)))
+watched-without t watched (Some j) = watched-put watched j None (λ pid is. absurd (true≢false (sym is))) (λ out. tt)
 
 pub unreaped-go : (t : Places) (pid : ℕ) (o : Option ℕ) → zombie_place t pid ≡ o → reaped_at t o ≡ None → zombie_place t pid ≡ None
 unreaped-go t pid None found is = found
@@ -117,12 +96,23 @@ pub record HasReaped (k : Kernel) (parent : ℕ) (r : Reaped) : Type 0 where
   pub pid : r.pid ≡ child.pid
   pub status : r.status ≡ status_of child.mode
 
+has-go : (k : Kernel) (parent : ℕ) (r : Reaped) (o : Option ℕ) → zombie_place k.table parent ≡ o → reaped_at k.table o ≡ Some r → HasReaped k parent r
+has-go k parent r None found is = absurd (cc)
+has-go k parent r (Some j) found is =
+    let f = place_where-Some (is_zombie_child_of parent) k.table.places j found in
+    let e : Some (reaped_from j f.0) ≡ Some r = sym (ap (option_map (reaped_from j)) f.1.0) ∙ is in
+    let g : reaped_from j f.0 ≡ r = cc in
+    let place : j ≡ r.place = ap (λ (y : Reaped). y.place) g in
+    record {
+      child = f.0;
+      found = found ∙ ap Some place;
+      zombie = record { at = ap (slot k.table.places) (sym place) ∙ f.1.0; ended = (and_parts _ (is_zombie_mode f.0.mode) f.1.1).1 };
+      pid = sym (ap (λ (y : Reaped). y.pid) g);
+      status = sym (ap (λ (y : Reaped). y.status) g);
+    }
+
 pub has-reaped : {k : Kernel} {parent : ℕ} {r : Reaped} → Some r ≡ reaped_at k.table (zombie_place k.table parent) → HasReaped k parent r
-has-reaped {k} {parent} {r} said =
-    let f = reaped-go k.table parent (zombie_place k.table parent) r refl (sym said) in
-    let g = place_where-Some (is_zombie_child_of parent) k.table.places r.place f.1.0 in
-    let same : f.0 ≡ g.0 = let both : Some f.0 ≡ Some g.0 = sym f.1.1 ∙ g.1.0 in cc in
-    record { child = f.0; found = f.1.0; zombie = record { at = f.1.1; ended = ap (λ (y : Process). is_zombie_mode y.mode) same ∙ (and_parts _ (is_zombie_mode g.0.mode) g.1.1).1 }; pid = f.1.2; status = f.1.3 }
+has-reaped {k} {parent} {r} said = has-go k parent r (zombie_place k.table parent) refl (sym said)
 
 pub collect-keeps : {k : Kernel} {parent : ℕ} {r : Reaped} → Keeps k → HasReaped k parent r → Keeps (record k { table = without k.table (zombie_place k.table parent); spaces = with_place k.spaces r.place None })
 collect-keeps {k} {parent} {r} keeps has = record {

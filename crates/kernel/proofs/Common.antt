@@ -1,14 +1,13 @@
 -- The names that the lemmas of this crate import from elsewhere, passed on from one place. Declares nothing.
-pub use Rattle.std.proofs.Common.{◌%◌, ◌&&◌, ◌+◌, ◌++◌, ◌-◌, ◌<◌, ◌==◌, [], ◌^◌, add-one, ap, append-nil, append_assoc, ap₂, arith, Bool, cond, drop, drop-cons, eq-eqb, Err, false, inl, inr, is_some, le_trans, length, List, map}
-pub use Rattle.std.proofs.Common.{nat_eq, nat_le, nat_lt, negsuc, None, not, Ok, Option, option_map, pos, refl, rules, slice_set, Some, subst, suc, sym, take, true, unwrap_or, zero, ◌||◌, ℕ, ℤ, ◌∙◌, ◌∷◌, ◌≡◌, ◌≢◌, ◌≤◌, ◌⊎◌}
+pub use Rattle.std.proofs.Common.{◌%◌, ◌&&◌, ◌+◌, ◌++◌, ◌-◌, ◌<◌, ◌==◌, [], ◌^◌, add-one, ap, append-nil, append_assoc, ap₂, arith, Bool, cond, drop, drop-cons, eq-eqb, Err, false, inl, inr, is_some, le_trans, length, List, map, nat_eq}
+pub use Rattle.std.proofs.Common.{nat_le, nat_lt, negsuc, None, not, Ok, Option, option_map, refl, rules, slice_set, Some, subst, suc, sym, take, true, unwrap_or, zero, ◌||◌, ℕ, ℤ, ◌∙◌, ◌∷◌, ◌≡◌, ◌≢◌, ◌≤◌, ◌⊎◌}
 pub use Rattle.std.proofs.Math.ListN.{get_or-map}
-pub use Rattle.std.proofs.lemmas.Bool.{and_parts, cases_eq, cases_lt, eqb-true, false_from_ne_true, le-leb, le-ltb, lt-leb, lt-ltb, ltb-false, ltb-true}
-pub use Rattle.std.proofs.lemmas.Bool.{ne_eqb, not-false, not-true, not_from_true, or_from, or_left, or_parts, or_right, true_from_ne_false, true≢false}
+pub use Rattle.std.proofs.lemmas.Bool.{and_parts, cases_eq, cases_lt, eqb-true, false_from_ne_true, le-leb, le-ltb, lt-leb, lt-ltb, ltb-true, ne_eqb, not-false, not-true, not_from_true, or_from, or_left, or_parts, or_right, true≢false}
 pub use Rattle.std.proofs.lemmas.Bool.Decides.{nat_tests}
 pub use Rattle.std.proofs.lemmas.List.{drop_all, get_or-set_other, get_or-set_same, get_or_past, length-append, length-map, length-set, set-get_or, set_comm, take_all}
 pub use Rattle.std.proofs.lemmas.List.Folds.{position_or_len-set, prefix_len-set}
 pub use Rattle.std.proofs.lemmas.List.Quantifiers.{position-Some}
-pub use Rattle.std.proofs.lemmas.List.Sums.{count_by-le-length, fails_before_first, position_or_len_is, sum_by-append, sum_by-cons, sum_by-set}
+pub use Rattle.std.proofs.lemmas.List.Sums.{count_by-le-length, position_or_len_is, sum_by-append, sum_by-cons, sum_by-set}
 pub use Rattle.std.proofs.lemmas.Option.{cond_some, none-some, option_and_then_some, same_Some}
 pub use Rattle.std.specs.Borrow.{Bor}
 pub use Rattle.std.specs.Fn.{FnReturns, Shared}
@@ -19,8 +18,8 @@ pub use Rattle.blockdev.specs.declared.DeviceFault.{DeviceFault}
 pub use Rattle.files.proofs.CountsLemmas.{count-closed, count-moved, count-opened, count-shared, count_of, Counts, lt-no, lt-yes, names-clear, names-none, names-put, one_at}
 pub use Rattle.files.proofs.Free.{free-opens, free-place, free-put, free-Some}
 pub use Rattle.files.proofs.PipesLemmas.{has_pipe-clear, has_pipe-put, IsLeftOf, piped-end, piped-last, piped-node, pipes-clear, pipes-left, pipes-same, without_pipes-left, without_pipes-same}
-pub use Rattle.files.proofs.Whole.{all-set, fewer-from, file-opens, free_slot-opens, IsLeft, left-closed, left-same, length-opens, opens-closed, opens-closed_last, opens-opened}
-pub use Rattle.files.proofs.Whole.{opens-shared, set_outside, slot-opens, table-closed, table-moved, table-opened, table-shared, without_opens-left, without_opens-same}
+pub use Rattle.files.proofs.Whole.{all-set, fewer-from, file-opens, free_slot-opens, IsLeft, left-closed, left-same, length-opens, opens-closed, opens-closed_last, opens-opened, opens-shared, set_outside, slot-opens, table-closed}
+pub use Rattle.files.proofs.Whole.{table-moved, table-opened, table-shared, without_opens-left, without_opens-same}
 pub use Rattle.files.specs.Counts.{names, one_in}
 pub use Rattle.files.specs.Meant.{end_of, file_of, target_of}
 pub use Rattle.files.specs.Pipes.{IsPiped}
@@ -32,8 +31,8 @@ pub use Rattle.proc.proofs.Following.{found-any, next-same}
 pub use Rattle.proc.specs.Mask.{is_in}
 unfoldable pub use Rattle.proc.specs.Mask.{all_in}
 pub use Rattle.proc.specs.Pick.{Answers, Picks, place_in_round}
-pub use Rattle.proc.specs.Places.{changed, changed_at, exited, has_pid, is_zombie_child_of, orphaned, place_where, Places, reaped_at, reaped_from, seat_at}
-pub use Rattle.proc.specs.Places.{seat_of, seated, with_descriptor, with_directory, with_mark, with_mode, without, woken, zombie_of, zombie_place}
+pub use Rattle.proc.specs.Places.{changed, changed_at, exited, has_pid, is_zombie_child_of, orphaned, place_where, Places, reaped_at, reaped_from, seat_at, seat_of, seated, with_descriptor, with_directory, with_mark, with_mode, without}
+pub use Rattle.proc.specs.Places.{woken, zombie_of, zombie_place}
 pub use Rattle.proc.specs.declared.process.Process.{Process}
 pub use Rattle.proc.specs.declared.table.Seat.{Seat}
 pub use Rattle.spaces.proofs.SpacesLemmas.{grown-with_pages, shrunk-with_pages, some-pipe, taken-placed}
@@ -78,21 +77,19 @@ pub use Rattle.unixmodel.specs.declared.process.Mode.{Mode}
 pub use Rattle.unixmodel.specs.declared.process.Mode.TheVariants.{Ready, Running, Waiting, Zombie}
 pub use Rattle.unixmodel.specs.declared.process.Pending.{Pending}
 pub use Rattle.unixmodel.specs.declared.trap.Trap.{Trap}
-pub use Rattle.kernel.proofs.Joined.{place_of_pid-with_table, place_where-Some, put-joined, put_kept-joined, running-with_table, slot-joined, with_zombie-with_table, zombie_child-with_table}
-pub use Rattle.kernel.proofs.Turns.{turn-from_pick}
 pub use Rattle.kernel.specs.Descriptors.{after_close, all_closed, all_shared, closed_in, descriptors_in, IsCounted, named_by, names_in, shared_in, standing}
 pub use Rattle.kernel.specs.Disk.{HasRead, IsLost, LeavesDisk, ReadsDisk, with_tree}
 pub use Rattle.kernel.specs.Holding.{all_dropped, AreHeld, dropped, files_on, FitsNode, gone_nodes, home_in, homes_at, IsFolder, IsInUse, last_node, listed, node_in, node_of, node_on}
 pub use Rattle.kernel.specs.Idle.{is_anyone_asleep, is_idle, is_sleeping, is_sleeping_mode}
-pub use Rattle.kernel.specs.Kernel.{answered, base, blocked, computed, counting, descriptors_at, ended, halted_by, idle, Kernel, left_as, left_home}
-pub use Rattle.kernel.specs.Kernel.{lives, loaded, marked, on_hart, picked, Rest, rest_of, started, started_as, state_of, state_with, waking}
+pub use Rattle.kernel.specs.Kernel.{answered, base, blocked, computed, counting, descriptors_at, ended, halted_by, idle, Kernel, left_as, lives, loaded, marked, on_hart, picked, Rest, rest_of, started, started_as, state_of, state_with}
+pub use Rattle.kernel.specs.Kernel.{waking}
 pub use Rattle.kernel.specs.Memory.{drew, reheld, resized, sized, wrote}
-pub use Rattle.kernel.specs.Opening.{advanced, AreFree, closed_at, duplicated, Ends, free_descriptors, half_piped, HasClosed, HasFetched, HasPiped}
-pub use Rattle.kernel.specs.Opening.{HasStored, MayClose, MayMove, MayOpen, MayShare, opened_at, opened_on, OpensAs, OpensOn, pipe_file, piped}
+pub use Rattle.kernel.specs.Opening.{advanced, AreFree, closed_at, duplicated, Ends, free_descriptors, half_piped, HasClosed, HasFetched, HasPiped, HasStored, MayClose, MayMove, MayOpen, MayShare, opened_at, opened_on, OpensAs, OpensOn}
+pub use Rattle.kernel.specs.Opening.{pipe_file, piped}
 pub use Rattle.kernel.specs.Processes.{child_of, collected, forked_as, home_at, MayFork, MayWorkIn, working_in, WorksIn}
 pub use Rattle.kernel.specs.Ready.{awaited, awaited_in, has_slept, seen, Stands}
-pub use Rattle.kernel.specs.Sound.{CanEnd, CanEndIn, CanRun, file_named, is_at, is_awaited, is_on_pipe, IsAlive, IsAwaiting, IsEnded, IsForBytes, IsForPipe}
-pub use Rattle.kernel.specs.Sound.{IsFresh, IsKernel, IsLive, IsMode, IsOpened, IsOpenFile, IsOpenOn, IsPending, IsPlace, IsPlaced, WaitsAs, WaitsWell}
+pub use Rattle.kernel.specs.Sound.{CanEnd, CanEndIn, CanRun, file_named, is_at, is_awaited, is_on_pipe, IsAlive, IsAwaiting, IsEnded, IsForBytes, IsForPipe, IsFresh, IsKernel, IsLive, IsMode, IsOpened, IsOpenFile, IsOpenOn, IsPending}
+pub use Rattle.kernel.specs.Sound.{IsPlace, IsPlaced, WaitsAs, WaitsWell}
 pub use Rattle.kernel.specs.View.{Keeps, kernel_of}
 pub use Rattle.kernel.specs.Watch.{awaited_of, IsAsleep, IsAsleepAs, IsWatched, kind_of, waits_as, waits_in, waits_on, Watches, woken_by}
 unfoldable pub use Rattle.kernel.specs.Watch.{roused}

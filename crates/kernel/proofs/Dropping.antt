@@ -1,6 +1,6 @@
 -- Nodes are let go one after the other, and the device counts its failures on the way.
-use Rattle.kernel.proofs.Common.{drop_all, drop-cons, ◌≡◌, ◌≢◌, ℕ, suc, ◌+◌, ◌<◌, ◌≤◌, false, true, le_trans, List, [], ◌∷◌, drop, length, None, refl, ap, sym}
-use Rattle.kernel.proofs.Common.{subst, ◌∙◌, arith, Err, Ok, Result, slice_index, DeviceFault, AreHeld, all_dropped, dropped, holders, slot, FileTree, Serves}
+use Rattle.kernel.proofs.Common.{drop_all, drop-cons, ◌≡◌, ℕ, suc, ◌+◌, ◌<◌, ◌≤◌, false, true, le_trans, List, [], ◌∷◌, drop, length, refl, ap, sym, subst, ◌∙◌, arith, Err, Ok, Result, slice_index, DeviceFault, AreHeld, all_dropped}
+use Rattle.kernel.proofs.Common.{dropped, FileTree, Serves}
 use Rattle.std.specs.Prelude.{IsErr}
 
 -- the tree with another count
@@ -30,14 +30,8 @@ module _ {old now : FileTree} {nodes : List ℕ} {i : ℕ} (is : IsLetting old n
   abbrev n : ℕ
   n = slice_index nodes i
 
-  held-next : AreHeld now (n ∷ drop (i + 1) nodes)
+  pub held-next : AreHeld now (n ∷ drop (i + 1) nodes)
   held-next = subst (AreHeld now) (drop-next nodes i h) is.held
-
-  pub next-node : slot now.files n ≢ None
-  next-node = held-next.0
-
-  pub next-some : 1 ≤ holders now.holds n
-  next-some = held-next.1.0
 
   -- one more was let go
   pub lets-next : (t : FileTree) → t ≡ counted (dropped now n) t.failures → t.failed ≡ false → now.failures ≤ t.failures → IsLetting old nodes t (i + 1)

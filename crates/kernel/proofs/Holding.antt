@@ -1,12 +1,13 @@
 -- Who holds the nodes of the disk: what comes of processes, open files and nodes that change.
-use Rattle.kernel.proofs.Common.{◌≡◌, ◌≢◌, ℕ, zero, suc, ◌+◌, ◌-◌, ◌<◌, ◌≤◌, Bool, true, false, cond, List, [], ◌∷◌, length, map, Option, Some, None, inl, inr, refl, ap, ap₂, sym, subst, ◌∙◌, arith, IfSome}
-use Rattle.kernel.proofs.Common.{nat_lt, option_map, slice_set, SpaceView, drop, sum_by, unwrap_or, ◌||◌, ◌==◌, list_any, get_or-map, cases_eq, cases_lt, lt-ltb, ltb-true, or_left, or_right, nat_tests}
-use Rattle.kernel.proofs.Common.{get_or-set_other, get_or-set_same, sum_by-cons, sum_by-set, none-some, same_Some, one_in, lt-no, lt-yes, one_at, target_of, Counted, more, opened, opens_of, shared, all-set}
-use Rattle.kernel.proofs.Common.{AreHeld, FitsNode, IsFolder, IsInUse, all_dropped, dropped, files_on, home_in, homes_at, node_in, node_of, node_on, slot-within, Process, joined, holders, with_hold}
-use Rattle.kernel.proofs.Common.{without_hold, FileTree, blocks_of, Files, Node, clear, links_of, slot, taken, is_node, is_zombie_mode, is_used, kept, without_nodes, State, KeepsTree, let-go-keeps}
+use Rattle.kernel.proofs.Common.{◌≡◌, ◌≢◌, ℕ, zero, suc, ◌+◌, ◌-◌, ◌<◌, ◌≤◌, Bool, true, false, cond, List, [], ◌∷◌, length, map, Option, Some, None, inl, inr, refl, ap, ap₂, sym, subst, ◌∙◌, arith, IfSome, nat_lt, option_map, slice_set}
+use Rattle.kernel.proofs.Common.{SpaceView, drop, sum_by, unwrap_or, ◌||◌, ◌==◌, list_any, get_or-map, cases_eq, cases_lt, lt-ltb, ltb-true, or_left, or_right, nat_tests, get_or-set_other, get_or-set_same, sum_by-cons, sum_by-set}
+use Rattle.kernel.proofs.Common.{none-some, same_Some, one_in, lt-no, lt-yes, one_at, target_of, Counted, more, opened, opens_of, shared, all-set, AreHeld, FitsNode, IsFolder, IsInUse, all_dropped, dropped, files_on, home_in, homes_at}
+use Rattle.kernel.proofs.Common.{node_in, node_of, node_on, slot-within, Process, orphaned, joined, holders, with_hold, without_hold, FileTree, blocks_of, Files, Node, clear, links_of, slot, taken, is_node, is_zombie_mode, is_used, kept}
+use Rattle.kernel.proofs.Common.{without_nodes, State, KeepsTree, let-go-keeps, count_by-le-length, is_same}
 use Rattle.files.specs.declared.file.OpenFile.{OpenFile}
 use Rattle.files.specs.declared.file.Target.{Target}
 use Rattle.files.specs.declared.file.Target.TheVariants as target
+use Rattle.kernel.specs.Holding.{FitsFiles}
 use Rattle.names.proofs.Reaped.{is_held, kept-same}
 use Rattle.tree.proofs.Letting.{let-go-clear, let-go-held, let-go-linked, let-go-reaps}
 use Rattle.tree.proofs.Storing.{blocks_of-set}
@@ -17,6 +18,15 @@ use Rattle.unixmodel.specs.Process as unix
 
 pub slot-map : {X : Type 0} (f : X → X) (xs : List (Option X)) (j : ℕ) → slot (map (option_map f) xs) j ≡ option_map f (slot xs j)
 slot-map f xs j = get_or-map (option_map f) xs j None
+
+-- what a changed entry has as before
+pub map-same : {A X : Type 0} (f : Option A → X) (change : A → A) → ((x : A) → f (Some (change x)) ≡ f (Some x)) → (o : Option A) → f (option_map change o) ≡ f o
+map-same f change same None = refl
+map-same f change same (Some x) = same x
+
+-- what holds of a process with any parent holds of it as an orphan
+pub orphan-by : (P : Process → Type 0) (pid : ℕ) (p : Process) → ((parent : ℕ) → P (record p { parent = parent })) → P (orphaned pid p)
+orphan-by P pid p is = elim (p.parent == pid) as (λ b. P (cond b (record p { parent = 1 }) p)) [ true ↦ is 1 | false ↦ is p.parent ]
 
 -- ---- sums over places
 
@@ -41,6 +51,26 @@ module _ {X : Type 0} (f : Option X → ℕ) where
   least (o ∷ os) zero x at = let same : f o ≡ f (Some x) = ap f at in omega (arith, sum_by-cons f o os, same)
   least (o ∷ os) (suc i) x at = omega (arith, sum_by-cons f o os, least os i x at)
 
+-- what places have, and how many have it
+module _ {X : Type 0} (h : Option X → Option ℕ) where
+  pub held-counts : h None ≡ None → (xs : List (Option X)) (j n : ℕ) → h (slot xs j) ≡ Some n → 1 ≤ sum_by (λ o. one_in n (h o)) xs
+  held-counts none [] j n at = absurd (none-some n (sym none ∙ at))
+  held-counts none (o ∷ os) zero n at = let one : one_in n (h o) ≡ 1 = ap (one_in n) at ∙ one_at-self n in omega (arith, sum_by-cons (λ x. one_in n (h x)) o os, one)
+  held-counts none (o ∷ os) (suc j) n at = omega (arith, sum_by-cons (λ x. one_in n (h x)) o os, held-counts none os j n at)
+
+  one-none : (n : ℕ) (o : Option ℕ) → o ≢ Some n → one_in n o ≡ 0
+  one-none n None other = refl
+  one-none n (Some d) other = let apart : d ≢ n = λ e. other (ap Some e) in grind (arith, nat_tests)
+
+  held-none : (xs : List (Option X)) (n : ℕ) → ((j : ℕ) → h (slot xs j) ≢ Some n) → sum_by (λ o. one_in n (h o)) xs ≡ 0
+  held-none [] n none = refl
+  held-none (o ∷ os) n none = omega (arith, sum_by-cons (λ x. one_in n (h x)) o os, one-none n (h o) (none 0), held-none os n (λ j. none (suc j)))
+
+-- an open file fits only a node that is there
+pub fits-there : (n : ℕ) (f : OpenFile) (t : Target) (o : Option Node) → node_on t ≡ Some n → FitsNode f t o → o ≢ None
+fits-there n f (target.Pipe pipe e) o on fits none = none-some n on
+fits-there n f t o on fits none = subst (FitsNode f t) none fits
+
 -- ---- homes
 
 module _ (P : ℕ → Type 0) where
@@ -50,7 +80,7 @@ module _ (P : ℕ → Type 0) where
 module _ {t : FileTree} {opens : List (Option Counted)} {os : List (Option Process)} (is : IsInUse t opens os) where
   -- other open files and processes hold each node as often
   pub used-by : (new : List (Option Counted)) (after : List (Option Process)) → ((n : ℕ) → files_on opens n + homes_at os n ≡ files_on new n + homes_at after n)
-      → ((k : ℕ) (c : Counted) → slot new k ≡ Some c → FitsNode c.file c.file.target (node_of t.files (node_on c.file.target))) → ((j : ℕ) → IfSome (home_in (slot after j)) (λ d. IsFolder (slot t.files d))) → IsInUse t new after
+      → ((k : ℕ) (c : Counted) → slot new k ≡ Some c → FitsFiles t.files c.file) → ((j : ℕ) → IfSome (home_in (slot after j)) (λ d. IsFolder (slot t.files d))) → IsInUse t new after
   used-by new after same fits homes = record {
     rules = is.rules;
     zero = is.zero;
@@ -67,66 +97,43 @@ module _ {t : FileTree} {opens : List (Option Counted)} {os : List (Option Proce
       used-by opens (slice_set os i o) (λ n. ap (λ m. files_on opens n + m) (sym (same-set (λ x. one_in n (home_in x)) os i o (ap (one_in n) same)))) is.fits
       (homes-set (λ d. IsFolder (slot t.files d)) os i o (subst (λ h. IfSome h (λ d. IsFolder (slot t.files d))) (sym same) (is.homes i)) is.homes)
 
+  pub home-folder : (i d : ℕ) → home_in (slot os i) ≡ Some d → IsFolder (slot t.files d)
+  home-folder i d at = subst (λ h. IfSome h (λ d. IsFolder (slot t.files d))) at (is.homes i)
+
   -- the nodes that are held are there
   none-on : (n : ℕ) → slot t.files n ≡ None → files_on opens n ≡ 0
-  none-on n gone = go opens is.fits where
-    off : (f : OpenFile) (on : Target) → FitsNode f on (node_of t.files (node_on on)) → one_in n (node_on on) ≡ 0
-    off f (target.Pipe pipe e) fits = refl
-    off f on fits = elim (cases_eq n (unwrap_or (node_on on) 0)) [
-      | inl same ↦ absurd (subst (FitsNode f on) (ap (slot t.files) (sym same) ∙ gone) fits)
-      | inr other ↦ grind (arith, nat_tests)
-    ]
-
-    go : (xs : List (Option Counted)) → ((k : ℕ) (c : Counted) → slot xs k ≡ Some c → FitsNode c.file c.file.target (node_of t.files (node_on c.file.target))) → files_on xs n ≡ 0
-    go [] fits = refl
-    go (None ∷ xs) fits = omega (arith, sum_by-cons (λ o. one_in n (node_in o)) None xs, go xs (λ k c at. fits (suc k) c at))
-    go (Some c ∷ xs) fits = omega (arith, sum_by-cons (λ o. one_in n (node_in o)) (Some c) xs, off c.file c.file.target (fits 0 c refl), go xs (λ k d at. fits (suc k) d at))
-
-  none-at : (n : ℕ) → slot t.files n ≡ None → homes_at os n ≡ 0
-  none-at n gone = go os is.homes where
-    off : (h : Option ℕ) → IfSome h (λ d. IsFolder (slot t.files d)) → one_in n h ≡ 0
-    off None at = refl
-    off (Some d) at = elim (cases_eq n d) [
-      | inl same ↦ absurd (subst IsFolder (ap (slot t.files) (sym same) ∙ gone) at)
-      | inr other ↦ grind (arith, nat_tests)
-    ]
-
-    go : (xs : List (Option Process)) → ((j : ℕ) → IfSome (home_in (slot xs j)) (λ d. IsFolder (slot t.files d))) → homes_at xs n ≡ 0
-    go [] homes = refl
-    go (o ∷ xs) homes = omega (arith, sum_by-cons (λ x. one_in n (home_in x)) o xs, off (home_in o) (homes 0), go xs (λ j. homes (suc j)))
+  none-on n gone = held-none node_in opens n (λ j. off j (slot opens j) refl) where
+    off : (j : ℕ) (o : Option Counted) → slot opens j ≡ o → node_in o ≢ Some n
+    off j None at on = none-some n on
+    off j (Some c) at on = fits-there n c.file c.file.target (slot t.files n) on (subst (λ h. FitsNode c.file c.file.target (node_of t.files h)) on (is.fits j c at)) gone
 
   pub held-there : (n : ℕ) → 1 ≤ holders t.holds n → slot t.files n ≢ None
-  held-there n some gone = absurd (omega (arith, is.holds n, none-on n gone, none-at n gone, some))
+  held-there n some gone = absurd (omega (arith, is.holds n, none-on n gone, held-none home_in os n (λ j at. subst IsFolder gone (home-folder j n at)), some))
 
 -- ---- open files that come, and whose nodes stay
 
 module _ {t : FileTree} {opens : List (Option Counted)} {os : List (Option Process)} (is : IsInUse t opens os) where
   -- as many are on each node
-  pub used-files : (new : List (Option Counted)) → ((n : ℕ) → files_on new n ≡ files_on opens n) → ((k : ℕ) (c : Counted) → slot new k ≡ Some c → FitsNode c.file c.file.target (node_of t.files (node_on c.file.target))) → IsInUse t new os
+  pub used-files : (new : List (Option Counted)) → ((n : ℕ) → files_on new n ≡ files_on opens n) → ((k : ℕ) (c : Counted) → slot new k ≡ Some c → FitsFiles t.files c.file) → IsInUse t new os
   used-files new same fits = used-by is new os (λ n. ap (λ m. m + homes_at os n) (sym (same n))) fits is.homes
 
   -- one descriptor more names an open file
   pub used-shared : (i : ℕ) → IsInUse t (shared opens i) os
   used-shared i =
-      used-files (shared opens i) (λ n. same-set (λ o. one_in n (node_in o)) opens i (option_map more (slot opens i)) (ap (one_in n) (node-more (slot opens i))))
-      (all-set (λ k o. (c : Counted) → o ≡ Some c → FitsNode c.file c.file.target (node_of t.files (node_on c.file.target))) opens i (option_map more (slot opens i))
-      (λ c at. let old = was (slot opens i) c at in subst (λ f. FitsNode f f.target (node_of t.files (node_on f.target))) old.1.1 (is.fits i old.0 old.1.0)) is.fits)
+      used-files (shared opens i) (λ n. same-set (λ o. one_in n (node_in o)) opens i (option_map more (slot opens i)) (ap (one_in n) (map-same node_in more (λ c. refl) (slot opens i))))
+      (all-set (λ k o. (c : Counted) → o ≡ Some c → FitsFiles t.files c.file) opens i (option_map more (slot opens i)) (go (slot opens i) (is.fits i)) is.fits)
     where
-      node-more : (o : Option Counted) → node_in (option_map more o) ≡ node_in o
-      node-more None = refl
-      node-more (Some c) = refl
-
-      was : (o : Option Counted) (c : Counted) → option_map more o ≡ Some c → (d : Counted) × ((o ≡ Some d) × (d.file ≡ c.file))
-      was None c at = absurd (none-some c at)
-      was (Some d) c at = (d, (refl, ap (λ (x : Counted). x.file) (same_Some (more d) c at)))
+      go : (o : Option Counted) → ((c : Counted) → o ≡ Some c → FitsFiles t.files c.file) → (c : Counted) → option_map more o ≡ Some c → FitsFiles t.files c.file
+      go None was c at = absurd (none-some c at)
+      go (Some d) was c at = subst (λ (x : Counted). FitsFiles t.files x.file) (same_Some (more d) c at) (was d refl)
 
   -- an open file takes a free place; it is on no node
   pub used-opened : (i : ℕ) (f : OpenFile) → i < length opens → slot opens i ≡ None → node_on f.target ≡ None → FitsNode f f.target None → IsInUse t (opened opens i f) os
   used-opened i f inside free none fitting =
       used-files (opened opens i f)
       (λ n. same-set (λ o. one_in n (node_in o)) opens i (Some (record { file = f; count = 1 })) (ap (one_in n) (none ∙ sym (ap node_in free))))
-      (all-set (λ k o. (c : Counted) → o ≡ Some c → FitsNode c.file c.file.target (node_of t.files (node_on c.file.target))) opens i (Some (record { file = f; count = 1 }))
-      (λ c at. subst (λ (d : Counted). FitsNode d.file d.file.target (node_of t.files (node_on d.file.target))) (same_Some (record { file = f; count = 1 }) c at) (subst (λ o. FitsNode f f.target (node_of t.files o)) (sym none) fitting))
+      (all-set (λ k o. (c : Counted) → o ≡ Some c → FitsFiles t.files c.file) opens i (Some (record { file = f; count = 1 }))
+      (λ c at. subst (λ (d : Counted). FitsFiles t.files d.file) (same_Some (record { file = f; count = 1 }) c at) (subst (λ o. FitsNode f f.target (node_of t.files o)) (sym none) fitting))
       is.fits)
 
 -- ---- what the abstract Unix says is used
@@ -154,8 +161,12 @@ any-files n (Some c ∷ os) =
     ∙ ap (nat_lt 0) (sym (sum_by-cons (λ o. one_in n (node_in o)) (Some c) os))
 
 -- a zombie works nowhere
+abbrev pub IsAway : Option Process → Type 0
+IsAway None = Unit {0}
+IsAway (Some p) = is_zombie_mode p.mode ≡ true → p.directory ≡ 0
+
 abbrev pub AreAway : List (Option Process) → Type 0
-AreAway os = (j : ℕ) (p : Process) → slot os j ≡ Some p → is_zombie_mode p.mode ≡ true → p.directory ≡ 0
+AreAway os = (j : ℕ) → IsAway (slot os j)
 
 home-same : (n : ℕ) → n ≢ 0 → (p : Process) → (is_zombie_mode p.mode ≡ true → p.directory ≡ 0) → (p.directory == n) ≡ nat_lt 0 (one_in n (home_in (Some p)))
 home-same n some p away = go (is_zombie_mode p.mode) refl where
@@ -168,7 +179,7 @@ unfolding joined
 any-homes n some [] hs away = refl
 any-homes n some (None ∷ os) hs away = let same : homes_at os n ≡ homes_at (None ∷ os) n = omega (arith, sum_by-cons (λ o. one_in n (home_in o)) None os) in any-homes n some os (drop 1 hs) (λ j. away (suc j)) ∙ ap (nat_lt 0) same
 any-homes n some (Some p ∷ os) hs away =
-    ap₂ ◌||◌ (home-same n some p (away 0 p refl)) (any-homes n some os (drop 1 hs) (λ j. away (suc j)))
+    ap₂ ◌||◌ (home-same n some p (away 0)) (any-homes n some os (drop 1 hs) (λ j. away (suc j)))
     ∙ or-lt (one_in n (home_in (Some p))) (homes_at os n)
     ∙ ap (nat_lt 0) (sym (sum_by-cons (λ o. one_in n (home_in o)) (Some p) os))
 
@@ -233,16 +244,13 @@ within-holds (h ∷ hs) zero some = omega arith
 within-holds (h ∷ hs) (suc n) some = omega (arith, within-holds hs n some)
 
 module _ (t : FileTree) (n : ℕ) (some : 1 ≤ holders t.holds n) where
-  here-after : holders (without_hold t.holds n) n + 1 ≡ holders t.holds n
-  here-after = omega (arith, some, get_or-set_same t.holds n (holders t.holds n - 1) 0 (within-holds t.holds n some))
-
   other-after : (m : ℕ) → m ≢ n → holders (without_hold t.holds n) m ≡ holders t.holds m
   other-after m other = get_or-set_other t.holds n m (holders t.holds n - 1) 0 other
 
   -- how many hold node m then
   count-after : (m : ℕ) → holders (without_hold t.holds n) m + one_at m n ≡ holders t.holds m
   count-after m = elim (cases_eq m n) [
-    | inl same ↦ rw same (omega (arith, here-after, one_at-self n))
+    | inl same ↦ rw same (omega (arith, some, get_or-set_same t.holds n (holders t.holds n - 1) 0 (within-holds t.holds n some), one_at-self n))
     | inr other ↦ (let none : one_at m n ≡ 0 = grind (arith, nat_tests) in omega (arith, other-after m other, none))
   ]
 
@@ -324,14 +332,6 @@ pub all-failed : (t : FileTree) (ns : List ℕ) → (all_dropped t ns).failed �
 all-failed t [] = refl
 all-failed t (n ∷ ns) = all-failed (dropped t n) ns
 
-pub all-device : (t : FileTree) (ns : List ℕ) → (all_dropped t ns).identity ≡ t.identity
-all-device t [] = refl
-all-device t (n ∷ ns) = all-device (dropped t n) ns
-
-pub all-failures : (t : FileTree) (ns : List ℕ) → (all_dropped t ns).failures ≡ t.failures
-all-failures t [] = refl
-all-failures t (n ∷ ns) = all-failures (dropped t n) ns
-
 -- what all of them leave
 pub record Leaves (t : FileTree) (ns : List ℕ) : Type 0 where
   pub counts : (m : ℕ) → holders (all_dropped t ns).holds m + named_in ns m ≡ holders t.holds m
@@ -391,17 +391,6 @@ AreOld old new = (k : ℕ) (c : Counted) → slot new k ≡ Some c → (d : Coun
 abbrev pub AreOldHomes : List (Option Process) → List (Option Process) → Type 0
 AreOldHomes old new = (j d : ℕ) → home_in (slot new j) ≡ Some d → home_in (slot old j) ≡ Some d
 
-home-counts : (os : List (Option Process)) (j d : ℕ) → home_in (slot os j) ≡ Some d → 1 ≤ homes_at os d
-home-counts [] j d at = absurd (none-some d at)
-home-counts (o ∷ os) zero d at = let self : one_in d (Some d) ≡ 1 = grind (arith, nat_tests) in let same : one_in d (home_in o) ≡ one_in d (Some d) = ap (one_in d) at in omega (arith, sum_by-cons (λ x. one_in d (home_in x)) o os, same, self)
-home-counts (o ∷ os) (suc j) d at = omega (arith, sum_by-cons (λ x. one_in d (home_in x)) o os, home-counts os j d at)
-
-node-counts : (opens : List (Option Counted)) (k : ℕ) (c : Counted) (n : ℕ) → slot opens k ≡ Some c → node_on c.file.target ≡ Some n → 1 ≤ files_on opens n
-node-counts opens k c n at on =
-    let self : one_in n (Some n) ≡ 1 = grind (arith, nat_tests) in
-    let same : one_in n (node_on c.file.target) ≡ one_in n (Some n) = ap (one_in n) on in
-    omega (arith, least (λ o. one_in n (node_in o)) opens k c at, same, self)
-
 module _ {t : FileTree} {opens : List (Option Counted)} {os : List (Option Process)} (is : IsInUse t opens os) (left : List (Option Counted)) (after : List (Option Process)) (ns : List ℕ)
     (counts : (m : ℕ) → files_on left m + homes_at after m + named_in ns m ≡ files_on opens m + homes_at os m)
     (files : AreOld opens left) (homes : AreOldHomes os after) where
@@ -425,7 +414,7 @@ module _ {t : FileTree} {opens : List (Option Counted)} {os : List (Option Proce
   home-stays j None at = tt
   home-stays j (Some d) at =
       let was : IfSome (Some d) (λ d. IsFolder (slot t.files d)) = subst (λ h. IfSome h (λ d. IsFolder (slot t.files d))) (homes j d at) (is.homes j) in
-      subst IsFolder (sym (fewer-leaves.stays d (omega (arith, home-counts after j d at, fewer-leaves.counts d, counts d, is.holds d)))) was
+      subst IsFolder (sym (fewer-leaves.stays d (omega (arith, held-counts home_in refl after j d at, fewer-leaves.counts d, counts d, is.holds d)))) was
 
   pub fewer-used : IsInUse now left after
   fewer-used = record {
@@ -436,8 +425,8 @@ module _ {t : FileTree} {opens : List (Option Counted)} {os : List (Option Proce
     held = fewer-leaves.held;
     fits = λ k c at.
         let old = files k c at in
-        let was : FitsNode c.file c.file.target (node_of t.files (node_on c.file.target)) = subst (λ f. FitsNode f f.target (node_of t.files (node_on f.target))) old.1.1 (is.fits k old.0 old.1.0) in
-        node-stays c.file c.file.target (λ n on. fewer-leaves.stays n (omega (arith, node-counts left k c n at on, fewer-leaves.counts n, counts n, is.holds n))) was;
+        let was : FitsFiles t.files c.file = subst (λ f. FitsFiles t.files f) old.1.1 (is.fits k old.0 old.1.0) in
+        node-stays c.file c.file.target (λ n on. fewer-leaves.stays n (omega (arith, held-counts node_in refl left k n (ap node_in at ∙ on), fewer-leaves.counts n, counts n, is.holds n))) was;
     homes = λ j. home-stays j (home_in (slot after j)) refl;
   }
 
@@ -460,54 +449,47 @@ module _ {t : FileTree} {opens : List (Option Counted)} {os : List (Option Proce
       fewer-nodes is opens os [] (λ m. omega arith) (λ k c at. (c, (at, refl))) (λ j d at. at) s hs away same opened placed
       ∙ ap (λ fs. record s { files = fs }) (sym same)
 
--- ---- a process more works in a directory
+-- ---- one more holds a node
 
 -- a hold more counts
-pub hold-more : (holds : List ℕ) (d : ℕ) → d < length holds → (n : ℕ) → holders (with_hold holds d) n ≡ holders holds n + one_in n (Some d)
+hold-more : (holds : List ℕ) (d : ℕ) → d < length holds → (n : ℕ) → holders (with_hold holds d) n ≡ holders holds n + one_in n (Some d)
 hold-more holds d short n = elim (cases_eq n d) [
-  | inl same ↦ rw same (let self : one_in d (Some d) ≡ 1 = grind (arith, nat_tests) in omega (arith, get_or-set_same holds d (holders holds d + 1) 0 short, self))
+  | inl same ↦ rw same (omega (arith, get_or-set_same holds d (holders holds d + 1) 0 short, one_at-self d))
   | inr other ↦ (let none : one_in n (Some d) ≡ 0 = grind (arith, nat_tests) in omega (arith, get_or-set_other holds d n (holders holds d + 1) 0 other, none))
 ]
 
-hold-count : (holds : List ℕ) (d : ℕ) → 1 ≤ holders holds d → (n : ℕ) → holders (with_hold holds d) n ≡ holders holds n + one_in n (Some d)
-hold-count holds d some n = hold-more holds d (within-holds holds d some) n
-
 module _ {t : FileTree} {opens : List (Option Counted)} {os : List (Option Process)} (is : IsInUse t opens os) where
+  -- an open file more is on node d, or a process more works there
+  pub used-more : (d : ℕ) → d < length t.holds → (new : List (Option Counted)) (after : List (Option Process)) → ((n : ℕ) → files_on new n + homes_at after n ≡ files_on opens n + homes_at os n + one_in n (Some d))
+      → ((k : ℕ) (c : Counted) → slot new k ≡ Some c → FitsFiles t.files c.file) → ((j : ℕ) → IfSome (home_in (slot after j)) (λ d. IsFolder (slot t.files d))) → IsInUse (record t { holds = with_hold t.holds d }) new after
+  used-more d short new after counts fits homes = record {
+    rules = is.rules;
+    zero = is.zero;
+    within = is.within;
+    holds = λ n. omega (arith, hold-more t.holds d short n, is.holds n, counts n);
+    held = λ n node at bare. omega (arith, hold-more t.holds d short n, is.held n node at bare);
+    fits = fits;
+    homes = homes;
+  }
+
   -- a process works in a directory
   pub home-held : (i d : ℕ) → home_in (slot os i) ≡ Some d → 1 ≤ holders t.holds d
-  home-held i d at = omega (arith, is.holds d, home-counts os i d at)
-
-  pub home-folder : (i d : ℕ) → home_in (slot os i) ≡ Some d → IsFolder (slot t.files d)
-  home-folder i d at = subst (λ h. IfSome h (λ d. IsFolder (slot t.files d))) at (is.homes i)
+  home-held i d at = omega (arith, is.holds d, held-counts home_in refl os i d at)
 
   -- a child works where its parent does
   pub used-child : (i d j : ℕ) (child : Process) → home_in (slot os i) ≡ Some d → home_in (Some child) ≡ Some d → j < length os → slot os j ≡ None → IsInUse (record t { holds = with_hold t.holds d }) opens (slice_set os j (Some child))
   used-child i d j child parent home short free =
-      let some = home-held i d parent in
-      record {
-        rules = is.rules;
-        zero = is.zero;
-        within = is.within;
-        holds = λ n.
-            let sums = sum_by-set (λ o. one_in n (home_in o)) os j (Some child) None short in
-            let none : one_in n (home_in (slot os j)) ≡ 0 = ap (λ o. one_in n (home_in o)) free in
-            let one : one_in n (home_in (Some child)) ≡ one_in n (Some d) = ap (one_in n) home in
-            omega (arith, hold-count t.holds d some n, is.holds n, sums, none, one);
-        held = λ n node at bare. omega (arith, hold-count t.holds d some n, is.held n node at bare);
-        fits = is.fits;
-        homes = homes-set (λ d. IsFolder (slot t.files d)) os j (Some child) (subst (λ h. IfSome h (λ d. IsFolder (slot t.files d))) (sym home) (home-folder i d parent)) is.homes;
-      }
-
-  few-in : {X : Type 0} (f : Option X → Option ℕ) (n : ℕ) (xs : List (Option X)) → sum_by (λ o. one_in n (f o)) xs ≤ length xs
-  few-in f n [] = omega arith
-  few-in f n (x ∷ xs) = omega (arith, sum_by-cons (λ o. one_in n (f o)) x xs, few-in f n xs, one-few (f x)) where
-    one-few : (o : Option ℕ) → one_in n o ≤ 1
-    one-few None = omega arith
-    one-few (Some k) = elim (cases_eq n k) [
-      | inl same ↦ (let one : one_in n (Some k) ≡ 1 = grind (arith, nat_tests) in omega (arith, one))
-      | inr other ↦ (let none : one_in n (Some k) ≡ 0 = grind (arith, nat_tests) in omega (arith, none))
-    ]
+      used-more d (within-holds t.holds d (home-held i d parent)) opens (slice_set os j (Some child))
+      (λ n.
+      let sums = sum_by-set (λ o. one_in n (home_in o)) os j (Some child) None short in
+      let none : one_in n (home_in (slot os j)) ≡ 0 = ap (λ o. one_in n (home_in o)) free in
+      let one : one_in n (home_in (Some child)) ≡ one_in n (Some d) = ap (one_in n) home in
+      omega (arith, sums, none, one))
+      is.fits (homes-set (λ d. IsFolder (slot t.files d)) os j (Some child) (subst (λ h. IfSome h (λ d. IsFolder (slot t.files d))) (sym home) (home-folder is i d parent)) is.homes)
 
   -- no more hold a node than there are open files and processes
   pub holders-few : (n : ℕ) → holders t.holds n ≤ length opens + length os
-  holders-few n = omega (arith, is.holds n, few-in node_in n opens, few-in home_in n os)
+  holders-few n =
+      let files : files_on opens n ≤ length opens = count_by-le-length (λ o. is_same n (node_in o)) opens in
+      let homes : homes_at os n ≤ length os = count_by-le-length (λ o. is_same n (home_in o)) os in
+      omega (arith, is.holds n, files, homes)

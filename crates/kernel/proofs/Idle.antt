@@ -1,11 +1,11 @@
 -- Whether a kernel has anything to do, in the words of its state.
-use Rattle.kernel.proofs.Common.{Bool, List, None, Option, Some, [], ap, arith, false, length, nat_lt, not, refl, sym, true, ◌&&◌, ◌<◌, ◌||◌, ◌∙◌, ◌≡◌, ◌∷◌, ℕ, is_none, is_some}
-use Rattle.kernel.proofs.Common.{SpaceView, drop, list_any, position_or_len, le-ltb, lt-ltb, position_or_len_is, is_anyone_asleep, is_idle, is_sleeping, is_sleeping_mode, Kernel}
-use Rattle.kernel.proofs.Common.{base, loaded, rest_of, state_of, IsKernel, is_at, Process, place_where, joined, found-any, running-with_table, slot, holds, running, turn}
+use Rattle.kernel.proofs.Common.{Bool, List, None, Option, Some, [], ap, arith, false, length, nat_lt, not, refl, sym, true, ◌&&◌, ◌<◌, ◌||◌, ◌∙◌, ◌≡◌, ◌∷◌, ℕ, is_none, is_some, SpaceView, drop, list_any, position_or_len, le-ltb, lt-ltb}
+use Rattle.kernel.proofs.Common.{position_or_len_is, is_anyone_asleep, is_idle, is_sleeping, is_sleeping_mode, Kernel, base, loaded, rest_of, state_of, IsKernel, is_at, Process, place_where, joined, found-any, slot, holds, running, turn}
 use Rattle.kernel.proofs.Changes.{length-active, other-at, running-active}
 use Rattle.kernel.proofs.Runs.{eq-self, run-of, slot-within}
 use Rattle.kernel.proofs.Shown.{place-changed}
 use Rattle.proc.specs.Places as table
+use Rattle.kernel.proofs.Joined.{running-with_table}
 
 -- ---- who runs
 

@@ -1,20 +1,10 @@
 -- The places with their spaces change and are searched as the places alone.
-use Rattle.std.specs.Prelude.{Bool, List, None, Ok, Option, Some, [], cond, drop, false, is_none, is_some, length, map, nat_le, not, option_map, position, slice_set, suc, true, zero, ℕ, ℤ, ◌&&◌, ◌+◌, ◌<◌, ◌≡◌, ◌≤◌, ◌==◌, ◌∷◌}
-use Rattle.std.specs.List.{prefix_len}
-use Rattle.std.proofs.Common.{ap, arith, refl}
-use Rattle.std.proofs.lemmas.Bool.Decides.{nat_tests}
-use Rattle.std.proofs.lemmas.List.Quantifiers.{position-Some}
-use Rattle.kernel.specs.Whole.{joined, space_in, with_space, with_table}
-use Rattle.proc.specs.declared.process.Process.{Process}
-use Rattle.proc.specs.declared.table.Seat.{Seat}
+use Rattle.kernel.proofs.Common.{Bool, List, None, Ok, Option, Some, [], cond, drop, false, is_none, is_some, length, map, nat_le, not, option_map, position, slice_set, suc, true, zero, ℕ, ℤ, ◌&&◌, ◌+◌, ◌<◌, ◌≡◌, ◌≤◌, ◌==◌, ◌∷◌, prefix_len}
+use Rattle.kernel.proofs.Common.{ap, arith, refl, nat_tests, position-Some, joined, space_in, with_space, with_table, Process, Seat, Places, changed, place_where, SpaceView, clear, free_slot, free_slots, put, slot, has_child, zombie_child}
+use Rattle.kernel.proofs.Common.{State, change_process, holds, place_of_pid, running, unwrap_or, no_pages}
 use Rattle.proc.specs.Places as table
-use Rattle.proc.specs.Places.{Places, changed, place_where}
-use Rattle.spaces.specs.Spaces.{SpaceView}
-use Rattle.unixmodel.specs.Files.{clear, free_slot, free_slots, put, slot}
 use Rattle.unixmodel.specs.Outcome as ends
 use Rattle.unixmodel.specs.Process as unix
-use Rattle.unixmodel.specs.ProcessCalls.{has_child, zombie_child}
-use Rattle.unixmodel.specs.State.{State, change_process, holds, place_of_pid, running}
 
 -- ---- one place
 
@@ -30,21 +20,14 @@ slot-joined (o ∷ os) hs zero = refl
 slot-joined (o ∷ os) [] (suc i) = slot-joined os [] i
 slot-joined (o ∷ os) (h ∷ hs) (suc i) = slot-joined os hs i
 
-pub put-joined : (os : List (Option Process)) (hs : List (Option SpaceView)) (i : ℕ) (p : Process) (h : SpaceView) → i < length hs → put (joined os hs) i (with_space h p) ≡ joined (put os i p) (slice_set hs i (Some h))
+-- a place has another process and another space, or none
+pub put-joined : (os : List (Option Process)) (hs : List (Option SpaceView)) (i : ℕ) (o : Option Process) (q : Option SpaceView) → i < length hs
+    → slice_set (joined os hs) i (option_map (with_space (unwrap_or q no_pages)) o) ≡ joined (slice_set os i o) (slice_set hs i q)
 unfolding joined
-put-joined [] hs i p h low = refl
-put-joined (o ∷ os) [] i p h low = absurd (omega arith)
-put-joined (o ∷ os) (g ∷ hs) zero p h low = refl
-put-joined (o ∷ os) (g ∷ hs) (suc i) p h low = ap (λ qs. option_map (with_space (space_in (g ∷ hs) 0)) o ∷ qs) (put-joined os hs i p h (omega arith))
-
--- where there is no process the space is no matter
-pub clear-joined : (os : List (Option Process)) (hs : List (Option SpaceView)) (i : ℕ) (h : Option SpaceView) → clear (joined os hs) i ≡ joined (clear os i) (slice_set hs i h)
-unfolding joined
-clear-joined [] hs i h = refl
-clear-joined (o ∷ os) [] zero h = refl
-clear-joined (o ∷ os) [] (suc i) h = ap (λ qs. option_map (with_space (space_in [] 0)) o ∷ qs) (clear-joined os [] i h)
-clear-joined (o ∷ os) (g ∷ hs) zero h = refl
-clear-joined (o ∷ os) (g ∷ hs) (suc i) h = ap (λ qs. option_map (with_space (space_in (g ∷ hs) 0)) o ∷ qs) (clear-joined os hs i h)
+put-joined [] hs i o q low = refl
+put-joined (x ∷ os) [] i o q low = absurd (omega arith)
+put-joined (x ∷ os) (g ∷ hs) zero o q low = refl
+put-joined (x ∷ os) (g ∷ hs) (suc i) o q low = ap (λ ys. option_map (with_space (space_in (g ∷ hs) 0)) x ∷ ys) (put-joined os hs i o q (omega arith))
 
 -- a process that keeps its space is put in its place
 pub put_kept-joined : (os : List (Option Process)) (hs : List (Option SpaceView)) (i : ℕ) (p : Process) → put (joined os hs) i (with_space (space_in hs i) p) ≡ joined (put os i p) hs
@@ -144,20 +127,17 @@ module _ (s : State) (t : Places) (hs : List (Option SpaceView)) where
 
   -- a process and its space take a place and a pid
   pub seated-with_table : (p : Process) (seat : Seat) (h : SpaceView) → seat.place < length hs → record (with_table s t hs) { places = put (joined t.places hs) seat.place (with_space h (record p { pid = seat.pid })); next_pid = t.next_pid + 1 } ≡ with_table s (table.seated t p seat) (slice_set hs seat.place (Some h))
-  seated-with_table p seat h low = ap (λ places. record (with_table s t hs) { places = places; next_pid = t.next_pid + 1 }) (put-joined t.places hs seat.place (record p { pid = seat.pid }) h low)
+  seated-with_table p seat h low = ap (λ places. record (with_table s t hs) { places = places; next_pid = t.next_pid + 1 }) (put-joined t.places hs seat.place (Some (record p { pid = seat.pid })) (Some h) low)
 
   -- a zombie's place becomes free, and its space goes
-  pub cleared-with_table : (i : ℕ) → record (with_table s t hs) { places = clear (joined t.places hs) i } ≡ with_table s (table.without t (Some i)) (slice_set hs i None)
-  cleared-with_table i = ap (λ places. record (with_table s t hs) { places = places }) (clear-joined t.places hs i None)
+  pub cleared-with_table : (i : ℕ) → i < length hs → record (with_table s t hs) { places = clear (joined t.places hs) i } ≡ with_table s (table.without t (Some i)) (slice_set hs i None)
+  cleared-with_table i low = ap (λ places. record (with_table s t hs) { places = places }) (put-joined t.places hs i None None low)
 
   -- ---- the end of a process
 
   orphaned_whole : (pid : ℕ) → IsSameChange (ends.orphaned pid) (table.orphaned pid)
   orphaned_whole pid h p = elim (p.parent == pid) as (λ b. cond b (record (with_space h p) { parent = 1 }) (with_space h p) ≡ with_space h (cond b (record p { parent = 1 }) p)) [ true ↦ refl | false ↦ refl ]
 
-  ended_places : (i : ℕ) (p : Process) (status : ℤ) → put (map (option_map (ends.orphaned p.pid)) (joined t.places hs)) i (ends.zombie_of (with_space (space_in hs i) p) status) ≡ joined (put (map (option_map (table.orphaned p.pid)) t.places) i (table.zombie_of p status)) hs
-  ended_places i p status = rw (map-joined (ends.orphaned p.pid) (table.orphaned p.pid) (orphaned_whole p.pid) t.places hs) (put_kept-joined (map (option_map (table.orphaned p.pid)) t.places) hs i (table.zombie_of p status))
-
   -- process p of place i has ended
   pub with_zombie-with_table : (i : ℕ) (p : Process) (status : ℤ) → ends.with_zombie (with_table s t hs) i (with_space (space_in hs i) p) status ≡ record (with_table s (table.ended t i status (Some p)) hs) { halted = ends.halt_status s (with_space (space_in hs i) p) status }
-  with_zombie-with_table i p status = ap (λ places. record (with_table s t hs) { places = places; halted = ends.halt_status s (with_space (space_in hs i) p) status }) (ended_places i p status)
+  with_zombie-with_table i p status = ap (λ places. record (with_table s t hs) { places = places; halted = ends.halt_status s (with_space (space_in hs i) p) status }) (rw (map-joined (ends.orphaned p.pid) (table.orphaned p.pid) (orphaned_whole p.pid) t.places hs) (put_kept-joined (map (option_map (table.orphaned p.pid)) t.places) hs i (table.zombie_of p status)))

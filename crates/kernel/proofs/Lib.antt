@@ -6,11 +6,9 @@ pub mod Holding
 pub mod Named
 pub mod Reaped
 pub mod Runs
-pub mod Running
 pub mod Changes
 pub mod Leaving
 pub mod Steps
-pub mod Advancing
 pub mod Starts
 pub mod Dropping
 pub mod Finishes
@@ -19,7 +17,6 @@ pub mod Reading
 pub mod Unlinking
 pub mod Naming
 pub mod Memories
-pub mod Marks
 pub mod Readies
 pub mod Shown
 pub mod Idle
@@ -29,7 +26,6 @@ pub mod Wakes
 mod Rousing
 pub mod Turning
 pub mod Renaming
-pub mod Counting
 pub mod Closing
 pub mod Opening
 pub mod Working
@@ -38,4 +34,3 @@ pub mod Forking
 pub mod Piping
 pub mod Collecting
 pub mod Moving
-pub mod Transferring

@@ -1,9 +1,6 @@
 -- Masks in which places are woken, and searches in places that change.
-use Rattle.kernel.proofs.Common.{Bool, List, None, Option, Some, [], add-one, ap, arith, cond, false, inl, inr, is_some, length, nat_lt, refl, sym, take, true, suc, zero, ℕ, ◌+◌, ◌<◌, ◌||◌, ◌∙◌, ◌∷◌, ◌≡◌, ◌≤◌, slice_set}
-use Rattle.kernel.proofs.Common.{position_or_len, cases_lt, false_from_ne_true, le-ltb, ltb-false, or_left, or_parts, true≢false, get_or_past, fails_before_first, position_or_len_is, roused, Process, is_in, place_where, slot, holds}
-use Rattle.kernel.proofs.Runs.{same_or_not, slot-other, slot-put}
--- there is no such place
-pub use Rattle.std.proofs.lemmas.List.{set_past as set-past}
+use Rattle.kernel.proofs.Common.{found-any, list_any, or_from, Bool, List, Option, [], add-one, ap, arith, false, is_some, length, refl, sym, take, true, suc, zero, ℕ, ◌+◌, ◌<◌, ◌||◌, ◌∙◌, ◌∷◌, ◌≡◌, slice_set, false_from_ne_true, or_left}
+use Rattle.kernel.proofs.Common.{or_parts, true≢false, roused, Process, is_in, place_where, slot, holds}
 
 -- ---- a place is woken
 
@@ -30,10 +27,6 @@ module _ (test : Process → Bool) where
   roused-out (o ∷ os) (b ∷ bs) zero out = or_parts (holds test o) b out
   roused-out (o ∷ os) (b ∷ bs) (suc j) out = roused-out os bs j out
 
-  pub roused-none : (bs : List Bool) → roused test [] bs ≡ bs
-  unfolding roused
-  roused-none bs = refl
-
   roused-one : (os : List (Option Process)) (bs : List Bool) (i : ℕ) → i < length os → holds test (slot os i) ≡ true → roused test (take (suc i) os) bs ≡ slice_set (roused test (take i os) bs) i true
   unfolding roused
   roused-one [] bs i low passes = absurd (omega arith)
@@ -59,39 +52,16 @@ module _ (test : Process → Bool) where
 
 -- ---- searches
 
--- a place that passes is there
-pub holds-within : (test : Process → Bool) (os : List (Option Process)) (i : ℕ) → holds test (slot os i) ≡ true → i < length os
-holds-within test [] i passes = absurd (cc)
-holds-within test (o ∷ os) zero passes = omega arith
-holds-within test (o ∷ os) (suc i) passes = let h = holds-within test os i passes in omega (arith, h)
-
-some-test : (b : Bool) (i : ℕ) → is_some (cond b (Some i) None) ≡ false → b ≡ false
-some-test true i none = absurd (cc)
-some-test false i none = refl
-
 module _ (test : Process → Bool) where
-  -- where a search finds nothing no place passes
-  pub none-where : (os : List (Option Process)) → is_some (place_where os test) ≡ false → (j : ℕ) → holds test (slot os j) ≡ false
-  none-where os none j =
-      let past : length os ≤ position_or_len (holds test) os = ltb-false (position_or_len (holds test) os) (length os) (some-test (nat_lt (position_or_len (holds test) os) (length os)) (position_or_len (holds test) os) none) in
-      elim (cases_lt j (length os)) [
-        | inl low ↦ fails_before_first (holds test) os j None (omega arith)
-        | inr high ↦ ap (holds test) (get_or_past os j None high)
-      ]
+  any-put : (os : List (Option Process)) (i : ℕ) (o : Option Process) → (holds test o ≡ true → holds test (slot os i) ≡ true) → list_any (holds test) os ≡ false → list_any (holds test) (slice_set os i o) ≡ false
+  any-put [] i o here none = none
+  any-put (x ∷ os) zero o here none =
+      let parts = or_parts (holds test x) (list_any (holds test) os) none in
+      or_from (holds test o) (list_any (holds test) os) (false_from_ne_true (holds test o) (λ passes. true≢false (sym (here passes) ∙ parts.0))) parts.1
+  any-put (x ∷ os) (suc i) o here none =
+      let parts = or_parts (holds test x) (list_any (holds test) os) none in
+      or_from (holds test x) (list_any (holds test) (slice_set os i o)) parts.0 (any-put os i o here parts.1)
 
-  pub where-none : (os : List (Option Process)) → ((j : ℕ) → holds test (slot os j) ≡ false) → is_some (place_where os test) ≡ false
-  where-none os none =
-      let e : position_or_len (holds test) os ≡ length os = position_or_len_is (holds test) os (length os) None (omega arith) (λ j h. none j) (λ h. absurd (omega arith)) in
-      let past : nat_lt (length os) (length os) ≡ false = le-ltb (length os) (length os) (omega arith) in
-      rw (e, past) refl
-
-  -- where each place that passes was one that passed
-  pub fewer-where : (os os' : List (Option Process)) → ((j : ℕ) → holds test (slot os' j) ≡ true → holds test (slot os j) ≡ true) → is_some (place_where os test) ≡ false → is_some (place_where os' test) ≡ false
-  fewer-where os os' each none = where-none os' (λ j. false_from_ne_true (holds test (slot os' j)) (λ passes. true≢false (sym (each j passes) ∙ none-where os none j)))
-
-  -- where one place has another process, that passes only if the old one did
-  pub fewer-put : (os : List (Option Process)) (i : ℕ) (o : Option Process) → i < length os → (holds test o ≡ true → holds test (slot os i) ≡ true) → is_some (place_where os test) ≡ false → is_some (place_where (slice_set os i o) test) ≡ false
-  fewer-put os i o low here = fewer-where os (slice_set os i o) (λ j passes. elim (same_or_not j i) [
-    | inl same ↦ (let now : holds test o ≡ true = sym (ap (holds test) (ap (slot (slice_set os i o)) same ∙ slot-put os i o low)) ∙ passes in ap (λ n. holds test (slot os n)) same ∙ here now)
-    | inr other ↦ sym (ap (holds test) (slot-other os i j o other)) ∙ passes
-  ])
+  -- where one place has another process, that passes only if the old one did, nothing more is found
+  pub fewer-put : (os : List (Option Process)) (i : ℕ) (o : Option Process) → (holds test o ≡ true → holds test (slot os i) ≡ true) → is_some (place_where os test) ≡ false → is_some (place_where (slice_set os i o) test) ≡ false
+  fewer-put os i o here none = found-any (holds test) (slice_set os i o) ∙ any-put os i o here (sym (found-any (holds test) os) ∙ none)

@@ -1,12 +1,13 @@
 -- Steps on the memory of the running process keep what a kernel keeps, and are what the abstract Unix puts in its place.
-use Rattle.kernel.proofs.Common.{false, is_within, ◌<◌, ◌≡◌, ◌≤◌, ◌+◌, ◌-◌, ◌∷◌, ◌∙◌, ℕ, zero, suc, Bool, true, List, [], length, take, drop, is_some, Option, Some, None, refl, ap, subst, sym, arith, length-set, Kernel, IsKernel}
-use Rattle.kernel.proofs.Common.{Keeps, state_of, Process, SpaceView, Spaces, taken_frames, view_at, Console, put, slot, put_process, State, drew, reheld, resized, sized, wrote, woken_by, Bytes, grown-with_pages, shrunk-with_pages}
-use Rattle.kernel.proofs.Common.{some-pipe, Fits, Lacks, bytes_in, grown, shrunk, with_pipe, with_view, written, eqb-true, Taken, take_line, taken, Memory, can_write, write_bytes, ceil_div, stack_marks, is_empty}
+use Rattle.kernel.proofs.Common.{all-set, false, is_within, ◌<◌, ◌≡◌, ◌≤◌, ◌+◌, ◌-◌, ◌∷◌, ◌∙◌, ℕ, zero, suc, Bool, true, List, [], length, take, drop, is_some, Some, refl, ap, subst, sym, arith, length-set, Kernel, IsKernel, Keeps}
+use Rattle.kernel.proofs.Common.{state_of, Process, SpaceView, Spaces, taken_frames, view_at, Console, put, slot, put_process, State, drew, reheld, resized, sized, wrote, woken_by, Bytes, grown-with_pages, shrunk-with_pages, some-pipe}
+use Rattle.kernel.proofs.Common.{Fits, Lacks, bytes_in, grown, shrunk, with_pipe, with_view, written, eqb-true, Taken, take_line, Memory, can_write, write_bytes, ceil_div, stack_marks, is_empty}
 use Rattle.std.specs.Bool.{OnFalse, OnTrue}
-use Rattle.kernel.proofs.Reaped.{match-active, match-place, over-state}
+use Rattle.kernel.proofs.Named.{fewer-pipes}
+use Rattle.kernel.proofs.Reaped.{over-stands}
 use Rattle.kernel.proofs.Runs.{IsRun, moved, moved-kernel, moved-state, run-of, self, set-slot, stands-set, within-run, within-space}
 use Rattle.kernel.proofs.Steps.{held-run, placed-with}
-use Rattle.kernel.proofs.Wakes.{kernel-waking}
+use Rattle.kernel.proofs.Wakes.{kernel-waking, typed-kernel}
 use Rattle.kernel.proofs.Watching.{watched-bytes, watched-taken}
 use Rattle.spaces.specs.Spaces.{has_pipe}
 
@@ -28,7 +29,7 @@ module _ {k : Kernel} {i : ℕ} {p : Process} {old : SpaceView} (r : IsRun k i p
     reheld-full over =
         let to = moved k i p h k.spaces.registers k.spaces.pc in
         let stands = stands-set k.table.places k.spaces.places i (Some p) (Some h) (within-run k i p old r) (within-space k i p old r is) (placed-with k i p old r is h) is.stands in
-        subst (λ (y : Kernel). is_within (state_of y) ≡ false) (sym reheld-is) (over-state to (match-active to k.spaces.active (λ j. match-place (slot to.table.places j) (slot to.spaces.places j) (stands j))) over)
+        subst (λ (y : Kernel). is_within (state_of y) ≡ false) (sym reheld-is) (over-stands to stands over)
 
   -- bytes are written
   pub wrote-state : (address : ℕ) (bytes : List ℕ) → state_of (wrote k i address bytes) ≡ put_process (state_of k) i (record (self k p old) { memory = write_bytes old.memory address bytes })
@@ -90,45 +91,29 @@ taken-empty has zero bytes empty = empty
 taken-empty has (suc n) [] empty = refl
 taken-empty has (suc n) (b ∷ bs) empty = absurd (let none : length (b ∷ bs) ≡ 0 = eqb-true (length (b ∷ bs)) 0 empty in omega arith)
 
-pub typed-kernel : {k : Kernel} → IsKernel k → (new : Console) → IsKernel (record k { console = new })
-typed-kernel is new = record { all = is.all; spaces = is.spaces; stands = is.stands; runs = is.runs; fits = is.fits; opened = is.opened; used = is.used }
-
 pub line-keeps : {k : Kernel} → Keeps k → (has : Bool) (n : ℕ) {bytes : List ℕ} {over : Bool} {new : Console} → take_line has n k.console.committed ≡ record { bytes = bytes; rest = new.committed; over = over } → Keeps (record k { console = new })
 line-keeps {k} keeps has n {new = new} took = record {
-  sound = typed-kernel keeps.sound new;
+  sound = typed-kernel keeps.sound new k.ticks;
   watched = watched-taken _ _ k.console new _ _ (λ empty. ap (λ (t : Taken). is_empty t.rest) (sym took) ∙ taken-empty has n k.console.committed empty) keeps.watched;
 }
 
 -- ---- pipes
 
-taken-same : (pipes : List (Option (List ℕ))) (q : ℕ) (old new : List ℕ) → slot pipes q ≡ Some old → length (taken (put pipes q new)) ≡ length (taken pipes)
-taken-same [] q old new at = refl
-taken-same (o ∷ pipes) zero old new at = rw at refl
-taken-same (None ∷ pipes) (suc q) old new at = taken-same pipes q old new at
-taken-same (Some b ∷ pipes) (suc q) old new at = ap suc (taken-same pipes q old new at)
-
-some-same : (pipes : List (Option (List ℕ))) (q : ℕ) (old new : List ℕ) → slot pipes q ≡ Some old → (r : ℕ) → is_some (slot (put pipes q new) r) ≡ is_some (slot pipes r)
-some-same [] q old new at r = refl
-some-same (o ∷ pipes) zero old new at zero = rw at refl
-some-same (o ∷ pipes) zero old new at (suc r) = refl
-some-same (o ∷ pipes) (suc q) old new at zero = refl
-some-same (o ∷ pipes) (suc q) old new at (suc r) = some-same pipes q old new at r
-
 -- a pipe that stands has other bytes
 piped-kernel : {k : Kernel} → IsKernel k → (q : ℕ) (old new : List ℕ) → slot k.spaces.pipes q ≡ Some old → IsKernel (record k { spaces = with_pipe k.spaces q (Some new) })
-piped-kernel {k} is q old new at = record {
+piped-kernel {k} is q old new at = let stays = all-set (λ r o. is_some o ≡ is_some (slot k.spaces.pipes r)) k.spaces.pipes q (Some new) (sym (ap is_some at)) (λ r. refl) in record {
   all = is.all;
   spaces = is.spaces;
   stands = is.stands;
   runs = is.runs;
   used = is.used;
-  fits = omega (arith, is.fits, taken-same k.spaces.pipes q old new at);
+  fits = omega (arith, is.fits, fewer-pipes k.spaces.pipes (put k.spaces.pipes q new) (length-set k.spaces.pipes q (Some new)) (λ r bytes there. sym (stays r) ∙ ap is_some there));
   opened = record {
     table = is.opened.table;
     counted = is.opened.counted;
     each = is.opened.each;
     all = length-set k.spaces.pipes q (Some new) ∙ is.opened.all;
-    piped = λ x. some-same k.spaces.pipes q old new at x ∙ is.opened.piped x;
+    piped = λ r. stays r ∙ is.opened.piped r;
     waits = is.opened.waits;
   };
 }

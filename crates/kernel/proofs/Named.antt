@@ -1,14 +1,15 @@
 -- The open files and the pipes keep what holds of them where descriptors come and go, and what is left of them is what
 -- the abstract Unix leaves.
-use Rattle.kernel.proofs.Common.{FileTree, drop-cons, eq-eqb, append_assoc, Bool, List, None, Option, Some, [], ap, arith, cond, false, inl, inr, length, refl, subst, suc, sym, true, ℕ, ℤ, ◌+◌, ◌++◌, ◌<◌, ◌≡◌, ◌≤◌, ◌∙◌, ◌∷◌, drop}
-use Rattle.kernel.proofs.Common.{SpaceView, is_some, map, option_and_then, option_map, slice_set, ◌==◌, cases_lt, none-some, get_or_past, length-append, length-map, set-get_or, sum_by-cons, sum_by-set, IsCounted, after_close, all_closed}
-use Rattle.kernel.proofs.Common.{all_shared, closed_in, named_by, names_in, shared_in, standing, slot-within, IsInUse, files_on, gone_nodes, last_node, listed, node_in, node_on, names, one_in, Counts, count-closed, count-shared, lt-no}
-use Rattle.kernel.proofs.Common.{lt-yes, names-none, one_at, IsPiped, IsLeftOf, has_pipe-clear, pipes-clear, pipes-left, pipes-same, piped-end, piped-last, piped-node, without_pipes-left, end_of, file_of, target_of, Counted, IsTable}
-use Rattle.kernel.proofs.Common.{closed, count_at, fewer, file_at, last_in, last_target, opens_of, shared, all-set, fewer-from, IsLeft, left-closed, left-same, opens-closed, opens-closed_last, opens-shared, set_outside, slot-opens}
-use Rattle.kernel.proofs.Common.{table-closed, table-shared, without_opens-left, Process, orphaned, zombie_of, joined, Spaces, Files, clear, put, slot, taken, End, OnPipe, reap, without_nodes, without_pipes, State}
+use Rattle.kernel.proofs.Common.{drop-cons, eq-eqb, append_assoc, Bool, List, None, Option, Some, [], ap, arith, cond, false, inl, inr, length, refl, subst, suc, sym, true, ℕ, ℤ, ◌+◌, ◌++◌, ◌<◌, ◌≡◌, ◌≤◌, ◌∙◌, ◌∷◌, drop, SpaceView, is_some}
+use Rattle.kernel.proofs.Common.{map, option_and_then, option_map, slice_set, cases_lt, none-some, get_or_past, length-append, length-map, set-get_or, sum_by-cons, sum_by-set, IsCounted, after_close, all_closed, all_shared, closed_in}
+use Rattle.kernel.proofs.Common.{named_by, names_in, shared_in, standing, slot-within, files_on, gone_nodes, last_node, listed, node_in, node_on, names, one_in, Counts, count-closed, count-shared, lt-no, lt-yes, names-none, one_at, IsPiped}
+use Rattle.kernel.proofs.Common.{IsLeftOf, has_pipe-clear, pipes-clear, pipes-left, pipes-same, piped-end, piped-last, piped-node, without_pipes-left, end_of, file_of, target_of, Counted, IsTable, closed, count_at, fewer, file_at, last_in}
+use Rattle.kernel.proofs.Common.{last_target, opens_of, shared, all-set, fewer-from, IsLeft, left-closed, left-same, opens-closed, opens-closed_last, opens-shared, set_outside, slot-opens, table-closed, without_opens-left, Process}
+use Rattle.kernel.proofs.Common.{orphaned, zombie_of, joined, Spaces, Files, clear, put, slot, taken, End, OnPipe, reap, without_nodes, without_pipes, State, Kernel, IsKernel, IsLive, IsMode, IsPlace, Mode, Ready, Running, Waiting, Zombie}
+use Rattle.kernel.proofs.Common.{Memory, ◌*◌, count_by-le-length, is_same}
 use Rattle.files.specs.Places.{has_pipe}
-use Rattle.kernel.proofs.Opens.{count-joined, file-shared}
-use Rattle.kernel.proofs.Holding.{AreOld, named_in, one_at-self, same-map, slot-map, used-shared}
+use Rattle.kernel.proofs.Opens.{count-joined}
+use Rattle.kernel.proofs.Holding.{AreOld, map-same, named_in, one_at-self, orphan-by, same-map, slot-map}
 use Rattle.files.specs.declared.file.End as files_end
 use Rattle.files.specs.declared.file.OpenFile.{OpenFile}
 use Rattle.files.specs.declared.file.Target.{Target}
@@ -40,29 +41,16 @@ count-share : (t : List (Option Counted)) (d : Option ℕ) (ds : List (Option �
 count-share t None ds are n = omega arith
 count-share t (Some k) ds are n = count-shared t k (first-named t k ds are) n
 
-pub named-share : (t : List (Option Counted)) (d : Option ℕ) (ds : List (Option ℕ)) → AreNamed t (d ∷ ds) → AreNamed (shared_in t d) ds
-named-share t d ds are n = omega (arith, are n, names-cons n d ds, count-share t d ds are n)
-
 pub count-all_shared : (t : List (Option Counted)) (ds : List (Option ℕ)) → AreNamed t ds → (n : ℕ) → count_at (all_shared t ds) n ≡ count_at t n + names n ds
 count-all_shared t [] are n = omega arith
 count-all_shared t (d ∷ ds) are n =
-    let rest = count-all_shared (shared_in t d) ds (named-share t d ds are) n in
+    let rest = count-all_shared (shared_in t d) ds (λ m. omega (arith, are m, names-cons m d ds, count-share t d ds are m)) n in
     omega (arith, rest, names-cons n d ds, count-share t d ds are n)
 
-kept-all_shared : (P : List (Option Counted) → Type 0) → ((t : List (Option Counted)) (n : ℕ) → P t → P (shared t n)) → (t : List (Option Counted)) (ds : List (Option ℕ)) → P t → P (all_shared t ds)
+pub kept-all_shared : (P : List (Option Counted) → Type 0) → ((t : List (Option Counted)) (n : ℕ) → P t → P (shared t n)) → (t : List (Option Counted)) (ds : List (Option ℕ)) → P t → P (all_shared t ds)
 kept-all_shared P step t [] is = is
 kept-all_shared P step t (None ∷ ds) is = kept-all_shared P step t ds is
 kept-all_shared P step t (Some n ∷ ds) is = kept-all_shared P step (shared t n) ds (step t n is)
-
-pub table-all_shared : (t : List (Option Counted)) (ds : List (Option ℕ)) → IsTable t → IsTable (all_shared t ds)
-table-all_shared t ds is = kept-all_shared IsTable table-shared t ds is
-
-pub file-all_shared : (t : List (Option Counted)) (ds : List (Option ℕ)) (n : ℕ) → file_at (all_shared t ds) n ≡ file_at t n
-file-all_shared t ds n = kept-all_shared (λ u. file_at u n ≡ file_at t n) (λ u i same. file-shared u i n ∙ same) t ds refl
-
--- they are in use as before
-pub used-all_shared : {t : FileTree} (opens : List (Option Counted)) {os : List (Option Process)} (ds : List (Option ℕ)) → IsInUse t opens os → IsInUse t (all_shared opens ds) os
-used-all_shared {t} opens {os} ds is = kept-all_shared (λ u. IsInUse t u os) (λ u n is. used-shared is n) opens ds is
 
 -- the open files are the same
 pub opens-all_shared : (t : List (Option Counted)) (ds : List (Option ℕ)) → opens_of (all_shared t ds) ≡ opens_of t
@@ -84,13 +72,10 @@ count-close : (t : List (Option Counted)) (d : Option ℕ) (ds : List (Option �
 count-close t None ds are n = omega arith
 count-close t (Some k) ds are n = count-closed t k (first-named t k ds are) n
 
-pub named-close : (t : List (Option Counted)) (d : Option ℕ) (ds : List (Option ℕ)) → AreNamed t (d ∷ ds) → AreNamed (closed_in t d) ds
-named-close t d ds are n = omega (arith, are n, names-cons n d ds, count-close t d ds are n)
-
 pub count-all_closed : (t : List (Option Counted)) (ds : List (Option ℕ)) → AreNamed t ds → (n : ℕ) → count_at (all_closed t ds) n + names n ds ≡ count_at t n
 count-all_closed t [] are n = omega arith
 count-all_closed t (d ∷ ds) are n =
-    let rest = count-all_closed (closed_in t d) ds (named-close t d ds are) n in
+    let rest = count-all_closed (closed_in t d) ds (λ m. omega (arith, are m, names-cons m d ds, count-close t d ds are m)) n in
     omega (arith, rest, names-cons n d ds, count-close t d ds are n)
 
 kept-all_closed : (P : List (Option Counted) → Type 0) → ((t : List (Option Counted)) (n : ℕ) → P t → P (closed t n)) → (t : List (Option Counted)) (ds : List (Option ℕ)) → P t → P (all_closed t ds)
@@ -131,12 +116,11 @@ files-all_closed t ds n f at = go (slot (all_closed t ds) n) refl at where
 -- ---- the counts of an ended process's table
 
 -- what an orphan has as before
-pub orphan-same : {X : Type 0} (f : Option Process → X) (pid : ℕ) → ((p : Process) → f (Some (record p { parent = 1 })) ≡ f (Some p)) → (o : Option Process) → f (option_map (orphaned pid) o) ≡ f o
-orphan-same f pid same None = refl
-orphan-same f pid same (Some p) = elim (p.parent == pid) as (λ b. f (Some (cond b (record p { parent = 1 }) p)) ≡ f (Some p)) [ true ↦ same p | false ↦ refl ]
+pub orphan-same : {X : Type 0} (f : Option Process → X) (pid : ℕ) → ((p : Process) (parent : ℕ) → f (Some (record p { parent = parent })) ≡ f (Some p)) → (o : Option Process) → f (option_map (orphaned pid) o) ≡ f o
+orphan-same f pid same = map-same f (orphaned pid) (λ p. orphan-by (λ q. f (Some q) ≡ f (Some p)) pid p (same p))
 
 orphaned-names : (pid n : ℕ) (o : Option Process) → names_in n (option_map (orphaned pid) o) ≡ names_in n o
-orphaned-names pid n = orphan-same (names_in n) pid (λ p. refl)
+orphaned-names pid n = orphan-same (names_in n) pid (λ p parent. refl)
 
 named_by-ended : (places : List (Option Process)) (i : ℕ) (p : Process) (status : ℤ) → slot places i ≡ Some p
     → (n : ℕ) → named_by (put (map (option_map (orphaned p.pid)) places) i (zombie_of p status)) n + names n p.descriptors ≡ named_by places n
@@ -183,9 +167,6 @@ module _ (pipes : List (Option (List ℕ))) (t : List (Option Counted)) (n : ℕ
         rw (lt-no 1 c.count last) (subst (λ (os : List (Option unix.OpenFile)). IsPiped (after_close pipes os (Some c.file.target)) os) (sym (opens-closed_last t n one)) (goes c.file c.file.target (slot-opens t n ∙ ap (option_map (λ (d : Counted). file_of d.file)) at) refl))
   ]
 
-  pub piped-close : IsPiped (after_close pipes (opens_of (closed t n)) (last_target t n)) (opens_of (closed t n))
-  piped-close = follows (slot t n) refl
-
 pub left-close_pipe : (old pipes : List (Option (List ℕ))) (opens : List (Option unix.OpenFile)) (o : Option Target) → IsLeftOf old pipes → IsLeftOf old (after_close pipes opens o)
 left-close_pipe old pipes opens None left = left
 left-close_pipe old pipes opens (Some (target.Pipe q e)) left = elim (has_pipe opens q) as (λ b. IsLeftOf old (cond b pipes (clear pipes q))) [ true ↦ left | false ↦ pipes-clear old pipes q left ]
@@ -215,13 +196,13 @@ standing-is opens old new is left = pipes-left opens old new is left
 abbrev pub Leaves : List (Option Counted) → List (Option (List ℕ)) → List (Option (List ℕ)) → Type 0
 Leaves new before pipes = IsPiped pipes (opens_of new) × IsLeftOf before pipes
 
-leaves-one : (t : List (Option Counted)) (before pipes : List (Option (List ℕ))) (d : Option ℕ) → Leaves t before pipes → (after : List (Option (List ℕ))) × Leaves (closed_in t d) before after
-leaves-one t before pipes None is = (pipes, is)
-leaves-one t before pipes (Some n) is = (after_close pipes (opens_of (closed t n)) (last_target t n), (piped-close pipes t n is.0, left-close_pipe before pipes (opens_of (closed t n)) (last_target t n) is.1))
+pub leaves-one : (t : List (Option Counted)) (before pipes : List (Option (List ℕ))) (n : ℕ) → Leaves t before pipes → Leaves (closed t n) before (after_close pipes (opens_of (closed t n)) (last_target t n))
+leaves-one t before pipes n is = (follows pipes t n is.0 (slot t n) refl, left-close_pipe before pipes (opens_of (closed t n)) (last_target t n) is.1)
 
 leaves-all : (t : List (Option Counted)) (before pipes : List (Option (List ℕ))) (ds : List (Option ℕ)) → Leaves t before pipes → (after : List (Option (List ℕ))) × Leaves (all_closed t ds) before after
 leaves-all t before pipes [] is = (pipes, is)
-leaves-all t before pipes (d ∷ ds) is = let one = leaves-one t before pipes d is in leaves-all (closed_in t d) before one.0 ds one.1
+leaves-all t before pipes (None ∷ ds) is = leaves-all t before pipes ds is
+leaves-all t before pipes (Some n ∷ ds) is = leaves-all (closed t n) before (after_close pipes (opens_of (closed t n)) (last_target t n)) ds (leaves-one t before pipes n is)
 
 pub leaves-standing : (t : List (Option Counted)) (pipes : List (Option (List ℕ))) (ds : List (Option ℕ)) → IsPiped pipes (opens_of t) → Leaves (all_closed t ds) pipes (standing pipes (opens_of (all_closed t ds)))
 leaves-standing t pipes ds is =
@@ -229,11 +210,11 @@ leaves-standing t pipes ds is =
     rw (standing-is (opens_of (all_closed t ds)) pipes all.0 all.1.0 all.1.1) all.1
 
 -- no more pipes stand than did
-pub fewer-pipes : (old new : List (Option (List ℕ))) → length new ≡ length old → ((q : ℕ) (bytes : List ℕ) → slot new q ≡ Some bytes → slot old q ≡ Some bytes) → length (taken new) ≤ length (taken old)
+pub fewer-pipes : (old new : List (Option (List ℕ))) → length new ≡ length old → ((q : ℕ) (bytes : List ℕ) → slot new q ≡ Some bytes → is_some (slot old q) ≡ true) → length (taken new) ≤ length (taken old)
 fewer-pipes [] [] all each = omega arith
 fewer-pipes (None ∷ old) (None ∷ new) all each = fewer-pipes old new (omega (arith, all)) (λ q. each (suc q))
 fewer-pipes (Some b ∷ old) (None ∷ new) all each = let rest = fewer-pipes old new (omega (arith, all)) (λ q. each (suc q)) in omega (arith, rest)
-fewer-pipes (None ∷ old) (Some b ∷ new) all each = absurd (let bad : None ≡ Some b = each 0 b refl in cc)
+fewer-pipes (None ∷ old) (Some b ∷ new) all each = absurd (let bad : false ≡ true = each 0 b refl in cc)
 fewer-pipes (Some b ∷ old) (Some c ∷ new) all each = let rest = fewer-pipes old new (omega (arith, all)) (λ q. each (suc q)) in omega (arith, rest)
 fewer-pipes _ _ all each = absurd (omega (arith, all))
 
@@ -290,70 +271,72 @@ files_on-all_closed t (Some n ∷ ds) m = omega (arith, files_on-all_closed (clo
 
 -- ---- one descriptor after the other
 
-next-closed : (t : List (Option Counted)) (ds : List (Option ℕ)) (i : ℕ) (o : Option ℕ) → i < length ds → slot ds i ≡ o → all_closed t (drop i ds) ≡ all_closed (closed_in t o) (drop (i + 1) ds)
-next-closed t ds i o h at =
-    let next : suc i ≡ i + 1 = omega arith in
-    ap (all_closed t) (drop-cons ds i None h ∙ ap (λ d. d ∷ drop (suc i) ds) at) ∙ ap (λ j. all_closed (closed_in t o) (drop j ds)) next
-
--- the first i descriptors were closed
-abbrev pub Closing : List (Option Counted) → Spaces → List (Option ℕ) → List (Option Counted) → Spaces → ℕ → Type 0
-Closing old before ds t s i = (all_closed t (drop i ds) ≡ all_closed old ds) × (Leaves t before.pipes s.pipes × (s ≡ record before { pipes = s.pipes }))
-
-module _ (old : List (Option Counted)) (before : Spaces) (ds : List (Option ℕ)) (t : List (Option Counted)) (s : Spaces) (i : ℕ) (h : i < length ds) (is : Closing old before ds t s i) where
-  pub closing-none : slot ds i ≡ None → Closing old before ds t s (i + 1)
-  closing-none at = (sym (next-closed t ds i None h at) ∙ is.0, is.1)
-
-  pub closing-some : (n : ℕ) → slot ds i ≡ Some n → Closing old before ds (closed t n) (record s { pipes = after_close s.pipes (opens_of (closed t n)) (last_target t n) }) (i + 1)
-  closing-some n at =
-      let next = after_close s.pipes (opens_of (closed t n)) (last_target t n) in (
-        sym (next-closed t ds i (Some n) h at) ∙ is.0,
-        ((piped-close s.pipes t n is.1.0.0, left-close_pipe before.pipes s.pipes (opens_of (closed t n)) (last_target t n) is.1.0.1), ap (λ (x : Spaces). record x { pipes = next }) is.1.1),
-      )
-
--- all were
-pub closing-all : (old : List (Option Counted)) (before : Spaces) (ds : List (Option ℕ)) (t : List (Option Counted)) (s : Spaces) (i : ℕ) → Closing old before ds t s i → s ≡ record before { pipes = standing before.pipes (opens_of t) }
-closing-all old before ds t s i is = is.1.1 ∙ ap (λ (ps : List (Option (List ℕ))). record before { pipes = ps }) (sym (standing-is (opens_of t) before.pipes s.pipes is.1.0.0 is.1.0.1))
-
--- ---- the nodes that go, one descriptor after the other
-
-abbrev gone_in : List (Option Counted) → Option ℕ → List ℕ
-gone_in t None = []
-gone_in t (Some n) = listed (last_node t n)
-
-next-gone : (t : List (Option Counted)) (ds : List (Option ℕ)) (i : ℕ) (o : Option ℕ) → i < length ds → slot ds i ≡ o → gone_nodes t (drop i ds) ≡ gone_in t o ++ gone_nodes (closed_in t o) (drop (i + 1) ds)
-next-gone t ds i o h at =
-    let next : suc i ≡ i + 1 = omega arith in
-    ap (gone_nodes t) (drop-cons ds i None h ∙ ap (λ d. d ∷ drop (suc i) ds) at) ∙ first o ∙ ap (λ j. gone_in t o ++ gone_nodes (closed_in t o) (drop j ds)) next
-  where
-    first : (o : Option ℕ) → gone_nodes t (o ∷ drop (suc i) ds) ≡ gone_in t o ++ gone_nodes (closed_in t o) (drop (suc i) ds)
-    first None = refl
-    first (Some n) = refl
+-- the first i descriptors were closed, and these nodes went
+pub record IsClosing (old : List (Option Counted)) (before : Spaces) (ds : List (Option ℕ)) (t : List (Option Counted)) (s : Spaces) (gone : List ℕ) (i : ℕ) : Type 0 where
+  pub files : all_closed t (drop i ds) ≡ all_closed old ds
+  pub leaves : Leaves t before.pipes s.pipes
+  pub spaces : s ≡ record before { pipes = s.pipes }
+  pub nodes : gone ++ gone_nodes t (drop i ds) ≡ gone_nodes old ds
+  pub few : length gone ≤ i
 
 length-listed : (o : Option ℕ) → length (listed o) ≤ 1
 length-listed None = omega arith
 length-listed (Some n) = omega arith
 
--- the first i descriptors were closed, and these nodes went
-pub record IsClosing (old : List (Option Counted)) (before : Spaces) (ds : List (Option ℕ)) (t : List (Option Counted)) (s : Spaces) (gone : List ℕ) (i : ℕ) : Type 0 where
-  pub closing : Closing old before ds t s i
-  pub nodes : gone ++ gone_nodes t (drop i ds) ≡ gone_nodes old ds
-  pub few : length gone ≤ i
+module _ {old : List (Option Counted)} {before : Spaces} {ds : List (Option ℕ)} {t : List (Option Counted)} {s : Spaces} {gone : List ℕ} {i : ℕ} (h : i < length ds) (is : IsClosing old before ds t s gone i) where
+  next : (o : Option ℕ) → slot ds i ≡ o → o ∷ drop (i + 1) ds ≡ drop i ds
+  next o at =
+      let e : suc i ≡ i + 1 = omega arith in
+      sym (drop-cons ds i None h ∙ ap (λ d. d ∷ drop (suc i) ds) at ∙ ap (λ j. o ∷ drop j ds) e)
 
-module _ (old : List (Option Counted)) (before : Spaces) (ds : List (Option ℕ)) (t : List (Option Counted)) (s : Spaces) (gone : List ℕ) (i : ℕ) (h : i < length ds) (is : IsClosing old before ds t s gone i) where
   pub closes-none : slot ds i ≡ None → IsClosing old before ds t s gone (i + 1)
   closes-none at = record {
-    closing = closing-none old before ds t s i h is.closing at;
-    nodes = ap (λ ns. gone ++ ns) (sym (next-gone t ds i None h at)) ∙ is.nodes;
+    files = ap (all_closed t) (next None at) ∙ is.files;
+    leaves = is.leaves;
+    spaces = is.spaces;
+    nodes = ap (λ rest. gone ++ gone_nodes t rest) (next None at) ∙ is.nodes;
     few = omega (arith, is.few);
   }
 
-  pub closes-some : (n : ℕ) → slot ds i ≡ Some n → (next : List ℕ) → next ≡ gone ++ listed (last_node t n) → IsClosing old before ds (closed t n) (record s { pipes = after_close s.pipes (opens_of (closed t n)) (last_target t n) }) next (i + 1)
-  closes-some n at next e = record {
-    closing = closing-some old before ds t s i h is.closing n at;
+  pub closes-some : (n : ℕ) → slot ds i ≡ Some n → (new : List ℕ) → new ≡ gone ++ listed (last_node t n) → IsClosing old before ds (closed t n) (record s { pipes = after_close s.pipes (opens_of (closed t n)) (last_target t n) }) new (i + 1)
+  closes-some n at new e = record {
+    files = ap (all_closed t) (next (Some n) at) ∙ is.files;
+    leaves = leaves-one t before.pipes s.pipes n is.leaves;
+    spaces = ap (λ (x : Spaces). record x { pipes = after_close s.pipes (opens_of (closed t n)) (last_target t n) }) is.spaces;
     nodes =
         ap (λ ns. ns ++ gone_nodes (closed t n) (drop (i + 1) ds)) e
         ∙ append_assoc gone (listed (last_node t n)) (gone_nodes (closed t n) (drop (i + 1) ds))
-        ∙ ap (λ ns. gone ++ ns) (sym (next-gone t ds i (Some n) h at))
+        ∙ ap (λ rest. gone ++ gone_nodes t rest) (next (Some n) at)
         ∙ is.nodes;
     few = omega (arith, is.few, ap length e, length-append gone (listed (last_node t n)), length-listed (last_node t n));
   }
+
+-- all were
+pub closing-all : {old : List (Option Counted)} {before : Spaces} {ds : List (Option ℕ)} {t : List (Option Counted)} {s : Spaces} {gone : List ℕ} {i : ℕ} → IsClosing old before ds t s gone i → s ≡ record before { pipes = standing before.pipes (opens_of t) }
+closing-all {before = before} {t = t} {s = s} is = is.spaces ∙ ap (λ (ps : List (Option (List ℕ))). record before { pipes = ps }) (sym (standing-is (opens_of t) before.pipes s.pipes is.leaves.0 is.leaves.1))
+
+-- ---- no open file is named by many descriptors
+
+live-few : (n : ℕ) (p : Process) → IsLive p → names n p.descriptors ≤ 16
+live-few n p is = omega (arith, count_by-le-length (is_same n) p.descriptors, is.descriptors)
+
+mode-few : (n : ℕ) (p : Process) (memory : Memory) (mode : Mode) → IsMode p memory mode → names n p.descriptors ≤ 16
+mode-few n p memory Running is = live-few n p is.0
+mode-few n p memory Ready is = live-few n p is
+mode-few n p memory (Waiting w) is = live-few n p is.0
+mode-few n p memory (Zombie status) is = let none : names n p.descriptors ≡ 0 = ap (names n) is.descriptors ∙ names-none n in omega (arith, none)
+
+place-few : (n : ℕ) (o : Option Process) (q : Option SpaceView) → IsPlace o q → names_in n o ≤ 16
+place-few n None q is = omega arith
+place-few n (Some p) None is = absurd is
+place-few n (Some p) (Some h) is = mode-few n p h.memory p.mode is.mode
+
+sum-few : (n : ℕ) (os : List (Option Process)) → ((j : ℕ) → names_in n (slot os j) ≤ 16) → named_by os n ≤ 16 * length os
+sum-few n [] few = omega arith
+sum-few n (o ∷ os) few = omega (arith, sum_by-cons (names_in n) o os, few 0, sum-few n os (λ j. few (suc j)))
+
+-- no more than 64 processes with 16 descriptors name an open file
+pub counts-few : (k : Kernel) → IsKernel k → (n : ℕ) → count_at k.files n ≤ 1024
+counts-few k is n =
+    let few = sum-few n k.table.places (λ j. place-few n (slot k.table.places j) (slot k.spaces.places j) (is.stands j)) in
+    omega (arith, few, is.opened.counted n, is.all)

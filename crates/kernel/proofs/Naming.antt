@@ -1,6 +1,7 @@
--- Calls on names, and a file that is emptied, keep what a kernel keeps.
-use Rattle.kernel.proofs.Common.{Err, Ok, OnErr, Result, ap, arith, subst, sym, false, true, Bool, ℕ, List, ◌∙◌, ◌≡◌, ◌≢◌, IfOk, DeviceFault, FileTree, Files, Serves, blocks_of, slot, Kernel, Keeps, IsInUse, All, IfErr, OnOk}
-use Rattle.kernel.proofs.Common.{option_map, with_tree, Changed, shape, KeepsTree, created-changed, device-is, folder-changed, linked-changed, MakesDirectory, MakesLink, MakesNode, TakesName, HasFiles, has_failed, IsWhole, change_node}
+-- Calls on names, a file that is emptied, and bytes between nodes and memory keep what a kernel keeps.
+use Rattle.kernel.proofs.Common.{Err, Ok, OnErr, Result, ap, arith, subst, sym, false, true, ℕ, List, ◌∙◌, ◌≡◌, ◌≢◌, IfOk, DeviceFault, FileTree, Files, Serves, blocks_of, slot, Kernel, Keeps, IsInUse, All, IfErr, OnOk, option_map}
+use Rattle.kernel.proofs.Common.{with_tree, Changed, shape, KeepsTree, created-changed, device-is, folder-changed, linked-changed, MakesDirectory, MakesLink, MakesNode, TakesName, HasFiles, has_failed, IsWhole, change_node, ◌≤◌, Option}
+use Rattle.kernel.proofs.Common.{Some, Spaces, taken_frames, wrote, HasFetched, HasStored, written-changed, Writes}
 use Rattle.kernel.proofs.Shapes.{used-changed, used-shaped}
 use Rattle.kernel.proofs.Steps.{fail-keeps, with-tree}
 use Rattle.kernel.proofs.Unlinking.{used-unlinked}
@@ -11,11 +12,10 @@ use Rattle.tree.specs.declared.TreeFault.TheVariants.{Device}
 use Rattle.tree.specs.Leaves.{leaf_node}
 use Rattle.tree.specs.Tree as tree
 use Rattle.unixmodel.specs.NameCalls.{emptied}
-
--- what was done has not failed
-pub ok-up : {X : Type 0} (r : Result X TreeFault) {b : Bool} → b ≡ has_failed r → OnOk r (b ≡ false)
-ok-up (Ok x) same = same
-ok-up (Err fault) same = tt
+use Rattle.file_transfers.specs.Moved.{IsRead, ReadsSome, bytes_read, with_read, written_from}
+use Rattle.kernel.proofs.Finishes.{counting-kernel}
+use Rattle.kernel.proofs.Memories.{wrote-keeps}
+use Rattle.tree.specs.Written.{IsFile}
 
 module _ {k : Kernel} (keeps : Keeps k) {now : Kernel} (same : k ≡ now) (up : now.tree.failed ≡ false) where
   in-use : IsInUse k.tree k.files k.table.places
@@ -59,3 +59,31 @@ module _ {k : Kernel} (keeps : Keeps k) {now : Kernel} (same : k ≡ now) (up : 
         let changed = subst (λ (u : FileTree). Changed k.tree.files u.files) (sym told) (quiet.truncates in-use.rules n) in
         record { sound = with-tree keeps.sound t (λ good. used-changed in-use t changed (ap (λ (u : FileTree). u.holds) told) full.zero full.within); watched = keeps.watched }
     go (Err fault) told full down = fail-keeps keeps t down
+
+-- ---- a read into the memory of the running process
+
+module _ (k : Kernel) (i n offset address count : ℕ) (t : FileTree) (s : Spaces) where
+  pub fetch-keeps : Keeps k → k.spaces.active ≡ Some i → (r : Result ℕ DeviceFault) → IfOk r (IsRead k.tree t n offset count) → OnErr r (t.failed ≡ true) → OnOk r (s ≡ with_read k.spaces i address k.tree.files n offset count) → OnErr r (ReadsSome k.spaces s i address k.tree.files n offset count)
+      → taken_frames s ≤ s.frames → Keeps (record k { tree = t; spaces = s })
+  fetch-keeps keeps active (Ok v) told down come some fits =
+      let kept = wrote-keeps keeps active address (bytes_read k.tree.files n offset count) (rw come at fits) in
+      rw (told.same, come) (record { sound = counting-kernel (wrote k i address (bytes_read k.tree.files n offset count)) t.failures kept.sound; watched = kept.watched })
+  fetch-keeps keeps active (Err fault) told down come some fits = rw some.2 (fail-keeps (wrote-keeps keeps active address (bytes_read k.tree.files n offset some.0) (rw some.2 at fits)) t down)
+
+  pub fetch-told : (r : Result ℕ DeviceFault) → IfOk r (IsRead k.tree t n offset count) → OnOk r (s ≡ with_read k.spaces i address k.tree.files n offset count) → IfOk r (HasFetched k (record k { tree = t; spaces = s }) i n offset address count)
+  fetch-told (Ok v) told come = record { same = rw come (ap (λ (u : FileTree). record k { tree = u; spaces = with_read k.spaces i address k.tree.files n offset count }) told.same); counted = told.count }
+  fetch-told (Err fault) told come = tt
+
+-- ---- a write from it
+
+module _ (k : Kernel) (i n offset address count : ℕ) (t : FileTree) where
+  pub store-keeps : Keeps k → k.tree.failed ≡ false → IsFile k.tree.files n → (r : Result (Option ℕ) DeviceFault) → IfOk r (Writes k.tree t (written_from k.spaces i address count k.tree n offset)) → OnErr r (t.failed ≡ true) → OnOk r (IsWhole t) → Keeps (record k { tree = t })
+  store-keeps keeps up file (Ok v) told down whole =
+      let used = keeps.sound.used up in
+      let changed = subst (λ (u : FileTree). Changed k.tree.files u.files) (sym told.0) (written-changed used.rules k.tree.block_limit n offset _ file) in
+      record { sound = with-tree keeps.sound t (λ good. used-changed used t changed (ap (λ (u : FileTree). u.holds) told.0) whole.zero whole.within); watched = keeps.watched }
+  store-keeps keeps up file (Err fault) told down whole = fail-keeps keeps t down
+
+  pub store-told : (r : Result (Option ℕ) DeviceFault) → IfOk r (Writes k.tree t (written_from k.spaces i address count k.tree n offset)) → IfOk r (HasStored k (record k { tree = t }) i n offset address count)
+  store-told (Ok v) told = record { same = ap (λ (u : FileTree). record k { tree = u }) told.0; counted = told.1 }
+  store-told (Err fault) told = tt

@@ -1,18 +1,19 @@
 -- The running process has a new open file.
-use Rattle.kernel.proofs.Common.{Err, is_none, ◌≡◌, ◌≢◌, ℕ, ◌+◌, ◌<◌, inl, inr, false, List, length, Option, Some, None, refl, ap, arith, subst, sym, ◌∙◌, length-set, sum_by-set, same_Some, IsCounted, Kernel, state_of, IsKernel}
-use Rattle.kernel.proofs.Common.{IsOpened, IsOpenFile, IsInUse, Keeps, FitsNode, files_on, node_in, node_of, node_on, one_in, Counted, count_at, count_in, file_at, opened, opens_of, file_of, target_of, IsPiped, Process, put}
-use Rattle.kernel.proofs.Common.{slot, FileTree, holders, with_hold, put_process, descriptors_at, woken_by, Bytes, Node, none-some, ◌||◌, is_pipe, Places, IsOpenOn, count-opened, names-put, free-Some, free-opens, free-place}
-use Rattle.kernel.proofs.Common.{free_count, place_for, place_from, count_by, has_pipe-put, free_slot-opens, opens-opened, table-opened, MayOpen, OpensAs, OpensOn, opened_at, opened_on, with_descriptor, IsWhole, free_slot}
+use Rattle.kernel.proofs.Common.{option_map, get_or-set_other, Err, is_none, ◌≡◌, ◌≢◌, ℕ, ◌+◌, ◌<◌, all-set, false, List, length, Option, Some, None, refl, ap, arith, subst, sym, ◌∙◌, length-set, sum_by-set, same_Some, IsCounted, Kernel}
+use Rattle.kernel.proofs.Common.{state_of, IsKernel, IsOpened, IsOpenFile, IsInUse, Keeps, FitsNode, files_on, node_in, node_of, node_on, one_in, Counted, count_at, count_in, file_at, opened, opens_of, file_of, target_of, IsPiped, Process}
+use Rattle.kernel.proofs.Common.{put, slot, FileTree, holders, with_hold, put_process, descriptors_at, woken_by, Bytes, none-some, ◌||◌, is_pipe, Places, IsOpenOn, count-opened, names-put, free-Some, free-opens, free-place, free_count}
+use Rattle.kernel.proofs.Common.{place_for, place_from, count_by, has_pipe-put, free_slot-opens, opens-opened, table-opened, MayOpen, OpensAs, OpensOn, opened_at, opened_on, with_descriptor, IsWhole, free_slot, ◌≤◌, taken_frames}
 use Rattle.files.specs.Places.{has_pipe}
 use Rattle.files.specs.declared.table.FileFault.{FileFault}
 use Rattle.files.specs.declared.file.OpenFile.{OpenFile}
 use Rattle.files.specs.declared.file.Target.{Target}
 use Rattle.files.specs.declared.file.Target.TheVariants as target
-use Rattle.kernel.proofs.Holding.{hold-more, holders-few}
-use Rattle.kernel.proofs.Opens.{alike-same, file-opened, place-counts, waits-kept, waits-running, waits-set}
+use Rattle.kernel.proofs.Holding.{fits-there, holders-few, used-more, used-opened}
+use Rattle.kernel.proofs.Runs.{IsRun}
+use Rattle.kernel.specs.Holding.{FitsFiles}
+use Rattle.kernel.proofs.Opens.{alike-same, place-counts, waits-kept, waits-running, waits-set}
 use Rattle.kernel.proofs.Renaming.{descriptors-run, named-put}
-use Rattle.kernel.proofs.Runs.{same_or_not, slot-other, slot-put}
-use Rattle.kernel.proofs.Turning.{Runner, me_of, renamed, renamed-kernel, renamed-state, renamed_to, runner-of, used-turned}
+use Rattle.kernel.proofs.Turning.{Runner, me_of, renamed, renamed-kernel, renamed-run, renamed-state, renamed_to, runner-of, used-turned}
 use Rattle.kernel.proofs.Wakes.{kernel-waking, running-at}
 use Rattle.kernel.proofs.Watching.{watched-bytes, watched-running}
 use Rattle.unixmodel.specs.FileCalls as row
@@ -31,22 +32,12 @@ no-place t fault some none =
 -- ---- it is on a node
 
 on-no-pipe : (n q : ℕ) (t : Target) → node_on t ≡ Some n → is_pipe q (target_of t) ≡ false
-on-no-pipe n q (target.File number offset) on = refl
-on-no-pipe n q (target.Console number) on = refl
-on-no-pipe n q (target.Device number) on = refl
 on-no-pipe n q (target.Pipe pipe e) on = absurd (none-some n on)
+on-no-pipe n q _ on = refl
 
 on-open : (n : ℕ) (f : unix_files.OpenFile) (t : Target) → node_on t ≡ Some n → IsOpenOn f (target_of t)
-on-open n f (target.File number offset) on = tt
-on-open n f (target.Console number) on = tt
-on-open n f (target.Device number) on = tt
 on-open n f (target.Pipe pipe e) on = absurd (none-some n on)
-
-fits-there : (n : ℕ) (f : OpenFile) (t : Target) (o : Option Node) → node_on t ≡ Some n → FitsNode f t o → o ≢ None
-fits-there n f (target.File number offset) o on fits none = subst (FitsNode f (target.File number offset)) none fits
-fits-there n f (target.Console number) o on fits none = subst (FitsNode f (target.Console number)) none fits
-fits-there n f (target.Device number) o on fits none = subst (FitsNode f (target.Device number)) none fits
-fits-there n f (target.Pipe pipe e) o on fits none = none-some n on
+on-open n f _ on = tt
 
 pub open-there : {k : Kernel} {i n : ℕ} {f : OpenFile} → MayOpen k i n f → slot k.tree.files n ≢ None
 open-there {k} {i} {n} {f} may = fits-there n f f.target (slot k.tree.files n) may.on may.fits
@@ -74,17 +65,18 @@ module _ {k : Kernel} {i : ℕ} (x : Runner k i) (f : OpenFile) (place fd : ℕ)
   opens-is = opens-opened k.files place f
 
   -- with other files of the disk, and other pipes
-  pub opens-state : (tree : FileTree) (pipes : List (Option (List ℕ)))
-      → state_of (renamed_to x ds x.process.directory same tree files pipes) ≡ record (put_process (state_of k) i (row.with_descriptor (me_of x) fd place)) { files = tree.files; block_limit = tree.block_limit; opens = put (opens_of k.files) place (file_of f); pipes = pipes }
-  opens-state tree pipes =
-      renamed-state x ds x.process.directory same tree files pipes
-      ∙ ap (λ (os : List (Option unix_files.OpenFile)). record (put_process (state_of k) i (row.with_descriptor (me_of x) fd place)) { files = tree.files; block_limit = tree.block_limit; opens = os; pipes = pipes }) opens-is
-
-  pub opens-made : (tree : FileTree) (pipes : List (Option (List ℕ))) → renamed_to x ds x.process.directory same tree files pipes ≡ record (opened_at k i f place fd) { tree = tree; spaces = record k.spaces { pipes = pipes } }
+  opens-made : (tree : FileTree) (pipes : List (Option (List ℕ))) → renamed_to x ds x.process.directory same tree files pipes ≡ record (opened_at k i f place fd) { tree = tree; spaces = record k.spaces { pipes = pipes } }
   opens-made tree pipes = rw x.run.process refl
 
   pub open-state : (n : ℕ) → state_of (opened_on k i n f place fd) ≡ record (put_process (state_of k) i (row.with_descriptor (me_of x) fd place)) { opens = put (opens_of k.files) place (file_of f) }
-  open-state n = let held : FileTree = record k.tree { holds = with_hold k.tree.holds n } in ap state_of (sym (opens-made held k.spaces.pipes)) ∙ opens-state held k.spaces.pipes
+  open-state n =
+      let held : FileTree = record k.tree { holds = with_hold k.tree.holds n } in
+      ap state_of (sym (opens-made held k.spaces.pipes))
+      ∙ renamed-state x ds x.process.directory same held files k.spaces.pipes
+      ∙ ap (λ (os : List (Option unix_files.OpenFile)). record (put_process (state_of k) i (row.with_descriptor (me_of x) fd place)) { opens = os }) opens-is
+
+  pub opens-run : (pipes : List (Option (List ℕ))) → IsRun (record (opened_at k i f place fd) { spaces = record k.spaces { pipes = pipes } }) i (record x.process { descriptors = ds }) x.held
+  opens-run pipes = rw (← opens-made k.tree pipes) (renamed-run x ds x.process.directory same k.tree files pipes)
 
   module _ (first : free_slot (opens_of k.files) ≡ Some place) (free : free_slot (descriptors_at k i) ≡ Some fd) where
     place-free : (place < length k.files) × (slot k.files place ≡ None)
@@ -99,22 +91,15 @@ module _ {k : Kernel} {i : ℕ} (x : Runner k i) (f : OpenFile) (place fd : ℕ)
 
     -- each open file but the new one was there
     each : IsOpenFile (file_of f) → (m : ℕ) (g : unix_files.OpenFile) → slot (opens_of files) m ≡ Some g → IsOpenFile g
-    each means m g at =
-        let opens = opens_of k.files in
-        let there : slot (put opens place (file_of f)) m ≡ Some g = ap (λ (os : List (Option unix_files.OpenFile)). slot os m) (sym opens-is) ∙ at in
-        elim (same_or_not m place) [
-          | inl same ↦
-              let e : file_of f ≡ g = same_Some (file_of f) g (sym (slot-put opens place (Some (file_of f)) (free-place opens place first).0) ∙ ap (slot (put opens place (file_of f))) (sym same) ∙ there) in
-              subst IsOpenFile e means
-          | inr other ↦ x.sound.opened.each m g (sym (slot-other opens place m (Some (file_of f)) other) ∙ there)
-        ]
+    each means = subst (λ os. (m : ℕ) (g : unix_files.OpenFile) → slot os m ≡ Some g → IsOpenFile g) (sym opens-is)
+        (all-set (λ m o. (g : unix_files.OpenFile) → o ≡ Some g → IsOpenFile g) (opens_of k.files) place (Some (file_of f)) (λ g at. subst IsOpenFile (same_Some (file_of f) g at) means) x.sound.opened.each)
 
     was-there : (m : ℕ) (g : OpenFile) → 0 < count_at k.files m → file_at files m ≡ Some g → file_at k.files m ≡ Some g
     was-there m g some at =
         let apart : m ≢ place = λ same. (let none : count_at k.files m ≡ 0 = ap (count_at k.files) same ∙ ap count_in place-free.1 in omega (arith, some, none)) in
-        sym (file-opened k.files place f m apart) ∙ at
+        sym (ap (option_map (λ (c : Counted). c.file)) (get_or-set_other k.files place m (Some (record { file = f; count = 1 })) None apart)) ∙ at
 
-    pub has-opened : IsOpenFile (file_of f) → (pipes : List (Option (List ℕ))) → length pipes ≡ 100 → IsPiped pipes (opens_of files) → IsOpened files pipes (put k.table.places i q)
+    has-opened : IsOpenFile (file_of f) → (pipes : List (Option (List ℕ))) → length pipes ≡ 100 → IsPiped pipes (opens_of files) → IsOpened files pipes (put k.table.places i q)
     has-opened means pipes all piped = let was = x.sound.opened in record {
       table = table-opened k.files place f was.table;
       counted = counted;
@@ -125,6 +110,14 @@ module _ {k : Kernel} {i : ℕ} (x : Runner k i) (f : OpenFile) (place fd : ℕ)
           (λ j. waits-kept k.files files (slot k.table.places j) (λ d m g named at. (g, (was-there m g (place-counts k.files k.table.places was.counted j (slot k.table.places j) refl d m named) at, alike-same g))) (was.waits j));
     }
 
+    -- it is on no node
+    pub opens-kernel : IsOpenFile (file_of f) → node_on f.target ≡ None → FitsNode f f.target None → (pipes : List (Option (List ℕ))) → length pipes ≡ 100 → IsPiped pipes (put (opens_of k.files) place (file_of f)) → taken_frames (record k.spaces { pipes = pipes }) ≤ k.spaces.frames
+        → IsKernel (record (opened_at k i f place fd) { spaces = record k.spaces { pipes = pipes } })
+    opens-kernel means on fits pipes all piped low =
+        rw (← opens-made k.tree pipes)
+        (renamed-kernel x ds x.process.directory same k.tree files pipes (λ up. used-opened (used-turned x q x.run.runs refl up) place f place-free.0 place-free.1 on fits)
+        (has-opened means pipes all (subst (IsPiped pipes) (sym opens-is) piped)) low)
+
     -- ---- it is on node n
 
     module _ (n : ℕ) (may : MayOpen k i n f) (short : n < length k.tree.holds) where
@@ -134,9 +127,6 @@ module _ {k : Kernel} {i : ℕ} (x : Runner k i) (f : OpenFile) (place fd : ℕ)
       abbrev one : Counted
       one = record { file = f; count = 1 }
 
-      before : IsInUse k.tree k.files (put k.table.places i q)
-      before = used-turned x q x.run.runs refl may.up
-
       files-more : (m : ℕ) → files_on files m ≡ files_on k.files m + one_in m (Some n)
       files-more m =
           let sums : files_on files m + one_in m (node_in (slot k.files place)) ≡ files_on k.files m + one_in m (node_in (Some one)) = sum_by-set (λ o. one_in m (node_in o)) k.files place (Some one) None place-free.0 in
@@ -145,20 +135,12 @@ module _ {k : Kernel} {i : ℕ} (x : Runner k i) (f : OpenFile) (place fd : ℕ)
           omega (arith, sums, none, new)
 
       used : IsInUse tree files (put k.table.places i q)
-      used = record {
-        rules = before.rules;
-        zero = before.zero;
-        within = before.within;
-        holds = λ m. omega (arith, hold-more k.tree.holds n short m, before.holds m, files-more m);
-        held = λ m node here bare. omega (arith, hold-more k.tree.holds n short m, before.held m node here bare);
-        fits = λ j c at. elim (same_or_not j place) [
-          | inl same ↦
-              let e : one ≡ c = same_Some one c (sym (slot-put k.files place (Some one) place-free.0) ∙ ap (slot files) (sym same) ∙ at) in
-              subst (λ (d : Counted). FitsNode d.file d.file.target (node_of k.tree.files (node_on d.file.target))) e (subst (λ o. FitsNode f f.target (node_of k.tree.files o)) (sym may.on) may.fits)
-          | inr other ↦ before.fits j c (sym (slot-other k.files place j (Some one) other) ∙ at)
-        ];
-        homes = before.homes;
-      }
+      used =
+          let before = used-turned x q x.run.runs refl may.up in
+          used-more before n short files (put k.table.places i q) (λ m. omega (arith, files-more m))
+          (all-set (λ j o. (c : Counted) → o ≡ Some c → FitsFiles k.tree.files c.file) k.files place (Some one)
+          (λ c at. subst (λ (d : Counted). FitsFiles k.tree.files d.file) (same_Some one c at) (subst (λ o. FitsNode f f.target (node_of k.tree.files o)) (sym may.on) may.fits)) before.fits)
+          before.homes
 
       pub open-kernel : IsKernel (opened_on k i n f place fd)
       open-kernel =

@@ -1,9 +1,9 @@
 -- The open files of a kernel where the descriptors of its processes stay, and what a descriptor names.
-use Rattle.kernel.proofs.Common.{◌≡◌, ◌≢◌, ℕ, ◌+◌, ◌<◌, ◌≤◌, true, List, [], ◌∷◌, length, Option, Some, None, refl, ap, subst, sym, ◌∙◌, arith, IfSome, option_and_then, option_map, slice_set, sum_by-cons, SpaceView}
-use Rattle.kernel.proofs.Common.{space_in, with_space, drop, IsCounted, descriptors_in, named_by, names_in, Kernel, on_hart, slot-within, IsAwaiting, IsForBytes, IsForPipe, IsFresh, IsOpenFile, IsOpened, WaitsAs}
-use Rattle.kernel.proofs.Common.{WaitsWell, file_named, is_awaited, is_on_pipe, names, count_of, names-clear, file_of, Counted, count_at, count_in, file_at, more, opened, opens_of, shared, get_or-set_other, all-set}
-use Rattle.kernel.proofs.Common.{file-opens, slot-opens, Process, changed_at, joined, Spaces, Call, Read, Write, Mode, Ready, Running, Waiting, Zombie, Pending, slot, taken, low, pending_arg, State}
-use Rattle.kernel.proofs.Holding.{least, one_at-self, same-set}
+use Rattle.kernel.proofs.Common.{◌≡◌, ◌≢◌, ℕ, ◌+◌, ◌<◌, ◌≤◌, true, List, [], ◌∷◌, length, Option, Some, None, refl, ap, subst, sym, ◌∙◌, arith, IfSome, option_and_then, option_map, slice_set, sum_by-cons, SpaceView, space_in, with_space}
+use Rattle.kernel.proofs.Common.{drop, IsCounted, descriptors_in, named_by, names_in, Kernel, on_hart, slot-within, IsAwaiting, IsForBytes, IsForPipe, IsFresh, IsOpenFile, IsOpened, WaitsAs, WaitsWell, file_named, is_awaited, is_on_pipe}
+use Rattle.kernel.proofs.Common.{names, count_of, names-clear, file_of, Counted, count_at, count_in, file_at, more, opens_of, shared, all-set, slot-opens, Process, changed_at, joined, Spaces, Call, Read, Write, Mode, Running}
+use Rattle.kernel.proofs.Common.{Waiting, Pending, slot, taken, low, pending_arg, State}
+use Rattle.kernel.proofs.Holding.{least, map-same, one_at-self, same-set}
 use Rattle.files.proofs.CountsLemmas as counts
 use Rattle.files.specs.declared.file.OpenFile.{OpenFile}
 use Rattle.files.specs.declared.file.Target.{Target}
@@ -58,8 +58,6 @@ module _ (opens new : List (Option Counted)) (ds : List (Option ℕ)) (each : (d
   kept-named P alike d (Some n) named is = kept-file P alike d n named (file_at new n) refl is
 
   kept-mode : (mode : Mode) → WaitsAs opens ds mode → WaitsAs new ds mode
-  kept-mode Running is = tt
-  kept-mode Ready is = tt
   kept-mode (Waiting w) is =
       let d = low (pending_arg w 0) in
       record {
@@ -67,7 +65,7 @@ module _ (opens new : List (Option Counted)) (ds : List (Option ℕ)) (each : (d
         read = λ read. kept-named (λ f. is_awaited f.target ≡ true) (λ f g same on. same.awaited ∙ on) d (slot ds d) refl (is.read read);
         fresh = λ read. kept-named (λ f. is_on_pipe f.target ≡ true → w.done ≡ 0) (λ f g same fresh on. fresh (sym same.pipe ∙ on)) d (slot ds d) refl (is.fresh read);
       }
-  kept-mode (Zombie status) is = tt
+  kept-mode _ is = tt
 
 -- where no open file comes that its descriptors name
 pub waits-kept : (opens new : List (Option Counted)) (o : Option Process) → ((d n : ℕ) (f : OpenFile) → slot (descriptors_in o) d ≡ Some n → file_at new n ≡ Some f → WasAlike opens n f) → WaitsWell opens o → WaitsWell new o
@@ -95,18 +93,13 @@ module _ (files : List (Option Counted)) (pipes : List (Option (List ℕ))) (os 
   pub opened-put : (i : ℕ) (o : Option Process) → descriptors_in o ≡ descriptors_in (slot os i) → WaitsWell files o → IsOpened files pipes os → IsOpened files pipes (slice_set os i o)
   opened-put i o same well is = opened-names i o (λ n. ap (names n) same) well is
 
--- what the hart's process has that its table's has too
-pub hart-same : {X : Type 0} (f : Option Process → X) (s : Spaces) → ((p : Process) → f (Some (on_hart s p)) ≡ f (Some p)) → (o : Option Process) → f (option_map (on_hart s) o) ≡ f o
-hart-same f s same None = refl
-hart-same f s same (Some p) = same p
-
 hart-waits : (opens : List (Option Counted)) (s : Spaces) (o : Option Process) → WaitsWell opens o → WaitsWell opens (option_map (on_hart s) o)
 hart-waits opens s None is = tt
 hart-waits opens s (Some p) is = is
 
 pub opened-active : (k : Kernel) (files : List (Option Counted)) (pipes : List (Option (List ℕ))) (o : Option ℕ) → IsOpened files pipes k.table.places → IsOpened files pipes (changed_at k.table (on_hart k.spaces) o).places
 opened-active k files pipes None is = is
-opened-active k files pipes (Some i) is = opened-put files pipes k.table.places i (option_map (on_hart k.spaces) (slot k.table.places i)) (hart-same descriptors_in k.spaces (λ p. refl) (slot k.table.places i)) (hart-waits files k.spaces (slot k.table.places i) (is.waits i)) is
+opened-active k files pipes (Some i) is = opened-put files pipes k.table.places i (option_map (on_hart k.spaces) (slot k.table.places i)) (map-same descriptors_in (on_hart k.spaces) (λ p. refl) (slot k.table.places i)) (hart-waits files k.spaces (slot k.table.places i) (is.waits i)) is
 
 -- what holds of each place, and of the hart's process as of its table's
 pub active-by : (P : ℕ → Option Process → Type 0) (k : Kernel) → ((j : ℕ) (o : Option Process) → P j o → P j (option_map (on_hart k.spaces) o)) → (a : Option ℕ)
@@ -116,7 +109,7 @@ active-by P k step (Some i) is = all-set P k.table.places i (option_map (on_hart
 
 pub active-same : {X : Type 0} (f : Option Process → X) (k : Kernel) → ((p : Process) → f (Some (on_hart k.spaces p)) ≡ f (Some p)) → (a : Option ℕ) (j : ℕ)
     → f (slot (changed_at k.table (on_hart k.spaces) a).places j) ≡ f (slot k.table.places j)
-active-same f k same a = active-by (λ j o. f o ≡ f (slot k.table.places j)) k (λ j o e. hart-same f k.spaces same o ∙ e) a (λ j. refl)
+active-same f k same a = active-by (λ j o. f o ≡ f (slot k.table.places j)) k (λ j o e. map-same f (on_hart k.spaces) same o ∙ e) a (λ j. refl)
 
 -- the processes with their spaces name the same
 pub count-joined : (os : List (Option Process)) (hs : List (Option SpaceView)) (n : ℕ) → count_of (joined os hs) n ≡ named_by os n
@@ -142,13 +135,10 @@ pub record IsNamed (s : State) (p : unix.Process) (d : ℕ) (f : unix_files.Open
   pub named : slot p.descriptors d ≡ Some number
   pub opened : slot s.opens number ≡ Some f
 
-names-some : (n : ℕ) (ds : List (Option ℕ)) (d : ℕ) → slot ds d ≡ Some n → 0 < names n ds
-names-some n ds d at = omega (arith, names-clear n ds d n (slot-within ds d n at) at, one_at-self n)
-
 -- what a descriptor of a process names is counted
 pub place-counts : (files : List (Option Counted)) (os : List (Option Process)) → IsCounted files os → (i : ℕ) (o : Option Process) → slot os i ≡ o → (d n : ℕ) → slot (descriptors_in o) d ≡ Some n → 0 < count_at files n
 place-counts files os counted i None at d n named = absurd (cc)
-place-counts files os counted i (Some p) at d n named = omega (arith, counted n, least (names_in n) os i p at, names-some n p.descriptors d named)
+place-counts files os counted i (Some p) at d n named = omega (arith, counted n, least (names_in n) os i p at, names-clear n p.descriptors d n (slot-within p.descriptors d n named) named, one_at-self n)
 
 module _ (files : List (Option Counted)) (pipes : List (Option (List ℕ))) (os : List (Option Process)) (is : IsOpened files pipes os) where
   open-go : (n : ℕ) (o : Option Counted) → slot files n ≡ o → 0 < count_in o → (f : unix_files.OpenFile) × ((slot (opens_of files) n ≡ Some f) × IsOpenFile f)
@@ -183,17 +173,6 @@ file-go opens ds d t (Some n) named is = file-in opens ds d t n (file_at opens n
 pub file-at : (opens : List (Option Counted)) (ds : List (Option ℕ)) (d : ℕ) (t : Target) → option_map (λ (f : OpenFile). f.target) (file_named opens ds d) ≡ Some t → IsFileAt opens ds d t
 file-at opens ds d t is = file-go opens ds d t (slot ds d) refl is
 
--- an open file, as a state has it
-pub slot-file : (opens : List (Option Counted)) (n : ℕ) → slot (opens_of opens) n ≡ option_map file_of (file_at opens n)
-slot-file opens n = file-opens opens n
-
 -- one descriptor more names it, and it is as it was
 pub file-shared : (opens : List (Option Counted)) (i n : ℕ) → file_at (shared opens i) n ≡ file_at opens n
-file-shared opens i = all-set (λ n o. option_map (λ (c : Counted). c.file) o ≡ file_at opens n) opens i (option_map more (slot opens i)) (go (slot opens i)) (λ n. refl) where
-  go : (o : Option Counted) → option_map (λ (c : Counted). c.file) (option_map more o) ≡ option_map (λ (c : Counted). c.file) o
-  go None = refl
-  go (Some c) = refl
-
--- another place stays as it is
-pub file-opened : (opens : List (Option Counted)) (i : ℕ) (f : OpenFile) (n : ℕ) → n ≢ i → file_at (opened opens i f) n ≡ file_at opens n
-file-opened opens i f n other = ap (option_map (λ (c : Counted). c.file)) (get_or-set_other opens i n (Some (record { file = f; count = 1 })) None other)
+file-shared opens i = all-set (λ n o. option_map (λ (c : Counted). c.file) o ≡ file_at opens n) opens i (option_map more (slot opens i)) (map-same (option_map (λ (c : Counted). c.file)) more (λ c. refl) (slot opens i)) (λ n. refl)

@@ -1,14 +1,13 @@
 -- The running process opens both ends of a new pipe.
 use Rattle.kernel.proofs.Common.{◌≡◌, ℕ, ◌<◌, ◌≤◌, inl, inr, List, [], length, Option, Some, None, refl, ap, arith, subst, sym, ◌∙◌, length-set, get_or-set_other, get_or-set_same, cases_eq, ne_eqb, is_none, descriptors_in, Kernel, IsKernel}
-use Rattle.kernel.proofs.Common.{Keeps, Counted, opened, opens_of, file_of, IsPiped, Process, Places, put, slot, taken_frames, woken_by, Bytes, End, descriptors_at, option_map, slice_set, slot-within, free-opens, free-place, free-put}
-use Rattle.kernel.proofs.Common.{has_pipe-put, free_slot-opens, opens-opened, free_count, AreFree, Ends, HasPiped, OpensAs, free_descriptors, half_piped, pipe_file, piped, with_descriptor, with_pipe, count_by, free_slot, ReadEnd, WriteEnd}
+use Rattle.kernel.proofs.Common.{Keeps, Counted, opened, opens_of, file_of, IsPiped, Process, Places, put, slot, taken_frames, woken_by, Bytes, End, option_map, slice_set, slot-within, free-opens, free-place, free-put, has_pipe-put}
+use Rattle.kernel.proofs.Common.{opens-opened, free_count, AreFree, Ends, HasPiped, OpensAs, free_descriptors, half_piped, pipe_file, piped, with_descriptor, with_pipe, count_by, free_slot, ReadEnd, WriteEnd}
 use Rattle.files.specs.declared.file.End.TheVariants as end
 use Rattle.files.specs.declared.file.OpenFile.{OpenFile}
-use Rattle.kernel.proofs.Holding.{used-opened}
-use Rattle.kernel.proofs.Opening.{has-opened, opens-made}
+use Rattle.kernel.proofs.Opening.{opens-kernel, opens-run}
 use Rattle.kernel.proofs.Renaming.{descriptors-run}
 use Rattle.kernel.proofs.Runs.{eq-self, set-twice, slot-put}
-use Rattle.kernel.proofs.Turning.{Runner, renamed-kernel, renamed-run, renamed_to, used-turned}
+use Rattle.kernel.proofs.Turning.{Runner}
 use Rattle.kernel.proofs.Wakes.{kernel-waking, running-at}
 use Rattle.kernel.proofs.Watching.{watched-bytes, watched-running}
 use Rattle.unixmodel.specs.FileCalls.{pipe_end}
@@ -25,64 +24,41 @@ end-comes pipes opens q k WriteEnd bytes is inside low free r = elim (cases_eq r
   | inr other ↦ rw (has_pipe-put opens k (pipe_end q WriteEnd) r low free, get_or-set_other pipes q r (Some bytes) None other, ne_eqb q r (λ same. other (sym same))) (is r)
 ]
 
-module _ {k : Kernel} {i : ℕ} (x : Runner k i) (e : Ends) where
+module _ {k : Kernel} {i : ℕ} (x : Runner k i) (e : Ends) (free : AreFree k i e) (fits : taken_frames (with_pipe k.spaces e.pipe (Some [])) ≤ k.spaces.frames) where
   abbrev pipes : List (Option (List ℕ))
   pipes = put k.spaces.pipes e.pipe []
 
-  abbrev first : List (Option ℕ)
-  first = put x.process.descriptors e.read_fd e.reader
+  room : e.pipe < length k.spaces.pipes
+  room = (free-place k.spaces.pipes e.pipe free.pipe).0
 
-  same : length first ≡ length x.process.descriptors
-  same = length-set x.process.descriptors e.read_fd (Some e.reader)
+  abbrev half : Runner (half_piped k i e) i
+  half = record {
+    process = record x.process { descriptors = put x.process.descriptors e.read_fd e.reader };
+    held = x.held;
+    run = opens-run x (pipe_file e.pipe end.Read) e.reader e.read_fd pipes;
+    sound = (let at = free-place (opens_of k.files) e.reader free.reader in
+        opens-kernel x (pipe_file e.pipe end.Read) e.reader e.read_fd free.reader free.read_fd refl refl tt pipes (length-set k.spaces.pipes e.pipe (Some []) ∙ x.sound.opened.all)
+        (end-comes k.spaces.pipes (opens_of k.files) e.pipe e.reader ReadEnd [] x.sound.opened.piped room at.0 at.1) fits);
+  }
 
   abbrev files : List (Option Counted)
   files = opened k.files e.reader (pipe_file e.pipe end.Read)
 
-  half-is : renamed_to x first x.process.directory same k.tree files pipes ≡ half_piped k i e
-  half-is = opens-made x (pipe_file e.pipe end.Read) e.reader e.read_fd k.tree pipes
+  writer-first : free_slot (opens_of files) ≡ Some e.writer
+  writer-first = ap free_slot (opens-opened k.files e.reader (pipe_file e.pipe end.Read)) ∙ free.writer
 
-  module _ (free : AreFree k i e) (fits : taken_frames (with_pipe k.spaces e.pipe (Some [])) ≤ k.spaces.frames) where
-    reader-free : (e.reader < length k.files) × (slot k.files e.reader ≡ None)
-    reader-free = free-place k.files e.reader (sym (free_slot-opens k.files) ∙ free.reader)
+  piped-kernel : IsKernel (piped k i e)
+  piped-kernel =
+      let at = free-place (opens_of files) e.writer writer-first in
+      let comes = end-comes pipes (opens_of files) e.pipe e.writer WriteEnd [] half.sound.opened.piped (omega (arith, room, length-set k.spaces.pipes e.pipe (Some []))) at.0 at.1 in
+      opens-kernel half (pipe_file e.pipe end.Write) e.writer e.write_fd writer-first (ap free_slot (descriptors-run half) ∙ ap (λ (ds : List (Option ℕ)). free_slot (put ds e.read_fd e.reader)) (sym (descriptors-run x)) ∙ free.write_fd) refl refl tt pipes half.sound.opened.all
+      (subst (λ ps. IsPiped ps (put (opens_of files) e.writer (pipe_end e.pipe WriteEnd))) (set-twice k.spaces.pipes e.pipe (Some []) (Some [])) comes) fits
 
-    room : e.pipe < length k.spaces.pipes
-    room = (free-place k.spaces.pipes e.pipe free.pipe).0
-
-    half-kernel : IsKernel (renamed_to x first x.process.directory same k.tree files pipes)
-    half-kernel =
-        let f = pipe_file e.pipe end.Read in
-        let at = free-place (opens_of k.files) e.reader free.reader in
-        renamed-kernel x first x.process.directory same k.tree files pipes (λ up. used-opened (used-turned x (record x.process { descriptors = first }) x.run.runs refl up) e.reader f reader-free.0 reader-free.1 refl tt)
-        (has-opened x f e.reader e.read_fd free.reader free.read_fd refl pipes (length-set k.spaces.pipes e.pipe (Some []) ∙ x.sound.opened.all)
-        (subst (IsPiped pipes) (sym (opens-opened k.files e.reader f)) (end-comes k.spaces.pipes (opens_of k.files) e.pipe e.reader ReadEnd [] x.sound.opened.piped room at.0 at.1))) fits
-
-    abbrev half : Runner (half_piped k i e) i
-    half = record { process = record x.process { descriptors = first }; held = x.held; run = rw (← half-is) (renamed-run x first x.process.directory same k.tree files pipes); sound = rw (← half-is) half-kernel }
-
-    writer-first : free_slot (opens_of files) ≡ Some e.writer
-    writer-first = ap free_slot (opens-opened k.files e.reader (pipe_file e.pipe end.Read)) ∙ free.writer
-
-    writer-fd : free_slot (descriptors_at (half_piped k i e) i) ≡ Some e.write_fd
-    writer-fd = ap free_slot (descriptors-run half) ∙ ap (λ (ds : List (Option ℕ)). free_slot (put ds e.read_fd e.reader)) (sym (descriptors-run x)) ∙ free.write_fd
-
-    piped-kernel : IsKernel (piped k i e)
-    piped-kernel =
-        let f = pipe_file e.pipe end.Write in
-        let at = free-place (opens_of files) e.writer writer-first in
-        let place = free-place files e.writer (sym (free_slot-opens files) ∙ writer-first) in
-        let second = put first e.write_fd e.writer in
-        let comes = end-comes pipes (opens_of files) e.pipe e.writer WriteEnd [] half.sound.opened.piped (omega (arith, room, length-set k.spaces.pipes e.pipe (Some []))) at.0 at.1 in
-        rw (← opens-made half f e.writer e.write_fd k.tree pipes)
-        (renamed-kernel half second x.process.directory (length-set first e.write_fd (Some e.writer)) k.tree (opened files e.writer f) pipes
-        (λ up. used-opened (used-turned half (record half.process { descriptors = second }) x.run.runs refl up) e.writer f place.0 place.1 refl tt)
-        (has-opened half f e.writer e.write_fd writer-first writer-fd refl pipes half.sound.opened.all
-        (subst (IsPiped pipes) (sym (opens-opened files e.writer f)) (subst (λ ps. IsPiped ps (put (opens_of files) e.writer (pipe_end e.pipe WriteEnd))) (set-twice k.spaces.pipes e.pipe (Some []) (Some [])) comes))) fits)
-
-    piped-watched : Keeps k → Keeps (record (piped k i e) { table = woken_by Bytes (piped k i e).table })
-    piped-watched keeps = record {
-      sound = kernel-waking piped-kernel _;
-      watched = watched-bytes (watched-running (watched-running keeps.watched i (with_descriptor e.read_fd (Some e.reader)) (running-at x.sound i x.run.active) (λ p pid is. is)) i (with_descriptor e.write_fd (Some e.writer)) (running-at half.sound i x.run.active) (λ p pid is. is)) _ refl;
-    }
+  piped-watched : Keeps k → Keeps (record (piped k i e) { table = woken_by Bytes (piped k i e).table })
+  piped-watched keeps = record {
+    sound = kernel-waking piped-kernel _;
+    watched = watched-bytes (watched-running (watched-running keeps.watched i (with_descriptor e.read_fd (Some e.reader)) (running-at x.sound i x.run.active) (λ p pid is. is)) i (with_descriptor e.write_fd (Some e.writer)) (running-at half.sound i x.run.active) (λ p pid is. is)) _ refl;
+  }
 
 -- ---- one end is open
 

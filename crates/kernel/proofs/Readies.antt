@@ -1,15 +1,14 @@
 -- Who is ready: that depends on the processes, the console, the ticks, and the open files with their pipes.
-use Rattle.kernel.proofs.Common.{◌≡◌, ℕ, Bool, true, false, ◌||◌, List, Option, Some, None, refl, ap, subst, sym, ◌∙◌, arith, cond, find, is_some, option_map, [], ◌∷◌, ◌==◌, nat_tests, Kernel, Rest, base, SpaceView}
-use Rattle.kernel.proofs.Common.{no_pages, space_in, with_space, lives, rest_of, state_of, Stands, awaited_in, seen, IsAlive, IsPiped, has_pipe-clear, Process, Places, is_zombie_child_of, place_where, slot-joined}
-use Rattle.kernel.proofs.Common.{zombie_child-with_table, with_table, Spaces, Call, Read, Wait, Write, Mode, Ready, Running, Waiting, Zombie, Pending, clear, slot, is_pipe, OnNode, OnPipe, State, holds}
+use Rattle.kernel.proofs.Common.{◌≡◌, ℕ, Bool, true, false, ◌||◌, List, Option, Some, None, refl, ap, subst, sym, ◌∙◌, cond, find, is_some, option_map, [], ◌∷◌, Kernel, Rest, base, SpaceView, no_pages, space_in, with_space, lives, rest_of}
+use Rattle.kernel.proofs.Common.{state_of, Stands, awaited_in, seen, IsAlive, IsPiped, has_pipe-clear, Process, Places, is_zombie_child_of, place_where, with_table, Spaces, Call, Read, Wait, Write, Mode, Waiting, Zombie, Pending, clear}
+use Rattle.kernel.proofs.Common.{slot, is_pipe, OnNode, OnPipe, State, holds}
 use Rattle.files.specs.Places.{has_pipe}
+use Rattle.kernel.proofs.Runs.{eq-self, state-idle}
 use Rattle.unixmodel.specs.OpenFiles.{OpenFile, Target}
 use Rattle.unixmodel.specs.Turn as turn
+use Rattle.kernel.proofs.Joined.{slot-joined, zombie_child-with_table}
 
 -- ---- the pipe of an open file
-
-same_pipe : (q : ℕ) → (q == q) ≡ true
-same_pipe q = grind (arith, nat_tests)
 
 -- the pipe that an open file is an end of is there
 pub stands-open : (s : Spaces) (opens : List (Option OpenFile)) (k : ℕ) (f : OpenFile) (t : Target) → IsPiped s.pipes opens → slot opens k ≡ Some f → f.target ≡ t → Stands s t
@@ -18,7 +17,7 @@ stands-open s opens k f (OnPipe q end) is at on =
     is q
     ∙ has_pipe-clear opens k f q at
     ∙ ap (λ (t : Target). is_pipe q t || has_pipe (clear opens k) q) on
-    ∙ ap (λ (b : Bool). b || has_pipe (clear opens k) q) (same_pipe q)
+    ∙ ap (λ (b : Bool). b || has_pipe (clear opens k) q) (eq-self q)
 
 -- ---- what readiness depends on
 
@@ -52,10 +51,8 @@ module _ (rest : Rest) (t : Places) (hs : List (Option SpaceView)) where
   goes-same p h w _ = refl
 
   mode-same : (p : Process) (h : SpaceView) (mode : Mode) → turn.is_ready_in s (with_space h p) mode ≡ turn.is_ready_in a (with_space no_pages p) mode
-  mode-same p h Running = refl
-  mode-same p h Ready = refl
   mode-same p h (Waiting w) = ap (λ b. b || p.killed) (goes-same p h w w.number)
-  mode-same p h (Zombie status) = refl
+  mode-same p h _ = refl
 
   place-same : (o : Option Process) (h : SpaceView) → holds (turn.is_ready s) (option_map (with_space h) o) ≡ holds (turn.is_ready a) (option_map (with_space no_pages) o)
   unfolding turn.is_ready
@@ -83,12 +80,9 @@ module _ (s : State) (places : List (Option Process)) where
 -- ---- where none runs
 
 module _ (k : Kernel) (idle : k.spaces.active ≡ None) where
-  idle-state : state_of k ≡ with_table (base (rest_of k)) k.table k.spaces.places
-  idle-state = rw idle refl
-
   -- the place that the kernel's test finds has the turn
   pub turn-idle : turn.turn (with_table (base (rest_of k)) k.table k.spaces.places) ≡ turn.turn (state_of k)
-  turn-idle = ap turn.turn (sym idle-state)
+  turn-idle = ap turn.turn (sym (state-idle k idle))
 
   -- who is ready lives
   alive-mode : (s : State) (h : SpaceView) (p : Process) (mode : Mode) → p.mode ≡ mode → turn.is_ready_in s (with_space h p) mode ≡ true → lives p ≡ true
@@ -116,5 +110,5 @@ module _ (k : Kernel) (idle : k.spaces.active ≡ None) where
       let s = with_table (base (rest_of k)) k.table k.spaces.places in
       let passes : turn.ready (state_of k) i ≡ true = find-true (turn.ready (state_of k)) (turn.round_from (state_of k).last) i found in
       let here : holds (turn.is_ready s) (option_map (with_space (space_in k.spaces.places i)) (slot k.table.places i)) ≡ true =
-      sym (ap (holds (turn.is_ready s)) (slot-joined k.table.places k.spaces.places i)) ∙ ap (λ (x : State). turn.ready x i) (sym idle-state) ∙ passes in
+      sym (ap (holds (turn.is_ready s)) (slot-joined k.table.places k.spaces.places i)) ∙ ap (λ (x : State). turn.ready x i) (sym (state-idle k idle)) ∙ passes in
       alive-go s (space_in k.spaces.places i) (slot k.table.places i) here

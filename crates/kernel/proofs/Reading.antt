@@ -1,5 +1,5 @@
 -- What steps that reach the disk come to, one after the other.
-use Rattle.kernel.proofs.Common.{counting, arith, le_trans, Err, Ok, OnErr, Result, ap, refl, true, false, ◌∙◌, ◌≡◌, DeviceFault, FileTree, Serves, Kernel, OnOk, HasRead, IsLost, LeavesDisk, ReadsDisk, HasCause}
+use Rattle.kernel.proofs.Common.{counting, arith, le_trans, Err, IfOk, Ok, OnErr, Result, ap, subst, refl, true, false, ◌∙◌, ◌≡◌, DeviceFault, FileTree, Serves, Kernel, OnOk, HasRead, IsLost, LeavesDisk, ReadsDisk, HasCause}
 use Rattle.std.specs.Result.{IsErr}
 
 -- what a step that may fail leaves
@@ -26,3 +26,16 @@ reads-as old new says (Err fault) lost = lost
 pub lost-reads : {X : Type 0} (old new : Kernel) (Told : X → Type 0) (r : Result X DeviceFault) → IsErr r → IsLost old.tree new.tree → ReadsDisk old new Told r
 lost-reads old new Told (Ok x) e lost = absurd (cc)
 lost-reads old new Told (Err fault) e lost = lost
+
+-- what is told then, also over a tree that the device can't tell from the old one
+pub serves-as : {T : Type 0} {old other t : FileTree} {r : Result T DeviceFault} {P Q : T → Type 0} → old.identity ≡ other.identity → old.failures ≡ other.failures → ((x : T) → P x → Q x) → Serves old t r P → Serves other t r Q
+serves-as {T} {t = t} {r = r} {P} {Q} device failures so serves = record {
+  told = go r serves.told;
+  up = serves.up;
+  down = serves.down;
+  same_device = serves.same_device ∙ device;
+  cause = subst (λ n. HasCause n t.failures r) failures serves.cause;
+} where
+  go : (s : Result T DeviceFault) → IfOk s P → IfOk s Q
+  go (Ok x) told = so x told
+  go (Err fault) told = tt

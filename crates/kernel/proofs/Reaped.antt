@@ -1,33 +1,26 @@
 -- What nothing names any more: a kernel's state has none of it. And the frames that its processes and pipes take.
-use Rattle.kernel.proofs.Common.{◌≡◌, ℕ, suc, ◌<◌, ◌≤◌, Bool, true, false, ◌&&◌, nat_le, List, [], ◌∷◌, length, Option, Some, None, refl, ap, sym, ◌∙◌, arith, ◌+◌, option_map, sum_by, le-leb}
-use Rattle.kernel.proofs.Common.{lt-leb, with_space, sum_by-cons, Kernel, loaded, on_hart, rest_of, state_of, state_with, IsKernel, IsMode, IsOpened, IsPlace, Counts, without_pipes-same, IsTable}
-use Rattle.kernel.proofs.Common.{opens_of, length-opens, without_opens-same, Process, Places, changed_at, joined, SpaceView, Spaces, frames_in, taken_frames, blocks_of, frames_of, is_within}
-use Rattle.kernel.proofs.Common.{process_frames, slot, taken, Memory, reap, without_nodes, without_opens, without_pipes, Mode, Zombie, is_zombie_mode, none-some, same_Some, IsInUse, home_in, State}
-use Rattle.kernel.proofs.Opens.{active-by, count-joined, few-taken, hart-same, opened-active}
+use Rattle.kernel.proofs.Common.{◌≡◌, ℕ, is_some, suc, ◌<◌, ◌≤◌, Bool, true, false, ◌&&◌, nat_le, List, [], ◌∷◌, length, Option, Some, None, refl, ap, sym, ◌∙◌, arith, ◌+◌, option_map, sum_by, le-leb, lt-leb, with_space, sum_by-cons}
+use Rattle.kernel.proofs.Common.{Kernel, loaded, on_hart, rest_of, state_of, state_with, IsKernel, IsMode, IsOpened, IsPlace, Counts, without_pipes-same, IsTable, opens_of, length-opens, without_opens-same, Process, Places, changed_at}
+use Rattle.kernel.proofs.Common.{joined, SpaceView, Spaces, frames_in, taken_frames, blocks_of, frames_of, is_within, process_frames, slot, taken, Memory, reap, without_nodes, without_opens, without_pipes, Mode, Zombie, is_zombie_mode}
+use Rattle.kernel.proofs.Common.{IsInUse, home_in, State}
+use Rattle.kernel.proofs.Opens.{active-by, active-same, count-joined, few-taken, opened-active}
 use Rattle.kernel.proofs.Runs.{space-of}
-use Rattle.kernel.proofs.Holding.{AreAway, nodes-stay, used-put}
+use Rattle.kernel.proofs.Holding.{AreAway, IsAway, map-same, nodes-stay, used-put}
 
 -- ---- processes and spaces
 
 -- a place has a process exactly where it has a space
 abbrev pub IsMatch : Option Process → Option SpaceView → Type 0
-IsMatch None None = Unit {0}
-IsMatch None (Some h) = ⊥
-IsMatch (Some p) None = ⊥
-IsMatch (Some p) (Some h) = Unit {0}
+IsMatch o q = is_some o ≡ is_some q
 
 pub match-place : (o : Option Process) (q : Option SpaceView) → IsPlace o q → IsMatch o q
-match-place None None is = tt
-match-place (Some p) (Some h) is = tt
+match-place None None is = refl
+match-place (Some p) (Some h) is = refl
 match-place _ _ is = absurd is
-
-match-on : (s : Spaces) (o : Option Process) (q : Option SpaceView) → IsMatch o q → IsMatch (option_map (on_hart s) o) q
-match-on s (Some p) (Some h) is = tt
-match-on s _ _ is = is
 
 pub match-active : (k : Kernel) (o : Option ℕ) → ((j : ℕ) → IsMatch (slot k.table.places j) (slot k.spaces.places j))
     → (j : ℕ) → IsMatch (slot (changed_at k.table (on_hart k.spaces) o).places j) (slot k.spaces.places j)
-match-active k o is = active-by (λ j x. IsMatch x (slot k.spaces.places j)) k (λ j x. match-on k.spaces x (slot k.spaces.places j)) o is
+match-active k o is j = active-same is_some k (λ p. refl) o j ∙ is j
 
 pub match-loaded : (k : Kernel) → IsKernel k → (j : ℕ) → IsMatch (slot (loaded k).places j) (slot k.spaces.places j)
 match-loaded k is j = match-active k k.spaces.active (λ a. match-place (slot k.table.places a) (slot k.spaces.places a) (is.stands a)) j
@@ -38,14 +31,15 @@ opened-loaded k is = opened-active k k.files k.spaces.pipes k.spaces.active is.o
 -- ---- nothing is given up
 
 -- a zombie works nowhere
-away-in : (o : Option Process) (q : Option SpaceView) → IsPlace o q → (p : Process) → o ≡ Some p → is_zombie_mode p.mode ≡ true → p.directory ≡ 0
-away-in o q is p at zombie = let h = space-of o q p at is in go h.0.memory p.mode h.1.1.mode zombie where
+away-in : (o : Option Process) (q : Option SpaceView) → IsPlace o q → IsAway o
+away-in None q is = tt
+away-in (Some p) q is = λ zombie. let h = space-of (Some p) q p refl is in go h.0.memory p.mode h.1.1.mode zombie where
   go : (m : Memory) (mode : Mode) → IsMode p m mode → is_zombie_mode mode ≡ true → p.directory ≡ 0
   go m (Zombie status) is zombie = is.directory
   go m _ is zombie = absurd (let bad : false ≡ true = zombie in cc)
 
 pub are-away : (os : List (Option Process)) (hs : List (Option SpaceView)) → ((j : ℕ) → IsPlace (slot os j) (slot hs j)) → AreAway os
-are-away os hs stands j p at zombie = away-in (slot os j) (slot hs j) (stands j) p at zombie
+are-away os hs stands j = away-in (slot os j) (slot hs j) (stands j)
 
 pub reap-with : (k : Kernel) (t : Places) (hs : List (Option SpaceView)) → IsOpened k.files k.spaces.pipes t.places → IsInUse k.tree k.files t.places → AreAway t.places → reap (state_with t hs (rest_of k)) ≡ state_with t hs (rest_of k)
 unfolding reap
@@ -66,7 +60,7 @@ sum-joined (None ∷ os) [] stands = sum-joined os [] (λ i. stands (suc i))
 sum-joined (None ∷ os) (None ∷ hs) stands = omega (arith, sum_by-cons frames_in None hs, sum-joined os hs (λ i. stands (suc i)))
 sum-joined (Some p ∷ os) (Some h ∷ hs) stands =
     omega (arith, sum_by-cons frames_in (Some h) hs, sum_by-cons process_frames (with_space h p) (taken (joined os hs)), sum-joined os hs (λ i. stands (suc i)))
-sum-joined _ _ stands = absurd (stands 0)
+sum-joined _ _ stands = absurd (let bad = stands 0 in cc)
 
 pub frames-with : (k : Kernel) (t : Places) → ((i : ℕ) → IsMatch (slot t.places i) (slot k.spaces.places i))
     → frames_of (state_with t k.spaces.places (rest_of k)) ≡ taken_frames k.spaces
@@ -90,20 +84,17 @@ within-state_with k t fits is stands =
 
 pub used-active : (k : Kernel) (o : Option ℕ) → IsInUse k.tree k.files k.table.places → IsInUse k.tree k.files (changed_at k.table (on_hart k.spaces) o).places
 used-active k None is = is
-used-active k (Some i) is = used-put is i (option_map (on_hart k.spaces) (slot k.table.places i)) (hart-same home_in k.spaces (λ p. refl) (slot k.table.places i))
+used-active k (Some i) is = used-put is i (option_map (on_hart k.spaces) (slot k.table.places i)) (map-same home_in (on_hart k.spaces) (λ p. refl) (slot k.table.places i))
 
 pub used-loaded : (k : Kernel) → IsKernel k → k.tree.failed ≡ false → IsInUse k.tree k.files (loaded k).places
 used-loaded k is up = used-active k k.spaces.active (is.used up)
 
-away-hart : (s : Spaces) (o : Option Process) → ((p : Process) → o ≡ Some p → is_zombie_mode p.mode ≡ true → p.directory ≡ 0) → (p : Process) → option_map (on_hart s) o ≡ Some p → is_zombie_mode p.mode ≡ true → p.directory ≡ 0
-away-hart s None away p at zombie = absurd (none-some p at)
-away-hart s (Some x) away p at zombie = let same : on_hart s x ≡ p = same_Some (on_hart s x) p at in sym (ap (λ (y : Process). y.directory) same) ∙ away x refl (ap (λ (y : Process). is_zombie_mode y.mode) same ∙ zombie)
-
-pub away-active : (k : Kernel) (o : Option ℕ) → AreAway k.table.places → AreAway (changed_at k.table (on_hart k.spaces) o).places
-away-active k o away = active-by (λ j x. (p : Process) → x ≡ Some p → is_zombie_mode p.mode ≡ true → p.directory ≡ 0) k (λ j x. away-hart k.spaces x) o away
+away-hart : (s : Spaces) (o : Option Process) → IsAway o → IsAway (option_map (on_hart s) o)
+away-hart s None away = tt
+away-hart s (Some p) away = away
 
 pub away-loaded : (k : Kernel) → IsKernel k → AreAway (loaded k).places
-away-loaded k is = away-active k k.spaces.active (are-away k.table.places k.spaces.places is.stands)
+away-loaded k is = active-by (λ j o. IsAway o) k (λ j. away-hart k.spaces) k.spaces.active (are-away k.table.places k.spaces.places is.stands)
 
 pub reap-state : (k : Kernel) → IsKernel k → k.tree.failed ≡ false → reap (state_of k) ≡ state_of k
 reap-state k is up = reap-with k (loaded k) k.spaces.places (opened-loaded k is) (used-loaded k is up) (away-loaded k is)
@@ -113,3 +104,6 @@ within-state k is up = within-state_with k (loaded k) (is.used up).within is.ope
 
 pub over-state : (k : Kernel) → ((i : ℕ) → IsMatch (slot (loaded k).places i) (slot k.spaces.places i)) → k.spaces.frames < taken_frames k.spaces → is_within (state_of k) ≡ false
 over-state k is over = let full : nat_le (taken_frames k.spaces) k.spaces.frames ≡ false = lt-leb _ _ over in rw (frames-with k (loaded k) is, full) refl
+
+pub over-stands : (k : Kernel) → ((j : ℕ) → IsPlace (slot k.table.places j) (slot k.spaces.places j)) → k.spaces.frames < taken_frames k.spaces → is_within (state_of k) ≡ false
+over-stands k stands = over-state k (match-active k k.spaces.active (λ j. match-place (slot k.table.places j) (slot k.spaces.places j) (stands j)))

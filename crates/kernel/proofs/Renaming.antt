@@ -1,7 +1,7 @@
 -- A descriptor more of the running process names an open file.
-use Rattle.kernel.proofs.Common.{◌≡◌, ℕ, ◌+◌, ◌<◌, Bool, List, length, Option, Some, None, refl, ap, arith, subst, sym, ◌∙◌, length-set, sum_by-set, descriptors_in, IsCounted, named_by, names_in}
-use Rattle.kernel.proofs.Common.{Kernel, descriptors_at, state_of, IsKernel, IsOpened, Keeps, names, count-shared, IsPiped, count_at, shared, opens-shared, table-shared, opens_of, Process, put}
-use Rattle.kernel.proofs.Common.{slot, put_process, IsWatched, awaited_of, awaited_in, false, true, is_within, loaded, le-leb, names-put, free-place, MayShare, duplicated, with_descriptor}
+use Rattle.kernel.proofs.Common.{◌≡◌, ℕ, ◌+◌, ◌<◌, List, length, Option, Some, None, refl, ap, arith, subst, sym, ◌∙◌, length-set, sum_by-set, descriptors_in, IsCounted, named_by, names_in, Kernel, descriptors_at, state_of, IsKernel}
+use Rattle.kernel.proofs.Common.{IsOpened, Keeps, names, count-shared, IsPiped, count_at, shared, opens-shared, table-shared, Process, put, slot, put_process, IsWatched, awaited_in, false, true, is_within, loaded, le-leb, names-put}
+use Rattle.kernel.proofs.Common.{free-place, MayShare, duplicated, with_descriptor}
 use Rattle.kernel.proofs.Holding.{used-shared}
 use Rattle.kernel.proofs.Opens.{file-shared, place-counts, waits-fewer, waits-running, waits-set}
 use Rattle.kernel.proofs.Reaped.{match-active, match-place, within-state_with}
@@ -70,12 +70,9 @@ renamed-within {k} {i} x ds directory same up =
     ap is_within (sym (renamed-state x ds directory same k.tree k.files k.spaces.pipes))
     ∙ within-state_with to (loaded to) (x.sound.used up).within x.sound.opened.table (match-active to to.spaces.active (λ j. match-place (slot to.table.places j) (slot to.spaces.places j) (renamed-stands x ds directory same j))) ∙ le-leb _ _ x.sound.fits
 
--- one descriptor more names an open file
-watched-shared : (k : Kernel) {os : List (Option Process)} {awake : List Bool} → IsWatched (awaited_of k) os awake → (n : ℕ) → IsWatched (awaited_in (opens_of (shared k.files n)) k.spaces.pipes k.console k.ticks) os awake
-watched-shared k {os} {awake} watched n = subst (λ xs. IsWatched (awaited_in xs k.spaces.pipes k.console k.ticks) os awake) (sym (opens-shared k.files n)) watched
-
 pub dup-keeps : {k : Kernel} {i fd n : ℕ} → Keeps k → MayShare k i fd n → Keeps (duplicated k i fd n)
 dup-keeps {k} {i} {fd} {n} keeps may = record {
   sound = dup-kernel (runner-of keeps.sound may.running) fd n may;
-  watched = watched-shared k (watched-running keeps.watched i (with_descriptor fd (Some n)) (running-at keeps.sound i may.running) (λ p pid is. is)) n;
+  watched = subst (λ xs. IsWatched (awaited_in xs k.spaces.pipes k.console k.ticks) (duplicated k i fd n).table.places k.table.awake) (sym (opens-shared k.files n))
+      (watched-running keeps.watched i (with_descriptor fd (Some n)) (running-at keeps.sound i may.running) (λ p pid is. is));
 }

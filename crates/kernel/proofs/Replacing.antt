@@ -1,7 +1,7 @@
 -- Another program comes in the place of the one that runs.
-use Rattle.kernel.proofs.Common.{◌%◌, ◌+◌, ◌-◌, ◌∙◌, ◌≡◌, ◌≤◌, [], List, Option, Some, ap, arith, refl, sym, length, nat_le, option_and_then, subst, true, ℕ, counting, state_of, taken_frames}
-use Rattle.kernel.proofs.Common.{view_at, FileTree, Files, IsKernel, IsPlaced, Keeps, Kernel, Memory, SpaceView, Spaces, put_process, slot, with_view, cond_some, option_and_then_some, ◌*◌}
-use Rattle.kernel.proofs.Common.{number_at, round_down, Loaded, Plan, Stack, loaded_of, plan, push_pointers, push_strings, with_args, with_stack, args_at, exec_registers, file_bytes, replaced}
+use Rattle.kernel.proofs.Common.{◌%◌, ◌+◌, ◌-◌, ◌∙◌, ◌≡◌, ◌≤◌, [], List, Option, Some, ap, arith, refl, sym, length, nat_le, option_and_then, subst, true, ℕ, counting, state_of, taken_frames, view_at, FileTree, Files, IsKernel, IsPlaced}
+use Rattle.kernel.proofs.Common.{Keeps, Kernel, Memory, SpaceView, Spaces, put_process, slot, with_view, cond_some, option_and_then_some, ◌*◌, number_at, round_down, Loaded, Plan, Stack, loaded_of, plan, push_pointers, push_strings}
+use Rattle.kernel.proofs.Common.{with_args, with_stack, args_at, exec_registers, file_bytes, replaced}
 use Rattle.kernel.proofs.Finishes.{counting-kernel}
 use Rattle.kernel.proofs.Memories.{reheld-keeps}
 use Rattle.kernel.proofs.Runs.{moved, moved-kernel, moved-state, set-slot}
@@ -25,11 +25,9 @@ plan-pc : (file : List ℕ) (args : List (List ℕ)) (q : Plan) → plan file ar
 unfolding plan
 plan-pc file args q is = option_and_then_some (λ (l : Loaded). with_args l.pages (round_down (number_at 8 24 file) 4) args) (loaded_of file) q is (λ l some has. args-pc l.pages (round_down (number_at 8 24 file) 4) args q has)
 
-rounded : (n : ℕ) → round_down n 4 % 4 ≡ 0
-rounded n = omega arith
-
 plan-aligned : (files : Files) (n : ℕ) (mem : Memory) (argv : ℕ) (q : Plan) → plan_at files n mem argv ≡ Some q → q.pc % 4 ≡ 0
 plan-aligned files n mem argv q is =
+    let rounded = λ (n : ℕ). (let low : round_down n 4 % 4 ≡ 0 = omega arith in low) in
     option_and_then_some (λ file. option_and_then (plan file) (args_at mem argv)) (file_bytes (slot files n)) q is (λ file some has.
     option_and_then_some (plan file) (args_at mem argv) q has (λ args read made. ap (λ m. m % 4) (plan-pc file args q made) ∙ rounded (number_at 8 24 file)))
 

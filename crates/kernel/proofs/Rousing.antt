@@ -1,8 +1,8 @@
 -- Who waits on a channel is woken, one after the other.
-use Rattle.kernel.proofs.Common.{Bool, List, None, Option, Some, ap, arith, false, length, refl, suc, sym, take, true, zero, ℕ, ◌+◌, ◌-◌, ◌<◌, ◌∙◌, ◌≡◌, ◌≤◌, take_all, kind_of, roused, waits_as}
-use Rattle.kernel.proofs.Common.{waits_in, waits_on, woken_by, Bytes, Children, Ticks, Process, Places, woken, Call, Read, Sleep, Wait, Write, Mode, Ready, Running, Waiting, Zombie, Pending, slot, holds}
+use Rattle.kernel.proofs.Common.{Bool, List, None, Option, Some, ap, arith, false, length, refl, suc, sym, take, true, zero, ℕ, ◌+◌, ◌-◌, ◌<◌, ◌∙◌, ◌≡◌, ◌≤◌, take_all, kind_of, roused, waits_as, waits_in, waits_on, woken_by, Bytes}
+use Rattle.kernel.proofs.Common.{Children, Ticks, Process, Places, woken, Call, Read, Sleep, Wait, Write, Mode, Waiting, Pending, slot, holds}
 use Rattle.kernel.specs.declared.channels.Channel.{Channel}
-use Rattle.kernel.proofs.Masks.{roused-more, roused-none, roused-same}
+use Rattle.kernel.proofs.Masks.{roused-more, roused-same}
 use Rattle.proc.specs.declared.waits.WaitKind.{WaitKind}
 use Rattle.proc.specs.Waits.{IsFirstWaiting, NoneWaits, call_waits, mode_waits, waits_so}
 
@@ -18,10 +18,8 @@ call-silent Children w Wait no' = absurd (cc)
 call-silent Children w _ no' = refl
 
 mode-silent : (channel : Channel) (mode : Mode) → mode_waits (kind_of channel) mode ≡ false → waits_as channel mode ≡ false
-mode-silent channel Running no' = refl
-mode-silent channel Ready no' = refl
 mode-silent channel (Waiting w) no' = call-silent channel w w.number no'
-mode-silent channel (Zombie status) no' = refl
+mode-silent channel _ no' = refl
 
 silent : (channel : Channel) (o : Option Process) → holds (waits_so (kind_of channel)) o ≡ false → holds (waits_on channel) o ≡ false
 silent channel None no' = refl
@@ -29,19 +27,11 @@ silent channel (Some p) no' = mode-silent channel p.mode no'
 
 -- ---- places that are passed over
 
--- d places from one on, of which none passes
-roused-over : (test : Process → Bool) (os : List (Option Process)) (bs : List Bool) (d from : ℕ) → from + d ≤ length os → ((j : ℕ) → from ≤ j → j < from + d → holds test (slot os j) ≡ false) → roused test (take from os) bs ≡ roused test (take (from + d) os) bs
-roused-over test os bs zero from low none = let same : from ≡ from + 0 = omega arith in ap (λ k. roused test (take k os) bs) same
-roused-over test os bs (suc d) from low none =
-    let same : from + 1 + d ≡ from + suc d = omega arith in
-    roused-same test os bs from (omega arith) (none from (omega arith) (omega arith))
-    ∙ roused-over test os bs d (from + 1) (omega arith) (λ j more less. none j (omega arith) (omega arith))
-    ∙ ap (λ k. roused test (take k os) bs) same
-
-roused-up : (test : Process → Bool) (os : List (Option Process)) (bs : List Bool) (from to : ℕ) → from ≤ to → to ≤ length os → ((j : ℕ) → from ≤ j → j < to → holds test (slot os j) ≡ false) → roused test (take from os) bs ≡ roused test (take to os) bs
-roused-up test os bs from to up low none =
-    let same : from + (to - from) ≡ to = omega arith in
-    roused-over test os bs (to - from) from (omega arith) (λ j more less. none j more (omega arith)) ∙ ap (λ k. roused test (take k os) bs) same
+-- d places, of which none passes
+roused-up : (test : Process → Bool) (os : List (Option Process)) (bs : List Bool) (d from to : ℕ) → to ≡ from + d → to ≤ length os → ((j : ℕ) → from ≤ j → j < to → holds test (slot os j) ≡ false) → roused test (take from os) bs ≡ roused test (take to os) bs
+roused-up test os bs zero from to e low none = let same : from ≡ to = omega (arith, e) in ap (λ k. roused test (take k os) bs) same
+roused-up test os bs (suc d) from to e low none =
+    roused-same test os bs from (omega (arith, e)) (none from (omega arith) (omega (arith, e))) ∙ roused-up test os bs d (from + 1) to (omega (arith, e)) low (λ j more less. none j (omega arith) less)
 
 -- ---- a table in which who waits on a channel is woken
 
@@ -54,7 +44,8 @@ module _ (channel : Channel) (t : Places) where
   Roused from now = now ≡ record t { awake = roused (waits_on channel) (take from t.places) t.awake }
 
   pub roused-begins : Roused 0 t
-  roused-begins = ap with_awake (sym (roused-none (waits_on channel) t.awake))
+  unfolding roused
+  roused-begins = refl
 
   places-of : (from : ℕ) (now : Places) → Roused from now → now.places ≡ t.places
   places-of from now is = ap (λ (x : Places). x.places) is
@@ -68,7 +59,7 @@ module _ (channel : Channel) (t : Places) where
       let low = roused-low from at now is all inside.1 in
       let none : (j : ℕ) → from ≤ j → j < at → holds (waits_on channel) (slot t.places j) ≡ false =
       λ j more less. silent channel (slot t.places j) (ap (λ k. holds (waits_so k) (slot t.places j)) (sym kinds) ∙ ap (λ (os : List (Option Process)). holds (waits_so kind) (slot os j)) (sym (places-of from now is)) ∙ first.before j more less) in
-      is ∙ ap with_awake (roused-up (waits_on channel) t.places t.awake from at inside.0 (omega arith) none)
+      is ∙ ap with_awake (roused-up (waits_on channel) t.places t.awake (at - from) from at (omega arith) (omega arith) none)
 
   pub roused-rest : (kind : WaitKind) (from : ℕ) (now : Places) → kind ≡ kind_of channel → from ≤ 64 → Roused from now → length now.places ≡ 64 → NoneWaits now.places kind from → now ≡ woken_by channel t
   roused-rest kind from now kinds low is all rest =
@@ -76,7 +67,7 @@ module _ (channel : Channel) (t : Places) where
       let none : (j : ℕ) → from ≤ j → j < 64 → holds (waits_on channel) (slot t.places j) ≡ false =
       λ j more less. silent channel (slot t.places j) (ap (λ k. holds (waits_so k) (slot t.places j)) (sym kinds) ∙ ap (λ (os : List (Option Process)). holds (waits_so kind) (slot os j)) (sym (places-of from now is)) ∙ rest j more less) in
       is
-      ∙ ap with_awake (roused-up (waits_on channel) t.places t.awake from 64 low (omega arith) none)
+      ∙ ap with_awake (roused-up (waits_on channel) t.places t.awake (64 - from) from 64 (omega arith) (omega arith) none)
       ∙ ap (λ (os : List (Option Process)). with_awake (roused (waits_on channel) os t.awake)) (take_all 64 t.places (omega arith))
 
   -- one more place was looked at

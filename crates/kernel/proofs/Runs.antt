@@ -1,13 +1,14 @@
 -- The running process, and what becomes of the state where it alone changes.
-use Rattle.kernel.proofs.Common.{Bool, subst, ◌≡◌, ◌≢◌, ℕ, zero, suc, ◌<◌, ◌≤◌, ◌⊎◌, inl, inr, true, nat_eq, List, [], ◌∷◌, length, Option, Some, None, refl, ap, sym, ◌∙◌, arith, if◌then◌else◌, is_some}
-use Rattle.kernel.proofs.Common.{no_pages, unwrap_or, space_in, with_space, option_map, slice_set, nat_tests, get_or-set_other, get_or-set_same, length-set, set-get_or, descriptors_in, not-true}
-use Rattle.kernel.proofs.Common.{none-some, same_Some, Kernel, base, lives, loaded, on_hart, rest_of, state_of, IsKernel, IsPlace, IsPlaced, is_at, home_in, Process, Places, put-joined, put_kept-joined}
-use Rattle.kernel.proofs.Common.{slot-joined, with_table, SpaceView, has_space, taken_frames, Mode, Running, put, slot, is_running_mode, is_zombie_mode, State, holds, process_at, put_process}
+use Rattle.kernel.proofs.Common.{Bool, subst, ◌≡◌, ◌≢◌, ℕ, zero, suc, ◌<◌, ◌≤◌, ◌⊎◌, inl, inr, true, nat_eq, List, [], ◌∷◌, length, Option, Some, None, refl, ap, sym, ◌∙◌, arith, if◌then◌else◌, is_some, no_pages, unwrap_or, space_in}
+use Rattle.kernel.proofs.Common.{with_space, option_map, slice_set, nat_tests, get_or-set_other, get_or-set_same, length-set, set-get_or, descriptors_in, not-true, none-some, same_Some, Kernel, base, lives, loaded, on_hart, rest_of}
+use Rattle.kernel.proofs.Common.{state_of, IsKernel, IsPlace, IsPlaced, is_at, home_in, Process, Places, with_table, SpaceView, has_space, taken_frames, Mode, Running, put, slot, is_running_mode, is_zombie_mode, State, holds, process_at}
+use Rattle.kernel.proofs.Common.{put_process, answered, IsLive, IsMode, Memory, with_answer, change_process, false}
 use Rattle.kernel.proofs.Holding.{used-put}
 use Rattle.kernel.proofs.Opens.{opened-put, waits-running}
 use Rattle.proc.specs.Places as table
 use Rattle.unixmodel.specs.Process as unix
 pub use Rattle.names.proofs.Finding.{slot-within}
+use Rattle.kernel.proofs.Joined.{put-joined, put_kept-joined, slot-joined}
 
 -- ---- places
 
@@ -34,9 +35,6 @@ with_process t i p = record t { places = put t.places i p }
 
 -- a process and its space are put in place i
 module _ (s : State) (t : Places) (hs : List (Option SpaceView)) (i : ℕ) (p : Process) where
-  pub put-with : (h : SpaceView) → i < length hs → put_process (with_table s t hs) i (with_space h p) ≡ with_table s (with_process t i p) (slice_set hs i (Some h))
-  put-with h low = ap (λ places. record (with_table s t hs) { places = places }) (put-joined t.places hs i p h low)
-
   pub process-with : slot t.places i ≡ Some p → process_at (with_table s t hs) i ≡ Some (with_space (space_in hs i) p)
   process-with is = slot-joined t.places hs i ∙ ap (option_map (with_space (space_in hs i))) is
 
@@ -84,12 +82,29 @@ run-of k i is active =
     (p.0, (h.0, record { active = active; process = p.1.0; space = h.1.0; placed = h.1.1; runs = p.1.1 }))
 
 -- over the fields: k is what they show, and now is the kernel's value
-module _ (k now : Kernel) (i : ℕ) (same : k ≡ now) (is : IsKernel k) (active : now.spaces.active ≡ Some i) where
-  abbrev pub run-now : (p : Process) × ((h : SpaceView) × IsRun k i p h)
-  run-now = run-of k i is (ap (λ (x : Kernel). x.spaces.active) same ∙ active)
+pub active-space : (k now : Kernel) (i : ℕ) → k ≡ now → IsKernel k → now.spaces.active ≡ Some i → has_space k.spaces i ≡ true
+active-space k now i same is active = ap is_some (run-of k i is (ap (λ (x : Kernel). x.spaces.active) same ∙ active)).1.1.space
 
-  pub active-space : has_space k.spaces i ≡ true
-  active-space = ap is_some run-now.1.1.space
+-- none runs: the state has the table as it is
+pub state-idle : (k : Kernel) → k.spaces.active ≡ None → state_of k ≡ with_table (base (rest_of k)) k.table k.spaces.places
+state-idle k idle = rw idle refl
+
+-- process p stands in place i with its space
+pub record IsThere (k : Kernel) (i : ℕ) (p : Process) (h : SpaceView) : Type 0 where
+  pub process : slot k.table.places i ≡ Some p
+  pub space : slot k.spaces.places i ≡ Some h
+  pub placed : IsPlaced p h
+
+pub there-of : (k : Kernel) (i : ℕ) (p : Process) → IsKernel k → slot k.table.places i ≡ Some p → (h : SpaceView) × IsThere k i p h
+there-of k i p is at =
+    let h = space-of (slot k.table.places i) (slot k.spaces.places i) p at (is.stands i) in
+    (h.0, record { process = at; space = h.1.0; placed = h.1.1 })
+
+pub process-idle : (k : Kernel) (i : ℕ) {p : Process} {h : SpaceView} → k.spaces.active ≡ None → IsThere k i p h → process_at (state_of k) i ≡ Some (with_space h p)
+process-idle k i {p} {h} none t =
+    ap (λ (s : State). process_at s i) (state-idle k none)
+    ∙ process-with (base (rest_of k)) k.table k.spaces.places i p t.process
+    ∙ ap (λ (o : Option SpaceView). Some (with_space (unwrap_or o no_pages) p)) t.space
 
 -- as the abstract Unix sees it
 abbrev pub self : Kernel → Process → SpaceView → unix.Process
@@ -180,5 +195,51 @@ module _ (k : Kernel) (i : ℕ) (p : Process) (h : SpaceView) (r : IsRun k i p h
         let hs = slice_set k.spaces.places i (Some h') in
         state-run (moved k i p' h' registers pc) i p' h' moved-run
         ∙ ap (λ (places : List (Option Process)). with_table (base (rest_of k)) (record k.table { places = places }) hs) twice
-        ∙ sym (put-with (base (rest_of k)) (with_process k.table i (on_hart k.spaces p)) k.spaces.places i q h' within-space)
+        ∙ sym (ap (λ places. record (base (rest_of k)) { places = places; last = k.table.last; next_pid = k.table.next_pid }) (put-joined (put k.table.places i (on_hart k.spaces p)) k.spaces.places i (Some q) (Some h') within-space))
         ∙ sym (ap (λ (s : State). put_process s i (with_space h' q)) (state-run k i p h r))
+
+-- ---- the hart alone changes
+
+abbrev pub on_regs : Kernel → List ℕ → ℕ → Kernel
+on_regs k registers pc = record k { spaces = record k.spaces { registers = registers; pc = pc } }
+
+-- a running process may be in that mode
+pub runs-mode : (p : Process) (memory : Memory) (mode : Mode) → mode ≡ Running → IsLive p → p.killed ≡ false → IsMode p memory mode
+runs-mode p memory mode e l n = rw e (l, n)
+
+-- a process that was put in a place is changed
+pub change-put : (i : ℕ) (s : State) (p : unix.Process) (change : unix.Process → unix.Process) → i < length s.places → change_process (put_process s i p) i change ≡ put_process s i (change p)
+change-put i s p change short =
+    ap (λ (o : Option unix.Process). record s { places = slice_set (put s.places i p) i (option_map change o) }) (slot-put s.places i (Some p) short)
+    ∙ ap (λ (places : List (Option unix.Process)). record s { places = places }) (set-twice s.places i (Some p) (Some (change p)))
+
+pub regs-kernel : (k : Kernel) → IsKernel k → (registers : List ℕ) (pc : ℕ) → IsKernel (on_regs k registers pc)
+regs-kernel k is registers pc = record { all = is.all; spaces = is.spaces; stands = is.stands; runs = is.runs; fits = is.fits; opened = is.opened; used = is.used }
+
+run-mode : (p : Process) (memory : Memory) (mode : Mode) → mode ≡ Running → IsMode p memory mode → IsLive p × (p.killed ≡ false)
+run-mode p memory mode e is = rw e at is
+
+module _ (k : Kernel) (i : ℕ) (p : Process) (h : SpaceView) (r : IsRun k i p h) (is : IsKernel k) where
+  pub regs-run : (registers : List ℕ) (pc : ℕ) → IsRun (on_regs k registers pc) i p h
+  regs-run registers pc = record { active = r.active; process = r.process; space = r.space; placed = r.placed; runs = r.runs }
+
+  pub regs-state : (registers : List ℕ) (pc : ℕ) → state_of (on_regs k registers pc) ≡ put_process (state_of k) i (with_space h (record p { registers = registers; pc = pc }))
+  regs-state registers pc =
+      let table = set-slot k.table.places i (Some p) r.process in
+      let places = set-slot k.spaces.places i (Some h) r.space in
+      let same : moved k i p h registers pc ≡ on_regs k registers pc = rw (table, places) refl in
+      ap state_of (sym same) ∙ moved-state k i p h r is p h registers pc r.placed r.runs
+
+  -- the running process is changed
+  pub change-run : (change : unix.Process → unix.Process) → change_process (state_of k) i change ≡ put_process (state_of k) i (change (self k p h))
+  change-run change = ap (λ (o : Option unix.Process). record (state_of k) { places = slice_set (state_of k).places i (option_map change o) }) (process-run k i p h r)
+
+  pub answer-run : (value : ℕ) → change_process (state_of k) i (with_answer value) ≡ state_of (answered k value)
+  answer-run value = change-run (with_answer value) ∙ sym (regs-state (slice_set k.spaces.registers 10 value) k.spaces.pc)
+
+  -- it is not killed
+  pub not-killed : p.killed ≡ false
+  not-killed = (run-mode p h.memory p.mode r.runs r.placed.mode).1
+
+  pub live : IsLive p
+  live = (run-mode p h.memory p.mode r.runs r.placed.mode).0

@@ -1,33 +1,20 @@
 -- What holds of who holds nodes, where files change and the nodes that somebody holds stay of their type.
-use Rattle.kernel.proofs.Common.{◌≡◌, ℕ, ◌≤◌, List, None, Option, Some, ap, arith, refl, subst, sym, IfSome, option_map, nat_tests, one_in, Counted, FitsNode, IsFolder, IsInUse, home_in}
-use Rattle.kernel.proofs.Common.{node_in, node_of, node_on, Process, holders, FileTree, Node, links_of, slot, IsSome, ◌↔◌, Changed, shape, KeepsTree, blocks_of, Directory, File}
+use Rattle.kernel.proofs.Common.{◌≡◌, ℕ, ◌≤◌, List, None, Option, Some, ap, arith, refl, subst, sym, ◌∙◌, IfSome, option_map, Counted, FitsNode, IsFolder, IsInUse, home_in, node_in, node_of, node_on, Process, holders, FileTree, Node}
+use Rattle.kernel.proofs.Common.{links_of, slot, IsSome, ◌↔◌, Changed, shape, KeepsTree, blocks_of, Directory}
 use Rattle.files.specs.declared.file.OpenFile.{OpenFile}
 use Rattle.files.specs.declared.file.Target.{Target}
 use Rattle.files.specs.declared.file.Target.TheVariants as target
-use Rattle.kernel.proofs.Holding.{held-there, home-held, least}
-use Rattle.unixmodel.specs.Files.Node.{Device}
+use Rattle.kernel.proofs.Holding.{held-counts, held-there, home-held}
 
 -- a node fits by its shape
 fits-shape : (f : OpenFile) (t : Target) (o : Option Node) → FitsNode f t o ↔ FitsNode f t (option_map shape o)
 fits-shape f (target.Pipe pipe e) o = (λ is. is, λ is. is)
-fits-shape f (target.File number offset) None = (λ is. is, λ is. is)
-fits-shape f (target.File number offset) (Some (File links bytes)) = (λ is. is, λ is. is)
-fits-shape f (target.File number offset) (Some (Device links major minor)) = (λ is. is, λ is. is)
-fits-shape f (target.File number offset) (Some (Directory links places)) = (λ is. is, λ is. is)
-fits-shape f (target.Console number) None = (λ is. is, λ is. is)
-fits-shape f (target.Console number) (Some (File links bytes)) = (λ is. is, λ is. is)
-fits-shape f (target.Console number) (Some (Device links major minor)) = (λ is. is, λ is. is)
-fits-shape f (target.Console number) (Some (Directory links places)) = (λ is. is, λ is. is)
-fits-shape f (target.Device number) None = (λ is. is, λ is. is)
-fits-shape f (target.Device number) (Some (File links bytes)) = (λ is. is, λ is. is)
-fits-shape f (target.Device number) (Some (Device links major minor)) = (λ is. is, λ is. is)
-fits-shape f (target.Device number) (Some (Directory links places)) = (λ is. is, λ is. is)
+fits-shape f t (Some (Directory links places)) = (λ is. is, λ is. is)
+fits-shape f t _ = (λ is. is, λ is. is)
 
 folder-shape : (o : Option Node) → IsFolder o ↔ IsFolder (option_map shape o)
-folder-shape None = (λ is. is, λ is. is)
-folder-shape (Some (File links bytes)) = (λ is. is, λ is. is)
-folder-shape (Some (Device links major minor)) = (λ is. is, λ is. is)
 folder-shape (Some (Directory links places)) = (λ is. is, λ is. is)
+folder-shape _ = (λ is. is, λ is. is)
 
 pub folder-there : (o : Option Node) → IsFolder o → IsSome o
 folder-there None is = absurd is
@@ -38,13 +25,6 @@ there None is = absurd (is refl)
 there (Some node) is = refl
 
 module _ {t : FileTree} {opens : List (Option Counted)} {os : List (Option Process)} (is : IsInUse t opens os) where
-  -- the node of an open file is held
-  file-held : (k : ℕ) (c : Counted) (n : ℕ) → slot opens k ≡ Some c → node_on c.file.target ≡ Some n → 1 ≤ holders t.holds n
-  file-held k c n at on =
-      let self : one_in n (Some n) ≡ 1 = grind (arith, nat_tests) in
-      let same : one_in n (node_on c.file.target) ≡ one_in n (Some n) = ap (one_in n) on in
-      omega (arith, least (λ o. one_in n (node_in o)) opens k c at, same, self, is.holds n)
-
   module _ (now : FileTree) (stays : (n : ℕ) → 1 ≤ holders t.holds n → option_map shape (slot now.files n) ≡ option_map shape (slot t.files n)) where
     fits-stays : (f : OpenFile) (on : Target) (o : Option ℕ) → ((n : ℕ) → o ≡ Some n → 1 ≤ holders t.holds n) → FitsNode f on (node_of t.files o) → FitsNode f on (node_of now.files o)
     fits-stays f on None held fits = fits
@@ -63,7 +43,7 @@ module _ {t : FileTree} {opens : List (Option Counted)} {os : List (Option Proce
       within = few;
       holds = λ n. rw same (is.holds n);
       held = λ n node at bare. rw same (held n node at bare);
-      fits = λ k c at. fits-stays c.file c.file.target (node_on c.file.target) (λ n on. file-held k c n at on) (is.fits k c at);
+      fits = λ k c at. fits-stays c.file c.file.target (node_on c.file.target) (λ n on. omega (arith, held-counts node_in refl opens k n (ap node_in at ∙ on), is.holds n)) (is.fits k c at);
       homes = λ j. home-stays (home_in (slot os j)) (λ d at. home-held is j d at) (is.homes j);
     }
 

@@ -1,26 +1,27 @@
 -- What a kernel shows of its processes, in the words of its state.
-use Rattle.kernel.proofs.Common.{◌≡◌, ℕ, Bool, true, false, arith, List, [], ◌∷◌, Option, Some, None, refl, ap, subst, sym, ◌∙◌, ◌+◌, IfSome, is_some, option_and_then, option_map, position, slice_get}
-use Rattle.kernel.proofs.Common.{space_in, with_space, drop, slice_set, sum_by, length-set, sum_by-cons, names, file_of, Counted, count_at, file_at, opens_of, get_or-map, Kernel, base, loaded}
-use Rattle.kernel.proofs.Common.{on_hart, rest_of, state_of, named_by, names_in, FitsNode, node_of, node_on, IsKernel, Process, Places, changed_at, has_pid, place_where, place_of_pid-with_table}
-use Rattle.kernel.proofs.Common.{place_where-Some, slot-joined, joined, SpaceView, Spaces, has_space, view_at, taken_frames, frames_of, slot, holds, place_of_pid, process_at, position_or_len-set}
+use Rattle.kernel.proofs.Common.{◌≡◌, ℕ, Bool, true, false, List, Option, Some, None, refl, ap, subst, sym, ◌∙◌, IfSome, is_some, option_and_then, option_map, slice_get, with_space, length-set, file-opens, file_of, Counted, count_at}
+use Rattle.kernel.proofs.Common.{file_at, opens_of, Kernel, base, loaded, on_hart, rest_of, state_of, IsKernel, Process, Places, changed_at, has_pid, place_where, SpaceView, Spaces, has_space, view_at, taken_frames, frames_of, slot, holds}
+use Rattle.kernel.proofs.Common.{place_of_pid, process_at, position_or_len-set}
 use Rattle.files.specs.declared.file.OpenFile.{OpenFile}
 use Rattle.kernel.proofs.Reaped.{frames-with, match-loaded, opened-loaded}
 use Rattle.kernel.proofs.Runs.{place-space}
-use Rattle.kernel.specs.Shows.{descriptors_on, naming, shown_as}
+use Rattle.kernel.specs.Holding.{FitsFiles}
+use Rattle.kernel.specs.Shows.{descriptors_on, shown_as}
 use Rattle.kernel.specs.declared.kernel.show.ShownProcess.{ShownProcess}
 use Rattle.unixmodel.specs.Process as unix
 use Rattle.unixmodel.specs.Shown.{ShowsMemory, shown_page, shown_process, told_page}
-use Rattle.kernel.proofs.Opens.{active-by, hart-same}
+use Rattle.kernel.proofs.Holding.{map-same}
+use Rattle.kernel.proofs.Opens.{active-by, count-joined}
+use Rattle.kernel.proofs.Joined.{place_of_pid-with_table, place_where-Some, slot-joined}
 
 -- ---- a search
-
-position-set : (test : Option Process → Bool) (os : List (Option Process)) (i : ℕ) (o : Option Process) → test o ≡ test (slot os i) → position test (slice_set os i o) ≡ position test os
-position-set test os i o same = rw (position_or_len-set test os i o None same, length-set os i o) refl
 
 -- what the hart holds of a process is no matter of the test
 pub place-changed : (test : Process → Bool) → ((s : Spaces) (p : Process) → test (on_hart s p) ≡ test p) → (t : Places) (s : Spaces) (o : Option ℕ) → place_where (changed_at t (on_hart s) o).places test ≡ place_where t.places test
 place-changed test same t s None = refl
-place-changed test same t s (Some i) = position-set (holds test) t.places i (option_map (on_hart s) (slot t.places i)) (hart-same (holds test) s (same s) (slot t.places i))
+place-changed test same t s (Some i) =
+    let o = option_map (on_hart s) (slot t.places i) in
+    rw (position_or_len-set (holds test) t.places i o None (map-same (holds test) (on_hart s) (same s) (slot t.places i)), length-set t.places i o) refl
 
 -- ---- the process with a pid
 
@@ -100,36 +101,16 @@ pid-shown k pid = go (place_where k.table.places (has_pid pid)) refl where
 
 -- ---- open files
 
-file-in : (o : Option Counted) → option_map (λ (c : Counted). file_of c.file) o ≡ option_map file_of (option_map (λ (c : Counted). c.file) o)
-file-in None = refl
-file-in (Some c) = refl
-
-file-of : (t : List (Option Counted)) (n : ℕ) → slot (opens_of t) n ≡ option_map file_of (file_at t n)
-file-of t n = get_or-map (option_map (λ (c : Counted). file_of c.file)) t n None ∙ file-in (slot t n)
-
 pub file-shown : (t : List (Option Counted)) (n : ℕ) (f : OpenFile) → Some f ≡ file_at t n → Some (file_of f) ≡ slot (opens_of t) n
-file-shown t n f at = ap (option_map file_of) at ∙ sym (file-of t n)
-
-pub no-file : (t : List (Option Counted)) (n : ℕ) → None ≡ file_at t n → None ≡ slot (opens_of t) n
-no-file t n at = ap (option_map file_of) at ∙ sym (file-of t n)
-
-named-joined : (os : List (Option Process)) (hs : List (Option SpaceView)) (n : ℕ) → sum_by (naming n) (joined os hs) ≡ named_by os n
-unfolding joined
-named-joined [] hs n = refl
-named-joined (None ∷ os) hs n = omega (arith, sum_by-cons (naming n) None (joined os (drop 1 hs)), named-joined os (drop 1 hs) n, sum_by-cons (names_in n) None os)
-named-joined (Some p ∷ os) hs n =
-    sum_by-cons (naming n) (Some (with_space (space_in hs 0) p)) (joined os (drop 1 hs)) ∙ ap (λ (c : ℕ). names n p.descriptors + c) (named-joined os (drop 1 hs) n) ∙ sym (sum_by-cons (names_in n) (Some p) os)
+file-shown t n f at = ap (option_map file_of) at ∙ sym (file-opens t n)
 
 pub count-shown : (k : Kernel) → IsKernel k → (n : ℕ) → count_at k.files n ≡ descriptors_on (state_of k) n
-count-shown k is n = (opened-loaded k is).counted n ∙ sym (named-joined (loaded k).places k.spaces.places n)
+count-shown k is n = (opened-loaded k is).counted n ∙ sym (count-joined (loaded k).places k.spaces.places n)
 
 -- an open file fits its node
-abbrev Fits : Kernel → OpenFile → Type 0
-Fits k f = FitsNode f f.target (node_of k.tree.files (node_on f.target))
-
-fits-in : (k : Kernel) (o : Option Counted) (f : OpenFile) → Some f ≡ option_map (λ (c : Counted). c.file) o → ((c : Counted) → o ≡ Some c → Fits k c.file) → Fits k f
+fits-in : (k : Kernel) (o : Option Counted) (f : OpenFile) → Some f ≡ option_map (λ (c : Counted). c.file) o → ((c : Counted) → o ≡ Some c → FitsFiles k.tree.files c.file) → FitsFiles k.tree.files f
 fits-in k None f is each = absurd (cc)
-fits-in k (Some c) f is each = let same : f ≡ c.file = cc in subst (Fits k) (sym same) (each c refl)
+fits-in k (Some c) f is each = let same : f ≡ c.file = cc in subst (FitsFiles k.tree.files) (sym same) (each c refl)
 
-pub fits-shown : (k : Kernel) → IsKernel k → k.tree.failed ≡ false → (n : ℕ) (f : OpenFile) → Some f ≡ file_at k.files n → Fits k f
+pub fits-shown : (k : Kernel) → IsKernel k → k.tree.failed ≡ false → (n : ℕ) (f : OpenFile) → Some f ≡ file_at k.files n → FitsFiles k.tree.files f
 fits-shown k is up n f at = fits-in k (slot k.files n) f at ((is.used up).fits n)

@@ -1,9 +1,8 @@
 -- The running process has other descriptors, or works in another directory; files, open files and pipes may be others too.
-use Rattle.kernel.proofs.Common.{◌≡◌, ℕ, ◌≤◌, false, List, length, Option, Some, refl, ap, subst, sym, ◌∙◌, length-set, Kernel, state_of, IsKernel, IsOpened, IsPlace}
-use Rattle.kernel.proofs.Common.{IsPlaced, IsInUse, home_in, Counted, opens_of, Process, SpaceView, taken_frames, FileTree, Running, put, slot, State, put_process}
+use Rattle.kernel.proofs.Common.{◌≡◌, ℕ, ◌≤◌, false, List, length, Option, Some, refl, ap, subst, sym, ◌∙◌, length-set, Kernel, state_of, IsKernel, IsOpened, IsPlace, IsPlaced, IsInUse, home_in, Counted, opens_of, Process, SpaceView}
+use Rattle.kernel.proofs.Common.{taken_frames, FileTree, Running, put, slot, State, put_process}
 use Rattle.kernel.proofs.Holding.{used-put}
-use Rattle.kernel.proofs.Runs.{IsRun, eq-self, home-running, moved-state, run-of, runs-set, self, set-slot, slot-put, stands-set, with_process, within-run, within-space}
-use Rattle.kernel.proofs.Running.{live, not-killed, runs-mode}
+use Rattle.kernel.proofs.Runs.{IsRun, eq-self, home-running, moved-state, run-of, runs-set, self, set-slot, slot-put, stands-set, with_process, within-run, within-space, live, not-killed, runs-mode}
 use Rattle.unixmodel.specs.Process as unix
 
 -- the running process and its space, in a kernel that is sound

@@ -1,16 +1,6 @@
 -- A pick by a test is the search that a turn makes.
-use Rattle.std.specs.Prelude.{Bool, List, None, Option, Some, false, find, map, suc, true, zero, ℕ, ◌+◌, ◌<◌, ◌≡◌, ◌≤◌, ◌⊎◌}
-use Rattle.std.specs.Borrow.{Bor}
-use Rattle.std.specs.Fn.{FnReturns, Shared}
-use Rattle.std.specs.List.{range_with_len}
-use Rattle.std.proofs.Common.{ap, arith, inl, inr, refl, subst, sym, ◌∙◌}
-use Rattle.proc.specs.declared.process.Process.{Process}
-use Rattle.proc.specs.Pick.{Answers, Picks, place_in_round}
-use Rattle.proc.specs.Places.{Places}
-use Rattle.spaces.specs.Spaces.{SpaceView}
-use Rattle.kernel.specs.Whole.{with_table}
-use Rattle.unixmodel.specs.State.{State, place_limit}
-use Rattle.unixmodel.specs.Turn.{ready, round_from, turn}
+use Rattle.kernel.proofs.Common.{Bool, List, None, Option, Some, false, find, map, suc, true, zero, ℕ, ◌+◌, ◌<◌, ◌≡◌, ◌≤◌, ◌⊎◌, Bor, FnReturns, Shared, range_with_len, ap, arith, inl, inr, refl, subst, sym, ◌∙◌, Process, Answers, Picks}
+use Rattle.kernel.proofs.Common.{place_in_round, Places, SpaceView, with_table, State, place_limit, ready, round_from, turn}
 
 at_or_before : (k t : ℕ) → k ≤ t → (k ≡ t) ⊎ (k < t)
 at_or_before k t h = grind arith
@@ -32,10 +22,7 @@ module _ (test : ℕ → Bool) (place : ℕ → ℕ) where
       rw here (find_none n (k + 1) (λ j l h. none j (omega arith) (omega arith)))
 
 -- the answers may only be those of a test
-abbrev pub AnswersAs : (ℕ → Bool → Type 0) → (ℕ → Bool) → Type 0
-AnswersAs says test = (i : ℕ) (b : Bool) → says i b → b ≡ test i
-
-find-from_answers : (says : ℕ → Bool → Type 0) (test : ℕ → Bool) (last : ℕ) (result : Option ℕ) → Picks says last result → AnswersAs says test → result ≡ find test (round_from last)
+find-from_answers : (says : ℕ → Bool → Type 0) (test : ℕ → Bool) (last : ℕ) (result : Option ℕ) → Picks says last result → ((i : ℕ) (b : Bool) → says i b → b ≡ test i) → result ≡ find test (round_from last)
 unfolding round_from
 find-from_answers says test last None picks same =
     sym (find_none test (place_in_round last) place_limit 1 (λ j low high. sym (same (place_in_round last j) false (picks j low (omega arith)))))
@@ -54,11 +41,8 @@ module _ {F : Type 0} (g : Shared F (Bor (List (Option Process)) × (ℕ × Unit
   abbrev pub IsTest : (List (Option Process) → ℕ → Bool) → Type 0
   IsTest test = (shown : Bor (List (Option Process))) (i : ℕ) (b : Bool) → FnReturns g f (shown, (i, tt)) b → b ≡ test shown.now i
 
-  -- the pick is the first place of the round that passes
-  pub find-from_pick : (places : List (Option Process)) (test : List (Option Process) → ℕ → Bool) (last : ℕ) (result : Option ℕ) → Picks (Answers g f places) last result → IsTest test → result ≡ find (test places) (round_from last)
-  find-from_pick places test last result picks is = find-from_answers (Answers g f places) (test places) last result picks (λ i b h. is h.shown i b h.says ∙ ap (λ os. test os i) h.shows)
-
   -- the pick is the turn of the state
   pub turn-from_pick : (s : State) (t : Places) (hs : List (Option SpaceView)) (result : Option ℕ) → Picks (Answers g f t.places) t.last result → IsTest (ready_with s t hs) → result ≡ turn (with_table s t hs)
   unfolding turn
-  turn-from_pick s t hs result picks is = find-from_pick t.places (ready_with s t hs) t.last result picks is
+  turn-from_pick s t hs result picks is =
+      find-from_answers (Answers g f t.places) (ready_with s t hs t.places) t.last result picks (λ i b h. is h.shown i b h.says ∙ ap (λ os. ready_with s t hs os i) h.shows)

@@ -1,12 +1,11 @@
 -- The kernel's steps, and who is awake after them.
-use Rattle.kernel.proofs.Common.{Bool, Err, List, None, Ok, Option, Some, ap, false, inl, inr, length, option_map, refl, subst, sym, true, ℕ, ℤ, ◌<◌, ◌∙◌, ◌≡◌, IfNone, IfSome, slice_set, cases_lt, true≢false, Kernel, left_as}
-use Rattle.kernel.proofs.Common.{on_hart, rest_of, state_of, state_with, waking, IsKernel, is_at, Keeps, IsAsleep, IsWatched, Watches, awaited_of, roused, waits_on, woken_by, Bytes, Children, Ticks, seen, Process, is_in, Places}
-use Rattle.kernel.proofs.Common.{changed_at, exited, is_zombie_child_of, with_mode, Spaces, view_at, Console, cycle, Mode, Running, Trap, put, slot, Computed, is_zombie_mode, State, holds, ready, Answers, Bor, FnReturns, Shared}
-use Rattle.kernel.proofs.Masks.{set-in, set-past}
-use Rattle.kernel.proofs.Runs.{eq-self}
-use Rattle.kernel.proofs.Watching.{exited-is, no-zombie, unready-asleep, watched-bytes, watched-ended, watched-put, watched-running, watched-ticks, watched-woken, child-map}
+use Rattle.kernel.proofs.Common.{Bool, List, None, Option, Some, ap, false, length, option_map, refl, subst, sym, true, ℕ, ℤ, ◌<◌, ◌∙◌, ◌≡◌, IfNone, IfSome, slice_set, true≢false, Kernel, left_as, on_hart, rest_of, state_of, state_with}
+use Rattle.kernel.proofs.Common.{waking, IsKernel, is_at, Keeps, IsAsleep, IsWatched, Watches, awaited_of, roused, waits_on, woken_by, Bytes, Children, Ticks, seen, Process, is_in, Places, changed_at, exited, is_zombie_child_of, with_mode}
+use Rattle.kernel.proofs.Common.{Console, Mode, put, slot, is_zombie_mode, State, holds, ready, Answers, Bor, FnReturns, Shared}
+use Rattle.kernel.proofs.Masks.{set-in, set-other}
+use Rattle.kernel.proofs.Runs.{eq-self, slot-put}
+use Rattle.kernel.proofs.Watching.{no-zombie, unready-asleep, watched-bytes, watched-ended, watched-put, watched-running, watched-ticks, child-map}
 use Rattle.proc.specs.Places as table
-use Rattle.spaces.specs.Spaces as spaces
 
 -- ---- the mask says nothing of the rest
 
@@ -25,21 +24,14 @@ state-but {new} k same = ap state_of same ∙ state-waking k new.table.awake
 
 -- ---- the console and the ticks
 
+pub typed-kernel : {k : Kernel} → IsKernel k → (console : Console) (ticks : ℕ) → IsKernel (record k { console = console; ticks = ticks })
+typed-kernel is console ticks = record { all = is.all; spaces = is.spaces; stands = is.stands; runs = is.runs; fits = is.fits; opened = is.opened; used = is.used }
+
 pub typed-keeps : {k : Kernel} → Keeps k → (console : Console) → Keeps (record k { console = console; table = woken_by Bytes k.table })
-typed-keeps keeps console =
-    let is = keeps.sound in
-    record {
-      sound = record { all = is.all; spaces = is.spaces; stands = is.stands; runs = is.runs; fits = is.fits; opened = is.opened; used = is.used };
-      watched = watched-bytes keeps.watched _ refl;
-    }
+typed-keeps {k} keeps console = record { sound = kernel-waking (typed-kernel keeps.sound console k.ticks) _; watched = watched-bytes keeps.watched _ refl }
 
 pub ticked-keeps : {k : Kernel} → Keeps k → (now : ℕ) → Keeps (record k { ticks = now; table = woken_by (Ticks now) k.table })
-ticked-keeps keeps now =
-    let is = keeps.sound in
-    record {
-      sound = record { all = is.all; spaces = is.spaces; stands = is.stands; runs = is.runs; fits = is.fits; opened = is.opened; used = is.used };
-      watched = watched-ticks keeps.watched now;
-    }
+ticked-keeps {k} keeps now = record { sound = kernel-waking (typed-kernel keeps.sound k.console now) _; watched = watched-ticks keeps.watched now }
 
 -- ---- the running process
 
@@ -53,52 +45,29 @@ left-watched {k} is watched i mode active lives = watched-running watched i (λ 
 
 module _ {a : State} {os : List (Option Process)} {awake : List Bool} (watched : IsWatched a os awake) where
   pub watched-roused : (i : ℕ) (o : Option Process) → ((pid : ℕ) → holds (is_zombie_child_of pid) o ≡ true → holds (is_zombie_child_of pid) (slot os i) ≡ true) → IsWatched a (slice_set os i o) (slice_set awake i true)
-  watched-roused i o zombies = elim (cases_lt i (length os)) [
-    | inl low ↦ watched-put (watched-woken watched i) i o low zombies (λ out. absurd (true≢false (sym (set-in awake i) ∙ out)))
-    | inr past ↦ subst (λ xs. IsWatched a xs (slice_set awake i true)) (sym (set-past os i o past)) (watched-woken watched i)
-  ]
+  watched-roused i o zombies = watched-put (record { asleep = λ j out. watched.asleep j (set-other awake i j out) }) i o zombies (λ out. absurd (true≢false (sym (set-in awake i) ∙ out)))
 
   pub watched-changed : (i : ℕ) (f : Process → Process) → ((p : Process) (pid : ℕ) → is_zombie_child_of pid (f p) ≡ true → is_zombie_child_of pid p ≡ true) → IsWatched a (slice_set os i (option_map f (slot os i))) (slice_set awake i true)
   watched-changed i f zombies = watched-roused i (option_map f (slot os i)) (λ pid. child-map f zombies pid (slot os i))
 
-  pub watched-started : (i : ℕ) → IsWatched a (slice_set os i (option_map (with_mode Running) (slot os i))) (slice_set awake i true)
-  watched-started i = watched-changed i (with_mode Running) (no-zombie Running refl)
-
--- ---- an instruction
-
-pub executes-pipes : (s new : Spaces) (o : Option ℕ) (i : ℕ) (result : Option Trap) → o ≡ Some i
-    → IfNone result (IfSome o (λ at. (d : Computed) × (cycle s.registers s.pc (view_at s at).memory ≡ Ok d) × (new ≡ spaces.computed s at d)))
-    → IfSome result (λ t. IfSome o (λ at. (cycle s.registers s.pc (view_at s at).memory ≡ Err t) × (new ≡ s))) → new.pipes ≡ s.pipes
-executes-pipes s new None i result active done trap = absurd (cc)
-executes-pipes s new (Some at) i None active done trap = ap (λ (x : Spaces). x.pipes) done.2
-executes-pipes s new (Some at) i (Some t) active done trap = ap (λ (x : Spaces). x.pipes) trap.1
-
 -- ---- a turn
-
--- a table with these processes
-pub table-kernel : {k : Kernel} → IsKernel k → (t : Places) → t.places ≡ k.table.places → IsKernel (record k { table = t })
-table-kernel {k} is t same =
-    let s = subst (λ (os : List (Option Process)). IsKernel (record k { table = record k.table { places = os } })) (sym same) is in
-    record { all = s.all; spaces = s.spaces; stands = s.stands; runs = s.runs; fits = s.fits; opened = s.opened; used = s.used }
 
 pub picked-places : (old new : Places) (result : Option ℕ) → IfSome result (λ i. new ≡ record old { last = i; awake = new.awake }) → IfNone result (new ≡ record old { awake = new.awake }) → new.places ≡ old.places
 picked-places old new None picked none = ap (λ (t : Places). t.places) none
 picked-places old new (Some i) picked none = ap (λ (t : Places). t.places) picked
-
-idle-rests : (k : Kernel) → IsKernel k → k.spaces.active ≡ None → (j : ℕ) → holds table.is_running (slot k.table.places j) ≡ false
-idle-rests k is idle j = is.runs j ∙ ap (is_at j) idle
 
 module _ {F : Type 0} (g : Shared F (Bor (List (Option Process)) × (ℕ × Unit {0})) Bool) (f : F) {k : Kernel} (is : IsKernel k) (idle : k.spaces.active ≡ None)
     (tells : (shown : Bor (List (Option Process))) (i : ℕ) (b : Bool) → FnReturns g f (shown, (i, tt)) b → b ≡ ready (seen (awaited_of k) shown.now) i) where
   -- a pick leaves those awake who are ready
   pub watched-picked : (t : Places) → t.places ≡ k.table.places → ((i : ℕ) → is_in t.awake i ≡ false → Answers g f k.table.places i false) → Keeps (record k { table = t })
   watched-picked t same no' = record {
-    sound = table-kernel is t same;
+    sound = (let s = subst (λ (os : List (Option Process)). IsKernel (record k { table = record k.table { places = os } })) (sym same) is in
+        record { all = s.all; spaces = s.spaces; stands = s.stands; runs = s.runs; fits = s.fits; opened = s.opened; used = s.used });
     watched = record {
       asleep = λ j out.
           let answer = no' j out in
           let unready : ready (seen (awaited_of k) k.table.places) j ≡ false = sym (tells answer.shown j false answer.says ∙ ap (λ os. ready (seen (awaited_of k) os) j) answer.shows) in
-          subst (λ os. IsAsleep (awaited_of k) os (slot os j)) (sym same) (unready-asleep (awaited_of k) k.table.places j (idle-rests k is idle j) unready);
+          subst (λ os. IsAsleep (awaited_of k) os (slot os j)) (sym same) (unready-asleep (awaited_of k) k.table.places j (is.runs j ∙ ap (is_at j) idle) unready);
     };
   }
 
@@ -108,5 +77,5 @@ module _ {F : Type 0} (g : Shared F (Bor (List (Option Process)) × (ℕ × Unit
 pub finish-watched : {a : State} (t : Places) → IsWatched a t.places t.awake → (i : ℕ) (q : Process) (status : ℤ) → i < length t.places → (a' : State) → a'.ticks ≡ a.ticks
     → (new : Places) → new ≡ exited (record t { places = put t.places i q }) i status → IsWatched a' new.places (roused (waits_on Bytes) new.places (roused (waits_on Children) new.places new.awake))
 finish-watched {a} t watched i q status low a' ticks new is =
-    subst (λ (x : Places). IsWatched a' x.places (roused (waits_on Bytes) x.places (roused (waits_on Children) x.places x.awake))) (sym (is ∙ exited-is t i q status low))
-    (watched-bytes (watched-ended watched i q status low) a' ticks)
+    subst (λ (x : Places). IsWatched a' x.places (roused (waits_on Bytes) x.places (roused (waits_on Children) x.places x.awake))) (sym (is ∙ ap (table.ended (record t { places = put t.places i q }) i status) (slot-put t.places i (Some q) low)))
+    (watched-bytes (watched-ended watched i q status) a' ticks)

@@ -1,11 +1,12 @@
 -- The running process works in another directory.
-use Rattle.kernel.proofs.Common.{◌≡◌, ◌≢◌, ℕ, zero, suc, ◌+◌, ◌<◌, ◌++◌, ◌∷◌, [], List, length, Option, Some, None, refl, ap, arith, subst, sym, ◌∙◌, IfSome, Result, slice_set, sum_by-cons}
-use Rattle.kernel.proofs.Common.{sum_by-set, none-some, DeviceFault, SpaceView, FileTree, Serves, Kernel, loaded, state_of, on_hart, IsKernel, Keeps, IsInUse, IsFolder, AreHeld, dropped, all_dropped}
-use Rattle.kernel.proofs.Common.{listed, descriptors_in, files_on, home_in, homes_at, one_in, one_at, with_hold, Node, Counted, opens_of, without_opens-same, Process, put, slot, slot-within, State}
-use Rattle.kernel.proofs.Common.{put_process, without_pipes-same, sum_by-append, MayWorkIn, WorksIn, home_at, working_in, with_directory, joined, IsWhole, reap, without_nodes, without_pipes}
-use Rattle.kernel.proofs.Closing.{told-as, told-kernel}
+use Rattle.kernel.proofs.Common.{◌≡◌, ◌≢◌, ℕ, zero, suc, ◌+◌, ◌<◌, ◌++◌, ◌∷◌, [], List, length, Option, Some, None, refl, ap, arith, subst, sym, ◌∙◌, IfSome, Result, slice_set, sum_by-cons, sum_by-set, none-some, DeviceFault, SpaceView}
+use Rattle.kernel.proofs.Common.{FileTree, Serves, Kernel, loaded, state_of, on_hart, IsKernel, Keeps, IsInUse, IsFolder, AreHeld, dropped, all_dropped, listed, descriptors_in, files_on, home_in, homes_at, one_in, one_at, with_hold, Node}
+use Rattle.kernel.proofs.Common.{Counted, opens_of, without_opens-same, Process, put, slot, slot-within, State, put_process, without_pipes-same, sum_by-append, MayWorkIn, WorksIn, home_at, working_in, with_directory, joined, IsWhole, reap}
+use Rattle.kernel.proofs.Common.{without_nodes, without_pipes}
+use Rattle.kernel.proofs.Finishes.{told-kernel}
+use Rattle.kernel.proofs.Reading.{serves-as}
 use Rattle.kernel.proofs.Dropping.{counted}
-use Rattle.kernel.proofs.Holding.{AreAway, AreOldHomes, fewer-held, fewer-nodes, fewer-used, hold-more, homes-set, named_in}
+use Rattle.kernel.proofs.Holding.{AreAway, AreOldHomes, fewer-held, fewer-nodes, fewer-used, homes-set, named_in, used-more}
 use Rattle.kernel.proofs.Named.{counts-joined}
 use Rattle.kernel.proofs.Opens.{opened-put, waits-running}
 use Rattle.kernel.proofs.Reaped.{away-loaded, opened-loaded}
@@ -43,21 +44,16 @@ module _ {t : FileTree} {opens : List (Option Counted)} {os : List (Option Proce
 
   -- the directory that it leaves is held as yet, as by one process more
   between : IsInUse held opens (moves ++ Some p ∷ [])
-  between = record {
-    rules = is.rules;
-    zero = is.zero;
-    within = is.within;
-    holds = λ n.
-        let sums = sum_by-set (λ o. one_in n (home_in o)) os i (Some q) None (slot-within os i p at) in
-        let was : one_in n (home_in (slot os i)) ≡ one_in n (Some old) = ap (λ o. one_in n (home_in o)) at ∙ ap (one_in n) home in
-        let now : one_in n (home_in (Some q)) ≡ one_in n (Some new) = ap (one_in n) goes in
-        let last : one_in n (home_in (Some p)) ≡ one_in n (Some old) = ap (one_in n) home in
-        omega (arith, hold-more t.holds new short n, is.holds n, sums, was, now, last, homes-more moves (Some p) n);
-    held = λ n node here bare. omega (arith, hold-more t.holds new short n, is.held n node here bare);
-    fits = is.fits;
-    homes = homes-append (λ d. IsFolder (slot t.files d)) moves (Some p) (subst (λ h. IfSome h (λ d. IsFolder (slot t.files d))) (ap home_in at) (is.homes i))
-        (homes-set (λ d. IsFolder (slot t.files d)) os i (Some q) (subst (λ h. IfSome h (λ d. IsFolder (slot t.files d))) (sym goes) folder) is.homes);
-  }
+  between =
+      used-more is new short opens (moves ++ Some p ∷ [])
+      (λ n.
+      let sums = sum_by-set (λ o. one_in n (home_in o)) os i (Some q) None (slot-within os i p at) in
+      let was : one_in n (home_in (slot os i)) ≡ one_in n (home_in (Some p)) = ap (λ o. one_in n (home_in o)) at in
+      let now : one_in n (home_in (Some q)) ≡ one_in n (Some new) = ap (one_in n) goes in
+      omega (arith, sums, was, now, homes-more moves (Some p) n))
+      is.fits
+      (homes-append (λ d. IsFolder (slot t.files d)) moves (Some p) (subst (λ h. IfSome h (λ d. IsFolder (slot t.files d))) (ap home_in at) (is.homes i))
+      (homes-set (λ d. IsFolder (slot t.files d)) os i (Some q) (subst (λ h. IfSome h (λ d. IsFolder (slot t.files d))) (sym goes) folder) is.homes))
 
   counts : (m : ℕ) → files_on opens m + homes_at moves m + named_in (old ∷ []) m ≡ files_on opens m + homes_at (moves ++ Some p ∷ []) m
   counts m =
@@ -112,9 +108,6 @@ module _ {k : Kernel} {i : ℕ} (x : Runner k i) (n : ℕ) (may : MayWorkIn k i 
       (opened-put k.files k.spaces.pipes k.table.places i (Some q) (sym (ap descriptors_in x.run.process)) (waits-running k.files q x.run.runs) x.sound.opened)
       x.sound.fits
 
-  work-kernel : IsKernel (working_in k i n)
-  work-kernel = rw (← work-is) to-kernel
-
   -- what it leaves, and nothing holds any more, goes
   pub work-reaps : reap (put_process (state_of k) i (record (me_of x) { directory = n })) ≡ state_of (working_in k i n)
   unfolding reap
@@ -132,16 +125,10 @@ pub work-keeps : {k : Kernel} {i n : ℕ} → Keeps k → MayWorkIn k i n → Is
     → Serves (record k.tree { holds = with_hold k.tree.holds n }) t r (λ done. t ≡ counted (all_dropped (record k.tree { holds = with_hold k.tree.holds n }) (listed (home_at k i))) t.failures)
     → Keeps (record (working_in k i n) { tree = t })
 work-keeps {k} {i} {n} keeps may whole t r serves = record {
-  sound = told-kernel (work-kernel (runner-of keeps.sound may.running) n may whole) t r serves.told serves.down;
+  sound = told-kernel {k = working_in k i n} (let x = runner-of keeps.sound may.running in rw (← work-is x n may whole) (to-kernel x n may whole)) t r serves.told serves.down;
   watched = watched-running keeps.watched i (with_directory n) (running-at keeps.sound i may.running) (λ p pid is. is);
 }
 
 pub work-serves : (k : Kernel) (i n : ℕ) {t : FileTree} {r : Result (Unit {0}) DeviceFault}
     → Serves (record k.tree { holds = with_hold k.tree.holds n }) t r (λ done. t ≡ counted (all_dropped (record k.tree { holds = with_hold k.tree.holds n }) (listed (home_at k i))) t.failures) → Serves k.tree t r (λ done. WorksIn k (record (working_in k i n) { tree = t }) i n)
-work-serves k i n {t} {r} serves = record {
-  told = told-as (λ done told. ap (λ (u : FileTree). record (working_in k i n) { tree = u }) told) r serves.told;
-  up = serves.up;
-  down = serves.down;
-  same_device = serves.same_device;
-  cause = record { later = serves.cause.later; failed = serves.cause.failed };
-}
+work-serves k i n = serves-as refl refl (λ done told. ap (λ (u : FileTree). record (working_in k i n) { tree = u }) told)

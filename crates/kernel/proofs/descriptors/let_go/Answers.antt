@@ -1,5 +1,5 @@
 use Rattle.std.proofs.Common.{arith}
-use Rattle.kernel.proofs.Dropping.{lets-all, lets-begin, lets-fails, lets-more, next-node, next-some}
+use Rattle.kernel.proofs.Dropping.{held-next, lets-all, lets-begin, lets-fails, lets-more}
 use Rattle.kernel.proofs.descriptors.let_go.Goals as goal
 
 pub loop-node-init : goal.loop-node-init
@@ -9,10 +9,10 @@ pub drop_hold-requires-clause-up : goal.drop_hold-requires-clause-up
 drop_hold-requires-clause-up g c = c.loop-node.invariant.up
 
 pub drop_hold-requires-clause-node : goal.drop_hold-requires-clause-node
-drop_hold-requires-clause-node g c = next-node c.loop-node.invariant c.loop-node-test.true
+drop_hold-requires-clause-node g c = (held-next c.loop-node.invariant c.loop-node-test.true).0
 
 pub drop_hold-requires-clause-some : goal.drop_hold-requires-clause-some
-drop_hold-requires-clause-some g c = next-some c.loop-node.invariant c.loop-node-test.true
+drop_hold-requires-clause-some g c = (held-next c.loop-node.invariant c.loop-node-test.true).1.0
 
 pub returns-in_err-drop_hold : goal.returns-in_err-drop_hold
 returns-in_err-drop_hold g c = lets-fails c.loop-node.invariant c.drop_hold.new.self c.drop_hold.result c.from_residual.result c.drop_hold.ensures _ c.in_err-drop_hold.was c.from_residual.ensures.0

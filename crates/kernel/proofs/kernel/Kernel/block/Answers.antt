@@ -1,6 +1,6 @@
+use Rattle.kernel.proofs.Common.{refl, Waiting}
 use Rattle.kernel.proofs.Steps.{block-keeps}
 use Rattle.kernel.proofs.Wakes.{left-watched}
-use Rattle.kernel.proofs.Common.{refl, Waiting}
 use Rattle.kernel.proofs.kernel.Kernel.block.Goals as goal
 
 pub leave-requires : goal.leave-requires

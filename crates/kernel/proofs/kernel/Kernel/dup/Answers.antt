@@ -1,5 +1,5 @@
 use Rattle.kernel.proofs.Common.{ap, arith, Kernel, kernel_of, duplicated}
-use Rattle.kernel.proofs.Counting.{counts-few}
+use Rattle.kernel.proofs.Named.{counts-few}
 use Rattle.kernel.proofs.Renaming.{dup-keeps}
 use Rattle.kernel.proofs.kernel.Kernel.dup.Goals as goal
 

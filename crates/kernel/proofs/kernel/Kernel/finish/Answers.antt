@@ -1,8 +1,7 @@
-use Rattle.kernel.proofs.Common.{ap, arith, refl, subst, length, ◌<◌, ◌∙◌, ◌++◌, ◌∷◌, [], ◌≡◌, IfOk, all_dropped, gone_nodes, Kernel, kernel_of, Serves}
+use Rattle.kernel.proofs.Common.{ap, arith, refl, length, ◌<◌, ◌∙◌, Kernel, kernel_of}
 use Rattle.std.proofs.lemmas.Int.{to_z-of_z}
 use Rattle.std.specs.Int.{w32}
-use Rattle.kernel.proofs.Dropping.{counted}
-use Rattle.kernel.proofs.Finishes.{finish-closes, finish-held, finish-serves, serves-waking}
+use Rattle.kernel.proofs.Finishes.{finish-closes, finish-held, finish-serves}
 use Rattle.kernel.proofs.Wakes.{finish-watched, kernel-waking}
 use Rattle.kernel.proofs.kernel.Kernel.finish.Goals as goal
 
@@ -19,23 +18,20 @@ pub invariant_of-self : goal.invariant_of-self
 invariant_of-self g c =
     let s = c.is_sound.ensures in
     let k = kernel_of c.self.inside in
-    let all : c.as_slice.result.now ≡ gone_nodes k.files c.in-Some.process.descriptors ++ c.in-Some.process.directory ∷ [] = c.as_slice.ensures.value ∙ c.end-nodes.ensures.nodes in
+    let went = rw (c.as_slice.ensures.value, c.end-nodes.ensures.nodes) at c.let_go.ensures in
     let low : c.args.at < length k.table.places = omega (arith, c.self.invariant.sound.all, c.in-Some.ensures.within) in
     rw (c.halted_after-halted.ensures, c.end-nodes.ensures.table, c.end-nodes.ensures.spaces, c.end-nodes.ensures.files)
     (record {
-      sound = kernel-waking (finish-closes k c.args.self.now c.args.at c.in-Some.process _ c.self.view_is s.sound c.requires c.in-Some.ensures.process s.zero s.aligned c.let_go.new.tree c.let_go.result
-          (subst (λ ns. IfOk c.let_go.result (λ done. c.let_go.new.tree ≡ counted (all_dropped k.tree ns) c.let_go.new.tree.failures)) all c.let_go.ensures.told) c.let_go.ensures.down) _;
+      sound = kernel-waking (finish-closes k c.args.self.now c.args.at c.in-Some.process _ c.self.view_is s.sound c.requires c.in-Some.ensures.process s.zero s.aligned c.let_go.new.tree c.let_go.result went.told went.down) _;
       watched = finish-watched k.table c.self.invariant.watched c.args.at c.in-Some.process _ low _ refl _ refl;
     })
 
 pub returns : goal.returns
 returns g c =
     let s = c.is_sound.ensures in
-    let k = kernel_of c.self.inside in
-    let all : c.as_slice.result.now ≡ gone_nodes k.files c.in-Some.process.descriptors ++ c.in-Some.process.directory ∷ [] = c.as_slice.ensures.value ∙ c.end-nodes.ensures.nodes in
     rw (c.halted_after-halted.ensures, c.end-nodes.ensures.table, c.end-nodes.ensures.spaces, c.end-nodes.ensures.files)
-    (serves-waking _ _ _ (finish-serves k c.args.self.now c.args.at c.in-Some.process _ c.self.view_is s.sound c.requires c.in-Some.ensures.process c.let_go.new.tree c.let_go.result
-    (subst (λ ns. Serves k.tree c.let_go.new.tree c.let_go.result (λ done. c.let_go.new.tree ≡ counted (all_dropped k.tree ns) c.let_go.new.tree.failures)) all c.let_go.ensures) c.args.status (to_z-of_z w32 c.args.status c.ranges.status)))
+    (finish-serves (kernel_of c.self.inside) c.args.self.now c.args.at c.in-Some.process _ c.self.view_is s.sound c.requires c.in-Some.ensures.process c.let_go.new.tree c.let_go.result _
+    (rw (c.as_slice.ensures.value, c.end-nodes.ensures.nodes) at c.let_go.ensures) c.args.status (to_z-of_z w32 c.args.status c.ranges.status))
 
 pub end-nodes-requires : goal.end-nodes-requires
 end-nodes-requires g c = record { within = c.in-Some.ensures.within; piped = c.self.invariant.sound.opened.piped }

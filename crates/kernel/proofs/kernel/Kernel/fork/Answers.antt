@@ -1,5 +1,5 @@
 use Rattle.kernel.proofs.Common.{◌≡◌, ap, true, kernel_of, slice_set, waking, Kernel, Spaces, child_of, seated}
-use Rattle.kernel.proofs.Counting.{counts-few}
+use Rattle.kernel.proofs.Named.{counts-few}
 use Rattle.kernel.proofs.Forking.{fork-by, fork-home, fork-keeps, fork-there, seat-free}
 use Rattle.kernel.proofs.Opening.{hold-few}
 use Rattle.kernel.proofs.Runs.{active-space}
@@ -24,17 +24,14 @@ share_all-requires g c = record { few = counts-few (kernel_of c.self.inside) c.s
 pub hold-requires : goal.hold-requires
 hold-requires g c =
     let may = rw (← c.self.view_is) at c.requires.may in
-    let said = rw (← c.self.view_is) at c.in-Some.ensures.process in
-    record { up = may.up; node = fork-home (runner-of c.self.invariant.sound may.running) may.up said; few = hold-few c.self.invariant.sound may.up c.in-Some.process.directory }
+    record { up = may.up; node = fork-home (runner-of c.self.invariant.sound may.running) may.up (rw (← c.self.view_is) at c.in-Some.ensures.process); few = hold-few c.self.invariant.sound may.up c.in-Some.process.directory }
 
 pub invariant_of-self-2 : goal.invariant_of-self-2
 invariant_of-self-2 g c =
     let may = rw (← c.self.view_is) at c.requires.may in
-    let said = rw (← c.self.view_is) at c.in-Some.ensures.process in
     let table : c.alloc-seat.new.self ≡ seated c.self.inside.table (child_of c.in-Some.process) c.args.seat = rw (c.alloc-seat.ensures.seat, may.next) at c.alloc-seat.ensures.ok in
-    let s = rw (← c.self.view_is) at c.is_sound.ensures.zero in
-    let a = rw (← c.self.view_is) at c.is_sound.ensures.aligned in
-    rw (c.wake.ensures, table, c.if-not-copy.ensures.done.1, c.share_all.ensures, c.hold.ensures) (fork-keeps c.self.invariant may s a said c.if-not-copy.ensures.done.0)
+    rw (c.wake.ensures, table, c.if-not-copy.ensures.done.1, c.share_all.ensures, c.hold.ensures)
+    (fork-keeps c.self.invariant may (rw (← c.self.view_is) at c.is_sound.ensures.zero) (rw (← c.self.view_is) at c.is_sound.ensures.aligned) (rw (← c.self.view_is) at c.in-Some.ensures.process) c.if-not-copy.ensures.done.0)
 
 pub returns-then-not-copy : goal.returns-then-not-copy
 returns-then-not-copy g c = let d = c.if-not-copy.ensures.refused in rw (← c.self.view_is) (d.0, ap (λ (s : Spaces). record (kernel_of c.self.inside) { spaces = s }) d.1)

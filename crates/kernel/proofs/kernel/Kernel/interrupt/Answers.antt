@@ -1,6 +1,6 @@
+use Rattle.kernel.proofs.Common.{refl, sym, ◌%◌, ◌+◌, ◌^◌, Ready}
 use Rattle.kernel.proofs.Steps.{stop-keeps}
 use Rattle.kernel.proofs.Wakes.{left-watched, ticked-keeps}
-use Rattle.kernel.proofs.Common.{refl, sym, ◌%◌, ◌+◌, ◌^◌, Ready}
 use Rattle.kernel.proofs.kernel.Kernel.interrupt.Goals as goal
 
 pub leave-requires : goal.leave-requires

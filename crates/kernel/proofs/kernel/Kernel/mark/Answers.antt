@@ -1,6 +1,6 @@
-use Rattle.kernel.proofs.Marks.{marks-keeps}
-use Rattle.kernel.proofs.Wakes.{kernel-waking, watched-changed}
 use Rattle.kernel.proofs.Common.{marked, waking, kernel_of, with_mark, ap, slice_set, true}
+use Rattle.kernel.proofs.Changes.{marks-keeps}
+use Rattle.kernel.proofs.Wakes.{kernel-waking, watched-changed}
 use Rattle.kernel.proofs.kernel.Kernel.mark.Goals as goal
 
 pub invariant_of-self : goal.invariant_of-self

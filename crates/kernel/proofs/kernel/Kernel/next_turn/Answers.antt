@@ -1,7 +1,8 @@
-use Rattle.kernel.proofs.Common.{false, refl, rules, ap, sym, ◌∙◌, ◌≡◌, Kernel, base, rest_of, seen, kernel_of, awaited_of, turn-from_pick, with_table, ready, turn}
+use Rattle.kernel.proofs.Common.{false, refl, rules, ap, sym, ◌∙◌, ◌≡◌, Kernel, base, rest_of, seen, kernel_of, awaited_of, with_table, ready, turn}
 use Rattle.kernel.proofs.Readies.{ready-same, turn-idle}
 use Rattle.kernel.proofs.Watching.{asleep-unready}
 use Rattle.kernel.proofs.kernel.Kernel.next_turn.Goals as goal
+use Rattle.kernel.proofs.Turns.{turn-from_pick}
 
 pub next_ready-requires-clause-awake : goal.next_ready-requires-clause-awake
 next_ready-requires-clause-awake g c i out =

@@ -1,6 +1,6 @@
 use Rattle.kernel.proofs.Common.{kernel_of}
 use Rattle.kernel.proofs.Runs.{active-space}
-use Rattle.kernel.proofs.Transferring.{fetch-keeps, fetch-told}
+use Rattle.kernel.proofs.Naming.{fetch-keeps, fetch-told}
 use Rattle.kernel.proofs.kernel.Kernel.read_node.Goals as goal
 
 pub read_node-read-requires : goal.read_node-read-requires

@@ -1,8 +1,9 @@
-use Rattle.kernel.proofs.Common.{false, refl, rules, ap, sym, ◌∙◌, ◌≡◌, Kernel, base, rest_of, seen, kernel_of, awaited_of, turn-from_pick, with_table, ready, turn}
+use Rattle.kernel.proofs.Common.{false, refl, rules, ap, sym, ◌∙◌, ◌≡◌, Kernel, base, rest_of, seen, kernel_of, awaited_of, with_table, ready, turn}
 use Rattle.kernel.proofs.Readies.{ready-same, turn-idle}
 use Rattle.kernel.proofs.Wakes.{picked-places, watched-picked}
 use Rattle.kernel.proofs.Watching.{asleep-unready}
 use Rattle.kernel.proofs.kernel.Kernel.turn.Goals as goal
+use Rattle.kernel.proofs.Turns.{turn-from_pick}
 
 pub pick-requires-clause-awake : goal.pick-requires-clause-awake
 pick-requires-clause-awake g c i out =

@@ -1,6 +1,6 @@
 use Rattle.kernel.proofs.Common.{kernel_of}
 use Rattle.kernel.proofs.Runs.{active-space}
-use Rattle.kernel.proofs.Transferring.{store-keeps, store-told}
+use Rattle.kernel.proofs.Naming.{store-keeps, store-told}
 use Rattle.kernel.proofs.kernel.Kernel.write_node.Goals as goal
 
 pub write_node-wrote-requires : goal.write_node-wrote-requires

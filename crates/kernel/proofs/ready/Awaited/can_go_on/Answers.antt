@@ -1,5 +1,5 @@
-use Rattle.kernel.proofs.Readies.{children-seen}
 use Rattle.kernel.proofs.Common.{awaited, seen, ap, is_some, sym, ◌∙◌, Call, can_go_on, no_pages, with_space}
+use Rattle.kernel.proofs.Readies.{children-seen}
 use Rattle.kernel.proofs.ready.Awaited.can_go_on.Goals as goal
 
 pub returns-in-Wait : goal.returns-in-Wait

@@ -1,5 +1,5 @@
-use Rattle.kernel.proofs.Readies.{ready-seen, ready-some}
 use Rattle.kernel.proofs.Common.{awaited, None, rules, sym, ◌∙◌}
+use Rattle.kernel.proofs.Readies.{ready-seen, ready-some}
 use Rattle.kernel.proofs.ready.Awaited.is_ready.Goals as goal
 
 pub returns-in-Some-Some : goal.returns-in-Some-Some
