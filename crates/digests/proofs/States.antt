@@ -1,5 +1,5 @@
 -- The parts of a kernel's state, as they go into its digest.
-use Rattle.digests.proofs.Common.{◌≡◌, ℕ, ◌+◌, ◌<◌, true, List, [], ◌∷◌, ◌++◌, length, take, Option, None, Some, ap, ap₂, arith, get_or, length-append, refl, subst, sym, ◌∙◌, take_all, bare_mixed, console_mixed}
+use Rattle.digests.proofs.Common.{◌≡◌, ℕ, ◌+◌, ◌<◌, true, List, [], ◌∷◌, ◌++◌, length, take, Option, None, Some, ap, ap₂, arith, get_or, length-append, refl, sym, ◌∙◌, take_all, bare_mixed, console_mixed}
 use Rattle.digests.proofs.Common.{each, front_of, memory_mixed, mix, mixed, page_or_same, place_mixed, status_number, Kernel, loaded, on_hart, state_of, SpaceView, has_space, view_at, slot, process_at}
 use Rattle.std.specs.Prelude.{is_some, option_map, slice_get}
 use Rattle.std.proofs.lemmas.List.Sums.{fold_more}

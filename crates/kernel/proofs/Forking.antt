@@ -17,6 +17,7 @@ use Rattle.kernel.proofs.Turning.{Runner, me_of, runner-of}
 use Rattle.kernel.proofs.Wakes.{kernel-waking, watched-roused}
 use Rattle.kernel.proofs.Working.{folder-there}
 use Rattle.kernel.proofs.Joined.{free_slot-joined, seated-with_table}
+use Rattle.names.proofs.Placed.{none-is}
 use Rattle.proc.specs.Places as table
 use Rattle.unixmodel.specs.OpenFiles.{OpenFile}
 use Rattle.unixmodel.specs.ProcessCalls as rows
@@ -26,10 +27,6 @@ use Rattle.unixmodel.specs.ProcessCalls as rows
 -- a place that is taken stays so
 free-put : (os : List (Option Process)) (i : ℕ) (p q : Process) → slot os i ≡ Some p → free_slot (put os i q) ≡ free_slot os
 free-put os i p q at = rw (prefix_len-set (λ o. not (is_none o)) os i (Some q) None (ap (λ o. not (is_none o)) (sym at)), length-set os i (Some q)) refl
-
-none-is : {X : Type 0} (o : Option X) → is_none o ≡ true → o ≡ None
-none-is None h = refl
-none-is (Some x) h = absurd (cc)
 
 -- the seat of a new process
 pub record IsSeat (t : Places) (seat : Seat) : Type 0 where

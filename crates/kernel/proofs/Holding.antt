@@ -10,7 +10,7 @@ use Rattle.files.specs.declared.file.Target.TheVariants as target
 use Rattle.kernel.specs.Holding.{FitsFiles}
 use Rattle.names.proofs.Reaped.{is_held, kept-same}
 use Rattle.tree.proofs.Letting.{let-go-clear, let-go-held, let-go-linked, let-go-reaps}
-use Rattle.tree.proofs.Storing.{blocks_of-set}
+use Rattle.tree.proofs.Storing.{blocks_of-set, some-node}
 use Rattle.unixmodel.specs.OpenFiles as unix_files
 use Rattle.unixmodel.specs.Process as unix
 
@@ -311,10 +311,6 @@ AreFew holds ns = (m : ℕ) → named_in ns m ≤ holders holds m
 
 first-few : (holds : List ℕ) (n : ℕ) (ns : List ℕ) → AreFew holds (n ∷ ns) → 1 ≤ holders holds n
 first-few holds n ns few = omega (arith, few n, sum_by-cons (one_at n) n ns, one_at-self n)
-
-some-node : (o : Option Node) → o ≢ None → (node : Node) × (o ≡ Some node)
-some-node None there = absurd (there refl)
-some-node (Some node) there = (node, refl)
 
 pub are-held : (t : FileTree) (ns : List ℕ) → AreThere t.holds t.files → AreFew t.holds ns → AreHeld t ns
 are-held t [] there few = tt

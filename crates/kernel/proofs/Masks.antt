@@ -2,20 +2,6 @@
 use Rattle.kernel.proofs.Common.{found-any, list_any, or_from, Bool, List, Option, [], add-one, ap, arith, false, is_some, length, refl, sym, take, true, suc, zero, ℕ, ◌+◌, ◌<◌, ◌||◌, ◌∙◌, ◌∷◌, ◌≡◌, slice_set, false_from_ne_true, or_left}
 use Rattle.kernel.proofs.Common.{or_parts, true≢false, roused, Process, is_in, place_where, slot, holds}
 
--- ---- a place is woken
-
-pub set-in : (bs : List Bool) (i : ℕ) → is_in (slice_set bs i true) i ≡ true
-set-in [] i = refl
-set-in (b ∷ bs) zero = refl
-set-in (b ∷ bs) (suc i) = set-in bs i
-
-pub set-other : (bs : List Bool) (i j : ℕ) → is_in (slice_set bs i true) j ≡ false → is_in bs j ≡ false
-set-other [] i j out = out
-set-other (b ∷ bs) zero zero out = absurd (cc)
-set-other (b ∷ bs) zero (suc j) out = out
-set-other (b ∷ bs) (suc i) zero out = out
-set-other (b ∷ bs) (suc i) (suc j) out = set-other bs i j out
-
 -- ---- those who pass are woken
 
 module _ (test : Process → Bool) where

@@ -168,7 +168,6 @@ module _ (pipes : List (Option (List ℕ))) (t : List (Option Counted)) (n : ℕ
   ]
 
 pub left-close_pipe : (old pipes : List (Option (List ℕ))) (opens : List (Option unix.OpenFile)) (o : Option Target) → IsLeftOf old pipes → IsLeftOf old (after_close pipes opens o)
-left-close_pipe old pipes opens None left = left
 left-close_pipe old pipes opens (Some (target.Pipe q e)) left = elim (has_pipe opens q) as (λ b. IsLeftOf old (cond b pipes (clear pipes q))) [ true ↦ left | false ↦ pipes-clear old pipes q left ]
 left-close_pipe old pipes opens _ left = left
 

@@ -2,9 +2,9 @@
 use Rattle.kernel.proofs.Common.{Bool, List, None, Option, Some, ap, false, length, option_map, refl, subst, sym, true, ℕ, ℤ, ◌<◌, ◌∙◌, ◌≡◌, IfNone, IfSome, slice_set, true≢false, Kernel, left_as, on_hart, rest_of, state_of, state_with}
 use Rattle.kernel.proofs.Common.{waking, IsKernel, is_at, Keeps, IsAsleep, IsWatched, Watches, awaited_of, roused, waits_on, woken_by, Bytes, Children, Ticks, seen, Process, is_in, Places, changed_at, exited, is_zombie_child_of, with_mode}
 use Rattle.kernel.proofs.Common.{Console, Mode, put, slot, is_zombie_mode, State, holds, ready, Answers, Bor, FnReturns, Shared}
-use Rattle.kernel.proofs.Masks.{set-in, set-other}
 use Rattle.kernel.proofs.Runs.{eq-self, slot-put}
 use Rattle.kernel.proofs.Watching.{no-zombie, unready-asleep, watched-bytes, watched-ended, watched-put, watched-running, watched-ticks, child-map}
+use Rattle.proc.proofs.Waiting.{set-in, set-out}
 use Rattle.proc.specs.Places as table
 
 -- ---- the mask says nothing of the rest
@@ -45,7 +45,7 @@ left-watched {k} is watched i mode active lives = watched-running watched i (λ 
 
 module _ {a : State} {os : List (Option Process)} {awake : List Bool} (watched : IsWatched a os awake) where
   pub watched-roused : (i : ℕ) (o : Option Process) → ((pid : ℕ) → holds (is_zombie_child_of pid) o ≡ true → holds (is_zombie_child_of pid) (slot os i) ≡ true) → IsWatched a (slice_set os i o) (slice_set awake i true)
-  watched-roused i o zombies = watched-put (record { asleep = λ j out. watched.asleep j (set-other awake i j out) }) i o zombies (λ out. absurd (true≢false (sym (set-in awake i) ∙ out)))
+  watched-roused i o zombies = watched-put (record { asleep = λ j out. watched.asleep j (set-out awake i j out) }) i o zombies (λ out. absurd (true≢false (sym (set-in awake i) ∙ out)))
 
   pub watched-changed : (i : ℕ) (f : Process → Process) → ((p : Process) (pid : ℕ) → is_zombie_child_of pid (f p) ≡ true → is_zombie_child_of pid p ≡ true) → IsWatched a (slice_set os i (option_map f (slot os i))) (slice_set awake i true)
   watched-changed i f zombies = watched-roused i (option_map f (slot os i)) (λ pid. child-map f zombies pid (slot os i))

@@ -168,12 +168,9 @@ module _ {a : State} {os : List (Option Process)} {awake : List Bool} (watched :
 -- ---- an open file goes on in its file
 
 test-moved : (test : Target → Bool) (offset : ℕ) → ((t : file.Target) → test (target_of (moved_to offset t)) ≡ test (target_of t)) → (files : List (Option Counted)) (i n : ℕ) → turn.holds_of test (slot (opens_of (moved files i offset)) n) ≡ turn.holds_of test (slot (opens_of files) n)
-test-moved test offset same [] i n = refl
-test-moved test offset same (None ∷ files) zero zero = refl
 test-moved test offset same (Some c ∷ files) zero zero = same c.file.target
-test-moved test offset same (o ∷ files) zero (suc n) = refl
-test-moved test offset same (o ∷ files) (suc i) zero = refl
 test-moved test offset same (o ∷ files) (suc i) (suc n) = test-moved test offset same files i n
+test-moved test offset same _ _ _ = refl
 
 end-moved : (q : ℕ) (end : End) (offset : ℕ) (t : file.Target) → is_end q end (target_of (moved_to offset t)) ≡ is_end q end (target_of t)
 end-moved q end offset (target.File number old) = refl
