@@ -1,8 +1,8 @@
 -- Whoever may be ready is awake, whatever changes.
-use Rattle.kernel.proofs.Common.{Bool, List, None, Option, Some, [], all-set, ap, false, is_some, length, map, not, option_map, refl, sym, true, ℕ, ℤ, ◌||◌, ◌∙◌, ◌≡◌, ◌==◌, no_pages, with_space, unwrap_or, nat_lt, ◌∷◌, zero, suc}
-use Rattle.kernel.proofs.Common.{option_and_then, slice_set, list_any, and_parts, not-false, not_from_true, or_from, or_parts, true≢false, target_of, Counted, moved, moved_to, opens_of, awaited_in, has_slept, seen, IsAsleep, IsAsleepAs}
-use Rattle.kernel.proofs.Common.{IsWatched, roused, waits_as, waits_in, waits_on, Bytes, Children, Ticks, Process, all_in, is_in, is_zombie_child_of, orphaned, place_where, zombie_of, Call, Read, Sleep, Wait, Write, Mode, Running, Waiting}
-use Rattle.kernel.proofs.Common.{Zombie, Pending, put, slot, taken, low, Console, End, is_end, pipe_room, OnNode, OnPipe, pending_arg, is_running_mode, is_zombie_mode, State, has_end, holds, ReadEnd, WriteEnd}
+use Rattle.kernel.proofs.Common.{Bool, List, None, Option, Some, [], all-set, ap, false, is_some, map, not, option_map, refl, sym, true, ℕ, ℤ, ◌||◌, ◌∙◌, ◌≡◌, ◌==◌, no_pages, with_space, ◌∷◌, zero, suc, option_and_then, slice_set, list_any}
+use Rattle.kernel.proofs.Common.{and_parts, not-false, not_from_true, or_from, or_parts, true≢false, target_of, Counted, moved, moved_to, opens_of, awaited_in, has_slept, seen, IsAsleep, IsAsleepAs, IsWatched, roused, waits_as, waits_in}
+use Rattle.kernel.proofs.Common.{waits_on, Bytes, Children, Ticks, Process, all_in, is_in, is_zombie_child_of, orphaned, place_where, zombie_of, Call, Read, Sleep, Wait, Write, Mode, Running, Waiting, Zombie, Pending, put, slot, taken, low}
+use Rattle.kernel.proofs.Common.{Console, End, is_end, OnNode, OnPipe, pending_arg, is_running_mode, is_zombie_mode, State, has_end, holds, ReadEnd, WriteEnd}
 use Rattle.files.specs.declared.file.Target as file
 use Rattle.files.specs.declared.file.Target.TheVariants as target
 use Rattle.kernel.specs.declared.channels.Channel.{Channel}
@@ -58,32 +58,39 @@ watched-all n = record { asleep = λ j out. absurd (true≢false (sym (all-in n 
 
 -- ---- what a pending call looks at
 
--- two states with the same open files, pipes and console
-module _ (s r : State) (opens : s.opens ≡ r.opens) (pipes : s.pipes ≡ r.pipes) (console : s.console ≡ r.console) where
-  ends-as : (q : ℕ) → (has_end s q WriteEnd ≡ has_end r q WriteEnd) × (has_end s q ReadEnd ≡ has_end r q ReadEnd)
-  ends-as q = (
-    ap (λ xs. list_any (λ (f : OpenFile). is_end q WriteEnd f.target) (taken xs)) opens,
-    ap (λ xs. list_any (λ (f : OpenFile). is_end q ReadEnd f.target) (taken xs)) opens,
-  )
+-- a test of what an open file is on, whatever its offset
+abbrev IsOfKind : (Target → Bool) → Type 0
+IsOfKind test = (offset : ℕ) (t : file.Target) → test (target_of (moved_to offset t)) ≡ test (target_of t)
 
+-- two states with the same pipes, ends and console, whose open files answer alike to such tests
+module _ (s r : State) (pipes : s.pipes ≡ r.pipes) (console : s.console ≡ r.console) (ends : (q : ℕ) (end : End) → has_end s q end ≡ has_end r q end)
+    (files : (test : Target → Bool) → IsOfKind test → (o : Option ℕ) → turn.holds_of test (option_and_then (slot s.opens) o) ≡ turn.holds_of test (option_and_then (slot r.opens) o)) where
   reads-as : (x : Target) → turn.can_read_from s x ≡ turn.can_read_from r x
   reads-as (OnNode n offset) = ap (λ c. not (turn.is_empty c.committed)) console
-  reads-as (OnPipe q end) = rw (pipes, (ends-as q).0) refl
+  reads-as (OnPipe q end) = rw (pipes, ends q WriteEnd) refl
 
   writes-as : (x : Target) → turn.can_write_to s x ≡ turn.can_write_to r x
   writes-as (OnNode n offset) = refl
-  writes-as (OnPipe q end) = rw (pipes, (ends-as q).1) refl
+  writes-as (OnPipe q end) = rw (pipes, ends q ReadEnd) refl
+
+  read-kind : IsOfKind (turn.can_read_from r)
+  read-kind offset (target.File number old) = refl
+  read-kind offset _ = refl
+
+  write-kind : IsOfKind (turn.can_write_to r)
+  write-kind offset (target.File number old) = refl
+  write-kind offset _ = refl
 
   -- of a process with the same descriptors
   module _ (p q : Process) (w : Pending) (descriptors : p.descriptors ≡ q.descriptors) where
-    file-as : turn.pending_file s (with_space no_pages p) w ≡ turn.pending_file r (with_space no_pages q) w
-    file-as = ap (λ xs. option_and_then (slot xs) (slot p.descriptors (low (pending_arg w 0)))) opens ∙ ap (λ ds. option_and_then (slot r.opens) (slot ds (low (pending_arg w 0)))) descriptors
+    file-as : (test : Target → Bool) → IsOfKind test → turn.holds_of test (turn.pending_file s (with_space no_pages p) w) ≡ turn.holds_of test (turn.pending_file r (with_space no_pages q) w)
+    file-as test kind = files test kind (slot p.descriptors (low (pending_arg w 0))) ∙ ap (λ ds. turn.holds_of test (option_and_then (slot r.opens) (slot ds (low (pending_arg w 0))))) descriptors
 
     pub read-as : turn.can_go_on s (with_space no_pages p) w Read ≡ turn.can_go_on r (with_space no_pages q) w Read
-    read-as = held-same (turn.can_read_from s) (turn.can_read_from r) reads-as (turn.pending_file s (with_space no_pages p) w) ∙ ap (turn.holds_of (turn.can_read_from r)) file-as
+    read-as = held-same (turn.can_read_from s) (turn.can_read_from r) reads-as (turn.pending_file s (with_space no_pages p) w) ∙ file-as (turn.can_read_from r) read-kind
 
     pub write-as : turn.can_go_on s (with_space no_pages p) w Write ≡ turn.can_go_on r (with_space no_pages q) w Write
-    write-as = held-same (turn.can_write_to s) (turn.can_write_to r) writes-as (turn.pending_file s (with_space no_pages p) w) ∙ ap (turn.holds_of (turn.can_write_to r)) file-as
+    write-as = held-same (turn.can_write_to s) (turn.can_write_to r) writes-as (turn.pending_file s (with_space no_pages p) w) ∙ file-as (turn.can_write_to r) write-kind
 
 -- ---- who is asleep stays so
 
@@ -113,8 +120,8 @@ put-still : (a : State) (os os' : List (Option Process)) → ((pid : ℕ) → is
 put-still a os os' fewer = still a a os os' goes where
   goes : (p : Process) (w : Pending) (number : Call) → StillOut a a os os' p p w number
   goes p w Wait none = children-seen a os' p w ∙ fewer p.pid (sym (children-seen a os p w) ∙ none)
-  goes p w Read none = read-as (seen a os') (seen a os) refl refl refl p p w refl ∙ none
-  goes p w Write none = write-as (seen a os') (seen a os) refl refl refl p p w refl ∙ none
+  goes p w Read none = read-as (seen a os') (seen a os) refl refl (λ q end. refl) (λ test kind o. refl) p p w refl ∙ none
+  goes p w Write none = write-as (seen a os') (seen a os) refl refl (λ q end. refl) (λ test kind o. refl) p p w refl ∙ none
   goes p w _ none = none
 
 -- a changed process is a zombie only if it was
@@ -160,8 +167,8 @@ module _ {a : State} {os : List (Option Process)} {awake : List Bool} (watched :
   pub watched-ticks : (now : ℕ) → IsWatched (record a { ticks = now }) os (roused (waits_on (Ticks now)) os awake)
   watched-ticks now = watched-but (Ticks now) (record a { ticks = now }) goes where
     goes : (p : Process) (w : Pending) (number : Call) → waits_in (Ticks now) w number ≡ false → StillOut a (record a { ticks = now }) os os p p w number
-    goes p w Read out none = read-as (seen (record a { ticks = now }) os) (seen a os) refl refl refl p p w refl ∙ none
-    goes p w Write out none = write-as (seen (record a { ticks = now }) os) (seen a os) refl refl refl p p w refl ∙ none
+    goes p w Read out none = read-as (seen (record a { ticks = now }) os) (seen a os) refl refl (λ q end. refl) (λ test kind o. refl) p p w refl ∙ none
+    goes p w Write out none = write-as (seen (record a { ticks = now }) os) (seen a os) refl refl (λ q end. refl) (λ test kind o. refl) p p w refl ∙ none
     goes p w Sleep out none = out
     goes p w _ out none = none
 
@@ -191,35 +198,16 @@ module _ (files : List (Option Counted)) (pipes : List (Option (List ℕ))) (con
   abbrev after : State
   after = awaited_in (opens_of (moved files i offset)) pipes console ticks
 
-  reads-moved : (x : Target) → turn.can_read_from (seen after os) x ≡ turn.can_read_from (seen before os) x
-  reads-moved (OnNode n old) = refl
-  reads-moved (OnPipe q end) = ap (λ b. not (turn.is_empty (unwrap_or (slot pipes q) [])) || not b) (any-moved (is_end q WriteEnd) offset (end-moved q WriteEnd offset) files i)
+  files-moved : (test : Target → Bool) → IsOfKind test → (o : Option ℕ) → turn.holds_of test (option_and_then (slot (opens_of (moved files i offset))) o) ≡ turn.holds_of test (option_and_then (slot (opens_of files)) o)
+  files-moved test kind None = refl
+  files-moved test kind (Some n) = test-moved test offset (kind offset) files i n
 
-  writes-moved : (x : Target) → turn.can_write_to (seen after os) x ≡ turn.can_write_to (seen before os) x
-  writes-moved (OnNode n old) = refl
-  writes-moved (OnPipe q end) = ap (λ b. nat_lt (length (unwrap_or (slot pipes q) [])) pipe_room || not b) (any-moved (is_end q ReadEnd) offset (end-moved q ReadEnd offset) files i)
-
-  read-kind : (t : file.Target) → turn.can_read_from (seen before os) (target_of (moved_to offset t)) ≡ turn.can_read_from (seen before os) (target_of t)
-  read-kind (target.File number old) = refl
-  read-kind _ = refl
-
-  write-kind : (t : file.Target) → turn.can_write_to (seen before os) (target_of (moved_to offset t)) ≡ turn.can_write_to (seen before os) (target_of t)
-  write-kind (target.File number old) = refl
-  write-kind _ = refl
-
-  file-moved : (test : Target → Bool) → ((t : file.Target) → test (target_of (moved_to offset t)) ≡ test (target_of t)) → (o : Option ℕ) → turn.holds_of test (option_and_then (slot (opens_of (moved files i offset))) o) ≡ turn.holds_of test (option_and_then (slot (opens_of files)) o)
-  file-moved test same None = refl
-  file-moved test same (Some n) = test-moved test offset same files i n
+  ends-moved : (q : ℕ) (end : End) → has_end (seen after os) q end ≡ has_end (seen before os) q end
+  ends-moved q end = any-moved (is_end q end) offset (end-moved q end offset) files i
 
   goes-moved : (p : Process) (w : Pending) (number : Call) → StillOut before after os os p p w number
-  goes-moved p w Read none =
-      held-same (turn.can_read_from (seen after os)) (turn.can_read_from (seen before os)) reads-moved (turn.pending_file (seen after os) (with_space no_pages p) w)
-      ∙ file-moved (turn.can_read_from (seen before os)) read-kind (slot p.descriptors (low (pending_arg w 0)))
-      ∙ none
-  goes-moved p w Write none =
-      held-same (turn.can_write_to (seen after os)) (turn.can_write_to (seen before os)) writes-moved (turn.pending_file (seen after os) (with_space no_pages p) w)
-      ∙ file-moved (turn.can_write_to (seen before os)) write-kind (slot p.descriptors (low (pending_arg w 0)))
-      ∙ none
+  goes-moved p w Read none = read-as (seen after os) (seen before os) refl refl ends-moved files-moved p p w refl ∙ none
+  goes-moved p w Write none = write-as (seen after os) (seen before os) refl refl ends-moved files-moved p p w refl ∙ none
   goes-moved p w _ none = none
 
   pub watched-moved : {awake : List Bool} → IsWatched before os awake → IsWatched after os awake
@@ -262,8 +250,8 @@ ended-still a os os' pid (Some p) out is =
   where
     goes : (parent : ℕ) (w : Pending) (number : Call) → waits_in Children w number ≡ false → StillOut a a os os' p (record p { parent = parent }) w number
     goes parent w Wait out none = absurd (true≢false out)
-    goes parent w Read out none = read-as (seen a os') (seen a os) refl refl refl (record p { parent = parent }) p w refl ∙ none
-    goes parent w Write out none = write-as (seen a os') (seen a os) refl refl refl (record p { parent = parent }) p w refl ∙ none
+    goes parent w Read out none = read-as (seen a os') (seen a os) refl refl (λ q end. refl) (λ test kind o. refl) (record p { parent = parent }) p w refl ∙ none
+    goes parent w Write out none = write-as (seen a os') (seen a os) refl refl (λ q end. refl) (λ test kind o. refl) (record p { parent = parent }) p w refl ∙ none
     goes parent w _ out none = none
 
 -- q, which is put in place i, has ended
