@@ -3,7 +3,7 @@ pub use Rattle.std.proofs.Common.{◌*◌, ◌+◌, ◌++◌, ◌-◌, ◌<◌, 
 pub use Rattle.std.proofs.Common.{None, not, Option, refl, set, Some, subst, suc, sym, take, true, zero, ℕ, ◌∙◌, ◌∷◌, ◌≡◌, ◌≢◌, ◌≤◌, ◌⊎◌}
 pub use Rattle.std.proofs.lemmas.Bool.{and_from, and_parts, cases_Bool, cases_eq, cases_lt, cond-false, cond-true, cond_both, eq-eqb, eqb-true}
 pub use Rattle.std.proofs.lemmas.Bool.{false_from_ne_true, false≢true, le-leb, lt-ltb, ltb-true, ne_eqb, not-true, or_from, or_left, or_parts, or_right}
-pub use Rattle.std.proofs.lemmas.List.{ext_get_or, get_or-drop, get_or-set_other, get_or-set_same, get_or_past, length-append, length-drop, length-set, length-take, set-get_or, set-set, set_comm}
+pub use Rattle.std.proofs.lemmas.List.{ext_get_or, get_or-drop, get_or-set_other, get_or-set_same, get_or_past, length-append, length-drop, length-set, length-take, nil_from_length, set-get_or, set-set, set_comm}
 pub use Rattle.std.proofs.lemmas.List.Elements.{All-cons, All-filter, All-head, All-map, All-nil, All-tail, filter_passes}
 pub use Rattle.std.proofs.lemmas.List.Quantifiers.{position-Some}
 pub use Rattle.std.proofs.lemmas.List.Sums.{fails_before_first, get_or-le-sum_by, sum_by-append, sum_by-cons, sum_by-le, sum_by-set}
@@ -20,6 +20,6 @@ unfoldable pub use Rattle.unixmodel.specs.Image.{all_entries, names_of}
 pub use Rattle.unixmodel.specs.NameCalls.{emptied, fewer_links, has_room_for_link, is_free_name, linked_node, Made, made_below, may_remove, more_links, new_directory, removed_node, without_name}
 unfoldable pub use Rattle.unixmodel.specs.NameCalls.{linked, made_at, made_directory, make_at, unlinked}
 pub use Rattle.unixmodel.specs.Reap.{kept}
-pub use Rattle.names.specs.Changes.{Changed, IsIdle, Loses, shape, Stays}
+pub use Rattle.names.specs.Changes.{Changed, IsIdle, Loses, shape, Stays, WasIdle}
 pub use Rattle.names.specs.Rules.{entries, HasRoot, IsAbove, IsLive, IsRanked, KeepsLive, KeepsTree, names_for}
 unfoldable pub use Rattle.names.specs.Rules.{folders, names_by}

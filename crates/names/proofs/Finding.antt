@@ -25,6 +25,16 @@ slot-set P xs n o l m here other = elim (cases_eq m n) [
 pub change-is : (files : Files) (n : ℕ) (change : Node → Node) (node : Node) → slot files n ≡ Some node → change_node files n change ≡ put files n (change node)
 change-is files n change node h = ap (λ o. set files n (option_map change o)) h
 
+-- what a map of an option gives
+pub mapped : {A B : Type 0} (f : A → B) (o : Option A) (y : B) → option_map f o ≡ Some y → (x : A) × (o ≡ Some x) × (f x ≡ y)
+mapped f None y h = absurd (none-some y h)
+mapped f (Some x) y h = (x, refl, same_Some (f x) y h)
+
+-- the places of a directory that has links
+pub living : (o : Option Node) (places : List (Option Entry)) → live_places o ≡ Some places → (links : ℕ) × (o ≡ Some (Directory (suc links) places))
+living (Some (Directory (suc links) ps)) places h = (links, ap (λ qs. Some (Directory (suc links) qs)) (same_Some ps places h))
+living _ places h = absurd (none-some places h)
+
 -- the number for a new node is free
 pub record IsFree (files : Files) (n : ℕ) : Type 0 where
   pub free : slot files n ≡ None
@@ -32,13 +42,11 @@ pub record IsFree (files : Files) (n : ℕ) : Type 0 where
 
 pub free-number : (files : Files) (n : ℕ) → free_number files ≡ Some n → IsFree files n
 unfolding free_number
-free-number files n h = go (free_slot (drop 1 files)) refl h where
-  go : (o : Option ℕ) → free_slot (drop 1 files) ≡ o → option_map suc o ≡ Some n → IsFree files n
-  go None f h = absurd (none-some n h)
-  go (Some k) f h =
-      let is = position-Some is_none (drop 1 files) k None f in
-      let e : 1 + k ≡ n = omega (arith, same_Some (suc k) n h) in
-      record { free = ap (slot files) (sym e) ∙ sym (get_or-drop 1 files k None) ∙ none-is (slot (drop 1 files) k) is.1; within = omega (arith, e, is.0, length-drop 1 files) }
+free-number files n h =
+    let k = mapped suc (free_slot (drop 1 files)) n h in
+    let is = position-Some is_none (drop 1 files) k.0 None k.1 in
+    let e : 1 + k.0 ≡ n = omega (arith, k.2) in
+    record { free = ap (slot files) (sym e) ∙ sym (get_or-drop 1 files k.0 None) ∙ none-is (slot (drop 1 files) k.0) is.1; within = omega (arith, e, is.0, length-drop 1 files) }
 
 -- ---- a name more
 
@@ -63,39 +71,27 @@ pub record IsEntered (files : Files) (at : Spot) (n : ℕ) (more : Files) : Type
 
 pub enter-parts : (files : Files) (at : Spot) (n : ℕ) (more : Files) → enter files at n ≡ Some more → IsEntered files at n more
 unfolding enter
-enter-parts files at n more h = go (slot files at.directory) refl h where
-  change : List (Option Entry) → Files
-  change places = change_node files at.directory (λ node. with_places node places)
-
-  found : (links : ℕ) (places : List (Option Entry)) → slot files at.directory ≡ Some (Directory (suc links) places) → (w : Option (List (Option Entry))) → with_entry places (entry_at at n) ≡ w
-      → option_map change w ≡ Some more → IsEntered files at n more
-  found links places f None g h = absurd (none-some more h)
-  found links places f (Some qs) g h = record {
-    links = links;
-    places = places;
-    next = qs;
-    here = f;
-    placed = g;
-    is = sym (same_Some (change qs) more h) ∙ change-is files at.directory (λ node. with_places node qs) (Directory (suc links) places) f;
-  }
-
-  go : (o : Option Node) → slot files at.directory ≡ o → option_map change (option_and_then (λ places. with_entry places (entry_at at n)) (live_places o)) ≡ Some more → IsEntered files at n more
-  go (Some (Directory (suc links) places)) f h = found links places f (with_entry places (entry_at at n)) refl h
-  go _ f h = absurd (none-some more h)
+enter-parts files at n more h =
+    let new = mapped (λ places. change_node files at.directory (λ node. with_places node places)) (option_and_then (λ places. with_entry places (entry_at at n)) (live_places (slot files at.directory))) more h in
+    option_and_then_some (λ places. with_entry places (entry_at at n)) (live_places (slot files at.directory)) new.0 new.1 (λ places some placed.
+    let is = living (slot files at.directory) places some in
+    record {
+      links = is.0;
+      places = places;
+      next = new.0;
+      here = is.1;
+      placed = placed;
+      is = sym new.2 ∙ change-is files at.directory (λ node. with_places node new.0) (Directory (suc is.0) places) is.1;
+    })
 
 -- the places fit into a file
 pub entered-size : (places : List (Option Entry)) (e : Entry) (qs : List (Option Entry)) → with_entry places e ≡ Some qs → 16 * length places ≤ longest → 16 * length qs ≤ longest
 unfolding with_entry
 entered-size places e qs h size = go (free_slot places) h where
-  past : (b : Bool) → nat_lt (length places) most_places ≡ b → cond b (Some (places ++ Some e ∷ [])) None ≡ Some qs → 16 * length qs ≤ longest
-  past false f h = absurd (none-some qs h)
-  past true f h =
-      let short = ltb-true (length places) most_places f in
-      let long : length qs ≡ length places + 1 = ap length (sym (same_Some (places ++ Some e ∷ []) qs h)) ∙ length-append places (Some e ∷ []) in
-      omega arith
-
   go : (o : Option ℕ) → with_entry_at places e o ≡ Some qs → 16 * length qs ≤ longest
-  go None h = past _ refl h
+  go None h =
+      let is = cond_some (nat_lt (length places) most_places) (places ++ Some e ∷ []) qs h in
+      omega (arith, ltb-true (length places) most_places is.0, ap length is.1, length-append places (Some e ∷ []))
   go (Some k) h = subst (λ c. 16 * c ≤ longest) (sym (ap length (sym (same_Some (put places k e) qs h)) ∙ length-set places k (Some e))) size
 
 pub record IsMade (files : Files) (at : Spot) (node : ℕ → Node) (made : Made) : Type 0 where
@@ -105,15 +101,10 @@ pub record IsMade (files : Files) (at : Spot) (node : ℕ → Node) (made : Made
 pub make-parts : (files : Files) (at : Spot) (node : ℕ → Node) (made : Made) → make_at files at node ≡ Some made → IsMade files at node made
 unfolding make_at
 make-parts files at node made h =
-    option_and_then_some (λ n. option_map (with_number n) (enter (put files n (node n)) at n)) (free_number files) made h (λ n f g. found n f (enter (put files n (node n)) at n) refl g)
-  where
-    with_number : ℕ → Files → Made
-    with_number n new = record { files = new; number = n }
-
-    found : (n : ℕ) → free_number files ≡ Some n → (o : Option Files) → enter (put files n (node n)) at n ≡ o → option_map (with_number n) o ≡ Some made → IsMade files at node made
-    found n f None g h = absurd (none-some made h)
-    found n f (Some new) g h =
-        subst (IsMade files at node) (same_Some (with_number n new) made h) (record { free = free-number files n f; entered = g })
+    let numbered : ℕ → Files → Made = λ n new. record { files = new; number = n } in
+    option_and_then_some (λ n. option_map (numbered n) (enter (put files n (node n)) at n)) (free_number files) made h (λ n free rest.
+    let new = mapped (numbered n) (enter (put files n (node n)) at n) made rest in
+    subst (IsMade files at node) new.2 (record { free = free-number files n free; entered = new.1 }))
 
 -- ---- no name
 
@@ -130,8 +121,8 @@ unfolding weight
 weightless name None h = omega arith
 weightless name (Some e) h = omega (arith, counted-none h)
 
-no-place : (name : List ℕ) (places : List (Option Entry)) (a b : Entry) → HasTwo places a b → position (has_name name) places ≡ None → count_by (λ (x : Entry). bytes_eq x.name name) (entries places) ≡ 0
-no-place name places a b two h =
+no-place : (name : List ℕ) {places : List (Option Entry)} {a b : Entry} → HasTwo places a b → position (has_name name) places ≡ None → count_by (λ (x : Entry). bytes_eq x.name name) (entries places) ≡ 0
+no-place name {places} {a} {b} two h =
     subst (λ ps. position (has_name name) ps ≡ None → count_by (λ (x : Entry). bytes_eq x.name name) (entries ps) ≡ 0) (sym two.is)
     (λ none.
     let f = weight (λ (x : Entry). bytes_eq x.name name) in
@@ -158,25 +149,16 @@ module _ (files : Files) (d links : ℕ) (places : List (Option Entry)) (name : 
         absurd (none-some e.0.number (sym absent ∙ lookup-is ∙ ap (λ o. entry_number (option_and_then (slot places) o)) f ∙ ap entry_number e.1))
 
   pub absent-none : (live : IsLive files d links places) → lookup files d name ≡ None → count_by (λ (x : Entry). bytes_eq x.name name) (entries places) ≡ 0
-  absent-none live absent =
-      let own : Entry = record { name = dot; number = d } in
-      let parent : Entry = record { name = dot_dot; number = live.up } in
-      no-place name places own parent (two-places places own parent live.own live.parent) (nowhere absent)
+  absent-none live absent = no-place name (two-places live.own live.parent) (nowhere absent)
 
   -- "." and ".." stand there
-  not-place : (k : ℕ) (e : Entry) → lookup files d name ≡ None → slot places k ≡ Some e → k < length places → bytes_eq e.name name ≡ false
-  not-place k e absent at l = ap (has_name name) (sym at) ∙ position-None (has_name name) places None (nowhere absent) k l
+  not-place : (k : ℕ) (e : Entry) → lookup files d name ≡ None → slot places k ≡ Some e → bytes_eq name e.name ≡ false
+  not-place k e absent at =
+      let away = ap (has_name name) (sym at) ∙ position-None (has_name name) places None (nowhere absent) k (slot-within places k e at) in
+      false_from_ne_true (bytes_eq name e.name) (λ t. false≢true (sym away ∙ (bytes_eq-Decides e.name name).1 (sym ((bytes_eq-Decides name e.name).0 t))))
 
   pub absent-plain : (live : IsLive files d links places) → lookup files d name ≡ None → is_dot_name name ≡ false
-  absent-plain live absent =
-      let own : Entry = record { name = dot; number = d } in
-      let parent : Entry = record { name = dot_dot; number = live.up } in
-      or_from (bytes_eq name dot) (bytes_eq name dot_dot)
-      (other-way dot (not-place 0 own absent live.own (slot-within places 0 own live.own)))
-      (other-way dot_dot (not-place 1 parent absent live.parent (slot-within places 1 parent live.parent)))
-    where
-      other-way : (w : List ℕ) → bytes_eq w name ≡ false → bytes_eq name w ≡ false
-      other-way w h = false_from_ne_true (bytes_eq name w) (λ t. false≢true (sym h ∙ (bytes_eq-Decides w name).1 (sym ((bytes_eq-Decides name w).0 t))))
+  absent-plain live absent = or_from (bytes_eq name dot) (bytes_eq name dot_dot) (not-place 0 _ absent live.own) (not-place 1 _ absent live.parent)
 
 -- ---- a name less
 
@@ -185,30 +167,28 @@ pub record IsNamed (files : Files) (at : Spot) (k n : ℕ) : Type 0 where
   pub links : ℕ
   pub places : List (Option Entry)
   pub here : slot files at.directory ≡ Some (Directory (suc links) places)
-  pub entry : Entry
-  pub placed : slot places k ≡ Some entry
-  pub name : bytes_eq entry.name at.name ≡ true
-  pub number : entry.number ≡ n
+  pub spelled : List ℕ
+  pub placed : slot places k ≡ Some (record { name = spelled; number = n })
+  pub name : bytes_eq spelled at.name ≡ true
   pub within : k < length places
 
 pub named-parts : (files : Files) (at : Spot) (k n : ℕ) → place_of files at.directory at.name ≡ Some k → lookup files at.directory at.name ≡ Some n → IsNamed files at k n
 unfolding place_of
-named-parts files at k n h look = go (slot files at.directory) refl h where
-  go : (o : Option Node) → slot files at.directory ≡ o → option_and_then (position (has_name at.name)) (live_places o) ≡ Some k → IsNamed files at k n
-  go (Some (Directory (suc links) places)) f h =
-      let is = position-Some (has_name at.name) places k None h in
-      let e = some_entry at.name (slot places k) is.1 in
-      record {
-        links = links;
-        places = places;
-        here = f;
-        entry = e.0;
-        placed = e.1;
-        name = e.2;
-        number = same_Some e.0.number n (sym (lookup-is files at.directory links places at.name f ∙ ap (λ o. entry_number (option_and_then (slot places) o)) h ∙ ap entry_number e.1) ∙ look);
-        within = is.0;
-      }
-  go _ f h = absurd (none-some k h)
+named-parts files at k n h look = option_and_then_some (position (has_name at.name)) (live_places (slot files at.directory)) k h (λ places some first.
+    let dir = living (slot files at.directory) places some in
+    let is = position-Some (has_name at.name) places k None first in
+    let e = some_entry at.name (slot places k) is.1 in
+    let number : e.0.number ≡ n =
+    same_Some e.0.number n (sym (lookup-is files at.directory dir.0 places at.name dir.1 ∙ ap (λ o. entry_number (option_and_then (slot places) o)) first ∙ ap entry_number e.1) ∙ look) in
+    record {
+      links = dir.0;
+      places = places;
+      here = dir.1;
+      spelled = e.0.name;
+      placed = subst (λ m. slot places k ≡ Some (record { name = e.0.name; number = m })) number e.1;
+      name = e.2;
+      within = is.0;
+    })
 
 pub record IsUnlinked (files : Files) (at : Spot) (more : Files) : Type 0 where
   pub plain : is_dot_name at.name ≡ false
@@ -223,17 +203,18 @@ pub record IsUnlinked (files : Files) (at : Spot) (more : Files) : Type 0 where
 
 pub unlink-parts : (files : Files) (at : Spot) (more : Files) → unlinked files at ≡ Some more → IsUnlinked files at more
 unfolding unlinked
-unlink-parts files at more h = plain (is_dot_name at.name) refl h where
-  found : (k n : ℕ) → IsNamed files at k n → lookup files at.directory at.name ≡ Some n → is_dot_name at.name ≡ false → (o : Option Node) → slot files n ≡ o → removed_node files at.directory k n o ≡ Some more → IsUnlinked files at more
-  found k n named look p None f h = absurd (none-some more h)
-  found k n named look p (Some node) f h =
-      let is = cond_some (may_remove node) (without_name files at.directory k n node) more h in
-      record { plain = p; place = k; number = n; node = node; named = named; found = look; here = f; may = is.0; is = sym is.1 }
+unlink-parts files at more h =
+    let removed : ℕ → ℕ → Option Files = λ k n. removed_node files at.directory k n (slot files n) in
+    let plain = refused (is_dot_name at.name) (option_and_then (λ k. option_and_then (removed k) (lookup files at.directory at.name)) (place_of files at.directory at.name)) more h in
+    option_and_then_some (λ k. option_and_then (removed k) (lookup files at.directory at.name)) (place_of files at.directory at.name) more plain.1 (λ k place rest.
+    option_and_then_some (removed k) (lookup files at.directory at.name) more rest (λ n look last. found k n (named-parts files at k n place look) look plain.0 (slot files n) refl last))
+  where
+    refused : (b : Bool) (o : Option Files) (more : Files) → cond b None o ≡ Some more → (b ≡ false) × (o ≡ Some more)
+    refused true o more h = absurd (none-some more h)
+    refused false o more h = (refl, h)
 
-  plain : (b : Bool) → is_dot_name at.name ≡ b
-      → cond b None (option_and_then (λ k. option_and_then (λ n. removed_node files at.directory k n (slot files n)) (lookup files at.directory at.name)) (place_of files at.directory at.name)) ≡ Some more
-      → IsUnlinked files at more
-  plain true f h = absurd (none-some more h)
-  plain false p h =
-      option_and_then_some (λ k. option_and_then (λ n. removed_node files at.directory k n (slot files n)) (lookup files at.directory at.name)) (place_of files at.directory at.name) more h (λ k f rest.
-      option_and_then_some (λ n. removed_node files at.directory k n (slot files n)) (lookup files at.directory at.name) more rest (λ n look last. found k n (named-parts files at k n f look) look p (slot files n) refl last))
+    found : (k n : ℕ) → IsNamed files at k n → lookup files at.directory at.name ≡ Some n → is_dot_name at.name ≡ false → (o : Option Node) → slot files n ≡ o → removed_node files at.directory k n o ≡ Some more → IsUnlinked files at more
+    found k n named look p None f h = absurd (none-some more h)
+    found k n named look p (Some node) f h =
+        let is = cond_some (may_remove node) (without_name files at.directory k n node) more h in
+        record { plain = p; place = k; number = n; node = node; named = named; found = look; here = f; may = is.0; is = sym is.1 }

@@ -1,8 +1,8 @@
 -- Changes that leave all names: a node without links goes, or a file has other bytes.
 use Rattle.names.proofs.Common.{◌≡◌, ◌≢◌, ℕ, zero, suc, ◌+◌, ◌≤◌, Bool, true, false, cond, List, [], ◌∷◌, ◌++◌, None, Option, Some, inl, inr, ◌⊎◌, drop, length, set, take, ap, sym, refl, ◌∙◌}
-use Rattle.names.proofs.Common.{arith, subst, count_by, nat_lt, option_map, unwrap_or, ◌==◌, cases_eq, cond-false, cond-true, false≢true, lt-ltb, ltb-true, get_or-set_other, get_or-set_same}
-use Rattle.names.proofs.Common.{length-append, length-drop, length-set, length-take, set-get_or, none-some, same_Some, Entry, Files, Node, change_node, clear, is_directory, links_of, longest}
-use Rattle.names.proofs.Common.{put, slot, Directory, File, KeepsSize, is_directory_at, names_of, kept, Changed, shape, emptied, HasRoot, KeepsLive, KeepsTree, entries, names_by, names_for}
+use Rattle.names.proofs.Common.{arith, subst, count_by, nat_lt, option_map, unwrap_or, ◌==◌, cases_eq, cond-false, cond-true, false≢true, lt-ltb, ltb-true, get_or-set_other, length-append}
+use Rattle.names.proofs.Common.{length-drop, length-set, length-take, set-get_or, none-some, same_Some, Entry, Files, Node, change_node, clear, is_directory, links_of, longest, put, slot}
+use Rattle.names.proofs.Common.{Directory, File, KeepsSize, is_directory_at, names_of, kept, Changed, WasIdle, shape, emptied, HasRoot, KeepsLive, KeepsTree, entries, names_by, names_for}
 use Rattle.unixmodel.specs.Memory.{overwrite}
 use Rattle.names.proofs.Counts.{names-same, names_by-le}
 use Rattle.names.proofs.Finding.{change-is, slot-set, slot-within}
@@ -46,6 +46,12 @@ module _ {files : Files} (keeps : KeepsTree files) (more : Files) (count : lengt
         keeps.ranked d n by (sym (kinds n (omega (arith, by, names_by-le files d n))) ∙ directory);
   }
 
+-- one node that isn't the root is another, which is alike
+keeps-put : {files : Files} → KeepsTree files → (n : ℕ) (node : Node) (q : Option Node) → slot files n ≡ Some node → 1 ≢ n → IsAlike n (Some node) q → KeepsTree (set files n q)
+keeps-put {files} keeps n node q here away alike =
+    keeps-alike keeps (set files n q) (length-set files n q) (λ m. slot-set (λ o. IsAlike m (slot files m) o) files n q (slot-within files n node here) m (λ e. rw (e, here) alike) (λ s. alike-same m (slot files m)))
+    (record { links = keeps.root.links; places = keeps.root.places; here = get_or-set_other files n 1 q None away ∙ keeps.root.here })
+
 -- ---- a node without links
 
 bare-none : (es : List Entry) (m : ℕ) → es ≡ [] → count_by (λ (e : Entry). e.number == m) es ≡ 0
@@ -66,10 +72,7 @@ root-links keeps node h z =
 
 pub releases : {files : Files} → KeepsTree files → (n : ℕ) (node : Node) → slot files n ≡ Some node → links_of node ≡ 0 → KeepsTree (clear files n)
 releases {files} keeps n node here none =
-    let away : 1 ≢ n = λ e. root-links keeps node (ap (slot files) e ∙ here) none in
-    keeps-alike keeps (clear files n) (length-set files n None) (λ m. slot-set (λ q. IsAlike m (slot files m) q) files n None (slot-within files n node here) m
-    (λ e. let at = ap (slot files) e ∙ here in subst (λ o. IsAlike m o None) (sym at) (alike-gone files m node (subst (KeepsLive files m) at (keeps.nodes m)) none)) (λ s. alike-same m (slot files m)))
-    (record { links = keeps.root.links; places = keeps.root.places; here = get_or-set_other files n 1 None None away ∙ keeps.root.here })
+    keeps-put keeps n node None here (λ e. root-links keeps node (ap (slot files) e ∙ here) none) (alike-gone files n node (subst (KeepsLive files n) here (keeps.nodes n)) none)
 
 -- ---- other bytes
 
@@ -85,40 +88,17 @@ module _ {files : Files} (keeps : KeepsTree files) where
   pub changed-same : Changed files files
   changed-same = record { tree = keeps; stays = λ m used. refl; idle = λ m node here none. record { was = node; here = here; none = none } }
 
-  module _ (n links : ℕ) (old new : List ℕ) (here : slot files n ≡ Some (File links old)) (size : length new ≤ longest) where
-    abbrev written : Files
-    written = put files n (File links new)
-
-    at-file : slot written n ≡ Some (File links new)
-    at-file = get_or-set_same files n (Some (File links new)) None (slot-within files n (File links old) here)
-
-    beside : (m : ℕ) → m ≢ n → slot written m ≡ slot files m
-    beside m s = get_or-set_other files n m (Some (File links new)) None s
-
-    away : 1 ≢ n
-    away e = false≢true (ap (λ o. unwrap_or (option_map is_directory o) false) (sym here ∙ ap (slot files) (sym e) ∙ keeps.root.here))
-
-    alike-written : (m : ℕ) → IsAlike m (slot files m) (slot written m)
-    alike-written m = slot-set (λ q. IsAlike m (slot files m) q) files n (Some (File links new)) (slot-within files n (File links old) here) m
-        (λ e. subst (λ o. IsAlike m o (Some (File links new))) (sym (ap (slot files) e ∙ here)) (alike-bytes m links old new size)) (λ s. alike-same m (slot files m))
-
-    pub writes-bytes : Changed files written
-    writes-bytes = record {
-      tree = keeps-alike keeps written (length-set files n (Some (File links new))) alike-written
-          (record { links = keeps.root.links; places = keeps.root.places; here = beside 1 away ∙ keeps.root.here });
-      stays = λ m used. elim (cases_eq m n) [
-        | inl e ↦ ap (λ j. option_map shape (slot written j)) e ∙ ap (option_map shape) at-file ∙ sym (ap (λ j. option_map shape (slot files j)) e ∙ ap (option_map shape) here)
-        | inr s ↦ ap (option_map shape) (beside m s)
-      ];
-      idle = λ m node at none. elim (cases_eq m n) [
-        | inl e ↦ record {
-          was = File links old;
-          here = ap (slot files) e ∙ here;
-          none = ap links_of (same_Some (File links new) node (sym at-file ∙ ap (slot written) (sym e) ∙ at)) ∙ none;
-        }
-        | inr s ↦ record { was = node; here = sym (beside m s) ∙ at; none = none }
-      ];
-    }
+  pub writes-bytes : (n links : ℕ) (old new : List ℕ) → slot files n ≡ Some (File links old) → length new ≤ longest → Changed files (put files n (File links new))
+  writes-bytes n links old new here size =
+      let within = slot-within files n (File links old) here in
+      let new_node = Some (File links new) in
+      record {
+        tree = keeps-put keeps n (File links old) new_node here
+            (λ e. false≢true (ap (λ o. unwrap_or (option_map is_directory o) false) (sym here ∙ ap (slot files) (sym e) ∙ keeps.root.here))) (alike-bytes n links old new size);
+        stays = λ m used. slot-set (λ o. option_map shape o ≡ option_map shape (slot files m)) files n new_node within m (λ e. sym (ap (option_map shape) (ap (slot files) e ∙ here))) (λ s. refl);
+        idle = λ m node at none. slot-set (λ o. o ≡ Some node → WasIdle files m) files n new_node within m
+            (λ e is. record { was = File links old; here = ap (slot files) e ∙ here; none = ap links_of (same_Some (File links new) node is) ∙ none }) (λ s is. record { was = node; here = is; none = none }) at;
+      }
 
   length-over : (old new : List ℕ) (offset : ℕ) → length old ≤ longest → offset + length new ≤ longest → length (overwrite old offset new) ≤ longest
   length-over old new offset fits room =
