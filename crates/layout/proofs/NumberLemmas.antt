@@ -1,12 +1,6 @@
 -- Numbers in a front of the bytes.
-use Rattle.std.proofs.Common.{◌≡◌, ℕ, ◌+◌, ◌-◌, ◌*◌, ◌^◌, ◌<◌, ◌≤◌, List, length, take, drop, ap, sym, ◌∙◌, arith, get_or}
-use Rattle.std.proofs.lemmas.List.{drop-take, ext_get_or, get_or-drop}
-use Rattle.std.proofs.lemmas.List.FromFn.{length-map-range_with_len, get_or-map-range_with_len}
-use Rattle.byteorder.specs.Endian.{little_number}
-use Rattle.byteorder.specs.Numbers.{little_from-take, little_from-lt}
-use Rattle.layout.specs.declared.DiskInode.{DiskInode}
-use Rattle.layout.specs.declared.SuperBlock.{SuperBlock}
-use Rattle.layout.specs.Numbers.{number_at, numbers_in}
+use Rattle.layout.proofs.Common.{◌≡◌, ℕ, ◌+◌, ◌-◌, ◌*◌, ◌^◌, ◌<◌, ◌≤◌, List, length, take, drop, ap, sym, ◌∙◌, arith, get_or, drop-take, ext_get_or, get_or-drop}
+use Rattle.layout.proofs.Common.{length-map-range_with_len, get_or-map-range_with_len, little_number, little_from-take, little_from-lt, DiskInode, SuperBlock, number_at, numbers_in}
 
 pub number_at-take : (m k : ℕ) (bytes : List ℕ) → 4 * k + 4 ≤ m → number_at (take m bytes) k ≡ number_at bytes k
 number_at-take m k bytes h =

@@ -1,13 +1,5 @@
 -- One block of a disk is written.
-use Rattle.std.specs.Prelude.{◌≡◌, ◌≢◌, ℕ, ◌+◌, ◌<◌, ◌≤◌, List, [], length}
-use Rattle.std.proofs.Common.{set, ap, ◌∙◌, arith, inl, inr}
-use Rattle.std.proofs.lemmas.Bool.{cases_eq}
-use Rattle.std.proofs.lemmas.List.{get_or-set_other, get_or-set_same, length-set}
-use Rattle.blockdev.specs.Blocks.{AreBlocks, block_at}
-use Rattle.blockdev.specs.Splice.{splice}
-use Rattle.blockdev.proofs.SpliceLemmas.{length-splice}
-use Rattle.layout.specs.declared.Geometry.{Geometry}
-use Rattle.layout.specs.Sound.{HasParts}
+use Rattle.layout.proofs.Common.{◌≡◌, ◌≢◌, ℕ, ◌+◌, ◌<◌, ◌≤◌, List, [], length, set, ap, ◌∙◌, arith, inl, inr, cases_eq, get_or-set_other, get_or-set_same, length-set, AreBlocks, block_at, splice, length-splice, Geometry, HasParts}
 
 pub record PutsBlock (old new : List (List ℕ)) (p : ℕ) (block : List ℕ) : Type 0 where
   pub count : length new ≡ length old

@@ -1,16 +1,7 @@
 -- The round trips: of numbers, and of an inode.
-use Rattle.std.proofs.Common.{◌≡◌, ℕ, ◌+◌, ◌*◌, ◌^◌, ◌<◌, List, [], ◌∷◌, ◌++◌, length, take, drop, ap, sym, ◌∙◌, arith, get_or, zero, suc}
-use Rattle.std.proofs.Math.Seq.{take-append_seam}
-use Rattle.std.proofs.lemmas.List.{drop-drop, ext_get_or}
-use Rattle.byteorder.specs.Endian.{little_number}
-use Rattle.byteorder.specs.Numbers.{little_number-reads_back}
-use Rattle.layout.specs.Numbers.{number_at, numbers_in, spelled}
-use Rattle.layout.specs.declared.DiskInode.{DiskInode}
-use Rattle.layout.specs.Inode.{inode_of, inode_bytes, Fits}
-use Rattle.layout.specs.Entries.{entry_of, entry_bytes, EntryFits}
-use Rattle.layout.specs.Super.{super_of, super_bytes, super_numbers, SuperFits}
+use Rattle.layout.proofs.Common.{◌≡◌, ℕ, ◌+◌, ◌*◌, ◌^◌, ◌<◌, List, [], ◌∷◌, ◌++◌, length, take, drop, ap, sym, ◌∙◌, arith, get_or, zero, suc, take-append_seam, drop-drop, ext_get_or, little_number, little_number-reads_back}
+use Rattle.layout.proofs.Common.{number_at, numbers_in, spelled, DiskInode, inode_of, inode_bytes, Fits, entry_of, entry_bytes, EntryFits, super_of, super_bytes, super_numbers, SuperFits, SuperBlock}
 use Rattle.layout.specs.declared.Entry.{Entry}
-use Rattle.layout.specs.declared.SuperBlock.{SuperBlock}
 use Rattle.layout.proofs.NumberLemmas.{get_or-numbers_in, length-numbers_in, same_inode, same_super}
 
 pub number_at-spelled : (xs rest : List ℕ) (k : ℕ) → k < length xs → ((i : ℕ) → i < length xs → get_or xs i 0 < 2 ^ 32) → number_at (spelled xs ++ rest) k ≡ get_or xs k 0

@@ -1,17 +1,9 @@
 -- The spelling of the record that bytes spell is these bytes.
-use Rattle.std.proofs.Common.{◌≡◌, ℕ, zero, suc, ◌+◌, ◌*◌, ◌/◌, ◌%◌, ◌^◌, ◌<◌, ◌≤◌, List, [], ◌∷◌, ◌++◌, length, take, drop, get_or, refl, sym, ap, ◌∙◌, arith}
-use Rattle.std.specs.Prelude.{map}
+use Rattle.layout.proofs.Common.{◌≡◌, ℕ, zero, suc, ◌+◌, ◌*◌, ◌/◌, ◌%◌, ◌^◌, ◌<◌, ◌≤◌, List, [], ◌∷◌, ◌++◌, length, take, drop, get_or, refl, sym, ap, ◌∙◌, arith, map, take-add, drop-drop, get_or-drop}
+use Rattle.layout.proofs.Common.{length-drop, little_number, little_bytes, little_from-cons, entry_of, entry_bytes, inode_of, inode_bytes, number_at, numbers_in, spelled, super_of, super_bytes}
 use Rattle.std.specs.Int.{byte_at, bytes_low_first}
 use Rattle.std.specs.List.{range_with_len}
 use Rattle.std.proofs.Math.Nat.{div-div-eq-div-mul, pow-succ'}
-use Rattle.std.proofs.Math.Seq.{take-add}
-use Rattle.std.proofs.lemmas.List.{drop-drop, get_or-drop, length-drop}
-use Rattle.byteorder.specs.Endian.{little_number, little_bytes}
-use Rattle.byteorder.specs.Numbers.{little_from-cons}
-use Rattle.layout.specs.Entries.{entry_of, entry_bytes}
-use Rattle.layout.specs.Inode.{inode_of, inode_bytes}
-use Rattle.layout.specs.Numbers.{number_at, numbers_in, spelled}
-use Rattle.layout.specs.Super.{super_of, super_bytes}
 
 -- each is below 256
 abbrev pub AreBytes : List ℕ → Type 0

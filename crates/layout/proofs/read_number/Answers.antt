@@ -1,6 +1,4 @@
-use Rattle.std.proofs.Common.{◌*◌, length, ap, ◌∙◌, arith}
-use Rattle.std.proofs.lemmas.Slice.{between_to_end}
-use Rattle.byteorder.specs.Endian.{little_number}
+use Rattle.layout.proofs.Common.{◌*◌, length, ap, ◌∙◌, arith, between_to_end, little_number}
 use Rattle.layout.proofs.read_number.Goals as goal
 
 pub returns : goal.returns

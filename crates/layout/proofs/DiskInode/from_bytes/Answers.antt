@@ -1,5 +1,4 @@
-use Rattle.std.proofs.Common.{ap, ◌∙◌, arith}
-use Rattle.layout.specs.Inode.{inode_bytes}
+use Rattle.layout.proofs.Common.{ap, ◌∙◌, arith, inode_bytes}
 use Rattle.layout.proofs.Spellings.{inode_bytes-inode_of}
 use Rattle.layout.proofs.DiskInode.from_bytes.Goals as goal
 

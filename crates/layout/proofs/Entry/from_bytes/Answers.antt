@@ -1,5 +1,4 @@
-use Rattle.std.proofs.Common.{ap, ◌∙◌, arith}
-use Rattle.layout.specs.Entries.{entry_bytes}
+use Rattle.layout.proofs.Common.{ap, ◌∙◌, arith, entry_bytes}
 use Rattle.layout.proofs.Spellings.{entry_bytes-entry_of}
 use Rattle.layout.proofs.Entry.from_bytes.Goals as goal
 

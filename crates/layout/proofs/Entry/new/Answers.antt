@@ -1,5 +1,4 @@
-use Rattle.std.proofs.Common.{◌++◌, ◌∙◌, ap, drop, length}
-use Rattle.std.proofs.lemmas.List.{drop-replicate}
+use Rattle.layout.proofs.Common.{◌++◌, ◌∙◌, ap, drop, length, drop-replicate}
 use Rattle.unixmodel.specs.Memory.{zeros}
 use Rattle.layout.proofs.Entry.new.Goals as goal
 

@@ -1,5 +1,4 @@
-use Rattle.std.proofs.Common.{ap, ◌∙◌, arith}
-use Rattle.layout.specs.Super.{super_bytes}
+use Rattle.layout.proofs.Common.{ap, ◌∙◌, arith, super_bytes}
 use Rattle.layout.proofs.Spellings.{super_bytes-super_of}
 use Rattle.layout.proofs.SuperBlock.from_bytes.Goals as goal
 

@@ -1,5 +1,4 @@
-use Rattle.std.proofs.Common.{◌≡◌, ℕ, ◌<◌, List, get_or, take, ap, ◌∙◌, arith}
-use Rattle.layout.specs.Numbers.{number_at, numbers_in}
+use Rattle.layout.proofs.Common.{◌≡◌, ℕ, ◌<◌, List, get_or, take, ap, ◌∙◌, arith, number_at, numbers_in}
 use Rattle.layout.proofs.NumberLemmas.{get_or-numbers_in, number_at-take, same_super}
 use Rattle.layout.proofs.SuperBlock.from_front.Goals as goal
 
