@@ -1,6 +1,7 @@
 -- What calls on names make of files keeps the rules, where they answer.
-use Rattle.names.proofs.Common.{◌≡◌, ℕ, Bool, true, false, cond, not, None, Option, Some, refl, subst, option_map, ◌&&◌, and_parts, not-true, none-some, same_Some, Files, Node, Spot, change_node, enter}
+use Rattle.names.proofs.Common.{◌≡◌, ℕ, Bool, true, false, cond, not, None, Option, Some, refl, subst, option_map, ◌&&◌, and_parts, not-true, none-some, Files, Node, Spot, change_node, enter}
 use Rattle.names.proofs.Common.{is_directory, slot, Changed, Made, has_room_for_link, is_free_name, linked, linked_node, made_at, made_below, made_directory, make_at, more_links, new_directory, KeepsTree}
+use Rattle.names.proofs.Finding.{mapped}
 use Rattle.names.proofs.Placed.{none-is}
 use Rattle.names.proofs.Making.{IsNewFile, links-file, makes-directory, makes-file}
 use Rattle.names.proofs.Spots.{IsSpot, gap-from}
@@ -20,17 +21,13 @@ module _ {files : Files} (keeps : KeepsTree files) (at : Spot) (spot : IsSpot fi
   pub keeps-made-directory : (more : Files) → made_directory files at ≡ Some more → Changed files more
   unfolding made_directory
   keeps-made-directory more h = go (slot files at.directory) h where
-    made_more : (o : Option Made) → make_at files at (new_directory at.directory) ≡ o → is_free_name files at ≡ true
-        → option_map (λ (made : Made). change_node made.files at.directory more_links) o ≡ Some more → Changed files more
-    made_more None e free h = absurd (none-some more h)
-    made_more (Some made) e free h =
-        subst (Changed files) (same_Some (change_node made.files at.directory more_links) more h) (makes-directory keeps at (gap-from keeps at spot (none-is _ free)) made e)
-
     go : (o : Option Node) → made_below files at o ≡ Some more → Changed files more
     go None h = absurd (none-some more h)
     go (Some parent) h =
-        let is = passed (is_free_name files at && has_room_for_link parent) (option_map (λ (made : Made). change_node made.files at.directory more_links) (make_at files at (new_directory at.directory))) more h in
-        made_more (make_at files at (new_directory at.directory)) refl (and_parts (is_free_name files at) (has_room_for_link parent) is.0).0 is.1
+        let grown : Made → Files = λ made. change_node made.files at.directory more_links in
+        let is = passed (is_free_name files at && has_room_for_link parent) (option_map grown (make_at files at (new_directory at.directory))) more h in
+        let made = mapped grown (make_at files at (new_directory at.directory)) more is.1 in
+        subst (Changed files) made.2 (makes-directory keeps at (gap-from keeps at spot (none-is _ (and_parts (is_free_name files at) (has_room_for_link parent) is.0).0)) made.0 made.1)
 
   pub keeps-linked : (n : ℕ) (more : Files) → linked files at n ≡ Some more → Changed files more
   unfolding linked

@@ -2,7 +2,7 @@
 use Rattle.names.proofs.Common.{◌≡◌, ◌≢◌, ℕ, suc, ◌+◌, ◌<◌, ◌≤◌, true, false, cond, List, None, Option, Some, length, ap, ap₂, sym, refl, ◌∙◌, arith, subst, is_some, option_map, unwrap_or, ◌==◌, cond-false}
 use Rattle.names.proofs.Common.{false≢true, ltb-true, ne_eqb, get_or-set_other, get_or-set_same, set-set, none-some, Entry, Files, Node, Spot, change_node, enter, is_directory, links_of, most_links, put, slot}
 use Rattle.names.proofs.Common.{with_entry, Directory, KeepsSize, names_of, Changed, shape, Made, has_room_for_link, make_at, more_links, new_directory, KeepsLive, KeepsTree, folders, names_by, names_for}
-use Rattle.names.proofs.Changing.{Alters, Enters, both, directory-is, keeps-gained, relinked-kind, relinked-links, relinked-names, relinked-shape, relinked-size}
+use Rattle.names.proofs.Changing.{Alters, Enters, both, directory-is, keeps-gained, relinked}
 use Rattle.names.proofs.Counts.{counted-none, names_by-none}
 use Rattle.names.proofs.Finding.{IsEntered, IsGap, IsMade, absent-none, change-is, enter-parts, entered-size, entry_at, make-parts, slot-within}
 use Rattle.names.proofs.Placed.{entered, two-places}
@@ -127,9 +127,10 @@ pub links-file : {files : Files} (keeps : KeepsTree files) (at : Spot) → IsGap
 links-file {files} keeps at spot n node here kind room more h =
     let d = at.directory in
     let k = links_of node + 1 in
+    let again = relinked node k in
     let new = more_links node in
-    let plain : is_directory new ≡ false = relinked-kind node k ∙ kind in
-    let many : links_of new ≡ k = relinked-links node k in
+    let plain : is_directory new ≡ false = again.kind ∙ kind in
+    let many : links_of new ≡ k = again.links in
     let e = enter-parts (change_node files n more_links) at n more h in
     let is = change-is files n more_links node here in
     let fewer = ltb-true (links_of node) most_links room in
@@ -142,10 +143,10 @@ links-file {files} keeps at spot n node here kind room more h =
       within = slot-within files n node here;
       apart = away;
       other = apart 1 (suc keeps.root.links) keeps.root.places keeps.root.here;
-      quiet = λ m. relinked-names node k m ∙ ap (λ o. names_by o m) (sym here);
+      quiet = λ m. again.names m ∙ ap (λ o. names_by o m) (sym here);
       kind = λ _. plain ∙ sym (directory-is files n node here ∙ kind);
-      same = λ used. relinked-shape node k ∙ ap (option_map shape) (sym here);
-      size = relinked-size node k (subst KeepsSize here (keeps.sizes n));
+      same = λ used. again.stays ∙ ap (option_map shape) (sym here);
+      size = again.size (subst KeepsSize here (keeps.sizes n));
     })
     (record {
       links = omega (arith, counted-none plain);

@@ -1,8 +1,8 @@
 -- Changes that leave all names: a node without links goes, or a file has other bytes.
-use Rattle.names.proofs.Common.{◌≡◌, ◌≢◌, ℕ, zero, suc, ◌+◌, ◌≤◌, Bool, true, false, cond, List, [], ◌∷◌, ◌++◌, None, Option, Some, inl, inr, ◌⊎◌, drop, length, set, take, ap, sym, refl, ◌∙◌}
-use Rattle.names.proofs.Common.{arith, subst, count_by, nat_lt, option_map, unwrap_or, ◌==◌, cases_eq, cond-false, cond-true, false≢true, lt-ltb, ltb-true, get_or-set_other, length-append}
-use Rattle.names.proofs.Common.{length-drop, length-set, length-take, set-get_or, none-some, same_Some, Entry, Files, Node, change_node, clear, is_directory, links_of, longest, put, slot}
-use Rattle.names.proofs.Common.{Directory, File, KeepsSize, is_directory_at, names_of, kept, Changed, WasIdle, shape, emptied, HasRoot, KeepsLive, KeepsTree, entries, names_by, names_for}
+use Rattle.names.proofs.Common.{◌≡◌, ◌≢◌, ℕ, zero, suc, ◌+◌, ◌≤◌, Bool, true, false, cond, List, [], ◌∷◌, ◌++◌, None, Option, Some, inl, inr, ◌⊎◌, drop, length, set, take, ap, sym, refl, ◌∙◌, cond_both, cond_some}
+use Rattle.names.proofs.Common.{arith, subst, nat_lt, option_map, unwrap_or, cases_eq, cond-false, cond-true, false≢true, lt-ltb, ltb-true, get_or-set_other, length-append}
+use Rattle.names.proofs.Common.{length-drop, length-set, length-take, set-get_or, none-some, same_Some, Files, Node, change_node, clear, is_directory, links_of, longest, put, slot}
+use Rattle.names.proofs.Common.{Directory, File, KeepsSize, is_directory_at, names_of, kept, Changed, WasIdle, shape, emptied, HasRoot, KeepsLive, KeepsTree, names_by, names_for}
 use Rattle.unixmodel.specs.Memory.{overwrite}
 use Rattle.names.proofs.Counts.{names-same, names_by-le}
 use Rattle.names.proofs.Finding.{change-is, slot-set, slot-within}
@@ -54,25 +54,16 @@ keeps-put {files} keeps n node q here away alike =
 
 -- ---- a node without links
 
-bare-none : (es : List Entry) (m : ℕ) → es ≡ [] → count_by (λ (e : Entry). e.number == m) es ≡ 0
-bare-none es m h = rw h refl
-
 -- it has no names and names nothing
 pub alike-gone : (files : Files) (n : ℕ) (node : Node) → KeepsLive files n (Some node) → links_of node ≡ 0 → IsAlike n (Some node) None
 unfolding names_by
-alike-gone files n (Directory zero places) k h = record { names = λ m. sym (bare-none (entries places) m k); wanted = refl; kind = λ l. absurd (omega arith); size = λ s. tt; live = inr (λ fs l. tt) }
+alike-gone files n (Directory zero places) k h = record { names = λ m. rw k refl; wanted = refl; kind = λ l. absurd (omega arith); size = λ s. tt; live = inr (λ fs l. tt) }
 alike-gone files n (Directory (suc links) places) k h = absurd (omega arith)
 alike-gone files n _ k h = record { names = λ m. refl; wanted = sym h; kind = λ l. absurd (omega arith); size = λ s. tt; live = inr (λ fs l. tt) }
 
--- the root has links
-root-links : {files : Files} (keeps : KeepsTree files) (node : Node) → slot files 1 ≡ Some node → links_of node ≢ 0
-root-links keeps node h z =
-    let e : suc keeps.root.links ≡ links_of node = ap links_of (same_Some (Directory (suc keeps.root.links) keeps.root.places) node (sym keeps.root.here ∙ h)) in
-    omega arith
-
 pub releases : {files : Files} → KeepsTree files → (n : ℕ) (node : Node) → slot files n ≡ Some node → links_of node ≡ 0 → KeepsTree (clear files n)
 releases {files} keeps n node here none =
-    keeps-put keeps n node None here (λ e. root-links keeps node (ap (slot files) e ∙ here) none) (alike-gone files n node (subst (KeepsLive files n) here (keeps.nodes n)) none)
+    keeps-put keeps n node None here (λ e. let links = ap links_of (same_Some (Directory (suc keeps.root.links) keeps.root.places) node (sym keeps.root.here ∙ ap (slot files) e ∙ here)) in omega arith) (alike-gone files n node (subst (KeepsLive files n) here (keeps.nodes n)) none)
 
 -- ---- other bytes
 
@@ -161,13 +152,8 @@ module _ (test : ℕ → Node → Bool) where
     alike-kept : (files : Files) (n : ℕ) (o : Option Node) → KeepsLive files n o → IsAlike n o (one_kept (test n) o)
     unfolding one_kept
     alike-kept files n None k = alike-same n None
-    alike-kept files n (Some node) k = go (test n node) refl where
-      go : (b : Bool) → test n node ≡ b → IsAlike n (Some node) (cond b (Some node) None)
-      go true h = alike-same n (Some node)
-      go false h = alike-gone files n node k (elim (cases_eq (links_of node) 0) [
-        | inl z ↦ z
-        | inr s ↦ absurd (false≢true (sym h ∙ stays n node (omega arith)))
-      ])
+    alike-kept files n (Some node) k = cond_both (test n node) (Some node) None (IsAlike n (Some node)) (λ t. alike-same n (Some node)) (λ f.
+        alike-gone files n node k (elim (cases_eq (links_of node) 0) [ inl z ↦ z | inr s ↦ absurd (false≢true (sym f ∙ stays n node (omega arith))) ]))
 
     -- some nodes without links go
     pub keeps-kept : {files : Files} → KeepsTree files → KeepsTree (kept test 0 files)
@@ -185,11 +171,8 @@ module _ (test : ℕ → Node → Bool) where
 abbrev pub left : Files → Files
 left files = kept (λ n node. nat_lt 0 (links_of node)) 0 files
 
-left-stays : (n : ℕ) (node : Node) → 1 ≤ links_of node → nat_lt 0 (links_of node) ≡ true
-left-stays n node h = lt-ltb 0 (links_of node) (omega arith)
-
 pub leaves : {files : Files} → KeepsTree files → KeepsTree (left files)
-leaves keeps = keeps-kept (λ n node. nat_lt 0 (links_of node)) left-stays keeps
+leaves keeps = keeps-kept (λ n node. nat_lt 0 (links_of node)) (λ n node h. lt-ltb 0 (links_of node) (omega arith)) keeps
 
 -- each node has links
 abbrev pub HasLinked : Files → Type 0
@@ -198,10 +181,7 @@ HasLinked files = (n : ℕ) (node : Node) → slot files n ≡ Some node → 1 �
 one-linked : (o : Option Node) (node : Node) → one_kept (λ x. nat_lt 0 (links_of x)) o ≡ Some node → 1 ≤ links_of node
 unfolding one_kept
 one-linked None node h = absurd (none-some node h)
-one-linked (Some x) node h = go (nat_lt 0 (links_of x)) refl h where
-  go : (b : Bool) → nat_lt 0 (links_of x) ≡ b → cond b (Some x) None ≡ Some node → 1 ≤ links_of node
-  go true e h = let some = ltb-true 0 (links_of x) e in omega (arith, ap links_of (same_Some x node h))
-  go false e h = absurd (none-some node h)
+one-linked (Some x) node h = let is = cond_some (nat_lt 0 (links_of x)) x node h in omega (arith, ltb-true 0 (links_of x) is.0, ap links_of is.1)
 
 pub left-linked : (files : Files) → HasLinked (left files)
 left-linked files n node h = one-linked (slot files n) node (sym (slot-here (λ n node. nat_lt 0 (links_of node)) files n) ∙ h)

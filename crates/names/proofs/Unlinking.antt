@@ -3,7 +3,7 @@ use Rattle.names.proofs.Common.{◌≡◌, ◌≢◌, ℕ, zero, suc, ◌+◌, �
 use Rattle.names.proofs.Common.{cond-false, eqb-true, false≢true, ne_eqb, or_parts, get_or-set_other, get_or-set_same, length-set, nil_from_length, set-set, set_comm, same_Some, bytes_eq-Decides}
 use Rattle.names.proofs.Common.{Entry, Files, Node, Spot, change_node, clear, dot, dot_dot, erase, is_directory, is_dot_name, links_of, longest, lookup, put, slot, without_place, Directory}
 use Rattle.names.proofs.Common.{KeepsSize, is_directory_at, Loses, shape, fewer_links, may_remove, unlinked, IsLive, KeepsLive, KeepsTree, entries, folders, names_by, names_for}
-use Rattle.names.proofs.Changing.{both, directory-is, keeps-lost, relinked-kind, relinked-names, relinked-shape, relinked-size}
+use Rattle.names.proofs.Changing.{both, directory-is, keeps-lost, relinked}
 use Rattle.names.proofs.Counts.{counted-none, counted-one, names_by-le}
 use Rattle.names.proofs.Finding.{IsNamed, change-is, slot-within, unlink-parts}
 use Rattle.names.proofs.Placed.{HasMore, erased, folders-more, named-here, two-places}
@@ -79,18 +79,18 @@ module _ {files : Files} (keeps : KeepsTree files) {at : Spot} {k n : ℕ} (name
     keeps-less : (r : ℕ) → named.links ≡ r + cond (is_directory node) 1 0 → Loses files (both files n (fewer_links node) d (gone r)) at
     keeps-less r links =
         let drops = can-drop files n node other (subst (KeepsLive files n) here (keeps.nodes n)) (subst (λ o. 1 ≤ names_for n o) here some-names) may in
-        let kind = relinked-kind node (links_of node - 1) in
+        let again = relinked node (links_of node - 1) in
         keeps-lost keeps
         (record {
           within = slot-within files n node here;
           apart = apart;
           other = other;
-          quiet = λ m. relinked-names node (links_of node - 1) m ∙ ap (λ o. names_by o m) (sym here);
-          kind = λ _. kind ∙ sym (directory-is files n node here);
-          same = λ _. relinked-shape node (links_of node - 1) ∙ ap (option_map shape) (sym here);
-          size = relinked-size node (links_of node - 1) (subst KeepsSize here (keeps.sizes n));
+          quiet = λ m. again.names m ∙ ap (λ o. names_by o m) (sym here);
+          kind = λ _. again.kind ∙ sym (directory-is files n node here);
+          same = λ _. again.stays ∙ ap (option_map shape) (sym here);
+          size = again.size (subst KeepsSize here (keeps.sizes n));
         })
-        named.here r (clear named.places k) (subst (λ c. 16 * c ≤ longest) (sym (length-set named.places k None)) (subst KeepsSize named.here (keeps.sizes d))) loses at (links ∙ ap (λ b. r + cond b 1 0) (sym kind))
+        named.here r (clear named.places k) (subst (λ c. 16 * c ≤ longest) (sym (length-set named.places k None)) (subst KeepsSize named.here (keeps.sizes d))) loses at (links ∙ ap (λ b. r + cond b 1 0) (sym again.kind))
         (drops.shrinks ∙ ap (names_for n) (sym here)) (drops.live _) found
 
     -- ---- in the order of the definitions
