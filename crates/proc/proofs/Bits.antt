@@ -1,5 +1,5 @@
 -- The bits of a number, and the places of a mask.
-use Rattle.proc.proofs.Common.{Bool, List, ap, arith, false, inl, inr, length, refl, sym, suc, true, w64, zero, ℕ, ◌%◌, ◌*◌, ◌+◌, ◌-◌, ◌/◌, ◌<◌, ◌==◌, ◌∙◌, ◌≡◌, ◌≢◌, ◌≤◌, ◌^◌, max}
+use Rattle.proc.proofs.Common.{Bool, List, ap, arith, false, inl, inr, length, refl, sym, suc, true, w64, zero, ℕ, ◌%◌, ◌*◌, ◌+◌, ◌-◌, ◌/◌, ◌<◌, ◌==◌, ◌∙◌, ◌≡◌, ◌≢◌, ◌≤◌, ◌^◌}
 use Rattle.proc.proofs.Common.{bit_and, bit_or, slice_set, cases_eq, cases_lt, ext_get_or, get_or-set_other, get_or-set_same, set_past, IsNext, NoneIsIn, bits_of, is_in, place_in_round}
 use Rattle.std.specs.Int.{bit_at, bit_not, rotate_right, trailing_zeros}
 use Rattle.std.proofs.lemmas.List.{length-set}
@@ -46,31 +46,17 @@ bit-tested n at low = ap (λ b. b == 1) (shr_and_one n at) ∙ sym (bit-in 64 n 
 
 -- ---- a number that is turned round
 
-max-zero : (a : ℕ) → max a 0 ≡ a
-max-zero a = omega arith
-
-zero-max : (a : ℕ) → max 0 a ≡ a
-zero-max a = omega arith
-
-max-same : (a : ℕ) → max a a ≡ a
-max-same a = omega arith
-
-or-bit : (a b j x y z : ℕ) → bit_at a j ≡ x → bit_at b j ≡ y → max x y ≡ z → bit_at (bit_or a b) j ≡ z
-or-bit a b j x y z p q m = bit_at_or a b j ∙ ap (λ u. max u (bit_at b j)) p ∙ ap (max x) q ∙ m
-
 -- the low bits are those of what is cut off
-cut-bit : (x j : ℕ) → j < 64 → bit_at (x % 2 ^ 64) j ≡ bit_at x j
-cut-bit x j low = sym (bit_at_cat_low (x / 2 ^ 64) 64 (x % 2 ^ 64) j low) ∙ ap (λ y. bit_at y j) (shr_split x 64)
+cut-bit : (n s j : ℕ) → j < 64 → bit_at (n * 2 ^ s % 2 ^ 64) j ≡ bit_at (n * 2 ^ s + 0) j
+cut-bit n s j low =
+    let whole : n * 2 ^ s ≡ n * 2 ^ s + 0 = omega arith in
+    sym (bit_at_cat_low (n * 2 ^ s / 2 ^ 64) 64 (n * 2 ^ s % 2 ^ 64) j low) ∙ ap (λ y. bit_at y j) (shr_split (n * 2 ^ s) 64 ∙ whole)
 
 shifted-low : (n s j : ℕ) → j < 64 → j < s → bit_at (n * 2 ^ s % 2 ^ 64) j ≡ 0
-shifted-low n s j low below =
-    let whole : n * 2 ^ s ≡ n * 2 ^ s + 0 = omega arith in
-    cut-bit (n * 2 ^ s) j low ∙ ap (λ y. bit_at y j) whole ∙ bit_at_cat_low n s 0 j below ∙ bit_at-zero j
+shifted-low n s j low below = cut-bit n s j low ∙ bit_at_cat_low n s 0 j below ∙ bit_at-zero j
 
 shifted-high : (n s j : ℕ) → j < 64 → s ≤ j → bit_at (n * 2 ^ s % 2 ^ 64) j ≡ bit_at n (j - s)
-shifted-high n s j low above =
-    let whole : n * 2 ^ s ≡ n * 2 ^ s + 0 = omega arith in
-    cut-bit (n * 2 ^ s) j low ∙ ap (λ y. bit_at y j) whole ∙ bit_at_cat_high n s 0 j (pow_pos s) above
+shifted-high n s j low above = cut-bit n s j low ∙ bit_at_cat_high n s 0 j (pow_pos s) above
 
 right-bit : (n r j : ℕ) → bit_at (n / 2 ^ r) j ≡ bit_at n (r + j)
 right-bit n r j = ap (λ x. x % 2) (shr-shr n r j)
@@ -80,18 +66,10 @@ turned-bit n r s j fits short low is = elim (cases_lt (j + r) 64) [
   | inl inside ↦
       let at : r + j ≡ (j + r) % 64 = omega arith in
       elim (cases_eq r 0) [
-        | inl none ↦
-            let there : j - s ≡ r + j = omega arith in
-            or-bit (n / 2 ^ r) (n * 2 ^ s % 2 ^ 64) j (bit_at n (r + j)) (bit_at n (j - s)) (bit_at n ((j + r) % 64)) (right-bit n r j) (shifted-high n s j short (omega arith))
-            (ap (λ k. max (bit_at n (r + j)) (bit_at n k)) there ∙ max-same (bit_at n (r + j)) ∙ ap (bit_at n) at)
-        | inr some ↦
-            or-bit (n / 2 ^ r) (n * 2 ^ s % 2 ^ 64) j (bit_at n (r + j)) 0 (bit_at n ((j + r) % 64)) (right-bit n r j) (shifted-low n s j short (omega arith))
-            (max-zero (bit_at n (r + j)) ∙ ap (bit_at n) at)
+        | inl none ↦ (let there : j - s ≡ r + j = omega arith in rw (bit_at_or, right-bit, shifted-high n s j short (omega arith), there, at) (omega arith))
+        | inr some ↦ rw (bit_at_or, right-bit, shifted-low n s j short (omega arith), at) (omega arith)
       ]
-  | inr past ↦
-      let at : j - s ≡ (j + r) % 64 = omega arith in
-      or-bit (n / 2 ^ r) (n * 2 ^ s % 2 ^ 64) j 0 (bit_at n (j - s)) (bit_at n ((j + r) % 64)) (right-bit n r j ∙ bit_at_above n 64 (r + j) fits (omega arith)) (shifted-high n s j short (omega arith))
-      (zero-max (bit_at n (j - s)) ∙ ap (bit_at n) at)
+  | inr past ↦ (let at : j - s ≡ (j + r) % 64 = omega arith in rw (bit_at_or, right-bit, bit_at_above n 64 (r + j) fits (omega arith), shifted-high n s j short (omega arith), at) (omega arith))
 ]
 
 rotated-bit : (n r j : ℕ) → n < 2 ^ 64 → j < 64 → r < 64 → bit_at (rotate_right w64 n r) j ≡ bit_at n ((j + r) % 64)
@@ -120,17 +98,14 @@ lowest n fits = elim (cases_lt 0 n) [
 -- ---- the next place that is in
 
 -- places: what the bits of n show; ahead: n, turned so that its bits begin with that turn
-module _ (n last turn ahead : ℕ) (places : List Bool) (shows : bits_of 64 n ≡ places) (turns : ahead ≡ rotate_right w64 n ((last + turn) % 64)) (fits : n < 2 ^ 64) (in_last : last < 64) (in_turn : (1 ≤ turn) × (turn ≤ 65)) where
+module _ {n last turn ahead : ℕ} {places : List Bool} (shows : bits_of 64 n ≡ places) (turns : ahead ≡ rotate_right w64 n ((last + turn) % 64)) (fits : n < 2 ^ 64) (in_last : last < 64) (in_turn : (1 ≤ turn) × (turn ≤ 65)) where
   first : IsLowest ahead (trailing_zeros w64 ahead)
   first = lowest ahead (rw turns (rotated-fits n ((last + turn) % 64) fits))
 
   place-bit : (k : ℕ) → turn ≤ k → k ≤ 64 → is_in places (place_in_round last k) ≡ (bit_at ahead (k - turn) == 1)
   place-bit k low high =
       let same : place_in_round last k ≡ ((k - turn) + (last + turn) % 64) % 64 = omega arith in
-      ap (λ l. is_in l (place_in_round last k)) (sym shows)
-      ∙ bit-in 64 n (place_in_round last k) (omega arith)
-      ∙ ap (λ i. bit_at n i == 1) same
-      ∙ ap (λ b. b == 1) (sym (ap (λ x. bit_at x (k - turn)) turns ∙ rotated-bit n ((last + turn) % 64) (k - turn) fits (omega arith) (omega arith)))
+      rw (← shows, bit-in 64 n (place_in_round last k) (omega arith), turns, rotated-bit n ((last + turn) % 64) (k - turn) fits (omega arith) (omega arith), same) refl
 
   passed : (k : ℕ) → turn ≤ k → k ≤ 64 → k < turn + trailing_zeros w64 ahead → is_in places (place_in_round last k) ≡ false
   passed k low high less = place-bit k low high ∙ ap (λ b. b == 1) (first.below (k - turn) (omega arith) (omega arith))
@@ -140,7 +115,7 @@ module _ (n last turn ahead : ℕ) (places : List Bool) (shows : bits_of 64 n �
       let back : turn + trailing_zeros w64 ahead - turn ≡ trailing_zeros w64 ahead = omega arith in
       record {
         in_round = (omega arith, within);
-        there = place-bit (turn + trailing_zeros w64 ahead) (omega arith) within ∙ ap (λ j. bit_at ahead j == 1) back ∙ ap (λ b. b == 1) (first.there (omega arith));
+        there = place-bit (turn + trailing_zeros w64 ahead) (omega arith) within ∙ rw (back, first.there (omega arith)) refl;
         before = λ j low high. passed j low (omega arith) high;
       }
 

@@ -1,5 +1,5 @@
 -- The names that the lemmas of this crate import from elsewhere, passed on from one place. Declares nothing.
-pub use Rattle.std.proofs.Common.{◌%◌, ◌*◌, ◌+◌, ◌-◌, ◌/◌, ◌<◌, ◌==◌, [], ◌^◌, ap, arith, Bool, false, inl, inr, is_some, length, List, map, max, None}
+pub use Rattle.std.proofs.Common.{◌%◌, ◌*◌, ◌+◌, ◌-◌, ◌/◌, ◌<◌, ◌==◌, [], ◌^◌, ◌++◌, ap, arith, drop, Bool, false, get_or, inl, inr, is_some, length, List, map, max, None}
 pub use Rattle.std.proofs.Common.{Ok, Option, option_map, refl, slice_set, Some, subst, suc, sym, take, true, w64, zero, ℕ, ◌∙◌, ◌∷◌, ◌≡◌, ◌≢◌, ◌≤◌}
 pub use Rattle.std.proofs.lemmas.Bool.{cases_eq, cases_lt, eq-eqb, le-ltb, leb-true, lt-ltb, ne_eqb, true≢false}
 pub use Rattle.std.proofs.lemmas.List.{ext_get_or, get_or-set_other, get_or-set_same, set_past, take_all}

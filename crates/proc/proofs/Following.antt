@@ -1,7 +1,11 @@
 -- The least pid above another, found by a walk over the places.
-use Rattle.proc.proofs.Common.{Bool, List, None, Option, Some, [], ap, arith, false, inl, inr, length, refl, suc, sym, take, true, ℕ, ◌+◌, ◌<◌, ◌≤◌, ◌∙◌, ◌≡◌, ◌∷◌, cond, is_some, nat_lt, not}
-use Rattle.proc.proofs.Common.{position, ◌==◌, ◌||◌, list_any, position_or_len, cases_lt, eq-eqb, le-ltb, lt-ltb, ne_eqb, take_all, IsNextOf, lesser, has_pid, place_where, Process, slot, holds}
+use Rattle.proc.proofs.Common.{Bool, List, None, Option, Some, [], ap, arith, false, inl, inr, length, refl, sym, take, true, ℕ, ◌+◌, ◌<◌, ◌≤◌, ◌∙◌, ◌≡◌, ◌∷◌, cond, is_some}
+use Rattle.proc.proofs.Common.{position, ◌==◌, ◌||◌, list_any, cases_lt, eq-eqb, le-ltb, lt-ltb, ne_eqb, take_all, IsNextOf, lesser, has_pid, place_where, Process, slot, holds}
+use Rattle.std.proofs.Math.Bool.{or-false}
+use Rattle.std.proofs.lemmas.Bool.{or_right}
+use Rattle.std.proofs.lemmas.Iterator.Adapters.{position_from-zero}
 use Rattle.std.proofs.lemmas.List.Folds.{list_any_more}
+use Rattle.std.specs.List.{position_from}
 
 -- ---- of pids
 
@@ -9,10 +13,6 @@ use Rattle.std.proofs.lemmas.List.Folds.{list_any_more}
 pub next-same : (there others : ℕ → Bool) (after : ℕ) (result : Option ℕ) → ((q : ℕ) → there q ≡ others q) → IsNextOf there after result → IsNextOf others after result
 next-same there others after None same is = λ q high. sym (same q) ∙ is q high
 next-same there others after (Some pid) same is = record { above = is.above; stands = sym (same pid) ∙ is.stands; between = λ q high low. sym (same q) ∙ is.between q high low }
-
-or-true : (b c : Bool) → c ≡ true → (b || c) ≡ true
-or-true true c e = refl
-or-true false c e = e
 
 -- with one pid more
 module _ (there more : ℕ → Bool) (after pid : ℕ) (one : (q : ℕ) → more q ≡ (there q || (pid == q))) where
@@ -23,7 +23,7 @@ module _ (there more : ℕ → Bool) (after pid : ℕ) (one : (q : ℕ) → more
   still-there q is = one q ∙ rw is refl
 
   now-there : more pid ≡ true
-  now-there = one pid ∙ or-true (there pid) (pid == pid) (eq-eqb pid pid refl)
+  now-there = one pid ∙ or_right (there pid) (pid == pid) (eq-eqb pid pid refl)
 
   pub next-more : (found : Option ℕ) → IsNextOf there after found → IsNextOf more after (lesser found after pid)
   next-more None is = elim (cases_lt after pid) [
@@ -40,26 +40,13 @@ module _ (there more : ℕ → Bool) (after pid : ℕ) (one : (q : ℕ) → more
 
 -- ---- of places
 
-ltb-suc : (a b : ℕ) → nat_lt (1 + a) (suc b) ≡ nat_lt a b
-ltb-suc a b = elim (cases_lt a b) [
-  | inl less ↦ lt-ltb (1 + a) (suc b) (omega arith) ∙ sym (lt-ltb a b less)
-  | inr more ↦ le-ltb (1 + a) (suc b) (omega arith) ∙ sym (le-ltb a b more)
-]
-
-found-within : {X : Type 0} (test : X → Bool) (xs : List X) → nat_lt (position_or_len test xs) (length xs) ≡ list_any test xs
-found-within test [] = refl
-found-within test (x ∷ xs) = elim (test x) as (λ b. nat_lt (cond (not b) (1 + position_or_len test xs) 0) (suc (length xs)) ≡ (b || list_any test xs)) [
-  | true ↦ lt-ltb 0 (suc (length xs)) (omega arith)
-  | false ↦ ltb-suc (position_or_len test xs) (length xs) ∙ found-within test xs
-]
-
-some-cond : {X : Type 0} (b : Bool) (x : X) → is_some (cond b (Some x) None) ≡ b
-some-cond true x = refl
-some-cond false x = refl
+found-from : {X : Type 0} (test : X → Bool) (n : ℕ) (xs : List X) → is_some (position_from test n xs) ≡ list_any test xs
+found-from test n [] = refl
+found-from test n (x ∷ xs) = elim (test x) as (λ b. is_some (cond b (Some n) (position_from test (n + 1) xs)) ≡ (b || list_any test xs)) [ true ↦ refl | false ↦ found-from test (n + 1) xs ]
 
 -- a search finds one where one passes
 pub found-any : {X : Type 0} (test : X → Bool) (xs : List X) → is_some (position test xs) ≡ list_any test xs
-found-any test xs = some-cond (nat_lt (position_or_len test xs) (length xs)) (position_or_len test xs) ∙ found-within test xs
+found-any test xs = ap is_some (position_from-zero test xs) ∙ found-from test 0 xs
 
 -- whether a pid is that of a process in the first places
 abbrev pub is_among : List (Option Process) → ℕ → ℕ → Bool
@@ -67,10 +54,6 @@ is_among places n pid = list_any (holds (has_pid pid)) (take n places)
 
 pub among-none : (places : List (Option Process)) (after : ℕ) → IsNextOf (is_among places 0) after None
 among-none places after = λ q high. refl
-
-or-false : (b : Bool) → (b || false) ≡ b
-or-false true = refl
-or-false false = refl
 
 module _ (places : List (Option Process)) (after i : ℕ) (low : i < length places) (found : Option ℕ) (is : IsNextOf (is_among places i) after found) where
   one-more : (o : Option Process) → slot places i ≡ o → (q : ℕ) → is_among places (i + 1) q ≡ (is_among places i q || holds (has_pid q) o)

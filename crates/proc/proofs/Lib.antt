@@ -1,5 +1,4 @@
 mod Common
-pub mod Mapped
 pub mod Bits
 pub mod Looking
 pub mod Following

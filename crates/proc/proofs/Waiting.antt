@@ -1,15 +1,16 @@
 -- Where processes may wait.
-use Rattle.proc.proofs.Common.{Bool, List, None, Ok, Option, Some, [], ap, arith, false, inl, inr, length, map, option_map, refl, subst, suc, sym, true, zero, ℕ, ◌+◌, ◌-◌, ◌<◌, ◌∙◌, ◌∷◌, ◌≡◌, ◌≤◌, Err}
-use Rattle.proc.proofs.Common.{if◌then◌else◌, nat_le, slice_set, refill, cases_eq, cases_lt, leb-true, true≢false, get_or-set_other, IsFirstFrom, IsNext, NoneFrom, NoneIsIn, all_in, is_in, place_in_round}
+use Rattle.proc.proofs.Common.{Bool, List, None, Ok, Option, Some, [], ap, arith, false, length, map, option_map, refl, subst, suc, sym, true, zero, ℕ, ◌+◌, ◌-◌, ◌<◌, ◌∙◌, ◌∷◌, ◌≡◌, ◌≤◌, Err}
+use Rattle.proc.proofs.Common.{if◌then◌else◌, nat_le, slice_set, refill, leb-true, true≢false, IsFirstFrom, IsNext, NoneFrom, NoneIsIn, all_in, is_in, place_in_round}
 use Rattle.proc.proofs.Common.{Places, is_child_of, orphaned, seat_at, seat_of, AreWithin, IsFirstWaiting, IsWithin, NoneWaits, waits_so, with_place, Process, Inside, WaitPlaces, free_slot, slot, holds}
 use Rattle.std.proofs.Common.{length-set}
+use Rattle.std.proofs.lemmas.List.{length-map}
 use Rattle.arrayvec.proofs.ArrayVecLemmas.{items-with_items}
 use Rattle.proc.specs.Sound.{IsSound}
 use Rattle.proc.specs.declared.table.ProcFault.TheVariants.{Pids}
 use Rattle.proc.specs.declared.table.Seat.{Seat}
 use Rattle.proc.specs.declared.waits.WaitKind.{WaitKind}
 use Rattle.proc.specs.declared.waits.WaitKind.TheVariants.{Child, Time, Transfer}
-use Rattle.proc.proofs.Looking.{all-in}
+use Rattle.proc.proofs.Looking.{all-in, set-all, up_to, up_to-more}
 use Rattle.unixmodel.specs.Process.{last_pid}
 
 -- ---- the first place of a mask from one on: a round that begins after the last place
@@ -55,10 +56,7 @@ search-begins low within = record { in_places = (omega arith, low); within = wit
 
 module _ {kind : WaitKind} {places : List (Option Process)} {from next : ℕ} {may : List Bool} (search' : IsSearching kind places from next may) where
   passed-to : (to : ℕ) → ((j : ℕ) → next ≤ j → j < to → is_in may j ≡ false) → (j : ℕ) → from ≤ j → j < to → holds (waits_so kind) (slot places j) ≡ false
-  passed-to to out j low high = elim (cases_lt j next) [
-    | inl less ↦ search'.before j low less
-    | inr more ↦ search'.within.out j (out j more high)
-  ]
+  passed-to to out = up_to search'.before to (λ j low high. search'.within.out j (out j low high))
 
   pub search-none : NoneFrom may next → NoneWaits places kind from
   search-none none = passed-to 64 none
@@ -74,16 +72,8 @@ module _ {kind : WaitKind} {places : List (Option Process)} {from next : ℕ} {m
     pub search-goes : length may ≡ 64 → holds (waits_so kind) (slot places at) ≡ false → IsSearching kind places from (at + 1) (slice_set may at false)
     search-goes all no' = let inside = is.in_places in let begun = search'.in_places in record {
       in_places = (omega arith, omega arith);
-      within = record {
-        out = λ j out. elim (cases_eq j at) [
-          | inl same ↦ rw same no'
-          | inr other ↦ search'.within.out j (sym (get_or-set_other may at j false true other) ∙ out)
-        ];
-      };
-      before = λ j low high. elim (cases_lt j at) [
-        | inl less ↦ passed-to at is.before j low less
-        | inr more ↦ (let same : j ≡ at = omega arith in rw same no')
-      ];
+      within = record { out = set-all (λ j b. b ≡ false → holds (waits_so kind) (slot places j) ≡ false) may at false true (λ _. no') search'.within.out };
+      before = up_to-more {P = λ j. holds (waits_so kind) (slot places j) ≡ false} (passed-to at is.before) no';
     }
 
 -- ---- places that change
@@ -91,23 +81,12 @@ module _ {kind : WaitKind} {places : List (Option Process)} {from next : ℕ} {m
 module _ {kind : WaitKind} {places : List (Option Process)} {may : List Bool} (within : IsWithin kind places may) where
   one-put : (i : ℕ) (o : Option Process) → IsWithin kind (slice_set places i o) (slice_set may i true)
   one-put i o = record {
-    out = λ j out. elim (cases_eq j i) [
-      | inl same ↦ absurd (true≢false (sym (set-in may i) ∙ subst (λ k. is_in (slice_set may i true) k ≡ false) same out))
-      | inr other ↦ rw (get_or-set_other places i j o None other) (within.out j (set-out may i j out))
-    ];
+    out = set-all (λ j x. is_in (slice_set may i true) j ≡ false → holds (waits_so kind) x ≡ false) places i o None
+        (λ out. absurd (true≢false (sym (set-in may i) ∙ out))) (λ j out. within.out j (set-out may i j out));
   }
 
-  one-set : (i : ℕ) → IsWithin kind places (slice_set may i true)
-  one-set i = record { out = λ j out. within.out j (set-out may i j out) }
-
   one-freed : (i : ℕ) → IsWithin kind (slice_set places i None) may
-  one-freed i = record { out = λ j out. freed places i j (within.out j out) } where
-    freed : (os : List (Option Process)) (i j : ℕ) → holds (waits_so kind) (slot os j) ≡ false → holds (waits_so kind) (slot (slice_set os i None) j) ≡ false
-    freed [] i j no' = no'
-    freed (o ∷ os) zero zero no' = refl
-    freed (o ∷ os) zero (suc j) no' = no'
-    freed (o ∷ os) (suc i) zero no' = no'
-    freed (o ∷ os) (suc i) (suc j) no' = freed os i j no'
+  one-freed i = record { out = set-all (λ j x. is_in may j ≡ false → holds (waits_so kind) x ≡ false) places i None None (λ _. refl) within.out }
 
 -- who goes to process 1 waits as before
 orphan-waits : (kind : WaitKind) (pid : ℕ) (p : Process) → waits_so kind (orphaned pid p) ≡ waits_so kind p
@@ -133,9 +112,6 @@ module _ {places : List (Option Process)} {may : WaitPlaces} (are : AreWithin pl
   pub within-put : (i : ℕ) (o : Option Process) → AreWithin (slice_set places i o) (with_place may i)
   within-put i o = record { sleeps = one-put are.sleeps i o; transfers = one-put are.transfers i o; children = one-put are.children i o }
 
-  pub within-set : (i : ℕ) → AreWithin places (with_place may i)
-  within-set i = record { sleeps = one-set are.sleeps i; transfers = one-set are.transfers i; children = one-set are.children i }
-
   pub within-freed : (i : ℕ) → AreWithin (slice_set places i None) may
   within-freed i = record { sleeps = one-freed are.sleeps i; transfers = one-freed are.transfers i; children = one-freed are.children i }
 
@@ -149,46 +125,28 @@ module _ {places : List (Option Process)} {may : WaitPlaces} (are : AreWithin pl
 -- ---- a table that changes
 
 -- a write through the slice of all
-refilled : (xs ys zs : List (Option Process)) → length zs ≡ length xs → ys ≡ zs → refill (length xs) xs ys ≡ zs
+pub refilled : (xs ys zs : List (Option Process)) → length zs ≡ length xs → ys ≡ zs → refill (length xs) xs ys ≡ zs
 refilled xs ys zs same is = items-with_items (record { items = xs }) ys (ap length is ∙ same) ∙ is
 
 pub refilled-set : (xs ys : List (Option Process)) (i : ℕ) (o : Option Process) → ys ≡ xs → refill (length xs) xs (slice_set ys i o) ≡ slice_set xs i o
 refilled-set xs ys i o same = refilled xs (slice_set ys i o) (slice_set xs i o) (length-set xs i o) (ap (λ l. slice_set l i o) same)
 
-length-mapped : (f : Option Process → Option Process) (xs : List (Option Process)) → length (map f xs) ≡ length xs
-length-mapped f [] = refl
-length-mapped f (x ∷ xs) = ap suc (length-mapped f xs)
-
-pub refilled-map : (f : Option Process → Option Process) (xs ys zs : List (Option Process)) → zs ≡ map f ys → ys ≡ xs → refill (length xs) xs zs ≡ map f xs
-refilled-map f xs ys zs is same = refilled xs zs (map f xs) (length-mapped f xs) (is ∙ ap (map f) same)
-
 module _ {t : Inside} (is : IsSound t) where
-  pub sound-put : (i : ℕ) (o : Option Process) (items : List (Option Process)) (next_pid : ℕ) (waiting : WaitPlaces) → items ≡ slice_set t.places.items i o → next_pid ≤ 2147483648 → waiting ≡ with_place t.waiting i
+  -- as many places, and each of those who wait stands where one may
+  sound-as : {items new : List (Option Process)} (next_pid : ℕ) {waiting may : WaitPlaces} → items ≡ new → length new ≡ length t.places.items → next_pid ≤ 2147483648 → waiting ≡ may → AreWithin new may
       → IsSound (record { places = record { items = items }; last = t.last; next_pid = next_pid; awake = t.awake; waiting = waiting })
-  sound-put i o items next_pid waiting put fits set' = record {
-    all = ap length put ∙ length-set t.places.items i o ∙ is.all;
-    last = is.last;
-    pids = fits;
-    waiting = subst (λ (w : WaitPlaces). AreWithin items w) (sym set') (subst (λ (os : List (Option Process)). AreWithin os (with_place t.waiting i)) (sym put) (within-put is.waiting i o));
-  }
+  sound-as next_pid now all fits set' within =
+      record { all = ap length now ∙ all ∙ is.all; last = is.last; pids = fits; waiting = rw (now, set') within }
 
-  pub sound-freed : (i : ℕ) (items : List (Option Process)) → items ≡ slice_set t.places.items i None
-      → IsSound (record { places = record { items = items }; last = t.last; next_pid = t.next_pid; awake = t.awake; waiting = t.waiting })
-  sound-freed i items freed = record {
-    all = ap length freed ∙ length-set t.places.items i None ∙ is.all;
-    last = is.last;
-    pids = is.pids;
-    waiting = subst (λ (os : List (Option Process)). AreWithin os t.waiting) (sym freed) (within-freed is.waiting i);
-  }
+  pub sound-put : (i : ℕ) (o : Option Process) {items : List (Option Process)} (next_pid : ℕ) {waiting : WaitPlaces} → items ≡ slice_set t.places.items i o → next_pid ≤ 2147483648 → waiting ≡ with_place t.waiting i
+      → IsSound (record { places = record { items = items }; last = t.last; next_pid = next_pid; awake = t.awake; waiting = waiting })
+  sound-put i o next_pid put fits set' = sound-as next_pid put (length-set t.places.items i o) fits set' (within-put is.waiting i o)
 
-  pub sound-orphaned : (pid : ℕ) (items : List (Option Process)) → items ≡ map (option_map (orphaned pid)) t.places.items
-      → IsSound (record { places = record { items = items }; last = t.last; next_pid = t.next_pid; awake = t.awake; waiting = t.waiting })
-  sound-orphaned pid items mapped = record {
-    all = ap length mapped ∙ length-mapped (option_map (orphaned pid)) t.places.items ∙ is.all;
-    last = is.last;
-    pids = is.pids;
-    waiting = subst (λ (os : List (Option Process)). AreWithin os t.waiting) (sym mapped) (within-orphaned is.waiting pid);
-  }
+  pub sound-freed : (i : ℕ) {items : List (Option Process)} → items ≡ slice_set t.places.items i None → IsSound (record t { places = record { items = items } })
+  sound-freed i freed = sound-as t.next_pid freed (length-set t.places.items i None) is.pids refl (within-freed is.waiting i)
+
+  pub sound-orphaned : (pid : ℕ) {items : List (Option Process)} → items ≡ map (option_map (orphaned pid)) t.places.items → IsSound (record t { places = record { items = items } })
+  sound-orphaned pid mapped = sound-as t.next_pid mapped (length-map t.places.items (option_map (orphaned pid))) is.pids refl (within-orphaned is.waiting pid)
 
 -- who gets a seat gets a pid that is one
 pub seat-pid : (t : Places) (seat : Seat) → Ok seat ≡ seat_of t → t.next_pid ≤ 2147483647

@@ -1,13 +1,11 @@
-use Rattle.proc.proofs.Common.{None, arith, option_map, sym, ◌∙◌, orphaned}
-use Rattle.proc.proofs.Mapped.{mapped_to-all, mapped_to-none, set-mapped_to}
+use Rattle.proc.proofs.Common.{arith, option_map, orphaned, ◌∙◌}
+use Rattle.std.proofs.lemmas.List.{append-nil, drop_all, get_or_default, take_all}
+use Rattle.std.proofs.lemmas.List.Edits.{map_over_more}
 use Rattle.proc.proofs.table.orphan_all.Goals as goal
-
-pub loop-place-init : goal.loop-place-init
-loop-place-init c = sym (mapped_to-none (option_map (orphaned c.args.pid)) c.args.places.now)
 
 pub loop-place-preserved : goal.loop-place-preserved
 loop-place-preserved c =
-    rw (c.orphan.ensures, c.loop-place.invariant) (set-mapped_to (option_map (orphaned c.args.pid)) c.loop-place.place-index c.args.places.now None (omega arith))
+    rw c.orphan.ensures (map_over_more (option_map (orphaned c.args.pid)) c.args.places.now _ _ _ (omega arith) c.loop-place.invariant (get_or_default c.loop-place.places _ _ _ (omega arith)))
 
 pub returns : goal.returns
-returns c = c.loop-place.invariant ∙ mapped_to-all (option_map (orphaned c.args.pid)) c.loop-place.place-index c.args.places.now (omega arith)
+returns c = let all = c.loop-place-test.false in c.loop-place.invariant ∙ rw (take_all, drop_all) (append-nil _)

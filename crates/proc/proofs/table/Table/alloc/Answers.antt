@@ -8,4 +8,4 @@ invariant_of-self c =
     let o : Option Process = Some (record c.args.process { pid = seat.pid }) in
     let low : c.args.self.now.next_pid ≤ 2147483647 = seat-pid c.args.self.now seat c.in_ok-seat.ensures.seat in
     let same = ap (λ (t : Places). t.next_pid) c.self.view_is in
-    sound-put c.self.invariant seat.place o _ (c.self.inside.next_pid + 1) c.set.new.self (refilled-set c.self.inside.places.items c.deref_mut.result.now seat.place o c.deref_mut.ensures.value) (omega arith) c.set.ensures
+    sound-put c.self.invariant seat.place o (c.self.inside.next_pid + 1) (refilled-set c.self.inside.places.items _ seat.place o c.deref_mut.ensures.value) (omega arith) c.set.ensures

@@ -5,7 +5,4 @@ use Rattle.proc.proofs.table.Table.process_mut.Goals as goal
 pub invariant_of-self-lent : goal.invariant_of-self-lent
 invariant_of-self-lent c =
     let is = c.self.invariant in
-    λ lent. (
-      λ w. sound-put is c.args.at (Some w) _ c.self.inside.next_pid c.set.new.self refl is.pids c.set.ensures,
-      sound-put is c.args.at c.in_ok-self-inside.field-0.now _ c.self.inside.next_pid c.set.new.self refl is.pids c.set.ensures,
-    )
+    λ lent. (λ w. sound-put is c.args.at (Some w) _ refl is.pids c.set.ensures, sound-put is c.args.at c.in_ok-self-inside.field-0.now _ refl is.pids c.set.ensures)
