@@ -1,18 +1,13 @@
 -- Lemmas on what `specs/Counts` defines.
-use Rattle.std.specs.Prelude.{Bool, List, None, Option, Some, [], cond, count_by, false, length, nat_lt, option_and_then, option_map, slice_set, suc, sum_by, true, zero, ℕ, ◌+◌, ◌<◌, ◌≡◌, ◌≢◌, ◌≤◌, ◌==◌, ◌||◌, ◌∷◌}
-use Rattle.std.specs.List.{list_any}
-use Rattle.std.proofs.Common.{ap, arith, get_or-set_other, get_or-set_same, inl, inr, refl, ◌∙◌}
-use Rattle.std.proofs.lemmas.Bool.{cases_eq, cases_lt}
+use Rattle.files.proofs.Common.{Bool, List, None, Option, Some, [], cond, count_by, false, length, nat_lt, option_and_then, option_map, slice_set, suc, sum_by, true, zero, ℕ, ◌+◌, ◌<◌, ◌≡◌}
+use Rattle.files.proofs.Common.{◌≢◌, ◌==◌, ◌||◌, ◌∷◌, list_any, ap, arith, get_or-set_other, get_or-set_same, inl, inr, refl, ◌∙◌, cases_eq, cases_lt, le-ltb, lt-ltb, sum_by-cons}
+use Rattle.files.proofs.Common.{sum_by-set, Counted, closed, count_at, count_in, fewer, more, moved, moved_in, opened, shared, clear, free_slots, put, slot, taken, is_described, is_same, State}
 use Rattle.std.proofs.lemmas.Bool.Decides.{nat_tests}
 use Rattle.std.proofs.lemmas.List.Folds.{sum_by-replicate}
-use Rattle.std.proofs.lemmas.List.Sums.{sum_by-cons, sum_by-set}
+use Rattle.files.proofs.Mapped.{all-set}
 use Rattle.files.specs.declared.file.OpenFile.{OpenFile}
-use Rattle.files.specs.Places.{Counted, closed, count_at, count_in, fewer, more, moved, moved_in, opened, shared}
-use Rattle.unixmodel.specs.Files.{clear, free_slots, put, slot, taken}
 use Rattle.unixmodel.specs.Outcome.{no_descriptors}
 use Rattle.unixmodel.specs.Process.{Process}
-use Rattle.unixmodel.specs.Reap.{is_described, is_same}
-use Rattle.unixmodel.specs.State.{State}
 use Rattle.files.specs.Counts.{names, one_in}
 
 abbrev pub names_in : ℕ → Option Process → ℕ
@@ -56,24 +51,25 @@ pub names-none : (k : ℕ) → names k no_descriptors ≡ 0
 unfolding no_descriptors
 names-none k = names-free k 16
 
--- ---- processes
-
 -- ---- the table
 
-one_at-self : (k : ℕ) → one_at k k ≡ 1
+pub one_at-self : (k : ℕ) → one_at k k ≡ 1
 one_at-self k = grind (arith, nat_tests)
 
 one_at-other : (k n : ℕ) → k ≢ n → one_at k n ≡ 0
 one_at-other k n h = grind (arith, nat_tests)
 
+-- at place i, and at each other, where i has another
+count-set : (t : List (Option Counted)) (i : ℕ) (o : Option Counted) (P : ℕ → ℕ → Type 0) → i < length t → P i (count_in o) → ((k : ℕ) → k ≢ i → P k (count_at t k)) → (k : ℕ) → P k (count_at (slice_set t i o) k)
+count-set t i o P h here others k = elim (cases_eq k i) [
+  | inl same ↦ rw (same, get_or-set_same t i o None h) here
+  | inr other ↦ rw (get_or-set_other t i k o None other) (others k other)
+]
+
 -- an open file takes a free place
 pub count-opened : (t : List (Option Counted)) (i : ℕ) (f : OpenFile) → i < length t → slot t i ≡ None → (k : ℕ) → count_at (opened t i f) k ≡ count_at t k + one_at k i
-count-opened t i f h free k = elim (cases_eq k i) [
-  | inl same ↦
-      let set = get_or-set_same t i (Some (record { file = f; count = 1 })) None h in
-      rw (same, set, free, one_at-self i) refl
-  | inr other ↦ rw (get_or-set_other t i k (Some (record { file = f; count = 1 })) None other, one_at-other k i other) (omega arith)
-]
+count-opened t i f h free =
+    count-set t i (Some (record { file = f; count = 1 })) (λ k n. n ≡ count_at t k + one_at k i) h (rw (free, one_at-self i) refl) (λ k other. rw (one_at-other k i other) (omega arith))
 
 within-count : (t : List (Option Counted)) (i : ℕ) → 0 < count_at t i → i < length t
 within-count [] i h = absurd (omega (arith, h))
@@ -86,59 +82,38 @@ count-more (Some c) h = refl
 
 -- one descriptor more names an open file
 pub count-shared : (t : List (Option Counted)) (i : ℕ) → 0 < count_at t i → (k : ℕ) → count_at (shared t i) k ≡ count_at t k + one_at k i
-count-shared t i h k = elim (cases_eq k i) [
-  | inl same ↦
-      let set = get_or-set_same t i (option_map more (slot t i)) None (within-count t i h) in
-      rw (same, set, one_at-self i) (count-more (slot t i) h)
-  | inr other ↦ rw (get_or-set_other t i k (option_map more (slot t i)) None other, one_at-other k i other) (omega arith)
-]
-
-pub lt-yes : (m n : ℕ) → m < n → nat_lt m n ≡ true
-lt-yes m n h = grind (arith, nat_tests)
-
-pub lt-no : (m n : ℕ) → n ≤ m → nat_lt m n ≡ false
-lt-no m n h = grind (arith, nat_tests)
+count-shared t i h =
+    count-set t i (option_map more (slot t i)) (λ k n. n ≡ count_at t k + one_at k i) (within-count t i h) (rw (one_at-self i) (count-more (slot t i) h)) (λ k other. rw (one_at-other k i other) (omega arith))
 
 count-fewer : (o : Option Counted) → 0 < count_in o → count_in (option_and_then fewer o) + 1 ≡ count_in o
 count-fewer None h = absurd (omega (arith, h))
 count-fewer (Some c) h = elim (cases_lt 1 c.count) [
-  | inl more ↦ rw (lt-yes 1 c.count more) (omega (arith, more))
-  | inr one ↦ rw (lt-no 1 c.count one) (omega (arith, one, h))
+  | inl more ↦ rw (lt-ltb 1 c.count more) (omega (arith, more))
+  | inr one ↦ rw (le-ltb 1 c.count one) (omega (arith, one, h))
 ]
 
 -- one descriptor fewer does
 pub count-closed : (t : List (Option Counted)) (i : ℕ) → 0 < count_at t i → (k : ℕ) → count_at (closed t i) k + one_at k i ≡ count_at t k
-count-closed t i h k = elim (cases_eq k i) [
-  | inl same ↦
-      let set = get_or-set_same t i (option_and_then fewer (slot t i)) None (within-count t i h) in
-      rw (same, set, one_at-self i) (count-fewer (slot t i) h)
-  | inr other ↦ rw (get_or-set_other t i k (option_and_then fewer (slot t i)) None other, one_at-other k i other) (omega arith)
-]
+count-closed t i h =
+    count-set t i (option_and_then fewer (slot t i)) (λ k n. n + one_at k i ≡ count_at t k) (within-count t i h) (rw (one_at-self i) (count-fewer (slot t i) h)) (λ k other. rw (one_at-other k i other) (omega arith))
 
 count-in_moved : (offset : ℕ) (o : Option Counted) → count_in (option_map (moved_in offset) o) ≡ count_in o
 count-in_moved offset None = refl
 count-in_moved offset (Some c) = refl
 
-set-same : (t : List (Option Counted)) (i : ℕ) (o : Option Counted) (k : ℕ) → count_in o ≡ count_at t i → count_at (slice_set t i o) k ≡ count_at t k
-set-same [] i o k same = refl
-set-same (x ∷ t) zero o zero same = same
-set-same (x ∷ t) zero o (suc k) same = refl
-set-same (x ∷ t) (suc i) o zero same = refl
-set-same (x ∷ t) (suc i) o (suc k) same = set-same t i o k same
-
 -- where it goes on from another offset, as many do
 pub count-moved : (t : List (Option Counted)) (i offset k : ℕ) → count_at (moved t i offset) k ≡ count_at t k
-count-moved t i offset k = set-same t i (option_map (moved_in offset) (slot t i)) k (count-in_moved offset (slot t i))
+count-moved t i offset = all-set (λ k o. count_in o ≡ count_at t k) t i (option_map (moved_in offset) (slot t i)) (count-in_moved offset (slot t i)) (λ k. refl)
 
 -- ---- some descriptor names it exactly where the count isn't 0
 
-lt-sum : (m n : ℕ) → nat_lt 0 (m + n) ≡ (nat_lt 0 m || nat_lt 0 n)
+pub lt-sum : (m n : ℕ) → nat_lt 0 (m + n) ≡ (nat_lt 0 m || nat_lt 0 n)
 lt-sum m n = elim (cases_lt 0 m) [
-  | inl some ↦ rw (lt-yes 0 m some) (lt-yes 0 (m + n) (omega (arith, some)))
-  | inr none ↦ (let gone : m + n ≡ n = omega (arith, none) in rw (lt-no 0 m none, gone) refl)
+  | inl some ↦ rw (lt-ltb 0 m some) (lt-ltb 0 (m + n) (omega (arith, some)))
+  | inr none ↦ (let gone : m + n ≡ n = omega (arith, none) in rw (le-ltb 0 m none, gone) refl)
 ]
 
-lt-one : (b : Bool) → nat_lt 0 (cond b 1 0) ≡ b
+pub lt-one : (b : Bool) → nat_lt 0 (cond b 1 0) ≡ b
 lt-one true = refl
 lt-one false = refl
 
@@ -158,9 +133,3 @@ any-described k (Some p ∷ ps) =
 
 pub described-count : (s : State) (k : ℕ) → is_described s k ≡ nat_lt 0 (count_of s.places k)
 described-count s k = any-described k s.places
-
-pub described-yes : (s : State) (k : ℕ) → 0 < count_of s.places k → is_described s k ≡ true
-described-yes s k h = described-count s k ∙ lt-yes 0 (count_of s.places k) h
-
-pub described-no : (s : State) (k : ℕ) → count_of s.places k ≡ 0 → is_described s k ≡ false
-described-no s k h = described-count s k ∙ lt-no 0 (count_of s.places k) (omega (arith, h))

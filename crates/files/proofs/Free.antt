@@ -1,13 +1,7 @@
 -- How many places are free, and that two are taken one after the other.
-use Rattle.std.specs.Prelude.{List, None, Option, Some, [], cond, count_by, is_none, length, not, ℕ, ◌+◌, ◌<◌, ◌≡◌, ◌∷◌, true}
-use Rattle.std.specs.List.{prefix_len}
-use Rattle.std.proofs.Common.{arith, refl}
+use Rattle.files.proofs.Common.{List, None, Option, Some, [], cond, count_by, is_none, length, not, ℕ, ◌+◌, ◌<◌, ◌≡◌, ◌∷◌, true, prefix_len, arith}
+use Rattle.files.proofs.Common.{refl, sum_by-cons, sum_by-set, le-ltb, lt-ltb, file_of, Counted, free_count, opens_of, free_slot, put, slot}
 use Rattle.std.proofs.lemmas.List.Quantifiers.{position-Some}
-use Rattle.std.proofs.lemmas.List.Sums.{sum_by-cons, sum_by-set}
-use Rattle.files.proofs.CountsLemmas.{lt-no, lt-yes}
-use Rattle.files.specs.Meant.{file_of}
-use Rattle.files.specs.Places.{Counted, free_count, opens_of}
-use Rattle.unixmodel.specs.Files.{free_slot, put, slot}
 
 abbrev one_free : {X : Type 0} → Option X → ℕ
 one_free o = cond (is_none o) 1 0
@@ -30,11 +24,11 @@ some-free (Some x ∷ xs) h = omega (arith, some-free xs (omega (arith, h, free-
 
 -- no place is free
 pub free-None : {X : Type 0} (xs : List (Option X)) → count_by is_none xs ≡ 0 → free_slot xs ≡ None
-free-None xs h = rw (lt-no (taken_first xs) (length xs) (omega (arith, none-free xs h))) refl
+free-None xs h = rw (le-ltb (taken_first xs) (length xs) (omega (arith, none-free xs h))) refl
 
 -- the lowest free place
 pub free-Some : {X : Type 0} (xs : List (Option X)) → 0 < count_by is_none xs → free_slot xs ≡ Some (taken_first xs)
-free-Some xs h = rw (lt-yes (taken_first xs) (length xs) (some-free xs h)) refl
+free-Some xs h = rw (lt-ltb (taken_first xs) (length xs) (some-free xs h)) refl
 
 is-None : {X : Type 0} (o : Option X) → is_none o ≡ true → o ≡ None
 is-None None h = refl

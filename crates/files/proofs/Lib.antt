@@ -1,3 +1,4 @@
+mod Common
 pub mod Shown
 pub mod Free
 pub mod Whole

@@ -1,16 +1,10 @@
 -- Lemmas on what `specs/Pipes` defines.
-use Rattle.std.specs.Prelude.{Bool, List, None, Option, Some, [], false, is_some, length, suc, true, zero, ℕ, ◌<◌, ◌≡◌, ◌≢◌, ◌||◌, ◌==◌, ◌∷◌}
-use Rattle.std.specs.List.{list_any}
-use Rattle.std.proofs.Common.{ap, arith, get_or-set_other, inl, inr, length-set, refl, sym, ◌∙◌}
-use Rattle.std.proofs.lemmas.Bool.{cases_eq}
-use Rattle.std.proofs.lemmas.Bool.Decides.{nat_tests}
-use Rattle.files.specs.Places.{has_pipe}
-use Rattle.files.proofs.Whole.{all-set, kept-each, kept_in}
-use Rattle.unixmodel.specs.Files.{clear, put, slot, taken}
-use Rattle.unixmodel.specs.OpenFiles.{End, OpenFile, is_pipe}
+use Rattle.files.proofs.Common.{Bool, List, None, Option, Some, [], false, is_some, length, suc, true, zero, ℕ, ◌<◌, ◌≡◌, ◌≢◌, ◌||◌, ◌∷◌, list_any, ap, arith, get_or-set_other}
+use Rattle.files.proofs.Common.{inl, inr, length-set, refl, sym, ◌∙◌, cases_eq, eq-eqb, ne_eqb, has_pipe, clear, put, slot, taken, End, is_pipe, kept, without_pipes, State}
+use Rattle.files.proofs.Mapped.{all-set}
+use Rattle.files.proofs.Whole.{kept-each, kept_in}
+use Rattle.unixmodel.specs.OpenFiles.{OpenFile}
 use Rattle.unixmodel.specs.OpenFiles.Target.{OnNode, OnPipe}
-use Rattle.unixmodel.specs.Reap.{kept, without_pipes}
-use Rattle.unixmodel.specs.State.{State}
 use Rattle.files.specs.Pipes.{IsPiped}
 
 -- ---- open files that come and go
@@ -41,15 +35,9 @@ has_pipe-put opens k f q h free = any-put (λ (g : OpenFile). is_pipe q g.target
 pub has_pipe-clear : (opens : List (Option OpenFile)) (k : ℕ) (f : OpenFile) (q : ℕ) → slot opens k ≡ Some f → has_pipe opens q ≡ (is_pipe q f.target || has_pipe (clear opens k) q)
 has_pipe-clear opens k f q at = any-clear (λ (g : OpenFile). is_pipe q g.target) opens k f at
 
-eq-self : (n : ℕ) → (n == n) ≡ true
-eq-self n = grind (arith, nat_tests)
-
-eq-other : (m n : ℕ) → m ≢ n → (n == m) ≡ false
-eq-other m n h = grind (arith, nat_tests)
-
 -- an end of another pipe goes
 pub other-pipe : (opens : List (Option OpenFile)) (k q r : ℕ) (f : OpenFile) (e : End) → slot opens k ≡ Some f → f.target ≡ OnPipe q e → r ≢ q → has_pipe (clear opens k) r ≡ has_pipe opens r
-other-pipe opens k q r f e at on other = sym (has_pipe-clear opens k f r at ∙ rw (on, eq-other r q other) refl)
+other-pipe opens k q r f e at on other = sym (has_pipe-clear opens k f r at ∙ rw (on, ne_eqb q r (λ e. other (sym e))) refl)
 
 -- a node goes
 pub piped-node : (pipes : List (Option (List ℕ))) (opens : List (Option OpenFile)) (k n offset : ℕ) (f : OpenFile) → IsPiped pipes opens → slot opens k ≡ Some f → f.target ≡ OnNode n offset → IsPiped pipes (clear opens k)
@@ -58,7 +46,7 @@ piped-node pipes opens k n offset f is at on q = is q ∙ has_pipe-clear opens k
 -- an end goes, and another one of the pipe stays
 pub piped-end : (pipes : List (Option (List ℕ))) (opens : List (Option OpenFile)) (k q : ℕ) (f : OpenFile) (e : End) → IsPiped pipes opens → slot opens k ≡ Some f → f.target ≡ OnPipe q e → has_pipe (clear opens k) q ≡ true → IsPiped pipes (clear opens k)
 piped-end pipes opens k q f e is at on stays r = elim (cases_eq r q) [
-  | inl same ↦ rw (same, is q, has_pipe-clear opens k f q at, stays, on, eq-self q) refl
+  | inl same ↦ rw (same, is q, has_pipe-clear opens k f q at, stays, on, eq-eqb q q refl) refl
   | inr other ↦ is r ∙ sym (other-pipe opens k q r f e at on other)
 ]
 

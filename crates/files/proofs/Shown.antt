@@ -1,18 +1,12 @@
 -- What a table shows of its places.
-use Rattle.std.proofs.Common.{IfSome, List, None, Option, Some, [], ap, arith, length, length-set, map, option_map, refl, replicate, slice_set, subst, suc, sym, zero, ℕ, ◌<◌, ◌≡◌, ◌∙◌, ◌∷◌}
-use Rattle.std.specs.List.{list_any, refill}
+use Rattle.files.proofs.Common.{IfSome, List, None, Option, Some, [], ap, arith, length, length-set, map, option_map, refl, replicate, slice_set, suc, sym, zero, ℕ, ◌<◌, ◌≡◌, ◌∙◌, ◌∷◌, list_any, refill, length-map, map-set}
+use Rattle.files.proofs.Common.{get_or-map, file_of, is_slot_end, is_slot_pipe, Counted, IsTable, count_in, counted_of, has_end, has_pipe, moved, moved_in, opens_of, free_slot, slot, End, is_end, is_pipe, holds}
 use Rattle.arrayvec.proofs.ArrayVecLemmas.{items-with_items}
 use Rattle.files.specs.declared.table.Slot.{Slot}
-use Rattle.files.proofs.Mapped.{any-told, free_slot-told, length-told, set-told, slot-told}
-use Rattle.files.specs.Meant.{file_of, is_slot_end, is_slot_pipe}
-use Rattle.files.specs.declared.file.Target.{Target}
+use Rattle.files.proofs.Mapped.{all-set, any-told, free_slot-told}
 use Rattle.files.specs.declared.table.Files.TheInside.{Inside}
-use Rattle.files.specs.Places.{Counted, IsTable, counted_of, has_end, has_pipe, moved, moved_in, moved_to, opens_of}
 use Rattle.files.specs.Sound.{IsSound}
-use Rattle.files.proofs.Whole.{all-set}
-use Rattle.unixmodel.specs.Files.{free_slot, slot}
-use Rattle.unixmodel.specs.OpenFiles.{End, OpenFile, is_end, is_pipe}
-use Rattle.unixmodel.specs.State.{holds}
+use Rattle.unixmodel.specs.OpenFiles.{OpenFile}
 
 abbrev pub shown : List (Option Slot) → List (Option Counted)
 shown xs = map (option_map counted_of) xs
@@ -42,60 +36,39 @@ pub refilled : (xs ys : List (Option Slot)) (i : ℕ) (o : Option Slot) → ys �
 refilled xs ys i o same = items-with_items (record { items = xs }) (slice_set ys i o) (length-set ys i o ∙ ap length same) ∙ ap (λ l. slice_set l i o) same
 
 pub shown-refilled : (xs ys : List (Option Slot)) (i : ℕ) (o : Option Slot) → ys ≡ xs → shown (refill (length xs) xs (slice_set ys i o)) ≡ slice_set (shown xs) i (option_map counted_of o)
-shown-refilled xs ys i o same = ap shown (refilled xs ys i o same) ∙ set-told counted_of xs i o
+shown-refilled xs ys i o same = ap shown (refilled xs ys i o same) ∙ map-set (option_map counted_of) xs i o
 
 -- ---- what an open file is open on, written in its place
 
--- an open file that is open on something else
-abbrev pub retargeted : Slot → Target → Slot
-retargeted s t = record s { file = record s.file { target = t } }
+named-moved : (offset : ℕ) (q u : Option Slot) → option_map counted_of u ≡ option_map (moved_in offset) (option_map counted_of q) → ((s : Slot) → q ≡ Some s → 0 < s.references) → (s : Slot) → u ≡ Some s → 0 < s.references
+named-moved offset None u told each s at = absurd (let bad : None ≡ Some (counted_of s) = sym told ∙ ap (option_map counted_of) at in cc)
+named-moved offset (Some v) u told each s at =
+    let count : s.references ≡ v.references = ap count_in (sym (ap (option_map counted_of) at) ∙ told) in
+    omega (arith, each v refl)
 
--- a table one place of which was lent
-abbrev lent : List (Option Slot) → List (Option Slot) → ℕ → Option Slot → Inside
-lent xs ys i o = record { slots = record { items = refill (length xs) xs (slice_set ys i o) } }
+-- a place that was lent, with what was left there: an open file at its new offset, where there is one
+module _ {t : Inside} (is : IsSound t) {ys : List (Option Slot)} (same : ys ≡ t.slots.items) (i offset : ℕ) (o : Option Slot) (here : option_map counted_of o ≡ option_map (moved_in offset) (option_map counted_of (slot ys i))) where
+  pub moved-shown : shown (refill (length t.slots.items) t.slots.items (slice_set ys i o)) ≡ moved (shown t.slots.items) i offset
+  moved-shown = shown-refilled t.slots.items ys i o same ∙ rw (here, same, get_or-map (option_map counted_of) t.slots.items i None) refl
 
-sound-lent : (xs ys : List (Option Slot)) (i : ℕ) (o : Option Slot) → ys ≡ xs → length xs ≡ 100 → AreNamed xs → ((s : Slot) → o ≡ Some s → 0 < s.references) → IsSound (lent xs ys i o)
-sound-lent xs ys i o same all named here =
-    let is = refilled xs ys i o same in
-    record {
-      all = ap length is ∙ length-set xs i o ∙ all;
-      named = subst (λ l. AreNamed l) (sym is) (all-set (λ k x. (s : Slot) → x ≡ Some s → 0 < s.references) xs i o here named);
-    }
-
-pub sound-kept : (xs ys : List (Option Slot)) (i : ℕ) → ys ≡ xs → length xs ≡ 100 → AreNamed xs → IsSound (lent xs ys i (slot ys i))
-sound-kept xs ys i same all named = sound-lent xs ys i (slot ys i) same all named (λ s at. named i s (sym (ap (λ l. slot l i) same) ∙ at))
-
-pub sound-moved : (xs ys : List (Option Slot)) (i : ℕ) (s : Slot) (t : Target) → ys ≡ xs → slot ys i ≡ Some s → length xs ≡ 100 → AreNamed xs → IsSound (lent xs ys i (Some (retargeted s t)))
-sound-moved xs ys i s t same at all named =
-    let some = named i s (sym (ap (λ l. slot l i) same) ∙ at) in
-    sound-lent xs ys i (Some (retargeted s t)) same all named (λ u is. let count : s.references ≡ u.references = cc in omega (arith, some, count))
-
-pub kept-shown : (xs ys : List (Option Slot)) (i offset : ℕ) → ys ≡ xs → slot ys i ≡ None → shown (refill (length xs) xs (slice_set ys i (slot ys i))) ≡ moved (shown xs) i offset
-kept-shown xs ys i offset same none =
-    shown-refilled xs ys i (slot ys i) same
-    ∙ ap (λ o. slice_set (shown xs) i (option_map counted_of o)) none
-    ∙ ap (λ o. slice_set (shown xs) i (option_map (moved_in offset) o)) (sym (slot-told counted_of xs i ∙ ap (option_map counted_of) (sym (ap (λ l. slot l i) same) ∙ none)))
-
-pub moved-shown : (xs ys : List (Option Slot)) (i offset : ℕ) (s : Slot) (t : Target) → ys ≡ xs → slot ys i ≡ Some s → t ≡ moved_to offset s.file.target → shown (refill (length xs) xs (slice_set ys i (Some (retargeted s t)))) ≡ moved (shown xs) i offset
-moved-shown xs ys i offset s t same at is =
-    shown-refilled xs ys i (Some (retargeted s t)) same
-    ∙ ap (λ u. slice_set (shown xs) i (Some (counted_of (retargeted s u)))) is
-    ∙ ap (λ o. slice_set (shown xs) i (option_map (moved_in offset) o)) (sym (slot-told counted_of xs i ∙ ap (option_map counted_of) (sym (ap (λ l. slot l i) same) ∙ at)))
+  pub sound-moved : IsSound (record { slots = record { items = refill (length t.slots.items) t.slots.items (slice_set ys i o) } })
+  sound-moved =
+      let now = refilled t.slots.items ys i o same in
+      record {
+        all = ap length now ∙ length-set t.slots.items i o ∙ is.all;
+        named = rw now (all-set (λ k x. (s : Slot) → x ≡ Some s → 0 < s.references) t.slots.items i o (named-moved offset (slot ys i) o here (rw same (is.named i))) is.named);
+      }
 
 -- ---- the whole table
 
-table-named : (o : Option Slot) (c : Counted) → IfSome o (λ s. 0 < s.references) → option_map counted_of o ≡ Some c → 0 < c.count
+table-named : (o : Option Slot) (c : Counted) → ((s : Slot) → o ≡ Some s → 0 < s.references) → option_map counted_of o ≡ Some c → 0 < c.count
 table-named None c here at = absurd (let bad : None ≡ Some c = at in cc)
-table-named (Some s) c here at = let same : counted_of s ≡ c = cc in subst (λ (d : Counted). 0 < d.count) same here
-
-some-named : (xs : List (Option Slot)) (i : ℕ) (o : Option Slot) → AreNamed xs → slot xs i ≡ o → IfSome o (λ s. 0 < s.references)
-some-named xs i None named at = tt
-some-named xs i (Some s) named at = named i s at
+table-named (Some s) c here at = let count : s.references ≡ c.count = ap count_in at in omega (arith, here s refl)
 
 pub table-shown : (xs : List (Option Slot)) → length xs ≡ 100 → AreNamed xs → IsTable (shown xs)
 table-shown xs all named = record {
-  all = length-told counted_of xs ∙ all;
-  named = λ i c at. table-named (slot xs i) c (some-named xs i (slot xs i) named refl) (sym (slot-told counted_of xs i) ∙ at);
+  all = length-map xs (option_map counted_of) ∙ all;
+  named = λ i c at. table-named (slot xs i) c (named i) (sym (get_or-map (option_map counted_of) xs i None) ∙ at);
 }
 
 -- the open files

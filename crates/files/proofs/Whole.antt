@@ -1,19 +1,14 @@
 -- What the table comes to in the abstract Unix's state: its open files are the state's, and what is left of the table
 -- where descriptors go is what a state is left with where nothing names the others any more.
-use Rattle.std.specs.Prelude.{Bool, List, None, Option, Some, [], cond, false, length, option_and_then, option_map, slice_set, suc, zero, ℕ, ◌+◌, ◌-◌, ◌<◌, ◌≡◌, ◌≤◌, ◌∷◌}
-use Rattle.std.proofs.Common.{ap, ap₂, arith, inl, inr, length-set, refl, sym, ◌∙◌}
-use Rattle.std.proofs.lemmas.List.{set-get_or}
-use Rattle.std.proofs.lemmas.Bool.{cases_lt}
-use Rattle.files.proofs.CountsLemmas.{Counts, count_of, described-no, described-yes, lt-no, lt-yes}
-use Rattle.files.proofs.Mapped.{free_slot-told, length-told, set-told, slot-told}
+use Rattle.files.proofs.Common.{Bool, List, None, Option, Some, [], cond, false, length, option_and_then, option_map, slice_set, suc, ℕ, ◌+◌, ◌-◌, ◌<◌, ◌≡◌, ◌≤◌, ◌∷◌, ap, ap₂, arith}
+use Rattle.files.proofs.Common.{inl, inr, length-set, refl, sym, ◌∙◌, length-map, map-set, get_or-map, cases_lt, le-ltb, lt-ltb, file_of, Counted, IsTable, closed, count_at}
+use Rattle.files.proofs.Common.{count_in, fewer, file_at, more, moved, moved_in, opened, opens_of, shared, clear, free_slot, put, slot, is_described, kept, without_opens, State}
+use Rattle.std.proofs.Math.Seq.{map-set_same}
+use Rattle.files.proofs.CountsLemmas.{Counts, count_of, described-count}
+use Rattle.files.proofs.Mapped.{all-set, free_slot-told}
 use Rattle.files.specs.declared.file.OpenFile.{OpenFile}
 use Rattle.files.specs.declared.file.Target.TheVariants as target
-use Rattle.files.specs.Meant.{file_of, target_of}
-use Rattle.files.specs.Places.{Counted, IsTable, closed, count_at, count_in, fewer, file_at, more, moved, moved_in, moved_to, opened, opens_of, shared}
-use Rattle.unixmodel.specs.Files.{clear, free_slot, put, slot}
 use Rattle.unixmodel.specs.OpenFiles as unix
-use Rattle.unixmodel.specs.Reap.{is_described, kept, without_opens}
-use Rattle.unixmodel.specs.State.{State}
 pub use Rattle.std.proofs.lemmas.List.{set_past as set_outside}
 
 abbrev file_in : Counted → unix.OpenFile
@@ -22,10 +17,10 @@ file_in c = file_of c.file
 -- ---- the open files of a table
 
 pub length-opens : (t : List (Option Counted)) → length (opens_of t) ≡ length t
-length-opens t = length-told file_in t
+length-opens t = length-map t (option_map file_in)
 
 pub slot-opens : (t : List (Option Counted)) (i : ℕ) → slot (opens_of t) i ≡ option_map file_in (slot t i)
-slot-opens t i = slot-told file_in t i
+slot-opens t i = get_or-map (option_map file_in) t i None
 
 file_in-file : (o : Option Counted) → option_map file_in o ≡ option_map file_of (option_map (λ (c : Counted). c.file) o)
 file_in-file None = refl
@@ -39,37 +34,31 @@ free_slot-opens t = free_slot-told file_in t
 
 -- an open file takes a place
 pub opens-opened : (t : List (Option Counted)) (i : ℕ) (f : OpenFile) → opens_of (opened t i f) ≡ put (opens_of t) i (file_of f)
-opens-opened t i f = set-told file_in t i (Some (record { file = f; count = 1 }))
+opens-opened t i f = map-set (option_map file_in) t i (Some (record { file = f; count = 1 }))
 
+-- the open files are the same where only counts change
 file_in-more : (o : Option Counted) → option_map file_in (option_map more o) ≡ option_map file_in o
 file_in-more None = refl
 file_in-more (Some c) = refl
 
--- the open files are the same where only counts change
-stays : (t : List (Option Counted)) (i : ℕ) (o : Option Counted) → option_map file_in o ≡ option_map file_in (slot t i) → opens_of (slice_set t i o) ≡ opens_of t
-stays t i o same =
-    set-told file_in t i o
-    ∙ ap (λ f. slice_set (opens_of t) i f) (same ∙ sym (slot-opens t i))
-    ∙ set-get_or (opens_of t) i None
-
 pub opens-shared : (t : List (Option Counted)) (i : ℕ) → opens_of (shared t i) ≡ opens_of t
-opens-shared t i = stays t i (option_map more (slot t i)) (file_in-more (slot t i))
+opens-shared t i = map-set_same (option_map file_in) t i (option_map more (slot t i)) None (file_in-more (slot t i))
 
 file_in-fewer : (o : Option Counted) → 1 < count_in o → option_map file_in (option_and_then fewer o) ≡ option_map file_in o
 file_in-fewer None h = absurd (omega (arith, h))
-file_in-fewer (Some c) h = rw (lt-yes 1 c.count h) refl
+file_in-fewer (Some c) h = rw (lt-ltb 1 c.count h) refl
 
 -- other descriptors name it still
 pub opens-closed : (t : List (Option Counted)) (i : ℕ) → 1 < count_at t i → opens_of (closed t i) ≡ opens_of t
-opens-closed t i h = stays t i (option_and_then fewer (slot t i)) (file_in-fewer (slot t i) h)
+opens-closed t i h = map-set_same (option_map file_in) t i (option_and_then fewer (slot t i)) None (file_in-fewer (slot t i) h)
 
 gone-fewer : (o : Option Counted) → count_in o ≤ 1 → option_and_then fewer o ≡ None
 gone-fewer None h = refl
-gone-fewer (Some c) h = rw (lt-no 1 c.count h) refl
+gone-fewer (Some c) h = rw (le-ltb 1 c.count h) refl
 
 -- it was the last one
 pub opens-closed_last : (t : List (Option Counted)) (i : ℕ) → count_at t i ≤ 1 → opens_of (closed t i) ≡ clear (opens_of t) i
-opens-closed_last t i h = ap (λ o. opens_of (slice_set t i o)) (gone-fewer (slot t i) h) ∙ set-told file_in t i None
+opens-closed_last t i h = ap (λ o. opens_of (slice_set t i o)) (gone-fewer (slot t i) h) ∙ map-set (option_map file_in) t i None
 
 -- it is read and written from another offset on
 file_in-moved : (offset number old : ℕ) (o : Option Counted) (f : OpenFile) → option_map (λ (c : Counted). c.file) o ≡ Some f → f.target ≡ target.File number old
@@ -77,23 +66,14 @@ file_in-moved : (offset number old : ℕ) (o : Option Counted) (f : OpenFile) �
 file_in-moved offset number old None f at on = absurd (let bad : None ≡ Some f = at in cc)
 file_in-moved offset number old (Some c) f at on =
     let same : c.file ≡ f = cc in
-    ap (λ (g : OpenFile). Some (record (file_of g) { target = target_of (moved_to offset g.target) })) same
-    ∙ ap (λ x. Some (record (file_of f) { target = target_of (moved_to offset x) })) on
+    rw (same, on) refl
 
 pub opens-moved : (t : List (Option Counted)) (i offset number old : ℕ) (f : OpenFile) → file_at t i ≡ Some f → f.target ≡ target.File number old
     → opens_of (moved t i offset) ≡ put (opens_of t) i (record (file_of f) { target = unix.OnNode number offset })
 opens-moved t i offset number old f at on =
-    set-told file_in t i (option_map (moved_in offset) (slot t i)) ∙ ap (λ o. slice_set (opens_of t) i o) (file_in-moved offset number old (slot t i) f at on)
+    map-set (option_map file_in) t i (option_map (moved_in offset) (slot t i)) ∙ ap (λ o. slice_set (opens_of t) i o) (file_in-moved offset number old (slot t i) f at on)
 
 -- ---- a table stays one
-
--- what holds of each place, where one has another
-pub all-set : {X : Type 0} (P : ℕ → Option X → Type 0) (xs : List (Option X)) (i : ℕ) (o : Option X) → P i o → ((j : ℕ) → P j (slot xs j)) → (j : ℕ) → P j (slot (slice_set xs i o) j)
-all-set P [] i o here is j = is j
-all-set P (x ∷ xs) zero o here is zero = here
-all-set P (x ∷ xs) zero o here is (suc j) = is (suc j)
-all-set P (x ∷ xs) (suc i) o here is zero = is 0
-all-set P (x ∷ xs) (suc i) o here is (suc j) = all-set (λ n. P (suc n)) xs i o here (λ n. is (suc n)) j
 
 table-set : (t : List (Option Counted)) (i : ℕ) (o : Option Counted) → IsTable t → ((c : Counted) → o ≡ Some c → 0 < c.count) → IsTable (slice_set t i o)
 table-set t i o is here = record {
@@ -121,8 +101,8 @@ table-moved t i offset is = table-set t i (option_map (moved_in offset) (slot t 
 fewer-named : (o : Option Counted) (c : Counted) → option_and_then fewer o ≡ Some c → 0 < c.count
 fewer-named None c at = absurd (let bad : None ≡ Some c = at in cc)
 fewer-named (Some d) c at = elim (cases_lt 1 d.count) [
-  | inl more ↦ (let one : d.count - 1 ≡ c.count = ap count_in (rw (lt-yes 1 d.count more) at at) in omega (arith, one, more))
-  | inr last ↦ absurd (let bad : None ≡ Some c = rw (lt-no 1 d.count last) at at in cc)
+  | inl more ↦ (let one : d.count - 1 ≡ c.count = ap count_in (rw (lt-ltb 1 d.count more) at at) in omega (arith, one, more))
+  | inr last ↦ absurd (let bad : None ≡ Some c = rw (le-ltb 1 d.count last) at at in cc)
 ]
 
 pub table-closed : (t : List (Option Counted)) (i : ℕ) → IsTable t → IsTable (closed t i)
@@ -141,8 +121,8 @@ left-same t = record { all = refl; each = λ i c at. slot-opens t i ∙ ap (opti
 pub fewer-from : (o : Option Counted) (c : Counted) → option_and_then fewer o ≡ Some c → (d : Counted) × ((o ≡ Some d) × (d.file ≡ c.file))
 fewer-from None c at = absurd (let bad : None ≡ Some c = at in cc)
 fewer-from (Some d) c at = elim (cases_lt 1 d.count) [
-  | inl more ↦ (let is : record d { count = d.count - 1 } ≡ c = (let both : Some (record d { count = d.count - 1 }) ≡ Some c = rw (lt-yes 1 d.count more) at at in cc) in (d, (refl, ap (λ e. e.file) is)))
-  | inr last ↦ absurd (let bad : None ≡ Some c = rw (lt-no 1 d.count last) at at in cc)
+  | inl more ↦ (let is : record d { count = d.count - 1 } ≡ c = (let both : Some (record d { count = d.count - 1 }) ≡ Some c = rw (lt-ltb 1 d.count more) at at in cc) in (d, (refl, ap (λ e. e.file) is)))
+  | inr last ↦ absurd (let bad : None ≡ Some c = rw (le-ltb 1 d.count last) at at in cc)
 ]
 
 pub left-closed : (old new : List (Option Counted)) (i : ℕ) → IsLeft old new → IsLeft old (closed new i)
@@ -180,10 +160,10 @@ described s k f = is_described s k
 -- of a place whose count is that of its descriptors the state keeps what the table kept
 kept-place : (s : State) (k : ℕ) (old : Option unix.OpenFile) (new : Option Counted) → count_in new ≡ count_of s.places k → ((c : Counted) → new ≡ Some c → (old ≡ Some (file_of c.file)) × (0 < c.count))
     → kept_in (described s) k old ≡ option_map file_in new
-kept-place s k old None count held = kept-none (described s) k old (λ f. described-no s k (sym count))
+kept-place s k old None count held = kept-none (described s) k old (λ f. rw (described-count s k, ← count) refl)
 kept-place s k old (Some c) count held =
     let both = held c refl in
-    rw (both.0, described-yes s k (omega (arith, count, both.1))) refl
+    rw (both.0, described-count s k, lt-ltb 0 (count_of s.places k) (omega (arith, count, both.1))) refl
 
 -- where the table's counts are those of the descriptors, the state keeps of its open files what is left of the table
 pub kept-left : (s : State) (old new : List (Option Counted)) → IsTable new → IsLeft old new → Counts new s.places → kept (λ k f. is_described s k) 0 (opens_of old) ≡ opens_of new

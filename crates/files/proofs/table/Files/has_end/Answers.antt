@@ -1,5 +1,4 @@
-use Rattle.std.proofs.Common.{refl}
-use Rattle.files.specs.Meant.{end_of}
+use Rattle.files.proofs.Common.{refl, end_of}
 use Rattle.files.proofs.Shown.{has_end-shown}
 use Rattle.files.proofs.table.Files.has_end.Goals as goal
 

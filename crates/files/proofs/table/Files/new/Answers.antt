@@ -1,7 +1,6 @@
-use Rattle.std.proofs.Common.{refl}
+use Rattle.files.proofs.Common.{refl, free_slots}
 use Rattle.files.proofs.Shown.{named-free}
 use Rattle.files.proofs.table.Files.new.Goals as goal
-use Rattle.unixmodel.specs.Files.{free_slots}
 
 pub invariant_of-result : goal.invariant_of-result
 invariant_of-result c = rw c.from_array_in.ensures.items (record { all = refl; named = named-free 100 })
