@@ -1,3 +1,4 @@
+mod Common
 pub mod Erases
 pub mod Lines
 pub mod ReadSteps

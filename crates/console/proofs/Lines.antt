@@ -1,9 +1,6 @@
 -- Lemmas on a console's bytes in its ring.
-use Rattle.std.proofs.Common.{◌≡◌, ◌<◌, ℕ, zero, suc, ◌+◌, ◌++◌, ◌-◌, ◌%◌, List, [], get_or, length, take, drop, set, refl, sym, ap, ap₂, ◌∙◌, arith}
-use Rattle.unixmodel.specs.Console.{commit, with_byte}
-use Rattle.console.specs.Line.{line_of, without_last}
-use Rattle.ring.specs.Ring.{ring}
-use Rattle.ring.proofs.RingLemmas.{length-ring, take-ring, ring-append, ring-around, ring-set_behind, ring-push}
+use Rattle.console.proofs.Common.{◌≡◌, ◌<◌, ℕ, zero, suc, ◌+◌, ◌++◌, ◌-◌, ◌%◌, List, [], get_or, length, drop, set, refl, sym, ap, ap₂, ◌∙◌, arith}
+use Rattle.console.proofs.Common.{commit, with_byte, line_of, without_last, ring, length-ring, take-ring, ring-append, ring-around, ring-set_behind, ring-push}
 
 pub line-push : (xs : List ℕ) (k c e b : ℕ) → length xs ≡ 128 → k < 128 → c + e < 128 → line_of (set xs ((k + c + e) % 128) b) k c (e + 1) ≡ with_byte (line_of xs k c e) b
 line-push xs k c e b full start fits =
@@ -15,8 +12,7 @@ line-commit xs k c e = ap (λ l. record { committed = l; edited = [] }) (ring-ap
 
 pub line-erase : (xs : List ℕ) (k c e n m : ℕ) → m ≡ e - n → line_of xs k c m ≡ without_last n (line_of xs k c e)
 line-erase xs k c e n m h =
-    let a : m ≡ length (ring 128 xs (k + c) e) - n = omega (arith, length-ring 128 xs (k + c) e) in
-    ap (λ l. record { committed = ring 128 xs k c; edited = l }) (sym (take-ring 128 xs (k + c) m e (omega arith)) ∙ ap (λ i. take i (ring 128 xs (k + c) e)) a)
+    rw (length-ring, ← h) (ap (λ l. record { committed = ring 128 xs k c; edited = l }) (sym (take-ring 128 xs (k + c) m e (omega arith))))
 
 pub line-drop_first : (xs : List ℕ) (k c e : ℕ) → 0 < c → line_of xs ((k + 1) % 128) (c - 1) e ≡ record (line_of xs k c e) { committed = drop 1 (ring 128 xs k c) }
 unfolding ring

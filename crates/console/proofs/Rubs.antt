@@ -1,29 +1,16 @@
 -- Lemmas on what takes bytes off the screen.
-use Rattle.std.proofs.Common.{◌≡◌, ℕ, zero, suc, ◌+◌, List, [], ◌∷◌, ◌++◌, Option, flat_map, length, refl, sym, ap, ◌∙◌, append_assoc, arith}
-use Rattle.std.proofs.KnownBytes.{Appends-trans}
-use Rattle.std.specs.Io.KnownBytes.{Appends}
-use Rattle.unixmodel.specs.Console.{rub_out}
-use Rattle.console.specs.Line.{rub_outs}
+use Rattle.console.proofs.Common.{◌≡◌, ℕ, zero, suc, ◌+◌, List, [], ◌∷◌, ◌++◌, Option, flat_map, length, refl, sym, ap, ◌∙◌, append_assoc, arith, Appends-trans, Appends, rub_out, rub_outs}
 use Rattle.console.specs.Output.{AppendsBeginning}
-
-pub rub_outs-one : rub_outs 1 ≡ rub_out
-unfolding rub_outs
-rub_outs-one = refl
-
-pub rub_outs-none : rub_outs 0 ≡ []
-unfolding rub_outs
-rub_outs-none = refl
 
 pub rub_outs-split : (n m t : ℕ) → t ≡ n + suc m → rub_outs t ≡ rub_outs n ++ (rub_out ++ rub_outs m)
 unfolding rub_outs
-rub_outs-split zero m t h =
-    let a : t ≡ suc m = omega arith in
-    ap rub_outs a
+rub_outs-split zero m t h = let same : t ≡ suc m = omega arith in rw same refl
 rub_outs-split (suc n) m zero h = absurd (omega arith)
 rub_outs-split (suc n) m (suc t) h = ap (λ l. rub_out ++ l) (rub_outs-split n m t (omega arith)) ∙ sym (append_assoc rub_out (rub_outs n) (rub_out ++ rub_outs m))
 
 pub rub_outs-more : (n : ℕ) → rub_outs (n + 1) ≡ rub_outs n ++ rub_out
-rub_outs-more n = rub_outs-split n 0 (n + 1) (omega arith) ∙ ap (λ l. rub_outs n ++ (rub_out ++ l)) rub_outs-none
+unfolding rub_outs
+rub_outs-more n = rub_outs-split n 0 (n + 1) (omega arith)
 
 -- a byte of a line is taken off after another
 pub rub_outs-line : (xs : List ℕ) → rub_outs (length xs) ≡ flat_map (λ _. rub_out) xs

@@ -1,11 +1,11 @@
-use Rattle.std.proofs.Common.{◌-◌, arith, suc}
-use Rattle.std.proofs.KnownBytes.{Appends-nil, Appends-trans}
+use Rattle.console.proofs.Common.{◌-◌, arith, suc, Appends-nil, Appends-trans, rub_outs}
 use Rattle.std.proofs.lemmas.Result.{err_from_is_err_and}
-use Rattle.console.proofs.Rubs.{beginning-behind, rub_outs-more, rub_outs-none, rub_outs-split}
+use Rattle.console.proofs.Rubs.{beginning-behind, rub_outs-more, rub_outs-split}
 use Rattle.console.proofs.input.rub_out.Goals as goal
 
 pub loop-done-init : goal.loop-done-init
-loop-done-init g c = record { printed = rw rub_outs-none (Appends-nil _); later = omega arith }
+unfolding rub_outs
+loop-done-init g c = record { printed = Appends-nil _; later = omega arith }
 
 pub returns-in_err-put-clause-err : goal.returns-in_err-put-clause-err
 returns-in_err-put-clause-err g c =

@@ -1,6 +1,4 @@
-use Rattle.std.proofs.Common.{◌≤◌}
-use Rattle.std.specs.Io.KnownBytes.{Appends}
-use Rattle.console.specs.Line.{rub_outs}
+use Rattle.console.proofs.Common.{◌≤◌, Appends, rub_outs}
 use Rattle.console.proofs.input.rub_out.Given as goal
 
 abbrev pub invariant-loop-done : goal.invariant-loop-done

@@ -1,6 +1,5 @@
-use Rattle.std.proofs.Common.{◌+◌, ◌<◌, arith}
+use Rattle.console.proofs.Common.{arith, length-ring}
 use Rattle.console.proofs.Lines.{line-byte}
-use Rattle.ring.proofs.RingLemmas.{length-ring}
 use Rattle.console.proofs.input.Console.byte.Goals as goal
 
 pub overflow_add-result : goal.overflow_add-result

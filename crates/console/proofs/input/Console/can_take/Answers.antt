@@ -1,6 +1,4 @@
-use Rattle.std.proofs.Common.{arith}
-use Rattle.std.proofs.lemmas.Grind.{common_steps}
-use Rattle.ring.proofs.RingLemmas.{length-ring}
+use Rattle.console.proofs.Common.{arith, common_steps, length-ring}
 use Rattle.console.proofs.input.Console.can_take.Goals as goal
 
 pub returns-clause-can : goal.returns-clause-can

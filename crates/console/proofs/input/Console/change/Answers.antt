@@ -1,5 +1,4 @@
-use Rattle.std.proofs.Common.{inl, inr}
-use Rattle.unixmodel.specs.Console.{key}
+use Rattle.console.proofs.Common.{inl, inr, key}
 use Rattle.console.proofs.Erases.{erases-byte, erases-line}
 use Rattle.console.proofs.input.Console.change.Goals as goal
 

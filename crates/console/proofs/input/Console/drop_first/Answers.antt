@@ -1,6 +1,5 @@
-use Rattle.std.proofs.Common.{arith}
+use Rattle.console.proofs.Common.{arith, length-ring}
 use Rattle.console.proofs.Lines.{line-drop_first}
-use Rattle.ring.proofs.RingLemmas.{length-ring}
 use Rattle.console.proofs.input.Console.drop_first.Goals as goal
 
 pub overflow_sub-self : goal.overflow_sub-self

@@ -1,5 +1,4 @@
-use Rattle.std.proofs.Common.{sym}
-use Rattle.ring.proofs.RingLemmas.{length-ring}
+use Rattle.console.proofs.Common.{sym, length-ring}
 use Rattle.console.proofs.input.Console.edited_len.Goals as goal
 
 pub returns : goal.returns

@@ -1,5 +1,4 @@
-use Rattle.std.proofs.Common.{arith, sym}
-use Rattle.ring.proofs.RingLemmas.{length-ring, first-ring, none-ring}
+use Rattle.console.proofs.Common.{arith, sym, length-ring, first-ring, none-ring}
 use Rattle.console.proofs.input.Console.first.Goals as goal
 
 pub returns-then-self-eq0-clause-first : goal.returns-then-self-eq0-clause-first

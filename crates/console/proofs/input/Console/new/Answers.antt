@@ -1,5 +1,4 @@
-use Rattle.std.proofs.Common.{refl}
-use Rattle.ring.specs.Ring.{ring}
+use Rattle.console.proofs.Common.{refl, ring}
 use Rattle.console.proofs.input.Console.new.Goals as goal
 
 pub returns : goal.returns

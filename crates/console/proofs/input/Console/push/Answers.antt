@@ -1,7 +1,5 @@
-use Rattle.std.proofs.Common.{◌+◌, ◌<◌, arith, rules}
-use Rattle.std.proofs.lemmas.Grind.{common_steps}
+use Rattle.console.proofs.Common.{◌+◌, ◌<◌, arith, rules, common_steps, length-ring}
 use Rattle.console.proofs.Lines.{line-push}
-use Rattle.ring.proofs.RingLemmas.{length-ring}
 use Rattle.console.proofs.input.Console.push.Goals as goal
 
 pub invariant_of-self : goal.invariant_of-self

@@ -1,6 +1,4 @@
-use Rattle.std.proofs.Common.{◌+◌, ◌-◌, ◌≡◌, ◌≤◌, length, take}
-use Rattle.unixmodel.specs.Console.{take_line}
-use Rattle.console.specs.Line.{behind}
+use Rattle.console.proofs.Common.{◌+◌, ◌-◌, ◌≡◌, ◌≤◌, length, take, take_line, behind}
 use Rattle.console.proofs.input.Console.take.Given as goal
 
 abbrev pub invariant-loop-count : goal.invariant-loop-count

@@ -1,5 +1,4 @@
-use Rattle.std.proofs.Common.{arith}
-use Rattle.std.proofs.KnownBytes.{Appends-trans}
+use Rattle.console.proofs.Common.{arith, Appends-trans}
 use Rattle.std.proofs.Math.Seq.{take-add}
 use Rattle.console.proofs.output.WriterOut.put.Goals as goal
 
