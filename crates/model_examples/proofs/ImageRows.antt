@@ -1,9 +1,11 @@
 -- The image of a root with the console: 32 blocks, 16 inodes.
-use Rattle.model_examples.proofs.Common.{Bool, IsSome, List, None, Option, Some, T, [], drop, false, is_some, length, map, nat_lt, refl, suc, true, zero, ℕ, ◌*◌, ◌++◌, ◌-◌, ◌<◌, ◌==◌, ◌||◌, ◌∷◌, ◌≡◌, ◌≤◌, range_with_len, Entry}
-use Rattle.model_examples.proofs.Common.{dot, dot_dot, find, node_bytes, slot, taken, Denotes, HasSpares, HasSuper, IsDirectory, KeepsNode, KeepsRules, KeepsSize, Stands, bit_of, contents_in, is_data_block, is_name, is_named}
-use Rattle.model_examples.proofs.Common.{named_blocks, names_of, number_in, numbers_in_use, parent_of, subdirectories, super_number, zeros, le, low, IsSpare, first_of, holder_of, in_record, console_name, console_root, flat_files}
-use Rattle.std.proofs.Common.{get_or, ap, arith, eqb→eq, lit≤, subst, sym, ◌∙◌}
-use Rattle.std.proofs.lemmas.Bool.{false≢true}
+use Rattle.model_examples.proofs.Common.{Bool, IsSome, List, None, Option, Some, [], drop, false, is_some, length, map, nat_lt, refl, suc, true, zero, ℕ, ◌*◌, ◌++◌, ◌-◌, ◌<◌, ◌||◌}
+use Rattle.model_examples.proofs.Common.{◌∷◌, ◌≡◌, ◌≤◌, range_with_len, Entry, ◌+◌, dot, dot_dot, find, node_bytes, slot, taken, zeros, le, low, console_name, console_root, flat_files}
+use Rattle.unixmodel.specs.Image.{Denotes, HasSpares, HasSuper, IsDirectory, KeepsNode, KeepsRules, KeepsSize, Stands, bit_of, contents_in, is_data_block, is_name, is_named}
+use Rattle.unixmodel.specs.Image.{named_blocks, names_of, number_in, numbers_in_use, parent_of, subdirectories, super_number}
+use Rattle.unixmodel.specs.Slots.{IsSpare, first_of, holder_of, in_record}
+use Rattle.std.proofs.Common.{get_or, ap, arith, lit≤, subst, sym, ◌∙◌, ◌≢◌, inl, inr}
+use Rattle.std.proofs.lemmas.Bool.{false≢true, cases_eq}
 use Rattle.std.proofs.lemmas.Bool.Decides.{nat_tests}
 use Rattle.std.proofs.lemmas.List.FromFn.{get_or-map-range_with_len}
 use Rattle.std.proofs.lemmas.List.Sums.{AllPass-from_list_all}
@@ -23,36 +25,20 @@ console_image =
     ++ node_bytes console_root ++ zeros 976
     ++ zeros (26 * 1024)
 
-image_numbers : length console_image ∷ map (super_number console_image) (range_with_len 0 8) ≡ 32768 ∷ 0x10203041 ∷ 32 ∷ 27 ∷ 16 ∷ 0 ∷ 2 ∷ 2 ∷ 4 ∷ []
+image : record {
+  image_numbers : length console_image ∷ map (super_number console_image) (range_with_len 0 8) ≡ 32768 ∷ 0x10203041 ∷ 32 ∷ 27 ∷ 16 ∷ 0 ∷ 2 ∷ 2 ∷ 4 ∷ [];
+  image_nodes : numbers_in_use console_image ≡ 1 ∷ 2 ∷ [];
+  image_blocks : named_blocks console_image ≡ 5 ∷ [];
+  -- the direct numbers that nothing asks for, and those of the index blocks
+  image_spares : (map (number_in console_image 1) (range_with_len 1 10) ++ map (number_in console_image 2) (range_with_len 0 11))
+      ++ map (number_in console_image 1) (65803 ∷ 65804 ∷ []) ++ map (number_in console_image 2) (65803 ∷ 65804 ∷ []) ≡ zeros 25;
+  image_root : contents_in console_image 1 ≡ node_bytes console_root;
+  image_bits : map (bit_of console_image) (range_with_len 0 8) ≡ true ∷ true ∷ true ∷ true ∷ true ∷ true ∷ false ∷ false ∷ [];
+  -- the rules of its files
+  root_links : (names_of flat_files 1 ∷ names_of flat_files 2 ∷ subdirectories flat_files 1 ∷ parent_of flat_files 1 ∷ []) ≡ 0 ∷ 1 ∷ 0 ∷ 1 ∷ [];
+}
 unfolding all_opened
-image_numbers = refl
-
-image_nodes : numbers_in_use console_image ≡ 1 ∷ 2 ∷ []
-unfolding all_opened
-image_nodes = refl
-
-image_blocks : named_blocks console_image ≡ 5 ∷ []
-unfolding all_opened
-image_blocks = refl
-
--- the direct numbers that nothing asks for, and those of the index blocks
-image_spares : (map (number_in console_image 1) (range_with_len 1 10) ++ map (number_in console_image 2) (range_with_len 0 11))
-    ++ map (number_in console_image 1) (65803 ∷ 65804 ∷ []) ++ map (number_in console_image 2) (65803 ∷ 65804 ∷ []) ≡ zeros 25
-unfolding all_opened
-image_spares = refl
-
-image_root : contents_in console_image 1 ≡ node_bytes console_root
-unfolding all_opened
-image_root = refl
-
-image_bits : map (bit_of console_image) (range_with_len 0 8) ≡ true ∷ true ∷ true ∷ true ∷ true ∷ true ∷ false ∷ false ∷ []
-unfolding all_opened
-image_bits = refl
-
--- the rules of its files
-root_links : (names_of flat_files 1 ∷ names_of flat_files 2 ∷ subdirectories flat_files 1 ∷ parent_of flat_files 1 ∷ []) ≡ 0 ∷ 1 ∷ 0 ∷ 1 ∷ []
-unfolding all_opened
-root_links = refl
+image = record { image_numbers = refl; image_nodes = refl; image_blocks = refl; image_spares = refl; image_root = refl; image_bits = refl; root_links = refl }
 
 -- ---- the image denotes these files
 
@@ -80,18 +66,17 @@ console_stands (suc zero) low high = record { kind = refl; links = refl; size = 
 console_stands (suc (suc zero)) low high = record { kind = refl; links = refl; size = refl; contents = refl; major = (refl, refl) }
 console_stands _ low high = refl
 
+-- what holds of all places of a list holds of each
+same-at : {A : Type 0} (f g : ℕ → A) (from n k : ℕ) → map f (range_with_len from n) ≡ map g (range_with_len from n) → from ≤ k → k < from + n → f k ≡ g k
+same-at f g from n k all low high =
+    sym (get_or-map-range_with_len f from n (k - from) k (f k) (omega arith) (omega arith)) ∙ ap (λ xs. get_or xs (k - from) (f k)) all
+    ∙ get_or-map-range_with_len g from n (k - from) k (f k) (omega arith) (omega arith)
+
 console_bits : (b : ℕ) → b < 32 → bit_of console_image b ≡ (nat_lt b 5 || is_named console_image b)
 unfolding all_opened
-console_bits b l =
-    let wanted : ℕ → Bool = λ n. nat_lt n 5 || is_named console_image n in
-    let all : map (bit_of console_image) (range_with_len 0 32) ≡ map wanted (range_with_len 0 32) = refl in
-    sym (get_or-map-range_with_len (bit_of console_image) 0 32 b b false l (omega arith)) ∙ ap (λ bits. get_or bits b false) all ∙ get_or-map-range_with_len wanted 0 32 b b false l (omega arith)
+console_bits b l = same-at (bit_of console_image) (λ n. nat_lt n 5 || is_named console_image n) 0 32 b refl (omega arith) l
 
 -- of at most 11 blocks the spare numbers are direct ones behind them, and those of the index blocks
-record IsOther (k : ℕ) : Type 0 where
-  single : k ≡ 65803 → ⊥
-  double : k ≡ 65804 → ⊥
-
 spare_own : (count k : ℕ) → count ≤ 11 → IsSpare large count k → in_record large k ≡ true
 unfolding in_record holder_of first_of
 spare_own count k few s = by_place (in_record large k) refl where
@@ -101,51 +86,29 @@ spare_own count k few s = by_place (in_record large k) refl where
       let reached : first_of large (holder_of large k) < count = (s.index apart).reached in
       absurd (grind (arith, nat_tests))
 
-spare_direct : (count k : ℕ) → count ≤ 11 → IsSpare large count k → IsOther k → k < 11
-unfolding in_record
-spare_direct count k few s other =
+spare_direct : (count k : ℕ) → count ≤ 11 → IsSpare large count k → k ≢ 65803 → k ≢ 65804 → (count ≤ k) × (k < 11)
+unfolding in_record first_of
+spare_direct count k few s single double =
     let own : in_record large k ≡ true = spare_own count k few s in
-    let single : k ≡ 65803 → ⊥ = other.single in
-    let double : k ≡ 65804 → ⊥ = other.double in
-    grind (arith, nat_tests)
-
-spare_low : (count k : ℕ) → IsSpare large count k → k < 11 → count ≤ k
-unfolding first_of
-spare_low count k s low =
     let unreached : count ≤ first_of large k = s.unreached in
-    grind (arith, nat_tests)
+    let low : k < 11 = grind (arith, nat_tests) in
+    (grind (arith, nat_tests), low)
 
 -- so what is 0 at those places is 0 at each spare one
 at_places : (count : ℕ) (number : ℕ → ℕ) → count ≤ 11 → number 65803 ≡ 0 → number 65804 ≡ 0
     → ((k : ℕ) → count ≤ k → k < 11 → number k ≡ 0) → (k : ℕ) → IsSpare large count k → number k ≡ 0
-at_places count number few single double direct k s = by_slot (k == 65803) (k == 65804) refl refl where
-  by_slot : (b c : Bool) → (k == 65803) ≡ b → (k == 65804) ≡ c → number k ≡ 0
-  by_slot true c here _ = subst (λ j. number j ≡ 0) (sym (eqb→eq k 65803 (subst T (sym here) tt))) single
-  by_slot false true _ here = subst (λ j. number j ≡ 0) (sym (eqb→eq k 65804 (subst T (sym here) tt))) double
-  by_slot false false apart away =
-      let other : IsOther k = record { single = λ e. false≢true (sym apart ∙ ap (λ j. j == 65803) e); double = λ e. false≢true (sym away ∙ ap (λ j. j == 65804) e) } in
-      let low : k < 11 = spare_direct count k few s other in
-      direct k (spare_low count k s low) low
+at_places count number few single double direct k s = elim (cases_eq k 65803) [
+  | inl here ↦ ap number here ∙ single
+  | inr one ↦ elim (cases_eq k 65804) [ inl here ↦ ap number here ∙ double | inr two ↦ let at = spare_direct count k few s one two in direct k at.0 at.1 ]
+]
 
 root_spares : HasSpares console_image 1
 unfolding all_opened
-root_spares = at_places 1 (number_in console_image 1) (lit≤ tt) refl refl direct where
-  direct : (k : ℕ) → 1 ≤ k → k < 11 → number_in console_image 1 k ≡ 0
-  direct k least below =
-      let none : ℕ → ℕ = λ _. 0 in
-      let all : map (number_in console_image 1) (range_with_len 1 10) ≡ map none (range_with_len 1 10) = refl in
-      sym (get_or-map-range_with_len (number_in console_image 1) 1 10 (k - 1) k 0 (omega arith) (omega arith)) ∙ ap (λ numbers. get_or numbers (k - 1) 0) all
-      ∙ get_or-map-range_with_len none 1 10 (k - 1) k 0 (omega arith) (omega arith)
+root_spares = at_places 1 (number_in console_image 1) (lit≤ tt) refl refl (λ k. same-at (number_in console_image 1) (λ _. 0) 1 10 k refl)
 
 device_spares : HasSpares console_image 2
 unfolding all_opened
-device_spares = at_places 0 (number_in console_image 2) (lit≤ tt) refl refl direct where
-  direct : (k : ℕ) → 0 ≤ k → k < 11 → number_in console_image 2 k ≡ 0
-  direct k _ below =
-      let none : ℕ → ℕ = λ _. 0 in
-      let all : map (number_in console_image 2) (range_with_len 0 11) ≡ map none (range_with_len 0 11) = refl in
-      sym (get_or-map-range_with_len (number_in console_image 2) 0 11 k k 0 below (omega arith)) ∙ ap (λ numbers. get_or numbers k 0) all
-      ∙ get_or-map-range_with_len none 0 11 k k 0 below (omega arith)
+device_spares = at_places 0 (number_in console_image 2) (lit≤ tt) refl refl (λ k. same-at (number_in console_image 2) (λ _. 0) 0 11 k refl)
 
 console_spares : (k d : ℕ) → k < 2 → HasSpares console_image (get_or (1 ∷ 2 ∷ []) k d)
 console_spares zero d l = root_spares
@@ -208,8 +171,7 @@ console_denotes = record {
   zero = refl;
   nodes = console_stands;
   blocks = AllPass-from_list_all (is_data_block console_image) (named_blocks console_image) refl;
-  spares = λ k d l. subst (λ numbers. HasSpares console_image (get_or numbers k d)) (sym image_nodes)
-      (console_spares k d (subst (λ numbers. k < length numbers) image_nodes l));
+  spares = console_spares;
   once = λ i j d below l. let one : j < 1 = l in absurd (omega arith);
   bitmap = console_bits;
   rules = console_rules;

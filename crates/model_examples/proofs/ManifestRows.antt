@@ -1,6 +1,6 @@
 -- Small manifests: what they make, and what is wrong with others.
-use Rattle.model_examples.proofs.Common.{Err, List, None, Ok, Option, Result, Some, [], codes, length, map, refl, replicate, ℕ, ◌++◌, ◌+◌, ◌∷◌, ◌≡◌, range_with_len}
-use Rattle.model_examples.proofs.Common.{blocks_of, Files, find, links_of, slot, taken, ManifestEntry, Wrong, data_blocks_of, files_made, zeros, flat_files}
+use Rattle.model_examples.proofs.Common.{Err, List, None, Ok, Option, Result, Some, [], codes, length, map, refl, replicate, ℕ, ◌++◌, ◌+◌, ◌∷◌, ◌≡◌, range_with_len, blocks_of, Files, find, links_of, slot, taken, zeros, flat_files}
+use Rattle.unixmodel.specs.Manifest.{ManifestEntry, Wrong, data_blocks_of, files_made}
 use Rattle.model_examples.proofs.Opened.{all_opened}
 use Rattle.unixmodel.specs.Manifest.Thing.{Bytes, Folder, Special}
 use Rattle.unixmodel.specs.Manifest.Wrong.{Blocks, Inodes, Name, Numbers, Parent, Twice}
@@ -24,55 +24,33 @@ small entries = counted (files_made entries 32 16)
 
 -- ---- the numbers of an image
 
-empty : small [] ≡ Ok (1, 1)
-unfolding all_opened
-empty = refl
-
-default_blocks : map (λ (g : ℕ × ℕ). data_blocks_of g.0 g.1) ((2000, 200) ∷ (131072, 16) ∷ []) ≡ 1984 ∷ 131051 ∷ []
-default_blocks = refl
-
-made_numbers : map (λ (g : ℕ × ℕ). counted (files_made [] g.0 g.1)) ((32, 447) ∷ (131072, 16) ∷ (32, 448) ∷ (31, 16) ∷ (131073, 16) ∷ (32, 15) ∷ (131072, 8193) ∷ [])
-    ≡ replicate 2 (Ok (1, 1)) ++ replicate 5 (Err Numbers)
-unfolding all_opened
-made_numbers = refl
-
 -- ---- blocks: the twelfth of a file takes two
-
-one_file : map (λ n. small (file (codes "/a") n ∷ [])) (0 ∷ 11264 ∷ 11265 ∷ 12288 ∷ 12289 ∷ 25600 ∷ 25601 ∷ [])
-    ≡ Ok (2, 1) ∷ Ok (2, 12) ∷ Ok (2, 14) ∷ Ok (2, 14) ∷ Ok (2, 15) ∷ Ok (2, 27) ∷ Err Blocks ∷ []
-unfolding all_opened
-one_file = refl
 
 -- ---- names
 
 abbrev pub letters : ℕ → List ManifestEntry
 letters n = map (λ k. dir (0x2f ∷ (0x61 + k) ∷ [])) (range_with_len 0 n)
 
-many : map (λ n. small (letters n)) (14 ∷ 15 ∷ []) ≡ Ok (15, 15) ∷ Err Inodes ∷ []
+numbers_and_names : record {
+  empty : small [] ≡ Ok (1, 1);
+  default_blocks : map (λ (g : ℕ × ℕ). data_blocks_of g.0 g.1) ((2000, 200) ∷ (131072, 16) ∷ []) ≡ 1984 ∷ 131051 ∷ [];
+  made_numbers : map (λ (g : ℕ × ℕ). counted (files_made [] g.0 g.1)) ((32, 447) ∷ (131072, 16) ∷ (32, 448) ∷ (31, 16) ∷ (131073, 16) ∷ (32, 15) ∷ (131072, 8193) ∷ [])
+      ≡ replicate 2 (Ok (1, 1)) ++ replicate 5 (Err Numbers);
+  one_file : map (λ n. small (file (codes "/a") n ∷ [])) (0 ∷ 11264 ∷ 11265 ∷ 12288 ∷ 12289 ∷ 25600 ∷ 25601 ∷ [])
+      ≡ Ok (2, 1) ∷ Ok (2, 12) ∷ Ok (2, 14) ∷ Ok (2, 14) ∷ Ok (2, 15) ∷ Ok (2, 27) ∷ Err Blocks ∷ [];
+  many : map (λ n. small (letters n)) (14 ∷ 15 ∷ []) ≡ Ok (15, 15) ∷ Err Inodes ∷ [];
+  names : map (λ path. small (dir path ∷ []))
+      (codes "/abcdefghijklmn" ∷ codes "/abcdefghijklmno" ∷ codes "a" ∷ codes "/" ∷ codes "/a/" ∷ codes "//a" ∷ codes "/." ∷ codes "/.." ∷ (0x2f ∷ 0 ∷ []) ∷ [] ∷ [])
+      ≡ Ok (2, 2) ∷ replicate 9 (Err Name);
+  -- no parent, one that is a file, and a name twice
+  faults : map small ((dir (codes "/a/b") ∷ []) ∷ (file (codes "/a") 1 ∷ dir (codes "/a/b") ∷ []) ∷ (dir (codes "/a") ∷ file (codes "/a") 0 ∷ []) ∷ []) ≡ Err Parent ∷ Err Parent ∷ Err Twice ∷ [];
+  -- the parent is told before the name that is there already, and that before the numbers that are left
+  order : map small ((dir (codes "/a") ∷ dir (codes "/b/a") ∷ dir (codes "/a") ∷ []) ∷ (letters 14 ++ dir (codes "/a") ∷ []) ∷ []) ≡ Err Parent ∷ Err Twice ∷ [];
+}
 unfolding all_opened
-many = refl
-
-names : map (λ path. small (dir path ∷ []))
-    (codes "/abcdefghijklmn" ∷ codes "/abcdefghijklmno" ∷ codes "a" ∷ codes "/" ∷ codes "/a/" ∷ codes "//a" ∷ codes "/." ∷ codes "/.." ∷ (0x2f ∷ 0 ∷ []) ∷ [] ∷ [])
-    ≡ Ok (2, 2) ∷ replicate 9 (Err Name)
-unfolding all_opened
-names = refl
-
--- no parent, one that is a file, and a name twice
-faults : map small ((dir (codes "/a/b") ∷ []) ∷ (file (codes "/a") 1 ∷ dir (codes "/a/b") ∷ []) ∷ (dir (codes "/a") ∷ file (codes "/a") 0 ∷ []) ∷ []) ≡ Err Parent ∷ Err Parent ∷ Err Twice ∷ []
-unfolding all_opened
-faults = refl
-
--- the parent is told before the name that is there already, and that before the numbers that are left
-order : map small ((dir (codes "/a") ∷ dir (codes "/b/a") ∷ dir (codes "/a") ∷ []) ∷ (letters 14 ++ dir (codes "/a") ∷ []) ∷ []) ≡ Err Parent ∷ Err Twice ∷ []
-unfolding all_opened
-order = refl
+numbers_and_names = record { empty = refl; default_blocks = refl; made_numbers = refl; one_file = refl; many = refl; names = refl; faults = refl; order = refl }
 
 -- ---- the files
-
-console : files_made (record { path = codes "/console"; thing = Special 1 0 } ∷ []) 32 16 ≡ Ok flat_files
-unfolding all_opened
-console = refl
 
 abbrev pub node_of : Result Files Wrong → ℕ → Option (Option ℕ)
 node_of (Err w) n = None
@@ -81,14 +59,14 @@ node_of (Ok files) n = Some (elim (slot files n) [ None ↦ None | Some node ↦
 abbrev pub tree : Result Files Wrong
 tree = files_made (dir (codes "/a") ∷ dir (codes "/a/b") ∷ file (codes "/a/b/c") 5 ∷ []) 32 16
 
-tree_links : map (node_of tree) (range_with_len 0 6) ≡ Some None ∷ Some (Some 2) ∷ Some (Some 2) ∷ Some (Some 1) ∷ Some (Some 1) ∷ Some None ∷ []
-unfolding all_opened
-tree_links = refl
-
 abbrev pub found : Result Files Wrong → List ℕ → Option ℕ
 found (Err w) path = None
 found (Ok files) path = find files 1 path
 
-tree_names : map (found tree) (codes "/a" ∷ codes "/a/b" ∷ codes "/a/b/c" ∷ codes "/a/b/.." ∷ codes "/b" ∷ []) ≡ Some 2 ∷ Some 3 ∷ Some 4 ∷ Some 2 ∷ None ∷ []
+trees : record {
+  console : files_made (record { path = codes "/console"; thing = Special 1 0 } ∷ []) 32 16 ≡ Ok flat_files;
+  tree_links : map (node_of tree) (range_with_len 0 6) ≡ Some None ∷ Some (Some 2) ∷ Some (Some 2) ∷ Some (Some 1) ∷ Some (Some 1) ∷ Some None ∷ [];
+  tree_names : map (found tree) (codes "/a" ∷ codes "/a/b" ∷ codes "/a/b/c" ∷ codes "/a/b/.." ∷ codes "/b" ∷ []) ≡ Some 2 ∷ Some 3 ∷ Some 4 ∷ Some 2 ∷ None ∷ [];
+}
 unfolding all_opened
-tree_names = refl
+trees = record { console = refl; tree_links = refl; tree_names = refl }

@@ -20,22 +20,9 @@ at_offset s offset = record (change_process s 0 (λ p. with_descriptor p 3 1)) {
 abbrev pub write_one : Asked
 write_one = plain 16 (3 ∷ 8192 ∷ 1 ∷ [])
 
--- the blocks of a file of so many bytes, with its index blocks
-file_blocks : map blocks_for (11264 ∷ 11265 ∷ 273408 ∷ 273409 ∷ 535552 ∷ 535553 ∷ 67382272 ∷ []) ≡ 11 ∷ 13 ∷ 268 ∷ 271 ∷ 526 ∷ 528 ∷ 66061 ∷ []
-file_blocks = refl
-
 -- a file of so many bytes behind which one more is written, where so many blocks are free: the root takes one
 abbrev pub with_free : ℕ → ℕ → State
 with_free size free = at_offset (with_f (flat_state 256) (zeros size) (1 + blocks_for size + free)) size
-
-blocks_free : map (λ (g : ℕ × ℕ). answers_to (with_free g.0 g.1) (write_one ∷ [])) ((11264, 1) ∷ (11264, 2) ∷ (12288, 0) ∷ (12288, 1) ∷ [])
-    ≡ (minus_one ∷ []) ∷ (1 ∷ []) ∷ (minus_one ∷ []) ∷ (1 ∷ []) ∷ []
-unfolding all_opened
-blocks_free = refl
-
-one_block_stays : blocks_of (ask_all (with_free 11264 1) (write_one ∷ [])).files ≡ 12
-unfolding all_opened
-one_block_stays = refl
 
 -- ---- the console is open as descriptors 0, 1 and 2
 
@@ -47,26 +34,21 @@ write_text text descriptor address count = record { number = 16; path = text; ot
 abbrev pub answered : Asked → ℕ × List ℕ
 answered c = let after = ask (flat_state 64) 0 c in (answer_at after.state 0, after.bytes)
 
-each_descriptor : map answered (write_text (codes "hi") 0 8192 2 ∷ write_text (codes "hi") 1 8192 2 ∷ write_text (codes "hi") 2 8192 1 ∷ [])
-    ≡ (2, codes "hi") ∷ (2, codes "hi") ∷ (1, codes "h") ∷ []
+writes : record {
+  -- the blocks of a file of so many bytes, with its index blocks
+  file_blocks : map blocks_for (11264 ∷ 11265 ∷ 273408 ∷ 273409 ∷ 535552 ∷ 535553 ∷ 67382272 ∷ []) ≡ 11 ∷ 13 ∷ 268 ∷ 271 ∷ 526 ∷ 528 ∷ 66061 ∷ [];
+  blocks_free : map (λ (g : ℕ × ℕ). answers_to (with_free g.0 g.1) (write_one ∷ [])) ((11264, 1) ∷ (11264, 2) ∷ (12288, 0) ∷ (12288, 1) ∷ [])
+      ≡ (minus_one ∷ []) ∷ (1 ∷ []) ∷ (minus_one ∷ []) ∷ (1 ∷ []) ∷ [];
+  one_block_stays : blocks_of (ask_all (with_free 11264 1) (write_one ∷ [])).files ≡ 12;
+  each_descriptor : map answered (write_text (codes "hi") 0 8192 2 ∷ write_text (codes "hi") 1 8192 2 ∷ write_text (codes "hi") 2 8192 1 ∷ [])
+      ≡ (2, codes "hi") ∷ (2, codes "hi") ∷ (1, codes "h") ∷ [];
+  no_bytes : map answered (write_text (codes "hi") 1 8192 0 ∷ write_text (codes "hi") 1 minus_one 0 ∷ []) ≡ (0, []) ∷ (0, []) ∷ [];
+  not_open : map answered (write_text (codes "hi") 3 8192 2 ∷ write_text (codes "hi") 16 8192 2 ∷ write_text (codes "hi") minus_one 8192 2 ∷ [])
+      ≡ (minus_one, []) ∷ (minus_one, []) ∷ (minus_one, []) ∷ [];
+  below_zero_bytes : map answered (write_text (codes "hi") 1 8192 0xffffffff ∷ write_text (codes "hi") 1 8192 0x80000000 ∷ []) ≡ (minus_one, []) ∷ (minus_one, []) ∷ [];
+  -- the buffer has to lie in pages that the program may read: the guard page is none, nor what follows the stack
+  outside : map answered (write_text [] 1 4095 1 ∷ write_text [] 1 4095 2 ∷ write_text [] 1 4096 1 ∷ write_text [] 1 12287 1 ∷ write_text [] 1 12287 2 ∷ write_text [] 1 minus_one 1 ∷ [])
+      ≡ (1, 0 ∷ []) ∷ (minus_one, []) ∷ (minus_one, []) ∷ (1, 0 ∷ []) ∷ (minus_one, []) ∷ (minus_one, []) ∷ [];
+}
 unfolding all_opened
-each_descriptor = refl
-
-no_bytes : map answered (write_text (codes "hi") 1 8192 0 ∷ write_text (codes "hi") 1 minus_one 0 ∷ []) ≡ (0, []) ∷ (0, []) ∷ []
-unfolding all_opened
-no_bytes = refl
-
-not_open : map answered (write_text (codes "hi") 3 8192 2 ∷ write_text (codes "hi") 16 8192 2 ∷ write_text (codes "hi") minus_one 8192 2 ∷ [])
-    ≡ (minus_one, []) ∷ (minus_one, []) ∷ (minus_one, []) ∷ []
-unfolding all_opened
-not_open = refl
-
-below_zero_bytes : map answered (write_text (codes "hi") 1 8192 0xffffffff ∷ write_text (codes "hi") 1 8192 0x80000000 ∷ []) ≡ (minus_one, []) ∷ (minus_one, []) ∷ []
-unfolding all_opened
-below_zero_bytes = refl
-
--- the buffer has to lie in pages that the program may read: the guard page is none, nor what follows the stack
-outside : map answered (write_text [] 1 4095 1 ∷ write_text [] 1 4095 2 ∷ write_text [] 1 4096 1 ∷ write_text [] 1 12287 1 ∷ write_text [] 1 12287 2 ∷ write_text [] 1 minus_one 1 ∷ [])
-    ≡ (1, 0 ∷ []) ∷ (minus_one, []) ∷ (minus_one, []) ∷ (1, 0 ∷ []) ∷ (minus_one, []) ∷ (minus_one, []) ∷ []
-unfolding all_opened
-outside = refl
+writes = record { file_blocks = refl; blocks_free = refl; one_block_stays = refl; each_descriptor = refl; no_bytes = refl; not_open = refl; below_zero_bytes = refl; outside = refl }
