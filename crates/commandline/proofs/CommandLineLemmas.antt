@@ -63,3 +63,7 @@ pub is-job : (r : Option Job) (m : ArgMatches) (name : Text) (rows : List Row) �
 is-job r m name rows named told job =
     subst (λ found. IfSome r (IsJob found))
     (sym (both (λ b. (out-SubCommand (box_value b)).name.now) (λ b. rows_of (found_of (out-SubCommand (box_value b)).matches)) (out-ArgMatches m).subcommand name rows named told)) job
+
+-- what is told of the rows of a command is told of the job
+pub told : {name : Text} {rows : List Row} {Is : List Row → Type 0} → Is rows → (all : List Row) × (◌≡◌ {A = Option (Text × List Row)} (Some (name, rows)) (Some (name, all))) × Is all
+told {rows = rows} is = (rows, refl, is)

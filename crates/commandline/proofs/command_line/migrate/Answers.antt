@@ -1,7 +1,5 @@
-use Rattle.std.proofs.Common.{refl}
-use Rattle.clap.specs.Walk.{rows_of}
-use Rattle.clap.specs.Matches.{found_of}
+use Rattle.commandline.proofs.CommandLineLemmas.{told}
 use Rattle.commandline.proofs.command_line.migrate.Goals as goal
 
 pub returns : goal.returns
-returns c = (rows_of (found_of c.args.found.now), refl, record { old = c.in_ok-old.ensures; new = c.in_ok-new.ensures })
+returns c = told (record { old = c.in_ok-old.ensures; new = c.in_ok-new.ensures })
