@@ -1,14 +1,14 @@
 -- Lemmas on what `specs/Agree` defines.
-use Rattle.pagetable.proofs.Common.{◌≡◌, ℕ, ◌+◌, ◌-◌, ◌*◌, ◌/◌, ◌%◌, ◌^◌, ◌<◌, ◌≤◌, Bool, true, false, List, length, Option, Some, None, refl, sym, ap, ◌∙◌, arith, bit_and, eq-eqb, ltb, leb}
-use Rattle.pagetable.proofs.Common.{eqb-true, lt-ltb, le-leb, div-mul-add, mod-mul-add, and_assoc, Access, has, allows, marks_of, number_of, is_sound, is_table, turn_by, turn_of, walk_of-is}
-use Rattle.pagetable.proofs.Common.{canonical-is, walk_page, base, frame_at, entry_of, follow, then_at, is_canonical, walk_low, walk_mid, walk_high, walk_of, table_entry, leaf_entry, child_of}
-use Rattle.pagetable.proofs.Common.{leaf_of, table_at, child_at, leaf_at, lookup_of, low_node, mid_node, IsTree, IsTableEntry, no_table, a_table, IsLeafEntry, no_leaf, a_leaf, IsLeafMarks}
+use Rattle.pagetable.proofs.Common.{a_leaf, a_table, Access, allows, and_assoc, ap, arith, base, bit_and, Bool, canonical-is, child_at, child_of, div-mul-add, entry_of, eq-eqb, eqb-true, false, follow, frame_at, has, is_canonical, is_sound}
+use Rattle.pagetable.proofs.Common.{is_table, IsLeafEntry, IsLeafMarks, IsTableEntry, IsTree, le-leb, leaf_at, leaf_entry, leaf_of, leb, length, List, lookup_of, low_node, lt-ltb, ltb, marks_of, mid_node, mod-mul-add, no_leaf, no_table}
+use Rattle.pagetable.proofs.Common.{None, number_of, Option, refl, Root, Some, sym, table_at, table_entry, then_at, true, turn_by, turn_of, walk_high, walk_low, walk_mid, walk_of, walk_of-is, walk_page, ℕ, ◌%◌, ◌*◌, ◌+◌, ◌-◌, ◌/◌, ◌<◌, ◌^◌}
+use Rattle.pagetable.proofs.Common.{◌∙◌, ◌≡◌, ◌≤◌}
 use Rattle.std.specs.Prelude.{if◌then◌else◌}
 use Rattle.std.proofs.Math.Bool.{or-true}
 use Rattle.unixmodel.specs.Translation.{is_canonical as is_canonical_page}
-use Rattle.pagetable.proofs.MarksLemmas.{allows-marks}
-use Rattle.pagetable.proofs.TreeLemmas.{child_of-zero, child_of-table, leaf_of-zero, leaf_of-leaf, tree-mid_sound, tree-low_sound, tree-leaf_sound, table_at-mid, table_at-low, lookup_of-low, tree-root}
 use Rattle.pagetable.specs.Agree.{given_frame, translation}
+use Rattle.pagetable.proofs.MarksLemmas.{allows-marks}
+use Rattle.pagetable.proofs.TreeLemmas.{child_of-table, child_of-zero, leaf_of-leaf, leaf_of-zero, lookup_of-low, mid_is_node, root_at, table_at-low, table_at-mid, tree-leaf_sound, tree-root}
 
 turn_of-zero : (span : ℕ) (a : Access) → turn_of 0 span a ≡ turn_by false true true true 0
 unfolding is_sound marks_of
@@ -85,7 +85,7 @@ below_root : (m : List (List ℕ)) (r page : ℕ) (a : Access) (o : Option ℕ) 
 unfolding walk_mid
 below_root m r page a None small is at = refl
 below_root m r page a (Some t) small is at =
-    agree-table m 512 page (entry_of m t (page / 512 % 512)) a (walk_low m page a) small (tree-low_sound m r page t is at)
+    agree-table m 512 page (entry_of m t (page / 512 % 512)) a (walk_low m page a) small (is.sound (mid_node page) t (page / 512 % 512) (mid_is_node page) (sym at) (omega arith))
     ∙ below_mid m r page a (child_of (entry_of m t (page / 512 % 512))) small is (sym (table_at-low m r page (Some t) at))
 
 -- the walk goes by the map at a canonical page
@@ -95,7 +95,7 @@ walk_of-tree m r page a small is canonical =
     let inside : ltb r (length m) ≡ true = lt-ltb r (length m) (tree-root m r is) in
     let mid = table_at-mid m r page in
     rw (canonical, inside)
-    (agree-table m 262144 page (entry_of m r (page / 262144 % 512)) a (walk_mid m page a) small (tree-mid_sound m r page is)
+    (agree-table m 262144 page (entry_of m r (page / 262144 % 512)) a (walk_mid m page a) small (is.sound Root r (page / 262144 % 512) tt (root_at m r) (omega arith))
     ∙ below_root m r page a (child_of (entry_of m r (page / 262144 % 512))) small is (sym mid)
     ∙ ap (translation a) (sym (lookup_of-low m r page (child_at m (child_of (entry_of m r (page / 262144 % 512))) (page / 512 % 512)) (sym (table_at-low m r page (child_of (entry_of m r (page / 262144 % 512))) (sym mid))))))
 

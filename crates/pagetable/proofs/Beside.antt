@@ -1,6 +1,6 @@
 -- A page table outlives what is done beside it.
-use Rattle.pagetable.proofs.Common.{◌≡◌, ℕ, ◌%◌, List, length, Some, refl, sym, ap, ◌∙◌, frame_of, entry_of, child_of, Node, Root, Mid, Low, IsNode, table_at, child_at, leaf_at, low_node, lookup_of, IsTree, HasTable, SameTables}
-use Rattle.pagetable.proofs.TreeLemmas.{entry_of-frame, child_at-same, leaf_at-same, low_is_node}
+use Rattle.pagetable.proofs.Common.{ap, child_at, child_of, entry_of, frame_of, HasTable, IsNode, IsTree, leaf_at, length, List, lookup_of, Low, low_node, Mid, Node, refl, Root, SameTables, Some, sym, table_at, ℕ, ◌%◌, ◌∙◌, ◌≡◌}
+use Rattle.pagetable.proofs.TreeLemmas.{child_at-same, entry_of-frame, kept-tree, leaf_at-same, low_is_node}
 
 held_at : (m : List (List ℕ)) (r : ℕ) (x : Node) (v : ℕ) → IsNode x → table_at m r x ≡ Some v → HasTable m r v
 held_at m r x v nx at = record { place = x; is_node = nx; at_place = at }
@@ -15,14 +15,8 @@ table_at-same m k r same (Low a b) nx =
 
 pub IsTree-same : (m k : List (List ℕ)) (r : ℕ) → IsTree m r → length k ≡ length m → ((v : ℕ) → HasTable m r v → frame_of k v ≡ frame_of m v) → IsTree k r
 IsTree-same m k r is len same =
-    let stays = table_at-same m k r same in
-    record {
-      inside = λ x t nx h. rw len (is.inside x t nx (sym (stays x nx) ∙ h));
-      once = λ x y t nx ny hx hy. is.once x y t nx ny (sym (stays x nx) ∙ hx) (sym (stays y ny) ∙ hy);
-      sound = λ x t i nx h small.
-          let old : table_at m r x ≡ Some t = sym (stays x nx) ∙ h in
-          rw (len, entry_of-frame m k t i (same t (held_at m r x t nx old))) (is.sound x t i nx old small);
-    }
+    let old : (x : Node) (t : ℕ) → IsNode x → table_at k r x ≡ Some t → table_at m r x ≡ Some t = λ x t nx h. sym (table_at-same m k r same x nx) ∙ h in
+    kept-tree is len old (λ x t i nx h small. rw (len, entry_of-frame m k t i (same t (held_at m r x t nx (old x t nx h)))) (is.sound x t i nx (old x t nx h) small))
 
 pub lookup_of-same : (m k : List (List ℕ)) (r : ℕ) → ((v : ℕ) → HasTable m r v → frame_of k v ≡ frame_of m v) → (page : ℕ) → lookup_of k r page ≡ lookup_of m r page
 unfolding lookup_of

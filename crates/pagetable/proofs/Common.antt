@@ -1,6 +1,6 @@
 -- The names that the lemmas of this crate import from elsewhere, passed on from one place. Declares nothing.
-pub use Rattle.std.proofs.Common.{◌%◌, ◌*◌, ◌+◌, ◌-◌, ◌/◌, ◌<◌, [], ◌^◌, ap, arith, bit_and, Bool, eq-eqb, false, get_or, get_or-set_other, inl, inr, leb, length}
-pub use Rattle.std.proofs.Common.{length-set, List, ltb, None, Option, refl, replicate, slice_set, Some, sym, true, unwrap_or, ℕ, ◌∙◌, ◌∷◌, ◌≡◌, ◌≢◌, ◌≤◌, ◌⊎◌}
+pub use Rattle.std.proofs.Common.{◌%◌, ◌*◌, ◌+◌, ◌++◌, ◌-◌, ◌/◌, ◌<◌, [], ◌^◌, ap, arith, bit_and, Bool, eq-eqb, false, get_or, get_or-set_other, inl, inr, leb, length}
+pub use Rattle.std.proofs.Common.{length-append, length-set, List, ltb, None, Option, refl, replicate, slice_set, Some, subst, sym, true, unwrap_or, ℕ, ◌∙◌, ◌∷◌, ◌≡◌, ◌≢◌, ◌≤◌, ◌⊎◌}
 pub use Rattle.std.proofs.lemmas.Bool.{cases_eq, cases_lt, eqb-true, le-leb, lt-ltb, ne_eqb}
 pub use Rattle.std.proofs.lemmas.Nat.{and_assoc, div-mul-add, mod-mul-add}
 pub use Rattle.frames.proofs.FreeLemmas.{among_first, among_first_not, apart-not, free_of-same, further-free, IsFreeList-same, shared-is}

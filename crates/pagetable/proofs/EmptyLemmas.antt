@@ -1,7 +1,7 @@
 -- A page table that maps nothing.
-use Rattle.pagetable.proofs.Common.{◌≡◌, ◌≢◌, ℕ, ◌<◌, true, List, [], ◌∷◌, length, Some, None, refl, sym, ap, ◌∙◌, arith, slice_set, get_or-set_other, length-set, replicate, Frames, among, free_of}
-use Rattle.pagetable.proofs.Common.{extra_of, IsFreeList, free_of-same, IsFreeList-same, frame_of, entry_of, Node, Root, Mid, Low, IsNode, table_at, low_node, lookup_of, no_table, IsPaged, IsTidy, IsEmpty}
-use Rattle.pagetable.proofs.TreeLemmas.{further-taken, child_of-zero, root_at, free-first, entry_of-zeros}
+use Rattle.pagetable.proofs.Common.{[], among, ap, arith, entry_of, extra_of, frame_of, Frames, free_of, free_of-same, get_or-set_other, IsEmpty, IsFreeList, IsFreeList-same, IsNode, IsPaged, IsTidy, length, length-set, List, lookup_of}
+use Rattle.pagetable.proofs.Common.{Low, low_node, Mid, no_table, Node, None, refl, replicate, Root, slice_set, Some, sym, table_at, true, ℕ, ◌<◌, ◌∙◌, ◌∷◌, ◌≡◌, ◌≢◌}
+use Rattle.pagetable.proofs.TreeLemmas.{child_of-zero, entry_of-zeros, free-first, further-taken, root_at}
 
 pub empty-tables : (k : List (List ℕ)) (r : ℕ) → ((i : ℕ) → i < 512 → entry_of k r i ≡ 0) → (x : Node) → IsNode x → x ≢ Root → table_at k r x ≡ None
 unfolding table_at

@@ -3,7 +3,6 @@ pub mod Beside
 pub mod EmptyLemmas
 pub mod LookupLemmas
 pub mod ShapeLemmas
-pub mod Unlink
 pub mod UnmapLemmas
 pub mod MarksLemmas
 pub mod TreeLemmas

@@ -1,5 +1,5 @@
 -- Lemmas on what `specs/Marks` defines.
-use Rattle.pagetable.proofs.Common.{◌≡◌, ℕ, ◌%◌, ◌<◌, sym, ap, ◌∙◌, arith, Access, leaf_allows, allows, marks_of, allows-is}
+use Rattle.pagetable.proofs.Common.{Access, allows, allows-is, ap, arith, leaf_allows, marks_of, sym, ℕ, ◌%◌, ◌<◌, ◌∙◌, ◌≡◌}
 
 -- the walk's test of a leaf's marks is the model's
 pub allows-marks : (marks : ℕ) (access : Access) → marks < 1024 → allows marks access ≡ leaf_allows access marks

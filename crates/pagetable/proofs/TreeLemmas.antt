@@ -1,10 +1,9 @@
 -- What writes leave of a page table.
-use Rattle.pagetable.proofs.Common.{◌≡◌, ◌≢◌, ℕ, ◌+◌, ◌-◌, ◌*◌, ◌/◌, ◌%◌, ◌^◌, ◌<◌, ◌≤◌, ◌⊎◌, inl, inr, true, false, List, [], ◌∷◌, length, Option, Some, None, refl, sym, ap, ◌∙◌, arith, slice_set}
-use Rattle.pagetable.proofs.Common.{get_or-set_other, get_or, replicate, length-set, cases_eq, cases_lt, frame_of, word_bytes, put, IsMemory, Frames, among, free_of, free_count, extra_of, further_at}
-use Rattle.pagetable.proofs.Common.{IsFreeList, among_first, apart-not, among_first_not, free_of-same, further-free, shared-is, IsFreeList-same, base, entry_of, table_entry, leaf_entry, child_of}
-use Rattle.pagetable.proofs.Common.{leaf_of, Node, Root, Mid, Low, IsNode, child_at, table_at, leaf_at, low_node, mid_node, lookup_of, IsTableEntry, no_table, a_table, IsLeafEntry, no_leaf, IsEntry}
-use Rattle.pagetable.proofs.Common.{IsTree, HasTable, Writes, Links, next_node, IsUpper, IsPaged, Keeps, missing, missing_by, Maps, SameMap, SameTables, div-mul-add, mod-mul-add, ne_eqb}
-use Rattle.ram.proofs.MemoryLemmas.{word_of-frame, word_of-put_same, word_of-put_beside, frame_of-put_other, length-put, length-word_bytes, word_of-put_other, IsMemory-set, word_of-zeros}
+use Rattle.pagetable.proofs.Common.{[], a_table, among, among_first, among_first_not, ap, apart-not, arith, base, cases_eq, cases_lt, child_at, child_of, entry_of, extra_of, false, frame_of, Frames, free_count, free_of, free_of-same}
+use Rattle.pagetable.proofs.Common.{further-free, further_at, get_or, get_or-set_other, HasTable, inl, inr, IsEntry, IsFreeList, IsFreeList-same, IsLeafEntry, IsMemory, IsNode, IsPaged, IsTree, IsUpper, Keeps, leaf_at, leaf_entry, leaf_of}
+use Rattle.pagetable.proofs.Common.{length, length-set, Links, List, lookup_of, Low, low_node, Mid, mid_node, missing, missing_by, ne_eqb, next_node, no_leaf, no_table, Node, None, Option, put, refl, replicate, Root, SameBut, SameMap}
+use Rattle.pagetable.proofs.Common.{SameTables, shared-is, slice_set, Some, subst, sym, table_at, table_entry, true, word_bytes, Writes, ℕ, ◌%◌, ◌*◌, ◌+◌, ◌-◌, ◌/◌, ◌<◌, ◌^◌, ◌∙◌, ◌∷◌, ◌≡◌, ◌≢◌, ◌⊎◌}
+use Rattle.ram.proofs.MemoryLemmas.{frame_of-put_other, IsMemory-set, length-put, length-word_bytes, word_of-frame, word_of-put_beside, word_of-put_same, word_of-zeros}
 use Rattle.std.proofs.lemmas.List.{length-replicate}
 use Rattle.std.specs.List.{IsDistinct}
 use Rattle.std.proofs.Math.Nat.{div-div-eq-div-mul}
@@ -15,21 +14,72 @@ pub entry_of-frame : (m k : List (List ℕ)) (t i : ℕ) → frame_of k t ≡ fr
 unfolding entry_of
 entry_of-frame m k t i e = word_of-frame k m t t (8 * i) 8 e
 
-pub entry_of-put_same : (m : List (List ℕ)) (t i e : ℕ) → IsMemory m → t < length m → i < 512 → e < 2 ^ 64 → entry_of (put m t (8 * i) (word_bytes 8 e)) t i ≡ e
+pub entry_of-zeros : (m : List (List ℕ)) (u i : ℕ) → u < length m → i < 512 → entry_of (slice_set m u (replicate 4096 0)) u i ≡ 0
 unfolding entry_of
-entry_of-put_same m t i e mem inside small fits = word_of-put_same m t (8 * i) 8 e mem inside (omega arith) fits
+entry_of-zeros m u i h small = word_of-zeros m u (8 * i) 8 4096 h
 
-side : (i j : ℕ) → j ≢ i → (8 * j + 8 ≤ 8 * i) ⊎ (8 * i + 8 ≤ 8 * j)
-side i j ne = elim (cases_lt j i) [ inl below ↦ inl (omega arith) | inr above ↦ inr (omega arith) ]
+pub child_of-zero : child_of 0 ≡ None
+unfolding child_of
+child_of-zero = refl
 
-pub entry_of-put_beside : (m : List (List ℕ)) (t i j e : ℕ) → IsMemory m → t < length m → i < 512 → j ≢ i → entry_of (put m t (8 * i) (word_bytes 8 e)) t j ≡ entry_of m t j
+pub child_of-some : (e : ℕ) → e ≢ 0 → child_of e ≡ Some (e / 1024 - base)
+unfolding child_of
+child_of-some e ne = rw (ne_eqb _ _ ne) refl
+
+pub child_of-table : (t : ℕ) → child_of (table_entry t) ≡ Some t
+child_of-table t = child_of-some (table_entry t) (omega arith) ∙ ap Some (omega arith)
+
+pub leaf_of-zero : leaf_of 0 ≡ None
+unfolding leaf_of
+leaf_of-zero = refl
+
+pub leaf_of-some : (e : ℕ) → e ≢ 0 → leaf_of e ≡ Some (e / 1024 - base, e % 1024)
+unfolding leaf_of
+leaf_of-some e ne = rw (ne_eqb _ _ ne) refl
+
+pub leaf_of-leaf : (f marks : ℕ) → marks < 1024 → leaf_of (leaf_entry f marks) ≡ Some (f, marks)
+leaf_of-leaf f marks small =
+    let frame : leaf_entry f marks / 1024 - base ≡ f = omega arith in
+    let rest : leaf_entry f marks % 1024 ≡ marks = omega arith in
+    leaf_of-some (leaf_entry f marks) (omega arith) ∙ rw (frame, rest) refl
+
+entry_zero : (n : ℕ) (y : Node) → IsEntry n y 0
+entry_zero n Root = no_table refl
+entry_zero n (Mid a) = no_table refl
+entry_zero n (Low a b) = no_leaf refl
+
+entry_table : (n : ℕ) (x : Node) (u : ℕ) → IsUpper x → u < n → IsEntry n x (table_entry u)
+entry_table n Root u up h = a_table u h refl
+entry_table n (Mid a) u up h = a_table u h refl
+entry_table n (Low a b) u up h = absurd up
+
+-- ---- what the writes of the code are
+
+pub Writes-put : (m : List (List ℕ)) (t c e : ℕ) → IsMemory m → t < length m → c < 512 → e < 2 ^ 64 → Writes m (put m t (8 * c) (word_bytes 8 e)) t c e
 unfolding entry_of
-entry_of-put_beside m t i j e mem inside small ne =
-    word_of-put_beside m t (8 * i) (word_bytes 8 e) (8 * j) 8 mem inside (omega (arith, length-word_bytes 8 e)) (rw length-word_bytes (side i j ne))
+Writes-put m t c e mem inside small fits = record {
+  count = length-put m t (8 * c) (word_bytes 8 e);
+  here = word_of-put_same m t (8 * c) 8 e mem inside (omega arith) fits;
+  beside = λ i h ne. word_of-put_beside m t (8 * c) (word_bytes 8 e) (8 * i) 8 mem inside (omega (arith, length-word_bytes 8 e))
+      (rw length-word_bytes (elim (cases_lt i c) [ inl below ↦ inl (omega arith) | inr above ↦ inr (omega arith) ]));
+  others = λ v ne. frame_of-put_other m t (8 * c) (word_bytes 8 e) v ne;
+}
 
-pub entry_of-put_other : (m : List (List ℕ)) (t i e u j : ℕ) → u ≢ t → entry_of (put m t (8 * i) (word_bytes 8 e)) u j ≡ entry_of m u j
-unfolding entry_of
-entry_of-put_other m t i e u j ne = word_of-put_other m t (8 * i) (word_bytes 8 e) u (8 * j) 8 ne
+pub Links-put : (m : List (List ℕ)) (t c u : ℕ) → IsMemory m → t < length m → u < length m → t ≢ u → c < 512 → u < 2 ^ 32
+    → Links m (put (slice_set m u (replicate 4096 0)) t (8 * c) (word_bytes 8 (table_entry u))) t c u
+Links-put m t c u mem ht hu ne small fits =
+    let zeros = replicate {A = ℕ} 4096 0 in
+    let z = slice_set m u zeros in
+    let len : length z ≡ length m = length-set m u zeros in
+    let rest : (v : ℕ) → v ≢ u → frame_of z v ≡ frame_of m v = λ (v : ℕ) (h : v ≢ u). get_or-set_other m u v zeros [] h in
+    let w = Writes-put z t c (table_entry u) (IsMemory-set m u zeros mem (length-replicate {A = ℕ} 4096 0)) (omega (arith, len, ht)) small (omega arith) in
+    record {
+      count = w.count ∙ len;
+      here = w.here;
+      beside = λ i h out. w.beside i h out ∙ entry_of-frame m z t i (rest t ne);
+      fresh = λ i h. entry_of-frame z _ u i (w.others u (λ e. ne (sym e))) ∙ entry_of-zeros m u i hu h;
+      others = λ v nt nu. w.others v nt ∙ rest v nu;
+    }
 
 -- ---- places
 
@@ -43,167 +93,16 @@ cases_node (Low a b) (Low c d) =
     ]
 cases_node _ _ = inr (λ e. cc)
 
-pub child_of-zero : child_of 0 ≡ None
-unfolding child_of
-child_of-zero = refl
+next_other : (x : Node) (c : ℕ) → IsUpper x → x ≢ next_node x c
+next_other Root c up e = cc
+next_other (Mid d) c up e = cc
+next_other (Low a b) c up e = up
 
-pub child_of-table : (t : ℕ) → child_of (table_entry t) ≡ Some t
-unfolding child_of
-child_of-table t =
-    let some : table_entry t ≢ 0 = omega arith in
-    let top : ((base + t) * 1024 + 1) / 1024 ≡ base + t = div-mul-add (base + t) 1024 1 (omega arith) in
-    let low : base + t - base ≡ t = omega arith in
-    rw (ne_eqb _ _ some, top, low) refl
+pub mid_is_node : (page : ℕ) → page / 262144 % 512 < 512
+mid_is_node page = omega arith
 
-pub leaf_of-leaf : (f marks : ℕ) → marks < 1024 → leaf_of (leaf_entry f marks) ≡ Some (f, marks)
-unfolding leaf_of
-leaf_of-leaf f marks small =
-    let some : leaf_entry f marks ≢ 0 = omega arith in
-    let top : ((base + f) * 1024 + marks) / 1024 ≡ base + f = div-mul-add (base + f) 1024 marks small in
-    let rest : ((base + f) * 1024 + marks) % 1024 ≡ marks = mod-mul-add (base + f) 1024 marks small in
-    let low : base + f - base ≡ f = omega arith in
-    rw (ne_eqb _ _ some, top, rest, low) refl
-
--- two tables of a tree at different places are in different frames
-pub tables_apart : (m : List (List ℕ)) (r : ℕ) → IsTree m r → (x y : Node) (t u : ℕ) → IsNode x → IsNode y → table_at m r x ≡ Some t → table_at m r y ≡ Some u → x ≢ y → t ≢ u
-tables_apart m r is x y t u nx ny ax ay ne e = ne (is.once x y u nx ny (rw (← e) ax) ay)
-
--- the tables under a table that stays are the same
-pub child_at-same : (m k : List (List ℕ)) (o : Option ℕ) (b : ℕ) → ((v : ℕ) → o ≡ Some v → entry_of k v b ≡ entry_of m v b) → child_at k o b ≡ child_at m o b
-child_at-same m k None b h = refl
-child_at-same m k (Some v) b h = ap child_of (h v refl)
-
-pub leaf_at-same : (m k : List (List ℕ)) (o : Option ℕ) (i : ℕ) → ((v : ℕ) → o ≡ Some v → entry_of k v i ≡ entry_of m v i) → leaf_at k o i ≡ leaf_at m o i
-leaf_at-same m k None i h = refl
-leaf_at-same m k (Some v) i h = ap leaf_of (h v refl)
-
--- ---- a tree of which one entry changes
-
-entry-beside : (m k : List (List ℕ)) (t c v i : ℕ) → (i ≢ c → entry_of k t i ≡ entry_of m t i) → (v ≢ t → frame_of k v ≡ frame_of m v) → (v ≢ t) ⊎ (i ≢ c) → entry_of k v i ≡ entry_of m v i
-entry-beside m k t c v i beside others (inl ne) = entry_of-frame m k v i (others ne)
-entry-beside m k t c v i beside others (inr ne) =
-    elim (cases_eq v t) [
-      | inl same ↦ rw same (beside ne)
-      | inr other ↦ entry_of-frame m k v i (others other)
-    ]
-
--- an entry of the tree after the write
-pub entry-write : (m k : List (List ℕ)) (t c e v i : ℕ) → Writes m k t c e → i < 512 → (v ≢ t) ⊎ (i ≢ c) → entry_of k v i ≡ entry_of m v i
-entry-write m k t c e v i w small = entry-beside m k t c v i (w.beside i small) (w.others v)
-
--- an entry of a table of the tree after the link
-entry-link : (m k : List (List ℕ)) (t c u v i : ℕ) → Links m k t c u → i < 512 → v ≢ u → (v ≢ t) ⊎ (i ≢ c) → entry_of k v i ≡ entry_of m v i
-entry-link m k t c u v i w small fresh = entry-beside m k t c v i (w.beside i small) (λ ne. w.others v ne fresh)
-
--- the entries of the tables stay, but for entry c of the table t
-pub record KeepsBut (m k : List (List ℕ)) (r t c : ℕ) : Type 0 where
-  pub entries : (y : Node) (v i : ℕ) → IsNode y → table_at m r y ≡ Some v → i < 512 → (v ≢ t) ⊎ (i ≢ c) → entry_of k v i ≡ entry_of m v i
-
-pub KeepsBut-write : (m k : List (List ℕ)) (r t c e : ℕ) → Writes m k t c e → KeepsBut m k r t c
-KeepsBut-write m k r t c e w = record { entries = λ y v i ny h small ne. entry-write m k t c e v i w small ne }
-
--- the new table is in no frame of the tree
-KeepsBut-link : (m k : List (List ℕ)) (r t c u : ℕ) → Links m k t c u → ¬ HasTable m r u → KeepsBut m k r t c
-KeepsBut-link m k r t c u w new = record {
-  entries = λ y v i ny h small ne. entry-link m k t c u v i w small (λ e. new (record { place = y; is_node = ny; at_place = rw (← e) h })) ne;
-}
-
--- under a table that is not the root, the root stays
-root-kept : (m k : List (List ℕ)) (r : ℕ) (x : Node) (t c : ℕ) → IsTree m r → KeepsBut m k r t c → IsNode x → table_at m r x ≡ Some t → Root ≢ x → (a : ℕ) → a < 512 → entry_of k r a ≡ entry_of m r a
-unfolding table_at
-root-kept m k r x t c is kept nx at ne a small = kept.entries Root r a tt refl small (inl (tables_apart m r is Root x r t tt nx refl at ne))
-
--- other tables stay, if the entry leads to no tables but one, before and after
-pub table_at-kept : (m k : List (List ℕ)) (r : ℕ) (x : Node) (t c : ℕ) → IsTree m r → KeepsBut m k r t c → IsNode x → IsUpper x → table_at m r x ≡ Some t
-    → ((b : ℕ) → b < 512 → child_at k (child_of (entry_of k t c)) b ≡ child_at m (child_of (entry_of m t c)) b) → (y : Node) → IsNode y → y ≢ next_node x c → table_at k r y ≡ table_at m r y
-unfolding table_at
-table_at-kept m k r x t c is kept nx up at below Root ny ne = refl
-table_at-kept m k r Root t c is kept nx up at below (Mid a) ny ne = ap child_of (kept.entries Root r a tt refl ny (inr (λ e. ne (ap Mid e))))
-table_at-kept m k r Root t c is kept nx up at below (Low a b) ny ne =
-    let root : r ≡ t = cc in
-    elim (cases_eq a c) [
-      | inl same ↦ rw (same, root) (below b ny.1)
-      | inr other ↦
-          ap (λ o. child_at k (child_of o) b) (kept.entries Root r a tt refl ny.0 (inr other))
-          ∙ child_at-same m k (child_of (entry_of m r a)) b (λ v g. kept.entries (Mid a) v b ny.0 g ny.1 (inl (tables_apart m r is (Mid a) Root v t ny.0 tt g at (λ h. cc))))
-    ]
-table_at-kept m k r (Mid d) t c is kept nx up at below (Mid a) ny ne = ap child_of (root-kept m k r (Mid d) t c is kept nx at (λ g. cc) a ny)
-table_at-kept m k r (Mid d) t c is kept nx up at below (Low a b) ny ne =
-    ap (λ o. child_at k (child_of o) b) (root-kept m k r (Mid d) t c is kept nx at (λ g. cc) a ny.0)
-    ∙ child_at-same m k (child_of (entry_of m r a)) b (λ v g. kept.entries (Mid a) v b ny.0 g ny.1
-    (elim (cases_eq v t) [
-      | inl same ↦
-          let mids : Mid a ≡ Mid d = is.once (Mid a) (Mid d) t ny.0 nx (rw (← same) g) at in
-          inr (λ h. ne cc)
-      | inr other ↦ inl other
-    ]))
-table_at-kept m k r (Low d e) t c is kept nx up at below y ny ne = absurd up
-
--- what the entry leads to is at the place after x
-pub table_at-next : (m : List (List ℕ)) (r : ℕ) (x : Node) (t c : ℕ) → IsUpper x → table_at m r x ≡ Some t → table_at m r (next_node x c) ≡ child_of (entry_of m t c)
-unfolding table_at
-table_at-next m r Root t c up at = let root : r ≡ t = cc in rw root refl
-table_at-next m r (Mid d) t c up at = ap (λ o. child_at m o c) at
-table_at-next m r (Low d e) t c up at = absurd up
-
-pub next-kept : (m k : List (List ℕ)) (r : ℕ) (x : Node) (t c : ℕ) → IsTree m r → KeepsBut m k r t c → IsNode x → IsUpper x → table_at m r x ≡ Some t → table_at k r (next_node x c) ≡ child_of (entry_of k t c)
-unfolding table_at
-next-kept m k r Root t c is kept nx up at = table_at-next k r Root t c up at
-next-kept m k r (Mid d) t c is kept nx up at = table_at-next k r (Mid d) t c up (ap child_of (root-kept m k r (Mid d) t c is kept nx at (λ g. cc) d nx) ∙ at)
-next-kept m k r (Low d e) t c is kept nx up at = absurd up
-
-pub low_not_upper : (x : Node) (a b : ℕ) → IsUpper x → Low a b ≢ x
-low_not_upper Root a b up e = cc
-low_not_upper (Mid c) a b up e = cc
-low_not_upper (Low c d) a b up e = up
-
--- what other tables map stays; so does what the one after x maps, if all is as it was there
-pub lookup_of-kept : (m k : List (List ℕ)) (r : ℕ) (x : Node) (t c : ℕ) → IsTree m r → KeepsBut m k r t c → IsNode x → IsUpper x → table_at m r x ≡ Some t
-    → ((y : Node) → IsNode y → y ≢ next_node x c → table_at k r y ≡ table_at m r y)
-    → ((i : ℕ) → i < 512 → leaf_at k (table_at k r (next_node x c)) i ≡ leaf_at m (table_at m r (next_node x c)) i) → SameMap m k r
-unfolding lookup_of
-lookup_of-kept m k r x t c is kept nx up at others here p =
-    let node : IsNode (low_node p) = (omega arith, omega arith) in
-    elim (cases_node (low_node p) (next_node x c)) [
-      | inl same ↦ ap (λ y. leaf_at k (table_at k r y) (p % 512)) same ∙ here (p % 512) (omega arith) ∙ sym (ap (λ y. leaf_at m (table_at m r y) (p % 512)) same)
-      | inr other ↦
-          ap (λ o. leaf_at k o (p % 512)) (others (low_node p) node other)
-          ∙ leaf_at-same m k (table_at m r (low_node p)) (p % 512) (λ v g. kept.entries (low_node p) v (p % 512) node g (omega arith) (inl (tables_apart m r is (low_node p) x v t node nx g at (low_not_upper x (p / 262144 % 512) (p / 512 % 512) up))))
-    ]
-
--- ---- a write to a table of the lowest level
-
-pub table_at-write : (m k : List (List ℕ)) (r a b t c e : ℕ) → IsTree m r → IsNode (Low a b) → table_at m r (Low a b) ≡ Some t → Writes m k t c e
-    → SameTables m k r
-unfolding table_at
-table_at-write m k r a b t c e is node at w Root isn = refl
-table_at-write m k r a b t c e is node at w (Mid a') isn = ap child_of (root-kept m k r (Low a b) t c is (KeepsBut-write m k r t c e w) node at (λ g. cc) a' isn)
-table_at-write m k r a b t c e is node at w (Low a' b') isn =
-    ap (λ o. child_at k (child_of o) b') (root-kept m k r (Low a b) t c is (KeepsBut-write m k r t c e w) node at (λ g. cc) a' isn.0)
-    ∙ child_at-same m k (child_of (entry_of m r a')) b' (λ v g. entry_of-frame m k v b' (w.others v (tables_apart m r is (Mid a') (Low a b) v t isn.0 node g at (λ h. cc))))
-
-pub IsTree-write : (m k : List (List ℕ)) (r a b t c e : ℕ) → IsTree m r → IsNode (Low a b) → table_at m r (Low a b) ≡ Some t → Writes m k t c e → IsLeafEntry (length m) e → IsTree k r
-IsTree-write m k r a b t c e is node at w leaf =
-    let stays : SameTables m k r = table_at-write m k r a b t c e is node at w in
-    record {
-      inside = λ x u n h. rw w.count (is.inside x u n (sym (stays x n) ∙ h));
-      once = λ x y u nx ny hx hy. is.once x y u nx ny (sym (stays x nx) ∙ hx) (sym (stays y ny) ∙ hy);
-      sound = λ x u i n h small.
-          let old : table_at m r x ≡ Some u = sym (stays x n) ∙ h in
-          rw w.count (elim (cases_eq u t) [
-            | inl same ↦ elim (cases_eq i c) [
-              | inl here ↦
-                  let place : x ≡ Low a b = is.once x (Low a b) t n node (rw (← same) old) at in
-                  rw (place, same, here, w.here) leaf
-              | inr beside ↦ rw (entry-write m k t c e u i w small (inr beside)) (is.sound x u i n old small)
-            ]
-            | inr other ↦ rw (entry-write m k t c e u i w small (inl other)) (is.sound x u i n old small)
-          ]);
-    }
-
-leaf_at-fresh : (k : List (List ℕ)) (u i : ℕ) → entry_of k u i ≡ 0 → leaf_at k (Some u) i ≡ None
-unfolding leaf_of
-leaf_at-fresh k u i e = rw e refl
+pub low_is_node : (page : ℕ) → IsNode (low_node page)
+low_is_node page = (omega arith, omega arith)
 
 -- pages with the same three indices are one
 pub same_page : (p q : ℕ) → p < 2 ^ 27 → q < 2 ^ 27 → low_node p ≡ low_node q → p % 512 ≡ q % 512 → p ≡ q
@@ -213,189 +112,135 @@ same_page p q sp sq same low =
     let mid : p / 512 % 512 ≡ q / 512 % 512 = cc in
     omega (arith, split p, split q, high, mid, low, sp, sq)
 
-pub lookup_of-write_other : (m k : List (List ℕ)) (r page t e p : ℕ) → IsTree m r → table_at m r (low_node page) ≡ Some t → Writes m k t (page % 512) e
-    → page < 2 ^ 27 → p < 2 ^ 27 → p ≢ page → lookup_of k r p ≡ lookup_of m r p
-unfolding lookup_of
-lookup_of-write_other m k r page t e p is at w sp sq ne =
-    let a = page / 262144 % 512 in
-    let b = page / 512 % 512 in
-    let node : IsNode (Low a b) = (omega arith, omega arith) in
-    let node' : IsNode (low_node p) = (omega arith, omega arith) in
-    ap (λ o. leaf_at k o (p % 512)) (table_at-write m k r a b t (page % 512) e is node at w (low_node p) node')
-    ∙ leaf_at-same m k (table_at m r (low_node p)) (p % 512) (λ v g. entry-write m k t (page % 512) e v (p % 512) w (omega arith)
-    (elim (cases_eq v t) [
-      | inl same ↦ inr (λ h. ne (same_page p page sq sp (is.once (low_node p) (low_node page) t node' node (rw (← same) g) at) h))
-      | inr other ↦ inl other
-    ]))
-
-pub lookup_of-write_same : (m k : List (List ℕ)) (r page t e : ℕ) → IsTree m r → table_at m r (low_node page) ≡ Some t → Writes m k t (page % 512) e → lookup_of k r page ≡ leaf_of e
-unfolding lookup_of
-lookup_of-write_same m k r page t e is at w =
-    let node : IsNode (low_node page) = (omega arith, omega arith) in
-    rw (table_at-write m k r (page / 262144 % 512) (page / 512 % 512) t (page % 512) e is node at w (low_node page) node, at, w.here) refl
-
--- ---- a new table
-
--- an empty table has no tables under it
-child_at-fresh : (k : List (List ℕ)) (u b : ℕ) → entry_of k u b ≡ 0 → child_at k (Some u) b ≡ None
-child_at-fresh k u b e = rw e child_of-zero
-
-pub table_at-link_other : (m k : List (List ℕ)) (r : ℕ) (x : Node) (t c u : ℕ) → IsTree m r → IsNode x → IsUpper x → c < 512 → table_at m r x ≡ Some t → Links m k t c u
-    → ¬ HasTable m r u → table_at m r (next_node x c) ≡ None → (y : Node) → IsNode y → y ≢ next_node x c → table_at k r y ≡ table_at m r y
-table_at-link_other m k r x t c u is nx up sc at w new none =
-    let before : child_of (entry_of m t c) ≡ None = sym (table_at-next m r x t c up at) ∙ none in
-    table_at-kept m k r x t c is (KeepsBut-link m k r t c u w new) nx up at
-    (λ b small. ap (λ o. child_at k o b) (ap child_of w.here ∙ child_of-table u) ∙ child_at-fresh k u b (w.fresh b small) ∙ sym (ap (λ o. child_at m o b) before))
-
-pub table_at-link_same : (m k : List (List ℕ)) (r : ℕ) (x : Node) (t c u : ℕ) → IsTree m r → IsNode x → IsUpper x → c < 512 → table_at m r x ≡ Some t → Links m k t c u
-    → ¬ HasTable m r u → table_at k r (next_node x c) ≡ Some u
-table_at-link_same m k r x t c u is nx up sc at w new = next-kept m k r x t c is (KeepsBut-link m k r t c u w new) nx up at ∙ ap child_of w.here ∙ child_of-table u
-
--- a table at a place is the new one, or was there
-link_cases : (m k : List (List ℕ)) (r : ℕ) (x : Node) (t c u : ℕ) → IsTree m r → IsNode x → IsUpper x → c < 512 → table_at m r x ≡ Some t → Links m k t c u
-    → ¬ HasTable m r u → table_at m r (next_node x c) ≡ None → (y : Node) (v : ℕ) → IsNode y → table_at k r y ≡ Some v
-    → ((y ≡ next_node x c) × (v ≡ u)) ⊎ (table_at m r y ≡ Some v)
-link_cases m k r x t c u is nx up sc at w new none y v ny h =
-    elim (cases_node y (next_node x c)) [
-      | inl same ↦
-          let e : Some v ≡ Some u = sym h ∙ ap (table_at k r) same ∙ table_at-link_same m k r x t c u is nx up sc at w new in
-          inl (same, cc)
-      | inr other ↦ inr (sym (table_at-link_other m k r x t c u is nx up sc at w new none y ny other) ∙ h)
-    ]
-
-pub entry_zero : (n : ℕ) (y : Node) → IsEntry n y 0
-entry_zero n Root = no_table refl
-entry_zero n (Mid a) = no_table refl
-entry_zero n (Low a b) = no_leaf refl
-
-entry_table : (n : ℕ) (x : Node) (u : ℕ) → IsUpper x → u < n → IsEntry n x (table_entry u)
-entry_table n Root u up h = a_table u h refl
-entry_table n (Mid a) u up h = a_table u h refl
-entry_table n (Low a b) u up h = absurd up
-
-pub IsTree-link : (m k : List (List ℕ)) (r : ℕ) (x : Node) (t c u : ℕ) → IsTree m r → IsNode x → IsUpper x → c < 512 → table_at m r x ≡ Some t → Links m k t c u
-    → ¬ HasTable m r u → table_at m r (next_node x c) ≡ None → u < length m → IsTree k r
-IsTree-link m k r x t c u is nx up sc at w new none inside =
-    let cases = link_cases m k r x t c u is nx up sc at w new none in
-    let held : (y : Node) → IsNode y → table_at m r y ≡ Some u → ⊥ = λ y ny h. new (record { place = y; is_node = ny; at_place = h }) in
-    record {
-      inside = λ y v ny h. rw w.count (elim (cases y v ny h) [ inl fresh ↦ rw (fresh.1) inside | inr old ↦ is.inside y v ny old ]);
-      once = λ y z v ny nz hy hz. elim (cases y v ny hy) [
-        | inl fresh ↦ elim (cases z v nz hz) [
-          | inl again ↦ fresh.0 ∙ sym again.0
-          | inr old ↦ absurd (held z nz (rw (← fresh.1) old))
-        ]
-        | inr old ↦ elim (cases z v nz hz) [
-          | inl fresh ↦ absurd (held y ny (rw (← fresh.1) old))
-          | inr older ↦ is.once y z v ny nz old older
-        ]
-      ];
-      sound = λ y v i ny h small. rw w.count (elim (cases y v ny h) [
-        | inl fresh ↦ rw (fresh.1, w.fresh i small) (entry_zero (length m) y)
-        | inr old ↦
-            let other : v ≢ u = λ e. held y ny (rw (← e) old) in
-            elim (cases_eq v t) [
-              | inl same ↦ elim (cases_eq i c) [
-                | inl here ↦
-                    let place : y ≡ x = is.once y x t ny nx (rw (← same) old) at in
-                    rw (place, same, here, w.here) (entry_table (length m) x u up inside)
-                | inr beside ↦ rw (entry-link m k t c u v i w small other (inr beside)) (is.sound y v i ny old small)
-              ]
-              | inr away ↦ rw (entry-link m k t c u v i w small other (inl away)) (is.sound y v i ny old small)
-            ]
-      ]);
-    }
-
--- a new table maps nothing
-pub lookup_of-link : (m k : List (List ℕ)) (r : ℕ) (x : Node) (t c u : ℕ) → IsTree m r → IsNode x → IsUpper x → c < 512 → table_at m r x ≡ Some t → Links m k t c u
-    → ¬ HasTable m r u → table_at m r (next_node x c) ≡ None → SameMap m k r
-lookup_of-link m k r x t c u is nx up sc at w new none =
-    lookup_of-kept m k r x t c is (KeepsBut-link m k r t c u w new) nx up at (table_at-link_other m k r x t c u is nx up sc at w new none)
-    (λ i small. ap (λ o. leaf_at k o i) (table_at-link_same m k r x t c u is nx up sc at w new) ∙ leaf_at-fresh k u i (w.fresh i small) ∙ sym (ap (λ o. leaf_at m o i) none))
-
--- ---- entries that fit
-
-pub child_of-some : (e : ℕ) → e ≢ 0 → child_of e ≡ Some (e / 1024 - base)
-unfolding child_of
-child_of-some e ne = rw (ne_eqb _ _ ne) refl
-
-pub leaf_of-some : (e : ℕ) → e ≢ 0 → leaf_of e ≡ Some (e / 1024 - base, e % 1024)
-unfolding leaf_of
-leaf_of-some e ne = rw (ne_eqb _ _ ne) refl
-
-pub leaf_of-zero : leaf_of 0 ≡ None
-unfolding leaf_of
-leaf_of-zero = refl
-
 -- ---- the way down to a page
 
-pub mid_is_node : (page : ℕ) → page / 262144 % 512 < 512
-mid_is_node page = omega arith
-
-pub low_is_node : (page : ℕ) → IsNode (low_node page)
-low_is_node page = (omega arith, omega arith)
+pub root_at : (m : List (List ℕ)) (r : ℕ) → table_at m r Root ≡ Some r
+unfolding table_at
+root_at m r = refl
 
 pub tree-root : (m : List (List ℕ)) (r : ℕ) → IsTree m r → r < length m
-unfolding table_at
-tree-root m r is = is.inside Root r tt refl
-
-pub tree-mid_sound : (m : List (List ℕ)) (r page : ℕ) → IsTree m r → IsTableEntry (length m) (entry_of m r (page / 262144 % 512))
-unfolding table_at
-tree-mid_sound m r page is = is.sound Root r (page / 262144 % 512) tt refl (omega arith)
+tree-root m r is = is.inside Root r tt (root_at m r)
 
 pub table_at-mid : (m : List (List ℕ)) (r page : ℕ) → table_at m r (mid_node page) ≡ child_of (entry_of m r (page / 262144 % 512))
 unfolding table_at
 table_at-mid m r page = refl
 
-pub tree-mid : (m : List (List ℕ)) (r page t : ℕ) → IsTree m r → Some t ≡ table_at m r (mid_node page) → t < length m
-tree-mid m r page t is at = is.inside (mid_node page) t (mid_is_node page) (sym at)
-
-pub tree-low_sound : (m : List (List ℕ)) (r page t : ℕ) → IsTree m r → Some t ≡ table_at m r (mid_node page) → IsTableEntry (length m) (entry_of m t (page / 512 % 512))
-tree-low_sound m r page t is at = is.sound (mid_node page) t (page / 512 % 512) (mid_is_node page) (sym at) (omega arith)
-
 pub table_at-low : (m : List (List ℕ)) (r page : ℕ) (o : Option ℕ) → o ≡ table_at m r (mid_node page) → table_at m r (low_node page) ≡ child_at m o (page / 512 % 512)
 unfolding table_at
 table_at-low m r page o at = ap (λ x. child_at m x (page / 512 % 512)) (sym at)
-
-pub tree-low : (m : List (List ℕ)) (r page t : ℕ) → IsTree m r → Some t ≡ table_at m r (low_node page) → t < length m
-tree-low m r page t is at = is.inside (low_node page) t (low_is_node page) (sym at)
-
-pub tree-leaf_sound : (m : List (List ℕ)) (r page t : ℕ) → IsTree m r → Some t ≡ table_at m r (low_node page) → IsLeafEntry (length m) (entry_of m t (page % 512))
-tree-leaf_sound m r page t is at = is.sound (low_node page) t (page % 512) (low_is_node page) (sym at) (omega arith)
 
 pub lookup_of-low : (m : List (List ℕ)) (r page : ℕ) (o : Option ℕ) → o ≡ table_at m r (low_node page) → lookup_of m r page ≡ leaf_at m o (page % 512)
 unfolding lookup_of
 lookup_of-low m r page o at = ap (λ x. leaf_at m x (page % 512)) (sym at)
 
--- ---- what the writes of the code are
+pub tree-leaf_sound : (m : List (List ℕ)) (r page t : ℕ) → IsTree m r → Some t ≡ table_at m r (low_node page) → IsLeafEntry (length m) (entry_of m t (page % 512))
+tree-leaf_sound m r page t is at = is.sound (low_node page) t (page % 512) (low_is_node page) (sym at) (omega arith)
 
-pub Writes-put : (m : List (List ℕ)) (t c e : ℕ) → IsMemory m → t < length m → c < 512 → e < 2 ^ 64 → Writes m (put m t (8 * c) (word_bytes 8 e)) t c e
-Writes-put m t c e mem inside small fits = record {
-  count = length-put m t (8 * c) (word_bytes 8 e);
-  here = entry_of-put_same m t c e mem inside small fits;
-  beside = λ i h ne. entry_of-put_beside m t c i e mem inside small ne;
-  others = λ v ne. frame_of-put_other m t (8 * c) (word_bytes 8 e) v ne;
+-- a tree with no middle table on the way has no low one
+pub no_low : (m : List (List ℕ)) (r page : ℕ) → table_at m r (mid_node page) ≡ None → table_at m r (low_node page) ≡ None
+no_low m r page none = table_at-low m r page None (sym none)
+
+pub missing-is : (m : List (List ℕ)) (r page : ℕ) (o q : Option ℕ) → o ≡ table_at m r (mid_node page) → q ≡ table_at m r (low_node page) → missing m r page ≡ missing_by o q
+unfolding missing
+missing-is m r page o q e f = rw (← e, ← f) refl
+
+-- ---- tables that stay
+
+-- what an entry leads to is at the place after x
+table_at-next : (m : List (List ℕ)) (r : ℕ) (x : Node) (t c : ℕ) → IsUpper x → table_at m r x ≡ Some t → table_at m r (next_node x c) ≡ child_of (entry_of m t c)
+unfolding table_at
+table_at-next m r Root t c up at = let root : r ≡ t = cc in rw root refl
+table_at-next m r (Mid d) t c up at = ap (λ o. child_at m o c) at
+table_at-next m r (Low d e) t c up at = absurd up
+
+pub child_at-same : (m k : List (List ℕ)) (o : Option ℕ) (b : ℕ) → ((v : ℕ) → o ≡ Some v → entry_of k v b ≡ entry_of m v b) → child_at k o b ≡ child_at m o b
+child_at-same m k None b h = refl
+child_at-same m k (Some v) b h = ap child_of (h v refl)
+
+pub leaf_at-same : (m k : List (List ℕ)) (o : Option ℕ) (i : ℕ) → ((v : ℕ) → o ≡ Some v → entry_of k v i ≡ entry_of m v i) → leaf_at k o i ≡ leaf_at m o i
+leaf_at-same m k None i h = refl
+leaf_at-same m k (Some v) i h = ap leaf_of (h v refl)
+
+-- where each table stood before, and its entries are sound, there is a tree
+pub kept-tree : {m k : List (List ℕ)} {r : ℕ} → IsTree m r → length k ≡ length m → ((y : Node) (v : ℕ) → IsNode y → table_at k r y ≡ Some v → table_at m r y ≡ Some v)
+    → ((y : Node) (v i : ℕ) → IsNode y → table_at k r y ≡ Some v → i < 512 → IsEntry (length k) y (entry_of k v i)) → IsTree k r
+kept-tree is count old sound = record {
+  inside = λ y v ny h. rw count (is.inside y v ny (old y v ny h));
+  once = λ y z v ny nz hy hz. is.once y z v ny nz (old y v ny hy) (old z v nz hz);
+  sound = sound;
 }
 
-pub entry_of-zeros : (m : List (List ℕ)) (u i : ℕ) → u < length m → i < 512 → entry_of (slice_set m u (replicate 4096 0)) u i ≡ 0
-unfolding entry_of
-entry_of-zeros m u i h small = word_of-zeros m u (8 * i) 8 4096 h
+not_held : {m : List (List ℕ)} {r v t : ℕ} → ¬ HasTable m r v → (x : Node) → IsNode x → table_at m r x ≡ Some t → v ≢ t
+not_held out x nx at e = out (record { place = x; is_node = nx; at_place = rw e at })
 
-pub Links-put : (m : List (List ℕ)) (t c u : ℕ) → IsMemory m → t < length m → u < length m → t ≢ u → c < 512 → u < 2 ^ 32
-    → Links m (put (slice_set m u (replicate 4096 0)) t (8 * c) (word_bytes 8 (table_entry u))) t c u
-Links-put m t c u mem ht hu ne small fits =
-    let z = slice_set m u (replicate {A = ℕ} 4096 0) in
-    let zmem : IsMemory z = IsMemory-set m u (replicate {A = ℕ} 4096 0) mem (length-replicate {A = ℕ} 4096 0) in
-    let len : length z ≡ length m = length-set m u (replicate {A = ℕ} 4096 0) in
-    let tz : t < length z = omega (arith, len, ht) in
-    let zt : (v : ℕ) → v ≢ u → frame_of z v ≡ frame_of m v = λ (v : ℕ) (h : v ≢ u). get_or-set_other m u v (replicate {A = ℕ} 4096 0) [] h in
-    record {
-      count = length-put z t (8 * c) (word_bytes 8 (table_entry u)) ∙ len;
-      here = entry_of-put_same z t c (table_entry u) zmem tz small (omega arith);
-      beside = λ i h out. entry_of-put_beside z t c i (table_entry u) zmem tz small out ∙ entry_of-frame m z t i (zt t ne);
-      fresh = λ i h. entry_of-put_other z t c (table_entry u) u i (λ e. ne (sym e)) ∙ entry_of-zeros m u i hu h;
-      others = λ v nt nu. frame_of-put_other z t (8 * c) (word_bytes 8 (table_entry u)) v nt ∙ zt v nu;
-    }
+-- ---- a tree of which one entry changes
+
+-- Entry c of the table t at x is another one, and so may be the table that stands after x.
+record Changes (m k : List (List ℕ)) (r : ℕ) (x : Node) (t c : ℕ) : Type 0 where
+  pub tree : IsTree m r
+  pub node : IsNode x
+  pub at : table_at m r x ≡ Some t
+  pub count : length k ≡ length m
+  pub entries : (y : Node) (v i : ℕ) → IsNode y → table_at m r y ≡ Some v → (IsUpper x → y ≢ next_node x c) → i < 512 → (y ≡ x → i ≢ c) → entry_of k v i ≡ entry_of m v i
+  pub below : IsUpper x → (b : ℕ) → b < 512 → child_at k (child_of (entry_of k t c)) b ≡ child_at m (child_of (entry_of m t c)) b
+
+-- what keeps the other entries of the table and the other frames keeps the other entries of the tree
+entry-kept : {m : List (List ℕ)} {r t : ℕ} (k : List (List ℕ)) (c : ℕ) → IsTree m r → (x : Node) → IsNode x → table_at m r x ≡ Some t → (y : Node) (v i : ℕ) → IsNode y → table_at m r y ≡ Some v → (y ≡ x → i ≢ c)
+    → (i ≢ c → entry_of k t i ≡ entry_of m t i) → (v ≢ t → frame_of k v ≡ frame_of m v) → entry_of k v i ≡ entry_of m v i
+entry-kept {m} {r} {t} k c is x nx at y v i ny h apart here others = elim (cases_eq v t) [
+  | inl same ↦ rw same (here (apart (is.once y x t ny nx (rw (← same) h) at)))
+  | inr other ↦ entry_of-frame m k v i (others other)
+]
+
+module _ {m k : List (List ℕ)} {r t c : ℕ} where
+  -- other tables stay
+  stays : (x : Node) → Changes m k r x t c → (y : Node) → IsNode y → (IsUpper x → y ≢ next_node x c) → table_at k r y ≡ table_at m r y
+  unfolding table_at
+  stays x ch Root ny ne = refl
+  stays Root ch (Mid a) ny ne = ap child_of (ch.entries Root r a tt refl (λ _ e. cc) ny (λ _ e. ne tt (ap Mid e)))
+  stays Root ch (Low a b) ny ne =
+      elim (cases_eq a c) [
+        | inl same ↦ let root : r ≡ t = let at = ch.at in cc in rw (same, root) (ch.below tt b ny.1)
+        | inr other ↦
+            ap (λ o. child_at k (child_of o) b) (ch.entries Root r a tt refl (λ _ e. cc) ny.0 (λ _. other))
+            ∙ child_at-same m k (child_of (entry_of m r a)) b (λ v g. ch.entries (Mid a) v b ny.0 g (λ _ e. other cc) ny.1 (λ e f. cc))
+      ]
+  stays (Mid d) ch (Mid a) ny ne = ap child_of (ch.entries Root r a tt refl (λ _ e. cc) ny (λ e f. cc))
+  stays (Mid d) ch (Low a b) ny ne =
+      ap (λ o. child_at k (child_of o) b) (ch.entries Root r a tt refl (λ _ e. cc) ny.0 (λ e f. cc))
+      ∙ child_at-same m k (child_of (entry_of m r a)) b (λ v g. ch.entries (Mid a) v b ny.0 g (λ _ e. cc) ny.1 (λ e f. ne tt cc))
+  stays (Low d e) ch (Mid a) ny ne = ap child_of (ch.entries Root r a tt refl (λ up. absurd up) ny (λ e f. cc))
+  stays (Low d e) ch (Low a b) ny ne =
+      ap (λ o. child_at k (child_of o) b) (ch.entries Root r a tt refl (λ up. absurd up) ny.0 (λ e f. cc))
+      ∙ child_at-same m k (child_of (entry_of m r a)) b (λ v g. ch.entries (Mid a) v b ny.0 g (λ up. absurd up) ny.1 (λ e f. cc))
+
+  next : (x : Node) → Changes m k r x t c → IsUpper x → table_at k r (next_node x c) ≡ child_of (entry_of k t c)
+  next x ch up = table_at-next k r x t c up (stays x ch x ch.node (λ _. next_other x c up) ∙ ch.at)
+
+  -- what other tables map stays
+  looks : (x : Node) → Changes m k r x t c → (p : ℕ) → (IsUpper x → low_node p ≢ next_node x c) → (low_node p ≡ x → p % 512 ≢ c) → lookup_of k r p ≡ lookup_of m r p
+  unfolding lookup_of
+  looks x ch p other apart =
+      ap (λ o. leaf_at k o (p % 512)) (stays x ch (low_node p) (low_is_node p) other)
+      ∙ leaf_at-same m k (table_at m r (low_node p)) (p % 512) (λ v g. ch.entries (low_node p) v (p % 512) (low_is_node p) g other (omega arith) apart)
+
+  -- so does what all map, if what the one after x maps does
+  maps-same : (x : Node) → Changes m k r x t c → IsUpper x → ((i : ℕ) → i < 512 → leaf_at k (table_at k r (next_node x c)) i ≡ leaf_at m (table_at m r (next_node x c)) i) → SameMap m k r
+  unfolding lookup_of
+  maps-same x ch up here p = elim (cases_node (low_node p) (next_node x c)) [
+    | inl same ↦ rw same (here (p % 512) (omega arith))
+    | inr other ↦ looks x ch p (λ _. other) (λ e _. subst IsUpper (sym e) up)
+  ]
+
+  sound-kept : (x : Node) → Changes m k r x t c → IsEntry (length m) x (entry_of k t c) → (y : Node) (v i : ℕ) → IsNode y → table_at m r y ≡ Some v → (IsUpper x → y ≢ next_node x c) → i < 512
+      → IsEntry (length k) y (entry_of k v i)
+  sound-kept x ch good y v i ny h other small = rw ch.count (elim (cases_node y x) [
+    | inl same ↦ elim (cases_eq i c) [
+      | inl here ↦ let e : v ≡ t = cc in rw (same, e, here) good
+      | inr beside ↦ rw (ch.entries y v i ny h other small (λ _. beside)) (ch.tree.sound y v i ny h small)
+    ]
+    | inr apart ↦ rw (ch.entries y v i ny h other small (λ e. absurd (apart e))) (ch.tree.sound y v i ny h small)
+  ])
 
 -- ---- free frames
 
@@ -407,23 +252,18 @@ free-first m s f fs is e = (is.inside f (rw e (among_first f fs)), apart-not f f
 not_among : (f g : ℕ) (fs : List ℕ) → among f fs ≡ true → among g fs ≡ false → f ≢ g
 not_among f g fs held out e = cc (rw e at held)
 
-link-stays : (m k : List (List ℕ)) (s n : Frames) (t c u : ℕ) → IsFreeList m s → free_of m s ≡ u ∷ free_of m n → among t (free_of m s) ≡ false → Links m k t c u
-    → (v : ℕ) → among v (free_of m n) ≡ true → frame_of k v ≡ frame_of m v
-link-stays m k s n t c u is e out w v held =
-    w.others v
-    (not_among v t (free_of m n) held (among_first_not t u (free_of m n) (rw e at out)).1)
-    (not_among v u (free_of m n) held (free-first m s u (free_of m n) is e).1)
+pub free-link : (m k : List (List ℕ)) (s n : Frames) (t c u : ℕ) → IsFreeList m s → IsFreeList m n → free_of m s ≡ u ∷ free_of m n → among t (free_of m s) ≡ false → Links m k t c u
+    → (free_of k n ≡ free_of m n) × IsFreeList k n
+free-link m k s n t c u is after e out w =
+    let rest = free_of m n in
+    let stays : (v : ℕ) → among v rest ≡ true → frame_of k v ≡ frame_of m v = λ (v : ℕ) (held : among v rest ≡ true).
+    w.others v (not_among v t rest held (among_first_not t u rest (rw e at out)).1) (not_among v u rest held (free-first m s u rest is e).1) in
+    (free_of-same m k n stays, IsFreeList-same m k n after w.count stays)
 
-pub free_of-link : (m k : List (List ℕ)) (s n : Frames) (t c u : ℕ) → IsFreeList m s → free_of m s ≡ u ∷ free_of m n → among t (free_of m s) ≡ false → Links m k t c u → free_of k n ≡ free_of m n
-free_of-link m k s n t c u is e out w = free_of-same m k n (link-stays m k s n t c u is e out w)
-
-pub IsFreeList-link : (m k : List (List ℕ)) (s n : Frames) (t c u : ℕ) → IsFreeList m s → IsFreeList m n → free_of m s ≡ u ∷ free_of m n → among t (free_of m s) ≡ false → Links m k t c u → IsFreeList k n
-IsFreeList-link m k s n t c u is after e out w = IsFreeList-same m k n after w.count (link-stays m k s n t c u is e out w)
-
-pub taken_apart : (m : List (List ℕ)) (s : Frames) (t u : ℕ) (fs : List ℕ) → free_of m s ≡ u ∷ fs → among t (free_of m s) ≡ false → t ≢ u
-taken_apart m s t u fs e out = (among_first_not t u fs (rw e at out)).0
-
--- ---- the holders of tables
+pub free-write : (m k : List (List ℕ)) (r : ℕ) (s : Frames) (x : Node) (t c e : ℕ) → IsPaged m r s → IsNode x → table_at m r x ≡ Some t → Writes m k t c e → (free_of k s ≡ free_of m s) × IsFreeList k s
+free-write m k r s x t c e is nx at w =
+    let stays : (v : ℕ) → among v (free_of m s) ≡ true → frame_of k v ≡ frame_of m v = λ (v : ℕ) (held : among v (free_of m s) ≡ true). w.others v (not_among v t (free_of m s) held (is.apart x t nx at)) in
+    (free_of-same m k s stays, IsFreeList-same m k s is.free w.count stays)
 
 pub further-same : (s n : Frames) (f : ℕ) → extra_of n ≡ extra_of s → further_at n f ≡ further_at s f
 further-same s n f table = ap (λ (t : List ℕ × ℕ). get_or t.0 f 0) table
@@ -435,112 +275,219 @@ further-taken m s n u fs is e table = further-same s n u table ∙ further-free 
 pub free_count-taken : (m k : List (List ℕ)) (s n : Frames) (j : ℕ) → length (free_of m s) ≡ j + length (free_of k n) → extra_of n ≡ extra_of s → IsFreeList k n → free_count m s ≡ j + free_count k n
 free_count-taken m k s n j e table is = omega (arith, e, ap (λ (t : List ℕ × ℕ). t.1) table, is.room, shared-is n)
 
--- ---- the tree beside the free frames
+-- ---- a write to a table of the lowest level
 
-pub held_absent : (m : List (List ℕ)) (r : ℕ) (s : Frames) (u : ℕ) (fs : List ℕ) → IsPaged m r s → free_of m s ≡ u ∷ fs → ¬ HasTable m r u
-held_absent m r s u fs is e h = cc (is.apart h.place u h.is_node h.at_place, ap (among u) e, among_first u fs)
+pub record IsWritten (m k : List (List ℕ)) (r : ℕ) (s : Frames) (page t e : ℕ) : Type 0 where
+  pub paged : IsPaged m r s
+  pub low : table_at m r (low_node page) ≡ Some t
+  pub write : Writes m k t (page % 512) e
 
-pub IsPaged-link : (m k : List (List ℕ)) (r : ℕ) (s n : Frames) (x : Node) (t c u : ℕ) → IsPaged m r s → IsNode x → IsUpper x → c < 512 → table_at m r x ≡ Some t → Links m k t c u
-    → table_at m r (next_node x c) ≡ None → free_of m s ≡ u ∷ free_of k n → IsFreeList k n → extra_of n ≡ extra_of s → IsPaged k r n
-IsPaged-link m k r s n x t c u is nx up sc at w none e valid table =
-    let new = held_absent m r s u (free_of k n) is e in
-    let first = free-first m s u (free_of k n) is.free e in
-    record {
-      tree = IsTree-link m k r x t c u is.tree nx up sc at w new none first.0;
-      free = valid;
-      apart = λ y v ny h. elim (link_cases m k r x t c u is.tree nx up sc at w new none y v ny h) [
-        | inl fresh ↦ rw (fresh.1) (first.1)
-        | inr old ↦ (among_first_not v u (free_of k n) (rw e at (is.apart y v ny old))).1
-      ];
-      own = λ y v ny h. elim (link_cases m k r x t c u is.tree nx up sc at w new none y v ny h) [
-        | inl fresh ↦ rw (fresh.1) (further-taken m s n u (free_of k n) is.free e table)
-        | inr old ↦ further-same s n v table ∙ is.own y v ny old
-      ];
-    }
+module _ {m k : List (List ℕ)} {r page t e : ℕ} {s : Frames} (w : IsWritten m k r s page t e) where
+  written : Changes m k r (low_node page) t (page % 512)
+  written = record {
+    tree = w.paged.tree;
+    node = low_is_node page;
+    at = w.low;
+    count = w.write.count;
+    entries = λ y v i ny h _ small apart. entry-kept k (page % 512) w.paged.tree (low_node page) (low_is_node page) w.low y v i ny h apart (w.write.beside i small) (w.write.others v);
+    below = λ up. absurd up;
+  }
 
-pub Keeps-link : (m k : List (List ℕ)) (r : ℕ) (s n : Frames) (x : Node) (t c u : ℕ) → IsPaged m r s → IsNode x → IsUpper x → c < 512 → table_at m r x ≡ Some t → Links m k t c u
-    → table_at m r (next_node x c) ≡ None → free_of m s ≡ u ∷ free_of k n → Keeps m k r s n
-Keeps-link m k r s n x t c u is nx up sc at w none e =
-    let new = held_absent m r s u (free_of k n) is e in
-    let split : (v : ℕ) → among v (free_of m s) ≡ false → (v ≢ u) × (among v (free_of k n) ≡ false) = λ (v : ℕ) (h : among v (free_of m s) ≡ false). among_first_not v u (free_of k n) (rw e at h) in
-    record {
-      count = w.count;
-      others = λ v out free. w.others v (λ g. out (record { place = x; is_node = nx; at_place = rw g at })) (split v free).0;
-      outside = λ v out free. (
-        λ h. elim (link_cases m k r x t c u is.tree nx up sc at w new none h.place v h.is_node h.at_place) [
-          | inl fresh ↦ (split v free).0 (fresh.1)
-          | inr old ↦ out (record { place = h.place; is_node = h.is_node; at_place = old })
-        ],
-        (split v free).1,
-      );
-    }
+  pub write-tables : SameTables m k r
+  write-tables x nx = stays (low_node page) written x nx (λ up. absurd up)
 
-pub write-stays : (m k : List (List ℕ)) (r : ℕ) (s : Frames) (x : Node) (t c e : ℕ) → IsPaged m r s → IsNode x → table_at m r x ≡ Some t → Writes m k t c e
-    → (v : ℕ) → among v (free_of m s) ≡ true → frame_of k v ≡ frame_of m v
-write-stays m k r s x t c e is nx at w v held = w.others v (not_among v t (free_of m s) held (is.apart x t nx at))
+  free-kept : (free_of k s ≡ free_of m s) × IsFreeList k s
+  free-kept = free-write m k r s (low_node page) t (page % 512) e w.paged (low_is_node page) w.low w.write
 
-pub free_of-write : (m k : List (List ℕ)) (r : ℕ) (s : Frames) (page t e : ℕ) → IsPaged m r s → table_at m r (low_node page) ≡ Some t → Writes m k t (page % 512) e → free_of k s ≡ free_of m s
-free_of-write m k r s page t e is at w = free_of-same m k s (write-stays m k r s (low_node page) t (page % 512) e is (low_is_node page) at w)
+  pub write-free : free_of k s ≡ free_of m s
+  write-free = free-kept.0
 
-pub IsPaged-write : (m k : List (List ℕ)) (r : ℕ) (s : Frames) (page t e : ℕ) → IsPaged m r s → table_at m r (low_node page) ≡ Some t → Writes m k t (page % 512) e → IsLeafEntry (length m) e
-    → IsPaged k r s
-IsPaged-write m k r s page t e is at w leaf =
-    let node = low_is_node page in
-    let stays = table_at-write m k r (page / 262144 % 512) (page / 512 % 512) t (page % 512) e is.tree node at w in
-    record {
-      tree = IsTree-write m k r (page / 262144 % 512) (page / 512 % 512) t (page % 512) e is.tree node at w leaf;
-      free = IsFreeList-same m k s is.free w.count (write-stays m k r s (low_node page) t (page % 512) e is node at w);
-      apart = λ x v nx h. rw (free_of-write m k r s page t e is at w) (is.apart x v nx (sym (stays x nx) ∙ h));
-      own = λ x v nx h. is.own x v nx (sym (stays x nx) ∙ h);
-    }
+  pub write-paged : IsLeafEntry (length m) e → IsPaged k r s
+  write-paged leaf =
+      let old : (x : Node) (v : ℕ) → IsNode x → table_at k r x ≡ Some v → table_at m r x ≡ Some v = λ x v nx h. sym (write-tables x nx) ∙ h in
+      record {
+        tree = kept-tree w.paged.tree w.write.count old (λ x v i nx h. sound-kept (low_node page) written (rw w.write.here leaf) x v i nx (old x v nx h) (λ up. absurd up));
+        free = free-kept.1;
+        apart = λ x v nx h. rw write-free (w.paged.apart x v nx (old x v nx h));
+        own = λ x v nx h. w.paged.own x v nx (old x v nx h);
+      }
 
-pub Keeps-write : (m k : List (List ℕ)) (r : ℕ) (s : Frames) (page t e : ℕ) → IsPaged m r s → table_at m r (low_node page) ≡ Some t → Writes m k t (page % 512) e → Keeps m k r s s
-Keeps-write m k r s page t e is at w =
-    let node = low_is_node page in
-    let stays = table_at-write m k r (page / 262144 % 512) (page / 512 % 512) t (page % 512) e is.tree node at w in
-    record {
-      count = w.count;
-      others = λ v out free. w.others v (λ g. out (record { place = low_node page; is_node = node; at_place = rw g at }));
-      outside = λ v out free. (λ h. out (record { place = h.place; is_node = h.is_node; at_place = sym (stays h.place h.is_node) ∙ h.at_place }), rw (free_of-write m k r s page t e is at w) free);
-    }
+  pub write-keeps : Keeps m k r s s
+  write-keeps = record {
+    count = w.write.count;
+    others = λ v out free. w.write.others v (not_held out (low_node page) (low_is_node page) w.low);
+    outside = λ v out free. (λ h. out (record { place = h.place; is_node = h.is_node; at_place = sym (write-tables h.place h.is_node) ∙ h.at_place }), rw write-free free);
+  }
 
-pub Inserts-write : (m k : List (List ℕ)) (r : ℕ) (page t f marks : ℕ) → IsTree m r → table_at m r (low_node page) ≡ Some t → Writes m k t (page % 512) (leaf_entry f marks)
-    → page < 2 ^ 27 → marks < 1024 → Maps m k r page f marks
-Inserts-write m k r page t f marks is at w small good = record {
-  changed = lookup_of-write_same m k r page t (leaf_entry f marks) is at w ∙ leaf_of-leaf f marks good;
-  others = λ p sp ne. lookup_of-write_other m k r page t (leaf_entry f marks) p is at w small sp ne;
+  pub write-changed : lookup_of k r page ≡ leaf_of e
+  unfolding lookup_of
+  write-changed = rw (write-tables (low_node page) (low_is_node page), w.low, w.write.here) refl
+
+  pub write-others : page < 2 ^ 27 → (p : ℕ) → p < 2 ^ 27 → p ≢ page → lookup_of k r p ≡ lookup_of m r p
+  write-others small p sp ne = looks (low_node page) written p (λ up. absurd up) (λ e h. ne (same_page p page sp small e h))
+
+-- ---- a table that comes or goes
+
+-- the table after x is another one, and what is mapped stays
+pub record Turns (m k : List (List ℕ)) (r : ℕ) (s n : Frames) (x : Node) (c : ℕ) (o : Option ℕ) : Type 0 where
+  pub paged : IsPaged k r n
+  pub keeps : Keeps m k r s n
+  pub same : SameMap m k r
+  pub now : table_at k r (next_node x c) ≡ o
+  pub beside : (y : Node) → IsNode y → y ≢ next_node x c → table_at k r y ≡ table_at m r y
+
+pub Keeps-twice : (m k l : List (List ℕ)) (r : ℕ) (s q n : Frames) → Keeps m k r s q → Keeps k l r q n → Keeps m l r s n
+Keeps-twice m k l r s q n one two = record {
+  count = two.count ∙ one.count;
+  others = λ v out free. let mid = one.outside v out free in two.others v mid.0 mid.1 ∙ one.others v out free;
+  outside = λ v out free. let mid = one.outside v out free in two.outside v mid.0 mid.1;
 }
 
--- a tree with no middle table on the way has no low one
-pub no_low : (m : List (List ℕ)) (r page : ℕ) → table_at m r (mid_node page) ≡ None → table_at m r (low_node page) ≡ None
-no_low m r page none = table_at-low m r page None (sym none)
+-- an empty table in the first free frame u, to which entry c of the table t at x leads now
+pub record Attaches (m k : List (List ℕ)) (r : ℕ) (s n : Frames) (x : Node) (t c u : ℕ) : Type 0 where
+  pub paged : IsPaged m r s
+  pub node : IsNode x
+  pub upper : IsUpper x
+  pub at : table_at m r x ≡ Some t
+  pub none : table_at m r (next_node x c) ≡ None
+  pub links : Links m k t c u
+  pub taken : free_of m s ≡ u ∷ free_of k n
+  pub valid : IsFreeList k n
+  pub extra : extra_of n ≡ extra_of s
 
-pub new_mid : (m k : List (List ℕ)) (r : ℕ) (s n : Frames) (page u : ℕ) → IsPaged m r s → Links m k r (page / 262144 % 512) u → table_at m r (mid_node page) ≡ None → free_of m s ≡ u ∷ free_of k n
-    → (table_at k r (mid_node page) ≡ Some u) × (table_at k r (low_node page) ≡ None)
-unfolding table_at
-new_mid m k r s n page u is w none e =
-    let new = held_absent m r s u (free_of k n) is e in (
-      table_at-link_same m k r Root r (page / 262144 % 512) u is.tree tt tt (omega arith) refl w new,
-      table_at-link_other m k r Root r (page / 262144 % 512) u is.tree tt tt (omega arith) refl w new none (low_node page) (low_is_node page) (λ g. cc) ∙ no_low m r page none,
-    )
+module _ {m k : List (List ℕ)} {r t c u : ℕ} {s n : Frames} {x : Node} (w : Attaches m k r s n x t c u) where
+  new : (y : Node) (v : ℕ) → IsNode y → table_at m r y ≡ Some v → v ≢ u
+  new y v ny h e = cc (w.paged.apart y v ny h, ap (among u) w.taken, among_first u (free_of k n))
 
-pub new_low : (m k : List (List ℕ)) (r : ℕ) (s n : Frames) (page t u : ℕ) → IsPaged m r s → table_at m r (mid_node page) ≡ Some t → Links m k t (page / 512 % 512) u → free_of m s ≡ u ∷ free_of k n
-    → table_at k r (low_node page) ≡ Some u
-new_low m k r s n page t u is at w e =
-    table_at-link_same m k r (mid_node page) t (page / 512 % 512) u is.tree (mid_is_node page) tt (omega arith) at w (held_absent m r s u (free_of k n) is e)
+  linked : Changes m k r x t c
+  linked =
+      let before : child_of (entry_of m t c) ≡ None = sym (table_at-next m r x t c w.upper w.at) ∙ w.none in
+      record {
+        tree = w.paged.tree;
+        node = w.node;
+        at = w.at;
+        count = w.links.count;
+        entries = λ y v i ny h _ small apart. entry-kept k c w.paged.tree x w.node w.at y v i ny h apart (w.links.beside i small) (λ ne. w.links.others v ne (new y v ny h));
+        below = λ _ b small. rw (w.links.here, child_of-table u, before, w.links.fresh b small) child_of-zero;
+      }
 
-pub root_at : (m : List (List ℕ)) (r : ℕ) → table_at m r Root ≡ Some r
-unfolding table_at
-root_at m r = refl
+  link-now : table_at k r (next_node x c) ≡ Some u
+  link-now = next x linked w.upper ∙ ap child_of w.links.here ∙ child_of-table u
 
-pub missing_two : (m : List (List ℕ)) (r page : ℕ) → None ≡ table_at m r (mid_node page) → missing m r page ≡ 2
-unfolding missing
-missing_two m r page e = ap (λ o. missing_by o (table_at m r (low_node page))) (sym e)
+  -- a table at a place is the new one, or was there
+  link-cases : (y : Node) (v : ℕ) → IsNode y → table_at k r y ≡ Some v → ((y ≡ next_node x c) × (v ≡ u)) ⊎ ((y ≢ next_node x c) × (table_at m r y ≡ Some v))
+  link-cases y v ny h = elim (cases_node y (next_node x c)) [
+    | inl same ↦ inl (same, let at : table_at k r y ≡ Some u = rw same link-now in cc)
+    | inr other ↦ inr (other, sym (stays x linked y ny (λ _. other)) ∙ h)
+  ]
 
-pub missing_one : (m : List (List ℕ)) (r page t : ℕ) → Some t ≡ table_at m r (mid_node page) → None ≡ table_at m r (low_node page) → missing m r page ≡ 1
-unfolding missing
-missing_one m r page t e f = rw (← e, ← f) refl
+  -- what holds of the new one and of those that were there holds of all
+  link-each : (P : ℕ → Type 0) → P u → ((y : Node) (v : ℕ) → IsNode y → table_at m r y ≡ Some v → P v) → (y : Node) (v : ℕ) → IsNode y → table_at k r y ≡ Some v → P v
+  link-each P fresh old y v ny h = elim (link-cases y v ny h) [ inl is ↦ subst P (sym is.1) fresh | inr was ↦ old y v ny was.1 ]
 
-pub missing_zero : (m : List (List ℕ)) (r page t u : ℕ) → Some t ≡ table_at m r (mid_node page) → Some u ≡ table_at m r (low_node page) → missing m r page ≡ 0
-unfolding missing
-missing_zero m r page t u e f = rw (← e, ← f) refl
+  pub attached : Turns m k r s n x c (Some u)
+  attached =
+      let first = free-first m s u (free_of k n) w.paged.free w.taken in
+      let split : (v : ℕ) → among v (free_of m s) ≡ false → (v ≢ u) × (among v (free_of k n) ≡ false) = λ (v : ℕ) (h : among v (free_of m s) ≡ false). among_first_not v u (free_of k n) (rw w.taken at h) in
+      record {
+        paged = record {
+          tree = record {
+            inside = link-each (λ v. v < length k) (rw w.links.count first.0) (λ y v ny h. rw w.links.count (w.paged.tree.inside y v ny h));
+            once = λ y z v ny nz hy hz. elim (link-cases y v ny hy) [
+              | inl fresh ↦ elim (link-cases z v nz hz) [ inl again ↦ fresh.0 ∙ sym again.0 | inr old ↦ absurd (new z v nz old.1 fresh.1) ]
+              | inr old ↦ elim (link-cases z v nz hz) [ inl fresh ↦ absurd (new y v ny old.1 fresh.1) | inr older ↦ w.paged.tree.once y z v ny nz old.1 older.1 ]
+            ];
+            sound = λ y v i ny h small. elim (link-cases y v ny h) [
+              | inl fresh ↦ rw (fresh.1, w.links.fresh i small) (entry_zero (length k) y)
+              | inr old ↦ sound-kept x linked (rw w.links.here (entry_table (length m) x u w.upper first.0)) y v i ny old.1 (λ _. old.0) small
+            ];
+          };
+          free = w.valid;
+          apart = link-each (λ v. among v (free_of k n) ≡ false) first.1 (λ y v ny h. (split v (w.paged.apart y v ny h)).1);
+          own = link-each (λ v. further_at n v ≡ 0) (further-taken m s n u (free_of k n) w.paged.free w.taken w.extra) (λ y v ny h. further-same s n v w.extra ∙ w.paged.own y v ny h);
+        };
+        keeps = record {
+          count = w.links.count;
+          others = λ v out free. w.links.others v (not_held out x w.node w.at) (split v free).0;
+          outside = λ v out free. (
+            λ h. elim (link-cases h.place v h.is_node h.at_place) [ inl fresh ↦ (split v free).0 fresh.1 | inr old ↦ not_held out h.place h.is_node old.1 refl ],
+            (split v free).1,
+          );
+        };
+        same = maps-same x linked w.upper (λ i small. rw (link-now, w.none, w.links.fresh i small) leaf_of-zero);
+        now = link-now;
+        beside = λ y ny ne. stays x linked y ny (λ _. ne);
+      }
+
+-- the table u, to which entry c of the table t at x leads, maps nothing: the entry is cleared, and its frame is given back
+pub record Detaches (m k l : List (List ℕ)) (r : ℕ) (s n : Frames) (x : Node) (t c u : ℕ) : Type 0 where
+  pub paged : IsPaged m r s
+  pub node : IsNode x
+  pub upper : IsUpper x
+  pub after : IsNode (next_node x c)
+  pub at : table_at m r x ≡ Some t
+  pub there : table_at m r (next_node x c) ≡ Some u
+  pub empty : (i : ℕ) → i < 512 → entry_of m u i ≡ 0
+  pub clears : Writes m k t c 0
+  pub gives : SameBut (u ∷ []) k l
+  pub given : free_of l n ≡ u ∷ free_of m s
+  pub valid : IsFreeList l n
+  pub extra : extra_of n ≡ extra_of s
+
+module _ {m k l : List (List ℕ)} {r t c u : ℕ} {s n : Frames} {x : Node} (w : Detaches m k l r s n x t c u) where
+  away : (y : Node) (v : ℕ) → IsNode y → table_at m r y ≡ Some v → y ≢ next_node x c → v ≢ u
+  away y v ny h ne e = ne (w.paged.tree.once y (next_node x c) u ny w.after (rw (← e) h) w.there)
+
+  given-kept : (v : ℕ) → v ≢ u → frame_of l v ≡ frame_of k v
+  given-kept v ne = w.gives.others v (rw (ne_eqb v u ne) refl)
+
+  table-kept : (i : ℕ) → entry_of l t i ≡ entry_of k t i
+  table-kept i = entry_of-frame k l t i (given-kept t (away x t w.node w.at (next_other x c w.upper)))
+
+  cleared : entry_of l t c ≡ 0
+  cleared = table-kept c ∙ w.clears.here
+
+  unlinked : Changes m l r x t c
+  unlinked =
+      let before : child_of (entry_of m t c) ≡ Some u = sym (table_at-next m r x t c w.upper w.at) ∙ w.there in
+      record {
+        tree = w.paged.tree;
+        node = w.node;
+        at = w.at;
+        count = w.gives.count ∙ w.clears.count;
+        entries = λ y v i ny h other small apart. entry-kept l c w.paged.tree x w.node w.at y v i ny h apart
+            (λ ne. table-kept i ∙ w.clears.beside i small ne) (λ ne. given-kept v (away y v ny h (other w.upper)) ∙ w.clears.others v ne);
+        below = λ _ b small. rw (cleared, child_of-zero, before, w.empty b small) (sym child_of-zero);
+      }
+
+  gone : table_at l r (next_node x c) ≡ None
+  gone = next x unlinked w.upper ∙ ap child_of cleared ∙ child_of-zero
+
+  -- a table that stays was there, and is not the one that left
+  stood : (y : Node) (v : ℕ) → IsNode y → table_at l r y ≡ Some v → (y ≢ next_node x c) × (table_at m r y ≡ Some v)
+  stood y v ny h = elim (cases_node y (next_node x c)) [
+    | inl same ↦ absurd (let none : table_at l r y ≡ None = rw same gone in cc)
+    | inr other ↦ (other, sym (stays x unlinked y ny (λ _. other)) ∙ h)
+  ]
+
+  pub detached : Turns m l r s n x c None
+  detached = record {
+    paged = record {
+      tree = kept-tree w.paged.tree unlinked.count (λ y v ny h. (stood y v ny h).1)
+          (λ y v i ny h. let old = stood y v ny h in sound-kept x unlinked (rw cleared (entry_zero (length m) x)) y v i ny old.1 (λ _. old.0));
+      free = w.valid;
+      apart = λ y v ny h. let old = stood y v ny h in rw (w.given, ne_eqb v u (away y v ny old.1 old.0)) (w.paged.apart y v ny old.1);
+      own = λ y v ny h. further-same s n v w.extra ∙ w.paged.own y v ny (stood y v ny h).1;
+    };
+    keeps = record {
+      count = unlinked.count;
+      others = λ v out free. given-kept v (not_held out (next_node x c) w.after w.there) ∙ w.clears.others v (not_held out x w.node w.at);
+      outside = λ v out free. (
+        λ h. not_held out h.place h.is_node (stood h.place v h.is_node h.at_place).1 refl,
+        rw (w.given, ne_eqb v u (not_held out (next_node x c) w.after w.there)) free,
+      );
+    };
+    same = maps-same x unlinked w.upper (λ i small. rw (gone, w.there, w.empty i small) (sym leaf_of-zero));
+    now = gone;
+    beside = λ y ny ne. stays x unlinked y ny (λ _. ne);
+  }

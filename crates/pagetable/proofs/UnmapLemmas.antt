@@ -1,25 +1,22 @@
 -- A page that goes.
-use Rattle.pagetable.proofs.Common.{◌≡◌, ◌≢◌, ℕ, ◌+◌, ◌*◌, ◌/◌, ◌%◌, ◌^◌, ◌<◌, ◌⊎◌, inl, inr, List, Option, Some, None, sym, ap, ◌∙◌, arith, cases_eq, entry_of, leaf_of, Node}
-use Rattle.pagetable.proofs.Common.{Mid, Low, IsNode, table_at, child_at, leaf_at, low_node, mid_node, lookup_of, IsTree, Writes, SameMap, SameTablesBut, IsUsed, IsTidy, Removes}
-use Rattle.pagetable.proofs.TreeLemmas.{lookup_of-write_other, lookup_of-write_same, leaf_of-zero, leaf_of-some, child_of-some, cases_node}
+use Rattle.pagetable.proofs.Common.{Adds, ap, arith, cases_eq, child_at, entry_of, Frames, inl, inr, IsTidy, IsUsed, leaf_at, leaf_of, List, lookup_of, Low, low_node, Mid, mid_node, Node, None, Option, Removes, SameMap, Some, sym, table_at}
+use Rattle.pagetable.proofs.Common.{ℕ, ◌%◌, ◌*◌, ◌+◌, ◌/◌, ◌<◌, ◌^◌, ◌∙◌, ◌≡◌, ◌≢◌, ◌⊎◌}
+use Rattle.pagetable.proofs.TreeLemmas.{child_of-some, leaf_of-some}
 
--- ---- the entry of the page
+pub some-none : (v : ℕ) → ◌≡◌ {A = Option ℕ} (Some v) None → ⊥
+some-none v e = cc
 
-pub Removes-clear : (m k : List (List ℕ)) (r page t : ℕ) → IsTree m r → table_at m r (low_node page) ≡ Some t → Writes m k t (page % 512) 0 → page < 2 ^ 27 → Removes (lookup_of m r) (lookup_of k r) page
-Removes-clear m k r page t is at w small = record {
-  changed = lookup_of-write_same m k r page t 0 is at w ∙ leaf_of-zero;
-  others = λ p sp ne. lookup_of-write_other m k r page t 0 p is at w small sp ne;
-}
-
--- ---- no table but the root is empty afterwards
-
-pub IsTidy-remove : (m k : List (List ℕ)) (r page : ℕ) → IsTidy m r → Removes (lookup_of m r) (lookup_of k r) page → ((x : Node) (t : ℕ) → IsNode x → table_at k r x ≡ Some t → table_at m r x ≡ Some t)
-    → ((x : Node) (t : ℕ) → IsNode x → table_at k r x ≡ Some t → (x ≡ mid_node page) ⊎ (x ≡ low_node page) → IsUsed k r x) → IsTidy k r
-IsTidy-remove m k r page is rem stood other = record {
+-- no table but the root is empty afterwards
+pub IsTidy-remove : (m k : List (List ℕ)) (r page : ℕ) (s n : Frames) → IsTidy m r → Removes (lookup_of m r) (lookup_of k r) page → Adds k m r page n s → ((t : ℕ) → table_at k r (mid_node page) ≡ Some t → IsUsed k r (mid_node page))
+    → ((t : ℕ) → table_at k r (low_node page) ≡ Some t → IsUsed k r (low_node page)) → IsTidy k r
+IsTidy-remove m k r page s n is rem drops mid low = record {
   used = λ x t nx nr h.
-      let u = is.used x t nx nr (stood x t nx h) in
+      let u = is.used x t nx nr (drops.stand x t nx h) in
       elim (cases_eq u.page page) [
-        | inl same ↦ other x t nx h (elim u.over [ inl e ↦ inl (e ∙ ap mid_node same) | inr e ↦ inr (e ∙ ap low_node same) ])
+        | inl same ↦ elim u.over [
+          | inl e ↦ let at : x ≡ mid_node page = e ∙ ap mid_node same in rw at (mid t (rw at at h))
+          | inr e ↦ let at : x ≡ low_node page = e ∙ ap low_node same in rw at (low t (rw at at h))
+        ]
         | inr ne ↦ record { page = u.page; value = u.value; inside = u.inside; over = u.over; mapped = rem.others u.page u.inside ne ∙ u.mapped }
       ];
 }
@@ -42,20 +39,17 @@ used-low k r page u i small at low ne x o =
       mapped = ap (λ y. leaf_at k (table_at k r y) (q % 512)) node ∙ ap (λ y. leaf_at k y (q % 512)) at ∙ ap (λ y. leaf_of (entry_of k u y)) c ∙ leaf_of-some (entry_of k u i) ne;
     }
 
-some-none : (v : ℕ) → ◌≡◌ {A = Option ℕ} (Some v) None → ⊥
-some-none v e = cc
-
 low-first-same : (a b c d : ℕ) → Low a b ≡ Low c d → a ≡ c
 low-first-same a b c d e = cc
 
 -- a used entry of the mid table
-pub used-mid : (m k : List (List ℕ)) (r page t j : ℕ) → page < 2 ^ 27 → IsTidy m r → Removes (lookup_of m r) (lookup_of k r) page → ((x : Node) (v : ℕ) → IsNode x → table_at k r x ≡ Some v → table_at m r x ≡ Some v)
+pub used-mid : (m k : List (List ℕ)) (r page t j : ℕ) (s n : Frames) → page < 2 ^ 27 → IsTidy m r → Removes (lookup_of m r) (lookup_of k r) page → Adds k m r page n s
     → table_at k r (mid_node page) ≡ Some t → table_at k r (low_node page) ≡ None → j < 512 → entry_of k t j ≢ 0 → IsUsed k r (mid_node page)
 unfolding table_at
-used-mid m k r page t j small is rem stood at none low ne =
+used-mid m k r page t j s n small is rem drops at none low ne =
     let a = page / 262144 % 512 in
     let there : table_at k r (Low a j) ≡ Some _ = ap (λ o. child_at k o j) at ∙ child_of-some (entry_of k t j) ne in
-    let u = is.used (Low a j) _ (omega arith, low) (λ e. cc) (stood (Low a j) _ (omega arith, low) there) in
+    let u = is.used (Low a j) _ (omega arith, low) (λ e. cc) (drops.stand (Low a j) _ (omega arith, low) there) in
     elim u.over [
       | inl e ↦ absurd cc
       | inr e ↦
@@ -66,13 +60,3 @@ used-mid m k r page t j small is rem stood at none low ne =
 
 pub Removes-after : (m k l : List (List ℕ)) (r page : ℕ) → SameMap k l r → Removes (lookup_of m r) (lookup_of k r) page → Removes (lookup_of m r) (lookup_of l r) page
 Removes-after m k l r page same rem = record { changed = same page ∙ rem.changed; others = λ p small ne. same p ∙ rem.others p small ne }
-
--- a table that stands where another one went stood before
-pub stood-gone : (m k : List (List ℕ)) (r : ℕ) (y : Node) → SameTablesBut m k r y → table_at k r y ≡ None → (x : Node) (t : ℕ) → IsNode x → table_at k r x ≡ Some t → table_at m r x ≡ Some t
-stood-gone m k r y beside gone x t nx h = elim (cases_node x y) [
-  | inl e ↦ absurd (some-none t (sym h ∙ ap (table_at k r) e ∙ gone))
-  | inr ne ↦ sym (beside x nx ne) ∙ h
-]
-
-pub gone-used : (k : List (List ℕ)) (r : ℕ) (x y : Node) (t : ℕ) → table_at k r x ≡ Some t → x ≡ y → table_at k r y ≡ None → IsUsed k r x
-gone-used k r x y t h e gone = absurd (some-none t (sym h ∙ ap (table_at k r) e ∙ gone))

@@ -21,8 +21,8 @@ pub use Rattle.frames.specs.declared.Frames.{Frames}
 pub use Rattle.pagetable.proofs.Beside.{IsTree-same, lookup_of-same, table_at-same}
 pub use Rattle.pagetable.proofs.EmptyLemmas.{IsEmpty-tables, IsTidy-empty, only-root}
 pub use Rattle.pagetable.proofs.LookupLemmas.{lookup-sound}
-pub use Rattle.pagetable.proofs.ShapeLemmas.{length-made, made-two, table_of-some}
-pub use Rattle.pagetable.proofs.TreeLemmas.{free-first, free_count-taken, further-same, low_is_node, mid_is_node, missing_two, no_low, root_at, tree-root}
+pub use Rattle.pagetable.proofs.ShapeLemmas.{length-made, made-is, table_of-some}
+pub use Rattle.pagetable.proofs.TreeLemmas.{free-first, free_count-taken, further-same, low_is_node, mid_is_node, missing-is, no_low, root_at, tree-root}
 pub use Rattle.pagetable.specs.Shape.{Adds, IsEmpty, IsTidy, IsUsed, Removes, table_of}
 unfoldable pub use Rattle.pagetable.specs.Shape.{made}
 pub use Rattle.pagetable.specs.Tree.{HasTable, IsLeafMarks, IsNode, IsPaged, Keeps, leaf_at, Low, low_node, Maps, Mid, mid_node, Node, Root, SameMap, SameTables}

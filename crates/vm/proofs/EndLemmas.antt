@@ -1,7 +1,7 @@
 -- A space of no pages goes.
 use Rattle.vm.proofs.Common.{◌≡◌, ◌≢◌, ℕ, ◌+◌, ◌<◌, inl, inr, false, List, [], ◌∷◌, ◌++◌, length, Option, Some, None, unwrap_or, refl, sym, ap, ◌∙◌, arith, eqb, cases_eq, frame_of, Frames, among, free_of, extra_of}
 use Rattle.vm.proofs.Common.{one_if, count_of, Trades, count_of-first, count_of-other, among-none, none-among, holders-table, Node, Root, IsNode, mid_node, low_node, table_at, lookup_of, IsPaged, HasTable, further-same}
-use Rattle.vm.proofs.Common.{mid_is_node, root_at, IsTree-same, table_at-same, table_of, IsEmpty, IsEmpty-tables, made-two, lookup-sound, trap_page, trap_marks, frames_below, tables_below, held, OwnsFrames}
+use Rattle.vm.proofs.Common.{mid_is_node, root_at, IsTree-same, table_at-same, table_of, IsEmpty, IsEmpty-tables, made-is, lookup-sound, trap_page, trap_marks, frames_below, tables_below, held, OwnsFrames}
 use Rattle.vm.proofs.DenseLemmas.{cases_root, count-held, table-held}
 use Rattle.vm.proofs.StepLemmas.{beyond-held, held-not_free}
 use Rattle.vm.proofs.DropLemmas.{IsUnmapped, IsGiven}
@@ -38,7 +38,7 @@ pub count-unmapped : (m j : List (List ℕ)) (r t f : ℕ) (s a : Frames) → Ow
 unfolding tables_below frames_below
 count-unmapped m j r t f s a is u g =
     let none = none-of (table_at j r (mid_node trap_page)) (λ v h. end-tables m j r t f s a is u (mid_node trap_page) v (mid_is_node trap_page) (λ e. cc) h) in
-    let two = made-two j m r trap_page (table_of m r (mid_node trap_page)) (table_of m r (low_node trap_page)) none u.drops.mid u.drops.low in
+    let two = made-is j m r trap_page None _ (sym none) refl in
     let all : free_of j a ≡ table_of m r (mid_node trap_page) ∷ table_of m r (low_node trap_page) ∷ free_of m s = u.drops.taken ∙ ap (λ l. l ++ free_of m s) two in
     omega (arith, ap (count_of g) all)
 

@@ -1,8 +1,8 @@
 -- A space of no pages.
-use Rattle.vm.proofs.Common.{◌≡◌, ◌≢◌, ℕ, ◌+◌, ◌<◌, false, true, List, [], ◌∷◌, ◌++◌, length, Some, sym, ap, ◌∙◌, arith, slice_set, length-set, get_or-set_other, replicate, inl, inr, frame_of, Frames, among}
+use Rattle.vm.proofs.Common.{◌≡◌, ◌≢◌, ℕ, ◌+◌, ◌<◌, false, true, List, [], ◌∷◌, ◌++◌, length, Some, None, refl, sym, ap, ◌∙◌, arith, slice_set, length-set, get_or-set_other, replicate, inl, inr, frame_of, Frames, among}
 use Rattle.vm.proofs.Common.{free_of, free_count, extra_of, IsFreeList, among_first, among_first_not, further-free, count_of, Trades, count_of-first, among-none, none-among, count-cases, free-holders}
 use Rattle.vm.proofs.Common.{holders-table, held-inside, distinct-count, Root, mid_node, low_node, table_at, IsPaged, HasTable, missing, free-first, free_count-taken, further-same, mid_is_node, root_at}
-use Rattle.vm.proofs.Common.{missing_two, IsTree-same, table_at-same, lookup_of-same, table_of, IsEmpty, made-two, only-root, trap_page, trap_marks, frames_below, tables_below, held, OwnsFrames}
+use Rattle.vm.proofs.Common.{missing-is, IsTree-same, table_at-same, lookup_of-same, table_of, IsEmpty, made-is, only-root, trap_page, trap_marks, frames_below, tables_below, held, OwnsFrames}
 use Rattle.vm.proofs.DenseLemmas.{count-held}
 use Rattle.vm.proofs.StepLemmas.{IsTaken, IsNext, free-after}
 
@@ -45,7 +45,7 @@ start-paged m j z s a q r t is =
     }
 
 pub start-missing : (m j z : List (List ℕ)) (s a q : Frames) (r t : ℕ) → IsStart m j z s a q r t → missing z r trap_page ≡ 2
-start-missing m j z s a q r t is = missing_two z r trap_page (sym ((start-empty m j z s a q r t is).tables (mid_node trap_page) (mid_is_node trap_page) (λ e. cc)))
+start-missing m j z s a q r t is = missing-is z r trap_page None _ (sym ((start-empty m j z s a q r t is).tables (mid_node trap_page) (mid_is_node trap_page) (λ e. cc))) refl
 
 pub start-free : (m j z : List (List ℕ)) (s a q : Frames) (r t : ℕ) → IsStart m j z s a q r t → free_of m s ≡ r ∷ t ∷ free_of z q
 start-free m j z s a q r t is = is.first ∙ ap (λ l. r ∷ l) (is.taken.taken ∙ ap (λ l. t ∷ l) (sym (free-after j z a q t is.paged.free is.taken).0))
@@ -57,7 +57,7 @@ count-start : (m j z k : List (List ℕ)) (s a q w : Frames) (r t : ℕ) → IsS
 unfolding tables_below frames_below
 count-start m j z k s a q w r t is next g =
     let none = (start-empty m j z s a q r t is).tables (mid_node trap_page) (mid_is_node trap_page) (λ e. cc) in
-    let two = made-two z k r trap_page (table_of k r (mid_node trap_page)) (table_of k r (low_node trap_page)) none next.adds.mid next.adds.low in
+    let two = made-is z k r trap_page None _ (sym none) refl in
     let all : free_of m s ≡ r ∷ t ∷ table_of k r (mid_node trap_page) ∷ table_of k r (low_node trap_page) ∷ free_of k w =
     start-free m j z s a q r t is ∙ ap (λ l. r ∷ t ∷ l) (next.adds.taken ∙ ap (λ l. l ++ free_of k w) two) in
     omega (arith, ap (count_of g) all)

@@ -1,7 +1,7 @@
-use Rattle.pagetable.proofs.Common.{◌≡◌, ℕ, ◌%◌, Option, Some, None, length, sym, ◌∙◌, entry_of}
-use Rattle.pagetable.proofs.TreeLemmas.{tree-leaf_sound, lookup_of-low}
-use Rattle.pagetable.proofs.LookupLemmas.{leaf_of-sound, first-same}
-use Rattle.pagetable.proofs.ShapeLemmas.{IsTidy-set}
+use Rattle.pagetable.proofs.Common.{entry_of, length, None, Option, Some, sym, ℕ, ◌%◌, ◌∙◌, ◌≡◌}
+use Rattle.pagetable.proofs.LookupLemmas.{first-same, leaf_of-sound}
+use Rattle.pagetable.proofs.ShapeLemmas.{IsTidy-insert}
+use Rattle.pagetable.proofs.TreeLemmas.{lookup_of-low, tree-leaf_sound}
 use Rattle.pagetable.proofs.PageTable.set_perm.Goals as goal
 
 pub leaf-requires-clause-sound : goal.leaf-requires-clause-sound
@@ -25,4 +25,4 @@ returns-clause-inserts c = λ f old h.
     rw (← same) c.set_leaf.ensures.inserts
 
 pub returns-clause-tidy : goal.returns-clause-tidy
-returns-clause-tidy c = λ is. IsTidy-set c.args.ram.now c.set_leaf.new.ram c.args.self.now.root.0 c.args.page _ is c.set_leaf.ensures.inserts c.set_leaf.ensures.tables
+returns-clause-tidy c = λ is. IsTidy-insert c.args.ram.now c.set_leaf.new.ram c.args.self.now.root.0 c.args.page _ is c.requires.page c.set_leaf.ensures.inserts (λ x nx _ _. c.set_leaf.ensures.tables x nx)

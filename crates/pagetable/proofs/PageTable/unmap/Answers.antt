@@ -1,9 +1,10 @@
-use Rattle.pagetable.proofs.Common.{ℕ, inl, inr, Some, None, sym, ap, ◌∙◌, mid_node, low_node}
+use Rattle.pagetable.proofs.Common.{ap, inl, inr, lookup_of, low_node, mid_node, None, refl, Some, sym, ℕ, ◌∙◌, ◌∷◌, ◌≡◌}
 use Rattle.std.specs.Option.{option_map}
-use Rattle.pagetable.proofs.TreeLemmas.{tree-leaf_sound, lookup_of-low, low_is_node, mid_is_node, table_at-low}
-use Rattle.pagetable.proofs.ShapeLemmas.{Adds-zero, Adds-one, Adds-two}
-use Rattle.pagetable.proofs.UnmapLemmas.{IsTidy-remove, used-low, used-mid, Removes-after, stood-gone, gone-used}
+use Rattle.pagetable.proofs.ShapeLemmas.{Adds-by}
+use Rattle.pagetable.proofs.TreeLemmas.{Keeps-twice, lookup_of-low, low_is_node, mid_is_node, table_at-low, tree-leaf_sound}
+use Rattle.pagetable.proofs.UnmapLemmas.{IsTidy-remove, Removes-after, some-none, used-low, used-mid}
 use Rattle.pagetable.proofs.PageTable.unmap.Goals as goal
+use Rattle.pagetable.proofs.PageTable.unmap.Goals.{After-clear_leaf}
 
 pub leaf-requires-clause-sound : goal.leaf-requires-clause-sound
 leaf-requires-clause-sound c = tree-leaf_sound c.args.ram.now c.args.self.now.root.0 c.args.page c.in-Some-low_table.low.0 c.requires.paged.tree c.in-Some-low_table.ensures
@@ -17,38 +18,73 @@ unreachable-requires-in_default-low_table c = c.requires.mapped (lookup_of-low c
 pub unreachable-requires : goal.unreachable-requires
 unreachable-requires c = c.requires.mapped (lookup_of-low c.args.ram.now c.args.self.now.root.0 c.args.page None (sym (table_at-low c.args.ram.now c.args.self.now.root.0 c.args.page None c.in_default.ensures)))
 
-pub returns-then-is_used-clause-was : goal.returns-then-is_used-clause-was
-returns-then-is_used-clause-was c = ap (option_map (λ (x : ℕ × ℕ). x.0)) (lookup_of-low c.args.ram.now c.args.self.now.root.0 c.args.page (Some c.in-Some-low_table.low.0) c.in-Some-low_table.ensures ∙ sym c.in-Some-leaf.ensures)
+was : (c : After-clear_leaf) → option_map (λ (x : ℕ × ℕ). x.0) (lookup_of c.args.ram.now c.args.self.now.root.0 c.args.page) ≡ Some c.in-Some-leaf.frame.0
+was c = ap (option_map (λ (x : ℕ × ℕ). x.0)) (lookup_of-low c.args.ram.now c.args.self.now.root.0 c.args.page (Some c.in-Some-low_table.low.0) c.in-Some-low_table.ensures ∙ sym c.in-Some-leaf.ensures)
 
-pub returns-then-is_used-2-clause-was : goal.returns-then-is_used-2-clause-was
-returns-then-is_used-2-clause-was c = ap (option_map (λ (x : ℕ × ℕ). x.0)) (lookup_of-low c.args.ram.now c.args.self.now.root.0 c.args.page (Some c.in-Some-low_table.low.0) c.in-Some-low_table.ensures ∙ sym c.in-Some-leaf.ensures)
+pub returns-then-is_used : goal.returns-then-is_used
+returns-then-is_used c =
+    let page = c.args.page in
+    let clear = c.clear_leaf.ensures in
+    let mid = c.in-Some.ensures in
+    let low = c.in-Some-low_table.ensures in
+    let used = c.is_used.ensures.used c.if-is_used.true in
+    let after = clear.tables (low_node page) (low_is_node page) ∙ sym low in
+    let drops = Adds-by c.clear_leaf.new.ram c.args.ram.now c.args.self.now.root.0 page c.args.frames.now c.args.frames.now _ _ _ _ (mid ∙ sym (clear.tables (mid_node page) (mid_is_node page))) (sym after) refl refl
+    (sym mid) (sym low) (λ x nx _ _. sym (clear.tables x nx)) clear.free in
+    let in_use = used-low c.clear_leaf.new.ram c.args.self.now.root.0 page c.in-Some-low_table.low.0 used.0 c.requires.page after used.1 used.2 in
+    record {
+      was = was (goal.at.returns-then-is_used c).After-clear_leaf;
+      removes = clear.removes;
+      drops = drops;
+      tidy = IsTidy-remove c.args.ram.now c.clear_leaf.new.ram c.args.self.now.root.0 page c.args.frames.now c.args.frames.now c.requires.tidy clear.removes drops (λ _ _. in_use _ (inl refl)) (λ _ _. in_use _ (inr refl));
+      paged = clear.paged;
+      keeps = clear.keeps;
+      extra = refl;
+    }
 
-pub returns-clause-was : goal.returns-clause-was
-returns-clause-was c = ap (option_map (λ (x : ℕ × ℕ). x.0)) (lookup_of-low c.args.ram.now c.args.self.now.root.0 c.args.page (Some c.in-Some-low_table.low.0) c.in-Some-low_table.ensures ∙ sym c.in-Some-leaf.ensures)
+pub returns-then-is_used-2 : goal.returns-then-is_used-2
+returns-then-is_used-2 c =
+    let m = c.args.ram.now in
+    let k = c.drop_low.new.ram in
+    let r = c.args.self.now.root.0 in
+    let page = c.args.page in
+    let clear = c.clear_leaf.ensures in
+    let drop = c.drop_low.ensures in
+    let mid = c.in-Some.ensures in
+    let used = c.is_used-2.ensures.used c.if-is_used-2.true in
+    let after = drop.beside (mid_node page) (mid_is_node page) (λ e. cc) ∙ clear.tables (mid_node page) (mid_is_node page) ∙ sym mid in
+    let removes = Removes-after m c.clear_leaf.new.ram k r page drop.same clear.removes in
+    let drops = Adds-by k m r page c.drop_low.new.frames c.args.frames.now _ _ _ _ (sym after) (sym drop.gone) refl refl (sym mid) (sym c.in-Some-low_table.ensures)
+    (λ x nx _ nl. sym (drop.beside x nx nl ∙ clear.tables x nx)) (rw clear.free at drop.given) in
+    record {
+      was = was (goal.at.returns-then-is_used-2 c).After-clear_leaf;
+      removes = removes;
+      drops = drops;
+      tidy = IsTidy-remove m k r page c.args.frames.now c.drop_low.new.frames c.requires.tidy removes drops (λ _ _. used-mid m k r page c.in-Some.mid.0 used.0 c.args.frames.now c.drop_low.new.frames c.requires.page c.requires.tidy removes drops after drop.gone used.1 used.2) (λ t h. absurd (some-none t (sym h ∙ drop.gone)));
+      paged = drop.paged;
+      keeps = Keeps-twice _ _ _ _ _ _ _ clear.keeps drop.keeps;
+      extra = drop.extra;
+    }
 
-pub returns-then-is_used-clause-drops : goal.returns-then-is_used-clause-drops
-returns-then-is_used-clause-drops c = Adds-zero c.clear_leaf.new.ram c.args.ram.now c.args.self.now.root.0 c.args.page c.args.frames.now c.in-Some.mid.0 c.in-Some-low_table.low.0 (c.clear_leaf.ensures.tables (mid_node c.args.page) (mid_is_node c.args.page) ∙ sym c.in-Some.ensures) (c.clear_leaf.ensures.tables (low_node c.args.page) (low_is_node c.args.page) ∙ sym c.in-Some-low_table.ensures) (λ x nx. sym (c.clear_leaf.ensures.tables x nx)) (sym c.clear_leaf.ensures.free)
-
-pub returns-then-is_used-clause-tidy : goal.returns-then-is_used-clause-tidy
-returns-then-is_used-clause-tidy c = IsTidy-remove c.args.ram.now c.clear_leaf.new.ram c.args.self.now.root.0 c.args.page c.requires.tidy c.clear_leaf.ensures.removes (λ x t nx h. sym (c.clear_leaf.ensures.tables x nx) ∙ h)
-    (λ x t nx h o. used-low c.clear_leaf.new.ram c.args.self.now.root.0 c.args.page c.in-Some-low_table.low.0 (c.is_used.ensures.used c.if-is_used.true).0 c.requires.page (c.clear_leaf.ensures.tables (low_node c.args.page) (low_is_node c.args.page) ∙ sym c.in-Some-low_table.ensures) (c.is_used.ensures.used c.if-is_used.true).1 (c.is_used.ensures.used c.if-is_used.true).2 x o)
-
-pub returns-then-is_used-2-clause-drops : goal.returns-then-is_used-2-clause-drops
-returns-then-is_used-2-clause-drops c = Adds-one c.drop_low.new.ram c.clear_leaf.new.ram c.args.ram.now c.args.self.now.root.0 c.args.page c.drop_low.new.frames c.args.frames.now c.in-Some.mid.0 c.in-Some-low_table.low.0 (c.drop_low.ensures.beside (mid_node c.args.page) (mid_is_node c.args.page) (λ e. cc) ∙ (c.clear_leaf.ensures.tables (mid_node c.args.page) (mid_is_node c.args.page) ∙ sym c.in-Some.ensures)) c.drop_low.ensures.gone (c.clear_leaf.ensures.tables (low_node c.args.page) (low_is_node c.args.page) ∙ sym c.in-Some-low_table.ensures) (λ x nx ne. sym (c.drop_low.ensures.beside x nx ne)) c.drop_low.ensures.given (λ x nx. sym (c.clear_leaf.ensures.tables x nx)) (sym c.clear_leaf.ensures.free)
-
-pub returns-then-is_used-2-clause-tidy : goal.returns-then-is_used-2-clause-tidy
-returns-then-is_used-2-clause-tidy c = IsTidy-remove c.args.ram.now c.drop_low.new.ram c.args.self.now.root.0 c.args.page c.requires.tidy (Removes-after c.args.ram.now c.clear_leaf.new.ram c.drop_low.new.ram c.args.self.now.root.0 c.args.page c.drop_low.ensures.same c.clear_leaf.ensures.removes) (λ x t nx h. sym (c.clear_leaf.ensures.tables x nx) ∙ stood-gone c.clear_leaf.new.ram c.drop_low.new.ram c.args.self.now.root.0 (low_node c.args.page) c.drop_low.ensures.beside c.drop_low.ensures.gone x t nx h)
-    (λ x t nx h o. elim o [
-      | inl e ↦ rw e (used-mid c.args.ram.now c.drop_low.new.ram c.args.self.now.root.0 c.args.page c.in-Some.mid.0 (c.is_used-2.ensures.used c.if-is_used-2.true).0 c.requires.page c.requires.tidy (Removes-after c.args.ram.now c.clear_leaf.new.ram c.drop_low.new.ram c.args.self.now.root.0 c.args.page c.drop_low.ensures.same c.clear_leaf.ensures.removes) (λ x t nx h. sym (c.clear_leaf.ensures.tables x nx) ∙ stood-gone c.clear_leaf.new.ram c.drop_low.new.ram c.args.self.now.root.0 (low_node c.args.page) c.drop_low.ensures.beside c.drop_low.ensures.gone x t nx h) (c.drop_low.ensures.beside (mid_node c.args.page) (mid_is_node c.args.page) (λ e. cc) ∙ (c.clear_leaf.ensures.tables (mid_node c.args.page) (mid_is_node c.args.page) ∙ sym c.in-Some.ensures)) c.drop_low.ensures.gone (c.is_used-2.ensures.used c.if-is_used-2.true).1 (c.is_used-2.ensures.used c.if-is_used-2.true).2)
-      | inr e ↦ gone-used c.drop_low.new.ram c.args.self.now.root.0 x (low_node c.args.page) t h e c.drop_low.ensures.gone
-    ])
-
-pub returns-clause-drops : goal.returns-clause-drops
-returns-clause-drops c = Adds-two c.drop_mid.new.ram c.drop_low.new.ram c.clear_leaf.new.ram c.args.ram.now c.args.self.now.root.0 c.args.page c.drop_mid.new.frames c.drop_low.new.frames c.args.frames.now c.in-Some.mid.0 c.in-Some-low_table.low.0 c.drop_mid.ensures.gone (c.drop_low.ensures.beside (mid_node c.args.page) (mid_is_node c.args.page) (λ e. cc) ∙ (c.clear_leaf.ensures.tables (mid_node c.args.page) (mid_is_node c.args.page) ∙ sym c.in-Some.ensures)) (λ x nx ne. sym (c.drop_mid.ensures.beside x nx ne)) c.drop_mid.ensures.given (c.clear_leaf.ensures.tables (low_node c.args.page) (low_is_node c.args.page) ∙ sym c.in-Some-low_table.ensures) (λ x nx ne. sym (c.drop_low.ensures.beside x nx ne)) c.drop_low.ensures.given (λ x nx. sym (c.clear_leaf.ensures.tables x nx)) (sym c.clear_leaf.ensures.free)
-
-pub returns-clause-tidy : goal.returns-clause-tidy
-returns-clause-tidy c = IsTidy-remove c.args.ram.now c.drop_mid.new.ram c.args.self.now.root.0 c.args.page c.requires.tidy (Removes-after c.args.ram.now c.clear_leaf.new.ram c.drop_mid.new.ram c.args.self.now.root.0 c.args.page (λ p. c.drop_mid.ensures.same p ∙ c.drop_low.ensures.same p) c.clear_leaf.ensures.removes) (λ x t nx h. sym (c.clear_leaf.ensures.tables x nx) ∙ stood-gone c.clear_leaf.new.ram c.drop_low.new.ram c.args.self.now.root.0 (low_node c.args.page) c.drop_low.ensures.beside c.drop_low.ensures.gone x t nx (stood-gone c.drop_low.new.ram c.drop_mid.new.ram c.args.self.now.root.0 (mid_node c.args.page) c.drop_mid.ensures.beside c.drop_mid.ensures.gone x t nx h))
-    (λ x t nx h o. elim o [
-      | inl e ↦ gone-used c.drop_mid.new.ram c.args.self.now.root.0 x (mid_node c.args.page) t h e c.drop_mid.ensures.gone
-      | inr e ↦ gone-used c.drop_mid.new.ram c.args.self.now.root.0 x (low_node c.args.page) t h e (c.drop_mid.ensures.beside (low_node c.args.page) (low_is_node c.args.page) (λ f. cc) ∙ c.drop_low.ensures.gone)
-    ])
+pub returns : goal.returns
+returns c =
+    let m = c.args.ram.now in
+    let k = c.drop_mid.new.ram in
+    let r = c.args.self.now.root.0 in
+    let page = c.args.page in
+    let clear = c.clear_leaf.ensures in
+    let low = c.drop_low.ensures in
+    let drop = c.drop_mid.ensures in
+    let gone = drop.beside (low_node page) (low_is_node page) (λ e. cc) ∙ low.gone in
+    let removes = Removes-after m c.clear_leaf.new.ram k r page (λ p. drop.same p ∙ low.same p) clear.removes in
+    let drops = Adds-by k m r page c.drop_mid.new.frames c.args.frames.now _ _ _ _ (sym drop.gone) (sym gone) refl refl (sym c.in-Some.ensures) (sym c.in-Some-low_table.ensures)
+    (λ x nx nm nl. sym (drop.beside x nx nm ∙ low.beside x nx nl ∙ clear.tables x nx)) (drop.given ∙ ap (λ l. c.in-Some.mid.0 ∷ l) (rw clear.free at low.given)) in
+    record {
+      was = was (goal.at.returns c).After-clear_leaf;
+      removes = removes;
+      drops = drops;
+      tidy = IsTidy-remove m k r page c.args.frames.now c.drop_mid.new.frames c.requires.tidy removes drops (λ t h. absurd (some-none t (sym h ∙ drop.gone))) (λ t h. absurd (some-none t (sym h ∙ gone)));
+      paged = drop.paged;
+      keeps = Keeps-twice _ _ _ _ _ _ _ (Keeps-twice _ _ _ _ _ _ _ clear.keeps low.keeps) drop.keeps;
+      extra = drop.extra ∙ low.extra;
+    }
