@@ -71,10 +71,6 @@ pub free_of-take : (m : List (List ℕ)) (s t : Frames) → s.count ≢ 0 → t.
 unfolding free_of
 free_of-take m s t ne first count = chain-step m s.count s.first.0 ne ∙ ap (λ n. s.first.0 ∷ chain m n (word_of m s.first.0 0 4)) (sym count) ∙ ap (λ f. s.first.0 ∷ chain m t.count f) (sym first)
 
-first-is : (m : List (List ℕ)) (s : Frames) → s.count ≢ 0 → free_of m s ≡ s.first.0 ∷ chain m (s.count - 1) (word_of m s.first.0 0 4)
-unfolding free_of
-first-is m s ne = chain-step m s.count s.first.0 ne
-
 -- ---- the counts of holders
 
 pub further-is : (s : Frames) (f : ℕ) → further_at s f ≡ counted s f - 1
@@ -127,28 +123,34 @@ apart-not f (g ∷ fs) h = rw (h.0) (apart-not f fs h.1)
 among-other : (f g : ℕ) (fs : List ℕ) → g ≢ f → among g (f ∷ fs) ≡ among g fs
 among-other f g fs ne = rw (ne_eqb g f ne) refl
 
+-- Frame f has another count of holders, and is free if that is 0. The other frames are free if they were.
+IsFreeList-set : (m k : List (List ℕ)) (s t : Frames) (f x : ℕ) → IsFreeList m s → length k ≡ length m → f < length m → t.holders.items ≡ slice_set s.holders.items f x → ((g : ℕ) → g ≢ f → among g (free_of k t) ≡ among g (free_of m s))
+    → (among f (free_of k t) ≡ true → x ≡ 0) → (among f (free_of k t) ≡ false → 0 < x) → IsDistinct nat_eq (free_of k t) → t.shared + less_one (counted s f) ≡ s.shared + less_one x → t.shared ≤ length (free_of k t) → IsFreeList k t
+IsFreeList-set m k s t f x is len inside items others free held distinct shared room =
+    let low : f < length s.holders.items = omega (arith, inside, is.size) in
+    let here = counted-same s t f x items low in
+    record {
+      inside = λ g at. elim (cases_eq g f) [ inl same ↦ omega (arith, same, inside, len) | inr other ↦ omega (arith, len, is.inside g (sym (others g other) ∙ at)) ];
+      distinct = distinct;
+      size = size-set s t f x (length k) items (is.size ∙ sym len);
+      none = λ g at. elim (cases_eq g f) [ inl same ↦ rw same (here ∙ free (rw same at at)) | inr other ↦ counted-other s t f g x items other ∙ is.none g (sym (others g other) ∙ at) ];
+      some = λ g within out. elim (cases_eq g f) [
+        | inl same ↦ rw (same, here) (held (rw same at out))
+        | inr other ↦ omega (arith, counted-other s t f g x items other, is.some g (omega (arith, within, len)) (sym (others g other) ∙ out))
+      ];
+      sum = omega (arith, shared, is.sum, sum-set s t f x items low);
+      room = room;
+    }
+
 pub IsFreeList-take : (m : List (List ℕ)) (s t : Frames) (f : ℕ) → IsFreeList m s → free_of m s ≡ f ∷ free_of m t → t.holders.items ≡ slice_set s.holders.items f 1 → t.shared ≡ s.shared → s.shared < length (free_of m s)
     → IsFreeList m t × (extra_of t ≡ extra_of s)
 unfolding IsDistinct
 IsFreeList-take m s t f is e items shared room =
     let here : among f (free_of m s) ≡ true = rw e (among_first f (free_of m t)) in
-    let low : f < length s.holders.items = omega (arith, is.inside f here, is.size) in
-    let zero_before : counted s f ≡ 0 = is.none f here in (
-      record {
-        inside = λ g at. is.inside g (rw e (among_later g f (free_of m t) at));
-        distinct = (rw e at is.distinct).1;
-        size = size-set s t f 1 (length m) items is.size;
-        none = λ g at. elim (cases_eq g f) [
-          | inl same ↦ absurd (cc (apart-not f (free_of m t) (rw e at is.distinct).0, ap (λ x. among x (free_of m t)) same, at))
-          | inr other ↦ counted-other s t f g 1 items other ∙ is.none g (rw e (among_later g f (free_of m t) at))
-        ];
-        some = λ g inside absent. elim (cases_eq g f) [
-          | inl same ↦ omega (arith, ap (counted t) same, counted-same s t f 1 items low)
-          | inr other ↦ omega (arith, counted-other s t f g 1 items other, is.some g inside (ap (among g) e ∙ among-other f g (free_of m t) other ∙ absent))
-        ];
-        sum = omega (arith, shared, is.sum, sum-set s t f 1 items low, zero_before);
-        room = omega (arith, shared, room, ap length e);
-      },
+    let zero_before : counted s f ≡ 0 = is.none f here in
+    let first = rw e at is.distinct in (
+      IsFreeList-set m m s t f 1 is refl (is.inside f here) items (λ g ne. sym (ap (among g) e ∙ among-other f g (free_of m t) ne)) (λ at. absurd (cc (apart-not f (free_of m t) first.0, at))) (λ _. omega arith)
+          first.1 (omega (arith, shared, zero_before)) (omega (arith, shared, room, ap length e)),
       table-same s t f 1 items shared (ap less_one (sym zero_before)),
     )
 
@@ -162,9 +164,6 @@ first_not f g fs h = grind (arith, common_steps)
 apart : (f : ℕ) (fs : List ℕ) → among f fs ≡ false → AllByRecursion (λ y. nat_eq f y ≡ false) fs
 apart f [] h = tt
 apart f (g ∷ fs) h = (first_not f g fs h, apart f fs (or_false f g fs h))
-
-among_rest : (f g : ℕ) (fs : List ℕ) → f ≢ g → among f (g ∷ fs) ≡ true → among f fs ≡ true
-among_rest f g fs ne h = grind (arith, common_steps)
 
 distinct_first : (f : ℕ) (fs : List ℕ) → among f fs ≡ false → IsDistinct nat_eq fs → IsDistinct nat_eq (f ∷ fs)
 unfolding IsDistinct
@@ -182,27 +181,9 @@ free_of-give m s t f mem inside fits absent first count =
 pub IsFreeList-give : (m k : List (List ℕ)) (s t : Frames) (f : ℕ) → IsFreeList m s → length k ≡ length m → f < length m → among f (free_of m s) ≡ false → free_of k t ≡ f ∷ free_of m s
     → t.holders.items ≡ slice_set s.holders.items f 0 → t.shared ≡ s.shared → further_at s f ≡ 0 → IsFreeList k t × (extra_of t ≡ extra_of s)
 IsFreeList-give m k s t f is len inside absent e items shared last =
-    let low : f < length s.holders.items = omega (arith, inside, is.size) in
     let one_before : less_one (counted s f) ≡ 0 = sym (further-is s f) ∙ last in (
-      record {
-        inside = λ g at.
-            elim (cases_eq g f) [
-              | inl same ↦ omega (arith, same, inside, len)
-              | inr other ↦ omega (arith, len, is.inside g (among_rest g f (free_of m s) other (rw e at at)))
-            ];
-        distinct = rw e (distinct_first f (free_of m s) absent is.distinct);
-        size = size-set s t f 0 (length k) items (is.size ∙ sym len);
-        none = λ g at. elim (cases_eq g f) [
-          | inl same ↦ ap (counted t) same ∙ counted-same s t f 0 items low
-          | inr other ↦ counted-other s t f g 0 items other ∙ is.none g (among_rest g f (free_of m s) other (rw e at at))
-        ];
-        some = λ g within out. elim (cases_eq g f) [
-          | inl same ↦ absurd (cc (among_first f (free_of m s), ap (λ x. among x (free_of k t)) same, ap (among f) e, out))
-          | inr other ↦ omega (arith, counted-other s t f g 0 items other, is.some g (omega (arith, within, len)) (sym (among-other f g (free_of m s) other) ∙ sym (ap (among g) e) ∙ out))
-        ];
-        sum = omega (arith, shared, is.sum, sum-set s t f 0 items low, one_before);
-        room = omega (arith, shared, is.room, ap length e);
-      },
+      IsFreeList-set m k s t f 0 is len inside items (λ g ne. ap (among g) e ∙ among-other f g (free_of m s) ne) (λ _. refl) (λ out. absurd (cc (among_first f (free_of m s), ap (among f) e, out)))
+          (rw e (distinct_first f (free_of m s) absent is.distinct)) (omega (arith, shared, one_before)) (omega (arith, shared, is.room, ap length e)),
       table-same s t f 0 items shared (sym one_before),
     )
 
@@ -210,22 +191,7 @@ IsFreeList-give m k s t f is len inside absent e items shared last =
 pub IsFreeList-count : (m : List (List ℕ)) (s t : Frames) (f x : ℕ) → IsFreeList m s → f < length m → 0 < counted s f → 0 < x → free_of m t ≡ free_of m s
     → t.holders.items ≡ slice_set s.holders.items f x → t.shared + counted s f ≡ s.shared + x → t.shared ≤ length (free_of m s) → IsFreeList m t
 IsFreeList-count m s t f x is inside held new e items shared room =
-    let low : f < length s.holders.items = omega (arith, inside, is.size) in
-    record {
-      inside = λ g at. is.inside g (rw e at at);
-      distinct = rw e is.distinct;
-      size = size-set s t f x (length m) items is.size;
-      none = λ g at. elim (cases_eq g f) [
-        | inl same ↦ absurd (omega (arith, held, ap (counted s) same, is.none g (rw e at at)))
-        | inr other ↦ counted-other s t f g x items other ∙ is.none g (rw e at at)
-      ];
-      some = λ g within out. elim (cases_eq g f) [
-        | inl same ↦ omega (arith, new, ap (counted t) same, counted-same s t f x items low)
-        | inr other ↦ omega (arith, counted-other s t f g x items other, is.some g within (rw e at out))
-      ];
-      sum = omega (arith, shared, is.sum, sum-set s t f x items low, held, new);
-      room = omega (arith, room, ap length e);
-    }
+    IsFreeList-set m m s t f x is refl inside items (λ g _. ap (among g) e) (λ at. absurd (omega (arith, held, is.none f (rw e at at)))) (λ _. new) (rw e is.distinct) (omega (arith, shared, held, new)) (omega (arith, room, ap length e))
 
 -- how many further holders frames have then
 pub further-count : (s t : Frames) (f x g : ℕ) → f < length s.holders.items → t.holders.items ≡ slice_set s.holders.items f x → ((g ≡ f) × (further_at t g ≡ x - 1) × (further_at s g ≡ counted s f - 1)) ⊎ ((g ≢ f) × (further_at t g ≡ further_at s g))
@@ -250,7 +216,8 @@ free_of-none m s e = rw e refl
 
 -- the first free frame is one of the memory
 pub free_of-first : (m : List (List ℕ)) (s : Frames) → IsFreeList m s → s.count ≢ 0 → s.first.0 < length m
-free_of-first m s is ne = is.inside s.first.0 (ap (among s.first.0) (first-is m s ne) ∙ among_first s.first.0 (chain m (s.count - 1) (word_of m s.first.0 0 4)))
+unfolding free_of
+free_of-first m s is ne = is.inside s.first.0 (rw (chain-step m s.count s.first.0 ne) (among_first s.first.0 (chain m (s.count - 1) (word_of m s.first.0 0 4))))
 
 -- ---- the list of all frames
 

@@ -1,5 +1,5 @@
 -- Lemmas on holders.
-use Rattle.std.proofs.Common.{◌≡◌, ◌≢◌, ℕ, zero, suc, ◌+◌, ◌<◌, ◌≤◌, ◌⊎◌, inl, inr, Bool, true, false, nat_eq, List, [], ◌∷◌, ◌++◌, length, refl, sym, ap, ◌∙◌, arith, eq-eqb, ltb, eqb, length-append, get_or, slice_set}
+use Rattle.std.proofs.Common.{◌≡◌, ◌≢◌, ℕ, zero, suc, ◌+◌, ◌-◌, ◌<◌, ◌≤◌, ◌⊎◌, inl, inr, Bool, true, false, nat_eq, List, [], ◌∷◌, ◌++◌, length, refl, sym, ap, ◌∙◌, arith, eq-eqb, ltb, eqb, length-append, get_or, slice_set}
 use Rattle.std.proofs.lemmas.Bool.{cases_eq, cases_lt, le-ltb, lt-ltb, ne_eqb}
 use Rattle.std.proofs.lemmas.List.Sums.{sum_by-cons}
 use Rattle.std.specs.List.{IsDistinct, range_with_len, sum_by}
@@ -156,10 +156,6 @@ pub sum_below-same : (n : ℕ) (g h : ℕ → ℕ) → ((f : ℕ) → f < n → 
 sum_below-same zero g h same = refl
 sum_below-same (suc n) g h same = omega (arith, same n (omega arith), sum_below-same n g h (λ f l. same f (omega arith)))
 
-pub sum_below-mono : (n : ℕ) (g h : ℕ → ℕ) → ((f : ℕ) → g f ≤ h f) → sum_below n g ≤ sum_below n h
-sum_below-mono zero g h le = omega arith
-sum_below-mono (suc n) g h le = omega (arith, le n, sum_below-mono n g h le)
-
 pub sum_below-plus : (n : ℕ) (g h : ℕ → ℕ) → sum_below n (λ f. g f + h f) ≡ sum_below n g + sum_below n h
 sum_below-plus zero g h = refl
 sum_below-plus (suc n) g h = omega (arith, sum_below-plus n g h)
@@ -198,69 +194,38 @@ sum_below-ones : (n : ℕ) → sum_below n (λ f. 1) ≡ n
 sum_below-ones zero = refl
 sum_below-ones (suc n) = omega (arith, sum_below-ones n)
 
--- a free frame or one that is held, as often as it is, and all of them together
-ones : (m : List (List ℕ)) (s : Frames) → IsFreeList m s → sum_below (length m) (λ f. one_if (ltb f (length m)) + further_at s f) ≡ length m + s.shared
-ones m s is =
-    sum_below-plus (length m) (λ f. one_if (ltb f (length m))) (further_at s)
-    ∙ ap (λ n. n + sum_below (length m) (further_at s)) (sum_below-same (length m) (λ f. one_if (ltb f (length m))) (λ f. 1) (λ f l. ap one_if (lt-ltb f (length m) l)) ∙ sum_below-ones (length m))
-    ∙ ap (λ n. length m + n) (further-sum m s is)
-
-past-none : (m : List (List ℕ)) (s : Frames) (f : ℕ) → IsFreeList m s → length m ≤ f → one_if (ltb f (length m)) + further_at s f ≡ 0
-past-none m s f is l = omega (arith, ap one_if (le-ltb f (length m) l), further-past m s f is l)
-
--- what the holders hold, frames that are shared as often as they are, and what is free are all frames of the memory
-pub shared-count : (m : List (List ℕ)) (s : Frames) (all : List ℕ) → IsFreeList m s → IsShared m s all → free_count m s + length all ≡ length m
-shared-count m s hs is all =
-    let both : (f : ℕ) → count_of f (free_of m s ++ hs) ≡ one_if (ltb f (length m)) + further_at s f = λ (f : ℕ). rw (count_of-append f (free_of m s) hs) (omega (arith, all.each f, holders-free m s is f)) in
-    let sum : length (free_of m s ++ hs) ≡ length m + s.shared =
-    length-counts (free_of m s ++ hs) (length m) (λ f l. both f ∙ past-none m s f is l)
-    ∙ sum_below-same (length m) (λ f. count_of f (free_of m s ++ hs)) (λ f. one_if (ltb f (length m)) + further_at s f) (λ f l. both f)
-    ∙ ones m s is in
-    omega (arith, sum, length-append (free_of m s) hs, is.room, shared-is s)
-
--- frames that are held as often as they have holders at the most, and the free ones, are no more than the memory has
-pub held-count : (m : List (List ℕ)) (s : Frames) (old : List ℕ) → IsFreeList m s → ((f : ℕ) → count_of f old ≤ holders_of m s f) → free_count m s + length old ≤ length m
-held-count m s old is all =
-    let both : (f : ℕ) → count_of f (free_of m s ++ old) ≤ one_if (ltb f (length m)) + further_at s f = λ (f : ℕ). rw (count_of-append f (free_of m s) old) (omega (arith, all f, holders-free m s is f)) in
-    let sum : length (free_of m s ++ old) ≡ sum_below (length m) (λ f. count_of f (free_of m s ++ old)) = length-counts (free_of m s ++ old) (length m) (λ f l. omega (arith, both f, past-none m s f is l)) in
+-- frames that are held, those that hold the rest, and what is free are all frames of the memory
+accounted : (m : List (List ℕ)) (s : Frames) (old : List ℕ) (rest : ℕ → ℕ) → IsFreeList m s → ((f : ℕ) → count_of f old + rest f ≡ holders_of m s f) → free_count m s + length old + sum_below (length m) rest ≡ length m
+accounted m s old rest is all =
+    let both : (f : ℕ) → count_of f (free_of m s ++ old) + rest f ≡ one_if (ltb f (length m)) + further_at s f = λ (f : ℕ). omega (arith, count_of-append f (free_of m s) old, all f, holders-free m s is f) in
+    let sums : sum_below (length m) (λ f. count_of f (free_of m s ++ old) + rest f) ≡ sum_below (length m) (λ f. 1 + further_at s f) =
+    sum_below-same (length m) (λ f. count_of f (free_of m s ++ old) + rest f) (λ f. 1 + further_at s f) (λ f l. omega (arith, both f, ap one_if (lt-ltb f (length m) l))) in
     omega (
       arith,
-      sum,
-      sum_below-mono (length m) (λ f. count_of f (free_of m s ++ old)) (λ f. one_if (ltb f (length m)) + further_at s f) both,
-      ones m s is,
+      sums,
+      sum_below-plus (length m) (λ f. count_of f (free_of m s ++ old)) rest,
+      sum_below-plus (length m) (λ f. 1) (further_at s),
+      sum_below-ones (length m),
+      further-sum m s is,
+      length-counts (free_of m s ++ old) (length m) (λ f l. omega (arith, both f, ap one_if (le-ltb f (length m) l), further-past m s f is l)),
       length-append (free_of m s) old,
       is.room,
       shared-is s,
     )
 
+-- what the holders hold, frames that are shared as often as they are, and what is free are all frames of the memory
+pub shared-count : (m : List (List ℕ)) (s : Frames) (all : List ℕ) → IsFreeList m s → IsShared m s all → free_count m s + length all ≡ length m
+shared-count m s hs is all = omega (arith, accounted m s hs (λ f. 0) is (λ f. omega (arith, all.each f)), sum_below-zero (length m) (λ f. 0) (λ f l. refl))
+
+-- frames that are held as often as they have holders at the most, and the free ones, are no more than the memory has
+pub held-count : (m : List (List ℕ)) (s : Frames) (old : List ℕ) → IsFreeList m s → ((f : ℕ) → count_of f old ≤ holders_of m s f) → free_count m s + length old ≤ length m
+held-count m s old is all = omega (arith, accounted m s old (λ f. holders_of m s f - count_of f old) is (λ f. omega (arith, all f)))
+
 -- what a trade takes is no longer free
 pub Trades-lengths : (m k : List (List ℕ)) (s n : Frames) (old new : List ℕ) → IsFreeList m s → IsFreeList k n → ((f : ℕ) → count_of f old ≤ holders_of m s f) → Trades m k s n old new → free_count k n + length new ≡ free_count m s + length old
 Trades-lengths m k s n old new is_m is_k room t =
-    let before = free_of m s ++ old in
-    let after = free_of k n ++ new in
-    let both : (f : ℕ) → count_of f after + further_at s f ≡ count_of f before + further_at n f = λ (f : ℕ). rw (count_of-append f (free_of k n) new, count_of-append f (free_of m s) old)
-    (omega (arith, t.moved f, holders-free m s is_m f, holders-free k n is_k f, ap (λ l. one_if (ltb f l)) t.count)) in
-    let high : (f : ℕ) → length m ≤ f → count_of f before ≡ 0 = λ (f : ℕ) (l : length m ≤ f). rw (count_of-append f (free_of m s) old) (omega (arith, room f, holders-free m s is_m f, past-none m s f is_m l)) in
-    let past : (f : ℕ) → length m ≤ f → count_of f after ≡ 0 = λ (f : ℕ) (l : length m ≤ f). omega (arith, both f, high f l, further-past m s f is_m l, further-past k n f is_k (omega (arith, l, t.count))) in
-    let sums : sum_below (length m) (λ f. count_of f after + further_at s f) ≡ sum_below (length m) (λ f. count_of f before + further_at n f) =
-    sum_below-same (length m) (λ f. count_of f after + further_at s f) (λ f. count_of f before + further_at n f) (λ f l. both f) in
-    let further : sum_below (length m) (further_at n) ≡ n.shared = ap (λ l. sum_below l (further_at n)) (sym t.count) ∙ further-sum k n is_k in
-    omega (
-      arith,
-      sums,
-      sum_below-plus (length m) (λ f. count_of f after) (further_at s),
-      sum_below-plus (length m) (λ f. count_of f before) (further_at n),
-      further-sum m s is_m,
-      further,
-      length-counts after (length m) past,
-      length-counts before (length m) high,
-      length-append (free_of k n) new,
-      length-append (free_of m s) old,
-      is_m.room,
-      is_k.room,
-      shared-is s,
-      shared-is n,
-    )
+    let rest = λ (f : ℕ). holders_of m s f - count_of f old in
+    omega (arith, accounted m s old rest is_m (λ f. omega (arith, room f)), accounted k n new rest is_k (λ f. omega (arith, room f, t.moved f)), ap (λ l. sum_below l rest) t.count, t.count)
 
 -- ---- what the calls on frames do, as trades
 

@@ -1,58 +1,40 @@
-use Rattle.std.proofs.Common.{◌-◌, arith, refl}
-use Rattle.frames.specs.Free.{free_of}
+use Rattle.std.proofs.Common.{◌≡◌, ◌<◌, ◌-◌, length, arith, refl}
+use Rattle.frames.specs.Free.{free_of, counted}
 use Rattle.frames.proofs.FreeLemmas.{count-read, further-held, further-is, shared-some, free_count-more, IsFreeList-count}
 use Rattle.frames.proofs.HolderLemmas.{holders-fewer}
 use Rattle.frames.proofs.Frames.unshare.Goals as goal
+use Rattle.frames.proofs.Frames.unshare.Goals.{After-index_mut}
 
 pub index_mut-requires : goal.index_mut-requires
 index_mut-requires c = omega (arith, c.requires.valid.size, (further-held c.args.ram.now c.args.self.now c.args.frame.0 c.requires.valid c.requires.shared).1)
 
+-- the count that was read, which is two or more, and the sum
+read : (c : After-index_mut) → (c.args.frame.0 < length c.args.ram.now) × (c.index_mut.result.now ≡ counted c.args.self.now c.args.frame.0) × (1 < c.index_mut.result.now) × (0 < c.args.self.now.shared)
+read c =
+    let inside = (further-held c.args.ram.now c.args.self.now c.args.frame.0 c.requires.valid c.requires.shared).1 in
+    let same = count-read c.args.ram.now c.args.self.now c.args.frame.0 c.index_mut.result.now c.requires.valid inside c.index_mut.ensures.value in
+    (inside, same, omega (arith, same, further-is c.args.self.now c.args.frame.0, c.requires.shared), shared-some c.args.ram.now c.args.self.now c.args.frame.0 c.requires.valid c.requires.shared)
+
 pub overflow_sub-index_mut : goal.overflow_sub-index_mut
-overflow_sub-index_mut c =
-    let m = c.args.ram.now in
-    let s = c.args.self.now in
-    let f = c.args.frame.0 in
-    let inside = (further-held m s f c.requires.valid c.requires.shared).1 in
-    omega (arith, count-read m s f c.index_mut.result.now c.requires.valid inside c.index_mut.ensures.value, further-is s f, c.requires.shared)
+overflow_sub-index_mut c = omega (arith, (read (goal.at.overflow_sub-index_mut c).After-index_mut).2)
 
 pub overflow_sub-self : goal.overflow_sub-self
-overflow_sub-self c = omega (arith, shared-some c.args.ram.now c.args.self.now c.args.frame.0 c.requires.valid c.requires.shared)
-
-list : goal.returns-clause-list
-unfolding free_of
-list c = refl
+overflow_sub-self c = omega (arith, (read (goal.at.overflow_sub-self c).After-index_mut).3)
 
 pub returns-clause-list : goal.returns-clause-list
-returns-clause-list c = list c
-
-valid : goal.returns-clause-valid
-valid c =
-    let m = c.args.ram.now in
-    let s = c.args.self.now in
-    let f = c.args.frame.0 in
-    let is = c.requires.valid in
-    let inside = (further-held m s f is c.requires.shared).1 in
-    let read = count-read m s f c.index_mut.result.now is inside c.index_mut.ensures.value in
-    let more = further-is s f in
-    let some = shared-some m s f is c.requires.shared in
-    IsFreeList-count m s _ f (c.index_mut.result.now - 1) is inside (omega (arith, more, c.requires.shared)) (omega (arith, more, c.requires.shared, read)) (list c) refl (omega (arith, more, c.requires.shared, read, some)) (omega (arith, is.room))
+unfolding free_of
+returns-clause-list c = refl
 
 pub returns-clause-valid : goal.returns-clause-valid
-returns-clause-valid c = valid c
+returns-clause-valid c =
+    let was = read (goal.at.returns-clause-valid c).After-index_mut in
+    IsFreeList-count c.args.ram.now c.args.self.now _ c.args.frame.0 (c.index_mut.result.now - 1) c.requires.valid was.0 (omega (arith, was.1, was.2)) (omega (arith, was.2)) (returns-clause-list c) refl
+    (omega (arith, was.1, was.2, was.3)) (omega (arith, c.requires.valid.room))
 
 pub returns-clause-more : goal.returns-clause-more
-returns-clause-more c =
-    let m = c.args.ram.now in
-    let s = c.args.self.now in
-    free_count-more m s _ (list c) c.requires.valid.room (omega (arith, shared-some m s c.args.frame.0 c.requires.valid c.requires.shared))
+returns-clause-more c = free_count-more c.args.ram.now c.args.self.now _ (returns-clause-list c) c.requires.valid.room (omega (arith, (read (goal.at.returns-clause-more c).After-index_mut).3))
 
 pub returns-clause-holders : goal.returns-clause-holders
 returns-clause-holders c =
-    let m = c.args.ram.now in
-    let s = c.args.self.now in
-    let f = c.args.frame.0 in
-    let is = c.requires.valid in
-    let inside = (further-held m s f is c.requires.shared).1 in
-    let read = count-read m s f c.index_mut.result.now is inside c.index_mut.ensures.value in
-    let more = further-is s f in
-    holders-fewer m s _ f (c.index_mut.result.now - 1) is (valid c) (list c) inside refl (omega (arith, more, c.requires.shared, read)) (omega (arith, more, c.requires.shared, read))
+    let was = read (goal.at.returns-clause-holders c).After-index_mut in
+    holders-fewer c.args.ram.now c.args.self.now _ c.args.frame.0 (c.index_mut.result.now - 1) c.requires.valid (returns-clause-valid c) (returns-clause-list c) was.0 refl (omega (arith, was.1, was.2)) (omega (arith, was.2))
