@@ -1,5 +1,4 @@
-use Rattle.std.specs.Prelude.{◌≡◌, ◌≤◌, length, take}
-use Rattle.imagerules.specs.Places.{without_zeros}
+use Rattle.imagerules.proofs.Common.{◌≡◌, ◌≤◌, length, take, without_zeros}
 use Rattle.imagerules.proofs.places.before_zeros.Given as goal
 
 abbrev pub invariant-loop-end : goal.invariant-loop-end
