@@ -29,15 +29,11 @@ inode_of-inode_bytes inode rest fits =
     (little_number-reads_back 4 inode.size [] fits.size)
     (numbers_in-spelled 13 inode.addresses rest fits.places fits.addresses)
 
--- of an entry
-same_entry : {n n' : ℕ} {w w' : List ℕ} → n ≡ n' → w ≡ w' → ◌≡◌ {A = Entry} (record { number = n; name = w }) (record { number = n'; name = w' })
-same_entry p q = λ i. record { number = p i; name = q i }
-
 pub entry_of-entry_bytes : (entry : Entry) (rest : List ℕ) → EntryFits entry → entry_of (entry_bytes entry ++ rest) ≡ entry
-entry_of-entry_bytes entry rest fits =
-    same_entry
-    (little_number-reads_back 2 entry.number (entry.name ++ rest) fits.number)
-    (ap (λ n. take n (entry.name ++ rest)) (sym fits.name) ∙ take-append_seam entry.name rest)
+entry_of-entry_bytes entry rest fits = λ i. record {
+  number = little_number-reads_back 2 entry.number (entry.name ++ rest) fits.number i;
+  name = (ap (λ n. take n (entry.name ++ rest)) (sym fits.name) ∙ take-append_seam entry.name rest) i;
+}
 
 -- of a super block's numbers
 pub super_of-super_bytes : (s : SuperBlock) (rest : List ℕ) → SuperFits s → super_of (super_bytes s ++ rest) ≡ s

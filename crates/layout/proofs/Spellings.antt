@@ -35,7 +35,7 @@ bytes-number (suc n) (x ∷ xs) h are =
     ∙ rw (bytes_low_first-suc 0 n (x + 256 * rest), low, high, bytes-number n xs (omega arith) (λ i. are (suc i))) refl
 
 -- a number of n bytes that stand before others
-in_front : (k n m : ℕ) (bytes : List ℕ) → k + n ≤ length bytes → AreBytes bytes
+pub in_front : (k n m : ℕ) (bytes : List ℕ) → k + n ≤ length bytes → AreBytes bytes
     → little_bytes n (little_number n (drop k bytes)) ++ take m (drop (k + n) bytes) ≡ take (n + m) (drop k bytes)
 in_front k n m bytes h are =
     let within : n ≤ length (drop k bytes) = omega (arith, length-drop k bytes) in
@@ -45,7 +45,7 @@ in_front k n m bytes h are =
 
 -- ---- numbers of four bytes
 
-spelled-range : (n i : ℕ) (bytes : List ℕ) → 4 * i + 4 * n ≤ length bytes → AreBytes bytes
+pub spelled-range : (n i : ℕ) (bytes : List ℕ) → 4 * i + 4 * n ≤ length bytes → AreBytes bytes
     → spelled (map (number_at bytes) (range_with_len i n)) ≡ take (4 * n) (drop (4 * i) bytes)
 spelled-range zero i bytes h are = refl
 spelled-range (suc n) i bytes h are =
@@ -55,19 +55,10 @@ spelled-range (suc n) i bytes h are =
     ∙ in_front (4 * i) 4 (4 * n) bytes (omega arith) are
     ∙ ap (λ k. take k (drop (4 * i) bytes)) whole
 
-spelled-numbers_in : (n : ℕ) (bytes : List ℕ) → 4 * n ≤ length bytes → AreBytes bytes → spelled (numbers_in n bytes) ≡ take (4 * n) bytes
-unfolding numbers_in
-spelled-numbers_in n bytes h are = spelled-range n 0 bytes (omega arith) are
-
 -- ---- the records
 
-pub entry_bytes-entry_of : (bytes : List ℕ) → 16 ≤ length bytes → AreBytes bytes → entry_bytes (entry_of bytes) ≡ take 16 bytes
-entry_bytes-entry_of bytes h are = in_front 0 2 14 bytes (omega arith) are
-
-pub super_bytes-super_of : (bytes : List ℕ) → 32 ≤ length bytes → AreBytes bytes → super_bytes (super_of bytes) ≡ take 32 bytes
-super_bytes-super_of bytes h are = spelled-range 8 0 bytes h are
-
 pub inode_bytes-inode_of : (bytes : List ℕ) → 64 ≤ length bytes → AreBytes bytes → inode_bytes (inode_of bytes) ≡ take 64 bytes
+unfolding numbers_in
 inode_bytes-inode_of bytes h are =
-    let addresses : spelled (numbers_in 13 (drop 12 bytes)) ≡ take 52 (drop 12 bytes) = spelled-numbers_in 13 (drop 12 bytes) (omega (arith, length-drop 12 bytes)) (bytes-drop 12 bytes are) in
+    let addresses : spelled (numbers_in 13 (drop 12 bytes)) ≡ take 52 (drop 12 bytes) = spelled-range 13 0 (drop 12 bytes) (omega (arith, length-drop 12 bytes)) (bytes-drop 12 bytes are) in
     rw (addresses, in_front 8 4 52 bytes (omega arith) are, in_front 6 2 56 bytes (omega arith) are, in_front 4 2 58 bytes (omega arith) are, in_front 2 2 60 bytes (omega arith) are) (in_front 0 2 62 bytes (omega arith) are)
