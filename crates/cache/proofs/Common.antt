@@ -1,10 +1,10 @@
 -- The names that the lemmas of this crate import from elsewhere, passed on from one place. Declares nothing.
 pub use Rattle.std.proofs.Common.{◌&&◌, ◌+◌, ◌++◌, ◌-◌, ◌<◌, [], ◌^◌, ap, arith, Bool, Bor, cond, drop, Err, false, Fits, get_or, inl, inr, length, List, min, MutBor, nat_eq, nat_le}
 pub use Rattle.std.proofs.Common.{None, Ok, OnErr, OnOk, Option, refl, Result, set, slice_get, Some, subst, suc, sym, take, true, w64, zero, ◌||◌, ℕ, ◌∙◌, ◌∷◌, ◌≡◌, ◌≢◌, ◌≤◌, ◌⊎◌}
-pub use Rattle.std.proofs.lemmas.Bool.{cases_eq, cases_lt, or_parts}
-pub use Rattle.std.proofs.lemmas.Bool.Decides.{nat_tests}
+pub use Rattle.std.proofs.lemmas.Bool.{and_from, and_parts, cases_eq, cases_lt, eq-eqb, false_from_ne_true, le-leb, leb-true, ne_eqb, or_parts}
 pub use Rattle.std.proofs.lemmas.List.{append_assoc, ext_get_or, get_or-set_other, get_or-set_same, length-append, length-set, take_all}
 pub use Rattle.std.proofs.lemmas.Map.Entries.{lookup_from_place, none_past_head}
+pub use Rattle.std.proofs.lemmas.Option.{none-some, same_Some}
 pub use Rattle.std.specs.Cmp.{nat_eq_equiv}
 pub use Rattle.std.specs.List.{IsDistinct}
 pub use Rattle.std.specs.Map.{keys_of, lookup, lookup_entry, remove_entry, set_value}

@@ -1,36 +1,30 @@
 -- What a look-up finds in the entries of a map after a use, a new value and a new entry.
 use Rattle.cache.proofs.Common.{◌≡◌, ◌≢◌, ◌⊎◌, ℕ, zero, suc, ◌-◌, ◌≤◌, true, false, cond, List, [], ◌∷◌, length, take, slice_get, Option, Some, None, nat_eq, ap, sym, ◌∙◌}
-use Rattle.cache.proofs.Common.{refl, arith, inl, inr, lookup, lookup_entry, remove_entry, set_value, option_map_or, cases_eq, nat_tests, promoted, put_entries, LruCache}
-
-pub eq_true : (a b : ℕ) → a ≡ b → nat_eq a b ≡ true
-eq_true a b h = grind (arith, nat_tests)
-
-pub eq_false : (a b : ℕ) → a ≢ b → nat_eq a b ≡ false
-eq_false a b h = grind (arith, nat_tests)
+use Rattle.cache.proofs.Common.{refl, arith, inl, inr, lookup, lookup_entry, remove_entry, set_value, option_map_or, cases_eq, eq-eqb, ne_eqb, promoted, put_entries, LruCache}
 
 module _ {V : Type 0} where
   pub lookup-here : (e : ℕ × V) (es : List (ℕ × V)) (k : ℕ) → k ≡ e.0 → lookup (nat_eq k) (e ∷ es) ≡ Some e.1
-  lookup-here e es k h = ap (λ b. cond b (Some e.1) (lookup (nat_eq k) es)) (eq_true k e.0 h)
+  lookup-here e es k h = ap (λ b. cond b (Some e.1) (lookup (nat_eq k) es)) (eq-eqb k e.0 h)
 
   pub lookup-later : (e : ℕ × V) (es : List (ℕ × V)) (k : ℕ) → k ≢ e.0 → lookup (nat_eq k) (e ∷ es) ≡ lookup (nat_eq k) es
-  lookup-later e es k h = ap (λ b. cond b (Some e.1) (lookup (nat_eq k) es)) (eq_false k e.0 h)
+  lookup-later e es k h = ap (λ b. cond b (Some e.1) (lookup (nat_eq k) es)) (ne_eqb k e.0 h)
 
   lookup-remove : (es : List (ℕ × V)) (n k : ℕ) → k ≢ n → lookup (nat_eq k) (remove_entry (nat_eq n) es) ≡ lookup (nat_eq k) es
   lookup-remove [] n k h = refl
   lookup-remove (e ∷ es) n k h = elim (cases_eq n e.0) [
-    | inl here ↦ rw (eq_true n e.0 here, eq_false k e.0 (λ z. h (z ∙ sym here))) refl
-    | inr other ↦ rw (eq_false n e.0 other) (ap (cond (nat_eq k e.0) (Some e.1)) (lookup-remove es n k h))
+    | inl here ↦ rw (eq-eqb n e.0 here, ne_eqb k e.0 (λ z. h (z ∙ sym here))) refl
+    | inr other ↦ rw (ne_eqb n e.0 other) (ap (cond (nat_eq k e.0) (Some e.1)) (lookup-remove es n k h))
   ]
 
   found : (es : List (ℕ × V)) (n : ℕ) (e : ℕ × V) → lookup_entry (nat_eq n) es ≡ Some e → (n ≡ e.0) × (lookup (nat_eq n) es ≡ Some e.1)
   found [] n e h = absurd cc
   found (d ∷ es) n e h = elim (cases_eq n d.0) [
     | inl here ↦
-        let first : Some d ≡ Some e = sym (ap (λ b. cond b (Some d) (lookup_entry (nat_eq n) es)) (eq_true n d.0 here)) ∙ h in
+        let first : Some d ≡ Some e = sym (ap (λ b. cond b (Some d) (lookup_entry (nat_eq n) es)) (eq-eqb n d.0 here)) ∙ h in
         let same : d ≡ e = cc in
         (here ∙ ap (λ (x : ℕ × V). x.0) same, lookup-here d es n here ∙ ap (λ (x : ℕ × V). Some x.1) same)
     | inr other ↦
-        let rest = found es n e (sym (ap (λ b. cond b (Some d) (lookup_entry (nat_eq n) es)) (eq_false n d.0 other)) ∙ h) in
+        let rest = found es n e (sym (ap (λ b. cond b (Some d) (lookup_entry (nat_eq n) es)) (ne_eqb n d.0 other)) ∙ h) in
         (rest.0, lookup-later d es n other ∙ rest.1)
   ]
 
@@ -40,30 +34,30 @@ module _ {V : Type 0} where
     go : (o : Option (ℕ × V)) → lookup_entry (nat_eq n) es ≡ o → lookup (nat_eq k) (option_map_or (λ e. e ∷ remove_entry (nat_eq n) es) o es) ≡ lookup (nat_eq k) es
     go None h = refl
     go (Some e) h = let f = found es n e h in elim (cases_eq k n) [
-      | inl same ↦ ap (λ b. cond b (Some e.1) (lookup (nat_eq k) (remove_entry (nat_eq n) es))) (eq_true k e.0 (same ∙ f.0)) ∙ sym f.1 ∙ ap (λ q. lookup (nat_eq q) es) (sym same)
-      | inr other ↦ rw (eq_false k e.0 (λ z. other (z ∙ sym f.0))) (lookup-remove es n k other)
+      | inl same ↦ ap (λ b. cond b (Some e.1) (lookup (nat_eq k) (remove_entry (nat_eq n) es))) (eq-eqb k e.0 (same ∙ f.0)) ∙ sym f.1 ∙ ap (λ q. lookup (nat_eq q) es) (sym same)
+      | inr other ↦ rw (ne_eqb k e.0 (λ z. other (z ∙ sym f.0))) (lookup-remove es n k other)
     ]
 
   -- a new value at n
   pub lookup-set_same : (es : List (ℕ × V)) (n : ℕ) (v w : V) → lookup (nat_eq n) es ≡ Some v → lookup (nat_eq n) (set_value (nat_eq n) es w) ≡ Some w
   lookup-set_same [] n v w h = absurd cc
   lookup-set_same (e ∷ es) n v w h = elim (cases_eq n e.0) [
-    | inl here ↦ rw (eq_true n e.0 here) (lookup-here (e.0, w) es n here)
-    | inr other ↦ rw (eq_false n e.0 other) (lookup-later e (set_value (nat_eq n) es w) n other ∙ lookup-set_same es n v w (sym (lookup-later e es n other) ∙ h))
+    | inl here ↦ rw (eq-eqb n e.0 here) (lookup-here (e.0, w) es n here)
+    | inr other ↦ rw (ne_eqb n e.0 other) (lookup-later e (set_value (nat_eq n) es w) n other ∙ lookup-set_same es n v w (sym (lookup-later e es n other) ∙ h))
   ]
 
   pub lookup-set_other : (es : List (ℕ × V)) (n k : ℕ) (w : V) → k ≢ n → lookup (nat_eq k) (set_value (nat_eq n) es w) ≡ lookup (nat_eq k) es
   lookup-set_other [] n k w h = refl
   lookup-set_other (e ∷ es) n k w h = elim (cases_eq n e.0) [
-    | inl here ↦ rw (eq_true n e.0 here, eq_false k e.0 (λ z. h (z ∙ sym here))) refl
-    | inr other ↦ rw (eq_false n e.0 other) (ap (cond (nat_eq k e.0) (Some e.1)) (lookup-set_other es n k w h))
+    | inl here ↦ rw (eq-eqb n e.0 here, ne_eqb k e.0 (λ z. h (z ∙ sym here))) refl
+    | inr other ↦ rw (ne_eqb n e.0 other) (ap (cond (nat_eq k e.0) (Some e.1)) (lookup-set_other es n k w h))
   ]
 
   entry-none : (es : List (ℕ × V)) (n : ℕ) → lookup (nat_eq n) es ≡ None → lookup_entry (nat_eq n) es ≡ None
   entry-none [] n h = refl
   entry-none (e ∷ es) n h = elim (cases_eq n e.0) [
     | inl here ↦ let wrong : Some e.1 ≡ None = sym (lookup-here e es n here) ∙ h in absurd cc
-    | inr other ↦ rw (eq_false n e.0 other) (entry-none es n (sym (lookup-later e es n other) ∙ h))
+    | inr other ↦ rw (ne_eqb n e.0 other) (entry-none es n (sym (lookup-later e es n other) ∙ h))
   ]
 
   -- the last entry of a list, which has the number q, is cut off

@@ -2,7 +2,7 @@
 use Rattle.cache.proofs.Common.{◌≡◌, ℕ, ◌+◌, ◌-◌, ◌^◌, ◌≤◌, ◌<◌, Bool, true, false, ◌||◌, List, [], length, set, get_or, Some, None, nat_eq, sym, ap, subst, ◌∙◌, arith, inl, inr, Fits, w64, option_map_or}
 use Rattle.cache.proofs.Common.{lookup, set_value, length-set, get_or-set_same, get_or-set_other, cases_eq, cases_lt, or_parts, block_at, Slot, LruCache, next_of, AreFlushed, AreKept, cleaned, overlay}
 use Rattle.cache.proofs.Entries.{lookup-set_other, lookup-set_same}
-use Rattle.cache.proofs.Overlays.{AreKept-doubt, AreKept-set, AreKept-written, held-some, length-overlay, overlay-is, overlay-same}
+use Rattle.cache.proofs.Overlays.{AreKept-doubt, AreKept-set, AreKept-written, held-as, held-some, length-overlay, overlay-is, overlay-same}
 use Rattle.cache.proofs.Scanning.{IsAtMost, found-of, settled}
 
 -- the blocks stay as they were, and the device has those below a number
@@ -20,13 +20,6 @@ pub low-next : (es : List (ℕ × Slot)) (c : List (List ℕ)) (b : Bool) (block
 unfolding AreKept
 low-next es c b blocks stored from n f is = let found = found-of from b es n is in (f.held n found.1.0 found.1.1).inside
 
-pub from-next : (es : List (ℕ × Slot)) (b : Bool) (from n : ℕ) → next_of from b es ≡ Some n → from ≤ n
-from-next es b from n is = (found-of from b es n is).0
-
-was-long : (es : List (ℕ × Slot)) (c : List (List ℕ)) (b : Bool) (n : ℕ) (s : Slot) → lookup (nat_eq n) es ≡ Some s → AreKept es c b → length s.bytes ≡ 1024
-unfolding AreKept
-was-long es c b n s h held = (held n s h).size
-
 -- block n, which holds s, was written
 module _ (es : List (ℕ × Slot)) (c : List (List ℕ)) (b : Bool) (n : ℕ) (s : Slot) (h : lookup (nat_eq n) es ≡ Some s) (low : n < length c) where
   abbrev es' : List (ℕ × Slot)
@@ -39,9 +32,10 @@ module _ (es : List (ℕ × Slot)) (c : List (List ℕ)) (b : Bool) (n : ℕ) (s
   here = lookup-set_same es n s (cleaned s) h
 
   wrote-held : AreKept es c b → AreKept es' c' b
-  wrote-held held = AreKept-set es c' b n s (cleaned s) h (AreKept-written es c b n s h held) (record {
+  unfolding AreKept
+  wrote-held held = AreKept-set es c' b n s (cleaned s) h (AreKept-written es c b n s.bytes (held-as es n s h) held) (record {
     inside = subst (λ k. n < k) (sym (length-set c n s.bytes)) low;
-    size = was-long es c b n s h held;
+    size = (held n s h).size;
     clean = λ _ _. sym (get_or-set_same c n s.bytes [] low);
   })
 
@@ -63,13 +57,11 @@ module _ (es : List (ℕ × Slot)) (c : List (List ℕ)) (b : Bool) (n : ℕ) (s
         (elim (cases_lt k from) [
           | inl early ↦ done k t was early
           | inr late ↦
-              let still : (t.changed || b) ≡ false = settled from b es k t was late (λ most. absurd (not (at-most-lower n k (subst (λ o. IsAtMost o k) next most) below))) in
+              let still : (t.changed || b) ≡ false = settled from b es k t was late (λ most. let m : n ≤ k = subst (λ o. IsAtMost o k) next most in not (omega arith)) in
               (held k t was).clean (or_parts t.changed b still).1 (or_parts t.changed b still).0
         ])
         ∙ sym (get_or-set_other c n k s.bytes [] not)
-  ] where
-    at-most-lower : (n k : ℕ) → n ≤ k → k < n + 1 → k ≡ n
-    at-most-lower n k h l = omega arith
+  ]
 
 pub flush-goes-on : (es new : List (ℕ × Slot)) (c d : List (List ℕ)) (b e : Bool) (blocks stored : List (List ℕ)) (from n : ℕ) → IsFlushing es c b blocks stored from → next_of from b es ≡ Some n
     → ((s : Slot) → lookup (nat_eq n) es ≡ Some s → d ≡ set c n s.bytes) → ((s : Slot) → lookup (nat_eq n) es ≡ Some s → new ≡ set_value (nat_eq n) es (cleaned s)) → e ≡ b → IsFlushing new d e blocks stored (n + 1)
@@ -78,15 +70,12 @@ flush-goes-on es new c d b e blocks stored from n f next wrote cleans kept =
     let s : Slot = found.1.0 in
     let h : lookup (nat_eq n) es ≡ Some s = found.1.1 in
     let low : n < length c = low-next es c b blocks stored from n f next in
-    subst (λ x. IsFlushing new d x blocks stored (n + 1)) (sym kept)
-    (subst (λ x. IsFlushing new x b blocks stored (n + 1)) (sym (wrote s h))
-    (subst (λ x. IsFlushing x (set c n s.bytes) b blocks stored (n + 1)) (sym (cleans s h))
-    (record {
+    rw (kept, wrote s h, cleans s h) (record {
       held = wrote-held es c b n s h low f.held;
       shows = wrote-shows es c b n s h low ∙ f.shows;
       done = wrote-done es c b n s h low from f.held f.done next;
       count = length-set c n s.bytes ∙ f.count;
-    })))
+    })
 
 -- no block is left that the device may lack
 pub all-flushed : (es : List (ℕ × Slot)) (c : List (List ℕ)) (b : Bool) (blocks stored : List (List ℕ)) (from : ℕ) → IsFlushing es c b blocks stored from → next_of from b es ≡ None → (k : ℕ) (s : Slot) → lookup (nat_eq k) es ≡ Some s → s.bytes ≡ block_at c k
@@ -124,7 +113,7 @@ next-fits es c b blocks stored from n f next bound =
 pub next-smaller : (es : List (ℕ × Slot)) (c : List (List ℕ)) (b : Bool) (blocks stored : List (List ℕ)) (from n : ℕ) → IsFlushing es c b blocks stored from → next_of from b es ≡ Some n → length stored - (n + 1) < length stored - from
 next-smaller es c b blocks stored from n f next =
     let low : n < length c = low-next es c b blocks stored from n f next in
-    let late : from ≤ n = from-next es b from n next in
+    let late = (found-of from b es n next).0 in
     omega (arith, f.count)
 
 pub up : {a b c : ℕ} → a ≤ b → b ≤ c → a ≤ c

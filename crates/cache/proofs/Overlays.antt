@@ -1,5 +1,5 @@
 -- Equations on what a device and the blocks over it show.
-use Rattle.cache.proofs.Common.{◌≡◌, ◌≢◌, ℕ, ◌<◌, Bool, true, List, [], length, get_or, set, Result, Ok, Err, OnOk, OnErr, Option, Some, None, nat_eq, refl, sym, ap, subst, ◌∙◌, arith, inl, inr}
+use Rattle.cache.proofs.Common.{◌≡◌, ◌≢◌, ℕ, ◌<◌, Bool, true, List, [], length, get_or, set, Result, Ok, Err, OnOk, OnErr, Option, Some, None, nat_eq, none-some, same_Some, refl, sym, ap, subst, ◌∙◌, arith, inl, inr}
 use Rattle.cache.proofs.Common.{option_map_or, lookup, set_value, length-set, get_or-set_same, get_or-set_other, ext_get_or, cases_eq, promoted, AreBlocks, block_at, Slot, AreKept, IsKept, kept_or, overlay}
 use Rattle.std.proofs.lemmas.List.FromFn.{length-map-range_with_len, get_or-map-range_with_len}
 use Rattle.cache.proofs.Entries.{lookup-promoted, lookup-set_other, lookup-set_same}
@@ -92,18 +92,27 @@ overlay-written es c n s h = overlay-same es es c (set c n s.bytes) (length-set 
   | inr not ↦ ap (λ b. option_map_or (λ (s : Slot). s.bytes) (lookup (nat_eq k) es) b) (get_or-set_other c n k s.bytes [] not)
 ])
 
-pub AreKept-written : (es : List (ℕ × Slot)) (c : List (List ℕ)) (d : Bool) (n : ℕ) (s : Slot) → lookup (nat_eq n) es ≡ Some s → AreKept es c d → AreKept es (set c n s.bytes) d
+-- what is held at n, if anything is, is b
+abbrev pub IsHeldAs : List (ℕ × Slot) → ℕ → List ℕ → Type 0
+IsHeldAs es n b = (s : Slot) → lookup (nat_eq n) es ≡ Some s → s.bytes ≡ b
+
+pub held-as : (es : List (ℕ × Slot)) (n : ℕ) (s : Slot) → lookup (nat_eq n) es ≡ Some s → IsHeldAs es n s.bytes
+held-as es n s h t e = ap (λ (x : Slot). x.bytes) (same_Some t s (sym e ∙ h))
+
+pub unheld-as : (es : List (ℕ × Slot)) (n : ℕ) (b : List ℕ) → lookup (nat_eq n) es ≡ None → IsHeldAs es n b
+unheld-as es n b h t e = absurd (none-some t (sym h ∙ e))
+
+-- it is written to the device
+pub AreKept-written : (es : List (ℕ × Slot)) (c : List (List ℕ)) (d : Bool) (n : ℕ) (b : List ℕ) → IsHeldAs es n b → AreKept es c d → AreKept es (set c n b) d
 unfolding AreKept
-AreKept-written es c d n s h held k t e =
+AreKept-written es c d n b told held k t e =
     let was = held k t e in
     record {
-      inside = omega (arith, length-set c n s.bytes, was.inside);
+      inside = omega (arith, length-set c n b, was.inside);
       size = was.size;
       clean = λ sure same. elim (cases_eq k n) [
-        | inl is ↦ let one : Some t ≡ Some s = sym e ∙ ap (λ i. lookup (nat_eq i) es) is ∙ h in
-            let value : t ≡ s = cc in
-            ap (λ (x : Slot). x.bytes) value ∙ sym (get_or-set_same c n s.bytes [] (held n s h).inside) ∙ ap (λ i. get_or (set c n s.bytes) i []) (sym is)
-        | inr not ↦ was.clean sure same ∙ sym (get_or-set_other c n k s.bytes [] not)
+        | inl is ↦ told t (ap (λ i. lookup (nat_eq i) es) (sym is) ∙ e) ∙ sym (get_or-set_same c n b [] (subst (λ i. i < length c) is was.inside)) ∙ ap (λ i. get_or (set c n b) i []) (sym is)
+        | inr not ↦ was.clean sure same ∙ sym (get_or-set_other c n k b [] not)
       ];
     }
 
@@ -115,9 +124,9 @@ AreKept-doubt es c d new e held k s h =
     record { inside = omega (arith, was.inside); size = was.size; clean = λ sure _. absurd cc }
 
 -- what the write of a held block leaves, whether it was done or not
-pub AreKept-tried : {E : Type 0} (es : List (ℕ × Slot)) (c new : List (List ℕ)) (d b : Bool) (n : ℕ) (s : Slot) (r : Result Unit E) → lookup (nat_eq n) es ≡ Some s → AreKept es c d → length new ≡ length c → OnOk r (new ≡ set c n s.bytes) → OnOk r (b ≡ d) → OnErr r (b ≡ true) → AreKept es new b
-AreKept-tried es c new d b n s (Ok x) h held e written kept doubt = subst (λ l. AreKept es l b) (sym written) (subst (AreKept es (set c n s.bytes)) (sym kept) (AreKept-written es c d n s h held))
-AreKept-tried es c new d b n s (Err x) h held e written kept doubt = subst (AreKept es new) (sym doubt) (AreKept-doubt es c d new e held)
+pub AreKept-tried : {E : Type 0} (es : List (ℕ × Slot)) (c new : List (List ℕ)) (d e : Bool) (n : ℕ) (b : List ℕ) (r : Result Unit E) → IsHeldAs es n b → AreKept es c d → length new ≡ length c → OnOk r (new ≡ set c n b) → OnOk r (e ≡ d) → OnErr r (e ≡ true) → AreKept es new e
+AreKept-tried es c new d e n b (Ok x) told held count written kept doubt = subst (λ l. AreKept es l e) (sym written) (subst (AreKept es (set c n b)) (sym kept) (AreKept-written es c d n b told held))
+AreKept-tried es c new d e n b (Err x) told held count written kept doubt = subst (AreKept es new) (sym doubt) (AreKept-doubt es c d new count held)
 
 pub overlay-tried : {E : Type 0} (es : List (ℕ × Slot)) (c new : List (List ℕ)) (n : ℕ) (s : Slot) (r : Result Unit E) → lookup (nat_eq n) es ≡ Some s → OnOk r (new ≡ set c n s.bytes) → OnOk r (overlay es new ≡ overlay es c)
 overlay-tried es c new n s (Ok x) h written = ap (overlay es) written ∙ overlay-written es c n s h
@@ -128,18 +137,3 @@ pub overlay-other : (es : List (ℕ × Slot)) (c : List (List ℕ)) (n : ℕ) (b
 overlay-other es c n b none low = overlay-put es es c (set c n b) n b (length-set c n b) low
     (λ k _ not. ap (λ x. option_map_or (λ (s : Slot). s.bytes) (lookup (nat_eq k) es) x) (get_or-set_other c n k b [] not))
     (held-none es (set c n b) n none ∙ get_or-set_same c n b [] low)
-
-AreKept-other : (es : List (ℕ × Slot)) (c : List (List ℕ)) (d : Bool) (n : ℕ) (b : List ℕ) → lookup (nat_eq n) es ≡ None → AreKept es c d → AreKept es (set c n b) d
-unfolding AreKept
-AreKept-other es c d n b none held k s e =
-    let was = held k s e in
-    let not : k ≢ n = λ is. let wrong : None ≡ Some s = sym none ∙ ap (λ i. lookup (nat_eq i) es) (sym is) ∙ e in absurd cc in
-    record {
-      inside = omega (arith, length-set c n b, was.inside);
-      size = was.size;
-      clean = λ sure same. was.clean sure same ∙ sym (get_or-set_other c n k b [] not);
-    }
-
-pub AreKept-passed : {E : Type 0} (es : List (ℕ × Slot)) (c new : List (List ℕ)) (d e : Bool) (n : ℕ) (b : List ℕ) (r : Result Unit E) → lookup (nat_eq n) es ≡ None → AreKept es c d → length new ≡ length c → OnOk r (new ≡ set c n b) → OnOk r (e ≡ d) → OnErr r (e ≡ true) → AreKept es new e
-AreKept-passed es c new d e n b (Ok x) none held count written kept doubt = subst (λ l. AreKept es l e) (sym written) (subst (AreKept es (set c n b)) (sym kept) (AreKept-other es c d n b none held))
-AreKept-passed es c new d e n b (Err x) none held count written kept doubt = subst (AreKept es new) (sym doubt) (AreKept-doubt es c d new count held)

@@ -34,11 +34,8 @@ pub low-last : (c : LruCache ℕ Slot) (d : List (List ℕ)) (b : Bool) (k : ℕ
 unfolding AreKept
 low-last c d b k s distinct last held = (held k s (last-lookup c.entries k s distinct last)).inside
 
-pub safe-written : (c : LruCache ℕ Slot) (d new : List (List ℕ)) (k : ℕ) (s : Slot) → length c.entries ≤ c.cap → k < length d → last_entry c.entries ≡ Some (k, s) → new ≡ set d k s.bytes → IsLastSafe c new
-safe-written c d new k s fits low last is = safe-one c new k s fits last (sym (ap (λ l. block_at l k) is ∙ get_or-set_same d k s.bytes [] low))
-
 pub safe-tried : {E : Type 0} (c : LruCache ℕ Slot) (d new : List (List ℕ)) (k : ℕ) (s : Slot) (r : Result Unit E) → length c.entries ≤ c.cap → k < length d → last_entry c.entries ≡ Some (k, s) → OnOk r (new ≡ set d k s.bytes) → OnOk r (IsLastSafe c new)
-safe-tried c d new k s (Ok x) fits low last is = safe-written c d new k s fits low last is
+safe-tried c d new k s (Ok x) fits low last is = safe-one c new k s fits last (sym (ap (λ l. block_at l k) is ∙ get_or-set_same d k s.bytes [] low))
 safe-tried c d new k s (Err x) fits low last is = is
 
 module _ (c : LruCache ℕ Slot) (n : ℕ) (v : Slot) (absent : lookup (nat_eq n) c.entries ≡ None) where

@@ -1,6 +1,6 @@
 -- What the search for the next block to write finds.
 use Rattle.cache.proofs.Common.{◌≡◌, ◌⊎◌, ℕ, ◌≤◌, Bool, true, false, ◌&&◌, ◌||◌, cond, List, [], ◌∷◌, Option, Some, None, min, nat_eq, nat_le, refl}
-use Rattle.cache.proofs.Common.{sym, ap, subst, ◌∙◌, arith, inl, inr, lookup, cases_eq, cases_lt, nat_tests, Slot, is_due, lower, next_of, scan}
+use Rattle.cache.proofs.Common.{sym, ap, subst, ◌∙◌, arith, inl, inr, lookup, cases_eq, cases_lt, and_from, and_parts, false_from_ne_true, le-leb, leb-true, Slot, is_due, lower, next_of, scan}
 use Rattle.cache.proofs.Entries.{lookup-here, lookup-later}
 
 -- a number is there, and not above k
@@ -12,13 +12,10 @@ lower-at : (o : Option ℕ) (n : ℕ) → IsAtMost (lower o n) n
 lower-at None n = omega arith
 lower-at (Some m) n = omega arith
 
-lower-keeps : (o : Option ℕ) (n k : ℕ) → IsAtMost o k → IsAtMost (lower o n) k
-lower-keeps None n k h = absurd h
-lower-keeps (Some m) n k h = omega arith
-
 step-keeps : (b : Bool) (o : Option ℕ) (n k : ℕ) → IsAtMost o k → IsAtMost (cond b (lower o n) o) k
-step-keeps true o n k h = lower-keeps o n k h
 step-keeps false o n k h = h
+step-keeps true None n k h = absurd h
+step-keeps true (Some m) n k h = omega arith
 
 module _ (from : ℕ) (doubt : Bool) where
   scan-keeps : (o : Option ℕ) (es : List (ℕ × Slot)) (k : ℕ) → IsAtMost o k → IsAtMost (scan from doubt o es) k
@@ -42,7 +39,7 @@ module _ (from : ℕ) (doubt : Bool) where
   IsFound es n = (from ≤ n) × ((s : Slot) × (lookup (nat_eq n) es ≡ Some s))
 
   due-from : (b c : Bool) (m : ℕ) → (nat_le from m && b) ≡ true → from ≤ m
-  due-from b c m h = grind (arith, nat_tests)
+  due-from b c m h = leb-true from m (and_parts (nat_le from m) b h).0
 
   step-found : (b : Bool) (o : Option ℕ) (m n : ℕ) → cond b (lower o m) o ≡ Some n → (o ≡ Some n) ⊎ ((b ≡ true) × (m ≡ n))
   step-found false o m n h = inl h
@@ -56,21 +53,12 @@ module _ (from : ℕ) (doubt : Bool) where
   pub scan-found : (o : Option ℕ) (es : List (ℕ × Slot)) (n : ℕ) → scan from doubt o es ≡ Some n → (o ≡ Some n) ⊎ IsFound es n
   unfolding scan
   scan-found o [] n h = inl h
-  scan-found o (e ∷ es) n h = elim (cases_eq n e.0) [
-    | inl is ↦ (elim (scan-found (cond (is_due from doubt e) (lower o e.0) o) es n h) [
-      | inl step ↦ (elim (step-found (is_due from doubt e) o e.0 n step) [
-        | inl before ↦ inl before
-        | inr now ↦ inr (subst (λ i. from ≤ i) now.1 (due-from (e.1.changed || doubt) true e.0 now.0), (e.1, lookup-here e es n is))
-      ])
-      | inr later ↦ inr (later.0, (e.1, lookup-here e es n is))
+  scan-found o (e ∷ es) n h = elim (scan-found (cond (is_due from doubt e) (lower o e.0) o) es n h) [
+    | inl step ↦ (elim (step-found (is_due from doubt e) o e.0 n step) [
+      | inl before ↦ inl before
+      | inr now ↦ inr (subst (λ i. from ≤ i) now.1 (due-from (e.1.changed || doubt) true e.0 now.0), (e.1, lookup-here e es n (sym now.1)))
     ])
-    | inr not ↦ (elim (scan-found (cond (is_due from doubt e) (lower o e.0) o) es n h) [
-      | inl step ↦ (elim (step-found (is_due from doubt e) o e.0 n step) [
-        | inl before ↦ inl before
-        | inr now ↦ absurd (not (sym now.1))
-      ])
-      | inr later ↦ inr (later.0, (later.1.0, lookup-later e es n not ∙ later.1.1))
-    ])
+    | inr later ↦ inr (later.0, (elim (cases_eq n e.0) [ inl is ↦ (e.1, lookup-here e es n is) | inr not ↦ (later.1.0, lookup-later e es n not ∙ later.1.1) ]))
   ]
 
 pub found-of : (from : ℕ) (doubt : Bool) (es : List (ℕ × Slot)) (n : ℕ) → next_of from doubt es ≡ Some n → IsFound from doubt es n
@@ -78,10 +66,5 @@ found-of from doubt es n h = elim (scan-found from doubt None es n h) [ inl wron
 
 -- the device has a block that the search passed over
 pub settled : (from : ℕ) (doubt : Bool) (es : List (ℕ × Slot)) (k : ℕ) (s : Slot) → lookup (nat_eq k) es ≡ Some s → from ≤ k → (IsAtMost (next_of from doubt es) k → ⊥) → (s.changed || doubt) ≡ false
-settled from doubt es k s h late passed = go (s.changed || doubt) refl where
-  reached : nat_le from k ≡ true
-  reached = grind (arith, nat_tests)
-
-  go : (b : Bool) → (s.changed || doubt) ≡ b → b ≡ false
-  go false e = refl
-  go true e = absurd (passed (scan-bounds from doubt None es k s h (ap (λ b. b && (s.changed || doubt)) reached ∙ e)))
+settled from doubt es k s h late passed =
+    false_from_ne_true (s.changed || doubt) (λ due. passed (scan-bounds from doubt None es k s h (and_from (nat_le from k) (s.changed || doubt) (le-leb from k late) due)))

@@ -4,7 +4,7 @@ use Rattle.cache.proofs.Common.{option_copied, option_copied_mut, lookup, set_va
 use Rattle.std.specs.Prelude.{IfOk, MatchResult}
 use borrow.Rule.Slice.PartMut.{put_mid}
 use Rattle.cache.proofs.Entries.{lookup-promoted}
-use Rattle.cache.proofs.Overlays.{AreKept-passed, AreKept-promoted, AreKept-set, at-overlay, held-none, held-some, length-overlay, overlay-other, overlay-promoted, overlay-set}
+use Rattle.cache.proofs.Overlays.{AreKept-promoted, AreKept-set, at-overlay, held-none, held-some, length-overlay, overlay-other, overlay-promoted, overlay-set}
 use Rattle.cache.proofs.Putting.{AreKept-put, overlay-read}
 
 pub blocks-are : {D : Type 0} {x y : Disk D} → x ≡ y → x.blocks ≡ y.blocks
@@ -16,11 +16,15 @@ pub record IsUsed (l : LruCache ℕ Slot) (c : List (List ℕ)) (b : Bool) (bloc
   pub shows : overlay l.entries c ≡ blocks
   pub low : n < length c
 
+-- a block that is shown is the device's
+pub low-shown : (es : List (ℕ × Slot)) (c : List (List ℕ)) {blocks : List (List ℕ)} {n : ℕ} → overlay es c ≡ blocks → n < length blocks → n < length c
+low-shown es c shows low = omega (arith, ap length shows, length-overlay es c)
+
 pub used : (old new : LruCache ℕ Slot) (c : List (List ℕ)) (b : Bool) (blocks : List (List ℕ)) (n : ℕ) → new ≡ lru_cache (promoted (nat_eq n) old.entries) old.cap → AreKept old.entries c b → overlay old.entries c ≡ blocks → n < length blocks → IsUsed new c b blocks n
 used old new c b blocks n is held shows low = record {
   held = subst (λ (l : LruCache ℕ Slot). AreKept l.entries c b) (sym is) (AreKept-promoted old.entries c b n held);
   shows = ap (λ (l : LruCache ℕ Slot). overlay l.entries c) is ∙ overlay-promoted old.entries c n ∙ shows;
-  low = subst (λ k. n < k) (sym (ap length shows) ∙ length-overlay old.entries c) low;
+  low = low-shown old.entries c shows low;
 }
 
 pub unkept : (old new : LruCache ℕ Slot) (r : Option (Bor Slot)) (n : ℕ) → new ≡ lru_cache (promoted (nat_eq n) old.entries) old.cap → option_copied r ≡ lookup (nat_eq n) old.entries → r ≡ None → lookup (nat_eq n) new.entries ≡ None
@@ -28,9 +32,6 @@ unkept old new r n is told none = ap (λ (l : LruCache ℕ Slot). lookup (nat_eq
 
 pub unkept-mut : (old : LruCache ℕ Slot) (r : Option (MutBor Slot)) (n : ℕ) → option_copied_mut r ≡ lookup (nat_eq n) old.entries → r ≡ None → lookup (nat_eq n) old.entries ≡ None
 unkept-mut old r n told none = sym told ∙ ap option_copied_mut none
-
-pub begun : (l : LruCache ℕ Slot) (c : List (List ℕ)) (b : Bool) (blocks : List (List ℕ)) (n : ℕ) → AreKept l.entries c b → overlay l.entries c ≡ blocks → n < length blocks → IsUsed l c b blocks n
-begun l c b blocks n held shows low = record { held = held; shows = shows; low = subst (λ k. n < k) (sym (ap length shows) ∙ length-overlay l.entries c) low }
 
 -- the device was read
 pub moved : (l : LruCache ℕ Slot) (c d : List (List ℕ)) (b : Bool) (blocks : List (List ℕ)) (n : ℕ) → IsUsed l c b blocks n → d ≡ c → IsUsed l d b blocks n
@@ -67,9 +68,7 @@ came-in l new n s (Err e) none did value = (tt, did)
 
 -- what a held block shows
 pub hit : (old : LruCache ℕ Slot) (c blocks : List (List ℕ)) (n : ℕ) (s : Slot) → overlay old.entries c ≡ blocks → n < length blocks → lookup (nat_eq n) old.entries ≡ Some s → s.bytes ≡ block_at blocks n
-hit old c blocks n s shows low is =
-    let below : n < length c = subst (λ k. n < k) (sym (ap length shows) ∙ length-overlay old.entries c) low in
-    sym (held-some old.entries c n s is) ∙ sym (at-overlay old.entries c n below) ∙ ap (λ b. block_at b n) shows
+hit old c blocks n s shows low is = sym (held-some old.entries c n s is) ∙ sym (at-overlay old.entries c n (low-shown old.entries c shows low)) ∙ ap (λ b. block_at b n) shows
 
 pub hit-is : (es : List (ℕ × Slot)) (r : Option (Bor Slot)) (x : Bor Slot) (n : ℕ) → option_copied r ≡ lookup (nat_eq n) es → r ≡ Some x → lookup (nat_eq n) es ≡ Some x.now
 hit-is es r x n told is = sym told ∙ ap option_copied is
@@ -85,32 +84,25 @@ parted at k out block same copied is =
 
 -- bytes are written into a held block
 module _ (old : LruCache ℕ Slot) (c : List (List ℕ)) (b : Bool) (blocks : List (List ℕ)) (n : ℕ) (s t : Slot) (at : ℕ) (bytes : List ℕ) where
-  inside-of : overlay old.entries c ≡ blocks → n < length blocks → n < length c
-  inside-of shows low = subst (λ k. n < k) (sym (ap length shows) ∙ length-overlay old.entries c) low
-
   pub hit-held : AreKept old.entries c b → overlay old.entries c ≡ blocks → n < length blocks → lookup (nat_eq n) old.entries ≡ Some s → t ≡ record { bytes = splice at bytes s.bytes; changed = true } → at + length bytes ≤ 1024 → AreKept (set_value (nat_eq n) (promoted (nat_eq n) old.entries) t) c b
   unfolding AreKept
   hit-held held shows low is now fits =
       let long : length s.bytes ≡ 1024 = (held n s is).size in
       AreKept-set (promoted (nat_eq n) old.entries) c b n s t (lookup-promoted old.entries n n ∙ is) (AreKept-promoted old.entries c b n held) (record {
-        inside = inside-of shows low;
+        inside = low-shown old.entries c shows low;
         size = ap (λ (x : Slot). length x.bytes) now ∙ length-splice at bytes s.bytes (omega (arith, long, fits)) ∙ long;
         clean = λ _ clean. let wrong : true ≡ false = sym (ap (λ (x : Slot). x.changed) now) ∙ clean in absurd cc;
       })
 
   pub hit-shows : overlay old.entries c ≡ blocks → n < length blocks → lookup (nat_eq n) old.entries ≡ Some s → t ≡ record { bytes = splice at bytes s.bytes; changed = true } → overlay (set_value (nat_eq n) (promoted (nat_eq n) old.entries) t) c ≡ set blocks n (splice at bytes (block_at blocks n))
   hit-shows shows low is now =
-      overlay-set (promoted (nat_eq n) old.entries) c n s t (lookup-promoted old.entries n n ∙ is) (inside-of shows low)
+      overlay-set (promoted (nat_eq n) old.entries) c n s t (lookup-promoted old.entries n n ∙ is) (low-shown old.entries c shows low)
       ∙ ap (λ l. set l n t.bytes) (overlay-promoted old.entries c n ∙ shows)
       ∙ ap (set blocks n) (ap (λ (x : Slot). x.bytes) now ∙ ap (splice at bytes) (hit old c blocks n s shows low is))
 
--- a block for which there was no memory is written to the device
-pub refused-held : {E : Type 0} (l : LruCache ℕ Slot) (c d : List (List ℕ)) (b e : Bool) (blocks : List (List ℕ)) (n : ℕ) (x : List ℕ) (r : Result Unit E) → IsUsed l c b blocks n → lookup (nat_eq n) l.entries ≡ None → length d ≡ length c → OnOk r (d ≡ set c n x) → OnOk r (e ≡ b) → OnErr r (e ≡ true) → AreKept l.entries d e
-refused-held l c d b e blocks n x r u none count written kept doubt = AreKept-passed l.entries c d b e n x r none u.held count written kept doubt
-
 -- bytes are written into it, where it isn't held
-module _ (l : LruCache ℕ Slot) (c : List (List ℕ)) (b : Bool) (blocks : List (List ℕ)) (n at k : ℕ) (block bytes new : List ℕ) (u : IsUsed l c b blocks n) (none : lookup (nat_eq n) l.entries ≡ None) where
+module _ (l : LruCache ℕ Slot) (c : List (List ℕ)) (blocks : List (List ℕ)) (n at k : ℕ) (block bytes new : List ℕ) (shows : overlay l.entries c ≡ blocks) (low : n < length blocks) (none : lookup (nat_eq n) l.entries ≡ None) where
   pub refused-shows : {E : Type 0} (d : List (List ℕ)) (r : Result Unit E) → block ≡ block_at blocks n → new ≡ bytes → k ≡ length bytes → OnOk r (d ≡ set c n (put_mid at k block new)) → OnOk r (overlay l.entries d ≡ set blocks n (splice at bytes (block_at blocks n)))
-  refused-shows d (Ok x) read after count written = ap (overlay l.entries) written ∙ overlay-other l.entries c n (put_mid at k block new) none u.low
-      ∙ ap (λ x. set x n (put_mid at k block new)) u.shows ∙ ap (set blocks n) (put_mid-splice at k block new bytes after count ∙ ap (splice at bytes) read)
+  refused-shows d (Ok x) read after count written = ap (overlay l.entries) written ∙ overlay-other l.entries c n (put_mid at k block new) none (low-shown l.entries c shows low)
+      ∙ ap (λ x. set x n (put_mid at k block new)) shows ∙ ap (set blocks n) (put_mid-splice at k block new bytes after count ∙ ap (splice at bytes) read)
   refused-shows d (Err x) read after count written = written
