@@ -67,10 +67,6 @@ releases {files} keeps n node here none =
 
 -- ---- other bytes
 
-alike-bytes : (n links : ℕ) (old new : List ℕ) → length new ≤ longest → IsAlike n (Some (File links old)) (Some (File links new))
-unfolding names_by
-alike-bytes n links old new h = record { names = λ m. refl; wanted = refl; kind = λ l. refl; size = λ s. h; live = inr (λ fs l. l) }
-
 pub emptied-is : (files : Files) (n : ℕ) (node : Node) → slot files n ≡ Some node → emptied node ≡ node → change_node files n emptied ≡ files
 emptied-is files n node here same = ap (λ o. set files n (option_map emptied o)) here ∙ ap (λ x. set files n (Some x)) same ∙ ap (set files n) (sym here) ∙ set-get_or files n None
 
@@ -80,12 +76,13 @@ module _ {files : Files} (keeps : KeepsTree files) where
   changed-same = record { tree = keeps; stays = λ m used. refl; idle = λ m node here none. record { was = node; here = here; none = none } }
 
   pub writes-bytes : (n links : ℕ) (old new : List ℕ) → slot files n ≡ Some (File links old) → length new ≤ longest → Changed files (put files n (File links new))
+  unfolding names_by
   writes-bytes n links old new here size =
       let within = slot-within files n (File links old) here in
       let new_node = Some (File links new) in
       record {
         tree = keeps-put keeps n (File links old) new_node here
-            (λ e. false≢true (ap (λ o. unwrap_or (option_map is_directory o) false) (sym here ∙ ap (slot files) (sym e) ∙ keeps.root.here))) (alike-bytes n links old new size);
+            (λ e. false≢true (ap (λ o. unwrap_or (option_map is_directory o) false) (sym here ∙ ap (slot files) (sym e) ∙ keeps.root.here))) (record { names = λ m. refl; wanted = refl; kind = λ l. refl; size = λ s. size; live = inr (λ fs l. l) });
         stays = λ m used. slot-set (λ o. option_map shape o ≡ option_map shape (slot files m)) files n new_node within m (λ e. sym (ap (option_map shape) (ap (slot files) e ∙ here))) (λ s. refl);
         idle = λ m node at none. slot-set (λ o. o ≡ Some node → WasIdle files m) files n new_node within m
             (λ e is. record { was = File links old; here = ap (slot files) e ∙ here; none = ap links_of (same_Some (File links new) node is) ∙ none }) (λ s is. record { was = node; here = is; none = none }) at;
