@@ -5,10 +5,10 @@ pub use Rattle.std.proofs.lemmas.Bool.{cases_eq, cases_lt, false≢true}
 pub use Rattle.std.proofs.lemmas.Bool.Decides.{nat_tests}
 pub use Rattle.std.proofs.lemmas.List.{ext_get_or, get_or-append_right, get_or-drop, get_or-set_other, get_or-set_same, get_or-take, get_or_append_left, get_or_past}
 pub use Rattle.std.proofs.lemmas.List.{length-append, length-drop, length-set, length-take-le, nil_from_length, set-get_or, set-set, take-append-drop, take_all}
-pub use Rattle.std.specs.Prelude.{IfOk, IsSome, nat_le, OnOk, slice_set, unwrap_or}
+pub use Rattle.std.specs.Prelude.{IfOk, IsSome, nat_le, nat_lt, OnOk, slice_set, unwrap_or}
 pub use Rattle.balloc.proofs.Counting.{free_blocks-give, free_blocks-same, free_blocks-take}
 pub use Rattle.balloc.specs.Bitmap.{SetsBit, Takes}
-pub use Rattle.blockdev.proofs.SpliceLemmas.{get_or-part, get_or-splice_after, get_or-splice_before, get_or-splice_inside, length-part, length-splice, part-splice_apart, part-splice_same, put_mid-splice}
+pub use Rattle.blockdev.proofs.SpliceLemmas.{get_or-part, length-part, part-splice_apart, part-splice_same, put_mid-splice}
 pub use Rattle.blockdev.specs.Blocks.{AreBlocks, block_at}
 pub use Rattle.blockdev.specs.Splice.{part, splice}
 pub use Rattle.byteorder.specs.Endian.{little_bytes, little_number}
@@ -39,7 +39,7 @@ pub use Rattle.inode.specs.Freeing.{Freed, IsOwn}
 pub use Rattle.inode.specs.Looking.{IsTold, node_in, Tells, TellsAny, told}
 pub use Rattle.inode.specs.OnDisk.{HasInode, HasInode-of, IsInHand-of}
 unfoldable pub use Rattle.inode.specs.OnDisk.{IsInHand}
-pub use Rattle.inode.specs.Reading.{HasRead, IsReadInto}
+pub use Rattle.inode.specs.Reading.{IsReadInto}
 pub use Rattle.inode.specs.Store.{Changes, Flushed, Follows, has_failed, IsFull, IsLaidOut, IsNode, IsWhole, Looks, no_node, raw_at, Serves, Store, store_over, Tries, used_by, with_bytes, Writes, WritesFrom, WritesSome}
 pub use Rattle.inode.specs.Writing.{BeginsBlock, Fills, HasIndex, IsHung, IsSameNode, LacksAt, LacksBlocks, LiesInBlock, MayFill, MayHave, Prepares, Puts, PutsBehind, PutsPiece, with_links, WritesAt, WritesFront, Wrote}
 pub use Rattle.inode.specs.declared.InodeStat.{InodeStat}

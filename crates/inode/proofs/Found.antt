@@ -1,14 +1,16 @@
 -- Where a byte of a file stands, as its record tells it.
-use Rattle.inode.proofs.Common.{◌≡◌, ℕ, ◌+◌, ◌-◌, ◌*◌, ◌/◌, ◌%◌, ◌^◌, ◌<◌, ◌≤◌, false, true, List, drop, length, get_or, min, set, ap, sym, subst, ◌∙◌, arith, refl, ext_get_or, get_or-drop, length-drop, length-take-le, nat_tests, block_at, part, splice, length-part, get_or-part, little_number}
-use Rattle.inode.proofs.Common.{number_at, inode_at, inode_of, Asks, Geometry, HasIndex, HasInode, IsInode, IsSound, Fits, LiesInBlock, Prepares, WritesAt, WritesInode, Wrote, HasParts, HasParts-kept, take_all, blocks_for, bytes_of, single, slot_in, slot_of, get_or-bytes_of, length-bytes_of}
+use Rattle.inode.proofs.Common.{◌≡◌, ℕ, ◌+◌, ◌-◌, ◌*◌, ◌/◌, ◌%◌, ◌^◌, ◌<◌, ◌≤◌, false, true, List, drop, length, get_or, min, set, ap, sym, subst, ◌∙◌, arith, refl, get_or-drop, nat_tests, block_at, part, splice, little_number}
+use Rattle.inode.proofs.Common.{number_at, inode_at, inode_of, Asks, Geometry, HasIndex, HasInode, IsInode, IsSound, Fits, LiesInBlock, Prepares, WritesAt, WritesInode, Wrote, HasParts, HasParts-kept, take_all, blocks_for, bytes_of}
+use Rattle.inode.proofs.Common.{single, slot_in, length-bytes_of}
 use Rattle.std.proofs.lemmas.List.{drop-drop}
 use Rattle.byteorder.specs.Numbers.{little_from-lt}
 use Rattle.inode.specs.Finding.{IsFound}
 use Rattle.inode.specs.declared.find.Found.{Found}
 use Rattle.inode.specs.declared.write.Outcome.TheVariants.{Written}
-use Rattle.inode.proofs.Filling.{inside_kept, inside_longer, inside_prepared}
+use Rattle.inode.proofs.Filling.{inside_kept, inside_prepared}
+use Rattle.inode.proofs.Wrote.{Puts-record}
 use Rattle.inode.proofs.Growing.{own_fits, own_length}
-use Rattle.inode.proofs.Reading.{HasInode-read, byte_of-block, found_in, found_own, holder_lies, slot_in_disk, slot_in_hand, slot_whole}
+use Rattle.inode.proofs.Reading.{HasInode-read, block-bytes, found_in, found_own, holder_lies, slot_in_disk, slot_in_hand}
 use Rattle.layout.proofs.NumberLemmas.{get_or-numbers_in, length-numbers_in, number_at-fits}
 use Rattle.unixmodel.specs.Formats.{Format, format}
 use Rattle.unixmodel.specs.Slots as place
@@ -102,20 +104,7 @@ module _ {g : Geometry} {old : List (List ℕ)} {n at : ℕ} {found : Found} (so
 
   -- its bytes are those of the file
   pub found-bytes : (count : ℕ) → at % 1024 + count ≤ 1024 → count ≤ found.size - at → part (at % 1024) count (block_at old found.block) ≡ part at count (bytes_of old n)
-  found-bytes count room within =
-      let block = block_at old (slot_of old n (at / 1024)) in
-      let whole : length block ≡ 1024 = slot_whole found-held refl (at / 1024) found-there in
-      let long : length (bytes_of old n) ≡ (inode_at old n).size = length-bytes_of old n in
-      let size = is.size in
-      let left = length-part (at % 1024) count block (omega (arith, whole, room)) in
-      let right : length (part at count (bytes_of old n)) ≡ count = length-take-le count (drop at (bytes_of old n)) (omega (arith, length-drop at (bytes_of old n), long, within, size)) in
-      ap (λ b. part (at % 1024) count (block_at old b)) (is.block ∙ slot_in_hand found-held refl (at / 1024))
-      ∙ ext_get_or 0 (part (at % 1024) count block) (part at count (bytes_of old n)) (left ∙ sym right) (λ i l.
-      let low : i < count = omega (arith, l, left) in
-      get_or-part (at % 1024) count block i 0 low
-      ∙ sym (byte_of-block old n (at / 1024) (at + i) (at % 1024 + i) (omega (arith, low, room)) (omega (arith, low, room)))
-      ∙ sym (get_or-bytes_of old n (at + i) (omega (arith, low, within, size)))
-      ∙ sym (get_or-part at count (bytes_of old n) i 0 low))
+  found-bytes count room within = rw (is.block ∙ slot_in_hand found-held refl (at / 1024)) (block-bytes found-held at count found-there room (rw (← is.size) within))
 
   pub found-count : (long : ℕ) {rest count : ℕ} → count ≡ min long rest → rest ≡ found.size - at → count ≡ min long (length (bytes_of old n) - at)
   found-count long count_is rest_is = count_is ∙ ap (min long) (rest_is ∙ ap (λ s. s - at) (is.size ∙ sym (length-bytes_of old n)))
@@ -126,23 +115,23 @@ module _ {g : Geometry} {old : List (List ℕ)} {n at : ℕ} {found : Found} (so
   -- bytes are written into it
   module _ {mid : List (List ℕ)} (bytes : List ℕ) (within : at ≤ found.size) (room : at % 1024 + length bytes ≤ 1024) (e : mid ≡ set old found.block (splice (at % 1024) bytes (block_at old found.block))) where
     pub found-kept : at + length bytes ≤ found.size → Wrote g old mid n (splice at bytes (bytes_of old n))
-    found-kept short = (inside_kept bytes found-held is.fits (found-room bytes within room) refl is.block e (subst (λ s. at + length bytes ≤ s) is.size short)).wrote
+    found-kept short = (inside_kept bytes found-held is.fits (found-room bytes within room) refl is.block e (rw (← is.size) short)).wrote
 
-    longer : found.size < at + length bytes → (inode_at old n).size ≤ at + length bytes
-    longer more = let size = is.size in omega (arith, more, size)
+    module _ (more : found.size < at + length bytes) where
+      longer : (inode_at old n).size ≤ at + length bytes
+      longer = let size = is.size in omega (arith, more, size)
 
-    prepared : found.size < at + length bytes → Prepares g old mid n (record (inode_at old n) { size = at + length bytes }) (splice at bytes (bytes_of old n))
-    prepared more = inside_prepared bytes found-held is.fits (found-room bytes within room) refl is.block e (longer more)
+      prepared : Prepares g old mid n (record (inode_at old n) { size = at + length bytes }) (splice at bytes (bytes_of old n))
+      prepared = inside_prepared bytes found-held is.fits (found-room bytes within room) refl is.block e longer
 
-    pub found-parts : found.size < at + length bytes → HasParts g mid
-    found-parts more = let p = prepared more in HasParts-kept sound.parts p.grows.count p.grows.sizes
+      pub found-parts : HasParts g mid
+      found-parts = HasParts-kept sound.parts prepared.grows.count prepared.grows.sizes
 
-    -- and then the size
-    pub found-longer : {new : List (List ℕ)} → found.size < at + length bytes → WritesInode g mid new n (record (inode_at mid n) { size = at + length bytes }) → Wrote g old new n (splice at bytes (bytes_of old n))
-    found-longer {new} more writes =
-        let p = prepared more in
-        let same : inode_at mid n ≡ inode_at old n = ap (λ b. inode_of (part (64 * (n % 16)) 64 b)) (p.grows.front (2 + n / 16) (let high = used.high in omega (arith, high))) in
-        (inside_longer bytes found-held is.fits (found-room bytes within room) refl is.block e (longer more) (subst (λ i. WritesInode g mid new n (record i { size = at + length bytes })) same writes)).wrote
+      -- and then the size
+      pub found-longer : {new : List (List ℕ)} → WritesInode g mid new n (record (inode_at mid n) { size = at + length bytes }) → Wrote g old new n (splice at bytes (bytes_of old n))
+      found-longer {new} writes =
+          let same : inode_at mid n ≡ inode_at old n = ap (λ b. inode_of (part (64 * (n % 16)) 64 b)) (prepared.grows.front (2 + n / 16) (let high = used.high in omega (arith, high))) in
+          (Puts-record found-held prepared (subst (λ i. WritesInode g mid new n (record i { size = at + length bytes })) same writes)).wrote
 
   pub found-writes : {new : List (List ℕ)} (bytes : List ℕ) → at ≤ found.size → at % 1024 + length bytes ≤ 1024 → Wrote g old new n (splice at bytes (bytes_of old n)) → WritesAt g old new n at bytes (Written (length bytes))
   found-writes {new} bytes within room wrote =
@@ -154,7 +143,7 @@ module _ {g : Geometry} {old : List (List ℕ)} {n at : ℕ} {found : Found} (so
         omega (arith, room, there, most, size),
         record {
           within = omega arith;
-          wrote = subst (λ xs. Wrote g old new n (splice at xs (bytes_of old n))) (sym (take_all (length bytes) bytes (omega arith))) wrote;
+          wrote = rw (take_all (length bytes) bytes (omega arith)) wrote;
           few = λ less. absurd (omega (arith, less));
         },
       )

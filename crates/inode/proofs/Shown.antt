@@ -1,7 +1,7 @@
 -- What a sound disk shows of its nodes.
-use Rattle.inode.proofs.Common.{◌≡◌, ◌∙◌, ℕ, Bool, List, None, Option, Some, ap, arith, inl, inr, length, refl, subst, sym, IsSome, false≢true, ◌⊎◌, unwrap_or, cases_eq, cases_lt, get_or_past, Disk, node_in, IsNode, IsWhole, no_node, raw_at}
+use Rattle.inode.proofs.Common.{◌≡◌, ◌∙◌, ℕ, Bool, List, None, Option, Some, ap, arith, inl, inr, length, refl, subst, sym, IsSome, false≢true, ◌⊎◌, unwrap_or, cases_eq, cases_lt, get_or_past, Disk, node_in, IsNode, IsWhole, no_node}
+use Rattle.inode.proofs.Common.{raw_at, store_over, used_by, Geometry, IsInode, RawNode, bytes_of, inode_at, nodes_of, taken_for, IsSound, get_or-nodes_of, length-bytes_of, length-nodes_of, node_at-none, node_at-some, slot}
 use Rattle.std.specs.Prelude.{is_some}
-use Rattle.inode.proofs.Common.{store_over, used_by, Geometry, IsInode, RawNode, bytes_of, inode_at, nodes_of, taken_for, IsSound, get_or-nodes_of, length-bytes_of, length-nodes_of, node_at-none, node_at-some, slot}
 
 module _ (blocks : List (List ℕ)) (inodes n : ℕ) where
   -- an inode in use is a node

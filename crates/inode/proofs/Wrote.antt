@@ -1,7 +1,7 @@
 -- Writes that follow one another, and the record that ends a step.
-use Rattle.inode.proofs.Common.{◌≡◌, ℕ, ◌+◌, ◌*◌, ◌/◌, ◌%◌, ◌<◌, List, length, get_or, None, Some, set, ap, sym, ◌∙◌, arith, refl, subst, set-get_or, set-set, part, bitmap_start_of, DiskInode, Geometry, IsInode}
-use Rattle.inode.proofs.Common.{RawNode, bit_in, bytes_of, free_blocks, inode_at, node_with, nodes_of, taken_for, IsSound, IsSound-replace, get_or-nodes_of, length-bytes_of, node_at-some, nodes_of-changed}
-use Rattle.inode.proofs.Common.{inode_of, Grows, WritesInode, Grows-bytes, Grows-keeps, Grows-node, Grows-sound, free_blocks-same, HasInode-of, IsInHand, IsInHand-of, IsSameNode, Prepares, Puts, Wrote}
+use Rattle.inode.proofs.Common.{◌≡◌, ◌≢◌, ℕ, ◌+◌, ◌*◌, ◌/◌, ◌%◌, List, length, get_or, None, Some, set, ap, sym, ◌∙◌, arith, refl, subst, set-get_or, set-set, part, bitmap_start_of, DiskInode, Geometry, IsInode}
+use Rattle.inode.proofs.Common.{RawNode, bit_in, bytes_of, free_blocks, inode_at, node_with, nodes_of, taken_for, IsSound, IsSound-replace, get_or-nodes_of, length-bytes_of, node_at-some, nodes_of-changed, inode_of}
+use Rattle.inode.proofs.Common.{Grows, HoldsBytes, WritesInode, Grows-bytes, Grows-keeps, Grows-node, Grows-sound, free_blocks-same, HasInode, HasInode-of, IsInHand, IsInHand-of, IsSameNode, Prepares, Puts, Wrote}
 
 -- the same node has the same fields
 pub same_node : {k k' a a' i i' l l' : ℕ} {b b' : List ℕ} → k ≡ k' → a ≡ a' → i ≡ i' → l ≡ l' → b ≡ b'
@@ -32,23 +32,42 @@ Wrote-trans g a b c n xs ys first second =
       balance = omega arith;
     }
 
--- what is prepared is written once the record is
-pub Wrote-record : (g : Geometry) (old mid new : List (List ℕ)) (n : ℕ) (inode : DiskInode) (bytes : List ℕ) → IsSound g old → IsInode old g.inodes n → Prepares g old mid n inode bytes → WritesInode g mid new n inode → Wrote g old new n bytes
-Wrote-record g old mid new n inode bytes sound used prepares writes =
-    let keeps = Grows-keeps g old mid new n inode sound used.low used.high prepares.grows writes in
-    let own : bytes_of new n ≡ bytes = Grows-bytes g old mid new n inode sound used.low used.high prepares.grows writes bytes prepares.holds in
-    let free : free_blocks g new ≡ free_blocks g mid = free_blocks-same g mid new (λ b h. ap (λ c. bit_in c (b % 8192)) (writes.rest (bitmap_start_of g.inodes + b / 8192) (let z = used.high in omega arith))) in
-    let size : taken_for (length bytes) ≡ taken_for inode.size = ap taken_for prepares.holds.size in
-    let before : taken_for (length (bytes_of old n)) ≡ taken_for (inode_at old n).size = ap taken_for (length-bytes_of old n) in
-    let balance = prepares.balance in
+-- a record is written, for which all is there
+pub record Recorded (g : Geometry) (old mid new : List (List ℕ)) (n : ℕ) (inode : DiskInode) (bytes : List ℕ) : Type 0 where
+  pub sound : IsSound g new
+  pub nodes : nodes_of new g.inodes ≡ set (nodes_of old g.inodes) n (Some (node_with inode bytes))
+  pub own : bytes_of new n ≡ bytes
+  pub free : free_blocks g new ≡ free_blocks g mid
+
+pub recorded : {g : Geometry} {old mid new : List (List ℕ)} {n : ℕ} {inode : DiskInode} {bytes : List ℕ} → IsSound g old → IsInode old g.inodes n → Grows g old mid n inode → inode.kind ≢ 0
+    → HoldsBytes mid inode bytes → WritesInode g mid new n inode → Recorded g old mid new n inode bytes
+recorded {g} {old} {mid} {new} {n} {inode} {bytes} sound used grows kind holds writes =
+    let keeps = Grows-keeps g old mid new n inode sound used.low used.high grows writes in
     record {
-      sound = IsSound-replace g old new n sound keeps (Grows-sound g old mid new n inode sound used.low used.high prepares.grows writes);
-      nodes = nodes_of-changed g old new n sound keeps used.high
-          ∙ ap (set (nodes_of old g.inodes) n) (Grows-node g old mid new n inode sound used.low used.high prepares.grows writes bytes (λ z. used.kind (sym prepares.same.kind ∙ z)) prepares.holds)
-          ∙ ap (λ node. set (nodes_of old g.inodes) n (Some node)) (node_with-same (inode_at old n) inode bytes prepares.same);
-      same = subst (IsSameNode (inode_at old n)) (sym writes.here) prepares.same;
-      own = own;
-      balance = omega arith;
+      sound = IsSound-replace g old new n sound keeps (Grows-sound g old mid new n inode sound used.low used.high grows writes);
+      nodes = nodes_of-changed g old new n sound keeps used.high ∙ ap (set (nodes_of old g.inodes) n) (Grows-node g old mid new n inode sound used.low used.high grows writes bytes kind holds);
+      own = Grows-bytes g old mid new n inode sound used.low used.high grows writes bytes holds;
+      free = free_blocks-same g mid new (λ b h. ap (λ c. bit_in c (b % 8192)) (writes.rest (bitmap_start_of g.inodes + b / 8192) (let z = used.high in omega arith)));
+    }
+
+-- what is prepared is written once the record is
+pub Puts-record : {g : Geometry} {old mid new : List (List ℕ)} {n : ℕ} {was inode : DiskInode} {bytes : List ℕ} → HasInode g old n was → Prepares g old mid n inode bytes → WritesInode g mid new n inode → Puts g old new n inode bytes
+Puts-record {old = old} {n = n} {inode = inode} {bytes} held prepares writes =
+    let all = recorded held.sound held.used prepares.grows (λ z. held.used.kind (sym prepares.same.kind ∙ z)) prepares.holds writes in
+    let size = ap taken_for prepares.holds.size in
+    let before = ap taken_for (length-bytes_of old n) in
+    let balance = prepares.balance in
+    let free = all.free in
+    record {
+      wrote = record {
+        sound = all.sound;
+        nodes = rw (← node_with-same (inode_at old n) inode bytes prepares.same) all.nodes;
+        same = rw writes.here prepares.same;
+        own = all.own;
+        balance = omega arith;
+      };
+      record_is = sym writes.here;
+      fits = prepares.fits;
     }
 
 -- nothing is written
@@ -64,19 +83,17 @@ Wrote-nothing g old new n e sound used =
     }
 
 -- a record that stands there already
-pub WritesInode-same : (g : Geometry) (old mid : List (List ℕ)) (n : ℕ) (inode : DiskInode) → n < g.inodes → Grows g old mid n inode → inode ≡ inode_at old n → WritesInode g mid mid n inode
-WritesInode-same g old mid n inode high grows e = record {
+pub WritesInode-same : {g : Geometry} {old mid : List (List ℕ)} {n : ℕ} {inode : DiskInode} → HasInode g old n inode → Grows g old mid n inode → WritesInode g mid mid n inode
+WritesInode-same {n = n} held grows = record {
   count = refl;
   sizes = grows.sizes;
-  here = ap (λ b. inode_of (part (64 * (n % 16)) 64 b)) (grows.front (2 + n / 16) (omega arith)) ∙ sym e;
+  here = ap (λ b. inode_of (part (64 * (n % 16)) 64 b)) (grows.front (2 + n / 16) (let high = held.used.high in omega arith)) ∙ sym held.same;
   others = λ m apart. refl;
   rest = λ k apart. refl;
 }
 
--- the inode stays one
-pub IsInode-same : {old new : List (List ℕ)} {inodes n : ℕ} → IsInode old inodes n → IsSameNode (inode_at old n) (inode_at new n) → IsInode new inodes n
-IsInode-same used same = record { low = used.low; high = used.high; kind = λ z. used.kind (sym same.kind ∙ z) }
-
 -- the record that is written is that of the inode
 pub Puts-held : {g : Geometry} {old new : List (List ℕ)} {n : ℕ} (was : DiskInode) {inode : DiskInode} {bytes : List ℕ} → IsInHand g old n was → Puts g old new n inode bytes → IsInHand g new n inode
-Puts-held was held puts = IsInHand-of (record { sound = puts.wrote.sound; used = IsInode-same (HasInode-of held).used puts.wrote.same; same = puts.record_is })
+Puts-held was held puts =
+    let used = (HasInode-of held).used in
+    IsInHand-of (record { sound = puts.wrote.sound; used = record { low = used.low; high = used.high; kind = λ z. used.kind (sym puts.wrote.same.kind ∙ z) }; same = puts.record_is })

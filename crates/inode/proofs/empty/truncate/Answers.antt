@@ -28,4 +28,4 @@ write_inode-requires g c =
 pub returns : goal.returns
 returns g c =
     let held = HasInode-read c.requires.sound c.requires.inode c.in_ok-inode.ensures.done.told.is in
-    step-last (goes-after c.read_inode.ensures.goes c.give_blocks.ensures.goes) (λ _ writes. Wrote-empty held c.in_ok-inode.ensures.done.same c.in_ok-give_blocks.ensures.done writes) c.write_inode.ensures
+    step-last (goes-after c.read_inode.ensures.goes c.give_blocks.ensures.goes) (λ _ writes. Wrote-empty held (rw (← c.in_ok-inode.ensures.done.same) c.in_ok-give_blocks.ensures.done) writes) c.write_inode.ensures

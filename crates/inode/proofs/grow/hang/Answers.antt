@@ -1,5 +1,4 @@
 use Rattle.inode.proofs.Common.{◌∙◌, ap, arith, refl, set, subst, sym, false≢true, goes-after, goes-stays, step-done, step-failed, Asks, slot_in, DiskInode}
-use Rattle.inode.proofs.Filling.{hung-written}
 use Rattle.inode.proofs.grow.hang.Goals as goal
 
 pub returns-then-is_in_record : goal.returns-then-is_in_record
@@ -24,5 +23,5 @@ returns g c =
     let block = c.in_ok-block.ensures.done.told ∙ ap (slot_in c.args.disk.now.blocks c.args.inode.now) c.holder_of.ensures in
     step-done (goes-after c.block_number.ensures.goes c.write.ensures.goes) (record {
       in_own = λ own. absurd (false≢true (sym (sym c.is_in_record.ensures ∙ c.if-is_in_record.false) ∙ own));
-      in_block = λ _. (c.in_ok-write.ensures.done ∙ hung-written c.in_ok-block.ensures.done.same block c.place_of.ensures.place c.number_bytes.ensures, c.with_size.ensures);
+      in_block = λ _. (rw (c.in_ok-block.ensures.done.same, block, c.place_of.ensures.place, c.number_bytes.ensures) at c.in_ok-write.ensures.done, c.with_size.ensures);
     })

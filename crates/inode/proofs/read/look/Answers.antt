@@ -1,5 +1,5 @@
 use Rattle.inode.proofs.Common.{ap, arith, refl, sym, ◌∙◌, goes-stays, read-done, step-failed, DiskInode}
-use Rattle.inode.proofs.Looking.{told-inode, used-inode}
+use Rattle.inode.proofs.Reading.{told-inode, used-inode}
 use Rattle.inode.proofs.read.look.Goals as goal
 use Rattle.inode.proofs.read.look.Goals.{then-number-eq0-via-else-number-eq0+then-number-geometry, then-number-eq0-via-then-number-eq0}
 
@@ -20,4 +20,4 @@ pub returns : goal.returns
 returns g c =
     let is = c.in_ok-inode.ensures.done.told.is in
     let used = used-inode c.if-number-eq0.false c.if-number-geometry.false is c.if-inode-eq0.false in
-    read-done c.read_inode.ensures.goes c.in_ok-inode.ensures.done.same (used, told-inode c.requires used is c.told.ensures)
+    read-done c.read_inode.ensures.goes c.in_ok-inode.ensures.done.same (used, told-inode c.args.disk.now.blocks c.args.number is c.told.ensures)

@@ -1,5 +1,5 @@
-use Rattle.inode.proofs.Common.{◌+◌, ◌/◌, ◌∙◌, ap, arith, length, refl, block_at, goes-after, goes-stays, goes-twice, read-done, step-failed}
-use Rattle.inode.proofs.Reading.{HasInode-read, HasRead-chunk, HasRead-end, chunk_below, chunk_within, count_of, index_in_disk, slot_asked, slot_block, slot_in_disk}
+use Rattle.inode.proofs.Common.{◌≡◌, ◌+◌, ◌/◌, ◌∙◌, ap, arith, length, refl, block_at, goes-after, goes-stays, goes-twice, read-done, step-failed}
+use Rattle.inode.proofs.Reading.{HasInode-read, chunk_below, chunk_within, count_of, index_in_disk, read-chunk, slot_asked, slot_block, slot_in_disk}
 use Rattle.inode.proofs.read.read_blocks.Goals as goal
 
 pub read_inode-requires : goal.read_inode-requires
@@ -13,7 +13,7 @@ chunk-init g c = record {
   disk = c.in_ok-inode.ensures.done.same;
   goes = c.read_inode.ensures.goes;
   within = omega arith;
-  has_read = record { length_same = refl; front = λ i h. absurd (omega (arith, h)); rest = λ i h. refl };
+  has_read = refl;
 }
 
 -- ---- a block
@@ -49,7 +49,7 @@ chunk-preserved g c =
       disk = c.in_ok-read_part.ensures.done.same ∙ c.in_ok-source.ensures.done.same ∙ c.chunk.invariant.disk;
       goes = goes-twice c.chunk.invariant.goes c.block_number.ensures.goes c.read_part.ensures.goes;
       within = chunk_within held c.args.at (length c.args.out.now) c.min-count.ensures c.saturating_sub.ensures c.chunk-test.true c.min-len.ensures;
-      has_read = HasRead-chunk held c.args.at (length c.args.out.now) c.min-count.ensures c.saturating_sub.ensures c.chunk-test.true c.min-len.ensures
+      has_read = read-chunk held c.args.at (length c.args.out.now) c.min-count.ensures c.saturating_sub.ensures c.chunk-test.true c.min-len.ensures
           c.args.out.now c.chunk.out _ c.read_part.new.out refl c.chunk.invariant.has_read block c.in_ok-read_part.ensures.done.told;
     }
 
@@ -58,7 +58,8 @@ chunk-preserved g c =
 pub returns : goal.returns
 returns g c =
     let held = HasInode-read c.requires.sound c.requires.inode c.in_ok-inode.ensures.done.told.is in
+    let all : c.chunk.done ≡ c.min-count.result = omega (arith, c.chunk-test.false, c.chunk.invariant.within) in
     read-done c.chunk.invariant.goes c.chunk.invariant.disk (record {
       count = count_of held c.args.at (length c.args.out.now) c.min-count.ensures c.saturating_sub.ensures;
-      read = HasRead-end held c.args.at (length c.args.out.now) c.min-count.ensures c.saturating_sub.ensures c.args.out.now c.chunk.out refl c.chunk.invariant.within c.chunk-test.false c.chunk.invariant.has_read;
+      read = rw (← all) c.chunk.invariant.has_read;
     })

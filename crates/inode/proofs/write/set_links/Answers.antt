@@ -1,5 +1,5 @@
 use Rattle.cache.proofs.Ending.{goes-stays, step-failed, step-last}
-use Rattle.inode.proofs.Filling.{linked_free, linked_nodes, linked_sound}
+use Rattle.inode.proofs.Filling.{linked}
 use Rattle.inode.proofs.Reading.{HasInode-read}
 use Rattle.inode.proofs.write.set_links.Goals as goal
 
@@ -18,9 +18,4 @@ write_inode-requires-clause-high g c = c.requires.inode.high
 pub returns : goal.returns
 returns g c =
     let held = HasInode-read c.requires.sound c.requires.inode c.in_ok-inode.ensures.done.told.is in
-    let same = c.in_ok-inode.ensures.done.same in
-    step-last c.read_inode.ensures.goes (λ _ writes. record {
-      sound = linked_sound c.args.links held same writes;
-      nodes = linked_nodes c.args.links held same writes;
-      free = linked_free c.args.links held same writes;
-    }) c.write_inode.ensures
+    step-last c.read_inode.ensures.goes (λ _ writes. linked c.args.links held c.in_ok-inode.ensures.done.same writes) c.write_inode.ensures
