@@ -1,8 +1,4 @@
-use Rattle.std.specs.Prelude.{◌≡◌, IfSome, Option}
-use Rattle.std.proofs.Common.{sym, subst, ◌∙◌}
-use Rattle.unixmodel.specs.Spell.{spell, Fits}
-use Rattle.unixmodel.specs.Words.{instruction_of}
-use Rattle.unixmodel.specs.declared.instr.Instr.{Instr}
+use Rattle.isa.proofs.Common.{◌≡◌, IfSome, Option, sym, subst, ◌∙◌, spell, Fits, instruction_of, Instr}
 use Rattle.isa.proofs.Member.{agrees}
 use Rattle.isa.proofs.decoder.decode.Goals as goal
 
