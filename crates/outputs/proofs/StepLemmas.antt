@@ -15,13 +15,6 @@ known-then f (Some a) None z p q = absurd p
 known-then f (Some a) (Some b) None p q = absurd q
 known-then f (Some a) (Some b) (Some c) p q = f a b c p q
 
-pub same-then : (relation : Held → Held → Type 0) → ((a b c : Held) → IsSame a b → relation b c → relation a c) → (x y z : Option Held) → Known IsSame x y → Known relation y z → Known relation x z
-same-then relation f = known-then f
-
-pub known-same : (x : Option Held) → Known IsSame x x
-known-same None = tt
-known-same (Some a) = λ n. refl
-
 pub known-synced : (x y : Option Held) → Known Syncs x y → IsSynced y
 known-synced None None p = tt
 known-synced None (Some b) p = absurd p
@@ -34,14 +27,9 @@ same-same a b c p q = λ n. q n ∙ p n
 pub but-same : (name : List ℕ) (a b c : Held) → IsBut name a b → IsSame b c → IsBut name a c
 but-same name a b c p q = λ n other. q n ∙ p n other
 
-pub same-sets : (name : List ℕ) (held : Option (List ℕ)) (a b c : Held) → IsSame a b → Sets name held b c → Sets name held a c
-same-sets name held a b c p q = record { at = q.at; others = λ n other. q.others n other ∙ p n }
-
 pub same-keeps : (name : List ℕ) (fault : PutFault) (a b c : Held) → IsSame a b → Keeps name fault b c → Keeps name fault a c
-same-keeps name fault.NoMemory a b c p q = same-same a b c p q
-same-keeps name fault.Denied a b c p q = same-same a b c p q
-same-keeps name fault.Failed a b c p q = same-same a b c p q
 same-keeps name fault.Left a b c p q = (q.0, (q.1.0, λ n other. q.1.1 n other ∙ p n))
+same-keeps name _ a b c p q = same-same a b c p q
 
 pub on-err : {T E P : Type 0} (r : Result T E) → P → OnErr r P
 on-err (Ok x) p = tt
@@ -89,17 +77,10 @@ removed begun a b c d begins spoils sets = λ n. as-before begun a d n (bytes_eq
     (λ fresh. sets.others n fresh ∙ spoiled begun a b c begins spoils n fresh)
 
 pub given-up : (begun path : List ℕ) (fault : PutFault) → begun ≢ path → (a b c d : Held) → Begins begun a b → Spoils b c → GivesUp begun fault c d → Keeps path fault a d
-given-up begun path fault.NoMemory apart a b c d begins spoils gone = removed begun a b c d begins spoils gone
-given-up begun path fault.Denied apart a b c d begins spoils gone = removed begun a b c d begins spoils gone
-given-up begun path fault.Failed apart a b c d begins spoils gone = removed begun a b c d begins spoils gone
 given-up begun path fault.Left apart a b c d begins spoils gone = (begun, (apart, but-same begun a c d (spoiled begun a b c begins spoils) gone))
+given-up begun path _ apart a b c d begins spoils gone = removed begun a b c d begins spoils gone
 
 pub known-given-up : (begun path : List ℕ) (fault : PutFault) → begun ≢ path → (x y z w : Option Held) → Known (Begins begun) x y → Known Spoils y z → Known (GivesUp begun fault) z w → Known (Keeps path fault) x w
-known-given-up begun path fault apart None None None None p q r = tt
-known-given-up begun path fault apart None None None (Some d) p q r = absurd r
-known-given-up begun path fault apart None None (Some c) w p q r = absurd q
-known-given-up begun path fault apart None (Some b) z w p q r = absurd p
-known-given-up begun path fault apart (Some a) None z w p q r = absurd p
-known-given-up begun path fault apart (Some a) (Some b) None w p q r = absurd q
-known-given-up begun path fault apart (Some a) (Some b) (Some c) None p q r = absurd r
-known-given-up begun path fault apart (Some a) (Some b) (Some c) (Some d) p q r = given-up begun path fault apart a b c d p q r
+known-given-up begun path fault apart x y z w p q r =
+    let both : Known (λ a c. (b : Held) × Begins begun a b × Spoils b c) x z = known-then (λ a b c begins spoils. (b, begins, spoils)) x y z p q in
+    known-then (λ a c d both gone. given-up begun path fault apart a both.0 c d both.1 both.2 gone) x z w both r
