@@ -124,7 +124,8 @@ AreKept-doubt es c d new e held k s h =
     record { inside = omega (arith, was.inside); size = was.size; clean = λ sure _. absurd cc }
 
 -- what the write of a held block leaves, whether it was done or not
-pub AreKept-tried : {E : Type 0} (es : List (ℕ × Slot)) (c new : List (List ℕ)) (d e : Bool) (n : ℕ) (b : List ℕ) (r : Result Unit E) → IsHeldAs es n b → AreKept es c d → length new ≡ length c → OnOk r (new ≡ set c n b) → OnOk r (e ≡ d) → OnErr r (e ≡ true) → AreKept es new e
+pub AreKept-tried : {E : Type 0} (es : List (ℕ × Slot)) (c new : List (List ℕ)) (d e : Bool) (n : ℕ) (b : List ℕ) (r : Result Unit E) → IsHeldAs es n b → AreKept es c d → length new ≡ length c
+    → OnOk r (new ≡ set c n b) → OnOk r (e ≡ d) → OnErr r (e ≡ true) → AreKept es new e
 AreKept-tried es c new d e n b (Ok x) told held count written kept doubt = subst (λ l. AreKept es l e) (sym written) (subst (AreKept es (set c n b)) (sym kept) (AreKept-written es c d n b told held))
 AreKept-tried es c new d e n b (Err x) told held count written kept doubt = subst (AreKept es new) (sym doubt) (AreKept-doubt es c d new count held)
 

@@ -30,9 +30,6 @@ used old new c b blocks n is held shows low = record {
 pub unkept : (old new : LruCache ℕ Slot) (r : Option (Bor Slot)) (n : ℕ) → new ≡ lru_cache (promoted (nat_eq n) old.entries) old.cap → option_copied r ≡ lookup (nat_eq n) old.entries → r ≡ None → lookup (nat_eq n) new.entries ≡ None
 unkept old new r n is told none = ap (λ (l : LruCache ℕ Slot). lookup (nat_eq n) l.entries) is ∙ lookup-promoted old.entries n n ∙ sym told ∙ ap option_copied none
 
-pub unkept-mut : (old : LruCache ℕ Slot) (r : Option (MutBor Slot)) (n : ℕ) → option_copied_mut r ≡ lookup (nat_eq n) old.entries → r ≡ None → lookup (nat_eq n) old.entries ≡ None
-unkept-mut old r n told none = sym told ∙ ap option_copied_mut none
-
 -- the device was read
 pub moved : (l : LruCache ℕ Slot) (c d : List (List ℕ)) (b : Bool) (blocks : List (List ℕ)) (n : ℕ) → IsUsed l c b blocks n → d ≡ c → IsUsed l d b blocks n
 moved l c d b blocks n u same = subst (λ x. IsUsed l x b blocks n) (sym same) u
@@ -73,8 +70,9 @@ hit old c blocks n s shows low is = sym (held-some old.entries c n s is) ∙ sym
 pub hit-is : (es : List (ℕ × Slot)) (r : Option (Bor Slot)) (x : Bor Slot) (n : ℕ) → option_copied r ≡ lookup (nat_eq n) es → r ≡ Some x → lookup (nat_eq n) es ≡ Some x.now
 hit-is es r x n told is = sym told ∙ ap option_copied is
 
-pub hit-mut : (es : List (ℕ × Slot)) (r : Option (MutBor Slot)) (x : MutBor Slot) (n : ℕ) → option_copied_mut r ≡ lookup (nat_eq n) es → r ≡ Some x → lookup (nat_eq n) es ≡ Some x.now
-hit-mut es r x n told is = sym told ∙ ap option_copied_mut is
+-- what a look-up for a change gave
+pub got-mut : (es : List (ℕ × Slot)) (n : ℕ) {r o : Option (MutBor Slot)} → option_copied_mut r ≡ lookup (nat_eq n) es → r ≡ o → lookup (nat_eq n) es ≡ option_copied_mut o
+got-mut es n told is = sym told ∙ ap option_copied_mut is
 
 -- bytes that are copied out of a block
 pub parted : (at k : ℕ) (out block same : List ℕ) → out ≡ take (at + k - at) (drop at block) → block ≡ same → out ≡ part at k same
