@@ -5,56 +5,52 @@ use Rattle.balloc.proofs.Common.{bitmask_splat, length-chunk, none_from_empty_ma
 use lib.Count.{count_trailing_zeros}
 use Rattle.std.specs.List.{prefix_len, range_with_len}
 use Rattle.std.specs.Simd.Lanes.{chunk, mask_l, top, zip2}
+use Rattle.std.proofs.lemmas.Bool.{both_ways, cases_Bool, cases_order}
 use Rattle.std.proofs.lemmas.Option.{none-some, same_Some}
+use Rattle.std.proofs.Common.{subst, ◌⊎◌}
 
 -- ---- the first number of a range that passes
 
 module _ (p : ℕ → Bool) where
-  find_first : (n a i : ℕ) → a ≤ i → i < a + n → p i ≡ true → ((k : ℕ) → a ≤ k → k < i → p k ≡ false) → find p (range_with_len a n) ≡ Some i
-  find_first zero a i low high here before = absurd (omega arith)
-  find_first (suc n) a i low high here before = elim (cases_eq a i) [
-    | inl e ↦ cond-true (p a) (Some a) (find p (range_with_len (a + 1) n)) (ap p e ∙ here) ∙ ap Some e
-    | inr t ↦ cond-false (p a) (Some a) (find p (range_with_len (a + 1) n)) (before a (omega arith) (omega arith))
-        ∙ find_first n (a + 1) i (omega arith) (omega arith) here (λ k l h. before k (omega arith) h)
-  ]
-
-  find_none : (n a : ℕ) → ((k : ℕ) → a ≤ k → k < a + n → p k ≡ false) → find p (range_with_len a n) ≡ None
-  find_none zero a none = refl
-  find_none (suc n) a none =
-      cond-false (p a) (Some a) (find p (range_with_len (a + 1) n)) (none a (omega arith) (omega arith))
-      ∙ find_none n (a + 1) (λ k l h. none k (omega arith) (omega arith))
-
-  -- and back
   record IsFirst (n a i : ℕ) : Type 0 where
     low : a ≤ i
     high : i < a + n
     here : p i ≡ true
     before : (k : ℕ) → a ≤ k → k < i → p k ≡ false
 
+  looked : (n a : ℕ) → ((i : ℕ) × (find p (range_with_len a n) ≡ Some i) × IsFirst n a i) ⊎ ((find p (range_with_len a n) ≡ None) × ((k : ℕ) → a ≤ k → k < a + n → p k ≡ false))
+  looked zero a = inr (refl, λ k low high. absurd (omega arith))
+  looked (suc n) a = elim (cases_Bool (p a)) [
+    | inl e ↦ inl (a, cond-true (p a) (Some a) (find p (range_with_len (a + 1) n)) e, record { low = omega arith; high = omega arith; here = e; before = λ k l m. absurd (omega arith) })
+    | inr e ↦ (elim (looked n (a + 1)) [
+      | inl (i, is, first) ↦ inl (i, cond-false (p a) (Some a) (find p (range_with_len (a + 1) n)) e ∙ is, record {
+        low = let low = first.low in omega arith;
+        high = let high = first.high in omega arith;
+        here = first.here;
+        before = λ k l m. elim (cases_eq k a) [ inl s ↦ ap p s ∙ e | inr t ↦ first.before k (omega arith) m ];
+      })
+      | inr (is, none) ↦ inr (cond-false (p a) (Some a) (find p (range_with_len (a + 1) n)) e ∙ is, λ k l m. elim (cases_eq k a) [ inl s ↦ ap p s ∙ e | inr t ↦ none k (omega arith) (omega arith) ])
+    ])
+  ]
+
+  find_first : (n a i : ℕ) → a ≤ i → i < a + n → p i ≡ true → ((k : ℕ) → a ≤ k → k < i → p k ≡ false) → find p (range_with_len a n) ≡ Some i
+  find_first n a i low high here before = elim (looked n a) [
+    | inr (is, none) ↦ absurd (both_ways (p i) (none i low high) here)
+    | inl (j, is, first) ↦ (elim (cases_order i j) [
+      | inl e ↦ is ∙ ap Some (sym e)
+      | inr apart ↦ absurd (elim apart [ inl l ↦ both_ways (p i) (first.before i low l) here | inr l ↦ both_ways (p j) (before j first.low l) first.here ])
+    ])
+  ]
+
+  find_none : (n a : ℕ) → ((k : ℕ) → a ≤ k → k < a + n → p k ≡ false) → find p (range_with_len a n) ≡ None
+  find_none n a none = elim (looked n a) [ inl (j, is, first) ↦ absurd (both_ways (p j) (none j first.low first.high) first.here) | inr (is, all) ↦ is ]
+
+  -- and back
   first_found : (n a i : ℕ) → find p (range_with_len a n) ≡ Some i → IsFirst n a i
-  first_found zero a i h = absurd (none-some i h)
-  first_found (suc n) a i h = go (p a) (first_found n (a + 1) i) refl h where
-    go : (b : Bool) → (find p (range_with_len (a + 1) n) ≡ Some i → IsFirst n (a + 1) i) → p a ≡ b → cond b (Some a) (find p (range_with_len (a + 1) n)) ≡ Some i → IsFirst (suc n) a i
-    go true further e is =
-        let same : a ≡ i = same_Some a i is in
-        record { low = omega arith; high = omega arith; here = ap p (sym same) ∙ e; before = λ k l m. absurd (omega arith) }
-    go false further e is =
-        let rest = further is in
-        let low = rest.low in
-        let high = rest.high in
-        record {
-          low = omega arith;
-          high = omega arith;
-          here = rest.here;
-          before = λ k l m. elim (cases_eq k a) [ inl s ↦ ap p s ∙ e | inr t ↦ rest.before k (omega arith) m ];
-        }
+  first_found n a i h = elim (looked n a) [ inl (j, is, first) ↦ subst (IsFirst n a) (same_Some j i (sym is ∙ h)) first | inr (is, none) ↦ absurd (none-some i (sym is ∙ h)) ]
 
   none_found : (n a : ℕ) → find p (range_with_len a n) ≡ None → (k : ℕ) → a ≤ k → k < a + n → p k ≡ false
-  none_found zero a h k low high = absurd (omega arith)
-  none_found (suc n) a h k low high = go (p a) (λ is. none_found n (a + 1) is k) refl h where
-    go : (b : Bool) → (find p (range_with_len (a + 1) n) ≡ None → a + 1 ≤ k → k < a + 1 + n → p k ≡ false) → p a ≡ b → cond b (Some a) (find p (range_with_len (a + 1) n)) ≡ None → p k ≡ false
-    go true further e is = absurd (none-some a (sym is))
-    go false further e is = elim (cases_eq k a) [ inl s ↦ ap p s ∙ e | inr t ↦ further is (omega arith) (omega arith) ]
+  none_found n a h = elim (looked n a) [ inl (j, is, first) ↦ absurd (none-some j (sym h ∙ is)) | inr (is, none) ↦ none ]
 
 -- ---- the lowest clear bit
 
@@ -106,9 +102,6 @@ module _ (bytes : List ℕ) (room : 64 ≤ length bytes) where
   full_of_other : (k : ℕ) → is_other (get_or bytes k 0) ≡ false → get_or bytes k 0 ≡ 255
   full_of_other k h = eqb-true (get_or bytes k 0) 255 (not-false (eqb (get_or bytes k 0) 255) h)
 
-  not_full_of_other : (k : ℕ) → is_other (get_or bytes k 0) ≡ true → get_or bytes k 0 ≢ 255
-  not_full_of_other k h = eqb-false (get_or bytes k 0) 255 (not-true (eqb (get_or bytes k 0) 255) h)
-
   pub all_full : mask ≡ 0 → (k : ℕ) → k < 64 → get_or bytes k 0 ≡ 255
   all_full none k h = full_of_other k (none_from_empty_mask is_other bytes 0 64 0 room (sym mask-is ∙ none) k (omega arith) h)
 
@@ -121,7 +114,8 @@ module _ (bytes : List ℕ) (room : 64 ≤ length bytes) where
   pub not_full_at : 0 < mask → count_trailing_zeros 64 mask < 64 → get_or bytes (count_trailing_zeros 64 mask) 0 ≢ 255
   not_full_at some h =
       let first : 0 + count_trailing_zeros 64 mask ≡ count_trailing_zeros 64 mask = omega arith in
-      not_full_of_other (count_trailing_zeros 64 mask) (ap (λ k. is_other (get_or bytes k 0)) (sym first) ∙ run_in_chunk_stops is_other bytes 0 64 (count_trailing_zeros 64 mask) 0 room (counted some) h)
+      let other = ap (λ k. is_other (get_or bytes k 0)) (sym first) ∙ run_in_chunk_stops is_other bytes 0 64 (count_trailing_zeros 64 mask) 0 room (counted some) h in
+      eqb-false (get_or bytes (count_trailing_zeros 64 mask) 0) 255 (not-true (eqb (get_or bytes (count_trailing_zeros 64 mask) 0) 255) other)
 
 -- so many full bytes stand from byte i / 8 on
 pub full_set : (block : List ℕ) (i n : ℕ) → i % 8 ≡ 0 → ((k : ℕ) → k < n → get_or block (i / 8 + k) 0 ≡ 255) → (k : ℕ) → i ≤ k → k < i + 8 * n → bit_in block k ≡ 1

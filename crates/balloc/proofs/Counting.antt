@@ -1,6 +1,7 @@
 -- How a change of one bit changes the count of free blocks.
 use Rattle.balloc.proofs.Common.{set, drop, ap, sym, ◌∙◌, arith, refl, add-zero, cond, ◌≡◌, ℕ, ◌+◌, ◌-◌, ◌<◌, ◌≤◌, ◌==◌, List, [], ◌∷◌, length, get_or}
 use Rattle.balloc.proofs.Common.{count_by, zero, suc, ext_get_or, bitmap_start_of, data_start_of, Geometry, set_from, IsFree, bit_of, data_bits, free_blocks, SetsBit}
+use Rattle.std.proofs.lemmas.List.{drop_all}
 use Rattle.std.proofs.lemmas.List.Sums.{sum_by-cons, sum_by-set}
 use Rattle.std.proofs.lemmas.List.FromFn.{length-map-range_with_len, get_or-map-range_with_len}
 
@@ -44,11 +45,8 @@ free_blocks-give g old new b low high one sets =
 abbrev pub zeros_in : List ℕ → ℕ
 zeros_in bits = count_by (λ x. x == 0) bits
 
-zeros-cons : (x : ℕ) (xs : List ℕ) → zeros_in (x ∷ xs) ≡ cond (x == 0) 1 0 + zeros_in xs
-zeros-cons x xs = sum_by-cons (λ y. cond (y == 0) 1 0) x xs
-
 pub zeros-first : (x v : ℕ) (xs : List ℕ) → x ≡ v → zeros_in (x ∷ xs) ≡ cond (v == 0) 1 0 + zeros_in xs
-zeros-first x v xs e = zeros-cons x xs ∙ ap (λ y. cond {A = ℕ} (y == 0) 1 0 + zeros_in xs) e
+zeros-first x v xs e = sum_by-cons (λ y. cond (y == 0) 1 0) x xs ∙ ap (λ y. cond {A = ℕ} (y == 0) 1 0 + zeros_in xs) e
 
 -- places that are set count nothing
 pub zeros-skip : (xs : List ℕ) (i j : ℕ) → i ≤ j → j ≤ length xs → ((k : ℕ) → i ≤ k → k < j → get_or xs k 0 ≡ 1) → zeros_in (drop i xs) ≡ zeros_in (drop j xs)
@@ -60,17 +58,13 @@ zeros-skip (x ∷ xs) zero (suc j) low high ones =
 zeros-skip (x ∷ xs) (suc i) (suc j) low high ones = zeros-skip xs i j (omega arith) (omega arith) (λ k l h. ones (suc k) (omega arith) (omega arith))
 
 pub zeros-past : (xs : List ℕ) → zeros_in (drop (length xs) xs) ≡ 0
-zeros-past [] = refl
-zeros-past (x ∷ xs) = zeros-past xs
-
-none_zero : (xs : List ℕ) → ((i : ℕ) → i < length xs → get_or xs i 0 ≡ 1) → zeros_in xs ≡ 0
-none_zero xs h = zeros-skip xs 0 (length xs) (omega arith) (omega arith) (λ k l m. h k m) ∙ zeros-past xs
+zeros-past xs = ap zeros_in (drop_all (length xs) xs (omega arith))
 
 -- where each bit is set nothing is free
 pub free_blocks-none : (g : Geometry) (blocks : List (List ℕ)) → ((b : ℕ) → data_start_of g.size g.inodes ≤ b → b < g.size → bit_of blocks (bitmap_start_of g.inodes) b ≡ 1) → free_blocks g blocks ≡ 0
-free_blocks-none g blocks all = none_zero (data_bits g blocks) (λ i l.
+free_blocks-none g blocks all = zeros-skip (data_bits g blocks) 0 (length (data_bits g blocks)) (omega arith) (omega arith) (λ i _ l.
     let within : i < g.size - data_start_of g.size g.inodes = omega (arith, length-data_bits g blocks) in
-    get_or-data_bits g blocks i within ∙ all (data_start_of g.size g.inodes + i) (omega arith) (omega arith))
+    get_or-data_bits g blocks i within ∙ all (data_start_of g.size g.inodes + i) (omega arith) (omega arith)) ∙ zeros-past (data_bits g blocks)
 
 -- the same bits
 pub free_blocks-same : (g : Geometry) (old new : List (List ℕ)) → ((b : ℕ) → b < g.size → bit_of new (bitmap_start_of g.inodes) b ≡ bit_of old (bitmap_start_of g.inodes) b) → free_blocks g new ≡ free_blocks g old

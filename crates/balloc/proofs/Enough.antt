@@ -1,13 +1,10 @@
 -- Free blocks are counted from a place on.
 use Rattle.balloc.proofs.Common.{◌≡◌, ℕ, ◌+◌, ◌-◌, ◌<◌, ◌≤◌, List, [], ◌∷◌, false, length, get_or, drop, zero, suc, ap, sym, ◌∙◌, arith, nat_le, lt-leb, bitmap_start_of, data_start_of, Geometry, bit_of, data_bits, IsFirstFree, IsFullFrom}
+use Rattle.std.proofs.lemmas.List.{drop_more}
 use Rattle.balloc.proofs.Counting.{get_or-data_bits, length-data_bits, zeros-first, zeros-past, zeros-skip, zeros_in}
 
 zeros-here : (xs : List ℕ) (j : ℕ) → j < length xs → get_or xs j 0 ≡ 0 → zeros_in (drop j xs) ≡ 1 + zeros_in (drop (j + 1) xs)
-zeros-here [] j high e = absurd (omega arith)
-zeros-here (x ∷ xs) zero high e = zeros-first x 0 xs e
-zeros-here (x ∷ xs) (suc j) high e =
-    let next : suc (j + 1) ≡ suc j + 1 = omega arith in
-    zeros-here xs j (omega arith) e ∙ ap (λ k. 1 + zeros_in (drop k (x ∷ xs))) next
+zeros-here xs j high e = ap zeros_in (drop_more xs j 0 high) ∙ zeros-first (get_or xs j 0) 0 (drop (j + 1) xs) e
 
 -- how many blocks are free from this one on
 abbrev pub free_from : Geometry → List (List ℕ) → ℕ → ℕ

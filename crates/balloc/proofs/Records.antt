@@ -58,7 +58,3 @@ recorded_fresh {g} {old} {new} {n} {kind} {major} {minor} {links} sound unused s
 pub recorded_given : {g : Geometry} {old new : List (List ℕ)} {n : ℕ} → IsSound g old → IsInode old g.inodes n → (inode_at old n).size ≡ 0 → WritesInode g old new n (fresh_inode 0 0 0 0) → SetsNode g old new n None
 recorded_given {g} {old} {new} {n} sound inode empty writes =
     recorded_none g old new n (fresh_inode 0 0 0 0) sound inode.low inode.high (λ j u. asks_none (inode_at old n).size j empty u.slot) (omega arith) refl (zero_at 13) writes refl
-
--- the lowest free one is free
-pub unused-lowest : {g : Geometry} {blocks : List (List ℕ)} {n : ℕ} → IsLowestUnused g blocks n → IsUnused g blocks n
-unused-lowest lowest = record { low = lowest.low; high = lowest.high; unused = lowest.unused }

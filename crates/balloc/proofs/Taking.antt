@@ -2,9 +2,6 @@
 use Rattle.balloc.proofs.Common.{◌≡◌, ℕ, ◌+◌, List, subst, arith, data_start_of, Geometry, free_blocks, IsFirstFree, IsFullFrom, SetsBit, TakesLowest}
 use Rattle.balloc.proofs.Counting.{free_blocks-none, free_blocks-take}
 
-pub TakesLowest-free : {g : Geometry} {old new : List (List ℕ)} {b : ℕ} → TakesLowest g old new b → free_blocks g new + 1 ≡ free_blocks g old
-TakesLowest-free {g} {old} {new} {b} t = free_blocks-take g old new b t.lowest.free t.takes
-
 -- a search from the first data block on
 module _ (g : Geometry) (old : List (List ℕ)) {start : ℕ} (begins : start ≡ data_start_of g.size g.inodes) where
   pub full_none : IsFullFrom g old start → free_blocks g old ≡ 0

@@ -1,5 +1,6 @@
 use Rattle.balloc.proofs.Common.{subst, Finds, goes-after, goes-stays, step-done, step-failed}
-use Rattle.balloc.proofs.Taking.{TakesLowest-free, found_takes, full_none}
+use Rattle.balloc.proofs.Counting.{free_blocks-take}
+use Rattle.balloc.proofs.Taking.{found_takes, full_none}
 use Rattle.balloc.proofs.blocks.take_block.Goals as goal
 
 pub returns-in_err-b : goal.returns-in_err-b
@@ -17,4 +18,4 @@ pub returns : goal.returns
 returns g c =
     let found = subst (Finds c.args.geometry c.args.disk.now.blocks c.data_start.result) c.in-Some.is c.in_ok-b.ensures.done.told in
     let takes = found_takes c.args.geometry c.args.disk.now.blocks c.data_start.ensures found c.in_ok-b.ensures.done.same c.in_ok-mark.ensures.done in
-    step-done (goes-after c.find_free.ensures.goes c.mark.ensures.goes) (takes, TakesLowest-free takes)
+    step-done (goes-after c.find_free.ensures.goes c.mark.ensures.goes) (takes, free_blocks-take c.args.geometry _ _ _ takes.lowest.free takes.takes)

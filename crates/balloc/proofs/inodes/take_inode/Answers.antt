@@ -1,5 +1,4 @@
 use Rattle.balloc.proofs.Common.{subst, FindsInode, TakesNode, goes-after, goes-stays, step-done, step-failed}
-use Rattle.balloc.proofs.Records.{unused-lowest}
 use Rattle.balloc.proofs.inodes.take_inode.Goals as goal
 
 pub returns-in_err-number : goal.returns-in_err-number
@@ -10,12 +9,14 @@ returns-in_default g c =
     step-done c.find_unused.ensures.goes (subst (FindsInode c.args.geometry c.args.disk.now.blocks) c.in_default.is c.in_ok-number.ensures.done.told, c.in_ok-number.ensures.done.same)
 
 pub take_inode_at-requires : goal.take_inode_at-requires
-take_inode_at-requires g c = record {
-  sound = rw c.in_ok-number.ensures.done.same c.requires.sound;
-  unused = rw c.in_ok-number.ensures.done.same (unused-lowest (subst (FindsInode c.args.geometry c.args.disk.now.blocks) c.in-Some.is c.in_ok-number.ensures.done.told));
-  some = c.requires.some;
-  kind = c.requires.kind;
-}
+take_inode_at-requires g c =
+    let lowest = subst (FindsInode c.args.geometry c.args.disk.now.blocks) c.in-Some.is c.in_ok-number.ensures.done.told in
+    record {
+      sound = rw c.in_ok-number.ensures.done.same c.requires.sound;
+      unused = rw c.in_ok-number.ensures.done.same (record { low = lowest.low; high = lowest.high; unused = lowest.unused });
+      some = c.requires.some;
+      kind = c.requires.kind;
+    }
 
 pub returns-in_err-take_inode_at : goal.returns-in_err-take_inode_at
 returns-in_err-take_inode_at g c = step-failed c.find_unused.ensures.goes c.take_inode_at.ensures c.in_err-take_inode_at.was c.from_residual-in_err-take_inode_at.ensures.1
