@@ -8,8 +8,8 @@ use Rattle.names.proofs.Finding.{IsEntered, IsGap, IsMade, absent-none, change-i
 use Rattle.names.proofs.Placed.{entered, two-places}
 
 -- n gets a name in a directory that has none so
-pub gets-name : {files : Files} (keeps : KeepsTree files) (at : Spot) → IsGap files at → {n l r : ℕ} {node : Node} {ps qs : List (Option Entry)} → slot files at.directory ≡ Some (Directory (suc l) ps) → with_entry ps (entry_at at n) ≡ Some qs
-    → Alters files n node at.directory → Enters files n node at.directory l r → Changed files (both files n node at.directory (Directory (suc r) qs))
+pub gets-name : {files : Files} (keeps : KeepsTree files) (at : Spot) → IsGap files at → {n l r : ℕ} {node : Node} {ps qs : List (Option Entry)} → slot files at.directory ≡ Some (Directory (suc l) ps)
+    → with_entry ps (entry_at at n) ≡ Some qs → Alters files n node at.directory → Enters files n node at.directory l r → Changed files (both files n node at.directory (Directory (suc r) qs))
 gets-name {files} keeps at spot {n} {l} {r} {node} {ps} {qs} before placed alters enters =
     let live = subst (KeepsLive files at.directory) before (keeps.nodes at.directory) in
     keeps-gained keeps alters before r qs (entered-size ps (entry_at at n) qs placed (subst KeepsSize before (keeps.sizes at.directory))) (entered (entry_at at n) (two-places live.own live.parent) placed)

@@ -63,7 +63,9 @@ alike-gone files n _ k h = record { names = λ m. refl; wanted = sym h; kind = �
 
 pub releases : {files : Files} → KeepsTree files → (n : ℕ) (node : Node) → slot files n ≡ Some node → links_of node ≡ 0 → KeepsTree (clear files n)
 releases {files} keeps n node here none =
-    keeps-put keeps n node None here (λ e. let links = ap links_of (same_Some (Directory (suc keeps.root.links) keeps.root.places) node (sym keeps.root.here ∙ ap (slot files) e ∙ here)) in omega arith) (alike-gone files n node (subst (KeepsLive files n) here (keeps.nodes n)) none)
+    keeps-put keeps n node None here
+    (λ e. let links = ap links_of (same_Some (Directory (suc keeps.root.links) keeps.root.places) node (sym keeps.root.here ∙ ap (slot files) e ∙ here)) in omega arith)
+    (alike-gone files n node (subst (KeepsLive files n) here (keeps.nodes n)) none)
 
 -- ---- other bytes
 
@@ -82,7 +84,8 @@ module _ {files : Files} (keeps : KeepsTree files) where
       let new_node = Some (File links new) in
       record {
         tree = keeps-put keeps n (File links old) new_node here
-            (λ e. false≢true (ap (λ o. unwrap_or (option_map is_directory o) false) (sym here ∙ ap (slot files) (sym e) ∙ keeps.root.here))) (record { names = λ m. refl; wanted = refl; kind = λ l. refl; size = λ s. size; live = inr (λ fs l. l) });
+            (λ e. false≢true (ap (λ o. unwrap_or (option_map is_directory o) false) (sym here ∙ ap (slot files) (sym e) ∙ keeps.root.here)))
+            (record { names = λ m. refl; wanted = refl; kind = λ l. refl; size = λ s. size; live = inr (λ fs l. l) });
         stays = λ m used. slot-set (λ o. option_map shape o ≡ option_map shape (slot files m)) files n new_node within m (λ e. sym (ap (option_map shape) (ap (slot files) e ∙ here))) (λ s. refl);
         idle = λ m node at none. slot-set (λ o. o ≡ Some node → WasIdle files m) files n new_node within m
             (λ e is. record { was = File links old; here = ap (slot files) e ∙ here; none = ap links_of (same_Some (File links new) node is) ∙ none }) (λ s is. record { was = node; here = is; none = none }) at;
