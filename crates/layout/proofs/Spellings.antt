@@ -1,6 +1,6 @@
 -- The spelling of the record that bytes spell is these bytes.
 use Rattle.layout.proofs.Common.{◌≡◌, ℕ, zero, suc, ◌+◌, ◌*◌, ◌/◌, ◌%◌, ◌^◌, ◌<◌, ◌≤◌, List, [], ◌∷◌, ◌++◌, length, take, drop, get_or, refl, sym, ap, ◌∙◌, arith, map, take-add, drop-drop, get_or-drop}
-use Rattle.layout.proofs.Common.{length-drop, little_number, little_bytes, little_from-cons, entry_of, entry_bytes, inode_of, inode_bytes, number_at, numbers_in, spelled, super_of, super_bytes}
+use Rattle.layout.proofs.Common.{length-drop, little_number, little_bytes, little_from-cons, inode_of, inode_bytes, number_at, numbers_in, spelled}
 use Rattle.std.specs.Int.{byte_at, bytes_low_first}
 use Rattle.std.specs.List.{range_with_len}
 use Rattle.std.proofs.Math.Nat.{div-div-eq-div-mul, pow-succ'}
