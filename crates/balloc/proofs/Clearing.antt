@@ -23,12 +23,16 @@ module _ (p : ℕ → Bool) where
   looked (suc n) a = elim (cases_Bool (p a)) [
     | inl e ↦ inl (a, cond-true (p a) (Some a) (find p (range_with_len (a + 1) n)) e, record { low = omega arith; high = omega arith; here = e; before = λ k l m. absurd (omega arith) })
     | inr e ↦ (elim (looked n (a + 1)) [
-      | inl (i, is, first) ↦ inl (i, cond-false (p a) (Some a) (find p (range_with_len (a + 1) n)) e ∙ is, record {
-        low = let low = first.low in omega arith;
-        high = let high = first.high in omega arith;
-        here = first.here;
-        before = λ k l m. elim (cases_eq k a) [ inl s ↦ ap p s ∙ e | inr t ↦ first.before k (omega arith) m ];
-      })
+      | inl (i, is, first) ↦ inl (
+        i,
+        cond-false (p a) (Some a) (find p (range_with_len (a + 1) n)) e ∙ is,
+        record {
+          low = let low = first.low in omega arith;
+          high = let high = first.high in omega arith;
+          here = first.here;
+          before = λ k l m. elim (cases_eq k a) [ inl s ↦ ap p s ∙ e | inr t ↦ first.before k (omega arith) m ];
+        },
+      )
       | inr (is, none) ↦ inr (cond-false (p a) (Some a) (find p (range_with_len (a + 1) n)) e ∙ is, λ k l m. elim (cases_eq k a) [ inl s ↦ ap p s ∙ e | inr t ↦ none k (omega arith) (omega arith) ])
     ])
   ]
