@@ -19,10 +19,10 @@ rub_outs-line [] = refl
 rub_outs-line (x ∷ xs) = ap (λ l. rub_out ++ l) (rub_outs-line xs)
 
 -- a whole, and then a beginning of what follows it
-pub beginning-behind : (a b c : Option (List ℕ)) (xs ys zs all : List ℕ) → Appends a b xs → AppendsBeginning b c ys → all ≡ xs ++ (ys ++ zs) → AppendsBeginning a c all
-beginning-behind a b c xs ys zs all first p e = record {
+pub begins_more : (before mid after : Option (List ℕ)) (xs ys zs all : List ℕ) → Appends before mid xs → AppendsBeginning mid after ys → (xs ++ ys) ++ zs ≡ all → AppendsBeginning before after all
+begins_more before mid after xs ys zs all first p e = record {
   front = xs ++ p.front;
   rest = p.rest ++ zs;
-  parts = append_assoc xs p.front (p.rest ++ zs) ∙ ap (λ l. xs ++ l) (sym (append_assoc p.front p.rest zs) ∙ ap (λ l. l ++ zs) p.parts) ∙ sym e;
-  took = Appends-trans a b c xs p.front first p.took;
+  parts = append_assoc xs p.front (p.rest ++ zs) ∙ ap (λ l. xs ++ l) (sym (append_assoc p.front p.rest zs) ∙ ap (λ l. l ++ zs) p.parts) ∙ sym (append_assoc xs ys zs) ∙ e;
+  took = Appends-trans before mid after xs p.front first p.took;
 }
