@@ -1,12 +1,8 @@
 -- The passes of the assembler, one after the other.
-use Rattle.std.proofs.Common.{◌≡◌, ◌∙◌, ℕ, List, Ok, Result, ap, inl, inr, map, refl, sym}
+use Rattle.asm.proofs.Common.{◌≡◌, ◌∙◌, ℕ, List, Ok, Result, ap, inl, inr, map, refl, sym, assembled, codes_from, object, placed, placed_from, elf_file, AsmKind, Tells}
 use Rattle.unixmodel.specs.Assembly as the
-use Rattle.unixmodel.specs.Assembly.{assembled, codes_from, object, placed, placed_from}
-use Rattle.unixmodel.specs.ElfFile.{elf_file}
 use Rattle.unixmodel.specs.Statements.{Line, line_of}
 use Rattle.unixmodel.specs.Tokens.{lines_of}
-use Rattle.unixmodel.specs.declared.assembly.AsmKind.{AsmKind}
-use Rattle.asm.specs.Emitted.{Tells}
 use Rattle.asm.specs.declared.fault.AsmFault.{AsmFault}
 
 object_is : (text : List ℕ) (lines : List Line) (all : List the.Placed) → lines ≡ map line_of (lines_of text) → all ≡ placed_from 1 0 lines → codes_from all all ≡ object text

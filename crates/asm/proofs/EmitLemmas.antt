@@ -1,10 +1,7 @@
 -- What lines put out.
-use Rattle.std.proofs.Common.{◌≡◌, ◌∙◌, ◌+◌, ◌-◌, ◌++◌, ◌∷◌, ℕ, Bool, Err, List, None, Ok, OnOk, Option, Result, Some, [], ap, arith, false, if◌then◌else◌, is_ok, length, option_map, refl, replicate, take, true}
-use Rattle.std.proofs.lemmas.List.{take_all}
-use Rattle.std.specs.declared.alloc.AllocError.{AllocError}
+use Rattle.asm.proofs.Common.{◌≡◌, ◌∙◌, ◌+◌, ◌-◌, ◌++◌, ◌∷◌, ℕ, Bool, Err, List, None, Ok, OnOk, Option, Result, Some, [], ap, arith, false}
+use Rattle.asm.proofs.Common.{if◌then◌else◌, is_ok, length, option_map, refl, replicate, take, true, take_all, AllocError, zeros, AsmKind}
 use Rattle.unixmodel.specs.Assembly as the
-use Rattle.unixmodel.specs.Memory.{zeros}
-use Rattle.unixmodel.specs.declared.assembly.AsmKind.{AsmKind}
 use Rattle.unixmodel.specs.declared.assembly.AsmKind.TheVariants as kind
 use Rattle.unixmodel.specs.declared.instr.Instr.{Instr}
 

@@ -1,15 +1,8 @@
 -- What the reader of program files finds in the file of a program.
-use Rattle.std.proofs.Common.{false, ◌≡◌, ◌∙◌, ◌≤◌, ◌<◌, ◌+◌, ◌-◌, ◌*◌, ◌/◌, ◌%◌, ◌^◌, ◌++◌, ◌∷◌, ℕ, List, Some, [], ap, append_assoc, arith, drop, length, refl, sym, replicate, take, true, suc, zero, length-append, if◌then◌else◌, Err, Ok, OnOk, Result, is_ok}
-use Rattle.std.specs.Prelude.{slice_range, ◌==◌}
-use Rattle.std.proofs.Math.Nat.{pow-suc}
+use Rattle.asm.proofs.Common.{false, ◌≡◌, ◌∙◌, ◌≤◌, ◌<◌, ◌+◌, ◌-◌, ◌*◌, ◌/◌, ◌%◌, ◌^◌, ◌++◌, ◌∷◌, ℕ, List, Some, [], ap, append_assoc, arith, drop, length, refl, sym, replicate, take, true, suc, zero, length-append, if◌then◌else◌, Err}
+use Rattle.asm.proofs.Common.{Ok, OnOk, Result, is_ok, slice_range, ◌==◌, pow-suc, AllocError, le-leb, lt-ltb, length-replicate, take_all, elf_file, elf_header, program_header, Perm, pages_of, zeros, ceil_div, le, number, number_at}
 use Rattle.std.proofs.Math.Seq.{drop-append_seam, take-length}
-use Rattle.std.specs.declared.alloc.AllocError.{AllocError}
 use Rattle.std.proofs.Math.Bool.{or-true}
-use Rattle.std.proofs.lemmas.Bool.{le-leb, lt-ltb}
-use Rattle.std.proofs.lemmas.List.{length-replicate, take_all}
-use Rattle.unixmodel.specs.ElfFile.{elf_file, elf_header, program_header}
-use Rattle.unixmodel.specs.Memory.{Perm, pages_of, zeros}
-use Rattle.unixmodel.specs.Numbers.{ceil_div, le, number, number_at}
 use Rattle.unixmodel.specs.Plan.{Loaded, Segment, load_segment, load_segments, may_follow, nothing_loaded, plan, plan_flat, segment_at, segment_pages}
 
 -- k bytes have all of a number below 256 ^ k
@@ -43,25 +36,16 @@ length-front : (size : ℕ) → length (front size) ≡ 120
 unfolding elf_header program_header zeros
 length-front size = refl
 
-magic : (size : ℕ) (rest : List ℕ) → number_at 4 0 (front size ++ rest) ≡ 0x464C457F
-unfolding elf_header program_header zeros
-magic size rest = refl
-
-entry : (size : ℕ) (rest : List ℕ) → number_at 8 24 (front size ++ rest) ≡ 0
-unfolding elf_header program_header zeros
-entry size rest = refl
-
-headers_at : (size : ℕ) (rest : List ℕ) → number_at 8 32 (front size ++ rest) ≡ 64
-unfolding elf_header program_header zeros
-headers_at size rest = refl
-
-headers : (size : ℕ) (rest : List ℕ) → number_at 2 56 (front size ++ rest) ≡ 1
-unfolding elf_header program_header zeros
-headers size rest = refl
-
-segment : (size : ℕ) (rest : List ℕ) → segment_at (front size ++ rest) 64 ≡ read_segment (number (le 8 size))
+-- what they say
+told : (size : ℕ) (rest : List ℕ) → record {
+  magic : number_at 4 0 (front size ++ rest) ≡ 0x464C457F;
+  entry : number_at 8 24 (front size ++ rest) ≡ 0;
+  headers_at : number_at 8 32 (front size ++ rest) ≡ 64;
+  headers : number_at 2 56 (front size ++ rest) ≡ 1;
+  segment : segment_at (front size ++ rest) 64 ≡ read_segment (number (le 8 size));
+}
 unfolding elf_header program_header segment_at zeros
-segment size rest = refl
+told size rest = record { magic = refl; entry = refl; headers_at = refl; headers = refl; segment = refl }
 
 -- ---- the one segment
 
@@ -103,9 +87,6 @@ in_front bytes = append_assoc (front (length bytes)) (zeros 3976) bytes
 long : (xs ys : List ℕ) (n : ℕ) → length xs ≡ n → length (xs ++ ys) ≡ n + length ys
 long xs ys n e = length-append xs ys ∙ ap (λ k. k + length ys) e
 
-behind : (xs ys : List ℕ) (n : ℕ) → length xs ≡ n → drop n (xs ++ ys) ≡ ys
-behind xs ys n e = rw (sym e) (drop-append_seam xs ys)
-
 before_program : (size : ℕ) → length (front size ++ zeros 3976) ≡ 4096
 unfolding zeros
 before_program size = long (front size) (replicate 3976 0) 120 (length-front size) ∙ ap (λ k. 120 + k) (length-replicate {A = ℕ} 3976 0)
@@ -116,27 +97,19 @@ length-file bytes = long (front (length bytes) ++ zeros 3976) bytes 4096 (before
 
 behind-file : (bytes : List ℕ) → drop 4096 (elf_file bytes) ≡ bytes
 unfolding elf_file
-behind-file bytes = behind (front (length bytes) ++ zeros 3976) bytes 4096 (before_program (length bytes))
-
-segment-file : (bytes : List ℕ) → length bytes < 2 ^ 64 → segment_at (elf_file bytes) 64 ≡ read_segment (length bytes)
-segment-file bytes h = rw (in_front bytes, segment (length bytes) (zeros 3976 ++ bytes), number-le 8 (length bytes) h) refl
+behind-file bytes = rw (sym (before_program (length bytes))) (drop-append_seam (front (length bytes) ++ zeros 3976) bytes)
 
 pub plan-file : (bytes : List ℕ) → length bytes < 2 ^ 64 → plan (elf_file bytes) [] ≡ plan_flat bytes
 plan-file bytes h =
-    let rest = zeros 3976 ++ bytes in
-    let n = length bytes in
-    let e : elf_file bytes ≡ front n ++ rest = in_front bytes in
-    planned (elf_file bytes) bytes h (length-file bytes) (behind-file bytes) (segment-file bytes h)
-    (rw e (magic n rest)) (rw e (entry n rest)) (rw e (headers_at n rest)) (rw e (headers n rest))
+    let e = in_front bytes in
+    let says = told (length bytes) (zeros 3976 ++ bytes) in
+    planned (elf_file bytes) bytes h (length-file bytes) (behind-file bytes) (rw (e, says.segment, number-le 8 (length bytes) h) refl) (rw e says.magic) (rw e says.entry) (rw e says.headers_at) (rw e says.headers)
 
 -- ---- the parts as they are written
 
 after : (r : Result Unit AllocError) (new old part whole : List ℕ) → new ≡ (if is_ok r then old ++ part else old) → old ++ part ≡ whole → OnOk r (new ≡ whole)
 after (Ok x) new old part whole is e = is ∙ e
 after (Err x) new old part whole is e = tt
-
-in_parts : (a b c d e : List ℕ) → a ++ b ++ c ++ d ++ e ≡ a ++ (b ++ c ++ d ++ e)
-in_parts a b c d e = simp append_assoc refl
 
 abbrev segment_start : List ℕ
 segment_start = le 4 1 ++ le 4 7 ++ le 8 4096 ++ le 8 0 ++ le 8 0
@@ -146,7 +119,7 @@ pub put-program_header : (size : ℕ) (r : Result Unit AllocError) (old one two 
 unfolding program_header
 put-program_header size r old one two three four bytes is e1 e2 e3 e4 =
     after r four three (le 8 4096) (old ++ program_header size) e4
-    (rw (e3, e2, e1, is) (in_parts old segment_start (le 8 size) (le 8 size) (le 8 4096)))
+    (rw (e3, e2, e1, is) (simp append_assoc refl))
 
 pub written : (bytes fresh one two three four : List ℕ) (len : ℕ) → fresh ≡ [] → one ≡ fresh ++ elf_header → two ≡ one ++ program_header (length bytes) → len ≡ length two
     → three ≡ take 4096 two ++ replicate (4096 - len) 0 → four ≡ three ++ bytes → four ≡ elf_file bytes

@@ -1,15 +1,11 @@
 -- Lines that are looked up by their labels.
-use Rattle.std.proofs.Common.{◌≡◌, ◌∙◌, ◌+◌, ◌∷◌, ◌<◌, ◌≤◌, Bool, List, None, Option, Some, [], ap, bytes_eq, cond, add-one, drop, false, find, get_or, if◌then◌else◌, length, map, option_map, refl, slice_get, sym, true, zero, suc, ℕ}
-use Rattle.std.specs.List.{HoldsAt, position_from}
-use Rattle.std.specs.Option.{option_and_then, option_or}
-use Rattle.std.specs.Prelude.{IfSome, MatchOption, is_some}
+use Rattle.asm.proofs.Common.{◌≡◌, ◌∙◌, ◌+◌, ◌∷◌, ◌<◌, ◌≤◌, Bool, List, None, Option, Some, [], ap, bytes_eq, cond, add-one, drop, false, find, get_or, if◌then◌else◌, length, map, option_map, refl}
+use Rattle.asm.proofs.Common.{slice_get, sym, true, zero, suc, ℕ, HoldsAt, position_from, option_and_then, option_or, IfSome, MatchOption, is_some, HashMap, UpdatesBy, get_by, definition, Finds, named}
 use Rattle.std.specs.Borrow.{Bor}
-use Rattle.std.specs.HashMap.{HashMap, UpdatesBy, get_by}
 use Rattle.std.proofs.lemmas.Map.Text.{hash_map_updates_str}
 use Rattle.std.proofs.lemmas.Option.{slice_get-map, slice_get_past, slice_get_read}
 use Rattle.std.proofs.lemmas.Slice.Eq.{bytes_eq-Decides}
-use Rattle.unixmodel.specs.Assembly.{Placed as ThePlaced, definition}
-use Rattle.asm.specs.Labels.{Finds, named}
+use Rattle.unixmodel.specs.Assembly.{Placed as ThePlaced}
 
 module _ {X : Type 0} where
   item_at : (i : ℕ) (all : List X) (x : X) (xs : List X) → drop i all ≡ x ∷ xs → slice_get all i ≡ Some x

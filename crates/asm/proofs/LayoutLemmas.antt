@@ -1,9 +1,6 @@
 -- Zeros and padding, as numbers that are tested.
-use Rattle.std.proofs.Common.{◌≡◌, ◌-◌, ◌%◌, Bool, None, Some, false, negsuc, option_map, pos, refl, true, if◌then◌else◌, ℕ, ℤ}
-use Rattle.unixmodel.specs.Assembly.{filled, if_room, is_step, room_at}
+use Rattle.asm.proofs.Common.{◌≡◌, ◌-◌, ◌%◌, Bool, None, Some, false, negsuc, option_map, pos, refl, true, if◌then◌else◌, ℕ, ℤ, filled, if_room, is_step, room_at, natural_within, step_of}
 use Rattle.unixmodel.specs.Statements.Statement.{Padding, Zeros}
-use Rattle.asmtext.specs.Numbers.{natural_within}
-use Rattle.asm.specs.Placed.{step_of}
 
 pub zeros_within : (address : ℕ) (n : ℤ) → natural_within (room_at address) n ≡ filled address (Zeros n)
 zeros_within address (pos n) = refl

@@ -1,3 +1,4 @@
+mod Common
 mod AssembleLemmas
 mod DistanceLemmas
 mod EmitLemmas

@@ -1,8 +1,4 @@
-use Rattle.std.proofs.Common.{map, rules}
-use Rattle.unixmodel.specs.Assembly.{assembled}
-use Rattle.asmtext.specs.Statements.{line_seen}
-use Rattle.asm.specs.Emitted.{Tells}
-use Rattle.asm.specs.Placed.{placed_seen}
+use Rattle.asm.proofs.Common.{map, rules, assembled, line_seen, Tells, placed_seen}
 use Rattle.asm.proofs.AssembleLemmas.{made, told}
 use Rattle.asm.proofs.assembler.assemble.Goals as goal
 

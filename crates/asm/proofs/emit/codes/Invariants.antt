@@ -1,7 +1,5 @@
-use Rattle.std.proofs.Common.{◌≡◌, drop, map}
+use Rattle.asm.proofs.Common.{◌≡◌, drop, map, behind, placed_seen}
 use Rattle.unixmodel.specs.Assembly as the
-use Rattle.asm.specs.Emitted.{behind}
-use Rattle.asm.specs.Placed.{placed_seen}
 use Rattle.asm.proofs.emit.codes.Given as goal
 
 abbrev pub invariant-loop-line : goal.invariant-loop-line

@@ -1,6 +1,4 @@
-use Rattle.std.proofs.Common.{◌∙◌}
-use Rattle.unixmodel.specs.Numbers.{field, lies_in}
-use Rattle.asmtext.specs.Numbers.{number_of}
+use Rattle.asm.proofs.Common.{◌∙◌, field, lies_in, number_of}
 use Rattle.asmtext.specs.Operations.{above_of, below_of, bits_of, partial_instr}
 use Rattle.asm.proofs.EmitLemmas.{code_in_range}
 use Rattle.asm.proofs.emit.numbered_code.Goals as goal

@@ -1,5 +1,4 @@
-use Rattle.std.proofs.Common.{◌∙◌, None, Some, map}
-use Rattle.asm.specs.Placed.{placed_seen}
+use Rattle.asm.proofs.Common.{◌∙◌, None, Some, map, placed_seen}
 use Rattle.asm.proofs.LabelLemmas.{defined, shown}
 use Rattle.asm.proofs.labels.definition.Goals as goal
 

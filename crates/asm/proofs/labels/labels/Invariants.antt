@@ -1,9 +1,4 @@
-use Rattle.std.proofs.Common.{◌≡◌, List, bytes_eq, drop, map, ℕ}
-use Rattle.std.specs.HashMap.{get_by}
-use Rattle.std.specs.List.{position_from}
-use Rattle.std.specs.Option.{option_or}
-use Rattle.asm.specs.Labels.{named}
-use Rattle.asm.specs.Placed.{placed_seen}
+use Rattle.asm.proofs.Common.{◌≡◌, List, bytes_eq, drop, map, ℕ, get_by, position_from, option_or, named, placed_seen}
 use Rattle.asm.proofs.labels.labels.Given as goal
 
 abbrev pub invariant-loop-index : goal.invariant-loop-index

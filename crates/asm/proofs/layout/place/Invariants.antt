@@ -1,7 +1,5 @@
-use Rattle.std.proofs.Common.{◌≡◌, ◌≤◌, ◌*◌, ◌+◌, ◌++◌, ◌^◌, drop, map}
+use Rattle.asm.proofs.Common.{◌≡◌, ◌≤◌, ◌*◌, ◌+◌, ◌++◌, ◌^◌, drop, map, placed_seen, line_seen}
 use Rattle.unixmodel.specs.Assembly as the
-use Rattle.asm.specs.Placed.{placed_seen}
-use Rattle.asmtext.specs.Statements.{line_seen}
 use Rattle.asm.proofs.layout.place.Given as goal
 
 abbrev pub invariant-loop-index : goal.invariant-loop-index

@@ -1,6 +1,6 @@
-use Rattle.std.proofs.Common.{arith}
+use Rattle.asm.proofs.Common.{arith, ne_eqb}
 use Rattle.asm.specs.Distance.{distance_seen}
-use Rattle.asm.proofs.DistanceLemmas.{half_less, offset_even, offset_odd}
+use Rattle.asm.proofs.DistanceLemmas.{half_less, offset_is}
 use Rattle.asm.proofs.distance.Distance.offset.Goals as goal
 
 pub field_in-requires : goal.field_in-requires
@@ -10,8 +10,8 @@ field_in-requires c =
 
 pub returns-then-offset-eq1-clause-is : goal.returns-then-offset-eq1-clause-is
 returns-then-offset-eq1-clause-is c =
-    offset_odd c.args.bits (distance_seen c.args.self.now) c.in-Some.offset c.requires.0 (rw c.pow-half.ensures at c.in-Some.ensures) c.if-offset-eq1.true
+    rw c.if-offset-eq1.true at (offset_is c.args.bits (distance_seen c.args.self.now) c.in-Some.offset c.requires.0 (rw c.pow-half.ensures at c.in-Some.ensures))
 
 pub returns-clause-is : goal.returns-clause-is
 returns-clause-is c =
-    offset_even c.args.bits (distance_seen c.args.self.now) c.in-Some.offset c.requires.0 (rw c.pow-half.ensures at c.in-Some.ensures) c.if-offset-eq1.false
+    rw (ne_eqb _ _ c.if-offset-eq1.false) at (offset_is c.args.bits (distance_seen c.args.self.now) c.in-Some.offset c.requires.0 (rw c.pow-half.ensures at c.in-Some.ensures))
