@@ -5,37 +5,30 @@ pub use Rattle.std.proofs.lemmas.List.{get_or-set_other}
 pub use Rattle.std.proofs.lemmas.List.Quantifiers.{position-Some}
 pub use Rattle.std.proofs.lemmas.Option.{cond_some, same_Some}
 pub use Rattle.std.specs.List.{All, range_with_len}
-pub use Rattle.std.specs.Prelude.{◌&&◌, ◌+ℤ◌, ◌==◌, ◌^◌, drop, if◌then◌else◌, is_none, is_some, nat_le, negsuc, not, option_and_then, option_map, option_to_list, pos, take, unwrap_or, ◌||◌}
-pub use Rattle.unixmodel.specs.Calls.{After, call_of, end_at, end_if_killed, entered, goes_on, outcome, outcome_of, row, settle}
+pub use Rattle.std.specs.Prelude.{◌&&◌, find, if◌then◌else◌, is_none, is_some, nat_le, negsuc, option_and_then, option_map, option_to_list, unwrap_or}
+pub use Rattle.unixmodel.specs.Calls.{After, call_of, end_at, end_if_killed, entered, goes_on, outcome, outcome_of, quiet, row, settle}
 unfoldable pub use Rattle.unixmodel.specs.Calls.{call, resume}
 pub use Rattle.unixmodel.specs.Counts.{is_within}
 unfoldable pub use Rattle.unixmodel.specs.Counts.{frames_of}
-pub use Rattle.unixmodel.specs.FileCalls.{descriptor, is_usable, node_number, pipe_end, read_file, read_pipe, read_taken, read_target, unless_empty, write_file, write_pipe, write_target}
+pub use Rattle.unixmodel.specs.FileCalls.{descriptor, read_file, read_pipe, read_target, unless_empty, write_file, write_target}
 unfoldable pub use Rattle.unixmodel.specs.FileCalls.{close_row, dup_row, fstat_row, pipe_row, read_on, read_row, write_on, write_row}
-pub use Rattle.unixmodel.specs.Files.{clear, Files, free_slot, is_directory, longest, Node, put, slot}
-unfoldable pub use Rattle.unixmodel.specs.Files.{spot_of}
-pub use Rattle.unixmodel.specs.Files.Node.{Device, Directory, File}
-pub use Rattle.unixmodel.specs.Memory.{can_write, read_bytes}
-unfoldable pub use Rattle.unixmodel.specs.Memory.{path_at}
+pub use Rattle.unixmodel.specs.Files.{clear, Files, free_slot, Node, put, slot}
 pub use Rattle.unixmodel.specs.Next.{acted, execute_at, is_ecall, pick, picked, picked_in, step, stopped, take_turn, trapped}
 unfoldable pub use Rattle.unixmodel.specs.Next.{effect_of, execute, next}
-pub use Rattle.unixmodel.specs.Numbers.{int_of, low, natural}
-pub use Rattle.unixmodel.specs.Outcome.{given, limited, orphaned, Outcome, pending_arg, pending_of, provided, with_zombie, zombie_of}
+pub use Rattle.unixmodel.specs.OpenFiles.{OpenFile, Target}
+pub use Rattle.unixmodel.specs.Outcome.{given, limited, orphaned, Outcome, provided, with_zombie, zombie_of}
 unfoldable pub use Rattle.unixmodel.specs.Outcome.{end_process}
 pub use Rattle.unixmodel.specs.Outcome.Outcome.{Done, Ends, Refused, Waits}
-pub use Rattle.unixmodel.specs.Plan.{Plan}
-unfoldable pub use Rattle.unixmodel.specs.Plan.{plan, plan_flat}
-pub use Rattle.unixmodel.specs.Process.{arg, is_child_of, is_running, is_zombie, last_pid, Process, with_answer, with_mode}
-pub use Rattle.unixmodel.specs.ProcessCalls.{child_of, collect, file_bytes, fits_beside, has_child, has_slept, marked, sharing, wait_for, zombie_child}
-unfoldable pub use Rattle.unixmodel.specs.ProcessCalls.{args_at, exec_row, fork_row, kill_row, sbrk_row, sleep_on, wait_on, wait_row}
+pub use Rattle.unixmodel.specs.Process.{arg, is_child_of, is_running, is_zombie, Process, with_answer, with_mode}
+pub use Rattle.unixmodel.specs.ProcessCalls.{child_of, collect, marked, sharing, wait_for, zombie_child}
+unfoldable pub use Rattle.unixmodel.specs.ProcessCalls.{exec_row, fork_row, kill_row, sbrk_row, sleep_on, wait_on, wait_row}
 unfoldable pub use Rattle.unixmodel.specs.Reap.{reap, without_nodes, without_opens, without_pipes}
 pub use Rattle.unixmodel.specs.Run.{followed_by, NoneTwice, PassesOver, picked_by, picked_unless, unless_halted, UnlessHalted}
 unfoldable pub use Rattle.unixmodel.specs.Run.{IsPassedOver, run, turns}
-pub use Rattle.unixmodel.specs.State.{change_process, has_end, holds, place_limit, place_of_pid, process_at, put_process, running, State}
+pub use Rattle.unixmodel.specs.State.{change_process, holds, place_limit, process_at, put_process, running, State}
 pub use Rattle.unixmodel.specs.Turn.{ready}
 unfoldable pub use Rattle.unixmodel.specs.Turn.{is_ready, round_from, turn}
 pub use Rattle.unixmodel.specs.declared.call.Call.{Call}
-pub use Rattle.unixmodel.specs.declared.call.Call.TheVariants.{Chdir, Close, Dup, Exec, Exit, Fork, Fstat, Getpid, Kill, Link, Mkdir, Mknod, Open, Pipe, Read, Sbrk, Sleep, Unlink, Uptime, Wait, Write}
 pub use Rattle.unixmodel.specs.declared.event.Event.{Event}
 pub use Rattle.unixmodel.specs.declared.event.Event.TheVariants.{Key, Step, Tick}
 pub use Rattle.unixmodel.specs.declared.process.Mode.TheVariants.{Ready, Running, Waiting, Zombie}

@@ -12,8 +12,7 @@ pub record Takes (s : State) (at : Option ℕ) (t : State) : Type 0 where
   pub left : (i : ℕ) (p : Process) → process_at s i ≡ Some p → is_running p ≡ false → at ≢ Some i → IsLeft p (process_at t i)
 
 left-passed : (p : Process) (o u : Option Process) → o ≡ Some p → IsPassed o u → IsLeft p u
-left-passed p o None here passed = let P : Option Process → Type 0 = λ x. IsPassed x None in subst P here passed
-left-passed p o (Some q) here passed = let P : Option Process → Type 0 = λ x. IsPassed x (Some q) in subst P here passed
+left-passed p o u here passed = let P : Option Process → Type 0 = λ x. IsPassed x u in subst P here passed
 
 -- nobody is picked; what changes is the process in place r, which runs
 takes-none : (s : State) (r : ℕ) (t : State) → ((p : Process) → process_at s r ≡ Some p → is_running p ≡ true) → Passes r s t → Takes s None t

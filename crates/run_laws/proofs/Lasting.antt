@@ -1,6 +1,7 @@
 -- The place that was picked last is one of the 64, and a process that is let be stays.
-use Rattle.run_laws.proofs.Common.{◌≡◌, ◌≢◌, ◌∙◌, ℕ, ℤ, ◌<◌, true, false, Option, Some, None, List, [], ◌∷◌, refl, sym, ap, arith, is_some, nat_le, option_and_then, unwrap_or, cond_some, Event, After}
-use Rattle.run_laws.proofs.Common.{frames_of, Files, next, Plan, plan_flat, Process, is_running, UnlessHalted, followed_by, picked_by, run, State, place_limit, process_at, IsLeft, IsLetBe, Rests}
+use Rattle.run_laws.proofs.Common.{◌≡◌, ◌∙◌, ℕ, ℤ, ◌<◌, true, false, Option, Some, None, List, [], ◌∷◌, refl, sym, ap, subst, arith, is_some, nat_le, option_and_then, unwrap_or, cond_some}
+use Rattle.run_laws.proofs.Common.{Event, After, frames_of, Files, next, Process, is_running, UnlessHalted, followed_by, picked_by, run, State, place_limit, process_at, IsLeft, IsLetBe, Rests}
+use Rattle.unixmodel.specs.Plan.{Plan, plan_flat}
 use Rattle.unixmodel.specs.Start.{if_fits, init_plan, start, start_flat}
 use Rattle.run_laws.proofs.Events.{next-takes}
 use Rattle.run_laws.proofs.Others.{rests-then}
@@ -22,13 +23,12 @@ pub start_flat-last : (bytes : List ℕ) (frames : ℕ) (s : State) → start_fl
 unfolding start_flat
 start_flat-last bytes frames s is = started _ (plan_flat bytes) s (λ new. refl) is
 
+picked-last : (last : ℕ) (o : Option ℕ) → last < place_limit → ((j : ℕ) → o ≡ Some j → j < place_limit) → unwrap_or o last < place_limit
+picked-last last None old new = old
+picked-last last (Some j) old new = new j refl
+
 next-last : (s : State) (e : Event) → s.last < place_limit → (next s e).state.last < place_limit
-next-last s e last = either (picked_by s e) refl
-  where
-    either : (o : Option ℕ) → picked_by s e ≡ o → (next s e).state.last < place_limit
-    either None is = let same = (next-takes s e).last ∙ ap (λ o. unwrap_or o s.last) is in omega (arith, same)
-    either (Some j) is =
-        let same = (next-takes s e).last ∙ ap (λ o. unwrap_or o s.last) is in omega (arith, same, turn-place s j (picked-turn s e j is))
+next-last s e last = subst (λ l. l < place_limit) (sym (next-takes s e).last) (picked-last s.last (picked_by s e) last (λ j is. turn-place s j (picked-turn s e j is)))
 
 followed-last : (first : After) (rest : State → After) (halted : Option ℤ) → first.state.last < place_limit → (rest first.state).state.last < place_limit
     → (followed_by first rest halted).state.last < place_limit
@@ -42,9 +42,6 @@ run-last s (e ∷ events) last =
     followed-last (next s e) (λ t. run t events) (next s e).state.halted (next-last s e last) (run-last (next s e).state events (next-last s e last))
 
 -- ---- a process that is let be
-
-pub event-left : (s : State) (i : ℕ) (p : Process) (e : Event) → process_at s i ≡ Some p → is_running p ≡ false → picked_by s e ≢ Some i → IsLeft p (process_at (next s e).state i)
-event-left s i p e here still other = (next-takes s e).left i p here still other
 
 -- what stays of a process is still in its place
 abbrev Stays : Process → State → ℕ → Type 0
@@ -65,7 +62,7 @@ unfolding run IsLetBe
 run-stays s i p [] here still be = (p, here, refl)
 run-stays s i p (e ∷ events) here still be =
     let t = (next s e).state in
-    let found = left-stays p t i (process_at t i) refl (event-left s i p e here still be.0) be.1 in
+    let found = left-stays p t i (process_at t i) refl ((next-takes s e).left i p here still be.0) be.1 in
     let q = found.0 in
     followed-stays p q i (next s e) (λ u. run u events) (λ u. IsLetBe i u events) t.halted found.1 found.2 be.2
     (λ later. run-stays t i q events found.1 (ap is_running found.2 ∙ still) later)

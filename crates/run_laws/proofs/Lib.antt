@@ -3,7 +3,6 @@ pub mod Others
 pub mod Endings
 pub mod Yielding
 pub mod Rows
-pub mod NameRows
 pub mod Table
 pub mod Settling
 pub mod Events

@@ -1,7 +1,6 @@
 -- A turn as a way round the places: how far a place is from another.
 use Rattle.run_laws.proofs.Common.{◌≡◌, ◌≢◌, ◌∙◌, ℕ, ◌+◌, ◌-◌, ◌%◌, ◌<◌, ◌≤◌, Bool, true, false, Option, Some, zero, suc, map, refl, sym, ap, inl, inr}
-use Rattle.run_laws.proofs.Common.{arith, cases_eq, cases_lt, if◌then◌else◌, range_with_len, same_Some, State, place_limit, ready, round_from, turn}
-use Rattle.std.specs.Prelude.{find}
+use Rattle.run_laws.proofs.Common.{arith, cases_eq, cases_lt, if◌then◌else◌, range_with_len, same_Some, State, place_limit, ready, round_from, turn, find}
 
 -- how many places a turn goes on from place l until it comes to place i: 1 to 64
 abbrev pub distance : ℕ → ℕ → ℕ
