@@ -1,5 +1,5 @@
 -- What a look-up finds in the entries of a map after a use, a new value and a new entry.
-use Rattle.cache.proofs.Common.{◌≡◌, ◌≢◌, ◌⊎◌, ℕ, zero, suc, ◌-◌, ◌≤◌, true, false, cond, List, [], ◌∷◌, length, take, slice_get, Option, Some, None, nat_eq, ap, sym, ◌∙◌}
+use Rattle.cache.proofs.Common.{◌≡◌, ◌≢◌, ◌⊎◌, ℕ, zero, suc, ◌-◌, ◌≤◌, cond, List, [], ◌∷◌, length, take, slice_get, Option, Some, None, nat_eq, ap, sym, ◌∙◌}
 use Rattle.cache.proofs.Common.{refl, arith, inl, inr, lookup, lookup_entry, remove_entry, set_value, option_map_or, cases_eq, eq-eqb, ne_eqb, promoted, put_entries, LruCache}
 
 module _ {V : Type 0} where
