@@ -1,5 +1,5 @@
 -- Free blocks are counted from a place on.
-use Rattle.balloc.proofs.Common.{◌≡◌, ℕ, ◌+◌, ◌-◌, ◌<◌, ◌≤◌, List, [], ◌∷◌, false, length, get_or, drop, zero, suc, ap, sym, ◌∙◌, arith, nat_le, lt-leb, bitmap_start_of, data_start_of, Geometry, bit_of, data_bits, IsFirstFree, IsFullFrom}
+use Rattle.balloc.proofs.Common.{◌≡◌, ℕ, ◌+◌, ◌-◌, ◌<◌, ◌≤◌, List, false, length, get_or, drop, ap, sym, ◌∙◌, arith, nat_le, lt-leb, bitmap_start_of, data_start_of, Geometry, bit_of, data_bits, IsFirstFree, IsFullFrom}
 use Rattle.std.proofs.lemmas.List.{drop_more}
 use Rattle.balloc.proofs.Counting.{get_or-data_bits, length-data_bits, zeros-first, zeros-past, zeros-skip, zeros_in}
 

@@ -1,7 +1,7 @@
 -- The record of an inode without blocks is written.
 use Rattle.balloc.proofs.Common.{◌≡◌, ◌≢◌, ℕ, ◌+◌, ◌*◌, ◌/◌, ◌%◌, ◌^◌, ◌<◌, ◌≤◌, List, [], ◌∷◌, length, get_or, set, Option, Some, None, ap, ◌∙◌, arith, inr, refl, Fits, inode_bytes, bitmap_start_of}
 use Rattle.balloc.proofs.Common.{Geometry, IsInode, IsUsed, RawNode, bit_in, inode_at, node_at, node_with, nodes_of, IsSound, IsSound-replace, KeepsOthers, node_at-none, nodes_of-changed}
-use Rattle.balloc.proofs.Common.{Grows-keeps, Grows-node, Grows-sound, Grows-empty, HoldsBytes-empty, asks_none, zero_at, IsLowestUnused, IsUnused, SetsNode, fresh_inode, fresh_node}
+use Rattle.balloc.proofs.Common.{Grows-keeps, Grows-node, Grows-sound, Grows-empty, HoldsBytes-empty, asks_none, zero_at, IsUnused, SetsNode, fresh_inode, fresh_node}
 use Rattle.layout.specs.Numbers.{spelled}
 use Rattle.layout.specs.declared.DiskInode.{DiskInode}
 use Rattle.layout.specs.Grow.{Grows, WritesInode}

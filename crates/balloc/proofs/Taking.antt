@@ -1,6 +1,6 @@
 -- Free blocks that a search found are taken.
-use Rattle.balloc.proofs.Common.{◌≡◌, ℕ, ◌+◌, List, subst, arith, data_start_of, Geometry, free_blocks, IsFirstFree, IsFullFrom, SetsBit, TakesLowest}
-use Rattle.balloc.proofs.Counting.{free_blocks-none, free_blocks-take}
+use Rattle.balloc.proofs.Common.{◌≡◌, ℕ, List, subst, arith, data_start_of, Geometry, free_blocks, IsFirstFree, IsFullFrom, SetsBit, TakesLowest}
+use Rattle.balloc.proofs.Counting.{free_blocks-none}
 
 -- a search from the first data block on
 module _ (g : Geometry) (old : List (List ℕ)) {start : ℕ} (begins : start ≡ data_start_of g.size g.inodes) where
