@@ -34,9 +34,8 @@ unfoldable pub use Rattle.layout.specs.Image.{bit_in, byte_of, bytes_of, node_at
 pub use Rattle.layout.specs.Sound.{HasParts, IsNamed, IsSound}
 pub use Rattle.layout.specs.Super.{bitmap_start_of, data_start_of, super_of}
 pub use Rattle.layout.specs.declared.Geometry.{Geometry}
-pub use Rattle.tree.proofs.Following.{end-lost, IsNow, now-begin, now-files, now-limit, now-read, now-turned, now-up, some-now, turned-last}
+pub use Rattle.tree.proofs.Following.{IsNow, end-lost, lost-served, now-begin, now-changed, now-files, now-limit, now-read, now-turned, now-up, some-now, turned-last}
 pub use Rattle.tree.proofs.Storing.{blocks_of-set, files-are, held-again, slot-within, taken_by, whole-node}
-pub use Rattle.tree.proofs.Turning.{lost-served, now-changed}
 pub use Rattle.tree.specs.Entering.{fresh, growth, placed, room_behind}
 unfoldable pub use Rattle.tree.specs.Entering.{entered, room_in}
 pub use Rattle.tree.specs.Stored.{Agrees, FitsPlaces, HasDevice, IsFileSystem, IsRaw, IsStored}

@@ -18,7 +18,7 @@ use Rattle.migrate.specs.Copies.{Copies}
 use Rattle.std.proofs.lemmas.Bool.{false≢true}
 use Rattle.std.specs.Prelude.{Err, IsOk, Ok, OnOk, Result}
 use Rattle.blockdev.specs.declared.DeviceFault.{DeviceFault}
-use Rattle.tree.proofs.Serving.{stored-after}
+use Rattle.tree.proofs.Bridging.{stored-after}
 use Rattle.tree.proofs.Storing.{files-are, held-again}
 use Rattle.tree.specs.Stored.{IsStored, files_of}
 

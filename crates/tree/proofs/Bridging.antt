@@ -1,19 +1,108 @@
 -- What the calls of a volume make of the files that it holds.
-use Rattle.tree.proofs.Common.{◌≡◌, ◌≢◌, ◌+◌, ◌*◌, ◌/◌, ◌-◌, ◌<◌, ◌≤◌, ◌∙◌, ◌++◌, ℕ, Bool, List, None, Option, Some, ap, arith, inl, inr, length, refl, subst, suc, sym, zero, All, drop, false, flat_map, is_none}
-use Rattle.tree.proofs.Common.{none-some, min, nat_le, option_map, take, cases_lt, le-leb, lt-leb, get_or-drop, get_or_past, length-append, length-drop, length-take-le, part, splice, Changes, IsFull, IsLowestFree, Store}
-use Rattle.tree.proofs.Common.{Writes, raw_at, InodeStat, RawNode, index_for, taken_for, length-spelling, PlaceFits, fresh, Rewrites, Agrees, FitsPlaces, IsFileSystem, IsRaw, Stores, files_of, Tells, TellsAny}
-use Rattle.tree.proofs.Common.{TellsMajor, FileTree, tree_with, IsFile, blocks_of, Files, Node, change_node, clear, free_number, node_bytes, place_bytes, put, size_of, slot, with_links, Directory, File}
+use Rattle.tree.proofs.Common.{◌≡◌, ◌≢◌, ◌+◌, ◌*◌, ◌/◌, ◌-◌, ◌<◌, ◌≤◌, ◌∙◌, ◌++◌, ℕ, Bool, List, None, Option, Some, ap, arith, inl, inr, length, refl, subst, suc, sym, zero, All, drop, false, flat_map, is_none, none-some, min, nat_le}
+use Rattle.tree.proofs.Common.{option_map, take, cases_lt, le-leb, lt-leb, get_or-drop, get_or_past, length-append, length-drop, length-take-le, part, splice, Changes, IsFull, IsLowestFree, Store, Writes, raw_at, InodeStat, RawNode}
+use Rattle.tree.proofs.Common.{index_for, taken_for, length-spelling, PlaceFits, fresh, Rewrites, Agrees, FitsPlaces, IsFileSystem, IsRaw, Stores, files_of, Tells, TellsAny, TellsMajor, FileTree, tree_with, IsFile, blocks_of, Files}
+use Rattle.tree.proofs.Common.{Node, change_node, clear, free_number, node_bytes, place_bytes, put, size_of, slot, with_links, Directory, File, IsWhole, Result, Err, Ok, OnOk, is_some, not, false≢true, DeviceFault, Follows, IsLaidOut}
+use Rattle.tree.proofs.Common.{Keeps, Looks, Geometry, IsStored, StoresFiles, Reads, Tries, data_blocks_of}
 use Rattle.std.proofs.lemmas.Bool.Decides.{nat_tests}
 use Rattle.balloc.specs.Inodes.{fresh_node}
 use Rattle.inode.specs.Reading.{IsReadInto}
 use Rattle.inode.specs.Looking.{IsTold}
-use Rattle.inode.specs.Looking as looking
-use Rattle.inode.specs.Store.{with_bytes}
-use Rattle.inode.specs.Writing as writing
+use Rattle.inode.specs.Store.{with_bytes, Tries as Volumes}
 use Rattle.tree.proofs.Reading.{position-at, position-none}
-use Rattle.tree.proofs.Storing.{Stores-set, blocks_of-set, change-is, held-fits, held-none, held-raw, held-size, length-held, raw-some, slot-within, some-node, taken_by, whole-node}
+use Rattle.tree.proofs.Storing.{Stores-set, blocks_of-set, change-is, held-fits, held-none, held-raw, held-size, length-held, raw-some, slot-within, some-node, taken_by, whole-node, held-node, files-are}
 use Rattle.unixmodel.specs.Files.{Entry}
 use Rattle.unixmodel.specs.Files.Node.{Device}
+use Rattle.tree.proofs.Following.{Beside, failed, tried}
+use Rattle.inode.specs.Looking as looking
+use Rattle.inode.specs.Writing as writing
+
+abbrev pub limit_of : Geometry → ℕ
+limit_of g = data_blocks_of g.size g.inodes
+
+same-tree : {a a' : Files} {g g' : Geometry} {b b' : Bool} {d d' : List ℕ} (hs : List ℕ) (failures : ℕ) → a ≡ a' → g ≡ g' → b ≡ b' → d ≡ d'
+    → ◌≡◌ {A = FileTree} (record { files = a; size = g.size; block_limit = limit_of g; holds = hs; failed = b; failures = failures; identity = d })
+    (record { files = a'; size = g'.size; block_limit = limit_of g'; holds = hs; failed = b'; failures = failures; identity = d' })
+same-tree hs failures p q r s = λ i. let g : Geometry = q i in record { files = p i; size = g.size; block_limit = limit_of g; holds = hs; failed = r i; failures = failures; identity = s i }
+
+module _ {D : Type 0} {identity : D → List ℕ} {v v' : Store D} (follows : Follows identity v v') where
+  pub beside-volume : (hs : List ℕ) → Beside (tree_with (identity v.device) v hs) (tree_with (identity v'.device) v' hs)
+  beside-volume hs = record { size = ap (λ (g : Geometry). g.size) follows.geometry; limit = ap limit_of follows.geometry; holds = refl; device = follows.same_device; later = follows.later }
+
+  -- the files are others
+  pub turned-files : (hs : List ℕ) {files : Files} {failed : Bool} → v'.failed ≡ failed → Stores v' files
+      → ◌≡◌ {A = FileTree} (tree_with (identity v'.device) v' hs) (record { files = files; size = v.geometry.size; block_limit = limit_of v.geometry; holds = hs; failed = failed; failures = v'.failures; identity = identity v.device })
+  turned-files hs failed holds = same-tree hs v'.failures (files-are holds) follows.geometry failed follows.same_device
+
+  -- they are as they were
+  pub kept-files : (hs : List ℕ) → v'.failed ≡ v.failed → Keeps v v' → tree_with (identity v'.device) v' hs ≡ record (tree_with (identity v.device) v hs) { failures = v'.failures }
+  kept-files hs failed keeps = same-tree hs v'.failures (ap files_of keeps.nodes) follows.geometry failed follows.same_device
+
+-- as many can be held
+pub count-after : {g g' : Geometry} → g' ≡ g → {k : ℕ} → k ≡ g.inodes → k ≡ g'.inodes
+count-after same count = count ∙ ap (λ (g : Geometry). g.inodes) (sym same)
+
+module _ {D : Type 0} {v v' : Store D} (same : v'.geometry ≡ v.geometry) where
+  pub kept-stores : Keeps v v' → IsFileSystem v → IsFileSystem v'
+  kept-stores keeps holds = subst (λ ns. Stores v' (files_of ns)) (sym keeps.nodes) (record {
+    whole = record {
+      count = ap length keeps.nodes ∙ holds.whole.count ∙ ap (λ (g : Geometry). g.inodes) (sym same);
+      most = subst (λ (g : Geometry). g.inodes ≤ 8192) (sym same) holds.whole.most;
+      each = λ n node here. holds.whole.each n node (ap (λ ns. slot ns n) (sym keeps.nodes) ∙ here);
+    };
+    nodes = subst (λ ns. StoresFiles ns (files_of v.nodes)) (sym keeps.nodes) holds.nodes;
+    free = ap (λ k. k + blocks_of (files_of v.nodes)) keeps.free ∙ holds.free ∙ ap limit_of (sym same);
+    places = holds.places;
+  })
+
+module _ {D : Type 0} {identity : D → List ℕ} {v v' : Store D} {T : Type 0} {Was : T → Type 0} (hs : List ℕ) (up : v.failed ≡ false) where
+  -- a call on the volume is one on the files
+  pub tries : {Told : T → Type 0} (r : Result T DeviceFault) → Volumes identity v v' r Was → ((x : T) → Was x → v'.failed ≡ v.failed → Follows identity v v' → Told x) → Tries (tree_with (identity v.device) v hs) (tree_with (identity v'.device) v' hs) r Told
+  tries (Ok x) done so = tried (beside-volume done.follows hs) done.failed (so x done.done (done.failed ∙ sym up) done.follows)
+  tries (Err fault) done so = failed (beside-volume done.follows hs) done.failed (done.cause refl)
+
+  -- the volume holds its files still
+  pub held-after : (r : Result T DeviceFault) → Volumes identity v v' r Was → ((x : T) → Was x → v'.geometry ≡ v.geometry → IsFileSystem v') → v'.failed ≡ false → IsFileSystem v'
+  held-after (Ok x) done so now = so x done.done done.follows.geometry
+  held-after (Err fault) done so now = absurd (false≢true (sym now ∙ done.failed))
+
+-- a call that changes nothing
+module _ {D : Type 0} {identity : D → List ℕ} {v v' : Store D} {T : Type 0} {Was : T → Type 0} (hs : List ℕ) (up : v.failed ≡ false) where
+  pub reads : {Told : T → Type 0} (r : Result T DeviceFault) → Looks identity v v' r Was → ((x : T) → Was x → Told x) → Reads (tree_with (identity v.device) v hs) (tree_with (identity v'.device) v' hs) r Told
+  reads r looks so = tries hs up r looks (λ x was failed follows. (kept-files follows hs failed was.0, so x was.1))
+
+  pub held-same : (r : Result T DeviceFault) → Looks identity v v' r Was → IsFileSystem v → v'.failed ≡ false → IsFileSystem v'
+  held-same r looks holds = held-after hs up r looks (λ x was same. kept-stores same was.0 holds)
+
+-- a look that found something
+pub seen-node : (old new : FileTree) (n : ℕ) (told : Option InodeStat) (none : Bool) → (new ≡ record old { failures = new.failures }) × TellsAny told (slot old.files n) → is_some told ≡ not none → none ≡ false → (node : Node) × (slot new.files n ≡ Some node)
+seen-node old new n None none looked is some = absurd (false≢true (is ∙ ap not some))
+seen-node old new n (Some s) none looked is some = go (slot old.files n) refl looked.1 where
+  go : (o : Option Node) → slot old.files n ≡ o → TellsAny (Some s) o → (node : Node) × (slot new.files n ≡ Some node)
+  go None here none = absurd none
+  go (Some node) here tells = (node, ap (λ (t : FileTree). slot t.files n) looked.0 ∙ here)
+
+-- ---- the device that is left
+
+pub stored-after : {D : Type 0} {v : Store D} (left : List (List ℕ)) (r : Result (Unit {0}) DeviceFault) → IsFileSystem v → OnOk r (IsLaidOut v.geometry left v.nodes v.free) → OnOk r (IsStored v.geometry.size left (files_of v.nodes))
+stored-after left (Err fault) holds laid = tt
+stored-after {v = v} left (Ok u) holds laid = record {
+  geometry = v.geometry;
+  size_is = refl;
+  sound = laid.sound;
+  nodes = subst (λ ns. StoresFiles ns (files_of v.nodes)) (sym laid.nodes) holds.nodes;
+  free = ap (λ k. k + blocks_of (files_of v.nodes)) laid.free ∙ holds.free;
+  places = holds.places;
+}
+
+-- ---- what is asked of files in use is so of the volume
+
+module _ {t seen : FileTree} (is : t ≡ seen) where
+  pub up-inside : seen.failed ≡ false → t.failed ≡ false
+  up-inside up = ap (λ (t : FileTree). t.failed) is ∙ up
+
+  pub at-inside : (P : FileTree → Type 0) → P seen → P t
+  at-inside P = subst P (sym is)
 
 pub taken-grows : (a b : ℕ) → a ≤ b → taken_for a ≤ taken_for b
 taken-grows a b h = go ((a + 1023) / 1024) ((b + 1023) / 1024) (omega arith) where
@@ -61,8 +150,9 @@ module _ {D : Type 0} {v : Store D} {files : Files} (holds : Stores v files) whe
 
   module _ {v' : Store D} (same : v'.geometry ≡ v.geometry) (n : ℕ) where
     -- other links
-    pub linked-stores : (node : Node) → slot files n ≡ Some node → (k : ℕ) → Changes v v' n (Some (writing.with_links (raw_at v.nodes n) k)) → Stores v' (change_node files n (λ node. with_links node k))
-    linked-stores node here k changes =
+    pub linked-stores : slot files n ≢ None → (k : ℕ) → Changes v v' n (Some (writing.with_links (raw_at v.nodes n) k)) → Stores v' (change_node files n (λ node. with_links node k))
+    linked-stores some k changes =
+        let (node, here) = some-node (slot files n) some in
         subst (Stores v') (sym (change-is files n (λ node. with_links node k) node here))
         (Stores-set holds n (Some (writing.with_links (raw_at v.nodes n) k)) (Some (with_links node k)) (slot-within files n node here) changes same (links-raw node (held-raw holds n node here)) (links-fits node (held-fits holds n node here))) where
           links-raw : (node : Node) → IsRaw (raw_at v.nodes n) node → IsRaw (writing.with_links (raw_at v.nodes n) k) (with_links node k)
@@ -76,8 +166,8 @@ module _ {D : Type 0} {v : Store D} {files : Files} (holds : Stores v files) whe
           links-fits (Device links major minor) fit = tt
 
     -- none any more
-    pub cleared-stores : (node : Node) → slot files n ≡ Some node → Changes v v' n None → Stores v' (clear files n)
-    cleared-stores node here changes = Stores-set holds n None None (slot-within files n node here) changes same tt tt
+    pub cleared-stores : slot files n ≢ None → Changes v v' n None → Stores v' (clear files n)
+    cleared-stores some changes = let (node, here) = some-node (slot files n) some in Stores-set holds n None None (slot-within files n node here) changes same tt tt
 
     -- a file's bytes
     pub file-stores : (f : IsFile files n) → {bytes : List ℕ} → Changes v v' n (Some (with_bytes (raw_at v.nodes n) bytes)) → Stores v' (put files n (File f.links bytes))
@@ -145,8 +235,7 @@ tells-any {v = v} {files} holds n told = go (slot v.nodes n) (slot files n) agre
   go None None is fit (Some s) t = absurd t
   go (Some raw) (Some node) is fit None t = absurd t
   go (Some raw) (Some node) is fit (Some s) t = tells-raw raw node is (ap length is.bytes ∙ whole-node node fit) s t
-  go None (Some node) is fit told t = absurd is
-  go (Some raw) None is fit told t = absurd is
+  go _ _ is fit told t = absurd is
 
 -- ---- places are rewritten
 
@@ -190,3 +279,29 @@ within-held {v = v} holds count n some =
 
 pub number-held : {D : Type 0} {identity : List ℕ} {v : Store D} {hs : List ℕ} {seen : FileTree} → tree_with identity v hs ≡ seen → length hs ≡ v.geometry.inodes → (v.failed ≡ false → IsFileSystem v) → seen.failed ≡ false → (n : ℕ) → slot seen.files n ≢ None → n < length hs
 number-held is count held up n some = within-held (held (ap (λ (t : FileTree). t.failed) is ∙ up)) count n (subst (λ (t : FileTree). slot t.files n ≢ None) (sym is) some)
+
+-- ---- the files keep what those of every disk keep
+
+module _ {D : Type 0} {v : Store D} (holds : IsFileSystem v) where
+  none-zero : slot (files_of v.nodes) 0 ≡ None
+  none-zero = go (slot (files_of v.nodes) 0) refl where
+    go : (o : Option Node) → slot (files_of v.nodes) 0 ≡ o → o ≡ None
+    go None here = refl
+    go (Some node) here = absurd (let is = held-node holds 0 node here in omega (arith, is.low))
+
+  -- each can be held
+  numbers-held : {k : ℕ} → k ≡ v.geometry.inodes → (n : ℕ) → slot (files_of v.nodes) n ≢ None → (n < k) × (n < 8192)
+  numbers-held count n there =
+      let most = holds.whole.most in
+      let within = within-held holds count n there in
+      (within, omega (arith, count))
+
+  pub whole-held : {identity hs : List ℕ} → length hs ≡ v.geometry.inodes → IsWhole (tree_with identity v hs)
+  whole-held count = record {
+    zero = none-zero;
+    within = let free = holds.free in omega (arith, free);
+    places = holds.places;
+    numbers = numbers-held count;
+    most = let most = holds.whole.most in omega (arith, length-held holds);
+    short = λ n node here. let is = held-node holds n node here in omega (arith, held-size holds n node here, is.short);
+  }

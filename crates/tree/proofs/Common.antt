@@ -18,7 +18,7 @@ pub use Rattle.blockdev.specs.Splice.{part, splice}
 pub use Rattle.blockdev.specs.declared.DeviceFault.{DeviceFault}
 pub use Rattle.cache.proofs.Ending.{rises-before}
 pub use Rattle.imagerules.proofs.Spelling.{length-place_bytes, length-spelling, places_in-back, slot-places_in}
-pub use Rattle.imagerules.specs.Places.{IsPlain, place_of_bytes, PlaceFits, without_zeros}
+pub use Rattle.imagerules.specs.Places.{IsPlain, place_of_bytes, PlaceFits}
 pub use Rattle.inode.specs.Store.{Changes, Follows, IsFull, IsLaidOut, IsLowestFree, IsNode, Keeps, LacksWriting, Looks, raw_at, Store, TakesLowest, used_by, Writes}
 pub use Rattle.inode.specs.declared.InodeFault.{InodeFault}
 pub use Rattle.inode.specs.declared.InodeFault.TheVariants.{PastEnd, TooLong}

@@ -1,17 +1,19 @@
 -- Bytes are written into a file, as many as there are blocks for.
 use Rattle.tree.proofs.Common.{◌≡◌, ℕ, ◌+◌, ◌<◌, ◌≤◌, Bool, Err, List, None, Ok, Option, Result, Some, length, take, drop, ap, sym, refl, ◌∙◌, ◌++◌, arith, subst, zero, suc, true, false, inl, inr, nat_le, ◌&&◌, and_from, and_left}
-use Rattle.tree.proofs.Common.{and_right, cases_eq, cond-false, cond-true, false≢true, le-leb, lt-leb, append_assoc, length-append, length-take-le, take_all, splice, Changes, Keeps, LacksWriting, Store, Writes, raw_at, InodeFault}
-use Rattle.tree.proofs.Common.{PastEnd, TooLong, Geometry, IsFileSystem, Stores, files_of, tree_with, IsFile, Written, count_of, files_after, fitting, write_to, written, blocks_of, Files, longest, slot, File, data_blocks_of, overwrite}
+use Rattle.tree.proofs.Common.{and_right, cases_eq, cond, false≢true, le-leb, lt-leb, append_assoc, length-append, length-take-le, take_all, splice, Changes, Keeps, LacksWriting, Store, Writes, raw_at, InodeFault, PastEnd, TooLong}
+use Rattle.tree.proofs.Common.{Geometry, IsFileSystem, Stores, files_of, tree_with, IsFile, Written, count_of, files_after, fitting, written, blocks_of, Files, longest, slot, File, data_blocks_of, overwrite, DeviceFault}
+use Rattle.tree.proofs.Common.{Rewrites, Tries, put, Directory}
 use Rattle.inode.specs.Store.{has_failed, is_device, with_bytes}
-use Rattle.inode.specs.Store as inode
 use Rattle.inode.specs.declared.InodeFault.TheVariants.{Blocks, Device}
 use Rattle.inode.specs.Writing.{LacksAt}
 use Rattle.tree.specs.Tree.{Serves}
-use Rattle.tree.specs.Written as tree
 use Rattle.unixmodel.specs.FileCalls.{greatest, with_file}
-use Rattle.tree.proofs.Bridging.{file-stores, taken-grows}
-use Rattle.tree.proofs.Serving.{kept-stores, turned-files}
+use Rattle.tree.proofs.Bridging.{beside-volume, file-stores, kept-stores, never-full, rewritten-stores, taken-grows, turned-files}
+use Rattle.tree.proofs.Following.{tried, failed}
 use Rattle.tree.proofs.Storing.{blocks_of-set, held-again, held-raw, slot-within, taken_by}
+use Rattle.unixmodel.specs.Files.{Entry}
+use Rattle.inode.specs.Store as inode
+use Rattle.tree.specs.Written as tree
 
 -- the greatest number that passes
 greatest-is : (test : ℕ → Bool) (n k : ℕ) → k ≤ n → test k ≡ true → ((j : ℕ) → k < j → j ≤ n → test j ≡ false) → greatest test n ≡ k
@@ -56,12 +58,11 @@ module _ {D : Type 0} {v : Store D} (holds : IsFileSystem v) (n at : ℕ) (new :
       let balance = holds.free in
       lt-leb (blocks_of (more j)) (data_blocks_of v.geometry.size v.geometry.inodes) (omega arith)
 
-  written-is : written limit files n at new ≡ write_to limit files n at new (Some (File file.links file.bytes))
+  -- a write that begins within the file and isn't too long, or another
+  written-is : (within : Bool) → (nat_le at (length file.bytes) && nat_le (at + length new) longest) ≡ within
+      → written limit files n at new ≡ cond within (Some (tree.with_bytes files n at file.links file.bytes new (fitting limit files n at file.links file.bytes new))) None
   unfolding written
-  written-is = ap (write_to limit files n at new) file.here
-
-  refused : (nat_le at (length file.bytes) && nat_le (at + length new) longest) ≡ false → written limit files n at new ≡ None
-  refused h = written-is ∙ cond-false (nat_le at (length file.bytes) && nat_le (at + length new) longest) (Some (tree.with_bytes files n at file.links file.bytes new (fitting limit files n at file.links file.bytes new))) None h
+  written-is within h = rw (file.here, h) refl
 
   abbrev w : Option Written
   w = written (data_blocks_of v.geometry.size v.geometry.inodes) files n at new
@@ -90,9 +91,7 @@ module _ {D : Type 0} {v : Store D} (holds : IsFileSystem v) (n at : ℕ) (new :
         let balance = held.free ∙ ap (λ (g : Geometry). data_blocks_of g.size g.inodes) same in
         let fits : nat_le (blocks_of (more k)) limit ≡ true = le-leb (blocks_of (more k)) (data_blocks_of v.geometry.size v.geometry.inodes) (omega arith) in
         let most : fitting limit files n at file.links file.bytes new ≡ k = greatest-is (λ j. nat_le (blocks_of (more j)) limit) (length new) k high fits above in (
-          written-is
-              ∙ cond-true (nat_le at (length file.bytes) && nat_le (at + length new) longest) (Some (tree.with_bytes files n at file.links file.bytes new (fitting limit files n at file.links file.bytes new))) None
-              (and_from (nat_le at (length file.bytes)) (nat_le (at + length new) longest) (le-leb at (length file.bytes) low) (le-leb (at + length new) longest short))
+          written-is true (and_from (nat_le at (length file.bytes)) (nat_le (at + length new) longest) (le-leb at (length file.bytes) low) (le-leb (at + length new) longest short))
               ∙ ap (λ j. Some (tree.with_bytes files n at file.links file.bytes new j)) most,
           held,
         )
@@ -109,7 +108,7 @@ module _ {D : Type 0} {v : Store D} (holds : IsFileSystem v) (n at : ℕ) (new :
     write-none : (nat_le at (length file.bytes) && nat_le (at + length new) longest) ≡ false → Keeps v v' → Told v' None
     unfolding limit
     write-none h keeps =
-        let none = refused h in
+        let none = written-is false h in
         (ap count_of (sym none), subst (λ o. Stores v' (files_after files o)) (sym none) (subst (λ ns. Stores v' (files_of ns)) keeps.nodes (kept-stores same keeps holds)))
 
     module _ {identity : D → List ℕ} where
@@ -137,4 +136,25 @@ module _ {D : Type 0} {v : Store D} (holds : IsFileSystem v) (n at : ℕ) (new :
       write-serves hs up r wrote good =
           let now : v'.failed ≡ false = wrote.failed ∙ good in
           let told = write-told r wrote now in
-          record { told = (turned-files wrote.follows hs (now ∙ sym up) told.1, told.0); up = now; down = tt; same_device = wrote.follows.same_device; cause = record { later = wrote.follows.later; failed = λ e. absurd (false≢true e) } }
+          (tried (beside-volume wrote.follows hs) now (turned-files wrote.follows hs (now ∙ sym up) told.1, told.0)).serves
+
+-- ---- places of a directory are written
+
+module _ {D : Type 0} {identity : D → List ℕ} {v v' : Store D} {hs : List ℕ} where
+  -- an access failed
+  pub device-lost : {T U : Type 0} {Done : U → Type 0} {Why : InodeFault → Type 0} {Told : T → Type 0} {e : DeviceFault} → inode.Serves {T = U} identity is_device v v' (Err Device) Done Why → Tries {T = T} (tree_with (identity v.device) v hs) (tree_with (identity v'.device) v' hs) (Err e) Told
+  device-lost wrote = failed (beside-volume wrote.follows hs) wrote.failed (wrote.cause refl)
+
+  module _ {d at : ℕ} {bytes : List ℕ} (holds : IsFileSystem v) where
+    -- places stand in a directory
+    pub rewrite-done : {u : Unit {0}} → v.failed ≡ false → inode.Serves identity is_device v v' (Ok u) (λ _. Writes v v' d at bytes) (LacksWriting v v' d at bytes)
+        → Tries (tree_with (identity v.device) v hs) (tree_with (identity v'.device) v' hs) (Ok u) (λ _. (next : List (Option Entry)) → (r : Rewrites (tree_with (identity v.device) v hs) d at bytes next) → tree_with (identity v'.device) v' hs ≡ record (tree_with (identity v.device) v hs) { files = put (files_of v.nodes) d (Directory r.links next); failures = v'.failures })
+    rewrite-done up wrote = tried (beside-volume wrote.follows hs) wrote.failed (λ next r. turned-files wrote.follows hs (wrote.failed ∙ sym up) (rewritten-stores holds r wrote.follows.geometry wrote.done))
+
+    -- the volume holds its files still
+    pub rewrite-held : {next : List (Option Entry)} → Rewrites (tree_with (identity v.device) v hs) d at bytes next → (r : Result (Unit {0}) InodeFault) → inode.Serves identity is_device v v' r (λ _. Writes v v' d at bytes) (LacksWriting v v' d at bytes) → v'.failed ≡ false → IsFileSystem v'
+    rewrite-held able (Ok u) wrote up = held-again (rewritten-stores holds able wrote.follows.geometry wrote.done)
+    rewrite-held able (Err (Blocks k)) wrote up = absurd (never-full holds able k (wrote.refused refl))
+    rewrite-held able (Err PastEnd) wrote up = kept-stores wrote.follows.geometry (wrote.refused refl).0 holds
+    rewrite-held able (Err TooLong) wrote up = kept-stores wrote.follows.geometry (wrote.refused refl).0 holds
+    rewrite-held able (Err Device) wrote up = absurd (false≢true (sym up ∙ wrote.failed))

@@ -1,8 +1,46 @@
 -- Steps of a call on files, one after the other, and how the call ends.
-use Rattle.tree.proofs.Common.{◌≡◌, ◌≢◌, ◌≤◌, ◌∙◌, ℕ, Err, List, Ok, Result, ap, arith, false, refl, subst, sym, true, IfOk, IsSome, None, OnErr, Option, Some, IsErrAnd, is_err}
-use Rattle.tree.proofs.Common.{false≢true, err_from_is_err_and, DeviceFault, rises-before, IsFolder, Reads, Tries, Turns, Acts, FileTree, TreeFault, Files, Node, lookup, slot}
-use Rattle.tree.specs.Tree.{is_device}
+use Rattle.tree.proofs.Common.{◌≡◌, ◌≢◌, ◌≤◌, ◌∙◌, ℕ, Err, List, Ok, Result, ap, arith, false, refl, subst, sym, true, IfOk, IsSome, None, OnErr, Option, Some, IsErrAnd, is_err, IsRefusal, false≢true, err_from_is_err_and, DeviceFault}
+use Rattle.tree.proofs.Common.{rises-before, IsFolder, Reads, Tries, Turns, Acts, FileTree, TreeFault, Files, Node, lookup, slot, IfOk-at_ok, fresh, Rewrites, TakesNode, IsFile, free_number, put, Directory}
+use Rattle.tree.specs.Tree.{is_device, Serves, has_failed}
 use Rattle.tree.specs.declared.TreeFault.TheVariants.{Device}
+use Rattle.unixmodel.specs.Failures.{Rises}
+use Rattle.unixmodel.specs.Files.{Entry}
+
+-- what no step changes
+pub record Beside (old new : FileTree) : Type 0 where
+  pub size : new.size ≡ old.size
+  pub limit : new.block_limit ≡ old.block_limit
+  pub holds : new.holds ≡ old.holds
+  pub device : new.identity ≡ old.identity
+  pub later : old.failures ≤ new.failures
+
+pub beside-then : {old mid new : FileTree} → Beside old mid → Beside mid new → Beside old new
+beside-then one two = record { size = two.size ∙ one.size; limit = two.limit ∙ one.limit; holds = two.holds ∙ one.holds; device = two.device ∙ one.device; later = let l = one.later in let m = two.later in omega arith }
+
+beside-tried : {old new : FileTree} {T : Type 0} {r : Result T DeviceFault} {Told : T → Type 0} → Tries old new r Told → Beside old new
+beside-tried tries = record { size = tries.size; limit = tries.limit; holds = tries.holds; device = tries.serves.same_device; later = tries.serves.cause.later }
+
+pub beside-acted : {old new : FileTree} {T : Type 0} {r : Result T TreeFault} {Done : T → Type 0} {Refused : Type 0} {Why : TreeFault → Type 0} → Acts old new r Done Refused Why → Beside old new
+beside-acted acts = record { size = acts.size; limit = acts.limit; holds = acts.holds; device = acts.same_device; later = acts.later }
+
+-- ---- a step answers
+
+module _ {old new : FileTree} {T : Type 0} {Told : T → Type 0} (beside : Beside old new) where
+  pub tried : {x : T} → new.failed ≡ false → Told x → Tries old new (Ok x) Told
+  tried up told = record {
+    serves = record { told = told; up = up; down = tt; same_device = beside.device; cause = record { later = beside.later; failed = λ e. absurd (false≢true e) } };
+    size = beside.size;
+    limit = beside.limit;
+    holds = beside.holds;
+  }
+
+  pub failed : {e : DeviceFault} → new.failed ≡ true → Rises old.failures new.failures → Tries old new (Err e) Told
+  failed down rises = record {
+    serves = record { told = tt; up = tt; down = down; same_device = beside.device; cause = record { later = beside.later; failed = λ _. rises } };
+    size = beside.size;
+    limit = beside.limit;
+    holds = beside.holds;
+  }
 
 -- behind steps that were good: these are the files, and all else is as it was
 pub record IsNow (old now : FileTree) (files : Files) : Type 0 where
@@ -12,6 +50,15 @@ pub record IsNow (old now : FileTree) (files : Files) : Type 0 where
 pub now-begin : {t : FileTree} → IsNow t t t.files
 now-begin = record { is = refl; later = omega arith }
 
+pub beside-now : {old now : FileTree} {files : Files} → IsNow old now files → Beside old now
+beside-now now = record {
+  size = ap (λ (t : FileTree). t.size) now.is;
+  limit = ap (λ (t : FileTree). t.block_limit) now.is;
+  holds = ap (λ (t : FileTree). t.holds) now.is;
+  device = ap (λ (t : FileTree). t.identity) now.is;
+  later = now.later;
+}
+
 module _ {old mid : FileTree} {files : Files} (now : IsNow old mid files) where
   pub now-up : old.failed ≡ false → mid.failed ≡ false
   now-up up = ap (λ (t : FileTree). t.failed) now.is ∙ up
@@ -19,17 +66,8 @@ module _ {old mid : FileTree} {files : Files} (now : IsNow old mid files) where
   pub now-files : mid.files ≡ files
   now-files = ap (λ (t : FileTree). t.files) now.is
 
-  pub now-size : mid.size ≡ old.size
-  now-size = ap (λ (t : FileTree). t.size) now.is
-
   pub now-limit : mid.block_limit ≡ old.block_limit
-  now-limit = ap (λ (t : FileTree). t.block_limit) now.is
-
-  pub now-holds : mid.holds ≡ old.holds
-  now-holds = ap (λ (t : FileTree). t.holds) now.is
-
-  pub now-device : mid.identity ≡ old.identity
-  now-device = ap (λ (t : FileTree). t.identity) now.is
+  now-limit = (beside-now now).limit
 
   pub used-now : (n : ℕ) → IsSome (slot files n) → IsSome (slot mid.files n)
   used-now n = subst (λ (fs : Files). IsSome (slot fs n)) (sym now-files)
@@ -72,25 +110,14 @@ module _ {old mid : FileTree} {files : Files} (now : IsNow old mid files) where
     -- a step failed
     pub end-lost : {T U : Type 0} {Was : U → Type 0} {Told : T → Type 0} {r : Result U DeviceFault} {e f : DeviceFault} {s : Result T DeviceFault} → Tries mid new r Was → r ≡ Err e → IsErrAnd s (λ x. x ≡ f) → Tries old new s Told
     end-lost {U = U} {s = s} tries was told =
-        let err = (err_from_is_err_and s told).1 in
-        let failed = subst (λ (q : Result U DeviceFault). OnErr q (new.failed ≡ true)) was tries.serves.down in
-        record {
-          serves = record { told = rw err tt; up = rw err tt; down = rw err failed; same_device = tries.serves.same_device ∙ now-device; cause = record { later = let l = now.later in let m = tries.serves.cause.later in omega arith; failed = λ _. rises-before now.later (tries.serves.cause.failed (ap is_err was)) } };
-          size = tries.size ∙ now-size;
-          limit = tries.limit ∙ now-limit;
-          holds = tries.holds ∙ now-holds;
-        }
+        let down = subst (λ (q : Result U DeviceFault). OnErr q (new.failed ≡ true)) was tries.serves.down in
+        rw (err_from_is_err_and s told).1 (failed (beside-then (beside-now now) (beside-tried tries)) down (rises-before now.later (tries.serves.cause.failed (ap is_err was))))
 
 -- ---- the answer of the last step
 
 last-is : {old mid new : FileTree} {files : Files} (now : IsNow old mid files) {T : Type 0} {Was Told : T → Type 0} (r : Result T DeviceFault) → Tries mid new r Was → ((x : T) → r ≡ Ok x → Told x) → Tries old new r Told
 last-is now (Err e) tries so = end-lost now tries refl refl
-last-is now (Ok x) tries so = record {
-  serves = record { told = so x refl; up = tries.serves.up; down = tt; same_device = tries.serves.same_device ∙ now-device now; cause = record { later = let l = now.later in let m = tries.serves.cause.later in omega arith; failed = λ e. absurd (false≢true e) } };
-  size = tries.size ∙ ap (λ (t : FileTree). t.size) now.is;
-  limit = tries.limit ∙ ap (λ (t : FileTree). t.block_limit) now.is;
-  holds = tries.holds ∙ ap (λ (t : FileTree). t.holds) now.is;
-}
+last-is now (Ok x) tries so = tried (beside-then (beside-now now) (beside-tried tries)) tries.serves.up (so x refl)
 
 pub end-last : {old mid new : FileTree} (now : IsNow old mid old.files) {T : Type 0} {Was Told : T → Type 0} (r : Result T DeviceFault) → Reads mid new r Was → ((x : T) → Was x → Told x) → Reads old new r Told
 end-last {old} {mid} {new} now {T} {Was} {Told} r reads so = last-is now r reads (λ x is.
@@ -103,12 +130,7 @@ turned-last {old} {new = new} now {T} r turns same = last-is now r turns (λ x i
 -- ---- it is done
 
 pub end-done : {old now : FileTree} {T : Type 0} {Told : T → Type 0} {files : Files} {x : T} → old.failed ≡ false → IsNow old now files → Told x → Tries old now (Ok x) Told
-end-done up now told = record {
-  serves = record { told = told; up = now-up now up; down = tt; same_device = now-device now; cause = record { later = now.later; failed = λ e. absurd (false≢true e) } };
-  size = ap (λ (t : FileTree). t.size) now.is;
-  limit = ap (λ (t : FileTree). t.block_limit) now.is;
-  holds = ap (λ (t : FileTree). t.holds) now.is;
-}
+end-done up now told = tried (beside-now now) (now-up now up) told
 
 pub end-read : {old now : FileTree} {T : Type 0} {Told : T → Type 0} {x : T} → old.failed ≡ false → IsNow old now old.files → Told x → Reads old now (Ok x) Told
 end-read up now told = end-done up now (now.is, told)
@@ -125,70 +147,153 @@ fault_or (Err fault) other = fault
 err-is : {T : Type 0} (e f : TreeFault) → ◌≡◌ {A = Result T TreeFault} (Err e) (Err f) → e ≡ f
 err-is e f h = ap (λ r. fault_or r e) h
 
-module _ {old now : FileTree} {T : Type 0} {Done : T → Type 0} {Refused : Type 0} {Why : TreeFault → Type 0} (up : old.failed ≡ false) where
-  pub acts-done : {files : Files} {x : T} → IsNow old now files → Done x → Acts old now (Ok x) Done Refused Why
-  acts-done is done = record {
-    done = done;
-    refused = tt;
-    failed = now-up is up;
-    size = ap (λ (t : FileTree). t.size) is.is;
-    limit = ap (λ (t : FileTree). t.block_limit) is.is;
-    holds = ap (λ (t : FileTree). t.holds) is.is;
-    same_device = now-device is;
-    later = is.later;
-    cause = λ e. cc;
-  }
+module _ {old now : FileTree} {T : Type 0} {Done : T → Type 0} {Refused : Type 0} {Why : TreeFault → Type 0} where
+  acted : {x : T} → Beside old now → now.failed ≡ false → Done x → Acts old now (Ok x) Done Refused Why
+  acted beside up done =
+      record { done = done; refused = tt; failed = up; size = beside.size; limit = beside.limit; holds = beside.holds; same_device = beside.device; later = beside.later; cause = λ e. cc }
 
-  pub acts-not : {fault : TreeFault} → IsNow old now old.files → is_device fault ≡ false → Refused → Why fault → Acts old now (Err fault) Done Refused Why
-  acts-not {fault} is known refused why = record {
+  refused : {fault : TreeFault} → Beside old now → now.failed ≡ is_device fault → (fault ≢ Device → IsRefusal old now Refused (Why fault)) → (fault ≡ Device → Rises old.failures now.failures) → Acts old now (Err fault) Done Refused Why
+  refused {fault} beside failed why cause = record {
     done = tt;
-    refused = λ _. record { refused = refused; why = why; same = ap (λ (t : FileTree). t.files) is.is };
-    failed = now-up is up ∙ sym known;
-    size = ap (λ (t : FileTree). t.size) is.is;
-    limit = ap (λ (t : FileTree). t.block_limit) is.is;
-    holds = ap (λ (t : FileTree). t.holds) is.is;
-    same_device = now-device is;
-    later = is.later;
-    cause = λ e. absurd (false≢true (sym known ∙ ap is_device (err-is fault Device e)));
+    refused = why;
+    failed = failed;
+    size = beside.size;
+    limit = beside.limit;
+    holds = beside.holds;
+    same_device = beside.device;
+    later = beside.later;
+    cause = λ e. cause (err-is fault Device e);
   }
 
-  module _ {mid : FileTree} {files : Files} (is : IsNow old mid files) where
-    -- an access failed
-    pub acts-lost : {U : Type 0} {Was : U → Type 0} {r : Result U DeviceFault} {e : DeviceFault} {s : Result T TreeFault} → Tries mid now r Was → r ≡ Err e → IsErrAnd s (λ f. f ≡ Device) → Acts old now s Done Refused Why
-    acts-lost {U} {r = r} {s = s} tries was told =
-        let err = err_from_is_err_and s told in
-        let device : s ≡ Err Device = err.1 ∙ ap Err err.2 in
-        let failed = subst (λ (q : Result U DeviceFault). OnErr q (now.failed ≡ true)) was tries.serves.down in
-        let rises = rises-before is.later (tries.serves.cause.failed (ap is_err was)) in
-        rw device (record {
-          done = tt;
-          refused = λ known. absurd (known refl);
-          failed = failed;
-          size = tries.size ∙ ap (λ (t : FileTree). t.size) is.is;
-          limit = tries.limit ∙ ap (λ (t : FileTree). t.block_limit) is.is;
-          holds = tries.holds ∙ ap (λ (t : FileTree). t.holds) is.is;
-          same_device = tries.serves.same_device ∙ now-device is;
-          later = let l = is.later in let m = tries.serves.cause.later in omega arith;
-          cause = λ _. rises;
-        })
+  pub acts-done : {files : Files} {x : T} → old.failed ≡ false → IsNow old now files → Done x → Acts old now (Ok x) Done Refused Why
+  acts-done up is done = acted (beside-now is) (now-up is up) done
 
-  -- the fault of a part is told, of which the same holds
-  pub acts-passed : {mid : FileTree} (is : IsNow old mid old.files) {U : Type 0} {Part : U → Type 0} {Less : Type 0} {Cause : TreeFault → Type 0} {fault : TreeFault} {s : Result T TreeFault} → Acts {T = U} mid now (Err fault) Part Less Cause
-      → (fault ≢ Device → Less → Cause fault → Refused × Why fault) → IsErrAnd s (λ f. f ≡ fault) → Acts old now s Done Refused Why
-  acts-passed {mid} is {U} {fault = fault} {s} part so told =
+  pub acts-not : {fault : TreeFault} → old.failed ≡ false → IsNow old now old.files → is_device fault ≡ false → Refused → Why fault → Acts old now (Err fault) Done Refused Why
+  acts-not {fault} up is known less why =
+      refused (beside-now is) (now-up is up ∙ sym known) (λ _. record { refused = less; why = why; same = now-files is }) (λ e. absurd (false≢true (sym known ∙ ap is_device e)))
+
+  -- an access failed
+  pub acts-lost : {mid : FileTree} {files : Files} (is : IsNow old mid files) {U : Type 0} {Was : U → Type 0} {r : Result U DeviceFault} {e : DeviceFault} {s : Result T TreeFault} → Tries mid now r Was → r ≡ Err e → IsErrAnd s (λ f. f ≡ Device)
+      → Acts old now s Done Refused Why
+  acts-lost is {U} {s = s} tries was told =
       let err = err_from_is_err_and s told in
-      let e : s ≡ Err fault = err.1 ∙ ap Err err.2 in
-      rw e (record {
-        done = tt;
-        refused = λ known.
-            let no = part.refused known in
-            let both = so known no.refused no.why in
-            record { refused = both.0; why = both.1; same = no.same ∙ ap (λ (t : FileTree). t.files) is.is };
-        failed = part.failed;
-        size = part.size ∙ ap (λ (t : FileTree). t.size) is.is;
-        limit = part.limit ∙ ap (λ (t : FileTree). t.block_limit) is.is;
-        holds = part.holds ∙ ap (λ (t : FileTree). t.holds) is.is;
-        same_device = part.same_device ∙ now-device is;
-        later = let l = is.later in let m = part.later in omega arith;
-        cause = λ q. let rises = part.cause (ap Err (err-is fault Device q)) in rises-before is.later rises;
-      })
+      let down = subst (λ (q : Result U DeviceFault). OnErr q (now.failed ≡ true)) was tries.serves.down in
+      let rises = rises-before is.later (tries.serves.cause.failed (ap is_err was)) in
+      rw (err.1 ∙ ap Err err.2) (refused (beside-then (beside-now is) (beside-tried tries)) down (λ known. absurd (known refl)) (λ _. rises))
+
+  -- a part was refused, and so is all
+  pub acts-refused : {mid : FileTree} → IsNow old mid old.files → {U : Type 0} {Part : U → Type 0} {Less : Type 0} {Cause : TreeFault → Type 0} {r : Result U TreeFault} {s : Result T TreeFault} {fault : TreeFault} → Acts mid now r Part Less Cause → r ≡ Err fault
+      → (fault ≢ Device → Less → Cause fault → Refused × Why fault) → IsErrAnd s (λ f. f ≡ fault) → Acts old now s Done Refused Why
+  acts-refused {mid} is {Part = Part} {Less = Less} {Cause = Cause} {s = s} acts was so told =
+      let part = subst (λ q. Acts mid now q Part Less Cause) was acts in
+      let err = err_from_is_err_and s told in
+      rw (err.1 ∙ ap Err err.2) (refused (beside-then (beside-now is) (beside-acted part)) part.failed
+      (λ known.
+      let no = part.refused known in
+      let both = so known no.refused no.why in
+      record { refused = both.0; why = both.1; same = no.same ∙ now-files is })
+      (λ e. let rises = part.cause (ap Err e) in rises-before is.later rises))
+
+-- ---- steps that turn files into others, and steps that answer for all files alike
+
+module _ {old mid : FileTree} {files : Files} (now : IsNow old mid files) where
+  -- what was told of a tree behind steps, of what is known of the one before
+  pub was-now : (P : FileTree → Type 0) → P mid → P (record old { files = files; failures = mid.failures })
+  was-now P = subst P now.is
+
+  -- and what is asked of it
+  pub at-now : (P : FileTree → Type 0) → P (record old { files = files; failures = mid.failures }) → P mid
+  at-now P = subst P (sym now.is)
+
+  module _ {new : FileTree} {T : Type 0} {r : Result T DeviceFault} (change : Files → Files) (turns : Turns mid new r (change mid.files)) where
+    pub now-changed : {x : T} → r ≡ Ok x → IsNow old new (change files)
+    now-changed is = subst (IsNow old new) (ap change (now-files now)) (now-turned now turns is)
+
+    pub end-changed : {goal : Files} → change files ≡ goal → Turns old new r goal
+    end-changed e = turned-last now r turns (ap change (now-files now) ∙ e)
+
+  -- a node was taken
+  module _ {new : FileTree} {r : Result (Option ℕ) DeviceFault} (kind major minor : ℕ) (takes : Tries mid new r (TakesNode mid new kind major minor)) {o : Option ℕ} (is : r ≡ Ok o) where
+    told : TakesNode mid new kind major minor o
+    told = IfOk-at_ok (TakesNode mid new kind major minor) is takes.serves.told
+
+    since : old.failures ≤ new.failures
+    since = let l = now.later in let m = takes.serves.cause.later in omega arith
+
+    pub now-took : {n : ℕ} → o ≡ Some n → (free_number files ≡ Some n) × IsNow old new (put files n (fresh kind major minor))
+    now-took {n} some =
+        let t = subst (TakesNode mid new kind major minor) some told in (
+          ap free_number (sym (now-files now)) ∙ t.0,
+          record { is = t.1 ∙ ap (λ (t : FileTree). record t { files = put t.files n (fresh kind major minor); failures = new.failures }) now.is; later = since },
+        )
+
+    pub now-none : o ≡ None → (free_number files ≡ None) × IsNow old new files
+    now-none none =
+        let t = subst (TakesNode mid new kind major minor) none told in
+        (ap free_number (sym (now-files now)) ∙ t.0, record { is = t.1 ∙ ap (λ (t : FileTree). record t { failures = new.failures }) now.is; later = since })
+
+  -- behind a call on names
+  module _ {new : FileTree} {T : Type 0} {r : Result T TreeFault} {Done : T → Type 0} {Refused : Type 0} {Why : TreeFault → Type 0} (acts : Acts mid new r Done Refused Why) where
+    pub now-passed : old.failed ≡ false → {x : T} → r ≡ Ok x → {next : Files} → new.files ≡ next → IsNow old new next
+    now-passed up is {next} same =
+        let all = beside-then (beside-now now) (beside-acted acts) in
+        let up : new.failed ≡ old.failed = acts.failed ∙ ap has_failed is ∙ sym up in
+        record { is = λ i. record { files = same i; size = all.size i; block_limit = all.limit i; holds = all.holds i; failed = up i; failures = new.failures; identity = all.device i }; later = all.later }
+
+  -- that left the files as they were
+  pub now-kept : {new : FileTree} {T : Type 0} {r : Result T TreeFault} {Done : T → Type 0} {Refused : Type 0} {Why : TreeFault → Type 0} → Acts mid new r (λ x. Done x × (new.files ≡ mid.files)) Refused Why
+      → old.failed ≡ false → {x : T} → r ≡ Ok x → IsNow old new files
+  now-kept {new} {Done = Done} acts up is = now-passed acts up is ((IfOk-at_ok (λ x. Done x × (new.files ≡ mid.files)) is acts.done).1 ∙ now-files now)
+
+-- by what is known of the files
+pub now-wanted : {old now : FileTree} {files wanted : Files} → IsNow old now files → files ≡ wanted → IsNow old now wanted
+now-wanted {old} {now} is e = subst (IsNow old now) e is
+
+-- a file is one behind steps
+abbrev pub file-now : {old mid : FileTree} {files : Files} → IsNow old mid files → {n : ℕ} → IsFile files n → IsFile mid.files n
+file-now now {n} f = record { links = f.links; bytes = f.bytes; here = ap (λ (fs : Files). slot fs n) (now-files now) ∙ f.here }
+
+-- ---- the files are others by what is known of them
+
+pub end-still : {old now : FileTree} {T : Type 0} {files goal : Files} {x : T} → old.failed ≡ false → IsNow old now files → files ≡ goal → Turns old now (Ok x) goal
+end-still up is e = end-turned up (now-wanted is e)
+
+-- ---- places of a directory are written
+
+-- these bytes make these files of it
+pub record Becomes (t : FileTree) (d at : ℕ) (bytes : List ℕ) (goal : Files) : Type 0 where
+  pub next : List (Option Entry)
+  pub able : Rewrites t d at bytes next
+  pub is : put t.files d (Directory able.links next) ≡ goal
+
+told-done : {T : Type 0} {Was Told : T → Type 0} (r : Result T DeviceFault) → ((x : T) → Was x → Told x) → IfOk r Was → IfOk r Told
+told-done (Ok x) so was = so x was
+told-done (Err e) so was = tt
+
+-- what is told tells more
+pub tells-more : {old new : FileTree} {T : Type 0} {Was Told : T → Type 0} {r : Result T DeviceFault} → ((x : T) → Was x → Told x) → Tries old new r Was → Tries old new r Told
+tells-more {r = r} so tries = record {
+  serves = record { told = told-done r so tries.serves.told; up = tries.serves.up; down = tries.serves.down; same_device = tries.serves.same_device; cause = tries.serves.cause };
+  size = tries.size;
+  limit = tries.limit;
+  holds = tries.holds;
+}
+
+pub turns-become : {t new : FileTree} {d at : ℕ} {bytes : List ℕ} {goal : Files} {T : Type 0} {r : Result T DeviceFault} (b : Becomes t d at bytes goal)
+    → Tries t new r (λ _. (next : List (Option Entry)) → (r : Rewrites t d at bytes next) → new ≡ record t { files = put t.files d (Directory r.links next); failures = new.failures }) → Turns t new r goal
+turns-become {t} {new} b = tells-more (λ x is. is b.next b.able ∙ ap (λ (fs : Files). record t { files = fs; failures = new.failures }) b.is)
+
+-- ---- calls that serve, of which nothing else is known
+
+module _ {old mid new : FileTree} {files : Files} (now : IsNow old mid files) {T : Type 0} {r : Result T DeviceFault} {Was : T → Type 0} (serves : Serves mid new r Was) where
+  pub now-served : {x : T} → r ≡ Ok x → {next : Files} → (Was x → new ≡ record mid { files = next; failures = new.failures }) → IsNow old new next
+  now-served is {next} so = record {
+    is = so (IfOk-at_ok Was is serves.told) ∙ ap (λ (t : FileTree). record t { files = next; failures = new.failures }) now.is;
+    later = let l = now.later in let m = serves.cause.later in omega arith;
+  }
+
+  pub lost-served : {U : Type 0} {Told : U → Type 0} {e f : DeviceFault} {s : Result U DeviceFault} → r ≡ Err e → IsErrAnd s (λ x. x ≡ f) → Serves old new s Told
+  lost-served {s = s} was told =
+      let err = (err_from_is_err_and s told).1 in
+      let failed = subst (λ (q : Result T DeviceFault). OnErr q (new.failed ≡ true)) was serves.down in
+      record { told = rw err tt; up = rw err tt; down = rw err failed; same_device = serves.same_device ∙ (beside-now now).device; cause = record { later = let l = now.later in let m = serves.cause.later in omega arith; failed = λ _. rises-before now.later (serves.cause.failed (ap is_err was)) } }

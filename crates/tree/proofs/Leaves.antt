@@ -7,9 +7,8 @@ use Rattle.tree.specs.declared.TreeFault.TheVariants.{Blocks}
 use Rattle.tree.specs.declared.TreeFault.TheVariants as fault
 use Rattle.unixmodel.specs.Files.{Entry}
 use Rattle.tree.proofs.Gaps.{lacks-dead, lacks-other, made-full, made-nowhere, made-there, over-blocks, overflow-none}
-use Rattle.tree.proofs.Following.{IsNow}
+use Rattle.tree.proofs.Following.{IsNow, at-now}
 use Rattle.tree.proofs.Spots.{spot-none}
-use Rattle.tree.proofs.Turning.{at-now}
 use Rattle.tree.proofs.Taking.{fresh-blocks, still-here}
 
 pub leaf-empty : (l : Leaf) → size_of (leaf_node l) ≡ 0

@@ -1,7 +1,6 @@
 mod Common
 pub mod Storing
 pub mod Reading
-pub mod Erasing
 pub mod Linking
 pub mod Unlinking
 pub mod Looking
@@ -13,18 +12,12 @@ pub mod Placing
 pub mod Taking
 pub mod Gaps
 pub mod Leaves
-pub mod Emptying
 pub mod Links
 pub mod Folders
-pub mod Dots
-pub mod Serving
 pub mod Bridging
 pub mod Following
-pub mod Turning
 pub mod Letting
 pub mod Swept
 pub mod Fitting
-pub mod Rewriting
 pub mod Unnaming
 pub mod Keeping
-pub mod Whole

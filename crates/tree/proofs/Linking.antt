@@ -1,5 +1,6 @@
 -- The number of links of a node is another.
-use Rattle.tree.proofs.Common.{◌+◌, ◌≡◌, ℕ, Some, ap, sym, refl, ◌∙◌, arith, blocks_of, more_links, Files, Node, links_of, blocks_for, change_node, put, size_of, slot, with_links, File}
+use Rattle.tree.proofs.Common.{◌+◌, ◌≡◌, ℕ, Some, ap, sym, refl, ◌∙◌, arith, blocks_of, more_links, Files, Node, links_of, blocks_for, change_node, put, size_of, slot, with_links, File, ◌≢◌, InodeStat, emptied-is, Tells, IsFile}
+use Rattle.tree.proofs.Common.{emptied}
 use Rattle.tree.proofs.Storing.{blocks_of-set, change-is, slot-within, taken_by}
 
 pub links-size : (node : Node) (k : ℕ) → size_of (with_links node k) ≡ size_of node
@@ -20,3 +21,18 @@ module _ (files : Files) (n : ℕ) (node : Node) (here : slot files n ≡ Some n
       let same : taken_by (Some next) ≡ taken_by (Some node) = ap blocks_for (links-size node (links_of node + 1)) in
       let is = ap blocks_of (change-is files n more_links node here) in
       omega arith
+
+-- ---- a file loses its bytes
+
+module _ (files : Files) (n : ℕ) (node : Node) (here : slot files n ≡ Some node) (s : InodeStat) (told : Tells s node) where
+  pub emptied-other : s.kind ≢ 2 → files ≡ change_node files n emptied
+  emptied-other other = go node here told where
+    go : (node : Node) → slot files n ≡ Some node → Tells s node → files ≡ change_node files n emptied
+    go (File links bytes) here told = absurd (other told.0)
+    go node here told = sym (emptied-is files n node here refl)
+
+  pub emptied-file : s.kind ≡ 2 → IsFile files n
+  emptied-file two = go node here told where
+    go : (node : Node) → slot files n ≡ Some node → Tells s node → IsFile files n
+    go (File links bytes) here told = record { links = links; bytes = bytes; here = here }
+    go node here told = let e = told.0 in absurd (omega arith)

@@ -1,7 +1,7 @@
 -- The names of a path, one after the other, and what they reach.
 use Rattle.tree.proofs.Common.{◌≡◌, ℕ, ◌+◌, ◌-◌, ◌<◌, ◌≤◌, Bool, List, [], ◌∷◌, None, Option, Some, length, get_or, take, drop, map, ap, sym, refl, ◌∙◌, arith, subst, true, false, not, zero}
 use Rattle.tree.proofs.Common.{suc, inl, inr, IsSome, filter, min, nat_lt, option_and_then, option_map, position, unwrap_or, ◌==◌, cases_lt, cond-false, cond-true, false≢true, lt-ltb, not-true}
-use Rattle.tree.proofs.Common.{drop_all, get_or-drop, length-drop, length-take, length-take-le, take-take, take_all, take_rest, position-Some, none-some, same_Some, Files, find, follow}
+use Rattle.tree.proofs.Common.{drop-drop, drop_all, get_or-drop, length-drop, length-take, length-take-le, take-take, take_all, take_rest, position-Some, none-some, same_Some, Files, find, follow}
 use Rattle.tree.proofs.Common.{live_spot, lookup, onto_first, parts, pieces, slot, split_last, spot_of, start_of, with_last, KeepsTree, position-None, follow-used, start-used, above, reach}
 
 abbrev is_slash : ℕ → Bool
@@ -55,10 +55,9 @@ parts-nothing = refl
 
 -- the parts behind a slash
 parts-behind : (bs : List ℕ) (i : ℕ) → i < length bs → is_slash (get_or bs i 0) ≡ true → parts (drop i bs) ≡ parts (drop (suc i) bs)
-unfolding parts
-parts-behind [] i h slash = absurd (omega arith)
-parts-behind (b ∷ bs) zero h slash = ap (λ ws. map (take 14) (filter (λ w. nat_lt 0 (length w)) ws)) (cond-true (b == 0x2f) ([] ∷ pieces bs) (onto_first b (pieces bs)) slash)
-parts-behind (b ∷ bs) (suc i) h slash = parts-behind bs i (omega arith) slash
+parts-behind bs i h slash =
+    let next : i + 1 ≡ suc i = omega arith in
+    parts-skip (drop i bs) 1 (omega (arith, length-drop i bs)) (λ k l. (let z : i + k ≡ i = omega arith in ap is_slash (get_or-drop i bs k 0 ∙ ap (λ j. get_or bs j 0) z) ∙ slash)) ∙ ap parts (drop-drop 1 i bs ∙ ap (λ k. drop k bs) next)
 
 -- the name at the front
 pub record IsFront (bs : List ℕ) (end : ℕ) : Type 0 where

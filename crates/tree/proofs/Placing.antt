@@ -1,12 +1,75 @@
 -- An entry comes into a directory.
-use Rattle.tree.proofs.Common.{◌≡◌, ◌≢◌, None, ℕ, ◌+◌, ◌-◌, ◌*◌, ◌/◌, ◌<◌, ◌≤◌, List, [], ◌∷◌, ◌++◌, Option, Some, length, drop, ap, sym, ◌∙◌, arith, subst, cond, inl, inr, All, flat_map}
-use Rattle.tree.proofs.Common.{nat_lt, cases_lt, cond-false, cond-true, le-ltb, lt-ltb, drop_all, take_all, All-append, All-cons, All-nil, All-set, splice, length-place_bytes, length-spelling}
-use Rattle.tree.proofs.Common.{IsPlain, PlaceFits, taken_for, HasRoom, entered, growth, placed, room_in, FileTree, IsWhole, blocks_of, longest, place_bytes, put, slot, Directory}
+use Rattle.tree.proofs.Common.{◌≡◌, ◌≢◌, None, ℕ, ◌+◌, ◌-◌, ◌*◌, ◌/◌, ◌<◌, ◌≤◌, List, [], ◌∷◌, ◌++◌, Option, Some, length, drop, ap, sym, ◌∙◌, arith, subst, cond, inl, inr, All, flat_map, nat_lt, cases_lt, drop_all, take_all}
+use Rattle.tree.proofs.Common.{All-append, All-cons, All-nil, All-set, splice, length-place_bytes, length-spelling, IsPlain, PlaceFits, taken_for, HasRoom, entered, growth, placed, room_in, FileTree, IsWhole, blocks_of, longest}
+use Rattle.tree.proofs.Common.{place_bytes, slot, Directory, set, take, zero, suc, append_assoc, length-set, All-head, All-tail, HasPlace, FitsPlaces, blocks_for, erase, without_place, zeros}
 use Rattle.std.proofs.lemmas.List.Concat.{flat_map-append}
-use Rattle.tree.proofs.Erasing.{spelling-set, whole-fits}
-use Rattle.tree.proofs.Rooms.{blocks_of-entered, entered-is, room-cases}
-use Rattle.tree.proofs.Turning.{Becomes}
+use Rattle.tree.proofs.Rooms.{blocks_of-entered, entered-is, placed-behind, placed-inside, room-cases}
+use Rattle.tree.proofs.Following.{Becomes}
 use Rattle.unixmodel.specs.Files.{Entry}
+use Rattle.std.proofs.Math.Seq.{drop-append-add, drop-append_seam, take-append-add}
+use Rattle.tree.proofs.Storing.{blocks_of-set, change-is, slot-within, taken_by}
+
+-- ---- the spelling of a directory in which a place is another
+
+splice-after : (m : ℕ) (new first rest : List ℕ) → splice (length first + m) new (first ++ rest) ≡ first ++ splice m new rest
+splice-after m new first rest =
+    let e : length first + m + length new ≡ length first + (m + length new) = omega arith in
+    ap (λ r. r ++ (new ++ drop (length first + m + length new) (first ++ rest))) (take-append-add first rest m)
+    ∙ ap (λ r. (first ++ take m rest) ++ (new ++ r)) (ap (λ n. drop n (first ++ rest)) e ∙ drop-append-add first rest (m + length new))
+    ∙ append_assoc first (take m rest) (new ++ drop (m + length new) rest)
+
+pub spelling-set : (places : List (Option Entry)) (k : ℕ) (o : Option Entry) → All PlaceFits places → PlaceFits o → k < length places → splice (16 * k) (place_bytes o) (flat_map place_bytes places) ≡ flat_map place_bytes (set places k o)
+spelling-set [] k o fits fit h = absurd (omega arith)
+spelling-set (p ∷ os) zero o fits fit h =
+    let z : 16 * zero ≡ 0 = omega arith in
+    let e : 16 * zero + length (place_bytes o) ≡ length (place_bytes p) = omega (arith, length-place_bytes o fit, length-place_bytes p (All-head PlaceFits p os fits)) in
+    ap (λ n. take n (place_bytes p ++ flat_map place_bytes os) ++ (place_bytes o ++ drop (16 * zero + length (place_bytes o)) (place_bytes p ++ flat_map place_bytes os))) z
+    ∙ ap (λ n. place_bytes o ++ drop n (place_bytes p ++ flat_map place_bytes os)) e
+    ∙ ap (λ r. place_bytes o ++ r) (drop-append_seam (place_bytes p) (flat_map place_bytes os))
+spelling-set (p ∷ os) (suc k) o fits fit h =
+    let long = length-place_bytes p (All-head PlaceFits p os fits) in
+    let e : 16 * suc k ≡ length (place_bytes p) + 16 * k = omega arith in
+    ap (λ n. splice n (place_bytes o) (place_bytes p ++ flat_map place_bytes os)) e
+    ∙ splice-after (16 * k) (place_bytes o) (place_bytes p) (flat_map place_bytes os)
+    ∙ ap (λ r. place_bytes p ++ r) (spelling-set os k o (All-tail PlaceFits p os fits) fit (omega arith))
+
+-- ---- a place becomes free
+
+-- the places of a directory of files on a disk fit
+pub whole-fits : {t : FileTree} → IsWhole t → (d : ℕ) {links : ℕ} {places : List (Option Entry)} → slot t.files d ≡ Some (Directory links places) → All PlaceFits places
+whole-fits whole d here = subst FitsPlaces here (whole.places d)
+
+module _ {t : FileTree} (whole : IsWhole t) {d k : ℕ} (at : HasPlace t.files d k) where
+  pub place-high : 16 * k + 16 ≤ longest
+  place-high = let short = whole.short d (Directory at.links at.places) at.here in let within = at.within in omega arith
+
+  pub erased-becomes : Becomes t d (16 * k) (zeros 16) (erase t.files d k)
+  unfolding erase zeros
+  erased-becomes =
+      let fits = whole-fits whole d at.here in
+      let next = set at.places k None in
+      let b = blocks_of-set t.files d (Some (Directory at.links next)) (slot-within t.files d (Directory at.links at.places) at.here) in
+      let was : taken_by (slot t.files d) ≡ taken_by (Some (Directory at.links at.places)) = ap taken_by at.here in
+      let same : taken_by (Some (Directory at.links next)) ≡ taken_by (Some (Directory at.links at.places)) = ap (λ k. blocks_for (16 * k)) (length-set at.places k None) in
+      let all = whole.within in
+      let size = length-spelling at.places fits in
+      let within = at.within in
+      let high = place-high in
+      let sixteen : length (zeros 16) ≡ 16 = length-place_bytes None tt in
+      record {
+        next = next;
+        able = record {
+          links = at.links;
+          places = at.places;
+          here = at.here;
+          spelled = sym (spelling-set at.places k None fits tt at.within);
+          fits = All-set PlaceFits at.places k None tt fits;
+          within = omega arith;
+          short = omega arith;
+          room = omega arith;
+        };
+        is = sym (change-is t.files d (without_place k) (Directory at.links at.places) at.here);
+      }
 
 -- ---- the blocks that an entry takes
 
@@ -17,12 +80,6 @@ growth-size places place size grown e is =
     ∙ ap (λ n. cond (nat_lt place n) 0 (taken_for (16 * length places + 16) - taken_for (16 * length places))) d
 
 -- ---- the spelling of a directory with an entry
-
-placed-inside : (places : List (Option Entry)) (k : ℕ) (e : Entry) → k < length places → placed places k e ≡ put places k e
-placed-inside places k e h = cond-true (nat_lt k (length places)) (put places k e) (places ++ Some e ∷ []) (lt-ltb k (length places) h)
-
-placed-behind : (places : List (Option Entry)) (k : ℕ) (e : Entry) → length places ≤ k → placed places k e ≡ places ++ Some e ∷ []
-placed-behind places k e h = cond-false (nat_lt k (length places)) (put places k e) (places ++ Some e ∷ []) (le-ltb k (length places) h)
 
 placed-fits : (places : List (Option Entry)) (k : ℕ) (e : Entry) → All PlaceFits places → IsPlain e → All PlaceFits (placed places k e)
 placed-fits places k e fits plain = elim (cases_lt k (length places)) [

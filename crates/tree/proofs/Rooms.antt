@@ -40,18 +40,22 @@ room-cases places k h = go (free_slot places) refl h where
   go (Some j) e q = let s = (position-Some is_none places j None e).0 in let same = same_Some j k q in inl (omega arith)
   go None e q = inr (behind-is places k q)
 
+pub placed-inside : (places : List (Option Entry)) (k : ℕ) (e : Entry) → k < length places → placed places k e ≡ put places k e
+placed-inside places k e h = cond-true (nat_lt k (length places)) (put places k e) (places ++ Some e ∷ []) (lt-ltb k (length places) h)
+
+pub placed-behind : (places : List (Option Entry)) (k : ℕ) (e : Entry) → length places ≤ k → placed places k e ≡ places ++ Some e ∷ []
+placed-behind places k e h = cond-false (nat_lt k (length places)) (put places k e) (places ++ Some e ∷ []) (le-ltb k (length places) h)
+
 pub with-room : (places : List (Option Entry)) (k : ℕ) (e : Entry) → room_in places ≡ Some k → with_entry places e ≡ Some (placed places k e)
 unfolding room_in with_entry
 with-room places k e h = go (free_slot places) refl h where
   go : (o : Option ℕ) → free_slot places ≡ o → room_at places o ≡ Some k → with_entry_at places e o ≡ Some (placed places k e)
   go (Some j) at q =
       let s = (position-Some is_none places j None at).0 in
-      ap (λ i. Some (put places i e)) (same_Some j k q) ∙ ap Some (sym (cond-true (nat_lt k (length places)) (put places k e) (places ++ Some e ∷ []) (lt-ltb k (length places) (let same = same_Some j k q in omega arith))))
+      ap (λ i. Some (put places i e)) (same_Some j k q) ∙ ap Some (sym (placed-inside places k e (let same = same_Some j k q in omega arith)))
   go None at q =
       let b = behind-is places k q in
-      let past : length places ≤ k = omega arith in
-      cond-true (nat_lt (length places) most_places) (Some (places ++ Some e ∷ [])) None (lt-ltb (length places) most_places b.0)
-      ∙ ap Some (sym (cond-false (nat_lt k (length places)) (put places k e) (places ++ Some e ∷ []) (le-ltb k (length places) past)))
+      cond-true (nat_lt (length places) most_places) (Some (places ++ Some e ∷ [])) None (lt-ltb (length places) most_places b.0) ∙ ap Some (sym (placed-behind places k e (omega arith)))
 
 pub without-room : (places : List (Option Entry)) (e : Entry) → room_in places ≡ None → with_entry places e ≡ None
 unfolding room_in with_entry
@@ -93,10 +97,7 @@ module _ (files : Files) (at : Spot) (n links : ℕ) (places : List (Option Entr
 -- ---- the blocks that it takes
 
 pub length-placed : (places : List (Option Entry)) (k : ℕ) (e : Entry) → (k < length places → length (placed places k e) ≡ length places) × (length places ≤ k → length (placed places k e) ≡ length places + 1)
-length-placed places k e = (
-  λ h. ap length (cond-true (nat_lt k (length places)) (put places k e) (places ++ Some e ∷ []) (lt-ltb k (length places) h)) ∙ length-set places k (Some e),
-  λ h. ap length (cond-false (nat_lt k (length places)) (put places k e) (places ++ Some e ∷ []) (le-ltb k (length places) h)) ∙ length-append places (Some e ∷ []),
-)
+length-placed places k e = (λ h. ap length (placed-inside places k e h) ∙ length-set places k (Some e), λ h. ap length (placed-behind places k e h) ∙ length-append places (Some e ∷ []))
 
 pub growth-inside : (places : List (Option Entry)) (k : ℕ) → k < length places → growth places k ≡ 0
 growth-inside places k h = cond-true (nat_lt k (length places)) 0 (taken_for (16 * length places + 16) - taken_for (16 * length places)) (lt-ltb k (length places) h)

@@ -1,8 +1,7 @@
 -- The lowest free number is taken for a node without bytes.
 use Rattle.tree.proofs.Common.{◌≡◌, ℕ, ◌≤◌, List, None, Option, Some, ap, sym, refl, ◌∙◌, arith, suc, option_and_then, option_map, get_or-set_other, none-some, Follows, Store, TakesLowest, IsFree, free-number}
 use Rattle.tree.proofs.Common.{entered, room_in, TakesNode, IsFileSystem, files_of, tree_with, blocks_of, Files, Node, Spot, blocks_for, enter, free_number, put, size_of, slot, Directory, Made, make_at}
-use Rattle.tree.proofs.Bridging.{fresh-stores, lowest-number, no-number}
-use Rattle.tree.proofs.Serving.{kept-files, kept-stores, turned-files}
+use Rattle.tree.proofs.Bridging.{fresh-stores, kept-files, kept-stores, lowest-number, no-number, turned-files}
 use Rattle.unixmodel.specs.Files.{Entry}
 use Rattle.tree.proofs.Rooms.{enter-full, enter-room}
 use Rattle.tree.proofs.Storing.{blocks_of-set, held-again, taken_by}

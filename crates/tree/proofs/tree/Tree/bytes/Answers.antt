@@ -1,6 +1,5 @@
 use Rattle.tree.proofs.Common.{◌≡◌, Some, Node, slot}
-use Rattle.tree.proofs.Bridging.{read-node}
-use Rattle.tree.proofs.Serving.{at-inside, count-after, held-same, reads, up-inside}
+use Rattle.tree.proofs.Bridging.{at-inside, count-after, held-same, read-node, reads, up-inside}
 use Rattle.tree.proofs.Storing.{held-some}
 use Rattle.tree.proofs.tree.Tree.bytes.Goals as goal
 

@@ -1,8 +1,7 @@
 use Rattle.tree.proofs.Common.{Some, ap, refl, sym, ◌∙◌, entered, made_files, leaf_node, Files, Made}
-use Rattle.tree.proofs.Following.{acts-done, acts-lost, acts-not, now-begin, now-files, now-up}
+use Rattle.tree.proofs.Following.{acts-done, acts-lost, acts-not, acts-refused, now-begin, now-changed, now-files, now-kept, now-none, now-took, now-up}
 use Rattle.tree.proofs.Gaps.{made-done, made-unnumbered, overflow-none, none-more}
 use Rattle.tree.proofs.Leaves.{fresh-now, leaf-empty, made-asked, some-kind, weaker-gap}
-use Rattle.tree.proofs.Turning.{acts-refused, done-of, now-changed, now-kept, now-none, now-took}
 use Rattle.unixmodel.specs.Files.{Entry}
 use Rattle.tree.proofs.tree.Tree.create.Goals as goal
 
@@ -11,7 +10,7 @@ find_gap-requires g c = record { up = c.requires.up; rules = c.requires.rules; d
 
 pub returns-in_err-gap : goal.returns-in_err-gap
 returns-in_err-gap g c =
-    acts-refused c.requires.up now-begin c.find_gap.ensures c.in_err-gap.was
+    acts-refused now-begin c.find_gap.ensures c.in_err-gap.was
     (λ known less why. weaker-gap c.args.self.now.block_limit c.args.self.now.files c.args.directory c.args.path.now (leaf_node c.args.leaf) (leaf-empty c.args.leaf) _ known why) c.from_residual.ensures.1
 
 pub take_node-requires : goal.take_node-requires
@@ -20,33 +19,30 @@ take_node-requires g c =
 
 pub returns-in_err-number : goal.returns-in_err-number
 returns-in_err-number g c =
-    acts-lost c.requires.up (now-kept now-begin c.find_gap.ensures c.requires.up c.in_ok-gap.was) c.take_node.ensures c.in_err-number.was c.from_residual-in_err-number.ensures.1
+    acts-lost (now-kept now-begin c.find_gap.ensures c.requires.up c.in_ok-gap.was) c.take_node.ensures c.in_err-number.was c.from_residual-in_err-number.ensures.1
 
 pub returns-in_default : goal.returns-in_default
 returns-in_default g c =
-    let first = done-of c.find_gap.ensures c.in_ok-gap.was in
     let none = now-none (now-kept now-begin c.find_gap.ensures c.requires.up c.in_ok-gap.was) c.numbers-kind.result.0 c.numbers-kind.result.1 c.numbers-kind.result.2 c.take_node.ensures c.in_ok-number.was c.in_default.is in
-    let nothing = ap made_files (made-unnumbered c.args.self.now.block_limit c.args.self.now.files c.args.directory c.args.path.now (leaf_node c.args.leaf) (leaf-empty c.args.leaf) _ first.0.spot none.0) in
+    let nothing = ap made_files (made-unnumbered c.args.self.now.block_limit c.args.self.now.files c.args.directory c.args.path.now (leaf_node c.args.leaf) (leaf-empty c.args.leaf) _ c.in_ok-gap.ensures.done.0.spot none.0) in
     acts-not c.requires.up none.1 refl (overflow-none c.args.self.now.block_limit nothing) none.0
 
 -- behind the node that came
 pub put_entry-requires : goal.put_entry-requires
 put_entry-requires g c =
-    let first = done-of c.find_gap.ensures c.in_ok-gap.was in
     let took = now-took (now-kept now-begin c.find_gap.ensures c.requires.up c.in_ok-gap.was) c.numbers-kind.result.0 c.numbers-kind.result.1 c.numbers-kind.result.2 c.take_node.ensures c.in_ok-number.was c.in-Some.is in
     let now = fresh-now c.args.self.now.files c.in-Some.number c.numbers-kind.ensures.node took.1 in
-    let asked = made-asked (leaf_node c.args.leaf) (leaf-empty c.args.leaf) first.0 took.0 now c.requires.path in
+    let asked = made-asked (leaf_node c.args.leaf) (leaf-empty c.args.leaf) c.in_ok-gap.ensures.done.0 took.0 now c.requires.path in
     record { up = now-up now c.requires.up; plain = asked.plain; number = asked.node; room = asked.room; fits = asked.fits }
 
 pub returns-in_err-put_entry : goal.returns-in_err-put_entry
 returns-in_err-put_entry g c =
     let took = now-took (now-kept now-begin c.find_gap.ensures c.requires.up c.in_ok-gap.was) c.numbers-kind.result.0 c.numbers-kind.result.1 c.numbers-kind.result.2 c.take_node.ensures c.in_ok-number.was c.in-Some.is in
-    acts-lost c.requires.up took.1 c.put_entry.ensures c.in_err-put_entry.was c.from_residual-in_err-put_entry.ensures.1
+    acts-lost took.1 c.put_entry.ensures c.in_err-put_entry.was c.from_residual-in_err-put_entry.ensures.1
 
 pub returns : goal.returns
 returns g c =
-    let first = done-of c.find_gap.ensures c.in_ok-gap.was in
-    let gap = first.0 in
+    let gap = c.in_ok-gap.ensures.done.0 in
     let took = now-took (now-kept now-begin c.find_gap.ensures c.requires.up c.in_ok-gap.was) c.numbers-kind.result.0 c.numbers-kind.result.1 c.numbers-kind.result.2 c.take_node.ensures c.in_ok-number.was c.in-Some.is in
     let e : Entry = record { name = c.in_ok-gap.gap.name.now; number = c.in-Some.number } in
     let last = now-changed (fresh-now c.args.self.now.files c.in-Some.number c.numbers-kind.ensures.node took.1) (λ fs. entered fs c.in_ok-gap.gap.directory c.in_ok-gap.gap.place e) c.put_entry.ensures c.in_ok-put_entry.was in

@@ -1,8 +1,7 @@
 use Rattle.tree.proofs.Common.{[], Some, ap, arith, le_refl, refl, suc, sym, ◌∙◌, ◌≡◌, ◌≤◌, None, ◌+◌, ◌<◌, ◌≢◌, entered, blocks_of, change_node, links_of, most_links, put, slot, Node, Directory, more_links, new_directory}
 use Rattle.tree.proofs.Folders.{above-asked, first-above, first-bare, first-block, folder-is, folder-many, folder-unnumbered, name-asked, next-is, weaker-folder}
-use Rattle.tree.proofs.Following.{acts-done, acts-lost, acts-not, now-begin, now-files, now-node, now-read, now-up, told-now}
+use Rattle.tree.proofs.Following.{acts-done, acts-lost, acts-not, acts-refused, at-now, now-begin, now-changed, now-files, now-kept, now-node, now-none, now-read, now-took, now-up, now-wanted, told-now}
 use Rattle.tree.proofs.Gaps.{overflow-none}
-use Rattle.tree.proofs.Turning.{acts-refused, at-now, done-of, now-changed, now-kept, now-none, now-took, now-wanted}
 use Rattle.unixmodel.specs.Files.{Entry}
 use Rattle.tree.proofs.tree.Tree.create_directory.Goals as goal
 
@@ -11,24 +10,22 @@ find_gap-requires g c = record { up = c.requires.up; rules = c.requires.rules; d
 
 pub returns-in_err-gap : goal.returns-in_err-gap
 returns-in_err-gap g c =
-    acts-refused c.requires.up now-begin c.find_gap.ensures c.in_err-gap.was
+    acts-refused now-begin c.find_gap.ensures c.in_err-gap.was
     (λ known less why. weaker-folder c.args.self.now.files c.args.directory c.args.path.now c.args.self.now.block_limit _ known why) c.from_residual.ensures.1
 
 -- behind the look for a place
 pub node-requires : goal.node-requires
 node-requires g c =
-    let first = done-of c.find_gap.ensures c.in_ok-gap.was in
     let now = now-kept now-begin c.find_gap.ensures c.requires.up c.in_ok-gap.was in
-    record { up = now-up now c.requires.up; node = now-node now c.in_ok-gap.gap.directory (Directory (suc first.0.links) first.0.places, first.0.here) }
+    record { up = now-up now c.requires.up; node = now-node now c.in_ok-gap.gap.directory (Directory (suc c.in_ok-gap.ensures.done.0.links) c.in_ok-gap.ensures.done.0.places, c.in_ok-gap.ensures.done.0.here) }
 
 pub returns-in_err-above : goal.returns-in_err-above
 returns-in_err-above g c =
-    acts-lost c.requires.up (now-kept now-begin c.find_gap.ensures c.requires.up c.in_ok-gap.was) c.node.ensures c.in_err-above.was c.from_residual-in_err-above.ensures.1
+    acts-lost (now-kept now-begin c.find_gap.ensures c.requires.up c.in_ok-gap.was) c.node.ensures c.in_err-above.was c.from_residual-in_err-above.ensures.1
 
 pub returns-then-above-ge-MOST_LINKS : goal.returns-then-above-ge-MOST_LINKS
 returns-then-above-ge-MOST_LINKS g c =
-    let first = done-of c.find_gap.ensures c.in_ok-gap.was in
-    let gap = first.0 in
+    let gap = c.in_ok-gap.ensures.done.0 in
     let now = now-kept now-begin c.find_gap.ensures c.requires.up c.in_ok-gap.was in
     let parent = Directory (suc gap.links) gap.places in
     let links = (told-now now c.in_ok-gap.gap.directory c.in_ok-above.ensures.serves.told.1 parent gap.here).1 in
@@ -46,12 +43,11 @@ take_node-requires g c =
 
 pub returns-in_err-number : goal.returns-in_err-number
 returns-in_err-number g c =
-    acts-lost c.requires.up (now-read (now-kept now-begin c.find_gap.ensures c.requires.up c.in_ok-gap.was) c.node.ensures c.in_ok-above.was) c.take_node.ensures c.in_err-number.was c.from_residual-in_err-number.ensures.1
+    acts-lost (now-read (now-kept now-begin c.find_gap.ensures c.requires.up c.in_ok-gap.was) c.node.ensures c.in_ok-above.was) c.take_node.ensures c.in_err-number.was c.from_residual-in_err-number.ensures.1
 
 pub returns-in_default : goal.returns-in_default
 returns-in_default g c =
-    let first = done-of c.find_gap.ensures c.in_ok-gap.was in
-    let gap = first.0 in
+    let gap = c.in_ok-gap.ensures.done.0 in
     let none = now-none (now-read (now-kept now-begin c.find_gap.ensures c.requires.up c.in_ok-gap.was) c.node.ensures c.in_ok-above.was) 1 0 0 c.take_node.ensures c.in_ok-number.was c.in_default.is in
     acts-not c.requires.up none.1 refl
     (overflow-none c.args.self.now.block_limit (folder-unnumbered c.args.self.now.files c.args.directory c.args.path.now _ gap.spot (Directory (suc gap.links) gap.places) gap.here none.0)) none.0
@@ -59,40 +55,37 @@ returns-in_default g c =
 -- behind the node that came
 pub put_dots-requires : goal.put_dots-requires
 put_dots-requires g c =
-    let first = done-of c.find_gap.ensures c.in_ok-gap.was in
     let took = now-took (now-read (now-kept now-begin c.find_gap.ensures c.requires.up c.in_ok-gap.was) c.node.ensures c.in_ok-above.was) 1 0 0 c.take_node.ensures c.in_ok-number.was c.in-Some.is in
     record {
       up = now-up took.1 c.requires.up;
-      bare = at-now took.1 (λ t. slot t.files c.in-Some.number ≡ Some (Directory 1 [])) (first-bare c.args.self.now first.0 took.0);
-      above = at-now took.1 (λ t. slot t.files c.in_ok-gap.gap.directory ≢ None) (first-above c.args.self.now first.0 took.0);
-      block = at-now took.1 (λ t. blocks_of t.files + 1 ≤ t.block_limit) (first-block c.args.self.now first.0 took.0);
+      bare = at-now took.1 (λ t. slot t.files c.in-Some.number ≡ Some (Directory 1 [])) (first-bare c.args.self.now c.in_ok-gap.ensures.done.0 took.0);
+      above = at-now took.1 (λ t. slot t.files c.in_ok-gap.gap.directory ≢ None) (first-above c.args.self.now c.in_ok-gap.ensures.done.0 took.0);
+      block = at-now took.1 (λ t. blocks_of t.files + 1 ≤ t.block_limit) (first-block c.args.self.now c.in_ok-gap.ensures.done.0 took.0);
     }
 
 pub returns-in_err-put_dots : goal.returns-in_err-put_dots
 returns-in_err-put_dots g c =
     let took = now-took (now-read (now-kept now-begin c.find_gap.ensures c.requires.up c.in_ok-gap.was) c.node.ensures c.in_ok-above.was) 1 0 0 c.take_node.ensures c.in_ok-number.was c.in-Some.is in
-    acts-lost c.requires.up took.1 c.put_dots.ensures c.in_err-put_dots.was c.from_residual-in_err-put_dots.ensures.1
+    acts-lost took.1 c.put_dots.ensures c.in_err-put_dots.was c.from_residual-in_err-put_dots.ensures.1
 
 -- behind its own entries
 pub put_entry-requires : goal.put_entry-requires
 put_entry-requires g c =
-    let first = done-of c.find_gap.ensures c.in_ok-gap.was in
     let took = now-took (now-read (now-kept now-begin c.find_gap.ensures c.requires.up c.in_ok-gap.was) c.node.ensures c.in_ok-above.was) 1 0 0 c.take_node.ensures c.in_ok-number.was c.in-Some.is in
-    let dots = now-wanted (now-changed took.1 (λ fs. put fs c.in-Some.number (new_directory c.in_ok-gap.gap.directory c.in-Some.number)) c.put_dots.ensures c.in_ok-put_dots.was) (next-is c.args.self.now first.0 took.0) in
-    let asked = name-asked c.args.self.now first.0 took.0 dots c.requires.path in
+    let dots = now-wanted (now-changed took.1 (λ fs. put fs c.in-Some.number (new_directory c.in_ok-gap.gap.directory c.in-Some.number)) c.put_dots.ensures c.in_ok-put_dots.was) (next-is c.args.self.now c.in_ok-gap.ensures.done.0 took.0) in
+    let asked = name-asked c.args.self.now c.in_ok-gap.ensures.done.0 took.0 dots c.requires.path in
     record { up = now-up dots c.requires.up; plain = asked.plain; number = asked.node; room = asked.room; fits = asked.fits }
 
 pub returns-in_err-put_entry : goal.returns-in_err-put_entry
 returns-in_err-put_entry g c =
     let took = now-took (now-read (now-kept now-begin c.find_gap.ensures c.requires.up c.in_ok-gap.was) c.node.ensures c.in_ok-above.was) 1 0 0 c.take_node.ensures c.in_ok-number.was c.in-Some.is in
     let dots = now-changed took.1 (λ fs. put fs c.in-Some.number (new_directory c.in_ok-gap.gap.directory c.in-Some.number)) c.put_dots.ensures c.in_ok-put_dots.was in
-    acts-lost c.requires.up dots c.put_entry.ensures c.in_err-put_entry.was c.from_residual-in_err-put_entry.ensures.1
+    acts-lost dots c.put_entry.ensures c.in_err-put_entry.was c.from_residual-in_err-put_entry.ensures.1
 
 -- behind its name
 pub add_link-requires : goal.add_link-requires
 add_link-requires g c =
-    let first = done-of c.find_gap.ensures c.in_ok-gap.was in
-    let gap = first.0 in
+    let gap = c.in_ok-gap.ensures.done.0 in
     let begun = now-kept now-begin c.find_gap.ensures c.requires.up c.in_ok-gap.was in
     let took = now-took (now-read begun c.node.ensures c.in_ok-above.was) 1 0 0 c.take_node.ensures c.in_ok-number.was c.in-Some.is in
     let dots = now-wanted (now-changed took.1 (λ fs. put fs c.in-Some.number (new_directory c.in_ok-gap.gap.directory c.in-Some.number)) c.put_dots.ensures c.in_ok-put_dots.was) (next-is c.args.self.now gap took.0) in
@@ -107,12 +100,11 @@ returns-in_err-add_link g c =
     let took = now-took (now-read (now-kept now-begin c.find_gap.ensures c.requires.up c.in_ok-gap.was) c.node.ensures c.in_ok-above.was) 1 0 0 c.take_node.ensures c.in_ok-number.was c.in-Some.is in
     let dots = now-changed took.1 (λ fs. put fs c.in-Some.number (new_directory c.in_ok-gap.gap.directory c.in-Some.number)) c.put_dots.ensures c.in_ok-put_dots.was in
     let e : Entry = record { name = c.in_ok-gap.gap.name.now; number = c.in-Some.number } in
-    acts-lost c.requires.up (now-changed dots (λ fs. entered fs c.in_ok-gap.gap.directory c.in_ok-gap.gap.place e) c.put_entry.ensures c.in_ok-put_entry.was) c.add_link.ensures c.in_err-add_link.was c.from_residual-in_err-add_link.ensures.1
+    acts-lost (now-changed dots (λ fs. entered fs c.in_ok-gap.gap.directory c.in_ok-gap.gap.place e) c.put_entry.ensures c.in_ok-put_entry.was) c.add_link.ensures c.in_err-add_link.was c.from_residual-in_err-add_link.ensures.1
 
 pub returns : goal.returns
 returns g c =
-    let first = done-of c.find_gap.ensures c.in_ok-gap.was in
-    let gap = first.0 in
+    let gap = c.in_ok-gap.ensures.done.0 in
     let begun = now-kept now-begin c.find_gap.ensures c.requires.up c.in_ok-gap.was in
     let took = now-took (now-read begun c.node.ensures c.in_ok-above.was) 1 0 0 c.take_node.ensures c.in_ok-number.was c.in-Some.is in
     let dots = now-wanted (now-changed took.1 (λ fs. put fs c.in-Some.number (new_directory c.in_ok-gap.gap.directory c.in-Some.number)) c.put_dots.ensures c.in_ok-put_dots.was) (next-is c.args.self.now gap took.0) in

@@ -1,6 +1,6 @@
 use Rattle.tree.proofs.Common.{◌≢◌, None, slot}
 use Rattle.tree.proofs.Letting.{let-go-serves}
-use Rattle.tree.proofs.Serving.{at-inside, up-inside}
+use Rattle.tree.proofs.Bridging.{at-inside, up-inside}
 use Rattle.tree.proofs.tree.Tree.drop_hold.Goals as goal
 
 pub unhold-requires : goal.unhold-requires

@@ -1,8 +1,7 @@
 use Rattle.tree.proofs.Common.{ap, ◌-◌, ◌∙◌, change_node, slot, with_links, fewer_links}
-use Rattle.tree.proofs.Following.{end-lost, now-begin, now-read, now-up, some-now}
+use Rattle.tree.proofs.Following.{end-changed, end-lost, now-begin, now-read, now-up, some-now}
 use Rattle.tree.proofs.Linking.{relinked}
 use Rattle.tree.proofs.Storing.{some-node}
-use Rattle.tree.proofs.Turning.{end-changed}
 use Rattle.tree.proofs.tree.Tree.drop_link.Goals as goal
 
 pub node-requires : goal.node-requires

@@ -1,6 +1,5 @@
 use Rattle.tree.proofs.Common.{ap, sym, dropped, change_node, fewer_links}
-use Rattle.tree.proofs.Following.{end-lost, now-begin, now-up, some-now}
-use Rattle.tree.proofs.Turning.{end-changed, end-still, now-changed}
+use Rattle.tree.proofs.Following.{end-changed, end-lost, end-still, now-begin, now-changed, now-up, some-now}
 use Rattle.tree.proofs.Unlinking.{stays-node}
 use Rattle.tree.proofs.tree.Tree.drop_links.Goals as goal
 

@@ -1,5 +1,4 @@
-use Rattle.tree.proofs.Bridging.{file-stores}
-use Rattle.tree.proofs.Serving.{at-inside, count-after, held-after, tries, turned-files, up-inside}
+use Rattle.tree.proofs.Bridging.{at-inside, count-after, file-stores, held-after, tries, turned-files, up-inside}
 use Rattle.tree.proofs.Storing.{held-again, held-some}
 use Rattle.tree.proofs.Common.{IsFile, File}
 use Rattle.tree.proofs.tree.Tree.empty.Goals as goal

@@ -1,6 +1,6 @@
 use Rattle.tree.proofs.Common.{arith, zeros}
-use Rattle.tree.proofs.Erasing.{erased-becomes, place-high}
-use Rattle.tree.proofs.Turning.{turns-become}
+use Rattle.tree.proofs.Placing.{erased-becomes, place-high}
+use Rattle.tree.proofs.Following.{turns-become}
 use Rattle.tree.proofs.tree.Tree.free_place.Goals as goal
 
 pub is_whole-requires : goal.is_whole-requires

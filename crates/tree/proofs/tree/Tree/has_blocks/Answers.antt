@@ -1,5 +1,4 @@
-use Rattle.tree.proofs.Bridging.{enough-told}
-use Rattle.tree.proofs.Serving.{count-after, held-same, reads, up-inside}
+use Rattle.tree.proofs.Bridging.{count-after, enough-told, held-same, reads, up-inside}
 use Rattle.tree.proofs.tree.Tree.has_blocks.Goals as goal
 
 pub has_blocks-requires : goal.has_blocks-requires

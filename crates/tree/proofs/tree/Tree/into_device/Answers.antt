@@ -1,5 +1,5 @@
 use Rattle.tree.proofs.Common.{OnOk, subst, IsStored, FileTree}
-use Rattle.tree.proofs.Serving.{stored-after, up-inside}
+use Rattle.tree.proofs.Bridging.{stored-after, up-inside}
 use Rattle.tree.proofs.tree.Tree.into_device.Goals as goal
 
 pub returns-clause-stored : goal.returns-clause-stored

@@ -1,5 +1,4 @@
-use Rattle.tree.proofs.Serving.{up-inside}
-use Rattle.tree.proofs.Whole.{whole-held}
+use Rattle.tree.proofs.Bridging.{up-inside, whole-held}
 use Rattle.tree.proofs.tree.Tree.is_whole.Goals as goal
 
 pub returns : goal.returns

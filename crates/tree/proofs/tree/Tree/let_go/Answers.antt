@@ -1,8 +1,7 @@
 use Rattle.tree.proofs.Common.{arith, sym, clear, slot}
-use Rattle.tree.proofs.Following.{end-lost, now-begin, now-read, now-up, some-now}
+use Rattle.tree.proofs.Following.{end-changed, end-lost, end-still, now-begin, now-read, now-up, some-now}
 use Rattle.tree.proofs.Letting.{let-go-clear, let-go-held, let-go-linked}
 use Rattle.tree.proofs.Storing.{some-node}
-use Rattle.tree.proofs.Turning.{end-changed, end-still}
 use Rattle.tree.proofs.tree.Tree.let_go.Goals as goal
 
 pub holders-requires : goal.holders-requires

@@ -1,8 +1,7 @@
 use Rattle.tree.proofs.Common.{inl, sym, ◌∙◌, refl, ap, Some, ◌<◌, ◌≡◌, KeepsTree, HasGap, entered, LacksGap, Spot, change_node, links_of, slot, Node, more_links}
-use Rattle.tree.proofs.Following.{acts-done, acts-lost, acts-not, now-begin, now-files, now-node, now-read, now-up, told-now, used-now}
+use Rattle.tree.proofs.Following.{acts-done, acts-lost, acts-not, acts-refused, at-now, now-begin, now-changed, now-files, now-kept, now-node, now-read, now-up, told-now, used-now, was-now}
 use Rattle.tree.proofs.Gaps.{none-more, overflow-none}
 use Rattle.tree.proofs.Links.{link-asked, linked-asked, linked-into, linked-nothing, reached, seen, seen-directory, seen-many, seen-weaker}
-use Rattle.tree.proofs.Turning.{acts-refused, at-now, done-of, now-changed, now-kept, was-now}
 use Rattle.unixmodel.specs.Files.{Entry}
 use Rattle.tree.proofs.tree.Tree.link.Goals as goal
 
@@ -10,7 +9,7 @@ pub find-requires : goal.find-requires
 find-requires g c = record { up = c.requires.up; rules = c.requires.rules; directory = c.requires.directory }
 
 pub returns-in_err-number : goal.returns-in_err-number
-returns-in_err-number g c = acts-lost c.requires.up now-begin c.find.ensures c.in_err-number.was c.from_residual.ensures.1
+returns-in_err-number g c = acts-lost now-begin c.find.ensures c.in_err-number.was c.from_residual.ensures.1
 
 pub returns-in_default : goal.returns-in_default
 returns-in_default g c =
@@ -26,7 +25,7 @@ node-requires g c =
     record { up = now-up now c.requires.up; node = now-node now c.in-Some.number (reached c.requires.rules c.args.directory c.args.old.now c.requires.directory found) }
 
 pub returns-in_err-node : goal.returns-in_err-node
-returns-in_err-node g c = acts-lost c.requires.up (now-read now-begin c.find.ensures c.in_ok-number.was) c.node.ensures c.in_err-node.was c.from_residual-in_err-node.ensures.1
+returns-in_err-node g c = acts-lost (now-read now-begin c.find.ensures c.in_ok-number.was) c.node.ensures c.in_err-node.was c.from_residual-in_err-node.ensures.1
 
 -- behind the look at its node
 pub returns-then-node-eq-DIRECTORY : goal.returns-then-node-eq-DIRECTORY
@@ -53,7 +52,7 @@ returns-in_err-gap g c =
     let before = now-read now-begin c.find.ensures c.in_ok-number.was in
     let s = seen c.requires.rules c.args.directory c.args.old.now c.requires.directory (sym c.in_ok-number.ensures.serves.told.1 ∙ c.in-Some.is) (told-now before c.in-Some.number c.in_ok-node.ensures.serves.told.1) in
     let now = now-read before c.node.ensures c.in_ok-node.was in
-    acts-refused c.requires.up now c.find_gap.ensures c.in_err-gap.was
+    acts-refused now c.find_gap.ensures c.in_err-gap.was
     (λ known less why. seen-weaker c.args.self.now s c.args.new.now c.if-node-eq-DIRECTORY.false c.if-node-ge-MOST_LINKS.false _ known (was-now now (λ t. LacksGap t.block_limit t.files c.args.directory c.args.new.now 0 c.in_err-gap.field-0.0) why)) c.from_residual-in_err-gap.ensures.1
 
 -- behind the look for a place
@@ -68,18 +67,17 @@ add_link-requires g c =
 pub returns-in_err-add_link : goal.returns-in_err-add_link
 returns-in_err-add_link g c =
     let second = now-read (now-read now-begin c.find.ensures c.in_ok-number.was) c.node.ensures c.in_ok-node.was in
-    acts-lost c.requires.up (now-kept second c.find_gap.ensures c.requires.up c.in_ok-gap.was) c.add_link.ensures c.in_err-add_link.was c.from_residual-in_err-add_link.ensures.1
+    acts-lost (now-kept second c.find_gap.ensures c.requires.up c.in_ok-gap.was) c.add_link.ensures c.in_err-add_link.was c.from_residual-in_err-add_link.ensures.1
 
 pub put_entry-requires : goal.put_entry-requires
 put_entry-requires g c =
     let before = now-read now-begin c.find.ensures c.in_ok-number.was in
     let s = seen c.requires.rules c.args.directory c.args.old.now c.requires.directory (sym c.in_ok-number.ensures.serves.told.1 ∙ c.in-Some.is) (told-now before c.in-Some.number c.in_ok-node.ensures.serves.told.1) in
     let second = now-read before c.node.ensures c.in_ok-node.was in
-    let first = done-of c.find_gap.ensures c.in_ok-gap.was in
     let third = now-kept second c.find_gap.ensures c.requires.up c.in_ok-gap.was in
     let now = now-changed third (λ fs. change_node fs c.in-Some.number more_links) c.add_link.ensures c.in_ok-add_link.was in
     let at : Spot = record { directory = c.in_ok-gap.gap.directory; name = c.in_ok-gap.gap.name.now } in
-    let gap = was-now second (λ t. HasGap t.block_limit t.files c.args.directory c.args.new.now 0 at c.in_ok-gap.gap.place) first.0 in
+    let gap = was-now second (λ t. HasGap t.block_limit t.files c.args.directory c.args.new.now 0 at c.in_ok-gap.gap.place) c.in_ok-gap.ensures.done.0 in
     let asked = linked-asked c.args.self.now s c.args.new.now c.if-node-eq-DIRECTORY.false c.if-node-ge-MOST_LINKS.false gap now c.requires.path in
     record { up = now-up now c.requires.up; plain = asked.plain; number = asked.node; room = asked.room; fits = asked.fits }
 
@@ -87,18 +85,17 @@ pub returns-in_err-put_entry : goal.returns-in_err-put_entry
 returns-in_err-put_entry g c =
     let second = now-read (now-read now-begin c.find.ensures c.in_ok-number.was) c.node.ensures c.in_ok-node.was in
     let third = now-kept second c.find_gap.ensures c.requires.up c.in_ok-gap.was in
-    acts-lost c.requires.up (now-changed third (λ fs. change_node fs c.in-Some.number more_links) c.add_link.ensures c.in_ok-add_link.was) c.put_entry.ensures c.in_err-put_entry.was c.from_residual-in_err-put_entry.ensures.1
+    acts-lost (now-changed third (λ fs. change_node fs c.in-Some.number more_links) c.add_link.ensures c.in_ok-add_link.was) c.put_entry.ensures c.in_err-put_entry.was c.from_residual-in_err-put_entry.ensures.1
 
 pub returns : goal.returns
 returns g c =
     let before = now-read now-begin c.find.ensures c.in_ok-number.was in
     let s = seen c.requires.rules c.args.directory c.args.old.now c.requires.directory (sym c.in_ok-number.ensures.serves.told.1 ∙ c.in-Some.is) (told-now before c.in-Some.number c.in_ok-node.ensures.serves.told.1) in
     let second = now-read before c.node.ensures c.in_ok-node.was in
-    let first = done-of c.find_gap.ensures c.in_ok-gap.was in
     let third = now-kept second c.find_gap.ensures c.requires.up c.in_ok-gap.was in
     let now = now-changed third (λ fs. change_node fs c.in-Some.number more_links) c.add_link.ensures c.in_ok-add_link.was in
     let at : Spot = record { directory = c.in_ok-gap.gap.directory; name = c.in_ok-gap.gap.name.now } in
-    let gap = was-now second (λ t. HasGap t.block_limit t.files c.args.directory c.args.new.now 0 at c.in_ok-gap.gap.place) first.0 in
+    let gap = was-now second (λ t. HasGap t.block_limit t.files c.args.directory c.args.new.now 0 at c.in_ok-gap.gap.place) c.in_ok-gap.ensures.done.0 in
     let e : Entry = record { name = c.in_ok-gap.gap.name.now; number = c.in-Some.number } in
     let last = now-changed now (λ fs. entered fs c.in_ok-gap.gap.directory c.in_ok-gap.gap.place e) c.put_entry.ensures c.in_ok-put_entry.was in
     acts-done c.requires.up last (linked-into c.args.self.now s c.args.new.now c.if-node-eq-DIRECTORY.false c.if-node-ge-MOST_LINKS.false gap ∙ ap Some (sym (now-files last)))

@@ -1,5 +1,4 @@
-use Rattle.tree.proofs.Bridging.{tells-any}
-use Rattle.tree.proofs.Serving.{count-after, held-same, reads, up-inside}
+use Rattle.tree.proofs.Bridging.{count-after, held-same, reads, tells-any, up-inside}
 use Rattle.tree.proofs.tree.Tree.look.Goals as goal
 
 pub look-requires : goal.look-requires

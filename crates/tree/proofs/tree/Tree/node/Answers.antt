@@ -1,6 +1,5 @@
 use Rattle.tree.proofs.Common.{◌≡◌, Some, Node, slot}
-use Rattle.tree.proofs.Bridging.{tells}
-use Rattle.tree.proofs.Serving.{at-inside, count-after, held-same, reads, up-inside}
+use Rattle.tree.proofs.Bridging.{at-inside, count-after, held-same, reads, tells, up-inside}
 use Rattle.tree.proofs.Storing.{held-some}
 use Rattle.tree.proofs.tree.Tree.node.Goals as goal
 

@@ -1,7 +1,6 @@
 use Rattle.tree.proofs.Common.{[], sym, None, ◌+◌, ◌∙◌, ◌≢◌, ◌≤◌, none-some, HasRoom, entered, growth, blocks_of, dot_dot, slot, Directory}
-use Rattle.tree.proofs.Dots.{dot-plain, dots-plain, first-fits, first-room, first-stays, own, second-fits, second-is, second-room}
-use Rattle.tree.proofs.Following.{end-lost, now-begin, now-up}
-use Rattle.tree.proofs.Turning.{at-now, end-changed, now-changed}
+use Rattle.tree.proofs.Folders.{dot-plain, dots-plain, first-fits, first-room, first-stays, own, second-fits, second-is, second-room}
+use Rattle.tree.proofs.Following.{at-now, end-changed, end-lost, now-begin, now-changed, now-up}
 use Rattle.tree.proofs.tree.Tree.put_dots.Goals as goal
 
 pub put_entry-requires : goal.put_entry-requires

@@ -1,6 +1,6 @@
 use Rattle.std.proofs.Common.{arith}
 use Rattle.tree.proofs.Placing.{entry-becomes, entry-high, entry-plain}
-use Rattle.tree.proofs.Turning.{turns-become}
+use Rattle.tree.proofs.Following.{turns-become}
 use Rattle.tree.proofs.tree.Tree.put_entry.Goals as goal
 
 pub is_whole-requires : goal.is_whole-requires

@@ -1,4 +1,4 @@
-use Rattle.tree.proofs.Serving.{seen-node}
+use Rattle.tree.proofs.Bridging.{seen-node}
 use Rattle.tree.proofs.tree.Tree.read_any.Goals as goal
 
 pub read-requires-clause-node : goal.read-requires-clause-node

@@ -1,8 +1,7 @@
 use Rattle.tree.proofs.Common.{[], arith, refl, sym, ◌∙◌, none-some, clear}
-use Rattle.tree.proofs.Following.{now-begin, now-up, some-now}
+use Rattle.tree.proofs.Following.{end-changed, end-still, lost-served, now-begin, now-served, now-up, some-now}
 use Rattle.tree.proofs.Letting.{let-go-clear, let-go-linked}
 use Rattle.tree.proofs.Swept.{let-go-free, told-free, told-node}
-use Rattle.tree.proofs.Turning.{end-changed, end-still, lost-served, now-served}
 use Rattle.tree.proofs.tree.Tree.release_unlinked.Goals as goal
 
 pub look-requires : goal.look-requires

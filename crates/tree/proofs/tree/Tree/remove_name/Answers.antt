@@ -1,6 +1,5 @@
 use Rattle.tree.proofs.Common.{◌≡◌, Some, ap, refl, sym, ◌∙◌, none-some, dropped, removal, HasPlace, erase}
-use Rattle.tree.proofs.Following.{acts-done, acts-lost, acts-not, now-begin, now-files, now-node, now-read, now-up, some-now, told-now}
-use Rattle.tree.proofs.Turning.{at-now, now-changed}
+use Rattle.tree.proofs.Following.{acts-done, acts-lost, acts-not, at-now, now-begin, now-changed, now-files, now-node, now-read, now-up, some-now, told-now}
 use Rattle.tree.proofs.Unlinking.{found-node, found-parts, found-place, lookup-found, lookup-missing, naming-folder, stays-busy, stays-dropped, stays-erased, unlinked-done, unlinked-dot, unlinked-full, unlinked-missing}
 use Rattle.tree.proofs.tree.Tree.remove_name.Goals as goal
 
@@ -13,7 +12,7 @@ pub find_name-requires : goal.find_name-requires
 find_name-requires g c = record { up = c.requires.up; directory = naming-folder c.requires.naming }
 
 pub returns-in_err-found : goal.returns-in_err-found
-returns-in_err-found g c = acts-lost c.requires.up now-begin c.find_name.ensures c.in_err-found.was c.from_residual.ensures.1
+returns-in_err-found g c = acts-lost now-begin c.find_name.ensures c.in_err-found.was c.from_residual.ensures.1
 
 pub returns-in_default : goal.returns-in_default
 returns-in_default g c =
@@ -28,7 +27,7 @@ removal-requires g c =
     record { up = now-up now c.requires.up; node = now-node now c.in-Some.found.number (found-node c.requires.naming c.args.name.now found) }
 
 pub returns-in_err-is_directory : goal.returns-in_err-is_directory
-returns-in_err-is_directory g c = acts-lost c.requires.up (now-read now-begin c.find_name.ensures c.in_ok-found.was) c.removal.ensures c.in_err-is_directory.was c.from_residual-in_err-is_directory.ensures.1
+returns-in_err-is_directory g c = acts-lost (now-read now-begin c.find_name.ensures c.in_ok-found.was) c.removal.ensures c.in_err-is_directory.was c.from_residual-in_err-is_directory.ensures.1
 
 pub returns-in_default-2 : goal.returns-in_default-2
 returns-in_default-2 g c =
@@ -48,7 +47,7 @@ free_place-requires g c =
 
 pub returns-in_err-free_place : goal.returns-in_err-free_place
 returns-in_err-free_place g c =
-    acts-lost c.requires.up (now-read (now-read now-begin c.find_name.ensures c.in_ok-found.was) c.removal.ensures c.in_ok-is_directory.was) c.free_place.ensures c.in_err-free_place.was c.from_residual-in_err-free_place.ensures.1
+    acts-lost (now-read (now-read now-begin c.find_name.ensures c.in_ok-found.was) c.removal.ensures c.in_ok-is_directory.was) c.free_place.ensures c.in_err-free_place.was c.from_residual-in_err-free_place.ensures.1
 
 -- behind the place that became free
 pub drop_links-requires : goal.drop_links-requires
@@ -66,7 +65,7 @@ drop_links-requires g c =
 pub returns-in_err-drop_links : goal.returns-in_err-drop_links
 returns-in_err-drop_links g c =
     let now = now-changed (now-read (now-read now-begin c.find_name.ensures c.in_ok-found.was) c.removal.ensures c.in_ok-is_directory.was) (λ fs. erase fs c.args.directory c.in-Some.found.place) c.free_place.ensures c.in_ok-free_place.was in
-    acts-lost c.requires.up now c.drop_links.ensures c.in_err-drop_links.was c.from_residual-in_err-drop_links.ensures.1
+    acts-lost now c.drop_links.ensures c.in_err-drop_links.was c.from_residual-in_err-drop_links.ensures.1
 
 pub returns : goal.returns
 returns g c =

@@ -1,7 +1,6 @@
 use Rattle.tree.proofs.Common.{List, Option, arith, refl, Rewrites, Directory}
-use Rattle.tree.proofs.Bridging.{never-full, rewritten-within}
-use Rattle.tree.proofs.Rewriting.{device-lost, rewrite-done, rewrite-held}
-use Rattle.tree.proofs.Serving.{at-inside, count-after, up-inside}
+use Rattle.tree.proofs.Bridging.{at-inside, count-after, never-full, rewritten-within, up-inside}
+use Rattle.tree.proofs.Fitting.{device-lost, rewrite-done, rewrite-held}
 use Rattle.tree.proofs.Storing.{held-some}
 use Rattle.unixmodel.specs.Files.{Entry}
 use Rattle.tree.proofs.tree.Tree.rewrite.Goals as goal

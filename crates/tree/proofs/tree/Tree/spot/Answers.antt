@@ -6,7 +6,7 @@ use Rattle.tree.proofs.tree.Tree.spot.Goals as goal
 -- what all but the last name reach: c.in_ok-number.ensures tells it of c.in_ok-number.field-0, which the arm names
 
 pub returns-in_err-number : goal.returns-in_err-number
-returns-in_err-number g c = acts-lost c.requires.up now-begin c.reach.ensures c.in_err-number.was c.from_residual.ensures.1
+returns-in_err-number g c = acts-lost now-begin c.reach.ensures c.in_err-number.was c.from_residual.ensures.1
 
 pub returns-in_default : goal.returns-in_default
 returns-in_default g c =
@@ -20,7 +20,7 @@ node-requires g c =
     record { up = now-up now c.requires.up; node = now-node now c.in-Some.number (above-node c.requires.rules c.args.directory c.args.path.now c.requires.directory c.in-Some.number c.in-Some.name.now is) }
 
 pub returns-in_err-node : goal.returns-in_err-node
-returns-in_err-node g c = acts-lost c.requires.up (now-read now-begin c.reach.ensures c.in_ok-number.was) c.node.ensures c.in_err-node.was c.from_residual-in_err-node.ensures.1
+returns-in_err-node g c = acts-lost (now-read now-begin c.reach.ensures c.in_ok-number.was) c.node.ensures c.in_err-node.was c.from_residual-in_err-node.ensures.1
 
 pub returns-then-node-ne-DIRECTORY : goal.returns-then-node-ne-DIRECTORY
 returns-then-node-ne-DIRECTORY g c =

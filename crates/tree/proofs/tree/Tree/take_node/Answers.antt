@@ -1,5 +1,5 @@
 use Rattle.tree.proofs.Taking.{taken-held, taken-told}
-use Rattle.tree.proofs.Serving.{count-after, held-after, tries, up-inside}
+use Rattle.tree.proofs.Bridging.{count-after, held-after, tries, up-inside}
 use Rattle.tree.proofs.tree.Tree.take_node.Goals as goal
 
 pub take-requires : goal.take-requires

@@ -1,6 +1,5 @@
 use Rattle.tree.proofs.Common.{arith, IsUnnamed}
-use Rattle.tree.proofs.Bridging.{fresh-stores}
-use Rattle.tree.proofs.Serving.{at-inside, count-after, held-after, tries, turned-files, up-inside}
+use Rattle.tree.proofs.Bridging.{at-inside, count-after, fresh-stores, held-after, tries, turned-files, up-inside}
 use Rattle.tree.proofs.Storing.{held-again, held-none, length-held}
 use Rattle.tree.proofs.tree.Tree.take_node_at.Goals as goal
 

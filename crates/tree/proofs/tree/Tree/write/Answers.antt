@@ -1,8 +1,7 @@
 use Rattle.tree.proofs.Common.{Err, Ok, refl, PastEnd, TooLong, IsFile, File}
 use Rattle.inode.specs.declared.InodeFault.TheVariants.{Blocks}
-use Rattle.tree.proofs.Fitting.{write-held, write-serves}
-use Rattle.tree.proofs.Rewriting.{device-lost}
-use Rattle.tree.proofs.Serving.{at-inside, count-after, up-inside}
+use Rattle.tree.proofs.Fitting.{device-lost, write-held, write-serves}
+use Rattle.tree.proofs.Bridging.{at-inside, count-after, up-inside}
 use Rattle.tree.proofs.Storing.{held-some}
 use Rattle.tree.proofs.tree.Tree.write.Goals as goal
 use Rattle.tree.proofs.tree.Tree.write.Goals.{in-Err-Blocks, in-Err-Device, in-Err-PastEnd, in-Err-TooLong, in-Ok}
