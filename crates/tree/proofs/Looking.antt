@@ -1,5 +1,5 @@
 -- A name is looked up in a node.
-use Rattle.tree.proofs.Common.{◌≡◌, ◌≢◌, ℕ, Bool, List, None, Option, Some, ap, sym, refl, ◌∙◌, arith, true, false, suc, IfNone, IsSome, nat_lt, option_and_then, option_map, position, ◌&&◌, ◌==◌}
+use Rattle.tree.proofs.Common.{◌≡◌, ℕ, Bool, List, None, Option, Some, ap, sym, refl, ◌∙◌, arith, true, false, suc, IfNone, IsSome, nat_lt, option_and_then, option_map, position, ◌&&◌, ◌==◌}
 use Rattle.tree.proofs.Common.{false≢true, lt-ltb, InodeStat, Found, found_in, IsFolder, Tells, Files, Node, entry_number, has_name, kind_of, links_of, live_places, lookup, slot, Directory}
 use Rattle.unixmodel.specs.Files.{Entry}
 use Rattle.tree.proofs.Storing.{node-of}
