@@ -5,12 +5,11 @@ use Rattle.tree.proofs.Common.{placed, room_in, LacksFolder, LacksGap, blocks_of
 use Rattle.tree.proofs.Common.{is_free_name, made_below, made_directory, make_at, more_links, new_directory, IsFree, free-number, FileTree, ◌∷◌, inl, inr, get_or-set_other, cases_eq, HasRoom, IsPlain, dot, dot_dot}
 use Rattle.tree.specs.declared.TreeFault.TheVariants.{Blocks}
 use Rattle.unixmodel.specs.Files.{Entry}
-use Rattle.tree.proofs.Gaps.{lacks-dead, lacks-other, over-lacks, overflow-none, spot-directory}
-use Rattle.tree.proofs.Leaves.{AsksEntry, comes-some, entry-asked, places-of, plain-name}
+use Rattle.tree.proofs.Gaps.{AsksEntry, comes-some, entry-asked, lacks-dead, lacks-other, over-lacks, overflow-none, places-of, plain-name, spot-directory}
 use Rattle.tree.proofs.Linking.{more-blocks}
-use Rattle.tree.proofs.Looking.{IsLiveAt}
+use Rattle.tree.proofs.Unlinking.{IsLiveAt}
 use Rattle.tree.proofs.Rooms.{blocks_of-entered, cond-none, entered-is, none-not}
-use Rattle.tree.proofs.Spots.{spot-none}
+use Rattle.tree.proofs.Parts.{spot-none}
 use Rattle.tree.proofs.Storing.{blocks_of-set, slot-within, taken_by}
 use Rattle.tree.proofs.Following.{IsNow}
 use Rattle.tree.proofs.Taking.{fresh-blocks, make-done, make-full, make-unnumbered, still-here}

@@ -3,15 +3,12 @@ pub mod Storing
 pub mod Reading
 pub mod Linking
 pub mod Unlinking
-pub mod Looking
 pub mod Parts
 pub mod Rooms
 pub mod Scanned
-pub mod Spots
 pub mod Placing
 pub mod Taking
 pub mod Gaps
-pub mod Leaves
 pub mod Links
 pub mod Folders
 pub mod Bridging

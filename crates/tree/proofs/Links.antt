@@ -6,15 +6,13 @@ use Rattle.tree.proofs.Common.{most_links, places_at, put, slot, spot_of, with_l
 use Rattle.tree.specs.declared.TreeFault.TheVariants.{Blocks}
 use Rattle.tree.specs.declared.TreeFault.TheVariants as fault
 use Rattle.unixmodel.specs.Files.{Entry}
-use Rattle.tree.proofs.Gaps.{lacks-dead, lacks-other, over-lacks, overflow-none, spot-directory}
-use Rattle.tree.proofs.Leaves.{AsksEntry, entry-asked}
+use Rattle.tree.proofs.Gaps.{AsksEntry, entry-asked, lacks-dead, lacks-other, over-lacks, overflow-none, spot-directory}
 use Rattle.tree.proofs.Linking.{more-blocks}
-use Rattle.tree.proofs.Looking.{IsLiveAt}
 use Rattle.tree.proofs.Rooms.{blocks_of-entered, cond-none, enter-full, enter-room, none-not}
-use Rattle.tree.proofs.Spots.{spot-none}
+use Rattle.tree.proofs.Parts.{spot-none}
 use Rattle.tree.proofs.Storing.{change-is, node-of}
 use Rattle.tree.proofs.Following.{IsNow}
-use Rattle.tree.proofs.Unlinking.{stays-node}
+use Rattle.tree.proofs.Unlinking.{IsLiveAt, stays-node}
 
 module _ (files : Files) (d : ℕ) (old new : List ℕ) where
   pub linked-nothing : find files d old ≡ None → linked_in files d old new ≡ None

@@ -1,8 +1,10 @@
 -- The names of a path, one after the other, and what they reach.
-use Rattle.tree.proofs.Common.{◌≡◌, ℕ, ◌+◌, ◌-◌, ◌<◌, ◌≤◌, Bool, List, [], ◌∷◌, None, Option, Some, length, get_or, take, drop, map, ap, sym, refl, ◌∙◌, arith, subst, true, false, not, zero}
-use Rattle.tree.proofs.Common.{suc, inl, inr, IsSome, filter, min, nat_lt, option_and_then, option_map, position, unwrap_or, ◌==◌, cases_lt, cond-false, cond-true, false≢true, lt-ltb, not-true}
-use Rattle.tree.proofs.Common.{drop-drop, drop_all, get_or-drop, length-drop, length-take, length-take-le, take-take, take_all, take_rest, position-Some, none-some, same_Some, Files, find, follow}
-use Rattle.tree.proofs.Common.{live_spot, lookup, onto_first, parts, pieces, slot, split_last, spot_of, start_of, with_last, KeepsTree, position-None, follow-used, start-used, above, reach}
+use Rattle.tree.proofs.Common.{◌≡◌, ℕ, ◌+◌, ◌-◌, ◌<◌, ◌≤◌, Bool, List, [], ◌∷◌, None, Option, Some, length, get_or, take, drop, map, ap, sym, refl, ◌∙◌, arith, subst, true, false, not, zero, suc, inl, inr, IsSome, filter, min, nat_lt}
+use Rattle.tree.proofs.Common.{option_and_then, option_map, position, unwrap_or, ◌==◌, cases_lt, cond-false, cond-true, false≢true, lt-ltb, not-true, drop-drop, drop_all, get_or-drop, length-drop, length-take, length-take-le, take-take}
+use Rattle.tree.proofs.Common.{take_all, take_rest, position-Some, none-some, same_Some, Files, find, follow, live_spot, lookup, onto_first, parts, pieces, slot, split_last, spot_of, start_of, with_last, KeepsTree, position-None}
+use Rattle.tree.proofs.Common.{follow-used, start-used, above, reach, ◌≢◌, cond, is_some, InodeStat, Tells, LacksGap, IsDead, IsNoDirectory, LacksSpot, TreeFault, DeadDir, NotDir, NotFound, Node, Spot, live_places, Directory}
+use Rattle.tree.proofs.Storing.{node-of}
+use Rattle.tree.specs.declared.TreeFault.TheVariants as fault
 
 abbrev is_slash : ℕ → Bool
 is_slash b = b == 0x2f
@@ -199,3 +201,48 @@ spot-above files d path = go (split_last (parts path)) where
       ≡ option_and_then (λ (two : ℕ × List ℕ). live_spot files two.1 two.0) (option_and_then (λ split. option_map (λ k. (k, split.1)) (follow files (start_of d path) split.0)) o)
   go None = refl
   go (Some split) = at split.1 (follow files (start_of d path) split.0)
+
+-- ---- where the last name is to stand, as the disk tells it
+
+pub spot-none : (files : Files) (d : ℕ) (path : List ℕ) → above files d path ≡ None → spot_of files d path ≡ None
+spot-none files d path e = spot-above files d path ∙ ap (option_and_then (λ (two : ℕ × List ℕ). live_spot files two.1 two.0)) e
+
+module _ {files : Files} (keeps : KeepsTree files) (d : ℕ) (path : List ℕ) (used : IsSome (slot files d)) (k : ℕ) (name : List ℕ) (is : above files d path ≡ Some (k, name)) where
+  pub above-node : (x : Node) × (slot files k ≡ Some x)
+  above-node = node-of (slot files k) (above-used keeps d path used k name is)
+
+  spot-at : spot_of files d path ≡ live_spot files name k
+  spot-at = spot-above files d path ∙ ap (option_and_then (λ (two : ℕ × List ℕ). live_spot files two.1 two.0)) is
+
+  spot-dead : live_places (slot files k) ≡ None → spot_of files d path ≡ None
+  spot-dead e = spot-at ∙ ap (λ o. cond (is_some o) (Some (let s : Spot = record { directory = k; name = name } in s)) None) e
+
+  -- what is told of what stands above
+  module _ {s : InodeStat} (told : (x : Node) → slot files k ≡ Some x → Tells s x) where
+    pub spot-other : s.kind ≢ 1 → (spot_of files d path ≡ None) × IsNoDirectory files d path
+    spot-other h = go above-node.0 above-node.1 where
+      go : (x : Node) → slot files k ≡ Some x → (spot_of files d path ≡ None) × IsNoDirectory files d path
+      go (Directory l places) here = absurd (h (told (Directory l places) here).0)
+      go x here = (spot-dead (ap live_places here), record { number = k; name = name; node = x; above = is; here = here; other = refl })
+
+    pub spot-bare : s.kind ≡ 1 → s.links ≡ 0 → (spot_of files d path ≡ None) × IsDead files d path
+    spot-bare one none = go above-node.0 above-node.1 where
+      go : (x : Node) → slot files k ≡ Some x → (spot_of files d path ≡ None) × IsDead files d path
+      go (Directory zero places) here = (spot-dead (ap live_places here), record { number = k; name = name; places = places; above = is; here = here })
+      go (Directory (suc l) places) here = let e = (told (Directory (suc l) places) here).1 in absurd (omega arith)
+      go x here = let e = (told x here).0 in absurd (omega arith)
+
+    pub spot-live : s.kind ≡ 1 → s.links ≢ 0 → spot_of files d path ≡ Some (record { directory = k; name = name })
+    spot-live one some = go above-node.0 above-node.1 where
+      go : (x : Node) → slot files k ≡ Some x → spot_of files d path ≡ Some (record { directory = k; name = name })
+      go (Directory zero places) here = absurd (some (told (Directory zero places) here).1)
+      go (Directory (suc l) places) here = spot-at ∙ ap (λ o. cond (is_some (live_places o)) (Some (let s : Spot = record { directory = k; name = name } in s)) None) here
+      go x here = let e = (told x here).0 in absurd (omega arith)
+
+-- a path without a spot has no room for a name
+pub spot-lacks : (limit : ℕ) (files : Files) (d : ℕ) (path : List ℕ) (more : ℕ) (told : TreeFault) → LacksSpot files d path told → LacksGap limit files d path more told
+spot-lacks limit files d path more NotFound why = why
+spot-lacks limit files d path more NotDir why = why
+spot-lacks limit files d path more DeadDir why = why
+spot-lacks limit files d path more fault.Device why = tt
+spot-lacks limit files d path more _ why = absurd why

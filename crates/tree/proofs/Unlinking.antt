@@ -1,7 +1,7 @@
 -- A name goes: what the definitions make of the files, and what the steps on the disk do.
-use Rattle.tree.proofs.Common.{◌≡◌, ◌≢◌, ℕ, Bool, List, None, Option, Some, ap, sym, refl, ◌∙◌, arith, subst, cond, true, false, set, IsSome, option_and_then, option_map, position, suc, get_or-set_other}
-use Rattle.tree.proofs.Common.{none-some, same_Some, Found, dropped, found_at, found_in, is_bare, removal, fewer_links, may_remove, removed_node, unlinked, without_name, HasPlace, IsFolder, IsNaming, Files}
-use Rattle.tree.proofs.Common.{Node, Spot, change_node, entry_number, erase, has_name, is_directory, is_dot_name, live_places, lookup, place_of, slot, without_place, Directory, slot-set, InodeStat, Tells}
+use Rattle.tree.proofs.Common.{◌≡◌, ◌≢◌, ℕ, Bool, List, None, Option, Some, ap, sym, refl, ◌∙◌, arith, subst, cond, true, false, set, IsSome, option_and_then, option_map, position, suc, get_or-set_other, none-some, same_Some, Found}
+use Rattle.tree.proofs.Common.{dropped, found_at, found_in, is_bare, removal, fewer_links, may_remove, removed_node, unlinked, without_name, HasPlace, IsFolder, IsNaming, Files, Node, Spot, change_node, entry_number, erase, has_name}
+use Rattle.tree.proofs.Common.{is_directory, is_dot_name, live_places, lookup, place_of, slot, without_place, Directory, slot-set, InodeStat, Tells, IfNone, nat_lt, ◌&&◌, ◌==◌, false≢true, lt-ltb, kind_of, links_of}
 use Rattle.unixmodel.specs.Files.{Entry}
 use Rattle.tree.proofs.Storing.{node-of, slot-within}
 
@@ -147,3 +147,54 @@ stays-erased files d k m some = stays-node files d (without_place k) m some
 pub stays-dropped : (files : Files) (n d : ℕ) (goes : Bool) (m : ℕ) → slot files m ≢ None → slot (dropped files n d goes) m ≢ None
 stays-dropped files n d true m some = stays-node (change_node files n fewer_links) d fewer_links m (stays-node files n fewer_links m some)
 stays-dropped files n d false m some = stays-node files n fewer_links m some
+
+-- ---- a name is looked up in a node
+
+pub IfNone-of : {X P : Type 0} (o : Option X) → P → IfNone o P
+IfNone-of None h = h
+IfNone-of (Some x) h = tt
+
+-- ---- directories with links
+
+-- d is a directory with links
+pub record IsLiveAt (files : Files) (d : ℕ) : Type 0 where
+  pub links : ℕ
+  pub places : List (Option Entry)
+  pub here : slot files d ≡ Some (Directory (suc links) places)
+
+abbrev is_live : Node → Bool
+is_live node = (kind_of node == 1) && nat_lt 0 (links_of node)
+
+live-yes : (files : Files) (d : ℕ) (node : Node) → slot files d ≡ Some node → is_live node ≡ true → IsLiveAt files d
+live-yes files d (Directory (suc links) places) here h = record { links = links; places = places; here = here }
+live-yes files d _ here h = absurd (false≢true h)
+
+live-no : (node : Node) → is_live node ≡ false → live_places (Some node) ≡ None
+live-no (Directory (suc links) places) h = absurd (false≢true (sym h ∙ lt-ltb 0 (suc links) (omega arith)))
+live-no _ h = refl
+
+-- ---- a name in a directory
+
+lookup-dead : (files : Files) (d : ℕ) (name : List ℕ) → live_places (slot files d) ≡ None → lookup files d name ≡ None
+unfolding lookup
+lookup-dead files d name e = ap (option_and_then (λ ps. entry_number (option_and_then (slot ps) (position (has_name name) ps)))) e
+
+-- ---- as a look at it tells
+
+module _ (files : Files) (d : ℕ) (used : IsSome (slot files d)) {s : InodeStat} (told : (x : Node) → slot files d ≡ Some x → Tells s x) where
+  live-is : (node : Node) → slot files d ≡ Some node → is_live node ≡ ((s.kind == 1) && nat_lt 0 s.links)
+  live-is node here = sym (ap (λ k. (k == 1) && nat_lt 0 s.links) (told node here).0 ∙ ap (λ l. (kind_of node == 1) && nat_lt 0 l) (told node here).1)
+
+  pub live-told : ((s.kind == 1) && nat_lt 0 s.links) ≡ true → IsLiveAt files d
+  live-told h = let at = node-of (slot files d) used in live-yes files d at.0 at.1 (live-is at.0 at.1 ∙ h)
+
+  pub dead-told : ((s.kind == 1) && nat_lt 0 s.links) ≡ false → (name : List ℕ) → None ≡ lookup files d name
+  dead-told h name = let at = node-of (slot files d) used in sym (lookup-dead files d name (ap live_places at.1 ∙ live-no at.0 (live-is at.0 at.1 ∙ h)))
+
+-- a directory with links is one
+abbrev pub live-folder : {files : Files} {d : ℕ} → IsLiveAt files d → IsFolder files d
+live-folder live = record { links = suc live.links; places = live.places; here = live.here }
+
+-- what is found in it
+pub lookup-told : {files : Files} {d : ℕ} (live : IsLiveAt files d) (name : List ℕ) (o : Option Found) → o ≡ found_in live.places name → option_map (λ (f : Found). f.number) o ≡ lookup files d name
+lookup-told {files} {d} live name o is = ap (option_map (λ (f : Found). f.number)) is ∙ sym (lookup-in files d live.links live.places live.here name)

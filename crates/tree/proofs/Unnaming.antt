@@ -3,7 +3,7 @@ use Rattle.tree.proofs.Common.{◌≡◌, ◌≢◌, ℕ, List, None, Option, So
 use Rattle.tree.proofs.Common.{DotName, NotDir, NotEmpty, NotFound, let_go, LacksUnlinking, LacksSpot, IsNaming, LacksName, unlinked_in, Files, Spot, lookup, spot_of, unlinked}
 use Rattle.tree.specs.declared.TreeFault.TheVariants as fault
 use Rattle.tree.proofs.Gaps.{lacks-dead, lacks-other, spot-directory}
-use Rattle.tree.proofs.Spots.{spot-none}
+use Rattle.tree.proofs.Parts.{spot-none}
 
 -- the definitions make nothing, and this is why
 abbrev pub Refuses : List ℕ → Files → ℕ → List ℕ → TreeFault → Type 0

@@ -1,5 +1,5 @@
 use Rattle.tree.proofs.Common.{drop, length, sym, take, ◌-◌, ◌∙◌, take_rest}
-use Rattle.tree.proofs.Looking.{IfNone-of}
+use Rattle.tree.proofs.Unlinking.{IfNone-of}
 use Rattle.tree.proofs.Parts.{cut-parts, cut-shorter, no-name}
 use Rattle.tree.proofs.path.first_name.Goals as goal
 

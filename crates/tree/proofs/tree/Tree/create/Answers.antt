@@ -1,7 +1,6 @@
 use Rattle.tree.proofs.Common.{Some, ap, refl, sym, ◌∙◌, entered, made_files, leaf_node, Files, Made}
 use Rattle.tree.proofs.Following.{acts-done, acts-lost, acts-not, acts-refused, now-begin, now-changed, now-files, now-kept, now-none, now-took, now-up}
-use Rattle.tree.proofs.Gaps.{made-done, made-unnumbered, overflow-none, none-more}
-use Rattle.tree.proofs.Leaves.{fresh-now, leaf-empty, made-asked, some-kind, weaker-gap}
+use Rattle.tree.proofs.Gaps.{fresh-now, leaf-empty, made-asked, made-done, made-unnumbered, none-more, overflow-none, some-kind, weaker-gap}
 use Rattle.unixmodel.specs.Files.{Entry}
 use Rattle.tree.proofs.tree.Tree.create.Goals as goal
 

@@ -1,7 +1,7 @@
 use Rattle.tree.proofs.Common.{ap, refl, sym, ◌∙◌, ◌+◌, ◌≡◌, is_some, nat_le, HasRoom, growth, blocks_of}
 use Rattle.tree.proofs.Following.{acts-done, acts-lost, acts-not, acts-refused, at-now, folder-now, looked, now-begin, now-files, now-kept, now-read, now-up, used-now, was-now}
 use Rattle.tree.proofs.Gaps.{gap-folder, gap-full, gap-has, gap-lacks, gap-room, gap-used}
-use Rattle.tree.proofs.Spots.{spot-lacks}
+use Rattle.tree.proofs.Parts.{spot-lacks}
 use Rattle.tree.proofs.tree.Tree.find_gap.Goals as goal
 
 pub spot-requires : goal.spot-requires

@@ -1,6 +1,6 @@
 use Rattle.tree.proofs.Common.{ap, sym, ◌∙◌, option_map, Found, slot}
 use Rattle.tree.proofs.Following.{end-lost, end-read, folder-now, now-begin, now-read, now-up}
-use Rattle.tree.proofs.Looking.{dead-told, live-folder, live-told, lookup-told}
+use Rattle.tree.proofs.Unlinking.{dead-told, live-folder, live-told, lookup-told}
 use Rattle.tree.proofs.Storing.{node-of}
 use Rattle.tree.proofs.tree.Tree.lookup.Goals as goal
 

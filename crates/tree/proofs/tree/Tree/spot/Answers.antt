@@ -1,6 +1,6 @@
 use Rattle.tree.proofs.Common.{ap, refl, sym, ◌∙◌, option_map}
 use Rattle.tree.proofs.Following.{acts-done, acts-lost, acts-not, now-begin, now-files, now-node, now-read, now-up, told-now}
-use Rattle.tree.proofs.Spots.{above-node, spot-bare, spot-live, spot-none, spot-other}
+use Rattle.tree.proofs.Parts.{above-node, spot-bare, spot-live, spot-none, spot-other}
 use Rattle.tree.proofs.tree.Tree.spot.Goals as goal
 
 -- what all but the last name reach: c.in_ok-number.ensures tells it of c.in_ok-number.field-0, which the arm names
