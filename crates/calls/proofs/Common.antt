@@ -3,7 +3,7 @@ pub use Rattle.std.proofs.Common.{◌%◌, ◌&&◌, ◌*◌, ◌+◌, ◌++◌,
 pub use Rattle.std.proofs.Common.{min, nat_eq, nat_le, nat_lt, negsuc, None, Ok, Option, option_map, pos, refl, replicate, Result, rules, Some, subst, suc, sym, take, true, unwrap_or, zero, ℕ, ℤ, ◌∙◌, ◌∷◌, ◌≡◌, ◌≢◌, ◌≤◌}
 pub use Rattle.std.proofs.lemmas.Bool.{and_left, and_parts, and_right, cases_eq, cases_lt, eqb-true, false≢true, le-leb, leb-true, lt-leb, lt-ltb, ltb-true, ne_eqb}
 pub use Rattle.std.proofs.lemmas.Int.{of_z-to_z, to_z-of_z}
-pub use Rattle.std.proofs.lemmas.List.{drop-take, get_or-set_other, get_or-set_same, length-drop, length-set, length-take, length-take-le, replicate-append-replicate, set_comm, take-append-drop, take-take}
+pub use Rattle.std.proofs.lemmas.List.{drop-take, get_or-set_other, get_or-set_same, length-drop, length-set, length-take, length-take-le, replicate-append-replicate, set-set, set_comm, take-append-drop, take-take}
 pub use Rattle.std.proofs.lemmas.Option.{cond_some, none-some, option_and_then_some, same_Some}
 pub use Rattle.std.proofs.lemmas.Result.{err_from_is_err_and}
 pub use Rattle.std.specs.Int.{cast_signed, cast_unsigned}
@@ -33,7 +33,7 @@ pub use Rattle.kernel.proofs.Reading.{serves-disk}
 pub use Rattle.kernel.proofs.Reaped.{away-loaded, match-active, match-place, opened-loaded, over-state, reap-state, used-loaded, within-state}
 pub use Rattle.kernel.proofs.Renaming.{descriptors-run, dup-state, renamed-within}
 pub use Rattle.kernel.proofs.Runs.{answer-run, change-put, change-run, IsThere, live, not-killed, process-idle, regs-kernel, regs-run, regs-state, runs-mode, there-of}
-pub use Rattle.kernel.proofs.Runs.{home-running, IsRun, loaded-run, moved-state, process-run, run-of, self, set-slot, set-twice, slot-other, slot-put, slot-within, stands-set, with_process, within-run, within-space}
+pub use Rattle.kernel.proofs.Runs.{home-running, IsRun, loaded-run, moved-state, process-run, run-of, self, set-slot, slot-other, slot-put, slot-within, stands-set, with_process, within-run, within-space}
 pub use Rattle.kernel.proofs.Shown.{frames-state, place-changed, place-state, process-state}
 pub use Rattle.kernel.proofs.Starts.{picked-state, picks-killed, picks-ready, started-is, started-kernel, started-run, started-state, started_to}
 pub use Rattle.kernel.proofs.Steps.{computed-is, held-run, placed-with}

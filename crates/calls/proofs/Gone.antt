@@ -1,5 +1,5 @@
 -- The running process changes, and what nothing names any more is gone once the call is answered.
-use Rattle.calls.proofs.Common.{◌≡◌, ◌∙◌, ℕ, List, [], length, Option, Some, ap, sym, slice_set, change-put, process-run, regs-run, regs-state, not-killed, set-twice}
+use Rattle.calls.proofs.Common.{◌≡◌, ◌∙◌, ℕ, List, [], length, Option, Some, ap, sym, slice_set, change-put, process-run, regs-run, regs-state, not-killed, set-set}
 use Rattle.calls.proofs.Common.{slot-put, slot-within, Kernel, answered, state_of, quiet, settle, limited, Done, with_answer, reap, State, put_process, renamed-within}
 use Rattle.calls.proofs.Acts.{Here, me, runner}
 use Rattle.calls.proofs.Settles.{settle-reaped}
@@ -19,7 +19,7 @@ module _ (k : Kernel) (i : ℕ) (x : Here k i) (ds : List (Option ℕ)) (directo
   -- it has its answer first
   answered-is : put_process (state_of k) i (with_answer 0 p) ≡ put_process (state_of (answered k 0)) i (with_answer 0 p)
   answered-is =
-      ap (λ (ps : List (Option unix.Process)). record (state_of k) { places = ps }) (sym (set-twice (state_of k).places i (Some (with_answer 0 (me k i x))) (Some (with_answer 0 p))))
+      ap (λ (ps : List (Option unix.Process)). record (state_of k) { places = ps }) (sym (set-set (state_of k).places i (Some (with_answer 0 (me k i x))) (Some (with_answer 0 p))))
       ∙ ap (λ (s : State). put_process s i (with_answer 0 p)) (sym (regs-state k i x.process x.held x.run x.sound regs k.spaces.pc))
 
   pub settles-gone : {last : State} → reap (put_process (state_of (answered k 0)) i (with_answer 0 p)) ≡ last → settle (state_of k) i (limited (Done new 0 [])) ≡ quiet last

@@ -1,6 +1,6 @@
 -- pipe: the running process opens both ends of a new pipe.
 use Rattle.calls.proofs.Common.{◌≡◌, ℕ, ◌+◌, ◌<◌, Bool, true, false, List, [], ◌++◌, Option, Some, None, refl, ap, sym, subst, ◌∙◌, arith, count_by, is_none, option_map, slice_set, length-set, Acts, Runs}
-use Rattle.calls.proofs.Common.{Answers, Refuses, descriptors_in, Kernel, argument, descriptors_at, state_of, waking, IsKernel, IsPlaced, set-twice, slot-put, slot-within, with_process, held-run, free-None}
+use Rattle.calls.proofs.Common.{Answers, Refuses, descriptors_in, Kernel, argument, descriptors_at, state_of, waking, IsKernel, IsPlaced, set-set, slot-put, slot-within, with_process, held-run, free-None}
 use Rattle.calls.proofs.Common.{free-opens, free-place, free-put, Counted, free_count, opens-opened, Process, Places, changed, SpaceView, frames_in, view_at, taken_frames, with_pipe, taken-placed}
 use Rattle.calls.proofs.Common.{is_within, page_frames, Pipe, pipe_end, pipe_row, with_both, free_slot, put, slot, can_write, le, ReadEnd, WriteEnd, limited, Done, State, match-active, match-place}
 use Rattle.calls.proofs.Common.{over-state, live, not-killed, runs-mode, moved-state, stands-set, within-run, within-space, AreFree, Ends, HasPiped, pipe_file, piped, wrote, state-waking, with_descriptor}
@@ -34,7 +34,7 @@ changed-twice : (t : Places) (i : ℕ) (p : Process) (f g : Process → Process)
 changed-twice t i p f g at =
     changed-one (changed t i f) i (f p) g (changed-at t i p f at)
     ∙ ap (λ (u : Places). with_process u i (g (f p))) (changed-one t i p f at)
-    ∙ ap (λ (os : List (Option Process)). let u : Places = record t { places = os } in u) (set-twice t.places i (Some (f p)) (Some (g (f p))))
+    ∙ ap (λ (os : List (Option Process)). let u : Places = record t { places = os } in u) (set-set t.places i (Some (f p)) (Some (g (f p))))
 
 -- ---- the kernel with the pipe
 

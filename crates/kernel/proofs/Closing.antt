@@ -1,11 +1,11 @@
 -- A descriptor of the running process is closed.
 use Rattle.kernel.proofs.Common.{◌≡◌, ℕ, ◌+◌, ◌∷◌, [], is_some, List, length, Option, Some, None, refl, ap, arith, sym, ◌∙◌, Result, length-set, DeviceFault, FileTree, Serves, Kernel, loaded, state_of, IsKernel, IsOpened, Keeps, IsInUse}
 use Rattle.kernel.proofs.Common.{IsCounted, AreHeld, all_dropped, files_on, homes_at, last_node, listed, after_close, standing, count-closed, names-clear, pipes-same, Counted, closed, last_target, opens_of, table-closed, slot-within}
-use Rattle.kernel.proofs.Common.{Process, clear, put, slot, reap, put_process, woken_by, Bytes, HasClosed, MayClose, closed_at, with_descriptor}
+use Rattle.kernel.proofs.Common.{Process, clear, put, slot, reap, put_process, woken_by, Bytes, HasClosed, MayClose, closed_at, with_descriptor, pipes-left}
 use Rattle.kernel.proofs.Dropping.{counted as counted_tree}
 use Rattle.kernel.proofs.Finishes.{told-kernel}
 use Rattle.kernel.proofs.Holding.{fewer-held, fewer-leaves, fewer-nodes, fewer-used, named_in}
-use Rattle.kernel.proofs.Named.{Leaves, counts-joined, fewer-pipes, files-all_closed, files_on-closed, leaves-one, leaves-standing, old-all_closed, opens-all_closed, reap-closed, standing-is}
+use Rattle.kernel.proofs.Named.{Leaves, counts-joined, fewer-pipes, files-all_closed, files_on-closed, leaves-one, leaves-standing, old-all_closed, opens-all_closed, reap-closed}
 use Rattle.kernel.proofs.Opens.{waits-fewer, waits-running, waits-set}
 use Rattle.kernel.proofs.Reading.{serves-as}
 use Rattle.kernel.proofs.Reaped.{away-loaded, opened-loaded, used-active}
@@ -16,7 +16,7 @@ use Rattle.kernel.proofs.Watching.{watched-bytes, watched-running}
 
 -- the pipe of a last end goes, and the others stand
 close-standing : (k : Kernel) → IsKernel k → (n : ℕ) → after_close k.spaces.pipes (opens_of (closed k.files n)) (last_target k.files n) ≡ standing k.spaces.pipes (opens_of (closed k.files n))
-close-standing k is n = let left = leaves-one k.files k.spaces.pipes k.spaces.pipes n (is.opened.piped, pipes-same k.spaces.pipes) in sym (standing-is (opens_of (closed k.files n)) k.spaces.pipes (after_close k.spaces.pipes (opens_of (closed k.files n)) (last_target k.files n)) left.0 left.1)
+close-standing k is n = let left = leaves-one k.files k.spaces.pipes k.spaces.pipes n (is.opened.piped, pipes-same k.spaces.pipes) in sym (pipes-left (opens_of (closed k.files n)) k.spaces.pipes (after_close k.spaces.pipes (opens_of (closed k.files n)) (last_target k.files n)) left.0 left.1)
 
 module _ {k : Kernel} {i : ℕ} (x : Runner k i) (fd n : ℕ) (may : MayClose k i fd n) where
   here : slot x.process.descriptors fd ≡ Some n

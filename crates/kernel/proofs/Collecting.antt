@@ -1,10 +1,10 @@
 -- A zombie child is waited for.
-use Rattle.kernel.proofs.Common.{◌≡◌, ◌≢◌, ℕ, ◌<◌, true, false, List, length, Option, Some, None, if◌then◌else◌, refl, ap, subst, sym, ◌∙◌, arith, true≢false, and_parts, slice_set, length-set, option_map, Kernel, base, on_hart, rest_of}
-use Rattle.kernel.proofs.Common.{state_of, IsKernel, IsMode, IsPlace, is_at, Keeps, IsWatched, names_in, home_in, names, names-none, Process, Places, is_zombie_child_of, with_table, SpaceView, has_space, Memory, Mode, Running, Zombie}
-use Rattle.kernel.proofs.Common.{clear, put, slot, slot-within, is_running_mode, is_zombie_mode, State, holds, collected, IsEnded, reaped_at, reaped_from, without, zombie_place, taken-placed, with_place, set_comm, no_descriptors, status_of}
+use Rattle.kernel.proofs.Common.{if◌then◌else◌, true≢false, length-set, option_map, state_of, names-none, is_zombie_child_of, with_table, slot-within, is_running_mode, is_zombie_mode, reaped_from, zombie_place, taken-placed, no_descriptors}
+use Rattle.kernel.proofs.Common.{true, and_parts, slice_set, on_hart, rest_of, IsKernel, IsPlace, IsWatched, names_in, home_in, Process, SpaceView, has_space, Running, collected, IsEnded, reaped_at, without, with_place, set_comm, status_of}
+use Rattle.kernel.proofs.Common.{eq-eqb, ◌≡◌, ◌≢◌, ℕ, ◌<◌, false, List, length, Option, Some, None, refl, ap, subst, sym, ◌∙◌, arith, Kernel, base, IsMode, is_at, Keeps, names, Places, Memory, Mode, Zombie, clear, put, slot, State, holds}
 use Rattle.kernel.proofs.Holding.{used-put}
 use Rattle.kernel.proofs.Opens.{opened-names}
-use Rattle.kernel.proofs.Runs.{IsRun, eq-self, place-space, runs-set, slot-other, stands-set, state-run, with_process}
+use Rattle.kernel.proofs.Runs.{IsRun, place-space, runs-set, slot-other, stands-set, state-run, with_process}
 use Rattle.kernel.proofs.Turning.{Runner}
 use Rattle.kernel.proofs.Watching.{watched-put}
 use Rattle.kernel.proofs.Joined.{cleared-with_table, place_where-Some}
@@ -35,7 +35,7 @@ module _ {k : Kernel} (is : IsKernel k) (j : ℕ) (child : Process) (z : IsZombi
   rests = sym (is.runs j) ∙ ap (holds table.is_running) z.at ∙ zombie-rests child.mode z.ended
 
   pub zombie-idle : k.spaces.active ≢ Some j
-  zombie-idle at = absurd (true≢false (sym (eq-self j) ∙ ap (is_at j) (sym at) ∙ rests))
+  zombie-idle at = absurd (true≢false (sym (eq-eqb j j refl) ∙ ap (is_at j) (sym at) ∙ rests))
 
   pub zombie-stands : has_space k.spaces j ≡ true
   zombie-stands = place-space (slot k.table.places j) (slot k.spaces.places j) child z.at (is.stands j)

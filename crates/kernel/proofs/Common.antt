@@ -2,23 +2,25 @@
 pub use Rattle.std.proofs.Common.{◌%◌, ◌&&◌, ◌+◌, ◌++◌, ◌-◌, ◌<◌, ◌==◌, [], ◌^◌, add-one, ap, append-nil, append_assoc, ap₂, arith, Bool, cond, drop, drop-cons, eq-eqb, Err, false, inl, inr, is_some, le_trans, length, List, map, nat_eq}
 pub use Rattle.std.proofs.Common.{nat_le, nat_lt, negsuc, None, not, Ok, Option, option_map, refl, rules, slice_set, Some, subst, suc, sym, take, true, unwrap_or, zero, ◌||◌, ℕ, ℤ, ◌∙◌, ◌∷◌, ◌≡◌, ◌≢◌, ◌≤◌, ◌⊎◌}
 pub use Rattle.std.proofs.Math.ListN.{get_or-map}
+pub use Rattle.std.proofs.Math.Seq.{map-set_same}
 pub use Rattle.std.proofs.lemmas.Bool.{and_parts, cases_eq, cases_lt, eqb-true, false_from_ne_true, le-leb, le-ltb, lt-leb, lt-ltb, ltb-true, ne_eqb, not-false, not-true, not_from_true, or_from, or_left, or_parts, or_right, true≢false}
 pub use Rattle.std.proofs.lemmas.Bool.Decides.{nat_tests}
-pub use Rattle.std.proofs.lemmas.List.{drop_all, get_or-set_other, get_or-set_same, get_or_past, length-append, length-map, length-set, set-get_or, set_comm, take_all}
+pub use Rattle.std.proofs.lemmas.List.{drop_all, get_or-set_other, get_or-set_same, get_or_past, length-append, length-map, length-set, set-get_or, set-set, set_comm, take_all}
 pub use Rattle.std.proofs.lemmas.List.Folds.{position_or_len-set, prefix_len-set}
 pub use Rattle.std.proofs.lemmas.List.Quantifiers.{position-Some}
-pub use Rattle.std.proofs.lemmas.List.Sums.{count_by-le-length, position_or_len_is, sum_by-append, sum_by-cons, sum_by-set}
+pub use Rattle.std.proofs.lemmas.List.Sums.{count_by-le-length, position_or_len_is, get_or-le-sum_by, sum-map, sum_by-append, sum_by-cons, sum_by-set}
 pub use Rattle.std.proofs.lemmas.Option.{cond_some, none-some, option_and_then_some, same_Some}
 pub use Rattle.std.specs.Borrow.{Bor}
 pub use Rattle.std.specs.Fn.{FnReturns, Shared}
 pub use Rattle.std.specs.List.{list_any, position_or_len, prefix_len, range_with_len}
 pub use Rattle.std.specs.Option.{option_copied, option_eq}
-pub use Rattle.std.specs.Prelude.{◌*◌, All, count_by, find, IfErr, IfNone, IfOk, IfSome, if◌then◌else◌, is_none, IsSome, OnErr, OnOk, option_and_then, position, Result, slice_get, slice_index, sum_by, ◌↔◌}
+pub use Rattle.std.specs.Prelude.{◌*◌, All, count_by, find, IfErr, IfNone, IfOk, IfSome, if◌then◌else◌, is_none, IsSome, OnErr, OnOk, option_and_then, position, Result, slice_get, slice_index, sum, sum_by, ◌↔◌}
 pub use Rattle.blockdev.specs.declared.DeviceFault.{DeviceFault}
-pub use Rattle.files.proofs.CountsLemmas.{count-closed, count-moved, count-opened, count-shared, count_of, Counts, lt-no, lt-yes, names-clear, names-none, names-put, one_at}
+pub use Rattle.files.proofs.CountsLemmas.{count-closed, count-moved, count-opened, count-shared, count_of, Counts, lt-one, lt-sum, names-clear, names-none, names-put, one_at, one_at-self}
 pub use Rattle.files.proofs.Free.{free-opens, free-place, free-put, free-Some}
 pub use Rattle.files.proofs.PipesLemmas.{has_pipe-clear, has_pipe-put, IsLeftOf, piped-end, piped-last, piped-node, pipes-clear, pipes-left, pipes-same, without_pipes-left, without_pipes-same}
-pub use Rattle.files.proofs.Whole.{all-set, fewer-from, file-opens, free_slot-opens, IsLeft, left-closed, left-same, length-opens, opens-closed, opens-closed_last, opens-opened, opens-shared, set_outside, slot-opens, table-closed}
+pub use Rattle.files.proofs.Mapped.{all-set}
+pub use Rattle.files.proofs.Whole.{fewer-from, file-opens, free_slot-opens, IsLeft, left-closed, left-same, length-opens, opens-closed, opens-closed_last, opens-opened, opens-shared, set_outside, slot-opens, table-closed}
 pub use Rattle.files.proofs.Whole.{table-moved, table-opened, table-shared, without_opens-left, without_opens-same}
 pub use Rattle.files.specs.Counts.{names, one_in}
 pub use Rattle.files.specs.Meant.{end_of, file_of, target_of}

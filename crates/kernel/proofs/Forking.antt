@@ -1,9 +1,8 @@
 -- A process forks.
-use Rattle.kernel.proofs.Common.{with_hold, IsInUse, home_in, ◌≡◌, ◌≢◌, ℕ, ◌+◌, ◌<◌, ◌≤◌, ◌%◌, Bool, true, false, nat_le, List, length, Option, Some, None, Ok, refl, ap, subst, sym, ◌∙◌, arith, is_none, is_some, not, option_map, with_space}
-use Rattle.kernel.proofs.Common.{slice_index, slice_set, get_or-set_other, length-map, length-set, all_shared, Kernel, base, on_hart, rest_of, state_of, IsKernel, IsOpened, IsPlace, IsPlaced, is_at, Process, Places, with_table, SpaceView}
-use Rattle.kernel.proofs.Common.{frames_in, has_space, taken_frames, put, slot, is_within, State, put_process, Keeps, IsWatched, Watches, awaited_in, opens_of, is_zombie_mode, true≢false, and_parts, MayFork, child_of, forked_as, Seat}
-use Rattle.kernel.proofs.Common.{seat_at, seat_of, seated, woken, joined, taken-placed, copied, forked, with_view, reheld, set_comm, prefix_len-set, position-Some, page_frames, free_slot, shared_page, last_pid, IsTable, table-shared}
-use Rattle.kernel.proofs.Common.{file_at}
+use Rattle.kernel.proofs.Common.{option_map, with_space, slice_index, get_or-set_other, length-map, length-set, taken_frames, put_process, is_zombie_mode, taken-placed, prefix_len-set, position-Some, page_frames, shared_page, table-shared}
+use Rattle.kernel.proofs.Common.{with_hold, IsInUse, slice_set, all_shared, state_of, IsKernel, IsOpened, with_table, SpaceView, frames_in, has_space, is_within, IsWatched, awaited_in, true≢false, and_parts, forked_as, with_view, free_slot}
+use Rattle.kernel.proofs.Common.{home_in, nat_le, length, Option, is_none, is_some, Kernel, on_hart, rest_of, IsPlace, IsPlaced, Process, Places, Watches, opens_of, MayFork, child_of, seat_at, seat_of, set_comm, last_pid, IsTable, file_at}
+use Rattle.kernel.proofs.Common.{◌≡◌, ◌≢◌, ℕ, ◌+◌, ◌<◌, ◌≤◌, ◌%◌, Bool, true, false, List, Some, None, Ok, refl, ap, subst, sym, ◌∙◌, arith, not, base, is_at, put, slot, State, Keeps, Seat, seated, woken, joined, copied, forked, reheld}
 use Rattle.files.specs.Places.{has_pipe}
 use Rattle.kernel.proofs.Changes.{other-at}
 use Rattle.kernel.proofs.Holding.{home-folder, used-child, used-shared}

@@ -1,9 +1,9 @@
 -- Who holds the nodes of the disk: what comes of processes, open files and nodes that change.
 use Rattle.kernel.proofs.Common.{◌≡◌, ◌≢◌, ℕ, zero, suc, ◌+◌, ◌-◌, ◌<◌, ◌≤◌, Bool, true, false, cond, List, [], ◌∷◌, length, map, Option, Some, None, inl, inr, refl, ap, ap₂, sym, subst, ◌∙◌, arith, IfSome, nat_lt, option_map, slice_set}
-use Rattle.kernel.proofs.Common.{SpaceView, drop, sum_by, unwrap_or, ◌||◌, ◌==◌, list_any, get_or-map, cases_eq, cases_lt, lt-ltb, ltb-true, or_left, or_right, nat_tests, get_or-set_other, get_or-set_same, sum_by-cons, sum_by-set}
-use Rattle.kernel.proofs.Common.{none-some, same_Some, one_in, lt-no, lt-yes, one_at, target_of, Counted, more, opened, opens_of, shared, all-set, AreHeld, FitsNode, IsFolder, IsInUse, all_dropped, dropped, files_on, home_in, homes_at}
+use Rattle.kernel.proofs.Common.{SpaceView, drop, sum_by, unwrap_or, ◌||◌, ◌==◌, list_any, get_or-map, cases_eq, cases_lt, lt-ltb, ltb-true, or_left, or_right, nat_tests, get_or-set_other, get_or-set_same, sum_by-cons, sum_by-set, le-ltb}
+use Rattle.kernel.proofs.Common.{none-some, same_Some, one_in, one_at, target_of, Counted, more, opened, opens_of, shared, all-set, AreHeld, FitsNode, IsFolder, IsInUse, all_dropped, dropped, files_on, home_in, homes_at, one_at-self, sum}
 use Rattle.kernel.proofs.Common.{node_in, node_of, node_on, slot-within, Process, orphaned, joined, holders, with_hold, without_hold, FileTree, blocks_of, Files, Node, clear, links_of, slot, taken, is_node, is_zombie_mode, is_used, kept}
-use Rattle.kernel.proofs.Common.{without_nodes, State, KeepsTree, let-go-keeps, count_by-le-length, is_same}
+use Rattle.kernel.proofs.Common.{without_nodes, State, KeepsTree, let-go-keeps, count_by-le-length, is_same, sum-map, map-set_same, get_or-le-sum_by, lt-sum, lt-one, get_or_past}
 use Rattle.files.specs.declared.file.OpenFile.{OpenFile}
 use Rattle.files.specs.declared.file.Target.{Target}
 use Rattle.files.specs.declared.file.Target.TheVariants as target
@@ -30,15 +30,10 @@ orphan-by P pid p is = elim (p.parent == pid) as (λ b. P (cond b (record p { pa
 
 -- ---- sums over places
 
-pub one_at-self : (n : ℕ) → one_at n n ≡ 1
-one_at-self n = grind (arith, nat_tests)
-
 module _ {X : Type 0} (f : Option X → ℕ) where
   -- a place counts as much as before
   pub same-set : (xs : List (Option X)) (i : ℕ) (o : Option X) → f o ≡ f (slot xs i) → sum_by f (slice_set xs i o) ≡ sum_by f xs
-  same-set [] i o same = refl
-  same-set (x ∷ xs) zero o same = sum_by-cons f o xs ∙ ap (λ (m : ℕ). m + sum_by f xs) same ∙ sym (sum_by-cons f x xs)
-  same-set (x ∷ xs) (suc i) o same = sum_by-cons f x (slice_set xs i o) ∙ ap (λ (m : ℕ). f x + m) (same-set xs i o same) ∙ sym (sum_by-cons f x xs)
+  same-set xs i o same = sym (sum-map f (slice_set xs i o)) ∙ ap sum (map-set_same f xs i o None same) ∙ sum-map f xs
 
   -- all places count as much as before
   pub same-map : (g : X → X) → ((o : Option X) → f (option_map g o) ≡ f o) → (xs : List (Option X)) → sum_by f (map (option_map g) xs) ≡ sum_by f xs
@@ -47,9 +42,7 @@ module _ {X : Type 0} (f : Option X → ℕ) where
 
   -- a place is one of those that are counted
   pub least : (xs : List (Option X)) (i : ℕ) (x : X) → slot xs i ≡ Some x → f (Some x) ≤ sum_by f xs
-  least [] i x at = absurd (none-some x at)
-  least (o ∷ os) zero x at = let same : f o ≡ f (Some x) = ap f at in omega (arith, sum_by-cons f o os, same)
-  least (o ∷ os) (suc i) x at = omega (arith, sum_by-cons f o os, least os i x at)
+  least xs i x at = let same : f (slot xs i) ≡ f (Some x) = ap f at in omega (arith, get_or-le-sum_by f xs i None (slot-within xs i x at), same)
 
 -- what places have, and how many have it
 module _ {X : Type 0} (h : Option X → Option ℕ) where
@@ -73,10 +66,6 @@ fits-there n f t o on fits none = subst (FitsNode f t) none fits
 
 -- ---- homes
 
-module _ (P : ℕ → Type 0) where
-  pub homes-set : (os : List (Option Process)) (i : ℕ) (o : Option Process) → IfSome (home_in o) P → ((j : ℕ) → IfSome (home_in (slot os j)) P) → (j : ℕ) → IfSome (home_in (slot (slice_set os i o) j)) P
-  homes-set os i o here is = all-set (λ j x. IfSome (home_in x) P) os i o here is
-
 module _ {t : FileTree} {opens : List (Option Counted)} {os : List (Option Process)} (is : IsInUse t opens os) where
   -- other open files and processes hold each node as often
   pub used-by : (new : List (Option Counted)) (after : List (Option Process)) → ((n : ℕ) → files_on opens n + homes_at os n ≡ files_on new n + homes_at after n)
@@ -95,7 +84,7 @@ module _ {t : FileTree} {opens : List (Option Counted)} {os : List (Option Proce
   pub used-put : (i : ℕ) (o : Option Process) → home_in o ≡ home_in (slot os i) → IsInUse t opens (slice_set os i o)
   used-put i o same =
       used-by opens (slice_set os i o) (λ n. ap (λ m. files_on opens n + m) (sym (same-set (λ x. one_in n (home_in x)) os i o (ap (one_in n) same)))) is.fits
-      (homes-set (λ d. IsFolder (slot t.files d)) os i o (subst (λ h. IfSome h (λ d. IsFolder (slot t.files d))) (sym same) (is.homes i)) is.homes)
+      (all-set (λ j x. IfSome (home_in x) (λ d. IsFolder (slot t.files d))) os i o (subst (λ h. IfSome h (λ d. IsFolder (slot t.files d))) (sym same) (is.homes i)) is.homes)
 
   pub home-folder : (i d : ℕ) → home_in (slot os i) ≡ Some d → IsFolder (slot t.files d)
   home-folder i d at = subst (λ h. IfSome h (λ d. IsFolder (slot t.files d))) at (is.homes i)
@@ -138,27 +127,15 @@ module _ {t : FileTree} {opens : List (Option Counted)} {os : List (Option Proce
 
 -- ---- what the abstract Unix says is used
 
-or-lt : (m n : ℕ) → (nat_lt 0 m || nat_lt 0 n) ≡ nat_lt 0 (m + n)
-or-lt m n = elim (cases_lt 0 m) [
-  | inl some ↦ rw (lt-yes 0 m some, lt-yes 0 (m + n) (omega (arith, some))) refl
-  | inr none ↦ (let gone : m + n ≡ n = omega (arith, none) in rw (lt-no 0 m none, gone) refl)
-]
-
-lt-one : (b : Bool) → nat_lt 0 (cond b 1 0) ≡ b
-lt-one true = refl
-lt-one false = refl
-
 node-same : (n : ℕ) (on : Target) → is_node n (target_of on) ≡ nat_lt 0 (one_in n (node_on on))
 node-same n (target.Pipe pipe e) = refl
 node-same n on = sym (lt-one (unwrap_or (node_on on) 0 == n))
 
 any-files : (n : ℕ) (opens : List (Option Counted)) → list_any (λ (f : unix_files.OpenFile). is_node n f.target) (taken (opens_of opens)) ≡ nat_lt 0 (files_on opens n)
 any-files n [] = refl
-any-files n (None ∷ os) = let same : files_on os n ≡ files_on (None ∷ os) n = omega (arith, sum_by-cons (λ o. one_in n (node_in o)) None os) in any-files n os ∙ ap (nat_lt 0) same
+any-files n (None ∷ os) = rw (sum_by-cons (λ o. one_in n (node_in o)) None os, lt-sum 0 (files_on os n)) (any-files n os)
 any-files n (Some c ∷ os) =
-    ap₂ ◌||◌ (node-same n c.file.target) (any-files n os)
-    ∙ or-lt (one_in n (node_on c.file.target)) (files_on os n)
-    ∙ ap (nat_lt 0) (sym (sum_by-cons (λ o. one_in n (node_in o)) (Some c) os))
+    rw (sum_by-cons (λ o. one_in n (node_in o)) (Some c) os, lt-sum (one_in n (node_on c.file.target)) (files_on os n)) (ap₂ ◌||◌ (node-same n c.file.target) (any-files n os))
 
 -- a zombie works nowhere
 abbrev pub IsAway : Option Process → Type 0
@@ -177,18 +154,16 @@ home-same n some p away = go (is_zombie_mode p.mode) refl where
 any-homes : (n : ℕ) → n ≢ 0 → (os : List (Option Process)) (hs : List (Option SpaceView)) → AreAway os → list_any (λ (p : unix.Process). p.directory == n) (taken (joined os hs)) ≡ nat_lt 0 (homes_at os n)
 unfolding joined
 any-homes n some [] hs away = refl
-any-homes n some (None ∷ os) hs away = let same : homes_at os n ≡ homes_at (None ∷ os) n = omega (arith, sum_by-cons (λ o. one_in n (home_in o)) None os) in any-homes n some os (drop 1 hs) (λ j. away (suc j)) ∙ ap (nat_lt 0) same
+any-homes n some (None ∷ os) hs away = rw (sum_by-cons (λ o. one_in n (home_in o)) None os, lt-sum 0 (homes_at os n)) (any-homes n some os (drop 1 hs) (λ j. away (suc j)))
 any-homes n some (Some p ∷ os) hs away =
-    ap₂ ◌||◌ (home-same n some p (away 0)) (any-homes n some os (drop 1 hs) (λ j. away (suc j)))
-    ∙ or-lt (one_in n (home_in (Some p))) (homes_at os n)
-    ∙ ap (nat_lt 0) (sym (sum_by-cons (λ o. one_in n (home_in o)) (Some p) os))
+    rw (sum_by-cons (λ o. one_in n (home_in o)) (Some p) os, lt-sum (one_in n (home_in (Some p))) (homes_at os n)) (ap₂ ◌||◌ (home-same n some p (away 0)) (any-homes n some os (drop 1 hs) (λ j. away (suc j))))
 
 pub used-is : (opens : List (Option Counted)) (os : List (Option Process)) (hs : List (Option SpaceView)) → AreAway os → (s : State) → s.opens ≡ opens_of opens → s.places ≡ joined os hs
     → (n : ℕ) → n ≢ 0 → is_used s n ≡ nat_lt 0 (files_on opens n + homes_at os n)
 used-is opens os hs away s files places n some =
     ap₂ (λ fs ps. list_any (λ (f : unix_files.OpenFile). is_node n f.target) (taken fs) || list_any (λ (p : unix.Process). p.directory == n) (taken ps)) files places
     ∙ ap₂ ◌||◌ (any-files n opens) (any-homes n some os hs away)
-    ∙ or-lt (files_on opens n) (homes_at os n)
+    ∙ sym (lt-sum (files_on opens n) (homes_at os n))
 
 -- ---- what is kept of places
 
@@ -239,9 +214,7 @@ abbrev pub AreThere : List ℕ → Files → Type 0
 AreThere holds files = (n : ℕ) → 1 ≤ holders holds n → slot files n ≢ None
 
 within-holds : (holds : List ℕ) (n : ℕ) → 1 ≤ holders holds n → n < length holds
-within-holds [] n some = absurd (omega (arith, some))
-within-holds (h ∷ hs) zero some = omega arith
-within-holds (h ∷ hs) (suc n) some = omega (arith, within-holds hs n some)
+within-holds holds n some = elim (cases_lt n (length holds)) [ inl inside ↦ inside | inr past ↦ absurd (let none = get_or_past holds n 0 past in omega arith) ]
 
 module _ (t : FileTree) (n : ℕ) (some : 1 ≤ holders t.holds n) where
   other-after : (m : ℕ) → m ≢ n → holders (without_hold t.holds n) m ≡ holders t.holds m
@@ -343,7 +316,7 @@ is_by-fewer : (less more : List ℕ) → ((m : ℕ) → holders less m ≤ holde
 is_by-fewer less more fewer n x by = elim (cases_lt 0 (links_of x)) [
   | inl some ↦ by-links more n x (omega (arith, some))
   | inr none ↦
-      let bare : nat_lt 0 (links_of x) ≡ false = lt-no 0 (links_of x) (omega (arith, none)) in
+      let bare : nat_lt 0 (links_of x) ≡ false = le-ltb 0 (links_of x) (omega (arith, none)) in
       let held : nat_lt 0 (holders less n) ≡ true = rw bare at by in
       by-holders more n x (omega (arith, fewer n, ltb-true 0 (holders less n) held))
 ]
@@ -481,7 +454,7 @@ module _ {t : FileTree} {opens : List (Option Counted)} {os : List (Option Proce
       let none : one_in n (home_in (slot os j)) ≡ 0 = ap (λ o. one_in n (home_in o)) free in
       let one : one_in n (home_in (Some child)) ≡ one_in n (Some d) = ap (one_in n) home in
       omega (arith, sums, none, one))
-      is.fits (homes-set (λ d. IsFolder (slot t.files d)) os j (Some child) (subst (λ h. IfSome h (λ d. IsFolder (slot t.files d))) (sym home) (home-folder is i d parent)) is.homes)
+      is.fits (all-set (λ j x. IfSome (home_in x) (λ d. IsFolder (slot t.files d))) os j (Some child) (subst (λ h. IfSome h (λ d. IsFolder (slot t.files d))) (sym home) (home-folder is i d parent)) is.homes)
 
   -- no more hold a node than there are open files and processes
   pub holders-few : (n : ℕ) → holders t.holds n ≤ length opens + length os

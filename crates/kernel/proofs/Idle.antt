@@ -1,8 +1,9 @@
 -- Whether a kernel has anything to do, in the words of its state.
+use Rattle.kernel.proofs.Common.{eq-eqb}
 use Rattle.kernel.proofs.Common.{Bool, List, None, Option, Some, [], ap, arith, false, length, nat_lt, not, refl, sym, true, ◌&&◌, ◌<◌, ◌||◌, ◌∙◌, ◌≡◌, ◌∷◌, ℕ, is_none, is_some, SpaceView, drop, list_any, position_or_len, le-ltb, lt-ltb}
 use Rattle.kernel.proofs.Common.{position_or_len_is, is_anyone_asleep, is_idle, is_sleeping, is_sleeping_mode, Kernel, base, loaded, rest_of, state_of, IsKernel, is_at, Process, place_where, joined, found-any, slot, holds, running, turn}
 use Rattle.kernel.proofs.Changes.{length-active, other-at, running-active}
-use Rattle.kernel.proofs.Runs.{eq-self, run-of, slot-within}
+use Rattle.kernel.proofs.Runs.{run-of, slot-within}
 use Rattle.kernel.proofs.Shown.{place-changed}
 use Rattle.proc.specs.Places as table
 use Rattle.kernel.proofs.Joined.{running-with_table}
@@ -18,7 +19,7 @@ runs-position os None runs within =
 runs-position os (Some i) runs within =
     let low : i < length os = within i refl in
     let e : position_or_len (holds table.is_running) os ≡ i =
-    position_or_len_is (holds table.is_running) os i None (omega arith) (λ j h. runs j ∙ other-at i j (λ same. absurd (omega arith))) (λ h. runs i ∙ eq-self i) in
+    position_or_len_is (holds table.is_running) os i None (omega arith) (λ j h. runs j ∙ other-at i j (λ same. absurd (omega arith))) (λ h. runs i ∙ eq-eqb i i refl) in
     let some : nat_lt i (length os) ≡ true = lt-ltb _ _ low in
     rw (e, some) refl
 

@@ -1,12 +1,12 @@
 -- The running process runs no more: it ends, waits, or is ready again.
 use Rattle.kernel.proofs.Common.{◌≡◌, ℕ, ◌%◌, false, ℤ, refl, ap, sym, ◌∙◌, slice_index, Kernel, blocked, ended, left_as, on_hart, state_of, IsAwaiting, IsKernel, IsPending, IsPlaced, Process, SpaceView, end_at, Ready, Waiting, Pending}
 use Rattle.kernel.proofs.Common.{end_process, reap, change_process, process_at, List, None, Option, if◌then◌else◌, length-set, WaitsAs, IsMode, idle, base, rest_of, descriptors_in, home_in, put, put_process, State, with_space, with_table}
-use Rattle.kernel.proofs.Common.{is_running_mode, is_zombie_mode, Mode, Some}
+use Rattle.kernel.proofs.Common.{is_running_mode, is_zombie_mode, Mode, Some, set-set}
 use Rattle.kernel.proofs.Changes.{ended-is, ended-state, last-run, mode-kept, other-at, stands-put}
 use Rattle.kernel.proofs.Reaped.{reap-state}
 use Rattle.kernel.proofs.Holding.{used-put}
 use Rattle.kernel.proofs.Opens.{opened-put}
-use Rattle.kernel.proofs.Runs.{put-same, runs-set, set-twice, state-run, with_process, within-run, IsRun, home-running, process-run, self, change-run, live}
+use Rattle.kernel.proofs.Runs.{put-same, runs-set, state-run, with_process, within-run, IsRun, home-running, process-run, self, change-run, live}
 use Rattle.unixmodel.specs.Process as unix
 
 module _ (k : Kernel) (i : ℕ) (p : Process) (h : SpaceView) (r : IsRun k i p h) (is : IsKernel k) where
@@ -48,7 +48,7 @@ module _ (k : Kernel) (i : ℕ) (p : Process) (h : SpaceView) (r : IsRun k i p h
       pub left-state : change_process (state_of k) i (unix.with_mode mode) ≡ state_of (left_as k i mode)
       left-state =
           let held = on_hart k.spaces p in
-          let twice : put k.table.places i q ≡ put (put k.table.places i held) i q = sym (set-twice k.table.places i (Some held) (Some q)) in
+          let twice : put k.table.places i q ≡ put (put k.table.places i held) i q = sym (set-set k.table.places i (Some held) (Some q)) in
           change-run k i p h r is (unix.with_mode mode)
           ∙ sym (ap state_of left-is
           ∙ ap (λ (places : List (Option Process)). with_table (base (rest_of k)) (record k.table { places = places }) k.spaces.places) twice

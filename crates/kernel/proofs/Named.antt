@@ -2,14 +2,14 @@
 -- the abstract Unix leaves.
 use Rattle.kernel.proofs.Common.{drop-cons, eq-eqb, append_assoc, Bool, List, None, Option, Some, [], ap, arith, cond, false, inl, inr, length, refl, subst, suc, sym, true, ℕ, ℤ, ◌+◌, ◌++◌, ◌<◌, ◌≡◌, ◌≤◌, ◌∙◌, ◌∷◌, drop, SpaceView, is_some}
 use Rattle.kernel.proofs.Common.{map, option_and_then, option_map, slice_set, cases_lt, none-some, get_or_past, length-append, length-map, set-get_or, sum_by-cons, sum_by-set, IsCounted, after_close, all_closed, all_shared, closed_in}
-use Rattle.kernel.proofs.Common.{named_by, names_in, shared_in, standing, slot-within, files_on, gone_nodes, last_node, listed, node_in, node_on, names, one_in, Counts, count-closed, count-shared, lt-no, lt-yes, names-none, one_at, IsPiped}
+use Rattle.kernel.proofs.Common.{named_by, names_in, shared_in, standing, slot-within, files_on, gone_nodes, last_node, listed, node_in, node_on, names, one_in, Counts, count-closed, count-shared, names-none, one_at, IsPiped, lt-ltb}
 use Rattle.kernel.proofs.Common.{IsLeftOf, has_pipe-clear, pipes-clear, pipes-left, pipes-same, piped-end, piped-last, piped-node, without_pipes-left, end_of, file_of, target_of, Counted, IsTable, closed, count_at, fewer, file_at, last_in}
-use Rattle.kernel.proofs.Common.{last_target, opens_of, shared, all-set, fewer-from, IsLeft, left-closed, left-same, opens-closed, opens-closed_last, opens-shared, set_outside, slot-opens, table-closed, without_opens-left, Process}
+use Rattle.kernel.proofs.Common.{last_target, opens_of, shared, all-set, fewer-from, IsLeft, left-closed, left-same, opens-closed, opens-closed_last, opens-shared, set_outside, slot-opens, table-closed, without_opens-left, Process, le-ltb}
 use Rattle.kernel.proofs.Common.{orphaned, zombie_of, joined, Spaces, Files, clear, put, slot, taken, End, OnPipe, reap, without_nodes, without_pipes, State, Kernel, IsKernel, IsLive, IsMode, IsPlace, Mode, Ready, Running, Waiting, Zombie}
-use Rattle.kernel.proofs.Common.{Memory, ◌*◌, count_by-le-length, is_same}
+use Rattle.kernel.proofs.Common.{Memory, ◌*◌, count_by-le-length, is_same, one_at-self}
 use Rattle.files.specs.Places.{has_pipe}
 use Rattle.kernel.proofs.Opens.{count-joined}
-use Rattle.kernel.proofs.Holding.{AreOld, map-same, named_in, one_at-self, orphan-by, same-map, slot-map}
+use Rattle.kernel.proofs.Holding.{AreOld, map-same, named_in, orphan-by, same-map, slot-map}
 use Rattle.files.specs.declared.file.End as files_end
 use Rattle.files.specs.declared.file.OpenFile.{OpenFile}
 use Rattle.files.specs.declared.file.Target.{Target}
@@ -161,10 +161,10 @@ module _ (pipes : List (Option (List ℕ))) (t : List (Option Counted)) (n : ℕ
   follows : (o : Option Counted) → slot t n ≡ o → Follows pipes t n o
   follows None at = stays (ap (λ o. opens_of (slice_set t n (option_and_then fewer o))) at ∙ ap opens_of (rw (← at) (set-get_or t n None)))
   follows (Some c) at = elim (cases_lt 1 c.count) [
-    | inl more ↦ (let many : 1 < count_at t n = rw at more in rw (lt-yes 1 c.count more) (stays (opens-closed t n many)))
+    | inl more ↦ (let many : 1 < count_at t n = rw at more in rw (lt-ltb 1 c.count more) (stays (opens-closed t n many)))
     | inr last ↦
         let one : count_at t n ≤ 1 = rw at last in
-        rw (lt-no 1 c.count last) (subst (λ (os : List (Option unix.OpenFile)). IsPiped (after_close pipes os (Some c.file.target)) os) (sym (opens-closed_last t n one)) (goes c.file c.file.target (slot-opens t n ∙ ap (option_map (λ (d : Counted). file_of d.file)) at) refl))
+        rw (le-ltb 1 c.count last) (subst (λ (os : List (Option unix.OpenFile)). IsPiped (after_close pipes os (Some c.file.target)) os) (sym (opens-closed_last t n one)) (goes c.file c.file.target (slot-opens t n ∙ ap (option_map (λ (d : Counted). file_of d.file)) at) refl))
   ]
 
 pub left-close_pipe : (old pipes : List (Option (List ℕ))) (opens : List (Option unix.OpenFile)) (o : Option Target) → IsLeftOf old pipes → IsLeftOf old (after_close pipes opens o)
@@ -174,8 +174,8 @@ left-close_pipe old pipes opens _ left = left
 last-is : (o : Option Counted) (on : Target) → option_and_then last_in o ≡ Some on → (c : Counted) × ((o ≡ Some c) × (c.file.target ≡ on))
 last-is None on last = absurd (let bad : None ≡ Some on = last in cc)
 last-is (Some c) on last = elim (cases_lt 1 c.count) [
-  | inl more ↦ absurd (let bad : None ≡ Some on = rw (lt-yes 1 c.count more) at last in cc)
-  | inr one ↦ (let same : Some c.file.target ≡ Some on = rw (lt-no 1 c.count one) at last in (c, (refl, cc)))
+  | inl more ↦ absurd (let bad : None ≡ Some on = rw (lt-ltb 1 c.count more) at last in cc)
+  | inr one ↦ (let same : Some c.file.target ≡ Some on = rw (le-ltb 1 c.count one) at last in (c, (refl, cc)))
 ]
 
 -- the pipe of a last end stood until then
@@ -184,10 +184,6 @@ stands-last t pipes n q e is last =
     let c = last-is (slot t n) (target.Pipe q e) last in
     let at : slot (opens_of t) n ≡ Some (file_of c.0.file) = slot-opens t n ∙ ap (option_map (λ (d : Counted). file_of d.file)) c.1.0 in
     is q ∙ has_pipe-clear (opens_of t) n (file_of c.0.file) q at ∙ rw (c.1.1, eq-eqb q q refl) refl
-
--- the pipes that are left where they follow the open files
-pub standing-is : (opens : List (Option unix.OpenFile)) (old new : List (Option (List ℕ))) → IsPiped new opens → IsLeftOf old new → standing old opens ≡ new
-standing-is opens old new is left = pipes-left opens old new is left
 
 -- ---- what is left as a whole
 
@@ -198,15 +194,10 @@ Leaves new before pipes = IsPiped pipes (opens_of new) × IsLeftOf before pipes
 pub leaves-one : (t : List (Option Counted)) (before pipes : List (Option (List ℕ))) (n : ℕ) → Leaves t before pipes → Leaves (closed t n) before (after_close pipes (opens_of (closed t n)) (last_target t n))
 leaves-one t before pipes n is = (follows pipes t n is.0 (slot t n) refl, left-close_pipe before pipes (opens_of (closed t n)) (last_target t n) is.1)
 
-leaves-all : (t : List (Option Counted)) (before pipes : List (Option (List ℕ))) (ds : List (Option ℕ)) → Leaves t before pipes → (after : List (Option (List ℕ))) × Leaves (all_closed t ds) before after
-leaves-all t before pipes [] is = (pipes, is)
-leaves-all t before pipes (None ∷ ds) is = leaves-all t before pipes ds is
-leaves-all t before pipes (Some n ∷ ds) is = leaves-all (closed t n) before (after_close pipes (opens_of (closed t n)) (last_target t n)) ds (leaves-one t before pipes n is)
-
 pub leaves-standing : (t : List (Option Counted)) (pipes : List (Option (List ℕ))) (ds : List (Option ℕ)) → IsPiped pipes (opens_of t) → Leaves (all_closed t ds) pipes (standing pipes (opens_of (all_closed t ds)))
 leaves-standing t pipes ds is =
-    let all = leaves-all t pipes pipes ds (is, pipes-same pipes) in
-    rw (standing-is (opens_of (all_closed t ds)) pipes all.0 all.1.0 all.1.1) all.1
+    let all = kept-all_closed (λ u. (after : List (Option (List ℕ))) × Leaves u pipes after) (λ u n h. (_, leaves-one u pipes h.0 n h.1)) t ds (pipes, (is, pipes-same pipes)) in
+    rw (pipes-left (opens_of (all_closed t ds)) pipes all.0 all.1.0 all.1.1) all.1
 
 -- no more pipes stand than did
 pub fewer-pipes : (old new : List (Option (List ℕ))) → length new ≡ length old → ((q : ℕ) (bytes : List ℕ) → slot new q ≡ Some bytes → is_some (slot old q) ≡ true) → length (taken new) ≤ length (taken old)
@@ -255,8 +246,8 @@ files_on-closed t n m = elim (cases_lt n (length t)) [
     goes : (o : Option Counted) → one_in m (node_in (option_and_then fewer o)) + named_in (listed (option_and_then node_on (option_and_then last_in o))) m ≡ one_in m (node_in o)
     goes None = refl
     goes (Some c) = elim (cases_lt 1 c.count) [
-      | inl more ↦ rw (lt-yes 1 c.count more) (omega arith)
-      | inr last ↦ rw (lt-no 1 c.count last) (omega (arith, one (node_on c.file.target)))
+      | inl more ↦ rw (lt-ltb 1 c.count more) (omega arith)
+      | inr last ↦ rw (le-ltb 1 c.count last) (omega (arith, one (node_on c.file.target)))
     ]
 
 pub named_in-append : (xs ys : List ℕ) (m : ℕ) → named_in (xs ++ ys) m ≡ named_in xs m + named_in ys m
@@ -312,7 +303,7 @@ module _ {old : List (Option Counted)} {before : Spaces} {ds : List (Option ℕ)
 
 -- all were
 pub closing-all : {old : List (Option Counted)} {before : Spaces} {ds : List (Option ℕ)} {t : List (Option Counted)} {s : Spaces} {gone : List ℕ} {i : ℕ} → IsClosing old before ds t s gone i → s ≡ record before { pipes = standing before.pipes (opens_of t) }
-closing-all {before = before} {t = t} {s = s} is = is.spaces ∙ ap (λ (ps : List (Option (List ℕ))). record before { pipes = ps }) (sym (standing-is (opens_of t) before.pipes s.pipes is.leaves.0 is.leaves.1))
+closing-all {before = before} {t = t} {s = s} is = is.spaces ∙ ap (λ (ps : List (Option (List ℕ))). record before { pipes = ps }) (sym (pipes-left (opens_of t) before.pipes s.pipes is.leaves.0 is.leaves.1))
 
 -- ---- no open file is named by many descriptors
 

@@ -2,8 +2,8 @@
 use Rattle.kernel.proofs.Common.{◌≡◌, ◌≢◌, ℕ, ◌+◌, ◌<◌, ◌≤◌, true, List, [], ◌∷◌, length, Option, Some, None, refl, ap, subst, sym, ◌∙◌, arith, IfSome, option_and_then, option_map, slice_set, sum_by-cons, SpaceView, space_in, with_space}
 use Rattle.kernel.proofs.Common.{drop, IsCounted, descriptors_in, named_by, names_in, Kernel, on_hart, slot-within, IsAwaiting, IsForBytes, IsForPipe, IsFresh, IsOpenFile, IsOpened, WaitsAs, WaitsWell, file_named, is_awaited, is_on_pipe}
 use Rattle.kernel.proofs.Common.{names, count_of, names-clear, file_of, Counted, count_at, count_in, file_at, more, opens_of, shared, all-set, slot-opens, Process, changed_at, joined, Spaces, Call, Read, Write, Mode, Running, Waiting}
-use Rattle.kernel.proofs.Common.{Pending, slot, taken, low, pending_arg, State}
-use Rattle.kernel.proofs.Holding.{least, map-same, one_at-self, same-set}
+use Rattle.kernel.proofs.Common.{Pending, slot, taken, low, pending_arg, State, one_at-self}
+use Rattle.kernel.proofs.Holding.{least, map-same, same-set}
 use Rattle.files.proofs.CountsLemmas as counts
 use Rattle.files.specs.declared.file.OpenFile.{OpenFile}
 use Rattle.files.specs.declared.file.Target.{Target}

@@ -1,12 +1,12 @@
 -- The running process opens both ends of a new pipe.
 use Rattle.kernel.proofs.Common.{◌≡◌, ℕ, ◌<◌, ◌≤◌, inl, inr, List, [], length, Option, Some, None, refl, ap, arith, subst, sym, ◌∙◌, length-set, get_or-set_other, get_or-set_same, cases_eq, ne_eqb, is_none, descriptors_in, Kernel, IsKernel}
-use Rattle.kernel.proofs.Common.{Keeps, Counted, opened, opens_of, file_of, IsPiped, Process, Places, put, slot, taken_frames, woken_by, Bytes, End, option_map, slice_set, slot-within, free-opens, free-place, free-put, has_pipe-put}
-use Rattle.kernel.proofs.Common.{opens-opened, free_count, AreFree, Ends, HasPiped, OpensAs, free_descriptors, half_piped, pipe_file, piped, with_descriptor, with_pipe, count_by, free_slot, ReadEnd, WriteEnd}
+use Rattle.kernel.proofs.Common.{Keeps, Counted, opened, opens_of, file_of, IsPiped, Process, Places, put, slot, taken_frames, woken_by, Bytes, End, option_map, slice_set, slot-within, free-opens, free-place, free-put, has_pipe-put, eq-eqb}
+use Rattle.kernel.proofs.Common.{opens-opened, free_count, AreFree, Ends, HasPiped, OpensAs, free_descriptors, half_piped, pipe_file, piped, with_descriptor, with_pipe, count_by, free_slot, ReadEnd, WriteEnd, set-set}
 use Rattle.files.specs.declared.file.End.TheVariants as end
 use Rattle.files.specs.declared.file.OpenFile.{OpenFile}
 use Rattle.kernel.proofs.Opening.{opens-kernel, opens-run}
 use Rattle.kernel.proofs.Renaming.{descriptors-run}
-use Rattle.kernel.proofs.Runs.{eq-self, set-twice, slot-put}
+use Rattle.kernel.proofs.Runs.{slot-put}
 use Rattle.kernel.proofs.Turning.{Runner}
 use Rattle.kernel.proofs.Wakes.{kernel-waking, running-at}
 use Rattle.kernel.proofs.Watching.{watched-bytes, watched-running}
@@ -16,11 +16,11 @@ use Rattle.unixmodel.specs.OpenFiles as unix_files
 -- an end comes of a pipe that is put in its place
 end-comes : (pipes : List (Option (List ℕ))) (opens : List (Option unix_files.OpenFile)) (q k : ℕ) (e : End) (bytes : List ℕ) → IsPiped pipes opens → q < length pipes → k < length opens → slot opens k ≡ None → IsPiped (put pipes q bytes) (put opens k (pipe_end q e))
 end-comes pipes opens q k ReadEnd bytes is inside low free r = elim (cases_eq r q) [
-  | inl same ↦ rw (same, has_pipe-put opens k (pipe_end q ReadEnd) q low free, get_or-set_same pipes q (Some bytes) None inside, eq-self q) refl
+  | inl same ↦ rw (same, has_pipe-put opens k (pipe_end q ReadEnd) q low free, get_or-set_same pipes q (Some bytes) None inside, eq-eqb q q refl) refl
   | inr other ↦ rw (has_pipe-put opens k (pipe_end q ReadEnd) r low free, get_or-set_other pipes q r (Some bytes) None other, ne_eqb q r (λ same. other (sym same))) (is r)
 ]
 end-comes pipes opens q k WriteEnd bytes is inside low free r = elim (cases_eq r q) [
-  | inl same ↦ rw (same, has_pipe-put opens k (pipe_end q WriteEnd) q low free, get_or-set_same pipes q (Some bytes) None inside, eq-self q) refl
+  | inl same ↦ rw (same, has_pipe-put opens k (pipe_end q WriteEnd) q low free, get_or-set_same pipes q (Some bytes) None inside, eq-eqb q q refl) refl
   | inr other ↦ rw (has_pipe-put opens k (pipe_end q WriteEnd) r low free, get_or-set_other pipes q r (Some bytes) None other, ne_eqb q r (λ same. other (sym same))) (is r)
 ]
 
@@ -52,7 +52,7 @@ module _ {k : Kernel} {i : ℕ} (x : Runner k i) (e : Ends) (free : AreFree k i 
       let at = free-place (opens_of files) e.writer writer-first in
       let comes = end-comes pipes (opens_of files) e.pipe e.writer WriteEnd [] half.sound.opened.piped (omega (arith, room, length-set k.spaces.pipes e.pipe (Some []))) at.0 at.1 in
       opens-kernel half (pipe_file e.pipe end.Write) e.writer e.write_fd writer-first (ap free_slot (descriptors-run half) ∙ ap (λ (ds : List (Option ℕ)). free_slot (put ds e.read_fd e.reader)) (sym (descriptors-run x)) ∙ free.write_fd) refl refl tt pipes half.sound.opened.all
-      (subst (λ ps. IsPiped ps (put (opens_of files) e.writer (pipe_end e.pipe WriteEnd))) (set-twice k.spaces.pipes e.pipe (Some []) (Some [])) comes) fits
+      (subst (λ ps. IsPiped ps (put (opens_of files) e.writer (pipe_end e.pipe WriteEnd))) (set-set k.spaces.pipes e.pipe (Some []) (Some [])) comes) fits
 
   piped-watched : Keeps k → Keeps (record (piped k i e) { table = woken_by Bytes (piped k i e).table })
   piped-watched keeps = record {

@@ -1,9 +1,9 @@
 -- Who is ready: that depends on the processes, the console, the ticks, and the open files with their pipes.
 use Rattle.kernel.proofs.Common.{◌≡◌, ℕ, Bool, true, false, ◌||◌, List, Option, Some, None, refl, ap, subst, sym, ◌∙◌, cond, find, is_some, option_map, [], ◌∷◌, Kernel, Rest, base, SpaceView, no_pages, space_in, with_space, lives, rest_of}
 use Rattle.kernel.proofs.Common.{state_of, Stands, awaited_in, seen, IsAlive, IsPiped, has_pipe-clear, Process, Places, is_zombie_child_of, place_where, with_table, Spaces, Call, Read, Wait, Write, Mode, Waiting, Zombie, Pending, clear}
-use Rattle.kernel.proofs.Common.{slot, is_pipe, OnNode, OnPipe, State, holds}
+use Rattle.kernel.proofs.Common.{slot, is_pipe, OnNode, OnPipe, State, holds, eq-eqb}
 use Rattle.files.specs.Places.{has_pipe}
-use Rattle.kernel.proofs.Runs.{eq-self, state-idle}
+use Rattle.kernel.proofs.Runs.{state-idle}
 use Rattle.unixmodel.specs.OpenFiles.{OpenFile, Target}
 use Rattle.unixmodel.specs.Turn as turn
 use Rattle.kernel.proofs.Joined.{slot-joined, zombie_child-with_table}
@@ -17,7 +17,7 @@ stands-open s opens k f (OnPipe q end) is at on =
     is q
     ∙ has_pipe-clear opens k f q at
     ∙ ap (λ (t : Target). is_pipe q t || has_pipe (clear opens k) q) on
-    ∙ ap (λ (b : Bool). b || has_pipe (clear opens k) q) (eq-self q)
+    ∙ ap (λ (b : Bool). b || has_pipe (clear opens k) q) (eq-eqb q q refl)
 
 -- ---- what readiness depends on
 

@@ -1,8 +1,8 @@
 -- The running process, and what becomes of the state where it alone changes.
-use Rattle.kernel.proofs.Common.{Bool, subst, ◌≡◌, ◌≢◌, ℕ, zero, suc, ◌<◌, ◌≤◌, ◌⊎◌, inl, inr, true, nat_eq, List, [], ◌∷◌, length, Option, Some, None, refl, ap, sym, ◌∙◌, arith, if◌then◌else◌, is_some, no_pages, unwrap_or, space_in}
-use Rattle.kernel.proofs.Common.{with_space, option_map, slice_set, nat_tests, get_or-set_other, get_or-set_same, length-set, set-get_or, descriptors_in, not-true, none-some, same_Some, Kernel, base, lives, loaded, on_hart, rest_of}
+use Rattle.kernel.proofs.Common.{Bool, subst, ◌≡◌, ◌≢◌, ℕ, ◌<◌, ◌≤◌, inl, inr, true, List, length, Option, Some, None, refl, ap, sym, ◌∙◌, if◌then◌else◌, is_some, no_pages, unwrap_or, space_in}
+use Rattle.kernel.proofs.Common.{with_space, option_map, slice_set, get_or-set_other, get_or-set_same, length-set, set-get_or, descriptors_in, not-true, none-some, same_Some, Kernel, base, lives, loaded, on_hart, rest_of, eq-eqb}
 use Rattle.kernel.proofs.Common.{state_of, IsKernel, IsPlace, IsPlaced, is_at, home_in, Process, Places, with_table, SpaceView, has_space, taken_frames, Mode, Running, put, slot, is_running_mode, is_zombie_mode, State, holds, process_at}
-use Rattle.kernel.proofs.Common.{put_process, answered, IsLive, IsMode, Memory, with_answer, change_process, false}
+use Rattle.kernel.proofs.Common.{put_process, answered, IsLive, IsMode, Memory, with_answer, change_process, false, cases_eq, set-set}
 use Rattle.kernel.proofs.Holding.{used-put}
 use Rattle.kernel.proofs.Opens.{opened-put, waits-running}
 use Rattle.proc.specs.Places as table
@@ -12,19 +12,11 @@ use Rattle.kernel.proofs.Joined.{put-joined, put_kept-joined, slot-joined}
 
 -- ---- places
 
-pub same_or_not : (j i : ℕ) → (j ≡ i) ⊎ (j ≢ i)
-same_or_not j i = grind arith
-
 pub slot-put : {X : Type 0} (xs : List (Option X)) (i : ℕ) (o : Option X) → i < length xs → slot (slice_set xs i o) i ≡ o
 slot-put xs i o h = get_or-set_same xs i o None h
 
 pub slot-other : {X : Type 0} (xs : List (Option X)) (i j : ℕ) (o : Option X) → j ≢ i → slot (slice_set xs i o) j ≡ slot xs j
 slot-other xs i j o h = get_or-set_other xs i j o None h
-
-pub set-twice : {X : Type 0} (xs : List X) (i : ℕ) (a b : X) → slice_set (slice_set xs i a) i b ≡ slice_set xs i b
-set-twice [] i a b = refl
-set-twice (x ∷ xs) zero a b = refl
-set-twice (x ∷ xs) (suc i) a b = ap (λ ys. x ∷ ys) (set-twice xs i a b)
 
 -- what stands in a place already is put there
 pub set-slot : {X : Type 0} (xs : List (Option X)) (i : ℕ) (o : Option X) → slot xs i ≡ o → slice_set xs i o ≡ xs
@@ -53,9 +45,6 @@ pub record IsRun (k : Kernel) (i : ℕ) (p : Process) (h : SpaceView) : Type 0 w
   pub placed : IsPlaced p h
   pub runs : p.mode ≡ Running
 
-pub eq-self : (i : ℕ) → nat_eq i i ≡ true
-eq-self i = grind (arith, nat_tests)
-
 running-mode : (m : Mode) → is_running_mode m ≡ true → m ≡ Running
 running-mode Running h = refl
 running-mode _ h = absurd (cc)
@@ -76,7 +65,7 @@ place-space o q p at is = ap is_some (space-of o q p at is).1.0
 -- the active place has the running process
 pub run-of : (k : Kernel) (i : ℕ) → IsKernel k → k.spaces.active ≡ Some i → (p : Process) × ((h : SpaceView) × IsRun k i p h)
 run-of k i is active =
-    let here : is_at i k.spaces.active ≡ true = rw active (eq-self i) in
+    let here : is_at i k.spaces.active ≡ true = rw active (eq-eqb i i refl) in
     let p = running-process (slot k.table.places i) (is.runs i ∙ here) in
     let h = space-of (slot k.table.places i) (slot k.spaces.places i) p.0 p.1.0 (is.stands i) in
     (p.0, (h.0, record { active = active; process = p.1.0; space = h.1.0; placed = h.1.1; runs = p.1.1 }))
@@ -147,7 +136,7 @@ moved k i p h registers pc = record k {
 -- where a place has another process and another space
 pub stands-set : (os : List (Option Process)) (hs : List (Option SpaceView)) (i : ℕ) (o : Option Process) (q : Option SpaceView) → i < length os → i < length hs → IsPlace o q
     → ((j : ℕ) → IsPlace (slot os j) (slot hs j)) → (j : ℕ) → IsPlace (slot (slice_set os i o) j) (slot (slice_set hs i q) j)
-stands-set os hs i o q short low is stands j = elim (same_or_not j i) [
+stands-set os hs i o q short low is stands j = elim (cases_eq j i) [
   | inl same ↦ rw (same, slot-put os i o short, slot-put hs i q low) is
   | inr other ↦ rw (slot-other os i j o other, slot-other hs i j q other) (stands j)
 ]
@@ -156,7 +145,7 @@ stands-set os hs i o q short low is stands j = elim (same_or_not j i) [
 pub runs-set : (os : List (Option Process)) (i : ℕ) (o : Option Process) (before after : Option ℕ) → i < length os → holds table.is_running o ≡ is_at i after
     → ((j : ℕ) → j ≢ i → is_at j after ≡ is_at j before)
     → ((j : ℕ) → holds table.is_running (slot os j) ≡ is_at j before) → (j : ℕ) → holds table.is_running (slot (slice_set os i o) j) ≡ is_at j after
-runs-set os i o before after short here others runs j = elim (same_or_not j i) [
+runs-set os i o before after short here others runs j = elim (cases_eq j i) [
   | inl same ↦ rw (same, slot-put os i o short) here
   | inr other ↦ rw (slot-other os i j o other, others j other) (runs j)
 ]
@@ -180,7 +169,7 @@ module _ (k : Kernel) (i : ℕ) (p : Process) (h : SpaceView) (r : IsRun k i p h
       all = length-set k.table.places i (Some p') ∙ is.all;
       spaces = length-set k.spaces.places i (Some h') ∙ is.spaces;
       stands = stands-set k.table.places k.spaces.places i (Some p') (Some h') (within-run k i p h r) within-space placed is.stands;
-      runs = runs-set k.table.places i (Some p') k.spaces.active k.spaces.active (within-run k i p h r) (rw (runs, r.active) (sym (eq-self i))) (λ j other. refl) is.runs;
+      runs = runs-set k.table.places i (Some p') k.spaces.active k.spaces.active (within-run k i p h r) (rw (runs, r.active) (sym (eq-eqb i i refl))) (λ j other. refl) is.runs;
       used = λ up. used-put (is.used up) i (Some p') (home-running p' runs ∙ ap Some home ∙ sym (home-running p r.runs) ∙ sym (ap home_in r.process));
       fits = fits;
       opened = opened-put k.files k.spaces.pipes k.table.places i (Some p') (same ∙ sym (ap descriptors_in r.process)) (waits-running k.files p' runs) is.opened;
@@ -191,7 +180,7 @@ module _ (k : Kernel) (i : ℕ) (p : Process) (h : SpaceView) (r : IsRun k i p h
     moved-state =
         let q = record p' { registers = registers; pc = pc } in
         let twice : put (put k.table.places i p') i q ≡ put (put k.table.places i (on_hart k.spaces p)) i q =
-        set-twice k.table.places i (Some p') (Some q) ∙ sym (set-twice k.table.places i (Some (on_hart k.spaces p)) (Some q)) in
+        set-set k.table.places i (Some p') (Some q) ∙ sym (set-set k.table.places i (Some (on_hart k.spaces p)) (Some q)) in
         let hs = slice_set k.spaces.places i (Some h') in
         state-run (moved k i p' h' registers pc) i p' h' moved-run
         ∙ ap (λ (places : List (Option Process)). with_table (base (rest_of k)) (record k.table { places = places }) hs) twice
@@ -211,7 +200,7 @@ runs-mode p memory mode e l n = rw e (l, n)
 pub change-put : (i : ℕ) (s : State) (p : unix.Process) (change : unix.Process → unix.Process) → i < length s.places → change_process (put_process s i p) i change ≡ put_process s i (change p)
 change-put i s p change short =
     ap (λ (o : Option unix.Process). record s { places = slice_set (put s.places i p) i (option_map change o) }) (slot-put s.places i (Some p) short)
-    ∙ ap (λ (places : List (Option unix.Process)). record s { places = places }) (set-twice s.places i (Some p) (Some (change p)))
+    ∙ ap (λ (places : List (Option unix.Process)). record s { places = places }) (set-set s.places i (Some p) (Some (change p)))
 
 pub regs-kernel : (k : Kernel) → IsKernel k → (registers : List ℕ) (pc : ℕ) → IsKernel (on_regs k registers pc)
 regs-kernel k is registers pc = record { all = is.all; spaces = is.spaces; stands = is.stands; runs = is.runs; fits = is.fits; opened = is.opened; used = is.used }

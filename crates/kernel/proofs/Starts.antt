@@ -1,11 +1,11 @@
 -- A process is picked.
 use Rattle.kernel.proofs.Common.{◌≡◌, ℕ, ◌<◌, ◌%◌, Bool, true, false, List, length, Option, Some, None, ℤ, negsuc, refl, ap, sym, subst, ◌∙◌, if◌then◌else◌, not, slice_index, length-set, with_space, descriptors_in, Kernel, base, ended}
 use Rattle.kernel.proofs.Common.{lives, picked, rest_of, started, started_as, state_of, CanRun, IsKernel, IsLive, IsPlaced, is_at, home_in, Process, changed, with_mode, with_table, SpaceView, quiet, Mode, Ready, Running, slot, end_process}
-use Rattle.kernel.proofs.Common.{State, put_process}
+use Rattle.kernel.proofs.Common.{State, put_process, set-set, eq-eqb}
 use Rattle.kernel.proofs.Changes.{ended-is, ended-state, last-idle, other-at, stands-put}
 use Rattle.kernel.proofs.Opens.{opened-put}
 use Rattle.kernel.proofs.Holding.{used-put}
-use Rattle.kernel.proofs.Runs.{IsRun, IsThere, there-of, eq-self, runs-set, set-twice, slot-put, slot-within, state-idle, state-run, with_process, home-living, put-same}
+use Rattle.kernel.proofs.Runs.{IsRun, IsThere, there-of, runs-set, slot-put, slot-within, state-idle, state-run, with_process, home-living, put-same}
 use Rattle.unixmodel.specs.Next as next
 
 -- none runs: the state has the table as it is
@@ -47,7 +47,7 @@ module _ (k : Kernel) (i : ℕ) (p : Process) (h : SpaceView) (is : IsKernel k) 
       all = length-set k.table.places i (Some q) ∙ is.all;
       spaces = is.spaces;
       stands = stands-put k.table.places k.spaces.places i (Some q) (rw t.space q-placed) is.stands;
-      runs = runs-set k.table.places i (Some q) k.spaces.active (Some i) short (sym (eq-self i)) (λ j other. other-at i j other ∙ sym (ap (is_at j) idle)) is.runs;
+      runs = runs-set k.table.places i (Some q) k.spaces.active (Some i) short (sym (eq-eqb i i refl)) (λ j other. other-at i j other ∙ sym (ap (is_at j) idle)) is.runs;
       used = λ up. used-put (is.used up) i (Some q) (sym (home-living p alive) ∙ sym (ap home_in t.process));
       fits = is.fits;
       opened = opened-put k.files k.spaces.pipes k.table.places i (Some q) (sym (ap descriptors_in t.process)) tt is.opened;
@@ -56,7 +56,7 @@ module _ (k : Kernel) (i : ℕ) (p : Process) (h : SpaceView) (is : IsKernel k) 
     pub started-state : state_of started_to ≡ put_process (state_of k) i (with_space h q)
     started-state =
         state-run started_to i q h started-run
-        ∙ ap (λ (places : List (Option Process)). with_table (base (rest_of k)) (record k.table { places = places }) k.spaces.places) (set-twice k.table.places i (Some q) (Some q))
+        ∙ ap (λ (places : List (Option Process)). with_table (base (rest_of k)) (record k.table { places = places }) k.spaces.places) (set-set k.table.places i (Some q) (Some q))
         ∙ put-same (base (rest_of k)) k.table k.spaces.places i q t.space
         ∙ sym (ap (λ (s : State). put_process s i (with_space h q)) (state-idle k idle))
 

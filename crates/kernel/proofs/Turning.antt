@@ -1,8 +1,8 @@
 -- The running process has other descriptors, or works in another directory; files, open files and pipes may be others too.
 use Rattle.kernel.proofs.Common.{◌≡◌, ℕ, ◌≤◌, false, List, length, Option, Some, refl, ap, subst, sym, ◌∙◌, length-set, Kernel, state_of, IsKernel, IsOpened, IsPlace, IsPlaced, IsInUse, home_in, Counted, opens_of, Process, SpaceView}
-use Rattle.kernel.proofs.Common.{taken_frames, FileTree, Running, put, slot, State, put_process}
+use Rattle.kernel.proofs.Common.{taken_frames, FileTree, Running, put, slot, State, put_process, eq-eqb}
 use Rattle.kernel.proofs.Holding.{used-put}
-use Rattle.kernel.proofs.Runs.{IsRun, eq-self, home-running, moved-state, run-of, runs-set, self, set-slot, slot-put, stands-set, with_process, within-run, within-space, live, not-killed, runs-mode}
+use Rattle.kernel.proofs.Runs.{IsRun, home-running, moved-state, run-of, runs-set, self, set-slot, slot-put, stands-set, with_process, within-run, within-space, live, not-killed, runs-mode}
 use Rattle.unixmodel.specs.Process as unix
 
 -- the running process and its space, in a kernel that is sound
@@ -47,7 +47,7 @@ module _ {k : Kernel} {i : ℕ} (x : Runner k i) (ds : List (Option ℕ)) (direc
       all = length-set k.table.places i (Some renamed) ∙ x.sound.all;
       spaces = x.sound.spaces;
       stands = renamed-stands;
-      runs = runs-set k.table.places i (Some renamed) k.spaces.active k.spaces.active (within-run k i x.process x.held x.run) (rw (x.run.runs, x.run.active) (sym (eq-self i))) (λ j other. refl) x.sound.runs;
+      runs = runs-set k.table.places i (Some renamed) k.spaces.active k.spaces.active (within-run k i x.process x.held x.run) (rw (x.run.runs, x.run.active) (sym (eq-eqb i i refl))) (λ j other. refl) x.sound.runs;
       used = used;
       fits = fits;
       opened = opened;

@@ -1,8 +1,8 @@
 -- The kernel's steps, and who is awake after them.
 use Rattle.kernel.proofs.Common.{Bool, List, None, Option, Some, ap, false, length, option_map, refl, subst, sym, true, ℕ, ℤ, ◌<◌, ◌∙◌, ◌≡◌, IfNone, IfSome, slice_set, true≢false, Kernel, left_as, on_hart, rest_of, state_of, state_with}
 use Rattle.kernel.proofs.Common.{waking, IsKernel, is_at, Keeps, IsAsleep, IsWatched, Watches, awaited_of, roused, waits_on, woken_by, Bytes, Children, Ticks, seen, Process, is_in, Places, changed_at, exited, is_zombie_child_of, with_mode}
-use Rattle.kernel.proofs.Common.{Console, Mode, put, slot, is_zombie_mode, State, holds, ready, Answers, Bor, FnReturns, Shared}
-use Rattle.kernel.proofs.Runs.{eq-self, slot-put}
+use Rattle.kernel.proofs.Common.{Console, Mode, put, slot, is_zombie_mode, State, holds, ready, Answers, Bor, FnReturns, Shared, eq-eqb}
+use Rattle.kernel.proofs.Runs.{slot-put}
 use Rattle.kernel.proofs.Watching.{no-zombie, unready-asleep, watched-bytes, watched-ended, watched-put, watched-running, watched-ticks, child-map}
 use Rattle.proc.proofs.Waiting.{set-in, set-out}
 use Rattle.proc.specs.Places as table
@@ -36,7 +36,7 @@ ticked-keeps {k} keeps now = record { sound = kernel-waking (typed-kernel keeps.
 -- ---- the running process
 
 pub running-at : {k : Kernel} → IsKernel k → (i : ℕ) → k.spaces.active ≡ Some i → holds table.is_running (slot k.table.places i) ≡ true
-running-at is i active = is.runs i ∙ ap (is_at i) active ∙ eq-self i
+running-at is i active = is.runs i ∙ ap (is_at i) active ∙ eq-eqb i i refl
 
 pub left-watched : {k : Kernel} → IsKernel k → Watches k → (i : ℕ) (mode : Mode) → k.spaces.active ≡ Some i → is_zombie_mode mode ≡ false → Watches (left_as k i mode)
 left-watched {k} is watched i mode active lives = watched-running watched i (λ p. with_mode mode (on_hart k.spaces p)) (running-at is i active) (no-zombie mode lives)

@@ -2,15 +2,15 @@
 use Rattle.kernel.proofs.Common.{◌≡◌, ◌≢◌, ℕ, zero, suc, ◌+◌, ◌<◌, ◌++◌, ◌∷◌, [], List, length, Option, Some, None, refl, ap, arith, subst, sym, ◌∙◌, IfSome, Result, slice_set, sum_by-cons, sum_by-set, none-some, DeviceFault, SpaceView}
 use Rattle.kernel.proofs.Common.{FileTree, Serves, Kernel, loaded, state_of, on_hart, IsKernel, Keeps, IsInUse, IsFolder, AreHeld, dropped, all_dropped, listed, descriptors_in, files_on, home_in, homes_at, one_in, one_at, with_hold, Node}
 use Rattle.kernel.proofs.Common.{Counted, opens_of, without_opens-same, Process, put, slot, slot-within, State, put_process, without_pipes-same, sum_by-append, MayWorkIn, WorksIn, home_at, working_in, with_directory, joined, IsWhole, reap}
-use Rattle.kernel.proofs.Common.{without_nodes, without_pipes}
+use Rattle.kernel.proofs.Common.{without_nodes, without_pipes, all-set, set-set}
 use Rattle.kernel.proofs.Finishes.{told-kernel}
 use Rattle.kernel.proofs.Reading.{serves-as}
 use Rattle.kernel.proofs.Dropping.{counted}
-use Rattle.kernel.proofs.Holding.{AreAway, AreOldHomes, fewer-held, fewer-nodes, fewer-used, homes-set, named_in, used-more}
+use Rattle.kernel.proofs.Holding.{AreAway, AreOldHomes, fewer-held, fewer-nodes, fewer-used, named_in, used-more}
 use Rattle.kernel.proofs.Named.{counts-joined}
 use Rattle.kernel.proofs.Opens.{opened-put, waits-running}
 use Rattle.kernel.proofs.Reaped.{away-loaded, opened-loaded}
-use Rattle.kernel.proofs.Runs.{home-running, loaded-run, set-twice}
+use Rattle.kernel.proofs.Runs.{home-running, loaded-run}
 use Rattle.kernel.proofs.Turning.{Runner, me_of, renamed-kernel, renamed-run, renamed-state, renamed_to, runner-of}
 use Rattle.kernel.proofs.Wakes.{running-at}
 use Rattle.kernel.proofs.Watching.{watched-running}
@@ -53,7 +53,7 @@ module _ {t : FileTree} {opens : List (Option Counted)} {os : List (Option Proce
       omega (arith, sums, was, now, homes-more moves (Some p) n))
       is.fits
       (homes-append (λ d. IsFolder (slot t.files d)) moves (Some p) (subst (λ h. IfSome h (λ d. IsFolder (slot t.files d))) (ap home_in at) (is.homes i))
-      (homes-set (λ d. IsFolder (slot t.files d)) os i (Some q) (subst (λ h. IfSome h (λ d. IsFolder (slot t.files d))) (sym goes) folder) is.homes))
+      (all-set (λ j x. IfSome (home_in x) (λ d. IsFolder (slot t.files d))) os i (Some q) (subst (λ h. IfSome h (λ d. IsFolder (slot t.files d))) (sym goes) folder) is.homes))
 
   counts : (m : ℕ) → files_on opens m + homes_at moves m + named_in (old ∷ []) m ≡ files_on opens m + homes_at (moves ++ Some p ∷ []) m
   counts m =
@@ -115,7 +115,7 @@ module _ {k : Kernel} {i : ℕ} (x : Runner k i) (n : ℕ) (may : MayWorkIn k i 
       let s = state_of (record to { tree = k.tree }) in
       let opened = opened-loaded to to-kernel in
       let q' = on_hart to.spaces q in
-      let shown : (loaded to).places ≡ put k.table.places i q' = ap (λ t. t.places) (loaded-run to i q x.held (renamed-run x x.process.descriptors n refl (dropped holding x.process.directory) k.files k.spaces.pipes)) ∙ set-twice k.table.places i (Some q) (Some q') in
+      let shown : (loaded to).places ≡ put k.table.places i q' = ap (λ t. t.places) (loaded-run to i q x.held (renamed-run x x.process.descriptors n refl (dropped holding x.process.directory) k.files k.spaces.pipes)) ∙ set-set k.table.places i (Some q) (Some q') in
       let nodes = leaves-nodes (x.sound.used may.up) i x.process q' x.process.directory n x.run.process was (home-running q' x.run.runs) work-fits.0 may.folder s to.spaces.places (subst AreAway shown (away-loaded to to-kernel)) refl refl (ap (λ os. joined os to.spaces.places) shown) in
       ap reap (sym (renamed-state x x.process.descriptors n refl k.tree k.files k.spaces.pipes))
       ∙ ap (λ (y : State). without_nodes (without_pipes y)) (without_opens-same s k.files opened.table (counts-joined k.files (loaded to).places to.spaces.places opened.counted))
