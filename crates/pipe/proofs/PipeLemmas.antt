@@ -1,8 +1,6 @@
 -- What changes the bytes of a pipe, and what doesn't.
-use Rattle.std.proofs.Common.{List, ap, ℕ, ◌≡◌}
-use Rattle.ram.specs.Memory.{frame_of}
+use Rattle.pipe.proofs.Common.{List, ap, ℕ, ◌≡◌, frame_of, ring}
 use Rattle.pipe.specs.Pipe.{Pipe, bytes_of}
-use Rattle.ring.specs.Ring.{ring}
 
 -- a pipe holds the same bytes where its frame does
 pub bytes_of-same : (m k : List (List ℕ)) (p : Pipe) → frame_of k p.frame ≡ frame_of m p.frame → bytes_of k p ≡ bytes_of m p

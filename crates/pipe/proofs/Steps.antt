@@ -1,29 +1,19 @@
 -- The steps of a write and of a read.
-use Rattle.std.proofs.Common.{◌≡◌, ◌<◌, ◌≤◌, inl, inr, ℕ, suc, zero, ◌+◌, ◌-◌, ◌%◌, List, [], ◌∷◌, ◌++◌, append_assoc, append-nil, drop, get_or, get_or-set_same, length, length-take, min, mod-eq_of_lt, refl, replicate, set, slice_set, sym, take, ap, ap₂, ◌∙◌, arith}
+use Rattle.pipe.proofs.Common.{◌≡◌, ◌<◌, ◌≤◌, inl, inr, ℕ, suc, zero, ◌+◌, ◌-◌, ◌%◌, List, [], ◌∷◌, ◌++◌, append_assoc, append-nil, drop, get_or, get_or-set_same, length, length-take, min, mod-eq_of_lt, refl}
+use Rattle.pipe.proofs.Common.{set, slice_set, sym, take, ap, ap₂, ◌∙◌, arith, drop_min, drop_more, take_min, take_more, frame_of, sized, ring, drop-ring, length-ring, ring-append, ring-around, ring-push, take-ring}
 use Rattle.std.proofs.lemmas.Bool.{cases_lt}
-use Rattle.std.proofs.lemmas.List.{drop_more, take_all, take_at, take_more}
-use Rattle.ram.specs.Memory.{frame_of, sized}
-use Rattle.ring.specs.Ring.{ring}
-use Rattle.ring.proofs.RingLemmas.{drop-ring, length-ring, ring-append, ring-around, ring-push, take-ring}
+use Rattle.ram.proofs.Frames.{sized-full}
 
 -- the first bytes are written, and then one more
 pub append-more : (ys xs bs : List ℕ) (k n i b : ℕ) → 512 ≤ length ys → k < 512 → n + length bs ≤ 512 → i < length bs → b ≡ get_or bs i 0 → ring 512 ys k (n + i) ≡ ring 512 xs k n ++ take i bs
     → ring 512 (set ys ((k + n + i) % 512) b) k (n + (i + 1)) ≡ ring 512 xs k n ++ take (i + 1) bs
 append-more ys xs bs k n i b full start fits low is h =
     let a : n + (i + 1) ≡ n + i + 1 = omega arith in
-    ap (λ j. ring 512 (set ys ((k + n + i) % 512) b) k j) a
-    ∙ ring-push 512 ys k (n + i) (k + n + i) b full (omega arith) (omega arith) (omega arith)
-    ∙ ap (λ l. l ++ b ∷ []) h
-    ∙ append_assoc (ring 512 xs k n) (take i bs) (b ∷ [])
-    ∙ ap (λ l. ring 512 xs k n ++ l) (ap (λ x. take i bs ++ x ∷ []) is ∙ sym (take_more bs i 0 low))
-
-sized-whole : (xs : List ℕ) → length xs ≡ 4096 → sized xs ≡ xs
-unfolding sized
-sized-whole xs h = take_at xs (replicate 4096 0) 4096 h
+    rw (a, ring-push 512 ys k (n + i) (k + n + i) b full (omega arith) (omega arith) (omega arith), h, append_assoc, take_more bs i 0 low, is) refl
 
 -- a frame that was lent has what was left there
 pub frame-put : (m : List (List ℕ)) (f : ℕ) (ys : List ℕ) → f < length m → length ys ≡ 4096 → frame_of (slice_set m f (sized ys)) f ≡ ys
-frame-put m f ys low full = get_or-set_same m f (sized ys) [] low ∙ sized-whole ys full
+frame-put m f ys low full = get_or-set_same m f (sized ys) [] low ∙ sized-full ys full
 
 -- one more byte is read
 pub ring-more : (xs : List ℕ) (k i : ℕ) → ring 512 xs k (i + 1) ≡ ring 512 xs k i ++ get_or xs ((k + i) % 512) 0 ∷ []
@@ -35,12 +25,8 @@ pub write-bytes : (x y bs ps : List ℕ) (k n t : ℕ) → n ≤ 512 → t ≡ m
     → ring 512 y k (n + t) ≡ ring 512 x k n ++ take (512 - length (ring 512 x k n)) bs
 write-bytes x y bs ps k n t room count is e =
     let len : n + t ≡ n + length ps = omega (arith, ap length is, length-take t bs) in
-    ap (ring 512 y k) len
-    ∙ e
-    ∙ ap (λ l. ring 512 x k n ++ l) (is ∙ elim (cases_lt (512 - n) (length bs)) [
-      | inl more ↦ ap (λ i. take i bs) (let a : t ≡ 512 - length (ring 512 x k n) = omega (arith, length-ring 512 x k n) in a)
-      | inr fits ↦ take_all _ bs (omega arith) ∙ sym (take_all _ bs (omega (arith, length-ring 512 x k n)))
-    ])
+    let most : t ≡ min (512 - n) (length bs) = omega arith in
+    ap (ring 512 y k) len ∙ e ∙ rw (is, most, length-ring) (ap (λ l. ring 512 x k n ++ l) (take_min (512 - n) bs))
 
 pub ring-none : (x : List ℕ) (k n : ℕ) → n ≡ 0 → ring 512 x k n ≡ []
 unfolding ring
@@ -49,25 +35,18 @@ ring-none x k (suc n) h = absurd (omega arith)
 
 -- what is there and fits is read
 pub read-bytes : (x : List ℕ) (k n c t : ℕ) → t ≡ min c n → ring 512 x k t ≡ take c (ring 512 x k n)
-read-bytes x k n c t count = elim (cases_lt n c) [
-  | inl all ↦ ap (ring 512 x k) (let a : t ≡ n = omega arith in a) ∙ sym (take_all _ (ring 512 x k n) (omega (arith, length-ring 512 x k n)))
-  | inr some ↦ ap (ring 512 x k) (let a : t ≡ c = omega arith in a) ∙ sym (take-ring 512 x k c n some)
-]
+read-bytes x k n c t count = rw count (sym (take-ring 512 x k (min c n) n (omega arith)) ∙ rw length-ring at (take_min c (ring 512 x k n)))
+
+-- a start past the end is one from the beginning
+ring-wrap : (x : List ℕ) (k n : ℕ) → ring 512 x (k % 512) n ≡ ring 512 x k n
+ring-wrap x k n =
+    let a : k % 512 ≡ k % 512 + 0 = omega arith in
+    let b : k + 0 ≡ k = omega arith in
+    ap (λ i. ring 512 x i n) a ∙ ring-around 512 x k 0 n ∙ ap (λ i. ring 512 x i n) b
 
 -- and the rest stays
 pub read-rest : (x : List ℕ) (k n c t : ℕ) → t ≡ min c n → ring 512 x ((k + t) % 512) (n - t) ≡ drop c (ring 512 x k n)
-read-rest x k n c t count = elim (cases_lt n c) [
-  | inl all ↦ ring-none x ((k + t) % 512) (n - t) (omega arith) ∙ sym (drop-ring 512 x k c n ∙ ring-none x (k + c) (n - c) (omega arith))
-  | inr some ↦
-      let a : t ≡ c = omega arith in
-      let b : (k + c) % 512 ≡ (k + c) % 512 + 0 = omega arith in
-      let d : k + c + 0 ≡ k + c = omega arith in
-      ap (λ i. ring 512 x ((k + i) % 512) (n - i)) a
-      ∙ ap (λ i. ring 512 x i (n - c)) b
-      ∙ ring-around 512 x (k + c) 0 (n - c)
-      ∙ ap (λ i. ring 512 x i (n - c)) d
-      ∙ sym (drop-ring 512 x k c n)
-]
+read-rest x k n c t count = ring-wrap x (k + t) (n - t) ∙ sym (drop-ring 512 x k t n) ∙ rw count (rw length-ring at (drop_min c (ring 512 x k n)))
 
 pub read-nothing : (x : List ℕ) (k n c : ℕ) → n ≡ 0 → ring 512 x k n ≡ drop c (ring 512 x k n)
 read-nothing x k n c h = ring-none x k n h ∙ sym (drop-ring 512 x k c n ∙ ring-none x (k + c) (n - c) (omega arith))
@@ -86,9 +65,7 @@ ring-parts x k n t full start held front = elim (cases_lt (512 - k) n) [
   | inl more ↦
       let a : t ≡ 512 - k = omega arith in
       let b : (k + t) % 512 ≡ 0 = rw (let c : k + t ≡ 512 = omega arith in c) refl in
-      let d : 0 + (n - t) ≤ 512 = omega arith in
-      ap₂ ◌++◌ (sym (ring-straight x k t full (omega arith))) (sym (ring-straight x 0 (n - t) full d) ∙ ap (λ i. ring 512 x (i + 0) (n - t)) (sym b) ∙ ring-around 512 x (k + t) 0 (n - t) ∙ ap (λ i. ring 512 x i (n - t)) (let c : k + t + 0 ≡ k + t = omega arith in c))
-      ∙ sym (ring-append 512 x k t (n - t) n (omega arith))
+      ap₂ ◌++◌ (sym (ring-straight x k t full (omega arith))) (sym (ring-straight x 0 (n - t) full (omega arith)) ∙ rw b at (ring-wrap x (k + t) (n - t))) ∙ sym (ring-append 512 x k t (n - t) n (omega arith))
   | inr fits ↦
       let a : t ≡ n = omega arith in
       let b : n - t ≡ 0 = omega arith in

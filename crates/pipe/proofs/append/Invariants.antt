@@ -1,5 +1,4 @@
-use Rattle.std.proofs.Common.{◌+◌, ◌++◌, ◌≡◌, length, take}
-use Rattle.ring.specs.Ring.{ring}
+use Rattle.pipe.proofs.Common.{◌+◌, ◌++◌, ◌≡◌, length, take, ring}
 use Rattle.pipe.proofs.append.Given as goal
 
 abbrev pub invariant-loop-i : goal.invariant-loop-i

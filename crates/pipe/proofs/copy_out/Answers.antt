@@ -1,5 +1,4 @@
-use Rattle.std.proofs.Common.{◌<◌, arith, length, refl, sym}
-use Rattle.std.proofs.lemmas.List.{take_more_set}
+use Rattle.pipe.proofs.Common.{◌<◌, arith, length, refl, sym, take_more_set}
 use Rattle.pipe.proofs.Steps.{ring-more, ring-none}
 use Rattle.pipe.proofs.copy_out.Goals as goal
 

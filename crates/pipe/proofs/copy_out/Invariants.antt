@@ -1,5 +1,4 @@
-use Rattle.std.proofs.Common.{◌≡◌, take}
-use Rattle.ring.specs.Ring.{ring}
+use Rattle.pipe.proofs.Common.{◌≡◌, take, ring}
 use Rattle.pipe.proofs.copy_out.Given as goal
 
 abbrev pub invariant-loop-i : goal.invariant-loop-i

@@ -1,6 +1,4 @@
-use Rattle.std.proofs.Common.{arith}
-use Rattle.std.proofs.lemmas.Grind.{common_steps}
-use Rattle.ring.proofs.RingLemmas.{length-ring}
+use Rattle.pipe.proofs.Common.{arith, common_steps, length-ring}
 use Rattle.pipe.proofs.Pipe.can_write.Goals as goal
 
 pub returns-then-self-lt-ROOM-clause-can : goal.returns-then-self-lt-ROOM-clause-can

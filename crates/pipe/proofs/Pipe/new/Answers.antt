@@ -1,5 +1,4 @@
-use Rattle.std.proofs.Common.{refl}
-use Rattle.ram.specs.Memory.{frame_of}
+use Rattle.pipe.proofs.Common.{refl, frame_of}
 use Rattle.pipe.proofs.Steps.{ring-none}
 use Rattle.pipe.proofs.Pipe.new.Goals as goal
 

@@ -1,7 +1,4 @@
-use Rattle.std.proofs.Common.{◌++◌, ◌≡◌, ◌∙◌, ap, arith, drop, length, length-take, refl, take}
-use Rattle.ram.specs.Memory.{frame_of}
-use Rattle.ring.specs.Ring.{ring}
-use Rattle.ring.proofs.RingLemmas.{length-ring}
+use Rattle.pipe.proofs.Common.{◌++◌, ◌≡◌, ap, arith, drop, length, length-take, refl, take, frame_of, length-ring}
 use Rattle.pipe.proofs.Steps.{read-bytes, read-nothing, read-rest, ring-none}
 use Rattle.pipe.proofs.Pipe.read_some.Goals as goal
 use Rattle.pipe.proofs.Pipe.read_some.Goals.{else-self-eq0-via-then-self-eq0+else-self, else-self-eq0-via-else-self-eq0}
@@ -31,8 +28,7 @@ pub returns-clause-taken : goal.returns-clause-taken
 returns-clause-taken c =
     let s = c.self.inside in
     let len : length (take c.min-count.result c.args.buffer.now) ≡ c.min-count.result = omega (arith, c.min-count.ensures, length-take c.min-count.result c.args.buffer.now) in
-    rw (← c.self.view_is, c.copy_out.ensures, c.frame.ensures)
-    (ap (λ l. l ++ drop c.min-count.result c.args.buffer.now) (ap (ring 512 (frame_of c.args.ram.now s.frame.0) s.from) len ∙ read-bytes _ s.from s.held _ c.min-count.result c.min-count.ensures))
+    rw (← c.self.view_is, c.copy_out.ensures, c.frame.ensures, len) (ap (λ l. l ++ drop c.min-count.result c.args.buffer.now) (read-bytes _ s.from s.held _ c.min-count.result c.min-count.ensures))
 
 pub returns-clause-count : goal.returns-clause-count
 returns-clause-count c = rw (← c.self.view_is, length-ring) c.min-count.ensures

@@ -1,6 +1,4 @@
-use Rattle.std.proofs.Common.{arith, length-take}
-use Rattle.std.proofs.lemmas.Grind.{common_steps}
-use Rattle.ring.proofs.RingLemmas.{length-ring}
+use Rattle.pipe.proofs.Common.{arith, length-take, common_steps, length-ring}
 use Rattle.pipe.proofs.Steps.{write-bytes}
 use Rattle.pipe.proofs.Pipe.write_some.Goals as goal
 
