@@ -1,3 +1,4 @@
+mod Common
 mod LineLemmas
 mod LoopLemmas
 mod NameLemmas

@@ -1,6 +1,5 @@
 -- Lines that are read one after the other.
-use Rattle.std.proofs.Common.{◌≡◌, ◌∙◌, List, ap, map, sym, ℕ, Bor}
-use Rattle.std.proofs.lemmas.Simd.{map-map}
+use Rattle.asmtext.proofs.Common.{◌≡◌, ◌∙◌, List, ap, map, sym, ℕ, Bor, map-map}
 use Rattle.unixmodel.specs.Statements as the
 
 pub read_all : (split : List (Bor (List ℕ))) (lines : List (List ℕ)) → map (λ (line : Bor (List ℕ)). line.now) split ≡ lines → map (λ (line : Bor (List ℕ)). the.line_of line.now) split ≡ map the.line_of lines

@@ -1,6 +1,5 @@
 -- Loops that go through a list, one item further.
-use Rattle.std.proofs.Common.{◌≡◌, ◌∙◌, ◌<◌, ◌+◌, ◌++◌, ℕ, List, Option, None, Some, [], ◌∷◌, ap, ap₂, add-one, append_assoc, drop, drop-cons, get_or, length, map, option_map, refl, sym, take}
-use Rattle.std.proofs.lemmas.List.{map_more, map_push}
+use Rattle.asmtext.proofs.Common.{◌≡◌, ◌∙◌, ◌<◌, ◌+◌, ◌++◌, ℕ, List, Option, None, Some, [], ◌∷◌, ap, ap₂, add-one, append_assoc, drop, drop-cons, get_or, length, map, option_map, refl, sym, take, map_more, map_push}
 use Rattle.std.proofs.Math.Path.{fun_ext}
 use Rattle.unixmodel.specs.Operands as the
 use Rattle.unixmodel.specs.Tokens.{Symbol}

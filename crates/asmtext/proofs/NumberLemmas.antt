@@ -1,10 +1,8 @@
 -- Lemmas on numbers that are tested, and on their fields.
-use Rattle.std.proofs.Common.{ℤ, ◌≡◌, ◌≤◌, ◌<◌, ◌∙◌, ◌-◌, ◌%◌, ◌^◌, ℕ, Bool, None, Option, Some, ap, arith, false, option_map, refl, true, nat_le, if◌then◌else◌, pos, neg_ℤ, negsuc, suc, zero, sym}
-use Rattle.std.proofs.lemmas.Bool.Decides.{nat_tests}
+use Rattle.asmtext.proofs.Common.{ℤ, ◌≡◌, ◌≤◌, ◌<◌, ◌∙◌, ◌-◌, ◌%◌, ◌^◌, ℕ, Bool, None, Option, Some, ap, arith, false, option_map, refl, true, nat_le, if◌then◌else◌, pos, neg_ℤ, negsuc, suc, zero, sym, nat_tests, field_within}
 use Rattle.std.proofs.Math.Nat.{mod-eq_of_lt, mod-lt}
 use Rattle.std.proofs.lemmas.Nat.{pow_pos}
 use Rattle.unixmodel.specs.Numbers.{field, lies_in}
-use Rattle.asmtext.specs.Numbers.{field_within}
 
 pub none_above : (n most : ℕ) → most < n → None ≡ (if nat_le n most then Some n else None)
 none_above n most h = grind (arith, nat_tests)
@@ -17,16 +15,14 @@ lies_negated : (below above size : ℕ) → lies_in below above (neg_ℤ (pos si
 lies_negated below above zero = grind (arith, nat_tests)
 lies_negated below above (suc n) = grind (arith, nat_tests)
 
-pass : (b : Bool) (f : ℕ → ℕ) (x : ℕ) → option_map f (if b then Some x else None) ≡ (if b then Some (f x) else None)
-pass true f x = refl
-pass false f x = refl
-
 pub negative_within : (below above bits n : ℕ) (found : Option ℕ) → found ≡ (if nat_le n below then Some n else None)
     → option_map (λ size. field bits (neg_ℤ (pos size))) found ≡ field_within below above bits (neg_ℤ (pos n))
 negative_within below above bits n found e =
-    ap (option_map (λ size. field bits (neg_ℤ (pos size)))) e
-    ∙ pass (nat_le n below) (λ size. field bits (neg_ℤ (pos size))) n
-    ∙ ap (λ b. if b then Some (field bits (neg_ℤ (pos n))) else None) (sym (lies_negated below above n))
+    rw (e, lies_negated below above n) (pass (nat_le n below))
+  where
+    pass : (b : Bool) → option_map (λ size. field bits (neg_ℤ (pos size))) (if b then Some n else None) ≡ (if b then Some (field bits (neg_ℤ (pos n))) else None)
+    pass true = refl
+    pass false = refl
 
 pub positive_within : (below above bits n : ℕ) → above < 2 ^ bits → (if nat_le n above then Some n else None) ≡ field_within below above bits (pos n)
 positive_within below above bits n h = step (nat_le n above) refl
@@ -35,15 +31,9 @@ positive_within below above bits n h = step (nat_le n above) refl
     step true e = let le : n ≤ above = grind (arith, nat_tests, e) in ap Some (sym (mod-eq_of_lt (omega arith)))
     step false e = refl
 
-field_positive : (bits n : ℕ) → field bits (pos n) < 2 ^ bits
-field_positive bits n = mod-lt n (pow_pos bits)
-
-field_negative : (bits n : ℕ) → field bits (negsuc n) < 2 ^ bits
-field_negative bits n = let h : 0 < 2 ^ bits = pow_pos bits in omega (arith, h)
-
 field_below : (bits : ℕ) (n : ℤ) → field bits n < 2 ^ bits
-field_below bits (pos n) = field_positive bits n
-field_below bits (negsuc n) = field_negative bits n
+field_below bits (pos n) = mod-lt n (pow_pos bits)
+field_below bits (negsuc n) = let h : 0 < 2 ^ bits = pow_pos bits in omega (arith, h)
 
 -- a field that is found has no more bits
 pub field_fits : (below above bits found : ℕ) (n : ℤ) → Some found ≡ field_within below above bits n → found < 2 ^ bits

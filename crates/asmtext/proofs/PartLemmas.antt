@@ -1,28 +1,18 @@
 -- Lemmas on symbols and the parts between commas.
-use Rattle.std.proofs.Common.{◌≡◌, ◌∙◌, ◌+◌, ◌++◌, ◌-◌, ◌==◌, ℕ, Bool, List, [], ◌∷◌, ap, cond, drop, length, map, refl, reverse, sym, take, true, false, if◌then◌else◌}
-use Rattle.std.specs.List.{onto_first, prefix_len, slice_split, suffix_len}
-use Rattle.std.specs.List.{take-map, drop-map}
-use Rattle.std.proofs.lemmas.List.{length-map, map-append}
-use Rattle.std.proofs.Common.{inl, inr, Bor}
-use Rattle.std.proofs.lemmas.Bool.{ne_eqb}
-use Rattle.std.proofs.lemmas.Bool.Decides.{eqb_tells}
-use Rattle.std.proofs.lemmas.List.{reverse-append}
-use Rattle.std.proofs.lemmas.Simd.{map-map}
+use Rattle.asmtext.proofs.Common.{◌≡◌, ◌∙◌, ◌+◌, ◌++◌, ◌-◌, ◌==◌, Bool, List, [], ◌∷◌, ap, cond, drop, length, map, refl, reverse, sym, take, true, false, if◌then◌else◌, onto_first, prefix_len}
+use Rattle.asmtext.proofs.Common.{slice_split, suffix_len, take-map, drop-map, length-map, map-append, Bor, reverse-append, map-map, is_blank_symbol, is_comma, part_seen, symbol_of}
+use Rattle.std.proofs.lemmas.Bool.{eq-eqb, ne_eqb}
 use Rattle.unixmodel.specs.Tokens as the
-use Rattle.asmtext.specs.Symbols.{is_blank_symbol, is_comma, part_seen, symbol_of}
 use Rattle.asmtext.specs.declared.tokens.Symbol.{Symbol}
 
 pub prefix_len-map : {X Y : Type 0} (p : Y → Bool) (f : X → Y) (xs : List X) → prefix_len p (map f xs) ≡ prefix_len (λ x. p (f x)) xs
 prefix_len-map p f [] = refl
 prefix_len-map p f (x ∷ xs) = ap (λ n. cond (p (f x)) (1 + n) 0) (prefix_len-map p f xs)
 
-first_of_split : {X Y : Type 0} (f : X → Y) (x : X) (rest : List (List X)) → onto_first (f x) (map (map f) rest) ≡ map (map f) (onto_first x rest)
-first_of_split f x [] = refl
-first_of_split f x (r ∷ rest) = refl
-
 split_step : {X Y : Type 0} (f : X → Y) (x : X) (b : Bool) (rest : List (List X)) → cond b ([] ∷ map (map f) rest) (onto_first (f x) (map (map f) rest)) ≡ map (map f) (cond b ([] ∷ rest) (onto_first x rest))
 split_step f x true rest = refl
-split_step f x false rest = first_of_split f x rest
+split_step f x false [] = refl
+split_step f x false (r ∷ rest) = refl
 
 pub slice_split-map : {X Y : Type 0} (p : Y → Bool) (f : X → Y) (xs : List X) → slice_split p (map f xs) ≡ map (map f) (slice_split (λ x. p (f x)) xs)
 slice_split-map p f [] = refl
@@ -49,9 +39,6 @@ trimmed-map part =
     ∙ ap (λ front. take (length front - suffix_len (the.is_plain the.is_blank) front) front) (drop-map symbol_of (prefix_len is_blank_symbol part) part)
     ∙ trimmed_end (the.is_plain the.is_blank) symbol_of (drop (prefix_len is_blank_symbol part) part)
 
-is_equal : (a b : ℕ) → a ≡ b → (a == b) ≡ true
-is_equal a b e = elim (eqb_tells a b) [ inl h ↦ h.0 | inr h ↦ absurd (h.1 e) ]
-
 blank_test : (symbols : List Symbol) → (prefix_len (the.is_plain the.is_blank) (map symbol_of symbols) == length (map symbol_of symbols)) ≡ (prefix_len is_blank_symbol symbols == length symbols)
 blank_test symbols = rw (prefix_len-map (the.is_plain the.is_blank) symbol_of symbols, length-map symbols symbol_of) refl
 
@@ -60,7 +47,7 @@ pub no_parts : (symbols : List Symbol) → prefix_len is_blank_symbol symbols �
 unfolding the.parts_of
 no_parts symbols all =
     ap (λ b. if b then [] else map the.trimmed (slice_split (the.is_plain (λ c. c == 0x2c)) (map symbol_of symbols)))
-    (blank_test symbols ∙ is_equal (prefix_len is_blank_symbol symbols) (length symbols) all)
+    (blank_test symbols ∙ eq-eqb (prefix_len is_blank_symbol symbols) (length symbols) all)
 
 -- else they are what stands between the commas
 pub some_parts : (symbols : List Symbol) (split : List (Bor (List Symbol))) → ¬ (prefix_len is_blank_symbol symbols ≡ length symbols) → map (λ (part : Bor (List Symbol)). part.now) split ≡ slice_split is_comma symbols

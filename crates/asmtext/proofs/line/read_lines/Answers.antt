@@ -1,6 +1,5 @@
-use Rattle.std.proofs.Common.{[]}
+use Rattle.asmtext.proofs.Common.{[], line_seen}
 use Rattle.unixmodel.specs.Statements as the
-use Rattle.asmtext.specs.Statements.{line_seen}
 use Rattle.asmtext.proofs.LoopLemmas.{seen_more}
 use Rattle.asmtext.proofs.line.read_lines.Goals as goal
 

@@ -1,6 +1,5 @@
-use Rattle.std.proofs.Common.{◌≡◌, map, take}
+use Rattle.asmtext.proofs.Common.{◌≡◌, map, take, line_seen}
 use Rattle.unixmodel.specs.Statements as the
-use Rattle.asmtext.specs.Statements.{line_seen}
 use Rattle.asmtext.proofs.line.read_lines.Given as goal
 
 abbrev pub invariant-loop-line : goal.invariant-loop-line

@@ -1,5 +1,4 @@
-use Rattle.std.proofs.Common.{rules}
-use Rattle.asmtext.specs.Symbols.{symbol_of}
+use Rattle.asmtext.proofs.Common.{rules, symbol_of}
 use Rattle.asmtext.proofs.LoopLemmas.{characters_more}
 use Rattle.asmtext.proofs.operands.characters.Goals as goal
 

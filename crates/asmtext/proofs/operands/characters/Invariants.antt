@@ -1,6 +1,5 @@
-use Rattle.std.proofs.Common.{◌≡◌, ◌++◌, drop, map, option_map}
+use Rattle.asmtext.proofs.Common.{◌≡◌, ◌++◌, drop, map, option_map, symbol_of}
 use Rattle.unixmodel.specs.Operands as the
-use Rattle.asmtext.specs.Symbols.{symbol_of}
 use Rattle.asmtext.proofs.operands.characters.Given as goal
 
 abbrev pub invariant-loop-symbol : goal.invariant-loop-symbol

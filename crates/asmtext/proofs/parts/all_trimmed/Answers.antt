@@ -1,6 +1,5 @@
-use Rattle.std.proofs.Common.{◌∙◌, ap}
+use Rattle.asmtext.proofs.Common.{◌∙◌, ap, part_seen}
 use Rattle.unixmodel.specs.Tokens as the
-use Rattle.asmtext.specs.Symbols.{part_seen}
 use Rattle.asmtext.proofs.LoopLemmas.{seen_more}
 use Rattle.asmtext.proofs.parts.all_trimmed.Goals as goal
 

@@ -1,6 +1,5 @@
-use Rattle.std.proofs.Common.{◌≡◌, map, take}
+use Rattle.asmtext.proofs.Common.{◌≡◌, map, take, part_seen, parts_seen}
 use Rattle.unixmodel.specs.Tokens as the
-use Rattle.asmtext.specs.Symbols.{part_seen, parts_seen}
 use Rattle.asmtext.proofs.parts.all_trimmed.Given as goal
 
 abbrev pub invariant-loop-part : goal.invariant-loop-part

@@ -1,7 +1,4 @@
-use Rattle.std.proofs.Common.{rules, tests}
-use Rattle.std.proofs.lemmas.Iterator.Consumers.{map_from_collect}
-use Rattle.std.proofs.lemmas.Iterator.Splits.{YieldsList-from_slice_split}
-use Rattle.asmtext.specs.Symbols.{is_comma}
+use Rattle.asmtext.proofs.Common.{rules, tests, map_from_collect, YieldsList-from_slice_split, is_comma}
 use Rattle.asmtext.proofs.parts.split_parts.Goals as goal
 
 pub returns : goal.returns

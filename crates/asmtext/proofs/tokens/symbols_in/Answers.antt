@@ -1,5 +1,4 @@
-use Rattle.std.proofs.Common.{◌∙◌, [], ap, get_or, sym}
-use Rattle.std.proofs.lemmas.List.Sums.{fold_more}
+use Rattle.asmtext.proofs.Common.{◌∙◌, [], ap, get_or, sym, fold_more}
 use Rattle.unixmodel.specs.Tokens as the
 use Rattle.asmtext.proofs.tokens.symbols_in.Goals as goal
 

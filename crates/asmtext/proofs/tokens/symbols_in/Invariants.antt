@@ -1,6 +1,5 @@
-use Rattle.std.proofs.Common.{◌≡◌, [], fold, take}
+use Rattle.asmtext.proofs.Common.{◌≡◌, [], fold, take, reader_of}
 use Rattle.unixmodel.specs.Tokens as the
-use Rattle.asmtext.specs.Symbols.{reader_of}
 use Rattle.asmtext.proofs.tokens.symbols_in.Given as goal
 
 abbrev pub invariant-loop-c : goal.invariant-loop-c

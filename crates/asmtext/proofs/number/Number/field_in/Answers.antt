@@ -1,6 +1,4 @@
-use Rattle.std.specs.Str.Parse.{digits_value}
-use Rattle.std.proofs.Common.{Some}
-use Rattle.asmtext.specs.Numbers.{base_of}
+use Rattle.asmtext.proofs.Common.{digits_value, Some, base_of}
 use Rattle.asmtext.proofs.NumberLemmas.{negative_within, positive_within}
 use Rattle.asmtext.proofs.number.Number.field_in.Goals as goal
 
