@@ -4,12 +4,13 @@ use Rattle.model_examples.proofs.Common.{◌∷◌, ◌≡◌, ◌≤◌, range_
 use Rattle.unixmodel.specs.Image.{Denotes, HasSpares, HasSuper, IsDirectory, KeepsNode, KeepsRules, KeepsSize, Stands, bit_of, contents_in, is_data_block, is_name, is_named}
 use Rattle.unixmodel.specs.Image.{named_blocks, names_of, number_in, numbers_in_use, parent_of, subdirectories, super_number}
 use Rattle.unixmodel.specs.Slots.{IsSpare, first_of, holder_of, in_record}
-use Rattle.std.proofs.Common.{get_or, ap, arith, lit≤, subst, sym, ◌∙◌, ◌≢◌, inl, inr}
+use Rattle.std.proofs.Common.{get_or, ap, arith, lit≤, sym, ◌∙◌, ◌≢◌, inl, inr}
 use Rattle.std.proofs.lemmas.Bool.{false≢true, cases_eq}
 use Rattle.std.proofs.lemmas.Bool.Decides.{nat_tests}
 use Rattle.std.proofs.lemmas.List.FromFn.{get_or-map-range_with_len}
 use Rattle.std.proofs.lemmas.List.Sums.{AllPass-from_list_all}
 use Rattle.model_examples.proofs.Opened.{all_opened}
+use Rattle.unixmodel.specs.Files.{Node}
 use Rattle.unixmodel.specs.Formats.{large}
 
 abbrev pub console_image : List ℕ
@@ -115,10 +116,13 @@ console_spares zero d l = root_spares
 console_spares (suc zero) d l = device_spares
 console_spares (suc (suc k)) d l = absurd (omega arith)
 
-flat_rest : (n : ℕ) → slot flat_files (suc (suc (suc n))) ≡ None
+-- what holds of the root, of the console and of none holds of all of its files
+flat_each : (P : ℕ → Option Node → Type 0) → P 1 (slot flat_files 1) → P 2 (slot flat_files 2) → ((n : ℕ) → P n None) → (n : ℕ) → P n (slot flat_files n)
 unfolding all_opened
-flat_rest (suc (suc (suc (suc (suc (suc (suc (suc (suc (suc (suc (suc (suc n))))))))))))) = refl
-flat_rest _ = refl
+flat_each P root device none (suc zero) = root
+flat_each P root device none (suc (suc zero)) = device
+flat_each P root device none (suc (suc (suc (suc (suc (suc (suc (suc (suc (suc (suc (suc (suc (suc (suc (suc n)))))))))))))))) = none _
+flat_each P root device none n = none n
 
 root_places : List (Option Entry)
 root_places =
@@ -137,30 +141,14 @@ root_keeps = record {
   counted = refl;
 }
 
-flat_sizes : (n : ℕ) → KeepsSize (slot flat_files n)
-unfolding all_opened
-flat_sizes zero = tt
-flat_sizes (suc zero) = lit≤ tt
-flat_sizes (suc (suc zero)) = lit≤ tt
-flat_sizes (suc (suc (suc n))) = subst (λ o. KeepsSize o) (sym (flat_rest n)) tt
-
-flat_nodes : (n : ℕ) → KeepsNode flat_files n (slot flat_files n)
-unfolding all_opened root_places
-flat_nodes zero = tt
-flat_nodes (suc zero) = root_keeps
-flat_nodes (suc (suc zero)) = record { counted = refl; least = lit≤ tt; most = lit≤ tt }
-flat_nodes (suc (suc (suc n))) = subst (λ o. KeepsNode flat_files (suc (suc (suc n))) o) (sym (flat_rest n)) tt
-
-flat_reached : (n : ℕ) → IsSome (slot flat_files n) → (path : List ℕ) × (find flat_files 1 path ≡ Some n)
-unfolding all_opened
-flat_reached zero used = absurd (false≢true used)
-flat_reached (suc zero) used = ([], refl)
-flat_reached (suc (suc zero)) used = (console_name, refl)
-flat_reached (suc (suc (suc n))) used = absurd (false≢true (sym (ap is_some (flat_rest n)) ∙ used))
-
 console_rules : KeepsRules flat_files
-unfolding all_opened
-console_rules = record { root = refl; sizes = flat_sizes; nodes = flat_nodes; reached = flat_reached }
+unfolding all_opened root_places
+console_rules = record {
+  root = refl;
+  sizes = flat_each (λ n o. KeepsSize o) (lit≤ tt) (lit≤ tt) (λ n. tt);
+  nodes = flat_each (KeepsNode flat_files) root_keeps (record { counted = refl; least = lit≤ tt; most = lit≤ tt }) (λ n. tt);
+  reached = flat_each (λ n o. IsSome o → (path : List ℕ) × (find flat_files 1 path ≡ Some n)) (λ used. ([], refl)) (λ used. (console_name, refl)) (λ n used. absurd (false≢true used));
+}
 
 console_denotes : Denotes console_image flat_files
 unfolding all_opened
