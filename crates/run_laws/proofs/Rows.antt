@@ -1,6 +1,6 @@
 -- What the rows of the calls leave in the places of other processes, where a search needs more than what outcomes are made of.
-use Rattle.run_laws.proofs.Common.{◌≡◌, ◌≢◌, ◌∙◌, ℕ, true, Option, Some, None, List, [], ◌∷◌, zero, suc, set, refl, sym, ap, subst, inl, inr, is_none, option_map, ◌&&◌, ◌+◌, ◌-◌, and_parts, cases_eq}
-use Rattle.run_laws.proofs.Common.{same_Some, get_or-set_other, position-Some, Pending, descriptor, read_file, read_pipe, read_target, unless_empty, write_file, write_target, Node, clear, free_slot, put}
+use Rattle.run_laws.proofs.Common.{◌≡◌, ◌≢◌, ◌∙◌, ℕ, true, Option, Some, None, List, [], ◌∷◌, zero, suc, set, refl, sym, ap, subst, inl, inr, is_none, option_map, ◌&&◌, ◌+◌, and_parts, cases_eq}
+use Rattle.run_laws.proofs.Common.{same_Some, get_or-set_other, position-Some, Pending, read_file, read_pipe, read_target, unless_empty, write_file, write_target, Node, clear, free_slot, put}
 use Rattle.run_laws.proofs.Common.{slot, Outcome, Process, is_child_of, is_zombie, child_of, collect, marked, sharing, wait_for, zombie_child, State, change_process, holds, process_at, OpenFile, Target}
 use Rattle.unixmodel.specs.Files.Node.{Device, Directory, File}
 use Rattle.unixmodel.specs.OpenFiles.Target.{OnNode, OnPipe}
