@@ -1,21 +1,21 @@
 -- One pipe trades frames, or is read or written: what is left of the fields, and what they show then.
-use Rattle.spaces.proofs.Common.{◌+◌, ◌<◌, [], ap, arith, Bool, eqb, false, get_or, length, length-set, List, map, None, Option, refl, slice_set, Some, subst, sym, true, ℕ, ◌∙◌, ◌∷◌, ◌≡◌, ◌≢◌}
-use Rattle.spaces.proofs.Common.{◌≤◌, get_or_default, length-map, flat_map, refill, is_some, not, unwrap_or, ◌||◌, count_of-append, count_of-first, held-inside, one_if-le, Trades-give, Trades-take, among, free_count, further_at}
-use Rattle.spaces.proofs.Common.{IsFreeList, SameBut, extra_of, free_of, count_of, Trades, holders_of, Frames, bytes_of, Pipe, Stays, frame_of, slot, taken, one-place, rest-held, rest-machine, rest-untouched, set-place, Trades-write}
-use Rattle.spaces.proofs.Common.{two-places, IsOpen, bytes_in, has_pipe, taken_frames, with_pipe, frames_at, IsSpaces, pipe_frames, pipe_shown, shown, spaces_of, Inside}
+use Rattle.spaces.proofs.Common.{◌+◌, ◌<◌, [], ap, arith, Bool, eqb, false, get_or, length, length-set, List, map, None, Option, refl, slice_set, Some, subst, sym, true, ℕ, ◌∙◌, ◌∷◌, ◌≡◌, ◌≢◌, ◌≤◌, get_or_default, length-map, flat_map}
+use Rattle.spaces.proofs.Common.{refill, is_some, not, unwrap_or, ◌||◌, count_of-append, count_of-first, held-inside, one_if-le, Trades-give, Trades-take, among, free_count, further_at, IsFreeList, SameBut, extra_of, free_of, count_of}
+use Rattle.spaces.proofs.Common.{Trades, holders_of, Frames, bytes_of, Pipe, Stays, frame_of, slot, taken, one-place, rest-held, rest-machine, rest-untouched, set-place, Trades-write, two-places, IsOpen, bytes_in, has_pipe, taken_frames}
+use Rattle.spaces.proofs.Common.{with_pipe, frames_at, IsSpaces, pipe_frames, pipe_shown, shown, spaces_of, Inside}
 use Rattle.spaces.proofs.Pipes.{pipe-free, pipe-held, pipe-slot, pipes-placed}
 use Rattle.spaces.proofs.Places.{free-taken, taken-fits}
 use Rattle.spaces.proofs.SpacesLemmas.{map-same, none-of, refilled, some-pipe, taken-piped, within}
 use Rattle.spaces.proofs.Stepped.{here}
-use Rattle.spaces.proofs.Traded.{runs-on, same-shown, still-active}
+use Rattle.spaces.proofs.Traded.{Shows, runs-on, same-shown, still-active}
 use Rattle.unixmodel.specs.Translation as translation
 use Rattle.vm.proofs.SharesLemmas.{each-set}
 use Rattle.vm.specs.Shares as shares
 
 -- ---- what the places for pipes show
 
-pub pipe-is : {T : Type 0} (i : Inside T) (q : ℕ) (p : Pipe) → slot i.pipes.items q ≡ Some p → bytes_in (spaces_of i) q ≡ bytes_of i.ram p
-pipe-is i q p e = ap (λ o. unwrap_or o []) (pipe-slot i.ram i.pipes.items q ∙ ap (pipe_shown i.ram) e)
+pub pipe-is : {T : Type 0} (i : Inside T) (q : ℕ) {p : Pipe} → slot i.pipes.items q ≡ Some p → bytes_in (spaces_of i) q ≡ bytes_of i.ram p
+pipe-is i q e = ap (λ o. unwrap_or o []) (pipe-slot i.ram i.pipes.items q ∙ ap (pipe_shown i.ram) e)
 
 some-pipe_shown : (m : List (List ℕ)) (o : Option Pipe) → is_some o ≡ is_some (pipe_shown m o)
 some-pipe_shown m None = refl
@@ -49,13 +49,11 @@ open-is : (p : Pipe) → IsOpen p → (z : Pipe) → Some p ≡ Some z → IsOpe
 open-is p opens z here = let same : p ≡ z = cc in subst IsOpen same opens
 
 -- the fields after a change of one pipe, which shows this then
-pub record Piped {T : Type 0} (held : T → translation.Held) (i j : Inside T) (q : ℕ) (y : Option (List ℕ)) : Type 0 where
-  pub sound : IsSpaces held j
-  pub view : spaces_of j ≡ with_pipe (spaces_of i) q y
-  pub fits : taken_frames (with_pipe (spaces_of i) q y) ≤ length i.ram
+abbrev pub Piped : {T : Type 0} → (T → translation.Held) → Inside T → Inside T → ℕ → Option (List ℕ) → Type 0
+Piped held i j q y = Shows held i j (with_pipe (spaces_of i) q y)
 
-pub piped-as : {T : Type 0} {held : T → translation.Held} {i j : Inside T} {q : ℕ} {y z : Option (List ℕ)} → Piped held i j q y → y ≡ z → Piped held i j q z
-piped-as {T} {held} {i} {j} {q} p e = subst (Piped held i j q) e p
+pub piped-as : {T : Type 0} {held : T → translation.Held} {i j : Inside T} (q : ℕ) {y z : Option (List ℕ)} → Piped held i j q y → y ≡ z → Piped held i j q z
+piped-as {T} {held} {i} {j} q p e = subst (λ o. Piped held i j q o) e p
 
 -- one place is written, through the slice of all
 abbrev pub set_pipe : {T : Type 0} → Inside T → List (List ℕ) → Frames → List (Option Pipe) → ℕ → Option Pipe → Inside T

@@ -1,6 +1,6 @@
 -- What the places for pipes show, and the frames that they hold.
-use Rattle.spaces.proofs.Common.{Frames, count_of-first, Trades, count_of, Pipe, frame_of, frames_at, pipe_frames, pipe_shown, ◌≡◌, ◌≢◌, ℕ, suc, ◌+◌, ◌<◌, List, [], ◌∷◌, length, map, slice_set, Option}
-use Rattle.spaces.proofs.Common.{Some, None, refl, ap, arith, length-map, prefix_len, cond, is_none, not, free_slot, slot, taken, Space, IsMachine, one-place, trade-rest, get_or-map}
+use Rattle.spaces.proofs.Common.{Frames, count_of-first, Trades, count_of, Pipe, frame_of, frames_at, pipe_frames, pipe_shown, ◌≡◌, ◌≢◌, ℕ, suc, ◌+◌, ◌<◌, List, [], ◌∷◌, length, map, slice_set, Option, Some, None, refl, ap, arith}
+use Rattle.spaces.proofs.Common.{length-map, prefix_len, cond, is_none, not, free_slot, slot, taken, Space, IsMachine, one-place, trade-rest, get_or-map}
 use Rattle.pipe.proofs.PipeLemmas.{bytes_of-same}
 use Rattle.vm.specs.Shares as shares
 use Rattle.spaces.proofs.SpacesLemmas.{map-placed, map-same}

@@ -1,7 +1,7 @@
 -- What the fields show at a place, and how many frames the places take.
-use Rattle.spaces.proofs.Common.{free_count, one_if, Inside, frames_in, has_space, view_at, no_pages, taken_frames, IsSpaces, view_with, pipe_frames, shown, spaces_of, ◌≡◌, ℕ, ◌+◌, ◌≤◌, Bool}
-use Rattle.spaces.proofs.Common.{true, false, List, [], ◌∷◌, length, get_or, map, nat_lt, Option, Some, None, refl, sym, ap, ◌∙◌, arith, if◌then◌else◌, is_some, sum_by, unwrap_or, get_or-map}
-use Rattle.spaces.proofs.Common.{length-map, sum_by-cons, page_frames, slot, Space, frames_for, length-mapping, right_marks, frames_used, free-left, mapping_of, pages_in, pages_of}
+use Rattle.spaces.proofs.Common.{free_count, one_if, Inside, frames_in, has_space, view_at, no_pages, taken_frames, IsSpaces, view_with, pipe_frames, shown, spaces_of, ◌≡◌, ℕ, ◌+◌, ◌≤◌, Bool, true, false, List, [], ◌∷◌, length, get_or, map}
+use Rattle.spaces.proofs.Common.{nat_lt, Option, Some, None, refl, sym, ap, ◌∙◌, arith, if◌then◌else◌, is_some, sum_by, unwrap_or, get_or-map, length-map, sum_by-cons, page_frames, slot, Space, frames_for, length-mapping, right_marks}
+use Rattle.spaces.proofs.Common.{frames_used, free-left, mapping_of, pages_in, pages_of}
 use Rattle.spaces.proofs.Pipes.{pipes-taken}
 use Rattle.unixmodel.specs.Translation as translation
 
@@ -31,8 +31,8 @@ missing i at has same e =
     let bad : false ≡ true = ap is_some (sym e) ∙ ap (λ l. is_some (get_or l at None)) same ∙ stands-there i at has in
     cc
 
-pub held-is : {T : Type 0} (i : Inside T) (at : ℕ) (x : Space) → slot i.places.items at ≡ Some x → view_at (spaces_of i) at ≡ view_with (pages_of i.ram x) x.size
-held-is i at x e = ap (λ o. unwrap_or o no_pages) (slot-is i at (Some x) e)
+pub held-is : {T : Type 0} (i : Inside T) (at : ℕ) {x : Space} → slot i.places.items at ≡ Some x → view_at (spaces_of i) at ≡ view_with (pages_of i.ram x) x.size
+held-is i at {x} e = ap (λ o. unwrap_or o no_pages) (slot-is i at (Some x) e)
 
 free-shown : (m : List (List ℕ)) (o : Option Space) → shown m o ≡ None → o ≡ None
 free-shown m None e = refl

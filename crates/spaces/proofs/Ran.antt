@@ -65,7 +65,7 @@ module _ {T : Type 0} {held : T → translation.Held} {i : Inside T} {t : T} {h 
       let all = came (Some c) o in
       let now = (ran r done (point_of i.hart i.ram) (point_of h k) (here r) all.0.runs).1 in
       let low : cycle h.registers h.pc (let_through k x) ≡ Err c = rw now.entries all.1 in
-      let seen : view_at (spaces_of (record i { ram = k; translator = t; hart = h })) at ≡ view_with (pages_of k x) x.size = held-is (record i { ram = k; translator = t; hart = h }) at x r.stands in
+      let seen : view_at (spaces_of (record i { ram = k; translator = t; hart = h })) at ≡ view_with (pages_of k x) x.size = held-is (record i { ram = k; translator = t; hart = h }) _ r.stands in
       rw seen (trap-right k x h.registers h.pc (now.machine.each at x r.stands).dense c low (λ store. absurd (other store)))
 
 pub ran-sound : {T : Type 0} {held : T → translation.Held} {i : Inside T} {t : T} {h : Hart} {k : List (List ℕ)} {done : ℕ} {stopped : Option Trap} (a : Option ℕ) → IsSpaces held i → RanOn held i t h k done stopped → i.active ≡ a → is_some a ≡ true

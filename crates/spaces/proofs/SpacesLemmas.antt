@@ -1,7 +1,7 @@
 -- Lemmas on the values of address spaces.
-use Rattle.spaces.proofs.Common.{◌≡◌, ◌≢◌, ℕ, zero, suc, ◌+◌, ◌-◌, ◌<◌, ◌≤◌, true, false, List, [], ◌∷◌, ◌++◌, length, length-set, get_or, map, replicate, slice_set, take, Option, Some, None, refl, sym}
-use Rattle.spaces.proofs.Common.{ap, ◌∙◌, arith, append-nil, get_or-set_other, get_or-set_same, refill, is_some, sum_by, unwrap_or, length-map, take_all, sum_by-cons, SpaceView, Spaces, forked, frames_in}
-use Rattle.spaces.proofs.Common.{grown, has_space, view_at, no_pages, shrunk, taken_frames, with_view, with_pipe, with_place, page_frames, slot, taken, Memory, shared_page, zero_page, ceil_div}
+use Rattle.spaces.proofs.Common.{◌≡◌, ◌≢◌, ℕ, zero, suc, ◌+◌, ◌-◌, ◌<◌, ◌≤◌, true, false, List, [], ◌∷◌, ◌++◌, length, length-set, get_or, map, replicate, slice_set, take, Option, Some, None, refl, sym, ap, ◌∙◌, arith, append-nil}
+use Rattle.spaces.proofs.Common.{get_or-set_other, get_or-set_same, refill, is_some, sum_by, unwrap_or, length-map, take_all, sum_by-cons, SpaceView, Spaces, forked, frames_in, grown, has_space, view_at, no_pages, shrunk, taken_frames}
+use Rattle.spaces.proofs.Common.{with_view, with_pipe, with_place, page_frames, slot, taken, Memory, shared_page, zero_page, ceil_div}
 use Rattle.arrayvec.proofs.ArrayVecLemmas.{items-with_items}
 use Rattle.unixmodel.specs.Plan.{stack_marks}
 use Rattle.unixmodel.specs.ProcessCalls.{with_pages}

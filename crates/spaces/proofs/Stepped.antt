@@ -1,9 +1,9 @@
 -- A step of the hart in the space of the active place.
 use Rattle.spaces.proofs.Common.{◌/◌, ◌<◌, ap, arith, Err, IfSome, inl, inr, length, List, map, None, Ok, Option, option_map, refl, slice_set, Some, subst, sym, true, ℕ, ◌∙◌, ◌≡◌, ◌≤◌, ◌⊎◌, and_parts, set-get_or, IfNone, slice_get, Frames}
 use Rattle.spaces.proofs.Common.{memory_of-cycle, cycle-again, cycle-retries, Narrows, changed, IsSound, WritesOnly, Hart, IsMemory, FrameNo, coherent-kept, shows-coherent, IsCoherent, Mapped, memory_of, Shows, WalksTo, cycle, slot}
-use Rattle.spaces.proofs.Common.{Computed, Effect, trap, Memory, Page, page_for, Perm, memory_after, HoldsInside, HoldsNothing, IsKept, Store, StorePageFault, Trap, trade-machine, trade-others, mapping-is, mapping-within}
-use Rattle.spaces.proofs.Common.{walks-entries, frame_at, marks_at, read_below, entry_marks, is_open, right_marks, user_leaf, IsMachine, OthersUntouched, entries_of, holds, IsMapped, IsOnce, IsRearranged, IsSpace, mapping_of, pages_in}
-use Rattle.spaces.proofs.Common.{pages_of, Stands, Space, Does, Spaces, SpaceView, Traps, view_at, with_place, IsSpaces, pipe_frames, pipe_shown, Runs, shown, spaces_of, view_with, Inside}
+use Rattle.spaces.proofs.Common.{Computed, Effect, trap, Memory, Page, page_for, Perm, memory_after, HoldsInside, HoldsNothing, IsKept, Store, StorePageFault, Trap, trade-machine, trade-others, mapping-is, mapping-within, walks-entries}
+use Rattle.spaces.proofs.Common.{frame_at, marks_at, read_below, entry_marks, is_open, right_marks, user_leaf, IsMachine, OthersUntouched, entries_of, holds, IsMapped, IsOnce, IsRearranged, IsSpace, mapping_of, pages_in, pages_of, Stands}
+use Rattle.spaces.proofs.Common.{Space, Does, Spaces, SpaceView, Traps, view_at, with_place, IsSpaces, pipe_frames, pipe_shown, Runs, shown, spaces_of, view_with, Inside}
 use Rattle.hart.proofs.FollowsLemmas.{IsDone, IsTrapped, follows-cases, follows-only}
 use Rattle.hart.specs.Follows.{Follows}
 use Rattle.hart.specs.Runs.{DoesOne, Point, point_of}
@@ -154,7 +154,7 @@ module _ {T : Type 0} {held : T → translation.Held} {i : Inside T} {at : ℕ} 
       ap (map (shown k)) (same-place i.places.items at x r.stands)
       ∙ shown-placed m k i.places.items at (Some x) others
       ∙ ap (slice_set (map (shown m) i.places.items) at) (shown-as k x (memory_after (pages_of m x) d.change) x.size after refl) in
-      let seen : view_at (spaces_at i old) at ≡ view_with (pages_of m x) x.size = held-is (record i { ram = m }) at x r.stands in
+      let seen : view_at (spaces_at i old) at ≡ view_with (pages_of m x) x.size = held-is (record i { ram = m }) _ r.stands in
       let registers : new.registers ≡ d.regs = ap (λ (p : Point). p.registers) one.leaves in
       let pc : new.pc ≡ d.pc = ap (λ (p : Point). p.pc) one.leaves in
       record { done = d; means = rw seen by_right; leaves = rw (seen, registers, pc, places, pipes, s.count) refl }
@@ -249,7 +249,7 @@ module _ {T : Type 0} {held : T → translation.Held} {i : Inside T} {t : T} {h 
       → IfSome i.active (λ at. Traps (spaces_of i) (spaces_of (record i { ram = k; translator = t; hart = h })) at c)
   trap-at c e right =
       let left = trapped c e in
-      let both : Traps (spaces_of i) (spaces_of (record i { ram = k; translator = t; hart = h })) at c = rw (held-is i at x r.stands) (right, rw (left.hart, left.memory) refl) in
+      let both : Traps (spaces_of i) (spaces_of (record i { ram = k; translator = t; hart = h })) at c = rw (held-is i _ r.stands) (right, rw (left.hart, left.memory) refl) in
       for-active (λ at. Traps (spaces_of i) (spaces_of (record i { ram = k; translator = t; hart = h })) at c) r.active both
 
   pub step-trap : (c : Trap) → result ≡ Some c → (c.cause ≡ StorePageFault → page_for Store (pages_of k x) c.address ≡ None)

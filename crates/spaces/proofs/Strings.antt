@@ -1,6 +1,6 @@
 -- A string that was copied has no 0.
-use Rattle.spaces.proofs.Common.{All, IfSome, List, None, Option, Some, [], ap, if◌then◌else◌, length, nat_le, option_map, refl, subst, suc, sym, take, true, false}
-use Rattle.spaces.proofs.Common.{zero, ℕ, Bool, ◌≡◌, ◌≢◌, ◌∙◌, ◌∷◌, arith, Memory, before_nul, path_at, reach, short_path, string_at, Load, short_string, string_in}
+use Rattle.spaces.proofs.Common.{All, IfSome, List, None, Option, Some, [], ap, if◌then◌else◌, length, nat_le, option_map, refl, subst, suc, sym, take, true, false, zero, ℕ, Bool, ◌≡◌, ◌≢◌, ◌∙◌, ◌∷◌, arith, Memory, before_nul, path_at}
+use Rattle.spaces.proofs.Common.{reach, short_path, string_at, Load, short_string, string_in}
 use Rattle.std.proofs.lemmas.List.Elements.{All-cons, All-nil}
 
 -- no byte of it is 0

@@ -3,7 +3,7 @@ use Rattle.spaces.proofs.Common.{◌+◌, ◌++◌, ◌-◌, ◌<◌, [], ap, ar
 use Rattle.spaces.proofs.Common.{subst, sym, take, true, ℕ, ◌∙◌, ◌≡◌, ◌≢◌, ◌≤◌, ◌⊎◌, cases_eq, length-replicate, set-get_or, take_all, OnFalse, OnTrue, refill, OnErr, OnOk, free_count, IsFreeList, Trades, Frames, FrameNo, coherent-nothing}
 use Rattle.spaces.proofs.Common.{IsCoherent, page_frames, slot, Memory, Perm, shared_memory, zero_page, HoldsNothing, Translation, length-mapping, fork-machine, trade-machine, trade-others, frames_for, entry_marks, IsMachine, IsPlace}
 use Rattle.spaces.proofs.Common.{OthersUntouched, entries_of, holds, IsSpace, IsUntouched, pages_in, pages_of, Reframes, Stands, Space, VmFault, forked, frames_in, grown, has_space, no_pages, SpaceView, taken_frames, with_place, IsActive}
-use Rattle.spaces.proofs.Common.{IsSpaces, pipe_frames, Runs, shown, spaces_of, view_with, Inside}
+use Rattle.spaces.proofs.Common.{IsSpaces, pipe_frames, Runs, shown, Spaces, spaces_of, view_with, Inside}
 use Rattle.spaces.proofs.Pipes.{pipes-beside}
 use Rattle.spaces.proofs.Places.{frames-shown, frames_for-pages, free-is, free-taken, held-is, length-pages_of, places-count, slot-is, taken-fits}
 use Rattle.spaces.proofs.SpacesLemmas.{map-placed, place-free, refilled, taken-forked, taken-placed, within}
@@ -53,15 +53,15 @@ runs-changed old new m k root places at x z hi e same coherent run =
 pub shown-as : (k : List (List ℕ)) (z : Space) (memory : Memory) (size : ℕ) → pages_of k z ≡ memory → z.size ≡ size → shown k (Some z) ≡ Some (view_with memory size)
 shown-as k z memory size p e = ap (λ (m : Memory). Some (view_with m z.size)) p ∙ ap (λ (n : ℕ). Some (view_with memory n)) e
 
--- the fields after a change of places, which show these then
-pub record Shows {T : Type 0} (held : T → translation.Held) (i j : Inside T) (places : List (Option SpaceView)) : Type 0 where
+-- the fields after a change, which show these values then
+pub record Shows {T : Type 0} (held : T → translation.Held) (i j : Inside T) (v : Spaces) : Type 0 where
   pub sound : IsSpaces held j
-  pub view : spaces_of j ≡ record (spaces_of i) { places = places }
-  pub fits : taken_frames (record (spaces_of i) { places = places }) ≤ length i.ram
+  pub view : spaces_of j ≡ v
+  pub fits : taken_frames v ≤ length i.ram
 
--- and after a change of one, which shows this
+-- after a change of one place, which shows this
 abbrev pub Placed : {T : Type 0} → (T → translation.Held) → Inside T → Inside T → ℕ → Option SpaceView → Type 0
-Placed held i j at y = Shows held i j (slice_set (spaces_of i).places at y)
+Placed held i j at y = Shows held i j (with_place (spaces_of i) at y)
 
 pub placed-as : {T : Type 0} {held : T → translation.Held} {i j : Inside T} (at : ℕ) {y z : Option SpaceView} → Placed held i j at y → y ≡ z → Placed held i j at z
 placed-as {T} {held} {i} {j} at p e = subst (λ (o : Option SpaceView). Placed held i j at o) e p
@@ -75,7 +75,7 @@ module _ {T : Type 0} {held : T → translation.Held} {i : Inside T} (is : IsSpa
   placed : (at from : ℕ) (y : Option Space) (k : List (List ℕ)) (n : Frames) (t : T) (q : List (Option Space)) (new : List ℕ) (places : List (Option SpaceView))
       → q ≡ slice_set i.places.items at y → IsMachine k n (slice_set i.places.items at y) (pipe_frames i.pipes.items) → IsActive (held t) k i.hart.root.0 (slice_set i.places.items at y) i.active
       → ((x : Translation) → held t x → held i.translator x) → map (shown k) (slice_set i.places.items at y) ≡ places → Trades i.ram k i.frames n (shares.held_at i.ram (slot i.places.items from)) new
-      → Shows held i (record i { ram = k; frames = n; translator = t; places = record { items = q } }) places
+      → Shows held i (record i { ram = k; frames = n; translator = t; places = record { items = q } }) (record (spaces_of i) { places = places })
   placed at from y k n t q new places e machine active fewer shows trades =
       let j : Inside _ = record i { ram = k; frames = n; translator = t; places = record { items = q } } in
       let sound : IsSpaces held j = record {
@@ -118,7 +118,7 @@ module _ {T : Type 0} {held : T → translation.Held} {i : Inside T} (is : IsSpa
   -- or one that shares the frames of another one's
   pub shared-there : {k : List (List ℕ)} {n : Frames} {xs : List (Option Space)} (from to : ℕ) (x z : Space) (t : T) → to < 64 → has_space (spaces_of i) to ≡ false → xs ≡ i.places.items → slot i.places.items from ≡ Some x
       → IsSpace k x n → IsSpace k z n → Trades i.ram k i.frames n (holds i.ram x) (holds k x ++ holds k z) → ((u : Translation) → held t u → held i.translator u) → (i.active ≡ Some from → HoldsNothing (held t))
-      → pages_of k x ≡ shared_memory (pages_of i.ram x) → pages_of k z ≡ shared_memory (pages_of i.ram x) → z.size ≡ x.size → Shows held i (set_in i k n t xs to (Some z)) (copied (spaces_of i) from to).places
+      → pages_of k x ≡ shared_memory (pages_of i.ram x) → pages_of k z ≡ shared_memory (pages_of i.ram x) → z.size ≡ x.size → Shows held i (set_in i k n t xs to (Some z)) (copied (spaces_of i) from to)
   shared-there {k} {n} from to x z t low free same stands parent child trades fewer fenced marked pages size =
       let place = free-place to low free in
       let all = i.places.items in
@@ -136,7 +136,7 @@ module _ {T : Type 0} {held : T → translation.Held} {i : Inside T} (is : IsSpa
       ∙ ap (λ (l : List (Option SpaceView)). slice_set l to (shown k (Some z))) (ap (map (shown k)) (same-place all from x stands) ∙ shown-placed i.ram k all from (Some x) others)
       ∙ ap (λ (o : Option SpaceView). slice_set (slice_set (spaces_of i).places from o) to (shown k (Some z))) (shown-as k x (shared_memory (pages_of i.ram x)) x.size marked refl)
       ∙ ap (slice_set (slice_set (spaces_of i).places from now) to) (shown-as k z (shared_memory (pages_of i.ram x)) x.size pages size) in
-      rw (held-is i from x stands) (placed to from (Some z) k n t _ (holds k x ++ holds k z) (slice_set (slice_set (spaces_of i).places from now) to now) (refilled to same refl)
+      rw (held-is i _ stands) (placed to from (Some z) k n t _ (holds k x ++ holds k z) (slice_set (slice_set (spaces_of i).places from now) to now) (refilled to same refl)
       (fork-machine i.ram k i.frames n all (pipe_frames i.pipes.items) from to x z is.machine stands place.0 place.1 parent child trades) active fewer shows first)
 
   -- a place that isn't the active one loses its space
@@ -214,7 +214,7 @@ module _ {T : Type 0} {held : T → translation.Held} {i : Inside T} (is : IsSpa
       let y = view_with (pages_of i.ram x) x.size in
       let less = over-free to (Some y) low free (rw (frames-shown i.ram x) more) in
       let same = taken-forked (spaces_of i) from to y (slot-is i from (Some x) stands) free (rw (places-count i) (free-place is to low free).0) in
-      rw (held-is i from x stands) (omega (arith, less, same))
+      rw (held-is i _ stands) (omega (arith, less, same))
 
   -- nor for a space of more bytes, which is refused where it would pass the greatest size or takes more frames than are free
   pub over-grown : (at : ℕ) (x : Space) (bytes : ℕ) (marks : Perm) → slot i.places.items at ≡ Some x → length i.ram ≤ 32768 → (274877898752 < x.size + bytes) ⊎ (frames_for (pages_in x.size) + free_count i.ram i.frames < frames_for (pages_in (x.size + bytes)))

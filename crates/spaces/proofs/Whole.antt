@@ -14,5 +14,5 @@ pub are-whole : {T : Type 0} (held : T → translation.Held) (i : Inside T) → 
 are-whole held i is at None there has framed = absurd (cc)
 are-whole held i is at (Some x) there has framed =
     let space = is.machine.each at x there in
-    rw (held-is i at x there)
+    rw (held-is i _ there)
     (record { few = rw (length-pages_of i.ram x) space.dense.small; whole = length-pages_of i.ram x; sized = pages-sized i.ram x.root.0 x.trap.0 (pages_in x.size) framed space.dense })

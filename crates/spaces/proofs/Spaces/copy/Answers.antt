@@ -13,7 +13,7 @@ pub copy-requires : goal.copy-requires
 copy-requires g c = c.self.invariant.machine.each c.args.from c.space_at-space.result.now c.space_at-space.ensures
 
 made : (g : given.Over) (c : After-fence_active g)
-    → Shows g.T.Translate.held c.self.inside (set_in c.self.inside c.copy.new.ram c.copy.new.frames c.fence_active.new.translator c.deref_mut.result.now c.args.to (Some c.in-Ok.space)) (copied (spaces_of c.self.inside) c.args.from c.args.to).places
+    → Shows g.T.Translate.held c.self.inside (set_in c.self.inside c.copy.new.ram c.copy.new.frames c.fence_active.new.translator c.deref_mut.result.now c.args.to (Some c.in-Ok.space)) (copied (spaces_of c.self.inside) c.args.from c.args.to)
 made g c =
     let there = c.in-Ok.ensures in
     shared-there c.self.invariant c.args.from c.args.to c.space_at-space.result.now c.in-Ok.space c.fence_active.new.translator c.requires.inside (rw (← c.self.view_is) at c.requires.free) c.deref_mut.ensures.value c.space_at-space.ensures

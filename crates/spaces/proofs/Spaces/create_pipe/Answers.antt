@@ -7,7 +7,7 @@ use Rattle.spaces.proofs.Common.{Some, [], spaces_of, ap, refl}
 made : (g : given.Over) (c : After-deref_mut g) → Piped g.T.Translate.held c.self.inside (set_pipe c.self.inside c.self.inside.ram c.take.new.self c.deref_mut.result.now c.args.q (Some c.new.result)) c.args.q (Some [])
 made g c =
     let made = c.new.ensures in
-    piped-as (piped-there c.self.invariant c.args.q c.new.result c.requires.inside (rw (← c.self.view_is) at c.requires.free) c.deref_mut.ensures.value c.in-Some.ensures.valid (rw made.frame c.in-Some.ensures.some) c.in-Some.ensures.extra (record { read = made.read; write = made.write }))
+    piped-as _ (piped-there c.self.invariant c.args.q c.new.result c.requires.inside (rw (← c.self.view_is) at c.requires.free) c.deref_mut.ensures.value c.in-Some.ensures.valid (rw made.frame c.in-Some.ensures.some) c.in-Some.ensures.extra (record { read = made.read; write = made.write }))
     (ap Some (made.empty c.self.inside.ram))
 
 pub invariant_of-self : goal.invariant_of-self

@@ -26,7 +26,7 @@ pub returns-clause-done : goal.returns-clause-done
 returns-clause-done g c =
     let x = c.in-Some.space in
     let memory = pages_of c.self.inside.ram x ++ replicate (pages_in (x.size + c.args.bytes) - pages_in x.size) (zero_page (marks_from c.args.perm)) in
-    rw (← c.self.view_is, held-is c.self.inside c.args.at x (there c.args.at c.deref_mut.ensures.value c.in-Some.is)) (ok-true c.grow.result c.is_ok.result _ _ _ c.is_ok.ensures.value c.grow.ensures.pages c.grow.ensures.size (λ pages grew.
+    rw (← c.self.view_is, held-is c.self.inside _ (there c.args.at c.deref_mut.ensures.value c.in-Some.is)) (ok-true c.grow.result c.is_ok.result _ _ _ c.is_ok.ensures.value c.grow.ensures.pages c.grow.ensures.size (λ pages grew.
     let all = placed-as c.args.at (more g (goal.at.returns-clause-done g c).After-grow) (shown-as c.grow.new.ram c.grow.new.self memory (x.size + c.args.bytes) pages grew) in
     (all.fits, all.view)))
 
@@ -35,7 +35,7 @@ returns-clause-refused g c =
     let i = c.self.inside in
     let x = c.in-Some.space in
     let e = there c.args.at c.deref_mut.ensures.value c.in-Some.is in
-    rw (← c.self.view_is, held-is i c.args.at x e) (err-false c.grow.result c.is_ok.result _ _ _ c.is_ok.ensures.value c.grow.ensures.only c.grow.ensures.unchanged (λ why u.
+    rw (← c.self.view_is, held-is i _ e) (err-false c.grow.result c.is_ok.result _ _ _ c.is_ok.ensures.value c.grow.ensures.only c.grow.ensures.unchanged (λ why u.
     let more : (274877898752 < x.size + c.args.bytes) ⊎ (frames_for (pages_in x.size) + free_count i.ram i.frames < frames_for (pages_in (x.size + c.args.bytes))) =
     elim why [ inl large ↦ inl (c.grow.ensures.large.0 large) | inr full ↦ inr (c.grow.ensures.full.0 full).1 ] in (
       over-grown c.self.invariant c.args.at x c.args.bytes (marks_from c.args.perm) e c.frames_are_whole.ensures.small more,

@@ -8,7 +8,6 @@ pipe_at-pipe-requires g c = pipe-stands c.self.inside c.args.q (rw (← c.self.v
 
 pub returns : goal.returns
 returns g c =
-    let i = c.self.inside in
     let p = c.pipe_at-pipe.result.now in
-    let e = c.pipe_at-pipe.ensures in
-    rw (← c.self.view_is, pipe-is i c.args.q p e) (c.can_read.ensures i.ram ∙ or-open (not (is_empty (bytes_of i.ram p))) p.write_open (c.self.invariant.both c.args.q p e).write)
+    rw (← c.self.view_is, pipe-is c.self.inside _ c.pipe_at-pipe.ensures)
+    (c.can_read.ensures c.self.inside.ram ∙ or-open (not (is_empty (bytes_of c.self.inside.ram p))) p.write_open (c.self.invariant.both c.args.q p c.pipe_at-pipe.ensures).write)

@@ -7,14 +7,9 @@ pipe_at-pipe-requires g c = pipe-stands c.self.inside c.args.q (rw (← c.self.v
 
 pub returns-clause-room : goal.returns-clause-room
 returns-clause-room g c =
-    let i = c.self.inside in
     let p = c.pipe_at-pipe.result.now in
-    let e = c.pipe_at-pipe.ensures in
-    rw (← c.self.view_is, pipe-is i c.args.q p e) (c.can_write.ensures.can i.ram ∙ or-open (nat_lt (length (bytes_of i.ram p)) 512) p.read_open (c.self.invariant.both c.args.q p e).read)
+    rw (← c.self.view_is, pipe-is c.self.inside _ c.pipe_at-pipe.ensures)
+    (c.can_write.ensures.can c.self.inside.ram ∙ or-open (nat_lt (length (bytes_of c.self.inside.ram p)) 512) p.read_open (c.self.invariant.both c.args.q p c.pipe_at-pipe.ensures).read)
 
 pub returns-clause-few : goal.returns-clause-few
-returns-clause-few g c =
-    let i = c.self.inside in
-    let p = c.pipe_at-pipe.result.now in
-    let e = c.pipe_at-pipe.ensures in
-    rw (← c.self.view_is, pipe-is i c.args.q p e) (c.can_write.ensures.within i.ram)
+returns-clause-few g c = rw (← c.self.view_is, pipe-is c.self.inside _ c.pipe_at-pipe.ensures) (c.can_write.ensures.within c.self.inside.ram)

@@ -9,15 +9,9 @@ pub find_page-requires : goal.find_page-requires
 find_page-requires g c = (c.self.invariant.machine.each c.args.at c.space_at-space.result.now c.space_at-space.ensures).dense
 
 pub returns-in_err-frame : goal.returns-in_err-frame
-returns-in_err-frame g c =
-    let i = c.self.inside in
-    let e = c.space_at-space.ensures in
-    rw (← c.self.view_is, held-is i c.args.at c.space_at-space.result.now e, c.from_residual.ensures)
-    (sym (ap (option_map told_page) (unmapped-page i.ram (mapping_of i.ram c.space_at-space.result.now) c.args.n c.in_err-frame.ensures.found)))
+returns-in_err-frame g c = rw (← c.self.view_is, held-is c.self.inside _ c.space_at-space.ensures, c.from_residual.ensures)
+    (sym (ap (option_map told_page) (unmapped-page c.self.inside.ram (mapping_of c.self.inside.ram c.space_at-space.result.now) c.args.n c.in_err-frame.ensures.found)))
 
 pub returns : goal.returns
-returns g c =
-    let i = c.self.inside in
-    let e = c.space_at-space.ensures in
-    rw (← c.self.view_is, held-is i c.args.at c.space_at-space.result.now e, c.frame.ensures)
-    (sym (ap (option_map told_page) (mapped-page i.ram (mapping_of i.ram c.space_at-space.result.now) c.args.n (mapped_as c.in_ok-frame.frame.0 c.in_ok-frame.marks) c.in_ok-frame.ensures.found)))
+returns g c = rw (← c.self.view_is, held-is c.self.inside _ c.space_at-space.ensures, c.frame.ensures) (sym (ap (option_map told_page)
+    (mapped-page c.self.inside.ram (mapping_of c.self.inside.ram c.space_at-space.result.now) c.args.n (mapped_as c.in_ok-frame.frame.0 c.in_ok-frame.marks) c.in_ok-frame.ensures.found)))

@@ -1,25 +1,18 @@
 use Rattle.spaces.proofs.Spaces.pages.Goals as goal
 use Rattle.spaces.proofs.Places.{held-is, length-pages_of, stands-there}
-use Rattle.spaces.proofs.Common.{◌≤◌, ◌∙◌, ap, arith, sym, pages_in}
+use Rattle.spaces.proofs.Common.{◌∙◌, ap, arith, sym, pages_in}
 
 pub space_at-space-requires : goal.space_at-space-requires
 space_at-space-requires g c = stands-there c.self.inside c.args.at (rw (← c.self.view_is) at c.requires)
 
 pub pages_in-requires : goal.pages_in-requires
 pages_in-requires g c =
-    let e = c.space_at-space.ensures in
-    let small : pages_in c.space_at-space.result.now.size ≤ 32768 = (c.self.invariant.machine.each c.args.at c.space_at-space.result.now e).dense.small in
-    rw c.size.ensures (omega (arith, small))
+    let space = c.self.invariant.machine.each c.args.at c.space_at-space.result.now c.space_at-space.ensures in
+    rw c.size.ensures (omega (arith, space.dense.small))
 
 pub returns-clause-count : goal.returns-clause-count
-returns-clause-count g c =
-    let i = c.self.inside in
-    let e = c.space_at-space.ensures in
-    rw (← c.self.view_is, held-is i c.args.at c.space_at-space.result.now e) (c.pages_in.ensures ∙ ap pages_in c.size.ensures ∙ sym (length-pages_of i.ram c.space_at-space.result.now))
+returns-clause-count g c = rw (← c.self.view_is, held-is c.self.inside _ c.space_at-space.ensures) (c.pages_in.ensures ∙ ap pages_in c.size.ensures ∙ sym (length-pages_of c.self.inside.ram c.space_at-space.result.now))
 
 pub returns-clause-few : goal.returns-clause-few
-returns-clause-few g c =
-    let i = c.self.inside in
-    let e = c.space_at-space.ensures in
-    let small : pages_in c.space_at-space.result.now.size ≤ 32768 = (c.self.invariant.machine.each c.args.at c.space_at-space.result.now e).dense.small in
-    rw (← c.self.view_is, held-is i c.args.at c.space_at-space.result.now e, length-pages_of i.ram c.space_at-space.result.now) small
+returns-clause-few g c = rw (← c.self.view_is, held-is c.self.inside _ c.space_at-space.ensures, length-pages_of c.self.inside.ram c.space_at-space.result.now)
+    ((c.self.invariant.machine.each c.args.at c.space_at-space.result.now c.space_at-space.ensures).dense.small)

@@ -20,8 +20,8 @@ invariant_of-self g c = (wrote g (goal.at.invariant_of-self g c).After-put_in).s
 
 pub returns : goal.returns
 returns g c =
-    let held = pipe-is c.self.inside c.args.q c.in-Some.pipe (pipe-found c.self.inside c.args.q _ (rw (← c.self.view_is) at c.requires) c.deref_mut.ensures.value c.in-Some.is) in
-    record { bytes = rw (← c.self.view_is, held) (piped-as (wrote g (goal.at.returns g c).After-put_in) (ap Some c.put_in.ensures.bytes)).view; count = rw (← c.self.view_is, held) c.put_in.ensures.count }
+    let held = pipe-is c.self.inside _ (pipe-found c.self.inside c.args.q _ (rw (← c.self.view_is) at c.requires) c.deref_mut.ensures.value c.in-Some.is) in
+    record { bytes = rw (← c.self.view_is, held) (piped-as _ (wrote g (goal.at.returns g c).After-put_in) (ap Some c.put_in.ensures.bytes)).view; count = rw (← c.self.view_is, held) c.put_in.ensures.count }
 
 pub unreachable-requires : goal.unreachable-requires
 unreachable-requires g c = pipe-missing c.self.inside c.args.q _ (rw (← c.self.view_is) at c.requires) c.deref_mut.ensures.value c.in-None.is

@@ -24,7 +24,7 @@ pub invariant_of-self : goal.invariant_of-self
 invariant_of-self g c = (less g (goal.at.invariant_of-self g c).After-fence_active).sound
 
 pub returns : goal.returns
-returns g c = rw (← c.self.view_is, held-is c.self.inside c.args.at c.in-Some.space (there c.args.at c.deref_mut.ensures.value c.in-Some.is)) (less g (goal.at.returns g c).After-fence_active).view
+returns g c = rw (← c.self.view_is, held-is c.self.inside _ (there c.args.at c.deref_mut.ensures.value c.in-Some.is)) (less g (goal.at.returns g c).After-fence_active).view
 
 pub unreachable-requires : goal.unreachable-requires
 unreachable-requires g c = missing c.self.inside c.args.at (rw (← c.self.view_is) at c.requires.space) c.deref_mut.ensures.value c.in-None.is

@@ -12,8 +12,7 @@ root_of-requires g c = (c.self.invariant.machine.each c.args.at c.space_at-space
 
 pub returns : goal.returns
 returns g c =
-    let e = c.space_at-space.ensures in
     let i = c.self.inside in
     let x = c.space_at-space.result.now in
-    rw (← c.self.view_is, held-is i c.args.at x e)
-    (shows-right i.ram c.root_of.result.0 (let_through i.ram x) (pages_of i.ram x) (seen-right i.ram x.root.0 (pages_in x.size) (c.self.invariant.machine.each c.args.at x e).dense.leaves) c.root_of.ensures)
+    rw (← c.self.view_is, held-is i _ c.space_at-space.ensures) (shows-right i.ram c.root_of.result.0 (let_through i.ram x) (pages_of i.ram x)
+    (seen-right i.ram x.root.0 (pages_in x.size) (c.self.invariant.machine.each c.args.at x c.space_at-space.ensures).dense.leaves) c.root_of.ensures)

@@ -20,9 +20,9 @@ invariant_of-self g c = (left g (goal.at.invariant_of-self g c).After-take_out).
 
 pub returns : goal.returns
 returns g c =
-    let held = pipe-is c.self.inside c.args.q c.in-Some.pipe (pipe-found c.self.inside c.args.q _ (rw (← c.self.view_is) at c.requires) c.deref_mut.ensures.value c.in-Some.is) in
+    let held = pipe-is c.self.inside _ (pipe-found c.self.inside c.args.q _ (rw (← c.self.view_is) at c.requires) c.deref_mut.ensures.value c.in-Some.is) in
     record {
-      rest = rw (← c.self.view_is, held) (piped-as (left g (goal.at.returns g c).After-take_out) (ap Some c.take_out.ensures.rest)).view;
+      rest = rw (← c.self.view_is, held) (piped-as _ (left g (goal.at.returns g c).After-take_out) (ap Some c.take_out.ensures.rest)).view;
       bytes = rw (← c.self.view_is, held) c.take_out.ensures.bytes;
       count = rw (← c.self.view_is, held) c.take_out.ensures.count;
     }
