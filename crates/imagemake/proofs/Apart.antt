@@ -1,6 +1,6 @@
 -- Lists of blocks that are made of lists, one for each number of a range.
-use Rattle.imagemake.proofs.Common.{◌≡◌, ◌≢◌, ℕ, ◌+◌, ◌-◌, ◌<◌, ◌≤◌, Bool, List, ◌++◌, length, get_or, ap, sym, refl, ◌∙◌, arith, subst, inl, inr, zero, suc, true, All, flat_map, list_any, range_with_len, cases_eq}
-use Rattle.imagemake.proofs.Common.{cases_lt, or_left, or_right, get_or-append_right, get_or_append_left, length-append, list_any-append, get_or-range_with_len, length-range_with_len, IsOnce, All-flat_map}
+use Rattle.imagemake.proofs.Common.{◌≡◌, ◌≢◌, ℕ, ◌+◌, ◌-◌, ◌<◌, ◌≤◌, Bool, List, ◌++◌, length, get_or, ap, sym, refl, ◌∙◌, arith, subst, inl, inr, zero, suc, true, All, flat_map, list_any, range_with_len, cases_eq, cases_lt, or_left}
+use Rattle.imagemake.proofs.Common.{or_right, get_or-append_right, get_or_append_left, length-append, list_any-append, get_or-range_with_len, length-range_with_len, IsOnce, All-flat_map}
 
 -- no block of one list stands in the other
 abbrev pub AreApart : List ℕ → List ℕ → Type 0

@@ -1,26 +1,22 @@
 -- An entry is put among the files.
 use Rattle.imagemake.proofs.Common.{◌≡◌, ℕ, ◌+◌, ◌<◌, ◌≤◌, Bool, List, [], ◌∷◌, ◌++◌, Option, Some, Ok, Err, Result, length, ap, sym, refl, ◌∙◌, arith, subst, length_push, FileTree, HasFiles, Files, is_directory, slot, KeepsNode}
-use Rattle.imagemake.proofs.Common.{KeepsRules, ManifestEntry, added, if_room, node_for, with_manifest_entry, CanAdd, PackedAt, AddsEntry, IsMade, IsSpot, make_fault, IsBegun, IsListed, MadeName, made_name, Refuses, StoreFault, below-slot}
+use Rattle.imagemake.proofs.Common.{KeepsRules, ManifestEntry, added, if_room, node_for, with_manifest_entry, CanAdd, PackedAt, AddsEntry, IsMade, IsSpot, make_fault, IsBegun, MadeName, made_name, Refuses, StoreFault, below-slot, Entry}
+use Rattle.imagemake.proofs.Common.{Directory, Thing}
 use Rattle.tree.specs.Whole.{IsWhole}
-use Rattle.unixmodel.specs.Files.{Entry}
-use Rattle.unixmodel.specs.Files.Node.{Directory}
-use Rattle.unixmodel.specs.Manifest.{Thing}
 use Rattle.imagemake.specs.Added.{Stores}
 use Rattle.imagemake.specs.declared.store.StoreFault.TheVariants.{Blocks, Device}
 use Rattle.imagemake.proofs.FewLinks.{few-directories}
 use Rattle.imagemake.proofs.MadeEntry.{directory-at}
-use Rattle.imagemake.proofs.MadeFiles.{IsBegun-more, adds-more}
+use Rattle.imagemake.proofs.MadeFiles.{IsBegun-more}
 use Rattle.imagemake.proofs.MadeSearch.{IsListed-more}
-use Rattle.imagemake.proofs.Spotting.{spot-good, spot-room}
+use Rattle.imagemake.proofs.Spotting.{last-good, spot-reaches, spot-room}
 
 -- ---- how many there are
 
 few-links : (files : Files) (d links : ℕ) (places : List (Option Entry)) → KeepsRules files → length files ≤ 8192 → slot files d ≡ Some (Directory links places) → links < 65535
 few-links files d links places rules most at =
     let kept : KeepsNode files d (Some (Directory links places)) = subst (KeepsNode files d) at (rules.nodes d) in
-    let counted = kept.counted in
-    let few = few-directories files d rules in
-    omega arith
+    omega (arith, kept.counted, few-directories rules d)
 
 module _ {t : FileTree} {made : List MadeName} (whole : IsWhole t) (is : IsMade t made) where
   pub made-inodes : length made + 2 ≤ length t.files
@@ -41,7 +37,7 @@ module _ {t : FileTree} {made : List MadeName} (whole : IsWhole t) (is : IsMade 
           directory = above.2;
           few = few-links t.files d above.0 above.1 is.begun.rules whole.most above.2;
           packed = subst PackedAt above.2 (is.begun.packed d);
-          named = spot-good made path d name spot;
+          named = last-good (spot-reaches spot);
           number = record { low = omega arith; high = room; unused = is.begun.free (length made + 2) (omega arith) };
         }
 
@@ -61,7 +57,7 @@ module _ {t : FileTree} {made : List MadeName} (whole : IsWhole t) (is : IsMade 
         passed : with_manifest_entry t.block_limit (length t.files) t.files (length made + 2) entry ≡ if_room t.block_limit d (length made + 2) (added t.files d name (length made + 2) thing)
         passed =
             ap (λ p. with_manifest_entry t.block_limit (length t.files) t.files (length made + 2) (record { path = p; thing = thing })) (sym given_is)
-            ∙ spot-room made path d name spot t.block_limit (length t.files) t.files (length made + 2) thing is.listed room
+            ∙ spot-room spot t.block_limit (length t.files) t.files (length made + 2) thing is.listed room
 
         pub AddsEntry-stored : r ≡ Ok tt → {folder : Bool} {now : List MadeName} → now ≡ made ++ made_name d name folder ∷ [] → folder ≡ is_directory (node_for (length made + 2) d thing) → AddsEntry t new made now entry
         AddsEntry-stored done {folder} {now} pushed is_folder =
@@ -72,20 +68,17 @@ module _ {t : FileTree} {made : List MadeName} (whole : IsWhole t) (is : IsMade 
             let becomes : HasFiles t new more = kept.stored.0 in
             let files : new.files ≡ more = ap (λ (t : FileTree). t.files) becomes in
             let next : n + 1 ≡ length (made ++ one ∷ []) + 2 = omega (arith, length_push made one) in
-            let begun = IsBegun-more is.begun d name thing can-add (is.listed.names d name (spot-good made path d name spot) ∙ spot.absent) kept.stored.1 in
-            let long : length new.files ≡ length t.files = ap length files ∙ begun.count in
+            let begun = IsBegun-more is.begun thing can-add (is.listed.names d name (last-good (spot-reaches spot)) ∙ spot.absent) kept.stored.1 in
             record {
               is = passed ∙ kept.stored.1 ∙ ap Ok (sym files);
               rest = becomes ∙ ap (λ (fs : Files). record t { files = fs; failures = new.failures }) (sym files);
-              long = long;
+              long = ap length files ∙ begun.count;
               longer = ap length pushed ∙ length_push made one;
-              made_more = subst (IsMade new) (sym pushed) (record {
-                up = ap (λ (t : FileTree). t.failed) becomes ∙ is.up;
-                begun = subst (λ limit. IsBegun limit (length new.files) new.files (length (made ++ one ∷ []) + 2)) (sym (ap (λ (t : FileTree). t.block_limit) becomes))
-                    (subst (λ inodes. IsBegun t.block_limit inodes new.files (length (made ++ one ∷ []) + 2)) (sym long)
-                    (subst (λ (fs : Files). IsBegun t.block_limit (length t.files) fs (length (made ++ one ∷ []) + 2)) (sym files) (subst (IsBegun t.block_limit (length t.files) more) next begun)));
-                listed = subst (λ (fs : Files). IsListed fs (made ++ one ∷ [])) (sym files) (IsListed-more (adds-more is.begun d name thing can-add) is.begun.rules made one refl is.listed refl refl is_folder);
-              });
+              made_more = subst (IsMade new) (sym pushed) (subst (λ (x : FileTree). IsMade x (made ++ one ∷ [])) (sym becomes) (record {
+                up = is.up;
+                begun = subst (λ c. IsBegun t.block_limit c more (length (made ++ one ∷ []) + 2)) (sym begun.count) (subst (IsBegun t.block_limit (length t.files) more) next begun);
+                listed = IsListed-more is.begun.rules thing can-add made refl is.listed is_folder;
+              }));
             }
 
         pub refused-stored : (fault : StoreFault) → r ≡ Err fault → Refuses (with_manifest_entry t.block_limit (length t.files) t.files (length made + 2) entry) (make_fault fault)

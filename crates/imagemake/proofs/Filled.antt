@@ -1,8 +1,7 @@
 -- A file without bytes gets some, where there is room for all of them.
-use Rattle.imagemake.proofs.Common.{◌≡◌, ℕ, ◌+◌, ◌<◌, ◌≤◌, ◌∙◌, ◌++◌, Bool, List, [], None, Option, Some, ap, arith, false, inl, inr, length, refl, suc, sym, take, true, zero, nat_le, ◌&&◌, and_from}
-use Rattle.imagemake.proofs.Common.{and_right, cases_lt, cond-false, cond-true, le-leb, leb-false, lt-leb, append-nil, drop_all, take_all, none-some, same_Some, Files, longest, put, slot, File}
+use Rattle.imagemake.proofs.Common.{cond, ◌≡◌, ℕ, ◌+◌, ◌<◌, ◌≤◌, ◌∙◌, ◌++◌, Bool, List, [], None, Option, Some, ap, arith, false, inl, inr, length, refl, suc, sym, take, true, zero, nat_le, cases_lt, le-leb, leb-false, lt-leb, append-nil}
+use Rattle.imagemake.proofs.Common.{drop_all, take_all, none-some, same_Some, Files, longest, put, slot, File, blocks_of}
 use Rattle.tree.specs.Written.{Written, count_of, files_after, fitting, with_bytes, write_to, written}
-use Rattle.unixmodel.specs.Counts.{blocks_of}
 use Rattle.unixmodel.specs.FileCalls.{greatest, with_file}
 use Rattle.unixmodel.specs.Memory.{overwrite}
 
@@ -27,17 +26,15 @@ module _ (limit : ℕ) (files : Files) (n : ℕ) (bytes : List ℕ) (here : slot
   abbrev w : Option Written
   w = written limit files n 0 bytes
 
-  short : length bytes ≤ longest → w ≡ Some all
+  w-is : w ≡ cond (nat_le (0 + length bytes) longest) (Some all) None
   unfolding written
-  short h =
-      ap (write_to limit files n 0 bytes) here
-      ∙ cond-true (nat_le 0 (length {A = ℕ} []) && nat_le (0 + length bytes) longest) (Some all) None (and_from (nat_le 0 (length {A = ℕ} [])) (nat_le (0 + length bytes) longest) refl (le-leb (0 + length bytes) longest (omega arith)))
+  w-is = ap (write_to limit files n 0 bytes) here
+
+  short : length bytes ≤ longest → w ≡ Some all
+  short h = w-is ∙ rw (le-leb (0 + length bytes) longest (omega arith)) refl
 
   long : longest < length bytes → w ≡ None
-  unfolding written
-  long h =
-      ap (write_to limit files n 0 bytes) here
-      ∙ cond-false (nat_le 0 (length {A = ℕ} []) && nat_le (0 + length bytes) longest) (Some all) None (and_right (nat_le 0 (length {A = ℕ} [])) (nat_le (0 + length bytes) longest) (lt-leb (0 + length bytes) longest (omega arith)))
+  long h = w-is ∙ rw (lt-leb (0 + length bytes) longest (omega arith)) refl
 
   pub fill-long : None ≡ count_of w → longest < length bytes
   fill-long told = elim (cases_lt longest (length bytes)) [ inl l ↦ l | inr m ↦ absurd (none-some fit (told ∙ ap count_of (short m))) ]

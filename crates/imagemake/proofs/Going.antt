@@ -1,6 +1,6 @@
 -- The entries of a manifest, one after the other.
-use Rattle.imagemake.proofs.Common.{◌≡◌, ℕ, ◌+◌, ◌<◌, ◌≤◌, List, [], Result, length, get_or, drop, ap, sym, refl, ◌∙◌, arith, subst, false, drop_all, drop_more, FileTree, Files, ManifestEntry, Wrong, and_then}
-use Rattle.imagemake.proofs.Common.{bare_files, with_entries, with_manifest_entry, AddsEntry, IsGoing, MakesEntries, made_by, IsBegun, IsListed, MadeName, Refuses, entry_of, meaning, MakeFault, NoMemory}
+use Rattle.imagemake.proofs.Common.{◌≡◌, ℕ, ◌+◌, ◌<◌, ◌≤◌, List, [], Result, length, get_or, drop, ap, sym, refl, ◌∙◌, arith, subst, false, drop_all, drop_more, FileTree, Files, ManifestEntry, Wrong, and_then, bare_files, with_entries}
+use Rattle.imagemake.proofs.Common.{with_manifest_entry, AddsEntry, IsGoing, MakesEntries, made_by, IsBegun, IsListed, MadeName, Refuses, entry_of, meaning, MakeFault, NoMemory}
 use Rattle.imagemake.specs.declared.manifest.Entry.{Entry}
 use Rattle.imagemake.proofs.MadeBare.{IsBegun-bare}
 use Rattle.imagemake.proofs.MadeSearch.{IsListed-bare}

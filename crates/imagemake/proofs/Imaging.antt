@@ -1,14 +1,12 @@
 -- From a blank disk to the bytes of an image that denotes files.
-use Rattle.imagemake.proofs.Common.{◌≡◌, ℕ, ◌+◌, ◌*◌, ◌&&◌, true, false, cond, List, None, Ok, Err, Option, Result, get_or, length, nat_le, nat_lt, ap, sym, refl, ◌∙◌, arith, inl, inr, subst}
-use Rattle.imagemake.proofs.Common.{replicate, OnOk, IsErrAnd, and_parts, cases_lt, false≢true, nat_tests, get_or-replicate, get_or_past, length-replicate, Geometry, RawNode, FitsPlaces, IsFileSystem}
-use Rattle.imagemake.proofs.Common.{IsStored, FileTree, tree_with, IsNow, now-limit, files-are, held-again, Files, free_slots, format, Denotes, data_start, ManifestEntry, Wrong, bare_files}
-use Rattle.imagemake.proofs.Common.{data_blocks_of, files_made, has_numbers, with_entries, Numbers, IsBlank, IsPossible, MakesEntries, made_by, image_of, MakesImage, Refuses, MakeFault, NoMemory}
-use Rattle.std.specs.Prelude.{IfErr, IfOk, IsOk}
+use Rattle.imagemake.proofs.Common.{◌≡◌, ℕ, ◌+◌, ◌*◌, ◌&&◌, true, false, cond, List, None, Ok, Err, Option, Result, get_or, length, nat_le, nat_lt, ap, sym, refl, ◌∙◌, arith, inl, inr, subst, replicate, OnOk, IsErrAnd, and_parts, cases_lt}
+use Rattle.imagemake.proofs.Common.{false≢true, nat_tests, get_or-replicate, get_or_past, length-replicate, Geometry, RawNode, FitsPlaces, IsFileSystem, IsStored, FileTree, tree_with, IsNow, now-limit, files-are, held-again, Files}
+use Rattle.imagemake.proofs.Common.{free_slots, format, Denotes, data_start, ManifestEntry, Wrong, bare_files, data_blocks_of, files_made, has_numbers, with_entries, Numbers, IsBlank, IsPossible, MakesEntries, made_by, image_of, MakesImage}
+use Rattle.imagemake.proofs.Common.{Refuses, MakeFault, NoMemory, IfErr, IfOk, IsOk, blocks_of}
 use Rattle.balloc.specs.Format.{IsNew}
 use Rattle.cache.specs.Disk.{Disk}
 use Rattle.inode.specs.Store.{IsWhole, Store, store_over}
 use Rattle.tree.specs.Stored.{Stores}
-use Rattle.unixmodel.specs.Counts.{blocks_of}
 use Rattle.imagemake.proofs.Denoted.{Denotes-stored, length-stored}
 use Rattle.imagemake.proofs.MadeBare.{length-free, no-files, slot-free}
 use Rattle.imagemake.proofs.Owned.{told_err}
@@ -92,14 +90,11 @@ module _ (entries : List ManifestEntry) (size inodes : ℕ) where
   unfolding files_made
   refused-numbers h = ap (λ b. cond b (with_entries (data_blocks_of size inodes) inodes (bare_files inodes) 2 entries) (Err Numbers)) h
 
-  made-with : has_numbers size inodes ≡ true → files_made entries size inodes ≡ with_entries (data_blocks_of size inodes) inodes (bare_files inodes) 2 entries
-  unfolding files_made
-  made-with h = ap (λ b. cond b (with_entries (data_blocks_of size inodes) inodes (bare_files inodes) 2 entries) (Err Numbers)) h
-
   -- by a tree that is blank
   module _ (h : has_numbers size inodes ≡ true) {t : FileTree} (bare : IsBareTree (record { size = size; inodes = inodes }) t) where
     made-is : files_made entries size inodes ≡ made_by t entries
-    made-is = made-with h ∙ (λ i. with_entries (sym bare.limit i) (sym bare.long i) (bare_files (sym bare.long i)) 2 entries)
+    unfolding files_made
+    made-is = λ i. cond (h i) (with_entries (sym bare.limit i) (sym bare.long i) (bare_files (sym bare.long i)) 2 entries) (Err Numbers)
 
     pub refused-entries : (fault : MakeFault) → Refuses (made_by t entries) fault → Refuses (files_made entries size inodes) fault
     refused-entries fault told = subst (λ r. Refuses r fault) (sym made-is) told

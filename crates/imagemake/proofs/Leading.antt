@@ -1,18 +1,8 @@
 -- Paths that lead to directories that are made.
-use Rattle.imagemake.proofs.Common.{◌≡◌, ℕ, ◌+◌, ◌<◌, ◌≤◌, Bool, List, [], ◌∷◌, ◌++◌, None, Option, Some, length, get_or, take, drop, ap, sym, refl, ◌∙◌, ap₂, arith, cond, false, true, zero}
-use Rattle.imagemake.proofs.Common.{suc, is_some, option_map, position, ◌==◌, ◌&&◌, list_all, option_or, and_parts, cond-false, eqb-true, false≢true, drop_more, length-append, length-take-le}
-use Rattle.imagemake.proofs.Common.{take-append-drop, take_at, position-Some, none-some, onto_first, pieces, is_name, names_in, Extends, LeadsTo, MadeName, found, reach, stands_at}
-use Rattle.std.proofs.lemmas.List.{append_assoc}
-use Rattle.imagemake.proofs.MadeSearch.{position-push}
+use Rattle.imagemake.proofs.Common.{◌≡◌, ℕ, ◌+◌, ◌<◌, ◌≤◌, List, [], ◌∷◌, ◌++◌, None, Some, length, get_or, take, drop, ap, sym, refl, ◌∙◌, ap₂, arith, cond, false, true, zero, suc, position, ◌==◌, option_or, cond-false, eqb-true}
+use Rattle.imagemake.proofs.Common.{drop_more, length-append, length-take-le, take-append-drop, take_at, position-Some, onto_first, pieces, LeadsTo, MadeName, found, reach, stands_at, append_assoc}
+use Rattle.imagemake.proofs.MadeSearch.{found-push}
 use Rattle.imagemake.proofs.Pathing.{reach_found}
-
--- a path begins with a slash
-pub path-slash : (path : List ℕ) → is_some (names_in path) ≡ true → path ≡ 0x2f ∷ drop 1 path
-path-slash [] h = absurd (false≢true h)
-path-slash (b ∷ rest) h = go (b == 0x2f && list_all is_name (pieces rest)) refl h where
-  go : (t : Bool) → (b == 0x2f && list_all is_name (pieces rest)) ≡ t → is_some (cond t (Some (pieces rest)) None) ≡ true → b ∷ rest ≡ 0x2f ∷ rest
-  go true e h = ap (λ c. c ∷ rest) (eqb-true b 0x2f (and_parts (b == 0x2f) (list_all is_name (pieces rest)) e).0)
-  go false e h = absurd (false≢true h)
 
 -- ---- a name before a slash
 
@@ -58,12 +48,5 @@ module _ (path above rest : List ℕ) (i : ℕ) (joined : path ≡ above ++ 0x2f
 pub reach-below : {made : List MadeName} {above : List ℕ} {d : ℕ} → LeadsTo made above d → (path rest : List ℕ) → path ≡ above ++ 0x2f ∷ rest → reach made 1 (pieces (drop 1 path)) ≡ reach made d (pieces rest)
 reach-below {made} leads path rest joined = ap (λ t. reach made 1 (pieces (drop 1 t))) joined ∙ leads.below made (λ _ _ _ told. told) rest
 
-found-push : (made : List MadeName) (x : MadeName) → Extends made (made ++ x ∷ [])
-unfolding found
-found-push made x d w n told = ap (option_map (λ k. k + 2)) (position-push (stands_at d w) made x) ∙ go (position (stands_at d w) made) _ told where
-  go : (o e : Option ℕ) → option_map (λ k. k + 2) o ≡ Some n → option_map (λ k. k + 2) (option_or o e) ≡ Some n
-  go None e h = absurd (none-some n h)
-  go (Some k) e h = h
-
 pub leads-push : {made : List MadeName} {above : List ℕ} {d : ℕ} → LeadsTo made above d → (x : MadeName) → LeadsTo (made ++ x ∷ []) above d
-leads-push {made} leads x = record { below = λ more kept bs. leads.below more (λ d w n told. kept d w n (found-push made x d w n told)) bs }
+leads-push {made} leads x = record { below = λ more kept bs. leads.below more (λ d w n told. kept d w n (found-push made x d w ∙ ap (λ o. option_or o (cond (stands_at d w x) (Some (length made + 2)) None)) told)) bs }

@@ -1,7 +1,7 @@
 -- The blocks that the image of a disk names and those of its bitmap, where its inodes in use can be read.
-use Rattle.imagemake.proofs.Common.{◌≡◌, ◌≢◌, ℕ, ◌+◌, ◌-◌, ◌*◌, ◌/◌, ◌%◌, ◌^◌, ◌<◌, ◌≤◌, List, length, get_or, ap, sym, ◌∙◌, arith, subst, true, All, nat_eq, nat_lt, ◌==◌, ◌||◌, ◌⊎◌, Decides, refl, list_any}
-use Rattle.imagemake.proofs.Common.{Decides-eqb, Decides-ltb, Decides-or, Any-from_list_any, IsInode, IsUsed, bit_in, slot_of, HasParts, IsNamed, bitmap_start_of, data_start_of, Geometry, bit_of, bitmap_start}
-use Rattle.imagemake.proofs.Common.{data_start, inodes_in, is_named, kind_in, named_blocks, named_by, size_in, image_of, blocks_of-used, named_before-all, byte-located, kind-located, All-numbers}
+use Rattle.imagemake.proofs.Common.{◌≡◌, ◌≢◌, ℕ, ◌+◌, ◌-◌, ◌*◌, ◌/◌, ◌%◌, ◌^◌, ◌<◌, ◌≤◌, List, length, get_or, ap, sym, ◌∙◌, arith, subst, true, All, nat_eq, nat_lt, ◌==◌, ◌||◌, ◌⊎◌, Decides, refl, list_any, Decides-eqb, Decides-ltb}
+use Rattle.imagemake.proofs.Common.{Decides-or, Any-from_list_any, IsInode, IsUsed, bit_in, slot_of, HasParts, IsNamed, bitmap_start_of, data_start_of, Geometry, bit_of, bitmap_start, data_start, inodes_in, is_named, kind_in, named_blocks}
+use Rattle.imagemake.proofs.Common.{named_by, size_in, image_of, blocks_of-used, named_before-all, byte-located, kind-located, All-numbers}
 use Rattle.blockdev.specs.Blocks as device
 use Rattle.layout.specs.Image as disk
 use Rattle.imagerules.specs.Marks.{blocks_of}

@@ -1,11 +1,9 @@
 -- The files of an image with a root alone keep the rules.
-use Rattle.imagemake.proofs.Common.{◌≡◌, ◌≢◌, ℕ, zero, suc, ◌+◌, ◌-◌, ◌<◌, ◌≤◌, false, true, List, [], ◌∷◌, ◌++◌, length, None, Option, Some, inl, inr, map, ap, sym, refl, ◌∙◌, arith, subst, IsSome, IsTrue}
-use Rattle.imagemake.proofs.Common.{count_by, flat_map, is_some, option_map, sum_by, unwrap_or, ◌==◌, range_with_len, cases_lt, false≢true, get_or-replicate, get_or-set_other, get_or-set_same, get_or_past}
-use Rattle.imagemake.proofs.Common.{length-replicate, length-set, All-nil, at_or, Node, blocks_for, dot, dot_dot, find, free_slots, is_directory, parts, size_of, slot, taken, KeepsNode, KeepsRules}
-use Rattle.imagemake.proofs.Common.{KeepsSize, all_entries, entries_of, is_name, names_of, parent_of, subdirectories, bare_directory, bare_files, node_for, Bytes, Folder, Special, PackedAt, IsBegun}
-use Rattle.unixmodel.specs.Counts.{blocks_of}
-use Rattle.unixmodel.specs.Files.{Entry}
-use Rattle.unixmodel.specs.Manifest.{Thing}
+use Rattle.imagemake.proofs.ToRules.{KeepsRules-live}
+use Rattle.imagemake.proofs.Common.{names_by-le, links_of, none-some, same_Some, ◌≡◌, ◌≢◌, ℕ, zero, suc, ◌-◌, ◌<◌, ◌≤◌, true, List, [], ◌∷◌, ◌++◌, length, None, Option, Some, inl, inr, map, ap, sym, refl, ◌∙◌, arith, subst, count_by}
+use Rattle.imagemake.proofs.Common.{flat_map, is_some, sum_by, ◌==◌, range_with_len, cases_lt, get_or-replicate, get_or-set_other, get_or-set_same, get_or_past, length-replicate, length-set, at_or, Node, blocks_for, dot, dot_dot}
+use Rattle.imagemake.proofs.Common.{free_slots, size_of, slot, taken, KeepsRules, KeepsSize, all_entries, entries_of, names_of, bare_directory, bare_files, node_for, Bytes, Folder, Special, PackedAt, IsBegun, blocks_of, Entry, Thing}
+use Rattle.imagemake.proofs.Common.{KeepsLive, KeepsTree, folders, names_for}
 
 pub length-free : (n : ℕ) → length (free_slots {X = Node} n) ≡ n
 unfolding free_slots
@@ -64,9 +62,6 @@ module _ (inodes : ℕ) (some : 2 ≤ inodes) where
   bare-each P root none m =
       at_or (λ k. P k (slot (bare_files inodes) k)) 1 m (subst (P 1) (sym slot-root) root) (λ s. subst (P m) (sym (slot-bare m s)) (none m s))
 
-  bare-used : (m : ℕ) → IsSome (slot (bare_files inodes) m) → m ≡ 1
-  bare-used = bare-each (λ m o. IsSome o → m ≡ 1) (λ h. refl) (λ m s h. absurd (false≢true h))
-
   bare-entries : (m : ℕ) → entries_of (slot (bare_files inodes) m) ≡ []
   bare-entries = bare-each (λ m o. entries_of o ≡ []) refl (λ m s. refl)
 
@@ -76,37 +71,25 @@ module _ (inodes : ℕ) (some : 2 ≤ inodes) where
       flat_map-none (λ d. map (λ (e : Entry). (d, e)) (entries_of (slot (bare_files inodes) d)))
       (λ d. ap (map (λ (e : Entry). (d, e))) (bare-entries d)) (range_with_len 0 (length (bare_files inodes)))
 
-  bare-named : names_of (bare_files inodes) 1 ≡ 0
+  nothing-named : (m : ℕ) → names_of (bare_files inodes) m ≡ 0
   unfolding names_of
-  bare-named = ap (count_by (λ (e : ℕ × Entry). e.1.number == 1)) no_entries
+  nothing-named m = ap (count_by (λ (e : ℕ × Entry). e.1.number == m)) no_entries
 
-  bare-subdirectories : subdirectories (bare_files inodes) 1 ≡ 0
-  unfolding subdirectories
-  bare-subdirectories = ap (count_by _) (bare-entries 1)
-
-  bare-node : (m : ℕ) → KeepsNode (bare_files inodes) m (slot (bare_files inodes) m)
-  unfolding parent_of
-  bare-node = bare-each (KeepsNode (bare_files inodes)) (record {
-    own = refl;
-    parent = refl;
-    names = All-nil (λ (x : Entry). IsTrue (is_name x.name));
-    once = λ i j x l u. absurd (omega arith);
-    numbers = All-nil (λ (x : Entry). IsSome (slot (bare_files inodes) x.number));
-    named = bare-named;
-    counted = ap (λ c. 1 + c) (sym bare-subdirectories);
-  }) (λ m s. tt)
-
-  bare-size : (m : ℕ) → KeepsSize (slot (bare_files inodes) m)
-  bare-size = bare-each (λ m o. KeepsSize o) (omega arith) (λ m s. tt)
+  KeepsTree-bare : KeepsTree (bare_files inodes)
+  unfolding folders
+  KeepsTree-bare = record {
+    root = record { links = 0; places = _; here = slot-root };
+    sizes = bare-each (λ m o. KeepsSize o) (omega arith) (λ m s. tt);
+    named = bare-each (λ m o. names_of (bare_files inodes) m ≡ names_for m o) (nothing-named 1) (λ m s. nothing-named m);
+    nodes = bare-each (KeepsLive (bare_files inodes))
+        (record { own = refl; up = 1; parent = refl; above = record { root = λ e. refl; names = λ s. absurd (s refl) }; good = refl; once = λ name. omega arith; counted = refl }) (λ m s. tt);
+    depth = λ m. 0;
+    ranked = λ d n h directory. absurd (omega (arith, h, names_by-le (bare_files inodes) d n, nothing-named n));
+  }
 
   pub KeepsRules-bare : KeepsRules (bare_files inodes)
-  unfolding find parts
-  KeepsRules-bare = record {
-    root = ap (λ o. unwrap_or (option_map is_directory o) false) slot-root;
-    sizes = bare-size;
-    nodes = bare-node;
-    reached = λ m h. ([], ap Some (sym (bare-used m h)));
-  }
+  KeepsRules-bare = KeepsRules-live KeepsTree-bare (bare-each (λ m o. (node : Node) → o ≡ Some node → 1 ≤ links_of node)
+      (λ node e. subst (λ x. 1 ≤ links_of x) (same_Some (bare_directory 1 1) node e) (omega arith)) (λ m s node e. absurd (none-some node e)))
 
   room_bare : blocks_of (bare_files inodes) ≡ 1
   room_bare =

@@ -1,92 +1,86 @@
--- Files with an entry more keep the rules.
-use Rattle.imagemake.proofs.Common.{◌≡◌, ◌≢◌, ℕ, zero, suc, ◌+◌, ◌≤◌, true, List, [], ◌∷◌, ◌++◌, length, None, Option, Some, drop, ap, sym, refl, ◌∙◌, arith, subst, All, AllPairs}
-use Rattle.imagemake.proofs.Common.{IsSome, IsTrue, is_some, ◌==◌, cond-false, get_or_append_left, All-nil, All-push, All-tail, All-weaker, all_pairs_push, Files, Node, dot_dot}
-use Rattle.imagemake.proofs.Common.{lookup, slot, taken, KeepsNode, KeepsRules, KeepsSize, is_name, names_of, parent_of, subdirectories, node_for, Bytes, Folder, Special}
-use Rattle.std.proofs.lemmas.Bool.{ne_eqb}
-use Rattle.unixmodel.specs.Files.{Entry}
-use Rattle.unixmodel.specs.Files.Node.{Directory}
-use Rattle.unixmodel.specs.Manifest.{Thing}
-use Rattle.imagemake.proofs.MadeEntry.{Adds, each-more, entry_for, links_with, places-above, used-kept}
-use Rattle.imagemake.proofs.MadeLookup.{first-none}
-use Rattle.imagemake.proofs.MadeNames.{directory-above, directory-same, links-above, names-new, names-other, parent-new, parent-other, subdirectories-new, subdirectories-other, two-places}
-use Rattle.imagemake.proofs.MadeReached.{first-absent, reached-more}
+-- Files with an entry more keep the rules of files at rest: a call on names makes them, which keeps those of a running machine.
+use Rattle.imagemake.proofs.Common.{◌≡◌, ℕ, suc, ◌+◌, ◌*◌, ◌<◌, ◌≤◌, List, length, None, Some, ap, sym, refl, ◌∙◌, arith, subst, inl, inr, cases_eq, length_push, set-set, length-set, get_or-set_other, get_or-set_same, IsSome, Files, Node}
+use Rattle.imagemake.proofs.Common.{links_of, longest, lookup, slot, slot-within, put, KeepsNode, KeepsRules, KeepsSize, subdirectories, added, node_for, Folder, CanAdd, HasDirectory, Directory, Thing, IsDirectory, HasLinked, more_links}
+use Rattle.imagemake.proofs.Common.{new_directory, Spot, most_places, change-is, entered-is}
+use Rattle.unixmodel.specs.Files.{enter, free_number}
+use Rattle.unixmodel.specs.NameCalls.{Made, make_at}
+use Rattle.names.specs.Changes.{Changed}
+use Rattle.names.proofs.Finding.{IsGap}
+use Rattle.names.proofs.Making.{makes-directory, makes-file}
+use Rattle.tree.proofs.Bridging.{number-lowest}
+use Rattle.tree.proofs.Rooms.{enter-room, none-not}
+use Rattle.imagemake.proofs.FromRules.{KeepsTree-rules, linked-rules}
+use Rattle.imagemake.proofs.ToRules.{KeepsRules-live}
+use Rattle.imagemake.proofs.MadeEntry.{above, added-is, apart, entry, here, places_more}
+use Rattle.imagemake.proofs.Named.{placed-end, room-end-at}
 
--- ---- the new node
+-- where each node has a link, it has one still
+linked-still : {files more : Files} → HasLinked files → Changed files more → HasLinked more
+linked-still linked changed m x at = elim (cases_eq (links_of x) 0) [
+  | inl none ↦ let was = changed.idle m x at none in let some = linked m was.was was.here in absurd (omega (arith, was.none))
+  | inr s ↦ omega arith
+]
 
-node_new : (more : Files) (n d : ℕ) (thing : Thing) → n ≢ 1 → names_of more n ≡ 1 → parent_of more n ≡ d → subdirectories more n ≡ 0 → KeepsNode more n (Some (node_for n d thing))
-node_new more n d Folder s named parent none = record {
-  own = refl;
-  parent = ap (λ (p : ℕ). Some (record { name = dot_dot; number = p })) (sym parent);
-  names = All-nil (λ (e : Entry). IsTrue (is_name e.name));
-  once = λ i j e l m. absurd (omega arith);
-  numbers = All-nil (λ (e : Entry). IsSome (slot more e.number));
-  named = named ∙ sym (cond-false (n == 1) 0 1 (ne_eqb n 1 s));
-  counted = omega arith;
-}
-node_new more n d (Bytes bytes) s named parent none = record { counted = sym named; least = omega arith; most = omega arith }
-node_new more n d (Special major minor) s named parent none = record { counted = sym named; least = omega arith; most = omega arith }
+module _ {files : Files} (rules : KeepsRules files) {d : ℕ} {name : List ℕ} {n : ℕ} (can : CanAdd files d name n) where
+  pub directory-kept : IsDirectory files d can.links can.places
+  directory-kept = subst (KeepsNode files d) can.directory (rules.nodes d)
 
-All-taken : (P : Entry → Type 0) (k : ℕ) (os : List (Option Entry)) → All P (taken os) → All P (taken (drop k os))
-All-taken P zero os h = h
-All-taken P (suc k) [] h = h
-All-taken P (suc k) (None ∷ os) h = All-taken P k os h
-All-taken P (suc k) (Some e ∷ os) h = All-taken P k os (All-tail P e (taken os) h)
+  abbrev links : ℕ
+  links = subdirectories files d
 
-module _ {files more : Files} {d links : ℕ} {places : List (Option Entry)} {name : List ℕ} {n : ℕ} {thing : Thing} (a : Adds files more d links places name n thing) (rules : KeepsRules files) where
-  -- ---- a node that stays
+  links-are : suc links ≡ can.links
+  links-are = omega (arith, directory-kept.counted)
 
-  parent_kept : (m : ℕ) (places : List (Option Entry)) → m ≢ n → slot places 1 ≡ Some (record { name = dot_dot; number = parent_of files m }) → slot places 1 ≡ Some (record { name = dot_dot; number = parent_of more m })
-  parent_kept m places s h = h ∙ ap (λ (p : ℕ). Some (record { name = dot_dot; number = p })) (sym (parent-other a rules m s))
+  before : slot files d ≡ Some (Directory (suc links) can.places)
+  before = can.directory ∙ ap (λ k. Some (Directory k can.places)) (sym links-are)
 
-  numbers_kept : (es : List Entry) → All (λ (e : Entry). IsSome (slot files e.number)) es → All (λ (e : Entry). IsSome (slot more e.number)) es
-  numbers_kept es h = All-weaker (λ (e : Entry). IsSome (slot files e.number)) (λ (e : Entry). IsSome (slot more e.number)) (λ e u. used-kept a e.number u) es h
+  abbrev at : Spot
+  at = record { directory = d; name = name }
 
-  node_other : (m : ℕ) (o : Option Node) → m ≢ n → m ≢ d → KeepsNode files m o → KeepsNode more m o
-  node_other m None s t k = tt
-  node_other m (Some (Directory links places)) s t k = record {
-    own = k.own;
-    parent = parent_kept m places s k.parent;
-    names = k.names;
-    once = k.once;
-    numbers = numbers_kept (taken (drop 2 places)) k.numbers;
-    named = names-other a rules m s ∙ k.named;
-    counted = k.counted ∙ ap (λ c. 1 + c) (sym (subdirectories-other a rules m t));
-  }
-  node_other m o s t k = record { counted = k.counted ∙ sym (names-other a rules m s); least = k.least; most = k.most }
+  module _ (used : (m : ℕ) → 1 ≤ m → m < n → IsSome (slot files m)) (absent : lookup files d name ≡ None) where
+    gap : IsGap files at
+    gap = record { links = links; places = can.places; here = before; name = can.named; absent = absent }
 
-  module _ (low : 2 ≤ n) (good : is_name name ≡ true) (absent : lookup files d name ≡ None) where
-    -- ---- the directory above
+    module _ (thing : Thing) (short : KeepsSize (slot (added files d name n thing) n)) (short_above : KeepsSize (slot (added files d name n thing) d)) where
+      abbrev node : Node
+      node = node_for n d thing
 
-    node_above : KeepsNode more d (Some (Directory (links_with thing links) (places ++ Some (entry_for name n) ∷ [])))
-    node_above =
-        let k = directory-above a rules in
-        let e = entry_for name n in
-        let old = taken (drop 2 places) in
-        let two : 2 ≤ length places = two-places a rules in
-        let same = sym (places-above a two) in
-        record {
-          own = get_or_append_left places (Some e ∷ []) None 0 (omega arith) ∙ k.own;
-          parent = parent_kept d (places ++ Some e ∷ []) a.other (get_or_append_left places (Some e ∷ []) None 1 (omega arith) ∙ k.parent);
-          names = subst (All (λ (x : Entry). IsTrue (is_name x.name))) same (All-push (λ (x : Entry). IsTrue (is_name x.name)) old e k.names good);
-          once = subst (AllPairs (λ (x y : Entry). x.name ≢ y.name)) same
-              (all_pairs_push (λ (x y : Entry). x.name ≢ y.name) old e k.once (λ i x l.
-              All-taken (λ (y : Entry). y.name ≢ name) 2 places (first-none name places (first-absent a rules absent)) i x l));
-          numbers = subst (All (λ (x : Entry). IsSome (slot more x.number))) same
-              (All-push (λ (x : Entry). IsSome (slot more x.number)) old e (numbers_kept old k.numbers) (ap is_some a.here));
-          named = names-other a rules d a.other ∙ k.named;
-          counted = links-above a rules;
-        }
+      -- with a name at its end
+      abbrev longer : ℕ → Files
+      longer k = put (put files n node) d (Directory k (places_more thing can))
 
-    node_at : (m : ℕ) → KeepsNode more m (slot more m)
-    node_at = each-more a (KeepsNode more)
-        (subst (KeepsNode more n) (sym a.here) (node_new more n d thing (λ s. absurd (omega arith)) (names-new a rules) (parent-new a rules (λ s. absurd (omega arith))) (subdirectories-new a rules)))
-        (subst (KeepsNode more d) (sym a.above) node_above) (λ m s t. node_other m (slot files m) s t (rules.nodes m))
+      few : length can.places < most_places
+      few = let size : 16 * length (places_more thing can) ≤ longest = subst KeepsSize (above thing can) short_above in omega (arith, length_push can.places (Some (entry thing can)))
 
-    module _ (short : KeepsSize (slot more n)) (short_above : KeepsSize (slot more d)) where
-      pub KeepsRules-more : KeepsRules more
-      KeepsRules-more = record {
-        root = directory-same a rules 1 (λ s. absurd (omega arith)) ∙ rules.root;
-        sizes = each-more a (λ m o. KeepsSize o) short short_above (λ m s t. rules.sizes m);
-        nodes = node_at;
-        reached = reached-more a rules good absent;
-      }
+      enters : enter (put files n node) at n ≡ Some (longer (suc links))
+      enters =
+          let held : HasDirectory files d = record { links = can.links; places = can.places; here = can.directory; few = can.few; packed = can.packed } in
+          let stays = get_or-set_other files n d (Some node) None (apart thing can) ∙ before in
+          enter-room (put files n node) at n links can.places stays (length can.places) (sym (room-end-at held refl few))
+          ∙ ap Some (entered-is (put files n node) d (suc links) can.places stays (length can.places) (entry thing can)) ∙ ap (λ ps. Some (put (put files n node) d (Directory (suc links) ps))) (placed-end can.places (entry thing can))
+
+      abbrev made : Made
+      made = record { files = longer (suc links); number = n }
+
+      -- its number is the lowest that is free
+      makes : (nodes : ℕ → Node) → nodes n ≡ node → make_at files at nodes ≡ Some made
+      unfolding make_at
+      makes nodes is =
+          let free : free_number files ≡ Some n = number-lowest files n can.number.low can.number.high (λ m l u. none-not (slot files m) (used m l u)) can.number.unused in
+          rw (free, is, enters) refl
+
+    changed : (thing : Thing) → KeepsSize (slot (added files d name n thing) n) → KeepsSize (slot (added files d name n thing) d) → Changed files (added files d name n thing)
+    changed Folder short short_above =
+        let was = Directory (suc links) (places_more Folder can) in
+        let one = put files n (node_for n d Folder) in
+        let within : d < length one = omega (arith, slot-within files d (Directory can.links can.places) can.directory, length-set files n (Some (node_for n d Folder))) in
+        subst (Changed files) (change-is (put one d was) d more_links was (get_or-set_same one d (Some was) None within) ∙ set-set one d (Some was) (Some (more_links was))
+        ∙ ap (λ k. put one d (Directory (k + 1) (places_more Folder can))) links-are ∙ sym (added-is Folder can))
+        (makes-directory (KeepsTree-rules rules) at gap (made Folder short short_above) (makes Folder short short_above (new_directory d) refl))
+    changed thing short short_above =
+        subst (Changed files) (ap (λ k. put (put files n (node_for n d thing)) d (Directory k (places_more thing can))) links-are ∙ sym (added-is thing can))
+        (makes-file (KeepsTree-rules rules) at gap (λ m. node_for m d thing) (λ m. record { kind = refl; links = refl; size = subst KeepsSize (here thing can) short }) (made thing short short_above)
+        (makes thing short short_above (λ m. node_for m d thing) refl))
+
+    pub KeepsRules-more : (thing : Thing) → KeepsSize (slot (added files d name n thing) n) → KeepsSize (slot (added files d name n thing) d) → KeepsRules (added files d name n thing)
+    KeepsRules-more thing short short_above = let now = changed thing short short_above in KeepsRules-live now.tree (linked-still (linked-rules rules) now)

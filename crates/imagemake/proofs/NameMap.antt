@@ -1,6 +1,6 @@
 -- Names that are made, as the entries of a map.
-use Rattle.imagemake.proofs.Common.{◌≡◌, ℕ, ◌+◌, ◌-◌, ◌≤◌, Bool, false, cond, not, List, [], ◌∷◌, ◌++◌, map, None, Option, Some, ap, ap₂, sym, refl, ◌∙◌, bytes_eq, nat_eq, nat_lt, option_map, position}
-use Rattle.imagemake.proofs.Common.{slice_get, unwrap_or, ◌&&◌, Bor, position_or_len, length-map, map-append, none-some, slice_get-map, MadeName, found, is_folder, made_name, name_of, stands_at}
+use Rattle.imagemake.proofs.Common.{◌≡◌, ℕ, ◌+◌, ◌-◌, ◌≤◌, Bool, false, cond, not, List, [], ◌∷◌, ◌++◌, map, None, Option, Some, ap, ap₂, sym, refl, ◌∙◌, bytes_eq, nat_eq, nat_lt, option_map, position, slice_get, unwrap_or, ◌&&◌, Bor}
+use Rattle.imagemake.proofs.Common.{position_or_len, length-map, map-append, none-some, slice_get-map, MadeName, found, is_folder, made_name, name_of, stands_at}
 use Rattle.std.specs.Cmp.{nat_eq_equiv}
 use Rattle.std.specs.Cmp.Lexicographic.{nat_list_eq_equiv}
 use Rattle.std.specs.Map.{keys_of}

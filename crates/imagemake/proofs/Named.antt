@@ -2,34 +2,29 @@
 use Rattle.imagemake.proofs.Common.{◌≡◌, ℕ, ◌+◌, ◌-◌, ◌<◌, ◌≤◌, ◌∙◌, ◌++◌, ◌∷◌, List, [], None, Option, Some, Result, Ok, ap, arith, inl, inr, length, refl, subst, sym, OnOk, false, is_some, nat_lt, IfOk-at_ok, cond-false, cond-true}
 use Rattle.imagemake.proofs.Common.{le-ltb, lt-ltb, cases_lt, false≢true, get_or-append_right, get_or_append_left, length_push, set-set, none-some, same_Some, entered, growth, placed, room_behind, room_in, FileTree, Looks, IsNow, now-files}
 use Rattle.imagemake.proofs.Common.{blocks_of-set, slot-within, Files, Node, blocks_for, change_node, links_of, most_places, put, size_of, slot, with_links, appended, linked, Folder, more_links, HasDirectory, IsPacked, LacksRoomFor}
+use Rattle.imagemake.proofs.Common.{change-is, blocks_of-entered, entered-is, room-end, blocks_of, Entry, Directory, Thing, ◌⊎◌}
 use Rattle.blockdev.specs.declared.DeviceFault.{DeviceFault}
-use Rattle.names.proofs.Finding.{change-is}
 use Rattle.tree.specs.Entering.{HasRoom}
 use Rattle.tree.proofs.Linking.{links-size}
-use Rattle.tree.proofs.Rooms.{blocks_of-entered, entered-is, room-end}
-use Rattle.unixmodel.specs.Counts.{blocks_of}
-use Rattle.unixmodel.specs.Files.{Entry}
-use Rattle.unixmodel.specs.Files.Node.{Directory}
-use Rattle.unixmodel.specs.Manifest.{Thing}
 use Rattle.imagemake.proofs.Putting.{slot-put}
 
 -- ---- the end is the next place
 
 module _ (places : List (Option Entry)) (packed : IsPacked places) where
-  pub room-packed : room_in places ≡ room_behind (length places)
+  room-packed : room_in places ≡ room_behind (length places)
   room-packed = room-end places (length places) (length places) refl (omega arith) packed
 
-  pub room-none : room_in places ≡ None → most_places ≤ length places
-  room-none none = elim (cases_lt (length places) most_places) [
-    | inl l ↦ absurd (none-some (length places) (sym none ∙ room-packed ∙ cond-true (nat_lt (length places) most_places) (Some (length places)) None (lt-ltb (length places) most_places l)))
-    | inr m ↦ m
+  room-is : ((length places < most_places) × (room_in places ≡ Some (length places))) ⊎ ((most_places ≤ length places) × (room_in places ≡ None))
+  room-is = elim (cases_lt (length places) most_places) [
+    | inl l ↦ inl (l, room-packed ∙ cond-true (nat_lt (length places) most_places) (Some (length places)) None (lt-ltb (length places) most_places l))
+    | inr m ↦ inr (m, room-packed ∙ cond-false (nat_lt (length places) most_places) (Some (length places)) None (le-ltb (length places) most_places m))
   ]
 
-  pub room-some : (k : ℕ) → room_in places ≡ Some k → k ≡ length places
-  room-some k some = elim (cases_lt (length places) most_places) [
-    | inl l ↦ same_Some k (length places) (sym some ∙ room-packed ∙ cond-true (nat_lt (length places) most_places) (Some (length places)) None (lt-ltb (length places) most_places l))
-    | inr m ↦ absurd (none-some k (sym (room-packed ∙ cond-false (nat_lt (length places) most_places) (Some (length places)) None (le-ltb (length places) most_places m)) ∙ some))
-  ]
+  room-none : room_in places ≡ None → most_places ≤ length places
+  room-none none = elim room-is [ inl e ↦ absurd (none-some (length places) (sym none ∙ e.1)) | inr e ↦ e.0 ]
+
+  room-some : (k : ℕ) → room_in places ≡ Some k → k ≡ length places
+  room-some k some = elim room-is [ inl e ↦ same_Some k (length places) (sym some ∙ e.1) | inr e ↦ absurd (none-some k (sym e.1 ∙ some)) ]
 
 pub packed-more : (places : List (Option Entry)) (e : Entry) → IsPacked places → IsPacked (places ++ Some e ∷ [])
 packed-more places e packed k high = elim (cases_lt k (length places)) [
@@ -96,11 +91,12 @@ room-at h room = record { links = h.links; places = h.places; here = h.here; roo
 
 -- ---- the last place
 
-pub room-full-at : {files : Files} {d : ℕ} (h : HasDirectory files d) → most_places ≤ length h.places → None ≡ room_in h.places
-room-full-at h full = sym (room-packed h.places h.packed ∙ cond-false (nat_lt (length h.places) most_places) (Some (length h.places)) None (le-ltb (length h.places) most_places full))
+module _ {files : Files} {d : ℕ} (h : HasDirectory files d) where
+  pub room-full-at : most_places ≤ length h.places → None ≡ room_in h.places
+  room-full-at full = elim (room-is h.places h.packed) [ inl e ↦ absurd (let l = e.0 in omega arith) | inr e ↦ sym e.1 ]
 
-pub room-end-at : {files : Files} {d : ℕ} (h : HasDirectory files d) {k : ℕ} → k ≡ length h.places → k < most_places → Some k ≡ room_in h.places
-room-end-at h is less = ap Some is ∙ sym (room-packed h.places h.packed ∙ cond-true (nat_lt (length h.places) most_places) (Some (length h.places)) None (lt-ltb (length h.places) most_places (omega arith)))
+  pub room-end-at : {k : ℕ} → k ≡ length h.places → k < most_places → Some k ≡ room_in h.places
+  room-end-at is less = elim (room-is h.places h.packed) [ inl e ↦ ap Some is ∙ sym e.1 | inr e ↦ absurd (let m = e.0 in omega arith) ]
 
 -- what follows a look
 pub looks-done : {old now : FileTree} {T U : Type 0} {Was : T → Type 0} {Told : U → Type 0} {r : Result T DeviceFault} {x : T} {y : U} → Looks old now r Was → r ≡ Ok x → Told y → Looks old now (Ok y) Told

@@ -1,9 +1,8 @@
 -- The pieces of a path, one after the other, and what they reach in the list of what is made.
-use Rattle.imagemake.proofs.Common.{◌≡◌, ℕ, ◌+◌, ◌-◌, ◌<◌, ◌≤◌, Bool, List, [], ◌∷◌, None, Option, Some, length, take, drop, ap, sym, refl, ◌∙◌, arith, cond, true, false, add-one}
-use Rattle.imagemake.proofs.Common.{nat_lt, option_and_then, option_map, position, slice_get, unwrap_or, ◌&&◌, ◌==◌, list_all, cond-false, cond-true, le-ltb, lt-ltb, drop-drop}
-use Rattle.imagemake.proofs.Common.{length-drop, take_rest, position-Some, onto_first, pieces, split_last, with_last, is_name, MadeName, found, is_folder, reach, seek}
+use Rattle.imagemake.proofs.Common.{◌≡◌, ℕ, ◌+◌, ◌-◌, ◌<◌, ◌≤◌, Bool, List, [], ◌∷◌, None, Option, Some, length, take, drop, ap, sym, refl, ◌∙◌, arith, cond, true, false, add-one, nat_lt, option_and_then, option_map, position, slice_get}
+use Rattle.imagemake.proofs.Common.{unwrap_or, ◌&&◌, ◌==◌, list_all, cond-false, cond-true, le-ltb, lt-ltb, drop-drop, length-drop, take_rest, position-Some, onto_first, pieces, split_last, with_last, is_name, MadeName, found, is_folder}
+use Rattle.imagemake.proofs.Common.{reach, seek, position-None}
 use Rattle.std.proofs.Math.Bool.{and-true}
-use Rattle.names.proofs.Finding.{position-None}
 use Rattle.tree.proofs.Parts.{pieces-split, pieces-whole}
 
 -- up to the first slash
@@ -43,11 +42,6 @@ good_last bs none = ap (list_all is_name) (pieces_last bs none) ∙ and-true (is
 
 -- ---- what all but the last name reach
 
-onto_some : (made : List MadeName) (d : ℕ) (w : List ℕ) (ws : List (List ℕ)) (o : Option (List (List ℕ) × List ℕ)) → split_last ws ≡ o → (s : List (List ℕ) × List ℕ) → o ≡ Some s
-    → reach made d (w ∷ ws) ≡ Some (option_and_then (λ next. seek made next s.0) (found made d w), s.1)
-unfolding reach
-onto_some made d w ws o e s f = ap (λ o. option_map (λ (split : List (List ℕ) × List ℕ). (seek made d split.0, split.1)) (Some (with_last w o))) (e ∙ f)
-
 pub reach_some : (made : List MadeName) (d : ℕ) (ws : List (List ℕ)) (s : List (List ℕ) × List ℕ) → split_last ws ≡ Some s → reach made d ws ≡ Some (seek made d s.0, s.1)
 unfolding reach
 reach_some made d ws s e = ap (option_map (λ (split : List (List ℕ) × List ℕ). (seek made d split.0, split.1))) e
@@ -64,20 +58,15 @@ split-pieces (b ∷ bs) = go (b == 0x2f) (pieces bs) (split-pieces bs) where
   go false ws h = onto b ws
 
 module _ (made : List MadeName) (d : ℕ) (w bs : List ℕ) where
+  reach_onto : reach made d (w ∷ pieces bs) ≡ (let s = split-pieces bs in Some (option_and_then (λ next. seek made next s.0.0) (found made d w), s.0.1))
+  unfolding reach
+  reach_onto = ap (λ o. option_map (λ (split : List (List ℕ) × List ℕ). (seek made d split.0, split.1)) (Some (with_last w o))) (split-pieces bs).1
+
   pub reach_found : (next : ℕ) → found made d w ≡ Some next → reach made d (w ∷ pieces bs) ≡ reach made next (pieces bs)
-  reach_found next e =
-      let s = split-pieces bs in
-      onto_some made d w (pieces bs) (Some s.0) s.1 s.0 refl
-      ∙ ap (λ o. Some (option_and_then (λ n. seek made n s.0.0) o, s.0.1)) e
-      ∙ sym (reach_some made next (pieces bs) s.0 s.1)
+  reach_found next e = reach_onto ∙ rw e (let s = split-pieces bs in sym (reach_some made next (pieces bs) s.0 s.1))
 
   pub reach_none : found made d w ≡ None → (last : List ℕ) × (reach made d (w ∷ pieces bs) ≡ Some (None, last))
-  reach_none e =
-      let s = split-pieces bs in (
-        s.0.1,
-        onto_some made d w (pieces bs) (Some s.0) s.1 s.0 refl
-            ∙ ap (λ o. Some (option_and_then (λ n. seek made n s.0.0) o, s.0.1)) e,
-      )
+  reach_none e = ((split-pieces bs).0.1, reach_onto ∙ rw e refl)
 
 pub reach_last : (made : List MadeName) (d : ℕ) (bs : List ℕ) → position (λ b. b == 0x2f) bs ≡ None → reach made d (pieces bs) ≡ Some (Some d, bs)
 unfolding reach

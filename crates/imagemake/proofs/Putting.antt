@@ -1,14 +1,11 @@
 -- Steps that put nodes, one after the other.
-use Rattle.imagemake.proofs.Common.{◌≡◌, ◌≢◌, ℕ, ◌+◌, ◌<◌, ◌≤◌, ◌∙◌, Err, [], None, Ok, Result, Some, length, ap, arith, inl, inr, refl, subst, sym, IsErrAnd, get_or-set_other}
-use Rattle.imagemake.proofs.Common.{get_or-set_same, set-set, fresh, FileTree, IsNow, now-files, now-limit, blocks_of-set, slot-within, taken_by, HasCause, Files, Node, free_slots}
-use Rattle.imagemake.proofs.Common.{kind_of, put, slot, bare_directory, bare_files, Bytes, Folder, Special, LacksRoomFor, Puts, TellsFull, bare, major_of, minor_of, StoreFault}
+use Rattle.imagemake.proofs.Common.{◌≡◌, ◌≢◌, ℕ, ◌+◌, ◌<◌, ◌≤◌, ◌∙◌, Err, [], None, Ok, Result, Some, length, ap, arith, inl, inr, refl, subst, sym, IsErrAnd, get_or-set_other, get_or-set_same, set-set, fresh, FileTree, IsNow, now-files}
+use Rattle.imagemake.proofs.Common.{now-limit, blocks_of-set, slot-within, taken_by, HasCause, Files, Node, free_slots, kind_of, put, slot, bare_directory, bare_files, Bytes, Folder, Special, LacksRoomFor, Puts, TellsFull, bare, major_of}
+use Rattle.imagemake.proofs.Common.{minor_of, StoreFault, blocks_of, Directory, Thing}
 use Rattle.std.specs.Result.{is_err}
 use Rattle.cache.proofs.Ending.{rises-before}
 use Rattle.tree.specs.Steps.{IsUnnamed}
 use Rattle.tree.proofs.Taking.{fresh-blocks}
-use Rattle.unixmodel.specs.Counts.{blocks_of}
-use Rattle.unixmodel.specs.Files.Node.{Directory}
-use Rattle.unixmodel.specs.Manifest.{Thing}
 use Rattle.imagemake.specs.declared.store.StoreFault.TheVariants.{Blocks, Device}
 use Rattle.imagemake.proofs.MadeBare.{no-files, slot-free}
 use Rattle.imagemake.proofs.Owned.{Owns-after, Owns-done, Owns-other, told_err}

@@ -1,110 +1,97 @@
 -- The spot of a path's last name, looked up in the list of what is made.
-use Rattle.imagemake.proofs.Common.{◌≡◌, ℕ, ◌<◌, ◌≤◌, Bool, true, false, cond, List, [], ◌∷◌, None, Option, Some, Err, drop, ap, sym, refl, ◌∙◌, is_some, ◌&&◌, ◌==◌, ◌++◌, list_all}
-use Rattle.imagemake.proofs.Common.{and_parts, false≢true, list_all-append, none-some, some_pair_parts, cond_some, same_Some, Files, follow, lookup, pieces, split_last, with_last}
-use Rattle.imagemake.proofs.Common.{is_directory_at, is_name, added, if_room, names_in, with_manifest_entry, Inodes, Parent, Twice, IsSpot, IsListed, MadeName, found, is_folder, reach, seek}
-use Rattle.unixmodel.specs.Manifest.{Thing}
+use Rattle.imagemake.proofs.Common.{◌≡◌, ℕ, ◌<◌, ◌≤◌, Bool, true, false, cond, List, [], ◌∷◌, None, Option, Some, Err, drop, ap, sym, refl, ◌∙◌, is_some, ◌&&◌, ◌==◌, ◌++◌, list_all, nat_le, and_parts, eqb-true, false≢true, le-leb, lt-leb}
+use Rattle.imagemake.proofs.Common.{list_all-append, none-some, some_pair_parts, same_Some, Files, pieces, split_last, with_last, is_name, added, if_room, names_in, with_manifest_entry, with_name, with_names, with_split, Inodes}
+use Rattle.imagemake.proofs.Common.{ManifestEntry, Name, Twice, IsSpot, IsListed, MadeName, found, is_folder, reach, seek, Thing}
 use Rattle.imagemake.proofs.MadeSearch.{follow-made}
-use Rattle.imagemake.proofs.MadeWrong.{entry-inodes, entry-nowhere, entry-parent, entry-room, entry-twice}
 use Rattle.imagemake.proofs.Pathing.{reach_some, split-pieces}
 
 -- ---- the names of a path
+
+-- a slash, and good names
+pub record IsPath (path : List ℕ) : Type 0 where
+  pub slash : path ≡ 0x2f ∷ drop 1 path
+  pub named : names_in path ≡ Some (pieces (drop 1 path))
+  pub good : list_all is_name (pieces (drop 1 path)) ≡ true
+
+pub path-is : (path : List ℕ) → is_some (names_in path) ≡ true → IsPath path
+path-is [] h = absurd (false≢true h)
+path-is (b ∷ rest) h = go (b == 0x2f && list_all is_name (pieces rest)) refl h where
+  go : (t : Bool) → (b == 0x2f && list_all is_name (pieces rest)) ≡ t → is_some (cond t (Some (pieces rest)) None) ≡ true → IsPath (b ∷ rest)
+  go true e h =
+      let both = and_parts (b == 0x2f) (list_all is_name (pieces rest)) e in
+      record { slash = ap (λ c. c ∷ rest) (eqb-true b 0x2f both.0); named = ap (λ t. cond t (Some (pieces rest)) None) e; good = both.1 }
+  go false e h = absurd (false≢true h)
+
+is-none : {X : Type 0} (o : Option X) → is_some o ≡ false → o ≡ None
+is-none None h = refl
+is-none (Some x) h = absurd (false≢true (sym h))
 
 split_names : (w : List ℕ) (ws : List (List ℕ)) → w ∷ ws ≡ (with_last w (split_last ws)).0 ++ (with_last w (split_last ws)).1 ∷ []
 split_names w [] = refl
 split_names w (x ∷ xs) = ap (λ r. w ∷ r) (split_names x xs)
 
-split-names : (ws : List (List ℕ)) (split : List (List ℕ) × List ℕ) → split_last ws ≡ Some split → ws ≡ split.0 ++ split.1 ∷ []
-split-names [] split h = absurd (none-some split h)
-split-names (w ∷ ws) split h = split_names w ws ∙ ap (λ (p : List (List ℕ) × List ℕ). p.0 ++ p.1 ∷ []) (same_Some (with_last w (split_last ws)) split h)
-
-names-good : (path : List ℕ) (ws : List (List ℕ)) → names_in path ≡ Some ws → list_all is_name ws ≡ true
-names-good [] ws h = absurd (none-some ws h)
-names-good (b ∷ rest) ws h =
-    let parts = cond_some (b == 0x2f && list_all is_name (pieces rest)) (pieces rest) ws h in
-    ap (list_all is_name) (sym parts.1) ∙ (and_parts (b == 0x2f) (list_all is_name (pieces rest)) parts.0).1
-
-pub is-none : {X : Type 0} (o : Option X) → is_some o ≡ false → o ≡ None
-is-none None h = refl
-is-none (Some x) h = absurd (false≢true (sym h))
-
-pub path-names : (path : List ℕ) → is_some (names_in path) ≡ true → names_in path ≡ Some (pieces (drop 1 path))
-path-names [] h = absurd (false≢true h)
-path-names (b ∷ rest) h = go (b == 0x2f && list_all is_name (pieces rest)) h where
-  go : (t : Bool) → is_some (cond t (Some (pieces rest)) None) ≡ true → cond t (Some (pieces rest)) None ≡ Some (pieces rest)
-  go true h = refl
-  go false h = absurd (false≢true h)
-
-reach-split : (made : List MadeName) (rest : List ℕ) (o : Option ℕ) (last : List ℕ) → reach made 1 (pieces rest) ≡ Some (o, last)
-    → (above : List (List ℕ)) × (split_last (pieces rest) ≡ Some (above, last)) × (seek made 1 above ≡ o)
-reach-split made rest o last h =
-    let s = split-pieces rest in
-    let e = some_pair_parts (seek made 1 s.0.0) o s.0.1 last (sym (reach_some made 1 (pieces rest) s.0 s.1) ∙ h) in
-    (s.0.0, s.1 ∙ ap (λ w. Some (s.0.0, w)) e.1, e.0)
-
 split-good : (ws above : List (List ℕ)) (last : List ℕ) → split_last ws ≡ Some (above, last) → list_all is_name ws ≡ true → (list_all is_name above ≡ true) × (is_name last ≡ true)
-split-good ws above last split good =
-    let p = and_parts (list_all is_name above) (list_all is_name (last ∷ [])) (sym (list_all-append is_name above (last ∷ [])) ∙ ap (list_all is_name) (sym (split-names ws (above, last) split)) ∙ good) in
+split-good [] above last split good = absurd (none-some (above, last) split)
+split-good (w ∷ ws) above last split good =
+    let is = split_names w ws ∙ ap (λ (p : List (List ℕ) × List ℕ). p.0 ++ p.1 ∷ []) (same_Some (with_last w (split_last ws)) (above, last) split) in
+    let p = and_parts (list_all is_name above) (list_all is_name (last ∷ [])) (sym (list_all-append is_name above (last ∷ [])) ∙ ap (list_all is_name) (sym is) ∙ good) in
     (p.0, (and_parts (is_name last) true p.1).0)
 
-module _ (made : List MadeName) (path : List ℕ) (good : is_some (names_in path) ≡ true) (o : Option ℕ) (last : List ℕ) (reached : reach made 1 (pieces (drop 1 path)) ≡ Some (o, last)) where
-  parts : (above : List (List ℕ)) × (split_last (pieces (drop 1 path)) ≡ Some (above, last)) × (seek made 1 above ≡ o)
-  parts = reach-split made (drop 1 path) o last reached
+-- ---- an entry
 
-  goods : (list_all is_name parts.0 ≡ true) × (is_name last ≡ true)
-  goods = split-good (pieces (drop 1 path)) parts.0 last parts.1 (names-good path (pieces (drop 1 path)) (path-names path good))
+-- whose path is none
+pub entry-name : (blocks inodes : ℕ) (files : Files) (n : ℕ) (e : ManifestEntry) → is_some (names_in e.path) ≡ false → with_manifest_entry blocks inodes files n e ≡ Err Name
+unfolding with_manifest_entry
+entry-name blocks inodes files n e h = ap (with_names blocks inodes files n e.thing) (is-none (names_in e.path) h)
+
+-- what all but the last name reach
+
+pub record Reaches (made : List MadeName) (path : List ℕ) (o : Option ℕ) (last : List ℕ) : Type 0 where
+  pub is : IsPath path
+  pub above : List (List ℕ)
+  pub split : split_last (pieces (drop 1 path)) ≡ Some (above, last)
+  pub seeks : seek made 1 above ≡ o
+
+pub reaches : {made : List MadeName} {path : List ℕ} {o : Option ℕ} {last : List ℕ} → is_some (names_in path) ≡ true → reach made 1 (pieces (drop 1 path)) ≡ Some (o, last) → Reaches made path o last
+reaches {made} {path} {o} {last} good h =
+    let s = split-pieces (drop 1 path) in
+    let e = some_pair_parts (seek made 1 s.0.0) o s.0.1 last (sym (reach_some made 1 (pieces (drop 1 path)) s.0 s.1) ∙ h) in
+    record { is = path-is path good; above = s.0.0; split = s.1 ∙ ap (λ w. Some (s.0.0, w)) e.1; seeks = e.0 }
+
+pub spot-reaches : {made : List MadeName} {path : List ℕ} {d : ℕ} {name : List ℕ} → IsSpot made path d name → Reaches made path (Some d) name
+spot-reaches {path = path} spot =
+    let is = path-is path (ap is_some spot.named) in
+    record { is = is; above = spot.above; split = ap split_last (same_Some (pieces (drop 1 path)) spot.names (sym is.named ∙ spot.named)) ∙ spot.split; seeks = spot.reached }
+
+module _ {made : List MadeName} {path : List ℕ} {o : Option ℕ} {last : List ℕ} (r : Reaches made path o last) where
+  goods : (list_all is_name r.above ≡ true) × (is_name last ≡ true)
+  goods = split-good (pieces (drop 1 path)) r.above last r.split r.is.good
+
+  pub last-good : is_name last ≡ true
+  last-good = goods.1
+
+  pub entry-reaches : (blocks inodes : ℕ) (files : Files) (n : ℕ) (thing : Thing) → IsListed files made → with_manifest_entry blocks inodes files n (record { path = path; thing = thing }) ≡ with_name blocks inodes files n thing last o
+  unfolding with_manifest_entry
+  entry-reaches blocks inodes files n thing listed =
+      ap (with_names blocks inodes files n thing) r.is.named ∙ ap (with_split blocks inodes files n thing) r.split
+      ∙ ap (with_name blocks inodes files n thing last) (follow-made made files listed r.above goods.0 1 ∙ r.seeks)
+
+-- ---- in a directory
+
+module _ {made : List MadeName} {path : List ℕ} {d : ℕ} {last : List ℕ} (r : Reaches made path (Some d) last) (folder : is_folder made d ≡ true) where
+  pub spot-at : is_some (found made d last) ≡ false → IsSpot made path d last
+  spot-at absent = record { names = pieces (drop 1 path); above = r.above; named = r.is.named; split = r.split; reached = r.seeks; folder = folder; absent = is-none (found made d last) absent }
 
   module _ (blocks inodes : ℕ) (files : Files) (n : ℕ) (thing : Thing) (listed : IsListed files made) where
-    followed : follow files 1 parts.0 ≡ o
-    followed = follow-made made files listed parts.0 goods.0 1 ∙ parts.2
+    pub entry-at : with_manifest_entry blocks inodes files n (record { path = path; thing = thing }) ≡ cond (is_some (found made d last)) (Err Twice) (cond (nat_le inodes n) (Err Inodes) (if_room blocks d n (added files d last n thing)))
+    entry-at = entry-reaches r blocks inodes files n thing listed ∙ rw (listed.folders d, folder, listed.names d last (last-good r)) refl
 
-    pub refused-nowhere : o ≡ None → with_manifest_entry blocks inodes files n (record { path = path; thing = thing }) ≡ Err Parent
-    refused-nowhere e = entry-nowhere blocks inodes files n (record { path = path; thing = thing }) (pieces (drop 1 path)) parts.0 last (path-names path good) parts.1 (followed ∙ e)
+module _ {made : List MadeName} {path : List ℕ} {d : ℕ} {name : List ℕ} (spot : IsSpot made path d name) (blocks inodes : ℕ) (files : Files) (n : ℕ) (thing : Thing) (listed : IsListed files made) where
+  entry-spot : with_manifest_entry blocks inodes files n (record { path = path; thing = thing }) ≡ cond (nat_le inodes n) (Err Inodes) (if_room blocks d n (added files d name n thing))
+  entry-spot = entry-at (spot-reaches spot) spot.folder blocks inodes files n thing listed ∙ rw spot.absent refl
 
-    module _ (d : ℕ) (at : o ≡ Some d) where
-      pub refused-parent : is_folder made d ≡ false → with_manifest_entry blocks inodes files n (record { path = path; thing = thing }) ≡ Err Parent
-      refused-parent h =
-          entry-parent blocks inodes files n (record { path = path; thing = thing }) (pieces (drop 1 path)) parts.0 last (path-names path good) parts.1 d (followed ∙ at)
-          (listed.folders d ∙ h)
+  pub spot-inodes : inodes ≤ n → with_manifest_entry blocks inodes files n (record { path = path; thing = thing }) ≡ Err Inodes
+  spot-inodes h = entry-spot ∙ rw (le-leb inodes n h) refl
 
-      pub refused-twice : is_folder made d ≡ true → is_some (found made d last) ≡ true → with_manifest_entry blocks inodes files n (record { path = path; thing = thing }) ≡ Err Twice
-      refused-twice h t =
-          entry-twice blocks inodes files n (record { path = path; thing = thing }) (pieces (drop 1 path)) parts.0 last (path-names path good) parts.1 d (followed ∙ at)
-          (listed.folders d ∙ h) (ap is_some (listed.names d last goods.1) ∙ t)
-
-  pub IsSpot-reached : (d : ℕ) → o ≡ Some d → is_folder made d ≡ true → is_some (found made d last) ≡ false → IsSpot made path d last
-  IsSpot-reached d at folder absent = record {
-    names = pieces (drop 1 path);
-    above = parts.0;
-    named = path-names path good;
-    split = parts.1;
-    reached = parts.2 ∙ at;
-    folder = folder;
-    absent = is-none (found made d last) absent;
-  }
-
--- ---- at a spot
-
-module _ (made : List MadeName) (path : List ℕ) (d : ℕ) (name : List ℕ) (spot : IsSpot made path d name) where
-  spot-goods : (list_all is_name spot.above ≡ true) × (is_name name ≡ true)
-  spot-goods = split-good spot.names spot.above name spot.split (names-good path spot.names spot.named)
-
-  pub spot-good : is_name name ≡ true
-  spot-good = spot-goods.1
-
-  module _ (blocks inodes : ℕ) (files : Files) (n : ℕ) (thing : Thing) (listed : IsListed files made) where
-    spot-followed : follow files 1 spot.above ≡ Some d
-    spot-followed = follow-made made files listed spot.above spot-goods.0 1 ∙ spot.reached
-
-    spot-directory : is_directory_at files d ≡ true
-    spot-directory = listed.folders d ∙ spot.folder
-
-    spot-absent : lookup files d name ≡ None
-    spot-absent = listed.names d name spot-good ∙ spot.absent
-
-    pub spot-inodes : inodes ≤ n → with_manifest_entry blocks inodes files n (record { path = path; thing = thing }) ≡ Err Inodes
-    spot-inodes h =
-        entry-inodes blocks inodes files n (record { path = path; thing = thing }) spot.names spot.above name spot.named spot.split d spot-followed spot-directory spot-absent h
-
-    pub spot-room : n < inodes → with_manifest_entry blocks inodes files n (record { path = path; thing = thing }) ≡ if_room blocks d n (added files d name n thing)
-    spot-room h =
-        entry-room blocks inodes files n (record { path = path; thing = thing }) spot.names spot.above name spot.named spot.split d spot-followed spot-directory spot-absent h
+  pub spot-room : n < inodes → with_manifest_entry blocks inodes files n (record { path = path; thing = thing }) ≡ if_room blocks d n (added files d name n thing)
+  spot-room h = entry-spot ∙ rw (lt-leb inodes n h) refl

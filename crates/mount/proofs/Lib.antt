@@ -1,7 +1,3 @@
-pub mod Counted
-pub mod Parents
-pub mod ToRules
-pub mod FromRules
 pub mod Ranges
 pub mod Sounding
 pub mod Holding

@@ -6,8 +6,8 @@ use Rattle.blockdev.specs.declared.DeviceFault.{DeviceFault}
 use Rattle.cache.specs.Disk.{Disk}
 use Rattle.layout.specs.declared.Geometry.{Geometry}
 use Rattle.names.specs.Rules.{KeepsTree}
-use Rattle.mount.proofs.FromRules.{KeepsTree-rules, linked-rules}
-use Rattle.mount.proofs.ToRules.{KeepsRules-live}
+use Rattle.imagemake.proofs.FromRules.{KeepsTree-rules, linked-rules}
+use Rattle.imagemake.proofs.ToRules.{KeepsRules-live}
 use Rattle.unixmodel.specs.Counts.{blocks_of}
 use Rattle.unixmodel.specs.Files.{Files, slot}
 use Rattle.unixmodel.specs.Formats.{format, most_bytes}

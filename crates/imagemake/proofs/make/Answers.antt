@@ -1,4 +1,4 @@
-use Rattle.imagemake.proofs.Common.{ap, arith, refl, sym, subst, ◌∙◌, IfOk-from_err, err_from_is_err_and, files_made, FileTree, MakesEntries, made_by, Refuses, meaning}
+use Rattle.imagemake.proofs.Common.{ap, arith, refl, sym, subst, ◌∙◌, err_from_is_err_and, files_made, FileTree, MakesEntries, made_by, Refuses, meaning}
 use Rattle.imagemake.proofs.Imaging.{bare-tree, blank-held, makes-image, none-refused, only-memory, possible, refused-entries, refused-numbers, when-ok}
 use Rattle.imagemake.proofs.make.Goals as goal
 
@@ -8,11 +8,8 @@ returns-then-not-is_possible-clause-refused c = refused-numbers (meaning c.args.
 pub blank-requires : goal.blank-requires
 blank-requires c = possible c.args.size c.args.inodes (sym c.if-not-is_possible.ensures)
 
-pub returns-in_err-volume : goal.returns-in_err-volume
-returns-in_err-volume c = record {
-  made = IfOk-from_err c.from_residual.result _ c.from_residual.ensures.0;
-  refused = none-refused (files_made (meaning c.args.manifest.now.entries.items) c.args.size c.args.inodes) c.from_residual.result c.from_residual.ensures.1 c.in_err-volume.ensures.only;
-}
+pub returns-in_err-volume-clause-refused : goal.returns-in_err-volume-clause-refused
+returns-in_err-volume-clause-refused c = none-refused (files_made (meaning c.args.manifest.now.entries.items) c.args.size c.args.inodes) c.from_residual.result c.from_residual.ensures.1 c.in_err-volume.ensures.only
 
 pub is_whole-requires : goal.is_whole-requires
 is_whole-requires c = c.in_ok-volume.ensures.blank.up
@@ -20,17 +17,11 @@ is_whole-requires c = c.in_ok-volume.ensures.blank.up
 pub new-requires : goal.new-requires
 new-requires c = blank-held (possible c.args.size c.args.inodes (sym c.if-not-is_possible.ensures)) c.in_ok-volume.ensures.blank c.is_whole.ensures
 
-pub returns-in_err-tree : goal.returns-in_err-tree
-returns-in_err-tree c = record {
-  made = IfOk-from_err c.from_residual-in_err-tree.result _ c.from_residual-in_err-tree.ensures.0;
-  refused = none-refused (files_made (meaning c.args.manifest.now.entries.items) c.args.size c.args.inodes) c.from_residual-in_err-tree.result c.from_residual-in_err-tree.ensures.1 refl;
-}
+pub returns-in_err-tree-clause-refused : goal.returns-in_err-tree-clause-refused
+returns-in_err-tree-clause-refused c = none-refused (files_made (meaning c.args.manifest.now.entries.items) c.args.size c.args.inodes) c.from_residual-in_err-tree.result c.from_residual-in_err-tree.ensures.1 refl
 
-pub returns-in_err-made : goal.returns-in_err-made
-returns-in_err-made c = record {
-  made = IfOk-from_err c.from_residual-in_err-made.result _ c.from_residual-in_err-made.ensures.0;
-  refused = none-refused (files_made (meaning c.args.manifest.now.entries.items) c.args.size c.args.inodes) c.from_residual-in_err-made.result c.from_residual-in_err-made.ensures.1 refl;
-}
+pub returns-in_err-made-clause-refused : goal.returns-in_err-made-clause-refused
+returns-in_err-made-clause-refused c = none-refused (files_made (meaning c.args.manifest.now.entries.items) c.args.size c.args.inodes) c.from_residual-in_err-made.result c.from_residual-in_err-made.ensures.1 refl
 
 pub put_files-requires : goal.put_files-requires
 put_files-requires c =
@@ -45,17 +36,14 @@ put_files-requires c =
       room = omega (arith, c.in_ok-made.ensures.room, bare.long);
     }
 
-pub returns-in_err-put_files : goal.returns-in_err-put_files
-returns-in_err-put_files c =
+pub returns-in_err-put_files-clause-refused : goal.returns-in_err-put_files-clause-refused
+returns-in_err-put_files-clause-refused c =
     let told = err_from_is_err_and c.from_residual-in_err-put_files.result c.from_residual-in_err-put_files.ensures.1 in
     let bare = bare-tree (possible c.args.size c.args.inodes (sym c.if-not-is_possible.ensures)) c.in_ok-volume.ensures.blank c.is_whole.ensures c.in_ok-tree.ensures in
     let fault = c.in_err-put_files.field-0.0 in
-    record {
-      made = IfOk-from_err c.from_residual-in_err-put_files.result _ c.from_residual-in_err-put_files.ensures.0;
-      refused = rw (told.1, told.2)
-          (refused-entries (meaning c.args.manifest.now.entries.items) c.args.size c.args.inodes (sym c.if-not-is_possible.ensures) bare fault
-          (subst (λ entries. Refuses (made_by c.in_ok-tree.tree (meaning entries)) fault) c.deref.ensures.value c.in_err-put_files.ensures.refused));
-    }
+    rw (told.1, told.2)
+    (refused-entries (meaning c.args.manifest.now.entries.items) c.args.size c.args.inodes (sym c.if-not-is_possible.ensures) bare fault
+    (subst (λ entries. Refuses (made_by c.in_ok-tree.tree (meaning entries)) fault) c.deref.ensures.value c.in_err-put_files.ensures.refused))
 
 pub into_device-device-requires : goal.into_device-device-requires
 into_device-device-requires c =

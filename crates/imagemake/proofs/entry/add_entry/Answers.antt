@@ -39,8 +39,7 @@ returns-then-number-numbers-clause-refused g c =
     let made = c.args.made.now.items in
     let thing = thing_of c.args.entry.now.thing in
     ap (λ path. with_manifest_entry t.block_limit (length t.files) t.files (length made + 2) (record { path = path; thing = thing })) (sym c.as_slice-path.ensures.value)
-    ∙ spot-inodes made c.as_slice-path.result.now c.in_ok-spot.spot.directory c.in_ok-spot.spot.below.now c.in_ok-spot.ensures.spot
-    t.block_limit (length t.files) t.files (length made + 2) thing c.requires.made.listed (omega (arith, c.if-number-numbers.true, c.len-number.ensures, c.numbers.ensures))
+    ∙ spot-inodes c.in_ok-spot.ensures.spot t.block_limit (length t.files) t.files (length made + 2) thing c.requires.made.listed (omega (arith, c.if-number-numbers.true, c.len-number.ensures, c.numbers.ensures))
 
 pub returns-then-number-numbers-clause-cause : goal.returns-then-number-numbers-clause-cause
 returns-then-number-numbers-clause-cause g c = Owns-other (omega arith) (λ e. cc) refl

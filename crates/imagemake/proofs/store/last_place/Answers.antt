@@ -1,5 +1,4 @@
-use Rattle.imagemake.proofs.Common.{arith, now-begin, lost-served}
-use Rattle.unixmodel.specs.Files.Node.{Directory}
+use Rattle.imagemake.proofs.Common.{arith, now-begin, lost-served, Directory}
 use Rattle.imagemake.proofs.Named.{looks-done, room-end-at, room-full-at}
 use Rattle.imagemake.proofs.store.last_place.Goals as goal
 

@@ -1,5 +1,4 @@
-use Rattle.imagemake.proofs.Common.{◌+◌, ap, arith, sym, ◌∙◌, leb-false, leb-true, Files, put, slot, new_directory, now-begin, now-files, now-limit, now-read, now-up, some-now, now-changed}
-use Rattle.unixmodel.specs.Counts.{blocks_of}
+use Rattle.imagemake.proofs.Common.{◌+◌, ap, arith, sym, ◌∙◌, leb-false, leb-true, Files, put, slot, new_directory, now-begin, now-files, now-limit, now-read, now-up, some-now, now-changed, blocks_of}
 use Rattle.imagemake.proofs.Putting.{lacks-dots, puts-done, puts-full, puts-lost}
 use Rattle.imagemake.proofs.store.put_dots.Goals as goal
 

@@ -1,6 +1,5 @@
-use Rattle.imagemake.proofs.Common.{ap, sym, ◌∙◌, none-some, FileTree, now-up, thing_of}
-use Rattle.unixmodel.specs.Files.Node.{Directory}
-use Rattle.imagemake.proofs.AddedFiles.{directory-after, name-refused, node-refused, now-one, number-after, stores-named}
+use Rattle.imagemake.proofs.Common.{sym, ◌∙◌, none-some, now-up, thing_of, Directory}
+use Rattle.imagemake.proofs.AddedFiles.{directory-after, name-refused, named-up, node-refused, now-one, number-after, stores-named}
 use Rattle.imagemake.proofs.store.store_entry.Goals as goal
 
 pub store_node-requires : goal.store_node-requires
@@ -23,17 +22,10 @@ store_name-requires g c =
     }
 
 pub returns-in_err-store_name : goal.returns-in_err-store_name
-returns-in_err-store_name g c =
-    let put = c.in_ok-store_node.ensures in
-    name-refused c.args.tree.now (thing_of c.args.thing.now) c.requires.able put (c.in_err-store_name.ensures (directory-after c.args.tree.now (thing_of c.args.thing.now) c.requires.able put)) c.from_residual-in_err-store_name.ensures.1
+returns-in_err-store_name g c = name-refused c.args.tree.now (thing_of c.args.thing.now) c.requires.able c.in_ok-store_node.ensures c.in_err-store_name.ensures c.from_residual-in_err-store_name.ensures.1
 
 pub is_whole-requires : goal.is_whole-requires
-is_whole-requires g c =
-    let put = c.in_ok-store_node.ensures in
-    let named = c.in_ok-store_name.ensures (directory-after c.args.tree.now (thing_of c.args.thing.now) c.requires.able put) in
-    ap (λ (t : FileTree). t.failed) named.done ∙ now-up (now-one c.args.tree.now (thing_of c.args.thing.now) c.requires.able put) c.requires.up
+is_whole-requires g c = named-up c.args.tree.now (thing_of c.args.thing.now) c.requires.able c.in_ok-store_node.ensures c.in_ok-store_name.ensures c.requires.up
 
 pub returns : goal.returns
-returns g c =
-    let put = c.in_ok-store_node.ensures in
-    stores-named c.args.tree.now (thing_of c.args.thing.now) c.requires.able put (c.in_ok-store_name.ensures (directory-after c.args.tree.now (thing_of c.args.thing.now) c.requires.able put)) c.is_whole.ensures
+returns g c = stores-named c.args.tree.now (thing_of c.args.thing.now) c.requires.able c.in_ok-store_node.ensures c.in_ok-store_name.ensures c.is_whole.ensures

@@ -1,8 +1,5 @@
-use Rattle.imagemake.proofs.Common.{◌≡◌, ap, arith, subst, sym, ◌∙◌, leb-false, leb-true, Ok, IsPlain-name, entered, Files, change_node, put, slot, appended, linked}
-use Rattle.imagemake.proofs.Common.{more_links, IsNow, now-begin, now-files, now-limit, now-read, now-up, some-now, now-changed, HasDirectory, Puts, thing_of}
-use Rattle.unixmodel.specs.Counts.{blocks_of}
-use Rattle.unixmodel.specs.Files.{Entry}
-use Rattle.unixmodel.specs.Files.Node.{Directory}
+use Rattle.imagemake.proofs.Common.{◌≡◌, ap, arith, subst, sym, ◌∙◌, leb-false, leb-true, Ok, IsPlain-name, entered, Files, change_node, put, slot, appended, linked, more_links, IsNow, now-begin, now-files, now-limit, now-read, now-up}
+use Rattle.imagemake.proofs.Common.{some-now, now-changed, HasDirectory, Puts, thing_of, blocks_of, Entry, Directory}
 use Rattle.imagemake.proofs.Named.{lacks-growth, lacks-place, named-is, named-linked, now-looked, room-at, room-now, room-was, within}
 use Rattle.imagemake.proofs.Putting.{puts-done, puts-full, puts-lost, slot-put}
 use Rattle.imagemake.proofs.Things.{thing-folder, thing-unlinked}

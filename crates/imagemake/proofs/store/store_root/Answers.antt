@@ -1,5 +1,4 @@
-use Rattle.imagemake.proofs.Common.{[], sym, ◌∙◌, none-some, end-lost, now-begin, now-turned, now-up, turned-last}
-use Rattle.unixmodel.specs.Files.Node.{Directory}
+use Rattle.imagemake.proofs.Common.{[], sym, ◌∙◌, none-some, end-lost, now-begin, now-turned, now-up, turned-last, Directory}
 use Rattle.imagemake.proofs.Putting.{root-bare, root-block, root-free, root-made}
 use Rattle.imagemake.proofs.store.store_root.Goals as goal
 

@@ -1,18 +1,8 @@
 -- The directory that names a directory.
-use Rattle.std.proofs.Common.{◌≡◌, ◌≢◌, ℕ, ◌<◌, ◌≤◌, true, List, [], ◌∷◌, None, inl, inr, length, get_or, map, ap, sym, refl, ◌∙◌, arith, subst}
-use Rattle.std.specs.Prelude.{All, filter, option_map, slice_get, unwrap_or, ◌==◌}
-use Rattle.std.specs.List.{range_with_len}
-use Rattle.std.proofs.lemmas.Bool.{cases_lt, cond-false, eq-eqb, eqb-true, ne_eqb}
-use Rattle.std.proofs.lemmas.List.{get_or_past}
-use Rattle.std.proofs.lemmas.List.Elements.{All-filter, All-head, All-map, filter_passes}
-use Rattle.std.proofs.lemmas.List.Sums.{length-filter}
-use Rattle.unixmodel.specs.Files.{Entry, Files, slot}
-use Rattle.unixmodel.specs.Image.{all_entries, entries_of, names_number, names_of, parent_of}
-use Rattle.imagerules.proofs.Lists.{All-flat_map, All-from_passing}
-use Rattle.imagecheck.proofs.Reaching.{all_alone, entries_at}
-use Rattle.names.specs.Rules.{names_by}
-use Rattle.names.proofs.Counts.{count_by-item, counted-one, names_by-none}
-use Rattle.mount.proofs.Counted.{counted-among}
+use Rattle.imagemake.proofs.Common.{◌≡◌, ◌≢◌, ℕ, ◌<◌, ◌≤◌, true, List, [], ◌∷◌, None, inl, inr, length, get_or, map, ap, sym, refl, ◌∙◌, arith, subst, All, filter, option_map, slice_get, unwrap_or, ◌==◌, range_with_len, cases_lt}
+use Rattle.imagemake.proofs.Common.{cond-false, eqb-true, get_or_past, All-filter, All-head, All-map, filter_passes, length-filter, Files, slot, all_entries, entries_of, names_number, names_of, parent_of, All-flat_map, All-from_passing}
+use Rattle.imagemake.proofs.Common.{all_alone, entries_at, names_by, count_by-item, counted-one, names_by-none, eq-eqb, ne_eqb, Entry}
+use Rattle.imagemake.proofs.Counted.{counted-among}
 
 -- ---- entries, directory by directory
 

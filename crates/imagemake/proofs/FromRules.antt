@@ -1,20 +1,10 @@
 -- Files at rest keep the rules of a running machine.
-use Rattle.std.proofs.Common.{◌≡◌, ◌≢◌, ℕ, zero, suc, ◌≤◌, Bool, true, false, cond, None, Option, Some, inl, inr, get_or, ap, sym, refl, ◌∙◌, arith, subst}
-use Rattle.std.specs.Prelude.{is_some, option_map, unwrap_or, ◌==◌}
-use Rattle.std.proofs.lemmas.Bool.{cases_eq, cond-false, cond-true, eq-eqb, false≢true, ne_eqb}
-use Rattle.unixmodel.specs.Files.{Entry, Files, Node, is_directory, links_of, slot}
-use Rattle.unixmodel.specs.Files.Node.{Directory}
-use Rattle.unixmodel.specs.Image.{KeepsNode, KeepsRules, all_entries, entries_of, is_directory_at, names_of, parent_of}
-use Rattle.imagerules.proofs.Denoting.{EntriesAt-from}
-use Rattle.imagecheck.specs.Reach.{Climbs, ancestor}
-use Rattle.imagemake.proofs.MadeLists.{count_by-none}
-use Rattle.imagemake.proofs.MadeNames.{entry-numbers}
-use Rattle.imagecheck.proofs.Reaching.{Climbs-reached, parent_root}
-use Rattle.names.specs.Rules.{HasRoot, IsRanked, KeepsLive, KeepsTree, entries, names_for}
-use Rattle.names.proofs.Counts.{names_by-le}
-use Rattle.mount.proofs.Counted.{good-count, once-count}
-use Rattle.mount.proofs.Parents.{all-entries, parent-names, parent-only}
-use Rattle.mount.proofs.ToRules.{folders-are, naming-directory}
+use Rattle.imagemake.proofs.Common.{◌≡◌, ◌≢◌, ℕ, zero, suc, ◌≤◌, Bool, true, false, cond, None, Option, Some, inl, inr, get_or, ap, sym, refl, ◌∙◌, arith, subst, All, IsSome, is_some, option_map, unwrap_or, ◌==◌, All-nil, cases_eq}
+use Rattle.imagemake.proofs.Common.{cond-false, cond-true, false≢true, Files, Node, is_directory, links_of, slot, KeepsNode, KeepsRules, all_entries, entries_of, is_directory_at, names_of, parent_of, EntriesAt-from, Climbs, ancestor}
+use Rattle.imagemake.proofs.Common.{Climbs-reached, parent_root, HasRoot, IsRanked, KeepsLive, KeepsTree, entries, names_for, names_by-le, eq-eqb, ne_eqb, Entry, Directory}
+use Rattle.imagemake.proofs.Counted.{count_by-none, good-count, once-count}
+use Rattle.imagemake.proofs.Parents.{all-entries, parent-names, parent-only}
+use Rattle.imagemake.proofs.ToRules.{folders-are, naming-directory}
 
 -- ---- how many steps lead to the root, of at most so many
 
@@ -46,38 +36,39 @@ module _ {files : Files} (rules : KeepsRules files) where
 
   -- ---- how many names there are
 
+  entry-numbers : (n : ℕ) (o : Option Node) → KeepsNode files n o → All (λ (e : Entry). IsSome (slot files e.number)) (entries_of o)
+  entry-numbers n (Some (Directory links places)) k = k.numbers
+  entry-numbers n o k = All-nil (λ (e : Entry). IsSome (slot files e.number))
+
   unused-names : (n : ℕ) → slot files n ≡ None → names_of files n ≡ 0
   unfolding names_of
   unused-names n free =
       count_by-none (λ (e : ℕ × Entry). e.1.number == n) (all_entries files)
       (all-entries files (λ e. (e.1.number == n) ≡ false) (λ d k e l.
       let x = get_or (entries_of (slot files d)) k e in
-      ne_eqb x.number n (λ same. false≢true (sym (ap is_some (ap (slot files) same ∙ free)) ∙ entry-numbers files d rules k e l))))
-
-  named-as : (n : ℕ) (o : Option Node) → slot files n ≡ o → KeepsNode files n o → names_of files n ≡ names_for n o
-  named-as n None here k = unused-names n here
-  named-as n (Some (Directory zero places)) here k = absurd (let c = k.counted in omega arith)
-  named-as n (Some (Directory (suc links) places)) here k = k.named
-  named-as n _ here k = sym k.counted
+      ne_eqb x.number n (λ same. false≢true (sym (ap is_some (ap (slot files) same ∙ free)) ∙ entry-numbers d (slot files d) (rules.nodes d) k e l))))
 
   -- ---- directories
 
-  live-from : (n : ℕ) (o : Option Node) → slot files n ≡ o → KeepsNode files n o → KeepsLive files n o
-  live-from n None here k = tt
-  live-from n (Some (Directory zero places)) here k = absurd (let c = k.counted in omega arith)
-  live-from n (Some (Directory (suc links) places)) here k = record {
-    own = k.own;
-    up = parent_of files n;
-    parent = k.parent;
-    above = record {
-      root = λ e. ap (parent_of files) e ∙ parent_root files;
-      names = λ s. parent-names files n s (let c = k.named ∙ cond-false (n == 1) 0 1 (ne_eqb n 1 s) in omega arith);
-    };
-    good = good-count (entries places) k.names;
-    once = once-count (entries places) k.once;
-    counted = let c = k.counted in omega (arith, folders-are files n (suc links) places here);
-  }
-  live-from n _ here k = k.most
+  node-from : (n : ℕ) (o : Option Node) → slot files n ≡ o → KeepsNode files n o → (names_of files n ≡ names_for n o) × KeepsLive files n o
+  node-from n None here k = (unused-names n here, tt)
+  node-from n (Some (Directory zero places)) here k = absurd (let c = k.counted in omega arith)
+  node-from n (Some (Directory (suc links) places)) here k = (
+    k.named,
+    record {
+      own = k.own;
+      up = parent_of files n;
+      parent = k.parent;
+      above = record {
+        root = λ e. ap (parent_of files) e ∙ parent_root files;
+        names = λ s. parent-names files n s (let c = k.named ∙ cond-false (n == 1) 0 1 (ne_eqb n 1 s) in omega arith);
+      };
+      good = good-count (entries places) k.names;
+      once = once-count (entries places) k.once;
+      counted = let c = k.counted in omega (arith, folders-are files n (suc links) places here);
+    },
+  )
+  node-from n _ here k = (sym k.counted, k.most)
 
   -- ---- ranks
 
@@ -102,9 +93,12 @@ module _ {files : Files} (rules : KeepsRules files) where
   directory-named n (Some (Directory links places)) k h = k.named
   directory-named n _ k h = absurd (false≢true h)
 
+  pub directory-once : (n : ℕ) → is_directory_at files n ≡ true → names_of files n ≡ cond (n == 1) 0 1
+  directory-once n h = directory-named n (slot files n) (rules.nodes n) h
+
   ranks : IsRanked files rank
   ranks d n h directory =
-      let once = directory-named n (slot files n) (rules.nodes n) directory in
+      let once = directory-once n directory in
       let some : 1 ≤ names_of files n = omega (arith, h, names_by-le files d n) in
       let other : n ≢ 1 = λ e. let none : names_of files n ≡ 0 = once ∙ cond-true (n == 1) 0 1 (eq-eqb n 1 e) in absurd (omega arith) in
       let parent = parent-only files n d other (once ∙ cond-false (n == 1) 0 1 (ne_eqb n 1 other)) h in
@@ -125,8 +119,8 @@ module _ {files : Files} (rules : KeepsRules files) where
   KeepsTree-rules = record {
     root = root-from (slot files 1) refl (rules.nodes 1) rules.root;
     sizes = rules.sizes;
-    named = λ n. named-as n (slot files n) refl (rules.nodes n);
-    nodes = λ n. live-from n (slot files n) refl (rules.nodes n);
+    named = λ n. (node-from n (slot files n) refl (rules.nodes n)).0;
+    nodes = λ n. (node-from n (slot files n) refl (rules.nodes n)).1;
     depth = rank;
     ranked = ranks;
   }

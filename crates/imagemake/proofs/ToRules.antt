@@ -1,20 +1,12 @@
 -- Files of a running machine whose nodes all have links keep the rules of files at rest.
-use Rattle.std.proofs.Common.{◌≡◌, ◌≢◌, ℕ, zero, suc, ◌+◌, ◌<◌, ◌≤◌, true, false, cond, List, None, Option, Some, inl, inr, get_or, ap, sym, refl, ◌∙◌, arith, subst}
-use Rattle.std.specs.Prelude.{count_by, option_map, unwrap_or, ◌==◌}
-use Rattle.std.proofs.lemmas.Bool.{cases_eq, cond-false, false≢true, ne_eqb}
-use Rattle.unixmodel.specs.Files.{Entry, Files, Node, dot_dot, is_directory, slot}
-use Rattle.unixmodel.specs.Files.Node.{Directory}
-use Rattle.unixmodel.specs.Image.{KeepsRules, entries_of, is_directory_at, names_of, parent_of, subdirectories}
-use Rattle.imagerules.specs.Places.{EntriesAt, FitsEntries, HasEntries, HasLinks, LinksAt}
-use Rattle.imagerules.proofs.Denoting.{KeepsNode-from}
-use Rattle.imagecheck.specs.Reach.{Climbs}
-use Rattle.imagecheck.proofs.Reaching.{Climbs-child, IsReached-from, parent_root}
-use Rattle.names.specs.Rules.{IsLive, KeepsLive, KeepsTree, entries, folders, names_by, names_for}
+use Rattle.imagerules.proofs.Denoting.{LinksAt-from}
+use Rattle.imagemake.proofs.Common.{IsDirectory, KeepsNode, EntriesAt-from, ◌≡◌, ◌≢◌, ℕ, zero, suc, ◌<◌, ◌≤◌, true, false, cond, List, None, Option, Some, inl, inr, get_or, ap, sym, refl, ◌∙◌, arith, subst, count_by, option_map, unwrap_or}
+use Rattle.imagemake.proofs.Common.{◌==◌, cases_eq, cond-false, false≢true, Files, Node, dot_dot, is_directory, slot, KeepsRules, entries_of, is_directory_at, names_of, parent_of, subdirectories, Climbs, Climbs-child, IsReached-from}
+use Rattle.imagemake.proofs.Common.{parent_root, IsLive, KeepsLive, KeepsTree, entries, folders, names_by, names_for, HasLinked, ne_eqb, Entry, Directory}
 use Rattle.names.proofs.Naming.{named-used}
-use Rattle.names.proofs.Quiet.{HasLinked}
 use Rattle.names.proofs.Steps.{entry-names}
-use Rattle.mount.proofs.Counted.{good-from, once-from}
-use Rattle.mount.proofs.Parents.{parent-only}
+use Rattle.imagemake.proofs.Counted.{good-from, once-from}
+use Rattle.imagemake.proofs.Parents.{parent-only}
 
 directory-from : (files : Files) (d : ℕ) (o : Option Node) → slot files d ≡ o → (n : ℕ) → 1 ≤ names_by o n → is_directory_at files d ≡ true
 unfolding names_by
@@ -43,35 +35,25 @@ module _ {files : Files} (keeps : KeepsTree files) (linked : HasLinked files) wh
       | inr s ↦ sym (parent-only files d live.up s (named ∙ cond-false (d == 1) 0 1 (ne_eqb d 1 s)) (live.above.names s))
     ]
 
-    fits : FitsEntries files d places
-    fits = record {
+    directory-kept : IsDirectory files d (suc links) places
+    directory-kept = record {
       own = live.own;
       parent = live.parent ∙ ap (λ (p : ℕ). Some (record { name = dot_dot; number = p })) parent-is;
       names = good-from (entries places) live.good;
       once = once-from (entries places) live.once;
       numbers = λ k e l. named-used keeps (get_or (entries places) k e).number (entry-names files d (suc links) places here k e l);
       named = named;
+      counted = omega (arith, live.counted, folders-are files d (suc links) places here);
     }
 
-    counted : suc links ≡ 1 + subdirectories files d
-    counted = omega (arith, live.counted, folders-are files d (suc links) places here)
+  node-kept : (n : ℕ) (o : Option Node) → slot files n ≡ o → KeepsNode files n o
+  node-kept n None here = tt
+  node-kept n (Some (Directory zero places)) here = absurd (let some = linked n (Directory zero places) here in omega arith)
+  node-kept n (Some (Directory (suc links) places)) here = directory-kept n links places here
+  node-kept n (Some node) here = record { counted = sym (keeps.named n ∙ ap (names_for n) here); least = linked n node here; most = subst (KeepsLive files n) here (keeps.nodes n) }
 
-  entries-fit : (n : ℕ) (o : Option Node) → slot files n ≡ o → EntriesAt files n o
-  entries-fit n (Some (Directory zero places)) here = absurd (let some = linked n (Directory zero places) here in omega arith)
-  entries-fit n (Some (Directory (suc links) places)) here = fits n links places here
-  entries-fit n _ here = tt
-
-  links-fit : (n : ℕ) (o : Option Node) → slot files n ≡ o → LinksAt files n o
-  links-fit n None here = tt
-  links-fit n (Some (Directory zero places)) here = absurd (let some = linked n (Directory zero places) here in omega arith)
-  links-fit n (Some (Directory (suc links) places)) here = counted n links places here
-  links-fit n (Some node) here = (sym (keeps.named n ∙ ap (names_for n) here), linked n node here, subst (KeepsLive files n) here (keeps.nodes n))
-
-  pub HasEntries-live : HasEntries files
-  HasEntries-live n = entries-fit n (slot files n) refl
-
-  pub HasLinks-live : HasLinks files
-  HasLinks-live n = links-fit n (slot files n) refl
+  nodes-kept : (n : ℕ) → KeepsNode files n (slot files n)
+  nodes-kept n = node-kept n (slot files n) refl
 
   -- ---- a directory climbs to the root: by ranks
 
@@ -90,15 +72,12 @@ module _ {files : Files} (keeps : KeepsTree files) (linked : HasLinked files) wh
     | inr s ↦ climbs-above n (slot files n) refl h s (λ up directory less. climbs-below k up (omega arith) directory)
   ]
 
-  pub Climbs-live : (n : ℕ) → is_directory_at files n ≡ true → Climbs files n
-  Climbs-live n h = climbs-below (suc (keeps.depth n)) n (omega arith) h
-
   -- ---- the rules
 
   pub KeepsRules-live : KeepsRules files
   KeepsRules-live = record {
     root = ap (λ o. unwrap_or (option_map is_directory o) false) keeps.root.here;
     sizes = keeps.sizes;
-    nodes = λ n. KeepsNode-from files n (slot files n) (HasEntries-live n) (HasLinks-live n);
-    reached = IsReached-from files HasEntries-live HasLinks-live Climbs-live;
+    nodes = nodes-kept;
+    reached = IsReached-from files (λ n. EntriesAt-from files n (slot files n) (nodes-kept n)) (λ n. LinksAt-from files n (slot files n) (nodes-kept n)) (λ n h. climbs-below (suc (keeps.depth n)) n (omega arith) h);
   }

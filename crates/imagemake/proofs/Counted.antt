@@ -1,16 +1,13 @@
 -- What holds of all entries of a directory, as a count.
-use Rattle.std.proofs.Common.{◌≡◌, ◌≢◌, ℕ, zero, suc, ◌+◌, ◌<◌, ◌≤◌, Bool, true, cond, not, List, [], ◌∷◌, inl, inr, length, get_or, ap, sym, refl, ◌∙◌, arith}
-use Rattle.std.specs.Prelude.{All, AllPairs, IsTrue, bytes_eq, count_by}
-use Rattle.std.proofs.lemmas.Bool.{cases_Bool, false_from_ne_true}
-use Rattle.std.proofs.lemmas.List.Sums.{sum_by-cons}
-use Rattle.std.proofs.lemmas.Slice.Eq.{bytes_eq-Decides}
-use Rattle.unixmodel.specs.Files.{Entry}
-use Rattle.unixmodel.specs.Image.{is_name}
-use Rattle.imagemake.proofs.MadeLists.{count_by-none}
-use Rattle.names.proofs.Counts.{count_by-item, counted-none, counted-one}
+use Rattle.imagemake.proofs.Common.{◌≡◌, ◌≢◌, ℕ, zero, suc, ◌+◌, ◌<◌, ◌≤◌, Bool, true, false, cond, not, List, [], ◌∷◌, inl, inr, length, get_or, ap, sym, refl, ◌∙◌, arith, All, AllPairs, IsTrue, bytes_eq, count_by, cases_Bool}
+use Rattle.imagemake.proofs.Common.{false_from_ne_true, All-head, All-tail, sum_by-cons, bytes_eq-Decides, is_name, count_by-item, counted-none, counted-one, Entry}
 
 count-cons : {X : Type 0} (p : X → Bool) (x : X) (xs : List X) → count_by p (x ∷ xs) ≡ cond (p x) 1 0 + count_by p xs
 count-cons p x xs = sum_by-cons (λ y. cond (p y) 1 0) x xs
+
+pub count_by-none : {X : Type 0} (p : X → Bool) (xs : List X) → All (λ x. p x ≡ false) xs → count_by p xs ≡ 0
+count_by-none p [] h = refl
+count_by-none p (x ∷ xs) h = omega (arith, count-cons p x xs, counted-none (All-head (λ y. p y ≡ false) x xs h), count_by-none p xs (All-tail (λ y. p y ≡ false) x xs h))
 
 -- what is counted stands somewhere
 pub record IsAmong {X : Type 0} (p : X → Bool) (xs : List X) (d : X) : Type 0 where
@@ -38,7 +35,7 @@ good-from es none k d l = elim (cases_Bool (is_name (get_or es k d).name)) [
 
 -- ---- each name once
 
-twice : {X : Type 0} (p : X → Bool) (xs : List X) (i j : ℕ) (d : X) → i < j → j < length xs → p (get_or xs i d) ≡ true → p (get_or xs j d) ≡ true → 2 ≤ count_by p xs
+pub twice : {X : Type 0} (p : X → Bool) (xs : List X) (i j : ℕ) (d : X) → i < j → j < length xs → p (get_or xs i d) ≡ true → p (get_or xs j d) ≡ true → 2 ≤ count_by p xs
 twice p (x ∷ xs) zero (suc j) d h l s t = omega (arith, count-cons p x xs, counted-one s, counted-one t, count_by-item p xs j d (omega arith))
 twice p (x ∷ xs) (suc i) (suc j) d h l s t = omega (arith, count-cons p x xs, twice p xs i j d (omega arith) (omega arith) s t)
 twice p _ i j d h l s t = absurd (omega arith)
