@@ -1,9 +1,8 @@
 -- Many instructions of the process of a place.
 use Rattle.spaces.proofs.Common.{◌≡◌, ◌≤◌, ◌+◌, ◌-◌, ◌%◌, ◌/◌, ℕ, zero, suc, true, List, [], ◌∷◌, length, take, drop, ◌<◌, Option, Some, None, Err, refl, sym, ap, subst, ◌∙◌, arith, take-append-drop, length-append, IfNone, IfSome, is_some}
 use Rattle.spaces.proofs.Common.{unwrap_or, Advances, Does, Spaces, SpaceView, Traps, computed, frames_in, no_pages, taken_frames, view_at, page_frames, cycle, Trap, slot, Change, Computed, Bytes, Nothing, Memory, Page, write_bytes}
-use Rattle.spaces.proofs.Common.{write_from, memory_after}
+use Rattle.spaces.proofs.Common.{write_from, memory_after, Executes}
 use Rattle.spaces.proofs.SpacesLemmas.{taken-placed, within}
-use Rattle.spaces.specs.Spaces.{Executes}
 
 -- ---- one after the other
 

@@ -4,7 +4,7 @@ pub use Rattle.std.proofs.Common.{get_or-set_same, IfSome, if◌then◌else◌, 
 pub use Rattle.std.proofs.Common.{option_map, refl, replicate, Result, slice_set, Some, subst, suc, sym, take, take-append-drop, true, zero, ℕ, ◌∙◌, ◌∷◌, ◌≡◌, ◌≢◌, ◌≤◌, ◌⊎◌}
 pub use Rattle.std.proofs.Math.ListN.{get_or-map}
 pub use Rattle.std.proofs.lemmas.Bool.{and_parts, cases_Bool, cases_eq, cases_lt}
-pub use Rattle.std.proofs.lemmas.List.{get_or_default, length-map, length-replicate, length-take, set-get_or, take_all}
+pub use Rattle.std.proofs.lemmas.List.{get_or_default, length-map, length-replicate, length-take, set-get_or, take_all, nil_from_length}
 pub use Rattle.std.proofs.lemmas.List.Sums.{sum_by-cons}
 pub use Rattle.std.specs.Bool.{OnFalse, OnTrue}
 pub use Rattle.std.specs.List.{flat_map, prefix_len, refill}
@@ -40,7 +40,7 @@ pub use Rattle.unixmodel.specs.declared.trap.Cause.TheVariants.{StorePageFault}
 pub use Rattle.unixmodel.specs.declared.trap.Trap.{Trap}
 pub use Rattle.vm.proofs.PageLemmas.{length-mapping}
 pub use Rattle.vm.proofs.ReachLemmas.{page-there}
-pub use Rattle.vm.proofs.SharesLemmas.{fork-machine, free-left, machine-new, none-flat, none-there, one-place, rest-held, rest-machine, rest-untouched, set-place, trade-machine, trade-others, trade-rest, Trades-write, two-places}
+pub use Rattle.vm.proofs.SharesLemmas.{fork-machine, free-left, machine-new, none-flat, none-there, one-place, rest-held, rest-machine, rest-untouched, set-place, trade-machine, trade-others, trade-rest, Trades-write, two-places, each-set}
 pub use Rattle.vm.proofs.WalkLaw.{coherent-grown, get-mapping, mapped-page, mapping-is, mapping-past, mapping-within, unmapped-page, walks-entries}
 pub use Rattle.vm.specs.Dense.{entries_below, frame_at, frames_for, mapping_below, marks_at, pages_below, read_at}
 unfoldable pub use Rattle.vm.specs.Dense.{read_below}
@@ -50,9 +50,10 @@ pub use Rattle.vm.specs.Shares.{frames_used, IsMachine, IsPlace, OthersUntouched
 pub use Rattle.vm.specs.Space.{entries_of, holds, IsMapped, IsOnce, IsRearranged, IsSpace, IsUntouched, mapping_of, pages_in, pages_of, Reframes, Stands}
 pub use Rattle.vm.specs.declared.Space.{Space}
 pub use Rattle.vm.specs.declared.VmFault.{VmFault}
+pub use Rattle.hart.specs.Runs.{Point, DoesOne, point_of}
 pub use Rattle.spaces.specs.Ends.{IsOpen}
 pub use Rattle.spaces.specs.Instructions.{Does}
 unfoldable pub use Rattle.spaces.specs.Instructions.{Advances}
-pub use Rattle.spaces.specs.Spaces.{bytes_in, computed, forked, frames_in, grown, has_pipe, has_space, no_pages, shrunk, Spaces, SpaceView, taken_frames, Traps, view_at, with_pipe, with_place, with_view}
+pub use Rattle.spaces.specs.Spaces.{bytes_in, computed, forked, frames_in, grown, has_pipe, has_space, no_pages, shrunk, Spaces, SpaceView, taken_frames, Traps, view_at, with_pipe, with_place, with_view, Executes, copied}
 pub use Rattle.spaces.specs.View.{frames_at, IsActive, IsSpaces, pipe_frames, pipe_shown, Runs, shown, spaces_of, view_with}
 pub use Rattle.spaces.specs.declared.Spaces.TheInside.{Inside}

@@ -2,14 +2,13 @@
 use Rattle.spaces.proofs.Common.{◌+◌, ◌<◌, [], ap, arith, Bool, eqb, false, get_or, length, length-set, List, map, None, Option, refl, slice_set, Some, subst, sym, true, ℕ, ◌∙◌, ◌∷◌, ◌≡◌, ◌≢◌, ◌≤◌, get_or_default, length-map, flat_map}
 use Rattle.spaces.proofs.Common.{refill, is_some, not, unwrap_or, ◌||◌, count_of-append, count_of-first, held-inside, one_if-le, Trades-give, Trades-take, among, free_count, further_at, IsFreeList, SameBut, extra_of, free_of, count_of}
 use Rattle.spaces.proofs.Common.{Trades, holders_of, Frames, bytes_of, Pipe, Stays, frame_of, slot, taken, one-place, rest-held, rest-machine, rest-untouched, set-place, Trades-write, two-places, IsOpen, bytes_in, has_pipe, taken_frames}
-use Rattle.spaces.proofs.Common.{with_pipe, frames_at, IsSpaces, pipe_frames, pipe_shown, shown, spaces_of, Inside}
+use Rattle.spaces.proofs.Common.{with_pipe, frames_at, IsSpaces, pipe_frames, pipe_shown, shown, spaces_of, Inside, each-set}
 use Rattle.spaces.proofs.Pipes.{pipe-free, pipe-held, pipe-slot, pipes-placed}
 use Rattle.spaces.proofs.Places.{free-taken, taken-fits}
 use Rattle.spaces.proofs.SpacesLemmas.{map-same, none-of, refilled, some-pipe, taken-piped, within}
 use Rattle.spaces.proofs.Stepped.{here}
 use Rattle.spaces.proofs.Traded.{Shows, runs-on, same-shown, still-active}
 use Rattle.unixmodel.specs.Translation as translation
-use Rattle.vm.proofs.SharesLemmas.{each-set}
 use Rattle.vm.specs.Shares as shares
 
 -- ---- what the places for pipes show

@@ -1,7 +1,7 @@
 -- Instructions of the process of a place, as the hart ran them.
 use Rattle.spaces.proofs.Common.{◌+◌, arith, Err, IfSome, length, List, None, Option, refl, Some, subst, suc, true, zero, ℕ, ◌≡◌, ◌≤◌, is_some, Hart, IsCoherent, Mapped, memory_of, WalksTo, cycle, StorePageFault, Trap, walks-entries}
-use Rattle.spaces.proofs.Common.{entry_marks, entries_of, pages_in, pages_of, Space, Advances, view_at, IsSpaces, spaces_of, view_with, Inside}
-use Rattle.hart.specs.Runs.{Goes, GoesOn, Point, Reaches, RunsTo, StaysWhole, point_of}
+use Rattle.spaces.proofs.Common.{entry_marks, entries_of, pages_in, pages_of, Space, Advances, view_at, IsSpaces, spaces_of, view_with, Inside, Point, point_of}
+use Rattle.hart.specs.Runs.{Goes, GoesOn, Reaches, RunsTo, StaysWhole}
 use Rattle.spaces.proofs.Advancing.{AdvancesTo, advances-more, advances-none}
 use Rattle.spaces.proofs.Places.{held-is}
 use Rattle.spaces.proofs.Stepped.{IsHere, IsRun, here, here-more, let_through, point-does, run-of, sound, sound-run, spaces_at, trap-right}

@@ -3,12 +3,10 @@ use Rattle.spaces.proofs.Common.{◌+◌, ◌++◌, ◌-◌, ◌<◌, [], ap, ar
 use Rattle.spaces.proofs.Common.{subst, sym, take, true, ℕ, ◌∙◌, ◌≡◌, ◌≢◌, ◌≤◌, ◌⊎◌, cases_eq, length-replicate, set-get_or, take_all, OnFalse, OnTrue, refill, OnErr, OnOk, free_count, IsFreeList, Trades, Frames, FrameNo, coherent-nothing}
 use Rattle.spaces.proofs.Common.{IsCoherent, page_frames, slot, Memory, Perm, shared_memory, zero_page, HoldsNothing, Translation, length-mapping, fork-machine, trade-machine, trade-others, frames_for, entry_marks, IsMachine, IsPlace}
 use Rattle.spaces.proofs.Common.{OthersUntouched, entries_of, holds, IsSpace, IsUntouched, pages_in, pages_of, Reframes, Stands, Space, VmFault, forked, frames_in, grown, has_space, no_pages, SpaceView, taken_frames, with_place, IsActive}
-use Rattle.spaces.proofs.Common.{IsSpaces, pipe_frames, Runs, shown, Spaces, spaces_of, view_with, Inside}
+use Rattle.spaces.proofs.Common.{IsSpaces, pipe_frames, Runs, shown, Spaces, spaces_of, view_with, Inside, copied, nil_from_length}
 use Rattle.spaces.proofs.Pipes.{pipes-beside}
 use Rattle.spaces.proofs.Places.{frames-shown, frames_for-pages, free-is, free-taken, held-is, length-pages_of, places-count, slot-is, taken-fits}
 use Rattle.spaces.proofs.SpacesLemmas.{map-placed, place-free, refilled, taken-forked, taken-placed, within}
-use Rattle.spaces.specs.Spaces.{copied}
-use Rattle.std.proofs.lemmas.List.{nil_from_length}
 use Rattle.unixmodel.specs.Translation as translation
 use Rattle.vm.specs.Shares as shares
 

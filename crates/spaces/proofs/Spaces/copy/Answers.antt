@@ -3,8 +3,7 @@ use Rattle.spaces.proofs.Spaces.copy.Goals as goal
 use Rattle.spaces.proofs.Spaces.copy.Goals.{After-fence_active}
 use Rattle.spaces.proofs.Places.{stands-there}
 use Rattle.spaces.proofs.Traded.{Shows, over-forked, set_in, shared-there}
-use Rattle.spaces.proofs.Common.{spaces_of, Some, ap}
-use Rattle.spaces.specs.Spaces.{copied}
+use Rattle.spaces.proofs.Common.{spaces_of, Some, ap, copied}
 
 pub space_at-space-requires : goal.space_at-space-requires
 space_at-space-requires g c = stands-there c.self.inside c.args.from (rw (← c.self.view_is) at c.requires.from)
