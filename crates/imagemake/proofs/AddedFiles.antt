@@ -1,10 +1,7 @@
 -- What the steps of an entry make of the files, and whether they have room.
 use Rattle.imagemake.proofs.Common.{◌≡◌, ◌≢◌, ℕ, ◌<◌, ◌≤◌, Bool, Err, List, None, Ok, Result, Some, cond, true, false, ap, sym, refl, ◌∙◌, arith, inl, inr, nat_le, option_map, unwrap_or, ◌&&◌, ◌⊎◌, IsErrAnd, le-leb, lt-leb, true≢false}
 use Rattle.imagemake.proofs.Common.{get_or-set_other, get_or-set_same, length-set, length_push, none-some, slot-within, FileTree, IsNow, now-files, blocks_of-set, taken_by, Files, Node, blocks_for, longest, put, size_of, slot, Wrong, added}
-use Rattle.imagemake.proofs.Common.{appended, if_room, is_short, linked, node_for, CanAdd, HasDirectory, Puts, StoreFault, blocks_of, Directory, Thing}
-use Rattle.tree.specs.Whole.{IsWhole}
-use Rattle.tree.proofs.Bridging.{taken-grows}
-use Rattle.imagemake.specs.Added.{PutsName, Stores}
+use Rattle.imagemake.proofs.Common.{appended, if_room, is_short, linked, node_for, CanAdd, HasDirectory, Puts, StoreFault, blocks_of, Directory, Thing, IsWhole, taken-grows, PutsName, Stores}
 use Rattle.imagemake.proofs.MadeEntry.{above, added-is, apart, entry, here, linked-directory, named, places_more}
 use Rattle.imagemake.proofs.Named.{linked-size}
 use Rattle.imagemake.proofs.Owned.{Owns-after, told_err}
@@ -94,7 +91,10 @@ module _ (t : FileTree) {d : ℕ} {name : List ℕ} {n : ℕ} (thing : Thing) (c
       name-refused {s} {fault} tells told =
           let last = tells directory-after in
           rw (told_err s told) (record {
-            stored = TellsFull-weaker (λ why. lacks-room (inr (elim why [ inl long ↦ inl long | inr full ↦ inr (omega (arith, full, ap blocks_of (ap (λ (fs : Files). put fs d becomes) (now-files now-one)), ap (λ (t : FileTree). t.block_limit) now-one.is)) ]))) fault last.done;
+            stored = TellsFull-weaker (λ why. lacks-room (inr (elim why [
+              | inl long ↦ inl long
+              | inr full ↦ inr (omega (arith, full, ap blocks_of (ap (λ (fs : Files). put fs d becomes) (now-files now-one)), ap (λ (t : FileTree). t.block_limit) now-one.is))
+            ]))) fault last.done;
             owns = Owns-after now-one.later last.owns;
           })
 

@@ -24,9 +24,6 @@ counted-among p (x ∷ xs) d h = elim (cases_Bool (p x)) [
 
 -- ---- good names
 
-pub good-count : (es : List Entry) → All (λ (e : Entry). IsTrue (is_name e.name)) es → count_by (λ (e : Entry). not (is_name e.name)) es ≡ 0
-good-count es h = count_by-none (λ (e : Entry). not (is_name e.name)) es (λ k d l. ap not (h k d l))
-
 pub good-from : (es : List Entry) → count_by (λ (e : Entry). not (is_name e.name)) es ≡ 0 → All (λ (e : Entry). IsTrue (is_name e.name)) es
 good-from es none k d l = elim (cases_Bool (is_name (get_or es k d).name)) [
   | inl t ↦ t

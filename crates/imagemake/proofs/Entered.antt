@@ -1,15 +1,13 @@
 -- An entry is put among the files.
 use Rattle.imagemake.proofs.Common.{◌≡◌, ℕ, ◌+◌, ◌<◌, ◌≤◌, Bool, List, [], ◌∷◌, ◌++◌, Option, Some, Ok, Err, Result, length, ap, sym, refl, ◌∙◌, arith, subst, length_push, FileTree, HasFiles, Files, is_directory, slot, KeepsNode}
 use Rattle.imagemake.proofs.Common.{KeepsRules, ManifestEntry, added, if_room, node_for, with_manifest_entry, CanAdd, PackedAt, AddsEntry, IsMade, IsSpot, make_fault, IsBegun, MadeName, made_name, Refuses, StoreFault, below-slot, Entry}
-use Rattle.imagemake.proofs.Common.{Directory, Thing}
-use Rattle.tree.specs.Whole.{IsWhole}
-use Rattle.imagemake.specs.Added.{Stores}
+use Rattle.imagemake.proofs.Common.{Directory, Thing, lt-leb, IsWhole, Stores}
 use Rattle.imagemake.specs.declared.store.StoreFault.TheVariants.{Blocks, Device}
 use Rattle.imagemake.proofs.FewLinks.{few-directories}
 use Rattle.imagemake.proofs.MadeEntry.{directory-at}
 use Rattle.imagemake.proofs.MadeFiles.{IsBegun-more}
 use Rattle.imagemake.proofs.MadeSearch.{IsListed-more}
-use Rattle.imagemake.proofs.Spotting.{last-good, spot-reaches, spot-room}
+use Rattle.imagemake.proofs.Spotting.{last-good, entry-spot, spot-reaches}
 
 -- ---- how many there are
 
@@ -57,7 +55,7 @@ module _ {t : FileTree} {made : List MadeName} (whole : IsWhole t) (is : IsMade 
         passed : with_manifest_entry t.block_limit (length t.files) t.files (length made + 2) entry ≡ if_room t.block_limit d (length made + 2) (added t.files d name (length made + 2) thing)
         passed =
             ap (λ p. with_manifest_entry t.block_limit (length t.files) t.files (length made + 2) (record { path = p; thing = thing })) (sym given_is)
-            ∙ spot-room spot t.block_limit (length t.files) t.files (length made + 2) thing is.listed room
+            ∙ entry-spot spot t.block_limit (length t.files) t.files (length made + 2) thing is.listed ∙ rw (lt-leb (length t.files) (length made + 2) room) refl
 
         pub AddsEntry-stored : r ≡ Ok tt → {folder : Bool} {now : List MadeName} → now ≡ made ++ made_name d name folder ∷ [] → folder ≡ is_directory (node_for (length made + 2) d thing) → AddsEntry t new made now entry
         AddsEntry-stored done {folder} {now} pushed is_folder =

@@ -1,8 +1,8 @@
 -- Files at rest keep the rules of a running machine.
 use Rattle.imagemake.proofs.Common.{◌≡◌, ◌≢◌, ℕ, zero, suc, ◌≤◌, Bool, true, false, cond, None, Option, Some, inl, inr, get_or, ap, sym, refl, ◌∙◌, arith, subst, All, IsSome, is_some, option_map, unwrap_or, ◌==◌, All-nil, cases_eq}
 use Rattle.imagemake.proofs.Common.{cond-false, cond-true, false≢true, Files, Node, is_directory, links_of, slot, KeepsNode, KeepsRules, all_entries, entries_of, is_directory_at, names_of, parent_of, EntriesAt-from, Climbs, ancestor}
-use Rattle.imagemake.proofs.Common.{Climbs-reached, parent_root, HasRoot, IsRanked, KeepsLive, KeepsTree, entries, names_for, names_by-le, eq-eqb, ne_eqb, Entry, Directory}
-use Rattle.imagemake.proofs.Counted.{count_by-none, good-count, once-count}
+use Rattle.imagemake.proofs.Common.{Climbs-reached, parent_root, HasRoot, IsRanked, KeepsLive, KeepsTree, entries, names_for, names_by-le, eq-eqb, ne_eqb, Entry, Directory, not, is_name}
+use Rattle.imagemake.proofs.Counted.{count_by-none, once-count}
 use Rattle.imagemake.proofs.Parents.{all-entries, parent-names, parent-only}
 use Rattle.imagemake.proofs.ToRules.{folders-are, naming-directory}
 
@@ -63,7 +63,7 @@ module _ {files : Files} (rules : KeepsRules files) where
         root = λ e. ap (parent_of files) e ∙ parent_root files;
         names = λ s. parent-names files n s (let c = k.named ∙ cond-false (n == 1) 0 1 (ne_eqb n 1 s) in omega arith);
       };
-      good = good-count (entries places) k.names;
+      good = count_by-none (λ (e : Entry). not (is_name e.name)) (entries places) (λ i e l. ap not (k.names i e l));
       once = once-count (entries places) k.once;
       counted = let c = k.counted in omega (arith, folders-are files n (suc links) places here);
     },

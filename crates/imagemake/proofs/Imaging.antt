@@ -1,8 +1,8 @@
 -- From a blank disk to the bytes of an image that denotes files.
 use Rattle.imagemake.proofs.Common.{◌≡◌, ℕ, ◌+◌, ◌*◌, ◌&&◌, true, false, cond, List, None, Ok, Err, Option, Result, get_or, length, nat_le, nat_lt, ap, sym, refl, ◌∙◌, arith, inl, inr, subst, replicate, OnOk, IsErrAnd, and_parts, cases_lt}
-use Rattle.imagemake.proofs.Common.{false≢true, nat_tests, get_or-replicate, get_or_past, length-replicate, Geometry, RawNode, FitsPlaces, IsFileSystem, IsStored, FileTree, tree_with, IsNow, now-limit, files-are, held-again, Files}
-use Rattle.imagemake.proofs.Common.{free_slots, format, Denotes, data_start, ManifestEntry, Wrong, bare_files, data_blocks_of, files_made, has_numbers, with_entries, Numbers, IsBlank, IsPossible, MakesEntries, made_by, image_of, MakesImage}
-use Rattle.imagemake.proofs.Common.{Refuses, MakeFault, NoMemory, IfErr, IfOk, IsOk, blocks_of}
+use Rattle.imagemake.proofs.Common.{false≢true, nat_tests, get_or-replicate, get_or_past, length-replicate, Geometry, RawNode, FitsPlaces, IsStored, FileTree, tree_with, IsNow, now-limit, files-are, Files, free_slots, format, Denotes}
+use Rattle.imagemake.proofs.Common.{data_start, ManifestEntry, Wrong, bare_files, data_blocks_of, files_made, has_numbers, with_entries, Numbers, IsBlank, IsPossible, MakesEntries, made_by, image_of, MakesImage, Refuses, MakeFault}
+use Rattle.imagemake.proofs.Common.{NoMemory, IfErr, IfOk, IsOk, blocks_of}
 use Rattle.balloc.specs.Format.{IsNew}
 use Rattle.cache.specs.Disk.{Disk}
 use Rattle.inode.specs.Store.{IsWhole, Store, store_over}
@@ -42,9 +42,6 @@ module _ {D : Type 0} {g : Geometry} {s : Store D} (possible : IsPossible g) (bl
         free = all ∙ ap (λ (g : Geometry). data_blocks_of g.size g.inodes) (sym blank.numbers);
         places = λ n. subst FitsPlaces (sym (slot-free g.inodes n)) tt;
       }
-
-  pub blank-held : IsFileSystem s
-  blank-held = held-again blank-stores
 
   pub bare-tree : {tree : FileTree} {identity : List ℕ} → tree ≡ tree_with identity s (replicate s.geometry.inodes 0) → IsBareTree g tree
   bare-tree {tree} is =

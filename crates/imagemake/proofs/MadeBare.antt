@@ -62,14 +62,11 @@ module _ (inodes : ℕ) (some : 2 ≤ inodes) where
   bare-each P root none m =
       at_or (λ k. P k (slot (bare_files inodes) k)) 1 m (subst (P 1) (sym slot-root) root) (λ s. subst (P m) (sym (slot-bare m s)) (none m s))
 
-  bare-entries : (m : ℕ) → entries_of (slot (bare_files inodes) m) ≡ []
-  bare-entries = bare-each (λ m o. entries_of o ≡ []) refl (λ m s. refl)
-
   no_entries : all_entries (bare_files inodes) ≡ []
   unfolding all_entries
   no_entries =
       flat_map-none (λ d. map (λ (e : Entry). (d, e)) (entries_of (slot (bare_files inodes) d)))
-      (λ d. ap (map (λ (e : Entry). (d, e))) (bare-entries d)) (range_with_len 0 (length (bare_files inodes)))
+      (λ d. ap (map (λ (e : Entry). (d, e))) (bare-each (λ m o. entries_of o ≡ []) refl (λ m s. refl) d)) (range_with_len 0 (length (bare_files inodes)))
 
   nothing-named : (m : ℕ) → names_of (bare_files inodes) m ≡ 0
   unfolding names_of

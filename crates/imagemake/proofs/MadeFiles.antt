@@ -1,7 +1,6 @@
 -- What an entry of a manifest makes keeps the rules of files.
 use Rattle.imagemake.proofs.Common.{◌≡◌, ◌≢◌, ℕ, ◌+◌, ◌≤◌, ◌<◌, Bool, None, Ok, Err, Option, Some, Result, true, false, cond, sym, refl, ◌∙◌, arith, nat_le, option_map, unwrap_or, IsSome, ◌&&◌, and_parts, leb-true, none-some, Files, Node}
-use Rattle.imagemake.proofs.Common.{List, longest, lookup, size_of, slot, KeepsSize, Wrong, added, if_room, is_short, CanAdd, PackedAt, IsBegun, blocks_of, Directory, Thing}
-use Rattle.unixmodel.specs.Manifest.Wrong.{Blocks}
+use Rattle.imagemake.proofs.Common.{List, longest, lookup, size_of, slot, KeepsSize, Wrong, added, if_room, is_short, CanAdd, PackedAt, IsBegun, blocks_of, Directory, Thing, Blocks}
 use Rattle.imagemake.proofs.MadeEntry.{each-more, entry, long}
 use Rattle.imagemake.proofs.MadeBare.{packed-node}
 use Rattle.imagemake.proofs.MadeRules.{KeepsRules-more}

@@ -1,14 +1,10 @@
 -- Files with an entry more keep the rules of files at rest: a call on names makes them, which keeps those of a running machine.
 use Rattle.imagemake.proofs.Common.{◌≡◌, ℕ, suc, ◌+◌, ◌*◌, ◌<◌, ◌≤◌, List, length, None, Some, ap, sym, refl, ◌∙◌, arith, subst, inl, inr, cases_eq, length_push, set-set, length-set, get_or-set_other, get_or-set_same, IsSome, Files, Node}
 use Rattle.imagemake.proofs.Common.{links_of, longest, lookup, slot, slot-within, put, KeepsNode, KeepsRules, KeepsSize, subdirectories, added, node_for, Folder, CanAdd, HasDirectory, Directory, Thing, IsDirectory, HasLinked, more_links}
-use Rattle.imagemake.proofs.Common.{new_directory, Spot, most_places, change-is, entered-is}
-use Rattle.unixmodel.specs.Files.{enter, free_number}
+use Rattle.imagemake.proofs.Common.{new_directory, Spot, most_places, change-is, entered-is, enter, free_number, IsGap, number-lowest, enter-room, none-not}
 use Rattle.unixmodel.specs.NameCalls.{Made, make_at}
 use Rattle.names.specs.Changes.{Changed}
-use Rattle.names.proofs.Finding.{IsGap}
 use Rattle.names.proofs.Making.{makes-directory, makes-file}
-use Rattle.tree.proofs.Bridging.{number-lowest}
-use Rattle.tree.proofs.Rooms.{enter-room, none-not}
 use Rattle.imagemake.proofs.FromRules.{KeepsTree-rules, linked-rules}
 use Rattle.imagemake.proofs.ToRules.{KeepsRules-live}
 use Rattle.imagemake.proofs.MadeEntry.{above, added-is, apart, entry, here, places_more}

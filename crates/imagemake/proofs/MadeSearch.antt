@@ -1,10 +1,9 @@
 -- A name in a directory of what is made is found in the list of the names that are made so far.
 use Rattle.std.proofs.Math.Seq.{get_or-append_seam}
-use Rattle.std.proofs.lemmas.Option.{slice_get_read}
 use Rattle.imagemake.proofs.Common.{◌≡◌, ◌≢◌, ℕ, ◌+◌, ◌-◌, ◌≤◌, Bool, true, false, cond, List, [], ◌∷◌, ◌++◌, length, None, Option, Some, inl, inr, ap, ap₂, sym, refl, ◌∙◌, arith, bytes_eq, nat_lt, option_and_then, option_map, position}
 use Rattle.imagemake.proofs.Common.{slice_get, unwrap_or, ◌&&◌, ◌==◌, zero, suc, not, eqb, list_all, position_or_len, option_or, and_parts, cases_lt, false≢true, false_from_ne_true, or_parts, le-ltb, lt-ltb, cond-false, cond-true}
 use Rattle.imagemake.proofs.Common.{length_push, bytes_eq-Decides, Files, dot, dot_dot, entry_number, follow, is_directory, lookup, KeepsRules, is_directory_at, is_name, added, bare_files, node_for, CanAdd, Folder, IsListed, MadeName}
-use Rattle.imagemake.proofs.Common.{found, is_folder, made_name, seek, stands_at, position_or_len_push, prefix_len-le-length, Thing, eq-eqb, ne_eqb}
+use Rattle.imagemake.proofs.Common.{found, is_folder, made_name, seek, stands_at, position_or_len_push, prefix_len-le-length, Thing, eq-eqb, ne_eqb, slice_get_read}
 use Rattle.imagerules.proofs.Paths.{IsGiven-name}
 use Rattle.imagemake.proofs.Pathing.{is_folder-high, is_folder-low}
 use Rattle.imagemake.proofs.MadeBare.{bare-each}

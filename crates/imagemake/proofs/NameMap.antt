@@ -13,12 +13,9 @@ abbrev pub is_key : ℕ × Bor (List ℕ) → ℕ × Bor (List ℕ) → Bool
 is_key k l = nat_eq k.0 l.0 && bytes_eq k.1.now l.1.now
 
 module _ (k : ℕ × Bor (List ℕ)) where
-  same-test : (e : (ℕ × Bor (List ℕ)) × Bool) → is_key k e.0 ≡ stands_at k.0 k.1.now (name_of e)
-  same-test e = λ i. nat_eq_equiv.symm k.0 e.0.0 i && nat_list_eq_equiv.symm k.1.now e.0.1.now i
-
   same-place : (es : List ((ℕ × Bor (List ℕ)) × Bool)) → position_or_len (is_key k) (keys_of es) ≡ position_or_len (stands_at k.0 k.1.now) (map name_of es)
   same-place [] = refl
-  same-place (e ∷ es) = λ i. cond (not (same-test e i)) (1 + same-place es i) 0
+  same-place (e ∷ es) = λ i. cond (not (nat_eq_equiv.symm k.0 e.0.0 i && nat_list_eq_equiv.symm k.1.now e.0.1.now i)) (1 + same-place es i) 0
 
   pub position-names : (es : List ((ℕ × Bor (List ℕ)) × Bool)) → position (is_key k) (keys_of es) ≡ position (stands_at k.0 k.1.now) (map name_of es)
   position-names es = ap₂ (λ n l. cond (nat_lt n l) (Some n) None) (same-place es) (length-map es (λ e. e.0) ∙ sym (length-map es name_of))

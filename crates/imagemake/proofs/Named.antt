@@ -2,9 +2,8 @@
 use Rattle.imagemake.proofs.Common.{◌≡◌, ℕ, ◌+◌, ◌-◌, ◌<◌, ◌≤◌, ◌∙◌, ◌++◌, ◌∷◌, List, [], None, Option, Some, Result, Ok, ap, arith, inl, inr, length, refl, subst, sym, OnOk, false, is_some, nat_lt, IfOk-at_ok, cond-false, cond-true}
 use Rattle.imagemake.proofs.Common.{le-ltb, lt-ltb, cases_lt, false≢true, get_or-append_right, get_or_append_left, length_push, set-set, none-some, same_Some, entered, growth, placed, room_behind, room_in, FileTree, Looks, IsNow, now-files}
 use Rattle.imagemake.proofs.Common.{blocks_of-set, slot-within, Files, Node, blocks_for, change_node, links_of, most_places, put, size_of, slot, with_links, appended, linked, Folder, more_links, HasDirectory, IsPacked, LacksRoomFor}
-use Rattle.imagemake.proofs.Common.{change-is, blocks_of-entered, entered-is, room-end, blocks_of, Entry, Directory, Thing, ◌⊎◌}
+use Rattle.imagemake.proofs.Common.{change-is, blocks_of-entered, entered-is, room-end, blocks_of, Entry, Directory, Thing, ◌⊎◌, HasRoom}
 use Rattle.blockdev.specs.declared.DeviceFault.{DeviceFault}
-use Rattle.tree.specs.Entering.{HasRoom}
 use Rattle.tree.proofs.Linking.{links-size}
 use Rattle.imagemake.proofs.Putting.{slot-put}
 
@@ -19,9 +18,6 @@ module _ (places : List (Option Entry)) (packed : IsPacked places) where
     | inl l ↦ inl (l, room-packed ∙ cond-true (nat_lt (length places) most_places) (Some (length places)) None (lt-ltb (length places) most_places l))
     | inr m ↦ inr (m, room-packed ∙ cond-false (nat_lt (length places) most_places) (Some (length places)) None (le-ltb (length places) most_places m))
   ]
-
-  room-none : room_in places ≡ None → most_places ≤ length places
-  room-none none = elim room-is [ inl e ↦ absurd (none-some (length places) (sym none ∙ e.1)) | inr e ↦ e.0 ]
 
   room-some : (k : ℕ) → room_in places ≡ Some k → k ≡ length places
   room-some k some = elim room-is [ inl e ↦ same_Some k (length places) (sym some ∙ e.1) | inr e ↦ absurd (none-some k (sym e.1 ∙ some)) ]
@@ -68,7 +64,9 @@ module _ {files : Files} {d : ℕ} (h : HasDirectory files d) (e : Entry) where
 
   module _ (limit : ℕ) (t : Thing) where
     pub lacks-place : None ≡ room_in h.places → LacksRoomFor limit files d (linked t named)
-    lacks-place none = let many = room-none h.places h.packed (sym none) in lacks-linked limit files d t named within (inl (omega (arith, length_push h.places (Some e))))
+    lacks-place none =
+        let many : most_places ≤ length h.places = elim (room-is h.places h.packed) [ inl e ↦ absurd (none-some (length h.places) (none ∙ e.1)) | inr e ↦ e.0 ] in
+        lacks-linked limit files d t named within (inl (omega (arith, length_push h.places (Some e))))
 
     pub lacks-growth : (k : ℕ) → room_in h.places ≡ Some k → limit < blocks_of files + (growth h.places k + 0) → LacksRoomFor limit files d (linked t named)
     lacks-growth k room few = lacks-linked limit files d t named within (inr (omega (arith, ap blocks_of (named-is k room), blocks_of-entered files d h.links h.places h.here k e)))

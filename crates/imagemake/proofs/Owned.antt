@@ -1,6 +1,5 @@
 -- A failed access is told only where the device owns up to it.
-use Rattle.imagemake.proofs.Common.{◌≡◌, ℕ, ◌≤◌, Err, Ok, Result, ap, arith, refl, subst, sym, ◌∙◌, OnOk, HasCause, IsErrAnd, err_from_is_err_and, Owns, BlamesDevice, make_fault, MakeFault, StoreFault}
-use Rattle.std.proofs.Common.{is_err}
+use Rattle.imagemake.proofs.Common.{◌≡◌, ℕ, ◌≤◌, Err, Ok, Result, ap, arith, refl, subst, sym, ◌∙◌, OnOk, HasCause, IsErrAnd, err_from_is_err_and, Owns, BlamesDevice, make_fault, MakeFault, StoreFault, is_err}
 use Rattle.imagemake.specs.declared.store.StoreFault.TheVariants.{Blocks, Device}
 
 -- the fault that is told

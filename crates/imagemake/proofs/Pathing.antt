@@ -26,16 +26,11 @@ module _ (path : List ℕ) (at i : ℕ) (told : Some i ≡ position (λ b. b == 
   pub within_next : at + (i + 1) ≤ length path
   within_next = let s = (position-Some (λ b. b == 0x2f) (drop at path) i 0 slash).0 in omega (arith, length-drop at path)
 
-  pub name_next : take (at + i - at) (drop at path) ≡ take i (drop at path)
-  name_next = let e : at + i - at ≡ i = omega arith in ap (λ n. take n (drop at path)) e
-
-  pub pieces_next : pieces (drop at path) ≡ take i (drop at path) ∷ pieces (drop (at + (i + 1)) path)
-  pieces_next = pieces_first (drop at path) i slash ∙ ap (λ bs. take i (drop at path) ∷ pieces bs) (drop-drop (i + 1) at path)
-
   pub all_next : (good : Bool) → is_name (take (at + i - at) (drop at path)) ≡ good → list_all is_name (pieces (drop at path)) ≡ (good && list_all is_name (pieces (drop (at + (i + 1)) path)))
   all_next good is =
-      ap (list_all is_name) pieces_next
-      ∙ ap (λ b. b && list_all is_name (pieces (drop (at + (i + 1)) path))) (ap is_name (sym name_next) ∙ is)
+      let e : at + i - at ≡ i = omega arith in
+      ap (list_all is_name) (pieces_first (drop at path) i slash ∙ ap (λ bs. take i (drop at path) ∷ pieces bs) (drop-drop (i + 1) at path))
+      ∙ ap (λ b. b && list_all is_name (pieces (drop (at + (i + 1)) path))) (ap (λ n. is_name (take n (drop at path))) (sym e) ∙ is)
 
 pub good_last : (bs : List ℕ) → position (λ b. b == 0x2f) bs ≡ None → list_all is_name (pieces bs) ≡ is_name bs
 good_last bs none = ap (list_all is_name) (pieces_last bs none) ∙ and-true (is_name bs)

@@ -1,8 +1,7 @@
 -- Steps that put nodes, one after the other.
 use Rattle.imagemake.proofs.Common.{◌≡◌, ◌≢◌, ℕ, ◌+◌, ◌<◌, ◌≤◌, ◌∙◌, Err, [], None, Ok, Result, Some, length, ap, arith, inl, inr, refl, subst, sym, IsErrAnd, get_or-set_other, get_or-set_same, set-set, fresh, FileTree, IsNow, now-files}
 use Rattle.imagemake.proofs.Common.{now-limit, blocks_of-set, slot-within, taken_by, HasCause, Files, Node, free_slots, kind_of, put, slot, bare_directory, bare_files, Bytes, Folder, Special, LacksRoomFor, Puts, TellsFull, bare, major_of}
-use Rattle.imagemake.proofs.Common.{minor_of, StoreFault, blocks_of, Directory, Thing}
-use Rattle.std.specs.Result.{is_err}
+use Rattle.imagemake.proofs.Common.{minor_of, StoreFault, blocks_of, Directory, Thing, is_err}
 use Rattle.cache.proofs.Ending.{rises-before}
 use Rattle.tree.specs.Steps.{IsUnnamed}
 use Rattle.tree.proofs.Taking.{fresh-blocks}
@@ -39,11 +38,8 @@ module _ {old mid : FileTree} (n : ℕ) (a b : Node) (is : IsNow old mid (put ol
   limit : mid.block_limit ≡ old.block_limit
   limit = ap (λ (t : FileTree). t.block_limit) is.is
 
-  pub lacks-again : LacksRoomFor mid.block_limit mid.files n b → LacksRoomFor old.block_limit old.files n b
-  lacks-again lacks = elim lacks [ inl long ↦ inl long | inr full ↦ inr (omega (arith, ap blocks_of twice, limit)) ]
-
   pub puts-last : {new : FileTree} (r : Result (Unit {0}) StoreFault) → Puts mid new n b r → Puts old new n b r
-  puts-last (Err fault) puts = record { done = TellsFull-weaker lacks-again fault puts.done; owns = Owns-after is.later puts.owns }
+  puts-last (Err fault) puts = record { done = TellsFull-weaker (λ lacks. elim lacks [ inl long ↦ inl long | inr full ↦ inr (omega (arith, full, ap blocks_of twice, limit)) ]) fault puts.done; owns = Owns-after is.later puts.owns }
   puts-last {new} (Ok u) puts = record {
     done = puts.done ∙ ap (λ (t : FileTree). record t { files = put mid.files n b; failures = new.failures }) is.is ∙ ap (λ (fs : Files). record old { files = fs; failures = new.failures }) twice;
     owns = Owns-after is.later puts.owns;

@@ -1,7 +1,7 @@
 -- The spot of a path's last name, looked up in the list of what is made.
-use Rattle.imagemake.proofs.Common.{◌≡◌, ℕ, ◌<◌, ◌≤◌, Bool, true, false, cond, List, [], ◌∷◌, None, Option, Some, Err, drop, ap, sym, refl, ◌∙◌, is_some, ◌&&◌, ◌==◌, ◌++◌, list_all, nat_le, and_parts, eqb-true, false≢true, le-leb, lt-leb}
-use Rattle.imagemake.proofs.Common.{list_all-append, none-some, some_pair_parts, same_Some, Files, pieces, split_last, with_last, is_name, added, if_room, names_in, with_manifest_entry, with_name, with_names, with_split, Inodes}
-use Rattle.imagemake.proofs.Common.{ManifestEntry, Name, Twice, IsSpot, IsListed, MadeName, found, is_folder, reach, seek, Thing}
+use Rattle.imagemake.proofs.Common.{◌≡◌, ℕ, Bool, true, false, cond, List, [], ◌∷◌, None, Option, Some, Err, drop, ap, sym, refl, ◌∙◌, is_some, ◌&&◌, ◌==◌, ◌++◌, list_all, nat_le, and_parts, eqb-true, false≢true, list_all-append, none-some}
+use Rattle.imagemake.proofs.Common.{some_pair_parts, same_Some, Files, pieces, split_last, with_last, is_name, added, if_room, names_in, with_manifest_entry, with_name, with_names, with_split, Inodes, ManifestEntry, Name, Twice, IsSpot}
+use Rattle.imagemake.proofs.Common.{IsListed, MadeName, found, is_folder, reach, seek, Thing}
 use Rattle.imagemake.proofs.MadeSearch.{follow-made}
 use Rattle.imagemake.proofs.Pathing.{reach_some, split-pieces}
 
@@ -87,11 +87,5 @@ module _ {made : List MadeName} {path : List ℕ} {d : ℕ} {last : List ℕ} (r
     entry-at = entry-reaches r blocks inodes files n thing listed ∙ rw (listed.folders d, folder, listed.names d last (last-good r)) refl
 
 module _ {made : List MadeName} {path : List ℕ} {d : ℕ} {name : List ℕ} (spot : IsSpot made path d name) (blocks inodes : ℕ) (files : Files) (n : ℕ) (thing : Thing) (listed : IsListed files made) where
-  entry-spot : with_manifest_entry blocks inodes files n (record { path = path; thing = thing }) ≡ cond (nat_le inodes n) (Err Inodes) (if_room blocks d n (added files d name n thing))
+  pub entry-spot : with_manifest_entry blocks inodes files n (record { path = path; thing = thing }) ≡ cond (nat_le inodes n) (Err Inodes) (if_room blocks d n (added files d name n thing))
   entry-spot = entry-at (spot-reaches spot) spot.folder blocks inodes files n thing listed ∙ rw spot.absent refl
-
-  pub spot-inodes : inodes ≤ n → with_manifest_entry blocks inodes files n (record { path = path; thing = thing }) ≡ Err Inodes
-  spot-inodes h = entry-spot ∙ rw (le-leb inodes n h) refl
-
-  pub spot-room : n < inodes → with_manifest_entry blocks inodes files n (record { path = path; thing = thing }) ≡ if_room blocks d n (added files d name n thing)
-  spot-room h = entry-spot ∙ rw (lt-leb inodes n h) refl

@@ -1,5 +1,5 @@
-use Rattle.imagemake.proofs.Common.{ap, arith, refl, sym, subst, ◌∙◌, err_from_is_err_and, files_made, FileTree, MakesEntries, made_by, Refuses, meaning}
-use Rattle.imagemake.proofs.Imaging.{bare-tree, blank-held, makes-image, none-refused, only-memory, possible, refused-entries, refused-numbers, when-ok}
+use Rattle.imagemake.proofs.Common.{ap, arith, refl, sym, subst, ◌∙◌, err_from_is_err_and, files_made, FileTree, MakesEntries, made_by, Refuses, meaning, held-again}
+use Rattle.imagemake.proofs.Imaging.{bare-tree, blank-stores, makes-image, none-refused, only-memory, possible, refused-entries, refused-numbers, when-ok}
 use Rattle.imagemake.proofs.make.Goals as goal
 
 pub returns-then-not-is_possible-clause-refused : goal.returns-then-not-is_possible-clause-refused
@@ -15,7 +15,7 @@ pub is_whole-requires : goal.is_whole-requires
 is_whole-requires c = c.in_ok-volume.ensures.blank.up
 
 pub new-requires : goal.new-requires
-new-requires c = blank-held (possible c.args.size c.args.inodes (sym c.if-not-is_possible.ensures)) c.in_ok-volume.ensures.blank c.is_whole.ensures
+new-requires c = held-again (blank-stores (possible c.args.size c.args.inodes (sym c.if-not-is_possible.ensures)) c.in_ok-volume.ensures.blank c.is_whole.ensures)
 
 pub returns-in_err-tree-clause-refused : goal.returns-in_err-tree-clause-refused
 returns-in_err-tree-clause-refused c = none-refused (files_made (meaning c.args.manifest.now.entries.items) c.args.size c.args.inodes) c.from_residual-in_err-tree.result c.from_residual-in_err-tree.ensures.1 refl

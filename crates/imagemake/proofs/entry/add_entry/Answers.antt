@@ -1,8 +1,8 @@
-use Rattle.imagemake.proofs.Common.{◌≡◌, ◌+◌, ap, arith, length, refl, sym, subst, ◌∙◌, length_push, err_from_is_err_and, with_manifest_entry, Refuses, thing_of}
+use Rattle.imagemake.proofs.Common.{◌≡◌, ◌+◌, ap, arith, length, refl, sym, subst, ◌∙◌, length_push, err_from_is_err_and, with_manifest_entry, Refuses, thing_of, le-leb}
 use Rattle.imagemake.proofs.Entered.{AddsEntry-stored, CanAdd-next, made-few, refused-stored}
 use Rattle.imagemake.proofs.Owned.{Owns-done, Owns-other, Blames-stored, none-done, told_err}
 use Rattle.imagemake.proofs.Things.{folder-thing}
-use Rattle.imagemake.proofs.Spotting.{spot-inodes}
+use Rattle.imagemake.proofs.Spotting.{entry-spot}
 use Rattle.imagemake.proofs.entry.add_entry.Goals as goal
 
 pub is_whole-requires : goal.is_whole-requires
@@ -39,7 +39,8 @@ returns-then-number-numbers-clause-refused g c =
     let made = c.args.made.now.items in
     let thing = thing_of c.args.entry.now.thing in
     ap (λ path. with_manifest_entry t.block_limit (length t.files) t.files (length made + 2) (record { path = path; thing = thing })) (sym c.as_slice-path.ensures.value)
-    ∙ spot-inodes c.in_ok-spot.ensures.spot t.block_limit (length t.files) t.files (length made + 2) thing c.requires.made.listed (omega (arith, c.if-number-numbers.true, c.len-number.ensures, c.numbers.ensures))
+    ∙ entry-spot c.in_ok-spot.ensures.spot t.block_limit (length t.files) t.files (length made + 2) thing c.requires.made.listed
+    ∙ rw (le-leb (length t.files) (length made + 2) (omega (arith, c.if-number-numbers.true, c.len-number.ensures, c.numbers.ensures))) refl
 
 pub returns-then-number-numbers-clause-cause : goal.returns-then-number-numbers-clause-cause
 returns-then-number-numbers-clause-cause g c = Owns-other (omega arith) (λ e. cc) refl
