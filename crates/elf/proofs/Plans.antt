@@ -8,7 +8,7 @@ use Rattle.elf.specs.declared.ElfFault.TheVariants.{Align, Magic, Overlap, Short
 use Rattle.elf.specs.declared.FileHeader.{FileHeader}
 use Rattle.elf.specs.declared.LoadSegment.{LoadSegment}
 use Rattle.elf.specs.Headers.{header_in, header_of, is_within, segment_if, segment_of, segment_shown, wrong}
-use Rattle.unixmodel.specs.Numbers.{number, number_at, round_down}
+use Rattle.unixmodel.specs.Numbers.{number, number_at}
 use Rattle.unixmodel.specs.Plan.{Loaded, Segment, has_bytes, load_segment, load_segments, loaded_of, may_follow, nothing_loaded, segment_at, with_segment}
 
 -- a number in a part of a file
@@ -24,18 +24,13 @@ number_at-part k i at count file h =
 
 -- ---- a program header
 
-same-segment : {k k' f f' o o' a a' n n' s s' : ℕ} → k ≡ k' → f ≡ f' → o ≡ o' → a ≡ a' → n ≡ n' → s ≡ s'
-    → ◌≡◌ {A = Segment} (record { kind = k; flags = f; offset = o; address = a; file_size = n; size = s })
-    (record { kind = k'; flags = f'; offset = o'; address = a'; file_size = n'; size = s' })
-same-segment p q r t u v = λ i. record { kind = p i; flags = q i; offset = r i; address = t i; file_size = u i; size = v i }
-
 -- its 56 bytes tell the segment
 pub segment_at-part : (file : List ℕ) (at : ℕ) → segment_at (take 56 (drop at file)) 0 ≡ segment_at file at
 unfolding segment_at
 segment_at-part file at =
     let here : at + 0 ≡ at = omega arith in
     let part = λ (k i : ℕ) (h : i + k ≤ 56). number_at-part k i at 56 file h in
-    same-segment (part 4 0 (omega arith) ∙ ap (λ p. number_at 4 p file) here) (part 4 4 (omega arith)) (part 8 8 (omega arith)) (part 8 16 (omega arith)) (part 8 32 (omega arith)) (part 8 40 (omega arith))
+    rw (part 4 0 (omega arith) ∙ ap (λ p. number_at 4 p file) here, part 4 4 (omega arith), part 8 8 (omega arith), part 8 16 (omega arith), part 8 32 (omega arith), part 8 40 (omega arith)) refl
 
 -- what loading goes on with after that answer of `segment`
 abbrev pub loaded_by : List ℕ → Loaded → Segment → Result (Option LoadSegment) ElfFault → Option Loaded
@@ -67,21 +62,17 @@ loads-segment file l at = rw (segment_at-part file at) (by-kind file l (segment_
 
 -- ---- the header of a file
 
-none-after : (f : Loaded → Option Loaded) → ((l : Loaded) → f l ≡ None) → (o : Option Loaded) → option_and_then f o ≡ None
-none-after f none None = refl
-none-after f none (Some l) = none l
-
-none-if : (b : Bool) (o : Option Loaded) → o ≡ None → (if b then o else None) ≡ None
-none-if true o none = none
-none-if false o none = refl
+none-then : (b : Bool) (f : Loaded → Option Loaded) → ((l : Loaded) → f l ≡ None) → (o : Option Loaded) → (if b then option_and_then f o else None) ≡ None
+none-then true f none (Some l) = none l
+none-then true f none None = refl
+none-then false f none o = refl
 
 -- program headers that end past the file
 short-headers : (n : ℕ) (file : List ℕ) (at : ℕ) (l : Loaded) → length file < at + 56 * suc n → load_segments file (suc n) at l ≡ None
 unfolding load_segments
 short-headers zero file at l h = let past : nat_le (at + 56) (length file) ≡ false = grind (arith, nat_tests, h) in rw past refl
 short-headers (suc n) file at l h =
-    none-if (nat_le (at + 56) (length file)) _
-    (none-after (λ next. load_segments file (suc n) (at + 56) next) (λ next. short-headers n file (at + 56) next (omega (arith, h))) (load_segment file l (segment_at file at)))
+    none-then (nat_le (at + 56) (length file)) (λ next. load_segments file (suc n) (at + 56) next) (λ next. short-headers n file (at + 56) next (omega (arith, h))) (load_segment file l (segment_at file at))
 
 past-end : (n : ℕ) (file : List ℕ) (at : ℕ) → is_within at (56 * n) (length file) ≡ false → load_segments file n at nothing_loaded ≡ None
 past-end zero file at h = absurd (cc)
@@ -92,15 +83,12 @@ abbrev pub headers_by : List ℕ → Result FileHeader ElfFault → Option Loade
 headers_by file (Err fault) = None
 headers_by file (Ok h) = load_segments file h.count h.program_headers nothing_loaded
 
-same-header : {e e' p p' n n' : ℕ} → e ≡ e' → p ≡ p' → n ≡ n' → ◌≡◌ {A = FileHeader} (record { entry = e; program_headers = p; count = n }) (record { entry = e'; program_headers = p'; count = n' })
-same-header p q r = λ i. record { entry = p i; program_headers = q i; count = r i }
-
 module _ (file : List ℕ) where
   part : (k i : ℕ) → i + k ≤ 64 → number_at k i (take 64 file) ≡ number_at k i file
   part k i h = let here : 0 + i ≡ i = omega arith in number_at-part k i 0 64 file h ∙ ap (λ p. number_at k p file) here
 
   pub header_in-part : header_in (take 64 file) ≡ header_in file
-  header_in-part = same-header (ap (λ n. round_down n 4) (part 8 24 (omega arith))) (part 8 32 (omega arith)) (part 2 56 (omega arith))
+  header_in-part = rw (part 8 24 (omega arith), part 8 32 (omega arith), part 2 56 (omega arith)) refl
 
   by-tests : (a m w : Bool) → (w ≡ false → load_segments file (number_at 2 56 file) (number_at 8 32 file) nothing_loaded ≡ None)
       → (if a && m then load_segments file (number_at 2 56 file) (number_at 8 32 file) nothing_loaded else None)
