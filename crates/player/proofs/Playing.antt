@@ -1,7 +1,8 @@
 -- How a play goes on.
-use Rattle.std.proofs.Common.{◌≡◌, ◌≤◌, ◌++◌, ◌∷◌, ℕ, List, [], Option, Result, Ok, replicate, subst}
+use Rattle.std.proofs.Common.{◌≡◌, ◌≤◌, ◌++◌, ◌∷◌, ℕ, List, [], Option, Result, Ok, Err, ap, replicate, subst}
 use Rattle.std.specs.Prelude.{option_map}
 use Rattle.std.specs.Io.KnownBytes.{Keeps}
+use Rattle.std.specs.Result.{IsErrAnd}
 use Rattle.calls.specs.declared.halt.Halt.{Halt}
 use Rattle.live.proofs.SessionLemmas.{given-all, given-flushed, given-none, given-then, given-up, one-gives}
 use Rattle.live.specs.Sessions.{IsGiven}
@@ -12,6 +13,11 @@ use Rattle.unixmodel.specs.declared.event.Event.{Event}
 use Rattle.unixmodel.specs.declared.event.Event.TheVariants.{Step}
 use Rattle.unixmodel.specs.Failures.{Rises}
 use Rattle.unixmodel.specs.Next.{next}
+
+-- an exit by `?` answers the halt that it was told
+pub lost : {X : Type 0} (r : Result X Halt) {why : Halt} → IsErrAnd r (λ halt. halt ≡ why) → r ≡ Err why
+lost (Ok x) told = absurd told
+lost (Err halt) told = ap Err told
 
 module _ {old new : View} {before after : Option (List ℕ)} {f0 f1 : ℕ} {k0 k1 : Option (List Event)} {r : Result (Unit {0}) Halt} where
   -- what is played is given

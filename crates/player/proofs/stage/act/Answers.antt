@@ -1,16 +1,11 @@
-use Rattle.std.proofs.lemmas.Result.{err_from_is_err_and}
-use Rattle.player.proofs.Playing.{played-none}
+use Rattle.player.proofs.Playing.{lost, played-none}
 use Rattle.player.proofs.stage.act.Goals as goal
 
 pub returns-in_err-command-in-Give : goal.returns-in_err-command-in-Give
-returns-in_err-command-in-Give g c =
-    let p = err_from_is_err_and c.from_residual.result c.from_residual.ensures.1 in
-    rw (p.1, p.2) c.in_err-command-in-Give.ensures
+returns-in_err-command-in-Give g c = rw (lost c.from_residual.result c.from_residual.ensures.1) c.in_err-command-in-Give.ensures
 
 pub returns-in_err-is_there-in-Until : goal.returns-in_err-is_there-in-Until
-returns-in_err-is_there-in-Until g c =
-    let p = err_from_is_err_and c.from_residual-in_err-is_there-in-Until.result c.from_residual-in_err-is_there-in-Until.ensures.1 in
-    rw (p.1, p.2) c.in_err-is_there-in-Until.ensures
+returns-in_err-is_there-in-Until g c = rw (lost c.from_residual-in_err-is_there-in-Until.result c.from_residual-in_err-is_there-in-Until.ensures.1) c.in_err-is_there-in-Until.ensures
 
 pub returns-in-Set : goal.returns-in-Set
 returns-in-Set g c = played-none _ _ _ _ c.requires

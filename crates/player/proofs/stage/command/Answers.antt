@@ -1,19 +1,14 @@
-use Rattle.std.proofs.lemmas.Result.{err_from_is_err_and}
-use Rattle.player.proofs.Playing.{played-then, played-up}
+use Rattle.player.proofs.Playing.{lost, played-then, played-up}
 use Rattle.player.proofs.stage.command.Goals as goal
 
 pub give-requires : goal.give-requires
 give-requires g c = played-up c.in_ok-press-in-Type.ensures
 
 pub returns-in_err-_reached-in-Step : goal.returns-in_err-_reached-in-Step
-returns-in_err-_reached-in-Step g c =
-    let p = err_from_is_err_and c.from_residual.result c.from_residual.ensures.1 in
-    rw (p.1, p.2) c.in_err-_reached-in-Step.ensures
+returns-in_err-_reached-in-Step g c = rw (lost c.from_residual.result c.from_residual.ensures.1) c.in_err-_reached-in-Step.ensures
 
 pub returns-in_err-press-in-Type : goal.returns-in_err-press-in-Type
-returns-in_err-press-in-Type g c =
-    let p = err_from_is_err_and c.from_residual-in_err-press-in-Type.result c.from_residual-in_err-press-in-Type.ensures.1 in
-    rw (p.1, p.2) c.in_err-press-in-Type.ensures
+returns-in_err-press-in-Type g c = rw (lost c.from_residual-in_err-press-in-Type.result c.from_residual-in_err-press-in-Type.ensures.1) c.in_err-press-in-Type.ensures
 
 pub returns-in_ok-press-in-Type : goal.returns-in_ok-press-in-Type
 returns-in_ok-press-in-Type g c = played-then c.in_ok-press-in-Type.ensures c.give.ensures

@@ -1,5 +1,4 @@
-use Rattle.std.proofs.lemmas.Result.{err_from_is_err_and}
-use Rattle.player.proofs.Playing.{played-flushed, played-none, played-then, played-up}
+use Rattle.player.proofs.Playing.{lost, played-flushed, played-none, played-then, played-up}
 use Rattle.player.proofs.stage.perform.Goals as goal
 
 pub loop-acts-init : goal.loop-acts-init
@@ -9,9 +8,7 @@ pub act-requires : goal.act-requires
 act-requires g c = played-up c.loop-acts.invariant
 
 pub returns-in_err-unreached : goal.returns-in_err-unreached
-returns-in_err-unreached g c =
-    let p = err_from_is_err_and c.from_residual.result c.from_residual.ensures.1 in
-    rw (p.1, p.2) (played-then c.loop-acts.invariant c.in_err-unreached.ensures)
+returns-in_err-unreached g c = rw (lost c.from_residual.result c.from_residual.ensures.1) (played-then c.loop-acts.invariant c.in_err-unreached.ensures)
 
 pub returns-then-is_some : goal.returns-then-is_some
 returns-then-is_some g c = played-then c.loop-acts.invariant c.in_ok-unreached.ensures

@@ -1,5 +1,4 @@
-use Rattle.std.proofs.lemmas.Result.{err_from_is_err_and}
-use Rattle.player.proofs.Playing.{played-none, played-then, played-up}
+use Rattle.player.proofs.Playing.{lost, played-none, played-then, played-up}
 use Rattle.player.proofs.stage.press.Goals as goal
 
 pub loop-key-init : goal.loop-key-init
@@ -9,9 +8,7 @@ pub give-requires : goal.give-requires
 give-requires g c = played-up c.loop-key.invariant
 
 pub returns-in_err-give : goal.returns-in_err-give
-returns-in_err-give g c =
-    let p = err_from_is_err_and c.from_residual.result c.from_residual.ensures.1 in
-    rw (p.1, p.2) (played-then c.loop-key.invariant c.in_err-give.ensures)
+returns-in_err-give g c = rw (lost c.from_residual.result c.from_residual.ensures.1) (played-then c.loop-key.invariant c.in_err-give.ensures)
 
 pub loop-key-preserved : goal.loop-key-preserved
 loop-key-preserved g c = played-then c.loop-key.invariant c.in_ok-give.ensures
