@@ -1,16 +1,13 @@
 -- Names that stand once, told apart by their numbers.
-use Rattle.imagecheck.proofs.Common.{◌≡◌, ◌≢◌, ℕ, ◌+◌, ◌-◌, ◌*◌, ◌/◌, ◌<◌, ◌≤◌, Bool, List, [], ◌∷◌, ◌++◌, None, Some, length, get_or, take, drop, ap, sym, refl, ◌∙◌, arith, cond, subst, true, false, zero, suc, All}
-use Rattle.imagecheck.proofs.Common.{AllPairs, nat_eq, nat_lt, ◌==◌, IsPermutation, IsSorted, option_to_list, nat_cmp, IsTrue, ◌↔◌, IsAllAdjacentAnswer, list_all, ltb-false, ltb-true, Decides-eqb, Decides-like}
-use Rattle.imagecheck.proofs.Common.{same_from_decides, get_or-drop, get_or-map, length-drop, length-map, length-take-le, map-append, All-nil, IsNonDecreasingBy-from_sort, IsPermutation-sym, little_number, name_bytes}
-use Rattle.imagecheck.proofs.Common.{number, number_at, AreOther, IfTaken, entries_in, entries_to, name_number, name_numbers, place_of_bytes, without_zeros, number_at-drop, chunk-fits, without_zeros-spelled}
-use Rattle.std.proofs.lemmas.List.{take_all}
+use Rattle.imagecheck.proofs.Common.{◌≡◌, ◌≢◌, ℕ, ◌+◌, ◌-◌, ◌*◌, ◌<◌, ◌≤◌, Bool, List, [], ◌∷◌, ◌++◌, None, Some, length, get_or, take, drop, ap, sym, refl, ◌∙◌, arith, cond, true, false, suc}
+use Rattle.imagecheck.proofs.Common.{All, AllPairs, nat_eq, nat_lt, ◌==◌, IsPermutation, IsSorted, nat_cmp, IsTrue, ◌↔◌, IsAllAdjacentAnswer, list_all, ltb-false, ltb-true, Decides-eqb}
+use Rattle.imagecheck.proofs.Common.{Decides-like, same_from_decides, get_or-drop, get_or-map, length-drop, length-map, length-take-le, IsNonDecreasingBy-from_sort, IsPermutation-sym, name_bytes}
+use Rattle.imagecheck.proofs.Common.{number, number_at, AreOther, IfTaken, entries_in, name_number, name_numbers, place_of_bytes, without_zeros, chunk-fits, without_zeros-spelled, Entry}
 use Rattle.std.proofs.lemmas.List.Kept.{AllPairs-from_increasing}
 use Rattle.std.proofs.lemmas.Map.Keys.{IsDistinct-IsPermutation}
 use Rattle.std.proofs.lemmas.Map.Made.{AllPairs-from_IsDistinct, IsDistinct-from_AllPairs}
-use Rattle.unixmodel.specs.Files.{Entry}
 use Rattle.unixmodel.specs.Memory.{zeros}
-use Rattle.imagerules.proofs.Spelling.{place-taken}
-use Rattle.imagecheck.proofs.Entering.{all_more, entries_all, entries_more, entries_none}
+use Rattle.imagecheck.proofs.Entering.{entries-hold}
 use Rattle.imagecheck.proofs.Judging.{never, told}
 
 -- ---- names and their numbers
@@ -55,31 +52,10 @@ module _ (place : List ℕ) (long : length place ≡ 16) where
       back = ap without_zeros e;
     }
 
-module _ (bytes : List ℕ) (fits : (i : ℕ) → get_or bytes i 0 < 256) where
-  trimmed-to : (j : ℕ) → j + 2 ≤ length bytes / 16 → All IsTrimmed (entries_to bytes (j + 2))
-  trimmed-to zero h = subst (All IsTrimmed) (sym (entries_none bytes)) (All-nil IsTrimmed)
-  trimmed-to (suc j) h =
-      let place = take 16 (drop (16 * (j + 2)) bytes) in
-      let long : length place ≡ 16 = length-take-le 16 (drop (16 * (j + 2)) bytes) (omega (arith, length-drop (16 * (j + 2)) bytes)) in
-      let e : j + 2 + 1 ≡ suc j + 2 = omega arith in
-      subst (λ k. All IsTrimmed (entries_to bytes k)) e
-      (all_more IsTrimmed bytes (j + 2) (omega arith) (omega arith) (trimmed-to j (omega arith)) (trimmed-place place long (chunk-fits bytes (j + 2) fits)))
-
-  pub all-trimmed : 32 ≤ length bytes → All IsTrimmed (entries_in bytes)
-  all-trimmed least =
-      let e : length bytes / 16 - 2 + 2 ≡ length bytes / 16 = omega arith in
-      subst (All IsTrimmed) (ap (entries_to bytes) e ∙ entries_all bytes (length bytes / 16) (omega arith)) (trimmed-to (length bytes / 16 - 2) (omega arith))
-
--- the number that is read of a place that is taken
-number-read : (place : List ℕ) → length place ≡ 16 → (x : ℕ) → x ≡ little_number 14 (drop 2 place) → list_all (λ b. b == 0) place ≡ false → x ∷ [] ≡ name_numbers (option_to_list (place_of_bytes place))
-number-read place long x e t =
-    ap (λ y. y ∷ [])
-    (e ∙ number_at-drop 14 2 place (omega arith) ∙ ap number (take_all 14 (drop 2 place) (omega (arith, rest place long)) ∙ sym (name_bytes-spelled (drop 2 place) (rest place long))))
-    ∙ ap (λ o. name_numbers (option_to_list o)) (sym (place-taken place t))
-
-pub number-pushed : (old new place : List ℕ) (x : ℕ) → length place ≡ 16 → new ≡ old ++ x ∷ [] → x ≡ little_number 14 (drop 2 place) → list_all (λ b. b == 0) place ≡ false
-    → new ≡ old ++ name_numbers (option_to_list (place_of_bytes place))
-number-pushed old new place x long pushed read taken = pushed ∙ ap (λ r. old ++ r) (number-read place long x read taken)
+pub all-trimmed : (bytes : List ℕ) → ((i : ℕ) → get_or bytes i 0 < 256) → All IsTrimmed (entries_in bytes)
+all-trimmed bytes fits = entries-hold IsTrimmed bytes (λ k high low.
+    let place = take 16 (drop (16 * k) bytes) in
+    trimmed-place place (length-take-le 16 (drop (16 * k) bytes) (omega (arith, length-drop (16 * k) bytes))) (chunk-fits bytes k fits))
 
 -- names are other where their numbers are, and the other way round
 pub names-from_numbers : (es : List Entry) → AllPairs (λ a b. a ≢ b) (name_numbers es) → AllPairs AreOther es
@@ -95,15 +71,6 @@ numbers-from_names es trimmed h i j d l m = λ e.
     h i j none l high
     (same-name (get_or es i none) (get_or es j none) (trimmed i none low) (trimmed j none high)
     (sym (get_or-map name_number es i none d low) ∙ e ∙ get_or-map name_number es j none d high))
-
--- one place more
-pub numbers-place : (ms os : List ℕ) (k : ℕ) (bytes place : List ℕ) → 2 ≤ k → k < length bytes / 16 → place ≡ take 16 (drop (16 * k) bytes)
-    → ms ≡ name_numbers (entries_to bytes k) → os ≡ ms ++ name_numbers (option_to_list (place_of_bytes place)) → os ≡ name_numbers (entries_to bytes (k + 1))
-numbers-place ms os k bytes place low high e h more =
-    more ∙ ap (λ r. r ++ name_numbers (option_to_list (place_of_bytes place))) h
-    ∙ ap (λ p. name_numbers (entries_to bytes k) ++ name_numbers (option_to_list (place_of_bytes p))) e
-    ∙ sym (map-append name_number (entries_to bytes k) (option_to_list (place_of_bytes (take 16 (drop (16 * k) bytes)))))
-    ∙ ap name_numbers (sym (entries_more bytes k low high))
 
 -- ---- numbers in order
 

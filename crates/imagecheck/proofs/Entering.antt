@@ -1,21 +1,17 @@
 -- The places of a directory, one after the other.
-use Rattle.imagecheck.proofs.Common.{◌≡◌, ◌≢◌, ℕ, ◌+◌, ◌*◌, ◌/◌, ◌<◌, ◌≤◌, List, [], ◌∷◌, ◌++◌, None, Option, Some, length, get_or, take, drop, ap, sym, refl, ◌∙◌, arith, subst, true, false, inl, inr}
-use Rattle.imagecheck.proofs.Common.{not, All, IsSome, is_some, ◌==◌, option_to_list, cases_eq, false≢true, drop-append-le, drop_all, length-take, length-take-le}
-use Rattle.imagecheck.proofs.Common.{take-append-drop, take_more, All-append, All-cons, All-head, All-nil, filter_map-append, Node, slot, taken, inodes_in, kind_in, IfTaken, entries_in}
-use Rattle.imagecheck.proofs.Common.{entries_to, files_in, place_of_bytes, places_in, All-left, All-right, file_in-used, slot-files_in, slot-free, length-places_in, slot-places_in}
+use Rattle.imagecheck.proofs.Common.{◌≡◌, ℕ, ◌+◌, ◌-◌, ◌*◌, ◌/◌, ◌<◌, ◌≤◌, List, [], ◌∷◌, ◌++◌, None, Option, Some, length, get_or, take, drop, ap, sym, refl, ◌∙◌, arith, subst, inl, inr, not, All, IsSome, is_some, ◌==◌, option_to_list}
+use Rattle.imagecheck.proofs.Common.{cases_eq, false≢true, drop-append-le, drop_all, get_or-drop, length-drop, length-take, length-take-le, take_more, All-cons, All-head, All-nil, All-tail, filter_map-append, Node, slot, taken}
+use Rattle.imagecheck.proofs.Common.{inodes_in, kind_in, IfTaken, entries_in, entries_to, files_in, place_of_bytes, places_in, file_in-used, slot-files_in, slot-free, length-places_in, slot-places_in, get_or_default, Entry}
 use Rattle.std.proofs.lemmas.Bool.{ne_eqb}
 use Rattle.std.proofs.lemmas.List.{take_all}
-use Rattle.unixmodel.specs.Files.{Entry}
+use Rattle.imagecheck.proofs.Paths.{holds_taken}
 
 -- ---- numbers in use
 
-used_some : (image : List ℕ) (n : ℕ) → 1 ≤ n → n < inodes_in image → kind_in image n ≢ 0 → IsSome (slot (files_in image) n)
-used_some image n low high used = ap is_some (slot-files_in image n high ∙ file_in-used image n low used)
-
 pub used-is : (image : List ℕ) (n : ℕ) → 1 ≤ n → n < inodes_in image → not (kind_in image n == 0) ≡ is_some (slot (files_in image) n)
 used-is image n low high = elim (cases_eq (kind_in image n) 0) [
-  | inl z ↦ ap (λ k. not (k == 0)) z ∙ ap is_some (sym (slot-free image n high z))
-  | inr used ↦ ap not (ne_eqb (kind_in image n) 0 used) ∙ sym (used_some image n low high used)
+  | inl z ↦ rw (slot-free image n high z, z) refl
+  | inr used ↦ rw (slot-files_in image n high, file_in-used image n low used, ne_eqb (kind_in image n) 0 used) refl
 ]
 
 pub none_used : {o : Option Node} → o ≡ None → IsSome o → ⊥
@@ -27,30 +23,13 @@ taken_one : (o : Option Entry) → taken (o ∷ []) ≡ option_to_list o
 taken_one None = refl
 taken_one (Some e) = refl
 
-pub taken_more : (places : List (Option Entry)) (k : ℕ) → 2 ≤ k → k < length places → taken (drop 2 (take (k + 1) places)) ≡ taken (drop 2 (take k places)) ++ option_to_list (get_or places k None)
-taken_more places k low high =
+pub entries_more : (bytes : List ℕ) (k : ℕ) → 2 ≤ k → k < length bytes / 16 → entries_to bytes (k + 1) ≡ entries_to bytes k ++ option_to_list (place_of_bytes (take 16 (drop (16 * k) bytes)))
+entries_more bytes k low high =
+    let places = places_in bytes in
+    let within : k < length places = omega (arith, length-places_in bytes) in
     let two : 2 ≤ length (take k places) = omega (arith, length-take-le k places (omega arith)) in
-    ap (λ os. taken (drop 2 os)) (take_more places k None high)
-    ∙ ap taken (drop-append-le 2 (take k places) (get_or places k None ∷ []) two)
-    ∙ filter_map-append (λ o. o) (drop 2 (take k places)) (get_or places k None ∷ [])
-    ∙ ap (λ r. taken (drop 2 (take k places)) ++ r) (taken_one (get_or places k None))
-
-module _ (bytes : List ℕ) (k : ℕ) (low : 2 ≤ k) (high : k < length bytes / 16) where
-  pub entries_more : entries_to bytes (k + 1) ≡ entries_to bytes k ++ option_to_list (place_of_bytes (take 16 (drop (16 * k) bytes)))
-  entries_more =
-      taken_more (places_in bytes) k low (omega (arith, length-places_in bytes))
-      ∙ ap (λ o. entries_to bytes k ++ option_to_list o) (slot-places_in bytes k high)
-
-  -- the entries from place k on
-  pub entries_split : (rest : List Entry) × (entries_in bytes ≡ entries_to bytes (k + 1) ++ rest)
-  entries_split =
-      let places = places_in bytes in
-      let two : 2 ≤ length (take (k + 1) places) = omega (arith, length-take-le (k + 1) places (omega (arith, length-places_in bytes))) in (
-        taken (drop (k + 1) places),
-        ap (λ os. taken (drop 2 os)) (sym (take-append-drop (k + 1) places))
-            ∙ ap taken (drop-append-le 2 (take (k + 1) places) (drop (k + 1) places) two)
-            ∙ filter_map-append (λ o. o) (drop 2 (take (k + 1) places)) (drop (k + 1) places),
-      )
+    rw (take_more places k None within, drop-append-le 2 (take k places) (get_or places k None ∷ []) two, filter_map-append, slot-places_in bytes k high)
+    (ap (λ r. entries_to bytes k ++ r) (taken_one (place_of_bytes (take 16 (drop (16 * k) bytes)))))
 
 pub entries_none : (bytes : List ℕ) → entries_to bytes 2 ≡ []
 entries_none bytes = ap taken (drop_all 2 (take 2 (places_in bytes)) (omega (arith, length-take 2 (places_in bytes))))
@@ -58,24 +37,25 @@ entries_none bytes = ap taken (drop_all 2 (take 2 (places_in bytes)) (omega (ari
 pub entries_all : (bytes : List ℕ) (k : ℕ) → length bytes / 16 ≤ k → entries_to bytes k ≡ entries_in bytes
 entries_all bytes k h = ap (λ os. taken (drop 2 os)) (take_all k (places_in bytes) (omega (arith, length-places_in bytes)))
 
+-- ---- what holds of each entry, place by place
+
 module _ (P : Entry → Type 0) where
-  All-option : (o : Option Entry) → IfTaken P o → All P (option_to_list o)
-  All-option None h = All-nil P
-  All-option (Some e) h = All-cons P e [] h (All-nil P)
+  taken_holds : (os : List (Option Entry)) → All (IfTaken P) os → All P (taken os)
+  taken_holds [] h = All-nil P
+  taken_holds (None ∷ os) h = taken_holds os (All-tail (IfTaken P) None os h)
+  taken_holds (Some e ∷ os) h = All-cons P e (taken os) (All-head (IfTaken P) (Some e) os h) (taken_holds os (All-tail (IfTaken P) (Some e) os h))
 
-  pub IfTaken-option : (o : Option Entry) → All P (option_to_list o) → IfTaken P o
-  IfTaken-option None h = tt
-  IfTaken-option (Some e) h = All-head P e [] h
+  module _ (bytes : List ℕ) where
+    place-at : (j : ℕ) → j < length (drop 2 (places_in bytes)) → (o : Option Entry) → get_or (drop 2 (places_in bytes)) j o ≡ place_of_bytes (take 16 (drop (16 * (2 + j)) bytes))
+    place-at j l o =
+        let high : 2 + j < length bytes / 16 = omega (arith, length-drop 2 (places_in bytes), length-places_in bytes) in
+        get_or_default (drop 2 (places_in bytes)) j o None l ∙ get_or-drop 2 (places_in bytes) j None ∙ slot-places_in bytes (2 + j) high
 
-  module _ (bytes : List ℕ) (k : ℕ) (low : 2 ≤ k) (high : k < length bytes / 16) where
-    pub all_more : All P (entries_to bytes k) → IfTaken P (place_of_bytes (take 16 (drop (16 * k) bytes))) → All P (entries_to bytes (k + 1))
-    all_more h here =
-        subst (All P) (sym (entries_more bytes k low high))
-        (All-append P (entries_to bytes k) (option_to_list (place_of_bytes (take 16 (drop (16 * k) bytes)))) h (All-option (place_of_bytes (take 16 (drop (16 * k) bytes))) here))
+    pub entries-hold : ((k : ℕ) → k < length bytes / 16 → 2 ≤ k → IfTaken P (place_of_bytes (take 16 (drop (16 * k) bytes)))) → All P (entries_in bytes)
+    entries-hold h = taken_holds (drop 2 (places_in bytes)) (λ j o l. subst (IfTaken P) (sym (place-at j l o)) (h (2 + j) (omega (arith, l, length-drop 2 (places_in bytes), length-places_in bytes)) (omega arith)))
 
-    pub all_here : All P (entries_in bytes) → IfTaken P (place_of_bytes (take 16 (drop (16 * k) bytes)))
-    all_here h =
-        let split = entries_split bytes k low high in
-        let front : All P (entries_to bytes (k + 1)) = All-left P (entries_to bytes (k + 1)) split.0 (subst (All P) split.1 h) in
-        IfTaken-option (place_of_bytes (take 16 (drop (16 * k) bytes)))
-        (All-right P (entries_to bytes k) (option_to_list (place_of_bytes (take 16 (drop (16 * k) bytes)))) (subst (All P) (entries_more bytes k low high) front))
+    pub entries-holding : All P (entries_in bytes) → (k : ℕ) → 2 ≤ k → k < length bytes / 16 → IfTaken P (place_of_bytes (take 16 (drop (16 * k) bytes)))
+    entries-holding h k low high =
+        let within : k - 2 < length (drop 2 (places_in bytes)) = omega (arith, length-drop 2 (places_in bytes), length-places_in bytes) in
+        let e : 2 + (k - 2) ≡ k = omega arith in
+        subst (λ m. IfTaken P (place_of_bytes (take 16 (drop (16 * m) bytes)))) e (subst (IfTaken P) (place-at (k - 2) within None) (holds_taken (IfTaken P) tt (drop 2 (places_in bytes)) h (k - 2) None within))

@@ -1,6 +1,5 @@
 mod Common
 pub mod Collecting
-pub mod Copying
 pub mod Counting
 pub mod Distinct
 pub mod Entering

@@ -1,19 +1,18 @@
 -- What the names of a directory find.
 use Rattle.imagecheck.proofs.Common.{◌≡◌, ◌≢◌, ℕ, List, [], ◌∷◌, None, Option, Some, get_or, drop, ap, sym, refl, ◌∙◌, arith, true, false, suc, All, AllPairs, bytes_eq, cond-false, cond-true, cond_both, false≢true}
-use Rattle.imagecheck.proofs.Common.{false_from_ne_true, or_parts, none-some, All-cons, All-head, All-nil, All-tail, bytes_eq-Decides, dot, dot_dot, has_name, is_dot_name, slot, taken, AreOther, IfTaken, first_named}
-use Rattle.unixmodel.specs.Files.{Entry}
+use Rattle.imagecheck.proofs.Common.{false_from_ne_true, or_parts, none-some, All-cons, All-head, All-nil, All-tail, bytes_eq-Decides, dot, dot_dot, has_name, is_dot_name, slot, taken, AreOther, first_named, Entry}
 
--- what holds of each taken place
-pub holds_taken : (P : Entry → Type 0) (os : List (Option Entry)) → All P (taken os) → All (IfTaken P) os
-holds_taken P [] h = All-nil (IfTaken P)
-holds_taken P (None ∷ os) h = All-cons (IfTaken P) None os tt (holds_taken P os h)
-holds_taken P (Some e ∷ os) h = All-cons (IfTaken P) (Some e) os (All-head P e (taken os) h) (holds_taken P os (All-tail P e (taken os) h))
+module _ (P : Option Entry → Type 0) (none : P None) where
+  -- what holds of each taken place holds of each
+  pub holds_taken : (os : List (Option Entry)) → All (λ e. P (Some e)) (taken os) → All P os
+  holds_taken [] h = All-nil P
+  holds_taken (None ∷ os) h = All-cons P None os none (holds_taken os h)
+  holds_taken (Some e ∷ os) h = All-cons P (Some e) os (All-head (λ x. P (Some x)) e (taken os) h) (holds_taken os (All-tail (λ x. P (Some x)) e (taken os) h))
 
--- holds of the place that a name finds
-pub holds_named : (P : Entry → Type 0) (name : List ℕ) (os : List (Option Entry)) → All (IfTaken P) os → IfTaken P (first_named name os)
-holds_named P name [] h = tt
-holds_named P name (o ∷ os) h =
-    cond_both (has_name name o) o (first_named name os) (IfTaken P) (λ _. All-head (IfTaken P) o os h) (λ _. holds_named P name os (All-tail (IfTaken P) o os h))
+  -- and of the place that a name finds
+  pub holds_named : (name : List ℕ) (os : List (Option Entry)) → All P os → P (first_named name os)
+  holds_named name [] h = none
+  holds_named name (o ∷ os) h = cond_both (has_name name o) o (first_named name os) P (λ _. All-head P o os h) (λ _. holds_named name os (All-tail P o os h))
 
 same_name : (name : List ℕ) → bytes_eq name name ≡ true
 same_name name = (bytes_eq-Decides name name).1 refl

@@ -1,155 +1,160 @@
 -- The slots of an inode that are there, one after the other: an index block is read behind the number that names it.
-use Rattle.imagecheck.proofs.Common.{◌≡◌, ℕ, ◌<◌, ◌≤◌, IsTrue, List, ap, arith, false, get_or, inl, inr, length, subst, sym, true, ◌∙◌, cases_lt, nat_tests, get_or-map-range_with_len}
-use Rattle.imagecheck.proofs.Common.{length-map-range_with_len, HasSuper, count_in, data_blocks, format_of, is_data_block, named_by, number_in, size_in, Asks, address_of, asked_slot}
-use Rattle.imagecheck.proofs.Common.{holder_of, in_record, single, slot_at, slots, taken_blocks, there, FitsAddresses, direct-high, direct-low, is_data_block-below, FitsSlot, IsFound, Lies}
+use Rattle.imagecheck.proofs.Common.{◌≡◌, ℕ, ◌<◌, ◌≤◌, IsTrue, List, ap, arith, false, get_or, inl, inr, length, subst, sym, true, ◌∙◌, cases_lt, nat_tests, get_or-map-range_with_len, cond, nat_lt, ◌==◌, ◌↔◌}
+use Rattle.imagecheck.proofs.Common.{is_data_in, HasGeometry, Geometry, length-map-range_with_len, HasSuper, count_in, data_blocks, format_of, is_data_block, named_by, number_in, size_in, Asks, address_of}
+use Rattle.imagecheck.proofs.Common.{asked_slot, holder_of, in_record, single, slot_at, slots, taken_blocks, there, FitsAddresses, direct-high, direct-low, is_data_block-below, FitsSlot, IsFound, Lies, Format}
+use Rattle.std.proofs.Common.{eq-eqb, eqb-true}
+use Rattle.imagerules.proofs.Named.{cond_no, cond_yes, is_data_in-is}
 use Rattle.layout.proofs.Places as places
 
-module _ (image : List ℕ) (n : ℕ) (small : count_in image n ≤ single (format_of image)) where
-  abbrev rank : ℕ → ℕ
-  rank j = places.rank (format_of image) (direct-low image) (direct-high image) (count_in image n) j
+-- the number in the k-th slot that is asked for, where all of them are sound
+pub record IsNamed (image : List ℕ) (n k number : ℕ) : Type 0 where
+  pub within : k < length (named_by image n)
+  pub is : number ≡ get_or (named_by image n) k 0
+  pub inside : number < size_in image
 
-  abbrev IsAsked : ℕ → Type 0
-  IsAsked j = Asks (format_of image) (count_in image n) j
+module _ (image : List ℕ) (n : ℕ) (small : count_in image n ≤ single (format_of image)) where
+  abbrev f : Format
+  f = format_of image
+
+  abbrev count : ℕ
+  count = count_in image n
+
+  -- the k-th of those that are there
+  abbrev nth : ℕ → ℕ
+  nth k = slot_at f count k
+
+  abbrev rank : ℕ → ℕ
+  rank j = places.rank f (direct-low image) (direct-high image) count j
 
   -- slot j is asked for, and comes before the k-th
   record ComesBefore (k j : ℕ) : Type 0 where
-    pub asks : IsAsked j
+    pub asks : Asks f count j
     pub before : rank j < k
 
-  asks-holder : (j : ℕ) → IsAsked j → in_record (format_of image) j ≡ false → IsAsked (holder_of (format_of image) j)
-  asks-holder j a apart = record {
-    within = places.holder-within (format_of image) (direct-low image) (direct-high image) j apart a.within;
-    reached = omega (arith, places.holder-before (format_of image) (direct-low image) (direct-high image) j apart a.within, a.reached);
-  }
+  below-there : {k : ℕ} → k < taken_blocks f count → k < there f count
+  below-there l = omega (arith, places.taken-there f (direct-low image) (direct-high image) count small)
 
-  rank-is : (j : ℕ) → IsAsked j → asked_slot (format_of image) (count_in image n) (rank j) ≡ j
-  rank-is j a = places.rank-slot (format_of image) (direct-low image) (direct-high image) (count_in image n) j small a.within a.reached
+  -- ---- those that are asked for
 
-  rank-low : (j : ℕ) → IsAsked j → rank j < taken_blocks (format_of image) (count_in image n)
-  rank-low j a = places.rank-within (format_of image) (direct-low image) (direct-high image) (count_in image n) j small a.within a.reached
+  at-taken : (k : ℕ) → k < taken_blocks f count → nth k ≡ asked_slot f count k
+  at-taken k l = places.at-asked f (direct-low image) (direct-high image) count k l
 
-  rank-before : (j : ℕ) → IsAsked j → in_record (format_of image) j ≡ false → rank (holder_of (format_of image) j) < rank j
-  rank-before j a apart =
-      subst (λ s. rank (holder_of (format_of image) s) < rank j) (rank-is j a)
-      (places.rank-holder (format_of image) (direct-low image) (direct-high image) (count_in image n) (rank j) small (rank-low j a) (ap (in_record (format_of image)) (rank-is j a) ∙ apart))
+  asks-nth : (k : ℕ) → k < taken_blocks f count → Asks f count (nth k)
+  asks-nth k l = subst (Asks f count) (sym (at-taken k l)) (places.asked-asks f (direct-low image) (direct-high image) count k small l)
 
-  comes-up : (k j : ℕ) → ComesBefore k j → in_record (format_of image) j ≡ false → ComesBefore k (holder_of (format_of image) j)
-  comes-up k j c apart = record { asks = asks-holder j c.asks apart; before = let b = c.before in omega (arith, rank-before j c.asks apart) }
+  rank-low : (j : ℕ) → Asks f count j → rank j < taken_blocks f count
+  rank-low j a = places.rank-within f (direct-low image) (direct-high image) count j small a.within a.reached
 
-  -- the slots of those asked for
-  pub at-taken : (k : ℕ) → k < taken_blocks (format_of image) (count_in image n) → slot_at (format_of image) (count_in image n) k ≡ asked_slot (format_of image) (count_in image n) k
-  at-taken k l = places.at-asked (format_of image) (direct-low image) (direct-high image) (count_in image n) k l
+  rank-is : (j : ℕ) → Asks f count j → nth (rank j) ≡ j
+  rank-is j a = at-taken (rank j) (rank-low j a) ∙ places.rank-slot f (direct-low image) (direct-high image) count j small a.within a.reached
 
-  asks-asked : (k : ℕ) → k < taken_blocks (format_of image) (count_in image n) → IsAsked (slot_at (format_of image) (count_in image n) k)
-  asks-asked k l = subst IsAsked (sym (at-taken k l)) (places.asked-asks (format_of image) (direct-low image) (direct-high image) (count_in image n) k small l)
-
-  holder-first : (k : ℕ) → k < there (format_of image) (count_in image n) → in_record (format_of image) (slot_at (format_of image) (count_in image n) k) ≡ false
-      → ComesBefore k (holder_of (format_of image) (slot_at (format_of image) (count_in image n) k))
-  holder-first k high apart = elim (cases_lt k (taken_blocks (format_of image) (count_in image n))) [
+  -- the index block of the k-th comes before it, and so does the one of that
+  holder-first : (k : ℕ) → k < there f count → in_record f (nth k) ≡ false → ComesBefore k (holder_of f (nth k))
+  holder-first k high apart = elim (cases_lt k (taken_blocks f count)) [
     | inl l ↦
-        let e = at-taken k l in
+        let a = asks-nth k l in
         record {
-          asks = asks-holder (slot_at (format_of image) (count_in image n) k) (asks-asked k l) apart;
-          before = subst (λ s. rank (holder_of (format_of image) s) < k) (sym e)
-              (places.rank-holder (format_of image) (direct-low image) (direct-high image) (count_in image n) k small l (ap (in_record (format_of image)) (sym e) ∙ apart));
+          asks = record {
+            within = places.holder-within f (direct-low image) (direct-high image) (nth k) apart a.within;
+            reached = omega (arith, places.holder-before f (direct-low image) (direct-high image) (nth k) apart a.within, a.reached);
+          };
+          before = subst (λ s. in_record f s ≡ false → rank (holder_of f s) < k) (sym (at-taken k l)) (places.rank-holder f (direct-low image) (direct-high image) count k small l) apart;
         }
     | inr past ↦
-        let a = (places.at-spare (format_of image) (direct-low image) (direct-high image) (count_in image n) k small past high).index apart in
-        record { asks = a; before = omega (arith, rank-low (holder_of (format_of image) (slot_at (format_of image) (count_in image n) k)) a) }
+        let a = (places.at-spare f (direct-low image) (direct-high image) count k small past high).index apart in
+        record { asks = a; before = omega (arith, rank-low (holder_of f (nth k)) a) }
   ]
 
-  at-within : (k : ℕ) → k < there (format_of image) (count_in image n) → slot_at (format_of image) (count_in image n) k < slots (format_of image)
-  at-within k high = elim (cases_lt k (taken_blocks (format_of image) (count_in image n))) [
-    | inl l ↦ (asks-asked k l).within
-    | inr past ↦ (places.at-spare (format_of image) (direct-low image) (direct-high image) (count_in image n) k small past high).within
-  ]
+  holder-next : (k j : ℕ) → ComesBefore k j → in_record f j ≡ false → ComesBefore k (holder_of f j)
+  holder-next k j b apart =
+      let up = subst (λ s. in_record f s ≡ false → ComesBefore (rank j) (holder_of f s)) (rank-is j b.asks) (holder-first (rank j) (below-there (rank-low j b.asks))) apart in
+      record { asks = up.asks; before = omega (arith, up.before, b.before) }
 
-  -- ---- what was seen of the first k
+  -- ---- where those before it were seen, the index blocks that lead to the k-th lie in the image
 
-  lies_from : HasSuper image → (j : ℕ) → IsTrue (is_data_block image (number_in image n j)) → Lies image n j
-  lies_from sound j t = let w = sound.whole in omega (arith, is_data_block-below image (number_in image n j) t)
+  module _ (sound : HasSuper image) (k : ℕ) (seen : (i : ℕ) → i < k → FitsSlot image n i) where
+    seen-lies : (j : ℕ) → ComesBefore k j → Lies image n j
+    seen-lies j b =
+        let named = subst (λ s. IsTrue (is_data_block image (number_in image n s))) (rank-is j b.asks) ((seen (rank j) b.before).asked (rank-low j b.asks)) in
+        let whole = sound.whole in
+        omega (arith, is_data_block-below image (number_in image n j) named)
 
-  seen-lies : HasSuper image → (k : ℕ) → ((i : ℕ) → i < k → FitsSlot image n i) → (j : ℕ) → ComesBefore k j → Lies image n j
-  seen-lies sound k seen j c =
-      lies_from sound j
-      (subst (λ s. IsTrue (is_data_block image (number_in image n s))) (at-taken (rank j) (rank-low j c.asks) ∙ rank-is j c.asks) ((seen (rank j) c.before).asked (rank-low j c.asks)))
+    pub IsFound-next : k < there f count → IsFound image n (nth k)
+    IsFound-next high = record {
+      within = elim (cases_lt k (taken_blocks f count)) [
+        | inl l ↦ (asks-nth k l).within
+        | inr past ↦ (places.at-spare f (direct-low image) (direct-high image) count k small past high).within
+      ];
+      holder = λ apart. seen-lies (holder_of f (nth k)) (holder-first k high apart);
+      above = λ apart held. seen-lies (holder_of f (holder_of f (nth k))) (holder-next k (holder_of f (nth k)) (holder-first k high apart) held);
+    }
 
-  -- so the index blocks that lead to the next lie in the image
-  pub IsFound-next : HasSuper image → (k : ℕ) → k < there (format_of image) (count_in image n) → ((i : ℕ) → i < k → FitsSlot image n i) → IsFound image n (slot_at (format_of image) (count_in image n) k)
-  IsFound-next sound k high seen = record {
-    within = at-within k high;
-    holder = λ apart. seen-lies sound k seen (holder_of (format_of image) (slot_at (format_of image) (count_in image n) k)) (holder-first k high apart);
-    above = λ apart held.
-        let h : ℕ = holder_of (format_of image) (slot_at (format_of image) (count_in image n) k) in
-        seen-lies sound k seen (holder_of (format_of image) (holder_of (format_of image) (slot_at (format_of image) (count_in image n) k)))
-        (comes-up k (holder_of (format_of image) (slot_at (format_of image) (count_in image n) k)) (holder-first k high apart) held);
-  }
+  -- what the test of a number tells of its slot
+  pub FitsSlot-is : {g : Geometry} → HasGeometry image g → (k : ℕ) → IsTrue (cond (nat_lt k (taken_blocks f count)) (is_data_in g (number_in image n (nth k))) (number_in image n (nth k) == 0)) ↔ FitsSlot image n k
+  FitsSlot-is {g} h k =
+      let number = number_in image n (nth k) in
+      elim (cases_lt k (taken_blocks f count)) [
+        | inl l ↦ rw (cond_yes k (taken_blocks f count) (is_data_in g number) (number == 0) l, is_data_in-is image g h number) (λ t. record { asked = λ _. t; spare = λ past. absurd (omega arith) }, λ fits. fits.asked l)
+        | inr past ↦ rw (cond_no k (taken_blocks f count) (is_data_in g number) (number == 0) past) (λ t. record { asked = λ l. absurd (omega arith); spare = λ _. eqb-true number 0 t }, λ fits. eq-eqb number 0 (fits.spare past))
+      ]
 
   -- ---- its numbers
 
-  abbrev asked_number : ℕ → ℕ
-  asked_number k = number_in image n (asked_slot (format_of image) (count_in image n) k)
-
-  pub named-at : (k d : ℕ) → k < taken_blocks (format_of image) (count_in image n) → get_or (named_by image n) k d ≡ number_in image n (slot_at (format_of image) (count_in image n) k)
+  named-at : (k d : ℕ) → k < taken_blocks f count → get_or (named_by image n) k d ≡ number_in image n (nth k)
   unfolding named_by
-  named-at k d l = get_or-map-range_with_len asked_number 0 (taken_blocks (format_of image) (count_in image n)) k k d l (omega arith) ∙ ap (number_in image n) (sym (at-taken k l))
+  named-at k d l = get_or-map-range_with_len (λ j. number_in image n (asked_slot f count j)) 0 (taken_blocks f count) k k d l (omega arith) ∙ ap (number_in image n) (sym (at-taken k l))
 
-  pub named-long : length (named_by image n) ≡ taken_blocks (format_of image) (count_in image n)
+  pub named-long : length (named_by image n) ≡ taken_blocks f count
   unfolding named_by
-  named-long = length-map-range_with_len asked_number 0 (taken_blocks (format_of image) (count_in image n))
+  named-long = length-map-range_with_len (λ j. number_in image n (asked_slot f count j)) 0 (taken_blocks f count)
 
-  pub FitsAddresses-from : ((k : ℕ) → k < there (format_of image) (count_in image n) → FitsSlot image n k) → FitsAddresses image n
+  pub FitsAddresses-from : ((k : ℕ) → k < there f count → FitsSlot image n k) → FitsAddresses image n
   FitsAddresses-from h = record {
     blocks = λ k d l.
-        let t : k < taken_blocks (format_of image) (count_in image n) = omega (arith, named-long) in
-        subst (λ b. IsTrue (is_data_block image b)) (sym (named-at k d t))
-        ((h k (omega (arith, places.taken-there (format_of image) (direct-low image) (direct-high image) (count_in image n) small))).asked t);
+        let t : k < taken_blocks f count = omega (arith, named-long) in
+        subst (λ b. IsTrue (is_data_block image b)) (sym (named-at k d t)) ((h k (below-there t)).asked t);
     spares = λ j s.
-        let at = places.spare-at (format_of image) (direct-low image) (direct-high image) (count_in image n) j small s in
+        let at = places.spare-at f (direct-low image) (direct-high image) count j small s in
         ap (number_in image n) (sym at.3) ∙ (h at.0 at.2).spare at.1;
   }
 
-  pub FitsSlot-at : FitsAddresses image n → (k : ℕ) → k < there (format_of image) (count_in image n) → FitsSlot image n k
+  pub FitsSlot-at : FitsAddresses image n → (k : ℕ) → k < there f count → FitsSlot image n k
   FitsSlot-at h k high = record {
     asked = λ l. subst (λ b. IsTrue (is_data_block image b)) (named-at k 0 l) (h.blocks k 0 (omega (arith, named-long)));
-    spare = λ past. h.spares (slot_at (format_of image) (count_in image n) k) (places.at-spare (format_of image) (direct-low image) (direct-high image) (count_in image n) k small past high);
+    spare = λ past. h.spares (nth k) (places.at-spare f (direct-low image) (direct-high image) count k small past high);
   }
 
-  -- ---- the blocks that are asked for, where all numbers are sound
+  -- ---- where all numbers are sound
 
-  asked-data : FitsAddresses image n → (j : ℕ) → IsAsked j → IsTrue (is_data_block image (number_in image n j))
-  asked-data h j a =
-      subst (λ b. IsTrue (is_data_block image b)) (named-at (rank j) 0 (rank-low j a) ∙ ap (number_in image n) (at-taken (rank j) (rank-low j a) ∙ rank-is j a))
-      (h.blocks (rank j) 0 (omega (arith, named-long, rank-low j a)))
+  module _ (sound : HasSuper image) (h : FitsAddresses image n) where
+    seen : (i : ℕ) → i < taken_blocks f count → FitsSlot image n i
+    seen i l = FitsSlot-at h i (below-there l)
 
-  pub lies-asked : HasSuper image → FitsAddresses image n → (j : ℕ) → IsAsked j → Lies image n j
-  lies-asked sound h j a = lies_from sound j (asked-data h j a)
+    pub found-at : (k : ℕ) → k < taken_blocks f count → IsFound image n (nth k)
+    found-at k l = IsFound-next sound k (λ i m. seen i (omega arith)) (below-there l)
 
-  pub found-asked : HasSuper image → FitsAddresses image n → (j : ℕ) → IsAsked j → IsFound image n j
-  found-asked sound h j a = record {
-    within = a.within;
-    holder = λ apart. lies-asked sound h (holder_of (format_of image) j) (asks-holder j a apart);
-    above = λ apart held. lies-asked sound h (holder_of (format_of image) (holder_of (format_of image) j)) (asks-holder (holder_of (format_of image) j) (asks-holder j a apart) held);
-  }
+    pub IsNamed-at : (k : ℕ) → k < taken_blocks f count → IsNamed image n k (number_in image n (nth k))
+    IsNamed-at k l = record {
+      within = omega (arith, named-long);
+      is = sym (named-at k 0 l);
+      inside = is_data_block-below image (number_in image n (nth k)) ((seen k l).asked l);
+    }
 
-  pub found-at : HasSuper image → FitsAddresses image n → (k : ℕ) → k < taken_blocks (format_of image) (count_in image n) → IsFound image n (slot_at (format_of image) (count_in image n) k)
-  found-at sound h k l = found-asked sound h (slot_at (format_of image) (count_in image n) k) (asks-asked k l)
+    -- those of data
+    module _ (k : ℕ) (l : k < count) where
+      asks-data : Asks f count k
+      asks-data = record { within = omega arith; reached = subst (λ i. i < count) (sym (places.first-data f (direct-low image) (direct-high image) k (omega arith))) l }
 
-  -- those of data
-  pub asks-data : (k : ℕ) → k < count_in image n → IsAsked k
-  asks-data k l = record {
-    within = omega arith;
-    reached = subst (λ i. i < count_in image n) (sym (places.first-data (format_of image) (direct-low image) (direct-high image) k (omega arith))) l;
-  }
+      pub found-data : IsFound image n k
+      found-data = subst (IsFound image n) (rank-is k asks-data) (found-at (rank k) (rank-low k asks-data))
 
-  -- their numbers
-  pub data-at : (k d : ℕ) → k < count_in image n → get_or (data_blocks image n) k d ≡ number_in image n k
-  unfolding data_blocks
-  data-at k d l = get_or-map-range_with_len (number_in image n) 0 (count_in image n) k k d l (omega arith)
+      pub lies-data : Lies image n k
+      lies-data = seen-lies sound (taken_blocks f count) seen k (record { asks = asks-data; before = rank-low k asks-data })
 
-  -- the block of each number that is asked for is one of the image
-  pub named-low : HasSuper image → FitsAddresses image n → (k : ℕ) → k < taken_blocks (format_of image) (count_in image n) → number_in image n (slot_at (format_of image) (count_in image n) k) < size_in image
-  named-low sound h k l = is_data_block-below image (number_in image n (slot_at (format_of image) (count_in image n) k)) (asked-data h (slot_at (format_of image) (count_in image n) k) (asks-asked k l))
+-- the number of a data block
+pub data-at : (image : List ℕ) (n k d : ℕ) → k < count_in image n → get_or (data_blocks image n) k d ≡ number_in image n k
+unfolding data_blocks
+data-at image n k d l = get_or-map-range_with_len (number_in image n) 0 (count_in image n) k k d l (omega arith)
 
 -- the first of all
 pub first-here : (image : List ℕ) → in_record (format_of image) 0 ≡ true

@@ -1,11 +1,11 @@
 -- What the super block of a device of so many blocks tells, if it has this length.
-use Rattle.imagecheck.proofs.Common.{◌≡◌, ◌≢◌, ℕ, ◌≤◌, List, cond, ◌==◌, ap, length, sym, ◌∙◌, arith, format_named, large, small, format_of, IsFront, image_of, SuperRules-of}
-use Rattle.imagecheck.proofs.Common.{HasMagic, Begins, Tells, Length, Magic, Numbers, HasLength-from, HasLength-not, HasNumbers-in, HasSuper-in, inodes-is, magic-is, size-is}
+use Rattle.imagecheck.proofs.Common.{◌≡◌, ◌≢◌, ℕ, ◌≤◌, List, cond, ◌==◌, ap, length, sym, ◌∙◌, arith, format_named, large, small, format_of, IsFront, image_of}
+use Rattle.imagecheck.proofs.Common.{SuperRules-of, HasMagic, Begins, Tells, HasLength-from, HasLength-not, HasNumbers-in, HasSuper-in, inodes-is, magic-is, size-is, Format}
+use Rattle.imagecheck.specs.declared.ImageFault.TheVariants.{Length, Magic, Numbers}
 use Rattle.blockdev.specs.Blocks.{block_at}
 use Rattle.layout.specs.Super.{HasNumbersIn, super_of}
 use Rattle.layout.specs.declared.Format as layout
 use Rattle.layout.specs.declared.Format.TheVariants as kinds
-use Rattle.unixmodel.specs.Formats.{Format}
 use Rattle.layout.specs.declared.SuperBlock.{SuperBlock}
 
 -- its magic number tells the format of an image
@@ -13,7 +13,7 @@ pub format_of-magic : (format : layout.Format) (image : List ℕ) → HasMagic (
 format_of-magic kinds.Small image m = ap (λ k. cond (k == large.magic) large small) m
 format_of-magic kinds.Large image m = ap (λ k. cond (k == large.magic) large small) m
 
-module _ (blocks : List (List ℕ)) (count : ℕ) (block : List ℕ) (front : IsFront blocks count block) (least : 2 ≤ count) (s : SuperBlock) (read : s ≡ super_of block) where
+module _ {blocks : List (List ℕ)} {count : ℕ} {block : List ℕ} (front : IsFront blocks count block) (least : 2 ≤ count) {s : SuperBlock} (read : s ≡ super_of block) where
   two : 2 ≤ length blocks
   two = omega (arith, front.many)
 

@@ -83,22 +83,13 @@ unmarked_less marks n start within free some =
 
 -- ---- the walks one after the other
 
-one_marked : (files : Files) (marks : List ℕ) → slice_index marks 1 ≡ 1 → ((m : ℕ) → m ≢ 1 → slice_index marks m ≡ 0) → HasWalked files 2 marks
-one_marked files marks root free = record {
-  root = root;
-  before = λ m. at_or (λ k. slice_index marks k < 2) 1 m (omega (arith, root)) (λ other. omega (arith, free m other));
-  climbs = λ m some. elim (cases_eq m 1) [ inl e ↦ record { steps = 0; root = e } | inr other ↦ absurd (some (free m other)) ];
-}
-
 -- at first the root alone is marked
 pub HasWalked-first : (files : Files) (count : ℕ) → 1 < count → HasWalked files 2 (set (replicate count 0) 1 1)
 HasWalked-first files count l =
-    one_marked files (set (replicate count 0) 1 1) (get_or-set_same (replicate count 0) 1 1 0 (omega (arith, length-replicate {A = ℕ} count 0)))
-    (λ m other. get_or-set_other (replicate count 0) 1 m 1 0 other ∙ zero_at count m)
-
-pub HasWalked-later : (files : Files) (next : ℕ) (marks : List ℕ) → HasWalked files next marks → HasWalked files (next + 1) marks
-HasWalked-later files next marks h = record {
-  root = h.root;
-  before = λ m. omega (arith, h.before m);
-  climbs = h.climbs;
-}
+    let root : slice_index (set (replicate count 0) 1 1) 1 ≡ 1 = get_or-set_same (replicate count 0) 1 1 0 (omega (arith, length-replicate {A = ℕ} count 0)) in
+    let free = λ (m : ℕ) (other : m ≢ 1). get_or-set_other (replicate count 0) 1 m 1 0 other ∙ zero_at count m in
+    record {
+      root = root;
+      before = λ m. at_or (λ k. slice_index (set (replicate count 0) 1 1) k < 2) 1 m (omega (arith, root)) (λ other. omega (arith, free m other));
+      climbs = λ m some. elim (cases_eq m 1) [ inl e ↦ record { steps = 0; root = e } | inr other ↦ absurd (some (free m other)) ];
+    }

@@ -1,5 +1,5 @@
-use Rattle.imagecheck.proofs.Common.{◌≡◌, ◌+◌, ◌*◌, ap, ◌∙◌, arith, number_at, first_block, HasBlocks-of, HasPlace-at, inodes-most}
-use Rattle.imagecheck.proofs.Parents.{first_inside}
+use Rattle.imagecheck.proofs.Common.{arith, refl, HasBlocks-of, HasPlace-at, inodes-most}
+use Rattle.imagecheck.proofs.Parents.{first-data}
 use Rattle.imagecheck.proofs.contents.front_place.Goals as goal
 
 pub inode_place-requires : goal.inode_place-requires
@@ -11,9 +11,7 @@ number32-requires c =
     omega (arith, (HasPlace-at c.requires.geometry c.args.n (omega (arith, c.requires.geometry.inodes))).inside, c.inode_place.ensures)
 
 pub returns-clause-place : goal.returns-clause-place
-returns-clause-place c = ap (λ b. 1024 * b) (c.number32.ensures ∙ ap (λ p. number_at 4 (p + 12) c.args.image.now) c.inode_place.ensures)
+returns-clause-place c = rw (c.number32.ensures, c.inode_place.ensures) refl
 
 pub returns-clause-inside : goal.returns-clause-inside
-returns-clause-inside c =
-    let e : c.number32.result ≡ first_block c.args.image.now c.args.n = c.number32.ensures ∙ ap (λ p. number_at 4 (p + 12) c.args.image.now) c.inode_place.ensures in
-    omega (arith, first_inside c.args.image.now (HasBlocks-of c.args.image.now c.requires.blocks) c.args.n c.requires.directory)
+returns-clause-inside c = rw (c.number32.ensures, c.inode_place.ensures) (first-data c.args.image.now (HasBlocks-of c.args.image.now c.requires.blocks) c.args.n c.requires.directory).2

@@ -1,5 +1,7 @@
-use Rattle.imagecheck.proofs.Common.{◌≡◌, ◌<◌, List, sym, ap, ◌∙◌, arith, contents_in, inodes_in, kind_in, HasNames, HasPlace-at, inodes-least, up_to_more, Naming}
-use Rattle.imagecheck.proofs.Collecting.{namings_to, namings_to-all, namings_to-directory, namings_to-first, namings_to-other}
+use Rattle.imagecheck.proofs.Common.{◌≡◌, sym, ap, ◌∙◌, arith, contents_in, inodes_in, kind_in, HasNames, HasPlace-at, inodes-least, up_to_more}
+use Rattle.std.proofs.Common.{append-nil}
+use Rattle.imagecheck.proofs.Collecting.{entries-other, namings_to, namings_to-all, namings_to-first, namings_to-more}
+use Rattle.imagecheck.proofs.Naming.{slot-directory}
 use Rattle.imagecheck.proofs.directories.test_directories.Goals as goal
 use Rattle.imagecheck.proofs.directories.test_directories.Goals.{else-kind-eq-DIRECTORY, then-kind-eq-DIRECTORY+in_ok-test_directory}
 
@@ -9,29 +11,21 @@ kind-requires g c = HasPlace-at c.requires.geometry c.loop-n.n c.loop-n-test.tru
 pub loop-n-init : goal.loop-n-init
 loop-n-init g c =
     let least = inodes-least c.requires.geometry in
-    record {
-      named = λ m low high. absurd (omega arith);
-      collected = c.requires.fresh ∙ sym (namings_to-first c.args.image.now (omega arith));
-    }
+    record { named = λ m low high. absurd (omega arith); collected = c.requires.fresh ∙ sym (namings_to-first c.args.image.now (omega (arith, c.requires.geometry.inodes))) }
 
 pub loop-n-preserved : goal.loop-n-preserved
 loop-n-preserved g c =
     let image = c.args.image.now in
     let n = c.loop-n.n in
     let inv = c.loop-n.invariant in
-    let high : n < inodes_in image = omega (arith, c.requires.geometry.inodes, c.loop-n-test.true) in
     let named = λ (here : kind_in image n ≡ 1 → HasNames image (contents_in image n)). up_to_more (λ m. kind_in image m ≡ 1 → HasNames image (contents_in image m)) n inv.named here in
     elim c.if-kind-eq-DIRECTORY.branch [
-      | then-kind-eq-DIRECTORY+in_ok-test_directory w ↦ record {
-        named = named (λ e. w.in_ok-test_directory.ensures.judged);
-        collected = ◌∙◌ {A = List Naming} (ap (λ v. v.items) w.namings-is)
-            (namings_to-directory image n c.loop-n.namings.items w.test_directory.new.namings.items (omega arith) high (sym c.kind.ensures ∙ w.if-kind-eq-DIRECTORY.true) inv.collected w.in_ok-test_directory.ensures.namings);
-      }
-      | else-kind-eq-DIRECTORY w ↦ record {
-        named = named (λ e. absurd (w.if-kind-eq-DIRECTORY.false (c.kind.ensures ∙ e)));
-        collected = ◌∙◌ {A = List Naming} (ap (λ v. v.items) w.namings-is)
-            (namings_to-other image c.requires.blocks n c.loop-n.namings.items (λ e. w.if-kind-eq-DIRECTORY.false (c.kind.ensures ∙ e)) inv.collected);
-      }
+      | then-kind-eq-DIRECTORY+in_ok-test_directory w ↦
+          let directory = slot-directory image n (omega arith) (omega (arith, c.requires.geometry.inodes, c.loop-n-test.true)) (sym c.kind.ensures ∙ w.if-kind-eq-DIRECTORY.true) in
+          record { named = named (λ e. w.in_ok-test_directory.ensures.judged); collected = rw (w.namings-is, namings_to-more image n, directory, ← inv.collected) w.in_ok-test_directory.ensures.namings }
+      | else-kind-eq-DIRECTORY w ↦
+          let other = λ (e : kind_in image n ≡ 1). w.if-kind-eq-DIRECTORY.false (c.kind.ensures ∙ e) in
+          record { named = named (λ e. absurd (other e)); collected = rw (w.namings-is, namings_to-more image n, entries-other image c.requires.blocks n other, append-nil) inv.collected }
     ]
 
 pub returns-clause-judged : goal.returns-clause-judged
@@ -39,7 +33,5 @@ returns-clause-judged g c = λ n low high directory. c.loop-n.invariant.named n 
 
 pub returns-clause-namings : goal.returns-clause-namings
 returns-clause-namings g c =
-    let image = c.args.image.now in
-    let least = inodes-least c.requires.geometry in
-    let end : c.loop-n.n ≡ inodes_in image = omega (arith, c.requires.geometry.inodes, c.loop-n.auto.n-end (omega (arith, c.requires.geometry.inodes)), c.loop-n-test.false) in
-    c.loop-n.invariant.collected ∙ ap (namings_to image) end ∙ namings_to-all image
+    let end : c.loop-n.n ≡ inodes_in c.args.image.now = omega (arith, c.requires.geometry.inodes, c.loop-n.auto.n-end (omega (arith, inodes-least c.requires.geometry)), c.loop-n-test.false) in
+    c.loop-n.invariant.collected ∙ ap (namings_to c.args.image.now) end ∙ namings_to-all c.args.image.now

@@ -1,5 +1,4 @@
-use Rattle.imagecheck.proofs.Common.{sym, ap, subst, ◌∙◌, IsSome, is_some, false≢true, slot, is_name, GoodPlace, files_in}
-use Rattle.imagerules.proofs.Spelling.{place-free, place-taken}
+use Rattle.imagecheck.proofs.Common.{sym, ap, subst, ◌∙◌, IsSome, is_some, false≢true, slot, is_name, GoodPlace, files_in, place-free, place-taken}
 use Rattle.imagecheck.proofs.Judging.{never, told}
 use Rattle.imagecheck.proofs.entries.is_good.Goals as goal
 

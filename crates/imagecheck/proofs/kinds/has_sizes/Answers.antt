@@ -1,10 +1,9 @@
-use Rattle.imagecheck.proofs.Common.{arith, most_bytes, format_of, kind_in, length_in, FitsKind, up_to_more, HasPlace-at}
+use Rattle.imagecheck.proofs.Common.{arith, most_bytes, format_of, kind_in, length_in, FitsKind, up_to_more, HasPlace-at, length-is, super-is}
 use Rattle.imagecheck.proofs.Judging.{refused, told}
-use Rattle.imagecheck.proofs.Numbering.{fits_telling, fits_told, image-long, longest_told}
 use Rattle.imagecheck.proofs.kinds.has_sizes.Goals as goal
 
 pub format_of-requires : goal.format_of-requires
-format_of-requires c = image-long c.requires.geometry
+format_of-requires c = let least = (super-is c.requires.geometry).size_least in omega (arith, length-is c.requires.geometry, c.requires.geometry.size)
 
 pub kind-requires : goal.kind-requires
 kind-requires c = HasPlace-at c.requires.geometry c.loop-n.n c.loop-n-test.true
@@ -14,13 +13,12 @@ size-requires c = HasPlace-at c.requires.geometry c.loop-n.n c.loop-n-test.true
 
 pub returns-then-not-fits_kind : goal.returns-then-not-fits_kind
 returns-then-not-fits_kind c = refused c.if-not-fits_kind.true c.fits_kind.ensures (λ h.
-    fits_told (longest_told c.args.image.now c.format_of.result c.format_of.ensures c.single-longest.ensures.told) c.kind.ensures c.size.ensures
-    (h c.loop-n.n (omega arith) (omega (arith, c.requires.geometry.inodes))))
+    rw (c.single-longest.ensures.told, c.format_of.ensures, c.kind.ensures, c.size.ensures) (h c.loop-n.n (omega arith) (omega (arith, c.requires.geometry.inodes))))
 
 pub loop-n-preserved : goal.loop-n-preserved
 loop-n-preserved c =
     up_to_more (λ m. FitsKind (most_bytes (format_of c.args.image.now)) (kind_in c.args.image.now m) (length_in c.args.image.now m)) c.loop-n.n c.loop-n.invariant
-    (fits_telling (longest_told c.args.image.now c.format_of.result c.format_of.ensures c.single-longest.ensures.told) c.kind.ensures c.size.ensures (c.fits_kind.ensures.0 c.if-not-fits_kind.false))
+    (rw (c.single-longest.ensures.told, c.format_of.ensures, c.kind.ensures, c.size.ensures) at (c.fits_kind.ensures.0 c.if-not-fits_kind.false))
 
 pub returns : goal.returns
 returns c = told (λ n low high. c.loop-n.invariant n low (omega (arith, c.requires.geometry.inodes, c.loop-n-test.false)))

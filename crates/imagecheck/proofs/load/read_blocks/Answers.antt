@@ -1,22 +1,21 @@
-use Rattle.imagecheck.proofs.Common.{◌≡◌, ◌<◌, ◌++◌, length, ap, refl, ◌∙◌, arith, image_of, image_of-more}
+use Rattle.imagecheck.proofs.Common.{◌≡◌, ◌<◌, length, refl, ◌∙◌, arith, image_of-more}
 use Rattle.std.proofs.Common.{take_all}
 use Rattle.blockdev.specs.Blocks.{block_at}
-use Rattle.imagecheck.proofs.Sounding.{Rises-before, no-image}
-use Rattle.imagecheck.specs.declared.ImageFault.TheVariants.{Device}
+use Rattle.imagecheck.proofs.Sounding.{Rises-before, not_device, one-fault, told-err}
 use Rattle.imagecheck.proofs.load.read_blocks.Goals as goal
 
 pub returns-in_err-image : goal.returns-in_err-image
 returns-in_err-image g c =
-    let out = no-image _ c.from_residual.result c.from_residual.ensures.1 tt in
-    record { bytes = out.told; only = out.only; same = refl; identity = refl; later = omega arith; failed = λ e. absurd (out.no Device (λ e. cc) e) }
+    let e = told-err c.from_residual.result c.from_residual.ensures.1 in
+    record { bytes = rw e tt; only = rw e tt; same = refl; identity = refl; later = omega arith; failed = λ is. absurd (not_device (one-fault e is)) }
 
 pub returns-in_err-block : goal.returns-in_err-block
 returns-in_err-block g c =
     let inv = c.loop-n.invariant in
-    let out = no-image _ c.from_residual-in_err-block.result c.from_residual-in_err-block.ensures.1 tt in
+    let e = told-err c.from_residual-in_err-block.result c.from_residual-in_err-block.ensures.1 in
     record {
-      bytes = out.told;
-      only = out.only;
+      bytes = rw e tt;
+      only = rw e tt;
       same = c.in_err-block.ensures.same ∙ inv.same;
       identity = c.read.ensures.identity ∙ inv.identity;
       later = omega (arith, inv.later, c.in_err-block.ensures.cause.later);
@@ -26,14 +25,14 @@ returns-in_err-block g c =
 pub returns-in_err-extend_from_slice : goal.returns-in_err-extend_from_slice
 returns-in_err-extend_from_slice g c =
     let inv = c.loop-n.invariant in
-    let out = no-image _ c.from_residual-in_err-extend_from_slice.result c.from_residual-in_err-extend_from_slice.ensures.1 tt in
+    let e = told-err c.from_residual-in_err-extend_from_slice.result c.from_residual-in_err-extend_from_slice.ensures.1 in
     record {
-      bytes = out.told;
-      only = out.only;
+      bytes = rw e tt;
+      only = rw e tt;
       same = c.in_ok-block.ensures.same ∙ inv.same;
       identity = c.read.ensures.identity ∙ inv.identity;
       later = omega (arith, inv.later, c.in_ok-block.ensures.cause.later);
-      failed = λ e. absurd (out.no Device (λ e. cc) e);
+      failed = λ is. absurd (not_device (one-fault e is));
     }
 
 pub loop-n-preserved : goal.loop-n-preserved
@@ -43,14 +42,12 @@ loop-n-preserved g c =
     let inv = c.loop-n.invariant in
     let within : n < length blocks = omega (arith, c.requires.count, c.loop-n-test.true) in
     let read : c.in_ok-block.block ≡ block_at (g.D.BlockDev.content c.loop-n.device) n = c.in_ok-block.ensures.bytes in
-    let longer : c.extend_from_slice.new.self.items ≡ c.loop-n.image.items ++ c.in_ok-block.block = c.in_ok-extend_from_slice.ensures.items in
     record {
-      bytes = rw (longer, inv.bytes, read, inv.same) (image_of-more blocks n within);
+      bytes = rw (c.in_ok-extend_from_slice.ensures.items, inv.bytes, read, inv.same) (image_of-more blocks n within);
       same = c.in_ok-block.ensures.same ∙ inv.same;
       identity = c.read.ensures.identity ∙ inv.identity;
       later = omega (arith, inv.later, c.in_ok-block.ensures.cause.later);
     }
 
 pub returns-clause-bytes : goal.returns-clause-bytes
-returns-clause-bytes g c =
-    c.loop-n.invariant.bytes ∙ ap image_of (take_all c.loop-n.n (g.D.BlockDev.content c.args.device.now) (omega (arith, c.requires.count, c.loop-n-test.false)))
+returns-clause-bytes g c = rw (← take_all c.loop-n.n (g.D.BlockDev.content c.args.device.now) (omega (arith, c.requires.count, c.loop-n-test.false))) c.loop-n.invariant.bytes

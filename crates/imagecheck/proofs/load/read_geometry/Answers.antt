@@ -1,5 +1,4 @@
-use Rattle.imagecheck.proofs.Common.{arith, refl, IsFront, HasLength-not_few}
-use Rattle.imagecheck.proofs.Sounding.{IsOfImage-not}
+use Rattle.imagecheck.proofs.Common.{arith, refl, subst, IfErr, IsFront, IsOfImage, HasLength-not_few}
 use Rattle.imagecheck.proofs.load.read_geometry.Goals as goal
 
 pub returns-then-count-lt2-clause-judged : goal.returns-then-count-lt2-clause-judged
@@ -16,12 +15,11 @@ pub returns : goal.returns
 returns g c =
     let blocks = g.D.BlockDev.content c.args.device.now in
     let front : IsFront blocks c.blocks-count.result c.in_ok-block.block = record { sizes = g.met.D.BlockDev.sizes c.args.device.now; many = c.blocks-count.ensures; front = c.in_ok-block.ensures.bytes } in
-    let own = IsOfImage-not c.geometry_in.result c.geometry_in.ensures.own in
     record {
       judged = c.geometry_in.ensures.judged blocks front;
-      memory = own.memory;
+      memory = λ told. subst (λ r. IfErr r IsOfImage) told c.geometry_in.ensures.own;
       same = c.read.ensures.same;
       identity = c.read.ensures.identity;
       later = omega arith;
-      failed = λ told. absurd (own.device told);
+      failed = λ told. absurd (subst (λ r. IfErr r IsOfImage) told c.geometry_in.ensures.own);
     }

@@ -1,5 +1,5 @@
-use Rattle.imagecheck.proofs.Common.{◌≡◌, Err, length, ap, refl, sym, subst, ◌∙◌, arith, IfErr, MatchResult, format_named, image_of, Finds, Tells, HasGeometry, IsSummary, size-most, image_of-blocks, count-is}
-use Rattle.imagecheck.proofs.Sounding.{IsJudged, Rises-before, judged-err, judged-from, outside-told, refused-from, same-fault, told-err}
+use Rattle.imagecheck.proofs.Common.{◌≡◌, Err, length, ap, refl, sym, subst, ◌∙◌, arith, MatchResult, format_named, image_of, Finds, Tells, IsSummary, size-most, image_of-blocks, count-is}
+use Rattle.imagecheck.proofs.Sounding.{IsJudged, Rises-before, Tells-not, judged-from, one-fault, outside-told, told-err}
 use Rattle.imagecheck.proofs.rules.check_in.Goals as goal
 
 pub returns-in-Some : goal.returns-in-Some
@@ -22,9 +22,7 @@ returns-in-Some g c =
 
 pub returns-in_err-geometry-clause-refused : goal.returns-in_err-geometry-clause-refused
 returns-in_err-geometry-clause-refused g c =
-    let image = image_of (g.D.BlockDev.content c.args.device.now) in
-    let f = format_named c.args.format in
-    refused-from f image c.from_residual.result (judged-err _ _ c.from_residual.result c.from_residual.ensures.1 c.in_err-geometry.ensures.judged)
+    rw (told-err c.from_residual.result c.from_residual.ensures.1) (Tells-not (format_named c.args.format) (image_of (g.D.BlockDev.content c.args.device.now)) _ c.in_err-geometry.ensures.judged)
 
 pub read_blocks-requires : goal.read_blocks-requires
 read_blocks-requires g c = record {
@@ -36,33 +34,31 @@ pub returns-in_err-image : goal.returns-in_err-image
 returns-in_err-image g c =
     let device = c.args.device.now in
     let image = image_of (g.D.BlockDev.content device) in
-    let f = format_named c.args.format in
-    let r = c.from_residual-in_err-image.result in
-    let told : IfErr r (Tells f image) = judged-err _ _ r c.from_residual-in_err-image.ensures.1 (outside-told f image c.in_err-image.field-0.0 c.in_err-image.ensures.only) in
-    let is : r ≡ Err c.in_err-image.field-0.0 = told-err r c.from_residual-in_err-image.ensures.1 in
+    let fault = c.in_err-image.field-0.0 in
+    let told : Tells (format_named c.args.format) image fault = outside-told (format_named c.args.format) image fault c.in_err-image.ensures.only in
+    let is = told-err c.from_residual-in_err-image.result c.from_residual-in_err-image.ensures.1 in
     record {
       denotes = rw is tt;
       inodes = rw is tt;
       blocks = rw is tt;
-      fault = told;
-      refused = refused-from f image r told;
+      fault = rw is told;
+      refused = rw is (Tells-not (format_named c.args.format) image fault told);
       same = ◌∙◌ {a = g.D.BlockDev.content c.read_blocks.new.device} c.read_blocks.ensures.same c.read_geometry.ensures.same;
       identity = c.read_blocks.ensures.identity ∙ c.read_geometry.ensures.identity;
       later = omega (arith, c.read_blocks.ensures.later, c.read_geometry.ensures.later);
       failed = λ e. Rises-before (g.D.BlockDev.failures device) (g.D.BlockDev.failures c.read_geometry.new.device) (g.D.BlockDev.failures c.read_blocks.new.device) c.read_geometry.ensures.later
-          (c.in_err-image.ensures.failed (same-fault r _ _ is e));
+          (c.in_err-image.ensures.failed (ap Err (one-fault is e)));
     }
 
 pub summary_of-requires : goal.summary_of-requires
-summary_of-requires g c =
-    subst (λ image. HasGeometry image c.in_ok-geometry.geometry) (sym (c.deref.ensures.value ∙ c.in_ok-image.ensures.bytes ∙ ap image_of c.read_geometry.ensures.same)) c.in_ok-geometry.ensures.judged.geometry
+summary_of-requires g c = rw (c.deref.ensures.value, c.in_ok-image.ensures.bytes, c.read_geometry.ensures.same) c.in_ok-geometry.ensures.judged.geometry
 
 pub returns : goal.returns
 returns g c =
     let image = image_of (g.D.BlockDev.content c.args.device.now) in
     let r = c.summary_of.result in
-    let e : c.deref.result.now ≡ image = c.deref.ensures.value ∙ c.in_ok-image.ensures.bytes ∙ ap image_of c.read_geometry.ensures.same in
-    let judged = judged-from (format_named c.args.format) image c.in_ok-geometry.ensures.judged.magic r (subst (λ x. MatchResult r (IsSummary x) (Finds x)) e c.summary_of.ensures) in
+    let found : MatchResult r (IsSummary image) (Finds image) = rw (c.deref.ensures.value, c.in_ok-image.ensures.bytes, c.read_geometry.ensures.same) at c.summary_of.ensures in
+    let judged = judged-from (format_named c.args.format) image c.in_ok-geometry.ensures.judged.magic r found in
     record {
       denotes = judged.denotes;
       inodes = judged.inodes;

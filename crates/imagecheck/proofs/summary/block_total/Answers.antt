@@ -1,6 +1,5 @@
 use Rattle.imagecheck.proofs.Common.{sym, ◌∙◌, HasInode-at, HasPlace-at}
 use Rattle.imagerules.proofs.Summing.{length-blocks_of}
-use Rattle.imagecheck.proofs.Numbering.{IsCounted, taken_told}
 use Rattle.imagecheck.proofs.summary.block_total.Goals as goal
 
 pub kind-requires : goal.kind-requires
@@ -11,6 +10,4 @@ block_count-count-requires c = HasInode-at c.requires.geometry c.requires.sizes 
 
 pub returns-clause-total : goal.returns-clause-total
 returns-clause-total c =
-    let i : IsCounted c.args.image.now c.args.n c.format_of.result c.block_count-count.result =
-    record { named = c.format_of.ensures; count = c.block_count-count.ensures.count; most = c.block_count-count.ensures.most } in
-    taken_told i c.index_blocks.ensures.told ∙ sym (length-blocks_of c.args.image.now c.args.n (λ z. c.if-kind-eq0.false (c.kind.ensures ∙ z)))
+    rw (c.index_blocks.ensures.told, c.format_of.ensures, c.block_count-count.ensures.count) (sym (length-blocks_of c.args.image.now c.args.n (λ z. c.if-kind-eq0.false (c.kind.ensures ∙ z))))

@@ -1,4 +1,4 @@
-use Rattle.imagecheck.proofs.Common.{◌≡◌, ◌+◌, ◌-◌, length, ap, sym, ◌∙◌, arith, filter, range_with_len, inodes_in, is_in_use, unused_more, used_more, inodes-least, HasPlace-at}
+use Rattle.imagecheck.proofs.Common.{◌≡◌, ◌-◌, length, ap, refl, sym, ◌∙◌, arith, filter, range_with_len, inodes_in, is_in_use, unused_more, used_more, inodes-least, HasPlace-at}
 use Rattle.imagecheck.proofs.summary.inodes_in_use.Goals as goal
 use Rattle.imagecheck.proofs.summary.inodes_in_use.Goals.{else-kind-ne0, then-kind-ne0}
 
@@ -7,22 +7,15 @@ kind-requires c = HasPlace-at c.requires c.loop-n.n c.loop-n-test.true
 
 pub loop-n-preserved : goal.loop-n-preserved
 loop-n-preserved c =
-    let image = c.args.image.now in
-    let n = c.loop-n.n in
+    let more = used_more c.args.image.now c.loop-n.n (omega arith) in
+    let same = unused_more c.args.image.now c.loop-n.n (omega arith) in
     let i = c.loop-n.invariant in
     elim c.if-kind-ne0.branch [
-      | then-kind-ne0 w ↦ record {
-        total = w.total-is ∙ ap (λ m. m + 1) i.total ∙ sym (used_more image n (omega arith) (λ z. w.if-kind-ne0.true (c.kind.ensures ∙ z)));
-        most = omega (arith, w.total-is, i.most);
-      }
-      | else-kind-ne0 w ↦ record {
-        total = w.total-is ∙ i.total ∙ sym (unused_more image n (omega arith) (sym c.kind.ensures ∙ w.if-kind-ne0.false));
-        most = omega (arith, w.total-is, i.most);
-      }
+      | then-kind-ne0 w ↦ rw w.total-is (record { total = rw (i.total, more (λ z. w.if-kind-ne0.true (c.kind.ensures ∙ z))) refl; most = omega (arith, i.most) })
+      | else-kind-ne0 w ↦ rw w.total-is (record { total = rw (i.total, same (sym c.kind.ensures ∙ w.if-kind-ne0.false)) refl; most = omega (arith, i.most) })
     ]
 
 pub returns : goal.returns
 returns c =
-    let least = inodes-least c.requires in
-    let end : c.loop-n.n ≡ inodes_in c.args.image.now = omega (arith, c.requires.inodes, c.loop-n.auto.n-end (omega (arith, c.requires.inodes)), c.loop-n-test.false) in
+    let end : c.loop-n.n ≡ inodes_in c.args.image.now = omega (arith, c.requires.inodes, c.loop-n.auto.n-end (omega (arith, inodes-least c.requires)), c.loop-n-test.false) in
     c.loop-n.invariant.total ∙ ap (λ m. length (filter (is_in_use c.args.image.now) (range_with_len 1 (m - 1)))) end

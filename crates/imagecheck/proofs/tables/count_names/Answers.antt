@@ -1,6 +1,6 @@
-use Rattle.std.proofs.Common.{◌<◌, ◌+◌, ℕ, Bool, length, get_or, sym, refl, ◌∙◌, arith, ◌==◌, eq-eqb, ne_eqb, length-set}
-use Rattle.imagecheck.specs.declared.namings.Naming.{Naming}
-use Rattle.imagecheck.proofs.Counting.{tally_more}
+use Rattle.imagecheck.proofs.Common.{◌<◌, ◌+◌, cond, length, get_or, ◌∙◌, arith, refl, ◌==◌, sum_by_more, Naming}
+use Rattle.std.proofs.Common.{length-set}
+use Rattle.imagecheck.proofs.Counting.{counted_more}
 use Rattle.imagecheck.proofs.tables.count_names.Goals as goal
 
 pub loop-naming-preserved : goal.loop-naming-preserved
@@ -11,9 +11,9 @@ loop-naming-preserved c =
     let none : Naming = record { directory = 0; number = 0 } in
     let m : Naming = get_or namings i none in
     let inv = c.loop-naming.invariant in
-    let p : ℕ → Naming → Bool = λ n y. y.number == n in
     let high : m.number < length counts = omega (arith, c.requires.within i none c.loop-naming-test.true, inv.long) in
+    let long = length-set counts m.number (get_or counts m.number 0 + 1) in
     record {
-      long = length-set counts m.number (get_or counts m.number 0 + 1) ∙ inv.long;
-      counted = tally_more p namings i none c.loop-naming-test.true counts inv.counted m.number high (eq-eqb m.number m.number refl) (λ k other. ne_eqb m.number k (λ e. other (sym e)));
+      long = long ∙ inv.long;
+      counted = λ k l. rw (counted_more counts m.number k high, inv.counted k (omega arith), sum_by_more (λ (y : Naming). cond (y.number == k) 1 0) namings i none c.loop-naming-test.true) refl;
     }
