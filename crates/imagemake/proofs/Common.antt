@@ -19,7 +19,7 @@ pub use Rattle.std.specs.List.{list_all, list_any, position_or_len, range_with_l
 pub use Rattle.std.specs.Option.{option_or}
 pub use Rattle.std.specs.Prelude.{AllPairs, IfErr, IfOk, IsOk}
 pub use Rattle.std.specs.Result.{IsErrAnd, is_err}
-pub use Rattle.imagecheck.proofs.Reaching.{all_alone, Climbs-child, Climbs-reached, entries_at, IsReached-from, parent_root}
+pub use Rattle.imagecheck.proofs.Reaching.{all-entries, Climbs-child, Climbs-reached, IsReached-from, parent_root}
 pub use Rattle.imagecheck.specs.Reach.{ancestor, Climbs}
 pub use Rattle.imagerules.proofs.ContentLemmas.{image_of-blocks, length-image_of, part-image_of}
 pub use Rattle.imagerules.proofs.Denoting.{below-slot, EntriesAt-from, IsPlain-name, LinksAt-from}

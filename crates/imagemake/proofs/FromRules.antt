@@ -1,9 +1,9 @@
 -- Files at rest keep the rules of a running machine.
-use Rattle.imagemake.proofs.Common.{◌≡◌, ◌≢◌, ℕ, zero, suc, ◌≤◌, Bool, true, false, cond, None, Option, Some, inl, inr, get_or, ap, sym, refl, ◌∙◌, arith, subst, All, IsSome, is_some, option_map, unwrap_or, ◌==◌, All-nil, cases_eq}
+use Rattle.imagemake.proofs.Common.{all-entries, ◌≡◌, ◌≢◌, ℕ, zero, suc, ◌≤◌, Bool, true, false, cond, None, Option, Some, inl, inr, get_or, ap, sym, refl, ◌∙◌, arith, subst, All, IsSome, is_some, option_map, unwrap_or, ◌==◌, All-nil, cases_eq}
 use Rattle.imagemake.proofs.Common.{cond-false, cond-true, false≢true, Files, Node, is_directory, links_of, slot, KeepsNode, KeepsRules, all_entries, entries_of, is_directory_at, names_of, parent_of, EntriesAt-from, Climbs, ancestor}
 use Rattle.imagemake.proofs.Common.{Climbs-reached, parent_root, HasRoot, IsRanked, KeepsLive, KeepsTree, entries, names_for, names_by-le, eq-eqb, ne_eqb, Entry, Directory, not, is_name}
 use Rattle.imagemake.proofs.Counted.{count_by-none, once-count}
-use Rattle.imagemake.proofs.Parents.{all-entries, parent-names, parent-only}
+use Rattle.imagemake.proofs.Parents.{parent-names, parent-only}
 use Rattle.imagemake.proofs.ToRules.{folders-are, naming-directory}
 
 -- ---- how many steps lead to the root, of at most so many
