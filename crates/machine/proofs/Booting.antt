@@ -1,10 +1,10 @@
 -- The kernel and the state that begin with the plan of /init.
-use Rattle.machine.proofs.Common.{one_in, names-none, Counted, count_at, count_in, opens_of, file_of, slot-opens, IsCounted, names_in, FitsNode, IsFolder, IsInUse, files_on, home_in, homes_at, node_in, node_of, node_on}
-use Rattle.machine.proofs.Common.{Kernel, begun, state_of, IsKernel, IsOpenFile, IsOpened, IsPlaced, Init, IsBegun, IsInPlace, IsUnheld, LacksInit, PutsInit, bare_of, first_of, first_places, view_by, init_kernel}
-use Rattle.machine.proofs.Common.{alone, View, sound_view, KeepsTree, Process, all_in, Places, joined-free_slots, joined, Spaces, List, None, Option, Some, ap, arith, false, is_some, length, refl}
-use Rattle.machine.proofs.Common.{replicate, subst, suc, sym, zero, ℕ, ◌%◌, ◌+◌, ◌<◌, ◌∙◌, ◌∷◌, ◌≡◌, ◌≢◌, ◌≤◌, nat_tests, length-replicate, sum_by-replicate, sum_by-cons, none-some, IfSome, option_map}
-use Rattle.machine.proofs.Common.{◌==◌, holders, with_hold, FileTree, page_frames, Files, free_slots, slot, zeros, Plan, first_process, first_state, if_fits, init_plan, start, State, open_limit}
-use Rattle.machine.proofs.FlatLemmas.{fresh-fits, fresh-over, none-free, one-home, one-sound, one-waits, same-past}
+use Rattle.machine.proofs.Common.{one_in, names-none, Counted, count_at, count_in, opens_of, file_of, slot-opens, IsCounted, names_in, FitsNode, IsFolder, IsInUse, files_on, home_in, homes_at, node_in, node_of, node_on, Kernel, begun}
+use Rattle.machine.proofs.Common.{state_of, IsKernel, IsOpenFile, IsOpened, IsPlaced, Init, IsBegun, IsInPlace, IsUnheld, LacksInit, PutsInit, bare_of, first_of, first_places, view_by, init_kernel, alone, View, sound_view, KeepsTree}
+use Rattle.machine.proofs.Common.{Process, all_in, Places, joined-free_slots, joined, Spaces, List, None, Option, Some, ap, arith, false, length, refl, replicate, subst, suc, sym, zero, ℕ, ◌%◌, ◌+◌, ◌<◌, ◌∙◌, ◌∷◌, ◌≡◌, ◌≢◌, ◌≤◌, nat_tests}
+use Rattle.machine.proofs.Common.{length-replicate, sum_by-replicate, sum_by-cons, none-some, IfSome, option_map, ◌==◌, holders, with_hold, FileTree, page_frames, Files, free_slots, slot, zeros, Plan, first_process, first_state, if_fits}
+use Rattle.machine.proofs.Common.{init_plan, start, State, open_limit, WaitsWell, is_some}
+use Rattle.machine.proofs.FlatLemmas.{fresh-fits, fresh-over, none-free, one-home, one-sound, first-alone, same-past}
 use Rattle.tree.specs.Whole.{IsWhole}
 use Rattle.unixmodel.specs.OpenFiles as unix_files
 use Rattle.unixmodel.specs.Outcome.{no_descriptors}
@@ -69,7 +69,7 @@ init-opened new = record {
   each = init-each;
   all = length-replicate {A = Option (List ℕ)} 100 None;
   piped = λ q. ap is_some (same-past (Option (List ℕ)) None 100 q);
-  waits = one-waits no_files (first_of new) tt;
+  waits = first-alone (WaitsWell no_files) (first_of new) tt tt;
 }
 
 -- ---- process 1 holds the root
@@ -109,11 +109,6 @@ module _ (old tree : FileTree) (unheld : IsUnheld old) (same : tree ≡ record o
   pub root-few : holders tree.holds 1 < 65535
   root-few = let none : holders tree.holds 1 ≡ 0 = ap (λ h. holders h 1) holds-same ∙ same-past ℕ 0 unheld.count 1 in omega (arith, none)
 
-  init-homes : (new : Plan) (i : ℕ) → IfSome (home_in (slot (first_places new).places i)) (λ d. IsFolder (slot tree.files d))
-  unfolding free_slots
-  init-homes new zero = rw rules-same.root.here tt
-  init-homes new (suc i) = rw (same-past (Option Process) None 63 i) tt
-
   init-fits : (k : ℕ) (c : Counted) → slot no_files k ≡ Some c → FitsNode c.file c.file.target (node_of tree.files (node_on c.file.target))
   init-fits k c at = absurd (none-some c (sym (same-past (Option Counted) None 100 k) ∙ at))
 
@@ -125,7 +120,7 @@ module _ (old tree : FileTree) (unheld : IsUnheld old) (same : tree ≡ record o
     holds = λ n. ap (λ h. holders (with_hold h 1) n) holds-same ∙ root-held unheld.count root-within n ∙ root-only new n;
     held = λ n node at bare. absurd (let some = unheld.linked n node (ap (λ (files : Files). slot files n) (sym files_same) ∙ at) in omega (arith, some, bare));
     fits = init-fits;
-    homes = init-homes new;
+    homes = first-alone (λ o. IfSome (home_in o) (λ d. IsFolder (slot tree.files d))) (first_of new) (rw rules-same.root.here tt) tt;
   }
 
   pub init-sound : (frames : ℕ) (new : Plan) → 4 + page_frames (length new.memory) ≤ frames → new.pc % 4 ≡ 0 → IsKernel (init_kernel tree frames new)

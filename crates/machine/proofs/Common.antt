@@ -8,11 +8,11 @@ pub use Rattle.std.proofs.lemmas.List.Folds.{sum_by-replicate}
 pub use Rattle.std.proofs.lemmas.List.Sums.{sum_by-cons}
 pub use Rattle.std.proofs.lemmas.Option.{none-some, same_Some}
 pub use Rattle.std.proofs.lemmas.Result.{err_from_is_err_and}
-pub use Rattle.std.specs.Prelude.{◌==◌, IfErr, IfOk, IfSome, IsErrOf, IsSome, nat_lt, OnErr, OnOk, option_and_then, option_map, slice_index, sum_by, ◌||◌}
+pub use Rattle.std.specs.Prelude.{◌==◌, IfErr, IfOk, IfSome, IsErrOf, IsSome, nat_lt, OnErr, OnOk, option_and_then, option_map, sum_by, ◌||◌}
 pub use Rattle.std.specs.Result.{is_err}
 pub use Rattle.calls.proofs.Prints.{Appends-none, Appends-trans, begins_more}
 pub use Rattle.calls.specs.declared.halt.Halt.{Halt}
-pub use Rattle.calls.specs.declared.halt.Halt.TheVariants.{Console, Halted, InitEnded}
+pub use Rattle.calls.specs.declared.halt.Halt.TheVariants.{Console, Halted, InitEnded, Device}
 pub use Rattle.files.proofs.CountsLemmas.{names-free, names-none}
 pub use Rattle.files.proofs.Whole.{slot-opens}
 pub use Rattle.files.specs.Counts.{names, one_in}
@@ -24,7 +24,7 @@ pub use Rattle.kernel.proofs.Watching.{watched-all}
 pub use Rattle.kernel.specs.Descriptors.{IsCounted, named_by, names_in}
 pub use Rattle.kernel.specs.Holding.{files_on, FitsNode, home_in, homes_at, IsFolder, IsInUse, node_in, node_of, node_on}
 pub use Rattle.kernel.specs.Kernel.{begun, Kernel, state_of}
-pub use Rattle.kernel.specs.Sound.{IsKernel, IsLive, IsOpened, IsOpenFile, IsPlace, IsPlaced, WaitsWell}
+pub use Rattle.kernel.specs.Sound.{IsKernel, IsOpened, IsOpenFile, IsPlace, IsPlaced, WaitsWell}
 unfoldable pub use Rattle.kernel.specs.Whole.{joined}
 pub use Rattle.mount.specs.Mounted.{AreLinked, IsFlat, IsMounted, IsUnmounted}
 pub use Rattle.names.specs.Rules.{KeepsTree}
@@ -55,6 +55,7 @@ unfoldable pub use Rattle.unixmodel.specs.Start.{flat_descriptors, flat_files, f
 pub use Rattle.unixmodel.specs.State.{holds, open_limit, place_limit, running, State}
 pub use Rattle.unixmodel.specs.declared.event.Event.{Event}
 pub use Rattle.unixmodel.specs.declared.event.Event.TheVariants.{Key, Step, Tick}
+pub use Rattle.kernel.proofs.Reading.{lost-reads, reads-as}
 pub use Rattle.machine.specs.Booted.{bare_of, boot_fault, FindsInit, first_of, first_places, init_kernel, IsAccepted, IsBegun, IsBooted, IsInit, IsInPlace, IsNotBegun, IsUnbooted, IsUnheld, LacksInit, PutsInit, view_by}
 pub use Rattle.machine.specs.Flat.{alone, bare_plan, console_file, first, first_files, first_kernel, first_table, first_tree, flat_memory, flat_space, LoadsFlat, RefusesFlat}
 pub use Rattle.machine.specs.Gives.{ConsoleFails, fails, IsDone, RunGives, StepGives}

@@ -1,12 +1,12 @@
 -- A flat program in memory, and the state and the kernel that begin with it.
-use Rattle.machine.proofs.Common.{none-some, same_Some, holders, with_hold, file_of, FitsNode, IsFolder, IsInUse, files_on, home_in, homes_at, node_in, node_of, node_on, IsCounted, named_by, names_in, state_of, IsKernel}
-use Rattle.machine.proofs.Common.{IsOpenFile, IsOpened, IsPlace, IsPlaced, WaitsWell, names, one_in, names-free, Counted, count_at, count_in, opened, opens_of, place_for, slot-opens, stacked, BootFault, FrameCount}
-use Rattle.machine.proofs.Common.{NoInit, NoMemory, LoadsFlat, alone, bare_plan, console_file, first, first_files, first_kernel, first_table, first_tree, flat_memory, flat_space, RefusesFlat, IsFlat, Process, all_in}
-use Rattle.machine.proofs.Common.{is_running, seated, joined-free_slots, joined, SpaceView, Spaces, frames_in, grown, has_space, view_at, no_pages, no_spaces, taken_frames, with_view, written, Bool, Err, List, None, Ok}
-use Rattle.machine.proofs.Common.{Option, Result, Some, [], ap, append_assoc, ap₂, arith, false, get_or, inl, inr, is_some, length, length-append, nat_le, refl, replicate, subst, suc, sym, true, zero, ℕ, ◌*◌, ◌++◌, ◌+◌}
-use Rattle.machine.proofs.Common.{◌-◌, ◌/◌, ◌<◌, ◌∙◌, ◌∷◌, ◌≡◌, ◌≢◌, ◌≤◌, ◌⊎◌, ◌↔◌, le-leb, lt-leb, nat_tests, length-replicate, sum_by-replicate, sum_by-cons, IfOk, IfSome, IsErrOf, OnErr, option_map, sum_by}
-use Rattle.machine.proofs.Common.{◌==◌, FileTree, blocks_of, frames_of, page_frames, Files, free_slots, slot, Perm, Memory, overwrite, pages_of, write_bytes, zero_page, zeros, ceil_div, le, round_down, Plan, plan_flat}
-use Rattle.machine.proofs.Common.{push, push_pointers, push_strings, stack_marks, with_args, with_stack, first_process, first_state, flat_descriptors, flat_files, flat_opens, if_fits, start_flat, State, holds}
+use Rattle.machine.proofs.Common.{none-some, same_Some, holders, with_hold, file_of, FitsNode, IsFolder, IsInUse, files_on, home_in, homes_at, node_in, node_of, node_on, IsCounted, named_by, names_in, state_of, IsKernel, IsOpenFile}
+use Rattle.machine.proofs.Common.{IsOpened, IsPlace, IsPlaced, WaitsWell, names, one_in, names-free, Counted, count_at, count_in, opened, opens_of, place_for, slot-opens, stacked, BootFault, FrameCount, NoInit, NoMemory, LoadsFlat, alone}
+use Rattle.machine.proofs.Common.{bare_plan, console_file, first, first_files, first_kernel, first_table, first_tree, flat_memory, flat_space, RefusesFlat, IsFlat, Process, all_in, is_running, seated, joined-free_slots, joined, SpaceView}
+use Rattle.machine.proofs.Common.{Spaces, frames_in, grown, has_space, view_at, no_pages, no_spaces, taken_frames, with_view, written, Bool, Err, List, None, Ok, Option, Result, Some, [], ap, append_assoc, ap₂, arith, false, get_or, inl}
+use Rattle.machine.proofs.Common.{inr, is_some, length, length-append, nat_le, refl, replicate, subst, suc, sym, true, zero, ℕ, ◌*◌, ◌++◌, ◌+◌, ◌-◌, ◌/◌, ◌<◌, ◌∙◌, ◌∷◌, ◌≡◌, ◌≢◌, ◌≤◌, ◌⊎◌, ◌↔◌, le-leb, lt-leb, nat_tests, length-replicate}
+use Rattle.machine.proofs.Common.{sum_by-replicate, sum_by-cons, IfOk, IfSome, IsErrOf, OnErr, option_map, sum_by, ◌==◌, FileTree, blocks_of, frames_of, page_frames, Files, free_slots, slot, Perm, Memory, overwrite, pages_of, write_bytes}
+use Rattle.machine.proofs.Common.{zero_page, zeros, ceil_div, le, round_down, Plan, plan_flat, push, push_pointers, push_strings, stack_marks, with_args, with_stack, first_process, first_state, flat_descriptors, flat_files, flat_opens}
+use Rattle.machine.proofs.Common.{if_fits, start_flat, State, holds}
 use Rattle.files.specs.declared.file.OpenFile.{OpenFile}
 use Rattle.files.specs.declared.table.FileFault.{FileFault}
 use Rattle.kernel.specs.Kernel.{begun as begun_by}
@@ -117,7 +117,13 @@ first-placed : (h : SpaceView) → IsPlaced (first h.size) h
 unfolding flat_descriptors free_slots zeros
 first-placed h = record { zero = refl; aligned = refl; mode = record { descriptors = refl } }
 
--- a process alone in the first place
+-- what holds of a process and of a free place holds of each, where it stands alone in the first
+pub first-alone : (P : Option Process → Type 0) (p : Process) → P (Some p) → P None → (i : ℕ) → P (slot (Some p ∷ free_slots 63) i)
+unfolding free_slots
+first-alone P p here free zero = here
+first-alone P p here free (suc i) = subst P (sym (same-past (Option Process) None 63 i)) free
+
+-- such a process makes a kernel
 pub one-sound : (tree : FileTree) (p : Process) (h : SpaceView) (frames : ℕ) (opens : List (Option Counted)) → IsPlaced p h → is_running p ≡ false → 4 + page_frames (length h.memory) ≤ frames
     → IsOpened opens (replicate 100 None) (Some p ∷ free_slots 63) → IsInUse tree opens (Some p ∷ free_slots 63) → IsKernel (begun_by tree (record { places = Some p ∷ free_slots 63; last = 63; next_pid = 2; awake = all_in 64 }) (alone frames h) opens)
 unfolding free_slots
@@ -125,7 +131,7 @@ one-sound tree p h frames opens placed rests fits opened used = record {
   all = ap suc (length-replicate {A = Option Process} 63 None);
   spaces = ap suc (length-replicate {A = Option SpaceView} 63 None);
   stands = stands;
-  runs = runs;
+  runs = first-alone (λ o. holds is_running o ≡ false) p rests refl;
   fits = rw (taken-alone frames h) fits;
   opened = opened;
   used = λ up. used;
@@ -133,15 +139,6 @@ one-sound tree p h frames opens placed rests fits opened used = record {
   stands : (i : ℕ) → IsPlace (slot (Some p ∷ replicate 63 None) i) (slot (Some h ∷ replicate 63 None) i)
   stands zero = placed
   stands (suc i) = rw (same-past (Option Process) None 63 i, same-past (Option SpaceView) None 63 i) tt
-
-  runs : (i : ℕ) → holds is_running (slot (Some p ∷ replicate 63 None) i) ≡ false
-  runs zero = rests
-  runs (suc i) = rw (same-past (Option Process) None 63 i) refl
-
-pub one-waits : (files : List (Option Counted)) (p : Process) → WaitsWell files (Some p) → (i : ℕ) → WaitsWell files (slot (Some p ∷ free_slots 63) i)
-unfolding free_slots
-one-waits files p waits zero = waits
-one-waits files p waits (suc i) = rw (same-past (Option Process) None 63 i) tt
 
 -- that works in the root
 pub one-home : (p : Process) → home_in (Some p) ≡ Some 1 → (n : ℕ) → homes_at (Some p ∷ free_slots 63) n ≡ one_in n (Some 1)
@@ -192,7 +189,7 @@ first-opened size = record {
   each = first-each;
   all = length-replicate {A = Option (List ℕ)} 100 None;
   piped = λ q. ap is_some (same-past (Option (List ℕ)) None 100 q);
-  waits = one-waits first_files (first size) tt;
+  waits = first-alone (WaitsWell first_files) (first size) tt tt;
 }
 
 -- ---- who holds the root and the console
@@ -214,10 +211,9 @@ unfolding flat_files free_slots
 first-fits tree flat zero c at = let e : record { file = console_file; count = 3 } ≡ c = same_Some (record { file = console_file; count = 3 }) c at in subst (λ (d : Counted). FitsNode d.file d.file.target (node_of tree.files (node_on d.file.target))) e (rw flat.files refl)
 first-fits tree flat (suc k) c at = absurd (none-some c (sym (same-past (Option Counted) None 99 k) ∙ at))
 
-first-homes : (tree : FileTree) → IsFlat tree → (size i : ℕ) → IfSome (home_in (slot (first_table size).places i)) (λ d. IsFolder (slot tree.files d))
+first-homes : (tree : FileTree) → IsFlat tree → (size : ℕ) (i : ℕ) → IfSome (home_in (slot (first_table size).places i)) (λ d. IsFolder (slot tree.files d))
 unfolding flat_files free_slots
-first-homes tree flat size zero = rw flat.files tt
-first-homes tree flat size (suc i) = rw (same-past (Option Process) None 63 i) tt
+first-homes tree flat size = first-alone (λ o. IfSome (home_in o) (λ d. IsFolder (slot tree.files d))) (first size) (rw flat.files tt) tt
 
 flat-zero : slot flat_files 0 ≡ None
 unfolding flat_files free_slots

@@ -1,7 +1,7 @@
 -- What /init has process 1 execute, and how it comes into the first place.
-use Rattle.machine.proofs.Common.{List, None, Ok, Option, Some, [], ap, arith, true, le_trans, length, refl, subst, sym, ℕ, ◌%◌, ◌*◌, ◌++◌, ◌+◌, ◌/◌, ◌<◌, ◌^◌, ◌∙◌, ◌∷◌, ◌≡◌, ◌≤◌, none-some, same_Some, IfSome}
-use Rattle.machine.proofs.Common.{IsSome, is_some, option_and_then, option_map, Init, FindsInit, IsInPlace, IsInit, LacksInit, alone, KeepsTree, PassesOne, plan_with, stacked, SpaceView, Spaces, has_space, no_pages}
-use Rattle.machine.proofs.Common.{no_spaces, taken_frames, with_view, with_place, FileTree, Serves, page_frames, Files, Node, find, slot, number_at, Loaded, Plan, loaded_of, plan, with_args, init_path, init_plan}
+use Rattle.machine.proofs.Common.{List, None, Ok, Option, Some, [], ap, arith, true, le_trans, length, refl, subst, sym, ℕ, ◌%◌, ◌*◌, ◌++◌, ◌+◌, ◌/◌, ◌<◌, ◌^◌, ◌∙◌, ◌∷◌, ◌≡◌, ◌≤◌, none-some, same_Some, IfSome, IsSome, is_some}
+use Rattle.machine.proofs.Common.{option_and_then, option_map, Init, FindsInit, IsInPlace, IsInit, LacksInit, alone, KeepsTree, PassesOne, plan_with, stacked, SpaceView, Spaces, has_space, no_pages, no_spaces, taken_frames, with_view}
+use Rattle.machine.proofs.Common.{with_place, FileTree, Serves, page_frames, Files, Node, find, slot, number_at, Loaded, Plan, loaded_of, plan, with_args, init_path, init_plan}
 use Rattle.calls.proofs.Homes.{some-there}
 use Rattle.machine.proofs.FlatLemmas.{alone-space, created, no-frames}
 use Rattle.names.proofs.Naming.{find-used}

@@ -1,6 +1,6 @@
 -- From the files of an image to the machine that boots from it.
-use Rattle.machine.proofs.Common.{Err, List, Ok, Result, ap, arith, le_trans, refl, subst, sym, ℕ, ◌<◌, ◌∙◌, ◌≤◌, ◌⊎◌, ◌↔◌, IfErr, IfOk, IsErrOf, BootFault, FrameCount}
-use Rattle.machine.proofs.Common.{Image, NoInit, NoMemory, IsAccepted, IsBegun, IsBooted, IsNotBegun, IsUnbooted, boot_fault, View, IsMounted, IsUnmounted, FileTree, start}
+use Rattle.machine.proofs.Common.{Err, List, Ok, Result, ap, arith, le_trans, refl, subst, sym, ℕ, ◌<◌, ◌∙◌, ◌≤◌, ◌⊎◌, ◌↔◌, IfErr, IfOk, IsErrOf, BootFault, FrameCount, Image, NoInit, NoMemory, IsAccepted, IsBegun, IsBooted, IsNotBegun}
+use Rattle.machine.proofs.Common.{IsUnbooted, boot_fault, View, IsMounted, IsUnmounted, FileTree, start}
 use Rattle.machine.proofs.FlatLemmas.{outside}
 use Rattle.imagecheck.specs.declared.ImageFault.{ImageFault}
 use Rattle.imagecheck.specs.declared.ImageFault.TheVariants as fault

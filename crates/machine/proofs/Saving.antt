@@ -1,6 +1,6 @@
 -- What is left of a machine: nothing names a node but links.
-use Rattle.machine.proofs.Common.{◌≡◌, ℕ, ◌+◌, Bool, false, List, [], ◌∷◌, None, Option, Some, ap, refl, subst, sym, ◌∙◌, nat_lt, ◌||◌, image_of}
-use Rattle.machine.proofs.Common.{Kernel, state_of, unheld, FileTree, Node, free_slots, links_of, taken, Denotes, left, State, place_limit}
+use Rattle.machine.proofs.Common.{◌≡◌, ℕ, ◌+◌, Bool, false, List, [], ◌∷◌, None, Option, Some, ap, refl, subst, sym, ◌∙◌, nat_lt, ◌||◌, image_of, Kernel, state_of, unheld, FileTree, Node, free_slots, links_of, taken, Denotes, left, State}
+use Rattle.machine.proofs.Common.{place_limit}
 use Rattle.std.proofs.Math.Bool.{or-false}
 use Rattle.std.specs.List.{list_any}
 use Rattle.machine.proofs.Steps.{told}

@@ -1,9 +1,8 @@
 -- What an event comes to, from what the kernel makes of it.
-use Rattle.machine.proofs.Common.{IfErr, Halt, Console, Halted, InitEnded, Kernel, state_of, ConsoleFails, IsDone, RunGives, StepGives, fails, IsUp, View, FileTree, After, quiet, Key, Step, Tick, next, stopped, State}
-use Rattle.machine.proofs.Common.{running, length-replicate, take-replicate, ◌≡◌, ◌≤◌, ℕ, ℤ, Bool, true, false, List, replicate, take, Option, Some, None, Result, Ok, Err, arith, le_refl, refl, ap, Appends-none}
+use Rattle.machine.proofs.Common.{IfErr, Halt, Console, Halted, InitEnded, Kernel, state_of, ConsoleFails, IsDone, RunGives, StepGives, fails, IsUp, View, FileTree, After, quiet, Key, Step, Tick, next, stopped, State, running}
+use Rattle.machine.proofs.Common.{length-replicate, take-replicate, ◌≡◌, ◌≤◌, ℕ, ℤ, Bool, true, false, List, replicate, take, Option, Some, None, Result, Ok, Err, arith, le_refl, refl, ap, Appends-none, Device}
 use Rattle.calls.specs.Gives.{Dispatches, EventGives, LeavesTree, Makes}
 use Rattle.calls.specs.Steps.{LeavesFiles, PieceGives, PieceGoes, StepsGive, stepped}
-use Rattle.calls.specs.declared.halt.Halt.TheVariants.{Device}
 use Rattle.calls.proofs.Pieces.{stops-rest, went-all, went-none}
 use Rattle.machine.specs.Pieces.{IsPiece}
 use Rattle.console.specs.Output.{AppendsBeginning}

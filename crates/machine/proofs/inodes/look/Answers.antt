@@ -1,5 +1,4 @@
-use Rattle.kernel.proofs.Reading.{lost-reads}
-use Rattle.machine.proofs.Common.{◌∙◌}
+use Rattle.machine.proofs.Common.{◌∙◌, lost-reads}
 use Rattle.machine.proofs.Looking.{told-shown}
 use Rattle.machine.proofs.inodes.look.Goals as goal
 
