@@ -1,11 +1,10 @@
 -- Operations without an access, and those with one.
-use Rattle.hart.proofs.Common.{◌≡◌, ◌==◌, ◌%◌, ℕ, List, [], length, Option, Some, None, Ok, Err, refl, sym, ap, inl, false, true, Bool, option_map, slice_index_or, slice_set, LoadOp}
-use Rattle.hart.proofs.Common.{StoreOp, Access, Load, Store, LoadMisaligned, LoadPageFault, StoreMisaligned, StorePageFault, Effect, load_from, load_size, store_size, overwrite, le}
-use Rattle.hart.proofs.Common.{Held, IsAnswer, IsKept, place_in, Acts, Leaves, Turns, Answers, Sight, given, load_by, seen, store_by, stored, op_by, Next, Behind, Stop, Op, Hart}
+use Rattle.hart.proofs.Common.{Access, Acts, allowed, Answers, ap, Bool, Cause, Effect, Err, false, given, Hart, Held, if◌then◌else◌, inl, IsAnswer, IsKept, Leaves, length, List, Next, None, Ok, Op, op_by, Option, option_map, Page}
+use Rattle.hart.proofs.Common.{place_in, refl, seen, Sight, Stop, stored, sym, trap, true, Turns, ℕ, ◌≡◌}
+use Rattle.hart.proofs.Steps.{one-answer, walked}
 use Rattle.hart.specs.declared.operation.Op.TheVariants as op
-use Rattle.hart.proofs.Steps.{walked, with_answer, with_answer-allowed, with_answer-itself}
 
-turned-leaves : (effect : Effect) (answers : Answers) (next : Next) (pc : ℕ) (old new : Hart) (ram : List (List ℕ)) → Turns effect next pc old new → Leaves effect answers next pc old new ram ram
+pub turned-leaves : (effect : Effect) (answers : Answers) (next : Next) (pc : ℕ) (old new : Hart) (ram : List (List ℕ)) → Turns effect next pc old new → Leaves effect answers next pc old new ram ram
 turned-leaves (Ok d) answers next pc old new ram h = (h.0, h.1, h.2, h.3, ap (stored ram answers) (sym h.4))
 turned-leaves (Err t) answers next pc old new ram h = (h.0, h.1, h.2, refl)
 
@@ -25,14 +24,8 @@ acts-answered : (held held' : Held) (meaning : Sight → Effect) (next : Next) (
     → IsAnswer held ram old.root.0 address access (option_map (place_in address) o) → IsKept held held' ram old.root.0 → length ram' ≡ length ram
     → ((answers : Answers) → answers access address ≡ o → Leaves (meaning (seen ram answers)) answers next pc old new ram ram') → Acts held held' meaning next pc old new ram ram'
 acts-answered held held' meaning next pc old new ram ram' access address o is kept count does =
-    let answers : Answers = with_answer access address o (walked ram old.root.0) in
-    record {
-      answers = answers;
-      allowed = with_answer-allowed held ram old.root.0 access address o (walked ram old.root.0) (λ a b. inl refl) is;
-      does = does answers (with_answer-itself access address o (walked ram old.root.0));
-      kept = kept;
-      count = count;
-    }
+    let one = one-answer held ram old.root.0 access address o is in
+    record { answers = one.0; allowed = one.1; does = does one.0 one.2; kept = kept; count = count }
 
 -- ---- operations without an access
 
@@ -79,33 +72,12 @@ op_acts held o next pc old new ram none h =
 
 -- ---- loads and stores: at a misaligned address, where nothing is found, and in a frame
 
-pub load-odd : (held : Held) (ram : List (List ℕ)) (hart : Hart) (o : LoadOp) (rd address pc : ℕ) → (address % load_size o == 0) ≡ false
-    → Acts held held (load_by hart.registers pc o rd address) (Stop (record { cause = LoadMisaligned; address = address })) pc hart hart ram ram
-load-odd held ram hart o rd address pc odd =
-    acts-unanswered held (load_by hart.registers pc o rd address) (Stop (record { cause = LoadMisaligned; address = address })) pc hart hart ram (λ answers. rw odd (refl, refl, refl, refl))
+pub acts-odd : (held : Held) (ram : List (List ℕ)) (hart : Hart) (even : Bool) (found : Option Page → Effect) (access : Access) (cause : Cause) (address pc : ℕ) → even ≡ false
+    → Acts held held (λ see. if even then found (see access address) else trap cause address) (Stop (record { cause = cause; address = address })) pc hart hart ram ram
+acts-odd held ram hart even found access cause address pc odd = acts-unanswered held _ _ pc hart hart ram (λ answers. rw odd (refl, refl, refl, refl))
 
-pub load-lost : (held held' : Held) (ram : List (List ℕ)) (hart : Hart) (o : LoadOp) (rd address pc : ℕ) → (address % load_size o == 0) ≡ true → IsAnswer held ram hart.root.0 address Load None → IsKept held held' ram hart.root.0
-    → Acts held held' (load_by hart.registers pc o rd address) (Stop (record { cause = LoadPageFault; address = address })) pc hart hart ram ram
-load-lost held held' ram hart o rd address pc even is kept =
-    acts-answered held held' (load_by hart.registers pc o rd address) (Stop (record { cause = LoadPageFault; address = address })) pc hart hart ram ram Load address None is kept refl (λ answers same. rw (even, same) (refl, refl, refl, refl))
-
-pub load-found : (held held' : Held) (ram : List (List ℕ)) (old new : Hart) (next : Next) (o : LoadOp) (rd address pc f : ℕ) → (address % load_size o == 0) ≡ true → IsAnswer held ram old.root.0 address Load (Some (place_in address f)) → IsKept held held' ram old.root.0
-    → Turns (load_from old.registers pc o rd address (Some (given ram f))) next pc old new → Acts held held' (load_by old.registers pc o rd address) next pc old new ram ram
-load-found held held' ram old new next o rd address pc f even is kept turns =
-    acts-answered held held' (load_by old.registers pc o rd address) next pc old new ram ram Load address (Some f) is kept refl (λ answers same.
-    rw (even, same) (turned-leaves (load_from old.registers pc o rd address (Some (given ram f))) answers next pc old new ram turns))
-
-pub store-odd : (held : Held) (ram : List (List ℕ)) (hart : Hart) (o : StoreOp) (address value pc : ℕ) → (address % store_size o == 0) ≡ false
-    → Acts held held (store_by hart.registers pc o address value) (Stop (record { cause = StoreMisaligned; address = address })) pc hart hart ram ram
-store-odd held ram hart o address value pc odd =
-    acts-unanswered held (store_by hart.registers pc o address value) (Stop (record { cause = StoreMisaligned; address = address })) pc hart hart ram (λ answers. rw odd (refl, refl, refl, refl))
-
-pub store-lost : (held held' : Held) (ram : List (List ℕ)) (hart : Hart) (o : StoreOp) (address value pc : ℕ) → (address % store_size o == 0) ≡ true → IsAnswer held ram hart.root.0 address Store None → IsKept held held' ram hart.root.0
-    → Acts held held' (store_by hart.registers pc o address value) (Stop (record { cause = StorePageFault; address = address })) pc hart hart ram ram
-store-lost held held' ram hart o address value pc even is kept =
-    acts-answered held held' (store_by hart.registers pc o address value) (Stop (record { cause = StorePageFault; address = address })) pc hart hart ram ram Store address None is kept refl (λ answers same. rw (even, same) (refl, refl, refl, refl))
-
-pub store-found : (held held' : Held) (ram ram' : List (List ℕ)) (hart : Hart) (o : StoreOp) (address value pc f : ℕ) → (address % store_size o == 0) ≡ true → IsAnswer held ram hart.root.0 address Store (Some (place_in address f)) → IsKept held held' ram hart.root.0
-    → ram' ≡ slice_set ram f (overwrite (slice_index_or ram f []) (address % 4096) (le (store_size o) value)) → length ram' ≡ length ram → Acts held held' (store_by hart.registers pc o address value) Behind pc hart hart ram ram'
-store-found held held' ram ram' hart o address value pc f even is kept memory count =
-    acts-answered held held' (store_by hart.registers pc o address value) Behind pc hart hart ram ram' Store address (Some f) is kept count (λ answers same. rw (even, same) (refl, refl, refl, refl, rw same memory))
+pub acts-even : (held held' : Held) (ram ram' : List (List ℕ)) (old new : Hart) (next : Next) (even : Bool) (found : Option Page → Effect) (access : Access) (cause : Cause) (address pc : ℕ) (o : Option ℕ) → even ≡ true
+    → IsAnswer held ram old.root.0 address access (option_map (place_in address) o) → IsKept held held' ram old.root.0 → length ram' ≡ length ram
+    → ((answers : Answers) → answers access address ≡ o → Leaves (found (option_map (given ram) o)) answers next pc old new ram ram') → Acts held held' (λ see. if even then found (see access address) else trap cause address) next pc old new ram ram'
+acts-even held held' ram ram' old new next even found access cause address pc o aligned is kept count does =
+    acts-answered held held' _ next pc old new ram ram' access address o is kept count (λ answers same. rw (aligned, same) (does answers same))

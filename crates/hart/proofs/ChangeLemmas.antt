@@ -1,8 +1,8 @@
 -- The frames after a store show the memory after it, and nothing else is new.
-use Rattle.hart.proofs.Common.{Bool, true, false, cond, arith, refl, ap, sym, ◌∙◌, ◌≡◌, ◌≢◌, ℕ, suc, ◌+◌, ◌-◌, ◌/◌, ◌%◌, ◌<◌, ◌≤◌, ◌⊎◌, inl, inr, List, [], ◌∷◌, ◌++◌, append_assoc, length, length-set}
-use Rattle.hart.proofs.Common.{take, drop, set, get_or, get_or-set_same, get_or-set_other, Option, Some, None, Ok, slice_get, slice_set, slice_index_or, option_map, cases_eq, get_or_from_slice_get}
-use Rattle.hart.proofs.Common.{slice_get-get_or, slice_get-map, slice_get_within, Store, cycle, Change, Computed, Bytes, Nothing, Memory, Page, overwrite, permits, permitted, write_bytes, write_from}
-use Rattle.hart.proofs.Common.{IsMemory, frame_of, put, put_bytes, Mapped, memory_of, page_in, IsAlone, IsSound, IsStore, Stores, WritesOnly, WritesPage, changed, put_in, IsSize}
+use Rattle.hart.proofs.Common.{[], ap, append_assoc, arith, Bool, Bytes, cases_eq, Change, changed, Computed, cond, cycle, drop, false, frame_of, get_or, get_or-set_other, get_or-set_same, get_or_from_slice_get, inl, inr, IsAlone, IsMemory}
+use Rattle.hart.proofs.Common.{IsSize, IsSound, IsStore, length, length-set, List, Mapped, Memory, memory_of, None, Nothing, Ok, Option, option_map, overwrite, Page, page_in, permits, permitted, put, put_bytes, put_in, refl, set, slice_get}
+use Rattle.hart.proofs.Common.{slice_get-get_or, slice_get-map, slice_get_within, slice_index_or, slice_set, Some, Store, Stores, suc, sym, take, true, write_bytes, write_from, WritesOnly, WritesPage, ℕ, ◌%◌, ◌++◌, ◌+◌, ◌-◌, ◌/◌, ◌<◌, ◌∙◌}
+use Rattle.hart.proofs.Common.{◌∷◌, ◌≡◌, ◌≢◌, ◌≤◌, ◌⊎◌}
 use Rattle.std.proofs.Math.Seq.{drop-cons}
 use Rattle.std.proofs.lemmas.List.{drop_all, length-map, same_lists, set_split, take_all}
 use Rattle.unixmodel.specs.Next.{memory_after}

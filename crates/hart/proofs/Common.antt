@@ -24,6 +24,7 @@ pub use Rattle.unixmodel.specs.declared.instr.LoadOp.{LoadOp}
 pub use Rattle.unixmodel.specs.declared.instr.StoreOp.{StoreOp}
 pub use Rattle.unixmodel.specs.declared.trap.Access.{Access}
 pub use Rattle.unixmodel.specs.declared.trap.Access.TheVariants.{Fetch, Load, Store}
+pub use Rattle.unixmodel.specs.declared.trap.Cause.{Cause}
 pub use Rattle.unixmodel.specs.declared.trap.Cause.TheVariants.{IllegalInstruction, InstructionPageFault, LoadMisaligned, LoadPageFault, StoreMisaligned, StorePageFault}
 pub use Rattle.unixmodel.specs.declared.trap.Trap.{Trap}
 pub use Rattle.hart.specs.Acts.{Acts, Leaves, pc_after, trap_of, Turns}

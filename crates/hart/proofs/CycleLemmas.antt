@@ -1,10 +1,9 @@
 -- What an instruction leaves of the memory, whichever it is.
-use Rattle.hart.proofs.Common.{Bool, true, false, cond, arith, refl, ap, ◌≡◌, ℕ, zero, suc, ◌*◌, ◌/◌, ◌%◌, inl, inr, subst, List, length, Option, Some, None, Ok, Err, ◌==◌}
-use Rattle.hart.proofs.Common.{slice_index, Instr, LoadOp, StoreOp, Fetch, Load, Store, IllegalInstruction, InstructionPageFault, act_word, cycle, fetched, Computed, Effect, act}
-use Rattle.hart.proofs.Common.{is_taken, load_from, load_size, store_size, store_to, trap, Memory, Page, bytes_at, page_for, extend, le, number, plus, instruction_of, Stores, IsSize}
+use Rattle.hart.proofs.Common.{act, act_word, ap, arith, Bool, bytes_at, Cause, Computed, cond, cycle, Effect, Err, extend, false, Fetch, fetched, IllegalInstruction, inl, inr, Instr, instruction_of, InstructionPageFault, is_taken, IsSize}
+use Rattle.hart.proofs.Common.{le, length, List, Load, load_from, load_size, LoadOp, Memory, None, number, Ok, Option, Page, page_for, plus, refl, slice_index, Some, Store, store_size, store_to, StoreOp, Stores, subst, suc, trap, true}
+use Rattle.hart.proofs.Common.{zero, ℕ, ◌%◌, ◌*◌, ◌/◌, ◌==◌, ◌≡◌}
 use Rattle.std.proofs.lemmas.Bool.Decides.{nat_tests}
 use Rattle.unixmodel.specs.declared.instr.StoreOp.TheVariants.{Sb, Sd, Sh, Sw}
-use Rattle.unixmodel.specs.declared.trap.Cause.{Cause}
 use Rattle.unixmodel.specs.declared.instr.Instr.TheVariants as instr
 
 -- ---- what holds of traps and of each instruction's effect holds of a cycle's

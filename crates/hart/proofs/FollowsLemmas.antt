@@ -1,5 +1,5 @@
 -- What a caller of a step goes on with.
-use Rattle.hart.proofs.Common.{◌≡◌, ◌⊎◌, inl, inr, ℕ, List, Option, Some, None, Ok, Err, refl, Trap, cycle, Computed, Effect, IsMemory, Mapped, memory_of, IsSound, WritesOnly, changed, Follows, Hart}
+use Rattle.hart.proofs.Common.{changed, Computed, cycle, Effect, Err, Follows, Hart, inl, inr, IsMemory, IsSound, List, Mapped, memory_of, None, Ok, Option, refl, Some, Trap, WritesOnly, ℕ, ◌≡◌, ◌⊎◌}
 use Rattle.hart.proofs.ChangeLemmas.{cycle-only}
 
 -- an instruction was done

@@ -1,5 +1,5 @@
 -- That products fit into 128 bits.
-use Rattle.hart.proofs.Common.{arith, ◌-◌, ◌<◌, ◌^◌, ◌≤◌, ℕ, FitsSigned, pos, unsigned_abs, ◌*ℤ◌, cast_signed, w128, w64}
+use Rattle.hart.proofs.Common.{arith, cast_signed, FitsSigned, pos, unsigned_abs, w128, w64, ℕ, ◌*ℤ◌, ◌-◌, ◌<◌, ◌^◌, ◌≤◌}
 use Rattle.std.proofs.lemmas.Int.{fits_signed_mul, ints}
 
 signed_abs : (a : ℕ) → a < 2 ^ 64 → unsigned_abs (cast_signed w64 a) ≤ 2 ^ 63

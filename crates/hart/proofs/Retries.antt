@@ -1,6 +1,6 @@
 -- What is done at a memory that lets fewer stores through.
-use Rattle.hart.proofs.Common.{◌≡◌, ℕ, ◌%◌, ◌⊎◌, inl, inr, Bool, true, false, cond, List, Option, Some, None, Ok, Err, subst, refl, ap, sym, ◌∙◌, ◌==◌, option_map, slice_index, Instr, LoadOp, Fetch, Load, Store, StoreMisaligned}
-use Rattle.hart.proofs.Common.{StorePageFault, act_word, cycle, fetched, Effect, act, load_from, load_size, store_size, store_to, trap, Memory, Page, bytes_at, page_for, extend, le, number, plus, instruction_of}
+use Rattle.hart.proofs.Common.{act, act_word, ap, Bool, bytes_at, cond, cycle, Effect, Err, extend, false, Fetch, fetched, inl, inr, Instr, instruction_of, le, List, Load, load_from, load_size, LoadOp, Memory, None, number, Ok, Option}
+use Rattle.hart.proofs.Common.{option_map, Page, page_for, plus, refl, slice_index, Some, Store, store_size, store_to, StoreMisaligned, StorePageFault, sym, trap, true, ℕ, ◌%◌, ◌==◌, ◌∙◌, ◌≡◌, ◌⊎◌}
 use Rattle.unixmodel.specs.declared.instr.Instr.TheVariants as instr
 
 -- two pages with the same bytes, or none
@@ -42,45 +42,68 @@ cond-same : (b : Bool) (d e f : Effect) → d ≡ e → cond b d f ≡ cond b e 
 cond-same true d e f h = h
 cond-same false d e f h = refl
 
-store-at : (b : Bool) (regs : List ℕ) (pc address : ℕ) (bytes : List ℕ) (f : Effect) (low high : Memory) → Narrows low high
-    → Retries (λ mem. cond b (store_to regs pc address bytes (page_for Store mem address)) f) low high
-store-at false regs pc address bytes f low high h = inl refl
-store-at true regs pc address bytes f low high h = elim (h.store address) [
-  | inl none ↦ inr (address, ap (store_to regs pc address bytes) none, none, λ mid nm same. store-same regs pc address bytes (page_for Store mid address) (page_for Store high address) same)
-  | inr same ↦ inl (store-same regs pc address bytes (page_for Store low address) (page_for Store high address) same)
-]
-
-act-retries : (i : Instr) (regs : List ℕ) (pc : ℕ) (low high : Memory) → Narrows low high → Retries (act i regs pc) low high
-unfolding act
-act-retries (instr.Load op rd rs1 imm) regs pc low high h =
-    let address = plus (slice_index regs rs1) (extend 12 imm) in
-    inl (cond-same (address % load_size op == 0) _ _ _ (load-same regs pc op rd address (page_for Load low address) (page_for Load high address) (h.load address)))
-act-retries (instr.Store op rs1 rs2 imm) regs pc low high h =
-    let address = plus (slice_index regs rs1) (extend 12 imm) in
-    store-at (address % store_size op == 0) regs pc address (le (store_size op) (slice_index regs rs2)) (trap StoreMisaligned address) low high h
-act-retries _ regs pc low high h = inl refl
-
 cycle-at : (regs : List ℕ) (pc : ℕ) (mem : Memory) (o : Option Page) → Alike (page_for Fetch mem pc) o → cycle regs pc mem ≡ fetched o regs pc mem
 unfolding cycle
 cycle-at regs pc mem o same = fetched-same (page_for Fetch mem pc) o regs pc mem same
 
-word-retries : (found : Option Instr) (regs : List ℕ) (pc : ℕ) (low high : Memory) → Narrows low high → Retries (act_word found regs pc) low high
-word-retries None regs pc low high h = inl refl
-word-retries (Some i) regs pc low high h = act-retries i regs pc low high h
+-- ---- the one store that may differ
 
-fetched-retries : (o : Option Page) (regs : List ℕ) (pc : ℕ) (low high : Memory) → Narrows low high → Retries (fetched o regs pc) low high
-fetched-retries None regs pc low high h = inl refl
-fetched-retries (Some p) regs pc low high h = word-retries (instruction_of (number (bytes_at 4 pc p))) regs pc low high h
+-- what is done is a store of these bytes, whatever page is found
+record StoresAt (e : Memory → Effect) (high : Memory) : Type 0 where
+  pub regs : List ℕ
+  pub pc : ℕ
+  pub address : ℕ
+  pub bytes : List ℕ
+  pub is : (mid : Memory) → Narrows mid high → e mid ≡ store_to regs pc address bytes (page_for Store mid address)
+
+-- or it is the same at all memories below
+abbrev Sees : (Memory → Effect) → Memory → Type 0
+Sees e high = ((mid : Memory) → Narrows mid high → e mid ≡ e high) ⊎ StoresAt e high
+
+store-sees : (b : Bool) (regs : List ℕ) (pc address : ℕ) (bytes : List ℕ) (f : Effect) (high : Memory) → Sees (λ mem. cond b (store_to regs pc address bytes (page_for Store mem address)) f) high
+store-sees false regs pc address bytes f high = inl (λ mid h. refl)
+store-sees true regs pc address bytes f high = inr (record { regs = regs; pc = pc; address = address; bytes = bytes; is = λ mid h. refl })
+
+act-sees : (i : Instr) (regs : List ℕ) (pc : ℕ) (high : Memory) → Sees (act i regs pc) high
+unfolding act
+act-sees (instr.Load op rd rs1 imm) regs pc high =
+    let address = plus (slice_index regs rs1) (extend 12 imm) in
+    inl (λ mid h. cond-same (address % load_size op == 0) _ _ _ (load-same regs pc op rd address (page_for Load mid address) (page_for Load high address) (h.load address)))
+act-sees (instr.Store op rs1 rs2 imm) regs pc high =
+    let address = plus (slice_index regs rs1) (extend 12 imm) in
+    store-sees (address % store_size op == 0) regs pc address (le (store_size op) (slice_index regs rs2)) (trap StoreMisaligned address) high
+act-sees _ regs pc high = inl (λ mid h. refl)
+
+word-sees : (found : Option Instr) (regs : List ℕ) (pc : ℕ) (high : Memory) → Sees (act_word found regs pc) high
+word-sees None regs pc high = inl (λ mid h. refl)
+word-sees (Some i) regs pc high = act-sees i regs pc high
+
+fetched-sees : (o : Option Page) (regs : List ℕ) (pc : ℕ) (high : Memory) → Sees (fetched o regs pc) high
+fetched-sees None regs pc high = inl (λ mid h. refl)
+fetched-sees (Some p) regs pc high = word-sees (instruction_of (number (bytes_at 4 pc p))) regs pc high
+
+cycle-sees : (regs : List ℕ) (pc : ℕ) (high : Memory) → Sees (cycle regs pc) high
+cycle-sees regs pc high =
+    let o = page_for Fetch high pc in
+    elim (fetched-sees o regs pc high) [
+      | inl same ↦ inl (λ mid h. cycle-at regs pc mid o (h.fetch pc) ∙ same mid h ∙ sym (cycle-at regs pc high o refl))
+      | inr s ↦ inr (record { regs = s.regs; pc = s.pc; address = s.address; bytes = s.bytes; is = λ mid h. cycle-at regs pc mid o (h.fetch pc) ∙ s.is mid h })
+    ]
+
+-- it does the same where the page is alike
+store-alike : (e : Memory → Effect) (mid high : Memory) (s : StoresAt e high) → Narrows mid high → Alike (page_for Store mid s.address) (page_for Store high s.address) → e mid ≡ e high
+store-alike e mid high s h same =
+    s.is mid h ∙ store-same s.regs s.pc s.address s.bytes (page_for Store mid s.address) (page_for Store high s.address) same
+    ∙ sym (s.is high (record { fetch = λ address. refl; load = λ address. refl; store = λ address. inr refl }))
 
 pub cycle-retries : (regs : List ℕ) (pc : ℕ) (low high : Memory) → Narrows low high → Retries (cycle regs pc) low high
-cycle-retries regs pc low high h =
-    let o = page_for Fetch high pc in
-    let here = cycle-at regs pc low o (h.fetch pc) in
-    let there = cycle-at regs pc high o refl in
-    elim (fetched-retries o regs pc low high h) [
-      | inl same ↦ inl (here ∙ same ∙ sym there)
-      | inr (address, fault, none, again) ↦ inr (address, here ∙ fault, none, λ mid nm lets. cycle-at regs pc mid o (nm.fetch pc) ∙ again mid nm lets ∙ sym there)
-    ]
+cycle-retries regs pc low high h = elim (cycle-sees regs pc high) [
+  | inl same ↦ inl (same low h)
+  | inr s ↦ elim (h.store s.address) [
+    | inl none ↦ inr (s.address, s.is low h ∙ ap (store_to s.regs s.pc s.address s.bytes) none, none, λ mid nm same. store-alike (cycle regs pc) mid high s nm same)
+    | inr same ↦ inl (store-alike (cycle regs pc) low high s h same)
+  ]
+]
 
 -- ---- once more, where the store is let through then
 
@@ -93,37 +116,11 @@ store-fault : (o : Option Page) (regs : List ℕ) (pc address a : ℕ) (bytes : 
 store-fault None regs pc address a bytes e = ap fault_at e
 store-fault (Some p) regs pc address a bytes e = absurd cc
 
--- what an instruction does at a memory that treats the store which faulted as the second does
-store-again : (b : Bool) (regs : List ℕ) (pc address a : ℕ) (bytes : List ℕ) (f : Effect) (low mid high : Memory) → Narrows low high → Narrows mid high → Alike (page_for Store mid a) (page_for Store high a)
-    → cond b (store_to regs pc address bytes (page_for Store low address)) f ≡ trap StorePageFault a
-    → cond b (store_to regs pc address bytes (page_for Store mid address)) f ≡ cond b (store_to regs pc address bytes (page_for Store high address)) f
-store-again false regs pc address a bytes f low mid high down between lets fault = refl
-store-again true regs pc address a bytes f low mid high down between lets fault =
-    let same : address ≡ a = store-fault (page_for Store low address) regs pc address a bytes fault in
-    store-same regs pc address bytes (page_for Store mid address) (page_for Store high address) (subst (λ (x : ℕ). Alike (page_for Store mid x) (page_for Store high x)) (sym same) lets)
-
-act-again : (i : Instr) (regs : List ℕ) (pc a : ℕ) (low mid high : Memory) → Narrows low high → Narrows mid high → Alike (page_for Store mid a) (page_for Store high a) → act i regs pc low ≡ trap StorePageFault a → act i regs pc mid ≡ act i regs pc high
-unfolding act
-act-again (instr.Load op rd rs1 imm) regs pc a low mid high down between lets fault =
-    let address = plus (slice_index regs rs1) (extend 12 imm) in
-    cond-same (address % load_size op == 0) _ _ _ (load-same regs pc op rd address (page_for Load mid address) (page_for Load high address) (between.load address))
-act-again (instr.Store op rs1 rs2 imm) regs pc a low mid high down between lets fault =
-    let address = plus (slice_index regs rs1) (extend 12 imm) in
-    store-again (address % store_size op == 0) regs pc address a (le (store_size op) (slice_index regs rs2)) (trap StoreMisaligned address) low mid high down between lets fault
-act-again _ regs pc a low mid high down between lets fault = refl
-
-word-again : (found : Option Instr) (regs : List ℕ) (pc a : ℕ) (low mid high : Memory) → Narrows low high → Narrows mid high → Alike (page_for Store mid a) (page_for Store high a) → act_word found regs pc low ≡ trap StorePageFault a
-    → act_word found regs pc mid ≡ act_word found regs pc high
-word-again None regs pc a low mid high down between lets fault = refl
-word-again (Some i) regs pc a low mid high down between lets fault = act-again i regs pc a low mid high down between lets fault
-
-fetched-again : (o : Option Page) (regs : List ℕ) (pc a : ℕ) (low mid high : Memory) → Narrows low high → Narrows mid high → Alike (page_for Store mid a) (page_for Store high a) → fetched o regs pc low ≡ trap StorePageFault a
-    → fetched o regs pc mid ≡ fetched o regs pc high
-fetched-again None regs pc a low mid high down between lets fault = refl
-fetched-again (Some p) regs pc a low mid high down between lets fault = word-again (instruction_of (number (bytes_at 4 pc p))) regs pc a low mid high down between lets fault
-
 -- An instruction that faulted at a store does, at a memory that treats this store as the second does, what it does there.
 pub cycle-again : (regs : List ℕ) (pc a : ℕ) (low mid high : Memory) → Narrows low high → Narrows mid high → Alike (page_for Store mid a) (page_for Store high a) → cycle regs pc low ≡ trap StorePageFault a → cycle regs pc mid ≡ cycle regs pc high
-cycle-again regs pc a low mid high down between lets fault =
-    let o = page_for Fetch high pc in
-    cycle-at regs pc mid o (between.fetch pc) ∙ fetched-again o regs pc a low mid high down between lets (sym (cycle-at regs pc low o (down.fetch pc)) ∙ fault) ∙ sym (cycle-at regs pc high o refl)
+cycle-again regs pc a low mid high down between lets fault = elim (cycle-sees regs pc high) [
+  | inl same ↦ same mid between
+  | inr s ↦
+      let same : s.address ≡ a = store-fault (page_for Store low s.address) s.regs s.pc s.address a s.bytes (sym (s.is low down) ∙ fault) in
+      store-alike (cycle regs pc) mid high s between (rw same lets)
+]

@@ -1,13 +1,12 @@
 -- Steps whose accesses a translator answers.
-use Rattle.hart.proofs.Common.{◌≡◌, ℕ, ◌-◌, ◌/◌, ◌%◌, List, [], Option, Some, None, Ok, Err, refl, arith, ap, sym, subst, ◌∙◌, inl, inr, Bool, true, false, ◌&&◌, ◌==◌, if◌then◌else◌, IfSome, slice_get}
-use Rattle.hart.proofs.Common.{slice_index, slice_index_or, slice_set, option_map, and_parts, eqb-true, eq-eqb, Instr, LoadOp, StoreOp, Access, Fetch, Load, Store, IllegalInstruction, InstructionPageFault}
-use Rattle.hart.proofs.Common.{LoadMisaligned, StoreMisaligned, StorePageFault, Trap, act_word, cycle, fetched, Change, Computed, Effect, act, load_from, load_size, store_size, trap, Bytes, Nothing, Memory, Page}
-use Rattle.hart.proofs.Common.{bytes_at, overwrite, page_for, extend, le, number, plus, Held, IsAnswer, IsKept, place_in, walk_page, instruction_of, Mapped, Shows, allowed, frame_for, memory_of, page_in, Answers}
-use Rattle.hart.proofs.Common.{AreAllowed, HasEffect, IsStep, Sight, act_by, cycle_by, fetched_by, given, put_at, seen, stored, word_by, load_on, store_on, Stores, changed, put_in, Computes, Follows, Hart}
-use Rattle.hart.proofs.Retries.{Alike, load-same, store-same}
+use Rattle.hart.proofs.Common.{[], Access, act, act_by, act_word, allowed, and_parts, Answers, ap, AreAllowed, arith, Bool, Bytes, bytes_at, Cause, Change, changed, Computed, Computes, cycle, cycle_by, Effect, eq-eqb, eqb-true, Err, extend}
+use Rattle.hart.proofs.Common.{false, Fetch, fetched, fetched_by, Follows, frame_for, given, Hart, HasEffect, Held, IfSome, if◌then◌else◌, IllegalInstruction, inl, inr, Instr, instruction_of, InstructionPageFault, IsAnswer, IsKept, IsStep}
+use Rattle.hart.proofs.Common.{le, List, Load, load_size, LoadMisaligned, Mapped, Memory, memory_of, None, Nothing, number, Ok, Option, option_map, Page, page_for, page_in, place_in, plus, put_at, put_in, refl, seen, Shows, Sight}
+use Rattle.hart.proofs.Common.{slice_get, slice_index, Some, Store, store_size, stored, StoreMisaligned, Stores, subst, sym, Trap, trap, true, walk_page, word_by, ℕ, ◌%◌, ◌&&◌, ◌-◌, ◌/◌, ◌==◌, ◌∙◌, ◌≡◌}
 use Rattle.hart.proofs.ChangeLemmas.{stored-entry}
 use Rattle.hart.proofs.CycleLemmas.{cycle-stores}
 use Rattle.hart.proofs.Mappings.{page_for-memory_of}
+use Rattle.hart.proofs.Retries.{Alike, load-same, store-same}
 use Rattle.unixmodel.specs.declared.instr.Instr.TheVariants as instr
 
 -- ---- an answer
@@ -18,15 +17,13 @@ frame_in va frame pa is = omega (arith, is)
 walked-frame : (va pa : ℕ) (o : Option ℕ) → Some pa ≡ option_map (place_in va) o → Some (place_in va (pa / 4096 - 0x80000)) ≡ option_map (place_in va) o
 walked-frame va pa None h = absurd (cc)
 walked-frame va pa (Some f) h =
-    let is : pa ≡ place_in va f = cc in
-    ap (λ n. Some (place_in va n)) (frame_in va f pa is)
+    ap (λ n. Some (place_in va n)) (frame_in va f pa cc)
 
 -- an address that was answered is a place in a frame
 pub answered-frame : (held : Held) (ram : List (List ℕ)) (root va pa : ℕ) (access : Access) → IsAnswer held ram root va access (Some pa) → IsAnswer held ram root va access (Some (place_in va (pa / 4096 - 0x80000)))
 answered-frame held ram root va pa access (inl now) = inl (walked-frame va pa (walk_page ram root (va / 4096) access).frame now)
 answered-frame held ram root va pa access (inr kept) =
-    let is : pa ≡ place_in va kept.0 = cc (kept.2) in
-    inr (kept.0, kept.1, ap (λ n. Some (place_in va n)) (frame_in va kept.0 pa is))
+    inr (kept.0, kept.1, ap (λ n. Some (place_in va n)) (frame_in va kept.0 pa (cc (kept.2))))
 
 -- what may be answered later may be answered before
 pub answered-kept : (old new : Held) (ram : List (List ℕ)) (root va : ℕ) (access : Access) (answer : Option ℕ) → IsKept old new ram root → IsAnswer new ram root va access answer → IsAnswer old ram root va access answer
@@ -84,6 +81,12 @@ with_answer-allowed held ram root access address o answers allowed is a b =
     subst P (same-is access a both.0) (subst Q (eqb-true address b both.1) is))
     (allowed a b)
 
+-- some allowed answers have this one
+pub one-answer : (held : Held) (ram : List (List ℕ)) (root : ℕ) (access : Access) (address : ℕ) (o : Option ℕ) → IsAnswer held ram root address access (option_map (place_in address) o)
+    → (answers : Answers) × AreAllowed held ram root answers × (answers access address ≡ o)
+one-answer held ram root access address o is =
+    (with_answer access address o (walked ram root), with_answer-allowed held ram root access address o (walked ram root) (λ a b. inl refl) is, with_answer-itself access address o (walked ram root))
+
 -- ---- steps without an access
 
 pub does_computes : (effect : Effect) (answers : Answers) (result : Option Trap) (old new : Hart) (ram : List (List ℕ)) → Computes effect result old new → HasEffect effect answers result old new ram ram
@@ -121,12 +124,8 @@ pub step_answered : (held : Held) (meaning : Sight → Effect) (result : Option 
     → ((answers : Answers) → answers access address ≡ o → HasEffect (meaning (seen ram answers)) answers result old new ram ram')
     → IsStep held meaning result old new ram ram'
 step_answered held meaning result old new ram ram' access address o is does =
-    let answers : Answers = with_answer access address o (walked ram old.root.0) in
-    record {
-      answers = answers;
-      allowed = with_answer-allowed held ram old.root.0 access address o (walked ram old.root.0) (λ a b. inl refl) is;
-      does = does answers (with_answer-itself access address o (walked ram old.root.0));
-    }
+    let one = one-answer held ram old.root.0 access address o is in
+    record { answers = one.0; allowed = one.1; does = does one.0 one.2 }
 
 -- ---- traps
 
@@ -137,38 +136,17 @@ trap-still (Err t) answers result old new ram ram' h = rw h.0 (h.1, h.2)
 
 -- ---- loads and stores
 
-pub load-misaligned : (held : Held) (ram : List (List ℕ)) (old new : Hart) (result : Option Trap) (op : LoadOp) (rd address : ℕ) → (address % load_size op == 0) ≡ false
-    → Computes (trap LoadMisaligned address) result old new → IsStep held (load_on old op rd address) result old new ram ram
-load-misaligned held ram old new result op rd address odd h =
-    step_unanswered held (load_on old op rd address) result old new ram (λ answers. rw odd (does_computes (trap LoadMisaligned address) answers result old new ram h))
+-- at an address that isn't aligned
+pub step-odd : (held : Held) (ram : List (List ℕ)) (old new : Hart) (result : Option Trap) (even : Bool) (found : Option Page → Effect) (access : Access) (cause : Cause) (address : ℕ) → even ≡ false
+    → Computes (trap cause address) result old new → IsStep held (λ see. if even then found (see access address) else trap cause address) result old new ram ram
+step-odd held ram old new result even found access cause address odd h = step_unanswered held _ result old new ram (λ answers. rw odd (does_computes (trap cause address) answers result old new ram h))
 
-pub load-answered : (held : Held) (ram : List (List ℕ)) (old new : Hart) (result : Option Trap) (op : LoadOp) (rd address : ℕ) (o : Option ℕ) → (address % load_size op == 0) ≡ true
-    → IsAnswer held ram old.root.0 address Load (option_map (place_in address) o)
-    → Computes (load_from old.registers old.pc op rd address (option_map (given ram) o)) result old new → IsStep held (load_on old op rd address) result old new ram ram
-load-answered held ram old new result op rd address o aligned is h =
-    step_answered held (load_on old op rd address) result old new ram ram Load address o is (λ answers same.
-    rw (aligned, same) (does_computes (load_from old.registers old.pc op rd address (option_map (given ram) o)) answers result old new ram h))
-
-pub store-misaligned : (held : Held) (ram : List (List ℕ)) (old new : Hart) (result : Option Trap) (op : StoreOp) (address value : ℕ) → (address % store_size op == 0) ≡ false
-    → Computes (trap StoreMisaligned address) result old new → IsStep held (store_on old op address value) result old new ram ram
-store-misaligned held ram old new result op address value odd h =
-    step_unanswered held (store_on old op address value) result old new ram (λ answers. rw odd (does_computes (trap StoreMisaligned address) answers result old new ram h))
-
-pub store-fault : (held : Held) (ram : List (List ℕ)) (old new : Hart) (result : Option Trap) (op : StoreOp) (address value : ℕ) → (address % store_size op == 0) ≡ true
-    → IsAnswer held ram old.root.0 address Store None
-    → Computes (trap StorePageFault address) result old new → IsStep held (store_on old op address value) result old new ram ram
-store-fault held ram old new result op address value aligned is h =
-    step_answered held (store_on old op address value) result old new ram ram Store address None is (λ answers same.
-    rw (aligned, same) (does_computes (trap StorePageFault address) answers result old new ram h))
-
-pub store-done : (held : Held) (ram ram' : List (List ℕ)) (old new : Hart) (result : Option Trap) (op : StoreOp) (address value f : ℕ) → (address % store_size op == 0) ≡ true
-    → IsAnswer held ram old.root.0 address Store (Some (place_in address f))
-    → result ≡ None → new.registers ≡ old.registers → new.pc ≡ plus old.pc 4 → new.root ≡ old.root
-    → ram' ≡ slice_set ram f (overwrite (slice_index_or ram f []) (address % 4096) (le (store_size op) value))
-    → IsStep held (store_on old op address value) result old new ram ram'
-store-done held ram ram' old new result op address value f aligned is none registers pc root memory =
-    step_answered held (store_on old op address value) result old new ram ram' Store address (Some f) is (λ answers same.
-    rw (aligned, same) (none, registers, pc, root, rw same memory))
+-- and at one that is
+pub step-even : (held : Held) (ram ram' : List (List ℕ)) (old new : Hart) (result : Option Trap) (even : Bool) (found : Option Page → Effect) (access : Access) (cause : Cause) (address : ℕ) (o : Option ℕ) → even ≡ true
+    → IsAnswer held ram old.root.0 address access (option_map (place_in address) o) → ((answers : Answers) → answers access address ≡ o → HasEffect (found (option_map (given ram) o)) answers result old new ram ram')
+    → IsStep held (λ see. if even then found (see access address) else trap cause address) result old new ram ram'
+step-even held ram ram' old new result even found access cause address o aligned is h =
+    step_answered held _ result old new ram ram' access address o is (λ answers same. rw (aligned, same) (h answers same))
 
 -- ---- the instruction at the pc
 
@@ -215,29 +193,21 @@ step-executed held mid ram ram' old new result f word i is kept read found step 
     let answers : Answers = with_answer Fetch old.pc (Some f) step.answers in
     let before : AreAllowed held ram old.root.0 step.answers = λ access address. answered-kept held mid ram old.root.0 address access _ kept (step.allowed access address) in
     let itself : with_answer Fetch old.pc (Some f) step.answers Fetch old.pc ≡ Some f = with_answer-itself Fetch old.pc (Some f) step.answers in
-    let is_act : cycle_by old.registers old.pc (seen ram answers) ≡ act_by i old.registers old.pc (seen ram step.answers) =
-    ap (λ o. fetched_by (option_map (given ram) o) old.registers old.pc (seen ram answers)) itself
-    ∙ ap (λ n. word_by (instruction_of n) old.registers old.pc (seen ram answers)) (sym read)
-    ∙ ap (λ o. word_by o old.registers old.pc (seen ram answers)) found
-    ∙ act_by-fetch i old.registers old.pc old.pc ram (Some f) step.answers in
+    let is_act : cycle_by old.registers old.pc (seen ram answers) ≡ act_by i old.registers old.pc (seen ram step.answers) = rw (itself, ← read, found) (act_by-fetch i old.registers old.pc old.pc ram (Some f) step.answers) in
     record {
       answers = answers;
       allowed = with_answer-allowed held ram old.root.0 Fetch old.pc (Some f) step.answers before is;
-      does =
-          let P : Effect → Type 0 = λ e. HasEffect e answers result old new ram ram' in
-          subst P (sym is_act) (does-fetch (act_by i old.registers old.pc (seen ram step.answers)) old.pc (Some f) step.answers result old new ram ram' step.does);
+      does = rw is_act (does-fetch (act_by i old.registers old.pc (seen ram step.answers)) old.pc (Some f) step.answers result old new ram ram' step.does);
     }
 
 -- ---- where all allowed answers are a mapping's
 
 pub place-frame : (va : ℕ) (o p : Option ℕ) → option_map (place_in va) o ≡ option_map (place_in va) p → o ≡ p
 place-frame va None None h = refl
-place-frame va None (Some g) h = absurd (cc)
-place-frame va (Some f) None h = absurd (cc)
 place-frame va (Some f) (Some g) h =
     let is : place_in va f ≡ place_in va g = cc in
-    let same : f ≡ g = omega (arith, is) in
-    ap Some same
+    ap Some (omega (arith, is))
+place-frame _ _ _ h = absurd cc
 
 pub shown-answer : (held : Held) (ram : List (List ℕ)) (root : ℕ) (mapping : List Mapped) (answers : Answers) → Shows held ram root mapping → AreAllowed held ram root answers
     → (access : Access) (address : ℕ) → answers access address ≡ frame_for mapping (address / 4096) access
@@ -314,10 +284,8 @@ pub step-follows : (held : Held) (mapping : List Mapped) (result : Option Trap) 
     → IsStep held (cycle_by old.registers old.pc) result old new ram ram' → Follows (cycle old.registers old.pc (memory_of ram mapping)) mapping result old new ram ram'
 step-follows held mapping result old new ram ram' shows step =
     let mem : Memory = memory_of ram mapping in
-    let is : cycle_by old.registers old.pc (seen ram step.answers) ≡ cycle old.registers old.pc mem =
-    cycle_by-alike old.registers old.pc (seen ram step.answers) mem (seen-alike held ram old.root.0 mapping step.answers shows step.allowed) in
-    let P : Effect → Type 0 = λ e. HasEffect e step.answers result old new ram ram' in
+    let is : cycle_by old.registers old.pc (seen ram step.answers) ≡ cycle old.registers old.pc mem = cycle_by-alike old.registers old.pc (seen ram step.answers) mem (seen-alike held ram old.root.0 mapping step.answers shows step.allowed) in
     does-follows (cycle old.registers old.pc mem) mapping step.answers result old new ram ram'
     (shown-answer held ram old.root.0 mapping step.answers shows step.allowed)
     (cycle-stores old.registers old.pc mem)
-    (subst P is step.does)
+    (rw is at step.does)

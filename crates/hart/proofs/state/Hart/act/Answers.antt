@@ -1,4 +1,4 @@
-use Rattle.hart.specs.Operations.{op_by}
+use Rattle.hart.proofs.Common.{op_by}
 use Rattle.hart.proofs.state.Hart.act.Goals as goal
 
 pub returns-in-Lb : goal.returns-in-Lb

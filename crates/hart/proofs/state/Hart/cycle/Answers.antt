@@ -1,4 +1,4 @@
-use Rattle.std.proofs.Common.{sym, refl}
+use Rattle.hart.proofs.Common.{refl, sym}
 use Rattle.hart.proofs.Mappings.{inside-kept}
 use Rattle.hart.proofs.Steps.{step-executed, step-illegal, step-unfetched}
 use Rattle.hart.proofs.state.Hart.cycle.Goals as goal

@@ -1,4 +1,4 @@
-use Rattle.hart.proofs.Common.{◌≡◌, ◌∙◌, arith, pc_at, word_in}
+use Rattle.hart.proofs.Common.{arith, pc_at, word_in, ◌∙◌, ◌≡◌}
 use Rattle.hart.proofs.Straight.{acts-worded, word-at}
 use Rattle.hart.proofs.state.Hart.obey.Goals as goal
 

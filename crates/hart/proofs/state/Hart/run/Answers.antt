@@ -1,4 +1,4 @@
-use Rattle.hart.proofs.Common.{◌≡◌, ◌-◌, Some, None, arith, refl, subst, GoesOn, point_of}
+use Rattle.hart.proofs.Common.{arith, GoesOn, None, point_of, refl, Some, subst, ◌-◌, ◌≡◌}
 use Rattle.hart.proofs.Mappings.{inside-kept}
 use Rattle.hart.proofs.Straight.{goes-none, run-faults, run-then, whole-then}
 use Rattle.hart.proofs.state.Hart.run.Goals as goal
@@ -16,17 +16,13 @@ loop-left-init g c = (
 pub loop-left-preserved : goal.loop-left-preserved
 loop-left-preserved g c = (
   omega (arith, c.run_page-rest.ensures.within, c.loop-left.invariant.0),
-  whole-then (g.T.Translate.held c.loop-left.trans) (g.T.Translate.held c.run_page-rest.new.trans) c.args.self.now c.loop-left.self c.run_page-rest.new.self c.args.ram.now c.loop-left.ram c.run_page-rest.new.ram c.loop-left.invariant.1 c.run_page-rest.ensures.whole,
-  λ mapping.
-      run-then (g.T.Translate.held c.args.trans.now) (g.T.Translate.held c.loop-left.trans) (g.T.Translate.held c.locate.new.trans) (g.T.Translate.held c.run_page-rest.new.trans) c.args.self.now c.loop-left.self c.run_page-rest.new.self c.args.ram.now c.loop-left.ram c.run_page-rest.new.ram
-      c.args.count c.loop-left.left c.run_page-rest.result.0 c.in-Some.f.0 None mapping c.loop-left.invariant.0 c.run_page-rest.ensures.within c.loop-left.invariant.1.root
-      (c.loop-left.invariant.2 mapping) c.in-Some.ensures.answer c.locate.ensures.kept (λ others at. rw c.in_default-stopped.is at (c.run_page-rest.ensures.goes others at)),
+  whole-then c.loop-left.invariant.1 c.run_page-rest.ensures.whole,
+  λ mapping. run-then (g.T.Translate.held c.args.trans.now) (g.T.Translate.held c.locate.new.trans) (c.args.count - c.loop-left.left) mapping c.loop-left.invariant.1 (c.loop-left.invariant.2 mapping) c.locate.ensures.kept {o = Some c.in-Some.f.0} c.in-Some.ensures.answer (g.T.Translate.held c.run_page-rest.new.trans) c.run_page-rest.new.self c.run_page-rest.new.ram
+      c.args.count c.loop-left.left c.run_page-rest.result.0 c.in-Some.f.0 None refl c.loop-left.invariant.0 c.run_page-rest.ensures.within refl (λ others at. rw c.in_default-stopped.is at (c.run_page-rest.ensures.goes others at)),
 )
 
 pub returns-in_default-clause-goes : goal.returns-in_default-clause-goes
-returns-in_default-clause-goes g c = λ mapping.
-    run-faults (g.T.Translate.held c.args.trans.now) (g.T.Translate.held c.loop-left.trans) (g.T.Translate.held c.locate.new.trans) c.args.self.now c.loop-left.self c.args.ram.now c.loop-left.ram (c.args.count - c.loop-left.left) mapping c.loop-left.invariant.1.root
-    (c.loop-left.invariant.2 mapping) c.in_default.ensures.answer c.locate.ensures.kept
+returns-in_default-clause-goes g c = λ mapping. run-faults (g.T.Translate.held c.args.trans.now) (g.T.Translate.held c.locate.new.trans) (c.args.count - c.loop-left.left) mapping c.loop-left.invariant.1 (c.loop-left.invariant.2 mapping) c.locate.ensures.kept {o = None} c.in_default.ensures.answer refl
 
 pub returns-in_default-clause-whole : goal.returns-in_default-clause-whole
 returns-in_default-clause-whole g c = record {
@@ -37,9 +33,8 @@ returns-in_default-clause-whole g c = record {
 
 pub returns-in-Some-stopped-clause-goes : goal.returns-in-Some-stopped-clause-goes
 returns-in-Some-stopped-clause-goes g c = λ mapping.
-    run-then (g.T.Translate.held c.args.trans.now) (g.T.Translate.held c.loop-left.trans) (g.T.Translate.held c.locate.new.trans) (g.T.Translate.held c.run_page-rest.new.trans) c.args.self.now c.loop-left.self c.run_page-rest.new.self c.args.ram.now c.loop-left.ram c.run_page-rest.new.ram
-    c.args.count c.loop-left.left c.run_page-rest.result.0 c.in-Some.f.0 (Some c.in-Some-stopped.trap) mapping c.loop-left.invariant.0 c.run_page-rest.ensures.within c.loop-left.invariant.1.root
-    (c.loop-left.invariant.2 mapping) c.in-Some.ensures.answer c.locate.ensures.kept (λ others at. rw c.in-Some-stopped.is at (c.run_page-rest.ensures.goes others at))
+    run-then (g.T.Translate.held c.args.trans.now) (g.T.Translate.held c.locate.new.trans) (c.args.count - c.loop-left.left) mapping c.loop-left.invariant.1 (c.loop-left.invariant.2 mapping) c.locate.ensures.kept {o = Some c.in-Some.f.0} c.in-Some.ensures.answer (g.T.Translate.held c.run_page-rest.new.trans) c.run_page-rest.new.self c.run_page-rest.new.ram
+    c.args.count c.loop-left.left c.run_page-rest.result.0 c.in-Some.f.0 (Some c.in-Some-stopped.trap) refl c.loop-left.invariant.0 c.run_page-rest.ensures.within refl (λ others at. rw c.in-Some-stopped.is at (c.run_page-rest.ensures.goes others at))
 
 pub returns-clause-goes : goal.returns-clause-goes
 returns-clause-goes g c = λ mapping.

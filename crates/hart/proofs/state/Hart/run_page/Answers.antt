@@ -1,4 +1,4 @@
-use Rattle.hart.proofs.Common.{◌+◌, ◌-◌, ◌*◌, ◌/◌, ◌%◌, Some, None, arith, refl, inl, inr, plus, point_of}
+use Rattle.hart.proofs.Common.{arith, inl, inr, None, plus, point_of, refl, Some, ◌%◌, ◌*◌, ◌+◌, ◌-◌, ◌/◌}
 use Rattle.hart.proofs.Straight.{goes-none, page-then, pc-of, whole-then}
 use Rattle.hart.proofs.state.Hart.run_page.Goals as goal
 
@@ -17,13 +17,10 @@ pub loop-left-preserved : goal.loop-left-preserved
 loop-left-preserved g c =
     let some = rw c.in-At.is at c.straight-done.ensures.moves in (
       record {
-        whole = whole-then (g.T.Translate.held c.loop-left.trans) (g.T.Translate.held c.straight-done.new.trans) c.args.self.now c.loop-left.self c.straight-done.new.self c.args.ram.now c.loop-left.ram c.straight-done.new.ram c.loop-left.invariant.0.whole c.straight-done.ensures.whole;
+        whole = whole-then c.loop-left.invariant.0.whole c.straight-done.ensures.whole;
         bounded = omega (arith, c.loop-left.invariant.0.bounded);
-        goes = page-then (g.T.Translate.held c.args.trans.now) (g.T.Translate.held c.loop-left.trans) (g.T.Translate.held c.straight-done.new.trans) c.args.self.now c.loop-left.self c.straight-done.new.self c.loop-left.pc (c.args.self.now.pc / 4096 * 4096) (c.loop-left.pc % 4096 / 4) c.address-pc.result c.args.ram.now c.loop-left.ram c.straight-done.new.ram
-            c.args.count c.loop-left.left c.straight-done.result.0 c.args.f.0 None c.loop-left.invariant.0 refl
-            (pc-of (c.args.self.now.pc / 4096 * 4096) c.loop-left.pc (c.loop-left.pc % 4096 / 4) (omega (arith, c.loop-left.auto.pc-fits)) c.loop-left.invariant.1 c.if-pc-base.true refl)
-            (omega (arith, c.straight-done.ensures.within, c.room.ensures.count))
-            (λ mapping at. rw c.address-pc.ensures.is (rw c.in-At.is at (c.straight-done.ensures.goes mapping at)));
+        goes = page-then c.straight-done.new.self (c.args.self.now.pc / 4096 * 4096) (c.loop-left.pc % 4096 / 4) c.address-pc.result c.straight-done.new.ram c.straight-done.result.0 None c.loop-left.invariant.0 refl (pc-of (c.args.self.now.pc / 4096 * 4096) c.loop-left.pc (c.loop-left.pc % 4096 / 4) (omega (arith, c.loop-left.auto.pc-fits)) c.loop-left.invariant.1 c.if-pc-base.true refl)
+            (omega (arith, c.straight-done.ensures.within, c.room.ensures.count)) (λ mapping at. rw c.address-pc.ensures.is (rw c.in-At.is at (c.straight-done.ensures.goes mapping at)));
       },
       c.address-pc.ensures.aligned,
       inl (omega (arith, some, c.loop-left-test.true, c.loop-left.invariant.0.bounded)),
@@ -31,19 +28,13 @@ loop-left-preserved g c =
 
 pub returns-in-Behind-clause-goes : goal.returns-in-Behind-clause-goes
 returns-in-Behind-clause-goes g c =
-    page-then (g.T.Translate.held c.args.trans.now) (g.T.Translate.held c.loop-left.trans) (g.T.Translate.held c.straight-done.new.trans) c.args.self.now c.loop-left.self c.straight-done.new.self c.loop-left.pc (c.args.self.now.pc / 4096 * 4096) (c.loop-left.pc % 4096 / 4) (plus (c.args.self.now.pc / 4096 * 4096) (4 * (c.loop-left.pc % 4096 / 4 + c.straight-done.result.0))) c.args.ram.now c.loop-left.ram c.straight-done.new.ram
-    c.args.count c.loop-left.left c.straight-done.result.0 c.args.f.0 None c.loop-left.invariant.0 refl
-    (pc-of (c.args.self.now.pc / 4096 * 4096) c.loop-left.pc (c.loop-left.pc % 4096 / 4) (omega (arith, c.loop-left.auto.pc-fits)) c.loop-left.invariant.1 c.if-pc-base.true refl)
-    (omega (arith, c.straight-done.ensures.within, c.room.ensures.count))
-    (λ mapping at. rw c.in-Behind.is at (c.straight-done.ensures.goes mapping at))
+    page-then c.straight-done.new.self (c.args.self.now.pc / 4096 * 4096) (c.loop-left.pc % 4096 / 4) (plus (c.args.self.now.pc / 4096 * 4096) (4 * (c.loop-left.pc % 4096 / 4 + c.straight-done.result.0))) c.straight-done.new.ram c.straight-done.result.0 None c.loop-left.invariant.0 refl (pc-of (c.args.self.now.pc / 4096 * 4096) c.loop-left.pc (c.loop-left.pc % 4096 / 4) (omega (arith, c.loop-left.auto.pc-fits)) c.loop-left.invariant.1 c.if-pc-base.true refl)
+    (omega (arith, c.straight-done.ensures.within, c.room.ensures.count)) (λ mapping at. rw c.in-Behind.is at (c.straight-done.ensures.goes mapping at))
 
 pub returns-in-Stop-clause-goes : goal.returns-in-Stop-clause-goes
 returns-in-Stop-clause-goes g c =
-    page-then (g.T.Translate.held c.args.trans.now) (g.T.Translate.held c.loop-left.trans) (g.T.Translate.held c.straight-done.new.trans) c.args.self.now c.loop-left.self c.straight-done.new.self c.loop-left.pc (c.args.self.now.pc / 4096 * 4096) (c.loop-left.pc % 4096 / 4) (plus (c.args.self.now.pc / 4096 * 4096) (4 * (c.loop-left.pc % 4096 / 4 + c.straight-done.result.0))) c.args.ram.now c.loop-left.ram c.straight-done.new.ram
-    c.args.count c.loop-left.left c.straight-done.result.0 c.args.f.0 (Some c.in-Stop.trap) c.loop-left.invariant.0 refl
-    (pc-of (c.args.self.now.pc / 4096 * 4096) c.loop-left.pc (c.loop-left.pc % 4096 / 4) (omega (arith, c.loop-left.auto.pc-fits)) c.loop-left.invariant.1 c.if-pc-base.true refl)
-    (omega (arith, c.straight-done.ensures.within, c.room.ensures.count))
-    (λ mapping at. rw c.in-Stop.is at (c.straight-done.ensures.goes mapping at))
+    page-then c.straight-done.new.self (c.args.self.now.pc / 4096 * 4096) (c.loop-left.pc % 4096 / 4) (plus (c.args.self.now.pc / 4096 * 4096) (4 * (c.loop-left.pc % 4096 / 4 + c.straight-done.result.0))) c.straight-done.new.ram c.straight-done.result.0 (Some c.in-Stop.trap) c.loop-left.invariant.0 refl (pc-of (c.args.self.now.pc / 4096 * 4096) c.loop-left.pc (c.loop-left.pc % 4096 / 4) (omega (arith, c.loop-left.auto.pc-fits)) c.loop-left.invariant.1 c.if-pc-base.true refl)
+    (omega (arith, c.straight-done.ensures.within, c.room.ensures.count)) (λ mapping at. rw c.in-Stop.is at (c.straight-done.ensures.goes mapping at))
 
 pub returns-clause-goes : goal.returns-clause-goes
 returns-clause-goes g c = c.loop-left.invariant.0.goes

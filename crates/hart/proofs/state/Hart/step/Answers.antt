@@ -1,4 +1,4 @@
-use Rattle.hart.specs.Answered.{cycle_by, seen}
+use Rattle.hart.proofs.Common.{cycle_by, seen}
 use Rattle.hart.proofs.Steps.{step-follows, trap-still}
 use Rattle.hart.proofs.state.Hart.step.Goals as goal
 
