@@ -1,28 +1,18 @@
 -- Calls of the running process that are answered at once.
-use Rattle.calls.proofs.Common.{None, DeviceFault, ◌≡◌, Err, ℕ, List, [], Option, Some, refl, ap, subst, sym, ◌∙◌, Bool, true, false, ◌%◌, ℤ, IfOk, IfSome, Ok, OnOk, Result, slice_index, slice_set, unwrap_or, Appends, IsInUse}
-use Rattle.calls.proofs.Common.{Acts, CanCome, Comes, MayPrint, GoesOn, IsBegun, Runs, Tries, going_at, going_by, outcome_at, outcome_by, settled_by, called, pending_for, Halt, Came, Answers, Blocks, Exits, Refuses}
-use Rattle.calls.proofs.Common.{descriptors_in, Dispatches, IsLost, IsMade, IsServed, LeavesTree, waits-other, Kernel, answered, argument, blocked, counting, ended, entered, state_of, waking, has_slept, IsKernel, within-state}
-use Rattle.calls.proofs.Common.{ends-at, waits-run, state-but, IsRun, process-run, run-of, self, answer-run, Process, SpaceView, no_pages, FileTree, call_of, end_at, outcome_of, quiet, row, settle, goes_on, Call, Getpid, Exit}
-use Rattle.calls.proofs.Common.{Sleep, Uptime, slot, low, int_of, Outcome, limited, provided, Done, Refused, Waits, Pending, sleep_on, State, descriptors_at, given, After, Console, descriptors-run, regs-kernel, regs-run, Runner}
+use Rattle.calls.proofs.Common.{[], Acts, After, answer-run, answered, Answers, ap, Appends, argument, arith, blocked, Blocks, Bool, Call, call, call_of, called, called_by, Came, can_write, CanCome, cast_signed, cast_unsigned, change-put}
+use Rattle.calls.proofs.Common.{change_process, Comes, Console, counting, descriptors-run, descriptors_at, descriptors_in, DeviceFault, Dispatches, Done, end_at, end_if_killed, end_process, ended, ends-at, entered, Err, Exit, Exits, false}
+use Rattle.calls.proofs.Common.{FileTree, Getpid, given, goes_on, GoesOn, going_at, going_by, Halt, has_slept, held-run, Here, here-in, here-of, IfOk, IfSome, if◌then◌else◌, int_of, IsBegun, IsKernel, IsLost, IsMade, IsServed, Kernel}
+use Rattle.calls.proofs.Common.{LeavesTree, length, limited, List, low, MayPrint, negsuc, no_pages, None, not-killed, of_z-to_z, Ok, OnOk, Option, Outcome, outcome_at, outcome_by, outcome_of, Pending, pending_for, plus, process-run}
+use Rattle.calls.proofs.Common.{process_at, provided, put_process, quiet, reap, reap-state, refl, Refused, Refuses, regs-kernel, regs-run, regs-state, renamed-within, Result, row, run, Runner, Runs, self, set-set, settle, settled_by}
+use Rattle.calls.proofs.Common.{Sleep, sleep_on, slice_index, slice_set, slot, slot-put, slot-within, Some, SpaceView, State, state-but, state_of, subst, sym, Tries, true, unwrap_or, Uptime, view_at, Waits, waits-other, waits-run, waking}
+use Rattle.calls.proofs.Common.{with_answer, within-state, ℕ, ℤ, ◌%◌, ◌∙◌, ◌≡◌}
+use Rattle.std.specs.Int.{w32}
 use Rattle.calls.specs.declared.halt.Halt.TheVariants.{Device}
 use Rattle.calls.proofs.Prints.{Appends-none}
 use Rattle.calls.proofs.Served.{same-served}
-use Rattle.calls.proofs.Rows.{aligned-next, int-bits, enters-kernel, enters-run, numbered}
-use Rattle.calls.proofs.Settles.{after, settle-limited, settle-done}
 use Rattle.unixmodel.specs.Process as unix
 
--- the running process and its space, in a kernel that is sound, whose device has not failed
-pub record Here (k : Kernel) (i : ℕ) : Type 0 where
-  pub process : Process
-  pub held : SpaceView
-  pub run : IsRun k i process held
-  pub sound : IsKernel k
-  pub up : k.tree.failed ≡ false
-
-abbrev pub runner : {k : Kernel} {i : ℕ} → Here k i → Runner k i
-runner x = record { process = x.process; held = x.held; run = x.run; sound = x.sound }
-
--- the same with an answer in a0
+-- the running process, with an answer in a0
 abbrev pub answered-runner : {k : Kernel} {i : ℕ} (x : Here k i) (value : ℕ) → Runner (answered k value) i
 answered-runner {k} {i} x value =
     let regs = slice_set k.spaces.registers 10 value in
@@ -31,39 +21,42 @@ answered-runner {k} {i} x value =
 pub runs-of : {k : Kernel} {i : ℕ} → k.spaces.active ≡ Some i → k.tree.failed ≡ false → IsKernel k → slice_index k.spaces.registers 0 ≡ 0 → k.spaces.pc % 4 ≡ 0 → Runs k i
 runs-of active up sound zero aligned = record { active = active; up = up; sound = sound; zero = zero; aligned = aligned }
 
-pub here-in : {k : Kernel} {i : ℕ} → IsKernel k → k.spaces.active ≡ Some i → k.tree.failed ≡ false → Here k i
-here-in {k} {i} sound active up = let run = run-of k i sound active in record { process = run.0; held = run.1.0; run = run.1.1; sound = sound; up = up }
+-- ---- a call begins, and is settled
 
-pub here-of : (k : Kernel) (i : ℕ) → Runs k i → Here k i
-here-of k i runs = here-in runs.sound runs.active runs.up
-
-pub begins : (k e : Kernel) (i : ℕ) → e ≡ entered k → Runs k i → IsBegun k e i
-begins k e i same x =
-    let y = here-of k i x in
-    rw same (record {
-      runs = record { active = x.active; up = x.up; sound = enters-kernel k i y.process y.held y.run y.sound; zero = x.zero; aligned = aligned-next k.spaces.pc x.aligned };
-      tree = refl;
-      row = λ call number. numbered k i y.process y.held y.run y.sound call number ∙ ap (settle (state_of (entered k)) i) (sym (ap (outcome_by (state_of (entered k)) i call) (process-run (entered k) i y.process y.held (enters-run k i y.process y.held y.run y.sound))));
-    })
-
--- the call has the number that a7 tells
-pub numbers : (k : Kernel) {a n : ℕ} {call : Option Call} → a ≡ argument k 7 → n ≡ low a → call ≡ call_of n → call_of (low (slice_index k.spaces.registers 17)) ≡ call
-numbers k a n call = sym (call ∙ ap call_of (n ∙ ap low a))
+aligned-next : (pc : ℕ) → pc % 4 ≡ 0 → plus pc 4 % 4 ≡ 0
+aligned-next pc h = omega arith
 
 module _ {k : Kernel} {i : ℕ} (runs : Runs k i) where
-  abbrev at-work : Here k i
-  at-work = here-of k i runs
+  begins-row : (o : Option Call) → call_of (low (slice_index k.spaces.registers 17)) ≡ o → let x = here-of runs in
+      call (state_of k) i (self k x.process x.held) ≡ settle (state_of (entered k)) i (outcome_of (state_of (entered k)) i (self (entered k) x.process x.held) o)
+  unfolding call
+  begins-row o number = let x = here-of runs in rw (number, ← regs-state k i x.process x.held x.run x.sound k.spaces.registers (plus k.spaces.pc 4)) refl
+
+  pub begins : {e : Kernel} → e ≡ entered k → IsBegun k e i
+  begins same =
+      let x = here-of runs in
+      let to = entered k in
+      let run = regs-run k i x.process x.held x.run x.sound to.spaces.registers to.spaces.pc in
+      rw same (record {
+        runs = record { active = runs.active; up = runs.up; sound = regs-kernel k x.sound to.spaces.registers to.spaces.pc; zero = runs.zero; aligned = aligned-next k.spaces.pc runs.aligned };
+        tree = refl;
+        row = λ o number. ap (called_by (state_of k) i) (process-run k i x.process x.held x.run) ∙ begins-row o number ∙ ap (settle (state_of to) i) (sym (ap (outcome_by (state_of to) i o) (process-run to i x.process x.held run)));
+      })
 
   pub settles-answer : {last : Kernel} (value : ℕ) → last ≡ answered k value → state_of last ≡ settled_by (state_of k) i (Answers value)
-  settles-answer value made = let x = at-work in rw made (sym (answer-run k i x.process x.held x.run x.sound value))
+  settles-answer value made = let x = here-of runs in rw made (sym (answer-run k i x.process x.held x.run x.sound value))
 
   pub settles-blocks : {last : Kernel} {w : Pending} → CanCome k i (Blocks w) → last ≡ blocked k i w → state_of last ≡ settled_by (state_of k) i (Blocks w)
-  settles-blocks {w = w} can made = let x = at-work in rw made (sym (waits-run k i x.process x.held x.run x.sound runs.zero runs.aligned w (rw (ap (λ (o : Option SpaceView). unwrap_or o no_pages) x.run.space, ap descriptors_in x.run.process) at can.0) (rw (ap descriptors_in x.run.process) at can.1) x.up))
+  settles-blocks {w = w} can made = let x = here-of runs in rw made (sym (waits-run k i x.process x.held x.run x.sound runs.zero runs.aligned w (rw (ap (λ (o : Option SpaceView). unwrap_or o no_pages) x.run.space, ap descriptors_in x.run.process) at can.0) (rw (ap descriptors_in x.run.process) at can.1) x.up))
 
   -- it ended, or an access failed
   pub settles-exits-if : (last : Kernel) {status meant : ℤ} → meant ≡ status → (r : Result (Unit {0}) DeviceFault) → IfOk r (λ done. last ≡ waking (counting (ended k i meant) last.tree.failures) last.table.awake) → OnOk r (state_of last ≡ settled_by (state_of k) i (Exits status))
   settles-exits-if last same (Err fault) made = tt
-  settles-exits-if last {status} {meant} same (Ok done) made = let x = at-work in state-but (counting (ended k i meant) last.tree.failures) made ∙ ap (λ n. state_of (ended k i n)) same ∙ sym (ends-at k i x.process x.held x.run x.sound runs.zero runs.aligned status x.up)
+  settles-exits-if last {status} {meant} same (Ok done) made = let x = here-of runs in state-but (counting (ended k i meant) last.tree.failures) made ∙ ap (λ n. state_of (ended k i n)) same ∙ sym (ends-at k i x.process x.held x.run x.sound runs.zero runs.aligned status x.up)
+
+-- the call has the number that a7 tells
+pub numbers : (k : Kernel) {a n : ℕ} {call : Option Call} → a ≡ argument k 7 → n ≡ low a → call ≡ call_of n → call_of (low (slice_index k.spaces.registers 17)) ≡ call
+numbers k a n call = sym (call ∙ ap call_of (n ∙ ap low a))
 
 -- where the device and the console's writer may fail
 module _ {k e : Kernel} {i : ℕ} {call : Option Call} (begun : IsBegun k e i) (number : call_of (low (slice_index k.spaces.registers 17)) ≡ call) (new : Kernel) (before after : Option (List ℕ)) where
@@ -86,7 +79,27 @@ pub provided-refused : (b : Bool) (rest : Outcome) → limited rest ≡ Refused 
 provided-refused true rest is = is
 provided-refused false rest is = refl
 
--- ---- what the row comes to
+-- ---- what an outcome comes to
+
+abbrev pub after : State → List ℕ → After
+after state bytes = record { state = state; bytes = bytes }
+
+-- it is done: it is answered, and what nothing names any more goes
+pub settle-reaped : (begun new : State) (i value : ℕ) (bytes : List ℕ) {full last : State} {p : unix.Process} → change_process new i (with_answer value) ≡ full → process_at full i ≡ Some p → p.killed ≡ false → reap full ≡ last → settle begun i (Done new value bytes) ≡ after last bytes
+settle-reaped begun new i value bytes {full = full} {p = p} answered at alive reaped =
+    ap (λ (s : State). after (end_if_killed s i (process_at s i)) bytes) answered
+    ∙ ap (λ (o : Option unix.Process). after (end_if_killed full i o) bytes) at
+    ∙ ap (λ (b : Bool). after (if b then end_process full i p (negsuc 0) else reap full) bytes) alive
+    ∙ ap (λ (s : State). after s bytes) reaped
+
+module _ {k : Kernel} {i : ℕ} (x : Here k i) (begun : State) (value : ℕ) (bytes : List ℕ) where
+  settle-done : settle begun i (Done (state_of k) value bytes) ≡ after (state_of (answered k value)) bytes
+  settle-done =
+      let y = answered-runner x value in
+      settle-reaped begun (state_of k) i value bytes (answer-run k i x.process x.held x.run x.sound value) (process-run (answered k value) i y.process y.held y.run) (not-killed k i x.process x.held x.run x.sound) (reap-state (answered k value) y.sound x.up)
+
+  pub settle-limited : settle begun i (limited (Done (state_of k) value bytes)) ≡ after (state_of (answered k value)) bytes
+  settle-limited = rw (within-state k x.sound x.up) settle-done
 
 -- a call that puts out nothing may come to anything
 quietly : (c : Came) → MayPrint c []
@@ -116,7 +129,11 @@ module _ {k new : Kernel} {i : ℕ} {o : Outcome} where
     served = served;
   }
 
-module _ (k : Kernel) (i : ℕ) (x : Here k i) where
+-- an int is what its bits are read as
+pub int-bits : (n : ℕ) → cast_signed w32 (cast_unsigned w32 (int_of n)) ≡ int_of n
+int-bits n = ap (cast_signed w32) (of_z-to_z w32 (low n) (omega arith))
+
+module _ {k : Kernel} {i : ℕ} (x : Here k i) where
   abbrev pub me : unix.Process
   me = self k x.process x.held
 
@@ -131,26 +148,38 @@ module _ (k : Kernel) (i : ℕ) (x : Here k i) where
 
   -- what its descriptors name
   pub descriptor-is : {d : ℕ} {o : Option ℕ} → d ≡ low (argument k 0) → o ≡ slot (descriptors_at k i) d → slot x.process.descriptors (low (argument k 0)) ≡ o
-  descriptor-is is at = rw (← descriptors-run (runner x), ← is) (sym at)
+  descriptor-is is at = rw (← descriptors-run x.runner, ← is) (sym at)
+
+  -- where its memory may be written
+  pub can-here : (a n : ℕ) {b : Bool} → b ≡ can_write (view_at k.spaces i).memory a n → can_write x.held.memory a n ≡ b
+  can-here a n can = ap (λ (h : SpaceView). can_write h.memory a n) (sym (held-run k i x.process x.held x.run x.sound)) ∙ sym can
 
   pub unnamed : (rest : ℕ → Outcome) (call : Call) → row (state_of k) i me call ≡ given (slot x.process.descriptors (low (argument k 0))) rest → {d : ℕ} → d ≡ low (argument k 0) → None ≡ slot (descriptors_at k i) d → Acts k k i (Some call) Refuses
   unnamed rest call same is none = refused (Some call) (ap limited (same ∙ ap (λ o. given o rest) (descriptor-is is none)))
 
-  -- what the row makes once it is settled, with bytes for the console
-  pub settles : (new : Kernel) (call : Call) (answer : ℕ) (bytes : List ℕ) → Here new i → IsServed k.tree new.tree → settle (state_of k) i (outcome_of (state_of k) i me (Some call)) ≡ after (state_of (answered new answer)) bytes
-      → Comes k new i (outcome_at (state_of k) i (Some call)) bytes (Answers answer)
-  settles new call answer bytes y served is = settles-to answer bytes y served (ap (settle (state_of k) i) (outcome-here (Some call)) ∙ is)
+  -- what the row makes once it is settled
+  pub settles : {new : Kernel} (call : Call) (answer : ℕ) → Here new i → IsServed k.tree new.tree → settle (state_of k) i (outcome_of (state_of k) i me (Some call)) ≡ quiet (state_of (answered new answer)) → Acts k new i (Some call) (Answers answer)
+  settles call answer y served is = settles-to answer [] y served (ap (settle (state_of k) i) (outcome-here (Some call)) ∙ is)
 
-  pub prints : (new : Kernel) (call : Call) (answer : ℕ) (bytes : List ℕ) → Here new i → IsServed k.tree new.tree → row (state_of k) i me call ≡ Done (state_of new) answer bytes → Comes k new i (outcome_at (state_of k) i (Some call)) bytes (Answers answer)
-  prints new call answer bytes y served is = settles new call answer bytes y served (ap (λ (o : Outcome). settle (state_of k) i (limited o)) is ∙ settle-limited new i y.process y.held y.run y.sound y.up (state_of k) answer bytes)
+  pub does : {new : Kernel} (call : Call) (answer : ℕ) → Here new i → IsServed k.tree new.tree → row (state_of k) i me call ≡ Done (state_of new) answer [] → Acts k new i (Some call) (Answers answer)
+  does call answer y served is = settles call answer y served (ap (λ (o : Outcome). settle (state_of k) i (limited o)) is ∙ settle-limited y (state_of k) answer [])
 
-  -- the files of the disk are as they were
-  pub does : (new : Kernel) (call : Call) (answer : ℕ) → Here new i → new.tree ≡ k.tree → row (state_of k) i me call ≡ Done (state_of new) answer [] → Acts k new i (Some call) (Answers answer)
-  does new call answer y same is = prints new call answer [] y (same-served same x.up) is
-
-  -- a step of the kernel that makes state s
+  -- a step of the kernel that makes state s, and leaves the files of the disk alone
   pub makes : {new : Kernel} {s : State} (call : Call) (answer : ℕ) → IsKernel new → new.spaces.active ≡ Some i → new.tree ≡ k.tree → state_of new ≡ s → row (state_of k) i me call ≡ Done s answer [] → Acts k new i (Some call) (Answers answer)
-  makes {new} call answer sound active same state is = does new call answer (here-in sound active (ap (λ (t : FileTree). t.failed) same ∙ x.up)) same (rw state is)
+  makes call answer sound active same state is = does call answer (here-in sound active (ap (λ (t : FileTree). t.failed) same ∙ x.up)) (same-served same x.up) (rw state is)
+
+  -- it has other descriptors, or works in another directory, and what nothing names any more goes
+  pub settles-gone : (ds : List (Option ℕ)) (directory : ℕ) → length ds ≡ length x.process.descriptors → {last : State} → let p : unix.Process = record me { descriptors = ds; directory = directory } in
+      reap (put_process (state_of (answered k 0)) i (with_answer 0 p)) ≡ last → settle (state_of k) i (limited (Done (put_process (state_of k) i p) 0 [])) ≡ quiet last
+  settles-gone ds directory same reaped =
+      let p : unix.Process = record me { descriptors = ds; directory = directory } in
+      let y = answered-runner x 0 in
+      rw (renamed-within x.runner ds directory same x.up)
+      (settle-reaped (state_of k) (put_process (state_of k) i p) i 0 [] (
+      change-put i (state_of k) p (with_answer 0) (slot-within (state_of k).places i me (process-run k i x.process x.held x.run))
+      ∙ ap (λ (ps : List (Option unix.Process)). record (state_of k) { places = ps }) (sym (set-set (state_of k).places i (Some (with_answer 0 me)) (Some (with_answer 0 p))))
+      ∙ ap (λ (s : State). put_process s i (with_answer 0 p)) (sym (regs-state k i x.process x.held x.run x.sound (slice_set k.spaces.registers 10 0) k.spaces.pc)))
+      (slot-put (state_of (answered k 0)).places i (Some (with_answer 0 p)) (slot-within (state_of (answered k 0)).places i _ (process-run (answered k 0) i y.process y.held y.run))) (not-killed k i x.process x.held x.run x.sound) reaped)
 
   -- ---- a pending call that goes on
 
@@ -164,14 +193,13 @@ module _ (k : Kernel) (i : ℕ) (x : Here k i) where
     -- it is done, or waits with v
     pub goes-serves : {new : Kernel} (answer : ℕ) → Here new i → IsServed k.tree new.tree → going ≡ Done (state_of new) answer [] → GoesOn k new i w (Answers answer)
     goes-serves {new} answer y served is = record {
-      comes = settles-to answer [] y served (ap (settle (state_of k) i) (going-here ∙ is) ∙ settle-done new i y.process y.held y.run y.sound y.up (state_of k) answer []);
+      comes = settles-to answer [] y served (ap (settle (state_of k) i) (going-here ∙ is) ∙ settle-done y (state_of k) answer []);
       within = rw (going-here ∙ is) (ap (λ (b : Bool). provided b (Done (state_of new) answer [])) (within-state new y.sound y.up));
     }
 
     -- a step of the kernel makes state s
     pub goes-done : {new : Kernel} {s : State} (answer : ℕ) → IsKernel new → new.spaces.active ≡ Some i → new.tree ≡ k.tree → state_of new ≡ s → going ≡ Done s answer [] → GoesOn k new i w (Answers answer)
-    goes-done {new} answer sound active same state is =
-        goes-serves answer (here-in sound active (ap (λ (t : FileTree). t.failed) same ∙ x.up)) (same-served same x.up) (rw state is)
+    goes-done answer sound active same state is = goes-serves answer (here-in sound active (ap (λ (t : FileTree). t.failed) same ∙ x.up)) (same-served same x.up) (rw state is)
 
     pub goes-waits : {new : Kernel} {s : State} (v : Pending) → IsKernel new → new.spaces.active ≡ Some i → new.tree ≡ k.tree → CanCome new i (Blocks v) → state_of new ≡ s → going ≡ Waits s v → GoesOn k new i w (Blocks v)
     goes-waits {new} v sound active same can state is =
@@ -182,54 +210,34 @@ module _ (k : Kernel) (i : ℕ) (x : Here k i) where
         }
 
     -- a call that begins so goes on at once
-    pub begins-on : {new : Kernel} {came : Came} → (call : Call) → row (state_of k) i me call ≡ going → GoesOn k new i w came → Acts k new i (Some call) came
-    begins-on call is goes = record {
-      makes = ap (settle (state_of k) i) (outcome-here (Some call) ∙ ap limited (is ∙ sym going-here) ∙ goes.within) ∙ goes.comes.makes;
-      active = goes.comes.active;
-      sound = goes.comes.sound;
-      can = goes.comes.can;
-      printed = goes.comes.printed;
-      served = goes.comes.served;
-    }
+    pub begins-on : {new : Kernel} {c : Came} (call : Call) → row (state_of k) i me call ≡ going → GoesOn k new i w c → Acts k new i (Some call) c
+    begins-on call is goes = rw (outcome-here (Some call) ∙ ap limited (is ∙ sym going-here) ∙ goes.within) goes.comes
+
+    module _ (is : w.number ≡ Sleep) where
+      -- it has slept, or sleeps on
+      pub sleeps-over : has_slept k.ticks w ≡ true → GoesOn k k i w (Answers 0)
+      unfolding sleep_on
+      sleeps-over over = goes-done 0 x.sound x.run.active refl refl (rw (is, over) refl)
+
+      pub sleeps-on : has_slept k.ticks w ≡ false → GoesOn k k i w (Blocks w)
+      unfolding sleep_on
+      sleeps-on more = goes-waits w x.sound x.run.active refl (rw is tt, waits-other _ _ w Sleep (λ same. absurd (cc)) (λ same. absurd (cc)) is) refl (rw (is, more) refl)
+
+  -- ---- getpid, uptime, exit and sleep
+
+  pub getpids : (pid : ℕ) → IfSome (slot k.table.places i) (λ p. pid ≡ p.pid) → Acts k k i (Some Getpid) (Answers pid)
+  getpids pid is = let e : pid ≡ x.process.pid = rw x.run.process at is in rw e (makes Getpid x.process.pid x.sound x.run.active refl refl refl)
+
+  pub uptimes : (ticks : ℕ) → ticks ≡ k.ticks → Acts k k i (Some Uptime) (Answers ticks)
+  uptimes ticks is = rw is (makes Uptime k.ticks x.sound x.run.active refl refl refl)
+
+  pub exits : Acts k k i (Some Exit) (Exits (int_of (argument k 0)))
+  exits = came (Some Exit) (Exits (int_of (argument k 0))) (int-bits (argument k 0)) (ap (λ (o : Option unix.Process). quiet (end_at (state_of k) i (int_of (argument k 0)) o)) refl)
+
+  pub sleeps : {c : Came} → GoesOn k k i (pending_for k Sleep) c → Acts k k i (Some Sleep) c
+  sleeps goes = begins-on (pending_for k Sleep) Sleep refl goes
 
 -- a call of no number
 pub unbuilt : {k : Kernel} {i : ℕ} {call : Option Call} → (other : Option Call) → Runs k i → call ≡ other → ((p : unix.Process) → outcome_of (state_of k) i p other ≡ Refused) → (at : Option (List ℕ))
     → (bytes : List ℕ) × Comes k k i (outcome_at (state_of k) i call) bytes Refuses × Appends at at bytes
-unbuilt {k = k} {i = i} other runs is none at = let x = here-of k i runs in rw is ([], refused k i x other (none (me k i x)), Appends-none at)
-
--- ---- getpid
-
-pub getpid-is : (o : Option Process) (p : Process) (pid : ℕ) → o ≡ Some p → IfSome o (λ r. pid ≡ r.pid) → pid ≡ p.pid
-getpid-is o p pid at is = subst (λ (u : Option Process). IfSome u (λ r. pid ≡ r.pid)) at is
-
-pub getpids : (k : Kernel) (i pid : ℕ) → Runs k i → IfSome (slot k.table.places i) (λ p. pid ≡ p.pid) → Acts k k i (Some Getpid) (Answers pid)
-getpids k i pid runs is = let x = here-of k i runs in rw (getpid-is (slot k.table.places i) x.process pid x.run.process is) (does k i x k Getpid x.process.pid x refl refl)
-
--- ---- uptime, exit and sleep
-
-module _ (k : Kernel) (i : ℕ) (runs : Runs k i) where
-  abbrev now : Here k i
-  now = here-of k i runs
-
-  pub uptimes : (ticks : ℕ) → ticks ≡ k.ticks → Acts k k i (Some Uptime) (Answers ticks)
-  uptimes ticks is = rw is (does k i now k Uptime k.ticks now refl refl)
-
-  pub exits : Acts k k i (Some Exit) (Exits (int_of (argument k 0)))
-  exits = came k i now (Some Exit) (Exits (int_of (argument k 0))) (int-bits (argument k 0)) (ap (λ (o : Option unix.Process). quiet (end_at (state_of k) i (int_of (argument k 0)) o)) refl)
-
-  module _ (w : Pending) (is : w.number ≡ Sleep) where
-    -- it has slept, or sleeps on
-    pub sleeps-over : has_slept k.ticks w ≡ true → GoesOn k k i w (Answers 0)
-    unfolding sleep_on
-    sleeps-over over = goes-done k i now w 0 runs.sound runs.active refl refl (rw (is, over) refl)
-
-    pub sleeps-on : has_slept k.ticks w ≡ false → GoesOn k k i w (Blocks w)
-    unfolding sleep_on
-    sleeps-on more = goes-waits k i now w w runs.sound runs.active refl (rw is tt, waits-other _ _ w Sleep (λ same. absurd (cc)) (λ same. absurd (cc)) is) refl (rw (is, more) refl)
-
-  pub sleeps : {c : Came} → GoesOn k k i (pending_for k Sleep) c → Acts k k i (Some Sleep) c
-  sleeps goes = begins-on k i now (pending_for k Sleep) Sleep refl goes
-
--- the files are in use
-pub used-here : (k : Kernel) (i : ℕ) (x : Here k i) → IsInUse k.tree k.files k.table.places
-used-here k i x = x.sound.used x.up
+unbuilt other runs is none at = let x = here-of runs in rw is ([], refused x other (none (me x)), Appends-none at)

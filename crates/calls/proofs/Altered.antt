@@ -1,5 +1,5 @@
 -- Lists in which one place changes.
-use Rattle.calls.proofs.Common.{◌≡◌, ℕ, ◌+◌, Bool, zero, suc, List, [], ◌∷◌, Option, Some, None, refl, ap, sym, ◌∙◌, ◌||◌, map, option_map, slice_set, put, slot, list_any, sum_by}
+use Rattle.calls.proofs.Common.{[], ap, Bool, List, list_any, map, None, Option, option_map, put, refl, slice_set, slot, Some, suc, sum_by, sym, zero, ℕ, ◌+◌, ◌||◌, ◌∙◌, ◌∷◌, ◌≡◌}
 use Rattle.std.proofs.lemmas.List.Sums.{sum_by-cons}
 use Rattle.unixmodel.specs.Files.{taken}
 

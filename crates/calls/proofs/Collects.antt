@@ -1,31 +1,28 @@
 -- wait: the first zombie child of the running process goes, and its status is written.
-use Rattle.calls.proofs.Common.{◌≡◌, ◌≢◌, ℕ, zero, suc, true, false, nat_eq, List, IfSome, Option, Some, None, ℤ, refl, ap, sym, subst, ◌∙◌, arith, is_some, cast_unsigned, ne_eqb, set_comm, Acts, GoesOn, Runs, pending_for, Came, Answers}
-use Rattle.calls.proofs.Common.{Blocks, Refuses, Kernel, argument, base, descriptors_at, on_hart, rest_of, state_of, with_status, IsKernel, IsPending, can_answer, waits-other, set-slot, slot-other, held-run, Places, is_child_of}
-use Rattle.calls.proofs.Common.{is_zombie_child_of, place_where, reaped_at, zombie_place, has_child-with_table, zombie_child-with_table, with_space, SpaceView, view_at, goes_on, Wait, Pending, clear, put, slot, le, given, pending_arg}
-use Rattle.calls.proofs.Common.{has_child, wait_for, wait_on, wait_row, zombie_child, State, process_at, put_process, process-run, unwrap_or, no_pages, option_map, loaded-run, loaded, wrote-state, place-changed, process-state, collected}
+use Rattle.calls.proofs.Common.{Acts, Answers, ap, argument, arith, base, Blocks, Came, can_answer, cast_unsigned, clear, collected, descriptors_at, false, given, goes_on, GoesOn, has_child, has_child-with_table, held-run, Here, IfSome}
+use Rattle.calls.proofs.Common.{is_child_of, is_some, is_zombie_child_of, IsKernel, IsPending, Kernel, le, List, loaded, loaded-run, nat_eq, ne_eqb, no_pages, None, on_hart, Option, option_map, Pending, pending_arg, pending_for}
+use Rattle.calls.proofs.Common.{place-changed, place_where, Places, process-run, process-state, process_at, put, put_process, reaped_at, refl, Refuses, rest_of, set-slot, set_comm, slot, slot-other, Some, SpaceView, State, state_of, subst}
+use Rattle.calls.proofs.Common.{suc, sym, true, unwrap_or, view_at, Wait, wait_for, wait_on, wait_row, waits-other, with_space, with_status, wrote-state, zero, zombie_child, zombie_child-with_table, zombie_place, ℕ, ℤ, ◌∙◌, ◌≡◌, ◌≢◌}
 use Rattle.std.specs.Int.{w32}
-use Rattle.calls.proofs.Acts.{Here, begins-on, getpid-is, goes-done, goes-waits, going, here-of, me, provided-refused, refused, runner}
-use Rattle.kernel.proofs.Collecting.{HasReaped, collected-kernel, collected-run, collected-state, has-reaped, unreaped-go, zombie-idle}
+use Rattle.kernel.proofs.Collecting.{collected-kernel, collected-run, collected-state, has-reaped, HasReaped, unreaped-go, zombie-idle}
 use Rattle.proc.specs.declared.table.Reaped.{Reaped}
+use Rattle.calls.proofs.Acts.{begins-on, goes-done, goes-waits, going, me, provided-refused, refused}
 use Rattle.unixmodel.specs.Process as unix
 use Rattle.unixmodel.specs.ProcessCalls as rows
 
 -- ---- the status is written
 
-status-is : (k : Kernel) (i : ℕ) (x : Here k i) (a : ℕ) (status : ℤ) → let to = with_status k i a status in (state_of to ≡ put_process (state_of k) i (rows.with_status (me k i x) a status)) × ((to.spaces.active ≡ k.spaces.active) × (to.tree ≡ k.tree))
-status-is k i x zero status = (ap (λ (places : List (Option unix.Process)). record (state_of k) { places = places }) (sym (set-slot (state_of k).places i (Some (me k i x)) (process-run k i x.process x.held x.run))), (refl, refl))
-status-is k i x (suc a) status =
+status-is : {k : Kernel} {i : ℕ} (x : Here k i) (a : ℕ) (status : ℤ) → let to = with_status k i a status in (state_of to ≡ put_process (state_of k) i (rows.with_status (me x) a status)) × ((to.spaces.active ≡ k.spaces.active) × (to.tree ≡ k.tree))
+status-is {k} {i} x zero status = (ap (λ (places : List (Option unix.Process)). record (state_of k) { places = places }) (sym (set-slot (state_of k).places i (Some (me x)) (process-run k i x.process x.held x.run))), (refl, refl))
+status-is x (suc a) status =
     let some : nat_eq (suc a) 0 ≡ false = ne_eqb (suc a) 0 (λ same. absurd (omega (arith, same))) in
     rw some (wrote-state x.run x.sound (suc a) (le 4 (cast_unsigned w32 status)), (refl, refl))
 
 -- ---- the call
 
-module _ {k : Kernel} {i : ℕ} (runs : Runs k i) (parent : ℕ) (named : IfSome (slot k.table.places i) (λ p. parent ≡ p.pid)) where
-  abbrev x : Here k i
-  x = here-of k i runs
-
+module _ {k : Kernel} {i : ℕ} (x : Here k i) (parent : ℕ) (named : IfSome (slot k.table.places i) (λ p. parent ≡ p.pid)) where
   parent-is : x.process.pid ≡ parent
-  parent-is = sym (getpid-is (slot k.table.places i) x.process parent x.run.process named)
+  parent-is = let e : parent ≡ x.process.pid = rw x.run.process at named in sym e
 
   zombie-is : zombie_child (state_of k) x.process.pid ≡ zombie_place k.table parent
   zombie-is =
@@ -40,9 +37,9 @@ module _ {k : Kernel} {i : ℕ} (runs : Runs k i) (parent : ℕ) (named : IfSome
       ∙ ap (λ (n : ℕ). is_some (place_where k.table.places (is_child_of n))) parent-is
 
   module _ (w : Pending) (number : w.number ≡ Wait) where
-    row : going k i x w ≡ wait_for (state_of k) i (me k i x) w (zombie_place k.table parent)
+    wait-row : going x w ≡ wait_for (state_of k) i (me x) w (zombie_place k.table parent)
     unfolding wait_on
-    row = ap (goes_on (state_of k) i (me k i x) w) number ∙ ap (wait_for (state_of k) i (me k i x) w) zombie-is
+    wait-row = ap (goes_on (state_of k) i (me x) w) number ∙ ap (wait_for (state_of k) i (me x) w) zombie-is
 
     -- r was waited for, which left kernel m
     module _ {r : Reaped} (said : Some r ≡ reaped_at k.table (zombie_place k.table parent)) {m : Kernel} (left : m ≡ collected k (zombie_place k.table parent)) where
@@ -59,7 +56,7 @@ module _ {k : Kernel} {i : ℕ} (runs : Runs k i) (parent : ℕ) (named : IfSome
       mid-is = left ∙ ap (collected k) has.found
 
       abbrev mid-here : Here mid i
-      mid-here = record { process = x.process; held = x.held; run = collected-run (runner x) r.place apart; sound = collected-kernel x.sound r.place has.child has.zombie; up = x.up }
+      mid-here = record { runner = record { process = x.process; held = x.held; run = collected-run x.runner r.place apart; sound = collected-kernel x.sound r.place has.child has.zombie }; up = x.up }
 
       child-at : process_at (state_of k) r.place ≡ Some (with_space (view_at k.spaces r.place) has.child)
       child-at =
@@ -67,26 +64,26 @@ module _ {k : Kernel} {i : ℕ} (runs : Runs k i) (parent : ℕ) (named : IfSome
           ∙ ap (option_map (with_space (view_at k.spaces r.place))) (ap (λ (t : Places). slot t.places r.place) (loaded-run k i x.process x.held x.run) ∙ slot-other k.table.places i r.place (Some (on_hart k.spaces x.process)) apart ∙ has.zombie.at)
 
       pub collects-can : can_answer (view_at k.spaces i).memory (pending_arg w 0) ≡ true → (m.spaces.active ≡ Some i) × (can_answer (view_at m.spaces i).memory (pending_arg w 0) ≡ true)
-      collects-can can = rw mid-is (runs.active, ap (λ (o : Option SpaceView). can_answer (unwrap_or o no_pages).memory (pending_arg w 0)) (slot-other k.spaces.places r.place i None (λ e. apart (sym e))) ∙ can)
+      collects-can can = rw mid-is (x.run.active, ap (λ (o : Option SpaceView). can_answer (unwrap_or o no_pages).memory (pending_arg w 0)) (slot-other k.spaces.places r.place i None (λ e. apart (sym e))) ∙ can)
 
       pub collects : {new : Kernel} → IsKernel new → new ≡ with_status m i (pending_arg w 0) r.status → GoesOn k new i w (Answers r.pid)
       collects {new} sound is =
           let a = pending_arg w 0 in
           let to : new ≡ with_status mid i a r.status = is ∙ ap (λ (y : Kernel). with_status y i a r.status) mid-is in
-          let after = status-is mid i mid-here a r.status in
-          let state : state_of new ≡ record (state_of k) { places = clear (put (state_of k).places i (rows.with_status (me k i x) a r.status)) r.place } =
+          let after = status-is mid-here a r.status in
+          let state : state_of new ≡ record (state_of k) { places = clear (put (state_of k).places i (rows.with_status (me x) a r.status)) r.place } =
           ap state_of to ∙ after.0
-          ∙ ap (λ (s : State). put_process s i (rows.with_status (me k i x) a r.status)) (collected-state (runner x) r.place has.child has.zombie apart)
-          ∙ ap (λ (places : List (Option unix.Process)). record (state_of k) { places = places }) (set_comm (state_of k).places r.place i None (Some (rows.with_status (me k i x) a r.status)) apart) in
-          rw has.pid (goes-done k i x w has.child.pid sound (ap (λ (y : Kernel). y.spaces.active) to ∙ after.1.0 ∙ x.run.active) (ap (λ (y : Kernel). y.tree) to ∙ after.1.1)
-          (state ∙ ap (λ (z : ℤ). record (state_of k) { places = clear (put (state_of k).places i (rows.with_status (me k i x) a z)) r.place }) has.status)
-          (row ∙ ap (wait_for (state_of k) i (me k i x) w) has.found ∙ ap (λ (o : Option unix.Process). given o (λ c. rows.collect (state_of k) i (me k i x) a r.place c)) child-at))
+          ∙ ap (λ (s : State). put_process s i (rows.with_status (me x) a r.status)) (collected-state x.runner r.place has.child has.zombie apart)
+          ∙ ap (λ (places : List (Option unix.Process)). record (state_of k) { places = places }) (set_comm (state_of k).places r.place i None (Some (rows.with_status (me x) a r.status)) apart) in
+          rw has.pid (goes-done x w has.child.pid sound (ap (λ (y : Kernel). y.spaces.active) to ∙ after.1.0 ∙ x.run.active) (ap (λ (y : Kernel). y.tree) to ∙ after.1.1)
+          (state ∙ ap (λ (z : ℤ). record (state_of k) { places = clear (put (state_of k).places i (rows.with_status (me x) a z)) r.place }) has.status)
+          (wait-row ∙ ap (wait_for (state_of k) i (me x) w) has.found ∙ ap (λ (o : Option unix.Process). given o (λ c. rows.collect (state_of k) i (me x) a r.place c)) child-at))
 
     pub wait-blocks : {m : Kernel} → can_answer (view_at k.spaces i).memory (pending_arg w 0) ≡ true → reaped_at k.table (zombie_place k.table parent) ≡ None → m ≡ collected k (zombie_place k.table parent) → GoesOn k m i w (Blocks w)
     wait-blocks can is left =
         let none = unreaped-go k.table parent (zombie_place k.table parent) refl is in
-        rw (left, none) (goes-waits k i x w w runs.sound runs.active refl (subst (IsPending (descriptors_at k i) (view_at k.spaces i).memory w) (sym number) can, waits-other _ _ w Wait (λ same. absurd (cc)) (λ same. absurd (cc)) number) refl
-        (row ∙ ap (wait_for (state_of k) i (me k i x) w) none))
+        rw (left, none) (goes-waits x w w x.sound x.run.active refl (subst (IsPending (descriptors_at k i) (view_at k.spaces i).memory w) (sym number) can, waits-other _ _ w Wait (λ same. absurd (cc)) (λ same. absurd (cc)) number) refl
+        (wait-row ∙ ap (wait_for (state_of k) i (me x) w) none))
 
   -- ---- the call begins
 
@@ -95,14 +92,14 @@ module _ {k : Kernel} {i : ℕ} (runs : Runs k i) (parent : ℕ) (named : IfSome
 
   pub wait-childless : is_some (place_where k.table.places (is_child_of parent)) ≡ false → Acts k k i (Some Wait) Refuses
   unfolding wait_row
-  wait-childless none = refused k i x (Some Wait) (rw (child-is, none) refl)
+  wait-childless none = refused x (Some Wait) (rw (child-is, none) refl)
 
   pub wait-unwritable : can_answer (view_at k.spaces i).memory (argument k 0) ≡ false → Acts k k i (Some Wait) Refuses
   unfolding wait_row
-  wait-unwritable cannot = refused k i x (Some Wait) (provided-refused (has_child (state_of k) x.process.pid) _ (rw (sym can-is ∙ cannot) refl))
+  wait-unwritable cannot = refused x (Some Wait) (provided-refused (has_child (state_of k) x.process.pid) _ (rw (sym can-is ∙ cannot) refl))
 
   -- the call goes on as it would later
   pub wait-begins : is_some (place_where k.table.places (is_child_of parent)) ≡ true → can_answer (view_at k.spaces i).memory (argument k 0) ≡ true
       → {new : Kernel} {c : Came} → GoesOn k new i (pending_for k Wait) c → Acts k new i (Some Wait) c
   unfolding wait_row
-  wait-begins some can goes = begins-on k i x (pending_for k Wait) Wait (rw (child-is, some, sym can-is ∙ can) refl) goes
+  wait-begins some can goes = begins-on x (pending_for k Wait) Wait (rw (child-is, some, sym can-is ∙ can) refl) goes

@@ -1,14 +1,14 @@
 -- kill: a process is marked; one that marks itself is answered, and ends.
-use Rattle.calls.proofs.Common.{List, None, Option, Some, [], ap, arith, negsuc, refl, sym, true, zero, suc, ℕ, ℤ, ◌+◌, ◌&&◌, ◌||◌, ◌∙◌, ◌≡◌, ◌≢◌, length, nat_le, nat_lt, slice_index, le-leb, get_or-set_other, Acts, Runs, marked_by}
-use Rattle.calls.proofs.Common.{settled_by, Answers, KillsItself, Refuses, Kernel, answered, argument, base, ended, marked, on_hart, rest_of, state_of, waking, place_called, IsKernel, kept-cong, ends-run, within-state, process-run, self}
-use Rattle.calls.proofs.Common.{slot-put, slot-within, answer-run, change-run, state-but, Process, Places, changed, has_pid, place_where, with_mark, change_process-with_table, with_table, Files, links_of, blocks_of, frames_of, end_at}
-use Rattle.calls.proofs.Common.{quiet, settle, is_within, Kill, int_of, natural, Outcome, answers, end_process, given, limited, provided, Done, kill_row, reap, without_nodes, without_opens, without_pipes, State, change_process, open_limit}
-use Rattle.calls.proofs.Common.{place_of_pid, process_at, with_answer, option_map, ◌==◌, loaded, place-state, Runner, changed_at, list_any, process_frames, is_node, halt_status, orphaned, with_zombie, zombie_of, is_described, is_same}
-use Rattle.calls.proofs.Acts.{Here, answered-runner, came, here-of, makes, me, refused}
-use Rattle.calls.proofs.Altered.{altered-swap, any-altered, put-altered, sum-altered}
+use Rattle.calls.proofs.Common.{[], Acts, answer-run, answered, Answers, answers, ap, argument, arith, base, blocks_of, change-run, change_process, change_process-with_table, changed, changed_at, Done, end_at, end_process, ended, ends-run}
+use Rattle.calls.proofs.Common.{Files, frames_of, get_or-set_other, given, halt_status, has_pid, Here, int_of, is_described, is_node, is_same, is_within, IsKernel, kept-cong, Kernel, Kill, kill_row, KillsItself, le-leb, length, limited}
+use Rattle.calls.proofs.Common.{links_of, List, list_any, loaded, marked, marked_by, me_of, nat_le, nat_lt, natural, negsuc, None, on_hart, open_limit, Option, option_map, orphaned, Outcome, place-state, place_called, place_of_pid}
+use Rattle.calls.proofs.Common.{place_where, Places, Process, process-run, process_at, process_frames, provided, quiet, reap, refl, Refuses, rest_of, Runner, settle, settled_by, slice_index, slot-put, slot-within, Some, State, state-but}
+use Rattle.calls.proofs.Common.{state_of, suc, sym, true, waking, with_answer, with_mark, with_table, with_zombie, within-state, without_nodes, without_opens, without_pipes, zero, zombie_of, ℕ, ℤ, ◌%◌, ◌&&◌, ◌+◌, ◌==◌, ◌||◌, ◌∙◌, ◌≡◌, ◌≢◌}
 use Rattle.unixmodel.specs.Counts.{opens_of}
 use Rattle.unixmodel.specs.Files.{taken}
 use Rattle.unixmodel.specs.OpenFiles.{OpenFile}
+use Rattle.calls.proofs.Acts.{answered-runner, came, makes, me, refused}
+use Rattle.calls.proofs.Altered.{altered-swap, any-altered, put-altered, sum-altered}
 use Rattle.unixmodel.specs.Process as unix
 use Rattle.unixmodel.specs.ProcessCalls as rows
 
@@ -45,39 +45,28 @@ mark-ends s i p status =
 
 -- ---- the running process marks itself
 
-module _ {k : Kernel} {i : ℕ} (runs : Runs k i) where
-  abbrev here : Here k i
-  here = here-of k i runs
-
+module _ {k : Kernel} {i : ℕ} (x : Here k i) where
   -- it has its answer
   abbrev y : Runner (answered k 0) i
-  y = answered-runner here 0
-
-  abbrev me_answered : unix.Process
-  me_answered = self (answered k 0) y.process y.held
+  y = answered-runner x 0
 
   self-marked : marked_by (state_of k) i ≡ change_process (state_of (answered k 0)) i rows.marked
   self-marked =
       ap (λ (os : List (Option unix.Process)). record (state_of k) { places = os }) (altered-swap rows.marked (with_answer 0) (λ p. refl) (state_of k).places i i)
-      ∙ ap (λ (s : State). change_process s i rows.marked) (answer-run k i here.process here.held here.run here.sound 0)
+      ∙ ap (λ (s : State). change_process s i rows.marked) (answer-run k i x.process x.held x.run x.sound 0)
 
-  self-there : process_at (marked_by (state_of k) i) i ≡ Some (rows.marked me_answered)
+  self-there : process_at (marked_by (state_of k) i) i ≡ Some (rows.marked (me_of y))
   self-there =
-      let at = process-run (answered k 0) i y.process y.held y.run in
       ap (λ (s : State). process_at s i) (self-marked ∙ change-run (answered k 0) i y.process y.held y.run y.sound rows.marked)
-      ∙ slot-put (state_of (answered k 0)).places i (Some (rows.marked me_answered)) (slot-within (state_of (answered k 0)).places i me_answered at)
-
-  self-settles : settle (state_of k) i (limited (Done (change_process (state_of k) i rows.marked) 0 [])) ≡ quiet (settled_by (state_of k) i KillsItself)
-  self-settles = rw (mark-within (state_of k) i ∙ within-state k here.sound here.up, self-there) refl
+      ∙ slot-put (state_of (answered k 0)).places i (Some (rows.marked (me_of y))) (slot-within (state_of (answered k 0)).places i (me_of y) (process-run (answered k 0) i y.process y.held y.run))
 
   -- it is answered, ends, and is marked
-  pub settles-killed : state_of (marked (ended (answered k 0) i (negsuc 0)) i) ≡ settled_by (state_of k) i KillsItself
-  settles-killed =
-      let zero' : slice_index (answered k 0).spaces.registers 0 ≡ 0 = get_or-set_other k.spaces.registers 10 0 0 0 (λ e. absurd (omega arith)) ∙ runs.zero in
+  pub settles-killed : slice_index k.spaces.registers 0 ≡ 0 → k.spaces.pc % 4 ≡ 0 → state_of (marked (ended (answered k 0) i (negsuc 0)) i) ≡ settled_by (state_of k) i KillsItself
+  settles-killed zero' aligned =
       sym (mark-state (ended (answered k 0) i (negsuc 0)) i)
-      ∙ ap (λ (s : State). change_process s i rows.marked) (sym (ends-run (answered k 0) i y.process y.held y.run y.sound zero' runs.aligned (negsuc 0) runs.up))
-      ∙ sym (mark-ends (state_of (answered k 0)) i me_answered (negsuc 0))
-      ∙ sym (ap (λ (s : State). end_process s i (rows.marked me_answered) (negsuc 0)) self-marked)
+      ∙ ap (λ (s : State). change_process s i rows.marked) (sym (ends-run (answered k 0) i y.process y.held y.run y.sound (get_or-set_other k.spaces.registers 10 0 0 0 (λ e. absurd (omega arith)) ∙ zero') aligned (negsuc 0) x.up))
+      ∙ sym (mark-ends (state_of (answered k 0)) i (me_of y) (negsuc 0))
+      ∙ sym (ap (λ (s : State). end_process s i (rows.marked (me_of y)) (negsuc 0)) self-marked)
       ∙ sym (ap (end_at (marked_by (state_of k) i) i (negsuc 0)) self-there)
 
   -- ---- the row
@@ -92,21 +81,20 @@ module _ {k : Kernel} {i : ℕ} (runs : Runs k i) where
       let some : nat_le 1 (suc n) ≡ true = le-leb _ _ (omega arith) in
       rw some (ap kills (place-state k (suc n)))
 
-  abbrev number : Option ℕ
-  number = natural (int_of (argument k 0))
-
-  kill-is : (o : Option ℕ) → place_called k.table.places number ≡ o → kill_row (state_of k) i (me k i here) ≡ kills o
+  kill-is : {o : Option ℕ} → place_called k.table.places (natural (int_of (argument k 0))) ≡ o → kill_row (state_of k) i (me x) ≡ kills o
   unfolding kill_row
-  kill-is o found = kill-named number ∙ ap kills found
+  kill-is found = kill-named (natural (int_of (argument k 0))) ∙ ap kills found
 
-  pub kills-none : place_called k.table.places number ≡ None → Acts k k i (Some Kill) Refuses
-  kills-none none = refused k i here (Some Kill) (ap limited (kill-is None none))
+  pub kills-none : place_called k.table.places (natural (int_of (argument k 0))) ≡ None → Acts k k i (Some Kill) Refuses
+  kills-none none = refused x (Some Kill) (ap limited (kill-is none))
 
-  pub kills-other : {j : ℕ} → place_called k.table.places number ≡ Some j → {new : Kernel} → new ≡ waking (marked k j) new.table.awake → IsKernel new → Acts k new i (Some Kill) (Answers 0)
-  kills-other {j} found made sound = makes k i here Kill 0 sound (ap (λ (x : Kernel). x.spaces.active) made ∙ runs.active) (ap (λ (x : Kernel). x.tree) made) (state-but (marked k j) made ∙ sym (mark-state k j)) (kill-is (Some j) found)
+  pub kills-other : {j : ℕ} → place_called k.table.places (natural (int_of (argument k 0))) ≡ Some j → {new : Kernel} → new ≡ waking (marked k j) new.table.awake → IsKernel new → Acts k new i (Some Kill) (Answers 0)
+  kills-other {j} found made sound = makes x Kill 0 sound (ap (λ (y : Kernel). y.spaces.active) made ∙ x.run.active) (ap (λ (y : Kernel). y.tree) made) (state-but (marked k j) made ∙ sym (mark-state k j)) (kill-is found)
 
-  pub kills-self : place_called k.table.places number ≡ Some i → Acts k k i (Some Kill) KillsItself
-  kills-self found = came k i here (Some Kill) KillsItself tt (ap (λ (o : Outcome). settle (state_of k) i (limited o)) (kill-is (Some i) found) ∙ self-settles)
+  pub kills-self : place_called k.table.places (natural (int_of (argument k 0))) ≡ Some i → Acts k k i (Some Kill) KillsItself
+  kills-self found =
+      let settled : settle (state_of k) i (limited (Done (change_process (state_of k) i rows.marked) 0 [])) ≡ quiet (settled_by (state_of k) i KillsItself) = rw (mark-within (state_of k) i ∙ within-state k x.sound x.up, self-there) refl in
+      came x (Some Kill) KillsItself tt (ap (λ (o : Outcome). settle (state_of k) i (limited o)) (kill-is found) ∙ settled)
 
 -- a pid that is not 0 is looked for
 pub named-is : (os : List (Option Process)) (n : ℕ) → n ≢ 0 → place_called os (Some n) ≡ place_where os (has_pid n)

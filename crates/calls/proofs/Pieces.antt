@@ -1,19 +1,18 @@
 -- Many steps, piece by piece.
-use Rattle.calls.proofs.Common.{inl, inr, true, ◌&&◌, is_none, ◌≡◌, ◌<◌, ◌≤◌, ◌+◌, ◌-◌, ◌++◌, ℕ, ℤ, zero, suc, false, List, [], ◌∷◌, replicate, Option, Some, None, Ok, Err, refl, ap}
-use Rattle.calls.proofs.Common.{subst, sym, ◌∙◌, arith, append-nil, cases_lt, replicate-append-replicate, Result, Halt, Halted, InitEnded, EventGives, IsServed, LeavesTree, Makes, IsBusy}
-use Rattle.calls.proofs.Common.{IsBusyFor, LeavesFiles, PieceGives, PieceGoes, StepsGive, StopsAt, Went, stepped, state-but, busy-state, idle-turn, Kernel, picked, state_of, waking}
-use Rattle.calls.proofs.Common.{IsKernel, Spaces, FileTree, After, quiet, Step, execute_at, next, step, take_turn, after_bytes, followed_by, run, State, process_at, running, turn, Console}
+use Rattle.calls.proofs.Common.{[], After, after_bytes, ap, append-nil, arith, busy-state, cases_lt, Console, Err, EventGives, execute_at, false, FileTree, followed_by, Halt, Halted, idle-turn, InitEnded, inl, inr, is_none, IsBusy}
+use Rattle.calls.proofs.Common.{IsBusyFor, IsKernel, IsServed, Kernel, LeavesFiles, LeavesTree, List, Makes, next, None, Ok, Option, picked, PieceGives, PieceGoes, process_at, quiet, refl, replicate, replicate-append-replicate, Result, run}
+use Rattle.calls.proofs.Common.{runner-of, running, Some, Spaces, State, state-but, state_of, Step, step, stepped, StepsGive, StopsAt, subst, suc, sym, take_turn, true, turn, waking, Went, zero, ℕ, ℤ, ◌&&◌, ◌++◌, ◌+◌, ◌-◌, ◌<◌, ◌∙◌, ◌∷◌}
+use Rattle.calls.proofs.Common.{◌≡◌, ◌≤◌}
 use Rattle.calls.specs.declared.halt.Halt.TheVariants.{Device}
-use Rattle.calls.proofs.Takes.{step-computes, turn-takes}
-use Rattle.calls.proofs.Prints.{Appends-none, Appends-trans, begins_more}
-use Rattle.calls.proofs.Runs.{run-append, run-one, then_begins, then_runs}
-use Rattle.calls.proofs.Served.{lost-after, same-served, served-after}
 use Rattle.calls.specs.Resuming.{taken}
-use Rattle.calls.proofs.Turned.{next-executes, next-turns}
 use Rattle.kernel.proofs.Steps.{advances-on}
 use Rattle.kernel.specs.Idle.{is_idle}
 use Rattle.spaces.proofs.Advancing.{advances-last, advances-same}
 use Rattle.spaces.specs.Instructions.{Advances}
+use Rattle.calls.proofs.Prints.{Appends-none, Appends-trans, begins_more}
+use Rattle.calls.proofs.Runs.{run-append, run-one, then_begins, then_runs}
+use Rattle.calls.proofs.Served.{lost-after, same-served, served-after}
+use Rattle.calls.proofs.Takes.{next-executes, next-turns, step-computes, turn-takes}
 
 -- ---- runs of steps
 
@@ -38,7 +37,7 @@ steps-begin s n count up within =
     rw whole (then_begins (replicate (count - n) Step) (run s (replicate n Step)) (run s (replicate n Step)).state.halted)
 
 -- where a step changes nothing, none does
-pub run-idle : (n : ℕ) (s : State) → s.halted ≡ None → next s Step ≡ quiet s → run s (replicate n Step) ≡ quiet s
+run-idle : (n : ℕ) (s : State) → s.halted ≡ None → next s Step ≡ quiet s → run s (replicate n Step) ≡ quiet s
 unfolding run
 run-idle zero s up same = refl
 run-idle (suc n) s up same =
@@ -102,7 +101,7 @@ went-more old mid new n before at after up went made served = record {
 
 -- ---- instructions
 
-pub run-advances : (n : ℕ) (k : Kernel) (i : ℕ) (new : Spaces) → IsKernel k → k.spaces.active ≡ Some i → k.halted ≡ None → Advances n k.spaces i new → stepped k n ≡ quiet (state_of (record k { spaces = new }))
+run-advances : (n : ℕ) (k : Kernel) (i : ℕ) (new : Spaces) → IsKernel k → k.spaces.active ≡ Some i → k.halted ≡ None → Advances n k.spaces i new → stepped k n ≡ quiet (state_of (record k { spaces = new }))
 unfolding run
 run-advances zero k i new is active up all = ap (λ (s : Spaces). quiet (state_of (record k { spaces = s }))) (sym (advances-same k.spaces i new all))
 run-advances (suc n) k i new is active up all =
@@ -116,12 +115,8 @@ run-advances (suc n) k i new is active up all =
     ∙ ap (λ (a : After). after_bytes a.bytes (run a.state (Step ∷ []))) first
     ∙ run-one Step (state_of mid) (next (state_of mid) Step).state.halted refl
     ∙ next-executes mid i on.sound on.active
-    ∙ step-computes on.sound on.active last.2.means
+    ∙ step-computes (runner-of on.sound on.active) last.2.means
     ∙ ap (λ (s : Spaces). quiet (state_of (record k { spaces = s }))) (sym last.2.leaves)
-
-pub went-advances : (n : ℕ) (k new : Kernel) (i : ℕ) (at : Option (List ℕ)) → IsKernel k → k.spaces.active ≡ Some i → k.halted ≡ None → k.tree.failed ≡ false → Advances n k.spaces i new.spaces → new ≡ record k { spaces = new.spaces } → Went k new n at at
-went-advances n k new i at is active up sound all same =
-    went-quiet k new n at up (same-served (ap (λ (x : Kernel). x.tree) same) sound) (run-advances n k i new.spaces is active up all ∙ ap (λ (x : Kernel). quiet (state_of x)) (sym same)) (ap (λ (x : Kernel). x.halted) same ∙ up)
 
 -- a process runs before each of them, and behind the last
 busy-at : (n : ℕ) (k : Kernel) (i : ℕ) (new : Spaces) → IsKernel k → k.spaces.active ≡ Some i → k.halted ≡ None → Advances n k.spaces i new → IsBusy (stepped k n).state
@@ -226,7 +221,7 @@ pub begun : (n : ℕ) (k mid : Kernel) (i : ℕ) (at : Option (List ℕ)) → Is
 begun n k mid i at is active up sound done =
     let on = advances-on n k i mid.spaces is active done.0 in
     record {
-      went = went-advances n k mid i at is active up sound done.0 done.1;
+      went = went-quiet k mid n at up (same-served (ap (λ (x : Kernel). x.tree) done.1) sound) (run-advances n k i mid.spaces is active up done.0 ∙ ap (λ (x : Kernel). quiet (state_of x)) (sym done.1)) (ap (λ (x : Kernel). x.halted) done.1 ∙ up);
       active = on.active;
       is = subst (λ (x : Kernel). next (state_of x) Step ≡ execute_at (state_of x) i (process_at (state_of x) i)) (sym done.1) (next-executes (record k { spaces = mid.spaces }) i on.sound on.active);
     }
@@ -244,11 +239,6 @@ last-goes k mid new n before after rising b (Err halt) up went is gives leaves =
   last = subst (λ (x : After). EventGives new x before after rising (Err halt)) (sym is) gives;
   leaves = leaves;
 }
-
--- what a piece came to
-pub came : {old new : Kernel} {most count : ℕ} {before after : Option (List ℕ)} {rising : Type 0} {r : Result (Unit {0}) Halt} → PieceGives old new most before after rising count r → (x : Result (Unit {0}) Halt) → r ≡ x
-    → PieceGoes old new count before after rising x
-came {old} {new} {most} {count} {before} {after} {rising} {r} piece x is = subst (λ (y : Result (Unit {0}) Halt). PieceGoes old new count before after rising y) is piece.goes
 
 -- a piece at which no failure of the console rises
 silent-goes : (old new : Kernel) (count : ℕ) (before after : Option (List ℕ)) (rising : Type 0) (r : Result (Unit {0}) Halt) → PieceGoes old new count before after ⊥ r → PieceGoes old new count before after rising r

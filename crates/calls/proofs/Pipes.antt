@@ -1,15 +1,15 @@
 -- pipe: the running process opens both ends of a new pipe.
-use Rattle.calls.proofs.Common.{◌≡◌, ℕ, ◌+◌, ◌<◌, Bool, true, false, List, [], ◌++◌, Option, Some, None, refl, ap, sym, subst, ◌∙◌, arith, count_by, is_none, option_map, slice_set, length-set, Acts, Runs}
-use Rattle.calls.proofs.Common.{Answers, Refuses, descriptors_in, Kernel, argument, descriptors_at, state_of, waking, IsKernel, IsPlaced, set-set, slot-put, slot-within, with_process, held-run, free-None}
-use Rattle.calls.proofs.Common.{free-opens, free-place, free-put, Counted, free_count, opens-opened, Process, Places, changed, SpaceView, frames_in, view_at, taken_frames, with_pipe, taken-placed}
-use Rattle.calls.proofs.Common.{is_within, page_frames, Pipe, pipe_end, pipe_row, with_both, free_slot, put, slot, can_write, le, ReadEnd, WriteEnd, limited, Done, State, match-active, match-place}
-use Rattle.calls.proofs.Common.{over-state, live, not-killed, runs-mode, moved-state, stands-set, within-run, within-space, AreFree, Ends, HasPiped, pipe_file, piped, wrote, state-waking, with_descriptor}
+use Rattle.calls.proofs.Common.{[], Acts, Answers, ap, AreFree, argument, arith, can_write, changed, count_by, Counted, descriptors_at, descriptors_in, Done, Ends, false, frames_in, free-None, free-opens, free-place, free-put, free_count}
+use Rattle.calls.proofs.Common.{free_slot, HasPiped, held-run, Here, is_none, is_within, IsKernel, IsPlaced, Kernel, le, length-set, limited, List, live, match-active, match-place, moved-state, None, not-killed, opens-opened, Option}
+use Rattle.calls.proofs.Common.{option_map, over-state, page_frames, Pipe, pipe_end, pipe_file, pipe_row, piped, Places, Process, put, ReadEnd, refl, Refuses, runs-mode, set-set, slice_set, slot, slot-put, slot-within, Some, SpaceView}
+use Rattle.calls.proofs.Common.{stands-set, State, state-waking, state_of, sym, taken-placed, taken_frames, true, view_at, waking, with_both, with_descriptor, with_pipe, with_process, within-run, within-space, WriteEnd, wrote, ℕ, ◌++◌, ◌+◌}
+use Rattle.calls.proofs.Common.{◌<◌, ◌∙◌, ◌≡◌}
 use Rattle.programs.proofs.Places.{length-write}
-use Rattle.calls.proofs.Acts.{Here, given-refused, makes, here-of, me, refused}
-use Rattle.files.specs.declared.file.End.TheVariants as end
 use Rattle.files.specs.Places.{opened, opens_of}
 use Rattle.spaces.specs.Spaces.{written}
 use Rattle.unixmodel.specs.OpenFiles.{OpenFile}
+use Rattle.calls.proofs.Acts.{can-here, given-refused, makes, me, refused}
+use Rattle.files.specs.declared.file.End.TheVariants as end
 
 -- ---- places
 
@@ -26,30 +26,27 @@ two-free xs x k m first second few =
 changed-one : (t : Places) (i : ℕ) (p : Process) (f : Process → Process) → slot t.places i ≡ Some p → changed t i f ≡ with_process t i (f p)
 changed-one t i p f at = ap (λ (o : Option Process). let u : Places = record t { places = slice_set t.places i (option_map f o) } in u) at
 
-changed-at : (t : Places) (i : ℕ) (p : Process) (f : Process → Process) → slot t.places i ≡ Some p → slot (changed t i f).places i ≡ Some (f p)
-changed-at t i p f at = ap (λ (u : Places). slot u.places i) (changed-one t i p f at) ∙ slot-put t.places i (Some (f p)) (slot-within t.places i p at)
-
 -- and changed again
 changed-twice : (t : Places) (i : ℕ) (p : Process) (f g : Process → Process) → slot t.places i ≡ Some p → changed (changed t i f) i g ≡ with_process t i (g (f p))
 changed-twice t i p f g at =
-    changed-one (changed t i f) i (f p) g (changed-at t i p f at)
-    ∙ ap (λ (u : Places). with_process u i (g (f p))) (changed-one t i p f at)
+    ap (λ (u : Places). changed u i g) (changed-one t i p f at)
+    ∙ changed-one (with_process t i (f p)) i (f p) g (slot-put t.places i (Some (f p)) (slot-within t.places i p at))
     ∙ ap (λ (os : List (Option Process)). let u : Places = record t { places = os } in u) (set-set t.places i (Some (f p)) (Some (g (f p))))
 
 -- ---- the kernel with the pipe
 
-module _ (k : Kernel) (i : ℕ) (y : Here k i) (a : ℕ) (x : Ends) where
+module _ {k : Kernel} {i : ℕ} (y : Here k i) (a : ℕ) (x : Ends) where
   abbrev p : Process
   p = y.process
-
-  abbrev is : IsKernel k
-  is = y.sound
 
   abbrev q : Process
   q = record p { descriptors = put (put p.descriptors x.read_fd x.reader) x.write_fd x.writer }
 
+  abbrev bytes : List ℕ
+  bytes = le 4 x.read_fd ++ le 4 x.write_fd
+
   abbrev h : SpaceView
-  h = written y.held a (le 4 x.read_fd ++ le 4 x.write_fd)
+  h = written y.held a bytes
 
   abbrev first : List (Option Counted)
   first = opened k.files x.reader (pipe_file x.pipe end.Read)
@@ -57,97 +54,81 @@ module _ (k : Kernel) (i : ℕ) (y : Here k i) (a : ℕ) (x : Ends) where
   abbrev both : List (Option Counted)
   both = opened first x.writer (pipe_file x.pipe end.Write)
 
-  abbrev pipes : List (Option (List ℕ))
-  pipes = put k.spaces.pipes x.pipe []
-
-  opens-first : opens_of first ≡ put (opens_of k.files) x.reader (pipe_end x.pipe ReadEnd)
-  opens-first = opens-opened k.files x.reader (pipe_file x.pipe end.Read)
-
-  opens-both : opens_of both ≡ put (put (opens_of k.files) x.reader (pipe_end x.pipe ReadEnd)) x.writer (pipe_end x.pipe WriteEnd)
-  opens-both = opens-opened first x.writer (pipe_file x.pipe end.Write) ∙ ap (λ (os : List (Option OpenFile)). put os x.writer (pipe_end x.pipe WriteEnd)) opens-first
+  abbrev with_ends : List (Option OpenFile)
+  with_ends = put (put (opens_of k.files) x.reader (pipe_end x.pipe ReadEnd)) x.writer (pipe_end x.pipe WriteEnd)
 
   placed : IsPlaced q h
-  placed = let l = live k i p y.held y.run is in let placed = y.run.placed in record {
+  placed = let l = live k i p y.held y.run y.sound in let placed = y.run.placed in record {
     zero = placed.zero;
     aligned = placed.aligned;
-    mode = runs-mode q h.memory p.mode y.run.runs (record { descriptors = length-set (put p.descriptors x.read_fd x.reader) x.write_fd (Some x.writer) ∙ length-set p.descriptors x.read_fd (Some x.reader) ∙ l.descriptors }) (not-killed k i p y.held y.run is);
+    mode = runs-mode q h.memory p.mode y.run.runs (record { descriptors = length-set (put p.descriptors x.read_fd x.reader) x.write_fd (Some x.writer) ∙ length-set p.descriptors x.read_fd (Some x.reader) ∙ l.descriptors }) (not-killed k i p y.held y.run y.sound);
   }
 
   abbrev to : Kernel
-  to = record k { table = with_process k.table i q; spaces = record k.spaces { places = slice_set k.spaces.places i (Some h); pipes = pipes }; files = both }
+  to = record k { table = with_process k.table i q; spaces = record k.spaces { places = slice_set k.spaces.places i (Some h); pipes = put k.spaces.pipes x.pipe [] }; files = both }
 
-  piped-is : wrote (piped k i x) i a (le 4 x.read_fd ++ le 4 x.write_fd) ≡ to
-  piped-is = rw (changed-twice k.table i p (with_descriptor x.read_fd (Some x.reader)) (with_descriptor x.write_fd (Some x.writer)) y.run.process, held-run k i p y.held y.run is) refl
+  piped-is : wrote (piped k i x) i a bytes ≡ to
+  piped-is = rw (changed-twice k.table i p (with_descriptor x.read_fd (Some x.reader)) (with_descriptor x.write_fd (Some x.writer)) y.run.process, held-run k i p y.held y.run y.sound) refl
 
   -- a write takes no frame, and the pipe one
   to-frames : taken_frames to.spaces ≡ taken_frames (with_pipe k.spaces x.pipe (Some []))
   to-frames =
       let s = with_pipe k.spaces x.pipe (Some []) in
       let e : taken_frames to.spaces + frames_in (slot k.spaces.places i) ≡ taken_frames s + frames_in (Some h) = taken-placed s i (Some h) (slot-within k.spaces.places i y.held y.run.space) in
-      let f : frames_in (slot k.spaces.places i) ≡ frames_in (Some h) = ap frames_in y.run.space ∙ sym (ap (λ n. 4 + page_frames n) (length-write y.held.memory a (le 4 x.read_fd ++ le 4 x.write_fd))) in
+      let f : frames_in (slot k.spaces.places i) ≡ frames_in (Some h) = ap frames_in y.run.space ∙ sym (ap (λ n. 4 + page_frames n) (length-write y.held.memory a bytes)) in
       omega (arith, e, f)
 
   -- that is what pipe makes of the state
-  to-state : state_of to ≡ record (state_of k) {
-    places = put (state_of k).places i (with_both (me k i y) a x.read_fd x.reader x.write_fd x.writer);
-    opens = put (put (opens_of k.files) x.reader (pipe_end x.pipe ReadEnd)) x.writer (pipe_end x.pipe WriteEnd);
-    pipes = pipes;
-  }
+  to-state : state_of to ≡ record (state_of k) { places = put (state_of k).places i (with_both (me y) a x.read_fd x.reader x.write_fd x.writer); opens = with_ends; pipes = put k.spaces.pipes x.pipe [] }
   to-state =
-      ap (λ (s : State). record s { opens = opens_of both; pipes = pipes }) (moved-state k i p y.held y.run is q h k.spaces.registers k.spaces.pc placed y.run.runs)
-      ∙ ap (λ (os : List (Option OpenFile)). record (state_of k) { places = put (state_of k).places i (with_both (me k i y) a x.read_fd x.reader x.write_fd x.writer); opens = os; pipes = pipes }) opens-both
+      let opens : opens_of both ≡ with_ends =
+      opens-opened first x.writer (pipe_file x.pipe end.Write) ∙ ap (λ (os : List (Option OpenFile)). put os x.writer (pipe_end x.pipe WriteEnd)) (opens-opened k.files x.reader (pipe_file x.pipe end.Read)) in
+      ap (λ (s : State). record s { opens = opens_of both; pipes = put k.spaces.pipes x.pipe [] }) (moved-state k i p y.held y.run y.sound q h k.spaces.registers k.spaces.pc placed y.run.runs)
+      ∙ ap (λ (os : List (Option OpenFile)). record (state_of k) { places = put (state_of k).places i (with_both (me y) a x.read_fd x.reader x.write_fd x.writer); opens = os; pipes = put k.spaces.pipes x.pipe [] }) opens
 
   to-full : k.spaces.frames < taken_frames (with_pipe k.spaces x.pipe (Some [])) → is_within (state_of to) ≡ false
   to-full over =
-      let stands = stands-set k.table.places k.spaces.places i (Some q) (Some h) (within-run k i p y.held y.run) (within-space k i p y.held y.run is) placed is.stands in
+      let stands = stands-set k.table.places k.spaces.places i (Some q) (Some h) (within-run k i p y.held y.run) (within-space k i p y.held y.run y.sound) placed y.sound.stands in
       over-state to (match-active to to.spaces.active (λ j. match-place (slot to.table.places j) (slot to.spaces.places j) (stands j))) (omega (arith, to-frames, over))
 
 -- ---- the row
 
-module _ {k : Kernel} {i : ℕ} (runs : Runs k i) where
-  abbrev here : Here k i
-  here = here-of k i runs
+module _ {k : Kernel} {i : ℕ} (y : Here k i) where
+  names-here : descriptors_at k i ≡ y.process.descriptors
+  names-here = ap descriptors_in y.run.process
 
-  names-here : descriptors_at k i ≡ here.process.descriptors
-  names-here = ap descriptors_in here.run.process
-
-  abbrev a : ℕ
-  a = argument k 0
-
-  can-here : (b : Bool) → b ≡ can_write (view_at k.spaces i).memory a 8 → can_write here.held.memory a 8 ≡ b
-  can-here b can = ap (λ (y : SpaceView). can_write y.memory a 8) (sym (held-run k i here.process here.held here.run here.sound)) ∙ sym can
-
-  pub pipe-unwritable : false ≡ can_write (view_at k.spaces i).memory a 8 → Acts k k i (Some Pipe) Refuses
+  pub pipe-unwritable : false ≡ can_write (view_at k.spaces i).memory (argument k 0) 8 → Acts k k i (Some Pipe) Refuses
   unfolding pipe_row
-  pipe-unwritable cannot = refused k i here (Some Pipe) (rw (can-here false cannot) refl)
+  pipe-unwritable cannot = refused y (Some Pipe) (rw (can-here y (argument k 0) 8 cannot) refl)
 
-  module _ (can : true ≡ can_write (view_at k.spaces i).memory a 8) where
+  module _ (can : true ≡ can_write (view_at k.spaces i).memory (argument k 0) 8) where
     -- both ends are open, and their descriptors are written
-    pub pipe-opens : {q r w : ℕ} {mid : Kernel} → HasPiped k mid i q r w → (new : Kernel) → IsKernel new → new ≡ wrote mid i a (le 4 r ++ le 4 w) → Acts k new i (Some Pipe) (Answers 0)
+    pub pipe-opens : {q r w : ℕ} {mid : Kernel} → HasPiped k mid i q r w → {new : Kernel} → IsKernel new → new ≡ wrote mid i (argument k 0) (le 4 r ++ le 4 w) → Acts k new i (Some Pipe) (Answers 0)
     unfolding pipe_row
-    pipe-opens {q} {r} {w} {mid} has new sound made =
+    pipe-opens {q} {r} {w} {mid} has {new} sound made =
         let x = has.ends in
         let free = has.free in
-        let one : free_slot here.process.descriptors ≡ Some x.read_fd = rw (← names-here) free.read_fd in
-        let two : free_slot (put here.process.descriptors x.read_fd x.reader) ≡ Some x.write_fd = rw (← names-here) free.write_fd in
+        let a = argument k 0 in
+        let one : free_slot y.process.descriptors ≡ Some x.read_fd = rw (← names-here) free.read_fd in
+        let two : free_slot (put y.process.descriptors x.read_fd x.reader) ≡ Some x.write_fd = rw (← names-here) free.write_fd in
         let bytes : le 4 r ++ le 4 w ≡ le 4 x.read_fd ++ le 4 x.write_fd = ap (λ (n : ℕ). le 4 n ++ le 4 w) (sym has.is.1) ∙ ap (λ (n : ℕ). le 4 x.read_fd ++ le 4 n) (sym has.is.2) in
-        let last : new ≡ waking (wrote (piped k i x) i a (le 4 x.read_fd ++ le 4 x.write_fd)) mid.table.awake = made ∙ ap (wrote mid i a) bytes ∙ ap (λ (y : Kernel). wrote y i a (le 4 x.read_fd ++ le 4 x.write_fd)) has.same in
-        makes k i here Pipe 0 sound (ap (λ (y : Kernel). y.spaces.active) last ∙ runs.active) (ap (λ (y : Kernel). y.tree) last)
-        (ap state_of last ∙ state-waking (wrote (piped k i x) i a (le 4 x.read_fd ++ le 4 x.write_fd)) mid.table.awake ∙ ap state_of (piped-is k i here a x) ∙ to-state k i here a x)
-        (rw (can-here true can, free.pipe, free.reader, free.writer, one, two) refl)
+        let last : new ≡ waking (wrote (piped k i x) i a (le 4 x.read_fd ++ le 4 x.write_fd)) mid.table.awake = made ∙ ap (wrote mid i a) bytes ∙ ap (λ (z : Kernel). wrote z i a (le 4 x.read_fd ++ le 4 x.write_fd)) has.same in
+        makes y Pipe 0 sound (ap (λ (z : Kernel). z.spaces.active) last ∙ y.run.active) (ap (λ (z : Kernel). z.tree) last)
+        (ap state_of last ∙ state-waking (wrote (piped k i x) i a (le 4 x.read_fd ++ le 4 x.write_fd)) mid.table.awake ∙ ap state_of (piped-is y a x) ∙ to-state y a x)
+        (rw (can-here y a 8 can, free.pipe, free.reader, free.writer, one, two) refl)
 
     -- and those may be
-    pub pipe-can : {q r w : ℕ} {mid : Kernel} → HasPiped k mid i q r w → (mid.spaces.active ≡ Some i) × (can_write (view_at mid.spaces i).memory a 8 ≡ true)
-    pipe-can {mid = mid} has = subst (λ (y : Kernel). (y.spaces.active ≡ Some i) × (can_write (view_at y.spaces i).memory a 8 ≡ true)) (sym has.same) (runs.active, sym can)
+    pub pipe-can : {q r w : ℕ} {mid : Kernel} → HasPiped k mid i q r w → (mid.spaces.active ≡ Some i) × (can_write (view_at mid.spaces i).memory (argument k 0) 8 ≡ true)
+    pipe-can has = rw has.same (y.run.active, sym can)
 
     -- some of the places isn't there, or the frames don't suffice
     pipe-lacks : ((x : Ends) → AreFree k i x → k.spaces.frames < taken_frames (with_pipe k.spaces x.pipe (Some []))) → Acts k k i (Some Pipe) Refuses
     unfolding pipe_row
-    pipe-lacks over = refused k i here (Some Pipe) (rw (can-here true can) (
+    pipe-lacks over = refused y (Some Pipe) (rw (can-here y (argument k 0) 8 can) (
         given-refused _ _ (λ pipe e1. given-refused _ _ (λ reader e2. given-refused _ _ (λ writer e3. given-refused _ _ (λ read_fd e4. given-refused _ _ (λ write_fd e5.
         let x : Ends = record { pipe = pipe; reader = reader; writer = writer; read_fd = read_fd; write_fd = write_fd } in
         let free : AreFree k i x = record { pipe = e1; reader = e2; writer = e3; read_fd = rw names-here e4; write_fd = rw names-here e5 } in
-        ap (λ (s : State). limited (Done s 0 [])) (sym (to-state k i here a x)) ∙ rw (to-full k i here a x (over x free)) refl)))))))
+        ap (λ (s : State). limited (Done s 0 [])) (sym (to-state y (argument k 0) x)) ∙ rw (to-full y (argument k 0) x (over x free)) refl)))))))
 
     pub lacks-descriptors : {p : Process} → slot k.table.places i ≡ Some p → count_by is_none p.descriptors < 2 → Acts k k i (Some Pipe) Refuses
     lacks-descriptors {p = p} there few = pipe-lacks (λ x free. absurd (

@@ -1,17 +1,22 @@
--- A read from the console goes on.
-use Rattle.calls.proofs.Common.{◌≡◌, ℕ, zero, suc, ◌+◌, ◌-◌, ◌<◌, ◌≤◌, ◌^◌, Bool, true, false, nat_eq, nat_le, nat_lt, List, [], ◌∷◌, length, take, Some, refl, ap, subst, sym, ◌∙◌, arith}
-use Rattle.calls.proofs.Common.{if◌then◌else◌, wrote, false≢true, leb-true, length-take-le, GoesOn, Answers, Blocks, Kernel, descriptors_at, state_of, typed, IsKernel, IsPending, IsForBytes}
-use Rattle.calls.proofs.Common.{IsFresh, IsReading, is_on_pipe, OnConsole, Transfers, waits-reading, slot-within, SpaceView, view_at, held-same, Taken, take_line, Pending, Store, read_on}
-use Rattle.calls.proofs.Common.{read_taken, can_write, reach, write_bytes, low, pending_arg, Done, Waits, State, put_process, IsSized, reach-written, rest-writes, reach-page, CanWait, wrote-state}
-use Rattle.calls.proofs.Acts.{Here, goes-done, goes-waits, going, me}
-use Rattle.calls.proofs.Transfers.{console-here, file, file-named, going-is, here}
+-- A read from the console or a pipe goes on.
+use Rattle.calls.proofs.Common.{[], Answers, answers, ap, arith, Blocks, Bool, bytes_in, can_write, CanWait, descriptors_at, Done, drew, drew-state, drop, false, false≢true, GoesOn, has_end, held-same, if◌then◌else◌, is_empty, is_on_pipe}
+use Rattle.calls.proofs.Common.{IsForBytes, IsFresh, IsKernel, IsPending, IsReading, IsSized, Kernel, leb-true, length, length-take-le, List, low, min, nat_eq, nat_le, nat_lt, not, Pending, pending_arg, put, put_process, reach}
+use Rattle.calls.proofs.Common.{reach-written, read_on, read_pipe, read_taken, refl, rest-writes, slot-within, Some, SpaceView, State, state-but, state_of, Store, subst, suc, sym, take, take_line, Taken, Transfers, true, typed, view_at}
+use Rattle.calls.proofs.Common.{Waits, waits-reading, waking, write_bytes, WriteEnd, wrote, wrote-state, zero, ℕ, ◌+◌, ◌-◌, ◌<◌, ◌==◌, ◌^◌, ◌∙◌, ◌∷◌, ◌≡◌, ◌≤◌}
+use Rattle.std.proofs.lemmas.Bool.Decides.{nat_tests}
+use Rattle.files.specs.declared.file.End.{End}
+use Rattle.files.specs.declared.file.OpenFile.{OpenFile}
+use Rattle.files.specs.Places.{opens_of}
+use Rattle.spaces.specs.Spaces.{written}
+use Rattle.calls.proofs.Acts.{goes-done, goes-waits, going, me}
+use Rattle.calls.proofs.Prints.{buffer-fits}
+use Rattle.calls.proofs.Transfers.{console-here, file, file-named, going-is, here, named-file, pipe-here}
 use Rattle.files.specs.declared.file.End.TheVariants as end
 use Rattle.files.specs.declared.file.Target.TheVariants as target
-use Rattle.spaces.specs.Spaces.{written}
 use Rattle.unixmodel.specs.FileCalls as rows
 use Rattle.unixmodel.specs.Process as unix
 
--- ---- what a read takes
+-- ---- what a read of the console takes
 
 -- no more than its count, and less than that if it isn't over
 abbrev FitsIn : ℕ → Taken → Type 0
@@ -33,9 +38,6 @@ line-fits has (suc n) (b ∷ bs) = step-fits (nat_eq b 4) (nat_eq b 10) has b n 
 abbrev left_with : State → ℕ → unix.Process → Pending → Taken → State
 left_with s i p w t = put_process (record s { console = record s.console { committed = t.rest } }) i (rows.received p w t.bytes)
 
-taken-by : (s : State) (i : ℕ) (p : unix.Process) (w : Pending) (t : Taken) (b : Bool) → t.over ≡ b → read_taken s i p w t ≡ (if b then Done (left_with s i p w t) (w.done + length t.bytes) [] else Waits (left_with s i p w t) (record w { done = w.done + length t.bytes }))
-taken-by s i p w t b over = ap (λ (b : Bool). if b then Done (left_with s i p w t) (w.done + length t.bytes) [] else Waits (left_with s i p w t) (record w { done = w.done + length t.bytes })) over
-
 -- ---- what console and spaces answer
 
 -- what a read takes of the console
@@ -53,86 +55,66 @@ pub took-of : {k k1 : Kernel} {i : ℕ} {w : Pending} {n : ℕ} {buffer : List �
     → take_line (nat_lt 0 w.done) (wide - w.done) k.console.committed ≡ record { bytes = take n buffer; rest = k1.console.committed; over = over } → k1 ≡ typed k (record k.console { committed = k1.console.committed }) → Took k k1 i w n buffer over
 took-of {k} {w = w} sized few long all took rest = record { sized = sized; long = omega (arith, few, long); took = ap (λ (m : ℕ). take_line (nat_lt 0 w.done) (m - w.done) k.console.committed) (sym all) ∙ took; rest = rest }
 
--- ---- a read goes on
+-- ---- from the console
 
-module _ (k : Kernel) (i : ℕ) (w : Pending) (on : OnConsole k i end.Read w) where
-  abbrev g : Transfers k i end.Read (target.Console on.0) w
-  g = on.1
-
-  abbrev x : Here k i
-  x = here g
-
-  can : IsReading (descriptors_at k i) (view_at k.spaces i).memory w
-  can = g.can
-
-  for : IsForBytes k.files (descriptors_at k i) w
-  for = let f = file g in λ read. rw (f.named, f.opened, f.on) refl
-
-  -- a read of the console may have taken some
-  fresh : (further : Pending) → pending_arg further 0 ≡ pending_arg w 0 → IsFresh k.files (descriptors_at k i) further
-  fresh further same = let f = file g in λ read. rw (same, f.named, f.opened) (λ on. absurd (false≢true (ap is_on_pipe (sym f.on) ∙ on)))
-
+module _ {k : Kernel} {i n : ℕ} {w : Pending} (g : Transfers k i end.Read (target.Console n) w) where
   -- the bytes go to addresses of the memory
   pub reads-fit : IsSized (view_at k.spaces i).memory → length (view_at k.spaces i).memory ≤ 32768 → pending_arg w 1 + w.done < 2 ^ 64
-  reads-fit sized few =
-      let mem = (view_at k.spaces i).memory in
-      let whole : low (pending_arg w 2) ≤ length (reach Store mem (pending_arg w 1)) = leb-true (low (pending_arg w 2)) (length (reach Store mem (pending_arg w 1))) can.buffer in
-      let left = can.left in
-      let page = (reach-page Store mem (pending_arg w 1) w.done sized (omega (arith, whole, left))).0 in
-      omega (arith, page, few)
+  reads-fit sized few = buffer-fits Store (view_at k.spaces i).memory (pending_arg w 1) (low (pending_arg w 2)) w.done sized (leb-true (low (pending_arg w 2)) (length (reach Store (view_at k.spaces i).memory (pending_arg w 1))) g.can.buffer) g.can.left few
 
-  row : going k i x w ≡ read_taken (state_of k) i (me k i x) w (line_for k w)
+  line-row : going (here g) w ≡ read_taken (state_of k) i (me (here g)) w (line_for k w)
   unfolding read_on
-  row = let f = file-named g in going-is g ∙ rw (f.named, f.opened, (file g).on, (console-here g).here) refl
+  line-row = let f = file-named g in going-is g ∙ rw (f.named, f.opened, (file g).on, (console-here g).3) refl
 
-  module _ {k1 : Kernel} {n : ℕ} {buffer : List ℕ} {over : Bool} (f : Took k k1 i w n buffer over) where
+  module _ {k1 : Kernel} {c : ℕ} {buffer : List ℕ} {over : Bool} (f : Took k k1 i w c buffer over) where
     abbrev address : ℕ
     address = pending_arg w 1 + w.done
 
-    abbrev bytes : List ℕ
-    bytes = take n buffer
+    abbrev line : List ℕ
+    line = take c buffer
 
     abbrev t : Taken
-    t = record { bytes = bytes; rest = k1.console.committed; over = over }
+    t = record { bytes = line; rest = k1.console.committed; over = over }
 
-    count : length bytes ≡ n
-    count = length-take-le n buffer f.long
+    count : length line ≡ c
+    count = length-take-le c buffer f.long
 
-    same : length (line_for k w).bytes ≡ length bytes
+    same : length (line_for k w).bytes ≡ length line
     same = ap (λ (t : Taken). length t.bytes) f.took
 
-    pub reads-write : can_write (view_at k1.spaces i).memory address (length bytes) ≡ true
+    pub reads-write : can_write (view_at k1.spaces i).memory address (length line) ≡ true
     reads-write =
         let most : length (line_for k w).bytes ≤ low (pending_arg w 2) - w.done = (line-fits (nat_lt 0 w.done) (low (pending_arg w 2) - w.done) k.console.committed).0 in
-        let left = can.left in
+        let left = g.can.left in
         let all = same in
-        ap (λ (y : Kernel). can_write (view_at y.spaces i).memory address (length bytes)) f.rest
-        ∙ rest-writes (view_at k.spaces i).memory (pending_arg w 1) w.done (length bytes) (low (pending_arg w 2)) f.sized can.buffer (omega (arith, most, all, left))
+        ap (λ (y : Kernel). can_write (view_at y.spaces i).memory address (length line)) f.rest
+        ∙ rest-writes (view_at k.spaces i).memory (pending_arg w 1) w.done (length line) (low (pending_arg w 2)) f.sized g.can.buffer (omega (arith, most, all, left))
 
     -- what was typed goes, and the bytes go to the process
     abbrev made : Kernel
-    made = wrote (typed k (record k.console { committed = k1.console.committed })) i address bytes
+    made = wrote (typed k (record k.console { committed = k1.console.committed })) i address line
 
-    left-is : left_with (state_of k) i (me k i x) w t ≡ state_of made
-    left-is = ap (λ (s : State). record s { console = record k.console { committed = k1.console.committed } }) (sym (wrote-state x.run x.sound address bytes))
-
-    module _ {new : Kernel} (is : new ≡ wrote k1 i address bytes) (sound : IsKernel new) where
+    module _ {new : Kernel} (is : new ≡ wrote k1 i address line) (sound : IsKernel new) where
       made-is : new ≡ made
-      made-is = is ∙ ap (λ (y : Kernel). wrote y i address bytes) f.rest
+      made-is = is ∙ ap (λ (y : Kernel). wrote y i address line) f.rest
 
       active : new.spaces.active ≡ Some i
-      active = ap (λ (y : Kernel). y.spaces.active) made-is ∙ x.run.active
+      active = ap (λ (y : Kernel). y.spaces.active) made-is ∙ g.runs.active
 
-      state : state_of new ≡ left_with (state_of k) i (me k i x) w t
-      state = ap state_of made-is ∙ sym left-is
+      state : state_of new ≡ left_with (state_of k) i (me (here g)) w t
+      state = ap state_of made-is ∙ ap (λ (s : State). record s { console = record k.console { committed = k1.console.committed } }) (wrote-state (here g).run g.runs.sound address line)
 
-      pub reads-over : over ≡ true → GoesOn k new i w (Answers (w.done + n))
-      reads-over passed =
-          goes-done k i x w (w.done + n) sound active (ap (λ (y : Kernel). y.tree) made-is) state
-          (row ∙ ap (read_taken (state_of k) i (me k i x) w) f.took ∙ taken-by (state_of k) i (me k i x) w t true passed ∙ ap (λ (m : ℕ). Done (left_with (state_of k) i (me k i x) w t) (w.done + m) []) count)
+      line-taken : (b : Bool) → over ≡ b → going (here g) w ≡ (if b then Done (left_with (state_of k) i (me (here g)) w t) (w.done + c) [] else Waits (left_with (state_of k) i (me (here g)) w t) (record w { done = w.done + c }))
+      line-taken b is =
+          line-row ∙ ap (read_taken (state_of k) i (me (here g)) w) f.took
+          ∙ ap (λ (b : Bool). if b then Done (left_with (state_of k) i (me (here g)) w t) (w.done + length line) [] else Waits (left_with (state_of k) i (me (here g)) w t) (record w { done = w.done + length line })) is
+          ∙ ap (λ (m : ℕ). if b then Done (left_with (state_of k) i (me (here g)) w t) (w.done + m) [] else Waits (left_with (state_of k) i (me (here g)) w t) (record w { done = w.done + m })) count
+
+      pub reads-over : over ≡ true → GoesOn k new i w (Answers (w.done + c))
+      reads-over passed = goes-done (here g) w (w.done + c) sound active (ap (λ (y : Kernel). y.tree) made-is) state (line-taken true passed)
 
       abbrev further : Pending
-      further = record w { done = w.done + n }
+      further = record w { done = w.done + c }
 
       -- a read that is not over goes on in its buffer
       reading : over ≡ false → IsReading (descriptors_at k i) (view_at made.spaces i).memory further
@@ -141,15 +123,75 @@ module _ (k : Kernel) (i : ℕ) (w : Pending) (on : OnConsole k i end.Read w) wh
           let less : length (line_for k w).bytes < low (pending_arg w 2) - w.done = (line-fits (nat_lt 0 w.done) (low (pending_arg w 2) - w.done) k.console.committed).1 (ap (λ (t : Taken). t.over) f.took ∙ more) in
           let all = same in
           let some = count in
-          let on : IsReading (descriptors_at k i) (write_bytes mem address bytes) further = record {
-            named = can.named;
-            buffer = ap (nat_le (low (pending_arg w 2))) (reach-written Store mem (pending_arg w 1) address bytes f.sized) ∙ can.buffer;
+          let on : IsReading (descriptors_at k i) (write_bytes mem address line) further = record {
+            named = g.can.named;
+            buffer = ap (nat_le (low (pending_arg w 2))) (reach-written Store mem (pending_arg w 1) address line f.sized) ∙ g.can.buffer;
             left = omega (arith, less, all, some);
           } in
-          subst (λ (h : SpaceView). IsReading (descriptors_at k i) h.memory further) (sym (held-same k.spaces i (written (view_at k.spaces i) address bytes) (slot-within k.spaces.places i x.held x.run.space))) on
+          subst (λ (h : SpaceView). IsReading (descriptors_at k i) h.memory further) (sym (held-same k.spaces i (written (view_at k.spaces i) address line) (slot-within k.spaces.places i (here g).held (here g).run.space))) on
 
       pub reads-on : over ≡ false → GoesOn k new i w (Blocks further)
       reads-on more =
-          let may : CanWait made i further = (subst (IsPending (descriptors_at k i) (view_at made.spaces i).memory further) (sym g.number) (reading more), waits-reading k.files (descriptors_at k i) further g.number for (fresh further refl)) in
-          goes-waits k i x w further sound active (ap (λ (y : Kernel). y.tree) made-is) (subst (λ (y : Kernel). CanWait y i further) (sym made-is) may) state
-          (row ∙ ap (read_taken (state_of k) i (me k i x) w) f.took ∙ taken-by (state_of k) i (me k i x) w t false more ∙ ap (λ (m : ℕ). Waits (left_with (state_of k) i (me k i x) w t) (record w { done = w.done + m })) count)
+          let f = file g in
+          let for : IsForBytes k.files (descriptors_at k i) further = λ read. rw (f.named, f.opened, f.on) refl in
+          -- a read of the console may have taken some
+          let fresh : IsFresh k.files (descriptors_at k i) further = λ read. rw (f.named, f.opened) (λ on. absurd (false≢true (ap is_on_pipe (sym f.on) ∙ on))) in
+          let may : CanWait made i further = (subst (IsPending (descriptors_at k i) (view_at made.spaces i).memory further) (sym g.number) (reading more), waits-reading k.files (descriptors_at k i) further g.number for fresh) in
+          goes-waits (here g) w further sound active (ap (λ (y : Kernel). y.tree) made-is) (subst (λ (y : Kernel). CanWait y i further) (sym made-is) may) state (line-taken false more)
+
+-- ---- from a pipe
+
+some-bytes : (n : ℕ) → not (n == 0) ≡ true → 0 < n
+some-bytes n some = grind (arith, nat_tests)
+
+no-bytes : (n : ℕ) → not (n == 0) ≡ false → n ≡ 0
+no-bytes n none = grind (arith, nat_tests)
+
+module _ {k : Kernel} {i : ℕ} {w : Pending} {q : ℕ} {d : End} (g : Transfers k i end.Read (target.Pipe q d) w) where
+  abbrev bytes : List ℕ
+  bytes = bytes_in k.spaces q
+
+  -- it has taken nothing yet
+  start : w.done ≡ 0
+  start = named-file g (λ (f : OpenFile). is_on_pipe f.target ≡ true → w.done ≡ 0) (g.fresh g.number) (ap is_on_pipe (file g).on)
+
+  pipe-row : going (here g) w ≡ read_pipe (state_of k) i (me (here g)) w q bytes
+  unfolding read_on
+  pipe-row = let f = file-named g in going-is g ∙ rw (f.named, f.opened, (file g).on, pipe-here g) refl
+
+  -- its bytes go to the process
+  abbrev drawn : Kernel
+  drawn = drew k i q (pending_arg w 1) (low (pending_arg w 2))
+
+  row-taken : (all : List ℕ) → bytes ≡ all → 0 < length all → read_pipe (state_of k) i (me (here g)) w q all ≡ Done (state_of drawn) (min (low (pending_arg w 2)) (length all)) []
+  row-taken [] same some = absurd (omega (arith, some))
+  row-taken (b ∷ bs) same some =
+      let x = here g in
+      let count = low (pending_arg w 2) in
+      ap (λ (n : ℕ). answers (put_process (record (state_of k) { pipes = put k.spaces.pipes q (drop count (b ∷ bs)) }) i (record (me x) { memory = write_bytes x.held.memory n (take count (b ∷ bs)) })) (min count (length (b ∷ bs)))) (let s = start in omega (arith, s))
+      ∙ ap (λ (all : List ℕ). answers (put_process (record (state_of k) { pipes = put k.spaces.pipes q (drop count all) }) i (record (me x) { memory = write_bytes x.held.memory (pending_arg w 1) (take count all) })) (min count (length (b ∷ bs)))) (sym same)
+      ∙ ap (λ (s : State). Done s (min count (length (b ∷ bs))) []) (sym (drew-state x.run x.sound q (pending_arg w 1) count))
+
+  pub reads-taken : {b : Bool} → b ≡ not (is_empty bytes) → b ≡ true → {m : ℕ} → m ≡ low (pending_arg w 2) → {new : Kernel} {n : ℕ} → new ≡ waking (drew k i q (pending_arg w 1) m) new.table.awake → IsKernel new → n ≡ min m (length bytes) → GoesOn k new i w (Answers n)
+  reads-taken told full wide {new} made sound counted =
+      let made' : new ≡ waking drawn new.table.awake = made ∙ ap (λ m. waking (drew k i q (pending_arg w 1) m) new.table.awake) wide in
+      rw (counted, wide) (goes-done (here g) w (min (low (pending_arg w 2)) (length bytes)) sound (ap (λ (y : Kernel). y.spaces.active) made' ∙ g.runs.active) (ap (λ (y : Kernel). y.tree) made') (state-but drawn made')
+      (pipe-row ∙ row-taken bytes refl (some-bytes (length bytes) (sym told ∙ full))))
+
+  -- it is empty
+  row-empty : (all : List ℕ) → length all ≡ 0 → (b : Bool) → has_end (opens_of k.files) q WriteEnd ≡ b → read_pipe (state_of k) i (me (here g)) w q all ≡ (if b then Waits (state_of k) w else answers (state_of k) 0)
+  row-empty [] none b ends = ap (λ (x : Bool). if x then Waits (state_of k) w else answers (state_of k) 0) ends
+  row-empty (x ∷ xs) none b ends = absurd (omega (arith, none))
+
+  module _ {b : Bool} (told : b ≡ not (is_empty bytes)) (none : b ≡ false) {e : Bool} (ends : e ≡ has_end (opens_of k.files) q WriteEnd) where
+    empty : (c : Bool) → e ≡ c → going (here g) w ≡ (if c then Waits (state_of k) w else answers (state_of k) 0)
+    empty c is = pipe-row ∙ row-empty bytes (no-bytes (length bytes) (sym told ∙ none)) c (sym ends ∙ is)
+
+    pub reads-ended : e ≡ false → GoesOn k k i w (Answers 0)
+    reads-ended is = goes-done (here g) w 0 g.runs.sound g.runs.active refl refl (empty false is)
+
+    pub reads-waiting : e ≡ true → GoesOn k k i w (Blocks w)
+    reads-waiting is =
+        let f = file g in
+        let for : IsForBytes k.files (descriptors_at k i) w = λ read. rw (f.named, f.opened, f.on) refl in
+        goes-waits (here g) w w g.runs.sound g.runs.active refl (subst (IsPending (descriptors_at k i) (view_at k.spaces i).memory w) (sym g.number) g.can, waits-reading k.files (descriptors_at k i) w g.number for g.fresh) refl (empty true is)

@@ -1,5 +1,5 @@
 -- How runs of the abstract Unix go on.
-use Rattle.calls.proofs.Common.{subst, ◌≡◌, ℕ, ℤ, List, [], ◌∷◌, ◌++◌, ◌≤◌, Option, Some, None, refl, ap, sym, ◌∙◌, append_assoc, append-nil, arith, After, quiet, Rises, next, after_bytes, followed_by, run, State}
+use Rattle.calls.proofs.Common.{[], After, after_bytes, ap, append-nil, append_assoc, arith, followed_by, List, next, None, Option, quiet, refl, Rises, run, Some, State, subst, sym, ℕ, ℤ, ◌++◌, ◌∙◌, ◌∷◌, ◌≡◌, ◌≤◌}
 use Rattle.unixmodel.specs.declared.event.Event.{Event}
 
 -- a run that goes on after a run

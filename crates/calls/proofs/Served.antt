@@ -1,6 +1,6 @@
 -- What becomes of the files of the disk.
-use Rattle.calls.proofs.Common.{None, Option, Result, Some, arith, false, le_trans, refl, subst, ℕ, ◌∙◌, ◌≡◌, Err, IfOk, Ok, OnErr, OnOk, IsErr, DeviceFault}
-use Rattle.calls.proofs.Common.{ActsOnDisk, Came, IsLost, IsServed, LeavesDisk, Kernel, started, started_as, stopped_at, ticked, Process, FileTree, Call, slot}
+use Rattle.calls.proofs.Common.{ActsOnDisk, arith, Call, call, Came, DeviceFault, Err, false, FileTree, IsErr, IsLost, IsServed, Kernel, le_trans, LeavesDisk, None, Ok, OnErr, OnOk, Option, Process, refl, Result, slot, Some, started}
+use Rattle.calls.proofs.Common.{started_as, stopped_at, ticked, ℕ, ◌∙◌, ◌≡◌}
 
 -- they are as before
 pub same-served : {old new : FileTree} → new ≡ old → old.failed ≡ false → IsServed old new
@@ -17,13 +17,9 @@ pub disk-after : (a b c : FileTree) (r : Result (Unit {0}) DeviceFault) → IsSe
 disk-after a b c (Ok x) first then = served-after first then
 disk-after a b c (Err fault) first then = lost-after first then
 
-module _ (k new : Kernel) (i : ℕ) (call : Call) where
-  pub err-lost : (r : Result Came DeviceFault) → IsErr r → IsLost k.tree new.tree → ActsOnDisk k new i (Some call) r
-  err-lost (Ok came) e lost = absurd (cc)
-  err-lost (Err fault) e lost = lost
-
-pub ok-told : {T E : Type 0} (Told : T → Type 0) (r : Result T E) (x : T) → r ≡ Ok x → IfOk r Told → Told x
-ok-told {T} {E} Told r x e told = subst (λ (y : Result T E). IfOk y Told) e told
+pub err-lost : (k new : Kernel) (i : ℕ) (call : Call) (r : Result Came DeviceFault) → IsErr r → IsLost k.tree new.tree → ActsOnDisk k new i (Some call) r
+err-lost k new i call (Ok came) e lost = absurd (cc)
+err-lost k new i call (Err fault) e lost = lost
 
 -- what is made is made of another state
 pub on-after : {A T : Type 0} (x y z : A) (r : Result T DeviceFault) → x ≡ y → OnOk r (y ≡ z) → OnOk r (x ≡ z)

@@ -1,13 +1,13 @@
 -- fstat: a node tells of itself.
-use Rattle.calls.proofs.Common.{Bool, Err, List, None, Ok, Option, Some, [], ap, arith, false, refl, subst, sym, true, ℕ, ◌%◌, ◌/◌, ◌∙◌, ◌∷◌, ◌≡◌, length, option_map, Acts, Runs, wrote, IsKernel, HasRead, stat_told, Answers}
-use Rattle.calls.proofs.Common.{Refuses, Target, file_of, target_of, file_at, node_at, node_from, InodeStat, file-opens, held-run, FitsNode, node_of, node_on, Kernel, argument, counting, descriptors_at, state_of, SpaceView, view_at}
-use Rattle.calls.proofs.Common.{none-some, Tells, row, Fstat, fstat_row, node_number, stat_bytes, Node, slot, can_write, zeros, le, low, Outcome, answers, given, limited, provided, Done, Refused, State, put_process, wrote-state}
+use Rattle.calls.proofs.Common.{[], Acts, Answers, answers, ap, argument, arith, Bool, can_write, counting, descriptors_at, Done, Err, false, file-opens, file_at, file_of, FitsNode, Fstat, fstat_row, given, HasRead, Here, here-in}
+use Rattle.calls.proofs.Common.{InodeStat, IsKernel, Kernel, le, length, limited, List, low, Node, node_at, node_from, node_number, node_of, node_on, None, none-some, Ok, Option, option_map, Outcome, provided, put_process, refl, Refused}
+use Rattle.calls.proofs.Common.{Refuses, row, slot, Some, stat_bytes, stat_told, State, state_of, subst, sym, Target, target_of, Tells, true, view_at, wrote, wrote-state, zeros, ℕ, ◌%◌, ◌/◌, ◌∙◌, ◌∷◌, ◌≡◌}
 use Rattle.files.specs.declared.table.FileFault.{FileFault}
-use Rattle.calls.proofs.Acts.{Here, descriptor-is, here-of, me, prints, refused, used-here, here-in}
-use Rattle.calls.proofs.Writes.{fits-at}
 use Rattle.files.specs.declared.file.OpenFile.{OpenFile}
-use Rattle.files.specs.declared.file.Target.TheVariants as target
 use Rattle.spaces.specs.Spaces.{written}
+use Rattle.calls.proofs.Acts.{can-here, descriptor-is, does, me, refused}
+use Rattle.calls.proofs.Transfers.{fits-at}
+use Rattle.files.specs.declared.file.Target.TheVariants as target
 use Rattle.unixmodel.specs.OpenFiles as unix
 
 -- ---- bytes of numbers
@@ -69,63 +69,47 @@ length-told n told = refl
 
 -- ---- the row
 
-module _ (k : Kernel) (i : ℕ) (runs : Runs k i) where
-  abbrev x : Here k i
-  x = here-of k i runs
+module _ {k : Kernel} {i : ℕ} (x : Here k i) {d id : ℕ} (is : d ≡ low (argument k 0)) (named : Some id ≡ slot (descriptors_at k i) d) where
+  here : slot x.process.descriptors (low (argument k 0)) ≡ Some id
+  here = descriptor-is x is named
 
-  module _ (d id : ℕ) (is : d ≡ low (argument k 0)) (named : Some id ≡ slot (descriptors_at k i) d) where
-    here : slot x.process.descriptors (low (argument k 0)) ≡ Some id
-    here = descriptor-is k i x is named
+  pub fstat-nodeless : {fault : FileFault} → Err fault ≡ node_at (file_at k.files id) → Acts k k i (Some Fstat) Refuses
+  unfolding fstat_row
+  fstat-nodeless {fault} none = refused x (Some Fstat) (rw (here, file-opens k.files id) (no-node (file_at k.files id) fault (sym none) _))
 
-    pub fstat-nodeless : (fault : FileFault) → Err fault ≡ node_at (file_at k.files id) → Acts k k i (Some Fstat) Refuses
+  module _ {n : ℕ} (on : Ok n ≡ node_at (file_at k.files id)) where
+    open-on : (f : OpenFile) × (file_at k.files id ≡ Some f) × (node_number (target_of f.target) ≡ Some n)
+    open-on = node-named (file_at k.files id) n (sym on)
+
+    pub fstat-there : (node : Node) × (slot k.tree.files n ≡ Some node)
+    fstat-there =
+        let f = open-on.0 in
+        let used = x.sound.used x.up in
+        let on = node-on f.target ∙ open-on.2 in
+        node-there f f.target n (slot k.tree.files n) on (subst (λ o. FitsNode f f.target (node_of k.tree.files o)) on (fits-at used id f open-on.1))
+
+    abbrev told_bytes : List ℕ
+    told_bytes = stat_bytes n fstat-there.0
+
+    abbrev writes : Outcome
+    writes = answers (put_process (state_of k) i (record (me x) { memory = (written x.held (argument k 1) told_bytes).memory })) 0
+
+    fstat-row : row (state_of k) i (me x) Fstat ≡ provided (can_write x.held.memory (argument k 1) 24) writes
     unfolding fstat_row
-    fstat-nodeless fault none = refused k i x (Some Fstat) (rw (here, file-opens k.files id) (no-node (file_at k.files id) fault (sym none) _))
+    fstat-row = rw (here, file-opens k.files id, open-on.1, open-on.2, fstat-there.1) refl
 
-    module _ (n : ℕ) (on : Ok n ≡ node_at (file_at k.files id)) where
-      abbrev f : OpenFile
-      f = (node-named (file_at k.files id) n (sym on)).0
+    pub fstat-unwritable : false ≡ can_write (view_at k.spaces i).memory (argument k 1) 24 → Acts k k i (Some Fstat) Refuses
+    fstat-unwritable cannot = refused x (Some Fstat) (ap limited (fstat-row ∙ ap (λ (b : Bool). provided b writes) (can-here x (argument k 1) 24 cannot)))
 
-      opened : file_at k.files id ≡ Some f
-      opened = (node-named (file_at k.files id) n (sym on)).1
+    -- the node was told, and its bytes are written
+    module _ (can : true ≡ can_write (view_at k.spaces i).memory (argument k 1) 24) {read : Kernel} (has : HasRead k read) {a : ℕ} (is-a : a ≡ argument k 1) (told : InodeStat) {bytes : List ℕ} (numbers : bytes ≡ stat_told n told) where
+      pub fstat-can : can_write (view_at read.spaces i).memory a (length bytes) ≡ true
+      fstat-can = ap (λ (y : Kernel). can_write (view_at y.spaces i).memory a (length bytes)) has.same ∙ rw (is-a, ap length numbers ∙ length-told n told) (sym can)
 
-      number : node_number (target_of f.target) ≡ Some n
-      number = (node-named (file_at k.files id) n (sym on)).2
-
-      pub fstat-there : (node : Node) × (slot k.tree.files n ≡ Some node)
-      fstat-there =
-          let on : node_on f.target ≡ Some n = node-on f.target ∙ number in
-          node-there f f.target n (slot k.tree.files n) on (subst (λ o. FitsNode f f.target (node_of k.tree.files o)) on (fits-at (used-here k i x) id f opened))
-
-      abbrev node : Node
-      node = fstat-there.0
-
-      abbrev address : ℕ
-      address = argument k 1
-
-      abbrev made_so : SpaceView
-      made_so = written x.held address (stat_bytes n node)
-
-      row-is : row (state_of k) i (me k i x) Fstat ≡ provided (can_write x.held.memory address 24) (answers (put_process (state_of k) i (record (me k i x) { memory = made_so.memory })) 0)
-      unfolding fstat_row
-      row-is = rw (here, file-opens k.files id, opened, number, fstat-there.1) refl
-
-      can-here : (b : Bool) → b ≡ can_write (view_at k.spaces i).memory address 24 → can_write x.held.memory address 24 ≡ b
-      can-here b can = ap (λ (y : SpaceView). can_write y.memory address 24) (sym (held-run k i x.process x.held x.run x.sound)) ∙ sym can
-
-      pub fstat-unwritable : false ≡ can_write (view_at k.spaces i).memory address 24 → Acts k k i (Some Fstat) Refuses
-      fstat-unwritable cannot = refused k i x (Some Fstat) (ap limited (row-is ∙ ap (λ (b : Bool). provided b (answers (put_process (state_of k) i (record (me k i x) { memory = made_so.memory })) 0)) (can-here false cannot)))
-
-      -- the node was told, and its bytes are written
-      module _ (can : true ≡ can_write (view_at k.spaces i).memory address 24) {read : Kernel} (has : HasRead k read) {a : ℕ} (is-a : a ≡ argument k 1) (told : InodeStat) {bytes : List ℕ} (numbers : bytes ≡ stat_told n told) where
-        pub fstat-can : can_write (view_at read.spaces i).memory a (length bytes) ≡ true
-        fstat-can = ap (λ (y : Kernel). can_write (view_at y.spaces i).memory a (length bytes)) has.same ∙ rw (is-a, ap length numbers ∙ length-told n told) (sym can)
-
-        pub fstat-acts : ((node : Node) → slot k.tree.files n ≡ Some node → Tells told node) → {new : Kernel} → new ≡ wrote read i a bytes → IsKernel new → Acts k new i (Some Fstat) (Answers 0)
-        fstat-acts tells {new} is sound =
-            let read_so = counting k read.tree.failures in
-            let made : new ≡ wrote read_so i address (stat_bytes n node) =
-            is ∙ ap (λ (y : Kernel). wrote y i a bytes) has.same ∙ ap (λ m. wrote read_so i m bytes) is-a ∙ ap (wrote read_so i address) (numbers ∙ told-is n told node (tells node fstat-there.1)) in
-            rw made (prints k i x (wrote read_so i address (stat_bytes n node)) Fstat 0 [] (here-in (subst IsKernel made sound) x.run.active x.up) (record { up = x.up; same_device = refl; later = has.later }) (
-            row-is
-            ∙ ap (λ (b : Bool). provided b (answers (put_process (state_of k) i (record (me k i x) { memory = made_so.memory })) 0)) (can-here true can)
-            ∙ ap (λ (s : State). Done s 0 []) (sym (wrote-state x.run x.sound address (stat_bytes n node)))))
+      pub fstat-acts : ((node : Node) → slot k.tree.files n ≡ Some node → Tells told node) → {new : Kernel} → new ≡ wrote read i a bytes → IsKernel new → Acts k new i (Some Fstat) (Answers 0)
+      fstat-acts tells {new} is sound =
+          let from = counting k read.tree.failures in
+          let made : new ≡ wrote from i (argument k 1) told_bytes =
+          is ∙ ap (λ (y : Kernel). wrote y i a bytes) has.same ∙ ap (λ m. wrote from i m bytes) is-a ∙ ap (wrote from i (argument k 1)) (numbers ∙ told-is n told fstat-there.0 (tells fstat-there.0 fstat-there.1)) in
+          rw made (does x Fstat 0 (here-in (subst IsKernel made sound) x.run.active x.up) (record { up = x.up; same_device = refl; later = has.later }) (
+          fstat-row ∙ ap (λ (b : Bool). provided b writes) (can-here x (argument k 1) 24 can) ∙ ap (λ (s : State). Done s 0 []) (sym (wrote-state x.run x.sound (argument k 1) told_bytes))))

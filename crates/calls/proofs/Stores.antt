@@ -1,27 +1,143 @@
--- A write to a file.
-use Rattle.calls.proofs.Common.{◌≡◌, ℕ, ◌+◌, ◌<◌, ◌≤◌, ◌^◌, Bool, true, false, nat_le, List, [], length, take, Option, Some, None, refl, ap, subst, sym, ◌∙◌, arith, if◌then◌else◌, ◌&&◌, ◌==◌, and_parts}
-use Rattle.calls.proofs.Common.{leb-true, none-some, same_Some, cond_some, GoesOn, Answers, Refuses, Transfers, Uses, file_of, opens-moved, FitsNode, Kernel, descriptors_at, state_of, IsWriting}
-use Rattle.calls.proofs.Common.{some-pipe, SpaceView, view_at, bytes_given, FileTree, Pending, blocks_of, room_for, with_file, with_offset, write_node, write_on, Files, Node, longest, slot, Directory}
-use Rattle.calls.proofs.Common.{File, Memory, overwrite, read_bytes, low, minus_one, pending_arg, Done, Refused, State, IsServed, option_map, IsKernel, with_tree, HasStored, MayMove, advanced, moved}
-use Rattle.calls.proofs.Acts.{Here, goes-serves, going, going-here, here-in, refuses-on}
-use Rattle.calls.proofs.Fetches.{low-same}
-use Rattle.calls.proofs.Transfers.{file, file-fits, file-named, going-is, held-here, here, named-file}
-use Rattle.calls.proofs.Writes.{length-read}
-use Rattle.files.specs.declared.file.End.TheVariants as end
+-- A read and a write of a file, whose offset goes on behind what was transferred.
+use Rattle.calls.proofs.Common.{[], advanced, and_parts, Answers, answers, ap, arith, blocks_of, Bool, bytes_of, bytes_read, cond_some, counting, Directory, Done, drop, false, File, file_at, file_of, Files, FileTree, FitsNode, GoesOn, low}
+use Rattle.calls.proofs.Common.{HasFetched, HasStored, here-in, if◌then◌else◌, IsKernel, IsServed, IsWhole, Kernel, leb-true, length, length-drop, length-take, List, longest, MayMove, minus_one, moved, nat_le, Node, node_bytes, None}
+use Rattle.calls.proofs.Common.{none-some, OnNode, opens-moved, Option, option_map, overwrite, Pending, pending_arg, put, put_process, read_file, read_node, read_on, refl, Refused, Refuses, room_for, same_Some, slot, Some, State, state_of}
+use Rattle.calls.proofs.Common.{subst, sym, take, target_of, Transfers, true, Uses, with_file, with_offset, with_tree, write_bytes, write_node, write_on, wrote, wrote-state, ℕ, ◌&&◌, ◌+◌, ◌<◌, ◌==◌, ◌^◌, ◌∙◌, ◌≡◌, ◌≤◌}
+use Rattle.tree.proofs.Storing.{whole-node}
+use Rattle.files.specs.declared.file.End.{End}
 use Rattle.files.specs.declared.file.OpenFile.{OpenFile}
-use Rattle.files.specs.declared.file.Target.TheVariants as target
 use Rattle.files.specs.Places.{opens_of}
 use Rattle.file_transfers.proofs.Fits.{greatest-low}
-use Rattle.tree.specs.Written.{IsFile, Written, count_of, files_after, fitting, with_bytes, written}
+use Rattle.kernel.proofs.Opens.{IsNamed}
+use Rattle.tree.specs.Stored.{FitsPlaces}
+use Rattle.tree.specs.Written.{count_of, files_after, fitting, IsFile, with_bytes, Written, written}
+use Rattle.unixmodel.specs.Image.{KeepsSize}
+use Rattle.calls.proofs.Acts.{goes-serves, going, going-here, me, refused, refuses-on}
+use Rattle.calls.proofs.Transfers.{file, file-fits, file-named, given_bytes, going-is, length-given, named-file, read-given, here}
+use Rattle.files.specs.declared.file.End.TheVariants as end
+use Rattle.files.specs.declared.file.Target.TheVariants as target
 use Rattle.unixmodel.specs.OpenFiles as unix_files
+use Rattle.unixmodel.specs.Process as unix
 
--- ---- the row
+-- a number that is no more than another one is its low 32 bits, where that one is
+low-same : (n m : ℕ) → n ≤ m → m < 2 ^ 32 → low n ≡ n
+low-same n m few short = omega (arith, few, short)
+
+-- so many bytes were transferred, which end within the longest file
+module _ {k : Kernel} {i : ℕ} {e : End} {number offset : ℕ} {w : Pending} (g : Transfers k i e (target.File number offset) w) (n : ℕ) (near : offset + n ≤ longest) where
+  same : low n ≡ n
+  same = low-same n longest (omega (arith, near)) (omega arith)
+
+  moves-near : offset + low n < 2 ^ 32
+  moves-near = let cut = same in omega (arith, near, cut)
+
+  moves-may : {m : Kernel} → m.files ≡ k.files → {id l : ℕ} → id ≡ (file g).number → l ≡ low n → MayMove m id (offset + l)
+  moves-may files named cut = rw (named, cut, same) (record { number = number; old = offset; on = ap (λ t. option_map (λ (f : OpenFile). f.target) (file_at t (file g).number)) files ∙ ap (option_map (λ (f : OpenFile). f.target)) (file g).opened ∙ ap Some (file g).on; within = near })
+
+  moved-opens : opens_of (moved k.files (file g).number (offset + n)) ≡ put (opens_of k.files) (file g).number (record (file_of (file g).file) { target = OnNode number (offset + n) })
+  moved-opens = opens-moved k.files (file g).number (offset + n) number offset (file g).file (file g).opened (file g).on
+
+  -- m, which is z, is what the transfer left, and new what goes on behind it
+  moves-done : {m z new : Kernel} → m ≡ z → z.spaces.active ≡ k.spaces.active → {id l : ℕ} → id ≡ (file g).number → l ≡ low n → new ≡ advanced m id (offset + l) → IsKernel new → IsServed k.tree m.tree
+      → (answer : ℕ) → going (here g) w ≡ Done (state_of (advanced z (file g).number (offset + n))) answer [] → GoesOn k new i w (Answers answer)
+  moves-done {m} {z} {new} left active {l = l} named cut is sound served answer row =
+      let at = (file g).number in
+      let made : new ≡ advanced z at (offset + n) = is ∙ ap (λ (j : ℕ). advanced m j (offset + l)) named ∙ ap (λ (d : ℕ). advanced m at (offset + d)) (cut ∙ same) ∙ ap (λ (y : Kernel). advanced y at (offset + n)) left in
+      let tree : new.tree ≡ m.tree = ap (λ (y : Kernel). y.tree) is in
+      goes-serves (here g) w answer (here-in sound (ap (λ (y : Kernel). y.spaces.active) made ∙ active ∙ (here g).run.active) (ap (λ (t : FileTree). t.failed) tree ∙ served.up)) (rw tree served) (row ∙ ap (λ (s : State). Done s answer []) (sym (ap state_of made)))
+
+-- ---- a read
+
+-- a node that has bytes
+pub record HasBytes (o : Option Node) (offset : ℕ) : Type 0 where
+  pub node : Node
+  pub here : o ≡ Some node
+  pub near : offset ≤ longest
+  pub reads : (s : State) (i : ℕ) (p : unix.Process) (w : Pending) (k : ℕ) (f : unix_files.OpenFile) (n at : ℕ) → read_file s i p w k f n at node ≡ read_node s i p w k f n at (node_bytes node)
+
+has-bytes : (f : OpenFile) (n offset : ℕ) (o : Option Node) → FitsNode f (target.File n offset) o → HasBytes o offset
+has-bytes f n offset (Some (File links bytes)) fits = record { node = File links bytes; here = refl; near = fits; reads = λ s i p w k f n at. refl }
+has-bytes f n offset (Some (Directory links places)) fits = record { node = Directory links places; here = refl; near = fits.0; reads = λ s i p w k f n at. refl }
+has-bytes f n offset _ fits = absurd fits
+
+-- the row
+reads-file : (s : State) (i : ℕ) (p : unix.Process) (w : Pending) (f : unix_files.OpenFile) (is : IsNamed s p (low (pending_arg w 0)) f) (n at : ℕ) → f.target ≡ OnNode n at → (node : Node) → slot s.files n ≡ Some node
+    → read_on s i p w ≡ read_file s i p w is.number f n at node
+unfolding read_on
+reads-file s i p w f is n at on node here = rw (is.named, is.opened, on, here) refl
+
+module _ {k : Kernel} {i : ℕ} {w : Pending} {number offset : ℕ} (u : Uses k i end.Read (target.File number offset) w) where
+  abbrev g : Transfers k i end.Read (target.File number offset) w
+  g = u.goes
+
+  abbrev count : ℕ
+  count = low (pending_arg w 2)
+
+  abbrev address : ℕ
+  address = pending_arg w 1
+
+  pub content : HasBytes (slot k.tree.files number) offset
+  content = has-bytes (file g).file number offset (slot k.tree.files number) (file-fits g)
+
+  -- what comes
+  abbrev piece : List ℕ
+  piece = bytes_read k.tree.files number offset count
+
+  abbrev bytes : List ℕ
+  bytes = take count (drop offset (node_bytes content.node))
+
+  piece-is : piece ≡ bytes
+  piece-is = ap (λ (o : Option Node). take count (drop offset (bytes_of o))) content.here
+
+  -- m is what the read left, and new what goes on behind it
+  module _ (whole : IsWhole k.tree) {m : Kernel} {n c : ℕ} (wide : c ≡ count) (fetched : HasFetched k m i number offset address c n) where
+    told : HasFetched k m i number offset address count n
+    told = rw wide at fetched
+
+    reads-within : offset + n ≤ longest
+    reads-within =
+        let c = content in
+        let same : length piece ≡ length bytes = ap length piece-is in
+        let size = whole-node c.node (subst FitsPlaces c.here (whole.places number)) in
+        let used = (here g).sound.used (here g).up in
+        let short = subst KeepsSize c.here (used.rules.sizes number) in
+        omega (arith, same, size, short, c.near, length-take count (drop offset (node_bytes c.node)), length-drop offset (node_bytes c.node), told.counted)
+
+    pub reads-near : offset + low n < 2 ^ 32
+    reads-near = moves-near g n reads-within
+
+    pub reads-may : {id l : ℕ} → id ≡ (file g).number → l ≡ low n → MayMove m id (offset + l)
+    reads-may = moves-may g n reads-within (ap (λ (y : Kernel). y.files) told.same)
+
+    -- the state with that
+    abbrev left : ℕ → ℕ → List ℕ → State
+    left o at bs = record (put_process (state_of k) i (record (me (here g)) { memory = write_bytes (here g).held.memory at bs })) { opens = put (opens_of k.files) (file g).number (record (file_of (file g).file) { target = OnNode number (offset + o) }) }
+
+    pub reads-done : {new : Kernel} {id l : ℕ} → id ≡ (file g).number → l ≡ low n → new ≡ advanced m id (offset + l) → IsKernel new → IsServed k.tree m.tree → GoesOn k new i w (Answers n)
+    reads-done named cut is sound served =
+        let c = content in
+        let x = here g in
+        let start = u.start in
+        let from : address + w.done ≡ address = omega (arith, start) in
+        let state : state_of (advanced (counting (wrote k i address piece) m.tree.failures) (file g).number (offset + n)) ≡ left n address piece =
+        ap (λ (s : State). record s { opens = opens_of (moved k.files (file g).number (offset + n)) }) (wrote-state x.run x.sound address piece)
+        ∙ ap (λ (os : List (Option unix_files.OpenFile)). record (put_process (state_of k) i (record (me x) { memory = write_bytes x.held.memory address piece })) { opens = os }) (moved-opens g n reads-within) in
+        moves-done g n reads-within told.same refl named cut is sound served n (
+        going-is g
+        ∙ reads-file (state_of k) i (me x) w (file_of (file g).file) (file-named g) number offset (ap target_of (file g).on) c.node c.here
+        ∙ c.reads (state_of k) i (me x) w (file g).number (file_of (file g).file) number offset
+        ∙ ap (λ (at : ℕ). Done (left (length bytes) at bytes) (length bytes) []) from
+        ∙ ap (λ (bs : List ℕ). Done (left (length bs) address bs) (length bs) []) (sym piece-is)
+        ∙ ap (λ (o : ℕ). Done (left o address piece) o []) (sym told.counted)
+        ∙ ap (λ (s : State). Done s n []) (sym state))
+
+-- ---- a write: the row
 
 -- what is written so, and what is answered
-pub record IsStored (s : State) (k : ℕ) (f : unix_files.OpenFile) (n at links : ℕ) (old new : List ℕ) (v : Written) : Type 0 where
-  pub row : write_node s k f n at links old new ≡ Done (record (with_offset s k f n (at + v.count)) { files = v.files }) (if v.count == length new then v.count else minus_one) []
-  pub low : at + length new ≤ longest
-  pub few : v.count ≤ length new
+record IsStored (s : State) (k : ℕ) (f : unix_files.OpenFile) (n at links : ℕ) (old new : List ℕ) (v : Written) : Type 0 where
+  row : write_node s k f n at links old new ≡ Done (record (with_offset s k f n (at + v.count)) { files = v.files }) (if v.count == length new then v.count else minus_one) []
+  low : at + length new ≤ longest
+  few : v.count ≤ length new
 
 module _ (s : State) (k : ℕ) (f : unix_files.OpenFile) (n at links : ℕ) (old new : List ℕ) (here : slot s.files n ≡ Some (File links old)) where
   abbrev test : Bool
@@ -53,14 +169,9 @@ module _ (s : State) (k : ℕ) (f : unix_files.OpenFile) (n at links : ℕ) (old
   is-refused same = refused-go test refl (sym written-is ∙ same)
 
 -- how many were written, if any
-record HasCount (o : Option Written) (n : ℕ) : Type 0 where
-  is : Written
-  here : o ≡ Some is
-  counted : is.count ≡ n
-
-some-count : (o : Option Written) (n : ℕ) → Some n ≡ count_of o → HasCount o n
+some-count : (o : Option Written) (n : ℕ) → Some n ≡ count_of o → (v : Written) × (o ≡ Some v) × (v.count ≡ n)
 some-count None n is = absurd (none-some n (sym is))
-some-count (Some v) n is = record { is = v; here = refl; counted = sym (same_Some n v.count is) }
+some-count (Some v) n is = (v, refl, sym (same_Some n v.count is))
 
 none-count : (o : Option Written) → None ≡ count_of o → o ≡ None
 none-count None is = refl
@@ -72,99 +183,60 @@ open-file f n offset files (Some (File links bytes)) here writable fits = record
 open-file f n offset files (Some (Directory links places)) here writable fits = absurd (let bad : true ≡ false = sym writable ∙ fits.1 in cc)
 open-file f n offset files _ here writable fits = absurd fits
 
--- ---- the call
+-- ---- the write
 
-module _ (k : Kernel) (i : ℕ) (w : Pending) (number offset : ℕ) (u : Uses k i end.Write (target.File number offset) w) where
-  abbrev g : Transfers k i end.Write (target.File number offset) w
-  g = u.goes
+module _ {k : Kernel} {i : ℕ} {w : Pending} {number offset : ℕ} (u : Uses k i end.Write (target.File number offset) w) where
+  abbrev to : Transfers k i end.Write (target.File number offset) w
+  to = u.goes
 
-  abbrev x : Here k i
-  x = here g
-
-  abbrev count : ℕ
-  count = low (pending_arg w 2)
-
-  abbrev address : ℕ
-  address = pending_arg w 1
-
-  abbrev memory : Memory
-  memory = (view_at k.spaces i).memory
-
-  abbrev new : List ℕ
-  new = bytes_given k.spaces i address count
-
-  can : IsWriting (descriptors_at k i) memory w
-  can = g.can
-
-  is-file : IsFile k.tree.files number
-  is-file = open-file (file g).file number offset k.tree.files (slot k.tree.files number) refl (named-file g (λ f. f.writable ≡ true) u.mode) (file-fits g)
-
-  read-new : read_bytes memory address count ≡ Some new
-  read-new = some-pipe (read_bytes memory address count) can.readable
-
-  length-new : length new ≡ count
-  length-new = length-read memory address count new read-new
+  pub is-file : IsFile k.tree.files number
+  is-file = open-file (file to).file number offset k.tree.files (slot k.tree.files number) refl (named-file to (λ f. f.writable ≡ true) u.mode) (file-fits to)
 
   abbrev went : Option Written
-  went = written k.tree.block_limit k.tree.files number offset new
+  went = written k.tree.block_limit k.tree.files number offset (given_bytes to)
 
-  row : going k i x w ≡ write_node (state_of k) (file g).number (file_of (file g).file) number offset is-file.links is-file.bytes new
+  stores-row : going (here to) w ≡ write_node (state_of k) (file to).number (file_of (file to).file) number offset is-file.links is-file.bytes (given_bytes to)
   unfolding write_on
-  row =
-      let f = file-named g in
-      let read = ap (λ (h : SpaceView). read_bytes h.memory address count) (sym (held-here g)) ∙ read-new in
-      going-is g ∙ rw (f.named, f.opened, read, (file g).on, is-file.here) refl
-
-  pub writes-is_file : IsFile k.tree.files number
-  writes-is_file = is-file
+  stores-row = let f = file-named to in going-is to ∙ rw (f.named, f.opened, read-given to, (file to).on, is-file.here) refl
 
   -- m is what the write left
-  module _ {m : Kernel} {c : ℕ} {r : Option ℕ} (wide : c ≡ count) (stores : HasStored k m i number offset address c r) where
-    told : HasStored k m i number offset address count r
-    told = rw wide at stores
+  module _ {m : Kernel} {c : ℕ} {r : Option ℕ} (wide : c ≡ low (pending_arg w 2)) (stores : HasStored k m i number offset (pending_arg w 1) c r) where
+    stored : HasStored k m i number offset (pending_arg w 1) (low (pending_arg w 2)) r
+    stored = rw wide at stores
 
     -- nothing is written
     pub writes-refused : r ≡ None → IsKernel m → IsServed k.tree m.tree → GoesOn k m i w Refuses
     writes-refused none sound served =
-        let gone = none-count went (sym none ∙ told.counted) in
-        let state : state_of m ≡ state_of k = ap state_of told.same ∙ ap (λ (v : Option Written). record (state_of k) { files = files_after k.tree.files v }) gone in
-        let refused = going-here k i x w ∙ row ∙ is-refused (state_of k) (file g).number (file_of (file g).file) number offset is-file.links is-file.bytes new is-file.here gone in
-        record { comes = refuses-on refused state (ap (λ (y : Kernel). y.spaces.active) told.same ∙ x.run.active) sound served; within = rw refused refl }
+        let gone = none-count went (sym none ∙ stored.counted) in
+        let state : state_of m ≡ state_of k = ap state_of stored.same ∙ ap (λ (v : Option Written). record (state_of k) { files = files_after k.tree.files v }) gone in
+        let refused = going-here (here to) w ∙ stores-row ∙ is-refused (state_of k) (file to).number (file_of (file to).file) number offset is-file.links is-file.bytes (given_bytes to) is-file.here gone in
+        record { comes = refuses-on refused state (ap (λ (y : Kernel). y.spaces.active) stored.same ∙ (here to).run.active) sound served; within = rw refused refl }
 
     module _ {n : ℕ} (some : r ≡ Some n) where
-      here-is : HasCount went n
-      here-is = some-count went n (sym some ∙ told.counted)
+      written-so : (v : Written) × (went ≡ Some v) × (v.count ≡ n)
+      written-so = some-count went n (sym some ∙ stored.counted)
 
-      abbrev v : Written
-      v = here-is.is
+      store-is : IsStored (state_of k) (file to).number (file_of (file to).file) number offset is-file.links is-file.bytes (given_bytes to) written-so.0
+      store-is = is-stored (state_of k) (file to).number (file_of (file to).file) number offset is-file.links is-file.bytes (given_bytes to) is-file.here written-so.0 written-so.1
 
-      stored : IsStored (state_of k) (file g).number (file_of (file g).file) number offset is-file.links is-file.bytes new v
-      stored = is-stored (state_of k) (file g).number (file_of (file g).file) number offset is-file.links is-file.bytes new is-file.here v here-is.here
-
-      near : offset + n ≤ longest
-      near = omega (arith, stored.low, stored.few, here-is.counted)
-
-      same : low n ≡ n
-      same = let low = near in low-same n longest (omega (arith, low)) (omega arith)
+      writes-within : offset + n ≤ longest
+      writes-within = omega (arith, store-is.low, store-is.few, written-so.2)
 
       pub writes-near : offset + low n < 2 ^ 32
-      writes-near = let low = near in omega (arith, low, same)
+      writes-near = moves-near to n writes-within
 
-      pub writes-may : (id : ℕ) → id ≡ (file g).number → (l : ℕ) → l ≡ low n → MayMove m id (offset + l)
-      writes-may id named l cut = rw (told.same, named, cut, same) (record { number = number; old = offset; on = ap (option_map (λ (f : OpenFile). f.target)) (file g).opened ∙ ap Some (file g).on; within = near })
+      pub writes-may : {id l : ℕ} → id ≡ (file to).number → l ≡ low n → MayMove m id (offset + l)
+      writes-may = moves-may to n writes-within (ap (λ (y : Kernel). y.files) stored.same)
 
-      pub writes-done : {last : Kernel} (id : ℕ) → id ≡ (file g).number → (l : ℕ) → l ≡ low n → last ≡ advanced m id (offset + l) → IsKernel last → IsServed k.tree m.tree → (answer : ℕ) → answer ≡ (if n == c then n else minus_one) → GoesOn k last i w (Answers answer)
-      writes-done {last} id named l cut is sound served answer answers =
-          let at = (file g).number in
-          let files = moved k.files at (offset + n) in
-          let made : last ≡ advanced m at (offset + n) = is ∙ ap (λ (j : ℕ). advanced m j (offset + l)) named ∙ ap (λ (d : ℕ). advanced m at (offset + d)) (cut ∙ same) in
-          let tree : last.tree ≡ m.tree = ap (λ (y : Kernel). y.tree) is in
-          let all : last ≡ advanced (with_tree k (record k.tree { files = files_after k.tree.files went; failures = m.tree.failures })) at (offset + n) = made ∙ ap (λ (y : Kernel). advanced y at (offset + n)) told.same in
-          let state : state_of last ≡ record (with_offset (state_of k) at (file_of (file g).file) number (offset + n)) { files = v.files } =
-          ap state_of all ∙ ap (λ (o : Option Written). record (state_of k) { files = files_after k.tree.files o; opens = opens_of files }) here-is.here
-          ∙ ap (λ (os : List (Option unix_files.OpenFile)). record (state_of k) { files = v.files; opens = os }) (opens-moved k.files at (offset + n) number offset (file g).file (file g).opened (file g).on) in
-          goes-serves k i x w answer (here-in sound (ap (λ (y : Kernel). y.spaces.active) all ∙ x.run.active) (ap (λ (t : FileTree). t.failed) tree ∙ served.up)) (rw tree served)
-          (row ∙ stored.row
-          ∙ ap (λ (o : ℕ). Done (record (with_offset (state_of k) at (file_of (file g).file) number (offset + o)) { files = v.files }) (if o == length new then o else minus_one) []) here-is.counted
-          ∙ ap (λ (s : State). Done s (if n == length new then n else minus_one) []) (sym state)
-          ∙ ap (λ (o : ℕ). Done (state_of last) o []) (ap (λ (l : ℕ). if n == l then n else minus_one) (length-new ∙ sym wide) ∙ sym answers))
+      pub writes-done : {last : Kernel} {id l : ℕ} → id ≡ (file to).number → l ≡ low n → last ≡ advanced m id (offset + l) → IsKernel last → IsServed k.tree m.tree → {answer : ℕ} → answer ≡ (if n == c then n else minus_one) → GoesOn k last i w (Answers answer)
+      writes-done named cut is sound served {answer} answers =
+          let at = (file to).number in
+          let z = with_tree k (record k.tree { files = files_after k.tree.files went; failures = m.tree.failures }) in
+          let state : state_of (advanced z at (offset + n)) ≡ record (with_offset (state_of k) at (file_of (file to).file) number (offset + n)) { files = written-so.0.files } =
+          ap (λ (o : Option Written). record (state_of k) { files = files_after k.tree.files o; opens = opens_of (moved k.files at (offset + n)) }) written-so.1
+          ∙ ap (λ (os : List (Option unix_files.OpenFile)). record (state_of k) { files = written-so.0.files; opens = os }) (moved-opens to n writes-within) in
+          moves-done to n writes-within stored.same refl named cut is sound served answer (
+          stores-row ∙ store-is.row
+          ∙ ap (λ (o : ℕ). Done (record (with_offset (state_of k) at (file_of (file to).file) number (offset + o)) { files = written-so.0.files }) (if o == length (given_bytes to) then o else minus_one) []) written-so.2
+          ∙ ap (λ (s : State). Done s (if n == length (given_bytes to) then n else minus_one) []) (sym state)
+          ∙ ap (λ (o : ℕ). Done (state_of (advanced z at (offset + n))) o []) (ap (λ (l : ℕ). if n == l then n else minus_one) (length-given to ∙ sym wide) ∙ sym answers))

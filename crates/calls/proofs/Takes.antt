@@ -1,8 +1,10 @@
--- A step: the running process does an instruction, or a turn where none runs.
-use Rattle.calls.proofs.Common.{DeviceFault, ◌≡◌, ℕ, ◌%◌, Bool, true, false, List, Option, Some, None, Ok, Err, ℤ, negsuc, refl, ap, subst, sym, ◌∙◌, IfOk, OnOk, Result, if◌then◌else◌, slice_index, Halt, Dispatches, EventGives}
-use Rattle.calls.proofs.Common.{IsMade, halt_of, Kernel, computed, counting, ended, lives, picked, started, state_of, waking, called, IsKernel, IsLive, IsMode, IsAlive, resumed, resumed_by, resumed_in, IsThere, process-idle, there-of}
-use Rattle.calls.proofs.Common.{turn-alive, picked-state, picks-killed, picks-ready, held-run, state-but, Process, with_space, SpaceView, view_at, After, quiet, Mode, Ready, Waiting, Pending, slot, Memory, execute_at, is_ecall, pick}
-use Rattle.calls.proofs.Common.{take_turn, end_process, State, process_at, ends-run, moved-state, process-run, computed-is, placed-with, memory_after, effect_of, execute, called_by, Console, taken_by, Runner, me_of, runner-of, acted}
+-- Events: a tick, a key, and a step, in which the running process does an instruction, or a process is picked where none runs.
+use Rattle.calls.proofs.Common.{acted, After, ap, Appends, Bool, called, called_by, Came, CanRun, CanWait, computed, computed-is, Console, counting, descriptors_in, DeviceFault, Dispatches, effect_of, end_process, ended, ends-run, Err}
+use Rattle.calls.proofs.Common.{EventGives, execute, execute_at, false, goes_on, GoesOn, going_at, going_by, Halt, halt_of, held-run, IfOk, if◌then◌else◌, is_ecall, IsAlive, IsAwaiting, IsKernel, IsLive, IsMade, IsMode, IsPending, IsThere}
+use Rattle.calls.proofs.Common.{Kernel, kernel-waking, Key, key, List, lives, me_of, Memory, memory_after, Mode, moved-state, negsuc, no_pages, None, Ok, OnOk, Option, Pending, pick, picked, picked-state, picks-killed, picks-ready}
+use Rattle.calls.proofs.Common.{placed-with, Process, process-idle, process-run, process_at, quiet, Ready, refl, Result, resume, resumed, resumed_by, resumed_in, run, run-of, Runner, Running, running-state, Runs, settle, settled_by}
+use Rattle.calls.proofs.Common.{slice_index, slot, Some, SpaceView, started, started-is, started-kernel, started-run, started-state, started_to, State, state-but, state-waking, state_of, Step, step, stopped_at, stops-run, subst, sym}
+use Rattle.calls.proofs.Common.{take_turn, taken_by, there-of, Tick, ticked, true, turn, turn-alive, typed, unwrap_or, view_at, Waiting, WaitsAs, WaitsIn, WaitsWell, waking, with_space, ℕ, ℤ, ◌%◌, ◌+◌, ◌^◌, ◌∙◌, ◌≡◌}
 use Rattle.unixmodel.specs.Cycle.{cycle}
 use Rattle.unixmodel.specs.declared.trap.Trap.{Trap}
 use Rattle.unixmodel.specs.Meaning.{Computed}
@@ -10,7 +12,36 @@ use Rattle.calls.specs.declared.halt.Halt.TheVariants.{Device}
 use Rattle.calls.specs.Resuming.{taken}
 use Rattle.calls.proofs.Prints.{Appends-none}
 use Rattle.unixmodel.specs.Next as next
-use Rattle.unixmodel.specs.Turn as turn
+use Rattle.unixmodel.specs.Process as unix
+
+-- ---- what an event begins with
+
+-- a step where a process runs does an instruction
+pub next-executes : (k : Kernel) (i : ℕ) → IsKernel k → k.spaces.active ≡ Some i → next.next (state_of k) Step ≡ execute_at (state_of k) i (process_at (state_of k) i)
+unfolding next.next
+next-executes k i is active = ap (step (state_of k)) (running-state k is ∙ active)
+
+-- a step where none runs makes a turn
+pub next-turns : (k : Kernel) → IsKernel k → k.spaces.active ≡ None → next.next (state_of k) Step ≡ take_turn (state_of k) (turn (state_of k))
+unfolding next.next
+next-turns k is idle = ap (step (state_of k)) (running-state k is ∙ idle)
+
+ticks-go : (k : Kernel) (o : Option ℕ) → IsKernel k → slice_index k.spaces.registers 0 ≡ 0 → k.spaces.pc % 4 ≡ 0 → k.spaces.active ≡ o → next.stopped (state_of k) o ≡ state_of (stopped_at k o)
+ticks-go k None is z a active = refl
+ticks-go k (Some i) is z a active = let run = run-of k i is active in stops-run k i run.0 run.1.0 run.1.1 is z a
+
+pub next-ticks : (k : Kernel) → IsKernel k → slice_index k.spaces.registers 0 ≡ 0 → k.spaces.pc % 4 ≡ 0 → next.next (state_of k) Tick ≡ quiet (state_of (ticked k))
+unfolding next.next
+next-ticks k is z a =
+    ap (λ (o : Option ℕ). quiet (record (next.stopped (state_of k) o) { ticks = (k.ticks + 1) % 2 ^ 32 })) (running-state k is)
+    ∙ ap (λ (s : State). quiet (record s { ticks = (k.ticks + 1) % 2 ^ 32 })) (ticks-go k k.spaces.active is z a refl)
+
+pub next-keys : (k : Kernel) (b : ℕ) → next.next (state_of k) (Key b) ≡ record { state = state_of (typed k (key k.console b).console); bytes = (key k.console b).echo }
+unfolding next.next
+next-keys k b = refl
+
+pub keys-made : (k new : Kernel) (b : ℕ) (before after : Option (List ℕ)) → new ≡ waking (typed k (key k.console b).console) new.table.awake → Appends before after (key k.console b).echo → IsMade new (next.next (state_of k) (Key b)) before after
+keys-made k new b before after made printed = rw (next-keys k b) (record { state = state-but (typed k (key k.console b).console) made; printed = printed })
 
 -- ---- what is told
 
@@ -28,90 +59,144 @@ pub does-made : (new : Kernel) (a : After) (before after : Option (List ℕ)) (r
 does-made new a before after rising None halts made = record { state = made.state; halts = ap (λ (s : State). s.halted) (sym made.state) ∙ halts; printed = made.printed }
 does-made new a before after rising (Some status) halts made = record { state = made.state; halts = ap (λ (s : State). s.halted) (sym made.state) ∙ halts; printed = made.printed }
 
-fails-err : (new : Kernel) (a : After) (before after : Option (List ℕ)) (rising : Type 0) (e : Halt) → Dispatches {X = Unit {0}} new a before after rising (Err e) → EventGives new a before after rising (Err e)
-fails-err new a before after rising Device made = made
-fails-err new a before after rising Console made = made
-fails-err new a before after rising _ made = absurd made
-
--- the console failed
+-- the device or the console failed
 pub does-err : (new : Kernel) (a b : After) (before after : Option (List ℕ)) (rising : Type 0) (e : Halt) → a ≡ b → Dispatches {X = Unit {0}} new b before after rising (Err e) → EventGives new a before after rising (Err e)
-does-err new a b before after rising e same made = subst (λ (x : After). EventGives new x before after rising (Err e)) (sym same) (fails-err new b before after rising e made)
+does-err new a b before after rising Device same made = made
+does-err new a b before after rising Console same made = (made.0, rw same made.1)
+does-err new a b before after rising _ same made = absurd made
 
 -- ---- the running process
 
-module _ {k : Kernel} {i : ℕ} (is : IsKernel k) (active : k.spaces.active ≡ Some i) where
-  abbrev x : Runner k i
-  x = runner-of is active
-
+module _ {k : Kernel} {i : ℕ} (x : Runner k i) where
   effect-run : {r : Result Computed Trap} → cycle k.spaces.registers k.spaces.pc (view_at k.spaces i).memory ≡ r → execute_at (state_of k) i (process_at (state_of k) i) ≡ acted (state_of k) i (me_of x) r
   unfolding execute effect_of
   effect-run means =
       ap (execute_at (state_of k) i) (process-run k i x.process x.held x.run)
-      ∙ ap (acted (state_of k) i (me_of x)) (ap (λ (h : SpaceView). cycle k.spaces.registers k.spaces.pc h.memory) (sym (held-run k i x.process x.held x.run is)) ∙ means)
+      ∙ ap (acted (state_of k) i (me_of x)) (ap (λ (h : SpaceView). cycle k.spaces.registers k.spaces.pc h.memory) (sym (held-run k i x.process x.held x.run x.sound)) ∙ means)
 
   pub step-computes : {d : Computed} → cycle k.spaces.registers k.spaces.pc (view_at k.spaces i).memory ≡ Ok d → execute_at (state_of k) i (process_at (state_of k) i) ≡ quiet (state_of (computed k i d))
   step-computes {d} means =
       effect-run means
-      ∙ ap quiet (sym (ap state_of (computed-is k i x.process x.held x.run is d) ∙ moved-state k i x.process x.held x.run is x.process (record x.held { memory = memory_after x.held.memory d.change }) d.regs d.pc (placed-with k i x.process x.held x.run is (record x.held { memory = memory_after x.held.memory d.change })) x.run.runs))
+      ∙ ap quiet (sym (ap state_of (computed-is k i x.process x.held x.run x.sound d) ∙ moved-state k i x.process x.held x.run x.sound x.process (record x.held { memory = memory_after x.held.memory d.change }) d.regs d.pc (placed-with k i x.process x.held x.run x.sound (record x.held { memory = memory_after x.held.memory d.change })) x.run.runs))
 
   module _ {t : Trap} (means : cycle k.spaces.registers k.spaces.pc (view_at k.spaces i).memory ≡ Err t) where
     pub step-calls : is_ecall t.cause ≡ true → execute_at (state_of k) i (process_at (state_of k) i) ≡ called (state_of k) i
     step-calls ecall = effect-run means ∙ rw ecall (sym (ap (called_by (state_of k) i) (process-run k i x.process x.held x.run)))
 
     pub step-faults : k.tree.failed ≡ false → slice_index k.spaces.registers 0 ≡ 0 → k.spaces.pc % 4 ≡ 0 → is_ecall t.cause ≡ false → execute_at (state_of k) i (process_at (state_of k) i) ≡ quiet (state_of (ended k i (negsuc 0)))
-    step-faults up z a fault = effect-run means ∙ rw fault (ap quiet (ends-run k i x.process x.held x.run is z a (negsuc 0) up))
+    step-faults up z a fault = effect-run means ∙ rw fault (ap quiet (ends-run k i x.process x.held x.run x.sound z a (negsuc 0) up))
 
 -- ---- a picked process
 
-alive-some : (o : Option Process) → IsAlive o → (p : Process) × ((o ≡ Some p) × (lives p ≡ true))
+alive-some : (o : Option Process) → IsAlive o → (p : Process) × (o ≡ Some p)
 alive-some None alive = absurd alive
-alive-some (Some p) alive = (p, (refl, alive))
+alive-some (Some p) alive = (p, refl)
 
 live-mode : (p : Process) (m : Memory) (mode : Mode) → mode ≡ Ready → IsMode p m mode → IsLive p
 live-mode p m mode e is = rw e at is
 
 module _ (k : Kernel) (i : ℕ) (p : Process) (is : IsKernel k) (none : k.spaces.active ≡ None) (at : slot k.table.places i ≡ Some p) (up : k.tree.failed ≡ false) where
-  taken-is : (alive : lives p ≡ true) → (h : SpaceView) × (IsThere k i p h × (taken (state_of k) i ≡ next.picked (state_of k) i (with_space h p)))
-  taken-is alive =
-      let t = there-of k i p is at in
-      (t.0, (t.1, ap (taken_by (state_of k) i) (process-idle k i none t.1)))
+  there : (h : SpaceView) × IsThere k i p h
+  there = there-of k i p is at
 
-  alive-here : IsAlive (slot k.table.places i) → lives p ≡ true
-  alive-here alive = rw at at alive
+  taken-is : taken (state_of k) i ≡ next.picked (state_of k) i (with_space there.0 p)
+  taken-is = ap (taken_by (state_of k) i) (process-idle k i none there.1)
 
   pub takes-killed : slice_index k.spaces.registers 0 ≡ 0 → k.spaces.pc % 4 ≡ 0 → IsAlive (slot k.table.places i) → p.killed ≡ true → taken (state_of k) i ≡ quiet (state_of (ended k i (negsuc 0)))
-  takes-killed z a lives killed =
-      let alive = alive-here lives in
-      let t = taken-is alive in
-      t.1.1 ∙ picks-killed k i p t.0 is none t.1.0 alive up z a killed
+  takes-killed z a alive killed = taken-is ∙ picks-killed k i p there.0 is none there.1 (rw at at alive) up z a killed
 
   pub takes-ready : p.killed ≡ false → p.mode ≡ Ready → taken (state_of k) i ≡ quiet (state_of (started k i))
-  takes-ready free ready =
-      let alive : lives p ≡ true = rw ready refl in
-      let t = taken-is alive in
-      t.1.1 ∙ picks-ready k i p t.0 is none t.1.0 alive (live-mode p t.0.memory p.mode ready t.1.0.placed.mode) free ready
+  takes-ready free ready = let t = there in taken-is ∙ picks-ready k i p t.0 is none t.1 (rw ready refl) (live-mode p t.0.memory p.mode ready t.1.placed.mode) free ready
 
-  pub takes-waiting : (w : Pending) → p.killed ≡ false → p.mode ≡ Waiting w → taken (state_of k) i ≡ resumed (state_of k) i
-  takes-waiting w free waits =
-      let alive : lives p ≡ true = rw waits refl in
-      let t = taken-is alive in
-      let whole = with_space t.0 p in
-      t.1.1
+  pub takes-waiting : {w : Pending} → p.killed ≡ false → p.mode ≡ Waiting w → taken (state_of k) i ≡ resumed (state_of k) i
+  takes-waiting free waits =
+      let whole = with_space there.0 p in
+      taken-is
       ∙ ap (λ (b : Bool). if b then quiet (end_process (state_of k) i whole (negsuc 0)) else next.picked_in (state_of k) i whole whole.mode) free
       ∙ ap (next.picked_in (state_of k) i whole) waits
       ∙ sym (ap (resumed_in (state_of k) i whole) waits)
-      ∙ sym (ap (resumed_by (state_of k) i) (process-idle k i none t.1.0))
+      ∙ sym (ap (resumed_by (state_of k) i) (process-idle k i none there.1))
 
--- ---- a turn
+-- the place that a turn picks is taken
+pub turn-takes : (k : Kernel) (i : ℕ) → IsKernel k → k.spaces.active ≡ None → turn (state_of k) ≡ Some i → take_turn (state_of k) (turn (state_of k)) ≡ taken (state_of (picked k i)) i
+turn-takes k i is none found =
+    let some = alive-some (slot k.table.places i) (turn-alive k none i found) in
+    let at = process-idle k i none (there-of k i some.0 is some.1).1 in
+    ap (take_turn (state_of k)) found
+    ∙ ap (pick (state_of k) i) at
+    ∙ sym (ap (taken_by (record (state_of k) { last = i }) i) at)
+    ∙ sym (ap (λ (s : State). taken s i) (picked-state k i none))
 
-module _ (k : Kernel) (i : ℕ) (is : IsKernel k) (none : k.spaces.active ≡ None) (found : turn.turn (state_of k) ≡ Some i) where
-  -- the place that was picked is taken
-  pub turn-takes : take_turn (state_of k) (turn.turn (state_of k)) ≡ taken (state_of (picked k i)) i
-  turn-takes =
-      let some = alive-some (slot k.table.places i) (turn-alive k none i found) in
-      let t = there-of k i some.0 is some.1.0 in
-      let at = process-idle k i none t.1 in
-      ap (take_turn (state_of k)) found
-      ∙ ap (pick (state_of k) i) at
-      ∙ sym (ap (taken_by (record (state_of k) { last = i }) i) at)
-      ∙ sym (ap (λ (s : State). taken s i) (picked-state k i none))
+-- ---- a process that waits runs again, and its call goes on
+
+-- a process that waits and may go on
+pub record IsResting (k : Kernel) (i : ℕ) (p : Process) (h : SpaceView) (w : Pending) : Type 0 where
+  pub there : IsThere k i p h
+  pub alive : lives p ≡ true
+  pub live : IsLive p
+  pub free : p.killed ≡ false
+  pub waits : p.mode ≡ Waiting w
+  pub pending : IsPending p.descriptors h.memory w w.number
+
+resting-mode : (p : Process) (m : Memory) (w : Pending) (mode : Mode) → mode ≡ Waiting w → IsMode p m mode → IsLive p × IsPending p.descriptors m w w.number
+resting-mode p m w mode e is = rw e at is
+
+pub resting-of : (k : Kernel) (i : ℕ) (w : Pending) (o : Option Process) → IsKernel k → slot k.table.places i ≡ o → WaitsIn o w → (p : Process) × ((h : SpaceView) × IsResting k i p h w)
+resting-of k i w None is at waits = absurd waits
+resting-of k i w (Some p) is at waits =
+    let t = there-of k i p is at in
+    let m = resting-mode p t.0.memory w p.mode waits.0 t.1.placed.mode in
+    (p, (t.0, record { there = t.1; alive = rw waits.0 refl; live = m.0; free = waits.1; waits = waits.0; pending = m.1 }))
+
+-- the process in place i, which waited with w in kernel k, runs again in kernel s
+pub record Resumes (k s : Kernel) (i : ℕ) (w : Pending) : Type 0 where
+  pub runs : Runs s i
+  pub can : CanWait s i w
+  pub row : resumed (state_of k) i ≡ settle (state_of s) i (going_at (state_of s) i w)
+
+module _ (k : Kernel) (i : ℕ) (p : Process) (h : SpaceView) (w : Pending) (is : IsKernel k) (none : k.spaces.active ≡ None) (up : k.tree.failed ≡ false) (f : IsResting k i p h w) where
+  abbrev to : Kernel
+  to = started_to k i p h is none f.there f.alive
+
+  awaits : IsAwaiting k.files p.descriptors w
+  awaits = subst (WaitsAs k.files p.descriptors) f.waits (subst (WaitsWell k.files) f.there.process (is.opened.waits i))
+
+  goes : resumed (state_of k) i ≡ settle (state_of to) i (going_at (state_of to) i w)
+  unfolding resume
+  goes =
+      let run = started-run k i p h is none f.there f.alive f.live f.free in
+      ap (resumed_by (state_of k) i) (process-idle k i none f.there)
+      ∙ ap (resumed_in (state_of k) i (with_space h p)) f.waits
+      ∙ ap (λ (s : State). settle s i (goes_on s i (with_space h (record p { mode = Running })) w w.number)) (sym (started-state k i p h is none f.there f.alive f.live f.free))
+      ∙ sym (ap (λ (o : Option unix.Process). settle (state_of to) i (going_by (state_of to) i w o)) (process-run to i (record p { mode = Running }) h run))
+
+  resting : Resumes k to i w
+  resting =
+      let run = started-run k i p h is none f.there f.alive f.live f.free in
+      record {
+        runs = record { active = refl; up = up; sound = started-kernel k i p h is none f.there f.alive f.live f.free; zero = f.there.placed.zero; aligned = f.there.placed.aligned };
+        can = (rw (ap descriptors_in run.process, ap (λ (o : Option SpaceView). unwrap_or o no_pages) run.space) f.pending, rw (ap descriptors_in run.process) awaits);
+        row = goes;
+      }
+
+module _ {k : Kernel} (i : ℕ) (w : Pending) (is : IsKernel k) (none : k.spaces.active ≡ None) (up : k.tree.failed ≡ false) (waits : WaitsIn (slot k.table.places i) w) where
+  pub waiting-can : CanRun (slot k.table.places i)
+  waiting-can = let r = resting-of k i w (slot k.table.places i) is refl waits in let f = r.1.1 in rw f.there.process (f.live, rw f.waits refl, f.free)
+
+  resumes-started : Resumes k (started k i) i w
+  resumes-started =
+      let r = resting-of k i w (slot k.table.places i) is refl waits in
+      let f = r.1.1 in
+      rw (started-is k i r.0 r.1.0 is none f.there f.alive) (resting k i r.0 r.1.0 w is none up f)
+
+  pub resumes-as : {s : Kernel} → s ≡ waking (started k i) s.table.awake → Resumes k s i w
+  resumes-as {s} same = let runs = resumes-started.runs in subst (λ (y : Kernel). Resumes k y i w) (sym same) (record {
+    runs = record { active = runs.active; up = runs.up; sound = kernel-waking runs.sound s.table.awake; zero = runs.zero; aligned = runs.aligned };
+    can = resumes-started.can;
+    row = resumes-started.row ∙ ap (λ (x : State). settle x i (going_at x i w)) (sym (state-waking (started k i) s.table.awake));
+  })
+
+-- it is resumed once its call is settled, unless an access failed
+pub resumes-if : {k s new : Kernel} {i : ℕ} {w : Pending} {came : Came} → Resumes k s i w → GoesOn s new i w came → (last : State) → (r : Result (Unit {0}) DeviceFault) → OnOk r (last ≡ settled_by (state_of new) i came) → OnOk r (resumed (state_of k) i ≡ quiet last)
+resumes-if x on last (Ok done) settled = x.row ∙ on.comes.makes ∙ ap quiet (sym settled)
+resumes-if x on last (Err fault) settled = tt

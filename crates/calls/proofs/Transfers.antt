@@ -1,19 +1,71 @@
 -- How a read and a write begin, and what they go on with: their tests are the same.
-use Rattle.calls.proofs.Common.{◌≡◌, ◌≢◌, ℕ, zero, suc, ◌<◌, Bool, true, false, ◌&&◌, List, Option, Some, None, refl, ap, subst, sym, ◌∙◌, arith, if◌then◌else◌, Err, IfSome, IsSome, Ok, Result, is_some, option_and_then}
-use Rattle.calls.proofs.Common.{option_map, result_ok, false≢true, none-some, same_Some, DeviceFault, Acts, ActsOnDisk, CanWait, GoesOnDisk, Runs, pending_for, Came, Answers, Refuses, descriptors_in, FitsNode, node_of}
-use Rattle.calls.proofs.Common.{node_on, Kernel, argument, descriptors_at, state_of, Stands, IsFresh, IsPending, file_named, is_on_pipe, Begins, MayUse, Transfers, call_on, can_transfer, target_for, target_named}
-use Rattle.calls.proofs.Common.{IsFileAt, file-at, open-named, file-opens, stands-open, held-run, Target, file_of, target_of, Counted, file_at, usable, Process, SpaceView, view_at, goes_on, row, Pending, is_usable}
-use Rattle.calls.proofs.Common.{read_row, unless_empty, write_row, slot, Memory, can_write, read_bytes, int_of, low, natural, Outcome, given, limited, pending_arg, pending_of, provided, Refused, arg, State, FitsFiles}
-use Rattle.calls.proofs.Acts.{Here, does, going, going-here, here-of, me, outcome-here, refused, used-here}
+use Rattle.calls.proofs.Common.{Acts, ActsOnDisk, Answers, ap, arg, argument, arith, Begins, Bool, bytes_given, bytes_in, call_on, Came, can_transfer, can_write, CanWait, cast_signed, cast_unsigned, cond_some, Counted, descriptors_at}
+use Rattle.calls.proofs.Common.{descriptors_in, DeviceFault, Directory, Err, false, false≢true, File, file-at, file-opens, file_at, file_named, file_of, Files, FileTree, FitsFiles, FitsNode, given, goes_on, GoesOnDisk, held-run, Here}
+use Rattle.calls.proofs.Common.{here-of, IfSome, if◌then◌else◌, int_of, is_on_pipe, is_some, is_usable, is_usable_node, IsFileAt, IsFresh, IsInUse, IsPending, IsSome, Kernel, leb-true, length, length-take-le, limited, List, Load, low}
+use Rattle.calls.proofs.Common.{MayUse, Memory, nat_le, natural, negsuc, Node, node_of, node_on, None, none-some, of_z-to_z, Ok, open-named, Option, option_and_then, option_map, Outcome, Pending, pending_arg, pending_for, pending_of, pos}
+use Rattle.calls.proofs.Common.{Process, provided, reach, read_bytes, read_row, refl, Refuses, Result, result_ok, row, Runs, same_Some, slot, Some, some-pipe, SpaceView, Stands, stands-open, State, state_of, subst, suc, sym, take, Target}
+use Rattle.calls.proofs.Common.{target_for, target_named, target_of, Transfers, true, unless_empty, view_at, write_row, zero, ℕ, ℤ, ◌&&◌, ◌<◌, ◌^◌, ◌∙◌, ◌≡◌, ◌≢◌, usable, Refused}
+use Rattle.std.specs.Int.{w32}
 use Rattle.kernel.proofs.Opens.{IsNamed}
-use Rattle.calls.proofs.Writes.{IsDevice, console-device, fits-at, fits-named, int-low, usable-open}
 use Rattle.files.specs.declared.file.End.{End}
 use Rattle.files.specs.declared.file.End.TheVariants.{Read, Write}
 use Rattle.files.specs.declared.file.OpenFile.{OpenFile}
-use Rattle.files.specs.declared.file.Target.TheVariants as target
 use Rattle.files.specs.Places.{opens_of}
+use Rattle.unixmodel.specs.Files.Node.{Device}
+use Rattle.calls.proofs.Acts.{going, going-here, makes, me, outcome-here, refused}
+use Rattle.files.specs.declared.file.Target.TheVariants as target
 use Rattle.unixmodel.specs.OpenFiles as unix_files
 use Rattle.unixmodel.specs.Process as unix
+
+-- ---- numbers
+
+natural-pos : (z : ℤ) (c : ℕ) → natural z ≡ Some c → z ≡ pos c
+natural-pos (pos n) c is = let e : n ≡ c = cc in ap pos e
+natural-pos (negsuc n) c is = absurd cc
+
+natural-cast : (n c : ℕ) → n < 2 ^ 32 → natural (cast_signed w32 n) ≡ Some c → n ≡ c
+natural-cast n c small is = sym (of_z-to_z w32 n small) ∙ ap (cast_unsigned w32) (natural-pos (cast_signed w32 n) c is)
+
+-- the number that an int is, if it is not below 0
+int-low : (x c : ℕ) → natural (int_of x) ≡ Some c → low x ≡ c
+int-low x c is = natural-cast (low x) c (omega arith) is
+
+-- ---- what is open
+
+usable-node : (f : OpenFile) (t : Target) (n : ℕ) (o : Option Node) → node_on t ≡ Some n → FitsNode f t o → is_usable_node o ≡ is_some (result_ok (usable t))
+usable-node f (target.Pipe q end) n o on fits = absurd (none-some n on)
+usable-node f (target.File m offset) n (Some (File links bytes)) on fits = refl
+usable-node f (target.File m offset) n (Some (Directory links places)) on fits = refl
+usable-node f (target.Console m) n (Some (Device links major minor)) on fits = rw fits refl
+usable-node f (target.Device m) n (Some (Device links major minor)) on fits = fits
+usable-node f _ n _ on fits = absurd fits
+
+-- what is open may be read and written, but for a device that isn't the console
+usable-open : (files : Files) (f : OpenFile) (t : Target) → FitsNode f t (node_of files (node_on t)) → is_usable files (target_of t) ≡ is_some (result_ok (usable t))
+usable-open files f (target.File n offset) fits = usable-node f (target.File n offset) n (slot files n) refl fits
+usable-open files f (target.Console n) fits = usable-node f (target.Console n) n (slot files n) refl fits
+usable-open files f (target.Device n) fits = usable-node f (target.Device n) n (slot files n) refl fits
+usable-open files f (target.Pipe q end) fits = refl
+
+-- the console is a device
+console-device : (f : OpenFile) (n : ℕ) (o : Option Node) → FitsNode f (target.Console n) o → (links : ℕ) × (major : ℕ) × (minor : ℕ) × (o ≡ Some (Device links major minor))
+console-device f n (Some (Device links major minor)) fits = (links, major, minor, refl)
+console-device f n _ fits = absurd fits
+
+-- what an open file is on fits it
+module _ {t : FileTree} {opens : List (Option Counted)} {places : List (Option Process)} (is : IsInUse t opens places) where
+  fits-of : (n : ℕ) → IfSome (file_at opens n) (λ f. FitsFiles t.files f)
+  fits-of n = go (slot opens n) refl where
+    go : (o : Option Counted) → slot opens n ≡ o → IfSome (option_map (λ (c : Counted). c.file) o) (λ f. FitsFiles t.files f)
+    go None at = tt
+    go (Some c) at = is.fits n c at
+
+  pub fits-at : (n : ℕ) (f : OpenFile) → file_at opens n ≡ Some f → FitsFiles t.files f
+  fits-at n f at = subst (λ (o : Option OpenFile). IfSome o (λ f. FitsFiles t.files f)) at (fits-of n)
+
+  fits-named : (o : Option ℕ) → IfSome (option_and_then (file_at opens) o) (λ f. FitsFiles t.files f)
+  fits-named None = tt
+  fits-named (Some n) = fits-of n
 
 -- ---- an open file, for reading or for writing
 
@@ -41,10 +93,10 @@ may-go : (e : End) (f : OpenFile) (t : Target) (b : Bool) → may e f ≡ b → 
 may-go e f t true flag is = let u = usable-is f.target t (sym (may-is e f true flag) ∙ is) in record { may = flag; on = u.0; usable = u.1 }
 may-go e f t false flag is = absurd (none-some t (sym (may-is e f false flag) ∙ is))
 
-target-is : (e : End) (o : Option OpenFile) (t : Target) → target_for e o ≡ Some t → option_map (λ (f : OpenFile). f.target) o ≡ Some t
-target-is Read None t is = absurd (none-some t is)
-target-is Write None t is = absurd (none-some t is)
-target-is e (Some f) t is = ap Some (may-go e f t (may e f) refl is).on
+for-of : (e : End) (o : Option OpenFile) (t : Target) → target_for e o ≡ Some t → (f : OpenFile) × (o ≡ Some f) × IsFor e f t
+for-of Read None t is = absurd (none-some t is)
+for-of Write None t is = absurd (none-some t is)
+for-of e (Some f) t is = (f, refl, may-go e f t (may e f) refl is)
 
 mode-is : (e : End) (o : Option OpenFile) (f : OpenFile) → o ≡ Some f → may e f ≡ true → MayUse e o
 mode-is Read o f at flag = rw at flag
@@ -101,52 +153,43 @@ fresh-go None P is = tt
 fresh-go (Some f) P is = λ on. is
 
 -- a call that has done nothing yet
-pub start-fresh : (opens : List (Option Counted)) (ds : List (Option ℕ)) (w : Pending) → w.done ≡ 0 → IsFresh opens ds w
+start-fresh : (opens : List (Option Counted)) (ds : List (Option ℕ)) (w : Pending) → w.done ≡ 0 → IsFresh opens ds w
 start-fresh opens ds w start = λ read. fresh-go (file_named opens ds (low (pending_arg w 0))) (w.done ≡ 0) start
 
 -- ---- the call of the running process
 
 -- r is what its descriptor is open on, if such a call may be made on it
-module _ {k : Kernel} {i : ℕ} (runs : Runs k i) (e : End) {r : Option Target} (found : r ≡ target_for e (file_named k.files (descriptors_at k i) (low (argument k 0)))) where
-  abbrev x : Here k i
-  x = here-of k i runs
-
+module _ {k : Kernel} {i : ℕ} (x : Here k i) (e : End) {r : Option Target} (found : r ≡ target_for e (file_named k.files (descriptors_at k i) (low (argument k 0)))) where
   abbrev named : Option OpenFile
   named = file_named k.files (descriptors_at k i) (low (argument k 0))
 
   abbrev rest : Outcome
-  rest = counted e (state_of k) i (me k i x)
+  rest = counted e (state_of k) i (me x)
 
   abbrev w : Pending
   w = pending_for k (call_on e)
 
-  row-here : row (state_of k) i (me k i x) (call_on e) ≡ given r (λ t. rest)
+  row-here : row (state_of k) i (me x) (call_on e) ≡ given r (λ t. rest)
   row-here =
-      row-files e k i (me k i x)
+      row-files e k i (me x)
       ∙ ap (λ (o : Option Process). filed e (state_of k) (file_named k.files (descriptors_in o) (low (argument k 0))) rest) (sym x.run.process)
-      ∙ filed-is named e (state_of k) rest (fits-named (used-here k i x) (slot (descriptors_at k i) (low (argument k 0))))
+      ∙ filed-is named e (state_of k) rest (fits-named (x.sound.used x.up) (slot (descriptors_at k i) (low (argument k 0))))
       ∙ ap (λ (o : Option Target). given o (λ t. rest)) (sym found)
 
-  refuses : row (state_of k) i (me k i x) (call_on e) ≡ Refused → Acts k k i (Some (call_on e)) Refuses
-  refuses is = refused k i x (Some (call_on e)) (ap limited is)
+  refuses : row (state_of k) i (me x) (call_on e) ≡ Refused → Acts k k i (Some (call_on e)) Refuses
+  refuses is = refused x (Some (call_on e)) (ap limited is)
 
   pub begins-unnamed : r ≡ None → Acts k k i (Some (call_on e)) Refuses
   begins-unnamed none = refuses (row-here ∙ rw none refl)
 
   module _ {t : Target} (is : r ≡ Some t) {o : Option ℕ} (told : o ≡ natural (int_of (argument k 2))) where
+    for-it : (f : OpenFile) × (named ≡ Some f) × IsFor e f t
+    for-it = for-of e named t (sym found ∙ is)
+
     on : target_named k i (low (argument k 0)) ≡ Some t
-    on = target-is e named t (sym found ∙ is)
+    on = ap (option_map (λ (f : OpenFile). f.target)) for-it.1 ∙ ap Some for-it.2.on
 
-    abbrev f : IsFileAt k.files (descriptors_at k i) (low (argument k 0)) t
-    f = file-at k.files (descriptors_at k i) (low (argument k 0)) t on
-
-    there : named ≡ Some f.file
-    there = ap (option_and_then (file_at k.files)) f.named ∙ f.opened
-
-    opened : IsFor e f.file t
-    opened = may-go e f.file t (may e f.file) refl (ap (target_for e) (sym there) ∙ sym found ∙ is)
-
-    row-counted : row (state_of k) i (me k i x) (call_on e) ≡ rest
+    row-counted : row (state_of k) i (me x) (call_on e) ≡ rest
     row-counted = row-here ∙ rw is refl
 
     pub begins-below : o ≡ None → Acts k k i (Some (call_on e)) Refuses
@@ -157,33 +200,33 @@ module _ {k : Kernel} {i : ℕ} (runs : Runs k i) (e : End) {r : Option Target} 
       count = sym told ∙ some
 
       pub begins-nothing : n ≡ 0 → Acts k k i (Some (call_on e)) (Answers 0)
-      begins-nothing none = does k i x k (call_on e) 0 x refl (row-counted ∙ rw (count, none) refl)
+      begins-nothing none = makes x (call_on e) 0 x.sound x.run.active refl refl (row-counted ∙ rw (count, none) refl)
 
       module _ (more : n ≢ 0) {b : Bool} (can : b ≡ can_transfer e (view_at k.spaces i).memory (argument k 1) n) where
-        row-tested : row (state_of k) i (me k i x) (call_on e) ≡ provided b (going k i x w)
+        row-tested : row (state_of k) i (me x) (call_on e) ≡ provided b (going x w)
         row-tested =
             row-counted
-            ∙ rw count (unless-some (state_of k) n (provided (can_transfer e x.held.memory (argument k 1) n) (going k i x w)) (omega arith))
-            ∙ ap (λ (b : Bool). provided b (going k i x w)) (ap (λ (h : SpaceView). can_transfer e h.memory (argument k 1) n) (sym (held-run k i x.process x.held x.run x.sound)) ∙ sym can)
+            ∙ rw count (unless-some (state_of k) n (provided (can_transfer e x.held.memory (argument k 1) n) (going x w)) (omega arith))
+            ∙ ap (λ (b : Bool). provided b (going x w)) (ap (λ (h : SpaceView). can_transfer e h.memory (argument k 1) n) (sym (held-run k i x.process x.held x.run x.sound)) ∙ sym can)
 
         pub begins-unusable : b ≡ false → Acts k k i (Some (call_on e)) Refuses
-        begins-unusable failed = refuses (row-tested ∙ ap (λ (b : Bool). provided b (going k i x w)) failed)
+        begins-unusable failed = refuses (row-tested ∙ ap (λ (b : Bool). provided b (going x w)) failed)
 
-        pub begins-on-it : b ≡ true → {v : Pending} → v ≡ w → Begins k i e t v
-        begins-on-it passed made = rw made (record {
+        pub begins-on-it : Runs k i → b ≡ true → {v : Pending} → v ≡ w → Begins k i e t v
+        begins-on-it runs passed made = rw made (record {
           uses = record {
             goes = record {
               runs = runs;
               number = refl;
-              can = pending-can e k (descriptors_at k i) (view_at k.spaces i).memory n (ap is_some f.named) count (omega arith) (sym can ∙ passed);
+              can = pending-can e k (descriptors_at k i) (view_at k.spaces i).memory n (ap is_some (file-at k.files (descriptors_at k i) (low (argument k 0)) t on).named) count (omega arith) (sym can ∙ passed);
               fresh = start-fresh k.files (descriptors_at k i) w refl;
               target = on;
             };
             start = refl;
-            usable = opened.usable;
-            mode = mode-is e named f.file there opened.may;
+            usable = for-it.2.usable;
+            mode = mode-is e named for-it.0 for-it.1 for-it.2.may;
           };
-          row = outcome-here k i x (Some (call_on e)) ∙ ap limited (row-tested ∙ ap (λ (b : Bool). provided b (going k i x w)) passed ∙ sym (going-here k i x w));
+          row = outcome-here x (Some (call_on e)) ∙ ap limited (row-tested ∙ ap (λ (b : Bool). provided b (going x w)) passed ∙ sym (going-here x w));
         })
 
 -- ---- it goes on
@@ -195,13 +238,13 @@ begun-acts b new (Err fault) lost = lost
 
 module _ {k : Kernel} {i : ℕ} {e : End} {t : Target} {w : Pending} (g : Transfers k i e t w) where
   abbrev pub here : Here k i
-  here = here-of k i g.runs
+  here = here-of g.runs
 
   -- its open file, which is also what the process's descriptor names
   pub file : IsFileAt k.files (descriptors_at k i) (low (pending_arg w 0)) t
   file = file-at k.files (descriptors_at k i) (low (pending_arg w 0)) t g.target
 
-  abbrev pub file-named : IsNamed (state_of k) (me k i here) (low (pending_arg w 0)) (file_of file.file)
+  abbrev pub file-named : IsNamed (state_of k) (me here) (low (pending_arg w 0)) (file_of file.file)
   file-named = record {
     number = file.number;
     named = ap (λ (o : Option Process). slot (descriptors_in o) (low (pending_arg w 0))) (sym here.run.process) ∙ file.named;
@@ -210,7 +253,7 @@ module _ {k : Kernel} {i : ℕ} {e : End} {t : Target} {w : Pending} (g : Transf
 
   -- its node fits it
   pub file-fits : FitsNode file.file t (node_of k.tree.files (node_on t))
-  file-fits = subst (λ (y : Target). FitsNode file.file y (node_of k.tree.files (node_on y))) file.on (fits-at (used-here k i here) file.number file.file file.opened)
+  file-fits = subst (λ (y : Target). FitsNode file.file y (node_of k.tree.files (node_on y))) file.on (fits-at (here.sound.used here.up) file.number file.file file.opened)
 
   -- the pipe that it is an end of is there
   pub transfer-stands : Stands k.spaces (target_of t)
@@ -220,8 +263,8 @@ module _ {k : Kernel} {i : ℕ} {e : End} {t : Target} {w : Pending} (g : Transf
   pub named-number : {d : ℕ} → d ≡ low (pending_arg w 0) → (o : Option ℕ) → o ≡ slot (descriptors_at k i) d → (n : ℕ) → o ≡ Some n → n ≡ file.number
   named-number place o told n some = same_Some n file.number (sym some ∙ told ∙ ap (slot (descriptors_at k i)) place ∙ file.named)
 
-  pub going-is : going k i here w ≡ goes_on (state_of k) i (me k i here) w (call_on e)
-  going-is = ap (goes_on (state_of k) i (me k i here) w) g.number
+  pub going-is : going here w ≡ goes_on (state_of k) i (me here) w (call_on e)
+  going-is = ap (goes_on (state_of k) i (me here) w) g.number
 
   pub held-here : view_at k.spaces i ≡ here.held
   held-here = held-run k i here.process here.held here.run here.sound
@@ -231,8 +274,28 @@ module _ {k : Kernel} {i : ℕ} {e : End} {t : Target} {w : Pending} (g : Transf
   named-file P is = subst (λ o. IfSome o P) (ap (option_and_then (file_at k.files)) file.named ∙ file.opened) is
 
 -- the console is a device
-pub console-here : {k : Kernel} {i n : ℕ} {e : End} {w : Pending} → Transfers k i e (target.Console n) w → IsDevice (slot k.tree.files n)
+pub console-here : {k : Kernel} {i n : ℕ} {e : End} {w : Pending} → Transfers k i e (target.Console n) w → (links : ℕ) × (major : ℕ) × (minor : ℕ) × (slot k.tree.files n ≡ Some (Device links major minor))
 console-here {k = k} {n = n} g = console-device (file g).file n (slot k.tree.files n) (file-fits g)
+
+-- what is in the pipe
+pub pipe-here : {k : Kernel} {i q : ℕ} {e d : End} {w : Pending} → Transfers k i e (target.Pipe q d) w → slot k.spaces.pipes q ≡ Some (bytes_in k.spaces q)
+pipe-here {k = k} {q = q} g = some-pipe (slot k.spaces.pipes q) (transfer-stands g)
+
+-- the bytes that a write puts
+module _ {k : Kernel} {i : ℕ} {t : Target} {w : Pending} (g : Transfers k i Write t w) where
+  abbrev pub given_bytes : List ℕ
+  given_bytes = bytes_given k.spaces i (pending_arg w 1) (low (pending_arg w 2))
+
+  pub read-given : read_bytes (here g).held.memory (pending_arg w 1) (low (pending_arg w 2)) ≡ Some given_bytes
+  read-given = ap (λ (h : SpaceView). read_bytes h.memory (pending_arg w 1) (low (pending_arg w 2))) (sym (held-here g)) ∙ some-pipe (read_bytes (view_at k.spaces i).memory (pending_arg w 1) (low (pending_arg w 2))) g.can.readable
+
+  -- as many as were asked for
+  pub length-given : length given_bytes ≡ low (pending_arg w 2)
+  length-given =
+      let n = low (pending_arg w 2) in
+      let all = reach Load (here g).held.memory (pending_arg w 1) in
+      let parts = cond_some (nat_le n (length all)) (take n all) given_bytes read-given in
+      ap length (sym parts.1) ∙ length-take-le n all (leb-true n (length all) parts.0)
 
 -- ---- a pending call that goes on
 
@@ -259,7 +322,7 @@ module _ {k : Kernel} {i : ℕ} {w : Pending} (e : End) (runs : Runs k i) (can :
   -- it is open on something
   pub target-some : r ≡ None → ⊥
   target-some none =
-      let x = here-of k i runs in
+      let x = here-of runs in
       let n = some-named (slot (descriptors_at k i) (low (pending_arg w 0))) (pending-named e (descriptors_at k i) (view_at k.spaces i).memory w pending) in
       let there = open-named k.files k.spaces.pipes k.table.places x.sound.opened i x.process (low (pending_arg w 0)) n.0 x.run.process (ap (λ (o : Option Process). slot (descriptors_in o) (low (pending_arg w 0))) (sym x.run.process) ∙ n.1) in
       let named : file_named k.files (descriptors_at k i) (low (pending_arg w 0)) ≡ file_at k.files n.0 = ap (option_and_then (file_at k.files)) n.1 in

@@ -1,24 +1,22 @@
 -- unlink: a name less, and its node is given up where nothing keeps it any more.
-use Rattle.calls.proofs.Served.{ok-told}
-use Rattle.calls.proofs.Common.{◌≡◌, ◌≢◌, ℕ, ◌*◌, ◌≤◌, ◌∙◌, Bool, List, [], None, Option, Some, ap, arith, false, refl, subst, sym, true, Result, if◌then◌else◌, nat_le, nat_lt, option_and_then, directory_at}
-use Rattle.calls.proofs.Common.{with_tree, option_map, slice_set, ◌&&◌, ◌||◌, length-set, none-some, Acts, ActsOnDisk, Runs, DeviceFault, Came, Answers, without_opens-same, IsInUse, Kernel, answered}
-use Rattle.calls.proofs.Common.{argument, loaded, state_of, IsKernel, is_by, kept-cong, used-is, away-loaded, opened-loaded, used-loaded, within-state, answer-run, not-killed, regs-kernel, regs-run}
-use Rattle.calls.proofs.Common.{process-run, unlink-parts, view_at, TreeFault, has_failed, Reaps, quiet, row, settle, blocks_of, frames_of, is_within, Unlink, Files, Node, Spot, blocks_for, change_node}
-use Rattle.calls.proofs.Common.{erase, is_directory, links_of, lookup, size_of, slot, spot_of, without_place, Directory, File, path_at, fewer_links, path_arg, unlink_row, unlinked, with_files, without_name}
-use Rattle.calls.proofs.Common.{Outcome, answers, limited, Done, with_answer, is_used, kept, reap, without_nodes, without_opens, without_pipes, State, change_process, open_limit, zero, ◌∷◌, suc, TakesName}
+use Rattle.calls.proofs.Common.{[], Acts, ActsOnDisk, answer-run, answered, Answers, answers, ap, argument, arith, away-loaded, blocks_for, blocks_of, Bool, Came, change_node, change_process, DeviceFault, Directory, directory_at, Done}
+use Rattle.calls.proofs.Common.{erase, false, fewer_links, File, Files, frames_of, has_failed, Here, if◌then◌else◌, is_by, is_directory, is_used, is_within, IsKernel, kept, kept-cong, Kernel, length-set, limited, links_of, List, loaded}
+use Rattle.calls.proofs.Common.{lookup, nat_le, nat_lt, Node, None, none-some, not-killed, open_limit, opened-loaded, Option, option_and_then, option_map, Outcome, path_arg, path_at, process-run, quiet, reap, Reaps, refl, Result, row}
+use Rattle.calls.proofs.Common.{Runner, settle, size_of, slot, Some, Spot, spot_of, State, state_of, subst, sym, TakesName, TreeFault, true, Unlink, unlink-parts, unlink_row, unlinked, used-is, used-loaded, view_at, with_answer, with_files}
+use Rattle.calls.proofs.Common.{with_tree, within-state, without_name, without_nodes, without_opens, without_opens-same, without_pipes, without_place, ℕ, ◌&&◌, ◌*◌, ◌||◌, ◌∙◌, ◌≡◌, ◌≢◌, ◌≤◌}
 use Rattle.files.proofs.CountsLemmas.{Counts}
 use Rattle.files.proofs.PipesLemmas.{without_pipes-same}
+use Rattle.files.proofs.Whole.{all-set}
 use Rattle.kernel.proofs.Named.{counts-joined}
 use Rattle.tree.specs.Holding.{let_go}
 use Rattle.calls.specs.Named.{IsNamed}
-use Rattle.calls.proofs.Acts.{Here, me, settles, used-here}
-use Rattle.calls.proofs.Altered.{sum-altered}
-use Rattle.calls.proofs.Names.{given-then, here, home-is, mine, named-acts, over-here, over-state, path-is, with_made}
-use Rattle.calls.proofs.Settles.{settle-reaped}
 use Rattle.tree.specs.Unlinks.{unlinked_in}
 use Rattle.unixmodel.specs.Counts.{opens_of}
-use Rattle.unixmodel.specs.Process as unix
 use Rattle.kernel.proofs.Unlinking.{kept-is, reaps}
+use Rattle.calls.proofs.Acts.{answered-runner, me, settle-reaped, settles}
+use Rattle.calls.proofs.Altered.{sum-altered}
+use Rattle.calls.proofs.Names.{given-then, home-is, named-acts, over-here, path-is, tree-state, with_made}
+use Rattle.unixmodel.specs.Process as unix
 
 -- ---- the row
 
@@ -60,16 +58,9 @@ placeless-size : (k : ℕ) (x : Node) → size_of (without_place k x) ≡ size_o
 placeless-size k (Directory links places) = ap (λ n. 16 * n) (length-set places k None)
 placeless-size k _ = refl
 
-changed-none : (files : Files) (n : ℕ) (f : Node → Node) (m : ℕ) → slot files m ≡ None → slot (change_node files n f) m ≡ None
-changed-none [] n f m gone = refl
-changed-none (o ∷ files) zero f zero gone = ap (option_map f) gone
-changed-none (o ∷ files) zero f (suc m) gone = gone
-changed-none (o ∷ files) (suc n) f zero gone = gone
-changed-none (o ∷ files) (suc n) f (suc m) gone = changed-none files n f m gone
-
 changed-less : (files : Files) (n : ℕ) (f : Node → Node) → ((x : Node) → size_of (f x) ≡ size_of x) → IsLess files (change_node files n f)
 unfolding blocks_of
-changed-less files n f sized = record { blocks = sum-altered (λ (x : Node). blocks_for (size_of x)) f (λ x. ap blocks_for (sized x)) files n; none = changed-none files n f }
+changed-less files n f sized = record { blocks = sum-altered (λ (x : Node). blocks_for (size_of x)) f (λ x. ap blocks_for (sized x)) files n; none = all-set (λ m o. slot files m ≡ None → o ≡ None) files n (option_map f (slot files n)) (λ gone. ap (option_map f) gone) (λ m gone. gone) }
 
 erased-less : (files : Files) (d k : ℕ) → IsLess files (erase files d k)
 unfolding erase
@@ -94,77 +85,65 @@ within-files s files same = ap (λ n. nat_le (frames_of s) s.frame_limit && nat_
 
 -- ---- the kernel with a name less
 
-module _ (k : Kernel) (i : ℕ) (x : Here k i) (d : ℕ) (path : List ℕ) {to : Kernel} (rest : to ≡ with_tree k to.tree) (sound : IsKernel to) (made : unlinked_in k.tree.holds k.tree.files d path ≡ Some to.tree.files)
+module _ {k : Kernel} {i : ℕ} (x : Here k i) (d : ℕ) (path : List ℕ) {to : Kernel} (rest : to ≡ with_tree k to.tree) (sound : IsKernel to) (made : unlinked_in k.tree.holds k.tree.files d path ≡ Some to.tree.files)
     (limit : to.tree.block_limit ≡ k.tree.block_limit) (holds : to.tree.holds ≡ k.tree.holds) (up : to.tree.failed ≡ false) (device : to.tree.identity ≡ k.tree.identity) (later : k.tree.failures ≤ to.tree.failures) where
-  is : IsInUse k.tree k.files k.table.places
-  is = used-here k i x
-
   abbrev g : Reaps k.tree.holds k.tree.files d path to.tree.files
-  g = reaps is to.tree d path made
+  g = reaps (x.sound.used x.up) to.tree d path made
 
   here-then : Here to i
-  here-then = over-here k i x rest sound up
+  here-then = over-here x rest sound up
 
   -- ---- what the row makes, once it is settled
 
-  abbrev last : Kernel
-  last = answered to 0
-
-  last-sound : IsKernel last
-  last-sound = regs-kernel to sound (slice_set to.spaces.registers 10 0) to.spaces.pc
+  abbrev last : Runner (answered to 0) i
+  last = answered-runner here-then 0
 
   -- before nodes are given up
   abbrev full : State
-  full = with_files (state_of last) g.less
+  full = with_files (state_of (answered to 0)) g.less
 
-  nodes-reaped : without_nodes full ≡ state_of last
+  nodes-reaped : without_nodes full ≡ state_of (answered to 0)
   unfolding without_nodes
   nodes-reaped =
-      let now = used-loaded last last-sound up in
+      let new = answered to 0 in
+      let now = used-loaded new last.sound up in
       ap (λ (fs : Files). record full { files = fs })
       (kept-cong (λ n node. nat_lt 0 (links_of node) || is_used full n) (is_by to.tree.holds) 0 g.less (λ a j y e at.
       let same : j ≡ a = omega (arith, e) in
-      let some : j ≢ 0 = λ z. none-some y (sym ((unlinked-less k.tree.files g.at g.less g.made).none 0 is.zero) ∙ ap (slot g.less) (sym z ∙ same) ∙ at) in
-      ap (λ b. nat_lt 0 (links_of y) || b) (used-is last.files (loaded last).places last.spaces.places (away-loaded last last-sound) full refl refl j some ∙ ap (nat_lt 0) (sym (now.holds j))))
+      let used = x.sound.used x.up in
+      let some : j ≢ 0 = λ z. none-some y (sym ((unlinked-less k.tree.files g.at g.less g.made).none 0 used.zero) ∙ ap (slot g.less) (sym z ∙ same) ∙ at) in
+      ap (λ b. nat_lt 0 (links_of y) || b) (used-is new.files (loaded new).places new.spaces.places (away-loaded new last.sound) full refl refl j some ∙ ap (nat_lt 0) (sym (now.holds j))))
       ∙ ap (λ hs. kept (is_by hs) 0 g.less) holds
-      ∙ sym (kept-is is to.tree d path made))
+      ∙ sym (kept-is (x.sound.used x.up) to.tree d path made))
 
-  reaped : reap full ≡ state_of last
+  reaped : reap full ≡ state_of (answered to 0)
   unfolding reap
   reaped =
-      let opened = opened-loaded last last-sound in
-      let counts : Counts last.files full.places = counts-joined last.files (loaded last).places last.spaces.places opened.counted in
-      let opens : without_opens full ≡ full = without_opens-same full last.files opened.table counts in
+      let new = answered to 0 in
+      let opened = opened-loaded new last.sound in
+      let counts : Counts new.files full.places = counts-joined new.files (loaded new).places new.spaces.places opened.counted in
+      let opens : without_opens full ≡ full = without_opens-same full new.files opened.table counts in
       let pipes : without_pipes full ≡ full = without_pipes-same full opened.piped in
       ap (λ (s : State). without_nodes (without_pipes s)) opens ∙ ap without_nodes pipes ∙ nodes-reaped
 
-  answered-is : change_process (with_files (state_of k) g.less) i (with_answer 0) ≡ full
-  answered-is =
-      ap (λ (s : State). change_process (with_files s g.less) i (with_answer 0)) (sym (over-state k i x rest sound limit))
-      ∙ ap (λ (s : State). with_files s g.less) (answer-run to i here-then.process here-then.held here-then.run here-then.sound 0)
-
-  settles-so : settle (state_of k) i (limited (Done (with_files (state_of k) g.less) 0 [])) ≡ quiet (state_of last)
-  settles-so =
-      let here-last = process-run last i here-then.process here-then.held (regs-run to i here-then.process here-then.held here-then.run here-then.sound (slice_set to.spaces.registers 10 0) to.spaces.pc) in
-      let within : is_within (with_files (state_of k) g.less) ≡ true = within-files (state_of k) g.less (unlinked-less k.tree.files g.at g.less g.made).blocks ∙ within-state k x.sound x.up in
-      rw within (settle-reaped (state_of k) (with_files (state_of k) g.less) i 0 [] answered-is here-last (not-killed to i here-then.process here-then.held here-then.run here-then.sound) reaped)
-
-  made-is : nameless k.tree.files d path ≡ Some g.less
-  made-is = ap (option_and_then (unlinked k.tree.files)) g.spot ∙ g.made
-
-  unlinks : row (state_of k) i (me k i x) Unlink ≡ with_made (state_of k) (nameless k.tree.files d path) → Acts k to i (Some Unlink) (Answers 0)
+  unlinks : row (state_of k) i (me x) Unlink ≡ with_made (state_of k) (nameless k.tree.files d path) → Acts k to i (Some Unlink) (Answers 0)
   unlinks makes =
-      settles k i x to Unlink 0 [] here-then (record { up = up; same_device = device; later = later })
-      (ap (λ (o : Outcome). settle (state_of k) i (limited o)) (makes ∙ ap (with_made (state_of k)) made-is) ∙ settles-so)
+      let y = here-then in
+      let answered-is : change_process (with_files (state_of k) g.less) i (with_answer 0) ≡ full =
+      ap (λ (s : State). change_process (with_files s g.less) i (with_answer 0)) (sym (tree-state x rest sound limit)) ∙ ap (λ (s : State). with_files s g.less) (answer-run to i y.process y.held y.run y.sound 0) in
+      let within : is_within (with_files (state_of k) g.less) ≡ true = within-files (state_of k) g.less (unlinked-less k.tree.files g.at g.less g.made).blocks ∙ within-state k x.sound x.up in
+      let settled : settle (state_of k) i (limited (Done (with_files (state_of k) g.less) 0 [])) ≡ quiet (state_of (answered to 0)) =
+      rw within (settle-reaped (state_of k) (with_files (state_of k) g.less) i 0 [] answered-is (process-run (answered to 0) i last.process last.held last.run) (not-killed to i y.process y.held y.run y.sound) reaped) in
+      settles x Unlink 0 y (record { up = up; same_device = device; later = later })
+      (ap (λ (o : Outcome). settle (state_of k) i (limited o)) (makes ∙ ap (with_made (state_of k)) (ap (option_and_then (unlinked k.tree.files)) g.spot ∙ g.made)) ∙ settled)
 
 -- ---- the process that calls
 
-module _ (k : Kernel) (i : ℕ) (runs : Runs k i) where
-  module _ {path : List ℕ} (is : Some path ≡ path_at (view_at k.spaces i).memory (argument k 0)) {new : Kernel} (rest : new ≡ with_tree k new.tree) (sound : IsKernel new) where
-    unlink-makes : row (state_of k) i (mine k i runs) Unlink ≡ with_made (state_of k) (nameless k.tree.files (directory_at k i) path)
-    unlink-makes = rw (home-is k i runs) (unlink-row (state_of k) i (mine k i runs) path (path-is k i runs 0 (Some path) is))
+module _ {k : Kernel} {i : ℕ} (x : Here k i) {path : List ℕ} (is : Some path ≡ path_at (view_at k.spaces i).memory (argument k 0)) {new : Kernel} (rest : new ≡ with_tree k new.tree) (sound : IsKernel new) where
+  unlink-makes : row (state_of k) i (me x) Unlink ≡ with_made (state_of k) (nameless k.tree.files (directory_at k i) path)
+  unlink-makes = rw (home-is x) (unlink-row (state_of k) i (me x) path (path-is x 0 is))
 
-    pub unlink-acts : {r : Result (Unit {0}) TreeFault} → TakesName k.tree new.tree (directory_at k i) path r → (came : Result Came DeviceFault) → IsNamed r came → ActsOnDisk k new i (Some Unlink) came
-    unlink-acts {r} acts = named-acts k i (here k i runs) rest sound acts Unlink
-        (λ v e. unlinks k i (here k i runs) (directory_at k i) path rest sound (ok-told _ r v e acts.done) acts.limit acts.holds (acts.failed ∙ ap has_failed e) acts.same_device acts.later unlink-makes)
-        (λ none. ap limited unlink-makes ∙ ap (λ (o : Option Files). limited (with_made (state_of k) o)) (nameless-none k.tree.holds k.tree.files (directory_at k i) path none))
+  pub unlink-acts : {r : Result (Unit {0}) TreeFault} → TakesName k.tree new.tree (directory_at k i) path r → (came : Result Came DeviceFault) → IsNamed r came → ActsOnDisk k new i (Some Unlink) came
+  unlink-acts acts = named-acts x rest sound acts Unlink
+      (λ v e. unlinks x (directory_at k i) path rest sound (rw e at acts.done) acts.limit acts.holds (acts.failed ∙ ap has_failed e) acts.same_device acts.later unlink-makes)
+      (λ none. ap limited unlink-makes ∙ ap (λ (o : Option Files). limited (with_made (state_of k) o)) (nameless-none k.tree.holds k.tree.files (directory_at k i) path none))

@@ -4,4 +4,4 @@ use Rattle.calls.proofs.calls.begin.Goals as goal
 pub returns : goal.returns
 returns g c =
     let s = c.is_sound.ensures in
-    begins c.args.kernel.now c.enter.new.self c.args.at c.enter.ensures (runs-of c.requires.running c.requires.up s.sound s.zero s.aligned)
+    begins (runs-of c.requires.running c.requires.up s.sound s.zero s.aligned) c.enter.ensures

@@ -1,4 +1,4 @@
-use Rattle.calls.proofs.Turned.{keys-made, next-keys}
+use Rattle.calls.proofs.Takes.{keys-made, next-keys}
 use Rattle.calls.proofs.events.key.Goals as goal
 
 pub returns-in-Ok-clause-gives : goal.returns-in-Ok-clause-gives

@@ -1,6 +1,5 @@
-use Rattle.calls.proofs.Takes.{does-err, does-made, made-quiet}
-use Rattle.calls.proofs.Turned.{next-executes, next-turns}
-use Rattle.calls.proofs.Common.{refl, sym, ◌∙◌, rules, err_from_is_err_and}
+use Rattle.calls.proofs.Common.{err_from_is_err_and, refl, rules, sym, ◌∙◌}
+use Rattle.calls.proofs.Takes.{does-err, does-made, made-quiet, next-executes, next-turns}
 use Rattle.calls.proofs.events.step.Goals.{in-None+in_ok-take_turn-in-None, in-Some+in_ok-instruct-in-Some}
 use Rattle.calls.proofs.events.step.Goals as goal
 

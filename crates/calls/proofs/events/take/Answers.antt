@@ -1,4 +1,4 @@
-use Rattle.calls.proofs.Common.{serves-disk, state-but, quiet, Kernel, ended, started, ap, negsuc, sym, ◌∙◌}
+use Rattle.calls.proofs.Common.{ap, ended, Kernel, negsuc, quiet, serves-disk, started, state-but, sym, ◌∙◌}
 use Rattle.calls.proofs.Served.{on-after, same-served, started-tree}
 use Rattle.calls.proofs.Takes.{ends-if, takes-killed, takes-ready, takes-waiting}
 use Rattle.calls.proofs.events.take.Goals as goal
@@ -20,7 +20,7 @@ returns-in-Ready-clause-gives g c =
 pub returns-in-Waiting-clause-gives : goal.returns-in-Waiting-clause-gives
 returns-in-Waiting-clause-gives g c =
     let there = sym c.process.ensures ∙ sym c.in-Some.ensures in
-    on-after _ _ _ c.go_on.result (takes-waiting c.args.kernel.now c.args.at c.in-Some.process c.is_sound.ensures.sound c.requires.idle there c.requires.up c.in-Waiting.pending c.if-process.false c.in-Waiting.is) c.go_on.ensures.gives
+    on-after _ _ _ c.go_on.result (takes-waiting c.args.kernel.now c.args.at c.in-Some.process c.is_sound.ensures.sound c.requires.idle there c.requires.up c.if-process.false c.in-Waiting.is) c.go_on.ensures.gives
 
 pub returns-then-process-clause-tree : goal.returns-then-process-clause-tree
 returns-then-process-clause-tree g c = serves-disk c.finish.ensures

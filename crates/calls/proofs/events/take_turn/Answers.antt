@@ -1,7 +1,7 @@
-use Rattle.calls.proofs.Common.{turn-alive, state-but, picked, ap, sym, ◌∙◌, State}
+use Rattle.calls.proofs.Common.{ap, picked, State, state-but, sym, turn-alive, ◌∙◌}
+use Rattle.calls.specs.Resuming.{taken}
 use Rattle.calls.proofs.Served.{on-after}
 use Rattle.calls.proofs.Takes.{turn-takes}
-use Rattle.calls.specs.Resuming.{taken}
 use Rattle.calls.proofs.events.take_turn.Goals as goal
 
 pub take-requires-clause-alive : goal.take-requires-clause-alive

@@ -1,6 +1,6 @@
+use Rattle.calls.proofs.Common.{ap, Kernel, quiet, state-but, sym, ticked, ◌∙◌}
 use Rattle.calls.proofs.Served.{ticked-tree}
-use Rattle.calls.proofs.Turned.{next-ticks}
-use Rattle.calls.proofs.Common.{state-but, Kernel, ticked, ap, sym, ◌∙◌, quiet}
+use Rattle.calls.proofs.Takes.{next-ticks}
 use Rattle.calls.proofs.events.tick.Goals as goal
 
 pub returns-clause-gives : goal.returns-clause-gives

@@ -1,36 +1,36 @@
-use Rattle.calls.proofs.Common.{ap, ◌∙◌, low, refl, Fstat, fstat_row}
-use Rattle.calls.proofs.Acts.{here-of, unnamed}
+use Rattle.calls.proofs.Common.{ap, Fstat, fstat_row, here-of, low, refl, ◌∙◌}
+use Rattle.calls.proofs.Acts.{unnamed}
 use Rattle.calls.proofs.Stats.{fstat-acts, fstat-can, fstat-nodeless, fstat-there, fstat-unwritable}
 use Rattle.calls.proofs.file_calls.fstat.Goals as goal
 
 pub returns-in_default : goal.returns-in_default
 unfolding fstat_row
-returns-in_default g c = unnamed c.args.kernel.now c.args.at (here-of c.args.kernel.now c.args.at c.requires) _ Fstat refl (c.low.ensures ∙ ap low c.argument.ensures) c.in_default.ensures.named
+returns-in_default g c = unnamed (here-of c.requires) _ Fstat refl (c.low.ensures ∙ ap low c.argument.ensures) c.in_default.ensures.named
 
 pub returns-in_default-node_of : goal.returns-in_default-node_of
 returns-in_default-node_of g c =
     let none = rw c.from.ensures at c.in_default-node_of.ensures in
-    fstat-nodeless c.args.kernel.now c.args.at c.requires c.low.result c.in-Some.id (c.low.ensures ∙ ap low c.argument.ensures) c.in-Some.ensures.named c.in_default-node_of.field-0 none
+    fstat-nodeless (here-of c.requires) (c.low.ensures ∙ ap low c.argument.ensures) c.in-Some.ensures.named none
 
 pub returns-then-not-can_write : goal.returns-then-not-can_write
 returns-then-not-can_write g c =
     let on = rw c.from.ensures at c.in-Ok.ensures in
     let cannot = rw c.argument-address.ensures at c.if-not-can_write.ensures in
-    fstat-unwritable c.args.kernel.now c.args.at c.requires c.low.result c.in-Some.id (c.low.ensures ∙ ap low c.argument.ensures) c.in-Some.ensures.named c.in-Ok.number on cannot
+    fstat-unwritable (here-of c.requires) (c.low.ensures ∙ ap low c.argument.ensures) c.in-Some.ensures.named on cannot
 
 pub stat-requires-clause-node : goal.stat-requires-clause-node
 stat-requires-clause-node g c =
     let on = rw c.from.ensures at c.in-Ok.ensures in
-    fstat-there c.args.kernel.now c.args.at c.requires c.low.result c.in-Some.id (c.low.ensures ∙ ap low c.argument.ensures) c.in-Some.ensures.named c.in-Ok.number on
+    fstat-there (here-of c.requires) (c.low.ensures ∙ ap low c.argument.ensures) c.in-Some.ensures.named on
 
 pub write-requires-clause-can : goal.write-requires-clause-can
 write-requires-clause-can g c =
     let on = rw c.from.ensures at c.in-Ok.ensures in
     let can = rw c.argument-address.ensures at c.if-not-can_write.ensures in
-    fstat-can c.args.kernel.now c.args.at c.requires c.low.result c.in-Some.id (c.low.ensures ∙ ap low c.argument.ensures) c.in-Some.ensures.named c.in-Ok.number on can c.in_ok-told.ensures.0 c.argument-address.ensures _ c.stat_bytes.ensures
+    fstat-can (here-of c.requires) (c.low.ensures ∙ ap low c.argument.ensures) c.in-Some.ensures.named on can c.in_ok-told.ensures.0 c.argument-address.ensures _ c.stat_bytes.ensures
 
 pub returns : goal.returns
 returns g c =
     let on = rw c.from.ensures at c.in-Ok.ensures in
     let can = rw c.argument-address.ensures at c.if-not-can_write.ensures in
-    fstat-acts c.args.kernel.now c.args.at c.requires c.low.result c.in-Some.id (c.low.ensures ∙ ap low c.argument.ensures) c.in-Some.ensures.named c.in-Ok.number on can c.in_ok-told.ensures.0 c.argument-address.ensures _ c.stat_bytes.ensures c.in_ok-told.ensures.1 c.write.ensures c.is_sound.ensures.sound
+    fstat-acts (here-of c.requires) (c.low.ensures ∙ ap low c.argument.ensures) c.in-Some.ensures.named on can c.in_ok-told.ensures.0 c.argument-address.ensures _ c.stat_bytes.ensures c.in_ok-told.ensures.1 c.write.ensures c.is_sound.ensures.sound

@@ -1,4 +1,4 @@
-use Rattle.calls.proofs.Common.{ap, refl, ◌∙◌, stat_told, zeros, le}
+use Rattle.calls.proofs.Common.{ap, le, refl, stat_told, zeros, ◌∙◌}
 use Rattle.calls.proofs.Stats.{le-2, le-4, le-8}
 use Rattle.calls.proofs.file_calls.stat_bytes.Goals as goal
 

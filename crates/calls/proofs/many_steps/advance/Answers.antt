@@ -1,5 +1,5 @@
+use Rattle.calls.proofs.Common.{Rises}
 use Rattle.calls.proofs.Pieces.{silent}
-use Rattle.unixmodel.specs.Failures.{Rises}
 use Rattle.calls.proofs.many_steps.advance.Goals as goal
 
 pub returns-in-None-clause-does : goal.returns-in-None-clause-does

@@ -1,6 +1,6 @@
-use Rattle.calls.proofs.Common.{arith, ◌+◌, ◌-◌, err_from_is_err_and}
+use Rattle.calls.proofs.Common.{arith, err_from_is_err_and, ◌+◌, ◌-◌}
+use Rattle.calls.proofs.Pieces.{stops-rest, went-all, went-idle, went-none, went-trans, went-up}
 use Rattle.calls.proofs.Runs.{Rises-later}
-use Rattle.calls.proofs.Pieces.{came, stops-rest, went-all, went-idle, went-none, went-trans, went-up}
 use Rattle.calls.proofs.many_steps.steps.Goals as goal
 
 pub loop-done-init : goal.loop-done-init
@@ -16,7 +16,7 @@ returns-in_err-ended g c =
     let few = c.advance-more.ensures.does.within in
     let within = before.within in
     let later = c.advance-more.ensures.later in
-    let all = stops-rest _ _ _ c.loop-done.done c.advance-more.result.0 c.args.count _ _ _ _ _ _ c.requires.goes (omega (arith, within, few)) before.went (λ r. Rises-later _ _ _ before.later r later) (came c.advance-more.ensures.does _ c.in_err-ended.was) in
+    let all = stops-rest _ _ _ c.loop-done.done c.advance-more.result.0 c.args.count _ _ _ _ _ _ c.requires.goes (omega (arith, within, few)) before.went (λ r. Rises-later _ _ _ before.later r later) (rw c.in_err-ended.was at c.advance-more.ensures.does.goes) in
     rw (p.1, p.2) (record { does = all.0; tree = all.1; later = let l = before.later in omega (arith, l, later) })
 
 pub returns-then-more-eq0 : goal.returns-then-more-eq0
@@ -28,7 +28,7 @@ returns-then-more-eq0 g c =
     let rest = c.args.count - done in
     let few = c.advance-more.ensures.does.within in
     let within = before.within in
-    let goes = came c.advance-more.ensures.does _ c.in_ok-ended.was in
+    let goes = rw c.in_ok-ended.was at c.advance-more.ensures.does.goes in
     let went = went-trans _ _ _ c.loop-done.done c.advance-more.result.0 _ _ _ c.requires.goes before.went goes.0 in
     let all = went-trans old new new done rest _ _ _ c.requires.goes went (went-idle new rest _ (went-up went) went.served.up (goes.1 c.if-more-eq0.true)) in
     record {
@@ -44,7 +44,7 @@ loop-done-preserved g c =
     let few = c.advance-more.ensures.does.within in
     record {
       within = omega (arith, within, few);
-      went = went-trans _ _ _ c.loop-done.done c.advance-more.result.0 _ _ _ c.requires.goes before.went (came c.advance-more.ensures.does _ c.in_ok-ended.was).0;
+      went = went-trans _ _ _ c.loop-done.done c.advance-more.result.0 _ _ _ c.requires.goes before.went (rw c.in_ok-ended.was at c.advance-more.ensures.does.goes).0;
       later = let l = before.later in let m = c.advance-more.ensures.later in omega (arith, l, m);
     }
 

@@ -1,6 +1,6 @@
-use Rattle.calls.proofs.Common.{ap, arith, subst, sym, ◌≡◌, turn-alive, state-but, Kernel, state_of, LeavesTree, FileTree}
-use Rattle.calls.proofs.Pieces.{busy-turn, idle-now, last-goes, turn-is, went-none, went-still}
+use Rattle.calls.proofs.Common.{ap, arith, FileTree, Kernel, LeavesTree, picked, state-but, state_of, subst, sym, turn-alive, ◌≡◌}
 use Rattle.calls.specs.Resuming.{taken}
+use Rattle.calls.proofs.Pieces.{busy-turn, idle-now, last-goes, turn-is, went-none, went-still}
 use Rattle.calls.proofs.many_steps.turn_once.Goals as goal
 
 pub take_once-requires-clause-alive : goal.take_once-requires-clause-alive

@@ -1,23 +1,20 @@
-use Rattle.calls.proofs.Common.{◌∙◌, sym, Chdir, refl, chdir_row}
-use Rattle.calls.proofs.Execs.{reaches}
-use Rattle.calls.proofs.Homes.{lost-path, read-runs}
-use Rattle.calls.proofs.Opens.{after-look}
+use Rattle.calls.proofs.Common.{Chdir, chdir_row, here-of, refl, sym, ◌∙◌}
+use Rattle.calls.proofs.Names.{after-look, lost-path, pathless, reaches, read-runs}
 use Rattle.calls.proofs.Served.{err-lost}
-use Rattle.calls.proofs.Names.{pathless}
 use Rattle.calls.proofs.open_calls.chdir.Goals as goal
 
 pub returns-in_default : goal.returns-in_default
 unfolding chdir_row
-returns-in_default g c = pathless c.args.kernel.now c.args.at c.requires _ Chdir refl c.in_default.ensures.path
+returns-in_default g c = pathless (here-of c.requires) _ Chdir refl c.in_default.ensures.path
 
 pub returns-in_default-2 : goal.returns-in_default-2
 unfolding chdir_row
-returns-in_default-2 g c = lost-path c.args.kernel.now c.args.at c.requires _ Chdir refl c.in-Some.ensures.path (c.in_ok-number.ensures.0, sym c.in_default-2.is ∙ c.in_ok-number.ensures.1)
+returns-in_default-2 g c = lost-path (here-of c.requires) _ Chdir refl c.in-Some.ensures.path (c.in_ok-number.ensures.0, sym c.in_default-2.is ∙ c.in_ok-number.ensures.1)
 
 pub chdir_found-requires : goal.chdir_found-requires
 chdir_found-requires g c =
     let reads = c.in_ok-number.ensures in
-    record { runs = read-runs c.args.kernel.now _ c.args.at reads.0 c.requires; reaches = reaches c.args.kernel.now c.args.at c.requires _ _ _ c.in-Some.ensures.path reads _ c.in-Some-2.is }
+    record { runs = read-runs reads.0 c.requires; reaches = reaches c.in-Some.ensures.path reads c.in-Some-2.is }
 
 pub resolve-requires : goal.resolve-requires
 resolve-requires g c = record { running = c.requires.active; up = c.requires.up }
@@ -26,4 +23,4 @@ pub returns-in_err-number : goal.returns-in_err-number
 returns-in_err-number g c = err-lost c.args.kernel.now _ c.args.at Chdir c.from_residual.result c.from_residual.ensures.0 c.in_err-number.ensures
 
 pub returns : goal.returns
-returns g c = after-look c.args.kernel.now _ _ c.args.at c.in_ok-number.ensures.0 c.requires.up Chdir _ c.chdir_found.ensures
+returns g c = after-look c.in_ok-number.ensures.0 _ c.args.at c.requires.up Chdir _ c.chdir_found.ensures

@@ -1,23 +1,23 @@
-use Rattle.calls.proofs.Homes.{chdir-goes, chdir-other, chdir-there, read-runs}
-use Rattle.calls.proofs.Opens.{after-look}
+use Rattle.calls.proofs.Common.{Chdir, here-of}
+use Rattle.calls.proofs.Homes.{chdir-goes, chdir-other, chdir-there}
+use Rattle.calls.proofs.Names.{after-look, read-runs}
 use Rattle.calls.proofs.Served.{err-lost}
-use Rattle.unixmodel.specs.declared.call.Call.TheVariants.{Chdir}
 use Rattle.calls.proofs.open_calls.chdir_found.Goals as goal
 
 pub stat-requires : goal.stat-requires
-stat-requires g c = record { up = c.requires.runs.up; node = chdir-there c.args.kernel.now c.args.at c.requires.runs c.args.number c.requires.reaches }
+stat-requires g c = record { up = c.requires.runs.up; node = chdir-there (here-of c.requires.runs) c.requires.reaches }
 
 pub returns-then-branch-ne-DIRECTORY : goal.returns-then-branch-ne-DIRECTORY
-returns-then-branch-ne-DIRECTORY g c = chdir-other c.args.kernel.now c.args.at c.requires.runs c.args.number c.requires.reaches _ _ c.in_ok-stat.ensures c.if-branch-ne-DIRECTORY.true
+returns-then-branch-ne-DIRECTORY g c = chdir-other (here-of c.requires.runs) c.requires.reaches _ c.in_ok-stat.ensures c.if-branch-ne-DIRECTORY.true
 
 pub work_in-requires : goal.work_in-requires
 work_in-requires g c =
     let reads = c.in_ok-stat.ensures in
-    let goes = chdir-goes c.args.kernel.now c.args.at c.requires.runs c.args.number c.requires.reaches _ _ reads c.if-branch-ne-DIRECTORY.false in
-    record { runs = read-runs c.args.kernel.now _ c.args.at reads.0 c.requires.runs; reaches = goes.0; directory = goes.1 }
+    let goes = chdir-goes (here-of c.requires.runs) c.requires.reaches _ reads c.if-branch-ne-DIRECTORY.false in
+    record { runs = read-runs reads.0 c.requires.runs; reaches = goes.0; directory = goes.1 }
 
 pub returns : goal.returns
-returns g c = after-look c.args.kernel.now _ _ c.args.at c.in_ok-stat.ensures.0 c.requires.runs.up Chdir _ c.work_in.ensures
+returns g c = after-look c.in_ok-stat.ensures.0 _ c.args.at c.requires.runs.up Chdir _ c.work_in.ensures
 
 pub returns-in_err-stat : goal.returns-in_err-stat
 returns-in_err-stat g c = err-lost c.args.kernel.now _ c.args.at Chdir c.from_residual.result c.from_residual.ensures.0 c.in_err-stat.ensures

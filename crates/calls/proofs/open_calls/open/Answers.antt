@@ -1,13 +1,12 @@
-use Rattle.calls.proofs.Common.{ap, ◌∙◌, Open, low, refl, open_row}
-use Rattle.calls.proofs.Homes.{read-runs}
-use Rattle.calls.proofs.Opens.{after-look, asked}
+use Rattle.calls.proofs.Common.{ap, here-of, low, Open, open_row, refl, ◌∙◌}
+use Rattle.calls.proofs.Names.{after-look, pathless, read-runs}
+use Rattle.calls.proofs.Opens.{asks-of}
 use Rattle.calls.proofs.Served.{err-lost}
-use Rattle.calls.proofs.Names.{pathless}
 use Rattle.calls.proofs.open_calls.open.Goals as goal
 
 pub returns-in_default : goal.returns-in_default
 unfolding open_row
-returns-in_default g c = pathless c.args.kernel.now c.args.at c.requires _ Open refl c.in_default.ensures.path
+returns-in_default g c = pathless (here-of c.requires) _ Open refl c.in_default.ensures.path
 
 pub resolve-requires : goal.resolve-requires
 resolve-requires g c = record { running = c.requires.active; up = c.requires.up }
@@ -18,15 +17,15 @@ returns-in_err-number g c = err-lost c.args.kernel.now _ c.args.at Open c.from_r
 pub open_found-requires : goal.open_found-requires
 open_found-requires g c =
     let reads = c.in_ok-number.ensures in
-    record { runs = read-runs c.args.kernel.now _ c.args.at reads.0 c.requires; asks = (_, asked c.args.at _ _ _ reads c.in-Some.ensures.path (c.low-flags.ensures ∙ ap low c.argument.ensures) _ c.in-Some-2.is) }
+    record { runs = read-runs reads.0 c.requires; asks = (_, asks-of c.in-Some.ensures.path (c.low-flags.ensures ∙ ap low c.argument.ensures) reads c.in-Some-2.is) }
 
 pub open_new-requires : goal.open_new-requires
 open_new-requires g c =
     let reads = c.in_ok-number.ensures in
-    record { runs = read-runs c.args.kernel.now _ c.args.at reads.0 c.requires; asks = asked c.args.at _ _ _ reads c.in-Some.ensures.path (c.low-flags.ensures ∙ ap low c.argument.ensures) _ c.in-None.is; path = c.in-Some.ensures.bytes }
+    record { runs = read-runs reads.0 c.requires; asks = asks-of c.in-Some.ensures.path (c.low-flags.ensures ∙ ap low c.argument.ensures) reads c.in-None.is; path = c.in-Some.ensures.bytes }
 
 pub returns-in-Some-2 : goal.returns-in-Some-2
-returns-in-Some-2 g c = after-look c.args.kernel.now _ _ c.args.at c.in_ok-number.ensures.0 c.requires.up Open _ c.open_found.ensures
+returns-in-Some-2 g c = after-look c.in_ok-number.ensures.0 _ c.args.at c.requires.up Open _ c.open_found.ensures
 
 pub returns-in-None : goal.returns-in-None
-returns-in-None g c = after-look c.args.kernel.now _ _ c.args.at c.in_ok-number.ensures.0 c.requires.up Open _ c.open_new.ensures
+returns-in-None g c = after-look c.in_ok-number.ensures.0 _ c.args.at c.requires.up Open _ c.open_new.ensures

@@ -1,25 +1,25 @@
-use Rattle.calls.proofs.Common.{ap, refl, sym, ◌∙◌, has_seat, Kernel}
+use Rattle.calls.proofs.Common.{ap, has_seat, here-of, Kernel, refl, sym, ◌∙◌}
 use Rattle.calls.proofs.Opens.{create-fails, created-openable, created-runs, open-absent, open-created, open-new-full}
 use Rattle.calls.proofs.open_calls.open_new.Goals as goal
 
 pub returns-then-not-creates : goal.returns-then-not-creates
-returns-then-not-creates g c = open-absent c.args.kernel.now c.args.at c.requires.runs c.args.path.now c.args.flags c.requires.asks (sym c.if-not-creates.ensures)
+returns-then-not-creates g c = open-absent (here-of c.requires.runs) c.requires.asks (sym c.if-not-creates.ensures)
 
 pub returns-then-not-has_seat : goal.returns-then-not-has_seat
-returns-then-not-has_seat g c = open-new-full c.args.kernel.now c.args.at c.requires.runs c.args.path.now c.args.flags c.requires.asks (sym c.if-not-creates.ensures) (sym c.if-not-has_seat.ensures)
+returns-then-not-has_seat g c = open-new-full (here-of c.requires.runs) c.requires.asks (sym c.if-not-creates.ensures) (sym c.if-not-has_seat.ensures)
 
 pub create-made-requires : goal.create-made-requires
 create-made-requires g c = record { running = c.requires.runs.active; up = c.requires.runs.up; path = c.requires.path }
 
 pub open_on-descriptor-requires : goal.open_on-descriptor-requires
 open_on-descriptor-requires g c = record {
-  runs = created-runs c.args.kernel.now c.args.at c.requires.runs c.args.path.now c.args.flags c.requires.asks (sym c.if-not-creates.ensures) c.create-made.ensures.rest c.is_sound.ensures.sound c.create-made.ensures.made c.in-Ok.number c.in-Ok.is;
+  runs = created-runs (here-of c.requires.runs) c.requires.asks (sym c.if-not-creates.ensures) c.create-made.ensures.rest c.is_sound.ensures.sound c.create-made.ensures.made c.in-Ok.is c.requires.runs;
   seat = ap (λ (y : Kernel). has_seat y c.args.at) c.create-made.ensures.rest ∙ sym c.if-not-has_seat.ensures;
-  may = created-openable c.args.kernel.now c.args.at c.requires.runs c.args.path.now c.args.flags c.requires.asks (sym c.if-not-creates.ensures) c.create-made.ensures.rest c.is_sound.ensures.sound c.create-made.ensures.made c.in-Ok.number c.in-Ok.is _ refl;
+  may = created-openable (here-of c.requires.runs) c.requires.asks (sym c.if-not-creates.ensures) c.create-made.ensures.rest c.is_sound.ensures.sound c.create-made.ensures.made c.in-Ok.is _ refl;
 }
 
 pub returns-in-Ok : goal.returns-in-Ok
-returns-in-Ok g c = open-created c.args.kernel.now c.args.at c.requires.runs c.args.path.now c.args.flags c.requires.asks (sym c.if-not-creates.ensures) c.create-made.ensures.rest c.is_sound.ensures.sound c.create-made.ensures.made c.in-Ok.number c.in-Ok.is c.open_on-descriptor.new.kernel c.open_on-descriptor.result c.open_on-descriptor.ensures
+returns-in-Ok g c = open-created (here-of c.requires.runs) c.requires.asks (sym c.if-not-creates.ensures) c.create-made.ensures.rest c.is_sound.ensures.sound c.create-made.ensures.made c.in-Ok.is c.open_on-descriptor.ensures
 
 pub returns-in-Err : goal.returns-in-Err
-returns-in-Err g c = create-fails c.args.kernel.now c.args.at c.requires.runs c.args.path.now c.args.flags c.requires.asks (sym c.if-not-creates.ensures) c.create-made.ensures.rest c.is_sound.ensures.sound c.create-made.ensures.made c.in-Err.fault c.in-Err.is c.refuse.result c.refuse.ensures
+returns-in-Err g c = create-fails (here-of c.requires.runs) c.requires.asks (sym c.if-not-creates.ensures) c.create-made.ensures.rest c.is_sound.ensures.sound c.create-made.ensures.made c.in-Err.fault c.in-Err.is c.refuse.result c.refuse.ensures

@@ -1,4 +1,4 @@
-use Rattle.calls.proofs.Common.{serves-disk, ap, negsuc, refl, subst, sym, ◌∙◌, IsEnd, Kernel, answered, counting, ended, marked, state_of, waking, state-but, state-waking}
+use Rattle.calls.proofs.Common.{answered, ap, counting, ended, here-in, IsEnd, Kernel, marked, negsuc, refl, serves-disk, state-but, state-waking, state_of, subst, sym, waking, ◌∙◌}
 use Rattle.calls.proofs.Acts.{runs-of, settles-answer, settles-blocks, settles-exits-if}
 use Rattle.calls.proofs.Kills.{settles-killed}
 use Rattle.calls.proofs.Served.{same-served, where-err}
@@ -56,4 +56,4 @@ returns-in_ok-finish-in-KillsItself-clause-gives g c =
     state-but (marked last c.args.at) c.mark.ensures
     ∙ ap (λ (x : Kernel). state_of (marked x c.args.at)) made
     ∙ state-waking (marked (counting (ended (answered k 0) c.args.at (negsuc 0)) last.tree.failures) c.args.at) last.table.awake
-    ∙ settles-killed (runs-of c.requires.running c.requires.up s.sound s.zero s.aligned))
+    ∙ settles-killed (here-in s.sound c.requires.running c.requires.up) s.zero s.aligned)

@@ -1,17 +1,17 @@
 use Rattle.calls.proofs.Common.{sym}
-use Rattle.calls.proofs.Forks.{fork-unfit, fork-unseated, forks}
+use Rattle.calls.proofs.Processes.{fork-unfit, fork-unseated, forks}
 use Rattle.calls.proofs.process_calls.fork.Goals as goal
 
 pub returns-in_default : goal.returns-in_default
-returns-in_default g c = fork-unseated c.args.kernel.now c.args.at c.requires c.in_default.field-0 (sym c.in_default.ensures.seat)
+returns-in_default g c = fork-unseated c.requires (sym c.in_default.ensures.seat)
 
 pub fork-requires-clause-may : goal.fork-requires-clause-may
 fork-requires-clause-may g c = record { running = c.requires.active; next = sym c.in-Ok.ensures.seat; up = c.requires.up }
 
 pub returns-then-not-fork : goal.returns-then-not-fork
-returns-then-not-fork g c = let d = c.if-not-fork.ensures in rw d.1 (fork-unfit c.args.kernel.now c.args.at c.requires c.in-Ok.seat (sym c.in-Ok.ensures.seat) d.0)
+returns-then-not-fork g c = let d = c.if-not-fork.ensures in rw d.1 (fork-unfit c.requires (sym c.in-Ok.ensures.seat) d.0)
 
 pub returns : goal.returns
 returns g c =
     let d = c.if-not-fork.ensures in
-    rw c.from.ensures (forks c.args.kernel.now c.args.at c.requires c.in-Ok.seat (sym c.in-Ok.ensures.seat) c.fork.new.self c.is_sound.ensures.sound d.1)
+    rw c.from.ensures (forks c.requires (sym c.in-Ok.ensures.seat) c.is_sound.ensures.sound d.1)

@@ -1,4 +1,4 @@
-use Rattle.calls.proofs.Common.{ap, sym, ◌∙◌, place_called}
+use Rattle.calls.proofs.Common.{ap, place_called, sym, ◌∙◌}
 use Rattle.calls.proofs.Kills.{named-is}
 use Rattle.calls.proofs.process_calls.place_called.Goals as goal
 

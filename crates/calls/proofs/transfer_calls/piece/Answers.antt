@@ -1,4 +1,4 @@
-use Rattle.calls.proofs.Common.{◌<◌, length, view_at, Load, piece_at, piece-some}
+use Rattle.calls.proofs.Common.{length, Load, piece-some, piece_at, view_at, ◌<◌}
 use Rattle.calls.proofs.transfer_calls.piece.Goals as goal
 
 pub returns-else-piece-most-clause-some : goal.returns-else-piece-most-clause-some

@@ -1,5 +1,5 @@
-use Rattle.calls.proofs.Prints.{Appends-none, next-fits, next-readable, prints-all, prints-front, prints-more, prints-within}
 use Rattle.calls.proofs.Common.{arith, err_from_is_err_and}
+use Rattle.calls.proofs.Prints.{Appends-none, prints-all, prints-front, prints-more, prints-within, rest-fits, rest-readable}
 use Rattle.calls.proofs.transfer_calls.print.Goals as goal
 
 pub loop-done-init : goal.loop-done-init
@@ -7,10 +7,12 @@ loop-done-init g c = record { within = omega arith; printed = Appends-none _; la
 
 pub overflow_add-address : goal.overflow_add-address
 overflow_add-address g c =
-    let fits = next-fits _ c.args.address c.args.count c.loop-done.done c.pages_are_whole.ensures.sized c.requires.readable c.loop-done-test.true c.pages_are_whole.ensures.few in omega (arith, fits)
+    let fits = rest-fits _ c.args.address c.args.count c.loop-done.done c.pages_are_whole.ensures.sized c.requires.readable c.loop-done-test.true c.pages_are_whole.ensures.few in omega (arith, fits)
 
 pub piece-piece-requires-clause-readable : goal.piece-piece-requires-clause-readable
-piece-piece-requires-clause-readable g c = next-readable _ c.args.address c.args.count c.loop-done.done c.pages_are_whole.ensures.sized c.requires.readable c.loop-done-test.true
+piece-piece-requires-clause-readable g c =
+    let less = c.loop-done-test.true in
+    let left = rest-readable _ c.args.address c.args.count c.loop-done.done c.pages_are_whole.ensures.sized c.requires.readable less in omega (arith, less, left)
 
 pub returns-in_err-put-clause-err : goal.returns-in_err-put-clause-err
 returns-in_err-put-clause-err g c =

@@ -1,5 +1,5 @@
-use Rattle.calls.proofs.Transfers.{target-some}
 use Rattle.files.specs.declared.file.End.TheVariants.{Read}
+use Rattle.calls.proofs.Transfers.{target-some}
 use Rattle.calls.proofs.transfer_calls.read_on.Goals as goal
 
 pub unreachable-requires : goal.unreachable-requires

@@ -1,5 +1,5 @@
-use Rattle.calls.proofs.Transfers.{goes-transfers, target-some}
 use Rattle.files.specs.declared.file.End.TheVariants.{Write}
+use Rattle.calls.proofs.Transfers.{goes-transfers, target-some}
 use Rattle.calls.proofs.transfer_calls.write_on.Goals as goal
 
 pub unreachable-requires : goal.unreachable-requires
