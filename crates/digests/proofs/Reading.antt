@@ -42,11 +42,7 @@ read-front bytes old new at count long is told =
     let there : count ≤ length (drop at bytes) = omega (arith, length-drop at bytes) in
     let exact : length (take count (drop at bytes)) ≡ count = length-take-le count (drop at bytes) there in
     let count_is : count ≡ min 1024 (length (drop at bytes)) = omega (arith, length-drop at bytes) in
-    ap (take count) told
-    ∙ take-append-le count (take count (drop at bytes)) (drop count old) (omega (arith, exact))
-    ∙ take_all count (take count (drop at bytes)) (omega (arith, exact))
-    ∙ ap (λ n. take n (drop at bytes)) count_is
-    ∙ take_min 1024 (drop at bytes)
+    rw (told, take-append-le count (take count (drop at bytes)) (drop count old) (omega (arith, exact)), take_all count (take count (drop at bytes)) (omega (arith, exact)), count_is) (take_min 1024 (drop at bytes))
 
 pub block-next : {old now new : Kernel} (number k digest : ℕ) (out : List ℕ) {so_far next count : ℕ} {out' : List ℕ}
     → SoFar old now (each (block_step (bytes_or_none (slot old.tree.files number))) k digest) so_far
@@ -71,11 +67,7 @@ no-node digest now None is tells mixed_is = mixed_is
 no-node digest now (Some node) is tells mixed_is = absurd (subst (λ (t : Option InodeStat). TellsAny t (Some node)) is tells)
 
 numbers-same : (s : InodeStat) (node : Node) → Tells s node → node_numbers s ≡ (kind_of node ∷ links_of node ∷ size_of node ∷ major_of node ∷ [])
-numbers-same s node tells =
-    ap (λ k. k ∷ s.links ∷ s.size ∷ major_told s ∷ []) tells.0
-    ∙ ap (λ l. kind_of node ∷ l ∷ s.size ∷ major_told s ∷ []) tells.1
-    ∙ ap (λ z. kind_of node ∷ links_of node ∷ z ∷ major_told s ∷ []) tells.2
-    ∙ ap (λ m. kind_of node ∷ links_of node ∷ size_of node ∷ m ∷ []) (major-is s node tells)
+numbers-same s node tells = rw (major-is s node tells, tells.0, tells.1, tells.2) refl
 
 node-same : (s : InodeStat) (o : Option Node) (digest : ℕ) → TellsAny (Some s) o → contents_mixed (mixed digest (node_numbers s)) s.size (bytes_or_none o) ≡ node_mixed digest o
 node-same s None digest tells = absurd tells

@@ -63,15 +63,12 @@ console-done c digest committed edited now n first second is all =
 
 -- ---- the rest
 
-last-of : (t : Places) (change : Process → Process) (o : Option ℕ) → t.last ≡ (changed_at t change o).last
-last-of t change None = refl
-last-of t change (Some i) = refl
-
-coming-of : (t : Places) (change : Process → Process) (o : Option ℕ) → t.next_pid ≡ (changed_at t change o).next_pid
-coming-of t change None = refl
-coming-of t change (Some i) = refl
+-- the hart's process says nothing of the rest
+rest-of : (t : Places) (change : Process → Process) (o : Option ℕ) → (t.last ≡ (changed_at t change o).last) × (t.next_pid ≡ (changed_at t change o).next_pid)
+rest-of t change None = (refl, refl)
+rest-of t change (Some i) = (refl, refl)
 
 pub front-state : (k : Kernel) → (k.ticks ∷ k.table.next_pid ∷ k.table.last ∷ status_number k.halted ∷ []) ≡ front_of (state_of k)
 front-state k =
-    ap (λ n. k.ticks ∷ n ∷ k.table.last ∷ status_number k.halted ∷ []) (coming-of k.table (on_hart k.spaces) k.spaces.active)
-    ∙ ap (λ n. k.ticks ∷ (loaded k).next_pid ∷ n ∷ status_number k.halted ∷ []) (last-of k.table (on_hart k.spaces) k.spaces.active)
+    ap (λ n. k.ticks ∷ n ∷ k.table.last ∷ status_number k.halted ∷ []) (rest-of k.table (on_hart k.spaces) k.spaces.active).1
+    ∙ ap (λ n. k.ticks ∷ (loaded k).next_pid ∷ n ∷ status_number k.halted ∷ []) (rest-of k.table (on_hart k.spaces) k.spaces.active).0
