@@ -1,24 +1,11 @@
 -- The nodes of an old image are copied one after the other.
-use Rattle.std.proofs.Common.{◌≡◌, ◌≢◌, ℕ, ◌+◌, ◌<◌, ◌≤◌, ◌==◌, List, None, Option, Some, length, ap, sym, ◌∙◌, arith, subst, cond}
-use Rattle.unixmodel.specs.Files.{Files, Node, free_slots, longest, put, slot}
-use Rattle.unixmodel.specs.Formats.{large, most_bytes, small}
-use Rattle.unixmodel.specs.Image.{DenotesSmall, FitsSize, KeepsNode, KeepsRules, KeepsRulesTo, Stands, format_of, kind_in}
-use Rattle.layout.specs.declared.Geometry.{Geometry}
-use Rattle.imagerules.specs.Fields.{HasGeometry}
-use Rattle.imagerules.specs.Places.{files_in, node_in}
-use Rattle.imagerules.specs.Rules.{BlockRules, BlockRules-of}
-use Rattle.imagerules.proofs.Denoting.{HasKinds-denotes, HasSizes-denotes}
+use Rattle.migrate.proofs.Common.{◌≡◌, ◌≢◌, ℕ, ◌+◌, ◌<◌, ◌≤◌, ◌==◌, List, None, Option, Some, length, ap, sym, ◌∙◌, arith, subst, cond, Files, Node, free_slots, longest, put, slot, large, most_bytes}
+use Rattle.migrate.proofs.Common.{small, DenotesSmall, FitsSize, KeepsNode, KeepsRules, KeepsRulesTo, Stands, format_of, kind_in, Geometry, HasGeometry, files_in, node_in, BlockRules, BlockRules-of}
+use Rattle.migrate.proofs.Common.{HasKinds-denotes, HasSizes-denotes, Store, FitsPlaces, inodes-least, inodes-most, node_fits, Directory, CanStand, Copies, Lacks, MigrateFault, Image, NoMemory}
 use Rattle.imagerules.proofs.Nodes.{file_in-free, file_in-used, slot-files_in}
-use Rattle.inode.specs.Store.{Store}
-use Rattle.tree.specs.Stored.{FitsPlaces}
-use Rattle.imagerules.proofs.Bounds.{inodes-least}
-use Rattle.imagerules.proofs.Denoting.{node_fits}
 use Rattle.imagerules.proofs.Nodes.{PlacesFit}
-use Rattle.unixmodel.specs.Files.Node.{Device, Directory, File}
 use Rattle.imagemake.proofs.MadeBare.{length-free, slot-free}
-use Rattle.migrate.specs.Copies.{CanStand, Copies, Lacks}
-use Rattle.migrate.specs.declared.fault.MigrateFault.{MigrateFault}
-use Rattle.migrate.specs.declared.fault.MigrateFault.TheVariants.{Blocks, Image, NoMemory}
+use Rattle.migrate.specs.declared.fault.MigrateFault.TheVariants.{Blocks}
 use Rattle.migrate.proofs.Parts.{IsPart, IsPart-all, IsPart-blocks, IsPart-free, IsPart-put}
 
 -- the disk stores the nodes below n
@@ -43,8 +30,7 @@ fits-more (Some node) h = omega arith
 
 places-fit : (node : Node) → PlacesFit node → FitsPlaces (Some node)
 places-fit (Directory links places) h = h
-places-fit (File links bytes) h = tt
-places-fit (Device links major minor) h = tt
+places-fit node h = tt
 
 module _ (old : List ℕ) (d : DenotesSmall old (files_in old)) where
   pub blocks-sound : BlockRules old
@@ -66,9 +52,6 @@ module _ (old : List ℕ) (d : DenotesSmall old (files_in old)) where
   module _ (g : Geometry) (has : HasGeometry old g) where
     pub count-files : length (files_in old) ≡ g.inodes
     count-files = d.count ∙ sym has.inodes
-
-    inodes-most : g.inodes ≤ 8192
-    inodes-most = let super = d.super in let most = super.inodes_most in omega (arith, has.inodes)
 
     pub copied-none : {D : Type 0} {s : Store D} → Copies g s (free_slots g.inodes) → HasCopied g s 1 (files_in old)
     copied-none copies = record {
@@ -93,7 +76,7 @@ module _ (old : List ℕ) (d : DenotesSmall old (files_in old)) where
       node-stands = record {
         is = subst (Stands old n) node-here (d.nodes n low (omega (arith, has.inodes)));
         short = subst (FitsSize longest) node-here (rules-more.sizes n);
-        fits = places-fit (node_in old n) (node_fits (files_in old) n (node_in old n) (omega (arith, inodes-least has, count-files)) (omega (arith, inodes-most, count-files)) (omega (arith, count-files)) (subst (KeepsNode (files_in old) n) node-here (d.rules.nodes n)));
+        fits = places-fit (node_in old n) (node_fits (files_in old) n (node_in old n) (omega (arith, inodes-least has, count-files)) (omega (arith, inodes-most has, count-files)) (omega (arith, count-files)) (subst (KeepsNode (files_in old) n) node-here (d.rules.nodes n)));
       }
 
       pub copied-more : {D : Type 0} {before after : Store D} (copied : HasCopied g before n (files_in old)) → Copies g after (put copied.now n (node_in old n)) → HasCopied g after (n + 1) (files_in old)

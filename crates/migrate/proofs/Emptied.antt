@@ -1,23 +1,14 @@
 -- A node is copied: first without its bytes, and then they come.
-use Rattle.std.proofs.Common.{◌++◌, ◌≡◌, ◌<◌, ◌+◌, ℕ, List, [], None, Some, length, ap, refl, ◌∙◌, arith, subst}
-use Rattle.std.specs.Prelude.{Err, IsSome, Ok, false, is_some, unwrap_or}
-use Rattle.std.proofs.lemmas.List.{append-nil, drop_all, get_or-set_same, length-set, set-set}
+use Rattle.migrate.proofs.Common.{◌++◌, ◌≡◌, ◌<◌, ◌+◌, ℕ, List, [], None, Some, length, ap, refl, ◌∙◌, arith, subst, Err, IsSome, Ok, false, is_some, unwrap_or, append-nil, drop_all, get_or-set_same, length-set, set-set}
+use Rattle.migrate.proofs.Common.{blocks_of, Files, Node, blocks_for, kind_of, links_of, node_bytes, put, size_of, slot, Directory, File, Geometry, Changes, IsFull, LacksWriting, Serves, Store, Writes, is_device, no_node}
+use Rattle.migrate.proofs.Common.{raw_at, with_bytes, FitsPlaces, IsRaw, Stores, Stores-set, blocks_of-set, length-held, taken_by, whole-node, major_of, minor_of, CanStand, Copies, Lacks, write_fault, taken-grows}
 use Rattle.blockdev.specs.Splice.{splice}
-use Rattle.unixmodel.specs.Counts.{blocks_of}
-use Rattle.unixmodel.specs.Files.{Files, Node, blocks_for, kind_of, links_of, node_bytes, put, size_of, slot}
-use Rattle.unixmodel.specs.Files.Node.{Device, Directory, File}
+use Rattle.unixmodel.specs.Files.Node.{Device}
 use Rattle.unixmodel.specs.Manifest.{data_blocks_of}
-use Rattle.layout.specs.declared.Geometry.{Geometry}
 use Rattle.layout.specs.Image.{RawNode, taken_for}
 use Rattle.balloc.specs.Inodes.{fresh_node}
-use Rattle.inode.specs.Store.{Changes, IsFull, LacksWriting, Serves, Store, Writes, is_device, no_node, raw_at, with_bytes}
 use Rattle.inode.specs.declared.InodeFault.{InodeFault}
 use Rattle.inode.specs.declared.InodeFault.TheVariants.{Blocks, Device, PastEnd, TooLong}
-use Rattle.tree.specs.Stored.{FitsPlaces, IsRaw, Stores}
-use Rattle.tree.proofs.Bridging.{taken-grows}
-use Rattle.tree.proofs.Storing.{Stores-set, blocks_of-set, length-held, taken_by, whole-node}
-use Rattle.imagemake.specs.Nodes.{major_of, minor_of}
-use Rattle.migrate.specs.Copies.{CanStand, Copies, Lacks, write_fault}
 
 -- the node without its bytes
 abbrev emptied : Node → Node
@@ -26,24 +17,20 @@ emptied (Device links major minor) = Device links major minor
 emptied (Directory links places) = Directory links []
 
 raw-emptied : (node : Node) → IsRaw (fresh_node (kind_of node) (major_of node) (minor_of node) (links_of node)) (emptied node)
-raw-emptied (File links bytes) = record { kind = refl; links = refl; bytes = refl; device = tt }
 raw-emptied (Device links major minor) = record { kind = refl; links = refl; bytes = refl; device = (refl, refl) }
-raw-emptied (Directory links places) = record { kind = refl; links = refl; bytes = refl; device = tt }
+raw-emptied node = record { kind = refl; links = refl; bytes = refl; device = tt }
 
 emptied-fits : (node : Node) → FitsPlaces (Some (emptied node))
-emptied-fits (File links bytes) = tt
-emptied-fits (Device links major minor) = tt
 emptied-fits (Directory links places) = λ k d l. absurd (omega arith)
+emptied-fits node = tt
 
 raw-whole : (node : Node) → IsRaw (with_bytes (fresh_node (kind_of node) (major_of node) (minor_of node) (links_of node)) (node_bytes node)) node
-raw-whole (File links bytes) = record { kind = refl; links = refl; bytes = refl; device = tt }
 raw-whole (Device links major minor) = record { kind = refl; links = refl; bytes = refl; device = (refl, refl) }
-raw-whole (Directory links places) = record { kind = refl; links = refl; bytes = refl; device = tt }
+raw-whole node = record { kind = refl; links = refl; bytes = refl; device = tt }
 
 emptied-size : (node : Node) → size_of (emptied node) ≡ 0
-emptied-size (File links bytes) = refl
 emptied-size (Device links major minor) = refl
-emptied-size (Directory links places) = refl
+emptied-size node = refl
 
 -- bytes of a node that has none
 splice-none : (bytes : List ℕ) → splice 0 bytes [] ≡ bytes

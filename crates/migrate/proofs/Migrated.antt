@@ -1,26 +1,12 @@
 -- The image that an old one becomes.
-use Rattle.std.proofs.Common.{◌≡◌, ℕ, List, ap, sym, ◌∙◌, arith, subst}
-use Rattle.inode.specs.Store.{IsLaidOut, IsWhole, Store}
-use Rattle.layout.proofs.Frame.{length-nodes_of}
-use Rattle.layout.specs.declared.Geometry.{Geometry}
-use Rattle.unixmodel.specs.Files.{Files, free_slots}
-use Rattle.unixmodel.specs.Formats.{Format}
-use Rattle.unixmodel.specs.Image.{Denotes, DenotesSmall, inodes_in, size_in}
+use Rattle.migrate.proofs.Common.{◌≡◌, ℕ, List, ap, sym, ◌∙◌, arith, subst, IsLaidOut, IsWhole, Store, Geometry, Files, free_slots, Format, Denotes, DenotesSmall, inodes_in, size_in}
+use Rattle.migrate.proofs.Common.{HasGeometry, files_in, Denotes-files, Copies, false≢true, Err, IsOk, Ok, OnOk, Result, files-are, held-again, IsStored, files_of, length-nodes_of, stored-after}
 use Rattle.imagerules.specs.Content.{image_of}
-use Rattle.imagerules.specs.Fields.{HasGeometry}
-use Rattle.imagerules.specs.Places.{files_in}
-use Rattle.imagerules.proofs.Denoting.{Denotes-files}
 use Rattle.imagemake.specs.Added.{IsBlank, IsPossible}
 use Rattle.imagemake.proofs.Denoted.{Denotes-stored, legible}
 use Rattle.imagemake.proofs.Imaging.{blank-stores}
 use Rattle.migrate.proofs.Copied.{count-files, rules-more, small-format}
-use Rattle.migrate.specs.Copies.{Copies}
-use Rattle.std.proofs.lemmas.Bool.{false≢true}
-use Rattle.std.specs.Prelude.{Err, IsOk, Ok, OnOk, Result}
 use Rattle.blockdev.specs.declared.DeviceFault.{DeviceFault}
-use Rattle.tree.proofs.Bridging.{stored-after}
-use Rattle.tree.proofs.Storing.{files-are, held-again}
-use Rattle.tree.specs.Stored.{IsStored, files_of}
 
 -- what the device has that is left
 pub left-stored : {D : Type 0} {g : Geometry} {s : Store D} {files : Files} (left : List (List ℕ)) → Copies g s files → (r : Result (Unit {0}) DeviceFault) → IsOk r → OnOk r (IsLaidOut s.geometry left s.nodes s.free) → IsStored g.size left files

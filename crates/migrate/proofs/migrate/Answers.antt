@@ -1,14 +1,8 @@
-use Rattle.std.proofs.Common.{◌<◌, Err, ap, sym, subst, ◌∙◌}
-use Rattle.std.proofs.lemmas.Result.{IfOk-from_err}
-use Rattle.unixmodel.specs.Image.{Denotes, inodes_in, size_in}
-use Rattle.imagerules.specs.Places.{files_in}
-use Rattle.unixmodel.specs.Counts.{blocks_of}
-use Rattle.unixmodel.specs.Manifest.{data_blocks_of}
-use Rattle.migrate.specs.Copies.{Lacks, image_fault}
-use Rattle.migrate.specs.declared.fault.MigrateFault.TheVariants.{Blocks, Image}
+use Rattle.migrate.proofs.Common.{◌≡◌, Err, ap, refl, sym, subst, ◌∙◌, Denotes, inodes_in, size_in, files_in, Lacks, MigrateFault, Image, told_err}
+use Rattle.migrate.specs.declared.fault.MigrateFault.TheVariants.{Blocks}
 use Rattle.migrate.proofs.Migrated.{blank-copies, denotes-migrated, inodes-migrated, left-stored, possible, size-migrated}
 use Rattle.migrate.proofs.Told.{image_fault-room, not_err, refused-image}
-use Rattle.imagemake.proofs.Owned.{err_is, told_err}
+use Rattle.imagecheck.proofs.Sounding.{one-fault}
 use Rattle.migrate.proofs.migrate.Goals as goal
 
 pub blank-requires : goal.blank-requires
@@ -29,42 +23,29 @@ into_device-device-requires c = record { up = c.in_ok-copy_nodes.ensures.up }
 
 pub returns-in_err-geometry : goal.returns-in_err-geometry
 returns-in_err-geometry c =
-    let r = c.from_residual.result in
     let found = c.in_err-geometry.field-0.0 in
-    let told = told_err r c.from_residual.ensures.1 in
-    record {
-      migrated = IfOk-from_err r _ c.from_residual.ensures.0;
-      source = IfOk-from_err r _ c.from_residual.ensures.0;
-      size = IfOk-from_err r _ c.from_residual.ensures.0;
-      inodes = IfOk-from_err r _ c.from_residual.ensures.0;
-      image = λ fault is.
-          refused-image c.args.old.now found fault (err_is (image_fault found) (Image fault) (sym told ∙ is)) c.in_err-geometry.ensures.fault c.in_err-geometry.ensures.refused
-          (λ device. c.in_err-geometry.ensures.device (ap Err device));
-      blocks = λ is. absurd (image_fault-room found (err_is (image_fault found) Blocks (sym told ∙ is)));
-    }
+    rw (told_err c.from_residual.result c.from_residual.ensures.1) (record {
+      migrated = tt;
+      source = tt;
+      size = tt;
+      inodes = tt;
+      image = λ fault is. refused-image c.args.old.now found fault (one-fault refl is) c.in_err-geometry.ensures.fault c.in_err-geometry.ensures.refused (λ device. c.in_err-geometry.ensures.device (ap Err device));
+      blocks = λ is. absurd (image_fault-room found (one-fault refl is));
+    })
 
 pub returns-in_err-copy_nodes : goal.returns-in_err-copy_nodes
 returns-in_err-copy_nodes c =
-    let old = c.args.old.now in
     let geometry = c.in_ok-geometry.geometry in
     let has = c.in_ok-geometry.ensures.geometry in
-    let r = c.from_residual-in_err-copy_nodes.result in
-    let fault = c.in_err-copy_nodes.field-0.0 in
-    let told = told_err r c.from_residual-in_err-copy_nodes.ensures.1 in
-    record {
-      migrated = IfOk-from_err r _ c.from_residual-in_err-copy_nodes.ensures.0;
-      source = IfOk-from_err r _ c.from_residual-in_err-copy_nodes.ensures.0;
-      size = IfOk-from_err r _ c.from_residual-in_err-copy_nodes.ensures.0;
-      inodes = IfOk-from_err r _ c.from_residual-in_err-copy_nodes.ensures.0;
-      image = λ f is. absurd (subst (Lacks geometry (files_in old)) (err_is fault (Image f) (sym told ∙ is)) c.in_err-copy_nodes.ensures);
-      blocks = λ is. (
-        files_in old,
-        c.in_ok-geometry.ensures.denotes,
-        subst (λ s. data_blocks_of s (inodes_in old) < blocks_of (files_in old)) has.size
-            (subst (λ i. data_blocks_of geometry.size i < blocks_of (files_in old)) has.inodes
-            (subst (Lacks geometry (files_in old)) (err_is fault Blocks (sym told ∙ is)) c.in_err-copy_nodes.ensures)),
-      );
-    }
+    let lacks = λ (fault : MigrateFault) (is : c.in_err-copy_nodes.field-0.0 ≡ fault). subst (Lacks geometry (files_in c.args.old.now)) is c.in_err-copy_nodes.ensures in
+    rw (told_err c.from_residual-in_err-copy_nodes.result c.from_residual-in_err-copy_nodes.ensures.1) (record {
+      migrated = tt;
+      source = tt;
+      size = tt;
+      inodes = tt;
+      image = λ fault is. absurd (lacks (Image fault) (one-fault refl is));
+      blocks = λ is. (files_in c.args.old.now, c.in_ok-geometry.ensures.denotes, rw (has.size, has.inodes) at (lacks Blocks (one-fault refl is)));
+    })
 
 pub returns : goal.returns
 returns c =

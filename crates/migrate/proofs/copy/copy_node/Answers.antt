@@ -1,11 +1,5 @@
-use Rattle.std.proofs.Common.{arith, ◌∙◌}
-use Rattle.migrate.specs.Copies.{write_fault}
-use Rattle.unixmodel.specs.Files.{put}
-use Rattle.imagerules.specs.Rules.{HasBlocks-of}
-use Rattle.imagerules.proofs.Bounds.{HasPlace-at}
-use Rattle.tree.proofs.Storing.{held-none, length-held}
+use Rattle.migrate.proofs.Common.{arith, ◌∙◌, HasBlocks-of, HasPlace-at, held-none, length-held, told_err}
 use Rattle.migrate.proofs.Emptied.{fresh-as, in-files, refused-lacks, taken-some, written-copies}
-use Rattle.migrate.proofs.Told.{copied-lacks, copied-memory}
 use Rattle.migrate.proofs.copy.copy_node.Goals as goal
 
 pub kind-kind-requires : goal.kind-kind-requires
@@ -36,10 +30,10 @@ take_at-requires g c =
     }
 
 pub returns-in_err-take_at : goal.returns-in_err-take_at
-returns-in_err-take_at g c = λ now node copies none stands. copied-memory c.args.geometry c.take_at.new.self (put now c.args.n node) c.from_residual.result c.from_residual.ensures.1
+returns-in_err-take_at g c = λ now node copies none stands. rw (told_err c.from_residual.result c.from_residual.ensures.1) tt
 
 pub returns-in_err-read_contents : goal.returns-in_err-read_contents
-returns-in_err-read_contents g c = λ now node copies none stands. copied-memory c.args.geometry c.take_at.new.self (put now c.args.n node) c.from_residual-in_err-read_contents.result c.from_residual-in_err-read_contents.ensures.1
+returns-in_err-read_contents g c = λ now node copies none stands. rw (told_err c.from_residual-in_err-read_contents.result c.from_residual-in_err-read_contents.ensures.1) tt
 
 pub write_at-requires : goal.write_at-requires
 write_at-requires g c =
@@ -50,7 +44,7 @@ pub returns-in_err-write_at : goal.returns-in_err-write_at
 returns-in_err-write_at g c = λ now node copies none stands.
     let taken = fresh-as node (c.kind-kind.ensures ∙ stands.is.kind) (c.device_major-major.ensures node stands.is) (c.device_minor-minor.ensures node stands.is) (c.links.ensures ∙ stands.is.links) c.in_ok-take_at.ensures.done in
     let bytes = c.deref.ensures.value ∙ c.in_ok-read_contents.ensures ∙ stands.is.contents in
-    copied-lacks c.args.geometry c.write_at.new.self (put now c.args.n node) c.from_residual-in_err-write_at.result (write_fault c.in_err-write_at.field-0.0) c.from_residual-in_err-write_at.ensures.1
+    rw (told_err c.from_residual-in_err-write_at.result c.from_residual-in_err-write_at.ensures.1)
     (refused-lacks copies c.args.n (in-files copies c.args.n c.requires.high) none node c.in_ok-take_at.ensures.follows.geometry taken stands bytes c.in_err-write_at.ensures)
 
 pub returns : goal.returns

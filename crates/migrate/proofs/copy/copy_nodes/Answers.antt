@@ -1,9 +1,5 @@
-use Rattle.std.proofs.Common.{◌≢◌, ◌+◌, arith, subst, sym, ◌∙◌}
-use Rattle.unixmodel.specs.Image.{kind_in}
-use Rattle.imagerules.specs.Places.{files_in, node_in}
-use Rattle.imagerules.proofs.Bounds.{HasPlace-at, inodes-least}
+use Rattle.migrate.proofs.Common.{◌≢◌, ◌+◌, arith, subst, sym, ◌∙◌, kind_in, files_in, node_in, HasPlace-at, inodes-least, told_err}
 use Rattle.migrate.proofs.Copied.{HasCopied, blocks-sound, copied-all, copied-free, copied-more, copied-none, count-files, lacks-more, node-stands}
-use Rattle.migrate.proofs.Told.{copied-lacks}
 use Rattle.migrate.proofs.copy.copy_nodes.Goals as goal
 use Rattle.migrate.proofs.copy.copy_nodes.Goals.{else-kind-ne0, then-kind-ne0+in_ok-copy_node}
 
@@ -32,7 +28,7 @@ returns-in_err-copy_node g c =
     let copied = c.loop-n.invariant in
     let high = c.loop-n-test.true in
     let used : kind_in old n ≢ 0 = λ z. c.if-kind-ne0.true (c.kind.ensures ∙ z) in
-    copied-lacks c.args.geometry c.copy_node.new.volume (files_in old) c.from_residual.result c.in_err-copy_node.field-0.0 c.from_residual.ensures.1
+    rw (told_err c.from_residual.result c.from_residual.ensures.1)
     (lacks-more old c.requires.source c.args.geometry c.requires.geometry n c.loop-n.auto.n high used copied _
     (c.in_err-copy_node.ensures copied.now (node_in old n) copied.copies (copied.part.after n (omega arith)) (node-stands old c.requires.source c.args.geometry c.requires.geometry n c.loop-n.auto.n high used)))
 
