@@ -1,20 +1,12 @@
 -- The image of the console alone, and its files in use.
-use Rattle.std.proofs.Common.{Err, List, Ok, Result, length, replicate, ℕ, ◌%◌, ◌∙◌, ◌≡◌, ap, arith, refl, subst, sym}
+use Rattle.mount.proofs.Common.{Err, List, Ok, Result, length, replicate, ℕ, ◌%◌, ◌∙◌, ◌≡◌, ap, arith, refl, subst, sym, Files, find, free_slots, lookup, parts, place_of, Denotes, inodes_in, size_in, Wrong, added, bare_files}
+use Rattle.mount.proofs.Common.{data_blocks_of, files_made, with_entries, with_manifest_entry, flat_files, image_of, MakesImage, Refuses, image_of-blocks, IsFlat, IsFlatImage, IsMounted, IsUnmounted, console_manifest, FileTree}
 use Rattle.blockdev.specs.Blocks as device
 use Rattle.unixmodel.specs.Counts.{blocks_of}
-use Rattle.unixmodel.specs.Files.{Files, find, free_slots, lookup, parts, place_of}
-use Rattle.unixmodel.specs.Image.{Denotes, inodes_in, size_in}
-use Rattle.unixmodel.specs.Manifest.{Wrong, added, bare_files, data_blocks_of, files_made, with_entries, with_manifest_entry}
-use Rattle.unixmodel.specs.Start.{flat_files}
-use Rattle.imagerules.specs.Content.{image_of}
-use Rattle.imagemake.specs.Making.{MakesImage, Refuses}
 use Rattle.imagecheck.specs.declared.ImageFault.{ImageFault}
 use Rattle.imagecheck.specs.declared.ImageFault.TheVariants as fault
 use Rattle.imagemake.specs.declared.manifest.MakeFault.{MakeFault}
 use Rattle.imagemake.specs.declared.manifest.MakeFault.TheVariants.{Blocks, Inodes, Name, NoMemory, Numbers, Parent, Twice}
-use Rattle.imagerules.proofs.ContentLemmas.{image_of-blocks}
-use Rattle.mount.specs.Mounted.{IsFlat, IsFlatImage, IsMounted, IsUnmounted, console_manifest}
-use Rattle.tree.specs.Tree.{FileTree}
 
 files_made-console : files_made console_manifest 32 16 ≡ Ok flat_files
 unfolding files_made with_entries with_manifest_entry bare_files added free_slots blocks_of flat_files lookup place_of parts find
@@ -32,10 +24,7 @@ IsFlatImage-made image makes = record {
 }
 
 not-wrong : (w : Wrong) → files_made console_manifest 32 16 ≡ Err w → ⊥
-not-wrong w h = ok-err (sym files_made-console ∙ h)
-  where
-    ok-err : ◌≡◌ {A = Result Files Wrong} (Ok flat_files) (Err w) → ⊥
-    ok-err e = cc
+not-wrong w h = let e : ◌≡◌ {A = Result Files Wrong} (Ok flat_files) (Err w) = sym files_made-console ∙ h in cc
 
 -- it is refused only where there is no memory
 pub not-refused : (f : MakeFault) → Refuses (files_made console_manifest 32 16) f → (f ≡ NoMemory → ⊥) → ⊥

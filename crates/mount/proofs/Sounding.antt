@@ -1,31 +1,15 @@
 -- A disk whose image denotes files is sound.
-use Rattle.std.proofs.Common.{◌≡◌, ◌≢◌, ℕ, ◌-◌, ◌<◌, ◌≤◌, List, length, get_or, ap, sym, ◌∙◌, arith, subst, inl, inr, All, IsTrue, flat_map, nat_le, nat_lt, ◌⊎◌, Decides, refl}
-use Rattle.std.specs.List.{range_with_len}
-use Rattle.std.proofs.lemmas.Bool.{and_parts, cases_lt, leb-true, ltb-true}
+use Rattle.mount.proofs.Common.{◌≡◌, ◌≢◌, ℕ, ◌-◌, ◌<◌, ◌≤◌, List, length, get_or, ap, ap₂, sym, ◌∙◌, arith, subst, All, IsTrue, flat_map, nat_le, nat_lt, ◌⊎◌, Decides, refl, range_with_len, and_parts, leb-true, ltb-true, All-weaker}
+use Rattle.mount.proofs.Common.{AreBlocks, IsInode, IsUsed, asked_slot, slot_of, HasParts, IsNamed, IsSound, TellsGeometry, bitmap_start_of, data_start_of, super_of, Geometry, Files, longest, Format, format, most_bytes, Denotes, bit_of}
+use Rattle.mount.proofs.Common.{data_start, format_of, inodes_in, is_data_block, kind_in, length_in, named_blocks, size_in, image_of, length-image_of, IsOnce, HasKinds-denotes, HasSizes-denotes, named_before-all, blocks_of-used}
+use Rattle.mount.proofs.Common.{kind-located, size-located, HasSlots, IsReadable, IsReadable-listed, format-told, slot-listed, spare-zero, IsLegible, bit-held, named-decides, HasNumbers-from, inodes-is, magic-is, size-is}
 use Rattle.std.proofs.lemmas.Bool.Decides.{Decides-eqb}
-use Rattle.std.proofs.lemmas.List.Elements.{All-weaker}
 use Rattle.blockdev.specs.Blocks as device
-use Rattle.blockdev.specs.Blocks.{AreBlocks}
 use Rattle.layout.specs.Image as disk
-use Rattle.layout.specs.Image.{IsInode, IsUsed, asked_slot, slot_of}
-use Rattle.layout.specs.Sound.{HasParts, IsNamed, IsSound, TellsGeometry}
-use Rattle.layout.specs.Super.{bitmap_start_of, data_start_of, super_of}
-use Rattle.layout.specs.declared.Geometry.{Geometry}
-use Rattle.unixmodel.specs.Files.{Files, longest}
-use Rattle.unixmodel.specs.Formats.{Format, format, most_bytes}
-use Rattle.unixmodel.specs.Image.{Denotes, bit_of, data_start, format_of, inodes_in, is_data_block, kind_in, length_in, named_blocks, size_in}
-use Rattle.imagerules.specs.Content.{image_of}
-use Rattle.imagerules.proofs.ContentLemmas.{length-image_of}
-use Rattle.imagerules.specs.Marks.{IsOnce, blocks_of}
+use Rattle.imagerules.specs.Marks.{blocks_of}
 use Rattle.imagerules.specs.Pieces.{FitsAddresses}
-use Rattle.imagerules.proofs.Denoting.{HasKinds-denotes, HasSizes-denotes}
-use Rattle.imagerules.proofs.Marking.{named_before-all, blocks_of-used}
-use Rattle.imagerules.proofs.Read.{kind-located, size-located}
 use Rattle.imagerules.proofs.Uses.{FitsAddresses-at, is_data_block-below}
-use Rattle.mount.proofs.Ranges.{apart-two, once-one}
-use Rattle.imagemake.proofs.Slotted.{HasSlots, IsReadable, IsReadable-listed, format-told, slot-listed, spare-zero}
-use Rattle.imagemake.proofs.Legible.{IsLegible, bit-held, named-decides}
-use Rattle.imagerules.proofs.Super.{HasNumbers-from, inodes-is, magic-is, size-is}
+use Rattle.mount.proofs.Ranges.{once-places}
 
 -- the blocks of a device whose image denotes these files, and the numbers that its super block tells
 pub record IsDenoted (g : Geometry) (blocks : List (List ℕ)) (files : Files) : Type 0 where
@@ -34,7 +18,7 @@ pub record IsDenoted (g : Geometry) (blocks : List (List ℕ)) (files : Files) :
   pub inodes : g.inodes ≡ inodes_in (image_of blocks)
   pub denotes : Denotes (image_of blocks) files
 
-module _ (g : Geometry) (blocks : List (List ℕ)) (files : Files) (h : IsDenoted g blocks files) where
+module _ {g : Geometry} {blocks : List (List ℕ)} {files : Files} (h : IsDenoted g blocks files) where
   -- ---- the super block
 
   count-held : length blocks ≡ g.size
@@ -122,49 +106,20 @@ module _ (g : Geometry) (blocks : List (List ℕ)) (files : Files) (h : IsDenote
   once-all : IsOnce all_listed
   once-all = subst IsOnce (sym (named_before-all (image_of blocks))) h.denotes.once
 
-  once-listed : (n : ℕ) → IsInode blocks g.inodes n → IsOnce (blocks_of (image_of blocks) n)
-  once-listed n inode = let in_range = within-inode n inode in once-one (blocks_of (image_of blocks)) 1 (inodes_in (image_of blocks) - 1) once-all n inode.low (omega arith)
-
   slot-data : (n k : ℕ) → IsUsed blocks g.inodes n k → IsData (slot_of blocks n k)
   slot-data n k u =
       let at = slot-listed g blocks n (readable n u.inode) k 0 u.slot in
       subst IsData at.2 (data-listed n u.inode at.0 0 at.1)
 
-  -- two slots of one inode
-  once-inode : (n j k : ℕ) → IsUsed blocks g.inodes n j → IsUsed blocks g.inodes n k → slot_of blocks n j ≡ slot_of blocks n k → j ≡ k
-  once-inode n j k u v e =
-      let a = slot-listed g blocks n (readable n u.inode) j 0 u.slot in
-      let b = slot-listed g blocks n (readable n u.inode) k 0 v.slot in
-      let once = once-listed n u.inode in
-      let same : get_or (blocks_of (image_of blocks) n) a.0 0 ≡ get_or (blocks_of (image_of blocks) n) b.0 0 = a.2 ∙ e ∙ sym b.2 in
-      elim (cases_lt a.0 b.0) [
-        | inl low ↦ absurd (once a.0 b.0 0 low b.1 same)
-        | inr p ↦ elim (cases_lt b.0 a.0) [
-          | inl low ↦ absurd (once b.0 a.0 0 low a.1 (sym same))
-          | inr q ↦
-              let place : a.0 ≡ b.0 = omega arith in
-              sym a.3 ∙ ap (λ p. asked_slot (disk.blocks_for (disk.inode_at blocks n).size) p) place ∙ b.3
-        ]
-      ]
-
-  -- slots of two
-  apart-inodes : (m j n k : ℕ) → m < n → IsUsed blocks g.inodes m j → IsUsed blocks g.inodes n k → slot_of blocks m j ≢ slot_of blocks n k
-  apart-inodes m j n k low u v e =
+  -- two slots have one block only where they are one
+  once-slots : (m j n k : ℕ) → IsUsed blocks g.inodes m j → IsUsed blocks g.inodes n k → slot_of blocks m j ≡ slot_of blocks n k → (m ≡ n) × (j ≡ k)
+  once-slots m j n k u v e =
       let a = slot-listed g blocks m (readable m u.inode) j 0 u.slot in
       let b = slot-listed g blocks n (readable n v.inode) k 0 v.slot in
-      let high = within-inode n v.inode in
-      apart-two (blocks_of (image_of blocks)) 1 (inodes_in (image_of blocks) - 1) once-all m n u.inode.low low (omega arith) a.0 b.0 0 a.1 b.1 (a.2 ∙ e ∙ sym b.2)
-
-  once-slots : (m j n k : ℕ) → IsUsed blocks g.inodes m j → IsUsed blocks g.inodes n k → slot_of blocks m j ≡ slot_of blocks n k → (m ≡ n) × (j ≡ k)
-  once-slots m j n k u v e = elim (cases_lt m n) [
-    | inl low ↦ absurd (apart-inodes m j n k low u v e)
-    | inr a ↦ elim (cases_lt n m) [
-      | inl low ↦ absurd (apart-inodes n k m j low v u (sym e))
-      | inr b ↦
-          let same : n ≡ m = omega arith in
-          (sym same, once-inode m j k u (subst (λ q. IsUsed blocks g.inodes q k) same v) (e ∙ ap (λ q. slot_of blocks q k) same))
-    ]
-  ]
+      let m_high = within-inode m u.inode in
+      let n_high = within-inode n v.inode in
+      let same = once-places (blocks_of (image_of blocks)) 1 (inodes_in (image_of blocks) - 1) once-all m n u.inode.low (omega arith) v.inode.low (omega arith) a.0 b.0 0 a.1 b.1 (a.2 ∙ e ∙ sym b.2) in
+      (same.0, sym a.3 ∙ ap₂ (λ i p. asked_slot (disk.blocks_for (disk.inode_at blocks i).size) p) same.0 same.1 ∙ b.3)
 
   -- a block before the data has its bit set, and one that is named, and no others
   bit-decides : (b : ℕ) → b < g.size → Decides (bit_of (image_of blocks) b) ((b < data_start_of g.size g.inodes) ⊎ IsNamed blocks g.inodes b)

@@ -1,6 +1,4 @@
-use Rattle.std.proofs.Common.{ap, ◌∙◌}
-use Rattle.imagerules.proofs.Super.{inodes-is, size-is}
-use Rattle.layout.specs.Super.{super_of}
+use Rattle.mount.proofs.Common.{ap, ◌∙◌, inodes-is, size-is, super_of}
 use Rattle.mount.proofs.device.read_geometry.Goals as goal
 
 pub returns-clause-numbers : goal.returns-clause-numbers

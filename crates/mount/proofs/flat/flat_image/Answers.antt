@@ -1,6 +1,4 @@
-use Rattle.std.proofs.Common.{subst}
-use Rattle.imagemake.specs.Making.{MakesImage, Refuses}
-use Rattle.unixmodel.specs.Manifest.{files_made}
+use Rattle.mount.proofs.Common.{subst, MakesImage, Refuses, files_made}
 use Rattle.mount.proofs.Console.{IsFlatImage-made, not-refused}
 use Rattle.mount.proofs.flat.flat_image.Goals as goal
 

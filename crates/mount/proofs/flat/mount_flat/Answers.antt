@@ -1,7 +1,5 @@
-use Rattle.std.proofs.Common.{arith, refl, vec_len, ◌%◌, ◌≡◌}
+use Rattle.mount.proofs.Common.{arith, refl, vec_len, ◌%◌, ◌≡◌, image_of, flat_files}
 use Rattle.blockdev.specs.Blocks.{blocks_of}
-use Rattle.imagerules.specs.Content.{image_of}
-use Rattle.unixmodel.specs.Start.{flat_files}
 use Rattle.mount.proofs.Console.{Denotes-disk, IsFlat-mounted, not-unmounted}
 use Rattle.mount.proofs.flat.mount_flat.Goals as goal
 
