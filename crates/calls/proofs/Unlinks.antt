@@ -6,7 +6,7 @@ use Rattle.calls.proofs.Common.{Runner, settle, size_of, slot, Some, Spot, spot_
 use Rattle.calls.proofs.Common.{with_tree, within-state, without_name, without_nodes, without_opens, without_opens-same, without_pipes, without_place, ℕ, ◌&&◌, ◌*◌, ◌||◌, ◌∙◌, ◌≡◌, ◌≢◌, ◌≤◌}
 use Rattle.files.proofs.CountsLemmas.{Counts}
 use Rattle.files.proofs.PipesLemmas.{without_pipes-same}
-use Rattle.files.proofs.Whole.{all-set}
+use Rattle.files.proofs.Mapped.{all-set}
 use Rattle.kernel.proofs.Named.{counts-joined}
 use Rattle.tree.specs.Holding.{let_go}
 use Rattle.calls.specs.Named.{IsNamed}
