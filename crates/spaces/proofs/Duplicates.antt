@@ -2,7 +2,7 @@
 use Rattle.spaces.proofs.Common.{◌≡◌, IsDuplicate, Inside, IsSpaces, pipe_frames, HoldsNothing, coherent-nothing, entries_of}
 use Rattle.spaces.proofs.Traded.{still-active}
 use Rattle.unixmodel.specs.Translation as translation
-use Rattle.vm.proofs.Duplicates.{same-machine}
+use Rattle.vm.proofs.SharesLemmas.{same-machine}
 
 -- the parts of a duplicate, with a translator that is fenced
 pub record IsParts {T U : Type 0} (held : U → translation.Held) (i : Inside T) (j : Inside U) : Type 0 where

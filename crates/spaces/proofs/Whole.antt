@@ -2,7 +2,7 @@
 use Rattle.spaces.proofs.Common.{IsMemory, Inside, view_at, IsSpaces, spaces_of, ◌≡◌, ◌≤◌, List, ℕ, length, Option, Some, None, true, is_some, slot, Page, ceil_div, IsSized, Space, pages_in}
 use Rattle.spaces.proofs.Places.{held-is, length-pages_of}
 use Rattle.unixmodel.specs.Translation as translation
-use Rattle.vm.proofs.SizedLemmas.{pages-sized}
+use Rattle.vm.proofs.PageLemmas.{pages-sized}
 
 pub record IsWhole (memory : List Page) (size : ℕ) : Type 0 where
   pub few : length memory ≤ 32768

@@ -3,13 +3,13 @@ pub use Rattle.std.proofs.Common.{◌%◌, ◌&&◌, ◌*◌, ◌+◌, ◌++◌,
 pub use Rattle.std.proofs.Common.{get_or-set_other, get_or-set_same, inl, inr, leb, length, length-append, length-drop, length-set, length-take, List, ltb, map, min, nat_eq}
 pub use Rattle.std.proofs.Common.{None, Option, refl, replicate, rules, slice_set, Some, subst, suc, sym, take, true, unwrap_or, zero, ◌||◌, ℕ, ◌∙◌, ◌∷◌, ◌≡◌, ◌≢◌, ◌≤◌, ◌⊎◌}
 pub use Rattle.std.proofs.Math.Seq.{drop-cons, take-add, take-suc, take-suc-set}
-pub use Rattle.std.proofs.lemmas.Bool.{and_parts, cases_Bool, cases_eq, cases_lt, eqb-true, le-leb, le-ltb, leb-true, lt-leb, lt-ltb, ne_eqb}
-pub use Rattle.std.proofs.lemmas.List.{drop-append-le, drop-drop, drop-set-lt, drop_all, drop_at, ext_get_or, get_or-drop, map-append, replicate_more, set-get_or, take-append-drop, take-append-le, take_all}
+pub use Rattle.std.proofs.lemmas.Bool.{and_parts, cases_Bool, cases_eq, cases_lt, eqb-true, le-leb, le-ltb, leb-false, leb-true, lt-leb, lt-ltb, ne_eqb, or_cases}
+pub use Rattle.std.proofs.lemmas.List.{drop-append-le, drop-drop, drop-set-lt, drop_all, drop_at, ext_get_or, get_or-drop, get_or_past, map-append, replicate_more, set-get_or, take-append-drop, take-append-le, take_all}
 pub use Rattle.std.proofs.lemmas.List.FromFn.{get_or-map-range_with_len, length-map-range_with_len, map-range_with_len_more, take-map-range_with_len}
 pub use Rattle.std.proofs.lemmas.List.Sums.{prefix_len-le-length, prefix_len_passes, prefix_len_stops, sum_by-cons, take_while-cons}
 pub use Rattle.std.proofs.lemmas.Option.{get_or_from_slice_get, slice_get-get_or, slice_get-map, slice_get_cases, slice_get_past, slice_get_within}
 pub use Rattle.std.specs.List.{flat_map, prefix_len, range_with_len, sum_by, take_while}
-pub use Rattle.std.specs.Prelude.{if◌then◌else◌, not, slice_get}
+pub use Rattle.std.specs.Prelude.{if◌then◌else◌, not, option_map, slice_get}
 pub use Rattle.frames.proofs.FreeLemmas.{among_first, among_first_not, free_of-same, further-free, IsFreeList-same}
 pub use Rattle.frames.proofs.HolderLemmas.{among-none, count-cases, count_of-append, count_of-first, count_of-other, distinct-count, free-holders, held-count, held-inside, holders-free, holders-table}
 pub use Rattle.frames.proofs.HolderLemmas.{IsShared-trade, none-among, not-free-held, one-holder, one_if-le, shared-count, single, Trades-beside, Trades-give, Trades-lengths, Trades-none, Trades-twice}
@@ -25,7 +25,7 @@ pub use Rattle.pagetable.proofs.ShapeLemmas.{length-made, made-is, table_of-some
 pub use Rattle.pagetable.proofs.TreeLemmas.{free-first, free_count-taken, further-same, low_is_node, mid_is_node, missing-is, no_low, root_at, tree-root}
 pub use Rattle.pagetable.specs.Shape.{Adds, IsEmpty, IsTidy, IsUsed, Removes, table_of}
 unfoldable pub use Rattle.pagetable.specs.Shape.{made}
-pub use Rattle.pagetable.specs.Tree.{HasTable, IsLeafMarks, IsNode, IsPaged, Keeps, leaf_at, Low, low_node, Maps, Mid, mid_node, Node, Root, SameMap, SameTables}
+pub use Rattle.pagetable.specs.Tree.{HasTable, IsLeafMarks, IsNode, IsPaged, IsTree, Keeps, leaf_at, Low, low_node, Maps, Mid, mid_node, Node, Root, SameMap, SameTables}
 unfoldable pub use Rattle.pagetable.specs.Tree.{lookup_of, missing, table_at}
 pub use Rattle.ram.specs.Memory.{frame_of, IsMemory}
 unfoldable pub use Rattle.ram.specs.Memory.{put, put_bytes, sized, word_bytes, word_of}

@@ -1,7 +1,10 @@
--- Lemmas on dense spaces.
-use Rattle.vm.proofs.Common.{◌≡◌, ◌≢◌, ℕ, zero, suc, ◌+◌, ◌-◌, ◌*◌, ◌/◌, ◌%◌, ◌^◌, ◌<◌, ◌≤◌, ◌⊎◌, inl, inr, Bool, false, true, List, [], ◌∷◌, ◌++◌, length, Some, refl, sym, ap, ◌∙◌, arith, length-append, eqb, eq-eqb, ltb, if◌then◌else◌}
-use Rattle.vm.proofs.Common.{cases_eq, cases_lt, ne_eqb, lt-ltb, le-ltb, one_if, count_of, count_of-append, count_of-first, Node, Root, Mid, Low, mid_node, low_node, table_at, lookup_of, HasTable, root_at, table_of, IsUsed}
-use Rattle.vm.proofs.Common.{table_of-some, map-append, page_in, right_marks, trap_page, frame_at, page_at, read_at, read_below, mapping_below, pages_below, frames_below, tables_for, tables_below, held, frames_for, IsDense}
+-- Lemmas on dense spaces: what they hold, what stays, one more page, and a frame that is taken for it.
+use Rattle.vm.proofs.Common.{[], Adds, among, among-none, ap, arith, Bool, cases_eq, cases_lt, count_of, count_of-append, count_of-first, distinct-count, eq-eqb, eqb, extra_of, false, frame_at, frame_of, Frames, frames_below, frames_for}
+use Rattle.vm.proofs.Common.{free-first, free_of, free_of-same, further_at, get_or-set_other, HasTable, held, held-inside, holders_of, if◌then◌else◌, inl, inr, is_open, IsDense, IsFreeList, IsFreeList-same, IsNode, IsPaged, IsTidy, IsTree}
+use Rattle.vm.proofs.Common.{IsTree-same, IsUsed, IsUserLeaf, Keeps, le-ltb, leaf_at, length, length-append, length-made, length-set, List, lookup_of, lookup_of-same, Low, low_is_node, low_node, lt-ltb, ltb, made, map-append, mapping_below}
+use Rattle.vm.proofs.Common.{Maps, marks_at, Mid, mid_is_node, mid_node, missing, ne_eqb, no_low, Node, None, none-among, one-holder, one_if, Option, OwnsFrames, page_at, page_in, page_with, pages_below, Perm, read_at, read_below, read_by}
+use Rattle.vm.proofs.Common.{refl, right_marks, Root, root_at, slice_set, Some, suc, sym, table_at, table_at-same, table_of, table_of-some, tables_below, tables_for, trap_marks, trap_page, true, unwrap_or, zero, ℕ, ◌%◌, ◌*◌, ◌++◌, ◌+◌, ◌-◌}
+use Rattle.vm.proofs.Common.{◌/◌, ◌<◌, ◌^◌, ◌∙◌, ◌∷◌, ◌≡◌, ◌≢◌, ◌≤◌, ◌⊎◌}
 
 -- ---- how many
 
@@ -155,3 +158,268 @@ pages_below-zero m r = refl
 pub pages_below-more : (m : List (List ℕ)) (r n : ℕ) → pages_below m r (suc n) ≡ pages_below m r n ++ (page_at m r n ∷ [])
 unfolding read_below
 pages_below-more m r n = map-append (page_in m) (mapping_below m r n) (read_at right_marks m r n ∷ [])
+
+-- ---- what stays where the frames of the tables stay
+
+pub IsTidy-same : (m k : List (List ℕ)) (r : ℕ) → IsTidy m r → ((v : ℕ) → HasTable m r v → frame_of k v ≡ frame_of m v) → IsTidy k r
+IsTidy-same m k r is same = record {
+  used = λ x t nx nr h.
+      let u = is.used x t nx nr (sym (table_at-same m k r same x nx) ∙ h) in
+      record { page = u.page; value = u.value; inside = u.inside; over = u.over; mapped = lookup_of-same m k r same u.page ∙ u.mapped };
+}
+
+-- what a lookup finds, by its parts
+pub lookup-parts : (m : List (List ℕ)) (r p : ℕ) (v : ℕ × ℕ) → lookup_of m r p ≡ Some v → lookup_of m r p ≡ Some (frame_at m r p, marks_at m r p)
+lookup-parts m r p v e = e ∙ ap Some (ap (λ (o : Option (ℕ × ℕ)). (unwrap_or o (0, 0))) (sym e))
+
+pub frame_at-is : (m : List (List ℕ)) (r p f a : ℕ) → lookup_of m r p ≡ Some (f, a) → frame_at m r p ≡ f
+frame_at-is m r p f a e = ap (λ (o : Option (ℕ × ℕ)). (unwrap_or o (0, 0)).0) e
+
+pub marks_at-is : (m : List (List ℕ)) (r p f a : ℕ) → lookup_of m r p ≡ Some (f, a) → marks_at m r p ≡ a
+marks_at-is m r p f a e = ap (λ (o : Option (ℕ × ℕ)). (unwrap_or o (0, 0)).1) e
+
+pub frame_at-same : (m k : List (List ℕ)) (r p : ℕ) → lookup_of k r p ≡ lookup_of m r p → frame_at k r p ≡ frame_at m r p
+frame_at-same m k r p e = ap (λ (o : Option (ℕ × ℕ)). (unwrap_or o (0, 0)).0) e
+
+pub marks_at-same : (m k : List (List ℕ)) (r p : ℕ) → lookup_of k r p ≡ lookup_of m r p → marks_at k r p ≡ marks_at m r p
+marks_at-same m k r p e = ap (λ (o : Option (ℕ × ℕ)). (unwrap_or o (0, 0)).1) e
+
+pub IsDense-same : (m k : List (List ℕ)) (r t n : ℕ) → IsDense m r t n → length k ≡ length m → ((v : ℕ) → HasTable m r v → frame_of k v ≡ frame_of m v) → IsDense k r t n
+IsDense-same m k r t n is len same =
+    let looks = lookup_of-same m k r same in
+    record {
+      tree = IsTree-same m k r is.tree len same;
+      tidy = IsTidy-same m k r is.tidy same;
+      small = is.small;
+      pages = λ p h. lookup-parts k r p (frame_at m r p, marks_at m r p) (looks p ∙ is.pages p h);
+      leaves = λ p h. rw (marks_at-same m k r p (looks p)) (is.leaves p h);
+      trap = looks trap_page ∙ is.trap;
+      rest = λ p high small ne. looks p ∙ is.rest p high small ne;
+    }
+
+-- one page is mapped, and the others are as they were
+pub dense-set : (m k : List (List ℕ)) (r t n w p f marks : ℕ) → IsDense m r t n → IsTree k r → IsTidy k r → p < w → w ≤ 32768 → lookup_of k r p ≡ Some (f, marks) → IsUserLeaf marks → ((j : ℕ) → j < 2 ^ 27 → j ≢ p → lookup_of k r j ≡ lookup_of m r j)
+    → n ≤ w → ((j : ℕ) → j < w → j ≢ p → j < n) → IsDense k r t w
+dense-set m k r t n w p f marks is tree tidy low small changed leaf looks more within = record {
+  tree = tree;
+  tidy = tidy;
+  small = small;
+  pages = λ j h. elim (cases_eq j p) [
+    | inl here ↦ lookup-parts k r j (f, marks) (ap (lookup_of k r) here ∙ changed)
+    | inr ne ↦ lookup-parts k r j (frame_at m r j, marks_at m r j) (looks j (omega (arith, h, small)) ne ∙ is.pages j (within j h ne))
+  ];
+  leaves = λ j h. elim (cases_eq j p) [
+    | inl here ↦ rw (here, marks_at-is k r p f marks changed) leaf
+    | inr ne ↦ rw (marks_at-same m k r j (looks j (omega (arith, h, small)) ne)) (is.leaves j (within j h ne))
+  ];
+  trap = looks trap_page (omega arith) (omega (arith, low, small)) ∙ is.trap;
+  rest = λ j high bound ne. looks j bound (omega (arith, low, high)) ∙ is.rest j (omega (arith, more, high)) bound ne;
+}
+
+-- and where pages are open their frames have no further holder
+pub alone-set : (m k : List (List ℕ)) (r n w p f marks : ℕ) (s q : Frames) → ((v : ℕ) → further_at q v ≤ further_at s v) → lookup_of k r p ≡ Some (f, marks) → ((j : ℕ) → j < w → j ≢ p → (j < n) × (lookup_of k r j ≡ lookup_of m r j))
+    → (is_open marks ≡ true → further_at q f ≡ 0) → ((j : ℕ) → j < n → is_open (marks_at m r j) ≡ true → further_at s (frame_at m r j) ≡ 0) → (j : ℕ) → j < w → is_open (marks_at k r j) ≡ true → further_at q (frame_at k r j) ≡ 0
+alone-set m k r n w p f marks s q fewer changed others sole alone j h wide = elim (cases_eq j p) [
+  | inl same ↦ rw (same, frame_at-is k r p f marks changed) (sole (ap is_open (sym (ap (marks_at k r) same ∙ marks_at-is k r p f marks changed)) ∙ wide))
+  | inr ne ↦
+      let o = others j h ne in
+      rw (frame_at-same m k r j o.1) (omega (arith, fewer (frame_at m r j), alone j o.0 (ap is_open (sym (marks_at-same m k r j o.1)) ∙ wide)))
+]
+
+-- a mapped page has its tables
+none-or : (o : Option ℕ) → (o ≡ None) ⊎ (o ≡ Some (unwrap_or o 0))
+none-or None = inl refl
+none-or (Some t) = inr refl
+
+leaf-table : (m : List (List ℕ)) (o : Option ℕ) (i : ℕ) (v : ℕ × ℕ) → leaf_at m o i ≡ Some v → o ≡ Some (unwrap_or o 0)
+leaf-table m None i v e = absurd cc
+leaf-table m (Some t) i v e = refl
+
+pub mapped-low : (m : List (List ℕ)) (r p : ℕ) (v : ℕ × ℕ) → lookup_of m r p ≡ Some v → table_at m r (low_node p) ≡ Some (table_of m r (low_node p))
+unfolding lookup_of
+mapped-low m r p v e = leaf-table m (table_at m r (low_node p)) (p % 512) v e
+
+pub mapped-mid : (m : List (List ℕ)) (r p : ℕ) (v : ℕ × ℕ) → lookup_of m r p ≡ Some v → table_at m r (mid_node p) ≡ Some (table_of m r (mid_node p))
+mapped-mid m r p v e = elim (none-or (table_at m r (mid_node p))) [
+  | inl z ↦ absurd (let none = no_low m r p z in let some = mapped-low m r p v e in cc)
+  | inr h ↦ h
+]
+
+-- the lists go by the tables and pages below n
+pub frames_below-same : (m k : List (List ℕ)) (r n : ℕ) → ((p : ℕ) → p < n → lookup_of k r p ≡ lookup_of m r p) → frames_below k r n ≡ frames_below m r n
+unfolding frames_below
+frames_below-same m k r zero same = refl
+frames_below-same m k r (suc n) same = rw (frame_at-same m k r n (same n (omega arith)), frames_below-same m k r n (λ p h. same p (omega arith))) refl
+
+pub tables_below-same : (m k : List (List ℕ)) (r n : ℕ) → ((p : ℕ) → (p < n) ⊎ (p ≡ trap_page) → (table_of k r (mid_node p) ≡ table_of m r (mid_node p)) × (table_of k r (low_node p) ≡ table_of m r (low_node p))) → tables_below k r n ≡ tables_below m r n
+unfolding tables_below
+tables_below-same m k r zero same =
+    let trap = same trap_page (inr refl) in
+    rw (trap.0, trap.1) refl
+tables_below-same m k r (suc n) same =
+    let here = same n (inl (omega arith)) in
+    let rest : tables_below k r n ≡ tables_below m r n = tables_below-same m k r n (λ p o. same p (elim o [ inl low ↦ inl (omega arith) | inr e ↦ inr e ])) in
+    rw (here.0, here.1, rest) refl
+
+-- the tables and pages stand
+pub held-same : (m k : List (List ℕ)) (r t n : ℕ) → IsDense m r t n → ((p : ℕ) → p < n → lookup_of k r p ≡ lookup_of m r p) → ((x : Node) (u : ℕ) → IsNode x → table_at m r x ≡ Some u → table_at k r x ≡ Some u)
+    → (tables_below k r n ≡ tables_below m r n) × (frames_below k r n ≡ frames_below m r n)
+held-same m k r t n is looks stand =
+    let both : (p : ℕ) (v : ℕ × ℕ) → lookup_of m r p ≡ Some v → (table_of k r (mid_node p) ≡ table_of m r (mid_node p)) × (table_of k r (low_node p) ≡ table_of m r (low_node p)) = λ (p : ℕ) (v : ℕ × ℕ) (h : lookup_of m r p ≡ Some v). (
+      table_of-some k r (mid_node p) (table_of m r (mid_node p)) (stand (mid_node p) (table_of m r (mid_node p)) (mid_is_node p) (mapped-mid m r p v h)),
+      table_of-some k r (low_node p) (table_of m r (low_node p)) (stand (low_node p) (table_of m r (low_node p)) (low_is_node p) (mapped-low m r p v h)),
+    ) in (
+      tables_below-same m k r n (λ p o. elim o [
+        | inl low ↦ both p (frame_at m r p, marks_at m r p) (is.pages p low)
+        | inr e ↦ both p (t, trap_marks) (ap (lookup_of m r) e ∙ is.trap)
+      ]),
+      frames_below-same m k r n looks,
+    )
+
+-- ---- which tables the next page needs
+
+no-mid : (m : List (List ℕ)) (r t : ℕ) → IsDense m r t 0 → table_at m r (mid_node 0) ≡ None
+no-mid m r t is = elim (none-or (table_at m r (mid_node 0))) [
+  | inl e ↦ e
+  | inr e ↦ absurd (
+      let u = is.tidy.used (mid_node 0) (table_of m r (mid_node 0)) (mid_is_node 0) (λ g. cc) e in
+      elim (mapped-cases m r t 0 u.page u.value is u.inside u.mapped) [
+        | inl low ↦ omega (arith, low)
+        | inr trap ↦ elim u.over [
+          | inl same ↦ let g : Mid 0 ≡ Mid 255 = same ∙ ap mid_node trap in let z : ◌≡◌ {A = ℕ} 0 255 = cc in omega (arith, z)
+          | inr same ↦ cc
+        ]
+      ])
+]
+
+no-low : (m : List (List ℕ)) (r t n : ℕ) → IsDense m r t n → n < 32768 → n % 512 ≡ 0 → table_at m r (low_node n) ≡ None
+no-low m r t n is small start = elim (none-or (table_at m r (low_node n))) [
+  | inl e ↦ e
+  | inr e ↦ absurd (
+      let u = is.tidy.used (low_node n) (table_of m r (low_node n)) (low_is_node n) (λ g. cc) e in
+      elim u.over [
+        | inl same ↦ cc
+        | inr same ↦ elim (mapped-cases m r t n u.page u.value is u.inside u.mapped) [
+          | inl low ↦
+              let g : Low 0 (n / 512) ≡ Low 0 (u.page / 512) = sym (low-0 n small) ∙ same ∙ low-0 u.page (omega arith) in
+              let z : n / 512 ≡ u.page / 512 = cc in
+              omega (arith, z, low, start)
+          | inr trap ↦
+              let g : Low 0 (n / 512) ≡ Low 255 511 = sym (low-0 n small) ∙ same ∙ ap low_node trap in
+              let z : ◌≡◌ {A = ℕ} 0 255 = cc in
+              omega (arith, z)
+        ]
+      ])
+]
+
+some-mid : (m : List (List ℕ)) (r t n : ℕ) → IsDense m r t n → n < 32768 → n ≢ 0 → table_at m r (mid_node n) ≡ Some (table_of m r (mid_node n))
+some-mid m r t n is small ne =
+    let e : mid_node 0 ≡ mid_node n = mid-0 0 (omega arith) ∙ sym (mid-0 n small) in
+    rw (← e) (mapped-mid m r 0 (frame_at m r 0, marks_at m r 0) (is.pages 0 (omega arith)))
+
+some-low : (m : List (List ℕ)) (r t n : ℕ) → IsDense m r t n → n < 32768 → n % 512 ≢ 0 → table_at m r (low_node n) ≡ Some (table_of m r (low_node n))
+some-low m r t n is small ne =
+    let block : (n - 1) / 512 ≡ n / 512 = omega arith in
+    let e : low_node (n - 1) ≡ low_node n = low-0 (n - 1) (omega arith) ∙ ap (Low 0) block ∙ sym (low-0 n small) in
+    rw (← e) (mapped-low m r (n - 1) (frame_at m r (n - 1), marks_at m r (n - 1)) (is.pages (n - 1) (omega arith)))
+
+-- the tables that come are those that the next page needs
+pub made-tables : (m k : List (List ℕ)) (r t n : ℕ) → IsDense m r t n → n < 32768 → made m k r n ≡ tables_for k r n
+unfolding made
+made-tables m k r t n is small = elim (cases_eq n 0) [
+  | inl first ↦ rw first (let none = no-mid m r t (rw first at is) in rw none refl)
+  | inr later ↦ elim (cases_eq (n % 512) 0) [
+    | inl start ↦ rw (some-mid m r t n is small later, no-low m r t n is small start, ne_eqb n 0 later, eq-eqb (n % 512) 0 start) refl
+    | inr inner ↦ rw (some-mid m r t n is small later, some-low m r t n is small inner, ne_eqb n 0 later, ne_eqb (n % 512) 0 inner) refl
+  ]
+]
+
+pub missing-next : (m : List (List ℕ)) (r t n : ℕ) → IsDense m r t n → n < 32768 → 1 + frames_for n + missing m r n ≡ frames_for (suc n)
+missing-next m r t n is small = omega (arith, length-made m m r n, ap length (made-tables m m r t n is small), length-tables_for m r n, frames_for-more n)
+
+-- ---- a frame that is taken becomes the next page
+
+-- frame f was free and is taken, and others keep their bytes
+pub record IsTaken (m z : List (List ℕ)) (s n : Frames) (f : ℕ) : Type 0 where
+  pub taken : free_of m s ≡ f ∷ free_of m n
+  pub after : IsFreeList m n
+  pub count : length z ≡ length m
+  pub others : (g : ℕ) → g ≢ f → frame_of z g ≡ frame_of m g
+  pub extra : extra_of n ≡ extra_of s
+
+-- what a space holds is not free, and nothing is free twice
+pub held-not_free : (m : List (List ℕ)) (r t n : ℕ) (s : Frames) → OwnsFrames m r t n s → (f : ℕ) → count_of f (held m r t n) + count_of f (free_of m s) ≤ 1
+held-not_free m r t n s is f = elim (cases_eq (count_of f (held m r t n)) 0) [
+  | inl none ↦ omega (arith, none, distinct-count f (free_of m s) is.free.distinct)
+  | inr some ↦ omega (arith, is.once f, none-among f (free_of m s) (held-inside m s f is.free (omega (arith, is.held f, some))).1)
+]
+
+-- a frame with more holders than this space is none of its tables, nor its trap frame, and isn't free
+pub beyond-held : (m : List (List ℕ)) (r t n : ℕ) (s : Frames) → OwnsFrames m r t n s → (f : ℕ) → count_of f (held m r t n) < holders_of m s f
+    → (count_of f (tables_below m r n) + count_of f (t ∷ []) ≡ 0) × (count_of f (free_of m s) ≡ 0)
+beyond-held m r t n s is f more =
+    elim (cases_eq (count_of f (tables_below m r n) + count_of f (t ∷ [])) 0) [
+      | inl none ↦ (none, none-among f (free_of m s) (held-inside m s f is.free (omega (arith, more))).1)
+      | inr some ↦ absurd (omega (arith, more, some, count-held m r t n f, one-holder m s f is.free (is.own f (omega (arith, some)))))
+    ]
+
+pub list-after : (m z : List (List ℕ)) (s q : Frames) (f : ℕ) → IsFreeList m s → free_of m s ≡ f ∷ free_of m q → IsFreeList m q → length z ≡ length m → ((g : ℕ) → g ≢ f → frame_of z g ≡ frame_of m g) → (free_of z q ≡ free_of m q) × IsFreeList z q
+list-after m z s q f is taken after count others =
+    let first = free-first m s f (free_of m q) is taken in
+    let same : (g : ℕ) → among g (free_of m q) ≡ true → frame_of z g ≡ frame_of m g = λ (g : ℕ) (at : among g (free_of m q) ≡ true). others g (λ e. cc (ap (λ x. among x (free_of m q)) e, at, first.1)) in
+    (free_of-same m z q same, IsFreeList-same m z q after count same)
+
+pub free-after : (m z : List (List ℕ)) (s q : Frames) (f : ℕ) → IsFreeList m s → IsTaken m z s q f → (free_of z q ≡ free_of m q) × IsFreeList z q
+free-after m z s q f is k = list-after m z s q f is k.taken k.after k.count k.others
+
+-- the page has come
+pub record IsNext (z k : List (List ℕ)) (r n f marks : ℕ) (q w : Frames) : Type 0 where
+  pub leaf : IsUserLeaf marks
+  pub inserts : Maps z k r n f marks
+  pub adds : Adds z k r n q w
+  pub tidy : IsTidy k r
+  pub paged : IsPaged k r w
+  pub keeps : Keeps z k r q w
+  pub extra : extra_of w ≡ extra_of q
+
+-- the pages that stay
+pub read_below-same : (read : ℕ → Perm) (m k : List (List ℕ)) (r n : ℕ) → ((p : ℕ) → p < n → lookup_of k r p ≡ lookup_of m r p) → read_below read k r n ≡ read_below read m r n
+unfolding read_below
+read_below-same read m k r zero looks = refl
+read_below-same read m k r (suc n) looks =
+    let here : read_at read k r n ≡ read_at read m r n = ap (λ (o : Option (ℕ × ℕ)). read_by read (unwrap_or o (0, 0))) (looks n (omega arith)) in
+    rw (read_below-same read m k r n (λ p h. looks p (omega arith))) (ap (λ x. read_below read m r n ++ (x ∷ [])) here)
+
+-- a page that is mapped as it was, to a frame that keeps its bytes
+pub page-kept : (m k : List (List ℕ)) (r p : ℕ) → lookup_of k r p ≡ lookup_of m r p → frame_of k (frame_at m r p) ≡ frame_of m (frame_at m r p) → page_at k r p ≡ page_at m r p
+page-kept m k r p looks same =
+    ap (λ x. page_with (frame_of k x) (marks_at k r p)) (frame_at-same m k r p looks) ∙ ap (page_with (frame_of k (frame_at m r p))) (marks_at-same m k r p looks) ∙ ap (λ b. page_with b (marks_at m r p)) same
+
+pub pages-each : (m k : List (List ℕ)) (r n : ℕ) → ((p : ℕ) → p < n → page_at k r p ≡ page_at m r p) → pages_below k r n ≡ pages_below m r n
+pages-each m k r zero same = pages_below-zero k r ∙ sym (pages_below-zero m r)
+pages-each m k r (suc n) same =
+    pages_below-more k r n ∙ rw (same n (omega arith), pages-each m k r n (λ p h. same p (omega (arith, h)))) (sym (pages_below-more m r n))
+
+pub pages_below-same : (m k : List (List ℕ)) (r n : ℕ) → ((p : ℕ) → p < n → lookup_of k r p ≡ lookup_of m r p) → ((p : ℕ) → p < n → frame_of k (frame_at m r p) ≡ frame_of m (frame_at m r p)) → pages_below k r n ≡ pages_below m r n
+pages_below-same m k r n looks same = pages-each m k r n (λ p h. page-kept m k r p (looks p h) (same p h))
+
+pub IsTaken-set : (m z : List (List ℕ)) (s q : Frames) (f : ℕ) (w : List ℕ) → free_of m s ≡ f ∷ free_of m q → IsFreeList m q → z ≡ slice_set m f w → extra_of q ≡ extra_of s → IsTaken m z s q f
+IsTaken-set m z s q f w taken after e extra = record {
+  taken = taken;
+  after = after;
+  count = rw e (length-set m f w);
+  others = λ g ne. rw e (get_or-set_other m f g w [] ne);
+  extra = extra;
+}
+
+-- tables that keep their bytes, and are neither free nor shared, are those of a page table beside the free frames
+pub paged-same : {m k : List (List ℕ)} {r : ℕ} {q : Frames} → IsTree m r → length k ≡ length m → ((v : ℕ) → HasTable m r v → frame_of k v ≡ frame_of m v) → IsFreeList k q
+    → ((v : ℕ) → HasTable m r v → (among v (free_of k q) ≡ false) × (further_at q v ≡ 0)) → IsPaged k r q
+paged-same {m} {k} {r} is len same free out =
+    let old : (x : Node) (v : ℕ) → IsNode x → table_at k r x ≡ Some v → HasTable m r v = λ (x : Node) (v : ℕ) (nx : IsNode x) (h : table_at k r x ≡ Some v). record { place = x; is_node = nx; at_place = sym (table_at-same m k r same x nx) ∙ h } in
+    record { tree = IsTree-same m k r is len same; free = free; apart = λ x v nx h. (out v (old x v nx h)).0; own = λ x v nx h. (out v (old x v nx h)).1 }
+
+pub OwnsFrames-paged : (m : List (List ℕ)) (r t n : ℕ) (s : Frames) → OwnsFrames m r t n s → IsPaged m r s
+OwnsFrames-paged m r t n s is = paged-same is.dense.tree refl (λ v h. refl) is.free (λ v h.
+    let held_v = table-held m r t n v is.dense h in
+    (among-none v (free_of m s) (omega (arith, held-not_free m r t n s is v, count-held m r t n v, held_v)), is.own v (omega (arith, held_v))))

@@ -1,13 +1,10 @@
 -- The last page goes.
-use Rattle.vm.proofs.Common.{◌≡◌, ℕ, suc, ◌+◌, ◌<◌, ◌≤◌, inl, inr, false, List, [], ◌∷◌, length, Option, Some, unwrap_or, refl, sym, ap, ◌∙◌, arith, add-one, cases_eq, frame_of, Frames, among, free_of}
-use Rattle.vm.proofs.Common.{extra_of, further_at, IsFreeList, SameBut, count_of, holders_of, Trades, count_of-first, among-none, held-inside, holders-table, Trades-give, lookup_of, IsPaged, Keeps, IsTidy}
-use Rattle.vm.proofs.Common.{Adds, Removes, lookup-sound, trap_page, frame_at, marks_at, pages_below, frames_below, tables_for, tables_below, held, IsDense, OwnsFrames, SameLeavesUpTo, further-same, is_open}
-use Rattle.std.specs.Option.{option_map}
-use Rattle.vm.proofs.Added.{IsAdded, IsCounted, added-count, added-same}
+use Rattle.vm.proofs.Common.{[], add-one, Adds, among, among-none, ap, arith, cases_eq, count_of, count_of-first, extra_of, false, frame_at, frame_of, Frames, frames_below, free_of, further-same, further_at, held, held-inside}
+use Rattle.vm.proofs.Common.{holders-table, holders_of, inl, inr, is_open, IsDense, IsFreeList, IsPaged, IsTidy, Keeps, length, List, lookup-sound, lookup_of, marks_at, Option, option_map, OwnsFrames, pages_below, refl, Removes, SameBut}
+use Rattle.vm.proofs.Common.{SameLeavesUpTo, Some, suc, sym, tables_below, tables_for, Trades, Trades-give, trap_page, unwrap_or, ℕ, ◌+◌, ◌<◌, ◌∙◌, ◌∷◌, ◌≡◌, ◌≤◌}
+use Rattle.vm.proofs.Added.{added-count, added-same, IsAdded, IsCounted}
 use Rattle.vm.proofs.Beside.{Trades-held}
-use Rattle.vm.proofs.DenseLemmas.{count-held, page-held, table-held}
-use Rattle.vm.proofs.GrowLemmas.{frame_at-same, lookup-parts, marks_at-same}
-use Rattle.vm.proofs.StepLemmas.{held-not_free, beyond-held, read_below-same, pages_below-same}
+use Rattle.vm.proofs.DenseLemmas.{beyond-held, count-held, frame_at-same, held-not_free, lookup-parts, marks_at-same, page-held, pages_below-same, read_below-same, table-held}
 
 -- page n is unmapped, and then its frame f is given back
 pub record IsUnmapped (m j : List (List ℕ)) (r n f : ℕ) (s a : Frames) : Type 0 where
@@ -63,8 +60,7 @@ count-unmapped m j r t n f s a is u = added-count j m r t n f a s (added m j r t
 -- the frame may be given back
 pub give-inside : (m j : List (List ℕ)) (r t n f : ℕ) (s a : Frames) → OwnsFrames m r t (suc n) s → IsUnmapped m j r n f s a → f < length j
 give-inside m j r t n f s a is u =
-    let found = lookup-sound m r n (frame_at m r n) (marks_at m r n) is.dense.tree (is.dense.pages n (omega arith)) in
-    omega (arith, found.0, u.was, u.keeps.count)
+    omega (arith, (lookup-sound m r n (frame_at m r n) (marks_at m r n) is.dense.tree (is.dense.pages n (omega arith))).0, u.was, u.keeps.count)
 
 pub give-held : (m j : List (List ℕ)) (r t n f : ℕ) (s a : Frames) → OwnsFrames m r t (suc n) s → IsUnmapped m j r n f s a → among f (free_of j a) ≡ false
 give-held m j r t n f s a is u = among-none f (free_of j a) (omega (arith, count-unmapped m j r t n f s a is u f, held-not_free m r t (suc n) s is f, count_of-first f f [] refl))
@@ -117,17 +113,16 @@ dropped m j k r t n f s a w is u g =
     let looks : (p : ℕ) → p < n → lookup_of j r p ≡ lookup_of m r p = λ (p : ℕ) (h : p < n). u.removes.others p (omega (arith, is.dense.small, h)) (omega (arith, h)) in
     record {
       space = beside.space;
-      pages = λ b le. pages_below-same j k r b (λ p h. stays.looks p)
+      pages = λ b le. pages_below-same j k r b (λ p h. stays.put.looks p)
           (λ p h. let v = frame_at j r p in give.others v (omega (arith, is.held v, counts v, holders v, count-held j r t n v, page-held j r n p (omega (arith, h, le)))))
           ∙ pages_below-same m j r b (λ p h. looks p (omega (arith, h, le))) (λ p h. stays-unmapped m j r t n f s a is u (frame_at m r p) (omega (arith, page-held m r n p (omega (arith, h, le)))));
-      mapping = λ read b le. read_below-same read m k r b (λ p h. stays.looks p ∙ looks p (omega (arith, h, le)));
+      mapping = λ read b le. read_below-same read m k r b (λ p h. stays.put.looks p ∙ looks p (omega (arith, h, le)));
       trap = stays.trap ∙ stays-unmapped m j r t n f s a is u t (omega (arith, count_of-first t t [] refl));
       trades = rw add-one (record {
         count = give.count ∙ u.keeps.count;
         moved = λ v. omega (arith, counts v, holders v, g.holders v, ap (count_of v) beside.same);
         others = λ v more.
-            let beyond = beyond-held m r t (suc n) s is v more in
-            give.others v (omega (arith, more, counts v, holders v)) ∙ bytes-unmapped m j r t n f s a is u v (omega (arith, more)) (omega (arith, beyond.0));
+            give.others v (omega (arith, more, counts v, holders v)) ∙ bytes-unmapped m j r t n f s a is u v (omega (arith, more)) (omega (arith, (beyond-held m r t (suc n) s is v more).0));
         fresh = λ v none some. absurd (omega (arith, none, some, ap (count_of v) beside.same, counts v));
       });
     }

@@ -1,14 +1,12 @@
 -- A page of a space is shared with a space that is made.
-use Rattle.vm.proofs.Common.{◌≡◌, ◌≢◌, ℕ, zero, suc, ◌+◌, ◌-◌, ◌<◌, ◌≤◌, inl, inr, false, List, [], ◌∷◌, ◌++◌, refl, sym, ap, ◌∙◌, arith, add-one, length-append, get_or, cases_eq, map-append, frame_of}
-use Rattle.vm.proofs.Common.{Frames, free_of, free_count, IsFreeList, count_of, holders_of, Trades, count_of-append, count_of-other, held-inside, not-free-held, Trades-none, Trades-twice}
-use Rattle.vm.proofs.Common.{Trades-lengths, Page, Perm, shared_marks, shared_memory, shared_page, Space, frame_at, marks_at, page_at, page_with, pages_below, frames_below, tables_below, held}
-use Rattle.vm.proofs.Common.{frames_for, OwnsFrames, is_open, right_marks, IsMore, IsPart, IsSoFar, IsSpace, Reframes, pages_of, registers_of, holds, pages_in, GainsHolders, HasFramesOf, SameOtherPages}
-use Rattle.vm.proofs.GrowLemmas.{frame_at-is, frame_at-same, missing-next}
-use Rattle.vm.proofs.PageLemmas.{get_or-pages}
-use Rattle.vm.proofs.DenseLemmas.{count-held, frames_for-more, page-held, pages_below-more, pages_below-zero, length-held}
+use Rattle.vm.proofs.Common.{[], add-one, ap, arith, cases_eq, count_of, count_of-append, count_of-other, false, frame_at, frame_of, Frames, frames_below, frames_for, free_count, free_of, GainsHolders, get_or, HasFramesOf, held}
+use Rattle.vm.proofs.Common.{held-inside, holders_of, holds, inl, inr, is_open, IsFreeList, IsMore, IsPart, IsSoFar, IsSpace, length-append, List, map-append, marks_at, not-free-held, OwnsFrames, Page, page_at, page_with, pages_below}
+use Rattle.vm.proofs.Common.{pages_in, pages_of, refl, Reframes, registers_of, right_marks, SameOtherPages, shared_marks, shared_memory, shared_page, Space, suc, sym, tables_below, Trades, Trades-lengths, Trades-none, Trades-twice, zero, ℕ}
+use Rattle.vm.proofs.Common.{◌++◌, ◌+◌, ◌-◌, ◌<◌, ◌∙◌, ◌∷◌, ◌≡◌, ◌≢◌, ◌≤◌}
 use Rattle.vm.proofs.Added.{IsBefore, next-held, next-pages, next-trades, next-trap, share-stands}
 use Rattle.vm.proofs.Beside.{Trades-held, Trades-with}
-use Rattle.vm.proofs.StepLemmas.{IsNext}
+use Rattle.vm.proofs.DenseLemmas.{count-held, frame_at-is, frame_at-same, frames_for-more, IsNext, length-held, missing-next, page-held, pages_below-more, pages_below-zero}
+use Rattle.vm.proofs.PageLemmas.{get_or-pages}
 use Rattle.vm.proofs.StoreLemmas.{pages-same}
 
 -- ---- trades of more than one holder
@@ -80,7 +78,7 @@ part-closed m k x c n f leaf s is low e =
         parent = e.stands.space;
         child = beside.space;
         room = λ v. omega (arith, is.room v, ap (count_of v) beside.same, e.held v, e.stands.trades.moved v);
-        shared = λ p h. frame_at-same m k c.root.0 p (stays.looks p) ∙ is.shared p h ∙ sym (e.frames p (omega (arith, h, low)));
+        shared = λ p h. frame_at-same m k c.root.0 p (stays.put.looks p) ∙ is.shared p h ∙ sym (e.frames p (omega (arith, h, low)));
       },
       λ v. ap (count_of v) beside.same,
       stays.pages,
@@ -92,10 +90,9 @@ pub part-before : (k : List (List ℕ)) (x c : Space) (n f leaf : ℕ) (s q : Fr
     → IsFreeList k q → ((v : ℕ) → holders_of k q v ≡ holders_of k s v + count_of v (f ∷ [])) → free_of k q ≡ free_of k s
     → IsSpace k x q × IsBefore k c.root.0 c.trap.0 n f leaf q
 part-before k x c n f leaf s q is low was marks closed after more list =
-    let one = page-once k x.root.0 x.trap.0 (pages_in x.size) n f s is.parent low was in
     let absent = part-absent k x c n f s is low was in
     let small = is.parent.dense.small in (
-      share-stands k x.root.0 x.trap.0 (pages_in x.size) f s q is.parent after more list one.0
+      share-stands k x.root.0 x.trap.0 (pages_in x.size) f s q is.parent after more list (page-once k x.root.0 x.trap.0 (pages_in x.size) n f s is.parent low was).0
           (λ p h e. let same : p ≡ n = pages-same k x.root.0 x.trap.0 (pages_in x.size) p n is.parent.once h low (e ∙ sym was) in ap is_open (ap (marks_at k x.root.0) same ∙ marks) ∙ closed),
       record {
         space = share-stands k c.root.0 c.trap.0 n f s q is.child after more list
@@ -108,21 +105,14 @@ part-before k x c n f leaf s q is low was marks closed after more list =
       },
     )
 
-abbrev page_as : List ℕ → Perm → Page
-page_as bs g = record { bytes = bs; marks = g }
-
 page-of : (m k : List (List ℕ)) (x : Space) (n : ℕ) → n < pages_in x.size → pages_of k x ≡ pages_of m x → page_at k x.root.0 n ≡ page_at m x.root.0 n
 page-of m k x n low same =
     let d = page_at m x.root.0 n in
     sym (get_or-pages k x.root.0 (pages_in x.size) n d low) ∙ ap (λ (l : List Page). get_or l n d) same ∙ get_or-pages m x.root.0 (pages_in x.size) n d low
 
--- the page's bytes are what the program saw there
-bytes : (m k : List (List ℕ)) (x : Space) (n f leaf : ℕ) (s : Frames) → frame_at m x.root.0 n ≡ f → IsClosed m k x n f leaf s → frame_of k f ≡ frame_of m (frame_at m x.root.0 n)
-bytes m k x n f leaf s was e = ap (frame_of k) (sym e.frame) ∙ ap (λ (y : Page). y.bytes) e.page ∙ ap (frame_of m) (sym was)
-
--- and its marks those that a fork leaves
+-- a page with the bytes that it had and the marks of the leaf is one that a fork leaves
 closed-page : (m k : List (List ℕ)) (x : Space) (n f leaf : ℕ) (s : Frames) (bs : List ℕ) → IsClosed m k x n f leaf s → bs ≡ frame_of m (frame_at m x.root.0 n) → page_with bs leaf ≡ shared_page (page_at m x.root.0 n)
-closed-page m k x n f leaf s bs e same = ap (λ (g : Perm). page_as bs g) e.right ∙ ap (λ (bs : List ℕ). page_as bs (shared_marks (right_marks (marks_at m x.root.0 n)))) same
+closed-page m k x n f leaf s bs e same = rw (e.right, same) refl
 
 pub part-more : (m k l : List (List ℕ)) (x c : Space) (n f leaf : ℕ) (s q w : Frames) → IsPart m x c n s → n < pages_in x.size → frame_at m x.root.0 n ≡ f → IsClosed m k x n f leaf s
     → IsFreeList k q → ((v : ℕ) → holders_of k q v ≡ holders_of k s v + count_of v (f ∷ [])) → free_of k q ≡ free_of k s → IsNext k l c.root.0 n f leaf q w → IsMore m l x c n s w
@@ -138,16 +128,14 @@ part-more m k l x c n f leaf s q w is low was e after more list next =
     let stays = parent.stays in
     let child = next-held b next in
     let here = page-once k x.root.0 x.trap.0 (pages_in x.size) n f s part.0.parent low e.frame in
-    let first : Trades m k s s (holds m x ++ held m r t n) (held k r t n ++ holds k x) =
-    Trades-with m k s s (holds m x) (holds k x) (held m r t n) (holds m x ++ held m r t n) (held k r t n ++ holds k x) e.stands.trades
+    let first : Trades m k s q (holds m x ++ held m r t n) (f ∷ (held k r t n ++ holds k x)) =
+    Trades-with m k s q (holds m x) (f ∷ holds k x) (held m r t n) (holds m x ++ held m r t n) (f ∷ (held k r t n ++ holds k x))
+    (Trades-twice m k k s s q (holds m x) (holds k x) (f ∷ holds k x) e.stands.trades (Trades-more k s q f (holds k x) more (omega (arith, here.2))))
     (λ v. omega (arith, count_of-append v (holds m x) (held m r t n))) (λ v. omega (arith, count_of-append v (held k r t n) (holds k x), part.1 v)) in
-    let second : Trades k k s q (held k r t n ++ holds k x) (f ∷ (held k r t n ++ holds k x)) =
-    Trades-more k s q f (held k r t n ++ holds k x) more (omega (arith, here.2, count_of-append f (held k r t n) (holds k x))) in
-    let third : Trades k l q w (f ∷ (held k r t n ++ holds k x)) (holds l x ++ held l r t (suc n)) =
+    let second : Trades k l q w (f ∷ (held k r t n ++ holds k x)) (holds l x ++ held l r t (suc n)) =
     Trades-with k l q w (f ∷ held k r t n) (held l r t (suc n)) (holds k x) (f ∷ (held k r t n ++ holds k x)) (holds l x ++ held l r t (suc n)) trades
     (λ v. omega (arith, count_of-append v (held k r t n) (holds k x))) (λ v. omega (arith, count_of-append v (holds l x) (held l r t (suc n)), ap (count_of v) parent.same)) in
-    let all = Trades-twice m k l s s w (holds m x ++ held m r t n) (held k r t n ++ holds k x) (holds l x ++ held l r t (suc n)) first
-    (Trades-twice k k l s q w (held k r t n ++ holds k x) (f ∷ (held k r t n ++ holds k x)) (holds l x ++ held l r t (suc n)) second third) in
+    let all = Trades-twice m k l s q w (holds m x ++ held m r t n) (f ∷ (held k r t n ++ holds k x)) (holds l x ++ held l r t (suc n)) first second in
     let lengths = Trades-lengths m l s w (holds m x ++ held m r t n) (holds l x ++ held l r t (suc n)) is.parent.free child.free (λ v. omega (arith, is.room v, count_of-append v (holds m x) (held m r t n))) all in
     record {
       part = record {
@@ -155,18 +143,18 @@ part-more m k l x c n f leaf s q w is low was e after more list next =
         child = child;
         room = λ v. omega (arith, all.moved v, is.room v, count_of-append v (holds m x) (held m r t n), count_of-append v (holds l x) (held l r t (suc n)));
         shared = λ p h. elim (cases_eq p n) [
-          | inl same ↦ ap (frame_at l r) same ∙ frame_at-is l r n f leaf next.inserts.changed ∙ sym (ap (frame_at l x.root.0) same ∙ frame_at-same k l x.root.0 n (stays.looks n) ∙ e.frame)
+          | inl same ↦ ap (frame_at l r) same ∙ frame_at-is l r n f leaf next.inserts.changed ∙ sym (ap (frame_at l x.root.0) same ∙ frame_at-same k l x.root.0 n (stays.put.looks n) ∙ e.frame)
           | inr ne ↦
               let small = b.small in
-              frame_at-same k l r p (next.inserts.others p (omega (arith, h, small)) ne) ∙ part.0.shared p (omega (arith, h, ne)) ∙ sym (frame_at-same k l x.root.0 p (stays.looks p))
+              frame_at-same k l r p (next.inserts.others p (omega (arith, h, small)) ne) ∙ part.0.shared p (omega (arith, h, ne)) ∙ sym (frame_at-same k l x.root.0 p (stays.put.looks p))
         ];
       };
       marked = page-of k l x n low stays.pages ∙ e.page ∙ closed-page m k x n f leaf s (frame_of m f) e (ap (frame_of m) (sym was));
       pages = λ p h ne. page-of k l x p h stays.pages ∙ e.pages p h ne;
       registers = stays.trap ∙ e.stands.registers;
-      frames = λ p h. frame_at-same k l x.root.0 p (stays.looks p) ∙ e.frames p h;
+      frames = λ p h. frame_at-same k l x.root.0 p (stays.put.looks p) ∙ e.frames p h;
       child = next-pages b next
-          ∙ ap (λ (y : Page). pages_below k r n ++ (y ∷ [])) (closed-page m k x n f leaf s (frame_of k f) e (bytes m k x n f leaf s was e))
+          ∙ ap (λ (y : Page). pages_below k r n ++ (y ∷ [])) (closed-page m k x n f leaf s (frame_of k f) e (ap (frame_of k) (sym e.frame) ∙ ap (λ (y : Page). y.bytes) e.page ∙ ap (frame_of m) (sym was)))
           ∙ ap (λ (l : List Page). l ++ (shared_page (page_at m x.root.0 n) ∷ [])) (part.2);
       trap = next-trap b next ∙ part.3;
       trades = all;
@@ -177,9 +165,8 @@ part-more m k l x c n f leaf s q w is low was e after more list next =
 
 pub more-some : (m : List (List ℕ)) (x c : Space) (n : ℕ) (s : Frames) → IsPart m x c n s → n < pages_in x.size → frames_for (n + 1) ≤ frames_for n + free_count m s → 0 < free_count m s
 more-some m x c n s is low room =
-    let small = is.parent.dense.small in
     let more : frames_for (n + 1) ≡ frames_for (suc n) = ap frames_for (add-one n) in
-    omega (arith, room, more, missing-next m c.root.0 c.trap.0 n is.child.dense (omega (arith, low, small)))
+    omega (arith, room, more, missing-next m c.root.0 c.trap.0 n is.child.dense (omega (arith, low, is.parent.dense.small)))
 
 pub part-holder : (k : List (List ℕ)) (x c : Space) (n f : ℕ) (s : Frames) → IsPart k x c n s → n < pages_in x.size → frame_at k x.root.0 n ≡ f → 0 < holders_of k s f
 part-holder k x c n f s is low was = omega (arith, is.parent.held f, (page-once k x.root.0 x.trap.0 (pages_in x.size) n f s is.parent low was).2)
@@ -189,10 +176,7 @@ part-holder k x c n f s is low was = omega (arith, is.parent.held f, (page-once 
 pages-marked : (m k : List (List ℕ)) (r n : ℕ) → ((p : ℕ) → p < n → page_at k r p ≡ shared_page (page_at m r p)) → pages_below k r n ≡ shared_memory (pages_below m r n)
 pages-marked m k r zero each = pages_below-zero k r ∙ sym (ap shared_memory (pages_below-zero m r))
 pages-marked m k r (suc n) each =
-    pages_below-more k r n
-    ∙ ap (λ (y : Page). pages_below k r n ++ (y ∷ [])) (each n (omega arith))
-    ∙ ap (λ (l : List Page). l ++ (shared_page (page_at m r n) ∷ [])) (pages-marked m k r n (λ p h. each p (omega (arith, h))))
-    ∙ sym (ap shared_memory (pages_below-more m r n) ∙ map-append shared_page (pages_below m r n) (page_at m r n ∷ []))
+    rw (pages_below-more k r n, pages_below-more m r n, each n (omega arith), pages-marked m k r n (λ p h. each p (omega (arith, h)))) (sym (map-append shared_page (pages_below m r n) (page_at m r n ∷ [])))
 
 pub so-far-start : (m : List (List ℕ)) (x c : Space) (s : Frames) → IsPart m x c 0 s → IsSoFar m m x c 0 s s
 so-far-start m x c s is = record {
@@ -253,8 +237,7 @@ shared-frames m k x c p s w is so low =
       | inl gone ↦ gone
       | inr some ↦
           let at = held-inside m s f is.parent.free (omega (arith, is.room f, before.2)) in
-          let own = is.child.own f (omega (arith, some, count-held m c.root.0 c.trap.0 0 f)) in
-          absurd (omega (arith, is.room f, before.2, some, own, not-free-held m s f is.parent.free at.0 at.1))
+          absurd (omega (arith, is.room f, before.2, some, is.child.own f (omega (arith, some, count-held m c.root.0 c.trap.0 0 f)), not-free-held m s f is.parent.free at.0 at.1))
     ] in (
       so.part.shared p low ∙ same,
       omega (arith, so.trades.moved f, before.2, now.2, in_child.2, none, count_of-append f (holds m x) (held m c.root.0 c.trap.0 0), count_of-append f (holds k x) (held k c.root.0 c.trap.0 n)),
@@ -276,10 +259,9 @@ part-room m k x c s q is new t room = omega (arith, room, length-held k c.root.0
 same-holders : (m k : List (List ℕ)) (x c : Space) (p : ℕ) (s q : Frames) → IsSpace m x s → Trades m k s q [] (held k c.root.0 c.trap.0 0) → p < pages_in x.size → holders_of k q (frame_at m x.root.0 p) ≡ holders_of m s (frame_at m x.root.0 p)
 same-holders m k x c p s q is t low =
     let f = frame_at m x.root.0 p in
-    let one = page-once m x.root.0 x.trap.0 (pages_in x.size) p f s is low refl in
     elim (cases_eq (count_of f (held k c.root.0 c.trap.0 0)) 0) [
       | inl none ↦ omega (arith, t.moved f, none)
-      | inr some ↦ absurd (omega (arith, t.fresh f refl (omega (arith, some)), is.held f, one.2))
+      | inr some ↦ absurd (omega (arith, t.fresh f refl (omega (arith, some)), is.held f, (page-once m x.root.0 x.trap.0 (pages_in x.size) p f s is low refl).2))
     ]
 
 -- the space is forked: k has the new space, and then its pages
@@ -297,7 +279,7 @@ pub forked : (m k l : List (List ℕ)) (x c : Space) (s q w : Frames) → IsSpac
 forked m k l x c s q w is new t so =
     let beside = Trades-held m k s q [] (held k c.root.0 c.trap.0 0) x.root.0 x.trap.0 (pages_in x.size) is (λ v. omega (arith, is.held v)) t new.free in
     let part = part-start m k x c s q is new t in
-    let same : (p : ℕ) → frame_at k x.root.0 p ≡ frame_at m x.root.0 p = λ (p : ℕ). frame_at-same m k x.root.0 p (beside.stays.looks p) in
+    let same : (p : ℕ) → frame_at k x.root.0 p ≡ frame_at m x.root.0 p = λ (p : ℕ). frame_at-same m k x.root.0 p (beside.stays.put.looks p) in
     let first : Trades m k s q (holds m x) (holds k x ++ held k c.root.0 c.trap.0 0) =
     Trades-with m k s q [] (held k c.root.0 c.trap.0 0) (holds m x) (holds m x) (holds k x ++ held k c.root.0 c.trap.0 0) t
     (λ v. omega arith) (λ v. omega (arith, count_of-append v (holds k x) (held k c.root.0 c.trap.0 0), ap (count_of v) beside.same)) in

@@ -1,10 +1,9 @@
 -- Lemmas on what a program's memory shows from an address on.
-use Rattle.vm.proofs.Common.{◌≡◌, ℕ, zero, suc, ◌+◌, ◌-◌, ◌*◌, ◌/◌, ◌%◌, ◌<◌, ◌≤◌, inl, inr, Bool, true, false, List, [], ◌∷◌, ◌++◌, length, take, drop, get_or, min, Option, Some, None, refl, sym, ap}
-use Rattle.vm.proofs.Common.{◌∙◌, arith, length-append, length-drop, length-take, leb, drop-cons, take-add, cases_Bool, cases_lt, le-leb, leb-true, lt-leb, drop-drop, drop_all, drop_at, drop-append-le}
-use Rattle.vm.proofs.Common.{get_or-drop, take-append-le, get_or_from_slice_get, slice_get_cases, slice_get_within, take_while-cons, prefix_len-le-length, prefix_len_passes, prefix_len_stops, flat_map}
-use Rattle.vm.proofs.Common.{prefix_len, take_while, if◌then◌else◌, slice_get, Access, Store, Page, Memory, can_write, permits, permitted, reach, IsSized, run_of, rest_of, piece_at}
+use Rattle.vm.proofs.Common.{[], Access, ap, arith, Bool, can_write, cases_Bool, cases_lt, drop, drop-append-le, drop-cons, drop-drop, drop_all, drop_at, false, flat_map, get_or, get_or-drop, get_or_from_slice_get, inl, inr, IsSized}
+use Rattle.vm.proofs.Common.{le-leb, leb, leb-false, leb-true, length, length-append, length-drop, length-take, List, lt-leb, Memory, min, None, Option, Page, permits, permitted, piece_at, prefix_len, prefix_len-le-length}
+use Rattle.vm.proofs.Common.{prefix_len_passes, prefix_len_stops, reach, refl, rest_of, run_of, slice_get, slice_get_cases, slice_get_within, Some, Store, suc, sym, take, take-add, take-append-le, take_while, take_while-cons, true, zero, ℕ}
+use Rattle.vm.proofs.Common.{◌%◌, ◌*◌, ◌++◌, ◌+◌, ◌-◌, ◌/◌, ◌<◌, ◌∙◌, ◌∷◌, ◌≡◌, ◌≤◌}
 use Rattle.std.proofs.lemmas.List.Concat.{flat_map-cons}
-use Rattle.std.proofs.lemmas.Bool.{leb-false}
 
 -- an item of a list, and where there is none
 pub item-at : {A : Type 0} (xs : List A) (i : ℕ) (x : A) → slice_get xs i ≡ Some x → (drop i xs ≡ x ∷ drop (suc i) xs) × (i < length xs) × (get_or xs i x ≡ x)
@@ -21,23 +20,25 @@ first-drop xs zero = refl
 first-drop [] (suc q) = refl
 first-drop (x ∷ xs) (suc q) = first-drop xs q
 
+pub get-take : {A : Type 0} (xs : List A) (n p : ℕ) → p < n → slice_get (take n xs) p ≡ slice_get xs p
+get-take [] zero p h = refl
+get-take [] (suc n) p h = refl
+get-take (x ∷ xs) zero p h = absurd (omega (arith, h))
+get-take (x ∷ xs) (suc n) zero h = refl
+get-take (x ∷ xs) (suc n) (suc p) h = get-take xs n p (omega (arith, h))
+
 abbrev flat : Access → List Page → List ℕ
 flat access xs = flat_map (λ p. p.bytes) (take_while (λ p. permits access p.marks) xs)
 
 abbrev run : Access → List Page → ℕ
 run access xs = prefix_len (λ p. permits access p.marks) xs
 
-flat-yes : (a : Access) (x : Page) (xs : List Page) → permits a x.marks ≡ true → flat a (x ∷ xs) ≡ x.bytes ++ flat a xs
-flat-yes a x xs e = rw (take_while-cons (λ (p : Page). permits a p.marks) x xs, e) (flat_map-cons (λ (p : Page). p.bytes) x (take_while (λ p. permits a p.marks) xs))
+-- a page that allows the access goes before the run of the others, and one that doesn't ends it
+flat-yes : (a : Access) (x : Page) (xs : List Page) → permits a x.marks ≡ true → (flat a (x ∷ xs) ≡ x.bytes ++ flat a xs) × (run a (x ∷ xs) ≡ 1 + run a xs)
+flat-yes a x xs e = (rw (take_while-cons (λ (p : Page). permits a p.marks) x xs, e) (flat_map-cons (λ (p : Page). p.bytes) x (take_while (λ p. permits a p.marks) xs)), rw e refl)
 
-flat-no : (a : Access) (x : Page) (xs : List Page) → permits a x.marks ≡ false → flat a (x ∷ xs) ≡ []
-flat-no a x xs e = rw (take_while-cons (λ (p : Page). permits a p.marks) x xs, e) refl
-
-run-yes : (a : Access) (x : Page) (xs : List Page) → permits a x.marks ≡ true → run a (x ∷ xs) ≡ 1 + run a xs
-run-yes a x xs e = rw e refl
-
-run-no : (a : Access) (x : Page) (xs : List Page) → permits a x.marks ≡ false → run a (x ∷ xs) ≡ 0
-run-no a x xs e = rw e refl
+flat-no : (a : Access) (x : Page) (xs : List Page) → permits a x.marks ≡ false → (flat a (x ∷ xs) ≡ []) × (run a (x ∷ xs) ≡ 0)
+flat-no a x xs e = (rw (take_while-cons (λ (p : Page). permits a p.marks) x xs, e) refl, rw e refl)
 
 sized-drop : (xs : List Page) (q : ℕ) → IsSized xs → IsSized (drop q xs)
 sized-drop xs zero h = h
@@ -47,8 +48,8 @@ sized-drop (x ∷ xs) (suc q) h = sized-drop xs q (λ i p e. h (suc i) p e)
 length-flat : (a : Access) (xs : List Page) → IsSized xs → length (flat a xs) ≡ 4096 * run a xs
 length-flat a [] h = refl
 length-flat a (x ∷ xs) h = elim (cases_Bool (permits a x.marks)) [
-  | inl is ↦ omega (arith, ap length (flat-yes a x xs is), length-append x.bytes (flat a xs), h 0 x refl, length-flat a xs (λ i p e. h (suc i) p e), run-yes a x xs is)
-  | inr isnt ↦ omega (arith, ap length (flat-no a x xs isnt), run-no a x xs isnt)
+  | inl is ↦ omega (arith, ap length (flat-yes a x xs is).0, length-append x.bytes (flat a xs), h 0 x refl, length-flat a xs (λ i p e. h (suc i) p e), (flat-yes a x xs is).1)
+  | inr isnt ↦ omega (arith, ap length (flat-no a x xs isnt).0, (flat-no a x xs isnt).1)
 ]
 
 -- ---- the run of pages
@@ -68,6 +69,11 @@ run-test a mem first i p h at =
           here ∙ ap (λ j. test (get_or xs j p)) (sym same) ∙ prefix_len_stops test xs p (omega (arith, item.1, same, length-drop first mem)) ∙ sym (lt-leb (suc i) (run a xs) (omega (arith, high)))
     ]
 
+-- it is no longer than the pages from there on
+run-le : (a : Access) (mem : Memory) (first : ℕ) → run_of a mem first ≤ length mem - first
+unfolding run_of
+run-le a mem first = omega (arith, prefix_len-le-length (λ (p : Page). permits a p.marks) (drop first mem), length-drop first mem)
+
 -- one more page of it, and where it ends
 pub run-more : (a : Access) (mem : Memory) (first i : ℕ) (p : Page) → i ≤ run_of a mem first → slice_get mem (first + i) ≡ Some p → permits a p.marks ≡ true → i < run_of a mem first
 run-more a mem first i p h at ok = omega (arith, leb-true (suc i) (run_of a mem first) (sym (run-test a mem first i p h at) ∙ ok))
@@ -76,8 +82,7 @@ pub run-stop : (a : Access) (mem : Memory) (first i : ℕ) (p : Page) → i ≤ 
 run-stop a mem first i p h at ok = omega (arith, h, leb-false (suc i) (run_of a mem first) (sym (run-test a mem first i p h at) ∙ ok))
 
 pub run-end : (a : Access) (mem : Memory) (first i : ℕ) → i ≤ run_of a mem first → slice_get mem (first + i) ≡ None → run_of a mem first ≡ i
-unfolding run_of
-run-end a mem first i h at = omega (arith, h, prefix_len-le-length (λ (p : Page). permits a p.marks) (drop first mem), length-drop first mem, item-past mem (first + i) at)
+run-end a mem first i h at = omega (arith, h, run-le a mem first, item-past mem (first + i) at)
 
 -- whether a page begins one
 pub page-allows : (a : Access) (mem : Memory) (page : ℕ) (p : Page) (b : Bool) → slice_get mem page ≡ Some p → permits a p.marks ≡ b → b ≡ leb 1 (run_of a mem page)
@@ -85,8 +90,7 @@ page-allows a mem page p b at ok = sym ok ∙ run-test a mem page 0 p (omega ari
 
 pub no-page-allows : (a : Access) (mem : Memory) (page : ℕ) → slice_get mem page ≡ None → false ≡ leb 1 (run_of a mem page)
 no-page-allows a mem page at =
-    let none = run-end a mem page 0 (omega arith) (ap (slice_get mem) (omega arith) ∙ at) in
-    sym (lt-leb 1 (run_of a mem page) (omega (arith, none)))
+    sym (lt-leb 1 (run_of a mem page) (omega (arith, run-end a mem page 0 (omega arith) (ap (slice_get mem) (omega arith) ∙ at))))
 
 -- how many bytes can be reached
 pub length-reach : (a : Access) (mem : Memory) (at : ℕ) → IsSized mem → length (reach a mem at) ≡ 4096 * run_of a mem (at / 4096) - at % 4096
@@ -99,18 +103,12 @@ flat-drop a [] (suc i) h le = absurd (omega (arith, le))
 flat-drop a (x ∷ xs) (suc i) h le = elim (cases_Bool (permits a x.marks)) [
   | inl is ↦
       let size : length x.bytes ≡ 4096 = h 0 x refl in
-      let low : i ≤ run a xs = omega (arith, le, run-yes a x xs is) in
+      let low : i ≤ run a xs = omega (arith, le, (flat-yes a x xs is).1) in
       let more : 4096 * suc i ≡ 4096 + 4096 * i = omega arith in
       let front : drop 4096 (x.bytes ++ flat a xs) ≡ flat a xs = drop_at x.bytes (flat a xs) 4096 size in
-      flat-drop a xs i (λ k p e. h (suc k) p e) low
-      ∙ sym (ap (λ n. drop n (flat a (x ∷ xs))) more ∙ sym (drop-drop (4096 * i) 4096 (flat a (x ∷ xs))) ∙ ap (λ l. drop (4096 * i) (drop 4096 l)) (flat-yes a x xs is) ∙ ap (drop (4096 * i)) front)
-  | inr isnt ↦ absurd (omega (arith, le, run-no a x xs isnt))
+      rw (more, ← drop-drop (4096 * i) 4096 (flat a (x ∷ xs)), (flat-yes a x xs is).0, front) (flat-drop a xs i (λ k p e. h (suc k) p e) low)
+  | inr isnt ↦ absurd (omega (arith, le, (flat-no a x xs isnt).1))
 ]
-
--- a run is no longer than the pages
-pub run-le : (a : Access) (mem : Memory) (first : ℕ) → run_of a mem first ≤ length mem
-unfolding run_of
-run-le a mem first = omega (arith, prefix_len-le-length (λ (p : Page). permits a p.marks) (drop first mem), length-drop first mem)
 
 same_test : (a b c d : ℕ) → (a ≤ b → c ≤ d) → (c ≤ d → a ≤ b) → leb a b ≡ leb c d
 same_test a b c d f g = elim (cases_lt b a) [
@@ -147,12 +145,7 @@ reach-drop a mem at d h le =
     let page : (at + d) / 4096 ≡ q + i = omega arith in
     let place : (at + d) % 4096 ≡ j = omega arith in
     let whole : 4096 * i + j ≡ o + d = omega arith in
-    rw (page, place)
-    (ap (λ l. drop j (flat a l)) (sym (drop-drop i q mem))
-    ∙ ap (drop j) (flat-drop a xs i (sized-drop mem q h) low)
-    ∙ drop-drop j (4096 * i) (flat a xs)
-    ∙ ap (λ n. drop n (flat a xs)) whole
-    ∙ sym (drop-drop d o (flat a xs)))
+    rw (page, place, ← drop-drop i q mem, flat-drop a xs i (sized-drop mem q h) low, drop-drop j (4096 * i) (flat a xs), whole) (sym (drop-drop d o (flat a xs)))
 
 flat-front : (a : Access) (xs : List Page) (o l : ℕ) → IsSized xs → o + l ≤ 4096 → take l (drop o (flat a xs)) ≡ take l (rest_of o (permitted a (slice_get xs 0)))
 flat-front a [] o l h le = ap (take l) (drop_all o [] (omega arith))
@@ -160,11 +153,8 @@ flat-front a (x ∷ xs) o l h le = elim (cases_Bool (permits a x.marks)) [
   | inl is ↦
       let size : length x.bytes ≡ 4096 = h 0 x refl in
       let long : l ≤ length (drop o x.bytes) = omega (arith, length-drop o x.bytes, size) in
-      ap (λ b. take l (drop o b)) (flat-yes a x xs is)
-      ∙ ap (take l) (drop-append-le o x.bytes (flat a xs) (omega (arith, size)))
-      ∙ take-append-le l (drop o x.bytes) (flat a xs) long
-      ∙ sym (ap (λ b. take l (rest_of o (if b then Some x else None))) is)
-  | inr isnt ↦ ap (λ b. take l (drop o b)) (flat-no a x xs isnt) ∙ ap (take l) (drop_all o [] (omega arith)) ∙ sym (ap (λ b. take l (rest_of o (if b then Some x else None))) isnt)
+      rw ((flat-yes a x xs is).0, is, drop-append-le o x.bytes (flat a xs) (omega (arith, size))) (take-append-le l (drop o x.bytes) (flat a xs) long)
+  | inr isnt ↦ rw ((flat-no a x xs isnt).0, isnt) (ap (take l) (drop_all o [] (omega arith)))
 ]
 
 -- what is reached begins with the rest of the page
@@ -196,16 +186,11 @@ reach-next a mem at d l h low le =
     ap (λ x. take d (reach a mem at) ++ x) (sym (reach-front a mem (at + d) l h (omega (arith, le, length-piece a mem (at + d) h))) ∙ ap (take l) (reach-drop a mem at d h low))
     ∙ sym (take-add d l (reach a mem at))
 
--- an address from which a byte is reached lies in a page
-pub reach-inside : (a : Access) (mem : Memory) (at : ℕ) → IsSized mem → 0 < length (reach a mem at) → at / 4096 < length mem
-unfolding run_of
-reach-inside a mem at h some = omega (arith, some, length-reach a mem at h, prefix_len-le-length (λ (p : Page). permits a p.marks) (drop (at / 4096) mem), length-drop (at / 4096) mem)
-
 -- while bytes are left to reach, the next lies in a page, and the rest of its page has some
 pub reach-page : (a : Access) (mem : Memory) (at d : ℕ) → IsSized mem → d < length (reach a mem at) → ((at + d) / 4096 < length mem) × (0 < length (piece_at a mem (at + d)))
 reach-page a mem at d h low =
     let left : 0 < length (reach a mem (at + d)) = omega (arith, low, ap length (reach-drop a mem at d h (omega arith)), length-drop d (reach a mem at)) in
-    (reach-inside a mem (at + d) h left, piece-some a mem (at + d) h left)
+    (omega (arith, left, length-reach a mem (at + d) h, run-le a mem ((at + d) / 4096)), piece-some a mem (at + d) h left)
 
 -- bytes that a program may write lie in pages that there are
 pub page-there : (mem : Memory) (at count i : ℕ) → IsSized mem → can_write mem at count ≡ true → i < count → (at + i) / 4096 < length mem

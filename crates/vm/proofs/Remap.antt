@@ -1,13 +1,12 @@
 -- A page gets another frame with the same bytes, or other marks.
-use Rattle.vm.proofs.Common.{◌+◌, ◌<◌, [], ◌^◌, ap, arith, Bool, false, get_or-set_other, get_or-set_same, inl, inr, length, length-set, List, ltb, nat_eq, None, refl, slice_set, Some, subst, suc, sym, true, unwrap_or, zero, ℕ, ◌∙◌, ◌∷◌}
-use Rattle.vm.proofs.Common.{◌≡◌, ◌≢◌, ◌≤◌, ◌⊎◌, cases_eq, among_first, among_first_not, further-free, count_of-first, count_of-other, free-holders, held-inside, holders-free, holders-table, not-free-held, one_if-le}
-use Rattle.vm.proofs.Common.{Trades-twice, among, further_at, IsFreeList, free_of, count_of, one_if, Trades, holders_of, Frames, IsTree-same, lookup_of-same, table_at-same, lookup-sound, free-first, low_is_node, mid_is_node, IsTidy}
-use Rattle.vm.proofs.Common.{HasTable, IsLeafMarks, IsNode, IsPaged, Keeps, low_node, Maps, mid_node, Node, SameMap, SameTables, lookup_of, table_at, frame_of, Page, Perm, frame_at, held, marks_at, OwnsFrames, page_at, page_with}
-use Rattle.vm.proofs.Common.{pages_below, frames_below, tables_below, is_open, IsUserLeaf, right_marks, user_leaf, HasRights, holds, IsRearranged, IsSpace, pages_in, Reframes, Space}
-use Rattle.vm.proofs.DenseLemmas.{count-held, page-held, table-held}
-use Rattle.vm.proofs.GrowLemmas.{IsTidy-same, dense-set, frame_at-is, frame_at-same, frames_below-same, marks_at-is, marks_at-same, tables_below-same}
+use Rattle.vm.proofs.Common.{[], among, among_first, among_first_not, ap, arith, Bool, cases_eq, count_of, count_of-first, count_of-other, false, frame_at, frame_of, Frames, frames_below, free-first, free-holders, free_of, further-free}
+use Rattle.vm.proofs.Common.{further_at, get_or-set_other, get_or-set_same, HasRights, HasTable, held, held-inside, holders-free, holders-table, holders_of, holds, inl, inr, is_open, IsFreeList, IsLeafMarks, IsNode, IsPaged, IsRearranged}
+use Rattle.vm.proofs.Common.{IsSpace, IsTidy, IsUserLeaf, Keeps, length, length-set, List, lookup-sound, lookup_of, lookup_of-same, low_is_node, low_node, ltb, Maps, marks_at, mid_is_node, mid_node, nat_eq, Node, None, not-free-held}
+use Rattle.vm.proofs.Common.{one_if, one_if-le, OwnsFrames, Page, page_at, page_with, pages_below, pages_in, Perm, refl, Reframes, right_marks, SameMap, SameTables, slice_set, Some, Space, subst, suc, sym, table_at-same, tables_below}
+use Rattle.vm.proofs.Common.{Trades, Trades-twice, true, unwrap_or, user_leaf, zero, ℕ, ◌+◌, ◌<◌, ◌^◌, ◌∙◌, ◌∷◌, ◌≡◌, ◌≢◌, ◌≤◌, ◌⊎◌}
+use Rattle.vm.proofs.DenseLemmas.{alone-set, beyond-held, count-held, dense-set, frame_at-is, frame_at-same, frames_below-same, IsTidy-same, list-after, marks_at-is, page-held, page-kept, paged-same, pages-each, table-held}
+use Rattle.vm.proofs.DenseLemmas.{tables_below-same}
 use Rattle.vm.proofs.LeafLemmas.{leaf-user, leaf-valid, right-leaf}
-use Rattle.vm.proofs.StepLemmas.{beyond-held, list-after, page-kept, pages-each}
 
 -- Page p, whose frame was f, has frame g and these marks now. Frame g is f, or was free and has f's bytes.
 pub record IsRemap (m z k : List (List ℕ)) (r p f g marks : ℕ) (s q : Frames) : Type 0 where
@@ -70,8 +69,7 @@ module _ {m z k : List (List ℕ)} {r t n p f g marks : ℕ} {s q : Frames} (is 
   -- what is held: one frame for another
   remap-held : (v : ℕ) → count_of v (held k r t n) + count_of v (f ∷ []) ≡ count_of v (held m r t n) + count_of v (g ∷ [])
   remap-held v =
-      let frames = count-frames m k r n p f g remap-looks (frame_at-is k r p g marks e.inserts.changed) e.was low v in
-      omega (arith, count-held m r t n v, count-held k r t n v, frames, ap (count_of v) tables-same)
+      omega (arith, count-held m r t n v, count-held k r t n v, count-frames m k r n p f g remap-looks (frame_at-is k r p g marks e.inserts.changed) e.was low v, ap (count_of v) tables-same)
 
   -- the space stands
   remap-space : OwnsFrames k r t n q
@@ -89,13 +87,7 @@ module _ {m z k : List (List ℕ)} {r t n p f g marks : ℕ} {s q : Frames} (is 
         free = e.paged.free;
         held = λ v. omega (arith, remap-held v, is.held v, e.moved v);
         own = λ v some. omega (arith, e.fewer v, is.own v (omega (arith, some, ap (count_of v) tables-same)));
-        alone = λ j h wide. elim (cases_eq j p) [
-          | inl same ↦ rw (same, frame_at-is k r p g marks e.inserts.changed) (e.sole (ap is_open (sym (ap (marks_at k r) same ∙ marks_at-is k r p g marks e.inserts.changed)) ∙ wide))
-          | inr ne ↦
-              let looks = remap-looks j h ne in
-              let before = is.alone j h (ap is_open (sym (marks_at-same m k r j looks)) ∙ wide) in
-              rw (frame_at-same m k r j looks) (omega (arith, e.fewer (frame_at m r j), before))
-        ];
+        alone = alone-set m k r n n p g marks s q e.fewer e.inserts.changed (λ j h ne. (h, remap-looks j h ne)) e.sole is.alone;
       }
 
   -- a frame that has a holder and is no table of the space keeps its bytes
@@ -125,9 +117,7 @@ module _ {m z k : List (List ℕ)} {r t n p f g marks : ℕ} {s q : Frames} (is 
         | inr free ↦ omega (arith, free, is.held g, count-held m r t n g)
       ] in
       let bytes : frame_of k g ≡ frame_of m f = e.keeps.others g (λ h. omega (arith, no_table, table-was g h)) e.taken ∙ e.bytes in
-      ap (λ x. page_with (frame_of k x) (marks_at k r p)) (frame_at-is k r p g marks e.inserts.changed)
-      ∙ ap (λ x. page_with (frame_of k g) x) (marks_at-is k r p g marks e.inserts.changed)
-      ∙ ap (λ b. page_with b marks) bytes
+      ap (λ x. page_with (frame_of k x) (marks_at k r p)) (frame_at-is k r p g marks e.inserts.changed) ∙ ap (page_with (frame_of k g)) (marks_at-is k r p g marks e.inserts.changed) ∙ ap (λ b. page_with b marks) bytes
 
   -- and the others are as they were
   pub remap-other : (j : ℕ) → j < n → j ≢ p → page_at k r j ≡ page_at m r j
@@ -140,12 +130,7 @@ module _ {m z k : List (List ℕ)} {r t n p f g marks : ℕ} {s q : Frames} (is 
   remap-pages : right_marks marks ≡ right_marks (marks_at m r p) → pages_below k r n ≡ pages_below m r n
   remap-pages right =
       pages-each m k r n (λ j h. elim (cases_eq j p) [
-        | inl same ↦
-            ap (page_at k r) same
-            ∙ remap-page
-            ∙ ap (λ v. page_with (frame_of m v) marks) (sym e.was)
-            ∙ ap (λ x. let d : Page = record { bytes = frame_of m (frame_at m r p); marks = x } in d) right
-            ∙ ap (page_at m r) (sym same)
+        | inl same ↦ rw same (remap-page ∙ sym (ap (λ x. let d : Page = record { bytes = frame_of m (frame_at m r p); marks = x } in d) (sym right) ∙ ap (λ v. page_with (frame_of m v) marks) e.was))
         | inr ne ↦ remap-other j h ne
       ])
 
@@ -243,14 +228,9 @@ module _ {m z : List (List ℕ)} {r t n : ℕ} {s q : Frames} {f g : ℕ} (is : 
   pub split-paged : IsPaged z r q × IsTidy z r × SameMap m z r
   split-paged =
       let some : (v : ℕ) → HasTable m r v → 0 < count_of v (tables_below m r n) = λ (v : ℕ) (h : HasTable m r v). table-held m r t n v is.dense h in
-      let same : (v : ℕ) → HasTable m r v → frame_of z v ≡ frame_of m v = λ (v : ℕ) (h : HasTable m r v). split-rest is.free e v (held-some is v (omega (arith, some v h, count-held m r t n v))) in
-      let holds : (x : Node) (v : ℕ) → IsNode x → table_at z r x ≡ Some v → HasTable m r v = λ (x : Node) (v : ℕ) (nx : IsNode x) (h : table_at z r x ≡ Some v). record { place = x; is_node = nx; at_place = sym (table_at-same m z r same x nx) ∙ h } in (
-        record {
-          tree = IsTree-same m z r is.dense.tree (split-count is.free e) same;
-          free = (split-free is.free e).1;
-          apart = λ x v nx h. split-apart is.free e v (held-some is v (omega (arith, some v (holds x v nx h), count-held m r t n v)));
-          own = λ x v nx h. omega (arith, split-fewer is.free e v, is.own v (omega (arith, some v (holds x v nx h))));
-        },
+      let same : (v : ℕ) → HasTable m r v → frame_of z v ≡ frame_of m v = λ (v : ℕ) (h : HasTable m r v). split-rest is.free e v (held-some is v (omega (arith, some v h, count-held m r t n v))) in (
+        paged-same is.dense.tree (split-count is.free e) same (split-free is.free e).1
+            (λ v h. (split-apart is.free e v (held-some is v (omega (arith, some v h, count-held m r t n v))), omega (arith, split-fewer is.free e v, is.own v (omega (arith, some v h))))),
         IsTidy-same m z r is.dense.tidy same,
         λ p. lookup_of-same m z r same p,
       )
@@ -291,9 +271,6 @@ module _ {m : List (List ℕ)} {r t n : ℕ} {s : Frames} (is : OwnsFrames m r t
   page-single few =
       let at = held-inside m s f is.free (held-some is f (page-is-held m r t n p f low was)) in
       omega (arith, few, not-free-held m s f is.free at.0 at.1)
-
-pub split-inside : (m : List (List ℕ)) (s q : Frames) (g : ℕ) → IsFreeList m s → free_of m s ≡ g ∷ free_of m q → g < length m
-split-inside m s q g is taken = (free-first m s g (free_of m q) is taken).0
 
 -- and with more than one it has further ones
 pub page-shared : (m : List (List ℕ)) (s : Frames) (f : ℕ) → IsFreeList m s → 1 < holders_of m s f → further_at s f ≢ 0

@@ -1,10 +1,11 @@
 -- Lemmas on all frames of a machine.
-use Rattle.vm.proofs.Common.{◌≡◌, ◌≢◌, ℕ, zero, suc, ◌+◌, ◌<◌, ◌≤◌, List, [], ◌∷◌, ◌++◌, length, true, get_or, slice_set, Option, Some, None, refl, sym, ap, ◌∙◌, arith, length-append, length-set, get_or-set_other}
-use Rattle.vm.proofs.Common.{get_or-set_same, inl, inr, replicate, ltb, cases_eq, sum_by, flat_map, set-get_or, sum_by-cons, frame_of, Frames, among, free_of, further_at, IsFreeList, free_of-same, IsFreeList-same, one_if}
-use Rattle.vm.proofs.Common.{count_of, holders_of, IsShared, Trades, count_of-append, count_of-first, holders-free, held-inside, one-holder, single, IsShared-trade, shared-count, Space, frames_for, IsSpace, holds, pages_in}
-use Rattle.vm.proofs.Common.{IsUntouched, held_at, all_held, IsPlace, IsMachine, frames_used, FreeAreTheRest, NewSpaceSettles, OnePlaceForks, OnePlaceSpares, OnePlaceSparesOthers, OnePlaceTrades, OthersSpare, OthersTrade}
+use Rattle.vm.proofs.Common.{[], all_held, among, ap, arith, cases_eq, cases_lt, count_of, count_of-append, count_of-first, flat_map, frame_of, Frames, frames_used, free_of, free_of-same, FreeAreTheRest, further_at, get_or}
+use Rattle.vm.proofs.Common.{get_or-set_other, get_or-set_same, get_or_past, held-inside, held_at, holders-free, holders_of, holds, inl, inr, IsDuplicate, IsFreeList, IsFreeList-same, IsMachine, IsPlace, IsShared, IsShared-trade}
+use Rattle.vm.proofs.Common.{IsSpace, IsUntouched, length, length-append, length-set, List, ltb, NewSpaceSettles, None, one-holder, one_if, OnePlaceForks, OnePlaceSpares, OnePlaceSparesOthers, OnePlaceTrades, Option, OthersSpare}
+use Rattle.vm.proofs.Common.{OthersTrade, pages_in, refl, replicate, set-get_or, shared-count, single, slice_set, Some, Space, suc, sum_by, sum_by-cons, sym, Trades, true, zero, ℕ, ◌++◌, ◌+◌, ◌<◌, ◌∙◌, ◌∷◌, ◌≡◌, ◌≢◌, ◌≤◌}
+use Rattle.frames.proofs.Duplicates.{same-further, same-holders, same-list, same-shared}
+use Rattle.vm.proofs.Beside.{alone-stays, Trades-space, Trades-untouched}
 use Rattle.vm.proofs.DenseLemmas.{length-held}
-use Rattle.vm.proofs.Beside.{alone-stays, Trades-untouched, Trades-space}
 
 -- ---- counts in a list of places
 
@@ -50,9 +51,7 @@ each-set P xs i y hi here others j x e = elim (cases_eq j i) [
 ]
 
 within-places : (xs : List (Option Space)) (i : ℕ) (x : Space) → get_or xs i None ≡ Some x → i < length xs
-within-places [] i x e = absurd cc
-within-places (y ∷ xs) zero x e = omega arith
-within-places (y ∷ xs) (suc i) x e = let h = within-places xs i x e in omega (arith, h)
+within-places xs i x e = elim (cases_lt i (length xs)) [ inl low ↦ low | inr past ↦ absurd (let none = get_or_past xs i None past in cc) ]
 
 -- ---- one place trades
 
@@ -199,11 +198,7 @@ settle-machine m s places others i y is hi none new = record {
 length-all : (m : List (List ℕ)) (places : List (Option Space)) → length (flat_map (held_at m) places) ≡ sum_by frames_used places
 length-all m [] = refl
 length-all m (None ∷ xs) = length-all m xs ∙ (omega (arith, sum_by-cons frames_used None xs))
-length-all m (Some x ∷ xs) =
-    length-append (holds m x) (flat_map (held_at m) xs)
-    ∙ ap (λ n. n + length (flat_map (held_at m) xs)) (length-held m x.root.0 x.trap.0 (pages_in x.size))
-    ∙ ap (λ n. frames_for (pages_in x.size) + n) (length-all m xs)
-    ∙ sym (sum_by-cons frames_used (Some x) xs)
+length-all m (Some x ∷ xs) = omega (arith, length-append (holds m x) (flat_map (held_at m) xs), length-held m x.root.0 x.trap.0 (pages_in x.size), length-all m xs, sum_by-cons frames_used (Some x) xs)
 
 -- what is free is what the counts leave
 pub free-left : FreeAreTheRest
@@ -228,4 +223,24 @@ machine-new m s n free shared = record {
   each = λ j x e. absurd (none-there n j x e);
   shared = record { each = λ f. omega (arith, shared.each f, count_of-append f (flat_map (held_at m) (replicate n None)) [], ap (count_of f) (none-flat (held_at m) n refl)) };
   alone = λ f some. absurd (omega (arith, some));
+}
+
+-- ---- a machine stays one over a duplicate of its free frames
+
+same-space : (m : List (List ℕ)) (x : Space) (s n : Frames) → IsDuplicate s n → IsSpace m x s → IsSpace m x n
+same-space m x s n is space = record {
+  dense = space.dense;
+  once = space.once;
+  free = same-list m s n is space.free;
+  own = λ f some. rw (same-further s n f is) (space.own f some);
+  alone = λ p low writable. rw (same-further s n _ is) (space.alone p low writable);
+  held = λ f. rw (same-holders m s n f is) (space.held f);
+}
+
+pub same-machine : (m : List (List ℕ)) (s n : Frames) (places : List (Option Space)) (others : List ℕ) → IsDuplicate s n → IsMachine m s places others → IsMachine m n places others
+same-machine m s n places others is machine = record {
+  free = same-list m s n is machine.free;
+  each = λ j x at. same-space m x s n is (machine.each j x at);
+  shared = same-shared m s n (all_held m places others) is machine.shared;
+  alone = λ f some. rw (same-further s n f is) (machine.alone f some);
 }

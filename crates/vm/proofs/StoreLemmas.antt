@@ -1,12 +1,11 @@
 -- Pages and the trap frame are written: the space stands.
-use Rattle.vm.proofs.Common.{◌≡◌, ◌≢◌, ℕ, ◌<◌, ◌≤◌, inl, inr, true, List, [], ◌∷◌, ◌++◌, length, refl, sym, ap, ◌∙◌, arith, ltb, slice_set, length-set, get_or, get_or-set_other, get_or-set_same, cases_lt}
-use Rattle.vm.proofs.Common.{cases_eq, ext_get_or, frame_of, Frames, among, free_of, further_at, IsFreeList, free_of-same, IsFreeList-same, one_if, count_of, holders_of, Trades, among-none, count_of-first}
-use Rattle.vm.proofs.Common.{holders-free, one-holder, Trades-none, Trades-twice, HasTable, table_at-same, lookup_of-same, lookup-sound, Page, Space, frame_at, marks_at, page_at, page_with, pages_below}
-use Rattle.vm.proofs.Common.{frames_below, tables_below, held, IsDense, OwnsFrames, SameLeaves, entry_marks, is_open, right_marks, pages_in, IsMapped, IsOnce, IsSpace, pages_of, holds, Stands}
-use Rattle.vm.proofs.DenseLemmas.{count-held, page-held, pages-apart, table-held}
-use Rattle.vm.proofs.GrowLemmas.{IsDense-same, held-same, frame_at-same, marks_at-same}
-use Rattle.vm.proofs.PageLemmas.{length-pages, get_or-pages}
-use Rattle.vm.proofs.StepLemmas.{held-not_free, read_below-same, pages_below-same}
+use Rattle.vm.proofs.Common.{[], among, among-none, ap, arith, cases_eq, cases_lt, count_of, count_of-first, entry_marks, ext_get_or, frame_at, frame_of, Frames, frames_below, free_of, free_of-same, further_at, get_or, get_or-set_other}
+use Rattle.vm.proofs.Common.{get_or-set_same, HasTable, held, holders-free, holders_of, holds, inl, inr, is_open, IsDense, IsFreeList, IsFreeList-same, IsMapped, IsOnce, IsSpace, length, length-set, List, lookup-sound, ltb, marks_at}
+use Rattle.vm.proofs.Common.{one-holder, one_if, OwnsFrames, Page, page_at, page_with, pages_below, pages_in, pages_of, refl, right_marks, slice_set, Space, Stands, sym, Trades, Trades-none, Trades-twice, true, ℕ, ◌<◌, ◌∙◌}
+use Rattle.vm.proofs.Common.{◌∷◌, ◌≡◌, ◌≢◌, ◌≤◌}
+use Rattle.vm.proofs.Beside.{owns-as, stays-put, StaysPut}
+use Rattle.vm.proofs.DenseLemmas.{count-held, frame_at-same, held-not_free, IsDense-same, marks_at-same, page-held, pages-apart, pages_below-same, table-held}
+use Rattle.vm.proofs.PageLemmas.{get_or-pages, length-pages}
 
 -- only frames of pages and the trap frame have other bytes now
 pub record Writes (m k : List (List ℕ)) (r t n : ℕ) : Type 0 where
@@ -16,11 +15,8 @@ pub record Writes (m k : List (List ℕ)) (r t n : ℕ) : Type 0 where
 tables-stay : (m k : List (List ℕ)) (r t n : ℕ) → IsDense m r t n → ((f : ℕ) → count_of f (held m r t n) ≤ 1) → Writes m k r t n → (v : ℕ) → HasTable m r v → frame_of k v ≡ frame_of m v
 tables-stay m k r t n is once w v h = w.others v (omega (arith, once v, count-held m r t n v, table-held m r t n v is h))
 
-held-stays : (m k : List (List ℕ)) (r t n : ℕ) → IsDense m r t n → ((f : ℕ) → count_of f (held m r t n) ≤ 1) → Writes m k r t n → held k r t n ≡ held m r t n
-held-stays m k r t n is once w =
-    let tables = tables-stay m k r t n is once w in
-    let lists = held-same m k r t n is (λ q h. lookup_of-same m k r tables q) (λ x v nx h. table_at-same m k r tables x nx ∙ h) in
-    ap (λ l. l ++ (t ∷ frames_below k r n)) (lists.0) ∙ ap (λ l. tables_below m r n ++ (t ∷ l)) (lists.1)
+pub writes-put : (m k : List (List ℕ)) (r t n : ℕ) → IsDense m r t n → ((f : ℕ) → count_of f (held m r t n) ≤ 1) → Writes m k r t n → StaysPut m k r t n
+writes-put m k r t n is once w = stays-put m k r t n is (tables-stay m k r t n is once w)
 
 free-stays : (m k : List (List ℕ)) (r t n : ℕ) (s : Frames) → OwnsFrames m r t n s → Writes m k r t n → (g : ℕ) → among g (free_of m s) ≡ true → frame_of k g ≡ frame_of m g
 free-stays m k r t n s is w g at = elim (cases_eq (count_of g (t ∷ frames_below m r n)) 0) [
@@ -31,21 +27,11 @@ free-stays m k r t n s is w g at = elim (cases_eq (count_of g (t ∷ frames_belo
 -- the space stands beside free frames and other holders where frames with several holders aren't written
 pub space-stays : (m k : List (List ℕ)) (r t n : ℕ) (s : Frames) → OwnsFrames m r t n s → Writes m k r t n → ((f : ℕ) → further_at s f ≢ 0 → frame_of k f ≡ frame_of m f) → OwnsFrames k r t n s × Trades m k s s (held m r t n) (held k r t n)
 space-stays m k r t n s is w private =
-    let same = held-stays m k r t n is.dense is.once w in
-    let tables = tables-stay m k r t n is.dense is.once w in
-    let looks = lookup_of-same m k r tables in
-    let lists = held-same m k r t n is.dense (λ q h. looks q) (λ x v nx h. table_at-same m k r tables x nx ∙ h) in
+    let same = (writes-put m k r t n is.dense is.once w).held in
     let stays = free-stays m k r t n s is w in
     let free : IsFreeList k s = IsFreeList-same m k s is.free w.count stays in
     let holders : (v : ℕ) → holders_of k s v ≡ holders_of m s v = λ (v : ℕ). omega (arith, holders-free m s is.free v, holders-free k s free v, ap (count_of v) (free_of-same m k s stays), ap (λ l. one_if (ltb v l)) w.count) in (
-      record {
-        dense = IsDense-same m k r t n is.dense w.count tables;
-        once = λ v. omega (arith, is.once v, ap (count_of v) same);
-        free = free;
-        own = λ v some. is.own v (omega (arith, some, ap (count_of v) lists.0));
-        alone = λ p h wide. ap (further_at s) (frame_at-same m k r p (looks p)) ∙ is.alone p h (ap is_open (sym (marks_at-same m k r p (looks p))) ∙ wide);
-        held = λ v. omega (arith, is.held v, holders v, ap (count_of v) same);
-      },
+      owns-as is w.count (tables-stay m k r t n is.dense is.once w) free (λ v some alone. alone) (λ v. omega (arith, is.held v, holders v)),
       record {
         count = w.count;
         moved = λ v. omega (arith, holders v, ap (count_of v) same);
@@ -57,26 +43,19 @@ space-stays m k r t n s is w private =
       },
     )
 
--- the leaves of its pages are read as before
-pub reads-stay : (m k : List (List ℕ)) (r t n : ℕ) → IsDense m r t n → ((f : ℕ) → count_of f (held m r t n) ≤ 1) → Writes m k r t n → SameLeaves m k r n
-reads-stay m k r t n is once w read = read_below-same read m k r n (λ p h. lookup_of-same m k r (tables-stay m k r t n is once w) p)
-
 -- the space stands where only its pages and its trap frame are written, and those alone that it alone holds
 pub stands : (m k : List (List ℕ)) (s : Space) → IsMapped m s → IsOnce m s → Writes m k s.root.0 s.trap.0 (pages_in s.size) → ((free : Frames) → IsSpace m s free → (f : ℕ) → further_at free f ≢ 0 → frame_of k f ≡ frame_of m f) → Stands m k s
 stands m k s is once w private =
-    let r = s.root.0 in
-    let t = s.trap.0 in
-    let n = pages_in s.size in
-    let tables = tables-stay m k r t n is once w in
+    let put = writes-put m k s.root.0 s.trap.0 (pages_in s.size) is once w in
     record {
       count = w.count;
-      mapped = IsDense-same m k r t n is w.count tables;
-      once = λ f. omega (arith, once f, ap (count_of f) (held-stays m k r t n is once w));
-      mapping = reads-stay m k r t n is once w right_marks;
-      entries = reads-stay m k r t n is once w entry_marks;
-      frames = held-stays m k r t n is once w;
-      space = λ free h. (space-stays m k r t n free h w (private free h)).0;
-      trades = λ free h. (space-stays m k r t n free h w (private free h)).1;
+      mapped = IsDense-same m k s.root.0 s.trap.0 (pages_in s.size) is w.count (tables-stay m k s.root.0 s.trap.0 (pages_in s.size) is once w);
+      once = λ f. omega (arith, once f, ap (count_of f) put.held);
+      mapping = put.reads right_marks;
+      entries = put.reads entry_marks;
+      frames = put.held;
+      space = λ free h. (space-stays m k s.root.0 s.trap.0 (pages_in s.size) free h w (private free h)).0;
+      trades = λ free h. (space-stays m k s.root.0 s.trap.0 (pages_in s.size) free h w (private free h)).1;
     }
 
 -- a page's frame is one of the memory, is neither another page's nor the trap frame
@@ -131,7 +110,7 @@ pages-stored m k s p w is once low e =
     let f = frame_at m r p in
     let d : Page = page_with w (marks_at m r p) in
     let old = pages_below m r n in
-    let looks = lookup_of-same m k r (tables-stay m k r t n is once (Writes-page m k r t n p w low e)) in
+    let looks = (writes-put m k r t n is once (Writes-page m k r t n p w low e)).looks in
     let page : (q : ℕ) → page_at k r q ≡ page_with (frame_of k (frame_at m r q)) (marks_at m r q) = λ (q : ℕ). ap (λ x. page_with (frame_of k x) (marks_at k r q)) (frame_at-same m k r q (looks q)) ∙ ap (page_with (frame_of k (frame_at m r q))) (marks_at-same m k r q (looks q)) in
     let here : page_at k r p ≡ d = page p ∙ ap (λ b. page_with b (marks_at m r p)) (ap (λ x. frame_of x f) e ∙ get_or-set_same m f w [] (page-inside m r t n p is low)) in
     let others : (q : ℕ) → q < n → q ≢ p → page_at k r q ≡ page_at m r q = λ (q : ℕ) (h : q < n) (ne : q ≢ p). page q ∙ ap (λ b. page_with b (marks_at m r q)) (ap (λ x. frame_of x (frame_at m r q)) e ∙ get_or-set_other m f (frame_at m r q) w [] (page-apart m r t n p q once low h ne)) in
@@ -145,12 +124,9 @@ pages-stored m k s p w is once low e =
 -- the pages keep their bytes where only the trap frame is written
 pub pages-kept : (m k : List (List ℕ)) (s : Space) (w : List ℕ) → IsMapped m s → IsOnce m s → k ≡ slice_set m s.trap.0 w → pages_of k s ≡ pages_of m s
 pages-kept m k s w is once e =
-    let r = s.root.0 in
-    let t = s.trap.0 in
-    let n = pages_in s.size in
-    pages_below-same m k r n
-    (λ p h. lookup_of-same m k r (tables-stay m k r t n is once (Writes-trap m k r t n w e)) p)
-    (λ p h. rw e (get_or-set_other m t (frame_at m r p) w [] (λ z. trap-apart m r t n p once h (sym z))))
+    pages_below-same m k s.root.0 (pages_in s.size)
+    (λ p h. (writes-put m k s.root.0 s.trap.0 (pages_in s.size) is once (Writes-trap m k s.root.0 s.trap.0 (pages_in s.size) w e)).looks p)
+    (λ p h. rw e (get_or-set_other m s.trap.0 (frame_at m s.root.0 p) w [] (λ z. trap-apart m s.root.0 s.trap.0 (pages_in s.size) p once h (sym z))))
 
 pub Stands-none : (m : List (List ℕ)) (s : Space) → IsMapped m s → IsOnce m s → Stands m m s
 Stands-none m s is once = record { count = refl; mapped = is; once = once; mapping = refl; entries = refl; frames = refl; space = λ free h. h; trades = λ free h. Trades-none m free (holds m s) }

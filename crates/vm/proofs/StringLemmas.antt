@@ -1,19 +1,14 @@
 -- A string is read byte by byte.
-use Rattle.vm.proofs.Common.{◌≡◌, ◌≢◌, ℕ, zero, suc, ◌+◌, ◌^◌, ◌<◌, ◌≤◌, List, [], ◌∷◌, ◌++◌, length, take, drop, Option, Some, None, refl, sym, ap, ◌∙◌, arith, length-append, length-take, append_assoc}
-use Rattle.vm.proofs.Common.{append-nil, slice_set, leb, true, if◌then◌else◌, slice_get, take-suc, take-suc-set, lt-leb, le-leb, drop_all, Access, Memory, reach, before_nul, IsSized, piece_at, short_string}
-use Rattle.std.specs.Prelude.{option_map}
-use Rattle.vm.proofs.ReachLemmas.{first-drop, item-at, item-past, reach-front, reach-drop, reach-page}
-
-first-take : (xs : List ℕ) → slice_get (take 1 xs) 0 ≡ slice_get xs 0
-first-take [] = refl
-first-take (x ∷ xs) = refl
+use Rattle.vm.proofs.Common.{[], Access, ap, append-nil, append_assoc, arith, before_nul, drop, drop_all, if◌then◌else◌, IsSized, le-leb, leb, length, length-append, length-take, List, lt-leb, Memory, None, Option, option_map, piece_at}
+use Rattle.vm.proofs.Common.{reach, refl, short_string, slice_get, slice_set, Some, suc, sym, take, take-suc, take-suc-set, true, zero, ℕ, ◌++◌, ◌+◌, ◌<◌, ◌^◌, ◌∙◌, ◌∷◌, ◌≡◌, ◌≢◌, ◌≤◌}
+use Rattle.vm.proofs.ReachLemmas.{first-drop, get-take, item-at, item-past, reach-drop, reach-front, reach-page}
 
 -- the first byte of a piece is the next that is reached
 pub piece-first : (a : Access) (mem : Memory) (at d : ℕ) → IsSized mem → d ≤ length (reach a mem at) → slice_get (piece_at a mem (at + d)) 0 ≡ slice_get (reach a mem at) d
 piece-first a mem at d h low =
-    sym (first-take (piece_at a mem (at + d)))
+    sym (get-take (piece_at a mem (at + d)) 1 0 (omega arith))
     ∙ ap (λ l. slice_get l 0) (sym (reach-front a mem (at + d) 1 h (omega arith)))
-    ∙ first-take (reach a mem (at + d))
+    ∙ get-take (reach a mem (at + d)) 1 0 (omega arith)
     ∙ ap (λ l. slice_get l 0) (reach-drop a mem at d h low)
     ∙ first-drop (reach a mem at) d
 
@@ -50,10 +45,7 @@ strings-next bytes buffer i x was room at ne =
     rw one (record {
       within = omega (arith, s.2);
       same = take-suc-set buffer i x room ∙ ap (λ l. l ++ (x ∷ [])) was.same ∙ sym (s.1);
-      rest = was.rest ∙ ap (λ l. option_map (λ r. take i bytes ++ r) (before_nul l)) (s.0)
-          ∙ ap (option_map (λ r. take i bytes ++ r)) (before-more x (drop (suc i) bytes) ne)
-          ∙ twice (take i bytes) x (before_nul (drop (suc i) bytes))
-          ∙ ap (λ f. option_map (λ r. f ++ r) (before_nul (drop (suc i) bytes))) (sym (s.1));
+      rest = rw (was.rest, s.0, before-more x (drop (suc i) bytes) ne, s.1) (twice (take i bytes) x (before_nul (drop (suc i) bytes)));
     })
 
 -- the bytes end before a 0

@@ -1,28 +1,20 @@
 -- Lemmas on trap frames.
-use Rattle.vm.proofs.Common.{◌≡◌, ℕ, zero, suc, ◌+◌, ◌*◌, ◌^◌, ◌<◌, ◌≤◌, ◌⊎◌, inl, inr, List, [], length, get_or, refl, sym, ap, ◌∙◌, arith, slice_set, length-set}
-use Rattle.vm.proofs.Common.{get_or-set_same, get_or-set_other, ext_get_or, length-map-range_with_len, get_or-map-range_with_len, cases_eq, frame_of, put, put_bytes, word_of}
-use Rattle.vm.proofs.Common.{word_bytes, IsMemory, count_of-first, lookup-sound, trap_page, trap_marks, Space, pages_in, IsMapped, IsOnce, pages_of, registers_of, Stands}
-use Rattle.ram.proofs.MemoryLemmas.{get_or-put_bytes_below, get_or-put_bytes_above, frame_of-put_same, length-word_bytes, word_of-put_same, word_of-put_beside}
-use Rattle.vm.proofs.StoreLemmas.{private-set, stands, Writes-trap, pages-kept, Stands-twice}
-use Rattle.vm.specs.TrapFrame.{saved_pc, saved_register, saved_registers, IsSpare}
+use Rattle.vm.proofs.Common.{[], ap, arith, cases_eq, count_of-first, ext_get_or, frame_of, get_or, get_or-map-range_with_len, get_or-set_other, get_or-set_same, inl, inr, IsMapped, IsMemory, IsOnce, length, length-map-range_with_len}
+use Rattle.vm.proofs.Common.{length-set, List, lookup-sound, pages_in, pages_of, put, put_bytes, refl, registers_of, slice_set, Space, Stands, suc, sym, trap_marks, trap_page, word_bytes, word_of, zero, ℕ, ◌*◌, ◌+◌, ◌<◌, ◌^◌, ◌∙◌, ◌≡◌, ◌≤◌}
+use Rattle.vm.proofs.Common.{◌⊎◌}
+use Rattle.ram.proofs.MemoryLemmas.{frame_of-put_same, get_or-put_bytes_above, get_or-put_bytes_below, length-word_bytes, word_of-put_beside, word_of-put_same}
+use Rattle.vm.specs.TrapFrame.{IsSpare, saved_pc, saved_register, saved_registers}
+use Rattle.vm.proofs.StoreLemmas.{pages-kept, private-set, stands, Stands-twice, Writes-trap}
 
 -- the registers, one by one
-pub get-saved : (m : List (List ℕ)) (s : Space) (i : ℕ) → 0 < i → i < 32 → get_or (saved_registers m s) i 0 ≡ saved_register m s i
-unfolding saved_registers
-get-saved m s zero low high = absurd (omega arith)
-get-saved m s (suc i) low high = get_or-map-range_with_len (saved_register m s) 1 31 i (suc i) 0 (omega arith) (omega arith)
-
 pub length-saved : (m : List (List ℕ)) (s : Space) → length (saved_registers m s) ≡ 32
 unfolding saved_registers
 length-saved m s = ap suc (length-map-range_with_len (saved_register m s) 1 31)
 
-first-saved : (m : List (List ℕ)) (s : Space) → get_or (saved_registers m s) 0 0 ≡ 0
-unfolding saved_registers
-first-saved m s = refl
-
 each : (m : List (List ℕ)) (s : Space) (xs : List ℕ) → length xs ≡ 32 → get_or xs 0 0 ≡ 0 → ((i : ℕ) → 0 < i → i < 32 → saved_register m s i ≡ get_or xs i 0) → (i : ℕ) → i < 32 → get_or (saved_registers m s) i 0 ≡ get_or xs i 0
-each m s xs len none same zero h = first-saved m s ∙ sym none
-each m s xs len none same (suc i) h = get-saved m s (suc i) (omega arith) h ∙ same (suc i) (omega arith) h
+unfolding saved_registers
+each m s xs len none same zero h = sym none
+each m s xs len none same (suc i) h = get_or-map-range_with_len (saved_register m s) 1 31 i (suc i) 0 (omega arith) (omega arith) ∙ same (suc i) (omega arith) h
 
 pub saved-is : (m : List (List ℕ)) (s : Space) (xs : List ℕ) → length xs ≡ 32 → get_or xs 0 0 ≡ 0 → ((i : ℕ) → 0 < i → i < 32 → saved_register m s i ≡ get_or xs i 0) → saved_registers m s ≡ xs
 saved-is m s xs len none same = ext_get_or 0 (saved_registers m s) xs (length-saved m s ∙ sym len) (λ i h. each m s xs len none same i (omega (arith, h, length-saved m s)))
@@ -39,11 +31,9 @@ trap-stored m k s o x is once e =
 pub beside-stored : (m k : List (List ℕ)) (s : Space) (o x at : ℕ) → s.trap.0 < length m → length (frame_of m s.trap.0) ≡ 4096 → o + 8 ≤ 4096 → (at < o) ⊎ (o + 8 ≤ at) → k ≡ put m s.trap.0 o (word_bytes 8 x)
     → get_or (registers_of k s) at 0 ≡ get_or (registers_of m s) at 0
 beside-stored m k s o x at inside whole fits (inl low) e =
-    ap (λ n. get_or (frame_of n s.trap.0) at 0) e ∙ ap (λ b. get_or b at 0) (frame_of-put_same m s.trap.0 o (word_bytes 8 x) inside)
-    ∙ get_or-put_bytes_below (frame_of m s.trap.0) o (word_bytes 8 x) at 0 (omega (arith, fits, whole, length-word_bytes 8 x)) low
+    rw (e, frame_of-put_same m s.trap.0 o (word_bytes 8 x) inside) (get_or-put_bytes_below (frame_of m s.trap.0) o (word_bytes 8 x) at 0 (omega (arith, fits, whole, length-word_bytes 8 x)) low)
 beside-stored m k s o x at inside whole fits (inr high) e =
-    ap (λ n. get_or (frame_of n s.trap.0) at 0) e ∙ ap (λ b. get_or b at 0) (frame_of-put_same m s.trap.0 o (word_bytes 8 x) inside)
-    ∙ get_or-put_bytes_above (frame_of m s.trap.0) o (word_bytes 8 x) at 0 (omega (arith, fits, whole, length-word_bytes 8 x)) (omega (arith, high, length-word_bytes 8 x))
+    rw (e, frame_of-put_same m s.trap.0 o (word_bytes 8 x) inside) (get_or-put_bytes_above (frame_of m s.trap.0) o (word_bytes 8 x) at 0 (omega (arith, fits, whole, length-word_bytes 8 x)) (omega (arith, high, length-word_bytes 8 x)))
 
 pub trap-inside : (m : List (List ℕ)) (s : Space) → IsMapped m s → s.trap.0 < length m
 trap-inside m s is = (lookup-sound m s.root.0 trap_page s.trap.0 trap_marks is.tree is.trap).0

@@ -1,25 +1,21 @@
 -- The walk goes by the mapping of a space.
-use Rattle.vm.proofs.Common.{◌≡◌, ◌≢◌, ◌==◌, ℕ, zero, suc, ◌-◌, ◌/◌, ◌%◌, ◌^◌, ◌<◌, ◌≤◌, ◌⊎◌, inl, inr, Bool, true, false, ◌||◌, List, [], ◌∷◌, length, take, Some, None, refl, sym, ap, ◌∙◌, arith, if◌then◌else◌}
-use Rattle.vm.proofs.Common.{slice_get, cases_eq, cases_lt, eqb-true, slice_get-get_or, slice_get_past, slice_get_within, slice_get-map, Access, Fetch, Load, Store, Perm, permits, leaf_allows, is_canonical, Held}
-use Rattle.vm.proofs.Common.{Mapped, memory_of, page_in, allowed, frame_for, WalksTo, IsCoherent, lookup_of, trap_page, trap_marks, frame_at, marks_at, read_at, read_below, entries_below, IsDense, entry_marks}
-use Rattle.std.specs.Prelude.{option_map}
-use Rattle.pagetable.specs.Agree.{translation, given_frame}
+use Rattle.vm.proofs.Common.{Access, allowed, ap, arith, Bool, cases_eq, cases_lt, entries_below, entry_marks, eqb-true, false, Fetch, frame_at, frame_for, Held, if◌then◌else◌, inl, inr, is_canonical, IsCoherent, IsDense, leaf_allows}
+use Rattle.vm.proofs.Common.{length, List, Load, lookup_of, Mapped, marks_at, memory_of, None, option_map, or_cases, page_in, Perm, permits, read_at, read_below, refl, slice_get, slice_get-get_or, slice_get-map, slice_get_past}
+use Rattle.vm.proofs.Common.{slice_get_within, Some, Store, sym, take, trap_marks, trap_page, true, WalksTo, ℕ, ◌%◌, ◌-◌, ◌/◌, ◌<◌, ◌==◌, ◌^◌, ◌∙◌, ◌≡◌, ◌≤◌, ◌⊎◌}
+use Rattle.pagetable.specs.Agree.{given_frame, translation}
 use Rattle.pagetable.proofs.AgreeLemmas.{walk_page-tree}
 use Rattle.vm.proofs.LeafLemmas.{leaf-allows}
-use Rattle.vm.proofs.PageLemmas.{length-mapping, get_or-mapping}
+use Rattle.vm.proofs.PageLemmas.{get_or-mapping, length-mapping}
+use Rattle.vm.proofs.ReachLemmas.{get-take}
 
 -- ---- the mapping, an entry at a time
 
 abbrev mapped_of : ℕ → Perm → Mapped
 mapped_of f a = record { frame = f; marks = a }
 
-none_mapped : Mapped
-none_mapped = record { frame = 0; marks = record { writable = false; executable = false; user = false; shared = false } }
-
 pub get-mapping : (read : ℕ → Perm) (m : List (List ℕ)) (r n p : ℕ) → p < n → slice_get (read_below read m r n) p ≡ Some (read_at read m r p)
 get-mapping read m r n p h =
-    slice_get-get_or (read_below read m r n) p none_mapped (omega (arith, h, length-mapping read m r n))
-    ∙ ap Some (get_or-mapping read m r n p none_mapped h)
+    slice_get-get_or (read_below read m r n) p (read_at read m r p) (omega (arith, h, length-mapping read m r n)) ∙ ap Some (get_or-mapping read m r n p (read_at read m r p) h)
 
 pub mapping-past : (read : ℕ → Perm) (m : List (List ℕ)) (r n p : ℕ) → n ≤ p → slice_get (read_below read m r n) p ≡ None
 mapping-past read m r n p h = slice_get_past (read_below read m r n) p (omega (arith, h, length-mapping read m r n))
@@ -68,18 +64,10 @@ lookup-low m r p =
     let last : q % 512 ≡ p % 512 = omega arith in
     rw (mid, low, last) refl
 
-beyond : (a b : Bool) → (a || b) ≡ true → (a ≢ true) → (b ≢ true) → ⊥
-beyond true b e f g = f refl
-beyond false true e f g = g refl
-beyond false false e f g = cc
-
 canonical-low : (p : ℕ) → is_canonical p ≡ true → (p < 2 ^ 26) ⊎ (2 ^ 26 ≤ p % 2 ^ 27)
-canonical-low p e = elim (cases_eq (p / 2 ^ 26) 0) [
-  | inl low ↦ inl (omega (arith, low))
-  | inr high ↦ elim (cases_eq (p / 2 ^ 26) (2 ^ 26 - 1)) [
-    | inl top ↦ inr (omega (arith, top))
-    | inr other ↦ absurd (beyond (p / 2 ^ 26 == 0) (p / 2 ^ 26 == 2 ^ 26 - 1) e (λ t. high (eqb-true (p / 2 ^ 26) 0 t)) (λ t. other (eqb-true (p / 2 ^ 26) (2 ^ 26 - 1) t)))
-  ]
+canonical-low p e = elim (or_cases (p / 2 ^ 26 == 0) (p / 2 ^ 26 == 2 ^ 26 - 1) e) [
+  | inl low ↦ inl (omega (arith, eqb-true (p / 2 ^ 26) 0 low))
+  | inr top ↦ inr (omega (arith, eqb-true (p / 2 ^ 26) (2 ^ 26 - 1) top))
 ]
 
 closed : (m : List (List ℕ)) (r t n q : ℕ) (a : Access) → IsDense m r t n → n ≤ q → q < 2 ^ 27 → translation a (lookup_of m r q) ≡ None
@@ -109,13 +97,6 @@ walks-entries m r t n small is = record {
 }
 
 -- ---- a mapping that goes on
-
-get-take : (xs : List Mapped) (n p : ℕ) → p < n → slice_get (take n xs) p ≡ slice_get xs p
-get-take [] zero p h = refl
-get-take [] (suc n) p h = refl
-get-take (x ∷ xs) zero p h = absurd (omega (arith, h))
-get-take (x ∷ xs) (suc n) zero h = refl
-get-take (x ∷ xs) (suc n) (suc p) h = get-take xs n p (omega (arith, h))
 
 -- what a translator holds of a mapping it may hold when pages come after it
 pub coherent-grown : (held : Held) (root : ℕ) (old new : List Mapped) → take (length old) new ≡ old → IsCoherent held root old → IsCoherent held root new

@@ -1,9 +1,10 @@
 -- Bytes that are written a page at a time.
-use Rattle.vm.proofs.Common.{◌≡◌, ℕ, suc, ◌+◌, ◌-◌, ◌/◌, ◌%◌, ◌<◌, inl, inr, true, ◌≤◌, List, [], ◌∷◌, ◌++◌, length, take, drop, min, Some, refl, sym, ap, ◌∙◌, arith, slice_set, get_or-set_other, append_assoc}
-use Rattle.vm.proofs.Common.{slice_get, cases_lt, take-suc-set, drop_all, drop-set-lt, take_all, take-append-drop, Page, Memory, overwrite, write_from, write_bytes, Frames, further_at, frame_of, put, put_bytes}
-use Rattle.vm.proofs.Common.{Space, frame_at, marks_at, page_at, page_with, read_at, SameLeaves, is_open, right_marks, written, pages_in, IsMapped, IsOnce, IsSpace, Stands, mapping_of, pages_of, Reframes}
+use Rattle.vm.proofs.Common.{[], ap, append_assoc, arith, cases_lt, drop, drop-drop, drop-set-lt, drop_all, frame_at, frame_of, Frames, further_at, get_or-set_other, inl, inr, is_open, IsMapped, IsOnce, IsSpace, length, length-append}
+use Rattle.vm.proofs.Common.{length-drop, length-take, List, mapping_of, marks_at, Memory, min, overwrite, Page, page_at, page_with, pages_in, pages_of, put, put_bytes, read_at, refl, Reframes, right_marks, SameLeaves, sized, slice_get}
+use Rattle.vm.proofs.Common.{slice_set, Some, Space, Stands, suc, sym, take, take-append-drop, take-suc-set, take_all, true, write_bytes, write_from, written, ℕ, ◌%◌, ◌++◌, ◌+◌, ◌-◌, ◌/◌, ◌<◌, ◌∙◌, ◌∷◌, ◌≡◌, ◌≤◌}
+use Rattle.ram.proofs.Frames.{sized-full}
 use Rattle.vm.proofs.ReachLemmas.{item-at}
-use Rattle.vm.proofs.StoreLemmas.{Writes-page, pages-stored, private-set, reads-stay, space-stays, space-stored, trap-apart}
+use Rattle.vm.proofs.StoreLemmas.{pages-stored, private-set, space-stays, space-stored, trap-apart, Writes-page, writes-put}
 use Rattle.vm.proofs.WalkLaw.{get-mapping, mapped-page}
 
 write_from-none : (ps : List Page) (at : ℕ) → write_from ps at [] ≡ ps
@@ -45,9 +46,7 @@ write-page mem at n p bs some here is = elim (cases_lt (length bs) (4096 - at % 
       let none_l : drop l bs ≡ [] = drop_all l bs (omega (arith, short)) in
       let same : take n bs ≡ take l bs = take_all n bs (omega (arith, all)) ∙ sym (take_all l bs (omega (arith, short))) in
       let k = slice_set mem (at / 4096) (written p (at % 4096) (take n bs)) in
-      ap (write_bytes k (at + n)) none ∙ write-none k (at + n) ∙ ap (λ x. slice_set mem (at / 4096) (written p (at % 4096) x)) same
-      ∙ sym (write-none (slice_set mem (at / 4096) (written p (at % 4096) (take l bs))) (at + l)) ∙ ap (write_bytes (slice_set mem (at / 4096) (written p (at % 4096) (take l bs))) (at + l)) (sym none_l)
-      ∙ whole-page mem at p bs some here
+      rw (none, write-none k (at + n), same) (rw (none_l, write-none (slice_set mem (at / 4096) (written p (at % 4096) (take l bs))) (at + l)) at (whole-page mem at p bs some here))
   | inr long ↦
       let e : n ≡ 4096 - at % 4096 = omega (arith, is, long) in
       rw e (whole-page mem at p bs some here)
@@ -69,14 +68,13 @@ put-reframes m k s q p at bs is low sole e =
 -- the leaves are read as before
 pub put-reads : (m k : List (List ℕ)) (s : Space) (p at : ℕ) (bs : List ℕ) → IsMapped m s → IsOnce m s → p < pages_in s.size → k ≡ put m (frame_at m s.root.0 p) at bs → SameLeaves m k s.root.0 (pages_in s.size)
 unfolding put
-put-reads m k s p at bs is once low e = reads-stay m k s.root.0 s.trap.0 (pages_in s.size) is once (Writes-page m k s.root.0 s.trap.0 (pages_in s.size) p (put_bytes (frame_of m (frame_at m s.root.0 p)) at bs) low e)
+put-reads m k s p at bs is once low e = (writes-put m k s.root.0 s.trap.0 (pages_in s.size) is once (Writes-page m k s.root.0 s.trap.0 (pages_in s.size) p (put_bytes (frame_of m (frame_at m s.root.0 p)) at bs) low e)).reads
 
 pub put-written : (m k : List (List ℕ)) (s : Space) (p at : ℕ) (bs : List ℕ) → IsMapped m s → IsOnce m s → p < pages_in s.size → k ≡ put m (frame_at m s.root.0 p) at bs
     → pages_of k s ≡ slice_set (pages_of m s) p (written (page_at m s.root.0 p) at bs)
 unfolding put put_bytes
 put-written m k s p at bs is once low e =
-    let f = frame_at m s.root.0 p in
-    let bytes = frame_of m f in
+    let bytes = frame_of m (frame_at m s.root.0 p) in
     let same : put_bytes bytes at bs ≡ overwrite bytes at bs = sym (append_assoc (take at bytes) bs (drop (at + length bs) bytes)) in
     pages-stored m k s p (put_bytes bytes at bs) is once low e
     ∙ ap (λ b. slice_set (pages_of m s) p (page_with b (marks_at m s.root.0 p))) same
@@ -105,3 +103,16 @@ module _ (m k : List (List ℕ)) (s : Space) (address : ℕ) (bs : List ℕ) (is
   pub put-stands : is_open (marks_at m s.root.0 page) ≡ true → Stands m k s
   unfolding put
   put-stands wide = space-stored m k s page (put_bytes (frame_of m (frame_at m s.root.0 page)) (address % 4096) bs) is once low wide e
+
+-- ---- a part of a frame is written
+
+-- what was lent comes back with the part in place
+pub part-put : (m : List (List ℕ)) (f at : ℕ) (bs page new : List ℕ) (n : ℕ) → n ≡ length bs → at + length bs ≤ 4096 → length (frame_of m f) ≡ 4096 → page ≡ frame_of m f → new ≡ bs
+    → slice_set m f (sized (take at page ++ (new ++ drop n (drop at page)))) ≡ put m f at bs
+unfolding put put_bytes
+part-put m f at bs page new n is fits whole same e =
+    let parts : take at page ++ (new ++ drop n (drop at page)) ≡ take at (frame_of m f) ++ (bs ++ drop (at + length bs) (frame_of m f)) =
+    rw (same, e, is, drop-drop (length bs) at (frame_of m f)) refl in
+    let full : length (take at (frame_of m f) ++ (bs ++ drop (at + length bs) (frame_of m f))) ≡ 4096 =
+    omega (arith, whole, length-append (take at (frame_of m f)) (bs ++ drop (at + length bs) (frame_of m f)), length-append bs (drop (at + length bs) (frame_of m f)), length-take at (frame_of m f), length-drop (at + length bs) (frame_of m f)) in
+    ap (λ b. slice_set m f (sized b)) parts ∙ ap (slice_set m f) (sized-full _ full)

@@ -1,8 +1,6 @@
 use Rattle.vm.proofs.Common.{arith, ap, ◌∙◌, replicate, get_or-set_same, frame_of, free-first}
-use Rattle.vm.proofs.GrowLemmas.{marks_at-is}
-use Rattle.vm.proofs.StepLemmas.{OwnsFrames-paged, IsTaken, IsTaken-set}
-use Rattle.vm.proofs.Added.{IsBefore}
-use Rattle.vm.proofs.Taken.{taken-before, taken-fits, taken-grown}
+use Rattle.vm.proofs.DenseLemmas.{marks_at-is, OwnsFrames-paged, IsTaken, IsTaken-set}
+use Rattle.vm.proofs.Added.{IsBefore, taken-before, taken-fits, taken-grown}
 use Rattle.vm.proofs.Space.add_page.Goals as goal
 use Rattle.vm.proofs.Space.add_page.Goals.{After-zero}
 

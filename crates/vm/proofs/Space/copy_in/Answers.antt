@@ -1,8 +1,7 @@
 use Rattle.vm.proofs.Common.{◌≡◌, ◌+◌, ◌-◌, ◌≤◌, ◌++◌, length, take, Some, None, sym, ap, ◌∙◌, arith, if◌then◌else◌, leb-true, take_all, Load, reach, pages_in, pages_of, IsSized}
 use Rattle.std.proofs.lemmas.Slice.{take-put_mid}
-use Rattle.vm.proofs.PageLemmas.{length-pages}
+use Rattle.vm.proofs.PageLemmas.{length-pages, pages-sized}
 use Rattle.vm.proofs.ReachLemmas.{reach-page, reach-next}
-use Rattle.vm.proofs.SizedLemmas.{pages-sized}
 use Rattle.vm.proofs.Space.copy_in.Goals as goal
 use Rattle.vm.proofs.Space.copy_in.Goals.{In-loop-done}
 
@@ -21,8 +20,7 @@ overflow_add-address c =
 pub loop-done-smaller : goal.loop-done-smaller
 loop-done-smaller c =
     let at = (goal.at.loop-done-smaller c).In-loop-done in
-    let next = reach-page Load _ c.args.address c.loop-done.done (sized at) (omega (arith, long at)) in
-    omega (arith, next.1, ap length c.readable-piece.ensures)
+    omega (arith, (reach-page Load _ c.args.address c.loop-done.done (sized at) (omega (arith, long at))).1, ap length c.readable-piece.ensures)
 
 pub loop-done-preserved : goal.loop-done-preserved
 loop-done-preserved c =

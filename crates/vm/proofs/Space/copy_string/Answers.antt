@@ -1,6 +1,5 @@
 use Rattle.vm.proofs.Common.{◌≡◌, ℕ, ◌+◌, ◌<◌, ◌≤◌, ◌^◌, length, take, Option, Some, sym, ap, ◌∙◌, arith, slice_get, Load, reach, string_at, pages_in, pages_of, IsSized, piece_at}
-use Rattle.vm.proofs.PageLemmas.{length-pages}
-use Rattle.vm.proofs.SizedLemmas.{pages-sized}
+use Rattle.vm.proofs.PageLemmas.{length-pages, pages-sized}
 use Rattle.vm.proofs.StringLemmas.{piece-first, strings-start, strings-next, string-open, string-ends, string-long, string-fits}
 use Rattle.vm.proofs.Space.copy_string.Goals as goal
 use Rattle.vm.proofs.Space.copy_string.Goals.{After-frames_are_whole}

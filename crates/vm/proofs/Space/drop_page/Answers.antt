@@ -1,6 +1,6 @@
 use Rattle.vm.proofs.Common.{ℕ, suc, ◌≢◌, Option, Some, None, ◌≡◌, arith, add-one, OwnsFrames}
 use Rattle.vm.proofs.DropLemmas.{IsUnmapped, dropped, give-held, give-inside, unmapped-was}
-use Rattle.vm.proofs.StepLemmas.{OwnsFrames-paged}
+use Rattle.vm.proofs.DenseLemmas.{OwnsFrames-paged}
 use Rattle.vm.proofs.Space.drop_page.Goals as goal
 use Rattle.vm.proofs.Space.drop_page.Goals.{After-unmap-frame}
 

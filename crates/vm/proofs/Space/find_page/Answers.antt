@@ -1,5 +1,5 @@
 use Rattle.vm.proofs.Common.{Some, sym, ap, ◌∙◌, arith, lookup-sound, right_marks, frame_at, marks_at, pages_in}
-use Rattle.vm.proofs.GrowLemmas.{frame_at-is, marks_at-is}
+use Rattle.vm.proofs.DenseLemmas.{frame_at-is, marks_at-is}
 use Rattle.vm.proofs.WalkLaw.{get-mapping, mapping-past, mapped-parts}
 use Rattle.vm.proofs.Space.find_page.Goals as goal
 

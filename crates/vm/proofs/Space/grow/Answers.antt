@@ -2,8 +2,7 @@ use Rattle.vm.proofs.Common.{◌≡◌, ℕ, take, ◌+◌, ◌-◌, [], ◌∷�
 use Rattle.vm.proofs.Common.{held-count, frames_for, held, page_with, pages_below, read_below, Perm, zero_page, entry_marks, marks_from, right_marks, user_leaf, pages_in}
 use Rattle.vm.proofs.DenseLemmas.{length-held}
 use Rattle.vm.proofs.LeafLemmas.{leaf-user, leaf-valid, page-zero}
-use Rattle.vm.proofs.OpenLemmas.{open-fewer, open-more}
-use Rattle.vm.proofs.PageLemmas.{take-mapping}
+use Rattle.vm.proofs.PageLemmas.{open-fewer, open-more, take-mapping}
 use Rattle.vm.proofs.Space.grow.Goals as goal
 use Rattle.vm.proofs.Space.grow.Goals.{After-loop-page}
 

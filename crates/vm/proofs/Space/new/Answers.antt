@@ -1,6 +1,6 @@
 use Rattle.vm.proofs.Common.{arith, ap, refl, ◌∙◌, replicate, get_or-set_same, frame_of, free-first, IsTidy-empty}
-use Rattle.vm.proofs.StepLemmas.{IsTaken-set}
-use Rattle.vm.proofs.NewLemmas.{IsMade, IsStart, start-count, start-empty, start-made, start-missing, start-paged}
+use Rattle.vm.proofs.DenseLemmas.{IsTaken-set}
+use Rattle.vm.proofs.EmptyLemmas.{IsMade, IsStart, start-count, start-empty, start-made, start-missing, start-paged}
 use Rattle.vm.proofs.Space.new.Goals as goal
 use Rattle.vm.proofs.Space.new.Goals.{After-zero, In-Ok}
 

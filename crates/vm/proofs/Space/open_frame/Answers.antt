@@ -1,5 +1,5 @@
 use Rattle.vm.proofs.Common.{arith, ap, sym, ◌∙◌, is_open}
-use Rattle.vm.proofs.GrowLemmas.{frame_at-is, marks_at-is}
+use Rattle.vm.proofs.DenseLemmas.{frame_at-is, marks_at-is}
 use Rattle.vm.proofs.Space.open_frame.Goals as goal
 
 pub returns-then-contains-clause-page : goal.returns-then-contains-clause-page

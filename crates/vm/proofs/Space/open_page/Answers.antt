@@ -1,6 +1,6 @@
 use Rattle.vm.proofs.Common.{arith, ap, sym, true, ◌∙◌, further_at, Perm, marks_at, right_marks, user_leaf, pages_in}
 use Rattle.vm.proofs.Remap.{IsMadeLeaf, made-leaf, page-inside-is, page-shared, page-single}
-use Rattle.vm.proofs.OpenLemmas.{open-one}
+use Rattle.vm.proofs.PageLemmas.{open-one}
 use Rattle.vm.proofs.Space.open_page.Goals as goal
 use Rattle.vm.proofs.Space.open_page.Goals.{After-leaf-open}
 

@@ -3,7 +3,7 @@ use Rattle.vm.proofs.Added.{IsBefore, next-fits}
 use Rattle.vm.proofs.Forked.{IsClosed, closed-free, more-some, part-before, part-closed, part-holder, part-more}
 use Rattle.vm.proofs.LeafLemmas.{leaf-closed}
 use Rattle.vm.proofs.Remap.{IsMadeLeaf, made-leaf, page-inside-is}
-use Rattle.vm.proofs.StepLemmas.{OwnsFrames-paged}
+use Rattle.vm.proofs.DenseLemmas.{OwnsFrames-paged}
 use Rattle.vm.proofs.Space.share_page.Goals as goal
 use Rattle.vm.proofs.Space.share_page.Goals.{After-closed_leaf-closed, After-set_page, After-share}
 
@@ -38,8 +38,7 @@ both c done =
 
 pub share-requires-clause-held : goal.share-requires-clause-held
 share-requires-clause-held c =
-    let set = (goal.at.share-requires-clause-held c).After-set_page in
-    part-holder _ _ _ _ _ _ (part set) c.requires.page c.set_page.ensures.frame
+    part-holder _ _ _ _ _ _ (part ((goal.at.share-requires-clause-held c).After-set_page)) c.requires.page c.set_page.ensures.frame
 
 pub unreachable-requires-then-not-share : goal.unreachable-requires-then-not-share
 unreachable-requires-then-not-share c =

@@ -1,6 +1,5 @@
 use Rattle.vm.proofs.Common.{◌-◌, ◌∙◌, sym, arith, entry_marks, right_marks, pages_in}
-use Rattle.vm.proofs.OpenLemmas.{open-fewer, open-read}
-use Rattle.vm.proofs.PageLemmas.{take-pages, take-mapping}
+use Rattle.vm.proofs.PageLemmas.{open-fewer, open-read, take-pages, take-mapping}
 use Rattle.vm.proofs.Space.shrink.Goals as goal
 
 pub returns-clause-pages : goal.returns-clause-pages

@@ -1,6 +1,6 @@
-use Rattle.vm.proofs.Common.{arith, ◌∙◌}
-use Rattle.vm.proofs.GrowLemmas.{frame_at-is, marks_at-is, marks_at-same}
-use Rattle.vm.proofs.Remap.{IsSplit, page-inside-is, rearranged, remap-split, split-count, split-inside, split-mapped, split-paged, split-sole}
+use Rattle.vm.proofs.Common.{arith, free-first, ◌∙◌}
+use Rattle.vm.proofs.DenseLemmas.{frame_at-is, marks_at-is, marks_at-same}
+use Rattle.vm.proofs.Remap.{IsSplit, page-inside-is, rearranged, remap-split, split-count, split-mapped, split-paged, split-sole}
 use Rattle.vm.proofs.Space.split_page.Goals as goal
 use Rattle.vm.proofs.Space.split_page.Goals.{After-copy}
 
@@ -10,7 +10,7 @@ split c = record { taken = c.split-own.ensures.taken; after = c.split-own.ensure
 pub copy-requires : goal.copy-requires
 copy-requires c = record {
   from = page-inside-is c.requires.space _ _ c.requires.page c.requires.frame;
-  to = split-inside _ c.args.frames.now c.split-own.new.self _ c.requires.space.free c.split-own.ensures.taken;
+  to = (free-first c.args.ram.now c.args.frames.now _ _ c.requires.space.free c.split-own.ensures.taken).0;
 }
 
 pub remap-requires : goal.remap-requires
@@ -20,7 +20,7 @@ remap-requires c =
       paged = (split-paged c.requires.space e).0;
       page = omega (arith, c.requires.space.dense.small);
       mapped = split-mapped c.requires.space e _ c.requires.page;
-      frame = omega (arith, split-inside c.args.ram.now _ c.split-own.new.self _ c.requires.space.free c.split-own.ensures.taken, split-count c.requires.space.free e);
+      frame = omega (arith, (free-first c.args.ram.now c.args.frames.now _ _ c.requires.space.free c.split-own.ensures.taken).0, split-count c.requires.space.free e);
       marks = c.requires.marks;
     }
 
@@ -29,10 +29,9 @@ returns c =
     let e = split (goal.at.returns c).After-copy in
     let r = c.remap.ensures in
     let paged = split-paged c.requires.space e in
-    let tidy = r.tidy paged.1 in
     record {
       same = rearranged _ c.requires.space c.requires.page
-          (remap-split c.requires.space e c.requires.page c.requires.frame c.requires.leaf r.inserts r.tables tidy r.paged r.keeps r.free) c.requires.right;
+          (remap-split c.requires.space e c.requires.page c.requires.frame c.requires.leaf r.inserts r.tables (r.tidy paged.1) r.paged r.keeps r.free) c.requires.right;
       sole = split-sole c.requires.space.free e;
       frame = frame_at-is _ _ _ _ _ r.inserts.changed;
       marks = marks_at-is _ _ _ _ _ r.inserts.changed;
