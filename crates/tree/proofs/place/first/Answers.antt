@@ -1,8 +1,5 @@
-use Rattle.tree.proofs.Common.{below_more, below_none, ◌≡◌, ◌≤◌, false, ap, sym, ◌∙◌, arith, is_sought, place_in, place_of_bytes, number_at}
+use Rattle.tree.proofs.Common.{below_more, ◌≡◌, ◌≤◌, false, ap, sym, ◌∙◌, arith, is_sought, place_in, place_of_bytes, number_at}
 use Rattle.tree.proofs.place.first.Goals as goal
-
-pub loop-k-init : goal.loop-k-init
-loop-k-init c = below_none _
 
 pub loop-k-preserved : goal.loop-k-preserved
 loop-k-preserved c =
@@ -19,6 +16,3 @@ returns-then-is_sought c =
       here = ap (λ b. is_sought c.args.sought.now (place_of_bytes b)) (sym place) ∙ sym c.is_sought.ensures ∙ c.if-is_sought.true;
       number = c.from.ensures ∙ c.number_in.ensures ∙ ap (number_at 2 0) place;
     }
-
-pub returns : goal.returns
-returns c = λ j less low. c.loop-k.invariant j (let end = c.loop-k-test.false in omega arith) low

@@ -1,11 +1,8 @@
 use Rattle.tree.proofs.Common.{Some, ap, refl, sym, ◌∙◌, entered, made_files, leaf_node, Files, Made}
 use Rattle.tree.proofs.Following.{acts-done, acts-lost, acts-not, acts-refused, now-begin, now-changed, now-files, now-kept, now-none, now-took, now-up}
-use Rattle.tree.proofs.Gaps.{fresh-now, leaf-empty, made-asked, made-done, made-unnumbered, none-more, overflow-none, some-kind, weaker-gap}
+use Rattle.tree.proofs.Gaps.{fresh-now, leaf-empty, made-asked, made-done, made-unnumbered, overflow-none, some-kind, weaker-gap}
 use Rattle.unixmodel.specs.Files.{Entry}
 use Rattle.tree.proofs.tree.Tree.create.Goals as goal
-
-pub find_gap-requires : goal.find_gap-requires
-find_gap-requires g c = record { up = c.requires.up; rules = c.requires.rules; directory = c.requires.directory; more = none-more }
 
 pub returns-in_err-gap : goal.returns-in_err-gap
 returns-in_err-gap g c =

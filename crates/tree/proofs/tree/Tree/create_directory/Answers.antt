@@ -1,12 +1,9 @@
-use Rattle.tree.proofs.Common.{[], Some, ap, arith, le_refl, refl, suc, sym, ◌∙◌, ◌≡◌, ◌≤◌, None, ◌+◌, ◌<◌, ◌≢◌, entered, blocks_of, change_node, links_of, most_links, put, slot, Node, Directory, more_links, new_directory}
+use Rattle.tree.proofs.Common.{[], Some, ap, arith, refl, suc, sym, ◌∙◌, ◌≡◌, ◌≤◌, None, ◌+◌, ◌<◌, ◌≢◌, entered, blocks_of, change_node, links_of, most_links, put, slot, Node, Directory, more_links, new_directory}
 use Rattle.tree.proofs.Folders.{above-asked, first-above, first-bare, first-block, folder-is, folder-many, folder-unnumbered, name-asked, next-is, weaker-folder}
 use Rattle.tree.proofs.Following.{acts-done, acts-lost, acts-not, acts-refused, at-now, now-begin, now-changed, now-files, now-kept, now-node, now-none, now-read, now-took, now-up, now-wanted, told-now}
 use Rattle.tree.proofs.Gaps.{overflow-none}
 use Rattle.unixmodel.specs.Files.{Entry}
 use Rattle.tree.proofs.tree.Tree.create_directory.Goals as goal
-
-pub find_gap-requires : goal.find_gap-requires
-find_gap-requires g c = record { up = c.requires.up; rules = c.requires.rules; directory = c.requires.directory; more = le_refl 1 }
 
 pub returns-in_err-gap : goal.returns-in_err-gap
 returns-in_err-gap g c =

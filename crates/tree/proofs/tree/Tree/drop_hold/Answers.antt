@@ -3,9 +3,6 @@ use Rattle.tree.proofs.Letting.{let-go-serves}
 use Rattle.tree.proofs.Bridging.{at-inside, up-inside}
 use Rattle.tree.proofs.tree.Tree.drop_hold.Goals as goal
 
-pub unhold-requires : goal.unhold-requires
-unhold-requires g c = record { up = c.requires.up; node = c.requires.node; some = c.requires.some }
-
 pub let_go-requires : goal.let_go-requires
 let_go-requires g c = record { up = up-inside c.unhold.ensures c.requires.up; node = at-inside c.unhold.ensures (λ t. slot t.files c.args.number ≢ None) c.requires.node }
 

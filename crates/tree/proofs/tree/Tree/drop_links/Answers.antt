@@ -3,9 +3,6 @@ use Rattle.tree.proofs.Following.{end-changed, end-lost, end-still, now-begin, n
 use Rattle.tree.proofs.Unlinking.{stays-node}
 use Rattle.tree.proofs.tree.Tree.drop_links.Goals as goal
 
-pub drop_link-requires : goal.drop_link-requires
-drop_link-requires g c = record { up = c.requires.up; node = c.requires.node }
-
 pub returns-in_err-drop_link : goal.returns-in_err-drop_link
 returns-in_err-drop_link g c = end-lost now-begin c.drop_link.ensures c.in_err-drop_link.was c.from_residual.ensures.1
 

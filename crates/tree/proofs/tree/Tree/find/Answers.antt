@@ -33,9 +33,6 @@ returns-in_default-2 g c =
     end-read c.requires.up (now-read i.now c.lookup.ensures c.in_ok-next.was)
     (sym (follow-next c.args.self.now.files c.name.number (parts c.name.rest.now) c.in-Some.name.now (parts c.in-Some.after.now) c.in-Some.ensures.some none) ∙ i.rest)
 
-pub name-smaller : goal.name-smaller
-name-smaller g c = c.in-Some.ensures.shorter
-
 pub returns : goal.returns
 returns g c =
     let i = c.name.invariant in

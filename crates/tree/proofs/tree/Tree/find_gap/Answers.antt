@@ -4,9 +4,6 @@ use Rattle.tree.proofs.Gaps.{gap-folder, gap-full, gap-has, gap-lacks, gap-room,
 use Rattle.tree.proofs.Parts.{spot-lacks}
 use Rattle.tree.proofs.tree.Tree.find_gap.Goals as goal
 
-pub spot-requires : goal.spot-requires
-spot-requires g c = record { up = c.requires.up; rules = c.requires.rules; directory = c.requires.directory }
-
 pub returns-in_err-number : goal.returns-in_err-number
 returns-in_err-number g c =
     acts-refused now-begin c.spot.ensures c.in_err-number.was (λ known less why. (tt, spot-lacks c.args.self.now.block_limit c.args.self.now.files c.args.directory c.args.path.now c.args.more _ why)) c.from_residual.ensures.1

@@ -3,9 +3,6 @@ use Rattle.tree.proofs.Placing.{erased-becomes, place-high}
 use Rattle.tree.proofs.Following.{turns-become}
 use Rattle.tree.proofs.tree.Tree.free_place.Goals as goal
 
-pub is_whole-requires : goal.is_whole-requires
-is_whole-requires g c = c.requires.up
-
 pub overflow_mul-k : goal.overflow_mul-k
 overflow_mul-k g c = let high = place-high c.is_whole.ensures c.requires.place in omega arith
 

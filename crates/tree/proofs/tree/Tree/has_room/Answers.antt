@@ -3,9 +3,6 @@ use Rattle.tree.proofs.Following.{end-last, end-lost, now-begin, now-read, now-u
 use Rattle.tree.proofs.Placing.{growth-size}
 use Rattle.tree.proofs.tree.Tree.has_room.Goals as goal
 
-pub is_whole-requires : goal.is_whole-requires
-is_whole-requires g c = c.requires.up
-
 pub node-requires : goal.node-requires
 node-requires g c = record { up = c.requires.up; node = (Directory c.requires.room.links c.requires.room.places, c.requires.room.here) }
 

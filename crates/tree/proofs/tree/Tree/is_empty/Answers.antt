@@ -2,9 +2,6 @@ use Rattle.tree.proofs.Following.{end-lost, end-read, folder-now, folder-was, no
 use Rattle.tree.proofs.Scanned.{bare-told, folder-fits}
 use Rattle.tree.proofs.tree.Tree.is_empty.Goals as goal
 
-pub count_places-requires : goal.count_places-requires
-count_places-requires g c = record { up = c.requires.up; directory = c.requires.directory }
-
 pub returns-in_err-count : goal.returns-in_err-count
 returns-in_err-count g c = end-lost now-begin c.count_places.ensures c.in_err-count.was c.from_residual.ensures.1
 

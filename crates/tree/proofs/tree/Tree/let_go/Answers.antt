@@ -4,9 +4,6 @@ use Rattle.tree.proofs.Letting.{let-go-clear, let-go-held, let-go-linked}
 use Rattle.tree.proofs.Storing.{some-node}
 use Rattle.tree.proofs.tree.Tree.let_go.Goals as goal
 
-pub holders-requires : goal.holders-requires
-holders-requires g c = record { up = c.requires.up; node = c.requires.node }
-
 pub returns-then-holders-gt0 : goal.returns-then-holders-gt0
 returns-then-holders-gt0 g c =
     end-still c.requires.up now-begin (sym (let-go-held c.args.self.now.holds c.args.self.now.files c.args.number (let some = c.if-holders-gt0.true in let is = c.holders.ensures in omega arith)))

@@ -3,9 +3,6 @@ use Rattle.tree.proofs.Placing.{entry-becomes, entry-high, entry-plain}
 use Rattle.tree.proofs.Following.{turns-become}
 use Rattle.tree.proofs.tree.Tree.put_entry.Goals as goal
 
-pub is_whole-requires : goal.is_whole-requires
-is_whole-requires g c = c.requires.up
-
 pub place_bytes-entry-requires : goal.place_bytes-entry-requires
 place_bytes-entry-requires g c = let plain = entry-plain c.is_whole.ensures c.requires.room c.args.gap.now.name.now c.args.number c.requires.plain c.requires.number in record { name = plain.most; number = plain.number }
 

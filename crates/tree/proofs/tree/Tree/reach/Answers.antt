@@ -38,9 +38,6 @@ returns-in_default-2 g c =
     end-read c.requires.up (now-read i.now c.lookup.ensures c.in_ok-next.was)
     (sym (reach-next c.args.self.now.files c.name.number name (parts c.name.rest.now) c.in-Some-first_name.last.now (parts c.in-Some-first_name.after.now) c.in-Some-first_name.ensures.some none) ∙ i.rest)
 
-pub name-smaller : goal.name-smaller
-name-smaller g c = c.in-Some-first_name.ensures.shorter
-
 pub returns : goal.returns
 returns g c =
     let i = c.name.invariant in

@@ -4,9 +4,6 @@ use Rattle.tree.proofs.Letting.{let-go-clear, let-go-linked}
 use Rattle.tree.proofs.Swept.{let-go-free, told-free, told-node}
 use Rattle.tree.proofs.tree.Tree.release_unlinked.Goals as goal
 
-pub look-requires : goal.look-requires
-look-requires g c = record { up = c.requires.up }
-
 pub returns-in_err-node : goal.returns-in_err-node
 returns-in_err-node g c = lost-served now-begin c.look.ensures c.in_err-node.was c.from_residual.ensures.1
 

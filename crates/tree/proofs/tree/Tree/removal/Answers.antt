@@ -3,9 +3,6 @@ use Rattle.tree.proofs.Following.{end-lost, end-read, folder-now, now-begin, now
 use Rattle.tree.proofs.Unlinking.{removal-directory, removal-folder, removal-other}
 use Rattle.tree.proofs.tree.Tree.removal.Goals as goal
 
-pub node-requires : goal.node-requires
-node-requires g c = record { up = c.requires.up; node = c.requires.node }
-
 pub returns-in_err-node : goal.returns-in_err-node
 returns-in_err-node g c = end-lost now-begin c.node.ensures c.in_err-node.was c.from_residual.ensures.1
 

@@ -3,9 +3,6 @@ use Rattle.tree.proofs.Following.{acts-done, acts-lost, acts-refused, at-now, be
 use Rattle.tree.proofs.Unnaming.{gone-name, refused-at, spot-naming, without-spot}
 use Rattle.tree.proofs.tree.Tree.unlink.Goals as goal
 
-pub spot-requires : goal.spot-requires
-spot-requires g c = record { up = c.requires.up; rules = c.requires.rules; directory = c.requires.directory }
-
 pub returns-in_err-above : goal.returns-in_err-above
 returns-in_err-above g c =
     acts-refused now-begin c.spot.ensures c.in_err-above.was
