@@ -1,18 +1,15 @@
 -- A new directory: why it is refused, and what the disk holds.
-use Rattle.tree.proofs.Common.{◌≡◌, ◌≢◌, ℕ, ◌+◌, ◌<◌, ◌≤◌, Bool, List, [], None, Option, Some, ap, sym, refl, ◌∙◌, arith, cond, true, false, suc, All, IsSome, is_none, option_and_then, option_map, ◌&&◌, and_from, and_left, and_right}
-use Rattle.tree.proofs.Common.{cond-false, cond-true, le-ltb, lt-ltb, get_or-set_same, set-set, none-some, same_Some, TreeFault, DeadDir, Exists, Full, NotDir, NotFound, Overflows, HasGap, LacksBlocks, entered, folder_in, growth}
-use Rattle.tree.proofs.Common.{placed, room_in, LacksFolder, LacksGap, blocks_of, Files, Node, Spot, change_node, free_number, links_of, live_places, lookup, most_links, put, slot, spot_of, Directory, Made, has_room_for_link}
+use Rattle.tree.proofs.Common.{◌≡◌, ◌≢◌, ℕ, ◌+◌, ◌<◌, ◌≤◌, List, [], None, Option, Some, ap, sym, refl, ◌∙◌, arith, cond, subst, suc, All, is_none, option_and_then, option_map, ◌&&◌, and_from, and_right}
+use Rattle.tree.proofs.Common.{cond-false, cond-true, le-ltb, lt-ltb, get_or-set_same, set-set, none-some, same_Some, TreeFault, Overflows, HasGap, entered, folder_in, growth}
+use Rattle.tree.proofs.Common.{placed, room_in, LacksFolder, LacksGap, LacksMaking, blocks_of, Files, Node, Spot, change_node, free_number, links_of, lookup, most_links, put, slot, spot_of, Directory, Made, has_room_for_link}
 use Rattle.tree.proofs.Common.{is_free_name, made_below, made_directory, make_at, more_links, new_directory, IsFree, free-number, FileTree, ◌∷◌, inl, inr, get_or-set_other, cases_eq, HasRoom, IsPlain, dot, dot_dot}
-use Rattle.tree.specs.declared.TreeFault.TheVariants.{Blocks}
 use Rattle.unixmodel.specs.Files.{Entry}
-use Rattle.tree.proofs.Gaps.{AsksEntry, comes-some, entry-asked, lacks-dead, lacks-other, over-lacks, overflow-none, places-of, plain-name, spot-directory}
+use Rattle.tree.proofs.Gaps.{AsksEntry, comes-some, entry-asked, Fills, gap-making, make-fills, Makes, overflows, places-of, plain-name, spot-directory, tested}
 use Rattle.tree.proofs.Linking.{more-blocks}
-use Rattle.tree.proofs.Unlinking.{IsLiveAt}
 use Rattle.tree.proofs.Rooms.{blocks_of-entered, cond-none, entered-is, none-not}
-use Rattle.tree.proofs.Parts.{spot-none}
 use Rattle.tree.proofs.Storing.{blocks_of-set, slot-within, taken_by}
 use Rattle.tree.proofs.Following.{IsNow}
-use Rattle.tree.proofs.Taking.{fresh-blocks, make-done, make-full, make-unnumbered, still-here}
+use Rattle.tree.proofs.Taking.{fresh-blocks, make-done, make-unnumbered, still-here}
 use Rattle.tree.specs.declared.TreeFault.TheVariants as fault
 
 -- ---- what they are
@@ -85,40 +82,31 @@ module _ (files : Files) (n : ℕ) (here : slot files n ≡ Some (Directory 1 []
   ]
 
 module _ (files : Files) (d : ℕ) (path : List ℕ) where
-  pub folder-nowhere : spot_of files d path ≡ None → folder_in files d path ≡ None
+  folder-nowhere : spot_of files d path ≡ None → folder_in files d path ≡ None
   unfolding folder_in
   folder-nowhere e = ap (option_and_then (made_directory files)) e
 
   module _ (at : Spot) (spot : spot_of files d path ≡ Some at) where
+    abbrev come : Option Made
+    come = make_at files at (new_directory at.directory)
+
     abbrev linked : Option Made → Option Files
     linked o = option_map (λ (made : Made). change_node made.files at.directory more_links) o
 
-    folder-at : (parent : Node) → slot files at.directory ≡ Some parent → folder_in files d path ≡ cond (is_free_name files at && has_room_for_link parent) (linked (make_at files at (new_directory at.directory))) None
+    folder-at : (parent : Node) → slot files at.directory ≡ Some parent → folder_in files d path ≡ cond (is_free_name files at && has_room_for_link parent) (linked come) None
     unfolding folder_in made_directory
     folder-at parent here = ap (option_and_then (made_directory files)) spot ∙ ap (made_below files at) here
-
-    pub folder-there : (parent : Node) → slot files at.directory ≡ Some parent → IsSome (lookup files at.directory at.name) → folder_in files d path ≡ None
-    folder-there parent here some =
-        folder-at parent here
-        ∙ cond-false (is_free_name files at && has_room_for_link parent) (linked (make_at files at (new_directory at.directory))) None
-        (and_left (is_free_name files at) (has_room_for_link parent) (none-not (lookup files at.directory at.name) some))
 
     pub folder-many : (parent : Node) → slot files at.directory ≡ Some parent → most_links ≤ links_of parent → folder_in files d path ≡ None
     folder-many parent here many =
         folder-at parent here
-        ∙ cond-false (is_free_name files at && has_room_for_link parent) (linked (make_at files at (new_directory at.directory))) None
+        ∙ cond-false (is_free_name files at && has_room_for_link parent) (linked come) None
         (and_right (is_free_name files at) (has_room_for_link parent) (le-ltb (links_of parent) most_links many))
 
-    unmade : (parent : Node) → slot files at.directory ≡ Some parent → make_at files at (new_directory at.directory) ≡ None → folder_in files d path ≡ None
-    unmade parent here none = folder-at parent here ∙ cond-none (is_free_name files at && has_room_for_link parent) (ap linked none)
-
     pub folder-unnumbered : (parent : Node) → slot files at.directory ≡ Some parent → free_number files ≡ None → folder_in files d path ≡ None
-    folder-unnumbered parent here none = unmade parent here (make-unnumbered files at (new_directory at.directory) none)
+    folder-unnumbered parent here none = folder-at parent here ∙ cond-none (is_free_name files at && has_room_for_link parent) (ap linked (make-unnumbered files at (new_directory at.directory) none))
 
     module _ (links : ℕ) (places : List (Option Entry)) (here : slot files at.directory ≡ Some (Directory (suc links) places)) where
-      pub folder-full : room_in places ≡ None → folder_in files d path ≡ None
-      folder-full none = unmade (Directory (suc links) places) here (make-full files at (new_directory at.directory) here none)
-
       module _ (k : ℕ) (room : room_in places ≡ Some k) (n : ℕ) (is : free_number files ≡ Some n) where
         abbrev e : Entry
         e = record { name = at.name; number = n }
@@ -155,43 +143,31 @@ module _ (files : Files) (d : ℕ) (path : List ℕ) where
         pub folder-done : suc links < most_links → lookup files at.directory at.name ≡ None → folder_in files d path ≡ Some (change_node third at.directory more_links)
         folder-done few free =
             folder-at (Directory (suc links) places) here
-            ∙ cond-true (is_free_name files at && has_room_for_link (Directory (suc links) places)) (linked (make_at files at (new_directory at.directory))) None
+            ∙ cond-true (is_free_name files at && has_room_for_link (Directory (suc links) places)) (linked come) None
             (and_from (is_free_name files at) (has_room_for_link (Directory (suc links) places)) (ap is_none free) (lt-ltb (suc links) most_links few))
             ∙ ap linked (make-done files at (new_directory at.directory) here room is)
 
-        -- the files with it take a block beside the name
-        folder-made : (made : Files) → folder_in files d path ≡ Some made → blocks_of made ≡ blocks_of files + growth places k + 1
-        folder-made made h = go (is_free_name files at && has_room_for_link (Directory (suc links) places)) (sym (folder-at (Directory (suc links) places) here) ∙ h) where
-          go : (b : Bool) → cond b (linked (make_at files at (new_directory at.directory))) None ≡ Some made → blocks_of made ≡ blocks_of files + growth places k + 1
-          go false q = absurd (none-some made q)
-          go true q =
-              let same = ap blocks_of (same_Some (change_node third at.directory more_links) made (sym (ap linked (make-done files at (new_directory at.directory) here room is)) ∙ q)) in
-              let blocks = folder-blocks in
-              omega arith
+  folder-makes : Makes files d path 1 (folder_in files d path)
+  folder-makes = record {
+    nowhere = folder-nowhere;
+    there = λ at spot some.
+        let live = spot-directory files d path at spot in
+        folder-at at spot (Directory (suc live.links) live.places) live.here
+        ∙ ap (λ b. cond (b && has_room_for_link (Directory (suc live.links) live.places)) (linked at spot (come at spot)) None) (none-not (lookup files at.directory at.name) some);
+    fills = λ at spot.
+        let live = spot-directory files d path at spot in
+        let parent = Directory (suc live.links) live.places in
+        subst (Fills files at 1) (sym (folder-at at spot parent live.here)) (tested (λ b. cond b (linked at spot (come at spot)) None) refl
+        (make-fills files at (new_directory at.directory) (λ (made : Made). change_node made.files at.directory more_links) (λ n is live k room.
+        let blocks = folder-blocks at spot live.links live.places live.here k room n is in omega arith)) (is_free_name files at && has_room_for_link parent));
+  }
 
-  -- the disk has no room for it
-  over-folder : (limit : ℕ) → LacksBlocks limit files d path 1 → Overflows limit (folder_in files d path)
-  over-folder limit lacks = over-lacks lacks (λ live room made h. go live room made h (free_number files) refl) where
-    go : (live : IsLiveAt files lacks.at.directory) → room_in live.places ≡ Some lacks.place → (made : Files) → folder_in files d path ≡ Some made → (o : Option ℕ) → free_number files ≡ o → blocks_of made ≡ blocks_of files + growth live.places lacks.place + 1
-    go live room made h None e = absurd (none-some made (sym (folder-unnumbered lacks.at lacks.spot (Directory (suc live.links) live.places) live.here e) ∙ h))
-    go live room made h (Some n) e = folder-made lacks.at lacks.spot live.links live.places live.here lacks.place room n e made h
-
-  module _ (limit : ℕ) where
-    -- a name that has no room makes no directory
-    pub weaker-folder : (told : TreeFault) → told ≢ fault.Device → LacksGap limit files d path 1 told → Overflows limit (folder_in files d path) × LacksFolder limit files d path told
-    weaker-folder NotFound known why = (overflow-none limit (folder-nowhere (spot-none files d path why)), why)
-    weaker-folder NotDir known why = (overflow-none limit (folder-nowhere (lacks-other files d path why)), why)
-    weaker-folder Exists known why =
-        let live = spot-directory files d path why.at why.spot in
-        (overflow-none limit (folder-there why.at why.spot (Directory (suc live.links) live.places) live.here why.named), why)
-    weaker-folder DeadDir known why = (overflow-none limit (folder-nowhere (lacks-dead files d path why)), why)
-    weaker-folder Blocks known why = (over-folder limit why, why)
-    weaker-folder Full known why =
-        let live = spot-directory files d path why.at why.spot in
-        let full : room_in live.places ≡ None = sym (ap (λ o. option_and_then room_in (live_places o)) live.here) ∙ why.none in
-        (overflow-none limit (folder-full why.at why.spot live.links live.places live.here full), why)
-    weaker-folder fault.Device known why = absurd (known refl)
-    weaker-folder _ known why = absurd why
+  -- a name that has no room makes no directory
+  pub weaker-folder : (limit : ℕ) (told : TreeFault) → told ≢ fault.Device → LacksGap limit files d path 1 told → Overflows limit (folder_in files d path) × LacksFolder limit files d path told
+  weaker-folder limit told known why = (overflows folder-makes limit told known why, making-folder told (gap-making limit files d path 1 told why)) where
+    making-folder : (told : TreeFault) → LacksMaking limit files d path 1 told → LacksFolder limit files d path told
+    making-folder fault.Links why = absurd why
+    making-folder _ why = why
 
 -- ---- the steps
 

@@ -1,14 +1,14 @@
 -- A new name: where it is to stand, and what becomes of the files.
 use Rattle.tree.proofs.Common.{◌≡◌, ℕ, ◌+◌, ◌≤◌, Bool, List, None, Option, Some, ap, sym, refl, ◌∙◌, arith, subst, cond, true, false, suc, IsSome, is_none, is_some, nat_le, option_and_then, false≢true, leb-false, leb-true, none-some}
 use Rattle.tree.proofs.Common.{same_Some, Overflows, HasGap, HasRoom, IsFullAt, LacksBlocks, entered, growth, made_files, made_in, room_in, IsFolder, IsDead, IsNoDirectory, above, blocks_of, Files, Node, Spot, free_number, is_directory}
-use Rattle.tree.proofs.Common.{live_places, live_spot, lookup, places_at, put, size_of, slot, spot_of, Directory, make_at, made_at, free-number, ◌≢◌, ◌<◌, [], ◌∷◌, length, not, All, ◌&&◌, ◌==◌, list_all, and_parts, eq-eqb, All-cons}
+use Rattle.tree.proofs.Common.{live_places, live_spot, lookup, Made, option_map, put, size_of, slot, spot_of, Directory, make_at, made_at, free-number, ◌≢◌, ◌<◌, [], ◌∷◌, length, not, All, ◌&&◌, ◌==◌, list_all, and_parts, eq-eqb, All-cons}
 use Rattle.tree.proofs.Common.{All-nil, get_or-set_same, is_part, is_plain, spot-parts, Leaf, TreeFault, DeadDir, Exists, Full, NotDir, NotFound, IsPlain, LacksGap, LacksMaking, leaf_node, FileTree}
 use Rattle.unixmodel.specs.Files.{Entry}
 use Rattle.tree.proofs.Unlinking.{IsLiveAt}
 use Rattle.tree.proofs.Parts.{spot-above, spot-none}
 use Rattle.tree.proofs.Rooms.{blocks_of-entered, cond-none, none-not}
 use Rattle.tree.proofs.Taking.{fresh-blocks, make-done, make-full, make-unnumbered, still-here}
-use Rattle.tree.specs.declared.TreeFault.TheVariants.{Blocks}
+use Rattle.tree.specs.declared.TreeFault.TheVariants.{Blocks, Inodes}
 use Rattle.tree.proofs.Following.{IsNow, at-now}
 use Rattle.tree.specs.declared.making.Leaf.TheVariants as leaf
 use Rattle.tree.specs.declared.TreeFault.TheVariants as fault
@@ -83,75 +83,108 @@ lacks-other files d path other = no-spot files d path other.number other.name ot
 pub lacks-dead : (files : Files) (d : ℕ) (path : List ℕ) → IsDead files d path → spot_of files d path ≡ None
 lacks-dead files d path dead = no-spot files d path dead.number dead.name dead.above (ap live_places dead.here)
 
+-- a name that has no room makes no node
+pub gap-making : (limit : ℕ) (files : Files) (d : ℕ) (path : List ℕ) (more : ℕ) (told : TreeFault) → LacksGap limit files d path more told → LacksMaking limit files d path more told
+gap-making limit files d path more Inodes why = absurd why
+gap-making limit files d path more _ why = why
+
 -- ---- what would be made
 
 pub overflow-none : (limit : ℕ) {made : Option Files} → made ≡ None → Overflows limit made
 overflow-none limit e files h = absurd (none-some files (sym e ∙ h))
 
--- it takes more blocks than there are
-pub over-lacks : {limit : ℕ} {files : Files} {d : ℕ} {path : List ℕ} {more : ℕ} (lacks : LacksBlocks limit files d path more) {made : Option Files}
-    → ((live : IsLiveAt files lacks.at.directory) → room_in live.places ≡ Some lacks.place → (fs : Files) → made ≡ Some fs → blocks_of fs ≡ blocks_of files + growth live.places lacks.place + more) → Overflows limit made
-over-lacks {files = files} {d} {path} lacks grows fs is =
-    let live = spot-directory files d path lacks.at lacks.spot in
-    let same : live.places ≡ lacks.places = same_Some live.places lacks.places (sym (ap live_places live.here) ∙ lacks.here) in
-    let grown : growth live.places lacks.place ≡ growth lacks.places lacks.place = ap (λ ps. growth ps lacks.place) same in
-    let few = lacks.few in
-    let blocks = grows live (ap room_in same ∙ lacks.room) fs is in
-    omega arith
+-- an entry at a spot makes files that take its blocks and so many more, and none where the directory is full
+pub record Fills (files : Files) (at : Spot) (more : ℕ) (made : Option Files) : Type 0 where
+  pub full : (live : IsLiveAt files at.directory) → room_in live.places ≡ None → made ≡ None
+  pub grows : (live : IsLiveAt files at.directory) (k : ℕ) → room_in live.places ≡ Some k → (fs : Files) → made ≡ Some fs → blocks_of fs ≡ blocks_of files + growth live.places k + more
+
+-- behind a test that fails
+pub tested : {files : Files} {at : Spot} {more : ℕ} (made : Bool → Option Files) → made false ≡ None → Fills files at more (made true) → (test : Bool) → Fills files at more (made test)
+tested made none fills true = fills
+tested made none fills false = record { full = λ live full. none; grows = λ live k room fs is. absurd (none-some fs (sym none ∙ is)) }
+
+-- a new name makes such files, and none where there is no spot or the name is there
+pub record Makes (files : Files) (d : ℕ) (path : List ℕ) (more : ℕ) (made : Option Files) : Type 0 where
+  pub nowhere : spot_of files d path ≡ None → made ≡ None
+  pub there : (at : Spot) → spot_of files d path ≡ Some at → IsSome (lookup files at.directory at.name) → made ≡ None
+  pub fills : (at : Spot) → spot_of files d path ≡ Some at → Fills files at more made
+
+module _ {files : Files} {d : ℕ} {path : List ℕ} {more : ℕ} {made : Option Files} (makes : Makes files d path more made) (limit : ℕ) where
+  -- they take more blocks than there are
+  too-many : LacksBlocks limit files d path more → Overflows limit made
+  too-many lacks fs is =
+      let live = spot-directory files d path lacks.at lacks.spot in
+      let same : live.places ≡ lacks.places = same_Some live.places lacks.places (sym (ap live_places live.here) ∙ lacks.here) in
+      let grown : growth live.places lacks.place ≡ growth lacks.places lacks.place = ap (λ ps. growth ps lacks.place) same in
+      let few = lacks.few in
+      let blocks = (makes.fills lacks.at lacks.spot).grows live lacks.place (ap room_in same ∙ lacks.room) fs is in
+      omega arith
+
+  -- a name that has no room makes none, or too many
+  pub overflows : (told : TreeFault) → told ≢ fault.Device → LacksGap limit files d path more told → Overflows limit made
+  overflows NotFound known why = overflow-none limit (makes.nowhere (spot-none files d path why))
+  overflows NotDir known why = overflow-none limit (makes.nowhere (lacks-other files d path why))
+  overflows DeadDir known why = overflow-none limit (makes.nowhere (lacks-dead files d path why))
+  overflows Exists known why = overflow-none limit (makes.there why.at why.spot why.named)
+  overflows Full known why =
+      let live = spot-directory files d path why.at why.spot in
+      overflow-none limit ((makes.fills why.at why.spot).full live (sym (ap (λ o. option_and_then room_in (live_places o)) live.here) ∙ why.none))
+  overflows Blocks known why = too-many why
+  overflows fault.Device known why = absurd (known refl)
+  overflows _ known why = absurd why
+
+-- a node that comes with an entry fills so
+pub make-fills : (files : Files) (at : Spot) (node : ℕ → Node) (after : Made → Files) {more : ℕ}
+    → ((n : ℕ) → free_number files ≡ Some n → (live : IsLiveAt files at.directory) (k : ℕ) → room_in live.places ≡ Some k
+    → blocks_of (after (record { files = entered (put files n (node n)) at.directory k (record { name = at.name; number = n }); number = n })) ≡ blocks_of files + growth live.places k + more)
+    → Fills files at more (option_map after (make_at files at node))
+make-fills files at node after {more} blocks = go (free_number files) refl where
+  go : (o : Option ℕ) → free_number files ≡ o → Fills files at more (option_map after (make_at files at node))
+  go None e = let none = ap (option_map after) (make-unnumbered files at node e) in record { full = λ live full. none; grows = λ live k room fs is. absurd (none-some fs (sym none ∙ is)) }
+  go (Some n) e = record {
+    full = λ live full. ap (option_map after) (make-full files at node live.here full);
+    grows = λ live k room fs is. ap blocks_of (sym (same_Some _ fs (sym (ap (option_map after) (make-done files at node live.here room e)) ∙ is))) ∙ blocks n e live k room;
+  }
 
 -- ---- a new file or device
 
-module _ (limit : ℕ) (files : Files) (d : ℕ) (path : List ℕ) (node : Node) (empty : size_of node ≡ 0) where
-  pub made-nowhere : spot_of files d path ≡ None → made_in files d path node ≡ None
+module _ (files : Files) (d : ℕ) (path : List ℕ) (node : Node) where
+  made-nowhere : spot_of files d path ≡ None → made_in files d path node ≡ None
   unfolding made_in
   made-nowhere e = ap (option_and_then (λ at. made_at files at (λ n. node))) e
 
-  module _ (at : Spot) (spot : spot_of files d path ≡ Some at) where
-    made-is : made_in files d path node ≡ made_at files at (λ n. node)
-    unfolding made_in
+  module _ {at : Spot} (spot : spot_of files d path ≡ Some at) where
+    made-is : made_in files d path node ≡ cond (is_none (lookup files at.directory at.name)) (make_at files at (λ n. node)) None
+    unfolding made_in made_at
     made-is = ap (option_and_then (λ at. made_at files at (λ n. node))) spot
 
-    pub made-there : IsSome (lookup files at.directory at.name) → made_in files d path node ≡ None
-    unfolding made_at
-    made-there some = made-is ∙ ap (λ b. cond b (make_at files at (λ n. node)) None) (none-not (lookup files at.directory at.name) some)
-
-    unmade : make_at files at (λ n. node) ≡ None → made_in files d path node ≡ None
-    unfolding made_at
-    unmade none = made-is ∙ cond-none (is_none (lookup files at.directory at.name)) none
-
-    pub made-full : option_and_then room_in (places_at files at.directory) ≡ None → made_in files d path node ≡ None
-    made-full none =
-        let live = spot-directory files d path at spot in
-        unmade (make-full files at (λ n. node) live.here (sym (ap (λ o. option_and_then room_in (live_places o)) live.here) ∙ none))
-
     pub made-unnumbered : free_number files ≡ None → made_in files d path node ≡ None
-    made-unnumbered none = unmade (make-unnumbered files at (λ n. node) none)
+    made-unnumbered none = made-is ∙ cond-none (is_none (lookup files at.directory at.name)) (make-unnumbered files at (λ n. node) none)
 
-    module _ (links : ℕ) (places : List (Option Entry)) (here : slot files at.directory ≡ Some (Directory (suc links) places)) (k : ℕ) (room : room_in places ≡ Some k) (n : ℕ) (is : free_number files ≡ Some n) where
-      abbrev e : Entry
-      e = record { name = at.name; number = n }
+  pub made-done : {limit more k n : ℕ} {at : Spot} → HasGap limit files d path more at k → free_number files ≡ Some n
+      → made_in files d path node ≡ Some (record { files = entered (put files n node) at.directory k (record { name = at.name; number = n }); number = n })
+  made-done {at = at} gap is = made-is gap.spot ∙ ap (λ o. cond (is_none o) (make_at files at (λ n. node)) None) gap.free ∙ make-done files at (λ n. node) gap.here gap.room is
 
-      here-now : slot (put files n node) at.directory ≡ Some (Directory (suc links) places)
-      here-now = still-here (free-number files n is) node at.directory here
-
-      pub made-done : lookup files at.directory at.name ≡ None → made_in files d path node ≡ Some (record { files = entered (put files n node) at.directory k e; number = n })
-      unfolding made_at
-      made-done free = made-is ∙ ap (λ o. cond (is_none o) (make_at files at (λ n. node)) None) free ∙ make-done files at (λ n. node) here room is
-
-      pub made-blocks : blocks_of (entered (put files n node) at.directory k e) ≡ blocks_of files + growth places k
-      made-blocks = blocks_of-entered (put files n node) at.directory (suc links) places here-now k e ∙ ap (λ b. b + growth places k) (fresh-blocks files n node (free-number files n is) empty)
-
-  -- the disk has no room for the name
-  pub over-blocks : LacksBlocks limit files d path 0 → Overflows limit (made_files (made_in files d path node))
-  over-blocks lacks = over-lacks lacks (λ live room more h. go live room more h (free_number files) refl (lookup files lacks.at.directory lacks.at.name) refl) where
-    go : (live : IsLiveAt files lacks.at.directory) → room_in live.places ≡ Some lacks.place → (more : Files) → made_files (made_in files d path node) ≡ Some more → (o : Option ℕ) → free_number files ≡ o
-        → (q : Option ℕ) → lookup files lacks.at.directory lacks.at.name ≡ q → blocks_of more ≡ blocks_of files + growth live.places lacks.place + 0
-    go live room more h (Some n) e None f =
-        let count = ap blocks_of (same_Some _ more (sym (ap made_files (made-done lacks.at lacks.spot live.links live.places live.here lacks.place room n e f)) ∙ h)) in
-        let blocks = made-blocks lacks.at lacks.spot live.links live.places live.here lacks.place room n e in
+  module _ (empty : size_of node ≡ 0) where
+    made-blocks : (at : Spot) (n : ℕ) → free_number files ≡ Some n → (live : IsLiveAt files at.directory) (k : ℕ)
+        → blocks_of (entered (put files n node) at.directory k (record { name = at.name; number = n })) ≡ blocks_of files + growth live.places k + 0
+    made-blocks at n is live k =
+        let number = free-number files n is in
+        let entry = blocks_of-entered (put files n node) at.directory (suc live.links) live.places (still-here number node at.directory live.here) k (record { name = at.name; number = n }) in
+        let none = fresh-blocks files n node number empty in
         omega arith
-    go live room more h (Some n) e (Some m) f = absurd (none-some more (sym (ap made_files (made-there lacks.at lacks.spot (ap is_some f))) ∙ h))
-    go live room more h None e q f = absurd (none-some more (sym (ap made_files (made-unnumbered lacks.at lacks.spot e)) ∙ h))
+
+    made-makes : Makes files d path 0 (made_files (made_in files d path node))
+    made-makes = record {
+      nowhere = λ e. ap made_files (made-nowhere e);
+      there = λ at spot some. ap made_files (made-is spot ∙ ap (λ b. cond b (make_at files at (λ n. node)) None) (none-not (lookup files at.directory at.name) some));
+      fills = λ at spot. subst (Fills files at 0) (sym (ap made_files (made-is spot))) (tested (λ b. made_files (cond b (make_at files at (λ n. node)) None)) refl
+          (make-fills files at (λ n. node) (λ (made : Made). made.files) (λ n is live k room. made-blocks at n is live k)) (is_none (lookup files at.directory at.name)));
+    }
+
+    -- a name that has no room makes nothing
+    pub weaker-gap : (limit : ℕ) (told : TreeFault) → told ≢ fault.Device → LacksGap limit files d path 0 told → Overflows limit (made_files (made_in files d path node)) × LacksMaking limit files d path 0 told
+    weaker-gap limit told known why = (overflows made-makes limit told known why, gap-making limit files d path 0 told why)
 
 -- ---- why a new file or device is refused, and what the disk holds
 
@@ -165,18 +198,6 @@ some-kind {kind} h = omega arith
 -- a node that comes is there
 pub comes-some : (files : Files) (n : ℕ) (node : Node) → n < length files → slot (put files n node) n ≢ None
 comes-some files n node within none = none-some node (sym none ∙ get_or-set_same files n (Some node) None within)
-
--- a name that has no room makes nothing
-pub weaker-gap : (limit : ℕ) (files : Files) (d : ℕ) (path : List ℕ) (node : Node) → size_of node ≡ 0 → (told : TreeFault) → told ≢ fault.Device → LacksGap limit files d path 0 told
-    → Overflows limit (made_files (made_in files d path node)) × LacksMaking limit files d path 0 told
-weaker-gap limit files d path node empty NotFound known why = (overflow-none limit (ap made_files (made-nowhere limit files d path node empty (spot-none files d path why))), why)
-weaker-gap limit files d path node empty NotDir known why = (overflow-none limit (ap made_files (made-nowhere limit files d path node empty (lacks-other files d path why))), why)
-weaker-gap limit files d path node empty Exists known why = (overflow-none limit (ap made_files (made-there limit files d path node empty why.at why.spot why.named)), why)
-weaker-gap limit files d path node empty DeadDir known why = (overflow-none limit (ap made_files (made-nowhere limit files d path node empty (lacks-dead files d path why))), why)
-weaker-gap limit files d path node empty Blocks known why = (over-blocks limit files d path node empty why, why)
-weaker-gap limit files d path node empty Full known why = (overflow-none limit (ap made_files (made-full limit files d path node empty why.at why.spot why.none)), why)
-weaker-gap limit files d path node empty fault.Device known why = absurd (known refl)
-weaker-gap limit files d path node empty _ known why = absurd why
 
 -- ---- an entry for a node that has come
 

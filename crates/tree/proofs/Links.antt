@@ -1,18 +1,16 @@
 -- Another name: why it is refused, and what the disk holds.
-use Rattle.tree.proofs.Common.{◌≡◌, ◌≢◌, ℕ, ◌+◌, ◌<◌, ◌≤◌, Bool, List, None, Option, Some, ap, sym, refl, ◌∙◌, arith, cond, true, false, suc, not, inr, All, IsSome, is_none, is_some, option_and_then, ◌&&◌}
-use Rattle.tree.proofs.Common.{eq-eqb, false≢true, le-ltb, lt-ltb, ne_eqb, get_or-set_other, none-some, same_Some, TreeFault, DeadDir, Exists, Full, NotDir, NotFound, Overflows, HasGap, LacksBlocks, Reaches}
-use Rattle.tree.proofs.Common.{entered, growth, linked_in, room_in, LacksGap, LacksLinking, blocks_of, Files, Node, Spot, change_node, enter, find, is_directory, kind_of, links_of, live_places, lookup}
-use Rattle.tree.proofs.Common.{most_links, places_at, put, slot, spot_of, with_links, Directory, has_room_for_link, is_free_name, linked, linked_node, more_links, find-used, KeepsTree, Tells, FileTree, InodeStat}
-use Rattle.tree.specs.declared.TreeFault.TheVariants.{Blocks}
+use Rattle.tree.proofs.Common.{◌≡◌, ◌≢◌, ℕ, ◌+◌, ◌<◌, ◌≤◌, Bool, List, None, Option, Some, ap, sym, refl, ◌∙◌, arith, cond, subst, true, false, suc, not, inr, All, IsSome, is_none, option_and_then, ◌&&◌}
+use Rattle.tree.proofs.Common.{eq-eqb, false≢true, le-ltb, lt-ltb, ne_eqb, get_or-set_other, none-some, same_Some, TreeFault, NotFound, Overflows, HasGap, Reaches}
+use Rattle.tree.proofs.Common.{entered, linked_in, LacksGap, LacksLinking, blocks_of, Files, Node, Spot, change_node, enter, find, is_directory, kind_of, links_of, lookup}
+use Rattle.tree.proofs.Common.{most_links, put, slot, spot_of, with_links, Directory, has_room_for_link, is_free_name, linked, linked_node, more_links, find-used, KeepsTree, Tells, FileTree, InodeStat}
 use Rattle.tree.specs.declared.TreeFault.TheVariants as fault
 use Rattle.unixmodel.specs.Files.{Entry}
-use Rattle.tree.proofs.Gaps.{AsksEntry, entry-asked, lacks-dead, lacks-other, over-lacks, overflow-none, spot-directory}
+use Rattle.tree.proofs.Gaps.{AsksEntry, entry-asked, Fills, Makes, overflow-none, overflows, tested}
 use Rattle.tree.proofs.Linking.{more-blocks}
-use Rattle.tree.proofs.Rooms.{blocks_of-entered, cond-none, enter-full, enter-room, none-not}
-use Rattle.tree.proofs.Parts.{spot-none}
+use Rattle.tree.proofs.Rooms.{blocks_of-entered, enter-full, enter-room, none-not}
 use Rattle.tree.proofs.Storing.{change-is, node-of}
 use Rattle.tree.proofs.Following.{IsNow}
-use Rattle.tree.proofs.Unlinking.{IsLiveAt, stays-node}
+use Rattle.tree.proofs.Unlinking.{stays-node}
 
 module _ (files : Files) (d : ℕ) (old new : List ℕ) where
   pub linked-nothing : find files d old ≡ None → linked_in files d old new ≡ None
@@ -35,9 +33,6 @@ module _ (files : Files) (d : ℕ) (old new : List ℕ) where
     pub linked-directory : is_directory node ≡ true → linked_in files d old new ≡ None
     linked-directory e = never (λ at. ap (λ b. cond (not b && has_room_for_link node && is_free_name files at) (enter (change_node files n more_links) at n) None) e)
 
-    pub linked-nowhere : spot_of files d new ≡ None → linked_in files d old new ≡ None
-    linked-nowhere e = linked-is ∙ ap (option_and_then (λ at. linked_node files at n (Some node))) e
-
     module _ (other : is_directory node ≡ false) where
       linked-tests : (at : Spot) (few : Bool) → has_room_for_link node ≡ few → linked_node files at n (Some node) ≡ cond (true && few && is_free_name files at) (enter (change_node files n more_links) at n) None
       linked-tests at few e =
@@ -56,51 +51,41 @@ module _ (files : Files) (d : ℕ) (old new : List ℕ) where
           ap (λ (fs : Files). slot fs k) more
           ∙ get_or-set_other files n k (Some (with_links node (links_of node + 1))) None (λ e. false≢true (sym other ∙ ap is_directory (same_Some node (Directory links places) (sym here ∙ ap (slot files) (sym e) ∙ at)))) ∙ at
 
-      module _ (few : has_room_for_link node ≡ true) (at : Spot) (spot : spot_of files d new ≡ Some at) where
-        linked-at : linked_in files d old new ≡ cond (is_free_name files at) (enter (change_node files n more_links) at n) None
-        linked-at = linked-is ∙ ap (option_and_then (λ at. linked_node files at n (Some node))) spot ∙ linked-tests at true few
+      module _ (few : has_room_for_link node ≡ true) where
+        linked-at : {at : Spot} → spot_of files d new ≡ Some at → linked_in files d old new ≡ cond (is_free_name files at) (enter (change_node files n more_links) at n) None
+        linked-at {at} spot = linked-is ∙ ap (option_and_then (λ at. linked_node files at n (Some node))) spot ∙ linked-tests at true few
 
-        pub linked-there : IsSome (lookup files at.directory at.name) → linked_in files d old new ≡ None
-        linked-there some = linked-at ∙ ap (λ b. cond b (enter (change_node files n more_links) at n) None) (none-not (lookup files at.directory at.name) some)
+        pub linked-done : {limit more k : ℕ} {at : Spot} → HasGap limit files d new more at k → linked_in files d old new ≡ Some (entered (change_node files n more_links) at.directory k (record { name = at.name; number = n }))
+        linked-done {k = k} {at = at} gap =
+            linked-at gap.spot ∙ ap (λ o. cond (is_none o) (enter (change_node files n more_links) at n) None) gap.free
+            ∙ enter-room (change_node files n more_links) at n gap.links gap.places (still-there at.directory (suc gap.links) gap.places gap.here) k gap.room
 
-        pub linked-full : option_and_then room_in (places_at files at.directory) ≡ None → linked_in files d old new ≡ None
-        linked-full none =
-            let live = spot-directory files d new at spot in
-            let full : room_in live.places ≡ None = sym (ap (λ o. option_and_then room_in (live_places o)) live.here) ∙ none in
-            linked-at ∙ cond-none (is_free_name files at) (enter-full (change_node files n more_links) at n live.links live.places (still-there at.directory (suc live.links) live.places live.here) full)
+        -- the name fills its directory
+        named : (at : Spot) → Fills files at 0 (enter (change_node files n more_links) at n)
+        named at = record {
+          full = λ live none. enter-full (change_node files n more_links) at n live.links live.places (still-there at.directory (suc live.links) live.places live.here) none;
+          grows = λ live k room fs is.
+              let stands = still-there at.directory (suc live.links) live.places live.here in
+              let count = ap blocks_of (same_Some _ fs (sym (enter-room (change_node files n more_links) at n live.links live.places stands k room) ∙ is)) in
+              let entry = blocks_of-entered (change_node files n more_links) at.directory (suc live.links) live.places stands k (record { name = at.name; number = n }) in
+              let same = more-blocks files n node here in
+              omega arith;
+        }
 
-        module _ (links : ℕ) (places : List (Option Entry)) (stands : slot files at.directory ≡ Some (Directory (suc links) places)) (k : ℕ) (room : room_in places ≡ Some k) where
-          abbrev e : Entry
-          e = record { name = at.name; number = n }
+        linked-makes : Makes files d new 0 (linked_in files d old new)
+        linked-makes = record {
+          nowhere = λ e. linked-is ∙ ap (option_and_then (λ at. linked_node files at n (Some node))) e;
+          there = λ at spot some. linked-at spot ∙ ap (λ b. cond b (enter (change_node files n more_links) at n) None) (none-not (lookup files at.directory at.name) some);
+          fills = λ at spot. subst (Fills files at 0) (sym (linked-at spot)) (tested (λ b. cond b (enter (change_node files n more_links) at n) None) refl (named at) (is_free_name files at));
+        }
 
-          pub linked-done : lookup files at.directory at.name ≡ None → linked_in files d old new ≡ Some (entered (change_node files n more_links) at.directory k e)
-          linked-done free =
-              linked-at ∙ ap (λ o. cond (is_none o) (enter (change_node files n more_links) at n) None) free
-              ∙ enter-room (change_node files n more_links) at n links places (still-there at.directory (suc links) places stands) k room
-
-          pub linked-blocks : blocks_of (entered (change_node files n more_links) at.directory k e) ≡ blocks_of files + growth places k
-          linked-blocks = blocks_of-entered (change_node files n more_links) at.directory (suc links) places (still-there at.directory (suc links) places stands) k e ∙ ap (λ b. b + growth places k) (more-blocks files n node here)
-
-      module _ (limit : ℕ) (few : has_room_for_link node ≡ true) where
-        over-linked : LacksBlocks limit files d new 0 → Overflows limit (linked_in files d old new)
-        over-linked lacks = over-lacks lacks (λ live room made h. go live room made h (lookup files lacks.at.directory lacks.at.name) refl) where
-          go : (live : IsLiveAt files lacks.at.directory) → room_in live.places ≡ Some lacks.place → (made : Files) → linked_in files d old new ≡ Some made → (o : Option ℕ) → lookup files lacks.at.directory lacks.at.name ≡ o
-              → blocks_of made ≡ blocks_of files + growth live.places lacks.place + 0
-          go live room made h (Some m) f = absurd (none-some made (sym (linked-there few lacks.at lacks.spot (ap is_some f)) ∙ h))
-          go live room made h None f =
-              let count = ap blocks_of (same_Some _ made (sym (linked-done few lacks.at lacks.spot live.links live.places live.here lacks.place room f) ∙ h)) in
-              let blocks = linked-blocks few lacks.at lacks.spot live.links live.places live.here lacks.place room in
-              omega arith
-
-        pub weaker-link : (told : TreeFault) → told ≢ fault.Device → LacksGap limit files d new 0 told → Overflows limit (linked_in files d old new) × LacksLinking limit files d old new told
-        weaker-link NotFound known why = (overflow-none limit (linked-nowhere (spot-none files d new why)), inr why)
-        weaker-link NotDir known why = (overflow-none limit (linked-nowhere (lacks-other files d new why)), why)
-        weaker-link Exists known why = (overflow-none limit (linked-there few why.at why.spot why.named), why)
-        weaker-link DeadDir known why = (overflow-none limit (linked-nowhere (lacks-dead files d new why)), why)
-        weaker-link Blocks known why = (over-linked why, why)
-        weaker-link Full known why = (overflow-none limit (linked-full few why.at why.spot why.none), why)
-        weaker-link fault.Device known why = absurd (known refl)
-        weaker-link _ known why = absurd why
+        pub weaker-link : (limit : ℕ) (told : TreeFault) → told ≢ fault.Device → LacksGap limit files d new 0 told → Overflows limit (linked_in files d old new) × LacksLinking limit files d old new told
+        weaker-link limit told known why = (overflows linked-makes limit told known why, gap-linking told why) where
+          gap-linking : (told : TreeFault) → LacksGap limit files d new 0 told → LacksLinking limit files d old new told
+          gap-linking NotFound why = inr why
+          gap-linking fault.IsDir why = absurd why
+          gap-linking fault.Links why = absurd why
+          gap-linking _ why = why
 
 -- ---- what is told of the node that the old path reaches
 
@@ -143,7 +128,7 @@ module _ (old : FileTree) {d : ℕ} {path : List ℕ} {n : ℕ} {t : InodeStat} 
       room = let e = s.told.1 in lt-ltb (links_of s.node) most_links (omega arith)
 
       pub seen-weaker : (told : TreeFault) → told ≢ fault.Device → LacksGap limit files d new 0 told → Overflows limit (linked_in files d path new) × LacksLinking limit files d path new told
-      seen-weaker told known why = weaker-link files d path new n s.node s.found s.here file limit room told known why
+      seen-weaker told known why = weaker-link files d path new n s.node s.found s.here file room limit told known why
 
       pub link-asked : (node : Node) × (slot files n ≡ Some node) × (links_of node < 65535)
       link-asked = (s.node, s.here, (let e = s.told.1 in omega arith))
@@ -157,4 +142,4 @@ module _ (old : FileTree) {d : ℕ} {path : List ℕ} {n : ℕ} {t : InodeStat} 
             (stays-node files n more_links n (λ none. none-some s.node (sym none ∙ s.here)))
 
         pub linked-into : linked_in files d path new ≡ Some (entered (change_node files n more_links) at.directory k (record { name = at.name; number = n }))
-        linked-into = linked-done files d path new n s.node s.found s.here file room at gap.spot gap.links gap.places gap.here k gap.room gap.free
+        linked-into = linked-done files d path new n s.node s.found s.here file room gap

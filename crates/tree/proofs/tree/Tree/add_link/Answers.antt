@@ -3,9 +3,6 @@ use Rattle.tree.proofs.Following.{end-changed, end-lost, now-begin, now-read, no
 use Rattle.tree.proofs.Linking.{relinked}
 use Rattle.tree.proofs.tree.Tree.add_link.Goals as goal
 
-pub node-requires : goal.node-requires
-node-requires g c = record { up = c.requires.up; node = (c.requires.node.0, c.requires.node.1) }
-
 pub returns-in_err-before : goal.returns-in_err-before
 returns-in_err-before g c = end-lost now-begin c.node.ensures c.in_err-before.was c.from_residual.ensures.1
 

@@ -8,7 +8,7 @@ use Rattle.tree.proofs.tree.Tree.create_directory.Goals as goal
 pub returns-in_err-gap : goal.returns-in_err-gap
 returns-in_err-gap g c =
     acts-refused now-begin c.find_gap.ensures c.in_err-gap.was
-    (λ known less why. weaker-folder c.args.self.now.files c.args.directory c.args.path.now c.args.self.now.block_limit _ known why) c.from_residual.ensures.1
+    (λ known less. weaker-folder c.args.self.now.files c.args.directory c.args.path.now c.args.self.now.block_limit _ known) c.from_residual.ensures.1
 
 -- behind the look for a place
 pub node-requires : goal.node-requires

@@ -3,9 +3,6 @@ use Rattle.tree.proofs.Following.{end-last, end-lost, now-begin, now-read, now-u
 use Rattle.tree.proofs.Placing.{growth-size}
 use Rattle.tree.proofs.tree.Tree.has_room.Goals as goal
 
-pub node-requires : goal.node-requires
-node-requires g c = record { up = c.requires.up; node = (Directory c.requires.room.links c.requires.room.places, c.requires.room.here) }
-
 pub returns-in_err-node : goal.returns-in_err-node
 returns-in_err-node g c = end-lost now-begin c.node.ensures c.in_err-node.was c.from_residual.ensures.1
 

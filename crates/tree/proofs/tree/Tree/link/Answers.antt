@@ -5,6 +5,9 @@ use Rattle.tree.proofs.Links.{link-asked, linked-asked, linked-into, linked-noth
 use Rattle.unixmodel.specs.Files.{Entry}
 use Rattle.tree.proofs.tree.Tree.link.Goals as goal
 
+pub find-requires : goal.find-requires
+find-requires g c = record { up = c.requires.up; rules = c.requires.rules; directory = c.requires.directory }
+
 pub returns-in_err-number : goal.returns-in_err-number
 returns-in_err-number g c = acts-lost now-begin c.find.ensures c.in_err-number.was c.from_residual.ensures.1
 
