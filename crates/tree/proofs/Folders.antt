@@ -106,46 +106,45 @@ module _ (files : Files) (d : ℕ) (path : List ℕ) where
     pub folder-unnumbered : (parent : Node) → slot files at.directory ≡ Some parent → free_number files ≡ None → folder_in files d path ≡ None
     folder-unnumbered parent here none = folder-at parent here ∙ cond-none (is_free_name files at && has_room_for_link parent) (ap linked (make-unnumbered files at (new_directory at.directory) none))
 
-    module _ (links : ℕ) (places : List (Option Entry)) (here : slot files at.directory ≡ Some (Directory (suc links) places)) where
-      module _ (k : ℕ) (room : room_in places ≡ Some k) (n : ℕ) (is : free_number files ≡ Some n) where
-        abbrev e : Entry
-        e = record { name = at.name; number = n }
+    module _ (links : ℕ) (places : List (Option Entry)) (here : slot files at.directory ≡ Some (Directory (suc links) places)) (k : ℕ) (room : room_in places ≡ Some k) (n : ℕ) (is : free_number files ≡ Some n) where
+      abbrev e : Entry
+      e = record { name = at.name; number = n }
 
-        abbrev second : Files
-        second = put files n (new_directory at.directory n)
+      abbrev second : Files
+      second = put files n (new_directory at.directory n)
 
-        abbrev third : Files
-        third = entered second at.directory k e
+      abbrev third : Files
+      third = entered second at.directory k e
 
-        number : IsFree files n
-        number = free-number files n is
+      number : IsFree files n
+      number = free-number files n is
 
-        pub second-here : slot second at.directory ≡ Some (Directory (suc links) places)
-        second-here = still-here number (new_directory at.directory n) at.directory here
+      pub second-here : slot second at.directory ≡ Some (Directory (suc links) places)
+      second-here = still-here number (new_directory at.directory n) at.directory here
 
-        pub third-here : slot third at.directory ≡ Some (Directory (suc links) (placed places k e))
-        third-here =
-            ap (λ (fs : Files). slot fs at.directory) (entered-is second at.directory (suc links) places second-here k e)
-            ∙ get_or-set_same second at.directory (Some (Directory (suc links) (placed places k e))) None (slot-within second at.directory (Directory (suc links) places) second-here)
+      pub third-here : slot third at.directory ≡ Some (Directory (suc links) (placed places k e))
+      third-here =
+          ap (λ (fs : Files). slot fs at.directory) (entered-is second at.directory (suc links) places second-here k e)
+          ∙ get_or-set_same second at.directory (Some (Directory (suc links) (placed places k e))) None (slot-within second at.directory (Directory (suc links) places) second-here)
 
-        pub second-blocks : blocks_of second ≡ blocks_of files + 1
-        second-blocks =
-            let b = blocks_of-set files n (Some (new_directory at.directory n)) number.within in
-            let none : taken_by (slot files n) ≡ 0 = ap taken_by number.free in
-            let one : taken_by (Some (new_directory at.directory n)) ≡ 1 = refl in
-            omega arith
+      pub second-blocks : blocks_of second ≡ blocks_of files + 1
+      second-blocks =
+          let b = blocks_of-set files n (Some (new_directory at.directory n)) number.within in
+          let none : taken_by (slot files n) ≡ 0 = ap taken_by number.free in
+          let one : taken_by (Some (new_directory at.directory n)) ≡ 1 = refl in
+          omega arith
 
-        folder-blocks : blocks_of (change_node third at.directory more_links) ≡ blocks_of files + 1 + growth places k
-        folder-blocks =
-            more-blocks third at.directory (Directory (suc links) (placed places k e)) third-here
-            ∙ blocks_of-entered second at.directory (suc links) places second-here k e ∙ ap (λ b. b + growth places k) second-blocks
+      folder-blocks : blocks_of (change_node third at.directory more_links) ≡ blocks_of files + 1 + growth places k
+      folder-blocks =
+          more-blocks third at.directory (Directory (suc links) (placed places k e)) third-here
+          ∙ blocks_of-entered second at.directory (suc links) places second-here k e ∙ ap (λ b. b + growth places k) second-blocks
 
-        pub folder-done : suc links < most_links → lookup files at.directory at.name ≡ None → folder_in files d path ≡ Some (change_node third at.directory more_links)
-        folder-done few free =
-            folder-at (Directory (suc links) places) here
-            ∙ cond-true (is_free_name files at && has_room_for_link (Directory (suc links) places)) (linked come) None
-            (and_from (is_free_name files at) (has_room_for_link (Directory (suc links) places)) (ap is_none free) (lt-ltb (suc links) most_links few))
-            ∙ ap linked (make-done files at (new_directory at.directory) here room is)
+      pub folder-done : suc links < most_links → lookup files at.directory at.name ≡ None → folder_in files d path ≡ Some (change_node third at.directory more_links)
+      folder-done few free =
+          folder-at (Directory (suc links) places) here
+          ∙ cond-true (is_free_name files at && has_room_for_link (Directory (suc links) places)) (linked come) None
+          (and_from (is_free_name files at) (has_room_for_link (Directory (suc links) places)) (ap is_none free) (lt-ltb (suc links) most_links few))
+          ∙ ap linked (make-done files at (new_directory at.directory) here room is)
 
   folder-makes : Makes files d path 1 (folder_in files d path)
   folder-makes = record {
@@ -175,9 +174,6 @@ module _ (old : FileTree) {d : ℕ} {path : List ℕ} {at : Spot} {k : ℕ} (gap
   abbrev files : Files
   files = old.files
 
-  abbrev parent : Node
-  parent = Directory (suc gap.links) gap.places
-
   abbrev first : Files
   first = put files n (Directory 1 [])
 
@@ -198,7 +194,7 @@ module _ (old : FileTree) {d : ℕ} {path : List ℕ} {at : Spot} {k : ℕ} (gap
   first-bare = get_or-set_same files n (Some (Directory 1 [])) None free-n.within
 
   pub first-above : slot first at.directory ≢ None
-  first-above none = none-some parent (sym none ∙ still-here free-n (Directory 1 []) at.directory gap.here)
+  first-above none = none-some (Directory (suc gap.links) gap.places) (sym none ∙ still-here free-n (Directory 1 []) at.directory gap.here)
 
   pub first-block : blocks_of first + 1 ≤ old.block_limit
   first-block =

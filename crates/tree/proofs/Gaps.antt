@@ -142,7 +142,7 @@ make-fills files at node after {more} blocks = go (free_number files) refl where
   go : (o : Option ℕ) → free_number files ≡ o → Fills files at more (option_map after (make_at files at node))
   go None e = let none = ap (option_map after) (make-unnumbered files at node e) in record { full = λ live full. none; grows = λ live k room fs is. absurd (none-some fs (sym none ∙ is)) }
   go (Some n) e = record {
-    full = λ live full. ap (option_map after) (make-full files at node live.here full);
+    full = λ live full. ap (option_map after) (make-full files at node live.here full e);
     grows = λ live k room fs is. ap blocks_of (sym (same_Some _ fs (sym (ap (option_map after) (make-done files at node live.here room e)) ∙ is))) ∙ blocks n e live k room;
   }
 

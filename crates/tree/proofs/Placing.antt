@@ -35,10 +35,6 @@ spelling-set (p ∷ os) (suc k) o fits fit h =
 
 -- ---- a place becomes free
 
--- the places of a directory of files on a disk fit
-pub whole-fits : {t : FileTree} → IsWhole t → (d : ℕ) {links : ℕ} {places : List (Option Entry)} → slot t.files d ≡ Some (Directory links places) → All PlaceFits places
-whole-fits whole d here = subst FitsPlaces here (whole.places d)
-
 module _ {t : FileTree} (whole : IsWhole t) {d k : ℕ} (at : HasPlace t.files d k) where
   pub place-high : 16 * k + 16 ≤ longest
   place-high = let short = whole.short d (Directory at.links at.places) at.here in let within = at.within in omega arith
@@ -46,7 +42,7 @@ module _ {t : FileTree} (whole : IsWhole t) {d k : ℕ} (at : HasPlace t.files d
   pub erased-becomes : Becomes t d (16 * k) (zeros 16) (erase t.files d k)
   unfolding erase zeros
   erased-becomes =
-      let fits = whole-fits whole d at.here in
+      let fits : All PlaceFits at.places = subst FitsPlaces at.here (whole.places d) in
       let next = set at.places k None in
       let b = blocks_of-set t.files d (Some (Directory at.links next)) (slot-within t.files d (Directory at.links at.places) at.here) in
       let was : taken_by (slot t.files d) ≡ taken_by (Some (Directory at.links at.places)) = ap taken_by at.here in
@@ -118,7 +114,7 @@ module _ {t : FileTree} (whole : IsWhole t) {d k : ℕ} (room : HasRoom t.files 
 
   entered-becomes : (e : Entry) → IsPlain e → blocks_of t.files + growth room.places k ≤ t.block_limit → Becomes t d (16 * k) (place_bytes (Some e)) (entered t.files d k e)
   entered-becomes e plain enough =
-      let fits = whole-fits whole d room.here in
+      let fits : All PlaceFits room.places = subst FitsPlaces room.here (whole.places d) in
       let is = entered-is t.files d room.links room.places room.here k e in
       let blocks = blocks_of-entered t.files d room.links room.places room.here k e in
       let same = ap blocks_of is in

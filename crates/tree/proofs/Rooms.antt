@@ -96,21 +96,16 @@ module _ (files : Files) (at : Spot) (n links : ℕ) (places : List (Option Entr
 
 -- ---- the blocks that it takes
 
-pub length-placed : (places : List (Option Entry)) (k : ℕ) (e : Entry) → (k < length places → length (placed places k e) ≡ length places) × (length places ≤ k → length (placed places k e) ≡ length places + 1)
-length-placed places k e = (λ h. ap length (placed-inside places k e h) ∙ length-set places k (Some e), λ h. ap length (placed-behind places k e h) ∙ length-append places (Some e ∷ []))
-
-pub growth-inside : (places : List (Option Entry)) (k : ℕ) → k < length places → growth places k ≡ 0
-growth-inside places k h = cond-true (nat_lt k (length places)) 0 (taken_for (16 * length places + 16) - taken_for (16 * length places)) (lt-ltb k (length places) h)
-
-pub growth-behind : (places : List (Option Entry)) (k : ℕ) → length places ≤ k → growth places k ≡ taken_for (16 * length places + 16) - taken_for (16 * length places)
-growth-behind places k h = cond-false (nat_lt k (length places)) 0 (taken_for (16 * length places + 16) - taken_for (16 * length places)) (le-ltb k (length places) h)
-
 pub taken-placed : (places : List (Option Entry)) (k : ℕ) (e : Entry) → taken_for (16 * length (placed places k e)) ≡ taken_for (16 * length places) + growth places k
 taken-placed places k e = elim (cases_lt k (length places)) [
-  | inl l ↦ omega (arith, ap (λ n. taken_for (16 * n)) ((length-placed places k e).0 l), growth-inside places k l)
+  | inl l ↦
+      let grown : growth places k ≡ 0 = cond-true (nat_lt k (length places)) 0 (taken_for (16 * length places + 16) - taken_for (16 * length places)) (lt-ltb k (length places) l) in
+      omega (arith, ap (λ n. taken_for (16 * n)) (ap length (placed-inside places k e l) ∙ length-set places k (Some e)))
   | inr m ↦
+      let grown : growth places k ≡ taken_for (16 * length places + 16) - taken_for (16 * length places) =
+      cond-false (nat_lt k (length places)) 0 (taken_for (16 * length places + 16) - taken_for (16 * length places)) (le-ltb k (length places) m) in
       let more : 16 * (length places + 1) ≡ 16 * length places + 16 = omega arith in
-      omega (arith, ap (λ n. taken_for (16 * n)) ((length-placed places k e).1 m), ap taken_for more, growth-behind places k m, taken-grows (16 * length places) (16 * length places + 16) (omega arith))
+      omega (arith, ap (λ n. taken_for (16 * n)) (ap length (placed-behind places k e m) ∙ length-append places (Some e ∷ [])), ap taken_for more, taken-grows (16 * length places) (16 * length places + 16) (omega arith))
 ]
 
 pub blocks_of-entered : (files : Files) (d links : ℕ) (places : List (Option Entry)) → slot files d ≡ Some (Directory links places) → (k : ℕ) (e : Entry) → blocks_of (entered files d k e) ≡ blocks_of files + growth places k

@@ -1,5 +1,5 @@
 -- The lowest free number is taken for a node without bytes.
-use Rattle.tree.proofs.Common.{◌≡◌, ℕ, ◌≤◌, List, None, Option, Some, ap, sym, refl, ◌∙◌, arith, suc, option_and_then, option_map, get_or-set_other, none-some, Follows, Store, TakesLowest, IsFree, free-number}
+use Rattle.tree.proofs.Common.{◌≡◌, ℕ, ◌≤◌, List, None, Option, Some, ap, sym, ◌∙◌, arith, suc, option_and_then, option_map, get_or-set_other, none-some, Follows, Store, TakesLowest, IsFree, free-number}
 use Rattle.tree.proofs.Common.{entered, room_in, TakesNode, IsFileSystem, files_of, tree_with, blocks_of, Files, Node, Spot, blocks_for, enter, free_number, put, size_of, slot, Directory, Made, make_at}
 use Rattle.tree.proofs.Bridging.{fresh-stores, kept-files, kept-stores, lowest-number, no-number, turned-files}
 use Rattle.unixmodel.specs.Files.{Entry}
@@ -21,12 +21,11 @@ module _ (files : Files) (at : Spot) (node : ℕ → Node) where
   make-unnumbered none = ap (option_and_then (λ n. numbered n (enter (put files n (node n)) at n))) none
 
   module _ {links : ℕ} {places : List (Option Entry)} (here : slot files at.directory ≡ Some (Directory (suc links) places)) where
-    pub make-full : room_in places ≡ None → make_at files at node ≡ None
+    pub make-full : {n : ℕ} → room_in places ≡ None → free_number files ≡ Some n → make_at files at node ≡ None
     unfolding make_at
-    make-full none = go (free_number files) refl where
-      go : (o : Option ℕ) → free_number files ≡ o → option_and_then (λ n. numbered n (enter (put files n (node n)) at n)) o ≡ None
-      go None e = refl
-      go (Some n) e = ap (numbered n) (enter-full (put files n (node n)) at n links places (still-here (free-number files n e) (node n) at.directory here) none)
+    make-full {n} none is =
+        ap (option_and_then (λ m. numbered m (enter (put files m (node m)) at m))) is
+        ∙ ap (numbered n) (enter-full (put files n (node n)) at n links places (still-here (free-number files n is) (node n) at.directory here) none)
 
     pub make-done : {k n : ℕ} → room_in places ≡ Some k → free_number files ≡ Some n → make_at files at node ≡ Some (record { files = entered (put files n (node n)) at.directory k (record { name = at.name; number = n }); number = n })
     unfolding make_at
