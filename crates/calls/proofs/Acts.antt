@@ -3,12 +3,11 @@ use Rattle.calls.proofs.Common.{[], Acts, After, answer-run, answered, Answers, 
 use Rattle.calls.proofs.Common.{change_process, Comes, Console, counting, descriptors-run, descriptors_at, descriptors_in, DeviceFault, Dispatches, Done, end_at, end_if_killed, end_process, ended, ends-at, entered, Err, Exit, Exits, false}
 use Rattle.calls.proofs.Common.{FileTree, Getpid, given, goes_on, GoesOn, going_at, going_by, Halt, has_slept, held-run, Here, here-in, here-of, IfOk, IfSome, if◌then◌else◌, int_of, IsBegun, IsKernel, IsLost, IsMade, IsServed, Kernel}
 use Rattle.calls.proofs.Common.{LeavesTree, length, limited, List, low, MayPrint, negsuc, no_pages, None, not-killed, of_z-to_z, Ok, OnOk, Option, Outcome, outcome_at, outcome_by, outcome_of, Pending, pending_for, plus, process-run}
-use Rattle.calls.proofs.Common.{process_at, provided, put_process, quiet, reap, reap-state, refl, Refused, Refuses, regs-kernel, regs-run, regs-state, renamed-within, Result, row, run, Runner, Runs, self, set-set, settle, settled_by}
-use Rattle.calls.proofs.Common.{Sleep, sleep_on, slice_index, slice_set, slot, slot-put, slot-within, Some, SpaceView, State, state-but, state_of, subst, sym, Tries, true, unwrap_or, Uptime, view_at, Waits, waits-other, waits-run, waking}
-use Rattle.calls.proofs.Common.{with_answer, within-state, ℕ, ℤ, ◌%◌, ◌∙◌, ◌≡◌}
+use Rattle.calls.proofs.Common.{process_at, provided, put_process, quiet, reap, reap-state, refl, Refused, Refuses, regs-kernel, regs-run, regs-state, renamed-within, Result, row, run, Runner, Runs, self, set-set, settle, settled_by, Sleep}
+use Rattle.calls.proofs.Common.{sleep_on, slice_index, slice_set, slot, slot-put, slot-within, Some, SpaceView, State, state-but, state_of, subst, sym, Tries, true, unwrap_or, Uptime, view_at, Waits, waits-other, waits-run, waking}
+use Rattle.calls.proofs.Common.{with_answer, within-state, ℕ, ℤ, ◌%◌, ◌∙◌, ◌≡◌, Appends-nil}
 use Rattle.std.specs.Int.{w32}
 use Rattle.calls.specs.declared.halt.Halt.TheVariants.{Device}
-use Rattle.calls.proofs.Prints.{Appends-none}
 use Rattle.calls.proofs.Served.{same-served}
 use Rattle.unixmodel.specs.Process as unix
 
@@ -240,4 +239,4 @@ module _ {k : Kernel} {i : ℕ} (x : Here k i) where
 -- a call of no number
 pub unbuilt : {k : Kernel} {i : ℕ} {call : Option Call} → (other : Option Call) → Runs k i → call ≡ other → ((p : unix.Process) → outcome_of (state_of k) i p other ≡ Refused) → (at : Option (List ℕ))
     → (bytes : List ℕ) × Comes k k i (outcome_at (state_of k) i call) bytes Refuses × Appends at at bytes
-unbuilt other runs is none at = let x = here-of runs in rw is ([], refused x other (none (me x)), Appends-none at)
+unbuilt other runs is none at = let x = here-of runs in rw is ([], refused x other (none (me x)), Appends-nil at)

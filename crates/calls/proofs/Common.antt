@@ -26,18 +26,18 @@ pub use Rattle.kernel.proofs.Holding.{home-folder, is_by, kept-cong, used-is}
 pub use Rattle.kernel.proofs.Idle.{busy-state, idle-turn, running-state}
 pub use Rattle.kernel.proofs.Joined.{change_process-with_table, has_child-with_table, zombie_child-with_table}
 pub use Rattle.kernel.proofs.Leaving.{ends-at, ends-run, stops-run, waits-run}
+pub use Rattle.kernel.proofs.Steps.{computed-is, held-run, placed-with}
 pub use Rattle.kernel.proofs.Memories.{drew-state, reheld-full, resized-state, wrote-state}
 pub use Rattle.kernel.proofs.Opens.{file-at, IsFileAt, open-named, waits-other, waits-reading, waits-writing}
 pub use Rattle.kernel.proofs.Readies.{stands-open, turn-alive}
 pub use Rattle.kernel.proofs.Reading.{serves-disk}
 pub use Rattle.kernel.proofs.Reaped.{away-loaded, match-active, match-place, opened-loaded, over-state, reap-state, used-loaded, within-state}
 pub use Rattle.kernel.proofs.Renaming.{descriptors-run, dup-state, renamed-within}
+pub use Rattle.kernel.proofs.Turning.{me_of, Runner, runner-of}
 pub use Rattle.kernel.proofs.Runs.{answer-run, change-put, change-run, IsThere, live, not-killed, process-idle, regs-kernel, regs-run, regs-state, runs-mode, there-of}
 pub use Rattle.kernel.proofs.Runs.{home-running, IsRun, loaded-run, moved-state, process-run, run-of, self, set-slot, slot-other, slot-put, slot-within, stands-set, with_process, within-run, within-space}
 pub use Rattle.kernel.proofs.Shown.{frames-state, place-changed, place-state, process-state}
 pub use Rattle.kernel.proofs.Starts.{picked-state, picks-killed, picks-ready, started-is, started-kernel, started-run, started-state, started_to}
-pub use Rattle.kernel.proofs.Steps.{computed-is, held-run, placed-with}
-pub use Rattle.kernel.proofs.Turning.{me_of, Runner, runner-of}
 pub use Rattle.kernel.proofs.Wakes.{kernel-waking, state-but, state-waking}
 pub use Rattle.kernel.specs.Descriptors.{descriptors_in}
 pub use Rattle.kernel.specs.Disk.{directory_at, directory_in, HasRead, IsLost, IsServed, LeavesDisk, with_tree}
@@ -111,6 +111,8 @@ pub use Rattle.unixmodel.specs.declared.trap.Access.TheVariants.{Load, Store}
 pub use Rattle.vm.proofs.ReachLemmas.{piece-some, reach-drop, reach-next, reach-page}
 pub use Rattle.vm.specs.Reach.{IsSized, piece_at}
 pub use Rattle.calls.proofs.Running.{Here, here-in, here-of}
+pub use Rattle.std.proofs.KnownBytes.{Appends-nil, Appends-trans}
+pub use Rattle.console.proofs.Rubs.{begins_more}
 pub use Rattle.calls.specs.Acts.{Acts, ActsOnDisk, called, called_by, CanCome, CanWait, Comes, GoesOn, GoesOnDisk, going_at, going_by, IsBegun, IsEnd, marked_by, MayPrint, outcome_at, outcome_by, pending_for, Runs, settled_by, Tries}
 pub use Rattle.calls.specs.Gives.{Dispatches, EventGives, executed, halt_of, IsMade, LeavesTree, Makes}
 pub use Rattle.calls.specs.Named.{IsRefused}

@@ -2,14 +2,13 @@
 use Rattle.calls.proofs.Common.{[], After, after_bytes, ap, append-nil, arith, busy-state, cases_lt, Console, Err, EventGives, execute_at, false, FileTree, followed_by, Halt, Halted, idle-turn, InitEnded, inl, inr, is_none, IsBusy}
 use Rattle.calls.proofs.Common.{IsBusyFor, IsKernel, IsServed, Kernel, LeavesFiles, LeavesTree, List, Makes, next, None, Ok, Option, picked, PieceGives, PieceGoes, process_at, quiet, refl, replicate, replicate-append-replicate, Result, run}
 use Rattle.calls.proofs.Common.{runner-of, running, Some, Spaces, State, state-but, state_of, Step, step, stepped, StepsGive, StopsAt, subst, suc, sym, take_turn, true, turn, waking, Went, zero, ℕ, ℤ, ◌&&◌, ◌++◌, ◌+◌, ◌-◌, ◌<◌, ◌∙◌, ◌∷◌}
-use Rattle.calls.proofs.Common.{◌≡◌, ◌≤◌}
+use Rattle.calls.proofs.Common.{◌≡◌, ◌≤◌, Appends-nil, Appends-trans, begins_more}
 use Rattle.calls.specs.declared.halt.Halt.TheVariants.{Device}
 use Rattle.calls.specs.Resuming.{taken}
 use Rattle.kernel.proofs.Steps.{advances-on}
 use Rattle.kernel.specs.Idle.{is_idle}
 use Rattle.spaces.proofs.Advancing.{advances-last, advances-same}
 use Rattle.spaces.specs.Instructions.{Advances}
-use Rattle.calls.proofs.Prints.{Appends-none, Appends-trans, begins_more}
 use Rattle.calls.proofs.Runs.{run-append, run-one, then_begins, then_runs}
 use Rattle.calls.proofs.Served.{lost-after, same-served, served-after}
 use Rattle.calls.proofs.Takes.{next-executes, next-turns, step-computes, turn-takes}
@@ -50,7 +49,7 @@ run-idle (suc n) s up same =
 -- nothing is printed, and the disk is as it was
 went-quiet : (old new : Kernel) (n : ℕ) (at : Option (List ℕ)) → old.halted ≡ None → IsServed old.tree new.tree → stepped old n ≡ quiet (state_of new) → new.halted ≡ None → Went old new n at at
 went-quiet old new n at up served is goes = record {
-  makes = rw is (record { state = refl; halts = goes; printed = Appends-none at });
+  makes = rw is (record { state = refl; halts = goes; printed = Appends-nil at });
   served = served;
 }
 

@@ -1,30 +1,10 @@
 -- Bytes that are put out in pieces.
-use Rattle.calls.proofs.Common.{[], ap, append-nil, append_assoc, Appends, AppendsBeginning, arith, drop, drop-take, is_some, IsFront, IsSized, length, length-drop, List, Load, Memory, None, Option, piece_at, put, reach, reach-drop}
-use Rattle.calls.proofs.Common.{reach-next, reach-page, read_bytes, readable-count, Some, subst, sym, take, take-append-drop, take-take, true, unwrap_or, ℕ, ◌++◌, ◌+◌, ◌-◌, ◌<◌, ◌^◌, ◌∙◌, ◌≡◌, ◌≤◌}
+use Rattle.calls.proofs.Common.{Appends-trans, begins_more, [], ap, Appends, AppendsBeginning, arith, drop, drop-take, is_some, IsFront, IsSized, length, length-drop, List, Load, Memory, Option, piece_at, put, reach, reach-drop, reach-next}
+use Rattle.calls.proofs.Common.{reach-page, read_bytes, readable-count, subst, sym, take, take-append-drop, take-take, true, unwrap_or, ℕ, ◌++◌, ◌+◌, ◌-◌, ◌<◌, ◌^◌, ◌∙◌, ◌≡◌, ◌≤◌}
 use Rattle.unixmodel.specs.declared.trap.Access.{Access}
 
 front-rest : (xs : List ℕ) (a n : ℕ) → a ≤ n → take a xs ++ drop a (take n xs) ≡ take n xs
 front-rest xs a n less = ap (λ ys. ys ++ drop a (take n xs)) (sym (take-take a n xs less)) ∙ take-append-drop a (take n xs)
-
-pub Appends-none : (a : Option (List ℕ)) → Appends a a []
-Appends-none None = tt
-Appends-none (Some xs) = sym (append-nil xs)
-
--- a writer that took two parts took both
-pub Appends-trans : (a b c : Option (List ℕ)) (xs ys : List ℕ) → Appends a b xs → Appends b c ys → Appends a c (xs ++ ys)
-Appends-trans None b c xs ys h k = tt
-Appends-trans (Some x) None c xs ys h k = absurd h
-Appends-trans (Some x) (Some y) None xs ys h k = k
-Appends-trans (Some x) (Some y) (Some z) xs ys h k = rw (k, h) (append_assoc x xs ys)
-
--- a beginning of what comes after what was printed
-pub begins_more : (before mid after : Option (List ℕ)) (xs ys zs all : List ℕ) → Appends before mid xs → AppendsBeginning mid after ys → (xs ++ ys) ++ zs ≡ all → AppendsBeginning before after all
-begins_more before mid after xs ys zs all h k e = record {
-  front = xs ++ k.front;
-  rest = k.rest ++ zs;
-  parts = append_assoc xs k.front (k.rest ++ zs) ∙ ap (λ bs. xs ++ bs) (sym (append_assoc k.front k.rest zs)) ∙ ap (λ bs. xs ++ (bs ++ zs)) k.parts ∙ sym (append_assoc xs ys zs) ∙ e;
-  took = Appends-trans before mid after xs k.front h k.took;
-}
 
 -- ---- the bytes of a process
 

@@ -1,12 +1,12 @@
 -- A write to the console puts out all of its bytes, and one to a pipe puts in what fits of them.
 use Rattle.calls.proofs.Common.{[], answered, Answers, ap, Appends, AppendsBeginning, arith, Blocks, Bool, bytes_given, bytes_in, Came, CanWait, Comes, descriptors_at, Done, drop, eq-eqb, false, GoesOn, going_at, has_end, IsForPipe}
 use Rattle.calls.proofs.Common.{IsKernel, IsPending, IsSized, IsWriting, Kernel, length, length-drop, length-take, limited, List, Load, low, minus_one, nat_eq, ne_eqb, Option, Outcome, Pending, pending_arg, pipe_room, put_behind, reach}
-use Rattle.calls.proofs.Common.{read_at, ReadEnd, refl, sent, settle, Some, state-but, state_of, subst, sym, Transfers, true, view_at, waits-writing, waking, write_on, write_pipe, ℕ, ◌+◌, ◌-◌, ◌<◌, ◌^◌, ◌∙◌, ◌≡◌, ◌≢◌, ◌≤◌}
+use Rattle.calls.proofs.Common.{read_at, ReadEnd, refl, sent, settle, Some, state-but, state_of, subst, sym, Transfers, true, view_at, waits-writing, waking, write_on, write_pipe, ℕ, ◌+◌, ◌-◌, ◌<◌, ◌^◌, ◌∙◌, ◌≡◌, ◌≢◌, ◌≤◌, Appends-nil}
 use Rattle.files.specs.declared.file.End.{End}
 use Rattle.files.specs.Places.{opens_of}
 use Rattle.spaces.specs.Spaces.{fitting}
 use Rattle.calls.proofs.Acts.{after, goes-done, goes-waits, going, going-here, settle-limited, settles-to}
-use Rattle.calls.proofs.Prints.{Appends-none, rest-fits, rest-is, rest-readable}
+use Rattle.calls.proofs.Prints.{rest-fits, rest-is, rest-readable}
 use Rattle.calls.proofs.Served.{same-served}
 use Rattle.calls.proofs.Transfers.{console-here, file, file-named, given_bytes, going-is, here, length-given, pipe-here, read-given}
 use Rattle.files.specs.declared.file.End.TheVariants as end
@@ -32,7 +32,7 @@ module _ {k : Kernel} {i n : ℕ} {w : Pending} (g : Transfers k i end.Write (ta
 
 -- nothing is put out
 pub puts-none : {k new : Kernel} {i : ℕ} {w : Pending} {came : Came} (at : Option (List ℕ)) → GoesOn k new i w came → (bs : List ℕ) × Comes k new i (limited (going_at (state_of k) i w)) bs came × Appends at at bs
-puts-none at goes = ([], rw goes.within goes.comes, Appends-none at)
+puts-none at goes = ([], rw goes.within goes.comes, Appends-nil at)
 
 -- ---- to a pipe
 

@@ -1,7 +1,8 @@
 -- fstat: a node tells of itself.
-use Rattle.calls.proofs.Common.{[], Acts, Answers, answers, ap, argument, arith, Bool, can_write, counting, descriptors_at, Done, Err, false, file-opens, file_at, file_of, FitsNode, Fstat, fstat_row, given, HasRead, Here, here-in}
-use Rattle.calls.proofs.Common.{InodeStat, IsKernel, Kernel, le, length, limited, List, low, Node, node_at, node_from, node_number, node_of, node_on, None, none-some, Ok, Option, option_map, Outcome, provided, put_process, refl, Refused}
-use Rattle.calls.proofs.Common.{Refuses, row, slot, Some, stat_bytes, stat_told, State, state_of, subst, sym, Target, target_of, Tells, true, view_at, wrote, wrote-state, zeros, ℕ, ◌%◌, ◌/◌, ◌∙◌, ◌∷◌, ◌≡◌}
+use Rattle.std.proofs.Math.Nat.{div-div-eq-div-mul}
+use Rattle.calls.proofs.Common.{[], Acts, Answers, answers, ap, argument, Bool, can_write, counting, descriptors_at, Done, Err, false, file-opens, file_at, file_of, FitsNode, Fstat, fstat_row, given, HasRead, Here, here-in, InodeStat}
+use Rattle.calls.proofs.Common.{IsKernel, Kernel, le, length, limited, List, low, Node, node_at, node_from, node_number, node_of, node_on, None, none-some, Ok, Option, option_map, Outcome, provided, put_process, refl, Refused, Refuses, row}
+use Rattle.calls.proofs.Common.{slot, Some, stat_bytes, stat_told, State, state_of, subst, sym, Target, target_of, Tells, true, view_at, wrote, wrote-state, zeros, ℕ, ◌%◌, ◌/◌, ◌∙◌, ◌∷◌, ◌≡◌}
 use Rattle.files.specs.declared.table.FileFault.{FileFault}
 use Rattle.files.specs.declared.file.OpenFile.{OpenFile}
 use Rattle.spaces.specs.Spaces.{written}
@@ -12,24 +13,11 @@ use Rattle.unixmodel.specs.OpenFiles as unix
 
 -- ---- bytes of numbers
 
-pub le-2 : (x : ℕ) → x % 256 ∷ x / 256 % 256 ∷ [] ≡ le 2 x
-le-2 x = refl
-
 pub le-4 : (x : ℕ) → x % 256 ∷ x / 256 % 256 ∷ x / 65536 % 256 ∷ x / 16777216 % 256 ∷ [] ≡ le 4 x
-le-4 x =
-    let e2 : x / 65536 ≡ x / 256 / 256 = omega arith in
-    let e3 : x / 16777216 ≡ x / 256 / 256 / 256 = omega arith in
-    rw (e2, e3) refl
+le-4 x = simp div-div-eq-div-mul
 
 pub le-8 : (x : ℕ) → x % 256 ∷ x / 256 % 256 ∷ x / 65536 % 256 ∷ x / 16777216 % 256 ∷ x / 4294967296 % 256 ∷ x / 1099511627776 % 256 ∷ x / 281474976710656 % 256 ∷ x / 72057594037927936 % 256 ∷ [] ≡ le 8 x
-le-8 x =
-    let e2 : x / 65536 ≡ x / 256 / 256 = omega arith in
-    let e3 : x / 16777216 ≡ x / 256 / 256 / 256 = omega arith in
-    let e4 : x / 4294967296 ≡ x / 256 / 256 / 256 / 256 = omega arith in
-    let e5 : x / 1099511627776 ≡ x / 256 / 256 / 256 / 256 / 256 = omega arith in
-    let e6 : x / 281474976710656 ≡ x / 256 / 256 / 256 / 256 / 256 / 256 = omega arith in
-    let e7 : x / 72057594037927936 ≡ x / 256 / 256 / 256 / 256 / 256 / 256 / 256 = omega arith in
-    rw (e2, e3, e4, e5, e6, e7) refl
+le-8 x = simp div-div-eq-div-mul
 
 -- ---- the node of an open file
 

@@ -4,13 +4,12 @@ use Rattle.calls.proofs.Common.{EventGives, execute, execute_at, false, goes_on,
 use Rattle.calls.proofs.Common.{Kernel, kernel-waking, Key, key, List, lives, me_of, Memory, memory_after, Mode, moved-state, negsuc, no_pages, None, Ok, OnOk, Option, Pending, pick, picked, picked-state, picks-killed, picks-ready}
 use Rattle.calls.proofs.Common.{placed-with, Process, process-idle, process-run, process_at, quiet, Ready, refl, Result, resume, resumed, resumed_by, resumed_in, run, run-of, Runner, Running, running-state, Runs, settle, settled_by}
 use Rattle.calls.proofs.Common.{slice_index, slot, Some, SpaceView, started, started-is, started-kernel, started-run, started-state, started_to, State, state-but, state-waking, state_of, Step, step, stopped_at, stops-run, subst, sym}
-use Rattle.calls.proofs.Common.{take_turn, taken_by, there-of, Tick, ticked, true, turn, turn-alive, typed, unwrap_or, view_at, Waiting, WaitsAs, WaitsIn, WaitsWell, waking, with_space, ℕ, ℤ, ◌%◌, ◌+◌, ◌^◌, ◌∙◌, ◌≡◌}
+use Rattle.calls.proofs.Common.{take_turn, taken_by, there-of, Tick, ticked, true, turn, turn-alive, typed, unwrap_or, view_at, Waiting, WaitsAs, WaitsIn, WaitsWell, waking, with_space, ℕ, ℤ, ◌%◌, ◌+◌, ◌^◌, ◌∙◌, ◌≡◌, Appends-nil}
 use Rattle.unixmodel.specs.Cycle.{cycle}
 use Rattle.unixmodel.specs.declared.trap.Trap.{Trap}
 use Rattle.unixmodel.specs.Meaning.{Computed}
 use Rattle.calls.specs.declared.halt.Halt.TheVariants.{Device}
 use Rattle.calls.specs.Resuming.{taken}
-use Rattle.calls.proofs.Prints.{Appends-none}
 use Rattle.unixmodel.specs.Next as next
 use Rattle.unixmodel.specs.Process as unix
 
@@ -47,7 +46,7 @@ keys-made k new b before after made printed = rw (next-keys k b) (record { state
 
 -- nothing is printed
 pub made-quiet : (new : Kernel) (a : After) (at : Option (List ℕ)) → a ≡ quiet (state_of new) → IsMade new a at at
-made-quiet new a at made = rw made (record { state = refl; printed = Appends-none at })
+made-quiet new a at made = rw made (record { state = refl; printed = Appends-nil at })
 
 -- a process ended, unless an access failed
 pub ends-if : (new e : Kernel) (a : After) (r : Result (Unit {0}) DeviceFault) → IfOk r (λ done. new ≡ waking (counting e new.tree.failures) new.table.awake) → a ≡ quiet (state_of e) → OnOk r (a ≡ quiet (state_of new))

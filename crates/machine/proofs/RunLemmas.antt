@@ -1,6 +1,6 @@
 -- How a run goes on by one step or by other events.
 use Rattle.machine.proofs.Common.{◌≡◌, ℕ, ℤ, ◌+◌, ◌<◌, List, [], ◌∷◌, ◌++◌, take, drop, length, Option, Some, None, Result, Ok, Err, refl, ap, sym, subst, ◌∙◌, arith, append-nil, length-append, take-append-drop, take-append-le, Halt}
-use Rattle.machine.proofs.Common.{Console, Halted, InitEnded, IsDone, RunGives, StepGives, IsUp, View, Event, next, State, Appends-none, Appends-trans, begins_more, Device}
+use Rattle.machine.proofs.Common.{Console, Halted, InitEnded, IsDone, RunGives, StepGives, IsUp, View, Event, next, State, Appends-nil, Appends-trans, begins_more, Device}
 use Rattle.calls.proofs.Runs.{run-append, run-more, then_runs}
 use Rattle.unixmodel.specs.Run.{after_bytes, run}
 use Rattle.std.proofs.Math.Seq.{take-append-add}
@@ -17,7 +17,7 @@ up_now first now events before after h = record { sound = h.done.sound; goes = r
 -- before the first event
 pub so_far_at_first : (first : View) (at : Option (List ℕ)) → IsUp first → SoFar first first [] at at
 unfolding run
-so_far_at_first first at up = record { began = up; done = record { state = refl; halts = up.goes; sound = up.sound; printed = Appends-none at; same_device = refl; later = omega arith } }
+so_far_at_first first at up = record { began = up; done = record { state = refl; halts = up.goes; sound = up.sound; printed = Appends-nil at; same_device = refl; later = omega arith } }
 
 -- ---- a run over two lists of events
 
@@ -102,7 +102,7 @@ stops_before old new ys zs before after rises Console k =
       record {
         rises = k.1.rises;
         failed = k.1.failed;
-        printed = begins_more before before after [] _ more.0 _ (Appends-none before) k.1.printed more.1;
+        printed = begins_more before before after [] _ more.0 _ (Appends-nil before) k.1.printed more.1;
         done = k.1.done;
         more = rw (length-append ys zs) (let m = k.1.more in omega arith);
         goes = rw front k.1.goes;

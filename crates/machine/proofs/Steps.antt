@@ -1,6 +1,6 @@
 -- What an event comes to, from what the kernel makes of it.
 use Rattle.machine.proofs.Common.{IfErr, Halt, Console, Halted, InitEnded, Kernel, state_of, ConsoleFails, IsDone, RunGives, StepGives, fails, IsUp, View, FileTree, After, quiet, Key, Step, Tick, next, stopped, State, running}
-use Rattle.machine.proofs.Common.{length-replicate, take-replicate, ◌≡◌, ◌≤◌, ℕ, ℤ, Bool, true, false, List, replicate, take, Option, Some, None, Result, Ok, Err, arith, le_refl, refl, ap, Appends-none, Device}
+use Rattle.machine.proofs.Common.{length-replicate, take-replicate, ◌≡◌, ◌≤◌, ℕ, ℤ, Bool, true, false, List, replicate, take, Option, Some, None, Result, Ok, Err, arith, le_refl, refl, ap, Appends-nil, Device}
 use Rattle.calls.specs.Gives.{Dispatches, EventGives, LeavesTree, Makes}
 use Rattle.calls.specs.Steps.{LeavesFiles, PieceGives, PieceGoes, StepsGive, stepped}
 use Rattle.calls.proofs.Pieces.{stops-rest, went-all, went-none}
@@ -55,7 +55,7 @@ pub quiet-gives : (old new : Kernel) (a : After) (at : Option (List ℕ))
     → old.halted ≡ None → a.state.halted ≡ None → a ≡ quiet (state_of new) → new.tree ≡ old.tree
     → IsUp (told old false) × IsDone (told old false) (told new false) a at at None
 quiet-gives old new a at goes on made same =
-    (up old goes, done-gives old new a at at None (record { state = rw made refl; halts = on; printed = rw made (Appends-none at) }) (ap (λ (t : FileTree). t.identity) same) (rw same (omega arith)))
+    (up old goes, done-gives old new a at at None (record { state = rw made refl; halts = on; printed = rw made (Appends-nil at) }) (ap (λ (t : FileTree). t.identity) same) (rw same (omega arith)))
 
 stopped-halts : (s : State) (o : Option ℕ) → (stopped s o).halted ≡ s.halted
 stopped-halts s None = refl

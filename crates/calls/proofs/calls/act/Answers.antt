@@ -1,6 +1,5 @@
-use Rattle.calls.proofs.Common.{[], ActsOnDisk, arith, err_from_is_err_and, None, refl, Some}
+use Rattle.calls.proofs.Common.{[], ActsOnDisk, arith, err_from_is_err_and, None, refl, Some, Appends-nil}
 use Rattle.calls.proofs.Acts.{unbuilt}
-use Rattle.calls.proofs.Prints.{Appends-none}
 use Rattle.calls.proofs.calls.act.Given as given
 use Rattle.calls.proofs.calls.act.Goals.{After-branch-came, in-Chdir, in-Close, in-Dup, in-Exec, in-Exit, in-Fork, in-Fstat, in-Getpid, in-Kill, in-Link, in-Mkdir, in-Mknod, in-Open, in-Pipe, in-Read, in-Sbrk, in-Sleep, in-Unlink}
 use Rattle.calls.proofs.calls.act.Goals.{in-Uptime, in-Wait}
@@ -37,13 +36,10 @@ returns-in_default g c = record { tries = unbuilt None c.requires c.in_default.i
 pub returns : goal.returns
 returns g c =
     let did = rw c.in_ok-came.was at (acts g (goal.at.returns g c).After-branch-came) in
-    record { tries = rw c.in-Some.is ([], did, Appends-none _); later = omega arith }
+    record { tries = rw c.in-Some.is ([], did, Appends-nil _); later = omega arith }
 
 pub returns-in_err-came : goal.returns-in_err-came
 returns-in_err-came g c =
     let lost = rw c.in_err-came.was at (acts g (goal.at.returns-in_err-came g c).After-branch-came) in
     let e = err_from_is_err_and c.from_residual.result c.from_residual.ensures.1 in
-    record { tries = rw (e.1, e.2) (lost, Appends-none _); later = omega arith }
-
-pub returns-in-Write : goal.returns-in-Write
-returns-in-Write g c = rw (c.in-Some.is, c.in-Write.is) c.write.ensures
+    record { tries = rw (e.1, e.2) (lost, Appends-nil _); later = omega arith }

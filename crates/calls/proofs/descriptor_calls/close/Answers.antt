@@ -1,7 +1,6 @@
 use Rattle.calls.proofs.Common.{ap, Close, close_row, here-of, low, refl, serves-disk, ◌∙◌}
 use Rattle.calls.proofs.Acts.{unnamed}
 use Rattle.calls.proofs.Renames.{closes}
-use Rattle.calls.proofs.Served.{err-lost}
 use Rattle.calls.proofs.descriptor_calls.close.Goals as goal
 
 pub returns-in_default : goal.returns-in_default
@@ -11,6 +10,3 @@ returns-in_default g c = unnamed (here-of c.requires) _ Close refl (c.low-descri
 pub returns : goal.returns
 returns g c =
     closes (here-of c.requires) (c.low-descriptor.ensures ∙ ap low c.argument.ensures) c.in-Some.ensures.named c.is_sound.ensures.sound (c.in_ok-close.ensures.told, serves-disk c.in_ok-close.ensures)
-
-pub returns-in_err-close : goal.returns-in_err-close
-returns-in_err-close g c = err-lost c.args.kernel.now _ c.args.at Close c.from_residual.result c.from_residual.ensures.0 (serves-disk c.in_err-close.ensures)

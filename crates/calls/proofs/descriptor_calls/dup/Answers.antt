@@ -10,8 +10,5 @@ returns-in_default g c = unnamed (here-of c.requires) _ Dup refl (c.low.ensures 
 pub returns-in_default-free_descriptor : goal.returns-in_default-free_descriptor
 returns-in_default-free_descriptor g c = dup-full (here-of c.requires) (sym c.in_default-free_descriptor.ensures.place)
 
-pub dup-requires-clause-may : goal.dup-requires-clause-may
-dup-requires-clause-may g c = record { running = c.requires.active; named = (c.low.result, sym c.in-Some.ensures.named); free = sym c.in-Some-free_descriptor.ensures.place }
-
 pub returns : goal.returns
 returns g c = dups (here-of c.requires) (c.low.ensures ∙ ap low c.argument.ensures) c.in-Some.ensures.named (sym c.in-Some-free_descriptor.ensures.place) c.dup.ensures c.is_sound.ensures.sound

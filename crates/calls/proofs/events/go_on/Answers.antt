@@ -9,9 +9,6 @@ start-requires-clause-can g c = waiting-can c.args.at c.args.pending c.is_sound.
 pub act_on-came-requires : goal.act_on-came-requires
 act_on-came-requires g c = let x = resumes-as c.args.at c.args.pending c.is_sound.ensures.sound c.requires.idle c.requires.up c.requires.waits c.start.ensures in record { runs = x.runs; can = x.can }
 
-pub settle-requires : goal.settle-requires
-settle-requires g c = record { running = c.act_on-came.ensures.comes.active; up = c.act_on-came.ensures.comes.served.up; can = c.act_on-came.ensures.comes.can }
-
 pub returns : goal.returns
 returns g c = record {
   gives = resumes-if (resumes-as c.args.at c.args.pending c.is_sound.ensures.sound c.requires.idle c.requires.up c.requires.waits c.start.ensures) c.act_on-came.ensures _ c.settle.result c.settle.ensures.gives;

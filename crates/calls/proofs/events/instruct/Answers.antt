@@ -13,6 +13,3 @@ returns-in-None-clause-tree g c = same-served (ap (λ (k : Kernel). k.tree) c.in
 
 pub take_trap-requires : goal.take_trap-requires
 take_trap-requires g c = let t = c.in-Some.ensures.trap in rw t.1 (record { running = c.requires.running; up = c.requires.up; traps = t.0 })
-
-pub returns-in-Some : goal.returns-in-Some
-returns-in-Some g c = rw (← c.in-Some.ensures.trap.1) c.take_trap.ensures

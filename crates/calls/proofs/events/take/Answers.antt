@@ -1,10 +1,7 @@
-use Rattle.calls.proofs.Common.{ap, ended, Kernel, negsuc, quiet, serves-disk, started, state-but, sym, ◌∙◌}
+use Rattle.calls.proofs.Common.{ap, ended, Kernel, negsuc, quiet, started, state-but, sym, ◌∙◌}
 use Rattle.calls.proofs.Served.{on-after, same-served, started-tree}
 use Rattle.calls.proofs.Takes.{ends-if, takes-killed, takes-ready, takes-waiting}
 use Rattle.calls.proofs.events.take.Goals as goal
-
-pub finish-requires : goal.finish-requires
-finish-requires g c = record { up = c.requires.up; can = rw c.requires.idle c.requires.alive }
 
 pub returns-then-process-clause-gives : goal.returns-then-process-clause-gives
 returns-then-process-clause-gives g c =
@@ -21,9 +18,6 @@ pub returns-in-Waiting-clause-gives : goal.returns-in-Waiting-clause-gives
 returns-in-Waiting-clause-gives g c =
     let there = sym c.process.ensures ∙ sym c.in-Some.ensures in
     on-after _ _ _ c.go_on.result (takes-waiting c.args.kernel.now c.args.at c.in-Some.process c.is_sound.ensures.sound c.requires.idle there c.requires.up c.if-process.false c.in-Waiting.is) c.go_on.ensures.gives
-
-pub returns-then-process-clause-tree : goal.returns-then-process-clause-tree
-returns-then-process-clause-tree g c = serves-disk c.finish.ensures
 
 pub returns-in-Ready-clause-tree : goal.returns-in-Ready-clause-tree
 returns-in-Ready-clause-tree g c = same-served (ap (λ (k : Kernel). k.tree) c.start.ensures ∙ started-tree c.args.kernel.now c.args.at) c.requires.up

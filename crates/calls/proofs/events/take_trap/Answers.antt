@@ -1,13 +1,9 @@
-use Rattle.calls.proofs.Common.{ap, arith, counting, ended, err_from_is_err_and, negsuc, quiet, refl, runner-of, serves-disk, state-but, sym, ◌∙◌}
-use Rattle.calls.proofs.Prints.{Appends-none}
+use Rattle.calls.proofs.Common.{ap, arith, counting, ended, err_from_is_err_and, negsuc, quiet, runner-of, serves-disk, state-but, sym, ◌∙◌, Appends-nil}
 use Rattle.calls.proofs.Takes.{made-quiet, step-calls, step-faults}
 use Rattle.calls.proofs.events.take_trap.Goals as goal
 
 pub returns-then-is_call-clause-gives : goal.returns-then-is_call-clause-gives
 returns-then-is_call-clause-gives g c = rw (step-calls (runner-of c.is_sound.ensures.sound c.requires.running) c.requires.traps (sym c.if-is_call.ensures)) c.call.ensures.gives
-
-pub finish-requires : goal.finish-requires
-finish-requires g c = record { up = c.requires.up; can = rw c.requires.running refl }
 
 pub returns-clause-gives : goal.returns-clause-gives
 returns-clause-gives g c =
@@ -20,7 +16,4 @@ returns-clause-gives g c =
 pub returns-in_err-finish : goal.returns-in_err-finish
 returns-in_err-finish g c =
     let e = err_from_is_err_and c.from_residual.result c.from_residual.ensures.1 in
-    rw (e.1, e.2) (record { gives = Appends-none _; tree = serves-disk c.in_err-finish.ensures; later = omega arith })
-
-pub returns-clause-tree : goal.returns-clause-tree
-returns-clause-tree g c = serves-disk c.in_ok-finish.ensures
+    rw (e.1, e.2) (record { gives = Appends-nil _; tree = serves-disk c.in_err-finish.ensures; later = omega arith })

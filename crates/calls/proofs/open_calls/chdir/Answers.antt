@@ -1,6 +1,5 @@
 use Rattle.calls.proofs.Common.{Chdir, chdir_row, here-of, refl, sym, ◌∙◌}
 use Rattle.calls.proofs.Names.{after-look, lost-path, pathless, reaches, read-runs}
-use Rattle.calls.proofs.Served.{err-lost}
 use Rattle.calls.proofs.open_calls.chdir.Goals as goal
 
 pub returns-in_default : goal.returns-in_default
@@ -15,12 +14,6 @@ pub chdir_found-requires : goal.chdir_found-requires
 chdir_found-requires g c =
     let reads = c.in_ok-number.ensures in
     record { runs = read-runs reads.0 c.requires; reaches = reaches c.in-Some.ensures.path reads c.in-Some-2.is }
-
-pub resolve-requires : goal.resolve-requires
-resolve-requires g c = record { running = c.requires.active; up = c.requires.up }
-
-pub returns-in_err-number : goal.returns-in_err-number
-returns-in_err-number g c = err-lost c.args.kernel.now _ c.args.at Chdir c.from_residual.result c.from_residual.ensures.0 c.in_err-number.ensures
 
 pub returns : goal.returns
 returns g c = after-look c.in_ok-number.ensures.0 _ c.args.at c.requires.up Chdir _ c.chdir_found.ensures

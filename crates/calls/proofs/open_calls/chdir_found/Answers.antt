@@ -1,7 +1,6 @@
 use Rattle.calls.proofs.Common.{Chdir, here-of}
 use Rattle.calls.proofs.Homes.{chdir-goes, chdir-other, chdir-there}
 use Rattle.calls.proofs.Names.{after-look, read-runs}
-use Rattle.calls.proofs.Served.{err-lost}
 use Rattle.calls.proofs.open_calls.chdir_found.Goals as goal
 
 pub stat-requires : goal.stat-requires
@@ -18,6 +17,3 @@ work_in-requires g c =
 
 pub returns : goal.returns
 returns g c = after-look c.in_ok-stat.ensures.0 _ c.args.at c.requires.runs.up Chdir _ c.work_in.ensures
-
-pub returns-in_err-stat : goal.returns-in_err-stat
-returns-in_err-stat g c = err-lost c.args.kernel.now _ c.args.at Chdir c.from_residual.result c.from_residual.ensures.0 c.in_err-stat.ensures

@@ -1,18 +1,11 @@
 use Rattle.calls.proofs.Common.{ap, here-of, low, Open, open_row, refl, ◌∙◌}
 use Rattle.calls.proofs.Names.{after-look, pathless, read-runs}
 use Rattle.calls.proofs.Opens.{asks-of}
-use Rattle.calls.proofs.Served.{err-lost}
 use Rattle.calls.proofs.open_calls.open.Goals as goal
 
 pub returns-in_default : goal.returns-in_default
 unfolding open_row
 returns-in_default g c = pathless (here-of c.requires) _ Open refl c.in_default.ensures.path
-
-pub resolve-requires : goal.resolve-requires
-resolve-requires g c = record { running = c.requires.active; up = c.requires.up }
-
-pub returns-in_err-number : goal.returns-in_err-number
-returns-in_err-number g c = err-lost c.args.kernel.now _ c.args.at Open c.from_residual.result c.from_residual.ensures.0 c.in_err-number.ensures
 
 pub open_found-requires : goal.open_found-requires
 open_found-requires g c =

@@ -26,9 +26,6 @@ open_on-descriptor-requires g c = record {
 pub returns : goal.returns
 returns g c = open-found (here-of c.requires.runs) c.requires.asks c.in_ok-told.told c.in_ok-told.ensures (sym c.if-not-may_open.ensures) c.in_ok-cut.ensures c.open_on-descriptor.ensures
 
-pub returns-in_err-told : goal.returns-in_err-told
-returns-in_err-told g c = err-lost c.args.kernel.now _ c.args.at Open c.from_residual.result c.from_residual.ensures.0 c.in_err-told.ensures
-
 pub cut-requires-clause-up : goal.cut-requires-clause-up
 cut-requires-clause-up g c = (read-runs c.in_ok-told.ensures.0 c.requires.runs).up
 

@@ -8,9 +8,6 @@ returns-then-not-creates g c = open-absent (here-of c.requires.runs) c.requires.
 pub returns-then-not-has_seat : goal.returns-then-not-has_seat
 returns-then-not-has_seat g c = open-new-full (here-of c.requires.runs) c.requires.asks (sym c.if-not-creates.ensures) (sym c.if-not-has_seat.ensures)
 
-pub create-made-requires : goal.create-made-requires
-create-made-requires g c = record { running = c.requires.runs.active; up = c.requires.runs.up; path = c.requires.path }
-
 pub open_on-descriptor-requires : goal.open_on-descriptor-requires
 open_on-descriptor-requires g c = record {
   runs = created-runs (here-of c.requires.runs) c.requires.asks (sym c.if-not-creates.ensures) c.create-made.ensures.rest c.is_sound.ensures.sound c.create-made.ensures.made c.in-Ok.is c.requires.runs;

@@ -1,11 +1,7 @@
-use Rattle.calls.proofs.Common.{Chdir, here-of, serves-disk}
+use Rattle.calls.proofs.Common.{here-of, serves-disk}
 use Rattle.calls.proofs.Homes.{chdirs}
-use Rattle.calls.proofs.Served.{err-lost}
 use Rattle.calls.proofs.open_calls.work_in.Goals as goal
 
 pub returns : goal.returns
 returns g c =
     chdirs (here-of c.requires.runs) c.requires.reaches c.requires.directory c.files_are_whole.ensures c.is_sound.ensures.sound (c.in_ok-work_in.ensures.told, serves-disk c.in_ok-work_in.ensures)
-
-pub returns-in_err-work_in : goal.returns-in_err-work_in
-returns-in_err-work_in g c = err-lost c.args.kernel.now _ c.args.at Chdir c.from_residual.result c.from_residual.ensures.0 (serves-disk c.in_err-work_in.ensures)

@@ -31,9 +31,6 @@ returns-in-Blocks g c =
       tree = same-served (ap (λ (x : Kernel). x.tree) c.block.ensures) c.requires.up;
     }
 
-pub finish-requires : goal.finish-requires
-finish-requires g c = record { up = c.requires.up; can = rw c.requires.running refl }
-
 pub returns-in-Exits : goal.returns-in-Exits
 returns-in-Exits g c =
     let s = c.is_sound.ensures in

@@ -5,9 +5,6 @@ use Rattle.calls.proofs.process_calls.fork.Goals as goal
 pub returns-in_default : goal.returns-in_default
 returns-in_default g c = fork-unseated c.requires (sym c.in_default.ensures.seat)
 
-pub fork-requires-clause-may : goal.fork-requires-clause-may
-fork-requires-clause-may g c = record { running = c.requires.active; next = sym c.in-Ok.ensures.seat; up = c.requires.up }
-
 pub returns-then-not-fork : goal.returns-then-not-fork
 returns-then-not-fork g c = let d = c.if-not-fork.ensures in rw d.1 (fork-unfit c.requires (sym c.in-Ok.ensures.seat) d.0)
 

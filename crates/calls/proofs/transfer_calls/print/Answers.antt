@@ -1,9 +1,9 @@
-use Rattle.calls.proofs.Common.{arith, err_from_is_err_and}
-use Rattle.calls.proofs.Prints.{Appends-none, prints-all, prints-front, prints-more, prints-within, rest-fits, rest-readable}
+use Rattle.calls.proofs.Common.{arith, err_from_is_err_and, Appends-nil}
+use Rattle.calls.proofs.Prints.{prints-all, prints-front, prints-more, prints-within, rest-fits, rest-readable}
 use Rattle.calls.proofs.transfer_calls.print.Goals as goal
 
 pub loop-done-init : goal.loop-done-init
-loop-done-init g c = record { within = omega arith; printed = Appends-none _; later = omega arith }
+loop-done-init g c = record { within = omega arith; printed = Appends-nil _; later = omega arith }
 
 pub overflow_add-address : goal.overflow_add-address
 overflow_add-address g c =

@@ -21,6 +21,3 @@ pub returns-in-Ok : goal.returns-in-Ok
 returns-in-Ok g c =
     let at = named-number c.requires.goes c.low.ensures _ c.open_id.ensures.named _ c.in-Some.is in
     reads-done c.requires c.files_are_whole.ensures (c.from-count.ensures ∙ c.low-2.ensures) c.in-Ok.ensures.told (c.from.ensures ∙ at) c.low-in-Ok.ensures c.set_offset.ensures c.is_sound.ensures.sound (serves-disk c.in-Ok.ensures)
-
-pub returns-in-Err : goal.returns-in-Err
-returns-in-Err g c = serves-disk c.in-Err.ensures

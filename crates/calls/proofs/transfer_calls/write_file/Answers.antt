@@ -24,6 +24,3 @@ pub returns-in-Some-wrote : goal.returns-in-Some-wrote
 returns-in-Some-wrote g c =
     let at = named-number c.requires.goes c.low.ensures _ c.open_id.ensures.named _ c.in-Some.is in
     writes-done c.requires (c.from-count.ensures ∙ c.low-2.ensures) c.in-Ok.ensures.told c.in-Some-wrote.is (c.from.ensures ∙ at) c.low-in-Ok.ensures c.set_offset.ensures c.is_sound-in-Ok.ensures.sound (serves-disk c.in-Ok.ensures) c.write_answer.ensures
-
-pub returns-in-Err : goal.returns-in-Err
-returns-in-Err g c = serves-disk c.in-Err.ensures
