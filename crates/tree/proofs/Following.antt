@@ -59,6 +59,10 @@ beside-now now = record {
   later = now.later;
 }
 
+-- by what is known of the files
+pub now-wanted : {old now : FileTree} {files wanted : Files} → IsNow old now files → files ≡ wanted → IsNow old now wanted
+now-wanted {old} {now} is e = subst (IsNow old now) e is
+
 module _ {old mid : FileTree} {files : Files} (now : IsNow old mid files) where
   pub now-up : old.failed ≡ false → mid.failed ≡ false
   now-up up = ap (λ (t : FileTree). t.failed) now.is ∙ up
@@ -90,16 +94,18 @@ module _ {old mid : FileTree} {files : Files} (now : IsNow old mid files) where
   folder-was {d} f = record { links = f.links; places = f.places; here = ap (λ (fs : Files). slot fs d) (sym now-files) ∙ f.here }
 
   module _ {new : FileTree} where
-    module _ {T : Type 0} {r : Result T DeviceFault} {x : T} where
-      pub now-read : {Told : T → Type 0} → Reads mid new r Told → r ≡ Ok x → IsNow old new files
-      now-read {Told} reads is =
-          let told : (new ≡ record mid { failures = new.failures }) × Told x = subst (λ (q : Result T DeviceFault). IfOk q (λ x. (new ≡ record mid { failures = new.failures }) × Told x)) is reads.serves.told in
-          record { is = told.0 ∙ ap (λ (t : FileTree). record t { failures = new.failures }) now.is; later = let l = now.later in let m = reads.serves.cause.later in omega arith }
+    module _ {T : Type 0} {r : Result T DeviceFault} where
+      pub now-served : {Was : T → Type 0} → Serves mid new r Was → {x : T} → r ≡ Ok x → {next : Files} → (Was x → new ≡ record mid { files = next; failures = new.failures }) → IsNow old new next
+      now-served {Was} serves is {next} so = record {
+        is = so (IfOk-at_ok Was is serves.told) ∙ ap (λ (t : FileTree). record t { files = next; failures = new.failures }) now.is;
+        later = let l = now.later in let m = serves.cause.later in omega arith;
+      }
 
-      pub now-turned : {next : Files} → Turns mid new r next → r ≡ Ok x → IsNow old new next
-      now-turned {next} turns is =
-          let turned : new ≡ record mid { files = next; failures = new.failures } = subst (λ (q : Result T DeviceFault). IfOk q (λ _. new ≡ record mid { files = next; failures = new.failures })) is turns.serves.told in
-          record { is = turned ∙ ap (λ (t : FileTree). record t { files = next; failures = new.failures }) now.is; later = let l = now.later in let m = turns.serves.cause.later in omega arith }
+      pub now-read : {x : T} {Told : T → Type 0} → Reads mid new r Told → r ≡ Ok x → IsNow old new files
+      now-read reads is = now-wanted (now-served reads.serves is (λ told. told.0)) now-files
+
+      pub now-turned : {x : T} {next : Files} → Turns mid new r next → r ≡ Ok x → IsNow old new next
+      now-turned turns is = now-served turns.serves is (λ told. told)
 
     -- the number that a name had, told behind them
     pub looked : (d : ℕ) (name : List ℕ) {r : Result (Option ℕ) DeviceFault} {o x : Option ℕ} → Reads mid new r (λ n. n ≡ lookup mid.files d name) → r ≡ Ok o → o ≡ x → lookup files d name ≡ x
@@ -217,20 +223,13 @@ module _ {old mid : FileTree} {files : Files} (now : IsNow old mid files) where
     told : TakesNode mid new kind major minor o
     told = IfOk-at_ok (TakesNode mid new kind major minor) is takes.serves.told
 
-    since : old.failures ≤ new.failures
-    since = let l = now.later in let m = takes.serves.cause.later in omega arith
-
     pub now-took : {n : ℕ} → o ≡ Some n → (free_number files ≡ Some n) × IsNow old new (put files n (fresh kind major minor))
     now-took {n} some =
-        let t = subst (TakesNode mid new kind major minor) some told in (
-          ap free_number (sym (now-files now)) ∙ t.0,
-          record { is = t.1 ∙ ap (λ (t : FileTree). record t { files = put t.files n (fresh kind major minor); failures = new.failures }) now.is; later = since },
-        )
+        let t = subst (TakesNode mid new kind major minor) some told in
+        (ap free_number (sym (now-files now)) ∙ t.0, now-wanted (now-served now takes.serves is (λ _. t.1)) (ap (λ fs. put fs n (fresh kind major minor)) (now-files now)))
 
     pub now-none : o ≡ None → (free_number files ≡ None) × IsNow old new files
-    now-none none =
-        let t = subst (TakesNode mid new kind major minor) none told in
-        (ap free_number (sym (now-files now)) ∙ t.0, record { is = t.1 ∙ ap (λ (t : FileTree). record t { failures = new.failures }) now.is; later = since })
+    now-none none = let t = subst (TakesNode mid new kind major minor) none told in (ap free_number (sym (now-files now)) ∙ t.0, now-wanted (now-served now takes.serves is (λ _. t.1)) (now-files now))
 
   -- behind a call on names
   module _ {new : FileTree} {T : Type 0} {r : Result T TreeFault} {Done : T → Type 0} {Refused : Type 0} {Why : TreeFault → Type 0} (acts : Acts mid new r Done Refused Why) where
@@ -244,10 +243,6 @@ module _ {old mid : FileTree} {files : Files} (now : IsNow old mid files) where
   pub now-kept : {new : FileTree} {T : Type 0} {r : Result T TreeFault} {Done : T → Type 0} {Refused : Type 0} {Why : TreeFault → Type 0} → Acts mid new r (λ x. Done x × (new.files ≡ mid.files)) Refused Why
       → old.failed ≡ false → {x : T} → r ≡ Ok x → IsNow old new files
   now-kept {new} {Done = Done} acts up is = now-passed acts up is ((IfOk-at_ok (λ x. Done x × (new.files ≡ mid.files)) is acts.done).1 ∙ now-files now)
-
--- by what is known of the files
-pub now-wanted : {old now : FileTree} {files wanted : Files} → IsNow old now files → files ≡ wanted → IsNow old now wanted
-now-wanted {old} {now} is e = subst (IsNow old now) e is
 
 -- a file is one behind steps
 abbrev pub file-now : {old mid : FileTree} {files : Files} → IsNow old mid files → {n : ℕ} → IsFile files n → IsFile mid.files n
@@ -286,12 +281,6 @@ turns-become {t} {new} b = tells-more (λ x is. is b.next b.able ∙ ap (λ (fs 
 -- ---- calls that serve, of which nothing else is known
 
 module _ {old mid new : FileTree} {files : Files} (now : IsNow old mid files) {T : Type 0} {r : Result T DeviceFault} {Was : T → Type 0} (serves : Serves mid new r Was) where
-  pub now-served : {x : T} → r ≡ Ok x → {next : Files} → (Was x → new ≡ record mid { files = next; failures = new.failures }) → IsNow old new next
-  now-served is {next} so = record {
-    is = so (IfOk-at_ok Was is serves.told) ∙ ap (λ (t : FileTree). record t { files = next; failures = new.failures }) now.is;
-    later = let l = now.later in let m = serves.cause.later in omega arith;
-  }
-
   pub lost-served : {U : Type 0} {Told : U → Type 0} {e f : DeviceFault} {s : Result U DeviceFault} → r ≡ Err e → IsErrAnd s (λ x. x ≡ f) → Serves old new s Told
   lost-served {s = s} was told =
       let err = (err_from_is_err_and s told).1 in
