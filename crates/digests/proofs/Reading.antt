@@ -1,6 +1,6 @@
 -- Files that go into a digest step by step.
-use Rattle.digests.proofs.Common.{◌≡◌, ℕ, ◌+◌, ◌*◌, ◌-◌, ◌≤◌, false, List, ◌∷◌, [], ◌++◌, length, take, drop, min, Err, Ok, Option, None, Some, Result, ap, ap₂, arith, refl, subst, ◌∙◌, length-drop, length-take-le, take-append-le}
-use Rattle.digests.proofs.Common.{take_all, take_min, bytes_mixed, contents_mixed, each, mix, mixed, node_mixed, major_of, lost-then, read-then, Kernel, Node, kind_of, links_of, node_bytes, size_of, slot, bytes_or_none}
+use Rattle.digests.proofs.Common.{◌≡◌, ℕ, ◌+◌, ◌*◌, ◌-◌, ◌≤◌, false, List, ◌∷◌, [], ◌++◌, length, take, drop, min, Err, Ok, Option, None, Some, Result, ap, ap₂, arith, refl, subst, ◌∙◌, length-drop, length-take-le, take-append-le, take_all}
+use Rattle.digests.proofs.Common.{take_min, bytes_mixed, contents_mixed, each, mix, mixed, node_mixed, major_of, lost-then, read-then, Kernel, Node, kind_of, links_of, node_bytes, size_of, slot, bytes_or_none}
 use Rattle.blockdev.specs.declared.DeviceFault.{DeviceFault}
 use Rattle.blockdev.specs.Splice.{part}
 use Rattle.digests.specs.Reads.{major_told, node_numbers}

@@ -1,6 +1,6 @@
 -- The parts of a kernel's state, as they go into its digest.
-use Rattle.digests.proofs.Common.{◌≡◌, ℕ, ◌+◌, ◌<◌, true, List, [], ◌∷◌, ◌++◌, length, take, Option, None, Some, ap, ap₂, arith, get_or, length-append, refl, sym, ◌∙◌, take_all, bare_mixed, console_mixed}
-use Rattle.digests.proofs.Common.{each, front_of, memory_mixed, mix, mixed, page_or_same, place_mixed, status_number, Kernel, loaded, on_hart, state_of, SpaceView, has_space, view_at, slot, process_at}
+use Rattle.digests.proofs.Common.{◌≡◌, ℕ, ◌+◌, ◌<◌, true, List, [], ◌∷◌, ◌++◌, length, take, Option, None, Some, ap, ap₂, arith, get_or, length-append, refl, sym, ◌∙◌, take_all, bare_mixed, console_mixed, each, front_of, memory_mixed, mix}
+use Rattle.digests.proofs.Common.{mixed, page_or_same, place_mixed, status_number, Kernel, loaded, on_hart, state_of, SpaceView, has_space, view_at, slot, process_at}
 use Rattle.std.specs.Prelude.{is_some, option_map, slice_get}
 use Rattle.std.proofs.lemmas.List.Sums.{fold_more}
 use Rattle.digests.proofs.Steps.{each-all}
@@ -69,6 +69,4 @@ rest-of t change None = (refl, refl)
 rest-of t change (Some i) = (refl, refl)
 
 pub front-state : (k : Kernel) → (k.ticks ∷ k.table.next_pid ∷ k.table.last ∷ status_number k.halted ∷ []) ≡ front_of (state_of k)
-front-state k =
-    ap (λ n. k.ticks ∷ n ∷ k.table.last ∷ status_number k.halted ∷ []) (rest-of k.table (on_hart k.spaces) k.spaces.active).1
-    ∙ ap (λ n. k.ticks ∷ (loaded k).next_pid ∷ n ∷ status_number k.halted ∷ []) (rest-of k.table (on_hart k.spaces) k.spaces.active).0
+front-state k = let rest = rest-of k.table (on_hart k.spaces) k.spaces.active in ap₂ (λ n l. k.ticks ∷ n ∷ l ∷ status_number k.halted ∷ []) rest.1 rest.0

@@ -2,9 +2,6 @@ use Rattle.digests.proofs.Common.{arith, length-append, ◌∙◌, ap, mix}
 use Rattle.digests.proofs.States.{byte-next, console-done, typed}
 use Rattle.digests.proofs.opened.mix_console.Goals as goal
 
-pub overflow_add-at-end : goal.overflow_add-at-end
-overflow_add-at-end c = omega (arith, c.can_take-can.ensures.within, c.committed_len-committed.ensures, c.edited_len-edited.ensures)
-
 pub loop-at-preserved : goal.loop-at-preserved
 loop-at-preserved c =
     byte-next (typed c.args.console.now) c.loop-at.at _ _ _
