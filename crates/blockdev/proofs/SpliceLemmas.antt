@@ -1,9 +1,16 @@
 -- Lemmas on what `specs/Splice` defines.
 use Rattle.std.specs.Prelude.{◌≡◌, ℕ, ◌+◌, ◌-◌, ◌<◌, ◌≤◌, ◌⊎◌, List, ◌++◌, length, take, drop, get_or}
-use Rattle.std.proofs.Common.{◌∙◌, sym, ap, arith, inl, inr}
-use Rattle.std.proofs.lemmas.List.{length-append, length-take-le, length-drop, get_or_append_left, get_or-append_right, get_or-take, get_or-drop, drop-drop, ext_get_or}
+use Rattle.std.proofs.Common.{◌∙◌, sym, ap, arith, inl, inr, ◌≡◌, ℕ, ◌+◌, ◌*◌, ◌/◌, ◌<◌, ◌≤◌, List, [], length, get_or, set}
+use Rattle.std.proofs.lemmas.List.{length-append, length-take-le, length-drop, get_or_append_left, get_or-append_right, get_or-take, get_or-drop, drop-drop, ext_get_or, length-set, get_or-set_same, get_or-set_other}
 use borrow.Rule.Slice.PartMut.{put_mid}
 use Rattle.blockdev.specs.Splice.{part, splice}
+use Rattle.std.proofs.lemmas.Bool.{cases_eq, cases_lt}
+use Rattle.blockdev.specs.Blocks.{block_of, blocks_of}
+use Rattle.blockdev.specs.Sizes.{length-blocks_of, block_at-blocks_of}
+
+-- the blocks of a disk
+abbrev pub Blocks : Type 0
+Blocks = List (List ℕ)
 
 pub length-part : {X : Type 0} (p m : ℕ) (xs : List X) → p + m ≤ length xs → length (part p m xs) ≡ m
 length-part p m xs h = length-take-le m (drop p xs) (omega (arith, length-drop p xs))
@@ -58,3 +65,24 @@ part-splice_same at m new old e h =
 -- what a write to a part of a slice leaves
 pub put_mid-splice : {X : Type 0} (a k : ℕ) (xs ys zs : List X) → ys ≡ zs → k ≡ length zs → put_mid a k xs ys ≡ splice a zs xs
 put_mid-splice a k xs ys zs e h = ap (λ r. take a xs ++ (r ++ drop k (drop a xs))) e ∙ ap (λ r. take a xs ++ (zs ++ r)) (drop-drop k a xs ∙ ap (λ n. drop (a + n) xs) h)
+
+-- ---- a block written into the bytes is a block set in the list of blocks
+
+pub blocks_of-splice : (n : ℕ) (xs ys : List ℕ) → length ys ≡ 1024 → n < length xs / 1024 → blocks_of (splice (1024 * n) ys xs) ≡ set (blocks_of xs) n ys
+blocks_of-splice n xs ys e h =
+    let new : List ℕ = splice (1024 * n) ys xs in
+    let fits : 1024 * n + length ys ≤ length xs = omega arith in
+    let same : length (splice (1024 * n) ys xs) ≡ length xs = length-splice (1024 * n) ys xs fits in
+    let long : length (blocks_of (splice (1024 * n) ys xs)) ≡ length xs / 1024 = length-blocks_of (splice (1024 * n) ys xs) ∙ ap (λ k. k / 1024) same in
+    ext_get_or [] (blocks_of (splice (1024 * n) ys xs)) (set (blocks_of xs) n ys)
+    (long ∙ sym (length-blocks_of xs) ∙ sym (length-set (blocks_of xs) n ys))
+    (λ i l.
+    let i_in : i < length xs / 1024 = omega arith in
+    block_at-blocks_of (splice (1024 * n) ys xs) i (omega arith)
+    ∙ (elim (cases_eq i n) [
+      | inl here ↦ ap (block_of (splice (1024 * n) ys xs)) here ∙ part-splice_same (1024 * n) 1024 ys xs (sym e) fits
+          ∙ sym (get_or-set_same (blocks_of xs) n ys [] (omega (arith, length-blocks_of xs))) ∙ ap (λ k. get_or (set (blocks_of xs) n ys) k []) (sym here)
+      | inr other ↦ part-splice_apart (1024 * i) 1024 (1024 * n) ys xs fits (omega arith)
+          (elim (cases_lt i n) [ inl below ↦ inl (omega arith) | inr above ↦ inr (omega arith) ])
+          ∙ sym (get_or-set_other (blocks_of xs) n i ys [] other ∙ block_at-blocks_of xs i i_in)
+    ]))
