@@ -1,6 +1,6 @@
 -- The names that the lemmas of this crate import from elsewhere, passed on from one place. Declares nothing.
-pub use Rattle.std.proofs.Common.{◌%◌, ◌*◌, ◌+◌, ◌++◌, ◌-◌, ◌/◌, ◌<◌, [], ◌^◌, add-zero, ap, arith, Bool, cond, drop, eqb, false, get_or, inl, inr, length}
-pub use Rattle.std.proofs.Common.{List, map, None, not, Option, refl, replicate, set, Some, subst, suc, sym, true, w8, zero, ℕ, ◌∙◌, ◌∷◌, ◌≡◌, ◌≢◌, ◌≤◌}
+pub use Rattle.std.proofs.Common.{◌%◌, ◌*◌, ◌+◌, ◌++◌, ◌-◌, ◌/◌, ◌<◌, [], ◌^◌, add-zero, ap, arith, Bool, cond, drop, eqb, false, get_or, inl, inr, length, List, map, None, not, Option, refl, replicate, set, Some, subst, suc, sym, true, w8}
+pub use Rattle.std.proofs.Common.{zero, ℕ, ◌∙◌, ◌∷◌, ◌≡◌, ◌≢◌, ◌≤◌}
 pub use Rattle.std.proofs.lemmas.Bool.{cases_eq, cases_lt, cond-false, cond-true, eq-eqb, eqb-false, eqb-true, le-leb, lt-leb, ne_eqb, not-false, not-true}
 pub use Rattle.std.proofs.lemmas.List.{ext_get_or, get_or-replicate, get_or-set_other, get_or-set_same, get_or_past, length-replicate, length-take}
 pub use Rattle.std.proofs.lemmas.Nat.Bits.{bit_at-lt, bit_at-zero, bit_at_clear_other, bit_at_clear_same, bit_at_ones, bit_at_set_other, bit_at_set_same}
@@ -12,10 +12,8 @@ pub use Rattle.blockdev.specs.Blocks.{block_at}
 pub use Rattle.blockdev.specs.Splice.{part, splice}
 pub use Rattle.cache.proofs.Ending.{goes-after, goes-stays, read-done, step-done, step-failed, step-last}
 pub use Rattle.cache.specs.Steps.{Goes}
-pub use Rattle.layout.proofs.Frame.{at_or, get_or-nodes_of, IsSound-replace, KeepsOthers, length-nodes_of, node_at-none, nodes_of-changed, set_from}
-pub use Rattle.layout.proofs.GrowLemmas.{Grows-keeps, Grows-node, Grows-sound, WritesInode-write}
-pub use Rattle.layout.proofs.Plain.{asks_none, Grows-empty, HoldsBytes-empty, zero_at}
-pub use Rattle.layout.proofs.Puts.{HasParts-kept, PutsBlock-write}
+pub use Rattle.layout.proofs.GrowLemmas.{at_or, get_or-nodes_of, IsSound-replace, KeepsOthers, length-nodes_of, node_at-none, nodes_of-changed, set_from, Grows-keeps, Grows-node, Grows-sound, WritesInode-write, asks_none, Grows-empty}
+pub use Rattle.layout.proofs.GrowLemmas.{HoldsBytes-empty, zero_at, HasParts-kept, PutsBlock-write}
 pub use Rattle.layout.specs.Image.{bit_of, free_blocks, inode_at, IsFree, IsInode, IsUsed, node_with, RawNode}
 unfoldable pub use Rattle.layout.specs.Image.{bit_in, data_bits, node_at, nodes_of}
 pub use Rattle.layout.specs.Inode.{Fits, inode_bytes, inode_of}

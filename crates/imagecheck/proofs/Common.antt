@@ -1,12 +1,12 @@
 -- The names that the lemmas of this crate import from elsewhere, passed on from one place. Declares nothing.
-pub use Rattle.std.proofs.Common.{◌&&◌, ◌*◌, ◌+◌, ◌++◌, ◌-◌, ◌/◌, ◌<◌, ◌==◌, [], add-zero, All, AllPairs, ap, arith, below_more, Bool, bytes_eq, cond, count_by, drop, Err, false, filter}
-pub use Rattle.std.proofs.Common.{flat_map, get_or, IfErr, IfOk, IfSome, inl, inr, is_some, IsErrAnd, IsErrOf, IsPermutation, IsSome, IsSorted, IsTrue, length, length-append, List, lt-ltb}
-pub use Rattle.std.proofs.Common.{map, MatchResult, nat_cmp, nat_eq, nat_lt, None, not, Ok, OnOk, Option, option_and_then, option_map, option_to_list, position, refl, replicate, Result, rules}
-pub use Rattle.std.proofs.Common.{set, slice_get, slice_index, slice_range, slice_set, Some, subst, suc, sym, take, take_at, true, unwrap_or, zero, ◌||◌, ℕ, ◌↔◌, ◌∙◌, ◌∷◌, ◌≡◌, ◌≢◌, ◌≤◌, ◌⊎◌}
+pub use Rattle.std.proofs.Common.{◌&&◌, ◌*◌, ◌+◌, ◌++◌, ◌-◌, ◌/◌, ◌<◌, ◌==◌, [], add-zero, All, AllPairs, ap, arith, below_more, Bool, bytes_eq, cond, count_by, drop, Err, false, filter, flat_map, get_or, IfErr, IfOk, IfSome, inl, inr}
+pub use Rattle.std.proofs.Common.{is_some, IsErrAnd, IsErrOf, IsPermutation, IsSome, IsSorted, IsTrue, length, length-append, List, lt-ltb, map, MatchResult, nat_cmp, nat_eq, nat_lt, None, not, Ok, OnOk, Option, option_and_then, option_map}
+pub use Rattle.std.proofs.Common.{option_to_list, position, refl, replicate, Result, rules, set, slice_get, slice_index, slice_range, slice_set, Some, subst, suc, sym, take, take_at, true, unwrap_or, zero, ◌||◌, ℕ, ◌↔◌, ◌∙◌, ◌∷◌, ◌≡◌, ◌≢◌}
+pub use Rattle.std.proofs.Common.{◌≤◌, ◌⊎◌}
 pub use Rattle.std.proofs.lemmas.Bool.{and_right, cases_eq, cases_lt, cond-false, cond-true, cond_both, false_from_ne_true, false≢true, iff_false, ltb-false, ltb-true, MatchBool-at_false, MatchBool-at_true, or_parts}
 pub use Rattle.std.proofs.lemmas.Bool.Decides.{Decides-at, Decides-eqb, Decides-like, nat_tests, same_from_decides}
-pub use Rattle.std.proofs.lemmas.List.{append_assoc, drop-append-le, drop-take, drop_all, flat_map_more, get_or-drop, get_or-map, get_or-set_other, get_or-set_same, get_or-take}
-pub use Rattle.std.proofs.lemmas.List.{get_or_default, get_or_past, length-drop, length-map, length-replicate, length-take, length-take-le, map-append, take-append-le, take-take, take_more}
+pub use Rattle.std.proofs.lemmas.List.{append_assoc, drop-append-le, drop-take, drop_all, flat_map_more, get_or-drop, get_or-map, get_or-set_other, get_or-set_same, get_or-take, get_or_default, get_or_past, length-drop, length-map}
+pub use Rattle.std.proofs.lemmas.List.{length-replicate, length-take, length-take-le, map-append, take-append-le, take-take, take_more}
 pub use Rattle.std.proofs.lemmas.List.Elements.{All-cons, All-filter, All-head, All-map, All-nil, All-replicate, All-tail, All-take, filter_map-append, filter_passes}
 pub use Rattle.std.proofs.lemmas.List.FromFn.{get_or-map-range_with_len, get_or-range_with_len, length-map-range_with_len, length-range_with_len}
 pub use Rattle.std.proofs.lemmas.List.Sorted.{answers_always, IsNonDecreasingBy-from_sort, IsPermutation-sym}
@@ -20,8 +20,8 @@ pub use Rattle.byteorder.specs.Endian.{little_number}
 pub use Rattle.imagerules.proofs.Bounds.{bit-inside, bitmap-low, direct-high, direct-low, HasInode-at, HasPlace-at, inodes-least, inodes-most, length-is, size-most, super-is, up_to_more}
 pub use Rattle.imagerules.proofs.ContentLemmas.{image_of-blocks, image_of-more}
 pub use Rattle.imagerules.proofs.Denoting.{contents-long, Denotes-from, HasEntries-denotes, HasKinds-denotes, HasLinks-denotes, HasSizes-denotes, IsReached-denotes}
-pub use Rattle.imagerules.proofs.Marking.{bit_is, blocks_of-free, blocks_of-used, HasMarks-none, list_more, list_split, mark_more, mark_shared, marked_no}
-pub use Rattle.imagerules.proofs.Marking.{marked_yes, named_before, named_before-all, named_before-front, named_before-more, other_tests, range-split, same_tests}
+pub use Rattle.imagerules.proofs.Marking.{bit_is, blocks_of-free, blocks_of-used, HasMarks-none, list_more, list_split, mark_more, mark_shared, marked_no, marked_yes, named_before, named_before-all, named_before-front, named_before-more}
+pub use Rattle.imagerules.proofs.Marking.{other_tests, range-split, same_tests}
 pub use Rattle.imagerules.proofs.Nodes.{by_kind, file_in-used, length-block, length-files_in, node_in-device, node_in-directory, node_in-file, slot-files_in, slot-free, slot-past, slot-zero}
 pub use Rattle.imagerules.proofs.Numbers.{number_at-drop, same_number}
 pub use Rattle.imagerules.proofs.Paths.{find-empty, find-root, find-slash, first_named, first_named-is, IsGiven-name}
@@ -38,7 +38,7 @@ pub use Rattle.imagerules.specs.Places.{EntriesAt, FitsEntries, HasEntries, HasL
 unfoldable pub use Rattle.imagerules.specs.Places.{files_in, node_in, places_in}
 pub use Rattle.imagerules.specs.Rules.{BlockRules-of, HasBlocks, HasBlocks-of}
 unfoldable pub use Rattle.imagerules.specs.Rules.{BlockRules}
-pub use Rattle.layout.proofs.Frame.{at_or}
+pub use Rattle.layout.proofs.GrowLemmas.{at_or}
 pub use Rattle.layout.specs.Formats.{format_named}
 pub use Rattle.layout.specs.declared.Geometry.{Geometry}
 pub use Rattle.unixmodel.specs.Files.{dot, dot_dot, Entry, entry_number, Files, follow, has_name, is_directory, is_dot_name, live_places, most_links, name_bytes, Node, slot, taken}

@@ -1,8 +1,8 @@
 -- Walks up from directories, which mark whom they meet.
-use Rattle.imagecheck.proofs.Common.{◌≡◌, ◌≢◌, ℕ, ◌+◌, ◌<◌, ◌≤◌, List, length, get_or, replicate, set, ap, sym, ◌∙◌, arith, cond, inl, inr, zero, suc, count_by, slice_index, ◌==◌, ◌⊎◌}
-use Rattle.imagecheck.proofs.Common.{cases_eq, cond-false, cond-true, get_or-set_other, get_or-set_same, length-replicate, sum_by-set, at_or, Files, parent_of, Climbs, HasWalked, ancestor}
+use Rattle.imagecheck.proofs.Common.{◌≡◌, ◌≢◌, ℕ, ◌+◌, ◌<◌, ◌≤◌, List, length, get_or, replicate, set, ap, sym, ◌∙◌, arith, cond, inl, inr, zero, suc, count_by, slice_index, ◌==◌, ◌⊎◌, cases_eq, cond-false, cond-true, get_or-set_other}
+use Rattle.imagecheck.proofs.Common.{get_or-set_same, length-replicate, sum_by-set, at_or, Files, parent_of, Climbs, HasWalked, ancestor}
 use Rattle.std.proofs.lemmas.Bool.{eq-eqb, ne_eqb}
-use Rattle.layout.proofs.Plain.{zero_at}
+use Rattle.layout.proofs.GrowLemmas.{zero_at}
 use Rattle.imagecheck.proofs.Reaching.{Climbs-child}
 
 -- a walk from a start has come to n: whom it met is marked with the start

@@ -1,9 +1,9 @@
 -- The names that the lemmas of this crate import from elsewhere, passed on from one place. Declares nothing.
-pub use Rattle.std.proofs.Common.{◌%◌, ◌&&◌, ◌*◌, ◌+◌, ◌++◌, ◌-◌, ◌/◌, ◌<◌, ◌==◌, [], ◌^◌, add-one, All, ap, ap₂, arith, Bool, Bor, bytes_eq, cond, count_by, Decides, drop, eqb, Err, false}
-pub use Rattle.std.proofs.Common.{filter, flat_map, get_or, inl, inr, is_some, IsSome, IsTrue, length, List, map, nat_eq, nat_le, nat_lt, None, not, Ok, OnOk, Option, option_and_then, option_map}
-pub use Rattle.std.proofs.Common.{position, refl, replicate, Result, set, slice_get, Some, subst, suc, sum_by, sym, take, true, unwrap_or, zero, ◌||◌, ℕ, ◌∙◌, ◌∷◌, ◌≡◌, ◌≢◌, ◌≤◌, ◌⊎◌}
-pub use Rattle.std.proofs.lemmas.Bool.{and_from, and_parts, cases_Bool, cases_eq, cases_lt, cond-false, cond-true, eqb-true, false_from_ne_true}
-pub use Rattle.std.proofs.lemmas.Bool.{false≢true, le-leb, le-ltb, leb-false, leb-true, lt-leb, lt-ltb, or_left, or_parts, or_right, true≢false, eq-eqb, ne_eqb}
+pub use Rattle.std.proofs.Common.{◌%◌, ◌&&◌, ◌*◌, ◌+◌, ◌++◌, ◌-◌, ◌/◌, ◌<◌, ◌==◌, [], ◌^◌, add-one, All, ap, ap₂, arith, Bool, Bor, bytes_eq, cond, count_by, Decides, drop, eqb, Err, false, filter, flat_map, get_or, inl, inr, is_some}
+pub use Rattle.std.proofs.Common.{IsSome, IsTrue, length, List, map, nat_eq, nat_le, nat_lt, None, not, Ok, OnOk, Option, option_and_then, option_map, position, refl, replicate, Result, set, slice_get, Some, subst, suc, sum_by, sym, take}
+pub use Rattle.std.proofs.Common.{true, unwrap_or, zero, ◌||◌, ℕ, ◌∙◌, ◌∷◌, ◌≡◌, ◌≢◌, ◌≤◌, ◌⊎◌}
+pub use Rattle.std.proofs.lemmas.Bool.{and_from, and_parts, cases_Bool, cases_eq, cases_lt, cond-false, cond-true, eqb-true, false_from_ne_true, false≢true, le-leb, le-ltb, leb-false, leb-true, lt-leb, lt-ltb, or_left, or_parts, or_right}
+pub use Rattle.std.proofs.lemmas.Bool.{true≢false, eq-eqb, ne_eqb}
 pub use Rattle.std.proofs.lemmas.Bool.Decides.{Decides-eqb, Decides-like, Decides-ltb, Decides-or, nat_tests, same_from_decides}
 pub use Rattle.std.proofs.lemmas.List.{append-nil, append_assoc, drop-drop, drop_all, drop_more, ext_get_or, get_or-append_right, get_or-replicate, get_or-set_other, get_or-set_same, get_or-take, get_or_append_left, get_or_past}
 pub use Rattle.std.proofs.lemmas.List.{length-append, length-drop, length-map, length-replicate, length-set, length-take-le, length_push, map-append, set-set, set_comm, take-append-drop, take_all, take_at, take_rest}
@@ -29,7 +29,7 @@ pub use Rattle.imagerules.proofs.Read.{byte-located, count-located, kind-located
 pub use Rattle.imagerules.proofs.Uses.{All-numbers, HasAddresses-from}
 pub use Rattle.imagerules.specs.Content.{image_of}
 pub use Rattle.imagerules.specs.Marks.{IsOnce}
-pub use Rattle.layout.proofs.Frame.{at_or, get_or-bytes_of, get_or-nodes_of, length-bytes_of, length-nodes_of, node_at-none, node_at-some}
+pub use Rattle.layout.proofs.GrowLemmas.{at_or, get_or-bytes_of, get_or-nodes_of, length-bytes_of, length-nodes_of, node_at-none, node_at-some}
 pub use Rattle.layout.specs.Image.{asked_slot, Asks, holder_of, in_record, index_for, IsInode, IsSpare, IsUsed, node_with, RawNode, slots, taken_for}
 unfoldable pub use Rattle.layout.specs.Image.{bit_in, byte_of, bytes_of, node_at, slot_of}
 pub use Rattle.layout.specs.Sound.{HasParts, IsNamed, IsSound}

@@ -1,7 +1,7 @@
 -- Where a byte of a file stands, as its record tells it.
-use Rattle.inode.proofs.Common.{◌≡◌, ℕ, ◌+◌, ◌-◌, ◌*◌, ◌/◌, ◌%◌, ◌^◌, ◌<◌, ◌≤◌, false, true, List, drop, length, get_or, min, set, ap, sym, subst, ◌∙◌, arith, refl, get_or-drop, nat_tests, block_at, part, splice, little_number}
-use Rattle.inode.proofs.Common.{number_at, inode_at, inode_of, Asks, Geometry, HasIndex, HasInode, IsInode, IsSound, Fits, LiesInBlock, Prepares, WritesAt, WritesInode, Wrote, HasParts, HasParts-kept, take_all, blocks_for, bytes_of}
-use Rattle.inode.proofs.Common.{single, slot_in, length-bytes_of}
+use Rattle.inode.proofs.Common.{◌≡◌, ℕ, ◌+◌, ◌-◌, ◌*◌, ◌/◌, ◌%◌, ◌^◌, ◌<◌, ◌≤◌, false, true, List, drop, length, get_or, min, set, ap, sym, subst, ◌∙◌, arith, refl, get_or-drop, nat_tests, block_at, part, splice, little_number, number_at}
+use Rattle.inode.proofs.Common.{inode_at, inode_of, Asks, Geometry, HasIndex, HasInode, IsInode, IsSound, Fits, LiesInBlock, Prepares, WritesAt, WritesInode, Wrote, HasParts, HasParts-kept, take_all, blocks_for, bytes_of, single, slot_in}
+use Rattle.inode.proofs.Common.{length-bytes_of}
 use Rattle.std.proofs.lemmas.List.{drop-drop}
 use Rattle.byteorder.specs.Numbers.{little_from-lt}
 use Rattle.inode.specs.Finding.{IsFound}
@@ -11,7 +11,7 @@ use Rattle.inode.proofs.Filling.{inside_kept, inside_prepared}
 use Rattle.inode.proofs.Wrote.{Puts-record}
 use Rattle.inode.proofs.Growing.{own_fits, own_length}
 use Rattle.inode.proofs.Reading.{HasInode-read, block-bytes, found_in, found_own, holder_lies, slot_in_disk, slot_in_hand}
-use Rattle.layout.proofs.NumberLemmas.{get_or-numbers_in, length-numbers_in, number_at-fits}
+use Rattle.layout.proofs.ReadsBack.{get_or-numbers_in, length-numbers_in, number_at-fits}
 use Rattle.unixmodel.specs.Formats.{Format, format}
 use Rattle.unixmodel.specs.Slots as place
 

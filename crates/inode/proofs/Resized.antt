@@ -1,10 +1,11 @@
 -- The size of a record is written, and nothing else of it.
-use Rattle.inode.proofs.Common.{◌≡◌, ℕ, ◌+◌, ◌-◌, ◌*◌, ◌/◌, ◌%◌, ◌^◌, ◌<◌, ◌≤◌, ◌⊎◌, List, [], length, take, drop, set, ap, sym, ◌∙◌, arith, inl, inr, refl, ext_get_or, block_at, little_bytes, little_number, part, splice}
-use Rattle.inode.proofs.Common.{part-splice_apart, part-splice_same, Geometry, HasParts, WritesInode, inode_at, inode_of}
+use Rattle.inode.proofs.Common.{◌≡◌, ℕ, ◌+◌, ◌-◌, ◌*◌, ◌/◌, ◌%◌, ◌^◌, ◌<◌, ◌≤◌, ◌⊎◌, List, [], length, take, drop, set, ap, sym, ◌∙◌, arith, inl, inr, refl, ext_get_or, block_at, little_bytes, little_number, part, splice, part-splice_apart}
+use Rattle.inode.proofs.Common.{part-splice_same, Geometry, HasParts, WritesInode, inode_at, inode_of}
 use Rattle.std.proofs.lemmas.List.{append-nil, drop-drop, drop-take}
 use Rattle.byteorder.specs.Numbers.{little_from-take, little_number-reads_back}
 use Rattle.layout.proofs.GrowLemmas.{WritesInode-part}
-use Rattle.layout.proofs.NumberLemmas.{get_or-numbers_in, length-numbers_in, same_inode}
+use Rattle.layout.proofs.ReadsBack.{get_or-numbers_in, length-numbers_in}
+use Rattle.layout.proofs.NumberLemmas.{same_inode}
 use Rattle.layout.specs.Numbers.{numbers_in}
 
 -- a number of a record, by its place in the block

@@ -6,8 +6,8 @@ pub use Rattle.std.proofs.lemmas.Bool.Decides.{nat_tests}
 pub use Rattle.std.proofs.lemmas.List.{append-nil, drop-drop, drop-replicate, drop-take, ext_get_or, get_or-drop, get_or-replicate, get_or-set_other, get_or-set_same, get_or_past, length-drop, length-replicate, length-set}
 pub use Rattle.std.proofs.lemmas.List.FromFn.{fill_by_all, get_or-map-range_with_len, length-map-range_with_len}
 pub use Rattle.std.proofs.lemmas.Slice.{between_to_end}
-pub use Rattle.std.specs.Prelude.{◌==◌, Bool, false, if◌then◌else◌, map, nat_lt, None, Option, Some, true, ◌||◌, ◌↔◌, ◌≢◌, ◌⊎◌}
-pub use Rattle.blockdev.proofs.SpliceLemmas.{length-splice, part-splice_apart, part-splice_same}
+pub use Rattle.std.specs.Prelude.{◌==◌, Bool, false, if◌then◌else◌, map, nat_lt, None, Some, true, ◌||◌, ◌↔◌, ◌≢◌, ◌⊎◌}
+pub use Rattle.blockdev.proofs.SpliceLemmas.{Blocks, length-splice, part-splice_apart, part-splice_same}
 pub use Rattle.blockdev.specs.Blocks.{AreBlocks, block_at}
 pub use Rattle.blockdev.specs.Splice.{part, splice}
 pub use Rattle.byteorder.specs.Endian.{little_bytes, little_number}
@@ -16,7 +16,7 @@ pub use Rattle.unixmodel.specs.Files.{longest}
 pub use Rattle.unixmodel.specs.Formats.{Format, format, index_blocks}
 pub use Rattle.layout.specs.Entries.{entry_bytes, entry_of, EntryFits}
 pub use Rattle.layout.specs.Grow.{Grows, HoldsBytes, WritesInode}
-pub use Rattle.layout.specs.Image.{bit_of, blocks_for, index_for, inode_at, IsFree, IsInode, IsUsed, node_with, number_in, RawNode, taken_for}
+pub use Rattle.layout.specs.Image.{bit_of, blocks_for, index_for, inode_at, IsFree, IsInode, IsUsed, node_with, taken_for}
 unfoldable pub use Rattle.layout.specs.Image.{bit_in, byte_of, bytes_of, node_at, nodes_of, slot_in, slot_of}
 pub use Rattle.layout.specs.Inode.{Fits, inode_bytes, inode_of}
 pub use Rattle.layout.specs.Numbers.{number_at, spelled}
