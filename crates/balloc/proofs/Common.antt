@@ -10,7 +10,7 @@ pub use Rattle.std.specs.Prelude.{◌==◌, count_by, find, nat_le}
 pub use Rattle.blockdev.proofs.SpliceLemmas.{get_or-part, get_or-splice_after, get_or-splice_before, get_or-splice_inside, length-splice}
 pub use Rattle.blockdev.specs.Blocks.{block_at}
 pub use Rattle.blockdev.specs.Splice.{part, splice}
-pub use Rattle.cache.proofs.Ending.{goes-after, goes-stays, read-done, step-done, step-failed, step-last}
+pub use Rattle.cache.proofs.Using.{goes-after, goes-stays, read-done, step-done, step-failed, step-last}
 pub use Rattle.cache.specs.Steps.{Goes}
 pub use Rattle.layout.proofs.GrowLemmas.{at_or, get_or-nodes_of, IsSound-replace, KeepsOthers, length-nodes_of, node_at-none, nodes_of-changed, set_from, Grows-keeps, Grows-node, Grows-sound, WritesInode-write, asks_none, Grows-empty}
 pub use Rattle.layout.proofs.GrowLemmas.{HoldsBytes-empty, zero_at, HasParts-kept, PutsBlock-write}

@@ -10,7 +10,7 @@ pub use Rattle.std.specs.List.{IsDistinct}
 pub use Rattle.std.specs.Map.{keys_of, lookup, lookup_entry, remove_entry, set_value}
 pub use Rattle.std.specs.Option.{option_copied, option_copied_mut, option_map, option_map_or, UnwrapsOrElse}
 pub use Rattle.std.specs.Result.{is_err, IsErrAnd}
-pub use Rattle.blockdev.proofs.SpliceLemmas.{length-splice, put_mid-splice}
+pub use Rattle.blockdev.proofs.SpliceLemmas.{Blocks, length-splice, put_mid-splice}
 pub use Rattle.blockdev.specs.Blocks.{AreBlocks, block_at}
 pub use Rattle.blockdev.specs.Splice.{part, splice}
 pub use Rattle.blockdev.specs.declared.DeviceFault.{DeviceFault}

@@ -1,31 +1,125 @@
 -- Equations on what a device and the blocks over it show.
-use Rattle.cache.proofs.Common.{◌≡◌, ◌≢◌, ℕ, ◌<◌, Bool, true, List, [], length, get_or, set, Result, Ok, Err, OnOk, OnErr, Option, Some, None, nat_eq, none-some, same_Some, refl, sym, ap, subst, ◌∙◌, arith, inl, inr}
-use Rattle.cache.proofs.Common.{option_map_or, lookup, set_value, length-set, get_or-set_same, get_or-set_other, ext_get_or, cases_eq, promoted, AreBlocks, block_at, Slot, AreKept, IsKept, kept_or, overlay}
+use Rattle.cache.proofs.Common.{◌≡◌, ◌≢◌, ◌⊎◌, ℕ, zero, suc, ◌-◌, ◌≤◌, cond, List, [], ◌∷◌, length, take, slice_get, Option, Some, None, nat_eq, ap, sym, ◌∙◌, refl, arith, inl, inr, lookup, lookup_entry, remove_entry, set_value, Blocks}
+use Rattle.cache.proofs.Common.{option_map_or, cases_eq, eq-eqb, ne_eqb, promoted, put_entries, LruCache, ◌<◌, Bool, true, get_or, set, Result, Ok, Err, OnOk, OnErr, none-some, same_Some, subst, length-set, get_or-set_same}
+use Rattle.cache.proofs.Common.{get_or-set_other, ext_get_or, AreBlocks, block_at, Slot, AreKept, IsKept, kept_or, overlay, ◌++◌, IsDistinct, keys_of, nat_eq_equiv, append_assoc, length-append, take_all, none_past_head, IsValid, lru_cache}
+use Rattle.cache.proofs.Common.{false, ◌&&◌, ◌||◌, min, nat_le, cases_lt, and_from, and_parts, false_from_ne_true, le-leb, leb-true, is_due, lower, next_of, scan, ◌+◌, ◌^◌, Fits, w64, or_parts, AreFlushed, cleaned}
 use Rattle.std.proofs.lemmas.List.FromFn.{length-map-range_with_len, get_or-map-range_with_len}
-use Rattle.cache.proofs.Entries.{lookup-promoted, lookup-set_other, lookup-set_same}
+use Rattle.std.proofs.lemmas.Map.{lookup-none}
+use Rattle.std.proofs.lemmas.Map.Keys.{IsDistinct-tail}
 
-pub held-some : (es : List (ℕ × Slot)) (c : List (List ℕ)) (k : ℕ) (s : Slot) → lookup (nat_eq k) es ≡ Some s → kept_or es c k ≡ s.bytes
-held-some es c k s h = ap (λ o. option_map_or (λ (s : Slot). s.bytes) o (block_at c k)) h
+-- what a map holds, by numbers; and the bytes of a block that may be held
+abbrev pub Entries : Type 0
+Entries = List (ℕ × Slot)
 
-pub held-none : (es : List (ℕ × Slot)) (c : List (List ℕ)) (k : ℕ) → lookup (nat_eq k) es ≡ None → kept_or es c k ≡ block_at c k
-held-none es c k h = ap (λ o. option_map_or (λ (s : Slot). s.bytes) o (block_at c k)) h
+abbrev pub bytes_or : Option Slot → List ℕ → List ℕ
+bytes_or o block = option_map_or (λ (s : Slot). s.bytes) o block
 
-pub length-overlay : (es : List (ℕ × Slot)) (c : List (List ℕ)) → length (overlay es c) ≡ length c
+-- ---- what a look-up finds in the entries of a map after a use, a new value and a new entry
+
+module _ {V : Type 0} where
+  pub lookup-here : (e : ℕ × V) (es : List (ℕ × V)) (k : ℕ) → k ≡ e.0 → lookup (nat_eq k) (e ∷ es) ≡ Some e.1
+  lookup-here e es k h = ap (λ b. cond b (Some e.1) (lookup (nat_eq k) es)) (eq-eqb k e.0 h)
+
+  pub lookup-later : (e : ℕ × V) (es : List (ℕ × V)) (k : ℕ) → k ≢ e.0 → lookup (nat_eq k) (e ∷ es) ≡ lookup (nat_eq k) es
+  lookup-later e es k h = ap (λ b. cond b (Some e.1) (lookup (nat_eq k) es)) (ne_eqb k e.0 h)
+
+  lookup-remove : (es : List (ℕ × V)) (n k : ℕ) → k ≢ n → lookup (nat_eq k) (remove_entry (nat_eq n) es) ≡ lookup (nat_eq k) es
+  lookup-remove [] n k h = refl
+  lookup-remove (e ∷ es) n k h = elim (cases_eq n e.0) [
+    | inl here ↦ rw (eq-eqb n e.0 here, ne_eqb k e.0 (λ z. h (z ∙ sym here))) refl
+    | inr other ↦ rw (ne_eqb n e.0 other) (ap (cond (nat_eq k e.0) (Some e.1)) (lookup-remove es n k h))
+  ]
+
+  found : (es : List (ℕ × V)) (n : ℕ) (e : ℕ × V) → lookup_entry (nat_eq n) es ≡ Some e → (n ≡ e.0) × (lookup (nat_eq n) es ≡ Some e.1)
+  found [] n e h = absurd cc
+  found (d ∷ es) n e h = elim (cases_eq n d.0) [
+    | inl here ↦
+        let first : Some d ≡ Some e = sym (ap (λ b. cond b (Some d) (lookup_entry (nat_eq n) es)) (eq-eqb n d.0 here)) ∙ h in
+        let same : d ≡ e = cc in
+        (here ∙ ap (λ (x : ℕ × V). x.0) same, lookup-here d es n here ∙ ap (λ (x : ℕ × V). Some x.1) same)
+    | inr other ↦
+        let rest = found es n e (sym (ap (λ b. cond b (Some d) (lookup_entry (nat_eq n) es)) (ne_eqb n d.0 other)) ∙ h) in
+        (rest.0, lookup-later d es n other ∙ rest.1)
+  ]
+
+  -- a use changes the order alone
+  pub lookup-promoted : (es : List (ℕ × V)) (n k : ℕ) → lookup (nat_eq k) (promoted (nat_eq n) es) ≡ lookup (nat_eq k) es
+  lookup-promoted es n k = go (lookup_entry (nat_eq n) es) refl where
+    go : (o : Option (ℕ × V)) → lookup_entry (nat_eq n) es ≡ o → lookup (nat_eq k) (option_map_or (λ e. e ∷ remove_entry (nat_eq n) es) o es) ≡ lookup (nat_eq k) es
+    go None h = refl
+    go (Some e) h = let f = found es n e h in elim (cases_eq k n) [
+      | inl same ↦ ap (λ b. cond b (Some e.1) (lookup (nat_eq k) (remove_entry (nat_eq n) es))) (eq-eqb k e.0 (same ∙ f.0)) ∙ sym f.1 ∙ ap (λ q. lookup (nat_eq q) es) (sym same)
+      | inr other ↦ rw (ne_eqb k e.0 (λ z. other (z ∙ sym f.0))) (lookup-remove es n k other)
+    ]
+
+  -- a new value at n
+  pub lookup-set_same : (es : List (ℕ × V)) (n : ℕ) (v w : V) → lookup (nat_eq n) es ≡ Some v → lookup (nat_eq n) (set_value (nat_eq n) es w) ≡ Some w
+  lookup-set_same [] n v w h = absurd cc
+  lookup-set_same (e ∷ es) n v w h = elim (cases_eq n e.0) [
+    | inl here ↦ rw (eq-eqb n e.0 here) (lookup-here (e.0, w) es n here)
+    | inr other ↦ rw (ne_eqb n e.0 other) (lookup-later e (set_value (nat_eq n) es w) n other ∙ lookup-set_same es n v w (sym (lookup-later e es n other) ∙ h))
+  ]
+
+  pub lookup-set_other : (es : List (ℕ × V)) (n k : ℕ) (w : V) → k ≢ n → lookup (nat_eq k) (set_value (nat_eq n) es w) ≡ lookup (nat_eq k) es
+  lookup-set_other [] n k w h = refl
+  lookup-set_other (e ∷ es) n k w h = elim (cases_eq n e.0) [
+    | inl here ↦ rw (eq-eqb n e.0 here, ne_eqb k e.0 (λ z. h (z ∙ sym here))) refl
+    | inr other ↦ rw (ne_eqb n e.0 other) (ap (cond (nat_eq k e.0) (Some e.1)) (lookup-set_other es n k w h))
+  ]
+
+  entry-none : (es : List (ℕ × V)) (n : ℕ) → lookup (nat_eq n) es ≡ None → lookup_entry (nat_eq n) es ≡ None
+  entry-none [] n h = refl
+  entry-none (e ∷ es) n h = elim (cases_eq n e.0) [
+    | inl here ↦ let wrong : Some e.1 ≡ None = sym (lookup-here e es n here) ∙ h in absurd cc
+    | inr other ↦ rw (ne_eqb n e.0 other) (entry-none es n (sym (lookup-later e es n other) ∙ h))
+  ]
+
+  -- the last entry of a list, which has the number q, is cut off
+  abbrev pub IsCut : ℕ → List (ℕ × V) → ℕ → Type 0
+  IsCut n es q = (s : V) × (length es ≡ suc n) × (slice_get es n ≡ Some (q, s)) × (lookup (nat_eq q) es ≡ Some s)
+
+  pub lookup-cut : (n : ℕ) (es : List (ℕ × V)) (q : ℕ) → length es ≤ suc n → (lookup (nat_eq q) (take n es) ≡ lookup (nat_eq q) es) ⊎ ((lookup (nat_eq q) (take n es) ≡ None) × IsCut n es q)
+  lookup-cut zero [] q h = inl refl
+  lookup-cut (suc n) [] q h = inl refl
+  lookup-cut zero (e ∷ []) q h = elim (cases_eq q e.0) [
+    | inl here ↦ inr (refl, (e.1, refl, ap (λ k. Some (k, e.1)) (sym here), lookup-here e [] q here))
+    | inr other ↦ inl (sym (lookup-later e [] q other))
+  ]
+  lookup-cut zero (e ∷ f ∷ es) q h = absurd (omega arith)
+  lookup-cut (suc n) (e ∷ es) q h = elim (cases_eq q e.0) [
+    | inl here ↦ inl (lookup-here e (take n es) q here ∙ sym (lookup-here e es q here))
+    | inr other ↦ (elim (lookup-cut n es q (omega arith)) [
+      | inl same ↦ inl (lookup-later e (take n es) q other ∙ same ∙ sym (lookup-later e es q other))
+      | inr gone ↦ inr (lookup-later e (take n es) q other ∙ gone.0, (gone.1.0, ap suc gone.1.1, gone.1.2, lookup-later e es q other ∙ gone.1.3))
+    ])
+  ]
+
+  -- a new entry goes to the front
+  pub put-is : (c : LruCache ℕ V) (n : ℕ) (v : V) → lookup (nat_eq n) c.entries ≡ None → put_entries nat_eq c n v ≡ (n, v) ∷ take (c.cap - 1) c.entries
+  put-is c n v h = ap (λ o. option_map_or (λ e. (e.0, v) ∷ remove_entry (nat_eq n) c.entries) o ((n, v) ∷ take (c.cap - 1) c.entries)) (entry-none c.entries n h)
+
+pub held-some : (es : Entries) (c : Blocks) (k : ℕ) (s : Slot) → lookup (nat_eq k) es ≡ Some s → kept_or es c k ≡ s.bytes
+held-some es c k s h = ap (λ o. bytes_or o (block_at c k)) h
+
+pub held-none : (es : Entries) (c : Blocks) (k : ℕ) → lookup (nat_eq k) es ≡ None → kept_or es c k ≡ block_at c k
+held-none es c k h = ap (λ o. bytes_or o (block_at c k)) h
+
+pub length-overlay : (es : Entries) (c : Blocks) → length (overlay es c) ≡ length c
 unfolding overlay
 length-overlay es c = length-map-range_with_len (kept_or es c) 0 (length c)
 
-pub at-overlay : (es : List (ℕ × Slot)) (c : List (List ℕ)) (k : ℕ) → k < length c → block_at (overlay es c) k ≡ kept_or es c k
+pub at-overlay : (es : Entries) (c : Blocks) (k : ℕ) → k < length c → block_at (overlay es c) k ≡ kept_or es c k
 unfolding overlay
 at-overlay es c k h = get_or-map-range_with_len (kept_or es c) 0 (length c) k k [] h (omega arith)
 
-pub overlay-same : (es fs : List (ℕ × Slot)) (c d : List (List ℕ)) → length d ≡ length c → ((k : ℕ) → k < length c → kept_or fs d k ≡ kept_or es c k) → overlay fs d ≡ overlay es c
+pub overlay-same : (es fs : Entries) (c d : Blocks) → length d ≡ length c → ((k : ℕ) → k < length c → kept_or fs d k ≡ kept_or es c k) → overlay fs d ≡ overlay es c
 overlay-same es fs c d e same =
     ext_get_or [] (overlay fs d) (overlay es c) (length-overlay fs d ∙ e ∙ sym (length-overlay es c)) (λ k h.
     let low : k < length d = omega (arith, length-overlay fs d) in
     let low' : k < length c = omega arith in
     at-overlay fs d k low ∙ same k low' ∙ sym (at-overlay es c k low'))
 
-pub overlay-put : (es fs : List (ℕ × Slot)) (c d : List (List ℕ)) (n : ℕ) (b : List ℕ) → length d ≡ length c → n < length c → ((k : ℕ) → k < length c → k ≢ n → kept_or fs d k ≡ kept_or es c k) → kept_or fs d n ≡ b → overlay fs d ≡ set (overlay es c) n b
+pub overlay-put : (es fs : Entries) (c d : Blocks) (n : ℕ) (b : List ℕ) → length d ≡ length c → n < length c → ((k : ℕ) → k < length c → k ≢ n → kept_or fs d k ≡ kept_or es c k) → kept_or fs d n ≡ b → overlay fs d ≡ set (overlay es c) n b
 overlay-put es fs c d n b e m same here =
     ext_get_or [] (overlay fs d) (set (overlay es c) n b) (length-overlay fs d ∙ e ∙ sym (length-overlay es c) ∙ sym (length-set (overlay es c) n b)) (λ k h.
     let low : k < length d = omega (arith, length-overlay fs d) in
@@ -37,46 +131,46 @@ overlay-put es fs c d n b e m same here =
     ]))
 
 -- what is held is the device's
-pub overlay-is : (es : List (ℕ × Slot)) (c : List (List ℕ)) → ((k : ℕ) (s : Slot) → lookup (nat_eq k) es ≡ Some s → s.bytes ≡ block_at c k) → overlay es c ≡ c
+pub overlay-is : (es : Entries) (c : Blocks) → ((k : ℕ) (s : Slot) → lookup (nat_eq k) es ≡ Some s → s.bytes ≡ block_at c k) → overlay es c ≡ c
 overlay-is es c same =
     ext_get_or [] (overlay es c) c (length-overlay es c) (λ k h.
     at-overlay es c k (omega (arith, length-overlay es c)) ∙ go k (lookup (nat_eq k) es) refl) where
-      go : (k : ℕ) (o : Option Slot) → lookup (nat_eq k) es ≡ o → option_map_or (λ (s : Slot). s.bytes) o (block_at c k) ≡ block_at c k
+      go : (k : ℕ) (o : Option Slot) → lookup (nat_eq k) es ≡ o → bytes_or o (block_at c k) ≡ block_at c k
       go k None h = refl
       go k (Some s) h = same k s h
 
-pub overlay-nil : (c : List (List ℕ)) → overlay [] c ≡ c
+pub overlay-nil : (c : Blocks) → overlay [] c ≡ c
 overlay-nil c = overlay-is [] c (λ k s h. absurd cc)
 
-pub AreKept-nil : (c : List (List ℕ)) (d : Bool) → AreKept [] c d
+pub AreKept-nil : (c : Blocks) (d : Bool) → AreKept [] c d
 unfolding AreKept
 AreKept-nil c d k s h = absurd cc
 
-pub sizes-overlay : (es : List (ℕ × Slot)) (c : List (List ℕ)) (d : Bool) → AreKept es c d → AreBlocks c → AreBlocks (overlay es c)
+pub sizes-overlay : (es : Entries) (c : Blocks) (d : Bool) → AreKept es c d → AreBlocks c → AreBlocks (overlay es c)
 unfolding AreKept
 sizes-overlay es c d held sizes n h = ap length (at-overlay es c n low) ∙ go (lookup (nat_eq n) es) refl where
   low : n < length c
   low = omega (arith, length-overlay es c)
 
-  go : (o : Option Slot) → lookup (nat_eq n) es ≡ o → length (option_map_or (λ (s : Slot). s.bytes) o (block_at c n)) ≡ 1024
+  go : (o : Option Slot) → lookup (nat_eq n) es ≡ o → length (bytes_or o (block_at c n)) ≡ 1024
   go None e = sizes n low
   go (Some s) e = (held n s e).size
 
 -- a use
-pub overlay-promoted : (es : List (ℕ × Slot)) (c : List (List ℕ)) (n : ℕ) → overlay (promoted (nat_eq n) es) c ≡ overlay es c
-overlay-promoted es c n = overlay-same es (promoted (nat_eq n) es) c c refl (λ k h. ap (λ o. option_map_or (λ (s : Slot). s.bytes) o (block_at c k)) (lookup-promoted es n k))
+pub overlay-promoted : (es : Entries) (c : Blocks) (n : ℕ) → overlay (promoted (nat_eq n) es) c ≡ overlay es c
+overlay-promoted es c n = overlay-same es (promoted (nat_eq n) es) c c refl (λ k h. ap (λ o. bytes_or o (block_at c k)) (lookup-promoted es n k))
 
-pub AreKept-promoted : (es : List (ℕ × Slot)) (c : List (List ℕ)) (d : Bool) (n : ℕ) → AreKept es c d → AreKept (promoted (nat_eq n) es) c d
+pub AreKept-promoted : (es : Entries) (c : Blocks) (d : Bool) (n : ℕ) → AreKept es c d → AreKept (promoted (nat_eq n) es) c d
 unfolding AreKept
 AreKept-promoted es c d n held k s h = held k s (sym (lookup-promoted es n k) ∙ h)
 
 -- a new value at n
-pub overlay-set : (es : List (ℕ × Slot)) (c : List (List ℕ)) (n : ℕ) (v w : Slot) → lookup (nat_eq n) es ≡ Some v → n < length c → overlay (set_value (nat_eq n) es w) c ≡ set (overlay es c) n w.bytes
+pub overlay-set : (es : Entries) (c : Blocks) (n : ℕ) (v w : Slot) → lookup (nat_eq n) es ≡ Some v → n < length c → overlay (set_value (nat_eq n) es w) c ≡ set (overlay es c) n w.bytes
 overlay-set es c n v w h low = overlay-put es (set_value (nat_eq n) es w) c c n w.bytes refl low
-    (λ k _ other. ap (λ o. option_map_or (λ (s : Slot). s.bytes) o (block_at c k)) (lookup-set_other es n k w other))
+    (λ k _ other. ap (λ o. bytes_or o (block_at c k)) (lookup-set_other es n k w other))
     (held-some (set_value (nat_eq n) es w) c n w (lookup-set_same es n v w h))
 
-pub AreKept-set : (es : List (ℕ × Slot)) (c : List (List ℕ)) (d : Bool) (n : ℕ) (v w : Slot) → lookup (nat_eq n) es ≡ Some v → AreKept es c d → IsKept c d n w → AreKept (set_value (nat_eq n) es w) c d
+pub AreKept-set : (es : Entries) (c : Blocks) (d : Bool) (n : ℕ) (v w : Slot) → lookup (nat_eq n) es ≡ Some v → AreKept es c d → IsKept c d n w → AreKept (set_value (nat_eq n) es w) c d
 unfolding AreKept
 AreKept-set es c d n v w h held new k s e = elim (cases_eq k n) [
   | inl is ↦ let same : Some w ≡ Some s = sym (lookup-set_same es n v w h) ∙ ap (λ i. lookup (nat_eq i) (set_value (nat_eq n) es w)) (sym is) ∙ e in
@@ -85,25 +179,25 @@ AreKept-set es c d n v w h held new k s e = elim (cases_eq k n) [
 ]
 
 -- a held block is written to the device
-pub overlay-written : (es : List (ℕ × Slot)) (c : List (List ℕ)) (n : ℕ) (s : Slot) → lookup (nat_eq n) es ≡ Some s → overlay es (set c n s.bytes) ≡ overlay es c
+pub overlay-written : (es : Entries) (c : Blocks) (n : ℕ) (s : Slot) → lookup (nat_eq n) es ≡ Some s → overlay es (set c n s.bytes) ≡ overlay es c
 overlay-written es c n s h = overlay-same es es c (set c n s.bytes) (length-set c n s.bytes) (λ k low. elim (cases_eq k n) [
   | inl is ↦ let found : lookup (nat_eq k) es ≡ Some s = ap (λ i. lookup (nat_eq i) es) is ∙ h in
       held-some es (set c n s.bytes) k s found ∙ sym (held-some es c k s found)
-  | inr not ↦ ap (λ b. option_map_or (λ (s : Slot). s.bytes) (lookup (nat_eq k) es) b) (get_or-set_other c n k s.bytes [] not)
+  | inr not ↦ ap (λ b. bytes_or (lookup (nat_eq k) es) b) (get_or-set_other c n k s.bytes [] not)
 ])
 
 -- what is held at n, if anything is, is b
-abbrev pub IsHeldAs : List (ℕ × Slot) → ℕ → List ℕ → Type 0
+abbrev pub IsHeldAs : Entries → ℕ → List ℕ → Type 0
 IsHeldAs es n b = (s : Slot) → lookup (nat_eq n) es ≡ Some s → s.bytes ≡ b
 
-pub held-as : (es : List (ℕ × Slot)) (n : ℕ) (s : Slot) → lookup (nat_eq n) es ≡ Some s → IsHeldAs es n s.bytes
+pub held-as : (es : Entries) (n : ℕ) (s : Slot) → lookup (nat_eq n) es ≡ Some s → IsHeldAs es n s.bytes
 held-as es n s h t e = ap (λ (x : Slot). x.bytes) (same_Some t s (sym e ∙ h))
 
-pub unheld-as : (es : List (ℕ × Slot)) (n : ℕ) (b : List ℕ) → lookup (nat_eq n) es ≡ None → IsHeldAs es n b
+pub unheld-as : (es : Entries) (n : ℕ) (b : List ℕ) → lookup (nat_eq n) es ≡ None → IsHeldAs es n b
 unheld-as es n b h t e = absurd (none-some t (sym h ∙ e))
 
 -- it is written to the device
-pub AreKept-written : (es : List (ℕ × Slot)) (c : List (List ℕ)) (d : Bool) (n : ℕ) (b : List ℕ) → IsHeldAs es n b → AreKept es c d → AreKept es (set c n b) d
+pub AreKept-written : (es : Entries) (c : Blocks) (d : Bool) (n : ℕ) (b : List ℕ) → IsHeldAs es n b → AreKept es c d → AreKept es (set c n b) d
 unfolding AreKept
 AreKept-written es c d n b told held k t e =
     let was = held k t e in
@@ -117,24 +211,233 @@ AreKept-written es c d n b told held k t e =
     }
 
 -- a write failed
-pub AreKept-doubt : (es : List (ℕ × Slot)) (c : List (List ℕ)) (d : Bool) (new : List (List ℕ)) → length new ≡ length c → AreKept es c d → AreKept es new true
+pub AreKept-doubt : (es : Entries) (c : Blocks) (d : Bool) (new : Blocks) → length new ≡ length c → AreKept es c d → AreKept es new true
 unfolding AreKept
 AreKept-doubt es c d new e held k s h =
     let was = held k s h in
     record { inside = omega (arith, was.inside); size = was.size; clean = λ sure _. absurd cc }
 
 -- what the write of a held block leaves, whether it was done or not
-pub AreKept-tried : {E : Type 0} (es : List (ℕ × Slot)) (c new : List (List ℕ)) (d e : Bool) (n : ℕ) (b : List ℕ) (r : Result Unit E) → IsHeldAs es n b → AreKept es c d → length new ≡ length c
+pub AreKept-tried : {E : Type 0} (es : Entries) (c new : Blocks) (d e : Bool) (n : ℕ) (b : List ℕ) (r : Result Unit E) → IsHeldAs es n b → AreKept es c d → length new ≡ length c
     → OnOk r (new ≡ set c n b) → OnOk r (e ≡ d) → OnErr r (e ≡ true) → AreKept es new e
 AreKept-tried es c new d e n b (Ok x) told held count written kept doubt = subst (λ l. AreKept es l e) (sym written) (subst (AreKept es (set c n b)) (sym kept) (AreKept-written es c d n b told held))
 AreKept-tried es c new d e n b (Err x) told held count written kept doubt = subst (AreKept es new) (sym doubt) (AreKept-doubt es c d new count held)
 
-pub overlay-tried : {E : Type 0} (es : List (ℕ × Slot)) (c new : List (List ℕ)) (n : ℕ) (s : Slot) (r : Result Unit E) → lookup (nat_eq n) es ≡ Some s → OnOk r (new ≡ set c n s.bytes) → OnOk r (overlay es new ≡ overlay es c)
+pub overlay-tried : {E : Type 0} (es : Entries) (c new : Blocks) (n : ℕ) (s : Slot) (r : Result Unit E) → lookup (nat_eq n) es ≡ Some s → OnOk r (new ≡ set c n s.bytes) → OnOk r (overlay es new ≡ overlay es c)
 overlay-tried es c new n s (Ok x) h written = ap (overlay es) written ∙ overlay-written es c n s h
 overlay-tried es c new n s (Err x) h written = written
 
 -- a block that isn't held is written to the device
-pub overlay-other : (es : List (ℕ × Slot)) (c : List (List ℕ)) (n : ℕ) (b : List ℕ) → lookup (nat_eq n) es ≡ None → n < length c → overlay es (set c n b) ≡ set (overlay es c) n b
+pub overlay-other : (es : Entries) (c : Blocks) (n : ℕ) (b : List ℕ) → lookup (nat_eq n) es ≡ None → n < length c → overlay es (set c n b) ≡ set (overlay es c) n b
 overlay-other es c n b none low = overlay-put es es c (set c n b) n b (length-set c n b) low
-    (λ k _ not. ap (λ x. option_map_or (λ (s : Slot). s.bytes) (lookup (nat_eq k) es) x) (get_or-set_other c n k b [] not))
+    (λ k _ not. ap (λ x. bytes_or (lookup (nat_eq k) es) x) (get_or-set_other c n k b [] not))
     (held-none es (set c n b) n none ∙ get_or-set_same c n b [] low)
+
+-- ---- the blocks of a cache are put into another one, from the last used to the first
+
+-- the blocks of held that stand before rest are those of copy
+pub record IsHalf (held copy : LruCache ℕ Slot) (rest : Entries) : Type 0 where
+  pub joined : rest ++ copy.entries ≡ held.entries
+  pub cap : copy.cap ≡ held.cap
+
+absent : (rest done : Entries) (n : ℕ) (s : Slot) → IsDistinct nat_eq (keys_of (rest ++ (n, s) ∷ done)) → lookup (nat_eq n) done ≡ None
+absent [] done n s d = lookup-none (nat_eq n) done (none_past_head nat_eq_equiv n (n, s) done d (nat_eq_equiv.refl n))
+absent (e ∷ rest) done n s d = absent rest done n s (IsDistinct-tail nat_eq e.0 (keys_of (rest ++ (n, s) ∷ done)) d)
+
+-- one more
+pub more : (held copy new : LruCache ℕ Slot) (rest left : Entries) (n : ℕ) (s : Slot) → IsValid nat_eq held → IsHalf held copy rest → rest ≡ left ++ (n, s) ∷ []
+    → new ≡ record { entries = put_entries nat_eq copy n s; cap = copy.cap } → IsHalf held new left
+more held copy new rest left n s valid half is put =
+    let whole : left ++ (n, s) ∷ copy.entries ≡ held.entries =
+    sym (append_assoc left ((n, s) ∷ []) copy.entries) ∙ ap (λ l. l ++ copy.entries) (sym is) ∙ half.joined in
+    let apart = absent left copy.entries n s (subst (λ l. IsDistinct nat_eq (keys_of l)) (sym whole) valid.0) in
+    let room : length copy.entries ≤ copy.cap - 1 = omega (arith, half.cap, valid.1, ap length whole, length-append left ((n, s) ∷ copy.entries)) in
+    record {
+      joined = ap (λ (c : LruCache ℕ Slot). left ++ c.entries) put ∙ ap (λ l. left ++ l) (put-is copy n s apart ∙ ap (λ l. (n, s) ∷ l) (take_all (copy.cap - 1) copy.entries room)) ∙ whole;
+      cap = ap (λ (c : LruCache ℕ Slot). c.cap) put ∙ half.cap;
+    }
+
+-- all of them
+pub all : (held copy : LruCache ℕ Slot) (rest : Entries) → IsHalf held copy rest → rest ≡ [] → copy ≡ held
+all held copy rest half is =
+    let same : copy.entries ≡ held.entries = ap (λ l. l ++ copy.entries) (sym is) ∙ half.joined in
+    ap (λ es. lru_cache es copy.cap) same ∙ ap (lru_cache held.entries) half.cap
+
+-- ---- what the search for the next block to write finds
+
+-- a number is there, and not above k
+abbrev pub IsAtMost : Option ℕ → ℕ → Type 0
+IsAtMost None k = ⊥
+IsAtMost (Some n) k = n ≤ k
+
+lower-at : (o : Option ℕ) (n : ℕ) → IsAtMost (lower o n) n
+lower-at None n = omega arith
+lower-at (Some m) n = omega arith
+
+step-keeps : (b : Bool) (o : Option ℕ) (n k : ℕ) → IsAtMost o k → IsAtMost (cond b (lower o n) o) k
+step-keeps false o n k h = h
+step-keeps true None n k h = absurd h
+step-keeps true (Some m) n k h = omega arith
+
+module _ (from : ℕ) (doubt : Bool) where
+  scan-keeps : (o : Option ℕ) (es : Entries) (k : ℕ) → IsAtMost o k → IsAtMost (scan from doubt o es) k
+  unfolding scan
+  scan-keeps o [] k h = h
+  scan-keeps o (e ∷ es) k h = scan-keeps (cond (is_due from doubt e) (lower o e.0) o) es k (step-keeps (is_due from doubt e) o e.0 k h)
+
+  -- a block that is due bounds the answer
+  pub scan-bounds : (o : Option ℕ) (es : Entries) (k : ℕ) (s : Slot) → lookup (nat_eq k) es ≡ Some s → is_due from doubt (k, s) ≡ true → IsAtMost (scan from doubt o es) k
+  unfolding scan
+  scan-bounds o [] k s h due = absurd cc
+  scan-bounds o (e ∷ es) k s h due = elim (cases_eq k e.0) [
+    | inl is ↦ let one : Some e.1 ≡ Some s = sym (lookup-here e es k is) ∙ h in
+        let value : s ≡ e.1 = cc in
+        let now : is_due from doubt e ≡ true = ap (λ t. is_due from doubt (e.0, t)) (sym value) ∙ ap (λ i. is_due from doubt (i, s)) (sym is) ∙ due in
+        scan-keeps (cond (is_due from doubt e) (lower o e.0) o) es k (rw now (subst (IsAtMost (lower o e.0)) (sym is) (lower-at o e.0)))
+    | inr not ↦ scan-bounds (cond (is_due from doubt e) (lower o e.0) o) es k s (sym (lookup-later e es k not) ∙ h) due
+  ]
+
+  abbrev pub IsFound : Entries → ℕ → Type 0
+  IsFound es n = (from ≤ n) × ((s : Slot) × (lookup (nat_eq n) es ≡ Some s))
+
+  due-from : (b c : Bool) (m : ℕ) → (nat_le from m && b) ≡ true → from ≤ m
+  due-from b c m h = leb-true from m (and_parts (nat_le from m) b h).0
+
+  step-found : (b : Bool) (o : Option ℕ) (m n : ℕ) → cond b (lower o m) o ≡ Some n → (o ≡ Some n) ⊎ ((b ≡ true) × (m ≡ n))
+  step-found false o m n h = inl h
+  step-found true None m n h = inr (refl, cc)
+  step-found true (Some j) m n h = let same : min j m ≡ n = cc in elim (cases_lt j m) [
+    | inl low ↦ inl (ap Some (omega arith))
+    | inr high ↦ inr (refl, omega arith)
+  ]
+
+  -- the answer is a held block's number
+  pub scan-found : (o : Option ℕ) (es : Entries) (n : ℕ) → scan from doubt o es ≡ Some n → (o ≡ Some n) ⊎ IsFound es n
+  unfolding scan
+  scan-found o [] n h = inl h
+  scan-found o (e ∷ es) n h = elim (scan-found (cond (is_due from doubt e) (lower o e.0) o) es n h) [
+    | inl step ↦ (elim (step-found (is_due from doubt e) o e.0 n step) [
+      | inl before ↦ inl before
+      | inr now ↦ inr (subst (λ i. from ≤ i) now.1 (due-from (e.1.changed || doubt) true e.0 now.0), (e.1, lookup-here e es n (sym now.1)))
+    ])
+    | inr later ↦ inr (later.0, (elim (cases_eq n e.0) [ inl is ↦ (e.1, lookup-here e es n is) | inr not ↦ (later.1.0, lookup-later e es n not ∙ later.1.1) ]))
+  ]
+
+pub found-of : (from : ℕ) (doubt : Bool) (es : Entries) (n : ℕ) → next_of from doubt es ≡ Some n → IsFound from doubt es n
+found-of from doubt es n h = elim (scan-found from doubt None es n h) [ inl wrong ↦ absurd cc | inr found ↦ found ]
+
+-- the device has a block that the search passed over
+pub settled : (from : ℕ) (doubt : Bool) (es : Entries) (k : ℕ) (s : Slot) → lookup (nat_eq k) es ≡ Some s → from ≤ k → (IsAtMost (next_of from doubt es) k → ⊥) → (s.changed || doubt) ≡ false
+settled from doubt es k s h late passed =
+    false_from_ne_true (s.changed || doubt) (λ due. passed (scan-bounds from doubt None es k s h (and_from (nat_le from k) (s.changed || doubt) (le-leb from k late) due)))
+
+-- ---- the held blocks are written in rising order of number
+
+-- the blocks stay as they were, and the device has those below a number
+pub record IsFlushing (es : Entries) (c : Blocks) (b : Bool) (blocks stored : Blocks) (to : ℕ) : Type 0 where
+  pub held : AreKept es c b
+  pub shows : overlay es c ≡ blocks
+  pub done : AreFlushed es c to
+  pub count : length c ≡ length stored
+
+pub flush-begins : {es : Entries} {c : Blocks} {b : Bool} {blocks stored : Blocks} → AreKept es c b → overlay es c ≡ blocks → c ≡ stored → IsFlushing es c b blocks stored 0
+unfolding AreFlushed
+flush-begins held shows is = record { held = held; shows = shows; done = λ k s h low. absurd (omega arith); count = ap length is }
+
+-- block n, which holds s, was written
+module _ (es : Entries) (c : Blocks) (b : Bool) (n : ℕ) (s : Slot) (h : lookup (nat_eq n) es ≡ Some s) (low : n < length c) where
+  abbrev es' : Entries
+  es' = set_value (nat_eq n) es (cleaned s)
+
+  abbrev c' : Blocks
+  c' = set c n s.bytes
+
+  here : lookup (nat_eq n) es' ≡ Some (cleaned s)
+  here = lookup-set_same es n s (cleaned s) h
+
+  wrote-held : AreKept es c b → AreKept es' c' b
+  unfolding AreKept
+  wrote-held held = AreKept-set es c' b n s (cleaned s) h (AreKept-written es c b n s.bytes (held-as es n s h) held) (record {
+    inside = subst (λ k. n < k) (sym (length-set c n s.bytes)) low;
+    size = (held n s h).size;
+    clean = λ _ _. sym (get_or-set_same c n s.bytes [] low);
+  })
+
+  wrote-shows : overlay es' c' ≡ overlay es c
+  wrote-shows = overlay-same es es' c c' (length-set c n s.bytes) (λ k _. elim (cases_eq k n) [
+    | inl is ↦ held-some es' c' k (cleaned s) (ap (λ i. lookup (nat_eq i) es') is ∙ here) ∙ sym (held-some es c k s (ap (λ i. lookup (nat_eq i) es) is ∙ h))
+    | inr not ↦ ap (λ o. bytes_or o (block_at c' k)) (lookup-set_other es n k (cleaned s) not)
+        ∙ ap (λ x. bytes_or (lookup (nat_eq k) es) x) (get_or-set_other c n k s.bytes [] not)
+  ])
+
+  wrote-done : (from : ℕ) → AreKept es c b → AreFlushed es c from → next_of from b es ≡ Some n → AreFlushed es' c' (n + 1)
+  unfolding AreFlushed AreKept
+  wrote-done from held done next k t e below = elim (cases_eq k n) [
+    | inl is ↦ let one : Some t ≡ Some (cleaned s) = sym e ∙ ap (λ i. lookup (nat_eq i) es') is ∙ here in
+        let value : t ≡ cleaned s = cc in
+        ap (λ (x : Slot). x.bytes) value ∙ sym (get_or-set_same c n s.bytes [] low) ∙ ap (λ i. get_or c' i []) (sym is)
+    | inr not ↦
+        let was : lookup (nat_eq k) es ≡ Some t = sym (lookup-set_other es n k (cleaned s) not) ∙ e in
+        (elim (cases_lt k from) [
+          | inl early ↦ done k t was early
+          | inr late ↦
+              let still : (t.changed || b) ≡ false = settled from b es k t was late (λ most. let m : n ≤ k = subst (λ o. IsAtMost o k) next most in not (omega arith)) in
+              (held k t was).clean (or_parts t.changed b still).1 (or_parts t.changed b still).0
+        ])
+        ∙ sym (get_or-set_other c n k s.bytes [] not)
+  ]
+
+module _ {es : Entries} {c : Blocks} {b : Bool} {blocks stored : Blocks} {from : ℕ} (f : IsFlushing es c b blocks stored from) where
+  module _ {n : ℕ} (next : next_of from b es ≡ Some n) where
+    pub low-next : n < length c
+    unfolding AreKept
+    low-next = let found = found-of from b es n next in (f.held n found.1.0 found.1.1).inside
+
+    pub flush-goes-on : {new : Entries} {d : Blocks} {e : Bool} → ((s : Slot) → lookup (nat_eq n) es ≡ Some s → d ≡ set c n s.bytes) → ((s : Slot) → lookup (nat_eq n) es ≡ Some s → new ≡ set_value (nat_eq n) es (cleaned s)) → e ≡ b
+        → IsFlushing new d e blocks stored (n + 1)
+    flush-goes-on wrote cleans kept =
+        let found = found-of from b es n next in
+        let s : Slot = found.1.0 in
+        let h : lookup (nat_eq n) es ≡ Some s = found.1.1 in
+        rw (kept, wrote s h, cleans s h) (record {
+          held = wrote-held es c b n s h low-next f.held;
+          shows = wrote-shows es c b n s h low-next ∙ f.shows;
+          done = wrote-done es c b n s h low-next from f.held f.done next;
+          count = length-set c n s.bytes ∙ f.count;
+        })
+
+    -- the number after the next one's
+    pub next-fits : length stored < 2 ^ 64 → Fits w64 (n + 1)
+    next-fits bound = omega (arith, low-next, f.count)
+
+    pub next-smaller : length stored - (n + 1) < length stored - from
+    next-smaller = omega (arith, low-next, (found-of from b es n next).0, f.count)
+
+  module _ (next : next_of from b es ≡ None) where
+    -- no block is left that the device may lack
+    all-flushed : (k : ℕ) (s : Slot) → lookup (nat_eq k) es ≡ Some s → s.bytes ≡ block_at c k
+    unfolding AreFlushed AreKept
+    all-flushed k t h = elim (cases_lt k from) [
+      | inl early ↦ f.done k t h early
+      | inr late ↦
+          let still : (t.changed || b) ≡ false = settled from b es k t h late (λ most. subst (λ o. IsAtMost o k) next most) in
+          (f.held k t h).clean (or_parts t.changed b still).1 (or_parts t.changed b still).0
+    ]
+
+    pub flushed-is : c ≡ blocks
+    flushed-is = sym (overlay-is es c all-flushed) ∙ f.shows
+
+    pub flushed-held : AreKept es c false
+    unfolding AreKept
+    flushed-held k s h = let was = f.held k s h in record { inside = was.inside; size = was.size; clean = λ _ _. all-flushed k s h }
+
+  pub flush-count : (fs : Entries) (d : Blocks) → length d ≡ length c → length (overlay fs d) ≡ length blocks
+  flush-count fs d count = length-overlay fs d ∙ count ∙ sym (length-overlay es c) ∙ ap length f.shows
+
+-- a write failed
+pub flush-fails : (l : LruCache ℕ Slot) {m : LruCache ℕ Slot} (c d : Blocks) {b : Bool} (e : Bool) {blocks stored : Blocks} {from : ℕ} → IsFlushing l.entries c b blocks stored from → m ≡ l → e ≡ true → length d ≡ length c → AreKept m.entries d e
+flush-fails l c d {b} e f same doubt count =
+    subst (λ (x : LruCache ℕ Slot). AreKept x.entries d e) (sym same) (subst (AreKept l.entries d) (sym doubt) (AreKept-doubt l.entries c b d count f.held))
+
+pub up : {a b c : ℕ} → a ≤ b → b ≤ c → a ≤ c
+up h k = omega arith

@@ -2,7 +2,7 @@
 use Rattle.imagemake.proofs.Common.{◌≡◌, ◌≢◌, ℕ, ◌+◌, ◌<◌, ◌≤◌, ◌∙◌, Err, [], None, Ok, Result, Some, length, ap, arith, inl, inr, refl, subst, sym, IsErrAnd, get_or-set_other, get_or-set_same, set-set, fresh, FileTree, IsNow, now-files}
 use Rattle.imagemake.proofs.Common.{now-limit, blocks_of-set, slot-within, taken_by, HasCause, Files, Node, free_slots, kind_of, put, slot, bare_directory, bare_files, Bytes, Folder, Special, LacksRoomFor, Puts, TellsFull, bare, major_of}
 use Rattle.imagemake.proofs.Common.{minor_of, StoreFault, blocks_of, Directory, Thing, is_err}
-use Rattle.cache.proofs.Ending.{rises-before}
+use Rattle.cache.proofs.Using.{rises-before}
 use Rattle.tree.specs.Steps.{IsUnnamed}
 use Rattle.tree.proofs.Taking.{fresh-blocks}
 use Rattle.imagemake.specs.declared.store.StoreFault.TheVariants.{Blocks, Device}

@@ -12,7 +12,7 @@ pub use Rattle.blockdev.proofs.SpliceLemmas.{get_or-part, length-part, part-spli
 pub use Rattle.blockdev.specs.Blocks.{AreBlocks, block_at}
 pub use Rattle.blockdev.specs.Splice.{part, splice}
 pub use Rattle.byteorder.specs.Endian.{little_bytes, little_number}
-pub use Rattle.cache.proofs.Ending.{goes-after, goes-stays, goes-twice, read-done, rises-before, step-done, step-failed, step-last}
+pub use Rattle.cache.proofs.Using.{goes-after, goes-stays, goes-twice, read-done, rises-before, step-done, step-failed, step-last}
 pub use Rattle.cache.specs.Disk.{Disk}
 pub use Rattle.cache.specs.Steps.{AsBefore, Goes, Reads, Steps}
 pub use Rattle.layout.proofs.GrowLemmas.{get_or-bytes_of, get_or-nodes_of, IsSound-replace, IsSoundAt, KeepsOthers, length-bytes_of, length-nodes_of, node_at-none, node_at-some, nodes_of-changed, Grows-bytes, Grows-keeps, Grows-node}

@@ -1,11 +1,11 @@
 -- The names that the lemmas of this crate import from elsewhere, passed on from one place. Declares nothing.
-pub use Rattle.std.proofs.Common.{◌%◌, ◌*◌, ◌+◌, ◌++◌, ◌-◌, ◌/◌, ◌<◌, [], ap, arith, below_more, below_none, Bool, cond, drop, Err, false, get_or, inl, inr, le_refl, length, List}
-pub use Rattle.std.proofs.Common.{map, min, None, not, Ok, OnOk, Option, refl, replicate, Result, set, Some, subst, suc, sym, take, true, zero, ℕ, ◌∙◌, ◌∷◌, ◌≡◌, ◌≢◌, ◌≤◌, ◌⊎◌}
-pub use Rattle.std.proofs.lemmas.Bool.{and_from, and_left, and_parts, and_right, cases_eq, cases_lt, cond-false, cond-true, eq-eqb, false≢true, le-leb}
-pub use Rattle.std.proofs.lemmas.Bool.{le-ltb, leb-false, leb-true, lt-leb, lt-ltb, ltb-true, ne_eqb, not-true, or_from, or_left, or_parts, or_right}
+pub use Rattle.std.proofs.Common.{◌%◌, ◌*◌, ◌+◌, ◌++◌, ◌-◌, ◌/◌, ◌<◌, [], ap, arith, below_more, below_none, Bool, cond, drop, Err, false, get_or, inl, inr, le_refl, length, List, map, min, None, not, Ok, OnOk, Option, refl, replicate}
+pub use Rattle.std.proofs.Common.{Result, set, Some, subst, suc, sym, take, true, zero, ℕ, ◌∙◌, ◌∷◌, ◌≡◌, ◌≢◌, ◌≤◌, ◌⊎◌}
+pub use Rattle.std.proofs.lemmas.Bool.{and_from, and_left, and_parts, and_right, cases_eq, cases_lt, cond-false, cond-true, eq-eqb, false≢true, le-leb, le-ltb, leb-false, leb-true, lt-leb, lt-ltb, ltb-true, ne_eqb, not-true, or_from}
+pub use Rattle.std.proofs.lemmas.Bool.{or_left, or_parts, or_right}
 pub use Rattle.std.proofs.lemmas.Grind.{get_or_default_zero}
-pub use Rattle.std.proofs.lemmas.List.{append-nil, append_assoc, drop-drop, drop-take, drop_all, ext_get_or, get_or-drop, get_or-set_other, get_or-set_same, get_or_past}
-pub use Rattle.std.proofs.lemmas.List.{length-append, length-drop, length-map, length-set, length-take, length-take-le, set-set, take-take, take_all, take_rest}
+pub use Rattle.std.proofs.lemmas.List.{append-nil, append_assoc, drop-drop, drop-take, drop_all, ext_get_or, get_or-drop, get_or-set_other, get_or-set_same, get_or_past, length-append, length-drop, length-map, length-set, length-take}
+pub use Rattle.std.proofs.lemmas.List.{length-take-le, set-set, take-take, take_all, take_rest}
 pub use Rattle.std.proofs.lemmas.List.Elements.{All-append, All-cons, All-head, All-nil, All-set, All-tail}
 pub use Rattle.std.proofs.lemmas.List.Quantifiers.{position-Some}
 pub use Rattle.std.proofs.lemmas.List.Sums.{position_or_len_is, sum_by-cons, sum_by-set}
@@ -16,7 +16,7 @@ pub use Rattle.std.specs.Prelude.{◌&&◌, ◌==◌, All, filter, flat_map, IfE
 pub use Rattle.std.specs.Result.{is_err, IsErrAnd}
 pub use Rattle.blockdev.specs.Splice.{part, splice}
 pub use Rattle.blockdev.specs.declared.DeviceFault.{DeviceFault}
-pub use Rattle.cache.proofs.Ending.{rises-before}
+pub use Rattle.cache.proofs.Using.{rises-before}
 pub use Rattle.imagerules.proofs.Spelling.{length-place_bytes, length-spelling, places_in-back, slot-places_in}
 pub use Rattle.imagerules.specs.Places.{IsPlain, place_of_bytes, PlaceFits}
 pub use Rattle.inode.specs.Store.{Changes, Follows, IsFull, IsLaidOut, IsLowestFree, IsNode, Keeps, LacksWriting, Looks, raw_at, Store, TakesLowest, used_by, Writes}

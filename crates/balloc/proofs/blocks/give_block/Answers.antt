@@ -1,6 +1,6 @@
 use Rattle.balloc.proofs.Counting.{free_blocks-give}
 use Rattle.balloc.proofs.Bits.{SetsBit-byte}
-use Rattle.cache.proofs.Ending.{goes-stays, step-failed, step-last}
+use Rattle.cache.proofs.Using.{goes-stays, step-failed, step-last}
 use Rattle.balloc.proofs.blocks.give_block.Goals as goal
 
 pub returns-in_err-read_part : goal.returns-in_err-read_part

@@ -1,5 +1,5 @@
 use Rattle.balloc.proofs.Bits.{SetsBit-byte}
-use Rattle.cache.proofs.Ending.{goes-stays, step-failed, step-last}
+use Rattle.cache.proofs.Using.{goes-stays, step-failed, step-last}
 use Rattle.balloc.proofs.blocks.mark.Goals as goal
 
 pub returns-in_err-read_part : goal.returns-in_err-read_part

@@ -1,5 +1,5 @@
 use Rattle.balloc.proofs.Records.{recorded_given}
-use Rattle.cache.proofs.Ending.{goes-stays, step-last}
+use Rattle.cache.proofs.Using.{goes-stays, step-last}
 use Rattle.balloc.proofs.inodes.give_inode.Goals as goal
 
 pub returns : goal.returns

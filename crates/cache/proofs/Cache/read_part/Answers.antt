@@ -1,6 +1,5 @@
 use Rattle.std.proofs.Common.{length, refl}
-use Rattle.cache.proofs.Ending.{goes-stays, read-done}
-use Rattle.cache.proofs.Using.{blocks-are, hit, parted}
+use Rattle.cache.proofs.Using.{goes-stays, read-done, blocks-are, hit, parted}
 use Rattle.cache.proofs.Cache.read_part.Goals as goal
 
 pub returns-in-Some : goal.returns-in-Some

@@ -1,6 +1,5 @@
 use Rattle.std.proofs.Common.{length}
-use Rattle.cache.proofs.Ending.{goes-stays, read-done, step-failed}
-use Rattle.cache.proofs.Using.{parted}
+use Rattle.cache.proofs.Using.{goes-stays, read-done, step-failed, parted}
 use Rattle.cache.proofs.Cache.read_unheld.Goals as goal
 
 pub returns-in_err-block : goal.returns-in_err-block

@@ -1,8 +1,6 @@
 use Rattle.std.proofs.Common.{◌∙◌, arith, refl}
-use Rattle.cache.proofs.Ending.{goes-after, goes-stays, step-done, step-failed, step-last}
-use Rattle.cache.proofs.Seeing.{goes-seen, last-seen}
+use Rattle.cache.proofs.Using.{goes-after, goes-stays, step-done, step-failed, step-last, goes-seen, last-seen, blocks-are, got-mut, hit-held, hit-shows, low-shown, refused-shows}
 use Rattle.cache.proofs.Overlays.{AreKept-tried, unheld-as}
-use Rattle.cache.proofs.Using.{blocks-are, got-mut, hit-held, hit-shows, low-shown, refused-shows}
 use Rattle.cache.proofs.Cache.write_unheld.Goals as goal
 
 pub invariant_of-self : goal.invariant_of-self

@@ -1,4 +1,4 @@
-use Rattle.cache.proofs.Ending.{goes-after, goes-stays, step-failed, step-last}
+use Rattle.cache.proofs.Using.{goes-after, goes-stays, step-failed, step-last}
 use Rattle.balloc.proofs.Records.{fresh_fits}
 use Rattle.inode.proofs.Emptying.{Wrote-empty}
 use Rattle.inode.proofs.Reading.{HasInode-read, IsInHand-read}

@@ -1,4 +1,4 @@
-use Rattle.cache.proofs.Ending.{read-done}
+use Rattle.cache.proofs.Using.{read-done}
 use Rattle.inode.proofs.Reading.{told-inode}
 use Rattle.inode.proofs.read.stat.Goals as goal
 

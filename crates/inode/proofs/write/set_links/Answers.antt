@@ -1,4 +1,4 @@
-use Rattle.cache.proofs.Ending.{goes-stays, step-failed, step-last}
+use Rattle.cache.proofs.Using.{goes-stays, step-failed, step-last}
 use Rattle.inode.proofs.Filling.{linked}
 use Rattle.inode.proofs.Reading.{HasInode-read}
 use Rattle.inode.proofs.write.set_links.Goals as goal
