@@ -1,5 +1,5 @@
 use Rattle.balloc.proofs.Common.{◌≡◌, ◌+◌, ◌-◌, ◌≤◌, data_start_of, free_blocks, Goes}
-use Rattle.balloc.proofs.Enough.{free_from}
+use Rattle.balloc.proofs.Counting.{free_from}
 use Rattle.balloc.proofs.blocks.has_blocks.Given as goal
 
 abbrev pub invariant-search : goal.invariant-search

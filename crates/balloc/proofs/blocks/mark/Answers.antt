@@ -1,4 +1,4 @@
-use Rattle.balloc.proofs.Bits.{SetsBit-byte}
+use Rattle.balloc.proofs.Clearing.{SetsBit-byte}
 use Rattle.cache.proofs.Using.{goes-stays, step-failed, step-last}
 use Rattle.balloc.proofs.blocks.mark.Goals as goal
 
@@ -7,5 +7,4 @@ returns-in_err-read_part g c = step-failed goes-stays c.read_part.ensures c.in_e
 
 pub returns : goal.returns
 returns g c = step-last c.read_part.ensures.goes (λ _ written.
-    SetsBit-byte c.args.geometry c.args.disk.now.blocks c.read_part.new.self.blocks c.write.new.self.blocks c.bitmap_start.result c.args.b c.read_part.new.out c.with_bit-byte.result 1
-    c.requires.parts c.bitmap_start.ensures c.requires.high c.in_ok-read_part.ensures.done.same c.in_ok-read_part.ensures.done.told c.with_bit-byte.ensures.here c.with_bit-byte.ensures.others written) c.write.ensures
+    SetsBit-byte c.with_bit-byte.result c.requires.parts c.bitmap_start.ensures c.requires.high c.in_ok-read_part.ensures.done.same c.in_ok-read_part.ensures.done.told c.with_bit-byte.ensures.here c.with_bit-byte.ensures.others written) c.write.ensures

@@ -9,8 +9,8 @@ pub block-preserved : goal.block-preserved
 block-preserved g c =
     let high : c.block.k < c.args.geometry.size = omega (arith, c.block-test.true, c.data_start-end.ensures, c.requires.room) in
     record {
-      parts = HasParts-write c.args.geometry c.block.disk.blocks c.write.new.self.blocks c.block.k (replicate 1024 0) c.block.invariant.parts high (omega arith) c.in_ok-write.ensures.done;
-      cleared = Cleared-more c.args.geometry c.block.disk.blocks c.write.new.self.blocks c.block.k (replicate 1024 0) c.block.invariant.parts c.block.invariant.cleared high refl c.in_ok-write.ensures.done;
+      parts = HasParts-write c.block.k (replicate 1024 0) c.block.invariant.parts high (omega arith) c.in_ok-write.ensures.done;
+      cleared = Cleared-more c.block.k (replicate 1024 0) c.block.invariant.parts c.block.invariant.cleared high refl c.in_ok-write.ensures.done;
       goes = goes-after c.block.invariant.goes c.write.ensures.goes;
       within = omega (arith, c.block-test.true);
     }

@@ -10,13 +10,13 @@ returns-in_err-write g c = step-failed c.clear.ensures.goes c.write.ensures c.in
 
 pub mark_front-requires : goal.mark_front-requires
 mark_front-requires g c = record {
-  parts = HasParts-write c.args.geometry c.clear.new.disk.blocks c.write.new.self.blocks 1 c.to_bytes-head.result c.in_ok-clear.ensures.done.0 (omega (arith, c.requires.size)) (omega arith) c.in_ok-write.ensures.done;
+  parts = HasParts-write 1 c.to_bytes-head.result c.in_ok-clear.ensures.done.0 (omega (arith, c.requires.size)) (omega arith) c.in_ok-write.ensures.done;
   clear = λ b h.
-      written_bits c.args.geometry c.clear.new.disk.blocks c.write.new.self.blocks c.to_bytes-head.result c.in_ok-clear.ensures.done.0 c.requires.size c.in_ok-clear.ensures.done.1
+      written_bits c.in_ok-clear.ensures.done.0 c.requires.size c.in_ok-clear.ensures.done.1
       (c.to_bytes-head.ensures.bytes ∙ ap super_bytes c.super_block.ensures) c.in_ok-write.ensures.done b h;
 }
 
 pub returns : goal.returns
 returns g c = step-last (goes-after c.clear.ensures.goes c.write.ensures.goes) (λ _ front.
-    new_system c.args.geometry c.clear.new.disk.blocks c.write.new.self.blocks c.to_bytes-head.result c.in_ok-clear.ensures.done.0 c.requires.size c.in_ok-clear.ensures.done.1
-    (c.to_bytes-head.ensures.bytes ∙ ap super_bytes c.super_block.ensures) c.in_ok-write.ensures.done c.mark_front.new.disk.blocks front) c.mark_front.ensures
+    new_system c.in_ok-clear.ensures.done.0 c.requires.size c.in_ok-clear.ensures.done.1
+    (c.to_bytes-head.ensures.bytes ∙ ap super_bytes c.super_block.ensures) c.in_ok-write.ensures.done front) c.mark_front.ensures

@@ -1,5 +1,5 @@
-use Rattle.balloc.proofs.Common.{◌≡◌, ◌≢◌, ℕ, ◌+◌, ◌-◌, ◌*◌, ◌/◌, ◌%◌, ◌<◌, ◌≤◌, ap, ◌∙◌, arith, refl, block_at, goes-after, goes-stays, read-done, step-failed}
-use Rattle.balloc.proofs.Scanning.{kind_in, lowest_here, used_up_to}
+use Rattle.balloc.proofs.Common.{◌≢◌, ℕ, ◌-◌, ◌*◌, ◌/◌, ◌%◌, ◌<◌, ◌≤◌, ◌∙◌, arith, refl, goes-after, goes-stays, read-done, step-failed}
+use Rattle.balloc.proofs.Clearing.{kind_in, lowest_here, used_up_to}
 use Rattle.balloc.proofs.inodes.find_unused.Goals as goal
 
 pub scan-init : goal.scan-init
@@ -10,22 +10,18 @@ returns-in_err-block g c = step-failed c.scan.invariant.goes c.read.ensures c.in
 
 pub returns-in-Some : goal.returns-in-Some
 returns-in-Some g c =
-    let is : c.in_ok-block.block ≡ block_at c.args.disk.now.blocks (2 + c.scan.n / 16) = c.in_ok-block.ensures.done.told ∙ ap (λ b. block_at b (2 + c.scan.n / 16)) c.scan.invariant.disk in
-    let some : (c.scan.n % 16 ≤ c.in-Some.i) × (c.in-Some.i < c.min-end.result - c.scan.n / 16 * 16) × (kind_in c.in_ok-block.block c.in-Some.i ≡ 0) = c.in-Some.ensures.some in
-    let end : c.in-Some.i < c.min-end.result - c.scan.n / 16 * 16 = some.1 in
     read-done (goes-after c.scan.invariant.goes c.read.ensures.goes) (c.in_ok-block.ensures.done.same ∙ c.scan.invariant.disk)
-    (lowest_here c.args.disk.now.blocks c.in_ok-block.block c.scan.n is c.args.geometry c.in-Some.i
-    (omega (arith, end, c.min-end.ensures)) some.0 c.scan.invariant.from (omega (arith, end, c.min-end.ensures)) some.2 c.scan.invariant.used_so_far c.in-Some.ensures.lowest)
+    (lowest_here c.scan.n c.in_ok-block.ensures.done.told c.scan.invariant.disk c.args.geometry c.in-Some.i
+    (omega (arith, c.in-Some.ensures.some.1, c.min-end.ensures)) c.in-Some.ensures.some.0 c.scan.invariant.from (omega (arith, c.in-Some.ensures.some.1, c.min-end.ensures)) c.in-Some.ensures.some.2 c.scan.invariant.used_so_far c.in-Some.ensures.lowest)
 
 pub scan-preserved : goal.scan-preserved
 scan-preserved g c =
-    let is : c.in_ok-block.block ≡ block_at c.args.disk.now.blocks (2 + c.scan.n / 16) = c.in_ok-block.ensures.done.told ∙ ap (λ b. block_at b (2 + c.scan.n / 16)) c.scan.invariant.disk in
     let none : (k : ℕ) → c.scan.n % 16 ≤ k → k < c.min-end.result - c.scan.n / 16 * 16 → kind_in c.in_ok-block.block k ≢ 0 = rw c.in_default.is at c.first_unused.ensures.none in
     record {
       disk = c.in_ok-block.ensures.done.same ∙ c.scan.invariant.disk;
       goes = goes-after c.scan.invariant.goes c.read.ensures.goes;
       from = omega (arith, c.scan.invariant.from, c.scan-test.true, c.min-end.ensures);
-      used_so_far = λ m low high. used_up_to c.args.disk.now.blocks c.in_ok-block.block c.scan.n is (c.min-end.result - c.scan.n / 16 * 16)
+      used_so_far = λ m low high. used_up_to c.scan.n c.in_ok-block.ensures.done.told c.scan.invariant.disk (c.min-end.result - c.scan.n / 16 * 16)
           (omega (arith, c.min-end.ensures)) c.scan.invariant.used_so_far none m low (omega (arith, high, c.min-end.ensures, c.scan-test.true));
     }
 

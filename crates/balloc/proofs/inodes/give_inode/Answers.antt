@@ -1,4 +1,4 @@
-use Rattle.balloc.proofs.Records.{recorded_given}
+use Rattle.balloc.proofs.Counting.{recorded_given}
 use Rattle.cache.proofs.Using.{goes-stays, step-last}
 use Rattle.balloc.proofs.inodes.give_inode.Goals as goal
 

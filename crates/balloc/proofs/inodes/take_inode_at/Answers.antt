@@ -1,5 +1,5 @@
 use Rattle.balloc.proofs.Common.{arith, goes-stays, step-last}
-use Rattle.balloc.proofs.Records.{fresh_fits, recorded_fresh}
+use Rattle.balloc.proofs.Counting.{fresh_fits, recorded_fresh}
 use Rattle.balloc.proofs.inodes.take_inode_at.Goals as goal
 
 pub write_inode-requires : goal.write_inode-requires

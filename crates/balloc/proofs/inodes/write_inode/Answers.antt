@@ -1,5 +1,5 @@
 use Rattle.balloc.proofs.Common.{◌≡◌, ◌∙◌, ap, length, WritesInode-write, goes-stays, step-last}
-use Rattle.balloc.proofs.Records.{length-inode_bytes}
+use Rattle.balloc.proofs.Counting.{length-inode_bytes}
 use Rattle.balloc.proofs.inodes.write_inode.Goals as goal
 
 pub returns : goal.returns
