@@ -1,13 +1,105 @@
 -- What steps of a disk say of a volume's nodes.
-use Rattle.inode.proofs.Common.{◌≡◌, ◌+◌, ◌<◌, ◌≤◌, ◌∙◌, ℕ, Bool, List, None, Option, Some, [], ap, arith, inl, inr, length, refl, set, subst, sym, IsSome, false, take, unwrap_or, cases_eq, cases_lt, get_or-set_same, get_or_past}
-use Rattle.inode.proofs.Common.{set-set, take_all, splice, Disk, IsTold, Tells, TellsAny, node_in, IsReadInto, Changes, Store, IsFull, Writes, WritesFrom, WritesSome, no_node, raw_at, store_over, used_by, with_bytes, LacksAt}
-use Rattle.inode.proofs.Common.{Wrote, WritesAt, WritesFront, with_links, InodeStat, length-bytes_of, length-nodes_of, Geometry, IsInode, RawNode, bytes_of, free_blocks, inode_at, nodes_of, taken_for, IsSound, longest, slot}
+use Rattle.inode.proofs.Common.{◌≡◌, ◌∙◌, ℕ, Bool, List, None, Option, Some, ap, arith, inl, inr, length, refl, subst, sym, IsSome, false≢true, ◌⊎◌, unwrap_or, cases_eq, cases_lt, get_or_past, Disk, node_in, IsNode, IsWhole, no_node}
+use Rattle.inode.proofs.Common.{Blocks, raw_at, store_over, used_by, Geometry, IsInode, RawNode, bytes_of, inode_at, nodes_of, taken_for, IsSound, get_or-nodes_of, length-bytes_of, length-nodes_of, node_at-none, node_at-some, slot, ◌+◌}
+use Rattle.inode.proofs.Common.{◌<◌, ◌≤◌, [], set, false, take, get_or-set_same, set-set, take_all, splice, IsTold, Tells, TellsAny, IsReadInto, Changes, Store, IsFull, Writes, WritesFrom, WritesSome, with_bytes, LacksAt, Wrote, WritesAt}
+use Rattle.inode.proofs.Common.{WritesFront, with_links, InodeStat, free_blocks, longest, Err, Ok, Result, IfOk, OnOk, true, rises-before, AsBefore, Reads, Steps, Flushed, Follows, IsLaidOut, Looks, Serves, Tries, has_failed}
+use Rattle.std.specs.Prelude.{is_some}
 use Rattle.std.proofs.lemmas.Option.{none-some}
 use Rattle.balloc.specs.Inodes.{IsUnused, SetsNode, TakesInode, TakesNode, fresh_node}
-use Rattle.inode.proofs.Shown.{inode-some, raw-inode, slot-free, slot-inode, used-inode, whole-sound}
-use Rattle.inode.specs.Store.{TakesLowest}
+use Rattle.inode.specs.Store.{Keeps, TakesLowest}
 use Rattle.inode.specs.declared.write.Outcome.{Outcome}
 use Rattle.inode.specs.declared.write.Outcome.TheVariants.{PastEnd, TooLong, Written}
+use Rattle.std.specs.Result.{IsErrAnd, is_err}
+use Rattle.std.proofs.lemmas.Result.{err_from_is_err_and}
+use Rattle.blockdev.specs.declared.DeviceFault.{DeviceFault}
+
+-- ---- what a sound disk shows of its nodes
+
+module _ (blocks : Blocks) (inodes n : ℕ) where
+  abbrev here : Option RawNode
+  here = slot (nodes_of blocks inodes) n
+
+  -- an inode in use is a node
+  pub slot-inode : IsInode blocks inodes n → here ≡ Some (node_in blocks n)
+  slot-inode used = get_or-nodes_of blocks inodes n used.high ∙ node_at-some blocks n used.low used.kind
+
+  -- a number is that of an inode in use, or it names nothing
+  inode-cases : IsInode blocks inodes n ⊎ (here ≡ None)
+  inode-cases = elim (cases_lt n inodes) [
+    | inl high ↦
+        let none = λ (why : (n ≡ 0) ⊎ ((inode_at blocks n).kind ≡ 0)). get_or-nodes_of blocks inodes n high ∙ node_at-none blocks n why in
+        elim (cases_eq n 0) [
+          | inl e ↦ inr (none (inl e))
+          | inr low ↦ elim (cases_eq (inode_at blocks n).kind 0) [ inl z ↦ inr (none (inr z)) | inr kind ↦ inl (record { low = omega arith; high = high; kind = kind }) ]
+        ]
+    | inr past ↦ inr (get_or_past (nodes_of blocks inodes) n None (omega (arith, length-nodes_of blocks inodes)))
+  ]
+
+  pub slot-free : (IsInode blocks inodes n → ⊥) → here ≡ None
+  slot-free none = elim inode-cases [ inl used ↦ absurd (none used) | inr free ↦ free ]
+
+  pub inode-some : IsSome here → IsInode blocks inodes n
+  inode-some some = elim inode-cases [ inl used ↦ used | inr free ↦ absurd (false≢true (sym (ap is_some free) ∙ some)) ]
+
+  pub told-any : (o : Option InodeStat) → Tells blocks inodes n o → TellsAny here o
+  told-any None none = rw (slot-free none) tt
+  told-any (Some s) some = rw (slot-inode some.0) some.1
+
+  -- a number that names nothing isn't in use
+  pub unused-free : {g : Geometry} → g.inodes ≡ inodes → 1 ≤ n → n < inodes → here ≡ None → IsUnused g blocks n
+  unused-free e low high free = record {
+    low = low;
+    high = omega arith;
+    unused = elim (cases_eq (inode_at blocks n).kind 0) [ inl z ↦ z | inr kind ↦ absurd (none-some _ (sym free ∙ slot-inode (record { low = low; high = high; kind = kind }))) ];
+  }
+
+-- of one in use
+module _ {blocks : Blocks} {inodes n : ℕ} (used : IsInode blocks inodes n) where
+  abbrev raw : RawNode
+  raw = raw_at (nodes_of blocks inodes) n
+
+  taken-none : slot (nodes_of blocks inodes) n ≡ None → ⊥
+  taken-none none = none-some _ (sym none ∙ slot-inode blocks inodes n used)
+
+  -- its node
+  raw-inode : raw ≡ node_in blocks n
+  raw-inode = ap (λ o. unwrap_or o no_node) (slot-inode blocks inodes n used)
+
+  used-inode : used_by (slot (nodes_of blocks inodes) n) ≡ taken_for (length (bytes_of blocks n))
+  used-inode = ap used_by (slot-inode blocks inodes n used)
+
+  of-raw : (P : RawNode → Type 0) → P (node_in blocks n) → P raw
+  of-raw P = subst P (sym raw-inode)
+
+  pub told-raw : (s : InodeStat) → IsTold (node_in blocks n) s → IsTold raw s
+  told-raw s = of-raw (λ raw. IsTold raw s)
+
+  pub read-raw : {at : ℕ} {old new : List ℕ} (k : ℕ) → IsReadInto (bytes_of blocks n) at old new k → IsReadInto raw.bytes at old new k
+  read-raw {at} {old} {new} k = of-raw (λ raw. IsReadInto raw.bytes at old new k)
+
+  -- a node without bytes
+  pub empty-raw : length raw.bytes ≡ 0 → (inode_at blocks n).size ≡ 0
+  empty-raw e = sym (length-bytes_of blocks n) ∙ of-raw (λ raw. length (bytes_of blocks n) ≡ length raw.bytes) refl ∙ e
+
+-- the nodes of a sound disk
+pub whole-sound : {D : Type 0} {g : Geometry} {disk : Disk D} {failed : Bool} → IsSound g disk.blocks → IsWhole (store_over g disk failed)
+whole-sound {D} {g} {disk} sound = record {
+  count = length-nodes_of disk.blocks g.inodes;
+  most = sound.parts.inodes_high;
+  each = λ n node here.
+      let used = inode-some disk.blocks g.inodes n (there here) in
+      subst (IsNode n) (back (slot-inode disk.blocks g.inodes n used) here) (record {
+        low = used.low;
+        some = omega (arith, used.kind);
+        kind = sound.kinds n used.low used.high;
+        short = omega (arith, sound.fits n used, length-bytes_of disk.blocks n);
+      });
+} where
+  there : {o : Option RawNode} {node : RawNode} → o ≡ Some node → IsSome o
+  there e = rw e refl
+
+  back : {o : Option RawNode} {x y : RawNode} → o ≡ Some x → o ≡ Some y → x ≡ y
+  back e f = cc
 
 -- ---- what is asked of a volume is so of its disk
 
@@ -23,107 +115,95 @@ pub asked : {D : Type 0} {g : Geometry} {d : Disk D} {f : Bool} {seen : Store D}
     → record { sound : IsSound g d.blocks; inode : IsInode d.blocks g.inodes n }
 asked {g = g} {d} is sound up n some = record { sound = sound (up-inside is up); inode = inode-some d.blocks g.inodes n (at-inside is (λ s. IsSome (slot s.nodes n)) some) }
 
--- ---- looks
-
-taken-none : (blocks : List (List ℕ)) (inodes m : ℕ) → IsInode blocks inodes m → slot (nodes_of blocks inodes) m ≡ None → ⊥
-taken-none blocks inodes m used none = none-some _ (sym none ∙ slot-inode blocks inodes m used)
-
-module _ (blocks : List (List ℕ)) (inodes n : ℕ) where
-  pub told-raw : IsInode blocks inodes n → (s : InodeStat) → IsTold (node_in blocks n) s → IsTold (raw_at (nodes_of blocks inodes) n) s
-  told-raw used s = subst (λ raw. IsTold raw s) (sym (raw-inode blocks inodes n used))
-
-  pub told-any : (o : Option InodeStat) → Tells blocks inodes n o → TellsAny (slot (nodes_of blocks inodes) n) o
-  told-any None none = rw (slot-free blocks inodes n none) tt
-  told-any (Some s) some = rw (slot-inode blocks inodes n some.0) some.1
-
-  pub read-raw : IsInode blocks inodes n → {at : ℕ} {old new : List ℕ} (k : ℕ) → IsReadInto (bytes_of blocks n) at old new k → IsReadInto (raw_at (nodes_of blocks inodes) n).bytes at old new k
-  read-raw used {at} {old} {new} k = subst (λ (raw : RawNode). IsReadInto raw.bytes at old new k) (sym (raw-inode blocks inodes n used))
-
-  raw-bytes : IsInode blocks inodes n → (P : List ℕ → Type 0) → P (bytes_of blocks n) → P (raw_at (nodes_of blocks inodes) n).bytes
-  raw-bytes used P = subst (λ (raw : RawNode). P raw.bytes) (sym (raw-inode blocks inodes n used))
-
-  -- a number that names nothing isn't in use
-  pub unused-free : {g : Geometry} → g.inodes ≡ inodes → 1 ≤ n → n < inodes → slot (nodes_of blocks inodes) n ≡ None → IsUnused g blocks n
-  unused-free e low high free = record {
-    low = low;
-    high = omega arith;
-    unused = elim (cases_eq (inode_at blocks n).kind 0) [ inl z ↦ z | inr kind ↦ absurd (taken-none blocks inodes n (record { low = low; high = high; kind = kind }) free) ];
-  }
-
-  -- a node without bytes
-  pub empty-raw : IsInode blocks inodes n → length (raw_at (nodes_of blocks inodes) n).bytes ≡ 0 → (inode_at blocks n).size ≡ 0
-  empty-raw used e = sym (length-bytes_of blocks n) ∙ ap (λ (raw : RawNode). length raw.bytes) (sym (raw-inode blocks inodes n used)) ∙ e
-
 -- ---- changes
+
+-- where no block is written the nodes are as they were
+kept : {D : Type 0} {g : Geometry} {d d' : Disk D} {f b : Bool} → d'.blocks ≡ d.blocks → Keeps (store_over g d f) (store_over g d' b)
+kept {g = g} e = record { nodes = ap (λ bs. nodes_of bs g.inodes) e; free = ap (free_blocks g) e }
+
+-- number n names this node now
+abbrev Names : {D : Type 0} → Geometry → Disk D → Disk D → Bool → Bool → ℕ → Option RawNode → Type 0
+Names g d d' f b n node = Changes (store_over g d f) (store_over g d' b) n node
 
 module _ {D : Type 0} {g : Geometry} {d d' : Disk D} {f b : Bool} {n : ℕ} where
   -- the node takes as many blocks as before
-  pub changes-sets : {node shown : Option RawNode} → SetsNode g d.blocks d'.blocks n node → node ≡ shown → used_by shown ≡ used_by (slot (nodes_of d.blocks g.inodes) n) → Changes (store_over g d f) (store_over g d' b) n shown
+  pub changes-sets : {node shown : Option RawNode} → SetsNode g d.blocks d'.blocks n node → node ≡ shown → used_by shown ≡ used_by (slot (nodes_of d.blocks g.inodes) n) → Names g d d' f b n shown
   changes-sets sets is used = record {
     whole = whole-sound sets.sound;
     nodes = sets.nodes ∙ ap (set (nodes_of d.blocks g.inodes) n) is;
-    free = let e = sets.free in omega (arith, used);
+    free = omega (arith, sets.free, used);
   }
 
   module _ (inode : IsInode d.blocks g.inodes n) where
     -- other bytes
-    pub changes-wrote : {bytes : List ℕ} → Wrote g d.blocks d'.blocks n bytes → Changes (store_over g d f) (store_over g d' b) n (Some (with_bytes (raw_at (nodes_of d.blocks g.inodes) n) bytes))
+    pub changes-wrote : {bytes : List ℕ} → Wrote g d.blocks d'.blocks n bytes → Names g d d' f b n (Some (with_bytes (raw_at (nodes_of d.blocks g.inodes) n) bytes))
     changes-wrote {bytes} wrote = record {
       whole = whole-sound wrote.sound;
-      nodes = wrote.nodes ∙ ap (λ raw. set (nodes_of d.blocks g.inodes) n (Some (with_bytes raw bytes))) (sym (raw-inode d.blocks g.inodes n inode));
-      free = wrote.balance ∙ ap (λ k. free_blocks g d.blocks + k) (sym (used-inode d.blocks g.inodes n inode));
+      nodes = wrote.nodes ∙ ap (λ raw. set (nodes_of d.blocks g.inodes) n (Some (with_bytes raw bytes))) (sym (raw-inode inode));
+      free = wrote.balance ∙ ap (λ k. free_blocks g d.blocks + k) (sym (used-inode inode));
     }
 
-    pub changes-spliced : (at : ℕ) (bytes : List ℕ) → Wrote g d.blocks d'.blocks n (splice at bytes (bytes_of d.blocks n)) → Changes (store_over g d f) (store_over g d' b) n (Some (with_bytes (raw_at (nodes_of d.blocks g.inodes) n) (splice at bytes (raw_at (nodes_of d.blocks g.inodes) n).bytes)))
-    changes-spliced at bytes wrote =
-        changes-wrote (subst (λ (raw : RawNode). Wrote g d.blocks d'.blocks n (splice at bytes raw.bytes)) (sym (raw-inode d.blocks g.inodes n inode)) wrote)
+    pub changes-spliced : (at : ℕ) (bytes : List ℕ) → Wrote g d.blocks d'.blocks n (splice at bytes (bytes_of d.blocks n)) → Names g d d' f b n (Some (with_bytes (raw_at (nodes_of d.blocks g.inodes) n) (splice at bytes (raw_at (nodes_of d.blocks g.inodes) n).bytes)))
+    changes-spliced at bytes wrote = changes-wrote (of-raw inode (λ raw. Wrote g d.blocks d'.blocks n (splice at bytes raw.bytes)) wrote)
 
     pub writes-some : {at : ℕ} {bytes : List ℕ} (k : ℕ) → WritesFront g d.blocks d'.blocks n at bytes k → WritesSome (store_over g d f) (store_over g d' b) n at bytes k
     writes-some {at} {bytes} k front = record {
       most = front.within;
       changes = changes-spliced at (take k bytes) front.wrote;
-      few = λ less. subst (λ (raw : RawNode). LacksAt (free_blocks g d.blocks) raw.bytes (at + k)) (sym (raw-inode d.blocks g.inodes n inode)) (front.few less);
+      few = λ less. of-raw inode (λ raw. LacksAt (free_blocks g d.blocks) raw.bytes (at + k)) (front.few less);
     }
 
     -- other links
-    pub changes-links : {links : ℕ} → SetsNode g d.blocks d'.blocks n (Some (with_links (node_in d.blocks n) links)) → Changes (store_over g d f) (store_over g d' b) n (Some (with_links (raw_at (nodes_of d.blocks g.inodes) n) links))
+    pub changes-links : {links : ℕ} → SetsNode g d.blocks d'.blocks n (Some (with_links (node_in d.blocks n) links)) → Names g d d' f b n (Some (with_links (raw_at (nodes_of d.blocks g.inodes) n) links))
     changes-links {links} sets =
-        let raw = raw-inode d.blocks g.inodes n inode in
-        changes-sets sets (ap (λ raw. Some (with_links raw links)) (sym raw)) (ap (λ (raw : RawNode). taken_for (length raw.bytes)) raw ∙ sym (used-inode d.blocks g.inodes n inode))
+        changes-sets sets (ap (λ raw. Some (with_links raw links)) (sym (raw-inode inode))) (ap (λ (raw : RawNode). taken_for (length raw.bytes)) (raw-inode inode) ∙ sym (used-inode inode))
 
     -- none any more
-    pub changes-given : length (raw_at (nodes_of d.blocks g.inodes) n).bytes ≡ 0 → SetsNode g d.blocks d'.blocks n None → Changes (store_over g d f) (store_over g d' b) n None
+    pub changes-given : length (raw_at (nodes_of d.blocks g.inodes) n).bytes ≡ 0 → SetsNode g d.blocks d'.blocks n None → Names g d d' f b n None
     changes-given empty sets =
-        let none : taken_for 0 ≡ used_by (slot (nodes_of d.blocks g.inodes) n) = ap taken_for (sym empty) ∙ ap (λ (raw : RawNode). taken_for (length raw.bytes)) (raw-inode d.blocks g.inodes n inode) ∙ sym (used-inode d.blocks g.inodes n inode) in
-        changes-sets sets refl none
+        changes-sets sets refl (ap taken_for (sym empty) ∙ ap (λ (raw : RawNode). taken_for (length raw.bytes)) (raw-inode inode) ∙ sym (used-inode inode))
 
   -- a node more
-  pub changes-taken : {kind major minor links : ℕ} → slot (nodes_of d.blocks g.inodes) n ≡ None → TakesNode g d.blocks d'.blocks n kind major minor links → Changes (store_over g d f) (store_over g d' b) n (Some (fresh_node kind major minor links))
+  pub changes-taken : {kind major minor links : ℕ} → slot (nodes_of d.blocks g.inodes) n ≡ None → TakesNode g d.blocks d'.blocks n kind major minor links → Names g d d' f b n (Some (fresh_node kind major minor links))
   changes-taken free takes = changes-sets takes.sets refl (sym (ap used_by free))
 
-pub takes-lowest : {D : Type 0} (g : Geometry) (d d' : Disk D) (f b : Bool) (kind major minor links : ℕ) (o : Option ℕ) → TakesInode g d.blocks d'.blocks kind major minor links o → TakesLowest (store_over g d f) (store_over g d' b) kind major minor links o
-takes-lowest g d d' f b kind major minor links (Some n) takes =
-    let lowest = takes.0 in
-    let free = slot-free d.blocks g.inodes n (λ used. used.kind lowest.unused) in (
-      record {
-        low = lowest.low;
-        high = let h = lowest.high in omega (arith, length-nodes_of d.blocks g.inodes);
-        free = free;
-        lowest = λ m low less none. taken-none d.blocks g.inodes m (record { low = low; high = let h = lowest.high in omega arith; kind = lowest.lowest m low less }) none;
-      },
-      changes-taken free takes.1,
-    )
-takes-lowest g d d' f b kind major minor links None all = (
-  record { nodes = ap (λ bs. nodes_of bs g.inodes) all.1; free = ap (free_blocks g) all.1 },
-  λ m low high none.
-      let within : m < g.inodes = omega (arith, length-nodes_of d.blocks g.inodes) in
-      taken-none d.blocks g.inodes m (record { low = low; high = within; kind = all.0 m low within }) none,
-)
+module _ {D : Type 0} (g : Geometry) (d d' : Disk D) (f b : Bool) where
+  pub takes-lowest : (kind major minor links : ℕ) (o : Option ℕ) → TakesInode g d.blocks d'.blocks kind major minor links o → TakesLowest (store_over g d f) (store_over g d' b) kind major minor links o
+  takes-lowest kind major minor links (Some n) takes =
+      let lowest = takes.0 in
+      let free = slot-free d.blocks g.inodes n (λ used. used.kind lowest.unused) in (
+        record {
+          low = lowest.low;
+          high = omega (arith, lowest.high, length-nodes_of d.blocks g.inodes);
+          free = free;
+          lowest = λ m low less none. taken-none (record { low = low; high = omega (arith, lowest.high); kind = lowest.lowest m low less }) none;
+        },
+        changes-taken free takes.1,
+      )
+  takes-lowest kind major minor links None all = (
+    kept all.1,
+    λ m low high none.
+        let within : m < g.inodes = omega (arith, length-nodes_of d.blocks g.inodes) in
+        taken-none (record { low = low; high = within; kind = all.0 m low within }) none,
+  )
+
+  pub writes-from : (n at : ℕ) (bytes : List ℕ) → IsInode d.blocks g.inodes n → (o : Outcome) → WritesAt g d.blocks d'.blocks n at bytes o → WritesFrom (store_over g d f) (store_over g d' b) n at bytes o
+  writes-from n at bytes inode PastEnd past =
+      (kept past.0, of-raw inode (λ raw. length raw.bytes < at) past.1)
+  writes-from n at bytes inode TooLong long =
+      (kept long.0, of-raw inode (λ raw. at ≤ length raw.bytes) long.1, long.2)
+  writes-from n at bytes inode (Written k) wrote = (of-raw inode (λ raw. at ≤ length raw.bytes) wrote.0, wrote.1, writes-some inode k wrote.2)
 
 -- the disk is sound still
-pub takes-sound : {g : Geometry} {old new : List (List ℕ)} (kind major minor links : ℕ) → IsSound g old → (o : Option ℕ) → TakesInode g old new kind major minor links o → IsSound g new
-takes-sound kind major minor links sound (Some n) takes = takes.1.sets.sound
-takes-sound {g} kind major minor links sound None all = subst (IsSound g) (sym all.1) sound
+module _ {g : Geometry} {old new : Blocks} where
+  pub takes-sound : (kind major minor links : ℕ) → IsSound g old → (o : Option ℕ) → TakesInode g old new kind major minor links o → IsSound g new
+  takes-sound kind major minor links sound (Some n) takes = takes.1.sets.sound
+  takes-sound kind major minor links sound None all = subst (IsSound g) (sym all.1) sound
+
+  pub writes-sound : (n at : ℕ) (bytes : List ℕ) → IsSound g old → (o : Outcome) → WritesAt g old new n at bytes o → IsSound g new
+  writes-sound n at bytes sound PastEnd past = subst (IsSound g) (sym past.0) sound
+  writes-sound n at bytes sound TooLong long = subst (IsSound g) (sym long.0) sound
+  writes-sound n at bytes sound (Written k) wrote = wrote.2.wrote.sound
 
 -- ---- a node goes: first its bytes, then its number
 
@@ -168,15 +248,78 @@ module _ {D : Type 0} {old new : Store D} {n at : ℕ} {bytes : List ℕ} (k : �
   pub writes-part : k < length bytes → IsFull old new n at bytes k
   writes-part less = record { some_left = less; within = within; short = short; changes = some.changes; few = some.few less }
 
--- the disk is sound still
-pub writes-sound : {g : Geometry} {old new : List (List ℕ)} (n at : ℕ) (bytes : List ℕ) → IsSound g old → (o : Outcome) → WritesAt g old new n at bytes o → IsSound g new
-writes-sound {g} n at bytes sound PastEnd past = subst (IsSound g) (sym past.0) sound
-writes-sound {g} n at bytes sound TooLong long = subst (IsSound g) (sym long.0) sound
-writes-sound n at bytes sound (Written k) wrote = wrote.2.wrote.sound
+-- ---- a step of the disk, of a volume that is up
 
-pub writes-from : {D : Type 0} (g : Geometry) (d d' : Disk D) (f b : Bool) (n at : ℕ) (bytes : List ℕ) → IsInode d.blocks g.inodes n → (o : Outcome) → WritesAt g d.blocks d'.blocks n at bytes o → WritesFrom (store_over g d f) (store_over g d' b) n at bytes o
-writes-from g d d' f b n at bytes inode PastEnd past =
-    (record { nodes = ap (λ bs. nodes_of bs g.inodes) past.0; free = ap (free_blocks g) past.0 }, raw-bytes d.blocks g.inodes n inode (λ bytes. length bytes < at) past.1)
-writes-from g d d' f b n at bytes inode TooLong long =
-    (record { nodes = ap (λ bs. nodes_of bs g.inodes) long.0; free = ap (free_blocks g) long.0 }, raw-bytes d.blocks g.inodes n inode (λ bytes. at ≤ length bytes) long.1, long.2)
-writes-from g d d' f b n at bytes inode (Written k) wrote = (raw-bytes d.blocks g.inodes n inode (λ bytes. at ≤ length bytes) wrote.0, wrote.1, writes-some inode k wrote.2)
+module _ {D : Type 0} {identity : D → List ℕ} {g : Geometry} {d d' : Disk D} {b : Bool} {T : Type 0} {Was : T → Type 0} where
+  pub tries : {f : Bool} {Done : T → Type 0} (r : Result T DeviceFault) → Steps identity d d' r Was → b ≡ is_err r → ((x : T) → Was x → Done x) → Tries identity (store_over g d f) (store_over g d' b) r Done
+  tries (Ok x) step e so = record { done = so x step.done; refused = tt; follows = record { geometry = refl; same_device = step.goes.same_device; later = step.goes.later }; failed = e; cause = λ q. absurd (false≢true q) }
+  tries (Err fault) step e so = record { done = tt; refused = λ q. tt; follows = record { geometry = refl; same_device = step.goes.same_device; later = step.goes.later }; failed = e; cause = λ _. step.failed refl }
+
+  -- the disk stays sound
+  pub sound-after : (r : Result T DeviceFault) → Steps identity d d' r Was → b ≡ is_err r → ((x : T) → Was x → IsSound g d'.blocks) → b ≡ false → IsSound g d'.blocks
+  sound-after (Ok x) step e so up = so x step.done
+  sound-after (Err fault) step e so up = absurd (false≢true (sym up ∙ e))
+
+-- a step that only reads
+module _ {D : Type 0} {identity : D → List ℕ} {g : Geometry} {d d' : Disk D} {b : Bool} {T : Type 0} {Was : T → Type 0} where
+  pub looks : {f : Bool} {Told : T → Type 0} (r : Result T DeviceFault) → Reads identity d d' r Was → b ≡ is_err r → ((x : T) → Was x → Told x) → Looks identity (store_over g d f) (store_over g d' b) r Told
+  looks r step e so = tries r step e (λ x was. (kept was.same, so x was.told))
+
+  pub sound-same : (r : Result T DeviceFault) → Reads identity d d' r Was → b ≡ is_err r → IsSound g d.blocks → b ≡ false → IsSound g d'.blocks
+  sound-same r step e sound up = sound-after r step e (λ x was. subst (IsSound g) (sym was.same) sound) up
+
+-- ---- calls on a volume, one after the other
+
+module _ {D : Type 0} {identity : D → List ℕ} where
+  pub follows-after : {a b c : Store D} → Follows identity a b → Follows identity b c → Follows identity a c
+  follows-after one two = record { geometry = two.geometry ∙ one.geometry; same_device = two.same_device ∙ one.same_device; later = omega (arith, one.later, two.later) }
+
+  pub follows-stays : {a : Store D} → Follows identity a a
+  follows-stays = record { geometry = refl; same_device = refl; later = omega arith }
+
+  -- what a call that did it leaves up
+  pub still-up : {T : Type 0} {mid new : Store D} {r : Result T DeviceFault} {Was : T → Type 0} {x : T} → Tries identity mid new r Was → r ≡ Ok x → new.failed ≡ false
+  still-up {r = r} tries is = tries.failed ∙ ap (has_failed (λ _. true)) is
+
+  module _ {T E : Type 0} {is_lost : E → Bool} {old new : Store D} {Done : T → Type 0} {Why : E → Type 0} where
+    -- it is done
+    pub serves-done : {x : T} → Follows identity old new → new.failed ≡ false → Done x → Serves identity is_lost old new (Ok x) Done Why
+    serves-done follows up done = record { done = done; refused = tt; follows = follows; failed = up; cause = λ q. absurd (false≢true q) }
+
+    -- it is refused
+    pub serves-not : {fault : E} → Follows identity old new → new.failed ≡ false → is_lost fault ≡ false → Why fault → Serves identity is_lost old new (Err fault) Done Why
+    serves-not follows up known why = record { done = tt; refused = λ _. why; follows = follows; failed = up ∙ sym known; cause = λ q. absurd (false≢true (sym known ∙ q)) }
+
+    -- a call behind others failed
+    pub serves-lost : {mid : Store D} {U : Type 0} {Was : U → Type 0} {r : Result U DeviceFault} {e : DeviceFault} {s : Result T E} (fault : E) → Follows identity old mid → Tries identity mid new r Was → r ≡ Err e → is_lost fault ≡ true → IsErrAnd s (λ f. f ≡ fault) → Serves identity is_lost old new s Done Why
+    serves-lost {s = s} fault follows step was lost told =
+        let err = err_from_is_err_and s told in
+        let is : s ≡ Err fault = err.1 ∙ ap Err err.2 in
+        let rises = rises-before follows.later (step.cause (ap (has_failed (λ _. true)) was)) in
+        rw is (record {
+          done = tt;
+          refused = λ q. absurd (false≢true (sym q ∙ lost));
+          follows = follows-after follows step.follows;
+          failed = step.failed ∙ ap (has_failed (λ _. true)) was ∙ sym lost;
+          cause = λ _. rises;
+        })
+
+  -- the last call tells all
+  pub tries-last : {T : Type 0} {old mid new : Store D} {r : Result T DeviceFault} {Was Done : T → Type 0} → Follows identity old mid → ((x : T) → Was x → Done x) → Tries identity mid new r Was → Tries identity old new r Done
+  tries-last {r = Ok x} follows so step = serves-done (follows-after follows step.follows) step.failed (so x step.done)
+  tries-last {r = Err e} follows so step = record { done = tt; refused = λ q. tt; follows = follows-after follows step.follows; failed = step.failed; cause = λ q. rises-before follows.later (step.cause q) }
+
+-- ---- the disk is given up
+
+pub flushed : {D : Type 0} {g : Geometry} {d d' : Disk D} {f : Bool} {left : D} (content : D → Blocks) (failures : D → ℕ) {identity : D → List ℕ} (r : Result Unit DeviceFault) → Reads identity d d' r (λ _. content d'.device ≡ d.blocks)
+    → left ≡ d'.device → failures left ≡ d'.failures → IsSound g d.blocks → Flushed content failures identity (store_over g d f) left r
+flushed {g = g} {d} {d'} {left = left} content failures {identity} r step is count sound = record {
+  stored = laid r step.done;
+  same_device = ap identity is ∙ step.goes.same_device;
+  cause = record { later = omega (arith, step.goes.later); failed = λ e. omega (arith, step.failed e) };
+} where
+  laid : (r : Result Unit DeviceFault) → IfOk r (λ _. AsBefore d d' (content d'.device ≡ d.blocks)) → OnOk r (IsLaidOut g (content left) (nodes_of d.blocks g.inodes) (free_blocks g d.blocks))
+  laid (Ok x) before =
+      let e : content left ≡ d.blocks = ap content is ∙ before.told in
+      subst (λ bs. IsLaidOut g bs (nodes_of d.blocks g.inodes) (free_blocks g d.blocks)) (sym e) (record { sound = sound; nodes = refl; free = refl })
+  laid (Err fault) before = tt

@@ -1,26 +1,26 @@
 -- The names that the lemmas of this crate import from elsewhere, passed on from one place. Declares nothing.
-pub use Rattle.std.proofs.Common.{◌%◌, ◌*◌, ◌+◌, ◌++◌, ◌-◌, ◌/◌, ◌<◌, ◌==◌, [], ◌^◌, ap, arith, Bool, cond, drop, Err, false, get_or, inl, inr, le_of_lt, length, List, max, min, None, Ok, Option, refl, replicate, Result, set, Some, subst}
-pub use Rattle.std.proofs.Common.{sym, take, true, ℕ, ◌∙◌, ◌≡◌, ◌≢◌, ◌≤◌, ◌⊎◌}
+pub use Rattle.std.proofs.Common.{◌%◌, ◌*◌, ◌+◌, ◌++◌, ◌-◌, ◌/◌, ◌<◌, ◌==◌, [], ◌^◌, ap, arith, Bool, cond, drop, Err, false, get_or, inl, inr, le_of_lt, length}
+pub use Rattle.std.proofs.Common.{List, max, min, None, Ok, Option, refl, replicate, Result, set, Some, subst, sym, take, true, ℕ, ◌∙◌, ◌≡◌, ◌≢◌, ◌≤◌, ◌⊎◌}
 pub use Rattle.std.proofs.lemmas.Bool.{cases_eq, cases_lt, false≢true}
 pub use Rattle.std.proofs.lemmas.Bool.Decides.{nat_tests}
-pub use Rattle.std.proofs.lemmas.List.{ext_get_or, get_or-append_right, get_or-drop, get_or-set_other, get_or-set_same, get_or-take, get_or_append_left, get_or_past, length-append, length-drop, length-set, length-take-le, nil_from_length}
-pub use Rattle.std.proofs.lemmas.List.{set-get_or, set-set, take-append-drop, take_all}
+pub use Rattle.std.proofs.lemmas.List.{ext_get_or, get_or-append_right, get_or-drop, get_or-set_other, get_or-set_same, get_or-take, get_or_append_left, get_or_past}
+pub use Rattle.std.proofs.lemmas.List.{length-append, length-drop, length-set, length-take-le, nil_from_length, set-get_or, set-set, take-append-drop, take_all}
 pub use Rattle.std.specs.Prelude.{IfOk, IsSome, nat_le, nat_lt, OnOk, slice_set, unwrap_or}
 pub use Rattle.balloc.proofs.Counting.{free_blocks-give, free_blocks-same, free_blocks-take}
 pub use Rattle.balloc.specs.Bitmap.{SetsBit, Takes}
-pub use Rattle.blockdev.proofs.SpliceLemmas.{get_or-part, length-part, part-splice_apart, part-splice_same, put_mid-splice}
+pub use Rattle.blockdev.proofs.SpliceLemmas.{Blocks, get_or-part, length-part, part-splice_apart, part-splice_same, put_mid-splice}
 pub use Rattle.blockdev.specs.Blocks.{AreBlocks, block_at}
 pub use Rattle.blockdev.specs.Splice.{part, splice}
 pub use Rattle.byteorder.specs.Endian.{little_bytes, little_number}
 pub use Rattle.cache.proofs.Using.{goes-after, goes-stays, goes-twice, read-done, rises-before, step-done, step-failed, step-last}
 pub use Rattle.cache.specs.Disk.{Disk}
 pub use Rattle.cache.specs.Steps.{AsBefore, Goes, Reads, Steps}
-pub use Rattle.layout.proofs.GrowLemmas.{get_or-bytes_of, get_or-nodes_of, IsSound-replace, IsSoundAt, KeepsOthers, length-bytes_of, length-nodes_of, node_at-none, node_at-some, nodes_of-changed, Grows-bytes, Grows-keeps, Grows-node}
-pub use Rattle.layout.proofs.GrowLemmas.{Grows-sound, asks_none, Grows-same, HoldsBytes-same, spare_none, zero_at, HasParts-kept, PutsBlock, PutsBlock-write}
+pub use Rattle.layout.proofs.GrowLemmas.{asks_none, data_from, get_or-bytes_of, get_or-nodes_of, Grows-bytes, Grows-keeps, Grows-node, Grows-same, Grows-sound, HasParts-kept, HoldsBytes-same, InData, IsSound-replace, IsSoundAt, KeepsOthers}
+pub use Rattle.layout.proofs.GrowLemmas.{length-bytes_of, length-nodes_of, mark, node_at-none, node_at-some, nodes_of-changed, PutsBlock, PutsBlock-write, record_in, spare_none, zero_at}
 pub use Rattle.layout.proofs.ReadsBack.{number_at-take}
-pub use Rattle.layout.proofs.Slots.{address-once, address-within, asked_apart, asked_asks, asks_asked, asks_at, asks_below, asks_holder, count-begins, count-last, first-data, holder-first, holder-holder, holder-index, holder-once}
-pub use Rattle.layout.proofs.Slots.{holder-within, holder-zero, in_record-cases, index_for-more, index_for-most, IsSpare-size, level-data, level-holder, level-last, level-most, level-once, place-within, slot_in-block, slot_in-record}
-pub use Rattle.layout.proofs.Slots.{slot_in-same, taken-none}
+pub use Rattle.layout.proofs.Slots.{address-once, address-within, asked_apart, asked_asks, asks_asked, asks_at, asks_below, asks_holder, count-begins, count-last, first-data}
+pub use Rattle.layout.proofs.Slots.{holder-first, holder-holder, holder-index, holder-once, holder-within, holder-zero, in_record-cases, index_for-more, index_for-most, IsSpare-size}
+pub use Rattle.layout.proofs.Slots.{level-data, level-holder, level-last, level-most, level-once, place-within, slot_in-block, slot_in-record, slot_in-same, taken-none}
 pub use Rattle.layout.specs.Grow.{Grows, HoldsBytes, IsFresh, WritesInode}
 pub use Rattle.layout.specs.Image.{address_of, asked_slot, Asks, bit_of, blocks_for, first_of, free_blocks, holder_of, in_record, index_for}
 pub use Rattle.layout.specs.Image.{inode_at, IsFree, IsInode, IsSpare, IsUsed, level_of, node_with, place_of, RawNode, single, slots, taken_for}
@@ -28,7 +28,7 @@ unfoldable pub use Rattle.layout.specs.Image.{bit_in, byte_of, bytes_of, nodes_o
 pub use Rattle.layout.specs.Inode.{Fits, inode_of}
 pub use Rattle.layout.specs.Numbers.{number_at}
 pub use Rattle.layout.specs.Sound.{HasParts, IsSound}
-pub use Rattle.layout.specs.Super.{bitmap_start_of, data_start_of}
+pub use Rattle.layout.specs.Super.{bitmap_start_of}
 pub use Rattle.layout.specs.declared.DiskInode.{DiskInode}
 pub use Rattle.layout.specs.declared.Geometry.{Geometry}
 pub use Rattle.unixmodel.specs.Files.{longest, slot}

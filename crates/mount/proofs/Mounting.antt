@@ -1,7 +1,7 @@
 -- The files of a checked image, in use.
-use Rattle.mount.proofs.Common.{List, length, replicate, ℕ, ◌+◌, ◌≡◌, ◌≤◌, ap, arith, false, refl, subst, sym, ◌∙◌, Err, Ok, OnOk, Result, AreBlocks, Geometry, Files, slot}
-use Rattle.mount.proofs.Common.{most_bytes, Denotes, KeepsRules, KeepsRulesTo, size_in, data_blocks_of, image_of, length-image_of, Denotes-files, format-told, free_blocks}
-use Rattle.mount.proofs.Common.{nodes_of, IsSound, IsFileSystem, IsStored, Stores, StoresFiles, files_of, FileTree, tree_over, files-are, held-again, AreLinked, IsMounted}
+use Rattle.mount.proofs.Common.{List, length, replicate, ℕ, ◌+◌, ◌≡◌, ◌≤◌, ap, arith, false, refl, subst, sym, ◌∙◌, Err, Ok, OnOk, Result, AreBlocks, Geometry, Files, slot, most_bytes, Denotes, KeepsRules, KeepsRulesTo, size_in}
+use Rattle.mount.proofs.Common.{data_blocks_of, image_of, length-image_of, Denotes-files, format-told, free_blocks, nodes_of, IsSound, IsFileSystem, IsStored, Stores, StoresFiles, files_of, FileTree, tree_over, files-are, held-again}
+use Rattle.mount.proofs.Common.{AreLinked, IsMounted}
 use Rattle.names.specs.Rules.{KeepsTree}
 use Rattle.blockdev.specs.declared.DeviceFault.{DeviceFault}
 use Rattle.cache.specs.Disk.{Disk}
@@ -9,7 +9,7 @@ use Rattle.imagemake.proofs.FromRules.{KeepsTree-rules, linked-rules}
 use Rattle.imagemake.proofs.ToRules.{KeepsRules-live}
 use Rattle.unixmodel.specs.Counts.{blocks_of}
 use Rattle.imagemake.proofs.Denoted.{Denotes-stored}
-use Rattle.inode.proofs.Shown.{whole-sound}
+use Rattle.inode.proofs.Calls.{whole-sound}
 use Rattle.inode.specs.Store.{Store, store_over}
 use Rattle.mount.proofs.Holding.{free-held, nodes-held, places-held}
 use Rattle.mount.proofs.Sounding.{IsDenoted, IsSound-denoted}

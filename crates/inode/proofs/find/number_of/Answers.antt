@@ -15,7 +15,7 @@ returns-clause-number g c =
     ∙ listed-number c.args.disk.now.blocks c.args.bytes.now c.args.slot (omega (arith, c.if-slot-lt-DIRECT.false)) (omega arith) c.read_number-single.ensures
 
 pub returns-then-slot-lt-DIRECT-clause-fits : goal.returns-then-slot-lt-DIRECT-clause-fits
-returns-then-slot-lt-DIRECT-clause-fits g c = fits-of c.args.bytes.now (λ i. (let f = c.type_inv.bytes i in omega (arith, f)))
+returns-then-slot-lt-DIRECT-clause-fits g c = fits-of c.args.bytes.now (λ i. (omega (arith, c.type_inv.bytes i)))
 
 pub returns-clause-fits : goal.returns-clause-fits
-returns-clause-fits g c = fits-of c.args.bytes.now (λ i. (let f = c.type_inv.bytes i in omega (arith, f)))
+returns-clause-fits g c = fits-of c.args.bytes.now (λ i. (omega (arith, c.type_inv.bytes i)))

@@ -9,9 +9,9 @@ returns-in_err-b g c = step-failed goes-stays c.fill.ensures c.in_err-b.was c.fr
 
 pub unreachable-requires : goal.unreachable-requires
 unreachable-requires g c =
-    let none = subst (MayFill c.args.geometry c.args.disk.now.blocks c.fill.new.disk.blocks c.args.bytes.now) c.in_default.is c.in_ok-b.ensures.done in
+    let none = subst (MayFill _ _ _ _) c.in_default.is c.in_ok-b.ensures.done in
     let zero = none.0 in
     omega (arith, c.requires.some)
 
 pub returns : goal.returns
-returns g c = step-done c.fill.ensures.goes (subst (MayFill c.args.geometry c.args.disk.now.blocks c.fill.new.disk.blocks c.args.bytes.now) c.in-Some.is c.in_ok-b.ensures.done)
+returns g c = step-done c.fill.ensures.goes (subst (MayFill _ _ _ _) c.in-Some.is c.in_ok-b.ensures.done)

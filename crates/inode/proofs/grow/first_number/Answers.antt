@@ -2,12 +2,9 @@ use Rattle.inode.proofs.Common.{◌≡◌, ℕ, ◌+◌, ◌-◌, ◌*◌, ◌�
 use Rattle.inode.proofs.grow.first_number.Goals as goal
 
 number_zero : (bytes : List ℕ) (k : ℕ) → 1 ≤ k → ((i : ℕ) → 4 ≤ i → get_or bytes i 0 ≡ 0) → number_at bytes k ≡ 0
-number_zero bytes k h zero =
-    let a : get_or (drop (4 * k) bytes) 0 0 ≡ 0 = get_or-drop (4 * k) bytes 0 0 ∙ zero (4 * k + 0) (omega arith) in
-    let b : get_or (drop (4 * k) bytes) 1 0 ≡ 0 = get_or-drop (4 * k) bytes 1 0 ∙ zero (4 * k + 1) (omega arith) in
-    let c : get_or (drop (4 * k) bytes) 2 0 ≡ 0 = get_or-drop (4 * k) bytes 2 0 ∙ zero (4 * k + 2) (omega arith) in
-    let d : get_or (drop (4 * k) bytes) 3 0 ≡ 0 = get_or-drop (4 * k) bytes 3 0 ∙ zero (4 * k + 3) (omega arith) in
-    omega (arith, a, b, c, d)
+number_zero bytes k h zero = omega (arith, at 0, at 1, at 2, at 3) where
+  at : (i : ℕ) → get_or (drop (4 * k) bytes) i 0 ≡ 0
+  at i = get_or-drop (4 * k) bytes i 0 ∙ zero (4 * k + i) (omega arith)
 
 behind : (front block : List ℕ) (i : ℕ) → length front ≡ 4 → 4 ≤ i → ((j : ℕ) → get_or block j 0 ≡ 0) → get_or (front ++ drop 4 block) i 0 ≡ 0
 behind front block i e h zero = get_or-append_right front (drop 4 block) 4 i 0 e h ∙ get_or-drop 4 block (i - 4) 0 ∙ zero (4 + (i - 4))

@@ -1,5 +1,5 @@
 use Rattle.inode.proofs.Common.{◌+◌, ◌*◌, ◌/◌, ◌%◌, ◌∙◌, ap, arith, block_at, set, splice, goes-stays, step-last}
-use Rattle.inode.proofs.Resized.{WritesInode-size}
+use Rattle.inode.proofs.Found.{WritesInode-size}
 use Rattle.inode.proofs.grow.write_size.Goals as goal
 
 pub returns : goal.returns

@@ -1,12 +1,12 @@
 use Rattle.inode.proofs.Common.{ap, arith, refl, sym, ◌∙◌, goes-stays, read-done, step-failed, DiskInode}
-use Rattle.inode.proofs.Reading.{told-inode, used-inode}
+use Rattle.inode.proofs.Growing.{told-inode, used-inode}
 use Rattle.inode.proofs.read.look.Goals as goal
 use Rattle.inode.proofs.read.look.Goals.{then-number-eq0-via-else-number-eq0+then-number-geometry, then-number-eq0-via-then-number-eq0}
 
 pub returns-then-number-eq0 : goal.returns-then-number-eq0
 returns-then-number-eq0 g c = elim c.then-number-eq0.branch [
-  | then-number-eq0-via-then-number-eq0 w ↦ read-done goes-stays refl (λ used. let low = used.low in omega (arith, w.if-number-eq0.true))
-  | then-number-eq0-via-else-number-eq0+then-number-geometry w ↦ read-done goes-stays refl (λ used. let high = used.high in omega (arith, w.if-number-geometry.true))
+  | then-number-eq0-via-then-number-eq0 w ↦ read-done goes-stays refl (λ used. omega (arith, used.low, w.if-number-eq0.true))
+  | then-number-eq0-via-else-number-eq0+then-number-geometry w ↦ read-done goes-stays refl (λ used. omega (arith, used.high, w.if-number-geometry.true))
 ]
 
 pub returns-in_err-inode : goal.returns-in_err-inode

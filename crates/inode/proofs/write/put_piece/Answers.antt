@@ -32,12 +32,12 @@ returns-in_err-next g c = step-failed goes-stays c.grow.ensures c.in_err-next.wa
 pub returns-in_default : goal.returns-in_default
 returns-in_default g c =
     let end = at_end (HasInode-of c.requires.held) c.requires.within (omega (arith, c.if-index-held.false, c.div_ceil-held.ensures)) in
-    let lacks = subst (PutsBehind c.args.geometry c.args.disk.now.blocks c.grow.new.disk.blocks c.args.number c.args.inode.now c.args.bytes.now) c.in_default.is c.in_ok-next.ensures.done in
+    let lacks = subst (PutsBehind _ _ _ _ c.args.inode.now _) c.in_default.is c.in_ok-next.ensures.done in
     step-done c.grow.ensures.goes (rw end lacks.0, lacks.1)
 
 pub write_inode-requires : goal.write_inode-requires
 write_inode-requires g c =
-    let puts = subst (PutsBehind c.args.geometry c.args.disk.now.blocks c.grow.new.disk.blocks c.args.number c.args.inode.now c.args.bytes.now) c.in-Some.is c.in_ok-next.ensures.done in
+    let puts = subst (PutsBehind _ _ _ _ c.args.inode.now _) c.in-Some.is c.in_ok-next.ensures.done in
     let held = HasInode-of c.requires.held in
     record { parts = HasParts-kept held.sound.parts puts.grows.count puts.grows.sizes; high = held.used.high; fits = puts.fits }
 
@@ -46,6 +46,6 @@ returns-in_err-write_inode g c = step-failed c.grow.ensures.goes c.write_inode.e
 
 pub returns : goal.returns
 returns g c =
-    let puts = subst (PutsBehind c.args.geometry c.args.disk.now.blocks c.grow.new.disk.blocks c.args.number c.args.inode.now c.args.bytes.now) c.in-Some.is c.in_ok-next.ensures.done in
+    let puts = subst (PutsBehind _ _ _ _ c.args.inode.now _) c.in-Some.is c.in_ok-next.ensures.done in
     step-done (goes-after c.grow.ensures.goes c.write_inode.ensures.goes)
     (Puts-grown (HasInode-of c.requires.held) c.requires.within (omega (arith, c.if-index-held.false, c.div_ceil-held.ensures)) c.args.bytes.now puts c.in_ok-write_inode.ensures.done)

@@ -1,6 +1,5 @@
 use Rattle.inode.proofs.Common.{arith, refl, subst, goes-after, goes-stays, step-done, step-failed, HasInode-of, PutsPiece}
-use Rattle.inode.proofs.Pieces.{Wrote-begin, Wrote-piece, front-ends, piece_less, piece_room, piece_short, piece_some, piece_within, place_within}
-use Rattle.inode.proofs.Wrote.{Puts-held}
+use Rattle.inode.proofs.Filling.{Wrote-begin, Wrote-piece, front-ends, piece_less, piece_room, piece_short, piece_some, piece_within, place_within, Puts-held}
 use Rattle.inode.proofs.write.write_front.Goals as goal
 
 pub piece-init : goal.piece-init
@@ -32,13 +31,13 @@ returns-in_err-put_piece g c = step-failed c.piece.invariant.goes c.put_piece.en
 
 pub returns-then-not-branch : goal.returns-then-not-branch
 returns-then-not-branch g c =
-    let lacks = subst (PutsPiece c.args.geometry c.piece.disk.blocks c.put_piece.new.disk.blocks c.args.number _ _ c.put_piece.new.inode) c.if-not-branch.true c.in_ok-put_piece.ensures.done in
+    let lacks = subst (PutsPiece _ _ _ _ _ _ _) c.if-not-branch.true c.in_ok-put_piece.ensures.done in
     step-done (goes-after c.piece.invariant.goes c.put_piece.ensures.goes)
     (front-ends c.piece.done c.args.bytes.now c.requires.within c.piece.invariant.wrote c.piece.invariant.within lacks.1 (λ _. lacks.0))
 
 pub piece-preserved : goal.piece-preserved
 piece-preserved g c =
-    let puts = subst (PutsPiece c.args.geometry c.piece.disk.blocks c.put_piece.new.disk.blocks c.args.number _ _ c.put_piece.new.inode) c.if-not-branch.false c.in_ok-put_piece.ensures.done in
+    let puts = subst (PutsPiece _ _ _ _ _ _ _) c.if-not-branch.false c.in_ok-put_piece.ensures.done in
     record {
       wrote = Wrote-piece c.piece.done c.args.bytes.now c.requires.within c.piece.invariant.wrote c.min-len.result (piece_within c.args.at c.args.bytes.now c.piece-test.true c.min-len.ensures) puts.wrote;
       held = Puts-held c.piece.inode c.piece.invariant.held puts;

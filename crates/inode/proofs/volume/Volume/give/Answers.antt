@@ -1,6 +1,5 @@
 use Rattle.inode.proofs.Common.{◌≡◌, length, raw_at}
-use Rattle.inode.proofs.Calls.{asked, at-inside, changes-given, empty-raw}
-use Rattle.inode.proofs.Serving.{sound-after, tries}
+use Rattle.inode.proofs.Calls.{asked, at-inside, changes-given, empty-raw, sound-after, tries}
 use Rattle.inode.proofs.volume.Volume.give.Goals as goal
 
 pub give_inode-result-requires : goal.give_inode-result-requires
@@ -9,7 +8,7 @@ give_inode-result-requires g c =
     record {
       sound = a.sound;
       inode = a.inode;
-      empty = empty-raw c.self.inside.disk.blocks c.self.inside.geometry.inodes c.args.number a.inode (at-inside c.self.view_is (λ s. length (raw_at s.nodes c.args.number).bytes ≡ 0) c.requires.empty);
+      empty = empty-raw a.inode (at-inside c.self.view_is (λ s. length (raw_at s.nodes c.args.number).bytes ≡ 0) c.requires.empty);
     }
 
 pub returns : goal.returns

@@ -1,5 +1,4 @@
-use Rattle.inode.proofs.Calls.{up-inside}
-use Rattle.inode.proofs.Serving.{looks, sound-same}
+use Rattle.inode.proofs.Calls.{up-inside, looks, sound-same}
 use Rattle.inode.proofs.volume.Volume.has_blocks.Goals as goal
 
 pub has_blocks-result-requires : goal.has_blocks-result-requires

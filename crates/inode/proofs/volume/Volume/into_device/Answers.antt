@@ -1,5 +1,4 @@
-use Rattle.inode.proofs.Calls.{up-inside}
-use Rattle.inode.proofs.Serving.{flushed}
+use Rattle.inode.proofs.Calls.{up-inside, flushed}
 use Rattle.inode.proofs.volume.Volume.into_device.Goals as goal
 
 pub returns : goal.returns

@@ -1,5 +1,4 @@
-use Rattle.inode.proofs.Calls.{up-inside}
-use Rattle.inode.proofs.Shown.{whole-sound}
+use Rattle.inode.proofs.Calls.{up-inside, whole-sound}
 use Rattle.inode.proofs.volume.Volume.is_whole.Goals as goal
 
 pub returns : goal.returns

@@ -1,5 +1,4 @@
-use Rattle.inode.proofs.Calls.{told-any, up-inside}
-use Rattle.inode.proofs.Serving.{looks, sound-same}
+use Rattle.inode.proofs.Calls.{told-any, up-inside, looks, sound-same}
 use Rattle.inode.proofs.volume.Volume.look.Goals as goal
 
 pub look-result-requires : goal.look-result-requires

@@ -1,6 +1,5 @@
 use Rattle.std.proofs.Common.{refl}
-use Rattle.inode.proofs.Calls.{emptied-asked, released}
-use Rattle.inode.proofs.Serving.{follows-stays, serves-lost, still-up, tries-last}
+use Rattle.inode.proofs.Calls.{emptied-asked, released, follows-stays, serves-lost, still-up, tries-last}
 use Rattle.inode.proofs.volume.Volume.release.Goals as goal
 
 pub returns-in_err-truncate : goal.returns-in_err-truncate

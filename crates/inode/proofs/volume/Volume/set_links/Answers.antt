@@ -1,9 +1,8 @@
-use Rattle.inode.proofs.Calls.{asked, changes-links}
-use Rattle.inode.proofs.Serving.{sound-after, tries}
+use Rattle.inode.proofs.Calls.{asked, changes-links, sound-after, tries}
 use Rattle.inode.proofs.volume.Volume.set_links.Goals as goal
 
 pub set_links-result-requires : goal.set_links-result-requires
-set_links-result-requires g c = let a = asked c.self.view_is c.self.invariant c.requires.up c.args.number c.requires.node in record { sound = a.sound; inode = a.inode }
+set_links-result-requires g c = asked c.self.view_is c.self.invariant c.requires.up c.args.number c.requires.node
 
 pub returns : goal.returns
 returns g c =

@@ -1,5 +1,4 @@
-use Rattle.inode.proofs.Calls.{takes-lowest, takes-sound, up-inside}
-use Rattle.inode.proofs.Serving.{sound-after, tries}
+use Rattle.inode.proofs.Calls.{takes-lowest, takes-sound, up-inside, sound-after, tries}
 use Rattle.inode.proofs.volume.Volume.take.Goals as goal
 
 pub take_inode-result-requires : goal.take_inode-result-requires

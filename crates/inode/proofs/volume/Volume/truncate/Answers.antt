@@ -1,9 +1,8 @@
-use Rattle.inode.proofs.Calls.{asked, changes-wrote}
-use Rattle.inode.proofs.Serving.{sound-after, tries}
+use Rattle.inode.proofs.Calls.{asked, changes-wrote, sound-after, tries}
 use Rattle.inode.proofs.volume.Volume.truncate.Goals as goal
 
 pub truncate-result-requires : goal.truncate-result-requires
-truncate-result-requires g c = let a = asked c.self.view_is c.self.invariant c.requires.up c.args.number c.requires.node in record { sound = a.sound; inode = a.inode }
+truncate-result-requires g c = asked c.self.view_is c.self.invariant c.requires.up c.args.number c.requires.node
 
 pub returns : goal.returns
 returns g c =

@@ -1,9 +1,8 @@
-use Rattle.inode.proofs.Calls.{asked, writes-from, writes-sound}
-use Rattle.inode.proofs.Serving.{sound-after, tries}
+use Rattle.inode.proofs.Calls.{asked, writes-from, writes-sound, sound-after, tries}
 use Rattle.inode.proofs.volume.Volume.try_writing.Goals as goal
 
 pub write_at-result-requires : goal.write_at-result-requires
-write_at-result-requires g c = let a = asked c.self.view_is c.self.invariant c.requires.up c.args.number c.requires.node in record { sound = a.sound; inode = a.inode }
+write_at-result-requires g c = asked c.self.view_is c.self.invariant c.requires.up c.args.number c.requires.node
 
 pub returns : goal.returns
 returns g c =
