@@ -1,8 +1,8 @@
 -- The steps of a write and of a read.
-use Rattle.pipe.proofs.Common.{◌≡◌, ◌<◌, ◌≤◌, inl, inr, ℕ, suc, zero, ◌+◌, ◌-◌, ◌%◌, List, [], ◌∷◌, ◌++◌, append_assoc, append-nil, drop, get_or, get_or-set_same, length, length-take, min, mod-eq_of_lt, refl}
-use Rattle.pipe.proofs.Common.{set, slice_set, sym, take, ap, ap₂, ◌∙◌, arith, drop_min, drop_more, take_min, take_more, frame_of, sized, ring, drop-ring, length-ring, ring-append, ring-around, ring-push, take-ring}
+use Rattle.pipe.proofs.Common.{◌≡◌, ◌<◌, ◌≤◌, inl, inr, ℕ, suc, zero, ◌+◌, ◌-◌, ◌%◌, List, [], ◌∷◌, ◌++◌, append_assoc, append-nil, drop, get_or, get_or-set_same, length, length-take, min, mod-eq_of_lt, refl, set, slice_set, sym, take, ap}
+use Rattle.pipe.proofs.Common.{ap₂, ◌∙◌, arith, drop_min, drop_more, take_min, take_more, frame_of, sized, ring, drop-ring, length-ring, ring-append, ring-around, ring-push, take-ring}
 use Rattle.std.proofs.lemmas.Bool.{cases_lt}
-use Rattle.ram.proofs.Frames.{sized-full}
+use Rattle.ram.proofs.MemoryLemmas.{sized-full}
 
 -- the first bytes are written, and then one more
 pub append-more : (ys xs bs : List ℕ) (k n i b : ℕ) → 512 ≤ length ys → k < 512 → n + length bs ≤ 512 → i < length bs → b ≡ get_or bs i 0 → ring 512 ys k (n + i) ≡ ring 512 xs k n ++ take i bs

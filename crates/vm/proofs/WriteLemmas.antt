@@ -2,7 +2,7 @@
 use Rattle.vm.proofs.Common.{[], ap, append_assoc, arith, cases_lt, drop, drop-drop, drop-set-lt, drop_all, frame_at, frame_of, Frames, further_at, get_or-set_other, inl, inr, is_open, IsMapped, IsOnce, IsSpace, length, length-append}
 use Rattle.vm.proofs.Common.{length-drop, length-take, List, mapping_of, marks_at, Memory, min, overwrite, Page, page_at, page_with, pages_in, pages_of, put, put_bytes, read_at, refl, Reframes, right_marks, SameLeaves, sized, slice_get}
 use Rattle.vm.proofs.Common.{slice_set, Some, Space, Stands, suc, sym, take, take-append-drop, take-suc-set, take_all, true, write_bytes, write_from, written, ℕ, ◌%◌, ◌++◌, ◌+◌, ◌-◌, ◌/◌, ◌<◌, ◌∙◌, ◌∷◌, ◌≡◌, ◌≤◌}
-use Rattle.ram.proofs.Frames.{sized-full}
+use Rattle.ram.proofs.MemoryLemmas.{sized-full}
 use Rattle.vm.proofs.ReachLemmas.{item-at}
 use Rattle.vm.proofs.StoreLemmas.{pages-stored, private-set, space-stays, space-stored, trap-apart, Writes-page, writes-put}
 use Rattle.vm.proofs.WalkLaw.{get-mapping, mapped-page}

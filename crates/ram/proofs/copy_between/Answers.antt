@@ -1,7 +1,5 @@
-use Rattle.std.proofs.Common.{◌≡◌, ◌∙◌, ap, arith, ◌<◌, ◌+◌, set, [], get_or, List, ℕ}
-use Rattle.std.specs.Prelude.{slice_range}
-use Rattle.ram.specs.Memory.{frame_of, put_bytes}
-use Rattle.ram.proofs.Frames.{set-parts_back, set-parts_front}
+use Rattle.std.proofs.Common.{◌≡◌, ◌∙◌, arith, ◌<◌, ◌+◌, [], refl}
+use Rattle.ram.proofs.MemoryLemmas.{set-parts_back, set-parts_front}
 use Rattle.ram.proofs.copy_between.Goals as goal
 
 pub returns-then-from-to-clause-value : goal.returns-then-from-to-clause-value
@@ -11,12 +9,8 @@ returns-then-from-to-clause-value c =
     let low = c.split_at_mut-low.result.0.now in
     let high = c.split_at_mut-low.result.1.now in
     let here : c.args.to + 0 ≡ c.args.to = omega arith in
-    let part = λ (x : List ℕ). slice_range x c.args.i (c.args.i + c.args.len) in
     set-parts_back m low high c.args.to c.copy_bytes.new.to parts.value parts.front_len
-    ∙ ap (set m c.args.to)
-    (c.copy_bytes.ensures.value
-    ∙ ap (λ x. put_bytes x c.args.j (part (get_or low c.args.from []))) (parts.by_index.1 0 [] ∙ ap (frame_of m) here)
-    ∙ ap (λ x. put_bytes (frame_of m c.args.to) c.args.j (part x)) (parts.by_index.0 c.args.from [] c.if-from-to.true))
+    ∙ rw (c.copy_bytes.ensures.value, parts.by_index.1 0 [], here, parts.by_index.0 c.args.from [] c.if-from-to.true) refl
 
 pub returns-else-from-to-clause-value : goal.returns-else-from-to-clause-value
 returns-else-from-to-clause-value c =
@@ -26,9 +20,5 @@ returns-else-from-to-clause-value c =
     let high = c.split_at_mut-low-else-from-to.result.1.now in
     let below : c.args.to < c.args.from = omega (arith, c.requires.apart) in
     let here : c.args.from + 0 ≡ c.args.from = omega arith in
-    let part = λ (x : List ℕ). slice_range x c.args.i (c.args.i + c.args.len) in
     set-parts_front m low high c.args.to c.copy_bytes-else-from-to.new.to parts.value (omega (arith, parts.front_len))
-    ∙ ap (set m c.args.to)
-    (c.copy_bytes-else-from-to.ensures.value
-    ∙ ap (λ x. put_bytes x c.args.j (part (get_or high 0 []))) (parts.by_index.0 c.args.to [] below)
-    ∙ ap (λ x. put_bytes (frame_of m c.args.to) c.args.j (part x)) (parts.by_index.1 0 [] ∙ ap (frame_of m) here))
+    ∙ rw (c.copy_bytes-else-from-to.ensures.value, parts.by_index.0 c.args.to [] below, parts.by_index.1 0 [], here) refl

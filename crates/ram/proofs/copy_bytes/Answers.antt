@@ -1,7 +1,7 @@
 use Rattle.std.proofs.Common.{◌≡◌, ◌∙◌, ap, arith, length, ◌-◌, ◌+◌, drop}
 use Rattle.std.proofs.lemmas.List.{length-take-le}
 use Rattle.ram.specs.Memory.{put_bytes}
-use Rattle.ram.proofs.Frames.{put_mid-bytes}
+use Rattle.ram.proofs.MemoryLemmas.{put_mid-bytes}
 use Rattle.ram.proofs.copy_bytes.Goals as goal
 
 pub returns-clause-value : goal.returns-clause-value

@@ -1,6 +1,6 @@
 use Rattle.std.proofs.Common.{◌≡◌, ◌∙◌, ap, arith, ◌+◌, set, []}
 use Rattle.ram.specs.Memory.{frame_of}
-use Rattle.ram.proofs.Frames.{set-parts_back, set-parts_front}
+use Rattle.ram.proofs.MemoryLemmas.{set-parts_back, set-parts_front}
 use Rattle.ram.proofs.copy_frame.Goals as goal
 
 pub returns-then-from-to-clause-value : goal.returns-then-from-to-clause-value

@@ -1,5 +1,5 @@
-use Rattle.ram.proofs.Frames.{IsMemory-view}
+use Rattle.ram.proofs.MemoryLemmas.{IsMemory-view}
 use Rattle.ram.proofs.Ram.frame_count.Goals as goal
 
 pub returns-clause-memory : goal.returns-clause-memory
-returns-clause-memory c = IsMemory-view c.self.inside.frames.items c.args.self.now c.self.view_is
+returns-clause-memory c = IsMemory-view c.self.inside.frames.items c.self.view_is

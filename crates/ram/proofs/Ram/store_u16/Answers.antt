@@ -1,5 +1,5 @@
 use Rattle.ram.specs.Memory.{word_bytes}
-use Rattle.ram.proofs.Frames.{put-view}
+use Rattle.ram.proofs.MemoryLemmas.{put-view}
 use Rattle.ram.proofs.Ram.store_u16.Goals as goal
 
 pub returns : goal.returns

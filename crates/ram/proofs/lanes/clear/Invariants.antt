@@ -1,5 +1,5 @@
 use Rattle.std.proofs.Common.{replicate, ℕ}
-use Rattle.ram.proofs.Parts.{IsWritten}
+use Rattle.ram.proofs.MemoryLemmas.{IsWritten}
 use Rattle.ram.proofs.lanes.clear.Given as goal
 
 abbrev pub invariant-loop-part : goal.invariant-loop-part

@@ -1,4 +1,4 @@
-use Rattle.ram.proofs.Parts.{IsWritten}
+use Rattle.ram.proofs.MemoryLemmas.{IsWritten}
 use Rattle.ram.proofs.lanes.copy.Given as goal
 
 abbrev pub invariant-loop-part : goal.invariant-loop-part
