@@ -2,7 +2,7 @@
 use Rattle.hart.proofs.Common.{Access, act_word, Acts, allowed, Answers, ap, changed, Computed, cycle, Effect, Err, Fetch, fetched, frame_for, Goes, Hart, Held, HoldsInside, inl, inr, instruction_of, InstructionPageFault, IsAnswer, IsKept}
 use Rattle.hart.proofs.Common.{IsMemory, Leaves, List, Mapped, Memory, memory_of, Next, None, Ok, Option, option_map, page_in, pc_after, place_in, Point, point_at, Reaches, refl, RunsTo, seen, Shows, Sight, slice_get, Some, Stores, subst}
 use Rattle.hart.proofs.Common.{suc, sym, Trap, trap, trap_of, walk_page-inside, word_by, word_in, ℕ, ◌/◌, ◌∙◌, ◌≡◌}
-use Rattle.sv39.proofs.Coherence.{coherent-kept, shows-coherent}
+use Rattle.sv39.proofs.Placed.{coherent-kept, shows-coherent}
 use Rattle.hart.proofs.ChangeLemmas.{cycle-only}
 use Rattle.hart.proofs.CycleLemmas.{cycle-stores}
 use Rattle.hart.proofs.Mappings.{page_for-memory_of}

@@ -1,7 +1,7 @@
 -- The names that the lemmas of this crate import from elsewhere, passed on from one place. Declares nothing.
-pub use Rattle.std.proofs.Common.{◌%◌, ◌&&◌, ◌+◌, ◌++◌, ◌-◌, ◌/◌, ◌<◌, [], ◌^◌, All, ap, append-nil, arith, Bool, cond, drop, eqb, Err, false, get_or, get_or-set_other}
-pub use Rattle.std.proofs.Common.{get_or-set_same, IfSome, if◌then◌else◌, inl, inr, length, length-append, length-set, List, map, nat_le, nat_lt, None, Ok, Option}
-pub use Rattle.std.proofs.Common.{option_map, refl, replicate, Result, slice_set, Some, subst, suc, sym, take, take-append-drop, true, zero, ℕ, ◌∙◌, ◌∷◌, ◌≡◌, ◌≢◌, ◌≤◌, ◌⊎◌}
+pub use Rattle.std.proofs.Common.{◌%◌, ◌&&◌, ◌+◌, ◌++◌, ◌-◌, ◌/◌, ◌<◌, [], ◌^◌, All, ap, append-nil, arith, Bool, cond, drop, eqb, Err, false, get_or, get_or-set_other, get_or-set_same, IfSome, if◌then◌else◌, inl, inr, length}
+pub use Rattle.std.proofs.Common.{length-append, length-set, List, map, nat_le, nat_lt, None, Ok, Option, option_map, refl, replicate, Result, slice_set, Some, subst, suc, sym, take, take-append-drop, true, zero, ℕ, ◌∙◌, ◌∷◌, ◌≡◌, ◌≢◌, ◌≤◌}
+pub use Rattle.std.proofs.Common.{◌⊎◌}
 pub use Rattle.std.proofs.Math.ListN.{get_or-map}
 pub use Rattle.std.proofs.lemmas.Bool.{and_parts, cases_Bool, cases_eq, cases_lt}
 pub use Rattle.std.proofs.lemmas.List.{get_or_default, length-map, length-replicate, length-take, set-get_or, take_all, nil_from_length}
@@ -22,7 +22,7 @@ pub use Rattle.hart.specs.declared.state.Hart.{Hart}
 pub use Rattle.pipe.specs.Pipe.{bytes_of, Pipe, Stays}
 pub use Rattle.ram.specs.Memory.{frame_of, IsMemory}
 pub use Rattle.ram.specs.declared.FrameNo.{FrameNo}
-pub use Rattle.sv39.proofs.Coherence.{coherent-kept, coherent-nothing, shows-coherent}
+pub use Rattle.sv39.proofs.Placed.{coherent-kept, coherent-nothing, shows-coherent}
 pub use Rattle.sv39.specs.Mapping.{IsCoherent, Mapped, memory_of, page_in, Shows, WalksTo}
 pub use Rattle.unixmodel.specs.Counts.{page_frames}
 unfoldable pub use Rattle.unixmodel.specs.Cycle.{cycle}

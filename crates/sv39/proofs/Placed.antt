@@ -1,11 +1,13 @@
 -- What places keep after one of them was filled or emptied.
-use Rattle.std.proofs.Common.{◌≡◌, ◌≢◌, ℕ, zero, suc, ◌%◌, ◌^◌, ◌<◌, inl, inr, List, [], ◌∷◌, length, Some, refl, ap, ◌∙◌, arith}
-use Rattle.std.specs.Prelude.{slice_get, slice_set, ◌⊎◌}
+use Rattle.ram.proofs.MemoryLemmas.{Ram}
+use Rattle.std.proofs.Common.{◌≡◌, ◌≢◌, ℕ, zero, suc, ◌%◌, ◌^◌, ◌<◌, inl, inr, List, [], ◌∷◌, length, Some, refl, ap, ◌∙◌, arith, ◌/◌, sym}
+use Rattle.std.specs.Prelude.{slice_get, slice_set, ◌⊎◌, option_map}
 use Rattle.unixmodel.specs.declared.trap.Access.{Access}
 use Rattle.unixmodel.specs.declared.trap.Access.TheVariants.{Fetch, Load, Store}
-use Rattle.unixmodel.specs.Translation.{Translation}
+use Rattle.unixmodel.specs.Translation.{Translation, walk_page, place_in, Held, IsKept, HoldsNothing}
 use Rattle.sv39.specs.declared.places.Entry.{Entry}
 use Rattle.sv39.specs.Lookaside.{IsPlaced, Keeps, Kept, filled, for_access, of_page, set_for}
+use Rattle.sv39.specs.Mapping.{IsCoherent, Mapped, Shows, WalksTo}
 
 -- ---- one list
 
@@ -30,19 +32,8 @@ get-only (x ∷ xs) (suc i) (suc j) y z h = get-only xs i j y z h
 
 -- ---- the places of an access
 
-placed-only : (n : ℕ) (places : List Entry) (at : ℕ) (entry : Entry) (root page frame : ℕ) → IsPlaced n (slice_set places at entry) root page frame
-    → IsPlaced n places root page frame ⊎ (entry ≡ filled root page frame)
-placed-only n places at entry root page frame is =
-    elim (get-only places at (page % n) entry (filled root page frame) is.entry) [
-      | inl was ↦ inl (record { entry = was; bounded = is.bounded })
-      | inr now ↦ inr now
-    ]
-
 placed-joins : (n : ℕ) (places : List Entry) (root page frame : ℕ) → page % n < length places → page < 2 ^ 52 → IsPlaced n (slice_set places (page % n) (filled root page frame)) root page frame
 placed-joins n places root page frame inside bounded = record { entry = get-set places (page % n) (filled root page frame) inside; bounded = bounded }
-
-placed-stays : (n : ℕ) (places : List Entry) (at : ℕ) (entry : Entry) (root page frame : ℕ) → page % n ≢ at → IsPlaced n places root page frame → IsPlaced n (slice_set places at entry) root page frame
-placed-stays n places at entry root page frame other is = record { entry = get-other places at (page % n) entry other ∙ is.entry; bounded = is.bounded }
 
 -- ---- a place for an access is filled
 
@@ -52,33 +43,32 @@ set-joins n kept Fetch root page frame = placed-joins n kept.fetches root page f
 set-joins n kept Load root page frame = placed-joins n kept.loads root page frame
 set-joins n kept Store root page frame = placed-joins n kept.stores root page frame
 
-stays-for : (n : ℕ) (kept : Kept) (access a : Access) (at : ℕ) (entry : Entry) (root page frame : ℕ) → page % n ≢ at → IsPlaced n (for_access kept a) root page frame
-    → IsPlaced n (for_access (set_for kept access at entry) a) root page frame
-stays-for n kept Fetch Fetch at entry root page frame other is = placed-stays n kept.fetches at entry root page frame other is
-stays-for n kept Fetch Load at entry root page frame other is = is
-stays-for n kept Fetch Store at entry root page frame other is = is
-stays-for n kept Load Fetch at entry root page frame other is = is
-stays-for n kept Load Load at entry root page frame other is = placed-stays n kept.loads at entry root page frame other is
-stays-for n kept Load Store at entry root page frame other is = is
-stays-for n kept Store Fetch at entry root page frame other is = is
-stays-for n kept Store Load at entry root page frame other is = is
-stays-for n kept Store Store at entry root page frame other is = placed-stays n kept.stores at entry root page frame other is
+module _ (n at : ℕ) (entry : Entry) (root page frame : ℕ) where
+  placed-only : (places : List Entry) → IsPlaced n (slice_set places at entry) root page frame → IsPlaced n places root page frame ⊎ (entry ≡ filled root page frame)
+  placed-only places is =
+      elim (get-only places at (page % n) entry (filled root page frame) is.entry) [
+        | inl was ↦ inl (record { entry = was; bounded = is.bounded })
+        | inr now ↦ inr now
+      ]
+
+  placed-stays : (places : List Entry) → page % n ≢ at → IsPlaced n places root page frame → IsPlaced n (slice_set places at entry) root page frame
+  placed-stays places other is = record { entry = get-other places at (page % n) entry other ∙ is.entry; bounded = is.bounded }
+
+  stays-for : (kept : Kept) (access a : Access) → page % n ≢ at → IsPlaced n (for_access kept a) root page frame → IsPlaced n (for_access (set_for kept access at entry) a) root page frame
+  stays-for kept Fetch Fetch other is = placed-stays kept.fetches other is
+  stays-for kept Load Load other is = placed-stays kept.loads other is
+  stays-for kept Store Store other is = placed-stays kept.stores other is
+  stays-for kept access a other is = is
+
+  only-for : (kept : Kept) (access a : Access) → IsPlaced n (for_access (set_for kept access at entry) a) root page frame → IsPlaced n (for_access kept a) root page frame ⊎ ((a ≡ access) × (entry ≡ filled root page frame))
+  only-for kept Fetch Fetch is = elim (placed-only kept.fetches is) [ inl was ↦ inl was | inr now ↦ inr (refl, now) ]
+  only-for kept Load Load is = elim (placed-only kept.loads is) [ inl was ↦ inl was | inr now ↦ inr (refl, now) ]
+  only-for kept Store Store is = elim (placed-only kept.stores is) [ inl was ↦ inl was | inr now ↦ inr (refl, now) ]
+  only-for kept access a is = inl is
 
 pub set-stays : (n : ℕ) (kept : Kept) (access : Access) (at : ℕ) (entry : Entry) (t : Translation) → t.page % n ≢ at → IsPlaced n (for_access kept t.access) t.root t.page t.frame
     → IsPlaced n (for_access (set_for kept access at entry) t.access) t.root t.page t.frame
-set-stays n kept access at entry t = stays-for n kept access t.access at entry t.root t.page t.frame
-
-only-for : (n : ℕ) (kept : Kept) (access a : Access) (at : ℕ) (entry : Entry) (root page frame : ℕ) → IsPlaced n (for_access (set_for kept access at entry) a) root page frame
-    → IsPlaced n (for_access kept a) root page frame ⊎ ((a ≡ access) × (entry ≡ filled root page frame))
-only-for n kept Fetch Fetch at entry root page frame is = elim (placed-only n kept.fetches at entry root page frame is) [ inl was ↦ inl was | inr now ↦ inr (refl, now) ]
-only-for n kept Fetch Load at entry root page frame is = inl is
-only-for n kept Fetch Store at entry root page frame is = inl is
-only-for n kept Load Fetch at entry root page frame is = inl is
-only-for n kept Load Load at entry root page frame is = elim (placed-only n kept.loads at entry root page frame is) [ inl was ↦ inl was | inr now ↦ inr (refl, now) ]
-only-for n kept Load Store at entry root page frame is = inl is
-only-for n kept Store Fetch at entry root page frame is = inl is
-only-for n kept Store Load at entry root page frame is = inl is
-only-for n kept Store Store at entry root page frame is = elim (placed-only n kept.stores at entry root page frame is) [ inl was ↦ inl was | inr now ↦ inr (refl, now) ]
+set-stays n kept access at entry t = stays-for n at entry t.root t.page t.frame kept access t.access
 
 same : (r p f root page frame : ℕ) (a access : Access) → a ≡ access → filled root page frame ≡ filled r p f
     → of_page r p a f ≡ of_page root page access frame
@@ -87,7 +77,31 @@ same r p f root page frame a access e is = rw (e, ap (λ (x : Entry). x.root.0) 
 pub set-only : (n : ℕ) (kept : Kept) (access : Access) (root page frame : ℕ) (t : Translation) → IsPlaced n (for_access (set_for kept access (page % n) (filled root page frame)) t.access) t.root t.page t.frame
     → Keeps n kept t ⊎ (t ≡ of_page root page access frame)
 set-only n kept access root page frame t is =
-    elim (only-for n kept access t.access (page % n) (filled root page frame) t.root t.page t.frame is) [
+    elim (only-for n (page % n) (filled root page frame) t.root t.page t.frame kept access t.access is) [
       | inl was ↦ inl was
       | inr now ↦ inr (same t.root t.page t.frame root page frame t.access access now.0 now.1)
     ]
+
+-- ---- translators that hold only what a mapping has
+
+-- a translator that holds only what the mapping has shows it
+pub shows-coherent : (held : Held) (ram : Ram) (root : ℕ) (mapping : List Mapped) → WalksTo ram root mapping → IsCoherent held root mapping → Shows held ram root mapping
+shows-coherent held ram root mapping tables coherent va access answer (inl walked) =
+    walked ∙ ap (option_map (place_in va)) (tables.walks (va / 4096) access)
+shows-coherent held ram root mapping tables coherent va access answer (inr kept) =
+    let t : Translation = record { root = root; page = va / 4096; access = access; frame = kept.0 } in
+    kept.2 ∙ ap (option_map (place_in va)) (sym (coherent.walks t kept.1 refl))
+
+-- what a translator adds by walking the mapping's tables is the mapping's
+pub coherent-kept : (old new : Held) (ram : Ram) (root : ℕ) (mapping : List Mapped) → WalksTo ram root mapping → IsCoherent old root mapping → IsKept old new ram root → IsCoherent new root mapping
+coherent-kept old new ram root mapping tables coherent kept = record {
+  walks = λ t h same.
+      elim (kept t h) [
+        | inl was ↦ coherent.walks t was same
+        | inr now ↦ sym (tables.walks t.page t.access) ∙ ap (λ r. (walk_page ram r t.page t.access).frame) (sym now.0) ∙ now.1
+      ];
+}
+
+-- after a fence a translator holds nothing that any mapping lacks
+pub coherent-nothing : (held : Held) (root : ℕ) (mapping : List Mapped) → HoldsNothing held → IsCoherent held root mapping
+coherent-nothing held root mapping empty = record { walks = λ t h same. absurd (empty t h) }
