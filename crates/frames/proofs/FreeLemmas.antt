@@ -1,5 +1,6 @@
 -- Lemmas on free lists.
-use Rattle.std.proofs.Common.{◌≡◌, ◌≢◌, ℕ, zero, suc, ◌+◌, ◌-◌, ◌<◌, ◌≤◌, ◌⊎◌, inl, inr, true, false, nat_eq, List, [], ◌∷◌, length, refl, sym, ap, ◌∙◌, arith, add-one, ◌^◌, eq-eqb, ◌||◌, slice_set, length-set, get_or, get_or-set_other, get_or-set_same, replicate}
+use Rattle.std.proofs.Common.{◌≡◌, ◌≢◌, ℕ, zero, suc, ◌+◌, ◌-◌, ◌<◌, ◌≤◌, ◌⊎◌, inl, inr, true, false, nat_eq, List, [], ◌∷◌, length, refl, sym, ap, ◌∙◌, arith, add-one, ◌^◌, eq-eqb, ◌||◌, slice_set, length-set, get_or, get_or-set_other}
+use Rattle.std.proofs.Common.{get_or-set_same, replicate}
 use Rattle.std.proofs.lemmas.Grind.{common_steps, get_or_default_zero}
 use Rattle.std.proofs.lemmas.Map.Steps.{length-le_from_distinct_below}
 use Rattle.std.proofs.lemmas.Bool.{cases_eq, cases_lt, ne_eqb}
@@ -98,23 +99,24 @@ size-set s t f x n items size = ap length items ∙ length-set s.holders.items f
 sum-set : (s t : Frames) (f x : ℕ) → t.holders.items ≡ slice_set s.holders.items f x → f < length s.holders.items → sum_by less_one t.holders.items + less_one (counted s f) ≡ sum_by less_one s.holders.items + less_one x
 sum-set s t f x items low = ap (λ l. sum_by less_one l + less_one (counted s f)) items ∙ sum_by-set less_one s.holders.items f x 0 low
 
--- a free frame has no holder beyond the first, which it lacks too
-pub further-free : (m : List (List ℕ)) (s : Frames) (f : ℕ) → IsFreeList m s → among f (free_of m s) ≡ true → further_at s f ≡ 0
-further-free m s f is at = omega (arith, further-is s f, is.none f at)
+module _ {m : List (List ℕ)} {s : Frames} (is : IsFreeList m s) where
+  -- a free frame has no holder beyond the first, which it lacks too
+  pub further-free : (f : ℕ) → among f (free_of m s) ≡ true → further_at s f ≡ 0
+  further-free f at = omega (arith, further-is s f, is.none f at)
 
--- nor has what is no frame
-pub further-past : (m : List (List ℕ)) (s : Frames) (f : ℕ) → IsFreeList m s → length m ≤ f → further_at s f ≡ 0
-further-past m s f is past = omega (arith, further-is s f, get_or_past s.holders.items f 0 (omega (arith, is.size, past)))
+  -- nor has what is no frame
+  pub further-past : (f : ℕ) → length m ≤ f → further_at s f ≡ 0
+  further-past f past = omega (arith, further-is s f, get_or_past s.holders.items f 0 (omega (arith, is.size, past)))
 
-pub not_free : (m : List (List ℕ)) (s : Frames) (f : ℕ) → IsFreeList m s → 0 < counted s f → among f (free_of m s) ≡ false
-not_free m s f is some = elim (among f (free_of m s)) as (λ b. among f (free_of m s) ≡ b → b ≡ false) [ true ↦ λ e. absurd (omega (arith, some, is.none f e)) | false ↦ λ e. refl ] refl
+  pub not_free : (f : ℕ) → 0 < counted s f → among f (free_of m s) ≡ false
+  not_free f some = elim (among f (free_of m s)) as (λ b. among f (free_of m s) ≡ b → b ≡ false) [ true ↦ λ e. absurd (omega (arith, some, is.none f e)) | false ↦ λ e. refl ] refl
 
--- one with a further holder is held
-pub further-held : (m : List (List ℕ)) (s : Frames) (f : ℕ) → IsFreeList m s → 0 < further_at s f → (among f (free_of m s) ≡ false) × (f < length m)
-further-held m s f is some = (
-  not_free m s f is (omega (arith, some, further-is s f)),
-  elim (cases_lt f (length m)) [ inl low ↦ low | inr past ↦ absurd (omega (arith, some, further-past m s f is past)) ],
-)
+  -- one with a further holder is held
+  pub further-held : (f : ℕ) → 0 < further_at s f → (among f (free_of m s) ≡ false) × (f < length m)
+  further-held f some = (
+    not_free f (omega (arith, some, further-is s f)),
+    elim (cases_lt f (length m)) [ inl low ↦ low | inr past ↦ absurd (omega (arith, some, further-past f past)) ],
+  )
 
 pub apart-not : (f : ℕ) (fs : List ℕ) → AllByRecursion (λ y. nat_eq f y ≡ false) fs → among f fs ≡ false
 apart-not f [] h = refl
@@ -153,10 +155,6 @@ IsFreeList-take m s t f is e items shared room =
           first.1 (omega (arith, shared, zero_before)) (omega (arith, shared, room, ap length e)),
       table-same s t f 1 items shared (ap less_one (sym zero_before)),
     )
-
--- there are no more free frames than frames
-pub count-le : (m : List (List ℕ)) (s : Frames) → IsFreeList m s → s.count ≤ length m
-count-le m s is = rw (← length-free_of m s) (length-le_from_distinct_below (free_of m s) (length m) is.distinct is.inside)
 
 first_not : (f g : ℕ) (fs : List ℕ) → among f (g ∷ fs) ≡ false → nat_eq f g ≡ false
 first_not f g fs h = grind (arith, common_steps)
@@ -200,10 +198,6 @@ further-count s t f x g low items = elim (cases_eq g f) [
   | inr other ↦ inr (other, further-is t g ∙ ap less_one (counted-other s t f g x items other) ∙ sym (further-is s g))
 ]
 
--- a further holder is one of the sum
-pub further-le : (m : List (List ℕ)) (s : Frames) (f : ℕ) → IsFreeList m s → f < length m → counted s f ≤ s.shared + 1
-further-le m s f is inside = omega (arith, is.sum, get_or-le-sum_by less_one s.holders.items f 0 (omega (arith, inside, is.size)))
-
 pub SameBut-put : (m : List (List ℕ)) (f o : ℕ) (bs : List ℕ) → SameBut (f ∷ []) m (put m f o bs)
 SameBut-put m f o bs = record {
   count = length-put m f o bs;
@@ -214,10 +208,19 @@ pub free_of-none : (m : List (List ℕ)) (s : Frames) → s.count ≡ 0 → free
 unfolding free_of chain
 free_of-none m s e = rw e refl
 
--- the first free frame is one of the memory
-pub free_of-first : (m : List (List ℕ)) (s : Frames) → IsFreeList m s → s.count ≢ 0 → s.first.0 < length m
-unfolding free_of
-free_of-first m s is ne = is.inside s.first.0 (rw (chain-step m s.count s.first.0 ne) (among_first s.first.0 (chain m (s.count - 1) (word_of m s.first.0 0 4))))
+module _ {m : List (List ℕ)} {s : Frames} (is : IsFreeList m s) where
+  -- there are no more free frames than frames
+  pub count-le : s.count ≤ length m
+  count-le = rw (← length-free_of m s) (length-le_from_distinct_below (free_of m s) (length m) is.distinct is.inside)
+
+  -- a further holder is one of the sum
+  pub further-le : (f : ℕ) → f < length m → counted s f ≤ s.shared + 1
+  further-le f inside = omega (arith, is.sum, get_or-le-sum_by less_one s.holders.items f 0 (omega (arith, inside, is.size)))
+
+  -- the first free frame is one of the memory
+  pub free_of-first : s.count ≢ 0 → s.first.0 < length m
+  unfolding free_of
+  free_of-first ne = is.inside s.first.0 (rw (chain-step m s.count s.first.0 ne) (among_first s.first.0 (chain m (s.count - 1) (word_of m s.first.0 0 4))))
 
 -- ---- the list of all frames
 
@@ -264,9 +267,6 @@ range-before a b i e = rw (add-one, ← e) refl
 pub some-free : (m : List (List ℕ)) (s : Frames) → 0 < free_count m s → (s.shared < length (free_of m s)) × (s.count ≢ 0)
 some-free m s h = (omega (arith, h, shared-is s), λ e. omega (arith, h, length-free_of m s, e))
 
-pub none-free : (m : List (List ℕ)) (s : Frames) → IsFreeList m s → free_count m s ≢ 0 → s.shared < length (free_of m s)
-none-free m s is h = omega (arith, h, shared-is s)
-
 pub free_count-fewer : (m : List (List ℕ)) (s t : Frames) → free_of m t ≡ free_of m s → s.shared < length (free_of m s) → t.shared ≡ s.shared + 1 → free_count m s ≡ free_count m t + 1
 free_count-fewer m s t e room shared = omega (arith, shared-is s, shared-is t, ap length e, room, shared)
 
@@ -277,9 +277,13 @@ free_count-more m s t e room shared = omega (arith, shared-is s, shared-is t, ap
 pub free_count-list : (m k : List (List ℕ)) (s t : Frames) (f : ℕ) → s.shared ≤ length (free_of m s) → free_of k t ≡ f ∷ free_of m s → extra_of t ≡ extra_of s → free_count k t ≡ free_count m s + 1
 free_count-list m k s t f room e same = omega (arith, shared-is s, ap length e, room, ap (λ (x : List ℕ × ℕ). x.1) same)
 
-pub shared-some : (m : List (List ℕ)) (s : Frames) (f : ℕ) → IsFreeList m s → 0 < further_at s f → 0 < s.shared
-shared-some m s f is some = omega (arith, further-le m s f is (further-held m s f is some).1, further-is s f, some)
+module _ {m : List (List ℕ)} {s : Frames} (is : IsFreeList m s) where
+  pub none-free : free_count m s ≢ 0 → s.shared < length (free_of m s)
+  none-free h = omega (arith, h, shared-is s)
 
--- a count that was read
-pub count-read : (m : List (List ℕ)) (s : Frames) (f x : ℕ) → IsFreeList m s → f < length m → x ≡ get_or s.holders.items f x → x ≡ counted s f
-count-read m s f x is inside e = e ∙ get_or_default_zero s.holders.items f x (omega (arith, inside, is.size))
+  pub shared-some : (f : ℕ) → 0 < further_at s f → 0 < s.shared
+  shared-some f some = omega (arith, further-le is f (further-held is f some).1, further-is s f, some)
+
+  -- a count that was read
+  pub count-read : (f x : ℕ) → f < length m → x ≡ get_or s.holders.items f x → x ≡ counted s f
+  count-read f x inside e = e ∙ get_or_default_zero s.holders.items f x (omega (arith, inside, is.size))

@@ -5,7 +5,7 @@ use Rattle.std.proofs.lemmas.List.Sums.{sum_by-cons}
 use Rattle.std.specs.List.{IsDistinct, range_with_len, sum_by}
 use Rattle.ram.specs.Memory.{frame_of}
 use Rattle.frames.specs.declared.Frames.{Frames}
-use Rattle.frames.specs.Free.{among, counted, free_count, free_of, further_at, less_one, extra_of, IsFreeList, SameBut}
+use Rattle.frames.specs.Free.{among, counted, free_count, free_of, further_at, less_one, extra_of, IsFreeList, SameBut, IsDuplicate}
 use Rattle.frames.proofs.FreeLemmas.{apart-not, further-is, further-free, further-past, further-count, shared-is, not_free}
 use Rattle.frames.specs.Holders.{one_if, count_of, holders_of, Gains, IsShared, Loses, Trades}
 
@@ -50,55 +50,38 @@ distinct-count f (x ∷ xs) h = elim (cases_eq f x) [
 pub count-cases : (f : ℕ) (xs : List ℕ) → (among f xs ≡ true) ⊎ (count_of f xs ≡ 0)
 count-cases f xs = elim (among f xs) as (λ b. among f xs ≡ b → (among f xs ≡ true) ⊎ (count_of f xs ≡ 0)) [ true ↦ λ e. inl e | false ↦ λ e. inr (none-among f xs e) ] refl
 
--- a frame of the memory is free or has a holder, and some have more
-pub holders-free : (m : List (List ℕ)) (s : Frames) → IsFreeList m s → (f : ℕ) → holders_of m s f + count_of f (free_of m s) ≡ one_if (ltb f (length m)) + further_at s f
-unfolding holders_of
-holders-free m s is f = elim (count-cases f (free_of m s)) [
-  | inl at ↦ let e = lt-ltb f (length m) (is.inside f at) in rw e (omega (arith, distinct-count f (free_of m s) is.distinct))
-  | inr none ↦ rw none (omega arith)
-]
-
 pub among-count : (f : ℕ) (xs : List ℕ) → among f xs ≡ true → 0 < count_of f xs
 among-count f xs at = elim (cases_eq (count_of f xs) 0) [
   | inl z ↦ absurd (cc (at, among-none f xs z))
   | inr some ↦ omega (arith, some)
 ]
 
--- the table counts the holders
-pub holders-counted : (m : List (List ℕ)) (s : Frames) (f : ℕ) → IsFreeList m s → f < length m → holders_of m s f ≡ counted s f
-holders-counted m s f is low =
-    let sum = holders-free m s is f in
-    let one = ap one_if (lt-ltb f (length m) low) in
-    elim (count-cases f (free_of m s)) [
-      | inl at ↦ omega (arith, sum, one, further-is s f, is.none f at, among-count f (free_of m s) at)
-      | inr none ↦ omega (arith, sum, one, further-is s f, none, is.some f low (among-none f (free_of m s) none))
-    ]
+-- what a free list says of a frame
+module _ {m : List (List ℕ)} {s : Frames} (is : IsFreeList m s) where
+  -- a frame of the memory is free or has a holder, and some have more
+  pub holders-free : (f : ℕ) → holders_of m s f + count_of f (free_of m s) ≡ one_if (ltb f (length m)) + further_at s f
+  unfolding holders_of
+  holders-free f = elim (count-cases f (free_of m s)) [
+    | inl at ↦ let e = lt-ltb f (length m) (is.inside f at) in rw e (omega (arith, distinct-count f (free_of m s) is.distinct))
+    | inr none ↦ rw none (omega arith)
+  ]
+
+  -- the table counts the holders
+  pub holders-counted : (f : ℕ) → f < length m → holders_of m s f ≡ counted s f
+  holders-counted f low =
+      let sum = holders-free f in
+      let one = ap one_if (lt-ltb f (length m) low) in
+      elim (count-cases f (free_of m s)) [
+        | inl at ↦ omega (arith, sum, one, further-is s f, is.none f at, among-count f (free_of m s) at)
+        | inr none ↦ omega (arith, sum, one, further-is s f, none, is.some f low (among-none f (free_of m s) none))
+      ]
 
 -- a frame with a holder is one of the memory, and isn't free
 pub held-inside : (m : List (List ℕ)) (s : Frames) (f : ℕ) → IsFreeList m s → 0 < holders_of m s f → (f < length m) × (among f (free_of m s) ≡ false)
 held-inside m s f is some =
-    let sum = holders-free m s is f in
-    let low : f < length m = elim (cases_lt f (length m)) [ inl low ↦ low | inr past ↦ absurd (omega (arith, some, sum, ap one_if (le-ltb f (length m) past), further-past m s f is past)) ] in
-    (low, not_free m s f is (omega (arith, some, holders-counted m s f is low)))
-
--- one that isn't free has a holder
-pub not-free-held : (m : List (List ℕ)) (s : Frames) (f : ℕ) → IsFreeList m s → f < length m → among f (free_of m s) ≡ false → holders_of m s f ≡ 1 + further_at s f
-not-free-held m s f is low absent = omega (arith, holders-free m s is f, ap one_if (lt-ltb f (length m) low), none-among f (free_of m s) absent)
-
--- one with no more than one holder has no further one
-pub single : (m : List (List ℕ)) (s : Frames) (f : ℕ) → IsFreeList m s → holders_of m s f ≤ 1 → further_at s f ≡ 0
-single m s f is few = elim (cases_lt f (length m)) [
-  | inl low ↦ omega (arith, few, further-is s f, holders-counted m s f is low)
-  | inr past ↦ further-past m s f is past
-]
-
--- one that isn't shared has no more than one
-pub one-holder : (m : List (List ℕ)) (s : Frames) (f : ℕ) → IsFreeList m s → further_at s f ≡ 0 → holders_of m s f ≤ 1
-one-holder m s f is alone = omega (arith, holders-free m s is f, one_if-le (ltb f (length m)), alone)
-
--- a free frame has none
-pub free-holders : (m : List (List ℕ)) (s : Frames) (f : ℕ) → IsFreeList m s → among f (free_of m s) ≡ true → holders_of m s f ≡ 0
-free-holders m s f is at = omega (arith, holders-free m s is f, one_if-le (ltb f (length m)), further-free m s f is at, among-count f (free_of m s) at)
+    let sum = holders-free is f in
+    let low : f < length m = elim (cases_lt f (length m)) [ inl low ↦ low | inr past ↦ absurd (omega (arith, some, sum, ap one_if (le-ltb f (length m) past), further-past is f past)) ] in
+    (low, not_free is f (omega (arith, some, holders-counted is f low)))
 
 count_of-range : (f a n : ℕ) → a ≤ f → f < a + n → 1 ≤ count_of f (range_with_len a n)
 count_of-range f a zero low high = absurd (omega arith)
@@ -107,39 +90,52 @@ count_of-range f a (suc n) low high = elim (cases_eq f a) [
   | inr other ↦ rw (count_of-other f a (range_with_len (a + 1) n) other) (count_of-range f (a + 1) n (omega arith) (omega arith))
 ]
 
--- where all frames are free nobody holds one
-pub IsShared-new : (m : List (List ℕ)) (s : Frames) → IsFreeList m s → free_of m s ≡ range_with_len 0 (length m) → ((f : ℕ) → further_at s f ≡ 0) → IsShared m s []
-IsShared-new m s is e alone = record {
-  each = λ f.
-      let sum = holders-free m s is f in
-      elim (cases_lt f (length m)) [
-        | inl low ↦ omega (arith, sum, alone f, ap one_if (lt-ltb f (length m) low), ap (count_of f) e, count_of-range f 0 (length m) (omega arith) (omega (arith, low)))
-        | inr high ↦ omega (arith, sum, alone f, ap one_if (le-ltb f (length m) high))
-      ];
-}
+module _ {m : List (List ℕ)} {s : Frames} (is : IsFreeList m s) where
+  -- one that isn't free has a holder
+  pub not-free-held : (f : ℕ) → f < length m → among f (free_of m s) ≡ false → holders_of m s f ≡ 1 + further_at s f
+  not-free-held f low absent = omega (arith, holders-free is f, ap one_if (lt-ltb f (length m) low), none-among f (free_of m s) absent)
+
+  -- one with no more than one holder has no further one
+  pub single : (f : ℕ) → holders_of m s f ≤ 1 → further_at s f ≡ 0
+  single f few = elim (cases_lt f (length m)) [
+    | inl low ↦ omega (arith, few, further-is s f, holders-counted is f low)
+    | inr past ↦ further-past is f past
+  ]
+
+  -- one that isn't shared has no more than one
+  pub one-holder : (f : ℕ) → further_at s f ≡ 0 → holders_of m s f ≤ 1
+  one-holder f alone = omega (arith, holders-free is f, one_if-le (ltb f (length m)), alone)
+
+  -- a free frame has none
+  pub free-holders : (f : ℕ) → among f (free_of m s) ≡ true → holders_of m s f ≡ 0
+  free-holders f at = omega (arith, holders-free is f, one_if-le (ltb f (length m)), further-free is f at, among-count f (free_of m s) at)
+
+  -- where all frames are free nobody holds one
+  pub IsShared-new : free_of m s ≡ range_with_len 0 (length m) → ((f : ℕ) → further_at s f ≡ 0) → IsShared m s []
+  IsShared-new e alone = record {
+    each = λ f.
+        let sum = holders-free is f in
+        elim (cases_lt f (length m)) [
+          | inl low ↦ omega (arith, sum, alone f, ap one_if (lt-ltb f (length m) low), ap (count_of f) e, count_of-range f 0 (length m) (omega arith) (omega (arith, low)))
+          | inr high ↦ omega (arith, sum, alone f, ap one_if (le-ltb f (length m) high))
+        ];
+  }
 
 pub Trades-none : (m : List (List ℕ)) (s : Frames) (old : List ℕ) → Trades m m s s old old
 Trades-none m s old = record { count = refl; moved = λ f. refl; others = λ f h. refl; fresh = λ f none some. absurd (omega (arith, none, some)) }
 
--- one trade after another
-pub Trades-twice : (m k l : List (List ℕ)) (s n q : Frames) (old mid new : List ℕ) → Trades m k s n old mid → Trades k l n q mid new → Trades m l s q old new
-Trades-twice m k l s n q old mid new a b = record {
-  count = b.count ∙ a.count;
-  moved = λ f. omega (arith, a.moved f, b.moved f);
-  others = λ f h. b.others f (omega (arith, a.moved f, h)) ∙ a.others f h;
-  fresh = λ f none some. elim (cases_eq (count_of f mid) 0) [
-    | inl gone ↦ omega (arith, none, gone, b.fresh f gone some, a.moved f)
-    | inr there ↦ a.fresh f none (omega (arith, there))
-  ];
-}
-
--- after a trade of one holder the holders still hold all that is not free
-pub IsShared-trade : (m k : List (List ℕ)) (s n : Frames) (all after old new : List ℕ) → IsShared m s all → Trades m k s n old new → ((f : ℕ) → count_of f after + count_of f old ≡ count_of f all + count_of f new) → IsShared k n after
-IsShared-trade m k s n all after old new is t e = record { each = λ f. omega (arith, is.each f, t.moved f, e f) }
-
--- what another holder holds keeps its bytes
-pub Trades-beside : (m k : List (List ℕ)) (s n : Frames) (old new other : List ℕ) → ((f : ℕ) → count_of f old + count_of f other ≤ holders_of m s f) → Trades m k s n old new → (f : ℕ) → 0 < count_of f other → frame_of k f ≡ frame_of m f
-Trades-beside m k s n old new other room t f h = t.others f (omega (arith, room f, h))
+module _ {m k l : List (List ℕ)} {s n q : Frames} {old mid new : List ℕ} (a : Trades m k s n old mid) (b : Trades k l n q mid new) where
+  -- one trade after another
+  pub Trades-twice : Trades m l s q old new
+  Trades-twice = record {
+    count = b.count ∙ a.count;
+    moved = λ f. omega (arith, a.moved f, b.moved f);
+    others = λ f h. b.others f (omega (arith, a.moved f, h)) ∙ a.others f h;
+    fresh = λ f none some. elim (cases_eq (count_of f mid) 0) [
+      | inl gone ↦ omega (arith, none, gone, b.fresh f gone some, a.moved f)
+      | inr there ↦ a.fresh f none (omega (arith, there))
+    ];
+  }
 
 -- ---- how many frames are held
 
@@ -168,14 +164,6 @@ sum_below-list : (h : ℕ → ℕ) (xs : List ℕ) → sum_below (length xs) (λ
 sum_below-list h [] = refl
 sum_below-list h (x ∷ xs) = sum_below-first (length xs) (λ f. h (get_or (x ∷ xs) f 0)) ∙ ap (λ n. h x + n) (sum_below-list h xs) ∙ sym (sum_by-cons h x xs)
 
--- all further holders
-pub further-sum : (m : List (List ℕ)) (s : Frames) → IsFreeList m s → sum_below (length m) (further_at s) ≡ s.shared
-further-sum m s is =
-    sum_below-same (length m) (further_at s) (λ f. less_one (get_or s.holders.items f 0)) (λ f l. further-is s f)
-    ∙ ap (λ n. sum_below n (λ f. less_one (get_or s.holders.items f 0))) (sym is.size)
-    ∙ sum_below-list less_one s.holders.items
-    ∙ sym is.sum
-
 sum_below-one : (n x : ℕ) (g : ℕ → ℕ) → x < n → sum_below n (λ f. one_if (eqb f x) + g f) ≡ 1 + sum_below n g
 sum_below-one zero x g h = absurd (omega arith)
 sum_below-one (suc n) x g h = elim (cases_eq n x) [
@@ -194,52 +182,75 @@ sum_below-ones : (n : ℕ) → sum_below n (λ f. 1) ≡ n
 sum_below-ones zero = refl
 sum_below-ones (suc n) = omega (arith, sum_below-ones n)
 
--- frames that are held, those that hold the rest, and what is free are all frames of the memory
-accounted : (m : List (List ℕ)) (s : Frames) (old : List ℕ) (rest : ℕ → ℕ) → IsFreeList m s → ((f : ℕ) → count_of f old + rest f ≡ holders_of m s f) → free_count m s + length old + sum_below (length m) rest ≡ length m
-accounted m s old rest is all =
-    let both : (f : ℕ) → count_of f (free_of m s ++ old) + rest f ≡ one_if (ltb f (length m)) + further_at s f = λ (f : ℕ). omega (arith, count_of-append f (free_of m s) old, all f, holders-free m s is f) in
-    let sums : sum_below (length m) (λ f. count_of f (free_of m s ++ old) + rest f) ≡ sum_below (length m) (λ f. 1 + further_at s f) =
-    sum_below-same (length m) (λ f. count_of f (free_of m s ++ old) + rest f) (λ f. 1 + further_at s f) (λ f l. omega (arith, both f, ap one_if (lt-ltb f (length m) l))) in
-    omega (
-      arith,
-      sums,
-      sum_below-plus (length m) (λ f. count_of f (free_of m s ++ old)) rest,
-      sum_below-plus (length m) (λ f. 1) (further_at s),
-      sum_below-ones (length m),
-      further-sum m s is,
-      length-counts (free_of m s ++ old) (length m) (λ f l. omega (arith, both f, ap one_if (le-ltb f (length m) l), further-past m s f is l)),
-      length-append (free_of m s) old,
-      is.room,
-      shared-is s,
-    )
+module _ {m : List (List ℕ)} {s : Frames} (is : IsFreeList m s) where
+  -- all further holders
+  pub further-sum : sum_below (length m) (further_at s) ≡ s.shared
+  further-sum =
+      sum_below-same (length m) (further_at s) (λ f. less_one (get_or s.holders.items f 0)) (λ f l. further-is s f)
+      ∙ ap (λ n. sum_below n (λ f. less_one (get_or s.holders.items f 0))) (sym is.size)
+      ∙ sum_below-list less_one s.holders.items
+      ∙ sym is.sum
 
--- what the holders hold, frames that are shared as often as they are, and what is free are all frames of the memory
-pub shared-count : (m : List (List ℕ)) (s : Frames) (all : List ℕ) → IsFreeList m s → IsShared m s all → free_count m s + length all ≡ length m
-shared-count m s hs is all = omega (arith, accounted m s hs (λ f. 0) is (λ f. omega (arith, all.each f)), sum_below-zero (length m) (λ f. 0) (λ f l. refl))
+  -- frames that are held, those that hold the rest, and what is free are all frames of the memory
+  accounted : (old : List ℕ) (rest : ℕ → ℕ) → ((f : ℕ) → count_of f old + rest f ≡ holders_of m s f) → free_count m s + length old + sum_below (length m) rest ≡ length m
+  accounted old rest all =
+      let both : (f : ℕ) → count_of f (free_of m s ++ old) + rest f ≡ one_if (ltb f (length m)) + further_at s f = λ (f : ℕ). omega (arith, count_of-append f (free_of m s) old, all f, holders-free is f) in
+      let sums : sum_below (length m) (λ f. count_of f (free_of m s ++ old) + rest f) ≡ sum_below (length m) (λ f. 1 + further_at s f) =
+      sum_below-same (length m) (λ f. count_of f (free_of m s ++ old) + rest f) (λ f. 1 + further_at s f) (λ f l. omega (arith, both f, ap one_if (lt-ltb f (length m) l))) in
+      omega (
+        arith,
+        sums,
+        sum_below-plus (length m) (λ f. count_of f (free_of m s ++ old)) rest,
+        sum_below-plus (length m) (λ f. 1) (further_at s),
+        sum_below-ones (length m),
+        further-sum,
+        length-counts (free_of m s ++ old) (length m) (λ f l. omega (arith, both f, ap one_if (le-ltb f (length m) l), further-past is f l)),
+        length-append (free_of m s) old,
+        is.room,
+        shared-is s,
+      )
 
--- frames that are held as often as they have holders at the most, and the free ones, are no more than the memory has
-pub held-count : (m : List (List ℕ)) (s : Frames) (old : List ℕ) → IsFreeList m s → ((f : ℕ) → count_of f old ≤ holders_of m s f) → free_count m s + length old ≤ length m
-held-count m s old is all = omega (arith, accounted m s old (λ f. holders_of m s f - count_of f old) is (λ f. omega (arith, all f)))
+  -- what the holders hold, frames that are shared as often as they are, and what is free are all frames of the memory
+  pub shared-count : (all : List ℕ) → IsShared m s all → free_count m s + length all ≡ length m
+  shared-count hs all = omega (arith, accounted hs (λ f. 0) (λ f. omega (arith, all.each f)), sum_below-zero (length m) (λ f. 0) (λ f l. refl))
 
--- what a trade takes is no longer free
-pub Trades-lengths : (m k : List (List ℕ)) (s n : Frames) (old new : List ℕ) → IsFreeList m s → IsFreeList k n → ((f : ℕ) → count_of f old ≤ holders_of m s f) → Trades m k s n old new → free_count k n + length new ≡ free_count m s + length old
-Trades-lengths m k s n old new is_m is_k room t =
-    let rest = λ (f : ℕ). holders_of m s f - count_of f old in
-    omega (arith, accounted m s old rest is_m (λ f. omega (arith, room f)), accounted k n new rest is_k (λ f. omega (arith, room f, t.moved f)), ap (λ l. sum_below l rest) t.count, t.count)
+  -- frames that are held as often as they have holders at the most, and the free ones, are no more than the memory has
+  pub held-count : (old : List ℕ) → ((f : ℕ) → count_of f old ≤ holders_of m s f) → free_count m s + length old ≤ length m
+  held-count old all = omega (arith, accounted old (λ f. holders_of m s f - count_of f old) (λ f. omega (arith, all f)))
+
+module _ {m k : List (List ℕ)} {s n : Frames} {old new : List ℕ} (t : Trades m k s n old new) where
+  -- after a trade of one holder the holders still hold all that is not free
+  pub IsShared-trade : (all after : List ℕ) → IsShared m s all → ((f : ℕ) → count_of f after + count_of f old ≡ count_of f all + count_of f new) → IsShared k n after
+  IsShared-trade all after is e = record { each = λ f. omega (arith, is.each f, t.moved f, e f) }
+
+  -- what another holder holds keeps its bytes
+  pub Trades-beside : (other : List ℕ) → ((f : ℕ) → count_of f old + count_of f other ≤ holders_of m s f) → (f : ℕ) → 0 < count_of f other → frame_of k f ≡ frame_of m f
+  Trades-beside other room f h = t.others f (omega (arith, room f, h))
+
+  -- what a trade takes is no longer free
+  pub Trades-lengths : IsFreeList m s → IsFreeList k n → ((f : ℕ) → count_of f old ≤ holders_of m s f) → free_count k n + length new ≡ free_count m s + length old
+  Trades-lengths is_m is_k room =
+      let rest = λ (f : ℕ). holders_of m s f - count_of f old in
+      omega (arith, accounted is_m old rest (λ f. omega (arith, room f)), accounted is_k new rest (λ f. omega (arith, room f, t.moved f)), ap (λ l. sum_below l rest) t.count, t.count)
 
 -- ---- what the calls on frames do, as trades
 
--- the holders where the free list is another and the table the same
-pub holders-table : (m k : List (List ℕ)) (s n : Frames) → IsFreeList m s → IsFreeList k n → length k ≡ length m → extra_of n ≡ extra_of s → (f : ℕ) → holders_of k n f + count_of f (free_of k n) ≡ holders_of m s f + count_of f (free_of m s)
-holders-table m k s n is after len same f = omega (arith, holders-free m s is f, holders-free k n after f, ap (λ l. one_if (ltb f l)) len, ap (λ (t : List ℕ × ℕ). get_or t.0 f 0) same)
+module _ {m k : List (List ℕ)} {s n : Frames} (is : IsFreeList m s) (after : IsFreeList k n) where
+  -- the holders where the free list is another and the table the same
+  pub holders-table : length k ≡ length m → extra_of n ≡ extra_of s → (f : ℕ) → holders_of k n f + count_of f (free_of k n) ≡ holders_of m s f + count_of f (free_of m s)
+  holders-table len same f = omega (arith, holders-free is f, holders-free after f, ap (λ l. one_if (ltb f l)) len, ap (λ (t : List ℕ × ℕ). get_or t.0 f 0) same)
+
+  -- a frame comes into the list, from its last holder
+  pub holders-list : (f : ℕ) → length k ≡ length m → free_of k n ≡ f ∷ free_of m s → extra_of n ≡ extra_of s → Loses m k s n (f ∷ [])
+  holders-list f len e same g = omega (arith, holders-table len same g, ap (count_of g) e)
 
 pub Trades-take : (m : List (List ℕ)) (s n : Frames) (f : ℕ) → IsFreeList m s → IsFreeList m n → free_of m s ≡ f ∷ free_of m n → extra_of n ≡ extra_of s → Trades m m s n [] (f ∷ [])
 Trades-take m s n f is after e same = record {
   count = refl;
-  moved = λ g. omega (arith, holders-table m m s n is after refl same g, ap (count_of g) e);
+  moved = λ g. omega (arith, holders-table is after refl same g, ap (count_of g) e);
   others = λ g h. refl;
   fresh = λ g none some. elim (cases_eq g f) [
-    | inl here ↦ free-holders m s g is (rw (e, here) (rw (eq-eqb f f refl) refl))
+    | inl here ↦ free-holders is g (rw (e, here) (rw (eq-eqb f f refl) refl))
     | inr other ↦ absurd (omega (arith, some, count_of-other g f [] other))
   ];
 }
@@ -253,30 +264,58 @@ Trades-give m k s n f is moved same stays held = record {
   others = λ g h. elim (cases_eq g f) [
     | inl here ↦
         let in_memory = held-inside m s f is held in
-        let more : 0 < further_at s f = omega (arith, h, count_of-first g f [] here, ap (holders_of m s) here, not-free-held m s f is in_memory.0 in_memory.1) in
+        let more : 0 < further_at s f = omega (arith, h, count_of-first g f [] here, ap (holders_of m s) here, not-free-held is f in_memory.0 in_memory.1) in
         ap (λ x. frame_of x g) (stays more)
     | inr other ↦ same.others g (rw (ne_eqb g f other) refl)
   ];
   fresh = λ g none some. absurd (omega (arith, some));
 }
 
-pub holders-more : (m : List (List ℕ)) (s t : Frames) (f x : ℕ) → IsFreeList m s → IsFreeList m t → free_of m t ≡ free_of m s → f < length m → 0 < counted s f → t.holders.items ≡ slice_set s.holders.items f x → x ≡ counted s f + 1
-    → Gains m m s t (f ∷ [])
-holders-more m s t f x is after e low some items more g =
-    elim (further-count s t f x g (omega (arith, low, is.size)) items) [
-      | inl here ↦ omega (arith, holders-free m s is g, holders-free m t after g, ap (count_of g) e, here.1, here.2, more, some, count_of-first g f [] here.0)
-      | inr other ↦ omega (arith, holders-free m s is g, holders-free m t after g, ap (count_of g) e, other.1, count_of-other g f [] other.0)
-    ]
+module _ {m : List (List ℕ)} {s t : Frames} (is : IsFreeList m s) (after : IsFreeList m t) where
+  pub holders-more : (f x : ℕ) → free_of m t ≡ free_of m s → f < length m → 0 < counted s f → t.holders.items ≡ slice_set s.holders.items f x → x ≡ counted s f + 1 → Gains m m s t (f ∷ [])
+  holders-more f x e low some items more g =
+      elim (further-count s t f x g (omega (arith, low, is.size)) items) [
+        | inl here ↦ omega (arith, holders-free is g, holders-free after g, ap (count_of g) e, here.1, here.2, more, some, count_of-first g f [] here.0)
+        | inr other ↦ omega (arith, holders-free is g, holders-free after g, ap (count_of g) e, other.1, count_of-other g f [] other.0)
+      ]
 
-pub holders-fewer : (m : List (List ℕ)) (s t : Frames) (f x : ℕ) → IsFreeList m s → IsFreeList m t → free_of m t ≡ free_of m s → f < length m → t.holders.items ≡ slice_set s.holders.items f x → x + 1 ≡ counted s f → 0 < x
-    → Loses m m s t (f ∷ [])
-holders-fewer m s t f x is after e low items fewer some g =
-    elim (further-count s t f x g (omega (arith, low, is.size)) items) [
-      | inl here ↦ omega (arith, holders-free m s is g, holders-free m t after g, ap (count_of g) e, here.1, here.2, fewer, some, count_of-first g f [] here.0)
-      | inr other ↦ omega (arith, holders-free m s is g, holders-free m t after g, ap (count_of g) e, other.1, count_of-other g f [] other.0)
-    ]
+  pub holders-fewer : (f x : ℕ) → free_of m t ≡ free_of m s → f < length m → t.holders.items ≡ slice_set s.holders.items f x → x + 1 ≡ counted s f → 0 < x → Loses m m s t (f ∷ [])
+  holders-fewer f x e low items fewer some g =
+      elim (further-count s t f x g (omega (arith, low, is.size)) items) [
+        | inl here ↦ omega (arith, holders-free is g, holders-free after g, ap (count_of g) e, here.1, here.2, fewer, some, count_of-first g f [] here.0)
+        | inr other ↦ omega (arith, holders-free is g, holders-free after g, ap (count_of g) e, other.1, count_of-other g f [] other.0)
+      ]
 
--- a frame comes into the list, from its last holder
-pub holders-list : (m k : List (List ℕ)) (s t : Frames) (f : ℕ) → IsFreeList m s → IsFreeList k t → length k ≡ length m → free_of k t ≡ f ∷ free_of m s → extra_of t ≡ extra_of s
-    → Loses m k s t (f ∷ [])
-holders-list m k s t f is after len e same g = omega (arith, holders-table m k s t is after len same g, ap (count_of g) e)
+-- ---- a duplicate says of a memory what its source says
+
+module _ {s n : Frames} (is : IsDuplicate s n) where
+  pub same-free : (m : List (List ℕ)) → free_of m n ≡ free_of m s
+  unfolding free_of
+  same-free m = rw (is.count, is.first) refl
+
+  pub same-extra : extra_of n ≡ extra_of s
+  unfolding extra_of
+  same-extra = rw (is.holders, is.shared) refl
+
+  pub same-further : (f : ℕ) → further_at n f ≡ further_at s f
+  same-further f = rw (same-extra) refl
+
+  pub same-holders : (m : List (List ℕ)) (f : ℕ) → holders_of m n f ≡ holders_of m s f
+  unfolding holders_of
+  same-holders m f = rw (same-free m, same-extra) refl
+
+  pub same-list : (m : List (List ℕ)) → IsFreeList m s → IsFreeList m n
+  same-list m list =
+      let free = same-free m in
+      record {
+        inside = rw free list.inside;
+        distinct = rw free list.distinct;
+        size = rw is.holders list.size;
+        none = rw (free, is.holders) list.none;
+        some = rw (free, is.holders) list.some;
+        sum = rw (is.shared, is.holders) list.sum;
+        room = rw (free, is.shared) list.room;
+      }
+
+  pub same-shared : (m : List (List ℕ)) (all : List ℕ) → IsShared m s all → IsShared m n all
+  same-shared m all shared = record { each = λ f. shared.each f ∙ sym (same-holders m f) }

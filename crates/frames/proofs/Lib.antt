@@ -1,3 +1,2 @@
-pub mod Duplicates
 pub mod HolderLemmas
 pub mod FreeLemmas

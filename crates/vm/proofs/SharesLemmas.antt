@@ -1,9 +1,9 @@
 -- Lemmas on all frames of a machine.
 use Rattle.vm.proofs.Common.{[], all_held, among, ap, arith, cases_eq, cases_lt, count_of, count_of-append, count_of-first, flat_map, frame_of, Frames, frames_used, free_of, free_of-same, FreeAreTheRest, further_at, get_or}
-use Rattle.vm.proofs.Common.{get_or-set_other, get_or-set_same, get_or_past, held-inside, held_at, holders-free, holders_of, holds, inl, inr, IsDuplicate, IsFreeList, IsFreeList-same, IsMachine, IsPlace, IsShared, IsShared-trade}
-use Rattle.vm.proofs.Common.{IsSpace, IsUntouched, length, length-append, length-set, List, ltb, NewSpaceSettles, None, one-holder, one_if, OnePlaceForks, OnePlaceSpares, OnePlaceSparesOthers, OnePlaceTrades, Option, OthersSpare}
-use Rattle.vm.proofs.Common.{OthersTrade, pages_in, refl, replicate, set-get_or, shared-count, single, slice_set, Some, Space, suc, sum_by, sum_by-cons, sym, Trades, true, zero, ℕ, ◌++◌, ◌+◌, ◌<◌, ◌∙◌, ◌∷◌, ◌≡◌, ◌≢◌, ◌≤◌}
-use Rattle.frames.proofs.Duplicates.{same-further, same-holders, same-list, same-shared}
+use Rattle.vm.proofs.Common.{get_or-set_other, get_or-set_same, get_or_past, held-inside, held_at, holders-free, holders_of, holds, inl, inr, IsDuplicate, IsFreeList, IsFreeList-same, IsMachine, IsPlace, IsShared, IsShared-trade, IsSpace}
+use Rattle.vm.proofs.Common.{IsUntouched, length, length-append, length-set, List, ltb, NewSpaceSettles, None, one-holder, one_if, OnePlaceForks, OnePlaceSpares, OnePlaceSparesOthers, OnePlaceTrades, Option, OthersSpare, OthersTrade}
+use Rattle.vm.proofs.Common.{pages_in, refl, replicate, set-get_or, shared-count, single, slice_set, Some, Space, suc, sum_by, sum_by-cons, sym, Trades, true, zero, ℕ, ◌++◌, ◌+◌, ◌<◌, ◌∙◌, ◌∷◌, ◌≡◌, ◌≢◌, ◌≤◌}
+use Rattle.frames.proofs.HolderLemmas.{same-further, same-holders, same-list, same-shared}
 use Rattle.vm.proofs.Beside.{alone-stays, Trades-space, Trades-untouched}
 use Rattle.vm.proofs.DenseLemmas.{length-held}
 

@@ -36,4 +36,4 @@ pub returns-clause-all : goal.returns-clause-all
 returns-clause-all c = all c
 
 pub returns-clause-shared : goal.returns-clause-shared
-returns-clause-shared c = IsShared-new c.loop-i.ram c.loop-i.frames c.loop-i.invariant.valid (all c ∙ ap (range_with_len 0) (sym c.loop-i.invariant.count)) c.loop-i.invariant.alone
+returns-clause-shared c = IsShared-new c.loop-i.invariant.valid (all c ∙ ap (range_with_len 0) (sym c.loop-i.invariant.count)) c.loop-i.invariant.alone

@@ -6,7 +6,7 @@ use Rattle.frames.proofs.Frames.give.Goals as goal
 use Rattle.frames.proofs.Frames.give.Goals.{After-index}
 
 further : (c : After-index) → further_at c.args.self.now c.args.frame.0 ≡ c.index.result.now - 1
-further c = omega (arith, further-is c.args.self.now c.args.frame.0, count-read c.args.ram.now c.args.self.now c.args.frame.0 c.index.result.now c.requires.valid c.requires.inside c.index.ensures)
+further c = omega (arith, further-is c.args.self.now c.args.frame.0, count-read c.requires.valid c.args.frame.0 c.index.result.now c.requires.inside c.index.ensures)
 
 pub unshare-requires-clause-shared : goal.unshare-requires-clause-shared
 unshare-requires-clause-shared c = omega (arith, further (goal.at.unshare-requires-clause-shared c).After-index, c.if-index-gt1.true)
@@ -21,7 +21,7 @@ pub returns-else-index-gt1 : goal.returns-else-index-gt1
 returns-else-index-gt1 c =
     let done = c.push.ensures in
     record {
-      holders = holders-list c.args.ram.now c.push.new.ram c.args.self.now c.push.new.self c.args.frame.0 c.requires.valid done.valid done.others.count done.free done.extra;
+      holders = holders-list c.requires.valid done.valid c.args.frame.0 done.others.count done.free done.extra;
       more = free_count-list c.args.ram.now c.push.new.ram c.args.self.now c.push.new.self c.args.frame.0 c.requires.valid.room done.free done.extra;
       last = λ _. (done.free, done.extra);
       stays = λ some. absurd (omega (arith, some, further (goal.at.returns-else-index-gt1 c).After-index, c.if-index-gt1.false));

@@ -5,7 +5,7 @@ use Rattle.frames.proofs.FreeLemmas.{count-le, free_of-give, IsFreeList-give, Sa
 use Rattle.frames.proofs.Frames.push.Goals as goal
 
 pub overflow_add-self : goal.overflow_add-self
-overflow_add-self c = omega (arith, count-le c.args.ram.now c.args.self.now c.requires.valid)
+overflow_add-self c = omega (arith, count-le c.requires.valid)
 
 pub returns-clause-free : goal.returns-clause-free
 returns-clause-free c = rw c.store_u32.ensures (free_of-give c.args.ram.now c.args.self.now _ c.args.frame.0 c.frames_are_whole.ensures.memory c.requires.inside (omega arith) c.requires.held refl refl)
