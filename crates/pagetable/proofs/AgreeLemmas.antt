@@ -1,14 +1,22 @@
 -- Lemmas on what `specs/Agree` defines.
-use Rattle.pagetable.proofs.Common.{a_leaf, a_table, Access, allows, and_assoc, ap, arith, base, bit_and, Bool, canonical-is, child_at, child_of, div-mul-add, entry_of, eq-eqb, eqb-true, false, follow, frame_at, has, is_canonical, is_sound}
-use Rattle.pagetable.proofs.Common.{is_table, IsLeafEntry, IsLeafMarks, IsTableEntry, IsTree, le-leb, leaf_at, leaf_entry, leaf_of, leb, length, List, lookup_of, low_node, lt-ltb, ltb, marks_of, mid_node, mod-mul-add, no_leaf, no_table}
-use Rattle.pagetable.proofs.Common.{None, number_of, Option, refl, Root, Some, sym, table_at, table_entry, then_at, true, turn_by, turn_of, walk_high, walk_low, walk_mid, walk_of, walk_of-is, walk_page, ℕ, ◌%◌, ◌*◌, ◌+◌, ◌-◌, ◌/◌, ◌<◌, ◌^◌}
-use Rattle.pagetable.proofs.Common.{◌∙◌, ◌≡◌, ◌≤◌}
+use Rattle.pagetable.proofs.Common.{Access, allows, allows-is, ap, arith, leaf_allows, marks_of, sym, ℕ, ◌%◌, ◌<◌, ◌∙◌, ◌≡◌, a_leaf, a_table, and_assoc, base, bit_and, Bool, canonical-is, child_at, child_of, div-mul-add, entry_of, eq-eqb}
+use Rattle.pagetable.proofs.Common.{eqb-true, false, follow, frame_at, has, is_canonical, is_sound, is_table, IsLeafEntry, IsLeafMarks, IsTableEntry, IsTree, le-leb, leaf_at, leaf_entry, leaf_of, leb, length, List, lookup_of, low_node}
+use Rattle.pagetable.proofs.Common.{lt-ltb, ltb, mid_node, mod-mul-add, no_leaf, no_table, None, number_of, Option, refl, Root, Some, table_at, table_entry, then_at, true, turn_by, turn_of, walk_high, walk_low, walk_mid, walk_of}
+use Rattle.pagetable.proofs.Common.{walk_of-is, walk_page, ◌*◌, ◌+◌, ◌-◌, ◌/◌, ◌^◌, ◌≤◌, unwrap_or}
 use Rattle.std.specs.Prelude.{if◌then◌else◌}
 use Rattle.std.proofs.Math.Bool.{or-true}
 use Rattle.unixmodel.specs.Translation.{is_canonical as is_canonical_page}
 use Rattle.pagetable.specs.Agree.{given_frame, translation}
-use Rattle.pagetable.proofs.MarksLemmas.{allows-marks}
 use Rattle.pagetable.proofs.TreeLemmas.{child_of-table, child_of-zero, leaf_of-leaf, leaf_of-zero, lookup_of-low, mid_is_node, root_at, table_at-low, table_at-mid, tree-leaf_sound, tree-root}
+
+-- ---- lemmas on what `specs/Marks` defines
+
+-- the walk's test of a leaf's marks is the model's
+pub allows-marks : (marks : ℕ) (access : Access) → marks < 1024 → allows marks access ≡ leaf_allows access marks
+unfolding marks_of
+allows-marks marks access h =
+    let same : marks % 1024 ≡ marks = omega (arith, h) in
+    ap (λ x. allows x access) (sym same) ∙ allows-is marks access
 
 turn_of-zero : (span : ℕ) (a : Access) → turn_of 0 span a ≡ turn_by false true true true 0
 unfolding is_sound marks_of
@@ -70,45 +78,70 @@ agree-table m span page e a next small (no_table z) = rw (z, turn_of-zero span a
 agree-table m span page e a next small (a_table t h is) =
     rw (is, turn_of-table t (length m) span a h small, child_of-table t) (ap (λ o. then_at o next) (frame_at-base (length m) t h))
 
-agree-low : (m : List (List ℕ)) (r page t : ℕ) (a : Access) → length m ≤ 32768 → IsTree m r → Some t ≡ table_at m r (low_node page) → walk_low m page a t ≡ translation a (leaf_of (entry_of m t (page % 512)))
-unfolding walk_low
-agree-low m r page t a small is at =
-    let whole : page / 1 ≡ page = omega arith in
-    rw whole (agree-leaf m page (entry_of m t (page % 512)) a small (tree-leaf_sound m r page t is at))
-
-below_mid : (m : List (List ℕ)) (r page : ℕ) (a : Access) (o : Option ℕ) → length m ≤ 32768 → IsTree m r → o ≡ table_at m r (low_node page) → then_at o (walk_low m page a) ≡ translation a (leaf_at m o (page % 512))
-below_mid m r page a None small is at = refl
-below_mid m r page a (Some t) small is at = agree-low m r page t a small is at
-
-below_root : (m : List (List ℕ)) (r page : ℕ) (a : Access) (o : Option ℕ) → length m ≤ 32768 → IsTree m r → o ≡ table_at m r (mid_node page)
-    → then_at o (walk_mid m page a) ≡ translation a (leaf_at m (child_at m o (page / 512 % 512)) (page % 512))
-unfolding walk_mid
-below_root m r page a None small is at = refl
-below_root m r page a (Some t) small is at =
-    agree-table m 512 page (entry_of m t (page / 512 % 512)) a (walk_low m page a) small (is.sound (mid_node page) t (page / 512 % 512) (mid_is_node page) (sym at) (omega arith))
-    ∙ below_mid m r page a (child_of (entry_of m t (page / 512 % 512))) small is (sym (table_at-low m r page (Some t) at))
-
--- the walk goes by the map at a canonical page
-walk_of-tree : (m : List (List ℕ)) (r page : ℕ) (a : Access) → length m ≤ 32768 → IsTree m r → is_canonical page ≡ true → walk_of m r page a ≡ translation a (lookup_of m r page)
-unfolding walk_of walk_high
-walk_of-tree m r page a small is canonical =
-    let inside : ltb r (length m) ≡ true = lt-ltb r (length m) (tree-root m r is) in
-    let mid = table_at-mid m r page in
-    rw (canonical, inside)
-    (agree-table m 262144 page (entry_of m r (page / 262144 % 512)) a (walk_mid m page a) small (is.sound Root r (page / 262144 % 512) tt (root_at m r) (omega arith))
-    ∙ below_root m r page a (child_of (entry_of m r (page / 262144 % 512))) small is (sym mid)
-    ∙ ap (translation a) (sym (lookup_of-low m r page (child_at m (child_of (entry_of m r (page / 262144 % 512))) (page / 512 % 512)) (sym (table_at-low m r page (child_of (entry_of m r (page / 262144 % 512))) (sym mid))))))
-
 -- and gives nothing at another
 walk_of-beyond : (m : List (List ℕ)) (r page : ℕ) (a : Access) → is_canonical page ≡ false → walk_of m r page a ≡ None
 unfolding walk_of
 walk_of-beyond m r page a e = rw e refl
 
-walk_of-either : (m : List (List ℕ)) (r page : ℕ) (a : Access) (b : Bool) → length m ≤ 32768 → IsTree m r → is_canonical page ≡ b → walk_of m r page a ≡ (if b then translation a (lookup_of m r page) else None)
-walk_of-either m r page a true small is e = walk_of-tree m r page a small is e
-walk_of-either m r page a false small is e = walk_of-beyond m r page a e
+module _ {m : List (List ℕ)} {r : ℕ} (page : ℕ) (a : Access) (small : length m ≤ 32768) (is : IsTree m r) where
+  agree-low : (t : ℕ) → Some t ≡ table_at m r (low_node page) → walk_low m page a t ≡ translation a (leaf_of (entry_of m t (page % 512)))
+  unfolding walk_low
+  agree-low t at =
+      let whole : page / 1 ≡ page = omega arith in
+      rw whole (agree-leaf m page (entry_of m t (page % 512)) a small (tree-leaf_sound is page t at))
 
--- the walk gives a page's frame where the map has it and its marks allow the access, and nothing elsewhere
-pub walk_page-tree : (m : List (List ℕ)) (r page : ℕ) (a : Access) → length m ≤ 32768 → IsTree m r → (walk_page m r page a).frame ≡ given_frame m r page a
-walk_page-tree m r page a small is =
-    sym (walk_of-is m r page a) ∙ walk_of-either m r page a (is_canonical_page page) small is (canonical-is page)
+  below_mid : (o : Option ℕ) → o ≡ table_at m r (low_node page) → then_at o (walk_low m page a) ≡ translation a (leaf_at m o (page % 512))
+  below_mid None at = refl
+  below_mid (Some t) at = agree-low t at
+
+  below_root : (o : Option ℕ) → o ≡ table_at m r (mid_node page) → then_at o (walk_mid m page a) ≡ translation a (leaf_at m (child_at m o (page / 512 % 512)) (page % 512))
+  unfolding walk_mid
+  below_root None at = refl
+  below_root (Some t) at =
+      agree-table m 512 page (entry_of m t (page / 512 % 512)) a (walk_low m page a) small (is.sound (mid_node page) t (page / 512 % 512) (mid_is_node page) (sym at) (omega arith))
+      ∙ below_mid (child_of (entry_of m t (page / 512 % 512))) (sym (table_at-low m r page (Some t) at))
+
+  -- the walk goes by the map at a canonical page
+  walk_of-tree : is_canonical page ≡ true → walk_of m r page a ≡ translation a (lookup_of m r page)
+  unfolding walk_of walk_high
+  walk_of-tree canonical =
+      let inside : ltb r (length m) ≡ true = lt-ltb r (length m) (tree-root is) in
+      let mid = table_at-mid m r page in
+      rw (canonical, inside)
+      (agree-table m 262144 page (entry_of m r (page / 262144 % 512)) a (walk_mid m page a) small (is.sound Root r (page / 262144 % 512) tt (root_at m r) (omega arith))
+      ∙ below_root (child_of (entry_of m r (page / 262144 % 512))) (sym mid)
+      ∙ ap (translation a) (sym (lookup_of-low m r page (child_at m (child_of (entry_of m r (page / 262144 % 512))) (page / 512 % 512)) (sym (table_at-low m r page (child_of (entry_of m r (page / 262144 % 512))) (sym mid))))))
+
+  walk_of-either : (b : Bool) → is_canonical page ≡ b → walk_of m r page a ≡ (if b then translation a (lookup_of m r page) else None)
+  walk_of-either true e = walk_of-tree e
+  walk_of-either false e = walk_of-beyond m r page a e
+
+  -- the walk gives a page's frame where the map has it and its marks allow the access, and nothing elsewhere
+  pub walk_page-tree : (walk_page m r page a).frame ≡ given_frame m r page a
+  walk_page-tree =
+      sym (walk_of-is m r page a) ∙ walk_of-either (is_canonical_page page) (canonical-is page)
+
+-- ---- what a page table finds lies in the memory
+
+pub first-same : (g b f a : ℕ) → ◌≡◌ {A = Option (ℕ × ℕ)} (Some (g, b)) (Some (f, a)) → g ≡ f
+first-same g b f a e = ap (λ (o : Option (ℕ × ℕ)). (unwrap_or o (0, 0)).0) e
+
+pub second-same : (g b f a : ℕ) → ◌≡◌ {A = Option (ℕ × ℕ)} (Some (g, b)) (Some (f, a)) → b ≡ a
+second-same g b f a e = ap (λ (o : Option (ℕ × ℕ)). (unwrap_or o (0, 0)).1) e
+
+pub leaf_of-sound : (n e : ℕ) {f a : ℕ} → IsLeafEntry n e → leaf_of e ≡ Some (f, a) → (f < n) × IsLeafMarks a
+leaf_of-sound n e (no_leaf z) h = absurd (let none : leaf_of e ≡ None = ap leaf_of z ∙ leaf_of-zero in cc)
+leaf_of-sound n e {f} {a} (a_leaf g marks inside good is) h =
+    let both : ◌≡◌ {A = Option (ℕ × ℕ)} (Some (g, marks)) (Some (f, a)) = sym (leaf_of-leaf g marks good.0) ∙ ap leaf_of (sym is) ∙ h in
+    let frame : g ≡ f = first-same g marks f a both in
+    let mark : marks ≡ a = second-same g marks f a both in
+    (rw (← frame) inside, rw (← mark) good)
+
+module _ {m : List (List ℕ)} {r : ℕ} (is : IsTree m r) where
+  leaf_at-sound : (p f a : ℕ) (o : Option ℕ) → o ≡ table_at m r (low_node p) → leaf_at m o (p % 512) ≡ Some (f, a) → (f < length m) × IsLeafMarks a
+  leaf_at-sound p f a None at h = absurd cc
+  leaf_at-sound p f a (Some u) at h = leaf_of-sound (length m) (entry_of m u (p % 512)) (tree-leaf_sound is p u at) h
+
+  pub lookup-sound : (p : ℕ) {f a : ℕ} → lookup_of m r p ≡ Some (f, a) → (f < length m) × IsLeafMarks a
+  unfolding lookup_of
+  lookup-sound p {f} {a} h = leaf_at-sound p f a (table_at m r (low_node p)) refl h

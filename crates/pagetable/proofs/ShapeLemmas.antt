@@ -1,7 +1,8 @@
 -- Lemmas on the tables that come and go.
 use Rattle.pagetable.proofs.Common.{Adds, ap, arith, cases_eq, extra_of, Frames, free_count, free_of, inl, inr, Inserts, IsNode, IsPaged, IsTidy, IsUsed, length, length-append, List, lookup_of, low_node, made, made_by, mid_node, missing}
-use Rattle.pagetable.proofs.Common.{missing_by, Node, None, Option, refl, SameMap, Some, sym, table_at, table_of, unwrap_or, ℕ, ◌++◌, ◌+◌, ◌<◌, ◌^◌, ◌∙◌, ◌≡◌, ◌≢◌, ◌⊎◌}
-use Rattle.pagetable.proofs.TreeLemmas.{cases_node, free_count-taken}
+use Rattle.pagetable.proofs.Common.{missing_by, Node, None, Option, refl, SameMap, Some, sym, table_at, table_of, unwrap_or, ℕ, ◌++◌, ◌+◌, ◌<◌, ◌^◌, ◌∙◌, ◌≡◌, ◌≢◌, ◌⊎◌, child_at, entry_of, leaf_at, leaf_of, Low, Mid, Removes, ◌%◌, ◌*◌, ◌/◌}
+use Rattle.pagetable.proofs.Common.{[], among, frame_of, free_of-same, get_or-set_other, IsEmpty, IsFreeList, IsFreeList-same, length-set, no_table, replicate, Root, slice_set, true, ◌∷◌}
+use Rattle.pagetable.proofs.TreeLemmas.{cases_node, free_count-taken, child_of-some, leaf_of-some, child_of-zero, entry_of-zeros, free-first, further-taken, root_at}
 
 -- ---- a page that comes
 
@@ -76,3 +77,116 @@ pub mapped-by : {m k : List (List ℕ)} {r page : ℕ} {s n : Frames} {value : �
 mapped-by {m} {k} {r} {page} {s} {n} ins small is table adds =
     let taken = free_count-taken m k s n (missing m r page) (rw (adds.taken, length-append, length-made m k r page) refl) table is.free in
     record { adds = adds; taken = taken; not_refused = λ less. absurd (omega (arith, less, taken)); tidy = λ tidy. IsTidy-insert m k r page _ tidy small ins adds.beside }
+
+-- ---- a page that goes
+
+pub some-none : (v : ℕ) → ◌≡◌ {A = Option ℕ} (Some v) None → ⊥
+some-none v e = cc
+
+-- a used entry of the low table
+pub used-low : (k : List (List ℕ)) (r page u i : ℕ) → page < 2 ^ 27 → table_at k r (low_node page) ≡ Some u → i < 512 → entry_of k u i ≢ 0 → (x : Node) → (x ≡ mid_node page) ⊎ (x ≡ low_node page) → IsUsed k r x
+unfolding lookup_of
+used-low k r page u i small at low ne x o =
+    let q = page / 512 * 512 + i in
+    let a : q / 262144 % 512 ≡ page / 262144 % 512 = omega arith in
+    let b : q / 512 % 512 ≡ page / 512 % 512 = omega arith in
+    let c : q % 512 ≡ i = omega arith in
+    let mid : mid_node q ≡ mid_node page = ap Mid a in
+    let node : low_node q ≡ low_node page = ap (λ y. Low y (q / 512 % 512)) a ∙ ap (Low (page / 262144 % 512)) b in
+    record {
+      page = q;
+      value = _;
+      inside = omega arith;
+      over = elim o [ inl e ↦ inl (e ∙ sym mid) | inr e ↦ inr (e ∙ sym node) ];
+      mapped = ap (λ y. leaf_at k (table_at k r y) (q % 512)) node ∙ ap (λ y. leaf_at k y (q % 512)) at ∙ ap (λ y. leaf_of (entry_of k u y)) c ∙ leaf_of-some (entry_of k u i) ne;
+    }
+
+low-first-same : (a b c d : ℕ) → Low a b ≡ Low c d → a ≡ c
+low-first-same a b c d e = cc
+
+module _ {m k : List (List ℕ)} {r page : ℕ} {s n : Frames} (is : IsTidy m r) (rem : Removes (lookup_of m r) (lookup_of k r) page) (drops : Adds k m r page n s) where
+  -- no table but the root is empty afterwards
+  pub IsTidy-remove : ((t : ℕ) → table_at k r (mid_node page) ≡ Some t → IsUsed k r (mid_node page)) → ((t : ℕ) → table_at k r (low_node page) ≡ Some t → IsUsed k r (low_node page)) → IsTidy k r
+  IsTidy-remove mid low = record {
+    used = λ x t nx nr h.
+        let u = is.used x t nx nr (drops.stand x t nx h) in
+        elim (cases_eq u.page page) [
+          | inl same ↦ elim u.over [
+            | inl e ↦ let at : x ≡ mid_node page = e ∙ ap mid_node same in rw at (mid t (rw at at h))
+            | inr e ↦ let at : x ≡ low_node page = e ∙ ap low_node same in rw at (low t (rw at at h))
+          ]
+          | inr ne ↦ record { page = u.page; value = u.value; inside = u.inside; over = u.over; mapped = rem.others u.page u.inside ne ∙ u.mapped }
+        ];
+  }
+
+  -- a used entry of the mid table
+  pub used-mid : (t j : ℕ) → page < 2 ^ 27 → table_at k r (mid_node page) ≡ Some t → table_at k r (low_node page) ≡ None → j < 512 → entry_of k t j ≢ 0 → IsUsed k r (mid_node page)
+  unfolding table_at
+  used-mid t j small at none low ne =
+      let a = page / 262144 % 512 in
+      let there : table_at k r (Low a j) ≡ Some _ = ap (λ o. child_at k o j) at ∙ child_of-some (entry_of k t j) ne in
+      let u = is.used (Low a j) _ (omega arith, low) (λ e. cc) (drops.stand (Low a j) _ (omega arith, low) there) in
+      elim u.over [
+        | inl e ↦ absurd cc
+        | inr e ↦
+            let other : u.page ≢ page = λ (f : u.page ≡ page). some-none _ (sym there ∙ ap (table_at k r) (e ∙ ap low_node f) ∙ none) in
+            let first : a ≡ u.page / 262144 % 512 = low-first-same a j (u.page / 262144 % 512) (u.page / 512 % 512) e in
+            record { page = u.page; value = u.value; inside = u.inside; over = inl (ap Mid first); mapped = rem.others u.page u.inside other ∙ u.mapped }
+      ]
+
+pub Removes-after : (m k l : List (List ℕ)) (r page : ℕ) → SameMap k l r → Removes (lookup_of m r) (lookup_of k r) page → Removes (lookup_of m r) (lookup_of l r) page
+Removes-after m k l r page same rem = record { changed = same page ∙ rem.changed; others = λ p small ne. same p ∙ rem.others p small ne }
+
+-- ---- a page table that maps nothing
+
+module _ (k : List (List ℕ)) (r : ℕ) where
+  pub empty-tables : ((i : ℕ) → i < 512 → entry_of k r i ≡ 0) → (x : Node) → IsNode x → x ≢ Root → table_at k r x ≡ None
+  unfolding table_at
+  empty-tables zero Root nx nr = absurd (nr refl)
+  empty-tables zero (Mid a) nx nr = rw (zero a nx) child_of-zero
+  empty-tables zero (Low a b) nx nr = rw (zero a (nx.0), child_of-zero) refl
+
+  no_tables-lookup : ((x : Node) → IsNode x → x ≢ Root → table_at k r x ≡ None) → (p : ℕ) → lookup_of k r p ≡ None
+  unfolding lookup_of
+  no_tables-lookup none p = rw (none (low_node p) (omega arith, omega arith) (λ e. cc)) refl
+
+  -- where the root is the only table no page is mapped
+  pub IsEmpty-tables : ((x : Node) → IsNode x → x ≢ Root → table_at k r x ≡ None) → IsEmpty k r
+  IsEmpty-tables none = record { tables = none; pages = no_tables-lookup none }
+
+  pub IsEmpty-zeros : ((i : ℕ) → i < 512 → entry_of k r i ≡ 0) → IsEmpty k r
+  IsEmpty-zeros zero = IsEmpty-tables (empty-tables zero)
+
+module _ {k : List (List ℕ)} {r : ℕ} (is : IsEmpty k r) where
+  pub IsTidy-empty : IsTidy k r
+  IsTidy-empty = record { used = λ x t nx nr h. absurd (let none = is.tables x nx nr in cc) }
+
+  pub only-root : (x : Node) (t : ℕ) → IsNode x → table_at k r x ≡ Some t → (x ≡ Root) × (t ≡ r)
+  only-root Root t nx h = (refl, let e = root_at k r in cc)
+  only-root (Mid a) t nx h = absurd (let none = is.tables (Mid a) nx (λ e. cc) in cc)
+  only-root (Low a b) t nx h = absurd (let none = is.tables (Low a b) nx (λ e. cc) in cc)
+
+pub IsPaged-new : (m : List (List ℕ)) (r : ℕ) (s n : Frames) → IsFreeList m s → free_of m s ≡ r ∷ free_of m n → IsFreeList m n → (k : List (List ℕ)) → k ≡ slice_set m r (replicate 4096 0) → extra_of n ≡ extra_of s
+    → IsPaged k r n × IsEmpty k r × (free_of m s ≡ r ∷ free_of k n)
+IsPaged-new m r s n is taken after k e table =
+    let first = free-first is r (free_of m n) taken in
+    let len : length k ≡ length m = rw e (length-set m r (replicate {A = ℕ} 4096 0)) in
+    let others : (g : ℕ) → g ≢ r → frame_of k g ≡ frame_of m g = λ (g : ℕ) (ne : g ≢ r). rw e (get_or-set_other m r g (replicate {A = ℕ} 4096 0) [] ne) in
+    let same : (g : ℕ) → among g (free_of m n) ≡ true → frame_of k g ≡ frame_of m g = λ (g : ℕ) (at : among g (free_of m n) ≡ true). others g (λ f. cc (ap (λ x. among x (free_of m n)) f, at, first.1)) in
+    let free : free_of k n ≡ free_of m n = free_of-same m k n same in
+    let zero : (i : ℕ) → i < 512 → entry_of k r i ≡ 0 = λ (i : ℕ) (l : i < 512). rw e (entry_of-zeros m r i first.0 l) in
+    let empty = IsEmpty-zeros k r zero in
+    let root = only-root empty in (
+      record {
+        tree = record {
+          inside = λ x t nx h. rw ((root x t nx h).1) (omega (arith, len, first.0));
+          once = λ x y t nx ny hx hy. (root x t nx hx).0 ∙ sym (root y t ny hy).0;
+          sound = λ x t i nx h small. rw ((root x t nx h).0, (root x t nx h).1, zero i small) (no_table refl);
+        };
+        free = IsFreeList-same m k n after len same;
+        apart = λ x t nx h. rw ((root x t nx h).1, free) (first.1);
+        own = λ x t nx h. rw ((root x t nx h).1) (further-taken is n r (free_of m n) taken table);
+      },
+      empty,
+      taken ∙ ap (λ l. r ∷ l) (sym free),
+    )

@@ -118,9 +118,6 @@ pub root_at : (m : List (List ℕ)) (r : ℕ) → table_at m r Root ≡ Some r
 unfolding table_at
 root_at m r = refl
 
-pub tree-root : (m : List (List ℕ)) (r : ℕ) → IsTree m r → r < length m
-tree-root m r is = is.inside Root r tt (root_at m r)
-
 pub table_at-mid : (m : List (List ℕ)) (r page : ℕ) → table_at m r (mid_node page) ≡ child_of (entry_of m r (page / 262144 % 512))
 unfolding table_at
 table_at-mid m r page = refl
@@ -133,8 +130,12 @@ pub lookup_of-low : (m : List (List ℕ)) (r page : ℕ) (o : Option ℕ) → o 
 unfolding lookup_of
 lookup_of-low m r page o at = ap (λ x. leaf_at m x (page % 512)) (sym at)
 
-pub tree-leaf_sound : (m : List (List ℕ)) (r page t : ℕ) → IsTree m r → Some t ≡ table_at m r (low_node page) → IsLeafEntry (length m) (entry_of m t (page % 512))
-tree-leaf_sound m r page t is at = is.sound (low_node page) t (page % 512) (low_is_node page) (sym at) (omega arith)
+module _ {m : List (List ℕ)} {r : ℕ} (is : IsTree m r) where
+  pub tree-root : r < length m
+  tree-root = is.inside Root r tt (root_at m r)
+
+  pub tree-leaf_sound : (page t : ℕ) → Some t ≡ table_at m r (low_node page) → IsLeafEntry (length m) (entry_of m t (page % 512))
+  tree-leaf_sound page t at = is.sound (low_node page) t (page % 512) (low_is_node page) (sym at) (omega arith)
 
 -- a tree with no middle table on the way has no low one
 pub no_low : (m : List (List ℕ)) (r page : ℕ) → table_at m r (mid_node page) ≡ None → table_at m r (low_node page) ≡ None
@@ -244,32 +245,34 @@ module _ {m k : List (List ℕ)} {r t c : ℕ} where
 
 -- ---- free frames
 
--- the first free frame is one of the memory, and not among the others
-pub free-first : (m : List (List ℕ)) (s : Frames) (f : ℕ) (fs : List ℕ) → IsFreeList m s → free_of m s ≡ f ∷ fs → (f < length m) × (among f fs ≡ false)
-unfolding IsDistinct
-free-first m s f fs is e = (is.inside f (rw e (among_first f fs)), apart-not f fs ((rw e at is.distinct).0))
+pub further-same : (s n : Frames) (f : ℕ) → extra_of n ≡ extra_of s → further_at n f ≡ further_at s f
+further-same s n f table = ap (λ (t : List ℕ × ℕ). get_or t.0 f 0) table
+
+module _ {m : List (List ℕ)} {s : Frames} (is : IsFreeList m s) where
+  -- the first free frame is one of the memory, and not among the others
+  pub free-first : (f : ℕ) (fs : List ℕ) → free_of m s ≡ f ∷ fs → (f < length m) × (among f fs ≡ false)
+  unfolding IsDistinct
+  free-first f fs e = (is.inside f (rw e (among_first f fs)), apart-not f fs ((rw e at is.distinct).0))
+
+  pub further-taken : (n : Frames) (u : ℕ) (fs : List ℕ) → free_of m s ≡ u ∷ fs → extra_of n ≡ extra_of s → further_at n u ≡ 0
+  further-taken n u fs e table = further-same s n u table ∙ further-free is u (ap (among u) e ∙ among_first u fs)
 
 not_among : (f g : ℕ) (fs : List ℕ) → among f fs ≡ true → among g fs ≡ false → f ≢ g
 not_among f g fs held out e = cc (rw e at held)
 
-pub free-link : (m k : List (List ℕ)) (s n : Frames) (t c u : ℕ) → IsFreeList m s → IsFreeList m n → free_of m s ≡ u ∷ free_of m n → among t (free_of m s) ≡ false → Links m k t c u
-    → (free_of k n ≡ free_of m n) × IsFreeList k n
-free-link m k s n t c u is after e out w =
-    let rest = free_of m n in
-    let stays : (v : ℕ) → among v rest ≡ true → frame_of k v ≡ frame_of m v = λ (v : ℕ) (held : among v rest ≡ true).
-    w.others v (not_among v t rest held (among_first_not t u rest (rw e at out)).1) (not_among v u rest held (free-first m s u rest is e).1) in
-    (free_of-same m k n stays, IsFreeList-same m k n after w.count stays)
+module _ {m k : List (List ℕ)} {s n : Frames} {t c u : ℕ} (is : IsFreeList m s) (after : IsFreeList m n) (w : Links m k t c u) where
+  pub free-link : free_of m s ≡ u ∷ free_of m n → among t (free_of m s) ≡ false → (free_of k n ≡ free_of m n) × IsFreeList k n
+  free-link e out =
+      let rest = free_of m n in
+      let stays : (v : ℕ) → among v rest ≡ true → frame_of k v ≡ frame_of m v = λ (v : ℕ) (held : among v rest ≡ true).
+      w.others v (not_among v t rest held (among_first_not t u rest (rw e at out)).1) (not_among v u rest held (free-first is u rest e).1) in
+      (free_of-same m k n stays, IsFreeList-same m k n after w.count stays)
 
-pub free-write : (m k : List (List ℕ)) (r : ℕ) (s : Frames) (x : Node) (t c e : ℕ) → IsPaged m r s → IsNode x → table_at m r x ≡ Some t → Writes m k t c e → (free_of k s ≡ free_of m s) × IsFreeList k s
-free-write m k r s x t c e is nx at w =
-    let stays : (v : ℕ) → among v (free_of m s) ≡ true → frame_of k v ≡ frame_of m v = λ (v : ℕ) (held : among v (free_of m s) ≡ true). w.others v (not_among v t (free_of m s) held (is.apart x t nx at)) in
-    (free_of-same m k s stays, IsFreeList-same m k s is.free w.count stays)
-
-pub further-same : (s n : Frames) (f : ℕ) → extra_of n ≡ extra_of s → further_at n f ≡ further_at s f
-further-same s n f table = ap (λ (t : List ℕ × ℕ). get_or t.0 f 0) table
-
-pub further-taken : (m : List (List ℕ)) (s n : Frames) (u : ℕ) (fs : List ℕ) → IsFreeList m s → free_of m s ≡ u ∷ fs → extra_of n ≡ extra_of s → further_at n u ≡ 0
-further-taken m s n u fs is e table = further-same s n u table ∙ further-free m s u is (ap (among u) e ∙ among_first u fs)
+module _ {m k : List (List ℕ)} {r : ℕ} {s : Frames} {t c e : ℕ} (is : IsPaged m r s) (w : Writes m k t c e) where
+  pub free-write : (x : Node) → IsNode x → table_at m r x ≡ Some t → (free_of k s ≡ free_of m s) × IsFreeList k s
+  free-write x nx at =
+      let stays : (v : ℕ) → among v (free_of m s) ≡ true → frame_of k v ≡ frame_of m v = λ (v : ℕ) (held : among v (free_of m s) ≡ true). w.others v (not_among v t (free_of m s) held (is.apart x t nx at)) in
+      (free_of-same m k s stays, IsFreeList-same m k s is.free w.count stays)
 
 -- so many free frames are taken
 pub free_count-taken : (m k : List (List ℕ)) (s n : Frames) (j : ℕ) → length (free_of m s) ≡ j + length (free_of k n) → extra_of n ≡ extra_of s → IsFreeList k n → free_count m s ≡ j + free_count k n
@@ -297,7 +300,7 @@ module _ {m k : List (List ℕ)} {r page t e : ℕ} {s : Frames} (w : IsWritten 
   write-tables x nx = stays (low_node page) written x nx (λ up. absurd up)
 
   free-kept : (free_of k s ≡ free_of m s) × IsFreeList k s
-  free-kept = free-write m k r s (low_node page) t (page % 512) e w.paged (low_is_node page) w.low w.write
+  free-kept = free-write w.paged w.write (low_node page) (low_is_node page) w.low
 
   pub write-free : free_of k s ≡ free_of m s
   write-free = free-kept.0
@@ -336,12 +339,13 @@ pub record Turns (m k : List (List ℕ)) (r : ℕ) (s n : Frames) (x : Node) (c 
   pub now : table_at k r (next_node x c) ≡ o
   pub beside : (y : Node) → IsNode y → y ≢ next_node x c → table_at k r y ≡ table_at m r y
 
-pub Keeps-twice : (m k l : List (List ℕ)) (r : ℕ) (s q n : Frames) → Keeps m k r s q → Keeps k l r q n → Keeps m l r s n
-Keeps-twice m k l r s q n one two = record {
-  count = two.count ∙ one.count;
-  others = λ v out free. let mid = one.outside v out free in two.others v mid.0 mid.1 ∙ one.others v out free;
-  outside = λ v out free. let mid = one.outside v out free in two.outside v mid.0 mid.1;
-}
+module _ {m k l : List (List ℕ)} {r : ℕ} {s q n : Frames} (one : Keeps m k r s q) (two : Keeps k l r q n) where
+  pub Keeps-twice : Keeps m l r s n
+  Keeps-twice = record {
+    count = two.count ∙ one.count;
+    others = λ v out free. let mid = one.outside v out free in two.others v mid.0 mid.1 ∙ one.others v out free;
+    outside = λ v out free. let mid = one.outside v out free in two.outside v mid.0 mid.1;
+  }
 
 -- an empty table in the first free frame u, to which entry c of the table t at x leads now
 pub record Attaches (m k : List (List ℕ)) (r : ℕ) (s n : Frames) (x : Node) (t c u : ℕ) : Type 0 where
@@ -387,7 +391,7 @@ module _ {m k : List (List ℕ)} {r t c u : ℕ} {s n : Frames} {x : Node} (w : 
 
   pub attached : Turns m k r s n x c (Some u)
   attached =
-      let first = free-first m s u (free_of k n) w.paged.free w.taken in
+      let first = free-first w.paged.free u (free_of k n) w.taken in
       let split : (v : ℕ) → among v (free_of m s) ≡ false → (v ≢ u) × (among v (free_of k n) ≡ false) = λ (v : ℕ) (h : among v (free_of m s) ≡ false). among_first_not v u (free_of k n) (rw w.taken at h) in
       record {
         paged = record {
@@ -404,7 +408,7 @@ module _ {m k : List (List ℕ)} {r t c u : ℕ} {s n : Frames} {x : Node} (w : 
           };
           free = w.valid;
           apart = link-each (λ v. among v (free_of k n) ≡ false) first.1 (λ y v ny h. (split v (w.paged.apart y v ny h)).1);
-          own = link-each (λ v. further_at n v ≡ 0) (further-taken m s n u (free_of k n) w.paged.free w.taken w.extra) (λ y v ny h. further-same s n v w.extra ∙ w.paged.own y v ny h);
+          own = link-each (λ v. further_at n v ≡ 0) (further-taken w.paged.free n u (free_of k n) w.taken w.extra) (λ y v ny h. further-same s n v w.extra ∙ w.paged.own y v ny h);
         };
         keeps = record {
           count = w.links.count;
@@ -491,3 +495,32 @@ module _ {m k l : List (List ℕ)} {r t c u : ℕ} {s n : Frames} {x : Node} (w 
     now = gone;
     beside = λ y ny ne. stays x unlinked y ny (λ _. ne);
   }
+
+-- ---- a page table outlives what is done beside it
+
+-- the tables keep their bytes
+abbrev pub KeepsTables : List (List ℕ) → List (List ℕ) → ℕ → Type 0
+KeepsTables m k r = (v : ℕ) → HasTable m r v → frame_of k v ≡ frame_of m v
+
+held_at : (m : List (List ℕ)) (r : ℕ) (x : Node) (v : ℕ) → IsNode x → table_at m r x ≡ Some v → HasTable m r v
+held_at m r x v nx at = record { place = x; is_node = nx; at_place = at }
+
+module _ (m k : List (List ℕ)) (r : ℕ) (same : KeepsTables m k r) where
+  pub table_at-same : SameTables m k r
+  unfolding table_at
+  table_at-same Root nx = refl
+  table_at-same (Mid a) nx = ap child_of (entry_of-frame m k r a (same r (held_at m r Root r tt refl)))
+  table_at-same (Low a b) nx =
+      ap (λ o. child_at k (child_of o) b) (entry_of-frame m k r a (same r (held_at m r Root r tt refl)))
+      ∙ child_at-same m k (child_of (entry_of m r a)) b (λ v g. entry_of-frame m k v b (same v (held_at m r (Mid a) v nx.0 g)))
+
+  pub IsTree-same : IsTree m r → length k ≡ length m → IsTree k r
+  IsTree-same is len =
+      let old : (x : Node) (t : ℕ) → IsNode x → table_at k r x ≡ Some t → table_at m r x ≡ Some t = λ x t nx h. sym (table_at-same x nx) ∙ h in
+      kept-tree is len old (λ x t i nx h small. rw (len, entry_of-frame m k t i (same t (held_at m r x t nx (old x t nx h)))) (is.sound x t i nx (old x t nx h) small))
+
+  pub lookup_of-same : (page : ℕ) → lookup_of k r page ≡ lookup_of m r page
+  unfolding lookup_of
+  lookup_of-same page =
+      ap (λ o. leaf_at k o (page % 512)) (table_at-same (low_node page) (low_is_node page))
+      ∙ leaf_at-same m k (table_at m r (low_node page)) (page % 512) (λ v g. entry_of-frame m k v (page % 512) (same v (held_at m r (low_node page) v (low_is_node page) g)))

@@ -33,7 +33,7 @@ returns-else-free-lt1 c =
     let ins = Inserts-after c.args.ram.now c.make_low-low.new.ram c.set_leaf-in-None-low_table.new.ram c.args.self.now.root.0 page _ made.same set.inserts in
     let told = mapped-by ins c.requires.page set.paged made.extra (Adds-by c.args.ram.now c.set_leaf-in-None-low_table.new.ram c.args.self.now.root.0 page c.args.frames.now c.make_low-low.new.frames _ _ _ _ mid c.in-None-low_table.ensures refl refl
     (set.tables _ (mid_is_node page) ∙ made.beside (mid_node page) (mid_is_node page) (λ e. cc) ∙ sym mid) (set.tables _ (low_is_node page) ∙ made.there) (λ x nx _ nl. set.tables x nx ∙ made.beside x nx nl) (rw set.free made.taken)) in
-    record { mapped = ins; taken = told.taken; adds = told.adds; tidy = told.tidy; refused = (λ e. cc, λ less. absurd (told.not_refused less)); full = tt; unchanged = tt; paged = set.paged; keeps = Keeps-twice _ _ _ _ _ _ _ made.keeps set.keeps; extra = made.extra }
+    record { mapped = ins; taken = told.taken; adds = told.adds; tidy = told.tidy; refused = (λ e. cc, λ less. absurd (told.not_refused less)); full = tt; unchanged = tt; paged = set.paged; keeps = Keeps-twice made.keeps set.keeps; extra = made.extra }
 
 pub returns-else-free-lt2 : goal.returns-else-free-lt2
 returns-else-free-lt2 c =
@@ -46,4 +46,4 @@ returns-else-free-lt2 c =
     let told = mapped-by ins c.requires.page set.paged extra (Adds-by c.args.ram.now c.set_leaf-in-None.new.ram c.args.self.now.root.0 page c.args.frames.now c.make_low-low-in-None.new.frames _ _ _ _ c.in-None.ensures (sym (no_low c.args.ram.now c.args.self.now.root.0 page (sym c.in-None.ensures))) refl refl
     (set.tables _ (mid_is_node page) ∙ made.beside (mid_node page) (mid_is_node page) (λ e. cc) ∙ first.there) (set.tables _ (low_is_node page) ∙ made.there)
     (λ x nx nm nl. set.tables x nx ∙ made.beside x nx nl ∙ first.beside x nx nm) (first.taken ∙ ap (λ l. c.make_mid-mid.result.0 ∷ l) (rw set.free made.taken))) in
-    record { mapped = ins; taken = told.taken; adds = told.adds; tidy = told.tidy; refused = (λ e. cc, λ less. absurd (told.not_refused less)); full = tt; unchanged = tt; paged = set.paged; keeps = Keeps-twice _ _ _ _ _ _ _ (Keeps-twice _ _ _ _ _ _ _ first.keeps made.keeps) set.keeps; extra = extra }
+    record { mapped = ins; taken = told.taken; adds = told.adds; tidy = told.tidy; refused = (λ e. cc, λ less. absurd (told.not_refused less)); full = tt; unchanged = tt; paged = set.paged; keeps = Keeps-twice (Keeps-twice first.keeps made.keeps) set.keeps; extra = extra }

@@ -1,12 +1,12 @@
-use Rattle.pagetable.proofs.EmptyLemmas.{IsPaged-new, IsTidy-empty}
+use Rattle.pagetable.proofs.ShapeLemmas.{IsPaged-new, IsTidy-empty}
 use Rattle.pagetable.proofs.TreeLemmas.{free-first}
 use Rattle.pagetable.proofs.PageTable.new.Goals as goal
 
 pub zero-requires : goal.zero-requires
-zero-requires c = (free-first c.args.ram.now c.args.frames.now c.in-Some.root.0 _ c.requires c.in-Some.ensures.some).0
+zero-requires c = (free-first c.requires c.in-Some.root.0 _ c.in-Some.ensures.some).0
 
 pub returns-in-Some : goal.returns-in-Some
 returns-in-Some c =
     let some = c.in-Some.ensures in
     let made = IsPaged-new c.args.ram.now c.in-Some.root.0 c.args.frames.now c.take.new.self c.requires some.some some.valid c.zero.new.self c.zero.ensures some.extra in
-    record { paged = made.0; empty = made.1; tidy = IsTidy-empty c.zero.new.self c.in-Some.root.0 made.1; taken = made.2; bytes = c.zero.ensures; none = tt; extra = some.extra }
+    record { paged = made.0; empty = made.1; tidy = IsTidy-empty made.1; taken = made.2; bytes = c.zero.ensures; none = tt; extra = some.extra }

@@ -1,16 +1,16 @@
 use Rattle.pagetable.proofs.Common.{entry_of, length, None, Option, Some, sym, ℕ, ◌%◌, ◌∙◌, ◌≡◌}
-use Rattle.pagetable.proofs.LookupLemmas.{first-same, leaf_of-sound}
+use Rattle.pagetable.proofs.AgreeLemmas.{first-same, leaf_of-sound}
 use Rattle.pagetable.proofs.ShapeLemmas.{IsTidy-insert}
 use Rattle.pagetable.proofs.TreeLemmas.{lookup_of-low, tree-leaf_sound}
 use Rattle.pagetable.proofs.PageTable.set_perm.Goals as goal
 
 pub leaf-requires-clause-sound : goal.leaf-requires-clause-sound
-leaf-requires-clause-sound c = tree-leaf_sound c.args.ram.now c.args.self.now.root.0 c.args.page c.in-Some.table.0 c.requires.paged.tree c.in-Some.ensures
+leaf-requires-clause-sound c = tree-leaf_sound c.requires.paged.tree c.args.page c.in-Some.table.0 c.in-Some.ensures
 
 pub set_leaf-requires-clause-frame : goal.set_leaf-requires-clause-frame
 set_leaf-requires-clause-frame c =
-    (leaf_of-sound (length c.args.ram.now) (entry_of c.args.ram.now c.in-Some.table.0 (c.args.page % 512)) c.in-Some-leaf.frame.0 _
-    (tree-leaf_sound c.args.ram.now c.args.self.now.root.0 c.args.page c.in-Some.table.0 c.requires.paged.tree c.in-Some.ensures) (sym c.in-Some-leaf.ensures)).0
+    (leaf_of-sound (length c.args.ram.now) (entry_of c.args.ram.now c.in-Some.table.0 (c.args.page % 512))
+    (tree-leaf_sound c.requires.paged.tree c.args.page c.in-Some.table.0 c.in-Some.ensures) (sym c.in-Some-leaf.ensures)).0
 
 pub unreachable-requires-in_default-leaf : goal.unreachable-requires-in_default-leaf
 unreachable-requires-in_default-leaf c = c.requires.mapped (lookup_of-low c.args.ram.now c.args.self.now.root.0 c.args.page (Some c.in-Some.table.0) c.in-Some.ensures ∙ sym c.in_default-leaf.ensures)

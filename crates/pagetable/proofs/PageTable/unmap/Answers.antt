@@ -1,13 +1,12 @@
 use Rattle.pagetable.proofs.Common.{ap, inl, inr, lookup_of, low_node, mid_node, None, refl, Some, sym, ℕ, ◌∙◌, ◌∷◌, ◌≡◌}
 use Rattle.std.specs.Option.{option_map}
-use Rattle.pagetable.proofs.ShapeLemmas.{Adds-by}
+use Rattle.pagetable.proofs.ShapeLemmas.{Adds-by, IsTidy-remove, Removes-after, some-none, used-low, used-mid}
 use Rattle.pagetable.proofs.TreeLemmas.{Keeps-twice, lookup_of-low, low_is_node, mid_is_node, table_at-low, tree-leaf_sound}
-use Rattle.pagetable.proofs.UnmapLemmas.{IsTidy-remove, Removes-after, some-none, used-low, used-mid}
 use Rattle.pagetable.proofs.PageTable.unmap.Goals as goal
 use Rattle.pagetable.proofs.PageTable.unmap.Goals.{After-clear_leaf}
 
 pub leaf-requires-clause-sound : goal.leaf-requires-clause-sound
-leaf-requires-clause-sound c = tree-leaf_sound c.args.ram.now c.args.self.now.root.0 c.args.page c.in-Some-low_table.low.0 c.requires.paged.tree c.in-Some-low_table.ensures
+leaf-requires-clause-sound c = tree-leaf_sound c.requires.paged.tree c.args.page c.in-Some-low_table.low.0 c.in-Some-low_table.ensures
 
 pub unreachable-requires-in_default-leaf : goal.unreachable-requires-in_default-leaf
 unreachable-requires-in_default-leaf c = c.requires.mapped (lookup_of-low c.args.ram.now c.args.self.now.root.0 c.args.page (Some c.in-Some-low_table.low.0) c.in-Some-low_table.ensures ∙ sym c.in_default-leaf.ensures)
@@ -36,7 +35,7 @@ returns-then-is_used c =
       was = was (goal.at.returns-then-is_used c).After-clear_leaf;
       removes = clear.removes;
       drops = drops;
-      tidy = IsTidy-remove c.args.ram.now c.clear_leaf.new.ram c.args.self.now.root.0 page c.args.frames.now c.args.frames.now c.requires.tidy clear.removes drops (λ _ _. in_use _ (inl refl)) (λ _ _. in_use _ (inr refl));
+      tidy = IsTidy-remove c.requires.tidy clear.removes drops (λ _ _. in_use _ (inl refl)) (λ _ _. in_use _ (inr refl));
       paged = clear.paged;
       keeps = clear.keeps;
       extra = refl;
@@ -60,9 +59,9 @@ returns-then-is_used-2 c =
       was = was (goal.at.returns-then-is_used-2 c).After-clear_leaf;
       removes = removes;
       drops = drops;
-      tidy = IsTidy-remove m k r page c.args.frames.now c.drop_low.new.frames c.requires.tidy removes drops (λ _ _. used-mid m k r page c.in-Some.mid.0 used.0 c.args.frames.now c.drop_low.new.frames c.requires.page c.requires.tidy removes drops after drop.gone used.1 used.2) (λ t h. absurd (some-none t (sym h ∙ drop.gone)));
+      tidy = IsTidy-remove c.requires.tidy removes drops (λ _ _. used-mid c.requires.tidy removes drops c.in-Some.mid.0 used.0 c.requires.page after drop.gone used.1 used.2) (λ t h. absurd (some-none t (sym h ∙ drop.gone)));
       paged = drop.paged;
-      keeps = Keeps-twice _ _ _ _ _ _ _ clear.keeps drop.keeps;
+      keeps = Keeps-twice clear.keeps drop.keeps;
       extra = drop.extra;
     }
 
@@ -83,8 +82,8 @@ returns c =
       was = was (goal.at.returns c).After-clear_leaf;
       removes = removes;
       drops = drops;
-      tidy = IsTidy-remove m k r page c.args.frames.now c.drop_mid.new.frames c.requires.tidy removes drops (λ t h. absurd (some-none t (sym h ∙ drop.gone))) (λ t h. absurd (some-none t (sym h ∙ gone)));
+      tidy = IsTidy-remove c.requires.tidy removes drops (λ t h. absurd (some-none t (sym h ∙ drop.gone))) (λ t h. absurd (some-none t (sym h ∙ gone)));
       paged = drop.paged;
-      keeps = Keeps-twice _ _ _ _ _ _ _ (Keeps-twice _ _ _ _ _ _ _ clear.keeps low.keeps) drop.keeps;
+      keeps = Keeps-twice (Keeps-twice clear.keeps low.keeps) drop.keeps;
       extra = drop.extra ∙ low.extra;
     }

@@ -2,4 +2,4 @@ use Rattle.pagetable.proofs.AgreeLemmas.{walk_page-tree}
 use Rattle.pagetable.proofs.PageTable.walks_by_map.Goals as goal
 
 pub returns : goal.returns
-returns c = λ page access. walk_page-tree c.args.ram.now c.args.self.now.root.0 page access c.frames_are_whole.ensures.small c.requires
+returns c = λ page access. walk_page-tree page access c.frames_are_whole.ensures.small c.requires
