@@ -3,7 +3,7 @@ use Rattle.spaces.proofs.Common.{Alike, Narrows, changed, put_in, ◌≡◌, ◌
 use Rattle.spaces.proofs.Common.{cases_Bool, cases_lt, memory_of, page_in, Fetch, Load, Store, Change, Bytes, Nothing, ShowsByte, ShowsMemory, byte_at, is_shared, page_byte, walk, Perm, Memory, Page, page_for, permits, permitted, marks_at}
 use Rattle.spaces.proofs.Common.{read_at, read_below, entries_below, pages_below, mapping_below, IsUserLeaf, entry_marks, is_open, right_marks, user_leaf, get-mapping, mapped-page, mapping-past, unmapped-page}
 use Rattle.unixmodel.specs.declared.trap.Access.{Access}
-use Rattle.vm.proofs.LeafLemmas.{leaf-open, open-right, open-unshared, right-leaf}
+use Rattle.vm.proofs.PageLemmas.{leaf-open, open-right, open-unshared, right-leaf}
 
 -- ---- a page
 

@@ -38,10 +38,9 @@ pub use Rattle.unixmodel.specs.Translation.{HoldsInside, HoldsNothing, IsKept, T
 pub use Rattle.unixmodel.specs.declared.trap.Access.TheVariants.{Fetch, Load, Store}
 pub use Rattle.unixmodel.specs.declared.trap.Cause.TheVariants.{StorePageFault}
 pub use Rattle.unixmodel.specs.declared.trap.Trap.{Trap}
-pub use Rattle.vm.proofs.PageLemmas.{length-mapping}
+pub use Rattle.vm.proofs.PageLemmas.{length-mapping, coherent-grown, get-mapping, mapped-page, mapping-is, mapping-past, mapping-within, unmapped-page, walks-entries}
 pub use Rattle.vm.proofs.ReachLemmas.{page-there}
 pub use Rattle.vm.proofs.SharesLemmas.{fork-machine, free-left, machine-new, none-flat, none-there, one-place, rest-held, rest-machine, rest-untouched, set-place, trade-machine, trade-others, trade-rest, Trades-write, two-places, each-set}
-pub use Rattle.vm.proofs.WalkLaw.{coherent-grown, get-mapping, mapped-page, mapping-is, mapping-past, mapping-within, unmapped-page, walks-entries}
 pub use Rattle.vm.specs.Dense.{entries_below, frame_at, frames_for, mapping_below, marks_at, pages_below, read_at}
 unfoldable pub use Rattle.vm.specs.Dense.{read_below}
 pub use Rattle.vm.specs.Leaf.{entry_marks, is_open, IsUserLeaf, mapped_as, marks_from, right_marks, user_leaf}

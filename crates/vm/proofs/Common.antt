@@ -1,7 +1,7 @@
 -- The names that the lemmas of this crate import from elsewhere, passed on from one place. Declares nothing.
-pub use Rattle.std.proofs.Common.{◌%◌, ◌&&◌, ◌*◌, ◌+◌, ◌++◌, ◌-◌, ◌/◌, ◌<◌, ◌==◌, [], ◌^◌, add-one, ap, append-nil, append_assoc, arith, Bool, drop, eq-eqb, eqb, false, get_or, get_or-set_other, get_or-set_same, inl, inr, leb, length}
-pub use Rattle.std.proofs.Common.{length-append, length-drop, length-set, length-take, List, ltb, map, min, nat_eq, None, Option, refl, replicate, rules, slice_set, Some, subst, suc, sym, take, true, unwrap_or, zero, ◌||◌, ℕ, ◌∙◌, ◌∷◌, ◌≡◌}
-pub use Rattle.std.proofs.Common.{◌≢◌, ◌≤◌, ◌⊎◌}
+pub use Rattle.std.proofs.Common.{◌%◌, ◌&&◌, ◌*◌, ◌+◌, ◌++◌, ◌-◌, ◌/◌, ◌<◌, ◌==◌, [], ◌^◌, add-one, ap, append-nil, append_assoc, arith, Bool, drop, eq-eqb, eqb, false, get_or}
+pub use Rattle.std.proofs.Common.{get_or-set_other, get_or-set_same, inl, inr, leb, length, length-append, length-drop, length-set, length-take, List, ltb, map, min, nat_eq}
+pub use Rattle.std.proofs.Common.{None, Option, refl, replicate, rules, slice_set, Some, subst, suc, sym, take, true, unwrap_or, zero, ◌||◌, ℕ, ◌∙◌, ◌∷◌, ◌≡◌, ◌≢◌, ◌≤◌, ◌⊎◌}
 pub use Rattle.std.proofs.Math.Seq.{drop-cons, take-add, take-suc, take-suc-set}
 pub use Rattle.std.proofs.lemmas.Bool.{and_parts, cases_Bool, cases_eq, cases_lt, eqb-true, le-leb, le-ltb, leb-false, leb-true, lt-leb, lt-ltb, ne_eqb, or_cases}
 pub use Rattle.std.proofs.lemmas.List.{drop-append-le, drop-drop, drop-set-lt, drop_all, drop_at, ext_get_or, get_or-drop, get_or_past, map-append, replicate_more, set-get_or, take-append-drop, take-append-le, take_all}
@@ -11,16 +11,18 @@ pub use Rattle.std.proofs.lemmas.Option.{get_or_from_slice_get, slice_get-get_or
 pub use Rattle.std.specs.List.{flat_map, prefix_len, range_with_len, sum_by, take_while}
 pub use Rattle.std.specs.Prelude.{if◌then◌else◌, not, option_map, slice_get}
 pub use Rattle.frames.proofs.FreeLemmas.{among_first, among_first_not, free_of-same, further-free, IsFreeList-same}
-pub use Rattle.frames.proofs.HolderLemmas.{among-none, count-cases, count_of-append, count_of-first, count_of-other, distinct-count, free-holders, held-count, held-inside, holders-free, holders-table, IsShared-trade, none-among}
-pub use Rattle.frames.proofs.HolderLemmas.{not-free-held, one-holder, one_if-le, shared-count, single, Trades-beside, Trades-give, Trades-lengths, Trades-none, Trades-twice}
+pub use Rattle.frames.proofs.HolderLemmas.{among-none, count-cases, count_of-append, count_of-first, count_of-other, distinct-count, free-holders, held-count, held-inside, holders-free, holders-table}
+pub use Rattle.frames.proofs.HolderLemmas.{IsShared-trade, none-among, not-free-held, one-holder, one_if-le, shared-count, single, Trades-beside, Trades-give, Trades-lengths, Trades-none, Trades-twice}
 pub use Rattle.frames.specs.Free.{among, free_count, further_at, IsDuplicate, IsFreeList, SameBut}
 unfoldable pub use Rattle.frames.specs.Free.{extra_of, free_of}
 pub use Rattle.frames.specs.Holders.{count_of, IsShared, one_if, Trades}
 unfoldable pub use Rattle.frames.specs.Holders.{holders_of}
 pub use Rattle.frames.specs.declared.Frames.{Frames}
-pub use Rattle.pagetable.proofs.TreeLemmas.{IsTree-same, lookup_of-same, table_at-same, free-first, free_count-taken, further-same, low_is_node, mid_is_node, missing-is, no_low, root_at, tree-root}
-pub use Rattle.pagetable.proofs.ShapeLemmas.{IsEmpty-tables, IsTidy-empty, only-root, length-made, made-is, table_of-some}
+pub use Rattle.pagetable.proofs.TreeLemmas.{KeepsTables, IsTree-same, lookup_of-same, table_at-same}
+pub use Rattle.pagetable.proofs.ShapeLemmas.{IsEmpty-tables, IsTidy-empty, only-root}
 pub use Rattle.pagetable.proofs.AgreeLemmas.{lookup-sound}
+pub use Rattle.pagetable.proofs.ShapeLemmas.{length-made, made-is, table_of-some}
+pub use Rattle.pagetable.proofs.TreeLemmas.{free-first, free_count-taken, further-same, low_is_node, mid_is_node, missing-is, no_low, root_at, tree-root}
 pub use Rattle.pagetable.specs.Shape.{Adds, IsEmpty, IsTidy, IsUsed, Removes, table_of}
 unfoldable pub use Rattle.pagetable.specs.Shape.{made}
 pub use Rattle.pagetable.specs.Tree.{HasTable, IsLeafMarks, IsNode, IsPaged, IsTree, Keeps, leaf_at, Low, low_node, Maps, Mid, mid_node, Node, Root, SameMap, SameTables}

@@ -1,10 +1,10 @@
 -- Lemmas on dense spaces: what they hold, what stays, one more page, and a frame that is taken for it.
-use Rattle.vm.proofs.Common.{[], Adds, among, among-none, ap, arith, Bool, cases_eq, cases_lt, count_of, count_of-append, count_of-first, distinct-count, eq-eqb, eqb, extra_of, false, frame_at, frame_of, Frames, frames_below, frames_for}
+use Rattle.vm.proofs.Common.{KeepsTables, [], Adds, among, among-none, ap, arith, Bool, cases_eq, cases_lt, count_of, count_of-append, count_of-first, distinct-count, eq-eqb, eqb, extra_of, false, frame_at, frame_of, Frames, frames_below, frames_for}
 use Rattle.vm.proofs.Common.{free-first, free_of, free_of-same, further_at, get_or-set_other, HasTable, held, held-inside, holders_of, if◌then◌else◌, inl, inr, is_open, IsDense, IsFreeList, IsFreeList-same, IsNode, IsPaged, IsTidy, IsTree}
 use Rattle.vm.proofs.Common.{IsTree-same, IsUsed, IsUserLeaf, Keeps, le-ltb, leaf_at, length, length-append, length-made, length-set, List, lookup_of, lookup_of-same, Low, low_is_node, low_node, lt-ltb, ltb, made, map-append, mapping_below}
 use Rattle.vm.proofs.Common.{Maps, marks_at, Mid, mid_is_node, mid_node, missing, ne_eqb, no_low, Node, None, none-among, one-holder, one_if, Option, OwnsFrames, page_at, page_in, page_with, pages_below, Perm, read_at, read_below, read_by}
 use Rattle.vm.proofs.Common.{refl, right_marks, Root, root_at, slice_set, Some, suc, sym, table_at, table_at-same, table_of, table_of-some, tables_below, tables_for, trap_marks, trap_page, true, unwrap_or, zero, ℕ, ◌%◌, ◌*◌, ◌++◌, ◌+◌, ◌-◌}
-use Rattle.vm.proofs.Common.{◌/◌, ◌<◌, ◌^◌, ◌∙◌, ◌∷◌, ◌≡◌, ◌≢◌, ◌≤◌, ◌⊎◌}
+use Rattle.vm.proofs.Common.{◌/◌, ◌<◌, ◌^◌, ◌∙◌, ◌∷◌, ◌≡◌, ◌≢◌, ◌≤◌, ◌⊎◌, entry_marks, holds, IsSpace, IsUntouched, SameLeaves, SameMap, single, Space, Trades, Trades-beside}
 
 -- ---- how many
 
@@ -95,13 +95,6 @@ base m r =
     let low = table_of m r (low_node trap_page) in
     (omega (arith, count_of-first r r (mid ∷ low ∷ []) refl), omega (arith, count_of-first mid mid (low ∷ []) refl), omega (arith, count_of-first low low [] refl))
 
--- a mapped page is one of the pages or the trap frame's
-pub mapped-cases : (m : List (List ℕ)) (r t n p : ℕ) (v : ℕ × ℕ) → IsDense m r t n → p < 2 ^ 27 → lookup_of m r p ≡ Some v → (p < n) ⊎ (p ≡ trap_page)
-mapped-cases m r t n p v is small h = elim (cases_lt p n) [
-  | inl low ↦ inl low
-  | inr high ↦ elim (cases_eq p trap_page) [ inl e ↦ inr e | inr ne ↦ absurd (let none = is.rest p high small ne in cc) ]
-]
-
 pub low-0 : (p : ℕ) → p < 32768 → low_node p ≡ Low 0 (p / 512)
 low-0 p h = let a : p / 262144 % 512 ≡ 0 = omega arith in let b : p / 512 % 512 ≡ p / 512 = omega arith in rw (a, b) refl
 
@@ -118,36 +111,44 @@ counted m r x y v k n e at some low =
     let same : table_of m r x ≡ v = ap (table_of m r) e ∙ table_of-some m r y v at in
     rw (← same) (omega (arith, some, tables-grow m r k n (table_of m r x) low))
 
-used-held : (m : List (List ℕ)) (r t n : ℕ) (x : Node) (v : ℕ) → IsDense m r t n → IsUsed m r x → table_at m r x ≡ Some v → 0 < count_of v (tables_below m r n)
-used-held m r t n x v is u at =
-    let small = is.small in
-    let p = u.page in
-    let q = p / 512 * 512 in
-    elim (mapped-cases m r t n p u.value is u.inside u.mapped) [
-      | inl low ↦ elim u.over [
-        | inl e ↦ counted m r (mid_node 0) x v 1 n (mid-0 0 (omega arith) ∙ sym (mid-0 p (omega (arith, low, small))) ∙ sym e) at (mid-first m r) (omega (arith, low))
-        | inr e ↦ counted m r (low_node q) x v (suc q) n (block-start p (omega (arith, low, small)) ∙ sym e) at (low-first m r q (omega arith)) (omega (arith, low))
-      ]
-      | inr trap ↦ elim u.over [
-        | inl e ↦ counted m r (mid_node trap_page) x v 0 n (ap mid_node (sym trap) ∙ sym e) at (base m r).1 (omega arith)
-        | inr e ↦ counted m r (low_node trap_page) x v 0 n (ap low_node (sym trap) ∙ sym e) at (base m r).2 (omega arith)
-      ]
-    ]
-
 pub cases_root : (x : Node) → (x ≡ Root) ⊎ (x ≢ Root)
 cases_root Root = inl refl
 cases_root (Mid a) = inr (λ e. cc)
 cases_root (Low a b) = inr (λ e. cc)
 
--- each table is counted
-pub table-held : (m : List (List ℕ)) (r t n v : ℕ) → IsDense m r t n → HasTable m r v → 0 < count_of v (tables_below m r n)
-table-held m r t n v is h = elim (cases_root h.place) [
-  | inl e ↦
-      let same : Some r ≡ Some v = sym (root_at m r) ∙ ap (table_at m r) (sym e) ∙ h.at_place in
-      let f : r ≡ v = cc in
-      rw (← f) (omega (arith, (base m r).0, tables-grow m r 0 n r (omega arith)))
-  | inr ne ↦ used-held m r t n h.place v is (is.tidy.used h.place v h.is_node ne h.at_place) h.at_place
-]
+module _ {m : List (List ℕ)} {r t n : ℕ} (is : IsDense m r t n) where
+  -- a mapped page is one of the pages or the trap frame's
+  pub mapped-cases : (p : ℕ) {v : ℕ × ℕ} → p < 2 ^ 27 → lookup_of m r p ≡ Some v → (p < n) ⊎ (p ≡ trap_page)
+  mapped-cases p small h = elim (cases_lt p n) [
+    | inl low ↦ inl low
+    | inr high ↦ elim (cases_eq p trap_page) [ inl e ↦ inr e | inr ne ↦ absurd (let none = is.rest p high small ne in cc) ]
+  ]
+
+  used-held : (x : Node) (v : ℕ) → IsUsed m r x → table_at m r x ≡ Some v → 0 < count_of v (tables_below m r n)
+  used-held x v u at =
+      let small = is.small in
+      let p = u.page in
+      let q = p / 512 * 512 in
+      elim (mapped-cases p u.inside u.mapped) [
+        | inl low ↦ elim u.over [
+          | inl e ↦ counted m r (mid_node 0) x v 1 n (mid-0 0 (omega arith) ∙ sym (mid-0 p (omega (arith, low, small))) ∙ sym e) at (mid-first m r) (omega (arith, low))
+          | inr e ↦ counted m r (low_node q) x v (suc q) n (block-start p (omega (arith, low, small)) ∙ sym e) at (low-first m r q (omega arith)) (omega (arith, low))
+        ]
+        | inr trap ↦ elim u.over [
+          | inl e ↦ counted m r (mid_node trap_page) x v 0 n (ap mid_node (sym trap) ∙ sym e) at (base m r).1 (omega arith)
+          | inr e ↦ counted m r (low_node trap_page) x v 0 n (ap low_node (sym trap) ∙ sym e) at (base m r).2 (omega arith)
+        ]
+      ]
+
+  -- each table is counted
+  pub table-held : {v : ℕ} → HasTable m r v → 0 < count_of v (tables_below m r n)
+  table-held {v} h = elim (cases_root h.place) [
+    | inl e ↦
+        let same : Some r ≡ Some v = sym (root_at m r) ∙ ap (table_at m r) (sym e) ∙ h.at_place in
+        let f : r ≡ v = cc in
+        rw (← f) (omega (arith, (base m r).0, tables-grow m r 0 n r (omega arith)))
+    | inr ne ↦ used-held h.place v (is.tidy.used h.place v h.is_node ne h.at_place) h.at_place
+  ]
 
 -- ---- the pages
 
@@ -161,7 +162,7 @@ pages_below-more m r n = map-append (page_in m) (mapping_below m r n) (read_at r
 
 -- ---- what stays where the frames of the tables stay
 
-pub IsTidy-same : (m k : List (List ℕ)) (r : ℕ) → IsTidy m r → ((v : ℕ) → HasTable m r v → frame_of k v ≡ frame_of m v) → IsTidy k r
+pub IsTidy-same : (m k : List (List ℕ)) (r : ℕ) → IsTidy m r → KeepsTables m k r → IsTidy k r
 IsTidy-same m k r is same = record {
   used = λ x t nx nr h.
       let u = is.used x t nx nr (sym (table_at-same m k r same x nx) ∙ h) in
@@ -169,14 +170,14 @@ IsTidy-same m k r is same = record {
 }
 
 -- what a lookup finds, by its parts
-pub lookup-parts : (m : List (List ℕ)) (r p : ℕ) (v : ℕ × ℕ) → lookup_of m r p ≡ Some v → lookup_of m r p ≡ Some (frame_at m r p, marks_at m r p)
-lookup-parts m r p v e = e ∙ ap Some (ap (λ (o : Option (ℕ × ℕ)). (unwrap_or o (0, 0))) (sym e))
+pub lookup-parts : (m : List (List ℕ)) (r p : ℕ) {v : ℕ × ℕ} → lookup_of m r p ≡ Some v → lookup_of m r p ≡ Some (frame_at m r p, marks_at m r p)
+lookup-parts m r p e = e ∙ ap Some (ap (λ (o : Option (ℕ × ℕ)). (unwrap_or o (0, 0))) (sym e))
 
-pub frame_at-is : (m : List (List ℕ)) (r p f a : ℕ) → lookup_of m r p ≡ Some (f, a) → frame_at m r p ≡ f
-frame_at-is m r p f a e = ap (λ (o : Option (ℕ × ℕ)). (unwrap_or o (0, 0)).0) e
+pub frame_at-is : (m : List (List ℕ)) (r p : ℕ) {f a : ℕ} → lookup_of m r p ≡ Some (f, a) → frame_at m r p ≡ f
+frame_at-is m r p e = ap (λ (o : Option (ℕ × ℕ)). (unwrap_or o (0, 0)).0) e
 
-pub marks_at-is : (m : List (List ℕ)) (r p f a : ℕ) → lookup_of m r p ≡ Some (f, a) → marks_at m r p ≡ a
-marks_at-is m r p f a e = ap (λ (o : Option (ℕ × ℕ)). (unwrap_or o (0, 0)).1) e
+pub marks_at-is : (m : List (List ℕ)) (r p : ℕ) {f a : ℕ} → lookup_of m r p ≡ Some (f, a) → marks_at m r p ≡ a
+marks_at-is m r p e = ap (λ (o : Option (ℕ × ℕ)). (unwrap_or o (0, 0)).1) e
 
 pub frame_at-same : (m k : List (List ℕ)) (r p : ℕ) → lookup_of k r p ≡ lookup_of m r p → frame_at k r p ≡ frame_at m r p
 frame_at-same m k r p e = ap (λ (o : Option (ℕ × ℕ)). (unwrap_or o (0, 0)).0) e
@@ -184,43 +185,11 @@ frame_at-same m k r p e = ap (λ (o : Option (ℕ × ℕ)). (unwrap_or o (0, 0))
 pub marks_at-same : (m k : List (List ℕ)) (r p : ℕ) → lookup_of k r p ≡ lookup_of m r p → marks_at k r p ≡ marks_at m r p
 marks_at-same m k r p e = ap (λ (o : Option (ℕ × ℕ)). (unwrap_or o (0, 0)).1) e
 
-pub IsDense-same : (m k : List (List ℕ)) (r t n : ℕ) → IsDense m r t n → length k ≡ length m → ((v : ℕ) → HasTable m r v → frame_of k v ≡ frame_of m v) → IsDense k r t n
-IsDense-same m k r t n is len same =
-    let looks = lookup_of-same m k r same in
-    record {
-      tree = IsTree-same m k r is.tree len same;
-      tidy = IsTidy-same m k r is.tidy same;
-      small = is.small;
-      pages = λ p h. lookup-parts k r p (frame_at m r p, marks_at m r p) (looks p ∙ is.pages p h);
-      leaves = λ p h. rw (marks_at-same m k r p (looks p)) (is.leaves p h);
-      trap = looks trap_page ∙ is.trap;
-      rest = λ p high small ne. looks p ∙ is.rest p high small ne;
-    }
-
--- one page is mapped, and the others are as they were
-pub dense-set : (m k : List (List ℕ)) (r t n w p f marks : ℕ) → IsDense m r t n → IsTree k r → IsTidy k r → p < w → w ≤ 32768 → lookup_of k r p ≡ Some (f, marks) → IsUserLeaf marks → ((j : ℕ) → j < 2 ^ 27 → j ≢ p → lookup_of k r j ≡ lookup_of m r j)
-    → n ≤ w → ((j : ℕ) → j < w → j ≢ p → j < n) → IsDense k r t w
-dense-set m k r t n w p f marks is tree tidy low small changed leaf looks more within = record {
-  tree = tree;
-  tidy = tidy;
-  small = small;
-  pages = λ j h. elim (cases_eq j p) [
-    | inl here ↦ lookup-parts k r j (f, marks) (ap (lookup_of k r) here ∙ changed)
-    | inr ne ↦ lookup-parts k r j (frame_at m r j, marks_at m r j) (looks j (omega (arith, h, small)) ne ∙ is.pages j (within j h ne))
-  ];
-  leaves = λ j h. elim (cases_eq j p) [
-    | inl here ↦ rw (here, marks_at-is k r p f marks changed) leaf
-    | inr ne ↦ rw (marks_at-same m k r j (looks j (omega (arith, h, small)) ne)) (is.leaves j (within j h ne))
-  ];
-  trap = looks trap_page (omega arith) (omega (arith, low, small)) ∙ is.trap;
-  rest = λ j high bound ne. looks j bound (omega (arith, low, high)) ∙ is.rest j (omega (arith, more, high)) bound ne;
-}
-
 -- and where pages are open their frames have no further holder
 pub alone-set : (m k : List (List ℕ)) (r n w p f marks : ℕ) (s q : Frames) → ((v : ℕ) → further_at q v ≤ further_at s v) → lookup_of k r p ≡ Some (f, marks) → ((j : ℕ) → j < w → j ≢ p → (j < n) × (lookup_of k r j ≡ lookup_of m r j))
     → (is_open marks ≡ true → further_at q f ≡ 0) → ((j : ℕ) → j < n → is_open (marks_at m r j) ≡ true → further_at s (frame_at m r j) ≡ 0) → (j : ℕ) → j < w → is_open (marks_at k r j) ≡ true → further_at q (frame_at k r j) ≡ 0
 alone-set m k r n w p f marks s q fewer changed others sole alone j h wide = elim (cases_eq j p) [
-  | inl same ↦ rw (same, frame_at-is k r p f marks changed) (sole (ap is_open (sym (ap (marks_at k r) same ∙ marks_at-is k r p f marks changed)) ∙ wide))
+  | inl same ↦ rw (same, frame_at-is k r p changed) (sole (ap is_open (sym (ap (marks_at k r) same ∙ marks_at-is k r p changed)) ∙ wide))
   | inr ne ↦
       let o = others j h ne in
       rw (frame_at-same m k r j o.1) (omega (arith, fewer (frame_at m r j), alone j o.0 (ap is_open (sym (marks_at-same m k r j o.1)) ∙ wide)))
@@ -231,17 +200,17 @@ none-or : (o : Option ℕ) → (o ≡ None) ⊎ (o ≡ Some (unwrap_or o 0))
 none-or None = inl refl
 none-or (Some t) = inr refl
 
-leaf-table : (m : List (List ℕ)) (o : Option ℕ) (i : ℕ) (v : ℕ × ℕ) → leaf_at m o i ≡ Some v → o ≡ Some (unwrap_or o 0)
-leaf-table m None i v e = absurd cc
-leaf-table m (Some t) i v e = refl
+leaf-table : (m : List (List ℕ)) (o : Option ℕ) (i : ℕ) {v : ℕ × ℕ} → leaf_at m o i ≡ Some v → o ≡ Some (unwrap_or o 0)
+leaf-table m None i e = absurd cc
+leaf-table m (Some t) i e = refl
 
-pub mapped-low : (m : List (List ℕ)) (r p : ℕ) (v : ℕ × ℕ) → lookup_of m r p ≡ Some v → table_at m r (low_node p) ≡ Some (table_of m r (low_node p))
+pub mapped-low : (m : List (List ℕ)) (r p : ℕ) {v : ℕ × ℕ} → lookup_of m r p ≡ Some v → table_at m r (low_node p) ≡ Some (table_of m r (low_node p))
 unfolding lookup_of
-mapped-low m r p v e = leaf-table m (table_at m r (low_node p)) (p % 512) v e
+mapped-low m r p {v} e = leaf-table m (table_at m r (low_node p)) (p % 512) e
 
-pub mapped-mid : (m : List (List ℕ)) (r p : ℕ) (v : ℕ × ℕ) → lookup_of m r p ≡ Some v → table_at m r (mid_node p) ≡ Some (table_of m r (mid_node p))
-mapped-mid m r p v e = elim (none-or (table_at m r (mid_node p))) [
-  | inl z ↦ absurd (let none = no_low m r p z in let some = mapped-low m r p v e in cc)
+pub mapped-mid : (m : List (List ℕ)) (r p : ℕ) {v : ℕ × ℕ} → lookup_of m r p ≡ Some v → table_at m r (mid_node p) ≡ Some (table_of m r (mid_node p))
+mapped-mid m r p e = elim (none-or (table_at m r (mid_node p))) [
+  | inl z ↦ absurd (let none = no_low m r p z in let some = mapped-low m r p e in cc)
   | inr h ↦ h
 ]
 
@@ -261,21 +230,6 @@ tables_below-same m k r (suc n) same =
     let rest : tables_below k r n ≡ tables_below m r n = tables_below-same m k r n (λ p o. same p (elim o [ inl low ↦ inl (omega arith) | inr e ↦ inr e ])) in
     rw (here.0, here.1, rest) refl
 
--- the tables and pages stand
-pub held-same : (m k : List (List ℕ)) (r t n : ℕ) → IsDense m r t n → ((p : ℕ) → p < n → lookup_of k r p ≡ lookup_of m r p) → ((x : Node) (u : ℕ) → IsNode x → table_at m r x ≡ Some u → table_at k r x ≡ Some u)
-    → (tables_below k r n ≡ tables_below m r n) × (frames_below k r n ≡ frames_below m r n)
-held-same m k r t n is looks stand =
-    let both : (p : ℕ) (v : ℕ × ℕ) → lookup_of m r p ≡ Some v → (table_of k r (mid_node p) ≡ table_of m r (mid_node p)) × (table_of k r (low_node p) ≡ table_of m r (low_node p)) = λ (p : ℕ) (v : ℕ × ℕ) (h : lookup_of m r p ≡ Some v). (
-      table_of-some k r (mid_node p) (table_of m r (mid_node p)) (stand (mid_node p) (table_of m r (mid_node p)) (mid_is_node p) (mapped-mid m r p v h)),
-      table_of-some k r (low_node p) (table_of m r (low_node p)) (stand (low_node p) (table_of m r (low_node p)) (low_is_node p) (mapped-low m r p v h)),
-    ) in (
-      tables_below-same m k r n (λ p o. elim o [
-        | inl low ↦ both p (frame_at m r p, marks_at m r p) (is.pages p low)
-        | inr e ↦ both p (t, trap_marks) (ap (lookup_of m r) e ∙ is.trap)
-      ]),
-      frames_below-same m k r n looks,
-    )
-
 -- ---- which tables the next page needs
 
 no-mid : (m : List (List ℕ)) (r t : ℕ) → IsDense m r t 0 → table_at m r (mid_node 0) ≡ None
@@ -283,7 +237,7 @@ no-mid m r t is = elim (none-or (table_at m r (mid_node 0))) [
   | inl e ↦ e
   | inr e ↦ absurd (
       let u = is.tidy.used (mid_node 0) (table_of m r (mid_node 0)) (mid_is_node 0) (λ g. cc) e in
-      elim (mapped-cases m r t 0 u.page u.value is u.inside u.mapped) [
+      elim (mapped-cases is u.page u.inside u.mapped) [
         | inl low ↦ omega (arith, low)
         | inr trap ↦ elim u.over [
           | inl same ↦ let g : Mid 0 ≡ Mid 255 = same ∙ ap mid_node trap in let z : ◌≡◌ {A = ℕ} 0 255 = cc in omega (arith, z)
@@ -292,50 +246,98 @@ no-mid m r t is = elim (none-or (table_at m r (mid_node 0))) [
       ])
 ]
 
-no-low : (m : List (List ℕ)) (r t n : ℕ) → IsDense m r t n → n < 32768 → n % 512 ≡ 0 → table_at m r (low_node n) ≡ None
-no-low m r t n is small start = elim (none-or (table_at m r (low_node n))) [
-  | inl e ↦ e
-  | inr e ↦ absurd (
-      let u = is.tidy.used (low_node n) (table_of m r (low_node n)) (low_is_node n) (λ g. cc) e in
-      elim u.over [
-        | inl same ↦ cc
-        | inr same ↦ elim (mapped-cases m r t n u.page u.value is u.inside u.mapped) [
-          | inl low ↦
-              let g : Low 0 (n / 512) ≡ Low 0 (u.page / 512) = sym (low-0 n small) ∙ same ∙ low-0 u.page (omega arith) in
-              let z : n / 512 ≡ u.page / 512 = cc in
-              omega (arith, z, low, start)
-          | inr trap ↦
-              let g : Low 0 (n / 512) ≡ Low 255 511 = sym (low-0 n small) ∙ same ∙ ap low_node trap in
-              let z : ◌≡◌ {A = ℕ} 0 255 = cc in
-              omega (arith, z)
-        ]
-      ])
-]
+module _ {m : List (List ℕ)} {r t n : ℕ} (is : IsDense m r t n) where
+  pub IsDense-same : (k : List (List ℕ)) → length k ≡ length m → KeepsTables m k r → IsDense k r t n
+  IsDense-same k len same =
+      let looks = lookup_of-same m k r same in
+      record {
+        tree = IsTree-same m k r same is.tree len;
+        tidy = IsTidy-same m k r is.tidy same;
+        small = is.small;
+        pages = λ p h. lookup-parts k r p (looks p ∙ is.pages p h);
+        leaves = λ p h. rw (marks_at-same m k r p (looks p)) (is.leaves p h);
+        trap = looks trap_page ∙ is.trap;
+        rest = λ p high small ne. looks p ∙ is.rest p high small ne;
+      }
 
-some-mid : (m : List (List ℕ)) (r t n : ℕ) → IsDense m r t n → n < 32768 → n ≢ 0 → table_at m r (mid_node n) ≡ Some (table_of m r (mid_node n))
-some-mid m r t n is small ne =
-    let e : mid_node 0 ≡ mid_node n = mid-0 0 (omega arith) ∙ sym (mid-0 n small) in
-    rw (← e) (mapped-mid m r 0 (frame_at m r 0, marks_at m r 0) (is.pages 0 (omega arith)))
+  -- one page is mapped, and the others are as they were
+  pub dense-set : (k : List (List ℕ)) (w p f marks : ℕ) → IsTree k r → IsTidy k r → p < w → w ≤ 32768 → lookup_of k r p ≡ Some (f, marks) → IsUserLeaf marks → ((j : ℕ) → j < 2 ^ 27 → j ≢ p → lookup_of k r j ≡ lookup_of m r j) → n ≤ w
+      → ((j : ℕ) → j < w → j ≢ p → j < n) → IsDense k r t w
+  dense-set k w p f marks tree tidy low small changed leaf looks more within = record {
+    tree = tree;
+    tidy = tidy;
+    small = small;
+    pages = λ j h. elim (cases_eq j p) [
+      | inl here ↦ lookup-parts k r j (ap (lookup_of k r) here ∙ changed)
+      | inr ne ↦ lookup-parts k r j (looks j (omega (arith, h, small)) ne ∙ is.pages j (within j h ne))
+    ];
+    leaves = λ j h. elim (cases_eq j p) [
+      | inl here ↦ rw (here, marks_at-is k r p changed) leaf
+      | inr ne ↦ rw (marks_at-same m k r j (looks j (omega (arith, h, small)) ne)) (is.leaves j (within j h ne))
+    ];
+    trap = looks trap_page (omega arith) (omega (arith, low, small)) ∙ is.trap;
+    rest = λ j high bound ne. looks j bound (omega (arith, low, high)) ∙ is.rest j (omega (arith, more, high)) bound ne;
+  }
 
-some-low : (m : List (List ℕ)) (r t n : ℕ) → IsDense m r t n → n < 32768 → n % 512 ≢ 0 → table_at m r (low_node n) ≡ Some (table_of m r (low_node n))
-some-low m r t n is small ne =
-    let block : (n - 1) / 512 ≡ n / 512 = omega arith in
-    let e : low_node (n - 1) ≡ low_node n = low-0 (n - 1) (omega arith) ∙ ap (Low 0) block ∙ sym (low-0 n small) in
-    rw (← e) (mapped-low m r (n - 1) (frame_at m r (n - 1), marks_at m r (n - 1)) (is.pages (n - 1) (omega arith)))
+  -- the tables and pages stand
+  pub held-same : (k : List (List ℕ)) → ((p : ℕ) → p < n → lookup_of k r p ≡ lookup_of m r p) → ((x : Node) (u : ℕ) → IsNode x → table_at m r x ≡ Some u → table_at k r x ≡ Some u)
+      → (tables_below k r n ≡ tables_below m r n) × (frames_below k r n ≡ frames_below m r n)
+  held-same k looks stand =
+      let both : (p : ℕ) (v : ℕ × ℕ) → lookup_of m r p ≡ Some v → (table_of k r (mid_node p) ≡ table_of m r (mid_node p)) × (table_of k r (low_node p) ≡ table_of m r (low_node p)) = λ (p : ℕ) (v : ℕ × ℕ) (h : lookup_of m r p ≡ Some v). (
+        table_of-some k r (mid_node p) (table_of m r (mid_node p)) (stand (mid_node p) (table_of m r (mid_node p)) (mid_is_node p) (mapped-mid m r p h)),
+        table_of-some k r (low_node p) (table_of m r (low_node p)) (stand (low_node p) (table_of m r (low_node p)) (low_is_node p) (mapped-low m r p h)),
+      ) in (
+        tables_below-same m k r n (λ p o. elim o [
+          | inl low ↦ both p (frame_at m r p, marks_at m r p) (is.pages p low)
+          | inr e ↦ both p (t, trap_marks) (ap (lookup_of m r) e ∙ is.trap)
+        ]),
+        frames_below-same m k r n looks,
+      )
 
--- the tables that come are those that the next page needs
-pub made-tables : (m k : List (List ℕ)) (r t n : ℕ) → IsDense m r t n → n < 32768 → made m k r n ≡ tables_for k r n
-unfolding made
-made-tables m k r t n is small = elim (cases_eq n 0) [
-  | inl first ↦ rw first (let none = no-mid m r t (rw first at is) in rw none refl)
-  | inr later ↦ elim (cases_eq (n % 512) 0) [
-    | inl start ↦ rw (some-mid m r t n is small later, no-low m r t n is small start, ne_eqb n 0 later, eq-eqb (n % 512) 0 start) refl
-    | inr inner ↦ rw (some-mid m r t n is small later, some-low m r t n is small inner, ne_eqb n 0 later, ne_eqb (n % 512) 0 inner) refl
+  no-low : n < 32768 → n % 512 ≡ 0 → table_at m r (low_node n) ≡ None
+  no-low small start = elim (none-or (table_at m r (low_node n))) [
+    | inl e ↦ e
+    | inr e ↦ absurd (
+        let u = is.tidy.used (low_node n) (table_of m r (low_node n)) (low_is_node n) (λ g. cc) e in
+        elim u.over [
+          | inl same ↦ cc
+          | inr same ↦ elim (mapped-cases is u.page u.inside u.mapped) [
+            | inl low ↦
+                let g : Low 0 (n / 512) ≡ Low 0 (u.page / 512) = sym (low-0 n small) ∙ same ∙ low-0 u.page (omega arith) in
+                let z : n / 512 ≡ u.page / 512 = cc in
+                omega (arith, z, low, start)
+            | inr trap ↦
+                let g : Low 0 (n / 512) ≡ Low 255 511 = sym (low-0 n small) ∙ same ∙ ap low_node trap in
+                let z : ◌≡◌ {A = ℕ} 0 255 = cc in
+                omega (arith, z)
+          ]
+        ])
   ]
-]
 
-pub missing-next : (m : List (List ℕ)) (r t n : ℕ) → IsDense m r t n → n < 32768 → 1 + frames_for n + missing m r n ≡ frames_for (suc n)
-missing-next m r t n is small = omega (arith, length-made m m r n, ap length (made-tables m m r t n is small), length-tables_for m r n, frames_for-more n)
+  some-mid : n < 32768 → n ≢ 0 → table_at m r (mid_node n) ≡ Some (table_of m r (mid_node n))
+  some-mid small ne =
+      let e : mid_node 0 ≡ mid_node n = mid-0 0 (omega arith) ∙ sym (mid-0 n small) in
+      rw (← e) (mapped-mid m r 0 (is.pages 0 (omega arith)))
+
+  some-low : n < 32768 → n % 512 ≢ 0 → table_at m r (low_node n) ≡ Some (table_of m r (low_node n))
+  some-low small ne =
+      let block : (n - 1) / 512 ≡ n / 512 = omega arith in
+      let e : low_node (n - 1) ≡ low_node n = low-0 (n - 1) (omega arith) ∙ ap (Low 0) block ∙ sym (low-0 n small) in
+      rw (← e) (mapped-low m r (n - 1) (is.pages (n - 1) (omega arith)))
+
+  -- the tables that come are those that the next page needs
+  pub made-tables : (k : List (List ℕ)) → n < 32768 → made m k r n ≡ tables_for k r n
+  unfolding made
+  made-tables k small = elim (cases_eq n 0) [
+    | inl first ↦ rw first (let none = no-mid m r t (rw first at is) in rw none refl)
+    | inr later ↦ elim (cases_eq (n % 512) 0) [
+      | inl start ↦ rw (some-mid small later, no-low small start, ne_eqb n 0 later, eq-eqb (n % 512) 0 start) refl
+      | inr inner ↦ rw (some-mid small later, some-low small inner, ne_eqb n 0 later, ne_eqb (n % 512) 0 inner) refl
+    ]
+  ]
+
+  pub missing-next : n < 32768 → 1 + frames_for n + missing m r n ≡ frames_for (suc n)
+  missing-next small = omega (arith, length-made m m r n, ap length (made-tables m small), length-tables_for m r n, frames_for-more n)
 
 -- ---- a frame that is taken becomes the next page
 
@@ -347,30 +349,11 @@ pub record IsTaken (m z : List (List ℕ)) (s n : Frames) (f : ℕ) : Type 0 whe
   pub others : (g : ℕ) → g ≢ f → frame_of z g ≡ frame_of m g
   pub extra : extra_of n ≡ extra_of s
 
--- what a space holds is not free, and nothing is free twice
-pub held-not_free : (m : List (List ℕ)) (r t n : ℕ) (s : Frames) → OwnsFrames m r t n s → (f : ℕ) → count_of f (held m r t n) + count_of f (free_of m s) ≤ 1
-held-not_free m r t n s is f = elim (cases_eq (count_of f (held m r t n)) 0) [
-  | inl none ↦ omega (arith, none, distinct-count f (free_of m s) is.free.distinct)
-  | inr some ↦ omega (arith, is.once f, none-among f (free_of m s) (held-inside m s f is.free (omega (arith, is.held f, some))).1)
-]
-
--- a frame with more holders than this space is none of its tables, nor its trap frame, and isn't free
-pub beyond-held : (m : List (List ℕ)) (r t n : ℕ) (s : Frames) → OwnsFrames m r t n s → (f : ℕ) → count_of f (held m r t n) < holders_of m s f
-    → (count_of f (tables_below m r n) + count_of f (t ∷ []) ≡ 0) × (count_of f (free_of m s) ≡ 0)
-beyond-held m r t n s is f more =
-    elim (cases_eq (count_of f (tables_below m r n) + count_of f (t ∷ [])) 0) [
-      | inl none ↦ (none, none-among f (free_of m s) (held-inside m s f is.free (omega (arith, more))).1)
-      | inr some ↦ absurd (omega (arith, more, some, count-held m r t n f, one-holder m s f is.free (is.own f (omega (arith, some)))))
-    ]
-
 pub list-after : (m z : List (List ℕ)) (s q : Frames) (f : ℕ) → IsFreeList m s → free_of m s ≡ f ∷ free_of m q → IsFreeList m q → length z ≡ length m → ((g : ℕ) → g ≢ f → frame_of z g ≡ frame_of m g) → (free_of z q ≡ free_of m q) × IsFreeList z q
 list-after m z s q f is taken after count others =
-    let first = free-first m s f (free_of m q) is taken in
+    let first = free-first is f (free_of m q) taken in
     let same : (g : ℕ) → among g (free_of m q) ≡ true → frame_of z g ≡ frame_of m g = λ (g : ℕ) (at : among g (free_of m q) ≡ true). others g (λ e. cc (ap (λ x. among x (free_of m q)) e, at, first.1)) in
     (free_of-same m z q same, IsFreeList-same m z q after count same)
-
-pub free-after : (m z : List (List ℕ)) (s q : Frames) (f : ℕ) → IsFreeList m s → IsTaken m z s q f → (free_of z q ≡ free_of m q) × IsFreeList z q
-free-after m z s q f is k = list-after m z s q f is k.taken k.after k.count k.others
 
 -- the page has come
 pub record IsNext (z k : List (List ℕ)) (r n f marks : ℕ) (q w : Frames) : Type 0 where
@@ -413,13 +396,125 @@ IsTaken-set m z s q f w taken after e extra = record {
 }
 
 -- tables that keep their bytes, and are neither free nor shared, are those of a page table beside the free frames
-pub paged-same : {m k : List (List ℕ)} {r : ℕ} {q : Frames} → IsTree m r → length k ≡ length m → ((v : ℕ) → HasTable m r v → frame_of k v ≡ frame_of m v) → IsFreeList k q
+pub paged-same : {m k : List (List ℕ)} {r : ℕ} {q : Frames} → IsTree m r → length k ≡ length m → KeepsTables m k r → IsFreeList k q
     → ((v : ℕ) → HasTable m r v → (among v (free_of k q) ≡ false) × (further_at q v ≡ 0)) → IsPaged k r q
 paged-same {m} {k} {r} is len same free out =
     let old : (x : Node) (v : ℕ) → IsNode x → table_at k r x ≡ Some v → HasTable m r v = λ (x : Node) (v : ℕ) (nx : IsNode x) (h : table_at k r x ≡ Some v). record { place = x; is_node = nx; at_place = sym (table_at-same m k r same x nx) ∙ h } in
-    record { tree = IsTree-same m k r is len same; free = free; apart = λ x v nx h. (out v (old x v nx h)).0; own = λ x v nx h. (out v (old x v nx h)).1 }
+    record { tree = IsTree-same m k r same is len; free = free; apart = λ x v nx h. (out v (old x v nx h)).0; own = λ x v nx h. (out v (old x v nx h)).1 }
 
-pub OwnsFrames-paged : (m : List (List ℕ)) (r t n : ℕ) (s : Frames) → OwnsFrames m r t n s → IsPaged m r s
-OwnsFrames-paged m r t n s is = paged-same is.dense.tree refl (λ v h. refl) is.free (λ v h.
-    let held_v = table-held m r t n v is.dense h in
-    (among-none v (free_of m s) (omega (arith, held-not_free m r t n s is v, count-held m r t n v, held_v)), is.own v (omega (arith, held_v))))
+-- ---- a space outlives what is done beside it, also where it shares frames
+
+-- tables that keep their bytes map what they mapped, and the space stands
+pub record StaysPut (m k : List (List ℕ)) (r t n : ℕ) : Type 0 where
+  pub tables : tables_below k r n ≡ tables_below m r n
+  pub held : held k r t n ≡ held m r t n
+  pub reads : SameLeaves m k r n
+  pub looks : SameMap m k r
+
+-- tables that map what they mapped, over frames that keep their bytes
+pub record StaysMapped (m k : List (List ℕ)) (r t n : ℕ) : Type 0 where
+  pub put : StaysPut m k r t n
+  pub pages : pages_below k r n ≡ pages_below m r n
+  pub trap : frame_of k t ≡ frame_of m t
+
+module _ {m : List (List ℕ)} {r t n : ℕ} (is : IsDense m r t n) where
+  pub stays-put : (k : List (List ℕ)) → KeepsTables m k r → StaysPut m k r t n
+  stays-put k same =
+      let looks = lookup_of-same m k r same in
+      let both = held-same is k (λ p h. looks p) (λ x u nx h. table_at-same m k r same x nx ∙ h) in
+      record { tables = both.0; held = rw (both.0, both.1) refl; reads = λ read. read_below-same read m k r n (λ p h. looks p); looks = looks }
+
+  held-tables : (k : List (List ℕ)) → ((f : ℕ) → 0 < count_of f (held m r t n) → frame_of k f ≡ frame_of m f) → (v : ℕ) → HasTable m r v → frame_of k v ≡ frame_of m v
+  held-tables k same v h = same v (omega (arith, count-held m r t n v, table-held is h))
+
+  pub held-stays : (k : List (List ℕ)) → ((f : ℕ) → 0 < count_of f (held m r t n) → frame_of k f ≡ frame_of m f) → StaysMapped m k r t n
+  held-stays k same =
+      let put = stays-put k (held-tables k same) in
+      record {
+        put = put;
+        pages = pages_below-same m k r n (λ p h. put.looks p) (λ p h. same (frame_at m r p) (omega (arith, count-held m r t n (frame_at m r p), page-held m r n p h)));
+        trap = same t (omega (arith, count-held m r t n t, count_of-first t t [] refl));
+      }
+
+module _ {m : List (List ℕ)} {r t n : ℕ} {s : Frames} (is : OwnsFrames m r t n s) where
+  -- what a space holds is not free, and nothing is free twice
+  pub held-not_free : (f : ℕ) → count_of f (held m r t n) + count_of f (free_of m s) ≤ 1
+  held-not_free f = elim (cases_eq (count_of f (held m r t n)) 0) [
+    | inl none ↦ omega (arith, none, distinct-count f (free_of m s) is.free.distinct)
+    | inr some ↦ omega (arith, is.once f, none-among f (free_of m s) (held-inside m s f is.free (omega (arith, is.held f, some))).1)
+  ]
+
+  -- a frame with more holders than this space is none of its tables, nor its trap frame, and isn't free
+  pub beyond-held : (f : ℕ) → count_of f (held m r t n) < holders_of m s f → (count_of f (tables_below m r n) + count_of f (t ∷ []) ≡ 0) × (count_of f (free_of m s) ≡ 0)
+  beyond-held f more =
+      elim (cases_eq (count_of f (tables_below m r n) + count_of f (t ∷ [])) 0) [
+        | inl none ↦ (none, none-among f (free_of m s) (held-inside m s f is.free (omega (arith, more))).1)
+        | inr some ↦ absurd (omega (arith, more, some, count-held m r t n f, one-holder is.free f (is.own f (omega (arith, some)))))
+      ]
+
+  pub OwnsFrames-paged : IsPaged m r s
+  OwnsFrames-paged = paged-same is.dense.tree refl (λ v h. refl) is.free (λ v h.
+      let held_v = table-held is.dense h in
+      (among-none v (free_of m s) (omega (arith, held-not_free v, count-held m r t n v, held_v)), is.own v (omega (arith, held_v))))
+
+  pub owns-as : {k : List (List ℕ)} {q : Frames} → length k ≡ length m → KeepsTables m k r → IsFreeList k q → ((v : ℕ) → 0 < count_of v (held m r t n) → further_at s v ≡ 0 → further_at q v ≡ 0) → ((v : ℕ) → count_of v (held m r t n) ≤ holders_of k q v)
+      → OwnsFrames k r t n q
+  owns-as {k} {q} len same free alone holders =
+      let put = stays-put is.dense k same in
+      record {
+        dense = IsDense-same is.dense k len same;
+        once = λ v. omega (arith, is.once v, ap (count_of v) put.held);
+        free = free;
+        own = λ v some.
+            let here : 0 < count_of v (tables_below m r n) + count_of v (t ∷ []) = omega (arith, some, ap (count_of v) put.tables) in
+            alone v (omega (arith, here, count-held m r t n v)) (is.own v here);
+        alone = λ p h wide.
+            let v = frame_at m r p in
+            ap (further_at q) (frame_at-same m k r p (put.looks p)) ∙ alone v (omega (arith, count-held m r t n v, page-held m r n p h)) (is.alone p h (ap is_open (sym (marks_at-same m k r p (put.looks p))) ∙ wide));
+        held = λ v. omega (arith, ap (count_of v) put.held, holders v);
+      }
+
+-- a space of c pages stands beside a trade of others
+pub record Besides (m k : List (List ℕ)) (n : Frames) (r q c : ℕ) : Type 0 where
+  pub space : OwnsFrames k r q c n
+  pub same : held k r q c ≡ held m r q c
+  pub stays : StaysMapped m k r q c
+
+-- ---- trades of more than one holder
+
+module _ {m k : List (List ℕ)} {s n : Frames} {old new : List ℕ} (t : Trades m k s n old new) where
+  -- a frame that one holder alone holds stays so, whatever others trade
+  pub alone-stays : (f : ℕ) → IsFreeList m s → IsFreeList k n → count_of f old + 1 ≤ holders_of m s f → further_at s f ≡ 0 → further_at n f ≡ 0
+  alone-stays f is after room alone =
+      let one = one-holder is f alone in
+      single after f (elim (cases_eq (count_of f new) 0) [
+        | inl none ↦ omega (arith, t.moved f, none, one)
+        | inr some ↦ absurd (omega (arith, t.fresh f (omega (arith, room, one)) (omega (arith, some)), room))
+      ])
+
+  -- what a trade of another holder leaves
+  pub Trades-untouched : (b : Space) → IsSpace m b s → ((f : ℕ) → count_of f old + count_of f (holds m b) ≤ holders_of m s f) → IsUntouched m k b
+  Trades-untouched b is room =
+      let stays = held-stays is.dense k (Trades-beside t (holds m b) room) in
+      record { mapping = stays.put.reads right_marks; entries = stays.put.reads entry_marks; pages = stays.pages; registers = stays.trap; frames = stays.put.held }
+
+  pub Trades-held : {r q c : ℕ} → OwnsFrames m r q c s → ((f : ℕ) → count_of f old + count_of f (held m r q c) ≤ holders_of m s f) → IsFreeList k n → Besides m k n r q c
+  Trades-held {r} {q} {c} is room free =
+      let same = Trades-beside t (held m r q c) room in
+      let stays = held-stays is.dense k same in
+      record {
+        space = owns-as is t.count (held-tables is.dense k same) free (λ v some. alone-stays v is.free free (omega (arith, room v, some))) (λ v. omega (arith, room v, t.moved v));
+        same = stays.put.held;
+        stays = stays;
+      }
+
+  pub Trades-space : (b : Space) → IsSpace m b s → ((f : ℕ) → count_of f old + count_of f (holds m b) ≤ holders_of m s f) → IsFreeList k n → IsSpace k b n
+  Trades-space b is room free = (Trades-held is room free).space
+
+  pub Trades-with : (rest before after : List ℕ) → ((v : ℕ) → count_of v before ≡ count_of v rest + count_of v old) → ((v : ℕ) → count_of v after ≡ count_of v rest + count_of v new) → Trades m k s n before after
+  Trades-with rest before after a b = record {
+    count = t.count;
+    moved = λ v. omega (arith, t.moved v, a v, b v);
+    others = λ v more. t.others v (omega (arith, more, a v));
+    fresh = λ v none some. t.fresh v (omega (arith, none, a v)) (omega (arith, none, some, a v, b v));
+  }

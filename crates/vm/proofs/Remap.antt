@@ -1,12 +1,12 @@
 -- A page gets another frame with the same bytes, or other marks.
 use Rattle.vm.proofs.Common.{[], among, among_first, among_first_not, ap, arith, Bool, cases_eq, count_of, count_of-first, count_of-other, false, frame_at, frame_of, Frames, frames_below, free-first, free-holders, free_of, further-free}
-use Rattle.vm.proofs.Common.{further_at, get_or-set_other, get_or-set_same, HasRights, HasTable, held, held-inside, holders-free, holders-table, holders_of, holds, inl, inr, is_open, IsFreeList, IsLeafMarks, IsNode, IsPaged, IsRearranged}
-use Rattle.vm.proofs.Common.{IsSpace, IsTidy, IsUserLeaf, Keeps, length, length-set, List, lookup-sound, lookup_of, lookup_of-same, low_is_node, low_node, ltb, Maps, marks_at, mid_is_node, mid_node, nat_eq, Node, None, not-free-held}
-use Rattle.vm.proofs.Common.{one_if, one_if-le, OwnsFrames, Page, page_at, page_with, pages_below, pages_in, Perm, refl, Reframes, right_marks, SameMap, SameTables, slice_set, Some, Space, subst, suc, sym, table_at-same, tables_below}
-use Rattle.vm.proofs.Common.{Trades, Trades-twice, true, unwrap_or, user_leaf, zero, ℕ, ◌+◌, ◌<◌, ◌^◌, ◌∙◌, ◌∷◌, ◌≡◌, ◌≢◌, ◌≤◌, ◌⊎◌}
+use Rattle.vm.proofs.Common.{further_at, get_or-set_other, get_or-set_same, HasRights, HasTable, held, held-inside, holders-free, holders-table, holders_of, inl, inr, is_open, IsFreeList, IsLeafMarks, IsNode, IsPaged, IsRearranged, IsSpace}
+use Rattle.vm.proofs.Common.{IsTidy, IsUserLeaf, Keeps, length, length-set, List, lookup-sound, lookup_of, lookup_of-same, low_is_node, low_node, ltb, Maps, marks_at, mid_is_node, mid_node, nat_eq, Node, None, not-free-held, one_if}
+use Rattle.vm.proofs.Common.{one_if-le, OwnsFrames, Page, page_at, page_with, pages_below, pages_in, Perm, refl, Reframes, right_marks, SameMap, SameTables, slice_set, Some, Space, subst, suc, sym, table_at-same, tables_below, Trades}
+use Rattle.vm.proofs.Common.{Trades-twice, true, unwrap_or, user_leaf, zero, ℕ, ◌+◌, ◌<◌, ◌^◌, ◌∙◌, ◌∷◌, ◌≡◌, ◌≢◌, ◌≤◌, ◌⊎◌}
 use Rattle.vm.proofs.DenseLemmas.{alone-set, beyond-held, count-held, dense-set, frame_at-is, frame_at-same, frames_below-same, IsTidy-same, list-after, marks_at-is, page-held, page-kept, paged-same, pages-each, table-held}
 use Rattle.vm.proofs.DenseLemmas.{tables_below-same}
-use Rattle.vm.proofs.LeafLemmas.{leaf-user, leaf-valid, right-leaf}
+use Rattle.vm.proofs.PageLemmas.{leaf-user, leaf-valid, right-leaf}
 
 -- Page p, whose frame was f, has frame g and these marks now. Frame g is f, or was free and has f's bytes.
 pub record IsRemap (m z k : List (List ℕ)) (r p f g marks : ℕ) (s q : Frames) : Type 0 where
@@ -49,10 +49,10 @@ page-is-held m r t n p f low was = omega (arith, count-held m r t n f, page-held
 
 module _ {m z k : List (List ℕ)} {r t n p f g marks : ℕ} {s q : Frames} (is : OwnsFrames m r t n s) (low : p < n) (e : IsRemap m z k r p f g marks s q) where
   table-stays : (v : ℕ) → HasTable m r v → frame_of z v ≡ frame_of m v
-  table-stays v h = e.rest v (held-some is v (omega (arith, count-held m r t n v, table-held m r t n v is.dense h)))
+  table-stays v h = e.rest v (held-some is v (omega (arith, count-held m r t n v, table-held is.dense h)))
 
   table-was : (v : ℕ) → HasTable z r v → 0 < count_of v (tables_below m r n)
-  table-was v h = table-held m r t n v is.dense (record { place = h.place; is_node = h.is_node; at_place = sym (table_at-same m z r table-stays h.place h.is_node) ∙ h.at_place })
+  table-was v h = table-held is.dense (record { place = h.place; is_node = h.is_node; at_place = sym (table_at-same m z r table-stays h.place h.is_node) ∙ h.at_place })
 
   -- what is mapped at other pages
   remap-others : (j : ℕ) → j < 2 ^ 27 → j ≢ p → lookup_of k r j ≡ lookup_of m r j
@@ -69,14 +69,14 @@ module _ {m z k : List (List ℕ)} {r t n p f g marks : ℕ} {s q : Frames} (is 
   -- what is held: one frame for another
   remap-held : (v : ℕ) → count_of v (held k r t n) + count_of v (f ∷ []) ≡ count_of v (held m r t n) + count_of v (g ∷ [])
   remap-held v =
-      omega (arith, count-held m r t n v, count-held k r t n v, count-frames m k r n p f g remap-looks (frame_at-is k r p g marks e.inserts.changed) e.was low v, ap (count_of v) tables-same)
+      omega (arith, count-held m r t n v, count-held k r t n v, count-frames m k r n p f g remap-looks (frame_at-is k r p e.inserts.changed) e.was low v, ap (count_of v) tables-same)
 
   -- the space stands
   remap-space : OwnsFrames k r t n q
   remap-space =
       let here = page-is-held m r t n p f low e.was in
       record {
-        dense = dense-set m k r t n n p g marks is.dense e.paged.tree e.tidy low is.dense.small e.inserts.changed e.leaf remap-others (omega arith) (λ j h ne. h);
+        dense = dense-set is.dense k n p g marks e.paged.tree e.tidy low is.dense.small e.inserts.changed e.leaf remap-others (omega arith) (λ j h ne. h);
         once = λ v. elim (cases_eq v g) [
           | inl same ↦ elim e.new [
             | inl old ↦ omega (arith, remap-held v, is.once v, count_of-first v f [] (same ∙ old), count_of-first v g [] same)
@@ -99,7 +99,7 @@ module _ {m z k : List (List ℕ)} {r t n p f g marks : ℕ} {s q : Frames} (is 
   remap-trades = record {
     count = e.keeps.count ∙ e.count;
     moved = λ v. omega (arith, remap-held v, e.moved v);
-    others = λ v more. let none = (beyond-held m r t n s is v more).0 in remap-bytes v (omega (arith, more)) (omega (arith, none));
+    others = λ v more. let none = (beyond-held is v more).0 in remap-bytes v (omega (arith, more)) (omega (arith, none));
     fresh = λ v none some. elim e.new [
       | inl old ↦ absurd (omega (arith, none, some, remap-held v, ap (λ x. count_of v (x ∷ [])) old))
       | inr free ↦ elim (cases_eq v g) [
@@ -117,7 +117,7 @@ module _ {m z k : List (List ℕ)} {r t n p f g marks : ℕ} {s q : Frames} (is 
         | inr free ↦ omega (arith, free, is.held g, count-held m r t n g)
       ] in
       let bytes : frame_of k g ≡ frame_of m f = e.keeps.others g (λ h. omega (arith, no_table, table-was g h)) e.taken ∙ e.bytes in
-      ap (λ x. page_with (frame_of k x) (marks_at k r p)) (frame_at-is k r p g marks e.inserts.changed) ∙ ap (page_with (frame_of k g)) (marks_at-is k r p g marks e.inserts.changed) ∙ ap (λ b. page_with b marks) bytes
+      ap (λ x. page_with (frame_of k x) (marks_at k r p)) (frame_at-is k r p e.inserts.changed) ∙ ap (page_with (frame_of k g)) (marks_at-is k r p e.inserts.changed) ∙ ap (λ b. page_with b marks) bytes
 
   -- and the others are as they were
   pub remap-other : (j : ℕ) → j < n → j ≢ p → page_at k r j ≡ page_at m r j
@@ -144,7 +144,7 @@ module _ {m z k : List (List ℕ)} {r t n p f g marks : ℕ} {s q : Frames} (is 
 module _ {m z k : List (List ℕ)} {r t n p f marks : ℕ} {s q : Frames} (is : OwnsFrames m r t n s) (low : p < n) (e : IsRemap m z k r p f f marks s q) where
   pub remap-frames : (j : ℕ) → j < n → frame_at k r j ≡ frame_at m r j
   remap-frames j h = elim (cases_eq j p) [
-    | inl at ↦ ap (frame_at k r) at ∙ frame_at-is k r p f marks e.inserts.changed ∙ sym e.was ∙ ap (frame_at m r) (sym at)
+    | inl at ↦ ap (frame_at k r) at ∙ frame_at-is k r p e.inserts.changed ∙ sym e.was ∙ ap (frame_at m r) (sym at)
     | inr ne ↦ frame_at-same m k r j (remap-looks is low e j h ne)
   ]
 
@@ -162,8 +162,8 @@ module _ {m z k : List (List ℕ)} {p f g marks : ℕ} {s q : Frames} (x : Space
 
 -- ---- frames that change, one after another
 
-pub reframes-twice : (m k l : List (List ℕ)) (x : Space) (s q w : Frames) → Reframes m k x s q → Reframes k l x q w → Reframes m l x s w
-reframes-twice m k l x s q w a b = record { space = b.space; registers = b.registers ∙ a.registers; trades = Trades-twice m k l s q w (holds m x) (holds k x) (holds l x) a.trades b.trades }
+pub reframes-twice : {m k l : List (List ℕ)} {x : Space} {s q w : Frames} → Reframes m k x s q → Reframes k l x q w → Reframes m l x s w
+reframes-twice a b = record { space = b.space; registers = b.registers ∙ a.registers; trades = Trades-twice a.trades b.trades }
 
 -- ---- other marks for the same frame
 
@@ -177,7 +177,7 @@ remap-marks {m} {k} {r} {t} {n} {p} {f} {s = s} is low was leaf sole inserts tab
   new = inl refl;
   apart = λ v some. (held-inside m s v is.free some).1;
   taken = (held-inside m s f is.free (held-some is f (page-is-held m r t n p f low was))).1;
-  moved = λ v. omega (arith, holders-table m k s s is.free paged.free keeps.count refl v, ap (count_of v) free);
+  moved = λ v. omega (arith, holders-table is.free paged.free keeps.count refl v, ap (count_of v) free);
   fewer = λ v. omega arith;
   leaf = leaf;
   sole = sole;
@@ -202,13 +202,13 @@ module _ {m z : List (List ℕ)} {s q : Frames} {f g : ℕ} (is : IsFreeList m s
   split-first = ap (among g) e.taken ∙ among_first g (free_of m q)
 
   split-fewer : (v : ℕ) → further_at q v ≤ further_at s v
-  split-fewer v = omega (arith, e.holders v, holders-free m s is v, holders-free m q e.after v, ap (count_of v) e.taken)
+  split-fewer v = omega (arith, e.holders v, holders-free is v, holders-free e.after v, ap (count_of v) e.taken)
 
   split-others : (v : ℕ) → v ≢ g → frame_of z v ≡ frame_of m v
   split-others v ne = ap (λ x. frame_of x v) e.is ∙ get_or-set_other m g v (frame_of m f) [] ne
 
   split-rest : (v : ℕ) → 0 < holders_of m s v → frame_of z v ≡ frame_of m v
-  split-rest v some = split-others v (λ same. omega (arith, some, ap (holders_of m s) same, free-holders m s g is split-first))
+  split-rest v some = split-others v (λ same. omega (arith, some, ap (holders_of m s) same, free-holders is g split-first))
 
   pub split-count : length z ≡ length m
   split-count = ap length e.is ∙ length-set m g (frame_of m f)
@@ -221,13 +221,13 @@ module _ {m z : List (List ℕ)} {s q : Frames} {f g : ℕ} (is : IsFreeList m s
 
   -- the frame that came has one holder
   pub split-sole : further_at q g ≡ 0
-  split-sole = omega (arith, split-fewer g, further-free m s g is split-first)
+  split-sole = omega (arith, split-fewer g, further-free is g split-first)
 
 module _ {m z : List (List ℕ)} {r t n : ℕ} {s q : Frames} {f g : ℕ} (is : OwnsFrames m r t n s) (e : IsSplit m z s q f g) where
   -- the tables may be written then
   pub split-paged : IsPaged z r q × IsTidy z r × SameMap m z r
   split-paged =
-      let some : (v : ℕ) → HasTable m r v → 0 < count_of v (tables_below m r n) = λ (v : ℕ) (h : HasTable m r v). table-held m r t n v is.dense h in
+      let some : (v : ℕ) → HasTable m r v → 0 < count_of v (tables_below m r n) = λ (v : ℕ) (h : HasTable m r v). table-held is.dense h in
       let same : (v : ℕ) → HasTable m r v → frame_of z v ≡ frame_of m v = λ (v : ℕ) (h : HasTable m r v). split-rest is.free e v (held-some is v (omega (arith, some v h, count-held m r t n v))) in (
         paged-same is.dense.tree (split-count is.free e) same (split-free is.free e).1
             (λ v h. (split-apart is.free e v (held-some is v (omega (arith, some v h, count-held m r t n v))), omega (arith, split-fewer is.free e v, is.own v (omega (arith, some v h))))),
@@ -241,16 +241,16 @@ module _ {m z : List (List ℕ)} {r t n : ℕ} {s q : Frames} {f g : ℕ} (is : 
   pub remap-split : {k : List (List ℕ)} {p marks : ℕ} → p < n → frame_at m r p ≡ f → IsUserLeaf marks → Maps z k r p g marks → SameTables z k r → IsTidy k r → IsPaged k r q → Keeps z k r q q → free_of k q ≡ free_of z q
       → IsRemap m z k r p f g marks s q
   remap-split {k} low was leaf inserts tables tidy paged keeps free =
-      let first = free-first m s g (free_of m q) is.free e.taken in
+      let first = free-first is.free g (free_of m q) e.taken in
       record {
         was = was;
         count = split-count is.free e;
         rest = split-rest is.free e;
         bytes = ap (λ x. frame_of x g) e.is ∙ get_or-set_same m g (frame_of m f) [] first.0;
-        new = inr (free-holders m s g is.free (split-first is.free e));
+        new = inr (free-holders is.free g (split-first is.free e));
         apart = split-apart is.free e;
         taken = ap (among g) (split-free is.free e).0 ∙ first.1;
-        moved = λ v. omega (arith, e.holders v, holders-table m k q q e.after paged.free (keeps.count ∙ split-count is.free e) refl v, ap (count_of v) (free ∙ (split-free is.free e).0));
+        moved = λ v. omega (arith, e.holders v, holders-table e.after paged.free (keeps.count ∙ split-count is.free e) refl v, ap (count_of v) (free ∙ (split-free is.free e).0));
         fewer = split-fewer is.free e;
         leaf = leaf;
         sole = λ wide. split-sole is.free e;
@@ -265,16 +265,16 @@ module _ {m z : List (List ℕ)} {r t n : ℕ} {s q : Frames} {f g : ℕ} (is : 
 
 module _ {m : List (List ℕ)} {r t n : ℕ} {s : Frames} (is : OwnsFrames m r t n s) (p : ℕ) (f : ℕ) (low : p < n) (was : frame_at m r p ≡ f) where
   pub page-inside-is : f < length m
-  page-inside-is = omega (arith, was, (lookup-sound m r p (frame_at m r p) (marks_at m r p) is.dense.tree (is.dense.pages p low)).0)
+  page-inside-is = omega (arith, was, (lookup-sound is.dense.tree p (is.dense.pages p low)).0)
 
   pub page-single : holders_of m s f ≤ 1 → further_at s f ≡ 0
   page-single few =
       let at = held-inside m s f is.free (held-some is f (page-is-held m r t n p f low was)) in
-      omega (arith, few, not-free-held m s f is.free at.0 at.1)
+      omega (arith, few, not-free-held is.free f at.0 at.1)
 
 -- and with more than one it has further ones
 pub page-shared : (m : List (List ℕ)) (s : Frames) (f : ℕ) → IsFreeList m s → 1 < holders_of m s f → further_at s f ≢ 0
-page-shared m s f is many none = omega (arith, many, holders-free m s is f, one_if-le (ltb f (length m)), none)
+page-shared m s f is many none = omega (arith, many, holders-free is f, one_if-le (ltb f (length m)), none)
 
 -- a leaf that is made of the one that was found, with rights that come of its
 pub record IsMadeLeaf (m : List (List ℕ)) (r p f a : ℕ) (change : Perm → Perm) (wide : Bool) : Type 0 where
@@ -287,9 +287,9 @@ pub record IsMadeLeaf (m : List (List ℕ)) (r p f a : ℕ) (change : Perm → P
 pub made-leaf : (m : List (List ℕ)) (r p f a b : ℕ) (change : Perm → Perm) (wide : Bool) → Some (f, a) ≡ lookup_of m r p → b ≡ user_leaf (change (right_marks a)) wide → IsMadeLeaf m r p f b change wide
 made-leaf m r p f a b change wide found is =
     let rights = change (right_marks (marks_at m r p)) in
-    let made : b ≡ user_leaf rights wide = is ∙ ap (λ (l : ℕ). user_leaf (change (right_marks l)) wide) (sym (marks_at-is m r p f a (sym found))) in
+    let made : b ≡ user_leaf rights wide = is ∙ ap (λ (l : ℕ). user_leaf (change (right_marks l)) wide) (sym (marks_at-is m r p (sym found))) in
     record {
-      frame = frame_at-is m r p f a (sym found);
+      frame = frame_at-is m r p (sym found);
       leaf = subst IsUserLeaf (sym made) (leaf-user rights wide);
       marks = subst IsLeafMarks (sym made) (leaf-valid rights wide);
       right = ap right_marks made ∙ right-leaf rights wide;

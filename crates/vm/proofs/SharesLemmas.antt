@@ -4,8 +4,7 @@ use Rattle.vm.proofs.Common.{get_or-set_other, get_or-set_same, get_or_past, hel
 use Rattle.vm.proofs.Common.{IsUntouched, length, length-append, length-set, List, ltb, NewSpaceSettles, None, one-holder, one_if, OnePlaceForks, OnePlaceSpares, OnePlaceSparesOthers, OnePlaceTrades, Option, OthersSpare, OthersTrade}
 use Rattle.vm.proofs.Common.{pages_in, refl, replicate, set-get_or, shared-count, single, slice_set, Some, Space, suc, sum_by, sum_by-cons, sym, Trades, true, zero, ℕ, ◌++◌, ◌+◌, ◌<◌, ◌∙◌, ◌∷◌, ◌≡◌, ◌≢◌, ◌≤◌}
 use Rattle.frames.proofs.HolderLemmas.{same-further, same-holders, same-list, same-shared}
-use Rattle.vm.proofs.Beside.{alone-stays, Trades-space, Trades-untouched}
-use Rattle.vm.proofs.DenseLemmas.{length-held}
+use Rattle.vm.proofs.DenseLemmas.{alone-stays, Trades-space, Trades-untouched, length-held}
 
 -- ---- counts in a list of places
 
@@ -59,14 +58,18 @@ within-places xs i x e = elim (cases_lt i (length xs)) [ inl low ↦ low | inr p
 all-count : (m : List (List ℕ)) (places : List (Option Space)) (others : List ℕ) (f : ℕ) → count_of f (all_held m places others) ≡ count_of f (flat_map (held_at m) places) + count_of f others
 all-count m places others f = count_of-append f (flat_map (held_at m) places) others
 
-room-of : (m : List (List ℕ)) (s : Frames) (places : List (Option Space)) (others : List ℕ) (i j : ℕ) (x : Space) → IsMachine m s places others → j ≢ i → get_or places j None ≡ Some x
-    → (f : ℕ) → count_of f (held_at m (get_or places i None)) + count_of f (holds m x) ≤ holders_of m s f
-room-of m s places others i j x is ne e f =
-    omega (arith, is.shared.each f, all-count m places others f, two-places (held_at m) f places i j refl ne, ap (λ o. count_of f (held_at m o)) e)
+module _ {m : List (List ℕ)} {s : Frames} {places : List (Option Space)} {others : List ℕ} (is : IsMachine m s places others) where
+  room-of : (i j : ℕ) {x : Space} → j ≢ i → get_or places j None ≡ Some x → (f : ℕ) → count_of f (held_at m (get_or places i None)) + count_of f (holds m x) ≤ holders_of m s f
+  room-of i j ne e f =
+      omega (arith, is.shared.each f, all-count m places others f, two-places (held_at m) f places i j refl ne, ap (λ o. count_of f (held_at m o)) e)
+
+  beside-rest : (old : List ℕ) (j : ℕ) {x : Space} → ((f : ℕ) → count_of f old ≤ count_of f others) → get_or places j None ≡ Some x → (f : ℕ) → count_of f old + count_of f (holds m x) ≤ holders_of m s f
+  beside-rest old j low e f =
+      omega (arith, low f, is.shared.each f, all-count m places others f, one-place (held_at m) f places j refl, ap (λ o. count_of f (held_at m o)) e)
 
 -- what one place trades leaves the others as they were
 pub trade-others : OnePlaceSpares
-trade-others m k s n places others new i is t j x ne e = Trades-untouched m k s n (held_at m (get_or places i None)) new x (is.each j x e) (room-of m s places others i j x is ne e) t
+trade-others m k s n places others new i is t j x ne e = Trades-untouched t x (is.each j x e) (room-of is i j ne e)
 
 same-held : (m k : List (List ℕ)) (o : Option Space) → ((x : Space) → o ≡ Some x → IsUntouched m k x) → held_at k o ≡ held_at m o
 same-held m k None h = refl
@@ -87,13 +90,13 @@ trade-machine m k s n places others i y is hi new t =
     record {
       free = place-free k y n new;
       each = each-set (λ x. IsSpace k x n) places i y hi (λ x e. place-space k y n x new e)
-          (λ j x ne e. Trades-space m k s n (held_at m (get_or places i None)) (held_at k y) x (is.each j x e) (room-of m s places others i j x is ne e) t (place-free k y n new));
-      shared = IsShared-trade m k s n (all_held m places others) (all_held k (slice_set places i y) others) (held_at m (get_or places i None)) (held_at k y) is.shared t
+          (λ j x ne e. Trades-space t x (is.each j x e) (room-of is i j ne e) (place-free k y n new));
+      shared = IsShared-trade t (all_held m places others) (all_held k (slice_set places i y) others) is.shared
           (λ f. omega (arith, all-count m places others f, all-count k (slice_set places i y) others f, set-place (held_at m) (held_at k) f places i y hi (λ j ne. same-held m k (get_or places j None) (λ x e. stay j x ne e))));
       alone = λ f some.
           let room : count_of f (held_at m (get_or places i None)) + count_of f others ≤ holders_of m s f =
           omega (arith, is.shared.each f, all-count m places others f, one-place (held_at m) f places i refl) in
-          alone-stays m k s n (held_at m (get_or places i None)) (held_at k y) f is.free (place-free k y n new) t (omega (arith, room, some)) (is.alone f some);
+          alone-stays t f is.free (place-free k y n new) (omega (arith, room, some)) (is.alone f some);
     }
 
 -- the machine stays one where a space shares its frames with a new one, which gets a place that had none
@@ -111,11 +114,11 @@ fork-machine m k s n places others i j x c is at hi none parent child t =
       free = child.free;
       each = each-set (λ y. IsSpace k y n) places j (Some c) hi (λ y e. place-space k (Some c) n y child e) (λ p y ne e. elim (cases_eq p i) [
         | inl is_i ↦ place-space k (Some x) n y parent (sym at ∙ ap (λ q. get_or places q None) (sym is_i) ∙ e)
-        | inr other ↦ Trades-space m k s n (held_at m (get_or places i None)) (holds k x ++ holds k c) y (is.each p y e) (room-of m s places others i p y is other e) first child.free
+        | inr other ↦ Trades-space first y (is.each p y e) (room-of is i p other e) child.free
       ]);
-      shared = IsShared-trade m k s n (all_held m places others) (all_held k (slice_set places j (Some c)) others) (holds m x) (holds k x ++ holds k c) is.shared t
+      shared = IsShared-trade t (all_held m places others) (all_held k (slice_set places j (Some c)) others) is.shared
           (λ f. omega (arith, all-count m places others f, all-count k (slice_set places j (Some c)) others f, count_of-append f (holds k x) (holds k c), one f, set-place (held_at k) (held_at k) f places j (Some c) hi (λ p ne. refl), ap (λ o. count_of f (held_at k o)) none));
-      alone = λ f some. alone-stays m k s n (holds m x) (holds k x ++ holds k c) f is.free child.free t (omega (arith, room f, some)) (is.alone f some);
+      alone = λ f some. alone-stays t f is.free child.free (omega (arith, room f, some)) (is.alone f some);
     }
 
 -- the other frames keep their bytes then
@@ -125,14 +128,9 @@ trade-rest m k s n places others new i f is t some =
 
 -- ---- the others trade
 
-beside-rest : (m : List (List ℕ)) (s : Frames) (places : List (Option Space)) (others old : List ℕ) (j : ℕ) (x : Space) → IsMachine m s places others → ((f : ℕ) → count_of f old ≤ count_of f others) → get_or places j None ≡ Some x
-    → (f : ℕ) → count_of f old + count_of f (holds m x) ≤ holders_of m s f
-beside-rest m s places others old j x is low e f =
-    omega (arith, low f, is.shared.each f, all-count m places others f, one-place (held_at m) f places j refl, ap (λ o. count_of f (held_at m o)) e)
-
 -- all spaces are as they were where other frames come, go or are written
 pub rest-untouched : OthersSpare
-rest-untouched m k s n places others old new is low t j x e = Trades-untouched m k s n old new x (is.each j x e) (beside-rest m s places others old j x is low e) t
+rest-untouched m k s n places others old new is low t j x e = Trades-untouched t x (is.each j x e) (beside-rest is old j low e)
 
 -- and the machine stays one
 pub rest-machine : OthersTrade
@@ -140,15 +138,15 @@ rest-machine m k s n places others after old new is free low t once moved =
     let stay = rest-untouched m k s n places others old new is low t in
     record {
       free = free;
-      each = λ j x e. Trades-space m k s n old new x (is.each j x e) (beside-rest m s places others old j x is low e) t free;
-      shared = IsShared-trade m k s n (all_held m places others) (all_held k places after) old new is.shared t
+      each = λ j x e. Trades-space t x (is.each j x e) (beside-rest is old j low e) free;
+      shared = IsShared-trade t (all_held m places others) (all_held k places after) is.shared
           (λ f. omega (arith, moved f, all-count m places others f, all-count k places after f, ap (count_of f) (same-places (held_at m) (held_at k) places (λ j. same-held m k (get_or places j None) (λ x e. stay j x e)))));
       alone = λ f some.
           let held : count_of f others ≤ holders_of m s f = omega (arith, is.shared.each f, all-count m places others f) in
-          single k n f free (elim (cases_eq (count_of f others) 0) [
+          single free f (elim (cases_eq (count_of f others) 0) [
             | inl none ↦ omega (arith, t.moved f, once f, t.fresh f (omega (arith, none, low f)) (omega (arith, none, some, moved f)))
             | inr there ↦
-                let one = one-holder m s f is.free (is.alone f (omega (arith, there))) in
+                let one = one-holder is.free f (is.alone f (omega (arith, there))) in
                 elim (cases_eq (count_of f old) 0) [
                   | inl kept ↦ elim (cases_eq (count_of f new) 0) [
                     | inl none ↦ omega (arith, t.moved f, one, none)
@@ -169,8 +167,8 @@ Trades-write m k s f w is some alone e =
     let free : IsFreeList k s = IsFreeList-same m k s is len stays in (
       record {
         count = len;
-        moved = λ g. omega (arith, holders-free m s is g, holders-free k s free g, ap (count_of g) (free_of-same m k s stays), ap (λ l. one_if (ltb g l)) len);
-        others = λ g h. other g (λ z. omega (arith, h, count_of-first g f [] z, ap (holders_of m s) z, one-holder m s f is alone));
+        moved = λ g. omega (arith, holders-free is g, holders-free free g, ap (count_of g) (free_of-same m k s stays), ap (λ l. one_if (ltb g l)) len);
+        others = λ g h. other g (λ z. omega (arith, h, count_of-first g f [] z, ap (holders_of m s) z, one-holder is f alone));
         fresh = λ g none has. absurd (omega (arith, none, has));
       },
       free,
@@ -203,7 +201,7 @@ length-all m (Some x ∷ xs) = omega (arith, length-append (holds m x) (flat_map
 -- what is free is what the counts leave
 pub free-left : FreeAreTheRest
 free-left m s places others is =
-    omega (arith, shared-count m s (all_held m places others) is.free is.shared, length-append (flat_map (held_at m) places) others, length-all m places)
+    omega (arith, shared-count is.free (all_held m places others) is.shared, length-append (flat_map (held_at m) places) others, length-all m places)
 
 -- ---- the start
 
@@ -231,16 +229,16 @@ same-space : (m : List (List ℕ)) (x : Space) (s n : Frames) → IsDuplicate s 
 same-space m x s n is space = record {
   dense = space.dense;
   once = space.once;
-  free = same-list m s n is space.free;
-  own = λ f some. rw (same-further s n f is) (space.own f some);
-  alone = λ p low writable. rw (same-further s n _ is) (space.alone p low writable);
-  held = λ f. rw (same-holders m s n f is) (space.held f);
+  free = same-list is m space.free;
+  own = λ f some. rw (same-further is f) (space.own f some);
+  alone = λ p low writable. rw (same-further is _) (space.alone p low writable);
+  held = λ f. rw (same-holders is m f) (space.held f);
 }
 
 pub same-machine : (m : List (List ℕ)) (s n : Frames) (places : List (Option Space)) (others : List ℕ) → IsDuplicate s n → IsMachine m s places others → IsMachine m n places others
 same-machine m s n places others is machine = record {
-  free = same-list m s n is machine.free;
+  free = same-list is m machine.free;
   each = λ j x at. same-space m x s n is (machine.each j x at);
-  shared = same-shared m s n (all_held m places others) is machine.shared;
-  alone = λ f some. rw (same-further s n f is) (machine.alone f some);
+  shared = same-shared is m (all_held m places others) machine.shared;
+  alone = λ f some. rw (same-further is f) (machine.alone f some);
 }

@@ -1,6 +1,6 @@
 use Rattle.programs.proofs.Common.{arith, refl, Load, zeros}
 use Rattle.programs.proofs.Stacks.{all-pushed, ended, none-pushed, string-pushed, string-refused, word-refused}
-use Rattle.vm.proofs.StringLemmas.{string-fits}
+use Rattle.vm.proofs.ReachLemmas.{string-fits}
 use Rattle.programs.proofs.arguments.read_arguments.Goals as goal
 
 pub loop-i-init : goal.loop-i-init

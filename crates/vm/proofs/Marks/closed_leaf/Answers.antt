@@ -1,5 +1,5 @@
 use Rattle.std.proofs.Common.{arith}
-use Rattle.vm.proofs.LeafLemmas.{leaf-shut}
+use Rattle.vm.proofs.PageLemmas.{leaf-shut}
 use Rattle.vm.proofs.Marks.closed_leaf.Goals as goal
 
 pub returns : goal.returns

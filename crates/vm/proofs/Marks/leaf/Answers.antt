@@ -1,5 +1,5 @@
 use Rattle.std.proofs.Common.{arith}
-use Rattle.vm.proofs.LeafLemmas.{leaf-made}
+use Rattle.vm.proofs.PageLemmas.{leaf-made}
 use Rattle.vm.proofs.Marks.leaf.Goals as goal
 
 pub returns : goal.returns

@@ -1,6 +1,6 @@
 use Rattle.vm.proofs.Common.{sym, mapped_as, mapping_of, pages_of}
 use Rattle.vm.proofs.ReachLemmas.{no-page-allows, page-allows}
-use Rattle.vm.proofs.WalkLaw.{mapped-page, unmapped-page}
+use Rattle.vm.proofs.PageLemmas.{mapped-page, unmapped-page}
 use Rattle.vm.proofs.Space.allows.Goals as goal
 
 pub returns-in-Some : goal.returns-in-Some

@@ -8,13 +8,13 @@ share_pages-requires c =
     let space = rw none at c.in-Ok.ensures.space in
     let trades = rw none at c.in-Ok.ensures.trades in
     record {
-      part = part-start c.args.ram.now _ c.args.self.now c.in-Ok.child _ _ c.requires space trades;
-      room = part-room c.args.ram.now _ c.args.self.now c.in-Ok.child _ _ c.requires space trades (omega (arith, c.free.ensures c.args.ram.now, c.frames_for.ensures, ap frames_for c.pages_in.ensures));
+      part = part-start c.args.self.now c.in-Ok.child c.requires space trades;
+      room = part-room c.args.self.now c.in-Ok.child c.requires space trades (omega (arith, c.free.ensures c.args.ram.now, c.frames_for.ensures, ap frames_for c.pages_in.ensures));
     }
 
 pub returns : goal.returns
 returns c =
-    let f = forked c.args.ram.now c.new.new.ram c.share_pages.new.ram c.args.self.now c.in-Ok.child _ _ _ c.requires (rw c.in-Ok.ensures.size at c.in-Ok.ensures.space) (rw c.in-Ok.ensures.size at c.in-Ok.ensures.trades) c.share_pages.ensures.all in
+    let f = forked c.args.self.now c.in-Ok.child c.requires (rw c.in-Ok.ensures.size at c.in-Ok.ensures.space) (rw c.in-Ok.ensures.size at c.in-Ok.ensures.trades) c.share_pages.new.ram _ c.share_pages.ensures.all in
     record {
       space = f.child;
       size = refl;

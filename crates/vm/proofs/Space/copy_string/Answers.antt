@@ -1,6 +1,6 @@
 use Rattle.vm.proofs.Common.{◌≡◌, ℕ, ◌+◌, ◌<◌, ◌≤◌, ◌^◌, length, take, Option, Some, sym, ap, ◌∙◌, arith, slice_get, Load, reach, string_at, pages_in, pages_of, IsSized, piece_at}
 use Rattle.vm.proofs.PageLemmas.{length-pages, pages-sized}
-use Rattle.vm.proofs.StringLemmas.{piece-first, strings-start, strings-next, string-open, string-ends, string-long, string-fits}
+use Rattle.vm.proofs.ReachLemmas.{piece-first, strings-start, strings-next, string-open, string-ends, string-long, string-fits}
 use Rattle.vm.proofs.Space.copy_string.Goals as goal
 use Rattle.vm.proofs.Space.copy_string.Goals.{After-frames_are_whole}
 
@@ -27,18 +27,18 @@ unfolding string_at
 returns-in-Some-eq0-clause-string c =
     let at = (goal.at.returns-in-Some-eq0-clause-string c).After-frames_are_whole in
     let i = c.loop-i.invariant in
-    sym (string-ends _ c.loop-i.buffer c.loop-i.i (length c.args.buffer.now) i (omega arith) (next at c.loop-i.i _ i.within c.in-Some-eq0.ensures ∙ ap Some c.in-Some-eq0.field-0-test))
+    sym (string-ends i (length c.args.buffer.now) (omega arith) (next at c.loop-i.i _ i.within c.in-Some-eq0.ensures ∙ ap Some c.in-Some-eq0.field-0-test))
 
 pub returns-in-None-clause-string : goal.returns-in-None-clause-string
 unfolding string_at
 returns-in-None-clause-string c =
     let i = c.loop-i.invariant in
-    sym (string-open _ c.loop-i.buffer c.loop-i.i (length c.args.buffer.now) i (next (goal.at.returns-in-None-clause-string c).After-frames_are_whole c.loop-i.i _ i.within c.in-None.ensures))
+    sym (string-open i (length c.args.buffer.now) (next (goal.at.returns-in-None-clause-string c).After-frames_are_whole c.loop-i.i _ i.within c.in-None.ensures))
 
 pub loop-i-preserved : goal.loop-i-preserved
 loop-i-preserved c =
     let i = c.loop-i.invariant in
-    strings-next _ c.loop-i.buffer c.loop-i.i c.in-Some.byte i (omega arith) (next (goal.at.loop-i-preserved c).After-frames_are_whole c.loop-i.i _ i.within c.in-Some.ensures) c.in-Some.byte-test.1
+    strings-next i (omega arith) (next (goal.at.loop-i-preserved c).After-frames_are_whole c.loop-i.i _ i.within c.in-Some.ensures) c.in-Some.byte-test.1
 
 pub overflow_add-address-2 : goal.overflow_add-address-2
 overflow_add-address-2 c =
@@ -52,7 +52,7 @@ returns-in-Some-eq0-byte_at-clause-string c =
     let i = c.loop-i.invariant in
     let all : length c.loop-i.buffer ≡ c.loop-i.i = omega arith in
     ap (λ n. Some (take n c.loop-i.buffer)) all
-    ∙ sym (string-ends _ c.loop-i.buffer c.loop-i.i (length c.args.buffer.now) i (omega arith) (next at c.loop-i.i _ i.within (rw all at c.in-Some-eq0-byte_at.ensures) ∙ ap Some c.in-Some-eq0-byte_at.field-0-test))
+    ∙ sym (string-ends i (length c.args.buffer.now) (omega arith) (next at c.loop-i.i _ i.within (rw all at c.in-Some-eq0-byte_at.ensures) ∙ ap Some c.in-Some-eq0-byte_at.field-0-test))
 
 pub returns-in_default-clause-string : goal.returns-in_default-clause-string
 unfolding string_at
@@ -61,7 +61,7 @@ returns-in_default-clause-string c =
     let all : length c.loop-i.buffer ≡ c.loop-i.i = omega arith in
     let most : c.loop-i.i ≡ length c.args.buffer.now = omega arith in
     let here = next (goal.at.returns-in_default-clause-string c).After-frames_are_whole c.loop-i.i _ i.within (rw all at c.byte_at-2.ensures) ∙ c.in_default.is in
-    let long = string-long _ c.loop-i.buffer c.loop-i.i c.in_default.field-0 i here (λ z. c.in_default.field-0-test.1 (cc (z, c.in_default.field-0-is))) in
+    let long = string-long i here (λ z. c.in_default.field-0-test.1 (cc (z, c.in_default.field-0-is))) in
     sym (rw most at long)
 
 pub returns-in_default-2-clause-string : goal.returns-in_default-2-clause-string
@@ -69,4 +69,4 @@ unfolding string_at
 returns-in_default-2-clause-string c =
     let i = c.loop-i.invariant in
     let all : length c.loop-i.buffer ≡ c.loop-i.i = omega arith in
-    sym (string-open _ c.loop-i.buffer c.loop-i.i (length c.args.buffer.now) i (next (goal.at.returns-in_default-2-clause-string c).After-frames_are_whole c.loop-i.i _ i.within (rw all at c.byte_at-2.ensures) ∙ c.in_default.is))
+    sym (string-open i (length c.args.buffer.now) (next (goal.at.returns-in_default-2-clause-string c).After-frames_are_whole c.loop-i.i _ i.within (rw all at c.byte_at-2.ensures) ∙ c.in_default.is))

@@ -1,5 +1,5 @@
 use Rattle.vm.proofs.Common.{Load, reach, pages_of}
-use Rattle.vm.proofs.StringLemmas.{Strings}
+use Rattle.vm.proofs.ReachLemmas.{Strings}
 use Rattle.vm.proofs.Space.copy_string.Given as goal
 
 abbrev pub invariant-loop-i : goal.invariant-loop-i

@@ -1,6 +1,6 @@
 use Rattle.vm.proofs.Common.{◌≡◌, ◌+◌, ◌-◌, ◌%◌, [], length, take, drop, min, sym, ap, ◌∙◌, refl, arith, Trades-none, holds, length-drop, drop_all, drop-drop, take_all, write_bytes, pages_of}
 use Rattle.vm.proofs.Remap.{reframes-twice}
-use Rattle.vm.proofs.WriteLemmas.{write-none}
+use Rattle.vm.proofs.StoreLemmas.{write-none}
 use Rattle.vm.proofs.Space.fill.Goals as goal
 
 pub loop-done-init : goal.loop-done-init
@@ -37,7 +37,7 @@ loop-done-preserved c =
       rest = ap (λ at. write_bytes (pages_of c.write_page-done.new.ram c.args.self.now) at (drop (d + n) bs)) place
           ∙ ap (write_bytes (pages_of c.write_page-done.new.ram c.args.self.now) (c.args.address + d + n)) (sym (drop-drop n d bs))
           ∙ (rw left at e.rest) ∙ i.rest;
-      frames = reframes-twice c.args.ram.now c.loop-done.ram c.write_page-done.new.ram c.args.self.now c.args.frames.now c.loop-done.frames c.write_page-done.new.frames i.frames e.frames;
+      frames = reframes-twice i.frames e.frames;
       opens = λ first h. e.opens first (i.opens first h);
     }
 

@@ -1,8 +1,7 @@
-use Rattle.vm.proofs.Common.{◌≡◌, ℕ, take, ◌+◌, ◌-◌, [], ◌∷◌, ◌++◌, replicate, refl, sym, ap, ◌∙◌, true, arith, append-nil, append_assoc, replicate_more, Trades-none, Trades-twice}
-use Rattle.vm.proofs.Common.{held-count, frames_for, held, page_with, pages_below, read_below, Perm, zero_page, entry_marks, marks_from, right_marks, user_leaf, pages_in}
+use Rattle.vm.proofs.Common.{◌≡◌, ℕ, take, ◌+◌, ◌-◌, [], ◌∷◌, ◌++◌, replicate, refl, sym, ap, ◌∙◌, true, arith, append-nil, append_assoc, replicate_more, Trades-none, Trades-twice, held-count, frames_for, held, page_with, pages_below}
+use Rattle.vm.proofs.Common.{read_below, Perm, zero_page, entry_marks, marks_from, right_marks, user_leaf, pages_in}
 use Rattle.vm.proofs.DenseLemmas.{length-held}
-use Rattle.vm.proofs.LeafLemmas.{leaf-user, leaf-valid, page-zero}
-use Rattle.vm.proofs.PageLemmas.{open-fewer, open-more, take-mapping}
+use Rattle.vm.proofs.PageLemmas.{leaf-user, leaf-valid, page-zero, open-fewer, open-more, take-mapping}
 use Rattle.vm.proofs.Space.grow.Goals as goal
 use Rattle.vm.proofs.Space.grow.Goals.{After-loop-page}
 
@@ -19,7 +18,7 @@ loop-page-init c =
       trap = refl;
       trades = Trades-none c.args.ram.now c.args.frames.now (held c.args.ram.now c.args.self.now.root.0 c.args.self.now.trap.0 n);
       room = omega (arith, c.frames_for.ensures, c.frames_for-2.ensures, c.if-frames_for-from.false, c.free.ensures c.args.ram.now);
-      small = omega (arith, ap frames_for c.pages_in-from.ensures, c.frames_for.ensures, c.frames_for-2.ensures, c.if-frames_for-from.false, c.free.ensures c.args.ram.now, held-count c.args.ram.now c.args.frames.now (held c.args.ram.now c.args.self.now.root.0 c.args.self.now.trap.0 (pages_in c.args.self.now.size)) c.requires.free c.requires.held, length-held c.args.ram.now c.args.self.now.root.0 c.args.self.now.trap.0 (pages_in c.args.self.now.size));
+      small = omega (arith, ap frames_for c.pages_in-from.ensures, c.frames_for.ensures, c.frames_for-2.ensures, c.if-frames_for-from.false, c.free.ensures c.args.ram.now, held-count c.requires.free (held c.args.ram.now c.args.self.now.root.0 c.args.self.now.trap.0 (pages_in c.args.self.now.size)) c.requires.held, length-held c.args.ram.now c.args.self.now.root.0 c.args.self.now.trap.0 (pages_in c.args.self.now.size));
     }
 
 pub add_page-requires-clause-marks : goal.add_page-requires-clause-marks
@@ -43,7 +42,7 @@ loop-page-preserved c =
       mapping = λ read. c.add_page.ensures.mapping read from (omega arith) ∙ i.mapping read;
       opens = λ first h. open-more c.loop-page.ram c.add_page.new.ram c.args.self.now.root.0 p first (marks_from c.args.perm) (λ read. c.add_page.ensures.mapping read p (omega arith)) (c.add_page.ensures.marks ∙ (c.leaf-leaf.ensures ∙ ap (λ (a : Perm). user_leaf a true) c.new.ensures)) (i.opens first h);
       trap = c.add_page.ensures.trap ∙ i.trap;
-      trades = Trades-twice c.args.ram.now c.loop-page.ram c.add_page.new.ram c.args.frames.now c.loop-page.frames c.add_page.new.frames _ _ _ i.trades c.add_page.ensures.trades;
+      trades = Trades-twice i.trades c.add_page.ensures.trades;
       room = omega (arith, i.room, c.add_page.ensures.room);
       small = i.small;
     }

@@ -1,5 +1,5 @@
 use Rattle.vm.proofs.Common.{sym, ap, ◌∙◌, arith, word_of}
-use Rattle.vm.proofs.TrapLemmas.{trap-inside, saved-is, loads-start, loads-next}
+use Rattle.vm.proofs.StoreLemmas.{trap-inside, saved-is, loads-start, loads-next}
 use Rattle.vm.proofs.Space.load_regs.Goals as goal
 
 pub loop-register-init : goal.loop-register-init
@@ -10,7 +10,7 @@ load_u64-requires-clause-frame c = trap-inside c.args.ram.now c.args.self.now c.
 
 pub loop-register-preserved : goal.loop-register-preserved
 loop-register-preserved c =
-    loads-next c.args.ram.now c.args.self.now c.loop-register.registers c.loop-register.register c.load_u64.result c.loop-register.invariant (omega arith) c.loop-register-test.true
+    loads-next c.loop-register.invariant (omega arith) c.loop-register-test.true
     (c.load_u64.ensures ∙ ap (λ o. word_of c.args.ram.now c.args.self.now.trap.0 o 8) c.place_of.ensures)
 
 pub load_u64-requires-2-clause-frame : goal.load_u64-requires-2-clause-frame

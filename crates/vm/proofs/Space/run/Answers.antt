@@ -1,6 +1,6 @@
 use Rattle.vm.proofs.Common.{◌+◌, sym, arith, mapped_as, mapping_of, pages_of}
 use Rattle.vm.proofs.ReachLemmas.{run-more, run-stop, run-end}
-use Rattle.vm.proofs.WalkLaw.{mapped-page, unmapped-page}
+use Rattle.vm.proofs.PageLemmas.{mapped-page, unmapped-page}
 use Rattle.vm.proofs.Space.run.Goals as goal
 
 pub returns-in_default : goal.returns-in_default

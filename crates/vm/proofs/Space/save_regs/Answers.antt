@@ -1,5 +1,5 @@
 use Rattle.vm.proofs.Common.{◌≡◌, get_or, refl, ap, ◌∙◌, arith, put, word_bytes}
-use Rattle.vm.proofs.TrapLemmas.{trap-inside, saved-is, saves-start, saves-next}
+use Rattle.vm.proofs.StoreLemmas.{trap-inside, saved-is, saves-start, saves-next}
 use Rattle.vm.proofs.Space.save_regs.Goals as goal
 
 pub store_u64-requires-clause-frame : goal.store_u64-requires-clause-frame
@@ -14,8 +14,7 @@ store_u64-requires-in-loop-register-clause-frame c = trap-inside c.loop-register
 
 pub loop-register-preserved : goal.loop-register-preserved
 loop-register-preserved c =
-    saves-next c.args.ram.now c.loop-register.ram c.store_u64-in-loop-register.new.self c.args.self.now c.args.registers.now c.args.pc c.loop-register.register (get_or c.args.registers.now c.loop-register.register 0)
-    c.frames_are_whole-in-loop-register.ensures.memory c.loop-register.invariant (omega arith) c.loop-register-test.true (c.fits-registers c.loop-register.register) refl
+    saves-next c.frames_are_whole-in-loop-register.ensures.memory c.loop-register.invariant (omega arith) c.loop-register-test.true (c.fits-registers c.loop-register.register) refl
     (c.store_u64-in-loop-register.ensures ∙ ap (λ o. put c.loop-register.ram c.args.self.now.trap.0 o (word_bytes 8 (get_or c.args.registers.now c.loop-register.register 0))) c.place_of.ensures)
 
 pub returns : goal.returns

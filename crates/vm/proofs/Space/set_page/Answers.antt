@@ -4,7 +4,7 @@ use Rattle.vm.proofs.Remap.{page-inside-is, rearranged, reframed, remap-frames, 
 use Rattle.vm.proofs.Space.set_page.Goals as goal
 
 pub remap-requires-clause-paged : goal.remap-requires-clause-paged
-remap-requires-clause-paged c = OwnsFrames-paged _ _ _ _ _ c.requires.space
+remap-requires-clause-paged c = OwnsFrames-paged c.requires.space
 
 pub remap-requires-clause-frame : goal.remap-requires-clause-frame
 remap-requires-clause-frame c = page-inside-is c.requires.space _ _ c.requires.page c.requires.frame
@@ -19,8 +19,8 @@ returns c =
       same = λ right. rearranged _ now.space now.page e right;
       page = remap-page now.space now.page e;
       pages = remap-other now.space now.page e;
-      frame = frame_at-is _ _ _ _ _ r.inserts.changed;
-      marks = marks_at-is _ _ _ _ _ r.inserts.changed;
+      frame = frame_at-is _ _ _ r.inserts.changed;
+      marks = marks_at-is _ _ _ r.inserts.changed;
       others = λ p low ne. marks_at-same _ _ _ p (r.inserts.others p (omega (arith, low, now.space.dense.small)) ne);
       frames = remap-frames now.space now.page e;
       held = remap-kept now.space now.page e;

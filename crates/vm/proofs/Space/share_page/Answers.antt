@@ -1,7 +1,7 @@
 use Rattle.vm.proofs.Common.{◌≡◌, false, true, ap, arith, ◌∙◌, Perm, shared_marks, marks_at, is_open, right_marks, user_leaf, IsPart, IsSpace}
 use Rattle.vm.proofs.Added.{IsBefore, next-fits}
 use Rattle.vm.proofs.Forked.{IsClosed, closed-free, more-some, part-before, part-closed, part-holder, part-more}
-use Rattle.vm.proofs.LeafLemmas.{leaf-closed}
+use Rattle.vm.proofs.PageLemmas.{leaf-closed}
 use Rattle.vm.proofs.Remap.{IsMadeLeaf, made-leaf, page-inside-is}
 use Rattle.vm.proofs.DenseLemmas.{OwnsFrames-paged}
 use Rattle.vm.proofs.Space.share_page.Goals as goal
@@ -20,7 +20,7 @@ closed c =
     record { stands = e.stands; page = e.page; pages = e.pages; held = e.held; frames = e.frames; frame = e.frame; marks = e.marks; right = (made leaf).right; closed = shut leaf }
 
 part : (c : After-set_page) → IsPart c.set_page.new.ram c.args.self.now c.args.child.now c.args.page c.args.frames.now
-part c = (part-closed c.args.ram.now _ _ _ _ _ _ _ c.requires.part c.requires.page (closed c)).0
+part c = (part-closed c.requires.part c.requires.page (closed c)).0
 
 pub set_page-requires : goal.set_page-requires
 set_page-requires c =
@@ -34,31 +34,31 @@ both : (c : After-share) → c.share.result ≡ true
 both c done =
     let set = (goal.at.After-share c).After-set_page in
     let e = closed set in
-    part-before _ _ _ _ _ _ c.args.frames.now _ (part set) c.requires.page e.frame e.marks e.closed c.share.ensures.valid (rw done at c.share.ensures.done) c.share.ensures.list
+    part-before (part set) c.requires.page e.frame e.marks e.closed c.share.ensures.valid (rw done at c.share.ensures.done) c.share.ensures.list
 
 pub share-requires-clause-held : goal.share-requires-clause-held
 share-requires-clause-held c =
-    part-holder _ _ _ _ _ _ (part ((goal.at.share-requires-clause-held c).After-set_page)) c.requires.page c.set_page.ensures.frame
+    part-holder (part ((goal.at.share-requires-clause-held c).After-set_page)) c.requires.page c.set_page.ensures.frame
 
 pub unreachable-requires-then-not-share : goal.unreachable-requires-then-not-share
 unreachable-requires-then-not-share c =
     let set = (goal.at.unreachable-requires-then-not-share c).After-set_page in
-    let free = closed-free _ _ _ _ _ _ _ c.requires.part.parent (closed set) in
-    omega (arith, c.if-not-share.ensures.refused.0, more-some _ _ _ _ _ (part set) c.requires.page (omega (arith, c.requires.room, free)))
+    let free = closed-free (closed set) c.requires.part.parent in
+    omega (arith, c.if-not-share.ensures.refused.0, more-some (part set) c.requires.page (omega (arith, c.requires.room, free)))
 
 pub map-requires : goal.map-requires
 map-requires c =
     let at = goal.at.map-requires c in
     let before = (both at.After-share c.if-not-share.false).1 in
     let inside = page-inside-is c.set_page.ensures.stands.space _ _ c.requires.page c.set_page.ensures.frame in
-    record { paged = OwnsFrames-paged _ _ _ _ _ before.space; page = omega (arith, before.small); frame = inside; marks = (made at.After-closed_leaf-closed).marks }
+    record { paged = OwnsFrames-paged before.space; page = omega (arith, before.small); frame = inside; marks = (made at.After-closed_leaf-closed).marks }
 
 pub unreachable-requires-in-Err : goal.unreachable-requires-in-Err
 unreachable-requires-in-Err c =
     let at = goal.at.unreachable-requires-in-Err c in
     let before = (both at.After-share c.if-not-share.false).1 in
-    let free = closed-free _ _ _ _ _ _ _ c.requires.part.parent (closed at.After-set_page) in
-    omega (arith, c.in-Err.ensures.full, next-fits _ _ _ _ _ before.space before.small (omega (arith, c.requires.room, free, c.if-not-share.ensures.fewer)))
+    let free = closed-free (closed at.After-set_page) c.requires.part.parent in
+    omega (arith, c.in-Err.ensures.full, next-fits before.space before.small (omega (arith, c.requires.room, free, c.if-not-share.ensures.fewer)))
 
 pub returns : goal.returns
 returns c =
@@ -66,5 +66,5 @@ returns c =
     let leaf = at.After-closed_leaf-closed in
     let m = c.in-Ok.ensures in
     let before = (both at.After-share c.if-not-share.false).1 in
-    part-more _ _ _ _ _ _ _ _ _ _ _ c.requires.part c.requires.page (made leaf).frame (closed at.After-set_page) c.share.ensures.valid c.if-not-share.ensures.done c.share.ensures.list
+    part-more c.requires.part c.requires.page (closed at.After-set_page) (made leaf).frame c.share.ensures.valid c.if-not-share.ensures.done c.share.ensures.list
     (record { leaf = (made leaf).leaf; inserts = m.mapped; adds = m.adds; tidy = m.tidy before.space.dense.tidy; paged = m.paged; keeps = m.keeps; extra = m.extra })

@@ -3,15 +3,15 @@ use Rattle.vm.proofs.Forked.{shared-frames, so-far-more, so-far-start, room-for}
 use Rattle.vm.proofs.Space.share_pages.Goals as goal
 
 pub loop-page-init : goal.loop-page-init
-loop-page-init c = so-far-start c.args.ram.now c.args.self.now c.args.child.now c.args.frames.now c.requires.part
+loop-page-init c = so-far-start c.requires.part
 
 pub share_page-requires-clause-room : goal.share_page-requires-clause-room
 share_page-requires-clause-room c =
-    room-for c.args.ram.now c.loop-page.ram c.args.self.now c.args.child.now c.loop-page.page c.args.frames.now c.loop-page.frames (omega (arith, c.pages_in-page-end.ensures, c.loop-page-test.true)) c.requires.room c.loop-page.invariant
+    room-for c.loop-page.invariant (omega (arith, c.pages_in-page-end.ensures, c.loop-page-test.true)) c.requires.room
 
 pub loop-page-preserved : goal.loop-page-preserved
 loop-page-preserved c =
-    so-far-more c.args.ram.now c.loop-page.ram c.share_page.new.ram c.args.self.now c.args.child.now c.loop-page.page c.args.frames.now c.loop-page.frames c.share_page.new.frames (omega (arith, c.pages_in-page-end.ensures, c.loop-page-test.true)) c.loop-page.invariant c.share_page.ensures
+    so-far-more c.loop-page.invariant c.share_page.ensures (omega (arith, c.pages_in-page-end.ensures, c.loop-page-test.true))
 
 all : goal.returns-clause-all
 all c =
@@ -22,7 +22,7 @@ pub returns-clause-all : goal.returns-clause-all
 returns-clause-all c = all c
 
 pub returns-clause-shared : goal.returns-clause-shared
-returns-clause-shared c = λ p h. (shared-frames c.args.ram.now c.loop-page.ram c.args.self.now c.args.child.now p c.args.frames.now c.loop-page.frames c.requires.part (all c) h).0
+returns-clause-shared c = λ p h. (shared-frames c.requires.part (all c) p h).0
 
 pub returns-clause-holders : goal.returns-clause-holders
-returns-clause-holders c = λ p h. (shared-frames c.args.ram.now c.loop-page.ram c.args.self.now c.args.child.now p c.args.frames.now c.loop-page.frames c.requires.part (all c) h).1
+returns-clause-holders c = λ p h. (shared-frames c.requires.part (all c) p h).1

@@ -10,7 +10,7 @@ split c = record { taken = c.split-own.ensures.taken; after = c.split-own.ensure
 pub copy-requires : goal.copy-requires
 copy-requires c = record {
   from = page-inside-is c.requires.space _ _ c.requires.page c.requires.frame;
-  to = (free-first c.args.ram.now c.args.frames.now _ _ c.requires.space.free c.split-own.ensures.taken).0;
+  to = (free-first c.requires.space.free _ _ c.split-own.ensures.taken).0;
 }
 
 pub remap-requires : goal.remap-requires
@@ -20,7 +20,7 @@ remap-requires c =
       paged = (split-paged c.requires.space e).0;
       page = omega (arith, c.requires.space.dense.small);
       mapped = split-mapped c.requires.space e _ c.requires.page;
-      frame = omega (arith, (free-first c.args.ram.now c.args.frames.now _ _ c.requires.space.free c.split-own.ensures.taken).0, split-count c.requires.space.free e);
+      frame = omega (arith, (free-first c.requires.space.free _ _ c.split-own.ensures.taken).0, split-count c.requires.space.free e);
       marks = c.requires.marks;
     }
 
@@ -33,7 +33,7 @@ returns c =
       same = rearranged _ c.requires.space c.requires.page
           (remap-split c.requires.space e c.requires.page c.requires.frame c.requires.leaf r.inserts r.tables (r.tidy paged.1) r.paged r.keeps r.free) c.requires.right;
       sole = split-sole c.requires.space.free e;
-      frame = frame_at-is _ _ _ _ _ r.inserts.changed;
-      marks = marks_at-is _ _ _ _ _ r.inserts.changed;
+      frame = frame_at-is _ _ _ r.inserts.changed;
+      marks = marks_at-is _ _ _ r.inserts.changed;
       others = λ p low ne. marks_at-same _ _ _ p (r.inserts.others p (omega (arith, low, c.requires.space.dense.small)) ne ∙ paged.2 p);
     }

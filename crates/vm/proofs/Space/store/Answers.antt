@@ -1,6 +1,5 @@
 use Rattle.vm.proofs.Common.{◌≡◌, ◌<◌, ◌/◌, ◌%◌, ap, arith, length, subst, sym, ◌∙◌, put, page_frame, pages_in}
-use Rattle.vm.proofs.StoreLemmas.{page-inside}
-use Rattle.vm.proofs.WriteLemmas.{put-stands, put-stored}
+use Rattle.vm.proofs.StoreLemmas.{page-inside, put-stands, put-stored}
 use Rattle.vm.proofs.Space.store.Goals as goal
 use Rattle.vm.proofs.Space.store.Goals.{After-write_part}
 

@@ -1,13 +1,13 @@
 use Rattle.vm.proofs.Common.{sym, ap, ◌∙◌, Mapped, tree-root, pages_in, entry_marks, right_marks}
 use Rattle.vm.proofs.StoreLemmas.{page-inside, pages-same}
-use Rattle.vm.proofs.WalkLaw.{walks-entries, mapping-within, mapping-is}
+use Rattle.vm.proofs.PageLemmas.{walks-entries, mapping-within, mapping-is}
 use Rattle.vm.proofs.Space.walks.Goals as goal
 
 pub returns-clause-entries : goal.returns-clause-entries
 returns-clause-entries c = walks-entries c.args.ram.now c.args.self.now.root.0 c.args.self.now.trap.0 (pages_in c.args.self.now.size) c.frames_are_whole.ensures.small c.requires
 
 pub returns-clause-root : goal.returns-clause-root
-returns-clause-root c = tree-root c.args.ram.now c.args.self.now.root.0 c.requires.tree
+returns-clause-root c = tree-root c.requires.tree
 
 pub returns-clause-inside : goal.returns-clause-inside
 returns-clause-inside c = λ page e at.

@@ -1,8 +1,7 @@
 use Rattle.vm.proofs.Common.{◌≡◌, ◌+◌, ◌/◌, ◌%◌, take, drop, sym, ap, ◌∙◌, further_at, put, Memory, write_bytes, page_at, page_frame, read_at, right_marks, pages_in, mapping_of, pages_of}
-use Rattle.vm.proofs.PageLemmas.{open-read}
+use Rattle.vm.proofs.PageLemmas.{open-read, get-mapping, mapped-page}
 use Rattle.vm.proofs.Remap.{page-inside-is, reframes-twice}
-use Rattle.vm.proofs.WalkLaw.{get-mapping, mapped-page}
-use Rattle.vm.proofs.WriteLemmas.{put-reads, put-reframes, put-written, write-page}
+use Rattle.vm.proofs.StoreLemmas.{put-reads, put-reframes, put-written, write-page}
 use Rattle.vm.proofs.Space.write_page.Goals as goal
 use Rattle.vm.proofs.Space.write_page.Goals.{After-write_part}
 
@@ -29,7 +28,7 @@ returns-clause-rest c =
 pub returns-clause-frames : goal.returns-clause-frames
 returns-clause-frames c =
     let e = c.open_page-frame.ensures in
-    reframes-twice c.args.ram.now c.open_page-frame.new.ram c.write_part.new.ram c.args.self.now c.args.frames.now c.open_page-frame.new.frames c.open_page-frame.new.frames e.same.frames
+    reframes-twice e.same.frames
     (put-reframes _ _ c.args.self.now _ (c.args.address / 4096) (c.args.address % 4096) (take c.min-len.result c.args.bytes.now) e.same.frames.space c.requires.page
     (ap (further_at c.open_page-frame.new.frames) e.frame ∙ e.sole) (put-there (goal.at.returns-clause-frames c).After-write_part))
 

@@ -1,5 +1,5 @@
 use Rattle.std.proofs.Common.{arith}
-use Rattle.vm.proofs.WriteLemmas.{part-put}
+use Rattle.vm.proofs.StoreLemmas.{part-put}
 use Rattle.vm.proofs.access.write_part.Goals as goal
 
 pub returns : goal.returns
