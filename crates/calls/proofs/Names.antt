@@ -5,7 +5,7 @@ use Rattle.calls.proofs.Common.{limited, Link, link_row, linked, linked_in, List
 use Rattle.calls.proofs.Common.{open_limit, Option, option_and_then, option_map, Outcome, outcome_at, outcome_of, Overflows, path_arg, path_at, provided, Reaches, refl, Refused, Refuses, Result, row, Runs, settle, settled_by, slot, Some}
 use Rattle.calls.proofs.Common.{SpaceView, spot_of, State, state_of, subst, sym, TreeFault, true, view_at, with_files, with_tree, ℕ, ◌%◌, ◌&&◌, ◌<◌, ◌^◌, ◌∙◌, ◌≡◌}
 use Rattle.calls.specs.Named.{IsNamed}
-use Rattle.names.proofs.Naming.{find-used}
+use Rattle.names.proofs.Finding.{find-used}
 use Rattle.kernel.proofs.Shapes.{folder-there}
 use Rattle.tree.specs.declared.TreeFault.TheVariants.{Device}
 use Rattle.unixmodel.specs.Counts.{opens_of}

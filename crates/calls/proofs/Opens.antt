@@ -9,7 +9,7 @@ use Rattle.calls.proofs.Common.{TellsMajor, TreeFault, true, truncated, truncate
 use Rattle.kernel.proofs.Opening.{open-state}
 use Rattle.files.specs.declared.file.OpenFile.{OpenFile}
 use Rattle.files.specs.Places.{opens_of}
-use Rattle.names.proofs.Spots.{spot-absent}
+use Rattle.names.proofs.Finding.{spot-absent}
 use Rattle.unixmodel.specs.Files.Node.{Device}
 use Rattle.unixmodel.specs.NameCalls.{opened}
 use Rattle.calls.proofs.Acts.{does, given-refused, me, provided-refused, refused, runs-of}

@@ -4,7 +4,7 @@ use Rattle.imagemake.proofs.Common.{links_of, longest, lookup, slot, slot-within
 use Rattle.imagemake.proofs.Common.{new_directory, Spot, most_places, change-is, entered-is, enter, free_number, IsGap, number-lowest, enter-room, none-not}
 use Rattle.unixmodel.specs.NameCalls.{Made, make_at}
 use Rattle.names.specs.Changes.{Changed}
-use Rattle.names.proofs.Making.{makes-directory, makes-file}
+use Rattle.names.proofs.Changing.{makes-directory, makes-file}
 use Rattle.imagemake.proofs.FromRules.{KeepsTree-rules, linked-rules}
 use Rattle.imagemake.proofs.ToRules.{KeepsRules-live}
 use Rattle.imagemake.proofs.MadeEntry.{above, added-is, apart, entry, here, places_more}

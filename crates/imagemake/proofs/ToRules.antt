@@ -2,8 +2,8 @@
 use Rattle.imagemake.proofs.Common.{IsDirectory, KeepsNode, EntriesAt-from, ◌≡◌, ◌≢◌, ℕ, zero, suc, ◌<◌, ◌≤◌, true, false, cond, List, None, Option, Some, inl, inr, get_or, ap, sym, refl, ◌∙◌, arith, subst, count_by, option_map, unwrap_or}
 use Rattle.imagemake.proofs.Common.{◌==◌, cases_eq, cond-false, false≢true, Files, Node, dot_dot, is_directory, slot, KeepsRules, entries_of, is_directory_at, names_of, parent_of, subdirectories, Climbs, Climbs-child, IsReached-from}
 use Rattle.imagemake.proofs.Common.{parent_root, IsLive, KeepsLive, KeepsTree, entries, folders, names_by, names_for, HasLinked, ne_eqb, Entry, Directory, LinksAt-from}
-use Rattle.names.proofs.Naming.{named-used}
-use Rattle.names.proofs.Steps.{entry-names}
+use Rattle.names.proofs.Finding.{named-used}
+use Rattle.names.proofs.Counts.{entry-names}
 use Rattle.imagemake.proofs.Counted.{good-from, once-from}
 use Rattle.imagemake.proofs.Parents.{parent-only}
 

@@ -16,7 +16,7 @@ use Rattle.kernel.proofs.Turning.{Runner, me_of, runner-of}
 use Rattle.kernel.proofs.Wakes.{kernel-waking, watched-roused}
 use Rattle.kernel.proofs.Working.{folder-there}
 use Rattle.kernel.proofs.Joined.{free_slot-joined, seated-with_table}
-use Rattle.names.proofs.Placed.{none-is}
+use Rattle.names.proofs.Counts.{none-is}
 use Rattle.proc.specs.Places as table
 use Rattle.unixmodel.specs.OpenFiles.{OpenFile}
 use Rattle.unixmodel.specs.ProcessCalls as rows

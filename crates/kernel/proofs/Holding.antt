@@ -8,7 +8,7 @@ use Rattle.files.specs.declared.file.OpenFile.{OpenFile}
 use Rattle.files.specs.declared.file.Target.{Target}
 use Rattle.files.specs.declared.file.Target.TheVariants as target
 use Rattle.kernel.specs.Holding.{FitsFiles}
-use Rattle.names.proofs.Reaped.{is_held, kept-same}
+use Rattle.names.proofs.Quiet.{is_held, kept-same}
 use Rattle.tree.proofs.Letting.{let-go-clear, let-go-held, let-go-linked, let-go-reaps}
 use Rattle.tree.proofs.Storing.{blocks_of-set, some-node}
 use Rattle.unixmodel.specs.OpenFiles as unix_files

@@ -4,7 +4,7 @@ use Rattle.kernel.proofs.Common.{kept, links_of, slot, Loses, shape, IsWhole, Re
 use Rattle.kernel.proofs.Holding.{held-there, is_by, settled-by}
 use Rattle.kernel.proofs.Shapes.{there, used-shaped}
 use Rattle.names.proofs.Quiet.{kept-gone, kept-here, kept-none}
-use Rattle.names.proofs.Unlinking.{keeps-unlinked}
+use Rattle.names.proofs.Changing.{keeps-unlinked}
 use Rattle.tree.specs.Unlinks.{unlinked_in}
 
 module _ {old : FileTree} {opens : List (Option Counted)} {os : List (Option Process)} (is : IsInUse old opens os) (t : FileTree) (d : ℕ) (path : List ℕ) (made : unlinked_in old.holds old.files d path ≡ Some t.files) where

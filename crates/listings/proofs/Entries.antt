@@ -1,7 +1,7 @@
 -- Directories of files at rest.
 use Rattle.std.proofs.Common.{◌≡◌, ◌∙◌, ℕ, IsSome, List, Option, Some, ap, arith, is_some, subst, suc, sym, zero}
 use Rattle.mount.specs.Mounted.{IsMounted}
-use Rattle.names.proofs.Naming.{find-used}
+use Rattle.names.proofs.Finding.{find-used}
 use Rattle.tree.specs.Tree.{FileTree}
 use Rattle.tree.proofs.Storing.{node-of}
 use Rattle.unixmodel.specs.Files.{Node, find, kind_of, slot}

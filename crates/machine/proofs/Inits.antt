@@ -4,7 +4,7 @@ use Rattle.machine.proofs.Common.{option_and_then, option_map, Init, FindsInit, 
 use Rattle.machine.proofs.Common.{with_place, FileTree, Serves, page_frames, Files, Node, find, slot, number_at, Loaded, Plan, loaded_of, plan, with_args, init_path, init_plan}
 use Rattle.calls.proofs.Homes.{some-there}
 use Rattle.machine.proofs.FlatLemmas.{alone-space, created, no-frames}
-use Rattle.names.proofs.Naming.{find-used}
+use Rattle.names.proofs.Finding.{find-used}
 use Rattle.programs.proofs.Loads.{IsProgram, is-program}
 use Rattle.programs.proofs.Executions.{HasProgram, args-long, has-program, length-stacked, no-plan, plan-is}
 use Rattle.programs.proofs.Serving.{serves-told}

@@ -1,9 +1,8 @@
 -- Worked cases: calls on names from a root alone on, with each list of files written out, and files that break a rule.
-use Rattle.names.proofs.Common.{◌≡◌, ℕ, zero, suc, ◌≤◌, List, [], ◌∷◌, None, Option, Some, refl, arith, Entry, Files, Node, Spot, dot, dot_dot, enter, erase, free_number, lookup, place_of, slot}
-use Rattle.names.proofs.Common.{with_entry, Directory, File, KeepsSize, all_entries, names_of, linked, made_at, made_directory, make_at, unlinked, KeepsLive, KeepsTree, folders, names_by, names_for}
-use Rattle.names.proofs.Kept.{keeps-linked, keeps-made, keeps-made-directory}
+use Rattle.names.proofs.Common.{◌≡◌, ℕ, zero, suc, ◌≤◌, List, [], ◌∷◌, None, Option, Some, refl, arith, Entry, Files, Node, Spot, dot, dot_dot, enter, erase, free_number, lookup, place_of, slot, with_entry, Directory, File, KeepsSize}
+use Rattle.names.proofs.Common.{all_entries, names_of, linked, made_at, made_directory, make_at, unlinked, KeepsLive, KeepsTree, folders, names_by, names_for}
+use Rattle.names.proofs.Changing.{keeps-linked, keeps-made, keeps-made-directory, keeps-unlinked}
 use Rattle.names.proofs.Quiet.{leaves, releases, writes-bytes}
-use Rattle.names.proofs.Unlinking.{keeps-unlinked}
 
 -- an entry, and the two that a directory starts with
 abbrev e : List ℕ → ℕ → Option Entry

@@ -1,25 +1,24 @@
 -- The names that the lemmas of this crate import from elsewhere, passed on from one place. Declares nothing.
 pub use Rattle.std.proofs.Common.{◌*◌, ◌+◌, ◌++◌, ◌-◌, ◌<◌, [], ap, ap₂, arith, Bool, cond, drop, false, get_or, inl, inr, length, List, map}
 pub use Rattle.std.proofs.Common.{None, not, Option, refl, set, Some, subst, suc, sym, take, true, zero, ℕ, ◌∙◌, ◌∷◌, ◌≡◌, ◌≢◌, ◌≤◌, ◌⊎◌}
-pub use Rattle.std.proofs.lemmas.Bool.{and_from, and_parts, cases_Bool, cases_eq, cases_lt, cond-false, cond-true, cond_both, eq-eqb, eqb-true}
-pub use Rattle.std.proofs.lemmas.Bool.{false_from_ne_true, false≢true, le-leb, lt-ltb, ltb-true, ne_eqb, not-true, or_from, or_left, or_parts, or_right}
+pub use Rattle.std.proofs.lemmas.Bool.{and_parts, cases_Bool, cases_eq, cases_lt, cond-false, cond-true, cond_both, eq-eqb, eqb-true}
+pub use Rattle.std.proofs.lemmas.Bool.{false≢true, lt-ltb, ltb-true, ne_eqb, not-true, or_left, or_parts, or_right}
 pub use Rattle.std.proofs.lemmas.List.{ext_get_or, get_or-drop, get_or-set_other, get_or-set_same, get_or_past, length-append, length-drop, length-set, length-take, nil_from_length, set-get_or, set-set, set_comm}
-pub use Rattle.std.proofs.lemmas.List.Elements.{All-cons, All-filter, All-head, All-map, All-nil, All-tail, filter_passes}
+pub use Rattle.std.proofs.lemmas.List.Elements.{All-head, All-tail}
 pub use Rattle.std.proofs.lemmas.List.Quantifiers.{position-Some}
 pub use Rattle.std.proofs.lemmas.List.Sums.{fails_before_first, get_or-le-sum_by, sum_by-append, sum_by-cons, sum_by-le, sum_by-set}
 pub use Rattle.std.proofs.lemmas.Option.{cond_some, none-some, option_and_then_some, same_Some}
 pub use Rattle.std.proofs.lemmas.Slice.Eq.{bytes_eq-Decides}
-pub use Rattle.std.specs.List.{list_all, position_or_len, range_with_len}
-pub use Rattle.std.specs.Prelude.{◌&&◌, ◌==◌, All, bytes_eq, count_by, filter, flat_map, IfSome, if◌then◌else◌, is_none, is_some, IsSome, nat_le, nat_lt, option_and_then, option_map, position, sum_by, unwrap_or, ◌||◌}
-pub use Rattle.unixmodel.specs.Files.{change_node, clear, dot, dot_dot, Entry, entry_number, Files, follow, free_slot, has_name, is_directory, is_dot_name, links_of, live_places, live_spot, longest, most_links}
-pub use Rattle.unixmodel.specs.Files.{most_places, Node, onto_first, pieces, places_at, put, slot, split_last, Spot, start_of, taken, with_entry_at, with_last, with_links, with_places, without_place}
+pub use Rattle.std.specs.List.{list_all, range_with_len}
+pub use Rattle.std.specs.Prelude.{◌==◌, All, bytes_eq, count_by, flat_map, if◌then◌else◌, is_none, is_some, IsSome, nat_lt, option_map, sum_by, unwrap_or, ◌||◌}
+pub use Rattle.unixmodel.specs.Files.{change_node, clear, dot, dot_dot, Entry, Files, free_slot, is_directory, is_dot_name, links_of, longest, most_links}
+pub use Rattle.unixmodel.specs.Files.{Node, put, slot, Spot, taken, with_entry_at, with_links}
 unfoldable pub use Rattle.unixmodel.specs.Files.{enter, erase, find, free_number, lookup, parts, place_of, spot_of, with_entry}
 pub use Rattle.unixmodel.specs.Files.Node.{Directory, File}
 pub use Rattle.unixmodel.specs.Image.{entries_of, is_directory_at, is_name, KeepsSize}
 unfoldable pub use Rattle.unixmodel.specs.Image.{all_entries, names_of}
-pub use Rattle.unixmodel.specs.NameCalls.{emptied, fewer_links, has_room_for_link, is_free_name, linked_node, Made, made_below, may_remove, more_links, new_directory, removed_node, without_name}
+pub use Rattle.unixmodel.specs.NameCalls.{emptied, Made, may_remove, removed_node, without_name}
 unfoldable pub use Rattle.unixmodel.specs.NameCalls.{linked, made_at, made_directory, make_at, unlinked}
-pub use Rattle.unixmodel.specs.Reap.{kept}
 pub use Rattle.names.specs.Changes.{Changed, IsIdle, Loses, shape, Stays, WasIdle}
 pub use Rattle.names.specs.Rules.{entries, HasRoot, IsAbove, IsLive, IsRanked, KeepsLive, KeepsTree, names_for}
 unfoldable pub use Rattle.names.specs.Rules.{folders, names_by}

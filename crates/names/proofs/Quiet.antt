@@ -1,12 +1,12 @@
 -- Changes that leave all names: a node without links goes, or a file has other bytes.
-use Rattle.names.proofs.Common.{◌≡◌, ◌≢◌, ℕ, zero, suc, ◌+◌, ◌≤◌, Bool, true, false, cond, List, [], ◌∷◌, ◌++◌, None, Option, Some, inl, inr, ◌⊎◌, drop, length, set, take, ap, sym, refl, ◌∙◌, cond_both, cond_some}
-use Rattle.names.proofs.Common.{arith, subst, nat_lt, option_map, unwrap_or, cases_eq, cond-false, cond-true, false≢true, lt-ltb, ltb-true, get_or-set_other, length-append}
-use Rattle.names.proofs.Common.{length-drop, length-set, length-take, set-get_or, none-some, same_Some, Files, Node, change_node, clear, is_directory, links_of, longest, put, slot}
-use Rattle.names.proofs.Common.{Directory, File, KeepsSize, is_directory_at, names_of, kept, Changed, WasIdle, shape, emptied, HasRoot, KeepsLive, KeepsTree, names_by, names_for}
+use Rattle.names.proofs.Common.{◌≡◌, ◌≢◌, ℕ, zero, suc, ◌+◌, ◌≤◌, Bool, true, false, cond, List, [], ◌∷◌, ◌++◌, None, Option, Some, inl, inr, ◌⊎◌, drop, length, set, take, ap, sym, refl, ◌∙◌, cond_both, cond_some, arith, subst, nat_lt}
+use Rattle.names.proofs.Common.{option_map, unwrap_or, cases_eq, cond-false, cond-true, false≢true, lt-ltb, ltb-true, get_or-set_other, length-append, length-drop, length-set, length-take, set-get_or, none-some, same_Some, Files, Node}
+use Rattle.names.proofs.Common.{change_node, clear, is_directory, links_of, longest, put, slot, Directory, File, KeepsSize, is_directory_at, names_of, Changed, WasIdle, shape, emptied, HasRoot, KeepsLive, KeepsTree, names_by, names_for}
+use Rattle.names.proofs.Common.{if◌then◌else◌, ◌||◌, or_left, or_right, ext_get_or, Spot, IsIdle, Loses}
 use Rattle.unixmodel.specs.Memory.{overwrite}
-use Rattle.names.proofs.Counts.{names-same, names_by-le}
+use Rattle.names.proofs.Counts.{names-same, names_by-le, IsStep, live-kept}
 use Rattle.names.proofs.Finding.{change-is, slot-set, slot-within}
-use Rattle.names.proofs.Steps.{IsStep, live-kept}
+use Rattle.unixmodel.specs.Reap.{kept}
 
 -- a node is as it was, or no directory, with the same names, and what may be named stays a directory or none
 pub record IsAlike (n : ℕ) (o q : Option Node) : Type 0 where
@@ -49,7 +49,7 @@ module _ {files : Files} (keeps : KeepsTree files) (more : Files) (count : lengt
 -- one node that isn't the root is another, which is alike
 keeps-put : {files : Files} → KeepsTree files → (n : ℕ) (node : Node) (q : Option Node) → slot files n ≡ Some node → 1 ≢ n → IsAlike n (Some node) q → KeepsTree (set files n q)
 keeps-put {files} keeps n node q here away alike =
-    keeps-alike keeps (set files n q) (length-set files n q) (λ m. slot-set (λ o. IsAlike m (slot files m) o) files n q (slot-within files n node here) m (λ e. rw (e, here) alike) (λ s. alike-same m (slot files m)))
+    keeps-alike keeps _ (length-set files n q) (λ m. slot-set (λ o. IsAlike m (slot files m) o) files n q (slot-within files n node here) m (λ e. rw (e, here) alike) (λ s. alike-same m _))
     (record { links = keeps.root.links; places = keeps.root.places; here = get_or-set_other files n 1 q None away ∙ keeps.root.here })
 
 -- ---- a node without links
@@ -80,7 +80,7 @@ module _ {files : Files} (keeps : KeepsTree files) where
   pub writes-bytes : (n links : ℕ) (old new : List ℕ) → slot files n ≡ Some (File links old) → length new ≤ longest → Changed files (put files n (File links new))
   unfolding names_by
   writes-bytes n links old new here size =
-      let within = slot-within files n (File links old) here in
+      let within = slot-within files n _ here in
       let new_node = Some (File links new) in
       record {
         tree = keeps-put keeps n (File links old) new_node here
@@ -101,15 +101,15 @@ module _ {files : Files} (keeps : KeepsTree files) where
   pub writes-over : (n links : ℕ) (old new : List ℕ) (offset k : ℕ) → slot files n ≡ Some (File links old) → offset + length new ≤ longest → Changed files (put files n (File links (overwrite old offset (take k new))))
   writes-over n links old new offset k here room =
       let part = length-take k new in
-      writes-bytes n links old (overwrite old offset (take k new)) here
-      (length-over old (take k new) offset (subst KeepsSize here (keeps.sizes n)) (omega arith))
+      writes-bytes n links old _ here
+      (length-over old _ offset (subst KeepsSize here (keeps.sizes n)) (omega arith))
 
   -- a file is emptied, and any other node stays
   pub truncates : (n : ℕ) → Changed files (change_node files n emptied)
-  truncates n = go (slot files n) refl where
+  truncates n = go _ refl where
     go : (o : Option Node) → slot files n ≡ o → Changed files (change_node files n emptied)
     go None here = subst (Changed files) (sym (ap (λ o. set files n (option_map emptied o)) here ∙ ap (set files n) (sym here) ∙ set-get_or files n None)) changed-same
-    go (Some (File links bytes)) here = subst (Changed files) (sym (change-is files n emptied (File links bytes) here)) (writes-bytes n links bytes [] here (omega arith))
+    go (Some (File links bytes)) here = subst (Changed files) (sym (change-is files n emptied _ here)) (writes-bytes n links bytes [] here (omega arith))
     go (Some node) here = subst (Changed files) (sym (emptied-is files n node here refl)) changed-same
 
 -- ---- without nodes that have no links
@@ -141,11 +141,11 @@ module _ (test : ℕ → Node → Bool) where
 
   pub kept-here : (files : Files) (n : ℕ) (node : Node) → slot files n ≡ Some node → test n node ≡ true → slot (kept test 0 files) n ≡ Some node
   unfolding one_kept
-  kept-here files n node here h = slot-here files n ∙ ap (one_kept (test n)) here ∙ cond-true (test n node) (Some node) None h
+  kept-here files n node here h = slot-here files n ∙ ap (one_kept (test n)) here ∙ cond-true _ _ None h
 
   pub kept-gone : (files : Files) (n : ℕ) (node : Node) → slot files n ≡ Some node → test n node ≡ false → slot (kept test 0 files) n ≡ None
   unfolding one_kept
-  kept-gone files n node here h = slot-here files n ∙ ap (one_kept (test n)) here ∙ cond-false (test n node) (Some node) None h
+  kept-gone files n node here h = slot-here files n ∙ ap (one_kept (test n)) here ∙ cond-false _ (Some node) None h
 
   -- nodes with links stay
   module _ (stays : (n : ℕ) (node : Node) → 1 ≤ links_of node → test n node ≡ true) where
@@ -153,18 +153,18 @@ module _ (test : ℕ → Node → Bool) where
     unfolding one_kept
     alike-kept files n None k = alike-same n None
     alike-kept files n (Some node) k = cond_both (test n node) (Some node) None (IsAlike n (Some node)) (λ t. alike-same n (Some node)) (λ f.
-        alike-gone files n node k (elim (cases_eq (links_of node) 0) [ inl z ↦ z | inr s ↦ absurd (false≢true (sym f ∙ stays n node (omega arith))) ]))
+        alike-gone files n node k (elim (cases_eq _ 0) [ inl z ↦ z | inr s ↦ absurd (false≢true (sym f ∙ stays n node (omega arith))) ]))
 
     -- some nodes without links go
     pub keeps-kept : {files : Files} → KeepsTree files → KeepsTree (kept test 0 files)
     unfolding one_kept
     keeps-kept {files} keeps =
-        keeps-alike keeps (kept test 0 files) (length-kept 0 files) (λ n. subst (λ q. IsAlike n (slot files n) q) (sym (slot-here files n)) (alike-kept files n (slot files n) (keeps.nodes n)))
+        keeps-alike keeps _ (length-kept 0 files) (λ n. subst (λ q. IsAlike n (slot files n) q) (sym (slot-here files n)) (alike-kept files n _ (keeps.nodes n)))
         (record {
           links = keeps.root.links;
           places = keeps.root.places;
-          here = kept-here files 1 (Directory (suc keeps.root.links) keeps.root.places) keeps.root.here
-              (stays 1 (Directory (suc keeps.root.links) keeps.root.places) (omega arith));
+          here = kept-here files 1 _ keeps.root.here
+              (stays 1 _ (omega arith));
         })
 
 -- what is left without all of them
@@ -172,7 +172,7 @@ abbrev pub left : Files → Files
 left files = kept (λ n node. nat_lt 0 (links_of node)) 0 files
 
 pub leaves : {files : Files} → KeepsTree files → KeepsTree (left files)
-leaves keeps = keeps-kept (λ n node. nat_lt 0 (links_of node)) (λ n node h. lt-ltb 0 (links_of node) (omega arith)) keeps
+leaves keeps = keeps-kept (λ n node. nat_lt 0 (links_of node)) (λ n node h. lt-ltb 0 _ (omega arith)) keeps
 
 -- each node has links
 abbrev pub HasLinked : Files → Type 0
@@ -181,7 +181,51 @@ HasLinked files = (n : ℕ) (node : Node) → slot files n ≡ Some node → 1 �
 one-linked : (o : Option Node) (node : Node) → one_kept (λ x. nat_lt 0 (links_of x)) o ≡ Some node → 1 ≤ links_of node
 unfolding one_kept
 one-linked None node h = absurd (none-some node h)
-one-linked (Some x) node h = let is = cond_some (nat_lt 0 (links_of x)) x node h in omega (arith, ltb-true 0 (links_of x) is.0, ap links_of is.1)
+one-linked (Some x) node h = let is = cond_some _ x node h in omega (arith, ltb-true 0 _ is.0, ap links_of is.1)
 
 pub left-linked : (files : Files) → HasLinked (left files)
-left-linked files n node h = one-linked (slot files n) node (sym (slot-here (λ n node. nat_lt 0 (links_of node)) files n) ∙ h)
+left-linked files n node h = one-linked _ node (sym (slot-here (λ n node. nat_lt 0 (links_of node)) files n) ∙ h)
+
+-- ---- which nodes a call on names leaves to be given up: none, or the one that lost its last name
+
+module _ (test : ℕ → Node → Bool) where
+  -- nothing is to go
+  abbrev pub IsSettled : Files → Type 0
+  IsSettled files = (n : ℕ) (node : Node) → slot files n ≡ Some node → test n node ≡ true
+
+  slot-same : (files : Files) (n : ℕ) (o : Option Node) → slot files n ≡ o → ((node : Node) → o ≡ Some node → test n node ≡ true) → slot (kept test 0 files) n ≡ o
+  slot-same files n None here passes = kept-none test files n here
+  slot-same files n (Some node) here passes = kept-here test files n node here (passes node refl)
+
+  pub kept-same : (files : Files) → IsSettled files → kept test 0 files ≡ files
+  kept-same files settled = ext_get_or None _ files (length-kept test 0 files) (λ n l. slot-same files n _ refl (settled n))
+
+  -- node n alone may go
+  pub kept-but : (files : Files) (n : ℕ) (node : Node) → slot files n ≡ Some node → ((m : ℕ) (x : Node) → m ≢ n → slot files m ≡ Some x → test m x ≡ true)
+      → kept test 0 files ≡ (if test n node then files else clear files n)
+  kept-but files n node here others = cond_both _ files _ (λ fs. kept test 0 files ≡ fs)
+      (λ t. kept-same files (λ m x at. elim (cases_eq m n) [
+        | inl e ↦ ap (λ j. test j x) e ∙ ap (test n) (sym (same_Some node x (sym here ∙ ap (slot files) (sym e) ∙ at))) ∙ t
+        | inr s ↦ others m x s at
+      ]))
+      (λ f. ext_get_or None _ _ (length-kept test 0 files ∙ sym (length-set files n None)) (λ m l. slot-set (λ q. slot (kept test 0 files) m ≡ q) files n None (slot-within files n node here) m
+      (λ e. ap (slot (kept test 0 files)) e ∙ kept-gone test files n node here f) (λ s. slot-same files m _ refl (λ x at. others m x s at))))
+
+-- ---- nodes that have links or are used stay
+
+abbrev pub is_held : (ℕ → Bool) → ℕ → Node → Bool
+is_held used n node = nat_lt 0 (links_of node) || used n
+
+module _ (used : ℕ → Bool) (files more : Files) (settled : IsSettled (is_held used) files) where
+  idle-held : (m : ℕ) (node : Node) → IsIdle files more m → slot more m ≡ Some node → is_held used m node ≡ true
+  idle-held m node idle here = elim (cases_eq _ 0) [
+    | inl z ↦
+        let before = idle node here z in
+        or_right _ _ (ap (λ c. nat_lt 0 c || used m) (sym before.none) ∙ settled m before.was before.here)
+    | inr s ↦ or_left (nat_lt 0 (links_of node)) (used m) (lt-ltb 0 (links_of node) (omega arith))
+  ]
+
+  -- with a name less the node that had it goes, if it has no links and nothing uses it
+  pub loses-reaped : {at : Spot} (loses : Loses files more at) (node : Node) → slot more loses.number ≡ Some node
+      → kept (is_held used) 0 more ≡ (if is_held used loses.number node then more else clear more loses.number)
+  loses-reaped loses node here = kept-but _ more _ node here (λ m x s at. idle-held m x (loses.idle m s) at)

@@ -25,11 +25,8 @@ pub use Rattle.inode.specs.declared.InodeFault.TheVariants.{PastEnd, TooLong}
 pub use Rattle.inode.specs.declared.InodeStat.{InodeStat}
 pub use Rattle.layout.specs.Image.{index_for, RawNode, taken_for}
 pub use Rattle.layout.specs.declared.Geometry.{Geometry}
-pub use Rattle.names.proofs.Finding.{free-number, IsFree, position-None, slot-set}
-pub use Rattle.names.proofs.Naming.{find-used, follow-used, lookup-used, numbers-used, start-used}
-pub use Rattle.names.proofs.Quiet.{changed-same, emptied-is, kept-gone, kept-here, kept-none, length-kept, releases, writes-over}
-pub use Rattle.names.proofs.Reaped.{is_held, IsSettled, kept-but, loses-reaped}
-pub use Rattle.names.proofs.Spots.{is_part, is_plain, spot-parts}
+pub use Rattle.names.proofs.Finding.{free-number, IsFree, position-None, slot-set, find-used, follow-used, lookup-used, numbers-used, start-used, is_part, is_plain, spot-parts}
+pub use Rattle.names.proofs.Quiet.{changed-same, emptied-is, kept-gone, kept-here, kept-none, length-kept, releases, writes-over, is_held, IsSettled, kept-but, loses-reaped}
 pub use Rattle.names.specs.Rules.{KeepsTree}
 unfoldable pub use Rattle.unixmodel.specs.Counts.{blocks_of}
 pub use Rattle.unixmodel.specs.Files.{blocks_for, change_node, clear, dot, dot_dot, entry_number, Files, follow, free_slot, has_name, is_directory, is_dot_name, kind_of, links_of, live_places, live_spot, longest, most_links}

@@ -1,12 +1,10 @@
 -- What calls on a file system make of its files keeps the rules of names, and which nodes they leave without links.
-use Rattle.tree.proofs.Common.{◌≡◌, ◌≢◌, ℕ, ◌+◌, Bool, List, None, Option, Some, cond, get_or, length, ap, sym, refl, ◌∙◌, arith, subst, true, false, All, Err, IfErr, IfOk, IsSome, Ok, Result, nat_le, nat_lt}
-use Rattle.tree.proofs.Common.{option_and_then, option_map, ◌&&◌, ◌||◌, and_parts, false≢true, leb-false, leb-true, or_parts, none-some, option_and_then_some, same_Some, KeepsTree, lookup-used, changed-same}
-use Rattle.tree.proofs.Common.{releases, writes-over, IsSettled, is_held, loses-reaped, spot-parts, folder_in, linked_in, made_in, let_go, stays, leaf_node, Leaf, TreeFault, Acts, FileTree, IsRefusal, unlinked_in}
-use Rattle.tree.proofs.Common.{IsFile, files_after, fitting, write_to, written, Files, Node, Spot, clear, find, links_of, longest, lookup, slot, spot_of, Made, linked, made_at, made_directory, unlinked, kept}
+use Rattle.tree.proofs.Common.{◌≡◌, ◌≢◌, ℕ, ◌+◌, Bool, List, None, Option, Some, cond, get_or, length, ap, sym, refl, ◌∙◌, arith, subst, true, false, All, Err, IfErr, IfOk, IsSome, Ok, Result, nat_le, nat_lt, option_and_then, option_map}
+use Rattle.tree.proofs.Common.{◌&&◌, ◌||◌, and_parts, false≢true, leb-false, leb-true, or_parts, none-some, option_and_then_some, same_Some, KeepsTree, lookup-used, changed-same, releases, writes-over, IsSettled, is_held, loses-reaped}
+use Rattle.tree.proofs.Common.{spot-parts, folder_in, linked_in, made_in, let_go, stays, leaf_node, Leaf, TreeFault, Acts, FileTree, IsRefusal, unlinked_in, IsFile, files_after, fitting, write_to, written, Files, Node, Spot, clear, find}
+use Rattle.tree.proofs.Common.{links_of, longest, lookup, slot, spot_of, Made, linked, made_at, made_directory, unlinked, kept}
 use Rattle.names.specs.Changes.{Changed, Loses, shape}
-use Rattle.names.proofs.Kept.{keeps-linked, keeps-made, keeps-made-directory}
-use Rattle.names.proofs.Making.{IsNewFile}
-use Rattle.names.proofs.Unlinking.{keeps-unlinked}
+use Rattle.names.proofs.Changing.{keeps-linked, keeps-made, keeps-made-directory, IsNewFile, keeps-unlinked}
 use Rattle.tree.specs.declared.making.Leaf.TheVariants as leaf
 use Rattle.tree.specs.declared.TreeFault.TheVariants.{Device}
 use Rattle.tree.specs.Tree.{has_failed, is_device}
