@@ -4,7 +4,7 @@ use Rattle.std.specs.Result.{IsErrAnd}
 use Rattle.std.proofs.lemmas.Result.{err_from_is_err_and}
 use Rattle.blockdev.specs.Blocks.{blocks_of}
 use Rattle.imagerules.specs.Content.{image_of}
-use Rattle.imagerules.proofs.ContentLemmas.{image_of-blocks}
+use Rattle.imagerules.proofs.Spelling.{image_of-blocks}
 use Rattle.imagecheck.specs.Faults.{IsOfImage}
 use Rattle.imagecheck.specs.declared.ImageFault.{ImageFault}
 use Rattle.imagecheck.specs.declared.ImageFault.TheVariants as image

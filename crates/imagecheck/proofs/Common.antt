@@ -18,18 +18,13 @@ pub use Rattle.std.proofs.lemmas.Slice.Eq.{bytes_eq-Decides}
 pub use Rattle.std.specs.List.{IsAllAdjacentAnswer, list_all, range_with_len, sum_by}
 pub use Rattle.byteorder.specs.Endian.{little_number}
 pub use Rattle.imagerules.proofs.Bounds.{bit-inside, bitmap-low, direct-high, direct-low, HasInode-at, HasPlace-at, inodes-least, inodes-most, length-is, size-most, super-is, up_to_more}
-pub use Rattle.imagerules.proofs.ContentLemmas.{image_of-blocks, image_of-more}
-pub use Rattle.imagerules.proofs.Denoting.{contents-long, Denotes-from, HasEntries-denotes, HasKinds-denotes, HasLinks-denotes, HasSizes-denotes, IsReached-denotes}
+pub use Rattle.imagerules.proofs.Spelling.{image_of-blocks, image_of-more, chunk-fits, length-places_in, place-free, place-taken, slot-places_in, without_zeros-spelled}
+pub use Rattle.imagerules.proofs.Denoting.{contents-long, Denotes-from, HasEntries-denotes, HasKinds-denotes, HasLinks-denotes, HasSizes-denotes, IsReached-denotes, find-empty, find-root, find-slash, first_named, first_named-is}
+pub use Rattle.imagerules.proofs.Denoting.{IsGiven-name}
 pub use Rattle.imagerules.proofs.Marking.{bit_is, blocks_of-free, blocks_of-used, HasMarks-none, list_more, list_split, mark_more, mark_shared, marked_no, marked_yes, named_before, named_before-all, named_before-front, named_before-more}
-pub use Rattle.imagerules.proofs.Marking.{other_tests, range-split, same_tests}
+pub use Rattle.imagerules.proofs.Marking.{other_tests, range-split, same_tests, length-data_blocks, unused_more, used_more, All-data_blocks, FitsAddresses-at, HasAddresses-from, is_data_block-below}
 pub use Rattle.imagerules.proofs.Nodes.{by_kind, file_in-used, length-block, length-files_in, node_in-device, node_in-directory, node_in-file, slot-files_in, slot-free, slot-past, slot-zero}
-pub use Rattle.imagerules.proofs.Numbers.{number_at-drop, same_number}
-pub use Rattle.imagerules.proofs.Paths.{find-empty, find-root, find-slash, first_named, first_named-is, IsGiven-name}
-pub use Rattle.imagerules.proofs.Read.{number_in-block, number_in-record}
-pub use Rattle.imagerules.proofs.Spelling.{chunk-fits, length-places_in, place-free, place-taken, slot-places_in, without_zeros-spelled}
-pub use Rattle.imagerules.proofs.Summing.{length-data_blocks, unused_more, used_more}
-pub use Rattle.imagerules.proofs.Super.{count-is, HasLength-from, HasLength-not, HasLength-not_few, HasNumbers-in, HasSuper-in, inodes-is, magic-is, size-is}
-pub use Rattle.imagerules.proofs.Uses.{All-data_blocks, FitsAddresses-at, HasAddresses-from, is_data_block-below}
+pub use Rattle.imagerules.proofs.Super.{number_at-drop, same_number, number_in-block, number_in-record, count-is, HasLength-from, HasLength-not, HasLength-not_few, HasNumbers-in, HasSuper-in, inodes-is, magic-is, size-is}
 pub use Rattle.imagerules.specs.Content.{image_of, IsFront}
 pub use Rattle.imagerules.specs.Fields.{HasGeometry, HasSuper-of, is_data_in, SuperRules-of}
 pub use Rattle.imagerules.specs.Marks.{HasMarks, IsOnce}

@@ -1,10 +1,10 @@
 -- What is reached from the root, by the parents of directories.
-use Rattle.imagecheck.proofs.Common.{◌≡◌, ◌≢◌, ℕ, ◌+◌, ◌<◌, ◌≤◌, List, [], ◌∷◌, ◌++◌, None, Option, Some, length, get_or, drop, map, ap, sym, refl, ◌∙◌, arith, subst, inl, inr, true, false, zero, suc, All}
-use Rattle.imagecheck.proofs.Common.{IfSome, IsSome, filter, option_and_then, option_map, position, slice_get, unwrap_or, ◌==◌, range_with_len, cases_eq, cases_lt, cond-false, false≢true, All-cons}
-use Rattle.imagecheck.proofs.Common.{All-filter, All-head, All-map, All-nil, filter_passes, get_or-range_with_len, length-range_with_len, length-filter, none-some, Files, Node, dot, dot_dot, entry_number}
-use Rattle.imagecheck.proofs.Common.{follow, has_name, is_directory, live_places, lookup, parts, slot, taken, Directory, all_entries, entries_of, is_directory_at, names_number, names_of, parent_of, is_name}
-use Rattle.imagecheck.proofs.Common.{EntriesAt, FitsEntries, HasEntries, HasLinks, IsReached, LinksAt, Climbs, ancestor, IsGiven-name, find-empty, find-root, find-slash, first_named-is, get_or_past, Entry}
-use Rattle.imagerules.proofs.Lists.{All-flat_map, All-from_flat_map, All-from_map, All-from_passing}
+use Rattle.imagecheck.proofs.Common.{◌≡◌, ◌≢◌, ℕ, ◌+◌, ◌<◌, ◌≤◌, List, [], ◌∷◌, ◌++◌, None, Option, Some, length, get_or, drop, map, ap, sym, refl, ◌∙◌, arith, subst, inl, inr, true, false, zero, suc, All, IfSome, IsSome, filter}
+use Rattle.imagecheck.proofs.Common.{option_and_then, option_map, position, slice_get, unwrap_or, ◌==◌, range_with_len, cases_eq, cases_lt, cond-false, false≢true, All-cons, All-filter, All-head, All-map, All-nil, filter_passes}
+use Rattle.imagecheck.proofs.Common.{get_or-range_with_len, length-range_with_len, length-filter, none-some, Files, Node, dot, dot_dot, entry_number, follow, has_name, is_directory, live_places, lookup, parts, slot, taken, Directory}
+use Rattle.imagecheck.proofs.Common.{all_entries, entries_of, is_directory_at, names_number, names_of, parent_of, is_name, EntriesAt, FitsEntries, HasEntries, HasLinks, IsReached, LinksAt, Climbs, ancestor, IsGiven-name, find-empty}
+use Rattle.imagecheck.proofs.Common.{find-root, find-slash, first_named-is, get_or_past, Entry}
+use Rattle.imagerules.proofs.Marking.{All-flat_map, All-from_flat_map, All-from_map, All-from_passing}
 use Rattle.std.proofs.lemmas.Bool.{eq-eqb, eqb-true, ne_eqb}
 use Rattle.unixmodel.specs.Files.{find}
 use Rattle.imagecheck.proofs.Paths.{behind_dots, each_named, holds_named, holds_taken}

@@ -1,9 +1,9 @@
 -- The slots of an inode that are there, one after the other: an index block is read behind the number that names it.
-use Rattle.imagecheck.proofs.Common.{◌≡◌, ℕ, ◌<◌, ◌≤◌, IsTrue, List, ap, arith, false, get_or, inl, inr, length, subst, sym, true, ◌∙◌, cases_lt, nat_tests, get_or-map-range_with_len, cond, nat_lt, ◌==◌, ◌↔◌}
-use Rattle.imagecheck.proofs.Common.{is_data_in, HasGeometry, Geometry, length-map-range_with_len, HasSuper, count_in, data_blocks, format_of, is_data_block, named_by, number_in, size_in, Asks, address_of}
-use Rattle.imagecheck.proofs.Common.{asked_slot, holder_of, in_record, single, slot_at, slots, taken_blocks, there, FitsAddresses, direct-high, direct-low, is_data_block-below, FitsSlot, IsFound, Lies, Format}
+use Rattle.imagecheck.proofs.Common.{◌≡◌, ℕ, ◌<◌, ◌≤◌, IsTrue, List, ap, arith, false, get_or, inl, inr, length, subst, sym, true, ◌∙◌, cases_lt, nat_tests, get_or-map-range_with_len, cond, nat_lt, ◌==◌, ◌↔◌, is_data_in, HasGeometry}
+use Rattle.imagecheck.proofs.Common.{Geometry, length-map-range_with_len, HasSuper, count_in, data_blocks, format_of, is_data_block, named_by, number_in, size_in, Asks, address_of, asked_slot, holder_of, in_record, single, slot_at, slots}
+use Rattle.imagecheck.proofs.Common.{taken_blocks, there, FitsAddresses, direct-high, direct-low, is_data_block-below, FitsSlot, IsFound, Lies, Format}
 use Rattle.std.proofs.Common.{eq-eqb, eqb-true}
-use Rattle.imagerules.proofs.Named.{cond_no, cond_yes, is_data_in-is}
+use Rattle.imagerules.proofs.Marking.{cond_no, cond_yes, is_data_in-is}
 use Rattle.layout.proofs.Places as places
 
 -- the number in the k-th slot that is asked for, where all of them are sound

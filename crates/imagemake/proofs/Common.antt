@@ -21,12 +21,10 @@ pub use Rattle.std.specs.Prelude.{AllPairs, IfErr, IfOk, IsOk}
 pub use Rattle.std.specs.Result.{IsErrAnd, is_err}
 pub use Rattle.imagecheck.proofs.Reaching.{all-entries, Climbs-child, Climbs-reached, IsReached-from, parent_root}
 pub use Rattle.imagecheck.specs.Reach.{ancestor, Climbs}
-pub use Rattle.imagerules.proofs.ContentLemmas.{image_of-blocks, length-image_of, part-image_of}
+pub use Rattle.imagerules.proofs.Spelling.{image_of-blocks, length-image_of, part-image_of}
 pub use Rattle.imagerules.proofs.Denoting.{below-slot, EntriesAt-from, IsPlain-name, LinksAt-from}
-pub use Rattle.imagerules.proofs.Lists.{All-flat_map, All-from_passing}
-pub use Rattle.imagerules.proofs.Marking.{blocks_of-free, blocks_of-used, named_before-all}
-pub use Rattle.imagerules.proofs.Read.{byte-located, count-located, kind-located, links-located, major-located, minor-located, size-located, slot-located}
-pub use Rattle.imagerules.proofs.Uses.{All-numbers, HasAddresses-from}
+pub use Rattle.imagerules.proofs.Marking.{All-flat_map, All-from_passing, blocks_of-free, blocks_of-used, named_before-all, All-numbers, HasAddresses-from}
+pub use Rattle.imagerules.proofs.Super.{byte-located, count-located, kind-located, links-located, major-located, minor-located, size-located, slot-located}
 pub use Rattle.imagerules.specs.Content.{image_of}
 pub use Rattle.imagerules.specs.Marks.{IsOnce}
 pub use Rattle.layout.proofs.GrowLemmas.{at_or, get_or-bytes_of, get_or-nodes_of, length-bytes_of, length-nodes_of, node_at-none, node_at-some}

@@ -1,7 +1,7 @@
 -- Which number a name has in a directory, by the first entry of the name.
 use Rattle.imagemake.proofs.Common.{◌≡◌, ℕ, zero, suc, ◌≤◌, Bool, true, false, cond, List, [], ◌∷◌, ◌++◌, None, Option, Some, ap, refl, arith, bytes_eq, option_and_then, option_or, position, Files, Node, entry_number, has_name, live_places}
 use Rattle.imagemake.proofs.Common.{lookup, places_at, slot, Entry, Directory}
-use Rattle.imagerules.proofs.Paths.{first_named as first, first_named-is as first-position}
+use Rattle.imagerules.proofs.Denoting.{first_named as first, first_named-is as first-position}
 
 -- the number of a name, where a node stands
 abbrev pub finds : List ℕ → Option Node → Option ℕ

@@ -4,7 +4,7 @@ use Rattle.imagemake.proofs.Common.{◌≡◌, ◌≢◌, ℕ, ◌+◌, ◌-◌,
 use Rattle.imagemake.proofs.Common.{slice_get, unwrap_or, ◌&&◌, ◌==◌, zero, suc, not, eqb, list_all, position_or_len, option_or, and_parts, cases_lt, false≢true, false_from_ne_true, or_parts, le-ltb, lt-ltb, cond-false, cond-true}
 use Rattle.imagemake.proofs.Common.{length_push, bytes_eq-Decides, Files, dot, dot_dot, entry_number, follow, is_directory, lookup, KeepsRules, is_directory_at, is_name, added, bare_files, node_for, CanAdd, Folder, IsListed, MadeName}
 use Rattle.imagemake.proofs.Common.{found, is_folder, made_name, seek, stands_at, position_or_len_push, prefix_len-le-length, Thing, eq-eqb, ne_eqb, slice_get_read}
-use Rattle.imagerules.proofs.Paths.{IsGiven-name}
+use Rattle.imagerules.proofs.Denoting.{IsGiven-name}
 use Rattle.imagemake.proofs.Pathing.{is_folder-high, is_folder-low}
 use Rattle.imagemake.proofs.MadeBare.{bare-each}
 use Rattle.imagemake.proofs.MadeEntry.{apart, each-more, entry, links-with, links_with, places_more}

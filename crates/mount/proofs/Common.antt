@@ -1,6 +1,6 @@
 -- The names that the lemmas of this crate import from elsewhere, passed on from one place. Declares nothing.
-pub use Rattle.std.proofs.Common.{◌%◌, ◌+◌, ◌++◌, ◌-◌, ◌<◌, ◌==◌, [], All, ap, ap₂, arith, Bool, cond, count_by, Decides, Err, false, flat_map, get_or, inl, inr, IsTrue, le_trans, length, List, nat_eq}
-pub use Rattle.std.proofs.Common.{nat_le, nat_lt, None, not, Ok, OnOk, Option, refl, replicate, Result, Some, subst, suc, sum_by, sym, true, vec_len, zero, ◌||◌, ℕ, ◌∙◌, ◌∷◌, ◌≡◌, ◌≢◌, ◌≤◌, ◌⊎◌}
+pub use Rattle.std.proofs.Common.{◌%◌, ◌+◌, ◌++◌, ◌-◌, ◌<◌, ◌==◌, [], All, ap, ap₂, arith, Bool, cond, count_by, Decides, Err, false, flat_map, get_or, inl, inr, IsTrue, le_trans, length, List, nat_eq, nat_le, nat_lt, None, not, Ok, OnOk}
+pub use Rattle.std.proofs.Common.{Option, refl, replicate, Result, Some, subst, suc, sum_by, sym, true, vec_len, zero, ◌||◌, ℕ, ◌∙◌, ◌∷◌, ◌≡◌, ◌≢◌, ◌≤◌, ◌⊎◌}
 pub use Rattle.std.proofs.lemmas.Bool.{and_parts, cases_eq, cases_lt, eq-eqb, le-ltb, leb-true, ltb-true, ne_eqb}
 pub use Rattle.std.proofs.lemmas.List.{get_or-append-add, get_or_append_left, get_or_default, get_or_past, length-append}
 pub use Rattle.std.proofs.lemmas.List.Elements.{All-head, All-tail, All-weaker}
@@ -10,11 +10,10 @@ pub use Rattle.blockdev.specs.Blocks.{AreBlocks}
 pub use Rattle.imagemake.proofs.Legible.{bit-held, IsLegible, named-decides}
 pub use Rattle.imagemake.proofs.Slotted.{contents-are, format-told, HasSlots, IsReadable, IsReadable-listed, length-taken, slot-listed, spare-zero}
 pub use Rattle.imagemake.specs.Making.{MakesImage, Refuses}
-pub use Rattle.imagerules.proofs.ContentLemmas.{image_of-blocks, length-image_of}
+pub use Rattle.imagerules.proofs.Spelling.{image_of-blocks, length-image_of}
 pub use Rattle.imagerules.proofs.Denoting.{Denotes-files, HasKinds-denotes, HasSizes-denotes, node_fits}
 pub use Rattle.imagerules.proofs.Marking.{blocks_of-free, blocks_of-used, IsOnce-left, named_before-all}
-pub use Rattle.imagerules.proofs.Read.{kind-located, links-located, major-located, minor-located, size-located}
-pub use Rattle.imagerules.proofs.Super.{HasNumbers-from, inodes-is, magic-is, size-is}
+pub use Rattle.imagerules.proofs.Super.{kind-located, links-located, major-located, minor-located, size-located, HasNumbers-from, inodes-is, magic-is, size-is}
 pub use Rattle.imagerules.specs.Content.{image_of}
 pub use Rattle.imagerules.specs.Marks.{IsOnce}
 pub use Rattle.layout.specs.Image.{asked_slot, free_blocks, IsInode, IsUsed, node_with}

@@ -1,9 +1,9 @@
 -- Lists of blocks that are made of lists, one for each number of a range: what holds of all holds of each.
-use Rattle.mount.proofs.Common.{◌≡◌, ◌≢◌, ℕ, ◌+◌, ◌-◌, ◌<◌, ◌≤◌, Bool, List, [], ◌∷◌, ◌++◌, length, get_or, ap, ap₂, sym, refl, ◌∙◌, arith, subst, inl, inr, zero, suc, true, false, cond, All, count_by, sum_by, flat_map, nat_eq}
-use Rattle.mount.proofs.Common.{not, ◌||◌, list_any, range_with_len, cases_eq, cases_lt, eq-eqb, ne_eqb, get_or-append-add, get_or_append_left, get_or_default, length-append, All-head, All-tail, sum_by-cons, IsOnce, IsOnce-left}
+use Rattle.mount.proofs.Common.{◌≡◌, ◌≢◌, ℕ, ◌+◌, ◌-◌, ◌<◌, ◌≤◌, Bool, List, [], ◌∷◌, ◌++◌, length, get_or, ap, ap₂, sym, refl, ◌∙◌, arith, subst, inl, inr, zero, suc, true, false, cond, All, count_by, sum_by, flat_map, nat_eq, not, ◌||◌}
+use Rattle.mount.proofs.Common.{list_any, range_with_len, cases_eq, cases_lt, eq-eqb, ne_eqb, get_or-append-add, get_or_append_left, get_or_default, length-append, All-head, All-tail, sum_by-cons, IsOnce, IsOnce-left}
 use Rattle.std.proofs.lemmas.List.FromFn.{get_or-range_with_len, length-range_with_len}
 use Rattle.std.proofs.lemmas.List.Folds.{list_any_none}
-use Rattle.imagerules.proofs.Lists.{All-from_flat_map}
+use Rattle.imagerules.proofs.Marking.{All-from_flat_map}
 
 -- ---- no block twice
 

@@ -8,7 +8,7 @@ use Rattle.blockdev.specs.Blocks as device
 use Rattle.layout.specs.Image as disk
 use Rattle.imagerules.specs.Marks.{blocks_of}
 use Rattle.imagerules.specs.Pieces.{FitsAddresses}
-use Rattle.imagerules.proofs.Uses.{FitsAddresses-at, is_data_block-below}
+use Rattle.imagerules.proofs.Marking.{FitsAddresses-at, is_data_block-below}
 use Rattle.mount.proofs.Ranges.{once-places}
 
 -- the blocks of a device whose image denotes these files, and the numbers that its super block tells

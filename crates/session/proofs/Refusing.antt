@@ -6,7 +6,7 @@ use Rattle.std.specs.Result.{IsErrAnd}
 use Rattle.blockdev.specs.Blocks.{blocks_of}
 use Rattle.imagecheck.specs.declared.ImageFault.TheVariants.{Length}
 use Rattle.imagerules.specs.Content.{image_of}
-use Rattle.imagerules.proofs.ContentLemmas.{image_of-blocks}
+use Rattle.imagerules.proofs.Spelling.{image_of-blocks}
 use Rattle.machine.specs.Booted.{IsUnbooted}
 use Rattle.machine.specs.declared.fault.BootFault.{BootFault}
 use Rattle.machine.specs.declared.fault.BootFault.TheVariants.{Device, FrameCount, Image, NoInit, NoMemory}

@@ -1,5 +1,5 @@
 use Rattle.imagecheck.proofs.Common.{sym, ◌∙◌, HasInode-at, HasPlace-at}
-use Rattle.imagerules.proofs.Summing.{length-blocks_of}
+use Rattle.imagerules.proofs.Marking.{length-blocks_of}
 use Rattle.imagecheck.proofs.summary.block_total.Goals as goal
 
 pub kind-requires : goal.kind-requires

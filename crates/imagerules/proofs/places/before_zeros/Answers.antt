@@ -1,5 +1,5 @@
 use Rattle.imagerules.proofs.Common.{◌≡◌, take, sym, ap, ◌∙◌, arith, without_zeros}
-use Rattle.imagerules.proofs.Trimmed.{trimmed_all, trimmed_more}
+use Rattle.imagerules.proofs.Spelling.{trimmed_all, trimmed_more}
 use Rattle.imagerules.proofs.places.before_zeros.Goals as goal
 use Rattle.imagerules.proofs.places.before_zeros.Goals.{else-loop-end-test, then-loop-end-test+else-bytes-end-eq0}
 
