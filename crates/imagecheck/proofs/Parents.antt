@@ -1,14 +1,40 @@
 -- The number that a directory's ".." tells.
-use Rattle.imagecheck.proofs.Common.{◌≡◌, ◌≢◌, ℕ, ◌+◌, ◌-◌, ◌*◌, ◌<◌, ◌≤◌, Bool, List, [], ◌∷◌, None, Some, length, get_or, take, drop, ap, sym, refl, ◌∙◌, arith, cond, inl, inr, true, false, flat_map, is_some, option_map, slice_range}
-use Rattle.imagecheck.proofs.Common.{unwrap_or, ◌==◌, IsSome, IsTrue, list_all, cases_eq, get_or-drop, get_or-take, length-drop, length-take-le, none-some, dot_dot, slot, contents_in, count_in, data_blocks, format_of, inode_at}
-use Rattle.imagecheck.proofs.Common.{is_data_block, is_directory_at, kind_in, length_in, parent_of, number_at, HasBlocks, HasEntries, HasLinks, files_in, place_of_bytes, places_in, without_zeros, FitsFront, IsDirectoryIn, first_block}
-use Rattle.imagecheck.proofs.Common.{length-block, same_number, number_in-record, length-data_blocks, most_data, slot-places_in, All-data_blocks, FitsAddresses-at, is_data_block-below, drop-take, take-append-le, take-take, Entry}
+use Rattle.imagecheck.proofs.Common.{◌≡◌, ◌≢◌, ℕ, ◌<◌, ◌≤◌, List, Some, length, ap, sym, ◌∙◌, arith, subst, Geometry, slot, Directory, contents_in, inodes_in, kind_in, links_in, HasNames, BlockRules, HasBlocks, HasBlocks-of, HasGeometry}
+use Rattle.imagecheck.proofs.Common.{EntriesAt, FitsEntries, HasEntries, files_in, places_in, contents-long, file_in-used, node_in-directory, slot-files_in, ◌+◌, ◌-◌, ◌*◌, Bool, [], ◌∷◌, None, get_or, take, drop, refl, cond, inl, inr, true}
+use Rattle.imagecheck.proofs.Common.{false, flat_map, is_some, option_map, slice_range, unwrap_or, ◌==◌, IsSome, IsTrue, list_all, cases_eq, get_or-drop, get_or-take, length-drop, length-take-le, none-some, dot_dot, count_in, data_blocks}
+use Rattle.imagecheck.proofs.Common.{format_of, inode_at, is_data_block, is_directory_at, length_in, parent_of, number_at, HasLinks, place_of_bytes, without_zeros, FitsFront, IsDirectoryIn, first_block, length-block, same_number}
+use Rattle.imagecheck.proofs.Common.{number_in-record, length-data_blocks, most_data, slot-places_in, All-data_blocks, FitsAddresses-at, is_data_block-below, drop-take, take-append-le, take-take, Entry}
 use Rattle.std.proofs.lemmas.Bool.{eqb-true}
 use Rattle.unixmodel.specs.Image.{block_at}
-use Rattle.imagecheck.proofs.Naming.{directory-least, entries-at, slot-directory}
 use Rattle.imagecheck.proofs.Slotting.{data-at, first-address, first-here}
 use Rattle.imagecheck.proofs.Reaching.{parent_leads, parent_root, used_from}
-use Rattle.imagecheck.proofs.Standing.{is_directory-is, some_high, some_low}
+use Rattle.imagecheck.proofs.Entering.{is_directory-is, some_high, some_low}
+
+-- ---- the names of a directory, and the rules of its entries
+
+module _ (image : List ℕ) (n : ℕ) (low : 1 ≤ n) (high : n < inodes_in image) (directory : kind_in image n ≡ 1) where
+  used : kind_in image n ≢ 0
+  used z = absurd (omega arith)
+
+  pub slot-directory : slot (files_in image) n ≡ Some (Directory (links_in image n) (places_in (contents_in image n)))
+  slot-directory = slot-files_in image n high ∙ file_in-used image n low used ∙ ap Some (node_in-directory image n directory)
+
+  pub entries-at : HasEntries (files_in image) → FitsEntries (files_in image) n (places_in (contents_in image n))
+  entries-at h = subst (EntriesAt (files_in image) n) slot-directory (h n)
+
+  pub names-at : HasEntries (files_in image) → HasNames image (contents_in image n)
+  names-at h =
+      let fits = entries-at h in
+      record { good = λ k d l. record { name = fits.names k d l; number = fits.numbers k d l }; once = fits.once }
+
+  pub directory-least : HasBlocks image → 32 ≤ length (contents_in image n)
+  directory-least b = omega (arith, contents-long image b n low high used, (b.inodes.sizes n low high).directory_least directory)
+
+-- the bytes of a directory have its first two places
+pub least-in : {image : List ℕ} {g : Geometry} → HasGeometry image g → BlockRules image → (n : ℕ) → 1 ≤ n → n < g.inodes → kind_in image n ≡ 1
+    → (bytes : List ℕ) → bytes ≡ contents_in image n → 32 ≤ length bytes
+least-in {image = image} h rules n low high directory bytes e =
+    subst (λ xs. 32 ≤ length xs) (sym e) (directory-least image n low (omega (arith, h.inodes)) directory (HasBlocks-of image rules))
 
 -- ---- directories of the image and of its files
 

@@ -1,7 +1,8 @@
 -- The slots of an inode that are there, one after the other: an index block is read behind the number that names it.
 use Rattle.imagecheck.proofs.Common.{◌≡◌, ℕ, ◌<◌, ◌≤◌, IsTrue, List, ap, arith, false, get_or, inl, inr, length, subst, sym, true, ◌∙◌, cases_lt, nat_tests, get_or-map-range_with_len, cond, nat_lt, ◌==◌, ◌↔◌, is_data_in, HasGeometry}
-use Rattle.imagecheck.proofs.Common.{Geometry, length-map-range_with_len, HasSuper, count_in, data_blocks, format_of, is_data_block, named_by, number_in, size_in, Asks, address_of, asked_slot, holder_of, in_record, single, slot_at, slots}
-use Rattle.imagecheck.proofs.Common.{taken_blocks, there, FitsAddresses, direct-high, direct-low, is_data_block-below, FitsSlot, IsFound, Lies, Format}
+use Rattle.imagecheck.proofs.Common.{Geometry, length-map-range_with_len, HasSuper, count_in, data_blocks, format_of, is_data_block, named_by, number_in, size_in, Asks, address_of, asked_slot, holder_of, in_record, single, slot_at}
+use Rattle.imagecheck.proofs.Common.{taken_blocks, there, FitsAddresses, direct-high, direct-low, is_data_block-below, FitsSlot, IsFound, Lies, Format, ◌+◌, ◌-◌, ◌*◌, refl, false≢true, inode_at, number_at, level_of, place_of}
+use Rattle.imagecheck.proofs.Common.{number_in-block, number_in-record}
 use Rattle.std.proofs.Common.{eq-eqb, eqb-true}
 use Rattle.imagerules.proofs.Marking.{cond_no, cond_yes, is_data_in-is}
 use Rattle.layout.proofs.Places as places
@@ -164,3 +165,31 @@ first-here image = let low = direct-low image in grind (arith, nat_tests)
 pub first-address : (image : List ℕ) → address_of (format_of image) 0 ≡ 0
 unfolding address_of
 first-address image = let low = direct-low image in grind (arith, nat_tests)
+
+-- ---- the number in a slot, from its place: in the record, or in the index block of the slot that holds it
+
+module _ (image : List ℕ) (n k : ℕ) {f : Format} (e : f ≡ format_of image) where
+  pub number-own : in_record f k ≡ true → {place number : ℕ} → place ≡ address_of f k → number ≡ number_at 4 (inode_at n + 12 + 4 * place) image → number ≡ number_in image n k
+  number-own here at is = is ∙ rw (at, e) (sym (number_in-record image n k (rw e at here)))
+
+  module _ (apart : in_record f k ≡ false) {holder : ℕ} (held : holder ≡ holder_of f k) where
+    pub number-held : {block place number : ℕ} → block ≡ number_in image n holder → place ≡ place_of f k → number ≡ number_at 4 (1024 * block + 4 * place) image → number ≡ number_in image n k
+    number-held of at is = is ∙ rw (of, at, held, e) (sym (number_in-block image n (format_of image) refl (direct-low image) (direct-high image) k (rw e at apart)))
+
+    module _ (found : IsFound image n k) where
+      -- its holder is found before it, lies in the image, and is one level up
+      pub holder-found : IsFound image n holder
+      holder-found = rw (held, e) (record {
+        within = places.holder-within (format_of image) (direct-low image) (direct-high image) k (rw e at apart) found.within;
+        holder = found.above (rw e at apart);
+        above = λ _ never. absurd (false≢true (sym never ∙ places.holder-holder (format_of image) (direct-low image) (direct-high image) k));
+      })
+
+      pub holder-lies : {block : ℕ} → block ≡ number_in image n holder → 1024 * block + 1024 ≤ length image
+      holder-lies of = rw (of, held, e) (found.holder (rw e at apart))
+
+      pub holder-up : 2 - level_of (format_of image) holder < 2 - level_of (format_of image) k
+      holder-up =
+          let up = places.level-holder (format_of image) (direct-low image) (direct-high image) k (rw e at apart) found.within in
+          let most = places.level-most (format_of image) (direct-low image) (direct-high image) (holder_of (format_of image) k) in
+          rw (held, e) (omega arith)

@@ -1,11 +1,18 @@
 -- What a result of a pass tells, from what the pass before it tells.
-use Rattle.imagecheck.proofs.Common.{Err, List, Ok, Result, length, ℕ, ◌≡◌, ◌≤◌, ap, arith, subst, ◌∙◌, IfErr, IfOk, IsErrAnd, IsErrOf, MatchResult, OnOk, DenotesIn, named_blocks, numbers_in_use, Denies, DenotesOwn}
-use Rattle.imagecheck.proofs.Common.{Finds, IsOutside, Tells, HasMagic, IsSummary, HasEntries-denotes, HasKinds-denotes, HasLinks-denotes, HasSizes-denotes, IsReached-denotes, err_from_is_err_and, Format}
+use Rattle.imagecheck.proofs.Common.{Err, List, Ok, Result, length, ℕ, ◌≡◌, ◌≤◌, ap, arith, subst, ◌∙◌, IfErr, IfOk, IsErrAnd, IsErrOf, MatchResult, OnOk, DenotesIn, named_blocks, numbers_in_use, Denies, DenotesOwn, Finds, IsOutside, Tells}
+use Rattle.imagecheck.proofs.Common.{HasMagic, IsSummary, HasEntries-denotes, HasKinds-denotes, HasLinks-denotes, HasSizes-denotes, IsReached-denotes, err_from_is_err_and, Format, ◌≢◌, cond, ◌==◌, sym, format_named, large, small, format_of}
+use Rattle.imagecheck.proofs.Common.{IsFront, image_of, SuperRules-of, Begins, HasLength-from, HasLength-not, HasNumbers-in, HasSuper-in, inodes-is, magic-is, size-is, ◌/◌, slice_range}
 use Rattle.unixmodel.specs.Failures.{Rises}
 use Rattle.imagecheck.specs.declared.ImageFault.{ImageFault}
 use Rattle.imagecheck.specs.declared.rules.Summary.{Summary}
-use Rattle.imagecheck.specs.declared.ImageFault.TheVariants.{Device}
+use Rattle.imagecheck.specs.declared.ImageFault.TheVariants.{Device, Length, Magic, Numbers}
 use Rattle.imagecheck.specs.declared.ImageFault.TheVariants as fault
+use Rattle.blockdev.specs.Blocks.{block_at, blocks_of}
+use Rattle.layout.specs.Super.{HasNumbersIn, super_of}
+use Rattle.layout.specs.declared.Format as layout
+use Rattle.layout.specs.declared.Format.TheVariants as kinds
+use Rattle.layout.specs.declared.SuperBlock.{SuperBlock}
+use Rattle.blockdev.specs.Sizes.{AreBlocks-blocks_of, block_at-blocks_of, length-blocks_of}
 
 -- a fault that holds rules out that the image denotes files
 pub Tells-not : (f : Format) (image : List ℕ) (fault : ImageFault) → Tells f image fault → Denies (DenotesIn f image) fault
@@ -67,3 +74,56 @@ judged-from f image m (Err fault) h =
 -- a rise from a later count is one from an earlier
 pub Rises-before : (a b c : ℕ) → a ≤ b → Rises b c → Rises a c
 Rises-before a b c h r = omega arith
+
+-- ---- what the super block of a device of so many blocks tells, if it has this length
+
+-- its magic number tells the format of an image
+pub format_of-magic : (format : layout.Format) (image : List ℕ) → HasMagic (format_named format) image → format_of image ≡ format_named format
+format_of-magic kinds.Small image m = ap (λ k. cond (k == large.magic) large small) m
+format_of-magic kinds.Large image m = ap (λ k. cond (k == large.magic) large small) m
+
+module _ {blocks : List (List ℕ)} {count : ℕ} {block : List ℕ} (front : IsFront blocks count block) (least : 2 ≤ count) {s : SuperBlock} (read : s ≡ super_of block) where
+  two : 2 ≤ length blocks
+  two = omega (arith, front.many)
+
+  e : s ≡ super_of (block_at blocks 1)
+  e = read ∙ ap super_of front.front
+
+  pub Length-told : (f : Format) → s.size ≢ count → Tells f (image_of blocks) Length
+  Length-told f n = HasLength-not blocks front.sizes two s e (λ z. n (z ∙ sym front.many))
+
+  module _ (format : layout.Format) (size : s.size ≡ count) where
+    magic_told : s.magic ≡ (format_named format).magic → HasMagic (format_named format) (image_of blocks)
+    magic_told m = sym (magic-is blocks front.sizes two s e) ∙ m
+
+    most_is : s.magic ≡ (format_named format).magic → (format_of (image_of blocks)).most ≡ (format_named format).most
+    most_is m = ap (λ (f : Format). f.most) (format_of-magic format (image_of blocks) (magic_told m))
+
+    pub Begins-from : s.magic ≡ (format_named format).magic → HasNumbersIn (format_named format) s → Begins (format_named format) (image_of blocks) (record { size = count; inodes = s.inodes })
+    Begins-from magic numbers = record {
+      magic = magic_told magic;
+      geometry = record {
+        rules = SuperRules-of (HasSuper-in blocks front.sizes two s e (format_named format) (size ∙ front.many) (most_is magic) numbers);
+        size = sym size ∙ size-is blocks front.sizes two s e;
+        inodes = inodes-is blocks front.sizes two s e;
+      };
+    }
+
+    pub Magic-told : s.magic ≢ (format_named format).magic → Tells (format_named format) (image_of blocks) Magic
+    Magic-told n = (HasLength-from blocks front.sizes two s e (size ∙ front.many), λ m. n (magic-is blocks front.sizes two s e ∙ m))
+
+    pub Numbers-told : s.magic ≡ (format_named format).magic → (HasNumbersIn (format_named format) s → ⊥) → Tells (format_named format) (image_of blocks) Numbers
+    Numbers-told magic n = (
+      HasLength-from blocks front.sizes two s e (size ∙ front.many),
+      magic_told magic,
+      λ h. n (HasNumbers-in blocks front.sizes two s e (format_named format) (most_is magic) h),
+    )
+
+-- ---- the super block of whole blocks in memory
+
+pub IsFront-memory : (bytes block : List ℕ) → 2 ≤ length bytes / 1024 → block ≡ slice_range bytes 1024 2048 → IsFront (blocks_of bytes) (length bytes / 1024) block
+IsFront-memory bytes block two e = record {
+  sizes = AreBlocks-blocks_of bytes;
+  many = sym (length-blocks_of bytes);
+  front = e ∙ sym (block_at-blocks_of bytes 1 (omega arith));
+}

@@ -1,5 +1,5 @@
 use Rattle.imagecheck.proofs.Common.{◌≡◌, sym, ◌∙◌, ℕ, arith, false, format_named, in_record}
-use Rattle.imagecheck.proofs.Numbering.{holder-found, holder-lies, holder-up, number-held, number-own}
+use Rattle.imagecheck.proofs.Slotting.{holder-found, holder-lies, holder-up, number-held, number-own}
 use Rattle.imagecheck.proofs.blocks.+number.Goals as goal
 use Rattle.imagecheck.proofs.blocks.+number.Goals.{After-holder_of}
 

@@ -1,5 +1,5 @@
 use Rattle.imagecheck.proofs.Common.{◌≢◌, ◌<◌, ℕ, arith, get_or, subst, sym, AllPairs, Decides-like, entries_in}
-use Rattle.imagecheck.proofs.Distinct.{all-trimmed, names-from_numbers, numbers-from_names}
+use Rattle.imagecheck.proofs.Entering.{all-trimmed, names-from_numbers, numbers-from_names}
 use Rattle.imagecheck.proofs.Judging.{refused}
 use Rattle.imagecheck.proofs.directories.has_names.Goals as goal
 

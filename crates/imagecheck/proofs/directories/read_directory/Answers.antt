@@ -1,5 +1,5 @@
 use Rattle.imagecheck.proofs.Common.{◌∙◌, on_ok_weaker}
-use Rattle.imagecheck.proofs.Naming.{least-in}
+use Rattle.imagecheck.proofs.Parents.{least-in}
 use Rattle.imagecheck.proofs.directories.read_directory.Goals as goal
 
 pub read_names-requires : goal.read_names-requires

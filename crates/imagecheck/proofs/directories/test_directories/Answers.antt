@@ -1,7 +1,7 @@
 use Rattle.imagecheck.proofs.Common.{◌≡◌, sym, ap, ◌∙◌, arith, contents_in, inodes_in, kind_in, HasNames, HasPlace-at, inodes-least, up_to_more}
 use Rattle.std.proofs.Common.{append-nil}
 use Rattle.imagecheck.proofs.Collecting.{entries-other, namings_to, namings_to-all, namings_to-first, namings_to-more}
-use Rattle.imagecheck.proofs.Naming.{slot-directory}
+use Rattle.imagecheck.proofs.Parents.{slot-directory}
 use Rattle.imagecheck.proofs.directories.test_directories.Goals as goal
 use Rattle.imagecheck.proofs.directories.test_directories.Goals.{else-kind-eq-DIRECTORY, then-kind-eq-DIRECTORY+in_ok-test_directory}
 

@@ -1,5 +1,5 @@
 use Rattle.imagecheck.proofs.Common.{ap, arith, sym, ◌∙◌, inodes-most, entries_in, name_numbers}
-use Rattle.imagecheck.proofs.Naming.{least-in}
+use Rattle.imagecheck.proofs.Parents.{least-in}
 use Rattle.imagecheck.proofs.directories.test_directory.Goals as goal
 
 pub test_names-requires-clause-bytes : goal.test_names-requires-clause-bytes

@@ -1,5 +1,5 @@
 use Rattle.imagecheck.proofs.Common.{◌<◌, arith, subst, sym, iff_false, inodes_in, HasNames, HasBlocks-of}
-use Rattle.imagecheck.proofs.Naming.{least-in, names-at}
+use Rattle.imagecheck.proofs.Parents.{least-in, names-at}
 use Rattle.imagecheck.proofs.directories.test_names.Goals as goal
 
 pub has_names-requires-clause-least : goal.has_names-requires-clause-least

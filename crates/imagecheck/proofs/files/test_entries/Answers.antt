@@ -1,6 +1,6 @@
 use Rattle.imagecheck.proofs.Common.{iff_false, HasBlocks-of}
-use Rattle.imagecheck.proofs.Naming.{entries-at}
-use Rattle.imagecheck.proofs.Standing.{HasEntries-from}
+use Rattle.imagecheck.proofs.Parents.{entries-at}
+use Rattle.imagecheck.proofs.Entering.{HasEntries-from}
 use Rattle.imagecheck.proofs.files.test_entries.Goals as goal
 
 pub returns-then-not-are_named-clause-judged : goal.returns-then-not-are_named-clause-judged

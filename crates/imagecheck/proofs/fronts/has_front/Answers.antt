@@ -1,7 +1,6 @@
 use Rattle.imagecheck.proofs.Common.{◌≡◌, ◌+◌, ◌-◌, sym, ◌∙◌, arith, contents_in, drop, length, length-drop, length-take-le, take, slice_range, Decides-like, HasBlocks-of}
 use Rattle.std.proofs.Common.{take_all}
-use Rattle.imagecheck.proofs.Naming.{directory-least}
-use Rattle.imagecheck.proofs.Parents.{FitsFront-same, contents-front}
+use Rattle.imagecheck.proofs.Parents.{directory-least, FitsFront-same, contents-front}
 use Rattle.imagecheck.proofs.fronts.has_front.Goals as goal
 
 pub returns : goal.returns

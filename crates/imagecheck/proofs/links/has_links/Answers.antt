@@ -1,6 +1,6 @@
 use Rattle.imagecheck.proofs.Common.{◌<◌, length, arith, IsTrue, ◌↔◌, HasPlace-at, up_to_more, HasBlocks-of}
 use Rattle.imagecheck.proofs.Judging.{refused, told}
-use Rattle.imagecheck.proofs.Standing.{FitsLinks-at, HasLinks-from, LinksFit}
+use Rattle.imagecheck.proofs.Entering.{FitsLinks-at, HasLinks-from, LinksFit}
 use Rattle.imagecheck.proofs.links.has_links.Goals as goal
 use Rattle.imagecheck.proofs.links.has_links.Goals.{After-fits_links}
 

@@ -1,5 +1,5 @@
 use Rattle.std.proofs.Common.{ℕ, ◌<◌, ◌≤◌}
-use Rattle.imagecheck.proofs.Standing.{LinksFit}
+use Rattle.imagecheck.proofs.Entering.{LinksFit}
 use Rattle.imagecheck.proofs.links.has_links.Given as goal
 
 abbrev pub invariant-loop-n : goal.invariant-loop-n

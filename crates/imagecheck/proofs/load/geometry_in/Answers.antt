@@ -1,5 +1,5 @@
 use Rattle.imagecheck.proofs.Common.{refl, format_named}
-use Rattle.imagecheck.proofs.Telling.{Begins-from, Length-told, Magic-told, Numbers-told}
+use Rattle.imagecheck.proofs.Sounding.{Begins-from, Length-told, Magic-told, Numbers-told}
 use Rattle.imagecheck.proofs.load.geometry_in.Goals as goal
 
 pub returns-then-numbers-count-clause-judged : goal.returns-then-numbers-count-clause-judged

@@ -1,5 +1,5 @@
-use Rattle.imagecheck.proofs.Common.{◌≡◌, below_more, sym, ◌∙◌, arith, nat_lt, ◌||◌, lt-ltb, bit_of, data_start, inodes_in, is_named, size_in}
-use Rattle.imagecheck.proofs.Common.{bit_is, marked_no, marked_yes, other_tests, same_tests, bit-inside, bitmap-low, inodes-most, size-most}
+use Rattle.imagecheck.proofs.Common.{◌≡◌, below_more, sym, ◌∙◌, arith, nat_lt, ◌||◌, lt-ltb, bit_of, data_start, inodes_in, is_named, size_in, bit_is, marked_no, marked_yes, other_tests, same_tests, bit-inside, bitmap-low, inodes-most}
+use Rattle.imagecheck.proofs.Common.{size-most}
 use Rattle.imagecheck.proofs.Judging.{never, told}
 use Rattle.imagecheck.proofs.marks.has_bitmap.Goals as goal
 use Rattle.imagecheck.proofs.marks.has_bitmap.Goals.{else-block-first, then-block-first}

@@ -1,5 +1,5 @@
-use Rattle.imagecheck.proofs.Common.{[], ◌+◌, ◌<◌, ◌≤◌, ◌∷◌, ◌++◌, take, drop, subst, ap, ◌∙◌, arith, count_in, direct-high, direct-low, format_of}
-use Rattle.imagecheck.proofs.Common.{named_by, single, taken_blocks, HasSuper-of, HasMarks, IsOnce, list_more, list_split, mark_more, mark_shared}
+use Rattle.imagecheck.proofs.Common.{[], ◌+◌, ◌<◌, ◌≤◌, ◌∷◌, ◌++◌, take, drop, subst, ap, ◌∙◌, arith, count_in, direct-high, direct-low, format_of, named_by, single, taken_blocks, HasSuper-of, HasMarks, IsOnce, list_more, list_split}
+use Rattle.imagecheck.proofs.Common.{mark_more, mark_shared}
 use Rattle.std.proofs.Common.{take_all}
 use Rattle.layout.proofs.Places.{taken-there}
 use Rattle.imagecheck.proofs.Slotting.{IsNamed, IsNamed-at, found-at, named-long}

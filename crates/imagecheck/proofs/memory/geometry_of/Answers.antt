@@ -1,6 +1,6 @@
 use Rattle.imagecheck.proofs.Common.{subst, arith, format_named, image_of-blocks, TellsGeometry}
 use Rattle.blockdev.specs.Blocks.{blocks_of}
-use Rattle.imagecheck.proofs.Fronting.{IsFront-memory}
+use Rattle.imagecheck.proofs.Sounding.{IsFront-memory}
 use Rattle.imagecheck.proofs.memory.geometry_of.Goals as goal
 
 pub returns-clause-judged : goal.returns-clause-judged

@@ -1,6 +1,6 @@
 use Rattle.imagecheck.proofs.Common.{◌≡◌, ap, drop, length, sym, ◌∙◌, arith, between_to_end, length-drop, little_number, number, number_at-drop, place-taken}
 use Rattle.std.proofs.Common.{take_all}
-use Rattle.imagecheck.proofs.Distinct.{name_bytes-spelled}
+use Rattle.imagecheck.proofs.Entering.{name_bytes-spelled}
 use Rattle.imagecheck.proofs.names.add_name.Goals as goal
 
 pub returns : goal.returns

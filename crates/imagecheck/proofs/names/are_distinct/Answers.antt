@@ -1,5 +1,5 @@
 use Rattle.imagecheck.proofs.Common.{rules, nat_lt, answers_always}
-use Rattle.imagecheck.proofs.Distinct.{distinct-sorted}
+use Rattle.imagecheck.proofs.Entering.{distinct-sorted}
 use Rattle.imagecheck.proofs.names.are_distinct.Goals as goal
 
 pub returns : goal.returns

@@ -1,8 +1,7 @@
 use Rattle.imagecheck.proofs.Common.{get_or, slice_set, sym, subst, arith, files_in, inodes-most}
 use Rattle.imagecheck.proofs.Judging.{by_same}
 use Rattle.imagecheck.proofs.Parents.{is_directory-at}
-use Rattle.imagecheck.proofs.Reaching.{Climbs-reached}
-use Rattle.imagecheck.proofs.Walking.{HasWalked-more, IsWalk, IsWalk-more, IsWalk-start, round_not, unmarked_less}
+use Rattle.imagecheck.proofs.Reaching.{Climbs-reached, HasWalked-more, IsWalk, IsWalk-more, IsWalk-start, round_not, unmarked_less}
 use Rattle.imagecheck.proofs.reach.climb.Goals as goal
 
 pub loop-marks-init : goal.loop-marks-init

@@ -1,5 +1,5 @@
 use Rattle.imagecheck.proofs.Common.{files_in, IsDirectoryIn}
-use Rattle.imagecheck.proofs.Walking.{IsWalk, unmarked}
+use Rattle.imagecheck.proofs.Reaching.{IsWalk, unmarked}
 use Rattle.imagecheck.proofs.reach.climb.Given as goal
 
 abbrev pub invariant-loop-marks : goal.invariant-loop-marks

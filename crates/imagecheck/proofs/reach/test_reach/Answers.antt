@@ -1,5 +1,5 @@
 use Rattle.imagecheck.proofs.Common.{◌≡◌, replicate, set, sym, subst, arith, files_in, HasWalked, inodes-least}
-use Rattle.imagecheck.proofs.Walking.{HasWalked-first}
+use Rattle.imagecheck.proofs.Reaching.{HasWalked-first}
 use Rattle.imagecheck.proofs.reach.test_reach.Goals as goal
 
 pub index_mut-requires : goal.index_mut-requires

@@ -1,6 +1,6 @@
 use Rattle.imagecheck.proofs.Common.{◌<◌, ◌+◌, cond, length, get_or, ◌∙◌, arith, refl, ◌==◌, sum_by_more, Naming}
 use Rattle.std.proofs.Common.{length-set}
-use Rattle.imagecheck.proofs.Counting.{counted_more}
+use Rattle.imagecheck.proofs.Collecting.{counted_more}
 use Rattle.imagecheck.proofs.tables.count_names.Goals as goal
 
 pub loop-naming-preserved : goal.loop-naming-preserved

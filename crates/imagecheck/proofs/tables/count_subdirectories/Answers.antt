@@ -1,7 +1,7 @@
 use Rattle.imagecheck.proofs.Common.{ℕ, ◌<◌, ◌+◌, cond, length, get_or, sym, ◌∙◌, arith, refl, ◌&&◌, ◌==◌, and_right, is_directory_at, files_in, Naming, inodes-least, sum_by_more}
 use Rattle.std.proofs.Common.{length-set, take_all}
-use Rattle.imagecheck.proofs.Counting.{counted_more, counts_both}
-use Rattle.imagecheck.proofs.Standing.{some_high, some_low}
+use Rattle.imagecheck.proofs.Collecting.{counted_more, counts_both}
+use Rattle.imagecheck.proofs.Entering.{some_high, some_low}
 use Rattle.imagecheck.proofs.tables.count_subdirectories.Goals as goal
 use Rattle.imagecheck.proofs.tables.count_subdirectories.Goals.{else-is_directory, then-is_directory}
 

@@ -1,6 +1,6 @@
 use Rattle.imagecheck.proofs.Common.{◌<◌, ◌≤◌, length, get_or, ◌∙◌, arith, All-take, Naming}
 use Rattle.std.proofs.Common.{length-set}
-use Rattle.imagecheck.proofs.Counting.{firsts_kept, firsts_more}
+use Rattle.imagecheck.proofs.Collecting.{firsts_kept, firsts_more}
 use Rattle.imagecheck.proofs.tables.find_firsts.Goals as goal
 use Rattle.imagecheck.proofs.tables.find_firsts.Goals.{else-parents-number-eq0, then-parents-number-eq0}
 

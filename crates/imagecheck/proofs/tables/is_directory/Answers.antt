@@ -1,5 +1,5 @@
 use Rattle.imagecheck.proofs.Common.{ap, ◌∙◌, arith, nat_eq, HasPlace-at}
-use Rattle.imagecheck.proofs.Standing.{is_directory-is}
+use Rattle.imagecheck.proofs.Entering.{is_directory-is}
 use Rattle.imagecheck.proofs.tables.is_directory.Goals as goal
 
 pub kind-requires : goal.kind-requires
