@@ -1,25 +1,94 @@
 -- The frames after a store show the memory after it, and nothing else is new.
-use Rattle.hart.proofs.Common.{[], ap, append_assoc, arith, Bool, Bytes, cases_eq, Change, changed, Computed, cond, cycle, drop, false, frame_of, get_or, get_or-set_other, get_or-set_same, get_or_from_slice_get, inl, inr, IsAlone, IsMemory}
-use Rattle.hart.proofs.Common.{IsSize, IsSound, IsStore, length, length-set, List, Mapped, Memory, memory_of, None, Nothing, Ok, Option, option_map, overwrite, Page, page_in, permits, permitted, put, put_bytes, put_in, refl, set, slice_get}
-use Rattle.hart.proofs.Common.{slice_get-get_or, slice_get-map, slice_get_within, slice_index_or, slice_set, Some, Store, Stores, suc, sym, take, true, write_bytes, write_from, WritesOnly, WritesPage, ℕ, ◌%◌, ◌++◌, ◌+◌, ◌-◌, ◌/◌, ◌<◌, ◌∙◌}
-use Rattle.hart.proofs.Common.{◌∷◌, ◌≡◌, ◌≢◌, ◌≤◌, ◌⊎◌}
+use Rattle.hart.proofs.Common.{Ram, act, act_word, ap, arith, Bool, bytes_at, Cause, Computed, cond, cycle, Effect, Err, extend, false, Fetch, fetched, IllegalInstruction, inl, inr, Instr, instruction_of, InstructionPageFault, is_taken}
+use Rattle.hart.proofs.Common.{IsSize, le, length, List, Load, load_from, load_size, LoadOp, Memory, None, number, Ok, Option, Page, page_for, plus, refl, slice_index, Some, Store, store_size, store_to, StoreOp, Stores, subst, suc, trap}
+use Rattle.hart.proofs.Common.{true, zero, ℕ, ◌%◌, ◌*◌, ◌/◌, ◌==◌, ◌≡◌, [], append_assoc, Bytes, cases_eq, Change, changed, drop, frame_of, get_or, get_or-set_other, get_or-set_same, get_or_from_slice_get, IsAlone, IsMemory, IsSound}
+use Rattle.hart.proofs.Common.{IsStore, length-set, Mapped, memory_of, Nothing, option_map, overwrite, page_in, permits, permitted, put, put_bytes, put_in, set, slice_get, slice_get-get_or, slice_get-map, slice_get_within, slice_index_or}
+use Rattle.hart.proofs.Common.{slice_set, sym, take, write_bytes, write_from, WritesOnly, WritesPage, ◌++◌, ◌+◌, ◌-◌, ◌<◌, ◌∙◌, ◌∷◌, ◌≢◌, ◌≤◌, ◌⊎◌, Follows, Hart, Trap, StoreMisaligned, StorePageFault}
+use Rattle.std.proofs.lemmas.Bool.Decides.{nat_tests}
+use Rattle.unixmodel.specs.declared.instr.StoreOp.TheVariants.{Sb, Sd, Sh, Sw}
+use Rattle.unixmodel.specs.declared.instr.Instr.TheVariants as instr
 use Rattle.std.proofs.Math.Seq.{drop-cons}
 use Rattle.std.proofs.lemmas.List.{drop_all, length-map, same_lists, set_split, take_all}
 use Rattle.unixmodel.specs.Next.{memory_after}
 use Rattle.ram.proofs.MemoryLemmas.{length-put_bytes}
-use Rattle.hart.proofs.CycleLemmas.{cycle-stores}
+
+-- ---- what holds of traps and of each instruction's effect holds of a cycle's
+
+at_word : (P : Effect → Type 0) (regs : List ℕ) (pc : ℕ) (mem : Memory) (found : Option Instr) → ((c : Cause) (address : ℕ) → P (trap c address)) → ((i : Instr) → P (act i regs pc mem)) → P (act_word found regs pc mem)
+at_word P regs pc mem None traps acts = traps IllegalInstruction pc
+at_word P regs pc mem (Some i) traps acts = acts i
+
+at_page : (P : Effect → Type 0) (regs : List ℕ) (pc : ℕ) (mem : Memory) (page : Option Page) → ((c : Cause) (address : ℕ) → P (trap c address)) → ((i : Instr) → P (act i regs pc mem)) → P (fetched page regs pc mem)
+at_page P regs pc mem None traps acts = traps InstructionPageFault pc
+at_page P regs pc mem (Some p) traps acts = at_word P _ pc _ _ traps acts
+
+at_cycle : (P : Effect → Type 0) (regs : List ℕ) (pc : ℕ) (mem : Memory) → ((c : Cause) (address : ℕ) → P (trap c address)) → ((i : Instr) → P (act i regs pc mem)) → P (cycle regs pc mem)
+unfolding cycle
+at_cycle P regs pc mem traps acts = at_page P _ pc _ _ traps acts
+
+at_test : (P : Effect → Type 0) (b : Bool) {d e : Effect} → (b ≡ true → P d) → P e → P (cond b d e)
+at_test P true f g = f refl
+at_test P false f g = g
+
+is_zero : {n : ℕ} → (n == 0) ≡ true → n ≡ 0
+is_zero h = grind (arith, nat_tests)
+
+-- ---- the change of the memory
+
+abbrev Leaves : Memory → Effect → Type 0
+Leaves mem (Ok d) = Stores mem d.change
+Leaves mem (Err t) = Unit {0}
+
+length-le : (n x : ℕ) → length (le n x) ≡ n
+length-le zero x = refl
+length-le (suc n) x = ap suc (length-le n _)
+
+store_size-is : (op : StoreOp) → IsSize (store_size op)
+store_size-is Sb = inl refl
+store_size-is Sh = inr (inl refl)
+store_size-is Sw = inr (inr (inl refl))
+store_size-is Sd = inr (inr (inr refl))
+
+load-leaves : (regs : List ℕ) (pc : ℕ) (mem : Memory) (op : LoadOp) (rd address : ℕ) (page : Option Page) → Leaves mem (load_from regs pc op rd address page)
+load-leaves regs pc mem op rd address None = tt
+load-leaves regs pc mem op rd address (Some p) = tt
+
+store-leaves : (regs : List ℕ) (pc : ℕ) (mem : Memory) (op : StoreOp) (address value : ℕ) (page : Option Page) → page_for Store mem address ≡ page → address % store_size op ≡ 0 → Leaves mem (store_to regs pc address (le (store_size op) value) page)
+store-leaves regs pc mem op address value None found aligned = tt
+store-leaves regs pc mem op address value (Some p) found aligned =
+    let count : length (le (store_size op) value) ≡ store_size op = length-le (store_size op) _ in
+    record { page = p; found = found; size = rw count (store_size-is op); aligned = rw count aligned }
+
+act-leaves : (regs : List ℕ) (pc : ℕ) (mem : Memory) (i : Instr) → Leaves mem (act i regs pc mem)
+unfolding act
+act-leaves regs pc mem (instr.Jal rd offset) = let target = plus pc (extend 21 offset) in at_test (Leaves mem) (target % 4 == 0) (λ _. tt) tt
+act-leaves regs pc mem (instr.Jalr rd rs1 imm) = let target = plus (slice_index regs rs1) (extend 12 imm) / 2 * 2 in at_test (Leaves mem) (target % 4 == 0) (λ _. tt) tt
+act-leaves regs pc mem (instr.Branch op rs1 rs2 offset) =
+    let target = plus pc (extend 13 offset) in
+    at_test (Leaves mem) (is_taken op (slice_index regs rs1) (slice_index regs rs2)) (λ _. at_test (Leaves mem) (target % 4 == 0) (λ _. tt) tt) tt
+act-leaves regs pc mem (instr.Load op rd rs1 imm) =
+    let address = plus (slice_index regs rs1) (extend 12 imm) in
+    at_test (Leaves mem) (address % load_size op == 0) (λ _. load-leaves _ pc _ op rd _ _) tt
+act-leaves regs pc mem (instr.Store op rs1 rs2 imm) =
+    let address = plus (slice_index regs rs1) (extend 12 imm) in
+    at_test (Leaves mem) (address % store_size op == 0) (λ h. store-leaves _ pc _ op _ _ (page_for Store mem address) refl (is_zero h)) tt
+act-leaves regs pc mem _ = tt
+
+-- what an instruction writes is what a store may write
+pub cycle-stores : (regs : List ℕ) (pc : ℕ) (mem : Memory) (d : Computed) → cycle regs pc mem ≡ Ok d → Stores mem d.change
+cycle-stores regs pc mem d h = subst (Leaves mem) h (at_cycle (Leaves mem) _ pc _ (λ c address. tt) (act-leaves _ pc mem))
 
 -- ---- what a store needs
 
 -- the bytes of a store lie in one page, and there is at least one
-size-fits : (address n : ℕ) → IsSize n → address % n ≡ 0 → (0 < n) × (address % 4096 + n ≤ 4096)
-size-fits address n (inl one) aligned = (omega arith, omega arith)
-size-fits address n (inr (inl two)) aligned = let even : address % 2 ≡ 0 = rw (sym two) aligned in (omega arith, omega arith)
-size-fits address n (inr (inr (inl four))) aligned = let even : address % 4 ≡ 0 = rw (sym four) aligned in (omega arith, omega arith)
-size-fits address n (inr (inr (inr eight))) aligned = let even : address % 8 ≡ 0 = rw (sym eight) aligned in (omega arith, omega arith)
+size-fits : (address : ℕ) {n : ℕ} → IsSize n → address % n ≡ 0 → (0 < n) × (address % 4096 + n ≤ 4096)
+size-fits address (inl one) aligned = (omega arith, omega arith)
+size-fits address (inr (inl two)) aligned = let even : address % 2 ≡ 0 = rw (sym two) aligned in (omega arith, omega arith)
+size-fits address (inr (inr (inl four))) aligned = let even : address % 4 ≡ 0 = rw (sym four) aligned in (omega arith, omega arith)
+size-fits address (inr (inr (inr eight))) aligned = let even : address % 8 ≡ 0 = rw (sym eight) aligned in (omega arith, omega arith)
 
-pub store-fits : (mem : Memory) (address : ℕ) (bytes : List ℕ) → IsStore mem address bytes → (0 < length bytes) × (address % 4096 + length bytes ≤ 4096)
-store-fits mem address bytes is = size-fits address (length bytes) is.size is.aligned
+store-fits : {mem : Memory} {address : ℕ} {bytes : List ℕ} → IsStore mem address bytes → (0 < length bytes) × (address % 4096 + length bytes ≤ 4096)
+store-fits {address} {bytes} is = size-fits _ is.size is.aligned
 
 chosen : (b : Bool) (d : Page) (p : Page) → cond b (Some d) None ≡ Some p → b ≡ true
 chosen true d p h = refl
@@ -28,17 +97,17 @@ chosen false d p h = absurd (cc)
 -- ---- which frame is new
 
 -- the entry of a page that a store is allowed on
-allowed-entry : (ram : List (List ℕ)) (o : Option Mapped) (p : Page) → permitted Store (option_map (page_in ram) o) ≡ Some p → (e : Mapped) × (o ≡ Some e) × (permits Store e.marks ≡ true)
-allowed-entry ram None p h = absurd (cc)
-allowed-entry ram (Some e) p h = (e, refl, chosen (permits Store e.marks) (page_in ram e) p h)
+allowed-entry : (ram : Ram) (o : Option Mapped) {p : Page} → permitted Store (option_map (page_in ram) o) ≡ Some p → (e : Mapped) × (o ≡ Some e) × (permits Store e.marks ≡ true)
+allowed-entry ram None h = absurd (cc)
+allowed-entry ram (Some e) {p} h = (e, refl, chosen (permits Store e.marks) (page_in ram e) p h)
 
-pub stored-entry : (ram : List (List ℕ)) (mapping : List Mapped) (address : ℕ) (bytes : List ℕ) → IsStore (memory_of ram mapping) address bytes
+pub stored-entry : (ram : Ram) (mapping : List Mapped) {address : ℕ} {bytes : List ℕ} → IsStore (memory_of ram mapping) address bytes
     → (e : Mapped) × (slice_get mapping (address / 4096) ≡ Some e) × (permits Store e.marks ≡ true)
-stored-entry ram mapping address bytes is =
-    allowed-entry ram (slice_get mapping (address / 4096)) is.page (ap (permitted Store) (sym (slice_get-map (page_in ram) mapping (address / 4096))) ∙ is.found)
+stored-entry ram mapping {address} is =
+    allowed-entry _ (slice_get mapping (address / 4096)) (ap (permitted Store) (sym (slice_get-map (page_in ram) mapping (address / 4096))) ∙ is.found)
 
 -- in the memory's own words
-pub changed-put : (ram : List (List ℕ)) (mapping : List Mapped) (address : ℕ) (bytes : List ℕ) (e : Mapped) → slice_get mapping (address / 4096) ≡ Some e
+changed-put : (ram : Ram) (mapping : List Mapped) (address : ℕ) (bytes : List ℕ) (e : Mapped) → slice_get mapping (address / 4096) ≡ Some e
     → changed ram mapping (Bytes address bytes) ≡ put ram e.frame (address % 4096) bytes
 unfolding put put_bytes
 changed-put ram mapping address bytes e mapped =
@@ -47,10 +116,10 @@ changed-put ram mapping address bytes e mapped =
     ap (λ o. put_in ram o at bytes) mapped
     ∙ ap (slice_set ram e.frame) (append_assoc (take at frame) bytes (drop (at + length bytes) frame))
 
-written-page : (ram : List (List ℕ)) (mapping : List Mapped) (page at : ℕ) (bytes : List ℕ) (e : Mapped) → IsMemory ram → e.frame < length ram → slice_get mapping page ≡ Some e → permits Store e.marks ≡ true
+written-page : {ram : Ram} {mapping : List Mapped} (page at : ℕ) (bytes : List ℕ) (e : Mapped) → IsMemory ram → e.frame < length ram → slice_get mapping page ≡ Some e → permits Store e.marks ≡ true
     → at + length bytes ≤ 4096 → WritesPage ram mapping (put ram e.frame at bytes)
 unfolding put
-written-page ram mapping page at bytes e is within mapped permitted fits =
+written-page {ram} page at bytes e is within mapped permitted fits =
     let full : length (frame_of ram e.frame) ≡ 4096 = is.sized e.frame within in
     record {
       page = page;
@@ -58,65 +127,65 @@ written-page ram mapping page at bytes e is within mapped permitted fits =
       bytes = put_bytes (frame_of ram e.frame) at bytes;
       mapped = mapped;
       permitted = permitted;
-      whole = length-put_bytes (frame_of ram e.frame) at bytes (omega arith) ∙ full;
+      whole = length-put_bytes _ at _ (omega arith) ∙ full;
       is = refl;
     }
 
 -- a store writes one frame of the mapping, whose page may be written
-pub changed-only : (ram : List (List ℕ)) (mapping : List Mapped) (change : Change) → IsMemory ram → IsSound ram mapping → Stores (memory_of ram mapping) change → WritesOnly ram mapping (changed ram mapping change)
-changed-only ram mapping Nothing is sound stores = inl refl
-changed-only ram mapping (Bytes address bytes) is sound stores =
-    let entry = stored-entry ram mapping address bytes stores in
+changed-only : {ram : Ram} {mapping : List Mapped} (change : Change) → IsMemory ram → IsSound ram mapping → Stores (memory_of ram mapping) change → WritesOnly ram mapping (changed ram mapping change)
+changed-only Nothing is sound stores = inl refl
+changed-only {ram} {mapping} (Bytes address bytes) is sound stores =
+    let entry = stored-entry _ _ stores in
     let e : Mapped = entry.0 in
     inr (rw (changed-put ram mapping address bytes e entry.1)
-    (written-page ram mapping (address / 4096) (address % 4096) bytes e is (sound.inside (address / 4096) e entry.1) entry.1 entry.2 (store-fits (memory_of ram mapping) address bytes stores).1))
+    (written-page _ _ _ e is (sound.inside (address / 4096) e entry.1) entry.1 entry.2 (store-fits stores).1))
 
 -- the same for what an instruction leaves
-pub cycle-only : (ram : List (List ℕ)) (mapping : List Mapped) (regs : List ℕ) (pc : ℕ) (d : Computed) → IsMemory ram → IsSound ram mapping → cycle regs pc (memory_of ram mapping) ≡ Ok d → WritesOnly ram mapping (changed ram mapping d.change)
-cycle-only ram mapping regs pc d is sound h = changed-only ram mapping d.change is sound (cycle-stores regs pc (memory_of ram mapping) d h)
+pub cycle-only : {ram : Ram} {mapping : List Mapped} (regs : List ℕ) (pc : ℕ) {d : Computed} → IsMemory ram → IsSound ram mapping → cycle regs pc (memory_of ram mapping) ≡ Ok d → WritesOnly ram mapping (changed ram mapping d.change)
+cycle-only {ram} {mapping} regs pc {d} is sound h = changed-only d.change is sound (cycle-stores _ pc _ d h)
 
 -- ---- the memory that is shown
 
 -- page k of the memory
-page_at : (ram : List (List ℕ)) (mapping : List Mapped) (k : ℕ) (e : Mapped) (d : Page) → slice_get mapping k ≡ Some e → get_or (memory_of ram mapping) k d ≡ page_in ram e
-page_at ram mapping k e d h = get_or_from_slice_get (memory_of ram mapping) k (page_in ram e) d (slice_get-map (page_in ram) mapping k ∙ ap (option_map (page_in ram)) h)
+page_at : (ram : Ram) (mapping : List Mapped) (k : ℕ) {e : Mapped} (d : Page) → slice_get mapping k ≡ Some e → get_or (memory_of ram mapping) k d ≡ page_in ram e
+page_at ram mapping k {e} d h = get_or_from_slice_get _ k _ d (slice_get-map (page_in ram) mapping k ∙ ap (option_map (page_in ram)) h)
 
 -- page k after the frame of page n is new
-shown_at : (ram : List (List ℕ)) (mapping : List Mapped) (n : ℕ) (e : Mapped) (new : List ℕ) → slice_get mapping n ≡ Some e → e.frame < length ram → IsAlone mapping n
-    → (k : ℕ) (f : Mapped) (d : Page) → slice_get mapping k ≡ Some f → (k ≡ n) ⊎ (k ≡ n → ⊥)
+shown_at : (ram : Ram) (mapping : List Mapped) {n : ℕ} (e : Mapped) (new : List ℕ) → slice_get mapping n ≡ Some e → e.frame < length ram → IsAlone mapping n
+    → (k : ℕ) {f : Mapped} (d : Page) → slice_get mapping k ≡ Some f → (k ≡ n) ⊎ (k ≡ n → ⊥)
     → get_or (memory_of (set ram e.frame new) mapping) k d ≡ get_or (set (memory_of ram mapping) n (record { bytes = new; marks = e.marks })) k d
-shown_at ram mapping n e new found within alone k f d at (inl same) =
+shown_at ram mapping {n} e new found within alone k {f} d at (inl same) =
     let entry : Some f ≡ Some e = sym at ∙ ap (slice_get mapping) same ∙ found in
     let is : f ≡ e = cc in
     let written : get_or (set ram e.frame new) e.frame [] ≡ new = get_or-set_same ram e.frame new [] within in
     let there : n < length (memory_of ram mapping) = rw length-map (slice_get_within mapping n e found) in
-    page_at (set ram e.frame new) mapping k f d at
+    page_at _ _ k d at
     ∙ ap (page_in (set ram e.frame new)) is
     ∙ ap (λ bytes. record { bytes = bytes; marks = e.marks }) written
     ∙ sym (ap (λ j. get_or (set (memory_of ram mapping) n (record { bytes = new; marks = e.marks })) j d) same ∙ rw get_or-set_same)
-shown_at ram mapping n e new found within alone k f d at (inr other) =
+shown_at ram mapping e new found within alone k {f} d at (inr other) =
     let apart : f.frame ≢ e.frame = λ same. other (alone k e f found at same) in
     let kept : get_or (set ram e.frame new) f.frame [] ≡ get_or ram f.frame [] = rw get_or-set_other in
-    page_at (set ram e.frame new) mapping k f d at
+    page_at _ _ k d at
     ∙ ap (λ bytes. record { bytes = bytes; marks = f.marks }) kept
-    ∙ sym (page_at ram mapping k f d at)
+    ∙ sym (page_at _ _ k d at)
     ∙ sym (rw get_or-set_other)
 
 -- where the frame of a page is new, and no other page has it, that page is new
-pub memory_of-set : (ram : List (List ℕ)) (mapping : List Mapped) (n : ℕ) (e : Mapped) (new : List ℕ) → slice_get mapping n ≡ Some e → e.frame < length ram → IsAlone mapping n
+memory_of-set : (ram : Ram) (mapping : List Mapped) (n : ℕ) (e : Mapped) (new : List ℕ) → slice_get mapping n ≡ Some e → e.frame < length ram → IsAlone mapping n
     → memory_of (set ram e.frame new) mapping ≡ set (memory_of ram mapping) n (record { bytes = new; marks = e.marks })
 memory_of-set ram mapping n e new found within alone = same_lists _ _ (rw (length-set, length-map, length-map)) (λ k d below.
     let fits : k < length mapping = rw length-map at below in
-    shown_at ram mapping n e new found within alone k (get_or mapping k e) d (slice_get-get_or mapping k e fits) (cases_eq k n))
+    shown_at _ _ e _ found within alone k d (slice_get-get_or _ k e fits) (cases_eq k n))
 
 write_from-none : (pages : List Page) → write_from pages 0 [] ≡ pages
 write_from-none [] = refl
 write_from-none (p ∷ ps) = refl
 
 -- bytes that end on the first page
-write_from-first : (p : Page) (ps : List Page) (at : ℕ) (new : List ℕ) → 0 < length new → at + length new ≤ 4096 → write_from (p ∷ ps) at new ≡ record p { bytes = overwrite p.bytes at new } ∷ ps
-write_from-first p ps at [] some fits = absurd (omega arith)
-write_from-first p ps at (b ∷ bs) some fits =
+write_from-first : (p : Page) {ps : List Page} (at : ℕ) (new : List ℕ) → 0 < length new → at + length new ≤ 4096 → write_from (p ∷ ps) at new ≡ record p { bytes = overwrite p.bytes at new } ∷ ps
+write_from-first p at [] some fits = absurd (omega arith)
+write_from-first p {ps} at (b ∷ bs) some fits =
     let all : take (4096 - at) (b ∷ bs) ≡ b ∷ bs = take_all (4096 - at) (b ∷ bs) (omega arith) in
     let none : drop (4096 - at) (b ∷ bs) ≡ [] = drop_all (4096 - at) (b ∷ bs) (omega arith) in
     ap (λ new. record p { bytes = overwrite p.bytes at new } ∷ write_from ps 0 (drop (4096 - at) (b ∷ bs))) all
@@ -124,32 +193,191 @@ write_from-first p ps at (b ∷ bs) some fits =
     ∙ ap (λ rest. record p { bytes = overwrite p.bytes at (b ∷ bs) } ∷ rest) (write_from-none ps)
 
 -- bytes in one page make that page new
-pub write_bytes-page : (mem : Memory) (address : ℕ) (new : List ℕ) (p : Page) → slice_get mem (address / 4096) ≡ Some p → 0 < length new → address % 4096 + length new ≤ 4096
+write_bytes-page : (mem : Memory) (address : ℕ) (new : List ℕ) {p : Page} → slice_get mem (address / 4096) ≡ Some p → 0 < length new → address % 4096 + length new ≤ 4096
     → write_bytes mem address new ≡ set mem (address / 4096) (record { bytes = overwrite p.bytes (address % 4096) new; marks = p.marks })
 unfolding write_bytes
-write_bytes-page mem address new p found some fits =
+write_bytes-page mem address new {p} found some fits =
     let n : ℕ = address / 4096 in
     let there : n < length mem = slice_get_within mem n p found in
-    ap (λ pages. take n mem ++ write_from pages (address % 4096) new) (drop-cons mem n p there ∙ ap (λ q. q ∷ drop (suc n) mem) (get_or_from_slice_get mem n p p found))
-    ∙ ap (λ pages. take n mem ++ pages) (write_from-first p (drop (suc n) mem) (address % 4096) new some fits)
+    ap (λ pages. take n mem ++ write_from pages (address % 4096) new) (drop-cons mem n p there ∙ ap (λ q. q ∷ drop (suc n) mem) (get_or_from_slice_get _ n p p found))
+    ∙ ap (λ pages. take n mem ++ pages) (write_from-first p _ _ some fits)
     ∙ sym (set_split mem n (record { bytes = overwrite p.bytes (address % 4096) new; marks = p.marks }) there)
 
 -- the frames after a change show the memory after it
-pub memory_of-changed : (ram : List (List ℕ)) (mapping : List Mapped) (change : Change) → IsSound ram mapping → Stores (memory_of ram mapping) change
+memory_of-changed : {ram : Ram} {mapping : List Mapped} (change : Change) → IsSound ram mapping → Stores (memory_of ram mapping) change
     → memory_of (changed ram mapping change) mapping ≡ memory_after (memory_of ram mapping) change
-memory_of-changed ram mapping Nothing sound stores = refl
-memory_of-changed ram mapping (Bytes address bytes) sound stores =
+memory_of-changed Nothing sound stores = refl
+memory_of-changed {ram} {mapping} (Bytes address bytes) sound stores =
     let n : ℕ = address / 4096 in
     let at : ℕ = address % 4096 in
-    let entry = stored-entry ram mapping address bytes stores in
+    let entry = stored-entry _ _ stores in
     let e : Mapped = entry.0 in
-    let fits = store-fits (memory_of ram mapping) address bytes stores in
+    let fits = store-fits stores in
     let shown : slice_get (memory_of ram mapping) n ≡ Some (page_in ram e) = slice_get-map (page_in ram) mapping n ∙ ap (option_map (page_in ram)) entry.1 in
     ap (λ o. memory_of (put_in ram o at bytes) mapping) entry.1
-    ∙ memory_of-set ram mapping n e (overwrite (slice_index_or ram e.frame []) at bytes) entry.1 (sound.inside n e entry.1) (sound.alone n e entry.1 entry.2)
-    ∙ sym (write_bytes-page (memory_of ram mapping) address bytes (page_in ram e) shown fits.0 fits.1)
+    ∙ memory_of-set _ _ n e _ entry.1 (sound.inside n e entry.1) (sound.alone n e entry.1 entry.2)
+    ∙ sym (write_bytes-page _ _ _ shown fits.0 fits.1)
 
 -- the same for what an instruction leaves
-pub memory_of-cycle : (ram : List (List ℕ)) (mapping : List Mapped) (regs : List ℕ) (pc : ℕ) (d : Computed) → IsSound ram mapping → cycle regs pc (memory_of ram mapping) ≡ Ok d
+pub memory_of-cycle : (ram : Ram) (mapping : List Mapped) (regs : List ℕ) (pc : ℕ) (d : Computed) → IsSound ram mapping → cycle regs pc (memory_of ram mapping) ≡ Ok d
     → memory_of (changed ram mapping d.change) mapping ≡ memory_after (memory_of ram mapping) d.change
-memory_of-cycle ram mapping regs pc d sound h = memory_of-changed ram mapping d.change sound (cycle-stores regs pc (memory_of ram mapping) d h)
+memory_of-cycle ram mapping regs pc d sound h = memory_of-changed d.change sound (cycle-stores _ pc _ d h)
+
+-- ---- what a caller of a step goes on with
+
+-- an instruction was done
+pub record IsDone (effect : Effect) (mapping : List Mapped) (result : Option Trap) (old new : Hart) (ram ram' : Ram) : Type 0 where
+  pub done : Computed
+  pub is : effect ≡ Ok done
+  pub result_is : result ≡ None
+  pub registers : new.registers ≡ done.regs
+  pub pc : new.pc ≡ done.pc
+  pub root : new.root ≡ old.root
+  pub memory : ram' ≡ changed ram mapping done.change
+
+-- a trap was raised, and nothing is new
+pub record IsTrapped (effect : Effect) (result : Option Trap) (old new : Hart) (ram ram' : Ram) : Type 0 where
+  pub cause : Trap
+  pub is : effect ≡ Err cause
+  pub result_is : result ≡ Some cause
+  pub hart : new ≡ old
+  pub memory : ram' ≡ ram
+
+-- either of the two
+pub follows-cases : (effect : Effect) (mapping : List Mapped) (result : Option Trap) (old new : Hart) (ram ram' : Ram) → Follows effect mapping result old new ram ram'
+    → IsDone effect mapping result old new ram ram' ⊎ IsTrapped effect result old new ram ram'
+follows-cases (Ok d) mapping result old new ram ram' h = inl (record { done = d; is = refl; result_is = h.0; registers = h.1; pc = h.2; root = h.3; memory = h.4 })
+follows-cases (Err t) mapping result old new ram ram' h = inr (record { cause = t; is = refl; result_is = h.0; hart = h.1; memory = h.2 })
+
+-- a step writes one frame of the mapping at most, and only where its page may be written
+pub follows-only : (regs : List ℕ) (pc : ℕ) (mapping : List Mapped) (result : Option Trap) (old new : Hart) (ram ram' : Ram) → IsMemory ram → IsSound ram mapping
+    → Follows (cycle regs pc (memory_of ram mapping)) mapping result old new ram ram' → WritesOnly ram mapping ram'
+follows-only regs pc mapping result old new ram ram' is sound h =
+    elim (follows-cases _ _ _ _ _ _ _ h) [
+      | inl did ↦ rw did.memory (cycle-only _ pc is sound did.is)
+      | inr trapped ↦ inl trapped.memory
+    ]
+
+-- ---- what is done at a memory that lets fewer stores through
+
+-- two pages with the same bytes, or none
+abbrev pub Alike : Option Page → Option Page → Type 0
+Alike p q = option_map (λ (a : Page). a.bytes) p ≡ option_map (λ (a : Page). a.bytes) q
+
+-- one memory has the pages of another with the same bytes, and lets fewer stores through
+pub record Narrows (low high : Memory) : Type 0 where
+  pub fetch : (address : ℕ) → Alike (page_for Fetch low address) (page_for Fetch high address)
+  pub load : (address : ℕ) → Alike (page_for Load low address) (page_for Load high address)
+  pub store : (address : ℕ) → (page_for Store low address ≡ None) ⊎ Alike (page_for Store low address) (page_for Store high address)
+
+-- Something does the same at both, or faults at a store that the first doesn't let through; at each memory between them
+-- that treats this store as the second does it does what it does there.
+abbrev pub Retries : (Memory → Effect) → Memory → Memory → Type 0
+Retries e low high = (e low ≡ e high) ⊎ ((address : ℕ) × (e low ≡ trap StorePageFault address) × (page_for Store low address ≡ None)
+    × ((mid : Memory) → Narrows mid high → Alike (page_for Store mid address) (page_for Store high address) → e mid ≡ e high))
+
+pub load-same : (regs : List ℕ) (pc : ℕ) (op : LoadOp) (rd address : ℕ) (p q : Option Page) → Alike p q → load_from regs pc op rd address p ≡ load_from regs pc op rd address q
+load-same regs pc op rd address None None h = refl
+load-same regs pc op rd address (Some p) (Some q) h =
+    let same : p.bytes ≡ q.bytes = cc in
+    ap (λ bytes. load_from regs pc op rd address (Some (record { bytes = bytes; marks = q.marks }))) same
+load-same regs pc op rd address p q h = absurd cc
+
+pub store-same : (regs : List ℕ) (pc address : ℕ) (bytes : List ℕ) (p q : Option Page) → Alike p q → store_to regs pc address bytes p ≡ store_to regs pc address bytes q
+store-same regs pc address bytes None None h = refl
+store-same regs pc address bytes (Some p) (Some q) h = refl
+store-same regs pc address bytes p q h = absurd cc
+
+fetched-same : (p q : Option Page) (regs : List ℕ) (pc : ℕ) (mem : Memory) → Alike p q → fetched p regs pc mem ≡ fetched q regs pc mem
+fetched-same None None regs pc mem h = refl
+fetched-same (Some p) (Some q) regs pc mem h =
+    let same : p.bytes ≡ q.bytes = cc in
+    ap (λ bytes. act_word (instruction_of (number (bytes_at 4 pc (record { bytes = bytes; marks = q.marks })))) regs pc mem) same
+fetched-same p q regs pc mem h = absurd cc
+
+cond-same : (b : Bool) {d e : Effect} (f : Effect) → d ≡ e → cond b d f ≡ cond b e f
+cond-same true f h = h
+cond-same false f h = refl
+
+cycle-at : (regs : List ℕ) (pc : ℕ) (mem : Memory) (o : Option Page) → Alike (page_for Fetch mem pc) o → cycle regs pc mem ≡ fetched o regs pc mem
+unfolding cycle
+cycle-at regs pc mem o same = fetched-same (page_for Fetch mem pc) o _ pc _ same
+
+-- ---- the one store that may differ
+
+-- what is done is a store of these bytes, whatever page is found
+record StoresAt (e : Memory → Effect) (high : Memory) : Type 0 where
+  pub regs : List ℕ
+  pub pc : ℕ
+  pub address : ℕ
+  pub bytes : List ℕ
+  pub is : (mid : Memory) → Narrows mid high → e mid ≡ store_to regs pc address bytes (page_for Store mid address)
+
+-- or it is the same at all memories below
+abbrev Sees : (Memory → Effect) → Memory → Type 0
+Sees e high = ((mid : Memory) → Narrows mid high → e mid ≡ e high) ⊎ StoresAt e high
+
+store-sees : (b : Bool) (regs : List ℕ) (pc address : ℕ) (bytes : List ℕ) (f : Effect) {high : Memory} → Sees (λ mem. cond b (store_to regs pc address bytes (page_for Store mem address)) f) high
+store-sees false regs pc address bytes f = inl (λ mid h. refl)
+store-sees true regs pc address bytes f = inr (record { regs = regs; pc = pc; address = address; bytes = bytes; is = λ mid h. refl })
+
+act-sees : (i : Instr) (regs : List ℕ) (pc : ℕ) {high : Memory} → Sees (act i regs pc) high
+unfolding act
+act-sees (instr.Load op rd rs1 imm) regs pc {high} =
+    let address = plus (slice_index regs rs1) (extend 12 imm) in
+    inl (λ mid h. cond-same (address % load_size op == 0) _ (load-same regs pc op rd address (page_for Load mid address) (page_for Load high address) (h.load address)))
+act-sees (instr.Store op rs1 rs2 imm) regs pc {high} =
+    let address = plus (slice_index regs rs1) (extend 12 imm) in
+    store-sees (address % store_size op == 0) regs pc address (le (store_size op) (slice_index regs rs2)) (trap StoreMisaligned address)
+act-sees _ regs pc = inl (λ mid h. refl)
+
+word-sees : (found : Option Instr) (regs : List ℕ) (pc : ℕ) {high : Memory} → Sees (act_word found regs pc) high
+word-sees None regs pc = inl (λ mid h. refl)
+word-sees (Some i) regs pc {high} = act-sees i _ pc
+
+fetched-sees : (o : Option Page) (regs : List ℕ) (pc : ℕ) {high : Memory} → Sees (fetched o regs pc) high
+fetched-sees None regs pc = inl (λ mid h. refl)
+fetched-sees (Some p) regs pc {high} = word-sees _ _ pc
+
+cycle-sees : (regs : List ℕ) (pc : ℕ) {high : Memory} → Sees (cycle regs pc) high
+cycle-sees regs pc {high} =
+    let o = page_for Fetch high pc in
+    elim (fetched-sees o _ pc) [
+      | inl same ↦ inl (λ mid h. cycle-at _ pc _ o (h.fetch pc) ∙ same mid h ∙ sym (cycle-at _ pc _ o refl))
+      | inr s ↦ inr (record { regs = s.regs; pc = s.pc; address = s.address; bytes = s.bytes; is = λ mid h. cycle-at _ pc _ o (h.fetch pc) ∙ s.is mid h })
+    ]
+
+-- it does the same where the page is alike
+store-alike : {e : Memory → Effect} {mid high : Memory} (s : StoresAt e high) → Narrows mid high → Alike (page_for Store mid s.address) (page_for Store high s.address) → e mid ≡ e high
+store-alike {mid} {high} s h same =
+    s.is mid h ∙ store-same _ _ _ _ (page_for Store mid s.address) (page_for Store high s.address) same
+    ∙ sym (s.is high (record { fetch = λ address. refl; load = λ address. refl; store = λ address. inr refl }))
+
+pub cycle-retries : (regs : List ℕ) (pc : ℕ) (low high : Memory) → Narrows low high → Retries (cycle regs pc) low high
+cycle-retries regs pc low high h = elim (cycle-sees _ pc) [
+  | inl same ↦ inl (same low h)
+  | inr s ↦ elim (h.store s.address) [
+    | inl none ↦ inr (s.address, s.is low h ∙ ap (store_to s.regs s.pc s.address s.bytes) none, none, λ mid nm same. store-alike s nm same)
+    | inr same ↦ inl (store-alike s h same)
+  ]
+]
+
+-- ---- once more, where the store is let through then
+
+abbrev fault_at : Effect → ℕ
+fault_at (Ok d) = 0
+fault_at (Err t) = t.address
+
+-- a store faults at its own address
+store-fault : (o : Option Page) (regs : List ℕ) (pc : ℕ) {address a : ℕ} (bytes : List ℕ) → store_to regs pc address bytes o ≡ trap StorePageFault a → address ≡ a
+store-fault None regs pc bytes e = ap fault_at e
+store-fault (Some p) regs pc bytes e = absurd cc
+
+-- An instruction that faulted at a store does, at a memory that treats this store as the second does, what it does there.
+pub cycle-again : (regs : List ℕ) (pc a : ℕ) (low mid high : Memory) → Narrows low high → Narrows mid high → Alike (page_for Store mid a) (page_for Store high a) → cycle regs pc low ≡ trap StorePageFault a → cycle regs pc mid ≡ cycle regs pc high
+cycle-again regs pc a low mid high down between lets fault = elim (cycle-sees _ pc) [
+  | inl same ↦ same mid between
+  | inr s ↦
+      let same : s.address ≡ a = store-fault _ _ _ _ (sym (s.is low down) ∙ fault) in
+      store-alike s between (rw same lets)
+]

@@ -41,3 +41,4 @@ pub use Rattle.hart.specs.declared.act.Next.{Next}
 pub use Rattle.hart.specs.declared.act.Next.TheVariants.{At, Behind, Stop}
 pub use Rattle.hart.specs.declared.operation.Op.{Op}
 pub use Rattle.hart.specs.declared.state.Hart.{Hart}
+pub use Rattle.hart.proofs.Ram.{Ram}

@@ -1,34 +1,46 @@
 -- Steps whose accesses a translator answers.
-use Rattle.hart.proofs.Common.{[], Access, act, act_by, act_word, allowed, and_parts, Answers, ap, AreAllowed, arith, Bool, Bytes, bytes_at, Cause, Change, changed, Computed, Computes, cycle, cycle_by, Effect, eq-eqb, eqb-true, Err, extend}
-use Rattle.hart.proofs.Common.{false, Fetch, fetched, fetched_by, Follows, frame_for, given, Hart, HasEffect, Held, IfSome, if◌then◌else◌, IllegalInstruction, inl, inr, Instr, instruction_of, InstructionPageFault, IsAnswer, IsKept, IsStep}
-use Rattle.hart.proofs.Common.{le, List, Load, load_size, LoadMisaligned, Mapped, Memory, memory_of, None, Nothing, number, Ok, Option, option_map, Page, page_for, page_in, place_in, plus, put_at, put_in, refl, seen, Shows, Sight}
-use Rattle.hart.proofs.Common.{slice_get, slice_index, Some, Store, store_size, stored, StoreMisaligned, Stores, subst, sym, Trap, trap, true, walk_page, word_by, ℕ, ◌%◌, ◌&&◌, ◌-◌, ◌/◌, ◌==◌, ◌∙◌, ◌≡◌}
-use Rattle.hart.proofs.ChangeLemmas.{stored-entry}
-use Rattle.hart.proofs.CycleLemmas.{cycle-stores}
-use Rattle.hart.proofs.Mappings.{page_for-memory_of}
-use Rattle.hart.proofs.Retries.{Alike, load-same, store-same}
+use Rattle.hart.proofs.Common.{Ram, Access, allowed, ap, cond, false, Held, HoldsInside, inl, inr, IsKept, List, Mapped, memory_of, None, Option, option_map, page_for, page_in, permits, permitted, refl, slice_get, slice_get-map, Some, true}
+use Rattle.hart.proofs.Common.{walk_page-inside, ℕ, ◌/◌, ◌∙◌, ◌≡◌, [], act, act_by, act_word, and_parts, Answers, AreAllowed, arith, Bool, Bytes, bytes_at, Cause, Change, changed, Computed, Computes, cycle, cycle_by, Effect, eq-eqb}
+use Rattle.hart.proofs.Common.{eqb-true, Err, extend, Fetch, fetched, fetched_by, Follows, frame_for, given, Hart, HasEffect, IfSome, if◌then◌else◌, IllegalInstruction, Instr, instruction_of, InstructionPageFault, IsAnswer, IsStep, Load}
+use Rattle.hart.proofs.Common.{load_size, LoadMisaligned, Memory, Nothing, number, Ok, Page, place_in, plus, put_at, put_in, seen, Shows, Sight, slice_index, Store, store_size, stored, StoreMisaligned, Stores, subst, sym, Trap, trap}
+use Rattle.hart.proofs.Common.{walk_page, word_by, ◌%◌, ◌&&◌, ◌-◌, ◌==◌}
+use Rattle.hart.proofs.ChangeLemmas.{stored-entry, cycle-stores, Alike, load-same, store-same}
 use Rattle.unixmodel.specs.declared.instr.Instr.TheVariants as instr
+
+-- ---- a mapping and the memory that it shows
+
+permitted-page_in : (ram : Ram) (access : Access) (o : Option Mapped) → permitted access (option_map (page_in ram) o) ≡ option_map (page_in ram) (allowed access o)
+permitted-page_in ram access None = refl
+permitted-page_in ram access (Some e) = elim (permits access e.marks) as (λ b. cond b (Some (page_in ram e)) None ≡ option_map (page_in ram) (cond b (Some e) None)) [ true ↦ refl | false ↦ refl ]
+
+-- the page of an address is that of its entry
+pub page_for-memory_of : (ram : Ram) (mapping : List Mapped) (access : Access) (address : ℕ) → page_for access (memory_of ram mapping) address ≡ option_map (page_in ram) (allowed access (slice_get mapping (address / 4096)))
+page_for-memory_of ram mapping access address = ap (permitted access) (slice_get-map (page_in ram) mapping (address / 4096)) ∙ permitted-page_in _ _ _
+
+-- the walk gives frames of the memory only
+pub inside-kept : {old new : Held} (ram : Ram) {root : ℕ} → HoldsInside old ram → IsKept old new ram root → HoldsInside new ram
+inside-kept ram inside kept t h = elim (kept t h) [ inl before ↦ inside t before | inr now ↦ walk_page-inside ram t.root t.page t.access t.frame now.1 ]
 
 -- ---- an answer
 
-pub frame_in : (va frame pa : ℕ) → pa ≡ place_in va frame → pa / 4096 - 0x80000 ≡ frame
-frame_in va frame pa is = omega (arith, is)
+frame_in : (va : ℕ) {frame pa : ℕ} → pa ≡ place_in va frame → pa / 4096 - 0x80000 ≡ frame
+frame_in va is = omega (arith, is)
 
-walked-frame : (va pa : ℕ) (o : Option ℕ) → Some pa ≡ option_map (place_in va) o → Some (place_in va (pa / 4096 - 0x80000)) ≡ option_map (place_in va) o
-walked-frame va pa None h = absurd (cc)
-walked-frame va pa (Some f) h =
-    ap (λ n. Some (place_in va n)) (frame_in va f pa cc)
+walked-frame : (va : ℕ) {pa : ℕ} (o : Option ℕ) → Some pa ≡ option_map (place_in va) o → Some (place_in va (pa / 4096 - 0x80000)) ≡ option_map (place_in va) o
+walked-frame va None h = absurd (cc)
+walked-frame va {pa} (Some f) h =
+    ap (λ n. Some (place_in va n)) (frame_in va cc)
 
 -- an address that was answered is a place in a frame
-pub answered-frame : (held : Held) (ram : List (List ℕ)) (root va pa : ℕ) (access : Access) → IsAnswer held ram root va access (Some pa) → IsAnswer held ram root va access (Some (place_in va (pa / 4096 - 0x80000)))
-answered-frame held ram root va pa access (inl now) = inl (walked-frame va pa (walk_page ram root (va / 4096) access).frame now)
-answered-frame held ram root va pa access (inr kept) =
-    inr (kept.0, kept.1, ap (λ n. Some (place_in va n)) (frame_in va kept.0 pa (cc (kept.2))))
+pub answered-frame : (held : Held) (ram : Ram) {root : ℕ} (va : ℕ) {pa : ℕ} {access : Access} → IsAnswer held ram root va access (Some pa) → IsAnswer held ram root va access (Some (place_in va (pa / 4096 - 0x80000)))
+answered-frame held ram {root} va {pa} {access} (inl now) = inl (walked-frame va _ now)
+answered-frame held ram va {pa} (inr kept) =
+    inr (kept.0, kept.1, ap (λ n. Some (place_in va n)) (frame_in va (cc kept.2)))
 
 -- what may be answered later may be answered before
-pub answered-kept : (old new : Held) (ram : List (List ℕ)) (root va : ℕ) (access : Access) (answer : Option ℕ) → IsKept old new ram root → IsAnswer new ram root va access answer → IsAnswer old ram root va access answer
-answered-kept old new ram root va access answer kept (inl walked) = inl walked
-answered-kept old new ram root va access answer kept (inr held) =
+answered-kept : {old new : Held} (ram : Ram) {root : ℕ} (va : ℕ) {access : Access} {answer : Option ℕ} → IsKept old new ram root → IsAnswer new ram root va access answer → IsAnswer old ram root va access answer
+answered-kept ram va kept (inl walked) = inl walked
+answered-kept ram {root} va {access} kept (inr held) =
     elim (kept (record { root = root; page = va / 4096; access = access; frame = held.0 }) held.1) [
       | inl before ↦ inr (held.0, before, held.2)
       | inr now ↦ inl (held.2 ∙ ap (option_map (place_in va)) (sym now.1))
@@ -37,7 +49,7 @@ answered-kept old new ram root va access answer kept (inr held) =
 -- ---- answers
 
 -- those of the walk
-abbrev pub walked : List (List ℕ) → ℕ → Answers
+abbrev pub walked : Ram → ℕ → Answers
 walked ram root access address = (walk_page ram root (address / 4096) access).frame
 
 abbrev same : Access → Access → Bool
@@ -61,18 +73,18 @@ same-self Store = refl
 abbrev pub with_answer : Access → ℕ → Option ℕ → Answers → Answers
 with_answer access address o answers a b = if same access a && (address == b) then o else answers a b
 
-pub with_answer-itself : (access : Access) (address : ℕ) (o : Option ℕ) (answers : Answers) → with_answer access address o answers access address ≡ o
-with_answer-itself access address o answers = rw (same-self access, eq-eqb address address refl) refl
+with_answer-itself : (access : Access) (address : ℕ) {o : Option ℕ} (answers : Answers) → with_answer access address o answers access address ≡ o
+with_answer-itself access address answers = rw (same-self access, eq-eqb address address refl) refl
 
-chosen : (held : Held) (ram : List (List ℕ)) (root va : ℕ) (access : Access) (t : Bool) (o p : Option ℕ)
+chosen : (held : Held) (ram : Ram) (root va : ℕ) (access : Access) (t : Bool) (o p : Option ℕ)
     → (t ≡ true → IsAnswer held ram root va access (option_map (place_in va) o)) → IsAnswer held ram root va access (option_map (place_in va) p)
     → IsAnswer held ram root va access (option_map (place_in va) (if t then o else p))
 chosen held ram root va access true o p f g = f refl
 chosen held ram root va access false o p f g = g
 
-pub with_answer-allowed : (held : Held) (ram : List (List ℕ)) (root : ℕ) (access : Access) (address : ℕ) (o : Option ℕ) (answers : Answers) → AreAllowed held ram root answers
+with_answer-allowed : (held : Held) (ram : Ram) {root : ℕ} {access : Access} (address : ℕ) (o : Option ℕ) (answers : Answers) → AreAllowed held ram root answers
     → IsAnswer held ram root address access (option_map (place_in address) o) → AreAllowed held ram root (with_answer access address o answers)
-with_answer-allowed held ram root access address o answers allowed is a b =
+with_answer-allowed held ram {root} {access} address o answers allowed is a b =
     chosen held ram root b a (same access a && (address == b)) o (answers a b)
     (λ h.
     let both = and_parts (same access a) (address == b) h in
@@ -82,21 +94,21 @@ with_answer-allowed held ram root access address o answers allowed is a b =
     (allowed a b)
 
 -- some allowed answers have this one
-pub one-answer : (held : Held) (ram : List (List ℕ)) (root : ℕ) (access : Access) (address : ℕ) (o : Option ℕ) → IsAnswer held ram root address access (option_map (place_in address) o)
+pub one-answer : (held : Held) (ram : Ram) {root : ℕ} {access : Access} {address : ℕ} {o : Option ℕ} → IsAnswer held ram root address access (option_map (place_in address) o)
     → (answers : Answers) × AreAllowed held ram root answers × (answers access address ≡ o)
-one-answer held ram root access address o is =
-    (with_answer access address o (walked ram root), with_answer-allowed held ram root access address o (walked ram root) (λ a b. inl refl) is, with_answer-itself access address o (walked ram root))
+one-answer held ram {root} {access} {address} {o} is =
+    (with_answer access address o (walked ram root), with_answer-allowed held ram address o (walked ram root) (λ a b. inl refl) is, with_answer-itself access address (walked ram root))
 
 -- ---- steps without an access
 
-pub does_computes : (effect : Effect) (answers : Answers) (result : Option Trap) (old new : Hart) (ram : List (List ℕ)) → Computes effect result old new → HasEffect effect answers result old new ram ram
+pub does_computes : (effect : Effect) (answers : Answers) (result : Option Trap) (old new : Hart) (ram : Ram) → Computes effect result old new → HasEffect effect answers result old new ram ram
 does_computes (Ok d) answers result old new ram h = (h.0, h.1, h.2, h.3, ap (stored ram answers) (sym h.4))
 does_computes (Err t) answers result old new ram h = (h.0, h.1, refl)
 
 -- whatever is answered
-step_unanswered : (held : Held) (meaning : Sight → Effect) (result : Option Trap) (old new : Hart) (ram : List (List ℕ))
+step_unanswered : {held : Held} {meaning : Sight → Effect} {result : Option Trap} {old new : Hart} {ram : Ram}
     → ((answers : Answers) → HasEffect (meaning (seen ram answers)) answers result old new ram ram) → IsStep held meaning result old new ram ram
-step_unanswered held meaning result old new ram does = record { answers = walked ram old.root.0; allowed = λ access address. inl refl; does = does (walked ram old.root.0) }
+step_unanswered {old} {ram} does = record { answers = walked ram old.root.0; allowed = λ access address. inl refl; does = does (walked ram old.root.0) }
 
 -- all instructions but loads and stores
 abbrev pub has_no_access : Instr → Bool
@@ -110,26 +122,26 @@ act_by-without (instr.Load op rd rs1 imm) regs pc see h = absurd (cc)
 act_by-without (instr.Store op rs1 rs2 imm) regs pc see h = absurd (cc)
 act_by-without _ regs pc see h = refl
 
-pub step_acts : (held : Held) (i : Instr) (result : Option Trap) (old new : Hart) (ram : List (List ℕ)) → has_no_access i ≡ true → Computes (act i old.registers old.pc []) result old new
+pub step_acts : (held : Held) (i : Instr) (result : Option Trap) (old new : Hart) (ram : Ram) → has_no_access i ≡ true → Computes (act i old.registers old.pc []) result old new
     → IsStep held (act_by i old.registers old.pc) result old new ram ram
 step_acts held i result old new ram none h =
-    step_unanswered held (act_by i old.registers old.pc) result old new ram (λ answers.
+    step_unanswered (λ answers.
     rw (act_by-without i old.registers old.pc (seen ram answers) none) (does_computes (act i old.registers old.pc []) answers result old new ram h))
 
 -- ---- a step with one access
 
 -- the meaning looks at one access alone, and was answered so
-pub step_answered : (held : Held) (meaning : Sight → Effect) (result : Option Trap) (old new : Hart) (ram ram' : List (List ℕ)) (access : Access) (address : ℕ) (o : Option ℕ)
+step_answered : (held : Held) (meaning : Sight → Effect) (result : Option Trap) (old new : Hart) (ram ram' : Ram) (access : Access) (address : ℕ) (o : Option ℕ)
     → IsAnswer held ram old.root.0 address access (option_map (place_in address) o)
     → ((answers : Answers) → answers access address ≡ o → HasEffect (meaning (seen ram answers)) answers result old new ram ram')
     → IsStep held meaning result old new ram ram'
 step_answered held meaning result old new ram ram' access address o is does =
-    let one = one-answer held ram old.root.0 access address o is in
+    let one = one-answer held ram is in
     record { answers = one.0; allowed = one.1; does = does one.0 one.2 }
 
 -- ---- traps
 
-pub trap-still : (effect : Effect) (answers : Answers) (result : Option Trap) (old new : Hart) (ram ram' : List (List ℕ)) → HasEffect effect answers result old new ram ram'
+pub trap-still : (effect : Effect) (answers : Answers) (result : Option Trap) (old new : Hart) (ram ram' : Ram) → HasEffect effect answers result old new ram ram'
     → IfSome result (λ t. (new ≡ old) × (ram' ≡ ram))
 trap-still (Ok d) answers result old new ram ram' h = rw h.0 tt
 trap-still (Err t) answers result old new ram ram' h = rw h.0 (h.1, h.2)
@@ -137,66 +149,66 @@ trap-still (Err t) answers result old new ram ram' h = rw h.0 (h.1, h.2)
 -- ---- loads and stores
 
 -- at an address that isn't aligned
-pub step-odd : (held : Held) (ram : List (List ℕ)) (old new : Hart) (result : Option Trap) (even : Bool) (found : Option Page → Effect) (access : Access) (cause : Cause) (address : ℕ) → even ≡ false
+pub step-odd : {held : Held} {ram : Ram} {old new : Hart} {result : Option Trap} {even : Bool} (found : Option Page → Effect) (access : Access) (cause : Cause) (address : ℕ) → even ≡ false
     → Computes (trap cause address) result old new → IsStep held (λ see. if even then found (see access address) else trap cause address) result old new ram ram
-step-odd held ram old new result even found access cause address odd h = step_unanswered held _ result old new ram (λ answers. rw odd (does_computes (trap cause address) answers result old new ram h))
+step-odd {held} {ram} {old} {new} {result} found access cause address odd h = step_unanswered (λ answers. rw odd (does_computes (trap cause address) answers result old new ram h))
 
 -- and at one that is
-pub step-even : (held : Held) (ram ram' : List (List ℕ)) (old new : Hart) (result : Option Trap) (even : Bool) (found : Option Page → Effect) (access : Access) (cause : Cause) (address : ℕ) (o : Option ℕ) → even ≡ true
+pub step-even : {held : Held} {ram ram' : Ram} {old new : Hart} {result : Option Trap} {even : Bool} (found : Option Page → Effect) (access : Access) (cause : Cause) {address : ℕ} (o : Option ℕ) → even ≡ true
     → IsAnswer held ram old.root.0 address access (option_map (place_in address) o) → ((answers : Answers) → answers access address ≡ o → HasEffect (found (option_map (given ram) o)) answers result old new ram ram')
     → IsStep held (λ see. if even then found (see access address) else trap cause address) result old new ram ram'
-step-even held ram ram' old new result even found access cause address o aligned is h =
+step-even {held} {ram} {ram'} {old} {new} {result} found access cause {address} o aligned is h =
     step_answered held _ result old new ram ram' access address o is (λ answers same. rw (aligned, same) (h answers same))
 
 -- ---- the instruction at the pc
 
 -- but for a fetch an instruction looks at the same answers
-act_by-fetch : (i : Instr) (regs : List ℕ) (pc at : ℕ) (ram : List (List ℕ)) (o : Option ℕ) (answers : Answers)
+act_by-fetch : (i : Instr) (regs : List ℕ) (pc at : ℕ) (ram : Ram) (o : Option ℕ) (answers : Answers)
     → act_by i regs pc (seen ram (with_answer Fetch at o answers)) ≡ act_by i regs pc (seen ram answers)
 unfolding act_by
 act_by-fetch (instr.Load op rd rs1 imm) regs pc at ram o answers = refl
 act_by-fetch _ regs pc at ram o answers = refl
 
-stored-fetch : (ram : List (List ℕ)) (at : ℕ) (o : Option ℕ) (answers : Answers) (change : Change) → stored ram (with_answer Fetch at o answers) change ≡ stored ram answers change
+stored-fetch : (ram : Ram) (at : ℕ) (o : Option ℕ) (answers : Answers) (change : Change) → stored ram (with_answer Fetch at o answers) change ≡ stored ram answers change
 stored-fetch ram at o answers Nothing = refl
 stored-fetch ram at o answers (Bytes address bytes) = refl
 
-does-fetch : (effect : Effect) (at : ℕ) (o : Option ℕ) (answers : Answers) (result : Option Trap) (old new : Hart) (ram ram' : List (List ℕ)) → HasEffect effect answers result old new ram ram'
+does-fetch : (effect : Effect) (at : ℕ) (o : Option ℕ) (answers : Answers) (result : Option Trap) (old new : Hart) (ram ram' : Ram) → HasEffect effect answers result old new ram ram'
     → HasEffect effect (with_answer Fetch at o answers) result old new ram ram'
 does-fetch (Ok d) at o answers result old new ram ram' h = (h.0, h.1, h.2, h.3, h.4 ∙ sym (stored-fetch ram at o answers d.change))
 does-fetch (Err t) at o answers result old new ram ram' h = h
 
 -- nothing was fetched
-pub step-unfetched : (held : Held) (ram : List (List ℕ)) (old new : Hart) (result : Option Trap) → IsAnswer held ram old.root.0 old.pc Fetch None
+pub step-unfetched : {held : Held} {ram : Ram} {old new : Hart} {result : Option Trap} → IsAnswer held ram old.root.0 old.pc Fetch None
     → Computes (trap InstructionPageFault old.pc) result old new → IsStep held (cycle_by old.registers old.pc) result old new ram ram
 unfolding cycle_by
-step-unfetched held ram old new result is h =
+step-unfetched {held} {ram} {old} {new} {result} is h =
     step_answered held (cycle_by old.registers old.pc) result old new ram ram Fetch old.pc None is (λ answers same.
     rw same (does_computes (trap InstructionPageFault old.pc) answers result old new ram h))
 
 -- the word that was fetched is no instruction
-pub step-illegal : (held : Held) (ram : List (List ℕ)) (old new : Hart) (result : Option Trap) (f word : ℕ) → IsAnswer held ram old.root.0 old.pc Fetch (Some (place_in old.pc f))
+pub step-illegal : {held : Held} {ram : Ram} {old new : Hart} {result : Option Trap} (f : ℕ) {word : ℕ} → IsAnswer held ram old.root.0 old.pc Fetch (Some (place_in old.pc f))
     → word ≡ number (bytes_at 4 old.pc (given ram f)) → instruction_of word ≡ None
     → Computes (trap IllegalInstruction old.pc) result old new → IsStep held (cycle_by old.registers old.pc) result old new ram ram
 unfolding cycle_by
-step-illegal held ram old new result f word is read none h =
+step-illegal {held} {ram} {old} {new} {result} f is read none h =
     step_answered held (cycle_by old.registers old.pc) result old new ram ram Fetch old.pc (Some f) is (λ answers same.
     rw (same, ← read, none) (does_computes (trap IllegalInstruction old.pc) answers result old new ram h))
 
 -- it is one, which was done
-pub step-executed : (held mid : Held) (ram ram' : List (List ℕ)) (old new : Hart) (result : Option Trap) (f word : ℕ) (i : Instr) → IsAnswer held ram old.root.0 old.pc Fetch (Some (place_in old.pc f))
+pub step-executed : {held mid : Held} {ram ram' : Ram} {old new : Hart} {result : Option Trap} (f : ℕ) {word : ℕ} {i : Instr} → IsAnswer held ram old.root.0 old.pc Fetch (Some (place_in old.pc f))
     → IsKept held mid ram old.root.0
     → word ≡ number (bytes_at 4 old.pc (given ram f)) → instruction_of word ≡ Some i
     → IsStep mid (act_by i old.registers old.pc) result old new ram ram' → IsStep held (cycle_by old.registers old.pc) result old new ram ram'
 unfolding cycle_by
-step-executed held mid ram ram' old new result f word i is kept read found step =
+step-executed {held} {mid} {ram} {ram'} {old} {new} {result} f {i} is kept read found step =
     let answers : Answers = with_answer Fetch old.pc (Some f) step.answers in
-    let before : AreAllowed held ram old.root.0 step.answers = λ access address. answered-kept held mid ram old.root.0 address access _ kept (step.allowed access address) in
-    let itself : with_answer Fetch old.pc (Some f) step.answers Fetch old.pc ≡ Some f = with_answer-itself Fetch old.pc (Some f) step.answers in
-    let is_act : cycle_by old.registers old.pc (seen ram answers) ≡ act_by i old.registers old.pc (seen ram step.answers) = rw (itself, ← read, found) (act_by-fetch i old.registers old.pc old.pc ram (Some f) step.answers) in
+    let before : AreAllowed held ram old.root.0 step.answers = λ access address. answered-kept _ _ kept (step.allowed access address) in
+    let itself : with_answer Fetch old.pc (Some f) step.answers Fetch old.pc ≡ Some f = with_answer-itself Fetch old.pc step.answers in
+    let is_act : cycle_by old.registers old.pc (seen ram answers) ≡ act_by i old.registers old.pc (seen ram step.answers) = rw (itself, ← read, found) (act_by-fetch i _ _ _ _ _ _) in
     record {
       answers = answers;
-      allowed = with_answer-allowed held ram old.root.0 Fetch old.pc (Some f) step.answers before is;
+      allowed = with_answer-allowed held ram old.pc (Some f) step.answers before is;
       does = rw is_act (does-fetch (act_by i old.registers old.pc (seen ram step.answers)) old.pc (Some f) step.answers result old new ram ram' step.does);
     }
 
@@ -209,21 +221,21 @@ place-frame va (Some f) (Some g) h =
     ap Some (omega (arith, is))
 place-frame _ _ _ h = absurd cc
 
-pub shown-answer : (held : Held) (ram : List (List ℕ)) (root : ℕ) (mapping : List Mapped) (answers : Answers) → Shows held ram root mapping → AreAllowed held ram root answers
+pub shown-answer : (held : Held) (ram : Ram) {root : ℕ} (mapping : List Mapped) (answers : Answers) → Shows held ram root mapping → AreAllowed held ram root answers
     → (access : Access) (address : ℕ) → answers access address ≡ frame_for mapping (address / 4096) access
-shown-answer held ram root mapping answers shows allowed access address =
-    place-frame address (answers access address) (frame_for mapping (address / 4096) access) (shows address access _ (allowed access address))
+shown-answer held ram mapping answers shows allowed access address =
+    place-frame _ (answers access address) (frame_for mapping (address / 4096) access) (shows address access _ (allowed access address))
 
-given-alike : (ram : List (List ℕ)) (o : Option Mapped) → Alike (option_map (given ram) (option_map (λ (e : Mapped). e.frame) o)) (option_map (page_in ram) o)
+given-alike : (ram : Ram) (o : Option Mapped) → Alike (option_map (given ram) (option_map (λ (e : Mapped). e.frame) o)) (option_map (page_in ram) o)
 given-alike ram None = refl
 given-alike ram (Some e) = refl
 
-pub seen-alike : (held : Held) (ram : List (List ℕ)) (root : ℕ) (mapping : List Mapped) (answers : Answers) → Shows held ram root mapping → AreAllowed held ram root answers
+pub seen-alike : (held : Held) (ram : Ram) {root : ℕ} (mapping : List Mapped) (answers : Answers) → Shows held ram root mapping → AreAllowed held ram root answers
     → (access : Access) (address : ℕ) → Alike (seen ram answers access address) (page_for access (memory_of ram mapping) address)
-seen-alike held ram root mapping answers shows allowed_all access address =
+seen-alike held ram {root} mapping answers shows allowed_all access address =
     let o : Option Mapped = allowed access (slice_get mapping (address / 4096)) in
-    ap (λ f. option_map (λ (a : Page). a.bytes) (option_map (given ram) f)) (shown-answer held ram root mapping answers shows allowed_all access address)
-    ∙ given-alike ram o
+    ap (λ f. option_map (λ (a : Page). a.bytes) (option_map (given ram) f)) (shown-answer held ram mapping answers shows allowed_all access address)
+    ∙ given-alike _ o
     ∙ ap (option_map (λ (a : Page). a.bytes)) (sym (page_for-memory_of ram mapping access address))
 
 act_by-alike : (i : Instr) (regs : List ℕ) (pc : ℕ) (see : Sight) (mem : Memory) → ((access : Access) (address : ℕ) → Alike (see access address) (page_for access mem address))
@@ -232,60 +244,60 @@ unfolding act_by act
 act_by-alike (instr.Load op rd rs1 imm) regs pc see mem h =
     let address : ℕ = plus (slice_index regs rs1) (extend 12 imm) in
     ap (λ e. if address % load_size op == 0 then e else trap LoadMisaligned address)
-    (load-same regs pc op rd address (see Load address) (page_for Load mem address) (h Load address))
+    (load-same _ pc op rd _ (see Load address) (page_for Load mem address) (h Load address))
 act_by-alike (instr.Store op rs1 rs2 imm) regs pc see mem h =
     let address : ℕ = plus (slice_index regs rs1) (extend 12 imm) in
     ap (λ e. if address % store_size op == 0 then e else trap StoreMisaligned address)
-    (store-same regs pc address (le (store_size op) (slice_index regs rs2)) (see Store address) (page_for Store mem address) (h Store address))
+    (store-same _ pc _ _ (see Store address) (page_for Store mem address) (h Store address))
 act_by-alike _ regs pc see mem h = refl
 
 pub word_by-alike : (found : Option Instr) (regs : List ℕ) (pc : ℕ) (see : Sight) (mem : Memory) → ((access : Access) (address : ℕ) → Alike (see access address) (page_for access mem address))
     → word_by found regs pc see ≡ act_word found regs pc mem
 word_by-alike None regs pc see mem h = refl
-word_by-alike (Some i) regs pc see mem h = act_by-alike i regs pc see mem h
+word_by-alike (Some i) regs pc see mem h = act_by-alike i _ pc _ _ h
 
 fetched_by-alike : (o p : Option Page) (regs : List ℕ) (pc : ℕ) (see : Sight) (mem : Memory) → Alike o p → ((access : Access) (address : ℕ) → Alike (see access address) (page_for access mem address))
     → fetched_by o regs pc see ≡ fetched p regs pc mem
 fetched_by-alike None None regs pc see mem same h = refl
 fetched_by-alike (Some o) (Some p) regs pc see mem same h =
-    let bytes : o.bytes ≡ p.bytes = cc (same) in
+    let bytes : o.bytes ≡ p.bytes = cc same in
     ap (λ bs. word_by (instruction_of (number (bytes_at 4 pc (record { bytes = bs; marks = p.marks })))) regs pc see) bytes
-    ∙ word_by-alike (instruction_of (number (bytes_at 4 pc p))) regs pc see mem h
-fetched_by-alike _ _ regs pc see mem same h = absurd (cc (same))
+    ∙ word_by-alike _ _ pc _ _ h
+fetched_by-alike _ _ regs pc see mem same h = absurd (cc same)
 
 -- what is seen alike means alike
-pub cycle_by-alike : (regs : List ℕ) (pc : ℕ) (see : Sight) (mem : Memory) → ((access : Access) (address : ℕ) → Alike (see access address) (page_for access mem address))
+cycle_by-alike : (regs : List ℕ) (pc : ℕ) (see : Sight) (mem : Memory) → ((access : Access) (address : ℕ) → Alike (see access address) (page_for access mem address))
     → cycle_by regs pc see ≡ cycle regs pc mem
 unfolding cycle_by cycle
-cycle_by-alike regs pc see mem h = fetched_by-alike (see Fetch pc) (page_for Fetch mem pc) regs pc see mem (h Fetch pc) h
+cycle_by-alike regs pc see mem h = fetched_by-alike (see Fetch pc) (page_for Fetch mem pc) _ pc _ _ (h Fetch pc) h
 
 -- the frame that a store was given is that of the mapping
-pub stored-changed : (ram : List (List ℕ)) (mapping : List Mapped) (answers : Answers) (change : Change) → ((access : Access) (address : ℕ) → answers access address ≡ frame_for mapping (address / 4096) access)
+pub stored-changed : (ram : Ram) (mapping : List Mapped) {answers : Answers} (change : Change) → ((access : Access) (address : ℕ) → answers access address ≡ frame_for mapping (address / 4096) access)
     → Stores (memory_of ram mapping) change → stored ram answers change ≡ changed ram mapping change
-stored-changed ram mapping answers Nothing shown stores = refl
-stored-changed ram mapping answers (Bytes address bytes) shown stores =
-    let entry = stored-entry ram mapping address bytes stores in
+stored-changed ram mapping Nothing shown stores = refl
+stored-changed ram mapping {answers} (Bytes address bytes) shown stores =
+    let entry = stored-entry _ _ stores in
     let e : Mapped = entry.0 in
     let found : allowed Store (slice_get mapping (address / 4096)) ≡ Some e = ap (allowed Store) entry.1 ∙ ap (λ t. if t then Some e else None) entry.2 in
     let frame : answers Store address ≡ Some e.frame = shown Store address ∙ ap (option_map (λ (d : Mapped). d.frame)) found in
     ap (λ o. put_at ram o (address % 4096) bytes) frame
     ∙ sym (ap (λ o. put_in ram o (address % 4096) bytes) entry.1)
 
-does-follows : (effect : Effect) (mapping : List Mapped) (answers : Answers) (result : Option Trap) (old new : Hart) (ram ram' : List (List ℕ))
+does-follows : (effect : Effect) (mapping : List Mapped) {answers : Answers} (result : Option Trap) (old new : Hart) (ram ram' : Ram)
     → ((access : Access) (address : ℕ) → answers access address ≡ frame_for mapping (address / 4096) access)
     → ((d : Computed) → effect ≡ Ok d → Stores (memory_of ram mapping) d.change)
     → HasEffect effect answers result old new ram ram' → Follows effect mapping result old new ram ram'
-does-follows (Ok d) mapping answers result old new ram ram' shown stores h =
-    (h.0, h.1, h.2, h.3, h.4 ∙ stored-changed ram mapping answers d.change shown (stores d refl))
-does-follows (Err t) mapping answers result old new ram ram' shown stores h = h
+does-follows (Ok d) mapping {answers} result old new ram ram' shown stores h =
+    (h.0, h.1, h.2, h.3, h.4 ∙ stored-changed _ _ d.change shown (stores d refl))
+does-follows (Err t) mapping result old new ram ram' shown stores h = h
 
 -- a step is the cycle on the memory of each mapping that all allowed answers agree with
-pub step-follows : (held : Held) (mapping : List Mapped) (result : Option Trap) (old new : Hart) (ram ram' : List (List ℕ)) → Shows held ram old.root.0 mapping
+pub step-follows : {held : Held} (mapping : List Mapped) {result : Option Trap} {old new : Hart} {ram ram' : Ram} → Shows held ram old.root.0 mapping
     → IsStep held (cycle_by old.registers old.pc) result old new ram ram' → Follows (cycle old.registers old.pc (memory_of ram mapping)) mapping result old new ram ram'
-step-follows held mapping result old new ram ram' shows step =
+step-follows {held} mapping {result} {old} {new} {ram} {ram'} shows step =
     let mem : Memory = memory_of ram mapping in
-    let is : cycle_by old.registers old.pc (seen ram step.answers) ≡ cycle old.registers old.pc mem = cycle_by-alike old.registers old.pc (seen ram step.answers) mem (seen-alike held ram old.root.0 mapping step.answers shows step.allowed) in
-    does-follows (cycle old.registers old.pc mem) mapping step.answers result old new ram ram'
-    (shown-answer held ram old.root.0 mapping step.answers shows step.allowed)
-    (cycle-stores old.registers old.pc mem)
+    let is : cycle_by old.registers old.pc (seen ram step.answers) ≡ cycle old.registers old.pc mem = cycle_by-alike old.registers old.pc (seen ram step.answers) mem (seen-alike held ram mapping step.answers shows step.allowed) in
+    does-follows (cycle old.registers old.pc mem) _ _ _ _ _ _
+    (shown-answer held ram mapping step.answers shows step.allowed)
+    (cycle-stores _ _ _)
     (rw is at step.does)

@@ -15,8 +15,7 @@ unfoldable pub use Rattle.frames.specs.Free.{extra_of, free_of}
 pub use Rattle.frames.specs.Holders.{count_of, one_if, Trades}
 unfoldable pub use Rattle.frames.specs.Holders.{holders_of}
 pub use Rattle.frames.specs.declared.Frames.{Frames}
-pub use Rattle.hart.proofs.ChangeLemmas.{memory_of-cycle}
-pub use Rattle.hart.proofs.Retries.{Alike, cycle-again, cycle-retries, Narrows}
+pub use Rattle.hart.proofs.ChangeLemmas.{memory_of-cycle, Alike, cycle-again, cycle-retries, Narrows}
 pub use Rattle.hart.specs.Changes.{changed, IsSound, put_in, WritesOnly}
 pub use Rattle.hart.specs.declared.state.Hart.{Hart}
 pub use Rattle.pipe.specs.Pipe.{bytes_of, Pipe, Stays}

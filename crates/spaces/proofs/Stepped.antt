@@ -4,7 +4,7 @@ use Rattle.spaces.proofs.Common.{memory_of-cycle, cycle-again, cycle-retries, Na
 use Rattle.spaces.proofs.Common.{Computed, Effect, trap, Memory, Page, page_for, Perm, memory_after, HoldsInside, HoldsNothing, IsKept, Store, StorePageFault, Trap, trade-machine, trade-others, mapping-is, mapping-within, walks-entries}
 use Rattle.spaces.proofs.Common.{frame_at, marks_at, read_below, entry_marks, is_open, right_marks, user_leaf, IsMachine, OthersUntouched, entries_of, holds, IsMapped, IsOnce, IsRearranged, IsSpace, mapping_of, pages_in, pages_of, Stands}
 use Rattle.spaces.proofs.Common.{Space, Does, Spaces, SpaceView, Traps, view_at, with_place, IsSpaces, pipe_frames, pipe_shown, Runs, shown, spaces_of, view_with, Inside, DoesOne, Point, point_of, Executes}
-use Rattle.hart.proofs.FollowsLemmas.{IsDone, IsTrapped, follows-cases, follows-only}
+use Rattle.hart.proofs.ChangeLemmas.{IsDone, IsTrapped, follows-cases, follows-only}
 use Rattle.hart.specs.Follows.{Follows}
 use Rattle.spaces.proofs.Closed.{changed-right, narrows-right, opened-alike}
 use Rattle.spaces.proofs.Pipes.{pipes-beside}

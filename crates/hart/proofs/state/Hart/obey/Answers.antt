@@ -6,6 +6,6 @@ pub returns : goal.returns
 returns g c =
     let base = c.args.base in
     let k = c.args.k in
-    let word : c.load_u32.result ≡ word_in c.args.ram.now c.args.f.0 (pc_at base k) = c.load_u32.ensures ∙ word-at c.args.ram.now c.args.f.0 base k c.requires.page (omega (arith, c.ranges.base.fits)) c.requires.place in
-    acts-worded (g.T.Translate.held c.args.trans.now) (g.T.Translate.held c.act.new.trans) c.op.result.now c.read.new.self.word c.args.f.0 c.act.result (pc_at base k) c.args.self.now c.act.new.self c.args.ram.now c.act.new.ram
+    let word : c.load_u32.result ≡ word_in c.args.ram.now c.args.f.0 (pc_at base k) = c.load_u32.ensures ∙ word-at _ _ k c.requires.page (omega (arith, c.ranges.base.fits)) c.requires.place in
+    acts-worded _ _
     c.op.ensures (c.read.ensures ∙ word) c.act.ensures

@@ -1,18 +1,18 @@
-use Rattle.hart.proofs.Common.{false, Load, load_from, load_size, LoadMisaligned, None, refl, rules, Some, true, ◌%◌, ◌==◌, ◌≡◌}
+use Rattle.hart.proofs.Common.{false, Load, load_from, load_size, None, refl, rules, Some, true, ◌%◌, ◌==◌, ◌≡◌}
 use Rattle.hart.proofs.Acts.{acts-even, acts-odd}
 use Rattle.hart.proofs.state.Hart.probe.Goals as goal
 
 pub returns-then-not-is_aligned : goal.returns-then-not-is_aligned
 returns-then-not-is_aligned g c = λ pc.
     let aligned : (c.args.address % load_size c.args.op == 0) ≡ false = search rules in
-    rw c.stop.ensures (acts-odd (g.T.Translate.held c.args.trans.now) c.args.ram.now c.args.self.now _ (load_from c.args.self.now.registers pc c.args.op 0 c.args.address) Load LoadMisaligned c.args.address pc aligned)
+    rw c.stop.ensures (acts-odd (load_from c.args.self.now.registers pc c.args.op 0 c.args.address) Load aligned)
 
 pub returns-in-None : goal.returns-in-None
 returns-in-None g c = λ pc.
     let aligned : (c.args.address % load_size c.args.op == 0) ≡ true = search rules in
-    rw c.stop-in-None.ensures (acts-even (g.T.Translate.held c.args.trans.now) (g.T.Translate.held c.locate.new.trans) c.args.ram.now c.args.ram.now c.args.self.now c.args.self.now _ _ (load_from c.args.self.now.registers pc c.args.op 0 c.args.address) Load LoadMisaligned c.args.address pc None aligned c.in-None.ensures.answer c.locate.ensures.kept refl (λ answers _. (refl, refl, refl, refl)))
+    rw c.stop-in-None.ensures (acts-even (load_from c.args.self.now.registers pc c.args.op 0 c.args.address) Load _ None aligned c.in-None.ensures.answer c.locate.ensures.kept refl (λ answers _. (refl, refl, refl, refl)))
 
 pub returns-in-Some : goal.returns-in-Some
 returns-in-Some g c = λ pc.
     let aligned : (c.args.address % load_size c.args.op == 0) ≡ true = search rules in
-    acts-even (g.T.Translate.held c.args.trans.now) (g.T.Translate.held c.locate.new.trans) c.args.ram.now c.args.ram.now c.args.self.now c.args.self.now _ _ (load_from c.args.self.now.registers pc c.args.op 0 c.args.address) Load LoadMisaligned c.args.address pc (Some _) aligned c.in-Some.ensures.answer c.locate.ensures.kept refl (λ answers _. (refl, refl, refl, refl, refl))
+    acts-even (load_from c.args.self.now.registers pc c.args.op 0 c.args.address) Load _ (Some _) aligned c.in-Some.ensures.answer c.locate.ensures.kept refl (λ answers _. (refl, refl, refl, refl, refl))

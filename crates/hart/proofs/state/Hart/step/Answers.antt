@@ -10,4 +10,4 @@ returns-clause-trap g c =
 
 pub returns-clause-step : goal.returns-clause-step
 returns-clause-step g c = λ mapping shows.
-    step-follows (g.T.Translate.held c.args.trans.now) mapping c.cycle.result c.args.self.now c.cycle.new.self c.args.ram.now c.cycle.new.ram shows c.cycle.ensures.step
+    step-follows _ shows c.cycle.ensures.step

@@ -3,7 +3,7 @@ use Rattle.hart.proofs.Straight.{straight-begins, straight-more, straight-on, st
 use Rattle.hart.proofs.state.Hart.straight.Goals as goal
 
 pub loop-k-init : goal.loop-k-init
-loop-k-init g c = straight-begins (g.T.Translate.held c.args.trans.now) c.args.self.now c.args.ram.now c.args.base c.args.from c.args.f.0 c.requires.inside
+loop-k-init g c = straight-begins c.requires.inside
 
 pub loop-k-preserved : goal.loop-k-preserved
 loop-k-preserved g c =
@@ -19,7 +19,7 @@ returns-in-At-clause-whole g c = whole-after c.loop-k.invariant.whole c.obey.ens
 pub returns-in-Stop-clause-goes : goal.returns-in-Stop-clause-goes
 returns-in-Stop-clause-goes g c = λ mapping at.
     let same : c.args.from + (c.loop-k.k - c.args.from) ≡ c.loop-k.k = omega (arith, c.loop-k.auto.k) in
-    rw same (straight-stops {next = Stop c.in-Stop.trap} {new = c.obey.new.self} c.requires.page (omega (arith, c.ranges.base.fits)) (omega (arith, c.loop-k-test.true, c.requires.places.1)) c.loop-k.invariant (rw (← c.in-Stop.is) c.obey.ensures) mapping at c.in-Stop.trap refl)
+    rw same (straight-stops {next = Stop c.in-Stop.trap} {new = c.obey.new.self} c.requires.page (omega (arith, c.ranges.base.fits)) (omega (arith, c.loop-k-test.true, c.requires.places.1)) c.loop-k.invariant (rw (← c.in-Stop.is) c.obey.ensures) mapping at refl)
 
 pub returns-in-Stop-clause-whole : goal.returns-in-Stop-clause-whole
 returns-in-Stop-clause-whole g c = whole-after c.loop-k.invariant.whole c.obey.ensures
