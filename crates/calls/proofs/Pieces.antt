@@ -7,7 +7,7 @@ use Rattle.calls.specs.declared.halt.Halt.TheVariants.{Device}
 use Rattle.calls.specs.Resuming.{taken}
 use Rattle.kernel.proofs.Steps.{advances-on}
 use Rattle.kernel.specs.Idle.{is_idle}
-use Rattle.spaces.proofs.Advancing.{advances-last, advances-same}
+use Rattle.spaces.proofs.SpacesLemmas.{advances-last, advances-same}
 use Rattle.spaces.specs.Instructions.{Advances}
 use Rattle.calls.proofs.Runs.{run-append, run-one, then_begins, then_runs}
 use Rattle.calls.proofs.Served.{lost-after, same-served, served-after}

@@ -6,7 +6,7 @@ use Rattle.kernel.proofs.Leaving.{left-kernel}
 use Rattle.kernel.proofs.Runs.{IsRun, moved, moved-kernel, run-of, set-slot, live, not-killed, runs-mode}
 use Rattle.spaces.specs.Spaces as spaces
 use Rattle.unixmodel.specs.Next.{memory_after}
-use Rattle.spaces.proofs.Advancing.{advances-last, advances-same, computed-frames}
+use Rattle.spaces.proofs.SpacesLemmas.{advances-last, advances-same, computed-frames}
 use Rattle.spaces.specs.Instructions.{Advances, Does}
 
 pub stop-keeps : (k : Kernel) (i : ℕ) → IsKernel k → k.spaces.active ≡ Some i → slice_index k.spaces.registers 0 ≡ 0 → k.spaces.pc % 4 ≡ 0 → IsKernel (left_as k i Ready)

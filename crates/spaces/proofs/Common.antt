@@ -15,7 +15,7 @@ unfoldable pub use Rattle.frames.specs.Free.{extra_of, free_of}
 pub use Rattle.frames.specs.Holders.{count_of, one_if, Trades}
 unfoldable pub use Rattle.frames.specs.Holders.{holders_of}
 pub use Rattle.frames.specs.declared.Frames.{Frames}
-pub use Rattle.hart.proofs.ChangeLemmas.{memory_of-cycle, Alike, cycle-again, cycle-retries, Narrows}
+pub use Rattle.hart.proofs.ChangeLemmas.{Alike, cycle-again, cycle-retries, memory_of-cycle, Narrows}
 pub use Rattle.hart.specs.Changes.{changed, IsSound, put_in, WritesOnly}
 pub use Rattle.hart.specs.declared.state.Hart.{Hart}
 pub use Rattle.pipe.specs.Pipe.{bytes_of, Pipe, Stays}
@@ -33,7 +33,7 @@ unfoldable pub use Rattle.unixmodel.specs.Memory.{path_at, reach, string_at, wri
 pub use Rattle.unixmodel.specs.Next.{memory_after}
 pub use Rattle.unixmodel.specs.Numbers.{ceil_div}
 pub use Rattle.unixmodel.specs.Shown.{byte_at, is_shared, page_byte, ShowsByte, ShowsMemory, told_page}
-pub use Rattle.unixmodel.specs.Translation.{HoldsInside, HoldsNothing, IsKept, Translation, walk}
+pub use Rattle.unixmodel.specs.Translation.{Held, HoldsInside, HoldsNothing, IsKept, Translation, walk}
 pub use Rattle.unixmodel.specs.declared.trap.Access.TheVariants.{Fetch, Load, Store}
 pub use Rattle.unixmodel.specs.declared.trap.Cause.TheVariants.{StorePageFault}
 pub use Rattle.unixmodel.specs.declared.trap.Trap.{Trap}
@@ -55,3 +55,4 @@ unfoldable pub use Rattle.spaces.specs.Instructions.{Advances}
 pub use Rattle.spaces.specs.Spaces.{bytes_in, computed, forked, frames_in, grown, has_pipe, has_space, no_pages, shrunk, Spaces, SpaceView, taken_frames, Traps, view_at, with_pipe, with_place, with_view, Executes, copied}
 pub use Rattle.spaces.specs.View.{frames_at, IsActive, IsSpaces, pipe_frames, pipe_shown, Runs, shown, spaces_of, view_with}
 pub use Rattle.spaces.specs.declared.Spaces.TheInside.{Inside}
+pub use Rattle.hart.proofs.Ram.{Ram}

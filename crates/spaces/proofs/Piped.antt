@@ -1,14 +1,12 @@
 -- One pipe trades frames, or is read or written: what is left of the fields, and what they show then.
-use Rattle.spaces.proofs.Common.{◌+◌, ◌<◌, [], ap, arith, Bool, eqb, false, get_or, length, length-set, List, map, None, Option, refl, slice_set, Some, subst, sym, true, ℕ, ◌∙◌, ◌∷◌, ◌≡◌, ◌≢◌, ◌≤◌, get_or_default, length-map, flat_map}
-use Rattle.spaces.proofs.Common.{refill, is_some, not, unwrap_or, ◌||◌, count_of-append, count_of-first, held-inside, one_if-le, Trades-give, Trades-take, among, free_count, further_at, IsFreeList, SameBut, extra_of, free_of, count_of}
-use Rattle.spaces.proofs.Common.{Trades, holders_of, Frames, bytes_of, Pipe, Stays, frame_of, slot, taken, one-place, rest-held, rest-machine, rest-untouched, set-place, Trades-write, two-places, IsOpen, bytes_in, has_pipe, taken_frames}
-use Rattle.spaces.proofs.Common.{with_pipe, frames_at, IsSpaces, pipe_frames, pipe_shown, shown, spaces_of, Inside, each-set}
-use Rattle.spaces.proofs.Pipes.{pipe-free, pipe-held, pipe-slot, pipes-placed}
-use Rattle.spaces.proofs.Places.{free-taken, taken-fits}
-use Rattle.spaces.proofs.SpacesLemmas.{map-same, none-of, refilled, some-pipe, taken-piped, within}
+use Rattle.spaces.proofs.Common.{Ram, Held, ◌+◌, ◌<◌, [], ap, arith, Bool, eqb, false, get_or, length, length-set, List, map, None, Option, refl, slice_set, Some, subst, sym, true, ℕ, ◌∙◌, ◌∷◌, ◌≡◌, ◌≢◌, ◌≤◌, get_or_default, length-map}
+use Rattle.spaces.proofs.Common.{flat_map, refill, is_some, not, unwrap_or, ◌||◌, count_of-append, count_of-first, held-inside, one_if-le, Trades-give, Trades-take, among, free_count, further_at, IsFreeList, SameBut, extra_of, free_of}
+use Rattle.spaces.proofs.Common.{count_of, Trades, holders_of, Frames, bytes_of, Pipe, Stays, frame_of, slot, taken, one-place, rest-held, rest-machine, rest-untouched, set-place, Trades-write, two-places, IsOpen, bytes_in, has_pipe}
+use Rattle.spaces.proofs.Common.{taken_frames, with_pipe, frames_at, IsSpaces, pipe_frames, pipe_shown, shown, spaces_of, Inside, each-set}
+use Rattle.spaces.proofs.Places.{pipe-free, pipe-held, pipe-slot, pipes-placed, free-taken, taken-fits}
+use Rattle.spaces.proofs.SpacesLemmas.{Pipes, map-same, none-of, refilled, some-pipe, taken-piped, within}
 use Rattle.spaces.proofs.Stepped.{here}
 use Rattle.spaces.proofs.Traded.{Shows, runs-on, same-shown, still-active}
-use Rattle.unixmodel.specs.Translation as translation
 use Rattle.vm.specs.Shares as shares
 
 -- ---- what the places for pipes show
@@ -16,7 +14,7 @@ use Rattle.vm.specs.Shares as shares
 pub pipe-is : {T : Type 0} (i : Inside T) (q : ℕ) {p : Pipe} → slot i.pipes.items q ≡ Some p → bytes_in (spaces_of i) q ≡ bytes_of i.ram p
 pipe-is i q e = ap (λ o. unwrap_or o []) (pipe-slot i.ram i.pipes.items q ∙ ap (pipe_shown i.ram) e)
 
-some-pipe_shown : (m : List (List ℕ)) (o : Option Pipe) → is_some o ≡ is_some (pipe_shown m o)
+some-pipe_shown : (m : Ram) (o : Option Pipe) → is_some o ≡ is_some (pipe_shown m o)
 some-pipe_shown m None = refl
 some-pipe_shown m (Some p) = refl
 
@@ -28,12 +26,12 @@ pipes-count : {T : Type 0} (i : Inside T) → length (spaces_of i).pipes ≡ len
 pipes-count i = length-map i.pipes.items (pipe_shown i.ram)
 
 -- by what is read of the slice that a borrow of the places shows
-pub pipe-found : {T : Type 0} (i : Inside T) (q : ℕ) {xs : List (Option Pipe)} {y : Option Pipe} (o : Option Pipe) → has_pipe (spaces_of i) q ≡ true → xs ≡ i.pipes.items → get_or xs q o ≡ y → slot i.pipes.items q ≡ y
-pipe-found i q {xs} o has same is =
+pub pipe-found : {T : Type 0} (i : Inside T) (q : ℕ) {xs : Pipes} {y : Option Pipe} (o : Option Pipe) → has_pipe (spaces_of i) q ≡ true → xs ≡ i.pipes.items → get_or xs q o ≡ y → slot i.pipes.items q ≡ y
+pipe-found i q o has same is =
     let hi : q < length i.pipes.items = rw (← pipes-count i) (within (spaces_of i).pipes q (bytes_in (spaces_of i) q) (some-pipe (slot (spaces_of i).pipes q) has)) in
     get_or_default i.pipes.items q None o hi ∙ ap (λ l. get_or l q o) (sym same) ∙ is
 
-pub pipe-missing : {T : Type 0} (i : Inside T) (q : ℕ) {xs : List (Option Pipe)} (o : Option Pipe) → has_pipe (spaces_of i) q ≡ true → xs ≡ i.pipes.items → get_or xs q o ≡ None → ⊥
+pub pipe-missing : {T : Type 0} (i : Inside T) (q : ℕ) {xs : Pipes} (o : Option Pipe) → has_pipe (spaces_of i) q ≡ true → xs ≡ i.pipes.items → get_or xs q o ≡ None → ⊥
 pipe-missing i q o has same e =
     let bad : false ≡ true = ap is_some (sym (pipe-found i q o has same e)) ∙ pipe-stands i q has in
     cc
@@ -48,17 +46,17 @@ open-is : (p : Pipe) → IsOpen p → (z : Pipe) → Some p ≡ Some z → IsOpe
 open-is p opens z here = let same : p ≡ z = cc in subst IsOpen same opens
 
 -- the fields after a change of one pipe, which shows this then
-abbrev pub Piped : {T : Type 0} → (T → translation.Held) → Inside T → Inside T → ℕ → Option (List ℕ) → Type 0
+abbrev pub Piped : {T : Type 0} → (T → Held) → Inside T → Inside T → ℕ → Option (List ℕ) → Type 0
 Piped held i j q y = Shows held i j (with_pipe (spaces_of i) q y)
 
-pub piped-as : {T : Type 0} {held : T → translation.Held} {i j : Inside T} (q : ℕ) {y z : Option (List ℕ)} → Piped held i j q y → y ≡ z → Piped held i j q z
-piped-as {T} {held} {i} {j} q p e = subst (λ o. Piped held i j q o) e p
+pub piped-as : {T : Type 0} {held : T → Held} {i j : Inside T} (q : ℕ) {y z : Option (List ℕ)} → Piped held i j q y → y ≡ z → Piped held i j q z
+piped-as {held} {i} {j} q p e = subst (λ o. Piped held i j q o) e p
 
 -- one place is written, through the slice of all
-abbrev pub set_pipe : {T : Type 0} → Inside T → List (List ℕ) → Frames → List (Option Pipe) → ℕ → Option Pipe → Inside T
+abbrev pub set_pipe : {T : Type 0} → Inside T → Ram → Frames → Pipes → ℕ → Option Pipe → Inside T
 set_pipe i k n xs q y = record i { ram = k; frames = n; pipes = record { items = refill (length i.pipes.items) i.pipes.items (slice_set xs q y) } }
 
-module _ {T : Type 0} {held : T → translation.Held} {i : Inside T} (is : IsSpaces held i) where
+module _ {T : Type 0} {held : T → Held} {i : Inside T} (is : IsSpaces held i) where
   pipe-holds : (q : ℕ) (p : Pipe) → slot i.pipes.items q ≡ Some p → 0 < holders_of i.ram i.frames p.frame
   pipe-holds q p e = rest-held i.ram i.frames i.places.items (pipe_frames i.pipes.items) p.frame is.machine (pipe-held i.pipes.items q p e)
 
@@ -66,7 +64,7 @@ module _ {T : Type 0} {held : T → translation.Held} {i : Inside T} (is : IsSpa
   pub pipe-frame : (q : ℕ) (p : Pipe) → slot i.pipes.items q ≡ Some p → (p.frame < length i.ram) × (among p.frame (free_of i.ram i.frames) ≡ false)
   pipe-frame q p e = held-inside i.ram i.frames p.frame is.machine.free (pipe-holds q p e)
 
-  piped : {k : List (List ℕ)} {n : Frames} {xs : List (Option Pipe)} {z : Option Pipe} (q : ℕ) (y : Option Pipe) → q < length i.pipes.items → xs ≡ i.pipes.items → z ≡ y → IsFreeList k n
+  piped : {k : Ram} {n : Frames} {xs : Pipes} {z : Option Pipe} (q : ℕ) (y : Option Pipe) → q < length i.pipes.items → xs ≡ i.pipes.items → z ≡ y → IsFreeList k n
       → Trades i.ram k i.frames n (frames_at (slot i.pipes.items q)) (frames_at y) → ((p : Pipe) → y ≡ Some p → IsOpen p) → Piped held i (set_pipe i k n xs q z) q (pipe_shown k y)
   piped {k} {n} {xs} {z} q y hi same new free trades here =
       let ps = i.pipes.items in
@@ -89,13 +87,13 @@ module _ {T : Type 0} {held : T → translation.Held} {i : Inside T} (is : IsSpa
       record { sound = sound; view = view; fits = omega (arith, ap taken_frames view, taken-fits held (set_pipe i k n xs q z) sound, trades.count) }
 
   -- a pipe goes
-  pub piped-gone : {k : List (List ℕ)} {n : Frames} {xs : List (Option Pipe)} {z : Option Pipe} (q : ℕ) (p : Pipe) → slot i.pipes.items q ≡ Some p → xs ≡ i.pipes.items → z ≡ None
+  pub piped-gone : {k : Ram} {n : Frames} {xs : Pipes} {z : Option Pipe} (q : ℕ) (p : Pipe) → slot i.pipes.items q ≡ Some p → xs ≡ i.pipes.items → z ≡ None
       → IsFreeList k n → ((f : ℕ) → holders_of k n f + count_of f (p.frame ∷ []) ≡ holders_of i.ram i.frames f) → SameBut (p.frame ∷ []) i.ram k → (0 < further_at i.frames p.frame → k ≡ i.ram) → Piped held i (set_pipe i k n xs q z) q None
   piped-gone {k} {n} q p at same gone free given others stays =
       piped q None (within i.pipes.items q p at) same gone free (rw at (Trades-give i.ram k i.frames n p.frame is.machine.free given others stays (pipe-holds q p at))) (λ z bad. absurd (let no : None ≡ Some z = bad in cc))
 
   -- a pipe changes, and keeps its frame and its ends
-  pub piped-written : {k : List (List ℕ)} {xs : List (Option Pipe)} (q : ℕ) (p z : Pipe) (w : List ℕ) → slot i.pipes.items q ≡ Some p → xs ≡ i.pipes.items → Stays p z → k ≡ slice_set i.ram p.frame w
+  pub piped-written : {k : Ram} {xs : Pipes} (q : ℕ) (p z : Pipe) (w : List ℕ) → slot i.pipes.items q ≡ Some p → xs ≡ i.pipes.items → Stays p z → k ≡ slice_set i.ram p.frame w
       → Piped held i (set_pipe i k i.frames xs q (Some z)) q (Some (bytes_of k z))
   piped-written {k} q p z w at same stays wrote =
       let both = Trades-write i.ram k i.frames p.frame w is.machine.free (pipe-holds q p at) (is.machine.alone p.frame (pipe-held i.pipes.items q p at)) wrote in
@@ -106,7 +104,7 @@ module _ {T : Type 0} {held : T → translation.Held} {i : Inside T} (is : IsSpa
   free-place q low free = (let all = is.pipes in omega (arith, low, all), none-of (slot (spaces_of i).pipes q) free)
 
   -- a pipe comes into a free place
-  pub piped-there : {n : Frames} {xs : List (Option Pipe)} (q : ℕ) (p : Pipe) → q < 100 → has_pipe (spaces_of i) q ≡ false → xs ≡ i.pipes.items
+  pub piped-there : {n : Frames} {xs : Pipes} (q : ℕ) (p : Pipe) → q < 100 → has_pipe (spaces_of i) q ≡ false → xs ≡ i.pipes.items
       → IsFreeList i.ram n → free_of i.ram i.frames ≡ p.frame ∷ free_of i.ram n → extra_of n ≡ extra_of i.frames → IsOpen p → Piped held i (set_pipe i i.ram n xs q (Some p)) q (Some (bytes_of i.ram p))
   piped-there {n} q p low free same valid taken extra opens =
       let place = free-place q low free in

@@ -1,10 +1,22 @@
 -- Lemmas on the values of address spaces.
-use Rattle.spaces.proofs.Common.{◌≡◌, ◌≢◌, ℕ, zero, suc, ◌+◌, ◌-◌, ◌<◌, ◌≤◌, true, false, List, [], ◌∷◌, ◌++◌, length, length-set, get_or, map, replicate, slice_set, take, Option, Some, None, refl, sym, ap, ◌∙◌, arith, append-nil}
-use Rattle.spaces.proofs.Common.{get_or-set_other, get_or-set_same, refill, is_some, sum_by, unwrap_or, length-map, take_all, sum_by-cons, SpaceView, Spaces, forked, frames_in, grown, has_space, view_at, no_pages, shrunk, taken_frames}
-use Rattle.spaces.proofs.Common.{with_view, with_pipe, with_place, page_frames, slot, taken, Memory, shared_page, zero_page, ceil_div}
+use Rattle.spaces.proofs.Common.{Space, Pipe, ◌≡◌, ◌≢◌, ℕ, zero, suc, ◌+◌, ◌-◌, ◌<◌, ◌≤◌, true, false, List, [], ◌∷◌, ◌++◌, length, length-set, get_or, map, replicate, slice_set, take, Option, Some, None, refl, sym, ap, ◌∙◌, arith}
+use Rattle.spaces.proofs.Common.{append-nil, get_or-set_other, get_or-set_same, refill, is_some, sum_by, unwrap_or, length-map, take_all, sum_by-cons, SpaceView, Spaces, forked, frames_in, grown, has_space, view_at, no_pages, shrunk}
+use Rattle.spaces.proofs.Common.{taken_frames, with_view, with_pipe, with_place, page_frames, slot, taken, Memory, shared_page, zero_page, ceil_div, ◌%◌, ◌/◌, drop, Err, subst, take-append-drop, length-append, IfNone, IfSome, Advances}
+use Rattle.spaces.proofs.Common.{Does, Traps, computed, cycle, Trap, Change, Computed, Bytes, Nothing, Page, write_bytes, write_from, memory_after, Executes, All, if◌then◌else◌, nat_le, option_map, Bool, before_nul, path_at, reach}
+use Rattle.spaces.proofs.Common.{short_path, string_at, Load, short_string, string_in, Result, Ok, OnFalse, OnTrue, ◌↔◌, IsErrOf, OnErr, OnOk, is_ok, VmFault}
 use Rattle.arrayvec.proofs.ArrayVecLemmas.{items-with_items}
 use Rattle.unixmodel.specs.Plan.{stack_marks}
 use Rattle.unixmodel.specs.ProcessCalls.{with_pages}
+use Rattle.std.proofs.lemmas.List.Elements.{All-cons, All-nil}
+use Rattle.vm.specs.declared.VmFault.TheVariants.{BadAddress}
+
+-- the places for pipes
+abbrev pub Pipes : Type 0
+Pipes = List (Option Pipe)
+
+-- the places for spaces
+abbrev pub Places : Type 0
+Places = List (Option Space)
 
 pub within : {X : Type 0} (xs : List (Option X)) (i : ℕ) (x : X) → get_or xs i None ≡ Some x → i < length xs
 within [] i x e = absurd (cc)
@@ -104,3 +116,162 @@ taken-piped s q bytes h none = omega (arith, taken-put s.pipes q bytes h none)
 pub some-pipe : (o : Option (List ℕ)) → is_some o ≡ true → o ≡ Some (unwrap_or o [])
 some-pipe None e = absurd (cc)
 some-pipe (Some bytes) e = refl
+
+-- ---- one after the other
+
+pub advances-none : (s : Spaces) (at : ℕ) → Advances 0 s at s
+unfolding Advances
+advances-none s at = refl
+
+pub advances-same : (s : Spaces) (at : ℕ) (new : Spaces) → Advances 0 s at new → new ≡ s
+unfolding Advances
+advances-same s at new same = same
+
+pub advances-more : (n : ℕ) (old mid new : Spaces) (at : ℕ) → Advances n old at mid → Does mid at new → Advances (suc n) old at new
+unfolding Advances
+advances-more n old mid new at first does = (mid, first, does)
+
+pub advances-last : (n : ℕ) (old new : Spaces) (at : ℕ) → Advances (suc n) old at new → (mid : Spaces) × Advances n old at mid × Does mid at new
+unfolding Advances
+advances-last n old new at all = all
+
+-- of the process of the active place
+abbrev pub AdvancesTo : ℕ → Option ℕ → Spaces → Spaces → Type 0
+AdvancesTo n o old now = IfSome o (λ at. Advances n old at now)
+
+pub begins : (s : Spaces) (o : Option ℕ) → AdvancesTo 0 o s s
+begins s None = tt
+begins s (Some at) = advances-none s at
+
+-- an instruction more
+pub goes-on : (n : ℕ) (old mid new : Spaces) (o : Option ℕ) (result : Option Trap) → is_some o ≡ true → mid.active ≡ o → AdvancesTo n o old mid → result ≡ None
+    → IfNone result (IfSome mid.active (Executes mid new)) → (new.active ≡ o) × AdvancesTo (n + 1) o old new
+goes-on n old mid new o (Some t) some active first none done = absurd (cc)
+goes-on n old mid new None None some active first none done = absurd (cc)
+goes-on n old mid new (Some at) None some active first none done =
+    let one : suc n ≡ n + 1 = omega arith in
+    let does = subst (λ (a : Option ℕ). IfSome a (Executes mid new)) active done in
+    let all = advances-more n old mid new at first (record { done = does.0; means = does.1; leaves = does.2 }) in
+    (ap (λ (s : Spaces). s.active) does.2 ∙ active, subst (λ (k : ℕ). Advances k old at new) one all)
+
+-- ---- the frames
+
+length-from : (ps : List Page) (at : ℕ) (new : List ℕ) → length (write_from ps at new) ≡ length ps
+length-from [] at new = refl
+length-from (p ∷ ps) at [] = refl
+length-from (p ∷ ps) at (b ∷ bs) = ap suc (length-from ps 0 (drop (4096 - at) (b ∷ bs)))
+
+length-write : (mem : Memory) (at : ℕ) (new : List ℕ) → length (write_bytes mem at new) ≡ length mem
+unfolding write_bytes
+length-write mem at new =
+    let k = at / 4096 in
+    length-append (take k mem) (write_from (drop k mem) (at % 4096) new)
+    ∙ ap (λ (n : ℕ). length (take k mem) + n) (length-from (drop k mem) (at % 4096) new)
+    ∙ sym (length-append (take k mem) (drop k mem))
+    ∙ ap length (take-append-drop k mem)
+
+length-after : (mem : Memory) (c : Change) → length (memory_after mem c) ≡ length mem
+length-after mem Nothing = refl
+length-after mem (Bytes address bytes) = length-write mem address bytes
+
+-- an instruction takes no frame
+pub computed-frames : (s : Spaces) (at : ℕ) (d : Computed) (h : SpaceView) → slot s.places at ≡ Some h → taken_frames (computed s at d) ≡ taken_frames s
+computed-frames s at d h there =
+    let new : SpaceView = record (view_at s at) { memory = memory_after (view_at s at).memory d.change } in
+    let seen : view_at s at ≡ h = ap (λ o. unwrap_or o no_pages) there in
+    let same : frames_in (slot s.places at) ≡ frames_in (Some new) =
+    ap frames_in there ∙ ap (λ (x : SpaceView). 4 + page_frames (length x.memory)) (sym seen) ∙ sym (ap (λ (n : ℕ). 4 + page_frames n) (length-after (view_at s at).memory d.change)) in
+    omega (arith, taken-placed (record s { registers = d.regs; pc = d.pc }) at (Some new) (within s.places at h there), same)
+
+-- ---- many behind many
+
+advances-sum : (a b c : ℕ) (old mid new : Spaces) (at : ℕ) → a + b ≡ c → Advances a old at mid → Advances b mid at new → Advances c old at new
+unfolding Advances
+advances-sum a zero c old mid new at sum first same =
+    let all : a ≡ c = omega (arith, sum) in
+    rw (same, ← all) first
+advances-sum a (suc b) c old mid new at sum first (last, before, does) =
+    let all : suc (a + b) ≡ c = omega (arith, sum) in
+    rw (← all) (last, advances-sum a b (a + b) old mid last at refl first before, does)
+
+pub advances-on : (a b c : ℕ) (o : Option ℕ) (old mid new : Spaces) → a + b ≡ c → mid.active ≡ o → AdvancesTo a o old mid → AdvancesTo b mid.active mid new → AdvancesTo c o old new
+advances-on a b c None old mid new sum active first last = tt
+advances-on a b c (Some at) old mid new sum active first last =
+    let there = subst (λ (o : Option ℕ). AdvancesTo b o mid new) active last in
+    advances-sum a b c old mid new at sum first there
+
+-- none behind them is, for a trap
+pub stops-at : (n : ℕ) (o : Option ℕ) (old mid new : Spaces) (t : Trap) → is_some o ≡ true → mid.active ≡ o → AdvancesTo n o old mid → IfSome mid.active (λ at. Traps mid new at t)
+    → AdvancesTo n o old new × IfSome o (λ at. cycle new.registers new.pc (view_at new at).memory ≡ Err t)
+stops-at n None old mid new t some active first traps = absurd (cc)
+stops-at n (Some at) old mid new t some active first traps =
+    let here = subst (λ (o : Option ℕ). IfSome o (λ at. Traps mid new at t)) active traps in
+    rw here.1 (first, here.0)
+
+-- ---- what a run told of its end
+
+-- what the rest of a run told of its end, told of all
+pub all-behind : (o : Option Trap) (done more count : ℕ) → done ≤ count → IfNone o (more ≡ count - done) → IfNone o (done + more ≡ count)
+all-behind None done more count within all = omega (arith, within, all)
+all-behind (Some t) done more count within all = tt
+
+pub trap-behind : (o : Option Trap) (done more count : ℕ) (a b : Option ℕ) (P : Trap → ℕ → Type 0) → b ≡ a → IfSome o (λ t. (more < count - done) × IfSome b (P t)) → IfSome o (λ t. (done + more < count) × IfSome a (P t))
+trap-behind None done more count a b P same traps = tt
+trap-behind (Some t) done more count a b P same traps = let few = traps.0 in (omega (arith, few), subst (λ o. IfSome o (P t)) same traps.1)
+
+-- ---- a string that was copied has no 0
+
+-- no byte of it is 0
+abbrev pub IsPlain : List ℕ → Type 0
+IsPlain bytes = All (λ b. b ≢ 0) bytes
+
+plain-more : (b : ℕ) (o : Option (List ℕ)) → IfSome o IsPlain → IfSome (option_map (λ rest. suc b ∷ rest) o) IsPlain
+plain-more b None rest = tt
+plain-more b (Some s) rest = All-cons (λ c. c ≢ 0) (suc b) s (λ z. omega (arith, z)) rest
+
+plain-before : (bytes : List ℕ) → IfSome (before_nul bytes) IsPlain
+plain-before [] = tt
+plain-before (zero ∷ bs) = All-nil (λ b. b ≢ 0)
+plain-before (suc b ∷ bs) = plain-more b (before_nul bs) (plain-before bs)
+
+plain-kept : (fits : Bool) (s : List ℕ) → IsPlain s → IfSome (if fits then Some s else None) IsPlain
+plain-kept true s plain = plain
+plain-kept false s plain = tt
+
+plain-short : (most : ℕ) (o : Option (List ℕ)) → IfSome o IsPlain → IfSome (short_string most o) IsPlain
+plain-short most None plain = tt
+plain-short most (Some s) plain = plain-kept (nat_le (length s) most) s plain
+
+plain-string : (most : ℕ) (memory : Memory) (address : ℕ) → IfSome (short_string most (string_at memory address)) IsPlain
+unfolding string_at
+plain-string most memory address = plain-short most (string_at memory address) (plain-before (reach Load memory address))
+
+if-copied : (o : Option ℕ) (buffer : List ℕ) → IfSome (string_in buffer o) IsPlain → IfSome o (λ n. IsPlain (take n buffer))
+if-copied None buffer plain = tt
+if-copied (Some n) buffer plain = plain
+
+pub plain-copied : (o : Option ℕ) (buffer : List ℕ) (most : ℕ) (memory : Memory) (address : ℕ) → string_in buffer o ≡ short_string most (string_at memory address) → IfSome o (λ n. IsPlain (take n buffer))
+plain-copied o buffer most memory address copied = if-copied o buffer (subst (λ s. IfSome s IsPlain) (sym copied) (plain-string most memory address))
+
+short-is : (o : Option (List ℕ)) → short_string 127 o ≡ short_path o
+short-is None = refl
+short-is (Some s) = refl
+
+-- a path is a string of 127 bytes at the most
+pub path-is : (most : ℕ) (memory : Memory) (address : ℕ) → most ≡ 127 → short_string most (string_at memory address) ≡ path_at memory address
+unfolding path_at
+path-is most memory address full = ap (λ n. short_string n (string_at memory address)) full ∙ short-is (string_at memory address)
+
+-- ---- what is known of a result, by whether it is one
+
+pub ok-true : {X E : Type 0} (r : Result X E) (b : Bool) (A B P : Type 0) → b ≡ is_ok r → OnOk r A → OnOk r B → (A → B → P) → OnTrue b P
+ok-true (Ok x) b A B P e one two both = rw e (both one two)
+ok-true (Err x) b A B P e one two both = rw e tt
+
+pub err-false : {X E : Type 0} (r : Result X E) (b : Bool) (A B P : Type 0) → b ≡ is_ok r → OnErr r A → OnErr r B → (A → B → P) → OnFalse b P
+err-false (Ok x) b A B P e one two both = rw e tt
+err-false (Err x) b A B P e one two both = rw e (both one two)
+
+pub read-can : (r : Result (Unit {0}) VmFault) (o : Option (List ℕ)) (bytes : List ℕ) (b : Bool) → b ≡ is_ok r → OnOk r (o ≡ Some bytes) → (IsErrOf r BadAddress ↔ (o ≡ None)) → OnErr r (IsErrOf r BadAddress) → b ≡ is_some o
+read-can (Ok u) o bytes b e read bad only = rw (e, read) refl
+read-can (Err f) o bytes b e read bad only = rw (e, bad.0 only) refl

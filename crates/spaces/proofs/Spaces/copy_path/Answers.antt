@@ -1,5 +1,5 @@
 use Rattle.spaces.proofs.Common.{arith, length, ◌∙◌, view_at}
-use Rattle.spaces.proofs.Strings.{path-is}
+use Rattle.spaces.proofs.SpacesLemmas.{path-is}
 use Rattle.spaces.proofs.Spaces.copy_path.Goals as goal
 
 pub returns-clause-path : goal.returns-clause-path

@@ -1,5 +1,5 @@
 use Rattle.spaces.proofs.Places.{held-is, stands-there}
-use Rattle.spaces.proofs.Strings.{plain-copied}
+use Rattle.spaces.proofs.SpacesLemmas.{plain-copied}
 use Rattle.spaces.proofs.Spaces.copy_string.Goals as goal
 
 pub space_at-space-requires : goal.space_at-space-requires

@@ -1,5 +1,5 @@
 use Rattle.spaces.proofs.Spaces.duplicate.Goals as goal
-use Rattle.spaces.proofs.Duplicates.{parts-sound}
+use Rattle.spaces.proofs.Traded.{parts-sound}
 use Rattle.std.proofs.Common.{refl}
 
 pub invariant_of-result : goal.invariant_of-result

@@ -1,5 +1,5 @@
 use Rattle.spaces.proofs.Common.{◌≡◌, ◌-◌, ◌+◌, ◌∙◌, Err, arith, refl, subst, IfSome, view_at, cycle}
-use Rattle.spaces.proofs.Advancing.{AdvancesTo, advances-on, begins, goes-on, stops-at}
+use Rattle.spaces.proofs.SpacesLemmas.{AdvancesTo, advances-on, begins, goes-on, stops-at}
 use Rattle.spaces.proofs.Spaces.execute_behind.Given as given
 use Rattle.spaces.proofs.Spaces.execute_behind.Goals as goal
 use Rattle.spaces.proofs.Spaces.execute_behind.Goals.{After-run-done}

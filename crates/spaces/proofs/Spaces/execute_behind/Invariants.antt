@@ -1,5 +1,5 @@
 use Rattle.std.proofs.Common.{◌≡◌, ◌≤◌, ◌-◌}
-use Rattle.spaces.proofs.Advancing.{AdvancesTo}
+use Rattle.spaces.proofs.SpacesLemmas.{AdvancesTo}
 use Rattle.spaces.proofs.Spaces.execute_behind.Given as goal
 
 -- so many instructions are done so far

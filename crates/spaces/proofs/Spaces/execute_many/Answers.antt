@@ -1,5 +1,5 @@
 use Rattle.spaces.proofs.Common.{◌≡◌, ◌+◌, Err, refl, subst, view_at, cycle}
-use Rattle.spaces.proofs.Advancing.{AdvancesTo, advances-on, all-behind, trap-behind}
+use Rattle.spaces.proofs.SpacesLemmas.{AdvancesTo, advances-on, all-behind, trap-behind}
 use Rattle.spaces.proofs.Spaces.execute_many.Goals as goal
 
 -- all are done

@@ -1,5 +1,5 @@
 use Rattle.spaces.proofs.Spaces.free_pipe.Goals as goal
-use Rattle.spaces.proofs.Pipes.{free-shown}
+use Rattle.spaces.proofs.Places.{free-shown}
 use Rattle.std.proofs.Common.{refl}
 
 pub returns-clause-place : goal.returns-clause-place

@@ -3,9 +3,8 @@ use Rattle.spaces.proofs.Spaces.grow.Goals as goal
 use Rattle.spaces.proofs.Spaces.grow.Goals.{After-grow}
 use Rattle.spaces.proofs.Common.{free_count, shown, ◌+◌, ◌++◌, ◌-◌, ◌<◌, ◌⊎◌, Some, inl, inr, refl, replicate, zero_page, frames_for, marks_from, entries_of, pages_in, pages_of, coherent-grown}
 use Rattle.spaces.proofs.Places.{held-is, missing, there}
-use Rattle.spaces.proofs.Results.{err-false, ok-true}
+use Rattle.spaces.proofs.SpacesLemmas.{err-false, ok-true, refilled}
 use Rattle.spaces.proofs.Traded.{Placed, changed, grown-front, over-grown, placed-as, set_in, shown-as, view-same}
-use Rattle.spaces.proofs.SpacesLemmas.{refilled}
 
 pub grow-requires : goal.grow-requires
 grow-requires g c = c.self.invariant.machine.each c.args.at c.in-Some.space (there c.args.at c.deref_mut.ensures.value c.in-Some.is)

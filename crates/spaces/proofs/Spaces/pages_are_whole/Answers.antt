@@ -1,6 +1,5 @@
 use Rattle.spaces.proofs.Spaces.pages_are_whole.Goals as goal
-use Rattle.spaces.proofs.Places.{stands-there}
-use Rattle.spaces.proofs.Whole.{are-whole}
+use Rattle.spaces.proofs.Places.{stands-there, are-whole}
 use Rattle.std.proofs.Common.{refl}
 
 pub returns : goal.returns

@@ -1,6 +1,6 @@
 use Rattle.std.proofs.Common.{Some, ap, refl, sym}
 use Rattle.spaces.proofs.Piped.{pipe-frame}
-use Rattle.spaces.proofs.Pipes.{pipe-slot}
+use Rattle.spaces.proofs.Places.{pipe-slot}
 use Rattle.spaces.proofs.Spaces.pipe.Goals as goal
 
 pub bytes-requires : goal.bytes-requires

@@ -1,6 +1,6 @@
 use Rattle.spaces.proofs.Spaces.read.Goals as goal
 use Rattle.spaces.proofs.Places.{held-is, stands-there}
-use Rattle.spaces.proofs.Results.{ok-true, read-can}
+use Rattle.spaces.proofs.SpacesLemmas.{ok-true, read-can}
 
 pub space_at-space-requires : goal.space_at-space-requires
 space_at-space-requires g c = stands-there c.self.inside c.args.at (rw (← c.self.view_is) at c.requires)

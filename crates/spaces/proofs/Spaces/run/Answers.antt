@@ -1,6 +1,6 @@
 use Rattle.spaces.proofs.Common.{refl, IsSpaces, spaces_of}
-use Rattle.spaces.proofs.Advancing.{AdvancesTo}
-use Rattle.spaces.proofs.Ran.{RanOn, ran-sound, ran-trap}
+use Rattle.spaces.proofs.SpacesLemmas.{AdvancesTo}
+use Rattle.spaces.proofs.Stepped.{ran_by, RanOn, ran-sound, ran-trap}
 use Rattle.spaces.proofs.Spaces.run.Given as given
 use Rattle.spaces.proofs.Spaces.run.Goals as goal
 use Rattle.spaces.proofs.Spaces.run.Goals.{After-run}
@@ -9,8 +9,8 @@ went : (g : given.Over) (c : After-run g) → RanOn g.T.Translate.held c.self.in
 went g c = let did = c.run.ensures in record { small = c.frames_are_whole.ensures.small; goes = did.goes; whole = did.whole }
 
 ran : (g : given.Over) (c : After-run g)
-    → IsSpaces g.T.Translate.held (record c.self.inside { ram = c.run.new.ram; translator = c.run.new.trans; hart = c.run.new.self })
-    × AdvancesTo c.run.result.0 c.self.inside.active (spaces_of c.self.inside) (spaces_of (record c.self.inside { ram = c.run.new.ram; translator = c.run.new.trans; hart = c.run.new.self }))
+    → IsSpaces g.T.Translate.held (ran_by c.self.inside c.run.new.trans c.run.new.self c.run.new.ram)
+    × AdvancesTo c.run.result.0 c.self.inside.active (spaces_of c.self.inside) (spaces_of (ran_by c.self.inside c.run.new.trans c.run.new.self c.run.new.ram))
 ran g c = ran-sound c.self.inside.active c.self.invariant (went g c) refl (rw (← c.self.view_is) at c.requires)
 
 pub invariant_of-self : goal.invariant_of-self

@@ -1,7 +1,6 @@
 use Rattle.spaces.proofs.Spaces.tables.Goals as goal
-use Rattle.spaces.proofs.Closed.{seen-right, shows-right}
+use Rattle.spaces.proofs.Stepped.{seen-right, shows-right, let_through}
 use Rattle.spaces.proofs.Places.{held-is, stands-there}
-use Rattle.spaces.proofs.Stepped.{let_through}
 use Rattle.vm.specs.Space.{pages_in, pages_of}
 
 pub space_at-space-requires : goal.space_at-space-requires
