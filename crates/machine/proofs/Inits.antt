@@ -5,8 +5,7 @@ use Rattle.machine.proofs.Common.{with_place, FileTree, Serves, page_frames, Fil
 use Rattle.calls.proofs.Homes.{some-there}
 use Rattle.machine.proofs.FlatLemmas.{alone-space, created, no-frames}
 use Rattle.names.proofs.Finding.{find-used}
-use Rattle.programs.proofs.Loads.{IsProgram, is-program}
-use Rattle.programs.proofs.Executions.{HasProgram, args-long, has-program, length-stacked, no-plan, plan-is}
+use Rattle.programs.proofs.Loads.{IsProgram, is-program, HasProgram, args-long, has-program, length-stacked, no-plan, plan-is}
 use Rattle.programs.proofs.Serving.{serves-told}
 use Rattle.programs.specs.declared.arguments.Arguments.{Arguments}
 use Rattle.programs.specs.declared.headers.Program.{Program}

@@ -1,6 +1,6 @@
 -- The names that the lemmas of this crate import from elsewhere, passed on from one place. Declares nothing.
-pub use Rattle.std.proofs.Common.{◌%◌, ◌&&◌, ◌*◌, ◌+◌, ◌++◌, ◌-◌, ◌/◌, ◌<◌, [], ◌^◌, ap, append-nil, append_assoc, arith, Bool, drop, Err, false, get_or-set_same, IsErrAnd, le_trans, length}
-pub use Rattle.std.proofs.Common.{length-append, List, None, Ok, Option, refl, replicate, Result, rules, slice_set, Some, subst, suc, sym, take, true, zero, ℕ, ◌∙◌, ◌∷◌, ◌≡◌, ◌≢◌, ◌≤◌}
+pub use Rattle.std.proofs.Common.{◌%◌, ◌&&◌, ◌*◌, ◌+◌, ◌++◌, ◌-◌, ◌/◌, ◌<◌, [], ◌^◌, ap, append-nil, append_assoc, arith, Bool, drop, Err, false, get_or-set_same, IsErrAnd, le_trans, length, length-append, List, None, Ok, Option, refl}
+pub use Rattle.std.proofs.Common.{replicate, Result, rules, slice_set, Some, subst, suc, sym, take, true, zero, ℕ, ◌∙◌, ◌∷◌, ◌≡◌, ◌≢◌, ◌≤◌}
 pub use Rattle.std.proofs.lemmas.Bool.{le-leb, lt-leb, lt-ltb}
 pub use Rattle.std.proofs.lemmas.Bool.Decides.{nat_tests}
 pub use Rattle.std.proofs.lemmas.List.{drop-drop, drop-replicate, drop_all, drop_at, length-drop, length-map, length-replicate, length-take, length-take-le, replicate-append-replicate, set-get_or, set-set, take-replicate, take_all, take_at}

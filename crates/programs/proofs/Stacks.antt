@@ -2,7 +2,7 @@
 use Rattle.programs.proofs.Common.{◌%◌, ◌*◌, ◌+◌, ◌++◌, ◌-◌, ◌/◌, ◌<◌, [], ap, append-nil, append_assoc, arith, Bool, drop, false, length, length-append, List, None, Option, refl, Some, subst, suc, sym, take, true, zero, ℕ, ◌∙◌, ◌∷◌, ◌≡◌}
 use Rattle.programs.proofs.Common.{◌≢◌, ◌≤◌, le-leb, lt-leb, nat_tests, drop-drop, drop-replicate, length-drop, length-take, take-replicate, take_all, take_at, none-some, flat_map, ◌==◌, if◌then◌else◌, nat_le, nat_lt, option_and_then}
 use Rattle.programs.proofs.Common.{option_map, Memory, overwrite, Page, write_from, zero_page, reach, string_at, write_bytes, zeros, le, number_at, round_down, finished, Plan, Stack, stack_marks, push, push_pointers, push_strings}
-use Rattle.programs.proofs.Common.{with_args, with_stack, and_then_strings, strings_at, args_at, words_before_zero, Load, IsSized, Finishes, HasPushed, Passes, plan_with, PushesString, stacked, word_in, Arguments}
+use Rattle.programs.proofs.Common.{with_args, with_stack, and_then_strings, strings_at, args_at, words_before_zero, Load, IsSized, Finishes, HasPushed, Passes, plan_with, PushesString, stacked, word_in, Arguments, PassesOne}
 use Rattle.std.proofs.Math.Seq.{take-append-add}
 use Rattle.std.proofs.lemmas.Grind.{flat_map-append}
 use Rattle.std.proofs.lemmas.List.Concat.{flat_map-cons}
@@ -40,20 +40,14 @@ write-stack pages page at bytes some fits =
 abbrev pub stack_with : Memory → List ℕ → ℕ → List ℕ → Stack
 stack_with pages page top pointers = record { memory = stacked pages page; sp = 4096 * (length pages + 1) + top; pointers = pointers }
 
-same-stack : {m m' : Memory} {a a' : ℕ} {ps ps' : List ℕ} → m ≡ m' → a ≡ a' → ps ≡ ps' → ◌≡◌ {A = Stack} (record { memory = m; sp = a; pointers = ps }) (record { memory = m'; sp = a'; pointers = ps' })
-same-stack p q r = λ i. record { memory = p i; sp = q i; pointers = r i }
-
-pub pushed : (pages : Memory) (old new : List ℕ) (top : ℕ) (pointers bytes : List ℕ) (place : ℕ) → top ≤ 4096 → 0 < length bytes → HasPushed old new top bytes place
+pushed : (pages : Memory) {old new : List ℕ} {top : ℕ} (pointers : List ℕ) {bytes : List ℕ} {place : ℕ} → top ≤ 4096 → 0 < length bytes → HasPushed old new top bytes place
     → push (stack_with pages old top pointers) bytes ≡ stack_with pages new place (pointers ++ (4096 * (length pages + 1) + place) ∷ [])
 unfolding push
-pushed pages old new top pointers bytes place inside some has =
+pushed pages {old} {top} pointers {bytes} {place} inside some has =
     let room = has.fits in
     let stands = has.stands in
     let sp : round_down (4096 * (length pages + 1) + top - length bytes) 16 ≡ 4096 * (length pages + 1) + place = omega (arith, room, stands) in
-    same-stack
-    (ap (λ a. write_bytes (stacked pages old) a bytes) sp ∙ write-stack pages old place bytes some (omega (arith, room, stands, inside)) ∙ ap (stacked pages) (sym has.page))
-    sp
-    (ap (λ a. pointers ++ a ∷ []) sp)
+    rw (sp, write-stack pages old place bytes some (omega (arith, room, stands, inside)), ← has.page) refl
 
 -- what is pushed comes lower
 push-low : (s : Stack) (bytes : List ℕ) → (push s bytes).sp ≤ s.sp
@@ -65,35 +59,32 @@ unfolding push_strings
 strings-low s [] = omega arith
 strings-low s (x ∷ xs) = omega (arith, push-low s (x ++ 0 ∷ []), strings-low (push s (x ++ 0 ∷ [])) xs)
 
-pub pointers-low : (s : Stack) → (push_pointers s).sp ≤ s.sp
+pointers-low : (s : Stack) → (push_pointers s).sp ≤ s.sp
 unfolding push_pointers
-pointers-low s = push-low s (flat_map (le 8) s.pointers ++ le 8 0)
+pointers-low s = push-low s _
 
 -- without room it comes below the page
-pub push-under : (pages : Memory) (page : List ℕ) (top : ℕ) (pointers bytes : List ℕ) → top < length bytes → (push (stack_with pages page top pointers) bytes).sp < 4096 * (length pages + 1)
+push-under : (pages : Memory) (page : List ℕ) {top : ℕ} (pointers bytes : List ℕ) → top < length bytes → (push (stack_with pages page top pointers) bytes).sp < 4096 * (length pages + 1)
 unfolding push
-push-under pages page top pointers bytes over = omega (arith, over)
+push-under pages page pointers bytes over = omega (arith, over)
 
 -- and what comes below is refused
-pub refused-under : (pages : Memory) (pc argc : ℕ) (s : Stack) → s.sp < 4096 * (length pages + 1) → finished (4096 * (length pages + 2)) pc argc s ≡ None
+refused-under : (pages : Memory) (pc argc : ℕ) (s : Stack) → s.sp < 4096 * (length pages + 1) → finished (4096 * (length pages + 2)) pc argc s ≡ None
 refused-under pages pc argc s under =
     let no : nat_le (4096 * (length pages + 2) - 4096) s.sp ≡ false = lt-leb _ _ (omega (arith, under)) in
     rw no refl
 
 -- what is pushed last stands, or finds no room
-pub finishes : (pages : Memory) (pc : ℕ) (page : List ℕ) (top : ℕ) (pointers bytes : List ℕ) {spelled : List ℕ} {n count base : ℕ} → top ≤ 4096 → 0 < length bytes → spelled ≡ bytes → n ≡ count → base ≡ 4096 * (length pages + 1)
+finishes : (pages : Memory) (pc : ℕ) (page : List ℕ) (top : ℕ) (pointers : List ℕ) {bytes : List ℕ} {spelled : List ℕ} {n count base : ℕ} → top ≤ 4096 → 0 < length bytes → spelled ≡ bytes → n ≡ count → base ≡ 4096 * (length pages + 1)
     → (r : Option Arguments) → Finishes page top spelled count base r → finished (4096 * (length pages + 2)) pc n (push (stack_with pages page top pointers) bytes) ≡ option_map (plan_with pages pc) r
-finishes pages pc page top pointers bytes {n = n} inside some same number is None over =
-    refused-under pages pc n (push (stack_with pages page top pointers) bytes) (push-under pages page top pointers bytes (omega (arith, over, ap length same)))
-finishes pages pc page top pointers bytes {n = n} inside some same number is (Some a) made =
+finishes pages pc page top pointers {bytes} {n = n} inside some same number is None over =
+    refused-under pages pc n (push (stack_with pages page top pointers) bytes) (push-under pages page pointers bytes (omega (arith, over, ap length same)))
+finishes pages pc page top pointers {bytes} {n = n} inside some same number is (Some a) made =
     let put : HasPushed page a.page top bytes made.0 = subst (λ l. HasPushed page a.page top l made.0) same made.1 in
     let yes : nat_le (4096 * (length pages + 2) - 4096) (4096 * (length pages + 1) + made.0) ≡ true = le-leb _ _ (omega arith) in
     let sp : 4096 * (length pages + 1) + made.0 ≡ a.sp = omega (arith, made.2, is) in
     let argc : n ≡ a.count = omega (arith, made.3, number) in
-    ap (finished (4096 * (length pages + 2)) pc n) (pushed pages page a.page top pointers bytes made.0 inside some put)
-    ∙ ap (λ b. if b then Some (record { memory = stacked pages a.page; size = 4096 * (length pages + 2); pc = pc; argc = n; sp = 4096 * (length pages + 1) + made.0 }) else None) yes
-    ∙ ap (λ k. Some (let p : Plan = record { memory = stacked pages a.page; size = 4096 * (length pages + 2); pc = pc; argc = k; sp = 4096 * (length pages + 1) + made.0 } in p)) argc
-    ∙ ap (λ k. Some (let p : Plan = record { memory = stacked pages a.page; size = 4096 * (length pages + 2); pc = pc; argc = a.count; sp = k } in p)) sp
+    rw (pushed pages pointers inside some put, yes, argc, sp) refl
 
 -- ---- the words and the strings that are left
 
@@ -104,12 +95,12 @@ ends pages pc i s args = finished (4096 * (length pages + 2)) pc (i + length arg
 abbrev pub args_from : Memory → ℕ → List ℕ → Option (List (List ℕ))
 args_from mem n bytes = option_and_then (strings_at mem) (words_before_zero n bytes)
 
-pub none-under : (pages : Memory) (pc i : ℕ) (s : Stack) → s.sp < 4096 * (length pages + 1) → (o : Option (List (List ℕ))) → option_and_then (ends pages pc i s) o ≡ None
+none-under : (pages : Memory) (pc i : ℕ) (s : Stack) → s.sp < 4096 * (length pages + 1) → (o : Option (List (List ℕ))) → option_and_then (ends pages pc i s) o ≡ None
 none-under pages pc i s under None = refl
 none-under pages pc i s under (Some args) =
     refused-under pages pc (i + length args) (push_pointers (push_strings s args)) (omega (arith, under, strings-low s args, pointers-low (push_strings s args)))
 
-pub one-more : (pages : Memory) (pc i : ℕ) (s : Stack) (string : List ℕ) (args : List (List ℕ)) → ends pages pc i s (string ∷ args) ≡ ends pages pc (i + 1) (push s (string ++ 0 ∷ [])) args
+one-more : (pages : Memory) (pc i : ℕ) (s : Stack) (string : List ℕ) (args : List (List ℕ)) → ends pages pc i s (string ∷ args) ≡ ends pages pc (i + 1) (push s (string ++ 0 ∷ [])) args
 unfolding push_strings
 one-more pages pc i s string args =
     let n : i + length (string ∷ args) ≡ i + 1 + length args = omega arith in
@@ -117,14 +108,14 @@ one-more pages pc i s string args =
 
 string-more : (pages : Memory) (pc i : ℕ) (s : Stack) (string : List ℕ) (rest : Option (List (List ℕ))) → option_and_then (ends pages pc i s) (and_then_strings (Some string) rest) ≡ option_and_then (ends pages pc (i + 1) (push s (string ++ 0 ∷ []))) rest
 string-more pages pc i s string None = refl
-string-more pages pc i s string (Some args) = one-more pages pc i s string args
+string-more pages pc i s string (Some args) = one-more _ pc i s _ _
 
 strings-none : (o : Option (List ℕ)) → and_then_strings o None ≡ None
 strings-none None = refl
 strings-none (Some s) = refl
 
 words-more : (mem : Memory) (w : ℕ) (o : Option (List ℕ)) → option_and_then (strings_at mem) (option_map (λ ws. w ∷ ws) o) ≡ and_then_strings (string_at mem w) (option_and_then (strings_at mem) o)
-words-more mem w None = sym (strings-none (string_at mem w))
+words-more mem w None = sym (strings-none _)
 words-more mem w (Some ws) = refl
 
 -- what comes of the first word
@@ -157,7 +148,7 @@ pub record IsPushing (mem : Memory) (argv count i top : ℕ) (page spelled : Lis
   pub rest : (pages : Memory) (pc : ℕ) → length pages ≡ count
       → option_and_then (with_args pages pc) (args_at mem argv) ≡ option_and_then (ends pages pc i (stack_with pages page top pointers)) (args_from mem (32 - i) (drop (8 * i) (reach Load mem argv)))
 
-pub begins-some : (pages : Memory) (pc : ℕ) (args : List (List ℕ)) → with_args pages pc args ≡ ends pages pc 0 (stack_with pages (zeros 4096) 4096 []) args
+begins-some : (pages : Memory) (pc : ℕ) (args : List (List ℕ)) → with_args pages pc args ≡ ends pages pc 0 (stack_with pages (zeros 4096) 4096 []) args
 unfolding with_args with_stack
 begins-some pages pc args =
     let n : length args ≡ 0 + length args = omega arith in
@@ -167,26 +158,26 @@ begins-some pages pc args =
 
 begins : (pages : Memory) (pc : ℕ) (o : Option (List (List ℕ))) → option_and_then (with_args pages pc) o ≡ option_and_then (ends pages pc 0 (stack_with pages (zeros 4096) 4096 [])) o
 begins pages pc None = refl
-begins pages pc (Some args) = begins-some pages pc args
+begins pages pc (Some args) = begins-some _ pc _
 
-pub none-pushed : (mem : Memory) (argv count top : ℕ) (page spelled : List ℕ) → top ≡ 4096 → page ≡ zeros 4096 → spelled ≡ zeros 256 → IsPushing mem argv count 0 top page spelled
+pub none-pushed : (mem : Memory) (argv : ℕ) {count top : ℕ} {page spelled : List ℕ} → top ≡ 4096 → page ≡ zeros 4096 → spelled ≡ zeros 256 → IsPushing mem argv count 0 top page spelled
 unfolding args_at
-none-pushed mem argv count top page spelled whole clear none = record {
+none-pushed mem argv whole clear none = record {
   inside = omega (arith, whole);
   reached = omega arith;
   pointers = [];
   few = refl;
   spells = none;
-  rest = λ pages pc e. rw (whole, clear) (begins pages pc (args_at mem argv));
+  rest = λ pages pc e. rw (whole, clear) (begins _ pc _);
 }
 
 -- ---- the pointers
 
 length-le : (k x : ℕ) → length (le k x) ≡ k
 length-le zero x = refl
-length-le (suc k) x = ap suc (length-le k (x / 256))
+length-le (suc k) x = ap suc (length-le k _)
 
-pub length-pointers : (ps : List ℕ) → length (flat_map (le 8) ps) ≡ 8 * length ps
+length-pointers : (ps : List ℕ) → length (flat_map (le 8) ps) ≡ 8 * length ps
 length-pointers [] = refl
 length-pointers (p ∷ ps) = ap length (flat_map-cons (le 8) p ps) ∙ length-append (le 8 p) (flat_map (le 8) ps) ∙ omega (arith, length-le 8 p, length-pointers ps)
 
@@ -194,28 +185,28 @@ flat-more : (ps : List ℕ) (p : ℕ) → flat_map (le 8) (ps ++ p ∷ []) ≡ f
 flat-more ps p = flat_map-append (le 8) ps (p ∷ []) ∙ ap (λ l. flat_map (le 8) ps ++ l) (flat_map-cons (le 8) p [] ∙ append-nil (le 8 p))
 
 -- a pointer more
-pub spelled-more : (ps : List ℕ) (i p : ℕ) → length ps ≡ i → i < 32 → overwrite (flat_map (le 8) ps ++ zeros (256 - 8 * i)) (8 * i) (le 8 p) ≡ flat_map (le 8) (ps ++ p ∷ []) ++ zeros (256 - 8 * (i + 1))
+spelled-more : (ps : List ℕ) {i : ℕ} (p : ℕ) → length ps ≡ i → i < 32 → overwrite (flat_map (le 8) ps ++ zeros (256 - 8 * i)) (8 * i) (le 8 p) ≡ flat_map (le 8) (ps ++ p ∷ []) ++ zeros (256 - 8 * (i + 1))
 unfolding zeros
-spelled-more ps i p count more =
+spelled-more ps {i} p count more =
     let long : length (flat_map (le 8) ps) ≡ 8 * i = omega (arith, length-pointers ps, count) in
     let behind : 8 * i + length (le 8 p) ≡ length (flat_map (le 8) ps) + 8 = omega (arith, long) in
     let left : 256 - 8 * i - 8 ≡ 256 - 8 * (i + 1) = omega arith in
     rw (take_at (flat_map (le 8) ps) (zeros (256 - 8 * i)) (8 * i) long, behind, drop-append-add (flat_map (le 8) ps) (zeros (256 - 8 * i)) 8, flat-more ps p)
-    (ap (λ l. (flat_map (le 8) ps ++ le 8 p) ++ l) (drop-replicate 8 (256 - 8 * i) 0 ∙ ap zeros left))
+    (ap (λ l. (flat_map (le 8) ps ++ le 8 p) ++ l) (drop-replicate 8 _ 0 ∙ ap zeros left))
 
 -- the pointers and the 0 word
-pub spelled-all : (ps : List ℕ) (i : ℕ) → length ps ≡ i → i < 32 → take (8 * i + 8) (flat_map (le 8) ps ++ zeros (256 - 8 * i)) ≡ flat_map (le 8) ps ++ le 8 0
+spelled-all : (ps : List ℕ) (i : ℕ) → length ps ≡ i → i < 32 → take (8 * i + 8) (flat_map (le 8) ps ++ zeros (256 - 8 * i)) ≡ flat_map (le 8) ps ++ le 8 0
 unfolding zeros
 spelled-all ps i count more =
     let long : 8 * i + 8 ≡ length (flat_map (le 8) ps) + 8 = omega (arith, length-pointers ps, count) in
-    rw (long, take-append-add (flat_map (le 8) ps) (zeros (256 - 8 * i)) 8) (ap (λ l. flat_map (le 8) ps ++ l) (take-replicate 8 (256 - 8 * i) 0 (omega (arith, more))))
+    rw (long, take-append-add (flat_map (le 8) ps) (zeros (256 - 8 * i)) 8) (ap (λ l. flat_map (le 8) ps ++ l) (take-replicate 8 _ 0 (omega (arith, more))))
 
 -- the pointers behind all strings
-pub ends-all : (pages : Memory) (pc : ℕ) (page : List ℕ) (pointers : List ℕ) {spelled : List ℕ} {i top base : ℕ} → top ≤ 4096 → length pointers ≡ i → i < 32 → spelled ≡ flat_map (le 8) pointers ++ zeros (256 - 8 * i) → base ≡ 4096 * (length pages + 1)
+ends-all : (pages : Memory) (pc : ℕ) (page : List ℕ) (pointers : List ℕ) {spelled : List ℕ} {i top base : ℕ} → top ≤ 4096 → length pointers ≡ i → i < 32 → spelled ≡ flat_map (le 8) pointers ++ zeros (256 - 8 * i) → base ≡ 4096 * (length pages + 1)
     → (r : Option Arguments) → Finishes page top (take (8 * i + 8) spelled) i base r → ends pages pc i (stack_with pages page top pointers) [] ≡ option_map (plan_with pages pc) r
 unfolding push_strings push_pointers
 ends-all pages pc page pointers {i = i} {top = top} inside few more spells is r made =
-    finishes pages pc page top pointers (flat_map (le 8) pointers ++ le 8 0) inside (omega (arith, length-append (flat_map (le 8) pointers) (le 8 0))) (ap (take (8 * i + 8)) spells ∙ spelled-all pointers i few more) (omega arith) is r made
+    finishes _ pc _ top _ inside (omega (arith, length-append (flat_map (le 8) pointers) (le 8 0))) (ap (take (8 * i + 8)) spells ∙ spelled-all _ i few more) (omega arith) is r made
 
 -- ---- a step
 
@@ -227,23 +218,21 @@ module _ {mem : Memory} {argv count i top : ℕ} {page spelled : List ℕ} (size
   stack pages = stack_with pages page top has.pointers
 
   word-is : word_in rest ≡ told
-  word-is = sym (word ∙ ap word_in (reach-drop Load mem argv (8 * i) sized has.reached))
+  word-is = sym (word ∙ ap word_in (reach-drop _ _ _ _ sized has.reached))
 
   -- what is told of the rest
   rest-is : (pages : Memory) (pc : ℕ) → length pages ≡ count → {o : Option ℕ} → told ≡ o → option_and_then (with_args pages pc) (args_at mem argv) ≡ option_and_then (ends pages pc i (stack pages)) (by_word mem (32 - (i + 1)) rest o)
   rest-is pages pc e is =
       let left : 32 - i ≡ suc (32 - (i + 1)) = omega (arith, more) in
-      has.rest pages pc e
-      ∙ ap (λ n. option_and_then (ends pages pc i (stack pages)) (args_from mem n rest)) left
-      ∙ ap (option_and_then (ends pages pc i (stack pages))) (word-next mem (32 - (i + 1)) rest ∙ ap (by_word mem (32 - (i + 1)) rest) (word-is ∙ is))
+      rw (has.rest pages pc e, left, word-next mem (32 - (i + 1)) rest, word-is, is) refl
 
   -- a word that can't be read
   pub word-refused : told ≡ None → Passes mem argv count None
   word-refused none pages pc e = rest-is pages pc e none
 
   -- the 0 word
-  pub ended : {w : ℕ} → told ≡ Some w → w ≡ 0 → (base : ℕ) → base ≡ 4096 * (count + 1) → (r : Option Arguments) → Finishes page top (take (8 * i + 8) spelled) i base r → Passes mem argv count r
-  ended some null base is r made pages pc e = rest-is pages pc e (some ∙ ap Some null) ∙ ends-all pages pc page has.pointers has.inside has.few more has.spells (omega (arith, is, e)) r made
+  pub ended : {w : ℕ} → told ≡ Some w → w ≡ 0 → {base : ℕ} → base ≡ 4096 * (count + 1) → (r : Option Arguments) → Finishes page top (take (8 * i + 8) spelled) i base r → Passes mem argv count r
+  ended some null is r made pages pc e = rest-is pages pc e (some ∙ ap Some null) ∙ ends-all _ pc _ _ has.inside has.few more has.spells (omega (arith, is, e)) r made
 
   module _ {w : ℕ} (some : told ≡ Some w) (other : w ≢ 0) where
     abbrev others : Option (List (List ℕ))
@@ -252,21 +241,21 @@ module _ {mem : Memory} {argv count i top : ℕ} {page spelled : List ℕ} (size
     string-is : (pages : Memory) (pc : ℕ) → length pages ≡ count → {o : Option (List ℕ)} → string_at mem w ≡ o → option_and_then (with_args pages pc) (args_at mem argv) ≡ option_and_then (ends pages pc i (stack pages)) (and_then_strings o others)
     string-is pages pc e {o} is =
         let no : (w == 0) ≡ false = grind (arith, nat_tests, other) in
-        let made : by_word mem (32 - (i + 1)) rest (Some w) ≡ and_then_strings o others = rw (no, ← is) (words-more mem w (words_before_zero (32 - (i + 1)) (drop 8 rest))) in
-        rest-is pages pc e some ∙ ap (option_and_then (ends pages pc i (stack pages))) made
+        let made : by_word mem (32 - (i + 1)) rest (Some w) ≡ and_then_strings o others = rw (no, ← is) (words-more _ w _) in
+        rw (rest-is pages pc e some, made) refl
 
     -- a string that can't be read, or isn't room for
     pub string-refused : (new : List ℕ) → PushesString mem w page new top None → Passes mem argv count None
     string-refused new over pages pc e = go (string_at mem w) refl where
       go : (o : Option (List ℕ)) → string_at mem w ≡ o → option_and_then (with_args pages pc) (args_at mem argv) ≡ None
-      go None is = string-is pages pc e is
+      go None is = string-is _ pc e is
       go (Some string) is =
-          let low = push-under pages page top has.pointers (string ++ 0 ∷ []) (omega (arith, over string is, length-append string (0 ∷ []))) in
-          string-is pages pc e is ∙ string-more pages pc i (stack pages) string others ∙ none-under pages pc (i + 1) (push (stack pages) (string ++ 0 ∷ [])) low others
+          let low = push-under _ _ _ _ (omega (arith, over string is, length-append string (0 ∷ []))) in
+          string-is _ pc e is ∙ string-more _ pc i _ _ _ ∙ none-under _ pc _ _ low _
 
     -- a string more
     pub string-pushed : {new spelled' : List ℕ} {place base : ℕ} → PushesString mem w page new top (Some place) → base ≡ 4096 * (count + 1) → spelled' ≡ overwrite spelled (8 * i) (le 8 (base + place)) → IsPushing mem argv count (i + 1) place new spelled'
-    string-pushed {new} {spelled'} {place} {base} made is put =
+    string-pushed {new} {place} {base} made is put =
         let stands = made.2.stands in
         let was = has.inside in
         let long : 0 < length (made.0 ++ 0 ∷ []) = omega (arith, length-append made.0 (0 ∷ [])) in
@@ -276,19 +265,37 @@ module _ {mem : Memory} {argv count i top : ℕ} {page spelled : List ℕ} (size
           reached = omega (arith, word-long rest w (word-is ∙ some), length-take 8 rest, length-drop (8 * i) (reach Load mem argv));
           pointers = has.pointers ++ (base + place) ∷ [];
           few = length-append has.pointers ((base + place) ∷ []) ∙ ap (λ n. n + 1) has.few;
-          spells = put ∙ ap (λ l. overwrite l (8 * i) (le 8 (base + place))) has.spells ∙ spelled-more has.pointers i (base + place) has.few more;
+          spells = put ∙ ap (λ l. overwrite l (8 * i) (le 8 (base + place))) has.spells ∙ spelled-more _ _ has.few more;
           rest = λ pages pc e.
               let same : 4096 * (length pages + 1) + place ≡ base + place = omega (arith, e, is) in
-              string-is pages pc e made.1
-              ∙ string-more pages pc i (stack pages) made.0 others
-              ∙ ap (λ s. option_and_then (ends pages pc (i + 1) s) others) (pushed pages page new top has.pointers (made.0 ++ 0 ∷ []) place was long made.2)
-              ∙ ap (λ p. option_and_then (ends pages pc (i + 1) (stack_with pages new place (has.pointers ++ p ∷ []))) others) same
-              ∙ ap (λ l. option_and_then (ends pages pc (i + 1) (stack_with pages new place (has.pointers ++ (base + place) ∷ []))) (args_from mem (32 - (i + 1)) l)) next;
+              rw (string-is pages pc e made.1, string-more pages pc i (stack pages) made.0 others, pushed pages has.pointers was long made.2, same, next) refl;
         }
 
 -- there are too many
 pub all-pushed : {mem : Memory} {argv count i top : ℕ} {page spelled : List ℕ} → IsPushing mem argv count i top page spelled → 32 ≤ i → Passes mem argv count None
 unfolding words_before_zero
-all-pushed {mem} {argv} {count} {i} {top} {page} {spelled} has all pages pc e =
+all-pushed {i} has all pages pc e =
     let none : 32 - i ≡ 0 = omega (arith, all) in
-    has.rest pages pc e ∙ ap (λ n. option_and_then (ends pages pc i (stack_with pages page top has.pointers)) (args_from mem n (drop (8 * i) (reach Load mem argv)))) none
+    rw (has.rest pages pc e, none) refl
+
+-- ---- one string as the only argument
+
+single : (pages : Memory) (pc : ℕ) (string : List ℕ) → with_args pages pc (string ∷ []) ≡ ends pages pc 1 (push (stack_with pages (zeros 4096) 4096 []) (string ++ 0 ∷ [])) []
+single pages pc string = begins-some _ pc _ ∙ one-more _ pc 0 _ _ []
+
+-- bytes for which there is no room
+pub one-refused : {bytes : List ℕ} {count : ℕ} → 4096 < length bytes → PassesOne bytes count None
+one-refused over string is pages pc e =
+    single pages pc string ∙ none-under pages pc 1 (push (stack_with pages (zeros 4096) 4096 []) (string ++ 0 ∷ [])) (push-under pages (zeros 4096) [] (string ++ 0 ∷ []) (omega (arith, over, ap length is))) (Some [])
+
+-- bytes that stand on the page, and their pointer
+pub one-passed : {bytes : List ℕ} (page spelled clear : List ℕ) {none : List ℕ} (top : ℕ) {count : ℕ} (base : ℕ) (r : Option Arguments) → clear ≡ zeros 4096 → none ≡ zeros 256 → HasPushed clear page 4096 bytes top → spelled ≡ overwrite none 0 (le 8 (base + top)) → base ≡ 4096 * (count + 1)
+    → Finishes page top (take 16 spelled) 1 base r → PassesOne bytes count r
+one-passed page spelled clear top base r whole empty has put at made string is pages pc e =
+    let pushed-here : HasPushed (zeros 4096) page 4096 (string ++ 0 ∷ []) top = subst (λ l. HasPushed l page 4096 (string ++ 0 ∷ []) top) whole (subst (λ l. HasPushed clear page 4096 l top) is has) in
+    let pointer = 4096 * (length pages + 1) + top in
+    let stands = pushed-here.stands in
+    let same : base + top ≡ pointer = omega (arith, at, e) in
+    let spells : spelled ≡ flat_map (le 8) (pointer ∷ []) ++ zeros (256 - 8) = put ∙ ap (λ l. overwrite l 0 (le 8 (base + top))) empty ∙ ap (λ p. overwrite (zeros 256) 0 (le 8 p)) same ∙ spelled-more [] _ refl (omega arith) in
+    rw (single pages pc string, pushed pages [] (omega arith) (omega (arith, length-append string (0 ∷ []))) pushed-here)
+    (ends-all _ pc _ _ (omega (arith, stands)) refl (omega arith) spells (omega (arith, at, e)) r made)

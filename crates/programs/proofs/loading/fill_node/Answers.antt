@@ -1,6 +1,6 @@
-use Rattle.programs.proofs.Common.{length, rules, take, ◌∙◌, size-fits, size-whole, read-none}
+use Rattle.programs.proofs.Common.{rules, ◌∙◌, size-fits, size-whole, read-none}
 use Rattle.programs.proofs.Places.{filled-all, filled-inside, filled-kept, filled-more, has-held}
-use Rattle.programs.proofs.Serving.{err-done, err-left, kept-is-file, kept-leaves, lost}
+use Rattle.programs.proofs.Headings.{err-done, err-left, kept-is-file, kept-leaves, lost}
 use Rattle.programs.proofs.loading.fill_node.Goals as goal
 
 pub loop-done-init : goal.loop-done-init
@@ -13,16 +13,16 @@ fill_piece-requires g c =
       up = kept.up;
       file = kept-is-file kept c.requires.file;
       within = search rules;
-      space = has-held c.args.spaces.now c.args.at _ c.loop-done.invariant.bytes c.requires.space;
-      inside = filled-inside c.loop-done.invariant c.requires.space (length (take c.min-size.result c.loop-done.buffer)) c.requires.inside
-          (size-fits c.loop-done.buffer c.min-size.result c.loop-done.done c.args.count c.loop-done-test.true c.min-size.ensures);
+      space = has-held _ _ _ c.loop-done.invariant.bytes c.requires.space;
+      inside = filled-inside c.loop-done.invariant c.requires.space _ c.requires.inside
+          (size-fits _ _ _ _ c.loop-done-test.true c.min-size.ensures);
     }
 
 pub loop-done-preserved : goal.loop-done-preserved
 loop-done-preserved g c =
-    filled-more c.loop-done.invariant c.requires.space (length (take c.min-size.result c.loop-done.buffer)) c.min-size.result
-    (size-whole c.loop-done.buffer c.min-size.result _ c.min-size.array_long c.min-size.ensures) c.loop-done-test.true
-    (size-fits c.loop-done.buffer c.min-size.result c.loop-done.done c.args.count c.loop-done-test.true c.min-size.ensures)
+    filled-more c.loop-done.invariant c.requires.space
+    (size-whole _ _ _ c.min-size.array_long c.min-size.ensures) c.loop-done-test.true
+    (size-fits _ _ _ _ c.loop-done-test.true c.min-size.ensures)
     c.pages_are_whole.ensures.sized c.requires.within c.in_ok-fill_piece.ensures.serves c.in_ok-fill_piece.ensures.filled
 
 pub returns-in_err-fill_piece : goal.returns-in_err-fill_piece
@@ -33,7 +33,7 @@ returns-in_err-fill_piece g c = record {
 }
 
 pub returns-clause-serves : goal.returns-clause-serves
-returns-clause-serves g c = kept-leaves (filled-kept c.loop-done.invariant c.requires.up) _
+returns-clause-serves g c = kept-leaves (filled-kept c.loop-done.invariant c.requires.up)
 
 pub returns-clause-filled : goal.returns-clause-filled
 returns-clause-filled g c = filled-all c.loop-done.invariant c.loop-done-test.false

@@ -4,8 +4,8 @@ use Rattle.programs.proofs.loading.load_segment.Goals as goal
 
 pub returns-clause-loaded : goal.returns-clause-loaded
 returns-clause-loaded g c =
-    segment-loaded c.args.spaces.now c.add_pages.new.spaces c.fill_node.new.spaces c.args.at _ _ _ c.args.segment c.requires.space c.requires.follows
+    segment-loaded _ _ _ _ _ c.requires.space c.requires.follows
     (omega (arith, c.div_ceil-end.ensures, c.pages.ensures.count)) c.add_pages.ensures c.fill_node.result c.fill_node.ensures.filled
 
 pub returns-clause-failed : goal.returns-clause-failed
-returns-clause-failed g c = still-held c.args.spaces.now c.add_pages.new.spaces c.fill_node.new.spaces c.args.at _ c.fill_node.result c.add_pages.ensures c.fill_node.ensures.failed
+returns-clause-failed g c = still-held _ _ _ _ c.fill_node.result c.add_pages.ensures c.fill_node.ensures.failed
