@@ -1,7 +1,6 @@
 -- Bytes of a program that are written into a file in pieces.
-use Rattle.file_transfers.proofs.Common.{◌≡◌, ℕ, zero, suc, ◌+◌, ◌-◌, ◌<◌, ◌≤◌, ◌^◌, ◌⊎◌, inl, inr, Bool, false, true, List, [], ◌++◌, length, take, min, None, Ok, Option, Some, is_some, unwrap_or}
-use Rattle.file_transfers.proofs.Common.{slice_set, refl, ap, subst, sym, ◌∙◌, arith, nat_le, ◌&&◌, take-append-add, cases_eq, cases_lt, cond-true}
-use Rattle.file_transfers.proofs.Common.{false≢true, leb-false, lt-leb, get_or-set_same, length-take, length-take-le, set-get_or, set-set, take-take, take_min, FileTree}
+use Rattle.file_transfers.proofs.Common.{◌≡◌, ℕ, zero, suc, ◌+◌, ◌-◌, ◌<◌, ◌≤◌, ◌^◌, ◌⊎◌, inl, inr, Bool, false, true, List, [], ◌++◌, length, take, min, None, Ok, Option, Some, is_some, unwrap_or, slice_set, refl, ap, subst, sym, ◌∙◌}
+use Rattle.file_transfers.proofs.Common.{arith, nat_le, ◌&&◌, take-append-add, cases_eq, cases_lt, cond-true, false≢true, leb-false, lt-leb, get_or-set_same, length-take, length-take-le, set-get_or, set-set, take-take, take_min, FileTree}
 use Rattle.file_transfers.proofs.Common.{Serves, Load, Files, Node, longest, put, File, Memory, overwrite, reach, read_bytes, IsSized, piece_at, length-piece, reach-front, reach-next, reach-page}
 use Rattle.std.proofs.lemmas.Bool.Decides.{nat_tests}
 use Rattle.std.proofs.lemmas.Option.{none-some}
@@ -20,9 +19,9 @@ record IsGreatest (test : ℕ → Bool) (n k : ℕ) : Type 0 where
   passes : (k ≡ 0) ⊎ (test k ≡ true)
   above : (j : ℕ) → k < j → j ≤ n → test j ≡ false
 
-greatest-stands : (test : ℕ → Bool) (n : ℕ) → IsGreatest test n (greatest test n)
-greatest-stands test zero = record { low = omega arith; passes = inl refl; above = λ j above low. absurd (omega (arith, above, low)) }
-greatest-stands test (suc n) = go (greatest-stands test n) (test (suc n)) refl where
+greatest-stands : {test : ℕ → Bool} (n : ℕ) → IsGreatest test n (greatest test n)
+greatest-stands zero = record { low = omega arith; passes = inl refl; above = λ j above low. absurd (omega (arith, above, low)) }
+greatest-stands {test} (suc n) = go (greatest-stands n) (test (suc n)) refl where
   go : IsGreatest test n (greatest test n) → (b : Bool) → test (suc n) ≡ b → IsGreatest test (suc n) (elim b [ true ↦ suc n | false ↦ greatest test n ])
   go rest true e = record { low = omega arith; passes = inr e; above = λ j above low. absurd (omega (arith, above, low)) }
   go rest false e = let within = rest.low in record {
@@ -35,72 +34,78 @@ greatest-stands test (suc n) = go (greatest-stands test n) (test (suc n)) refl w
   }
 
 pub greatest-low : (test : ℕ → Bool) (n : ℕ) → greatest test n ≤ n
-greatest-low test n = (greatest-stands test n).low
+greatest-low test n = (greatest-stands {test = test} n).low
 
-not-above : (test : ℕ → Bool) (n j k : ℕ) → IsGreatest test n j → IsGreatest test n k → j < k → ⊥
-not-above test n j k first second less = elim second.passes [
+not-above : {test : ℕ → Bool} {n j k : ℕ} → IsGreatest test n j → IsGreatest test n k → j < k → ⊥
+not-above {k} first second less = elim second.passes [
   | inl none ↦ omega (arith, none, less)
   | inr e ↦ absurd (false≢true (sym (first.above k less second.low) ∙ e))
 ]
 
-greatest-is : (test : ℕ → Bool) (n j k : ℕ) → IsGreatest test n j → IsGreatest test n k → j ≡ k
-greatest-is test n j k first second = elim (cases_lt j k) [
-  | inl less ↦ absurd (not-above test n j k first second less)
+greatest-is : (test : ℕ → Bool) {n : ℕ} (j k : ℕ) → IsGreatest test n j → IsGreatest test n k → j ≡ k
+greatest-is test {n} j k first second = elim (cases_lt j k) [
+  | inl less ↦ absurd (not-above first second less)
   | inr more ↦ elim (cases_eq j k) [
     | inl same ↦ same
-    | inr other ↦ absurd (not-above test n k j second first (omega (arith, more, other)))
+    | inr other ↦ absurd (not-above second first (omega (arith, more, other)))
   ]
 ]
 
 -- ---- a file of which the first bytes are written
 
-module _ (limit : ℕ) (files : Files) (n : ℕ) (file : IsFile files n) (at : ℕ) (new : List ℕ) (start : at ≤ length file.bytes) (short : at + length new ≤ longest) where
+-- a write from a place of the file on, which gets no longer than files may be
+pub record Writes (limit : ℕ) (files : Files) (n at : ℕ) (new : List ℕ) : Type 0 where
+  pub file : IsFile files n
+  pub start : at ≤ length file.bytes
+  pub short : at + length new ≤ longest
+
+module _ {limit : ℕ} {files : Files} {n at : ℕ} {new : List ℕ} (w : Writes limit files n at new) where
   abbrev front : ℕ → Files
-  front k = with_file files n file.links (overwrite file.bytes at (take k new))
+  front k = with_file files n w.file.links (overwrite w.file.bytes at (take k new))
 
   abbrev test : ℕ → Bool
   test k = nat_le (blocks_of (front k)) limit
 
   abbrev fits-all : ℕ
-  fits-all = fitting limit files n at file.links file.bytes new
+  fits-all = fitting limit files n at w.file.links w.file.bytes new
 
   inside : n < length files
-  inside = slot-within files n (File file.links file.bytes) file.here
+  inside = slot-within files n (File w.file.links w.file.bytes) w.file.here
 
-  pub written-some : written limit files n at new ≡ Some (with_bytes files n at file.links file.bytes new fits-all)
+  pub written-some : written limit files n at new ≡ Some (with_bytes files n at w.file.links w.file.bytes new fits-all)
   unfolding written
   written-some =
-      ap (write_to limit files n at new) file.here
-      ∙ cond-true (nat_le at (length file.bytes) && nat_le (at + length new) longest) (Some (with_bytes files n at file.links file.bytes new fits-all)) None (grind (arith, nat_tests, start, short))
+      ap (write_to limit files n at new) w.file.here
+      ∙ cond-true (nat_le at (length w.file.bytes) && nat_le (at + length new) longest) (Some (with_bytes files n at w.file.links w.file.bytes new fits-all)) None (grind (arith, nat_tests, w.start, w.short))
 
-  length-front : (k : ℕ) → k ≤ length new → length (overwrite file.bytes at (take k new)) ≡ at + k + (length file.bytes - (at + k))
-  length-front k low = omega (arith, length-overwrite file.bytes at (take k new) start, length-take-le k new low)
+  length-front : (k : ℕ) → k ≤ length new → length (overwrite w.file.bytes at (take k new)) ≡ at + k + (length w.file.bytes - (at + k))
+  length-front k low = omega (arith, length-overwrite w.file.bytes at (take k new) w.start, length-take-le k new low)
 
   -- more bytes take no fewer blocks
   front-grows : (j k : ℕ) → j ≤ k → k ≤ length new → blocks_of (front j) ≤ blocks_of (front k)
   front-grows j k less high =
-      let xs = overwrite file.bytes at (take j new) in
-      let ys = overwrite file.bytes at (take k new) in
-      let b = blocks_of-set files n (Some (File file.links xs)) inside in
-      let c = blocks_of-set files n (Some (File file.links ys)) inside in
+      let xs = overwrite w.file.bytes at (take j new) in
+      let ys = overwrite w.file.bytes at (take k new) in
+      let b = blocks_of-set files n (Some (File w.file.links xs)) inside in
+      let c = blocks_of-set files n (Some (File w.file.links ys)) inside in
       let grows = taken-grows (length xs) (length ys) (omega (arith, less, length-front j (omega (arith, less, high)), length-front k high)) in
       omega (arith, b, c, grows)
 
-  test-falls : (j k : ℕ) → j ≤ k → k ≤ length new → test j ≡ false → test k ≡ false
-  test-falls j k less high over = lt-leb (blocks_of (front k)) limit (omega (arith, leb-false (blocks_of (front j)) limit over, front-grows j k less high))
+  test-falls : {j : ℕ} (k : ℕ) → j ≤ k → k ≤ length new → test j ≡ false → test k ≡ false
+  test-falls {j} k less high over = lt-leb (blocks_of (front k)) limit (omega (arith, leb-false (blocks_of (front j)) limit over, front-grows j k less high))
 
   -- so many go, and no more
   fitting-stands : IsGreatest test (length new) fits-all
   unfolding fitting
-  fitting-stands = greatest-stands test (length new)
+  fitting-stands = greatest-stands (length new)
 
   -- what is told of a write of them
-  pub told-written : (k : ℕ) → fits-all ≡ k → (files_after files (written limit files n at new) ≡ front k) × (Some k ≡ count_of (written limit files n at new))
-  told-written k is = rw (written-some, is) (refl, refl)
+  pub told-written : {k : ℕ} → fits-all ≡ k → (files_after files (written limit files n at new) ≡ front k) × (Some k ≡ count_of (written limit files n at new))
+  told-written is = rw (written-some, is) (refl, refl)
 
   -- nothing is written yet
   pub front-none : front 0 ≡ files
-  front-none = ap (λ bytes. put files n (File file.links bytes)) (overwrite-none file.bytes at) ∙ ap (λ (o : Option Node). slice_set files n o) (sym file.here) ∙ set-get_or files n None
+  front-none = ap (λ bytes. put files n (File w.file.links bytes)) (overwrite-none at) ∙ ap (λ (o : Option Node). slice_set files n o) (sym w.file.here) ∙ set-get_or files n None
 
 -- ---- the pieces of a write
 
@@ -121,17 +126,16 @@ Tells old now n at new told =
 -- the first bytes are written, and there are blocks for them
 pub record HasWritten (old now : FileTree) (n at : ℕ) (new : List ℕ) (done : ℕ) : Type 0 where
   pub within : done ≤ length new
-  pub file : IsFile old.files n
-  pub start : at ≤ length file.bytes
-  pub short : at + length new ≤ longest
+  pub writes : Writes old.block_limit old.files n at new
+  pub open writes use *
   pub same : now ≡ record old { files = with_file old.files n file.links (overwrite file.bytes at (take done new)); failures = now.failures }
   pub fits : (done ≡ 0) ⊎ (nat_le (blocks_of (with_file old.files n file.links (overwrite file.bytes at (take done new)))) old.block_limit ≡ true)
   pub later : old.failures ≤ now.failures
 
 -- where the place lies past the end, or the file would be too long, nothing is written
-pub write-refused : (old now : FileTree) (n at : ℕ) (new : List ℕ) (file : IsFile old.files n) → now ≡ record old { failures = now.failures } → (length file.bytes < at) ⊎ (longest < at + length new) → Tells old now n at new None
+pub write-refused : (old : FileTree) {now : FileTree} {n at : ℕ} (new : List ℕ) (file : IsFile old.files n) → now ≡ record old { failures = now.failures } → (length file.bytes < at) ⊎ (longest < at + length new) → Tells old now n at new None
 unfolding written
-write-refused old now n at new file same over =
+write-refused old {now} {n} {at} new file same over =
     let never : (nat_le at (length file.bytes) && nat_le (at + length new) longest) ≡ false = grind (arith, nat_tests, over) in
     let none : written old.block_limit old.files n at new ≡ None = rw (file.here, never) refl in
     (same ∙ ap (λ (o : Option Written). record old { files = files_after old.files o; failures = now.failures }) (sym none), ap count_of (sym none))
@@ -139,10 +143,8 @@ write-refused old now n at new file same over =
 pub write-begun : {old now : FileTree} {n at : ℕ} {new : List ℕ} (file : IsFile old.files n) → at ≤ length file.bytes → at + length new ≤ longest → now ≡ record old { failures = now.failures } → old.failures ≤ now.failures → HasWritten old now n at new 0
 write-begun {old} {now} {n} {at} {new} file start short same later = record {
   within = omega arith;
-  file = file;
-  start = start;
-  short = short;
-  same = same ∙ ap (λ (f : Files). record old { files = f; failures = now.failures }) (sym (front-none old.block_limit old.files n file at new start short));
+  writes = record { file = file; start = start; short = short };
+  same = same ∙ ap (λ (f : Files). record old { files = f; failures = now.failures }) (sym (front-none {limit = old.block_limit} (record { file = file; start = start; short = short })));
   fits = inl refl;
   later = later;
 }
@@ -151,19 +153,18 @@ module _ {old now : FileTree} {n at : ℕ} {new : List ℕ} {done : ℕ} (has : 
   abbrev first : ℕ → Files
   first k = with_file old.files n has.file.links (overwrite has.file.bytes at (take k new))
 
-  tells-first : (next : FileTree) (k : ℕ) → IsGreatest (test old.block_limit old.files n has.file at new has.start has.short) (length new) k → next ≡ record old { files = first k; failures = next.failures } → Tells old next n at new (Some k)
-  tells-first next k stands same =
-      let most = fitting-stands old.block_limit old.files n has.file at new has.start has.short in
-      let told = told-written old.block_limit old.files n has.file at new has.start has.short k (greatest-is _ (length new) _ k most stands) in
+  tells-first : {next : FileTree} {k : ℕ} → IsGreatest (test has.writes) (length new) k → next ≡ record old { files = first k; failures = next.failures } → Tells old next n at new (Some k)
+  tells-first {next} {k} stands same =
+      let told = told-written has.writes (greatest-is _ _ k (fitting-stands has.writes) stands) in
       (same ∙ ap (λ (f : Files). record old { files = f; failures = next.failures }) (sym told.0), told.1)
 
-  pub write-serves : {T : Type 0} {Told : T → Type 0} → old.failed ≡ false → (x : T) → Told x → Serves old now (Ok x) Told
-  write-serves up x told = serves-told x told (ap (λ (t : FileTree). t.failed) has.same ∙ up) (ap (λ (t : FileTree). t.identity) has.same) has.later
+  pub write-serves : {T : Type 0} {Told : T → Type 0} → old.failed ≡ false → {x : T} → Told x → Serves old now (Ok x) Told
+  write-serves up {x} told = serves-told x told (ap (λ (t : FileTree). t.failed) has.same ∙ up) (ap (λ (t : FileTree). t.identity) has.same) has.later
 
   -- all are written
   pub write-all : length new ≤ done → Tells old now n at new (Some done)
   write-all over =
-      tells-first now done (record { low = has.within; passes = has.fits; above = λ j above high. absurd (omega (arith, above, high, over)) }) has.same
+      tells-first (record { low = has.within; passes = has.fits; above = λ j above high. absurd (omega (arith, above, high, over)) }) has.same
 
   abbrev mid : IsFile (first done) n
   mid = record {
@@ -181,7 +182,7 @@ module _ {old now : FileTree} {n at : ℕ} {new : List ℕ} {done : ℕ} (has : 
     fits = piece.within
 
     mid-start : at + done ≤ length (overwrite has.file.bytes at (take done new))
-    mid-start = omega (arith, length-front old.block_limit old.files n has.file at new has.start has.short done (omega (arith, fits)))
+    mid-start = omega (arith, length-front has.writes done (omega (arith, fits)))
 
     mid-short : at + done + length q ≤ longest
     mid-short = let short = has.short in omega (arith, short, fits)
@@ -197,22 +198,22 @@ module _ {old now : FileTree} {n at : ℕ} {new : List ℕ} {done : ℕ} (has : 
         ∙ take-take (done + k) (done + length q) new (omega (arith, low))
 
     -- bytes of the piece behind the first ones
-    joins : (k : ℕ) → k ≤ length q → with_file (first done) n has.file.links (overwrite (overwrite has.file.bytes at (take done new)) (at + done) (take k q)) ≡ first (done + k)
-    joins k low =
+    joins : {k : ℕ} → k ≤ length q → with_file (first done) n has.file.links (overwrite (overwrite has.file.bytes at (take done new)) (at + done) (take k q)) ≡ first (done + k)
+    joins {k} low =
         ap (λ m. with_file (first done) n has.file.links (overwrite (overwrite has.file.bytes at (take done new)) (at + m) (take k q))) (sym done-length)
-        ∙ ap (with_file (first done) n has.file.links) (overwrite-twice has.file.bytes at (take done new) (take k q) has.start)
+        ∙ ap (with_file (first done) n has.file.links) (overwrite-twice _ _ _ has.start)
         ∙ set-set old.files n (Some (File has.file.links (overwrite has.file.bytes at (take done new)))) (Some (File has.file.links (overwrite has.file.bytes at (take done new ++ take k q))))
         ∙ ap (λ bytes. with_file old.files n has.file.links (overwrite has.file.bytes at bytes)) (joined k low)
 
-    abbrev piece-fits : ℕ
-    piece-fits = fits-all old.block_limit (first done) n mid (at + done) q mid-start mid-short
+    abbrev piece-writes : Writes old.block_limit (first done) n (at + done) q
+    piece-writes = record { file = mid; start = mid-start; short = mid-short }
 
-    piece-stands : IsGreatest (test old.block_limit (first done) n mid (at + done) q mid-start mid-short) (length q) piece-fits
-    piece-stands = fitting-stands old.block_limit (first done) n mid (at + done) q mid-start mid-short
+    abbrev piece-fits : ℕ
+    piece-fits = fits-all piece-writes
 
     module _ {next : FileTree} {told : Option ℕ} (tells : Tells now next n (at + done) q told) where
       told-is : told ≡ Some piece-fits
-      told-is = tells.1 ∙ ap (λ (t : FileTree). count_of (written t.block_limit t.files n (at + done) q)) has.same ∙ ap count_of (written-some old.block_limit (first done) n mid (at + done) q mid-start mid-short)
+      told-is = tells.1 ∙ ap (λ (t : FileTree). count_of (written t.block_limit t.files n (at + done) q)) has.same ∙ ap count_of (written-some piece-writes)
 
       -- a write that is refused would have begun elsewhere
       pub never-refused : told ≡ None → ⊥
@@ -222,8 +223,8 @@ module _ {old now : FileTree} {n at : ℕ} {new : List ℕ} {done : ℕ} (has : 
         went-is : piece-fits ≡ k
         went-is = let e : Some piece-fits ≡ Some k = sym told-is ∙ went in cc
 
-        stands : IsGreatest (test old.block_limit (first done) n mid (at + done) q mid-start mid-short) (length q) k
-        stands = subst (IsGreatest (test old.block_limit (first done) n mid (at + done) q mid-start mid-short) (length q)) went-is piece-stands
+        stands : IsGreatest (test piece-writes) (length q) k
+        stands = subst (IsGreatest (test piece-writes) (length q)) went-is (fitting-stands piece-writes)
 
         pub went-low : k ≤ length q
         went-low = stands.low
@@ -232,21 +233,19 @@ module _ {old now : FileTree} {n at : ℕ} {new : List ℕ} {done : ℕ} (has : 
         next-first =
             tells.0
             ∙ ap (λ (t : FileTree). record t { files = files_after t.files (written t.block_limit t.files n (at + done) q); failures = next.failures }) has.same
-            ∙ ap (λ (f : Files). record old { files = f; failures = next.failures }) ((told-written old.block_limit (first done) n mid (at + done) q mid-start mid-short k went-is).0 ∙ joins k went-low)
+            ∙ ap (λ (f : Files). record old { files = f; failures = next.failures }) ((told-written piece-writes went-is).0 ∙ joins went-low)
 
         -- where some go, there are blocks for them
         passes : (done + k ≡ 0) ⊎ (nat_le (blocks_of (first (done + k))) old.block_limit ≡ true)
         passes = elim stands.passes [
-          | inr can ↦ inr (ap (λ (f : Files). nat_le (blocks_of f) old.block_limit) (sym (joins k went-low)) ∙ can)
+          | inr can ↦ inr (ap (λ (f : Files). nat_le (blocks_of f) old.block_limit) (sym (joins went-low)) ∙ can)
           | inl none ↦ let e : done ≡ done + k = omega (arith, none) in subst (λ j. (j ≡ 0) ⊎ (nat_le (blocks_of (first j)) old.block_limit ≡ true)) e has.fits
         ]
 
         pub write-more : now.failures ≤ next.failures → HasWritten old next n at new (done + k)
         write-more later = let was = has.later in record {
           within = omega (arith, fits, went-low);
-          file = has.file;
-          start = has.start;
-          short = has.short;
+          writes = has.writes;
           same = next-first;
           fits = passes;
           later = omega (arith, was, later);
@@ -259,13 +258,13 @@ module _ {old now : FileTree} {n at : ℕ} {new : List ℕ} {done : ℕ} (has : 
             let e : done + (j - done) ≡ j = omega (arith, above) in
             let low : j - done ≤ length q = omega (arith, high) in
             ap (λ i. nat_le (blocks_of (first i)) old.block_limit) (sym e)
-            ∙ ap (λ (f : Files). nat_le (blocks_of f) old.block_limit) (sym (joins (j - done) low))
+            ∙ ap (λ (f : Files). nat_le (blocks_of f) old.block_limit) (sym (joins low))
             ∙ stands.above (j - done) (omega (arith, above)) low in
             let past : (j : ℕ) → done + k < j → j ≤ length new → nat_le (blocks_of (first j)) old.block_limit ≡ false = λ j above high. elim (cases_lt (done + length q) j) [
               | inr near ↦ over j above near
-              | inl far ↦ test-falls old.block_limit old.files n has.file at new has.start has.short (done + length q) j (omega (arith, far)) high (over (done + length q) (omega (arith, less)) (omega arith))
+              | inl far ↦ test-falls has.writes j (omega (arith, far)) high (over (done + length q) (omega (arith, less)) (omega arith))
             ] in
-            tells-first next (done + k) (record { low = omega (arith, fits, less); passes = passes; above = past }) next-first
+            tells-first (record { low = omega (arith, fits, less); passes = passes; above = past }) next-first
 
 -- ---- the bytes of a program
 
@@ -275,7 +274,7 @@ module _ (mem : Memory) (address count : ℕ) (readable : is_some (read_bytes me
 
   -- bytes that can be read are the first that are reached
   given-is : (count ≤ length (reach Load mem address)) × (given ≡ take count (reach Load mem address))
-  given-is = readable-count mem address count readable
+  given-is = readable-count _ _ _ readable
 
   pub given-length : length given ≡ count
   given-length = ap length given-is.1 ∙ length-take-le count (reach Load mem address) given-is.0
@@ -287,11 +286,11 @@ module _ (mem : Memory) (address count : ℕ) (readable : is_some (read_bytes me
   ]
 
   -- all of them lie in one page
-  pub given-whole : (q : List ℕ) → IsSized mem → q ≡ take count (piece_at Load mem address) → length q ≡ count → q ≡ given
-  given-whole q sized is whole =
+  pub given-whole : {q : List ℕ} → IsSized mem → q ≡ take count (piece_at Load mem address) → length q ≡ count → q ≡ given
+  given-whole sized is whole =
       let page = piece_at Load mem address in
       let long : count ≤ length page = omega (arith, ap length is, length-take count page, whole) in
-      is ∙ sym (given-is.1 ∙ reach-front Load mem address count sized (omega (arith, long, length-piece Load mem address sized)))
+      is ∙ sym (given-is.1 ∙ reach-front _ _ _ _ sized (omega (arith, long, length-piece Load mem address sized)))
 
   module _ (done : ℕ) (less : done < count) (sized : IsSized mem) where
     near : done < length (reach Load mem address)
@@ -308,12 +307,12 @@ module _ (mem : Memory) (address count : ℕ) (readable : is_some (read_bytes me
       is-piece =
           let p = piece_at Load mem (address + done) in
           let begin : (k : ℕ) → k ≤ count → take k given ≡ take k (reach Load mem address) = λ k low. ap (take k) given-is.1 ∙ take-take k count (reach Load mem address) low in
-          let same : q ≡ take (length q) p = is ∙ sym (take_min (count - done) p) ∙ ap (λ j. take j p) (sym long) in
+          let same : q ≡ take (length q) p = is ∙ sym (take_min _ p) ∙ ap (λ j. take j p) (sym long) in
           record {
             some = omega (arith, long, less, (reach-page Load mem address done sized near).1);
             within = omega (arith, long, less, given-length);
             part = ap (λ l. l ++ q) (begin done (omega (arith, less)))
                 ∙ ap (λ l. take done (reach Load mem address) ++ l) same
-                ∙ reach-next Load mem address done (length q) sized (omega (arith, near)) (omega (arith, long))
+                ∙ reach-next _ _ _ _ _ sized (omega (arith, near)) (omega (arith, long))
                 ∙ sym (begin (done + length q) (omega (arith, long, less)));
           }

@@ -1,4 +1,3 @@
 mod Common
 pub mod Memory
-pub mod Pieces
 pub mod Fits

@@ -1,5 +1,5 @@
-use Rattle.file_transfers.proofs.Common.{arith, length, sym, length-take, length-take-le, page-there}
-use Rattle.file_transfers.proofs.Pieces.{piece-fits}
+use Rattle.file_transfers.proofs.Common.{arith, sym, length-take, length-take-le, page-there}
+use Rattle.file_transfers.proofs.Memory.{piece-fits}
 use Rattle.file_transfers.proofs.reading.read_piece.Goals as goal
 
 pub slice_bounds-fill-end : goal.slice_bounds-fill-end
@@ -15,4 +15,4 @@ slice_bounds-fill-end-2 g c =
 pub fill-requires-clause-inside : goal.fill-requires-clause-inside
 fill-requires-clause-inside g c = λ i low.
     let told = c.in_ok-count.ensures.told.1 c.requires.node.0 c.requires.node.1 in
-    page-there _ c.args.address (length c.args.buffer.now) i c.pages_are_whole.ensures.sized c.requires.writable (omega (arith, low, length-take c.in_ok-count.count c.read.new.out, told.0))
+    page-there _ _ _ i c.pages_are_whole.ensures.sized c.requires.writable (omega (arith, low, length-take c.in_ok-count.count c.read.new.out, told.0))

@@ -14,7 +14,7 @@ returns-then-offset-size g c =
     let size = (told.1 (File c.requires.file.links c.requires.file.bytes) c.requires.file.here).2 in
     let whole = given-length _ c.args.address c.args.count c.requires.readable in
     serves-told {Told = Tells c.args.tree.now c.stat.new.self c.args.number c.args.offset given} _
-    (write-refused c.args.tree.now c.stat.new.self c.args.number c.args.offset given c.requires.file told.0 (elim c.then-offset-size.branch [
+    (write-refused c.args.tree.now given c.requires.file told.0 (elim c.then-offset-size.branch [
       | then-offset-size-via-then-offset-size w ↦ let past = w.if-offset-size.true in inl (omega (arith, past, size))
       | then-offset-size-via-else-offset-size+then-from-count w ↦ let long = w.if-from-count.true in let from = w.from.ensures in inr (omega (arith, long, from, whole))
     ]))
@@ -54,7 +54,7 @@ returns-then-went-piece g c =
     let piece = is-piece _ c.args.address c.args.count c.requires.readable c.loop-done.done c.loop-done-test.true c.pages_are_whole.ensures.sized c.piece-piece.result.now c.piece-piece.ensures in
     let more = write-more {new = given} c.loop-done.invariant piece c.in_ok-went.ensures.told c.in-Some.went c.in-Some.is c.write.ensures.cause.later in
     let part = write-part {new = given} c.loop-done.invariant piece c.in_ok-went.ensures.told c.in-Some.went c.in-Some.is c.if-went-piece.true in
-    write-serves {new = given} more {Told = Tells c.args.tree.now c.write.new.self c.args.number c.args.offset given} c.requires.up _ part
+    write-serves {new = given} more {Told = Tells c.args.tree.now c.write.new.self c.args.number c.args.offset given} c.requires.up part
 
 pub loop-done-smaller : goal.loop-done-smaller
 loop-done-smaller g c =
@@ -71,4 +71,4 @@ pub returns : goal.returns
 returns g c =
     let given = bytes_given c.args.spaces.now c.args.at c.args.address c.args.count in
     let whole = given-length _ c.args.address c.args.count c.requires.readable in
-    write-serves {new = given} c.loop-done.invariant {Told = Tells c.args.tree.now c.loop-done.tree c.args.number c.args.offset given} c.requires.up _ (write-all {new = given} c.loop-done.invariant (omega (arith, whole, c.loop-done-test.false)))
+    write-serves {new = given} c.loop-done.invariant {Told = Tells c.args.tree.now c.loop-done.tree c.args.number c.args.offset given} c.requires.up (write-all {new = given} c.loop-done.invariant (omega (arith, whole, c.loop-done-test.false)))
