@@ -20,8 +20,8 @@ pub use Rattle.files.proofs.CountsLemmas.{count-closed, count-moved, count-opene
 pub use Rattle.files.proofs.Free.{free-opens, free-place, free-put, free-Some}
 pub use Rattle.files.proofs.PipesLemmas.{has_pipe-clear, has_pipe-put, IsLeftOf, piped-end, piped-last, piped-node, pipes-clear, pipes-left, pipes-same, without_pipes-left, without_pipes-same}
 pub use Rattle.files.proofs.Mapped.{all-set}
-pub use Rattle.files.proofs.Whole.{fewer-from, file-opens, free_slot-opens, IsLeft, left-closed, left-same, length-opens, opens-closed, opens-closed_last, opens-opened, opens-shared, set_outside, slot-opens, table-closed}
-pub use Rattle.files.proofs.Whole.{table-moved, table-opened, table-shared, without_opens-left, without_opens-same}
+pub use Rattle.files.proofs.Whole.{fewer-from, file-opens, free_slot-opens, IsLeft, left-closed, left-same, length-opens, opens-closed, opens-closed_last, opens-opened, opens-shared, set_outside, slot-opens, table-closed, table-moved}
+pub use Rattle.files.proofs.Whole.{table-opened, table-shared, without_opens-left, without_opens-same}
 pub use Rattle.files.specs.Counts.{names, one_in}
 pub use Rattle.files.specs.Meant.{end_of, file_of, target_of}
 pub use Rattle.files.specs.Pipes.{IsPiped}
@@ -29,7 +29,7 @@ pub use Rattle.files.specs.Places.{closed, count_at, count_in, Counted, fewer, f
 pub use Rattle.names.proofs.Finding.{slot-within}
 pub use Rattle.names.specs.Changes.{Changed, Loses, shape}
 pub use Rattle.names.specs.Rules.{KeepsTree}
-pub use Rattle.proc.proofs.Following.{found-any, next-same}
+pub use Rattle.proc.proofs.Waiting.{found-any, next-same}
 pub use Rattle.proc.specs.Mask.{is_in}
 unfoldable pub use Rattle.proc.specs.Mask.{all_in}
 pub use Rattle.proc.specs.Pick.{Answers, Picks, place_in_round}

@@ -9,7 +9,7 @@ use Rattle.kernel.specs.declared.channels.Channel.{Channel}
 use Rattle.kernel.proofs.Holding.{orphan-by, slot-map}
 use Rattle.kernel.proofs.Masks.{fewer-put, roused-out}
 use Rattle.kernel.proofs.Readies.{children-seen, held-same, ready-seen}
-use Rattle.proc.proofs.Looking.{all-in}
+use Rattle.proc.proofs.Waiting.{all-in}
 use Rattle.proc.specs.Places as table
 use Rattle.unixmodel.specs.OpenFiles.{OpenFile, Target}
 use Rattle.unixmodel.specs.Turn as turn

@@ -1,10 +1,11 @@
 -- The bits of a number, and the places of a mask.
-use Rattle.proc.proofs.Common.{Bool, List, ap, arith, false, inl, inr, length, refl, sym, suc, true, w64, zero, ℕ, ◌%◌, ◌*◌, ◌+◌, ◌-◌, ◌/◌, ◌<◌, ◌==◌, ◌∙◌, ◌≡◌, ◌≢◌, ◌≤◌, ◌^◌}
-use Rattle.proc.proofs.Common.{bit_and, bit_or, slice_set, cases_eq, cases_lt, ext_get_or, get_or-set_other, get_or-set_same, set_past, IsNext, NoneIsIn, bits_of, is_in, place_in_round}
+use Rattle.proc.proofs.Common.{Bool, List, ap, arith, false, inl, inr, length, refl, sym, suc, true, w64, zero, ℕ, ◌%◌, ◌*◌, ◌+◌, ◌-◌, ◌/◌, ◌<◌, ◌==◌, ◌∙◌, ◌≡◌, ◌≢◌, ◌≤◌, ◌^◌, bit_and, bit_or, slice_set, cases_eq, cases_lt, ext_get_or}
+use Rattle.proc.proofs.Common.{get_or-set_other, get_or-set_same, set_past, IsNext, NoneIsIn, bits_of, is_in, place_in_round}
 use Rattle.std.specs.Int.{bit_at, bit_not, rotate_right, trailing_zeros}
 use Rattle.std.proofs.lemmas.List.{length-set}
 use Rattle.std.proofs.lemmas.Nat.{mod_below, or_lt, pow_pos, shr-shr, shr_le, shr_split}
-use Rattle.std.proofs.lemmas.Nat.Bits.{bit_at-suc, bit_at-trailing_zeros, bit_at-zero, bit_at_above, bit_at_cat_high, bit_at_cat_low, bit_at_clear_other, bit_at_clear_same, bit_at_lowest, bit_at_or, bit_at_set_other, bit_at_set_same, shr_and_one}
+use Rattle.std.proofs.lemmas.Nat.Bits.{bit_at-suc, bit_at-trailing_zeros, bit_at-zero, bit_at_above, bit_at_cat_high, bit_at_cat_low, bit_at_clear_other, bit_at_clear_same, bit_at_lowest, bit_at_or, bit_at_set_other, bit_at_set_same}
+use Rattle.std.proofs.lemmas.Nat.Bits.{shr_and_one}
 
 -- ---- the list of bits
 

@@ -1,7 +1,8 @@
 -- Where processes may wait.
-use Rattle.proc.proofs.Common.{Bool, List, None, Ok, Option, Some, [], ap, arith, false, length, map, option_map, refl, subst, suc, sym, true, zero, ℕ, ◌+◌, ◌-◌, ◌<◌, ◌∙◌, ◌∷◌, ◌≡◌, ◌≤◌, Err}
-use Rattle.proc.proofs.Common.{if◌then◌else◌, nat_le, slice_set, refill, leb-true, true≢false, IsFirstFrom, IsNext, NoneFrom, NoneIsIn, all_in, is_in, place_in_round}
-use Rattle.proc.proofs.Common.{Places, is_child_of, orphaned, seat_at, seat_of, AreWithin, IsFirstWaiting, IsWithin, NoneWaits, waits_so, with_place, Process, Inside, WaitPlaces, free_slot, slot, holds}
+use Rattle.proc.proofs.Common.{Bool, List, [], arith, false, get_or, inl, inr, length, refl, subst, suc, true, zero, ℕ, ◌+◌, ◌<◌, ◌∷◌, ◌≡◌, ◌≤◌, slice_set, cases_lt, get_or-set_same, IsNext, NoneIsIn, all_in, is_in, IsFirst, NoneSays}
+use Rattle.proc.proofs.Common.{place_in_round, None, Ok, Option, Some, ap, map, option_map, sym, ◌-◌, ◌∙◌, Err, if◌then◌else◌, nat_le, refill, leb-true, true≢false, IsFirstFrom, NoneFrom, Places, is_child_of, orphaned, seat_at, seat_of}
+use Rattle.proc.proofs.Common.{AreWithin, IsFirstWaiting, IsWithin, NoneWaits, waits_so, with_place, Process, Inside, WaitPlaces, free_slot, slot, holds, take, cond, is_some, position, ◌==◌, ◌||◌, list_any, eq-eqb, le-ltb, lt-ltb, ne_eqb}
+use Rattle.proc.proofs.Common.{take_all, IsNextOf, lesser, has_pid, place_where}
 use Rattle.std.proofs.Common.{length-set}
 use Rattle.std.proofs.lemmas.List.{length-map}
 use Rattle.arrayvec.proofs.ArrayVecLemmas.{items-with_items}
@@ -10,8 +11,104 @@ use Rattle.proc.specs.declared.table.ProcFault.TheVariants.{Pids}
 use Rattle.proc.specs.declared.table.Seat.{Seat}
 use Rattle.proc.specs.declared.waits.WaitKind.{WaitKind}
 use Rattle.proc.specs.declared.waits.WaitKind.TheVariants.{Child, Time, Transfer}
-use Rattle.proc.proofs.Looking.{all-in, set-all, up_to, up_to-more}
 use Rattle.unixmodel.specs.Process.{last_pid}
+use Rattle.std.proofs.Math.Bool.{or-false}
+use Rattle.std.proofs.lemmas.Bool.{or_right}
+use Rattle.std.proofs.lemmas.Iterator.Adapters.{position_from-zero}
+use Rattle.std.proofs.lemmas.List.Folds.{list_any_more}
+use Rattle.std.specs.List.{position_from}
+
+-- ---- a pick that goes on from a turn of its round
+
+-- in the set of all places each is
+pub all-in : (n i : ℕ) → is_in (all_in n) i ≡ true
+unfolding all_in
+all-in zero i = refl
+all-in (suc n) zero = refl
+all-in (suc n) (suc i) = all-in n i
+
+-- what holds of each place of a list, where one has something else
+pub set-all : {X : Type 0} (P : ℕ → X → Type 0) (xs : List X) (i : ℕ) (x d : X) → P i x → ((j : ℕ) → P j (get_or xs j d)) → (j : ℕ) → P j (get_or (slice_set xs i x) j d)
+set-all P [] i x d here each j = each j
+set-all P (y ∷ ys) zero x d here each zero = here
+set-all P (y ∷ ys) zero x d here each (suc j) = each (suc j)
+set-all P (y ∷ ys) (suc i) x d here each zero = each 0
+set-all P (y ∷ ys) (suc i) x d here each (suc j) = set-all (λ n. P (suc n)) ys i x d here (λ n. each (suc n)) j
+
+-- ---- what holds of each number from one up to another
+
+module _ {P : ℕ → Type 0} {low mid : ℕ} (first' : (k : ℕ) → low ≤ k → k < mid → P k) where
+  -- and from there up to a third
+  pub up_to : (high : ℕ) → ((k : ℕ) → mid ≤ k → k < high → P k) → (k : ℕ) → low ≤ k → k < high → P k
+  up_to high then' k more less = elim (cases_lt k mid) [
+    | inl before ↦ first' k more before
+    | inr behind ↦ then' k behind less
+  ]
+
+  -- and of one more
+  pub up_to-more : P mid → (k : ℕ) → low ≤ k → k < mid + 1 → P k
+  up_to-more here = up_to (mid + 1) (λ k behind less. let same : mid ≡ k = omega arith in subst P same here)
+
+-- ---- a look that changes nothing
+
+-- in none of the turns so far it is yes
+pub record HasLooked (says : ℕ → Bool → Type 0) (last turn : ℕ) : Type 0 where
+  pub in_round : (1 ≤ turn) × (turn ≤ 65)
+  pub before : (k : ℕ) → 1 ≤ k → k < turn → says (place_in_round last k) false
+
+pub looked-none : (says : ℕ → Bool → Type 0) (last : ℕ) → HasLooked says last 1
+looked-none says last = record { in_round = (omega arith, omega arith); before = λ k low high. absurd (omega arith) }
+
+module _ {says : ℕ → Bool → Type 0} {last turn : ℕ} (looked : HasLooked says last turn) (awake : List Bool) (asleep : (i : ℕ) → is_in awake i ≡ false → says i false) where
+  looked-to : (to : ℕ) → NoneIsIn awake last turn to → (k : ℕ) → 1 ≤ k → k < to → says (place_in_round last k) false
+  looked-to to out = up_to looked.before to (λ k low high. asleep (place_in_round last k) (out k low high))
+
+  module _ {next : ℕ} (is : IsNext awake last turn next) where
+    pub looked-first : says (place_in_round last next) true → IsFirst says last (place_in_round last next)
+    looked-first yes' = let from = looked.in_round in let to = is.in_round in record {
+      turn = next;
+      in_round = (omega arith, omega arith);
+      there = refl;
+      yes = yes';
+      before = looked-to next is.before;
+    }
+
+    pub looked-on : says (place_in_round last next) false → HasLooked says last (next + 1)
+    looked-on no' = let from = looked.in_round in let to = is.in_round in record {
+      in_round = (omega arith, omega arith);
+      before = up_to-more {P = λ k. says (place_in_round last k) false} (looked-to next is.before) no';
+    }
+
+  pub looked-all : NoneIsIn awake last turn 65 → NoneSays says last
+  looked-all out = λ k low high. looked-to 65 out k low (omega arith)
+
+-- ---- a look after which who isn't ready sleeps
+
+-- who isn't awake isn't ready, and no place of the turns so far is awake
+pub record IsLooking (says : ℕ → Bool → Type 0) (last : ℕ) (awake : List Bool) (turn : ℕ) : Type 0 where
+  pub passed : HasLooked (λ i. λ b. is_in awake i ≡ b) last turn
+  pub asleep : (i : ℕ) → is_in awake i ≡ false → says i false
+
+pub looks-begin : (says : ℕ → Bool → Type 0) (last : ℕ) (awake : List Bool) → ((i : ℕ) → is_in awake i ≡ false → says i false) → IsLooking says last awake 1
+looks-begin says last awake asleep = record { passed = looked-none (λ i. λ b. is_in awake i ≡ b) last; asleep = asleep }
+
+module _ {says : ℕ → Bool → Type 0} {last : ℕ} {awake : List Bool} {turn : ℕ} (looks : IsLooking says last awake turn) {next : ℕ} (is : IsNext awake last turn next) where
+  pub first-says : says (place_in_round last next) true → IsFirst says last (place_in_round last next)
+  first-says = looked-first (record { in_round = looks.passed.in_round; before = λ k low high. looks.asleep (place_in_round last k) (looks.passed.before k low high) }) awake looks.asleep is
+
+  -- one that isn't ready is no more awake
+  module _ (all : length awake ≡ 64) (no' : says (place_in_round last next) false) where
+    abbrev at : ℕ
+    at = place_in_round last next
+
+    gone : (i : ℕ) → is_in awake i ≡ false → is_in (slice_set awake at false) i ≡ false
+    gone = set-all (λ i b. is_in awake i ≡ false → b ≡ false) awake at false true (λ _. refl) (λ i out. out)
+
+    pub looks-on : IsLooking says last (slice_set awake at false) (next + 1)
+    looks-on = record {
+      passed = looked-on (record { in_round = looks.passed.in_round; before = λ k low high. gone (place_in_round last k) (looks.passed.before k low high) }) awake gone is (get_or-set_same awake at false true (omega arith));
+      asleep = set-all (λ i b. b ≡ false → says i false) awake at false true (λ _. no') looks.asleep;
+    }
 
 -- ---- the first place of a mask from one on: a round that begins after the last place
 
@@ -158,3 +255,68 @@ seat-pid t seat is = go (free_slot t.places) is where
   go : (o : Option ℕ) → Ok seat ≡ seat_at t.next_pid o → t.next_pid ≤ 2147483647
   go None same = absurd (cc)
   go (Some i) same = at (nat_le t.next_pid last_pid) i (leb-true t.next_pid last_pid) same
+
+-- ---- the least pid above another, found by a walk over the places
+
+-- ---- of pids
+
+-- the same pids are there
+pub next-same : (there others : ℕ → Bool) (after : ℕ) (result : Option ℕ) → ((q : ℕ) → there q ≡ others q) → IsNextOf there after result → IsNextOf others after result
+next-same there others after None same is = λ q high. sym (same q) ∙ is q high
+next-same there others after (Some pid) same is = record { above = is.above; stands = sym (same pid) ∙ is.stands; between = λ q high low. sym (same q) ∙ is.between q high low }
+
+-- with one pid more
+module _ (there more : ℕ → Bool) (after pid : ℕ) (one : (q : ℕ) → more q ≡ (there q || (pid == q))) where
+  still-none : (q : ℕ) → there q ≡ false → (pid ≡ q → ⊥) → more q ≡ false
+  still-none q none other = one q ∙ rw (none, ne_eqb pid q other) refl
+
+  still-there : (q : ℕ) → there q ≡ true → more q ≡ true
+  still-there q is = one q ∙ rw is refl
+
+  now-there : more pid ≡ true
+  now-there = one pid ∙ or_right (there pid) (pid == pid) (eq-eqb pid pid refl)
+
+  pub next-more : (found : Option ℕ) → IsNextOf there after found → IsNextOf more after (lesser found after pid)
+  next-more None is = elim (cases_lt after pid) [
+    | inl above ↦ rw (lt-ltb after pid above) (record { above = above; stands = now-there; between = λ q high low. still-none q (is q high) (λ e. omega arith) })
+    | inr below ↦ rw (le-ltb after pid below) (λ q high. still-none q (is q high) (λ e. omega arith))
+  ]
+  next-more (Some least) is = elim (cases_lt least pid) [
+    | inl less ↦ rw (lt-ltb least pid less) (record { above = is.above; stands = still-there least is.stands; between = λ q high low. still-none q (is.between q high low) (λ e. omega arith) })
+    | inr more' ↦ elim (cases_lt after pid) [
+      | inl above ↦ rw (le-ltb least pid more', lt-ltb after pid above) (record { above = above; stands = now-there; between = λ q high low. still-none q (is.between q high (omega arith)) (λ e. omega arith) })
+      | inr below ↦ rw (le-ltb least pid more', le-ltb after pid below) (record { above = is.above; stands = still-there least is.stands; between = λ q high low. still-none q (is.between q high low) (λ e. omega arith) })
+    ]
+  ]
+
+-- ---- of places
+
+found-from : {X : Type 0} (test : X → Bool) (n : ℕ) (xs : List X) → is_some (position_from test n xs) ≡ list_any test xs
+found-from test n [] = refl
+found-from test n (x ∷ xs) = elim (test x) as (λ b. is_some (cond b (Some n) (position_from test (n + 1) xs)) ≡ (b || list_any test xs)) [ true ↦ refl | false ↦ found-from test (n + 1) xs ]
+
+-- a search finds one where one passes
+pub found-any : {X : Type 0} (test : X → Bool) (xs : List X) → is_some (position test xs) ≡ list_any test xs
+found-any test xs = ap is_some (position_from-zero test xs) ∙ found-from test 0 xs
+
+-- whether a pid is that of a process in the first places
+abbrev pub is_among : List (Option Process) → ℕ → ℕ → Bool
+is_among places n pid = list_any (holds (has_pid pid)) (take n places)
+
+pub among-none : (places : List (Option Process)) (after : ℕ) → IsNextOf (is_among places 0) after None
+among-none places after = λ q high. refl
+
+module _ (places : List (Option Process)) (after i : ℕ) (low : i < length places) (found : Option ℕ) (is : IsNextOf (is_among places i) after found) where
+  one-more : (o : Option Process) → slot places i ≡ o → (q : ℕ) → is_among places (i + 1) q ≡ (is_among places i q || holds (has_pid q) o)
+  one-more o here q = list_any_more (holds (has_pid q)) places i None low ∙ ap (λ x. is_among places i q || holds (has_pid q) x) here
+
+  pub among-free : slot places i ≡ None → IsNextOf (is_among places (i + 1)) after found
+  among-free here = next-same (is_among places i) (is_among places (i + 1)) after found (λ q. sym (one-more None here q ∙ or-false (is_among places i q))) is
+
+  pub among-more : (p : Process) → slot places i ≡ Some p → IsNextOf (is_among places (i + 1)) after (lesser found after p.pid)
+  among-more p here = next-more (is_among places i) (is_among places (i + 1)) after p.pid (one-more (Some p) here) found is
+
+-- past the last place
+pub among-all : (places : List (Option Process)) (after i : ℕ) (found : Option ℕ) → length places ≤ i → IsNextOf (is_among places i) after found → IsNextOf (λ pid. is_some (place_where places (has_pid pid))) after found
+among-all places after i found all is =
+    next-same (is_among places i) _ after found (λ q. ap (list_any (holds (has_pid q))) (take_all i places all) ∙ sym (found-any (holds (has_pid q)) places)) is

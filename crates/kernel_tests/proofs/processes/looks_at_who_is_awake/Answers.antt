@@ -2,7 +2,7 @@ use Rattle.std.proofs.Common.{Bool, List, [], arith, false, refl, rules, suc, sy
 use Rattle.std.specs.Prelude.{slice_set}
 use Rattle.std.proofs.lemmas.Bool.{true≢false}
 use Rattle.std.proofs.lemmas.Bool.Decides.{nat_tests}
-use Rattle.proc.proofs.Looking.{all-in}
+use Rattle.proc.proofs.Waiting.{all-in}
 use Rattle.proc.specs.Mask.{all_in, is_in}
 use Rattle.kernel_tests.proofs.processes.looks_at_who_is_awake.Goals as goal
 

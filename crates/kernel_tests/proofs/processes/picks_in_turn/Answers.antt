@@ -1,6 +1,6 @@
 use Rattle.std.proofs.Common.{refl, sym, ◌∙◌, ◌≡◌}
 use Rattle.std.proofs.lemmas.Bool.{true≢false}
-use Rattle.proc.proofs.Looking.{all-in}
+use Rattle.proc.proofs.Waiting.{all-in}
 use Rattle.proc.specs.Mask.{all_in}
 use Rattle.kernel_tests.proofs.processes.picks_in_turn.Goals as goal
 

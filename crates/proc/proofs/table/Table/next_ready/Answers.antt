@@ -1,4 +1,4 @@
-use Rattle.proc.proofs.Looking.{looked-all, looked-first, looked-none, looked-on}
+use Rattle.proc.proofs.Waiting.{looked-all, looked-first, looked-none, looked-on}
 use Rattle.proc.proofs.table.Table.next_ready.Goals as goal
 
 pub round-init : goal.round-init

@@ -1,5 +1,5 @@
 use Rattle.proc.proofs.Common.{◌-◌, Answers}
-use Rattle.proc.proofs.Looking.{HasLooked}
+use Rattle.proc.proofs.Waiting.{HasLooked}
 use Rattle.proc.proofs.table.Table.next_ready.Given as goal
 
 -- no place of the turns so far is ready

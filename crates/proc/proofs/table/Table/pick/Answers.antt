@@ -1,5 +1,5 @@
 use Rattle.proc.proofs.Common.{[], ap, refl, subst, ◌∙◌, ◌≡◌, Answers, IsFirst, place_in_round, Places, Inside}
-use Rattle.proc.proofs.Looking.{first-says, looks-begin, looks-on}
+use Rattle.proc.proofs.Waiting.{first-says, looks-begin, looks-on}
 use Rattle.proc.proofs.table.Table.pick.Goals as goal
 
 -- what a pick leaves as it is until it is done

@@ -1,5 +1,5 @@
 use Rattle.proc.proofs.Common.{◌-◌, ◌≡◌, Answers}
-use Rattle.proc.proofs.Looking.{IsLooking}
+use Rattle.proc.proofs.Waiting.{IsLooking}
 use Rattle.proc.proofs.table.Table.pick.Given as goal
 
 -- the table is as it was but for who is awake, and no place of the turns so far is
