@@ -1,6 +1,6 @@
 -- The names that the lemmas of this crate import from elsewhere, passed on from one place. Declares nothing.
-pub use Rattle.std.proofs.Common.{◌%◌, ◌&&◌, ◌*◌, ◌+◌, ◌++◌, ◌-◌, ◌/◌, ◌<◌, [], ◌^◌, ap, append-nil, append_assoc, arith, Bool, drop, eq-eqb, Err, false, IfSome, inl, inr, is_none, is_some, le_trans, length, List, map}
-pub use Rattle.std.proofs.Common.{min, nat_eq, nat_le, nat_lt, negsuc, None, Ok, Option, option_map, pos, refl, replicate, Result, rules, Some, subst, suc, sym, take, true, unwrap_or, zero, ℕ, ℤ, ◌∙◌, ◌∷◌, ◌≡◌, ◌≢◌, ◌≤◌}
+pub use Rattle.std.proofs.Common.{◌%◌, ◌&&◌, ◌*◌, ◌+◌, ◌++◌, ◌-◌, ◌/◌, ◌<◌, [], ◌^◌, ap, append-nil, append_assoc, arith, Bool, drop, eq-eqb, Err, false, IfSome, inl, inr, is_none, is_some, le_trans, length, List, map, min, nat_eq, nat_le}
+pub use Rattle.std.proofs.Common.{nat_lt, negsuc, None, Ok, Option, option_map, pos, refl, replicate, Result, rules, Some, subst, suc, sym, take, true, unwrap_or, zero, ℕ, ℤ, ◌∙◌, ◌∷◌, ◌≡◌, ◌≢◌, ◌≤◌}
 pub use Rattle.std.proofs.lemmas.Bool.{and_left, and_parts, and_right, cases_eq, cases_lt, eqb-true, false≢true, le-leb, leb-true, lt-leb, lt-ltb, ltb-true, ne_eqb}
 pub use Rattle.std.proofs.lemmas.Int.{of_z-to_z, to_z-of_z}
 pub use Rattle.std.proofs.lemmas.List.{drop-take, get_or-set_other, get_or-set_same, length-drop, length-set, length-take, length-take-le, replicate-append-replicate, set-set, set_comm, take-append-drop, take-take}
@@ -15,7 +15,7 @@ pub use Rattle.blockdev.specs.declared.DeviceFault.{DeviceFault}
 pub use Rattle.console.specs.Output.{AppendsBeginning}
 pub use Rattle.file_transfers.proofs.Memory.{reach-written, readable-count, rest-writes}
 pub use Rattle.file_transfers.specs.Moved.{bytes_given, bytes_of, bytes_read}
-pub use Rattle.files.proofs.Free.{free-None, free-opens, free-place, free-put}
+pub use Rattle.files.proofs.PipesLemmas.{free-None, free-opens, free-place, free-put}
 pub use Rattle.files.proofs.Whole.{file-opens, opens-moved, opens-opened, without_opens-same}
 pub use Rattle.files.specs.Meant.{file_of, target_of}
 pub use Rattle.files.specs.Places.{Counted, file_at, free_count, has_end, moved, node_at, node_from, usable}
@@ -34,8 +34,8 @@ pub use Rattle.kernel.proofs.Reading.{serves-disk}
 pub use Rattle.kernel.proofs.Reaped.{away-loaded, match-active, match-place, opened-loaded, over-state, reap-state, used-loaded, within-state}
 pub use Rattle.kernel.proofs.Renaming.{descriptors-run, dup-state, renamed-within}
 pub use Rattle.kernel.proofs.Turning.{me_of, Runner, runner-of}
-pub use Rattle.kernel.proofs.Runs.{answer-run, change-put, change-run, IsThere, live, not-killed, process-idle, regs-kernel, regs-run, regs-state, runs-mode, there-of}
-pub use Rattle.kernel.proofs.Runs.{home-running, IsRun, loaded-run, moved-state, process-run, run-of, self, set-slot, slot-other, slot-put, slot-within, stands-set, with_process, within-run, within-space}
+pub use Rattle.kernel.proofs.Runs.{answer-run, change-put, change-run, IsThere, live, not-killed, process-idle, regs-kernel, regs-run, regs-state, runs-mode, there-of, home-running, IsRun, loaded-run, moved-state, process-run, run-of, self}
+pub use Rattle.kernel.proofs.Runs.{set-slot, slot-other, slot-put, slot-within, stands-set, with_process, within-run, within-space}
 pub use Rattle.kernel.proofs.Shown.{frames-state, place-changed, place-state, process-state}
 pub use Rattle.kernel.proofs.Starts.{picked-state, picks-killed, picks-ready, started-is, started-kernel, started-run, started-state, started_to}
 pub use Rattle.kernel.proofs.Wakes.{kernel-waking, state-but, state-waking}

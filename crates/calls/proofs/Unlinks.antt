@@ -4,9 +4,8 @@ use Rattle.calls.proofs.Common.{erase, false, fewer_links, File, Files, frames_o
 use Rattle.calls.proofs.Common.{lookup, nat_le, nat_lt, Node, None, none-some, not-killed, open_limit, opened-loaded, Option, option_and_then, option_map, Outcome, path_arg, path_at, process-run, quiet, reap, Reaps, refl, Result, row}
 use Rattle.calls.proofs.Common.{Runner, settle, size_of, slot, Some, Spot, spot_of, State, state_of, subst, sym, TakesName, TreeFault, true, Unlink, unlink-parts, unlink_row, unlinked, used-is, used-loaded, view_at, with_answer, with_files}
 use Rattle.calls.proofs.Common.{with_tree, within-state, without_name, without_nodes, without_opens, without_opens-same, without_pipes, without_place, ℕ, ◌&&◌, ◌*◌, ◌||◌, ◌∙◌, ◌≡◌, ◌≢◌, ◌≤◌}
-use Rattle.files.proofs.CountsLemmas.{Counts}
+use Rattle.files.proofs.Whole.{Counts, all-set}
 use Rattle.files.proofs.PipesLemmas.{without_pipes-same}
-use Rattle.files.proofs.Mapped.{all-set}
 use Rattle.kernel.proofs.Named.{counts-joined}
 use Rattle.tree.specs.Holding.{let_go}
 use Rattle.calls.specs.Named.{IsNamed}

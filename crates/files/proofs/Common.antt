@@ -1,5 +1,6 @@
 -- The names that the lemmas of this crate import from elsewhere, passed on from one place. Declares nothing.
 pub use Rattle.std.proofs.Common.{◌<◌, [], ap, ap₂, arith, get_or-set_other, get_or-set_same, IfSome, inl, inr, length, length-set, List}
+pub use Rattle.std.proofs.lemmas.Option.{none-some}
 pub use Rattle.std.proofs.Common.{map, None, Option, option_map, refl, replicate, slice_set, Some, subst, suc, sym, zero, ℕ, ◌∙◌, ◌∷◌, ◌≡◌}
 pub use Rattle.std.proofs.Math.ListN.{get_or-map}
 pub use Rattle.std.proofs.lemmas.Bool.{cases_eq, cases_lt, eq-eqb, le-ltb, lt-ltb, ne_eqb}

@@ -16,12 +16,10 @@ pub use Rattle.std.specs.List.{list_any, position_or_len, prefix_len, range_with
 pub use Rattle.std.specs.Option.{option_copied, option_eq}
 pub use Rattle.std.specs.Prelude.{◌*◌, All, count_by, find, IfErr, IfNone, IfOk, IfSome, if◌then◌else◌, is_none, IsSome, OnErr, OnOk, option_and_then, position, Result, slice_get, slice_index, sum, sum_by, ◌↔◌}
 pub use Rattle.blockdev.specs.declared.DeviceFault.{DeviceFault}
-pub use Rattle.files.proofs.CountsLemmas.{count-closed, count-moved, count-opened, count-shared, count_of, Counts, lt-one, lt-sum, names-clear, names-none, names-put, one_at, one_at-self}
-pub use Rattle.files.proofs.Free.{free-opens, free-place, free-put, free-Some}
-pub use Rattle.files.proofs.PipesLemmas.{has_pipe-clear, has_pipe-put, IsLeftOf, piped-end, piped-last, piped-node, pipes-clear, pipes-left, pipes-same, without_pipes-left, without_pipes-same}
-pub use Rattle.files.proofs.Mapped.{all-set}
-pub use Rattle.files.proofs.Whole.{fewer-from, file-opens, free_slot-opens, IsLeft, left-closed, left-same, length-opens, opens-closed, opens-closed_last, opens-opened, opens-shared, set_outside, slot-opens, table-closed, table-moved}
-pub use Rattle.files.proofs.Whole.{table-opened, table-shared, without_opens-left, without_opens-same}
+pub use Rattle.files.proofs.Whole.{count-closed, count-moved, count-opened, count-shared, count_of, Counts, lt-one, lt-sum, names-clear, names-none, names-put, one_at, one_at-self, all-set, fewer-from, file-opens, free_slot-opens, IsLeft}
+pub use Rattle.files.proofs.Whole.{left-closed, left-same, length-opens, opens-closed, opens-closed_last, opens-opened, opens-shared, set_outside, slot-opens, table-closed, table-moved, table-opened, table-shared, without_opens-left}
+pub use Rattle.files.proofs.Whole.{without_opens-same}
+pub use Rattle.files.proofs.PipesLemmas.{free-opens, free-place, free-put, free-Some, has_pipe-clear, has_pipe-put, IsLeftOf, piped-end, piped-last, piped-node, pipes-clear, pipes-left, pipes-same, without_pipes-left, without_pipes-same}
 pub use Rattle.files.specs.Counts.{names, one_in}
 pub use Rattle.files.specs.Meant.{end_of, file_of, target_of}
 pub use Rattle.files.specs.Pipes.{IsPiped}

@@ -1,6 +1,6 @@
 -- The names that the lemmas of this crate import from elsewhere, passed on from one place. Declares nothing.
-pub use Rattle.std.proofs.Common.{◌%◌, ◌*◌, ◌+◌, ◌++◌, ◌-◌, ◌/◌, ◌<◌, [], ◌^◌, ap, append-nil, append_assoc, ap₂, arith, Bool, drop, Err, false, get_or, inl, inr, is_some, le_refl, le_trans, length}
-pub use Rattle.std.proofs.Common.{length-append, List, min, nat_le, None, Ok, Option, refl, replicate, Result, Some, subst, suc, sym, take, true, zero, ℕ, ℤ, ◌↔◌, ◌∙◌, ◌∷◌, ◌≡◌, ◌≢◌, ◌≤◌, ◌⊎◌}
+pub use Rattle.std.proofs.Common.{◌%◌, ◌*◌, ◌+◌, ◌++◌, ◌-◌, ◌/◌, ◌<◌, [], ◌^◌, ap, append-nil, append_assoc, ap₂, arith, Bool, drop, Err, false, get_or, inl, inr, is_some, le_refl, le_trans, length, length-append, List, min, nat_le, None}
+pub use Rattle.std.proofs.Common.{Ok, Option, refl, replicate, Result, Some, subst, suc, sym, take, true, zero, ℕ, ℤ, ◌↔◌, ◌∙◌, ◌∷◌, ◌≡◌, ◌≢◌, ◌≤◌, ◌⊎◌}
 pub use Rattle.std.proofs.lemmas.Bool.{le-leb, lt-leb}
 pub use Rattle.std.proofs.lemmas.Bool.Decides.{nat_tests}
 pub use Rattle.std.proofs.lemmas.List.{length-drop, length-replicate, length-take, take-append-drop, take-append-le, take-replicate, take_min, take_more}
@@ -14,8 +14,7 @@ pub use Rattle.console.proofs.Rubs.{begins_more}
 pub use Rattle.std.proofs.KnownBytes.{Appends-nil, Appends-trans}
 pub use Rattle.calls.specs.declared.halt.Halt.{Halt}
 pub use Rattle.calls.specs.declared.halt.Halt.TheVariants.{Console, Halted, InitEnded, Device}
-pub use Rattle.files.proofs.CountsLemmas.{names-free, names-none}
-pub use Rattle.files.proofs.Whole.{slot-opens}
+pub use Rattle.files.proofs.Whole.{names-free, names-none, slot-opens}
 pub use Rattle.files.specs.Counts.{names, one_in}
 pub use Rattle.files.specs.Meant.{file_of}
 pub use Rattle.files.specs.Places.{count_at, count_in, Counted, opened, opens_of, place_for}

@@ -1,5 +1,5 @@
 use Rattle.files.proofs.Common.{refl, end_of}
-use Rattle.files.proofs.Shown.{has_end-shown}
+use Rattle.files.proofs.PipesLemmas.{has_end-shown}
 use Rattle.files.proofs.table.Files.has_end.Goals as goal
 
 pub returns : goal.returns

@@ -1,5 +1,5 @@
 use Rattle.std.proofs.Common.{refl}
-use Rattle.files.proofs.Shown.{has_pipe-shown}
+use Rattle.files.proofs.PipesLemmas.{has_pipe-shown}
 use Rattle.files.proofs.table.Files.has_pipe.Goals as goal
 
 pub returns : goal.returns

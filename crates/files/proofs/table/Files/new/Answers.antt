@@ -1,5 +1,5 @@
 use Rattle.files.proofs.Common.{refl, free_slots}
-use Rattle.files.proofs.Shown.{named-free}
+use Rattle.files.proofs.PipesLemmas.{named-free}
 use Rattle.files.proofs.table.Files.new.Goals as goal
 
 pub invariant_of-result : goal.invariant_of-result

@@ -1,5 +1,5 @@
 use Rattle.std.proofs.Common.{refl}
-use Rattle.files.proofs.Shown.{free_slot-shown}
+use Rattle.files.proofs.PipesLemmas.{free_slot-shown}
 use Rattle.files.proofs.table.Files.open.Goals as goal
 
 pub returns-in-Some-clause-place : goal.returns-in-Some-clause-place

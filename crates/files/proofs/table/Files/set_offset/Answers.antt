@@ -1,5 +1,5 @@
 use Rattle.std.proofs.Common.{refl}
-use Rattle.files.proofs.Shown.{moved-shown, sound-moved}
+use Rattle.files.proofs.PipesLemmas.{moved-shown, sound-moved}
 use Rattle.files.proofs.table.Files.set_offset.Goals.{in-Some, in-None}
 use Rattle.files.proofs.table.Files.set_offset.Goals as goal
 
