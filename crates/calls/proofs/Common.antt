@@ -112,7 +112,7 @@ pub use Rattle.vm.proofs.ReachLemmas.{piece-some, reach-drop, reach-next, reach-
 pub use Rattle.vm.specs.Reach.{IsSized, piece_at}
 pub use Rattle.calls.proofs.Running.{Here, here-in, here-of}
 pub use Rattle.std.proofs.KnownBytes.{Appends-nil, Appends-trans}
-pub use Rattle.console.proofs.Rubs.{begins_more}
+pub use Rattle.console.proofs.Lines.{begins_more}
 pub use Rattle.calls.specs.Acts.{Acts, ActsOnDisk, called, called_by, CanCome, CanWait, Comes, GoesOn, GoesOnDisk, going_at, going_by, IsBegun, IsEnd, marked_by, MayPrint, outcome_at, outcome_by, pending_for, Runs, settled_by, Tries}
 pub use Rattle.calls.specs.Gives.{Dispatches, EventGives, executed, halt_of, IsMade, LeavesTree, Makes}
 pub use Rattle.calls.specs.Named.{IsRefused}

@@ -10,7 +10,7 @@ pub use Rattle.std.proofs.lemmas.Option.{none-some, same_Some}
 pub use Rattle.std.proofs.lemmas.Result.{err_from_is_err_and}
 pub use Rattle.std.specs.Prelude.{◌==◌, IfErr, IfOk, IfSome, IsErrOf, IsSome, nat_lt, OnErr, OnOk, option_and_then, option_map, sum_by, ◌||◌}
 pub use Rattle.std.specs.Result.{is_err}
-pub use Rattle.console.proofs.Rubs.{begins_more}
+pub use Rattle.console.proofs.Lines.{begins_more}
 pub use Rattle.std.proofs.KnownBytes.{Appends-nil, Appends-trans}
 pub use Rattle.calls.specs.declared.halt.Halt.{Halt}
 pub use Rattle.calls.specs.declared.halt.Halt.TheVariants.{Console, Halted, InitEnded, Device}

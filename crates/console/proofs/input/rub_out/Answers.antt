@@ -1,6 +1,6 @@
 use Rattle.console.proofs.Common.{◌-◌, arith, suc, Appends-nil, Appends-trans, rub_outs, append_assoc, sym, ◌∙◌, rub_out}
 use Rattle.std.proofs.lemmas.Result.{err_from_is_err_and}
-use Rattle.console.proofs.Rubs.{begins_more, rub_outs-more, rub_outs-split}
+use Rattle.console.proofs.Lines.{begins_more, rub_outs-more, rub_outs-split}
 use Rattle.console.proofs.input.rub_out.Goals as goal
 
 pub loop-done-init : goal.loop-done-init

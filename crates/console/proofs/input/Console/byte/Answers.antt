@@ -9,6 +9,5 @@ overflow_add-result c =
 
 pub returns : goal.returns
 returns c =
-    let s = c.self.inside in
     let h = rw (← c.self.view_is, length-ring, length-ring) at c.requires in
-    rw (← c.self.view_is) (line-byte s.places s.from s.committed s.edited c.args.at h)
+    rw (← c.self.view_is) (line-byte _ _ _ _ h)

@@ -3,5 +3,4 @@ use Rattle.console.proofs.input.Console.committed_len.Goals as goal
 
 pub returns : goal.returns
 returns c =
-    let s = c.self.inside in
-    rw (← c.self.view_is) (sym (length-ring 128 s.places s.from s.committed))
+    rw (← c.self.view_is) (sym (length-ring _ _ _ _))

@@ -3,5 +3,4 @@ use Rattle.console.proofs.input.Console.edited_len.Goals as goal
 
 pub returns : goal.returns
 returns c =
-    let s = c.self.inside in
-    rw (← c.self.view_is) (sym (length-ring 128 s.places _ s.edited))
+    rw (← c.self.view_is) (sym (length-ring _ _ _ _))

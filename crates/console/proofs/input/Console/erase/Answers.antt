@@ -5,4 +5,4 @@ use Rattle.console.proofs.input.Console.erase.Goals as goal
 pub returns : goal.returns
 returns c =
     let s = c.self.inside in
-    rw (← c.self.view_is) (line-erase s.places s.from s.committed s.edited c.args.count _ (omega (arith, c.saturating_sub-self-inside.ensures)))
+    rw (← c.self.view_is) (line-erase _ _ _ _ _ _ (omega (arith, c.saturating_sub-self-inside.ensures)))

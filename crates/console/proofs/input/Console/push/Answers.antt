@@ -13,4 +13,4 @@ returns c =
     let s = c.self.inside in
     let h = rw (← c.self.view_is, length-ring, length-ring) at c.requires in
     let fits : c.self.inside.committed + c.self.inside.edited < 128 = grind (arith, common_steps) in
-    rw (← c.self.view_is) (line-push s.places s.from s.committed s.edited c.args.byte (search rules) c.self.invariant.0 fits)
+    rw (← c.self.view_is) (line-push _ _ _ _ (search rules) c.self.invariant.0 fits)
