@@ -3,7 +3,7 @@ use Rattle.spaces.proofs.Common.{Ram, Held, Frames, count_of-first, Trades, coun
 use Rattle.spaces.proofs.Common.{arith, length-map, prefix_len, cond, is_none, not, free_slot, slot, taken, Space, IsMachine, one-place, trade-rest, get_or-map, free_count, one_if, Inside, frames_in, has_space, view_at, no_pages}
 use Rattle.spaces.proofs.Common.{taken_frames, IsSpaces, view_with, shown, spaces_of, ◌≤◌, Bool, true, false, get_or, nat_lt, sym, ◌∙◌, if◌then◌else◌, is_some, sum_by, unwrap_or, sum_by-cons, page_frames, frames_for, length-mapping}
 use Rattle.spaces.proofs.Common.{right_marks, frames_used, free-left, mapping_of, pages_in, pages_of, IsMemory, Page, ceil_div, IsSized}
-use Rattle.pipe.proofs.PipeLemmas.{bytes_of-same}
+use Rattle.pipe.proofs.Steps.{bytes_of-same}
 use Rattle.vm.specs.Shares as shares
 use Rattle.spaces.proofs.SpacesLemmas.{Pipes, Places, map-placed, map-same}
 use Rattle.vm.proofs.PageLemmas.{pages-sized}

@@ -3,9 +3,9 @@ use Rattle.pipe.proofs.Steps.{ring-more, ring-none}
 use Rattle.pipe.proofs.copy_out.Goals as goal
 
 pub loop-i-init : goal.loop-i-init
-loop-i-init c = sym (ring-none c.args.places.now c.args.from 0 refl)
+loop-i-init c = sym (ring-none _ _ 0 refl)
 
 pub loop-i-preserved : goal.loop-i-preserved
 loop-i-preserved c =
     let inside : c.loop-i.i < length c.loop-i.buffer = omega arith in
-    rw (take_more_set c.loop-i.buffer c.loop-i.i _ inside, c.loop-i.invariant) (sym (ring-more c.args.places.now c.args.from c.loop-i.i))
+    rw (take_more_set c.loop-i.buffer c.loop-i.i _ inside, c.loop-i.invariant) (sym (ring-more _ _ _))

@@ -6,12 +6,11 @@ use Rattle.pipe.proofs.Pipe.read_some.Goals.{else-self-eq0-via-then-self-eq0+els
 pub returns-then-self-clause-waits : goal.returns-then-self-clause-waits
 returns-then-self-clause-waits c =
     let s = c.self.inside in
-    rw (← c.self.view_is) (λ _. (ring-none _ s.from s.held c.if-self-eq0.true, c.if-self.true), λ _. refl)
+    rw (← c.self.view_is) (λ _. (ring-none _ _ s.held c.if-self-eq0.true, c.if-self.true), λ _. refl)
 
 pub returns-then-self-clause-rest : goal.returns-then-self-clause-rest
 returns-then-self-clause-rest c =
-    let s = c.self.inside in
-    rw (← c.self.view_is) (read-nothing _ s.from s.held _ c.if-self-eq0.true)
+    rw (← c.self.view_is) (read-nothing _ _ _ c.if-self-eq0.true)
 
 pub returns-clause-waits : goal.returns-clause-waits
 returns-clause-waits c =
@@ -26,14 +25,12 @@ returns-clause-waits c =
 
 pub returns-clause-taken : goal.returns-clause-taken
 returns-clause-taken c =
-    let s = c.self.inside in
     let len : length (take c.min-count.result c.args.buffer.now) ≡ c.min-count.result = omega (arith, c.min-count.ensures, length-take c.min-count.result c.args.buffer.now) in
-    rw (← c.self.view_is, c.copy_out.ensures, c.frame.ensures, len) (ap (λ l. l ++ drop c.min-count.result c.args.buffer.now) (read-bytes _ s.from s.held _ c.min-count.result c.min-count.ensures))
+    rw (← c.self.view_is, c.copy_out.ensures, c.frame.ensures, len) (ap (λ l. l ++ drop c.min-count.result c.args.buffer.now) (read-bytes _ _ _ _ c.min-count.ensures))
 
 pub returns-clause-count : goal.returns-clause-count
 returns-clause-count c = rw (← c.self.view_is, length-ring) c.min-count.ensures
 
 pub returns-clause-rest : goal.returns-clause-rest
 returns-clause-rest c =
-    let s = c.self.inside in
-    rw (← c.self.view_is) (read-rest _ s.from s.held _ c.min-count.result c.min-count.ensures)
+    rw (← c.self.view_is) (read-rest _ _ _ _ c.min-count.ensures)
