@@ -19,7 +19,7 @@ same-files a b e = cc
 
 pub IsFlatImage-made : (image : List ℕ) → MakesImage console_manifest 32 16 image → IsFlatImage image
 IsFlatImage-made image makes = record {
-  denotes = subst (Denotes image) (same-files makes.files flat_files (sym makes.made ∙ files_made-console)) makes.denotes;
+  denotes = subst (Denotes image) (same-files _ flat_files (sym makes.made ∙ files_made-console)) makes.denotes;
   whole = makes.whole;
 }
 
@@ -42,7 +42,7 @@ pub Denotes-disk : (bytes image : List ℕ) → bytes ≡ image → IsFlatImage 
 Denotes-disk bytes image e flat =
     let whole = flat.whole in
     let long : length bytes % 1024 ≡ 0 = omega (arith, ap length e) in
-    subst (λ b. Denotes b flat_files) (sym (image_of-blocks bytes long ∙ e)) flat.denotes
+    subst (λ b. Denotes b flat_files) (sym (image_of-blocks _ long ∙ e)) flat.denotes
 
 -- on a device that never fails it is refused only where there is no memory
 pub not-unmounted : {D : Type 0} {identity : D → List ℕ} {disk : D} (image : List ℕ) (files : Files) (f : ImageFault) → Denotes image files → IsUnmounted identity (λ _. 0) disk image f → (f ≡ fault.NoMemory → ⊥) → ⊥

@@ -1,6 +1,4 @@
 mod Common
-pub mod Ranges
 pub mod Sounding
 pub mod Holding
 pub mod Console
-pub mod Mounting

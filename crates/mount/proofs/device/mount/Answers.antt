@@ -1,7 +1,7 @@
 use Rattle.mount.proofs.Common.{Err, ap, le_trans, refl, ◌∙◌, ◌≡◌, ◌≤◌, arith, image_of}
 use Rattle.imagerules.specs.Places.{files_in}
 use Rattle.imagecheck.proofs.Sounding.{Rises-before, not_device, told-err}
-use Rattle.mount.proofs.Mounting.{file-system-mounted, made, mounted-over, sound-mounted, two-blocks}
+use Rattle.mount.proofs.Holding.{file-system-mounted, made, mounted-over, sound-mounted, two-blocks}
 use Rattle.mount.proofs.Sounding.{IsDenoted}
 use Rattle.mount.proofs.device.mount.Given as given
 use Rattle.mount.proofs.device.mount.Goals as goal

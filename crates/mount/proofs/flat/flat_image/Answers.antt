@@ -9,4 +9,4 @@ returns-in-Ok c =
 
 pub unreachable-requires : goal.unreachable-requires
 unreachable-requires c =
-    not-refused c.in-Err.fault (subst (λ entries. Refuses (files_made entries 32 16) c.in-Err.fault) c.in_ok-manifest.ensures c.in-Err.ensures.refused) c.in_default.not-NoMemory
+    not-refused _ (subst (λ entries. Refuses (files_made entries 32 16) c.in-Err.fault) c.in_ok-manifest.ensures c.in-Err.ensures.refused) c.in_default.not-NoMemory

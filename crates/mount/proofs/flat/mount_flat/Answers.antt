@@ -13,8 +13,8 @@ unreachable-requires c =
 pub unreachable-requires-in_default-fault : goal.unreachable-requires-in_default-fault
 unreachable-requires-in_default-fault c =
     let bytes = c.in-Ok.device.bytes in
-    not-unmounted (image_of (blocks_of bytes)) flat_files c.in-Err.fault (Denotes-disk bytes c.in_ok-image.image.items c.in-Ok.ensures.bytes c.in_ok-image.ensures) c.in-Err.ensures.unmounted c.in_default-fault.not-NoMemory
+    not-unmounted (image_of (blocks_of bytes)) flat_files _ (Denotes-disk bytes _ c.in-Ok.ensures.bytes c.in_ok-image.ensures) c.in-Err.ensures.unmounted c.in_default-fault.not-NoMemory
 
 pub returns-in-Ok-mount : goal.returns-in-Ok-mount
 returns-in-Ok-mount c =
-    IsFlat-mounted c.in-Ok.device.bytes c.in_ok-image.image.items 0 c.in-Ok-mount.tree c.in-Ok.ensures.bytes c.in_ok-image.ensures c.in-Ok-mount.ensures.mounted
+    IsFlat-mounted _ _ 0 _ c.in-Ok.ensures.bytes c.in_ok-image.ensures c.in-Ok-mount.ensures.mounted
