@@ -1,4 +1,4 @@
-use Rattle.run_laws.proofs.Lasting.{run-last, start-last, start_flat-last}
+use Rattle.run_laws.proofs.Passing.{run-last, start-last, start_flat-last}
 use Rattle.run_laws.proofs.laws.last_is_a_place.Goals as goal
 
 pub returns : goal.returns

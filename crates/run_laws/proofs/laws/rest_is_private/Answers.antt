@@ -1,5 +1,5 @@
 use Rattle.run_laws.proofs.Events.{next-takes}
-use Rattle.run_laws.proofs.Lasting.{run-stays}
+use Rattle.run_laws.proofs.Passing.{run-stays}
 use Rattle.run_laws.proofs.laws.rest_is_private.Goals as goal
 
 pub returns : goal.returns
