@@ -1,5 +1,8 @@
-use Rattle.isa.proofs.Common.{◌≡◌, IfSome, Option, sym, subst, ◌∙◌, spell, Fits, instruction_of, Instr}
-use Rattle.isa.proofs.Member.{agrees}
+use Rattle.std.proofs.Common.{◌≡◌, IfSome, Option, sym, subst, ◌∙◌}
+use Rattle.unixmodel.specs.Spell.{Fits, spell}
+use Rattle.unixmodel.specs.Words.{instruction_of}
+use Rattle.unixmodel.specs.declared.instr.Instr.{Instr}
+use Rattle.isa.proofs.Words.{agrees}
 use Rattle.isa.proofs.decoder.decode.Goals as goal
 
 pub returns-clause-is : goal.returns-clause-is

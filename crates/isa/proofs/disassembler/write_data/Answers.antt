@@ -1,5 +1,5 @@
 use Rattle.std.proofs.Common.{rules}
-use Rattle.isa.proofs.Digits.{eight}
+use Rattle.isa.proofs.Words.{eight}
 use Rattle.isa.proofs.disassembler.write_data.Goals as goal
 
 pub returns : goal.returns
