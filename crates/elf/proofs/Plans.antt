@@ -1,5 +1,6 @@
 -- The program that is loaded, by what the headers say.
-use Rattle.std.proofs.Common.{ap, ap₂, refl, ◌∙◌, ◌≡◌, ℕ, zero, suc, ◌+◌, ◌-◌, ◌*◌, ◌/◌, ◌%◌, ◌^◌, ◌<◌, ◌≤◌, ◌&&◌, Bool, true, false, List, length, take, drop, None, Option, Some, Ok, Err, Result, nat_eq, nat_le, nat_lt, arith}
+use Rattle.std.proofs.Common.{ap, ap₂, refl, ◌∙◌, ◌≡◌, ℕ, zero, suc, ◌+◌, ◌-◌, ◌*◌, ◌/◌, ◌%◌, ◌^◌, ◌<◌, ◌≤◌, ◌&&◌, Bool, true, false, List, length, take, drop, None, Option, Some, Ok, Err, Result, nat_eq, nat_le, nat_lt, arith, [], ◌∷◌}
+use Rattle.std.proofs.Common.{sym, ◌≢◌}
 use Rattle.std.specs.Prelude.{if◌then◌else◌, not, option_and_then}
 use Rattle.std.proofs.lemmas.Bool.Decides.{nat_tests}
 use Rattle.std.proofs.lemmas.List.{drop-drop, drop-take, take-take}
@@ -10,6 +11,10 @@ use Rattle.elf.specs.declared.LoadSegment.{LoadSegment}
 use Rattle.elf.specs.Headers.{header_in, header_of, is_within, segment_if, segment_of, segment_shown, wrong}
 use Rattle.unixmodel.specs.Numbers.{number, number_at}
 use Rattle.unixmodel.specs.Plan.{Loaded, Segment, has_bytes, load_segment, load_segments, loaded_of, may_follow, nothing_loaded, segment_at, with_segment}
+use Rattle.std.proofs.lemmas.Slice.{between_to_end}
+use Rattle.byteorder.specs.Endian.{little_from, little_number}
+use Rattle.byteorder.specs.Numbers.{little_from-cons}
+use Rattle.std.proofs.Math.Nat.{div-one}
 
 -- a number in a part of a file
 number_at-part : (k i at count : ℕ) (file : List ℕ) → i + k ≤ count → number_at k i (take count (drop at file)) ≡ number_at k (at + i) file
@@ -104,3 +109,57 @@ module _ (file : List ℕ) where
   loads-header =
       rw (header_in-part, part 4 0 (omega arith), part 8 32 (omega arith), part 2 56 (omega arith))
       (by-tests (nat_le 64 (length file)) (nat_eq (number_at 4 0 file) 0x464C457F) (is_within (number_at 8 32 file) (56 * number_at 2 56 file) (length file)) (past-end (number_at 2 56 file) file (number_at 8 32 file)))
+
+-- ---- numbers that are read from bytes are those that stand there
+
+little_from-nil : (i n : ℕ) → little_from i n [] ≡ 0
+little_from-nil i zero = refl
+little_from-nil i (suc n) = rw (little_from-nil (suc i) n) refl
+
+number-take : (n : ℕ) (bytes : List ℕ) → little_number n bytes ≡ number (take n bytes)
+number-take zero xs = refl
+number-take (suc n) [] = little_from-nil 0 (suc n)
+number-take (suc n) (x ∷ xs) = ap (λ k. x + 256 * k) (little_from-cons 0 n x xs ∙ number-take n xs)
+
+pub number-first : (n : ℕ) (bytes : List ℕ) → little_number n bytes ≡ number_at n 0 bytes
+number-first n bytes = let count : n ≡ 0 + n - 0 = omega arith in number-take n bytes ∙ ap (λ k. number (take k bytes)) count
+
+-- of the m bytes, those from a place on
+pub number-from : (n at m : ℕ) (bytes : List ℕ) → length bytes ≤ m → little_number n (take (m - at) (drop at bytes)) ≡ number_at n at bytes
+number-from n at m bytes h =
+    let count : n ≡ at + n - at = omega arith in
+    ap (little_number n) (between_to_end bytes at m h) ∙ number-take n (drop at bytes) ∙ ap (λ k. number (take k (drop at bytes))) count
+
+-- ---- what the headers say, of the numbers that were read
+
+pub segment-read : (bytes : List ℕ) (flags offset address file_size size : ℕ)
+    → flags ≡ number_at 4 4 bytes → offset ≡ number_at 8 8 bytes → address ≡ number_at 8 16 bytes → file_size ≡ number_at 8 32 bytes → size ≡ number_at 8 40 bytes
+    → ◌≡◌ {A = LoadSegment}
+    (record { writable = nat_eq (flags / 2 % 2) 1; executable = nat_eq (flags % 2) 1; offset = offset; address = address; file_size = file_size; size = size })
+    (segment_shown (segment_at bytes 0))
+unfolding segment_at
+segment-read bytes flags offset address file_size size f o a n s =
+    rw (f, o, a, n, s, div-one (number_at 4 4 bytes)) refl
+
+-- ---- the answers of `segment`
+
+module _ (bytes : List ℕ) (end len kind : ℕ) (told : kind ≡ number_at 4 0 bytes) where
+  pub segment-other : kind ≢ 1 → Ok None ≡ segment_of bytes end len
+  unfolding segment_at
+  segment-other other = let no : nat_eq (number_at 4 0 bytes) 1 ≡ false = grind (arith, nat_tests, told, other) in rw no refl
+
+  pub segment-loaded : (fault : Option ElfFault) (g : LoadSegment) → kind ≡ 1 → g ≡ segment_shown (segment_at bytes 0) → fault ≡ wrong g end len → segment_if g fault ≡ segment_of bytes end len
+  unfolding segment_at
+  segment-loaded fault g load shown is =
+      let yes : nat_eq (number_at 4 0 bytes) 1 ≡ true = grind (arith, nat_tests, told, load) in
+      rw (yes, is, shown) refl
+
+-- ---- the answer of `header`
+
+pub header-read : (bytes : List ℕ) (len entry at count : ℕ) → number_at 4 0 bytes ≡ 0x464C457F → entry ≡ number_at 8 24 bytes → at ≡ number_at 8 32 bytes → count ≡ number_at 2 56 bytes
+    → 64 ≤ len → is_within at (56 * count) len ≡ true → Ok (record { entry = entry / 4 * 4; program_headers = at; count = count }) ≡ header_of bytes len
+header-read bytes len entry at count magic entry-is at-is count-is enough within =
+    let yes : nat_eq (number_at 4 0 bytes) 0x464C457F ≡ true = grind (arith, nat_tests, magic) in
+    let long : nat_le 64 len ≡ true = grind (arith, nat_tests, enough) in
+    let fits : is_within (number_at 8 32 bytes) (56 * number_at 2 56 bytes) len ≡ true = rw (sym at-is, sym count-is) within in
+    rw (yes, long, fits, entry-is, at-is, count-is) refl

@@ -1,7 +1,6 @@
 use Rattle.std.proofs.Common.{ap, sym, ◌*◌, ◌≤◌, ◌∙◌, arith, length}
 use Rattle.elf.specs.Headers.{is_within}
-use Rattle.elf.proofs.Numbers.{number-first, number-from}
-use Rattle.elf.proofs.Shown.{header-read}
+use Rattle.elf.proofs.Plans.{number-first, number-from, header-read}
 use Rattle.elf.proofs.header.Goals as goal
 
 pub returns : goal.returns

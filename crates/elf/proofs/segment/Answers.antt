@@ -1,6 +1,5 @@
 use Rattle.std.proofs.Common.{sym, ◌∙◌}
-use Rattle.elf.proofs.Numbers.{number-first}
-use Rattle.elf.proofs.Shown.{segment-loaded, segment-other}
+use Rattle.elf.proofs.Plans.{number-first, segment-loaded, segment-other}
 use Rattle.elf.proofs.segment.Goals as goal
 
 pub returns-then-read_u32-ne-LOAD : goal.returns-then-read_u32-ne-LOAD

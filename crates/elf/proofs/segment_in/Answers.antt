@@ -1,6 +1,5 @@
 use Rattle.std.proofs.Common.{◌≤◌, ◌∙◌, arith, length}
-use Rattle.elf.proofs.Numbers.{number-from}
-use Rattle.elf.proofs.Shown.{segment-read}
+use Rattle.elf.proofs.Plans.{number-from, segment-read}
 use Rattle.elf.proofs.segment_in.Goals as goal
 
 pub returns : goal.returns
