@@ -1,2 +1,1 @@
 mod Cycles
-mod Words

@@ -1,6 +1,6 @@
 use Rattle.std.proofs.Common.{sym}
 use Rattle.causes.proofs.access.word_at.Goals as goal
-use Rattle.causes.proofs.Words.{word-is}
+use Rattle.causes.proofs.Cycles.{word-is}
 
 pub returns : goal.returns
 returns c =
