@@ -40,8 +40,8 @@ module _ {old new : View} {before after : Option (List ℕ)} {f0 f1 : ℕ} {k0 k
   played-as x is h = subst (λ (y : Result (Unit {0}) Halt). IsPlayed old new before after f0 f1 k0 k1 y) is h
 
 -- none
-pub played-none : (old : View) (at : Option (List ℕ)) (f : ℕ) (k : Option (List Event)) → IsUp old → IsPlayed old old at at f f k k (Ok tt)
-played-none old at f k up = played (given-none old at f k tt up)
+pub played-none : {old : View} {at : Option (List ℕ)} {f : ℕ} {k : Option (List Event)} → IsUp old → IsPlayed old old at at f f k k (Ok tt)
+played-none {old} {at} {f} {k} up = played (given-none old at f k tt up)
 
 module _ {first now : View} {before mid : Option (List ℕ)} {f0 f1 : ℕ} {k0 k1 : Option (List Event)} (h : IsPlayed first now before mid f0 f1 k0 k1 (Ok tt)) where
   -- the machine takes more

@@ -2,16 +2,16 @@ use Rattle.player.proofs.Playing.{lost, played-none}
 use Rattle.player.proofs.stage.act.Goals as goal
 
 pub returns-in_err-command-in-Give : goal.returns-in_err-command-in-Give
-returns-in_err-command-in-Give g c = rw (lost c.from_residual.result c.from_residual.ensures.1) c.in_err-command-in-Give.ensures
+returns-in_err-command-in-Give g c = rw (lost _ c.from_residual.ensures.1) c.in_err-command-in-Give.ensures
 
 pub returns-in_err-is_there-in-Until : goal.returns-in_err-is_there-in-Until
-returns-in_err-is_there-in-Until g c = rw (lost c.from_residual-in_err-is_there-in-Until.result c.from_residual-in_err-is_there-in-Until.ensures.1) c.in_err-is_there-in-Until.ensures
+returns-in_err-is_there-in-Until g c = rw (lost _ c.from_residual-in_err-is_there-in-Until.ensures.1) c.in_err-is_there-in-Until.ensures
 
 pub returns-in-Set : goal.returns-in-Set
-returns-in-Set g c = played-none _ _ _ _ c.requires
+returns-in-Set g c = played-none c.requires
 
 pub returns-in-Repeat : goal.returns-in-Repeat
-returns-in-Repeat g c = played-none _ _ _ _ c.requires
+returns-in-Repeat g c = played-none c.requires
 
 pub returns-in-Repeat-2 : goal.returns-in-Repeat-2
-returns-in-Repeat-2 g c = played-none _ _ _ _ c.requires
+returns-in-Repeat-2 g c = played-none c.requires

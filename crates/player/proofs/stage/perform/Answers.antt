@@ -2,13 +2,13 @@ use Rattle.player.proofs.Playing.{lost, played-flushed, played-none, played-then
 use Rattle.player.proofs.stage.perform.Goals as goal
 
 pub loop-acts-init : goal.loop-acts-init
-loop-acts-init g c = played-none _ _ _ _ c.requires
+loop-acts-init g c = played-none c.requires
 
 pub act-requires : goal.act-requires
 act-requires g c = played-up c.loop-acts.invariant
 
 pub returns-in_err-unreached : goal.returns-in_err-unreached
-returns-in_err-unreached g c = rw (lost c.from_residual.result c.from_residual.ensures.1) (played-then c.loop-acts.invariant c.in_err-unreached.ensures)
+returns-in_err-unreached g c = rw (lost _ c.from_residual.ensures.1) (played-then c.loop-acts.invariant c.in_err-unreached.ensures)
 
 pub returns-then-is_some : goal.returns-then-is_some
 returns-then-is_some g c = played-then c.loop-acts.invariant c.in_ok-unreached.ensures
