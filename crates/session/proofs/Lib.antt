@@ -1,3 +1,1 @@
-mod Refusing
 mod Repeating
-mod Standing

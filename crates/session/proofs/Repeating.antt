@@ -1,22 +1,30 @@
 -- The events of a run of steps.
-use Rattle.std.proofs.Common.{Err, List, Ok, None, Option, Result, ap, arith, inl, inr, replicate, subst, sym, true, ◌+◌, ◌-◌, ◌<◌, ◌∙◌, ◌≡◌, ◌≤◌, ℕ}
-use Rattle.std.specs.Prelude.{OnOk}
-use Rattle.std.proofs.lemmas.Bool.{cases_lt}
-use Rattle.std.proofs.lemmas.List.{replicate-append-replicate}
-use Rattle.calls.specs.declared.halt.Halt.{Halt}
-use Rattle.kernel.specs.Idle.{is_idle}
+use Rattle.std.specs.Prelude.{OnOk, is_ok, IfErr, IsErrOf}
 use Rattle.calls.specs.Steps.{IsBusy, IsBusyFor}
+use Rattle.machine.specs.Booted.{IsUnbooted}
+use Rattle.calls.specs.declared.halt.Halt.{Halt}
 use Rattle.machine.proofs.RunLemmas.{SoFar}
 use Rattle.machine.proofs.RunsOn.{both, runs_on}
-use Rattle.machine.specs.Gives.{RunGives}
+use Rattle.machine.specs.Gives.{IsRefused, RunGives}
+use Rattle.machine.specs.View.{IsUp, View}
+use Rattle.session.specs.Played.{Advances, Refuses}
+use Rattle.std.proofs.Common.{◌%◌, ◌+◌, ◌-◌, ◌<◌, [], ap, append-nil, arith, Err, inl, inr, length, List, Ok, Option, refl, replicate, Result, Some, subst, sym, true, ℕ, ◌↔◌, ◌∙◌, ◌≡◌, ◌≢◌, ◌≤◌, ◌⊎◌}
+use Rattle.std.proofs.lemmas.Bool.{cases_eq, cases_lt}
+use Rattle.unixmodel.specs.Run.{run}
+use Rattle.std.proofs.lemmas.List.{replicate-append-replicate}
+use Rattle.kernel.specs.Idle.{is_idle}
 use Rattle.machine.specs.Pieces.{IsPiece}
-use Rattle.machine.specs.View.{View}
-use Rattle.session.specs.Played.{Advances, IsAsFar}
 use Rattle.session.specs.declared.play.Ran.{Ran}
-use Rattle.unixmodel.specs.declared.event.Event.{Event}
 use Rattle.unixmodel.specs.declared.event.Event.TheVariants.{Step}
 use Rattle.unixmodel.specs.Calls.{After}
-use Rattle.unixmodel.specs.Run.{run}
+use Rattle.calls.specs.declared.halt.Halt.TheVariants.{Console, Device, Halted, InitEnded}
+use Rattle.std.specs.Result.{IsErrAnd}
+use Rattle.blockdev.specs.Blocks.{blocks_of}
+use Rattle.imagecheck.specs.declared.ImageFault.TheVariants.{Length}
+use Rattle.imagerules.specs.Content.{image_of}
+use Rattle.imagerules.proofs.Spelling.{image_of-blocks}
+use Rattle.machine.specs.declared.fault.BootFault.{BootFault}
+use Rattle.machine.specs.declared.fault.BootFault.TheVariants.{FrameCount, Image}
 
 abbrev pub ran_of : ℕ → Result (Unit {0}) Halt → Ran
 ran_of steps answer = record { steps = steps; answer = answer }
@@ -67,3 +75,60 @@ module _ (first now new : View) (most n more : ℕ) (before mid after : Option (
 pub ends : (first now : View) (most n : ℕ) (before after : Option (List ℕ)) (rising : Type 0) → SoManySteps first now n before after → IsBusyFor first.state n → n ≤ most → most ≤ n
     → Advances first now most before after rising (ran_of n (Ok tt))
 ends first now most n before after rising h busy within all = record { gives = (h.began, h.done); far = record { within = within; busy = busy; idle = λ less. absurd (omega (arith, less, all)) } }
+
+-- ---- a machine that is given no event: whether it takes any
+
+same-view : (a b : View) → a.state ≡ b.state → a.failures ≡ b.failures → a.failed ≡ b.failed → a.identity ≡ b.identity → a ≡ b
+same-view a b p q r s = λ i. record { state = p i; failures = q i; failed = r i; identity = s i }
+
+-- the machine and the bytes stay, and a machine that is up says so
+pub stands : (old new : View) (xs ys : List ℕ) (rising : Type 0) (r : Result (Unit {0}) Halt) → RunGives old new [] (Some xs) (Some ys) rising r
+    → old.failures ≡ 0 → new.failures ≡ 0 → (new ≡ old) × (ys ≡ xs) × (IsUp old ↔ (is_ok r ≡ true))
+unfolding run
+stands old new xs ys rising (Ok u) h first now = (same-view new old h.1.state (now ∙ sym first) (h.1.sound ∙ sym h.0.sound) h.1.same_device, h.1.printed ∙ append-nil xs, (λ up. refl, λ ok. h.0))
+stands old new xs ys rising (Err (InitEnded status)) h first now = absurd (let e = sym h.0.goes ∙ h.1.halts in cc)
+stands old new xs ys rising (Err Device) h first now = absurd (let more = h.1.more in omega (arith, more))
+stands old new xs ys rising (Err Console) h first now = absurd (let more = h.1.more in omega (arith, more))
+stands old new xs ys rising (Err Halted) h first now = (h.same, h.printed ∙ append-nil xs, (λ up. absurd (h.stopped up), λ ok. absurd cc))
+
+-- a machine that had stopped
+pub refused : (old new : View) (xs ys : List ℕ) → (IsUp old → ⊥) → new ≡ old → ys ≡ xs → IsRefused old new (Some xs) (Some ys)
+refused old new xs ys stopped same bytes = record { stopped = stopped; same = same; printed = bytes ∙ sym (append-nil xs) }
+
+-- ---- why a session doesn't begin, and the bytes of its disk
+
+-- bytes that are no whole blocks
+pub length-refused : (image : List ℕ) (frames : ℕ) → length image % 1024 ≢ 0 → Refuses image frames (Image Length)
+length-refused image frames odd = (tt, λ h. odd (let w = h.whole in omega arith), λ files d. odd (let w = d.super.whole in omega arith))
+
+fault-refused : {D : Type 0} (identity : D → List ℕ) (at : D) (image : List ℕ) (frames : ℕ) (f : BootFault) → IsUnbooted identity (λ d. 0) at image frames f → Refuses image frames f
+fault-refused identity at image frames BootFault.Device why = absurd (let rises = why.1.rises in omega (arith, rises))
+fault-refused identity at image frames _ why = why
+
+-- what is told of a fault is told of the answer that passes it on
+pub refused-on : {T D : Type 0} (identity : D → List ℕ) (at : D) (image disk : List ℕ) (frames : ℕ) (r : Result T BootFault) (f : BootFault) → IsErrAnd r (λ e. e ≡ f) → disk ≡ image
+    → IsUnbooted identity (λ d. 0) at disk frames f → IfErr r (Refuses image frames)
+refused-on identity at image disk frames (Ok x) f is same why = tt
+refused-on identity at image disk frames (Err e) f is same why =
+    subst (Refuses image frames) (sym is) (fault-refused identity at image frames f (subst (λ (bs : List ℕ). IsUnbooted identity (λ d. 0) at bs frames f) same why))
+
+-- where a machine booted the count of frames was in range
+pub counted : {T : Type 0} (x : T) (frames : ℕ) → 64 ≤ frames → frames ≤ 32768 → IsErrOf {T = T} (Ok x) FrameCount ↔ ((frames < 64) ⊎ (32768 < frames))
+counted x frames least most = (λ e. absurd cc, λ out. absurd (outside out)) where
+  outside : ((frames < 64) ⊎ (32768 < frames)) → ⊥
+  outside (inl low) = omega (arith, low, least)
+  outside (inr high) = omega (arith, high, most)
+
+-- ---- the bytes of a disk
+
+whole-unless : (n : ℕ) (E : Type 0) → (E → ⊥) → (n ≢ 0 → E) → n ≡ 0
+whole-unless n E none odd = elim (cases_eq n 0) [ inl whole ↦ whole | inr not ↦ absurd (none (odd not)) ]
+
+-- a disk that was made of a copy
+pub disk-image : (image bytes disk : List ℕ) (len : ℕ) → bytes ≡ image → disk ≡ bytes → len ≡ length image → len % 1024 ≡ 0 → image_of (blocks_of disk) ≡ image
+disk-image image bytes disk len copy made is whole =
+    ap (λ bs. image_of (blocks_of bs)) (made ∙ copy) ∙ image_of-blocks image (ap (λ n. n % 1024) (sym is) ∙ whole)
+
+-- one that was made of a copy, which is refused only where it is no whole blocks
+pub copied : {image bytes disk : List ℕ} {len : ℕ} {E : Type 0} → (len % 1024 ≢ 0 → E) → (E → ⊥) → bytes ≡ image → disk ≡ bytes → len ≡ length image → image_of (blocks_of disk) ≡ image
+copied {image} {bytes} {disk} {len} {E} odd none copy made is = disk-image image bytes disk len copy made is (whole-unless (len % 1024) E none odd)

@@ -1,5 +1,5 @@
-use Rattle.std.proofs.Common.{◌-◌, ◌≤◌}
 use Rattle.calls.specs.Steps.{IsBusyFor}
+use Rattle.std.proofs.Common.{◌-◌, ◌≤◌}
 use Rattle.session.proofs.Repeating.{SoManySteps}
 use Rattle.session.proofs.play.advance.Given as goal
 

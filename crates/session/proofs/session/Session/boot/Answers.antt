@@ -1,7 +1,7 @@
-use Rattle.std.proofs.Common.{ap, arith, length, subst, sym, true≢false, ℕ, List, [], ◌%◌, ◌∙◌, ◌∷◌, ◌≡◌}
-use Rattle.std.specs.Prelude.{IsErr, is_err, vec_len}
+use Rattle.std.specs.Prelude.{is_err}
 use Rattle.machine.specs.Booted.{IsBooted}
-use Rattle.session.proofs.Refusing.{counted, disk-image, length-refused, refused-on, whole-unless}
+use Rattle.std.proofs.Common.{◌%◌, [], ap, arith, length, List, subst, sym, true≢false, ℕ, ◌∙◌, ◌∷◌}
+use Rattle.session.proofs.Repeating.{copied, counted, length-refused, refused-on}
 use Rattle.session.proofs.session.Session.boot.Goals as goal
 
 pub returns-in_default-new-clause-refused : goal.returns-in_default-new-clause-refused
@@ -10,15 +10,12 @@ returns-in_default-new-clause-refused c =
 
 pub returns-in_err-machine-clause-refused : goal.returns-in_err-machine-clause-refused
 returns-in_err-machine-clause-refused c =
-    let whole : vec_len c.in-Ok.bytes % 1024 ≡ 0 = whole-unless _ (IsErr c.new.result) (λ e. true≢false (sym e ∙ ap is_err c.in-Ok-new.is)) c.new.ensures.length.1 in
     refused-on _ _ c.args.image.now _ c.args.frames c.from_residual.result c.in_err-machine.field-0.0 c.from_residual.ensures.1
-    (disk-image c.args.image.now c.in-Ok.bytes.items c.in-Ok-new.disk.bytes (vec_len c.in-Ok.bytes) c.in-Ok.ensures.items c.in-Ok-new.ensures.bytes c.in-Ok.ensures.len whole)
-    c.in_err-machine.ensures.refused
+    (copied c.new.ensures.length.1 (λ e. true≢false (sym e ∙ ap is_err c.in-Ok-new.is)) c.in-Ok.ensures.items c.in-Ok-new.ensures.bytes c.in-Ok.ensures.len) c.in_err-machine.ensures.refused
 
 pub returns-clause-booted : goal.returns-clause-booted
 returns-clause-booted c =
-    let whole : vec_len c.in-Ok.bytes % 1024 ≡ 0 = whole-unless _ (IsErr c.new.result) (λ e. true≢false (sym e ∙ ap is_err c.in-Ok-new.is)) c.new.ensures.length.1 in
-    let same = disk-image c.args.image.now c.in-Ok.bytes.items c.in-Ok-new.disk.bytes (vec_len c.in-Ok.bytes) c.in-Ok.ensures.items c.in-Ok-new.ensures.bytes c.in-Ok.ensures.len whole in
+    let same = copied c.new.ensures.length.1 (λ e. true≢false (sym e ∙ ap is_err c.in-Ok-new.is)) c.in-Ok.ensures.items c.in-Ok-new.ensures.bytes c.in-Ok.ensures.len in
     subst (λ (bs : List ℕ). IsBooted c.args.image.now (length bs ∷ []) 0 c.args.frames c.in_ok-machine.machine) (c.in-Ok-new.ensures.bytes ∙ c.in-Ok.ensures.items)
     (subst (λ (bs : List ℕ). IsBooted bs (length c.in-Ok-new.disk.bytes ∷ []) 0 c.args.frames c.in_ok-machine.machine) same c.in_ok-machine.ensures.booted)
 

@@ -1,6 +1,6 @@
-use Rattle.std.proofs.Common.{arith, refl, subst, sym, List, ℕ}
-use Rattle.std.specs.Prelude.{[], length, vec_len, ◌∷◌, ◌≡◌}
-use Rattle.session.proofs.Refusing.{disk-image}
+use Rattle.std.specs.Prelude.{vec_len}
+use Rattle.std.proofs.Common.{[], arith, length, List, refl, subst, sym, ℕ, ◌∷◌, ◌≡◌}
+use Rattle.session.proofs.Repeating.{disk-image}
 use Rattle.session.proofs.session.Session.save.Goals as goal
 use Rattle.unixmodel.specs.Image.{Denotes}
 use Rattle.unixmodel.specs.Shown.{left}
