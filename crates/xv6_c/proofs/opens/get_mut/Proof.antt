@@ -1,41 +1,41 @@
 -- `get_mut` lends the session, and the handle follows it.
-use mathlib.Core.Path.{◌≡◌, refl}
-use Prim.Native.Nat.{ℕ}
 use mathlib.Core.List.{List, [], ◌∷◌}
 use seplogic.Ra.Ura.{Ura}
-use base.Fraction.{full_share}
-use mir.Syntax.{named}
-use mir.Val.{Val, vptr}
-use base.Logic.{SProp, ent, sep, emp, via, fst∗, id⊢}
-use base.Fml.{Lft, GName, Share, Fml, ftrue, flft, fsep}
 use prog.Memory.{Memory}
 use prog.Routine.{Routine}
-use prog.Wp.{Env, Calls, Loops, WpFn, Tables}
 use types.Logic.{Logic, sem}
 use contract.Monad.{Fun}
-use contract.Running.{tables, tables_of}
 use sound.WpLaws.{WpFn-mono}
-use types.Kit.{‵, ◌⊛◌, some, at_ret, ◌$◌, ◌∵◌, !, qed, by, move, keep, use1, drop, split, join, pick, rewrite, fsplit, fsplit3, fjoin, suffices, frame, done, raw, later, await, group, fpack}
-use types.Part.{whole, sub, look_in}
-use types.Run.{stop, fld, load, of_opd, first, blocks, exec, returns, enter, addr}
-use types.ByLocal.{alloc_all, pass_all, free_all, look_at, get, through, sets, env, sets_last}
-use denote.RattleType.{owns}
 use denote.Exit.{no}
+use denote.Signature.{plain, mut_ref_to}
+use denote.Triple.Spec.{triple_of}
+use denote.Triple.Table.{entered}
+use Rattle.std.proofs.BoxSteps.Form.{D, X, R, B, τ, word, handle}
+use Rattle.std.proofs.BoxSteps.Steps.{box_out, box_in}
+use base.Fml.{flft, Fml, fsep, ftrue, GName, Lft, Share}
+use base.Logic.{emp, ent, fst∗, id⊢, sep, SProp, via}
+use contract.Running.{tables_of, tables}
+use denote.Steps.{nothing, opens}
+use denote.Triple.Walked.{ends_at, Goes-spent_ref, says, stay_dropped, Stays, walk_Meets, walk_of, walked}
+use mathlib.Core.Path.{refl, ◌≡◌}
+use mir.Syntax.{named}
+use mir.Val.{Val, vptr}
+use prog.Wp.{Calls, Env, Loops, Tables, WpFn}
+use types.ByLocal.{alloc_all, env, free_all, get, look_at, pass_all, sets, sets_last, through}
+use types.Kit.{ !, ◌$◌, at_ret, await, by, done, drop, fjoin, fpack, frame, fsplit, fsplit3, group, join, keep, later, move, pick, qed, raw, rewrite, some, split, suffices, use1, ‵, ◌∵◌, ◌⊛◌}
+use types.Part.{look_in, sub, whole}
+use types.Run.{addr, blocks, enter, exec, first, fld, load, of_opd, returns, stop}
+use Prim.Native.Nat.{ℕ}
+use base.Fraction.{full_share}
+use denote.RattleType.{owns}
 use denote.Memory.{part_at, mem, cell_at, part_of}
 use denote.RawPtr.{block_ptr}
 use denote.Ref.{MutRef, mut_vals, mut_Tells}
-use denote.Signature.{plain, mut_ref_to}
-use denote.Steps.{nothing, opens}
 use denote.Triple.Entry.{on_entry}
-use denote.Triple.Spec.{triple_of}
-use denote.Triple.Table.{entered}
-use denote.Triple.Walked.{says, Stays, stay_dropped, walk_of, ends_at, walked, walk_Meets, Goes-spent_ref}
 use Rattle.std.proofs.alloc.Calls.{token}
 use mir.Raw.{raw as bare}
 use denote.Follow.{follows, Part, lends_Part}
 use Rattle.std.proofs.VecSteps.Shapes.{after}
-use Rattle.std.proofs.BoxSteps.Form.{D, X, R, B, τ, word, handle}
-use Rattle.std.proofs.BoxSteps.Steps.{box_out, box_in}
 use Rattle.xv6_c.proofs.AsBox.{E}
 use Rattle.xv6_c.specs.declared.sealed.Sealed.{Sealed}
 use Rattle.xv6_c.specs.contracts.sealed.Sealed.{the_row as S}

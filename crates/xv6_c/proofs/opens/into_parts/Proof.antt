@@ -1,29 +1,29 @@
 -- `into_parts` moves two fields, and what they own goes with them.
-use mathlib.Core.Path.{refl, sym, subst}
 use mathlib.Core.List.{List, [], ◌∷◌, ◌++◌}
 use seplogic.Ra.Ura.{Ura}
-use mir.Val.{Val}
-use base.Logic.{SProp, ent, emp, id⊢}
-use base.Fml.{ftrue, fsep}
 use prog.Memory.{Memory}
 use prog.Routine.{Routine}
-use prog.Wp.{WpFn, Tables}
 use types.Logic.{Logic}
 use contract.Monad.{Fun}
-use contract.Running.{tables, tables_of}
 use sound.WpLaws.{WpFn-mono}
-use types.Kit.{Item, ‵, raw, ◌⊛◌, ◌$◌, ◌∵◌, !, qed, by, move, drop, use1, join, split, fsplit, fjoin, suffices, done}
-use types.Part.{whole, sub, agg}
-use types.Run.{stop, fld, no_more, and_then, of_opd, returns, enter}
-use types.ByLocal.{alloc_all, pass_all, free_all, look_at, get, get_in, sets}
 use denote.Exit.{yes}
 use denote.Signature.{type_at}
-use denote.Steps.{nothing}
 use denote.Triple.Spec.{triple_of}
 use denote.Triple.Table.{entered}
-use denote.Triple.Walked.{says, Stays, stay_dropped, walk_of, ends_at, Goes-dropped, walk_Meets}
 use Rattle.std.proofs.BoxSteps.Form.{D, B, word, box_typed}
 use Rattle.std.proofs.BoxSteps.Steps.{box_out, box_in}
+use base.Fml.{fsep, ftrue}
+use base.Logic.{emp, ent, id⊢, SProp}
+use contract.Running.{tables_of, tables}
+use denote.Steps.{nothing}
+use denote.Triple.Walked.{ends_at, Goes-dropped, says, stay_dropped, Stays, walk_Meets, walk_of}
+use mir.Val.{Val}
+use prog.Wp.{Tables, WpFn}
+use types.ByLocal.{alloc_all, free_all, get, get_in, look_at, pass_all, sets}
+use types.Kit.{ !, ◌$◌, by, done, drop, fjoin, fsplit, Item, join, move, qed, raw, split, suffices, use1, ‵, ◌∵◌, ◌⊛◌}
+use types.Part.{agg, sub, whole}
+use types.Run.{and_then, enter, fld, no_more, of_opd, returns, stop}
+use mathlib.Core.Path.{subst, refl, sym}
 use Rattle.xv6_c.proofs.AsBox.{E, FromSeal as From}
 use Rattle.xv6_c.specs.contracts.opens.into_parts as F
 use Rattle.xv6_c.specs.contracts.opens.into_parts.Key.{name as #self}
@@ -36,8 +36,7 @@ stayed = (stay_dropped From yes, tt)
 module _ {M : Type 1} {𝓤 : Ura M} (𝓛 : Logic 𝓤) (at_mem : Memory → SProp 𝓤) (run : Routine → Fun 𝓤) (𝓣 : Tables 𝓤 𝓛.H) where
   open 𝓛 use {H}
 
-  walk : (z : (walk_of 𝓛 F.ended stayed (F.clauses 𝓛 at_mem run)).Ghost)
-      → ent 𝓤 ((walk_of 𝓛 F.ended stayed (F.clauses 𝓛 at_mem run)).pre z) (WpFn 𝓤 H 𝓣.C 𝓣.Λ code.function (z.0.4.0 ++ []) ((walk_of 𝓛 F.ended stayed (F.clauses 𝓛 at_mem run)).post z))
+  walk : let way = walk_of 𝓛 F.ended stayed (F.clauses 𝓛 at_mem run) in (z : way.Ghost) → ent 𝓤 (way.pre z) (WpFn 𝓤 H 𝓣.C 𝓣.Λ code.function (z.0.4.0 ++ []) (way.post z))
   walk z =
       let Post = (walk_of 𝓛 F.ended stayed (F.clauses 𝓛 at_mem run)).post z in
       let v : D E = record { ptr = z.0.3.0.ptr; alloc = z.0.3.0.alloc; value = z.0.3.0.session } in
