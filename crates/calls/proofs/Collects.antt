@@ -4,7 +4,7 @@ use Rattle.calls.proofs.Common.{is_child_of, is_some, is_zombie_child_of, IsKern
 use Rattle.calls.proofs.Common.{place-changed, place_where, Places, process-run, process-state, process_at, put, put_process, reaped_at, refl, Refuses, rest_of, set-slot, set_comm, slot, slot-other, Some, SpaceView, State, state_of, subst}
 use Rattle.calls.proofs.Common.{suc, sym, true, unwrap_or, view_at, Wait, wait_for, wait_on, wait_row, waits-other, with_space, with_status, wrote-state, zero, zombie_child, zombie_child-with_table, zombie_place, ℕ, ℤ, ◌∙◌, ◌≡◌, ◌≢◌}
 use Rattle.std.specs.Int.{w32}
-use Rattle.kernel.proofs.Collecting.{collected-kernel, collected-run, collected-state, has-reaped, HasReaped, unreaped-go, zombie-idle}
+use Rattle.kernel.proofs.Working.{collected-kernel, collected-run, collected-state, has-reaped, HasReaped, unreaped-go, zombie-idle}
 use Rattle.proc.specs.declared.table.Reaped.{Reaped}
 use Rattle.calls.proofs.Acts.{begins-on, goes-done, goes-waits, going, me, provided-refused, refused}
 use Rattle.unixmodel.specs.Process as unix

@@ -21,24 +21,16 @@ pub use Rattle.files.specs.Meant.{file_of, target_of}
 pub use Rattle.files.specs.Places.{Counted, file_at, free_count, has_end, moved, node_at, node_from, usable}
 pub use Rattle.files.specs.declared.file.Target.{Target}
 pub use Rattle.inode.specs.declared.InodeStat.{InodeStat}
-pub use Rattle.kernel.proofs.Finishes.{counting-kernel}
+pub use Rattle.kernel.proofs.Steps.{counting-kernel, ends-at, ends-run, stops-run, waits-run, computed-is, held-run, placed-with, serves-disk}
 pub use Rattle.kernel.proofs.Holding.{home-folder, is_by, kept-cong, used-is}
-pub use Rattle.kernel.proofs.Idle.{busy-state, idle-turn, running-state}
-pub use Rattle.kernel.proofs.Joined.{change_process-with_table, has_child-with_table, zombie_child-with_table}
-pub use Rattle.kernel.proofs.Leaving.{ends-at, ends-run, stops-run, waits-run}
-pub use Rattle.kernel.proofs.Steps.{computed-is, held-run, placed-with}
+pub use Rattle.kernel.proofs.Readies.{busy-state, idle-turn, running-state, stands-open, turn-alive, frames-state, place-changed, place-state, process-state}
+pub use Rattle.kernel.proofs.Joined.{change_process-with_table, has_child-with_table, zombie_child-with_table, file-at, IsFileAt, open-named, waits-other, waits-reading, waits-writing}
 pub use Rattle.kernel.proofs.Memories.{drew-state, reheld-full, resized-state, wrote-state}
-pub use Rattle.kernel.proofs.Opens.{file-at, IsFileAt, open-named, waits-other, waits-reading, waits-writing}
-pub use Rattle.kernel.proofs.Readies.{stands-open, turn-alive}
-pub use Rattle.kernel.proofs.Reading.{serves-disk}
-pub use Rattle.kernel.proofs.Reaped.{away-loaded, match-active, match-place, opened-loaded, over-state, reap-state, used-loaded, within-state}
-pub use Rattle.kernel.proofs.Renaming.{descriptors-run, dup-state, renamed-within}
-pub use Rattle.kernel.proofs.Turning.{me_of, Runner, runner-of}
-pub use Rattle.kernel.proofs.Runs.{answer-run, change-put, change-run, IsThere, live, not-killed, process-idle, regs-kernel, regs-run, regs-state, runs-mode, there-of, home-running, IsRun, loaded-run, moved-state, process-run, run-of, self}
-pub use Rattle.kernel.proofs.Runs.{set-slot, slot-other, slot-put, slot-within, stands-set, with_process, within-run, within-space}
-pub use Rattle.kernel.proofs.Shown.{frames-state, place-changed, place-state, process-state}
-pub use Rattle.kernel.proofs.Starts.{picked-state, picks-killed, picks-ready, started-is, started-kernel, started-run, started-state, started_to}
-pub use Rattle.kernel.proofs.Wakes.{kernel-waking, state-but, state-waking}
+pub use Rattle.kernel.proofs.Runs.{away-loaded, match-active, match-place, opened-loaded, over-state, reap-state, used-loaded, within-state, answer-run, change-put, change-run, IsThere, live, not-killed, process-idle, regs-kernel, regs-run}
+pub use Rattle.kernel.proofs.Runs.{regs-state, runs-mode, there-of, home-running, IsRun, loaded-run, moved-state, process-run, run-of, self, set-slot, slot-other, slot-put, slot-within, stands-set, with_process, within-run, within-space}
+pub use Rattle.kernel.proofs.Turning.{descriptors-run, dup-state, renamed-within, me_of, Runner, runner-of}
+pub use Rattle.kernel.proofs.Changes.{picked-state, picks-killed, picks-ready, started-is, started-kernel, started-run, started-state, started_to}
+pub use Rattle.kernel.proofs.Watching.{kernel-waking, state-but, state-waking}
 pub use Rattle.kernel.specs.Descriptors.{descriptors_in}
 pub use Rattle.kernel.specs.Disk.{directory_at, directory_in, HasRead, IsLost, IsServed, LeavesDisk, with_tree}
 pub use Rattle.kernel.specs.Holding.{FitsFiles, FitsNode, home_in, IsFolder, IsInUse, node_of, node_on}

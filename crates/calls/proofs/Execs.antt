@@ -5,7 +5,7 @@ use Rattle.calls.proofs.Common.{◌+◌, ◌<◌, ◌∙◌, ◌≡◌}
 use Rattle.programs.specs.declared.executing.Started.{Started}
 use Rattle.programs.specs.Executed.{frames_beside, plan_at}
 use Rattle.unixmodel.specs.Plan.{Plan, plan}
-use Rattle.kernel.proofs.Replacing.{replaced-state}
+use Rattle.kernel.proofs.Forking.{replaced-state}
 use Rattle.calls.proofs.Acts.{does, given-refused, me}
 use Rattle.calls.proofs.Names.{found-here, node-here, path-is, refused-read}
 use Rattle.unixmodel.specs.Process as unix

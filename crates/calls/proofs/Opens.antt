@@ -6,7 +6,7 @@ use Rattle.calls.proofs.Common.{kind_of, le_trans, leaf_node, limited, List, low
 use Rattle.calls.proofs.Common.{none-some, not, Ok, OnNode, Open, open_row, opened_on, Opens, OpensOn, Option, option_and_then, option_and_then_some, option_map, Outcome, outcome_of, Overflows, path_at, Process, process-run, provided, put}
 use Rattle.calls.proofs.Common.{refl, Refused, Refuses, Result, row, Runs, same_Some, self, set-slot, slice_index, slice_set, slot, slot-within, Some, Spot, spot_of, State, state-but, state_of, subst, suc, sym, target_by, target_of, Tells}
 use Rattle.calls.proofs.Common.{TellsMajor, TreeFault, true, truncated, truncates, view_at, with_open, with_tree, ℕ, ◌%◌, ◌<◌, ◌==◌, ◌||◌, ◌∙◌, ◌≡◌, ◌≢◌, ◌≤◌}
-use Rattle.kernel.proofs.Opening.{open-state}
+use Rattle.kernel.proofs.Turning.{open-state}
 use Rattle.files.specs.declared.file.OpenFile.{OpenFile}
 use Rattle.files.specs.Places.{opens_of}
 use Rattle.names.proofs.Finding.{spot-absent}

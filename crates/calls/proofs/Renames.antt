@@ -1,7 +1,7 @@
 -- dup and close: the lowest free descriptor of the running process names what another one names, or one is given up.
 use Rattle.calls.proofs.Common.{Acts, answered, Answers, ap, argument, clear, Close, close_row, closed_at, counting, descriptors-run, descriptors_at, Dup, dup-state, dup_row, duplicated, free_slot, HasClosed, Here, here-in, IsKernel}
 use Rattle.calls.proofs.Common.{IsServed, Kernel, length-set, low, None, refl, Refuses, slot, Some, state-but, state_of, sym, ℕ, ◌∙◌, ◌≡◌}
-use Rattle.kernel.proofs.Closing.{close-reaps}
+use Rattle.kernel.proofs.Working.{close-reaps}
 use Rattle.calls.proofs.Acts.{answered-runner, descriptor-is, given-refused, makes, refused, settles, settles-gone}
 
 module _ {k : Kernel} {i : ℕ} (x : Here k i) where

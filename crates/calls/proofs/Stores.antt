@@ -8,7 +8,7 @@ use Rattle.files.specs.declared.file.End.{End}
 use Rattle.files.specs.declared.file.OpenFile.{OpenFile}
 use Rattle.files.specs.Places.{opens_of}
 use Rattle.file_transfers.proofs.Fits.{greatest-low}
-use Rattle.kernel.proofs.Opens.{IsNamed}
+use Rattle.kernel.proofs.Joined.{IsNamed}
 use Rattle.tree.specs.Stored.{FitsPlaces}
 use Rattle.tree.specs.Written.{count_of, files_after, fitting, IsFile, with_bytes, Written, written}
 use Rattle.unixmodel.specs.Image.{KeepsSize}

@@ -6,7 +6,7 @@ use Rattle.calls.proofs.Common.{MayUse, Memory, nat_le, natural, negsuc, Node, n
 use Rattle.calls.proofs.Common.{Process, provided, reach, read_bytes, read_row, refl, Refuses, Result, result_ok, row, Runs, same_Some, slot, Some, some-pipe, SpaceView, Stands, stands-open, State, state_of, subst, suc, sym, take, Target}
 use Rattle.calls.proofs.Common.{target_for, target_named, target_of, Transfers, true, unless_empty, view_at, write_row, zero, ℕ, ℤ, ◌&&◌, ◌<◌, ◌^◌, ◌∙◌, ◌≡◌, ◌≢◌, usable, Refused}
 use Rattle.std.specs.Int.{w32}
-use Rattle.kernel.proofs.Opens.{IsNamed}
+use Rattle.kernel.proofs.Joined.{IsNamed}
 use Rattle.files.specs.declared.file.End.{End}
 use Rattle.files.specs.declared.file.End.TheVariants.{Read, Write}
 use Rattle.files.specs.declared.file.OpenFile.{OpenFile}

@@ -11,7 +11,8 @@ use Rattle.tree.specs.Holding.{let_go}
 use Rattle.calls.specs.Named.{IsNamed}
 use Rattle.tree.specs.Unlinks.{unlinked_in}
 use Rattle.unixmodel.specs.Counts.{opens_of}
-use Rattle.kernel.proofs.Unlinking.{kept-is, reaps}
+use Rattle.kernel.proofs.Memories.{kept-is}
+use Rattle.kernel.proofs.Unlinking.{reaps}
 use Rattle.calls.proofs.Acts.{answered-runner, me, settle-reaped, settles}
 use Rattle.calls.proofs.Altered.{sum-altered}
 use Rattle.calls.proofs.Names.{given-then, home-is, named-acts, over-here, path-is, tree-state, with_made}

@@ -4,8 +4,8 @@ use Rattle.digests.proofs.Common.{mixed, page_or_same, place_mixed, status_numbe
 use Rattle.std.specs.Prelude.{is_some, option_map, slice_get}
 use Rattle.std.proofs.lemmas.List.Sums.{fold_more}
 use Rattle.digests.proofs.Steps.{each-all}
-use Rattle.kernel.proofs.Reaped.{match-loaded}
-use Rattle.kernel.proofs.Shown.{process-state}
+use Rattle.kernel.proofs.Runs.{match-loaded}
+use Rattle.kernel.proofs.Readies.{process-state}
 use Rattle.proc.specs.declared.process.Process.{Process}
 use Rattle.proc.specs.Places.{Places, changed_at}
 use Rattle.kernel.specs.Sound.{IsKernel}

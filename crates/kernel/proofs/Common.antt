@@ -3,7 +3,7 @@ pub use Rattle.std.proofs.Common.{◌%◌, ◌&&◌, ◌+◌, ◌++◌, ◌-◌,
 pub use Rattle.std.proofs.Common.{nat_le, nat_lt, negsuc, None, not, Ok, Option, option_map, refl, rules, slice_set, Some, subst, suc, sym, take, true, unwrap_or, zero, ◌||◌, ℕ, ℤ, ◌∙◌, ◌∷◌, ◌≡◌, ◌≢◌, ◌≤◌, ◌⊎◌}
 pub use Rattle.std.proofs.Math.ListN.{get_or-map}
 pub use Rattle.std.proofs.Math.Seq.{map-set_same}
-pub use Rattle.std.proofs.lemmas.Bool.{and_parts, cases_eq, cases_lt, eqb-true, false_from_ne_true, le-leb, le-ltb, lt-leb, lt-ltb, ltb-true, ne_eqb, not-false, not-true, not_from_true, or_from, or_left, or_parts, or_right, true≢false}
+pub use Rattle.std.proofs.lemmas.Bool.{and_parts, cases_eq, cases_lt, eqb-true, le-leb, le-ltb, lt-leb, lt-ltb, ltb-true, ne_eqb, not-true, or_left, or_right, true≢false}
 pub use Rattle.std.proofs.lemmas.Bool.Decides.{nat_tests}
 pub use Rattle.std.proofs.lemmas.List.{drop_all, get_or-set_other, get_or-set_same, get_or_past, length-append, length-map, length-set, set-get_or, set-set, set_comm, take_all}
 pub use Rattle.std.proofs.lemmas.List.Folds.{position_or_len-set, prefix_len-set}
@@ -16,56 +16,45 @@ pub use Rattle.std.specs.List.{list_any, position_or_len, prefix_len, range_with
 pub use Rattle.std.specs.Option.{option_copied, option_eq}
 pub use Rattle.std.specs.Prelude.{◌*◌, All, count_by, find, IfErr, IfNone, IfOk, IfSome, if◌then◌else◌, is_none, IsSome, OnErr, OnOk, option_and_then, position, Result, slice_get, slice_index, sum, sum_by, ◌↔◌}
 pub use Rattle.blockdev.specs.declared.DeviceFault.{DeviceFault}
-pub use Rattle.files.proofs.Whole.{count-closed, count-moved, count-opened, count-shared, count_of, Counts, lt-one, lt-sum, names-clear, names-none, names-put, one_at, one_at-self, all-set, fewer-from, file-opens, free_slot-opens, IsLeft}
-pub use Rattle.files.proofs.Whole.{left-closed, left-same, length-opens, opens-closed, opens-closed_last, opens-opened, opens-shared, set_outside, slot-opens, table-closed, table-moved, table-opened, table-shared, without_opens-left}
-pub use Rattle.files.proofs.Whole.{without_opens-same}
-pub use Rattle.files.proofs.PipesLemmas.{free-opens, free-place, free-put, free-Some, has_pipe-clear, has_pipe-put, IsLeftOf, piped-end, piped-last, piped-node, pipes-clear, pipes-left, pipes-same, without_pipes-left, without_pipes-same}
+pub use Rattle.files.proofs.Whole.{count-closed, count-moved, count-opened, count-shared, count_of, Counts, lt-one, lt-sum, names-clear, names-none, names-put, one_at, one_at-self, all-set, file-opens, length-opens, slot-opens, table-moved}
+pub use Rattle.files.proofs.Whole.{table-shared, without_opens-same}
+pub use Rattle.files.proofs.PipesLemmas.{free-opens, free-place, free-put, free-Some, has_pipe-clear, has_pipe-put, pipes-left, pipes-same, without_pipes-same}
 pub use Rattle.files.specs.Counts.{names, one_in}
 pub use Rattle.files.specs.Meant.{end_of, file_of, target_of}
 pub use Rattle.files.specs.Pipes.{IsPiped}
-pub use Rattle.files.specs.Places.{closed, count_at, count_in, Counted, fewer, file_at, free_count, IsTable, last_in, last_target, more, moved, moved_in, moved_to, opened, opens_of, place_for, place_from, shared}
+pub use Rattle.files.specs.Places.{closed, count_at, count_in, Counted, file_at, IsTable, last_target, more, moved, moved_in, moved_to, opened, opens_of, place_from, shared}
 pub use Rattle.names.proofs.Finding.{slot-within}
-pub use Rattle.names.specs.Changes.{Changed, Loses, shape}
 pub use Rattle.names.specs.Rules.{KeepsTree}
 pub use Rattle.proc.proofs.Waiting.{found-any, next-same}
 pub use Rattle.proc.specs.Mask.{is_in}
-unfoldable pub use Rattle.proc.specs.Mask.{all_in}
 pub use Rattle.proc.specs.Pick.{Answers, Picks, place_in_round}
 pub use Rattle.proc.specs.Places.{changed, changed_at, exited, has_pid, is_zombie_child_of, orphaned, place_where, Places, reaped_at, reaped_from, seat_at, seat_of, seated, with_descriptor, with_directory, with_mark, with_mode, without}
 pub use Rattle.proc.specs.Places.{woken, zombie_of, zombie_place}
 pub use Rattle.proc.specs.declared.process.Process.{Process}
 pub use Rattle.proc.specs.declared.table.Seat.{Seat}
 pub use Rattle.spaces.proofs.SpacesLemmas.{grown-with_pages, shrunk-with_pages, some-pipe, taken-placed}
-pub use Rattle.spaces.specs.Spaces.{bytes_in, copied, Fits, forked, frames_in, grown, has_space, Lacks, no_pages, shrunk, Spaces, SpaceView, taken_frames, view_at, with_pipe, with_place, with_view, written}
-pub use Rattle.tree.proofs.Keeping.{created-changed, device-is, folder-changed, let-go-keeps, linked-changed, Reaps, unlinked-reaps, written-changed}
-pub use Rattle.tree.specs.Calls.{MakesDirectory, MakesLink, MakesNode, TakesName, Writes}
+pub use Rattle.spaces.specs.Spaces.{copied, forked, frames_in, has_space, no_pages, Spaces, SpaceView, taken_frames, view_at, with_pipe, with_view}
 pub use Rattle.tree.specs.Holding.{holders, with_hold, without_hold}
 pub use Rattle.tree.specs.Tree.{FileTree, has_failed, HasFiles, Serves}
 pub use Rattle.tree.specs.Whole.{IsWhole}
 pub use Rattle.unixmodel.specs.Calls.{end_at, quiet}
 pub use Rattle.unixmodel.specs.Console.{Console, Taken}
-unfoldable pub use Rattle.unixmodel.specs.Console.{take_line}
 pub use Rattle.unixmodel.specs.Counts.{is_within, page_frames, process_frames}
 unfoldable pub use Rattle.unixmodel.specs.Counts.{blocks_of, frames_of}
-unfoldable pub use Rattle.unixmodel.specs.Cycle.{cycle}
 pub use Rattle.unixmodel.specs.Failures.{HasCause}
 pub use Rattle.unixmodel.specs.Files.{change_node, clear, Files, free_slot, links_of, longest, Node, put, slot, taken}
-unfoldable pub use Rattle.unixmodel.specs.Files.{free_slots}
 pub use Rattle.unixmodel.specs.Files.Node.{Directory, File}
 pub use Rattle.unixmodel.specs.Meaning.{Computed}
 pub use Rattle.unixmodel.specs.Memory.{can_write, Memory, shared_page}
-unfoldable pub use Rattle.unixmodel.specs.Memory.{write_bytes}
 pub use Rattle.unixmodel.specs.Numbers.{ceil_div, low, number_at, round_down}
-pub use Rattle.unixmodel.specs.OpenFiles.{End, is_end, is_node, is_pipe, pipe_room}
+pub use Rattle.unixmodel.specs.OpenFiles.{End, is_end, is_node, is_pipe}
 pub use Rattle.unixmodel.specs.OpenFiles.End.{ReadEnd, WriteEnd}
 pub use Rattle.unixmodel.specs.OpenFiles.Target.{OnNode, OnPipe}
 pub use Rattle.unixmodel.specs.Outcome.{pending_arg}
 unfoldable pub use Rattle.unixmodel.specs.Outcome.{end_process, no_descriptors}
 pub use Rattle.unixmodel.specs.Plan.{Loaded, loaded_of, Plan, Stack, stack_marks}
-unfoldable pub use Rattle.unixmodel.specs.Plan.{plan, push_pointers, push_strings, with_args, with_stack}
 pub use Rattle.unixmodel.specs.Process.{is_running_mode, is_zombie_mode, last_pid, with_answer}
 pub use Rattle.unixmodel.specs.ProcessCalls.{exec_registers, file_bytes, has_child, replaced, status_of, zombie_child}
-unfoldable pub use Rattle.unixmodel.specs.ProcessCalls.{args_at}
 pub use Rattle.unixmodel.specs.Reap.{is_same, is_used, kept}
 unfoldable pub use Rattle.unixmodel.specs.Reap.{reap, without_nodes, without_opens, without_pipes}
 pub use Rattle.unixmodel.specs.State.{change_process, has_end, holds, place_limit, place_of_pid, process_at, put_process, running, State}
@@ -78,21 +67,17 @@ pub use Rattle.unixmodel.specs.declared.process.Mode.TheVariants.{Ready, Running
 pub use Rattle.unixmodel.specs.declared.process.Pending.{Pending}
 pub use Rattle.unixmodel.specs.declared.trap.Trap.{Trap}
 pub use Rattle.kernel.specs.Descriptors.{after_close, all_closed, all_shared, closed_in, descriptors_in, IsCounted, named_by, names_in, shared_in, standing}
-pub use Rattle.kernel.specs.Disk.{HasRead, IsLost, LeavesDisk, ReadsDisk, with_tree}
 pub use Rattle.kernel.specs.Holding.{all_dropped, AreHeld, dropped, files_on, FitsNode, gone_nodes, home_in, homes_at, IsFolder, IsInUse, last_node, listed, node_in, node_of, node_on}
-pub use Rattle.kernel.specs.Idle.{is_anyone_asleep, is_idle, is_sleeping, is_sleeping_mode}
 pub use Rattle.kernel.specs.Kernel.{answered, base, blocked, computed, counting, descriptors_at, ended, halted_by, idle, Kernel, left_as, lives, loaded, marked, on_hart, picked, Rest, rest_of, started, started_as, state_of, state_with}
 pub use Rattle.kernel.specs.Kernel.{waking}
 pub use Rattle.kernel.specs.Memory.{drew, reheld, resized, sized, wrote}
-pub use Rattle.kernel.specs.Opening.{advanced, AreFree, closed_at, duplicated, Ends, free_descriptors, half_piped, HasClosed, HasFetched, HasPiped, HasStored, MayClose, MayMove, MayOpen, MayShare, opened_at, opened_on, OpensAs, OpensOn}
-pub use Rattle.kernel.specs.Opening.{pipe_file, piped}
+pub use Rattle.kernel.specs.Opening.{advanced, duplicated, HasFetched, HasStored}
 pub use Rattle.kernel.specs.Processes.{child_of, collected, forked_as, home_at, MayFork, MayWorkIn, working_in, WorksIn}
 pub use Rattle.kernel.specs.Ready.{awaited, awaited_in, has_slept, seen, Stands}
-pub use Rattle.kernel.specs.Sound.{CanEnd, CanEndIn, CanRun, file_named, is_at, is_awaited, is_on_pipe, IsAlive, IsAwaiting, IsEnded, IsForBytes, IsForPipe, IsFresh, IsKernel, IsLive, IsMode, IsOpened, IsOpenFile, IsOpenOn, IsPending}
-pub use Rattle.kernel.specs.Sound.{IsPlace, IsPlaced, WaitsAs, WaitsWell}
+pub use Rattle.kernel.specs.Sound.{CanRun, is_at, is_awaited, is_on_pipe, IsAlive, IsEnded, IsKernel, IsLive, IsMode, IsOpened, IsOpenFile, IsOpenOn}
+pub use Rattle.kernel.specs.Sound.{IsPlace, IsPlaced, WaitsWell}
 pub use Rattle.kernel.specs.View.{Keeps, kernel_of}
 pub use Rattle.kernel.specs.Watch.{awaited_of, IsAsleep, IsAsleepAs, IsWatched, kind_of, waits_as, waits_in, waits_on, Watches, woken_by}
-unfoldable pub use Rattle.kernel.specs.Watch.{roused}
 pub use Rattle.kernel.specs.Whole.{space_in, with_space, with_table}
 unfoldable pub use Rattle.kernel.specs.Whole.{joined}
 pub use Rattle.kernel.specs.declared.channels.Channel.TheVariants.{Bytes, Children, Ticks}

@@ -3,29 +3,33 @@ use Rattle.kernel.proofs.Common.{option_map, with_space, slice_index, get_or-set
 use Rattle.kernel.proofs.Common.{with_hold, IsInUse, slice_set, all_shared, state_of, IsKernel, IsOpened, with_table, SpaceView, frames_in, has_space, is_within, IsWatched, awaited_in, true≢false, and_parts, forked_as, with_view, free_slot}
 use Rattle.kernel.proofs.Common.{home_in, nat_le, length, Option, is_none, is_some, Kernel, on_hart, rest_of, IsPlace, IsPlaced, Process, Places, Watches, opens_of, MayFork, child_of, seat_at, seat_of, set_comm, last_pid, IsTable, file_at}
 use Rattle.kernel.proofs.Common.{◌≡◌, ◌≢◌, ℕ, ◌+◌, ◌<◌, ◌≤◌, ◌%◌, Bool, true, false, List, Some, None, Ok, refl, ap, subst, sym, ◌∙◌, arith, not, base, is_at, put, slot, State, Keeps, Seat, seated, woken, joined, copied, forked, reheld}
+use Rattle.kernel.proofs.Common.{all-set, WaitsWell, ◌-◌, [], option_and_then, counting, view_at, FileTree, Files, Memory, Spaces, cond_some, option_and_then_some, ◌*◌, number_at, round_down, Loaded, Plan, Stack, exec_registers, replaced}
 use Rattle.files.specs.Places.{has_pipe}
 use Rattle.kernel.proofs.Changes.{other-at}
-use Rattle.kernel.proofs.Holding.{home-folder, used-child, used-shared}
+use Rattle.kernel.proofs.Holding.{home-folder, used-child, used-shared, Fds, Processes}
 use Rattle.kernel.proofs.Named.{counted-forked, kept-all_shared, opens-all_shared}
-use Rattle.kernel.proofs.Opens.{file-shared, waits-fewer, waits-set}
-use Rattle.kernel.proofs.Reaped.{over-stands}
-use Rattle.kernel.proofs.Runs.{IsRun, home-running, runs-set, slot-other, slot-put, stands-set, state-run, with_process, within-space, live}
+use Rattle.kernel.proofs.Joined.{put-joined, file-shared, waits-fewer, free_slot-joined}
+use Rattle.kernel.proofs.Runs.{over-stands, IsRun, home-running, runs-set, slot-other, slot-put, stands-set, state-run, with_process, within-space, live, moved, moved-kernel, moved-state, set-slot}
 use Rattle.kernel.proofs.Memories.{reheld-kernel, reheld-state}
-use Rattle.kernel.proofs.Steps.{held-run, placed-with}
+use Rattle.kernel.proofs.Steps.{held-run, placed-with, counting-kernel}
 use Rattle.kernel.proofs.Turning.{Runner, me_of, runner-of}
-use Rattle.kernel.proofs.Wakes.{kernel-waking, watched-roused}
+use Rattle.kernel.proofs.Watching.{kernel-waking, watched-roused}
 use Rattle.kernel.proofs.Working.{folder-there}
-use Rattle.kernel.proofs.Joined.{free_slot-joined, seated-with_table}
 use Rattle.names.proofs.Counts.{none-is}
 use Rattle.proc.specs.Places as table
 use Rattle.unixmodel.specs.OpenFiles.{OpenFile}
 use Rattle.unixmodel.specs.ProcessCalls as rows
+use Rattle.kernel.specs.Replacing.{HasReplaced, begun, replaced_by}
+use Rattle.programs.specs.declared.executing.Started.{Started}
+use Rattle.programs.specs.Executed.{Executes, IsExecuted, plan_at, started_by, view_by}
+use Rattle.unixmodel.specs.Plan.{plan, push_pointers, push_strings, with_args, with_stack}
+use Rattle.unixmodel.specs.ProcessCalls.{args_at}
 
 -- ---- places
 
 -- a place that is taken stays so
-free-put : (os : List (Option Process)) (i : ℕ) (p q : Process) → slot os i ≡ Some p → free_slot (put os i q) ≡ free_slot os
-free-put os i p q at = rw (prefix_len-set (λ o. not (is_none o)) os i (Some q) None (ap (λ o. not (is_none o)) (sym at)), length-set os i (Some q)) refl
+free-put : (os : Processes) (i : ℕ) (p q : Process) → slot os i ≡ Some p → free_slot (put os i q) ≡ free_slot os
+free-put os i p q at = rw (prefix_len-set (λ o. not (is_none o)) os i _ None (ap (λ o. not (is_none o)) (sym at)), length-set os i (Some q)) refl
 
 -- the seat of a new process
 pub record IsSeat (t : Places) (seat : Seat) : Type 0 where
@@ -43,19 +47,19 @@ seat-go t (Some i) true seat free left is =
     record { free = free ∙ ap (λ (s : Seat). Some s.place) same; pid = sym (ap (λ (s : Seat). s.pid) same); left = left }
 
 pub seat-is : (t : Places) (seat : Seat) → seat_of t ≡ Ok seat → IsSeat t seat
-seat-is t seat is = seat-go t (free_slot t.places) (nat_le t.next_pid last_pid) seat refl refl is
+seat-is t seat is = seat-go t _ _ seat refl refl is
 
 -- ---- the state with the child
 
 module _ {k : Kernel} {i : ℕ} (x : Runner k i) where
   pub free-run : free_slot (state_of k).places ≡ free_slot k.table.places
   free-run =
-      ap (λ (s : State). free_slot s.places) (state-run k i x.process x.held x.run)
-      ∙ free_slot-joined (put k.table.places i (on_hart k.spaces x.process)) k.spaces.places
-      ∙ free-put k.table.places i x.process (on_hart k.spaces x.process) x.run.process
+      ap (λ (s : State). free_slot s.places) (state-run k i _ _ x.run)
+      ∙ free_slot-joined _ _
+      ∙ free-put _ i _ _ x.run.process
 
   pub next-run : (state_of k).next_pid ≡ k.table.next_pid
-  next-run = ap (λ (s : State). s.next_pid) (state-run k i x.process x.held x.run)
+  next-run = ap (λ (s : State). s.next_pid) (state-run k i _ _ x.run)
 
 module _ {k : Kernel} {i : ℕ} (x : Runner k i) (z : slice_index k.spaces.registers 0 ≡ 0) (a : k.spaces.pc % 4 ≡ 0) (seat : Seat) (seats : IsSeat k.table seat) where
   abbrev j : ℕ
@@ -71,7 +75,7 @@ module _ {k : Kernel} {i : ℕ} (x : Runner k i) (z : slice_index k.spaces.regis
   forked_to = record k { tree = record k.tree { holds = with_hold k.tree.holds x.process.directory }; table = seated k.table (child_of parent) seat; spaces = with_view k.spaces j x.held; files = all_shared k.files x.process.descriptors }
 
   free-table : (j < length k.table.places) × (slot k.table.places j ≡ None)
-  free-table = let f = position-Some is_none k.table.places j None seats.free in (f.0, none-is (slot k.table.places j) f.1)
+  free-table = let f = position-Some is_none _ j None seats.free in (f.0, none-is _ f.1)
 
   free-space : j < length k.spaces.places
   free-space = let f = free-table.0 in omega (arith, x.sound.all, x.sound.spaces, f)
@@ -83,11 +87,11 @@ module _ {k : Kernel} {i : ℕ} (x : Runner k i) (z : slice_index k.spaces.regis
   child-placed = record {
     zero = get_or-set_other k.spaces.registers 10 0 0 0 (λ e. absurd (omega arith)) ∙ z;
     aligned = a;
-    mode = record { descriptors = (live k i x.process x.held x.run x.sound).descriptors };
+    mode = record { descriptors = (live k i _ _ x.run x.sound).descriptors };
   }
 
   forked-stands : (n : ℕ) → IsPlace (slot forked_to.table.places n) (slot forked_to.spaces.places n)
-  forked-stands = stands-set k.table.places k.spaces.places j (Some child) (Some x.held) free-table.0 free-space child-placed x.sound.stands
+  forked-stands = stands-set _ _ j _ _ free-table.0 free-space child-placed x.sound.stands
 
   shared-opens : opens_of forked_to.files ≡ opens_of k.files
   shared-opens = opens-all_shared k.files x.process.descriptors
@@ -99,14 +103,14 @@ module _ {k : Kernel} {i : ℕ} (x : Runner k i) (z : slice_index k.spaces.regis
     each = λ n f at. was.each n f (ap (λ (os : List (Option OpenFile)). slot os n) (sym shared-opens) ∙ at);
     all = was.all;
     piped = λ q. was.piped q ∙ ap (λ (os : List (Option OpenFile)). has_pipe os q) (sym shared-opens);
-    waits = waits-set forked_to.files k.table.places j (Some child) tt (λ n. waits-fewer k.files forked_to.files (λ m f at. sym (kept-all_shared (λ u. file_at u m ≡ file_at k.files m) (λ u n same. file-shared u n m ∙ same) k.files x.process.descriptors refl) ∙ at) (slot k.table.places n) (was.waits n));
+    waits = all-set (λ j. WaitsWell forked_to.files) k.table.places j (Some child) tt (λ n. waits-fewer k.files forked_to.files (λ m f at. sym (kept-all_shared (λ u. file_at u m ≡ file_at k.files m) (λ u n same. file-shared u n m ∙ same) k.files x.process.descriptors refl) ∙ at) (slot k.table.places n) (was.waits n));
   }
 
   forked-run : IsRun forked_to i x.process x.held
   forked-run = record {
     active = x.run.active;
-    process = slot-other k.table.places j i (Some child) (λ e. apart (sym e)) ∙ x.run.process;
-    space = slot-other k.spaces.places j i (Some x.held) (λ e. apart (sym e)) ∙ x.run.space;
+    process = slot-other _ j i _ (λ e. apart (sym e)) ∙ x.run.process;
+    space = slot-other _ j i _ (λ e. apart (sym e)) ∙ x.run.space;
     placed = x.run.placed;
     runs = x.run.runs;
   }
@@ -132,10 +136,10 @@ module _ {k : Kernel} {i : ℕ} (x : Runner k i) (z : slice_index k.spaces.regis
       let swap : put (put k.table.places j child) i parent ≡ put (put k.table.places i parent) j child = set_comm k.table.places j i (Some child) (Some parent) apart in
       ap whole (state-run k i x.process x.held x.run)
       ∙ ap (λ (n : ℕ). record (with_table rest old k.spaces.places) { places = put (joined old.places k.spaces.places) j (with_space x.held (record (child_of parent) { pid = n })); next_pid = k.table.next_pid + 1 }) (sym seats.pid)
-      ∙ seated-with_table rest old k.spaces.places (child_of parent) seat x.held free-space
+      ∙ ap (λ places. record (with_table rest old k.spaces.places) { places = places; next_pid = k.table.next_pid + 1 }) (put-joined old.places k.spaces.places j (Some child) (Some x.held) free-space)
       ∙ sym (state-run forked_to i x.process x.held forked-run
       ∙ ap (λ (os : List (Option OpenFile)). with_table (base (record (rest_of k) { opens = os })) (with_process forked_to.table i parent) forked_to.spaces.places) shared-opens
-      ∙ ap (λ (places : List (Option Process)). with_table rest (record k.table { places = places; next_pid = k.table.next_pid + 1 }) forked_to.spaces.places) swap)
+      ∙ ap (λ (places : Processes). with_table rest (record k.table { places = places; next_pid = k.table.next_pid + 1 }) forked_to.spaces.places) swap)
 
 -- ---- the pages are marked in both
 
@@ -144,10 +148,10 @@ abbrev sharing : {k : Kernel} {i : ℕ} (x : Runner k i) → Runner (reheld k i 
 sharing {k} {i} x = record {
   process = x.process;
   held = forked x.held;
-  run = record { active = x.run.active; process = x.run.process; space = slot-put k.spaces.places i (Some (forked x.held)) (within-space k i x.process x.held x.run x.sound); placed = placed-with k i x.process x.held x.run x.sound (forked x.held); runs = x.run.runs };
-  sound = reheld-kernel x.run x.sound (forked x.held) (
+  run = record { active = x.run.active; process = x.run.process; space = slot-put _ i _ (within-space k i _ _ x.run x.sound); placed = placed-with k i _ _ x.run x.sound _; runs = x.run.runs };
+  sound = reheld-kernel x.run x.sound _ (
       let same : frames_in (Some (forked x.held)) ≡ frames_in (Some x.held) = ap (λ n. 4 + page_frames n) (length-map x.held.memory shared_page) in
-      omega (arith, same, x.sound.fits, taken-placed k.spaces i (Some (forked x.held)) (within-space k i x.process x.held x.run x.sound), ap frames_in x.run.space));
+      omega (arith, same, x.sound.fits, taken-placed k.spaces i (Some (forked x.held)) (within-space k i _ _ x.run x.sound), ap frames_in x.run.space));
 }
 
 module _ {k : Kernel} {i : ℕ} (x : Runner k i) (z : slice_index k.spaces.registers 0 ≡ 0) (a : k.spaces.pc % 4 ≡ 0) (seat : Seat) (seats : IsSeat k.table seat) where
@@ -155,7 +159,7 @@ module _ {k : Kernel} {i : ℕ} (x : Runner k i) (z : slice_index k.spaces.regis
   shared_to = forked_to (sharing x) z a seat seats
 
   forked-is : shared_to ≡ forked_as k i seat (on_hart k.spaces x.process)
-  forked-is = rw (held-run k i x.process x.held x.run x.sound) refl
+  forked-is = rw (held-run k i _ _ x.run x.sound) refl
 
   -- that is what fork makes
   pub fork-state : state_of (forked_as k i seat (on_hart k.spaces x.process)) ≡ (let s = put_process (state_of k) i (rows.sharing (me_of x)) in record s { places = put s.places seat.place (rows.child_of (rows.sharing (me_of x)) s.next_pid); next_pid = s.next_pid + 1 })
@@ -168,7 +172,7 @@ module _ {k : Kernel} {i : ℕ} (x : Runner k i) (z : slice_index k.spaces.regis
 
   -- the frames don't suffice for it
   pub fork-full : k.spaces.frames < taken_frames (copied k.spaces i seat.place) → is_within (state_of (forked_as k i seat (on_hart k.spaces x.process))) ≡ false
-  fork-full over = subst (λ (y : Kernel). is_within (state_of y) ≡ false) forked-is (over-stands shared_to (forked-stands (sharing x) z a seat seats) (rw (held-run k i x.process x.held x.run x.sound) at over))
+  fork-full over = subst (λ (y : Kernel). is_within (state_of y) ≡ false) forked-is (over-stands shared_to (forked-stands (sharing x) z a seat seats) (rw (held-run k i _ _ x.run x.sound) at over))
 
 none-space : (q : Option SpaceView) → IsPlace None q → is_some q ≡ false
 none-space None is = refl
@@ -178,8 +182,8 @@ none-space (Some h) is = absurd is
 pub seat-free : (k : Kernel) → IsKernel k → (seat : Seat) → seat_of k.table ≡ Ok seat → has_space k.spaces seat.place ≡ false
 seat-free k is seat seats =
     let s = seat-is k.table seat seats in
-    let f = position-Some is_none k.table.places seat.place None s.free in
-    none-space (slot k.spaces.places seat.place) (subst (λ (o : Option Process). IsPlace o (slot k.spaces.places seat.place)) (none-is (slot k.table.places seat.place) f.1) (is.stands seat.place))
+    let f = position-Some is_none _ _ None s.free in
+    none-space _ (subst (λ (o : Option Process). IsPlace o (slot k.spaces.places seat.place)) (none-is _ f.1) (is.stands seat.place))
 
 -- ---- the step
 
@@ -195,10 +199,10 @@ pub fork-home : {k : Kernel} {i : ℕ} (x : Runner k i) {q : Process} → k.tree
 fork-home {k} {i} x {q} up said =
     let at = ap (option_map (on_hart k.spaces)) x.run.process in
     let same : q ≡ on_hart k.spaces x.process = cc in
-    folder-there (home-folder (x.sound.used up) i q.directory (ap home_in x.run.process ∙ home-running x.process x.run.runs ∙ ap (λ (y : Process). Some y.directory) (sym same)))
+    folder-there (home-folder (x.sound.used up) i _ (ap home_in x.run.process ∙ home-running x.process x.run.runs ∙ ap (λ (y : Process). Some y.directory) (sym same)))
 
 -- who comes is awake
-watched-forked : (k : Kernel) → Watches k → (j : ℕ) (child : Process) → is_zombie_mode child.mode ≡ false → (ds : List (Option ℕ))
+watched-forked : (k : Kernel) → Watches k → (j : ℕ) (child : Process) → is_zombie_mode child.mode ≡ false → (ds : Fds)
     → IsWatched (awaited_in (opens_of (all_shared k.files ds)) k.spaces.pipes k.console k.ticks) (put k.table.places j child) (slice_set k.table.awake j true)
 watched-forked k watched j child lives ds =
     subst (λ os. IsWatched (awaited_in os k.spaces.pipes k.console k.ticks) (put k.table.places j child) (slice_set k.table.awake j true)) (sym (opens-all_shared k.files ds))
@@ -212,3 +216,68 @@ fork-keeps {k} {i} {seat} keeps may z a {q} said fits =
       sound = kernel-waking (subst IsKernel (sym (fork-by k i seat said x.run.process)) (fork-kernel x z a seat (seat-is k.table seat may.next) fits)) _;
       watched = watched-forked k keeps.watched seat.place (record (child_of q) { pid = seat.pid }) refl q.descriptors;
     }
+
+-- ---- another program comes in the place of the one that runs
+
+-- ---- where a program begins: at a multiple of 4
+
+args-pc : (pages : Memory) (pc : ℕ) (args : List (List ℕ)) (q : Plan) → with_args pages pc args ≡ Some q → q.pc ≡ pc
+unfolding with_args
+args-pc pages pc args q is =
+    let size = 4096 * (length pages + 2) in
+    let stack : Stack = record { memory = with_stack pages; sp = size; pointers = [] } in
+    let last = push_pointers (push_strings stack args) in
+    ap (λ (r : Plan). r.pc) (sym (cond_some _ _ q is).1)
+
+plan-pc : (file : List ℕ) (args : List (List ℕ)) (q : Plan) → plan file args ≡ Some q → q.pc ≡ round_down (number_at 8 24 file) 4
+unfolding plan
+plan-pc file args q is = option_and_then_some (λ (l : Loaded). with_args l.pages (round_down (number_at 8 24 file) 4) args) _ q is (λ l some has. args-pc _ _ args q has)
+
+plan-aligned : (files : Files) (n : ℕ) (mem : Memory) (argv : ℕ) (q : Plan) → plan_at files n mem argv ≡ Some q → q.pc % 4 ≡ 0
+plan-aligned files n mem argv q is =
+    let rounded = λ (n : ℕ). (let low : round_down n 4 % 4 ≡ 0 = omega arith in low) in
+    option_and_then_some (λ file. option_and_then (plan file) (args_at mem argv)) _ q is (λ file some has.
+    option_and_then_some (plan file) _ q has (λ args read made. ap (λ m. m % 4) (plan-pc file args q made) ∙ rounded (number_at 8 24 file)))
+
+-- ---- a program is in the place of the old one
+
+module _ {k : Kernel} {i : ℕ} (x : Runner k i) (new : Plan) where
+  replaced-is : replaced_by k i new ≡ moved k i x.process (view_by new) (exec_registers k.spaces.registers new) new.pc
+  replaced-is = rw (set-slot _ i _ x.run.process) refl
+
+  fits-new : IsPlaced x.process (view_by new)
+  fits-new = placed-with k i _ _ x.run x.sound _
+
+  pub replaced-kernel : taken_frames (with_view k.spaces i (view_by new)) ≤ k.spaces.frames → IsKernel (replaced_by k i new)
+  replaced-kernel fits = rw replaced-is (moved-kernel k i _ _ x.run x.sound _ _ _ _ fits-new x.run.runs refl refl fits)
+
+  pub replaced-state : state_of (replaced_by k i new) ≡ put_process (state_of k) i (replaced (me_of x) new)
+  replaced-state = ap state_of replaced-is ∙ moved-state k i _ _ x.run x.sound _ _ _ new.pc fits-new x.run.runs
+
+-- ---- what execute leaves of the tree and the spaces
+
+module _ (k : Kernel) (i n argv : ℕ) (t : FileTree) (s : Spaces) (o : Option Started) (executed : Executes k.tree.files k.spaces s i n argv o) (started : Started) (is : o ≡ Some started) where
+  does : IsExecuted (plan_at k.tree.files n (view_at k.spaces i).memory argv) k.spaces s i started
+  does = subst (Executes k.tree.files k.spaces s i n argv) is executed
+
+  pub begins-aligned : started.pc % 4 ≡ 0
+  begins-aligned = ap (λ (b : Started). b.pc % 4) does.started ∙ plan-aligned _ n _ argv _ does.is
+
+  module _ (leaves : t ≡ record k.tree { failures = t.failures }) where
+    abbrev to : Kernel
+    to = record k { tree = t; spaces = begun s started }
+
+    made : to ≡ counting (replaced_by k i does.plan) t.failures
+    made =
+        ap (λ (b : Started). record k { tree = t; spaces = begun s b }) does.started
+        ∙ ap (λ (z : Spaces). record k { tree = t; spaces = begun z (started_by does.plan) }) does.held
+        ∙ ap (λ (u : FileTree). record (replaced_by k i does.plan) { tree = u }) leaves
+
+    pub replaced-done : k.tree.failures ≤ t.failures → HasReplaced k to i n argv started
+    replaced-done later = record { plan = does.plan; is = does.is; fits = does.fits; begins = does.started; same = made; later = later }
+
+    pub replaced-keeps : Keeps k → k.spaces.active ≡ Some i → taken_frames s ≤ s.frames → Keeps to
+    replaced-keeps keeps active fits = rw made (record {
+      sound = counting-kernel _ _ (replaced-kernel (runner-of keeps.sound active) _ (rw does.held at fits));
+      watched = keeps.watched;
+    })

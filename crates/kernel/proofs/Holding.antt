@@ -1,9 +1,9 @@
 -- Who holds the nodes of the disk: what comes of processes, open files and nodes that change.
-use Rattle.kernel.proofs.Common.{◌≡◌, ◌≢◌, ℕ, zero, suc, ◌+◌, ◌-◌, ◌<◌, ◌≤◌, Bool, true, false, cond, List, [], ◌∷◌, length, map, Option, Some, None, inl, inr, refl, ap, ap₂, sym, subst, ◌∙◌, arith, IfSome, nat_lt, option_map, slice_set}
-use Rattle.kernel.proofs.Common.{SpaceView, drop, sum_by, unwrap_or, ◌||◌, ◌==◌, list_any, get_or-map, cases_eq, cases_lt, lt-ltb, ltb-true, or_left, or_right, nat_tests, get_or-set_other, get_or-set_same, sum_by-cons, sum_by-set, le-ltb}
-use Rattle.kernel.proofs.Common.{none-some, same_Some, one_in, one_at, target_of, Counted, more, opened, opens_of, shared, all-set, AreHeld, FitsNode, IsFolder, IsInUse, all_dropped, dropped, files_on, home_in, homes_at, one_at-self, sum}
-use Rattle.kernel.proofs.Common.{node_in, node_of, node_on, slot-within, Process, orphaned, joined, holders, with_hold, without_hold, FileTree, blocks_of, Files, Node, clear, links_of, slot, taken, is_node, is_zombie_mode, is_used, kept}
-use Rattle.kernel.proofs.Common.{without_nodes, State, KeepsTree, let-go-keeps, count_by-le-length, is_same, sum-map, map-set_same, get_or-le-sum_by, lt-sum, lt-one, get_or_past}
+use Rattle.kernel.proofs.Common.{put, ◌≡◌, ◌≢◌, ℕ, zero, suc, ◌+◌, ◌-◌, ◌<◌, ◌≤◌, Bool, true, false, cond, List, [], ◌∷◌, length, map, Option, Some, None, inl, inr, refl, ap, ap₂, sym, subst, ◌∙◌, arith, IfSome, nat_lt, option_map}
+use Rattle.kernel.proofs.Common.{slice_set, SpaceView, drop, sum_by, unwrap_or, ◌||◌, ◌==◌, list_any, get_or-map, cases_eq, cases_lt, lt-ltb, ltb-true, or_left, or_right, nat_tests, get_or-set_other, get_or-set_same, sum_by-cons}
+use Rattle.kernel.proofs.Common.{sum_by-set, le-ltb, none-some, same_Some, one_in, one_at, target_of, Counted, more, opened, opens_of, shared, all-set, AreHeld, FitsNode, IsFolder, IsInUse, all_dropped, dropped, files_on, home_in, homes_at}
+use Rattle.kernel.proofs.Common.{one_at-self, sum, node_in, node_of, node_on, slot-within, Process, orphaned, joined, holders, with_hold, without_hold, FileTree, blocks_of, Files, Node, clear, links_of, slot, taken, is_node, is_zombie_mode}
+use Rattle.kernel.proofs.Common.{is_used, kept, without_nodes, State, KeepsTree, sum-map, map-set_same, get_or-le-sum_by, lt-sum, lt-one, get_or_past}
 use Rattle.files.specs.declared.file.OpenFile.{OpenFile}
 use Rattle.files.specs.declared.file.Target.{Target}
 use Rattle.files.specs.declared.file.Target.TheVariants as target
@@ -13,6 +13,25 @@ use Rattle.tree.proofs.Letting.{let-go-clear, let-go-held, let-go-linked, let-go
 use Rattle.tree.proofs.Storing.{blocks_of-set, some-node}
 use Rattle.unixmodel.specs.OpenFiles as unix_files
 use Rattle.unixmodel.specs.Process as unix
+use Rattle.tree.proofs.Keeping.{let-go-keeps}
+
+-- ---- tables, whose places may be free
+
+abbrev pub Opens : Type 0
+Opens = List (Option Counted)
+
+abbrev pub Processes : Type 0
+Processes = List (Option Process)
+
+abbrev pub Views : Type 0
+Views = List (Option SpaceView)
+
+abbrev pub Pipes : Type 0
+Pipes = List (Option (List ℕ))
+
+-- the descriptors of a process
+abbrev pub Fds : Type 0
+Fds = List (Option ℕ)
 
 -- ---- what holds of each place
 
@@ -40,6 +59,10 @@ module _ {X : Type 0} (f : Option X → ℕ) where
   same-map g same [] = refl
   same-map g same (o ∷ os) = rw (sum_by-cons f (option_map g o) (map (option_map g) os), sum_by-cons f o os, same o, same-map g same os) refl
 
+  -- a free place is taken
+  pub sum-put : (xs : List (Option X)) (i : ℕ) (x : X) → i < length xs → slot xs i ≡ None → f None ≡ 0 → sum_by f (put xs i x) ≡ sum_by f xs + f (Some x)
+  sum-put xs i x short free none = let was : f (slot xs i) ≡ 0 = ap f free ∙ none in omega (arith, sum_by-set f xs i (Some x) None short, was)
+
   -- a place is one of those that are counted
   pub least : (xs : List (Option X)) (i : ℕ) (x : X) → slot xs i ≡ Some x → f (Some x) ≤ sum_by f xs
   least xs i x at = let same : f (slot xs i) ≡ f (Some x) = ap f at in omega (arith, get_or-le-sum_by f xs i None (slot-within xs i x at), same)
@@ -64,12 +87,22 @@ pub fits-there : (n : ℕ) (f : OpenFile) (t : Target) (o : Option Node) → nod
 fits-there n f (target.Pipe pipe e) o on fits none = none-some n on
 fits-there n f t o on fits none = subst (FitsNode f t) none fits
 
+-- an open file, where there is one, fits its node
+abbrev pub FitsIn : FileTree → Option Counted → Type 0
+FitsIn t o = (c : Counted) → o ≡ Some c → FitsFiles t.files c.file
+
+pub fits-some : (t : FileTree) (c : Counted) → FitsFiles t.files c.file → FitsIn t (Some c)
+fits-some t c fits d at = subst (λ (x : Counted). FitsFiles t.files x.file) (same_Some c d at) fits
+
+-- what a process works in, if it works somewhere, is a directory
+abbrev pub IsHome : FileTree → Option ℕ → Type 0
+IsHome t h = IfSome h (λ d. IsFolder (slot t.files d))
+
 -- ---- homes
 
-module _ {t : FileTree} {opens : List (Option Counted)} {os : List (Option Process)} (is : IsInUse t opens os) where
+module _ {t : FileTree} {opens : Opens} {os : Processes} (is : IsInUse t opens os) where
   -- other open files and processes hold each node as often
-  pub used-by : (new : List (Option Counted)) (after : List (Option Process)) → ((n : ℕ) → files_on opens n + homes_at os n ≡ files_on new n + homes_at after n)
-      → ((k : ℕ) (c : Counted) → slot new k ≡ Some c → FitsFiles t.files c.file) → ((j : ℕ) → IfSome (home_in (slot after j)) (λ d. IsFolder (slot t.files d))) → IsInUse t new after
+  pub used-by : (new : Opens) (after : Processes) → ((n : ℕ) → files_on opens n + homes_at os n ≡ files_on new n + homes_at after n) → ((k : ℕ) → FitsIn t (slot new k)) → ((j : ℕ) → IsHome t (home_in (slot after j))) → IsInUse t new after
   used-by new after same fits homes = record {
     rules = is.rules;
     zero = is.zero;
@@ -84,54 +117,52 @@ module _ {t : FileTree} {opens : List (Option Counted)} {os : List (Option Proce
   pub used-put : (i : ℕ) (o : Option Process) → home_in o ≡ home_in (slot os i) → IsInUse t opens (slice_set os i o)
   used-put i o same =
       used-by opens (slice_set os i o) (λ n. ap (λ m. files_on opens n + m) (sym (same-set (λ x. one_in n (home_in x)) os i o (ap (one_in n) same)))) is.fits
-      (all-set (λ j x. IfSome (home_in x) (λ d. IsFolder (slot t.files d))) os i o (subst (λ h. IfSome h (λ d. IsFolder (slot t.files d))) (sym same) (is.homes i)) is.homes)
+      (all-set (λ j x. IsHome t (home_in x)) os i o (subst (IsHome t) (sym same) (is.homes i)) is.homes)
 
   pub home-folder : (i d : ℕ) → home_in (slot os i) ≡ Some d → IsFolder (slot t.files d)
-  home-folder i d at = subst (λ h. IfSome h (λ d. IsFolder (slot t.files d))) at (is.homes i)
+  home-folder i d at = subst (IsHome t) at (is.homes i)
 
   -- the nodes that are held are there
   none-on : (n : ℕ) → slot t.files n ≡ None → files_on opens n ≡ 0
-  none-on n gone = held-none node_in opens n (λ j. off j (slot opens j) refl) where
+  none-on n gone = held-none _ opens n (λ j. off j _ refl) where
     off : (j : ℕ) (o : Option Counted) → slot opens j ≡ o → node_in o ≢ Some n
     off j None at on = none-some n on
-    off j (Some c) at on = fits-there n c.file c.file.target (slot t.files n) on (subst (λ h. FitsNode c.file c.file.target (node_of t.files h)) on (is.fits j c at)) gone
+    off j (Some c) at on = fits-there n c.file _ _ on (subst (λ h. FitsNode c.file c.file.target (node_of t.files h)) on (is.fits j c at)) gone
 
   pub held-there : (n : ℕ) → 1 ≤ holders t.holds n → slot t.files n ≢ None
   held-there n some gone = absurd (omega (arith, is.holds n, none-on n gone, held-none home_in os n (λ j at. subst IsFolder gone (home-folder j n at)), some))
 
 -- ---- open files that come, and whose nodes stay
 
-module _ {t : FileTree} {opens : List (Option Counted)} {os : List (Option Process)} (is : IsInUse t opens os) where
+module _ {t : FileTree} {opens : Opens} {os : Processes} (is : IsInUse t opens os) where
   -- as many are on each node
-  pub used-files : (new : List (Option Counted)) → ((n : ℕ) → files_on new n ≡ files_on opens n) → ((k : ℕ) (c : Counted) → slot new k ≡ Some c → FitsFiles t.files c.file) → IsInUse t new os
+  pub used-files : (new : Opens) → ((n : ℕ) → files_on new n ≡ files_on opens n) → ((k : ℕ) → FitsIn t (slot new k)) → IsInUse t new os
   used-files new same fits = used-by is new os (λ n. ap (λ m. m + homes_at os n) (sym (same n))) fits is.homes
 
   -- one descriptor more names an open file
   pub used-shared : (i : ℕ) → IsInUse t (shared opens i) os
   used-shared i =
-      used-files (shared opens i) (λ n. same-set (λ o. one_in n (node_in o)) opens i (option_map more (slot opens i)) (ap (one_in n) (map-same node_in more (λ c. refl) (slot opens i))))
-      (all-set (λ k o. (c : Counted) → o ≡ Some c → FitsFiles t.files c.file) opens i (option_map more (slot opens i)) (go (slot opens i) (is.fits i)) is.fits)
+      used-files (shared opens i) (λ n. same-set (λ o. one_in n (node_in o)) opens i _ (ap (one_in n) (map-same node_in more (λ c. refl) _)))
+      (all-set (λ k. FitsIn t) opens i _ (go _ (is.fits i)) is.fits)
     where
-      go : (o : Option Counted) → ((c : Counted) → o ≡ Some c → FitsFiles t.files c.file) → (c : Counted) → option_map more o ≡ Some c → FitsFiles t.files c.file
+      go : (o : Option Counted) → FitsIn t o → FitsIn t (option_map more o)
       go None was c at = absurd (none-some c at)
-      go (Some d) was c at = subst (λ (x : Counted). FitsFiles t.files x.file) (same_Some (more d) c at) (was d refl)
+      go (Some d) was c at = fits-some t _ (was d refl) c at
 
   -- an open file takes a free place; it is on no node
   pub used-opened : (i : ℕ) (f : OpenFile) → i < length opens → slot opens i ≡ None → node_on f.target ≡ None → FitsNode f f.target None → IsInUse t (opened opens i f) os
   used-opened i f inside free none fitting =
-      used-files (opened opens i f)
-      (λ n. same-set (λ o. one_in n (node_in o)) opens i (Some (record { file = f; count = 1 })) (ap (one_in n) (none ∙ sym (ap node_in free))))
-      (all-set (λ k o. (c : Counted) → o ≡ Some c → FitsFiles t.files c.file) opens i (Some (record { file = f; count = 1 }))
-      (λ c at. subst (λ (d : Counted). FitsFiles t.files d.file) (same_Some (record { file = f; count = 1 }) c at) (subst (λ o. FitsNode f f.target (node_of t.files o)) (sym none) fitting))
-      is.fits)
+      let one : Counted = record { file = f; count = 1 } in
+      used-files (opened opens i f) (λ n. same-set (λ o. one_in n (node_in o)) opens i _ (ap (one_in n) (none ∙ sym (ap node_in free))))
+      (all-set (λ k. FitsIn t) opens i _ (fits-some t one (subst (λ o. FitsNode f f.target (node_of t.files o)) (sym none) fitting)) is.fits)
 
 -- ---- what the abstract Unix says is used
 
 node-same : (n : ℕ) (on : Target) → is_node n (target_of on) ≡ nat_lt 0 (one_in n (node_on on))
 node-same n (target.Pipe pipe e) = refl
-node-same n on = sym (lt-one (unwrap_or (node_on on) 0 == n))
+node-same n on = sym (lt-one _)
 
-any-files : (n : ℕ) (opens : List (Option Counted)) → list_any (λ (f : unix_files.OpenFile). is_node n f.target) (taken (opens_of opens)) ≡ nat_lt 0 (files_on opens n)
+any-files : (n : ℕ) (opens : Opens) → list_any (λ (f : unix_files.OpenFile). is_node n f.target) (taken (opens_of opens)) ≡ nat_lt 0 (files_on opens n)
 any-files n [] = refl
 any-files n (None ∷ os) = rw (sum_by-cons (λ o. one_in n (node_in o)) None os, lt-sum 0 (files_on os n)) (any-files n os)
 any-files n (Some c ∷ os) =
@@ -142,28 +173,28 @@ abbrev pub IsAway : Option Process → Type 0
 IsAway None = Unit {0}
 IsAway (Some p) = is_zombie_mode p.mode ≡ true → p.directory ≡ 0
 
-abbrev pub AreAway : List (Option Process) → Type 0
+abbrev pub AreAway : Processes → Type 0
 AreAway os = (j : ℕ) → IsAway (slot os j)
 
 home-same : (n : ℕ) → n ≢ 0 → (p : Process) → (is_zombie_mode p.mode ≡ true → p.directory ≡ 0) → (p.directory == n) ≡ nat_lt 0 (one_in n (home_in (Some p)))
-home-same n some p away = go (is_zombie_mode p.mode) refl where
+home-same n some p away = go _ refl where
   go : (b : Bool) → is_zombie_mode p.mode ≡ b → (p.directory == n) ≡ nat_lt 0 (one_in n (cond b None (Some p.directory)))
   go true e = let nowhere = away e in grind (arith, nat_tests)
-  go false e = sym (lt-one (p.directory == n))
+  go false e = sym (lt-one _)
 
-any-homes : (n : ℕ) → n ≢ 0 → (os : List (Option Process)) (hs : List (Option SpaceView)) → AreAway os → list_any (λ (p : unix.Process). p.directory == n) (taken (joined os hs)) ≡ nat_lt 0 (homes_at os n)
+any-homes : (n : ℕ) → n ≢ 0 → (os : Processes) (hs : Views) → AreAway os → list_any (λ (p : unix.Process). p.directory == n) (taken (joined os hs)) ≡ nat_lt 0 (homes_at os n)
 unfolding joined
 any-homes n some [] hs away = refl
 any-homes n some (None ∷ os) hs away = rw (sum_by-cons (λ o. one_in n (home_in o)) None os, lt-sum 0 (homes_at os n)) (any-homes n some os (drop 1 hs) (λ j. away (suc j)))
 any-homes n some (Some p ∷ os) hs away =
     rw (sum_by-cons (λ o. one_in n (home_in o)) (Some p) os, lt-sum (one_in n (home_in (Some p))) (homes_at os n)) (ap₂ ◌||◌ (home-same n some p (away 0)) (any-homes n some os (drop 1 hs) (λ j. away (suc j))))
 
-pub used-is : (opens : List (Option Counted)) (os : List (Option Process)) (hs : List (Option SpaceView)) → AreAway os → (s : State) → s.opens ≡ opens_of opens → s.places ≡ joined os hs
+pub used-is : (opens : Opens) (os : Processes) (hs : Views) → AreAway os → (s : State) → s.opens ≡ opens_of opens → s.places ≡ joined os hs
     → (n : ℕ) → n ≢ 0 → is_used s n ≡ nat_lt 0 (files_on opens n + homes_at os n)
 used-is opens os hs away s files places n some =
     ap₂ (λ fs ps. list_any (λ (f : unix_files.OpenFile). is_node n f.target) (taken fs) || list_any (λ (p : unix.Process). p.directory == n) (taken ps)) files places
     ∙ ap₂ ◌||◌ (any-files n opens) (any-homes n some os hs away)
-    ∙ sym (lt-sum (files_on opens n) (homes_at os n))
+    ∙ sym (lt-sum _ _)
 
 -- ---- what is kept of places
 
@@ -185,7 +216,7 @@ module _ {X : Type 0} (test other : ℕ → X → Bool) where
   kept-twice : (k : ℕ) (xs : List (Option X)) → ((n : ℕ) (x : X) → other n x ≡ true → test n x ≡ true) → kept other k (kept test k xs) ≡ kept other k xs
   kept-twice k [] narrow = refl
   kept-twice k (None ∷ xs) narrow = ap (λ ys. None ∷ ys) (kept-twice (k + 1) xs narrow)
-  kept-twice k (Some x ∷ xs) narrow = twice k x xs (narrow k x) (kept-twice (k + 1) xs narrow) (test k x) refl (other k x) refl
+  kept-twice k (Some x ∷ xs) narrow = twice k x xs (narrow k x) (kept-twice (k + 1) xs narrow) _ refl _ refl
 
 -- ---- one that held a node lets go
 
@@ -194,17 +225,17 @@ abbrev pub is_by : List ℕ → ℕ → Node → Bool
 is_by holds = is_held (λ k. nat_lt 0 (holders holds k))
 
 by-holders : (holds : List ℕ) (n : ℕ) (node : Node) → 1 ≤ holders holds n → is_by holds n node ≡ true
-by-holders holds n node some = or_right (nat_lt 0 (links_of node)) (nat_lt 0 (holders holds n)) (lt-ltb 0 (holders holds n) some)
+by-holders holds n node some = or_right _ _ (lt-ltb 0 (holders holds n) some)
 
 by-links : (holds : List ℕ) (n : ℕ) (node : Node) → 1 ≤ links_of node → is_by holds n node ≡ true
-by-links holds n node some = or_left (nat_lt 0 (links_of node)) (nat_lt 0 (holders holds n)) (lt-ltb 0 (links_of node) some)
+by-links holds n node some = or_left _ _ (lt-ltb 0 (links_of node) some)
 
 -- each node has a link or is held
 abbrev pub IsHeldAt : List ℕ → Files → Type 0
 IsHeldAt holds files = (n : ℕ) (node : Node) → slot files n ≡ Some node → links_of node ≡ 0 → 1 ≤ holders holds n
 
 pub settled-by : (holds : List ℕ) (files : Files) → IsHeldAt holds files → (n : ℕ) (node : Node) → slot files n ≡ Some node → is_by holds n node ≡ true
-settled-by holds files held n node at = elim (cases_eq (links_of node) 0) [
+settled-by holds files held n node at = elim (cases_eq _ 0) [
   | inl none ↦ by-holders holds n node (held n node at none)
   | inr some ↦ by-links holds n node (omega (arith, some))
 ]
@@ -223,19 +254,19 @@ module _ (t : FileTree) (n : ℕ) (some : 1 ≤ holders t.holds n) where
   -- how many hold node m then
   count-after : (m : ℕ) → holders (without_hold t.holds n) m + one_at m n ≡ holders t.holds m
   count-after m = elim (cases_eq m n) [
-    | inl same ↦ rw same (omega (arith, some, get_or-set_same t.holds n (holders t.holds n - 1) 0 (within-holds t.holds n some), one_at-self n))
+    | inl same ↦ rw same (omega (arith, some, get_or-set_same t.holds n (holders t.holds n - 1) 0 (within-holds _ n some), one_at-self n))
     | inr other ↦ (let none : one_at m n ≡ 0 = grind (arith, nat_tests) in omega (arith, other-after m other, none))
   ]
 
   module _ (node : Node) (at : slot t.files n ≡ Some node) where
     -- it stays, as somebody holds it or it has a link, or it goes
     drop-cases : (P : Files → Type 0) → ((links_of node ≡ 0 → 1 ≤ holders (without_hold t.holds n) n) → P t.files) → (holders (without_hold t.holds n) n ≡ 0 → links_of node ≡ 0 → P (clear t.files n)) → P (dropped t n).files
-    drop-cases P stays goes = elim (cases_eq (holders (without_hold t.holds n) n) 0) [
-      | inl none ↦ elim (cases_eq (links_of node) 0) [
-        | inl bare ↦ subst P (sym (let-go-clear (without_hold t.holds n) t.files n node at none bare)) (goes none bare)
-        | inr linked ↦ subst P (sym (let-go-linked (without_hold t.holds n) t.files n node at (omega (arith, linked)))) (stays (λ bare. absurd (linked bare)))
+    drop-cases P stays goes = elim (cases_eq _ 0) [
+      | inl none ↦ elim (cases_eq _ 0) [
+        | inl bare ↦ subst P (sym (let-go-clear _ _ n node at none bare)) (goes none bare)
+        | inr linked ↦ subst P (sym (let-go-linked _ _ n node at (omega (arith, linked)))) (stays (λ bare. absurd (linked bare)))
       ]
-      | inr more ↦ subst P (sym (let-go-held (without_hold t.holds n) t.files n (omega (arith, more)))) (stays (λ bare. omega (arith, more)))
+      | inr more ↦ subst P (sym (let-go-held _ t.files n (omega (arith, more)))) (stays (λ bare. omega (arith, more)))
     ]
 
     -- another node stays, and so does this one while somebody holds it
@@ -252,12 +283,12 @@ module _ (t : FileTree) (n : ℕ) (some : 1 ≤ holders t.holds n) where
     drop-zero zero' = drop-cases (λ files. slot files 0 ≡ None) (λ why. zero') (λ none bare. get_or-set_other t.files n 0 None None (λ same. none-some node (sym zero' ∙ ap (slot t.files) same ∙ at)) ∙ zero')
 
     drop-blocks : blocks_of (dropped t n).files ≤ blocks_of t.files
-    drop-blocks = drop-cases (λ files. blocks_of files ≤ blocks_of t.files) (λ why. omega arith) (λ none bare. omega (arith, blocks_of-set t.files n None (slot-within t.files n node at)))
+    drop-blocks = drop-cases (λ files. blocks_of files ≤ blocks_of t.files) (λ why. omega arith) (λ none bare. omega (arith, blocks_of-set _ n None (slot-within _ n node at)))
 
     drop-reaps : IsHeldAt t.holds t.files → (dropped t n).files ≡ kept (is_by (dropped t n).holds) 0 t.files
-    drop-reaps held = let-go-reaps (without_hold t.holds n) t.files n node at (λ m x other here.
+    drop-reaps held = let-go-reaps _ _ n node at (λ m x other here.
         let same : nat_lt 0 (holders (without_hold t.holds n) m) ≡ nat_lt 0 (holders t.holds m) = ap (nat_lt 0) (other-after m other) in
-        ap (λ b. nat_lt 0 (links_of x) || b) same ∙ settled-by t.holds t.files held m x here)
+        ap (λ b. nat_lt 0 (links_of x) || b) same ∙ settled-by _ _ held m x here)
 
     drop-held : IsHeldAt t.holds t.files → IsHeldAt (dropped t n).holds (dropped t n).files
     drop-held held m x = drop-cases (λ files. slot files m ≡ Some x → links_of x ≡ 0 → 1 ≤ holders (without_hold t.holds n) m)
@@ -268,7 +299,7 @@ module _ (t : FileTree) (n : ℕ) (some : 1 ≤ holders t.holds n) where
           | inr other ↦ omega (arith, other-after m other, held m x here bare)
         ])
         (λ none gone here bare. elim (cases_eq m n) [
-          | inl same ↦ absurd (none-some x (sym (get_or-set_same t.files n None None (slot-within t.files n node at)) ∙ ap (slot (clear t.files n)) (sym same) ∙ here))
+          | inl same ↦ absurd (none-some x (sym (get_or-set_same t.files n None None (slot-within _ n node at)) ∙ ap (slot (clear t.files n)) (sym same) ∙ here))
           | inr other ↦ omega (arith, other-after m other, held m x (sym (get_or-set_other t.files n m None None other) ∙ here) bare)
         ])
 
@@ -288,12 +319,12 @@ first-few holds n ns few = omega (arith, few n, sum_by-cons (one_at n) n ns, one
 pub are-held : (t : FileTree) (ns : List ℕ) → AreThere t.holds t.files → AreFew t.holds ns → AreHeld t ns
 are-held t [] there few = tt
 are-held t (n ∷ ns) there few =
-    let some = first-few t.holds n ns few in
-    let node = some-node (slot t.files n) (there n some) in (
+    let some = first-few _ n ns few in
+    let node = some-node _ (there n some) in (
       there n some,
       (
         some,
-        are-held (dropped t n) ns (drop-there t n some node.0 node.1 there) (λ m. omega (arith, few m, sum_by-cons (one_at m) n ns, count-after t n some m)),
+        are-held (dropped t n) ns (drop-there t n some _ node.1 there) (λ m. omega (arith, few m, sum_by-cons (one_at m) n ns, count-after t n some m)),
       ),
     )
 
@@ -324,7 +355,7 @@ is_by-fewer less more fewer n x by = elim (cases_lt 0 (links_of x)) [
 pub leaves-all : (t : FileTree) (ns : List ℕ) → KeepsTree t.files → AreThere t.holds t.files → AreFew t.holds ns → IsHeldAt t.holds t.files → slot t.files 0 ≡ None → Leaves t ns
 leaves-all t [] rules there few held zero' = record {
   counts = λ m. omega arith;
-  reaps = sym (kept-same (is_by t.holds) t.files (settled-by t.holds t.files held));
+  reaps = sym (kept-same (is_by t.holds) _ (settled-by _ _ held));
   stays = λ m more. refl;
   held = held;
   zero = zero';
@@ -333,20 +364,20 @@ leaves-all t [] rules there few held zero' = record {
   limit = refl;
 }
 leaves-all t (n ∷ ns) rules there few held zero' =
-    let some = first-few t.holds n ns few in
-    let node = some-node (slot t.files n) (there n some) in
-    let rest = leaves-all (dropped t n) ns (let-go-keeps rules (without_hold t.holds n) n) (drop-there t n some node.0 node.1 there)
-    (λ m. omega (arith, few m, sum_by-cons (one_at m) n ns, count-after t n some m)) (drop-held t n some node.0 node.1 held) (drop-zero t n some node.0 node.1 zero') in
+    let some = first-few _ n ns few in
+    let node = some-node _ (there n some) in
+    let rest = leaves-all (dropped t n) ns (let-go-keeps rules (without_hold t.holds n) n) (drop-there t n some _ node.1 there)
+    (λ m. omega (arith, few m, sum_by-cons (one_at m) n ns, count-after t n some m)) (drop-held t n some _ node.1 held) (drop-zero t n some _ node.1 zero') in
     record {
       counts = λ m. omega (arith, rest.counts m, sum_by-cons (one_at m) n ns, count-after t n some m);
       reaps =
           rest.reaps
-          ∙ ap (kept (is_by (all_dropped t (n ∷ ns)).holds) 0) (drop-reaps t n some node.0 node.1 held)
+          ∙ ap (kept (is_by (all_dropped t (n ∷ ns)).holds) 0) (drop-reaps t n some _ node.1 held)
           ∙ kept-twice (is_by (dropped t n).holds) (is_by (all_dropped t (n ∷ ns)).holds) 0 t.files (is_by-fewer (all_dropped t (n ∷ ns)).holds (dropped t n).holds (λ m. omega (arith, rest.counts m)));
-      stays = λ m more. rest.stays m more ∙ drop-stays t n some node.0 node.1 m (omega (arith, more, rest.counts m));
+      stays = λ m more. rest.stays m more ∙ drop-stays t n some _ node.1 m (omega (arith, more, rest.counts m));
       held = rest.held;
       zero = rest.zero;
-      blocks = omega (arith, rest.blocks, drop-blocks t n some node.0 node.1);
+      blocks = omega (arith, rest.blocks, drop-blocks t n some _ node.1);
       rules = rest.rules;
       limit = rest.limit;
     }
@@ -354,17 +385,21 @@ leaves-all t (n ∷ ns) rules there few held zero' =
 -- ---- open files and processes that go, and their nodes with them
 
 -- those that are left were there
-abbrev pub AreOld : List (Option Counted) → List (Option Counted) → Type 0
+abbrev pub AreOld : Opens → Opens → Type 0
 AreOld old new = (k : ℕ) (c : Counted) → slot new k ≡ Some c → (d : Counted) × ((slot old k ≡ Some d) × (d.file ≡ c.file))
 
-abbrev pub AreOldHomes : List (Option Process) → List (Option Process) → Type 0
+abbrev pub AreOldHomes : Processes → Processes → Type 0
 AreOldHomes old new = (j d : ℕ) → home_in (slot new j) ≡ Some d → home_in (slot old j) ≡ Some d
 
-module _ {t : FileTree} {opens : List (Option Counted)} {os : List (Option Process)} (is : IsInUse t opens os) (left : List (Option Counted)) (after : List (Option Process)) (ns : List ℕ)
-    (counts : (m : ℕ) → files_on left m + homes_at after m + named_in ns m ≡ files_on opens m + homes_at os m)
-    (files : AreOld opens left) (homes : AreOldHomes os after) where
+-- the others are left, where those go that held these nodes
+pub record LetsGo (opens : Opens) (os : Processes) (left : Opens) (after : Processes) (ns : List ℕ) : Type 0 where
+  pub counts : (m : ℕ) → files_on left m + homes_at after m + named_in ns m ≡ files_on opens m + homes_at os m
+  pub files : AreOld opens left
+  pub homes : AreOldHomes os after
+
+module _ {t : FileTree} {opens : Opens} {os : Processes} (is : IsInUse t opens os) {left : Opens} {after : Processes} {ns : List ℕ} (go : LetsGo opens os left after ns) where
   few : AreFew t.holds ns
-  few m = omega (arith, counts m, is.holds m)
+  few m = omega (arith, go.counts m, is.holds m)
 
   pub fewer-held : AreHeld t ns
   fewer-held = are-held t ns (held-there is) few
@@ -379,44 +414,36 @@ module _ {t : FileTree} {opens : List (Option Counted)} {os : List (Option Proce
   node-stays f (target.Pipe pipe e) same fits = tt
   node-stays f on same fits = subst (FitsNode f on) (sym (same (unwrap_or (node_on on) 0) refl)) fits
 
-  home-stays : (j : ℕ) (h : Option ℕ) → home_in (slot after j) ≡ h → IfSome h (λ d. IsFolder (slot now.files d))
+  home-stays : (j : ℕ) (h : Option ℕ) → home_in (slot after j) ≡ h → IsHome now h
   home-stays j None at = tt
   home-stays j (Some d) at =
-      let was : IfSome (Some d) (λ d. IsFolder (slot t.files d)) = subst (λ h. IfSome h (λ d. IsFolder (slot t.files d))) (homes j d at) (is.homes j) in
-      subst IsFolder (sym (fewer-leaves.stays d (omega (arith, held-counts home_in refl after j d at, fewer-leaves.counts d, counts d, is.holds d)))) was
+      subst IsFolder (sym (fewer-leaves.stays d (omega (arith, held-counts home_in refl after j d at, fewer-leaves.counts d, go.counts d, is.holds d)))) (home-folder is j d (go.homes j d at))
 
   pub fewer-used : IsInUse now left after
   fewer-used = record {
     rules = fewer-leaves.rules;
     zero = fewer-leaves.zero;
     within = omega (arith, fewer-leaves.blocks, fewer-leaves.limit, is.within);
-    holds = λ m. omega (arith, fewer-leaves.counts m, counts m, is.holds m);
+    holds = λ m. omega (arith, fewer-leaves.counts m, go.counts m, is.holds m);
     held = fewer-leaves.held;
     fits = λ k c at.
-        let old = files k c at in
-        let was : FitsFiles t.files c.file = subst (λ f. FitsFiles t.files f) old.1.1 (is.fits k old.0 old.1.0) in
-        node-stays c.file c.file.target (λ n on. fewer-leaves.stays n (omega (arith, held-counts node_in refl left k n (ap node_in at ∙ on), fewer-leaves.counts n, counts n, is.holds n))) was;
+        let old = go.files k c at in
+        node-stays c.file c.file.target (λ n on. fewer-leaves.stays n (omega (arith, held-counts node_in refl left k n (ap node_in at ∙ on), fewer-leaves.counts n, go.counts n, is.holds n)))
+        (subst (FitsFiles t.files) old.1.1 (is.fits k old.0 old.1.0));
     homes = λ j. home-stays j (home_in (slot after j)) refl;
   }
 
   -- the abstract Unix gives up the same nodes
-  pub fewer-nodes : (s : State) (hs : List (Option SpaceView)) → AreAway after → s.files ≡ t.files → s.opens ≡ opens_of left → s.places ≡ joined after hs → without_nodes s ≡ record s { files = now.files }
+  pub fewer-nodes : (s : State) (hs : Views) → AreAway after → s.files ≡ t.files → s.opens ≡ opens_of left → s.places ≡ joined after hs → without_nodes s ≡ record s { files = now.files }
   unfolding without_nodes
   fewer-nodes s hs away same opened placed =
       ap (λ fs. record s { files = fs })
       (ap (kept (λ n node. nat_lt 0 (links_of node) || is_used s n) 0) same
-      ∙ kept-cong (λ n node. nat_lt 0 (links_of node) || is_used s n) (is_by now.holds) 0 t.files (λ i j x e at.
+      ∙ kept-cong (λ n node. nat_lt 0 (links_of node) || is_used s n) (is_by now.holds) 0 _ (λ i j x e at.
       let same_at : j ≡ i = omega (arith, e) in
       let some : j ≢ 0 = λ z. none-some x (sym is.zero ∙ ap (slot t.files) (sym z ∙ same_at) ∙ at) in
-      ap (λ b. nat_lt 0 (links_of x) || b) (used-is left after hs away s opened placed j some ∙ ap (nat_lt 0) (omega (arith, fewer-leaves.counts j, counts j, is.holds j))))
+      ap (λ b. nat_lt 0 (links_of x) || b) (used-is left after hs away s opened placed j some ∙ ap (nat_lt 0) (omega (arith, fewer-leaves.counts j, go.counts j, is.holds j))))
       ∙ sym fewer-leaves.reaps)
-
--- nothing goes
-module _ {t : FileTree} {opens : List (Option Counted)} {os : List (Option Process)} (is : IsInUse t opens os) where
-  pub nodes-stay : (s : State) (hs : List (Option SpaceView)) → AreAway os → s.files ≡ t.files → s.opens ≡ opens_of opens → s.places ≡ joined os hs → without_nodes s ≡ s
-  nodes-stay s hs away same opened placed =
-      fewer-nodes is opens os [] (λ m. omega arith) (λ k c at. (c, (at, refl))) (λ j d at. at) s hs away same opened placed
-      ∙ ap (λ fs. record s { files = fs }) (sym same)
 
 -- ---- one more holds a node
 
@@ -427,10 +454,10 @@ hold-more holds d short n = elim (cases_eq n d) [
   | inr other ↦ (let none : one_in n (Some d) ≡ 0 = grind (arith, nat_tests) in omega (arith, get_or-set_other holds d n (holders holds d + 1) 0 other, none))
 ]
 
-module _ {t : FileTree} {opens : List (Option Counted)} {os : List (Option Process)} (is : IsInUse t opens os) where
+module _ {t : FileTree} {opens : Opens} {os : Processes} (is : IsInUse t opens os) where
   -- an open file more is on node d, or a process more works there
-  pub used-more : (d : ℕ) → d < length t.holds → (new : List (Option Counted)) (after : List (Option Process)) → ((n : ℕ) → files_on new n + homes_at after n ≡ files_on opens n + homes_at os n + one_in n (Some d))
-      → ((k : ℕ) (c : Counted) → slot new k ≡ Some c → FitsFiles t.files c.file) → ((j : ℕ) → IfSome (home_in (slot after j)) (λ d. IsFolder (slot t.files d))) → IsInUse (record t { holds = with_hold t.holds d }) new after
+  pub used-more : (d : ℕ) → d < length t.holds → (new : Opens) (after : Processes) → ((n : ℕ) → files_on new n + homes_at after n ≡ files_on opens n + homes_at os n + one_in n (Some d))
+      → ((k : ℕ) → FitsIn t (slot new k)) → ((j : ℕ) → IsHome t (home_in (slot after j))) → IsInUse (record t { holds = with_hold t.holds d }) new after
   used-more d short new after counts fits homes = record {
     rules = is.rules;
     zero = is.zero;
@@ -448,17 +475,8 @@ module _ {t : FileTree} {opens : List (Option Counted)} {os : List (Option Proce
   -- a child works where its parent does
   pub used-child : (i d j : ℕ) (child : Process) → home_in (slot os i) ≡ Some d → home_in (Some child) ≡ Some d → j < length os → slot os j ≡ None → IsInUse (record t { holds = with_hold t.holds d }) opens (slice_set os j (Some child))
   used-child i d j child parent home short free =
-      used-more d (within-holds t.holds d (home-held i d parent)) opens (slice_set os j (Some child))
+      used-more d (within-holds _ d (home-held i d parent)) opens (slice_set os j (Some child))
       (λ n.
-      let sums = sum_by-set (λ o. one_in n (home_in o)) os j (Some child) None short in
-      let none : one_in n (home_in (slot os j)) ≡ 0 = ap (λ o. one_in n (home_in o)) free in
       let one : one_in n (home_in (Some child)) ≡ one_in n (Some d) = ap (one_in n) home in
-      omega (arith, sums, none, one))
-      is.fits (all-set (λ j x. IfSome (home_in x) (λ d. IsFolder (slot t.files d))) os j (Some child) (subst (λ h. IfSome h (λ d. IsFolder (slot t.files d))) (sym home) (home-folder is i d parent)) is.homes)
-
-  -- no more hold a node than there are open files and processes
-  pub holders-few : (n : ℕ) → holders t.holds n ≤ length opens + length os
-  holders-few n =
-      let files : files_on opens n ≤ length opens = count_by-le-length (λ o. is_same n (node_in o)) opens in
-      let homes : homes_at os n ≤ length os = count_by-le-length (λ o. is_same n (home_in o)) os in
-      omega (arith, is.holds n, files, homes)
+      omega (arith, sum-put (λ o. one_in n (home_in o)) os j child short free refl, one))
+      is.fits (all-set (λ j x. IsHome t (home_in x)) os j _ (subst (IsHome t) (sym home) (home-folder is i d parent)) is.homes)

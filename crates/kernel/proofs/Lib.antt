@@ -1,36 +1,13 @@
 mod Common
 pub mod Joined
-pub mod Turns
-pub mod Opens
 pub mod Holding
 pub mod Named
-pub mod Reaped
 pub mod Runs
 pub mod Changes
-pub mod Leaving
 pub mod Steps
-pub mod Starts
-pub mod Dropping
-pub mod Finishes
-pub mod Shapes
-pub mod Reading
-pub mod Unlinking
-pub mod Naming
 pub mod Memories
 pub mod Readies
-pub mod Shown
-pub mod Idle
-pub mod Masks
 pub mod Watching
-pub mod Wakes
-mod Rousing
 pub mod Turning
-pub mod Renaming
-pub mod Closing
-pub mod Opening
 pub mod Working
-pub mod Replacing
 pub mod Forking
-pub mod Piping
-pub mod Collecting
-pub mod Moving

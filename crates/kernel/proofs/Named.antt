@@ -1,117 +1,109 @@
 -- The open files and the pipes keep what holds of them where descriptors come and go, and what is left of them is what
 -- the abstract Unix leaves.
-use Rattle.kernel.proofs.Common.{drop-cons, eq-eqb, append_assoc, Bool, List, None, Option, Some, [], ap, arith, cond, false, inl, inr, length, refl, subst, suc, sym, true, ℕ, ℤ, ◌+◌, ◌++◌, ◌<◌, ◌≡◌, ◌≤◌, ◌∙◌, ◌∷◌, drop, SpaceView, is_some}
-use Rattle.kernel.proofs.Common.{map, option_and_then, option_map, slice_set, cases_lt, none-some, get_or_past, length-append, length-map, set-get_or, sum_by-cons, sum_by-set, IsCounted, after_close, all_closed, all_shared, closed_in}
-use Rattle.kernel.proofs.Common.{named_by, names_in, shared_in, standing, slot-within, files_on, gone_nodes, last_node, listed, node_in, node_on, names, one_in, Counts, count-closed, count-shared, names-none, one_at, IsPiped, lt-ltb}
-use Rattle.kernel.proofs.Common.{IsLeftOf, has_pipe-clear, pipes-clear, pipes-left, pipes-same, piped-end, piped-last, piped-node, without_pipes-left, end_of, file_of, target_of, Counted, IsTable, closed, count_at, fewer, file_at, last_in}
-use Rattle.kernel.proofs.Common.{last_target, opens_of, shared, all-set, fewer-from, IsLeft, left-closed, left-same, opens-closed, opens-closed_last, opens-shared, set_outside, slot-opens, table-closed, without_opens-left, Process, le-ltb}
-use Rattle.kernel.proofs.Common.{orphaned, zombie_of, joined, Spaces, Files, clear, put, slot, taken, End, OnPipe, reap, without_nodes, without_pipes, State, Kernel, IsKernel, IsLive, IsMode, IsPlace, Mode, Ready, Running, Waiting, Zombie}
-use Rattle.kernel.proofs.Common.{Memory, ◌*◌, count_by-le-length, is_same, one_at-self}
-use Rattle.files.specs.Places.{has_pipe}
-use Rattle.kernel.proofs.Opens.{count-joined}
-use Rattle.kernel.proofs.Holding.{AreOld, map-same, named_in, orphan-by, same-map, slot-map}
+use Rattle.kernel.proofs.Common.{file-opens, IsOpened, WaitsWell, drop-cons, eq-eqb, append_assoc, Bool, List, None, Option, Some, [], ap, arith, cond, false, inl, inr, length, refl, subst, suc, sym, true, ℕ, ℤ, ◌+◌, ◌++◌, ◌<◌, ◌≡◌, ◌≤◌}
+use Rattle.kernel.proofs.Common.{◌∙◌, ◌∷◌, drop, SpaceView, is_some, map, option_and_then, option_map, slice_set, cases_lt, none-some, get_or_past, length-append, length-map, set-get_or, sum_by-cons, sum_by-set, IsCounted, after_close}
+use Rattle.kernel.proofs.Common.{all_closed, all_shared, closed_in, named_by, names_in, shared_in, standing, slot-within, files_on, gone_nodes, last_node, listed, node_in, node_on, names, one_in, Counts, count-closed, count-shared}
+use Rattle.kernel.proofs.Common.{names-none, one_at, IsPiped, lt-ltb, has_pipe-clear, pipes-left, pipes-same, file_of, target_of, Counted, IsTable, closed, count_at, file_at, last_target, opens_of, shared, all-set, slot-opens, Process}
+use Rattle.kernel.proofs.Common.{le-ltb, orphaned, zombie_of, joined, Spaces, Files, clear, put, slot, taken, End, OnPipe, reap, without_nodes, without_pipes, State, Kernel, IsKernel, IsLive, IsMode, IsPlace, Mode, Ready, Running, Waiting}
+use Rattle.kernel.proofs.Common.{Zombie, Memory, ◌*◌, count_by-le-length, is_same, one_at-self}
+use Rattle.files.specs.Places.{has_pipe, fewer, last_in}
+use Rattle.kernel.proofs.Joined.{waits-fewer, count-joined}
+use Rattle.kernel.proofs.Holding.{sum-put, AreOld, map-same, named_in, orphan-by, same-map, slot-map, Fds, Opens, Pipes, Processes, Views}
 use Rattle.files.specs.declared.file.End as files_end
 use Rattle.files.specs.declared.file.OpenFile.{OpenFile}
 use Rattle.files.specs.declared.file.Target.{Target}
 use Rattle.files.specs.declared.file.Target.TheVariants as target
 use Rattle.unixmodel.specs.OpenFiles as unix
+use Rattle.files.proofs.PipesLemmas.{IsLeftOf, pipes-clear, piped-end, piped-last, piped-node, without_pipes-left}
+use Rattle.files.proofs.Whole.{fewer-from, IsLeft, left-closed, left-same, opens-closed, opens-closed_last, opens-shared, set_outside, table-closed, without_opens-left}
 
 -- ---- descriptors that a table counts
 
 -- each open file is counted as often as these descriptors name it, or oftener
-abbrev pub AreNamed : List (Option Counted) → List (Option ℕ) → Type 0
+abbrev pub AreNamed : Opens → Fds → Type 0
 AreNamed t ds = (n : ℕ) → names n ds ≤ count_at t n
 
-names-cons : (n : ℕ) (d : Option ℕ) (ds : List (Option ℕ)) → names n (d ∷ ds) ≡ one_in n d + names n ds
+names-cons : (n : ℕ) (d : Option ℕ) (ds : Fds) → names n (d ∷ ds) ≡ one_in n d + names n ds
 names-cons n d ds = sum_by-cons (one_in n) d ds
 
-pub first-named : (t : List (Option Counted)) (n : ℕ) (ds : List (Option ℕ)) → AreNamed t (Some n ∷ ds) → 0 < count_at t n
+pub first-named : (t : Opens) (n : ℕ) (ds : Fds) → AreNamed t (Some n ∷ ds) → 0 < count_at t n
 first-named t n ds are = omega (arith, are n, names-cons n (Some n) ds, one_at-self n)
 
 -- those of a process are counted
-pub names-counted : (t : List (Option Counted)) (places : List (Option Process)) (i : ℕ) (p : Process) → IsCounted t places → slot places i ≡ Some p → AreNamed t p.descriptors
+pub names-counted : (t : Opens) (places : Processes) (i : ℕ) (p : Process) → IsCounted t places → slot places i ≡ Some p → AreNamed t p.descriptors
 names-counted t places i p counted at n =
-    let sums = sum_by-set (names_in n) places i None None (slot-within places i p at) in
+    let sums = sum_by-set (names_in n) _ i None None (slot-within _ i p at) in
     let one : names_in n (slot places i) ≡ names n p.descriptors = ap (names_in n) at in
     omega (arith, counted n, sums, one)
 
 -- ---- fork
 
-count-share : (t : List (Option Counted)) (d : Option ℕ) (ds : List (Option ℕ)) → AreNamed t (d ∷ ds) → (n : ℕ) → count_at (shared_in t d) n ≡ count_at t n + one_in n d
+count-share : (t : Opens) (d : Option ℕ) (ds : Fds) → AreNamed t (d ∷ ds) → (n : ℕ) → count_at (shared_in t d) n ≡ count_at t n + one_in n d
 count-share t None ds are n = omega arith
 count-share t (Some k) ds are n = count-shared t k (first-named t k ds are) n
 
-pub count-all_shared : (t : List (Option Counted)) (ds : List (Option ℕ)) → AreNamed t ds → (n : ℕ) → count_at (all_shared t ds) n ≡ count_at t n + names n ds
+pub count-all_shared : (t : Opens) (ds : Fds) → AreNamed t ds → (n : ℕ) → count_at (all_shared t ds) n ≡ count_at t n + names n ds
 count-all_shared t [] are n = omega arith
 count-all_shared t (d ∷ ds) are n =
     let rest = count-all_shared (shared_in t d) ds (λ m. omega (arith, are m, names-cons m d ds, count-share t d ds are m)) n in
     omega (arith, rest, names-cons n d ds, count-share t d ds are n)
 
-pub kept-all_shared : (P : List (Option Counted) → Type 0) → ((t : List (Option Counted)) (n : ℕ) → P t → P (shared t n)) → (t : List (Option Counted)) (ds : List (Option ℕ)) → P t → P (all_shared t ds)
+pub kept-all_shared : (P : Opens → Type 0) → ((t : Opens) (n : ℕ) → P t → P (shared t n)) → (t : Opens) (ds : Fds) → P t → P (all_shared t ds)
 kept-all_shared P step t [] is = is
 kept-all_shared P step t (None ∷ ds) is = kept-all_shared P step t ds is
 kept-all_shared P step t (Some n ∷ ds) is = kept-all_shared P step (shared t n) ds (step t n is)
 
 -- the open files are the same
-pub opens-all_shared : (t : List (Option Counted)) (ds : List (Option ℕ)) → opens_of (all_shared t ds) ≡ opens_of t
+pub opens-all_shared : (t : Opens) (ds : Fds) → opens_of (all_shared t ds) ≡ opens_of t
 opens-all_shared t ds = kept-all_shared (λ u. opens_of u ≡ opens_of t) (λ u n same. opens-shared u n ∙ same) t ds refl
 
 -- the table counts the descriptors of a child too, which are those of process i
-pub counted-forked : (t : List (Option Counted)) (places : List (Option Process)) (i j : ℕ) (p child : Process) → IsCounted t places → slot places i ≡ Some p → j < length places → slot places j ≡ None
+pub counted-forked : (t : Opens) (places : Processes) (i j : ℕ) (p child : Process) → IsCounted t places → slot places i ≡ Some p → j < length places → slot places j ≡ None
     → child.descriptors ≡ p.descriptors → IsCounted (all_shared t p.descriptors) (put places j child)
 counted-forked t places i j p child counted at short free same n =
-    let more = sum_by-set (names_in n) places j (Some child) None short in
-    let none : names_in n (slot places j) ≡ 0 = ap (names_in n) free in
     let names_same : names n child.descriptors ≡ names n p.descriptors = ap (names n) same in
     let all = count-all_shared t p.descriptors (names-counted t places i p counted at) n in
-    omega (arith, counted n, more, none, names_same, all)
+    omega (arith, counted n, sum-put (names_in n) places j child short free refl, names_same, all)
 
 -- ---- the end of a process
 
-count-close : (t : List (Option Counted)) (d : Option ℕ) (ds : List (Option ℕ)) → AreNamed t (d ∷ ds) → (n : ℕ) → count_at (closed_in t d) n + one_in n d ≡ count_at t n
+count-close : (t : Opens) (d : Option ℕ) (ds : Fds) → AreNamed t (d ∷ ds) → (n : ℕ) → count_at (closed_in t d) n + one_in n d ≡ count_at t n
 count-close t None ds are n = omega arith
 count-close t (Some k) ds are n = count-closed t k (first-named t k ds are) n
 
-pub count-all_closed : (t : List (Option Counted)) (ds : List (Option ℕ)) → AreNamed t ds → (n : ℕ) → count_at (all_closed t ds) n + names n ds ≡ count_at t n
+pub count-all_closed : (t : Opens) (ds : Fds) → AreNamed t ds → (n : ℕ) → count_at (all_closed t ds) n + names n ds ≡ count_at t n
 count-all_closed t [] are n = omega arith
 count-all_closed t (d ∷ ds) are n =
     let rest = count-all_closed (closed_in t d) ds (λ m. omega (arith, are m, names-cons m d ds, count-close t d ds are m)) n in
     omega (arith, rest, names-cons n d ds, count-close t d ds are n)
 
-kept-all_closed : (P : List (Option Counted) → Type 0) → ((t : List (Option Counted)) (n : ℕ) → P t → P (closed t n)) → (t : List (Option Counted)) (ds : List (Option ℕ)) → P t → P (all_closed t ds)
+kept-all_closed : (P : Opens → Type 0) → ((t : Opens) (n : ℕ) → P t → P (closed t n)) → (t : Opens) (ds : Fds) → P t → P (all_closed t ds)
 kept-all_closed P step t [] is = is
 kept-all_closed P step t (None ∷ ds) is = kept-all_closed P step t ds is
 kept-all_closed P step t (Some n ∷ ds) is = kept-all_closed P step (closed t n) ds (step t n is)
 
-pub table-all_closed : (t : List (Option Counted)) (ds : List (Option ℕ)) → IsTable t → IsTable (all_closed t ds)
+pub table-all_closed : (t : Opens) (ds : Fds) → IsTable t → IsTable (all_closed t ds)
 table-all_closed t ds is = kept-all_closed IsTable table-closed t ds is
 
-pub left-all_closed : (t : List (Option Counted)) (ds : List (Option ℕ)) → IsLeft t (all_closed t ds)
-left-all_closed t ds = kept-all_closed (IsLeft t) (left-closed t) t ds (left-same t)
+old-closed : (t : Opens) (n : ℕ) → AreOld t (closed t n)
+old-closed t n =
+    all-set (λ k o. (c : Counted) → o ≡ Some c → (d : Counted) × ((slot t k ≡ Some d) × (d.file ≡ c.file))) t n _ (fewer-from _) (λ k c at. (c, (at, refl)))
 
-opens-left : (old new : List (Option Counted)) (n : ℕ) (f : unix.OpenFile) → IsLeft old new → (o : Option Counted) → slot new n ≡ o → slot (opens_of new) n ≡ Some f → slot (opens_of old) n ≡ Some f
-opens-left old new n f left None is at = absurd (let bad : None ≡ Some f = ap (option_map (λ (c : Counted). file_of c.file)) (sym is) ∙ sym (slot-opens new n) ∙ at in cc)
-opens-left old new n f left (Some c) is at = left.each n c is ∙ (ap (option_map (λ (c : Counted). file_of c.file)) (sym is) ∙ sym (slot-opens new n) ∙ at)
+pub old-all_closed : (t : Opens) (ds : Fds) → AreOld t (all_closed t ds)
+old-all_closed t ds = kept-all_closed (AreOld t) (λ u n old k x at. let mid = old-closed u n k x at in let was = old k mid.0 mid.1.0 in (was.0, (was.1.0, was.1.1 ∙ mid.1.1))) t ds (λ k c at. (c, (at, refl)))
 
 -- the open files that are left were there
-pub opens-all_closed : (t : List (Option Counted)) (ds : List (Option ℕ)) (n : ℕ) (f : unix.OpenFile) → slot (opens_of (all_closed t ds)) n ≡ Some f → slot (opens_of t) n ≡ Some f
-opens-all_closed t ds n f at = opens-left t (all_closed t ds) n f (left-all_closed t ds) (slot (all_closed t ds) n) refl at
-
-old-closed : (t : List (Option Counted)) (n : ℕ) → AreOld t (closed t n)
-old-closed t n =
-    all-set (λ k o. (c : Counted) → o ≡ Some c → (d : Counted) × ((slot t k ≡ Some d) × (d.file ≡ c.file))) t n (option_and_then fewer (slot t n)) (fewer-from (slot t n)) (λ k c at. (c, (at, refl)))
-
-old-after : (a b c : List (Option Counted)) → AreOld a b → AreOld b c → AreOld a c
-old-after a b c first then k x at = let mid = then k x at in let old = first k mid.0 mid.1.0 in (old.0, (old.1.0, old.1.1 ∙ mid.1.1))
-
-pub old-all_closed : (t : List (Option Counted)) (ds : List (Option ℕ)) → AreOld t (all_closed t ds)
-old-all_closed t ds = kept-all_closed (AreOld t) (λ u n old. old-after t u (closed u n) old (old-closed u n)) t ds (λ k c at. (c, (at, refl)))
-
-pub files-all_closed : (t : List (Option Counted)) (ds : List (Option ℕ)) (n : ℕ) (f : OpenFile) → file_at (all_closed t ds) n ≡ Some f → file_at t n ≡ Some f
-files-all_closed t ds n f at = go (slot (all_closed t ds) n) refl at where
+files-all_closed : (t : Opens) (ds : Fds) (n : ℕ) (f : OpenFile) → file_at (all_closed t ds) n ≡ Some f → file_at t n ≡ Some f
+files-all_closed t ds n f at = go _ refl at where
   go : (o : Option Counted) → slot (all_closed t ds) n ≡ o → option_map (λ (c : Counted). c.file) o ≡ Some f → file_at t n ≡ Some f
   go None is h = absurd (none-some f h)
   go (Some c) is h = let was = old-all_closed t ds n c is in ap (option_map (λ (d : Counted). d.file)) was.1.0 ∙ ap Some was.1.1 ∙ h
+
+opens-all_closed : (t : Opens) (ds : Fds) (n : ℕ) (f : unix.OpenFile) → slot (opens_of (all_closed t ds)) n ≡ Some f → slot (opens_of t) n ≡ Some f
+opens-all_closed t ds n f at = go _ refl (sym (file-opens _ n) ∙ at) where
+  go : (o : Option OpenFile) → file_at (all_closed t ds) n ≡ o → option_map file_of o ≡ Some f → slot (opens_of t) n ≡ Some f
+  go None is h = absurd (none-some f h)
+  go (Some g) is h = file-opens t n ∙ ap (option_map file_of) (files-all_closed t ds n g is) ∙ h
 
 -- ---- the counts of an ended process's table
 
@@ -120,45 +112,37 @@ pub orphan-same : {X : Type 0} (f : Option Process → X) (pid : ℕ) → ((p : 
 orphan-same f pid same = map-same f (orphaned pid) (λ p. orphan-by (λ q. f (Some q) ≡ f (Some p)) pid p (same p))
 
 orphaned-names : (pid n : ℕ) (o : Option Process) → names_in n (option_map (orphaned pid) o) ≡ names_in n o
-orphaned-names pid n = orphan-same (names_in n) pid (λ p parent. refl)
+orphaned-names pid n = orphan-same _ pid (λ p parent. refl)
 
-named_by-ended : (places : List (Option Process)) (i : ℕ) (p : Process) (status : ℤ) → slot places i ≡ Some p
-    → (n : ℕ) → named_by (put (map (option_map (orphaned p.pid)) places) i (zombie_of p status)) n + names n p.descriptors ≡ named_by places n
-named_by-ended places i p status at n =
-    let orphans : List (Option Process) = map (option_map (orphaned p.pid)) places in
+-- once process i has ended, the table counts the descriptors of all the others
+pub counted-ended : (t : Opens) (places : Processes) (i : ℕ) (p : Process) (status : ℤ) → IsCounted t places → slot places i ≡ Some p
+    → IsCounted (all_closed t p.descriptors) (put (map (option_map (orphaned p.pid)) places) i (zombie_of p status))
+counted-ended t places i p status counted at n =
+    let orphans : Processes = map (option_map (orphaned p.pid)) places in
     let short : i < length orphans = rw (length-map places (option_map (orphaned p.pid))) (slot-within places i p at) in
     let sums = sum_by-set (names_in n) orphans i (Some (zombie_of p status)) None short in
     let there : names_in n (slot orphans i) ≡ names n p.descriptors = ap (names_in n) (slot-map (orphaned p.pid) places i) ∙ orphaned-names p.pid n (slot places i) ∙ ap (names_in n) at in
-    omega (arith, sums, there, same-map (names_in n) (orphaned p.pid) (orphaned-names p.pid n) places, names-none n)
-
--- once process i has ended, the table counts the descriptors of all the others
-pub counted-ended : (t : List (Option Counted)) (places : List (Option Process)) (i : ℕ) (p : Process) (status : ℤ) → IsCounted t places → slot places i ≡ Some p
-    → IsCounted (all_closed t p.descriptors) (put (map (option_map (orphaned p.pid)) places) i (zombie_of p status))
-counted-ended t places i p status counted at n =
     let closed_all = count-all_closed t p.descriptors (names-counted t places i p counted at) n in
-    omega (arith, closed_all, counted n, named_by-ended places i p status at n)
+    omega (arith, closed_all, counted n, sums, there, same-map (names_in n) (orphaned p.pid) (orphaned-names p.pid n) places, names-none n)
 
 -- ---- pipes
 
-abbrev Follows : List (Option (List ℕ)) → List (Option Counted) → ℕ → Option Counted → Type 0
-Follows pipes t n o = IsPiped (after_close pipes (opens_of (closed t n)) (option_and_then last_in o)) (opens_of (closed t n))
-
-module _ (pipes : List (Option (List ℕ))) (t : List (Option Counted)) (n : ℕ) (is : IsPiped pipes (opens_of t)) where
+module _ (pipes : Pipes) (t : Opens) (n : ℕ) (is : IsPiped pipes (opens_of t)) where
   stays : opens_of (closed t n) ≡ opens_of t → IsPiped pipes (opens_of (closed t n))
   stays same = rw same is
 
   goes-end : (f : unix.OpenFile) (q : ℕ) (e : End) (b : Bool) → slot (opens_of t) n ≡ Some f → f.target ≡ OnPipe q e → has_pipe (clear (opens_of t) n) q ≡ b
       → IsPiped (cond b pipes (clear pipes q)) (clear (opens_of t) n)
-  goes-end f q e true at on stands = piped-end pipes (opens_of t) n q f e is at on stands
-  goes-end f q e false at on stands = piped-last pipes (opens_of t) n q f e is at on stands
+  goes-end f q e true at on stands = piped-end pipes _ n q f e is at on stands
+  goes-end f q e false at on stands = piped-last pipes _ n q f e is at on stands
 
   goes : (f : OpenFile) (on : Target) → slot (opens_of t) n ≡ Some (file_of f) → f.target ≡ on → IsPiped (after_close pipes (clear (opens_of t) n) (Some on)) (clear (opens_of t) n)
-  goes f (target.File number offset) at on = piped-node pipes (opens_of t) n number offset (file_of f) is at (ap target_of on)
-  goes f (target.Console number) at on = piped-node pipes (opens_of t) n number 0 (file_of f) is at (ap target_of on)
-  goes f (target.Device number) at on = piped-node pipes (opens_of t) n number 0 (file_of f) is at (ap target_of on)
-  goes f (target.Pipe q e) at on = goes-end (file_of f) q (end_of e) (has_pipe (clear (opens_of t) n) q) at (ap target_of on) refl
+  goes f (target.File number offset) at on = piped-node pipes _ n _ _ _ is at (ap target_of on)
+  goes f (target.Console number) at on = piped-node pipes _ n _ 0 _ is at (ap target_of on)
+  goes f (target.Device number) at on = piped-node pipes _ n _ 0 _ is at (ap target_of on)
+  goes f (target.Pipe q e) at on = goes-end _ q _ _ at (ap target_of on) refl
 
-  follows : (o : Option Counted) → slot t n ≡ o → Follows pipes t n o
+  follows : (o : Option Counted) → slot t n ≡ o → IsPiped (after_close pipes (opens_of (closed t n)) (option_and_then last_in o)) (opens_of (closed t n))
   follows None at = stays (ap (λ o. opens_of (slice_set t n (option_and_then fewer o))) at ∙ ap opens_of (rw (← at) (set-get_or t n None)))
   follows (Some c) at = elim (cases_lt 1 c.count) [
     | inl more ↦ (let many : 1 < count_at t n = rw at more in rw (lt-ltb 1 c.count more) (stays (opens-closed t n many)))
@@ -167,7 +151,7 @@ module _ (pipes : List (Option (List ℕ))) (t : List (Option Counted)) (n : ℕ
         rw (le-ltb 1 c.count last) (subst (λ (os : List (Option unix.OpenFile)). IsPiped (after_close pipes os (Some c.file.target)) os) (sym (opens-closed_last t n one)) (goes c.file c.file.target (slot-opens t n ∙ ap (option_map (λ (d : Counted). file_of d.file)) at) refl))
   ]
 
-pub left-close_pipe : (old pipes : List (Option (List ℕ))) (opens : List (Option unix.OpenFile)) (o : Option Target) → IsLeftOf old pipes → IsLeftOf old (after_close pipes opens o)
+pub left-close_pipe : (old pipes : Pipes) (opens : List (Option unix.OpenFile)) (o : Option Target) → IsLeftOf old pipes → IsLeftOf old (after_close pipes opens o)
 left-close_pipe old pipes opens (Some (target.Pipe q e)) left = elim (has_pipe opens q) as (λ b. IsLeftOf old (cond b pipes (clear pipes q))) [ true ↦ left | false ↦ pipes-clear old pipes q left ]
 left-close_pipe old pipes opens _ left = left
 
@@ -179,61 +163,76 @@ last-is (Some c) on last = elim (cases_lt 1 c.count) [
 ]
 
 -- the pipe of a last end stood until then
-pub stands-last : (t : List (Option Counted)) (pipes : List (Option (List ℕ))) (n q : ℕ) (e : files_end.End) → IsPiped pipes (opens_of t) → last_target t n ≡ Some (target.Pipe q e) → is_some (slot pipes q) ≡ true
+pub stands-last : (t : Opens) (pipes : Pipes) (n q : ℕ) (e : files_end.End) → IsPiped pipes (opens_of t) → last_target t n ≡ Some (target.Pipe q e) → is_some (slot pipes q) ≡ true
 stands-last t pipes n q e is last =
-    let c = last-is (slot t n) (target.Pipe q e) last in
+    let c = last-is _ _ last in
     let at : slot (opens_of t) n ≡ Some (file_of c.0.file) = slot-opens t n ∙ ap (option_map (λ (d : Counted). file_of d.file)) c.1.0 in
-    is q ∙ has_pipe-clear (opens_of t) n (file_of c.0.file) q at ∙ rw (c.1.1, eq-eqb q q refl) refl
+    is q ∙ has_pipe-clear _ n _ q at ∙ rw (c.1.1, eq-eqb q q refl) refl
 
 -- ---- what is left as a whole
 
 -- some pipes that are left, where descriptors were closed
-abbrev pub Leaves : List (Option Counted) → List (Option (List ℕ)) → List (Option (List ℕ)) → Type 0
+abbrev pub Leaves : Opens → Pipes → Pipes → Type 0
 Leaves new before pipes = IsPiped pipes (opens_of new) × IsLeftOf before pipes
 
-pub leaves-one : (t : List (Option Counted)) (before pipes : List (Option (List ℕ))) (n : ℕ) → Leaves t before pipes → Leaves (closed t n) before (after_close pipes (opens_of (closed t n)) (last_target t n))
-leaves-one t before pipes n is = (follows pipes t n is.0 (slot t n) refl, left-close_pipe before pipes (opens_of (closed t n)) (last_target t n) is.1)
+pub leaves-one : (t : Opens) (before pipes : Pipes) (n : ℕ) → Leaves t before pipes → Leaves (closed t n) before (after_close pipes (opens_of (closed t n)) (last_target t n))
+leaves-one t before pipes n is = (follows pipes t n is.0 _ refl, left-close_pipe _ pipes (opens_of (closed t n)) (last_target t n) is.1)
 
-pub leaves-standing : (t : List (Option Counted)) (pipes : List (Option (List ℕ))) (ds : List (Option ℕ)) → IsPiped pipes (opens_of t) → Leaves (all_closed t ds) pipes (standing pipes (opens_of (all_closed t ds)))
+pub leaves-standing : (t : Opens) (pipes : Pipes) (ds : Fds) → IsPiped pipes (opens_of t) → Leaves (all_closed t ds) pipes (standing pipes (opens_of (all_closed t ds)))
 leaves-standing t pipes ds is =
-    let all = kept-all_closed (λ u. (after : List (Option (List ℕ))) × Leaves u pipes after) (λ u n h. (_, leaves-one u pipes h.0 n h.1)) t ds (pipes, (is, pipes-same pipes)) in
+    let all = kept-all_closed (λ u. (after : Pipes) × Leaves u pipes after) (λ u n h. (_, leaves-one u pipes h.0 n h.1)) t ds (pipes, (is, pipes-same pipes)) in
     rw (pipes-left (opens_of (all_closed t ds)) pipes all.0 all.1.0 all.1.1) all.1
 
+-- what is known of the open files is known then
+pub opened-closed : {t : Opens} {pipes : Pipes} {os : Processes} → IsOpened t pipes os → (ds : Fds) (after : Processes) → IsCounted (all_closed t ds) after → ((j : ℕ) → WaitsWell t (slot after j))
+    → IsOpened (all_closed t ds) (standing pipes (opens_of (all_closed t ds))) after
+opened-closed {t} {pipes} is ds after counted waits = let leaves = leaves-standing t pipes ds is.piped in record {
+  table = table-all_closed t ds is.table;
+  counted = counted;
+  each = λ n f at. is.each n f (opens-all_closed t ds n f at);
+  all = leaves.1.all ∙ is.all;
+  piped = leaves.0;
+  waits = λ j. waits-fewer t _ (files-all_closed t ds) _ (waits j);
+}
+
 -- no more pipes stand than did
-pub fewer-pipes : (old new : List (Option (List ℕ))) → length new ≡ length old → ((q : ℕ) (bytes : List ℕ) → slot new q ≡ Some bytes → is_some (slot old q) ≡ true) → length (taken new) ≤ length (taken old)
+pub fewer-pipes : (old new : Pipes) → length new ≡ length old → ((q : ℕ) (bytes : List ℕ) → slot new q ≡ Some bytes → is_some (slot old q) ≡ true) → length (taken new) ≤ length (taken old)
 fewer-pipes [] [] all each = omega arith
 fewer-pipes (None ∷ old) (None ∷ new) all each = fewer-pipes old new (omega (arith, all)) (λ q. each (suc q))
-fewer-pipes (Some b ∷ old) (None ∷ new) all each = let rest = fewer-pipes old new (omega (arith, all)) (λ q. each (suc q)) in omega (arith, rest)
+fewer-pipes (Some b ∷ old) (None ∷ new) all each = omega (arith, fewer-pipes old new (omega (arith, all)) (λ q. each (suc q)))
 fewer-pipes (None ∷ old) (Some b ∷ new) all each = absurd (let bad : false ≡ true = each 0 b refl in cc)
-fewer-pipes (Some b ∷ old) (Some c ∷ new) all each = let rest = fewer-pipes old new (omega (arith, all)) (λ q. each (suc q)) in omega (arith, rest)
+fewer-pipes (Some b ∷ old) (Some c ∷ new) all each = omega (arith, fewer-pipes old new (omega (arith, all)) (λ q. each (suc q)))
 fewer-pipes _ _ all each = absurd (omega (arith, all))
+
+pub fewer-standing : (t : Opens) (pipes : Pipes) (ds : Fds) → IsPiped pipes (opens_of t) → length (taken (standing pipes (opens_of (all_closed t ds)))) ≤ length (taken pipes)
+fewer-standing t pipes ds is = let left = (leaves-standing t pipes ds is).1 in fewer-pipes pipes _ left.all (λ q bytes at. ap is_some (left.each q bytes at))
 
 -- ---- what the abstract Unix leaves
 
 -- the descriptors are those of the state's processes
-pub counts-joined : (t : List (Option Counted)) (os : List (Option Process)) (hs : List (Option SpaceView)) → IsCounted t os → Counts t (joined os hs)
+pub counts-joined : (t : Opens) (os : Processes) (hs : Views) → IsCounted t os → Counts t (joined os hs)
 counts-joined t os hs counted n = counted n ∙ sym (count-joined os hs n)
 
-pub reap-left : (s : State) (old new : List (Option Counted)) (before pipes : List (Option (List ℕ))) (files : Files) → IsTable new → IsLeft old new → Counts new s.places → Leaves new before pipes
+pub reap-left : (s : State) (old new : Opens) (before pipes : Pipes) (files : Files) → IsTable new → IsLeft old new → Counts new s.places → Leaves new before pipes
     → without_nodes (record s { opens = opens_of new; pipes = pipes }) ≡ record s { files = files; opens = opens_of new; pipes = pipes }
     → reap (record s { opens = opens_of old; pipes = before }) ≡ record s { files = files; opens = opens_of new; pipes = pipes }
 unfolding reap
 reap-left s old new before pipes files is left counts leaves nodes =
     ap (λ (x : State). without_nodes (without_pipes x)) (without_opens-left (record s { pipes = before }) old new is left counts)
-    ∙ ap without_nodes (without_pipes-left (record s { opens = opens_of new }) before pipes leaves.0 leaves.1)
+    ∙ ap without_nodes (without_pipes-left (record s { opens = opens_of new }) _ pipes leaves.0 leaves.1)
     ∙ nodes
 
 -- where descriptors were closed, what is left of the table, the pipes and the nodes is what the state is left with
-pub reap-closed : (s : State) (t : List (Option Counted)) (pipes : List (Option (List ℕ))) (ds : List (Option ℕ)) (files : Files) → IsTable t → IsPiped pipes (opens_of t) → Counts (all_closed t ds) s.places
+pub reap-closed : (s : State) (t : Opens) (pipes : Pipes) (ds : Fds) (files : Files) → IsTable t → IsPiped pipes (opens_of t) → Counts (all_closed t ds) s.places
     → without_nodes (record s { opens = opens_of (all_closed t ds); pipes = standing pipes (opens_of (all_closed t ds)) }) ≡ record s { files = files; opens = opens_of (all_closed t ds); pipes = standing pipes (opens_of (all_closed t ds)) }
     → reap (record s { opens = opens_of t; pipes = pipes }) ≡ record s { files = files; opens = opens_of (all_closed t ds); pipes = standing pipes (opens_of (all_closed t ds)) }
 reap-closed s t pipes ds files is piped counts nodes =
-    reap-left s t (all_closed t ds) pipes (standing pipes (opens_of (all_closed t ds))) files (table-all_closed t ds is) (left-all_closed t ds) counts (leaves-standing t pipes ds piped) nodes
+    reap-left s t _ pipes _ files (table-all_closed t ds is) (kept-all_closed (IsLeft t) (left-closed t) t ds (left-same t)) counts (leaves-standing t pipes ds piped) nodes
 
 -- ---- the nodes of open files that go
 
 -- the holds of an open file that goes are those of its node
-pub files_on-closed : (t : List (Option Counted)) (n m : ℕ) → files_on (closed t n) m + named_in (listed (last_node t n)) m ≡ files_on t m
+pub files_on-closed : (t : Opens) (n m : ℕ) → files_on (closed t n) m + named_in (listed (last_node t n)) m ≡ files_on t m
 files_on-closed t n m = elim (cases_lt n (length t)) [
   | inl inside ↦ (let sums = sum_by-set (λ o. one_in m (node_in o)) t n (option_and_then fewer (slot t n)) None inside in omega (arith, sums, goes (slot t n)))
   | inr outside ↦ rw (set_outside t n (option_and_then fewer (slot t n)) outside, get_or_past t n None outside) (omega arith)
@@ -254,7 +253,7 @@ pub named_in-append : (xs ys : List ℕ) (m : ℕ) → named_in (xs ++ ys) m ≡
 named_in-append [] ys m = omega arith
 named_in-append (x ∷ xs) ys m = omega (arith, sum_by-cons (one_at m) x (xs ++ ys), sum_by-cons (one_at m) x xs, named_in-append xs ys m)
 
-pub files_on-all_closed : (t : List (Option Counted)) (ds : List (Option ℕ)) (m : ℕ) → files_on (all_closed t ds) m + named_in (gone_nodes t ds) m ≡ files_on t m
+pub files_on-all_closed : (t : Opens) (ds : Fds) (m : ℕ) → files_on (all_closed t ds) m + named_in (gone_nodes t ds) m ≡ files_on t m
 files_on-all_closed t [] m = omega arith
 files_on-all_closed t (None ∷ ds) m = files_on-all_closed t ds m
 files_on-all_closed t (Some n ∷ ds) m = omega (arith, files_on-all_closed (closed t n) ds m, files_on-closed t n m, named_in-append (listed (last_node t n)) (gone_nodes (closed t n) ds) m)
@@ -262,7 +261,7 @@ files_on-all_closed t (Some n ∷ ds) m = omega (arith, files_on-all_closed (clo
 -- ---- one descriptor after the other
 
 -- the first i descriptors were closed, and these nodes went
-pub record IsClosing (old : List (Option Counted)) (before : Spaces) (ds : List (Option ℕ)) (t : List (Option Counted)) (s : Spaces) (gone : List ℕ) (i : ℕ) : Type 0 where
+pub record IsClosing (old : Opens) (before : Spaces) (ds : Fds) (t : Opens) (s : Spaces) (gone : List ℕ) (i : ℕ) : Type 0 where
   pub files : all_closed t (drop i ds) ≡ all_closed old ds
   pub leaves : Leaves t before.pipes s.pipes
   pub spaces : s ≡ record before { pipes = s.pipes }
@@ -273,37 +272,37 @@ length-listed : (o : Option ℕ) → length (listed o) ≤ 1
 length-listed None = omega arith
 length-listed (Some n) = omega arith
 
-module _ {old : List (Option Counted)} {before : Spaces} {ds : List (Option ℕ)} {t : List (Option Counted)} {s : Spaces} {gone : List ℕ} {i : ℕ} (h : i < length ds) (is : IsClosing old before ds t s gone i) where
-  next : (o : Option ℕ) → slot ds i ≡ o → o ∷ drop (i + 1) ds ≡ drop i ds
-  next o at =
+module _ {old : Opens} {before : Spaces} {ds : Fds} {t : Opens} {s : Spaces} {gone : List ℕ} {i : ℕ} (is : IsClosing old before ds t s gone i) where
+  next : i < length ds → (o : Option ℕ) → slot ds i ≡ o → o ∷ drop (i + 1) ds ≡ drop i ds
+  next h o at =
       let e : suc i ≡ i + 1 = omega arith in
       sym (drop-cons ds i None h ∙ ap (λ d. d ∷ drop (suc i) ds) at ∙ ap (λ j. o ∷ drop j ds) e)
 
-  pub closes-none : slot ds i ≡ None → IsClosing old before ds t s gone (i + 1)
-  closes-none at = record {
-    files = ap (all_closed t) (next None at) ∙ is.files;
+  pub closes-none : i < length ds → slot ds i ≡ None → IsClosing old before ds t s gone (i + 1)
+  closes-none h at = record {
+    files = ap (all_closed t) (next h None at) ∙ is.files;
     leaves = is.leaves;
     spaces = is.spaces;
-    nodes = ap (λ rest. gone ++ gone_nodes t rest) (next None at) ∙ is.nodes;
+    nodes = ap (λ rest. gone ++ gone_nodes t rest) (next h None at) ∙ is.nodes;
     few = omega (arith, is.few);
   }
 
-  pub closes-some : (n : ℕ) → slot ds i ≡ Some n → (new : List ℕ) → new ≡ gone ++ listed (last_node t n) → IsClosing old before ds (closed t n) (record s { pipes = after_close s.pipes (opens_of (closed t n)) (last_target t n) }) new (i + 1)
-  closes-some n at new e = record {
-    files = ap (all_closed t) (next (Some n) at) ∙ is.files;
-    leaves = leaves-one t before.pipes s.pipes n is.leaves;
+  pub closes-some : i < length ds → (n : ℕ) → slot ds i ≡ Some n → (new : List ℕ) → new ≡ gone ++ listed (last_node t n) → IsClosing old before ds (closed t n) (record s { pipes = after_close s.pipes (opens_of (closed t n)) (last_target t n) }) new (i + 1)
+  closes-some h n at new e = record {
+    files = ap (all_closed t) (next h _ at) ∙ is.files;
+    leaves = leaves-one t _ _ n is.leaves;
     spaces = ap (λ (x : Spaces). record x { pipes = after_close s.pipes (opens_of (closed t n)) (last_target t n) }) is.spaces;
     nodes =
         ap (λ ns. ns ++ gone_nodes (closed t n) (drop (i + 1) ds)) e
         ∙ append_assoc gone (listed (last_node t n)) (gone_nodes (closed t n) (drop (i + 1) ds))
-        ∙ ap (λ rest. gone ++ gone_nodes t rest) (next (Some n) at)
+        ∙ ap (λ rest. gone ++ gone_nodes t rest) (next h _ at)
         ∙ is.nodes;
     few = omega (arith, is.few, ap length e, length-append gone (listed (last_node t n)), length-listed (last_node t n));
   }
 
--- all were
-pub closing-all : {old : List (Option Counted)} {before : Spaces} {ds : List (Option ℕ)} {t : List (Option Counted)} {s : Spaces} {gone : List ℕ} {i : ℕ} → IsClosing old before ds t s gone i → s ≡ record before { pipes = standing before.pipes (opens_of t) }
-closing-all {before = before} {t = t} {s = s} is = is.spaces ∙ ap (λ (ps : List (Option (List ℕ))). record before { pipes = ps }) (sym (pipes-left (opens_of t) before.pipes s.pipes is.leaves.0 is.leaves.1))
+  -- all were
+  pub closing-all : s ≡ record before { pipes = standing before.pipes (opens_of t) }
+  closing-all = is.spaces ∙ ap (λ (ps : Pipes). record before { pipes = ps }) (sym (pipes-left (opens_of t) _ _ is.leaves.0 is.leaves.1))
 
 -- ---- no open file is named by many descriptors
 
@@ -319,14 +318,14 @@ mode-few n p memory (Zombie status) is = let none : names n p.descriptors ≡ 0 
 place-few : (n : ℕ) (o : Option Process) (q : Option SpaceView) → IsPlace o q → names_in n o ≤ 16
 place-few n None q is = omega arith
 place-few n (Some p) None is = absurd is
-place-few n (Some p) (Some h) is = mode-few n p h.memory p.mode is.mode
+place-few n (Some p) (Some h) is = mode-few n p _ _ is.mode
 
-sum-few : (n : ℕ) (os : List (Option Process)) → ((j : ℕ) → names_in n (slot os j) ≤ 16) → named_by os n ≤ 16 * length os
+sum-few : (n : ℕ) (os : Processes) → ((j : ℕ) → names_in n (slot os j) ≤ 16) → named_by os n ≤ 16 * length os
 sum-few n [] few = omega arith
 sum-few n (o ∷ os) few = omega (arith, sum_by-cons (names_in n) o os, few 0, sum-few n os (λ j. few (suc j)))
 
 -- no more than 64 processes with 16 descriptors name an open file
 pub counts-few : (k : Kernel) → IsKernel k → (n : ℕ) → count_at k.files n ≤ 1024
 counts-few k is n =
-    let few = sum-few n k.table.places (λ j. place-few n (slot k.table.places j) (slot k.spaces.places j) (is.stands j)) in
+    let few = sum-few n _ (λ j. place-few n _ _ (is.stands j)) in
     omega (arith, few, is.opened.counted n, is.all)

@@ -55,7 +55,7 @@ unfoldable pub use Rattle.unixmodel.specs.Start.{flat_descriptors, flat_files, f
 pub use Rattle.unixmodel.specs.State.{holds, open_limit, place_limit, running, State}
 pub use Rattle.unixmodel.specs.declared.event.Event.{Event}
 pub use Rattle.unixmodel.specs.declared.event.Event.TheVariants.{Key, Step, Tick}
-pub use Rattle.kernel.proofs.Reading.{lost-reads, reads-as}
+pub use Rattle.kernel.proofs.Steps.{lost-reads, reads-as}
 pub use Rattle.machine.specs.Booted.{bare_of, boot_fault, FindsInit, first_of, first_places, init_kernel, IsAccepted, IsBegun, IsBooted, IsInit, IsInPlace, IsNotBegun, IsUnbooted, IsUnheld, LacksInit, PutsInit, view_by}
 pub use Rattle.machine.specs.Flat.{alone, bare_plan, console_file, first, first_files, first_kernel, first_table, first_tree, flat_memory, flat_space, LoadsFlat, RefusesFlat}
 pub use Rattle.machine.specs.Gives.{ConsoleFails, fails, IsDone, RunGives, StepGives}

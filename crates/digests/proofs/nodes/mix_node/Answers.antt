@@ -1,5 +1,5 @@
 use Rattle.digests.proofs.Reading.{node-done, none-done}
-use Rattle.kernel.proofs.Reading.{lost-reads}
+use Rattle.kernel.proofs.Steps.{lost-reads}
 use Rattle.digests.proofs.nodes.mix_node.Goals as goal
 
 pub returns-in_err-stat : goal.returns-in_err-stat

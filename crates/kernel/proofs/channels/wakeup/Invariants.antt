@@ -1,5 +1,5 @@
 use Rattle.std.proofs.Common.{◌-◌, ◌≤◌}
-use Rattle.kernel.proofs.Rousing.{Roused}
+use Rattle.kernel.proofs.Watching.{Roused}
 use Rattle.kernel.proofs.channels.wakeup.Given as goal
 
 -- of the places so far who waits there is awake

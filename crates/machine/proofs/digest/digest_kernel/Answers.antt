@@ -1,4 +1,4 @@
-use Rattle.kernel.proofs.Reading.{reads-as}
+use Rattle.kernel.proofs.Steps.{reads-as}
 use Rattle.machine.proofs.Looking.{digest-told}
 use Rattle.machine.proofs.digest.digest_kernel.Goals as goal
 

@@ -1,4 +1,4 @@
-use Rattle.kernel.proofs.Reading.{reads-as}
+use Rattle.kernel.proofs.Steps.{reads-as}
 use Rattle.machine.proofs.Looking.{read-shown}
 use Rattle.machine.proofs.inodes.read.Goals as goal
 

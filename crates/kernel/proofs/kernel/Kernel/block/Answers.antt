@@ -1,12 +1,12 @@
 use Rattle.kernel.proofs.Common.{refl, Waiting}
 use Rattle.kernel.proofs.Steps.{block-keeps}
-use Rattle.kernel.proofs.Wakes.{left-watched}
+use Rattle.kernel.proofs.Watching.{left-watched}
 use Rattle.kernel.proofs.kernel.Kernel.block.Goals as goal
 
 pub leave-requires : goal.leave-requires
 leave-requires g c =
     let s = c.is_sound.ensures in
     record {
-      sound = block-keeps c.args.self.now c.args.at c.args.pending s.sound c.requires.running s.zero s.aligned c.requires.pending c.requires.awaits;
+      sound = block-keeps s.sound c.requires.running s.zero s.aligned c.requires.pending c.requires.awaits;
       watched = left-watched s.sound s.watched c.args.at (Waiting c.args.pending) c.requires.running refl;
     }

@@ -1,5 +1,5 @@
 use Rattle.kernel.proofs.Common.{refl, sym, kernel_of, zombie_place}
-use Rattle.kernel.proofs.Collecting.{collect-keeps, has-reaped, unreaped-go, zombie-idle, zombie-stands}
+use Rattle.kernel.proofs.Working.{collected-kernel, has-reaped, unreaped-go, watched-without, zombie-idle, zombie-stands}
 use Rattle.kernel.proofs.kernel.Kernel.collect.Goals as goal
 
 pub invariant_of-self : goal.invariant_of-self
@@ -16,7 +16,12 @@ destroy-requires g c =
     record { space = zombie-stands c.self.invariant.sound c.in-Some.reaped.place has.child has.zombie; idle = zombie-idle c.self.invariant.sound c.in-Some.reaped.place has.child has.zombie }
 
 pub invariant_of-self-2 : goal.invariant_of-self-2
-invariant_of-self-2 g c = rw (c.destroy.ensures, c.reap.ensures.places) (collect-keeps c.self.invariant (has-reaped {k = kernel_of c.self.inside} c.in-Some.ensures.reaped))
+invariant_of-self-2 g c =
+    let has = has-reaped {k = kernel_of c.self.inside} c.in-Some.ensures.reaped in
+    rw (c.destroy.ensures, c.reap.ensures.places) (record {
+      sound = rw has.found (collected-kernel c.self.invariant.sound c.in-Some.reaped.place has.child has.zombie);
+      watched = watched-without c.self.inside.table c.self.invariant.watched (zombie_place c.self.inside.table c.args.parent);
+    })
 
 pub returns : goal.returns
 returns g c =

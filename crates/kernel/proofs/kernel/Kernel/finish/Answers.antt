@@ -1,18 +1,15 @@
-use Rattle.kernel.proofs.Common.{ap, arith, refl, length, ◌<◌, ◌∙◌, Kernel, kernel_of}
+use Rattle.kernel.proofs.Common.{arith, refl, length, ◌<◌, kernel_of}
 use Rattle.std.proofs.lemmas.Int.{to_z-of_z}
 use Rattle.std.specs.Int.{w32}
-use Rattle.kernel.proofs.Finishes.{finish-closes, finish-held, finish-serves}
-use Rattle.kernel.proofs.Wakes.{finish-watched, kernel-waking}
+use Rattle.kernel.proofs.Steps.{finish-closes, finish-held, finish-serves}
+use Rattle.kernel.proofs.Watching.{finish-watched, kernel-waking}
 use Rattle.kernel.proofs.kernel.Kernel.finish.Goals as goal
-
-pub let_go-requires-clause-up : goal.let_go-requires-clause-up
-let_go-requires-clause-up g c = ap (λ (k : Kernel). k.tree.failed) c.self.view_is ∙ c.requires.up
 
 pub let_go-requires-clause-held : goal.let_go-requires-clause-held
 let_go-requires-clause-held g c =
     let s = c.is_sound.ensures in
     rw (c.as_slice.ensures.value, c.end-nodes.ensures.nodes)
-    (finish-held (kernel_of c.self.inside) c.args.self.now c.args.at c.in-Some.process c.args.status c.self.view_is s.sound c.requires c.in-Some.ensures.process s.zero s.aligned)
+    (finish-held c.args.status c.self.view_is s.sound c.requires c.in-Some.ensures.process s.zero s.aligned)
 
 pub invariant_of-self : goal.invariant_of-self
 invariant_of-self g c =
@@ -22,7 +19,7 @@ invariant_of-self g c =
     let low : c.args.at < length k.table.places = omega (arith, c.self.invariant.sound.all, c.in-Some.ensures.within) in
     rw (c.halted_after-halted.ensures, c.end-nodes.ensures.table, c.end-nodes.ensures.spaces, c.end-nodes.ensures.files)
     (record {
-      sound = kernel-waking (finish-closes k c.args.self.now c.args.at c.in-Some.process _ c.self.view_is s.sound c.requires c.in-Some.ensures.process s.zero s.aligned c.let_go.new.tree c.let_go.result went.told went.down) _;
+      sound = kernel-waking (finish-closes _ c.self.view_is s.sound c.requires c.in-Some.ensures.process s.zero s.aligned c.let_go.new.tree c.let_go.result went.told went.down) _;
       watched = finish-watched k.table c.self.invariant.watched c.args.at c.in-Some.process _ low _ refl _ refl;
     })
 
@@ -30,8 +27,5 @@ pub returns : goal.returns
 returns g c =
     let s = c.is_sound.ensures in
     rw (c.halted_after-halted.ensures, c.end-nodes.ensures.table, c.end-nodes.ensures.spaces, c.end-nodes.ensures.files)
-    (finish-serves (kernel_of c.self.inside) c.args.self.now c.args.at c.in-Some.process _ c.self.view_is s.sound c.requires c.in-Some.ensures.process c.let_go.new.tree c.let_go.result _
+    (finish-serves _ c.self.view_is s.sound c.requires c.in-Some.ensures.process c.let_go.new.tree c.let_go.result _
     (rw (c.as_slice.ensures.value, c.end-nodes.ensures.nodes) at c.let_go.ensures) c.args.status (to_z-of_z w32 c.args.status c.ranges.status))
-
-pub end-nodes-requires : goal.end-nodes-requires
-end-nodes-requires g c = record { within = c.in-Some.ensures.within; piped = c.self.invariant.sound.opened.piped }

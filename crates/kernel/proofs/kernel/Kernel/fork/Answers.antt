@@ -1,22 +1,18 @@
-use Rattle.kernel.proofs.Common.{◌≡◌, ap, true, kernel_of, slice_set, waking, Kernel, Spaces, child_of, seated}
+use Rattle.kernel.proofs.Common.{◌≡◌, ap, true, kernel_of, slice_set, waking, Kernel, child_of, seated}
 use Rattle.kernel.proofs.Named.{counts-few}
 use Rattle.kernel.proofs.Forking.{fork-by, fork-home, fork-keeps, fork-there, seat-free}
-use Rattle.kernel.proofs.Opening.{hold-few}
+use Rattle.kernel.proofs.Turning.{hold-few, runner-of}
 use Rattle.kernel.proofs.Runs.{active-space}
-use Rattle.kernel.proofs.Turning.{runner-of}
 use Rattle.kernel.proofs.kernel.Kernel.fork.Goals as goal
 
 pub unreachable-requires : goal.unreachable-requires
 unreachable-requires g c = fork-there (runner-of c.is_sound.ensures.sound c.requires.may.running) c.in_default.ensures.process
 
 pub copy-requires-clause-from : goal.copy-requires-clause-from
-copy-requires-clause-from g c = active-space (kernel_of c.self.inside) c.args.self.now c.args.at c.self.view_is c.self.invariant.sound c.requires.may.running
+copy-requires-clause-from g c = active-space c.self.view_is c.self.invariant.sound c.requires.may.running
 
 pub copy-requires-clause-free : goal.copy-requires-clause-free
 copy-requires-clause-free g c = let may = rw (← c.self.view_is) at c.requires.may in seat-free (kernel_of c.self.inside) c.self.invariant.sound c.args.seat may.next
-
-pub invariant_of-self : goal.invariant_of-self
-invariant_of-self g c = rw c.if-not-copy.ensures.refused.1 c.self.invariant
 
 pub share_all-requires : goal.share_all-requires
 share_all-requires g c = record { few = counts-few (kernel_of c.self.inside) c.self.invariant.sound }
@@ -32,9 +28,6 @@ invariant_of-self-2 g c =
     let table : c.alloc-seat.new.self ≡ seated c.self.inside.table (child_of c.in-Some.process) c.args.seat = rw (c.alloc-seat.ensures.seat, may.next) at c.alloc-seat.ensures.ok in
     rw (c.wake.ensures, table, c.if-not-copy.ensures.done.1, c.share_all.ensures, c.hold.ensures)
     (fork-keeps c.self.invariant may (rw (← c.self.view_is) at c.is_sound.ensures.zero) (rw (← c.self.view_is) at c.is_sound.ensures.aligned) (rw (← c.self.view_is) at c.in-Some.ensures.process) c.if-not-copy.ensures.done.0)
-
-pub returns-then-not-copy : goal.returns-then-not-copy
-returns-then-not-copy g c = let d = c.if-not-copy.ensures.refused in rw (← c.self.view_is) (d.0, ap (λ (s : Spaces). record (kernel_of c.self.inside) { spaces = s }) d.1)
 
 pub returns : goal.returns
 returns g c =

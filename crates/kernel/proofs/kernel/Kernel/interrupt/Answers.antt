@@ -1,16 +1,18 @@
-use Rattle.kernel.proofs.Common.{refl, sym, ◌%◌, ◌+◌, ◌^◌, Ready}
-use Rattle.kernel.proofs.Steps.{stop-keeps}
-use Rattle.kernel.proofs.Wakes.{left-watched, ticked-keeps}
+use Rattle.kernel.proofs.Common.{refl, sym, Ready}
+use Rattle.kernel.proofs.Steps.{left-kernel}
+use Rattle.kernel.proofs.Runs.{live, run-of}
+use Rattle.kernel.proofs.Watching.{kernel-waking, left-watched, typed-kernel, watched-ticks}
 use Rattle.kernel.proofs.kernel.Kernel.interrupt.Goals as goal
 
 pub leave-requires : goal.leave-requires
 leave-requires g c =
     let s = c.is_sound.ensures in
     let active = sym c.in-Some.ensures in
+    let run = (run-of c.args.self.now c.in-Some.at s.sound active).1 in
     record {
-      sound = stop-keeps c.args.self.now c.in-Some.at s.sound active s.zero s.aligned;
+      sound = left-kernel _ _ _ run.0 run.1 s.sound s.zero s.aligned Ready refl refl (live _ _ _ run.0 run.1 s.sound) tt;
       watched = left-watched s.sound s.watched c.in-Some.at Ready active refl;
     }
 
 pub invariant_of-self : goal.invariant_of-self
-invariant_of-self g c = rw c.wakeup.ensures (ticked-keeps c.self-2.invariant ((c.self-2.inside.ticks + 1) % 2 ^ 32))
+invariant_of-self g c = rw c.wakeup.ensures (record { sound = kernel-waking (typed-kernel c.self-2.invariant.sound _ _) _; watched = watched-ticks c.self-2.invariant.watched _ })

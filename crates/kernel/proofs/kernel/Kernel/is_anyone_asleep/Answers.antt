@@ -1,6 +1,7 @@
-use Rattle.kernel.proofs.Common.{List, Option, ap, ◌∙◌, list_any, is_sleeping_mode, kernel_of, Process, holds}
-use Rattle.kernel.proofs.Idle.{asleep-state}
+use Rattle.kernel.proofs.Common.{List, Option, ap, ◌∙◌, list_any, kernel_of, Process, holds}
+use Rattle.kernel.proofs.Readies.{asleep-state}
 use Rattle.kernel.proofs.kernel.Kernel.is_anyone_asleep.Goals as goal
+use Rattle.kernel.specs.Idle.{is_sleeping_mode}
 
 pub returns : goal.returns
 returns g c =

@@ -1,19 +1,9 @@
-use Rattle.kernel.proofs.Common.{ap, arith, is_some, kernel_of, Spaces, free-place}
-use Rattle.kernel.proofs.Piping.{descriptor-left, pipe-keeps, pipe-made, place-left}
-use Rattle.kernel.proofs.Turning.{runner-of}
+use Rattle.kernel.proofs.Common.{ap, is_some, free-place}
+use Rattle.kernel.proofs.Turning.{descriptor-left, pipe-keeps, pipe-made, place-left, runner-of}
 use Rattle.kernel.proofs.kernel.Kernel.open_pipe.Goals as goal
 
 pub create_pipe-requires-clause-free : goal.create_pipe-requires-clause-free
 create_pipe-requires-clause-free g c = let may = rw (← c.self.view_is) at c.requires.may in ap is_some (free-place c.self.inside.spaces.pipes c.args.pipe may.room).1
-
-pub invariant_of-self : goal.invariant_of-self
-invariant_of-self g c = rw c.if-not-create_pipe.ensures.refused.1 c.self.invariant
-
-pub returns-then-not-create_pipe-clause-pipes : goal.returns-then-not-create_pipe-clause-pipes
-returns-then-not-create_pipe-clause-pipes g c = let d = c.if-not-create_pipe.ensures.refused in rw (← c.self.view_is) (d.0, ap (λ (s : Spaces). record (kernel_of c.self.inside) { spaces = s }) d.1)
-
-pub open_as-reader-requires : goal.open_as-reader-requires
-open_as-reader-requires g c = let may = rw (← c.self.view_is) at c.requires.may in record { place = omega (arith, may.places); free = omega (arith, may.descriptors) }
 
 pub open_as-writer-requires : goal.open_as-writer-requires
 open_as-writer-requires g c =

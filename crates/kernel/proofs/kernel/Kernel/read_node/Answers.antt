@@ -1,22 +1,21 @@
-use Rattle.kernel.proofs.Common.{kernel_of}
 use Rattle.kernel.proofs.Runs.{active-space}
-use Rattle.kernel.proofs.Naming.{fetch-keeps, fetch-told}
+use Rattle.kernel.proofs.Memories.{fetch-keeps, fetch-told}
 use Rattle.kernel.proofs.kernel.Kernel.read_node.Goals as goal
 
 pub read_node-read-requires : goal.read_node-read-requires
 read_node-read-requires g c = record {
   up = rw (← c.self.view_is) at c.requires.up;
   node = rw (← c.self.view_is) at c.requires.node;
-  space = active-space (kernel_of c.self.inside) c.args.self.now c.args.at c.self.view_is c.self.invariant.sound c.requires.running;
+  space = active-space c.self.view_is c.self.invariant.sound c.requires.running;
   writable = rw (← c.self.view_is) at c.requires.writable;
 }
 
 pub invariant_of-self : goal.invariant_of-self
 invariant_of-self g c =
     let e = c.read_node-read.ensures in
-    fetch-keeps (kernel_of c.self.inside) c.args.at c.args.number c.args.offset c.args.address c.args.count c.read_node-read.new.tree c.read_node-read.new.spaces c.self.invariant (rw (← c.self.view_is) at c.requires.running) c.read_node-read.result e.serves.told e.serves.down e.written e.failed c.frames_suffice.ensures
+    fetch-keeps _ _ _ _ _ _ _ _ c.self.invariant (rw (← c.self.view_is) at c.requires.running) _ e.serves.told e.serves.down e.written e.failed c.frames_suffice.ensures
 
 pub returns : goal.returns
 returns g c =
     let e = c.read_node-read.ensures in
-    rw (← c.self.view_is) (record { told = fetch-told (kernel_of c.self.inside) c.args.at c.args.number c.args.offset c.args.address c.args.count c.read_node-read.new.tree c.read_node-read.new.spaces c.read_node-read.result e.serves.told e.written; up = e.serves.up; down = e.serves.down; same_device = e.serves.same_device; cause = e.serves.cause })
+    rw (← c.self.view_is) (record { told = fetch-told _ _ _ _ _ _ _ _ _ e.serves.told e.written; up = e.serves.up; down = e.serves.down; same_device = e.serves.same_device; cause = e.serves.cause })

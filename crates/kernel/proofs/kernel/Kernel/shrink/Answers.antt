@@ -1,4 +1,3 @@
-use Rattle.kernel.proofs.Common.{kernel_of}
 use Rattle.kernel.proofs.Memories.{resized-keeps, resized-made, shrunk-sized}
 use Rattle.kernel.proofs.kernel.Kernel.shrink.Goals as goal
 
@@ -6,4 +5,4 @@ pub invariant_of-self : goal.invariant_of-self
 invariant_of-self g c = resized-keeps c.self.invariant c.self.view_is c.requires.running (shrunk-sized _ c.args.bytes c.pages_are_whole.ensures.whole) c.shrink.ensures c.frames_suffice.ensures
 
 pub returns : goal.returns
-returns g c = rw (← c.self.view_is) (resized-made (kernel_of c.self.inside) c.args.at (shrunk-sized _ c.args.bytes c.pages_are_whole.ensures.whole) _ c.shrink.ensures)
+returns g c = rw (← c.self.view_is) (resized-made _ _ (shrunk-sized _ c.args.bytes c.pages_are_whole.ensures.whole) _ c.shrink.ensures)

@@ -1,11 +1,7 @@
 use Rattle.kernel.proofs.Common.{arith, kernel_of}
-use Rattle.kernel.proofs.Opening.{hold-few}
-use Rattle.kernel.proofs.Turning.{runner-of}
+use Rattle.kernel.proofs.Turning.{hold-few, runner-of}
 use Rattle.kernel.proofs.Working.{folder-there, work-fits, work-held, work-keeps, work-serves}
 use Rattle.kernel.proofs.kernel.Kernel.work_in.Goals as goal
-
-pub is_whole-requires : goal.is_whole-requires
-is_whole-requires g c = (rw (← c.self.view_is) at c.requires).up
 
 pub hold-requires : goal.hold-requires
 hold-requires g c =
