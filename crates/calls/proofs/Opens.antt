@@ -1,23 +1,32 @@
 -- open: the running process has a new open file on a node.
-use Rattle.calls.proofs.Common.{[], Acts, ActsOnDisk, and_parts, Answers, answers, ap, argument, arith, asked, Asks, blocks_of, Bool, Came, cases_eq, change_node, count_by, creates, cut_tree, descriptors_in, DeviceFault, Directory}
-use Rattle.calls.proofs.Common.{directory_at, Done, emptied, enter-parts, eqb-true, Err, false, false≢true, File, file_by, file_of, Files, FileTree, find, FitsNode, found_or_made, free-None, free-opens, free_count, free_descriptors}
-use Rattle.calls.proofs.Common.{free_slot, get_or-set_other, get_or-set_same, given, has_bit, has_failed, has_seat, HasRead, Here, here-of, if◌then◌else◌, inl, InodeStat, inr, is_none, IsCut, IsKernel, IsOpenable, IsRefused, Kernel}
-use Rattle.calls.proofs.Common.{kind_of, le_trans, leaf_node, limited, List, low, lt-ltb, ltb-true, Made, made_at, made_files, made_in, make-parts, make_at, MakesNode, may_open, may_open_by, MayOpen, nat_lt, new_file, Node, node_on, None}
-use Rattle.calls.proofs.Common.{none-some, not, Ok, OnNode, Open, open_row, opened_on, Opens, OpensOn, Option, option_and_then, option_and_then_some, option_map, Outcome, outcome_of, Overflows, path_at, Process, process-run, provided, put}
-use Rattle.calls.proofs.Common.{refl, Refused, Refuses, Result, row, Runs, same_Some, self, set-slot, slice_index, slice_set, slot, slot-within, Some, Spot, spot_of, State, state-but, state_of, subst, suc, sym, target_by, target_of, Tells}
-use Rattle.calls.proofs.Common.{TellsMajor, TreeFault, true, truncated, truncates, view_at, with_open, with_tree, ℕ, ◌%◌, ◌<◌, ◌==◌, ◌||◌, ◌∙◌, ◌≡◌, ◌≢◌, ◌≤◌}
+use Rattle.calls.proofs.Common.{[], Acts, ActsOnDisk, and_parts, answered, answered-here, Answers, answers, ap, args_at, argument, arith, blocks_of, Bool, Came, change_node, Chdir, chdir_row, count_by, descriptors_in, DeviceFault}
+use Rattle.calls.proofs.Common.{Directory, directory_at, Done, enter-parts, Err, Exec, exec_row, false, false≢true, File, file_bytes, file_of, Files, FileTree, find, fits_beside, FitsNode, frames-state, free-None, free-opens, free_count}
+use Rattle.calls.proofs.Common.{free_slot, get_or-set_other, get_or-set_same, given, has_bit, has_failed, has_seat, HasRead, HasReplaced, held-here, Here, here-as, here-of, if◌then◌else◌, inl, InodeStat, inr, is_directory, is_none}
+use Rattle.calls.proofs.Common.{IsFolder, IsKernel, IsRefused, IsServed, IsWhole, Kernel, kind_of, le-leb, le_trans, leaf_node, length, limited, List, low, lt-leb, Made, made_at, made_files, made_in, make-parts, MakesNode, me, nat_le}
+use Rattle.calls.proofs.Common.{nat_lt, ne_eqb, Node, node_on, None, none-some, not, Ok, OnNode, Open, open_row, Option, option_and_then, option_and_then_some, option_map, Outcome, outcome_of, Overflows, page_frames, path_argument, Process}
+use Rattle.calls.proofs.Common.{process-here, provided, put, put_process, Reaches, refl, Refused, Refuses, replaced, Result, row_of, Runs, same_Some, set-slot, settle, slice_index, slice_set, slot, slot-within, Some, Spot, spot_of, State}
+use Rattle.calls.proofs.Common.{state-but, state_of, subst, suc, sym, target_of, Tells, TellsMajor, TreeFault, true, view_at, with_tree, WorksIn, ℕ, ◌%◌, ◌+◌, ◌<◌, ◌==◌, ◌||◌, ◌∙◌, ◌≡◌, ◌≢◌, ◌≤◌}
+use Rattle.kernel.specs.Opening.{free_descriptors, MayOpen, opened_on, OpensOn}
+use Rattle.std.proofs.lemmas.Bool.{cases_eq, eqb-true, lt-ltb, ltb-true}
+use Rattle.calls.specs.Opened.{Asks, cut_tree, file_by, IsCut, IsOpenable, may_open_by, Opens, target_by, with_open}
 use Rattle.kernel.proofs.Turning.{open-state}
 use Rattle.files.specs.declared.file.OpenFile.{OpenFile}
 use Rattle.files.specs.Places.{opens_of}
 use Rattle.names.proofs.Finding.{spot-absent}
 use Rattle.unixmodel.specs.Files.Node.{Device}
-use Rattle.unixmodel.specs.NameCalls.{opened}
-use Rattle.calls.proofs.Acts.{does, given-refused, me, provided-refused, refused, runs-of}
+use Rattle.unixmodel.specs.NameCalls.{opened, creates, emptied, found_or_made, may_open, new_file, truncated, truncates, make_at}
+use Rattle.calls.proofs.Acts.{does, given-refused, provided-refused, refused, runs-of, settles, settles-gone}
 use Rattle.calls.proofs.Names.{found-here, home-is, node-here, over-blocks, path-is, refused-acts, refused-read}
 use Rattle.files.specs.declared.file.Target.TheVariants as target
 use Rattle.tree.specs.declared.making.Leaf.TheVariants as leaf
 use Rattle.unixmodel.specs.OpenFiles as unix_files
 use Rattle.unixmodel.specs.Process as unix
+use Rattle.kernel.proofs.Working.{work-reaps}
+pub use Rattle.calls.proofs.Names.{some-there}
+use Rattle.programs.specs.declared.executing.Started.{Started}
+use Rattle.programs.specs.Executed.{frames_beside, plan_at}
+use Rattle.unixmodel.specs.Plan.{Plan, plan}
+use Rattle.kernel.proofs.Forking.{replaced-state}
 
 -- ---- flags and types
 
@@ -103,7 +112,7 @@ module _ {k : Kernel} {i : ℕ} (runs : Runs k i) {n f : ℕ} {told : InodeStat}
         free = o.free;
         state = λ p at.
             state-but (opened_on k i n g o.place fd) o.same ∙ open-state x.runner g o.place fd n
-            ∙ ap (λ (y : unix.Process). with_open (state_of k) i y fd o.place (file_of g)) (same_Some (me x) p (sym (process-run k i x.process x.held x.run) ∙ at)) ∙ ap (with_open (state_of k) i p fd o.place) (file-by f n told.kind told.major);
+            ∙ ap (λ (y : unix.Process). with_open (state_of k) i y fd o.place (file_of g)) (same_Some (me x) p (sym (process-here x) ∙ at)) ∙ ap (with_open (state_of k) i p fd o.place) (file-by f n told.kind told.major);
         runs = subst (λ (y : Kernel). Runs y i) (sym o.same) (record { active = runs.active; up = runs.up; sound = subst IsKernel o.same sound; zero = runs.zero; aligned = runs.aligned });
         served = rw o.same (record { up = runs.up; same_device = refl; later = omega arith });
       }
@@ -147,7 +156,7 @@ abbrev opens_got : State → ℕ → unix.Process → ℕ → Made → Outcome
 opens_got s i p f got = given (slot got.files got.number) λ node. provided (may_open f node) (opens_seat s i p f got)
 
 module _ {k : Kernel} {i : ℕ} (x : Here k i) where
-  open-row : {path : List ℕ} (f : ℕ) (o : Option ℕ) → Asks k i path f o → row (state_of k) i (me x) Open ≡ given (found_or_made k.tree.files x.process.directory path f o) (opens_got (state_of k) i (me x) f)
+  open-row : {path : List ℕ} (f : ℕ) (o : Option ℕ) → Asks k i path f o → row_of x Open ≡ given (found_or_made k.tree.files x.process.directory path f o) (opens_got (state_of k) i (me x) f)
   unfolding open_row
   open-row {path} f o asks = let at = path-is x 0 asks.named in let found = found-here x path asks.found in rw (asks.flags, at, found) refl
 
@@ -162,13 +171,13 @@ module _ {k : Kernel} {i : ℕ} (x : Here k i) where
 
   -- e is kernel k with that tree, in which it got the node; then it was opened
   opens-acts : (tree : FileTree) → tree.block_limit ≡ k.tree.block_limit → tree.identity ≡ k.tree.identity → k.tree.failures ≤ tree.failures → {e : Kernel} → e ≡ record k { tree = tree } → (f : ℕ) (got : Made) → tree.files ≡ truncated f got
-      → row (state_of k) i (me x) Open ≡ opens_got (state_of k) i (me x) f got → {node : Node} → slot got.files got.number ≡ Some node → may_open f node ≡ true → {new : Kernel} {fd : ℕ} → Opens e new i (opened f got.number) fd → Acts k new i (Some Open) (Answers fd)
+      → row_of x Open ≡ opens_got (state_of k) i (me x) f got → {node : Node} → slot got.files got.number ≡ Some node → may_open f node ≡ true → {new : Kernel} {fd : ℕ} → Opens e new i (opened f got.number) fd → Acts k new i (Some Open) (Answers fd)
   opens-acts tree limit device later is f got cut made here may {new} {fd} opens =
       let one : Opens (record k { tree = tree }) new i (opened f got.number) fd = subst (λ (y : Kernel). Opens y new i (opened f got.number) fd) is opens in
       let free : free_slot x.process.descriptors ≡ Some fd = ap (λ (o : Option Process). free_slot (descriptors_in o)) (sym x.run.process) ∙ one.free in
       let last = with_open (state_of k) i (me x) fd one.place (opened f got.number) in
       let state : state_of new ≡ record last { files = truncated f got } =
-      one.state (me x) (process-run k i x.process x.held x.run)
+      one.state (me x) (process-here x)
       ∙ ap (λ (fs : Files). record last { files = fs; block_limit = tree.block_limit }) cut
       ∙ ap (λ (b : ℕ). record last { files = truncated f got; block_limit = b }) limit in
       does x Open fd (here-of one.runs) (record { up = one.served.up; same_device = one.served.same_device ∙ device; later = le_trans later one.served.later })
@@ -186,7 +195,7 @@ module _ {k : Kernel} {i : ℕ} (x : Here k i) where
     pub open-node : (node : Node) × (slot k.tree.files n ≡ Some node)
     open-node = node-here x asks.0 asks.1.found
 
-    open-got : row (state_of k) i (me x) Open ≡ opens_got (state_of k) i (me x) f got
+    open-got : row_of x Open ≡ opens_got (state_of k) i (me x) f got
     open-got = open-row f (Some n) asks.1
 
     module _ {k1 : Kernel} (told : InodeStat) (reads : HasRead k k1 × ((node : Node) → slot k.tree.files n ≡ Some node → Tells told node)) where
@@ -224,7 +233,7 @@ module _ {k : Kernel} {i : ℕ} (x : Here k i) where
       abbrev made_here : Option Made
       made_here = option_and_then (λ at. make_at k.tree.files at new_file) (spot_of k.tree.files x.process.directory path)
 
-      new-row : row (state_of k) i (me x) Open ≡ given made_here (opens_got (state_of k) i (me x) f)
+      new-row : row_of x Open ≡ given made_here (opens_got (state_of k) i (me x) f)
       new-row = open-row f None asks ∙ ap (λ (b : Bool). given (if b then made_here else None) (opens_got (state_of k) i (me x) f)) asked
 
       pub open-new-full : has_seat k i ≡ false → Acts k k i (Some Open) Refuses
@@ -273,5 +282,93 @@ module _ {k : Kernel} {i : ℕ} (x : Here k i) where
               opens-acts mid.tree acts.limit acts.same_device acts.later rest f new_node (sym (truncated-new f new_node new-there)) (new-row ∙ ap (λ o. given o (opens_got (state_of k) i (me x) f)) made) new-there refl opens
 
 -- what is asked for once the path was looked up
-pub asks-of : {k e : Kernel} {i f : ℕ} {path : List ℕ} {o q : Option ℕ} → Some path ≡ path_at (view_at k.spaces i).memory (argument k 0) → f ≡ low (argument k 1) → HasRead k e × (o ≡ find k.tree.files (directory_at k i) path) → o ≡ q → Asks e i path f q
+pub asks-of : {k e : Kernel} {i f : ℕ} {path : List ℕ} {o q : Option ℕ} → Some path ≡ path_argument k i 0 → f ≡ low (argument k 1) → HasRead k e × (o ≡ find k.tree.files (directory_at k i) path) → o ≡ q → Asks e i path f q
 asks-of {i = i} {f = f} {path = path} {q = q} named flags reads is = subst (λ (y : Kernel). Asks y i path f q) (sym reads.0.same) (record { named = named; flags = flags; found = sym is ∙ reads.1 })
+
+-- ---- chdir: the running process works in another directory, and the one that it leaves may go
+
+folder-kind : (node : Node) → kind_of node ≡ 1 → IsFolder (Some node)
+folder-kind (Directory links places) kind = tt
+folder-kind node kind = absurd (omega arith)
+
+folder-is : (node : Node) → IsFolder (Some node) → is_directory node ≡ true
+folder-is (Directory links places) is = refl
+folder-is _ is = absurd is
+
+-- its path reaches number n
+module _ {k : Kernel} {i n : ℕ} (x : Here k i) (r : Reaches k i n) where
+  abbrev works : Outcome
+  works = answers (put_process (state_of k) i (record (me x) { directory = n })) 0
+
+  pub chdir-there : (node : Node) × (slot k.tree.files n ≡ Some node)
+  chdir-there = node-here x r.path r.found
+
+  chdir-made : {b : Bool} → is_directory chdir-there.0 ≡ b → row_of x Chdir ≡ provided b works
+  unfolding chdir_row
+  chdir-made is = let at = path-is x 0 r.named in let found = found-here x r.path r.found in let there = chdir-there.1 in rw (at, found, there, is) refl
+
+  -- told of it
+  module _ {e : Kernel} (told : InodeStat) (reads : HasRead k e × ((node : Node) → slot k.tree.files n ≡ Some node → Tells told node)) where
+    tells : Tells told chdir-there.0
+    tells = reads.1 chdir-there.0 chdir-there.1
+
+    pub chdir-other : told.kind ≢ 1 → Acts k e i (Some Chdir) Refuses
+    chdir-other other = refused-read reads.0 x Chdir (ap limited (chdir-made {b = false} (rw (← tells.0) (ne_eqb told.kind 1 other))))
+
+    pub chdir-goes : told.kind ≡ 1 → Reaches e i n × IsFolder (slot e.tree.files n)
+    chdir-goes kind = subst (λ (y : Kernel). Reaches y i n × IsFolder (slot y.tree.files n)) (sym reads.0.same) (record { path = r.path; named = r.named; found = r.found }, subst IsFolder (sym chdir-there.1) (folder-kind chdir-there.0 (sym tells.0 ∙ kind)))
+
+  -- it is a directory, and the process works there now
+  pub chdirs : IsFolder (slot k.tree.files n) → IsWhole k.tree → {new : Kernel} → IsKernel new → WorksIn k new i n × IsServed k.tree new.tree → Acts k new i (Some Chdir) (Answers 0)
+  chdirs folder whole sound told =
+      let made = chdir-made (folder-is chdir-there.0 (rw chdir-there.1 at folder)) in
+      let reaped = work-reaps (answered-here x 0).runner n (record { running = x.run.active; folder = folder; up = x.up }) whole ∙ sym (ap state_of (ap (λ (z : Kernel). answered z 0) told.0)) in
+      settles x Chdir 0 (here-as x sound told.0 refl told.1.up) told.1
+      (ap (λ (o : Outcome). settle (state_of k) i (limited o)) made ∙ settles-gone x x.process.descriptors n refl reaped)
+
+-- ---- exec: another program comes in the place of the one that runs
+
+given-plan : (o : Option (List ℕ)) (args : Option (List (List ℕ))) (rest : Plan → Outcome) → given o (λ file. given args (λ a. given (plan file a) rest)) ≡ given (option_and_then (λ file. option_and_then (plan file) args) o) rest
+given-plan None args rest = refl
+given-plan (Some file) None rest = refl
+given-plan (Some file) (Some a) rest = refl
+
+-- it comes in the place of process p
+abbrev replaces : State → ℕ → unix.Process → Plan → Outcome
+replaces s i p new = provided (fits_beside s new) (answers (put_process s i (replaced p new)) new.argc)
+
+-- its path reaches number n
+module _ {k : Kernel} {i n : ℕ} (x : Here k i) (r : Reaches k i n) where
+  abbrev planned : Option Plan
+  planned = plan_at k.tree.files n (view_at k.spaces i).memory (argument k 1)
+
+  exec-row : row_of x Exec ≡ given planned (replaces (state_of k) i (me x))
+  unfolding exec_row
+  exec-row =
+      let at = path-is x 0 r.named in
+      let found = found-here x r.path r.found in
+      rw (at, found, held-here x) (given-plan (file_bytes (slot k.tree.files n)) (args_at x.held.memory (argument k 1)) (replaces (state_of k) i (me x)))
+
+  fits-is : (new : Plan) → fits_beside (state_of k) new ≡ nat_le (frames_beside k.spaces new) k.spaces.frames
+  fits-is new = ap (λ m. nat_le (m + 3 + page_frames (length new.memory)) k.spaces.frames) (frames-state k x.sound)
+
+  -- it is no program, or the frames don't suffice
+  pub exec-refused : {e : Kernel} → HasRead k e → ((p : Plan) → planned ≡ Some p → k.spaces.frames < frames_beside k.spaces p) → Acts k e i (Some Exec) Refuses
+  exec-refused has over =
+      refused-read has x Exec (
+      ap limited exec-row
+      ∙ given-refused planned (replaces (state_of k) i (me x)) (λ p is.
+      let none : fits_beside (state_of k) p ≡ false = fits-is p ∙ lt-leb _ _ (over p is) in
+      ap (λ b. limited (provided b (answers (put_process (state_of k) i (replaced (me x) p)) p.argc))) none))
+
+  -- its program comes in the place of the old one
+  pub exec-done : {new : Kernel} {started : Started} → HasReplaced k new i n (argument k 1) started → IsKernel new → Acts k new i (Some Exec) (Answers started.count)
+  exec-done {new} h sound =
+      let p = h.plan in
+      let up = ap (λ (z : Kernel). z.tree.failed) h.same ∙ x.up in
+      rw h.begins (
+      does x Exec p.argc (here-as x sound h.same refl up) (record { up = up; same_device = ap (λ (z : Kernel). z.tree.identity) h.same; later = h.later })
+      (exec-row
+      ∙ ap (λ o. given o (replaces (state_of k) i (me x))) h.is
+      ∙ ap (λ b. provided b (answers (put_process (state_of k) i (replaced (me x) p)) p.argc)) (fits-is p ∙ le-leb _ _ h.fits)
+      ∙ ap (λ (s : State). Done s p.argc []) (sym (ap state_of h.same ∙ replaced-state x.runner p))))

@@ -1,15 +1,17 @@
 -- pipe: the running process opens both ends of a new pipe.
-use Rattle.calls.proofs.Common.{[], Acts, Answers, ap, AreFree, argument, arith, can_write, changed, count_by, Counted, descriptors_at, descriptors_in, Done, Ends, false, frames_in, free-None, free-opens, free-place, free-put, free_count}
-use Rattle.calls.proofs.Common.{free_slot, HasPiped, held-run, Here, is_none, is_within, IsKernel, IsPlaced, Kernel, le, length-set, limited, List, live, match-active, match-place, moved-state, None, not-killed, opens-opened, Option}
-use Rattle.calls.proofs.Common.{option_map, over-state, page_frames, Pipe, pipe_end, pipe_file, pipe_row, piped, Places, Process, put, ReadEnd, refl, Refuses, runs-mode, set-set, slice_set, slot, slot-put, slot-within, Some, SpaceView}
-use Rattle.calls.proofs.Common.{stands-set, State, state-waking, state_of, sym, taken-placed, taken_frames, true, view_at, waking, with_both, with_descriptor, with_pipe, with_process, within-run, within-space, WriteEnd, wrote, ℕ, ◌++◌, ◌+◌}
-use Rattle.calls.proofs.Common.{◌<◌, ◌∙◌, ◌≡◌}
+use Rattle.calls.proofs.Common.{[], Acts, answered, answered-here, Answers, ap, argument, arith, can_write, changed, clear, Close, close_row, count_by, Counted, counting, descriptors-run, descriptors_at, descriptors_in, Done, Dup}
+use Rattle.calls.proofs.Common.{dup-state, dup_row, false, free-here, free-None, free-opens, free-place, free-put, free_count, free_slot, held-here, Here, here-as, is_none, is_within, IsKernel, IsPlaced, IsServed, Kernel, le, length-set}
+use Rattle.calls.proofs.Common.{limited, List, low, me, memory_at, moved-state, None, opens-opened, Option, option_map, page_frames, Pipe, pipe_end, pipe_row, Places, Process, put, ReadEnd, refl, Refuses, set-set, slice_set, slot, slot-put}
+use Rattle.calls.proofs.Common.{slot-within, Some, SpaceView, State, state-but, state-waking, state_of, sym, taken-placed, taken_frames, true, waking, with_both, with_descriptor, WriteEnd, wrote, ℕ, ◌++◌, ◌+◌, ◌<◌, ◌∙◌, ◌≡◌}
+use Rattle.kernel.proofs.Runs.{match-active, match-place, over-state, live, runs-mode, stands-set, with_process, within-run, within-space}
+use Rattle.kernel.specs.Opening.{AreFree, closed_at, duplicated, Ends, HasClosed, HasPiped, pipe_file, piped}
 use Rattle.programs.proofs.Places.{length-write}
 use Rattle.files.specs.Places.{opened, opens_of}
-use Rattle.spaces.specs.Spaces.{written}
+use Rattle.spaces.specs.Spaces.{written, frames_in, with_pipe}
 use Rattle.unixmodel.specs.OpenFiles.{OpenFile}
-use Rattle.calls.proofs.Acts.{can-here, given-refused, makes, me, refused}
+use Rattle.calls.proofs.Acts.{can-here, given-refused, makes, refused, descriptor-is, settles, settles-gone}
 use Rattle.files.specs.declared.file.End.TheVariants as end
+use Rattle.kernel.proofs.Working.{close-reaps}
 
 -- ---- places
 
@@ -61,14 +63,14 @@ module _ {k : Kernel} {i : ℕ} (y : Here k i) (a : ℕ) (x : Ends) where
   placed = let l = live k i p y.held y.run y.sound in let placed = y.run.placed in record {
     zero = placed.zero;
     aligned = placed.aligned;
-    mode = runs-mode q h.memory p.mode y.run.runs (record { descriptors = length-set (put p.descriptors x.read_fd x.reader) x.write_fd (Some x.writer) ∙ length-set p.descriptors x.read_fd (Some x.reader) ∙ l.descriptors }) (not-killed k i p y.held y.run y.sound);
+    mode = runs-mode q h.memory p.mode y.run.runs (record { descriptors = length-set (put p.descriptors x.read_fd x.reader) x.write_fd (Some x.writer) ∙ length-set p.descriptors x.read_fd (Some x.reader) ∙ l.descriptors }) (free-here y);
   }
 
   abbrev to : Kernel
   to = record k { table = with_process k.table i q; spaces = record k.spaces { places = slice_set k.spaces.places i (Some h); pipes = put k.spaces.pipes x.pipe [] }; files = both }
 
   piped-is : wrote (piped k i x) i a bytes ≡ to
-  piped-is = rw (changed-twice k.table i p (with_descriptor x.read_fd (Some x.reader)) (with_descriptor x.write_fd (Some x.writer)) y.run.process, held-run k i p y.held y.run y.sound) refl
+  piped-is = rw (changed-twice k.table i p (with_descriptor x.read_fd (Some x.reader)) (with_descriptor x.write_fd (Some x.writer)) y.run.process, held-here y) refl
 
   -- a write takes no frame, and the pipe one
   to-frames : taken_frames to.spaces ≡ taken_frames (with_pipe k.spaces x.pipe (Some []))
@@ -97,11 +99,11 @@ module _ {k : Kernel} {i : ℕ} (y : Here k i) where
   names-here : descriptors_at k i ≡ y.process.descriptors
   names-here = ap descriptors_in y.run.process
 
-  pub pipe-unwritable : false ≡ can_write (view_at k.spaces i).memory (argument k 0) 8 → Acts k k i (Some Pipe) Refuses
+  pub pipe-unwritable : false ≡ can_write (memory_at k i) (argument k 0) 8 → Acts k k i (Some Pipe) Refuses
   unfolding pipe_row
   pipe-unwritable cannot = refused y (Some Pipe) (rw (can-here y (argument k 0) 8 cannot) refl)
 
-  module _ (can : true ≡ can_write (view_at k.spaces i).memory (argument k 0) 8) where
+  module _ (can : true ≡ can_write (memory_at k i) (argument k 0) 8) where
     -- both ends are open, and their descriptors are written
     pub pipe-opens : {q r w : ℕ} {mid : Kernel} → HasPiped k mid i q r w → {new : Kernel} → IsKernel new → new ≡ wrote mid i (argument k 0) (le 4 r ++ le 4 w) → Acts k new i (Some Pipe) (Answers 0)
     unfolding pipe_row
@@ -113,12 +115,12 @@ module _ {k : Kernel} {i : ℕ} (y : Here k i) where
         let two : free_slot (put y.process.descriptors x.read_fd x.reader) ≡ Some x.write_fd = rw (← names-here) free.write_fd in
         let bytes : le 4 r ++ le 4 w ≡ le 4 x.read_fd ++ le 4 x.write_fd = ap (λ (n : ℕ). le 4 n ++ le 4 w) (sym has.is.1) ∙ ap (λ (n : ℕ). le 4 x.read_fd ++ le 4 n) (sym has.is.2) in
         let last : new ≡ waking (wrote (piped k i x) i a (le 4 x.read_fd ++ le 4 x.write_fd)) mid.table.awake = made ∙ ap (wrote mid i a) bytes ∙ ap (λ (z : Kernel). wrote z i a (le 4 x.read_fd ++ le 4 x.write_fd)) has.same in
-        makes y Pipe 0 sound (ap (λ (z : Kernel). z.spaces.active) last ∙ y.run.active) (ap (λ (z : Kernel). z.tree) last)
-        (ap state_of last ∙ state-waking (wrote (piped k i x) i a (le 4 x.read_fd ++ le 4 x.write_fd)) mid.table.awake ∙ ap state_of (piped-is y a x) ∙ to-state y a x)
+        makes y Pipe 0 sound last refl refl
+        (state-waking (wrote (piped k i x) i a (le 4 x.read_fd ++ le 4 x.write_fd)) mid.table.awake ∙ ap state_of (piped-is y a x) ∙ to-state y a x)
         (rw (can-here y a 8 can, free.pipe, free.reader, free.writer, one, two) refl)
 
     -- and those may be
-    pub pipe-can : {q r w : ℕ} {mid : Kernel} → HasPiped k mid i q r w → (mid.spaces.active ≡ Some i) × (can_write (view_at mid.spaces i).memory (argument k 0) 8 ≡ true)
+    pub pipe-can : {q r w : ℕ} {mid : Kernel} → HasPiped k mid i q r w → (mid.spaces.active ≡ Some i) × (can_write (memory_at mid i) (argument k 0) 8 ≡ true)
     pipe-can has = rw has.same (y.run.active, sym can)
 
     -- some of the places isn't there, or the frames don't suffice
@@ -146,3 +148,27 @@ module _ {k : Kernel} {i : ℕ} (y : Here k i) where
         let there : Some b ≡ Some x.pipe = place ∙ free.pipe in
         let e : b ≡ x.pipe = cc in
         rw (← e) over)
+
+-- ---- dup and close: the lowest free descriptor of the running process names what another one names, or one is given up
+
+module _ {k : Kernel} {i : ℕ} (x : Here k i) where
+  -- ---- dup
+
+  pub dups : {d n fd : ℕ} → d ≡ low (argument k 0) → Some n ≡ slot (descriptors_at k i) d → free_slot (descriptors_at k i) ≡ Some fd → {new : Kernel} → new ≡ duplicated k i fd n → IsKernel new → Acts k new i (Some Dup) (Answers fd)
+  unfolding dup_row
+  dups {d} {n} {fd} is named free made sound =
+      let free' : free_slot x.process.descriptors ≡ Some fd = rw (← descriptors-run x.runner) free in
+      makes x Dup fd sound made refl refl (dup-state x.runner fd n) (rw (descriptor-is x is named, free') refl)
+
+  pub dup-full : free_slot (descriptors_at k i) ≡ None → Acts k k i (Some Dup) Refuses
+  unfolding dup_row
+  dup-full full = refused x (Some Dup) (given-refused (slot x.process.descriptors (low (argument k 0))) _ (λ n named. let full' : free_slot x.process.descriptors ≡ None = rw (← descriptors-run x.runner) full in rw full' refl))
+
+  -- ---- close
+
+  pub closes : {d n : ℕ} → d ≡ low (argument k 0) → Some n ≡ slot (descriptors_at k i) d → {new : Kernel} → IsKernel new → HasClosed k new i d n × IsServed k.tree new.tree → Acts k new i (Some Close) (Answers 0)
+  unfolding close_row
+  closes {d} {n} is named {new} sound told =
+      let reaped = close-reaps (answered-here x 0).runner d n (record { running = x.run.active; named = sym named; up = x.up }) ∙ sym (state-but (counting (answered (closed_at k i d n) 0) new.tree.failures) (ap (λ (z : Kernel). answered z 0) told.0)) in
+      settles x Close 0 (here-as x sound told.0 refl told.1.up) told.1
+      (rw (descriptor-is x is named) (settles-gone x (clear x.process.descriptors (low (argument k 0))) x.process.directory (length-set x.process.descriptors (low (argument k 0)) None) (rw (← is) reaped)))

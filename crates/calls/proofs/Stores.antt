@@ -1,23 +1,29 @@
 -- A read and a write of a file, whose offset goes on behind what was transferred.
-use Rattle.calls.proofs.Common.{[], advanced, and_parts, Answers, answers, ap, arith, blocks_of, Bool, bytes_of, bytes_read, cond_some, counting, Directory, Done, drop, false, File, file_at, file_of, Files, FileTree, FitsNode, GoesOn, low}
-use Rattle.calls.proofs.Common.{HasFetched, HasStored, here-in, if◌then◌else◌, IsKernel, IsServed, IsWhole, Kernel, leb-true, length, length-drop, length-take, List, longest, MayMove, minus_one, moved, nat_le, Node, node_bytes, None}
-use Rattle.calls.proofs.Common.{none-some, OnNode, opens-moved, Option, option_map, overwrite, Pending, pending_arg, put, put_process, read_file, read_node, read_on, refl, Refused, Refuses, room_for, same_Some, slot, Some, State, state_of}
-use Rattle.calls.proofs.Common.{subst, sym, take, target_of, Transfers, true, Uses, with_file, with_offset, with_tree, write_bytes, write_node, write_on, wrote, wrote-state, ℕ, ◌&&◌, ◌+◌, ◌<◌, ◌==◌, ◌^◌, ◌∙◌, ◌≡◌, ◌≤◌}
+use Rattle.calls.proofs.Common.{[], Acts, and_parts, Answers, answers, ap, argument, arith, blocks_of, Bool, bytes_of, bytes_read, can_write, cond_some, counting, descriptors_at, Directory, Done, drop, Err, false, File, file-opens, file_at}
+use Rattle.calls.proofs.Common.{file_of, Files, FileTree, FitsNode, Fstat, fstat_row, given, GoesOn, HasRead, Here, here-as, here-in, if◌then◌else◌, InodeStat, IsKernel, IsServed, IsWhole, Kernel, le, leb-true, length, length-drop}
+use Rattle.calls.proofs.Common.{length-take, limited, List, longest, low, me, memory_at, minus_one, nat_le, Node, node_bytes, node_of, node_on, None, none-some, Ok, OnNode, opens-moved, Option, option_map, Outcome, Pending, pending_arg}
+use Rattle.calls.proofs.Common.{provided, put, put_process, read_on, refl, Refused, Refuses, room_for, row, row_of, same_Some, slot, Some, stat_bytes, stat_told, State, state_of, subst, sym, take, Target, target_of, Tells, Transfers, true}
+use Rattle.calls.proofs.Common.{Uses, wanted, with_tree, write_bytes, write_on, wrote, wrote-state, zeros, ℕ, ◌%◌, ◌&&◌, ◌+◌, ◌/◌, ◌<◌, ◌==◌, ◌^◌, ◌∙◌, ◌∷◌, ◌≡◌, ◌≤◌}
+use Rattle.unixmodel.specs.FileCalls.{node_number, read_file, read_node, with_file, with_offset, write_node}
+use Rattle.kernel.specs.Opening.{advanced, HasFetched, HasStored, MayMove}
 use Rattle.tree.proofs.Storing.{whole-node}
 use Rattle.files.specs.declared.file.End.{End}
 use Rattle.files.specs.declared.file.OpenFile.{OpenFile}
-use Rattle.files.specs.Places.{opens_of}
+use Rattle.files.specs.Places.{opens_of, moved, node_at, node_from}
 use Rattle.file_transfers.proofs.Fits.{greatest-low}
 use Rattle.kernel.proofs.Joined.{IsNamed}
 use Rattle.tree.specs.Stored.{FitsPlaces}
 use Rattle.tree.specs.Written.{count_of, files_after, fitting, IsFile, with_bytes, Written, written}
 use Rattle.unixmodel.specs.Image.{KeepsSize}
-use Rattle.calls.proofs.Acts.{goes-serves, going, going-here, me, refused, refuses-on}
-use Rattle.calls.proofs.Transfers.{file, file-fits, file-named, given_bytes, going-is, length-given, named-file, read-given, here}
+use Rattle.calls.proofs.Acts.{goes-serves, going, going-here, refused, refuses-on, can-here, descriptor-is, does}
+use Rattle.calls.proofs.Transfers.{file, file-fits, file-named, given_bytes, going-is, length-given, named-file, read-given, here, fits-at}
 use Rattle.files.specs.declared.file.End.TheVariants as end
 use Rattle.files.specs.declared.file.Target.TheVariants as target
 use Rattle.unixmodel.specs.OpenFiles as unix_files
 use Rattle.unixmodel.specs.Process as unix
+use Rattle.std.proofs.Math.Nat.{div-div-eq-div-mul}
+use Rattle.files.specs.declared.table.FileFault.{FileFault}
+use Rattle.unixmodel.specs.Memory.{overwrite}
 
 -- a number that is no more than another one is its low 32 bits, where that one is
 low-same : (n m : ℕ) → n ≤ m → m < 2 ^ 32 → low n ≡ n
@@ -44,7 +50,7 @@ module _ {k : Kernel} {i : ℕ} {e : End} {number offset : ℕ} {w : Pending} (g
       let at = (file g).number in
       let made : new ≡ advanced z at (offset + n) = is ∙ ap (λ (j : ℕ). advanced m j (offset + l)) named ∙ ap (λ (d : ℕ). advanced m at (offset + d)) (cut ∙ same) ∙ ap (λ (y : Kernel). advanced y at (offset + n)) left in
       let tree : new.tree ≡ m.tree = ap (λ (y : Kernel). y.tree) is in
-      goes-serves (here g) w answer (here-in sound (ap (λ (y : Kernel). y.spaces.active) made ∙ active ∙ (here g).run.active) (ap (λ (t : FileTree). t.failed) tree ∙ served.up)) (rw tree served) (row ∙ ap (λ (s : State). Done s answer []) (sym (ap state_of made)))
+      goes-serves (here g) w answer (here-as (here g) sound made active (ap (λ (t : FileTree). t.failed) tree ∙ served.up)) (rw tree served) (row ∙ ap (λ (s : State). Done s answer []) (sym (ap state_of made)))
 
 -- ---- a read
 
@@ -71,7 +77,7 @@ module _ {k : Kernel} {i : ℕ} {w : Pending} {number offset : ℕ} (u : Uses k 
   g = u.goes
 
   abbrev count : ℕ
-  count = low (pending_arg w 2)
+  count = wanted w
 
   abbrev address : ℕ
   address = pending_arg w 1
@@ -113,23 +119,24 @@ module _ {k : Kernel} {i : ℕ} {w : Pending} {number offset : ℕ} (u : Uses k 
     abbrev left : ℕ → ℕ → List ℕ → State
     left o at bs = record (put_process (state_of k) i (record (me (here g)) { memory = write_bytes (here g).held.memory at bs })) { opens = put (opens_of k.files) (file g).number (record (file_of (file g).file) { target = OnNode number (offset + o) }) }
 
+    left-is : state_of (advanced (counting (wrote k i address piece) m.tree.failures) (file g).number (offset + n)) ≡ left n address piece
+    left-is =
+        ap (λ (s : State). record s { opens = opens_of (moved k.files (file g).number (offset + n)) }) (wrote-state (here g).run (here g).sound address piece)
+        ∙ ap (λ (os : List (Option unix_files.OpenFile)). record (left n address piece) { opens = os }) (moved-opens g n reads-within)
+
     pub reads-done : {new : Kernel} {id l : ℕ} → id ≡ (file g).number → l ≡ low n → new ≡ advanced m id (offset + l) → IsKernel new → IsServed k.tree m.tree → GoesOn k new i w (Answers n)
     reads-done named cut is sound served =
         let c = content in
-        let x = here g in
         let start = u.start in
         let from : address + w.done ≡ address = omega (arith, start) in
-        let state : state_of (advanced (counting (wrote k i address piece) m.tree.failures) (file g).number (offset + n)) ≡ left n address piece =
-        ap (λ (s : State). record s { opens = opens_of (moved k.files (file g).number (offset + n)) }) (wrote-state x.run x.sound address piece)
-        ∙ ap (λ (os : List (Option unix_files.OpenFile)). record (put_process (state_of k) i (record (me x) { memory = write_bytes x.held.memory address piece })) { opens = os }) (moved-opens g n reads-within) in
         moves-done g n reads-within told.same refl named cut is sound served n (
         going-is g
-        ∙ reads-file (state_of k) i (me x) w (file_of (file g).file) (file-named g) number offset (ap target_of (file g).on) c.node c.here
-        ∙ c.reads (state_of k) i (me x) w (file g).number (file_of (file g).file) number offset
+        ∙ reads-file (state_of k) i (me (here g)) w (file_of (file g).file) (file-named g) number offset (ap target_of (file g).on) c.node c.here
+        ∙ c.reads (state_of k) i (me (here g)) w (file g).number (file_of (file g).file) number offset
         ∙ ap (λ (at : ℕ). Done (left (length bytes) at bytes) (length bytes) []) from
         ∙ ap (λ (bs : List ℕ). Done (left (length bs) address bs) (length bs) []) (sym piece-is)
         ∙ ap (λ (o : ℕ). Done (left o address piece) o []) (sym told.counted)
-        ∙ ap (λ (s : State). Done s n []) (sym state))
+        ∙ ap (λ (s : State). Done s n []) (sym left-is))
 
 -- ---- a write: the row
 
@@ -200,8 +207,8 @@ module _ {k : Kernel} {i : ℕ} {w : Pending} {number offset : ℕ} (u : Uses k 
   stores-row = let f = file-named to in going-is to ∙ rw (f.named, f.opened, read-given to, (file to).on, is-file.here) refl
 
   -- m is what the write left
-  module _ {m : Kernel} {c : ℕ} {r : Option ℕ} (wide : c ≡ low (pending_arg w 2)) (stores : HasStored k m i number offset (pending_arg w 1) c r) where
-    stored : HasStored k m i number offset (pending_arg w 1) (low (pending_arg w 2)) r
+  module _ {m : Kernel} {c : ℕ} {r : Option ℕ} (wide : c ≡ wanted w) (stores : HasStored k m i number offset (pending_arg w 1) c r) where
+    stored : HasStored k m i number offset (pending_arg w 1) (wanted w) r
     stored = rw wide at stores
 
     -- nothing is written
@@ -228,15 +235,114 @@ module _ {k : Kernel} {i : ℕ} {w : Pending} {number offset : ℕ} (u : Uses k 
       pub writes-may : {id l : ℕ} → id ≡ (file to).number → l ≡ low n → MayMove m id (offset + l)
       writes-may = moves-may to n writes-within (ap (λ (y : Kernel). y.files) stored.same)
 
+      abbrev z : Kernel
+      z = with_tree k (record k.tree { files = files_after k.tree.files went; failures = m.tree.failures })
+
+      abbrev kept : ℕ → State
+      kept o = record (with_offset (state_of k) (file to).number (file_of (file to).file) number (offset + o)) { files = written-so.0.files }
+
+      kept-is : state_of (advanced z (file to).number (offset + n)) ≡ kept n
+      kept-is =
+          ap (λ (o : Option Written). record (state_of k) { files = files_after k.tree.files o; opens = opens_of (moved k.files (file to).number (offset + n)) }) written-so.1
+          ∙ ap (λ (os : List (Option unix_files.OpenFile)). record (kept n) { opens = os }) (moved-opens to n writes-within)
+
       pub writes-done : {last : Kernel} {id l : ℕ} → id ≡ (file to).number → l ≡ low n → last ≡ advanced m id (offset + l) → IsKernel last → IsServed k.tree m.tree → {answer : ℕ} → answer ≡ (if n == c then n else minus_one) → GoesOn k last i w (Answers answer)
       writes-done named cut is sound served {answer} answers =
-          let at = (file to).number in
-          let z = with_tree k (record k.tree { files = files_after k.tree.files went; failures = m.tree.failures }) in
-          let state : state_of (advanced z at (offset + n)) ≡ record (with_offset (state_of k) at (file_of (file to).file) number (offset + n)) { files = written-so.0.files } =
-          ap (λ (o : Option Written). record (state_of k) { files = files_after k.tree.files o; opens = opens_of (moved k.files at (offset + n)) }) written-so.1
-          ∙ ap (λ (os : List (Option unix_files.OpenFile)). record (state_of k) { files = written-so.0.files; opens = os }) (moved-opens to n writes-within) in
           moves-done to n writes-within stored.same refl named cut is sound served answer (
           stores-row ∙ store-is.row
-          ∙ ap (λ (o : ℕ). Done (record (with_offset (state_of k) at (file_of (file to).file) number (offset + o)) { files = written-so.0.files }) (if o == length (given_bytes to) then o else minus_one) []) written-so.2
-          ∙ ap (λ (s : State). Done s (if n == length (given_bytes to) then n else minus_one) []) (sym state)
-          ∙ ap (λ (o : ℕ). Done (state_of (advanced z at (offset + n))) o []) (ap (λ (l : ℕ). if n == l then n else minus_one) (length-given to ∙ sym wide) ∙ sym answers))
+          ∙ ap (λ (o : ℕ). Done (kept o) (if o == length (given_bytes to) then o else minus_one) []) written-so.2
+          ∙ ap (λ (s : State). Done s (if n == length (given_bytes to) then n else minus_one) []) (sym kept-is)
+          ∙ ap (λ (o : ℕ). Done (state_of (advanced z (file to).number (offset + n))) o []) (ap (λ (l : ℕ). if n == l then n else minus_one) (length-given to ∙ sym wide) ∙ sym answers))
+
+-- ---- fstat: a node tells of itself
+
+-- ---- bytes of numbers
+
+pub le-4 : (x : ℕ) → x % 256 ∷ x / 256 % 256 ∷ x / 65536 % 256 ∷ x / 16777216 % 256 ∷ [] ≡ le 4 x
+le-4 x = simp div-div-eq-div-mul
+
+pub le-8 : (x : ℕ) → x % 256 ∷ x / 256 % 256 ∷ x / 65536 % 256 ∷ x / 16777216 % 256 ∷ x / 4294967296 % 256 ∷ x / 1099511627776 % 256 ∷ x / 281474976710656 % 256 ∷ x / 72057594037927936 % 256 ∷ [] ≡ le 8 x
+le-8 x = simp div-div-eq-div-mul
+
+-- ---- the node of an open file
+
+from-ok : (o : Option ℕ) (n : ℕ) → node_from o ≡ Ok n → o ≡ Some n
+from-ok None n e = absurd (cc)
+from-ok (Some m) n e = let same : m ≡ n = cc in ap Some same
+
+node-named : (o : Option OpenFile) (n : ℕ) → node_at o ≡ Ok n → (f : OpenFile) × (o ≡ Some f) × (node_number (target_of f.target) ≡ Some n)
+node-named None n e = absurd (cc)
+node-named (Some f) n e = (f, refl, from-ok (node_number (target_of f.target)) n e)
+
+no-number : (o : Option ℕ) (fault : FileFault) → node_from o ≡ Err fault → (rest : ℕ → Outcome) → limited (given o rest) ≡ Refused
+no-number None fault e rest = refl
+no-number (Some n) fault e rest = absurd (cc)
+
+no-node : (o : Option OpenFile) (fault : FileFault) → node_at o ≡ Err fault → (rest : unix_files.OpenFile → ℕ → Outcome) → limited (given (option_map file_of o) (λ f. given (node_number f.target) (rest f))) ≡ Refused
+no-node None fault e rest = refl
+no-node (Some f) fault e rest = no-number (node_number (target_of f.target)) fault e (rest (file_of f))
+
+node-on : (t : Target) → node_on t ≡ node_number (target_of t)
+node-on (target.Pipe q e) = refl
+node-on _ = refl
+
+-- it is there
+node-there : (f : OpenFile) (t : Target) (n : ℕ) (o : Option Node) → node_on t ≡ Some n → FitsNode f t o → (node : Node) × (o ≡ Some node)
+node-there f t n (Some node) on fits = (node, refl)
+node-there f (target.Pipe q e) n None on fits = absurd (none-some n on)
+node-there f _ n None on fits = absurd fits
+
+told-is : (n : ℕ) (told : InodeStat) (node : Node) → Tells told node → stat_told n told ≡ stat_bytes n node
+unfolding stat_told stat_bytes
+told-is n told node t = rw (t.0, t.1, t.2) refl
+
+length-told : (n : ℕ) (told : InodeStat) → length (stat_told n told) ≡ 24
+unfolding stat_told zeros
+length-told n _ = refl
+
+-- ---- the row
+
+module _ {k : Kernel} {i : ℕ} (x : Here k i) {d id : ℕ} (is : d ≡ low (argument k 0)) (named : Some id ≡ slot (descriptors_at k i) d) where
+  named-here : slot x.process.descriptors (low (argument k 0)) ≡ Some id
+  named-here = descriptor-is x is named
+
+  pub fstat-nodeless : {fault : FileFault} → Err fault ≡ node_at (file_at k.files id) → Acts k k i (Some Fstat) Refuses
+  unfolding fstat_row
+  fstat-nodeless {fault} none = refused x (Some Fstat) (rw (named-here, file-opens k.files id) (no-node (file_at k.files id) fault (sym none) _))
+
+  module _ {n : ℕ} (on : Ok n ≡ node_at (file_at k.files id)) where
+    open-on : (f : OpenFile) × (file_at k.files id ≡ Some f) × (node_number (target_of f.target) ≡ Some n)
+    open-on = node-named (file_at k.files id) n (sym on)
+
+    pub fstat-there : (node : Node) × (slot k.tree.files n ≡ Some node)
+    fstat-there =
+        let f = open-on.0 in
+        let used = x.sound.used x.up in
+        let on = node-on f.target ∙ open-on.2 in
+        node-there f f.target n (slot k.tree.files n) on (subst (λ o. FitsNode f f.target (node_of k.tree.files o)) on (fits-at used id f open-on.1))
+
+    abbrev told_bytes : List ℕ
+    told_bytes = stat_bytes n fstat-there.0
+
+    abbrev writes : Outcome
+    writes = answers (put_process (state_of k) i (record (me x) { memory = write_bytes x.held.memory (argument k 1) told_bytes })) 0
+
+    fstat-row : row_of x Fstat ≡ provided (can_write x.held.memory (argument k 1) 24) writes
+    unfolding fstat_row
+    fstat-row = rw (named-here, file-opens k.files id, open-on.1, open-on.2, fstat-there.1) refl
+
+    pub fstat-unwritable : false ≡ can_write (memory_at k i) (argument k 1) 24 → Acts k k i (Some Fstat) Refuses
+    fstat-unwritable cannot = refused x (Some Fstat) (ap limited (fstat-row ∙ ap (λ (b : Bool). provided b writes) (can-here x (argument k 1) 24 cannot)))
+
+    -- the node was told, and its bytes are written
+    module _ (can : true ≡ can_write (memory_at k i) (argument k 1) 24) {read : Kernel} (has : HasRead k read) {a : ℕ} (is-a : a ≡ argument k 1) (told : InodeStat) {bytes : List ℕ} (numbers : bytes ≡ stat_told n told) where
+      pub fstat-can : can_write (memory_at read i) a (length bytes) ≡ true
+      fstat-can = ap (λ (y : Kernel). can_write (memory_at y i) a (length bytes)) has.same ∙ rw (is-a, ap length numbers ∙ length-told n told) (sym can)
+
+      pub fstat-acts : ((node : Node) → slot k.tree.files n ≡ Some node → Tells told node) → {new : Kernel} → new ≡ wrote read i a bytes → IsKernel new → Acts k new i (Some Fstat) (Answers 0)
+      fstat-acts tells {new} is sound =
+          let from = counting k read.tree.failures in
+          let made : new ≡ wrote from i (argument k 1) told_bytes =
+          is ∙ ap (λ (y : Kernel). wrote y i a bytes) has.same ∙ ap (λ m. wrote from i m bytes) is-a ∙ ap (wrote from i (argument k 1)) (numbers ∙ told-is n told fstat-there.0 (tells fstat-there.0 fstat-there.1)) in
+          rw made (does x Fstat 0 (here-in (subst IsKernel made sound) x.run.active x.up) (record { up = x.up; same_device = refl; later = has.later }) (
+          fstat-row ∙ ap (λ (b : Bool). provided b writes) (can-here x (argument k 1) 24 can) ∙ ap (λ (s : State). Done s 0 []) (sym (wrote-state x.run x.sound (argument k 1) told_bytes))))

@@ -1,15 +1,21 @@
 -- Events: a tick, a key, and a step, in which the running process does an instruction, or a process is picked where none runs.
-use Rattle.calls.proofs.Common.{acted, After, ap, Appends, Bool, called, called_by, Came, CanRun, CanWait, computed, computed-is, Console, counting, descriptors_in, DeviceFault, Dispatches, effect_of, end_process, ended, ends-run, Err}
-use Rattle.calls.proofs.Common.{EventGives, execute, execute_at, false, goes_on, GoesOn, going_at, going_by, Halt, halt_of, held-run, IfOk, if◌then◌else◌, is_ecall, IsAlive, IsAwaiting, IsKernel, IsLive, IsMade, IsMode, IsPending, IsThere}
-use Rattle.calls.proofs.Common.{Kernel, kernel-waking, Key, key, List, lives, me_of, Memory, memory_after, Mode, moved-state, negsuc, no_pages, None, Ok, OnOk, Option, Pending, pick, picked, picked-state, picks-killed, picks-ready}
-use Rattle.calls.proofs.Common.{placed-with, Process, process-idle, process-run, process_at, quiet, Ready, refl, Result, resume, resumed, resumed_by, resumed_in, run, run-of, Runner, Running, running-state, Runs, settle, settled_by}
-use Rattle.calls.proofs.Common.{slice_index, slot, Some, SpaceView, started, started-is, started-kernel, started-run, started-state, started_to, State, state-but, state-waking, state_of, Step, step, stopped_at, stops-run, subst, sym}
-use Rattle.calls.proofs.Common.{take_turn, taken_by, there-of, Tick, ticked, true, turn, turn-alive, typed, unwrap_or, view_at, Waiting, WaitsAs, WaitsIn, WaitsWell, waking, with_space, ℕ, ℤ, ◌%◌, ◌+◌, ◌^◌, ◌∙◌, ◌≡◌, Appends-nil}
+use Rattle.calls.proofs.Common.{After, ap, Appends, Appends-nil, Bool, called, called_by, Came, CanWait, computed, Console, counting, descriptors_in, DeviceFault, Dispatches, effect_of, end_process, ended, ends-run, Err, EventGives}
+use Rattle.calls.proofs.Common.{execute, execute_at, false, goes_on, GoesOn, going_at, going_by, Halt, halt_of, IfOk, if◌then◌else◌, IsKernel, IsMade, IsPending, Kernel, kernel-waking, Key, key, List, lives, me_of, Memory, memory_at}
+use Rattle.calls.proofs.Common.{moved-state, negsuc, no_pages, None, Ok, OnOk, Option, Pending, picked, Process, process-run, process_at, quiet, refl, Result, resume, Runner, running-state, Runs, settle, settled_by, slice_index, slot, Some}
+use Rattle.calls.proofs.Common.{SpaceView, started, State, state-but, state-waking, state_of, Step, step, stopped_at, stops-run, subst, sym, take_turn, Tick, ticked, true, turn, turn-alive, typed, unwrap_or, waking, with_space, ℕ, ℤ, ◌%◌}
+use Rattle.calls.proofs.Common.{◌+◌, ◌^◌, ◌∙◌, ◌≡◌}
+use Rattle.unixmodel.specs.declared.process.Mode.TheVariants.{Ready, Running, Waiting}
+use Rattle.kernel.proofs.Changes.{picked-state, picks-killed, picks-ready, started-is, started-kernel, started-run, started-state, started_to}
+use Rattle.unixmodel.specs.declared.process.Mode.{Mode}
+use Rattle.kernel.proofs.Runs.{IsRun, IsThere, process-idle, run-of, there-of}
+use Rattle.kernel.proofs.Steps.{computed-is, held-run, placed-with}
+use Rattle.kernel.specs.Sound.{CanRun, IsAlive, IsAwaiting, IsLive, IsMode, WaitsAs, WaitsWell}
+use Rattle.unixmodel.specs.Next.{acted, is_ecall, memory_after, pick}
 use Rattle.unixmodel.specs.Cycle.{cycle}
 use Rattle.unixmodel.specs.declared.trap.Trap.{Trap}
 use Rattle.unixmodel.specs.Meaning.{Computed}
 use Rattle.calls.specs.declared.halt.Halt.TheVariants.{Device}
-use Rattle.calls.specs.Resuming.{taken}
+use Rattle.calls.specs.Resuming.{taken, resumed, resumed_by, resumed_in, taken_by, WaitsIn}
 use Rattle.unixmodel.specs.Next as next
 use Rattle.unixmodel.specs.Process as unix
 
@@ -67,18 +73,18 @@ does-err new a b before after rising _ same made = absurd made
 -- ---- the running process
 
 module _ {k : Kernel} {i : ℕ} (x : Runner k i) where
-  effect-run : {r : Result Computed Trap} → cycle k.spaces.registers k.spaces.pc (view_at k.spaces i).memory ≡ r → execute_at (state_of k) i (process_at (state_of k) i) ≡ acted (state_of k) i (me_of x) r
+  effect-run : {r : Result Computed Trap} → cycle k.spaces.registers k.spaces.pc (memory_at k i) ≡ r → execute_at (state_of k) i (process_at (state_of k) i) ≡ acted (state_of k) i (me_of x) r
   unfolding execute effect_of
   effect-run means =
       ap (execute_at (state_of k) i) (process-run k i x.process x.held x.run)
       ∙ ap (acted (state_of k) i (me_of x)) (ap (λ (h : SpaceView). cycle k.spaces.registers k.spaces.pc h.memory) (sym (held-run k i x.process x.held x.run x.sound)) ∙ means)
 
-  pub step-computes : {d : Computed} → cycle k.spaces.registers k.spaces.pc (view_at k.spaces i).memory ≡ Ok d → execute_at (state_of k) i (process_at (state_of k) i) ≡ quiet (state_of (computed k i d))
+  pub step-computes : {d : Computed} → cycle k.spaces.registers k.spaces.pc (memory_at k i) ≡ Ok d → execute_at (state_of k) i (process_at (state_of k) i) ≡ quiet (state_of (computed k i d))
   step-computes {d} means =
       effect-run means
       ∙ ap quiet (sym (ap state_of (computed-is k i x.process x.held x.run x.sound d) ∙ moved-state k i x.process x.held x.run x.sound x.process (record x.held { memory = memory_after x.held.memory d.change }) d.regs d.pc (placed-with k i x.process x.held x.run x.sound (record x.held { memory = memory_after x.held.memory d.change })) x.run.runs))
 
-  module _ {t : Trap} (means : cycle k.spaces.registers k.spaces.pc (view_at k.spaces i).memory ≡ Err t) where
+  module _ {t : Trap} (means : cycle k.spaces.registers k.spaces.pc (memory_at k i) ≡ Err t) where
     pub step-calls : is_ecall t.cause ≡ true → execute_at (state_of k) i (process_at (state_of k) i) ≡ called (state_of k) i
     step-calls ecall = effect-run means ∙ rw ecall (sym (ap (called_by (state_of k) i) (process-run k i x.process x.held x.run)))
 
@@ -160,23 +166,23 @@ module _ (k : Kernel) (i : ℕ) (p : Process) (h : SpaceView) (w : Pending) (is 
   awaits : IsAwaiting k.files p.descriptors w
   awaits = subst (WaitsAs k.files p.descriptors) f.waits (subst (WaitsWell k.files) f.there.process (is.opened.waits i))
 
+  runs : IsRun to i (record p { mode = Running }) h
+  runs = started-run k i p h is none f.there f.alive f.live f.free
+
   goes : resumed (state_of k) i ≡ settle (state_of to) i (going_at (state_of to) i w)
   unfolding resume
   goes =
-      let run = started-run k i p h is none f.there f.alive f.live f.free in
       ap (resumed_by (state_of k) i) (process-idle k i none f.there)
       ∙ ap (resumed_in (state_of k) i (with_space h p)) f.waits
       ∙ ap (λ (s : State). settle s i (goes_on s i (with_space h (record p { mode = Running })) w w.number)) (sym (started-state k i p h is none f.there f.alive f.live f.free))
-      ∙ sym (ap (λ (o : Option unix.Process). settle (state_of to) i (going_by (state_of to) i w o)) (process-run to i (record p { mode = Running }) h run))
+      ∙ sym (ap (λ (o : Option unix.Process). settle (state_of to) i (going_by (state_of to) i w o)) (process-run to i (record p { mode = Running }) h runs))
 
   resting : Resumes k to i w
-  resting =
-      let run = started-run k i p h is none f.there f.alive f.live f.free in
-      record {
-        runs = record { active = refl; up = up; sound = started-kernel k i p h is none f.there f.alive f.live f.free; zero = f.there.placed.zero; aligned = f.there.placed.aligned };
-        can = (rw (ap descriptors_in run.process, ap (λ (o : Option SpaceView). unwrap_or o no_pages) run.space) f.pending, rw (ap descriptors_in run.process) awaits);
-        row = goes;
-      }
+  resting = record {
+    runs = record { active = refl; up = up; sound = started-kernel k i p h is none f.there f.alive f.live f.free; zero = f.there.placed.zero; aligned = f.there.placed.aligned };
+    can = (rw (ap descriptors_in runs.process, ap (λ (o : Option SpaceView). unwrap_or o no_pages) runs.space) f.pending, rw (ap descriptors_in runs.process) awaits);
+    row = goes;
+  }
 
 module _ {k : Kernel} (i : ℕ) (w : Pending) (is : IsKernel k) (none : k.spaces.active ≡ None) (up : k.tree.failed ≡ false) (waits : WaitsIn (slot k.table.places i) w) where
   pub waiting-can : CanRun (slot k.table.places i)

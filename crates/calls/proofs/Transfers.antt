@@ -1,18 +1,20 @@
 -- How a read and a write begin, and what they go on with: their tests are the same.
-use Rattle.calls.proofs.Common.{Acts, ActsOnDisk, Answers, ap, arg, argument, arith, Begins, Bool, bytes_given, bytes_in, call_on, Came, can_transfer, can_write, CanWait, cast_signed, cast_unsigned, cond_some, Counted, descriptors_at}
-use Rattle.calls.proofs.Common.{descriptors_in, DeviceFault, Directory, Err, false, false≢true, File, file-at, file-opens, file_at, file_named, file_of, Files, FileTree, FitsFiles, FitsNode, given, goes_on, GoesOnDisk, held-run, Here}
-use Rattle.calls.proofs.Common.{here-of, IfSome, if◌then◌else◌, int_of, is_on_pipe, is_some, is_usable, is_usable_node, IsFileAt, IsFresh, IsInUse, IsPending, IsSome, Kernel, leb-true, length, length-take-le, limited, List, Load, low}
-use Rattle.calls.proofs.Common.{MayUse, Memory, nat_le, natural, negsuc, Node, node_of, node_on, None, none-some, of_z-to_z, Ok, open-named, Option, option_and_then, option_map, Outcome, Pending, pending_arg, pending_for, pending_of, pos}
-use Rattle.calls.proofs.Common.{Process, provided, reach, read_bytes, read_row, refl, Refuses, Result, result_ok, row, Runs, same_Some, slot, Some, some-pipe, SpaceView, Stands, stands-open, State, state_of, subst, suc, sym, take, Target}
-use Rattle.calls.proofs.Common.{target_for, target_named, target_of, Transfers, true, unless_empty, view_at, write_row, zero, ℕ, ℤ, ◌&&◌, ◌<◌, ◌^◌, ◌∙◌, ◌≡◌, ◌≢◌, usable, Refused}
+use Rattle.calls.proofs.Common.{Acts, ActsOnDisk, Answers, ap, arg, argument, arith, Bool, bytes_given, bytes_in, Came, can_write, CanWait, cast_signed, cast_unsigned, cond_some, Counted, descriptors_at, descriptors_in, DeviceFault}
+use Rattle.calls.proofs.Common.{Directory, Err, false, false≢true, File, file-opens, file_at, file_named, file_of, Files, FileTree, FitsFiles, FitsNode, given, goes_on, GoesOnDisk, held-here, Here, here-of, IfSome, if◌then◌else◌, int_of}
+use Rattle.calls.proofs.Common.{is_on_pipe, is_some, IsFresh, IsInUse, IsPending, IsSome, Kernel, leb-true, length, length-take-le, limited, List, Load, low, me, Memory, memory_at, nat_le, natural, negsuc, Node, node_of, node_on, None}
+use Rattle.calls.proofs.Common.{none-some, of_z-to_z, Ok, Option, option_and_then, option_map, Outcome, Pending, pending_arg, pending_for, pending_of, pos, Process, provided, reach, read_bytes, read_row, refl, Refused, Refuses, Result}
+use Rattle.calls.proofs.Common.{result_ok, row, row_of, Runs, same_Some, slot, Some, some-pipe, SpaceView, Stands, stands-open, State, state_of, subst, suc, sym, take, Target, target_of, Transfers, true, wanted, write_row, zero, ℕ, ℤ, ◌&&◌}
+use Rattle.calls.proofs.Common.{◌<◌, ◌^◌, ◌∙◌, ◌≡◌, ◌≢◌}
+use Rattle.unixmodel.specs.FileCalls.{is_usable, is_usable_node, unless_empty}
+use Rattle.calls.specs.Transfers.{Begins, call_on, can_transfer, MayUse, target_for, target_named}
 use Rattle.std.specs.Int.{w32}
-use Rattle.kernel.proofs.Joined.{IsNamed}
+use Rattle.kernel.proofs.Joined.{IsNamed, file-at, IsFileAt, open-named}
 use Rattle.files.specs.declared.file.End.{End}
 use Rattle.files.specs.declared.file.End.TheVariants.{Read, Write}
 use Rattle.files.specs.declared.file.OpenFile.{OpenFile}
-use Rattle.files.specs.Places.{opens_of}
+use Rattle.files.specs.Places.{opens_of, usable}
 use Rattle.unixmodel.specs.Files.Node.{Device}
-use Rattle.calls.proofs.Acts.{going, going-here, makes, me, outcome-here, refused}
+use Rattle.calls.proofs.Acts.{going, going-here, makes, outcome-here, refused}
 use Rattle.files.specs.declared.file.Target.TheVariants as target
 use Rattle.unixmodel.specs.OpenFiles as unix_files
 use Rattle.unixmodel.specs.Process as unix
@@ -169,14 +171,14 @@ module _ {k : Kernel} {i : ℕ} (x : Here k i) (e : End) {r : Option Target} (fo
   abbrev w : Pending
   w = pending_for k (call_on e)
 
-  row-here : row (state_of k) i (me x) (call_on e) ≡ given r (λ t. rest)
+  row-here : row_of x (call_on e) ≡ given r (λ t. rest)
   row-here =
       row-files e k i (me x)
       ∙ ap (λ (o : Option Process). filed e (state_of k) (file_named k.files (descriptors_in o) (low (argument k 0))) rest) (sym x.run.process)
       ∙ filed-is named e (state_of k) rest (fits-named (x.sound.used x.up) (slot (descriptors_at k i) (low (argument k 0))))
       ∙ ap (λ (o : Option Target). given o (λ t. rest)) (sym found)
 
-  refuses : row (state_of k) i (me x) (call_on e) ≡ Refused → Acts k k i (Some (call_on e)) Refuses
+  refuses : row_of x (call_on e) ≡ Refused → Acts k k i (Some (call_on e)) Refuses
   refuses is = refused x (Some (call_on e)) (ap limited is)
 
   pub begins-unnamed : r ≡ None → Acts k k i (Some (call_on e)) Refuses
@@ -189,7 +191,7 @@ module _ {k : Kernel} {i : ℕ} (x : Here k i) (e : End) {r : Option Target} (fo
     on : target_named k i (low (argument k 0)) ≡ Some t
     on = ap (option_map (λ (f : OpenFile). f.target)) for-it.1 ∙ ap Some for-it.2.on
 
-    row-counted : row (state_of k) i (me x) (call_on e) ≡ rest
+    row-counted : row_of x (call_on e) ≡ rest
     row-counted = row-here ∙ rw is refl
 
     pub begins-below : o ≡ None → Acts k k i (Some (call_on e)) Refuses
@@ -200,14 +202,14 @@ module _ {k : Kernel} {i : ℕ} (x : Here k i) (e : End) {r : Option Target} (fo
       count = sym told ∙ some
 
       pub begins-nothing : n ≡ 0 → Acts k k i (Some (call_on e)) (Answers 0)
-      begins-nothing none = makes x (call_on e) 0 x.sound x.run.active refl refl (row-counted ∙ rw (count, none) refl)
+      begins-nothing none = makes x (call_on e) 0 x.sound refl refl refl refl (row-counted ∙ rw (count, none) refl)
 
-      module _ (more : n ≢ 0) {b : Bool} (can : b ≡ can_transfer e (view_at k.spaces i).memory (argument k 1) n) where
-        row-tested : row (state_of k) i (me x) (call_on e) ≡ provided b (going x w)
+      module _ (more : n ≢ 0) {b : Bool} (can : b ≡ can_transfer e (memory_at k i) (argument k 1) n) where
+        row-tested : row_of x (call_on e) ≡ provided b (going x w)
         row-tested =
             row-counted
             ∙ rw count (unless-some (state_of k) n (provided (can_transfer e x.held.memory (argument k 1) n) (going x w)) (omega arith))
-            ∙ ap (λ (b : Bool). provided b (going x w)) (ap (λ (h : SpaceView). can_transfer e h.memory (argument k 1) n) (sym (held-run k i x.process x.held x.run x.sound)) ∙ sym can)
+            ∙ ap (λ (b : Bool). provided b (going x w)) (ap (λ (h : SpaceView). can_transfer e h.memory (argument k 1) n) (sym (held-here x)) ∙ sym can)
 
         pub begins-unusable : b ≡ false → Acts k k i (Some (call_on e)) Refuses
         begins-unusable failed = refuses (row-tested ∙ ap (λ (b : Bool). provided b (going x w)) failed)
@@ -218,7 +220,7 @@ module _ {k : Kernel} {i : ℕ} (x : Here k i) (e : End) {r : Option Target} (fo
             goes = record {
               runs = runs;
               number = refl;
-              can = pending-can e k (descriptors_at k i) (view_at k.spaces i).memory n (ap is_some (file-at k.files (descriptors_at k i) (low (argument k 0)) t on).named) count (omega arith) (sym can ∙ passed);
+              can = pending-can e k (descriptors_at k i) (memory_at k i) n (ap is_some (file-at k.files (descriptors_at k i) (low (argument k 0)) t on).named) count (omega arith) (sym can ∙ passed);
               fresh = start-fresh k.files (descriptors_at k i) w refl;
               target = on;
             };
@@ -266,9 +268,6 @@ module _ {k : Kernel} {i : ℕ} {e : End} {t : Target} {w : Pending} (g : Transf
   pub going-is : going here w ≡ goes_on (state_of k) i (me here) w (call_on e)
   going-is = ap (goes_on (state_of k) i (me here) w) g.number
 
-  pub held-here : view_at k.spaces i ≡ here.held
-  held-here = held-run k i here.process here.held here.run here.sound
-
   -- what holds of the open file that is named
   pub named-file : (P : OpenFile → Type 0) → IfSome (file_named k.files (descriptors_at k i) (low (pending_arg w 0))) P → P file.file
   named-file P is = subst (λ o. IfSome o P) (ap (option_and_then (file_at k.files)) file.named ∙ file.opened) is
@@ -284,15 +283,15 @@ pipe-here {k = k} {q = q} g = some-pipe (slot k.spaces.pipes q) (transfer-stands
 -- the bytes that a write puts
 module _ {k : Kernel} {i : ℕ} {t : Target} {w : Pending} (g : Transfers k i Write t w) where
   abbrev pub given_bytes : List ℕ
-  given_bytes = bytes_given k.spaces i (pending_arg w 1) (low (pending_arg w 2))
+  given_bytes = bytes_given k.spaces i (pending_arg w 1) (wanted w)
 
-  pub read-given : read_bytes (here g).held.memory (pending_arg w 1) (low (pending_arg w 2)) ≡ Some given_bytes
-  read-given = ap (λ (h : SpaceView). read_bytes h.memory (pending_arg w 1) (low (pending_arg w 2))) (sym (held-here g)) ∙ some-pipe (read_bytes (view_at k.spaces i).memory (pending_arg w 1) (low (pending_arg w 2))) g.can.readable
+  pub read-given : read_bytes (here g).held.memory (pending_arg w 1) (wanted w) ≡ Some given_bytes
+  read-given = ap (λ (h : SpaceView). read_bytes h.memory (pending_arg w 1) (wanted w)) (sym (held-here (here g))) ∙ some-pipe (read_bytes (memory_at k i) (pending_arg w 1) (wanted w)) g.can.readable
 
   -- as many as were asked for
-  pub length-given : length given_bytes ≡ low (pending_arg w 2)
+  pub length-given : length given_bytes ≡ wanted w
   length-given =
-      let n = low (pending_arg w 2) in
+      let n = wanted w in
       let all = reach Load (here g).held.memory (pending_arg w 1) in
       let parts = cond_some (nat_le n (length all)) (take n all) given_bytes read-given in
       ap length (sym parts.1) ∙ length-take-le n all (leb-true n (length all) parts.0)
@@ -313,8 +312,8 @@ some-file (Some f) some none = none-some f.target (sym none)
 
 -- r is what its descriptor d is open on
 module _ {k : Kernel} {i : ℕ} {w : Pending} (e : End) (runs : Runs k i) (can : CanWait k i w) (number : w.number ≡ call_on e) {d : ℕ} (place : d ≡ low (pending_arg w 0)) (r : Option Target) (told : r ≡ target_named k i d) where
-  pending : IsPending (descriptors_at k i) (view_at k.spaces i).memory w (call_on e)
-  pending = subst (IsPending (descriptors_at k i) (view_at k.spaces i).memory w) number can.0
+  pending : IsPending (descriptors_at k i) (memory_at k i) w (call_on e)
+  pending = subst (IsPending (descriptors_at k i) (memory_at k i) w) number can.0
 
   open-on : (s : Option Target) → r ≡ s → target_named k i (low (pending_arg w 0)) ≡ s
   open-on s is = ap (target_named k i) (sym place) ∙ sym told ∙ is
@@ -323,7 +322,7 @@ module _ {k : Kernel} {i : ℕ} {w : Pending} (e : End) (runs : Runs k i) (can :
   pub target-some : r ≡ None → ⊥
   target-some none =
       let x = here-of runs in
-      let n = some-named (slot (descriptors_at k i) (low (pending_arg w 0))) (pending-named e (descriptors_at k i) (view_at k.spaces i).memory w pending) in
+      let n = some-named (slot (descriptors_at k i) (low (pending_arg w 0))) (pending-named e (descriptors_at k i) (memory_at k i) w pending) in
       let there = open-named k.files k.spaces.pipes k.table.places x.sound.opened i x.process (low (pending_arg w 0)) n.0 x.run.process (ap (λ (o : Option Process). slot (descriptors_in o) (low (pending_arg w 0))) (sym x.run.process) ∙ n.1) in
       let named : file_named k.files (descriptors_at k i) (low (pending_arg w 0)) ≡ file_at k.files n.0 = ap (option_and_then (file_at k.files)) n.1 in
       some-file (file_at k.files n.0) (ap is_some (sym (file-opens k.files n.0) ∙ there.1.0)) (sym (ap (option_map (λ (f : OpenFile). f.target)) named) ∙ open-on None none)

@@ -1,7 +1,7 @@
 -- How a session goes on, and how it ends.
-use Rattle.live.proofs.Common.{◌≡◌, ◌∙◌, ℕ, ◌+◌, ◌-◌, ◌≤◌, true, false, inl, inr, length-append, List, [], ◌∷◌, ◌++◌, drop, Option, Some, None, Result, Ok, Err, ap, sym, refl}
-use Rattle.live.proofs.Common.{arith, le_trans, append_assoc, append-nil, replicate, take-append-drop, subst, OnErr, OnOk, length, option_map, suc, zero}
-use Rattle.live.proofs.Common.{replicate-append-replicate, replicate_more, take-replicate, done-kept, runs_on, Rises-later, SoFar, so_far_at_first, up_now, Event, Step, step-runs}
+use Rattle.live.proofs.Common.{◌≡◌, ◌∙◌, ℕ, ◌+◌, ◌-◌, ◌≤◌, true, false, inl, inr, length-append, List, [], ◌∷◌, ◌++◌, drop, Option, Some, None, Result, Ok, Err, ap, sym, refl, arith, le_trans, append_assoc, append-nil, replicate}
+use Rattle.live.proofs.Common.{take-append-drop, subst, OnErr, OnOk, length, option_map, suc, zero, replicate-append-replicate, replicate_more, take-replicate, done-kept, runs_on, Rises-later, SoFar, so_far_at_first, up_now, Event, Step}
+use Rattle.live.proofs.Common.{step-runs}
 use Rattle.std.specs.Io.KnownBytes.{Keeps}
 use Rattle.std.proofs.Math.Nat.{zero-add}
 use Rattle.std.specs.Result.{is_err}
@@ -13,7 +13,7 @@ use Rattle.live.specs.declared.terminal.Mood.{Mood}
 use Rattle.live.specs.declared.terminal.Mood.TheVariants as mood
 use Rattle.live.specs.declared.terminal.Given.TheVariants as given
 use Rattle.live.specs.Sessions.{Follows, GaveFirst, IsGiven, IsSession, answered, goes_on_with, is_end, mood_of, moved, session, steps, steps_after, work}
-use Rattle.calls.proofs.Runs.{run-more}
+use Rattle.calls.proofs.Pieces.{run-more}
 use Rattle.calls.specs.Steps.{IsBusyFor}
 use Rattle.machine.specs.Gives.{RunGives, StepGives}
 use Rattle.machine.specs.Pieces.{IsPiece}

@@ -2,7 +2,7 @@
 use Rattle.machine.proofs.Common.{List, None, Ok, Option, Some, [], ap, arith, true, le_trans, length, refl, subst, sym, ℕ, ◌%◌, ◌*◌, ◌++◌, ◌+◌, ◌/◌, ◌<◌, ◌^◌, ◌∙◌, ◌∷◌, ◌≡◌, ◌≤◌, none-some, same_Some, IfSome, IsSome, is_some}
 use Rattle.machine.proofs.Common.{option_and_then, option_map, Init, FindsInit, IsInPlace, IsInit, LacksInit, alone, KeepsTree, PassesOne, plan_with, stacked, SpaceView, Spaces, has_space, no_pages, no_spaces, taken_frames, with_view}
 use Rattle.machine.proofs.Common.{with_place, FileTree, Serves, page_frames, Files, Node, find, slot, number_at, Loaded, Plan, loaded_of, plan, with_args, init_path, init_plan}
-use Rattle.calls.proofs.Homes.{some-there}
+use Rattle.calls.proofs.Names.{some-there}
 use Rattle.machine.proofs.FlatLemmas.{alone-space, created, no-frames}
 use Rattle.names.proofs.Finding.{find-used}
 use Rattle.programs.proofs.Loads.{IsProgram, is-program, HasProgram, args-long, has-program, length-stacked, no-plan, plan-is}

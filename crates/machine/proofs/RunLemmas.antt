@@ -1,10 +1,10 @@
 -- How a run goes on by one step or by other events.
 use Rattle.machine.proofs.Common.{◌≡◌, ℕ, ℤ, ◌+◌, ◌<◌, List, [], ◌∷◌, ◌++◌, take, drop, length, Option, Some, None, Result, Ok, Err, refl, ap, sym, subst, ◌∙◌, arith, append-nil, length-append, take-append-drop, take-append-le, Halt}
 use Rattle.machine.proofs.Common.{Console, Halted, InitEnded, IsDone, RunGives, StepGives, IsUp, View, Event, next, State, Appends-nil, Appends-trans, begins_more, Device}
-use Rattle.calls.proofs.Runs.{run-append, run-more, then_runs}
+use Rattle.calls.proofs.Pieces.{run-append, run-more, then_runs}
 use Rattle.unixmodel.specs.Run.{after_bytes, run}
 use Rattle.std.proofs.Math.Seq.{take-append-add}
-pub use Rattle.calls.proofs.Runs.{Rises-later, then_begins}
+pub use Rattle.calls.proofs.Pieces.{Rises-later, then_begins}
 
 -- all events so far are done as the model says, and the machine takes more
 pub record SoFar (first now : View) (events : List Event) (before after : Option (List ℕ)) : Type 0 where

@@ -1,4 +1,4 @@
-use Rattle.calls.proofs.Common.{[], ActsOnDisk, arith, err_from_is_err_and, None, refl, Some, Appends-nil}
+use Rattle.calls.proofs.Common.{[], ActsOnDisk, Appends-nil, arith, err_from_is_err_and, None, refl, Some}
 use Rattle.calls.proofs.Acts.{unbuilt}
 use Rattle.calls.proofs.calls.act.Given as given
 use Rattle.calls.proofs.calls.act.Goals.{After-branch-came, in-Chdir, in-Close, in-Dup, in-Exec, in-Exit, in-Fork, in-Fstat, in-Getpid, in-Kill, in-Link, in-Mkdir, in-Mknod, in-Open, in-Pipe, in-Read, in-Sbrk, in-Sleep, in-Unlink}

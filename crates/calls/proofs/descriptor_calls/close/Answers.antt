@@ -1,6 +1,6 @@
 use Rattle.calls.proofs.Common.{ap, Close, close_row, here-of, low, refl, serves-disk, ◌∙◌}
 use Rattle.calls.proofs.Acts.{unnamed}
-use Rattle.calls.proofs.Renames.{closes}
+use Rattle.calls.proofs.Pipes.{closes}
 use Rattle.calls.proofs.descriptor_calls.close.Goals as goal
 
 pub returns-in_default : goal.returns-in_default

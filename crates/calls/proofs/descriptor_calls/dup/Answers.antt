@@ -1,6 +1,6 @@
 use Rattle.calls.proofs.Common.{ap, Dup, dup_row, here-of, low, refl, sym, ◌∙◌}
 use Rattle.calls.proofs.Acts.{unnamed}
-use Rattle.calls.proofs.Renames.{dup-full, dups}
+use Rattle.calls.proofs.Pipes.{dup-full, dups}
 use Rattle.calls.proofs.descriptor_calls.dup.Goals as goal
 
 pub returns-in_default : goal.returns-in_default

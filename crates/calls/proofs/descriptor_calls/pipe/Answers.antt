@@ -1,4 +1,4 @@
-use Rattle.calls.proofs.Common.{ap, arith, count_by, descriptors_in, here-of, if◌then◌else◌, is_none, sym, ◌∙◌}
+use Rattle.calls.proofs.Common.{ap, arith, count_by, descriptors_in, here-of, is_none, sym, ◌∙◌}
 use Rattle.std.specs.Option.{option_copied}
 use Rattle.calls.proofs.Pipes.{lacks-descriptors, lacks-frames, lacks-places, lacks-room, pipe-can, pipe-opens, pipe-unwritable}
 use Rattle.calls.proofs.descriptor_calls.pipe.Goals.{then-free_count-lt2-via-else-free_count-lt2+then-free_places-lt2, then-free_count-lt2-via-then-free_count-lt2}

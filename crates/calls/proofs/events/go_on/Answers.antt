@@ -1,5 +1,5 @@
 use Rattle.calls.proofs.Common.{ap, Kernel, ◌∙◌}
-use Rattle.calls.proofs.Served.{disk-after, same-served, served-after, started-tree}
+use Rattle.calls.proofs.Acts.{disk-after, same-served, served-after, started-tree}
 use Rattle.calls.proofs.Takes.{resumes-as, resumes-if, waiting-can}
 use Rattle.calls.proofs.events.go_on.Goals as goal
 

@@ -1,5 +1,5 @@
 use Rattle.calls.proofs.Common.{ap, Kernel, quiet, runner-of, state_of, sym, ◌∙◌}
-use Rattle.calls.proofs.Served.{same-served}
+use Rattle.calls.proofs.Acts.{same-served}
 use Rattle.calls.proofs.Takes.{made-quiet, step-computes}
 use Rattle.calls.proofs.events.instruct.Goals as goal
 

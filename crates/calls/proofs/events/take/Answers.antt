@@ -1,5 +1,5 @@
 use Rattle.calls.proofs.Common.{ap, ended, Kernel, negsuc, quiet, started, state-but, sym, ◌∙◌}
-use Rattle.calls.proofs.Served.{on-after, same-served, started-tree}
+use Rattle.calls.proofs.Acts.{on-after, same-served, started-tree}
 use Rattle.calls.proofs.Takes.{ends-if, takes-killed, takes-ready, takes-waiting}
 use Rattle.calls.proofs.events.take.Goals as goal
 

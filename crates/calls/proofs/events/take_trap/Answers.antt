@@ -1,4 +1,4 @@
-use Rattle.calls.proofs.Common.{ap, arith, counting, ended, err_from_is_err_and, negsuc, quiet, runner-of, serves-disk, state-but, sym, ◌∙◌, Appends-nil}
+use Rattle.calls.proofs.Common.{ap, Appends-nil, arith, counting, ended, err_from_is_err_and, negsuc, quiet, runner-of, serves-disk, state-but, sym, ◌∙◌}
 use Rattle.calls.proofs.Takes.{made-quiet, step-calls, step-faults}
 use Rattle.calls.proofs.events.take_trap.Goals as goal
 

@@ -1,6 +1,6 @@
 use Rattle.calls.proofs.Common.{ap, picked, State, state-but, sym, turn-alive, ◌∙◌}
 use Rattle.calls.specs.Resuming.{taken}
-use Rattle.calls.proofs.Served.{on-after}
+use Rattle.calls.proofs.Acts.{on-after}
 use Rattle.calls.proofs.Takes.{turn-takes}
 use Rattle.calls.proofs.events.take_turn.Goals as goal
 

@@ -1,5 +1,5 @@
 use Rattle.calls.proofs.Common.{ap, Kernel, quiet, state-but, sym, ticked, ◌∙◌}
-use Rattle.calls.proofs.Served.{ticked-tree}
+use Rattle.calls.proofs.Acts.{ticked-tree}
 use Rattle.calls.proofs.Takes.{next-ticks}
 use Rattle.calls.proofs.events.tick.Goals as goal
 

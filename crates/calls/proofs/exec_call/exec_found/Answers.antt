@@ -1,5 +1,5 @@
 use Rattle.calls.proofs.Common.{argument, here-of, Replaces, subst}
-use Rattle.calls.proofs.Execs.{exec-done, exec-refused}
+use Rattle.calls.proofs.Opens.{exec-done, exec-refused}
 use Rattle.calls.proofs.Names.{node-here}
 use Rattle.calls.proofs.exec_call.exec_found.Goals as goal
 

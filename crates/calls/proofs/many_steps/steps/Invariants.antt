@@ -1,4 +1,4 @@
-use Rattle.calls.proofs.Common.{◌≤◌, ◌-◌, Went}
+use Rattle.calls.proofs.Common.{Went, ◌-◌, ◌≤◌}
 use Rattle.calls.proofs.many_steps.steps.Given as goal
 
 -- so many steps are done as the model says

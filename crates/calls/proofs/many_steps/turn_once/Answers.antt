@@ -1,5 +1,4 @@
-use Rattle.calls.proofs.Common.{ap, arith, FileTree, Kernel, LeavesTree, picked, state-but, state_of, subst, sym, turn-alive, ◌≡◌}
-use Rattle.calls.specs.Resuming.{taken}
+use Rattle.calls.proofs.Common.{ap, arith, FileTree, Kernel, LeavesTree, state-but, subst, sym, turn-alive, ◌≡◌}
 use Rattle.calls.proofs.Pieces.{busy-turn, idle-now, last-goes, turn-is, went-none, went-still}
 use Rattle.calls.proofs.many_steps.turn_once.Goals as goal
 
@@ -11,14 +10,13 @@ take_once-requires-clause-alive g c =
 pub returns-in-None : goal.returns-in-None
 returns-in-None g c =
     let k = c.args.kernel.now in
-    let new = c.turn.new.self in
     let none = c.in-None.ensures.none in
     let same = state-but k none in
     record {
       does = λ at most some. record {
         within = omega arith;
         busy = λ done less. absurd (omega (arith, less));
-        goes = (went-still k new at c.requires.goes c.requires.up same (ap (λ (x : Kernel). x.tree) none), λ zero. idle-now k new c.is_sound.ensures.sound c.requires.idle (sym c.in-None.ensures.turn) same);
+        goes = (went-still at c.requires.goes c.requires.up same (ap (λ (x : Kernel). x.tree) none), λ zero. idle-now c.is_sound.ensures.sound c.requires.idle c.turn.new.self (sym c.in-None.ensures.turn) same);
       };
     }
 
@@ -34,8 +32,8 @@ returns-in-Some g c =
     record {
       does = λ at most some. record {
         within = some;
-        busy = busy-turn k c.in-Some.at is c.requires.idle c.requires.goes found;
-        goes = last-goes k k c.take_once.new.kernel 0 at at ⊥ (taken (state_of mid) c.in-Some.at) r c.requires.goes (went-none k at c.requires.goes c.requires.up) (turn-is k mid c.in-Some.at is c.requires.idle found picked)
+        busy = busy-turn is c.requires.idle found c.requires.goes;
+        goes = last-goes c.take_once.new.kernel at ⊥ r (went-none at c.requires.goes c.requires.up) c.requires.goes (turn-is is c.requires.idle found mid picked)
             (c.take_once.ensures.gives at) (subst (λ (t : FileTree). LeavesTree {X = Unit {0}} t c.take_once.new.kernel.tree r) tree c.take_once.ensures.tree);
       };
     }

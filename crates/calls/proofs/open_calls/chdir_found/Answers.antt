@@ -1,5 +1,5 @@
 use Rattle.calls.proofs.Common.{Chdir, here-of}
-use Rattle.calls.proofs.Homes.{chdir-goes, chdir-other, chdir-there}
+use Rattle.calls.proofs.Opens.{chdir-goes, chdir-other, chdir-there}
 use Rattle.calls.proofs.Names.{after-look, read-runs}
 use Rattle.calls.proofs.open_calls.chdir_found.Goals as goal
 

@@ -1,5 +1,5 @@
 use Rattle.calls.proofs.Common.{here-of, serves-disk}
-use Rattle.calls.proofs.Homes.{chdirs}
+use Rattle.calls.proofs.Opens.{chdirs}
 use Rattle.calls.proofs.open_calls.work_in.Goals as goal
 
 pub returns : goal.returns

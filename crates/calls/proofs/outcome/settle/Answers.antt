@@ -1,7 +1,6 @@
 use Rattle.calls.proofs.Common.{answered, ap, counting, ended, here-in, IsEnd, Kernel, marked, negsuc, refl, serves-disk, state-but, state-waking, state_of, subst, sym, waking, ◌∙◌}
-use Rattle.calls.proofs.Acts.{runs-of, settles-answer, settles-blocks, settles-exits-if}
-use Rattle.calls.proofs.Kills.{settles-killed}
-use Rattle.calls.proofs.Served.{same-served, where-err}
+use Rattle.calls.proofs.Acts.{runs-of, settles-answer, settles-blocks, settles-exits-if, same-served, where-err}
+use Rattle.calls.proofs.Processes.{settles-killed}
 use Rattle.calls.proofs.outcome.settle.Goals as goal
 
 pub returns-in-Answers : goal.returns-in-Answers

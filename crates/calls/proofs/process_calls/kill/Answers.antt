@@ -1,5 +1,5 @@
 use Rattle.calls.proofs.Common.{ap, here-of, Some, sym, ◌∙◌}
-use Rattle.calls.proofs.Kills.{kills-none, kills-other, kills-self}
+use Rattle.calls.proofs.Processes.{kills-none, kills-other, kills-self}
 use Rattle.calls.proofs.process_calls.kill.Goals as goal
 
 pub returns-in_default : goal.returns-in_default

@@ -1,5 +1,5 @@
 use Rattle.calls.proofs.Common.{ap, place_called, sym, ◌∙◌}
-use Rattle.calls.proofs.Kills.{named-is}
+use Rattle.calls.proofs.Processes.{named-is}
 use Rattle.calls.proofs.process_calls.place_called.Goals as goal
 
 pub returns-else-pid-eq0 : goal.returns-else-pid-eq0

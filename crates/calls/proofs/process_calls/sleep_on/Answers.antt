@@ -1,4 +1,4 @@
-use Rattle.calls.proofs.Common.{here-of, if◌then◌else◌, sym}
+use Rattle.calls.proofs.Common.{here-of, sym}
 use Rattle.calls.proofs.Acts.{sleeps-on, sleeps-over}
 use Rattle.calls.proofs.process_calls.sleep_on.Goals as goal
 

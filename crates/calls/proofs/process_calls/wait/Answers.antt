@@ -1,5 +1,5 @@
-use Rattle.calls.proofs.Common.{here-of, if◌then◌else◌, sym, ◌∙◌}
-use Rattle.calls.proofs.Collects.{wait-begins, wait-childless, wait-unwritable}
+use Rattle.calls.proofs.Common.{here-of, sym, ◌∙◌}
+use Rattle.calls.proofs.Processes.{wait-begins, wait-childless, wait-unwritable}
 use Rattle.calls.proofs.process_calls.wait.Goals.{then-not-has_child-via-else-not-has_child+then-not-can_answer, then-not-has_child-via-then-not-has_child}
 use Rattle.calls.proofs.process_calls.wait.Goals as goal
 

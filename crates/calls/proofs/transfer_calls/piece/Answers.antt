@@ -1,4 +1,5 @@
-use Rattle.calls.proofs.Common.{length, Load, piece-some, piece_at, view_at, ◌<◌}
+use Rattle.calls.proofs.Common.{length, Load, piece_at, view_at, ◌<◌}
+use Rattle.vm.proofs.ReachLemmas.{piece-some}
 use Rattle.calls.proofs.transfer_calls.piece.Goals as goal
 
 pub returns-else-piece-most-clause-some : goal.returns-else-piece-most-clause-some

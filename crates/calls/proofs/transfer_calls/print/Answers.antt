@@ -1,5 +1,5 @@
-use Rattle.calls.proofs.Common.{arith, err_from_is_err_and, Appends-nil}
-use Rattle.calls.proofs.Prints.{prints-all, prints-front, prints-more, prints-within, rest-fits, rest-readable}
+use Rattle.calls.proofs.Common.{Appends-nil, arith, err_from_is_err_and}
+use Rattle.calls.proofs.Sends.{prints-all, prints-front, prints-more, prints-within, rest-fits, rest-readable}
 use Rattle.calls.proofs.transfer_calls.print.Goals as goal
 
 pub loop-done-init : goal.loop-done-init

@@ -1,4 +1,4 @@
-use Rattle.calls.proofs.Common.{◌≤◌, ◌-◌, take, Appends, view_at, Load, reach}
+use Rattle.calls.proofs.Common.{Appends, Load, reach, take, view_at, ◌-◌, ◌≤◌}
 use Rattle.calls.proofs.transfer_calls.print.Given as goal
 
 -- the bytes so far are put out

@@ -1,5 +1,5 @@
 use Rattle.machine.proofs.Common.{ap, arith, le_trans, subst, sym, ◌∙◌, ◌≤◌, OnOk, is_err, image_of, AreLinked, KeepsTree, FileTree, Rises, Denotes}
-use Rattle.calls.proofs.Served.{where-err}
+use Rattle.calls.proofs.Acts.{where-err}
 use Rattle.names.proofs.Quiet.{leaves, left-linked}
 use Rattle.machine.proofs.machine.save.give_up.Goals as goal
 
