@@ -1,4 +1,2 @@
 mod Common
 mod Steps
-mod States
-mod Reading

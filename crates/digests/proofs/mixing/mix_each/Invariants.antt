@@ -1,4 +1,4 @@
-use Rattle.digests.proofs.Common.{◌≡◌, take, mixed}
+use Rattle.digests.proofs.Common.{mixed, take, ◌≡◌}
 use Rattle.digests.proofs.mixing.mix_each.Given as goal
 
 abbrev pub invariant-loop-byte : goal.invariant-loop-byte

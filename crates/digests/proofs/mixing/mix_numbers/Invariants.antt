@@ -1,4 +1,4 @@
-use Rattle.digests.proofs.Common.{◌≡◌, take, mixed}
+use Rattle.digests.proofs.Common.{mixed, take, ◌≡◌}
 use Rattle.digests.proofs.mixing.mix_numbers.Given as goal
 
 abbrev pub invariant-loop-number : goal.invariant-loop-number

@@ -1,4 +1,4 @@
-use Rattle.digests.proofs.Common.{ap, ◌∙◌, mix, word_mixed}
+use Rattle.digests.proofs.Common.{ap, mix, word_mixed, ◌∙◌}
 use Rattle.digests.proofs.Steps.{each-next, each-none}
 use Rattle.digests.proofs.mixing.mix_words.Goals as goal
 

@@ -1,4 +1,4 @@
-use Rattle.digests.proofs.Common.{◌≡◌, each, word_mixed}
+use Rattle.digests.proofs.Common.{each, word_mixed, ◌≡◌}
 use Rattle.digests.proofs.mixing.mix_words.Given as goal
 
 abbrev pub invariant-loop-k : goal.invariant-loop-k

@@ -1,5 +1,5 @@
-use Rattle.digests.proofs.Common.{arith, rules, ◌∙◌, ◌≡◌, contents_mixed, lost-reads, lost-then}
-use Rattle.digests.proofs.Reading.{all-done, begun, block-next}
+use Rattle.digests.proofs.Common.{arith, contents_mixed, lost-reads, lost-then, rules, ◌∙◌, ◌≡◌}
+use Rattle.digests.proofs.Steps.{all-done, begun, block-next}
 use Rattle.digests.proofs.nodes.mix_contents.Goals as goal
 
 pub loop-k-init : goal.loop-k-init

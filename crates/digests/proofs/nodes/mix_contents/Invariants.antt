@@ -1,5 +1,5 @@
-use Rattle.digests.proofs.Common.{each, slot, bytes_or_none}
-use Rattle.digests.proofs.Reading.{SoFar, block_step}
+use Rattle.digests.proofs.Common.{bytes_or_none, each, slot}
+use Rattle.digests.proofs.Steps.{SoFar, block_step}
 use Rattle.digests.proofs.nodes.mix_contents.Given as goal
 
 abbrev pub invariant-loop-k : goal.invariant-loop-k

@@ -1,5 +1,5 @@
 use Rattle.digests.proofs.Common.{arith, files_mixed, lost-reads, lost-then}
-use Rattle.digests.proofs.Reading.{all-done, begun, node-next}
+use Rattle.digests.proofs.Steps.{all-done, begun, node-next}
 use Rattle.digests.proofs.nodes.mix_files.Goals as goal
 
 pub loop-number-init : goal.loop-number-init

@@ -1,5 +1,5 @@
 use Rattle.digests.proofs.Common.{each, node_mixed, slot}
-use Rattle.digests.proofs.Reading.{SoFar}
+use Rattle.digests.proofs.Steps.{SoFar}
 use Rattle.digests.proofs.nodes.mix_files.Given as goal
 
 abbrev pub invariant-loop-number : goal.invariant-loop-number

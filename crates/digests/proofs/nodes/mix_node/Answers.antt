@@ -1,4 +1,4 @@
-use Rattle.digests.proofs.Reading.{node-done, none-done}
+use Rattle.digests.proofs.Steps.{node-done, none-done}
 use Rattle.kernel.proofs.Steps.{lost-reads}
 use Rattle.digests.proofs.nodes.mix_node.Goals as goal
 

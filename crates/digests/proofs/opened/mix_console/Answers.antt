@@ -1,5 +1,5 @@
-use Rattle.digests.proofs.Common.{arith, length-append, ◌∙◌, ap, mix}
-use Rattle.digests.proofs.States.{byte-next, console-done, typed}
+use Rattle.digests.proofs.Common.{ap, arith, length-append, mix, ◌∙◌}
+use Rattle.digests.proofs.Steps.{byte-next, console-done, typed}
 use Rattle.digests.proofs.opened.mix_console.Goals as goal
 
 pub loop-at-preserved : goal.loop-at-preserved

@@ -1,5 +1,5 @@
-use Rattle.digests.proofs.Common.{◌≡◌, take, ◌∷◌, [], mixed}
-use Rattle.digests.proofs.States.{typed}
+use Rattle.digests.proofs.Common.{[], mixed, take, ◌∷◌, ◌≡◌}
+use Rattle.digests.proofs.Steps.{typed}
 use Rattle.digests.proofs.opened.mix_console.Given as goal
 
 abbrev pub invariant-loop-at : goal.invariant-loop-at

@@ -1,4 +1,4 @@
-use Rattle.digests.proofs.Common.{◌≡◌, each, open_mixed, state_of, slot}
+use Rattle.digests.proofs.Common.{each, open_mixed, slot, state_of, ◌≡◌}
 use Rattle.digests.proofs.opened.mix_opens.Given as goal
 
 abbrev pub invariant-loop-id : goal.invariant-loop-id

@@ -1,4 +1,4 @@
-use Rattle.digests.proofs.Common.{◌≡◌, each, pipe_mixed, state_of, slot}
+use Rattle.digests.proofs.Common.{each, pipe_mixed, slot, state_of, ◌≡◌}
 use Rattle.digests.proofs.opened.mix_pipes.Given as goal
 
 abbrev pub invariant-loop-q : goal.invariant-loop-q

@@ -1,4 +1,4 @@
-use Rattle.digests.proofs.Common.{◌≡◌, take, descriptors_mixed}
+use Rattle.digests.proofs.Common.{descriptors_mixed, take, ◌≡◌}
 use Rattle.digests.proofs.processes.mix_descriptors.Given as goal
 
 abbrev pub invariant-loop-descriptor : goal.invariant-loop-descriptor

@@ -1,6 +1,5 @@
-use Rattle.digests.proofs.Common.{arith, ◌∙◌, view_at}
-use Rattle.digests.proofs.States.{memory-done}
-use Rattle.digests.proofs.Steps.{each-next, each-none}
+use Rattle.digests.proofs.Common.{arith, view_at, ◌∙◌}
+use Rattle.digests.proofs.Steps.{memory-done, each-next, each-none}
 use Rattle.digests.proofs.processes.mix_memory.Goals as goal
 
 pub loop-n-init : goal.loop-n-init

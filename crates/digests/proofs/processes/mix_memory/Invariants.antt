@@ -1,5 +1,5 @@
-use Rattle.digests.proofs.Common.{◌≡◌, each, mix, view_at}
-use Rattle.digests.proofs.States.{pages_step}
+use Rattle.digests.proofs.Common.{each, mix, view_at, ◌≡◌}
+use Rattle.digests.proofs.Steps.{pages_step}
 use Rattle.digests.proofs.processes.mix_memory.Given as goal
 
 abbrev pub invariant-loop-n : goal.invariant-loop-n

@@ -1,5 +1,5 @@
 use Rattle.std.proofs.Common.{sym, ◌∙◌}
-use Rattle.digests.proofs.States.{no-place, place-done, space-there}
+use Rattle.digests.proofs.Steps.{no-place, place-done, space-there}
 use Rattle.digests.proofs.processes.mix_place.Goals as goal
 
 pub returns-in-None : goal.returns-in-None

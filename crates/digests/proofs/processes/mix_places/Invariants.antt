@@ -1,4 +1,4 @@
-use Rattle.digests.proofs.Common.{◌≡◌, each, place_mixed, state_of, process_at}
+use Rattle.digests.proofs.Common.{each, place_mixed, process_at, state_of, ◌≡◌}
 use Rattle.digests.proofs.processes.mix_places.Given as goal
 
 abbrev pub invariant-loop-at : goal.invariant-loop-at

@@ -1,5 +1,5 @@
-use Rattle.digests.proofs.Common.{ap, ◌∙◌, mixed, start}
-use Rattle.digests.proofs.States.{front-state}
+use Rattle.digests.proofs.Common.{ap, mixed, start, ◌∙◌}
+use Rattle.digests.proofs.Steps.{front-state}
 use Rattle.digests.proofs.whole.mix_front.Goals as goal
 
 pub returns : goal.returns
