@@ -5,7 +5,7 @@ use Rattle.std.proofs.lemmas.List.{take-append-drop}
 use Rattle.std.specs.Io.KnownBytes.{Keeps}
 use Rattle.calls.specs.declared.halt.Halt.{Halt}
 use Rattle.calls.specs.declared.halt.Halt.TheVariants as halt
-use Rattle.machine.proofs.RunsOn.{begins_both}
+use Rattle.machine.proofs.RunLemmas.{begins_both}
 use Rattle.commands.specs.Reports.{end_of, status_of}
 use Rattle.commands.specs.Runs.{IsPlayed, Leaves, PlaysOut, Saves}
 use Rattle.commands.specs.declared.report.End.{End}

@@ -1,12 +1,18 @@
 -- A flat program in memory, and the state and the kernel that begin with it.
-use Rattle.machine.proofs.Common.{none-some, same_Some, holders, with_hold, file_of, FitsNode, IsFolder, IsInUse, files_on, home_in, homes_at, node_in, node_of, node_on, IsCounted, named_by, names_in, state_of, IsKernel, IsOpenFile}
-use Rattle.machine.proofs.Common.{IsOpened, IsPlace, IsPlaced, WaitsWell, names, one_in, names-free, Counted, count_at, count_in, opened, opens_of, place_for, slot-opens, stacked, BootFault, FrameCount, NoInit, NoMemory, LoadsFlat, alone}
-use Rattle.machine.proofs.Common.{bare_plan, console_file, first, first_files, first_kernel, first_table, first_tree, flat_memory, flat_space, RefusesFlat, IsFlat, Process, all_in, is_running, seated, joined-free_slots, joined, SpaceView}
-use Rattle.machine.proofs.Common.{Spaces, frames_in, grown, has_space, view_at, no_pages, no_spaces, taken_frames, with_view, written, Bool, Err, List, None, Ok, Option, Result, Some, [], ap, append_assoc, ap₂, arith, false, get_or, inl}
-use Rattle.machine.proofs.Common.{inr, is_some, length, length-append, nat_le, refl, replicate, subst, suc, sym, true, zero, ℕ, ◌*◌, ◌++◌, ◌+◌, ◌-◌, ◌/◌, ◌<◌, ◌∙◌, ◌∷◌, ◌≡◌, ◌≢◌, ◌≤◌, ◌⊎◌, ◌↔◌, le-leb, lt-leb, nat_tests, length-replicate}
-use Rattle.machine.proofs.Common.{sum_by-replicate, sum_by-cons, IfOk, IfSome, IsErrOf, OnErr, option_map, sum_by, ◌==◌, FileTree, blocks_of, frames_of, page_frames, Files, free_slots, slot, Perm, Memory, overwrite, pages_of, write_bytes}
-use Rattle.machine.proofs.Common.{zero_page, zeros, ceil_div, le, round_down, Plan, plan_flat, push, push_pointers, push_strings, stack_marks, with_args, with_stack, first_process, first_state, flat_descriptors, flat_files, flat_opens}
-use Rattle.machine.proofs.Common.{if_fits, start_flat, State, holds}
+use Rattle.machine.proofs.Common.{[], all_in, alone, ap, arith, Bool, BootFault, ceil_div, count_at, count_in, Counted, Err, false, file_of, Files, files_on, FileTree, first, first_kernel, first_process, first_state, FitsNode, flat_space}
+use Rattle.machine.proofs.Common.{FrameCount, free_slots, has_space, holders, holds, home_in, homes_at, if_fits, IfOk, IfSome, is_running, is_some, IsCounted, IsErrOf, IsFlat, IsFolder, IsInUse, IsKernel, IsOpened, IsOpenFile, IsPlace}
+use Rattle.machine.proofs.Common.{IsPlaced, joined, joined-free_slots, le, length, length-append, length-replicate, List, named_by, names, names-free, names_in, nat_tests, no_pages, no_spaces, node_in, node_of, node_on, NoInit, NoMemory}
+use Rattle.machine.proofs.Common.{None, none-some, Ok, one_in, OnErr, opened, opens_of, Option, option_map, page_frames, pages_of, place_for, Plan, Process, refl, replicate, Result, round_down, same_Some, seated, slot, slot-opens, Some}
+use Rattle.machine.proofs.Common.{Spaces, SpaceView, stack_marks, stacked, State, state_of, subst, suc, sum_by, sum_by-cons, sum_by-replicate, sym, taken_frames, true, WaitsWell, with_args, with_hold, with_view, write_bytes, zero, zeros, ℕ}
+use Rattle.machine.proofs.Common.{◌*◌, ◌++◌, ◌+◌, ◌-◌, ◌/◌, ◌<◌, ◌==◌, ◌↔◌, ◌∙◌, ◌∷◌, ◌≡◌, ◌≢◌, ◌≤◌, ◌⊎◌}
+use Rattle.unixmodel.specs.Plan.{plan_flat, push, push_pointers, push_strings, with_stack}
+use Rattle.unixmodel.specs.Memory.{Memory, overwrite, Perm, zero_page}
+use Rattle.std.proofs.lemmas.Bool.{le-leb, lt-leb}
+use Rattle.spaces.specs.Spaces.{frames_in, grown, view_at, written}
+use Rattle.unixmodel.specs.Start.{flat_descriptors, flat_files, flat_opens, start_flat}
+use Rattle.unixmodel.specs.Counts.{blocks_of, frames_of}
+use Rattle.machine.specs.Flat.{bare_plan, console_file, first_files, first_table, first_tree, flat_memory, LoadsFlat, RefusesFlat}
+use Rattle.std.proofs.Common.{append_assoc, ap₂, get_or, inl, inr, nat_le}
 use Rattle.files.specs.declared.file.OpenFile.{OpenFile}
 use Rattle.files.specs.declared.table.FileFault.{FileFault}
 use Rattle.kernel.specs.Kernel.{begun as begun_by}
@@ -43,18 +49,21 @@ length-with_stack : (pages : Memory) → length (with_stack pages) ≡ length pa
 unfolding with_stack
 length-with_stack pages = length-append pages (zero_page (stack_marks false) ∷ zero_page (stack_marks true) ∷ [])
 
-pub length-flat : (bytes : List ℕ) → length (flat_memory bytes) ≡ ceil_div (length bytes) 4096 + 2
-length-flat bytes =
-    let all : Perm = record { writable = true; executable = true; user = true; shared = false } in
-    length-with_stack (pages_of all (ceil_div (length bytes) 4096) bytes)
-    ∙ ap (λ n. n + 2) (length-pages all (ceil_div (length bytes) 4096) bytes)
+abbrev all_marks : Perm
+all_marks = record { writable = true; executable = true; user = true; shared = false }
+
+abbrev program_pages : List ℕ → ℕ
+program_pages bytes = ceil_div (length bytes) 4096
+
+abbrev flat_pages : List ℕ → Memory
+flat_pages bytes = pages_of all_marks (program_pages bytes) bytes
+
+pub length-flat : (bytes : List ℕ) → length (flat_memory bytes) ≡ program_pages bytes + 2
+length-flat bytes = length-with_stack (flat_pages bytes) ∙ ap (λ n. n + 2) (length-pages all_marks (program_pages bytes) bytes)
 
 pub plan-is : (bytes : List ℕ) → plan_flat bytes ≡ Some (bare_plan (flat_memory bytes) (4096 * length (flat_memory bytes)))
 unfolding plan_flat
-plan-is bytes =
-    let all : Perm = record { writable = true; executable = true; user = true; shared = false } in
-    let pages = pages_of all (ceil_div (length bytes) 4096) bytes in
-    bare pages ∙ ap (λ n. Some (bare_plan (with_stack pages) (4096 * n))) (sym (length-with_stack pages))
+plan-is bytes = bare (flat_pages bytes) ∙ ap (λ n. Some (bare_plan (with_stack (flat_pages bytes)) (4096 * n))) (sym (length-with_stack (flat_pages bytes)))
 
 -- ---- the first state
 
@@ -76,12 +85,6 @@ taken-alone frames h = omega (arith, sum_by-cons frames_in (Some h) (replicate 6
 -- the state that process 1 begins with over a space
 abbrev begun : ℕ → SpaceView → State
 begun frames h = first_state flat_files 27 frames flat_opens (first_process (bare_plan h.memory h.size) flat_descriptors)
-
-state-first : (tree : FileTree) → IsFlat tree → (frames : ℕ) (h : SpaceView) → state_of (first_kernel tree frames h) ≡ begun frames h
-unfolding joined flat_opens free_slots
-state-first tree flat frames h =
-    rw (flat.files, flat.limit)
-    (ap (λ (places : List (Option unix.Process)). record (begun frames h) { places = Some (first_process (bare_plan h.memory h.size) flat_descriptors) ∷ places }) (joined-free_slots 63 (replicate 63 None)))
 
 -- a first state takes the frames of its space
 module _ (files : Files) (limit frames : ℕ) (opens : List (Option unix_files.OpenFile)) (new : Plan) (descriptors : List (Option ℕ)) where
@@ -105,8 +108,15 @@ starts : (bytes : List ℕ) (frames : ℕ) → start_flat bytes frames ≡ if_fi
 unfolding start_flat
 starts bytes frames = rw (plan-is bytes) refl
 
-pub start-fits : (tree : FileTree) → IsFlat tree → (bytes : List ℕ) (frames : ℕ) → 4 + page_frames (length (flat_memory bytes)) ≤ frames → start_flat bytes frames ≡ Some (state_of (first_kernel tree frames (flat_space bytes)))
-start-fits tree flat bytes frames fits = starts bytes frames ∙ fresh-fits flat_files 27 frames flat_opens (flat_plan bytes) flat_descriptors fits ∙ ap Some (sym (state-first tree flat frames (flat_space bytes)))
+module _ {tree : FileTree} (flat : IsFlat tree) where
+  state-first : (frames : ℕ) (h : SpaceView) → state_of (first_kernel tree frames h) ≡ begun frames h
+  unfolding joined flat_opens free_slots
+  state-first frames h =
+      rw (flat.files, flat.limit)
+      (ap (λ (places : List (Option unix.Process)). record (begun frames h) { places = Some (first_process (bare_plan h.memory h.size) flat_descriptors) ∷ places }) (joined-free_slots 63 (replicate 63 None)))
+
+  pub start-fits : (bytes : List ℕ) (frames : ℕ) → 4 + page_frames (length (flat_memory bytes)) ≤ frames → start_flat bytes frames ≡ Some (state_of (first_kernel tree frames (flat_space bytes)))
+  start-fits bytes frames fits = starts bytes frames ∙ fresh-fits flat_files 27 frames flat_opens (flat_plan bytes) flat_descriptors fits ∙ ap Some (sym (state-first frames (flat_space bytes)))
 
 pub start-over : (bytes : List ℕ) (frames : ℕ) → frames < 4 + page_frames (length (flat_memory bytes)) → start_flat bytes frames ≡ None
 start-over bytes frames over = starts bytes frames ∙ fresh-over flat_files 27 frames flat_opens (flat_plan bytes) flat_descriptors over
@@ -206,15 +216,6 @@ first-holders (suc (suc (suc n))) =
     let root : (1 == suc (suc (suc n))) ≡ false = grind (arith, nat_tests) in
     rw (console, root) (same-past ℕ 0 13 n)
 
-first-fits : (tree : FileTree) → IsFlat tree → (k : ℕ) (c : Counted) → slot first_files k ≡ Some c → FitsNode c.file c.file.target (node_of tree.files (node_on c.file.target))
-unfolding flat_files free_slots
-first-fits tree flat zero c at = let e : record { file = console_file; count = 3 } ≡ c = same_Some (record { file = console_file; count = 3 }) c at in subst (λ (d : Counted). FitsNode d.file d.file.target (node_of tree.files (node_on d.file.target))) e (rw flat.files refl)
-first-fits tree flat (suc k) c at = absurd (none-some c (sym (same-past (Option Counted) None 99 k) ∙ at))
-
-first-homes : (tree : FileTree) → IsFlat tree → (size : ℕ) (i : ℕ) → IfSome (home_in (slot (first_table size).places i)) (λ d. IsFolder (slot tree.files d))
-unfolding flat_files free_slots
-first-homes tree flat size = first-alone (λ o. IfSome (home_in o) (λ d. IsFolder (slot tree.files d))) (first size) (rw flat.files tt) tt
-
 flat-zero : slot flat_files 0 ≡ None
 unfolding flat_files free_slots
 flat-zero = refl
@@ -223,34 +224,44 @@ flat-blocks : blocks_of flat_files ≡ 1
 unfolding blocks_of flat_files free_slots
 flat-blocks = refl
 
-first-used : (tree : FileTree) → IsFlat tree → (size : ℕ) → IsInUse (first_tree tree) first_files (first_table size).places
-first-used tree flat size = record {
-  rules = flat.rules;
-  zero = ap (λ (files : Files). slot files 0) flat.files ∙ flat-zero;
-  within = rw (flat.files, flat.limit, flat-blocks) (omega arith);
-  holds = λ n. ap (λ h. holders (with_hold (with_hold h 1) 2) n) flat.holds ∙ first-holders n ∙ sym (ap₂ ◌+◌ (console-on n) (one-home (first size) refl n));
-  held = λ n node at bare. absurd (let some = flat.linked n node at in omega (arith, some, bare));
-  fits = first-fits tree flat;
-  homes = first-homes tree flat size;
-}
+module _ {tree : FileTree} (flat : IsFlat tree) where
+  first-fits : (k : ℕ) (c : Counted) → slot first_files k ≡ Some c → FitsNode c.file c.file.target (node_of tree.files (node_on c.file.target))
+  unfolding flat_files free_slots
+  first-fits zero c at = let e : record { file = console_file; count = 3 } ≡ c = same_Some (record { file = console_file; count = 3 }) c at in subst (λ (d : Counted). FitsNode d.file d.file.target (node_of tree.files (node_on d.file.target))) e (rw flat.files refl)
+  first-fits (suc k) c at = absurd (none-some c (sym (same-past (Option Counted) None 99 k) ∙ at))
 
--- what the holds ask for
-pub hold-root : (tree : FileTree) → IsFlat tree → slot tree.files 1 ≢ None
-unfolding flat_files free_slots
-hold-root tree flat none = absurd (let bad : slot flat_files 1 ≡ None = ap (λ (files : Files). slot files 1) (sym flat.files) ∙ none in cc)
+  first-homes : (size i : ℕ) → IfSome (home_in (slot (first_table size).places i)) (λ d. IsFolder (slot tree.files d))
+  unfolding flat_files free_slots
+  first-homes size = first-alone (λ o. IfSome (home_in o) (λ d. IsFolder (slot tree.files d))) (first size) (rw flat.files tt) tt
 
-pub hold-console : (tree : FileTree) → IsFlat tree → slot tree.files 2 ≢ None
-unfolding flat_files free_slots
-hold-console tree flat none = absurd (let bad : slot flat_files 2 ≡ None = ap (λ (files : Files). slot files 2) (sym flat.files) ∙ none in cc)
+  first-used : (size : ℕ) → IsInUse (first_tree tree) first_files (first_table size).places
+  first-used size = record {
+    rules = flat.rules;
+    zero = ap (λ (files : Files). slot files 0) flat.files ∙ flat-zero;
+    within = rw (flat.files, flat.limit, flat-blocks) (omega arith);
+    holds = λ n. ap (λ h. holders (with_hold (with_hold h 1) 2) n) flat.holds ∙ first-holders n ∙ sym (ap₂ ◌+◌ (console-on n) (one-home (first size) refl n));
+    held = λ n node at bare. absurd (let some = flat.linked n node at in omega (arith, some, bare));
+    fits = first-fits;
+    homes = first-homes size;
+  }
 
-pub few-root : (tree : FileTree) → IsFlat tree → holders tree.holds 1 < 65535
-few-root tree flat = rw flat.holds (omega arith)
+  -- what the holds ask for
+  pub hold-root : slot tree.files 1 ≢ None
+  unfolding flat_files free_slots
+  hold-root none = absurd (let bad : slot flat_files 1 ≡ None = ap (λ (files : Files). slot files 1) (sym flat.files) ∙ none in cc)
 
-pub few-console : (tree : FileTree) → IsFlat tree → holders (with_hold tree.holds 1) 2 < 65535
-few-console tree flat = rw flat.holds (omega arith)
+  pub hold-console : slot tree.files 2 ≢ None
+  unfolding flat_files free_slots
+  hold-console none = absurd (let bad : slot flat_files 2 ≡ None = ap (λ (files : Files). slot files 2) (sym flat.files) ∙ none in cc)
 
-pub first-sound : (tree : FileTree) → IsFlat tree → (frames : ℕ) (h : SpaceView) → 4 + page_frames (length h.memory) ≤ frames → IsKernel (first_kernel tree frames h)
-first-sound tree flat frames h fits = one-sound (first_tree tree) (first h.size) h frames first_files (first-placed h) refl fits (first-opened h.size) (first-used tree flat h.size)
+  pub few-root : holders tree.holds 1 < 65535
+  few-root = rw flat.holds (omega arith)
+
+  pub few-console : holders (with_hold tree.holds 1) 2 < 65535
+  few-console = rw flat.holds (omega arith)
+
+  pub first-sound : (frames : ℕ) (h : SpaceView) → 4 + page_frames (length h.memory) ≤ frames → IsKernel (first_kernel tree frames h)
+  first-sound frames h fits = one-sound (first_tree tree) (first h.size) h frames first_files (first-placed h) refl fits (first-opened h.size) (first-used h.size)
 
 pub one-seated : (p : Process) → seated (record { places = free_slots 64; last = 63; next_pid = 1; awake = all_in 64 }) p (record { place = 0; pid = 1 }) ≡ record { places = Some (record p { pid = 1 }) ∷ free_slots 63; last = 63; next_pid = 2; awake = all_in 64 }
 unfolding free_slots
@@ -258,21 +269,15 @@ one-seated p = refl
 
 -- ---- the space as it is made: the pages of the program, its bytes in them, the guard page, the stack
 
-abbrev all_marks : Perm
-all_marks = record { writable = true; executable = true; user = true; shared = false }
-
-abbrev program_pages : List ℕ → ℕ
-program_pages bytes = ceil_div (length bytes) 4096
-
 abbrev pub segment : List ℕ → SpaceView
 segment bytes = record { memory = replicate (program_pages bytes) (zero_page all_marks); size = program_pages bytes * 4096 }
 
 abbrev pub filled_segment : List ℕ → SpaceView
-filled_segment bytes = record { memory = pages_of all_marks (program_pages bytes) bytes; size = program_pages bytes * 4096 }
+filled_segment bytes = record { memory = flat_pages bytes; size = program_pages bytes * 4096 }
 
 abbrev pub guarded : List ℕ → SpaceView
 guarded bytes = record {
-  memory = pages_of all_marks (program_pages bytes) bytes ++ zero_page (stack_marks false) ∷ [];
+  memory = flat_pages bytes ++ zero_page (stack_marks false) ∷ [];
   size = program_pages bytes * 4096 + 4096;
 }
 
@@ -295,18 +300,25 @@ unfolding with_stack
 stacked-is bytes =
     let one : ceil_div (program_pages bytes * 4096 + 4096 + 4096) 4096 - ceil_div (program_pages bytes * 4096 + 4096) 4096 ≡ 1 = omega arith in
     let size : program_pages bytes * 4096 + 4096 + 4096 ≡ 4096 * length (flat_memory bytes) = omega (arith, length-flat bytes) in
-    let memory = append_assoc (pages_of all_marks (program_pages bytes) bytes) (zero_page (stack_marks false) ∷ []) (zero_page (stack_marks true) ∷ []) in
+    let memory = append_assoc (flat_pages bytes) (zero_page (stack_marks false) ∷ []) (zero_page (stack_marks true) ∷ []) in
     rw (one, size) (ap (λ (memory : Memory). let h : SpaceView = record { memory = memory; size = 4096 * length (flat_memory bytes) } in h) memory)
 
--- a space that is put in place 0, and one that would not fit
+-- the space in place 0 changes
+abbrev pub changed : Spaces → (SpaceView → SpaceView) → Spaces
+changed s change = with_view s 0 (change (view_at s 0))
+
+abbrev pub with_stack_page : Spaces → Spaces
+with_stack_page s = changed s (λ h. grown h 4096 (stack_marks true))
+
+-- it is put there, and one that would not fit
 module _ {frames : ℕ} {s : Spaces} {h new : SpaceView} (change : SpaceView → SpaceView) (is : s ≡ alone frames h) (to : change h ≡ new) where
-  placed : {t : Spaces} → t ≡ with_view s 0 (change (view_at s 0)) → t ≡ alone frames new
+  placed : {t : Spaces} → t ≡ changed s change → t ≡ alone frames new
   placed done = rw (done, is, to) refl
 
-  takes : taken_frames (with_view s 0 (change (view_at s 0))) ≡ 4 + page_frames (length new.memory)
+  takes : taken_frames (changed s change) ≡ 4 + page_frames (length new.memory)
   takes = rw (is, to) (taken-alone frames new)
 
-  over : (bytes : List ℕ) → length new.memory ≤ length (flat_memory bytes) → s.frames < taken_frames (with_view s 0 (change (view_at s 0))) → frames < 4 + page_frames (length (flat_memory bytes))
+  over : (bytes : List ℕ) → length new.memory ≤ length (flat_memory bytes) → s.frames < taken_frames (changed s change) → frames < 4 + page_frames (length (flat_memory bytes))
   over bytes less full = omega (arith, full, takes, ap (λ (x : Spaces). x.frames) is, page_frames-more (length new.memory) (length (flat_memory bytes)) less)
 
 -- the first place of no spaces is free, and it has the space that stands alone
@@ -315,6 +327,9 @@ first-free is = ap (λ (s : Spaces). has_space s 0) is
 
 pub alone-space : {frames : ℕ} {h : SpaceView} {s : Spaces} → s ≡ alone frames h → has_space s 0 ≡ true
 alone-space is = ap (λ (s : Spaces). has_space s 0) is
+
+pub flat-size : {frames size : ℕ} {s : Spaces} (bytes : List ℕ) → size ≡ (view_at s 0).size → s ≡ alone frames (flat_space bytes) → size ≡ 4096 * length (flat_memory bytes)
+flat-size bytes told is = told ∙ ap (λ (s : Spaces). (view_at s 0).size) is
 
 -- no spaces over so many frames
 pub frames-of : {frames : ℕ} {s : Spaces} → s ≡ no_spaces frames → s.frames ≡ frames
@@ -343,7 +358,7 @@ module _ (bytes : List ℕ) {frames : ℕ} {s : Spaces} where
   pub guard-over : s ≡ alone frames (filled_segment bytes) → s.frames < taken_frames (with_view s 0 (grown (view_at s 0) 4096 (stack_marks false))) → frames < 4 + page_frames (length (flat_memory bytes))
   guard-over is full =
       over (λ h. grown h 4096 (stack_marks false)) is (guarded-is bytes) bytes
-      (rw (length-flat bytes, length-append (pages_of all_marks (program_pages bytes) bytes) (zero_page (stack_marks false) ∷ []), length-pages all_marks (program_pages bytes) bytes) (omega arith)) full
+      (rw (length-flat bytes, length-append (flat_pages bytes) (zero_page (stack_marks false) ∷ []), length-pages all_marks (program_pages bytes) bytes) (omega arith)) full
 
   -- the bytes are within the pages
   pub fill-inside : s ≡ alone frames (segment bytes) → (i : ℕ) → i < length bytes → (0 + i) / 4096 < length (view_at s 0).memory
@@ -351,8 +366,8 @@ module _ (bytes : List ℕ) {frames : ℕ} {s : Spaces} where
 
 -- whether the page of the stack comes behind the guard page
 pub flat-loaded : (bytes : List ℕ) (old s t : Spaces) → s ≡ alone old.frames (guarded bytes) → (r : Bool)
-    → OnTrue r ((taken_frames (with_view s 0 (grown (view_at s 0) 4096 (stack_marks true))) ≤ s.frames) × (t ≡ with_view s 0 (grown (view_at s 0) 4096 (stack_marks true))))
-    → OnFalse r ((s.frames < taken_frames (with_view s 0 (grown (view_at s 0) 4096 (stack_marks true)))) × (t ≡ s)) → LoadsFlat bytes old t r
+    → OnTrue r ((taken_frames (with_stack_page s) ≤ s.frames) × (t ≡ with_stack_page s))
+    → OnFalse r ((s.frames < taken_frames (with_stack_page s)) × (t ≡ s)) → LoadsFlat bytes old t r
 flat-loaded bytes old s t is true done full =
     let fits = takes (λ h. grown h 4096 (stack_marks true)) is (stacked-is bytes) in
     (placed (λ h. grown h 4096 (stack_marks true)) is (stacked-is bytes) done.1, omega (arith, done.0, fits, ap (λ (x : Spaces). x.frames) is))

@@ -1,10 +1,14 @@
 -- How a run goes on by one step or by other events.
-use Rattle.machine.proofs.Common.{◌≡◌, ℕ, ℤ, ◌+◌, ◌<◌, List, [], ◌∷◌, ◌++◌, take, drop, length, Option, Some, None, Result, Ok, Err, refl, ap, sym, subst, ◌∙◌, arith, append-nil, length-append, take-append-drop, take-append-le, Halt}
-use Rattle.machine.proofs.Common.{Console, Halted, InitEnded, IsDone, RunGives, StepGives, IsUp, View, Event, next, State, Appends-nil, Appends-trans, begins_more, Device}
+use Rattle.machine.proofs.Common.{[], After, ap, append-nil, Appends-nil, arith, Console, Device, drop, Err, false, Halt, Halted, InitEnded, is_err, IsDone, IsUp, length, length-append, List, next, None, Ok, OnOk, Option, refl, Result}
+use Rattle.machine.proofs.Common.{RunGives, Some, State, StepGives, subst, sym, take, take-append-drop, take-append-le, true, View, ℕ, ℤ, ◌++◌, ◌+◌, ◌<◌, ◌∙◌, ◌∷◌, ◌≡◌}
+use Rattle.unixmodel.specs.declared.event.Event.{Event}
+use Rattle.console.proofs.Lines.{begins_more}
 use Rattle.calls.proofs.Pieces.{run-append, run-more, then_runs}
 use Rattle.unixmodel.specs.Run.{after_bytes, run}
 use Rattle.std.proofs.Math.Seq.{take-append-add}
 pub use Rattle.calls.proofs.Pieces.{Rises-later, then_begins}
+use Rattle.std.proofs.KnownBytes.{Appends-kept, Appends-trans}
+use Rattle.std.specs.Io.KnownBytes.{Keeps}
 
 -- all events so far are done as the model says, and the machine takes more
 pub record SoFar (first now : View) (events : List Event) (before after : Option (List ℕ)) : Type 0 where
@@ -153,3 +157,42 @@ stops first now new i es e before mid after step_rises rises halt more is h r k 
     subst (λ xs. RunGives first new xs before after rises (Err halt)) whole
     (stops_before first new (take i es ++ e ∷ []) (drop (i + 1) es) before after rises halt
     (stops_in first now new (take i es) (e ∷ []) before mid after step_rises rises halt h r (step-runs now new e mid after step_rises (Err halt) k)))
+
+-- ---- how a run over some events goes on over others
+
+-- the bytes are written out
+pub done-kept : {first now : View} {all : After} {before mid after : Option (List ℕ)} {r : Option ℤ} → IsDone first now all before mid r → Keeps mid after → IsDone first now all before after r
+done-kept h keeps = record { state = h.state; halts = h.halts; sound = h.sound; printed = Appends-kept _ _ _ _ h.printed keeps; same_device = h.same_device; later = h.later }
+
+pub so-far-kept : {first now : View} {es : List Event} {before mid after : Option (List ℕ)} → SoFar first now es before mid → Keeps mid after → SoFar first now es before after
+so-far-kept h keeps = record { began = h.began; done = done-kept h.done keeps }
+
+-- a result that is handed on
+pub ends_with : (old new : View) (all ys zs : List Event) (before after : Option (List ℕ)) (rises : Type 0)
+    (r : Result (Unit {0}) Halt) (given halt : Halt) → all ≡ ys ++ zs → r ≡ Err given → given ≡ halt
+    → RunGives old new ys before after rises (Err halt) → RunGives old new all before after rises r
+ends_with old new all ys zs before after rises r given halt whole is same k =
+    rw (whole, is, same) (stops_before old new ys zs before after rises halt k)
+
+-- a run that is followed by a second is answered as the second
+pub runs_on : (first now new : View) (xs ys : List Event) (before mid after : Option (List ℕ)) (step_rises rises : Type 0)
+    (r : Result (Unit {0}) Halt) → SoFar first now xs before mid → (step_rises → rises)
+    → RunGives now new ys mid after step_rises r → RunGives first new (xs ++ ys) before after rises r
+runs_on first now new xs ys before mid after step_rises rises (Ok u) h r k =
+    let d = goes_on_by first now new xs ys before mid after h k.1 in
+    (d.began, d.done)
+runs_on first now new xs ys before mid after step_rises rises (Err halt) h r k =
+    stops_in first now new xs ys before mid after step_rises rises halt h r k
+
+-- what a result that is tested is
+pub ok-of : (r : Result (Unit {0}) Halt) → is_err r ≡ false → r ≡ Ok tt
+ok-of (Ok u) good = refl
+ok-of (Err why) good = absurd (cc)
+
+pub on-err : (P : Type 0) (r : Result (Unit {0}) Halt) → is_err r ≡ true → OnOk r P
+on-err P (Ok u) bad = absurd (cc)
+on-err P (Err why) bad = tt
+
+pub on-all : (P : Type 0) (r : Result (Unit {0}) Halt) → P → OnOk r P
+on-all P (Ok u) p = p
+on-all P (Err why) p = tt

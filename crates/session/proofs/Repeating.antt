@@ -3,8 +3,7 @@ use Rattle.std.specs.Prelude.{OnOk, is_ok, IfErr, IsErrOf}
 use Rattle.calls.specs.Steps.{IsBusy, IsBusyFor}
 use Rattle.machine.specs.Booted.{IsUnbooted}
 use Rattle.calls.specs.declared.halt.Halt.{Halt}
-use Rattle.machine.proofs.RunLemmas.{SoFar}
-use Rattle.machine.proofs.RunsOn.{both, runs_on}
+use Rattle.machine.proofs.RunLemmas.{SoFar, both, runs_on}
 use Rattle.machine.specs.Gives.{IsRefused, RunGives}
 use Rattle.machine.specs.View.{IsUp, View}
 use Rattle.session.specs.Played.{Advances, Refuses}

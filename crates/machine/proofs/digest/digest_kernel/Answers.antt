@@ -1,5 +1,5 @@
 use Rattle.kernel.proofs.Steps.{reads-as}
-use Rattle.machine.proofs.Looking.{digest-told}
+use Rattle.machine.proofs.Steps.{digest-told}
 use Rattle.machine.proofs.digest.digest_kernel.Goals as goal
 
 pub returns : goal.returns

@@ -1,6 +1,6 @@
 use Rattle.machine.proofs.image_boot.boot.Goals as goal
-use Rattle.machine.proofs.Mounts.{booted-from, counted-from, refused-from, unmounted-why}
-use Rattle.machine.proofs.Common.{image_of, arith, subst, sym, IsUnbooted}
+use Rattle.machine.proofs.Booting.{booted-from, counted-from, refused-from, unmounted-why}
+use Rattle.machine.proofs.Common.{arith, image_of, IsUnbooted, subst, sym}
 
 pub returns-in-Ok : goal.returns-in-Ok
 returns-in-Ok g c = record {

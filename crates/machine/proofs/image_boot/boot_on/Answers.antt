@@ -1,18 +1,18 @@
 use Rattle.machine.proofs.image_boot.boot_on.Goals as goal
-use Rattle.machine.proofs.Common.{watched-all, Kernel, ap, arith, refl, subst, sym, ◌∙◌, ◌≤◌, FileTree, Rises}
+use Rattle.machine.proofs.Common.{ap, arith, FileTree, Kernel, refl, Rises, subst, sym, watched-all, ◌∙◌, ◌≤◌}
 use Rattle.machine.proofs.Booting.{begun-init, kernel-sound, not-begun, root-few, root-there}
 use Rattle.machine.proofs.FlatLemmas.{frames-of, none-of}
 
 pub new-kernel-requires : goal.new-kernel-requires
 new-kernel-requires g c = record {
-  sound = kernel-sound c.args.tree c.put_init.new.tree c.requires.unheld c.in-Ok-Some.ensures.serves.told c.is_whole.ensures c.args.frames c.in-Ok.spaces (frames-of c.in-Ok.ensures) c.put_init.new.spaces c.in-Ok-Some.init c.in-Ok-Some.field-0 c.in-Ok-Some.field-0-is c.in-Ok-Some.ensures.put c.hold.new.self c.hold.ensures c.first_table-table.result c.first_table-table.ensures _ c.new-files.ensures;
+  sound = kernel-sound c.requires.unheld c.in-Ok-Some.ensures.serves.told c.is_whole.ensures c.in-Ok.spaces c.put_init.new.spaces (frames-of c.in-Ok.ensures) c.in-Ok-Some.field-0-is c.in-Ok-Some.ensures.put c.hold.ensures c.first_table-table.ensures c.new-files.ensures;
   watched = rw c.first_table-table.ensures (watched-all 64);
 }
 
 pub returns-in-Ok-Some-clause-begun : goal.returns-in-Ok-Some-clause-begun
 returns-in-Ok-Some-clause-begun g c =
-    begun-init c.args.tree c.put_init.new.tree c.requires.unheld c.in-Ok-Some.ensures.serves.told c.is_whole.ensures c.args.frames c.in-Ok.spaces (frames-of c.in-Ok.ensures) c.put_init.new.spaces c.in-Ok-Some.init c.in-Ok-Some.field-0 c.in-Ok-Some.field-0-is c.in-Ok-Some.ensures.put c.hold.new.self c.hold.ensures c.first_table-table.result c.first_table-table.ensures _ c.new-files.ensures
-    c.new-kernel.result c.new-kernel.ensures c.new-machine.result c.new-machine.ensures c.in-Ok-Some.ensures.serves.cause.later
+    begun-init c.requires.unheld c.in-Ok-Some.ensures.serves.told c.is_whole.ensures c.in-Ok.spaces c.put_init.new.spaces (frames-of c.in-Ok.ensures) c.in-Ok-Some.field-0-is c.in-Ok-Some.ensures.put c.hold.ensures c.first_table-table.ensures c.new-files.ensures
+    c.new-kernel.ensures c.new-machine.ensures c.in-Ok-Some.ensures.serves.cause.later
 
 pub returns-in-Ok-None-clause-refused : goal.returns-in-Ok-None-clause-refused
 returns-in-Ok-None-clause-refused g c = not-begun c.args.tree c.args.frames c.in-Ok.spaces c.put_init.new.spaces (frames-of c.in-Ok.ensures) c.in-Ok-None.field-0 c.in-Ok-None.field-0-is c.in-Ok-None.ensures.put
@@ -29,8 +29,8 @@ is_whole-requires g c = c.in-Ok-Some.ensures.serves.up
 pub hold-requires : goal.hold-requires
 hold-requires g c = record {
   up = c.in-Ok-Some.ensures.serves.up;
-  node = root-there c.args.tree c.put_init.new.tree c.requires.unheld c.in-Ok-Some.ensures.serves.told c.is_whole.ensures;
-  few = root-few c.args.tree c.put_init.new.tree c.requires.unheld c.in-Ok-Some.ensures.serves.told c.is_whole.ensures;
+  node = root-there c.requires.unheld c.in-Ok-Some.ensures.serves.told c.is_whole.ensures;
+  few = root-few c.requires.unheld c.in-Ok-Some.ensures.serves.told c.is_whole.ensures;
 }
 
 pub new-machine-requires : goal.new-machine-requires

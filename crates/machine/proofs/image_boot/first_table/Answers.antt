@@ -1,6 +1,6 @@
 use Rattle.machine.proofs.image_boot.first_table.Goals as goal
 use Rattle.machine.proofs.FlatLemmas.{one-seated}
-use Rattle.machine.proofs.Common.{bare_of, first_of, all_in, seat_of, seat_of-first, ap, arith, ◌∙◌}
+use Rattle.machine.proofs.Common.{all_in, ap, arith, bare_of, first_of, seat_of, seat_of-first, ◌∙◌}
 
 pub returns : goal.returns
 returns c =

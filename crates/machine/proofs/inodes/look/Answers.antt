@@ -1,5 +1,6 @@
-use Rattle.machine.proofs.Common.{◌∙◌, lost-reads}
-use Rattle.machine.proofs.Looking.{told-shown}
+use Rattle.machine.proofs.Common.{◌∙◌}
+use Rattle.kernel.proofs.Steps.{lost-reads}
+use Rattle.machine.proofs.Steps.{told-shown}
 use Rattle.machine.proofs.inodes.look.Goals as goal
 
 pub returns-in_err-seen : goal.returns-in_err-seen

@@ -1,5 +1,5 @@
 use Rattle.kernel.proofs.Steps.{reads-as}
-use Rattle.machine.proofs.Looking.{read-shown}
+use Rattle.machine.proofs.Steps.{read-shown}
 use Rattle.machine.proofs.inodes.read.Goals as goal
 
 pub returns : goal.returns

@@ -1,6 +1,5 @@
 use Rattle.std.specs.Prelude.{OnOk}
-use Rattle.machine.proofs.RunLemmas.{Rises-later, so_far_at_first}
-use Rattle.machine.proofs.RunsOn.{ok-of, on-all, on-err}
+use Rattle.machine.proofs.RunLemmas.{Rises-later, so_far_at_first, ok-of, on-all, on-err}
 use Rattle.std.proofs.Common.{arith, sym, ◌∙◌, ◌≡◌}
 use Rattle.session.proofs.Repeating.{busy-at-first, busy-on, ends, ends-by, steps-on}
 use Rattle.session.proofs.play.advance.Goals.{then-more-eq0-via-else-more-eq0+then-is_err, then-more-eq0-via-then-more-eq0}

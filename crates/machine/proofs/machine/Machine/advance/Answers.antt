@@ -8,10 +8,10 @@ pub returns-clause-gives : goal.returns-clause-gives
 returns-clause-gives g c =
     let k = c.self.inside.kernel in
     let up = rw (← c.self.view_is) at (c.is_stopped.ensures.up c.if-is_stopped.false) in
-    rw (← c.self.view_is, up.sound) (advance-gives k c.advance-count.new.kernel _ c.args.most c.advance-count.result.0 _ _ _ c.advance-count.result.1 up.goes (c.self.invariant up.sound) c.is_failure-self-inside.ensures c.advance-count.ensures.does).0
+    rw (← c.self.view_is, up.sound) (advance-gives k c.advance-count.new.kernel _ _ up.goes _ _ c.args.most c.advance-count.result.0 c.advance-count.result.1 (c.self.invariant up.sound) c.is_failure-self-inside.ensures c.advance-count.ensures.does).0
 
 pub returns-clause-piece : goal.returns-clause-piece
 returns-clause-piece g c =
     let k = c.self.inside.kernel in
     let up = rw (← c.self.view_is) at (c.is_stopped.ensures.up c.if-is_stopped.false) in
-    rw (← c.self.view_is, up.sound) (advance-gives k c.advance-count.new.kernel _ c.args.most c.advance-count.result.0 _ _ _ c.advance-count.result.1 up.goes (c.self.invariant up.sound) c.is_failure-self-inside.ensures c.advance-count.ensures.does).1
+    rw (← c.self.view_is, up.sound) (advance-gives k c.advance-count.new.kernel _ _ up.goes _ _ c.args.most c.advance-count.result.0 c.advance-count.result.1 (c.self.invariant up.sound) c.is_failure-self-inside.ensures c.advance-count.ensures.does).1

@@ -1,4 +1,4 @@
-use Rattle.machine.proofs.Common.{◌<◌, arith, length, take_more, err_from_is_err_and}
+use Rattle.machine.proofs.Common.{arith, err_from_is_err_and, length, take_more, ◌<◌}
 use Rattle.machine.proofs.RunLemmas.{Rises-later, so_far_at_first, goes_on, stops}
 use Rattle.machine.proofs.machine.Machine.run.Goals as goal
 

@@ -1,5 +1,5 @@
-use Rattle.machine.proofs.Common.{ap, subst, sym, ◌∙◌, err_from_is_err_and, KeepsTree, FileTree}
-use Rattle.machine.proofs.Saving.{lost-saving, saved}
+use Rattle.machine.proofs.Common.{ap, err_from_is_err_and, FileTree, KeepsTree, subst, sym, ◌∙◌}
+use Rattle.machine.proofs.Steps.{lost-saving, saved}
 use Rattle.machine.proofs.machine.Machine.save.Goals as goal
 
 pub give_up-requires-clause-up : goal.give_up-requires-clause-up

@@ -1,4 +1,4 @@
-use Rattle.machine.proofs.Common.{ap, arith, le_trans, subst, sym, ◌∙◌, ◌≤◌, OnOk, is_err, image_of, AreLinked, KeepsTree, FileTree, Rises, Denotes}
+use Rattle.machine.proofs.Common.{ap, AreLinked, arith, Denotes, FileTree, image_of, is_err, KeepsTree, le_trans, OnOk, Rises, subst, sym, ◌∙◌, ◌≤◌}
 use Rattle.calls.proofs.Acts.{where-err}
 use Rattle.names.proofs.Quiet.{leaves, left-linked}
 use Rattle.machine.proofs.machine.save.give_up.Goals as goal
