@@ -1,7 +1,7 @@
 -- How a session goes on, and how it ends.
-use Rattle.live.proofs.Common.{◌≡◌, ◌∙◌, ℕ, ◌+◌, ◌-◌, ◌≤◌, true, false, inl, inr, length-append, List, [], ◌∷◌, ◌++◌, drop, Option, Some, None, Result, Ok, Err, ap, sym, refl, arith, le_trans, append_assoc, append-nil, replicate}
-use Rattle.live.proofs.Common.{take-append-drop, subst, OnErr, OnOk, length, option_map, suc, zero, replicate-append-replicate, replicate_more, take-replicate, done-kept, runs_on, Rises-later, SoFar, so_far_at_first, up_now, Event, Step}
-use Rattle.live.proofs.Common.{step-runs}
+use Rattle.live.proofs.Common.{◌≡◌, ◌∙◌, ℕ, ◌+◌, ◌-◌, ◌≤◌, true, false, inl, inr, length-append, List, [], ◌∷◌, ◌++◌, drop, Option, Some, None, Result, Ok, Err, ap, sym, refl}
+use Rattle.live.proofs.Common.{arith, le_trans, append_assoc, append-nil, replicate, take-append-drop, subst, OnErr, OnOk, length, option_map, suc, zero}
+use Rattle.live.proofs.Common.{replicate-append-replicate, replicate_more, take-replicate, done-kept, runs_on, Rises-later, SoFar, so_far_at_first, up_now, Event, Step, step-runs}
 use Rattle.std.specs.Io.KnownBytes.{Keeps}
 use Rattle.std.proofs.Math.Nat.{zero-add}
 use Rattle.std.specs.Result.{is_err}
