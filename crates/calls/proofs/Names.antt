@@ -14,7 +14,7 @@ use Rattle.unixmodel.specs.Files.{blocks_for, size_of, without_place}
 use Rattle.kernel.proofs.Runs.{away-loaded, opened-loaded, used-loaded}
 use Rattle.calls.specs.Named.{IsNamed}
 use Rattle.names.proofs.Finding.{find-used}
-use Rattle.kernel.proofs.Shapes.{folder-there}
+use Rattle.kernel.proofs.Memories.{folder-there, kept-is, reaps}
 use Rattle.tree.specs.declared.TreeFault.TheVariants.{Device}
 use Rattle.unixmodel.specs.Counts.{opens_of}
 use Rattle.calls.proofs.Acts.{does, outcome-here, refused, refuses-on, lost-after, served-after, settle-reaped, settles}
@@ -26,8 +26,6 @@ use Rattle.files.proofs.PipesLemmas.{without_pipes-same}
 use Rattle.kernel.proofs.Named.{counts-joined}
 use Rattle.tree.specs.Holding.{let_go}
 use Rattle.tree.specs.Unlinks.{unlinked_in}
-use Rattle.kernel.proofs.Memories.{kept-is}
-use Rattle.kernel.proofs.Unlinking.{reaps}
 use Rattle.calls.proofs.Processes.{sum-altered}
 
 -- ---- the paths of the process that calls

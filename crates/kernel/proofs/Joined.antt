@@ -8,7 +8,7 @@ use Rattle.proc.specs.Places as table
 use Rattle.unixmodel.specs.Outcome as ends
 use Rattle.unixmodel.specs.Process as unix
 use Rattle.kernel.proofs.Holding.{least, map-same, same-set, Fds, Opens, Pipes, Processes, Views}
-use Rattle.files.proofs.CountsLemmas as counts
+use Rattle.files.proofs.Whole as counts
 use Rattle.files.specs.declared.file.OpenFile.{OpenFile}
 use Rattle.files.specs.declared.file.Target.{Target}
 use Rattle.unixmodel.specs.OpenFiles as unix_files

@@ -16,7 +16,7 @@ use Rattle.unixmodel.specs.Process as unix
 use Rattle.calls.proofs.Opens.{some-there}
 use Rattle.names.proofs.Finding.{find-used}
 use Rattle.programs.proofs.Loads.{IsProgram, is-program, HasProgram, args-long, has-program, length-stacked, no-plan, plan-is}
-use Rattle.programs.proofs.Serving.{serves-told}
+use Rattle.programs.proofs.Headings.{serves-told}
 use Rattle.programs.specs.declared.arguments.Arguments.{Arguments}
 use Rattle.programs.specs.declared.headers.Program.{Program}
 use Rattle.programs.specs.Headed.{IsRead, file_at, program_in}
