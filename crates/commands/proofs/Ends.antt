@@ -1,22 +1,38 @@
 -- How a run ends whose bytes are written out, and what it leaves.
-use Rattle.std.proofs.Common.{◌≡◌, ◌∙◌, ℕ, ℤ, Bool, List, [], take, drop, Option, Some, None, Result, Ok, Err, true, false, ap, subst, sym, append-nil, inr, refl}
-use Rattle.std.proofs.KnownBytes.{Appends-kept}
-use Rattle.std.proofs.lemmas.List.{take-append-drop}
 use Rattle.std.specs.Io.KnownBytes.{Keeps}
 use Rattle.calls.specs.declared.halt.Halt.{Halt}
-use Rattle.calls.specs.declared.halt.Halt.TheVariants as halt
-use Rattle.machine.proofs.RunLemmas.{begins_both}
 use Rattle.commands.specs.Reports.{end_of, status_of}
-use Rattle.commands.specs.Runs.{IsPlayed, Leaves, PlaysOut, Saves}
 use Rattle.commands.specs.declared.report.End.{End}
 use Rattle.commands.specs.declared.report.End.TheVariants.{Halted, Running}
+use Rattle.machine.specs.View.{IsUp, View}
+use Rattle.unixmodel.specs.declared.event.Event.{Event}
+use Rattle.imagerules.specs.Content.{image_of}
+use Rattle.migrate.specs.declared.fault.MigrateFault.TheVariants.{NoMemory}
+use Rattle.std.specs.Result.{IsErrAnd}
+use Rattle.std.proofs.Common.{[], ap, append-nil, Bool, drop, Err, false, inr, List, None, Ok, Option, refl, Result, Some, subst, sym, take, true, ℕ, ℤ, ◌∙◌, ◌≡◌, IfErr, ◌%◌, length}
+use Rattle.std.proofs.KnownBytes.{Appends-kept}
+use Rattle.std.proofs.lemmas.List.{take-append-drop}
+use Rattle.calls.specs.declared.halt.Halt.TheVariants as halt
+use Rattle.machine.proofs.RunLemmas.{begins_both}
+use Rattle.commands.specs.Runs.{IsPlayed, Leaves, PlaysOut, Saves, failing_count, failing_identity, IsImageRun, IsRunWith, IsUnbootedWith}
 use Rattle.console.specs.Output.{AppendsBeginning}
 use Rattle.machine.specs.Gives.{DeviceFailsIn, IsDone, RunGives}
 use Rattle.machine.specs.Saved.{SaveGives}
-use Rattle.machine.specs.View.{IsUp, View}
 use Rattle.unixmodel.specs.Calls.{After}
-use Rattle.unixmodel.specs.declared.event.Event.{Event}
 use Rattle.unixmodel.specs.Run.{run}
+use Rattle.std.specs.Prelude.{option_map}
+use Rattle.std.specs.Int.NonZero.{non_zero_u64_get}
+use Rattle.std.specs.declared.num.NonZeroU64.{NonZeroU64}
+use Rattle.blockdev.specs.Disk.{Failing}
+use Rattle.machine.specs.Booted.{IsUnbooted}
+use Rattle.machine.specs.declared.fault.BootFault.{BootFault}
+use Rattle.std.proofs.lemmas.Result.{err_from_is_err_and}
+use Rattle.blockdev.specs.Blocks.{blocks_of}
+use Rattle.imagerules.proofs.Spelling.{image_of-blocks}
+use Rattle.imagecheck.specs.Faults.{IsOfImage}
+use Rattle.imagecheck.specs.declared.ImageFault.{ImageFault}
+use Rattle.imagecheck.specs.declared.ImageFault.TheVariants as image
+use Rattle.migrate.specs.declared.fault.MigrateFault.{MigrateFault}
 
 -- ---- what is written out
 
@@ -84,9 +100,8 @@ module _ (old new : View) (before mid after : Option (List ℕ)) (keeps : Keeps 
   plays-out events rising (Err halt.Device) true up k = device-written events k.1
   plays-out events rising (Err halt.Device) false up k = device-begins events up k.1
   plays-out events rising (Err halt.Console) true up k = begins-written (run old.state events).bytes k.1.printed
-  plays-out events rising (Err halt.Console) false up k = begins-written (run old.state events).bytes k.1.printed
-  plays-out events rising (Err halt.Halted) true up k = absurd (k.stopped up)
-  plays-out events rising (Err halt.Halted) false up k = absurd (k.stopped up)
+  plays-out events rising (Err halt.Console) _ up k = begins-written (run old.state events).bytes k.1.printed
+  plays-out events rising (Err halt.Halted) written up k = absurd (k.stopped up)
 
 -- the same, where what is written by the run is known by other names
 pub plays-through : (old new : View) (from before to mid after : Option (List ℕ)) → from ≡ before → to ≡ mid → Keeps mid after
@@ -108,26 +123,59 @@ module _ {D : Type 0} (content : D → List (List ℕ)) (identity : D → List �
       → SaveGives content identity count last (Ok disk) → Leaves content identity count first events before after saves end (Some disk)
   leaves-saved Running disk is zero k s = played None (Some disk) k (rw is s)
   leaves-saved (Halted (halt.InitEnded status)) disk is zero k s = played (Some status) (Some disk) k (rw is s)
-  leaves-saved (Halted halt.Device) disk is zero k s = absurd (cc)
-  leaves-saved (Halted halt.Console) disk is zero k s = absurd (cc)
-  leaves-saved (Halted halt.Halted) disk is zero k s = absurd k
+  leaves-saved _ disk is zero k s = absurd (cc)
 
   -- all events are done
   all-done : (end : End) → status_of end ≡ 0 → PlaysOut first last events before after end → (halted : Option ℤ) × IsDone first last (run first.state events) before after halted
   all-done Running zero k = (None, k)
   all-done (Halted (halt.InitEnded status)) zero k = (Some status, k)
-  all-done (Halted halt.Device) zero k = absurd (cc)
-  all-done (Halted halt.Console) zero k = absurd (cc)
-  all-done (Halted halt.Halted) zero k = absurd k
+  all-done _ zero k = absurd (cc)
 
   -- it can't be saved
   pub leaves-unsaved : (end : End) (why : Halt) → saves ≡ true → status_of end ≡ 0 → PlaysOut first last events before after end
       → SaveGives content identity count last (Err why) → Leaves content identity count first events before after saves (Halted why) None
-  leaves-unsaved end (halt.InitEnded status) is zero k s = absurd s
   leaves-unsaved end halt.Device is zero k s =
       let done = all-done end zero k in
       (refl, (last, inr (record { wanted = is; halted = done.0; done = done.1; lost = s })))
-  leaves-unsaved end halt.Console is zero k s = absurd s
-  leaves-unsaved end halt.Halted is zero k s =
-      let sound = (all-done end zero k).1.sound in
-      let bad : true ≡ false = sym s ∙ sound in absurd (cc)
+  leaves-unsaved end halt.Halted is zero k s = let bad : true ≡ false = sym s ∙ (all-done end zero k).1.sound in absurd (cc)
+  leaves-unsaved end _ is zero k s = absurd s
+
+-- ---- a run from a disk of which one access fails
+
+module _ {D : Type 0} (identity : D → List ℕ) (count : D → ℕ) (fail : Option NonZeroU64) (n : NonZeroU64) (disk : D) (failing : Failing D) (is : fail ≡ Some n) (device : failing.device ≡ disk) (left : failing.left ≡ non_zero_u64_get n) where
+  -- what runs from the disk with its access that fails
+  pub runs-failing : (content : D → List (List ℕ)) (frames : ℕ) (events : List Event) (before after : Option (List ℕ)) (saves : Bool) (end : End) (kept : Option (Failing D)) (disk' : Option D) → option_map (λ (d : Failing D). d.device) kept ≡ disk'
+      → IsImageRun (λ (d : Failing D). content d.device) (failing_identity identity) (failing_count count) failing frames events before after saves end kept → IsRunWith content identity count fail disk frames events before after saves end disk'
+  runs-failing content frames events before after saves end kept disk' inner runs = rw is (record {
+    failing = kept;
+    inner = inner;
+    runs = rw (← device, ← left) runs;
+  })
+
+  -- what doesn't boot from it
+  pub unbooted-failing : (image : List ℕ) (frames : ℕ) (fault : BootFault) → IsUnbooted (failing_identity identity) (failing_count count) failing image frames fault → IsUnbootedWith identity count fail disk image frames fault
+  unbooted-failing image frames fault why = rw is (rw (← device, ← left) why)
+
+-- what is told of a fault is told of the answer that passes it on
+pub passed-on : {T : Type 0} (r : Result T BootFault) (fault : BootFault) (Why : BootFault → Type 0) → IsErrAnd r (λ f. f ≡ fault) → Why fault → IfErr r Why
+passed-on (Ok x) fault Why is why = tt
+passed-on (Err f) fault Why is why = subst Why (sym is) why
+
+-- ---- an image that was made of an old one is checked
+
+-- the fault that a step passes on
+pub told_fault : {T : Type 0} (r : Result T MigrateFault) (fault : MigrateFault) → IsErrAnd r (λ f. f ≡ fault) → r ≡ Err fault
+told_fault r fault h = let p = err_from_is_err_and r h in p.1 ∙ ap Err p.2
+
+-- a good image on a disk that never fails is refused for want of memory alone
+pub only-memory : (fault : ImageFault) → (IsOfImage fault → ⊥) → (fault ≡ image.Device → ⊥) → fault ≡ image.NoMemory
+only-memory image.Device none device = absurd (device refl)
+only-memory image.NoMemory none device = refl
+only-memory fault none device = absurd (none tt)
+
+-- a check leaves the bytes of its disk as they are
+pub disk-bytes : (new disk : List ℕ) → length new % 1024 ≡ 0 → disk ≡ new → image_of (blocks_of disk) ≡ new
+disk-bytes new disk whole e = ap (λ b. image_of (blocks_of b)) e ∙ image_of-blocks new whole
+
+pub kept-bytes : (disk after into : List ℕ) → blocks_of after ≡ blocks_of disk → into ≡ after → length into % 1024 ≡ 0 → into ≡ image_of (blocks_of disk)
+kept-bytes disk after into same e whole = sym (image_of-blocks into whole) ∙ ap (λ b. image_of (blocks_of b)) e ∙ ap image_of same

@@ -1,4 +1,2 @@
-mod FailingRuns
-mod Migrating
 mod Sitting
 pub mod Ends

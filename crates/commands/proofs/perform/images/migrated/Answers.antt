@@ -1,9 +1,8 @@
-use Rattle.std.proofs.Common.{◌≡◌, ◌%◌, Err, ap, arith, is_err, length, sym, subst, ◌∙◌}
+use Rattle.std.proofs.Common.{◌%◌, ap, arith, Err, is_err, length, subst, sym, ◌∙◌, ◌≡◌}
 use Rattle.std.proofs.lemmas.Result.{IfOk-from_err}
 use Rattle.unixmodel.specs.Image.{Denotes, named_blocks, numbers_in_use}
 use Rattle.migrate.specs.Copies.{image_fault}
-use Rattle.migrate.specs.declared.fault.MigrateFault.TheVariants.{Blocks, Image}
-use Rattle.commands.proofs.Migrating.{disk-bytes, kept-bytes, not_blocks, not_image, only-memory, same_fault, told_fault}
+use Rattle.commands.proofs.Ends.{disk-bytes, kept-bytes, only-memory, told_fault}
 use Rattle.commands.proofs.perform.images.migrated.Goals as goal
 
 pub unreachable-requires : goal.unreachable-requires
@@ -21,8 +20,8 @@ returns-in_err-new c =
       image = IfOk-from_err r _ c.from_residual.ensures.0;
       inodes = IfOk-from_err r _ c.from_residual.ensures.0;
       blocks = IfOk-from_err r _ c.from_residual.ensures.0;
-      refused = λ f is. (c.in_err-new.ensures.image f (ap Err (same_fault fault (Image f) (sym told ∙ is)))).0;
-      full = λ is. c.in_err-new.ensures.blocks (ap Err (same_fault fault Blocks (sym told ∙ is)));
+      refused = λ f is. (c.in_err-new.ensures.image f (ap Err (cc (sym told ∙ is)))).0;
+      full = λ is. c.in_err-new.ensures.blocks (ap Err (cc (sym told ∙ is)));
     }
 
 pub returns-in_err-summary : goal.returns-in_err-summary
@@ -42,8 +41,8 @@ returns-in_err-summary c =
       image = IfOk-from_err r _ c.from_residual-in_err-summary.ensures.0;
       inodes = IfOk-from_err r _ c.from_residual-in_err-summary.ensures.0;
       blocks = IfOk-from_err r _ c.from_residual-in_err-summary.ensures.0;
-      refused = λ f is. absurd (not_image f (sym told ∙ is));
-      full = λ is. absurd (not_blocks (sym told ∙ is));
+      refused = λ f is. absurd (cc (sym told ∙ is));
+      full = λ is. absurd (cc (sym told ∙ is));
     }
 
 pub returns : goal.returns

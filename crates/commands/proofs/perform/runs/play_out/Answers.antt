@@ -1,6 +1,6 @@
+use Rattle.live.specs.Plays.{script_events}
 use Rattle.std.proofs.Common.{ap, sym}
 use Rattle.commands.proofs.Ends.{plays-through}
-use Rattle.live.specs.Plays.{script_events}
 use Rattle.commands.proofs.perform.runs.play_out.Goals as goal
 
 pub returns : goal.returns

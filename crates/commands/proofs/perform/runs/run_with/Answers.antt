@@ -1,7 +1,7 @@
-use Rattle.std.proofs.Common.{is_some}
 use Rattle.imagerules.specs.Content.{image_of}
 use Rattle.live.specs.Plays.{script_events}
-use Rattle.commands.proofs.FailingRuns.{passed-on, runs-failing, unbooted-failing}
+use Rattle.std.proofs.Common.{is_some}
+use Rattle.commands.proofs.Ends.{passed-on, runs-failing, unbooted-failing}
 use Rattle.commands.proofs.perform.runs.run_with.Goals as goal
 
 pub returns-in_err-end-clause-refused : goal.returns-in_err-end-clause-refused
