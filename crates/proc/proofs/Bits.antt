@@ -12,13 +12,13 @@ use Rattle.std.proofs.lemmas.Nat.Bits.{shr_and_one}
 pub length-bits_of : (w n : ℕ) → length (bits_of w n) ≡ w
 unfolding bits_of
 length-bits_of zero n = refl
-length-bits_of (suc w) n = ap suc (length-bits_of w (n / 2))
+length-bits_of (suc w) n = ap suc (length-bits_of w _)
 
 pub bit-in : (w n i : ℕ) → i < w → is_in (bits_of w n) i ≡ (bit_at n i == 1)
 unfolding bits_of
 bit-in zero n i h = absurd (omega arith)
 bit-in (suc w) n zero h = ap (λ b. b == 1) (sym (bit_at_lowest n))
-bit-in (suc w) n (suc i) h = bit-in w (n / 2) i (omega arith) ∙ ap (λ b. b == 1) (sym (bit_at-suc n i))
+bit-in (suc w) n (suc i) h = bit-in w _ i (omega arith) ∙ ap (λ b. b == 1) (sym (bit_at-suc n i))
 
 -- m has the bits of n but for one
 module _ (n m at : ℕ) (b : Bool) (low : at < 64) (here : (bit_at m at == 1) ≡ b) (others : (i : ℕ) → i < 64 → i ≢ at → bit_at m i ≡ bit_at n i) where
@@ -48,22 +48,22 @@ bit-tested n at low = ap (λ b. b == 1) (shr_and_one n at) ∙ sym (bit-in 64 n 
 -- ---- a number that is turned round
 
 -- the low bits are those of what is cut off
-cut-bit : (n s j : ℕ) → j < 64 → bit_at (n * 2 ^ s % 2 ^ 64) j ≡ bit_at (n * 2 ^ s + 0) j
-cut-bit n s j low =
+cut-bit : (n s : ℕ) {j : ℕ} → j < 64 → bit_at (n * 2 ^ s % 2 ^ 64) j ≡ bit_at (n * 2 ^ s + 0) j
+cut-bit n s {j} low =
     let whole : n * 2 ^ s ≡ n * 2 ^ s + 0 = omega arith in
-    sym (bit_at_cat_low (n * 2 ^ s / 2 ^ 64) 64 (n * 2 ^ s % 2 ^ 64) j low) ∙ ap (λ y. bit_at y j) (shr_split (n * 2 ^ s) 64 ∙ whole)
+    sym (bit_at_cat_low _ 64 _ j low) ∙ ap (λ y. bit_at y j) (shr_split (n * 2 ^ s) 64 ∙ whole)
 
 shifted-low : (n s j : ℕ) → j < 64 → j < s → bit_at (n * 2 ^ s % 2 ^ 64) j ≡ 0
-shifted-low n s j low below = cut-bit n s j low ∙ bit_at_cat_low n s 0 j below ∙ bit_at-zero j
+shifted-low n s j low below = cut-bit n s low ∙ bit_at_cat_low n s 0 j below ∙ bit_at-zero j
 
 shifted-high : (n s j : ℕ) → j < 64 → s ≤ j → bit_at (n * 2 ^ s % 2 ^ 64) j ≡ bit_at n (j - s)
-shifted-high n s j low above = cut-bit n s j low ∙ bit_at_cat_high n s 0 j (pow_pos s) above
+shifted-high n s j low above = cut-bit n s low ∙ bit_at_cat_high n s 0 j (pow_pos s) above
 
 right-bit : (n r j : ℕ) → bit_at (n / 2 ^ r) j ≡ bit_at n (r + j)
 right-bit n r j = ap (λ x. x % 2) (shr-shr n r j)
 
-turned-bit : (n r s j : ℕ) → n < 2 ^ 64 → j < 64 → r < 64 → s ≡ (64 - r) % 64 → bit_at (bit_or (n / 2 ^ r) (n * 2 ^ s % 2 ^ 64)) j ≡ bit_at n ((j + r) % 64)
-turned-bit n r s j fits short low is = elim (cases_lt (j + r) 64) [
+turned-bit : (n r : ℕ) {s : ℕ} (j : ℕ) → n < 2 ^ 64 → j < 64 → r < 64 → s ≡ (64 - r) % 64 → bit_at (bit_or (n / 2 ^ r) (n * 2 ^ s % 2 ^ 64)) j ≡ bit_at n ((j + r) % 64)
+turned-bit n r {s} j fits short low is = elim (cases_lt (j + r) 64) [
   | inl inside ↦
       let at : r + j ≡ (j + r) % 64 = omega arith in
       elim (cases_eq r 0) [
@@ -74,10 +74,10 @@ turned-bit n r s j fits short low is = elim (cases_lt (j + r) 64) [
 ]
 
 rotated-bit : (n r j : ℕ) → n < 2 ^ 64 → j < 64 → r < 64 → bit_at (rotate_right w64 n r) j ≡ bit_at n ((j + r) % 64)
-rotated-bit n r j fits short low = let same : r % 64 ≡ r = omega arith in rw same (turned-bit n r ((64 - r) % 64) j fits short low refl)
+rotated-bit n r j fits short low = let same : r % 64 ≡ r = omega arith in rw same (turned-bit n r j fits short low refl)
 
 rotated-fits : (n r : ℕ) → n < 2 ^ 64 → rotate_right w64 n r < 2 ^ 64
-rotated-fits n r fits = or_lt 64 (n / 2 ^ (r % 64)) (n * 2 ^ ((64 - r % 64) % 64) % 2 ^ 64) (omega (arith, fits, shr_le n (r % 64))) (mod_below (n * 2 ^ ((64 - r % 64) % 64)) (2 ^ 64) (pow_pos 64))
+rotated-fits n r fits = or_lt 64 (n / 2 ^ (r % 64)) (n * 2 ^ ((64 - r % 64) % 64) % 2 ^ 64) (omega (arith, fits, shr_le n (r % 64))) (mod_below _ _ (pow_pos 64))
 
 -- ---- the lowest bit
 
@@ -86,9 +86,9 @@ record IsLowest (n t : ℕ) : Type 0 where
   pub below : (i : ℕ) → i < t → i < 64 → bit_at n i ≡ 0
   pub there : t < 64 → bit_at n t ≡ 1
 
-lowest : (n : ℕ) → n < 2 ^ 64 → IsLowest n (trailing_zeros w64 n)
+lowest : {n : ℕ} → n < 2 ^ 64 → IsLowest n (trailing_zeros w64 n)
 unfolding lib.Count.count_trailing_zeros
-lowest n fits = elim (cases_lt 0 n) [
+lowest {n} fits = elim (cases_lt 0 n) [
   | inl some ↦ (let l = bit_at-trailing_zeros w64 n some fits in record { below = λ i less short. l.2 i less; there = λ short. l.1 })
   | inr none ↦
       let zero' : n ≡ 0 = omega arith in
@@ -101,24 +101,24 @@ lowest n fits = elim (cases_lt 0 n) [
 -- places: what the bits of n show; ahead: n, turned so that its bits begin with that turn
 module _ {n last turn ahead : ℕ} {places : List Bool} (shows : bits_of 64 n ≡ places) (turns : ahead ≡ rotate_right w64 n ((last + turn) % 64)) (fits : n < 2 ^ 64) (in_last : last < 64) (in_turn : (1 ≤ turn) × (turn ≤ 65)) where
   first : IsLowest ahead (trailing_zeros w64 ahead)
-  first = lowest ahead (rw turns (rotated-fits n ((last + turn) % 64) fits))
+  first = lowest (rw turns (rotated-fits n _ fits))
 
-  place-bit : (k : ℕ) → turn ≤ k → k ≤ 64 → is_in places (place_in_round last k) ≡ (bit_at ahead (k - turn) == 1)
-  place-bit k low high =
+  place-bit : {k : ℕ} → turn ≤ k → k ≤ 64 → is_in places (place_in_round last k) ≡ (bit_at ahead (k - turn) == 1)
+  place-bit {k} low high =
       let same : place_in_round last k ≡ ((k - turn) + (last + turn) % 64) % 64 = omega arith in
       rw (← shows, bit-in 64 n (place_in_round last k) (omega arith), turns, rotated-bit n ((last + turn) % 64) (k - turn) fits (omega arith) (omega arith), same) refl
 
-  passed : (k : ℕ) → turn ≤ k → k ≤ 64 → k < turn + trailing_zeros w64 ahead → is_in places (place_in_round last k) ≡ false
-  passed k low high less = place-bit k low high ∙ ap (λ b. b == 1) (first.below (k - turn) (omega arith) (omega arith))
+  passed : {k : ℕ} → turn ≤ k → k ≤ 64 → k < turn + trailing_zeros w64 ahead → is_in places (place_in_round last k) ≡ false
+  passed {k} low high less = place-bit low high ∙ ap (λ b. b == 1) (first.below (k - turn) (omega arith) (omega arith))
 
   pub finds-one : turn + trailing_zeros w64 ahead ≤ 64 → IsNext places last turn (turn + trailing_zeros w64 ahead)
   finds-one within =
       let back : turn + trailing_zeros w64 ahead - turn ≡ trailing_zeros w64 ahead = omega arith in
       record {
         in_round = (omega arith, within);
-        there = place-bit (turn + trailing_zeros w64 ahead) (omega arith) within ∙ rw (back, first.there (omega arith)) refl;
-        before = λ j low high. passed j low (omega arith) high;
+        there = place-bit (omega arith) within ∙ rw (back, first.there (omega arith)) refl;
+        before = λ j low high. passed low (omega arith) high;
       }
 
   pub finds-none : 64 < turn + trailing_zeros w64 ahead → NoneIsIn places last turn 65
-  finds-none over = λ k low high. passed k low (omega arith) (omega arith)
+  finds-none over = λ k low high. passed low (omega arith) (omega arith)

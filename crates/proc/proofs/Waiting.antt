@@ -18,6 +18,10 @@ use Rattle.std.proofs.lemmas.Iterator.Adapters.{position_from-zero}
 use Rattle.std.proofs.lemmas.List.Folds.{list_any_more}
 use Rattle.std.specs.List.{position_from}
 
+-- the places of a table
+abbrev pub Processes : Type 0
+Processes = List (Option Process)
+
 -- ---- a pick that goes on from a turn of its round
 
 -- in the set of all places each is
@@ -28,26 +32,26 @@ all-in (suc n) zero = refl
 all-in (suc n) (suc i) = all-in n i
 
 -- what holds of each place of a list, where one has something else
-pub set-all : {X : Type 0} (P : ℕ → X → Type 0) (xs : List X) (i : ℕ) (x d : X) → P i x → ((j : ℕ) → P j (get_or xs j d)) → (j : ℕ) → P j (get_or (slice_set xs i x) j d)
-set-all P [] i x d here each j = each j
-set-all P (y ∷ ys) zero x d here each zero = here
-set-all P (y ∷ ys) zero x d here each (suc j) = each (suc j)
-set-all P (y ∷ ys) (suc i) x d here each zero = each 0
-set-all P (y ∷ ys) (suc i) x d here each (suc j) = set-all (λ n. P (suc n)) ys i x d here (λ n. each (suc n)) j
+pub set-all : {X : Type 0} (P : ℕ → X → Type 0) (xs : List X) (i : ℕ) {x : X} (d : X) → P i x → ((j : ℕ) → P j (get_or xs j d)) → (j : ℕ) → P j (get_or (slice_set xs i x) j d)
+set-all P [] i d here each j = each j
+set-all P (y ∷ ys) zero d here each zero = here
+set-all P (y ∷ ys) zero d here each (suc j) = each (suc j)
+set-all P (y ∷ ys) (suc i) d here each zero = each 0
+set-all P (y ∷ ys) (suc i) {x} d here each (suc j) = set-all (λ n. P (suc n)) ys i d here (λ n. each (suc n)) j
 
 -- ---- what holds of each number from one up to another
 
 module _ {P : ℕ → Type 0} {low mid : ℕ} (first' : (k : ℕ) → low ≤ k → k < mid → P k) where
   -- and from there up to a third
-  pub up_to : (high : ℕ) → ((k : ℕ) → mid ≤ k → k < high → P k) → (k : ℕ) → low ≤ k → k < high → P k
-  up_to high then' k more less = elim (cases_lt k mid) [
+  pub up_to : {high : ℕ} → ((k : ℕ) → mid ≤ k → k < high → P k) → (k : ℕ) → low ≤ k → k < high → P k
+  up_to then' k more less = elim (cases_lt k mid) [
     | inl before ↦ first' k more before
     | inr behind ↦ then' k behind less
   ]
 
   -- and of one more
   pub up_to-more : P mid → (k : ℕ) → low ≤ k → k < mid + 1 → P k
-  up_to-more here = up_to (mid + 1) (λ k behind less. let same : mid ≡ k = omega arith in subst P same here)
+  up_to-more here = up_to (λ k behind less. let same : mid ≡ k = omega arith in subst P same here)
 
 -- ---- a look that changes nothing
 
@@ -56,12 +60,12 @@ pub record HasLooked (says : ℕ → Bool → Type 0) (last turn : ℕ) : Type 0
   pub in_round : (1 ≤ turn) × (turn ≤ 65)
   pub before : (k : ℕ) → 1 ≤ k → k < turn → says (place_in_round last k) false
 
-pub looked-none : (says : ℕ → Bool → Type 0) (last : ℕ) → HasLooked says last 1
-looked-none says last = record { in_round = (omega arith, omega arith); before = λ k low high. absurd (omega arith) }
+pub looked-none : {says : ℕ → Bool → Type 0} {last : ℕ} → HasLooked says last 1
+looked-none = record { in_round = (omega arith, omega arith); before = λ k low high. absurd (omega arith) }
 
 module _ {says : ℕ → Bool → Type 0} {last turn : ℕ} (looked : HasLooked says last turn) (awake : List Bool) (asleep : (i : ℕ) → is_in awake i ≡ false → says i false) where
-  looked-to : (to : ℕ) → NoneIsIn awake last turn to → (k : ℕ) → 1 ≤ k → k < to → says (place_in_round last k) false
-  looked-to to out = up_to looked.before to (λ k low high. asleep (place_in_round last k) (out k low high))
+  looked-to : {to : ℕ} → NoneIsIn awake last turn to → (k : ℕ) → 1 ≤ k → k < to → says (place_in_round last k) false
+  looked-to {to} out = up_to looked.before (λ k low high. asleep (place_in_round last k) (out k low high))
 
   module _ {next : ℕ} (is : IsNext awake last turn next) where
     pub looked-first : says (place_in_round last next) true → IsFirst says last (place_in_round last next)
@@ -70,17 +74,17 @@ module _ {says : ℕ → Bool → Type 0} {last turn : ℕ} (looked : HasLooked 
       in_round = (omega arith, omega arith);
       there = refl;
       yes = yes';
-      before = looked-to next is.before;
+      before = looked-to is.before;
     }
 
     pub looked-on : says (place_in_round last next) false → HasLooked says last (next + 1)
     looked-on no' = let from = looked.in_round in let to = is.in_round in record {
       in_round = (omega arith, omega arith);
-      before = up_to-more {P = λ k. says (place_in_round last k) false} (looked-to next is.before) no';
+      before = up_to-more {P = λ k. says (place_in_round last k) false} (looked-to is.before) no';
     }
 
   pub looked-all : NoneIsIn awake last turn 65 → NoneSays says last
-  looked-all out = λ k low high. looked-to 65 out k low (omega arith)
+  looked-all out = λ k low high. looked-to out k low (omega arith)
 
 -- ---- a look after which who isn't ready sleeps
 
@@ -89,8 +93,8 @@ pub record IsLooking (says : ℕ → Bool → Type 0) (last : ℕ) (awake : List
   pub passed : HasLooked (λ i. λ b. is_in awake i ≡ b) last turn
   pub asleep : (i : ℕ) → is_in awake i ≡ false → says i false
 
-pub looks-begin : (says : ℕ → Bool → Type 0) (last : ℕ) (awake : List Bool) → ((i : ℕ) → is_in awake i ≡ false → says i false) → IsLooking says last awake 1
-looks-begin says last awake asleep = record { passed = looked-none (λ i. λ b. is_in awake i ≡ b) last; asleep = asleep }
+pub looks-begin : {says : ℕ → Bool → Type 0} (last : ℕ) (awake : List Bool) → ((i : ℕ) → is_in awake i ≡ false → says i false) → IsLooking says last awake 1
+looks-begin last awake asleep = record { passed = looked-none; asleep = asleep }
 
 module _ {says : ℕ → Bool → Type 0} {last : ℕ} {awake : List Bool} {turn : ℕ} (looks : IsLooking says last awake turn) {next : ℕ} (is : IsNext awake last turn next) where
   pub first-says : says (place_in_round last next) true → IsFirst says last (place_in_round last next)
@@ -102,12 +106,12 @@ module _ {says : ℕ → Bool → Type 0} {last : ℕ} {awake : List Bool} {turn
     at = place_in_round last next
 
     gone : (i : ℕ) → is_in awake i ≡ false → is_in (slice_set awake at false) i ≡ false
-    gone = set-all (λ i b. is_in awake i ≡ false → b ≡ false) awake at false true (λ _. refl) (λ i out. out)
+    gone = set-all (λ i b. is_in awake i ≡ false → b ≡ false) awake at true (λ _. refl) (λ i out. out)
 
     pub looks-on : IsLooking says last (slice_set awake at false) (next + 1)
     looks-on = record {
-      passed = looked-on (record { in_round = looks.passed.in_round; before = λ k low high. gone (place_in_round last k) (looks.passed.before k low high) }) awake gone is (get_or-set_same awake at false true (omega arith));
-      asleep = set-all (λ i b. b ≡ false → says i false) awake at false true (λ _. no') looks.asleep;
+      passed = looked-on (record { in_round = looks.passed.in_round; before = λ k low high. gone _ (looks.passed.before k low high) }) awake gone is (get_or-set_same awake at false true (omega arith));
+      asleep = set-all (λ i b. b ≡ false → says i false) awake at true (λ _. no') looks.asleep;
     }
 
 -- ---- the first place of a mask from one on: a round that begins after the last place
@@ -122,8 +126,8 @@ first-from {places} {from} {turn} is =
       before = λ j low high. (let there : place_in_round 63 (j + 1) ≡ j = omega arith in subst (λ k. is_in places k ≡ false) there (is.before (j + 1) (omega arith) (omega arith)));
     }
 
-pub none-from : (places : List Bool) (from : ℕ) → NoneIsIn places 63 (from + 1) 65 → NoneFrom places from
-none-from places from out = λ j low high. let there : place_in_round 63 (j + 1) ≡ j = omega arith in subst (λ k. is_in places k ≡ false) there (out (j + 1) (omega arith) (omega arith))
+pub none-from : (places : List Bool) {from : ℕ} → NoneIsIn places 63 (from + 1) 65 → NoneFrom places from
+none-from places out = λ j low high. let there : place_in_round 63 (j + 1) ≡ j = omega arith in subst (λ k. is_in places k ≡ false) there (out (j + 1) (omega arith) (omega arith))
 
 -- ---- a mask that changes
 
@@ -143,47 +147,47 @@ set-out (b ∷ bs) (suc i) (suc j) out = set-out bs i j out
 -- ---- the search for one who waits
 
 -- from: where it began; next: where it goes on
-pub record IsSearching (kind : WaitKind) (places : List (Option Process)) (from next : ℕ) (may : List Bool) : Type 0 where
+pub record IsSearching (kind : WaitKind) (places : Processes) (from next : ℕ) (may : List Bool) : Type 0 where
   pub in_places : (from ≤ next) × (next ≤ 64)
   pub within : IsWithin kind places may
   pub before : (j : ℕ) → from ≤ j → j < next → holds (waits_so kind) (slot places j) ≡ false
 
-pub search-begins : {kind : WaitKind} {places : List (Option Process)} {from : ℕ} {may : List Bool} → from ≤ 64 → IsWithin kind places may → IsSearching kind places from from may
+pub search-begins : {kind : WaitKind} {places : Processes} {from : ℕ} {may : List Bool} → from ≤ 64 → IsWithin kind places may → IsSearching kind places from from may
 search-begins low within = record { in_places = (omega arith, low); within = within; before = λ j more less. absurd (omega arith) }
 
-module _ {kind : WaitKind} {places : List (Option Process)} {from next : ℕ} {may : List Bool} (search' : IsSearching kind places from next may) where
-  passed-to : (to : ℕ) → ((j : ℕ) → next ≤ j → j < to → is_in may j ≡ false) → (j : ℕ) → from ≤ j → j < to → holds (waits_so kind) (slot places j) ≡ false
-  passed-to to out = up_to search'.before to (λ j low high. search'.within.out j (out j low high))
+module _ {kind : WaitKind} {places : Processes} {from next : ℕ} {may : List Bool} (search' : IsSearching kind places from next may) where
+  passed-to : {to : ℕ} → ((j : ℕ) → next ≤ j → j < to → is_in may j ≡ false) → (j : ℕ) → from ≤ j → j < to → holds (waits_so kind) (slot places j) ≡ false
+  passed-to {to} out = up_to search'.before (λ j low high. search'.within.out j (out j low high))
 
   pub search-none : NoneFrom may next → NoneWaits places kind from
-  search-none none = passed-to 64 none
+  search-none none = passed-to none
 
   module _ {at : ℕ} (is : IsFirstFrom may next at) where
     pub search-finds : holds (waits_so kind) (slot places at) ≡ true → IsFirstWaiting places kind from at
     search-finds yes' = let inside = is.in_places in let begun = search'.in_places in record {
       in_places = (omega arith, omega arith);
       there = yes';
-      before = passed-to at is.before;
+      before = passed-to is.before;
     }
 
     pub search-goes : length may ≡ 64 → holds (waits_so kind) (slot places at) ≡ false → IsSearching kind places from (at + 1) (slice_set may at false)
     search-goes all no' = let inside = is.in_places in let begun = search'.in_places in record {
       in_places = (omega arith, omega arith);
-      within = record { out = set-all (λ j b. b ≡ false → holds (waits_so kind) (slot places j) ≡ false) may at false true (λ _. no') search'.within.out };
-      before = up_to-more {P = λ j. holds (waits_so kind) (slot places j) ≡ false} (passed-to at is.before) no';
+      within = record { out = set-all (λ j b. b ≡ false → holds (waits_so kind) (slot places j) ≡ false) may at true (λ _. no') search'.within.out };
+      before = up_to-more {P = λ j. holds (waits_so kind) (slot places j) ≡ false} (passed-to is.before) no';
     }
 
 -- ---- places that change
 
-module _ {kind : WaitKind} {places : List (Option Process)} {may : List Bool} (within : IsWithin kind places may) where
+module _ {kind : WaitKind} {places : Processes} {may : List Bool} (within : IsWithin kind places may) where
   one-put : (i : ℕ) (o : Option Process) → IsWithin kind (slice_set places i o) (slice_set may i true)
   one-put i o = record {
-    out = set-all (λ j x. is_in (slice_set may i true) j ≡ false → holds (waits_so kind) x ≡ false) places i o None
-        (λ out. absurd (true≢false (sym (set-in may i) ∙ out))) (λ j out. within.out j (set-out may i j out));
+    out = set-all (λ j x. is_in (slice_set may i true) j ≡ false → holds (waits_so kind) x ≡ false) places i {x = o} None
+        (λ out. absurd (true≢false (sym (set-in _ i) ∙ out))) (λ j out. within.out j (set-out _ i j out));
   }
 
   one-freed : (i : ℕ) → IsWithin kind (slice_set places i None) may
-  one-freed i = record { out = set-all (λ j x. is_in may j ≡ false → holds (waits_so kind) x ≡ false) places i None None (λ _. refl) within.out }
+  one-freed i = record { out = set-all (λ j x. is_in may j ≡ false → holds (waits_so kind) x ≡ false) places i None (λ _. refl) within.out }
 
 -- who goes to process 1 waits as before
 orphan-waits : (kind : WaitKind) (pid : ℕ) (p : Process) → waits_so kind (orphaned pid p) ≡ waits_so kind p
@@ -192,19 +196,19 @@ orphan-waits kind pid p = go (is_child_of pid p) where
   go true = refl
   go false = refl
 
-orphans-wait : (kind : WaitKind) (pid : ℕ) (os : List (Option Process)) (j : ℕ) → holds (waits_so kind) (slot (map (option_map (orphaned pid)) os) j) ≡ holds (waits_so kind) (slot os j)
+orphans-wait : (kind : WaitKind) (pid : ℕ) (os : Processes) (j : ℕ) → holds (waits_so kind) (slot (map (option_map (orphaned pid)) os) j) ≡ holds (waits_so kind) (slot os j)
 orphans-wait kind pid [] j = refl
 orphans-wait kind pid (None ∷ os) zero = refl
-orphans-wait kind pid (Some p ∷ os) zero = orphan-waits kind pid p
-orphans-wait kind pid (o ∷ os) (suc j) = orphans-wait kind pid os j
+orphans-wait kind pid (Some p ∷ os) zero = orphan-waits _ _ p
+orphans-wait kind pid (o ∷ os) (suc j) = orphans-wait _ _ os j
 
-one-all : (kind : WaitKind) (places : List (Option Process)) → IsWithin kind places (all_in 64)
-one-all kind places = record { out = λ j out. absurd (true≢false (sym (all-in 64 j) ∙ out)) }
+one-all : {kind : WaitKind} {places : Processes} → IsWithin kind places (all_in 64)
+one-all = record { out = λ j out. absurd (true≢false (sym (all-in 64 j) ∙ out)) }
 
-pub within-all : (places : List (Option Process)) → AreWithin places (record { sleeps = all_in 64; transfers = all_in 64; children = all_in 64 })
-within-all places = record { sleeps = one-all Time places; transfers = one-all Transfer places; children = one-all Child places }
+pub within-all : {places : Processes} → AreWithin places (record { sleeps = all_in 64; transfers = all_in 64; children = all_in 64 })
+within-all {places} = record { sleeps = one-all; transfers = one-all; children = one-all }
 
-module _ {places : List (Option Process)} {may : WaitPlaces} (are : AreWithin places may) where
+module _ {places : Processes} {may : WaitPlaces} (are : AreWithin places may) where
   -- a place in which a process may wait has another
   pub within-put : (i : ℕ) (o : Option Process) → AreWithin (slice_set places i o) (with_place may i)
   within-put i o = record { sleeps = one-put are.sleeps i o; transfers = one-put are.transfers i o; children = one-put are.children i o }
@@ -222,32 +226,32 @@ module _ {places : List (Option Process)} {may : WaitPlaces} (are : AreWithin pl
 -- ---- a table that changes
 
 -- a write through the slice of all
-pub refilled : (xs ys zs : List (Option Process)) → length zs ≡ length xs → ys ≡ zs → refill (length xs) xs ys ≡ zs
-refilled xs ys zs same is = items-with_items (record { items = xs }) ys (ap length is ∙ same) ∙ is
+pub refilled : (xs : Processes) {ys zs : Processes} → length zs ≡ length xs → ys ≡ zs → refill (length xs) xs ys ≡ zs
+refilled xs {ys} same is = items-with_items _ ys (ap length is ∙ same) ∙ is
 
-pub refilled-set : (xs ys : List (Option Process)) (i : ℕ) (o : Option Process) → ys ≡ xs → refill (length xs) xs (slice_set ys i o) ≡ slice_set xs i o
-refilled-set xs ys i o same = refilled xs (slice_set ys i o) (slice_set xs i o) (length-set xs i o) (ap (λ l. slice_set l i o) same)
+pub refilled-set : {xs ys : Processes} (i : ℕ) (o : Option Process) → ys ≡ xs → refill (length xs) xs (slice_set ys i o) ≡ slice_set xs i o
+refilled-set {xs} {ys} i o same = refilled xs (length-set xs i o) (ap (λ l. slice_set l i o) same)
 
 module _ {t : Inside} (is : IsSound t) where
   -- as many places, and each of those who wait stands where one may
-  sound-as : {items new : List (Option Process)} (next_pid : ℕ) {waiting may : WaitPlaces} → items ≡ new → length new ≡ length t.places.items → next_pid ≤ 2147483648 → waiting ≡ may → AreWithin new may
+  sound-as : {items new : Processes} {next_pid : ℕ} {waiting may : WaitPlaces} → items ≡ new → length new ≡ length t.places.items → next_pid ≤ 2147483648 → waiting ≡ may → AreWithin new may
       → IsSound (record { places = record { items = items }; last = t.last; next_pid = next_pid; awake = t.awake; waiting = waiting })
-  sound-as next_pid now all fits set' within =
+  sound-as now all fits set' within =
       record { all = ap length now ∙ all ∙ is.all; last = is.last; pids = fits; waiting = rw (now, set') within }
 
-  pub sound-put : (i : ℕ) (o : Option Process) {items : List (Option Process)} (next_pid : ℕ) {waiting : WaitPlaces} → items ≡ slice_set t.places.items i o → next_pid ≤ 2147483648 → waiting ≡ with_place t.waiting i
+  pub sound-put : (i : ℕ) (o : Option Process) {items : Processes} {next_pid : ℕ} {waiting : WaitPlaces} → items ≡ slice_set t.places.items i o → next_pid ≤ 2147483648 → waiting ≡ with_place t.waiting i
       → IsSound (record { places = record { items = items }; last = t.last; next_pid = next_pid; awake = t.awake; waiting = waiting })
-  sound-put i o next_pid put fits set' = sound-as next_pid put (length-set t.places.items i o) fits set' (within-put is.waiting i o)
+  sound-put i o {next_pid} put fits set' = sound-as put (length-set t.places.items i o) fits set' (within-put is.waiting i o)
 
-  pub sound-freed : (i : ℕ) {items : List (Option Process)} → items ≡ slice_set t.places.items i None → IsSound (record t { places = record { items = items } })
-  sound-freed i freed = sound-as t.next_pid freed (length-set t.places.items i None) is.pids refl (within-freed is.waiting i)
+  pub sound-freed : (i : ℕ) {items : Processes} → items ≡ slice_set t.places.items i None → IsSound (record t { places = record { items = items } })
+  sound-freed i freed = sound-as freed (length-set t.places.items i None) is.pids refl (within-freed is.waiting i)
 
-  pub sound-orphaned : (pid : ℕ) {items : List (Option Process)} → items ≡ map (option_map (orphaned pid)) t.places.items → IsSound (record t { places = record { items = items } })
-  sound-orphaned pid mapped = sound-as t.next_pid mapped (length-map t.places.items (option_map (orphaned pid))) is.pids refl (within-orphaned is.waiting pid)
+  pub sound-orphaned : (pid : ℕ) {items : Processes} → items ≡ map (option_map (orphaned pid)) t.places.items → IsSound (record t { places = record { items = items } })
+  sound-orphaned pid mapped = sound-as mapped (length-map t.places.items (option_map (orphaned pid))) is.pids refl (within-orphaned is.waiting _)
 
 -- who gets a seat gets a pid that is one
-pub seat-pid : (t : Places) (seat : Seat) → Ok seat ≡ seat_of t → t.next_pid ≤ 2147483647
-seat-pid t seat is = go (free_slot t.places) is where
+pub seat-pid : (t : Places) {seat : Seat} → Ok seat ≡ seat_of t → t.next_pid ≤ 2147483647
+seat-pid t {seat} is = go (free_slot t.places) is where
   at : (b : Bool) (i : ℕ) → (b ≡ true → t.next_pid ≤ 2147483647) → Ok seat ≡ (if b then Ok (record { place = i; pid = t.next_pid }) else Err Pids) → t.next_pid ≤ 2147483647
   at true i low same = low refl
   at false i low same = absurd (cc)
@@ -267,25 +271,25 @@ next-same there others after (Some pid) same is = record { above = is.above; sta
 
 -- with one pid more
 module _ (there more : ℕ → Bool) (after pid : ℕ) (one : (q : ℕ) → more q ≡ (there q || (pid == q))) where
-  still-none : (q : ℕ) → there q ≡ false → (pid ≡ q → ⊥) → more q ≡ false
-  still-none q none other = one q ∙ rw (none, ne_eqb pid q other) refl
+  still-none : {q : ℕ} → there q ≡ false → (pid ≡ q → ⊥) → more q ≡ false
+  still-none {q} none other = one q ∙ rw (none, ne_eqb pid q other) refl
 
   still-there : (q : ℕ) → there q ≡ true → more q ≡ true
   still-there q is = one q ∙ rw is refl
 
   now-there : more pid ≡ true
-  now-there = one pid ∙ or_right (there pid) (pid == pid) (eq-eqb pid pid refl)
+  now-there = one pid ∙ or_right _ _ (eq-eqb pid pid refl)
 
   pub next-more : (found : Option ℕ) → IsNextOf there after found → IsNextOf more after (lesser found after pid)
   next-more None is = elim (cases_lt after pid) [
-    | inl above ↦ rw (lt-ltb after pid above) (record { above = above; stands = now-there; between = λ q high low. still-none q (is q high) (λ e. omega arith) })
-    | inr below ↦ rw (le-ltb after pid below) (λ q high. still-none q (is q high) (λ e. omega arith))
+    | inl above ↦ rw (lt-ltb after pid above) (record { above = above; stands = now-there; between = λ q high low. still-none (is q high) (λ e. omega arith) })
+    | inr below ↦ rw (le-ltb after pid below) (λ q high. still-none (is q high) (λ e. omega arith))
   ]
   next-more (Some least) is = elim (cases_lt least pid) [
-    | inl less ↦ rw (lt-ltb least pid less) (record { above = is.above; stands = still-there least is.stands; between = λ q high low. still-none q (is.between q high low) (λ e. omega arith) })
+    | inl less ↦ rw (lt-ltb least pid less) (record { above = is.above; stands = still-there _ is.stands; between = λ q high low. still-none (is.between q high low) (λ e. omega arith) })
     | inr more' ↦ elim (cases_lt after pid) [
-      | inl above ↦ rw (le-ltb least pid more', lt-ltb after pid above) (record { above = above; stands = now-there; between = λ q high low. still-none q (is.between q high (omega arith)) (λ e. omega arith) })
-      | inr below ↦ rw (le-ltb least pid more', le-ltb after pid below) (record { above = is.above; stands = still-there least is.stands; between = λ q high low. still-none q (is.between q high low) (λ e. omega arith) })
+      | inl above ↦ rw (le-ltb least pid more', lt-ltb after pid above) (record { above = above; stands = now-there; between = λ q high low. still-none (is.between q high (omega arith)) (λ e. omega arith) })
+      | inr below ↦ rw (le-ltb least pid more', le-ltb after pid below) (record { above = is.above; stands = still-there _ is.stands; between = λ q high low. still-none (is.between q high low) (λ e. omega arith) })
     ]
   ]
 
@@ -297,26 +301,26 @@ found-from test n (x ∷ xs) = elim (test x) as (λ b. is_some (cond b (Some n) 
 
 -- a search finds one where one passes
 pub found-any : {X : Type 0} (test : X → Bool) (xs : List X) → is_some (position test xs) ≡ list_any test xs
-found-any test xs = ap is_some (position_from-zero test xs) ∙ found-from test 0 xs
+found-any test xs = ap is_some (position_from-zero _ xs) ∙ found-from _ 0 xs
 
 -- whether a pid is that of a process in the first places
-abbrev pub is_among : List (Option Process) → ℕ → ℕ → Bool
+abbrev pub is_among : Processes → ℕ → ℕ → Bool
 is_among places n pid = list_any (holds (has_pid pid)) (take n places)
 
-pub among-none : (places : List (Option Process)) (after : ℕ) → IsNextOf (is_among places 0) after None
-among-none places after = λ q high. refl
+pub among-none : (places : Processes) {after : ℕ} → IsNextOf (is_among places 0) after None
+among-none places = λ q high. refl
 
-module _ (places : List (Option Process)) (after i : ℕ) (low : i < length places) (found : Option ℕ) (is : IsNextOf (is_among places i) after found) where
-  one-more : (o : Option Process) → slot places i ≡ o → (q : ℕ) → is_among places (i + 1) q ≡ (is_among places i q || holds (has_pid q) o)
-  one-more o here q = list_any_more (holds (has_pid q)) places i None low ∙ ap (λ x. is_among places i q || holds (has_pid q) x) here
+module _ (places : Processes) (after i : ℕ) (low : i < length places) (found : Option ℕ) (is : IsNextOf (is_among places i) after found) where
+  one-more : {o : Option Process} → slot places i ≡ o → (q : ℕ) → is_among places (i + 1) q ≡ (is_among places i q || holds (has_pid q) o)
+  one-more here q = list_any_more (holds (has_pid q)) _ i _ low ∙ ap (λ x. is_among places i q || holds (has_pid q) x) here
 
   pub among-free : slot places i ≡ None → IsNextOf (is_among places (i + 1)) after found
-  among-free here = next-same (is_among places i) (is_among places (i + 1)) after found (λ q. sym (one-more None here q ∙ or-false (is_among places i q))) is
+  among-free here = next-same _ _ _ _ (λ q. sym (one-more here q ∙ or-false (is_among places i q))) is
 
-  pub among-more : (p : Process) → slot places i ≡ Some p → IsNextOf (is_among places (i + 1)) after (lesser found after p.pid)
-  among-more p here = next-more (is_among places i) (is_among places (i + 1)) after p.pid (one-more (Some p) here) found is
+  pub among-more : {p : Process} → slot places i ≡ Some p → IsNextOf (is_among places (i + 1)) after (lesser found after p.pid)
+  among-more {p} here = next-more (is_among places i) (is_among places (i + 1)) after p.pid (one-more here) found is
 
 -- past the last place
-pub among-all : (places : List (Option Process)) (after i : ℕ) (found : Option ℕ) → length places ≤ i → IsNextOf (is_among places i) after found → IsNextOf (λ pid. is_some (place_where places (has_pid pid))) after found
-among-all places after i found all is =
+pub among-all : (places : Processes) (after : ℕ) {i : ℕ} (found : Option ℕ) → length places ≤ i → IsNextOf (is_among places i) after found → IsNextOf (λ pid. is_some (place_where places (has_pid pid))) after found
+among-all places after {i} found all is =
     next-same (is_among places i) _ after found (λ q. ap (list_any (holds (has_pid q))) (take_all i places all) ∙ sym (found-any (holds (has_pid q)) places)) is

@@ -5,4 +5,4 @@ pub returns-in-Some-clause-finds : goal.returns-in-Some-clause-finds
 returns-in-Some-clause-finds c = first-from c.in-Some.ensures.finds
 
 pub returns-in-None-clause-finds : goal.returns-in-None-clause-finds
-returns-in-None-clause-finds c = none-from c.args.self.now c.args.from c.in-None.ensures.finds
+returns-in-None-clause-finds c = none-from _ c.in-None.ensures.finds

@@ -2,7 +2,7 @@ use Rattle.proc.proofs.Waiting.{looked-all, looked-first, looked-none, looked-on
 use Rattle.proc.proofs.table.Table.next_ready.Goals as goal
 
 pub round-init : goal.round-init
-round-init g c = looked-none _ _
+round-init g c = looked-none
 
 pub next-requires-clause-turn : goal.next-requires-clause-turn
 next-requires-clause-turn g c = c.round.invariant.in_round

@@ -7,7 +7,7 @@ abbrev kept_of : Inside → Places
 kept_of t = record { places = t.places.items; last = t.last; next_pid = t.next_pid; awake = [] }
 
 pub round-init : goal.round-init
-round-init g c = (refl, looks-begin (Answers g.F.Fn c.args.ready c.self.inside.places.items) _ _ (rw (← c.self.view_is) at c.requires.awake))
+round-init g c = (refl, looks-begin _ _ (rw (← c.self.view_is) at c.requires.awake))
 
 pub round-preserved : goal.round-preserved
 round-preserved g c = (

@@ -7,5 +7,5 @@ invariant_of-result c = record {
   all = c.from_array_in.ensures.len;
   last = omega arith;
   pids = let low = c.requires.last in omega arith;
-  waiting = rw c.all-2.ensures (within-all c.from_array_in.result.items);
+  waiting = rw c.all-2.ensures within-all;
 }
