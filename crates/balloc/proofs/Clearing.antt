@@ -231,8 +231,8 @@ bit_in-put block i j v e h l apart others = elim (cases_eq (j / 8) (i / 8)) [
 ]
 
 -- as the code does it
-pub SetsBit-byte : {g : Geometry} {old read new : Blocks} {start b : ℕ} {bits : List ℕ} {bit : ℕ} (v : ℕ) → HasParts g old → start ≡ bitmap_start_of g.inodes → b < g.size → read ≡ old → bits ≡ part (b % 8192 / 8) 1 (block_at old (start + b / 8192))
-    → bit_at v (b % 8) ≡ bit → ((k : ℕ) → k < 8 → k ≢ b % 8 → bit_at v k ≡ bit_at (get_or bits 0 0) k)
+pub SetsBit-byte : {g : Geometry} {old read new : Blocks} {start b : ℕ} {bits : List ℕ} {bit : ℕ} (v : ℕ) → HasParts g old → start ≡ bitmap_start_of g.inodes → b < g.size
+    → read ≡ old → bits ≡ part (b % 8192 / 8) 1 (block_at old (start + b / 8192)) → bit_at v (b % 8) ≡ bit → ((k : ℕ) → k < 8 → k ≢ b % 8 → bit_at v k ≡ bit_at (get_or bits 0 0) k)
     → new ≡ set read (start + b / 8192) (splice (b % 8192 / 8) (v ∷ []) (block_at read (start + b / 8192))) → SetsBit g old new b bit
 SetsBit-byte {g} {old} {read} {new} {start} {b} {bits} v parts begins high same bits_are here others e =
     let at = start + b / 8192 in

@@ -12,7 +12,8 @@ pub returns-in-Some : goal.returns-in-Some
 returns-in-Some g c =
     read-done (goes-after c.scan.invariant.goes c.read.ensures.goes) (c.in_ok-block.ensures.done.same ∙ c.scan.invariant.disk)
     (lowest_here c.scan.n c.in_ok-block.ensures.done.told c.scan.invariant.disk c.args.geometry c.in-Some.i
-    (omega (arith, c.in-Some.ensures.some.1, c.min-end.ensures)) c.in-Some.ensures.some.0 c.scan.invariant.from (omega (arith, c.in-Some.ensures.some.1, c.min-end.ensures)) c.in-Some.ensures.some.2 c.scan.invariant.used_so_far c.in-Some.ensures.lowest)
+    (omega (arith, c.in-Some.ensures.some.1, c.min-end.ensures)) c.in-Some.ensures.some.0 c.scan.invariant.from (omega (arith, c.in-Some.ensures.some.1, c.min-end.ensures))
+    c.in-Some.ensures.some.2 c.scan.invariant.used_so_far c.in-Some.ensures.lowest)
 
 pub scan-preserved : goal.scan-preserved
 scan-preserved g c =
