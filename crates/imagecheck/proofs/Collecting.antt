@@ -1,34 +1,34 @@
 -- The entries of all directories, one directory after the other, and what tables of them tell of the files.
 use Rattle.imagecheck.proofs.Common.{◌≡◌, ◌≢◌, ℕ, ◌+◌, ◌<◌, ◌≤◌, Bool, List, [], ◌∷◌, ◌++◌, Some, length, get_or, map, ap, sym, refl, ◌∙◌, arith, cond, inl, inr, true, false, zero, suc, All, count_by, filter, flat_map, option_map}
-use Rattle.imagecheck.proofs.Common.{slice_get, unwrap_or, ◌&&◌, ◌==◌, range_with_len, sum_by, cases_eq, map-append, All-map, All-nil, sum_by-append, sum_by-cons, Geometry, slot, all_entries, entries_of, inodes_in, is_directory_at, kind_in}
-use Rattle.imagecheck.proofs.Common.{names_number, names_of, parent_of, subdirectories, BlockRules, HasBlocks-of, CountsNames, CountsSubdirectories, HasParents, HasParentsAmong, IsListed, IsNaming, TellsNames, TellsSubdirectories}
-use Rattle.imagecheck.proofs.Common.{directory_or_zero, first_directory, naming, namings_in, namings_of, files_in, Naming, range-split, length-files_in, slot-zero, Entry, None, Option, set, take, IfSome, cond_both, add-zero}
-use Rattle.imagecheck.proofs.Common.{get_or-set_other, get_or-set_same, take_more, All-head, All-tail, HasFirsts, at_or}
+use Rattle.imagecheck.proofs.Common.{slice_get, unwrap_or, ◌&&◌, ◌==◌, range_with_len, cases_eq, map-append, All-map, All-nil, sum_by-append, sum_by-cons, Geometry, slot, all_entries, entries_of, inodes_in, is_directory_at, kind_in}
+use Rattle.imagecheck.proofs.Common.{names_number, names_of, parent_of, subdirectories, BlockRules, HasBlocks-of, CountsNames, CountsSubdirectories, namings_of, files_in, Naming, range-split, length-files_in, slot-zero, Entry, None, Option}
+use Rattle.imagecheck.proofs.Common.{set, take, IfSome, cond_both, get_or-set_other, get_or-set_same, take_more, All-head, All-tail, HasFirsts, at_or}
 use Rattle.std.proofs.lemmas.List.Concat.{flat_map-append}
-use Rattle.std.specs.List.{find}
+use Rattle.std.specs.List.{find, sum_by}
 use Rattle.std.proofs.lemmas.Bool.{eq-eqb, ne_eqb}
 use Rattle.std.proofs.lemmas.List.{append-nil, length-set}
 use Rattle.std.proofs.lemmas.List.FromFn.{fill_by_all}
 use Rattle.std.proofs.lemmas.Simd.{map-map}
 use Rattle.imagecheck.proofs.Reaching.{all-entries}
 use Rattle.imagecheck.proofs.Entering.{some_high, stands_each}
-use Rattle.std.proofs.Common.{find}
+use Rattle.std.proofs.Common.{find, add-zero}
 use Rattle.std.specs.Option.{option_or}
 use Rattle.std.proofs.lemmas.List.Folds.{find-append}
+use Rattle.imagecheck.specs.Namings.{directory_or_zero, first_directory, HasParents, HasParentsAmong, IsListed, IsNaming, naming, namings_in, TellsNames, TellsSubdirectories}
 
 -- ---- sums
 
 pub sum_by-map : {A B : Type 0} (f : B → ℕ) (g : A → B) (xs : List A) → sum_by f (map g xs) ≡ sum_by (λ x. f (g x)) xs
 sum_by-map f g [] = refl
-sum_by-map f g (x ∷ xs) = sum_by-cons f (g x) (map g xs) ∙ ap (λ s. f (g x) + s) (sum_by-map f g xs) ∙ sym (sum_by-cons (λ x. f (g x)) x xs)
+sum_by-map f g (x ∷ xs) = sum_by-cons f _ (map g xs) ∙ ap (λ s. f (g x) + s) (sum_by-map f g xs) ∙ sym (sum_by-cons (λ x. f (g x)) x xs)
 
 -- place by place
 pub sum_by-places : {A : Type 0} (f : A → ℕ) (d : A) (xs : List A) → sum_by f xs ≡ sum_by (λ k. f (get_or xs k d)) (range_with_len 0 (length xs))
-sum_by-places f d xs = ap (sum_by f) (fill_by_all (λ k. get_or xs k d) xs (length xs) d refl (λ k l. refl)) ∙ sum_by-map f (λ k. get_or xs k d) (range_with_len 0 (length xs))
+sum_by-places f d xs = ap (sum_by f) (fill_by_all (λ k. get_or xs k d) xs _ d refl (λ k l. refl)) ∙ sum_by-map f (λ k. get_or xs k d) (range_with_len 0 (length xs))
 
 sum_by-flat_map : {A B : Type 0} (f : B → ℕ) (g : A → List B) (h : A → ℕ) → ((x : A) → sum_by f (g x) ≡ h x) → (xs : List A) → sum_by f (flat_map g xs) ≡ sum_by h xs
 sum_by-flat_map f g h e [] = refl
-sum_by-flat_map f g h e (x ∷ xs) = rw (sum_by-append f (g x) (flat_map g xs), e x, sum_by-flat_map f g h e xs) (sym (sum_by-cons h x xs))
+sum_by-flat_map f g h e (x ∷ xs) = rw (sum_by-append f _ (flat_map g xs), e x, sum_by-flat_map f g h e xs) (sym (sum_by-cons h x xs))
 
 -- over a range, of what is 0 but at d
 sum-at : (h : ℕ → ℕ) (d : ℕ) → ((k : ℕ) → k ≢ d → h k ≡ 0) → (a n : ℕ) → (d < a → sum_by h (range_with_len a n) ≡ 0) × (a ≤ d → d < a + n → sum_by h (range_with_len a n) ≡ h d)
@@ -122,12 +122,10 @@ module _ {image : List ℕ} {g : Geometry} {namings : List Naming} (h : IsListed
 
 -- ---- tables of what items tell, one item more at a time
 
--- ---- counts
-
 pub counted_more : (counts : List ℕ) (at k : ℕ) → at < length counts → get_or (set counts at (get_or counts at 0 + 1)) k 0 ≡ get_or counts k 0 + cond (at == k) 1 0
 counted_more counts at k high =
     at_or (λ j. get_or (set counts at (get_or counts at 0 + 1)) j 0 ≡ get_or counts j 0 + cond (at == j) 1 0) at k (rw (get_or-set_same counts at (get_or counts at 0 + 1) 0 high, eq-eqb at at refl) refl)
-    (λ other. rw (get_or-set_other counts at k (get_or counts at 0 + 1) 0 other, ne_eqb at k (λ e. other (sym e)), add-zero) refl)
+    (λ other. rw (get_or-set_other counts at k _ 0 other, ne_eqb at k (λ e. other (sym e)), add-zero) refl)
 
 pub counts_both : (a b : Bool) → b ≡ true → cond {A = ℕ} (a && b) 1 0 ≡ cond a 1 0
 counts_both true b e = ap (λ t. cond {A = ℕ} t 1 0) e
@@ -140,7 +138,7 @@ HasDirectory m = 1 ≤ m.directory
 
 first_among : (p : Naming → Bool) (xs : List Naming) → All HasDirectory xs → IfSome (find p xs) HasDirectory
 first_among p [] h = tt
-first_among p (x ∷ xs) h = cond_both (p x) (Some x) (find p xs) (λ o. IfSome o HasDirectory) (λ _. All-head HasDirectory x xs h) (λ _. first_among p xs (All-tail HasDirectory x xs h))
+first_among p (x ∷ xs) h = cond_both (p x) (Some x) _ (λ o. IfSome o HasDirectory) (λ _. All-head HasDirectory x xs h) (λ _. first_among p xs (All-tail HasDirectory x xs h))
 
 -- behind those that were found before
 first_or : (o : Option Naming) → IfSome o HasDirectory → (m : Naming)
@@ -175,10 +173,10 @@ module _ (namings : List Naming) (i : ℕ) (x : Naming) (within : i < length nam
   pub firsts_more : get_or parents m.number 0 ≡ 0 → HasFirsts (take (i + 1) namings) (set parents m.number m.directory)
   firsts_more z =
       let told = first_or first (first_among (λ (y : Naming). y.number == m.number) (take i namings) some) m in
-      firsts (set parents m.number m.directory) (length-set parents m.number m.directory) (λ k other. get_or-set_other parents m.number k m.directory 0 other)
+      firsts _ (length-set parents _ _) (λ k other. get_or-set_other parents _ k _ 0 other)
       (get_or-set_same parents m.number m.directory 0 high ∙ sym (told.0 (sym (h m.number high) ∙ z)))
 
   pub firsts_kept : get_or parents m.number 0 ≢ 0 → HasFirsts (take (i + 1) namings) parents
   firsts_kept other =
       let told = first_or first (first_among (λ (y : Naming). y.number == m.number) (take i namings) some) m in
-      firsts parents refl (λ k _. refl) (h m.number high ∙ sym (told.1 (λ z. other (h m.number high ∙ z))))
+      firsts parents refl (λ k _. refl) (h _ high ∙ sym (told.1 (λ z. other (h _ high ∙ z))))

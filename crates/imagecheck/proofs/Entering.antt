@@ -1,20 +1,23 @@
 -- The places of a directory, one after the other.
-use Rattle.imagecheck.proofs.Common.{◌≡◌, ◌≢◌, ℕ, List, [], ◌∷◌, None, Option, Some, get_or, drop, ap, sym, refl, ◌∙◌, arith, true, false, suc, All, AllPairs, bytes_eq, cond-false, cond-true, cond_both, false≢true, false_from_ne_true}
-use Rattle.imagecheck.proofs.Common.{or_parts, none-some, All-cons, All-head, All-nil, All-tail, bytes_eq-Decides, dot, dot_dot, has_name, is_dot_name, slot, taken, AreOther, first_named, Entry, ◌+◌, ◌-◌, ◌*◌, ◌/◌, ◌<◌, ◌≤◌, ◌++◌, length}
-use Rattle.imagecheck.proofs.Common.{take, subst, inl, inr, not, IsSome, is_some, ◌==◌, option_to_list, cases_eq, drop-append-le, drop_all, get_or-drop, length-drop, length-take, length-take-le, take_more, filter_map-append, Node}
-use Rattle.imagecheck.proofs.Common.{inodes_in, kind_in, IfTaken, entries_in, entries_to, files_in, place_of_bytes, places_in, file_in-used, slot-files_in, slot-free, length-places_in, slot-places_in, get_or_default, Bool, cond, nat_eq}
-use Rattle.imagecheck.proofs.Common.{cases_lt, is_directory, most_links, Directory, File, contents_in, is_directory_at, links_in, major_in, minor_in, names_of, subdirectories, AreNamed, HasFronts, NamesDirectories, HasBlocks, FitsLinks}
-use Rattle.imagecheck.proofs.Common.{EntriesAt, HasEntries, HasLinks, LinksAt, node_in, by_kind, node_in-device, node_in-directory, node_in-file, slot-past, slot-zero, nat_lt, IsPermutation, IsSorted, nat_cmp, IsTrue, ◌↔◌}
-use Rattle.imagecheck.proofs.Common.{IsAllAdjacentAnswer, list_all, ltb-false, ltb-true, Decides-eqb, Decides-like, same_from_decides, get_or-map, length-map, IsNonDecreasingBy-from_sort, IsPermutation-sym, name_bytes, number, number_at}
-use Rattle.imagecheck.proofs.Common.{name_number, name_numbers, without_zeros, chunk-fits, without_zeros-spelled}
-use Rattle.std.proofs.lemmas.Bool.{ne_eqb}
-use Rattle.std.proofs.lemmas.List.{take_all}
-use Rattle.unixmodel.specs.Files.Node.{Device}
+use Rattle.imagecheck.proofs.Common.{◌≡◌, ◌≢◌, ℕ, List, [], ◌∷◌, None, Option, Some, get_or, drop, ap, sym, refl, ◌∙◌, arith, true, false, suc, All, AllPairs, bytes_eq, cond-false, cond-true, cond_both, false≢true, none-some, All-cons}
+use Rattle.imagecheck.proofs.Common.{All-head, All-nil, All-tail, bytes_eq-Decides, dot, dot_dot, has_name, is_dot_name, slot, taken, first_named, Entry, ◌+◌, ◌-◌, ◌*◌, ◌/◌, ◌<◌, ◌≤◌, ◌++◌, length, take, subst, inl, inr, not, IsSome}
+use Rattle.imagecheck.proofs.Common.{is_some, ◌==◌, cases_eq, get_or-drop, length-drop, length-take-le, take_more, filter_map-append, Node, inodes_in, kind_in, entries_in, entries_to, files_in, place_of_bytes, places_in, file_in-used}
+use Rattle.imagecheck.proofs.Common.{slot-files_in, slot-places_in, Bool, cond, nat_eq, cases_lt, is_directory, most_links, Directory, contents_in, is_directory_at, links_in, major_in, minor_in, names_of, subdirectories, HasBlocks}
+use Rattle.imagecheck.proofs.Common.{FitsLinks, HasEntries, HasLinks, LinksAt, node_in, node_in-directory, slot-past, slot-zero, nat_lt, IsTrue, ◌↔◌, IsAllAdjacentAnswer, list_all, Decides-eqb, Decides-like, same_from_decides, name_bytes}
+use Rattle.imagecheck.proofs.Common.{number, number_at, name_numbers, without_zeros, EntriesAt}
+use Rattle.std.proofs.lemmas.Bool.{ne_eqb, false_from_ne_true, ltb-false, ltb-true, or_parts}
+use Rattle.std.proofs.lemmas.List.{take_all, drop-append-le, drop_all, get_or-map, get_or_default, length-map, length-take}
+use Rattle.unixmodel.specs.Files.Node.{Device, File}
 use Rattle.std.proofs.lemmas.List.Kept.{AllPairs-from_increasing}
 use Rattle.std.proofs.lemmas.Map.Keys.{IsDistinct-IsPermutation}
 use Rattle.std.proofs.lemmas.Map.Made.{AllPairs-from_IsDistinct, IsDistinct-from_AllPairs}
 use Rattle.unixmodel.specs.Memory.{zeros}
 use Rattle.imagecheck.proofs.Judging.{never, told}
+use Rattle.std.proofs.Common.{IsPermutation, IsSorted, nat_cmp, option_to_list}
+use Rattle.std.proofs.lemmas.List.Sorted.{IsNonDecreasingBy-from_sort, IsPermutation-sym}
+use Rattle.imagerules.proofs.Nodes.{by_kind, node_in-device, node_in-file, slot-free}
+use Rattle.imagerules.proofs.Spelling.{chunk-fits, length-places_in, without_zeros-spelled}
+use Rattle.imagecheck.specs.Entries.{AreNamed, AreOther, HasFronts, IfTaken, name_number, NamesDirectories}
 
 -- ---- what the names of a directory find
 
@@ -23,18 +26,18 @@ module _ (P : Option Entry → Type 0) (none : P None) where
   pub holds_taken : (os : List (Option Entry)) → All (λ e. P (Some e)) (taken os) → All P os
   holds_taken [] h = All-nil P
   holds_taken (None ∷ os) h = All-cons P None os none (holds_taken os h)
-  holds_taken (Some e ∷ os) h = All-cons P (Some e) os (All-head (λ x. P (Some x)) e (taken os) h) (holds_taken os (All-tail (λ x. P (Some x)) e (taken os) h))
+  holds_taken (Some e ∷ os) h = All-cons P _ os (All-head (λ x. P (Some x)) e _ h) (holds_taken os (All-tail (λ x. P (Some x)) e _ h))
 
   -- and of the place that a name finds
   pub holds_named : (name : List ℕ) (os : List (Option Entry)) → All P os → P (first_named name os)
   holds_named name [] h = none
-  holds_named name (o ∷ os) h = cond_both (has_name name o) o (first_named name os) P (λ _. All-head P o os h) (λ _. holds_named name os (All-tail P o os h))
+  holds_named name (o ∷ os) h = cond_both _ o _ P (λ _. All-head P o os h) (λ _. holds_named name os (All-tail P o os h))
 
 same_name : (name : List ℕ) → bytes_eq name name ≡ true
 same_name name = (bytes_eq-Decides name name).1 refl
 
 other_name : (one other : List ℕ) → one ≢ other → bytes_eq one other ≡ false
-other_name one other h = false_from_ne_true (bytes_eq one other) (λ t. h ((bytes_eq-Decides one other).0 t))
+other_name one other h = false_from_ne_true _ (λ t. h ((bytes_eq-Decides one other).0 t))
 
 -- where no two have one name, each is found by its own
 pub each_named : (os : List (Option Entry)) → AllPairs AreOther (taken os) → All (λ (e : Entry). first_named e.name os ≡ Some e) (taken os)
@@ -56,15 +59,15 @@ behind_dots name [] a b p q h = absurd (none-some (record { name = dot; number =
 behind_dots name (o ∷ []) a b p q h = absurd (none-some (record { name = dot_dot; number = b }) q)
 behind_dots name (o ∷ r ∷ os) a b p q h =
     let no = or_parts (bytes_eq name dot) (bytes_eq name dot_dot) h in
-    cond-false (has_name name o) o (first_named name (r ∷ os)) (ap (has_name name) p ∙ other_name dot name (λ e. false≢true (sym no.0 ∙ (bytes_eq-Decides name dot).1 (sym e))))
-    ∙ cond-false (has_name name r) r (first_named name os) (ap (has_name name) q ∙ other_name dot_dot name (λ e. false≢true (sym no.1 ∙ (bytes_eq-Decides name dot_dot).1 (sym e))))
+    cond-false _ o _ (ap (has_name name) p ∙ other_name dot name (λ e. false≢true (sym no.0 ∙ (bytes_eq-Decides name dot).1 (sym e))))
+    ∙ cond-false _ r _ (ap (has_name name) q ∙ other_name dot_dot name (λ e. false≢true (sym no.1 ∙ (bytes_eq-Decides name dot_dot).1 (sym e))))
 
 -- ---- numbers in use
 
 pub used-is : (image : List ℕ) (n : ℕ) → 1 ≤ n → n < inodes_in image → not (kind_in image n == 0) ≡ is_some (slot (files_in image) n)
-used-is image n low high = elim (cases_eq (kind_in image n) 0) [
+used-is image n low high = elim (cases_eq _ 0) [
   | inl z ↦ rw (slot-free image n high z, z) refl
-  | inr used ↦ rw (slot-files_in image n high, file_in-used image n low used, ne_eqb (kind_in image n) 0 used) refl
+  | inr used ↦ rw (slot-files_in image n high, file_in-used image n low used, ne_eqb _ 0 used) refl
 ]
 
 pub none_used : {o : Option Node} → o ≡ None → IsSome o → ⊥
@@ -81,14 +84,14 @@ entries_more bytes k low high =
     let places = places_in bytes in
     let within : k < length places = omega (arith, length-places_in bytes) in
     let two : 2 ≤ length (take k places) = omega (arith, length-take-le k places (omega arith)) in
-    rw (take_more places k None within, drop-append-le 2 (take k places) (get_or places k None ∷ []) two, filter_map-append, slot-places_in bytes k high)
+    rw (take_more places k None within, drop-append-le 2 _ _ two, filter_map-append, slot-places_in bytes k high)
     (ap (λ r. entries_to bytes k ++ r) (taken_one (place_of_bytes (take 16 (drop (16 * k) bytes)))))
 
 pub entries_none : (bytes : List ℕ) → entries_to bytes 2 ≡ []
 entries_none bytes = ap taken (drop_all 2 (take 2 (places_in bytes)) (omega (arith, length-take 2 (places_in bytes))))
 
 pub entries_all : (bytes : List ℕ) (k : ℕ) → length bytes / 16 ≤ k → entries_to bytes k ≡ entries_in bytes
-entries_all bytes k h = ap (λ os. taken (drop 2 os)) (take_all k (places_in bytes) (omega (arith, length-places_in bytes)))
+entries_all bytes k h = ap (λ os. taken (drop 2 os)) (take_all k _ (omega (arith, length-places_in bytes)))
 
 -- ---- what holds of each entry, place by place
 
@@ -96,13 +99,13 @@ module _ (P : Entry → Type 0) where
   taken_holds : (os : List (Option Entry)) → All (IfTaken P) os → All P (taken os)
   taken_holds [] h = All-nil P
   taken_holds (None ∷ os) h = taken_holds os (All-tail (IfTaken P) None os h)
-  taken_holds (Some e ∷ os) h = All-cons P e (taken os) (All-head (IfTaken P) (Some e) os h) (taken_holds os (All-tail (IfTaken P) (Some e) os h))
+  taken_holds (Some e ∷ os) h = All-cons P e _ (All-head (IfTaken P) (Some e) os h) (taken_holds os (All-tail (IfTaken P) (Some e) os h))
 
   module _ (bytes : List ℕ) where
     place-at : (j : ℕ) → j < length (drop 2 (places_in bytes)) → (o : Option Entry) → get_or (drop 2 (places_in bytes)) j o ≡ place_of_bytes (take 16 (drop (16 * (2 + j)) bytes))
     place-at j l o =
         let high : 2 + j < length bytes / 16 = omega (arith, length-drop 2 (places_in bytes), length-places_in bytes) in
-        get_or_default (drop 2 (places_in bytes)) j o None l ∙ get_or-drop 2 (places_in bytes) j None ∙ slot-places_in bytes (2 + j) high
+        get_or_default _ j o None l ∙ get_or-drop 2 _ j None ∙ slot-places_in bytes _ high
 
     pub entries-hold : ((k : ℕ) → k < length bytes / 16 → 2 ≤ k → IfTaken P (place_of_bytes (take 16 (drop (16 * k) bytes)))) → All P (entries_in bytes)
     entries-hold h = taken_holds (drop 2 (places_in bytes)) (λ j o l. subst (IfTaken P) (sym (place-at j l o)) (h (2 + j) (omega (arith, l, length-drop 2 (places_in bytes), length-places_in bytes)) (omega arith)))
@@ -181,7 +184,7 @@ pub some_low : (image : List ℕ) (n : ℕ) → 0 < inodes_in image → IsSome (
 some_low image n some h = elim (cases_eq n 0) [ inl z ↦ absurd (none_used (slot-zero image n z some) h) | inr other ↦ omega arith ]
 
 pub some_high : (image : List ℕ) (n : ℕ) → IsSome (slot (files_in image) n) → n < inodes_in image
-some_high image n h = elim (cases_lt n (inodes_in image)) [ inl l ↦ l | inr past ↦ absurd (none_used (slot-past image n past) h) ]
+some_high image n h = elim (cases_lt n _) [ inl l ↦ l | inr past ↦ absurd (none_used (slot-past image n past) h) ]
 
 is_node : (a b : Bool) (links : ℕ) (bytes : List ℕ) (major minor : ℕ) → is_directory (cond a (Directory links (places_in bytes)) (cond b (File links bytes) (Device links major minor))) ≡ a
 is_node true b links bytes major minor = refl
@@ -191,14 +194,12 @@ is_node false false links bytes major minor = refl
 -- its type is that of a directory where its node is one
 pub is_directory-is : (image : List ℕ) (n : ℕ) → 1 ≤ n → n < inodes_in image → nat_eq (kind_in image n) 1 ≡ is_directory_at (files_in image) n
 unfolding node_in
-is_directory-is image n low high = elim (cases_eq (kind_in image n) 0) [
+is_directory-is image n low high = elim (cases_eq _ 0) [
   | inl z ↦ rw (slot-free image n high z, z) refl
   | inr used ↦ rw (slot-files_in image n high, file_in-used image n low used) (sym (is_node (kind_in image n == 1) (kind_in image n == 2) (links_in image n) (contents_in image n) (major_in image n) (minor_in image n)))
 ]
 
 -- ---- names that stand once, told apart by their numbers
-
--- ---- names and their numbers
 
 number-same : (xs ys : List ℕ) → length xs ≡ length ys → ((i : ℕ) → get_or xs i 0 < 256) → ((i : ℕ) → get_or ys i 0 < 256) → number xs ≡ number ys → xs ≡ ys
 number-same [] [] l f g e = refl
@@ -218,7 +219,7 @@ pub record IsTrimmed (e : Entry) : Type 0 where
   pub back : without_zeros (name_bytes e.name) ≡ e.name
 
 same-name : (e f : Entry) → IsTrimmed e → IsTrimmed f → name_number e ≡ name_number f → e.name ≡ f.name
-same-name e f a b h = sym a.back ∙ ap without_zeros (number-same (name_bytes e.name) (name_bytes f.name) (a.long ∙ sym b.long) a.fits b.fits h) ∙ b.back
+same-name e f a b h = sym a.back ∙ ap without_zeros (number-same _ _ (a.long ∙ sym b.long) a.fits b.fits h) ∙ b.back
 
 pub name_bytes-spelled : (raw : List ℕ) → length raw ≡ 14 → name_bytes (without_zeros raw) ≡ raw
 name_bytes-spelled raw long = ap (λ m. without_zeros raw ++ zeros (m - length (without_zeros raw))) (sym long) ∙ without_zeros-spelled raw
@@ -230,7 +231,7 @@ module _ (place : List ℕ) (long : length place ≡ 16) where
   trimmed-place : ((i : ℕ) → get_or place i 0 < 256) → IfTaken IsTrimmed (place_of_bytes place)
   trimmed-place fits = go (list_all (λ b. b == 0) place) where
     e : name_bytes (without_zeros (drop 2 place)) ≡ drop 2 place
-    e = name_bytes-spelled (drop 2 place) rest
+    e = name_bytes-spelled _ rest
 
     go : (t : Bool) → IfTaken IsTrimmed (cond t None (Some (record { name = without_zeros (drop 2 place); number = number_at 2 0 place })))
     go true = tt
@@ -249,7 +250,7 @@ all-trimmed bytes fits = entries-hold IsTrimmed bytes (λ k high low.
 pub names-from_numbers : (es : List Entry) → AllPairs (λ a b. a ≢ b) (name_numbers es) → AllPairs AreOther es
 names-from_numbers es h i j d l m = λ e.
     h i j 0 l (omega (arith, length-map es name_number))
-    (get_or-map name_number es i d 0 (omega arith) ∙ ap (λ name. number (name_bytes name)) e ∙ sym (get_or-map name_number es j d 0 m))
+    (get_or-map _ es i d 0 (omega arith) ∙ ap (λ name. number (name_bytes name)) e ∙ sym (get_or-map _ es j d 0 m))
 
 pub numbers-from_names : (es : List Entry) → All IsTrimmed es → AllPairs AreOther es → AllPairs (λ a b. a ≢ b) (name_numbers es)
 numbers-from_names es trimmed h i j d l m = λ e.
@@ -258,7 +259,7 @@ numbers-from_names es trimmed h i j d l m = λ e.
     let low : i < length es = omega arith in
     h i j none l high
     (same-name (get_or es i none) (get_or es j none) (trimmed i none low) (trimmed j none high)
-    (sym (get_or-map name_number es i none d low) ∙ e ∙ get_or-map name_number es j none d high))
+    (sym (get_or-map _ es i none d low) ∙ e ∙ get_or-map _ es j none d high))
 
 -- ---- numbers in order
 
@@ -266,7 +267,7 @@ numbers-from_names es trimmed h i j d l m = λ e.
 pub distinct-moved : (xs ys : List ℕ) → IsPermutation xs ys → AllPairs (λ a b. a ≢ b) xs → AllPairs (λ a b. a ≢ b) ys
 distinct-moved xs ys moved h =
     AllPairs-from_IsDistinct Decides-eqb ys
-    (IsDistinct-IsPermutation nat_eq (λ x y. same_from_decides (nat_eq x y) (nat_eq y x) (Decides-eqb x y) (Decides-like (nat_eq y x) (λ e. sym e) (λ e. sym e) (Decides-eqb y x))) xs ys moved
+    (IsDistinct-IsPermutation nat_eq (λ x y. same_from_decides _ _ (Decides-eqb x y) (Decides-like _ (λ e. sym e) (λ e. sym e) (Decides-eqb y x))) xs ys moved
     (IsDistinct-from_AllPairs Decides-eqb xs h))
 
 -- what a look at the neighbours of sorted numbers tells

@@ -1,14 +1,15 @@
 -- The number that a directory's ".." tells.
 use Rattle.imagecheck.proofs.Common.{◌≡◌, ◌≢◌, ℕ, ◌<◌, ◌≤◌, List, Some, length, ap, sym, ◌∙◌, arith, subst, Geometry, slot, Directory, contents_in, inodes_in, kind_in, links_in, HasNames, BlockRules, HasBlocks, HasBlocks-of, HasGeometry}
-use Rattle.imagecheck.proofs.Common.{EntriesAt, FitsEntries, HasEntries, files_in, places_in, contents-long, file_in-used, node_in-directory, slot-files_in, ◌+◌, ◌-◌, ◌*◌, Bool, [], ◌∷◌, None, get_or, take, drop, refl, cond, inl, inr, true}
-use Rattle.imagecheck.proofs.Common.{false, flat_map, is_some, option_map, slice_range, unwrap_or, ◌==◌, IsSome, IsTrue, list_all, cases_eq, get_or-drop, get_or-take, length-drop, length-take-le, none-some, dot_dot, count_in, data_blocks}
-use Rattle.imagecheck.proofs.Common.{format_of, inode_at, is_data_block, is_directory_at, length_in, parent_of, number_at, HasLinks, place_of_bytes, without_zeros, FitsFront, IsDirectoryIn, first_block, length-block, same_number}
-use Rattle.imagecheck.proofs.Common.{number_in-record, length-data_blocks, most_data, slot-places_in, All-data_blocks, FitsAddresses-at, is_data_block-below, drop-take, take-append-le, take-take, Entry}
+use Rattle.imagecheck.proofs.Common.{FitsEntries, HasEntries, files_in, places_in, contents-long, file_in-used, node_in-directory, slot-files_in, ◌+◌, ◌-◌, ◌*◌, Bool, [], ◌∷◌, None, get_or, take, drop, refl, cond, inl, inr, true, false}
+use Rattle.imagecheck.proofs.Common.{flat_map, is_some, option_map, slice_range, unwrap_or, ◌==◌, IsSome, IsTrue, list_all, cases_eq, get_or-drop, length-drop, length-take-le, none-some, dot_dot, count_in, data_blocks, format_of, inode_at}
+use Rattle.imagecheck.proofs.Common.{is_data_block, is_directory_at, parent_of, number_at, HasLinks, place_of_bytes, without_zeros, FitsFront, IsDirectoryIn, first_block, length-block, same_number, number_in-record, length-data_blocks}
+use Rattle.imagecheck.proofs.Common.{most_data, slot-places_in, All-data_blocks, FitsAddresses-at, is_data_block-below, Entry, EntriesAt, length_in}
 use Rattle.std.proofs.lemmas.Bool.{eqb-true}
 use Rattle.unixmodel.specs.Image.{block_at}
 use Rattle.imagecheck.proofs.Slotting.{data-at, first-address, first-here}
 use Rattle.imagecheck.proofs.Reaching.{parent_leads, parent_root, used_from}
 use Rattle.imagecheck.proofs.Entering.{is_directory-is, some_high, some_low}
+use Rattle.std.proofs.lemmas.List.{drop-take, get_or-take, take-append-le, take-take}
 
 -- ---- the names of a directory, and the rules of its entries
 
@@ -44,7 +45,7 @@ module _ (image : List ℕ) (n : ℕ) where
 
   pub IsDirectoryIn-from : is_directory_at (files_in image) n ≡ true → IsDirectoryIn image n
   IsDirectoryIn-from h =
-      let used : IsSome (slot (files_in image) n) = used_from (slot (files_in image) n) h in
+      let used : IsSome (slot (files_in image) n) = used_from _ h in
       let high = some_high image n used in
       let low = some_low image n (omega arith) used in
       record { low = low; high = high; kind = eqb-true (kind_in image n) 1 (is_directory-is image n low high ∙ h) }
@@ -52,9 +53,9 @@ module _ (image : List ℕ) (n : ℕ) where
 -- the parent of a directory is one
 pub parent_directory : (image : List ℕ) → HasBlocks image → HasEntries (files_in image) → HasLinks (files_in image) → (n : ℕ) → IsDirectoryIn image n → IsDirectoryIn image (parent_of (files_in image) n)
 parent_directory image blocks entries links n h = elim (cases_eq n 1) [
-  | inl root ↦ rw (root, parent_root (files_in image)) (record { low = omega arith; high = let least = blocks.inodes.super.inodes_least in omega arith; kind = blocks.inodes.kinds.root })
+  | inl root ↦ rw (root, parent_root _) (record { low = omega arith; high = let least = blocks.inodes.super.inodes_least in omega arith; kind = blocks.inodes.kinds.root })
   | inr other ↦
-      IsDirectoryIn-from image (parent_of (files_in image) n) (parent_leads (files_in image) entries links n (ap is_some (slot-directory image n h.low h.high h.kind)) other).2.directory
+      IsDirectoryIn-from image _ (parent_leads _ entries links n (ap is_some (slot-directory image n h.low h.high h.kind)) other).2.directory
 ]
 
 -- ---- the first two places of a directory, from 32 bytes

@@ -1,14 +1,16 @@
 -- What is reached from the root, by the parents of directories.
 use Rattle.imagecheck.proofs.Common.{◌≡◌, ◌≢◌, ℕ, ◌+◌, ◌<◌, ◌≤◌, List, [], ◌∷◌, ◌++◌, None, Option, Some, length, get_or, drop, map, ap, sym, refl, ◌∙◌, arith, subst, inl, inr, true, false, zero, suc, All, IfSome, IsSome, filter}
-use Rattle.imagecheck.proofs.Common.{option_and_then, option_map, position, slice_get, unwrap_or, ◌==◌, range_with_len, cases_eq, cases_lt, cond-false, false≢true, All-cons, All-filter, All-head, All-map, All-nil, filter_passes}
-use Rattle.imagecheck.proofs.Common.{get_or-range_with_len, length-range_with_len, length-filter, none-some, Files, Node, dot, dot_dot, entry_number, follow, has_name, is_directory, live_places, lookup, parts, slot, taken, Directory}
-use Rattle.imagecheck.proofs.Common.{all_entries, entries_of, is_directory_at, names_number, names_of, parent_of, is_name, EntriesAt, FitsEntries, HasEntries, HasLinks, IsReached, LinksAt, Climbs, ancestor, IsGiven-name, find-empty}
-use Rattle.imagecheck.proofs.Common.{find-root, find-slash, first_named-is, get_or_past, Entry, replicate, set, cond, count_by, slice_index, ◌⊎◌, cond-true, get_or-set_other, get_or-set_same, length-replicate, sum_by-set, at_or, HasWalked}
+use Rattle.imagecheck.proofs.Common.{option_map, slice_get, unwrap_or, ◌==◌, range_with_len, cases_eq, cases_lt, cond-false, false≢true, All-cons, All-filter, All-head, All-map, All-nil, filter_passes, get_or-range_with_len}
+use Rattle.imagecheck.proofs.Common.{length-range_with_len, length-filter, none-some, Node, dot, dot_dot, has_name, is_directory, slot, taken, Directory, all_entries, entries_of, is_directory_at, names_number, names_of, parent_of, is_name}
+use Rattle.imagecheck.proofs.Common.{EntriesAt, FitsEntries, HasEntries, HasLinks, IsReached, LinksAt, Climbs, ancestor, get_or_past, Entry, replicate, set, cond, count_by, cond-true, get_or-set_other, get_or-set_same, length-replicate}
+use Rattle.imagecheck.proofs.Common.{sum_by-set, at_or, HasWalked}
 use Rattle.imagerules.proofs.Marking.{All-flat_map, All-from_flat_map, All-from_map, All-from_passing}
 use Rattle.std.proofs.lemmas.Bool.{eq-eqb, eqb-true, ne_eqb}
-use Rattle.unixmodel.specs.Files.{find}
+use Rattle.unixmodel.specs.Files.{find, entry_number, Files, follow, live_places, lookup, parts}
 use Rattle.imagecheck.proofs.Entering.{behind_dots, each_named, holds_named, holds_taken}
 use Rattle.layout.proofs.GrowLemmas.{zero_at}
+use Rattle.std.proofs.Common.{option_and_then, position, slice_index, ◌⊎◌}
+use Rattle.imagerules.proofs.Denoting.{find-empty, find-root, find-slash, first_named-is, IsGiven-name}
 
 -- ---- entries and parents
 
@@ -16,17 +18,17 @@ use Rattle.layout.proofs.GrowLemmas.{zero_at}
 pub all-entries : (files : Files) (P : ℕ × Entry → Type 0) → ((d : ℕ) → All (λ e. P (d, e)) (entries_of (slot files d))) → All P (all_entries files)
 unfolding all_entries
 all-entries files P h =
-    All-flat_map P (λ d. map (λ e. (d, e)) (entries_of (slot files d))) (range_with_len 0 (length files)) (λ k x l.
+    All-flat_map P (λ d. map (λ e. (d, e)) (entries_of (slot files d))) (range_with_len 0 _) (λ k x l.
     let d = get_or (range_with_len 0 (length files)) k x in
     All-map P (λ (e : Entry). (d, e)) (entries_of (slot files d)) (h d))
 
 entries-all : (files : Files) (P : ℕ × Entry → Type 0) → All P (all_entries files) → (d : ℕ) → All (λ e. P (d, e)) (entries_of (slot files d))
 unfolding all_entries
 entries-all files P h d k x l =
-    let within : d < length files = elim (cases_lt d (length files)) [ inl low ↦ low | inr past ↦ absurd (omega (arith, l, ap (λ o. length (entries_of o)) (get_or_past files d None past))) ] in
-    let e : get_or (range_with_len 0 (length files)) d 0 ≡ d = get_or-range_with_len 0 (length files) d 0 within ∙ omega arith in
+    let within : d < length files = elim (cases_lt d _) [ inl low ↦ low | inr past ↦ absurd (omega (arith, l, ap (λ o. length (entries_of o)) (get_or_past files d None past))) ] in
+    let e : get_or (range_with_len 0 (length files)) d 0 ≡ d = get_or-range_with_len 0 _ d 0 within ∙ omega arith in
     let there = All-from_flat_map P (λ d. map (λ e. (d, e)) (entries_of (slot files d))) (range_with_len 0 (length files)) h d 0 (omega (arith, length-range_with_len 0 (length files))) in
-    All-from_map P (λ (y : Entry). (d, y)) (entries_of (slot files d)) (subst (λ m. All P (map (λ e. (m, e)) (entries_of (slot files m)))) {x = get_or (range_with_len 0 (length files)) d 0} e there) k x l
+    All-from_map P (λ (y : Entry). (d, y)) _ (subst (λ m. All P (map (λ e. (m, e)) (entries_of (slot files m)))) {x = get_or _ d 0} e there) k x l
 
 -- the directory of the first of them
 abbrev first_of : List (ℕ × Entry) → ℕ
@@ -34,7 +36,7 @@ first_of xs = unwrap_or (option_map (λ (y : ℕ × Entry). y.0) (slice_get xs 0
 
 first_has : (P : ℕ × Entry → Type 0) (n : ℕ) (xs : List (ℕ × Entry)) → 1 ≤ length xs → All P xs → All (λ x. names_number n x ≡ true) xs → (e : Entry) × (e.number ≡ n) × P (first_of xs, e)
 first_has P n [] some each names = absurd (omega arith)
-first_has P n (x ∷ xs) some each names = (x.1, eqb-true x.1.number n (All-head (λ x. names_number n x ≡ true) x xs names), All-head P x xs each)
+first_has P n (x ∷ xs) some each names = (x.1, eqb-true _ n (All-head (λ x. names_number n x ≡ true) x xs names), All-head P x xs each)
 
 -- what has a name has one in its parent
 pub parent-has : (files : Files) (P : ℕ × Entry → Type 0) → All P (all_entries files) → (n : ℕ) → n ≢ 1 → 1 ≤ names_of files n → (e : Entry) × (e.number ≡ n) × P (parent_of files n, e)
@@ -132,7 +134,7 @@ pub Climbs-child : (files : Files) (n : ℕ) → Climbs files (parent_of files n
 Climbs-child files n h = record { steps = suc h.steps; root = h.root }
 
 directory_named : (files : Files) (n : ℕ) (o : Option Node) → EntriesAt files n o → unwrap_or (option_map is_directory o) false ≡ true → n ≢ 1 → names_of files n ≡ 1
-directory_named files n (Some (Directory links places)) e h other = e.named ∙ cond-false (n == 1) 0 1 (ne_eqb n 1 other)
+directory_named files n (Some (Directory links places)) e h other = e.named ∙ cond-false _ 0 1 (ne_eqb n 1 other)
 directory_named files n o e h other = absurd (false≢true h)
 
 module _ (files : Files) (entries : HasEntries files) where
@@ -234,8 +236,8 @@ module _ (files : Files) (start n : ℕ) (marks : List ℕ) (h : IsWalk files st
   round_on : slice_index marks n ≡ start → (k m : ℕ) → slice_index marks m ≡ start → ancestor files k m ≡ 1 → ⊥
   round_on own zero m here e = let one : slice_index marks m ≡ 1 = ap (λ i. get_or marks i 0) e ∙ h.root in absurd (omega arith)
   round_on own (suc k) m here e = elim (h.next m here) [
-    | inl up ↦ round_on own k (parent_of files m) up e
-    | inr up ↦ round_on own k (parent_of files m) (ap (λ i. get_or marks i 0) up ∙ own) e
+    | inl up ↦ round_on own k _ up e
+    | inr up ↦ round_on own k _ (ap (λ i. get_or marks i 0) up ∙ own) e
   ]
 
   pub round_not : slice_index marks n ≡ start → Climbs files n → ⊥

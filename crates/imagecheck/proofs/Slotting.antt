@@ -1,11 +1,11 @@
 -- The slots of an inode that are there, one after the other: an index block is read behind the number that names it.
-use Rattle.imagecheck.proofs.Common.{◌≡◌, ℕ, ◌<◌, ◌≤◌, IsTrue, List, ap, arith, false, get_or, inl, inr, length, subst, sym, true, ◌∙◌, cases_lt, nat_tests, get_or-map-range_with_len, cond, nat_lt, ◌==◌, ◌↔◌, is_data_in, HasGeometry}
-use Rattle.imagecheck.proofs.Common.{Geometry, length-map-range_with_len, HasSuper, count_in, data_blocks, format_of, is_data_block, named_by, number_in, size_in, Asks, address_of, asked_slot, holder_of, in_record, single, slot_at}
-use Rattle.imagecheck.proofs.Common.{taken_blocks, there, FitsAddresses, direct-high, direct-low, is_data_block-below, FitsSlot, IsFound, Lies, Format, ◌+◌, ◌-◌, ◌*◌, refl, false≢true, inode_at, number_at, level_of, place_of}
-use Rattle.imagecheck.proofs.Common.{number_in-block, number_in-record}
+use Rattle.imagecheck.proofs.Common.{◌≡◌, ℕ, ◌<◌, ◌≤◌, IsTrue, List, ap, arith, false, get_or, inl, inr, length, subst, sym, true, ◌∙◌, cases_lt, nat_tests, cond, nat_lt, ◌==◌, ◌↔◌, is_data_in, HasGeometry, Geometry, HasSuper, count_in}
+use Rattle.imagecheck.proofs.Common.{data_blocks, format_of, is_data_block, named_by, number_in, size_in, Asks, address_of, asked_slot, holder_of, in_record, single, slot_at, taken_blocks, there, FitsAddresses, direct-high, direct-low}
+use Rattle.imagecheck.proofs.Common.{is_data_block-below, FitsSlot, IsFound, Lies, Format, ◌+◌, ◌-◌, ◌*◌, refl, false≢true, inode_at, number_at, level_of, place_of, number_in-block, number_in-record}
 use Rattle.std.proofs.Common.{eq-eqb, eqb-true}
 use Rattle.imagerules.proofs.Marking.{cond_no, cond_yes, is_data_in-is}
 use Rattle.layout.proofs.Places as places
+use Rattle.std.proofs.lemmas.List.FromFn.{get_or-map-range_with_len, length-map-range_with_len}
 
 -- the number in the k-th slot that is asked for, where all of them are sound
 pub record IsNamed (image : List ℕ) (n k number : ℕ) : Type 0 where
@@ -51,7 +51,7 @@ module _ (image : List ℕ) (n : ℕ) (small : count_in image n ≤ single (form
 
   -- the index block of the k-th comes before it, and so does the one of that
   holder-first : (k : ℕ) → k < there f count → in_record f (nth k) ≡ false → ComesBefore k (holder_of f (nth k))
-  holder-first k high apart = elim (cases_lt k (taken_blocks f count)) [
+  holder-first k high apart = elim (cases_lt k _) [
     | inl l ↦
         let a = asks-nth k l in
         record {
@@ -68,7 +68,7 @@ module _ (image : List ℕ) (n : ℕ) (small : count_in image n ≤ single (form
 
   holder-next : (k j : ℕ) → ComesBefore k j → in_record f j ≡ false → ComesBefore k (holder_of f j)
   holder-next k j b apart =
-      let up = subst (λ s. in_record f s ≡ false → ComesBefore (rank j) (holder_of f s)) (rank-is j b.asks) (holder-first (rank j) (below-there (rank-low j b.asks))) apart in
+      let up = subst (λ s. in_record f s ≡ false → ComesBefore (rank j) (holder_of f s)) (rank-is j b.asks) (holder-first _ (below-there (rank-low j b.asks))) apart in
       record { asks = up.asks; before = omega (arith, up.before, b.before) }
 
   -- ---- where those before it were seen, the index blocks that lead to the k-th lie in the image
@@ -82,12 +82,12 @@ module _ (image : List ℕ) (n : ℕ) (small : count_in image n ≤ single (form
 
     pub IsFound-next : k < there f count → IsFound image n (nth k)
     IsFound-next high = record {
-      within = elim (cases_lt k (taken_blocks f count)) [
+      within = elim (cases_lt k _) [
         | inl l ↦ (asks-nth k l).within
         | inr past ↦ (places.at-spare f (direct-low image) (direct-high image) count k small past high).within
       ];
-      holder = λ apart. seen-lies (holder_of f (nth k)) (holder-first k high apart);
-      above = λ apart held. seen-lies (holder_of f (holder_of f (nth k))) (holder-next k (holder_of f (nth k)) (holder-first k high apart) held);
+      holder = λ apart. seen-lies _ (holder-first k high apart);
+      above = λ apart held. seen-lies _ (holder-next k _ (holder-first k high apart) held);
     }
 
   -- what the test of a number tells of its slot
@@ -103,11 +103,11 @@ module _ (image : List ℕ) (n : ℕ) (small : count_in image n ≤ single (form
 
   named-at : (k d : ℕ) → k < taken_blocks f count → get_or (named_by image n) k d ≡ number_in image n (nth k)
   unfolding named_by
-  named-at k d l = get_or-map-range_with_len (λ j. number_in image n (asked_slot f count j)) 0 (taken_blocks f count) k k d l (omega arith) ∙ ap (number_in image n) (sym (at-taken k l))
+  named-at k d l = get_or-map-range_with_len (λ j. number_in image n (asked_slot f count j)) 0 _ k k d l (omega arith) ∙ ap (number_in image n) (sym (at-taken k l))
 
   pub named-long : length (named_by image n) ≡ taken_blocks f count
   unfolding named_by
-  named-long = length-map-range_with_len (λ j. number_in image n (asked_slot f count j)) 0 (taken_blocks f count)
+  named-long = length-map-range_with_len (λ j. number_in image n (asked_slot f count j)) 0 _
 
   pub FitsAddresses-from : ((k : ℕ) → k < there f count → FitsSlot image n k) → FitsAddresses image n
   FitsAddresses-from h = record {
@@ -122,7 +122,7 @@ module _ (image : List ℕ) (n : ℕ) (small : count_in image n ≤ single (form
   pub FitsSlot-at : FitsAddresses image n → (k : ℕ) → k < there f count → FitsSlot image n k
   FitsSlot-at h k high = record {
     asked = λ l. subst (λ b. IsTrue (is_data_block image b)) (named-at k 0 l) (h.blocks k 0 (omega (arith, named-long)));
-    spare = λ past. h.spares (nth k) (places.at-spare f (direct-low image) (direct-high image) count k small past high);
+    spare = λ past. h.spares _ (places.at-spare f (direct-low image) (direct-high image) count k small past high);
   }
 
   -- ---- where all numbers are sound
@@ -150,12 +150,12 @@ module _ (image : List ℕ) (n : ℕ) (small : count_in image n ≤ single (form
       found-data = subst (IsFound image n) (rank-is k asks-data) (found-at (rank k) (rank-low k asks-data))
 
       pub lies-data : Lies image n k
-      lies-data = seen-lies sound (taken_blocks f count) seen k (record { asks = asks-data; before = rank-low k asks-data })
+      lies-data = seen-lies sound _ seen k (record { asks = asks-data; before = rank-low k asks-data })
 
 -- the number of a data block
 pub data-at : (image : List ℕ) (n k d : ℕ) → k < count_in image n → get_or (data_blocks image n) k d ≡ number_in image n k
 unfolding data_blocks
-data-at image n k d l = get_or-map-range_with_len (number_in image n) 0 (count_in image n) k k d l (omega arith)
+data-at image n k d l = get_or-map-range_with_len _ 0 _ k k d l (omega arith)
 
 -- the first of all
 pub first-here : (image : List ℕ) → in_record (format_of image) 0 ≡ true
@@ -174,15 +174,15 @@ module _ (image : List ℕ) (n k : ℕ) {f : Format} (e : f ≡ format_of image)
 
   module _ (apart : in_record f k ≡ false) {holder : ℕ} (held : holder ≡ holder_of f k) where
     pub number-held : {block place number : ℕ} → block ≡ number_in image n holder → place ≡ place_of f k → number ≡ number_at 4 (1024 * block + 4 * place) image → number ≡ number_in image n k
-    number-held of at is = is ∙ rw (of, at, held, e) (sym (number_in-block image n (format_of image) refl (direct-low image) (direct-high image) k (rw e at apart)))
+    number-held of at is = is ∙ rw (of, at, held, e) (sym (number_in-block image n _ refl (direct-low image) (direct-high image) k (rw e at apart)))
 
     module _ (found : IsFound image n k) where
       -- its holder is found before it, lies in the image, and is one level up
       pub holder-found : IsFound image n holder
       holder-found = rw (held, e) (record {
-        within = places.holder-within (format_of image) (direct-low image) (direct-high image) k (rw e at apart) found.within;
+        within = places.holder-within _ (direct-low image) (direct-high image) k (rw e at apart) found.within;
         holder = found.above (rw e at apart);
-        above = λ _ never. absurd (false≢true (sym never ∙ places.holder-holder (format_of image) (direct-low image) (direct-high image) k));
+        above = λ _ never. absurd (false≢true (sym never ∙ places.holder-holder _ (direct-low image) (direct-high image) k));
       })
 
       pub holder-lies : {block : ℕ} → block ≡ number_in image n holder → 1024 * block + 1024 ≤ length image

@@ -1,7 +1,6 @@
 -- What a result of a pass tells, from what the pass before it tells.
-use Rattle.imagecheck.proofs.Common.{Err, List, Ok, Result, length, ℕ, ◌≡◌, ◌≤◌, ap, arith, subst, ◌∙◌, IfErr, IfOk, IsErrAnd, IsErrOf, MatchResult, OnOk, DenotesIn, named_blocks, numbers_in_use, Denies, DenotesOwn, Finds, IsOutside, Tells}
-use Rattle.imagecheck.proofs.Common.{HasMagic, IsSummary, HasEntries-denotes, HasKinds-denotes, HasLinks-denotes, HasSizes-denotes, IsReached-denotes, err_from_is_err_and, Format, ◌≢◌, cond, ◌==◌, sym, format_named, large, small, format_of}
-use Rattle.imagecheck.proofs.Common.{IsFront, image_of, SuperRules-of, Begins, HasLength-from, HasLength-not, HasNumbers-in, HasSuper-in, inodes-is, magic-is, size-is, ◌/◌, slice_range}
+use Rattle.imagecheck.proofs.Common.{Err, List, length, ℕ, ◌≡◌, ◌≤◌, ap, arith, subst, ◌∙◌, IfErr, MatchResult, DenotesIn, named_blocks, numbers_in_use, Denies, DenotesOwn, Finds, IsOutside, Tells, HasMagic, IsSummary, err_from_is_err_and}
+use Rattle.imagecheck.proofs.Common.{Format, ◌≢◌, cond, ◌==◌, sym, format_named, large, small, format_of, IsFront, image_of, SuperRules-of, Begins, ◌/◌, slice_range}
 use Rattle.unixmodel.specs.Failures.{Rises}
 use Rattle.imagecheck.specs.declared.ImageFault.{ImageFault}
 use Rattle.imagecheck.specs.declared.rules.Summary.{Summary}
@@ -13,6 +12,9 @@ use Rattle.layout.specs.declared.Format as layout
 use Rattle.layout.specs.declared.Format.TheVariants as kinds
 use Rattle.layout.specs.declared.SuperBlock.{SuperBlock}
 use Rattle.blockdev.specs.Sizes.{AreBlocks-blocks_of, block_at-blocks_of, length-blocks_of}
+use Rattle.std.proofs.Common.{IfOk, IsErrAnd, IsErrOf, Ok, OnOk, Result}
+use Rattle.imagerules.proofs.Denoting.{HasEntries-denotes, HasKinds-denotes, HasLinks-denotes, HasSizes-denotes, IsReached-denotes}
+use Rattle.imagerules.proofs.Super.{HasLength-from, HasLength-not, HasNumbers-in, HasSuper-in, inodes-is, magic-is, size-is}
 
 -- a fault that holds rules out that the image denotes files
 pub Tells-not : (f : Format) (image : List ℕ) (fault : ImageFault) → Tells f image fault → Denies (DenotesIn f image) fault
@@ -33,6 +35,9 @@ Tells-not f image fault.NoMemory t i files d = i
 -- a fault is told
 pub told-err : {T E : Type 0} {fault : E} (r : Result T E) → IsErrAnd r (λ f. f ≡ fault) → r ≡ Err fault
 told-err r told = let p = err_from_is_err_and r told in p.1 ∙ ap Err p.2
+
+pub err-told : {T E : Type 0} {fault : E} {r : Result T E} → IsErrAnd r (λ f. f ≡ fault) → r ≡ Err fault
+err-told {r = r} told = told-err r told
 
 -- it is the only one
 pub one-fault : {T E : Type 0} {r : Result T E} {x y : E} → r ≡ Err x → r ≡ Err y → x ≡ y

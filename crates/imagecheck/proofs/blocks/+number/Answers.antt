@@ -9,7 +9,7 @@ apart t c = sym c.is_in_record.ensures ∙ c.if-is_in_record.false
 
 pub returns-then-is_in_record : goal.returns-then-is_in_record
 returns-then-is_in_record t c =
-    number-own c.args.image.now c.args.n c.args.slot c.format_of-format.ensures (sym c.is_in_record.ensures ∙ c.if-is_in_record.true) c.address_of.ensures.place c.own_number.ensures
+    number-own _ _ c.args.slot c.format_of-format.ensures (sym c.is_in_record.ensures ∙ c.if-is_in_record.true) c.address_of.ensures.place c.own_number.ensures
 
 pub number-block-requires : goal.number-block-requires
 number-block-requires t c =

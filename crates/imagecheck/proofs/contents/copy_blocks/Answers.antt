@@ -15,7 +15,7 @@ lies g c =
     rw c.number-at.ensures (lies-data c.args.image.now c.args.n few (HasSuper-of c.args.image.now c.requires.rules) c.requires.addresses c.loop-k.k (rw c.block_count-k-end.ensures.count at c.loop-k-test.true))
 
 pub loop-k-init : goal.loop-k-init
-loop-k-init g c = sym (append-nil c.args.bytes.now.items)
+loop-k-init g c = sym (append-nil _)
 
 pub number-at-requires-clause-found : goal.number-at-requires-clause-found
 number-at-requires-clause-found g c =

@@ -14,4 +14,4 @@ pub returns-clause-place : goal.returns-clause-place
 returns-clause-place c = rw (c.number32.ensures, c.inode_place.ensures) refl
 
 pub returns-clause-inside : goal.returns-clause-inside
-returns-clause-inside c = rw (c.number32.ensures, c.inode_place.ensures) (first-data c.args.image.now (HasBlocks-of c.args.image.now c.requires.blocks) c.args.n c.requires.directory).2
+returns-clause-inside c = rw (c.number32.ensures, c.inode_place.ensures) (first-data _ (HasBlocks-of c.args.image.now c.requires.blocks) _ c.requires.directory).2

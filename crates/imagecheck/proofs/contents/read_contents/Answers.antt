@@ -4,7 +4,7 @@ use Rattle.imagecheck.proofs.contents.read_contents.Goals as goal
 
 pub copy_blocks-requires : goal.copy_blocks-requires
 copy_blocks-requires g c =
-    let blocks = HasBlocks-of c.args.image.now c.requires.blocks in
+    let blocks = HasBlocks-of _ c.requires.blocks in
     record {
       inode = HasInode-at c.requires.geometry blocks.inodes.sizes c.args.n c.requires.low c.requires.high c.requires.used;
       addresses = FitsAddresses-at c.args.image.now blocks.addresses c.args.n c.requires.low (omega (arith, c.requires.geometry.inodes)) c.requires.used;
@@ -12,7 +12,7 @@ copy_blocks-requires g c =
     }
 
 pub size-requires : goal.size-requires
-size-requires g c = HasPlace-at c.requires.geometry c.args.n c.requires.high
+size-requires g c = HasPlace-at c.requires.geometry _ c.requires.high
 
 pub returns : goal.returns
 unfolding contents_in

@@ -14,4 +14,4 @@ overflow_cast-n g c = omega (arith, inodes-most c.requires.geometry, c.requires.
 
 pub add_entries-requires : goal.add_entries-requires
 add_entries-requires g c =
-    least-in c.requires.geometry c.requires.blocks c.args.n c.requires.low c.requires.high c.requires.directory c.deref-2.result.now (c.deref-2.ensures.value ∙ c.in_ok-read_directory.ensures.bytes)
+    least-in c.requires.geometry c.requires.blocks _ c.requires.low c.requires.high c.requires.directory c.deref-2.result.now (c.deref-2.ensures.value ∙ c.in_ok-read_directory.ensures.bytes)

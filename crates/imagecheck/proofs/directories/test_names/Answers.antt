@@ -3,7 +3,7 @@ use Rattle.imagecheck.proofs.Parents.{least-in, names-at}
 use Rattle.imagecheck.proofs.directories.test_names.Goals as goal
 
 pub has_names-requires-clause-least : goal.has_names-requires-clause-least
-has_names-requires-clause-least c = least-in c.requires.geometry c.requires.blocks c.args.n c.requires.low c.requires.high c.requires.directory c.args.bytes.now c.requires.bytes
+has_names-requires-clause-least c = least-in c.requires.geometry c.requires.blocks _ c.requires.low c.requires.high c.requires.directory _ c.requires.bytes
 
 pub returns-then-not-has_names-clause-judged : goal.returns-then-not-has_names-clause-judged
 returns-then-not-has_names-clause-judged c =

@@ -1,10 +1,10 @@
 use Rattle.imagecheck.proofs.Common.{◌≡◌, length, ◌∙◌, arith, take_at, All-replicate, inodes-least, refl}
 use Rattle.imagecheck.proofs.Collecting.{HasParents-from, namings-fitting, numbers-within}
-use Rattle.imagecheck.proofs.Sounding.{told-err}
+use Rattle.imagecheck.proofs.Sounding.{err-told}
 use Rattle.imagecheck.proofs.files.test_fronts.Goals as goal
 
 pub returns-in_err-parents : goal.returns-in_err-parents
-returns-in_err-parents g c = rw (told-err c.from_residual.result c.from_residual.ensures.1) tt
+returns-in_err-parents g c = rw (err-told c.from_residual.ensures.1) tt
 
 pub find_parents-requires : goal.find_parents-requires
 find_parents-requires g c =

@@ -3,6 +3,3 @@ use Rattle.imagecheck.proofs.files.test_links.Goals as goal
 
 pub returns-then-not-has_links-clause-judged : goal.returns-then-not-has_links-clause-judged
 returns-then-not-has_links-clause-judged c = (HasBlocks-of c.args.image.now c.requires.blocks, c.requires.entries, iff_false c.has_links.ensures c.if-not-has_links.true)
-
-pub returns-clause-judged : goal.returns-clause-judged
-returns-clause-judged c = c.has_links.ensures.0 c.if-not-has_links.false

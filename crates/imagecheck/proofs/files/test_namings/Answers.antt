@@ -1,11 +1,11 @@
-use Rattle.imagecheck.proofs.Common.{◌≡◌, length, refl, ◌∙◌, All-replicate, take_at}
+use Rattle.imagecheck.proofs.Common.{◌≡◌, refl, ◌∙◌, All-replicate, take_at}
 use Rattle.imagecheck.proofs.Collecting.{TellsNames-from, numbers-within}
 use Rattle.imagecheck.proofs.files.test_namings.Goals as goal
 
 pub count_names-requires : goal.count_names-requires
 count_names-requires g c = record {
-  within = numbers-within c.requires (length c.deref_mut.result.now) (c.deref_mut.ensures.len ∙ c.in_ok-counts.ensures.len);
-  fresh = rw (c.deref_mut.ensures.value, c.in_ok-counts.ensures.items_if_clones_equal (λ y e. cc)) (All-replicate (λ x. x ≡ 0) c.args.geometry.inodes 0 refl);
+  within = numbers-within c.requires _ (c.deref_mut.ensures.len ∙ c.in_ok-counts.ensures.len);
+  fresh = rw (c.deref_mut.ensures.value, c.in_ok-counts.ensures.items_if_clones_equal (λ y e. cc)) (All-replicate (λ x. x ≡ 0) _ 0 refl);
 }
 
 pub test_fronts-requires-clause-counts : goal.test_fronts-requires-clause-counts

@@ -1,17 +1,17 @@
 use Rattle.imagecheck.proofs.Common.{◌≡◌, refl, ◌∙◌, sym, take_at, All-replicate}
 use Rattle.imagecheck.proofs.Collecting.{TellsSubdirectories-from, namings-fitting}
-use Rattle.imagecheck.proofs.Sounding.{told-err}
+use Rattle.imagecheck.proofs.Sounding.{err-told}
 use Rattle.imagecheck.proofs.files.test_subdirectories.Goals as goal
 
 pub returns-in_err-subdirectories : goal.returns-in_err-subdirectories
-returns-in_err-subdirectories g c = rw (told-err c.from_residual.result c.from_residual.ensures.1) tt
+returns-in_err-subdirectories g c = rw (err-told c.from_residual.ensures.1) tt
 
 pub count_subdirectories-requires : goal.count_subdirectories-requires
 count_subdirectories-requires g c = record {
   geometry = c.requires.listed.geometry;
   namings = namings-fitting c.requires.listed;
   long = c.deref_mut.ensures.len ∙ c.in_ok-subdirectories.ensures.len;
-  fresh = rw (c.deref_mut.ensures.value, c.in_ok-subdirectories.ensures.items_if_clones_equal (λ y e. cc)) (All-replicate (λ x. x ≡ 0) c.args.geometry.inodes 0 refl);
+  fresh = rw (c.deref_mut.ensures.value, c.in_ok-subdirectories.ensures.items_if_clones_equal (λ y e. cc)) (All-replicate (λ x. x ≡ 0) _ 0 refl);
 }
 
 pub test_links-requires-clause-subdirectories : goal.test_links-requires-clause-subdirectories

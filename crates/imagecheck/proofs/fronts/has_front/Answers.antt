@@ -11,8 +11,8 @@ returns c =
     let at = c.front_place-at.result in
     let front = slice_range image at (at + 32) in
     let contents = contents_in image c.args.n in
-    let least = directory-least image c.args.n d.low d.high d.kind blocks in
+    let least = directory-least image _ d.low d.high d.kind blocks in
     let inside = c.front_place-at.ensures.inside in
     let long : length front ≡ 32 = length-take-le (at + 32 - at) (drop at image) (omega (arith, length-drop at image)) ∙ omega arith in
     let same : take 32 front ≡ take 32 contents = rw (contents-front image blocks c.args.n d, ← c.front_place-at.ensures.place) (take_all 32 front (omega arith)) in
-    Decides-like _ (FitsFront-same c.args.n c.args.parent front contents (omega arith) least same) (FitsFront-same c.args.n c.args.parent contents front least (omega arith) (sym same)) c.fits_front.ensures
+    Decides-like _ (FitsFront-same _ _ front _ (omega arith) least same) (FitsFront-same _ _ _ front least (omega arith) (sym same)) c.fits_front.ensures

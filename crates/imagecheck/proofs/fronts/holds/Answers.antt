@@ -7,7 +7,7 @@ returns-then-is_free c = never (λ h. false≢true (ap is_some (sym (place-free 
 
 pub returns-then-number_in-number : goal.returns-then-number_in-number
 returns-then-number_in-number c =
-    let taken = place-taken c.args.place.now (sym c.is_free.ensures ∙ c.if-is_free.false) in
+    let taken = place-taken _ (sym c.is_free.ensures ∙ c.if-is_free.false) in
     never (λ h. c.if-number_in-number.true (c.number_in.ensures ∙ ap (λ (e : Entry). e.number) (same_Some _ _ (sym taken ∙ h))))
 
 pub returns : goal.returns

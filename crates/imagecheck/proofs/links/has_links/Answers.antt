@@ -27,4 +27,4 @@ loop-n-preserved c = up_to_more (LinksFit c.args.image.now) c.loop-n.n c.loop-n.
 
 pub returns : goal.returns
 returns c =
-    told (HasLinks-from c.args.image.now (HasBlocks-of c.args.image.now c.requires.blocks) (λ n low high. c.loop-n.invariant n low (omega (arith, c.requires.geometry.inodes, c.loop-n-test.false))))
+    told (HasLinks-from _ (HasBlocks-of c.args.image.now c.requires.blocks) (λ n low high. c.loop-n.invariant n low (omega (arith, c.requires.geometry.inodes, c.loop-n-test.false))))

@@ -1,18 +1,18 @@
 use Rattle.imagecheck.proofs.Common.{◌≡◌, ◌<◌, length, refl, ◌∙◌, arith, image_of-more}
 use Rattle.std.proofs.Common.{take_all}
 use Rattle.blockdev.specs.Blocks.{block_at}
-use Rattle.imagecheck.proofs.Sounding.{Rises-before, not_device, one-fault, told-err}
+use Rattle.imagecheck.proofs.Sounding.{Rises-before, not_device, one-fault, err-told}
 use Rattle.imagecheck.proofs.load.read_blocks.Goals as goal
 
 pub returns-in_err-image : goal.returns-in_err-image
 returns-in_err-image g c =
-    let e = told-err c.from_residual.result c.from_residual.ensures.1 in
+    let e = err-told c.from_residual.ensures.1 in
     record { bytes = rw e tt; only = rw e tt; same = refl; identity = refl; later = omega arith; failed = λ is. absurd (not_device (one-fault e is)) }
 
 pub returns-in_err-block : goal.returns-in_err-block
 returns-in_err-block g c =
     let inv = c.loop-n.invariant in
-    let e = told-err c.from_residual-in_err-block.result c.from_residual-in_err-block.ensures.1 in
+    let e = err-told c.from_residual-in_err-block.ensures.1 in
     record {
       bytes = rw e tt;
       only = rw e tt;
@@ -25,7 +25,7 @@ returns-in_err-block g c =
 pub returns-in_err-extend_from_slice : goal.returns-in_err-extend_from_slice
 returns-in_err-extend_from_slice g c =
     let inv = c.loop-n.invariant in
-    let e = told-err c.from_residual-in_err-extend_from_slice.result c.from_residual-in_err-extend_from_slice.ensures.1 in
+    let e = err-told c.from_residual-in_err-extend_from_slice.ensures.1 in
     record {
       bytes = rw e tt;
       only = rw e tt;

@@ -1,20 +1,14 @@
-use Rattle.imagecheck.proofs.Common.{arith, refl, subst, IfErr, IsFront, IsOfImage, HasLength-not_few}
+use Rattle.imagecheck.proofs.Common.{arith, subst, IfErr, IsFront, IsOfImage, HasLength-not_few}
 use Rattle.imagecheck.proofs.load.read_geometry.Goals as goal
 
 pub returns-then-count-lt2-clause-judged : goal.returns-then-count-lt2-clause-judged
 returns-then-count-lt2-clause-judged g c =
     HasLength-not_few (g.D.BlockDev.content c.args.device.now) (g.met.D.BlockDev.sizes c.args.device.now) (omega (arith, c.blocks-count.ensures, c.if-count-lt2.true))
 
-pub returns-then-count-lt2-clause-identity : goal.returns-then-count-lt2-clause-identity
-returns-then-count-lt2-clause-identity g c = refl
-
-pub returns-in_err-block-clause-identity : goal.returns-in_err-block-clause-identity
-returns-in_err-block-clause-identity g c = c.read.ensures.identity
-
 pub returns : goal.returns
 returns g c =
     let blocks = g.D.BlockDev.content c.args.device.now in
-    let front : IsFront blocks c.blocks-count.result c.in_ok-block.block = record { sizes = g.met.D.BlockDev.sizes c.args.device.now; many = c.blocks-count.ensures; front = c.in_ok-block.ensures.bytes } in
+    let front : IsFront blocks c.blocks-count.result c.in_ok-block.block = record { sizes = g.met.D.BlockDev.sizes _; many = c.blocks-count.ensures; front = c.in_ok-block.ensures.bytes } in
     record {
       judged = c.geometry_in.ensures.judged blocks front;
       memory = λ told. subst (λ r. IfErr r IsOfImage) told c.geometry_in.ensures.own;

@@ -1,10 +1,10 @@
-use Rattle.imagecheck.proofs.Common.{[], ◌+◌, ◌<◌, ◌≤◌, ◌∷◌, ◌++◌, take, drop, subst, ap, ◌∙◌, arith, count_in, direct-high, direct-low, format_of, named_by, single, taken_blocks, HasSuper-of, HasMarks, IsOnce, list_more, list_split}
-use Rattle.imagecheck.proofs.Common.{mark_more, mark_shared}
+use Rattle.imagecheck.proofs.Common.{[], ◌+◌, ◌<◌, ◌≤◌, ◌∷◌, ◌++◌, take, drop, subst, ap, ◌∙◌, arith, count_in, direct-high, direct-low, format_of, named_by, single, taken_blocks, HasSuper-of, HasMarks, IsOnce}
 use Rattle.std.proofs.Common.{take_all}
 use Rattle.layout.proofs.Places.{taken-there}
 use Rattle.imagecheck.proofs.Slotting.{IsNamed, IsNamed-at, found-at, named-long}
 use Rattle.imagecheck.proofs.marks.mark_all.Goals as goal
 use Rattle.imagecheck.proofs.marks.mark_all.Goals.{At-loop-k, After-slot_at, After-number}
+use Rattle.imagerules.proofs.Marking.{list_more, list_split, mark_more, mark_shared}
 
 -- how many data blocks its size asks for
 small : (c : At-loop-k) → count_in c.args.image.now c.args.n ≤ single (format_of c.args.image.now)

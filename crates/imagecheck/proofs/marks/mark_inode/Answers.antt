@@ -3,7 +3,7 @@ use Rattle.std.proofs.Common.{append-nil}
 use Rattle.imagecheck.proofs.marks.mark_inode.Goals as goal
 
 pub kind-requires : goal.kind-requires
-kind-requires c = HasPlace-at c.requires.geometry c.args.n c.requires.high
+kind-requires c = HasPlace-at c.requires.geometry _ c.requires.high
 
 pub returns-then-kind-eq0 : goal.returns-then-kind-eq0
 returns-then-kind-eq0 c = λ before h.
@@ -12,8 +12,8 @@ returns-then-kind-eq0 c = λ before h.
 
 pub mark_all-requires : goal.mark_all-requires
 mark_all-requires c = record {
-  inode = HasInode-at c.requires.geometry c.requires.sizes c.args.n c.requires.low c.requires.high (λ z. c.if-kind-eq0.false (c.kind.ensures ∙ z));
-  addresses = FitsAddresses-at c.args.image.now c.requires.addresses c.args.n c.requires.low (omega (arith, c.requires.geometry.inodes)) (λ z. c.if-kind-eq0.false (c.kind.ensures ∙ z));
+  inode = HasInode-at c.requires.geometry c.requires.sizes _ c.requires.low c.requires.high (λ z. c.if-kind-eq0.false (c.kind.ensures ∙ z));
+  addresses = FitsAddresses-at _ c.requires.addresses _ c.requires.low (omega (arith, c.requires.geometry.inodes)) (λ z. c.if-kind-eq0.false (c.kind.ensures ∙ z));
   rules = c.requires.geometry.rules;
   long = c.requires.long ∙ c.requires.geometry.size;
 }
@@ -21,4 +21,4 @@ mark_all-requires c = record {
 pub returns : goal.returns
 returns c =
     subst (λ xs. MarksMore c.args.marks.now c.mark_all.new.marks xs c.mark_all.result)
-    (sym (blocks_of-used c.args.image.now c.args.n (λ z. c.if-kind-eq0.false (c.kind.ensures ∙ z)))) c.mark_all.ensures
+    (sym (blocks_of-used _ _ (λ z. c.if-kind-eq0.false (c.kind.ensures ∙ z)))) c.mark_all.ensures

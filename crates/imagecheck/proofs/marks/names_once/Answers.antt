@@ -1,19 +1,19 @@
-use Rattle.imagecheck.proofs.Common.{◌≡◌, ◌+◌, subst, sym, ap, ◌∙◌, arith, MatchBool-at_false, MatchBool-at_true, inodes_in, HasMarks, IsOnce, named_before, named_before-all, named_before-front, named_before-more, inodes-least}
+use Rattle.imagecheck.proofs.Common.{◌≡◌, subst, sym, ap, ◌∙◌, arith, MatchBool-at_false, MatchBool-at_true, inodes_in, HasMarks, IsOnce, named_before, named_before-all, named_before-front, named_before-more, inodes-least}
 use Rattle.imagecheck.proofs.marks.names_once.Goals as goal
 
 pub returns-then-not-mark_inode : goal.returns-then-not-mark_inode
 returns-then-not-mark_inode c = λ once.
     let image = c.args.image.now in
     let n = c.loop-n.n in
-    MatchBool-at_false _ _ c.if-not-mark_inode.true (c.mark_inode.ensures (named_before image n) c.loop-n.invariant)
-    (subst IsOnce (named_before-more image n (omega arith)) (named_before-front image (n + 1) (omega arith) (omega (arith, c.requires.geometry.inodes)) once))
+    MatchBool-at_false _ _ c.if-not-mark_inode.true (c.mark_inode.ensures _ c.loop-n.invariant)
+    (subst IsOnce (named_before-more image n (omega arith)) (named_before-front image _ (omega arith) (omega (arith, c.requires.geometry.inodes)) once))
 
 pub loop-n-preserved : goal.loop-n-preserved
 loop-n-preserved c =
     let image = c.args.image.now in
     let n = c.loop-n.n in
     subst (λ xs. HasMarks xs c.mark_inode.new.marks) (sym (named_before-more image n (omega arith)))
-    (MatchBool-at_true _ _ c.if-not-mark_inode.false (c.mark_inode.ensures (named_before image n) c.loop-n.invariant))
+    (MatchBool-at_true _ _ c.if-not-mark_inode.false (c.mark_inode.ensures _ c.loop-n.invariant))
 
 pub returns : goal.returns
 returns c =

@@ -1,4 +1,4 @@
-use Rattle.imagecheck.proofs.Common.{◌≡◌, ◌+◌, ap, sym, subst, ◌∙◌, parent_of, number_at, files_in, HasBlocks-of, IsDirectoryIn}
+use Rattle.imagecheck.proofs.Common.{◌≡◌, ◌+◌, ap, sym, subst, ◌∙◌, parent_of, number_at, HasBlocks-of, IsDirectoryIn}
 use Rattle.imagecheck.proofs.Parents.{parent-read, parent_directory}
 use Rattle.imagecheck.proofs.reach.parent.Goals as goal
 
@@ -6,8 +6,8 @@ pub returns : goal.returns
 returns c =
     let image = c.args.image.now in
     let blocks = HasBlocks-of image c.requires.blocks in
-    let is : c.number16.result ≡ parent_of (files_in image) c.args.n =
-    c.number16.ensures ∙ ap (λ at. number_at 2 (at + 16) image) c.front_place.ensures.place ∙ parent-read image blocks c.args.n c.requires.directory c.requires.entries in
+    let is : c.number16.result ≡ parent_of _ _ =
+    c.number16.ensures ∙ ap (λ at. number_at 2 (at + 16) image) c.front_place.ensures.place ∙ parent-read image blocks _ c.requires.directory c.requires.entries in
     record {
       parent = is;
       directory = subst (IsDirectoryIn image) (sym is) (parent_directory image blocks c.requires.entries c.requires.links c.args.n c.requires.directory);

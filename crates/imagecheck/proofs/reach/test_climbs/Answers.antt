@@ -7,9 +7,6 @@ use Rattle.imagecheck.proofs.reach.test_climbs.Goals.{else-kind-eq-DIRECTORY-via
 pub returns-then-not-climb-clause-judged : goal.returns-then-not-climb-clause-judged
 returns-then-not-climb-clause-judged c = (HasBlocks-of c.args.image.now c.requires.blocks, c.requires.entries, c.requires.links, MatchBool-at_false _ _ c.if-not-climb.true c.climb.ensures)
 
-pub loop-n-init : goal.loop-n-init
-loop-n-init c = record { long = c.requires.long; walked = c.requires.walked; climb = λ m low high k. record { steps = 0; root = omega arith } }
-
 pub kind-requires : goal.kind-requires
 kind-requires c = HasPlace-at c.requires.geometry c.loop-n.n c.loop-n-test.true
 

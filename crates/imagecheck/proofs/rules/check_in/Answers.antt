@@ -1,5 +1,5 @@
 use Rattle.imagecheck.proofs.Common.{◌≡◌, Err, length, ap, refl, sym, subst, ◌∙◌, arith, MatchResult, format_named, image_of, Finds, Tells, IsSummary, size-most, image_of-blocks, count-is}
-use Rattle.imagecheck.proofs.Sounding.{IsJudged, Rises-before, Tells-not, judged-from, one-fault, outside-told, told-err}
+use Rattle.imagecheck.proofs.Sounding.{IsJudged, Rises-before, Tells-not, judged-from, one-fault, outside-told, err-told}
 use Rattle.imagecheck.proofs.rules.check_in.Goals as goal
 
 pub returns-in-Some : goal.returns-in-Some
@@ -22,7 +22,7 @@ returns-in-Some g c =
 
 pub returns-in_err-geometry-clause-refused : goal.returns-in_err-geometry-clause-refused
 returns-in_err-geometry-clause-refused g c =
-    rw (told-err c.from_residual.result c.from_residual.ensures.1) (Tells-not (format_named c.args.format) (image_of (g.D.BlockDev.content c.args.device.now)) _ c.in_err-geometry.ensures.judged)
+    rw (err-told c.from_residual.ensures.1) (Tells-not _ _ _ c.in_err-geometry.ensures.judged)
 
 pub read_blocks-requires : goal.read_blocks-requires
 read_blocks-requires g c = record {
@@ -36,7 +36,7 @@ returns-in_err-image g c =
     let image = image_of (g.D.BlockDev.content device) in
     let fault = c.in_err-image.field-0.0 in
     let told : Tells (format_named c.args.format) image fault = outside-told (format_named c.args.format) image fault c.in_err-image.ensures.only in
-    let is = told-err c.from_residual-in_err-image.result c.from_residual-in_err-image.ensures.1 in
+    let is = err-told c.from_residual-in_err-image.ensures.1 in
     record {
       denotes = rw is tt;
       inodes = rw is tt;
@@ -58,7 +58,7 @@ returns g c =
     let image = image_of (g.D.BlockDev.content c.args.device.now) in
     let r = c.summary_of.result in
     let found : MatchResult r (IsSummary image) (Finds image) = rw (c.deref.ensures.value, c.in_ok-image.ensures.bytes, c.read_geometry.ensures.same) at c.summary_of.ensures in
-    let judged = judged-from (format_named c.args.format) image c.in_ok-geometry.ensures.judged.magic r found in
+    let judged = judged-from _ image c.in_ok-geometry.ensures.judged.magic r found in
     record {
       denotes = judged.denotes;
       inodes = judged.inodes;

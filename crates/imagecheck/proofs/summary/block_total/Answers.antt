@@ -3,10 +3,10 @@ use Rattle.imagerules.proofs.Marking.{length-blocks_of}
 use Rattle.imagecheck.proofs.summary.block_total.Goals as goal
 
 pub kind-requires : goal.kind-requires
-kind-requires c = HasPlace-at c.requires.geometry c.args.n c.requires.high
+kind-requires c = HasPlace-at c.requires.geometry _ c.requires.high
 
 pub block_count-count-requires : goal.block_count-count-requires
-block_count-count-requires c = HasInode-at c.requires.geometry c.requires.sizes c.args.n c.requires.low c.requires.high (λ z. c.if-kind-eq0.false (c.kind.ensures ∙ z))
+block_count-count-requires c = HasInode-at c.requires.geometry c.requires.sizes _ c.requires.low c.requires.high (λ z. c.if-kind-eq0.false (c.kind.ensures ∙ z))
 
 pub returns-clause-total : goal.returns-clause-total
 returns-clause-total c =

@@ -1,4 +1,4 @@
-use Rattle.imagecheck.proofs.Common.{◌<◌, ◌+◌, cond, length, get_or, ◌∙◌, arith, refl, ◌==◌, sum_by_more, Naming}
+use Rattle.imagecheck.proofs.Common.{◌<◌, cond, length, get_or, ◌∙◌, arith, refl, ◌==◌, sum_by_more, Naming}
 use Rattle.std.proofs.Common.{length-set}
 use Rattle.imagecheck.proofs.Collecting.{counted_more}
 use Rattle.imagecheck.proofs.tables.count_names.Goals as goal
@@ -12,7 +12,7 @@ loop-naming-preserved c =
     let m : Naming = get_or namings i none in
     let inv = c.loop-naming.invariant in
     let high : m.number < length counts = omega (arith, c.requires.within i none c.loop-naming-test.true, inv.long) in
-    let long = length-set counts m.number (get_or counts m.number 0 + 1) in
+    let long = length-set counts _ _ in
     record {
       long = long ∙ inv.long;
       counted = λ k l. rw (counted_more counts m.number k high, inv.counted k (omega arith), sum_by_more (λ (y : Naming). cond (y.number == k) 1 0) namings i none c.loop-naming-test.true) refl;

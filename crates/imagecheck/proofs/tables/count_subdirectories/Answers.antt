@@ -11,11 +11,11 @@ none = record { directory = 0; number = 0 }
 pub is_directory-requires-clause-low : goal.is_directory-requires-clause-low
 is_directory-requires-clause-low c =
     let least = inodes-least c.requires.geometry in
-    some_low c.args.image.now (get_or c.args.namings.now c.loop-naming.naming-index none).number (omega (arith, c.requires.geometry.inodes)) (c.requires.namings c.loop-naming.naming-index none c.loop-naming-test.true).number
+    some_low _ (get_or _ c.loop-naming.naming-index none).number (omega (arith, c.requires.geometry.inodes)) (c.requires.namings c.loop-naming.naming-index none c.loop-naming-test.true).number
 
 pub is_directory-requires-clause-high : goal.is_directory-requires-clause-high
 is_directory-requires-clause-high c =
-    let high = some_high c.args.image.now (get_or c.args.namings.now c.loop-naming.naming-index none).number (c.requires.namings c.loop-naming.naming-index none c.loop-naming-test.true).number in
+    let high = some_high _ (get_or _ c.loop-naming.naming-index none).number (c.requires.namings c.loop-naming.naming-index none c.loop-naming-test.true).number in
     omega (arith, c.requires.geometry.inodes)
 
 pub bounds-counts-naming : goal.bounds-counts-naming
