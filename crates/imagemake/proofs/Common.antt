@@ -39,8 +39,8 @@ pub use Rattle.names.proofs.Quiet.{HasLinked}
 pub use Rattle.names.specs.Rules.{entries, HasRoot, IsLive, IsRanked, KeepsLive, KeepsTree, names_for}
 unfoldable pub use Rattle.names.specs.Rules.{folders, names_by}
 pub use Rattle.tree.proofs.Following.{end-lost, IsNow, lost-served, now-begin, now-changed, now-files, now-limit, now-read, now-turned, now-up, some-now, turned-last}
-pub use Rattle.tree.proofs.Rooms.{blocks_of-entered, entered-is, room-end, enter-room, none-not}
-pub use Rattle.tree.proofs.Storing.{blocks_of-set, files-are, held-again, slot-within, taken_by, whole-node}
+pub use Rattle.tree.proofs.Places.{blocks_of-entered, entered-is, room-end, enter-room, none-not}
+pub use Rattle.tree.proofs.Storing.{blocks_of-set, files-are, held-again, slot-within, taken_by, whole-node, number-lowest, taken-grows}
 pub use Rattle.tree.specs.Entering.{fresh, growth, placed, room_behind, HasRoom}
 unfoldable pub use Rattle.tree.specs.Entering.{entered, room_in}
 pub use Rattle.tree.specs.Stored.{Agrees, FitsPlaces, HasDevice, IsRaw, IsStored}
@@ -61,7 +61,6 @@ pub use Rattle.unixmodel.specs.Manifest.Wrong.{Inodes, Name, Numbers, Twice, Blo
 pub use Rattle.unixmodel.specs.NameCalls.{more_links, new_directory}
 unfoldable pub use Rattle.unixmodel.specs.Counts.{blocks_of}
 pub use Rattle.tree.specs.Whole.{IsWhole}
-pub use Rattle.tree.proofs.Bridging.{number-lowest, taken-grows}
 pub use Rattle.imagemake.specs.Added.{CanAdd, HasDirectory, IsBlank, IsPacked, IsPossible, LacksRoomFor, Owns, PackedAt, Puts, TellsFull, PutsName, Stores}
 pub use Rattle.imagemake.specs.Begins.{AddsEntry, BlamesDevice, IsGoing, IsMade, IsSpot, made_by, make_fault, MakesEntries}
 pub use Rattle.imagemake.specs.Begun.{IsBegun, IsListed}

@@ -4,7 +4,7 @@ use Rattle.imagemake.proofs.Common.{le-ltb, lt-ltb, cases_lt, false≢true, get_
 use Rattle.imagemake.proofs.Common.{blocks_of-set, slot-within, Files, Node, blocks_for, change_node, links_of, most_places, put, size_of, slot, with_links, appended, linked, Folder, more_links, HasDirectory, IsPacked, LacksRoomFor}
 use Rattle.imagemake.proofs.Common.{change-is, blocks_of-entered, entered-is, room-end, blocks_of, Entry, Directory, Thing, ◌⊎◌, HasRoom}
 use Rattle.blockdev.specs.declared.DeviceFault.{DeviceFault}
-use Rattle.tree.proofs.Linking.{links-size}
+use Rattle.tree.proofs.Links.{links-size}
 use Rattle.imagemake.proofs.Putting.{slot-put}
 
 -- ---- the end is the next place

@@ -3,7 +3,7 @@ use Rattle.imagemake.proofs.Common.{◌≡◌, ℕ, ◌+◌, ◌-◌, ◌<◌, �
 use Rattle.imagemake.proofs.Common.{unwrap_or, ◌&&◌, ◌==◌, list_all, cond-false, cond-true, le-ltb, lt-ltb, drop-drop, length-drop, take_rest, position-Some, onto_first, pieces, split_last, with_last, is_name, MadeName, found, is_folder}
 use Rattle.imagemake.proofs.Common.{reach, seek, position-None}
 use Rattle.std.proofs.Math.Bool.{and-true}
-use Rattle.tree.proofs.Parts.{pieces-split, pieces-whole}
+use Rattle.tree.proofs.Naming.{pieces-split, pieces-whole}
 
 -- up to the first slash
 pub pieces_first : (bs : List ℕ) (i : ℕ) → position (λ b. b == 0x2f) bs ≡ Some i → pieces bs ≡ take i bs ∷ pieces (drop (i + 1) bs)

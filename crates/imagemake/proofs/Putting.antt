@@ -4,7 +4,7 @@ use Rattle.imagemake.proofs.Common.{now-limit, blocks_of-set, slot-within, taken
 use Rattle.imagemake.proofs.Common.{minor_of, StoreFault, blocks_of, Directory, Thing, is_err}
 use Rattle.cache.proofs.Using.{rises-before}
 use Rattle.tree.specs.Steps.{IsUnnamed}
-use Rattle.tree.proofs.Taking.{fresh-blocks}
+use Rattle.tree.proofs.Gaps.{fresh-blocks}
 use Rattle.imagemake.specs.declared.store.StoreFault.TheVariants.{Blocks, Device}
 use Rattle.imagemake.proofs.MadeBare.{no-files, slot-free}
 use Rattle.imagemake.proofs.Owned.{Owns-after, Owns-done, Owns-other, told_err}

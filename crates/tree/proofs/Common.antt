@@ -1,6 +1,6 @@
 -- The names that the lemmas of this crate import from elsewhere, passed on from one place. Declares nothing.
-pub use Rattle.std.proofs.Common.{◌%◌, ◌*◌, ◌+◌, ◌++◌, ◌-◌, ◌/◌, ◌<◌, [], ap, arith, below_more, below_none, Bool, cond, drop, Err, false, get_or, inl, inr, le_refl, length, List, map, min, None, not, Ok, OnOk, Option, refl, replicate}
-pub use Rattle.std.proofs.Common.{Result, set, Some, subst, suc, sym, take, true, zero, ℕ, ◌∙◌, ◌∷◌, ◌≡◌, ◌≢◌, ◌≤◌, ◌⊎◌}
+pub use Rattle.std.proofs.Common.{◌%◌, ◌*◌, ◌+◌, ◌++◌, ◌-◌, ◌/◌, ◌<◌, [], ap, arith, below_more, Bool, cond, drop, Err, false, get_or, inl, inr, le_refl, length, List, map, min, None, not, Ok, OnOk, Option, refl, replicate, Result, set}
+pub use Rattle.std.proofs.Common.{Some, subst, suc, sym, take, true, zero, ℕ, ◌∙◌, ◌∷◌, ◌≡◌, ◌≢◌, ◌≤◌, ◌⊎◌}
 pub use Rattle.std.proofs.lemmas.Bool.{and_from, and_left, and_parts, and_right, cases_eq, cases_lt, cond-false, cond-true, eq-eqb, false≢true, le-leb, le-ltb, leb-false, leb-true, lt-leb, lt-ltb, ltb-true, ne_eqb, not-true, or_from}
 pub use Rattle.std.proofs.lemmas.Bool.{or_left, or_parts, or_right}
 pub use Rattle.std.proofs.lemmas.Grind.{get_or_default_zero}
@@ -8,38 +8,31 @@ pub use Rattle.std.proofs.lemmas.List.{append-nil, append_assoc, drop-drop, drop
 pub use Rattle.std.proofs.lemmas.List.{length-take-le, set-set, take-take, take_all, take_rest}
 pub use Rattle.std.proofs.lemmas.List.Elements.{All-append, All-cons, All-head, All-nil, All-set, All-tail}
 pub use Rattle.std.proofs.lemmas.List.Quantifiers.{position-Some}
-pub use Rattle.std.proofs.lemmas.List.Sums.{position_or_len_is, sum_by-cons, sum_by-set}
 pub use Rattle.std.proofs.lemmas.Option.{none-some, option_and_then_some, same_Some}
-pub use Rattle.std.proofs.lemmas.Result.{err_from_is_err_and, IfOk-at_ok}
 pub use Rattle.std.specs.List.{list_all, position_or_len}
-pub use Rattle.std.specs.Prelude.{◌&&◌, ◌==◌, All, filter, flat_map, IfErr, IfNone, IfOk, is_none, is_some, IsSome, nat_le, nat_lt, OnErr, option_and_then, option_map, position, sum_by, unwrap_or, ◌||◌}
-pub use Rattle.std.specs.Result.{is_err, IsErrAnd}
+pub use Rattle.std.specs.Prelude.{◌&&◌, ◌==◌, All, filter, flat_map, IfErr, IfNone, IfOk, is_none, is_some, IsSome, nat_le, nat_lt, OnErr, option_and_then, option_map, position, sum_by, unwrap_or}
 pub use Rattle.blockdev.specs.Splice.{part, splice}
 pub use Rattle.blockdev.specs.declared.DeviceFault.{DeviceFault}
-pub use Rattle.cache.proofs.Using.{rises-before}
 pub use Rattle.imagerules.proofs.Spelling.{length-place_bytes, length-spelling, places_in-back, slot-places_in}
 pub use Rattle.imagerules.specs.Places.{IsPlain, place_of_bytes, PlaceFits}
 pub use Rattle.inode.specs.Store.{Changes, Follows, IsFull, IsLaidOut, IsLowestFree, IsNode, Keeps, LacksWriting, Looks, raw_at, Store, TakesLowest, used_by, Writes}
-pub use Rattle.inode.specs.declared.InodeFault.{InodeFault}
 pub use Rattle.inode.specs.declared.InodeFault.TheVariants.{PastEnd, TooLong}
 pub use Rattle.inode.specs.declared.InodeStat.{InodeStat}
 pub use Rattle.layout.specs.Image.{index_for, RawNode, taken_for}
 pub use Rattle.layout.specs.declared.Geometry.{Geometry}
 pub use Rattle.names.proofs.Finding.{free-number, IsFree, position-None, slot-set, find-used, follow-used, lookup-used, numbers-used, start-used, is_part, is_plain, spot-parts}
-pub use Rattle.names.proofs.Quiet.{changed-same, emptied-is, kept-gone, kept-here, kept-none, length-kept, releases, writes-over, is_held, IsSettled, kept-but, loses-reaped}
+pub use Rattle.names.proofs.Quiet.{changed-same, emptied-is, kept-gone, kept-here, kept-none, length-kept, releases, writes-over}
 pub use Rattle.names.specs.Rules.{KeepsTree}
 unfoldable pub use Rattle.unixmodel.specs.Counts.{blocks_of}
-pub use Rattle.unixmodel.specs.Files.{blocks_for, change_node, clear, dot, dot_dot, entry_number, Files, follow, free_slot, has_name, is_directory, is_dot_name, kind_of, links_of, live_places, live_spot, longest, most_links}
-pub use Rattle.unixmodel.specs.Files.{most_places, Node, node_bytes, onto_first, pieces, place_bytes, places_at, put, size_of, slot, split_last, Spot, start_of, taken, with_entry_at, with_last, with_links, with_places, without_place}
+pub use Rattle.unixmodel.specs.Files.{blocks_for, change_node, clear, dot, dot_dot, entry_number, Files, follow, free_slot, has_name, is_directory, is_dot_name, kind_of, links_of, live_places, live_spot, longest, most_links, Entry}
+pub use Rattle.unixmodel.specs.Files.{most_places, Node, node_bytes, onto_first, pieces, place_bytes, put, size_of, slot, split_last, Spot, start_of, taken, with_entry_at, with_last, with_links, with_places, without_place}
 unfoldable pub use Rattle.unixmodel.specs.Files.{enter, erase, find, free_number, lookup, parts, place_of, spot_of, with_entry}
 pub use Rattle.unixmodel.specs.Files.Node.{Directory, File}
 pub use Rattle.unixmodel.specs.Manifest.{data_blocks_of}
-pub use Rattle.unixmodel.specs.Memory.{overwrite}
 unfoldable pub use Rattle.unixmodel.specs.Memory.{zeros}
 pub use Rattle.unixmodel.specs.NameCalls.{emptied, fewer_links, has_room_for_link, is_free_name, linked_node, Made, made_below, may_remove, more_links, new_directory, removed_node, without_name}
 unfoldable pub use Rattle.unixmodel.specs.NameCalls.{linked, made_at, made_directory, make_at, unlinked}
 pub use Rattle.unixmodel.specs.Numbers.{number_at}
-pub use Rattle.unixmodel.specs.Reap.{kept}
 pub use Rattle.tree.specs.Answers.{Overflows}
 pub use Rattle.tree.specs.Entering.{fresh, growth, HasGap, HasRoom, IsFullAt, LacksBlocks, made_files, placed, Reaches, room_at, room_behind, with_place}
 unfoldable pub use Rattle.tree.specs.Entering.{entered, folder_in, linked_in, made_in, room_in}
@@ -52,11 +45,10 @@ unfoldable pub use Rattle.tree.specs.Names.{found_in}
 pub use Rattle.tree.specs.Paths.{IsDead, IsNoDirectory, LacksSpot, reach}
 unfoldable pub use Rattle.tree.specs.Paths.{above}
 pub use Rattle.tree.specs.Scanning.{is_sought, IsFirst, place_in, Scans}
-pub use Rattle.tree.specs.Steps.{HasPlace, IsFolder, IsUnnamed, Reads, Rewrites, TakesNode, Tries, Turns}
+pub use Rattle.tree.specs.Steps.{HasPlace, IsFolder, Reads, Rewrites, TakesNode, Tries, Turns}
 pub use Rattle.tree.specs.Stored.{Agrees, FitsPlaces, IsFileSystem, IsRaw, IsStored, node_of, Stores, StoresFiles}
-unfoldable pub use Rattle.tree.specs.Stored.{files_of}
 pub use Rattle.tree.specs.Telling.{Tells, TellsAny, TellsMajor}
-pub use Rattle.tree.specs.Tree.{Acts, FileTree, IsRefusal, tree_with}
+pub use Rattle.tree.specs.Tree.{Acts, FileTree, IsRefusal, tree_with, Serves, HasFiles, IsInside, tree_of}
 pub use Rattle.tree.specs.Unlinks.{IsNaming, LacksName, Unlinks}
 unfoldable pub use Rattle.tree.specs.Unlinks.{unlinked_in}
 pub use Rattle.tree.specs.Whole.{IsWhole}
@@ -67,3 +59,4 @@ pub use Rattle.tree.specs.declared.TreeFault.TheVariants.{DeadDir, DotName, Exis
 pub use Rattle.tree.specs.declared.making.Leaf.{Leaf}
 pub use Rattle.tree.specs.declared.place.Found.{Found}
 pub use Rattle.tree.specs.declared.place.Sought.TheVariants.{Free, Name, Taken}
+pub use Rattle.tree.specs.declared.tree.Tree.TheInside.{Inside}

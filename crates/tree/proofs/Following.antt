@@ -1,10 +1,12 @@
 -- Steps of a call on files, one after the other, and how the call ends.
-use Rattle.tree.proofs.Common.{◌≡◌, ◌≢◌, ◌≤◌, ◌∙◌, ℕ, Err, List, Ok, Result, ap, arith, false, refl, subst, sym, true, IfOk, IsSome, None, OnErr, Option, Some, IsErrAnd, is_err, IsRefusal, false≢true, err_from_is_err_and, DeviceFault}
-use Rattle.tree.proofs.Common.{rises-before, IsFolder, Reads, Tries, Turns, Acts, FileTree, TreeFault, Files, Node, lookup, slot, IfOk-at_ok, fresh, Rewrites, TakesNode, IsFile, free_number, put, Directory}
-use Rattle.tree.specs.Tree.{is_device, Serves, has_failed}
+use Rattle.tree.proofs.Common.{◌≡◌, ◌≢◌, ◌≤◌, ◌∙◌, ℕ, Err, List, Ok, Result, ap, arith, false, refl, subst, sym, true, IfOk, IsSome, None, OnErr, Option, Some, IsRefusal, false≢true, DeviceFault, IsFolder, Reads, Tries, Turns, Acts}
+use Rattle.tree.proofs.Common.{FileTree, TreeFault, Files, Node, lookup, slot, fresh, Rewrites, TakesNode, IsFile, free_number, put, Directory, Serves, Entry}
+use Rattle.cache.proofs.Using.{rises-before}
+use Rattle.std.specs.Result.{is_err, IsErrAnd}
+use Rattle.std.proofs.lemmas.Result.{err_from_is_err_and, IfOk-at_ok}
+use Rattle.tree.specs.Tree.{is_device, has_failed}
 use Rattle.tree.specs.declared.TreeFault.TheVariants.{Device}
 use Rattle.unixmodel.specs.Failures.{Rises}
-use Rattle.unixmodel.specs.Files.{Entry}
 
 -- what no step changes
 pub record Beside (old new : FileTree) : Type 0 where
@@ -14,13 +16,13 @@ pub record Beside (old new : FileTree) : Type 0 where
   pub device : new.identity ≡ old.identity
   pub later : old.failures ≤ new.failures
 
-pub beside-then : {old mid new : FileTree} → Beside old mid → Beside mid new → Beside old new
+beside-then : {old mid new : FileTree} → Beside old mid → Beside mid new → Beside old new
 beside-then one two = record { size = two.size ∙ one.size; limit = two.limit ∙ one.limit; holds = two.holds ∙ one.holds; device = two.device ∙ one.device; later = let l = one.later in let m = two.later in omega arith }
 
 beside-tried : {old new : FileTree} {T : Type 0} {r : Result T DeviceFault} {Told : T → Type 0} → Tries old new r Told → Beside old new
 beside-tried tries = record { size = tries.size; limit = tries.limit; holds = tries.holds; device = tries.serves.same_device; later = tries.serves.cause.later }
 
-pub beside-acted : {old new : FileTree} {T : Type 0} {r : Result T TreeFault} {Done : T → Type 0} {Refused : Type 0} {Why : TreeFault → Type 0} → Acts old new r Done Refused Why → Beside old new
+beside-acted : {old new : FileTree} {T : Type 0} {r : Result T TreeFault} {Done : T → Type 0} {Refused : Type 0} {Why : TreeFault → Type 0} → Acts old new r Done Refused Why → Beside old new
 beside-acted acts = record { size = acts.size; limit = acts.limit; holds = acts.holds; device = acts.same_device; later = acts.later }
 
 -- ---- a step answers
@@ -135,13 +137,13 @@ turned-last {old} {new = new} now {T} r turns same = last-is now r turns (λ x i
 
 -- ---- it is done
 
-pub end-done : {old now : FileTree} {T : Type 0} {Told : T → Type 0} {files : Files} {x : T} → old.failed ≡ false → IsNow old now files → Told x → Tries old now (Ok x) Told
+end-done : {old now : FileTree} {T : Type 0} {Told : T → Type 0} {files : Files} {x : T} → old.failed ≡ false → IsNow old now files → Told x → Tries old now (Ok x) Told
 end-done up now told = tried (beside-now now) (now-up now up) told
 
 pub end-read : {old now : FileTree} {T : Type 0} {Told : T → Type 0} {x : T} → old.failed ≡ false → IsNow old now old.files → Told x → Reads old now (Ok x) Told
 end-read up now told = end-done up now (now.is, told)
 
-pub end-turned : {old now : FileTree} {T : Type 0} {files : Files} {x : T} → old.failed ≡ false → IsNow old now files → Turns old now (Ok x) files
+end-turned : {old now : FileTree} {T : Type 0} {files : Files} {x : T} → old.failed ≡ false → IsNow old now files → Turns old now (Ok x) files
 end-turned up now = end-done up now now.is
 
 -- ---- a call on names

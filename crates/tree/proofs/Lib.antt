@@ -1,20 +1,9 @@
 mod Common
 pub mod Storing
-pub mod Reading
-pub mod Linking
-pub mod Unlinking
-pub mod Parts
-pub mod Rooms
-pub mod Scanned
-pub mod Placing
-pub mod Taking
+pub mod Naming
+pub mod Places
+pub mod Writing
 pub mod Gaps
 pub mod Links
-pub mod Folders
-pub mod Bridging
 pub mod Following
-pub mod Letting
-pub mod Swept
-pub mod Fitting
-pub mod Unnaming
 pub mod Keeping

@@ -1,13 +1,13 @@
-use Rattle.tree.proofs.Common.{Some, ap, refl, sym, ◌∙◌, entered, made_files, leaf_node, Files, Made}
+use Rattle.tree.proofs.Common.{Some, ap, refl, sym, ◌∙◌, made_files, Files, Made}
 use Rattle.tree.proofs.Following.{acts-done, acts-lost, acts-not, acts-refused, now-begin, now-changed, now-files, now-kept, now-none, now-took, now-up}
 use Rattle.tree.proofs.Gaps.{fresh-now, leaf-empty, made-asked, made-done, made-unnumbered, overflow-none, some-kind, weaker-gap}
-use Rattle.unixmodel.specs.Files.{Entry}
+use Rattle.tree.specs.Calls.{filled}
 use Rattle.tree.proofs.tree.Tree.create.Goals as goal
 
 pub returns-in_err-gap : goal.returns-in_err-gap
 returns-in_err-gap g c =
     acts-refused now-begin c.find_gap.ensures c.in_err-gap.was
-    (λ known less why. weaker-gap c.args.self.now.files c.args.directory c.args.path.now (leaf_node c.args.leaf) (leaf-empty c.args.leaf) c.args.self.now.block_limit _ known why) c.from_residual.ensures.1
+    (λ known less why. weaker-gap _ _ _ _ (leaf-empty _) _ _ known why) c.from_residual.ensures.1
 
 pub take_node-requires : goal.take_node-requires
 take_node-requires g c =
@@ -20,15 +20,15 @@ returns-in_err-number g c =
 pub returns-in_default : goal.returns-in_default
 returns-in_default g c =
     let none = now-none (now-kept now-begin c.find_gap.ensures c.requires.up c.in_ok-gap.was) c.numbers-kind.result.0 c.numbers-kind.result.1 c.numbers-kind.result.2 c.take_node.ensures c.in_ok-number.was c.in_default.is in
-    let nothing = ap made_files (made-unnumbered c.args.self.now.files c.args.directory c.args.path.now (leaf_node c.args.leaf) c.in_ok-gap.ensures.done.0.spot none.0) in
-    acts-not c.requires.up none.1 refl (overflow-none c.args.self.now.block_limit nothing) none.0
+    let nothing = ap made_files (made-unnumbered _ _ _ _ c.in_ok-gap.ensures.done.0.spot none.0) in
+    acts-not c.requires.up none.1 refl (overflow-none _ nothing) none.0
 
 -- behind the node that came
 pub put_entry-requires : goal.put_entry-requires
 put_entry-requires g c =
     let took = now-took (now-kept now-begin c.find_gap.ensures c.requires.up c.in_ok-gap.was) c.numbers-kind.result.0 c.numbers-kind.result.1 c.numbers-kind.result.2 c.take_node.ensures c.in_ok-number.was c.in-Some.is in
-    let now = fresh-now c.args.self.now.files c.in-Some.number c.numbers-kind.ensures.node took.1 in
-    let asked = made-asked (leaf_node c.args.leaf) (leaf-empty c.args.leaf) c.in_ok-gap.ensures.done.0 took.0 now c.requires.path in
+    let now = fresh-now _ _ c.numbers-kind.ensures.node took.1 in
+    let asked = made-asked _ (leaf-empty _) c.in_ok-gap.ensures.done.0 took.0 now c.requires.path in
     record { up = now-up now c.requires.up; plain = asked.plain; number = asked.node; room = asked.room; fits = asked.fits }
 
 pub returns-in_err-put_entry : goal.returns-in_err-put_entry
@@ -39,7 +39,6 @@ returns-in_err-put_entry g c =
 pub returns : goal.returns
 returns g c =
     let took = now-took (now-kept now-begin c.find_gap.ensures c.requires.up c.in_ok-gap.was) c.numbers-kind.result.0 c.numbers-kind.result.1 c.numbers-kind.result.2 c.take_node.ensures c.in_ok-number.was c.in-Some.is in
-    let e : Entry = record { name = c.in_ok-gap.gap.name.now; number = c.in-Some.number } in
-    let last = now-changed (fresh-now c.args.self.now.files c.in-Some.number c.numbers-kind.ensures.node took.1) (λ fs. entered fs c.in_ok-gap.gap.directory c.in_ok-gap.gap.place e) c.put_entry.ensures c.in_ok-put_entry.was in
-    acts-done c.requires.up last (made-done c.args.self.now.files c.args.directory c.args.path.now (leaf_node c.args.leaf) c.in_ok-gap.ensures.done.0 took.0
+    let last = now-changed (fresh-now _ _ c.numbers-kind.ensures.node took.1) (λ fs. filled fs c.in_ok-gap.gap c.in-Some.number) c.put_entry.ensures c.in_ok-put_entry.was in
+    acts-done c.requires.up last (made-done _ _ _ _ c.in_ok-gap.ensures.done.0 took.0
     ∙ ap (λ (fs : Files). let made : Made = record { files = fs; number = c.in-Some.number } in Some made) (sym (now-files last)))

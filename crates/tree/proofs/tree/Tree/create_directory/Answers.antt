@@ -1,20 +1,20 @@
-use Rattle.tree.proofs.Common.{[], Some, ap, arith, refl, suc, sym, ◌∙◌, ◌≡◌, ◌≤◌, None, ◌+◌, ◌<◌, ◌≢◌, entered, blocks_of, change_node, links_of, most_links, put, slot, Node, Directory, more_links, new_directory}
-use Rattle.tree.proofs.Folders.{above-asked, first-above, first-bare, first-block, folder-is, folder-many, folder-unnumbered, name-asked, next-is, weaker-folder}
+use Rattle.tree.proofs.Common.{[], Some, ap, arith, refl, suc, sym, ◌∙◌, ◌≡◌, ◌≤◌, None, ◌+◌, ◌<◌, ◌≢◌, blocks_of, change_node, links_of, most_links, put, slot, Node, Directory, more_links, new_directory}
+use Rattle.tree.proofs.Links.{above-asked, first-above, first-bare, first-block, folder-is, folder-many, folder-unnumbered, name-asked, next-is, weaker-folder}
 use Rattle.tree.proofs.Following.{acts-done, acts-lost, acts-not, acts-refused, at-now, now-begin, now-changed, now-files, now-kept, now-node, now-none, now-read, now-took, now-up, now-wanted, told-now}
 use Rattle.tree.proofs.Gaps.{overflow-none}
-use Rattle.unixmodel.specs.Files.{Entry}
+use Rattle.tree.specs.Calls.{filled}
 use Rattle.tree.proofs.tree.Tree.create_directory.Goals as goal
 
 pub returns-in_err-gap : goal.returns-in_err-gap
 returns-in_err-gap g c =
     acts-refused now-begin c.find_gap.ensures c.in_err-gap.was
-    (λ known less. weaker-folder c.args.self.now.files c.args.directory c.args.path.now c.args.self.now.block_limit _ known) c.from_residual.ensures.1
+    (λ known less. weaker-folder _ _ _ _ _ known) c.from_residual.ensures.1
 
 -- behind the look for a place
 pub node-requires : goal.node-requires
 node-requires g c =
     let now = now-kept now-begin c.find_gap.ensures c.requires.up c.in_ok-gap.was in
-    record { up = now-up now c.requires.up; node = now-node now c.in_ok-gap.gap.directory (Directory (suc c.in_ok-gap.ensures.done.0.links) c.in_ok-gap.ensures.done.0.places, c.in_ok-gap.ensures.done.0.here) }
+    record { up = now-up now c.requires.up; node = now-node now _ (Directory (suc c.in_ok-gap.ensures.done.0.links) c.in_ok-gap.ensures.done.0.places, c.in_ok-gap.ensures.done.0.here) }
 
 pub returns-in_err-above : goal.returns-in_err-above
 returns-in_err-above g c =
@@ -25,11 +25,11 @@ returns-then-above-ge-MOST_LINKS g c =
     let gap = c.in_ok-gap.ensures.done.0 in
     let now = now-kept now-begin c.find_gap.ensures c.requires.up c.in_ok-gap.was in
     let parent = Directory (suc gap.links) gap.places in
-    let links = (told-now now c.in_ok-gap.gap.directory c.in_ok-above.ensures.serves.told.1 parent gap.here).1 in
+    let links = (told-now now _ c.in_ok-above.ensures.serves.told.1 parent gap.here).1 in
     let many = c.if-above-ge-MOST_LINKS.true in
     let all : most_links ≤ suc gap.links = omega arith in
     acts-not c.requires.up (now-read now c.node.ensures c.in_ok-above.was) refl
-    (overflow-none c.args.self.now.block_limit (folder-many c.args.self.now.files c.args.directory c.args.path.now _ gap.spot parent gap.here all))
+    (overflow-none _ (folder-many _ _ _ _ gap.spot parent gap.here all))
     (record { at = _; spot = gap.spot; is = record { node = parent; here = gap.here; many = all } })
 
 -- behind the look at the directory above
@@ -47,7 +47,7 @@ returns-in_default g c =
     let gap = c.in_ok-gap.ensures.done.0 in
     let none = now-none (now-read (now-kept now-begin c.find_gap.ensures c.requires.up c.in_ok-gap.was) c.node.ensures c.in_ok-above.was) 1 0 0 c.take_node.ensures c.in_ok-number.was c.in_default.is in
     acts-not c.requires.up none.1 refl
-    (overflow-none c.args.self.now.block_limit (folder-unnumbered c.args.self.now.files c.args.directory c.args.path.now _ gap.spot (Directory (suc gap.links) gap.places) gap.here none.0)) none.0
+    (overflow-none _ (folder-unnumbered _ _ _ _ gap.spot _ gap.here none.0)) none.0
 
 -- behind the node that came
 pub put_dots-requires : goal.put_dots-requires
@@ -70,7 +70,7 @@ pub put_entry-requires : goal.put_entry-requires
 put_entry-requires g c =
     let took = now-took (now-read (now-kept now-begin c.find_gap.ensures c.requires.up c.in_ok-gap.was) c.node.ensures c.in_ok-above.was) 1 0 0 c.take_node.ensures c.in_ok-number.was c.in-Some.is in
     let dots = now-wanted (now-changed took.1 (λ fs. put fs c.in-Some.number (new_directory c.in_ok-gap.gap.directory c.in-Some.number)) c.put_dots.ensures c.in_ok-put_dots.was) (next-is c.args.self.now c.in_ok-gap.ensures.done.0 took.0) in
-    let asked = name-asked c.args.self.now c.in_ok-gap.ensures.done.0 took.0 dots c.requires.path in
+    let asked = name-asked _ c.in_ok-gap.ensures.done.0 took.0 dots c.requires.path in
     record { up = now-up dots c.requires.up; plain = asked.plain; number = asked.node; room = asked.room; fits = asked.fits }
 
 pub returns-in_err-put_entry : goal.returns-in_err-put_entry
@@ -86,9 +86,8 @@ add_link-requires g c =
     let begun = now-kept now-begin c.find_gap.ensures c.requires.up c.in_ok-gap.was in
     let took = now-took (now-read begun c.node.ensures c.in_ok-above.was) 1 0 0 c.take_node.ensures c.in_ok-number.was c.in-Some.is in
     let dots = now-wanted (now-changed took.1 (λ fs. put fs c.in-Some.number (new_directory c.in_ok-gap.gap.directory c.in-Some.number)) c.put_dots.ensures c.in_ok-put_dots.was) (next-is c.args.self.now gap took.0) in
-    let e : Entry = record { name = c.in_ok-gap.gap.name.now; number = c.in-Some.number } in
-    let named = now-changed dots (λ fs. entered fs c.in_ok-gap.gap.directory c.in_ok-gap.gap.place e) c.put_entry.ensures c.in_ok-put_entry.was in
-    let links = (told-now begun c.in_ok-gap.gap.directory c.in_ok-above.ensures.serves.told.1 (Directory (suc gap.links) gap.places) gap.here).1 in
+    let named = now-changed dots (λ fs. filled fs c.in_ok-gap.gap c.in-Some.number) c.put_entry.ensures c.in_ok-put_entry.was in
+    let links = (told-now begun _ c.in_ok-above.ensures.serves.told.1 _ gap.here).1 in
     let few = c.if-above-ge-MOST_LINKS.false in
     record { up = now-up named c.requires.up; node = at-now named (λ t. (node : Node) × (slot t.files c.in_ok-gap.gap.directory ≡ Some node) × (links_of node < 65535)) (above-asked c.args.self.now gap took.0 (omega arith)) }
 
@@ -96,8 +95,7 @@ pub returns-in_err-add_link : goal.returns-in_err-add_link
 returns-in_err-add_link g c =
     let took = now-took (now-read (now-kept now-begin c.find_gap.ensures c.requires.up c.in_ok-gap.was) c.node.ensures c.in_ok-above.was) 1 0 0 c.take_node.ensures c.in_ok-number.was c.in-Some.is in
     let dots = now-changed took.1 (λ fs. put fs c.in-Some.number (new_directory c.in_ok-gap.gap.directory c.in-Some.number)) c.put_dots.ensures c.in_ok-put_dots.was in
-    let e : Entry = record { name = c.in_ok-gap.gap.name.now; number = c.in-Some.number } in
-    acts-lost (now-changed dots (λ fs. entered fs c.in_ok-gap.gap.directory c.in_ok-gap.gap.place e) c.put_entry.ensures c.in_ok-put_entry.was) c.add_link.ensures c.in_err-add_link.was c.from_residual-in_err-add_link.ensures.1
+    acts-lost (now-changed dots (λ fs. filled fs c.in_ok-gap.gap c.in-Some.number) c.put_entry.ensures c.in_ok-put_entry.was) c.add_link.ensures c.in_err-add_link.was c.from_residual-in_err-add_link.ensures.1
 
 pub returns : goal.returns
 returns g c =
@@ -105,9 +103,8 @@ returns g c =
     let begun = now-kept now-begin c.find_gap.ensures c.requires.up c.in_ok-gap.was in
     let took = now-took (now-read begun c.node.ensures c.in_ok-above.was) 1 0 0 c.take_node.ensures c.in_ok-number.was c.in-Some.is in
     let dots = now-wanted (now-changed took.1 (λ fs. put fs c.in-Some.number (new_directory c.in_ok-gap.gap.directory c.in-Some.number)) c.put_dots.ensures c.in_ok-put_dots.was) (next-is c.args.self.now gap took.0) in
-    let e : Entry = record { name = c.in_ok-gap.gap.name.now; number = c.in-Some.number } in
-    let named = now-changed dots (λ fs. entered fs c.in_ok-gap.gap.directory c.in_ok-gap.gap.place e) c.put_entry.ensures c.in_ok-put_entry.was in
+    let named = now-changed dots (λ fs. filled fs c.in_ok-gap.gap c.in-Some.number) c.put_entry.ensures c.in_ok-put_entry.was in
     let last = now-changed named (λ fs. change_node fs c.in_ok-gap.gap.directory more_links) c.add_link.ensures c.in_ok-add_link.was in
-    let links = (told-now begun c.in_ok-gap.gap.directory c.in_ok-above.ensures.serves.told.1 (Directory (suc gap.links) gap.places) gap.here).1 in
+    let links = (told-now begun _ c.in_ok-above.ensures.serves.told.1 _ gap.here).1 in
     let few = c.if-above-ge-MOST_LINKS.false in
     acts-done c.requires.up last (folder-is c.args.self.now gap took.0 (omega arith) ∙ ap Some (sym (now-files last)))

@@ -1,6 +1,6 @@
 use Rattle.tree.proofs.Common.{ap, sym, dropped, change_node, fewer_links}
 use Rattle.tree.proofs.Following.{end-changed, end-lost, end-still, now-begin, now-changed, now-up, some-now}
-use Rattle.tree.proofs.Unlinking.{stays-node}
+use Rattle.tree.proofs.Naming.{stays-node}
 use Rattle.tree.proofs.tree.Tree.drop_links.Goals as goal
 
 pub returns-in_err-drop_link : goal.returns-in_err-drop_link
@@ -9,7 +9,7 @@ returns-in_err-drop_link g c = end-lost now-begin c.drop_link.ensures c.in_err-d
 pub drop_link-requires-then-is_directory : goal.drop_link-requires-then-is_directory
 drop_link-requires-then-is_directory g c =
     let now = now-changed now-begin (λ fs. change_node fs c.args.number fewer_links) c.drop_link.ensures c.in_ok-drop_link.was in
-    record { up = now-up now c.requires.up; node = some-now now c.args.directory (stays-node c.args.self.now.files c.args.number fewer_links c.args.directory c.requires.directory) }
+    record { up = now-up now c.requires.up; node = some-now now _ (stays-node c.args.self.now.files c.args.number fewer_links c.args.directory c.requires.directory) }
 
 pub returns-then-is_directory : goal.returns-then-is_directory
 returns-then-is_directory g c =

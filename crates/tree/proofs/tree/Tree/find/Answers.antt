@@ -1,17 +1,17 @@
-use Rattle.tree.proofs.Common.{ap, sym, ◌∙◌, lookup-used, follow, parts}
+use Rattle.tree.proofs.Common.{ap, sym, ◌∙◌, lookup-used, follow}
 use Rattle.tree.proofs.Following.{end-lost, end-read, looked, now-begin, now-read, now-up, used-now}
-use Rattle.tree.proofs.Parts.{find-start, follow-next, start-held}
+use Rattle.tree.proofs.Naming.{find-start, follow-next, start-held}
 use Rattle.tree.proofs.tree.Tree.find.Goals as goal
 
 pub name-init : goal.name-init
 name-init g c = record {
   now = now-begin;
-  used = start-held c.requires.rules c.args.directory c.args.path.now c.requires.directory c.start-number.result c.start-number.ensures;
-  rest = find-start c.args.self.now.files c.args.directory c.args.path.now c.start-number.result c.start-number.ensures;
+  used = start-held c.requires.rules _ c.args.path.now c.requires.directory _ c.start-number.ensures;
+  rest = find-start _ _ _ _ c.start-number.ensures;
 }
 
 pub lookup-requires : goal.lookup-requires
-lookup-requires g c = let i = c.name.invariant in record { up = now-up i.now c.requires.up; node = used-now i.now c.name.number i.used }
+lookup-requires g c = let i = c.name.invariant in record { up = now-up i.now c.requires.up; node = used-now i.now _ i.used }
 
 pub returns-in_err-next : goal.returns-in_err-next
 returns-in_err-next g c = end-lost c.name.invariant.now c.lookup.ensures c.in_err-next.was c.from_residual.ensures.1
@@ -19,19 +19,19 @@ returns-in_err-next g c = end-lost c.name.invariant.now c.lookup.ensures c.in_er
 pub name-preserved : goal.name-preserved
 name-preserved g c =
     let i = c.name.invariant in
-    let found = looked i.now c.name.number c.in-Some.name.now c.lookup.ensures c.in_ok-next.was c.in-Some-2.is in
+    let found = looked i.now _ _ c.lookup.ensures c.in_ok-next.was c.in-Some-2.is in
     record {
       now = now-read i.now c.lookup.ensures c.in_ok-next.was;
       used = lookup-used c.requires.rules c.name.number c.in-Some.name.now c.in-Some-2.next found;
-      rest = sym (follow-next c.args.self.now.files c.name.number (parts c.name.rest.now) c.in-Some.name.now (parts c.in-Some.after.now) c.in-Some.ensures.some found) ∙ i.rest;
+      rest = sym (follow-next _ _ _ _ _ c.in-Some.ensures.some found) ∙ i.rest;
     }
 
 pub returns-in_default-2 : goal.returns-in_default-2
 returns-in_default-2 g c =
     let i = c.name.invariant in
-    let none = looked i.now c.name.number c.in-Some.name.now c.lookup.ensures c.in_ok-next.was c.in_default-2.is in
+    let none = looked i.now _ _ c.lookup.ensures c.in_ok-next.was c.in_default-2.is in
     end-read c.requires.up (now-read i.now c.lookup.ensures c.in_ok-next.was)
-    (sym (follow-next c.args.self.now.files c.name.number (parts c.name.rest.now) c.in-Some.name.now (parts c.in-Some.after.now) c.in-Some.ensures.some none) ∙ i.rest)
+    (sym (follow-next _ _ _ _ _ c.in-Some.ensures.some none) ∙ i.rest)
 
 pub returns : goal.returns
 returns g c =

@@ -1,5 +1,5 @@
 use Rattle.tree.proofs.Common.{arith, zeros}
-use Rattle.tree.proofs.Placing.{erased-becomes, place-high}
+use Rattle.tree.proofs.Writing.{erased-becomes, place-high}
 use Rattle.tree.proofs.Following.{turns-become}
 use Rattle.tree.proofs.tree.Tree.free_place.Goals as goal
 

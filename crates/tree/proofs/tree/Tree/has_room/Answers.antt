@@ -1,6 +1,6 @@
 use Rattle.tree.proofs.Common.{ap, arith, ◌+◌, ◌∙◌, nat_le, blocks_of, Directory}
 use Rattle.tree.proofs.Following.{end-last, end-lost, now-begin, now-read, now-up}
-use Rattle.tree.proofs.Placing.{growth-size}
+use Rattle.tree.proofs.Writing.{growth-size}
 use Rattle.tree.proofs.tree.Tree.has_room.Goals as goal
 
 pub returns-in_err-node : goal.returns-in_err-node
@@ -19,7 +19,7 @@ has_blocks-requires g c = record { up = now-up (now-read now-begin c.node.ensure
 pub returns : goal.returns
 returns g c =
     let now = now-read now-begin c.node.ensures c.in_ok-node.was in
-    end-last now c.has_blocks.result c.has_blocks.ensures (λ enough told r.
+    end-last now _ c.has_blocks.ensures (λ enough told r.
     let size = (c.in_ok-node.ensures.serves.told.1 (Directory r.links r.places) r.here).2 in
     told ∙ ap (λ t. nat_le (blocks_of t.files + (c.growth.result + c.args.more)) t.block_limit) now.is
-    ∙ ap (λ n. nat_le (blocks_of c.args.self.now.files + (n + c.args.more)) c.args.self.now.block_limit) (growth-size r.places c.args.place c.in_ok-node.node.size c.growth.result size c.growth.ensures))
+    ∙ ap (λ n. nat_le (blocks_of c.args.self.now.files + (n + c.args.more)) c.args.self.now.block_limit) (growth-size r.places _ _ _ size c.growth.ensures))

@@ -1,5 +1,5 @@
 use Rattle.tree.proofs.Following.{end-lost, end-read, folder-now, folder-was, now-begin, now-read, now-up}
-use Rattle.tree.proofs.Scanned.{bare-told, folder-fits}
+use Rattle.tree.proofs.Places.{bare-told, folder-fits}
 use Rattle.tree.proofs.tree.Tree.is_empty.Goals as goal
 
 pub returns-in_err-count : goal.returns-in_err-count
@@ -16,4 +16,4 @@ returns-in_err-taken g c = end-lost (now-read now-begin c.count_places.ensures c
 pub returns : goal.returns
 returns g c =
     let now = now-read now-begin c.count_places.ensures c.in_ok-count.was in
-    end-read c.requires.up (now-read now c.scan.ensures c.in_ok-taken.was) (λ f. bare-told f.places (folder-fits c.is_whole.ensures f) c.in_ok-taken.taken (c.in_ok-taken.ensures.serves.told.1 (folder-now now f)) _ c.is_none.ensures)
+    end-read c.requires.up (now-read now c.scan.ensures c.in_ok-taken.was) (λ f. bare-told f.places (folder-fits c.is_whole.ensures f) _ (c.in_ok-taken.ensures.serves.told.1 (folder-now now f)) _ c.is_none.ensures)

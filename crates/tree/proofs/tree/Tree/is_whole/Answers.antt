@@ -1,5 +1,5 @@
-use Rattle.tree.proofs.Bridging.{up-inside, whole-held}
+use Rattle.tree.proofs.Storing.{inside-whole}
 use Rattle.tree.proofs.tree.Tree.is_whole.Goals as goal
 
 pub returns : goal.returns
-returns g c = rw (← c.self.view_is) (whole-held (c.self.invariant.held (up-inside c.self.view_is c.requires)) c.self.invariant.count)
+returns g c = inside-whole c.self.invariant c.self.view_is c.requires

@@ -1,11 +1,11 @@
-use Rattle.tree.proofs.Common.{ap, sym, ◌∙◌, option_map, Found, slot}
+use Rattle.tree.proofs.Common.{ap, sym, ◌∙◌, option_map, Found}
 use Rattle.tree.proofs.Following.{end-lost, end-read, folder-now, now-begin, now-read, now-up}
-use Rattle.tree.proofs.Unlinking.{dead-told, live-folder, live-told, lookup-told}
+use Rattle.tree.proofs.Naming.{dead-told, live-folder, live-told, lookup-told}
 use Rattle.tree.proofs.Storing.{node-of}
 use Rattle.tree.proofs.tree.Tree.lookup.Goals as goal
 
 pub node-requires : goal.node-requires
-node-requires g c = record { up = c.requires.up; node = node-of (slot c.args.self.now.files c.args.directory) c.requires.node }
+node-requires g c = record { up = c.requires.up; node = node-of _ c.requires.node }
 
 pub returns-in_err-node : goal.returns-in_err-node
 returns-in_err-node g c = end-lost now-begin c.node.ensures c.in_err-node.was c.from_residual.ensures.1
@@ -13,12 +13,12 @@ returns-in_err-node g c = end-lost now-begin c.node.ensures c.in_err-node.was c.
 pub returns-then-not-is_live : goal.returns-then-not-is_live
 returns-then-not-is_live g c =
     end-read c.requires.up (now-read now-begin c.node.ensures c.in_ok-node.was)
-    (dead-told c.args.self.now.files c.args.directory c.requires.node c.in_ok-node.ensures.serves.told.1 (sym c.is_live.ensures ∙ c.if-not-is_live.true) c.args.name.now)
+    (dead-told _ _ c.requires.node c.in_ok-node.ensures.serves.told.1 (sym c.is_live.ensures ∙ c.if-not-is_live.true) _)
 
 pub find_name-requires : goal.find_name-requires
 find_name-requires g c =
     let now = now-read now-begin c.node.ensures c.in_ok-node.was in
-    let live = live-told c.args.self.now.files c.args.directory c.requires.node c.in_ok-node.ensures.serves.told.1 (sym c.is_live.ensures ∙ c.if-not-is_live.false) in
+    let live = live-told _ _ c.requires.node c.in_ok-node.ensures.serves.told.1 (sym c.is_live.ensures ∙ c.if-not-is_live.false) in
     record { up = now-up now c.requires.up; directory = folder-now now (live-folder live) }
 
 pub returns-in_err-found : goal.returns-in_err-found
@@ -27,13 +27,13 @@ returns-in_err-found g c = end-lost (now-read now-begin c.node.ensures c.in_ok-n
 pub returns-in_default : goal.returns-in_default
 returns-in_default g c =
     let now = now-read now-begin c.node.ensures c.in_ok-node.was in
-    let live = live-told c.args.self.now.files c.args.directory c.requires.node c.in_ok-node.ensures.serves.told.1 (sym c.is_live.ensures ∙ c.if-not-is_live.false) in
-    let told = lookup-told live c.args.name.now c.in_ok-found.field-0 (c.in_ok-found.ensures.serves.told.1 (folder-now now (live-folder live))) in
+    let live = live-told _ _ c.requires.node c.in_ok-node.ensures.serves.told.1 (sym c.is_live.ensures ∙ c.if-not-is_live.false) in
+    let told = lookup-told live _ _ (c.in_ok-found.ensures.serves.told.1 (folder-now now (live-folder live))) in
     end-read c.requires.up (now-read now c.find_name.ensures c.in_ok-found.was) (ap (option_map (λ (f : Found). f.number)) (sym c.in_default.is) ∙ told)
 
 pub returns : goal.returns
 returns g c =
     let now = now-read now-begin c.node.ensures c.in_ok-node.was in
-    let live = live-told c.args.self.now.files c.args.directory c.requires.node c.in_ok-node.ensures.serves.told.1 (sym c.is_live.ensures ∙ c.if-not-is_live.false) in
-    let told = lookup-told live c.args.name.now c.in_ok-found.field-0 (c.in_ok-found.ensures.serves.told.1 (folder-now now (live-folder live))) in
+    let live = live-told _ _ c.requires.node c.in_ok-node.ensures.serves.told.1 (sym c.is_live.ensures ∙ c.if-not-is_live.false) in
+    let told = lookup-told live _ _ (c.in_ok-found.ensures.serves.told.1 (folder-now now (live-folder live))) in
     end-read c.requires.up (now-read now c.find_name.ensures c.in_ok-found.was) (ap (option_map (λ (f : Found). f.number)) (sym c.in-Some.is) ∙ told)

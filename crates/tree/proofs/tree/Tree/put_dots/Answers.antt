@@ -1,6 +1,7 @@
-use Rattle.tree.proofs.Common.{[], sym, None, ◌+◌, ◌∙◌, ◌≢◌, ◌≤◌, none-some, HasRoom, entered, growth, blocks_of, dot_dot, slot, Directory}
-use Rattle.tree.proofs.Folders.{dot-plain, dots-plain, first-fits, first-room, first-stays, own, second-fits, second-is, second-room}
+use Rattle.tree.proofs.Common.{[], sym, None, ◌∙◌, ◌≢◌, none-some, HasRoom, entered, dot_dot, slot, Directory}
+use Rattle.tree.proofs.Links.{dot-plain, dots-plain, first-fits, first-room, first-stays, own, second-fits, second-is, second-room}
 use Rattle.tree.proofs.Following.{at-now, end-changed, end-lost, now-begin, now-changed, now-up}
+use Rattle.tree.specs.Calls.{HasBlocks}
 use Rattle.tree.proofs.tree.Tree.put_dots.Goals as goal
 
 pub put_entry-requires : goal.put_entry-requires
@@ -8,8 +9,8 @@ put_entry-requires g c = record {
   up = c.requires.up;
   plain = dot-plain;
   number = λ none. none-some (Directory 1 []) (sym none ∙ c.requires.bare);
-  room = first-room c.args.self.now.files c.args.number c.requires.bare;
-  fits = first-fits c.args.self.now.files c.args.number c.requires.bare c.requires.block;
+  room = first-room _ _ c.requires.bare;
+  fits = first-fits _ _ c.requires.bare c.requires.block;
 }
 
 pub returns-in_err-put_entry : goal.returns-in_err-put_entry
@@ -21,12 +22,12 @@ put_entry-requires-2 g c =
     record {
       up = now-up now c.requires.up;
       plain = dots-plain;
-      number = at-now now (λ t. slot t.files c.args.above ≢ None) (first-stays c.args.self.now.files c.args.number c.requires.bare c.args.above c.requires.above);
-      room = at-now now (λ t. HasRoom t.files c.args.number 1) (second-room c.args.self.now.files c.args.number c.requires.bare);
-      fits = at-now now (λ t. (r : HasRoom t.files c.args.number 1) → blocks_of t.files + growth r.places 1 ≤ t.block_limit) (second-fits c.args.self.now.files c.args.number c.requires.bare c.requires.block);
+      number = at-now now (λ t. slot t.files c.args.above ≢ None) (first-stays _ _ c.requires.bare _ c.requires.above);
+      room = at-now now (λ t. HasRoom t.files c.args.number 1) (second-room _ _ c.requires.bare);
+      fits = at-now now (λ t. HasBlocks t c.args.number 1) (second-fits _ _ c.requires.bare c.requires.block);
     }
 
 pub returns : goal.returns
 returns g c =
     let now = now-changed now-begin (λ fs. entered fs c.args.number 0 (own c.args.number)) c.put_entry.ensures c.in_ok-put_entry.was in
-    end-changed now (λ fs. entered fs c.args.number 1 (record { name = dot_dot; number = c.args.above })) c.put_entry-2.ensures (second-is c.args.self.now.files c.args.number c.requires.bare c.args.above)
+    end-changed now (λ fs. entered fs c.args.number 1 (record { name = dot_dot; number = c.args.above })) c.put_entry-2.ensures (second-is _ _ c.requires.bare _)

@@ -1,4 +1,4 @@
-use Rattle.tree.proofs.Swept.{IsSwept}
+use Rattle.tree.proofs.Keeping.{IsSwept}
 use Rattle.tree.proofs.tree.Tree.release_all.Given as goal
 
 abbrev pub invariant-loop-number : goal.invariant-loop-number

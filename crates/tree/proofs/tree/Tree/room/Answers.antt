@@ -1,6 +1,6 @@
 use Rattle.tree.proofs.Common.{subst, ◌∙◌, flat_map, Scans, Free, place_bytes}
 use Rattle.tree.proofs.Following.{end-lost, end-read, folder-now, folder-was, now-begin, now-read, now-up}
-use Rattle.tree.proofs.Scanned.{folder-fits, free-told, full-told}
+use Rattle.tree.proofs.Places.{folder-fits, free-told, full-told}
 use Rattle.tree.proofs.tree.Tree.room.Goals as goal
 
 pub returns-in_err-count : goal.returns-in_err-count
@@ -17,7 +17,7 @@ returns-in_err-found g c = end-lost (now-read now-begin c.count_places.ensures c
 pub returns-in-Some : goal.returns-in-Some
 returns-in-Some g c =
     let now = now-read now-begin c.count_places.ensures c.in_ok-count.was in
-    end-read c.requires.up (now-read now c.scan.ensures c.in_ok-found.was) (λ f. free-told f.places (folder-fits c.is_whole.ensures f) c.in-Some.found (subst (Scans Free (flat_map place_bytes f.places) 0) c.in-Some.is (c.in_ok-found.ensures.serves.told.1 (folder-now now f))))
+    end-read c.requires.up (now-read now c.scan.ensures c.in_ok-found.was) (λ f. free-told f.places (folder-fits c.is_whole.ensures f) _ (subst (Scans Free (flat_map place_bytes f.places) 0) c.in-Some.is (c.in_ok-found.ensures.serves.told.1 (folder-now now f))))
 
 pub returns-in-None : goal.returns-in-None
 returns-in-None g c =

@@ -1,6 +1,6 @@
 use Rattle.tree.proofs.Common.{None, subst, arith, le_refl, flat_map, length-spelling, IsFirst, Scans, place_bytes}
 use Rattle.tree.proofs.Following.{end-lost, end-read, folder-now, folder-was, now-begin, now-read, now-up}
-use Rattle.tree.proofs.Scanned.{all-passed, first-there, folder-fits, next-is, next-read, next-within}
+use Rattle.tree.proofs.Places.{all-passed, first-there, folder-fits, next-is, next-read, next-within}
 use Rattle.tree.proofs.tree.Tree.scan.Goals as goal
 
 pub block-init : goal.block-init
@@ -15,7 +15,7 @@ read_places-requires g c =
       within = λ f.
           let was = folder-was now f in
           let fits = folder-fits c.is_whole.ensures was in
-          next-within was.places fits c.block.k c.min-places.result (next-is was.places fits c.block.k c.min-places.result (c.requires.count was) c.block-test.true c.min-places.ensures) c.block.block;
+          next-within was.places fits _ _ (next-is was.places fits _ _ (c.requires.count was) c.block-test.true c.min-places.ensures) _;
     }
 
 pub returns-in_err-read_places : goal.returns-in_err-read_places
