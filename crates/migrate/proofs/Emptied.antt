@@ -1,7 +1,7 @@
 -- A node is copied: first without its bytes, and then they come.
-use Rattle.migrate.proofs.Common.{◌++◌, ◌≡◌, ◌<◌, ◌+◌, ℕ, List, [], None, Some, length, ap, refl, ◌∙◌, arith, subst, Err, IsSome, Ok, false, is_some, unwrap_or, append-nil, drop_all, get_or-set_same, length-set, set-set}
-use Rattle.migrate.proofs.Common.{blocks_of, Files, Node, blocks_for, kind_of, links_of, node_bytes, put, size_of, slot, Directory, File, Geometry, Changes, IsFull, LacksWriting, Serves, Store, Writes, is_device, no_node}
-use Rattle.migrate.proofs.Common.{raw_at, with_bytes, FitsPlaces, IsRaw, Stores, Stores-set, blocks_of-set, length-held, taken_by, whole-node, major_of, minor_of, CanStand, Copies, Lacks, write_fault, taken-grows}
+use Rattle.migrate.proofs.Common.{◌++◌, ◌≡◌, ◌<◌, ◌+◌, ℕ, List, [], None, Some, length, ap, refl, ◌∙◌, arith, subst, Err, IsSome, Ok, false, is_some, unwrap_or, append-nil, drop_all, get_or-set_same, length-set, set-set, blocks_of, Files}
+use Rattle.migrate.proofs.Common.{Node, blocks_for, kind_of, links_of, node_bytes, put, size_of, slot, Directory, File, Geometry, Changes, IsFull, LacksWriting, Serves, Store, Writes, is_device, no_node, raw_at, with_bytes, FitsPlaces}
+use Rattle.migrate.proofs.Common.{IsRaw, Stores, Stores-set, blocks_of-set, length-held, taken_by, whole-node, major_of, minor_of, CanStand, Copies, Lacks, write_fault, taken-grows, ◌≢◌, IsNode, kind_in, major_in, minor_in}
 use Rattle.blockdev.specs.Splice.{splice}
 use Rattle.unixmodel.specs.Files.Node.{Device}
 use Rattle.unixmodel.specs.Manifest.{data_blocks_of}
@@ -16,7 +16,11 @@ emptied (File links bytes) = File links []
 emptied (Device links major minor) = Device links major minor
 emptied (Directory links places) = Directory links []
 
-raw-emptied : (node : Node) → IsRaw (fresh_node (kind_of node) (major_of node) (minor_of node) (links_of node)) (emptied node)
+-- as a disk holds it
+abbrev raw_of : Node → RawNode
+raw_of node = fresh_node (kind_of node) (major_of node) (minor_of node) (links_of node)
+
+raw-emptied : (node : Node) → IsRaw (raw_of node) (emptied node)
 raw-emptied (Device links major minor) = record { kind = refl; links = refl; bytes = refl; device = (refl, refl) }
 raw-emptied node = record { kind = refl; links = refl; bytes = refl; device = tt }
 
@@ -24,7 +28,7 @@ emptied-fits : (node : Node) → FitsPlaces (Some (emptied node))
 emptied-fits (Directory links places) = λ k d l. absurd (omega arith)
 emptied-fits node = tt
 
-raw-whole : (node : Node) → IsRaw (with_bytes (fresh_node (kind_of node) (major_of node) (minor_of node) (links_of node)) (node_bytes node)) node
+raw-whole : (node : Node) → IsRaw (with_bytes (raw_of node) (node_bytes node)) node
 raw-whole (Device links major minor) = record { kind = refl; links = refl; bytes = refl; device = (refl, refl) }
 raw-whole node = record { kind = refl; links = refl; bytes = refl; device = tt }
 
@@ -34,11 +38,11 @@ emptied-size node = refl
 
 -- bytes of a node that has none
 splice-none : (bytes : List ℕ) → splice 0 bytes [] ≡ bytes
-splice-none bytes = ap (λ r. bytes ++ r) (drop_all (0 + length bytes) [] (omega arith)) ∙ append-nil bytes
+splice-none bytes = ap (λ r. bytes ++ r) (drop_all _ [] (omega arith)) ∙ append-nil _
 
 -- the fields of a node without bytes
 pub fresh-as : {D : Type 0} {old mid : Store D} {n : ℕ} (node : Node) {kind major minor links : ℕ} → kind ≡ kind_of node → major ≡ major_of node → minor ≡ minor_of node → links ≡ links_of node → Changes old mid n (Some (fresh_node kind major minor links))
-    → Changes old mid n (Some (fresh_node (kind_of node) (major_of node) (minor_of node) (links_of node)))
+    → Changes old mid n (Some (raw_of node))
 fresh-as {D} {old} {mid} {n} node k a i l = subst (λ raw. Changes old mid n (Some raw)) (λ at. fresh_node (k at) (a at) (i at) (l at))
 
 module _ {D : Type 0} {g : Geometry} {s : Store D} {now : Files} (copies : Copies g s now) where
@@ -46,11 +50,11 @@ module _ {D : Type 0} {g : Geometry} {s : Store D} {now : Files} (copies : Copie
   in-files n h = let long = length-held copies.stores in let same = ap (λ (g : Geometry). g.inodes) copies.numbers in omega arith
 
   pub taken-some : {mid : Store D} (n : ℕ) → n < length now → {raw : RawNode} → Changes s mid n (Some raw) → IsSome (slot mid.nodes n)
-  taken-some n high {raw} changes = ap (λ ns. is_some (slot ns n)) changes.nodes ∙ ap is_some (get_or-set_same s.nodes n (Some raw) None (omega (arith, copies.stores.nodes.count)))
+  taken-some n high {raw} changes = ap (λ ns. is_some (slot ns n)) changes.nodes ∙ ap is_some (get_or-set_same _ n _ None (omega (arith, copies.stores.nodes.count)))
 
 module _ {D : Type 0} {g : Geometry} {old : Store D} {now : Files} (copies : Copies g old now) (n : ℕ) (high : n < length now) (none : slot now n ≡ None) (node : Node) where
   abbrev raw : RawNode
-  raw = fresh_node (kind_of node) (major_of node) (minor_of node) (links_of node)
+  raw = raw_of node
 
   module _ {mid : Store D} (same : mid.geometry ≡ old.geometry) (taken : Changes old mid n (Some raw)) where
     -- its number is taken
@@ -58,7 +62,7 @@ module _ {D : Type 0} {g : Geometry} {old : Store D} {now : Files} (copies : Cop
     taken-stores = Stores-set copies.stores n (Some raw) (Some (emptied node)) high taken same (raw-emptied node) (emptied-fits node)
 
     raw-is : raw_at mid.nodes n ≡ raw
-    raw-is = ap (λ ns. raw_at ns n) taken.nodes ∙ ap (λ o. unwrap_or o no_node) (get_or-set_same old.nodes n (Some raw) None (omega (arith, copies.stores.nodes.count)))
+    raw-is = ap (λ ns. raw_at ns n) taken.nodes ∙ ap (λ o. unwrap_or o no_node) (get_or-set_same _ n _ None (omega (arith, copies.stores.nodes.count)))
 
     module _ {image : List ℕ} (stands : CanStand image n node) {bytes : List ℕ} (are : bytes ≡ node_bytes node) where
       -- its bytes are written
@@ -66,12 +70,12 @@ module _ {D : Type 0} {g : Geometry} {old : Store D} {now : Files} (copies : Cop
       written-copies {new = new} written =
           let still = written.follows.geometry in
           let all : with_bytes (raw_at mid.nodes n) (splice 0 bytes (raw_at mid.nodes n).bytes) ≡ with_bytes raw (node_bytes node) =
-          ap (λ r. with_bytes r (splice 0 bytes r.bytes)) raw-is ∙ ap (with_bytes raw) (splice-none bytes ∙ are) in
+          ap (λ r. with_bytes r (splice 0 bytes r.bytes)) raw-is ∙ ap (with_bytes raw) (splice-none _ ∙ are) in
           record {
             numbers = still ∙ same ∙ copies.numbers;
             up = written.failed;
-            stores = subst (Stores new) (set-set now n (Some (emptied node)) (Some node))
-                (Stores-set taken-stores n (Some (with_bytes raw (node_bytes node))) (Some node) (omega (arith, length-set now n (Some (emptied node)))) (subst (λ r. Changes mid new n (Some r)) all written.done.changes) still (raw-whole node) stands.fits);
+            stores = subst (Stores new) (set-set now n _ _)
+                (Stores-set taken-stores n _ _ (omega (arith, length-set now n (Some (emptied node)))) (subst (λ r. Changes mid new n (Some r)) all written.done.changes) still (raw-whole node) stands.fits);
           }
 
       -- or need more blocks than there are
@@ -102,3 +106,14 @@ module _ {D : Type 0} {g : Geometry} {old : Store D} {now : Files} (copies : Cop
       -- why not all go
       pub refused-lacks : {identity : D → List ℕ} {new : Store D} {fault : InodeFault} → Serves {T = Unit {0}} identity is_device mid new (Err fault) (λ _. Writes mid new n 0 bytes) (LacksWriting mid new n 0 bytes) → Lacks g (put now n node) (write_fault fault)
       refused-lacks {new = new} {fault} written = lacks new fault written.refused
+
+-- ---- the numbers of a device; all other nodes have 0 for them
+
+module _ (image : List ℕ) (n : ℕ) where
+  pub of-device : (node : Node) → IsNode image n node → kind_in image n ≡ 3 → (major_in image n ≡ major_of node) × (minor_in image n ≡ minor_of node)
+  of-device (Device links major minor) is device = is.major
+  of-device node is device = let kind = is.kind in absurd (omega arith)
+
+  pub of-other : (node : Node) → IsNode image n node → kind_in image n ≢ 3 → (0 ≡ major_of node) × (0 ≡ minor_of node)
+  of-other (Device links major minor) is other = absurd (other is.kind)
+  of-other node is other = (refl, refl)

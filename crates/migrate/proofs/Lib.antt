@@ -1,7 +1,3 @@
 mod Common
-pub mod Parts
 pub mod Emptied
 pub mod Copied
-pub mod Migrated
-mod Devices
-mod Told

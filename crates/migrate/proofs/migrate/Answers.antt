@@ -1,12 +1,11 @@
 use Rattle.migrate.proofs.Common.{◌≡◌, Err, ap, refl, sym, subst, ◌∙◌, Denotes, inodes_in, size_in, files_in, Lacks, MigrateFault, Image, told_err}
 use Rattle.migrate.specs.declared.fault.MigrateFault.TheVariants.{Blocks}
-use Rattle.migrate.proofs.Migrated.{blank-copies, denotes-migrated, inodes-migrated, left-stored, possible, size-migrated}
-use Rattle.migrate.proofs.Told.{image_fault-room, not_err, refused-image}
+use Rattle.migrate.proofs.Copied.{blank-copies, denotes-migrated, inodes-migrated, left-stored, possible, size-migrated, image_fault-room, not_err, refused-image}
 use Rattle.imagecheck.proofs.Sounding.{one-fault}
 use Rattle.migrate.proofs.migrate.Goals as goal
 
 pub blank-requires : goal.blank-requires
-blank-requires c = possible c.args.old.now c.in_ok-geometry.ensures.denotes c.in_ok-geometry.geometry c.in_ok-geometry.ensures.geometry
+blank-requires c = possible _ c.in_ok-geometry.ensures.denotes _ c.in_ok-geometry.ensures.geometry
 
 pub is_whole-requires : goal.is_whole-requires
 is_whole-requires c = c.in-Ok.ensures.blank.up
@@ -15,7 +14,7 @@ pub copy_nodes-requires : goal.copy_nodes-requires
 copy_nodes-requires c = record {
   geometry = c.in_ok-geometry.ensures.geometry;
   source = c.in_ok-geometry.ensures.denotes;
-  empty = blank-copies c.args.old.now c.in_ok-geometry.ensures.denotes c.in_ok-geometry.geometry c.in_ok-geometry.ensures.geometry c.in-Ok.ensures.blank c.is_whole.ensures;
+  empty = blank-copies _ c.in_ok-geometry.ensures.denotes _ c.in_ok-geometry.ensures.geometry c.in-Ok.ensures.blank c.is_whole.ensures;
 }
 
 pub into_device-device-requires : goal.into_device-device-requires
@@ -29,7 +28,7 @@ returns-in_err-geometry c =
       source = tt;
       size = tt;
       inodes = tt;
-      image = λ fault is. refused-image c.args.old.now found fault (one-fault refl is) c.in_err-geometry.ensures.fault c.in_err-geometry.ensures.refused (λ device. c.in_err-geometry.ensures.device (ap Err device));
+      image = λ fault is. refused-image _ found fault (one-fault refl is) c.in_err-geometry.ensures.fault c.in_err-geometry.ensures.refused (λ device. c.in_err-geometry.ensures.device (ap Err device));
       blocks = λ is. absurd (image_fault-room found (one-fault refl is));
     })
 
@@ -55,7 +54,7 @@ returns c =
     let has = c.in_ok-geometry.ensures.geometry in
     let new = c.in-Ok-bytes_left.new in
     let bytes = c.in-Ok-bytes_left.ensures.bytes in
-    let stored = left-stored _ c.in_ok-copy_nodes.ensures c.into_device-device.result.1 c.in-Ok-bytes_left.ensures.flushed c.into_device-device.ensures.stored in
+    let stored = left-stored _ c.in_ok-copy_nodes.ensures _ c.in-Ok-bytes_left.ensures.flushed c.into_device-device.ensures.stored in
     record {
       migrated = λ files e. subst (λ b. Denotes b files) (sym bytes) (denotes-migrated old denotes geometry has _ stored files e);
       source = (files_in old, denotes);

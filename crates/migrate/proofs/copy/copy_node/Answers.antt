@@ -19,7 +19,7 @@ take_at-requires g c =
     let able = c.requires.able in
     let blocks = HasBlocks-of c.args.old.now c.requires.blocks in
     let known = blocks.inodes.kinds.known c.args.n c.requires.low (omega (arith, c.requires.high, c.requires.geometry.inodes)) in
-    let high = in-files able.1 c.args.n c.requires.high in
+    let high = in-files able.1 _ c.requires.high in
     record {
       up = able.1.up;
       low = c.requires.low;
@@ -38,17 +38,17 @@ returns-in_err-read_contents g c = λ now node copies none stands. rw (told_err 
 pub write_at-requires : goal.write_at-requires
 write_at-requires g c =
     let able = c.requires.able in
-    record { up = c.in_ok-take_at.ensures.failed; node = taken-some able.1 c.args.n (in-files able.1 c.args.n c.requires.high) c.in_ok-take_at.ensures.done }
+    record { up = c.in_ok-take_at.ensures.failed; node = taken-some able.1 _ (in-files able.1 _ c.requires.high) c.in_ok-take_at.ensures.done }
 
 pub returns-in_err-write_at : goal.returns-in_err-write_at
 returns-in_err-write_at g c = λ now node copies none stands.
     let taken = fresh-as node (c.kind-kind.ensures ∙ stands.is.kind) (c.device_major-major.ensures node stands.is) (c.device_minor-minor.ensures node stands.is) (c.links.ensures ∙ stands.is.links) c.in_ok-take_at.ensures.done in
     let bytes = c.deref.ensures.value ∙ c.in_ok-read_contents.ensures ∙ stands.is.contents in
     rw (told_err c.from_residual-in_err-write_at.result c.from_residual-in_err-write_at.ensures.1)
-    (refused-lacks copies c.args.n (in-files copies c.args.n c.requires.high) none node c.in_ok-take_at.ensures.follows.geometry taken stands bytes c.in_err-write_at.ensures)
+    (refused-lacks copies _ (in-files copies _ c.requires.high) none node c.in_ok-take_at.ensures.follows.geometry taken stands bytes c.in_err-write_at.ensures)
 
 pub returns : goal.returns
 returns g c = λ now node copies none stands.
     let taken = fresh-as node (c.kind-kind.ensures ∙ stands.is.kind) (c.device_major-major.ensures node stands.is) (c.device_minor-minor.ensures node stands.is) (c.links.ensures ∙ stands.is.links) c.in_ok-take_at.ensures.done in
     let bytes = c.deref.ensures.value ∙ c.in_ok-read_contents.ensures ∙ stands.is.contents in
-    written-copies copies c.args.n (in-files copies c.args.n c.requires.high) none node c.in_ok-take_at.ensures.follows.geometry taken stands bytes c.in_ok-write_at.ensures
+    written-copies copies _ (in-files copies _ c.requires.high) none node c.in_ok-take_at.ensures.follows.geometry taken stands bytes c.in_ok-write_at.ensures

@@ -4,7 +4,7 @@ use Rattle.migrate.proofs.copy.copy_nodes.Goals as goal
 use Rattle.migrate.proofs.copy.copy_nodes.Goals.{else-kind-ne0, then-kind-ne0+in_ok-copy_node}
 
 pub loop-n-init : goal.loop-n-init
-loop-n-init g c = copied-none c.args.old.now c.requires.source c.args.geometry c.requires.geometry c.requires.empty
+loop-n-init g c = copied-none _ c.requires.source _ c.requires.geometry c.requires.empty
 
 pub kind-requires : goal.kind-requires
 kind-requires g c = HasPlace-at c.requires.geometry c.loop-n.n c.loop-n-test.true
@@ -14,7 +14,7 @@ copy_node-requires g c =
     let copied = c.loop-n.invariant in
     record {
       geometry = c.requires.geometry;
-      blocks = blocks-sound c.args.old.now c.requires.source;
+      blocks = blocks-sound _ c.requires.source;
       low = omega arith;
       high = c.loop-n-test.true;
       used = λ z. c.if-kind-ne0.true (c.kind.ensures ∙ z);
@@ -29,8 +29,8 @@ returns-in_err-copy_node g c =
     let high = c.loop-n-test.true in
     let used : kind_in old n ≢ 0 = λ z. c.if-kind-ne0.true (c.kind.ensures ∙ z) in
     rw (told_err c.from_residual.result c.from_residual.ensures.1)
-    (lacks-more old c.requires.source c.args.geometry c.requires.geometry n c.loop-n.auto.n high used copied _
-    (c.in_err-copy_node.ensures copied.now (node_in old n) copied.copies (copied.part.after n (omega arith)) (node-stands old c.requires.source c.args.geometry c.requires.geometry n c.loop-n.auto.n high used)))
+    (lacks-more old c.requires.source _ c.requires.geometry n c.loop-n.auto.n high used copied _
+    (c.in_err-copy_node.ensures copied.now (node_in old n) copied.copies (copied.part.after n (omega arith)) (node-stands old c.requires.source _ c.requires.geometry n c.loop-n.auto.n high used)))
 
 pub loop-n-preserved : goal.loop-n-preserved
 loop-n-preserved g c =
