@@ -10,16 +10,16 @@ use Rattle.std.proofs.lemmas.List.{get_or_past, get_or-replicate, length-replica
 use Rattle.std.proofs.lemmas.List.Sums.{sum_by-cons, sum_by-set, get_or-le-sum_by}
 use Rattle.std.specs.List.{IsDistinct, AllByRecursion, range_with_len, sum_by}
 use Rattle.ram.specs.Memory.{frame_of, word_of, IsMemory, put, word_bytes}
-use Rattle.ram.proofs.MemoryLemmas.{word_of-frame, word_of-put_same, frame_of-put_other, length-put}
+use Rattle.ram.proofs.MemoryLemmas.{Ram, word_of-frame, word_of-put_same, frame_of-put_other, length-put}
 use Rattle.frames.specs.declared.Frames.{Frames}
 use Rattle.frames.specs.Free.{among, chain, free_of, counted, less_one, extra_of, further_at, free_count, IsFreeList, SameBut}
 
-pub length-chain : (m : List (List ℕ)) (n first : ℕ) → length (chain m n first) ≡ n
+pub length-chain : (m : Ram) (n first : ℕ) → length (chain m n first) ≡ n
 unfolding chain
 length-chain m zero first = refl
 length-chain m (suc n) first = ap suc (length-chain m n (word_of m first 0 4))
 
-pub length-free_of : (m : List (List ℕ)) (s : Frames) → length (free_of m s) ≡ s.count
+pub length-free_of : (m : Ram) (s : Frames) → length (free_of m s) ≡ s.count
 unfolding free_of
 length-free_of m s = length-chain m s.count s.first.0
 
@@ -36,7 +36,7 @@ pub among_first_not : (f g : ℕ) (fs : List ℕ) → among f (g ∷ fs) ≡ fal
 among_first_not f g fs h = (λ e. cc (rw (eq-eqb f g e) at h), or_false f g fs h)
 
 -- the list is the same where its frames are
-pub chain-same : (m k : List (List ℕ)) (n first : ℕ) → ((g : ℕ) → among g (chain m n first) ≡ true → frame_of k g ≡ frame_of m g) → chain k n first ≡ chain m n first
+pub chain-same : (m k : Ram) (n first : ℕ) → ((g : ℕ) → among g (chain m n first) ≡ true → frame_of k g ≡ frame_of m g) → chain k n first ≡ chain m n first
 unfolding chain
 chain-same m k zero first h = refl
 chain-same m k (suc n) first h =
@@ -45,11 +45,11 @@ chain-same m k (suc n) first h =
     ap (λ x. first ∷ chain k n x) same ∙ ap (λ l. first ∷ l) (chain-same m k n next (λ g at. h g (among_later g first (chain m n next) at)))
 
 -- the free list outlives a change of other frames
-pub free_of-same : (m k : List (List ℕ)) (s : Frames) → ((g : ℕ) → among g (free_of m s) ≡ true → frame_of k g ≡ frame_of m g) → free_of k s ≡ free_of m s
+pub free_of-same : (m k : Ram) (s : Frames) → ((g : ℕ) → among g (free_of m s) ≡ true → frame_of k g ≡ frame_of m g) → free_of k s ≡ free_of m s
 unfolding free_of
 free_of-same m k s h = chain-same m k s.count s.first.0 h
 
-pub IsFreeList-same : (m k : List (List ℕ)) (s : Frames) → IsFreeList m s → length k ≡ length m → ((g : ℕ) → among g (free_of m s) ≡ true → frame_of k g ≡ frame_of m g) → IsFreeList k s
+pub IsFreeList-same : (m k : Ram) (s : Frames) → IsFreeList m s → length k ≡ length m → ((g : ℕ) → among g (free_of m s) ≡ true → frame_of k g ≡ frame_of m g) → IsFreeList k s
 IsFreeList-same m k s is len h =
     let same : free_of k s ≡ free_of m s = free_of-same m k s h in
     record {
@@ -62,13 +62,13 @@ IsFreeList-same m k s is len h =
       room = rw same is.room;
     }
 
-pub chain-step : (m : List (List ℕ)) (n first : ℕ) → n ≢ 0 → chain m n first ≡ first ∷ chain m (n - 1) (word_of m first 0 4)
+pub chain-step : (m : Ram) (n first : ℕ) → n ≢ 0 → chain m n first ≡ first ∷ chain m (n - 1) (word_of m first 0 4)
 unfolding chain
 chain-step m zero first ne = absurd (ne refl)
 chain-step m (suc n) first ne = let e : suc n - 1 ≡ n = omega arith in rw e refl
 
 -- the first free frame is taken
-pub free_of-take : (m : List (List ℕ)) (s t : Frames) → s.count ≢ 0 → t.first.0 ≡ word_of m s.first.0 0 4 → t.count ≡ s.count - 1 → free_of m s ≡ s.first.0 ∷ free_of m t
+pub free_of-take : (m : Ram) (s t : Frames) → s.count ≢ 0 → t.first.0 ≡ word_of m s.first.0 0 4 → t.count ≡ s.count - 1 → free_of m s ≡ s.first.0 ∷ free_of m t
 unfolding free_of
 free_of-take m s t ne first count = chain-step m s.count s.first.0 ne ∙ ap (λ n. s.first.0 ∷ chain m n (word_of m s.first.0 0 4)) (sym count) ∙ ap (λ f. s.first.0 ∷ chain m t.count f) (sym first)
 
@@ -99,52 +99,52 @@ size-set s t f x n items size = ap length items ∙ length-set s.holders.items f
 sum-set : (s t : Frames) (f x : ℕ) → t.holders.items ≡ slice_set s.holders.items f x → f < length s.holders.items → sum_by less_one t.holders.items + less_one (counted s f) ≡ sum_by less_one s.holders.items + less_one x
 sum-set s t f x items low = ap (λ l. sum_by less_one l + less_one (counted s f)) items ∙ sum_by-set less_one s.holders.items f x 0 low
 
-module _ {m : List (List ℕ)} {s : Frames} (is : IsFreeList m s) where
+module _ {m : Ram} {s : Frames} (is : IsFreeList m s) where
   -- a free frame has no holder beyond the first, which it lacks too
   pub further-free : (f : ℕ) → among f (free_of m s) ≡ true → further_at s f ≡ 0
-  further-free f at = omega (arith, further-is s f, is.none f at)
+  further-free f at = omega (arith, further-is s f)
 
   -- nor has what is no frame
   pub further-past : (f : ℕ) → length m ≤ f → further_at s f ≡ 0
-  further-past f past = omega (arith, further-is s f, get_or_past s.holders.items f 0 (omega (arith, is.size, past)))
+  further-past f past = omega (arith, further-is s f, get_or_past s.holders.items f 0 (omega arith))
 
   pub not_free : (f : ℕ) → 0 < counted s f → among f (free_of m s) ≡ false
-  not_free f some = elim (among f (free_of m s)) as (λ b. among f (free_of m s) ≡ b → b ≡ false) [ true ↦ λ e. absurd (omega (arith, some, is.none f e)) | false ↦ λ e. refl ] refl
+  not_free f some = elim (among f (free_of m s)) as (λ b. among f (free_of m s) ≡ b → b ≡ false) [ true ↦ λ e. absurd (omega arith) | false ↦ λ e. refl ] refl
 
   -- one with a further holder is held
   pub further-held : (f : ℕ) → 0 < further_at s f → (among f (free_of m s) ≡ false) × (f < length m)
   further-held f some = (
-    not_free f (omega (arith, some, further-is s f)),
-    elim (cases_lt f (length m)) [ inl low ↦ low | inr past ↦ absurd (omega (arith, some, further-past f past)) ],
+    not_free f (omega (arith, further-is s f)),
+    elim (cases_lt f (length m)) [ inl low ↦ low | inr past ↦ absurd (omega (arith, further-past f past)) ],
   )
 
 pub apart-not : (f : ℕ) (fs : List ℕ) → AllByRecursion (λ y. nat_eq f y ≡ false) fs → among f fs ≡ false
 apart-not f [] h = refl
-apart-not f (g ∷ fs) h = rw (h.0) (apart-not f fs h.1)
+apart-not f (g ∷ fs) h = rw h.0 (apart-not f fs h.1)
 
 among-other : (f g : ℕ) (fs : List ℕ) → g ≢ f → among g (f ∷ fs) ≡ among g fs
 among-other f g fs ne = rw (ne_eqb g f ne) refl
 
 -- Frame f has another count of holders, and is free if that is 0. The other frames are free if they were.
-IsFreeList-set : (m k : List (List ℕ)) (s t : Frames) (f x : ℕ) → IsFreeList m s → length k ≡ length m → f < length m → t.holders.items ≡ slice_set s.holders.items f x → ((g : ℕ) → g ≢ f → among g (free_of k t) ≡ among g (free_of m s))
+IsFreeList-set : (m k : Ram) (s t : Frames) (f x : ℕ) → IsFreeList m s → length k ≡ length m → f < length m → t.holders.items ≡ slice_set s.holders.items f x → ((g : ℕ) → g ≢ f → among g (free_of k t) ≡ among g (free_of m s))
     → (among f (free_of k t) ≡ true → x ≡ 0) → (among f (free_of k t) ≡ false → 0 < x) → IsDistinct nat_eq (free_of k t) → t.shared + less_one (counted s f) ≡ s.shared + less_one x → t.shared ≤ length (free_of k t) → IsFreeList k t
 IsFreeList-set m k s t f x is len inside items others free held distinct shared room =
-    let low : f < length s.holders.items = omega (arith, inside, is.size) in
+    let low : f < length s.holders.items = omega arith in
     let here = counted-same s t f x items low in
     record {
-      inside = λ g at. elim (cases_eq g f) [ inl same ↦ omega (arith, same, inside, len) | inr other ↦ omega (arith, len, is.inside g (sym (others g other) ∙ at)) ];
+      inside = λ g at. elim (cases_eq g f) [ inl same ↦ omega arith | inr other ↦ omega (arith, is.inside g (sym (others g other) ∙ at)) ];
       distinct = distinct;
       size = size-set s t f x (length k) items (is.size ∙ sym len);
       none = λ g at. elim (cases_eq g f) [ inl same ↦ rw same (here ∙ free (rw same at at)) | inr other ↦ counted-other s t f g x items other ∙ is.none g (sym (others g other) ∙ at) ];
       some = λ g within out. elim (cases_eq g f) [
         | inl same ↦ rw (same, here) (held (rw same at out))
-        | inr other ↦ omega (arith, counted-other s t f g x items other, is.some g (omega (arith, within, len)) (sym (others g other) ∙ out))
+        | inr other ↦ omega (arith, counted-other s t f g x items other, is.some g (omega arith) (sym (others g other) ∙ out))
       ];
-      sum = omega (arith, shared, is.sum, sum-set s t f x items low);
+      sum = omega (arith, sum-set s t f x items low);
       room = room;
     }
 
-pub IsFreeList-take : (m : List (List ℕ)) (s t : Frames) (f : ℕ) → IsFreeList m s → free_of m s ≡ f ∷ free_of m t → t.holders.items ≡ slice_set s.holders.items f 1 → t.shared ≡ s.shared → s.shared < length (free_of m s)
+pub IsFreeList-take : (m : Ram) (s t : Frames) (f : ℕ) → IsFreeList m s → free_of m s ≡ f ∷ free_of m t → t.holders.items ≡ slice_set s.holders.items f 1 → t.shared ≡ s.shared → s.shared < length (free_of m s)
     → IsFreeList m t × (extra_of t ≡ extra_of s)
 unfolding IsDistinct
 IsFreeList-take m s t f is e items shared room =
@@ -152,7 +152,7 @@ IsFreeList-take m s t f is e items shared room =
     let zero_before : counted s f ≡ 0 = is.none f here in
     let first = rw e at is.distinct in (
       IsFreeList-set m m s t f 1 is refl (is.inside f here) items (λ g ne. sym (ap (among g) e ∙ among-other f g (free_of m t) ne)) (λ at. absurd (cc (apart-not f (free_of m t) first.0, at))) (λ _. omega arith)
-          first.1 (omega (arith, shared, zero_before)) (omega (arith, shared, room, ap length e)),
+          first.1 (omega arith) (omega (arith, ap length e)),
       table-same s t f 1 items shared (ap less_one (sym zero_before)),
     )
 
@@ -168,7 +168,7 @@ unfolding IsDistinct
 distinct_first f fs absent is = (apart f fs absent, is)
 
 -- a frame that is given back comes first
-pub free_of-give : (m : List (List ℕ)) (s t : Frames) (f : ℕ) → IsMemory m → f < length m → s.first.0 < 256 ^ 4 → among f (free_of m s) ≡ false → t.first.0 ≡ f → t.count ≡ s.count + 1
+pub free_of-give : (m : Ram) (s t : Frames) (f : ℕ) → IsMemory m → f < length m → s.first.0 < 256 ^ 4 → among f (free_of m s) ≡ false → t.first.0 ≡ f → t.count ≡ s.count + 1
     → free_of (put m f 0 (word_bytes 4 s.first.0)) t ≡ f ∷ free_of m s
 unfolding free_of chain
 free_of-give m s t f mem inside fits absent first count =
@@ -176,20 +176,20 @@ free_of-give m s t f mem inside fits absent first count =
     let next : word_of k f 0 4 ≡ s.first.0 = word_of-put_same m f 0 4 s.first.0 mem inside (omega arith) fits in
     rw (first, count, add-one) (ap (λ l. f ∷ l) (ap (λ x. chain k s.count x) next ∙ chain-same m k s.count s.first.0 (λ g at. frame_of-put_other m f 0 (word_bytes 4 s.first.0) g (λ e. cc (rw (← e) at absent)))))
 
-pub IsFreeList-give : (m k : List (List ℕ)) (s t : Frames) (f : ℕ) → IsFreeList m s → length k ≡ length m → f < length m → among f (free_of m s) ≡ false → free_of k t ≡ f ∷ free_of m s
+pub IsFreeList-give : (m k : Ram) (s t : Frames) (f : ℕ) → IsFreeList m s → length k ≡ length m → f < length m → among f (free_of m s) ≡ false → free_of k t ≡ f ∷ free_of m s
     → t.holders.items ≡ slice_set s.holders.items f 0 → t.shared ≡ s.shared → further_at s f ≡ 0 → IsFreeList k t × (extra_of t ≡ extra_of s)
 IsFreeList-give m k s t f is len inside absent e items shared last =
     let one_before : less_one (counted s f) ≡ 0 = sym (further-is s f) ∙ last in (
       IsFreeList-set m k s t f 0 is len inside items (λ g ne. ap (among g) e ∙ among-other f g (free_of m s) ne) (λ _. refl) (λ out. absurd (cc (among_first f (free_of m s), ap (among f) e, out)))
-          (rw e (distinct_first f (free_of m s) absent is.distinct)) (omega (arith, shared, one_before)) (omega (arith, shared, is.room, ap length e)),
+          (rw e (distinct_first f (free_of m s) absent is.distinct)) (omega arith) (omega (arith, ap length e)),
       table-same s t f 0 items shared (sym one_before),
     )
 
 -- a frame with a holder has another count of them
-pub IsFreeList-count : (m : List (List ℕ)) (s t : Frames) (f x : ℕ) → IsFreeList m s → f < length m → 0 < counted s f → 0 < x → free_of m t ≡ free_of m s
+pub IsFreeList-count : (m : Ram) (s t : Frames) (f x : ℕ) → IsFreeList m s → f < length m → 0 < counted s f → 0 < x → free_of m t ≡ free_of m s
     → t.holders.items ≡ slice_set s.holders.items f x → t.shared + counted s f ≡ s.shared + x → t.shared ≤ length (free_of m s) → IsFreeList m t
 IsFreeList-count m s t f x is inside held new e items shared room =
-    IsFreeList-set m m s t f x is refl inside items (λ g _. ap (among g) e) (λ at. absurd (omega (arith, held, is.none f (rw e at at)))) (λ _. new) (rw e is.distinct) (omega (arith, shared, held, new)) (omega (arith, room, ap length e))
+    IsFreeList-set m m s t f x is refl inside items (λ g _. ap (among g) e) (λ at. absurd (omega (arith, is.none f (rw e at at)))) (λ _. new) (rw e is.distinct) (omega arith) (omega (arith, ap length e))
 
 -- how many further holders frames have then
 pub further-count : (s t : Frames) (f x g : ℕ) → f < length s.holders.items → t.holders.items ≡ slice_set s.holders.items f x → ((g ≡ f) × (further_at t g ≡ x - 1) × (further_at s g ≡ counted s f - 1)) ⊎ ((g ≢ f) × (further_at t g ≡ further_at s g))
@@ -198,24 +198,24 @@ further-count s t f x g low items = elim (cases_eq g f) [
   | inr other ↦ inr (other, further-is t g ∙ ap less_one (counted-other s t f g x items other) ∙ sym (further-is s g))
 ]
 
-pub SameBut-put : (m : List (List ℕ)) (f o : ℕ) (bs : List ℕ) → SameBut (f ∷ []) m (put m f o bs)
+pub SameBut-put : (m : Ram) (f o : ℕ) (bs : List ℕ) → SameBut (f ∷ []) m (put m f o bs)
 SameBut-put m f o bs = record {
   count = length-put m f o bs;
   others = λ g absent. frame_of-put_other m f o bs g (among_first_not g f [] absent).0;
 }
 
-pub free_of-none : (m : List (List ℕ)) (s : Frames) → s.count ≡ 0 → free_of m s ≡ []
+pub free_of-none : (m : Ram) (s : Frames) → s.count ≡ 0 → free_of m s ≡ []
 unfolding free_of chain
 free_of-none m s e = rw e refl
 
-module _ {m : List (List ℕ)} {s : Frames} (is : IsFreeList m s) where
+module _ {m : Ram} {s : Frames} (is : IsFreeList m s) where
   -- there are no more free frames than frames
   pub count-le : s.count ≤ length m
   count-le = rw (← length-free_of m s) (length-le_from_distinct_below (free_of m s) (length m) is.distinct is.inside)
 
   -- a further holder is one of the sum
   pub further-le : (f : ℕ) → f < length m → counted s f ≤ s.shared + 1
-  further-le f inside = omega (arith, is.sum, get_or-le-sum_by less_one s.holders.items f 0 (omega (arith, inside, is.size)))
+  further-le f inside = omega (arith, get_or-le-sum_by less_one s.holders.items f 0 (omega arith))
 
   -- the first free frame is one of the memory
   pub free_of-first : s.count ≢ 0 → s.first.0 < length m
@@ -232,7 +232,7 @@ sum-ones zero = refl
 sum-ones (suc n) = omega (arith, sum_by-cons less_one 1 (replicate {A = ℕ} n 1), sum-ones n)
 
 -- where each frame has a holder none is free
-pub IsFreeList-none : (m : List (List ℕ)) (s : Frames) → free_of m s ≡ [] → s.holders.items ≡ replicate (length m) 1 → s.shared ≡ 0 → IsFreeList m s
+pub IsFreeList-none : (m : Ram) (s : Frames) → free_of m s ≡ [] → s.holders.items ≡ replicate (length m) 1 → s.shared ≡ 0 → IsFreeList m s
 unfolding IsDistinct
 IsFreeList-none m s none items shared = record {
   inside = λ f at. absurd (cc (rw none at at));
@@ -241,7 +241,7 @@ IsFreeList-none m s none items shared = record {
   none = λ f at. absurd (cc (rw none at at));
   some = λ f low absent. omega (arith, ap (λ l. get_or l f 0) items, replicate-one (length m) f low);
   sum = shared ∙ sym (ap (sum_by less_one) items ∙ sum-ones (length m));
-  room = omega (arith, shared);
+  room = omega arith;
 }
 
 further-ones : (n f : ℕ) → less_one (get_or (replicate n 1) f 0) ≡ 0
@@ -264,26 +264,26 @@ range-before a b i e = rw (add-one, ← e) refl
 
 -- ---- how many could be taken
 
-pub some-free : (m : List (List ℕ)) (s : Frames) → 0 < free_count m s → (s.shared < length (free_of m s)) × (s.count ≢ 0)
-some-free m s h = (omega (arith, h, shared-is s), λ e. omega (arith, h, length-free_of m s, e))
+pub some-free : (m : Ram) (s : Frames) → 0 < free_count m s → (s.shared < length (free_of m s)) × (s.count ≢ 0)
+some-free m s h = (omega (arith, shared-is s), λ e. omega (arith, length-free_of m s))
 
-pub free_count-fewer : (m : List (List ℕ)) (s t : Frames) → free_of m t ≡ free_of m s → s.shared < length (free_of m s) → t.shared ≡ s.shared + 1 → free_count m s ≡ free_count m t + 1
-free_count-fewer m s t e room shared = omega (arith, shared-is s, shared-is t, ap length e, room, shared)
+pub free_count-fewer : (m : Ram) (s t : Frames) → free_of m t ≡ free_of m s → s.shared < length (free_of m s) → t.shared ≡ s.shared + 1 → free_count m s ≡ free_count m t + 1
+free_count-fewer m s t e room shared = omega (arith, shared-is s, shared-is t, ap length e)
 
-pub free_count-more : (m : List (List ℕ)) (s t : Frames) → free_of m t ≡ free_of m s → s.shared ≤ length (free_of m s) → t.shared + 1 ≡ s.shared → free_count m t ≡ free_count m s + 1
-free_count-more m s t e room shared = omega (arith, shared-is s, shared-is t, ap length e, room, shared)
+pub free_count-more : (m : Ram) (s t : Frames) → free_of m t ≡ free_of m s → s.shared ≤ length (free_of m s) → t.shared + 1 ≡ s.shared → free_count m t ≡ free_count m s + 1
+free_count-more m s t e room shared = omega (arith, shared-is s, shared-is t, ap length e)
 
 -- a frame comes into the list, or goes, and no further holder with it
-pub free_count-list : (m k : List (List ℕ)) (s t : Frames) (f : ℕ) → s.shared ≤ length (free_of m s) → free_of k t ≡ f ∷ free_of m s → extra_of t ≡ extra_of s → free_count k t ≡ free_count m s + 1
-free_count-list m k s t f room e same = omega (arith, shared-is s, ap length e, room, ap (λ (x : List ℕ × ℕ). x.1) same)
+pub free_count-list : (m k : Ram) (s t : Frames) (f : ℕ) → s.shared ≤ length (free_of m s) → free_of k t ≡ f ∷ free_of m s → extra_of t ≡ extra_of s → free_count k t ≡ free_count m s + 1
+free_count-list m k s t f room e same = omega (arith, shared-is s, ap length e, ap (λ (x : List ℕ × ℕ). x.1) same)
 
-module _ {m : List (List ℕ)} {s : Frames} (is : IsFreeList m s) where
+module _ {m : Ram} {s : Frames} (is : IsFreeList m s) where
   pub none-free : free_count m s ≢ 0 → s.shared < length (free_of m s)
-  none-free h = omega (arith, h, shared-is s)
+  none-free h = omega (arith, shared-is s)
 
   pub shared-some : (f : ℕ) → 0 < further_at s f → 0 < s.shared
-  shared-some f some = omega (arith, further-le is f (further-held is f some).1, further-is s f, some)
+  shared-some f some = omega (arith, further-le is f (further-held is f some).1, further-is s f)
 
   -- a count that was read
   pub count-read : (f x : ℕ) → f < length m → x ≡ get_or s.holders.items f x → x ≡ counted s f
-  count-read f x inside e = e ∙ get_or_default_zero s.holders.items f x (omega (arith, inside, is.size))
+  count-read f x inside e = e ∙ get_or_default_zero s.holders.items f x (omega arith)

@@ -1,4 +1,5 @@
 -- Lemmas on holders.
+use Rattle.ram.proofs.MemoryLemmas.{Ram}
 use Rattle.std.proofs.Common.{◌≡◌, ◌≢◌, ℕ, zero, suc, ◌+◌, ◌-◌, ◌<◌, ◌≤◌, ◌⊎◌, inl, inr, Bool, true, false, nat_eq, List, [], ◌∷◌, ◌++◌, length, refl, sym, ap, ◌∙◌, arith, eq-eqb, ltb, eqb, length-append, get_or, slice_set}
 use Rattle.std.proofs.lemmas.Bool.{cases_eq, cases_lt, le-ltb, lt-ltb, ne_eqb}
 use Rattle.std.proofs.lemmas.List.Sums.{sum_by-cons}
@@ -27,8 +28,8 @@ count_of-other f g xs ne = rw (ne_eqb f g ne) (omega arith)
 pub among-none : (f : ℕ) (xs : List ℕ) → count_of f xs ≡ 0 → among f xs ≡ false
 among-none f [] h = refl
 among-none f (x ∷ xs) h = elim (cases_eq f x) [
-  | inl same ↦ absurd (omega (arith, h, count_of-first f x xs same))
-  | inr other ↦ rw (ne_eqb f x other) (among-none f xs (omega (arith, h, count_of-other f x xs other)))
+  | inl same ↦ absurd (omega (arith, count_of-first f x xs same))
+  | inr other ↦ rw (ne_eqb f x other) (among-none f xs (omega (arith, count_of-other f x xs other)))
 ]
 
 pub none-among : (f : ℕ) (xs : List ℕ) → among f xs ≡ false → count_of f xs ≡ 0
@@ -53,11 +54,11 @@ count-cases f xs = elim (among f xs) as (λ b. among f xs ≡ b → (among f xs 
 pub among-count : (f : ℕ) (xs : List ℕ) → among f xs ≡ true → 0 < count_of f xs
 among-count f xs at = elim (cases_eq (count_of f xs) 0) [
   | inl z ↦ absurd (cc (at, among-none f xs z))
-  | inr some ↦ omega (arith, some)
+  | inr some ↦ omega arith
 ]
 
 -- what a free list says of a frame
-module _ {m : List (List ℕ)} {s : Frames} (is : IsFreeList m s) where
+module _ {m : Ram} {s : Frames} (is : IsFreeList m s) where
   -- a frame of the memory is free or has a holder, and some have more
   pub holders-free : (f : ℕ) → holders_of m s f + count_of f (free_of m s) ≡ one_if (ltb f (length m)) + further_at s f
   unfolding holders_of
@@ -72,16 +73,16 @@ module _ {m : List (List ℕ)} {s : Frames} (is : IsFreeList m s) where
       let sum = holders-free f in
       let one = ap one_if (lt-ltb f (length m) low) in
       elim (count-cases f (free_of m s)) [
-        | inl at ↦ omega (arith, sum, one, further-is s f, is.none f at, among-count f (free_of m s) at)
-        | inr none ↦ omega (arith, sum, one, further-is s f, none, is.some f low (among-none f (free_of m s) none))
+        | inl at ↦ omega (arith, further-is s f, among-count f (free_of m s) at)
+        | inr none ↦ omega (arith, further-is s f, is.some f low (among-none f (free_of m s) none))
       ]
 
 -- a frame with a holder is one of the memory, and isn't free
-pub held-inside : (m : List (List ℕ)) (s : Frames) (f : ℕ) → IsFreeList m s → 0 < holders_of m s f → (f < length m) × (among f (free_of m s) ≡ false)
+pub held-inside : (m : Ram) (s : Frames) (f : ℕ) → IsFreeList m s → 0 < holders_of m s f → (f < length m) × (among f (free_of m s) ≡ false)
 held-inside m s f is some =
     let sum = holders-free is f in
-    let low : f < length m = elim (cases_lt f (length m)) [ inl low ↦ low | inr past ↦ absurd (omega (arith, some, sum, ap one_if (le-ltb f (length m) past), further-past is f past)) ] in
-    (low, not_free is f (omega (arith, some, holders-counted is f low)))
+    let low : f < length m = elim (cases_lt f (length m)) [ inl low ↦ low | inr past ↦ absurd (omega (arith, ap one_if (le-ltb f (length m) past), further-past is f past)) ] in
+    (low, not_free is f (omega (arith, holders-counted is f low)))
 
 count_of-range : (f a n : ℕ) → a ≤ f → f < a + n → 1 ≤ count_of f (range_with_len a n)
 count_of-range f a zero low high = absurd (omega arith)
@@ -90,7 +91,7 @@ count_of-range f a (suc n) low high = elim (cases_eq f a) [
   | inr other ↦ rw (count_of-other f a (range_with_len (a + 1) n) other) (count_of-range f (a + 1) n (omega arith) (omega arith))
 ]
 
-module _ {m : List (List ℕ)} {s : Frames} (is : IsFreeList m s) where
+module _ {m : Ram} {s : Frames} (is : IsFreeList m s) where
   -- one that isn't free has a holder
   pub not-free-held : (f : ℕ) → f < length m → among f (free_of m s) ≡ false → holders_of m s f ≡ 1 + further_at s f
   not-free-held f low absent = omega (arith, holders-free is f, ap one_if (lt-ltb f (length m) low), none-among f (free_of m s) absent)
@@ -98,13 +99,13 @@ module _ {m : List (List ℕ)} {s : Frames} (is : IsFreeList m s) where
   -- one with no more than one holder has no further one
   pub single : (f : ℕ) → holders_of m s f ≤ 1 → further_at s f ≡ 0
   single f few = elim (cases_lt f (length m)) [
-    | inl low ↦ omega (arith, few, further-is s f, holders-counted is f low)
+    | inl low ↦ omega (arith, further-is s f, holders-counted is f low)
     | inr past ↦ further-past is f past
   ]
 
   -- one that isn't shared has no more than one
   pub one-holder : (f : ℕ) → further_at s f ≡ 0 → holders_of m s f ≤ 1
-  one-holder f alone = omega (arith, holders-free is f, one_if-le (ltb f (length m)), alone)
+  one-holder f alone = omega (arith, holders-free is f, one_if-le (ltb f (length m)))
 
   -- a free frame has none
   pub free-holders : (f : ℕ) → among f (free_of m s) ≡ true → holders_of m s f ≡ 0
@@ -116,24 +117,24 @@ module _ {m : List (List ℕ)} {s : Frames} (is : IsFreeList m s) where
     each = λ f.
         let sum = holders-free is f in
         elim (cases_lt f (length m)) [
-          | inl low ↦ omega (arith, sum, alone f, ap one_if (lt-ltb f (length m) low), ap (count_of f) e, count_of-range f 0 (length m) (omega arith) (omega (arith, low)))
-          | inr high ↦ omega (arith, sum, alone f, ap one_if (le-ltb f (length m) high))
+          | inl low ↦ omega (arith, alone f, ap one_if (lt-ltb f (length m) low), ap (count_of f) e, count_of-range f 0 (length m) (omega arith) (omega arith))
+          | inr high ↦ omega (arith, alone f, ap one_if (le-ltb f (length m) high))
         ];
   }
 
-pub Trades-none : (m : List (List ℕ)) (s : Frames) (old : List ℕ) → Trades m m s s old old
-Trades-none m s old = record { count = refl; moved = λ f. refl; others = λ f h. refl; fresh = λ f none some. absurd (omega (arith, none, some)) }
+pub Trades-none : (m : Ram) (s : Frames) (old : List ℕ) → Trades m m s s old old
+Trades-none m s old = record { count = refl; moved = λ f. refl; others = λ f h. refl; fresh = λ f none some. absurd (omega arith) }
 
-module _ {m k l : List (List ℕ)} {s n q : Frames} {old mid new : List ℕ} (a : Trades m k s n old mid) (b : Trades k l n q mid new) where
+module _ {m k l : Ram} {s n q : Frames} {old mid new : List ℕ} (a : Trades m k s n old mid) (b : Trades k l n q mid new) where
   -- one trade after another
   pub Trades-twice : Trades m l s q old new
   Trades-twice = record {
     count = b.count ∙ a.count;
-    moved = λ f. omega (arith, a.moved f, b.moved f);
-    others = λ f h. b.others f (omega (arith, a.moved f, h)) ∙ a.others f h;
+    moved = λ f. omega arith;
+    others = λ f h. b.others f (omega arith) ∙ a.others f h;
     fresh = λ f none some. elim (cases_eq (count_of f mid) 0) [
-      | inl gone ↦ omega (arith, none, gone, b.fresh f gone some, a.moved f)
-      | inr there ↦ a.fresh f none (omega (arith, there))
+      | inl gone ↦ omega (arith, b.fresh f gone some)
+      | inr there ↦ a.fresh f none (omega arith)
     ];
   }
 
@@ -182,7 +183,7 @@ sum_below-ones : (n : ℕ) → sum_below n (λ f. 1) ≡ n
 sum_below-ones zero = refl
 sum_below-ones (suc n) = omega (arith, sum_below-ones n)
 
-module _ {m : List (List ℕ)} {s : Frames} (is : IsFreeList m s) where
+module _ {m : Ram} {s : Frames} (is : IsFreeList m s) where
   -- all further holders
   pub further-sum : sum_below (length m) (further_at s) ≡ s.shared
   further-sum =
@@ -194,48 +195,37 @@ module _ {m : List (List ℕ)} {s : Frames} (is : IsFreeList m s) where
   -- frames that are held, those that hold the rest, and what is free are all frames of the memory
   accounted : (old : List ℕ) (rest : ℕ → ℕ) → ((f : ℕ) → count_of f old + rest f ≡ holders_of m s f) → free_count m s + length old + sum_below (length m) rest ≡ length m
   accounted old rest all =
-      let both : (f : ℕ) → count_of f (free_of m s ++ old) + rest f ≡ one_if (ltb f (length m)) + further_at s f = λ (f : ℕ). omega (arith, count_of-append f (free_of m s) old, all f, holders-free is f) in
+      let both : (f : ℕ) → count_of f (free_of m s ++ old) + rest f ≡ one_if (ltb f (length m)) + further_at s f = λ f. omega (arith, count_of-append f (free_of m s) old, all f, holders-free is f) in
       let sums : sum_below (length m) (λ f. count_of f (free_of m s ++ old) + rest f) ≡ sum_below (length m) (λ f. 1 + further_at s f) =
       sum_below-same (length m) (λ f. count_of f (free_of m s ++ old) + rest f) (λ f. 1 + further_at s f) (λ f l. omega (arith, both f, ap one_if (lt-ltb f (length m) l))) in
-      omega (
-        arith,
-        sums,
-        sum_below-plus (length m) (λ f. count_of f (free_of m s ++ old)) rest,
-        sum_below-plus (length m) (λ f. 1) (further_at s),
-        sum_below-ones (length m),
-        further-sum,
-        length-counts (free_of m s ++ old) (length m) (λ f l. omega (arith, both f, ap one_if (le-ltb f (length m) l), further-past is f l)),
-        length-append (free_of m s) old,
-        is.room,
-        shared-is s,
-      )
+      omega (arith, sum_below-plus (length m) (λ f. count_of f (free_of m s ++ old)) rest, sum_below-plus (length m) (λ f. 1) (further_at s), sum_below-ones (length m), further-sum, length-counts (free_of m s ++ old) (length m) (λ f l. omega (arith, both f, ap one_if (le-ltb f (length m) l), further-past is f l)), length-append (free_of m s) old, shared-is s)
 
   -- what the holders hold, frames that are shared as often as they are, and what is free are all frames of the memory
   pub shared-count : (all : List ℕ) → IsShared m s all → free_count m s + length all ≡ length m
-  shared-count hs all = omega (arith, accounted hs (λ f. 0) (λ f. omega (arith, all.each f)), sum_below-zero (length m) (λ f. 0) (λ f l. refl))
+  shared-count hs all = omega (arith, accounted hs (λ f. 0) (λ f. omega arith), sum_below-zero (length m) (λ f. 0) (λ f l. refl))
 
   -- frames that are held as often as they have holders at the most, and the free ones, are no more than the memory has
   pub held-count : (old : List ℕ) → ((f : ℕ) → count_of f old ≤ holders_of m s f) → free_count m s + length old ≤ length m
   held-count old all = omega (arith, accounted old (λ f. holders_of m s f - count_of f old) (λ f. omega (arith, all f)))
 
-module _ {m k : List (List ℕ)} {s n : Frames} {old new : List ℕ} (t : Trades m k s n old new) where
+module _ {m k : Ram} {s n : Frames} {old new : List ℕ} (t : Trades m k s n old new) where
   -- after a trade of one holder the holders still hold all that is not free
   pub IsShared-trade : (all after : List ℕ) → IsShared m s all → ((f : ℕ) → count_of f after + count_of f old ≡ count_of f all + count_of f new) → IsShared k n after
-  IsShared-trade all after is e = record { each = λ f. omega (arith, is.each f, t.moved f, e f) }
+  IsShared-trade all after is e = record { each = λ f. omega (arith, e f) }
 
   -- what another holder holds keeps its bytes
   pub Trades-beside : (other : List ℕ) → ((f : ℕ) → count_of f old + count_of f other ≤ holders_of m s f) → (f : ℕ) → 0 < count_of f other → frame_of k f ≡ frame_of m f
-  Trades-beside other room f h = t.others f (omega (arith, room f, h))
+  Trades-beside other room f h = t.others f (omega (arith, room f))
 
   -- what a trade takes is no longer free
   pub Trades-lengths : IsFreeList m s → IsFreeList k n → ((f : ℕ) → count_of f old ≤ holders_of m s f) → free_count k n + length new ≡ free_count m s + length old
   Trades-lengths is_m is_k room =
       let rest = λ (f : ℕ). holders_of m s f - count_of f old in
-      omega (arith, accounted is_m old rest (λ f. omega (arith, room f)), accounted is_k new rest (λ f. omega (arith, room f, t.moved f)), ap (λ l. sum_below l rest) t.count, t.count)
+      omega (arith, accounted is_m old rest (λ f. omega (arith, room f)), accounted is_k new rest (λ f. omega (arith, room f)), ap (λ l. sum_below l rest) t.count)
 
 -- ---- what the calls on frames do, as trades
 
-module _ {m k : List (List ℕ)} {s n : Frames} (is : IsFreeList m s) (after : IsFreeList k n) where
+module _ {m k : Ram} {s n : Frames} (is : IsFreeList m s) (after : IsFreeList k n) where
   -- the holders where the free list is another and the table the same
   pub holders-table : length k ≡ length m → extra_of n ≡ extra_of s → (f : ℕ) → holders_of k n f + count_of f (free_of k n) ≡ holders_of m s f + count_of f (free_of m s)
   holders-table len same f = omega (arith, holders-free is f, holders-free after f, ap (λ l. one_if (ltb f l)) len, ap (λ (t : List ℕ × ℕ). get_or t.0 f 0) same)
@@ -244,19 +234,19 @@ module _ {m k : List (List ℕ)} {s n : Frames} (is : IsFreeList m s) (after : I
   pub holders-list : (f : ℕ) → length k ≡ length m → free_of k n ≡ f ∷ free_of m s → extra_of n ≡ extra_of s → Loses m k s n (f ∷ [])
   holders-list f len e same g = omega (arith, holders-table len same g, ap (count_of g) e)
 
-pub Trades-take : (m : List (List ℕ)) (s n : Frames) (f : ℕ) → IsFreeList m s → IsFreeList m n → free_of m s ≡ f ∷ free_of m n → extra_of n ≡ extra_of s → Trades m m s n [] (f ∷ [])
+pub Trades-take : (m : Ram) (s n : Frames) (f : ℕ) → IsFreeList m s → IsFreeList m n → free_of m s ≡ f ∷ free_of m n → extra_of n ≡ extra_of s → Trades m m s n [] (f ∷ [])
 Trades-take m s n f is after e same = record {
   count = refl;
   moved = λ g. omega (arith, holders-table is after refl same g, ap (count_of g) e);
   others = λ g h. refl;
   fresh = λ g none some. elim (cases_eq g f) [
     | inl here ↦ free-holders is g (rw (e, here) (rw (eq-eqb f f refl) refl))
-    | inr other ↦ absurd (omega (arith, some, count_of-other g f [] other))
+    | inr other ↦ absurd (omega (arith, count_of-other g f [] other))
   ];
 }
 
 -- a frame that is given back, by its last holder or by another
-pub Trades-give : (m k : List (List ℕ)) (s n : Frames) (f : ℕ) → IsFreeList m s → Loses m k s n (f ∷ []) → SameBut (f ∷ []) m k
+pub Trades-give : (m k : Ram) (s n : Frames) (f : ℕ) → IsFreeList m s → Loses m k s n (f ∷ []) → SameBut (f ∷ []) m k
     → (0 < further_at s f → k ≡ m) → 0 < holders_of m s f → Trades m k s n (f ∷ []) []
 Trades-give m k s n f is moved same stays held = record {
   count = same.count;
@@ -264,32 +254,32 @@ Trades-give m k s n f is moved same stays held = record {
   others = λ g h. elim (cases_eq g f) [
     | inl here ↦
         let in_memory = held-inside m s f is held in
-        let more : 0 < further_at s f = omega (arith, h, count_of-first g f [] here, ap (holders_of m s) here, not-free-held is f in_memory.0 in_memory.1) in
+        let more : 0 < further_at s f = omega (arith, count_of-first g f [] here, ap (holders_of m s) here, not-free-held is f in_memory.0 in_memory.1) in
         ap (λ x. frame_of x g) (stays more)
     | inr other ↦ same.others g (rw (ne_eqb g f other) refl)
   ];
-  fresh = λ g none some. absurd (omega (arith, some));
+  fresh = λ g none some. absurd (omega arith);
 }
 
-module _ {m : List (List ℕ)} {s t : Frames} (is : IsFreeList m s) (after : IsFreeList m t) where
+module _ {m : Ram} {s t : Frames} (is : IsFreeList m s) (after : IsFreeList m t) where
   pub holders-more : (f x : ℕ) → free_of m t ≡ free_of m s → f < length m → 0 < counted s f → t.holders.items ≡ slice_set s.holders.items f x → x ≡ counted s f + 1 → Gains m m s t (f ∷ [])
   holders-more f x e low some items more g =
-      elim (further-count s t f x g (omega (arith, low, is.size)) items) [
-        | inl here ↦ omega (arith, holders-free is g, holders-free after g, ap (count_of g) e, here.1, here.2, more, some, count_of-first g f [] here.0)
-        | inr other ↦ omega (arith, holders-free is g, holders-free after g, ap (count_of g) e, other.1, count_of-other g f [] other.0)
+      elim (further-count s t f x g (omega arith) items) [
+        | inl here ↦ omega (arith, holders-free is g, holders-free after g, ap (count_of g) e, count_of-first g f [] here.0)
+        | inr other ↦ omega (arith, holders-free is g, holders-free after g, ap (count_of g) e, count_of-other g f [] other.0)
       ]
 
   pub holders-fewer : (f x : ℕ) → free_of m t ≡ free_of m s → f < length m → t.holders.items ≡ slice_set s.holders.items f x → x + 1 ≡ counted s f → 0 < x → Loses m m s t (f ∷ [])
   holders-fewer f x e low items fewer some g =
-      elim (further-count s t f x g (omega (arith, low, is.size)) items) [
-        | inl here ↦ omega (arith, holders-free is g, holders-free after g, ap (count_of g) e, here.1, here.2, fewer, some, count_of-first g f [] here.0)
-        | inr other ↦ omega (arith, holders-free is g, holders-free after g, ap (count_of g) e, other.1, count_of-other g f [] other.0)
+      elim (further-count s t f x g (omega arith) items) [
+        | inl here ↦ omega (arith, holders-free is g, holders-free after g, ap (count_of g) e, count_of-first g f [] here.0)
+        | inr other ↦ omega (arith, holders-free is g, holders-free after g, ap (count_of g) e, count_of-other g f [] other.0)
       ]
 
 -- ---- a duplicate says of a memory what its source says
 
 module _ {s n : Frames} (is : IsDuplicate s n) where
-  pub same-free : (m : List (List ℕ)) → free_of m n ≡ free_of m s
+  pub same-free : (m : Ram) → free_of m n ≡ free_of m s
   unfolding free_of
   same-free m = rw (is.count, is.first) refl
 
@@ -300,11 +290,11 @@ module _ {s n : Frames} (is : IsDuplicate s n) where
   pub same-further : (f : ℕ) → further_at n f ≡ further_at s f
   same-further f = rw (same-extra) refl
 
-  pub same-holders : (m : List (List ℕ)) (f : ℕ) → holders_of m n f ≡ holders_of m s f
+  pub same-holders : (m : Ram) (f : ℕ) → holders_of m n f ≡ holders_of m s f
   unfolding holders_of
   same-holders m f = rw (same-free m, same-extra) refl
 
-  pub same-list : (m : List (List ℕ)) → IsFreeList m s → IsFreeList m n
+  pub same-list : (m : Ram) → IsFreeList m s → IsFreeList m n
   same-list m list =
       let free = same-free m in
       record {
@@ -317,5 +307,5 @@ module _ {s n : Frames} (is : IsDuplicate s n) where
         room = rw (free, is.shared) list.room;
       }
 
-  pub same-shared : (m : List (List ℕ)) (all : List ℕ) → IsShared m s all → IsShared m n all
+  pub same-shared : (m : Ram) (all : List ℕ) → IsShared m s all → IsShared m n all
   same-shared m all shared = record { each = λ f. shared.each f ∙ sym (same-holders m f) }
