@@ -7,6 +7,7 @@ pub use Rattle.frames.proofs.FreeLemmas.{among_first, among_first_not, apart-not
 pub use Rattle.frames.specs.Free.{among, free_count, further_at, IsFreeList, SameBut}
 unfoldable pub use Rattle.frames.specs.Free.{extra_of, free_of}
 pub use Rattle.frames.specs.declared.Frames.{Frames}
+pub use Rattle.ram.proofs.MemoryLemmas.{Ram}
 pub use Rattle.ram.specs.Memory.{frame_of, IsMemory}
 unfoldable pub use Rattle.ram.specs.Memory.{put, word_bytes}
 pub use Rattle.sv39.proofs.WalkLemmas.{allows-is, canonical-is, walk_of-is}
@@ -19,5 +20,5 @@ pub use Rattle.unixmodel.specs.declared.trap.Access.{Access}
 pub use Rattle.pagetable.specs.Shape.{Adds, IsEmpty, IsTidy, IsUsed, made_by, Removes, table_of}
 unfoldable pub use Rattle.pagetable.specs.Shape.{made}
 pub use Rattle.pagetable.specs.Tree.{a_leaf, a_table, child_at, HasTable, Inserts, IsEntry, IsLeafEntry, IsLeafMarks, IsNode, IsPaged, IsTableEntry, IsTree, IsUpper, Keeps, leaf_at, leaf_entry}
-pub use Rattle.pagetable.specs.Tree.{Links, Low, low_node, Maps, Mid, mid_node, missing_by, next_node, no_leaf, no_table, Node, Root, SameMap, SameTables, SameTablesBut, table_entry, Writes}
+pub use Rattle.pagetable.specs.Tree.{Links, Low, low_node, Mid, mid_node, missing_by, next_node, no_leaf, no_table, Node, Root, SameMap, SameTables, table_entry, Writes}
 unfoldable pub use Rattle.pagetable.specs.Tree.{child_of, leaf_of, lookup_of, missing, table_at}

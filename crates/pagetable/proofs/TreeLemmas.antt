@@ -1,5 +1,5 @@
 -- What writes leave of a page table.
-use Rattle.pagetable.proofs.Common.{[], a_table, among, among_first, among_first_not, ap, apart-not, arith, base, cases_eq, cases_lt, child_at, child_of, entry_of, extra_of, false, frame_of, Frames, free_count, free_of, free_of-same}
+use Rattle.pagetable.proofs.Common.{Ram, [], a_table, among, among_first, among_first_not, ap, apart-not, arith, base, cases_eq, cases_lt, child_at, child_of, entry_of, extra_of, false, frame_of, Frames, free_count, free_of, free_of-same}
 use Rattle.pagetable.proofs.Common.{further-free, further_at, get_or, get_or-set_other, HasTable, inl, inr, IsEntry, IsFreeList, IsFreeList-same, IsLeafEntry, IsMemory, IsNode, IsPaged, IsTree, IsUpper, Keeps, leaf_at, leaf_entry, leaf_of}
 use Rattle.pagetable.proofs.Common.{length, length-set, Links, List, lookup_of, Low, low_node, Mid, mid_node, missing, missing_by, ne_eqb, next_node, no_leaf, no_table, Node, None, Option, put, refl, replicate, Root, SameBut, SameMap}
 use Rattle.pagetable.proofs.Common.{SameTables, shared-is, slice_set, Some, subst, sym, table_at, table_entry, true, word_bytes, Writes, ℕ, ◌%◌, ◌*◌, ◌+◌, ◌-◌, ◌/◌, ◌<◌, ◌^◌, ◌∙◌, ◌∷◌, ◌≡◌, ◌≢◌, ◌⊎◌}
@@ -10,11 +10,11 @@ use Rattle.std.proofs.Math.Nat.{div-div-eq-div-mul}
 
 -- ---- entries
 
-pub entry_of-frame : (m k : List (List ℕ)) (t i : ℕ) → frame_of k t ≡ frame_of m t → entry_of k t i ≡ entry_of m t i
+pub entry_of-frame : (m k : Ram) (t i : ℕ) → frame_of k t ≡ frame_of m t → entry_of k t i ≡ entry_of m t i
 unfolding entry_of
 entry_of-frame m k t i e = word_of-frame k m t t (8 * i) 8 e
 
-pub entry_of-zeros : (m : List (List ℕ)) (u i : ℕ) → u < length m → i < 512 → entry_of (slice_set m u (replicate 4096 0)) u i ≡ 0
+pub entry_of-zeros : (m : Ram) (u i : ℕ) → u < length m → i < 512 → entry_of (slice_set m u (replicate 4096 0)) u i ≡ 0
 unfolding entry_of
 entry_of-zeros m u i h small = word_of-zeros m u (8 * i) 8 4096 h
 
@@ -55,7 +55,7 @@ entry_table n (Low a b) u up h = absurd up
 
 -- ---- what the writes of the code are
 
-pub Writes-put : (m : List (List ℕ)) (t c e : ℕ) → IsMemory m → t < length m → c < 512 → e < 2 ^ 64 → Writes m (put m t (8 * c) (word_bytes 8 e)) t c e
+pub Writes-put : (m : Ram) (t c e : ℕ) → IsMemory m → t < length m → c < 512 → e < 2 ^ 64 → Writes m (put m t (8 * c) (word_bytes 8 e)) t c e
 unfolding entry_of
 Writes-put m t c e mem inside small fits = record {
   count = length-put m t (8 * c) (word_bytes 8 e);
@@ -65,14 +65,14 @@ Writes-put m t c e mem inside small fits = record {
   others = λ v ne. frame_of-put_other m t (8 * c) (word_bytes 8 e) v ne;
 }
 
-pub Links-put : (m : List (List ℕ)) (t c u : ℕ) → IsMemory m → t < length m → u < length m → t ≢ u → c < 512 → u < 2 ^ 32
+pub Links-put : (m : Ram) (t c u : ℕ) → IsMemory m → t < length m → u < length m → t ≢ u → c < 512 → u < 2 ^ 32
     → Links m (put (slice_set m u (replicate 4096 0)) t (8 * c) (word_bytes 8 (table_entry u))) t c u
 Links-put m t c u mem ht hu ne small fits =
     let zeros = replicate {A = ℕ} 4096 0 in
     let z = slice_set m u zeros in
     let len : length z ≡ length m = length-set m u zeros in
-    let rest : (v : ℕ) → v ≢ u → frame_of z v ≡ frame_of m v = λ (v : ℕ) (h : v ≢ u). get_or-set_other m u v zeros [] h in
-    let w = Writes-put z t c (table_entry u) (IsMemory-set m u zeros mem (length-replicate {A = ℕ} 4096 0)) (omega (arith, len, ht)) small (omega arith) in
+    let rest : (v : ℕ) → v ≢ u → frame_of z v ≡ frame_of m v = λ v h. get_or-set_other m u v zeros [] h in
+    let w = Writes-put z t c (table_entry u) (IsMemory-set m u zeros mem (length-replicate {A = ℕ} 4096 0)) (omega arith) small (omega arith) in
     record {
       count = w.count ∙ len;
       here = w.here;
@@ -107,63 +107,63 @@ low_is_node page = (omega arith, omega arith)
 -- pages with the same three indices are one
 pub same_page : (p q : ℕ) → p < 2 ^ 27 → q < 2 ^ 27 → low_node p ≡ low_node q → p % 512 ≡ q % 512 → p ≡ q
 same_page p q sp sq same low =
-    let split : (n : ℕ) → n / 262144 ≡ n / 512 / 512 = λ (n : ℕ). sym (div-div-eq-div-mul n 512 512) in
+    let split : (n : ℕ) → n / 262144 ≡ n / 512 / 512 = λ n. sym (div-div-eq-div-mul n 512 512) in
     let high : p / 262144 % 512 ≡ q / 262144 % 512 = cc in
     let mid : p / 512 % 512 ≡ q / 512 % 512 = cc in
-    omega (arith, split p, split q, high, mid, low, sp, sq)
+    omega (arith, split p, split q)
 
 -- ---- the way down to a page
 
-pub root_at : (m : List (List ℕ)) (r : ℕ) → table_at m r Root ≡ Some r
+pub root_at : (m : Ram) (r : ℕ) → table_at m r Root ≡ Some r
 unfolding table_at
 root_at m r = refl
 
-pub table_at-mid : (m : List (List ℕ)) (r page : ℕ) → table_at m r (mid_node page) ≡ child_of (entry_of m r (page / 262144 % 512))
+pub table_at-mid : (m : Ram) (r page : ℕ) → table_at m r (mid_node page) ≡ child_of (entry_of m r (page / 262144 % 512))
 unfolding table_at
 table_at-mid m r page = refl
 
-pub table_at-low : (m : List (List ℕ)) (r page : ℕ) (o : Option ℕ) → o ≡ table_at m r (mid_node page) → table_at m r (low_node page) ≡ child_at m o (page / 512 % 512)
+pub table_at-low : (m : Ram) (r page : ℕ) {o : Option ℕ} → o ≡ table_at m r (mid_node page) → table_at m r (low_node page) ≡ child_at m o (page / 512 % 512)
 unfolding table_at
-table_at-low m r page o at = ap (λ x. child_at m x (page / 512 % 512)) (sym at)
+table_at-low m r page at = ap (λ x. child_at m x (page / 512 % 512)) (sym at)
 
-pub lookup_of-low : (m : List (List ℕ)) (r page : ℕ) (o : Option ℕ) → o ≡ table_at m r (low_node page) → lookup_of m r page ≡ leaf_at m o (page % 512)
+pub lookup_of-low : (m : Ram) (r page : ℕ) {o : Option ℕ} → o ≡ table_at m r (low_node page) → lookup_of m r page ≡ leaf_at m o (page % 512)
 unfolding lookup_of
-lookup_of-low m r page o at = ap (λ x. leaf_at m x (page % 512)) (sym at)
+lookup_of-low m r page at = ap (λ x. leaf_at m x (page % 512)) (sym at)
 
-module _ {m : List (List ℕ)} {r : ℕ} (is : IsTree m r) where
+module _ {m : Ram} {r : ℕ} (is : IsTree m r) where
   pub tree-root : r < length m
   tree-root = is.inside Root r tt (root_at m r)
 
-  pub tree-leaf_sound : (page t : ℕ) → Some t ≡ table_at m r (low_node page) → IsLeafEntry (length m) (entry_of m t (page % 512))
-  tree-leaf_sound page t at = is.sound (low_node page) t (page % 512) (low_is_node page) (sym at) (omega arith)
+  pub tree-leaf_sound : (page : ℕ) {t : ℕ} → Some t ≡ table_at m r (low_node page) → IsLeafEntry (length m) (entry_of m t (page % 512))
+  tree-leaf_sound page {t} at = is.sound (low_node page) t (page % 512) (low_is_node page) (sym at) (omega arith)
 
 -- a tree with no middle table on the way has no low one
-pub no_low : (m : List (List ℕ)) (r page : ℕ) → table_at m r (mid_node page) ≡ None → table_at m r (low_node page) ≡ None
-no_low m r page none = table_at-low m r page None (sym none)
+pub no_low : (m : Ram) (r page : ℕ) → table_at m r (mid_node page) ≡ None → table_at m r (low_node page) ≡ None
+no_low m r page none = table_at-low m r page (sym none)
 
-pub missing-is : (m : List (List ℕ)) (r page : ℕ) (o q : Option ℕ) → o ≡ table_at m r (mid_node page) → q ≡ table_at m r (low_node page) → missing m r page ≡ missing_by o q
+pub missing-is : (m : Ram) (r page : ℕ) {o q : Option ℕ} → o ≡ table_at m r (mid_node page) → q ≡ table_at m r (low_node page) → missing m r page ≡ missing_by o q
 unfolding missing
-missing-is m r page o q e f = rw (← e, ← f) refl
+missing-is m r page e f = rw (← e, ← f) refl
 
 -- ---- tables that stay
 
 -- what an entry leads to is at the place after x
-table_at-next : (m : List (List ℕ)) (r : ℕ) (x : Node) (t c : ℕ) → IsUpper x → table_at m r x ≡ Some t → table_at m r (next_node x c) ≡ child_of (entry_of m t c)
+table_at-next : (m : Ram) (r : ℕ) (x : Node) (t c : ℕ) → IsUpper x → table_at m r x ≡ Some t → table_at m r (next_node x c) ≡ child_of (entry_of m t c)
 unfolding table_at
 table_at-next m r Root t c up at = let root : r ≡ t = cc in rw root refl
 table_at-next m r (Mid d) t c up at = ap (λ o. child_at m o c) at
 table_at-next m r (Low d e) t c up at = absurd up
 
-pub child_at-same : (m k : List (List ℕ)) (o : Option ℕ) (b : ℕ) → ((v : ℕ) → o ≡ Some v → entry_of k v b ≡ entry_of m v b) → child_at k o b ≡ child_at m o b
+pub child_at-same : (m k : Ram) (o : Option ℕ) (b : ℕ) → ((v : ℕ) → o ≡ Some v → entry_of k v b ≡ entry_of m v b) → child_at k o b ≡ child_at m o b
 child_at-same m k None b h = refl
 child_at-same m k (Some v) b h = ap child_of (h v refl)
 
-pub leaf_at-same : (m k : List (List ℕ)) (o : Option ℕ) (i : ℕ) → ((v : ℕ) → o ≡ Some v → entry_of k v i ≡ entry_of m v i) → leaf_at k o i ≡ leaf_at m o i
+pub leaf_at-same : (m k : Ram) (o : Option ℕ) (i : ℕ) → ((v : ℕ) → o ≡ Some v → entry_of k v i ≡ entry_of m v i) → leaf_at k o i ≡ leaf_at m o i
 leaf_at-same m k None i h = refl
 leaf_at-same m k (Some v) i h = ap leaf_of (h v refl)
 
 -- where each table stood before, and its entries are sound, there is a tree
-pub kept-tree : {m k : List (List ℕ)} {r : ℕ} → IsTree m r → length k ≡ length m → ((y : Node) (v : ℕ) → IsNode y → table_at k r y ≡ Some v → table_at m r y ≡ Some v)
+pub kept-tree : {m k : Ram} {r : ℕ} → IsTree m r → length k ≡ length m → ((y : Node) (v : ℕ) → IsNode y → table_at k r y ≡ Some v → table_at m r y ≡ Some v)
     → ((y : Node) (v i : ℕ) → IsNode y → table_at k r y ≡ Some v → i < 512 → IsEntry (length k) y (entry_of k v i)) → IsTree k r
 kept-tree is count old sound = record {
   inside = λ y v ny h. rw count (is.inside y v ny (old y v ny h));
@@ -171,13 +171,13 @@ kept-tree is count old sound = record {
   sound = sound;
 }
 
-not_held : {m : List (List ℕ)} {r v t : ℕ} → ¬ HasTable m r v → (x : Node) → IsNode x → table_at m r x ≡ Some t → v ≢ t
+not_held : {m : Ram} {r v t : ℕ} → ¬ HasTable m r v → (x : Node) → IsNode x → table_at m r x ≡ Some t → v ≢ t
 not_held out x nx at e = out (record { place = x; is_node = nx; at_place = rw e at })
 
 -- ---- a tree of which one entry changes
 
 -- Entry c of the table t at x is another one, and so may be the table that stands after x.
-record Changes (m k : List (List ℕ)) (r : ℕ) (x : Node) (t c : ℕ) : Type 0 where
+record Changes (m k : Ram) (r : ℕ) (x : Node) (t c : ℕ) : Type 0 where
   pub tree : IsTree m r
   pub node : IsNode x
   pub at : table_at m r x ≡ Some t
@@ -186,14 +186,14 @@ record Changes (m k : List (List ℕ)) (r : ℕ) (x : Node) (t c : ℕ) : Type 0
   pub below : IsUpper x → (b : ℕ) → b < 512 → child_at k (child_of (entry_of k t c)) b ≡ child_at m (child_of (entry_of m t c)) b
 
 -- what keeps the other entries of the table and the other frames keeps the other entries of the tree
-entry-kept : {m : List (List ℕ)} {r t : ℕ} (k : List (List ℕ)) (c : ℕ) → IsTree m r → (x : Node) → IsNode x → table_at m r x ≡ Some t → (y : Node) (v i : ℕ) → IsNode y → table_at m r y ≡ Some v → (y ≡ x → i ≢ c)
+entry-kept : {m : Ram} {r t : ℕ} (k : Ram) (c : ℕ) → IsTree m r → (x : Node) → IsNode x → table_at m r x ≡ Some t → (y : Node) (v i : ℕ) → IsNode y → table_at m r y ≡ Some v → (y ≡ x → i ≢ c)
     → (i ≢ c → entry_of k t i ≡ entry_of m t i) → (v ≢ t → frame_of k v ≡ frame_of m v) → entry_of k v i ≡ entry_of m v i
 entry-kept {m} {r} {t} k c is x nx at y v i ny h apart here others = elim (cases_eq v t) [
   | inl same ↦ rw same (here (apart (is.once y x t ny nx (rw (← same) h) at)))
   | inr other ↦ entry_of-frame m k v i (others other)
 ]
 
-module _ {m k : List (List ℕ)} {r t c : ℕ} where
+module _ {m k : Ram} {r t c : ℕ} where
   -- other tables stay
   stays : (x : Node) → Changes m k r x t c → (y : Node) → IsNode y → (IsUpper x → y ≢ next_node x c) → table_at k r y ≡ table_at m r y
   unfolding table_at
@@ -248,7 +248,7 @@ module _ {m k : List (List ℕ)} {r t c : ℕ} where
 pub further-same : (s n : Frames) (f : ℕ) → extra_of n ≡ extra_of s → further_at n f ≡ further_at s f
 further-same s n f table = ap (λ (t : List ℕ × ℕ). get_or t.0 f 0) table
 
-module _ {m : List (List ℕ)} {s : Frames} (is : IsFreeList m s) where
+module _ {m : Ram} {s : Frames} (is : IsFreeList m s) where
   -- the first free frame is one of the memory, and not among the others
   pub free-first : (f : ℕ) (fs : List ℕ) → free_of m s ≡ f ∷ fs → (f < length m) × (among f fs ≡ false)
   unfolding IsDistinct
@@ -260,32 +260,32 @@ module _ {m : List (List ℕ)} {s : Frames} (is : IsFreeList m s) where
 not_among : (f g : ℕ) (fs : List ℕ) → among f fs ≡ true → among g fs ≡ false → f ≢ g
 not_among f g fs held out e = cc (rw e at held)
 
-module _ {m k : List (List ℕ)} {s n : Frames} {t c u : ℕ} (is : IsFreeList m s) (after : IsFreeList m n) (w : Links m k t c u) where
+module _ {m k : Ram} {s n : Frames} {t c u : ℕ} (is : IsFreeList m s) (after : IsFreeList m n) (w : Links m k t c u) where
   pub free-link : free_of m s ≡ u ∷ free_of m n → among t (free_of m s) ≡ false → (free_of k n ≡ free_of m n) × IsFreeList k n
   free-link e out =
       let rest = free_of m n in
-      let stays : (v : ℕ) → among v rest ≡ true → frame_of k v ≡ frame_of m v = λ (v : ℕ) (held : among v rest ≡ true).
+      let stays : (v : ℕ) → among v rest ≡ true → frame_of k v ≡ frame_of m v = λ v held.
       w.others v (not_among v t rest held (among_first_not t u rest (rw e at out)).1) (not_among v u rest held (free-first is u rest e).1) in
       (free_of-same m k n stays, IsFreeList-same m k n after w.count stays)
 
-module _ {m k : List (List ℕ)} {r : ℕ} {s : Frames} {t c e : ℕ} (is : IsPaged m r s) (w : Writes m k t c e) where
+module _ {m k : Ram} {r : ℕ} {s : Frames} {t c e : ℕ} (is : IsPaged m r s) (w : Writes m k t c e) where
   pub free-write : (x : Node) → IsNode x → table_at m r x ≡ Some t → (free_of k s ≡ free_of m s) × IsFreeList k s
   free-write x nx at =
-      let stays : (v : ℕ) → among v (free_of m s) ≡ true → frame_of k v ≡ frame_of m v = λ (v : ℕ) (held : among v (free_of m s) ≡ true). w.others v (not_among v t (free_of m s) held (is.apart x t nx at)) in
+      let stays : (v : ℕ) → among v (free_of m s) ≡ true → frame_of k v ≡ frame_of m v = λ v held. w.others v (not_among v t (free_of m s) held (is.apart x t nx at)) in
       (free_of-same m k s stays, IsFreeList-same m k s is.free w.count stays)
 
 -- so many free frames are taken
-pub free_count-taken : (m k : List (List ℕ)) (s n : Frames) (j : ℕ) → length (free_of m s) ≡ j + length (free_of k n) → extra_of n ≡ extra_of s → IsFreeList k n → free_count m s ≡ j + free_count k n
-free_count-taken m k s n j e table is = omega (arith, e, ap (λ (t : List ℕ × ℕ). t.1) table, is.room, shared-is n)
+pub free_count-taken : (m k : Ram) (s n : Frames) (j : ℕ) → length (free_of m s) ≡ j + length (free_of k n) → extra_of n ≡ extra_of s → IsFreeList k n → free_count m s ≡ j + free_count k n
+free_count-taken m k s n j e table is = omega (arith, ap (λ (t : List ℕ × ℕ). t.1) table, shared-is n)
 
 -- ---- a write to a table of the lowest level
 
-pub record IsWritten (m k : List (List ℕ)) (r : ℕ) (s : Frames) (page t e : ℕ) : Type 0 where
+pub record IsWritten (m k : Ram) (r : ℕ) (s : Frames) (page t e : ℕ) : Type 0 where
   pub paged : IsPaged m r s
   pub low : table_at m r (low_node page) ≡ Some t
   pub write : Writes m k t (page % 512) e
 
-module _ {m k : List (List ℕ)} {r page t e : ℕ} {s : Frames} (w : IsWritten m k r s page t e) where
+module _ {m k : Ram} {r page t e : ℕ} {s : Frames} (w : IsWritten m k r s page t e) where
   written : Changes m k r (low_node page) t (page % 512)
   written = record {
     tree = w.paged.tree;
@@ -332,14 +332,14 @@ module _ {m k : List (List ℕ)} {r page t e : ℕ} {s : Frames} (w : IsWritten 
 -- ---- a table that comes or goes
 
 -- the table after x is another one, and what is mapped stays
-pub record Turns (m k : List (List ℕ)) (r : ℕ) (s n : Frames) (x : Node) (c : ℕ) (o : Option ℕ) : Type 0 where
+pub record Turns (m k : Ram) (r : ℕ) (s n : Frames) (x : Node) (c : ℕ) (o : Option ℕ) : Type 0 where
   pub paged : IsPaged k r n
   pub keeps : Keeps m k r s n
   pub same : SameMap m k r
   pub now : table_at k r (next_node x c) ≡ o
   pub beside : (y : Node) → IsNode y → y ≢ next_node x c → table_at k r y ≡ table_at m r y
 
-module _ {m k l : List (List ℕ)} {r : ℕ} {s q n : Frames} (one : Keeps m k r s q) (two : Keeps k l r q n) where
+module _ {m k l : Ram} {r : ℕ} {s q n : Frames} (one : Keeps m k r s q) (two : Keeps k l r q n) where
   pub Keeps-twice : Keeps m l r s n
   Keeps-twice = record {
     count = two.count ∙ one.count;
@@ -348,7 +348,7 @@ module _ {m k l : List (List ℕ)} {r : ℕ} {s q n : Frames} (one : Keeps m k r
   }
 
 -- an empty table in the first free frame u, to which entry c of the table t at x leads now
-pub record Attaches (m k : List (List ℕ)) (r : ℕ) (s n : Frames) (x : Node) (t c u : ℕ) : Type 0 where
+pub record Attaches (m k : Ram) (r : ℕ) (s n : Frames) (x : Node) (t c u : ℕ) : Type 0 where
   pub paged : IsPaged m r s
   pub node : IsNode x
   pub upper : IsUpper x
@@ -359,7 +359,7 @@ pub record Attaches (m k : List (List ℕ)) (r : ℕ) (s n : Frames) (x : Node) 
   pub valid : IsFreeList k n
   pub extra : extra_of n ≡ extra_of s
 
-module _ {m k : List (List ℕ)} {r t c u : ℕ} {s n : Frames} {x : Node} (w : Attaches m k r s n x t c u) where
+module _ {m k : Ram} {r t c u : ℕ} {s n : Frames} {x : Node} (w : Attaches m k r s n x t c u) where
   new : (y : Node) (v : ℕ) → IsNode y → table_at m r y ≡ Some v → v ≢ u
   new y v ny h e = cc (w.paged.apart y v ny h, ap (among u) w.taken, among_first u (free_of k n))
 
@@ -392,7 +392,7 @@ module _ {m k : List (List ℕ)} {r t c u : ℕ} {s n : Frames} {x : Node} (w : 
   pub attached : Turns m k r s n x c (Some u)
   attached =
       let first = free-first w.paged.free u (free_of k n) w.taken in
-      let split : (v : ℕ) → among v (free_of m s) ≡ false → (v ≢ u) × (among v (free_of k n) ≡ false) = λ (v : ℕ) (h : among v (free_of m s) ≡ false). among_first_not v u (free_of k n) (rw w.taken at h) in
+      let split : (v : ℕ) → among v (free_of m s) ≡ false → (v ≢ u) × (among v (free_of k n) ≡ false) = λ v h. among_first_not v u (free_of k n) (rw w.taken at h) in
       record {
         paged = record {
           tree = record {
@@ -424,7 +424,7 @@ module _ {m k : List (List ℕ)} {r t c u : ℕ} {s n : Frames} {x : Node} (w : 
       }
 
 -- the table u, to which entry c of the table t at x leads, maps nothing: the entry is cleared, and its frame is given back
-pub record Detaches (m k l : List (List ℕ)) (r : ℕ) (s n : Frames) (x : Node) (t c u : ℕ) : Type 0 where
+pub record Detaches (m k l : Ram) (r : ℕ) (s n : Frames) (x : Node) (t c u : ℕ) : Type 0 where
   pub paged : IsPaged m r s
   pub node : IsNode x
   pub upper : IsUpper x
@@ -438,7 +438,7 @@ pub record Detaches (m k l : List (List ℕ)) (r : ℕ) (s n : Frames) (x : Node
   pub valid : IsFreeList l n
   pub extra : extra_of n ≡ extra_of s
 
-module _ {m k l : List (List ℕ)} {r t c u : ℕ} {s n : Frames} {x : Node} (w : Detaches m k l r s n x t c u) where
+module _ {m k l : Ram} {r t c u : ℕ} {s n : Frames} {x : Node} (w : Detaches m k l r s n x t c u) where
   away : (y : Node) (v : ℕ) → IsNode y → table_at m r y ≡ Some v → y ≢ next_node x c → v ≢ u
   away y v ny h ne e = ne (w.paged.tree.once y (next_node x c) u ny w.after (rw (← e) h) w.there)
 
@@ -499,13 +499,13 @@ module _ {m k l : List (List ℕ)} {r t c u : ℕ} {s n : Frames} {x : Node} (w 
 -- ---- a page table outlives what is done beside it
 
 -- the tables keep their bytes
-abbrev pub KeepsTables : List (List ℕ) → List (List ℕ) → ℕ → Type 0
+abbrev pub KeepsTables : Ram → Ram → ℕ → Type 0
 KeepsTables m k r = (v : ℕ) → HasTable m r v → frame_of k v ≡ frame_of m v
 
-held_at : (m : List (List ℕ)) (r : ℕ) (x : Node) (v : ℕ) → IsNode x → table_at m r x ≡ Some v → HasTable m r v
+held_at : (m : Ram) (r : ℕ) (x : Node) (v : ℕ) → IsNode x → table_at m r x ≡ Some v → HasTable m r v
 held_at m r x v nx at = record { place = x; is_node = nx; at_place = at }
 
-module _ (m k : List (List ℕ)) (r : ℕ) (same : KeepsTables m k r) where
+module _ (m k : Ram) (r : ℕ) (same : KeepsTables m k r) where
   pub table_at-same : SameTables m k r
   unfolding table_at
   table_at-same Root nx = refl
