@@ -27,6 +27,7 @@ pub use Rattle.pagetable.specs.Shape.{Adds, IsEmpty, IsTidy, IsUsed, Removes, ta
 unfoldable pub use Rattle.pagetable.specs.Shape.{made}
 pub use Rattle.pagetable.specs.Tree.{HasTable, IsLeafMarks, IsNode, IsPaged, IsTree, Keeps, leaf_at, Low, low_node, Maps, Mid, mid_node, Node, Root, SameMap, SameTables}
 unfoldable pub use Rattle.pagetable.specs.Tree.{lookup_of, missing, table_at}
+pub use Rattle.ram.proofs.MemoryLemmas.{Ram}
 pub use Rattle.ram.specs.Memory.{frame_of, IsMemory}
 unfoldable pub use Rattle.ram.specs.Memory.{put, put_bytes, sized, word_bytes, word_of}
 pub use Rattle.sv39.specs.Mapping.{allowed, frame_for, IsCoherent, Mapped, memory_of, page_in, WalksTo}
@@ -39,7 +40,7 @@ pub use Rattle.vm.specs.Dense.{entries_below, frame_at, frames_for, held, IsDens
 pub use Rattle.vm.specs.Dense.{page_with, pages_below, read_at, read_by, SameLeaves, SameLeavesUpTo, tables_for, trap_marks, trap_page}
 unfoldable pub use Rattle.vm.specs.Dense.{frames_below, read_below, tables_below}
 pub use Rattle.vm.specs.Fork.{IsMore, IsPart, IsSoFar}
-pub use Rattle.vm.specs.Leaf.{entry_marks, is_open, IsUserLeaf, mapped_as, marks_from, right_marks, user_leaf}
+pub use Rattle.vm.specs.Leaf.{entry_marks, mapped_as, is_open, IsUserLeaf, marks_from, right_marks, user_leaf}
 pub use Rattle.vm.specs.Reach.{IsSized, piece_at, rest_of, short_string, written}
 unfoldable pub use Rattle.vm.specs.Reach.{run_of}
 pub use Rattle.vm.specs.Shares.{all_held, frames_used, FreeAreTheRest, held_at, IsMachine, IsPlace, NewSpaceSettles, OnePlaceForks, OnePlaceSpares, OnePlaceSparesOthers, OnePlaceTrades, OthersSpare, OthersTrade}

@@ -1,9 +1,9 @@
 -- The pages as a list.
-use Rattle.vm.proofs.Common.{◌≡◌, ◌+◌, ℕ, Bool, true, false, List, replicate, refl, sym, ap, subst, ◌∙◌, arith, rules, ◌&&◌, ◌||◌, ◌*◌, one_if, not, and_parts, Access, Fetch, Load, Store, Perm, Page, permits, shared_marks, zeros, zero_page}
-use Rattle.vm.proofs.Common.{leaf_allows, IsLeafMarks, page_with, IsUserLeaf, entry_marks, is_open, right_marks, user_leaf, [], add-one, cases_eq, frame_at, get_or, get_or-map-range_with_len, get_or_from_slice_get, inl, inr, IsDense}
-use Rattle.vm.proofs.Common.{IsMemory, IsOpenFrom, IsSized, length, length-map-range_with_len, lookup-sound, map, map-range_with_len_more, Mapped, marks_at, memory_of, page_at, page_in, pages_below, range_with_len, read_at, read_below}
-use Rattle.vm.proofs.Common.{SameLeaves, slice_get_within, suc, take, take-map-range_with_len, zero, ◌++◌, ◌<◌, ◌∷◌, ◌≢◌, ◌≤◌, allowed, cases_lt, entries_below, eqb-true, frame_for, Held, if◌then◌else◌, is_canonical, IsCoherent, lookup_of}
-use Rattle.vm.proofs.Common.{None, option_map, or_cases, slice_get, slice_get-get_or, slice_get-map, slice_get_past, Some, trap_marks, trap_page, WalksTo, ◌%◌, ◌-◌, ◌/◌, ◌==◌, ◌^◌, ◌⊎◌}
+use Rattle.vm.proofs.Common.{Ram, ◌≡◌, ◌+◌, ℕ, Bool, true, false, List, replicate, refl, sym, ap, subst, ◌∙◌, arith, rules, ◌&&◌, ◌||◌, ◌*◌, one_if, not, and_parts, Access, Fetch, Load, Store, Perm, Page, permits, shared_marks, zeros}
+use Rattle.vm.proofs.Common.{zero_page, leaf_allows, IsLeafMarks, page_with, IsUserLeaf, entry_marks, is_open, right_marks, user_leaf, [], add-one, cases_eq, frame_at, get_or, get_or-map-range_with_len, get_or_from_slice_get, inl, inr}
+use Rattle.vm.proofs.Common.{IsDense, IsMemory, IsOpenFrom, IsSized, length, length-map-range_with_len, lookup-sound, map, map-range_with_len_more, Mapped, marks_at, memory_of, page_at, page_in, pages_below, range_with_len, read_at}
+use Rattle.vm.proofs.Common.{read_below, SameLeaves, slice_get_within, suc, take, take-map-range_with_len, zero, ◌++◌, ◌<◌, ◌∷◌, ◌≢◌, ◌≤◌, allowed, cases_lt, entries_below, eqb-true, frame_for, Held, if◌then◌else◌, is_canonical, IsCoherent}
+use Rattle.vm.proofs.Common.{lookup_of, None, option_map, or_cases, slice_get, slice_get-get_or, slice_get-map, slice_get_past, Some, trap_marks, trap_page, WalksTo, ◌%◌, ◌-◌, ◌/◌, ◌==◌, ◌^◌, ◌⊎◌}
 use Rattle.pagetable.specs.Marks.{leaf_marks}
 use Rattle.std.proofs.lemmas.Simd.{map-map}
 use Rattle.pagetable.specs.Agree.{given_frame, translation}
@@ -27,22 +27,22 @@ both P h false = h.1
 four : (P : Bool → Bool → Bool → Bool → Type 0) → Both (λ w. Both (λ x. Both (λ u. Both (P w x u)))) → (w x u wide : Bool) → P w x u wide
 four P h w x u = both (P w x u) (both (λ u. Both (P w x u)) (both (λ x. Both (λ u. Both (P w x u))) (both (λ w. Both (λ x. Both (λ u. Both (P w x u)))) h w) x) u)
 
--- and of five
-five : (P : Bool → Bool → Bool → Bool → Bool → Type 0) → Both (λ w. Both (λ x. Both (λ u. Both (λ s. Both (P w x u s))))) → (w x u s wide : Bool) → P w x u s wide
-five P h w = four (P w) (both (λ w. Both (λ x. Both (λ u. Both (λ s. Both (P w x u s))))) h w)
+-- and for all marks of an open or a closed leaf
+marked : (P : Perm → Bool → Type 0) → Both (λ w. Both (λ x. Both (λ u. Both (λ s. Both (P (marks_by w x u s)))))) → (marks : Perm) (wide : Bool) → P marks wide
+marked P h marks = four (λ x u s. P (marks_by marks.writable x u s)) (both (λ w. Both (λ x. Both (λ u. Both (λ s. Both (P (marks_by w x u s)))))) h marks.writable) marks.executable marks.user marks.shared
 
 -- what a program may do is read back off the leaf
 pub right-leaf : (marks : Perm) (wide : Bool) → right_marks (user_leaf marks wide) ≡ marks
-right-leaf marks = five (λ w x u s wide. right_marks (user_leaf (marks_by w x u s) wide) ≡ marks_by w x u s) (search rules) marks.writable marks.executable marks.user marks.shared
+right-leaf = marked (λ marks wide. right_marks (user_leaf marks wide) ≡ marks) (search rules)
 
 pub leaf-user : (marks : Perm) (wide : Bool) → IsUserLeaf (user_leaf marks wide)
-leaf-user marks = five (λ w x u s wide. IsUserLeaf (user_leaf (marks_by w x u s) wide)) (search rules) marks.writable marks.executable marks.user marks.shared
+leaf-user = marked (λ marks wide. IsUserLeaf (user_leaf marks wide)) (search rules)
 
 pub leaf-valid : (marks : Perm) (wide : Bool) → IsLeafMarks (user_leaf marks wide)
-leaf-valid marks = five (λ w x u s wide. IsLeafMarks (user_leaf (marks_by w x u s) wide)) (search rules) marks.writable marks.executable marks.user marks.shared
+leaf-valid = marked (λ marks wide. IsLeafMarks (user_leaf marks wide)) (search rules)
 
 open-each : (marks : Perm) (wide : Bool) → is_open (user_leaf marks wide) ≡ (marks.writable && (wide || not marks.shared))
-open-each marks = five (λ w x u s wide. is_open (user_leaf (marks_by w x u s) wide) ≡ (w && (wide || not s))) (search rules) marks.writable marks.executable marks.user marks.shared
+open-each = marked (λ marks wide. is_open (user_leaf marks wide) ≡ (marks.writable && (wide || not marks.shared))) (search rules)
 
 -- a leaf is open where it is made so and the page is writable by right
 pub leaf-open : (marks : Perm) → is_open (user_leaf marks true) ≡ marks.writable
@@ -73,15 +73,13 @@ page-zero marks = ap (λ (x : Perm). page_of (replicate 4096 0) x) (right-leaf m
 
 -- ---- what the walk lets through
 
-allows-each : (a : Access) (w x u s wide : Bool) → leaf_allows a (user_leaf (marks_by w x u s) wide) ≡ permits a (entry_marks (user_leaf (marks_by w x u s) wide))
-allows-each Fetch = five (λ w x u s wide. leaf_allows Fetch (user_leaf (marks_by w x u s) wide) ≡ permits Fetch (entry_marks (user_leaf (marks_by w x u s) wide))) (search rules)
-allows-each Load = five (λ w x u s wide. leaf_allows Load (user_leaf (marks_by w x u s) wide) ≡ permits Load (entry_marks (user_leaf (marks_by w x u s) wide))) (search rules)
-allows-each Store = five (λ w x u s wide. leaf_allows Store (user_leaf (marks_by w x u s) wide) ≡ permits Store (entry_marks (user_leaf (marks_by w x u s) wide))) (search rules)
+allows-each : (a : Access) (marks : Perm) (wide : Bool) → leaf_allows a (user_leaf marks wide) ≡ permits a (entry_marks (user_leaf marks wide))
+allows-each Fetch = marked (λ marks wide. leaf_allows Fetch (user_leaf marks wide) ≡ permits Fetch (entry_marks (user_leaf marks wide))) (search rules)
+allows-each Load = marked (λ marks wide. leaf_allows Load (user_leaf marks wide) ≡ permits Load (entry_marks (user_leaf marks wide))) (search rules)
+allows-each Store = marked (λ marks wide. leaf_allows Store (user_leaf marks wide) ≡ permits Store (entry_marks (user_leaf marks wide))) (search rules)
 
 pub leaf-allows : (a : Access) (leaf : ℕ) → IsUserLeaf leaf → leaf_allows a leaf ≡ permits a (entry_marks leaf)
-leaf-allows a leaf is =
-    let m = right_marks leaf in
-    subst (λ (l : ℕ). leaf_allows a l ≡ permits a (entry_marks l)) (sym is) (allows-each a m.writable m.executable m.user m.shared (is_open leaf))
+leaf-allows a leaf is = subst (λ (l : ℕ). leaf_allows a l ≡ permits a (entry_marks l)) (sym is) (allows-each a (right_marks leaf) (is_open leaf))
 
 -- an open page is writable by right
 pub open-right : (leaf : ℕ) → IsUserLeaf leaf → is_open leaf ≡ true → (right_marks leaf).writable ≡ true
@@ -99,15 +97,15 @@ open-unshared leaf is none =
     let g = right_marks leaf in
     ap is_open is ∙ open-each g (is_open leaf) ∙ open-by g.writable (is_open leaf) g.shared none
 
-pub mapping-map : (read : ℕ → Perm) (m : List (List ℕ)) (r n : ℕ) → read_below read m r n ≡ map (read_at read m r) (range_with_len 0 n)
+pub mapping-map : (read : ℕ → Perm) (m : Ram) (r n : ℕ) → read_below read m r n ≡ map (read_at read m r) (range_with_len 0 n)
 unfolding read_below
 mapping-map read m r zero = refl
 mapping-map read m r (suc n) = ap (λ l. l ++ (read_at read m r n ∷ [])) (mapping-map read m r n) ∙ sym (map-range_with_len_more (read_at read m r) 0 n n (omega arith)) ∙ ap (λ k. map (read_at read m r) (range_with_len 0 k)) (add-one n)
 
-pub pages-map : (m : List (List ℕ)) (r n : ℕ) → pages_below m r n ≡ map (page_at m r) (range_with_len 0 n)
+pub pages-map : (m : Ram) (r n : ℕ) → pages_below m r n ≡ map (page_at m r) (range_with_len 0 n)
 pages-map m r n = ap (memory_of m) (mapping-map right_marks m r n) ∙ map-map (page_in m) (read_at right_marks m r) (range_with_len 0 n)
 
-module _ (m : List (List ℕ)) (r n : ℕ) where
+module _ (m : Ram) (r n : ℕ) where
   pub length-pages : length (pages_below m r n) ≡ n
   length-pages = ap length (pages-map m r n) ∙ length-map-range_with_len (page_at m r) 0 n
 
@@ -117,7 +115,7 @@ module _ (m : List (List ℕ)) (r n : ℕ) where
   pub take-pages : (k : ℕ) → k ≤ n → take k (pages_below m r n) ≡ pages_below m r k
   take-pages k h = ap (take k) (pages-map m r n) ∙ take-map-range_with_len (page_at m r) 0 n k h ∙ sym (pages-map m r k)
 
-module _ (read : ℕ → Perm) (m : List (List ℕ)) (r n : ℕ) where
+module _ (read : ℕ → Perm) (m : Ram) (r n : ℕ) where
   pub length-mapping : length (read_below read m r n) ≡ n
   length-mapping = ap length (mapping-map read m r n) ∙ length-map-range_with_len (read_at read m r) 0 n
 
@@ -128,7 +126,7 @@ module _ (read : ℕ → Perm) (m : List (List ℕ)) (r n : ℕ) where
   take-mapping k h = ap (take k) (mapping-map read m r n) ∙ take-map-range_with_len (read_at read m r) 0 n k h ∙ sym (mapping-map read m r k)
 
 -- each has 4096 bytes
-pub pages-sized : (m : List (List ℕ)) (r t n : ℕ) → IsMemory m → IsDense m r t n → IsSized (pages_below m r n)
+pub pages-sized : (m : Ram) (r t n : ℕ) → IsMemory m → IsDense m r t n → IsSized (pages_below m r n)
 pages-sized m r t n memory is i p at =
     let low : i < n = omega (arith, slice_get_within (pages_below m r n) i p at, length-pages m r n) in
     let same : page_at m r i ≡ p = sym (get_or-pages m r n i p low) ∙ get_or_from_slice_get (pages_below m r n) i p p at in
@@ -137,10 +135,10 @@ pages-sized m r t n memory is i p at =
 -- ---- pages that are open stay so
 
 -- pages whose leaves are read as before are as open as before
-pub open-read : (m k : List (List ℕ)) (r n first : ℕ) → SameLeaves m k r n → IsOpenFrom m r n first → IsOpenFrom k r n first
+pub open-read : (m k : Ram) (r n first : ℕ) → SameLeaves m k r n → IsOpenFrom m r n first → IsOpenFrom k r n first
 open-read m k r n first same is p high low =
     let d : Mapped = read_at right_marks m r p in
-    let marks : (read : ℕ → Perm) → read (marks_at k r p) ≡ read (marks_at m r p) = λ (read : ℕ → Perm). ap (λ (e : Mapped). e.marks) (sym (get_or-mapping read k r n p d low) ∙ ap (λ (l : List Mapped). get_or l p d) (same read) ∙ get_or-mapping read m r n p d low) in
+    let marks : (read : ℕ → Perm) → read (marks_at k r p) ≡ read (marks_at m r p) = λ read. ap (λ (e : Mapped). e.marks) (sym (get_or-mapping read k r n p d low) ∙ ap (λ (l : List Mapped). get_or l p d) (same read) ∙ get_or-mapping read m r n p d low) in
     ap (λ (a : Perm). a.writable) (marks entry_marks) ∙ is p high low ∙ sym (ap (λ (a : Perm). a.writable) (marks right_marks))
 
 -- a leaf that is made open is so where the page is writable by right
@@ -148,14 +146,14 @@ made-open : (leaf : ℕ) (g : Perm) → leaf ≡ user_leaf g true → is_open le
 made-open leaf g made = ap is_open made ∙ leaf-open g ∙ sym (ap (λ (l : ℕ). (right_marks l).writable) made ∙ ap (λ (a : Perm). a.writable) (right-leaf g true))
 
 -- one page more, which is open
-pub open-more : (m k : List (List ℕ)) (r n first : ℕ) (g : Perm) → SameLeaves m k r n → marks_at k r n ≡ user_leaf g true → IsOpenFrom m r n first → IsOpenFrom k r (n + 1) first
+pub open-more : (m k : Ram) (r n first : ℕ) (g : Perm) → SameLeaves m k r n → marks_at k r n ≡ user_leaf g true → IsOpenFrom m r n first → IsOpenFrom k r (n + 1) first
 open-more m k r n first g same made is p high low = elim (cases_eq p n) [
   | inl e ↦ made-open (marks_at k r p) g (ap (marks_at k r) e ∙ made)
-  | inr ne ↦ open-read m k r n first same is p high (omega (arith, low, ne))
+  | inr ne ↦ open-read m k r n first same is p high (omega arith)
 ]
 
 -- one page is opened, and the others are as they were
-pub open-one : (m k : List (List ℕ)) (r n p first : ℕ) (g : Perm) → marks_at k r p ≡ user_leaf g true → ((q : ℕ) → q < n → q ≢ p → marks_at k r q ≡ marks_at m r q) → IsOpenFrom m r n first → IsOpenFrom k r n first
+pub open-one : (m k : Ram) (r n p first : ℕ) (g : Perm) → marks_at k r p ≡ user_leaf g true → ((q : ℕ) → q < n → q ≢ p → marks_at k r q ≡ marks_at m r q) → IsOpenFrom m r n first → IsOpenFrom k r n first
 open-one m k r n p first g made others is q high low = elim (cases_eq q p) [
   | inl e ↦ made-open (marks_at k r q) g (ap (marks_at k r) e ∙ made)
   | inr ne ↦
@@ -164,8 +162,8 @@ open-one m k r n p first g made others is q high low = elim (cases_eq q p) [
 ]
 
 -- fewer pages
-pub open-fewer : (m : List (List ℕ)) (r n k first : ℕ) → k ≤ n → IsOpenFrom m r n first → IsOpenFrom m r k first
-open-fewer m r n k first less is p high low = is p high (omega (arith, low, less))
+pub open-fewer : (m : Ram) (r n k first : ℕ) → k ≤ n → IsOpenFrom m r n first → IsOpenFrom m r k first
+open-fewer m r n k first less is p high low = is p high (omega arith)
 
 -- ---- the walk goes by the mapping of a space
 
@@ -174,13 +172,13 @@ open-fewer m r n k first less is p high low = is p high (omega (arith, low, less
 abbrev mapped_of : ℕ → Perm → Mapped
 mapped_of f a = record { frame = f; marks = a }
 
-module _ (read : ℕ → Perm) (m : List (List ℕ)) (r n p : ℕ) where
+module _ (read : ℕ → Perm) (m : Ram) (r n p : ℕ) where
   pub get-mapping : p < n → slice_get (read_below read m r n) p ≡ Some (read_at read m r p)
   get-mapping h =
-      slice_get-get_or (read_below read m r n) p (read_at read m r p) (omega (arith, h, length-mapping read m r n)) ∙ ap Some (get_or-mapping read m r n p (read_at read m r p) h)
+      slice_get-get_or (read_below read m r n) p (read_at read m r p) (omega (arith, length-mapping read m r n)) ∙ ap Some (get_or-mapping read m r n p (read_at read m r p) h)
 
   pub mapping-past : n ≤ p → slice_get (read_below read m r n) p ≡ None
-  mapping-past h = slice_get_past (read_below read m r n) p (omega (arith, h, length-mapping read m r n))
+  mapping-past h = slice_get_past (read_below read m r n) p (omega (arith, length-mapping read m r n))
 
   pub mapping-within : (e : Mapped) → slice_get (read_below read m r n) p ≡ Some e → p < n
   mapping-within e h = omega (arith, slice_get_within (read_below read m r n) p e h, length-mapping read m r n)
@@ -194,10 +192,10 @@ pub mapped-parts : {f g : ℕ} {a b : Perm} → f ≡ g → a ≡ b → mapped_o
 mapped-parts {g} {a} e h = ap (λ x. mapped_of x a) e ∙ ap (mapped_of g) h
 
 -- an entry of the mapping is a page of the memory
-pub mapped-page : (m : List (List ℕ)) (mapping : List Mapped) (p : ℕ) (e : Mapped) → Some e ≡ slice_get mapping p → slice_get (memory_of m mapping) p ≡ Some (page_in m e)
+pub mapped-page : (m : Ram) (mapping : List Mapped) (p : ℕ) (e : Mapped) → Some e ≡ slice_get mapping p → slice_get (memory_of m mapping) p ≡ Some (page_in m e)
 mapped-page m mapping p e h = slice_get-map (page_in m) mapping p ∙ ap (option_map (page_in m)) (sym h)
 
-pub unmapped-page : (m : List (List ℕ)) (mapping : List Mapped) (p : ℕ) → None ≡ slice_get mapping p → slice_get (memory_of m mapping) p ≡ None
+pub unmapped-page : (m : Ram) (mapping : List Mapped) (p : ℕ) → None ≡ slice_get mapping p → slice_get (memory_of m mapping) p ≡ None
 unmapped-page m mapping p h = slice_get-map (page_in m) mapping p ∙ ap (option_map (page_in m)) (sym h)
 
 -- ---- the walk
@@ -206,7 +204,7 @@ framed : (b : Bool) (e : Mapped) → option_map (λ x. x.frame) (if b then Some 
 framed true e = refl
 framed false e = refl
 
-frame-mapped : (m : List (List ℕ)) (r n p : ℕ) (a : Access) → p < n → frame_for (entries_below m r n) p a ≡ (if permits a (entry_marks (marks_at m r p)) then Some (frame_at m r p) else None)
+frame-mapped : (m : Ram) (r n p : ℕ) (a : Access) → p < n → frame_for (entries_below m r n) p a ≡ (if permits a (entry_marks (marks_at m r p)) then Some (frame_at m r p) else None)
 frame-mapped m r n p a h =
     ap (λ o. option_map (λ x. x.frame) (allowed a o)) (get-mapping entry_marks m r n p h)
     ∙ framed (permits a (entry_marks (marks_at m r p))) (read_at entry_marks m r p)
@@ -217,7 +215,7 @@ trap-closed Fetch = refl
 trap-closed Load = refl
 trap-closed Store = refl
 
-lookup-low : (m : List (List ℕ)) (r p : ℕ) → lookup_of m r p ≡ lookup_of m r (p % 2 ^ 27)
+lookup-low : (m : Ram) (r p : ℕ) → lookup_of m r p ≡ lookup_of m r (p % 2 ^ 27)
 unfolding lookup_of
 lookup-low m r p =
     let q = p % 2 ^ 27 in
@@ -232,7 +230,7 @@ canonical-low p e = elim (or_cases (p / 2 ^ 26 == 0) (p / 2 ^ 26 == 2 ^ 26 - 1) 
   | inr top ↦ inr (omega (arith, eqb-true (p / 2 ^ 26) (2 ^ 26 - 1) top))
 ]
 
-module _ {m : List (List ℕ)} {r t n : ℕ} (is : IsDense m r t n) where
+module _ {m : Ram} {r t n : ℕ} (is : IsDense m r t n) where
   closed : (q : ℕ) (a : Access) → n ≤ q → q < 2 ^ 27 → translation a (lookup_of m r q) ≡ None
   closed q a high low = elim (cases_eq q trap_page) [
     | inl e ↦ ap (λ p. translation a (lookup_of m r p)) e ∙ ap (translation a) is.trap ∙ ap (λ b. if b then Some t else None) (trap-closed a)
@@ -242,16 +240,14 @@ module _ {m : List (List ℕ)} {r t n : ℕ} (is : IsDense m r t n) where
   given-past : (p : ℕ) (a : Access) (b : Bool) → n ≤ p → is_canonical p ≡ b → (if b then translation a (lookup_of m r p) else None) ≡ None
   given-past p a false high e = refl
   given-past p a true high e =
-      let small : n ≤ 32768 = is.small in
-      ap (translation a) (lookup-low m r p) ∙ closed (p % 2 ^ 27) a (elim (canonical-low p e) [ inl low ↦ omega (arith, low, high) | inr top ↦ omega (arith, top, small) ]) (omega arith)
+      ap (translation a) (lookup-low m r p) ∙ closed (p % 2 ^ 27) a (elim (canonical-low p e) [ inl low ↦ omega arith | inr top ↦ omega arith ]) (omega arith)
 
   given-mapped : (p : ℕ) (a : Access) → p < n → given_frame m r p a ≡ (if permits a (entry_marks (marks_at m r p)) then Some (frame_at m r p) else None)
   given-mapped p a h =
-      let small : n ≤ 32768 = is.small in
-      let low : p / 2 ^ 26 ≡ 0 = omega (arith, h, small) in
+      let low : p / 2 ^ 26 ≡ 0 = omega arith in
       rw low (ap (translation a) (is.pages p h) ∙ ap (λ b. if b then Some (frame_at m r p) else None) (leaf-allows a (marks_at m r p) (is.leaves p h)))
 
-pub walks-entries : (m : List (List ℕ)) (r t n : ℕ) → length m ≤ 32768 → IsDense m r t n → WalksTo m r (entries_below m r n)
+pub walks-entries : (m : Ram) (r t n : ℕ) → length m ≤ 32768 → IsDense m r t n → WalksTo m r (entries_below m r n)
 walks-entries m r t n small is = record {
   walks = λ p a. walk_page-tree p a small is.tree ∙ (elim (cases_lt p n) [
     | inl low ↦ given-mapped is p a low ∙ sym (frame-mapped m r n p a low)

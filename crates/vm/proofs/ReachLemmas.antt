@@ -23,9 +23,9 @@ first-drop (x ∷ xs) (suc q) = first-drop xs q
 pub get-take : {A : Type 0} (xs : List A) (n p : ℕ) → p < n → slice_get (take n xs) p ≡ slice_get xs p
 get-take [] zero p h = refl
 get-take [] (suc n) p h = refl
-get-take (x ∷ xs) zero p h = absurd (omega (arith, h))
+get-take (x ∷ xs) zero p h = absurd (omega arith)
 get-take (x ∷ xs) (suc n) zero h = refl
-get-take (x ∷ xs) (suc n) (suc p) h = get-take xs n p (omega (arith, h))
+get-take (x ∷ xs) (suc n) (suc p) h = get-take xs n p (omega arith)
 
 abbrev flat : Access → List Page → List ℕ
 flat access xs = flat_map (λ p. p.bytes) (take_while (λ p. permits access p.marks) xs)
@@ -56,20 +56,20 @@ length-flat a (x ∷ xs) h = elim (cases_Bool (permits a x.marks)) [
 
 flat-drop : (a : Access) (xs : List Page) (i : ℕ) → IsSized xs → i ≤ run a xs → flat a (drop i xs) ≡ drop (4096 * i) (flat a xs)
 flat-drop a xs zero h le = refl
-flat-drop a [] (suc i) h le = absurd (omega (arith, le))
+flat-drop a [] (suc i) h le = absurd (omega arith)
 flat-drop a (x ∷ xs) (suc i) h le = elim (cases_Bool (permits a x.marks)) [
   | inl is ↦
       let size : length x.bytes ≡ 4096 = h 0 x refl in
-      let low : i ≤ run a xs = omega (arith, le, (flat-yes a x xs is).1) in
+      let low : i ≤ run a xs = omega (arith, (flat-yes a x xs is).1) in
       let more : 4096 * suc i ≡ 4096 + 4096 * i = omega arith in
       let front : drop 4096 (x.bytes ++ flat a xs) ≡ flat a xs = drop_at x.bytes (flat a xs) 4096 size in
       rw (more, ← drop-drop (4096 * i) 4096 (flat a (x ∷ xs)), (flat-yes a x xs is).0, front) (flat-drop a xs i (λ k p e. h (suc k) p e) low)
-  | inr isnt ↦ absurd (omega (arith, le, (flat-no a x xs isnt).1))
+  | inr isnt ↦ absurd (omega (arith, (flat-no a x xs isnt).1))
 ]
 
 same_test : (a b c d : ℕ) → (a ≤ b → c ≤ d) → (c ≤ d → a ≤ b) → leb a b ≡ leb c d
 same_test a b c d f g = elim (cases_lt b a) [
-  | inl more ↦ lt-leb a b more ∙ sym (lt-leb c d (elim (cases_lt d c) [ inl h ↦ h | inr h ↦ absurd (omega (arith, more, g h)) ]))
+  | inl more ↦ lt-leb a b more ∙ sym (lt-leb c d (elim (cases_lt d c) [ inl h ↦ h | inr h ↦ absurd (omega (arith, g h)) ]))
   | inr less ↦ le-leb a b less ∙ sym (le-leb c d (f less))
 ]
 
@@ -78,16 +78,16 @@ flat-front a [] o l h le = ap (take l) (drop_all o [] (omega arith))
 flat-front a (x ∷ xs) o l h le = elim (cases_Bool (permits a x.marks)) [
   | inl is ↦
       let size : length x.bytes ≡ 4096 = h 0 x refl in
-      let long : l ≤ length (drop o x.bytes) = omega (arith, length-drop o x.bytes, size) in
-      rw ((flat-yes a x xs is).0, is, drop-append-le o x.bytes (flat a xs) (omega (arith, size))) (take-append-le l (drop o x.bytes) (flat a xs) long)
+      let long : l ≤ length (drop o x.bytes) = omega (arith, length-drop o x.bytes) in
+      rw ((flat-yes a x xs is).0, is, drop-append-le o x.bytes (flat a xs) (omega arith)) (take-append-le l (drop o x.bytes) (flat a xs) long)
   | inr isnt ↦ rw ((flat-no a x xs isnt).0, isnt) (ap (take l) (drop_all o [] (omega arith)))
 ]
 
 sized-at : (o : Option Page) → ((p : Page) → o ≡ Some p → length p.bytes ≡ 4096) → (a : Access) (at : ℕ) → at < 4096 → at + length (rest_of at (permitted a o)) ≤ 4096
-sized-at None h a at low = omega (arith, low)
+sized-at None h a at low = omega arith
 sized-at (Some p) h a at low = elim (cases_Bool (permits a p.marks)) [
-  | inl is ↦ rw is (omega (arith, low, h p refl, length-drop at p.bytes))
-  | inr isnt ↦ rw isnt (omega (arith, low))
+  | inl is ↦ rw is (omega (arith, h p refl, length-drop at p.bytes))
+  | inr isnt ↦ rw isnt (omega arith)
 ]
 
 module _ (a : Access) (mem : Memory) where
@@ -96,14 +96,14 @@ module _ (a : Access) (mem : Memory) where
   unfolding run_of
   run-test first i p h at =
       let xs = drop first mem in
-      let test : Page → Bool = λ (q : Page). permits a q.marks in
+      let test : Page → Bool = λ q. permits a q.marks in
       let item = item-at mem (first + i) p at in
       let here : test p ≡ test (get_or xs i p) = ap test (sym (get_or-drop first mem i p ∙ item.2)) in
       elim (cases_lt i (run a xs)) [
-        | inl low ↦ here ∙ prefix_len_passes test xs i p low ∙ sym (le-leb (suc i) (run a xs) (omega (arith, low)))
+        | inl low ↦ here ∙ prefix_len_passes test xs i p low ∙ sym (le-leb (suc i) (run a xs) (omega arith))
         | inr high ↦
-            let same : run a xs ≡ i = omega (arith, h, high) in
-            here ∙ ap (λ j. test (get_or xs j p)) (sym same) ∙ prefix_len_stops test xs p (omega (arith, item.1, same, length-drop first mem)) ∙ sym (lt-leb (suc i) (run a xs) (omega (arith, high)))
+            let same : run a xs ≡ i = omega arith in
+            here ∙ ap (λ j. test (get_or xs j p)) (sym same) ∙ prefix_len_stops test xs p (omega (arith, length-drop first mem)) ∙ sym (lt-leb (suc i) (run a xs) (omega arith))
       ]
 
   -- it is no longer than the pages from there on
@@ -116,10 +116,10 @@ module _ (a : Access) (mem : Memory) where
   run-more first i p h at ok = omega (arith, leb-true (suc i) (run_of a mem first) (sym (run-test first i p h at) ∙ ok))
 
   pub run-stop : (first i : ℕ) (p : Page) → i ≤ run_of a mem first → slice_get mem (first + i) ≡ Some p → permits a p.marks ≡ false → run_of a mem first ≡ i
-  run-stop first i p h at ok = omega (arith, h, leb-false (suc i) (run_of a mem first) (sym (run-test first i p h at) ∙ ok))
+  run-stop first i p h at ok = omega (arith, leb-false (suc i) (run_of a mem first) (sym (run-test first i p h at) ∙ ok))
 
   pub run-end : (first i : ℕ) → i ≤ run_of a mem first → slice_get mem (first + i) ≡ None → run_of a mem first ≡ i
-  run-end first i h at = omega (arith, h, run-le first, item-past mem (first + i) at)
+  run-end first i h at = omega (arith, run-le first, item-past mem (first + i) at)
 
   -- whether a page begins one
   pub page-allows : (page : ℕ) (p : Page) (b : Bool) → slice_get mem page ≡ Some p → permits a p.marks ≡ b → b ≡ leb 1 (run_of a mem page)
@@ -136,18 +136,18 @@ module _ (a : Access) (mem : Memory) where
 
   -- the test whether so many bytes can be reached
   pub test-long : (at len : ℕ) → IsSized mem → 4096 * length mem < len → false ≡ leb len (length (reach a mem at))
-  test-long at len h long = sym (lt-leb len (length (reach a mem at)) (omega (arith, long, length-reach at h, run-le (at / 4096))))
+  test-long at len h long = sym (lt-leb len (length (reach a mem at)) (omega (arith, length-reach at h, run-le (at / 4096))))
 
   pub test-reach : (at len most run : ℕ) → IsSized mem → 0 < len → at % 4096 + len ≤ 4096 * most → run ≡ min most (run_of a mem (at / 4096)) → leb (at % 4096 + len) (4096 * run) ≡ leb len (length (reach a mem at))
   test-reach at len most run h some enough is =
       let reached = length-reach at h in
-      same_test (at % 4096 + len) (4096 * run) len (length (reach a mem at)) (λ le. omega (arith, le, reached, is, some)) (λ le. omega (arith, le, reached, is, some, enough))
+      same_test (at % 4096 + len) (4096 * run) len (length (reach a mem at)) (λ le. omega arith) (λ le. omega arith)
 
   -- and whether those of one page can
   pub test-page : (at len : ℕ) → IsSized mem → 0 < len → at % 4096 + len ≤ 4096 → leb 1 (run_of a mem (at / 4096)) ≡ leb len (length (reach a mem at))
   test-page at len h some within =
       let reached = length-reach at h in
-      same_test 1 (run_of a mem (at / 4096)) len (length (reach a mem at)) (λ le. omega (arith, le, reached, within)) (λ le. omega (arith, le, reached, some))
+      same_test 1 (run_of a mem (at / 4096)) len (length (reach a mem at)) (λ le. omega arith) (λ le. omega arith)
 
   -- what is reached from a later address
   pub reach-drop : (at d : ℕ) → IsSized mem → d ≤ length (reach a mem at) → reach a mem (at + d) ≡ drop d (reach a mem at)
@@ -159,7 +159,7 @@ module _ (a : Access) (mem : Memory) where
       let j = (o + d) % 4096 in
       let xs = drop q mem in
       let size : length (drop o (flat a xs)) ≡ 4096 * run a xs - o = omega (arith, length-drop o (flat a xs), length-flat a xs (sized-drop mem q h)) in
-      let low : i ≤ run a xs = omega (arith, le, size) in
+      let low : i ≤ run a xs = omega arith in
       let page : (at + d) / 4096 ≡ q + i = omega arith in
       let place : (at + d) % 4096 ≡ j = omega arith in
       let whole : 4096 * i + j ≡ o + d = omega arith in
@@ -179,25 +179,25 @@ module _ (a : Access) (mem : Memory) where
   -- while bytes are left to reach, the rest of the page has some
   pub piece-some : (at : ℕ) → IsSized mem → 0 < length (reach a mem at) → 0 < length (piece_at a mem at)
   piece-some at h some =
-      omega (arith, some, ap length (reach-front at 1 h (omega arith)), length-take 1 (reach a mem at), length-take 1 (piece_at a mem at))
+      omega (arith, ap length (reach-front at 1 h (omega arith)), length-take 1 (reach a mem at), length-take 1 (piece_at a mem at))
 
   -- what was reached so far, and the next piece
   pub reach-next : (at d l : ℕ) → IsSized mem → d ≤ length (reach a mem at) → l ≤ length (piece_at a mem (at + d)) → take d (reach a mem at) ++ take l (piece_at a mem (at + d)) ≡ take (d + l) (reach a mem at)
   reach-next at d l h low le =
-      ap (λ x. take d (reach a mem at) ++ x) (sym (reach-front (at + d) l h (omega (arith, le, length-piece (at + d) h))) ∙ ap (take l) (reach-drop at d h low))
+      ap (λ x. take d (reach a mem at) ++ x) (sym (reach-front (at + d) l h (omega (arith, length-piece (at + d) h))) ∙ ap (take l) (reach-drop at d h low))
       ∙ sym (take-add d l (reach a mem at))
 
   -- while bytes are left to reach, the next lies in a page, and the rest of its page has some
   pub reach-page : (at d : ℕ) → IsSized mem → d < length (reach a mem at) → ((at + d) / 4096 < length mem) × (0 < length (piece_at a mem (at + d)))
   reach-page at d h low =
-      let left : 0 < length (reach a mem (at + d)) = omega (arith, low, ap length (reach-drop at d h (omega arith)), length-drop d (reach a mem at)) in
-      (omega (arith, left, length-reach (at + d) h, run-le ((at + d) / 4096)), piece-some (at + d) h left)
+      let left : 0 < length (reach a mem (at + d)) = omega (arith, ap length (reach-drop at d h (omega arith)), length-drop d (reach a mem at)) in
+      (omega (arith, length-reach (at + d) h, run-le ((at + d) / 4096)), piece-some (at + d) h left)
 
 -- bytes that a program may write lie in pages that there are
 pub page-there : (mem : Memory) (at count i : ℕ) → IsSized mem → can_write mem at count ≡ true → i < count → (at + i) / 4096 < length mem
 page-there mem at count i h can low =
     let whole : count ≤ length (reach Store mem at) = leb-true count (length (reach Store mem at)) can in
-    (reach-page Store mem at i h (omega (arith, whole, low))).0
+    (reach-page Store mem at i h (omega arith)).0
 
 -- ---- a string is read byte by byte
 
@@ -238,7 +238,7 @@ before-more (suc x) xs ne = refl
 long-string : (front : List ℕ) (x most : ℕ) (o : Option (List ℕ)) → most ≤ length front → short_string most (option_map (λ r. front ++ r) (option_map (λ r. x ∷ r) o)) ≡ None
 long-string front x most None h = refl
 long-string front x most (Some r) h =
-    ap (λ b. if b then Some (front ++ (x ∷ r)) else None) (lt-leb (length (front ++ (x ∷ r))) most (omega (arith, h, length-append front (x ∷ r))))
+    ap (λ b. if b then Some (front ++ (x ∷ r)) else None) (lt-leb (length (front ++ (x ∷ r))) most (omega (arith, length-append front (x ∷ r))))
 
 module _ {bytes buffer : List ℕ} {i : ℕ} (was : Strings bytes buffer i) where
   -- one more byte
@@ -247,8 +247,8 @@ module _ {bytes buffer : List ℕ} {i : ℕ} (was : Strings bytes buffer i) wher
       let s = split bytes i x at in
       let one : i + 1 ≡ suc i = omega arith in
       rw one (record {
-        within = omega (arith, s.2);
-        same = take-suc-set buffer i x room ∙ ap (λ l. l ++ (x ∷ [])) was.same ∙ sym (s.1);
+        within = omega arith;
+        same = take-suc-set buffer i x room ∙ ap (λ l. l ++ (x ∷ [])) was.same ∙ sym s.1;
         rest = rw (was.rest, s.0, before-more x (drop (suc i) bytes) ne, s.1) (twice (take i bytes) x (before_nul (drop (suc i) bytes)));
       })
 
@@ -260,18 +260,18 @@ module _ {bytes buffer : List ℕ} {i : ℕ} (was : Strings bytes buffer i) wher
   pub string-ends : (most : ℕ) → i ≤ most → slice_get bytes i ≡ Some 0 → short_string most (before_nul bytes) ≡ Some (take i buffer)
   string-ends most fits e =
       let s = split bytes i 0 e in
-      let found : before_nul bytes ≡ Some (take i buffer) = was.rest ∙ ap (λ l. option_map (λ r. take i bytes ++ r) (before_nul l)) (s.0) ∙ ap Some (append-nil (take i bytes) ∙ sym was.same) in
-      let short : leb (length (take i buffer)) most ≡ true = le-leb (length (take i buffer)) most (omega (arith, fits, length-take i buffer)) in
+      let found : before_nul bytes ≡ Some (take i buffer) = was.rest ∙ ap (λ l. option_map (λ r. take i bytes ++ r) (before_nul l)) s.0 ∙ ap Some (append-nil (take i bytes) ∙ sym was.same) in
+      let short : leb (length (take i buffer)) most ≡ true = le-leb (length (take i buffer)) most (omega (arith, length-take i buffer)) in
       ap (short_string most) found ∙ ap (λ b. if b then Some (take i buffer) else None) short
 
   -- it is not there in time
   pub string-long : {x : ℕ} → slice_get bytes i ≡ Some x → x ≢ 0 → short_string i (before_nul bytes) ≡ None
   string-long {x} e ne =
       let s = split bytes i x e in
-      ap (short_string i) (was.rest ∙ ap (λ l. option_map (λ r. take i bytes ++ r) (before_nul l)) (s.0) ∙ ap (option_map (λ r. take i bytes ++ r)) (before-more x (drop (suc i) bytes) ne))
-      ∙ long-string (take i bytes) x i (before_nul (drop (suc i) bytes)) (omega (arith, was.within, length-take i bytes))
+      ap (short_string i) (was.rest ∙ ap (λ l. option_map (λ r. take i bytes ++ r) (before_nul l)) s.0 ∙ ap (option_map (λ r. take i bytes ++ r)) (before-more x (drop (suc i) bytes) ne))
+      ∙ long-string (take i bytes) x i (before_nul (drop (suc i) bytes)) (omega (arith, length-take i bytes))
 
 -- the next address is one of 64 bits
 pub string-fits : (a : Access) (mem : Memory) (at i : ℕ) → IsSized mem → length mem ≤ 32768 → at < 2 ^ 64 → i ≤ length (reach a mem at) → at + i < 2 ^ 64
-string-fits a mem at zero h small fits low = omega (arith, fits)
-string-fits a mem at (suc i) h small fits low = omega (arith, (reach-page a mem at i h (omega (arith, low))).0, small)
+string-fits a mem at zero h small fits low = omega arith
+string-fits a mem at (suc i) h small fits low = omega (arith, (reach-page a mem at i h (omega arith)).0)

@@ -1,10 +1,10 @@
 -- Pages and the trap frame are written: the space stands.
-use Rattle.vm.proofs.Common.{[], among, among-none, ap, arith, cases_eq, cases_lt, count_of, count_of-first, entry_marks, ext_get_or, frame_at, frame_of, Frames, frames_below, free_of, free_of-same, further_at, get_or, get_or-set_other}
-use Rattle.vm.proofs.Common.{get_or-set_same, HasTable, held, holders-free, holders_of, holds, inl, inr, is_open, IsDense, IsFreeList, IsFreeList-same, IsMapped, IsOnce, IsSpace, length, length-set, List, lookup-sound, ltb, marks_at}
-use Rattle.vm.proofs.Common.{one-holder, one_if, OwnsFrames, Page, page_at, page_with, pages_below, pages_in, pages_of, refl, right_marks, slice_set, Space, Stands, sym, Trades, Trades-none, Trades-twice, true, ℕ, ◌<◌, ◌∙◌, ◌∷◌, ◌≡◌, ◌≢◌}
-use Rattle.vm.proofs.Common.{◌≤◌, get_or-map-range_with_len, IsMemory, length-map-range_with_len, put, put_bytes, registers_of, suc, trap_page, word_bytes, word_of, zero, ◌*◌, ◌+◌, ◌^◌, ◌⊎◌, append_assoc, drop, drop-drop, drop-set-lt}
-use Rattle.vm.proofs.Common.{drop_all, length-append, length-drop, length-take, mapping_of, Memory, min, overwrite, read_at, Reframes, SameLeaves, sized, slice_get, Some, take, take-append-drop, take-suc-set, take_all, write_bytes}
-use Rattle.vm.proofs.Common.{write_from, written, ◌%◌, ◌++◌, ◌-◌, ◌/◌}
+use Rattle.vm.proofs.Common.{mapping_of, read_at, Ram, [], among, among-none, ap, arith, cases_eq, cases_lt, count_of, count_of-first, entry_marks, ext_get_or, frame_at, frame_of, Frames, frames_below, free_of, free_of-same, further_at, get_or}
+use Rattle.vm.proofs.Common.{get_or-set_other, get_or-set_same, HasTable, held, holders-free, holders_of, holds, inl, inr, is_open, IsDense, IsFreeList, IsFreeList-same, IsMapped, IsOnce, IsSpace, length, length-set, List, lookup-sound}
+use Rattle.vm.proofs.Common.{ltb, marks_at, one-holder, one_if, OwnsFrames, Page, page_at, page_with, pages_below, pages_in, pages_of, refl, right_marks, slice_set, Space, Stands, sym, Trades, Trades-none, Trades-twice, true, ℕ, ◌<◌, ◌∙◌}
+use Rattle.vm.proofs.Common.{◌∷◌, ◌≡◌, ◌≢◌, ◌≤◌, get_or-map-range_with_len, IsMemory, length-map-range_with_len, put, put_bytes, registers_of, suc, trap_page, word_bytes, word_of, zero, ◌*◌, ◌+◌, ◌^◌, ◌⊎◌, append_assoc, drop, drop-drop}
+use Rattle.vm.proofs.Common.{drop-set-lt, drop_all, length-append, length-drop, length-take, Memory, min, overwrite, Reframes, SameLeaves, sized, slice_get, Some, take, take-append-drop, take-suc-set, take_all, write_bytes, write_from}
+use Rattle.vm.proofs.Common.{written, ◌%◌, ◌++◌, ◌-◌, ◌/◌}
 use Rattle.vm.proofs.DenseLemmas.{owns-as, stays-put, StaysPut, count-held, frame_at-same, held-not_free, IsDense-same, marks_at-same, page-held, pages-apart, pages_below-same, table-held}
 use Rattle.vm.proofs.PageLemmas.{get_or-pages, length-pages, get-mapping, mapped-page}
 use Rattle.ram.proofs.MemoryLemmas.{frame_of-put_same, get_or-put_bytes_above, get_or-put_bytes_below, length-word_bytes, word_of-put_beside, word_of-put_same, sized-full}
@@ -12,22 +12,22 @@ use Rattle.vm.specs.TrapFrame.{IsSpare, saved_pc, saved_register, saved_register
 use Rattle.vm.proofs.ReachLemmas.{item-at}
 
 -- only frames of pages and the trap frame have other bytes now
-pub record Writes (m k : List (List ℕ)) (r t n : ℕ) : Type 0 where
+pub record Writes (m k : Ram) (r t n : ℕ) : Type 0 where
   pub count : length k ≡ length m
   pub others : (f : ℕ) → count_of f (t ∷ frames_below m r n) ≡ 0 → frame_of k f ≡ frame_of m f
 
-module _ {m k : List (List ℕ)} {r t n : ℕ} (is : IsDense m r t n) (once : (f : ℕ) → count_of f (held m r t n) ≤ 1) (w : Writes m k r t n) where
+module _ {m k : Ram} {r t n : ℕ} (is : IsDense m r t n) (once : (f : ℕ) → count_of f (held m r t n) ≤ 1) (w : Writes m k r t n) where
   tables-stay : (v : ℕ) → HasTable m r v → frame_of k v ≡ frame_of m v
-  tables-stay v h = w.others v (omega (arith, once v, count-held m r t n v, table-held is h))
+  tables-stay v h = w.others v (omega (arith, once v, count-held, table-held is h))
 
   pub writes-put : StaysPut m k r t n
   writes-put = stays-put is k (tables-stay)
 
-module _ {m k : List (List ℕ)} {r t n : ℕ} {s : Frames} (is : OwnsFrames m r t n s) (w : Writes m k r t n) where
+module _ {m k : Ram} {r t n : ℕ} {s : Frames} (is : OwnsFrames m r t n s) (w : Writes m k r t n) where
   free-stays : (g : ℕ) → among g (free_of m s) ≡ true → frame_of k g ≡ frame_of m g
   free-stays g at = elim (cases_eq (count_of g (t ∷ frames_below m r n)) 0) [
     | inl none ↦ w.others g none
-    | inr some ↦ absurd (cc (at, among-none g (free_of m s) (omega (arith, some, held-not_free is g, count-held m r t n g))))
+    | inr some ↦ absurd (cc (at, among-none g (free_of m s) (omega (arith, held-not_free is g, count-held))))
   ]
 
   -- the space stands beside free frames and other holders where frames with several holders aren't written
@@ -36,21 +36,21 @@ module _ {m k : List (List ℕ)} {r t n : ℕ} {s : Frames} (is : OwnsFrames m r
       let same = (writes-put is.dense is.once w).held in
       let stays = free-stays in
       let free : IsFreeList k s = IsFreeList-same m k s is.free w.count stays in
-      let holders : (v : ℕ) → holders_of k s v ≡ holders_of m s v = λ (v : ℕ). omega (arith, holders-free is.free v, holders-free free v, ap (count_of v) (free_of-same m k s stays), ap (λ l. one_if (ltb v l)) w.count) in (
-        owns-as is w.count (tables-stay is.dense is.once w) free (λ v some alone. alone) (λ v. omega (arith, is.held v, holders v)),
+      let holders : (v : ℕ) → holders_of k s v ≡ holders_of m s v = λ v. omega (arith, holders-free is.free v, holders-free free v, ap (count_of v) (free_of-same m k s stays), ap (λ l. one_if (ltb v l)) w.count) in (
+        owns-as is w.count (tables-stay is.dense is.once w) free (λ v some alone. alone) (λ v. omega (arith, holders v)),
         record {
           count = w.count;
           moved = λ v. omega (arith, holders v, ap (count_of v) same);
           others = λ v h. elim (cases_eq (further_at s v) 0) [
-            | inl one ↦ w.others v (omega (arith, h, count-held m r t n v, one-holder is.free v one))
+            | inl one ↦ w.others v (omega (arith, count-held, one-holder is.free v one))
             | inr more ↦ private v more
           ];
-          fresh = λ v none some. absurd (omega (arith, none, some, ap (count_of v) same));
+          fresh = λ v none some. absurd (omega (arith, ap (count_of v) same));
         },
       )
 
 -- the space stands where only its pages and its trap frame are written, and those alone that it alone holds
-pub stands : (m k : List (List ℕ)) (s : Space) → IsMapped m s → IsOnce m s → Writes m k s.root.0 s.trap.0 (pages_in s.size) → ((free : Frames) → IsSpace m s free → (f : ℕ) → further_at free f ≢ 0 → frame_of k f ≡ frame_of m f) → Stands m k s
+pub stands : (m k : Ram) (s : Space) → IsMapped m s → IsOnce m s → Writes m k s.root.0 s.trap.0 (pages_in s.size) → ((free : Frames) → IsSpace m s free → (f : ℕ) → further_at free f ≢ 0 → frame_of k f ≡ frame_of m f) → Stands m k s
 stands m k s is once w private =
     let put = writes-put is once w in
     record {
@@ -65,49 +65,49 @@ stands m k s is once w private =
     }
 
 -- a page's frame is one of the memory, is neither another page's nor the trap frame
-pub page-inside : (m : List (List ℕ)) (r t n p : ℕ) → IsDense m r t n → p < n → frame_at m r p < length m
+pub page-inside : (m : Ram) (r t n p : ℕ) → IsDense m r t n → p < n → frame_at m r p < length m
 page-inside m r t n p is low = (lookup-sound is.tree p (is.pages p low)).0
 
-pub page-apart : (m : List (List ℕ)) (r t n p q : ℕ) → ((f : ℕ) → count_of f (held m r t n) ≤ 1) → p < n → q < n → q ≢ p → frame_at m r q ≢ frame_at m r p
+pub page-apart : (m : Ram) (r t n p q : ℕ) → ((f : ℕ) → count_of f (held m r t n) ≤ 1) → p < n → q < n → q ≢ p → frame_at m r q ≢ frame_at m r p
 page-apart m r t n p q once low high ne e =
-    let one : (x : ℕ) → count_of x (frames_below m r n) ≤ 1 = λ (x : ℕ). omega (arith, once x, count-held m r t n x) in
+    let one : (x : ℕ) → count_of x (frames_below m r n) ≤ 1 = λ x. omega (arith, once x, count-held) in
     elim (cases_lt p q) [
       | inl less ↦ pages-apart m r n p q one less high (sym e)
       | inr more ↦ pages-apart m r n q p one (omega arith) low e
     ]
 
-pub pages-same : (m : List (List ℕ)) (r t n p q : ℕ) → ((f : ℕ) → count_of f (held m r t n) ≤ 1) → p < n → q < n → frame_at m r p ≡ frame_at m r q → p ≡ q
+pub pages-same : (m : Ram) (r t n p q : ℕ) → ((f : ℕ) → count_of f (held m r t n) ≤ 1) → p < n → q < n → frame_at m r p ≡ frame_at m r q → p ≡ q
 pages-same m r t n p q once low high same = elim (cases_eq p q) [ inl e ↦ e | inr ne ↦ absurd (page-apart m r t n q p once high low ne same) ]
 
-pub trap-apart : (m : List (List ℕ)) (r t n p : ℕ) → ((f : ℕ) → count_of f (held m r t n) ≤ 1) → p < n → t ≢ frame_at m r p
+pub trap-apart : (m : Ram) (r t n p : ℕ) → ((f : ℕ) → count_of f (held m r t n) ≤ 1) → p < n → t ≢ frame_at m r p
 trap-apart m r t n p once low e =
-    omega (arith, once t, count-held m r t n t, count_of-first t t [] refl, page-held m r n p low, ap (λ x. count_of x (frames_below m r n)) e)
+    omega (arith, once t, count-held, count_of-first t t [] refl, page-held m r n p low, ap (λ x. count_of x (frames_below m r n)) e)
 
-pub Writes-page : (m k : List (List ℕ)) (r t n p : ℕ) (w : List ℕ) → p < n → k ≡ slice_set m (frame_at m r p) w → Writes m k r t n
+pub Writes-page : (m k : Ram) (r t n p : ℕ) (w : List ℕ) → p < n → k ≡ slice_set m (frame_at m r p) w → Writes m k r t n
 Writes-page m k r t n p w low e =
     let f = frame_at m r p in
     record {
       count = rw e (length-set m f w);
-      others = λ v none. rw e (get_or-set_other m f v w [] (λ z. omega (arith, none, page-held m r n p low, ap (λ x. count_of x (frames_below m r n)) z)));
+      others = λ v none. rw e (get_or-set_other m f v w [] (λ z. omega (arith, page-held m r n p low, ap (λ x. count_of x (frames_below m r n)) z)));
     }
 
-pub Writes-trap : (m k : List (List ℕ)) (r t n : ℕ) (w : List ℕ) → k ≡ slice_set m t w → Writes m k r t n
+pub Writes-trap : (m k : Ram) (r t n : ℕ) (w : List ℕ) → k ≡ slice_set m t w → Writes m k r t n
 Writes-trap m k r t n w e = record {
   count = rw e (length-set m t w);
-  others = λ v none. rw e (get_or-set_other m t v w [] (λ z. omega (arith, none, count_of-first v t (frames_below m r n) z)));
+  others = λ v none. rw e (get_or-set_other m t v w [] (λ z. omega (arith, count_of-first v t (frames_below m r n) z)));
 }
 
 -- one frame is written, and it has one holder
-pub private-set : (m k : List (List ℕ)) (s : Frames) (f : ℕ) (w : List ℕ) → further_at s f ≡ 0 → k ≡ slice_set m f w → (v : ℕ) → further_at s v ≢ 0 → frame_of k v ≡ frame_of m v
+pub private-set : (m k : Ram) (s : Frames) (f : ℕ) (w : List ℕ) → further_at s f ≡ 0 → k ≡ slice_set m f w → (v : ℕ) → further_at s v ≢ 0 → frame_of k v ≡ frame_of m v
 private-set m k s f w one e v more = rw e (get_or-set_other m f v w [] (λ z. more (ap (further_at s) z ∙ one)))
 
 -- a store into an open page keeps the space
-pub space-stored : (m k : List (List ℕ)) (s : Space) (p : ℕ) (w : List ℕ) → IsMapped m s → IsOnce m s → p < pages_in s.size → is_open (marks_at m s.root.0 p) ≡ true → k ≡ slice_set m (frame_at m s.root.0 p) w → Stands m k s
+pub space-stored : (m k : Ram) (s : Space) (p : ℕ) (w : List ℕ) → IsMapped m s → IsOnce m s → p < pages_in s.size → is_open (marks_at m s.root.0 p) ≡ true → k ≡ slice_set m (frame_at m s.root.0 p) w → Stands m k s
 space-stored m k s p w is once low wide e =
     stands m k s is once (Writes-page m k s.root.0 s.trap.0 (pages_in s.size) p w low e) (λ free h. private-set m k free (frame_at m s.root.0 p) w (h.alone p low wide) e)
 
 -- and sets that page's bytes
-pub pages-stored : (m k : List (List ℕ)) (s : Space) (p : ℕ) (w : List ℕ) → IsMapped m s → IsOnce m s → p < pages_in s.size → k ≡ slice_set m (frame_at m s.root.0 p) w
+pub pages-stored : (m k : Ram) (s : Space) (p : ℕ) (w : List ℕ) → IsMapped m s → IsOnce m s → p < pages_in s.size → k ≡ slice_set m (frame_at m s.root.0 p) w
     → pages_of k s ≡ slice_set (pages_of m s) p (page_with w (marks_at m s.root.0 p))
 pages-stored m k s p w is once low e =
     let r = s.root.0 in
@@ -117,27 +117,27 @@ pages-stored m k s p w is once low e =
     let d : Page = page_with w (marks_at m r p) in
     let old = pages_below m r n in
     let looks = (writes-put is once (Writes-page m k r t n p w low e)).looks in
-    let page : (q : ℕ) → page_at k r q ≡ page_with (frame_of k (frame_at m r q)) (marks_at m r q) = λ (q : ℕ). ap (λ x. page_with (frame_of k x) (marks_at k r q)) (frame_at-same m k r q (looks q)) ∙ ap (page_with (frame_of k (frame_at m r q))) (marks_at-same m k r q (looks q)) in
+    let page : (q : ℕ) → page_at k r q ≡ page_with (frame_of k (frame_at m r q)) (marks_at m r q) = λ q. ap (λ x. page_with (frame_of k x) (marks_at k r q)) (frame_at-same m k r q (looks q)) ∙ ap (page_with (frame_of k (frame_at m r q))) (marks_at-same m k r q (looks q)) in
     let here : page_at k r p ≡ d = page p ∙ ap (λ b. page_with b (marks_at m r p)) (ap (λ x. frame_of x f) e ∙ get_or-set_same m f w [] (page-inside m r t n p is low)) in
-    let others : (q : ℕ) → q < n → q ≢ p → page_at k r q ≡ page_at m r q = λ (q : ℕ) (h : q < n) (ne : q ≢ p). page q ∙ ap (λ b. page_with b (marks_at m r q)) (ap (λ x. frame_of x (frame_at m r q)) e ∙ get_or-set_other m f (frame_at m r q) w [] (page-apart m r t n p q once low h ne)) in
+    let others : (q : ℕ) → q < n → q ≢ p → page_at k r q ≡ page_at m r q = λ q h ne. page q ∙ ap (λ b. page_with b (marks_at m r q)) (ap (λ x. frame_of x (frame_at m r q)) e ∙ get_or-set_other m f (frame_at m r q) w [] (page-apart m r t n p q once low h ne)) in
     ext_get_or d (pages_below k r n) (slice_set old p d) (length-pages k r n ∙ sym (length-set old p d ∙ length-pages m r n)) (λ q h.
-    let inside : q < n = omega (arith, h, length-pages k r n) in
+    let inside : q < n = omega (arith, length-pages k r n) in
     get_or-pages k r n q d inside ∙ (elim (cases_eq q p) [
-      | inl z ↦ ap (page_at k r) z ∙ here ∙ sym (ap (λ x. get_or (slice_set old p d) x d) z ∙ get_or-set_same old p d d (omega (arith, length-pages m r n, low)))
+      | inl z ↦ ap (page_at k r) z ∙ here ∙ sym (ap (λ x. get_or (slice_set old p d) x d) z ∙ get_or-set_same old p d d (omega (arith, length-pages m r n)))
       | inr ne ↦ others q inside ne ∙ sym (get_or-set_other old p q d d ne ∙ get_or-pages m r n q d inside)
     ]))
 
 -- the pages keep their bytes where only the trap frame is written
-pub pages-kept : (m k : List (List ℕ)) (s : Space) (w : List ℕ) → IsMapped m s → IsOnce m s → k ≡ slice_set m s.trap.0 w → pages_of k s ≡ pages_of m s
+pub pages-kept : (m k : Ram) (s : Space) (w : List ℕ) → IsMapped m s → IsOnce m s → k ≡ slice_set m s.trap.0 w → pages_of k s ≡ pages_of m s
 pages-kept m k s w is once e =
     pages_below-same m k s.root.0 (pages_in s.size)
     (λ p h. (writes-put is once (Writes-trap m k s.root.0 s.trap.0 (pages_in s.size) w e)).looks p)
     (λ p h. rw e (get_or-set_other m s.trap.0 (frame_at m s.root.0 p) w [] (λ z. trap-apart m s.root.0 s.trap.0 (pages_in s.size) p once h (sym z))))
 
-pub Stands-none : (m : List (List ℕ)) (s : Space) → IsMapped m s → IsOnce m s → Stands m m s
+pub Stands-none : (m : Ram) (s : Space) → IsMapped m s → IsOnce m s → Stands m m s
 Stands-none m s is once = record { count = refl; mapped = is; once = once; mapping = refl; entries = refl; frames = refl; space = λ free h. h; trades = λ free h. Trades-none m free (holds m s) }
 
-pub Stands-twice : (m k l : List (List ℕ)) (s : Space) → Stands m k s → Stands k l s → Stands m l s
+pub Stands-twice : (m k l : Ram) (s : Space) → Stands m k s → Stands k l s → Stands m l s
 Stands-twice m k l s a b = record {
   count = b.count ∙ a.count;
   mapped = b.mapped;
@@ -152,21 +152,21 @@ Stands-twice m k l s a b = record {
 -- ---- lemmas on trap frames
 
 -- the registers, one by one
-pub length-saved : (m : List (List ℕ)) (s : Space) → length (saved_registers m s) ≡ 32
+pub length-saved : (m : Ram) (s : Space) → length (saved_registers m s) ≡ 32
 unfolding saved_registers
 length-saved m s = ap suc (length-map-range_with_len (saved_register m s) 1 31)
 
-module _ (m : List (List ℕ)) (s : Space) (xs : List ℕ) (len : length xs ≡ 32) (none : get_or xs 0 0 ≡ 0) (same : (i : ℕ) → 0 < i → i < 32 → saved_register m s i ≡ get_or xs i 0) where
+module _ (m : Ram) (s : Space) (xs : List ℕ) (len : length xs ≡ 32) (none : get_or xs 0 0 ≡ 0) (same : (i : ℕ) → 0 < i → i < 32 → saved_register m s i ≡ get_or xs i 0) where
   each : (i : ℕ) → i < 32 → get_or (saved_registers m s) i 0 ≡ get_or xs i 0
   unfolding saved_registers
   each zero h = sym none
   each (suc i) h = get_or-map-range_with_len (saved_register m s) 1 31 i (suc i) 0 (omega arith) (omega arith) ∙ same (suc i) (omega arith) h
 
   pub saved-is : saved_registers m s ≡ xs
-  saved-is = ext_get_or 0 (saved_registers m s) xs (length-saved m s ∙ sym len) (λ i h. each i (omega (arith, h, length-saved m s)))
+  saved-is = ext_get_or 0 (saved_registers m s) xs (length-saved m s ∙ sym len) (λ i h. each i (omega (arith, length-saved m s)))
 
 -- a store into the trap frame leaves the pages
-pub trap-stored : (m k : List (List ℕ)) (s : Space) (o x : ℕ) → IsMapped m s → IsOnce m s → k ≡ put m s.trap.0 o (word_bytes 8 x) → Stands m k s × (pages_of k s ≡ pages_of m s)
+pub trap-stored : (m k : Ram) (s : Space) (o x : ℕ) → IsMapped m s → IsOnce m s → k ≡ put m s.trap.0 o (word_bytes 8 x) → Stands m k s × (pages_of k s ≡ pages_of m s)
 unfolding put
 trap-stored m k s o x is once e =
     let w = put_bytes (frame_of m s.trap.0) o (word_bytes 8 x) in
@@ -174,26 +174,26 @@ trap-stored m k s o x is once e =
     (stands m k s is once writes (λ free h. private-set m k free s.trap.0 w (h.own s.trap.0 (omega (arith, count_of-first s.trap.0 s.trap.0 [] refl))) e), pages-kept m k s w is once e)
 
 -- and the bytes beside it
-pub beside-stored : (m k : List (List ℕ)) (s : Space) (o x at : ℕ) → s.trap.0 < length m → length (frame_of m s.trap.0) ≡ 4096 → o + 8 ≤ 4096 → (at < o) ⊎ (o + 8 ≤ at) → k ≡ put m s.trap.0 o (word_bytes 8 x)
+pub beside-stored : (m k : Ram) (s : Space) (o x at : ℕ) → s.trap.0 < length m → length (frame_of m s.trap.0) ≡ 4096 → o + 8 ≤ 4096 → (at < o) ⊎ (o + 8 ≤ at) → k ≡ put m s.trap.0 o (word_bytes 8 x)
     → get_or (registers_of k s) at 0 ≡ get_or (registers_of m s) at 0
 beside-stored m k s o x at inside whole fits (inl low) e =
-    rw (e, frame_of-put_same m s.trap.0 o (word_bytes 8 x) inside) (get_or-put_bytes_below (frame_of m s.trap.0) o (word_bytes 8 x) at 0 (omega (arith, fits, whole, length-word_bytes 8 x)) low)
+    rw (e, frame_of-put_same m s.trap.0 o (word_bytes 8 x) inside) (get_or-put_bytes_below (frame_of m s.trap.0) o (word_bytes 8 x) at 0 (omega (arith, length-word_bytes 8 x)) low)
 beside-stored m k s o x at inside whole fits (inr high) e =
-    rw (e, frame_of-put_same m s.trap.0 o (word_bytes 8 x) inside) (get_or-put_bytes_above (frame_of m s.trap.0) o (word_bytes 8 x) at 0 (omega (arith, fits, whole, length-word_bytes 8 x)) (omega (arith, high, length-word_bytes 8 x)))
+    rw (e, frame_of-put_same m s.trap.0 o (word_bytes 8 x) inside) (get_or-put_bytes_above (frame_of m s.trap.0) o (word_bytes 8 x) at 0 (omega (arith, length-word_bytes 8 x)) (omega (arith, length-word_bytes 8 x)))
 
-pub trap-inside : (m : List (List ℕ)) (s : Space) → IsMapped m s → s.trap.0 < length m
+pub trap-inside : (m : Ram) (s : Space) → IsMapped m s → s.trap.0 < length m
 trap-inside m s is = (lookup-sound is.tree trap_page is.trap).0
 
 -- the program counter and the registers below i are in the trap frame, and all else is as it was
-pub record Saves (m k : List (List ℕ)) (s : Space) (xs : List ℕ) (pc i : ℕ) : Type 0 where
+pub record Saves (m k : Ram) (s : Space) (xs : List ℕ) (pc i : ℕ) : Type 0 where
   pub stands : Stands m k s
   pub pages : pages_of k s ≡ pages_of m s
   pub counter : saved_pc k s ≡ pc
   pub saved : (j : ℕ) → 0 < j → j < i → saved_register k s j ≡ get_or xs j 0
   pub spare : (at : ℕ) → IsSpare at → get_or (registers_of k s) at 0 ≡ get_or (registers_of m s) at 0
 
-pub saves-start : (m k : List (List ℕ)) (s : Space) (xs : List ℕ) (pc : ℕ) → IsMemory m → IsMapped m s → IsOnce m s → pc < 2 ^ 64 → k ≡ put m s.trap.0 24 (word_bytes 8 pc) → Saves m k s xs pc 1
-saves-start m k s xs pc memory is once small e =
+pub saves-start : {m k : Ram} {s : Space} {xs : List ℕ} {pc : ℕ} → IsMemory m → IsMapped m s → IsOnce m s → pc < 2 ^ 64 → k ≡ put m s.trap.0 24 (word_bytes 8 pc) → Saves m k s xs pc 1
+saves-start {m} {k} {s} {pc} memory is once small e =
     let inside = trap-inside m s is in
     let both = trap-stored m k s 24 pc is once e in
     record {
@@ -201,11 +201,11 @@ saves-start m k s xs pc memory is once small e =
       pages = both.1;
       counter = ap (λ n. word_of n s.trap.0 24 8) e ∙ word_of-put_same m s.trap.0 24 8 pc memory inside (omega arith) small;
       saved = λ j low high. absurd (omega arith);
-      spare = λ at free. beside-stored m k s 24 pc at inside (memory.sized s.trap.0 inside) (omega arith) (elim free [ inl a ↦ inl a | inr b ↦ elim b [ inl x ↦ inr (omega (arith, x.0)) | inr y ↦ inr (omega (arith, y)) ] ]) e;
+      spare = λ at free. beside-stored m k s 24 pc at inside (memory.sized s.trap.0 inside) (omega arith) (elim free [ inl a ↦ inl a | inr b ↦ elim b [ inl x ↦ inr (omega arith) | inr y ↦ inr (omega arith) ] ]) e;
     }
 
-module _ {m k : List (List ℕ)} {s : Space} {xs : List ℕ} {pc i : ℕ} (memory : IsMemory k) (was : Saves m k s xs pc i) where
-  pub saves-next : {l : List (List ℕ)} {x : ℕ} → 0 < i → i < 32 → x < 2 ^ 64 → x ≡ get_or xs i 0 → l ≡ put k s.trap.0 (32 + 8 * i) (word_bytes 8 x) → Saves m l s xs pc (i + 1)
+module _ {m k : Ram} {s : Space} {xs : List ℕ} {pc i : ℕ} (memory : IsMemory k) (was : Saves m k s xs pc i) where
+  pub saves-next : {l : Ram} {x : ℕ} → 0 < i → i < 32 → x < 2 ^ 64 → x ≡ get_or xs i 0 → l ≡ put k s.trap.0 (32 + 8 * i) (word_bytes 8 x) → Saves m l s xs pc (i + 1)
   saves-next {l} {x} low high small is e =
       let t = s.trap.0 in
       let o = 32 + 8 * i in
@@ -215,30 +215,30 @@ module _ {m k : List (List ℕ)} {s : Space} {xs : List ℕ} {pc i : ℕ} (memor
       record {
         stands = Stands-twice m k l s was.stands both.0;
         pages = both.1 ∙ was.pages;
-        counter = ap (λ n. word_of n t 24 8) e ∙ word_of-put_beside k t o (word_bytes 8 x) 24 8 memory inside (omega (arith, size)) (inl (omega arith)) ∙ was.counter;
+        counter = ap (λ n. word_of n t 24 8) e ∙ word_of-put_beside k t o (word_bytes 8 x) 24 8 memory inside (omega arith) (inl (omega arith)) ∙ was.counter;
         saved = λ j lo hi. elim (cases_eq j i) [
           | inl same ↦ ap (λ q. word_of l t (32 + 8 * q) 8) same ∙ ap (λ n. word_of n t o 8) e ∙ word_of-put_same k t o 8 x memory inside (omega arith) small ∙ is ∙ ap (λ q. get_or xs q 0) (sym same)
-          | inr ne ↦ ap (λ n. word_of n t (32 + 8 * j) 8) e ∙ word_of-put_beside k t o (word_bytes 8 x) (32 + 8 * j) 8 memory inside (omega (arith, size)) (inl (omega (arith, ne))) ∙ was.saved j lo (omega (arith, ne))
+          | inr ne ↦ ap (λ n. word_of n t (32 + 8 * j) 8) e ∙ word_of-put_beside k t o (word_bytes 8 x) (32 + 8 * j) 8 memory inside (omega arith) (inl (omega arith)) ∙ was.saved j lo (omega arith)
         ];
-        spare = λ at free. beside-stored k l s o x at inside (memory.sized t inside) (omega arith) (elim free [ inl a ↦ inl (omega (arith, a)) | inr b ↦ elim b [ inl x ↦ inl (omega (arith, x.1)) | inr y ↦ inr (omega (arith, y)) ] ]) e ∙ was.spare at free;
+        spare = λ at free. beside-stored k l s o x at inside (memory.sized t inside) (omega arith) (elim free [ inl a ↦ inl (omega arith) | inr b ↦ elim b [ inl x ↦ inl (omega arith) | inr y ↦ inr (omega arith) ] ]) e ∙ was.spare at free;
       }
 
 -- the registers below i of a list are those of the trap frame
-pub record Loads (m : List (List ℕ)) (s : Space) (xs : List ℕ) (i : ℕ) : Type 0 where
+pub record Loads (m : Ram) (s : Space) (xs : List ℕ) (i : ℕ) : Type 0 where
   pub count : length xs ≡ 32
   pub first : get_or xs 0 0 ≡ 0
   pub loaded : (j : ℕ) → 0 < j → j < i → saved_register m s j ≡ get_or xs j 0
 
-pub loads-start : (m : List (List ℕ)) (s : Space) (xs : List ℕ) → length xs ≡ 32 → Loads m s (slice_set xs 0 0) 1
-loads-start m s xs len = record { count = length-set xs 0 0 ∙ len; first = get_or-set_same xs 0 0 0 (omega (arith, len)); loaded = λ j low high. absurd (omega arith) }
+pub loads-start : (m : Ram) (s : Space) (xs : List ℕ) → length xs ≡ 32 → Loads m s (slice_set xs 0 0) 1
+loads-start m s xs len = record { count = length-set xs 0 0 ∙ len; first = get_or-set_same xs 0 0 0 (omega arith); loaded = λ j low high. absurd (omega arith) }
 
-pub loads-next : {m : List (List ℕ)} {s : Space} {xs : List ℕ} {i x : ℕ} → Loads m s xs i → 0 < i → i < 32 → x ≡ saved_register m s i → Loads m s (slice_set xs i x) (i + 1)
+pub loads-next : {m : Ram} {s : Space} {xs : List ℕ} {i x : ℕ} → Loads m s xs i → 0 < i → i < 32 → x ≡ saved_register m s i → Loads m s (slice_set xs i x) (i + 1)
 loads-next {m} {s} {xs} {i} {x} was low high is = record {
   count = length-set xs i x ∙ was.count;
   first = get_or-set_other xs i 0 x 0 (omega arith) ∙ was.first;
   loaded = λ j lo hi. elim (cases_eq j i) [
-    | inl same ↦ ap (saved_register m s) same ∙ sym is ∙ sym (ap (λ k. get_or (slice_set xs i x) k 0) same ∙ get_or-set_same xs i x 0 (omega (arith, was.count)))
-    | inr ne ↦ was.loaded j lo (omega (arith, ne)) ∙ sym (get_or-set_other xs i j x 0 ne)
+    | inl same ↦ ap (saved_register m s) same ∙ sym is ∙ sym (ap (λ k. get_or (slice_set xs i x) k 0) same ∙ get_or-set_same xs i x 0 (omega arith))
+    | inr ne ↦ was.loaded j lo (omega arith) ∙ sym (get_or-set_other xs i j x 0 ne)
   ];
 }
 
@@ -254,7 +254,7 @@ unfolding write_bytes
 write-none mem at = ap (λ ps. take (at / 4096) mem ++ ps) (write_from-none (drop (at / 4096) mem) (at % 4096)) ∙ take-append-drop (at / 4096) mem
 
 write_from-first : (p : Page) (ps : List Page) (at : ℕ) (bs : List ℕ) → 0 < length bs → write_from (p ∷ ps) at bs ≡ written p at (take (4096 - at) bs) ∷ write_from ps 0 (drop (4096 - at) bs)
-write_from-first p ps at [] h = absurd (omega (arith, h))
+write_from-first p ps at [] h = absurd (omega arith)
 write_from-first p ps at (b ∷ bs) h = refl
 
 -- the part that lies in the first page is written, and then the rest
@@ -278,21 +278,21 @@ pub write-page : (mem : Memory) (at n : ℕ) (p : Page) (bs : List ℕ) → 0 < 
 write-page mem at n p bs some here is = elim (cases_lt (length bs) (4096 - at % 4096)) [
   | inl short ↦
       let l = 4096 - at % 4096 in
-      let all : n ≡ length bs = omega (arith, is, short) in
-      let none : drop n bs ≡ [] = drop_all n bs (omega (arith, all)) in
-      let none_l : drop l bs ≡ [] = drop_all l bs (omega (arith, short)) in
-      let same : take n bs ≡ take l bs = take_all n bs (omega (arith, all)) ∙ sym (take_all l bs (omega (arith, short))) in
+      let all : n ≡ length bs = omega arith in
+      let none : drop n bs ≡ [] = drop_all n bs (omega arith) in
+      let none_l : drop l bs ≡ [] = drop_all l bs (omega arith) in
+      let same : take n bs ≡ take l bs = take_all n bs (omega arith) ∙ sym (take_all l bs (omega arith)) in
       let k = slice_set mem (at / 4096) (written p (at % 4096) (take n bs)) in
       rw (none, write-none k (at + n), same) (rw (none_l, write-none (slice_set mem (at / 4096) (written p (at % 4096) (take l bs))) (at + l)) at (whole-page mem at p bs some here))
   | inr long ↦
-      let e : n ≡ 4096 - at % 4096 = omega (arith, is, long) in
+      let e : n ≡ 4096 - at % 4096 = omega arith in
       rw e (whole-page mem at p bs some here)
 ]
 
 -- ---- the frames
 
 -- a page whose frame the space alone holds is written
-pub put-reframes : (m k : List (List ℕ)) (s : Space) (q : Frames) (p at : ℕ) (bs : List ℕ) → IsSpace m s q → p < pages_in s.size → further_at q (frame_at m s.root.0 p) ≡ 0 → k ≡ put m (frame_at m s.root.0 p) at bs → Reframes m k s q q
+pub put-reframes : (m k : Ram) (s : Space) (q : Frames) (p at : ℕ) (bs : List ℕ) → IsSpace m s q → p < pages_in s.size → further_at q (frame_at m s.root.0 p) ≡ 0 → k ≡ put m (frame_at m s.root.0 p) at bs → Reframes m k s q q
 unfolding put
 put-reframes m k s q p at bs is low sole e =
     let r = s.root.0 in
@@ -302,23 +302,23 @@ put-reframes m k s q p at bs is low sole e =
     let both = space-stays is (Writes-page m k r s.trap.0 n p w low e) (private-set m k q f w sole e) in
     record { space = both.0; registers = rw e (get_or-set_other m f s.trap.0 w [] (trap-apart m r s.trap.0 n p is.once low)); trades = both.1 }
 
--- the leaves are read as before
-pub put-reads : (m k : List (List ℕ)) (s : Space) (p at : ℕ) (bs : List ℕ) → IsMapped m s → IsOnce m s → p < pages_in s.size → k ≡ put m (frame_at m s.root.0 p) at bs → SameLeaves m k s.root.0 (pages_in s.size)
-unfolding put
-put-reads m k s p at bs is once low e = (writes-put is once (Writes-page m k s.root.0 s.trap.0 (pages_in s.size) p (put_bytes (frame_of m (frame_at m s.root.0 p)) at bs) low e)).reads
+module _ (m k : Ram) (s : Space) (p at : ℕ) (bs : List ℕ) (is : IsMapped m s) (once : IsOnce m s) (low : p < pages_in s.size) (e : k ≡ put m (frame_at m s.root.0 p) at bs) where
+  -- the leaves are read as before
+  pub put-reads : SameLeaves m k s.root.0 (pages_in s.size)
+  unfolding put
+  put-reads = (writes-put is once (Writes-page m k s.root.0 s.trap.0 (pages_in s.size) p (put_bytes (frame_of m (frame_at m s.root.0 p)) at bs) low e)).reads
 
-pub put-written : (m k : List (List ℕ)) (s : Space) (p at : ℕ) (bs : List ℕ) → IsMapped m s → IsOnce m s → p < pages_in s.size → k ≡ put m (frame_at m s.root.0 p) at bs
-    → pages_of k s ≡ slice_set (pages_of m s) p (written (page_at m s.root.0 p) at bs)
-unfolding put put_bytes
-put-written m k s p at bs is once low e =
-    let bytes = frame_of m (frame_at m s.root.0 p) in
-    let same : put_bytes bytes at bs ≡ overwrite bytes at bs = sym (append_assoc (take at bytes) bs (drop (at + length bs) bytes)) in
-    pages-stored m k s p (put_bytes bytes at bs) is once low e
-    ∙ ap (λ b. slice_set (pages_of m s) p (page_with b (marks_at m s.root.0 p))) same
+  pub put-written : pages_of k s ≡ slice_set (pages_of m s) p (written (page_at m s.root.0 p) at bs)
+  unfolding put put_bytes
+  put-written =
+      let bytes = frame_of m (frame_at m s.root.0 p) in
+      let same : put_bytes bytes at bs ≡ overwrite bytes at bs = sym (append_assoc (take at bytes) bs (drop (at + length bs) bytes)) in
+      pages-stored m k s p (put_bytes bytes at bs) is once low e
+      ∙ ap (λ b. slice_set (pages_of m s) p (page_with b (marks_at m s.root.0 p))) same
 
 -- ---- bytes that lie in one page
 
-module _ (m k : List (List ℕ)) (s : Space) (address : ℕ) (bs : List ℕ) (is : IsMapped m s) (once : IsOnce m s) (low : address / 4096 < pages_in s.size) (e : k ≡ put m (frame_at m s.root.0 (address / 4096)) (address % 4096) bs) where
+module _ (m k : Ram) (s : Space) (address : ℕ) (bs : List ℕ) (is : IsMapped m s) (once : IsOnce m s) (low : address / 4096 < pages_in s.size) (e : k ≡ put m (frame_at m s.root.0 (address / 4096)) (address % 4096) bs) where
   abbrev page : ℕ
   page = address / 4096
 
@@ -334,7 +334,7 @@ module _ (m k : List (List ℕ)) (s : Space) (address : ℕ) (bs : List ℕ) (is
       ∙ sym (write-none (after bs) (address + n))
       ∙ ap (write_bytes (after bs) (address + n)) (sym (drop_all n bs (omega arith)))
       ∙ ap (λ new. write_bytes (after new) (address + n) (drop n bs)) (sym (take_all n bs (omega arith)))
-      ∙ write-page (pages_of m s) address n (page_at m s.root.0 page) bs some here (omega (arith, fits))
+      ∙ write-page (pages_of m s) address n (page_at m s.root.0 page) bs some here (omega arith)
 
   -- and the space stands where the page is open
   pub put-stands : is_open (marks_at m s.root.0 page) ≡ true → Stands m k s
@@ -344,12 +344,12 @@ module _ (m k : List (List ℕ)) (s : Space) (address : ℕ) (bs : List ℕ) (is
 -- ---- a part of a frame is written
 
 -- what was lent comes back with the part in place
-pub part-put : (m : List (List ℕ)) (f at : ℕ) (bs page new : List ℕ) (n : ℕ) → n ≡ length bs → at + length bs ≤ 4096 → length (frame_of m f) ≡ 4096 → page ≡ frame_of m f → new ≡ bs
+pub part-put : (m : Ram) (f at : ℕ) (bs page new : List ℕ) (n : ℕ) → n ≡ length bs → at + length bs ≤ 4096 → length (frame_of m f) ≡ 4096 → page ≡ frame_of m f → new ≡ bs
     → slice_set m f (sized (take at page ++ (new ++ drop n (drop at page)))) ≡ put m f at bs
 unfolding put put_bytes
 part-put m f at bs page new n is fits whole same e =
     let parts : take at page ++ (new ++ drop n (drop at page)) ≡ take at (frame_of m f) ++ (bs ++ drop (at + length bs) (frame_of m f)) =
     rw (same, e, is, drop-drop (length bs) at (frame_of m f)) refl in
     let full : length (take at (frame_of m f) ++ (bs ++ drop (at + length bs) (frame_of m f))) ≡ 4096 =
-    omega (arith, whole, length-append (take at (frame_of m f)) (bs ++ drop (at + length bs) (frame_of m f)), length-append bs (drop (at + length bs) (frame_of m f)), length-take at (frame_of m f), length-drop (at + length bs) (frame_of m f)) in
+    omega (arith, length-append (take at (frame_of m f)) (bs ++ drop (at + length bs) (frame_of m f)), length-append bs (drop (at + length bs) (frame_of m f)), length-take at (frame_of m f), length-drop (at + length bs) (frame_of m f)) in
     ap (λ b. slice_set m f (sized b)) parts ∙ ap (slice_set m f) (sized-full _ full)

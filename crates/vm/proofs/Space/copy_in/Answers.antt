@@ -1,4 +1,4 @@
-use Rattle.vm.proofs.Common.{◌≡◌, ◌+◌, ◌-◌, ◌≤◌, ◌++◌, length, take, Some, None, sym, ap, ◌∙◌, arith, if◌then◌else◌, leb-true, take_all, Load, reach, pages_in, pages_of, IsSized}
+use Rattle.vm.proofs.Common.{◌≡◌, ◌+◌, ◌-◌, ◌≤◌, ◌++◌, length, take, Some, None, sym, ap, ◌∙◌, arith, if◌then◌else◌, leb-true, take_all, Load, reach, pages_of, IsSized}
 use Rattle.std.proofs.lemmas.Slice.{take-put_mid}
 use Rattle.vm.proofs.PageLemmas.{length-pages, pages-sized}
 use Rattle.vm.proofs.ReachLemmas.{reach-page, reach-next}
@@ -15,7 +15,7 @@ long c = leb-true _ _ (sym c.if-not-can_read.ensures.reach)
 pub overflow_add-address : goal.overflow_add-address
 overflow_add-address c =
     let next = reach-page Load _ c.args.address c.loop-done.done (sized c) (omega (arith, long c)) in
-    omega (arith, next.0, length-pages c.args.ram.now c.args.self.now.root.0 (pages_in c.args.self.now.size), c.requires.small)
+    omega (arith, next.0, length-pages, c.requires.small)
 
 pub loop-done-smaller : goal.loop-done-smaller
 loop-done-smaller c =

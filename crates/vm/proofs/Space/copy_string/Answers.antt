@@ -1,4 +1,4 @@
-use Rattle.vm.proofs.Common.{◌≡◌, ℕ, ◌+◌, ◌<◌, ◌≤◌, ◌^◌, length, take, Option, Some, sym, ap, ◌∙◌, arith, slice_get, Load, reach, string_at, pages_in, pages_of, IsSized, piece_at}
+use Rattle.vm.proofs.Common.{◌≡◌, ℕ, ◌+◌, ◌<◌, ◌≤◌, ◌^◌, length, take, Option, Some, sym, ap, ◌∙◌, arith, slice_get, Load, reach, string_at, pages_of, IsSized, piece_at}
 use Rattle.vm.proofs.PageLemmas.{length-pages, pages-sized}
 use Rattle.vm.proofs.ReachLemmas.{piece-first, strings-start, strings-next, string-open, string-ends, string-long, string-fits}
 use Rattle.vm.proofs.Space.copy_string.Goals as goal
@@ -9,7 +9,7 @@ sized c = pages-sized _ _ _ _ c.frames_are_whole.ensures.memory c.requires
 
 -- an address that is reached is one of 64 bits
 fits : (c : After-frames_are_whole) (n : ℕ) → n ≤ length (reach Load (pages_of c.args.ram.now c.args.self.now) c.args.address) → c.args.address + n < 2 ^ 64
-fits c n low = string-fits Load _ c.args.address n (sized c) (omega (arith, length-pages c.args.ram.now c.args.self.now.root.0 (pages_in c.args.self.now.size), c.requires.small)) (omega arith) low
+fits c n low = string-fits Load _ c.args.address n (sized c) (omega (arith, length-pages, c.requires.small)) (omega arith) low
 
 -- the byte at an address is the next that is reached
 next : (c : After-frames_are_whole) (n : ℕ) (o : Option ℕ) → n ≤ length (reach Load (pages_of c.args.ram.now c.args.self.now) c.args.address)

@@ -1,4 +1,4 @@
-use Rattle.vm.proofs.Common.{arith, ap, sym, true, ◌∙◌, further_at, Perm, marks_at, right_marks, user_leaf, pages_in}
+use Rattle.vm.proofs.Common.{arith, ap, sym, true, ◌∙◌, further_at, Perm, user_leaf, pages_in}
 use Rattle.vm.proofs.Remap.{IsMadeLeaf, made-leaf, page-inside-is, page-shared, page-single}
 use Rattle.vm.proofs.PageLemmas.{open-one}
 use Rattle.vm.proofs.Space.open_page.Goals as goal
@@ -34,10 +34,10 @@ pub returns-then-holders-gt1-clause-opens : goal.returns-then-holders-gt1-clause
 returns-then-holders-gt1-clause-opens c = λ first h.
     let r = c.args.self.now.root.0 in
     let m = made (goal.at.returns-then-holders-gt1-clause-opens c).After-leaf-open in
-    open-one c.args.ram.now c.split_page.new.ram r (pages_in c.args.self.now.size) c.args.page first (right_marks (marks_at c.args.ram.now r c.args.page)) (c.split_page.ensures.marks ∙ m.made) c.split_page.ensures.others h
+    open-one c.args.ram.now c.split_page.new.ram r (pages_in c.args.self.now.size) c.args.page first _ (c.split_page.ensures.marks ∙ m.made) c.split_page.ensures.others h
 
 pub returns-else-holders-gt1-clause-opens : goal.returns-else-holders-gt1-clause-opens
 returns-else-holders-gt1-clause-opens c = λ first h.
     let r = c.args.self.now.root.0 in
     let m = made (goal.at.returns-else-holders-gt1-clause-opens c).After-leaf-open in
-    open-one c.args.ram.now c.set_page.new.ram r (pages_in c.args.self.now.size) c.args.page first (right_marks (marks_at c.args.ram.now r c.args.page)) (c.set_page.ensures.marks ∙ m.made) c.set_page.ensures.others h
+    open-one c.args.ram.now c.set_page.new.ram r (pages_in c.args.self.now.size) c.args.page first _ (c.set_page.ensures.marks ∙ m.made) c.set_page.ensures.others h

@@ -3,14 +3,14 @@ use Rattle.vm.proofs.StoreLemmas.{trap-inside, saved-is, saves-start, saves-next
 use Rattle.vm.proofs.Space.save_regs.Goals as goal
 
 pub store_u64-requires-clause-frame : goal.store_u64-requires-clause-frame
-store_u64-requires-clause-frame c = trap-inside c.args.ram.now c.args.self.now c.requires.mapped
+store_u64-requires-clause-frame c = trap-inside _ c.args.self.now c.requires.mapped
 
 pub loop-register-init : goal.loop-register-init
-loop-register-init c = saves-start c.args.ram.now c.store_u64.new.self c.args.self.now c.args.registers.now c.args.pc c.frames_are_whole.ensures.memory c.requires.mapped c.requires.once (omega arith) c.store_u64.ensures
+loop-register-init c = saves-start c.frames_are_whole.ensures.memory c.requires.mapped c.requires.once (omega arith) c.store_u64.ensures
 
 pub store_u64-requires-in-loop-register-clause-frame :
     goal.store_u64-requires-in-loop-register-clause-frame
-store_u64-requires-in-loop-register-clause-frame c = trap-inside c.loop-register.ram c.args.self.now c.loop-register.invariant.stands.mapped
+store_u64-requires-in-loop-register-clause-frame c = trap-inside _ c.args.self.now c.loop-register.invariant.stands.mapped
 
 pub loop-register-preserved : goal.loop-register-preserved
 loop-register-preserved c =

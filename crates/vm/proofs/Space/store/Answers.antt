@@ -13,7 +13,7 @@ put-there : (c : After-write_part) → c.write_part.new.ram ≡ put c.args.ram.n
 put-there c = c.write_part.ensures ∙ ap (λ f. put c.args.ram.now f (c.args.address % 4096) c.args.bytes.now) (sym c.in-Some.ensures.frame)
 
 pub returns-clause-written : goal.returns-clause-written
-returns-clause-written c = put-stored c.args.ram.now c.write_part.new.ram c.args.self.now c.args.address c.args.bytes.now c.requires.mapped c.requires.once c.in-Some.ensures.page (put-there (goal.at.returns-clause-written c).After-write_part) (omega arith) (omega arith)
+returns-clause-written c = put-stored _ _ c.args.self.now c.args.address _ c.requires.mapped c.requires.once c.in-Some.ensures.page (put-there (goal.at.returns-clause-written c).After-write_part) (omega arith) (omega arith)
 
 pub returns-clause-stands : goal.returns-clause-stands
-returns-clause-stands c = put-stands c.args.ram.now c.write_part.new.ram c.args.self.now c.args.address c.args.bytes.now c.requires.mapped c.requires.once c.in-Some.ensures.page (put-there (goal.at.returns-clause-stands c).After-write_part) c.in-Some.ensures.open
+returns-clause-stands c = put-stands _ _ c.args.self.now c.args.address _ c.requires.mapped c.requires.once c.in-Some.ensures.page (put-there (goal.at.returns-clause-stands c).After-write_part) c.in-Some.ensures.open
