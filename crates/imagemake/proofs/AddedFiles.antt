@@ -2,10 +2,8 @@
 use Rattle.imagemake.proofs.Common.{◌≡◌, ◌≢◌, ℕ, ◌<◌, ◌≤◌, Bool, Err, List, None, Ok, Result, Some, cond, true, false, ap, sym, refl, ◌∙◌, arith, inl, inr, nat_le, option_map, unwrap_or, ◌&&◌, ◌⊎◌, IsErrAnd, le-leb, lt-leb, true≢false}
 use Rattle.imagemake.proofs.Common.{get_or-set_other, get_or-set_same, length-set, length_push, none-some, slot-within, FileTree, IsNow, now-files, blocks_of-set, taken_by, Files, Node, blocks_for, longest, put, size_of, slot, Wrong, added}
 use Rattle.imagemake.proofs.Common.{appended, if_room, is_short, linked, node_for, CanAdd, HasDirectory, Puts, StoreFault, blocks_of, Directory, Thing, IsWhole, taken-grows, PutsName, Stores}
-use Rattle.imagemake.proofs.MadeEntry.{above, added-is, apart, entry, here, linked-directory, named, places_more}
-use Rattle.imagemake.proofs.Named.{linked-size}
-use Rattle.imagemake.proofs.Owned.{Owns-after, told_err}
-use Rattle.imagemake.proofs.Putting.{TellsFull-weaker}
+use Rattle.imagemake.proofs.MadeEntry.{above, added-is, apart, entry, here, linked-directory, named}
+use Rattle.imagemake.proofs.Putting.{linked-size, Owns-after, told_err, TellsFull-weaker}
 
 -- ---- three tests
 
@@ -34,10 +32,10 @@ module _ (t : FileTree) {d : ℕ} {name : List ℕ} {n : ℕ} (thing : Thing) (c
   all = added t.files d name n thing
 
   pub still-there : slot one d ≡ Some was
-  still-there = get_or-set_other t.files n d (Some (node_for n d thing)) None (apart thing can) ∙ can.directory
+  still-there = get_or-set_other t.files n d _ None (apart thing can) ∙ can.directory
 
   becomes-is : becomes ≡ named thing can
-  becomes-is = linked-directory thing can.links (places_more thing can)
+  becomes-is = linked-directory thing _ _
 
   added-put : all ≡ put one d becomes
   added-put = added-is thing can ∙ ap (put one d) (sym becomes-is)
@@ -84,7 +82,7 @@ module _ (t : FileTree) {d : ℕ} {name : List ℕ} {n : ℕ} (thing : Thing) (c
 
     -- its number is in use
     pub number-after : slot mid.files n ≢ None
-    number-after none = none-some (node_for n d thing) (sym none ∙ ap (λ (fs : Files). slot fs n) (now-files now-one) ∙ get_or-set_same t.files n (Some (node_for n d thing)) None can.number.high)
+    number-after none = none-some _ (sym none ∙ ap (λ (fs : Files). slot fs n) (now-files now-one) ∙ get_or-set_same t.files n _ None can.number.high)
 
     module _ {now : FileTree} where
       pub name-refused : {s : Result (Unit {0}) StoreFault} {fault : StoreFault} → PutsName mid now d (entry thing can) thing (Err fault) → IsErrAnd s (λ f. f ≡ fault) → Stores t now d name n thing s

@@ -1,10 +1,170 @@
 -- Files at rest keep the rules of a running machine.
-use Rattle.imagemake.proofs.Common.{all-entries, ◌≡◌, ◌≢◌, ℕ, zero, suc, ◌≤◌, Bool, true, false, cond, None, Option, Some, inl, inr, get_or, ap, sym, refl, ◌∙◌, arith, subst, All, IsSome, is_some, option_map, unwrap_or, ◌==◌, All-nil, cases_eq}
-use Rattle.imagemake.proofs.Common.{cond-false, cond-true, false≢true, Files, Node, is_directory, links_of, slot, KeepsNode, KeepsRules, all_entries, entries_of, is_directory_at, names_of, parent_of, EntriesAt-from, Climbs, ancestor}
-use Rattle.imagemake.proofs.Common.{Climbs-reached, parent_root, HasRoot, IsRanked, KeepsLive, KeepsTree, entries, names_for, names_by-le, eq-eqb, ne_eqb, Entry, Directory, not, is_name}
-use Rattle.imagemake.proofs.Counted.{count_by-none, once-count}
-use Rattle.imagemake.proofs.Parents.{parent-names, parent-only}
-use Rattle.imagemake.proofs.ToRules.{folders-are, naming-directory}
+use Rattle.imagemake.proofs.Common.{◌≡◌, ◌≢◌, ℕ, zero, suc, ◌+◌, ◌<◌, ◌≤◌, Bool, true, false, cond, not, List, [], ◌∷◌, inl, inr, length, get_or, ap, sym, refl, ◌∙◌, arith, All, AllPairs, IsTrue, bytes_eq, count_by, cases_Bool}
+use Rattle.imagemake.proofs.Common.{false_from_ne_true, All-head, All-tail, sum_by-cons, bytes_eq-Decides, is_name, Entry, subst, ◌==◌, Files, slot, all_entries, entries_of, names_of, parent_of, names_by, eq-eqb, IsDirectory, KeepsNode}
+use Rattle.imagemake.proofs.Common.{EntriesAt-from, None, Option, Some, option_map, unwrap_or, cases_eq, cond-false, false≢true, Node, dot_dot, is_directory, KeepsRules, is_directory_at, subdirectories, KeepsLive, KeepsTree, folders}
+use Rattle.imagemake.proofs.Common.{names_for, HasLinked, ne_eqb, Directory, LinksAt-from, IsSome, is_some, All-nil, cond-true, links_of, names_by-le}
+use Rattle.imagecheck.proofs.Reaching as reaching
+use Rattle.names.proofs.Finding.{named-used}
+use Rattle.names.proofs.Counts.{entry-names, count_by-item, counted-none, counted-one}
+use Rattle.imagecheck.proofs.Reaching.{all-entries, Climbs-child, Climbs-reached, IsReached-from, parent_root}
+use Rattle.imagecheck.specs.Reach.{ancestor, Climbs}
+use Rattle.names.specs.Rules.{entries, HasRoot, IsLive, IsRanked}
+
+-- ---- what holds of all entries of a directory, as a count
+
+count-cons : {X : Type 0} (p : X → Bool) (x : X) (xs : List X) → count_by p (x ∷ xs) ≡ cond (p x) 1 0 + count_by p xs
+count-cons p x xs = sum_by-cons (λ y. cond (p y) 1 0) x xs
+
+pub count_by-none : {X : Type 0} (p : X → Bool) (xs : List X) → All (λ x. p x ≡ false) xs → count_by p xs ≡ 0
+count_by-none p [] h = refl
+count_by-none p (x ∷ xs) h = omega (arith, count-cons p x xs, counted-none (All-head (λ y. p y ≡ false) x xs h), count_by-none p xs (All-tail (λ y. p y ≡ false) x xs h))
+
+-- what is counted stands somewhere
+pub record IsAmong {X : Type 0} (p : X → Bool) (xs : List X) (d : X) : Type 0 where
+  pub place : ℕ
+  pub within : place < length xs
+  pub passes : p (get_or xs place d) ≡ true
+
+pub counted-among : {X : Type 0} (p : X → Bool) (xs : List X) (d : X) → 1 ≤ count_by p xs → IsAmong p xs d
+counted-among p [] d h = absurd (omega arith)
+counted-among p (x ∷ xs) d h = elim (cases_Bool (p x)) [
+  | inl t ↦ record { place = 0; within = omega arith; passes = t }
+  | inr f ↦ let rest = counted-among p xs d (omega (arith, h, count-cons p x xs, counted-none f)) in record { place = suc _; within = let l = rest.within in omega arith; passes = rest.passes }
+]
+
+-- ---- good names
+
+pub good-from : (es : List Entry) → count_by (λ (e : Entry). not (is_name e.name)) es ≡ 0 → All (λ (e : Entry). IsTrue (is_name e.name)) es
+good-from es none k d l = elim (cases_Bool (is_name (get_or es k d).name)) [
+  | inl t ↦ t
+  | inr f ↦ absurd (omega (arith, none, count_by-item (λ (e : Entry). not (is_name e.name)) es k d l, counted-one (ap not f)))
+]
+
+-- ---- each name once
+
+pub twice : {X : Type 0} (p : X → Bool) (xs : List X) (i j : ℕ) (d : X) → i < j → j < length xs → p (get_or xs i d) ≡ true → p (get_or xs j d) ≡ true → 2 ≤ count_by p xs
+twice p (x ∷ xs) zero (suc j) d h l s t = omega (arith, count-cons p x xs, counted-one s, counted-one t, count_by-item p xs j d (omega arith))
+twice p (x ∷ xs) (suc i) (suc j) d h l s t = omega (arith, count-cons p x xs, twice p xs i j d (omega arith) (omega arith) s t)
+twice p _ i j d h l s t = absurd (omega arith)
+
+pub once-from : (es : List Entry) → ((name : List ℕ) → count_by (λ (e : Entry). bytes_eq e.name name) es ≤ 1) → AllPairs (λ (e f : Entry). e.name ≢ f.name) es
+once-from es once i j d h l same =
+    let w = (get_or es j d).name in
+    let first = (bytes_eq-Decides (get_or es i d).name w).1 same in
+    let second = (bytes_eq-Decides w w).1 refl in
+    absurd (omega (arith, once w, twice (λ (e : Entry). bytes_eq e.name w) es i j d h l first second))
+
+pub once-count : (es : List Entry) → AllPairs (λ (e f : Entry). e.name ≢ f.name) es → (name : List ℕ) → count_by (λ (e : Entry). bytes_eq e.name name) es ≤ 1
+once-count [] h name = omega arith
+once-count (x ∷ es) h name =
+    let test : Entry → Bool = λ e. bytes_eq e.name name in
+    elim (cases_Bool (bytes_eq x.name name)) [
+      | inl t ↦
+          let is = (bytes_eq-Decides x.name name).0 t in
+          let none = count_by-none test es (λ k d l. false_from_ne_true (bytes_eq (get_or es k d).name name) (λ s. h 0 (suc k) d (omega arith) (omega arith) (is ∙ sym ((bytes_eq-Decides (get_or es k d).name name).0 s)))) in
+          omega (arith, count-cons test x es, none, counted-one t)
+      | inr f ↦ omega (arith, count-cons test x es, counted-none f, once-count es (λ i j d l m. h (suc i) (suc j) d (omega arith) (omega arith)) name)
+    ]
+
+-- ---- the directory that names a node
+
+-- what has one name has it in its parent
+pub parent-only : (files : Files) (n d : ℕ) → n ≢ 1 → names_of files n ≡ 1 → 1 ≤ names_by (slot files d) n → parent_of files n ≡ d
+unfolding names_by
+parent-only files n d other once h =
+    let nobody : Entry = record { name = []; number = 0 } in
+    let at = counted-among (λ (e : Entry). e.number == n) (entries_of (slot files d)) nobody h in
+    reaching.parent-only files n other once d at.place nobody at.within at.passes
+
+each-names : (files : Files) → All (λ x. 1 ≤ names_by (slot files x.0) x.1.number) (all_entries files)
+unfolding names_by
+each-names files =
+    all-entries files (λ x. 1 ≤ names_by (slot files x.0) x.1.number) (λ d k e l.
+    let n = (get_or (entries_of (slot files d)) k e).number in
+    let one = counted-one (eq-eqb n n refl) in
+    omega (arith, one, count_by-item (λ (x : Entry). x.number == n) (entries_of (slot files d)) k e l))
+
+-- what has a name has one in its parent
+pub parent-names : (files : Files) (n : ℕ) → n ≢ 1 → 1 ≤ names_of files n → 1 ≤ names_by (slot files (parent_of files n)) n
+parent-names files n other some =
+    let has = reaching.parent-has files (λ x. 1 ≤ names_by (slot files x.0) x.1.number) (each-names files) n other some in
+    subst (λ m. 1 ≤ names_by (slot files (parent_of files n)) m) has.1 has.2
+
+-- ---- files of a running machine whose nodes all have links keep the rules of files at rest
+
+directory-from : (files : Files) (d : ℕ) (o : Option Node) → slot files d ≡ o → (n : ℕ) → 1 ≤ names_by o n → is_directory_at files d ≡ true
+unfolding names_by
+directory-from files d (Some (Directory links places)) at n h = ap (λ o. unwrap_or (option_map is_directory o) false) at
+directory-from files d _ at n h = absurd (omega arith)
+
+-- what names is a directory
+pub naming-directory : (files : Files) (d n : ℕ) → 1 ≤ names_by (slot files d) n → is_directory_at files d ≡ true
+naming-directory files d n h = directory-from files d _ refl n h
+
+pub folders-are : (files : Files) (d links : ℕ) (places : List (Option Entry)) → slot files d ≡ Some (Directory links places) → folders files (entries places) ≡ subdirectories files d
+unfolding folders subdirectories
+folders-are files d links places here = ap (λ o. count_by (λ (e : Entry). is_directory_at files e.number) (entries_of o)) (sym here)
+
+module _ {files : Files} (keeps : KeepsTree files) (linked : HasLinked files) where
+  module _ (d links : ℕ) (places : List (Option Entry)) (here : slot files d ≡ Some (Directory (suc links) places)) where
+    live : IsLive files d links places
+    live = subst (KeepsLive files d) here (keeps.nodes d)
+
+    named : names_of files d ≡ cond (d == 1) 0 1
+    named = keeps.named d ∙ ap (names_for d) here
+
+    parent-is : live.up ≡ parent_of files d
+    parent-is = elim (cases_eq d 1) [
+      | inl e ↦ live.above.root e ∙ sym (ap (parent_of files) e ∙ parent_root files)
+      | inr s ↦ sym (parent-only files d live.up s (named ∙ cond-false (d == 1) 0 1 (ne_eqb d 1 s)) (live.above.names s))
+    ]
+
+    directory-kept : IsDirectory files d (suc links) places
+    directory-kept = record {
+      own = live.own;
+      parent = live.parent ∙ ap (λ (p : ℕ). Some (record { name = dot_dot; number = p })) parent-is;
+      names = good-from (entries places) live.good;
+      once = once-from (entries places) live.once;
+      numbers = λ k e l. named-used keeps (get_or (entries places) k e).number (entry-names files d _ places here k e l);
+      named = named;
+      counted = omega (arith, live.counted, folders-are files d (suc links) places here);
+    }
+
+  node-kept : (n : ℕ) (o : Option Node) → slot files n ≡ o → KeepsNode files n o
+  node-kept n None here = tt
+  node-kept n (Some (Directory zero places)) here = absurd (let some = linked n _ here in omega arith)
+  node-kept n (Some (Directory (suc links) places)) here = directory-kept n links places here
+  node-kept n (Some node) here = record { counted = sym (keeps.named n ∙ ap (names_for n) here); least = linked n node here; most = subst (KeepsLive files n) here (keeps.nodes n) }
+
+  nodes-kept : (n : ℕ) → KeepsNode files n (slot files n)
+  nodes-kept n = node-kept n (slot files n) refl
+
+  -- ---- a directory climbs to the root: by ranks
+
+  climbs-above : (n : ℕ) (o : Option Node) → slot files n ≡ o → is_directory_at files n ≡ true → n ≢ 1 → ((up : ℕ) → is_directory_at files up ≡ true → keeps.depth up < keeps.depth n → Climbs files up) → Climbs files n
+  climbs-above n (Some (Directory zero places)) here h s next = absurd (let some = linked n _ here in omega arith)
+  climbs-above n (Some (Directory (suc links) places)) here h s next =
+      let up = (live n links places here).up in
+      let names = (live n links places here).above.names s in
+      Climbs-child files n (subst (Climbs files) (parent-is n links places here) (next up (naming-directory files up n names) (keeps.ranked up n names h)))
+  climbs-above n _ here h s next = absurd (false≢true (sym (ap (λ o. unwrap_or (option_map is_directory o) false) here) ∙ h))
+
+  climbs-below : (k n : ℕ) → keeps.depth n < k → is_directory_at files n ≡ true → Climbs files n
+  climbs-below zero n l h = absurd (omega arith)
+  climbs-below (suc k) n l h = elim (cases_eq n 1) [
+    | inl e ↦ record { steps = 0; root = e }
+    | inr s ↦ climbs-above n (slot files n) refl h s (λ up directory less. climbs-below k up (omega arith) directory)
+  ]
+
+  -- ---- the rules
+
+  pub KeepsRules-live : KeepsRules files
+  KeepsRules-live = record {
+    root = ap (λ o. unwrap_or (option_map is_directory o) false) keeps.root.here;
+    sizes = keeps.sizes;
+    nodes = nodes-kept;
+    reached = IsReached-from files (λ n. EntriesAt-from files n (slot files n) (nodes-kept n)) (λ n. LinksAt-from files n (slot files n) (nodes-kept n)) (λ n h. climbs-below (suc (keeps.depth n)) n (omega arith) h);
+  }
 
 -- ---- how many steps lead to the root, of at most so many
 
@@ -27,12 +187,12 @@ level-same files zero k n g h = ap (level files zero) g ∙ level-root files zer
 level-same files (suc j) zero n g h = ap (level files (suc j)) h ∙ level-root files (suc j) ∙ sym (ap (level files zero) h ∙ level-root files zero)
 level-same files (suc j) (suc k) n g h = elim (cases_eq n 1) [
   | inl e ↦ ap (level files (suc j)) e ∙ level-root files (suc j) ∙ sym (ap (level files (suc k)) e ∙ level-root files (suc k))
-  | inr s ↦ level-next files j n s ∙ ap suc (level-same files j k (parent_of files n) g h) ∙ sym (level-next files k n s)
+  | inr s ↦ level-next files j n s ∙ ap suc (level-same files j k _ g h) ∙ sym (level-next files k n s)
 ]
 
 module _ {files : Files} (rules : KeepsRules files) where
   climbs : (n : ℕ) → is_directory_at files n ≡ true → Climbs files n
-  climbs = Climbs-reached files (λ n. EntriesAt-from files n (slot files n) (rules.nodes n)) rules.reached
+  climbs = Climbs-reached files (λ n. EntriesAt-from files n _ (rules.nodes n)) rules.reached
 
   -- ---- how many names there are
 
@@ -43,10 +203,10 @@ module _ {files : Files} (rules : KeepsRules files) where
   unused-names : (n : ℕ) → slot files n ≡ None → names_of files n ≡ 0
   unfolding names_of
   unused-names n free =
-      count_by-none (λ (e : ℕ × Entry). e.1.number == n) (all_entries files)
+      count_by-none (λ (e : ℕ × Entry). e.1.number == n) _
       (all-entries files (λ e. (e.1.number == n) ≡ false) (λ d k e l.
       let x = get_or (entries_of (slot files d)) k e in
-      ne_eqb x.number n (λ same. false≢true (sym (ap is_some (ap (slot files) same ∙ free)) ∙ entry-numbers d (slot files d) (rules.nodes d) k e l))))
+      ne_eqb _ n (λ same. false≢true (sym (ap is_some (ap (slot files) same ∙ free)) ∙ entry-numbers d (slot files d) (rules.nodes d) k e l))))
 
   -- ---- directories
 
@@ -77,7 +237,7 @@ module _ {files : Files} (rules : KeepsRules files) where
   level-at n false h = 0
 
   rank : ℕ → ℕ
-  rank n = level-at n (is_directory_at files n) refl
+  rank n = level-at n _ refl
 
   -- it is the level by any steps that lead to the root
   level-is : (n : ℕ) (b : Bool) (h : is_directory_at files n ≡ b) → b ≡ true → (k : ℕ) → ancestor files k n ≡ 1 → level-at n b h ≡ level files k n
@@ -87,7 +247,7 @@ module _ {files : Files} (rules : KeepsRules files) where
 
   rank-is : (n : ℕ) → is_directory_at files n ≡ true → (k : ℕ) → ancestor files k n ≡ 1 → rank n ≡ level files k n
   unfolding rank
-  rank-is n h k root = level-is n (is_directory_at files n) refl h k root
+  rank-is n h k root = level-is n _ refl h k root
 
   directory-named : (n : ℕ) (o : Option Node) → KeepsNode files n o → unwrap_or (option_map is_directory o) false ≡ true → names_of files n ≡ cond (n == 1) 0 1
   directory-named n (Some (Directory links places)) k h = k.named

@@ -1,20 +1,171 @@
 -- Steps that put nodes, one after the other.
-use Rattle.imagemake.proofs.Common.{◌≡◌, ◌≢◌, ℕ, ◌+◌, ◌<◌, ◌≤◌, ◌∙◌, Err, [], None, Ok, Result, Some, length, ap, arith, inl, inr, refl, subst, sym, IsErrAnd, get_or-set_other, get_or-set_same, set-set, fresh, FileTree, IsNow, now-files}
-use Rattle.imagemake.proofs.Common.{now-limit, blocks_of-set, slot-within, taken_by, HasCause, Files, Node, free_slots, kind_of, put, slot, bare_directory, bare_files, Bytes, Folder, Special, LacksRoomFor, Puts, TellsFull, bare, major_of}
-use Rattle.imagemake.proofs.Common.{minor_of, StoreFault, blocks_of, Directory, Thing, is_err}
+use Rattle.imagemake.proofs.FromRules.{KeepsRules-live}
+use Rattle.imagemake.proofs.Common.{names_by-le, links_of, none-some, same_Some, ◌≡◌, ◌≢◌, ℕ, zero, suc, ◌-◌, ◌<◌, ◌≤◌, true, List, [], ◌∷◌, ◌++◌, length, None, Option, Some, inl, inr, map, ap, sym, refl, ◌∙◌, arith, subst, count_by}
+use Rattle.imagemake.proofs.Common.{flat_map, is_some, sum_by, ◌==◌, cases_lt, get_or-replicate, get_or-set_other, get_or-set_same, get_or_past, length-replicate, length-set, at_or, Node, blocks_for, dot, dot_dot, free_slots, size_of, slot}
+use Rattle.imagemake.proofs.Common.{taken, KeepsRules, KeepsSize, all_entries, entries_of, names_of, bare_directory, bare_files, node_for, Bytes, Folder, Special, PackedAt, IsBegun, blocks_of, Entry, Thing, KeepsLive, KeepsTree, folders}
+use Rattle.imagemake.proofs.Common.{names_for, Err, Ok, Result, OnOk, IsErrAnd, err_from_is_err_and, BlamesDevice, make_fault, MakeFault, StoreFault, is_err, ◌+◌, set-set, FileTree, IsNow, now-files, now-limit, blocks_of-set, slot-within}
+use Rattle.imagemake.proofs.Common.{taken_by, Files, kind_of, put, Puts, bare, major_of, minor_of, Directory, false, nat_lt, IfOk-at_ok, cond-false, cond-true, le-ltb, lt-ltb, false≢true, get_or-append_right, get_or_append_left}
+use Rattle.imagemake.proofs.Common.{length_push, entered, room_in, Looks, change_node, most_places, appended, linked, more_links, HasDirectory, change-is, blocks_of-entered, entered-is, room-end, ◌⊎◌, cond, Bool, take, nat_le, le-leb}
+use Rattle.imagemake.proofs.Common.{leb-false, lt-leb, append-nil, drop_all, take_all, longest, File}
+use Rattle.imagemake.specs.declared.store.StoreFault.TheVariants.{Blocks, Device}
 use Rattle.cache.proofs.Using.{rises-before}
 use Rattle.tree.specs.Steps.{IsUnnamed}
 use Rattle.tree.proofs.Gaps.{fresh-blocks}
-use Rattle.imagemake.specs.declared.store.StoreFault.TheVariants.{Blocks, Device}
-use Rattle.imagemake.proofs.MadeBare.{no-files, slot-free}
-use Rattle.imagemake.proofs.Owned.{Owns-after, Owns-done, Owns-other, told_err}
+use Rattle.blockdev.specs.declared.DeviceFault.{DeviceFault}
+use Rattle.tree.proofs.Links.{links-size}
+use Rattle.tree.specs.Written.{Written, count_of, files_after, fitting, with_bytes, write_to, written}
+use Rattle.unixmodel.specs.FileCalls.{greatest, with_file}
+use Rattle.unixmodel.specs.Memory.{overwrite}
+use Rattle.tree.specs.Entering.{fresh, growth, placed, room_behind, HasRoom}
+use Rattle.unixmodel.specs.Failures.{HasCause}
+use Rattle.imagemake.specs.Added.{IsPacked, LacksRoomFor, Owns, TellsFull}
+
+-- ---- the files of an image with a root alone keep the rules
+
+pub length-free : (n : ℕ) → length (free_slots {X = Node} n) ≡ n
+unfolding free_slots
+length-free n = length-replicate n None
+
+pub slot-free : (n m : ℕ) → slot (free_slots {X = Node} n) m ≡ None
+unfolding free_slots
+slot-free n m = elim (cases_lt m n) [
+  | inl l ↦ get_or-replicate n m None None l
+  | inr r ↦ get_or_past _ m None (omega (arith, length-free n))
+]
+
+taken-free : (n : ℕ) → taken (free_slots {X = Node} n) ≡ []
+unfolding free_slots
+taken-free zero = refl
+taken-free (suc n) = taken-free n
+
+pub no-files : (n : ℕ) → blocks_of (free_slots n) ≡ 0
+unfolding blocks_of
+no-files n = ap (sum_by (λ (node : Node). blocks_for (size_of node))) (taken-free n)
+
+flat_map-none : {X Y : Type 0} (f : X → List Y) → ((x : X) → f x ≡ []) → (xs : List X) → flat_map f xs ≡ []
+flat_map-none f h [] = refl
+flat_map-none f h (x ∷ xs) = ap (λ r. r ++ flat_map f xs) (h x) ∙ flat_map-none f h xs
+
+both : (a b : Entry) (k : ℕ) → k < 2 → is_some (slot (Some a ∷ Some b ∷ []) k) ≡ true
+both a b zero h = refl
+both a b (suc zero) h = refl
+both a b (suc (suc k)) h = absurd (omega arith)
+
+-- each place of what a thing makes is in use
+pub packed-node : (n d : ℕ) (thing : Thing) → PackedAt (Some (node_for n d thing))
+packed-node n d (Bytes bytes) = tt
+packed-node n d (Special major minor) = tt
+packed-node n d Folder = both (record { name = dot; number = n }) (record { name = dot_dot; number = d })
+
+bare-blocks : (n : ℕ) → blocks_of (bare_files (suc (suc n))) ≡ 1
+unfolding bare_files blocks_of free_slots
+bare-blocks n = ap (λ xs. sum_by (λ (node : Node). blocks_for (size_of node)) (bare_directory 1 1 ∷ xs)) (taken-free n)
+
+module _ (inodes : ℕ) (some : 2 ≤ inodes) where
+  pub length-bare : length (bare_files inodes) ≡ inodes
+  unfolding bare_files
+  length-bare = length-set _ 1 _ ∙ length-free inodes
+
+  pub slot-root : slot (bare_files inodes) 1 ≡ Some (bare_directory 1 1)
+  unfolding bare_files
+  slot-root = get_or-set_same _ 1 _ None (omega (arith, length-free inodes))
+
+  pub slot-bare : (m : ℕ) → m ≢ 1 → slot (bare_files inodes) m ≡ None
+  unfolding bare_files
+  slot-bare m s = get_or-set_other _ 1 m _ None s ∙ slot-free inodes m
+
+  -- what holds of the root and of numbers that aren't in use holds of each
+  pub bare-each : (P : ℕ → Option Node → Type 0) → P 1 (Some (bare_directory 1 1)) → ((m : ℕ) → m ≢ 1 → P m None) → (m : ℕ) → P m (slot (bare_files inodes) m)
+  bare-each P root none m =
+      at_or (λ k. P k (slot (bare_files inodes) k)) 1 m (subst (P 1) (sym slot-root) root) (λ s. subst (P m) (sym (slot-bare m s)) (none m s))
+
+  no_entries : all_entries (bare_files inodes) ≡ []
+  unfolding all_entries
+  no_entries =
+      flat_map-none (λ d. map (λ (e : Entry). (d, e)) (entries_of (slot (bare_files inodes) d)))
+      (λ d. ap (map (λ (e : Entry). (d, e))) (bare-each (λ m o. entries_of o ≡ []) refl (λ m s. refl) d)) _
+
+  nothing-named : (m : ℕ) → names_of (bare_files inodes) m ≡ 0
+  unfolding names_of
+  nothing-named m = ap (count_by (λ (e : ℕ × Entry). e.1.number == m)) no_entries
+
+  KeepsTree-bare : KeepsTree (bare_files inodes)
+  unfolding folders
+  KeepsTree-bare = record {
+    root = record { links = 0; places = _; here = slot-root };
+    sizes = bare-each (λ m o. KeepsSize o) (omega arith) (λ m s. tt);
+    named = bare-each (λ m o. names_of (bare_files inodes) m ≡ names_for m o) (nothing-named 1) (λ m s. nothing-named m);
+    nodes = bare-each (KeepsLive (bare_files inodes))
+        (record { own = refl; up = 1; parent = refl; above = record { root = λ e. refl; names = λ s. absurd (s refl) }; good = refl; once = λ name. omega arith; counted = refl }) (λ m s. tt);
+    depth = λ m. 0;
+    ranked = λ d n h directory. absurd (omega (arith, h, names_by-le (bare_files inodes) d n, nothing-named n));
+  }
+
+  pub KeepsRules-bare : KeepsRules (bare_files inodes)
+  KeepsRules-bare = KeepsRules-live KeepsTree-bare (bare-each (λ m o. (node : Node) → o ≡ Some node → 1 ≤ links_of node)
+      (λ node e. subst (λ x. 1 ≤ links_of x) (same_Some (bare_directory 1 1) node e) (omega arith)) (λ m s node e. absurd (none-some node e)))
+
+  room_bare : blocks_of (bare_files inodes) ≡ 1
+  room_bare =
+      let e : inodes ≡ suc (suc (inodes - 2)) = omega arith in ap (λ k. blocks_of (bare_files k)) e ∙ bare-blocks _
+
+  pub IsBegun-bare : (blocks : ℕ) → 1 ≤ blocks → IsBegun blocks inodes (bare_files inodes) 2
+  IsBegun-bare blocks h = record {
+    rules = KeepsRules-bare;
+    count = length-bare;
+    zero = slot-bare 0 (λ e. absurd (omega arith));
+    used = λ m l u. let e : m ≡ 1 = omega arith in ap (λ k. is_some (slot (bare_files inodes) k)) e ∙ ap is_some slot-root;
+    free = λ m l. slot-bare m (λ e. absurd (omega arith));
+    next = omega arith;
+    room = omega (arith, room_bare);
+    packed = bare-each (λ m o. PackedAt o) (packed-node 1 1 Folder) (λ m s. tt);
+  }
+
+-- ---- a failed access is told only where the device owns up to it
+
+-- the fault that is told
+pub told_err : {T E : Type 0} {fault : E} (r : Result T E) → IsErrAnd r (λ f. f ≡ fault) → r ≡ Err fault
+told_err r told = let err = err_from_is_err_and r told in err.1 ∙ ap Err err.2
+
+pub err_is : {T E : Type 0} (a b : E) → ◌≡◌ {A = Result T E} (Err a) (Err b) → a ≡ b
+err_is a b e = cc
+
+-- an error is no good answer
+pub none-done : {T E : Type 0} (P : Type 0) {r : Result T E} {fault : E} → r ≡ Err fault → OnOk r P
+none-done {T} {E} P e = subst (λ (x : Result T E). OnOk x P) (sym e) tt
+
+-- ---- the count of failures
+
+module _ {F : Type 0} {fault : F} where
+  -- an access failed, and those before were good
+  pub Owns-failed : {T E : Type 0} {a b c : ℕ} {access : Result T E} {e : E} {r : Result (Unit {0}) F} → a ≤ b → HasCause b c access → access ≡ Err e → Owns fault a c r
+  Owns-failed h cause was = record { later = let l = cause.later in omega arith; failed = λ _. let rises = cause.failed (ap is_err was) in omega arith }
+
+  -- the last step tells
+  pub Owns-after : {a b c : ℕ} {r : Result (Unit {0}) F} → a ≤ b → Owns fault b c r → Owns fault a c r
+  Owns-after h owns = record { later = let l = owns.later in omega arith; failed = λ e. let rises = owns.failed e in omega arith }
+
+  -- a step tells its fault, and it is passed on
+  pub Owns-told : {a b c : ℕ} {told : F} {r : Result (Unit {0}) F} → a ≤ b → Owns fault b c (Err told) → r ≡ Err told → Owns fault a c r
+  Owns-told {a} {c = c} h owns is = subst (Owns fault a c) (sym is) (Owns-after h owns)
+
+  pub Owns-done : {a c : ℕ} → a ≤ c → Owns fault a c (Ok tt)
+  Owns-done h = record { later = h; failed = λ e. cc }
+
+  -- another fault is told
+  pub Owns-other : {a c : ℕ} {other : F} {r : Result (Unit {0}) F} → a ≤ c → (other ≡ fault → ⊥) → r ≡ Err other → Owns fault a c r
+  Owns-other {other = other} h differs is = record { later = h; failed = λ e. absurd (differs (err_is other fault (sym is ∙ e))) }
+
+pub Blames-stored : {a b c : ℕ} {r : Result (Unit {0}) MakeFault} (fault : StoreFault) → a ≤ b → Owns Device b c (Err fault) → r ≡ Err (make_fault fault) → BlamesDevice a c r
+Blames-stored Blocks h owns is = Owns-other (let l = owns.later in omega arith) (λ e. cc) is
+Blames-stored Device h owns is = record { later = let l = owns.later in omega arith; failed = λ e. let rises = owns.failed refl in omega arith }
 
 pub TellsFull-weaker : {P Q : Type 0} → (P → Q) → (told : StoreFault) → TellsFull P told → TellsFull Q told
 TellsFull-weaker f Blocks h = f h
 TellsFull-weaker f Device h = h
 
 pub slot-put : (files : Files) (n : ℕ) (node : Node) → n < length files → slot (put files n node) n ≡ Some node
-slot-put files n node h = get_or-set_same files n (Some node) None h
+slot-put files n node h = get_or-set_same files n _ None h
 
 -- ---- how a step ends
 
@@ -33,7 +184,7 @@ module _ {old mid now : FileTree} {files : Files} (is : IsNow old mid files) {n 
 
 module _ {old mid : FileTree} (n : ℕ) (a b : Node) (is : IsNow old mid (put old.files n a)) where
   twice : put mid.files n b ≡ put old.files n b
-  twice = ap (λ (fs : Files). put fs n b) (now-files is) ∙ set-set old.files n (Some a) (Some b)
+  twice = ap (λ (fs : Files). put fs n b) (now-files is) ∙ set-set _ n _ _
 
   limit : mid.block_limit ≡ old.block_limit
   limit = ap (λ (t : FileTree). t.block_limit) is.is
@@ -61,11 +212,11 @@ took-thing {old} {now} number {kind} {major} {minor} t is_kind is_major is_minor
 -- it stands at its number, and what stood elsewhere stays
 module _ {old mid : FileTree} {number : ℕ} (node : Node) (free : IsUnnamed old.files number) (is : IsNow old mid (put old.files number node)) where
   pub here-now : slot mid.files number ≡ Some node
-  here-now = ap (λ (fs : Files). slot fs number) (now-files is) ∙ slot-put old.files number node free.high
+  here-now = ap (λ (fs : Files). slot fs number) (now-files is) ∙ slot-put _ number node free.high
 
   pub still-used : (d : ℕ) → slot old.files d ≢ None → slot mid.files d ≢ None
   still-used d some none =
-      some (sym (get_or-set_other old.files number d (Some node) None (λ e. some (ap (slot old.files) e ∙ free.unused))) ∙ sym (ap (λ (fs : Files). slot fs d) (now-files is)) ∙ none)
+      some (sym (get_or-set_other _ number d _ None (λ e. some (ap (slot old.files) e ∙ free.unused))) ∙ sym (ap (λ (fs : Files). slot fs d) (now-files is)) ∙ none)
 
 -- ---- the first two places of a directory
 
@@ -80,11 +231,11 @@ lacks-dots limit files n d here few =
 
 module _ (t : FileTree) (none : t.files ≡ free_slots (length t.files)) (some : 2 ≤ length t.files) where
   pub root-free : IsUnnamed t.files 1
-  root-free = record { low = omega arith; high = omega arith; unused = ap (λ (fs : Files). slot fs 1) none ∙ slot-free (length t.files) 1 }
+  root-free = record { low = omega arith; high = omega arith; unused = ap (λ (fs : Files). slot fs 1) none ∙ slot-free _ 1 }
 
   module _ {mid : FileTree} (is : IsNow t mid (put t.files 1 (Directory 1 []))) where
     pub root-bare : slot mid.files 1 ≡ Some (Directory 1 [])
-    root-bare = here-now (Directory 1 []) root-free is
+    root-bare = here-now _ root-free is
 
     -- no block is taken
     pub root-block : 1 ≤ t.block_limit → blocks_of mid.files + 1 ≤ mid.block_limit
@@ -94,5 +245,164 @@ module _ (t : FileTree) (none : t.files ≡ free_slots (length t.files)) (some :
     pub root-made : put mid.files 1 (bare_directory 1 1) ≡ bare_files (length t.files)
     unfolding bare_files
     root-made =
-        ap (λ (fs : Files). put fs 1 (bare_directory 1 1)) (now-files is) ∙ set-set t.files 1 (Some (Directory 1 [])) (Some (bare_directory 1 1))
+        ap (λ (fs : Files). put fs 1 (bare_directory 1 1)) (now-files is) ∙ set-set t.files 1 _ _
         ∙ ap (λ (fs : Files). put fs 1 (bare_directory 1 1)) none
+
+-- ---- a name at the end of a directory of which each place is in use
+
+module _ (places : List (Option Entry)) (packed : IsPacked places) where
+  room-packed : room_in places ≡ room_behind (length places)
+  room-packed = room-end places _ _ refl (omega arith) packed
+
+  room-is : ((length places < most_places) × (room_in places ≡ Some (length places))) ⊎ ((most_places ≤ length places) × (room_in places ≡ None))
+  room-is = elim (cases_lt (length places) most_places) [
+    | inl l ↦ inl (l, room-packed ∙ cond-true _ _ None (lt-ltb _ _ l))
+    | inr m ↦ inr (m, room-packed ∙ cond-false _ _ None (le-ltb (length places) _ m))
+  ]
+
+  room-some : (k : ℕ) → room_in places ≡ Some k → k ≡ length places
+  room-some k some = elim room-is [ inl e ↦ same_Some k _ (sym some ∙ e.1) | inr e ↦ absurd (none-some k (sym e.1 ∙ some)) ]
+
+pub packed-more : (places : List (Option Entry)) (e : Entry) → IsPacked places → IsPacked (places ++ Some e ∷ [])
+packed-more places e packed k high = elim (cases_lt k (length places)) [
+  | inl l ↦ ap is_some (get_or_append_left places (Some e ∷ []) None k l) ∙ packed k l
+  | inr m ↦
+      let last : k - length places ≡ 0 = omega (arith, length_push places (Some e)) in
+      ap is_some (get_or-append_right places _ _ k None refl m ∙ ap (λ j. slot (Some e ∷ []) j) last)
+]
+
+pub placed-end : (places : List (Option Entry)) (e : Entry) → placed places (length places) e ≡ places ++ Some e ∷ []
+placed-end places e = cond-false (nat_lt (length places) (length places)) (put places (length places) e) (places ++ Some e ∷ []) (le-ltb (length places) (length places) (omega arith))
+
+-- ---- what it takes
+
+pub linked-size : (t : Thing) (node : Node) → size_of (linked t node) ≡ size_of node
+linked-size Folder node = links-size node _
+linked-size thing node = refl
+
+-- a link takes no room
+lacks-linked : (limit : ℕ) (files : Files) (d : ℕ) (t : Thing) (node : Node) → d < length files → LacksRoomFor limit files d node → LacksRoomFor limit files d (linked t node)
+lacks-linked limit files d t node h lacks =
+    let size : size_of (linked t node) ≡ size_of node = linked-size t node in
+    let blocks : blocks_for (size_of (linked t node)) ≡ blocks_for (size_of node) = ap blocks_for size in
+    elim lacks [
+      | inl long ↦ inl (omega arith)
+      | inr full ↦ inr (omega (arith, blocks_of-set files d (Some node) h, blocks_of-set files d (Some (linked t node)) h))
+    ]
+
+module _ {files : Files} {d : ℕ} (h : HasDirectory files d) (e : Entry) where
+  abbrev named : Node
+  named = appended e (Directory h.links h.places)
+
+  pub within : d < length files
+  within = slot-within files d _ h.here
+
+  -- the directory with its new name
+  pub named-is : (k : ℕ) → room_in h.places ≡ Some k → entered files d k e ≡ put files d named
+  named-is k room =
+      let end = room-some h.places h.packed k room in
+      entered-is files d h.links _ h.here k e ∙ ap (λ k. put files d (Directory h.links (placed h.places k e))) end ∙ ap (λ ps. put files d (Directory h.links ps)) (placed-end _ e)
+
+  module _ (limit : ℕ) (t : Thing) where
+    pub lacks-place : None ≡ room_in h.places → LacksRoomFor limit files d (linked t named)
+    lacks-place none =
+        let many : most_places ≤ length h.places = elim (room-is h.places h.packed) [ inl e ↦ absurd (none-some _ (none ∙ e.1)) | inr e ↦ e.0 ] in
+        lacks-linked limit files d t named within (inl (omega (arith, length_push h.places (Some e))))
+
+    pub lacks-growth : (k : ℕ) → room_in h.places ≡ Some k → limit < blocks_of files + (growth h.places k + 0) → LacksRoomFor limit files d (linked t named)
+    lacks-growth k room few = lacks-linked limit files d t named within (inr (omega (arith, ap blocks_of (named-is k room), blocks_of-entered files d h.links h.places h.here k e)))
+
+  -- and with a link more
+  pub named-linked : change_node (put files d named) d more_links ≡ put files d (linked Folder named)
+  named-linked = change-is _ d _ named (slot-put files d named within) ∙ set-set files d _ _
+
+-- ---- the directory behind reads
+
+module _ {old mid : FileTree} (now : IsNow old mid old.files) {d : ℕ} where
+  abbrev pub room-now : {k : ℕ} → HasRoom old.files d k → HasRoom mid.files d k
+  room-now r = record { links = r.links; places = r.places; here = ap (λ (fs : Files). slot fs d) (now-files now) ∙ r.here; room = r.room }
+
+  abbrev pub room-was : {k : ℕ} → HasRoom mid.files d k → HasRoom old.files d k
+  room-was r = record { links = r.links; places = r.places; here = ap (λ (fs : Files). slot fs d) (sym (now-files now)) ∙ r.here; room = r.room }
+
+abbrev pub room-at : {files : Files} {d k : ℕ} (h : HasDirectory files d) → room_in h.places ≡ Some k → HasRoom files d k
+room-at h room = record { links = h.links; places = h.places; here = h.here; room = room }
+
+-- ---- the last place
+
+module _ {files : Files} {d : ℕ} (h : HasDirectory files d) where
+  pub room-full-at : most_places ≤ length h.places → None ≡ room_in h.places
+  room-full-at full = elim (room-is h.places h.packed) [ inl e ↦ absurd (let l = e.0 in omega arith) | inr e ↦ sym e.1 ]
+
+  pub room-end-at : {k : ℕ} → k ≡ length h.places → k < most_places → Some k ≡ room_in h.places
+  room-end-at is less = elim (room-is h.places h.packed) [ inl e ↦ ap Some is ∙ sym e.1 | inr e ↦ absurd (let m = e.0 in omega arith) ]
+
+-- what follows a look
+pub looks-done : {old now : FileTree} {T U : Type 0} {Was : T → Type 0} {Told : U → Type 0} {r : Result T DeviceFault} {x : T} {y : U} → Looks old now r Was → r ≡ Ok x → Told y → Looks old now (Ok y) Told
+looks-done {old} {now} {T} {Was = Was} {r = r} looks was told = record {
+  told = ((IfOk-at_ok (λ x. (now ≡ record old { failures = now.failures }) × Was x) was looks.told).0, told);
+  up = subst (λ (q : Result T DeviceFault). OnOk q (now.failed ≡ false)) was looks.up;
+  down = tt;
+  same_device = looks.same_device;
+  cause = record { later = looks.cause.later; failed = λ e. absurd (false≢true e) };
+}
+
+pub now-looked : {old now : FileTree} {T : Type 0} {Was : T → Type 0} {r : Result T DeviceFault} {x : T} → Looks old now r Was → r ≡ Ok x → IsNow old now old.files
+now-looked {old} {now} {Was = Was} looks was = record { is = (IfOk-at_ok (λ x. (now ≡ record old { failures = now.failures }) × Was x) was looks.told).0; later = looks.cause.later }
+
+-- ---- a file without bytes gets some, where there is room for all of them
+
+greatest-tells : (test : ℕ → Bool) (n : ℕ) → (greatest test n ≤ n) × (greatest test n < n → test n ≡ false)
+greatest-tells test zero = (omega arith, λ h. absurd (omega arith))
+greatest-tells test (suc n) = go _ refl (greatest-tells test n).0 where
+  go : (b : Bool) → test (suc n) ≡ b → greatest test n ≤ n → (elim b [ true ↦ suc n | false ↦ greatest test n ] ≤ suc n) × (elim b [ true ↦ suc n | false ↦ greatest test n ] < suc n → test (suc n) ≡ false)
+  go true e h = (omega arith, λ l. absurd (omega arith))
+  go false e h = (omega arith, λ l. e)
+
+-- bytes that are written into none are all that there are
+over-none : (bytes : List ℕ) (k : ℕ) → length bytes ≤ k → overwrite [] 0 (take k bytes) ≡ bytes
+over-none bytes k all = ap (λ r. take k bytes ++ r) (drop_all _ [] (omega arith)) ∙ append-nil _ ∙ take_all k bytes all
+
+module _ (limit : ℕ) (files : Files) (n : ℕ) (bytes : List ℕ) (here : slot files n ≡ Some (File 1 [])) where
+  abbrev fit : ℕ
+  fit = fitting limit files n 0 1 [] bytes
+
+  abbrev all : Written
+  all = with_bytes files n 0 1 [] bytes fit
+
+  abbrev w : Option Written
+  w = written limit files n 0 bytes
+
+  w-is : w ≡ cond (nat_le (0 + length bytes) longest) (Some all) None
+  unfolding written
+  w-is = ap (write_to limit files n 0 bytes) here
+
+  short : length bytes ≤ longest → w ≡ Some all
+  short h = w-is ∙ rw (le-leb (0 + length bytes) longest (omega arith)) refl
+
+  long : longest < length bytes → w ≡ None
+  long h = w-is ∙ rw (lt-leb (0 + length bytes) longest (omega arith)) refl
+
+  pub fill-long : None ≡ count_of w → longest < length bytes
+  fill-long told = elim (cases_lt longest (length bytes)) [ inl l ↦ l | inr m ↦ absurd (none-some fit (told ∙ ap count_of (short m))) ]
+
+  module _ {count : ℕ} (told : Some count ≡ count_of w) where
+    -- it is written at all
+    fits : length bytes ≤ longest
+    fits = elim (cases_lt longest (length bytes)) [ inl l ↦ absurd (none-some count (sym (ap count_of (long l)) ∙ sym told)) | inr m ↦ m ]
+
+    counted : count ≡ fit
+    counted = same_Some count fit (told ∙ ap count_of (short fits))
+
+    pub fill-less : count < length bytes → limit < blocks_of (put files n (File 1 bytes))
+    unfolding fitting
+    fill-less less =
+        let no = (greatest-tells (λ k. nat_le (blocks_of (with_file files n 1 (overwrite [] 0 (take k bytes)))) limit) (length bytes)).1 (omega (arith, counted)) in
+        leb-false (blocks_of (put files n (File 1 bytes))) limit (ap (λ bs. nat_le (blocks_of (put files n (File 1 bs))) limit) (sym (over-none bytes (length bytes) (omega arith))) ∙ no)
+
+    pub fill-whole : length bytes ≤ count → files_after files w ≡ put files n (File 1 bytes)
+    unfolding fitting
+    fill-whole whole =
+        let most = (greatest-tells (λ k. nat_le (blocks_of (with_file files n 1 (overwrite [] 0 (take k bytes)))) limit) (length bytes)).0 in
+        let many : length bytes ≤ fit = omega (arith, counted) in
+        ap (files_after files) (short fits) ∙ ap (λ bs. put files n (File 1 bs)) (over-none bytes fit many)

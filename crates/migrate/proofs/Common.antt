@@ -3,7 +3,7 @@ pub use Rattle.std.proofs.Common.{◌+◌, ◌++◌, ◌<◌, ◌==◌, [], ap, 
 pub use Rattle.std.proofs.lemmas.Bool.{cases_lt, false≢true}
 pub use Rattle.std.proofs.lemmas.List.{append-nil, drop_all, ext_get_or, get_or-set_other, get_or-set_same, length-set, set-set}
 pub use Rattle.std.specs.Prelude.{false, is_some, IsOk, IsSome, OnOk, unwrap_or}
-pub use Rattle.imagemake.proofs.Owned.{told_err}
+pub use Rattle.imagemake.proofs.Putting.{told_err}
 pub use Rattle.imagemake.specs.Nodes.{major_of, minor_of}
 pub use Rattle.imagerules.proofs.Bounds.{HasPlace-at, inodes-least, inodes-most}
 pub use Rattle.imagerules.proofs.Denoting.{Denotes-files, HasKinds-denotes, HasSizes-denotes, node_fits}

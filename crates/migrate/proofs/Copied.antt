@@ -8,12 +8,11 @@ use Rattle.std.specs.List.{range_with_len}
 use Rattle.std.proofs.lemmas.List.Sums.{sum_by-le-sum_by}
 use Rattle.imagecheck.proofs.Collecting.{sum_by-places}
 use Rattle.imagerules.proofs.Nodes.{file_in-free, file_in-used, slot-files_in, PlacesFit}
-use Rattle.imagemake.proofs.MadeBare.{length-free, slot-free}
+use Rattle.imagemake.proofs.Putting.{length-free, slot-free}
 use Rattle.migrate.specs.declared.fault.MigrateFault.TheVariants.{Blocks}
 use Rattle.imagerules.specs.Content.{image_of}
 use Rattle.imagemake.specs.Added.{IsBlank, IsPossible}
-use Rattle.imagemake.proofs.Denoted.{Denotes-stored, legible}
-use Rattle.imagemake.proofs.Imaging.{blank-stores}
+use Rattle.imagemake.proofs.Imaging.{Denotes-stored, legible, blank-stores}
 use Rattle.blockdev.specs.declared.DeviceFault.{DeviceFault}
 use Rattle.imagecheck.specs.Faults.{Denies, Tells}
 use Rattle.imagecheck.specs.declared.ImageFault.{ImageFault}

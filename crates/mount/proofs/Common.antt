@@ -7,8 +7,7 @@ pub use Rattle.std.proofs.lemmas.List.Elements.{All-head, All-tail, All-weaker}
 pub use Rattle.std.proofs.lemmas.List.Sums.{sum_by-cons}
 pub use Rattle.std.specs.List.{list_any, range_with_len}
 pub use Rattle.blockdev.specs.Blocks.{AreBlocks}
-pub use Rattle.imagemake.proofs.Legible.{bit-held, IsLegible, named-decides}
-pub use Rattle.imagemake.proofs.Slotted.{contents-are, format-told, HasSlots, IsReadable, IsReadable-listed, length-taken, slot-listed, spare-zero}
+pub use Rattle.imagemake.proofs.Slotted.{bit-held, IsLegible, named-decides, contents-are, format-told, HasSlots, IsReadable, IsReadable-listed, length-taken, slot-listed, spare-zero}
 pub use Rattle.imagemake.specs.Making.{MakesImage, Refuses}
 pub use Rattle.imagerules.proofs.Spelling.{image_of-blocks, length-image_of}
 pub use Rattle.imagerules.proofs.Denoting.{Denotes-files, HasKinds-denotes, HasSizes-denotes, node_fits}

@@ -1,7 +1,6 @@
 use Rattle.imagemake.proofs.Common.{ap, arith, length, sym, ◌∙◌, bare_files, meaning, now-begin, now-files, now-limit, now-turned, now-up}
 use Rattle.imagemake.proofs.Imaging.{makes-all, refuses-all}
-use Rattle.imagemake.proofs.MadeBare.{length-bare}
-use Rattle.imagemake.proofs.Owned.{Owns-after, Owns-failed}
+use Rattle.imagemake.proofs.Putting.{length-bare, Owns-after, Owns-failed}
 use Rattle.imagemake.proofs.put_files.Goals as goal
 
 pub store_root-requires : goal.store_root-requires
@@ -13,7 +12,7 @@ returns-in_default-clause-cause g c = Owns-failed (omega arith) c.store_root.ens
 pub add_entries-requires : goal.add_entries-requires
 add_entries-requires g c =
     let now = now-turned now-begin c.store_root.ensures c.in-Ok.is in
-    let long = ap length (now-files now) ∙ length-bare (length c.args.tree.now.files) (omega (arith, c.requires.some)) in
+    let long = ap length (now-files now) ∙ length-bare _ (omega (arith, c.requires.some)) in
     record {
       up = now-up now c.requires.up;
       root = now-files now ∙ ap bare_files (sym long);
@@ -26,7 +25,7 @@ add_entries-requires g c =
 pub returns : goal.returns
 returns g c =
     let now = now-turned now-begin c.store_root.ensures c.in-Ok.is in
-    let long = ap length (now-files now) ∙ length-bare (length c.args.tree.now.files) (omega (arith, c.requires.some)) in
+    let long = ap length (now-files now) ∙ length-bare _ (omega (arith, c.requires.some)) in
     record {
       made = makes-all now long (meaning c.args.entries.now) c.add_entries.new.tree c.add_entries.result c.add_entries.ensures.made;
       refused = refuses-all now long (meaning c.args.entries.now) c.add_entries.result c.add_entries.ensures.refused;

@@ -1,8 +1,7 @@
 use Rattle.imagemake.proofs.Common.{◌≡◌, ◌+◌, ap, arith, length, refl, sym, subst, ◌∙◌, length_push, err_from_is_err_and, with_manifest_entry, Refuses, thing_of, le-leb}
-use Rattle.imagemake.proofs.Entered.{AddsEntry-stored, CanAdd-next, made-few, refused-stored}
-use Rattle.imagemake.proofs.Owned.{Owns-done, Owns-other, Blames-stored, none-done, told_err}
+use Rattle.imagemake.proofs.MadeSearch.{AddsEntry-stored, CanAdd-next, made-few, refused-stored, entry-spot}
+use Rattle.imagemake.proofs.Putting.{Owns-done, Owns-other, Blames-stored, none-done, told_err}
 use Rattle.imagemake.proofs.Things.{folder-thing}
-use Rattle.imagemake.proofs.Spotting.{entry-spot}
 use Rattle.imagemake.proofs.entry.add_entry.Goals as goal
 
 pub is_whole-requires : goal.is_whole-requires
@@ -73,10 +72,10 @@ push-requires g c = record {
 
 pub returns : goal.returns
 returns g c =
-    let longer : length c.push.new.self.items ≡ length c.args.made.now.items + 1 = ap length c.push.ensures.items ∙ length_push c.args.made.now.items _ in
+    let longer : length c.push.new.self.items ≡ length c.args.made.now.items + 1 = ap length c.push.ensures.items ∙ length_push _ _ in
     let adds = AddsEntry-stored c.is_whole.ensures c.requires.made c.in_ok-spot.ensures.spot (omega (arith, c.if-number-numbers.false, c.len-number.ensures, c.numbers.ensures)) (ap (λ k. k + 2) c.len-number.ensures)
-    (thing_of c.args.entry.now.thing) c.in_ok-store_entry.ensures c.as_slice-path.ensures.value refl c.push.ensures.items
-    (c.is_directory.ensures ∙ folder-thing (length c.args.made.now.items + 2) c.in_ok-spot.spot.directory c.args.entry.now.thing) in
+    (thing_of _) c.in_ok-store_entry.ensures c.as_slice-path.ensures.value refl c.push.ensures.items
+    (c.is_directory.ensures ∙ folder-thing _ c.in_ok-spot.spot.directory _) in
     record {
       added = adds;
       room = omega (arith, c.requires.room, c.push.ensures.room, longer, adds.long);

@@ -1,12 +1,12 @@
 use Rattle.imagemake.proofs.Common.{ap, is_some, refl, sym, ◌∙◌}
-use Rattle.imagemake.proofs.Spotting.{entry-at, entry-name, entry-reaches, path-is, reaches, spot-at}
+use Rattle.imagemake.proofs.MadeSearch.{entry-at, entry-name, entry-reaches, path-is, reaches, spot-at}
 use Rattle.imagemake.proofs.entry.locate.Goals as goal
 
 pub returns-then-not-is_path-clause-refused : goal.returns-then-not-is_path-clause-refused
 returns-then-not-is_path-clause-refused c = λ blocks inodes files n thing listed. entry-name blocks inodes files n (record { path = c.args.path.now; thing = thing }) (sym c.if-not-is_path.ensures)
 
 pub locate-requires-clause-slash : goal.locate-requires-clause-slash
-locate-requires-clause-slash c = (path-is c.args.path.now (sym c.if-not-is_path.ensures)).slash
+locate-requires-clause-slash c = (path-is _ (sym c.if-not-is_path.ensures)).slash
 
 pub returns-in_default-clause-refused : goal.returns-in_default-clause-refused
 returns-in_default-clause-refused c = let none = c.in_default.ensures.none in entry-reaches (reaches (sym c.if-not-is_path.ensures) none.1)

@@ -4,12 +4,12 @@ use Rattle.imagemake.proofs.path.is_path.Goals as goal
 
 pub returns-then-not-is_good_name : goal.returns-then-not-is_good_name
 returns-then-not-is_good_name c =
-    sym (all_next c.args.path.now c.name.at c.in-Some.end c.in-Some.ensures false (sym c.if-not-is_good_name.ensures)) ∙ c.name.invariant.rest
+    sym (all_next _ _ c.in-Some.end c.in-Some.ensures false (sym c.if-not-is_good_name.ensures)) ∙ c.name.invariant.rest
 
 pub name-preserved : goal.name-preserved
 name-preserved c = record {
-  within = within_next c.args.path.now c.name.at c.in-Some.end c.in-Some.ensures;
-  rest = sym (all_next c.args.path.now c.name.at c.in-Some.end c.in-Some.ensures true (sym c.if-not-is_good_name.ensures)) ∙ c.name.invariant.rest;
+  within = within_next _ _ c.in-Some.end c.in-Some.ensures;
+  rest = sym (all_next _ _ c.in-Some.end c.in-Some.ensures true (sym c.if-not-is_good_name.ensures)) ∙ c.name.invariant.rest;
 }
 
 pub returns : goal.returns

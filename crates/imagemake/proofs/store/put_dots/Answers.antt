@@ -9,7 +9,7 @@ pub returns-then-not-branch : goal.returns-then-not-branch
 returns-then-not-branch g c =
     let t = c.args.tree.now in
     puts-full (now-read now-begin c.has_blocks.ensures c.in_ok-has_blocks.was)
-    (lacks-dots t.block_limit t.files c.args.number c.args.directory c.requires.bare (leb-false (blocks_of t.files + 1) t.block_limit (sym c.in_ok-has_blocks.ensures.serves.told.1 ∙ c.if-not-branch.true)))
+    (lacks-dots _ t.files _ _ c.requires.bare (leb-false _ _ (sym c.in_ok-has_blocks.ensures.serves.told.1 ∙ c.if-not-branch.true)))
 
 pub put_dots-requires : goal.put_dots-requires
 put_dots-requires g c =

@@ -8,7 +8,7 @@ store_node-requires g c =
     record { up = c.requires.up; number = can.number; directory = λ none. none-some (Directory can.links can.places) (sym none ∙ can.directory) }
 
 pub returns-in_err-store_node : goal.returns-in_err-store_node
-returns-in_err-store_node g c = node-refused c.args.tree.now (thing_of c.args.thing.now) c.requires.able c.in_err-store_node.ensures c.from_residual.ensures.1
+returns-in_err-store_node g c = node-refused _ _ c.requires.able c.in_err-store_node.ensures c.from_residual.ensures.1
 
 pub store_name-requires : goal.store_name-requires
 store_name-requires g c =
@@ -22,10 +22,10 @@ store_name-requires g c =
     }
 
 pub returns-in_err-store_name : goal.returns-in_err-store_name
-returns-in_err-store_name g c = name-refused c.args.tree.now (thing_of c.args.thing.now) c.requires.able c.in_ok-store_node.ensures c.in_err-store_name.ensures c.from_residual-in_err-store_name.ensures.1
+returns-in_err-store_name g c = name-refused _ _ c.requires.able c.in_ok-store_node.ensures c.in_err-store_name.ensures c.from_residual-in_err-store_name.ensures.1
 
 pub is_whole-requires : goal.is_whole-requires
-is_whole-requires g c = named-up c.args.tree.now (thing_of c.args.thing.now) c.requires.able c.in_ok-store_node.ensures c.in_ok-store_name.ensures c.requires.up
+is_whole-requires g c = named-up _ _ c.requires.able c.in_ok-store_node.ensures c.in_ok-store_name.ensures c.requires.up
 
 pub returns : goal.returns
-returns g c = stores-named c.args.tree.now (thing_of c.args.thing.now) c.requires.able c.in_ok-store_node.ensures c.in_ok-store_name.ensures c.is_whole.ensures
+returns g c = stores-named _ _ c.requires.able c.in_ok-store_node.ensures c.in_ok-store_name.ensures c.is_whole.ensures

@@ -1,7 +1,6 @@
 use Rattle.imagemake.proofs.Common.{◌≡◌, ap, arith, subst, sym, ◌∙◌, leb-false, leb-true, Ok, IsPlain-name, entered, Files, change_node, put, slot, appended, linked, more_links, IsNow, now-begin, now-files, now-limit, now-read, now-up}
-use Rattle.imagemake.proofs.Common.{some-now, now-changed, HasDirectory, Puts, thing_of, blocks_of, Entry, Directory}
-use Rattle.imagemake.proofs.Named.{lacks-growth, lacks-place, named-is, named-linked, now-looked, room-at, room-now, room-was, within}
-use Rattle.imagemake.proofs.Putting.{puts-done, puts-full, puts-lost, slot-put}
+use Rattle.imagemake.proofs.Common.{some-now, now-changed, HasDirectory, Puts, blocks_of, Entry, Directory}
+use Rattle.imagemake.proofs.Putting.{lacks-growth, lacks-place, named-is, named-linked, now-looked, room-at, room-now, room-was, within, puts-done, puts-full, puts-lost, slot-put}
 use Rattle.imagemake.proofs.Things.{thing-folder, thing-unlinked}
 use Rattle.imagemake.proofs.store.store_name.Given as given
 use Rattle.imagemake.proofs.store.store_name.Goals as goal
@@ -15,7 +14,7 @@ returns-in_err-place g c = λ h. puts-lost now-begin c.last_place.ensures.cause 
 
 pub returns-in_default : goal.returns-in_default
 returns-in_default g c = λ h.
-    puts-full (now-looked c.last_place.ensures c.in_ok-place.was) (lacks-place h (record { name = c.args.name.now; number = c.args.number }) c.args.tree.now.block_limit (thing_of c.args.thing.now) (sym c.in_default.is ∙ c.in_ok-place.ensures.told.1 h))
+    puts-full (now-looked c.last_place.ensures c.in_ok-place.was) (lacks-place h (record { name = c.args.name.now; number = c.args.number }) _ _ (sym c.in_default.is ∙ c.in_ok-place.ensures.told.1 h))
 
 pub has_room-requires : goal.has_room-requires
 has_room-requires g c =
@@ -32,7 +31,7 @@ returns-then-not-branch g c = λ h.
     let room = sym (c.in_ok-place.ensures.told.1 h) ∙ c.in-Some.is in
     let few = leb-false _ _ (sym (c.in_ok-has_room.ensures.serves.told.1 (room-now now (room-at h room))) ∙ c.if-not-branch.true) in
     puts-full (now-read now c.has_room.ensures c.in_ok-has_room.was)
-    (lacks-growth h (record { name = c.args.name.now; number = c.args.number }) c.args.tree.now.block_limit (thing_of c.args.thing.now) c.in-Some.place room (omega (arith, few, ap blocks_of (now-files now), now-limit now)))
+    (lacks-growth h (record { name = c.args.name.now; number = c.args.number }) _ _ c.in-Some.place room (omega (arith, few, ap blocks_of (now-files now), now-limit now)))
 
 pub put_entry-requires : goal.put_entry-requires
 put_entry-requires g c =

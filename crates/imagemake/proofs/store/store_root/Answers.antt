@@ -11,10 +11,10 @@ returns-in_err-take_node_at g c = end-lost now-begin c.take_node_at.ensures c.in
 pub put_dots-requires : goal.put_dots-requires
 put_dots-requires g c =
     let now = now-turned now-begin c.take_node_at.ensures c.in_ok-take_node_at.was in
-    let bare = root-bare c.args.tree.now c.requires.none c.requires.some now in
+    let bare = root-bare _ c.requires.none c.requires.some now in
     record { up = now-up now c.requires.up; bare = bare; above = λ none. none-some (Directory 1 []) (sym none ∙ bare); block = root-block c.args.tree.now c.requires.none c.requires.some now c.requires.block }
 
 pub returns : goal.returns
 returns g c =
     let now = now-turned now-begin c.take_node_at.ensures c.in_ok-take_node_at.was in
-    turned-last now c.put_dots.result c.put_dots.ensures (root-made c.args.tree.now c.requires.none c.requires.some now)
+    turned-last now _ c.put_dots.ensures (root-made _ c.requires.none c.requires.some now)

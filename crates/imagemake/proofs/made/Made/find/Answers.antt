@@ -1,5 +1,5 @@
 use Rattle.imagemake.proofs.Common.{None, Some, ap, ◌∙◌, Names, found}
-use Rattle.imagemake.proofs.NameMap.{found-index}
+use Rattle.imagemake.proofs.Pathing.{found-index}
 use Rattle.imagemake.proofs.made.Made.find.Goals as goal
 
 pub returns-in_err-i : goal.returns-in_err-i

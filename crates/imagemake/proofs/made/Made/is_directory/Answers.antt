@@ -1,10 +1,9 @@
 use Rattle.imagemake.proofs.Common.{None, Some, ap, sym, arith, ◌∙◌, Names, is_folder}
-use Rattle.imagemake.proofs.NameMap.{folder-entry}
-use Rattle.imagemake.proofs.Pathing.{is_folder-low}
+use Rattle.imagemake.proofs.Pathing.{folder-entry, is_folder-low}
 use Rattle.imagemake.proofs.made.Made.is_directory.Goals as goal
 
 pub returns-then-number-lt2 : goal.returns-then-number-lt2
-returns-then-number-lt2 c = sym (is_folder-low c.args.self.now.items c.args.number (omega arith))
+returns-then-number-lt2 c = sym (is_folder-low _ _ (omega arith))
 
 pub returns-in-Some : goal.returns-in-Some
 returns-in-Some c =

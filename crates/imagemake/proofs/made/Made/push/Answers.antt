@@ -1,6 +1,6 @@
 use Rattle.imagemake.proofs.Common.{[], ◌∷◌, ◌++◌, ap, map, subst, sym, ◌∙◌, LeadsTo, Names, found, made_name, name_of}
-use Rattle.imagemake.proofs.Leading.{leads-push}
-use Rattle.imagemake.proofs.NameMap.{names-insert}
+use Rattle.imagemake.proofs.MadeSearch.{leads-push}
+use Rattle.imagemake.proofs.Pathing.{names-insert}
 use Rattle.imagemake.proofs.made.Made.push.Goals as goal
 
 pub returns-clause-items : goal.returns-clause-items
