@@ -1,4 +1,4 @@
--- open: the running process has a new open file on a node.
+-- open, chdir and exec: a node is opened, comes to be the directory of the running process, or gives its program.
 use Rattle.calls.proofs.Common.{[], Acts, ActsOnDisk, and_parts, answered, answered-here, Answers, answers, ap, args_at, argument, arith, blocks_of, Bool, Came, change_node, Chdir, chdir_row, count_by, descriptors_in, DeviceFault}
 use Rattle.calls.proofs.Common.{Directory, directory_at, Done, enter-parts, Err, Exec, exec_row, false, false≢true, File, file_bytes, file_of, Files, FileTree, find, fits_beside, FitsNode, frames-state, free-None, free-opens, free_count}
 use Rattle.calls.proofs.Common.{free_slot, get_or-set_other, get_or-set_same, given, has_bit, has_failed, has_seat, HasRead, HasReplaced, held-here, Here, here-as, here-of, if◌then◌else◌, inl, InodeStat, inr, is_directory, is_none}

@@ -1,4 +1,4 @@
--- pipe: the running process opens both ends of a new pipe.
+-- pipe, dup and close: descriptors come and go.
 use Rattle.calls.proofs.Common.{[], Acts, answered, answered-here, Answers, ap, argument, arith, can_write, changed, clear, Close, close_row, count_by, Counted, counting, descriptors-run, descriptors_at, descriptors_in, Done, Dup}
 use Rattle.calls.proofs.Common.{dup-state, dup_row, false, free-here, free-None, free-opens, free-place, free-put, free_count, free_slot, held-here, Here, here-as, is_none, is_within, IsKernel, IsPlaced, IsServed, Kernel, le, length-set}
 use Rattle.calls.proofs.Common.{limited, List, low, me, memory_at, moved-state, None, opens-opened, Option, option_map, page_frames, Pipe, pipe_end, pipe_row, Places, Process, put, ReadEnd, refl, Refuses, set-set, slice_set, slot, slot-put}

@@ -1,4 +1,4 @@
--- kill: a process is marked; one that marks itself is answered, and ends.
+-- kill, fork, sbrk and wait: calls on processes. A process that marks itself is answered, and ends.
 use Rattle.calls.proofs.Common.{[], Acts, answer-here, answered, answered-here, Answers, answers, ap, argument, arith, asked, base, Blocks, blocks_of, Bool, Came, can_answer, cast_unsigned, change_process, changed, clear, collected, copied}
 use Rattle.calls.proofs.Common.{descriptors_at, Done, end_at, end_process, ended, ends-run, Err, false, Files, Fork, forked_as, frames_of, free_slot, get_or-set_other, given, goes_on, GoesOn, has_child, held-here, Here, here-as, here-of}
 use Rattle.calls.proofs.Common.{IfSome, int_of, is_described, is_same, is_some, is_within, IsKernel, IsPending, kept-cong, Kernel, Kill, KillsItself, last_pid, le, le-leb, length, limited, links_of, List, loaded, map, marked, marked_by, me}

@@ -1,4 +1,4 @@
--- A write to the console puts out all of its bytes, and one to a pipe puts in what fits of them.
+-- Writes to the console and to a pipe, and reads from them.
 use Rattle.calls.proofs.Common.{[], answered, Answers, answers, ap, Appends, Appends-nil, Appends-trans, arith, begins_more, Blocks, Bool, bytes_given, bytes_in, Came, can_write, CanWait, Comes, descriptors_at, Done, drew, drew-state, drop}
 use Rattle.calls.proofs.Common.{eq-eqb, false, false≢true, GoesOn, going_at, held-same, if◌then◌else◌, is_on_pipe, is_some, IsFresh, IsFront, IsKernel, IsPending, IsSized, Kernel, leb-true, length, length-drop, length-take, length-take-le}
 use Rattle.calls.proofs.Common.{limited, List, Load, me, Memory, memory_at, min, minus_one, nat_eq, nat_le, nat_lt, ne_eqb, not, Option, Outcome, Pending, pending_arg, piece_at, pipe_room, put, put_process, reach, read_bytes, read_on}

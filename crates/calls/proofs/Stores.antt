@@ -1,4 +1,4 @@
--- A read and a write of a file, whose offset goes on behind what was transferred.
+-- A read and a write of a file, whose offset goes on behind what was transferred; and fstat.
 use Rattle.calls.proofs.Common.{[], Acts, and_parts, Answers, answers, ap, argument, arith, blocks_of, Bool, bytes_of, bytes_read, can_write, cond_some, counting, descriptors_at, Directory, Done, drop, Err, false, File, file-opens, file_at}
 use Rattle.calls.proofs.Common.{file_of, Files, FileTree, FitsNode, Fstat, fstat_row, given, GoesOn, HasRead, Here, here-as, here-in, if◌then◌else◌, InodeStat, IsKernel, IsServed, IsWhole, Kernel, le, leb-true, length, length-drop}
 use Rattle.calls.proofs.Common.{length-take, limited, List, longest, low, me, memory_at, minus_one, nat_le, Node, node_bytes, node_of, node_on, None, none-some, Ok, OnNode, opens-moved, Option, option_map, Outcome, Pending, pending_arg}

@@ -1,4 +1,4 @@
--- The frames after a store show the memory after it, and nothing else is new.
+-- The frames after a store show the memory after it, and nothing else is new; so a cycle is done again where its store is let through.
 use Rattle.hart.proofs.Common.{Ram, act, act_word, ap, arith, Bool, bytes_at, Cause, Computed, cond, cycle, Effect, Err, extend, false, Fetch, fetched, IllegalInstruction, inl, inr, Instr, instruction_of, InstructionPageFault, is_taken}
 use Rattle.hart.proofs.Common.{IsSize, le, length, List, Load, load_from, load_size, LoadOp, Memory, None, number, Ok, Option, Page, page_for, plus, refl, slice_index, Some, Store, store_size, store_to, StoreOp, Stores, subst, suc, trap}
 use Rattle.hart.proofs.Common.{true, zero, ℕ, ◌%◌, ◌*◌, ◌/◌, ◌==◌, ◌≡◌, [], append_assoc, Bytes, cases_eq, Change, changed, drop, frame_of, get_or, get_or-set_other, get_or-set_same, get_or_from_slice_get, IsAlone, IsMemory, IsSound}

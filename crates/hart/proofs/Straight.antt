@@ -1,4 +1,4 @@
--- Places in a page, and the words there.
+-- Operations of a page, one after the other; places in a page, and the words there.
 use Rattle.hart.proofs.Common.{Ram, Access, act_word, Acts, allowed, Answers, ap, changed, Computed, cycle, Effect, Err, Fetch, fetched, frame_for, Goes, Hart, Held, HoldsInside, inl, inr, instruction_of, InstructionPageFault, IsAnswer}
 use Rattle.hart.proofs.Common.{IsKept, IsMemory, Leaves, List, Mapped, Memory, memory_of, Next, None, Ok, Option, option_map, page_in, pc_after, place_in, Point, point_at, Reaches, refl, RunsTo, seen, Shows, Sight, Some, Stores, subst, suc}
 use Rattle.hart.proofs.Common.{sym, Trap, trap, trap_of, walk_page-inside, word_by, word_in, ℕ, ◌/◌, ◌∙◌, ◌≡◌, [], arith, Behind, GoesOn, IsOp, number, Op, op_by, pc_at, plus, point_of, slice_index_or, slice_range, StaysWhole, word_of, ◌%◌}

@@ -1,4 +1,4 @@
--- The places of a directory, one after the other.
+-- The places of a directory, one after the other, and what holds of their entries: that names stand once, and what they name.
 use Rattle.imagecheck.proofs.Common.{◌≡◌, ◌≢◌, ℕ, List, [], ◌∷◌, None, Option, Some, get_or, drop, ap, sym, refl, ◌∙◌, arith, true, false, suc, All, AllPairs, bytes_eq, cond-false, cond-true, cond_both, false≢true, none-some, All-cons}
 use Rattle.imagecheck.proofs.Common.{All-head, All-nil, All-tail, bytes_eq-Decides, dot, dot_dot, has_name, is_dot_name, slot, taken, first_named, Entry, ◌+◌, ◌-◌, ◌*◌, ◌/◌, ◌<◌, ◌≤◌, ◌++◌, length, take, subst, inl, inr, not, IsSome}
 use Rattle.imagecheck.proofs.Common.{is_some, ◌==◌, cases_eq, get_or-drop, length-drop, length-take-le, take_more, filter_map-append, Node, inodes_in, kind_in, entries_in, entries_to, files_in, place_of_bytes, places_in, file_in-used}

@@ -1,4 +1,4 @@
--- Files at rest keep the rules of a running machine.
+-- Files at rest keep the rules of a running machine, and files of a running machine whose nodes all have links those of files at rest.
 use Rattle.imagemake.proofs.Common.{◌≡◌, ◌≢◌, ℕ, zero, suc, ◌+◌, ◌<◌, ◌≤◌, Bool, true, false, cond, not, List, [], ◌∷◌, inl, inr, length, get_or, ap, sym, refl, ◌∙◌, arith, All, AllPairs, IsTrue, bytes_eq, count_by, cases_Bool}
 use Rattle.imagemake.proofs.Common.{false_from_ne_true, All-head, All-tail, sum_by-cons, bytes_eq-Decides, is_name, Entry, subst, ◌==◌, Files, slot, all_entries, entries_of, names_of, parent_of, names_by, eq-eqb, IsDirectory, KeepsNode}
 use Rattle.imagemake.proofs.Common.{EntriesAt-from, None, Option, Some, option_map, unwrap_or, cases_eq, cond-false, false≢true, Node, dot_dot, is_directory, KeepsRules, is_directory_at, subdirectories, KeepsLive, KeepsTree, folders}

@@ -1,4 +1,4 @@
--- Files with an entry more: what stands at each number.
+-- Files with an entry more: what stands at each number, and that they keep the rules.
 use Rattle.imagemake.proofs.Common.{at_or, get_or-set_other, get_or-set_same, length-set, ◌≡◌, ◌≢◌, ℕ, ◌+◌, true, List, [], ◌∷◌, ◌++◌, length, Option, Some, set, ap, sym, refl, ◌∙◌, subst, option_map, unwrap_or, cond, set_comm, arith}
 use Rattle.imagemake.proofs.Common.{false≢true, none-some, slot-within, Files, Node, is_directory, put, slot, added, appended, linked, node_for, CanAdd, Folder, Entry, Directory, Thing, false, None, suc, ◌*◌, ◌<◌, ◌≤◌, inl, inr, cases_eq}
 use Rattle.imagemake.proofs.Common.{length_push, set-set, IsSome, links_of, longest, lookup, KeepsNode, KeepsRules, KeepsSize, subdirectories, HasDirectory, IsDirectory, HasLinked, more_links, new_directory, Spot, most_places, change-is}

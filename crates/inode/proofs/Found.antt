@@ -1,4 +1,4 @@
--- Where a byte of a file stands, as its record tells it.
+-- Where a byte of a file stands, as its record tells it, and another size of it.
 use Rattle.inode.proofs.Common.{◌≡◌, ℕ, ◌+◌, ◌-◌, ◌*◌, ◌/◌, ◌%◌, ◌^◌, ◌<◌, ◌≤◌, false, true, List, drop, length, get_or, min, set, ap, sym, subst, ◌∙◌, arith, refl, get_or-drop, nat_tests, block_at, part, splice, little_number, number_at}
 use Rattle.inode.proofs.Common.{in_record, address_of, place_of, holder_of, record_in, Blocks, inode_at, inode_of, Asks, Geometry, HasIndex, HasInode, IsInode, IsSound, Fits, LiesInBlock, Prepares, WritesAt, WritesInode, Wrote, HasParts}
 use Rattle.inode.proofs.Common.{HasParts-kept, take_all, blocks_for, bytes_of, single, slot_in, length-bytes_of, ◌⊎◌, [], take, inl, inr, ext_get_or, little_bytes, part-splice_apart, part-splice_same}

@@ -1,4 +1,4 @@
--- Which process runs, the end of a process, and one that is marked.
+-- Which process runs, the end of a process, one that is marked, and one that is picked.
 use Rattle.kernel.proofs.Common.{◌≡◌, ◌≢◌, ℕ, zero, suc, ◌+◌, ◌<◌, ◌%◌, is_zombie_mode, not, true, false, nat_eq, List, [], ◌∷◌, ◌++◌, length, map, Option, Some, None, ℤ, refl, ap, sym, ◌∙◌, arith, option_map, no_pages, unwrap_or}
 use Rattle.kernel.proofs.Common.{with_space, slice_index, slice_set, ne_eqb, nat_tests, get_or-set_other, length-map, length-set, option_eq, all_closed, standing, AreHeld, all_dropped, files_on, gone_nodes, home_in, homes_at, all-set}
 use Rattle.kernel.proofs.Common.{Kernel, base, ended, halted_by, idle, lives, loaded, on_hart, rest_of, state_of, IsKernel, IsMode, IsPlace, IsPlaced, WaitsWell, is_at, one_in, Counts, one_at, sum_by-cons, sum_by-set, none-some, opens_of}

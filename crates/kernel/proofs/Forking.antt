@@ -1,4 +1,4 @@
--- A process forks.
+-- A process forks, or executes another program.
 use Rattle.kernel.proofs.Common.{option_map, with_space, slice_index, get_or-set_other, length-map, length-set, taken_frames, put_process, is_zombie_mode, taken-placed, prefix_len-set, position-Some, page_frames, shared_page, table-shared}
 use Rattle.kernel.proofs.Common.{with_hold, IsInUse, slice_set, all_shared, state_of, IsKernel, IsOpened, with_table, SpaceView, frames_in, has_space, is_within, IsWatched, awaited_in, true≢false, and_parts, forked_as, with_view, free_slot}
 use Rattle.kernel.proofs.Common.{home_in, nat_le, length, Option, is_none, is_some, Kernel, on_hart, rest_of, IsPlace, IsPlaced, Process, Places, Watches, opens_of, MayFork, child_of, seat_at, seat_of, set_comm, last_pid, IsTable, file_at}

@@ -1,4 +1,4 @@
--- The places with their spaces change and are searched as the places alone.
+-- The places with their spaces change and are searched as the places alone; what open files and descriptors name.
 use Rattle.kernel.proofs.Common.{Bool, List, None, Ok, Option, Some, [], cond, drop, false, is_none, is_some, length, map, nat_le, not, option_map, position, slice_set, suc, true, zero, ℕ, ℤ, ◌&&◌, ◌+◌, ◌<◌, ◌≡◌, ◌≤◌, ◌==◌, ◌∷◌, prefix_len}
 use Rattle.kernel.proofs.Common.{ap, arith, refl, nat_tests, position-Some, joined, space_in, with_space, with_table, Process, Places, changed, place_where, SpaceView, free_slot, put, slot, has_child, zombie_child, State, change_process}
 use Rattle.kernel.proofs.Common.{holds, unwrap_or, no_pages, ◌≢◌, subst, sym, ◌∙◌, IfSome, option_and_then, sum_by-cons, IsCounted, descriptors_in, named_by, names_in, Kernel, on_hart, slot-within, IsOpenFile, IsOpened, WaitsWell}

@@ -1,4 +1,4 @@
--- Steps on the memory of the running process keep what a kernel keeps, and are what the abstract Unix puts in its place.
+-- Steps on the memory of the running process, and those that change the files of the disk, keep what a kernel keeps.
 use Rattle.kernel.proofs.Common.{all-set, false, is_within, ◌<◌, ◌≡◌, ◌≤◌, ◌+◌, ◌-◌, ◌∷◌, ◌∙◌, ℕ, zero, suc, Bool, true, List, [], length, take, drop, is_some, Some, refl, ap, subst, sym, arith, length-set, Kernel, IsKernel, Keeps}
 use Rattle.kernel.proofs.Common.{state_of, Process, SpaceView, Spaces, taken_frames, view_at, Console, put, slot, put_process, State, drew, reheld, resized, sized, wrote, woken_by, Bytes, grown-with_pages, shrunk-with_pages, some-pipe}
 use Rattle.kernel.proofs.Common.{with_pipe, with_view, eqb-true, Taken, Memory, can_write, ceil_div, stack_marks, is_empty, None, Option, option_map, FitsNode, IsFolder, IsInUse, home_in, node_in, node_of, holders, FileTree, Node, links_of}

@@ -1,4 +1,4 @@
--- Who is ready: that depends on the processes, the console, the ticks, and the open files with their pipes.
+-- Who is ready: that depends on the processes, the console, the ticks, and the open files with their pipes. What a kernel shows.
 use Rattle.kernel.proofs.Common.{IfSome, ◌≡◌, ℕ, Bool, true, false, ◌||◌, List, Option, Some, None, refl, ap, subst, sym, ◌∙◌, cond, find, is_some, option_map, [], ◌∷◌, Kernel, Rest, base, SpaceView, no_pages, space_in, with_space, lives}
 use Rattle.kernel.proofs.Common.{rest_of, state_of, Stands, awaited_in, seen, IsAlive, IsPiped, has_pipe-clear, Process, Places, is_zombie_child_of, place_where, with_table, Spaces, Call, Read, Wait, Write, Mode, Waiting, Zombie, Pending}
 use Rattle.kernel.proofs.Common.{clear, slot, is_pipe, OnNode, OnPipe, State, holds, eq-eqb, map, suc, zero, ◌+◌, ◌<◌, ◌≤◌, ◌⊎◌, Bor, FnReturns, Shared, range_with_len, arith, inl, inr, Answers, Picks, place_in_round, place_limit, ready}

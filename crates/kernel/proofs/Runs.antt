@@ -1,4 +1,4 @@
--- The running process, and what becomes of the state where it alone changes.
+-- The running process, what becomes of the state where it alone changes, and what nothing names any more.
 use Rattle.kernel.proofs.Common.{Bool, subst, ◌≡◌, ◌≢◌, ℕ, ◌<◌, ◌≤◌, inl, inr, true, List, length, Option, Some, None, refl, ap, sym, ◌∙◌, if◌then◌else◌, is_some, no_pages, unwrap_or, space_in, with_space, option_map, slice_set}
 use Rattle.kernel.proofs.Common.{get_or-set_other, get_or-set_same, length-set, set-get_or, descriptors_in, not-true, none-some, same_Some, Kernel, base, lives, loaded, on_hart, rest_of, eq-eqb, state_of, IsKernel, IsPlace, IsPlaced, is_at}
 use Rattle.kernel.proofs.Common.{home_in, Process, Places, with_table, SpaceView, has_space, taken_frames, Mode, Running, put, slot, is_running_mode, is_zombie_mode, State, holds, process_at, put_process, answered, IsLive, IsMode, Memory}

@@ -1,4 +1,4 @@
--- The kernel's own steps keep what a kernel keeps.
+-- The kernel's own steps keep what a kernel keeps: it stops to run a process, does an instruction, reads, and lets nodes go.
 use Rattle.kernel.proofs.Common.{true, false, ◌≡◌, ℕ, ◌≤◌, ◌%◌, Some, refl, ap, subst, sym, ◌∙◌, slice_index, unwrap_or, descriptors_in, Kernel, blocked, computed, descriptors_at, left_as, FileTree, IsInUse, IsKernel, IsPlaced, Keeps}
 use Rattle.kernel.proofs.Common.{true≢false, Process, SpaceView, view_at, no_pages, taken_frames, Ready, Pending, Computed, Waiting, zero, suc, List, Option, Err, IfSome, awaited_in, IsWatched, opens_of, Spaces, Trap, IfNone, Ok, None}
 use Rattle.kernel.proofs.Common.{same_Some, ◌<◌, ℤ, ended, on_hart, state_of, end_at, end_process, reap, change_process, process_at, if◌then◌else◌, length-set, IsMode, idle, base, rest_of, home_in, put, put_process, State, with_space}

@@ -1,4 +1,4 @@
--- The running process works in another directory.
+-- The running process works in another directory, closes a descriptor, or takes a zombie child; an open file goes on from another offset.
 use Rattle.kernel.proofs.Common.{◌≡◌, ◌≢◌, ℕ, zero, suc, ◌+◌, ◌<◌, ◌++◌, ◌∷◌, [], List, length, Option, Some, None, refl, ap, arith, subst, sym, ◌∙◌, Result, slice_set, sum_by-cons, sum_by-set, none-some, DeviceFault, SpaceView, FileTree}
 use Rattle.kernel.proofs.Common.{Serves, Kernel, loaded, state_of, on_hart, IsKernel, Keeps, IsInUse, IsFolder, AreHeld, dropped, all_dropped, listed, descriptors_in, home_in, homes_at, one_in, one_at, with_hold, Node, Counted, opens_of}
 use Rattle.kernel.proofs.Common.{without_opens-same, Process, put, slot, slot-within, State, put_process, without_pipes-same, sum_by-append, MayWorkIn, WorksIn, home_at, working_in, with_directory, joined, IsWhole, reap, without_nodes}

@@ -1,4 +1,4 @@
--- The kernel and the state that begin with the plan of /init.
+-- The kernel and the state that begin with the plan of /init, and the machine that boots from an image.
 use Rattle.machine.proofs.Common.{[], all_in, alone, ap, arith, bare_of, begun, BootFault, count_at, count_in, Counted, Err, false, file_of, Files, files_on, FileTree, find, first_of, first_process, first_state, FitsNode, FrameCount}
 use Rattle.machine.proofs.Common.{free_slots, has_space, holders, home_in, homes_at, if_fits, IfErr, IfOk, IfSome, init_path, is_some, IsCounted, IsErrOf, IsFolder, IsInUse, IsKernel, IsMounted, IsOpened, IsOpenFile, IsPlaced, IsSome}
 use Rattle.machine.proofs.Common.{IsUnbooted, IsUnmounted, joined, joined-free_slots, KeepsTree, Kernel, le_trans, length, length-replicate, List, Loaded, loaded_of, names-none, names_in, nat_tests, no_pages, no_spaces, Node, node_in}

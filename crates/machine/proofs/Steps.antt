@@ -1,4 +1,4 @@
--- What an event comes to, from what the kernel makes of it.
+-- What an event comes to, from what the kernel makes of it; what a machine leaves, and what is told of its files.
 use Rattle.machine.proofs.Common.{[], After, ap, Appends-nil, arith, Bool, Console, ConsoleFails, Denotes, Device, drop, Err, fails, false, FileTree, free_slots, Halt, Halted, IfErr, image_of, InitEnded, IsDone, IsUp, Kernel, Key, le_refl}
 use Rattle.machine.proofs.Common.{length, length-replicate, links_of, List, min, nat_lt, next, Node, None, Ok, Option, option_map, place_limit, quiet, refl, replicate, Result, RunGives, running, Some, State, state_of, Step, StepGives}
 use Rattle.machine.proofs.Common.{subst, sym, take, taken, Tick, true, unheld, View, ℕ, ℤ, ◌++◌, ◌+◌, ◌-◌, ◌||◌, ◌∙◌, ◌∷◌, ◌≡◌, ◌≤◌}

@@ -1,4 +1,4 @@
--- One place trades frames: what is left of the fields, and what they show then.
+-- One place trades frames: what is left of the fields, and what they show then; and spaces over duplicates.
 use Rattle.spaces.proofs.Common.{Ram, Held, ◌+◌, ◌++◌, ◌-◌, ◌<◌, [], ap, arith, Bool, Err, false, get_or-set_other, get_or-set_same, inl, inr, length, length-append, length-set, List, map, None, Ok, Option, refl, replicate, Result}
 use Rattle.spaces.proofs.Common.{slice_set, Some, subst, sym, take, true, ℕ, ◌∙◌, ◌≡◌, ◌≢◌, ◌≤◌, ◌⊎◌, cases_eq, length-replicate, set-get_or, take_all, OnFalse, OnTrue, refill, OnErr, OnOk, free_count, IsFreeList, Trades, Frames, FrameNo}
 use Rattle.spaces.proofs.Common.{coherent-nothing, IsCoherent, page_frames, slot, Memory, Perm, shared_memory, zero_page, HoldsNothing, Translation, length-mapping, fork-machine, trade-machine, trade-others, frames_for, entry_marks}

@@ -1,4 +1,4 @@
--- A new name: where it is to stand, and what becomes of the files.
+-- A new name, and one that goes by its path: where it stands, why it is refused, and what becomes of the files.
 use Rattle.tree.proofs.Common.{◌≡◌, ℕ, ◌≤◌, List, None, Option, Some, ap, sym, ◌∙◌, arith, suc, option_and_then, option_map, get_or-set_other, none-some, Store, TakesLowest, IsFree, free-number, entered, room_in, TakesNode, IsFileSystem}
 use Rattle.tree.proofs.Common.{blocks_of, Files, Node, Spot, blocks_for, enter, free_number, put, size_of, slot, Directory, Made, make_at, ◌+◌, Bool, refl, subst, cond, true, false, IsSome, is_none, is_some, nat_le, false≢true, leb-false}
 use Rattle.tree.proofs.Common.{leb-true, same_Some, Overflows, HasGap, HasRoom, IsFullAt, LacksBlocks, growth, made_files, made_in, IsFolder, IsDead, IsNoDirectory, above, is_directory, live_places, lookup, spot_of, made_at, ◌≢◌, ◌<◌, []}

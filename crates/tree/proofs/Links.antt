@@ -1,4 +1,4 @@
--- Another name: why it is refused, and what the disk holds.
+-- Another name, and a new directory: why they are refused, and what the disk holds.
 use Rattle.tree.proofs.Common.{◌+◌, ◌≡◌, ℕ, Some, ap, sym, refl, ◌∙◌, arith, blocks_of, more_links, Files, Node, links_of, blocks_for, change_node, put, size_of, slot, with_links, File, ◌≢◌, InodeStat, emptied-is, Tells, IsFile, emptied}
 use Rattle.tree.proofs.Common.{◌<◌, ◌≤◌, Bool, List, None, Option, cond, subst, true, false, suc, not, inr, All, IsSome, is_none, option_and_then, ◌&&◌, eq-eqb, false≢true, le-ltb, lt-ltb, ne_eqb, get_or-set_other, none-some, same_Some}
 use Rattle.tree.proofs.Common.{TreeFault, NotFound, Overflows, HasGap, Reaches, entered, linked_in, LacksGap, LacksLinking, Spot, enter, find, is_directory, lookup, most_links, spot_of, Directory, has_room_for_link, is_free_name, linked}

@@ -1,4 +1,4 @@
--- The names of a path, one after the other, and what they reach.
+-- The names of a path, one after the other, what they reach, and a name that goes.
 use Rattle.tree.proofs.Common.{◌≡◌, ℕ, ◌+◌, ◌-◌, ◌<◌, ◌≤◌, Bool, List, [], ◌∷◌, None, Option, Some, length, get_or, take, drop, map, ap, sym, refl, ◌∙◌, arith, subst, true, false, not, zero, suc, inl, inr, IsSome, filter, min, nat_lt}
 use Rattle.tree.proofs.Common.{option_and_then, option_map, position, unwrap_or, ◌==◌, cases_lt, cond-false, cond-true, false≢true, lt-ltb, not-true, drop-drop, drop_all, get_or-drop, length-drop, length-take, length-take-le, take-take}
 use Rattle.tree.proofs.Common.{take_all, take_rest, position-Some, none-some, same_Some, Files, find, follow, live_spot, lookup, onto_first, parts, pieces, slot, split_last, spot_of, start_of, with_last, KeepsTree, position-None}

@@ -1,4 +1,4 @@
--- An entry comes into a directory.
+-- An entry comes into a directory, and bytes into a file.
 use Rattle.tree.proofs.Common.{◌≡◌, ◌≢◌, None, ℕ, ◌+◌, ◌-◌, ◌*◌, ◌/◌, ◌<◌, ◌≤◌, List, [], ◌∷◌, ◌++◌, Option, Some, length, drop, ap, sym, ◌∙◌, arith, subst, cond, inl, inr, All, flat_map, nat_lt, cases_lt, drop_all, take_all, All-append}
 use Rattle.tree.proofs.Common.{All-cons, All-nil, All-set, splice, length-place_bytes, length-spelling, IsPlain, PlaceFits, taken_for, HasRoom, entered, growth, placed, room_in, FileTree, IsWhole, blocks_of, longest, place_bytes, slot}
 use Rattle.tree.proofs.Common.{Directory, set, take, zero, suc, append_assoc, length-set, All-head, All-tail, HasPlace, FitsPlaces, blocks_for, erase, without_place, zeros, Bool, Err, Ok, Result, refl, true, false, nat_le, ◌&&◌, and_from}
