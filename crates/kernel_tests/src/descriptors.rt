@@ -2,48 +2,94 @@
 use files::{End, FileFault, Files, OpenFile, PLACES, Target};
 use std::process::Abort;
 
-// What is open for reading and writing.
-fn both(target: Target) -> OpenFile {
+// What files are open on: a file and the same one once it was moved, another file, the console, a device that there
+// isn't, and the ends of a pipe.
+const FILE: Target = Target::File {
+    number: 7,
+    offset: 0,
+};
+
+const MOVED: Target = Target::File {
+    number: 7,
+    offset: 25601,
+};
+
+const OTHER: Target = Target::File {
+    number: 4,
+    offset: 0,
+};
+
+const CONSOLE: Target = Target::Console { number: 2 };
+
+const DEVICE: Target = Target::Device { number: 5 };
+
+const READ_END: Target = Target::Pipe {
+    pipe: 3,
+    end: End::Read,
+};
+
+const WRITE_END: Target = Target::Pipe {
+    pipe: 3,
+    end: End::Write,
+};
+
+// What is open on this: an end of a pipe for what it is there for, and all else for reading and writing.
+fn open_on(target: Target) -> OpenFile {
+    let (readable, writable) = match target {
+        Target::Pipe { end, .. } => (end == End::Read, end == End::Write),
+        _ => (true, true),
+    };
     OpenFile {
         target,
-        readable: true,
-        writable: true,
-    }
-}
-
-// A file that is open for reading and writing.
-fn node(number: u32) -> OpenFile {
-    both(Target::File { number, offset: 0 })
-}
-
-// An end of a pipe.
-fn end(pipe: usize, end: End) -> OpenFile {
-    OpenFile {
-        target: Target::Pipe { pipe, end },
-        readable: end == End::Read,
-        writable: end == End::Write,
+        readable,
+        writable,
     }
 }
 
 // What is asked of a table, and the answer.
 #[derive(Clone, Copy)]
 enum Row {
-    Open(OpenFile, Result<usize, FileFault>),
+    Open(Target, Result<usize, FileFault>),
+    /// Opens it in each place, from the first to the last.
+    Fill(Target),
+    Dup(usize),
     Close(usize, Option<Target>),
-    File(usize, Option<OpenFile>),
+    IsOpen(usize, Target),
+    IsFree(usize),
     Read(usize, Result<Target, FileFault>),
     Write(usize, Result<Target, FileFault>),
     Stat(usize, Result<u32, FileFault>),
     Move(usize, u32),
     HasEnd(usize, End, bool),
     HasPipe(usize, bool),
+    FreePlaces(usize),
+}
+
+fn fill(files: &mut Files, target: Target) -> bool {
+    for place in 0..PLACES {
+        if files.open(open_on(target)) != Ok(place) {
+            return false;
+        }
+    }
+    true
+}
+
+fn dup(files: &mut Files, id: usize) -> bool {
+    if files.references(id) == u32::MAX {
+        return false;
+    }
+    files.dup(id);
+    true
 }
 
 fn holds(files: &mut Files, row: Row) -> bool {
     match row {
-        Row::Open(file, answer) => files.open(file) == answer,
+        Row::Open(target, answer) => files.open(open_on(target)) == answer,
+        Row::Fill(target) => fill(files, target),
+        Row::Dup(id) => dup(files, id),
         Row::Close(id, answer) => files.close(id) == answer,
-        Row::File(id, answer) => files.file(id) == answer,
+        Row::IsOpen(id, target) => files.file(id) == Some(open_on(target)),
+        Row::IsFree(id) => files.file(id).is_none(),
         Row::Read(id, answer) => files.read(id) == answer,
         Row::Write(id, answer) => files.write(id) == answer,
         Row::Stat(id, answer) => files.stat(id) == answer,
@@ -53,163 +99,131 @@ fn holds(files: &mut Files, row: Row) -> bool {
         }
         Row::HasEnd(pipe, end, answer) => files.has_end(pipe, end) == answer,
         Row::HasPipe(pipe, answer) => files.has_pipe(pipe) == answer,
+        Row::FreePlaces(answer) => files.free_places() == answer,
     }
 }
 
-fn expect(rt: &impl Abort, files: &mut Files, rows: &[Row]) {
-    for row in rows {
-        assert!(rt; holds(files, *row));
-    }
+// What is asked of a new table in turn.
+struct Case {
+    name: &'static str,
+    rows: &'static [Row],
 }
 
-#[test]
-fn takes_the_lowest_place(rt: HostRuntime) {
-    let mut files = Files::new();
-    let (first, second) = (node(7), node(8));
-    expect(
-        &rt,
-        &mut files,
-        &[
-            Row::Open(first, Ok(0)),
-            Row::Open(first, Ok(1)),
-            Row::Open(first, Ok(2)),
-            Row::Close(1, Some(first.target)),
-            Row::File(1, None),
-            Row::Open(second, Ok(1)),
-            Row::File(1, Some(second)),
-            Row::Open(first, Ok(3)),
+static CASES: [Case; 7] = [
+    Case {
+        name: "a file takes the lowest place",
+        rows: &[
+            Row::Open(FILE, Ok(0)),
+            Row::Open(FILE, Ok(1)),
+            Row::Open(FILE, Ok(2)),
+            Row::Close(1, Some(FILE)),
+            Row::IsFree(1),
+            Row::Open(OTHER, Ok(1)),
+            Row::IsOpen(1, OTHER),
+            Row::Open(FILE, Ok(3)),
         ],
-    );
-}
-
-#[test]
-fn has_a_hundred_places(rt: HostRuntime) {
-    let mut files = Files::new();
-    for place in 0..PLACES {
-        assert!(rt; files.open(node(1)) == Ok(place));
-    }
-    assert!(rt; files.free_places() == 0);
-    assert!(rt; files.open(node(2)) == Err(FileFault::Slots));
-    assert!(rt; files.close(42).is_some() && files.free_places() == 1);
-    assert!(rt; files.open(node(2)) == Ok(42));
-}
-
-#[test]
-fn lives_while_a_descriptor_names_it(rt: HostRuntime) {
-    let mut files = Files::new();
-    let file = end(5, End::Write);
-    let _ = files.open(file);
-    files.dup(0);
-    files.dup(0);
-    expect(
-        &rt,
-        &mut files,
-        &[
+    },
+    Case {
+        name: "there are a hundred places",
+        rows: &[
+            Row::Fill(FILE),
+            Row::FreePlaces(0),
+            Row::Open(OTHER, Err(FileFault::Slots)),
+            Row::Close(42, Some(FILE)),
+            Row::FreePlaces(1),
+            Row::Open(OTHER, Ok(42)),
+        ],
+    },
+    Case {
+        name: "an open file lives while a descriptor names it",
+        rows: &[
+            Row::Open(WRITE_END, Ok(0)),
+            Row::Dup(0),
+            Row::Dup(0),
             Row::Close(0, None),
             Row::Close(0, None),
-            Row::File(0, Some(file)),
-            Row::Close(0, Some(file.target)),
-            Row::File(0, None),
+            Row::IsOpen(0, WRITE_END),
+            Row::Close(0, Some(WRITE_END)),
+            Row::IsFree(0),
             Row::Close(0, None),
         ],
-    );
-}
-
-#[test]
-fn is_read_and_written_as_it_was_opened(rt: HostRuntime) {
-    let mut files = Files::new();
-    let (from, to) = (end(3, End::Read), end(3, End::Write));
-    expect(
-        &rt,
-        &mut files,
-        &[
-            Row::Open(from, Ok(0)),
-            Row::Open(to, Ok(1)),
-            Row::Read(0, Ok(from.target)),
+    },
+    Case {
+        name: "an open file is read and written as it was opened",
+        rows: &[
+            Row::Open(READ_END, Ok(0)),
+            Row::Open(WRITE_END, Ok(1)),
+            Row::Read(0, Ok(READ_END)),
             Row::Write(0, Err(FileFault::NotWritable)),
             Row::Read(1, Err(FileFault::NotReadable)),
-            Row::Write(1, Ok(to.target)),
+            Row::Write(1, Ok(WRITE_END)),
             Row::Read(2, Err(FileFault::NotReadable)),
             Row::Write(100, Err(FileFault::NotWritable)),
         ],
-    );
-}
-
-#[test]
-fn is_served_as_what_its_node_is(rt: HostRuntime) {
-    let mut files = Files::new();
-    let (file, pipe) = (node(9), end(3, End::Read));
-    let (console, device) = (Target::Console { number: 2 }, Target::Device { number: 5 });
-    expect(
-        &rt,
-        &mut files,
-        &[
-            Row::Open(file, Ok(0)),
-            Row::Open(both(console), Ok(1)),
-            Row::Open(both(device), Ok(2)),
-            Row::Open(pipe, Ok(3)),
-            Row::Stat(0, Ok(9)),
+    },
+    Case {
+        name: "an open file is served as what its node is",
+        rows: &[
+            Row::Open(FILE, Ok(0)),
+            Row::Open(CONSOLE, Ok(1)),
+            Row::Open(DEVICE, Ok(2)),
+            Row::Open(READ_END, Ok(3)),
+            Row::Stat(0, Ok(7)),
             Row::Stat(1, Ok(2)),
             Row::Stat(2, Ok(5)),
             Row::Stat(3, Err(FileFault::NoFile)),
             Row::Stat(4, Err(FileFault::NoFile)),
-            Row::Write(1, Ok(console)),
+            Row::Write(1, Ok(CONSOLE)),
             Row::Read(2, Err(FileFault::BadDevice)),
             Row::Write(2, Err(FileFault::BadDevice)),
         ],
-    );
-}
-
-#[test]
-fn goes_on_from_an_offset(rt: HostRuntime) {
-    let mut files = Files::new();
-    let (moved, pipe) = (
-        Target::File {
-            number: 9,
-            offset: 25601,
-        },
-        end(3, End::Read),
-    );
-    let console = both(Target::Console { number: 2 });
-    expect(
-        &rt,
-        &mut files,
-        &[
-            Row::Open(node(9), Ok(0)),
-            Row::Open(console, Ok(1)),
-            Row::Open(pipe, Ok(2)),
+    },
+    Case {
+        name: "a file goes on from an offset, and nothing else has one",
+        rows: &[
+            Row::Open(FILE, Ok(0)),
+            Row::Open(CONSOLE, Ok(1)),
+            Row::Open(READ_END, Ok(2)),
             Row::Move(0, 25601),
             Row::Move(1, 7),
             Row::Move(2, 7),
             Row::Move(3, 7),
-            Row::Read(0, Ok(moved)),
-            Row::File(1, Some(console)),
-            Row::File(2, Some(pipe)),
-            Row::File(3, None),
-            Row::Close(0, Some(moved)),
+            Row::Read(0, Ok(MOVED)),
+            Row::IsOpen(1, CONSOLE),
+            Row::IsOpen(2, READ_END),
+            Row::IsFree(3),
+            Row::Close(0, Some(MOVED)),
         ],
-    );
-}
-
-#[test]
-fn tells_which_ends_are_open(rt: HostRuntime) {
-    let mut files = Files::new();
-    let (from, to) = (end(3, End::Read), end(3, End::Write));
-    expect(
-        &rt,
-        &mut files,
-        &[
-            Row::Open(from, Ok(0)),
-            Row::Open(to, Ok(1)),
-            Row::Open(node(4), Ok(2)),
+    },
+    Case {
+        name: "it is known which ends of a pipe are open",
+        rows: &[
+            Row::Open(READ_END, Ok(0)),
+            Row::Open(WRITE_END, Ok(1)),
+            Row::Open(OTHER, Ok(2)),
             Row::HasEnd(3, End::Write, true),
-            Row::Close(1, Some(to.target)),
+            Row::Close(1, Some(WRITE_END)),
             Row::HasEnd(3, End::Write, false),
             Row::HasEnd(3, End::Read, true),
             Row::HasPipe(3, true),
             Row::HasPipe(4, false),
-            Row::Close(0, Some(from.target)),
+            Row::Close(0, Some(READ_END)),
             Row::HasPipe(3, false),
         ],
-    );
+    },
+];
+
+// What is expected holds in a new table.
+fn expect(rt: &impl Abort, case: &Case) {
+    let mut files = Files::new();
+    for (at, row) in case.rows.iter().enumerate() {
+        assert!(rt; holds(&mut files, *row), "{}: row {at}", case.name);
+    }
+}
+
+#[test]
+fn answers_what_is_asked_of_open_files(rt: HostRuntime) {
+    for case in &CASES {
+        expect(&rt, case);
+    }
 }

@@ -20,9 +20,10 @@ fn stored(rt: &(impl Abort + AllocGlobal)) -> Ram {
 fn numbers_stand_lowest_byte_first(rt: HostRuntime) {
     let ram = stored(&rt);
     has_frames(&rt, &ram, 3);
-    assert!(rt; ram.load_u64(FrameNo(1), 8) == 0xaacc_bb44_5566_7788);
-    assert!(rt; ram.load_u8(FrameNo(1), 8) == 0x88 && ram.load_u16(FrameNo(1), 4094) == 0xdead);
-    assert!(rt; ram.load_u32(FrameNo(1), 12) == 0xaacc_bb44 && ram.load_u64(FrameNo(2), 8) == 0);
+    let eight = (ram.load_u64(FrameNo(1), 8), ram.load_u64(FrameNo(2), 8));
+    assert!(rt; eight == (0xaacc_bb44_5566_7788, 0));
+    let (one, two) = (ram.load_u8(FrameNo(1), 8), ram.load_u16(FrameNo(1), 4094));
+    assert!(rt; (one, two, ram.load_u32(FrameNo(1), 12)) == (0x88, 0xdead, 0xaacc_bb44));
 }
 
 // Three frames, of which the last was copied to the first, and bytes of that to the second.
@@ -43,8 +44,9 @@ fn frames_are_copied_and_zeroed(rt: HostRuntime) {
     has_frames(&rt, &ram, 3);
     ram.zero(FrameNo(2));
     has_frames(&rt, &ram, 3);
-    assert!(rt; ram.frame(FrameNo(0))[4095] == 7 && ram.frame(FrameNo(2))[4095] == 0);
-    assert!(rt; ram.frame(FrameNo(1))[2] == 7 && ram.load_u32(FrameNo(1), 0) == 0x0007_0000);
+    let (copy, zeroed) = (ram.frame(FrameNo(0))[4095], ram.frame(FrameNo(2))[4095]);
+    let (byte, word) = (ram.frame(FrameNo(1))[2], ram.load_u32(FrameNo(1), 0));
+    assert!(rt; (copy, zeroed, byte, word) == (7, 0, 7, 0x0007_0000));
 }
 
 #[test]

@@ -9,6 +9,7 @@ use std::marker::Model;
 use std::process::Abort;
 use sv39::{EntryBits, walk_page};
 use unixmodel::trap::Access;
+use vm::Perm;
 
 // A table in a memory, and a frame to map.
 #[derive(Drop)]
@@ -50,73 +51,152 @@ impl Mapping {
         }
     }
 
-    fn free(&self) -> u32 {
-        self.frames.free()
-    }
-
-    fn map(&mut self, page: u64, writable: bool, executable: bool, user: bool) -> Result<(), Full>
+    fn map(&mut self, page: u64, perm: Perm) -> Result<(), Full>
         requires { page < 2 ^ 27 }
     {
-        let marks = leaf_marks(writable, executable, user);
+        let marks = leaf_marks(perm.w, perm.x, perm.u);
         self.table
             .map(&mut self.ram, &mut self.frames, page, self.frame, marks)
     }
 
-    fn find(&self, page: u64) -> Option<(FrameNo, EntryBits)> {
-        self.table.find(&self.ram, page)
-    }
-
-    fn shows(&self, page: u64, marks: EntryBits) -> bool {
-        self.find(page) == Some((self.frame, marks))
-    }
-
-    fn unmap(&mut self, rt: &impl Abort, page: u64) -> FrameNo
+    // Takes a page out, which has the frame.
+    fn unmap(&mut self, page: u64) -> bool
         requires { page < 2 ^ 27 }
     {
-        let found = self.table.find(&self.ram, page);
-        assert!(rt; found.is_some());
-        self.table.unmap(&mut self.ram, &mut self.frames, page)
+        if self.table.find(&self.ram, page).is_none() {
+            return false;
+        }
+        self.table.unmap(&mut self.ram, &mut self.frames, page) == self.frame
     }
 
-    fn set_perm(&mut self, rt: &impl Abort, page: u64, writable: bool, executable: bool, user: bool)
+    fn set_perm(&mut self, page: u64, perm: Perm) -> bool
         requires { page < 2 ^ 27 }
     {
-        let found = self.table.find(&self.ram, page);
-        assert!(rt; found.is_some());
-        let marks = leaf_marks(writable, executable, user);
+        if self.table.find(&self.ram, page).is_none() {
+            return false;
+        }
+        let marks = leaf_marks(perm.w, perm.x, perm.u);
         self.table
             .set_perm(&mut self.ram, &self.frames, page, marks);
+        true
     }
 
-    fn walk(&self, page: u64, access: Access) -> Option<FrameNo> {
-        walk_page(&self.ram, self.table.root, page, access)
-    }
-
-    // Whether a walk finds the frame for this access to a page, and nothing for another.
-    fn is_for(&self, page: u64, access: Access, other: Access) -> bool {
-        self.walk(page, access) == Some(self.frame) && self.walk(page, other).is_none()
+    // Whether this is done to a page, or so.
+    fn does(&mut self, page: u64, act: Act) -> bool
+        requires { page < 2 ^ 27 }
+    {
+        match act {
+            Act::Map(perm, told) => self.map(page, perm) == told,
+            Act::Unmap => self.unmap(page),
+            Act::SetPerm(perm) => self.set_perm(page, perm),
+            Act::Finds(marks) => { self.table.find(&self.ram, page) == Some((self.frame, marks)) }
+            Act::FindsNothing => self.table.find(&self.ram, page).is_none(),
+            Act::Walks(access) => {
+                walk_page(&self.ram, self.table.root, page, access) == Some(self.frame)
+            }
+            Act::WalksToNothing(access) => {
+                walk_page(&self.ram, self.table.root, page, access).is_none()
+            }
+        }
     }
 }
 
-// One whose page 5 is mapped.
-fn mapped(rt: &(impl Abort + AllocGlobal)) -> Mapping {
-    let mut mapping = Mapping::new(rt, 8);
-    assert!(rt; mapping.map(5, true, false, true).is_ok());
-    mapping
+// What is done to a page, or what is found there.
+#[derive(Clone, Copy)]
+enum Act {
+    /// Puts the frame there.
+    Map(Perm, Result<(), Full>),
+    /// Takes the frame out.
+    Unmap,
+    SetPerm(Perm),
+    /// The frame with these marks.
+    Finds(EntryBits),
+    FindsNothing,
+    /// A walk for this access finds the frame.
+    Walks(Access),
+    WalksToNothing(Access),
+}
+
+const DATA: Perm = Perm {
+    w: true,
+    x: false,
+    u: true,
+};
+
+const TEXT: Perm = Perm {
+    w: false,
+    x: true,
+    u: true,
+};
+
+// What may only be read.
+const CONSTANT: Perm = Perm {
+    w: false,
+    x: false,
+    u: true,
+};
+
+const KERNEL: Perm = Perm {
+    w: true,
+    x: true,
+    u: false,
+};
+
+// What is done to pages of a new table in a memory of so many frames; beside each: how many frames are free then.
+struct Case {
+    name: &'static str,
+    frames: u32,
+    acts: &'static [(u64, Act, u32)],
+}
+
+static CASES: [Case; 3] = [
+    Case {
+        name: "a page is mapped and taken out again",
+        frames: 8,
+        acts: &[
+            (5, Act::Map(DATA, Ok(())), 4),
+            (5, Act::Finds(EntryBits(215)), 4),
+            (4, Act::FindsNothing, 4),
+            (5, Act::Unmap, 6),
+            (5, Act::FindsNothing, 6),
+        ],
+    },
+    Case {
+        name: "a walk finds a page",
+        frames: 8,
+        acts: &[
+            (262657, Act::Map(DATA, Ok(())), 4),
+            (262657, Act::Walks(Access::Store), 4),
+            (262657, Act::WalksToNothing(Access::Fetch), 4),
+            (262657, Act::SetPerm(TEXT), 4),
+            (262657, Act::Walks(Access::Fetch), 4),
+            (262657, Act::WalksToNothing(Access::Store), 4),
+            (262657, Act::SetPerm(KERNEL), 4),
+            (262657, Act::WalksToNothing(Access::Load), 4),
+        ],
+    },
+    Case {
+        name: "a table lacks a frame",
+        frames: 2,
+        acts: &[(0, Act::Map(CONSTANT, Err(Full)), 0)],
+    },
+];
+
+fn expect(rt: &(impl Abort + AllocGlobal), case: &Case) {
+    assert!(rt; case.frames <= 32768);
+    let mut mapping = Mapping::new(rt, case.frames);
+    for (at, (page, act, free)) in case.acts.iter().enumerate() {
+        assert!(rt; *page < 1 << 27);
+        let told = (mapping.does(*page, *act), mapping.frames.free());
+        assert!(rt; told == (true, *free), "{}: act {at}", case.name);
+    }
 }
 
 #[test]
-fn maps_a_page(rt: HostRuntime) {
-    let mapping = mapped(&rt);
-    assert!(rt; mapping.free() == 4 && mapping.shows(5, EntryBits(215)));
-    assert!(rt; mapping.find(4).is_none());
-}
-
-#[test]
-fn takes_a_page_out_again(rt: HostRuntime) {
-    let mut mapping = mapped(&rt);
-    assert!(rt; mapping.unmap(&rt, 5) == mapping.frame && mapping.free() == 6);
-    assert!(rt; mapping.find(5).is_none());
+fn pages_are_mapped_found_and_taken_out(rt: HostRuntime) {
+    for case in &CASES {
+        expect(&rt, case);
+    }
 }
 
 #[test]
@@ -124,24 +204,7 @@ fn a_new_table_goes_back(rt: HostRuntime) {
     let mut ram = memory(&rt, 2);
     let mut frames = all_free(&rt, &mut ram);
     let table = PageTable::new(&mut ram, &mut frames).expect(&rt, "a frame");
-    assert!(rt; frames.free() == 1);
+    let free = frames.free();
     table.destroy(&mut ram, &mut frames);
-    assert!(rt; frames.free() == 2);
-}
-
-#[test]
-fn shows_a_page_to_the_walk(rt: HostRuntime) {
-    let mut mapping = Mapping::new(&rt, 8);
-    assert!(rt; mapping.map(262657, true, false, true).is_ok());
-    assert!(rt; mapping.is_for(262657, Access::Store, Access::Fetch));
-    mapping.set_perm(&rt, 262657, false, true, true);
-    assert!(rt; mapping.is_for(262657, Access::Fetch, Access::Store));
-    mapping.set_perm(&rt, 262657, true, true, false);
-    assert!(rt; mapping.walk(262657, Access::Load).is_none());
-}
-
-#[test]
-fn is_full_where_a_table_lacks_a_frame(rt: HostRuntime) {
-    let mut mapping = Mapping::new(&rt, 2);
-    assert!(rt; mapping.map(0, false, false, true) == Err(Full) && mapping.free() == 0);
+    assert!(rt; (free, frames.free()) == (1, 2));
 }

@@ -1,5 +1,6 @@
 //! Worked cases of the table.
-use proc::{Mask, PLACES, Place, ProcFault, Process, Reaped, Seat, Table, zombie_child};
+use proc::{Mask, PLACES, Place, ProcFault, Process, Table, zombie_child};
+use std::process::Abort;
 use unixmodel::call::Call;
 use unixmodel::process::{Mode, Pending};
 
@@ -15,17 +16,6 @@ fn child_of(parent: u32) -> Process {
         killed: false,
         mode: Mode::Ready,
     }
-}
-
-// Process 1 runs in place 0, and so many children of it are ready.
-fn family(children: usize) -> Table {
-    let mut table = Table::starting_at(1);
-    let _ = table.alloc(child_of(0));
-    table.run(0);
-    for _child in 0..children {
-        let _ = table.alloc(child_of(1));
-    }
-    table
 }
 
 // How many places are taken.
@@ -77,16 +67,13 @@ fn mask_of(places: &[usize]) -> Mask {
     mask
 }
 
-#[test]
-fn a_mask_has_what_was_set(rt: HostRuntime) {
-    let mask = mask_of(&[5, 63, 64]);
-    assert!(rt; mask.has(5) && mask.has(63) && !mask.has(0));
-}
+static SET: [usize; 3] = [5, 63, 64];
 
 #[test]
-fn finds_the_next_place_of_a_mask(rt: HostRuntime) {
-    assert!(rt; Mask::all().next(9, 3) == Some(3) && mask_of(&[]).next(9, 1).is_none());
-    let mask = mask_of(&[5, 63, 64]);
+fn a_mask_has_what_was_set(rt: HostRuntime) {
+    let (all, none, mask) = (Mask::all(), mask_of(&[]), mask_of(&SET));
+    assert!(rt; (mask.has(5), mask.has(63), mask.has(0)) == (true, true, false));
+    assert!(rt; (all.next(9, 3), none.next(9, 1)) == (Some(3), None));
     // the last picked place, the first turn to look at, and the turn of the place that is found
     for (last, turn, found) in [(63, 1, 6), (63, 7, 64), (5, 1, 58), (5, 59, 64)] {
         assert!(rt;
@@ -96,119 +83,250 @@ fn finds_the_next_place_of_a_mask(rt: HostRuntime) {
     }
 }
 
-#[test]
-fn runs_and_stops(rt: HostRuntime) {
-    let mut table = family(2);
-    for place in [1, 2, 0] {
-        table.stop();
-        assert!(rt; table.running().is_none());
-        table.run(place);
-        assert!(rt; table.running() == Some(place));
+const PENDING: Pending = Pending {
+    number: Call::Sleep,
+    args: [2, 0, 0],
+    done: 0,
+    since: 5,
+};
+
+// What is done to a table, or what it tells.
+#[derive(Clone, Copy)]
+enum Act {
+    /// A child of a process comes.
+    Alloc(u32, Result<(usize, u32), ProcFault>),
+    /// So many children of process 1 come, each in a place.
+    Children(usize),
+    /// The place and the pid of who comes next.
+    NextSeat(Result<(usize, u32), ProcFault>),
+    /// Puts a child of a process into a place.
+    Put(usize, u32),
+    Run(usize),
+    Stop,
+    Block,
+    Exit(usize, i32),
+    /// A process reaps a child: its place, its pid and its status.
+    Reap(u32, Option<(usize, u32, i32)>),
+    Running(Option<usize>),
+    Taken(usize),
+    HasParent(usize, u32),
+    HasMode(usize, Mode),
+    HasChild(u32, bool),
+    Find(u32, Option<usize>),
+    /// In a place there is what remains of a child of process 1: its pid and its status.
+    IsZombie(usize, u32, i32),
+    ZombieChild(u32, Option<usize>),
+}
+
+fn alloc(table: &mut Table, parent: u32) -> Result<(usize, u32), ProcFault> {
+    let seat = table.alloc(child_of(parent))?;
+    Ok((seat.place, seat.pid))
+}
+
+fn children(table: &mut Table, count: usize) -> bool {
+    for _child in 0..count {
+        if table.alloc(child_of(1)).is_err() {
+            return false;
+        }
     }
+    true
 }
 
-#[test]
-fn gives_the_last_pid_once(rt: HostRuntime) {
-    let mut table = Table::starting_at(2147483647);
-    let last = Seat {
-        place: 0,
-        pid: 2147483647,
-    };
-    assert!(rt; table.next_seat() == Ok(last));
-    assert!(rt; table.alloc(child_of(0)) == Ok(last));
-    assert!(rt; table.alloc(child_of(0)) == Err(ProcFault::Pids));
-    assert!(rt; taken(&table) == 1);
+fn next_seat(table: &Table) -> Result<(usize, u32), ProcFault> {
+    let seat = table.next_seat()?;
+    Ok((seat.place, seat.pid))
 }
 
-#[test]
-fn fills_all_places(rt: HostRuntime) {
-    let mut table = family(PLACES - 1);
-    assert!(rt; taken(&table) == PLACES);
-    assert!(rt; table.alloc(child_of(1)) == Err(ProcFault::Slots));
-    // a refused one uses no pid
-    table.exit(5, 0);
-    let reaped = Reaped {
-        place: 5,
-        pid: 6,
-        status: 0,
-    };
-    assert!(rt; table.reap(1) == Some(reaped));
-    let next = Seat { place: 5, pid: 65 };
-    assert!(rt; table.alloc(child_of(1)) == Ok(next));
+fn put(table: &mut Table, place: usize, parent: u32) -> bool {
+    if place >= PLACES {
+        return false;
+    }
+    table.put(place, child_of(parent));
+    true
 }
 
-fn parent_of(table: &Table, place: usize) -> Option<u32> {
+fn reap(table: &mut Table, parent: u32) -> Option<(usize, u32, i32)> {
+    let reaped = table.reap(parent)?;
+    Some((reaped.place, reaped.pid, reaped.status))
+}
+
+fn has_parent(table: &Table, place: usize, parent: u32) -> bool {
     match table.process(place) {
-        Some(process) => Some(process.parent),
-        None => None,
+        Some(process) => process.parent == parent,
+        None => false,
     }
 }
 
-fn mode_of(table: &Table, place: usize) -> Option<Mode> {
+fn has_mode(table: &Table, place: usize, mode: Mode) -> bool {
     match table.process(place) {
-        Some(process) => Some(process.mode),
-        None => None,
+        Some(process) => process.mode == mode,
+        None => false,
     }
 }
 
-// 1 forks 2, 2 forks 3, and 2 exits.
-fn orphaned() -> Table {
-    let mut table = family(1);
-    let _ = table.alloc(child_of(2));
-    table.exit(1, 7);
-    table
-}
-
-#[test]
-fn orphans_go_to_the_first(rt: HostRuntime) {
-    let table = orphaned();
-    assert!(rt; parent_of(&table, 2) == Some(1) && !table.has_child(2));
-}
-
-#[test]
-fn a_zombie_keeps_its_pid_and_its_status(rt: HostRuntime) {
-    let table = orphaned();
+fn is_zombie(table: &Table, place: usize, pid: u32, status: i32) -> bool {
     let zombie = Process {
-        pid: 2,
+        pid,
         descriptors: [None; 16],
         directory: 0,
-        mode: Mode::Zombie(7),
+        mode: Mode::Zombie(status),
         ..child_of(1)
     };
-    assert!(rt; table.find(2) == Some(1) && table.process(1).copied() == Some(zombie));
-}
-
-// And then 3 exits.
-#[test]
-fn the_first_reaps_them_all(rt: HostRuntime) {
-    let mut table = orphaned();
-    table.exit(2, -1);
-    assert!(rt; zombie_child(table.places(), 1) == Some(1));
-    for (place, pid, status) in [(1, 2, 7), (2, 3, -1)] {
-        let reaped = Reaped { place, pid, status };
-        assert!(rt; table.reap(1) == Some(reaped), "at {pid}");
+    match table.process(place) {
+        Some(process) => *process == zombie,
+        None => false,
     }
-    assert!(rt; table.reap(1).is_none() && !table.has_child(1));
+}
+
+// Whether it is done, or so.
+fn does(table: &mut Table, act: Act) -> bool {
+    match act {
+        Act::Alloc(parent, told) => alloc(table, parent) == told,
+        Act::Children(count) => children(table, count),
+        Act::NextSeat(told) => next_seat(table) == told,
+        Act::Put(place, parent) => put(table, place, parent),
+        Act::Run(place) => {
+            table.run(place);
+            true
+        }
+        Act::Stop => {
+            table.stop();
+            true
+        }
+        Act::Block => {
+            table.block(PENDING);
+            true
+        }
+        Act::Exit(place, status) => {
+            table.exit(place, status);
+            true
+        }
+        Act::Reap(parent, told) => reap(table, parent) == told,
+        Act::Running(place) => table.running() == place,
+        Act::Taken(count) => taken(table) == count,
+        Act::HasParent(place, parent) => has_parent(table, place, parent),
+        Act::HasMode(place, mode) => has_mode(table, place, mode),
+        Act::HasChild(pid, has) => table.has_child(pid) == has,
+        Act::Find(pid, place) => table.find(pid) == place,
+        Act::IsZombie(place, pid, status) => is_zombie(table, place, pid, status),
+        Act::ZombieChild(pid, place) => zombie_child(table.places(), pid) == place,
+    }
+}
+
+// What is done to a new table, whose first pid is this one.
+struct Case {
+    name: &'static str,
+    first_pid: u32,
+    acts: &'static [Act],
+}
+
+static CASES: [Case; 6] = [
+    Case {
+        name: "processes run and stop",
+        first_pid: 1,
+        acts: &[
+            Act::Alloc(0, Ok((0, 1))),
+            Act::Run(0),
+            Act::Children(2),
+            Act::Stop,
+            Act::Running(None),
+            Act::Run(1),
+            Act::Running(Some(1)),
+            Act::Stop,
+            Act::Running(None),
+            Act::Run(2),
+            Act::Running(Some(2)),
+            Act::Stop,
+            Act::Running(None),
+            Act::Run(0),
+            Act::Running(Some(0)),
+        ],
+    },
+    Case {
+        name: "the last pid is given once",
+        first_pid: 2147483647,
+        acts: &[
+            Act::NextSeat(Ok((0, 2147483647))),
+            Act::Alloc(0, Ok((0, 2147483647))),
+            Act::Alloc(0, Err(ProcFault::Pids)),
+            Act::Taken(1),
+        ],
+    },
+    Case {
+        name: "all places are filled",
+        first_pid: 1,
+        acts: &[
+            Act::Alloc(0, Ok((0, 1))),
+            Act::Run(0),
+            Act::Children(63),
+            Act::Taken(64),
+            Act::Alloc(1, Err(ProcFault::Slots)),
+            // a refused one uses no pid
+            Act::Exit(5, 0),
+            Act::Reap(1, Some((5, 6, 0))),
+            Act::Alloc(1, Ok((5, 65))),
+        ],
+    },
+    Case {
+        name: "orphans go to the first process, which reaps them all",
+        first_pid: 1,
+        acts: &[
+            Act::Alloc(0, Ok((0, 1))),
+            Act::Run(0),
+            Act::Alloc(1, Ok((1, 2))),
+            Act::Alloc(2, Ok((2, 3))),
+            Act::Exit(1, 7),
+            Act::HasParent(2, 1),
+            Act::HasChild(2, false),
+            // a zombie keeps its pid and its status
+            Act::Find(2, Some(1)),
+            Act::IsZombie(1, 2, 7),
+            Act::Exit(2, -1),
+            Act::ZombieChild(1, Some(1)),
+            Act::Reap(1, Some((1, 2, 7))),
+            Act::Reap(1, Some((2, 3, -1))),
+            Act::Reap(1, None),
+            Act::HasChild(1, false),
+        ],
+    },
+    Case {
+        name: "the running process waits",
+        first_pid: 1,
+        acts: &[
+            Act::Alloc(0, Ok((0, 1))),
+            Act::Run(0),
+            Act::Children(1),
+            Act::Block,
+            Act::Running(None),
+            Act::HasMode(0, Mode::Waiting(PENDING)),
+            Act::Block,
+            Act::HasMode(1, Mode::Ready),
+        ],
+    },
+    Case {
+        name: "a process is put in the place of another",
+        first_pid: 1,
+        acts: &[
+            Act::Alloc(0, Ok((0, 1))),
+            Act::Run(0),
+            Act::Children(1),
+            Act::Put(1, 4),
+            Act::HasParent(1, 4),
+        ],
+    },
+];
+
+fn expect(rt: &impl Abort, case: &Case) {
+    assert!(rt; 1 <= case.first_pid && case.first_pid <= 2147483647);
+    let mut table = Table::starting_at(case.first_pid);
+    for (at, act) in case.acts.iter().enumerate() {
+        assert!(rt; does(&mut table, *act), "{}: act {at}", case.name);
+    }
 }
 
 #[test]
-fn the_running_process_waits(rt: HostRuntime) {
-    let mut table = family(1);
-    let pending = Pending {
-        number: Call::Sleep,
-        args: [2, 0, 0],
-        done: 0,
-        since: 5,
-    };
-    table.block(pending);
-    assert!(rt; table.running().is_none() && mode_of(&table, 0) == Some(Mode::Waiting(pending)));
-    table.block(pending);
-    assert!(rt; mode_of(&table, 1) == Some(Mode::Ready));
-}
-
-#[test]
-fn puts_a_process_in_the_place_of_another(rt: HostRuntime) {
-    let mut table = family(1);
-    table.put(1, child_of(4));
-    assert!(rt; parent_of(&table, 1) == Some(4));
+fn processes_come_run_and_go(rt: HostRuntime) {
+    for case in &CASES {
+        expect(&rt, case);
+    }
 }

@@ -87,20 +87,16 @@ impl Watched {
     }
 }
 
-// Does these acts with a new pipe, from which all that was sent is read at the end.
-fn expect(rt: &(impl Abort + AllocGlobal), acts: &[Act]) {
-    let mut watched = Watched::new(rt);
-    for act in acts {
-        assert!(rt; watched.does(rt, *act));
-    }
-    assert!(rt; watched.received.as_slice() == watched.sent.as_slice());
+// What is done with a new pipe.
+struct Case {
+    name: &'static str,
+    acts: &'static [Act],
 }
 
-#[test]
-fn what_fits_is_written_and_read_in_order(rt: HostRuntime) {
-    expect(
-        &rt,
-        &[
+static CASES: [Case; 3] = [
+    Case {
+        name: "what fits is written, and read in order",
+        acts: &[
             Act::Write(513, Some(512)),
             Act::Read(0, Some(0)),
             Act::Write(1, Some(0)),
@@ -110,14 +106,10 @@ fn what_fits_is_written_and_read_in_order(rt: HostRuntime) {
             Act::Write(500, Some(500)),
             Act::Read(600, Some(500)),
         ],
-    );
-}
-
-#[test]
-fn a_write_end_that_is_closed_ends_the_reads(rt: HostRuntime) {
-    expect(
-        &rt,
-        &[
+    },
+    Case {
+        name: "a write end that is closed ends the reads",
+        acts: &[
             Act::CanRead(false),
             Act::Read(10, None),
             Act::Write(2, Some(2)),
@@ -129,14 +121,10 @@ fn a_write_end_that_is_closed_ends_the_reads(rt: HostRuntime) {
             Act::IsOpen(End::Read, true),
             Act::Close(End::Read, true),
         ],
-    );
-}
-
-#[test]
-fn a_read_end_that_is_closed_ends_the_writes(rt: HostRuntime) {
-    expect(
-        &rt,
-        &[
+    },
+    Case {
+        name: "a read end that is closed ends the writes",
+        acts: &[
             Act::Read(10, None),
             Act::Close(End::Read, false),
             Act::Write(2, None),
@@ -145,5 +133,25 @@ fn a_read_end_that_is_closed_ends_the_writes(rt: HostRuntime) {
             Act::CanRead(false),
             Act::CanWrite(true),
         ],
+    },
+];
+
+// Does it, and all that was sent is read at the end.
+fn expect(rt: &(impl Abort + AllocGlobal), case: &Case) {
+    let mut watched = Watched::new(rt);
+    for (at, act) in case.acts.iter().enumerate() {
+        assert!(rt; watched.does(rt, *act), "{}: act {at}", case.name);
+    }
+    assert!(rt;
+        watched.received.as_slice() == watched.sent.as_slice(),
+        "{}",
+        case.name
     );
+}
+
+#[test]
+fn pipes_are_filled_emptied_and_closed(rt: HostRuntime) {
+    for case in &CASES {
+        expect(&rt, case);
+    }
 }

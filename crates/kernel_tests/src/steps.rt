@@ -1,5 +1,5 @@
 //! Programs of a few instructions, done one by one.
-use crate::expected::{has_frames, memory, store_all};
+use crate::expected::{memory, store_all};
 use hart::Hart;
 use ram::{FrameNo, Ram};
 use std::process::Abort;
@@ -33,14 +33,6 @@ fn start() -> Hart {
     }
 }
 
-// What the next instructions are answered with.
-fn expect_traps(rt: &impl Abort, hart: &mut Hart, ram: &mut Ram, traps: &[Option<Trap>]) {
-    let mut trans = Plain::new();
-    for trap in traps {
-        assert!(rt; hart.step(ram, &mut trans) == *trap);
-    }
-}
-
 const CALL: Trap = Trap {
     cause: Cause::EnvironmentCall,
     address: 20,
@@ -51,34 +43,80 @@ const FAULT: Trap = Trap {
     address: 0,
 };
 
-#[test]
-fn a_program_stores_loads_jumps_and_calls(rt: HostRuntime) {
-    // lui t1, 1; addi t0, x0, -1; sw t0, 8(t1); lwu t2, 8(t1); jalr ra, 21(x0); ecall
-    let mut ram = with_code(
-        &rt,
-        [
+// A program, what its instructions are answered with, and what comes of it.
+struct Case {
+    name: &'static str,
+    code: [u64; 3],
+    traps: &'static [Option<Trap>],
+    registers: &'static [(usize, u64)],
+    pc: u64,
+    /// A number in memory: its frame, its place and its value.
+    stored: (u32, usize, u64),
+}
+
+static CASES: [Case; 2] = [
+    Case {
+        name: "a program stores, loads, jumps and calls",
+        // lui t1, 1; addi t0, x0, -1; sw t0, 8(t1); lwu t2, 8(t1); jalr ra, 21(x0); ecall
+        code: [
             0xfff0_0293_0000_1337,
             0x0083_6383_0053_2423,
             0x0000_0073_0150_00e7,
         ],
-    );
+        traps: &[None, None, None, None, None, Some(CALL)],
+        // ra, t0, t1 and t2
+        registers: &[(1, 20), (5, u64::MAX), (6, 4096), (7, 0xffff_ffff)],
+        pc: 20,
+        stored: (4, 8, 0xffff_ffff),
+    },
+    Case {
+        name: "a fault changes nothing",
+        // sd x0, 0(x0), on a page that may not be written
+        code: [0x0000_0000_0000_3023, 0, 0],
+        traps: &[Some(FAULT)],
+        registers: &[],
+        pc: 0,
+        stored: (3, 0, 0x3023),
+    },
+];
+
+fn has_registers(hart: &Hart, rows: &[(usize, u64)]) -> bool {
+    for (n, value) in rows {
+        if hart.registers.get(*n) != Some(value) {
+            return false;
+        }
+    }
+    true
+}
+
+fn has_number(ram: &Ram, frame: u32, at: usize, number: u64) -> bool {
+    frame < ram.frame_count() && at <= 4088 && ram.load_u64(FrameNo(frame), at) == number
+}
+
+fn expect(rt: &(impl Abort + AllocGlobal), case: &Case) {
+    let mut ram = with_code(rt, case.code);
     let mut hart = start();
-    let traps = &[None, None, None, None, None, Some(CALL)];
-    expect_traps(&rt, &mut hart, &mut ram, traps);
-    let registers = &hart.registers;
-    // ra, t0, t1 and t2
-    assert!(rt; registers[1] == 20 && registers[5] == u64::MAX);
-    assert!(rt; registers[6] == 4096 && registers[7] == 0xffff_ffff);
-    has_frames(&rt, &ram, 5);
-    assert!(rt; hart.pc == 20 && ram.load_u64(FrameNo(4), 8) == 0xffff_ffff);
+    let mut trans = Plain::new();
+    for (at, trap) in case.traps.iter().enumerate() {
+        assert!(rt;
+            hart.step(&mut ram, &mut trans) == *trap,
+            "{}: step {at}",
+            case.name
+        );
+    }
+    let (frame, at, number) = case.stored;
+    assert!(rt;
+        has_registers(&hart, case.registers)
+            && hart.pc == case.pc
+            && has_number(&ram, frame, at, number),
+        "{}",
+        case.name
+    );
 }
 
 #[test]
-fn a_fault_changes_nothing(rt: HostRuntime) {
-    // sd x0, 0(x0), on a page that may not be written
-    let mut ram = with_code(&rt, [0x0000_0000_0000_3023, 0, 0]);
-    let mut hart = start();
-    expect_traps(&rt, &mut hart, &mut ram, &[Some(FAULT)]);
-    has_frames(&rt, &ram, 5);
-    assert!(rt; hart.pc == 0 && ram.load_u64(FrameNo(3), 0) == 0x3023);
+fn instructions_are_done(rt: HostRuntime) {
+    for case in &CASES {
+        expect(&rt, case);
+    }
 }

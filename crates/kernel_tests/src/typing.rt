@@ -1,8 +1,8 @@
 //! An output over writers that take bytes piece by piece, and fail; and what is typed and read.
 use console::{Console, Out, OutFault, ROOM, Writer};
+use std::alloc::Global;
 use std::io;
 use std::io::Write;
-use std::process::Abort;
 
 // Takes one byte at a time, so many of them, and then none.
 #[derive(Drop)]
@@ -28,9 +28,9 @@ impl Write for Narrow {
 }
 
 // An output over such a writer.
-fn over_narrow(rt: &impl AllocGlobal, room: usize) -> Writer<Narrow> {
+fn over_narrow(alloc: Global, room: usize) -> Writer<Narrow> {
     Writer::new(Narrow {
-        taken: Vec::new(rt.alloc()),
+        taken: Vec::new(alloc),
         room,
     })
 }
@@ -41,98 +41,151 @@ fn puts_all_or_fails(rt: HostRuntime) {
         (3, "hi\n", Ok(()), 0),
         (2, "hi", Err(OutFault::Writer), 1),
     ] {
-        let mut out = over_narrow(&rt, room);
-        let put = out.put(b"hi\n");
-        assert!(rt; put == result && out.failures() == failures);
-        assert!(rt; out.into_inner().taken.as_slice() == taken.as_bytes());
+        let mut out = over_narrow(rt.alloc(), room);
+        let told = (out.put(b"hi\n"), out.failures());
+        assert!(rt; told == (result, failures), "{room}");
+        assert!(rt;
+            out.into_inner().taken.as_slice() == taken.as_bytes(),
+            "{room}"
+        );
     }
 }
 
-// These keys print this.
-fn expect_echo(rt: &(impl Abort + AllocGlobal), console: &mut Console, keys: &[u8], echoed: &[u8]) {
-    let mut out = Writer::new(Vec::new(rt.alloc()));
+// What is done with a console.
+#[derive(Clone, Copy)]
+enum Act {
+    /// These keys print this.
+    Type(&'static [u8], &'static [u8]),
+    CanTake(bool),
+    /// A read of so many bytes takes these, and is over or not.
+    Read(usize, &'static [u8], bool),
+}
+
+fn types(alloc: Global, console: &mut Console, keys: &[u8], echoed: &[u8]) -> bool {
+    let mut out = Writer::new(Vec::new(alloc));
     for key in keys {
-        let printed = console.key(*key, &mut out);
-        assert!(rt; printed.is_ok());
+        if console.key(*key, &mut out).is_err() {
+            return false;
+        }
     }
-    assert!(rt; out.into_inner().as_slice() == echoed);
+    out.into_inner().as_slice() == echoed
 }
 
-// A read of so many bytes takes these, and is over or not.
-fn expect_read(rt: &impl Abort, console: &mut Console, n: usize, bytes: &[u8], is_over: bool) {
+fn reads(console: &mut Console, n: usize, bytes: &[u8], is_over: bool) -> bool {
     let mut buffer = [0; ROOM];
     let taken = console.take(n, false, &mut buffer);
-    assert!(rt; taken.over == is_over && &buffer[..taken.count] == bytes);
+    taken.over == is_over && &buffer[..taken.count] == bytes
 }
+
+// Whether that gives what is expected.
+fn does(alloc: Global, console: &mut Console, act: Act) -> bool {
+    match act {
+        Act::Type(keys, echoed) => types(alloc, console, keys, echoed),
+        Act::CanTake(can) => console.can_take() == can,
+        Act::Read(n, bytes, is_over) => reads(console, n, bytes, is_over),
+    }
+}
+
+// What is done with a new console.
+struct Case {
+    name: &'static str,
+    acts: &'static [Act],
+}
+
+static CASES: [Case; 6] = [
+    Case {
+        name: "a key is taken back",
+        acts: &[
+            Act::Type(b"ab\x7fc\r", b"ab\x08 \x08c\n"),
+            Act::CanTake(true),
+            Act::Read(10, b"ac\n", true),
+        ],
+    },
+    Case {
+        name: "a line is taken back",
+        acts: &[
+            Act::Type(b"ab\x15\x08c\n", b"ab\x08 \x08\x08 \x08c\n"),
+            Act::CanTake(true),
+            Act::Read(10, b"c\n", true),
+        ],
+    },
+    Case {
+        name: "a read takes no more than it asks for",
+        acts: &[
+            Act::Type(b"\0\x10abcdefghijkl\n", b"abcdefghijkl\n"),
+            Act::CanTake(true),
+            Act::Read(10, b"abcdefghij", true),
+        ],
+    },
+    Case {
+        name: "a line that isn't ended is not read",
+        acts: &[
+            Act::Type(b"a", b"a"),
+            Act::CanTake(false),
+            Act::Read(10, b"", false),
+        ],
+    },
+    Case {
+        name: "the end of the input is taken alone",
+        acts: &[
+            Act::Type(b"x\x04", b"x\x04"),
+            Act::Read(10, b"x", true),
+            Act::Read(10, b"", true),
+            Act::CanTake(false),
+        ],
+    },
+    Case {
+        name: "a full ring is committed again and again",
+        acts: &[
+            Act::Type(&[b'a'; 129], &[b'a'; 128]),
+            Act::Read(100, &[b'a'; 100], true),
+            Act::Read(100, &[b'a'; 28], false),
+            Act::Type(b"abc\n", b"abc\n"),
+            Act::Read(10, b"abc\n", true),
+            Act::Type(&[b'a'; 129], &[b'a'; 128]),
+            Act::Read(200, &[b'a'; 128], false),
+            Act::Read(100, b"", false),
+            Act::Type(b"abc\n", b"abc\n"),
+            Act::Read(10, b"abc\n", true),
+            Act::Type(&[b'a'; 129], &[b'a'; 128]),
+            Act::Read(300, &[b'a'; 128], false),
+            Act::Read(100, b"", false),
+            Act::Type(b"abc\n", b"abc\n"),
+            Act::Read(10, b"abc\n", true),
+        ],
+    },
+];
 
 #[test]
 fn keys_are_echoed_and_read(rt: HostRuntime) {
-    for (keys, echoed, bytes, is_over) in [
-        ("ab\x7fc\r", "ab\x08 \x08c\n", "ac\n", true),
-        ("ab\x15\x08c\n", "ab\x08 \x08\x08 \x08c\n", "c\n", true),
-        ("\0\x10abcdefghijkl\n", "abcdefghijkl\n", "abcdefghij", true),
-        ("a", "a", "", false),
-    ] {
+    for case in &CASES {
         let mut console = Console::new();
-        expect_echo(&rt, &mut console, keys.as_bytes(), echoed.as_bytes());
-        assert!(rt; console.can_take() == is_over);
-        expect_read(&rt, &mut console, 10, bytes.as_bytes(), is_over);
+        for (at, act) in case.acts.iter().enumerate() {
+            assert!(rt;
+                does(rt.alloc(), &mut console, *act),
+                "{}: act {at}",
+                case.name
+            );
+        }
     }
-}
-
-#[test]
-fn the_end_of_the_input_is_taken_alone(rt: HostRuntime) {
-    let mut console = Console::new();
-    expect_echo(&rt, &mut console, b"x\x04", b"x\x04");
-    for bytes in ["x", ""] {
-        expect_read(&rt, &mut console, 10, bytes.as_bytes(), true);
-    }
-    assert!(rt; !console.can_take());
-}
-
-#[test]
-fn a_full_ring_is_committed_again_and_again(rt: HostRuntime) {
-    let mut console = Console::new();
-    let many = [b'a'; 129];
-    for (n, count, left) in [(100, 100, 28), (200, 128, 0), (300, 128, 0)] {
-        let taken = many.get(..count).unwrap_or(&[]);
-        let rest = many.get(..left).unwrap_or(&[]);
-        expect_echo(&rt, &mut console, &many, &many[..128]);
-        expect_read(&rt, &mut console, n, taken, n == count);
-        expect_read(&rt, &mut console, 100, rest, false);
-        expect_echo(&rt, &mut console, b"abc\n", b"abc\n");
-        expect_read(&rt, &mut console, 10, b"abc\n", true);
-    }
-}
-
-// These keys are answered so, over a writer that takes three bytes.
-fn type_over_narrow(
-    rt: &(impl Abort + AllocGlobal),
-    console: &mut Console,
-    rows: &[(u8, Result<(), OutFault>)],
-) -> Writer<Narrow> {
-    let mut out = over_narrow(rt, 3);
-    for (key, result) in rows {
-        assert!(rt; console.key(*key, &mut out) == *result);
-    }
-    out
 }
 
 #[test]
 fn a_key_is_lost_where_the_writer_fails(rt: HostRuntime) {
     let mut console = Console::new();
-    let out = type_over_narrow(
-        &rt,
-        &mut console,
-        &[
-            (b'a', Ok(())),
-            (b'b', Ok(())),
-            (0x15, Err(OutFault::Writer)),
-            (b'\n', Err(OutFault::Writer)),
-        ],
+    let mut out = over_narrow(rt.alloc(), 3);
+    for (key, result) in [
+        (b'a', Ok(())),
+        (b'b', Ok(())),
+        (0x15, Err(OutFault::Writer)),
+        (b'\n', Err(OutFault::Writer)),
+    ] {
+        assert!(rt; console.key(key, &mut out) == result, "{key}");
+    }
+    let failures = out.failures();
+    let narrow = out.into_inner();
+    assert!(rt; failures == 2 && narrow.taken.as_slice() == b"ab\x08".as_slice());
+    assert!(rt;
+        types(rt.alloc(), &mut console, b"\n", b"\n") && reads(&mut console, 10, b"ab\n", true)
     );
-    assert!(rt; out.failures() == 2);
-    assert!(rt; out.into_inner().taken.as_slice() == b"ab\x08".as_slice());
-    expect_echo(&rt, &mut console, b"\n", b"\n");
-    expect_read(&rt, &mut console, 10, b"ab\n", true);
 }

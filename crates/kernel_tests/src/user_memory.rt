@@ -54,21 +54,8 @@ impl Alone {
         Alone { ram, frames, space }
     }
 
-    // One whose space has grown by so many bytes.
-    fn grown(rt: &(impl Abort + AllocGlobal), count: u32, bytes: u64, perm: Perm) -> Alone
-        requires { count ≤ 32768 }
-    {
-        let mut alone = Alone::new(rt, count);
-        assert!(rt; alone.grow(bytes, perm) == Ok(()));
-        alone
-    }
-
     fn free(&self) -> u32 {
         self.frames.free()
-    }
-
-    fn size(&self) -> u64 {
-        self.space.size()
     }
 
     fn grow(&mut self, bytes: u64, perm: Perm) -> Result<(), VmFault> {
@@ -76,10 +63,12 @@ impl Alone {
             .grow(&mut self.ram, &mut self.frames, bytes, perm)
     }
 
-    fn shrink(&mut self, rt: &impl Abort, bytes: u64) {
-        let size = self.space.size();
-        assert!(rt; bytes <= size);
+    fn shrink(&mut self, bytes: u64) -> bool {
+        if bytes > self.space.size() {
+            return false;
+        }
         self.space.shrink(&mut self.ram, &mut self.frames, bytes);
+        true
     }
 
     fn write(&mut self, address: u64, bytes: &[u8]) -> Result<(), VmFault> {
@@ -87,14 +76,14 @@ impl Alone {
             .copy_out(&mut self.ram, &mut self.frames, address, bytes)
     }
 
-    // Puts four bytes there, whatever the marks of their page.
-    fn fill(&mut self, rt: &impl Abort, address: u64, bytes: &[u8; 4])
-        requires { address ≤ 4092 }
-    {
-        let size = self.space.size();
-        assert!(rt; 4096 <= size);
+    // Puts four bytes into the first page, whatever its marks.
+    fn fill(&mut self, address: u64, bytes: &[u8; 4]) -> bool {
+        if address > 4092 || self.space.size() < 4096 {
+            return false;
+        }
         self.space
             .fill(&mut self.ram, &mut self.frames, address, bytes);
+        true
     }
 
     fn save(&mut self, registers: &[u64; 32], pc: u64)
@@ -104,10 +93,11 @@ impl Alone {
     }
 
     // A number of the trap frame, which is the second frame that a space takes.
-    fn saved(&self, rt: &impl Abort, at: usize) -> u64 {
-        let count = self.ram.frame_count();
-        assert!(rt; 1 < count && at <= 4088);
-        self.ram.load_u64(FrameNo(1), at)
+    fn saved(&self, at: usize) -> Option<u64> {
+        if self.ram.frame_count() <= 1 || at > 4088 {
+            return None;
+        }
+        Some(self.ram.load_u64(FrameNo(1), at))
     }
 
     fn load(&self, registers: &mut [u64; 32]) -> u64 {
@@ -150,23 +140,8 @@ impl Alone {
     // Four bytes, or why they may not be read.
     fn read(&self, address: u64) -> Result<[u8; 4], VmFault> {
         let mut back = [0; 4];
-        match self.space.copy_in(&self.ram, address, &mut back) {
-            Ok(()) => Ok(back),
-            Err(fault) => Err(fault),
-        }
-    }
-
-    // The bytes that a program may read from an address to the end of its page.
-    fn readable(&self, address: u64) -> &[u8] {
-        self.space.readable(&self.ram, address)
-    }
-
-    fn can_read(&self, address: u64, count: u64) -> bool {
-        self.space.can_read(&self.ram, address, count)
-    }
-
-    fn can_write(&self, address: u64, count: u64) -> bool {
-        self.space.can_write(&self.ram, address, count)
+        self.space.copy_in(&self.ram, address, &mut back)?;
+        Ok(back)
     }
 
     // How many bytes a string has that a buffer of so many bytes takes, 4 at the most.
@@ -175,27 +150,134 @@ impl Alone {
         self.space
             .copy_string(&self.ram, address, &mut back[..room.min(4)])
     }
+
+    // Whether this is done, or so.
+    fn does(&mut self, act: Act) -> bool {
+        match act {
+            Act::Grow(bytes, perm, told) => self.grow(bytes, perm) == told,
+            Act::Shrink(bytes) => self.shrink(bytes),
+            Act::Write(address, bytes, told) => self.write(address, bytes) == told,
+            Act::Fill(address, bytes) => self.fill(address, bytes),
+            Act::HasSize(size) => self.space.size() == size,
+            Act::HasMarks(page, marks) => self.perm(page) == marks,
+            Act::Read(address, told) => self.read(address) == told,
+            Act::IsReadable(address, bytes) => self.space.readable(&self.ram, address) == bytes,
+            Act::CanRead(address, count, can) => {
+                self.space.can_read(&self.ram, address, count) == can
+            }
+            Act::CanWrite(address, count, can) => {
+                self.space.can_write(&self.ram, address, count) == can
+            }
+            Act::HasString(address, room, count) => self.string(address, room) == count,
+        }
+    }
+}
+
+// What is done to a space, or what it has.
+#[derive(Clone, Copy)]
+enum Act {
+    Grow(u64, Perm, Result<(), VmFault>),
+    Shrink(u64),
+    Write(u64, &'static [u8], Result<(), VmFault>),
+    Fill(u64, &'static [u8; 4]),
+    HasSize(u64),
+    HasMarks(u64, Option<Perm>),
+    Read(u64, Result<[u8; 4], VmFault>),
+    /// These bytes may be read from an address to the end of its page.
+    IsReadable(u64, &'static [u8]),
+    CanRead(u64, u64, bool),
+    CanWrite(u64, u64, bool),
+    /// What a buffer of so many bytes takes.
+    HasString(u64, usize, Option<usize>),
+}
+
+// What is done to a new space in a memory of so many frames; beside each: how many frames are free then.
+struct Case {
+    name: &'static str,
+    frames: u32,
+    acts: &'static [(Act, u32)],
+}
+
+static CASES: [Case; 4] = [
+    Case {
+        name: "each frame comes back",
+        frames: 32,
+        acts: &[
+            (Act::HasSize(0), 28),
+            // two pages and two tables
+            (Act::Grow(5000, DATA, Ok(())), 24),
+            (Act::HasSize(5000), 24),
+            (Act::Shrink(4000), 25),
+            (Act::HasSize(1000), 25),
+        ],
+    },
+    Case {
+        name: "what does not fit is refused",
+        frames: 8,
+        acts: &[
+            (Act::Grow(0x3fffffe001, DATA, Err(VmFault::TooLarge)), 4),
+            (Act::Grow(0x3fffffe000, DATA, Err(VmFault::Frames)), 4),
+            (Act::Grow(3 * 4096, DATA, Err(VmFault::Frames)), 4),
+            (Act::Grow(2 * 4096, DATA, Ok(())), 0),
+        ],
+    },
+    Case {
+        name: "bytes lie in two pages",
+        frames: 32,
+        acts: &[
+            (Act::Grow(8192, DATA, Ok(())), 24),
+            (Act::Write(4094, b"read\0", Ok(())), 24),
+            (Act::Write(8191, b"ab", Err(VmFault::BadAddress)), 24),
+            (Act::Read(4094, Ok(*b"read")), 24),
+            (Act::Read(8191, Err(VmFault::BadAddress)), 24),
+            (Act::HasString(4094, 4, Some(4)), 24),
+            (Act::HasString(4094, 3, None), 24),
+            (Act::IsReadable(4094, b"re"), 24),
+            (Act::CanRead(4094, 4098, true), 24),
+            (Act::CanRead(4094, 4099, false), 24),
+            (Act::CanWrite(u64::MAX, 2, false), 24),
+        ],
+    },
+    Case {
+        name: "text is kept from being written",
+        frames: 32,
+        acts: &[
+            (Act::Grow(4096, TEXT, Ok(())), 25),
+            (Act::Fill(16, b"code"), 25),
+            (Act::Read(16, Ok(*b"code")), 25),
+            (Act::CanWrite(16, 1, false), 25),
+            (Act::HasMarks(0, Some(TEXT)), 25),
+            (Act::HasMarks(1, None), 25),
+        ],
+    },
+];
+
+// Does all of it, after which the space gives back each frame.
+fn expect(rt: &(impl Abort + AllocGlobal), case: &Case) {
+    assert!(rt; case.frames <= 32768);
+    let mut alone = Alone::new(rt, case.frames);
+    for (at, (act, free)) in case.acts.iter().enumerate() {
+        let told = (alone.does(*act), alone.free());
+        assert!(rt; told == (true, *free), "{}: act {at}", case.name);
+    }
+    assert!(rt; alone.end() == case.frames, "{}", case.name);
 }
 
 #[test]
-fn gives_back_each_frame(rt: HostRuntime) {
-    let mut alone = Alone::new(&rt, 32);
-    assert!(rt; alone.free() == 28);
-    assert!(rt; alone.grow(5000, DATA) == Ok(()));
-    // two pages and two tables
-    assert!(rt; alone.free() == 24 && alone.size() == 5000);
-    alone.shrink(&rt, 4000);
-    assert!(rt; alone.free() == 25 && alone.size() == 1000);
-    assert!(rt; alone.end() == 32);
+fn spaces_grow_are_read_and_written_and_go(rt: HostRuntime) {
+    for case in &CASES {
+        expect(&rt, case);
+    }
 }
 
 #[test]
 fn copies_count_in_full(rt: HostRuntime) {
-    let mut alone = Alone::grown(&rt, 16, 4096, DATA);
-    alone.fill(&rt, 0, b"old!");
+    let mut alone = Alone::new(&rt, 16);
+    let done = alone.grow(4096, DATA) == Ok(()) && alone.fill(0, b"old!");
     let mut child = alone.copied(&rt);
-    assert!(rt; child.free() == 2 && child.read(0) == Ok(*b"old!"));
-    assert!(rt; child.copy_fault() == Some(VmFault::Frames) && child.end() == 9);
+    let told = (child.free(), child.read(0), child.copy_fault());
+    assert!(rt; done && told == (2, Ok(*b"old!"), Some(VmFault::Frames)));
+    assert!(rt; child.end() == 9);
 }
 
 // Whether a page has the same frame in both spaces, and that has two holders.
@@ -211,66 +293,22 @@ fn is_shared(ram: &Ram, frames: &Frames, one: &Space, other: &Space, page: u64) 
 
 #[test]
 fn copies_share_each_frame(rt: HostRuntime) {
+    let mut alone = Alone::new(&rt, 256);
+    assert!(rt; alone.grow(50 * 4096, DATA) == Ok(()));
     let Alone {
         mut ram,
         mut frames,
         space,
-    } = Alone::grown(&rt, 256, 50 * 4096, DATA);
+    } = alone;
     let Ok(child) = space.copy(&mut ram, &mut frames) else {
         panic!(rt; "too few frames")
     };
     for page in 0..50 {
-        assert!(rt; is_shared(&ram, &frames, &space, &child, page));
+        assert!(rt;
+            is_shared(&ram, &frames, &space, &child, page),
+            "page {page}"
+        );
     }
-}
-
-#[test]
-fn refuses_what_does_not_fit(rt: HostRuntime) {
-    let mut alone = Alone::new(&rt, 8);
-    for (bytes, grown, free) in [
-        (0x3fffffe001, Err(VmFault::TooLarge), 4),
-        (0x3fffffe000, Err(VmFault::Frames), 4),
-        (3 * 4096, Err(VmFault::Frames), 4),
-        (2 * 4096, Ok(()), 0),
-    ] {
-        assert!(rt; alone.grow(bytes, DATA) == grown && alone.free() == free);
-    }
-}
-
-// One of two pages with a string that lies in both.
-fn with_string(rt: &(impl Abort + AllocGlobal)) -> Alone {
-    let mut alone = Alone::grown(rt, 32, 8192, DATA);
-    assert!(rt; alone.write(4094, b"read\0").is_ok());
-    alone
-}
-
-#[test]
-fn carries_bytes_over_pages(rt: HostRuntime) {
-    let mut alone = with_string(&rt);
-    assert!(rt; alone.write(8191, b"ab") == Err(VmFault::BadAddress));
-    assert!(rt; alone.read(4094) == Ok(*b"read"));
-    assert!(rt; alone.read(8191) == Err(VmFault::BadAddress));
-}
-
-#[test]
-fn finds_a_string_over_pages(rt: HostRuntime) {
-    let alone = with_string(&rt);
-    assert!(rt; alone.string(4094, 4) == Some(4) && alone.string(4094, 3).is_none());
-}
-
-#[test]
-fn tells_what_may_be_read_and_written(rt: HostRuntime) {
-    let alone = with_string(&rt);
-    assert!(rt; alone.readable(4094) == b"re".as_slice() && !alone.can_write(u64::MAX, 2));
-    assert!(rt; alone.can_read(4094, 4098) && !alone.can_read(4094, 4099));
-}
-
-#[test]
-fn keeps_text_from_being_written(rt: HostRuntime) {
-    let mut alone = Alone::grown(&rt, 32, 4096, TEXT);
-    alone.fill(&rt, 16, b"code");
-    assert!(rt; alone.read(16) == Ok(*b"code") && !alone.can_write(16, 1));
-    assert!(rt; alone.perm(0) == Some(TEXT) && alone.perm(1).is_none());
 }
 
 // ra, s2 and t6 are set.
@@ -285,19 +323,14 @@ fn registers() -> [u64; 32]
 }
 
 #[test]
-fn saves_registers_where_xv6_does(rt: HostRuntime) {
+fn registers_are_saved_and_loaded(rt: HostRuntime) {
     let mut alone = Alone::new(&rt, 8);
     alone.save(&registers(), 4096);
-    // epc, ra, s2 and t6
+    // epc, ra, s2 and t6, where xv6 saves them
     for (at, number) in [(24, 4096), (40, 11), (176, 12), (280, u64::MAX)] {
-        assert!(rt; alone.saved(&rt, at) == number);
+        assert!(rt; alone.saved(at) == Some(number), "at {at}");
     }
-}
-
-#[test]
-fn loads_what_was_saved(rt: HostRuntime) {
-    let mut alone = Alone::new(&rt, 8);
-    alone.save(&registers(), 4096);
     let mut back = [7; 32];
-    assert!(rt; alone.load(&mut back) == 4096 && back == registers());
+    let pc = alone.load(&mut back);
+    assert!(rt; pc == 4096 && back == registers());
 }

@@ -65,17 +65,10 @@ fn is_recalled<T: Translate>(
 fn addresses_are_translated(rt: HostRuntime) {
     let ram = by_hand(&rt);
     let mut plain = Plain::new();
-    for (va, access, want) in ADDRESSES {
-        assert!(rt; is_answer(&ram, &mut plain, va, access, want), "at {va}");
-    }
-}
-
-#[test]
-fn answers_are_those_of_the_translator_below(rt: HostRuntime) {
-    let ram = by_hand(&rt);
     let alloc = rt.alloc();
     for (va, access, want) in ADDRESSES {
-        let same = is_recalled(&ram, Plain::new(), va, access, want)
+        let same = is_answer(&ram, &mut plain, va, access, want)
+            && is_recalled(&ram, Plain::new(), va, access, want)
             && is_recalled(&ram, Tlb::<64>::new(), va, access, want)
             && is_recalled(&ram, Noting::new(alloc, 0), va, access, want);
         assert!(rt; same, "at {va}");
@@ -85,13 +78,10 @@ fn answers_are_those_of_the_translator_below(rt: HostRuntime) {
 #[test]
 fn pages_are_looked_up(rt: HostRuntime) {
     let ram = by_hand(&rt);
-    assert!(rt; walk_page(&ram, FrameNo(0), 3, Access::Load) == Some(FrameNo(3)));
-    assert!(rt; walk_page(&ram, FrameNo(4), 3, Access::Load).is_none());
-}
-
-#[test]
-fn addresses_that_are_too_high_are_not_looked_up(rt: HostRuntime) {
-    let ram = memory(&rt, 1);
+    let found = walk_page(&ram, FrameNo(0), 3, Access::Load);
+    let outside = walk_page(&ram, FrameNo(4), 3, Access::Load);
+    assert!(rt; (found, outside) == (Some(FrameNo(3)), None));
+    // an address that is too high is not looked up
     let (answer, count) = walk_counted(&ram, FrameNo(0), 0x40_0000_0000, Access::Load);
     assert!(rt; answer.is_err() && count == 0);
 }
@@ -99,15 +89,14 @@ fn addresses_that_are_too_high_are_not_looked_up(rt: HostRuntime) {
 #[test]
 fn entries_are_read(rt: HostRuntime) {
     let entry = Pte(0x2000_0c53);
-    assert!(rt; entry.number() == BASE + 3);
-    assert!(rt; entry.marks().contains(EntryBits::READ | EntryBits::USER));
-    for (entry, is_last, access, want) in [
-        (entry, true, Access::Load, Turn::Leaf(BASE + 3)),
-        (entry, true, Access::Fetch, Turn::Stop),
-        (entry, false, Access::Load, Turn::Stop),
-        (Pte(0x2000_0401), false, Access::Load, Turn::Down(BASE + 1)),
+    let marks = EntryBits::READ | EntryBits::USER;
+    assert!(rt; entry.number() == BASE + 3 && entry.marks().contains(marks));
+    for (entry, span, access, want) in [
+        (entry, 1, Access::Load, Turn::Leaf(BASE + 3)),
+        (entry, 1, Access::Fetch, Turn::Stop),
+        (entry, 512, Access::Load, Turn::Stop),
+        (Pte(0x2000_0401), 512, Access::Load, Turn::Down(BASE + 1)),
     ] {
-        let span = if is_last { 1 } else { 512 };
         assert!(rt; entry.turn(span, access) == want);
     }
 }

@@ -33,11 +33,17 @@ fn remainder() -> Instr {
 
 #[test]
 fn reads_and_spells_words(rt: HostRuntime) {
-    assert!(rt; decode(0x4010_d09b) == Some(shift()) && encode(shift()) == 0x4010_d09b);
-    assert!(rt; decode(0x0ff0_000f) == Some(fence()) && encode(fence()) == 0x0ff0_000f);
-    assert!(rt; decode(0x02b5_653b) == Some(remainder()) && encode(remainder()) == 0x02b5_653b);
-    assert!(rt; decode(0x0000_0073) == Some(Instr::Ecall));
-    assert!(rt; encode(Instr::Ecall) == 0x0000_0073);
+    for (word, instr) in [
+        (0x4010_d09b, shift()),
+        (0x0ff0_000f, fence()),
+        (0x02b5_653b, remainder()),
+        (0x0000_0073, Instr::Ecall),
+    ] {
+        assert!(rt;
+            decode(word) == Some(instr) && encode(instr) == word,
+            "{word:#x}"
+        );
+    }
 }
 
 #[test]
