@@ -1,7 +1,9 @@
 //! exec: a program in the place of the one that runs, out of a file that the one that runs has written.
-use crate::play::Act::{Answer, Bytes, Free, Halts, NoPage, Page, Pc, Size, Steps, Stores};
+use crate::play::Act::{
+    Answer, Answered, Bytes, Free, Halts, NoPage, Page, Pc, Size, Steps, Stores,
+};
 use crate::play::{
-    Act, EXEC, FORK, MINUS_ONE, NEXT_CALL, OPEN, Program, SBRK, WRITE, expect_answers, run,
+    Case, EXEC, FORK, MINUS_ONE, NEXT_CALL, OPEN, Program, SBRK, USUAL, WRITE, run_each,
 };
 use machine::{Halt, Perm};
 
@@ -65,18 +67,88 @@ const STORING: [[u64; 4]; 9] = [
 
 const NAME_OF_3: u64 = 32 + 32 * 3;
 
+static RUNS: [Case; 4] = [
+    Case {
+        name: "a page without W is not written",
+        size: USUAL,
+        program: Program::Calls(&STORING),
+        acts: &[
+            Steps(3 * NEXT_CALL),
+            Answer(1, 0),
+            Steps(1),
+            Pc(1, 4),
+            Halts(Halt::InitEnded(-1)),
+            Pc(1, 4),
+            Page(1, 0, CODE, &[0x23, 0, 1, 0, 0x23, 0, 0, 0]),
+        ],
+    },
+    // Each page lets a store through where the program may write it, but for those that a fork had.
+    Case {
+        name: "only pages that a fork had refuse a store",
+        size: USUAL,
+        program: Program::Calls(&FORKING),
+        acts: &[
+            Steps(1),
+            Stores(1, 0, true),
+            Stores(1, 0x1000, false),
+            Stores(1, 0x2000, true),
+            Steps(NEXT_CALL - 1),
+            Answer(1, 2),
+            Stores(1, 0, false),
+            Stores(1, 0x2000, false),
+            Stores(2, 0, false),
+            Stores(2, 0x2000, false),
+            Steps(3 * NEXT_CALL),
+            Answer(1, 0),
+            Stores(1, 0, false),
+            Stores(1, 0x2000, true),
+            Stores(2, 0, false),
+            Stores(2, 0x2000, false),
+        ],
+    },
+    // The strings of the two arguments stand below the end of the stack's page, and their pointers below them.
+    Case {
+        name: "a file is executed",
+        size: USUAL,
+        program: Program::Calls(&CALLS),
+        acts: &[
+            Steps(9 * NEXT_CALL),
+            Answer(1, 2),
+            Pc(1, 0),
+            Size(1, 0x3000),
+            Free(55),
+            Page(1, 0, CODE, &[0x93, 0x08, 0xb0, 0, 0x73, 0, 0, 0]),
+            NoPage(1, 3),
+            Bytes(1, 0x2ff0, &[0x70, 0]),
+            Bytes(1, 0x2fe0, &[0x70, 0]),
+            Bytes(1, 0x2fc0, &[0xf0, 0x2f, 0, 0, 0, 0, 0, 0]),
+            Bytes(1, 0x2fc8, &[0xe0, 0x2f, 0, 0, 0, 0, 0, 0]),
+            Steps(2),
+            Answer(1, 1),
+            Halts(Halt::InitEnded(-1)),
+        ],
+    },
+    Case {
+        name: "what does not fit beside is refused",
+        size: USUAL,
+        program: Program::Calls(&CALLS),
+        acts: &[Answered(&[
+            (3, 55),
+            (128, 55),
+            (MINUS_ONE, 55),
+            (MINUS_ONE, 55),
+            (MINUS_ONE, 55),
+            (12288, 7),
+            (MINUS_ONE, 7),
+            (208896, 8),
+            (2, 55),
+        ])],
+    },
+];
+
 #[test]
-fn a_page_without_w_is_not_written(rt: HostRuntime) {
-    const ACTS: [Act; 7] = [
-        Steps(3 * NEXT_CALL),
-        Answer(1, 0),
-        Steps(1),
-        Pc(1, 4),
-        Halts(Halt::InitEnded(-1)),
-        Pc(1, 4),
-        Page(1, 0, CODE, &[0x23, 0, 1, 0, 0x23, 0, 0, 0]),
-    ];
-    run(&rt, Program::Calls(&STORING), &ACTS);
+fn runs(rt: HostRuntime) {
+    run_each(&rt, &RUNS);
 }
 
 // The same behind a fork.
@@ -94,65 +166,3 @@ const FORKING: [[u64; 4]; 10] = [
 ];
 
 const NAME_OF_4: u64 = 32 + 32 * 4;
-
-// Each page lets a store through where the program may write it, but for those that a fork had.
-#[test]
-fn only_pages_that_a_fork_had_refuse_a_store(rt: HostRuntime) {
-    const ACTS: [Act; 16] = [
-        Steps(1),
-        Stores(1, 0, true),
-        Stores(1, 0x1000, false),
-        Stores(1, 0x2000, true),
-        Steps(NEXT_CALL - 1),
-        Answer(1, 2),
-        Stores(1, 0, false),
-        Stores(1, 0x2000, false),
-        Stores(2, 0, false),
-        Stores(2, 0x2000, false),
-        Steps(3 * NEXT_CALL),
-        Answer(1, 0),
-        Stores(1, 0, false),
-        Stores(1, 0x2000, true),
-        Stores(2, 0, false),
-        Stores(2, 0x2000, false),
-    ];
-    run(&rt, Program::Calls(&FORKING), &ACTS);
-}
-
-// The strings of the two arguments stand below the end of the stack's page, and their pointers below them.
-#[test]
-fn executes_a_file(rt: HostRuntime) {
-    const ACTS: [Act; 14] = [
-        Steps(9 * NEXT_CALL),
-        Answer(1, 2),
-        Pc(1, 0),
-        Size(1, 0x3000),
-        Free(55),
-        Page(1, 0, CODE, &[0x93, 0x08, 0xb0, 0, 0x73, 0, 0, 0]),
-        NoPage(1, 3),
-        Bytes(1, 0x2ff0, &[0x70, 0]),
-        Bytes(1, 0x2fe0, &[0x70, 0]),
-        Bytes(1, 0x2fc0, &[0xf0, 0x2f, 0, 0, 0, 0, 0, 0]),
-        Bytes(1, 0x2fc8, &[0xe0, 0x2f, 0, 0, 0, 0, 0, 0]),
-        Steps(2),
-        Answer(1, 1),
-        Halts(Halt::InitEnded(-1)),
-    ];
-    run(&rt, Program::Calls(&CALLS), &ACTS);
-}
-
-#[test]
-fn refuses_what_does_not_fit_beside(rt: HostRuntime) {
-    const ANSWERS: [(u64, u32); 9] = [
-        (3, 55),
-        (128, 55),
-        (MINUS_ONE, 55),
-        (MINUS_ONE, 55),
-        (MINUS_ONE, 55),
-        (12288, 7),
-        (MINUS_ONE, 7),
-        (208896, 8),
-        (2, 55),
-    ];
-    expect_answers(&rt, 64, &CALLS, &ANSWERS);
-}

@@ -1,10 +1,10 @@
 //! A program that says `hi`: its console, its process, its pages and its tables.
 use crate::play::Act::{
-    Answer, Faults, Gone, Halts, Is, Killed, NoPage, NoTables, Page, Parent, Pc, Reaches,
+    Answer, Faults, Gone, Halts, Is, Killed, NoPage, NoTables, Page, Parent, Pc, Printed, Reaches,
     Registers, Runs, Size, Steps,
 };
 use crate::play::{
-    Act, NEXT_CALL, Program, READY, ROOM, RUNNING, SBRK, holds_at, prints, run, saved,
+    Act, Case, NEXT_CALL, Program, READY, ROOM, RUNNING, SBRK, USUAL, holds_at, run_each,
 };
 use console::Writer;
 use machine::{Halt, Perm, ProcessState, boot_flat, boot_flat_with};
@@ -14,6 +14,7 @@ use std::cell::Cell;
 use sv39::{Plain, Recent, Tlb, Translate};
 use test_translators::Counting;
 use unixmodel::event::Event;
+use unixmodel::event::Event::{Step, Tick};
 use unixmodel::trap::Access;
 
 // Writes `hi` and a line feed, which stand behind the instructions, and exits with status 0.
@@ -28,7 +29,8 @@ const HELLO: [u32; 8] = [
     0x0000_0073, // ecall
 ];
 
-const HI: Program<'static> = Program::Words(&HELLO, b"hi\n");
+/// That program.
+pub(crate) const HI: Program<'static> = Program::Words(&HELLO, b"hi\n");
 
 /// The bytes of that program.
 pub(crate) const BYTES: [u8; 35] = [
@@ -37,147 +39,197 @@ pub(crate) const BYTES: [u8; 35] = [
     0x68, 0x69, 0x0a,
 ];
 
-#[test]
-fn says_hi(rt: HostRuntime) {
-    const ACTS: [Act; 5] = [
-        Steps(8),
-        Halts(Halt::InitEnded(0)),
-        Halts(Halt::Halted),
-        Runs(&[Event::Tick], Some(Halt::Halted)),
-        Is(1, ProcessState::Zombie(0)),
-    ];
-    prints(&rt, HI, (256, ROOM), &ACTS, b"hi\n");
-}
+const AT_FIRST: [u64; 32] = [
+    0, 0, 12272, 0, 0, 0, 0, 0, 0, 0, 0, 12272, 0, 0, 0, 0, 0, 0, 0, 0, 0, 0, 0, 0, 0, 0, 0, 0, 0,
+    0, 0, 0,
+];
+
+const AFTER_TWO_STEPS: [u64; 32] = [
+    0, 0, 12272, 0, 0, 0, 0, 0, 0, 0, 1, 12272, 0, 0, 0, 0, 0, 0, 0, 0, 0, 0, 0, 0, 0, 0, 0, 0, 0,
+    0, 0, 0,
+];
+
+// The marks of the pages: of the program's, of the one below the stack, and of the stack's.
+const PROGRAM: Perm = Perm {
+    w: true,
+    x: true,
+    u: true,
+};
+
+const GUARD: Perm = Perm {
+    w: true,
+    x: false,
+    u: false,
+};
+
+const STACK: Perm = Perm {
+    w: true,
+    x: false,
+    u: true,
+};
+
+/// What it does at a console that takes one byte, and fails at the next.
+pub(crate) const FAILED: [Act; 6] = [
+    Steps(5),
+    Halts(Halt::Console),
+    Halts(Halt::Halted),
+    Runs(&[], Some(Halt::Halted)),
+    Parent(1, 0),
+    Printed(b"h"),
+];
+
+// A key.
+const A: Event = Event::Key(b'a');
+
+static RUNS: [Case; 11] = [
+    Case {
+        name: "it says hi",
+        size: (256, ROOM),
+        program: HI,
+        acts: &[
+            Steps(8),
+            Halts(Halt::InitEnded(0)),
+            Halts(Halt::Halted),
+            Runs(&[Tick], Some(Halt::Halted)),
+            Is(1, ProcessState::Zombie(0)),
+            Printed(b"hi\n"),
+        ],
+    },
+    // A tick costs a turn.
+    Case {
+        name: "a tick comes, and its program has not printed",
+        size: (256, ROOM),
+        program: HI,
+        acts: &[
+            Runs(&[Step, Step, Step, Tick, Step, Step, Step], None),
+            Printed(b""),
+        ],
+    },
+    Case {
+        name: "a tick comes, and its program has printed",
+        size: (256, ROOM),
+        program: HI,
+        acts: &[
+            Runs(&[Step, Step, Step, Tick, Step, Step, Step, Step], None),
+            Printed(b"hi\n"),
+        ],
+    },
+    Case {
+        name: "a tick and a key come, and its program goes on",
+        size: (256, ROOM),
+        program: HI,
+        acts: &[
+            Runs(
+                &[
+                    Step, Step, Step, Tick, Step, Step, Step, Step, A, Step, Step,
+                ],
+                None,
+            ),
+            Printed(b"hi\na"),
+        ],
+    },
+    Case {
+        name: "a tick and a key come, and its program ends",
+        size: (256, ROOM),
+        program: HI,
+        acts: &[
+            Runs(
+                &[
+                    Step, Step, Step, Tick, Step, Step, Step, Step, A, Step, Step, Step,
+                ],
+                Some(Halt::InitEnded(0)),
+            ),
+            Printed(b"hi\na"),
+        ],
+    },
+    Case {
+        name: "a tick and a key come, and its program has ended",
+        size: (256, ROOM),
+        program: HI,
+        acts: &[
+            Runs(
+                &[
+                    Step, Step, Step, Tick, Step, Step, Step, Step, A, Step, Step, Step, Step,
+                ],
+                Some(Halt::InitEnded(0)),
+            ),
+            Printed(b"hi\na"),
+        ],
+    },
+    Case {
+        name: "its process is told",
+        size: USUAL,
+        program: HI,
+        acts: &[
+            Parent(1, 0),
+            Pc(1, 0),
+            Size(1, 12288),
+            Registers(1, &AT_FIRST),
+            Killed(1, false),
+            Is(1, READY),
+            Gone(0),
+            Gone(2),
+            Steps(2),
+            Registers(1, &AFTER_TWO_STEPS),
+            Pc(1, 4),
+            Is(1, RUNNING),
+        ],
+    },
+    Case {
+        name: "its pages are shown",
+        size: USUAL,
+        program: HI,
+        acts: &[
+            Page(1, 0, PROGRAM, &BYTES),
+            Page(1, 1, GUARD, &[]),
+            Page(1, 2, STACK, &[]),
+            NoPage(1, 3),
+            NoPage(1, 0x3ff_fffe),
+            NoPage(2, 0),
+        ],
+    },
+    Case {
+        name: "its tables show its pages",
+        size: USUAL,
+        program: HI,
+        acts: &[
+            Reaches(32, Access::Fetch, b'h'),
+            Reaches(33, Access::Load, b'i'),
+            Reaches(33, Access::Store, b'i'),
+            Faults(0x1000, Access::Load),
+            Reaches(0x2000, Access::Load, 0),
+            Faults(0x2000, Access::Fetch),
+            Faults(0x3000, Access::Load),
+            Faults(0x3f_ffff_e000, Access::Load),
+            Faults(0x40_0000_0000, Access::Load),
+            NoTables(2),
+        ],
+    },
+    // Pages that nobody shared: the program's, its stack, and one that came later.
+    Case {
+        name: "pages that come let stores through",
+        size: USUAL,
+        program: Program::Calls(&[[4096, 0, 0, SBRK]]),
+        acts: &[
+            Steps(NEXT_CALL),
+            Answer(1, 12288),
+            Reaches(4095, Access::Store, 0),
+            Reaches(0x2000, Access::Store, 0),
+            Reaches(0x3000, Access::Store, 0),
+        ],
+    },
+    // It takes one byte, and fails at the next.
+    Case {
+        name: "it halts where the console fails",
+        size: (64, 1),
+        program: HI,
+        acts: &FAILED,
+    },
+];
 
 #[test]
-fn a_tick_costs_a_turn(rt: HostRuntime) {
-    const EVENTS: [Event; 13] = [
-        Event::Step,
-        Event::Step,
-        Event::Step,
-        Event::Tick,
-        Event::Step,
-        Event::Step,
-        Event::Step,
-        Event::Step,
-        Event::Key(0x61),
-        Event::Step,
-        Event::Step,
-        Event::Step,
-        Event::Step,
-    ];
-    const CASES: [(usize, &[u8], Option<Halt>); 5] = [
-        (7, b"", None),
-        (8, b"hi\n", None),
-        (11, b"hi\na", None),
-        (12, b"hi\na", Some(Halt::InitEnded(0))),
-        (13, b"hi\na", Some(Halt::InitEnded(0))),
-    ];
-    for (count, text, why) in &CASES {
-        let events = EVENTS.get(..*count).unwrap_or(&EVENTS);
-        prints(&rt, HI, (256, ROOM), &[Runs(events, *why)], text);
-    }
-}
-
-#[test]
-fn tells_its_process(rt: HostRuntime) {
-    const FIRST: [u64; 32] = [
-        0, 0, 12272, 0, 0, 0, 0, 0, 0, 0, 0, 12272, 0, 0, 0, 0, 0, 0, 0, 0, 0, 0, 0, 0, 0, 0, 0, 0,
-        0, 0, 0, 0,
-    ];
-    const NEXT: [u64; 32] = [
-        0, 0, 12272, 0, 0, 0, 0, 0, 0, 0, 1, 12272, 0, 0, 0, 0, 0, 0, 0, 0, 0, 0, 0, 0, 0, 0, 0, 0,
-        0, 0, 0, 0,
-    ];
-    const ACTS: [Act; 12] = [
-        Parent(1, 0),
-        Pc(1, 0),
-        Size(1, 12288),
-        Registers(1, &FIRST),
-        Killed(1, false),
-        Is(1, READY),
-        Gone(0),
-        Gone(2),
-        Steps(2),
-        Registers(1, &NEXT),
-        Pc(1, 4),
-        Is(1, RUNNING),
-    ];
-    run(&rt, HI, &ACTS);
-}
-
-#[test]
-fn shows_its_pages(rt: HostRuntime) {
-    const PROGRAM: Perm = Perm {
-        w: true,
-        x: true,
-        u: true,
-    };
-    const GUARD: Perm = Perm {
-        w: true,
-        x: false,
-        u: false,
-    };
-    const STACK: Perm = Perm {
-        w: true,
-        x: false,
-        u: true,
-    };
-    const ACTS: [Act; 6] = [
-        Page(1, 0, PROGRAM, &BYTES),
-        Page(1, 1, GUARD, &[]),
-        Page(1, 2, STACK, &[]),
-        NoPage(1, 3),
-        NoPage(1, 0x3ff_fffe),
-        NoPage(2, 0),
-    ];
-    run(&rt, HI, &ACTS);
-}
-
-#[test]
-fn its_tables_show_its_pages(rt: HostRuntime) {
-    const ACTS: [Act; 10] = [
-        Reaches(32, Access::Fetch, b'h'),
-        Reaches(33, Access::Load, b'i'),
-        Reaches(33, Access::Store, b'i'),
-        Faults(0x1000, Access::Load),
-        Reaches(0x2000, Access::Load, 0),
-        Faults(0x2000, Access::Fetch),
-        Faults(0x3000, Access::Load),
-        Faults(0x3f_ffff_e000, Access::Load),
-        Faults(0x40_0000_0000, Access::Load),
-        NoTables(2),
-    ];
-    run(&rt, HI, &ACTS);
-}
-
-// Pages that nobody shared: the program's, its stack, and one that came later.
-#[test]
-fn pages_that_come_let_stores_through(rt: HostRuntime) {
-    const CALLS: [[u64; 4]; 1] = [[4096, 0, 0, SBRK]];
-    const ACTS: [Act; 5] = [
-        Steps(NEXT_CALL),
-        Answer(1, 12288),
-        Reaches(4095, Access::Store, 0),
-        Reaches(0x2000, Access::Store, 0),
-        Reaches(0x3000, Access::Store, 0),
-    ];
-    run(&rt, Program::Calls(&CALLS), &ACTS);
-}
-
-// It takes one byte, and fails at the next.
-#[test]
-fn halts_where_the_console_fails(rt: HostRuntime) {
-    const ACTS: [Act; 5] = [
-        Steps(5),
-        Halts(Halt::Console),
-        Halts(Halt::Halted),
-        Runs(&[], Some(Halt::Halted)),
-        Parent(1, 0),
-    ];
-    prints(&rt, HI, (64, 1), &ACTS, b"h");
-    let left = saved(&rt, HI, Plain::new(), 1, &ACTS);
-    holds_at(&rt, ACTS.len(), left.err() == Some(Halt::Halted));
+fn runs(rt: HostRuntime) {
+    run_each(&rt, &RUNS);
 }
 
 // The first of nine steps is a turn, and each of the others is an instruction: boot and the turn may fence, and the end of the
@@ -188,12 +240,12 @@ fn each_fetch_is_translated_and_no_step_fences(rt: HostRuntime) {
     let counting = Counting::new(&fetches, &fences);
     let mut machine = boot_flat_with(rt.alloc(), &BYTES, counting, 64).expect(&rt, "a machine");
     let mut out = Writer::new(Vec::new(rt.alloc()));
-    let begun = machine.run(&[Event::Step; 1], &mut out);
+    let begun = machine.run(&[Step; 1], &mut out);
     let before = fences.get();
-    let on = machine.run(&[Event::Step; 7], &mut out);
+    let on = machine.run(&[Step; 7], &mut out);
     holds_at(&rt, 0, begun.is_ok() && on.is_ok());
     holds_at(&rt, 1, before > 0 && fences.get() == before);
-    let done = machine.run(&[Event::Step; 1], &mut out);
+    let done = machine.run(&[Step; 1], &mut out);
     holds_at(&rt, 2, done == Err(Halt::InitEnded(0)));
     holds_at(&rt, 3, fetches.get() == 8);
 }
@@ -205,7 +257,7 @@ fn fetches_of_one_page_are_asked_for_once(rt: HostRuntime) {
     let recent = Recent::new(Counting::new(&fetches, &fences));
     let mut machine = boot_flat_with(rt.alloc(), &BYTES, recent, 64).expect(&rt, "a machine");
     let mut out = Writer::new(Vec::new(rt.alloc()));
-    let done = machine.run(&[Event::Step; 9], &mut out);
+    let done = machine.run(&[Step; 9], &mut out);
     holds_at(&rt, 0, done == Err(Halt::InitEnded(0)));
     holds_at(&rt, 1, fetches.get() == 1 && fences.get() > 0);
 }
@@ -227,7 +279,7 @@ pub(crate) fn stale(ram: &mut Ram, root: FrameNo) -> Tlb<64> {
 fn greets(alloc: Global, translator: Tlb<64>) -> Option<bool> {
     let mut machine = boot_flat_with(alloc, &BYTES, translator, 256).ok()?;
     let mut out = Writer::new(Vec::new(alloc));
-    let done = machine.run(&[Event::Step; 9], &mut out);
+    let done = machine.run(&[Step; 9], &mut out);
     Some(done == Err(Halt::InitEnded(0)) && out.into_inner().as_slice() == b"hi\n".as_slice())
 }
 

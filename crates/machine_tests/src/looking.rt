@@ -1,8 +1,8 @@
 //! What a machine tells of what its processes hold, of open files and pipes, and whether it has anything to do.
 use crate::play::Act::{Answers, Closed, Holds, Idle, Is, Next, Opens, Pipe, Steps};
 use crate::play::{
-    Act, CLOSE, DUP, EXIT, FIRST_ANSWER, FORK, NEXT_ANSWER, PIPE, Program, READ, READING, Row,
-    SLEEP, SLEEPING, WRITE, run,
+    CLOSE, Case, DUP, EXIT, FIRST_ANSWER, FORK, NEXT_ANSWER, PIPE, Program, READ, READING, Row,
+    SLEEP, SLEEPING, USUAL, WRITE, run_each,
 };
 use machine::{Call, OpenOn, Pending, ProcessState};
 
@@ -32,119 +32,124 @@ const READABLE: (bool, bool) = (true, false);
 
 const WRITABLE: (bool, bool) = (false, true);
 
-// Descriptor 0 is closed and becomes a pipe's read end, the fifth its write end. The program's first bytes go through the pipe, the
-// last ones around the end of its room.
-#[test]
-fn descriptors_are_told_as_they_come_and_go(rt: HostRuntime) {
-    const CALLS: [[u64; 4]; 10] = [
-        [1, 0, 0, DUP],
-        [0, 0, 0, CLOSE],
-        TO_STACK,
-        [4, 0, 5, WRITE],
-        [0, BUFFER, 2, READ],
-        [0, BUFFER, 9, READ],
-        [4, 0, 506, WRITE],
-        [0, BUFFER, 506, READ],
-        [4, 0, 5, WRITE],
-        [4, 0, 0, CLOSE],
-    ];
-    const ACTS: [Act; 26] = [
-        Next(0, Some(1)),
-        Next(1, None),
-        Holds(1, &[CONSOLE, CONSOLE, CONSOLE], 1, None),
-        Opens(0, ON_CONSOLE, BOTH, 3),
-        Closed(1),
-        Pipe(0, None),
-        Answers(&[3]),
-        Opens(0, ON_CONSOLE, BOTH, 4),
-        Answers(&[0]),
-        Holds(1, &[None, CONSOLE, CONSOLE, CONSOLE], 1, None),
-        Opens(0, ON_CONSOLE, BOTH, 3),
-        Answers(&[0]),
-        Holds(
-            1,
-            &[READ_END, CONSOLE, CONSOLE, CONSOLE, WRITE_END],
-            1,
-            None,
-        ),
-        Opens(1, FROM_PIPE, READABLE, 1),
-        Opens(2, TO_PIPE, WRITABLE, 1),
-        Pipe(0, Some(&[])),
-        Answers(&[5]),
-        Pipe(0, Some(&[0x93, 2, 0, 2, 3])),
-        Answers(&[2]),
-        Pipe(0, Some(&[0, 2, 3])),
-        Answers(&[3, 506, 506, 5]),
-        Pipe(0, Some(&[0x93, 2, 0, 2, 3])),
-        Pipe(1, None),
-        Answers(&[0]),
-        Closed(2),
-        Pipe(0, Some(&[0x93, 2, 0, 2, 3])),
-    ];
-    run(&rt, Program::Calls(&CALLS), &ACTS);
-}
+static RUNS: [Case; 3] = [
+    // Descriptor 0 is closed and becomes a pipe's read end, the fifth its write end. The program's first bytes go through the pipe, the
+    // last ones around the end of its room.
+    Case {
+        name: "descriptors are told as they come and go",
+        size: USUAL,
+        program: Program::Calls(&[
+            [1, 0, 0, DUP],
+            [0, 0, 0, CLOSE],
+            TO_STACK,
+            [4, 0, 5, WRITE],
+            [0, BUFFER, 2, READ],
+            [0, BUFFER, 9, READ],
+            [4, 0, 506, WRITE],
+            [0, BUFFER, 506, READ],
+            [4, 0, 5, WRITE],
+            [4, 0, 0, CLOSE],
+        ]),
+        acts: &[
+            Next(0, Some(1)),
+            Next(1, None),
+            Holds(1, &[CONSOLE, CONSOLE, CONSOLE], 1, None),
+            Opens(0, ON_CONSOLE, BOTH, 3),
+            Closed(1),
+            Pipe(0, None),
+            Answers(&[3]),
+            Opens(0, ON_CONSOLE, BOTH, 4),
+            Answers(&[0]),
+            Holds(1, &[None, CONSOLE, CONSOLE, CONSOLE], 1, None),
+            Opens(0, ON_CONSOLE, BOTH, 3),
+            Answers(&[0]),
+            Holds(
+                1,
+                &[READ_END, CONSOLE, CONSOLE, CONSOLE, WRITE_END],
+                1,
+                None,
+            ),
+            Opens(1, FROM_PIPE, READABLE, 1),
+            Opens(2, TO_PIPE, WRITABLE, 1),
+            Pipe(0, Some(&[])),
+            Answers(&[5]),
+            Pipe(0, Some(&[0x93, 2, 0, 2, 3])),
+            Answers(&[2]),
+            Pipe(0, Some(&[0, 2, 3])),
+            Answers(&[3, 506, 506, 5]),
+            Pipe(0, Some(&[0x93, 2, 0, 2, 3])),
+            Pipe(1, None),
+            Answers(&[0]),
+            Closed(2),
+            Pipe(0, Some(&[0x93, 2, 0, 2, 3])),
+        ],
+    },
+    // A process reads a pipe whose write end its parent holds; one has ended; the parent sleeps.
+    Case {
+        name: "an idle machine tells who waits for what",
+        size: USUAL,
+        program: Program::Family(&[
+            Row(TO_STACK, 1),
+            Row([0, 0, 0, FORK], 4),
+            Row([0, 0, 0, FORK], 5),
+            Row([1000, 0, 0, SLEEP], 0),
+            Row([3, BUFFER, 4, READ], 0),
+            Row([7, 0, 0, EXIT], 0),
+        ]),
+        acts: &[
+            Steps(FIRST_ANSWER + NEXT_ANSWER),
+            Idle(false, false),
+            Steps(100),
+            Is(1, SLEEPING),
+            Is(2, READING),
+            Is(3, ProcessState::Zombie(7)),
+            Idle(true, true),
+            Next(1, Some(2)),
+            Next(2, Some(3)),
+            Next(3, None),
+            Holds(
+                1,
+                &[CONSOLE, CONSOLE, CONSOLE, READ_END, WRITE_END],
+                1,
+                Some(Pending {
+                    number: Call::Sleep,
+                    args: [1000, 0, 0],
+                    done: 0,
+                    since: 0,
+                }),
+            ),
+            Holds(
+                2,
+                &[CONSOLE, CONSOLE, CONSOLE, READ_END, WRITE_END],
+                1,
+                Some(Pending {
+                    number: Call::Read,
+                    args: [3, BUFFER, 4],
+                    done: 0,
+                    since: 0,
+                }),
+            ),
+            Holds(3, &[], 0, None),
+            Opens(0, ON_CONSOLE, BOTH, 6),
+            Opens(1, FROM_PIPE, READABLE, 2),
+            Opens(2, TO_PIPE, WRITABLE, 2),
+        ],
+    },
+    // A process that reads its own pipe waits for ever, and nobody sleeps.
+    Case {
+        name: "a machine that waits for itself is idle",
+        size: USUAL,
+        program: Program::Family(&[Row(TO_STACK, 1), Row([3, BUFFER, 4, READ], 0)]),
+        acts: &[
+            Idle(false, false),
+            Steps(40),
+            Is(1, READING),
+            Idle(true, false),
+        ],
+    },
+];
 
-// A process reads a pipe whose write end its parent holds; one has ended; the parent sleeps.
 #[test]
-fn an_idle_machine_tells_who_waits_for_what(rt: HostRuntime) {
-    const ROWS: [Row; 6] = [
-        Row(TO_STACK, 1),
-        Row([0, 0, 0, FORK], 4),
-        Row([0, 0, 0, FORK], 5),
-        Row([1000, 0, 0, SLEEP], 0),
-        Row([3, BUFFER, 4, READ], 0),
-        Row([7, 0, 0, EXIT], 0),
-    ];
-    const ACTS: [Act; 16] = [
-        Steps(FIRST_ANSWER + NEXT_ANSWER),
-        Idle(false, false),
-        Steps(100),
-        Is(1, SLEEPING),
-        Is(2, READING),
-        Is(3, ProcessState::Zombie(7)),
-        Idle(true, true),
-        Next(1, Some(2)),
-        Next(2, Some(3)),
-        Next(3, None),
-        Holds(
-            1,
-            &[CONSOLE, CONSOLE, CONSOLE, READ_END, WRITE_END],
-            1,
-            Some(Pending {
-                number: Call::Sleep,
-                args: [1000, 0, 0],
-                done: 0,
-                since: 0,
-            }),
-        ),
-        Holds(
-            2,
-            &[CONSOLE, CONSOLE, CONSOLE, READ_END, WRITE_END],
-            1,
-            Some(Pending {
-                number: Call::Read,
-                args: [3, BUFFER, 4],
-                done: 0,
-                since: 0,
-            }),
-        ),
-        Holds(3, &[], 0, None),
-        Opens(0, ON_CONSOLE, BOTH, 6),
-        Opens(1, FROM_PIPE, READABLE, 2),
-        Opens(2, TO_PIPE, WRITABLE, 2),
-    ];
-    run(&rt, Program::Family(&ROWS), &ACTS);
-}
-
-// A process that reads its own pipe waits for ever, and nobody sleeps.
-#[test]
-fn a_machine_that_waits_for_itself_is_idle(rt: HostRuntime) {
-    const ROWS: [Row; 2] = [Row(TO_STACK, 1), Row([3, BUFFER, 4, READ], 0)];
-    const ACTS: [Act; 4] = [
-        Idle(false, false),
-        Steps(40),
-        Is(1, READING),
-        Idle(true, false),
-    ];
-    run(&rt, Program::Family(&ROWS), &ACTS);
+fn runs(rt: HostRuntime) {
+    run_each(&rt, &RUNS);
 }

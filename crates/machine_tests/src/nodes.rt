@@ -1,8 +1,8 @@
 //! Files of many blocks, and nodes that live on without a name.
 use crate::play::Act::{Answers, Bytes, Node};
 use crate::play::{
-    Act, CHDIR, CLOSE, FSTAT, MINUS_ONE, MKDIR, MKNOD, OPEN, Program, READ, SBRK, UNLINK, WRITE,
-    run,
+    CHDIR, CLOSE, Case, FSTAT, MINUS_ONE, MKDIR, MKNOD, OPEN, Program, READ, SBRK, UNLINK, USUAL,
+    WRITE, run_each,
 };
 use machine::Stat;
 
@@ -28,156 +28,160 @@ const FOLDER: Stat = Stat {
     size: 32,
 };
 
-// 26 blocks are free: those of 25600 bytes, and the block of their numbers. Behind the calls stand `f`, `n`, `m` and `q`.
-#[test]
-fn a_write_ends_with_the_blocks(rt: HostRuntime) {
-    const CALLS: [[u64; 4]; 11] = [
-        [28672, 0, 0, SBRK],
-        [352, NEW, 0, OPEN],
-        [3, HEAP, 25601, WRITE],
-        [3, STACK, 0, FSTAT],
-        [360, 2, 0, MKNOD],
-        [368, 0, 0, MKDIR],
-        [360, 0, 0, OPEN],
-        [4, STACK, 1, READ],
-        [376, 10, 0, MKNOD],
-        [376, 0, 0, OPEN],
-        [0x66, 0x6e, 0x6d, 0x71],
-    ];
-    const ACTS: [Act; 4] = [
-        Answers(&[0x3000, 3, MINUS_ONE, 0]),
-        Bytes(
-            1,
-            STACK,
-            &[
-                1, 0, 0, 0, 3, 0, 0, 0, 2, 0, 1, 0, 0, 0, 0, 0, 0, 0x64, 0, 0, 0, 0, 0, 0,
-            ],
-        ),
-        Answers(&[0, MINUS_ONE, 4, MINUS_ONE, 0, MINUS_ONE]),
-        Node(
-            3,
-            Some(Stat {
-                size: 25600,
-                ..FILE
-            }),
-        ),
-    ];
-    run(&rt, Program::Calls(&CALLS), &ACTS);
-}
+static RUNS: [Case; 4] = [
+    // 26 blocks are free: those of 25600 bytes, and the block of their numbers. Behind the calls stand `f`, `n`, `m` and `q`.
+    Case {
+        name: "a write ends with the blocks",
+        size: USUAL,
+        program: Program::Calls(&[
+            [28672, 0, 0, SBRK],
+            [352, NEW, 0, OPEN],
+            [3, HEAP, 25601, WRITE],
+            [3, STACK, 0, FSTAT],
+            [360, 2, 0, MKNOD],
+            [368, 0, 0, MKDIR],
+            [360, 0, 0, OPEN],
+            [4, STACK, 1, READ],
+            [376, 10, 0, MKNOD],
+            [376, 0, 0, OPEN],
+            [0x66, 0x6e, 0x6d, 0x71],
+        ]),
+        acts: &[
+            Answers(&[0x3000, 3, MINUS_ONE, 0]),
+            Bytes(
+                1,
+                STACK,
+                &[
+                    1, 0, 0, 0, 3, 0, 0, 0, 2, 0, 1, 0, 0, 0, 0, 0, 0, 0x64, 0, 0, 0, 0, 0, 0,
+                ],
+            ),
+            Answers(&[0, MINUS_ONE, 4, MINUS_ONE, 0, MINUS_ONE]),
+            Node(
+                3,
+                Some(Stat {
+                    size: 25600,
+                    ..FILE
+                }),
+            ),
+        ],
+    },
+    // The twelfth block of a file comes with the block of its numbers, or not at all. Files of eleven and of twelve blocks leave two
+    // free, of which directories take one or both. Behind the calls stand `f`, `g`, `d` and `e`.
+    Case {
+        name: "one free block stays free",
+        size: USUAL,
+        program: Program::Calls(&[
+            [0x3000, 0, 0, SBRK],
+            [480, NEW, 0, OPEN],
+            [3, HEAP, 11264, WRITE],
+            [488, NEW, 0, OPEN],
+            [4, HEAP, 12288, WRITE],
+            [496, 0, 0, MKDIR],
+            [3, HEAP, 1, WRITE],
+            [504, 0, 0, MKDIR],
+            [3, HEAP, 1, WRITE],
+            [504, 0, 0, UNLINK],
+            [496, 0, 0, UNLINK],
+            [3, HEAP, 1, WRITE],
+            [496, 0, 0, MKDIR],
+            [3, HEAP, 1, WRITE],
+            [0x66, 0x67, 0x64, 0x65],
+        ]),
+        acts: &[
+            Answers(&[0x3000, 3, 11264, 4, 12288, 0, MINUS_ONE]),
+            Node(
+                3,
+                Some(Stat {
+                    size: 11264,
+                    ..FILE
+                }),
+            ),
+            Answers(&[0, MINUS_ONE, 0, 0, 1, MINUS_ONE, 1]),
+            Node(
+                3,
+                Some(Stat {
+                    size: 11266,
+                    ..FILE
+                }),
+            ),
+        ],
+    },
+    // A file that takes all blocks loses its name while it is open. Behind the calls stand `f` and `d`.
+    Case {
+        name: "an open file keeps its blocks",
+        size: USUAL,
+        program: Program::Calls(&[
+            [28672, 0, 0, SBRK],
+            [480, NEW, 0, OPEN],
+            [3, 0, 8, WRITE],
+            [3, HEAP, 25592, WRITE],
+            [480, 0, 0, OPEN],
+            [3, 0, 0, CLOSE],
+            [480, 0, 0, UNLINK],
+            [480, 0, 0, OPEN],
+            [488, 0, 0, MKDIR],
+            [4, STACK, 8, READ],
+            [4, 0, 0, CLOSE],
+            [488, 0, 0, MKDIR],
+            [480, NEW, 0, OPEN],
+            [3, HEAP, 24577, WRITE],
+            [0x66, 0x64, 0, 0],
+        ]),
+        acts: &[
+            Answers(&[0x3000, 3, 8, 25592, 4, 0, 0, MINUS_ONE, MINUS_ONE, 8]),
+            // the program's own first bytes
+            Bytes(1, STACK, &[0x93, 0x02, 0, 0x02, 0x03, 0xb5, 0x02, 0, 0]),
+            Node(
+                3,
+                Some(Stat {
+                    kind: 2,
+                    links: 0,
+                    size: 25600,
+                }),
+            ),
+            Answers(&[0]),
+            Node(3, None),
+            Answers(&[0, 3, MINUS_ONE]),
+            Node(3, Some(FOLDER)),
+            Node(
+                4,
+                Some(Stat {
+                    size: 24576,
+                    ..FILE
+                }),
+            ),
+        ],
+    },
+    // Behind the calls stand `d`, `/d`, `.`, `..`, `x`, `/` and an empty path.
+    Case {
+        name: "nothing is found in a removed directory",
+        size: USUAL,
+        program: Program::Calls(&[
+            [352, 0, 0, MKDIR],
+            [352, 0, 0, CHDIR],
+            [360, 0, 0, UNLINK],
+            [368, 0, 0, OPEN],
+            [376, 0, 0, OPEN],
+            [384, 0, 0, MKDIR],
+            [400, 0, 0, OPEN],
+            [392, 0, 0, CHDIR],
+            [3, 0, 0, CLOSE],
+            [352, 0, 0, CHDIR],
+            [0x64, 0x642f, 0x2e, 0x2e2e],
+            [0x78, 0x2f, 0, 0],
+        ]),
+        acts: &[
+            Answers(&[0, 0, 0, MINUS_ONE, MINUS_ONE, MINUS_ONE, 3]),
+            Node(3, Some(Stat { links: 0, ..FOLDER })),
+            Answers(&[0]),
+            Node(3, Some(Stat { links: 0, ..FOLDER })),
+            Answers(&[0, MINUS_ONE]),
+            Node(3, None),
+        ],
+    },
+];
 
-// The twelfth block of a file comes with the block of its numbers, or not at all. Files of eleven and of twelve blocks leave two
-// free, of which directories take one or both. Behind the calls stand `f`, `g`, `d` and `e`.
 #[test]
-fn one_free_block_stays_free(rt: HostRuntime) {
-    const CALLS: [[u64; 4]; 15] = [
-        [0x3000, 0, 0, SBRK],
-        [480, NEW, 0, OPEN],
-        [3, HEAP, 11264, WRITE],
-        [488, NEW, 0, OPEN],
-        [4, HEAP, 12288, WRITE],
-        [496, 0, 0, MKDIR],
-        [3, HEAP, 1, WRITE],
-        [504, 0, 0, MKDIR],
-        [3, HEAP, 1, WRITE],
-        [504, 0, 0, UNLINK],
-        [496, 0, 0, UNLINK],
-        [3, HEAP, 1, WRITE],
-        [496, 0, 0, MKDIR],
-        [3, HEAP, 1, WRITE],
-        [0x66, 0x67, 0x64, 0x65],
-    ];
-    const ACTS: [Act; 4] = [
-        Answers(&[0x3000, 3, 11264, 4, 12288, 0, MINUS_ONE]),
-        Node(
-            3,
-            Some(Stat {
-                size: 11264,
-                ..FILE
-            }),
-        ),
-        Answers(&[0, MINUS_ONE, 0, 0, 1, MINUS_ONE, 1]),
-        Node(
-            3,
-            Some(Stat {
-                size: 11266,
-                ..FILE
-            }),
-        ),
-    ];
-    run(&rt, Program::Calls(&CALLS), &ACTS);
-}
-
-// A file that takes all blocks loses its name while it is open. Behind the calls stand `f` and `d`.
-#[test]
-fn an_open_file_keeps_its_blocks(rt: HostRuntime) {
-    const CALLS: [[u64; 4]; 15] = [
-        [28672, 0, 0, SBRK],
-        [480, NEW, 0, OPEN],
-        [3, 0, 8, WRITE],
-        [3, HEAP, 25592, WRITE],
-        [480, 0, 0, OPEN],
-        [3, 0, 0, CLOSE],
-        [480, 0, 0, UNLINK],
-        [480, 0, 0, OPEN],
-        [488, 0, 0, MKDIR],
-        [4, STACK, 8, READ],
-        [4, 0, 0, CLOSE],
-        [488, 0, 0, MKDIR],
-        [480, NEW, 0, OPEN],
-        [3, HEAP, 24577, WRITE],
-        [0x66, 0x64, 0, 0],
-    ];
-    const ACTS: [Act; 8] = [
-        Answers(&[0x3000, 3, 8, 25592, 4, 0, 0, MINUS_ONE, MINUS_ONE, 8]),
-        // the program's own first bytes
-        Bytes(1, STACK, &[0x93, 0x02, 0, 0x02, 0x03, 0xb5, 0x02, 0, 0]),
-        Node(
-            3,
-            Some(Stat {
-                kind: 2,
-                links: 0,
-                size: 25600,
-            }),
-        ),
-        Answers(&[0]),
-        Node(3, None),
-        Answers(&[0, 3, MINUS_ONE]),
-        Node(3, Some(FOLDER)),
-        Node(
-            4,
-            Some(Stat {
-                size: 24576,
-                ..FILE
-            }),
-        ),
-    ];
-    run(&rt, Program::Calls(&CALLS), &ACTS);
-}
-
-// Behind the calls stand `d`, `/d`, `.`, `..`, `x`, `/` and an empty path.
-#[test]
-fn nothing_is_found_in_a_removed_directory(rt: HostRuntime) {
-    const CALLS: [[u64; 4]; 12] = [
-        [352, 0, 0, MKDIR],
-        [352, 0, 0, CHDIR],
-        [360, 0, 0, UNLINK],
-        [368, 0, 0, OPEN],
-        [376, 0, 0, OPEN],
-        [384, 0, 0, MKDIR],
-        [400, 0, 0, OPEN],
-        [392, 0, 0, CHDIR],
-        [3, 0, 0, CLOSE],
-        [352, 0, 0, CHDIR],
-        [0x64, 0x642f, 0x2e, 0x2e2e],
-        [0x78, 0x2f, 0, 0],
-    ];
-    const ACTS: [Act; 6] = [
-        Answers(&[0, 0, 0, MINUS_ONE, MINUS_ONE, MINUS_ONE, 3]),
-        Node(3, Some(Stat { links: 0, ..FOLDER })),
-        Answers(&[0]),
-        Node(3, Some(Stat { links: 0, ..FOLDER })),
-        Answers(&[0, MINUS_ONE]),
-        Node(3, None),
-    ];
-    run(&rt, Program::Calls(&CALLS), &ACTS);
+fn runs(rt: HostRuntime) {
+    run_each(&rt, &RUNS);
 }

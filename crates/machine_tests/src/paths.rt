@@ -1,8 +1,8 @@
 //! Paths: what open and chdir find, make and refuse.
-use crate::play::Act::{Answers, Node, Steps};
+use crate::play::Act::{Answered, Answers, Node, Steps};
 use crate::play::{
-    Act, CHDIR, CLOSE, MINUS_ONE, MKDIR, MKNOD, NEXT_CALL, OPEN, Program, READ, UNLINK, WRITE,
-    expect_answers, run,
+    CHDIR, CLOSE, Case, MINUS_ONE, MKDIR, MKNOD, NEXT_CALL, OPEN, Program, READ, UNLINK, USUAL,
+    WRITE, run_each,
 };
 use machine::Stat;
 
@@ -60,174 +60,197 @@ const FOURTEEN: [[u64; 4]; 33] = [
     [0x6d, 0x6e, 0, 0],
 ];
 
-#[test]
-fn makes_a_file_for_each_free_number(rt: HostRuntime) {
-    const ANSWERS: [(u64, u32); 29] = [
-        THIRD, DONE, THIRD, DONE, THIRD, DONE, THIRD, DONE, THIRD, DONE, THIRD, DONE, THIRD, DONE,
-        THIRD, DONE, THIRD, DONE, THIRD, DONE, THIRD, DONE, THIRD, DONE, THIRD, DONE, REFUSED,
-        DONE, THIRD,
-    ];
-    expect_answers(&rt, 64, &FOURTEEN, &ANSWERS);
-}
+// A file without bytes.
+const EMPTY_FILE: Stat = Stat {
+    kind: 2,
+    links: 1,
+    size: 0,
+};
 
-#[test]
-fn gives_the_lowest_free_number(rt: HostRuntime) {
-    const FILE: Stat = Stat {
-        kind: 2,
-        links: 1,
-        size: 0,
-    };
-    const ACTS: [Act; 10] = [
-        Steps(24 * NEXT_CALL),
-        Node(3, Some(FILE)),
-        Node(14, Some(FILE)),
-        Node(15, None),
-        Steps(3 * NEXT_CALL),
-        Node(15, Some(FILE)),
-        Answers(&[0]),
-        Node(5, None),
-        Answers(&[3]),
-        Node(5, Some(FILE)),
-    ];
-    run(&rt, Program::Calls(&FOURTEEN), &ACTS);
-}
+// Where the paths stand that are opened, and eight slashes.
+const SLASHES: u64 = 0x2f2f_2f2f_2f2f_2f2f;
 
-// A name is cut to 14 bytes, and a path has 127 at most. Behind the calls stand `abcdefghijklmno`, `abcdefghijklmn`, `q`, `z`, and 128
-// slashes.
-#[test]
-fn opens_what_a_path_names(rt: HostRuntime) {
-    const SLASHES: u64 = 0x2f2f_2f2f_2f2f_2f2f;
-    const LONG: u64 = 480;
-    const CUT: u64 = 496;
-    const DEVICE: u64 = 512;
-    const NOTHING: u64 = 520;
-    const EMPTY: u64 = 528;
-    const ROOT: u64 = 545;
-    const CALLS: [[u64; 4]; 21] = [
-        [LONG, NEW, 0, OPEN],
-        [CUT, 0, 0, OPEN],
-        [LONG, 0, 0, OPEN],
-        [544, 0, 0, OPEN],
-        [ROOT, 0, 0, OPEN],
-        [ROOT, 1, 0, OPEN],
-        [ROOT, CREATE, 0, OPEN],
-        [EMPTY, 0, 0, OPEN],
-        [NOTHING, 0, 0, OPEN],
-        [DEVICE, 10, 0, MKNOD],
-        [DEVICE, 0, 0, OPEN],
-        [2, 0, 0, CLOSE],
-        [CUT, 0x1_0000_0000 + CREATE, 0, OPEN],
-        [0x3000, 0, 0, OPEN],
-        [
-            0x6867_6665_6463_6261,
-            0x006f_6e6d_6c6b_6a69,
-            0x6867_6665_6463_6261,
-            0x6e6d_6c6b_6a69,
+const LONG: u64 = 480;
+
+const CUT: u64 = 496;
+
+const DEVICE: u64 = 512;
+
+const NOTHING: u64 = 520;
+
+const EMPTY: u64 = 528;
+
+const ROOT: u64 = 545;
+
+// Where a file's name stands that is opened with each flag, and where its bytes go.
+const NAME: u64 = 480;
+
+const BUFFER: u64 = 0x2800;
+
+// Where the paths stand that are looked up in two directories.
+const FOLDER: u64 = 448;
+
+const FILE: u64 = 456;
+
+const ABOVE: u64 = 464;
+
+const WITHIN: u64 = 472;
+
+static RUNS: [Case; 5] = [
+    Case {
+        name: "open makes a file for each free number",
+        size: USUAL,
+        program: Program::Calls(&FOURTEEN),
+        acts: &[Answered(&[
+            THIRD, DONE, THIRD, DONE, THIRD, DONE, THIRD, DONE, THIRD, DONE, THIRD, DONE, THIRD,
+            DONE, THIRD, DONE, THIRD, DONE, THIRD, DONE, THIRD, DONE, THIRD, DONE, THIRD, DONE,
+            REFUSED, DONE, THIRD,
+        ])],
+    },
+    Case {
+        name: "a new file has the lowest free number",
+        size: USUAL,
+        program: Program::Calls(&FOURTEEN),
+        acts: &[
+            Steps(24 * NEXT_CALL),
+            Node(3, Some(EMPTY_FILE)),
+            Node(14, Some(EMPTY_FILE)),
+            Node(15, None),
+            Steps(3 * NEXT_CALL),
+            Node(15, Some(EMPTY_FILE)),
+            Answers(&[0]),
+            Node(5, None),
+            Answers(&[3]),
+            Node(5, Some(EMPTY_FILE)),
         ],
-        [0x71, 0x7a, 0, 0],
-        [SLASHES, SLASHES, SLASHES, SLASHES],
-        [SLASHES, SLASHES, SLASHES, SLASHES],
-        [SLASHES, SLASHES, SLASHES, SLASHES],
-        [SLASHES, SLASHES, SLASHES, SLASHES],
-        [0, 0, 0, 0],
-    ];
-    const ANSWERS: [(u64, u32); 14] = [
-        THIRD,
-        (4, 55),
-        (5, 55),
-        REFUSED,
-        (6, 55),
-        REFUSED,
-        REFUSED,
-        (7, 55),
-        REFUSED,
-        DONE,
-        REFUSED,
-        DONE,
-        (2, 55),
-        REFUSED,
-    ];
-    expect_answers(&rt, 64, &CALLS, &ANSWERS);
-}
+    },
+    // A name is cut to 14 bytes, and a path has 127 at most. Behind the calls stand `abcdefghijklmno`, `abcdefghijklmn`, `q`, `z`, and 128
+    // slashes.
+    Case {
+        name: "open opens what a path names",
+        size: USUAL,
+        program: Program::Calls(&[
+            [LONG, NEW, 0, OPEN],
+            [CUT, 0, 0, OPEN],
+            [LONG, 0, 0, OPEN],
+            [544, 0, 0, OPEN],
+            [ROOT, 0, 0, OPEN],
+            [ROOT, 1, 0, OPEN],
+            [ROOT, CREATE, 0, OPEN],
+            [EMPTY, 0, 0, OPEN],
+            [NOTHING, 0, 0, OPEN],
+            [DEVICE, 10, 0, MKNOD],
+            [DEVICE, 0, 0, OPEN],
+            [2, 0, 0, CLOSE],
+            [CUT, 0x1_0000_0000 + CREATE, 0, OPEN],
+            [0x3000, 0, 0, OPEN],
+            [
+                0x6867_6665_6463_6261,
+                0x006f_6e6d_6c6b_6a69,
+                0x6867_6665_6463_6261,
+                0x6e6d_6c6b_6a69,
+            ],
+            [0x71, 0x7a, 0, 0],
+            [SLASHES, SLASHES, SLASHES, SLASHES],
+            [SLASHES, SLASHES, SLASHES, SLASHES],
+            [SLASHES, SLASHES, SLASHES, SLASHES],
+            [SLASHES, SLASHES, SLASHES, SLASHES],
+            [0, 0, 0, 0],
+        ]),
+        acts: &[Answered(&[
+            THIRD,
+            (4, 55),
+            (5, 55),
+            REFUSED,
+            (6, 55),
+            REFUSED,
+            REFUSED,
+            (7, 55),
+            REFUSED,
+            DONE,
+            REFUSED,
+            DONE,
+            (2, 55),
+            REFUSED,
+        ])],
+    },
+    // What is open for reading can't be written, and the other way round; 0x400 empties a file. Behind the calls stands `f`.
+    Case {
+        name: "open opens as its flags ask",
+        size: USUAL,
+        program: Program::Calls(&[
+            [NAME, NEW, 0, OPEN],
+            [3, 0, 2, WRITE],
+            [3, BUFFER, 2, READ],
+            [NAME, 0, 0, OPEN],
+            [4, BUFFER, 4, READ],
+            [4, 0, 2, WRITE],
+            [NAME, 2, 0, OPEN],
+            [5, BUFFER, 1, READ],
+            [5, 0, 2, WRITE],
+            [4, BUFFER, 4, READ],
+            [NAME, TRUNCATE, 0, OPEN],
+            [6, BUFFER, 4, READ],
+            [NAME, 3, 0, OPEN],
+            [7, BUFFER, 4, READ],
+            [0x66, 0, 0, 0],
+        ]),
+        acts: &[Answered(&[
+            THIRD,
+            (2, 55),
+            REFUSED,
+            (4, 55),
+            (2, 55),
+            REFUSED,
+            (5, 55),
+            (1, 55),
+            (2, 55),
+            (1, 55),
+            (6, 55),
+            DONE,
+            (7, 55),
+            REFUSED,
+        ])],
+    },
+    // A path that begins with no slash is looked up where the process works. Behind the calls stand `d`, `f`, `..` and `d/f`.
+    Case {
+        name: "a process works in another directory",
+        size: USUAL,
+        program: Program::Calls(&[
+            [FOLDER, 0, 0, CHDIR],
+            [FOLDER, 0, 0, MKDIR],
+            [FOLDER, 0, 0, CHDIR],
+            [FOLDER, 0, 0, CHDIR],
+            [FILE, NEW, 0, OPEN],
+            [FILE, 0, 0, CHDIR],
+            [FILE, 0, 0, OPEN],
+            [ABOVE, 0, 0, CHDIR],
+            [FILE, 0, 0, OPEN],
+            [WITHIN, 0, 0, OPEN],
+            [ABOVE, 0, 0, CHDIR],
+            [FOLDER, 0, 0, OPEN],
+            [0x3000, 0, 0, CHDIR],
+            [0x64, 0x66, 0x2e2e, 0x66_2f64],
+        ]),
+        acts: &[Answered(&[
+            REFUSED,
+            DONE,
+            DONE,
+            REFUSED,
+            THIRD,
+            REFUSED,
+            (4, 55),
+            DONE,
+            REFUSED,
+            (5, 55),
+            DONE,
+            (6, 55),
+            REFUSED,
+        ])],
+    },
+];
 
-// What is open for reading can't be written, and the other way round; 0x400 empties a file. Behind the calls stands `f`.
 #[test]
-fn opens_as_the_flags_ask(rt: HostRuntime) {
-    const NAME: u64 = 480;
-    const BUFFER: u64 = 0x2800;
-    const CALLS: [[u64; 4]; 15] = [
-        [NAME, NEW, 0, OPEN],
-        [3, 0, 2, WRITE],
-        [3, BUFFER, 2, READ],
-        [NAME, 0, 0, OPEN],
-        [4, BUFFER, 4, READ],
-        [4, 0, 2, WRITE],
-        [NAME, 2, 0, OPEN],
-        [5, BUFFER, 1, READ],
-        [5, 0, 2, WRITE],
-        [4, BUFFER, 4, READ],
-        [NAME, TRUNCATE, 0, OPEN],
-        [6, BUFFER, 4, READ],
-        [NAME, 3, 0, OPEN],
-        [7, BUFFER, 4, READ],
-        [0x66, 0, 0, 0],
-    ];
-    const ANSWERS: [(u64, u32); 14] = [
-        THIRD,
-        (2, 55),
-        REFUSED,
-        (4, 55),
-        (2, 55),
-        REFUSED,
-        (5, 55),
-        (1, 55),
-        (2, 55),
-        (1, 55),
-        (6, 55),
-        DONE,
-        (7, 55),
-        REFUSED,
-    ];
-    expect_answers(&rt, 64, &CALLS, &ANSWERS);
-}
-
-// A path that begins with no slash is looked up where the process works. Behind the calls stand `d`, `f`, `..` and `d/f`.
-#[test]
-fn works_in_another_directory(rt: HostRuntime) {
-    const FOLDER: u64 = 448;
-    const FILE: u64 = 456;
-    const ABOVE: u64 = 464;
-    const WITHIN: u64 = 472;
-    const CALLS: [[u64; 4]; 14] = [
-        [FOLDER, 0, 0, CHDIR],
-        [FOLDER, 0, 0, MKDIR],
-        [FOLDER, 0, 0, CHDIR],
-        [FOLDER, 0, 0, CHDIR],
-        [FILE, NEW, 0, OPEN],
-        [FILE, 0, 0, CHDIR],
-        [FILE, 0, 0, OPEN],
-        [ABOVE, 0, 0, CHDIR],
-        [FILE, 0, 0, OPEN],
-        [WITHIN, 0, 0, OPEN],
-        [ABOVE, 0, 0, CHDIR],
-        [FOLDER, 0, 0, OPEN],
-        [0x3000, 0, 0, CHDIR],
-        [0x64, 0x66, 0x2e2e, 0x66_2f64],
-    ];
-    const ANSWERS: [(u64, u32); 13] = [
-        REFUSED,
-        DONE,
-        DONE,
-        REFUSED,
-        THIRD,
-        REFUSED,
-        (4, 55),
-        DONE,
-        REFUSED,
-        (5, 55),
-        DONE,
-        (6, 55),
-        REFUSED,
-    ];
-    expect_answers(&rt, 64, &CALLS, &ANSWERS);
+fn runs(rt: HostRuntime) {
+    run_each(&rt, &RUNS);
 }

@@ -138,6 +138,20 @@ pub(crate) enum Program<'a> {
     Family(&'a [Row]),
 }
 
+/// A run of a program, with a name that is told where it doesn't go as it says.
+#[derive(Clone, Copy)]
+pub(crate) struct Case<'a> {
+    pub(crate) name: &'a str,
+    /// How many frames the machine has, and how many bytes its console takes.
+    pub(crate) size: (u32, usize),
+    pub(crate) program: Program<'a>,
+    /// What happens to the machine, and what is expected of it.
+    pub(crate) acts: &'a [Act<'a>],
+}
+
+/// 64 frames, and a console that takes all that is printed.
+pub(crate) const USUAL: (u32, usize) = (64, ROOM);
+
 /// What happens to a machine, or what is expected of it: of one process, by its pid, or of the whole.
 #[derive(Clone, Copy)]
 pub(crate) enum Act<'a> {
@@ -145,6 +159,8 @@ pub(crate) enum Act<'a> {
     Steps(usize),
     /// A timer interrupt and a step.
     Turn,
+    /// A turn of each process from the second to the one with this pid, and one of the first.
+    Round(u32),
     /// Typed keys.
     Keys(&'a [u8]),
     /// A step at which the machine stops.
@@ -153,6 +169,10 @@ pub(crate) enum Act<'a> {
     Runs(&'a [Event], Option<Halt>),
     /// What the next calls of a list answer.
     Answers(&'a [u64]),
+    /// The same, and how many frames are free behind each.
+    Answered(&'a [(u64, u32)]),
+    /// What was printed so far.
+    Printed(&'a [u8]),
     /// How many frames are free.
     Free(u32),
     /// What stands in a0 of the process with this pid.
@@ -346,25 +366,25 @@ pub(crate) fn narrow_console(alloc: Global, room: usize) -> Writer<Narrow> {
     Writer::new(Narrow { taken, room })
 }
 
-// A machine, and what it prints.
+// A machine, what it prints, and how many calls of a list were answered as they should be.
 #[derive(Drop)]
 struct Play<T: Translate> {
     machine: Machine<MemDisk, T>,
     out: Writer<Narrow>,
+    answered: usize,
 }
 
 impl<T: Translate> Play<T> {
-    // Boots a program over a translator in so many frames, with a console that takes so many bytes.
-    fn boot(
-        alloc: Global,
-        program: Program<'_>,
-        translator: T,
-        (frames, room): (u32, usize),
-    ) -> Option<Play<T>> {
-        let bytes = program.bytes(alloc).ok()?;
+    // Boots the program of a case over a translator.
+    fn boot(alloc: Global, case: Case<'_>, translator: T) -> Option<Play<T>> {
+        let (frames, room) = case.size;
+        let bytes = case.program.bytes(alloc).ok()?;
         let machine = boot_flat_with(alloc, bytes.as_slice(), translator, frames).ok()?;
-        let out = narrow_console(alloc, room);
-        Some(Play { machine, out })
+        Some(Play {
+            machine,
+            out: narrow_console(alloc, room),
+            answered: 0,
+        })
     }
 
     fn event(&mut self, event: Event) -> Result<(), Halt> {
@@ -374,6 +394,10 @@ impl<T: Translate> Play<T> {
     fn steps(&mut self, count: usize) -> bool {
         let count = u32::try_from(count).unwrap_or(u32::MAX);
         self.machine.steps(count, &mut self.out).is_ok()
+    }
+
+    fn turns(&mut self) -> bool {
+        self.event(Event::Tick).is_ok() && self.steps(1)
     }
 
     fn keys(&mut self, keys: &[u8]) -> bool {
@@ -495,6 +519,7 @@ impl<T: Translate> Play<T> {
     fn shows(&self, act: Act<'_>) -> bool {
         match act {
             Act::Free(free) => self.machine.free_frames() == free,
+            Act::Printed(text) => self.out.get_ref().taken.as_slice() == text,
             Act::Gone(pid) => self.machine.inspect(pid).is_none()
                 && self.machine.holdings(pid).is_none(),
             Act::Bytes(pid, address, bytes) => self.holds(pid, address, bytes),
@@ -520,14 +545,41 @@ impl<T: Translate> Play<T> {
         }
     }
 
+    // Whether the next call of a list answers so.
+    fn answers_next(&mut self, a0: u64) -> bool {
+        let holds = self.steps(NEXT_CALL) && self.tells(Act::Answer(1, a0));
+        self.answered = self.answered.saturating_add(usize::from(holds));
+        holds
+    }
+
     // Whether the next calls of a list answer so.
     fn answers(&mut self, answers: &[u64]) -> bool {
-        for a0 in answers {
-            if !self.steps(NEXT_CALL) || !self.tells(Act::Answer(1, *a0)) {
+        answers.iter().all(|a0| self.answers_next(*a0))
+    }
+
+    // Whether they do, and leave so many frames free.
+    fn answers_and_leaves(&mut self, answers: &[(u64, u32)]) -> bool {
+        for (a0, free) in answers {
+            if !self.answers_next(*a0) || self.machine.free_frames() != *free {
                 return false;
             }
         }
         true
+    }
+
+    // Whether a timer interrupt gives the turn to the process with this pid.
+    fn turns_to(&mut self, pid: u32) -> bool {
+        self.turns() && self.tells(Act::Is(pid, RUNNING))
+    }
+
+    // Whether the turn goes from the first process on to the one with this pid, and round.
+    fn goes_round(&mut self, last: u32) -> bool {
+        for pid in 2..=last {
+            if !self.turns_to(pid) {
+                return false;
+            }
+        }
+        self.turns_to(1)
     }
 
     fn is_mute(&mut self) -> bool {
@@ -541,11 +593,13 @@ impl<T: Translate> Play<T> {
     fn does(&mut self, act: Act<'_>) -> bool {
         match act {
             Act::Steps(count) => self.steps(count),
-            Act::Turn => self.event(Event::Tick).is_ok() && self.steps(1),
+            Act::Turn => self.turns(),
+            Act::Round(last) => self.goes_round(last),
             Act::Keys(keys) => self.keys(keys),
             Act::Halts(why) => stops(self.event(Event::Step), Some(why)),
             Act::Runs(events, why) => stops(self.runs(events), why),
             Act::Answers(answers) => self.answers(answers),
+            Act::Answered(answers) => self.answers_and_leaves(answers),
             Act::Node(number, stat) => self.machine.stat_inode(number) == Ok(stat),
             Act::Reads(number, at, room, bytes) => self.reads(number, at, room, bytes),
             Act::Mute => self.is_mute(),
@@ -563,27 +617,14 @@ impl<T: Translate> Play<T> {
         None
     }
 
-    // The number of the first call that isn't answered so, or leaves another count of frames free.
-    fn first_answer_wrong(&mut self, answers: &[(u64, u32)]) -> Option<usize> {
-        for (number, (a0, free)) in answers.iter().enumerate() {
-            let acts = [Act::Steps(NEXT_CALL), Act::Answer(1, *a0), Act::Free(*free)];
-            if self.first_wrong(&acts).is_some() {
-                return Some(number);
-            }
-        }
-        None
-    }
-
     // The disk that it leaves, or why there is none.
     fn saved(self) -> Result<MemDisk, Halt> {
-        let Play { machine, out: _ } = self;
+        let Play {
+            machine,
+            out: _,
+            answered: _,
+        } = self;
         machine.save()
-    }
-
-    // Whether it printed this text.
-    fn printed(self, text: &[u8]) -> bool {
-        let Play { machine: _, out } = self;
-        out.into_inner().taken.as_slice() == text
     }
 }
 
@@ -592,117 +633,75 @@ pub(crate) fn holds_at(rt: &impl Abort, row: usize, holds: bool) {
     assert!(rt; holds, "row {row}");
 }
 
-fn none_wrong(rt: &impl Abort, wrong: Option<usize>) {
-    if let Some(row) = wrong {
-        holds_at(rt, row, false);
+// All acts of a case go as they say: else its name is told with the number of the act that doesn't, and how many calls were
+// answered as they should be before.
+fn none_wrong(rt: &impl Abort, name: &str, wrong: Option<usize>, answered: usize) {
+    if let Some(act) = wrong {
+        assert!(rt; false, "{name}: act {act}, behind {answered} answers");
     }
 }
 
-// Boots a program over a translator in so many frames, with a console that takes so many bytes, and does these acts. After
-// them it has printed the text, where one is given.
-fn run_over<T: Translate>(
-    rt: &(impl Abort + AllocGlobal),
-    program: Program<'_>,
-    translator: T,
-    size: (u32, usize),
-    acts: &[Act<'_>],
-    text: Option<&[u8]>,
-) {
-    let mut play = Play::boot(rt.alloc(), program, translator, size).expect(rt, "a machine");
-    none_wrong(rt, play.first_wrong(acts));
-    if let Some(text) = text {
-        holds_at(rt, acts.len(), play.printed(text));
-    }
+// Boots the program of a case over a translator, and does its acts.
+fn played<T: Translate>(rt: &(impl Abort + AllocGlobal), case: Case<'_>, translator: T) -> Play<T> {
+    let mut play = Play::boot(rt.alloc(), case, translator).expect(rt, case.name);
+    let wrong = play.first_wrong(case.acts);
+    none_wrong(rt, case.name, wrong, play.answered);
+    play
 }
 
-/// Boots a program over a translator in 64 frames, with a console that takes so many bytes, does these acts, and gives the
-/// machine up: the disk that it leaves, or why there is none.
+/// The same, and gives the machine up: the disk that it leaves, or why there is none.
 pub(crate) fn saved<T: Translate>(
     rt: &(impl Abort + AllocGlobal),
-    program: Program<'_>,
+    case: Case<'_>,
     translator: T,
-    room: usize,
-    acts: &[Act<'_>],
 ) -> Result<MemDisk, Halt> {
-    let mut play = Play::boot(rt.alloc(), program, translator, (64, room)).expect(rt, "a machine");
-    none_wrong(rt, play.first_wrong(acts));
-    play.saved()
+    played(rt, case, translator).saved()
 }
 
-// The same over each translator.
-fn run_over_each(
-    rt: &(impl Abort + AllocGlobal),
-    program: Program<'_>,
-    size: (u32, usize),
-    acts: &[Act<'_>],
-    text: Option<&[u8]>,
-) {
-    let alloc = rt.alloc();
-    run_over(rt, program, Plain::new(), size, acts, text);
-    run_over(rt, program, Tlb::<64>::new(), size, acts, text);
-    run_over(rt, program, Recent::new(Plain::new()), size, acts, text);
-    run_over(rt, program, Noting::new(alloc, 0), size, acts, text);
-    run_over(
-        rt,
-        program,
-        Noting::new(alloc, MOST_PAGES),
-        size,
-        acts,
-        text,
+// The same, and lets the machine go.
+fn run_over<T: Translate>(rt: &(impl Abort + AllocGlobal), case: Case<'_>, translator: T) {
+    let _play = played(rt, case, translator);
+}
+
+// Whether instructions are fetched in an act.
+fn fetches(act: Act<'_>) -> bool {
+    match act {
+        Act::Steps(_)
+        | Act::Turn
+        | Act::Round(_)
+        | Act::Runs(_, None)
+        | Act::Answers(_)
+        | Act::Answered(_) => true,
+        _ => false,
+    }
+}
+
+// Over a translator that counts: boot fences, and instructions are fetched where there are steps.
+fn run_counted(rt: &(impl Abort + AllocGlobal), case: Case<'_>) {
+    let (fetched, fences) = (Cell::new(0), Cell::new(0));
+    run_over(rt, case, Counting::new(&fetched, &fences));
+    let name = case.name;
+    let is_still = !case.acts.iter().any(|act| fetches(*act));
+    assert!(rt;
+        fences.get() > 0 && (is_still || fetched.get() > 0),
+        "{name}: what was counted"
     );
-    let (fetches, fences) = (Cell::new(0), Cell::new(0));
-    let counting = Counting::new(&fetches, &fences);
-    run_over(rt, program, counting, size, acts, text);
-    holds_at(rt, 0, fences.get() > 0);
 }
 
-/// Boots a program in 64 frames, over each translator, and does these acts.
-pub(crate) fn run(rt: &(impl Abort + AllocGlobal), program: Program<'_>, acts: &[Act<'_>]) {
-    run_over_each(rt, program, (64, ROOM), acts, None);
-}
-
-/// Boots a program in so many frames, over each translator, with a console that takes so many bytes, and does these acts.
-/// After them it has printed a text.
-pub(crate) fn prints(
-    rt: &(impl Abort + AllocGlobal),
-    program: Program<'_>,
-    size: (u32, usize),
-    acts: &[Act<'_>],
-    text: &[u8],
-) {
-    run_over_each(rt, program, size, acts, Some(text));
-}
-
-// After each of these calls, over a translator: what it answers, and how many frames are free.
-fn expect_answers_over<T: Translate>(
-    rt: &(impl Abort + AllocGlobal),
-    frames: u32,
-    translator: T,
-    calls: &[[u64; 4]],
-    answers: &[(u64, u32)],
-) {
-    let program = Program::Calls(calls);
-    let mut play = Play::boot(rt.alloc(), program, translator, (frames, ROOM)).expect(
-        rt,
-        "a machine",
-    );
-    none_wrong(rt, play.first_answer_wrong(answers));
-}
-
-/// After each of these calls, over each translator: what it answers, and how many frames are free.
-pub(crate) fn expect_answers(
-    rt: &(impl Abort + AllocGlobal),
-    frames: u32,
-    calls: &[[u64; 4]],
-    answers: &[(u64, u32)],
-) {
+// Over each translator.
+fn run_over_each(rt: &(impl Abort + AllocGlobal), case: Case<'_>) {
     let alloc = rt.alloc();
-    expect_answers_over(rt, frames, Plain::new(), calls, answers);
-    expect_answers_over(rt, frames, Tlb::<64>::new(), calls, answers);
-    expect_answers_over(rt, frames, Noting::new(alloc, 0), calls, answers);
-    expect_answers_over(rt, frames, Noting::new(alloc, MOST_PAGES), calls, answers);
-    let (fetches, fences) = (Cell::new(0), Cell::new(0));
-    let counting = Counting::new(&fetches, &fences);
-    expect_answers_over(rt, frames, counting, calls, answers);
-    holds_at(rt, 0, fetches.get() > 0 && fences.get() > 0);
+    run_over(rt, case, Plain::new());
+    run_over(rt, case, Tlb::<64>::new());
+    run_over(rt, case, Recent::new(Plain::new()));
+    run_over(rt, case, Noting::new(alloc, 0));
+    run_over(rt, case, Noting::new(alloc, MOST_PAGES));
+    run_counted(rt, case);
+}
+
+/// Each of these runs goes as it says, over each translator.
+pub(crate) fn run_each(rt: &(impl Abort + AllocGlobal), cases: &[Case<'_>]) {
+    for case in cases {
+        run_over_each(rt, *case);
+    }
 }

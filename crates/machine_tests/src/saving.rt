@@ -1,7 +1,8 @@
 //! The disk that a machine leaves.
-use crate::play::Act::{Answer, Halts, Steps};
+use crate::hello::{FAILED, HI};
+use crate::play::Act::{Answers, Halts, Steps};
 use crate::play::{
-    Act, EXIT, GETPID, MKDIR, MKNOD, NEXT_CALL, OPEN, Program, ROOM, WRITE, holds_at, saved,
+    Case, EXIT, GETPID, MKDIR, MKNOD, NEXT_CALL, OPEN, Program, USUAL, WRITE, saved,
 };
 use image::{Entry, Manifest, Summary, Thing, check, make};
 use machine::Halt;
@@ -50,89 +51,124 @@ fn image_of(alloc: Global, names: &[Name<'_>]) -> Option<Vec<u8>> {
     make(alloc, &manifest, 32, 16).ok()
 }
 
-// After these acts the machine over this translator leaves this image, in which so much is in use.
+// A run, and the image that it leaves: the names of which it is made, and what is in use of it.
+struct Left {
+    run: Case<'static>,
+    names: &'static [Name<'static>],
+    used: Summary,
+}
+
+const ASKS: Program<'static> = Program::Calls(&[[0, 0, 0, GETPID]]);
+
+static LEFT: [Left; 4] = [
+    Left {
+        run: Case {
+            name: "nothing was done",
+            size: USUAL,
+            program: ASKS,
+            acts: &[],
+        },
+        names: &[CONSOLE],
+        used: FLAT,
+    },
+    Left {
+        run: Case {
+            name: "what nobody changed is as it was",
+            size: USUAL,
+            program: ASKS,
+            acts: &[Steps(NEXT_CALL)],
+        },
+        names: &[CONSOLE],
+        used: FLAT,
+    },
+    Left {
+        run: Case {
+            name: "process 1 has ended",
+            size: USUAL,
+            program: Program::Calls(&[[7, 0, 0, EXIT]]),
+            acts: &[Steps(NEXT_CALL - 1), Halts(Halt::InitEnded(7))],
+        },
+        names: &[CONSOLE],
+        used: FLAT,
+    },
+    // The names stand behind the calls. Each byte is as the maker of images has it, also the numbers of a file that is no device.
+    Left {
+        run: Case {
+            name: "the disk has what was made",
+            size: USUAL,
+            program: Program::Calls(&[
+                [128, 2, 3, MKNOD],
+                [136, 0, 0, MKDIR],
+                [144, 0x201, 0, OPEN],
+                [b'n' as u64, b'm' as u64, b'f' as u64, 0],
+            ]),
+            acts: &[Answers(&[0, 0, 3])],
+        },
+        names: &[
+            CONSOLE,
+            (b"/n", Named::Device(2, 3)),
+            (b"/m", Named::Folder),
+            (b"/f", Named::Empty),
+        ],
+        used: Summary {
+            inodes: 5,
+            blocks: 2,
+        },
+    },
+];
+
+// After a run over this translator its machine leaves this image, in which so much is in use.
 fn leaves_over<T: Translate>(
     rt: &(impl Abort + AllocGlobal),
-    program: Program<'_>,
+    left: &Left,
+    image: &[u8],
     translator: T,
-    acts: &[Act<'_>],
-    (image, used): (&[u8], Summary),
 ) {
-    let mut disk = saved(rt, program, translator, ROOM, acts).expect(rt, "a disk");
-    holds_at(rt, 0, disk.bytes() == image);
-    holds_at(rt, 1, check(rt.alloc(), &mut disk) == Ok(used));
-}
-
-// After these acts the machine leaves the image that is made of these names, in which so much is in use.
-fn leaves(
-    rt: &(impl Abort + AllocGlobal),
-    program: Program<'_>,
-    acts: &[Act<'_>],
-    names: &[Name<'_>],
-    used: Summary,
-) {
-    let image = image_of(rt.alloc(), names).expect(rt, "an image");
-    let left = (image.as_slice(), used);
-    leaves_over(rt, program, Plain::new(), acts, left);
-    leaves_over(rt, program, Tlb::<64>::new(), acts, left);
-    leaves_over(rt, program, Noting::new(rt.alloc(), MOST_PAGES), acts, left);
-}
-
-#[test]
-fn what_nobody_changed_is_as_it_was(rt: HostRuntime) {
-    const CALLS: [[u64; 4]; 1] = [[0, 0, 0, GETPID]];
-    leaves(&rt, Program::Calls(&CALLS), &[], &[CONSOLE], FLAT);
-    leaves(
-        &rt,
-        Program::Calls(&CALLS),
-        &[Steps(NEXT_CALL)],
-        &[CONSOLE],
-        FLAT,
+    let name = left.run.name;
+    let mut disk = saved(rt, left.run, translator).expect(rt, "a disk");
+    assert!(rt; disk.bytes() == image, "{name}: the bytes");
+    assert!(rt;
+        check(rt.alloc(), &mut disk) == Ok(left.used),
+        "{name}: what is in use"
     );
 }
 
-#[test]
-fn saves_once_process_1_has_ended(rt: HostRuntime) {
-    const CALLS: [[u64; 4]; 1] = [[7, 0, 0, EXIT]];
-    const ACTS: [Act; 2] = [Steps(NEXT_CALL - 1), Halts(Halt::InitEnded(7))];
-    leaves(&rt, Program::Calls(&CALLS), &ACTS, &[CONSOLE], FLAT);
+fn leaves(rt: &(impl Abort + AllocGlobal), left: &Left) {
+    let image = image_of(rt.alloc(), left.names).expect(rt, "an image");
+    leaves_over(rt, left, image.as_slice(), Plain::new());
+    leaves_over(rt, left, image.as_slice(), Tlb::<64>::new());
+    let noting = Noting::new(rt.alloc(), MOST_PAGES);
+    leaves_over(rt, left, image.as_slice(), noting);
 }
 
-// The names stand behind the calls. Each byte is as the maker of images has it, also the numbers of a file that is no device.
 #[test]
 fn has_what_was_made(rt: HostRuntime) {
-    const CALLS: [[u64; 4]; 4] = [
-        [128, 2, 3, MKNOD],
-        [136, 0, 0, MKDIR],
-        [144, 0x201, 0, OPEN],
-        [b'n' as u64, b'm' as u64, b'f' as u64, 0],
-    ];
-    const ACTS: [Act; 6] = [
-        Steps(NEXT_CALL),
-        Answer(1, 0),
-        Steps(NEXT_CALL),
-        Answer(1, 0),
-        Steps(NEXT_CALL),
-        Answer(1, 3),
-    ];
-    const NAMES: [Name; 4] = [
-        CONSOLE,
-        (b"/n", Named::Device(2, 3)),
-        (b"/m", Named::Folder),
-        (b"/f", Named::Empty),
-    ];
-    const USED: Summary = Summary {
-        inodes: 5,
-        blocks: 2,
-    };
-    leaves(&rt, Program::Calls(&CALLS), &ACTS, &NAMES, USED);
+    for left in &LEFT {
+        leaves(&rt, left);
+    }
 }
 
 // The console takes one byte, and fails at the next.
+static FAILED_RUNS: [Case; 2] = [
+    Case {
+        name: "a call fails",
+        size: (64, 1),
+        program: Program::Calls(&[[1, 32, 3, WRITE]]),
+        acts: &[Steps(NEXT_CALL - 1), Halts(Halt::Console)],
+    },
+    Case {
+        name: "a program that says hi fails",
+        size: (64, 1),
+        program: HI,
+        acts: &FAILED,
+    },
+];
+
 #[test]
 fn a_machine_that_failed_leaves_nothing(rt: HostRuntime) {
-    const CALLS: [[u64; 4]; 1] = [[1, 32, 3, WRITE]];
-    const ACTS: [Act; 2] = [Steps(NEXT_CALL - 1), Halts(Halt::Console)];
-    let left = saved(&rt, Program::Calls(&CALLS), Plain::new(), 1, &ACTS);
-    holds_at(&rt, 0, left.err() == Some(Halt::Halted));
+    for case in &FAILED_RUNS {
+        let left = saved(&rt, *case, Plain::new());
+        let name = case.name;
+        assert!(rt; left.err() == Some(Halt::Halted), "{name}: a disk is left");
+    }
 }
