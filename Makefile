@@ -30,15 +30,15 @@ demo:
 			rt try $$(for file in $$(ls data); do echo --data $$file=data/$$file; done)); \
 	fi
 
-# Proves every crate, several at a time, a line for each; builds the program as $(PROGRAM), and runs it once.
+# Proves what the program stands on, several crates at a time, a line for each; builds it as $(PROGRAM), and runs it once.
 build:
 	@if $(IS_FRESH); then echo '$(PROGRAM) is proved and built'; else \
-		tools/prove.py && cd crates/xv6 && rt run -- flat data/hello.bin data/hello.txt && touch out/xv6; \
+		tools/prove.py --below xv6 && cd crates/xv6 && rt run -- flat data/hello.bin data/hello.txt && touch out/xv6; \
 	fi
 
 # The program that is there: what needs it starts no proofs by itself.
 program:
-	@[ -x $(PROGRAM) ] || { echo '$(PROGRAM) is not built: make build proves and builds it, in about half an hour' >&2; exit 1; }
+	@[ -x $(PROGRAM) ] || { echo '$(PROGRAM) is not built: make build proves and builds it, in three quarters of an hour' >&2; exit 1; }
 	@$(IS_FRESH) || echo 'note: $(PROGRAM) is older than the sources (make build)' >&2
 
 # Assembles the user programs.

@@ -2,11 +2,12 @@
 """Proves crates, lowest first, and prints a line for each as it ends.
 
     tools/prove.py                    every crate, several side by side
+    tools/prove.py --below xv6        what a crate stands on, several side by side, each as a library
     tools/prove.py --changed          what differs from the last commit of main, and all crates above that, with their tests
     tools/prove.py --changed HEAD~3   what differs from that commit
 
 Without --changed as many checks run side by side as there are processors, and 3 GB of free memory for each (--jobs N: N of
-them); with it they run one after the other, each with so many jobs. What was proved already and has not changed costs a look.
+them); with it they run one after the other, each with so many jobs. A crate waits for those below it. What was proved already and has not changed costs a look.
 The status is 0 where all is proved; else what the check of a crate said is printed. This is for work: `rt ci` alone is the
 gate, which proves from nothing and tries the edits.
 """
@@ -16,6 +17,7 @@ import re
 import subprocess
 import sys
 import time
+from concurrent.futures import FIRST_COMPLETED, ThreadPoolExecutor, wait
 from pathlib import Path
 
 ROOT = Path(__file__).resolve().parent.parent
@@ -93,6 +95,40 @@ def prove_all(jobs):
     return 1 if check.returncode else 0
 
 
+def all_below(name, crates):
+    """The crates that a crate stands on."""
+    found, left = set(), list(crates[name])
+    while left:
+        it = left.pop()
+        if it not in found:
+            found.add(it)
+            left += crates[it]
+    return found
+
+
+def build_library(name):
+    return subprocess.run(["rt", "lib", "--jobs", "1"], cwd=CRATES / name, stdout=subprocess.PIPE, stderr=subprocess.STDOUT, text=True)
+
+
+def prove_below(name, jobs):
+    """What a crate stands on: each crate once all below it are libraries, up to the first that isn't proved."""
+    started, crates = time.monotonic(), read_crates()
+    left, done, at_work = all_below(name, crates), set(), {}
+    with ThreadPoolExecutor(jobs) as pool:
+        while left or at_work:
+            ready = sorted(it for it in left if done.issuperset(crates[it]))
+            at_work |= {pool.submit(build_library, it): it for it in ready}
+            left.difference_update(ready)
+            for built in wait(at_work, return_when=FIRST_COMPLETED).done:
+                crate, ran = at_work.pop(built), built.result()
+                tell(crate, ran.stdout.splitlines(keepends=True), started)
+                if ran.returncode:
+                    pool.shutdown(cancel_futures=True)
+                    return 1
+                done.add(crate)
+    return 0
+
+
 def prove_changed(commit, jobs):
     """What changed and all above it, with their tests, up to the first that isn't proved."""
     started, crates = time.monotonic(), read_crates()
@@ -110,11 +146,14 @@ def prove_changed(commit, jobs):
 def main(words):
     parser = argparse.ArgumentParser(description=__doc__, formatter_class=argparse.RawDescriptionHelpFormatter)
     parser.add_argument("--changed", nargs="?", const="main", metavar="COMMIT", help="what differs from a commit (main), and all above it")
+    parser.add_argument("--below", choices=sorted(read_crates()), metavar="CRATE", help="what this crate stands on")
     parser.add_argument("--jobs", type=int, metavar="N", help="how many at a time, at least 1")
     wanted = parser.parse_args(words)
     if wanted.jobs is not None and wanted.jobs < 1:
         parser.error("--jobs takes a number above 0")
     jobs = wanted.jobs or free_jobs()
+    if wanted.below:
+        return prove_below(wanted.below, jobs)
     return prove_changed(wanted.changed, jobs) if wanted.changed else prove_all(jobs)
 
 
