@@ -7,7 +7,8 @@
     tools/prove.py --changed HEAD~3   what differs from that commit
 
 Without --changed as many checks run side by side as there are processors, and 3 GB of free memory for each (--jobs N: N of
-them); with it they run one after the other, each with so many jobs. A crate waits for those below it. What was proved already and has not changed costs a look.
+them); with it they run one after the other, each with so many jobs. A crate waits for those below it. What was proved
+already and has not changed costs a look.
 The status is 0 where all is proved; else what the check of a crate said is printed. This is for work: `rt ci` alone is the
 gate, which proves from nothing and tries the edits.
 """
