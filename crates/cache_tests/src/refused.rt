@@ -1,5 +1,7 @@
 //! The cache where host memory is refused.
 
+ghost use Rattle.std.specs.Prelude.{◌≤◌};
+
 use crate::rows::{byte, disk_of, put, took};
 use blockdev::MemDisk;
 use cache::Cache;
@@ -7,14 +9,27 @@ use linked_list_allocator::LocalHeap;
 use std::alloc::Allocator;
 use std::process::Abort;
 
-// Writes into each of 33 blocks, reads it, and writes again.
-fn change_all<A: Allocator + Clone>(rt: &impl Abort, cache: &mut Cache<MemDisk, A>) {
-    for n in 0..33 {
-        assert!(rt; put(cache, n, n, 1));
-        let byte = byte(cache, n, n).expect(rt, "a byte");
-        assert!(rt; put(cache, n, 1023 - n, byte));
+// Writes into a block, reads it, and writes again.
+fn changes<A: Allocator + Clone>(cache: &mut Cache<MemDisk, A>, n: usize) -> bool
+    requires { n ≤ 1023 }
+{
+    if !put(cache, n, n, 1) {
+        return false;
     }
-    assert!(rt; cache.flush().is_ok());
+    match byte(cache, n, n) {
+        Some(byte) => put(cache, n, 1023 - n, byte),
+        None => false,
+    }
+}
+
+// Does so with each of 33 blocks.
+fn changes_all<A: Allocator + Clone>(cache: &mut Cache<MemDisk, A>) -> bool {
+    for n in 0..33 {
+        if !changes(cache, n) {
+            return false;
+        }
+    }
+    cache.flush().is_ok()
 }
 
 // The disk after some writes and reads, where the cache has a heap of this size; none where there is no cache.
@@ -23,7 +38,7 @@ fn run(rt: &(impl Abort + AllocGlobal), size: usize) -> Option<MemDisk> {
     let Ok(mut cache) = Cache::new(&heap, disk_of(rt, 33)) else {
         return None;
     };
-    change_all(rt, &mut cache);
+    assert!(rt; changes_all(&mut cache));
     Some(cache.into_device())
 }
 

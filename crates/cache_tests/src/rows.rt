@@ -99,18 +99,6 @@ fn does(cache: &mut Cache<FailAt<MemDisk>>, act: Act) -> bool {
     }
 }
 
-// An empty disk of so many blocks after these acts. One access fails, after so many good ones.
-fn after(rt: &(impl Abort + AllocGlobal), blocks: usize, good: u64, acts: &[Act]) -> MemDisk {
-    let device = FailAt::new(disk_of(rt, blocks), NonZeroU64::MIN.saturating_add(good));
-    let mut cache = Cache::new(rt.alloc(), device).expect(rt, "memory");
-    for act in acts {
-        assert!(rt; does(&mut cache, *act));
-    }
-    let disk = cache.into_device().into_inner();
-    assert!(rt; disk.bytes().len() == blocks.saturating_mul(1024));
-    disk
-}
-
 /// Whether a disk was read and written so often.
 pub fn took(disk: &MemDisk, reads: u64, writes: u64) -> bool {
     disk.reads() == reads && disk.writes() == writes
@@ -127,34 +115,74 @@ fn has(disk: &MemDisk, rows: &[(usize, u8)]) -> bool {
     true
 }
 
-#[test]
-fn holds_thirty_blocks(rt: HostRuntime) {
-    let held = after(&rt, 30, NEVER, &[Act::ReadAll(0, 30), Act::ReadAll(0, 30)]);
-    assert!(rt; took(&held, 30, 0));
-    let more = after(&rt, 31, NEVER, &[Act::ReadAll(0, 31), Act::ReadAll(0, 31)]);
-    assert!(rt; took(&more, 62, 0));
+// What is done to a cache over an empty disk, of which one access fails, and the disk then.
+struct Case {
+    name: &'static str,
+    blocks: usize,
+    /// So many accesses are good before the one that fails.
+    good: u64,
+    acts: &'static [Act],
+    reads: u64,
+    writes: u64,
+    /// Places of the disk and the bytes there.
+    bytes: &'static [(usize, u8)],
 }
 
-// Whether a block that is changed, and then flushed so often, was written once.
-fn is_written_once(rt: &(impl Abort + AllocGlobal), flushes: usize) -> bool {
-    let acts = [Act::Fill(1, 100, 7), Act::Flushes(flushes)];
-    let disk = after(rt, 2, NEVER, &acts);
-    took(&disk, 1, 1) && has(&disk, &[(1023, 0), (1024, 7), (1123, 7), (1124, 0)])
-}
+// What is on a disk whose block 1 got 100 bytes.
+const FILLED: &[(usize, u8)] = &[(1023, 0), (1024, 7), (1123, 7), (1124, 0)];
 
-#[test]
-fn writes_a_changed_block_once(rt: HostRuntime) {
-    assert!(rt; is_written_once(&rt, 1) && is_written_once(&rt, 2) && is_written_once(&rt, 3));
-}
-
-#[test]
-fn the_block_used_longest_ago_leaves(rt: HostRuntime) {
-    // Block 0 is used again, so block 1 leaves for block 30, and block 2, which is clean, for block 31.
-    let disk = after(
-        &rt,
-        32,
-        NEVER,
-        &[
+static CASES: [Case; 11] = [
+    Case {
+        name: "thirty blocks are held",
+        blocks: 30,
+        good: NEVER,
+        acts: &[Act::ReadAll(0, 30), Act::ReadAll(0, 30)],
+        reads: 30,
+        writes: 0,
+        bytes: &[],
+    },
+    Case {
+        name: "no more than thirty blocks are held",
+        blocks: 31,
+        good: NEVER,
+        acts: &[Act::ReadAll(0, 31), Act::ReadAll(0, 31)],
+        reads: 62,
+        writes: 0,
+        bytes: &[],
+    },
+    Case {
+        name: "a changed block is written at a flush",
+        blocks: 2,
+        good: NEVER,
+        acts: &[Act::Fill(1, 100, 7), Act::Flushes(1)],
+        reads: 1,
+        writes: 1,
+        bytes: FILLED,
+    },
+    Case {
+        name: "a changed block is not written again at a second flush",
+        blocks: 2,
+        good: NEVER,
+        acts: &[Act::Fill(1, 100, 7), Act::Flushes(2)],
+        reads: 1,
+        writes: 1,
+        bytes: FILLED,
+    },
+    Case {
+        name: "a changed block is not written again at a third flush",
+        blocks: 2,
+        good: NEVER,
+        acts: &[Act::Fill(1, 100, 7), Act::Flushes(3)],
+        reads: 1,
+        writes: 1,
+        bytes: FILLED,
+    },
+    Case {
+        name: "the block used longest ago leaves",
+        blocks: 32,
+        good: NEVER,
+        // block 0 is used again, so block 1 leaves for block 30, and block 2, which is clean, for block 31
+        acts: &[
             Act::Put(0, 1, true),
             Act::Put(1, 2, true),
             Act::ReadAll(2, 30),
@@ -163,68 +191,121 @@ fn the_block_used_longest_ago_leaves(rt: HostRuntime) {
             Act::Read(31, Some(0)),
             Act::Read(0, Some(1)),
         ],
+        reads: 32,
+        writes: 1,
+        bytes: &[(0, 0), (1024, 2)],
+    },
+    Case {
+        name: "a failed write is told",
+        blocks: 31,
+        good: 0,
+        acts: &[
+            Act::Put(0, b'x', false),
+            Act::HasFailed(true),
+            Act::Read(0, Some(0)),
+            Act::Flush(true),
+        ],
+        reads: 1,
+        writes: 0,
+        bytes: &[(0, 0)],
+    },
+    Case {
+        name: "a failed flush is told",
+        blocks: 31,
+        good: 1,
+        acts: &[
+            Act::Put(0, b'x', true),
+            Act::Read(0, Some(b'x')),
+            Act::Flush(false),
+            Act::HasFailed(true),
+        ],
+        reads: 1,
+        writes: 0,
+        bytes: &[],
+    },
+    Case {
+        name: "no failure is told where there is none",
+        blocks: 31,
+        good: 2,
+        acts: &[
+            Act::Put(0, b'x', true),
+            Act::Read(0, Some(b'x')),
+            Act::Flush(true),
+            Act::HasFailed(false),
+        ],
+        reads: 1,
+        writes: 1,
+        bytes: &[(0, b'x')],
+    },
+    Case {
+        name: "a failed flush can be tried again",
+        blocks: 31,
+        good: 2,
+        acts: &[
+            Act::Put(0, b'x', true),
+            Act::Put(1, b'y', true),
+            Act::Flush(false),
+            Act::Flush(true),
+        ],
+        reads: 2,
+        writes: 2,
+        bytes: &[(0, b'x'), (1024, b'y')],
+    },
+    Case {
+        name: "a read fails where no block can leave",
+        blocks: 31,
+        good: 31,
+        // 31 reads are good, and the write of the block that must leave is the access that fails
+        acts: &[
+            Act::Put(0, b'x', true),
+            Act::ReadAll(1, 30),
+            Act::HasFailed(false),
+            Act::Read(30, None),
+            Act::HasFailed(true),
+            Act::Read(30, Some(0)),
+        ],
+        reads: 32,
+        writes: 1,
+        bytes: &[(0, b'x')],
+    },
+];
+
+// Does them in turn, and tells how many gave what is expected before one didn't.
+fn done(cache: &mut Cache<FailAt<MemDisk>>, acts: &[Act]) -> usize {
+    for (at, act) in acts.iter().enumerate() {
+        if !does(cache, *act) {
+            return at;
+        }
+    }
+    acts.len()
+}
+
+// Whether the disk is as it is to be.
+fn is_left(disk: &MemDisk, case: &Case) -> bool {
+    took(disk, case.reads, case.writes)
+        && has(disk, case.bytes)
+        && disk.bytes().len() == case.blocks.saturating_mul(1024)
+}
+
+// What is expected comes of it.
+fn expect(rt: &(impl Abort + AllocGlobal), case: &Case) {
+    let device = FailAt::new(
+        disk_of(rt, case.blocks),
+        NonZeroU64::MIN.saturating_add(case.good),
     );
-    assert!(rt; took(&disk, 32, 1) && has(&disk, &[(0, 0), (1024, 2)]));
+    let mut cache = Cache::new(rt.alloc(), device).expect(rt, "memory");
+    let done = done(&mut cache, case.acts);
+    let disk = cache.into_device().into_inner();
+    assert!(rt;
+        done == case.acts.len() && is_left(&disk, case),
+        "{}: after {done} acts",
+        case.name
+    );
 }
 
 #[test]
-fn tells_a_failed_write(rt: HostRuntime) {
-    let acts = [
-        Act::Put(0, b'x', false),
-        Act::HasFailed(true),
-        Act::Read(0, Some(0)),
-        Act::Flush(true),
-    ];
-    let disk = after(&rt, 31, 0, &acts);
-    assert!(rt; took(&disk, 1, 0) && has(&disk, &[(0, 0)]));
-}
-
-#[test]
-fn tells_a_failed_flush(rt: HostRuntime) {
-    let acts = [
-        Act::Put(0, b'x', true),
-        Act::Read(0, Some(b'x')),
-        Act::Flush(false),
-        Act::HasFailed(true),
-    ];
-    assert!(rt; took(&after(&rt, 31, 1, &acts), 1, 0));
-}
-
-#[test]
-fn tells_no_failure_where_there_is_none(rt: HostRuntime) {
-    let acts = [
-        Act::Put(0, b'x', true),
-        Act::Read(0, Some(b'x')),
-        Act::Flush(true),
-        Act::HasFailed(false),
-    ];
-    let disk = after(&rt, 31, 2, &acts);
-    assert!(rt; took(&disk, 1, 1) && has(&disk, &[(0, b'x')]));
-}
-
-#[test]
-fn a_failed_flush_can_be_tried_again(rt: HostRuntime) {
-    let acts = [
-        Act::Put(0, b'x', true),
-        Act::Put(1, b'y', true),
-        Act::Flush(false),
-        Act::Flush(true),
-    ];
-    let disk = after(&rt, 31, 2, &acts);
-    assert!(rt; took(&disk, 2, 2) && has(&disk, &[(0, b'x'), (1024, b'y')]));
-}
-
-#[test]
-fn a_read_fails_where_no_block_can_leave(rt: HostRuntime) {
-    // 31 reads are good, and the write of the block that must leave is the access that fails.
-    let acts = [
-        Act::Put(0, b'x', true),
-        Act::ReadAll(1, 30),
-        Act::HasFailed(false),
-        Act::Read(30, None),
-        Act::HasFailed(true),
-        Act::Read(30, Some(0)),
-    ];
-    let disk = after(&rt, 31, 31, &acts);
-    assert!(rt; took(&disk, 32, 1) && has(&disk, &[(0, b'x')]));
+fn reads_and_writes_no_more_than_it_must(rt: HostRuntime) {
+    for case in &CASES {
+        expect(&rt, case);
+    }
 }
