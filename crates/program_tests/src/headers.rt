@@ -11,11 +11,11 @@ fn put(bytes: &mut [u8], words: &[u64]) {
 }
 
 // The header of a file with so many program headers from a place on, whose entry is 6.
-fn header_with(program_headers: u64, count: u64) -> [u8; HEADER_SIZE] {
+fn header_with(program_headers: u64, count: u16) -> [u8; HEADER_SIZE] {
     let mut bytes = [0; HEADER_SIZE];
     put(
         &mut bytes,
-        &[0x464C_457F, 0, 0, 6, program_headers, 0, 0, count],
+        &[0x464C_457F, 0, 0, 6, program_headers, 0, 0, count as u64],
     );
     bytes
 }
@@ -32,27 +32,24 @@ fn program_header(kind: u64, address: u64, file_size: u64, size: u64) -> [u8; PR
 
 #[test]
 fn reads_the_header_of_a_file(rt: HostRuntime) {
-    let told = FileHeader {
-        entry: 4,
-        program_headers: 64,
-        count: 2,
-    };
-    assert!(rt; header(&header_with(64, 2), 176) == Ok(told));
-    assert!(rt; header(&header_with(64, 2), 175) == Err(ElfFault::Short));
     assert!(rt; header(&[0; HEADER_SIZE], 4096) == Err(ElfFault::Magic));
-}
-
-#[test]
-fn wants_all_program_headers_in_the_file(rt: HostRuntime) {
     for (at, count, len, fits) in [
+        (64, 2, 176, true),
+        (64, 2, 175, false),
         (64, 0, 64, true),
         (64, 0, 63, false),
         (64, 65535, 120, false),
         (0xffff_ffff_ffff_fff0, 1, 4096, false),
         (0xffff_ffff_ffff_fff0, 0, 4096, true),
     ] {
+        let told = FileHeader {
+            entry: 4,
+            program_headers: at,
+            count,
+        };
+        let told = if fits { Ok(told) } else { Err(ElfFault::Short) };
         assert!(rt;
-            header(&header_with(at, count), len).is_ok() == fits,
+            header(&header_with(at, count), len) == told,
             "{count} at {at}"
         );
     }
