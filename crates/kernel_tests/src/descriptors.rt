@@ -1,4 +1,5 @@
 //! Open files that come, are shared, and go.
+use crate::expected::expect_row;
 use files::{End, FileFault, Files, OpenFile, PLACES, Target};
 use std::process::Abort;
 
@@ -217,7 +218,7 @@ static CASES: [Case; 7] = [
 fn expect(rt: &impl Abort, case: &Case) {
     let mut files = Files::new();
     for (at, row) in case.rows.iter().enumerate() {
-        assert!(rt; holds(&mut files, *row), "{}: row {at}", case.name);
+        expect_row(rt, holds(&mut files, *row), case.name, at);
     }
 }
 

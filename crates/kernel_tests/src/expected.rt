@@ -15,6 +15,16 @@ pub fn has_frames(rt: &impl Abort, ram: &Ram, count: u32)
     assert!(rt; frames == count);
 }
 
+/// What a row of a case says is so.
+pub fn expect_row(rt: &impl Abort, is_so: bool, case: &str, row: usize) {
+    assert!(rt; is_so, "{case}: row {row}");
+}
+
+/// What a case says of all its rows is so.
+pub fn expect_case(rt: &impl Abort, is_so: bool, case: &str) {
+    assert!(rt; is_so, "{case}");
+}
+
 /// A memory of so many frames.
 pub fn memory(rt: &(impl Abort + AllocGlobal), count: u32) -> Ram
     requires { count ≤ 32768 }

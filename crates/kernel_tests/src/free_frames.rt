@@ -1,7 +1,7 @@
 //! Frames that are taken and given.
 ghost use Rattle.std.specs.Prelude.{◌≤◌};
 
-use crate::expected::{all_free, memory};
+use crate::expected::{all_free, expect_case, expect_row, memory};
 use frames::Frames;
 use ram::{FrameNo, Ram};
 use std::marker::Model;
@@ -52,29 +52,41 @@ impl Counted {
         Counted { ram, frames }
     }
 
-    // Whether so many hold the first two frames, and so many frames could be taken still.
-    fn counts(&self, rt: &impl Abort, first: u32, second: u32, free: u32) -> bool {
-        let count = self.ram.frame_count();
-        assert!(rt; 1 < count);
-        self.frames.holders(&self.ram, FIRST) == first
-            && self.frames.holders(&self.ram, SECOND) == second
-            && self.frames.free() == free
+    // How many hold the first two frames, and how many frames could be taken still.
+    fn counts(&self) -> Option<(u32, u32, u32)> {
+        if self.ram.frame_count() < 2 {
+            return None;
+        }
+        let first = self.frames.holders(&self.ram, FIRST);
+        let second = self.frames.holders(&self.ram, SECOND);
+        Some((first, second, self.frames.free()))
     }
 
-    fn share(&mut self, rt: &impl Abort) -> bool {
-        let count = self.ram.frame_count();
-        assert!(rt; 0 < count);
-        let held = self.frames.holders(&self.ram, FIRST);
-        assert!(rt; held > 0);
-        self.frames.share(&self.ram, FIRST)
+    // Does it, and tells whether that gives what is expected.
+    fn does(&mut self, rt: &impl Abort, act: Act) -> bool {
+        match act {
+            Act::Take(frame) => self.frames.take(&self.ram) == frame,
+            Act::Share(is_shared) => self.share() == Some(is_shared),
+            Act::Split(own) => self.split() == Some(own),
+            Act::Give => {
+                self.give(rt);
+                true
+            }
+        }
     }
 
-    fn split(&mut self, rt: &impl Abort) -> FrameNo {
-        let count = self.ram.frame_count();
-        assert!(rt; 0 < count);
-        let held = self.frames.holders(&self.ram, FIRST);
-        assert!(rt; held > 1);
-        self.frames.split(&self.ram, FIRST)
+    fn share(&mut self) -> Option<bool> {
+        if self.ram.frame_count() == 0 || self.frames.holders(&self.ram, FIRST) == 0 {
+            return None;
+        }
+        Some(self.frames.share(&self.ram, FIRST))
+    }
+
+    fn split(&mut self) -> Option<FrameNo> {
+        if self.ram.frame_count() == 0 || self.frames.holders(&self.ram, FIRST) < 2 {
+            return None;
+        }
+        Some(self.frames.split(&self.ram, FIRST))
     }
 
     fn give(&mut self, rt: &impl Abort) {
@@ -84,97 +96,86 @@ impl Counted {
         assert!(rt; held > 0);
         self.frames.give(&mut self.ram, FIRST);
     }
-
-    // Does it, and tells whether that gives what is expected.
-    fn does(&mut self, rt: &impl Abort, act: Act) -> bool {
-        match act {
-            Act::Take(frame) => self.frames.take(&self.ram) == frame,
-            Act::Share(is_shared) => self.share(rt) == is_shared,
-            Act::Split(own) => self.split(rt) == own,
-            Act::Give => {
-                self.give(rt);
-                true
-            }
-        }
-    }
 }
 
 // Acts in a memory of so many frames; beside each: how many hold the first two frames, and how many are free then.
-fn expect(rt: &(impl Abort + AllocGlobal), count: u32, rows: &[(Act, u32, u32, u32)]) {
-    assert!(rt; count <= 32768);
-    let mut counted = Counted::new(rt, count);
-    assert!(rt; counted.counts(rt, 0, 0, count));
-    for (act, first, second, free) in rows {
-        assert!(rt; counted.does(rt, *act) && counted.counts(rt, *first, *second, *free));
-    }
+struct Case {
+    name: &'static str,
+    frames: u32,
+    acts: &'static [(Act, u32, u32, u32)],
 }
 
-#[test]
-fn takes_each_frame_once(rt: HostRuntime) {
-    expect(
-        &rt,
-        3,
-        &[
+static CASES: [Case; 5] = [
+    Case {
+        name: "each frame is taken once",
+        frames: 3,
+        acts: &[
             (Act::Take(Some(FIRST)), 1, 0, 2),
             (Act::Take(Some(SECOND)), 1, 1, 1),
             (Act::Take(Some(FrameNo(2))), 1, 1, 0),
             (Act::Take(None), 1, 1, 0),
         ],
-    );
-}
-
-#[test]
-fn takes_what_was_given_last(rt: HostRuntime) {
-    expect(
-        &rt,
-        3,
-        &[
+    },
+    Case {
+        name: "what was given last is taken",
+        frames: 3,
+        acts: &[
             (Act::Take(Some(FIRST)), 1, 0, 2),
             (Act::Give, 0, 0, 3),
             (Act::Take(Some(FIRST)), 1, 0, 2),
         ],
-    );
-}
-
-#[test]
-fn counts_each_holder(rt: HostRuntime) {
-    expect(
-        &rt,
-        4,
-        &[
+    },
+    Case {
+        name: "each holder is counted",
+        frames: 4,
+        acts: &[
             (Act::Take(Some(FIRST)), 1, 0, 3),
             (Act::Share(true), 2, 0, 2),
             (Act::Share(true), 3, 0, 1),
             (Act::Give, 2, 0, 2),
         ],
-    );
-}
-
-#[test]
-fn shares_no_more_than_the_frames_there_are(rt: HostRuntime) {
-    expect(
-        &rt,
-        2,
-        &[
+    },
+    Case {
+        name: "no more is shared than the frames there are",
+        frames: 2,
+        acts: &[
             (Act::Take(Some(FIRST)), 1, 0, 1),
             (Act::Share(true), 2, 0, 0),
             (Act::Share(false), 2, 0, 0),
             (Act::Take(None), 2, 0, 0),
         ],
-    );
-}
-
-#[test]
-fn splits_where_no_frame_could_be_taken(rt: HostRuntime) {
-    expect(
-        &rt,
-        2,
-        &[
+    },
+    Case {
+        name: "a frame is split where none could be taken",
+        frames: 2,
+        acts: &[
             (Act::Take(Some(FIRST)), 1, 0, 1),
             (Act::Share(true), 2, 0, 0),
             (Act::Split(SECOND), 1, 1, 0),
             (Act::Give, 0, 1, 1),
             (Act::Take(Some(FIRST)), 1, 1, 0),
         ],
-    );
+    },
+];
+
+fn expect(rt: &(impl Abort + AllocGlobal), case: &Case) {
+    assert!(rt; 1 < case.frames && case.frames <= 32768);
+    let mut counted = Counted::new(rt, case.frames);
+    expect_case(rt, counted.counts() == Some((0, 0, case.frames)), case.name);
+    for (at, (act, first, second, free)) in case.acts.iter().enumerate() {
+        let told = (counted.does(rt, *act), counted.counts());
+        expect_row(
+            rt,
+            told == (true, Some((*first, *second, *free))),
+            case.name,
+            at,
+        );
+    }
+}
+
+#[test]
+fn frames_are_taken_and_given(rt: HostRuntime) {
+    for case in &CASES {
+        expect(&rt, case);
+    }
 }

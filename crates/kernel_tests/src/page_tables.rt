@@ -1,7 +1,7 @@
 //! Pages that are mapped, walked to and taken out.
 ghost use Rattle.std.specs.Prelude.{◌<◌, ◌^◌, ◌≤◌};
 
-use crate::expected::{all_free, memory};
+use crate::expected::{all_free, expect_row, memory};
 use frames::Frames;
 use pagetable::{Full, PageTable, leaf_marks};
 use ram::{FrameNo, Ram};
@@ -188,7 +188,7 @@ fn expect(rt: &(impl Abort + AllocGlobal), case: &Case) {
     for (at, (page, act, free)) in case.acts.iter().enumerate() {
         assert!(rt; *page < 1 << 27);
         let told = (mapping.does(*page, *act), mapping.frames.free());
-        assert!(rt; told == (true, *free), "{}: act {at}", case.name);
+        expect_row(rt, told == (true, *free), case.name, at);
     }
 }
 

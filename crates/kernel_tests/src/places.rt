@@ -1,5 +1,5 @@
 //! Spaces that come, change and go: the frames are counted, and a program runs in one of them.
-use crate::expected::memory;
+use crate::expected::{expect_row, memory};
 use spaces::Spaces;
 use std::cell::Cell;
 use std::process::Abort;
@@ -338,7 +338,7 @@ static CASES: [Case; 7] = [
 fn expect_all(rt: &impl Abort, name: &str, spaces: &mut Flat, acts: &[(Act, bool, u32)]) {
     for (at, (act, is, free)) in acts.iter().enumerate() {
         let told = (answer(spaces, *act), spaces.free());
-        assert!(rt; told == (Some(*is), *free), "{name}: act {at}");
+        expect_row(rt, told == (Some(*is), *free), name, at);
     }
 }
 

@@ -1,4 +1,5 @@
 //! Worked cases of the table.
+use crate::expected::expect_row;
 use proc::{Mask, PLACES, Place, ProcFault, Process, Table, zombie_child};
 use std::process::Abort;
 use unixmodel::call::Call;
@@ -320,7 +321,7 @@ fn expect(rt: &impl Abort, case: &Case) {
     assert!(rt; 1 <= case.first_pid && case.first_pid <= 2147483647);
     let mut table = Table::starting_at(case.first_pid);
     for (at, act) in case.acts.iter().enumerate() {
-        assert!(rt; does(&mut table, *act), "{}: act {at}", case.name);
+        expect_row(rt, does(&mut table, *act), case.name, at);
     }
 }
 

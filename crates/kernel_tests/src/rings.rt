@@ -1,5 +1,5 @@
 //! Pipes that are filled, emptied and closed.
-use crate::expected::memory;
+use crate::expected::{expect_case, expect_row, memory};
 use pipe::{End, Pipe};
 use ram::{FrameNo, Ram};
 use std::process::Abort;
@@ -140,12 +140,12 @@ static CASES: [Case; 3] = [
 fn expect(rt: &(impl Abort + AllocGlobal), case: &Case) {
     let mut watched = Watched::new(rt);
     for (at, act) in case.acts.iter().enumerate() {
-        assert!(rt; watched.does(rt, *act), "{}: act {at}", case.name);
+        expect_row(rt, watched.does(rt, *act), case.name, at);
     }
-    assert!(rt;
+    expect_case(
+        rt,
         watched.received.as_slice() == watched.sent.as_slice(),
-        "{}",
-        case.name
+        case.name,
     );
 }
 

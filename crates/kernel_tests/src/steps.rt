@@ -1,5 +1,5 @@
 //! Programs of a few instructions, done one by one.
-use crate::expected::{memory, store_all};
+use crate::expected::{expect_case, expect_row, memory, store_all};
 use hart::Hart;
 use ram::{FrameNo, Ram};
 use std::process::Abort;
@@ -98,19 +98,16 @@ fn expect(rt: &(impl Abort + AllocGlobal), case: &Case) {
     let mut hart = start();
     let mut trans = Plain::new();
     for (at, trap) in case.traps.iter().enumerate() {
-        assert!(rt;
-            hart.step(&mut ram, &mut trans) == *trap,
-            "{}: step {at}",
-            case.name
-        );
+        let is_so = hart.step(&mut ram, &mut trans) == *trap;
+        expect_row(rt, is_so, case.name, at);
     }
     let (frame, at, number) = case.stored;
-    assert!(rt;
+    expect_case(
+        rt,
         has_registers(&hart, case.registers)
             && hart.pc == case.pc
             && has_number(&ram, frame, at, number),
-        "{}",
-        case.name
+        case.name,
     );
 }
 

@@ -1,4 +1,5 @@
 //! An output over writers that take bytes piece by piece, and fail; and what is typed and read.
+use crate::expected::expect_row;
 use console::{Console, Out, OutFault, ROOM, Writer};
 use std::alloc::Global;
 use std::io;
@@ -161,11 +162,7 @@ fn keys_are_echoed_and_read(rt: HostRuntime) {
     for case in &CASES {
         let mut console = Console::new();
         for (at, act) in case.acts.iter().enumerate() {
-            assert!(rt;
-                does(rt.alloc(), &mut console, *act),
-                "{}: act {at}",
-                case.name
-            );
+            expect_row(&rt, does(rt.alloc(), &mut console, *act), case.name, at);
         }
     }
 }

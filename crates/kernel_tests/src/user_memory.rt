@@ -2,7 +2,7 @@
 ghost use Rattle.std.specs.Prelude.{◌≡◌, ◌≤◌, slice_index};
 ghost use Rattle.vm.specs.Space.{IsSpace};
 
-use crate::expected::{all_free, memory};
+use crate::expected::{all_free, expect_case, expect_row, memory};
 use frames::Frames;
 use ram::{FrameNo, Ram};
 use std::marker::Model;
@@ -258,9 +258,9 @@ fn expect(rt: &(impl Abort + AllocGlobal), case: &Case) {
     let mut alone = Alone::new(rt, case.frames);
     for (at, (act, free)) in case.acts.iter().enumerate() {
         let told = (alone.does(*act), alone.free());
-        assert!(rt; told == (true, *free), "{}: act {at}", case.name);
+        expect_row(rt, told == (true, *free), case.name, at);
     }
-    assert!(rt; alone.end() == case.frames, "{}", case.name);
+    expect_case(rt, alone.end() == case.frames, case.name);
 }
 
 #[test]
