@@ -19,28 +19,16 @@ pub fn fail_after(disk: MemDisk, good: u64) -> FailAt<MemDisk>
     FailAt::new(disk, NonZeroU64::MIN.saturating_add(good))
 }
 
-// A disk of three blocks, of which one was written.
-fn written(rt: &(impl Abort + AllocGlobal)) -> MemDisk {
-    let mut disk = zeros(rt, 3 * 1024);
-    assert!(rt; disk.blocks() == 3);
-    assert!(rt; disk.write(1, &[7; 1024]).is_ok());
-    disk
-}
-
 #[test]
 fn reads_what_was_written(rt: HostRuntime) {
-    let mut disk = written(&rt);
+    let mut disk = zeros(&rt, 3 * 1024);
     assert!(rt; disk.blocks() == 3);
-    assert!(rt; disk.read(1) == Ok([7; 1024]));
-}
-
-#[test]
-fn gives_its_bytes(rt: HostRuntime) {
-    let disk = written(&rt);
+    let written = disk.write(1, &[7; 1024]);
+    assert!(rt; disk.blocks() == 3);
+    assert!(rt; written.is_ok() && disk.read(1) == Ok([7; 1024]));
     let bytes = disk.bytes();
-    assert!(rt; bytes.len() == 3072);
+    assert!(rt; bytes.len() == 3072 && disk.as_bytes() == Some(bytes));
     assert!(rt; bytes[1023..1025] == [0, 7] && bytes[2047..2049] == [7, 0]);
-    assert!(rt; disk.as_bytes() == Some(bytes));
     assert!(rt; disk.into_bytes().len() == 3072);
 }
 

@@ -9,9 +9,6 @@ use std::process::Abort;
 /// A byte of an image and what it is set to.
 pub type Change = (usize, u8);
 
-// Changes that are made one list after the other, and what is told of the image then.
-type Told = (&'static [&'static [Change]], Result<Summary, ImageFault>);
-
 /// The first byte of the root's inode.
 pub const ROOT: usize = 2048 + 64;
 
@@ -190,259 +187,401 @@ fn told_within(
     check(&heap, &mut disk)
 }
 
-// Each of these changes, behind the first ones, makes this fault in both formats.
-fn expect_fault(
-    rt: &(impl Abort + AllocGlobal),
-    fault: ImageFault,
-    first: &[Change],
-    rows: &[&[Change]],
-) {
-    for (row, second) in rows.iter().enumerate() {
-        assert!(rt; told_of(rt, &[first, second]) == Err(fault), "row {row}");
-        assert!(rt; told_small(rt, &[first, second]) == Err(fault), "row {row}");
-    }
+// Changes that are made one list after the other, and what is told of the image then: how many inodes and blocks are in use,
+// or what is wrong.
+struct Case {
+    name: &'static str,
+    /// Whether this is told where the image is to have the large format, and the small one.
+    large: bool,
+    small: bool,
+    lists: &'static [&'static [Change]],
+    told: Result<(usize, usize), ImageFault>,
 }
 
-const IN_USE: [Told; 3] = [
-    (
-        &[],
-        Ok(Summary {
-            inodes: 1,
-            blocks: 1,
-        }),
-    ),
-    (
-        &[&FILE, &TWO_BLOCKS],
-        Ok(Summary {
-            inodes: 2,
-            blocks: 3,
-        }),
-    ),
-    (
-        &[&DIRECTORY],
-        Ok(Summary {
-            inodes: 2,
-            blocks: 2,
-        }),
-    ),
-];
-
-#[test]
-fn tells_what_is_in_use(rt: HostRuntime) {
-    for (lists, want) in IN_USE {
-        assert!(rt; told_of(&rt, lists) == want && told_small(&rt, lists) == want);
-    }
-}
-
-// A changed byte, and the fault that it makes in both formats.
-const FAULTS: [(ImageFault, Change); 14] = [
-    (ImageFault::Length, (1028, 33)),
-    (ImageFault::Magic, (1025, 0x31)),
-    (ImageFault::Numbers, (1044, 3)),
-    (ImageFault::NodeType, (ROOT + 64, 4)),
-    (ImageFault::NodeType, (ROOT, 2)),
-    (ImageFault::Size, (ROOT + 8, 33)),
-    (ImageFault::Size, (ROOT + 8, 16)),
-    (ImageFault::Address, (ROOT + 12, 4)),
-    (ImageFault::Address, (ROOT + 12, 32)),
-    (ImageFault::Address, (ROOT + 16, 6)),
-    (ImageFault::Address, (ROOT + 56, 6)),
-    (ImageFault::Address, (ROOT + 60, 6)),
-    (ImageFault::Bitmap, (4096, 0x1f)),
-    (ImageFault::Bitmap, (4099, 0x80)),
-];
-
-#[test]
-fn tells_each_fault(rt: HostRuntime) {
-    for (fault, change) in FAULTS {
-        expect_fault(&rt, fault, &[], &[&[change]]);
-    }
-}
-
-#[test]
-fn knows_one_format(rt: HostRuntime) {
-    assert!(rt; told_of(&rt, &[&[(1024, 0x40)]]) == Err(ImageFault::Magic));
-    assert!(rt; told_small(&rt, &[&[(1024, 0x41)]]) == Err(ImageFault::Magic));
-}
-
-const LARGE_FILES: [Told; 8] = [
-    (
-        &[&FILE, &ELEVEN_BLOCKS],
-        Ok(Summary {
-            inodes: 2,
-            blocks: 12,
-        }),
-    ),
-    (
-        &[&FILE, &ELEVEN_BLOCKS, &TWELFTH],
-        Ok(Summary {
-            inodes: 2,
-            blocks: 14,
-        }),
-    ),
-    // no number stands in the index block
-    (
-        &[&FILE, &ELEVEN_BLOCKS, &OLD_TWELFTH],
-        Err(ImageFault::Address),
-    ),
-    // that of a double index block, and one behind the last one of the single index block
-    (
-        &[&FILE, &ELEVEN_BLOCKS, &TWELFTH, &[(ROOT + 124, 20)]],
-        Err(ImageFault::Address),
-    ),
-    (
-        &[&FILE, &ELEVEN_BLOCKS, &TWELFTH, &[(17 * 1024 + 4, 20)]],
-        Err(ImageFault::Address),
-    ),
-    // one before the data, one that is named already, and one that isn't marked
-    (
-        &[&FILE, &ELEVEN_BLOCKS, &TWELFTH, &[(17 * 1024, 4)]],
-        Err(ImageFault::Address),
-    ),
-    (
-        &[&FILE, &ELEVEN_BLOCKS, &TWELFTH, &[(17 * 1024, 17)]],
-        Err(ImageFault::SharedBlock),
-    ),
-    (
-        &[&FILE, &ELEVEN_BLOCKS, &TWELFTH, &[(4098, 0x05)]],
-        Err(ImageFault::Bitmap),
-    ),
-];
-
-#[test]
-fn tells_of_index_blocks(rt: HostRuntime) {
-    for (row, (lists, want)) in LARGE_FILES.iter().enumerate() {
-        assert!(rt; told_of(&rt, lists) == *want, "row {row}");
-    }
-}
-
-const SMALL_FILES: [Told; 8] = [
-    (
-        &[&FILE, &ELEVEN_BLOCKS],
-        Ok(Summary {
-            inodes: 2,
-            blocks: 12,
-        }),
-    ),
-    (
-        &[&FILE, &ELEVEN_BLOCKS, &OLD_TWELFTH],
-        Ok(Summary {
-            inodes: 2,
-            blocks: 13,
-        }),
-    ),
-    (
-        &[&FILE, &ELEVEN_BLOCKS, &OLD_TWELFTH, &OLD_THIRTEENTH],
-        Ok(Summary {
-            inodes: 2,
-            blocks: 15,
-        }),
-    ),
-    // nothing names the block that is marked
-    (&[&FILE, &ELEVEN_BLOCKS, &TWELFTH], Err(ImageFault::Bitmap)),
-    (
-        &[
+static CASES: [Case; 47] = [
+    Case {
+        name: "the root alone is in use",
+        large: true,
+        small: true,
+        lists: &[],
+        told: Ok((1, 1)),
+    },
+    Case {
+        name: "a file of two blocks is in use",
+        large: true,
+        small: true,
+        lists: &[&FILE, &TWO_BLOCKS],
+        told: Ok((2, 3)),
+    },
+    Case {
+        name: "a directory is in use",
+        large: true,
+        small: true,
+        lists: &[&DIRECTORY],
+        told: Ok((2, 2)),
+    },
+    Case {
+        name: "there are fewer blocks than the super block tells",
+        large: true,
+        small: true,
+        lists: &[&[(1028, 33)]],
+        told: Err(ImageFault::Length),
+    },
+    Case {
+        name: "the magic number is another",
+        large: true,
+        small: true,
+        lists: &[&[(1025, 0x31)]],
+        told: Err(ImageFault::Magic),
+    },
+    Case {
+        name: "the log stands in another place",
+        large: true,
+        small: true,
+        lists: &[&[(1044, 3)]],
+        told: Err(ImageFault::Numbers),
+    },
+    Case {
+        name: "there is no such type",
+        large: true,
+        small: true,
+        lists: &[&[(ROOT + 64, 4)]],
+        told: Err(ImageFault::NodeType),
+    },
+    Case {
+        name: "the root is a file",
+        large: true,
+        small: true,
+        lists: &[&[(ROOT, 2)]],
+        told: Err(ImageFault::NodeType),
+    },
+    Case {
+        name: "a directory has a part of an entry",
+        large: true,
+        small: true,
+        lists: &[&[(ROOT + 8, 33)]],
+        told: Err(ImageFault::Size),
+    },
+    Case {
+        name: "a directory has one entry",
+        large: true,
+        small: true,
+        lists: &[&[(ROOT + 8, 16)]],
+        told: Err(ImageFault::Size),
+    },
+    Case {
+        name: "an address is before the data",
+        large: true,
+        small: true,
+        lists: &[&[(ROOT + 12, 4)]],
+        told: Err(ImageFault::Address),
+    },
+    Case {
+        name: "an address is behind the disk",
+        large: true,
+        small: true,
+        lists: &[&[(ROOT + 12, 32)]],
+        told: Err(ImageFault::Address),
+    },
+    Case {
+        name: "an address is behind the file's end",
+        large: true,
+        small: true,
+        lists: &[&[(ROOT + 16, 6)]],
+        told: Err(ImageFault::Address),
+    },
+    Case {
+        name: "the last but one address is behind the file's end",
+        large: true,
+        small: true,
+        lists: &[&[(ROOT + 56, 6)]],
+        told: Err(ImageFault::Address),
+    },
+    Case {
+        name: "the last address is behind the file's end",
+        large: true,
+        small: true,
+        lists: &[&[(ROOT + 60, 6)]],
+        told: Err(ImageFault::Address),
+    },
+    Case {
+        name: "a block in use is not marked",
+        large: true,
+        small: true,
+        lists: &[&[(4096, 0x1f)]],
+        told: Err(ImageFault::Bitmap),
+    },
+    Case {
+        name: "a block that is not in use is marked",
+        large: true,
+        small: true,
+        lists: &[&[(4099, 0x80)]],
+        told: Err(ImageFault::Bitmap),
+    },
+    Case {
+        name: "the large format is not the small one",
+        large: true,
+        small: false,
+        lists: &[&[(1024, 0x40)]],
+        told: Err(ImageFault::Magic),
+    },
+    Case {
+        name: "the small format is not the large one",
+        large: false,
+        small: true,
+        lists: &[&[(1024, 0x41)]],
+        told: Err(ImageFault::Magic),
+    },
+    Case {
+        name: "eleven blocks need no index block in the large format",
+        large: true,
+        small: false,
+        lists: &[&FILE, &ELEVEN_BLOCKS],
+        told: Ok((2, 12)),
+    },
+    Case {
+        name: "the twelfth block has an index block in the large format",
+        large: true,
+        small: false,
+        lists: &[&FILE, &ELEVEN_BLOCKS, &TWELFTH],
+        told: Ok((2, 14)),
+    },
+    Case {
+        name: "the index block has no number",
+        large: true,
+        small: false,
+        lists: &[&FILE, &ELEVEN_BLOCKS, &OLD_TWELFTH],
+        told: Err(ImageFault::Address),
+    },
+    Case {
+        name: "there is a double index block that is not wanted",
+        large: true,
+        small: false,
+        lists: &[&FILE, &ELEVEN_BLOCKS, &TWELFTH, &[(ROOT + 124, 20)]],
+        told: Err(ImageFault::Address),
+    },
+    Case {
+        name: "a number stands behind the last one of the index block",
+        large: true,
+        small: false,
+        lists: &[&FILE, &ELEVEN_BLOCKS, &TWELFTH, &[(17 * 1024 + 4, 20)]],
+        told: Err(ImageFault::Address),
+    },
+    Case {
+        name: "the index block has a number before the data",
+        large: true,
+        small: false,
+        lists: &[&FILE, &ELEVEN_BLOCKS, &TWELFTH, &[(17 * 1024, 4)]],
+        told: Err(ImageFault::Address),
+    },
+    Case {
+        name: "the index block names a block that is named already",
+        large: true,
+        small: false,
+        lists: &[&FILE, &ELEVEN_BLOCKS, &TWELFTH, &[(17 * 1024, 17)]],
+        told: Err(ImageFault::SharedBlock),
+    },
+    Case {
+        name: "a block of the index block is not marked",
+        large: true,
+        small: false,
+        lists: &[&FILE, &ELEVEN_BLOCKS, &TWELFTH, &[(4098, 0x05)]],
+        told: Err(ImageFault::Bitmap),
+    },
+    Case {
+        name: "eleven blocks need no index block in the small format",
+        large: false,
+        small: true,
+        lists: &[&FILE, &ELEVEN_BLOCKS],
+        told: Ok((2, 12)),
+    },
+    Case {
+        name: "twelve blocks need no index block in the small format",
+        large: false,
+        small: true,
+        lists: &[&FILE, &ELEVEN_BLOCKS, &OLD_TWELFTH],
+        told: Ok((2, 13)),
+    },
+    Case {
+        name: "the thirteenth block has an index block in the small format",
+        large: false,
+        small: true,
+        lists: &[&FILE, &ELEVEN_BLOCKS, &OLD_TWELFTH, &OLD_THIRTEENTH],
+        told: Ok((2, 15)),
+    },
+    Case {
+        name: "nothing names a block that is marked in the small format",
+        large: false,
+        small: true,
+        lists: &[&FILE, &ELEVEN_BLOCKS, &TWELFTH],
+        told: Err(ImageFault::Bitmap),
+    },
+    Case {
+        name: "a number stands behind the last one in the small format",
+        large: false,
+        small: true,
+        lists: &[
             &FILE,
             &ELEVEN_BLOCKS,
             &OLD_TWELFTH,
             &OLD_THIRTEENTH,
             &[(18 * 1024 + 4, 20)],
         ],
-        Err(ImageFault::Address),
-    ),
-    (
-        &[
+        told: Err(ImageFault::Address),
+    },
+    Case {
+        name: "the index block has a number before the data in the small format",
+        large: false,
+        small: true,
+        lists: &[
             &FILE,
             &ELEVEN_BLOCKS,
             &OLD_TWELFTH,
             &OLD_THIRTEENTH,
             &[(18 * 1024, 4)],
         ],
-        Err(ImageFault::Address),
-    ),
-    (
-        &[
+        told: Err(ImageFault::Address),
+    },
+    Case {
+        name: "the index block names itself in the small format",
+        large: false,
+        small: true,
+        lists: &[
             &FILE,
             &ELEVEN_BLOCKS,
             &OLD_TWELFTH,
             &OLD_THIRTEENTH,
             &[(18 * 1024, 18)],
         ],
-        Err(ImageFault::SharedBlock),
-    ),
-    (
-        &[
+        told: Err(ImageFault::SharedBlock),
+    },
+    Case {
+        name: "a block of the index block is not marked in the small format",
+        large: false,
+        small: true,
+        lists: &[
             &FILE,
             &ELEVEN_BLOCKS,
             &OLD_TWELFTH,
             &OLD_THIRTEENTH,
             &[(4098, 0x0b)],
         ],
-        Err(ImageFault::Bitmap),
-    ),
+        told: Err(ImageFault::Bitmap),
+    },
+    Case {
+        name: "a file has a block of the root",
+        large: true,
+        small: true,
+        lists: &[&[(ROOT + 64, 2), (ROOT + 72, 1), (ROOT + 76, 5)]],
+        told: Err(ImageFault::SharedBlock),
+    },
+    Case {
+        name: "the root's \".\" is another",
+        large: true,
+        small: true,
+        lists: &[&DIRECTORY, &[(5120, 2)]],
+        told: Err(ImageFault::Entry),
+    },
+    Case {
+        name: "the root's \"..\" is another",
+        large: true,
+        small: true,
+        lists: &[&DIRECTORY, &[(5136, 2)]],
+        told: Err(ImageFault::Entry),
+    },
+    Case {
+        name: "a directory's \".\" is the root",
+        large: true,
+        small: true,
+        lists: &[&DIRECTORY, &[(6144, 1)]],
+        told: Err(ImageFault::Entry),
+    },
+    Case {
+        name: "a directory's \"..\" is itself",
+        large: true,
+        small: true,
+        lists: &[&DIRECTORY, &[(6160, 2)]],
+        told: Err(ImageFault::Entry),
+    },
+    Case {
+        name: "the root has a name",
+        large: true,
+        small: true,
+        lists: &[&DIRECTORY, &[(5152, 1)]],
+        told: Err(ImageFault::Entry),
+    },
+    Case {
+        name: "a directory has two names",
+        large: true,
+        small: true,
+        lists: &[&DIRECTORY, &[(ROOT + 8, 64), (5168, 2), (5170, b'b')]],
+        told: Err(ImageFault::Entry),
+    },
+    Case {
+        name: "a file has one name and tells two",
+        large: true,
+        small: true,
+        lists: &[&FILE, &[(ROOT + 70, 2)]],
+        told: Err(ImageFault::Links),
+    },
+    Case {
+        name: "a file has no name",
+        large: true,
+        small: true,
+        lists: &[&FILE, &[(ROOT + 8, 32), (ROOT + 70, 0)]],
+        told: Err(ImageFault::Links),
+    },
+    Case {
+        name: "the root tells too few names",
+        large: true,
+        small: true,
+        lists: &[&DIRECTORY, &[(ROOT + 6, 1)]],
+        told: Err(ImageFault::Links),
+    },
+    Case {
+        name: "a directory tells too many names",
+        large: true,
+        small: true,
+        lists: &[&DIRECTORY, &[(ROOT + 70, 2)]],
+        told: Err(ImageFault::Links),
+    },
+    Case {
+        name: "two directories name each other alone",
+        large: true,
+        small: true,
+        lists: &[&ROUND],
+        told: Err(ImageFault::Unreached),
+    },
 ];
 
+// The inodes and the blocks in use.
+fn in_use(told: Result<Summary, ImageFault>) -> Result<(usize, usize), ImageFault> {
+    let summary = told?;
+    Ok((summary.inodes, summary.blocks))
+}
+
+// Whether this is told of the image in each format that it is to have.
+fn is_told(rt: &(impl Abort + AllocGlobal), case: &Case) -> bool {
+    (!case.large || in_use(told_of(rt, case.lists)) == case.told)
+        && (!case.small || in_use(told_small(rt, case.lists)) == case.told)
+}
+
 #[test]
-fn tells_of_index_blocks_in_the_small_format(rt: HostRuntime) {
-    for (row, (lists, want)) in SMALL_FILES.iter().enumerate() {
-        assert!(rt; told_small(&rt, lists) == *want, "row {row}");
+fn tells_what_is_in_use_or_wrong(rt: HostRuntime) {
+    for case in &CASES {
+        assert!(rt; is_told(&rt, case), "{}", case.name);
     }
 }
 
 #[test]
-fn tells_a_shared_block(rt: HostRuntime) {
-    let shared = [(ROOT + 64, 2), (ROOT + 72, 1), (ROOT + 76, 5)];
-    expect_fault(&rt, ImageFault::SharedBlock, &shared, &[&[]]);
-}
-
-#[test]
-fn tells_wrong_entries(rt: HostRuntime) {
-    // "." and ".." of the root and of a directory, a name for the root, and a name that stands twice.
-    expect_fault(
-        &rt,
-        ImageFault::Entry,
-        &DIRECTORY,
-        &[
-            &[(5120, 2)],
-            &[(5136, 2)],
-            &[(6144, 1)],
-            &[(6160, 2)],
-            &[(5152, 1)],
-            &[(ROOT + 8, 64), (5168, 2), (5170, b'b')],
-        ],
-    );
-}
-
-#[test]
-fn tells_wrong_links(rt: HostRuntime) {
-    // A file's count, that of one without a name, and those of the root and of a directory.
-    let file: [&[Change]; 2] = [&[(ROOT + 70, 2)], &[(ROOT + 8, 32), (ROOT + 70, 0)]];
-    expect_fault(&rt, ImageFault::Links, &FILE, &file);
-    let directory: [&[Change]; 2] = [&[(ROOT + 6, 1)], &[(ROOT + 70, 2)]];
-    expect_fault(&rt, ImageFault::Links, &DIRECTORY, &directory);
-}
-
-#[test]
-fn tells_what_is_not_reached(rt: HostRuntime) {
-    expect_fault(&rt, ImageFault::Unreached, &ROUND, &[&[]]);
-}
-
-#[test]
-fn tells_a_short_device(rt: HostRuntime) {
-    let mut disk = zeros(&rt, 1024);
-    assert!(rt; check(rt.alloc(), &mut disk) == Err(ImageFault::Length));
-}
-
-#[test]
-fn tells_a_failed_access(rt: HostRuntime) {
+fn reads_what_is_not_lent(rt: HostRuntime) {
+    let short = check(rt.alloc(), &mut zeros(&rt, 1024));
     let mut flaky = fail_after(zeros(&rt, 2048), 0);
-    assert!(rt; check(rt.alloc(), &mut flaky) == Err(ImageFault::Device) && flaky.has_failed());
-}
-
-#[test]
-fn asks_for_what_is_not_lent(rt: HostRuntime) {
+    let failed = check(rt.alloc(), &mut flaky);
+    assert!(rt; short == Err(ImageFault::Length) && failed == Err(ImageFault::Device));
     let mut disk = disk_of(&rt, 0x41, &[]);
-    assert!(rt; check(rt.alloc(), &mut disk).is_ok() && disk.reads() == 0);
+    let lent = check(rt.alloc(), &mut disk);
+    assert!(rt; flaky.has_failed() && lent.is_ok() && disk.reads() == 0);
     // the super block, and then each of 32 blocks
     for (good, is_told) in [(32, false), (33, true)] {
         let mut flaky = fail_after(disk_of(&rt, 0x41, &[]), good);

@@ -5,46 +5,113 @@ use inode::InodeFault;
 use layout::Geometry;
 use std::process::Abort;
 
-fn expect(rt: &(impl Abort + AllocGlobal), geometry: Geometry, steps: &[Step]) {
-    let wrong = first_wrong(rt.alloc(), geometry, u64::MAX, steps);
-    assert!(rt; wrong == Ok(None), "{wrong:?}");
+// Each step gives what its row says, on a disk of so many blocks and 16 inodes.
+fn expect(rt: &(impl Abort + AllocGlobal), name: &str, size: usize, steps: &[Step]) {
+    match first_wrong(rt.alloc(), Geometry { size, inodes: 16 }, u64::MAX, steps) {
+        Ok(None) => {}
+        Ok(Some(row)) => panic!(rt; "{name}, {size} blocks: step {row}"),
+        Err(_) => panic!(rt; "{name}, {size} blocks: a step failed"),
+    }
 }
 
-// Bytes stand behind a block's end, and a file without bytes keeps its names.
-const WRITTEN: [Step; 7] = [
-    Step::Create(Some(1)),
-    Step::Fill(1, 0, 11 * 1024, 7, Ok(())),
-    Step::Write(1, 11 * 1024 - 1, *b"hello"),
-    Step::Read(1, 11 * 1024 - 3, 7, *b"\x07\x07hello\x01\x01"),
-    Step::Link(1, 2, (2, 1, 11 * 1024 + 4)),
-    Step::Empty(1),
-    Step::Link(1, 3, (2, 2, 0)),
+// Steps on a small disk.
+struct Case {
+    name: &'static str,
+    steps: &'static [Step],
+}
+
+static CASES: [Case; 8] = [
+    // bytes stand behind a block's end, and a file without bytes keeps its names
+    Case {
+        name: "what was written is read",
+        steps: &[
+            Step::Create(Some(1)),
+            Step::Fill(1, 0, 11 * 1024, 7, Ok(())),
+            Step::Write(1, 11 * 1024 - 1, *b"hello"),
+            Step::Read(1, 11 * 1024 - 3, 7, *b"\x07\x07hello\x01\x01"),
+            Step::Link(1, 2, (2, 1, 11 * 1024 + 4)),
+            Step::Empty(1),
+            Step::Link(1, 3, (2, 2, 0)),
+        ],
+    },
+    Case {
+        name: "nothing is written",
+        steps: &[Step::Create(Some(1)), Step::Fill(1, 0, 0, 5, Ok(()))],
+    },
+    Case {
+        name: "a file takes all blocks",
+        steps: &[
+            Step::Create(Some(1)),
+            Step::Fill(1, 0, 26 * 1024, 5, Ok(())),
+        ],
+    },
+    Case {
+        name: "a file is written as far as there are blocks",
+        steps: &[
+            Step::Create(Some(1)),
+            Step::Fill(
+                1,
+                0,
+                27 * 1024,
+                5,
+                Err(InodeFault::Blocks { written: 26 * 1024 }),
+            ),
+        ],
+    },
+    Case {
+        name: "a file has no holes",
+        steps: &[
+            Step::Create(Some(1)),
+            Step::Fill(1, 1, 0, 5, Err(InodeFault::PastEnd)),
+        ],
+    },
+    Case {
+        name: "no file can be so long",
+        steps: &[
+            Step::Create(Some(1)),
+            Step::Fill(1, 0, 67_382_273, 5, Err(InodeFault::TooLong)),
+        ],
+    },
+    Case {
+        name: "the longest file does not fit",
+        steps: &[
+            Step::Create(Some(1)),
+            Step::Fill(
+                1,
+                0,
+                67_382_272,
+                5,
+                Err(InodeFault::Blocks { written: 26 * 1024 }),
+            ),
+        ],
+    },
+    Case {
+        name: "the lowest inode is taken",
+        steps: &[
+            Step::Create(Some(1)),
+            Step::Create(Some(2)),
+            Step::Create(Some(3)),
+            Step::Create(Some(4)),
+            Step::Create(Some(5)),
+            Step::Create(Some(6)),
+            Step::Create(Some(7)),
+            Step::Create(Some(8)),
+            Step::Create(Some(9)),
+            Step::Create(Some(10)),
+            Step::Create(Some(11)),
+            Step::Create(Some(12)),
+            Step::Create(Some(13)),
+            Step::Create(Some(14)),
+            Step::Create(Some(15)),
+            Step::Create(None),
+        ],
+    },
 ];
 
 #[test]
-fn reads_what_was_written(rt: HostRuntime) {
-    expect(&rt, SMALL, &WRITTEN);
-}
-
-#[test]
-fn tells_what_does_not_fit(rt: HostRuntime) {
-    for (at, count, want) in [
-        (0, 0, Ok(())),
-        (0, 26 * 1024, Ok(())),
-        (0, 27 * 1024, Err(InodeFault::Blocks { written: 26 * 1024 })),
-        (1, 0, Err(InodeFault::PastEnd)),
-        (0, 67_382_273, Err(InodeFault::TooLong)),
-        (
-            0,
-            67_382_272,
-            Err(InodeFault::Blocks { written: 26 * 1024 }),
-        ),
-    ] {
-        expect(
-            &rt,
-            SMALL,
-            &[Step::Create(Some(1)), Step::Fill(1, at, count, 5, want)],
-        );
+fn files_are_written_and_read(rt: HostRuntime) {
+    for case in &CASES {
+        expect(&rt, case.name, SMALL.size, case.steps);
     }
 }
 
@@ -91,16 +158,12 @@ const NONE: Result<(), InodeFault> = Err(InodeFault::Blocks { written: 0 });
 #[test]
 fn takes_all_blocks_or_none(rt: HostRuntime) {
     for filled in FILLED {
-        let geometry = Geometry {
-            size: filled.0,
-            inodes: 16,
-        };
-        expect(&rt, geometry, &steps_of(filled));
+        expect(&rt, "all blocks or none", filled.0, &steps_of(filled));
     }
 }
 
 // The longest file, read where its leaves meet and at its end.
-const LONGEST: [Step; 7] = [
+static LONGEST: [Step; 7] = [
     Step::Create(Some(1)),
     Step::Fill(1, 0, 67_382_271, 7, Ok(())),
     Step::Fill(1, 67_382_271, 1, b'x', Ok(())),
@@ -112,20 +175,7 @@ const LONGEST: [Step; 7] = [
 
 #[test]
 fn has_at_most_67382272_bytes(rt: HostRuntime) {
-    let geometry = Geometry {
-        size: 131_072,
-        inodes: 16,
-    };
-    expect(&rt, geometry, &LONGEST);
-}
-
-#[test]
-fn takes_the_lowest_inode(rt: HostRuntime) {
-    let mut steps = [Step::Create(None); 16];
-    for number in 1..16 {
-        steps[number - 1] = Step::Create(Some(number));
-    }
-    expect(&rt, SMALL, &steps);
+    expect(&rt, "the longest file", 131_072, &LONGEST);
 }
 
 // One step of each kind.

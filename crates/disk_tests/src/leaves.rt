@@ -55,69 +55,148 @@ fn told(rt: &(impl Abort + AllocGlobal), image: Vec<u8>) -> Result<Summary, Imag
     check(rt.alloc(), &mut disk)
 }
 
-#[test]
-fn finds_the_block_of_a_leaf(rt: HostRuntime) {
-    let want = Summary {
-        inodes: 2,
-        blocks: 272,
-    };
-    assert!(rt; told(&rt, with_file(&rt, SIZE, BYTES)) == Ok(want));
+// What is put into the image.
+#[derive(Clone, Copy)]
+enum Fault {
+    Nothing,
+    /// A number into a place of an index block.
+    Number(Index, u8, [u8; 2]),
+    /// An index block is not marked.
+    Unmarked(Index),
 }
 
-// An index block, a place of it and a number that is put there, and the fault.
-const NUMBERS: [(Index, u8, [u8; 2], ImageFault); 13] = [
-    // no data block
-    (Index::Single, 255, [0, 0], ImageFault::Address),
-    (Index::Double, 0, [0, 0], ImageFault::Address),
-    (Index::Double, 0, [4, 0], ImageFault::Address),
-    (Index::Double, 0, [0x2c, 1], ImageFault::Address),
-    (Index::Leaf, 0, [0, 0], ImageFault::Address),
-    (Index::Leaf, 0, [4, 0], ImageFault::Address),
-    (Index::Leaf, 0, [0x2c, 1], ImageFault::Address),
-    // none is wanted there
-    (Index::Double, 1, [0x2b, 1], ImageFault::Address),
-    (Index::Double, 255, [0x2b, 1], ImageFault::Address),
-    (Index::Leaf, 1, [0x2b, 1], ImageFault::Address),
-    (Index::Leaf, 255, [0x2b, 1], ImageFault::Address),
-    // the root's
-    (Index::Single, 255, [5, 0], ImageFault::SharedBlock),
-    (Index::Leaf, 0, [5, 0], ImageFault::SharedBlock),
+// What is put into the image, and what is told of it then.
+struct Case {
+    name: &'static str,
+    fault: Fault,
+    told: Result<Summary, ImageFault>,
+}
+
+static CASES: [Case; 17] = [
+    Case {
+        name: "the last block is found through a leaf",
+        fault: Fault::Nothing,
+        told: Ok(Summary {
+            inodes: 2,
+            blocks: 272,
+        }),
+    },
+    Case {
+        name: "the single index block's last number is none",
+        fault: Fault::Number(Index::Single, 255, [0, 0]),
+        told: Err(ImageFault::Address),
+    },
+    Case {
+        name: "the double index block's first number is none",
+        fault: Fault::Number(Index::Double, 0, [0, 0]),
+        told: Err(ImageFault::Address),
+    },
+    Case {
+        name: "the double index block's first number is before the data",
+        fault: Fault::Number(Index::Double, 0, [4, 0]),
+        told: Err(ImageFault::Address),
+    },
+    Case {
+        name: "the double index block's first number is behind the disk",
+        fault: Fault::Number(Index::Double, 0, [0x2c, 1]),
+        told: Err(ImageFault::Address),
+    },
+    Case {
+        name: "the leaf's first number is none",
+        fault: Fault::Number(Index::Leaf, 0, [0, 0]),
+        told: Err(ImageFault::Address),
+    },
+    Case {
+        name: "the leaf's first number is before the data",
+        fault: Fault::Number(Index::Leaf, 0, [4, 0]),
+        told: Err(ImageFault::Address),
+    },
+    Case {
+        name: "the leaf's first number is behind the disk",
+        fault: Fault::Number(Index::Leaf, 0, [0x2c, 1]),
+        told: Err(ImageFault::Address),
+    },
+    Case {
+        name: "the double index block has a second number that is not wanted",
+        fault: Fault::Number(Index::Double, 1, [0x2b, 1]),
+        told: Err(ImageFault::Address),
+    },
+    Case {
+        name: "the double index block has a last number that is not wanted",
+        fault: Fault::Number(Index::Double, 255, [0x2b, 1]),
+        told: Err(ImageFault::Address),
+    },
+    Case {
+        name: "the leaf has a second number that is not wanted",
+        fault: Fault::Number(Index::Leaf, 1, [0x2b, 1]),
+        told: Err(ImageFault::Address),
+    },
+    Case {
+        name: "the leaf has a last number that is not wanted",
+        fault: Fault::Number(Index::Leaf, 255, [0x2b, 1]),
+        told: Err(ImageFault::Address),
+    },
+    Case {
+        name: "the single index block names the root's block",
+        fault: Fault::Number(Index::Single, 255, [5, 0]),
+        told: Err(ImageFault::SharedBlock),
+    },
+    Case {
+        name: "the leaf names the root's block",
+        fault: Fault::Number(Index::Leaf, 0, [5, 0]),
+        told: Err(ImageFault::SharedBlock),
+    },
+    Case {
+        name: "the single index block is not marked",
+        fault: Fault::Unmarked(Index::Single),
+        told: Err(ImageFault::Bitmap),
+    },
+    Case {
+        name: "the double index block is not marked",
+        fault: Fault::Unmarked(Index::Double),
+        told: Err(ImageFault::Bitmap),
+    },
+    Case {
+        name: "the leaf is not marked",
+        fault: Fault::Unmarked(Index::Leaf),
+        told: Err(ImageFault::Bitmap),
+    },
 ];
 
-// The image with this number put there.
-fn spoiled(rt: &(impl Abort + AllocGlobal), index: Index, place: u8, number: [u8; 2]) -> Vec<u8> {
-    let mut image = with_file(rt, SIZE, BYTES);
-    let at = 1024 * block_of(&image, index) + 4 * place as usize;
+// Puts a number into a place of an index block.
+fn put(image: &mut Vec<u8>, index: Index, place: u8, number: [u8; 2]) {
+    let at = 1024 * block_of(image, index) + 4 * place as usize;
     if let Some(byte) = image.get_mut(at) {
         *byte = number[0];
     }
     if let Some(byte) = image.get_mut(at + 1) {
         *byte = number[1];
     }
-    image
 }
 
-#[test]
-fn tells_wrong_numbers(rt: HostRuntime) {
-    for (row, (index, place, number, fault)) in NUMBERS.iter().enumerate() {
-        let image = spoiled(&rt, *index, *place, *number);
-        assert!(rt; told(&rt, image) == Err(*fault), "row {row}");
-    }
-}
-
-// The image with the bit of a block turned.
-fn turned(rt: &(impl Abort + AllocGlobal), index: Index) -> Vec<u8> {
-    let mut image = with_file(rt, SIZE, BYTES);
-    let block = block_of(&image, index);
+// Turns the bit of an index block.
+fn turn(image: &mut Vec<u8>, index: Index) {
+    let block = block_of(image, index);
     if let Some(byte) = image.get_mut(4096 + block / 8) {
         *byte ^= 1 << (block % 8);
     }
+}
+
+// The image with this put into it.
+fn spoiled(rt: &(impl Abort + AllocGlobal), fault: Fault) -> Vec<u8> {
+    let mut image = with_file(rt, SIZE, BYTES);
+    match fault {
+        Fault::Nothing => {}
+        Fault::Number(index, place, number) => put(&mut image, index, place, number),
+        Fault::Unmarked(index) => turn(&mut image, index),
+    }
     image
 }
 
 #[test]
-fn tells_that_an_index_block_is_not_marked(rt: HostRuntime) {
-    for index in [Index::Single, Index::Double, Index::Leaf] {
-        assert!(rt; told(&rt, turned(&rt, index)) == Err(ImageFault::Bitmap));
+fn tells_what_is_wrong_with_index_blocks(rt: HostRuntime) {
+    for case in &CASES {
+        let image = spoiled(&rt, case.fault);
+        assert!(rt; told(&rt, image) == case.told, "{}", case.name);
     }
 }

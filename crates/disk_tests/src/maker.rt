@@ -71,43 +71,109 @@ fn fault_of_files(
 }
 
 // Two files, the bytes of the second, and what is wrong with them.
-const FAULTS: [(&[u8], &[u8], usize, MakeFault); 9] = [
-    (b"bin", b"/a", 0, MakeFault::Name),
-    (b"/", b"/a", 0, MakeFault::Name),
-    (b"/..", b"/a", 0, MakeFault::Name),
-    (b"/a//b", b"/a", 0, MakeFault::Name),
-    (b"/a", b"/a", 0, MakeFault::Twice),
-    (b"/a", b"/a/b", 0, MakeFault::Parent),
-    (b"/a/b", b"/a", 0, MakeFault::Parent),
-    (b"/a", b"/b", 26 * 1024, MakeFault::Blocks),
-    (b"/a", b"/b", 67_382_273, MakeFault::Blocks),
+struct Files {
+    name: &'static str,
+    first: &'static [u8],
+    second: &'static [u8],
+    size: usize,
+    fault: MakeFault,
+}
+
+static FAULTS: [Files; 9] = [
+    Files {
+        name: "a path begins with no slash",
+        first: b"bin",
+        second: b"/a",
+        size: 0,
+        fault: MakeFault::Name,
+    },
+    Files {
+        name: "a path has no name",
+        first: b"/",
+        second: b"/a",
+        size: 0,
+        fault: MakeFault::Name,
+    },
+    Files {
+        name: "a name is that of the parent",
+        first: b"/..",
+        second: b"/a",
+        size: 0,
+        fault: MakeFault::Name,
+    },
+    Files {
+        name: "a name has no bytes",
+        first: b"/a//b",
+        second: b"/a",
+        size: 0,
+        fault: MakeFault::Name,
+    },
+    Files {
+        name: "a path stands twice",
+        first: b"/a",
+        second: b"/a",
+        size: 0,
+        fault: MakeFault::Twice,
+    },
+    Files {
+        name: "a parent is a file",
+        first: b"/a",
+        second: b"/a/b",
+        size: 0,
+        fault: MakeFault::Parent,
+    },
+    Files {
+        name: "a parent comes later",
+        first: b"/a/b",
+        second: b"/a",
+        size: 0,
+        fault: MakeFault::Parent,
+    },
+    Files {
+        name: "there are too few blocks",
+        first: b"/a",
+        second: b"/b",
+        size: 26 * 1024,
+        fault: MakeFault::Blocks,
+    },
+    Files {
+        name: "no file can be so long",
+        first: b"/a",
+        second: b"/b",
+        size: 67_382_273,
+        fault: MakeFault::Blocks,
+    },
 ];
 
 #[test]
 fn tells_each_fault(rt: HostRuntime) {
-    for (first, second, size, fault) in &FAULTS {
-        assert!(rt; fault_of_files(&rt, first, second, *size) == Some(*fault));
+    for files in &FAULTS {
+        let fault = fault_of_files(&rt, files.first, files.second, files.size);
+        assert!(rt; fault == Some(files.fault), "{}", files.name);
     }
 }
 
-#[test]
-fn wants_32_blocks(rt: HostRuntime) {
-    let entries = Vec::new(rt.alloc());
-    let fault = make(rt.alloc(), &Manifest { entries }, 31, 16).err();
-    assert!(rt; fault == Some(MakeFault::Numbers));
-}
-
-// What is wrong with a manifest of directories of these names.
-fn fault_of_directories(rt: &(impl Abort + AllocGlobal), names: &[u8]) -> Option<MakeFault> {
+// What is wrong with a manifest of directories of these names, in so many blocks.
+fn fault_of_directories(
+    rt: &(impl Abort + AllocGlobal),
+    names: &[u8],
+    blocks: u32,
+) -> Option<MakeFault> {
     let mut entries = Vec::new(rt.alloc());
     for name in names {
         add(rt, &mut entries, &[b'/', *name], Thing::Directory);
     }
-    make(rt.alloc(), &Manifest { entries }, 32, 16).err()
+    make(rt.alloc(), &Manifest { entries }, blocks, 16).err()
 }
 
 #[test]
-fn runs_out_of_inodes(rt: HostRuntime) {
-    assert!(rt; fault_of_directories(&rt, b"abcdefghijklmn").is_none());
-    assert!(rt; fault_of_directories(&rt, b"abcdefghijklmno") == Some(MakeFault::Inodes));
+fn wants_blocks_and_inodes(rt: HostRuntime) {
+    for (names, blocks, fault) in [
+        ("", 31, Some(MakeFault::Numbers)),
+        ("abcdefghijklmn", 32, None),
+        ("abcdefghijklmno", 32, Some(MakeFault::Inodes)),
+    ] {
+        let told = fault_of_directories(&rt, names.as_bytes(), blocks);
+        assert!(rt; told == fault, "{blocks} blocks, {names}");
+    }
 }

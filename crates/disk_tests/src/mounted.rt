@@ -1,5 +1,7 @@
 //! The files of an image in use.
 
+ghost use Rattle.mount.specs.Mounted.{IsFlat};
+
 use crate::devices::fail_after;
 use crate::maker::small;
 use blockdev::MemDisk;
@@ -7,7 +9,7 @@ use image::ImageFault;
 use inode::InodeStat;
 use mount::{mount, mount_flat};
 use std::process::Abort;
-use tree::TreeFault;
+use tree::{Tree, TreeFault};
 
 // What is wrong with the small image where an access fails after so many good ones.
 fn fault_after(rt: &(impl Abort + AllocGlobal), good: u64) -> Option<ImageFault> {
@@ -18,8 +20,8 @@ fn fault_after(rt: &(impl Abort + AllocGlobal), good: u64) -> Option<ImageFault>
 #[test]
 fn mounts_a_small_image(rt: HostRuntime) {
     // the super block, 32 blocks, and the super block again
-    assert!(rt; fault_after(&rt, 33) == Some(ImageFault::Device));
-    assert!(rt; fault_after(&rt, 34).is_none());
+    let (early, late) = (fault_after(&rt, 33), fault_after(&rt, 34));
+    assert!(rt; (early, late) == (Some(ImageFault::Device), None));
 }
 
 // What is told of a directory with ".", ".." and "console".
@@ -44,70 +46,72 @@ fn mounts_the_console(rt: HostRuntime) {
     assert!(rt; tree.stat(2) == Ok(CONSOLE));
 }
 
-// What is told of a number.
-fn told_of(rt: &(impl Abort + AllocGlobal), number: usize) -> Option<InodeStat> {
-    let mut tree = mount_flat(rt.alloc()).expect(rt, "memory");
-    tree.look(number).expect(rt, "an access")
+// What is asked of the files of the flat image, and the answer.
+#[derive(Clone, Copy)]
+enum Asked {
+    /// Any number.
+    Look(usize, Option<InodeStat>),
+    /// From a place of any node on these bytes are read, where seven are asked for.
+    Read(usize, usize, &'static [u8]),
+    /// A name is taken away.
+    Unlink(&'static [u8], Result<(), TreeFault>),
 }
 
-#[test]
-fn looks_at_any_number(rt: HostRuntime) {
-    for (number, want) in [
-        (0, None),
-        (1, Some(ROOT)),
-        (2, Some(CONSOLE)),
-        (3, None),
-        (15, None),
-        (16, None),
-        (usize::MAX, None),
-    ] {
-        assert!(rt; told_of(&rt, number) == want, "of {number}");
+static ASKED: [(&str, Asked); 19] = [
+    ("no inode is 0", Asked::Look(0, None)),
+    ("the root is 1", Asked::Look(1, Some(ROOT))),
+    ("the console is 2", Asked::Look(2, Some(CONSOLE))),
+    ("3 is free", Asked::Look(3, None)),
+    ("the last one is free", Asked::Look(15, None)),
+    ("one more is none", Asked::Look(16, None)),
+    ("the greatest number is none", Asked::Look(usize::MAX, None)),
+    ("a name of the root", Asked::Read(1, 34, b"console")),
+    ("its last byte", Asked::Read(1, 47, b"\0")),
+    ("nothing from its end on", Asked::Read(1, 48, b"")),
+    ("nothing of a device", Asked::Read(2, 0, b"")),
+    ("nothing of what is free", Asked::Read(3, 0, b"")),
+    (
+        "nothing of what is none",
+        Asked::Read(usize::MAX, usize::MAX, b""),
+    ),
+    ("a name goes", Asked::Unlink(b"/console", Ok(()))),
+    ("slashes and dots", Asked::Unlink(b".//console/", Ok(()))),
+    ("a dot name", Asked::Unlink(b"/..", Err(TreeFault::DotName))),
+    (
+        "no such name",
+        Asked::Unlink(b"/none", Err(TreeFault::NotFound)),
+    ),
+    (
+        "a name below a device",
+        Asked::Unlink(b"/console/none", Err(TreeFault::NotDir)),
+    ),
+    (
+        "no name at all",
+        Asked::Unlink(b"//", Err(TreeFault::NotFound)),
+    ),
+];
+
+// Whether the files answer so.
+fn is_answer(tree: &mut Tree<MemDisk>, asked: Asked) -> bool
+    requires { IsFlat tree.old }
+{
+    match asked {
+        Asked::Look(number, told) => tree.look(number) == Ok(told),
+        Asked::Read(number, at, bytes) => {
+            let mut out = [0; 7];
+            match tree.read_any(number, at, &mut out) {
+                Ok(count) => out.get(..count) == Some(bytes),
+                Err(_) => false,
+            }
+        }
+        Asked::Unlink(path, told) => tree.unlink(1, path) == told,
     }
 }
 
-// Whether these bytes are read from a place of a node on, where seven are asked for.
-fn reads(rt: &(impl Abort + AllocGlobal), number: usize, at: usize, bytes: &[u8]) -> bool {
-    let mut tree = mount_flat(rt.alloc()).expect(rt, "memory");
-    let mut out = [0; 7];
-    let count = tree.read_any(number, at, &mut out).expect(rt, "an access");
-    out.get(..count) == Some(bytes)
-}
-
-// A number, a place, and what is read.
-const READS: [(usize, usize, &[u8]); 6] = [
-    (1, 34, b"console"),
-    (1, 47, b"\0"),
-    (1, 48, b""),
-    (2, 0, b""),
-    (3, 0, b""),
-    (usize::MAX, usize::MAX, b""),
-];
-
 #[test]
-fn reads_any_number(rt: HostRuntime) {
-    for (number, at, bytes) in READS {
-        assert!(rt; reads(&rt, number, at, bytes), "of {number} from {at}");
-    }
-}
-
-// What comes of taking a name away.
-fn unlinked(rt: &(impl Abort + AllocGlobal), path: &[u8]) -> Result<(), TreeFault> {
-    let mut tree = mount_flat(rt.alloc()).expect(rt, "memory");
-    tree.unlink(1, path)
-}
-
-const UNLINKED: [(&[u8], Result<(), TreeFault>); 6] = [
-    (b"/console", Ok(())),
-    (b".//console/", Ok(())),
-    (b"/..", Err(TreeFault::DotName)),
-    (b"/none", Err(TreeFault::NotFound)),
-    (b"/console/none", Err(TreeFault::NotDir)),
-    (b"//", Err(TreeFault::NotFound)),
-];
-
-#[test]
-fn takes_names_away(rt: HostRuntime) {
-    for (path, want) in UNLINKED {
-        assert!(rt; unlinked(&rt, path) == want);
+fn answers_what_is_asked_of_any_number_and_name(rt: HostRuntime) {
+    for (name, asked) in &ASKED {
+        let mut tree = mount_flat(rt.alloc()).expect(&rt, "memory");
+        assert!(rt; is_answer(&mut tree, *asked), "{name}");
     }
 }

@@ -1,14 +1,14 @@
 //! Names of files in use: a list of steps is walked, and what each gives is compared with what its row says.
 
-ghost use Rattle.std.specs.Prelude.{◌≡◌, ◌≢◌, All, IfOk, IsSome, false};
+ghost use Rattle.std.specs.Prelude.{◌≡◌, ◌≢◌, All, OnOk, false};
 ghost use Rattle.std.specs.Bool.{OnTrue};
+ghost use Rattle.names.specs.Rules.{KeepsTree};
 ghost use Rattle.tree.specs.Tree.{has_failed};
 
 use crate::devices::fail_after;
 use crate::maker::small;
 use blockdev::{FailAt, MemDisk};
 use mount::mount;
-use std::marker::Model;
 use std::process::Abort;
 use tree::{Leaf, Tree, TreeFault};
 
@@ -30,24 +30,8 @@ enum Step<'a> {
     Unlink(&'a [u8], Result<(), TreeFault>),
 }
 
-// Files in use. After a failed access they are of no more use, so each call takes them and gives them back.
-#[derive(Drop)]
-struct Used {
-    tree: Tree<FailAt<MemDisk>>,
-}
-
-impl Model for Used {
-    ghost use Rattle.tree.specs.Tree.{FileTree};
-
-    ghost Value = { FileTree };
-
-    ghost use Rattle.std.specs.Prelude.{◌≡◌, false};
-    ghost use Rattle.names.specs.Rules.{KeepsTree};
-
-    ghost view = { λ u. u.tree };
-
-    ghost invariant = { λ u. (u.tree.failed ≡ false) × KeepsTree u.tree.files };
-}
+// Files in use, whose disk may fail: they are of no more use then.
+type Used = Tree<FailAt<MemDisk>>;
 
 // Whether no byte is 0.
 fn is_plain(path: &[u8]) -> bool
@@ -66,95 +50,111 @@ fn is_lost<T>(told: &Result<T, TreeFault>) -> bool
     }
 }
 
-impl Used {
-    // The files of the small image. One access fails, after so many good ones.
-    fn new(rt: &(impl Abort + AllocGlobal), good: u64) -> Used {
-        let disk = MemDisk::new(small(rt)).expect(rt, "whole blocks");
-        let tree = mount(rt.alloc(), fail_after(disk, good)).expect(rt, "files");
-        Used { tree }
-    }
+// The files of the small image. One access fails, after so many good ones.
+fn used(rt: &(impl Abort + AllocGlobal), good: u64) -> Used
+    ensures up { result.failed ≡ false }
+    ensures rules { KeepsTree result.files }
+{
+    let disk = MemDisk::new(small(rt)).expect(rt, "whole blocks");
+    mount(rt.alloc(), fail_after(disk, good)).expect(rt, "files")
+}
 
-    // Takes a step, and tells whether it gives what its row says.
-    fn walk(self, step: Step) -> Result<(Used, bool), TreeFault> {
-        match step {
-            Step::Find(path, number) => self.find(path, number),
-            Step::File(path, want) => self.file(path, want),
-            Step::Directory(path, want) => self.directory(path, want),
-            Step::Link(old, new, want) => self.link(old, new, want),
-            Step::Unlink(path, want) => self.unlink(path, want),
-        }
-    }
-
-    fn find(self, path: &[u8], want: Option<usize>) -> Result<(Used, bool), TreeFault> {
-        let Used { mut tree } = self;
-        let number = tree.resolve(1, path)?;
-        Ok((Used { tree }, number == want))
-    }
-
-    fn file(self, path: &[u8], want: Result<usize, TreeFault>) -> Result<(Used, bool), TreeFault> {
-        let Used { mut tree } = self;
-        if !is_plain(path) {
-            return Err(TreeFault::Device);
-        }
-        let told = tree.create(1, path, Leaf::File);
-        if is_lost(&told) {
-            return Err(TreeFault::Device);
-        }
-        Ok((Used { tree }, told == want))
-    }
-
-    fn directory(
-        self,
-        path: &[u8],
-        want: Result<(), TreeFault>,
-    ) -> Result<(Used, bool), TreeFault> {
-        let Used { mut tree } = self;
-        if !is_plain(path) {
-            return Err(TreeFault::Device);
-        }
-        let told = tree.create_directory(1, path);
-        if is_lost(&told) {
-            return Err(TreeFault::Device);
-        }
-        Ok((Used { tree }, told == want))
-    }
-
-    fn link(
-        self,
-        old: &[u8],
-        new: &[u8],
-        want: Result<(), TreeFault>,
-    ) -> Result<(Used, bool), TreeFault> {
-        let Used { mut tree } = self;
-        if !is_plain(new) {
-            return Err(TreeFault::Device);
-        }
-        let told = tree.link(1, old, new);
-        if is_lost(&told) {
-            return Err(TreeFault::Device);
-        }
-        Ok((Used { tree }, told == want))
-    }
-
-    fn unlink(self, path: &[u8], want: Result<(), TreeFault>) -> Result<(Used, bool), TreeFault> {
-        let Used { mut tree } = self;
-        let told = tree.unlink(1, path);
-        if is_lost(&told) {
-            return Err(TreeFault::Device);
-        }
-        Ok((Used { tree }, told == want))
+// Takes a step, and tells whether it gives what its row says.
+fn walk(files: &mut Used, step: Step) -> Result<bool, TreeFault>
+    requires up { files.old.failed ≡ false }
+    requires rules { KeepsTree files.old.files }
+    ensures { OnOk result ((files.new.failed ≡ false) × KeepsTree files.new.files) }
+{
+    match step {
+        Step::Find(path, number) => find(files, path, number),
+        Step::File(path, want) => file(files, path, want),
+        Step::Directory(path, want) => directory(files, path, want),
+        Step::Link(old, new, want) => link(files, old, new, want),
+        Step::Unlink(path, want) => unlink(files, path, want),
     }
 }
 
-// The first step that gives anything else than its row says.
-fn first_wrong(used: Used, steps: &[Step]) -> Result<Option<usize>, TreeFault> {
-    let mut files = used;
+fn find(files: &mut Used, path: &[u8], want: Option<usize>) -> Result<bool, TreeFault>
+    requires up { files.old.failed ≡ false }
+    requires rules { KeepsTree files.old.files }
+    ensures { OnOk result ((files.new.failed ≡ false) × KeepsTree files.new.files) }
+{
+    Ok(files.resolve(1, path)? == want)
+}
+
+fn file(files: &mut Used, path: &[u8], want: Result<usize, TreeFault>) -> Result<bool, TreeFault>
+    requires up { files.old.failed ≡ false }
+    requires rules { KeepsTree files.old.files }
+    ensures { OnOk result ((files.new.failed ≡ false) × KeepsTree files.new.files) }
+{
+    if !is_plain(path) {
+        return Ok(false);
+    }
+    let told = files.create(1, path, Leaf::File);
+    if is_lost(&told) {
+        return Err(TreeFault::Device);
+    }
+    Ok(told == want)
+}
+
+fn directory(files: &mut Used, path: &[u8], want: Result<(), TreeFault>) -> Result<bool, TreeFault>
+    requires up { files.old.failed ≡ false }
+    requires rules { KeepsTree files.old.files }
+    ensures { OnOk result ((files.new.failed ≡ false) × KeepsTree files.new.files) }
+{
+    if !is_plain(path) {
+        return Ok(false);
+    }
+    let told = files.create_directory(1, path);
+    if is_lost(&told) {
+        return Err(TreeFault::Device);
+    }
+    Ok(told == want)
+}
+
+fn link(
+    files: &mut Used,
+    old: &[u8],
+    new: &[u8],
+    want: Result<(), TreeFault>,
+) -> Result<bool, TreeFault>
+    requires up { files.old.failed ≡ false }
+    requires rules { KeepsTree files.old.files }
+    ensures { OnOk result ((files.new.failed ≡ false) × KeepsTree files.new.files) }
+{
+    if !is_plain(new) {
+        return Ok(false);
+    }
+    let told = files.link(1, old, new);
+    if is_lost(&told) {
+        return Err(TreeFault::Device);
+    }
+    Ok(told == want)
+}
+
+fn unlink(files: &mut Used, path: &[u8], want: Result<(), TreeFault>) -> Result<bool, TreeFault>
+    requires up { files.old.failed ≡ false }
+    requires rules { KeepsTree files.old.files }
+    ensures { OnOk result ((files.new.failed ≡ false) × KeepsTree files.new.files) }
+{
+    let told = files.unlink(1, path);
+    if is_lost(&told) {
+        return Err(TreeFault::Device);
+    }
+    Ok(told == want)
+}
+
+// The first step that gives anything else than its row says, on the small image. One access fails, after so many good ones.
+fn first_wrong(
+    rt: &(impl Abort + AllocGlobal),
+    good: u64,
+    steps: &[Step],
+) -> Result<Option<usize>, TreeFault> {
+    let mut files = used(rt, good);
     for (row, step) in steps.iter().enumerate() {
-        let (next, fits) = files.walk(*step)?;
-        if !fits {
+        if !walk(&mut files, *step)? {
             return Ok(Some(row));
         }
-        files = next;
     }
     Ok(None)
 }
@@ -175,11 +175,6 @@ const PATHS: [Step<'static>; 12] = [
     Step::Find(b"/abcdefghijklmn", Some(5)),
     Step::File(b"/abcdefghijklmnz", Err(TreeFault::Exists)),
 ];
-
-#[test]
-fn walks_paths(rt: HostRuntime) {
-    assert!(rt; first_wrong(Used::new(&rt, 100_000), &PATHS) == Ok(None));
-}
 
 const MOVES: [Step<'static>; 18] = [
     Step::Directory(b"/d", Ok(())),
@@ -205,7 +200,13 @@ const MOVES: [Step<'static>; 18] = [
 
 #[test]
 fn names_come_and_go(rt: HostRuntime) {
-    assert!(rt; first_wrong(Used::new(&rt, 100_000), &MOVES) == Ok(None));
+    for (name, steps) in [
+        ("paths are walked", PATHS.as_slice()),
+        ("names come and go", MOVES.as_slice()),
+    ] {
+        let wrong = first_wrong(&rt, 100_000, steps);
+        assert!(rt; wrong == Ok(None), "{name}");
+    }
 }
 
 // A name of each kind comes and goes.
@@ -225,9 +226,6 @@ fn each_access_fails_in_turn(rt: HostRuntime) {
         } else {
             Ok(None)
         };
-        assert!(rt;
-            first_wrong(Used::new(&rt, good), &FEW) == want,
-            "after {good}"
-        );
+        assert!(rt; first_wrong(&rt, good, &FEW) == want, "after {good}");
     }
 }

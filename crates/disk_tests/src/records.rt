@@ -21,21 +21,18 @@ const NUMBERS: SuperBlock = SuperBlock {
 };
 
 #[test]
-fn spells_the_smallest_super_block(rt: HostRuntime) {
-    assert!(rt; SuperBlock::from_bytes(&SMALLEST) == Ok(NUMBERS));
-    assert!(rt; NUMBERS.to_bytes() == SMALLEST);
-}
-
-#[test]
 fn refuses_wrong_super_blocks(rt: HostRuntime) {
     let short = SuperBlock::from_bytes(&SMALLEST[1..]);
     assert!(rt; short == Err(LayoutFault::Short));
-    let mut wrong = SMALLEST;
-    wrong[0] = 0x40;
-    assert!(rt; SuperBlock::from_bytes(&wrong) == Err(LayoutFault::Magic));
-    wrong = SMALLEST;
-    wrong[8] = 0x1c;
-    assert!(rt; SuperBlock::from_bytes(&wrong) == Err(LayoutFault::Numbers));
+    for (at, byte, told) in [
+        (0, 0x41, Ok(NUMBERS)),
+        (0, 0x40, Err(LayoutFault::Magic)),
+        (8, 0x1c, Err(LayoutFault::Numbers)),
+    ] {
+        let mut bytes = SMALLEST;
+        bytes[at] = byte;
+        assert!(rt; SuperBlock::from_bytes(&bytes) == told, "{byte:#x} at {at}");
+    }
 }
 
 // The magic numbers of the formats.
@@ -83,14 +80,6 @@ fn wants_numbers_that_fit(rt: HostRuntime) {
     }
 }
 
-#[test]
-fn spells_entries(rt: HostRuntime) {
-    let bytes = Entry::new(b"init", 0x102).to_bytes();
-    assert!(rt; bytes.starts_with(b"\x02\x01init\0"));
-    let entry = Entry::from_bytes(&bytes).expect(&rt, "16 bytes");
-    assert!(rt; entry.name() == b"init".as_slice());
-}
-
 // A file of five bytes, with one name and a block.
 const INODE: [u8; 64] = [
     2, 0, 0, 0, 0, 0, 1, 0, 5, 0, 0, 0, 9, 0, 0, 0, 0, 0, 0, 0, 0, 0, 0, 0, 0, 0, 0, 0, 0, 0, 0, 0,
@@ -98,8 +87,11 @@ const INODE: [u8; 64] = [
 ];
 
 #[test]
-fn spells_inodes(rt: HostRuntime) {
+fn spells_records(rt: HostRuntime) {
+    let bytes = Entry::new(b"init", 0x102).to_bytes();
+    let entry = Entry::from_bytes(&bytes).expect(&rt, "16 bytes");
+    assert!(rt; bytes.starts_with(b"\x02\x01init\0") && entry.name() == b"init".as_slice());
     let inode = DiskInode::from_bytes(&INODE).expect(&rt, "64 bytes");
     assert!(rt; (inode.kind, inode.links, inode.size, inode.addresses[0]) == (2, 1, 5, 9));
-    assert!(rt; inode.to_bytes() == INODE);
+    assert!(rt; inode.to_bytes() == INODE && NUMBERS.to_bytes() == SMALLEST);
 }

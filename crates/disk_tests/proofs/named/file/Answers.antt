@@ -3,13 +3,13 @@ use Rattle.std.specs.Bool.{OnTrue}
 use Rattle.std.specs.Prelude.{All, is_some}
 use Rattle.tree.specs.declared.making.Leaf.TheVariants as leaf
 use Rattle.tree.proofs.Keeping.{acts-keeps, created-changed}
-use Rattle.disk_tests.proofs.named.Used.file.Goals as goal
+use Rattle.disk_tests.proofs.named.file.Goals as goal
 
 pub create-told-requires-clause-directory : goal.create-told-requires-clause-directory
-create-told-requires-clause-directory c = ap is_some c.self.invariant.1.root.here
+create-told-requires-clause-directory c = ap is_some c.requires.rules.root.here
 
-pub invariant_of-result : goal.invariant_of-result
-invariant_of-result c =
+pub returns : goal.returns
+returns c =
     let up = sym c.is_lost.ensures ∙ c.if-is_lost.false in
     let plain = subst (λ b. OnTrue b (All (λ b. b ≢ 0) c.args.path.now)) c.if-not-is_plain.false c.is_plain.ensures in
-    (c.create-told.ensures.failed ∙ up, acts-keeps c.create-told.ensures up c.self.invariant.1 (λ x done. (created-changed c.self.invariant.1 1 c.args.path.now plain leaf.File _ done).tree))
+    (c.create-told.ensures.failed ∙ up, acts-keeps c.create-told.ensures up c.requires.rules (λ x done. (created-changed c.requires.rules 1 c.args.path.now plain leaf.File _ done).tree))

@@ -3,10 +3,10 @@ use Rattle.std.specs.Prelude.{IfOk, flat_map}
 use Rattle.blockdev.specs.Blocks.{blocks_of}
 use Rattle.blockdev.specs.Disk.{count_of}
 use Rattle.mount.specs.Mounted.{IsMounted}
-use Rattle.disk_tests.proofs.named.Used.new.Goals as goal
+use Rattle.disk_tests.proofs.named.used.Goals as goal
 
-pub invariant_of-result : goal.invariant_of-result
-invariant_of-result g c =
+pub returns : goal.returns
+returns g c =
     let disk = c.fail_after.result in
-    let mounted = subst (λ r. IfOk r (IsMounted (flat_map (λ b. b) (blocks_of disk.device.bytes)) (length disk.device.bytes ∷ []) (count_of disk.left 0))) c.expect-tree.ensures c.mount.ensures.mounted in
-    (mounted.up, mounted.rules)
+    let mounted = subst (λ r. IfOk r (IsMounted (flat_map (λ b. b) (blocks_of disk.device.bytes)) (length disk.device.bytes ∷ []) (count_of disk.left 0))) c.expect.ensures c.mount.ensures.mounted in
+    record { up = mounted.up; rules = mounted.rules }
