@@ -198,7 +198,7 @@ struct Case {
     told: Result<(usize, usize), ImageFault>,
 }
 
-static CASES: [Case; 47] = [
+static IN_USE_OR_WRONG: [Case; 19] = [
     Case {
         name: "the root alone is in use",
         large: true,
@@ -332,6 +332,9 @@ static CASES: [Case; 47] = [
         lists: &[&[(1024, 0x41)]],
         told: Err(ImageFault::Magic),
     },
+];
+
+static LARGE_FILES: [Case; 8] = [
     Case {
         name: "eleven blocks need no index block in the large format",
         large: true,
@@ -388,6 +391,9 @@ static CASES: [Case; 47] = [
         lists: &[&FILE, &ELEVEN_BLOCKS, &TWELFTH, &[(4098, 0x05)]],
         told: Err(ImageFault::Bitmap),
     },
+];
+
+static SMALL_FILES: [Case; 8] = [
     Case {
         name: "eleven blocks need no index block in the small format",
         large: false,
@@ -468,6 +474,9 @@ static CASES: [Case; 47] = [
         ],
         told: Err(ImageFault::Bitmap),
     },
+];
+
+static NAMED: [Case; 12] = [
     Case {
         name: "a file has a block of the root",
         large: true,
@@ -566,11 +575,30 @@ fn is_told(rt: &(impl Abort + AllocGlobal), case: &Case) -> bool {
         && (!case.small || in_use(told_small(rt, case.lists)) == case.told)
 }
 
+fn expect(rt: &(impl Abort + AllocGlobal), cases: &[Case]) {
+    for case in cases {
+        assert!(rt; is_told(rt, case), "{}", case.name);
+    }
+}
+
 #[test]
 fn tells_what_is_in_use_or_wrong(rt: HostRuntime) {
-    for case in &CASES {
-        assert!(rt; is_told(&rt, case), "{}", case.name);
-    }
+    expect(&rt, &IN_USE_OR_WRONG);
+}
+
+#[test]
+fn tells_of_index_blocks_in_the_large_format(rt: HostRuntime) {
+    expect(&rt, &LARGE_FILES);
+}
+
+#[test]
+fn tells_of_index_blocks_in_the_small_format(rt: HostRuntime) {
+    expect(&rt, &SMALL_FILES);
+}
+
+#[test]
+fn tells_wrong_names_and_shared_blocks(rt: HostRuntime) {
+    expect(&rt, &NAMED);
 }
 
 #[test]
