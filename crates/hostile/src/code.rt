@@ -1,14 +1,14 @@
 //! Programs that write their own code. Whoever writes over a word, what memory holds is what runs: in many steps at once as in one
 //! event at a time, over each translator.
+ghost use Rattle.std.specs.Prelude.{◌<◌};
+
+use crate::runs::{AnyMachine, KINDS};
 use asm::assemble;
-use blockdev::MemDisk;
 use console::Writer;
-use machine::{Halt, Machine, boot_flat_with};
+use machine::{Halt, boot_flat_with};
 use std::alloc::Global;
-use std::cell::Cell;
 use std::io::sink;
-use sv39::{Plain, Recent, Tlb, Translate};
-use test_translators::{Counting, MOST_PAGES, Noting};
+use test_translators::{Chosen, Counts, Kind};
 use unixmodel::event::Event;
 
 const FRAMES: u32 = 128;
@@ -227,20 +227,15 @@ const ROWS: [Row; 7] = [
 ];
 
 // Gives a machine so many steps.
-fn go<T: Translate>(machine: &mut Machine<MemDisk, T>, steps: u32, way: Way) -> Result<(), Halt> {
-    let mut out = Writer::new(sink());
-    let size = match way {
-        Way::Events => return singly(machine, steps),
-        Way::Pieces(size) => size.max(1),
-    };
-    for _ in 0..steps / size {
-        machine.steps(size, &mut out)?;
+fn go(machine: &mut AnyMachine<'_>, steps: u32, way: Way) -> Result<(), Halt> {
+    match way {
+        Way::Events => singly(machine, steps),
+        Way::Pieces(size) => in_pieces(machine, steps, size.max(1)),
     }
-    machine.steps(steps % size, &mut out)
 }
 
 // Gives a machine so many steps, each as an event.
-fn singly<T: Translate>(machine: &mut Machine<MemDisk, T>, steps: u32) -> Result<(), Halt> {
+fn singly(machine: &mut AnyMachine<'_>, steps: u32) -> Result<(), Halt> {
     let mut out = Writer::new(sink());
     for _ in 0..steps {
         machine.step(Event::Step, &mut out)?;
@@ -248,50 +243,79 @@ fn singly<T: Translate>(machine: &mut Machine<MemDisk, T>, steps: u32) -> Result
     Ok(())
 }
 
-// The digest of a machine after so many steps of a program, and why it stops at the next one.
-fn shown<T: Translate>(
+// Gives a machine so many steps, in pieces of so many.
+fn in_pieces(machine: &mut AnyMachine<'_>, steps: u32, size: u32) -> Result<(), Halt>
+    requires { 0 < size }
+{
+    let mut out = Writer::new(sink());
+    for _ in 0..steps / size {
+        machine.steps(size, &mut out)?;
+    }
+    machine.steps(steps % size, &mut out)
+}
+
+// The digest of a machine after so many steps, and why it stops at the next one.
+fn shown(machine: &mut AnyMachine<'_>, steps: u32, way: Way) -> Option<(u64, Halt)> {
+    go(machine, steps, way).ok()?;
+    let digest = machine.digest().ok()?;
+    let end = go(machine, 1, way).err()?;
+    Some((digest, end))
+}
+
+// The same of a machine that boots a program over a translator of a kind.
+fn shown_over(
     alloc: Global,
     program: &[u8],
-    translator: T,
+    kind: Kind,
     steps: u32,
     way: Way,
 ) -> Option<(u64, Halt)> {
+    let counts = Counts::new();
+    let translator = Chosen::new(alloc, kind, &counts);
     let mut machine = boot_flat_with(alloc, program, translator, FRAMES).ok()?;
-    go(&mut machine, steps, way).ok()?;
-    let digest = machine.digest().ok()?;
-    let end = go(&mut machine, 1, way).err()?;
-    Some((digest, end))
+    shown(&mut machine, steps, way)
 }
 
 // Whether a program shows this in a way over each translator.
 fn shows_over_each(alloc: Global, program: &[u8], steps: u32, way: Way, told: (u64, Halt)) -> bool {
-    let told = Some(told);
-    let (fetches, fences) = (Cell::new(0), Cell::new(0));
-    let counting = Counting::new(&fetches, &fences);
-    let recent = Recent::new(Tlb::<64>::new());
-    shown(alloc, program, Plain::new(), steps, way) == told
-        && shown(alloc, program, Tlb::<64>::new(), steps, way) == told
-        && shown(alloc, program, Recent::new(Plain::new()), steps, way) == told
-        && shown(alloc, program, recent, steps, way) == told
-        && shown(alloc, program, Noting::new(alloc, 0), steps, way) == told
-        && shown(alloc, program, Noting::new(alloc, MOST_PAGES), steps, way) == told
-        && shown(alloc, program, counting, steps, way) == told
+    for kind in &KINDS {
+        if shown_over(alloc, program, *kind, steps, way) != Some(told) {
+            return false;
+        }
+    }
+    true
 }
 
-// Whether a program ends as its row says, in each way over each translator, and has one digest before.
-fn is_right(alloc: Global, row: &Row) -> Option<bool> {
-    let file = assemble(alloc, row.text).ok()?;
-    let program = file.as_slice().get(PROGRAM_AT..)?;
-    let (digest, end) = shown(alloc, program, Plain::new(), row.steps, Way::Events)?;
-    let told = (digest, Halt::InitEnded(row.status));
-    let same = WAYS.iter().all(|way| shows_over_each(alloc, program, row.steps, *way, told));
-    Some(same && end == told.1)
+// Whether a program ends so in each way over each translator, and has one digest before.
+fn ends_by_each(alloc: Global, program: &[u8], steps: u32, end: Halt) -> bool {
+    let Some(told) = shown_over(alloc, program, Kind::Plain, steps, Way::Events) else {
+        return false;
+    };
+    for way in &WAYS {
+        if !shows_over_each(alloc, program, steps, *way, told) {
+            return false;
+        }
+    }
+    told.1 == end
+}
+
+// Whether a program ends as its row says.
+fn is_right(alloc: Global, row: &Row) -> bool {
+    let Ok(file) = assemble(alloc, row.text) else {
+        return false;
+    };
+    match file.as_slice().get(PROGRAM_AT..) {
+        Some(program) => ends_by_each(alloc, program, row.steps, Halt::InitEnded(row.status)),
+        None => false,
+    }
 }
 
 /// The first program that ends in another way than its row says.
 pub fn wrong(alloc: Global) -> Option<u64> {
-    let place = ROWS
-        .iter()
-        .position(|row| is_right(alloc, row) != Some(true))?;
-    Some(place as u64)
+    for (place, row) in ROWS.iter().enumerate() {
+        if !is_right(alloc, row) {
+            return Some(place as u64);
+        }
+    }
+    None
 }

@@ -1,12 +1,12 @@
 //! Images, and what is told of them: by the check, by a plain reading of the rules, and by a boot. And images of which parts name
 //! themselves.
 use crate::rules::{LARGE, Rules, SMALL, judge};
+use crate::runs::plain;
 use blockdev::MemDisk;
 use image::{ImageFault, Summary, check, check1};
 use machine::{BootFault, boot};
 use mount::flat_image;
 use std::alloc::Global;
-use sv39::Plain;
 
 /// A format of images.
 #[derive(Clone, Copy, PartialEq)]
@@ -51,7 +51,7 @@ fn told(alloc: Global, image: &[u8], format: Format) -> Option<Told> {
 // Why a machine doesn't boot from an image.
 fn refusal(alloc: Global, image: &[u8]) -> Option<BootFault> {
     let disk = disk_of(alloc, image)?;
-    boot(alloc, disk, Plain::new(), 64).err()
+    boot(alloc, disk, plain(), 64).err()
 }
 
 // Whether a boot from an image without `/init` fails by what is told of it.
@@ -245,13 +245,20 @@ fn told_of(alloc: Global, row: &Row, format: Format) -> Option<Told> {
 
 // Whether what is told in each format is what the row says.
 fn is_right(alloc: Global, row: &Row) -> bool {
-    row.formats
-        .iter()
-        .all(|format| told_of(alloc, row, *format) == Some(row.told))
+    for format in row.formats {
+        if told_of(alloc, row, *format) != Some(row.told) {
+            return false;
+        }
+    }
+    true
 }
 
 /// The first image of which something else is told than its row says.
 pub fn wrong(alloc: Global) -> Option<u64> {
-    let place = ROWS.iter().position(|row| !is_right(alloc, row))?;
-    Some(place as u64)
+    for (place, row) in ROWS.iter().enumerate() {
+        if !is_right(alloc, row) {
+            return Some(place as u64);
+        }
+    }
+    None
 }

@@ -1,11 +1,11 @@
 //! Program files with odd numbers in their headers, as `/init` and by the call exec.
+use crate::runs::{AnyMachine, plain};
 use asm::assemble;
 use blockdev::MemDisk;
 use console::Writer;
 use image::{Entry, Manifest, Thing, make};
-use machine::{BootFault, Halt, Machine, boot};
+use machine::{BootFault, Halt, boot};
 use std::alloc::{AllocError, Global};
-use sv39::Plain;
 use unixmodel::event::Event;
 
 const INIT: &[u8] = b"/init";
@@ -100,17 +100,14 @@ fn entry(alloc: Global, path: &[u8], bytes: Vec<u8>) -> Option<Entry> {
 }
 
 // A machine over a disk with these files.
-fn booted(
-    alloc: Global,
-    entries: Vec<Entry>,
-) -> Option<Result<Machine<MemDisk, Plain>, BootFault>> {
+fn booted(alloc: Global, entries: Vec<Entry>) -> Option<Result<AnyMachine<'static>, BootFault>> {
     let image = make(alloc, &Manifest { entries }, 32, 16).ok()?;
     let disk = MemDisk::new(image).ok()?;
-    Some(boot(alloc, disk, Plain::new(), 64))
+    Some(boot(alloc, disk, plain(), 64))
 }
 
 // A machine whose `/init` executes the file.
-fn calling(alloc: Global, odd: &Odd) -> Option<Machine<MemDisk, Plain>> {
+fn calling(alloc: Global, odd: &Odd) -> Option<AnyMachine<'static>> {
     let init = entry(alloc, INIT, assemble(alloc, CALLER).ok()?)?;
     let file = entry(alloc, b"/odd", odd.bytes(alloc).ok()?)?;
     let entries = Vec::from_array(alloc, [init, file]).ok()?;
@@ -118,20 +115,20 @@ fn calling(alloc: Global, odd: &Odd) -> Option<Machine<MemDisk, Plain>> {
 }
 
 // A machine whose `/init` is the file.
-fn beginning(alloc: Global, odd: &Odd) -> Option<Result<Machine<MemDisk, Plain>, BootFault>> {
+fn beginning(alloc: Global, odd: &Odd) -> Option<Result<AnyMachine<'static>, BootFault>> {
     let init = entry(alloc, INIT, odd.bytes(alloc).ok()?)?;
     let entries = Vec::from_array(alloc, [init]).ok()?;
     booted(alloc, entries)
 }
 
 // A hundred steps.
-fn run_on(alloc: Global, machine: &mut Machine<MemDisk, Plain>) -> Result<(), Halt> {
+fn run_on(alloc: Global, machine: &mut AnyMachine<'static>) -> Result<(), Halt> {
     let mut out = Writer::new(Vec::new(alloc));
     machine.run(&[Event::Step; 100], &mut out)
 }
 
 // Whether process 1 ends at address 0, in a program of so many bytes.
-fn ends_at_0(alloc: Global, machine: &mut Machine<MemDisk, Plain>, size: u64) -> bool {
+fn ends_at_0(alloc: Global, machine: &mut AnyMachine<'static>, size: u64) -> bool {
     let done = run_on(alloc, machine);
     match machine.inspect(1) {
         Some(seen) => done == Err(Halt::InitEnded(-1)) && seen.pc == 0 && seen.size == size,
@@ -140,7 +137,7 @@ fn ends_at_0(alloc: Global, machine: &mut Machine<MemDisk, Plain>, size: u64) ->
 }
 
 // Whether exec answers -1, takes no frame, and the program goes on.
-fn refuses(alloc: Global, machine: &mut Machine<MemDisk, Plain>) -> bool {
+fn refuses(alloc: Global, machine: &mut AnyMachine<'static>) -> bool {
     let free = machine.free_frames();
     let done = run_on(alloc, machine);
     match machine.inspect(1) {
@@ -156,26 +153,38 @@ fn refuses(alloc: Global, machine: &mut Machine<MemDisk, Plain>) -> bool {
 
 // Whether exec executes or refuses the file as its row says.
 fn is_executed(alloc: Global, odd: &Odd) -> bool {
-    match (calling(alloc, odd), odd.becomes) {
-        (Some(mut machine), Some(size)) => ends_at_0(alloc, &mut machine, size),
-        (Some(mut machine), None) => refuses(alloc, &mut machine),
-        (None, _) => false,
+    let Some(mut machine) = calling(alloc, odd) else {
+        return false;
+    };
+    match odd.becomes {
+        Some(size) => ends_at_0(alloc, &mut machine, size),
+        None => refuses(alloc, &mut machine),
+    }
+}
+
+// Whether a machine that booted the file does as its row says.
+fn is_begun(alloc: Global, machine: &mut AnyMachine<'static>, odd: &Odd) -> bool {
+    match odd.becomes {
+        Some(size) => ends_at_0(alloc, machine, size),
+        None => false,
     }
 }
 
 // Whether a boot executes or refuses it.
 fn is_booted(alloc: Global, odd: &Odd) -> bool {
-    match (beginning(alloc, odd), odd.becomes) {
-        (Some(Ok(mut machine)), Some(size)) => ends_at_0(alloc, &mut machine, size),
-        (Some(Err(fault)), None) => fault == BootFault::NoInit,
-        _ => false,
+    match beginning(alloc, odd) {
+        Some(Ok(mut machine)) => is_begun(alloc, &mut machine, odd),
+        Some(Err(fault)) => fault == BootFault::NoInit && odd.becomes.is_none(),
+        None => false,
     }
 }
 
 /// The first file that is executed or refused in another way than its row says.
 pub fn wrong(alloc: Global) -> Option<u64> {
-    let place = ROWS
-        .iter()
-        .position(|odd| !is_executed(alloc, odd) || !is_booted(alloc, odd))?;
-    Some(place as u64)
+    for (place, odd) in ROWS.iter().enumerate() {
+        if !is_executed(alloc, odd) || !is_booted(alloc, odd) {
+            return Some(place as u64);
+        }
+    }
+    None
 }

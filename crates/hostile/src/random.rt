@@ -1,5 +1,5 @@
 //! Programs of random words. Nearly all of them end at their first instruction.
-use crate::runs::run_over_each;
+use crate::runs::{Input, run_over_each};
 use std::alloc::{AllocError, Global};
 
 const WORDS: usize = 1024;
@@ -19,13 +19,19 @@ fn program(alloc: Global, seed: u64) -> Result<Vec<u8>, AllocError> {
 
 // Whether the program of a seed does the same over each translator.
 fn does_the_same(alloc: Global, seed: u64) -> bool {
-    match program(alloc, seed) {
-        Ok(program) => run_over_each(alloc, program.as_slice(), b"").is_some(),
-        Err(_) => false,
-    }
+    let Ok(program) = program(alloc, seed) else {
+        return false;
+    };
+    let program = program.as_slice();
+    run_over_each(alloc, Input { program, keys: b"" }).is_some()
 }
 
 /// The first of these seeds whose program doesn't do the same over each translator.
 pub fn wrong(alloc: Global, from: u64, to: u64) -> Option<u64> {
-    (from..=to).find(|seed| !does_the_same(alloc, *seed))
+    for seed in from..=to {
+        if !does_the_same(alloc, seed) {
+            return Some(seed);
+        }
+    }
+    None
 }

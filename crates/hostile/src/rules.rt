@@ -75,6 +75,21 @@ fn word(bytes: &[u8], at: usize) -> u32 {
     }
 }
 
+// Whether there are only zeros, as in a free place of a directory or behind a name.
+fn is_zero(bytes: &[u8]) -> bool {
+    [0; 16].starts_with(bytes)
+}
+
+// How many bytes come before the first zero.
+fn name_length(name: &[u8]) -> usize {
+    for (place, byte) in name.iter().enumerate() {
+        if *byte == 0 {
+            return place;
+        }
+    }
+    name.len()
+}
+
 // A place of a directory.
 #[derive(Clone, Copy)]
 struct Place<'a> {
@@ -98,23 +113,23 @@ impl Place<'_> {
     }
 
     fn is_free(&self) -> bool {
-        self.bytes.iter().all(|byte| *byte == 0)
+        is_zero(self.bytes)
     }
 
     // Whether it has this name and names this number.
     fn is(&self, name: &[u8], number: u32) -> bool {
         match self.name().strip_prefix(name) {
-            Some(rest) => rest.iter().all(|byte| *byte == 0) && self.number() == number,
+            Some(rest) => is_zero(rest) && self.number() == number,
             None => false,
         }
     }
 
     // Whether its name is one: not empty, without a slash, without a byte behind a zero, and neither "." nor "..".
     fn has_name(&self) -> bool {
-        let name = self.name();
-        let end = name.iter().position(|byte| *byte == 0).unwrap_or(14);
-        let (name, rest) = (part(name, 0, end), part(name, end, 14 - end.min(14)));
-        rest.iter().all(|byte| *byte == 0)
+        let all = self.name();
+        let length = name_length(all);
+        let name = part(all, 0, length);
+        is_zero(all.get(length..).unwrap_or(&[]))
             && !name.contains(&b'/')
             && !matches!(name, b"" | b"." | b"..")
     }
@@ -129,14 +144,22 @@ impl Place<'_> {
         self.is_naming() && self.number() == number
     }
 
+    // Whether another place of its directory has its name.
+    fn is_twin(&self, other: &Place<'_>) -> bool {
+        other.holder == self.holder
+            && other.index != self.index
+            && !other.is_free()
+            && other.name() == self.name()
+    }
+
     // Whether no other place of its directory has its name.
     fn is_alone(&self, places: &[Place<'_>]) -> bool {
-        places.iter().all(|other| {
-            other.holder != self.holder
-                || other.index == self.index
-                || other.is_free()
-                || other.name() != self.name()
-        })
+        for other in places {
+            if self.is_twin(other) {
+                return false;
+            }
+        }
+        true
     }
 }
 
@@ -219,7 +242,12 @@ impl<'a> Picture<'a> {
 
     // Rule 4.
     fn has_kinds(&self) -> bool {
-        (1..self.inodes).all(|number| self.kind(number) <= DEVICE) && self.kind(1) == DIRECTORY
+        for number in 1..self.inodes {
+            if self.kind(number) > DEVICE {
+                return false;
+            }
+        }
+        self.kind(1) == DIRECTORY
     }
 
     // Rule 8 of an inode.
@@ -233,17 +261,33 @@ impl<'a> Picture<'a> {
         }
     }
 
-    // Rule 5 of a row of numbers: so many of the first ones name data blocks, which are noted, and the others are 0.
+    // Rule 8.
+    fn has_lengths(&self) -> bool {
+        for number in 1..self.inodes {
+            if !self.has_length(number) {
+                return false;
+            }
+        }
+        true
+    }
+
+    // Rule 5 of a number: one that is used names a data block, and any other is 0.
+    fn is_address(&self, number: u32, is_used: bool) -> bool {
+        if is_used {
+            self.data <= number && number < self.size
+        } else {
+            number == 0
+        }
+    }
+
+    // Rule 5 of a row of numbers, of which so many are used: those are noted.
     fn note(&self, row: &[u8], used: usize, named: &mut Vec<u32>) -> Result<(), ImageFault> {
         for (place, bytes) in row.chunks_exact(4).enumerate() {
-            let number = word(bytes, 0);
-            if place >= used {
-                if number != 0 {
-                    return Err(ImageFault::Address);
-                }
-            } else if number < self.data || number >= self.size {
+            let (number, is_used) = (word(bytes, 0), place < used);
+            if !self.is_address(number, is_used) {
                 return Err(ImageFault::Address);
-            } else {
+            }
+            if is_used {
                 add(named, number)?;
             }
         }
@@ -306,6 +350,16 @@ impl<'a> Picture<'a> {
         is_marked == (block < self.data || named.contains(&block))
     }
 
+    // Rule 7.
+    fn has_bitmap(&self, named: &[u32]) -> bool {
+        for block in 0..self.size {
+            if !self.is_marked_rightly(block, named) {
+                return false;
+            }
+        }
+        true
+    }
+
     // The number of a directory's data block.
     fn data_block(&self, number: u32, block: u32) -> u32 {
         let numbers = self.numbers(number);
@@ -359,9 +413,29 @@ impl<'a> Picture<'a> {
         }
     }
 
+    // Rule 9 of all places.
+    fn has_good_places(&self, places: &[Place<'_>]) -> bool {
+        for place in places {
+            if !self.is_good(place, places) {
+                return false;
+            }
+        }
+        true
+    }
+
     // Rule 9 of an inode: a directory but the root is named once, and the root never.
     fn is_named_rightly(&self, number: u32, places: &[Place<'_>]) -> bool {
         self.kind(number) != DIRECTORY || times(number, places) == usize::from(number != 1)
+    }
+
+    // Rule 9 of all inodes.
+    fn has_good_names(&self, places: &[Place<'_>]) -> bool {
+        for number in 1..self.inodes {
+            if !self.is_named_rightly(number, places) {
+                return false;
+            }
+        }
+        true
     }
 
     // Rule 10 of an inode.
@@ -374,16 +448,29 @@ impl<'a> Picture<'a> {
         }
     }
 
+    // Rule 10.
+    fn has_all_links(&self, places: &[Place<'_>]) -> bool {
+        for number in 1..self.inodes {
+            if !self.has_links(number, places) {
+                return false;
+            }
+        }
+        true
+    }
+
+    // Whether a place names a directory.
+    fn is_naming_directory(&self, place: &Place<'_>) -> bool {
+        place.is_naming() && self.kind(place.number()) == DIRECTORY
+    }
+
     // How many directories a directory has.
     fn directories(&self, number: u32, places: &[Place<'_>]) -> usize {
-        places
-            .iter()
-            .filter(|place| {
-                place.holder == number
-                    && place.is_naming()
-                    && self.kind(place.number()) == DIRECTORY
-            })
-            .count()
+        let mut count = 0_usize;
+        for place in places {
+            let is_one = place.holder == number && self.is_naming_directory(place);
+            count = count.saturating_add(usize::from(is_one));
+        }
+        count
     }
 
     // The rules 4 and 8.
@@ -391,7 +478,7 @@ impl<'a> Picture<'a> {
         if !self.has_kinds() {
             return Err(ImageFault::NodeType);
         }
-        if !(1..self.inodes).all(|number| self.has_length(number)) {
+        if !self.has_lengths() {
             return Err(ImageFault::Size);
         }
         Ok(())
@@ -402,48 +489,72 @@ impl<'a> Picture<'a> {
         if !is_named_once(named) {
             return Err(ImageFault::SharedBlock);
         }
-        if !(0..self.size).all(|block| self.is_marked_rightly(block, named)) {
+        if !self.has_bitmap(named) {
             return Err(ImageFault::Bitmap);
         }
         Ok(())
     }
 
+    // The rules 5 to 7: how many blocks inodes name.
+    fn blocks_in_use(&self, alloc: Global) -> Result<usize, ImageFault> {
+        let named = self.named(alloc)?;
+        self.test_blocks(named.as_slice())?;
+        Ok(named.len())
+    }
+
     // Rule 9.
     fn test_places(&self, places: &[Place<'_>]) -> Result<(), ImageFault> {
-        if places.iter().all(|place| self.is_good(place, places))
-            && (1..self.inodes).all(|number| self.is_named_rightly(number, places))
-        {
-            return Ok(());
+        if !self.has_good_places(places) || !self.has_good_names(places) {
+            return Err(ImageFault::Entry);
         }
-        Err(ImageFault::Entry)
+        Ok(())
     }
 
     // The rules 10 and 11.
     fn test_counts(&self, alloc: Global, places: &[Place<'_>]) -> Result<(), ImageFault> {
-        if !(1..self.inodes).all(|number| self.has_links(number, places)) {
+        if !self.has_all_links(places) {
             return Err(ImageFault::Links);
         }
-        if !self.reaches_all(alloc, places)? {
+        let mut reached = vec![in alloc; false; self.inodes as usize]?;
+        if !self.reaches_all(places, reached.as_mut_slice()) {
             return Err(ImageFault::Unreached);
         }
         Ok(())
     }
 
-    // Whether all inodes in use are among those that are reached.
-    fn has_reached(&self, reached: &[bool]) -> bool {
-        (1..self.inodes).all(|number| {
-            self.kind(number) == 0 || reached.get(number as usize).copied().unwrap_or(false)
-        })
+    // The rules 9 to 11.
+    fn test_names(&self, alloc: Global) -> Result<(), ImageFault> {
+        let places = self.places(alloc)?;
+        self.test_places(places.as_slice())?;
+        self.test_counts(alloc, places.as_slice())
     }
 
-    // Rule 11.
-    fn reaches_all(&self, alloc: Global, places: &[Place<'_>]) -> Result<bool, AllocError> {
-        let mut reached = vec![in alloc; false; self.inodes as usize]?;
-        reach(1, reached.as_mut_slice());
-        for _ in 1..self.inodes {
-            reach_on(places, reached.as_mut_slice());
+    // Whether all inodes in use are among those that are reached.
+    fn has_reached(&self, reached: &[bool]) -> bool {
+        for number in 1..self.inodes {
+            if self.kind(number) != 0 && !is_reached(number, reached) {
+                return false;
+            }
         }
-        Ok(self.has_reached(reached.as_slice()))
+        true
+    }
+
+    // Rule 11, where nothing was reached yet.
+    fn reaches_all(&self, places: &[Place<'_>], reached: &mut [bool]) -> bool {
+        reach(1, reached);
+        for _ in 1..self.inodes {
+            reach_on(places, reached);
+        }
+        self.has_reached(reached)
+    }
+
+    // How many inodes are in use.
+    fn inodes_in_use(&self) -> usize {
+        let mut count = 0_usize;
+        for number in 1..self.inodes {
+            count = count.saturating_add(usize::from(self.is_in_use(number)));
+        }
+        count
     }
 }
 
@@ -466,7 +577,11 @@ fn is_named_once(named: &[u32]) -> bool {
 
 // How many places name an inode.
 fn times(number: u32, places: &[Place<'_>]) -> usize {
-    places.iter().filter(|place| place.names(number)).count()
+    let mut count = 0_usize;
+    for place in places {
+        count = count.saturating_add(usize::from(place.names(number)));
+    }
+    count
 }
 
 // The number of the directory that names this one, and the root's own for the root.
@@ -474,10 +589,12 @@ fn parent(number: u32, places: &[Place<'_>]) -> u32 {
     if number == 1 {
         return 1;
     }
-    match places.iter().find(|place| place.names(number)) {
-        Some(place) => place.holder,
-        None => 0,
+    for place in places {
+        if place.names(number) {
+            return place.holder;
+        }
     }
+    0
 }
 
 // An inode is reached.
@@ -487,10 +604,15 @@ fn reach(number: u32, reached: &mut [bool]) {
     }
 }
 
+// Whether an inode is reached.
+fn is_reached(number: u32, reached: &[bool]) -> bool {
+    reached.get(number as usize) == Some(&true)
+}
+
 // What a place of a directory names that is reached is reached too.
 fn reach_on(places: &[Place<'_>], reached: &mut [bool]) {
     for place in places {
-        if place.is_naming() && reached.get(place.holder as usize) == Some(&true) {
+        if place.is_naming() && is_reached(place.holder, reached) {
             reach(place.number(), reached);
         }
     }
@@ -500,16 +622,10 @@ fn reach_on(places: &[Place<'_>], reached: &mut [bool]) {
 pub fn judge(alloc: Global, bytes: &[u8], rules: &Rules) -> Result<Summary, ImageFault> {
     let picture = Picture::new(bytes, rules)?;
     picture.test_inodes()?;
-    let named = picture.named(alloc)?;
-    picture.test_blocks(named.as_slice())?;
-    let places = picture.places(alloc)?;
-    picture.test_places(places.as_slice())?;
-    picture.test_counts(alloc, places.as_slice())?;
-    let inodes = (1..picture.inodes)
-        .filter(|number| picture.is_in_use(*number))
-        .count();
+    let blocks = picture.blocks_in_use(alloc)?;
+    picture.test_names(alloc)?;
     Ok(Summary {
-        inodes,
-        blocks: named.len(),
+        inodes: picture.inodes_in_use(),
+        blocks,
     })
 }
