@@ -115,7 +115,7 @@ word:   addi s2, zero, 2
 other:  addi a0, zero, 3
 ";
 
-const ROWS: [Row; 3] = [
+static ROWS: [Row; 3] = [
     Row {
         text: HIGH_NUMBER,
         keys: b"",

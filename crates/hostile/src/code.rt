@@ -2,7 +2,7 @@
 //! event at a time, over each translator.
 ghost use Rattle.std.specs.Prelude.{◌<◌};
 
-use crate::runs::{AnyMachine, KINDS};
+use crate::runs::{AnyMachine, KINDS, let_go};
 use asm::assemble;
 use console::Writer;
 use machine::{Halt, boot_flat_with};
@@ -32,7 +32,7 @@ enum Way {
     Pieces(u32),
 }
 
-const WAYS: [Way; 4] = [
+static WAYS: [Way; 4] = [
     Way::Events,
     Way::Pieces(1),
     Way::Pieces(7),
@@ -188,7 +188,7 @@ place:  addi a0, a0, 0
         .zero 262144
 ";
 
-const ROWS: [Row; 7] = [
+static ROWS: [Row; 7] = [
     Row {
         text: NEXT,
         steps: 19,
@@ -272,8 +272,14 @@ fn shown_over(
 ) -> Option<(u64, Halt)> {
     let counts = Counts::new();
     let translator = Chosen::new(alloc, kind, &counts);
-    let mut machine = boot_flat_with(alloc, program, translator, FRAMES).ok()?;
-    shown(&mut machine, steps, way)
+    match boot_flat_with(alloc, program, translator, FRAMES) {
+        Ok(mut machine) => {
+            let shown = shown(&mut machine, steps, way);
+            let_go(machine);
+            shown
+        }
+        Err(_) => None,
+    }
 }
 
 // Whether a program shows this in a way over each translator.

@@ -1,7 +1,7 @@
 //! Images, and what is told of them: by the check, by a plain reading of the rules, and by a boot. And images of which parts name
 //! themselves.
 use crate::rules::{LARGE, Rules, SMALL, judge};
-use crate::runs::plain;
+use crate::runs::{let_go, plain};
 use blockdev::MemDisk;
 use image::{ImageFault, Summary, check, check1};
 use machine::{BootFault, boot};
@@ -25,6 +25,14 @@ pub type Told = Result<Summary, ImageFault>;
 pub type Change = (usize, &'static [u8]);
 
 impl Format {
+    // The first byte of its super block.
+    fn magic(self) -> &'static [u8] {
+        match self {
+            Format::Small => &[0x40],
+            Format::Large => &[0x41],
+        }
+    }
+
     fn rules(self) -> &'static Rules {
         match self {
             Format::Small => &SMALL,
@@ -51,7 +59,13 @@ fn told(alloc: Global, image: &[u8], format: Format) -> Option<Told> {
 // Why a machine doesn't boot from an image.
 fn refusal(alloc: Global, image: &[u8]) -> Option<BootFault> {
     let disk = disk_of(alloc, image)?;
-    boot(alloc, disk, plain(), 64).err()
+    match boot(alloc, disk, plain(), 64) {
+        Ok(machine) => {
+            let_go(machine);
+            None
+        }
+        Err(fault) => Some(fault),
+    }
 }
 
 // Whether a boot from an image without `/init` fails by what is told of it.
@@ -88,11 +102,10 @@ fn put(image: &mut [u8], change: &Change) {
 /// The image of a machine without a disk in a format, with these changes. It has 32 blocks, of which block 5 is the root's, and two
 /// inodes: the root, and the console that it names.
 pub fn changed(alloc: Global, format: Format, changes: &[Change]) -> Option<Vec<u8>> {
-    let mut image = flat_image(alloc).ok()?;
-    match format {
-        Format::Small => put(image.as_mut_slice(), &(1024, &[0x40])),
-        Format::Large => put(image.as_mut_slice(), &(1024, &[0x41])),
-    }
+    let Ok(mut image) = flat_image(alloc) else {
+        return None;
+    };
+    put(image.as_mut_slice(), &(1024, format.magic()));
     for change in changes {
         put(image.as_mut_slice(), change);
     }

@@ -1,5 +1,5 @@
 //! Program files with odd numbers in their headers, as `/init` and by the call exec.
-use crate::runs::{AnyMachine, plain};
+use crate::runs::{AnyMachine, let_go, plain};
 use asm::assemble;
 use blockdev::MemDisk;
 use console::Writer;
@@ -151,14 +151,23 @@ fn refuses(alloc: Global, machine: &mut AnyMachine<'static>) -> bool {
     }
 }
 
+// Whether a machine whose `/init` executes the file does as its row says.
+fn goes_on(alloc: Global, machine: &mut AnyMachine<'static>, odd: &Odd) -> bool {
+    match odd.becomes {
+        Some(size) => ends_at_0(alloc, machine, size),
+        None => refuses(alloc, machine),
+    }
+}
+
 // Whether exec executes or refuses the file as its row says.
 fn is_executed(alloc: Global, odd: &Odd) -> bool {
-    let Some(mut machine) = calling(alloc, odd) else {
-        return false;
-    };
-    match odd.becomes {
-        Some(size) => ends_at_0(alloc, &mut machine, size),
-        None => refuses(alloc, &mut machine),
+    match calling(alloc, odd) {
+        Some(mut machine) => {
+            let goes = goes_on(alloc, &mut machine, odd);
+            let_go(machine);
+            goes
+        }
+        None => false,
     }
 }
 
@@ -173,7 +182,11 @@ fn is_begun(alloc: Global, machine: &mut AnyMachine<'static>, odd: &Odd) -> bool
 // Whether a boot executes or refuses it.
 fn is_booted(alloc: Global, odd: &Odd) -> bool {
     match beginning(alloc, odd) {
-        Some(Ok(mut machine)) => is_begun(alloc, &mut machine, odd),
+        Some(Ok(mut machine)) => {
+            let begun = is_begun(alloc, &mut machine, odd);
+            let_go(machine);
+            begun
+        }
         Some(Err(fault)) => fault == BootFault::NoInit && odd.becomes.is_none(),
         None => false,
     }

@@ -31,6 +31,9 @@ pub fn plain() -> Chosen<'static> {
     Chosen::Plain(Plain::new())
 }
 
+/// Lets a machine go. Each function that does so is long to prove, so this one does it for all.
+pub fn let_go(_machine: AnyMachine<'_>) {}
+
 /// A program, and the keys that are typed first.
 #[derive(Clone, Copy)]
 pub struct Input<'a> {
@@ -75,27 +78,15 @@ fn play(alloc: Global, machine: &mut AnyMachine<'_>, keys: &[u8]) -> Shown {
     }
 }
 
-// Whether a page of a process is the same in both; `None` where neither has it.
-fn is_same_page(
-    first: &AnyMachine<'_>,
-    other: &AnyMachine<'_>,
-    pid: u32,
-    page: u64,
-) -> Option<bool> {
-    match (first.peek(pid, page), other.peek(pid, page)) {
-        (Some((bytes, marks)), Some((others, same))) => Some(bytes == others && marks == same),
-        (None, None) => None,
-        _ => Some(false),
-    }
-}
-
 // Whether all pages of a process are the same in both.
 fn has_same_pages(first: &AnyMachine<'_>, other: &AnyMachine<'_>, pid: u32) -> bool {
     for page in 0..u64::from(FRAMES) {
-        match is_same_page(first, other, pid, page) {
-            Some(true) => {}
-            Some(false) => return false,
-            None => return true,
+        let shown = first.peek(pid, page);
+        if shown != other.peek(pid, page) {
+            return false;
+        }
+        if shown.is_none() {
+            return true;
         }
     }
     false
@@ -122,53 +113,73 @@ fn booted<'a>(
     boot_flat_with(alloc, program, translator, FRAMES).ok()
 }
 
-// A machine that ran, and what it showed.
-#[derive(Drop)]
-struct Run<'a> {
-    machine: AnyMachine<'a>,
-    shown: Shown,
+// Whether a machine shows what the first one showed, and ends as that one did.
+fn is_like(
+    alloc: Global,
+    machine: &mut AnyMachine<'_>,
+    keys: &[u8],
+    first: &AnyMachine<'_>,
+    shown: &Shown,
+) -> bool {
+    let other = play(alloc, machine, keys);
+    other.end == shown.end
+        && other.printed.as_slice() == shown.printed.as_slice()
+        && has_same_processes(first, machine, shown.end.0)
 }
 
-impl<'a> Run<'a> {
-    // A run over a translator of a kind.
-    fn of(alloc: Global, input: Input<'_>, kind: Kind, counts: &'a Counts) -> Option<Run<'a>> {
-        let mut machine = booted(alloc, input.program, kind, counts)?;
-        let shown = play(alloc, &mut machine, input.keys);
-        Some(Run { machine, shown })
-    }
-
-    // Whether another run shows what this one shows.
-    fn is_like(&self, other: &Run<'_>) -> bool {
-        self.shown.end == other.shown.end
-            && self.shown.printed.as_slice() == other.shown.printed.as_slice()
-            && has_same_processes(&self.machine, &other.machine, self.shown.end.0)
-    }
-}
-
-// Whether a run over a translator of a kind shows what the first run shows.
-fn shows_like(alloc: Global, input: Input<'_>, kind: Kind, first: &Run<'_>) -> bool {
+// Whether a machine over a translator of a kind does so.
+fn goes_like(
+    alloc: Global,
+    input: Input<'_>,
+    kind: Kind,
+    first: &AnyMachine<'_>,
+    shown: &Shown,
+) -> bool {
     let counts = Counts::new();
-    match Run::of(alloc, input, kind, &counts) {
-        Some(run) => first.is_like(&run),
+    match booted(alloc, input.program, kind, &counts) {
+        Some(mut machine) => {
+            let alike = is_like(alloc, &mut machine, input.keys, first, shown);
+            let_go(machine);
+            alike
+        }
         None => false,
     }
 }
 
-// Whether a run over each translator shows what the first run shows.
-fn shows_like_over_each(alloc: Global, input: Input<'_>, first: &Run<'_>) -> bool {
+// Whether a machine over each translator does so.
+fn goes_like_over_each(
+    alloc: Global,
+    input: Input<'_>,
+    first: &AnyMachine<'_>,
+    shown: &Shown,
+) -> bool {
     for kind in &KINDS {
-        if !shows_like(alloc, input, *kind, first) {
+        if !goes_like(alloc, input, *kind, first, shown) {
             return false;
         }
     }
     true
 }
 
+// What a machine shows, if one over each translator shows the same.
+fn shown_by_each(alloc: Global, input: Input<'_>, first: &mut AnyMachine<'_>) -> Option<Shown> {
+    let shown = play(alloc, first, input.keys);
+    if goes_like_over_each(alloc, input, first, &shown) {
+        Some(shown)
+    } else {
+        None
+    }
+}
+
 /// What a program does. `None`: it doesn't do the same over each translator.
 pub fn run_over_each(alloc: Global, input: Input<'_>) -> Option<Shown> {
     let counts = Counts::new();
-    let first = Run::of(alloc, input, Kind::Plain, &counts)?;
-    let same = shows_like_over_each(alloc, input, &first);
-    let Run { machine: _, shown } = first;
-    same.then_some(shown)
+    match booted(alloc, input.program, Kind::Plain, &counts) {
+        Some(mut first) => {
+            let shown = shown_by_each(alloc, input, &mut first);
+            let_go(first);
+            shown
+        }
+        None => None,
+    }
 }

@@ -33,8 +33,8 @@ fn wrong_length(alloc: Global, format: Format) -> Option<u64> {
 
 /// The first length below an image's of which a piece isn't refused for it, in either format.
 pub fn wrong_piece(alloc: Global) -> Option<u64> {
-    for format in FORMATS {
-        if let Some(length) = wrong_length(alloc, format) {
+    for format in &FORMATS {
+        if let Some(length) = wrong_length(alloc, *format) {
             return Some(length);
         }
     }
