@@ -1,10 +1,10 @@
 //! Multiplications and divisions: their texts and their words.
-use crate::texts::gives;
+use crate::texts::{expect_row, gives};
 use isa::{decode, disassemble};
-use std::process::Abort;
+use std::alloc::Global;
 
 // One of each instruction, with its word.
-const PRODUCTS: [(&str, u32); 13] = [
+static PRODUCTS: [(&str, u32); 13] = [
     ("mul a0, a0, a1", 0x02b5_0533),
     ("mulh a0, a0, a1", 0x02b5_1533),
     ("mulhsu a0, a0, a1", 0x02b5_2533),
@@ -20,24 +20,22 @@ const PRODUCTS: [(&str, u32); 13] = [
     ("remuw a0, a0, a1", 0x02b5_753b),
 ];
 
-// What a word is disassembled to.
-fn text_of(rt: &(impl Abort + AllocGlobal), word: u32) -> String {
-    let mut text = String::new(rt.alloc());
-    let instr = decode(word).expect(rt, "an instruction");
-    disassemble(instr, &mut text).expect(rt, "memory");
-    text
+// Whether a word is shown as this text.
+fn shows(alloc: Global, word: u32, wanted: &str) -> bool {
+    let Some(instr) = decode(word) else {
+        return false;
+    };
+    let mut text = String::new(alloc);
+    disassemble(instr, &mut text).is_ok() && text.as_str() == wanted
 }
 
+// The word between them is none.
 #[test]
 fn words_are_shown_and_assembled(rt: HostRuntime) {
-    for (wanted, word) in &PRODUCTS {
-        let text = text_of(&rt, *word);
-        assert!(rt; text.as_str() == *wanted, "{wanted}");
-        assert!(rt; gives(rt.alloc(), text.as_str(), &[*word]), "{wanted}");
+    let alloc = rt.alloc();
+    for (text, word) in &PRODUCTS {
+        let holds = shows(alloc, *word, text) && gives(alloc, text, &[*word]);
+        expect_row(&rt, text, holds);
     }
-}
-
-#[test]
-fn the_word_between_them_is_none(rt: HostRuntime) {
-    assert!(rt; decode(0x02b5_153b).is_none());
+    expect_row(&rt, "0x02b5_153b", decode(0x02b5_153b).is_none());
 }

@@ -3,6 +3,11 @@ use asm::{AsmKind, assemble, write_elf};
 use std::alloc::Global;
 use std::process::Abort;
 
+/// The row of this text holds.
+pub fn expect_row(rt: &impl Abort, text: &str, holds: bool) {
+    assert!(rt; holds, "{text}");
+}
+
 // Whether these words stand behind a file's headers, and nothing else.
 fn has_words(file: &[u8], words: &[u32]) -> bool {
     let Some(mut rest) = file.get(4096..) else {
@@ -25,6 +30,30 @@ pub fn gives(alloc: Global, text: &str, words: &[u32]) -> bool {
     }
 }
 
+// Numbers that are loaded, labels that are positions, and data that is put as it stands.
+static GIVEN: [(&str, &[u32]); 7] = [
+    ("li a7, 11\necall\n", &[0x000008b7, 0x00b88893, 0x00000073]),
+    ("li a0, 2048", &[0x00001537, 0x80050513]),
+    ("li a0, 2147481599", &[0x7ffff537, 0x7ff50513]),
+    ("li a0, -2147483648", &[0x80000537, 0x00050513]),
+    (
+        "start:\n  beq a0, zero, end\n  la a1, word # loads 16\nend: j start\nword: .word 0x01020304\n",
+        &[0x00050663, 0x000005b7, 0x01058593, 0xff5ff06f, 0x01020304],
+    ),
+    (".ascii \"hi#\\n\"", &[0x0a236968]),
+    (
+        ".byte -1\n.pad 4\nmv a0, a1\n.zero 4\n.dword 1",
+        &[0xff, 0x00058513, 0, 1, 0],
+    ),
+];
+
+#[test]
+fn texts_give_words(rt: HostRuntime) {
+    for (text, words) in &GIVEN {
+        expect_row(&rt, text, gives(rt.alloc(), text, words));
+    }
+}
+
 fn fails(alloc: Global, text: &str, line: usize, kind: AsmKind) -> bool {
     match assemble(alloc, text) {
         Ok(_) => false,
@@ -32,60 +61,36 @@ fn fails(alloc: Global, text: &str, line: usize, kind: AsmKind) -> bool {
     }
 }
 
-#[test]
-fn numbers_are_loaded(rt: HostRuntime) {
-    let alloc = rt.alloc();
-    assert!(rt;
-        gives(
-            alloc,
-            "li a7, 11\necall\n",
-            &[0x000008b7, 0x00b88893, 0x00000073]
-        )
-    );
-    assert!(rt; gives(alloc, "li a0, 2048", &[0x00001537, 0x80050513]));
-    assert!(rt; gives(alloc, "li a0, 2147481599", &[0x7ffff537, 0x7ff50513]));
-    assert!(rt; gives(alloc, "li a0, -2147483648", &[0x80000537, 0x00050513]));
-}
-
-#[test]
-fn labels_are_positions(rt: HostRuntime) {
-    let text =
-        "start:\n  beq a0, zero, end\n  la a1, word # loads 16\nend: j start\nword: .word 0x01020304\n";
-    let words = [0x00050663, 0x000005b7, 0x01058593, 0xff5ff06f, 0x01020304];
-    assert!(rt; gives(rt.alloc(), text, &words));
-}
-
-#[test]
-fn data_is_put_as_it_stands(rt: HostRuntime) {
-    let alloc = rt.alloc();
-    assert!(rt; gives(alloc, ".ascii \"hi#\\n\"", &[0x0a236968]));
-    assert!(rt;
-        gives(
-            alloc,
-            ".byte -1\n.pad 4\nmv a0, a1\n.zero 4\n.dword 1",
-            &[0xff, 0x00058513, 0, 1, 0]
-        )
-    );
-}
+// Texts, the line of each that is refused, and why.
+static REFUSED: [(&str, usize, AsmKind); 10] = [
+    ("_x", 1, AsmKind::Syntax),
+    ("foo", 1, AsmKind::Mnemonic),
+    ("ret\nadd a0, a1", 2, AsmKind::Operand),
+    ("li a0, 2147481600", 1, AsmKind::Range),
+    (".zero 270337", 1, AsmKind::Range),
+    ("beq a0, a1, 4096", 1, AsmKind::Range),
+    ("j x", 1, AsmKind::Label),
+    ("j x\nx: ecall\nx: ebreak", 3, AsmKind::Twice),
+    (".byte 1\necall", 2, AsmKind::Align),
+    ("beq a0, a1, 4095", 1, AsmKind::Align),
+];
 
 #[test]
 fn faults_are_told(rt: HostRuntime) {
-    let alloc = rt.alloc();
-    assert!(rt; fails(alloc, "_x", 1, AsmKind::Syntax));
-    assert!(rt; fails(alloc, "foo", 1, AsmKind::Mnemonic));
-    assert!(rt; fails(alloc, "ret\nadd a0, a1", 2, AsmKind::Operand));
-    assert!(rt; fails(alloc, "li a0, 2147481600", 1, AsmKind::Range));
-    assert!(rt; fails(alloc, ".zero 270337", 1, AsmKind::Range));
-    assert!(rt; fails(alloc, "beq a0, a1, 4096", 1, AsmKind::Range));
-    assert!(rt; fails(alloc, "j x", 1, AsmKind::Label));
-    assert!(rt; fails(alloc, "j x\nx: ecall\nx: ebreak", 3, AsmKind::Twice));
-    assert!(rt; fails(alloc, ".byte 1\necall", 2, AsmKind::Align));
-    assert!(rt; fails(alloc, "beq a0, a1, 4095", 1, AsmKind::Align));
+    for (text, line, kind) in &REFUSED {
+        expect_row(&rt, text, fails(rt.alloc(), text, *line, *kind));
+    }
+}
+
+// Whether a file has a page before its program.
+fn has_a_page_before(alloc: Global) -> bool {
+    match write_elf(alloc, &[7; 35]) {
+        Ok(file) => file.len() == 4131 && file.starts_with(b"\x7fELF"),
+        Err(_) => false,
+    }
 }
 
 #[test]
 fn a_file_has_a_page_before_its_program(rt: HostRuntime) {
-    let file = write_elf(rt.alloc(), &[7; 35]).expect(&rt, "memory");
-    assert!(rt; file.len() == 4131);
-    assert!(rt; file.starts_with(b"\x7fELF"));
+    expect_row(&rt, "35 bytes", has_a_page_before(rt.alloc()));
 }
