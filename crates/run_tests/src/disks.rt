@@ -14,35 +14,79 @@ pub(crate) fn holds_at(rt: &impl Abort, row: usize, holds: bool) {
     assert!(rt; holds, "row {row}");
 }
 
-// A file with this path.
-fn entry(alloc: Global, path: &[u8], bytes: Vec<u8>) -> Option<Entry> {
-    let path = Vec::from_slice(alloc, path).ok()?;
-    let thing = Thing::File(bytes);
+/// The row of this name holds.
+pub(crate) fn expect_row(rt: &impl Abort, name: &str, holds: Option<bool>) {
+    assert!(rt; matches!(holds, Some(true)), "{name}");
+}
+
+/// What an image has at a path.
+#[derive(Clone, Copy)]
+pub(crate) enum Given<'a> {
+    /// The program of a text.
+    Program(&'a str),
+    /// The program of a text, whose pages may be read and executed alone.
+    ReadOnly(&'a str),
+    /// A file of so many zeros.
+    Zeros(usize),
+    /// The console.
+    Console,
+}
+
+/// Where a program's file has the flags of its one segment, and those that let it be read and executed alone.
+const FLAGS: usize = 68;
+
+const READ_EXECUTE: u8 = 5;
+
+// The file of a program that may not be written.
+fn read_only(alloc: Global, text: &str) -> Option<Vec<u8>> {
+    let mut bytes = assemble(alloc, text).ok()?;
+    *bytes.get_mut(FLAGS)? = READ_EXECUTE;
+    Some(bytes)
+}
+
+// A file's bytes. `None`: it is no file.
+fn bytes_of(alloc: Global, given: Given<'_>) -> Option<Vec<u8>> {
+    match given {
+        Given::Program(text) => assemble(alloc, text).ok(),
+        Given::ReadOnly(text) => read_only(alloc, text),
+        Given::Zeros(size) => vec![in alloc; 0u8; size].ok(),
+        Given::Console => None,
+    }
+}
+
+// What an image has at a path.
+fn thing_of(alloc: Global, given: Given<'_>) -> Option<Thing> {
+    if let Given::Console = given {
+        return Some(Thing::Device { major: 1, minor: 0 });
+    }
+    Some(Thing::File(bytes_of(alloc, given)?))
+}
+
+// A path, and what stands there.
+fn entry(alloc: Global, path: &str, given: Given<'_>) -> Option<Entry> {
+    let thing = thing_of(alloc, given)?;
+    let path = Vec::from_slice(alloc, path.as_bytes()).ok()?;
     Some(Entry { path, thing })
 }
 
-// `/init` with the program of this text.
-fn init(alloc: Global, text: &str) -> Option<Entry> {
-    entry(alloc, b"/init", assemble(alloc, text).ok()?)
-}
-
-// `/big` with so many bytes.
-fn big(alloc: Global, size: usize) -> Option<Entry> {
-    entry(alloc, b"/big", vec![in alloc; 0u8; size].ok()?)
-}
-
-// Both.
-fn manifest(alloc: Global, text: &str, size: usize) -> Option<Manifest> {
-    let entries = [init(alloc, text)?, big(alloc, size)?];
-    let entries = Vec::from_array(alloc, entries).ok()?;
-    Some(Manifest { entries })
+/// The image of so many blocks that has these at their paths: the numbers from 2 on, of sixteen.
+pub(crate) fn image_with(
+    alloc: Global,
+    files: &[(&str, Given<'_>)],
+    blocks: u32,
+) -> Option<Vec<u8>> {
+    let mut entries = Vec::new(alloc);
+    for (path, given) in files {
+        entries.push(entry(alloc, path, *given)?).ok()?;
+    }
+    make(alloc, &Manifest { entries }, blocks, 16).ok()
 }
 
 /// The image of so many blocks whose `/init` is the program of this text, and whose `/big` has so many bytes: the numbers 2 and 3
 /// of sixteen.
-pub(crate) fn image_of(alloc: Global, text: &str, big: usize, size: u32) -> Option<Vec<u8>> {
-    let manifest = manifest(alloc, text, big)?;
-    make(alloc, &manifest, size, 16).ok()
+pub(crate) fn image_of(alloc: Global, text: &str, big: usize, blocks: u32) -> Option<Vec<u8>> {
+    let files = [("/init", Given::Program(text)), ("/big", Given::Zeros(big))];
+    image_with(alloc, &files, blocks)
 }
 
 /// The disk of an image.
@@ -72,10 +116,20 @@ pub(crate) struct Room {
 }
 
 /// The machine that boots from an image as `image_of` makes it.
-pub(crate) fn run_of(alloc: Global, text: &str, big: usize, room: Room) -> Option<Run<Plain>> {
+pub(crate) fn run_of(alloc: Global, text: &str, big: usize, room: Room) -> Option<Whole> {
     let image = image_of(alloc, text, big, room.blocks)?;
+    run_on(alloc, image, Plain::new(), room.frames)
+}
+
+/// The machine of so many frames that boots from an image.
+pub(crate) fn run_on<T: Translate>(
+    alloc: Global,
+    image: Vec<u8>,
+    translator: T,
+    frames: u32,
+) -> Option<Run<T>> {
     let disk = MemDisk::new(image).ok()?;
-    Run::boot(alloc, disk, Plain::new(), room.frames)
+    Run::boot(alloc, disk, translator, frames)
 }
 
 impl<T: Translate> Run<T> {

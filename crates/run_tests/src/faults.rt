@@ -1,12 +1,19 @@
 //! Programs of a few words, each run to its last: the fault that is told is the one that comes.
-use causes::fault_of;
-use machine::{Halt, boot_flat};
+use crate::disks::holds_at;
+use blockdev::MemDisk;
+use causes::{Fault, fault_of};
+use console::Writer;
+use machine::{Halt, Machine, boot_flat};
 use std::alloc::Global;
+use sv39::Plain;
 use unixmodel::event::Event;
 use unixmodel::trap::{Cause, Trap};
 
-/// A program of words; the cause and the address that its last word is told with, and that as a text.
-type Row = (&'static [u32], Option<(Cause, u64, &'static str)>);
+/// The cause and the address that a fault is told with, and that as a text.
+type Wanted = (Cause, u64, &'static str);
+
+/// A program of words, and the fault of its last word.
+type Row = (&'static [u32], Option<Wanted>);
 
 /// lui t0, 1 to 3: the page below the stack, the stack, and the end of the memory.
 const T0_GUARD: u32 = 0x0000_12b7;
@@ -15,7 +22,7 @@ const T0_STACK: u32 = 0x0000_22b7;
 
 const T0_END: u32 = 0x0000_32b7;
 
-const ROWS: [Row; 27] = [
+static ROWS: [Row; 27] = [
     // jalr zero, 2(zero), which clears bit 0 of 3 as well; jal zero, 2; beq and bne of zero with itself, by 2; bgeu by 6.
     (
         &[0x0020_0067],
@@ -196,31 +203,66 @@ const ROWS: [Row; 27] = [
     (&[0x0010_0893, 0x73, 0x1000_3023], None),
 ];
 
-// Whether the fault that is told before the last word is the row's, and comes.
-fn tells(alloc: Global, row: &Row) -> Option<bool> {
-    let mut program = Vec::new(alloc);
-    for word in row.0 {
-        program.extend_from_slice(&word.to_le_bytes()).ok()?;
+// The bytes of a program.
+fn bytes_of(alloc: Global, words: &[u32]) -> Option<Vec<u8>> {
+    let mut bytes = Vec::new(alloc);
+    for word in words {
+        bytes.extend_from_slice(&word.to_le_bytes()).ok()?;
     }
-    let mut machine = boot_flat(alloc, program.as_slice(), 64).ok()?;
-    let mut out = console::Writer::new(std::io::sink());
-    // The turn that picks the process, and all words but the last.
-    for _word in row.0 {
-        machine.step(Event::Step, &mut out).ok()?;
+    Some(bytes)
+}
+
+type Flat = Machine<MemDisk, Plain>;
+
+fn booted(alloc: Global, words: &[u32]) -> Option<Flat> {
+    let program = bytes_of(alloc, words)?;
+    boot_flat(alloc, program.as_slice(), 64).ok()
+}
+
+fn step(alloc: Global, machine: &mut Flat) -> Result<(), Halt> {
+    machine.step(Event::Step, &mut Writer::new(Vec::new(alloc)))
+}
+
+// Whether so many steps are done, none of which stops the machine.
+fn goes(alloc: Global, machine: &mut Flat, steps: usize) -> bool {
+    for _ in 0..steps {
+        if step(alloc, machine).is_err() {
+            return false;
+        }
     }
-    let told = fault_of(&machine, 1);
-    let ended = machine.step(Event::Step, &mut out);
-    let (Some(told), Some((cause, address, words))) = (told, row.1) else {
-        return Some(told.is_none() && row.1.is_none() && ended.is_ok());
-    };
-    let text = format!(in alloc; "{told}").ok()?;
-    let comes = ended == Err(Halt::InitEnded(-1));
-    Some(told.trap == Trap { cause, address } && comes && text.as_str() == words)
+    true
+}
+
+// Whether a fault is told so.
+fn is_told(alloc: Global, fault: &Fault, (cause, address, words): Wanted) -> bool {
+    match format!(in alloc; "{fault}") {
+        Ok(text) => fault.trap == Trap { cause, address } && text.as_str() == words,
+        Err(_) => false,
+    }
+}
+
+// Whether the fault that is told before the last word is this one, and comes.
+fn tells(alloc: Global, machine: &mut Flat, wanted: Option<Wanted>) -> bool {
+    let told = fault_of(machine, 1);
+    let ended = step(alloc, machine);
+    match (told, wanted) {
+        (Some(fault), Some(wanted)) => {
+            ended == Err(Halt::InitEnded(-1)) && is_told(alloc, &fault, wanted)
+        }
+        (None, None) => ended.is_ok(),
+        _ => false,
+    }
+}
+
+// Whether a program's last word has the row's fault. The turn that picks the process comes first, and then all words but that one.
+fn holds(alloc: Global, (words, wanted): Row) -> Option<bool> {
+    let mut machine = booted(alloc, words)?;
+    Some(goes(alloc, &mut machine, words.len()) && tells(alloc, &mut machine, wanted))
 }
 
 #[test]
 fn faults_are_told_before_they_come(rt: HostRuntime) {
-    for row in &ROWS {
-        assert!(rt; tells(rt.alloc(), row) == Some(true));
+    for (index, row) in ROWS.iter().enumerate() {
+        holds_at(&rt, index, holds(rt.alloc(), *row) == Some(true));
     }
 }

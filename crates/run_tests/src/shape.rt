@@ -84,35 +84,71 @@ impl Mark<'_> {
     }
 }
 
+// Whether a slice fits all others.
+fn fits_all(mark: &Mark<'_>, marks: &[Mark<'_>]) -> bool {
+    for other in marks {
+        if other.is_slice() && !mark.fits(other) {
+            return false;
+        }
+    }
+    true
+}
+
+// Whether an end of an arrow lies on a slice, and has one other end.
+fn is_held(mark: &Mark<'_>, marks: &[Mark<'_>]) -> bool {
+    let mut is_on = false;
+    let mut ends = 0u32;
+    for other in marks {
+        is_on |= mark.is_on(other);
+        if mark.meets(other) {
+            ends = ends.saturating_add(1);
+        }
+    }
+    is_on && ends == 1
+}
+
 // Whether an event is as it should be among all.
 fn is_sound(mark: &Mark<'_>, marks: &[Mark<'_>]) -> bool {
     match mark.phase {
-        "X" | "B" => marks
-            .iter()
-            .all(|other| !other.is_slice() || mark.fits(other)),
-        "s" | "f" => {
-            marks.iter().any(|other| mark.is_on(other))
-                && marks.iter().filter(|other| mark.meets(other)).count() == 1
-        }
+        "X" | "B" => fits_all(mark, marks),
+        "s" | "f" => is_held(mark, marks),
         "M" | "C" | "i" => true,
         _ => false,
     }
 }
 
-/// Whether a whole file of spans is as it should be.
-pub fn is_well_shaped(alloc: Global, spans: &str) -> bool {
-    let Some((_, body)) = spans.split_once("\"traceEvents\":[\n") else {
-        return false;
-    };
-    let Some((body, "")) = body.split_once("\n]}\n") else {
-        return false;
-    };
+// The lines of the events, one after the other.
+fn body_of(spans: &str) -> Option<&str> {
+    let (_, body) = spans.split_once("\"traceEvents\":[\n")?;
+    match body.split_once("\n]}\n") {
+        Some((body, "")) => Some(body),
+        _ => None,
+    }
+}
+
+// The events of a file of spans. `None`: it is none, or one has no such form.
+fn marks_of(alloc: Global, spans: &str) -> Option<Vec<Mark<'_>>> {
+    let body = body_of(spans)?;
     let mut marks = Vec::new(alloc);
     for line in body.split(",\n") {
-        match mark_of(line) {
-            Some(mark) if marks.push(mark).is_ok() => (),
-            _ => return false,
+        marks.push(mark_of(line)?).ok()?;
+    }
+    Some(marks)
+}
+
+fn are_sound(marks: &[Mark<'_>]) -> bool {
+    for mark in marks {
+        if !is_sound(mark, marks) {
+            return false;
         }
     }
-    marks.iter().all(|mark| is_sound(mark, marks.as_slice()))
+    true
+}
+
+/// Whether a whole file of spans is as it should be.
+pub(crate) fn is_well_shaped(alloc: Global, spans: &str) -> bool {
+    match marks_of(alloc, spans) {
+        Some(marks) => are_sound(marks.as_slice()),
+        None => false,
+    }
 }

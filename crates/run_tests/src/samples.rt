@@ -1,14 +1,7 @@
 //! The programs that are traced.
 
-use asm::assemble;
-use blockdev::MemDisk;
-use image::{Entry, Manifest, Thing, make};
-use machine::{Machine, boot};
-use std::alloc::Global;
-use sv39::Plain;
-
 /// What a shell does for `echo hi | cat`.
-pub const SHELL: &str = "
+pub(crate) const SHELL: &str = "
         la a0, console
         li a1, 2
         li a7, 15
@@ -84,7 +77,7 @@ arguments: .zero 32
 ";
 
 /// Writes `hi` and a line end, the last two bytes one by one, and ends with status 3.
-pub const ECHO: &str = "
+pub(crate) const ECHO: &str = "
         li a0, 1
         la a1, hi
         li a2, 1
@@ -103,7 +96,7 @@ hi:     .ascii \"hi\\n\"
 ";
 
 /// Copies what it reads.
-pub const CAT: &str = "
+pub(crate) const CAT: &str = "
 again:  li a0, 0
         la a1, buffer
         li a2, 512
@@ -122,7 +115,7 @@ buffer: .zero 512
 ";
 
 /// Four processes, each of which waits for all its children.
-pub const FORKS: &str = "
+pub(crate) const FORKS: &str = "
         li a7, 1
         ecall
         li a7, 1
@@ -137,7 +130,7 @@ again:  li a0, 0
 ";
 
 /// A child stores where it has no page, and process 1 comes to a breakpoint.
-pub const FAULTS: &str = "
+pub(crate) const FAULTS: &str = "
         li a7, 1
         ecall
         beq a0, zero, child
@@ -150,7 +143,7 @@ child:  lui t0, 256
 ";
 
 /// A child sleeps for long, and is killed.
-pub const SLEEPER: &str = "
+pub(crate) const SLEEPER: &str = "
         li a7, 1
         ecall
         beq a0, zero, child
@@ -175,27 +168,3 @@ child:  li a0, 100
         li a7, 13
         ecall
 ";
-
-// The image of these programs and the console.
-fn image_of(alloc: Global, programs: &[(&str, &str)]) -> Option<Vec<u8>> {
-    let console = Entry {
-        path: Vec::from_slice(alloc, b"/console").ok()?,
-        thing: Thing::Device { major: 1, minor: 0 },
-    };
-    let mut entries = Vec::from_array(alloc, [console]).ok()?;
-    for (path, text) in programs {
-        let entry = Entry {
-            path: Vec::from_slice(alloc, path.as_bytes()).ok()?,
-            thing: Thing::File(assemble(alloc, text).ok()?),
-        };
-        entries.push(entry).ok()?;
-    }
-    make(alloc, &Manifest { entries }, 64, 16).ok()
-}
-
-/// A machine whose first program is `/init` of these.
-pub fn machine_of(alloc: Global, programs: &[(&str, &str)]) -> Option<Machine<MemDisk, Plain>> {
-    let image = image_of(alloc, programs)?;
-    let disk = MemDisk::new(image).ok()?;
-    boot(alloc, disk, Plain::new(), 256).ok()
-}

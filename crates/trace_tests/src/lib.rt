@@ -1,9 +1,0 @@
-//! What traces tell of runs of small programs.
-#![tactic(auto)]
-
-#[cfg(test)]
-mod runs;
-#[cfg(test)]
-mod samples;
-#[cfg(test)]
-mod shape;
