@@ -1,5 +1,5 @@
 //! What exec takes and refuses of its arguments.
-use crate::disks::{Room, holds_at, run_of};
+use crate::disks::{Room, Whole, expect_row, run_of};
 use crate::sources::PASSER;
 use machine::Seen;
 
@@ -20,6 +20,14 @@ fn is_filled(page: &[u8; 4096]) -> bool {
         && page.ends_with(&[97, 0])
 }
 
+// Whether its last arguments are those that pass.
+fn passes(run: &mut Whole) -> Option<bool> {
+    let goes = run.steps(STEPS);
+    let seen = run.machine.inspect(1)?;
+    let (page, _) = run.machine.peek(1, 2)?;
+    Some(goes && has_one(&seen) && is_filled(page))
+}
+
 // It goes on where 31 arguments pass that are 32 no longer, and then one of 4079 bytes, which are 4080 no longer.
 #[test]
 fn as_many_pass_as_fit(rt: HostRuntime) {
@@ -28,9 +36,7 @@ fn as_many_pass_as_fit(rt: HostRuntime) {
         blocks: 32,
     };
     let mut run = run_of(rt.alloc(), PASSER, 1, room).expect(&rt, "a machine");
-    holds_at(&rt, 0, run.steps(STEPS));
-    let seen = run.machine.inspect(1).expect(&rt, "process 1");
-    holds_at(&rt, 1, has_one(&seen));
-    let (page, _) = run.machine.peek(1, 2).expect(&rt, "its stack");
-    holds_at(&rt, 2, is_filled(page));
+    let holds = passes(&mut run);
+    run.end();
+    expect_row(&rt, "arguments", holds);
 }

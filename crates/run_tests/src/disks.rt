@@ -3,7 +3,7 @@ use asm::assemble;
 use blockdev::MemDisk;
 use console::Writer;
 use image::{Entry, Manifest, Thing, make};
-use machine::{Halt, Machine, boot};
+use machine::{Halt, Machine, boot, boot_flat};
 use std::alloc::Global;
 use std::process::Abort;
 use sv39::{Plain, Tlb, Translate};
@@ -40,7 +40,9 @@ const READ_EXECUTE: u8 = 5;
 // The file of a program that may not be written.
 fn read_only(alloc: Global, text: &str) -> Option<Vec<u8>> {
     let mut bytes = assemble(alloc, text).ok()?;
-    *bytes.get_mut(FLAGS)? = READ_EXECUTE;
+    if let Some(flags) = bytes.get_mut(FLAGS) {
+        *flags = READ_EXECUTE;
+    }
     Some(bytes)
 }
 
@@ -121,6 +123,13 @@ pub(crate) fn run_of(alloc: Global, text: &str, big: usize, room: Room) -> Optio
     run_on(alloc, image, Plain::new(), room.frames)
 }
 
+/// The machine of 64 frames whose process 1 is a flat program.
+pub(crate) fn flat(alloc: Global, program: &[u8]) -> Option<Whole> {
+    let machine = boot_flat(alloc, program, 64).ok()?;
+    let out = Writer::new(Vec::new(alloc));
+    Some(Run { machine, out })
+}
+
 /// The machine of so many frames that boots from an image.
 pub(crate) fn run_on<T: Translate>(
     alloc: Global,
@@ -147,11 +156,13 @@ impl<T: Translate> Run<T> {
         Some((disk, out.into_inner()))
     }
 
-    /// What it printed.
-    pub(crate) fn printed(self) -> Vec<u8> {
-        let Run { machine: _, out } = self;
-        out.into_inner()
+    /// What it printed so far.
+    pub(crate) fn printed(&self) -> &[u8] {
+        self.out.get_ref().as_slice()
     }
+
+    /// Lets it go. Each function that lets a machine go is long to prove, so this one does it for all.
+    pub(crate) fn end(self) {}
 
     /// One event.
     pub(crate) fn event(&mut self, event: Event) -> Result<(), Halt> {

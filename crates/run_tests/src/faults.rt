@@ -1,19 +1,16 @@
 //! Programs of a few words, each run to its last: the fault that is told is the one that comes.
-use crate::disks::holds_at;
-use blockdev::MemDisk;
+use crate::disks::{Whole, expect_row, flat};
 use causes::{Fault, fault_of};
-use console::Writer;
-use machine::{Halt, Machine, boot_flat};
+use machine::Halt;
 use std::alloc::Global;
-use sv39::Plain;
 use unixmodel::event::Event;
 use unixmodel::trap::{Cause, Trap};
 
 /// The cause and the address that a fault is told with, and that as a text.
 type Wanted = (Cause, u64, &'static str);
 
-/// A program of words, and the fault of its last word.
-type Row = (&'static [u32], Option<Wanted>);
+/// The name of a program, its words, and the fault of the last one.
+type Row = (&'static str, &'static [u32], Option<Wanted>);
 
 /// lui t0, 1 to 3: the page below the stack, the stack, and the end of the memory.
 const T0_GUARD: u32 = 0x0000_12b7;
@@ -23,8 +20,8 @@ const T0_STACK: u32 = 0x0000_22b7;
 const T0_END: u32 = 0x0000_32b7;
 
 static ROWS: [Row; 27] = [
-    // jalr zero, 2(zero), which clears bit 0 of 3 as well; jal zero, 2; beq and bne of zero with itself, by 2; bgeu by 6.
     (
+        "jalr zero, 2(zero)",
         &[0x0020_0067],
         Some((
             Cause::InstructionMisaligned,
@@ -33,6 +30,7 @@ static ROWS: [Row; 27] = [
         )),
     ),
     (
+        "jalr zero, 3(zero), which clears bit 0 as well",
         &[0x0030_0067],
         Some((
             Cause::InstructionMisaligned,
@@ -41,6 +39,7 @@ static ROWS: [Row; 27] = [
         )),
     ),
     (
+        "jal zero, 2",
         &[0x13, 0x0020_006f],
         Some((
             Cause::InstructionMisaligned,
@@ -49,6 +48,7 @@ static ROWS: [Row; 27] = [
         )),
     ),
     (
+        "beq of zero with itself, by 2",
         &[0x0000_0163],
         Some((
             Cause::InstructionMisaligned,
@@ -56,8 +56,9 @@ static ROWS: [Row; 27] = [
             "jump to 0x2 at pc 0x0: no multiple of 4",
         )),
     ),
-    (&[0x0000_1163], None),
+    ("bne of zero with itself, by 2", &[0x0000_1163], None),
     (
+        "bgeu of zero with itself, by 6",
         &[0x0000_7363],
         Some((
             Cause::InstructionMisaligned,
@@ -67,6 +68,7 @@ static ROWS: [Row; 27] = [
     ),
     // Words that are no instruction.
     (
+        "compressed code",
         &[0xe406_1141],
         Some((
             Cause::IllegalInstruction,
@@ -75,6 +77,7 @@ static ROWS: [Row; 27] = [
         )),
     ),
     (
+        "all ones",
         &[0x13, 0xffff_ffff],
         Some((
             Cause::IllegalInstruction,
@@ -83,6 +86,7 @@ static ROWS: [Row; 27] = [
         )),
     ),
     (
+        "zeros",
         &[0x13, 0],
         Some((
             Cause::IllegalInstruction,
@@ -90,8 +94,8 @@ static ROWS: [Row; 27] = [
             "illegal instruction 0x0 at pc 0x4 (zeros are no code)",
         )),
     ),
-    // jalr zero, -4(t0): the last word of the first page.
     (
+        "jalr zero, -4(t0): the last word of the first page",
         &[T0_GUARD, 0xffc2_8067, 0],
         Some((
             Cause::IllegalInstruction,
@@ -100,12 +104,13 @@ static ROWS: [Row; 27] = [
         )),
     ),
     (
+        "ebreak",
         &[0x0010_0073],
         Some((Cause::Breakpoint, 0, "ebreak at pc 0x0")),
     ),
-    (&[0x0000_0073], None),
-    // lw t1, 1(zero); lh t1, -1(t0); sd zero, 4(zero).
+    ("ecall", &[0x0000_0073], None),
     (
+        "lw t1, 1(zero)",
         &[0x0010_2303],
         Some((
             Cause::LoadMisaligned,
@@ -114,6 +119,7 @@ static ROWS: [Row; 27] = [
         )),
     ),
     (
+        "lh t1, -1(t0) at the end",
         &[T0_END, 0xfff2_9303],
         Some((
             Cause::LoadMisaligned,
@@ -122,6 +128,7 @@ static ROWS: [Row; 27] = [
         )),
     ),
     (
+        "sd zero, 4(zero)",
         &[0x0000_3223],
         Some((
             Cause::StoreMisaligned,
@@ -129,8 +136,8 @@ static ROWS: [Row; 27] = [
             "store to 0x4 at pc 0x0: no multiple of its size",
         )),
     ),
-    // jalr zero, 0(t0).
     (
+        "jalr zero, 0(t0) below the stack",
         &[T0_GUARD, 0x0002_8067, 0],
         Some((
             Cause::InstructionPageFault,
@@ -139,6 +146,7 @@ static ROWS: [Row; 27] = [
         )),
     ),
     (
+        "jalr zero, 0(t0) on the stack",
         &[T0_STACK, 0x0002_8067, 0],
         Some((
             Cause::InstructionPageFault,
@@ -147,6 +155,7 @@ static ROWS: [Row; 27] = [
         )),
     ),
     (
+        "jalr zero, 0(t0) at the end",
         &[T0_END, 0x0002_8067, 0],
         Some((
             Cause::InstructionPageFault,
@@ -154,10 +163,14 @@ static ROWS: [Row; 27] = [
             "fetch at pc 0x3000: the process has no page there",
         )),
     ),
-    // lb t1, -1(t0) and 0(t0); ld t1, -8(t0); lb t1, -1(zero).
-    (&[T0_GUARD, 0xfff2_8303], None),
-    (&[T0_END, 0xff82_b303], None),
     (
+        "lb t1, -1(t0) below the stack",
+        &[T0_GUARD, 0xfff2_8303],
+        None,
+    ),
+    ("ld t1, -8(t0) at the end", &[T0_END, 0xff82_b303], None),
+    (
+        "lb t1, 0(t0) below the stack",
         &[T0_GUARD, 0x0002_8303],
         Some((
             Cause::LoadPageFault,
@@ -166,6 +179,7 @@ static ROWS: [Row; 27] = [
         )),
     ),
     (
+        "lb t1, 0(t0) at the end",
         &[T0_END, 0x0002_8303],
         Some((
             Cause::LoadPageFault,
@@ -174,6 +188,7 @@ static ROWS: [Row; 27] = [
         )),
     ),
     (
+        "lb t1, -1(zero)",
         &[0xfff0_0303],
         Some((
             Cause::LoadPageFault,
@@ -181,9 +196,9 @@ static ROWS: [Row; 27] = [
             "load from 0xffffffffffffffff at pc 0x0: the process has no page there",
         )),
     ),
-    // sb zero, -1(t0) and 0(t0).
-    (&[T0_END, 0xfe02_8fa3], None),
+    ("sb zero, -1(t0) at the end", &[T0_END, 0xfe02_8fa3], None),
     (
+        "sb zero, 0(t0) below the stack",
         &[T0_GUARD, 0x0002_8023],
         Some((
             Cause::StorePageFault,
@@ -192,6 +207,7 @@ static ROWS: [Row; 27] = [
         )),
     ),
     (
+        "sb zero, 0(t0) at the end",
         &[T0_END, 0x0002_8023],
         Some((
             Cause::StorePageFault,
@@ -200,7 +216,11 @@ static ROWS: [Row; 27] = [
         )),
     ),
     // li a7, 1; ecall; sd zero, 0x100(zero): a page that is shared after a fork.
-    (&[0x0010_0893, 0x73, 0x1000_3023], None),
+    (
+        "a store to a page that is shared after a fork",
+        &[0x0010_0893, 0x73, 0x1000_3023],
+        None,
+    ),
 ];
 
 // The bytes of a program.
@@ -212,25 +232,9 @@ fn bytes_of(alloc: Global, words: &[u32]) -> Option<Vec<u8>> {
     Some(bytes)
 }
 
-type Flat = Machine<MemDisk, Plain>;
-
-fn booted(alloc: Global, words: &[u32]) -> Option<Flat> {
+fn booted(alloc: Global, words: &[u32]) -> Option<Whole> {
     let program = bytes_of(alloc, words)?;
-    boot_flat(alloc, program.as_slice(), 64).ok()
-}
-
-fn step(alloc: Global, machine: &mut Flat) -> Result<(), Halt> {
-    machine.step(Event::Step, &mut Writer::new(Vec::new(alloc)))
-}
-
-// Whether so many steps are done, none of which stops the machine.
-fn goes(alloc: Global, machine: &mut Flat, steps: usize) -> bool {
-    for _ in 0..steps {
-        if step(alloc, machine).is_err() {
-            return false;
-        }
-    }
-    true
+    flat(alloc, program.as_slice())
 }
 
 // Whether a fault is told so.
@@ -242,9 +246,9 @@ fn is_told(alloc: Global, fault: &Fault, (cause, address, words): Wanted) -> boo
 }
 
 // Whether the fault that is told before the last word is this one, and comes.
-fn tells(alloc: Global, machine: &mut Flat, wanted: Option<Wanted>) -> bool {
-    let told = fault_of(machine, 1);
-    let ended = step(alloc, machine);
+fn tells(alloc: Global, run: &mut Whole, wanted: Option<Wanted>) -> bool {
+    let told = fault_of(&run.machine, 1);
+    let ended = run.event(Event::Step);
     match (told, wanted) {
         (Some(fault), Some(wanted)) => {
             ended == Err(Halt::InitEnded(-1)) && is_told(alloc, &fault, wanted)
@@ -254,15 +258,17 @@ fn tells(alloc: Global, machine: &mut Flat, wanted: Option<Wanted>) -> bool {
     }
 }
 
-// Whether a program's last word has the row's fault. The turn that picks the process comes first, and then all words but that one.
-fn holds(alloc: Global, (words, wanted): Row) -> Option<bool> {
-    let mut machine = booted(alloc, words)?;
-    Some(goes(alloc, &mut machine, words.len()) && tells(alloc, &mut machine, wanted))
+// Whether a program's last word has this fault. The turn that picks the process comes first, and then all words but that one.
+fn holds(alloc: Global, words: &[u32], wanted: Option<Wanted>) -> Option<bool> {
+    let mut run = booted(alloc, words)?;
+    let holds = run.steps(words.len()) && tells(alloc, &mut run, wanted);
+    run.end();
+    Some(holds)
 }
 
 #[test]
 fn faults_are_told_before_they_come(rt: HostRuntime) {
-    for (index, row) in ROWS.iter().enumerate() {
-        holds_at(&rt, index, holds(rt.alloc(), *row) == Some(true));
+    for (name, words, wanted) in &ROWS {
+        expect_row(&rt, name, holds(rt.alloc(), words, *wanted));
     }
 }

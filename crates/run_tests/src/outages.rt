@@ -84,25 +84,9 @@ fn is_mute(machine: &mut Failing) -> bool {
         && machine.peek(1, 0).is_some()
 }
 
-// How it goes where it stopped: it answers that it has halted, whatever it is asked for.
-fn stopped(alloc: Global, mut machine: Failing) -> Course {
-    if is_still(alloc, &mut machine)
-        && is_mute(&mut machine)
-        && machine.save().err() == Some(Halt::Halted)
-    {
-        Course::Stops
-    } else {
-        Course::Strays
-    }
-}
-
-// How it goes on where it went to its end.
-fn left(machine: Failing) -> Course {
-    match machine.save() {
-        Ok(_) => Course::Ends,
-        Err(Halt::Device) => Course::Keeps,
-        Err(_) => Course::Strays,
-    }
+// Whether it answers that it has halted, whatever it is asked for.
+fn is_shut(alloc: Global, machine: &mut Failing) -> bool {
+    is_still(alloc, machine) && is_mute(machine)
 }
 
 // How far it goes, and whether its text is right.
@@ -110,16 +94,20 @@ fn gone(alloc: Global, machine: &mut Failing) -> Course {
     let mut text = Vec::new(alloc);
     match go(alloc, machine, &mut text) {
         Ok(Some(Halt::InitEnded(0))) if text.as_slice() == TEXT.as_slice() => Course::Ends,
-        Ok(Some(Halt::Device)) if TEXT.starts_with(&text) => Course::Stops,
+        Ok(Some(Halt::Device)) if TEXT.starts_with(&text) && is_shut(alloc, machine) => {
+            Course::Stops
+        }
         _ => Course::Strays,
     }
 }
 
 fn course_of(alloc: Global, mut machine: Failing) -> Course {
-    match gone(alloc, &mut machine) {
-        Course::Ends => left(machine),
-        Course::Stops => stopped(alloc, machine),
-        other => other,
+    let gone = gone(alloc, &mut machine);
+    match (gone, machine.save().err()) {
+        (Course::Ends, None) => Course::Ends,
+        (Course::Ends, Some(Halt::Device)) => Course::Keeps,
+        (Course::Stops, Some(Halt::Halted)) => Course::Stops,
+        _ => Course::Strays,
     }
 }
 

@@ -1,7 +1,6 @@
 //! Two machines of one program that makes a file, reads a byte that is typed, writes it into the file, forgets it, and counts: where
 //! their digests are the same, and where they differ.
-use crate::disks::{Given, Run, Whole, expect_row, image_with, run_on};
-use machine::boot_flat;
+use crate::disks::{Given, Run, Whole, expect_row, flat, image_with, run_on};
 use std::alloc::Global;
 use sv39::{Plain, Tlb, Translate};
 use unixmodel::event::Event;
@@ -124,13 +123,6 @@ fn does_each<T: Translate>(one: &mut Whole, other: &mut Run<T>, acts: &[Act]) ->
     true
 }
 
-// Whether other translators, and images of other sizes, give the same digests.
-fn are_same(alloc: Global) -> Option<bool> {
-    let mut plain = booted(alloc, Plain::new(), 64)?;
-    let mut held = booted(alloc, Tlb::<64>::new(), 96)?;
-    Some(does_each(&mut plain, &mut held, &SAME_KEY))
-}
-
 // Whether two steps give another digest: the program counts in one register, and its pc is back at the same place.
 fn counts(run: &mut Whole) -> bool {
     let digest = run.machine.digest().ok();
@@ -138,19 +130,35 @@ fn counts(run: &mut Whole) -> bool {
     digest.is_some() && digest != after(run, Event::Step)
 }
 
-// Whether another key gives other digests, and so does the next round of the count.
-fn differ(alloc: Global) -> Option<bool> {
+// Whether a machine's digests are as the acts say beside one with this translator, from an image of so many blocks.
+fn goes_beside<T: Translate>(
+    alloc: Global,
+    one: &mut Whole,
+    (translator, blocks): (T, u32),
+    acts: &[Act],
+) -> Option<bool> {
+    let mut other = booted(alloc, translator, blocks)?;
+    let holds = does_each(one, &mut other, acts);
+    other.end();
+    Some(holds && counts(one))
+}
+
+// The same of a machine that boots for it.
+fn holds<T: Translate>(alloc: Global, other: (T, u32), acts: &[Act]) -> Option<bool> {
     let mut one = booted(alloc, Plain::new(), 64)?;
-    let mut other = booted(alloc, Plain::new(), 64)?;
-    Some(does_each(&mut one, &mut other, &OTHER_KEY) && counts(&mut one))
+    let told = goes_beside(alloc, &mut one, other, acts);
+    one.end();
+    told
 }
 
 // The digest of a machine of one page, whose last byte is this one.
 fn digest_with(alloc: Global, last: u8) -> Option<u64> {
     let mut bytes = [0; 4096];
     bytes[4095] = last;
-    let mut machine = boot_flat(alloc, &bytes, FRAMES).ok()?;
-    machine.digest().ok()
+    let mut run = flat(alloc, &bytes)?;
+    let digest = run.machine.digest().ok();
+    run.end();
+    digest
 }
 
 // Whether machines of one page have other digests where its last byte differs.
@@ -161,13 +169,11 @@ fn last_byte_matters(alloc: Global) -> Option<bool> {
 #[test]
 fn digests_follow_states(rt: HostRuntime) {
     let alloc = rt.alloc();
-    expect_row(
-        &rt,
-        "neither translators nor blocks matter",
-        are_same(alloc),
-    );
+    let held = holds(alloc, (Tlb::<64>::new(), 96), &SAME_KEY);
+    expect_row(&rt, "neither translators nor blocks matter", held);
+    let keyed = holds(alloc, (Plain::new(), 64), &OTHER_KEY);
     let name = "a key, a byte of a file and a register matter";
-    expect_row(&rt, name, differ(alloc));
+    expect_row(&rt, name, keyed);
     expect_row(
         &rt,
         "the last byte of a page matters",

@@ -167,10 +167,13 @@ fn run_both(
 }
 
 // Whether the list gives the same in both ways; and whether it stopped the machine.
-fn in_pieces(alloc: Global, image: &[u8], seed: u64, mask: usize) -> Option<(bool, bool)> {
+fn in_pieces(alloc: Global, image: &[u8], rolls: (u64, usize)) -> Option<(bool, bool)> {
     let mut whole = booted(alloc, image, Plain::new())?;
-    let mut parted = booted(alloc, image, Tlb::<64>::new())?;
-    let (same, halts) = run_both(alloc, &mut whole, &mut parted, (seed, mask));
+    let Some(mut parted) = booted(alloc, image, Tlb::<64>::new()) else {
+        whole.end();
+        return None;
+    };
+    let (same, halts) = run_both(alloc, &mut whole, &mut parted, rolls);
     let even = is_even(whole, parted);
     Some((same && even, halts))
 }
@@ -183,7 +186,7 @@ fn pieces_give_what_the_whole_gives(rt: HostRuntime) {
     let mut stops = 0u64;
     for seed in 0..LISTS {
         let mask = if seed % 2 == 0 { 63 } else { 1 };
-        let (same, halts) = in_pieces(alloc, image.as_slice(), seed, mask).expect(&rt, "runs");
+        let (same, halts) = in_pieces(alloc, image.as_slice(), (seed, mask)).expect(&rt, "runs");
         holds_at(&rt, seed as usize, same);
         if halts {
             stops = stops.wrapping_add(1);

@@ -66,11 +66,11 @@ fn settle<T: Translate>(run: &mut Run<T>) -> Option<usize> {
 // A machine that boots from a disk and waits for a key.
 fn waiting<T: Translate>(alloc: Global, disk: MemDisk, translator: T) -> Option<Run<T>> {
     let mut run = Run::boot(alloc, disk, translator, 64)?;
-    if settle(&mut run).is_some() {
-        Some(run)
-    } else {
-        None
+    if settle(&mut run).is_none() {
+        run.end();
+        return None;
     }
+    Some(run)
 }
 
 // Saves a machine, of which no process matters: what it leaves, which the check accepts. Its text goes behind what was printed
@@ -118,6 +118,7 @@ fn go_on(
 ) -> Option<Parted> {
     for _ in 0..ROUNDS {
         if !go_round(alloc, whole, &mut parted, dice) {
+            parted.end();
             return None;
         }
         parted = again(alloc, parted, text)?;
@@ -133,17 +134,21 @@ fn ends_alike(
     seed: u64,
     text: &mut Vec<u8>,
 ) -> bool {
-    match go_on(alloc, whole, parted, text, &mut Dice(seed)) {
-        Some(mut parted) => has_same_files(whole, &mut parted),
-        None => false,
-    }
+    let Some(mut parted) = go_on(alloc, whole, parted, text, &mut Dice(seed)) else {
+        return false;
+    };
+    let same = has_same_files(whole, &mut parted);
+    parted.end();
+    same
 }
 
 // Whether rounds give the same files and the same text with and without saves between them.
 fn is_same(alloc: Global, mut whole: Whole, parted: Parted, seed: u64) -> bool {
     let mut text = Vec::new(alloc);
     let same = ends_alike(alloc, &mut whole, parted, seed, &mut text);
-    whole.printed().as_slice() == text.as_slice() && same
+    let is_printed = whole.printed() == text.as_slice();
+    whole.end();
+    same && is_printed
 }
 
 // A machine that boots from an image and waits for a key.
@@ -155,7 +160,10 @@ fn begun<T: Translate>(alloc: Global, image: &[u8], translator: T) -> Option<Run
 // The same of machines that boot from an image.
 fn is_kept(alloc: Global, image: &[u8], seed: u64) -> Option<bool> {
     let whole = begun(alloc, image, Plain::new())?;
-    let parted = begun(alloc, image, Tlb::<64>::new())?;
+    let Some(parted) = begun(alloc, image, Tlb::<64>::new()) else {
+        whole.end();
+        return None;
+    };
     Some(is_same(alloc, whole, parted, seed))
 }
 

@@ -26,21 +26,30 @@ fn number_of(line: &str, key: &str) -> Option<u64> {
     text_of(line, key)?.parse::<u64>().ok()
 }
 
+// When an event of this phase begins.
+fn since_of(line: &str, phase: &str) -> Option<u64> {
+    if phase == "M" {
+        return Some(0);
+    }
+    number_of(line, "\"ts\":")
+}
+
+// How long it lasts.
+fn lasts_of(line: &str, phase: &str) -> Option<u64> {
+    match phase {
+        "X" => number_of(line, "\"dur\":"),
+        "B" => Some(1_000_000),
+        _ => Some(0),
+    }
+}
+
 // The event of a line; `None` where a key is missing.
 fn mark_of(line: &str) -> Option<Mark<'_>> {
+    text_of(line, "\"name\":\"")?;
     let phase = text_of(line, "\"ph\":\"")?;
     let pid = number_of(line, "\"pid\":")?;
-    text_of(line, "\"name\":\"")?;
-    let since = if phase == "M" {
-        0
-    } else {
-        number_of(line, "\"ts\":")?
-    };
-    let lasts = match phase {
-        "X" => number_of(line, "\"dur\":")?,
-        "B" => 1_000_000,
-        _ => 0,
-    };
+    let since = since_of(line, phase)?;
+    let lasts = lasts_of(line, phase)?;
     Some(Mark {
         phase,
         category: text_of(line, "\"cat\":\"").unwrap_or(""),
@@ -126,12 +135,22 @@ fn body_of(spans: &str) -> Option<&str> {
     }
 }
 
+// Adds the event of a line. Whether there is one.
+fn add<'a>(marks: &mut Vec<Mark<'a>>, line: &'a str) -> bool {
+    match mark_of(line) {
+        Some(mark) => marks.push(mark).is_ok(),
+        None => false,
+    }
+}
+
 // The events of a file of spans. `None`: it is none, or one has no such form.
 fn marks_of(alloc: Global, spans: &str) -> Option<Vec<Mark<'_>>> {
     let body = body_of(spans)?;
     let mut marks = Vec::new(alloc);
     for line in body.split(",\n") {
-        marks.push(mark_of(line)?).ok()?;
+        if !add(&mut marks, line) {
+            return None;
+        }
     }
     Some(marks)
 }

@@ -83,28 +83,24 @@ parent: li a0, 1
         ecall
 ";
 
-/// A program as `/init`; how many steps are made, and ticks behind them; what is wanted, and what is told, with JSON where that is wanted.
+/// What is asked for: a report, as text or as JSON, or the pages of a process.
+enum Asked {
+    Report,
+    Json,
+    Pages(u32),
+}
+
+/// A program as `/init`; how many steps are made, and ticks behind them; what is asked for, and what is told, with JSON where that is
+/// asked for.
 struct Row {
     name: &'static str,
     init: &'static str,
     steps: u32,
     ticks: u32,
-    wanted: Wanted,
+    asked: Asked,
     text: &'static str,
     json: Option<&'static str>,
 }
-
-const NOTHING: Wanted = Wanted {
-    report: false,
-    json: false,
-    registers: None,
-    memory: None,
-};
-
-const REPORT: Wanted = Wanted {
-    report: true,
-    ..NOTHING
-};
 
 static ROWS: [Row; 9] = [
     Row {
@@ -112,7 +108,7 @@ static ROWS: [Row; 9] = [
         init: LOOP,
         steps: 100,
         ticks: 0,
-        wanted: REPORT,
+        asked: Asked::Report,
         text: "\
 report: 100 steps, 0 ticks, 0 keys
 stopped: the events are used up while pid 1 (/init) runs
@@ -126,7 +122,7 @@ free frames: 55
         init: DEADLOCK,
         steps: 100,
         ticks: 1,
-        wanted: REPORT,
+        asked: Asked::Report,
         text: "\
 report: 100 steps, 1 ticks, 0 keys
 stopped: nobody is ready
@@ -142,7 +138,7 @@ free frames: 54
         init: SLEEPER,
         steps: 100,
         ticks: 3,
-        wanted: REPORT,
+        asked: Asked::Report,
         text: "\
 report: 100 steps, 3 ticks, 0 keys
 stopped: nobody is ready
@@ -156,7 +152,7 @@ free frames: 55
         init: CRASH,
         steps: 100,
         ticks: 0,
-        wanted: REPORT,
+        asked: Asked::Report,
         text: "\
 report: 4 steps, 0 ticks, 0 keys
 stopped: process 1 ended with status -1
@@ -171,7 +167,7 @@ fault: pid 1 (/init): store to 0x0 at pc 0x8: the page may not be written
         init: COMPRESSED,
         steps: 1000,
         ticks: 0,
-        wanted: REPORT,
+        asked: Asked::Report,
         text: "\
 report: 1000 steps, 0 ticks, 0 keys
 stopped: nobody is ready
@@ -187,7 +183,7 @@ fault: pid 2 (wc): illegal instruction 0x1141 at pc 0x0 (compressed code? compil
         init: FULL,
         steps: 1000,
         ticks: 0,
-        wanted: REPORT,
+        asked: Asked::Report,
         text: "\
 report: 1000 steps, 0 ticks, 0 keys
 stopped: nobody is ready
@@ -205,10 +201,7 @@ free frames: 45
         init: SLEEPER,
         steps: 100,
         ticks: 3,
-        wanted: Wanted {
-            json: true,
-            ..NOTHING
-        },
+        asked: Asked::Json,
         text: "",
         json: Some(
             "\
@@ -248,10 +241,7 @@ free frames: 45
         init: LOOP,
         steps: 100,
         ticks: 0,
-        wanted: Wanted {
-            memory: Some(1),
-            ..NOTHING
-        },
+        asked: Asked::Pages(1),
         text: "\
 pid 1 (/init): 12288 bytes, 3 pages
   0x00000000 to 0x00000fff r-x
@@ -265,14 +255,27 @@ pid 1 (/init): 12288 bytes, 3 pages
         init: LOOP,
         steps: 100,
         ticks: 0,
-        wanted: Wanted {
-            memory: Some(7),
-            ..NOTHING
-        },
+        asked: Asked::Pages(7),
         text: "pid 7: no process\n",
         json: None,
     },
 ];
+
+// What is wanted of a reporter.
+fn wanted_of(asked: &Asked) -> Wanted {
+    let mut wanted = Wanted {
+        report: false,
+        json: false,
+        registers: None,
+        memory: None,
+    };
+    match asked {
+        Asked::Report => wanted.report = true,
+        Asked::Json => wanted.json = true,
+        Asked::Pages(pid) => wanted.memory = Some(*pid),
+    }
+    wanted
+}
 
 // A machine whose `/init` is this program, whose code may not be written, beside a `/wc` of compressed code.
 fn booted(alloc: Global, init: &str) -> Option<Whole> {
@@ -301,14 +304,22 @@ fn told_of(alloc: Global, run: &mut Whole, row: &Row) -> Option<Told> {
     let mut reporter = Reporter::new(b"/init");
     play(run, &mut reporter, Event::Step, row.steps);
     play(run, &mut reporter, Event::Tick, row.ticks);
-    reporter.tell(alloc, &run.machine, row.wanted).ok()
+    reporter
+        .tell(alloc, &run.machine, wanted_of(&row.asked))
+        .ok()
 }
 
 // Whether that is what the row says.
+fn tells(alloc: Global, run: &mut Whole, row: &Row) -> Option<bool> {
+    let told = told_of(alloc, run, row)?;
+    Some(told.text.as_str() == row.text && told.json.as_deref() == row.json)
+}
+
 fn holds(alloc: Global, row: &Row) -> Option<bool> {
     let mut run = booted(alloc, row.init)?;
-    let told = told_of(alloc, &mut run, row)?;
-    Some(told.text.as_str() == row.text && told.json.as_deref() == row.json)
+    let holds = tells(alloc, &mut run, row);
+    run.end();
+    holds
 }
 
 #[test]

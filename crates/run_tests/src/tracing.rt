@@ -71,13 +71,12 @@ fn play(run: &mut Whole, tracer: &mut Tracer<Pages>) {
     }
 }
 
-/// A run of programs, what is wanted of it, and what is told: the text, and lines that stand in the log of commits and one that
-/// doesn't.
+/// A run of programs, whether a part of it is wanted alone, and what is told: the text, and lines that stand in the log of commits and
+/// one that doesn't.
 struct Case {
     name: &'static str,
     files: &'static [(&'static str, Given<'static>)],
-    wanted: Wanted,
-    calls: Option<&'static str>,
+    is_part: bool,
     is_text_full: bool,
     text: &'static str,
     commits: &'static [&'static str],
@@ -90,6 +89,18 @@ const FORMS: Wanted = Wanted {
     spans: true,
     commits: true,
     ..Wanted::ALL
+};
+
+/// A part: some calls of process 2.
+const PART: Wanted = Wanted {
+    pid: Some(2),
+    from: 83,
+    to: 93,
+    joins: false,
+    times: true,
+    turns: true,
+    core_is_pid: true,
+    ..FORMS
 };
 
 /// The programs of the first run.
@@ -114,8 +125,7 @@ static CASES: [Case; 6] = [
     Case {
         name: "a shell pipes echo into cat",
         files: &PIPELINE,
-        wanted: FORMS,
-        calls: None,
+        is_part: false,
         is_text_full: false,
         text: "[pid 1] open(\"console\", O_RDWR) = 0
 [pid 1] dup(0) = 1
@@ -157,8 +167,7 @@ static CASES: [Case; 6] = [
             ("/console", Given::Console),
             ("/init", Given::Program(FORKS)),
         ],
-        wanted: FORMS,
-        calls: None,
+        is_part: false,
         is_text_full: false,
         text: "[pid 1] fork() = 2
 [pid 1] fork() = 3
@@ -191,8 +200,7 @@ static CASES: [Case; 6] = [
             ("/console", Given::Console),
             ("/init", Given::Program(FAULTS)),
         ],
-        wanted: FORMS,
-        calls: None,
+        is_part: false,
         is_text_full: false,
         text: "[pid 1] fork() = 2
 [pid 1] wait(0x2fd8 <unfinished ...>
@@ -211,8 +219,7 @@ static CASES: [Case; 6] = [
             ("/console", Given::Console),
             ("/init", Given::Program(SLEEPER)),
         ],
-        wanted: FORMS,
-        calls: None,
+        is_part: false,
         is_text_full: false,
         text: "[pid 1] fork() = 2
 [pid 1] sleep(1 <unfinished ...>
@@ -233,17 +240,7 @@ static CASES: [Case; 6] = [
     Case {
         name: "a part is told",
         files: &PIPELINE,
-        wanted: Wanted {
-            pid: Some(2),
-            from: 83,
-            to: 93,
-            joins: false,
-            times: true,
-            turns: true,
-            core_is_pid: true,
-            ..FORMS
-        },
-        calls: Some("read,write"),
+        is_part: true,
         is_text_full: false,
         text: "83 [pid 2] write(1, \"i\", 1) = 1
 87 [pid 2] write(1, \"\\n\", 1) = 1
@@ -255,8 +252,7 @@ static CASES: [Case; 6] = [
     Case {
         name: "a full sink is told",
         files: &PIPELINE,
-        wanted: FORMS,
-        calls: None,
+        is_part: false,
         is_text_full: true,
         text: "",
         commits: &[],
@@ -264,16 +260,14 @@ static CASES: [Case; 6] = [
     },
 ];
 
-// What is wanted of a run, and of which calls.
+// What is wanted of a run.
 fn wanted_of(case: &Case) -> Option<Wanted> {
-    let Some(names) = case.calls else {
-        return Some(case.wanted);
-    };
-    let calls = CallSet::parse(names).ok()?;
-    Some(Wanted {
-        calls,
-        ..case.wanted
-    })
+    if !case.is_part {
+        return Some(FORMS);
+    }
+    let mut wanted = PART;
+    wanted.calls = CallSet::parse("read,write").ok()?;
+    Some(wanted)
 }
 
 // The machine of a run's programs.
@@ -320,10 +314,17 @@ fn are_right(alloc: Global, case: &Case, pages: &Pages) -> bool {
         && has_commits(case, pages.commits.as_str())
 }
 
+// Whether what is written of a run is as the case says.
+fn tells(alloc: Global, run: &mut Whole, case: &Case) -> Option<bool> {
+    let (pages, done) = traced(alloc, run, case)?;
+    Some(ends(case, done) && are_right(alloc, case, &pages))
+}
+
 fn holds(alloc: Global, case: &Case) -> Option<bool> {
     let mut run = booted(alloc, case)?;
-    let (pages, done) = traced(alloc, &mut run, case)?;
-    Some(ends(case, done) && are_right(alloc, case, &pages))
+    let holds = tells(alloc, &mut run, case);
+    run.end();
+    holds
 }
 
 #[test]
