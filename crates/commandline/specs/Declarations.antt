@@ -57,6 +57,10 @@ count_rule name = record (new_rule name) {
   parser = Some (Signed (pos 1) (pos 4294967295));
 }
 
+-- --name
+abbrev pub named_rule : Text → Rule
+named_rule name = record (new_rule name) { long = Some name }
+
 -- --name WORD, which may be left out
 abbrev pub option_rule : Text → Rule
 option_rule name = record (new_rule name) { long = Some name; value_names = 1 }

@@ -1,7 +1,7 @@
 //! What the words of a command line ask for.
 ghost use Rattle.std.specs.Prelude.{◌≡◌, ◌↔◌, IfOk, IfSome, IsTrue, Some, codes, false, fold, map, option_map};
 ghost use Rattle.clap.specs.Words.{app_of, first_of, found_of, rows_of, rule_of, subcommand_of, subcommand_rows_of};
-ghost use Rattle.commandline.specs.Declarations.{DeclaresOwn, IsCount, IsJob, IsLines, IsPart, IsRun, IsTelling, IsWritten, Writes, declared, declared_by, declared_top, number_rule, rule_given, with_declared};
+ghost use Rattle.commandline.specs.Declarations.{DeclaresOwn, IsCount, IsJob, IsLines, IsPart, IsRun, IsTelling, IsWritten, Writes, declared, declared_by, declared_top, flag_rule, last_rule, named_rule, option_rule, rule_given, with_declared};
 
 use crate::declarations::{COMMANDS, Declared, EXAMPLE, Given, Word};
 use crate::jobs::{
@@ -16,47 +16,55 @@ use std::num::NonZeroU64;
 /// What `--version` prints behind the name: the list of changes tells what each version brought.
 const VERSION: &str = "0.9.0";
 
-// An option with a number.
-fn number<'a>(alloc: Global, name: &'a str, default: &'a str, help: &'a str) -> Arg<'a>
-    ensures rule { rule_of result ≡ number_rule name.now default.now }
+// An argument that is given by its place.
+fn placed<'a>(alloc: Global, word: &Word<'a>) -> Arg<'a>
+    ensures rule { rule_of result ≡ last_rule word.now.name.now }
     ensures local { result.global ≡ false }
 {
-    Arg::new(alloc, name)
-        .long(name)
-        .value_name("N")
-        .help(help)
-        .value_parser(value_parser!(u32))
-        .default_value(default)
+    Arg::new(alloc, word.name).help(word.help)
+}
+
+// An argument that is given by its name.
+fn named<'a>(alloc: Global, word: &Word<'a>) -> Arg<'a>
+    ensures rule { rule_of result ≡ named_rule word.now.name.now }
+    ensures local { result.global ≡ false }
+{
+    placed(alloc, word).long(word.name)
+}
+
+// An option; help calls its value so.
+fn option<'a>(alloc: Global, word: &Word<'a>, value: &'a str) -> Arg<'a>
+    ensures rule { rule_of result ≡ option_rule word.now.name.now }
+    ensures local { result.global ≡ false }
+{
+    named(alloc, word).value_name(value)
+}
+
+// A flag.
+fn flag<'a>(alloc: Global, word: &Word<'a>) -> Arg<'a>
+    ensures rule { rule_of result ≡ flag_rule word.now.name.now }
+    ensures local { result.global ≡ false }
+{
+    named(alloc, word).action(ArgAction::SetTrue)
 }
 
 // What the command line takes for a word.
-fn arg<'a>(alloc: Global, word: Word<'a>) -> Arg<'a>
-    ensures rule { rule_of result ≡ rule_given word.entry.name.now word.entry.given }
+fn arg<'a>(alloc: Global, word: &Word<'a>) -> Arg<'a>
+    ensures rule { rule_of result ≡ rule_given word.now.name.now word.now.given }
     ensures local { result.global ≡ false }
 {
-    let name = word.name;
     match word.given {
-        Given::Bare => Arg::new(alloc, name).help(word.help).required(true),
-        Given::Last => Arg::new(alloc, name).help(word.help),
-        Given::Number(default) => number(alloc, name, default, word.help),
-        Given::Count(value) => Arg::new(alloc, name)
-            .long(name)
-            .value_name(value)
-            .help(word.help)
-            .value_parser(value_parser!(u32).range(1..)),
-        Given::Option(value) => Arg::new(alloc, name)
-            .long(name)
-            .value_name(value)
-            .help(word.help),
-        Given::Flag => Arg::new(alloc, name)
-            .long(name)
-            .help(word.help)
-            .action(ArgAction::SetTrue),
-        Given::Letter(letter) => Arg::new(alloc, name)
-            .long(name)
-            .short(letter)
-            .help(word.help)
-            .action(ArgAction::SetTrue),
+        Given::Bare => placed(alloc, word).required(true),
+        Given::Last => placed(alloc, word),
+        Given::Number(default) => option(alloc, word, "N")
+            .value_parser(value_parser!(u32))
+            .default_value(default),
+        Given::Count(value) => {
+            option(alloc, word, value).value_parser(value_parser!(u32).range(1..))
+        }
+        Given::Option(value) => option(alloc, word, value),
+        Given::Flag => flag(alloc, word),
+        Given::Letter(letter) => flag(alloc, word).short(letter),
     }
 }
 
@@ -68,7 +76,7 @@ fn command_of<'a>(alloc: Global, row: &Declared<'a>) -> Result<Command<'a>, Allo
         .about(row.about)
         .after_help(row.example);
     for word in row.words {
-        command = command.arg(arg(alloc, *word))?;
+        command = command.arg(arg(alloc, word))?;
     }
     Ok(command)
 }
@@ -92,7 +100,13 @@ fn with_commands<'a>(alloc: Global, rows: &[Declared<'a>]) -> Result<Command<'a>
 {
     let mut command = bare_command(alloc);
     for row in rows {
-        command = command.subcommand(command_of(alloc, row)?)?;
+        let Ok(row) = command_of(alloc, row) else {
+            return Err(AllocError);
+        };
+        let Ok(whole) = command.subcommand(row) else {
+            return Err(AllocError);
+        };
+        command = whole;
     }
     Ok(command)
 }
@@ -118,6 +132,19 @@ fn word_found<'a>(found: &ArgMatches<'a>, name: &str) -> Option<&'a str>
     option_found(found, name)
 }
 
+// The two words that were found of these names.
+fn two_words<'a>(found: &ArgMatches<'a>, one: &str, other: &str) -> Option<(&'a str, &'a str)>
+    ensures { IfSome result (λ two. (first_of one.now (rows_of (found_of found.now)) ≡ Some two.0.now) × (first_of other.now (rows_of (found_of found.now)) ≡ Some two.1.now)) }
+{
+    let Some(one) = word_found(found, one) else {
+        return None;
+    };
+    let Some(other) = word_found(found, other) else {
+        return None;
+    };
+    Some((one, other))
+}
+
 // The number that digits alone write.
 fn number_of(text: &str) -> Option<u32>
     ensures { IfSome result (Writes text.now) }
@@ -132,7 +159,10 @@ fn number_of(text: &str) -> Option<u32>
 fn number_found<'a>(found: &ArgMatches<'a>, name: &str) -> Option<u32>
     ensures { IfSome result (IsWritten name.now (rows_of (found_of found.now))) }
 {
-    number_of(word_found(found, name)?)
+    let Some(text) = word_found(found, name) else {
+        return None;
+    };
+    number_of(text)
 }
 
 // What was found is no number from 1 on.
@@ -190,11 +220,16 @@ fn telling<'a>(found: &ArgMatches<'a>) -> Option<Telling<'a>>
 fn flat<'a>(found: &ArgMatches<'a>) -> Option<Job<'a>>
     ensures { IfSome result (IsJob (Some (codes "flat", rows_of (found_of found.now)))) }
 {
-    let frames = number_found(found, "frames")?;
+    let Some(frames) = number_found(found, "frames") else {
+        return None;
+    };
     let tlb = flag_found(found, "tlb");
-    let telling = telling(found)?;
-    let file = word_found(found, "FILE")?;
-    let script = word_found(found, "SCRIPT")?;
+    let Some(telling) = telling(found) else {
+        return None;
+    };
+    let Some((file, script)) = two_words(found, "FILE", "SCRIPT") else {
+        return None;
+    };
     Some(Job::Flat(Flat {
         frames,
         tlb,
@@ -208,15 +243,20 @@ fn flat<'a>(found: &ArgMatches<'a>) -> Option<Job<'a>>
 fn run_found<'a>(found: &ArgMatches<'a>, last: &str) -> Option<Run<'a>>
     ensures { IfSome result (IsRun last.now (rows_of (found_of found.now))) }
 {
-    let frames = number_found(found, "frames")?;
+    let Some(frames) = number_found(found, "frames") else {
+        return None;
+    };
     let tlb = flag_found(found, "tlb");
     let Ok(fail) = count_found(found, "fail") else {
         return None;
     };
     let save = option_found(found, "save");
-    let telling = telling(found)?;
-    let image = word_found(found, "IMAGE")?;
-    let script = word_found(found, last)?;
+    let Some(telling) = telling(found) else {
+        return None;
+    };
+    let Some((image, script)) = two_words(found, "IMAGE", last) else {
+        return None;
+    };
     Some(Run {
         frames,
         tlb,
@@ -232,14 +272,19 @@ fn run_found<'a>(found: &ArgMatches<'a>, last: &str) -> Option<Run<'a>>
 fn run<'a>(found: &ArgMatches<'a>) -> Option<Job<'a>>
     ensures { IfSome result (IsJob (Some (codes "run", rows_of (found_of found.now)))) }
 {
-    Some(Job::Run(run_found(found, "SCRIPT")?))
+    let Some(run) = run_found(found, "SCRIPT") else {
+        return None;
+    };
+    Some(Job::Run(run))
 }
 
 // What the words after `play` ask for.
 fn play<'a>(found: &ArgMatches<'a>) -> Option<Job<'a>>
     ensures { IfSome result (IsJob (Some (codes "play", rows_of (found_of found.now)))) }
 {
-    let run = run_found(found, "PLAY")?;
+    let Some(run) = run_found(found, "PLAY") else {
+        return None;
+    };
     let script = option_found(found, "script");
     Some(Job::Play(Play { run, script }))
 }
@@ -270,7 +315,9 @@ fn part<'a>(found: &ArgMatches<'a>) -> Option<Part<'a>>
 fn lines<'a>(found: &ArgMatches<'a>) -> Option<Lines>
     ensures { IfSome result (IsLines (rows_of (found_of found.now))) }
 {
-    let bytes = number_found(found, "bytes")?;
+    let Some(bytes) = number_found(found, "bytes") else {
+        return None;
+    };
     let each = flag_found(found, "each");
     let time = flag_found(found, "time");
     let turns = flag_found(found, "turns");
@@ -288,9 +335,15 @@ fn lines<'a>(found: &ArgMatches<'a>) -> Option<Lines>
 fn trace<'a>(found: &ArgMatches<'a>) -> Option<Job<'a>>
     ensures { IfSome result (IsJob (Some (codes "trace", rows_of (found_of found.now)))) }
 {
-    let run = run_found(found, "SCRIPT")?;
-    let part = part(found)?;
-    let lines = lines(found)?;
+    let Some(run) = run_found(found, "SCRIPT") else {
+        return None;
+    };
+    let Some(part) = part(found) else {
+        return None;
+    };
+    let Some(lines) = lines(found) else {
+        return None;
+    };
     let text = option_found(found, "text");
     let perfetto = option_found(found, "perfetto");
     let commits = option_found(found, "commits");
@@ -308,10 +361,15 @@ fn trace<'a>(found: &ArgMatches<'a>) -> Option<Job<'a>>
 fn mkfs<'a>(found: &ArgMatches<'a>) -> Option<Job<'a>>
     ensures { IfSome result (IsJob (Some (codes "mkfs", rows_of (found_of found.now)))) }
 {
-    let size = number_found(found, "size")?;
-    let inodes = number_found(found, "inodes")?;
-    let manifest = word_found(found, "MANIFEST")?;
-    let image = word_found(found, "IMAGE")?;
+    let Some(size) = number_found(found, "size") else {
+        return None;
+    };
+    let Some(inodes) = number_found(found, "inodes") else {
+        return None;
+    };
+    let Some((manifest, image)) = two_words(found, "MANIFEST", "IMAGE") else {
+        return None;
+    };
     Some(Job::Mkfs(Mkfs {
         size,
         inodes,
@@ -324,7 +382,9 @@ fn mkfs<'a>(found: &ArgMatches<'a>) -> Option<Job<'a>>
 fn check<'a>(found: &ArgMatches<'a>) -> Option<Job<'a>>
     ensures { IfSome result (IsJob (Some (codes "check", rows_of (found_of found.now)))) }
 {
-    let image = word_found(found, "IMAGE")?;
+    let Some(image) = word_found(found, "IMAGE") else {
+        return None;
+    };
     Some(Job::Check(Check { image }))
 }
 
@@ -333,8 +393,9 @@ fn ls<'a>(found: &ArgMatches<'a>) -> Option<Job<'a>>
     ensures { IfSome result (IsJob (Some (codes "ls", rows_of (found_of found.now)))) }
 {
     let recursive = flag_found(found, "recursive");
-    let image = word_found(found, "IMAGE")?;
-    let path = word_found(found, "PATH")?;
+    let Some((image, path)) = two_words(found, "IMAGE", "PATH") else {
+        return None;
+    };
     Some(Job::Ls(Ls {
         recursive,
         image,
@@ -346,8 +407,9 @@ fn ls<'a>(found: &ArgMatches<'a>) -> Option<Job<'a>>
 fn get<'a>(found: &ArgMatches<'a>) -> Option<Job<'a>>
     ensures { IfSome result (IsJob (Some (codes "get", rows_of (found_of found.now)))) }
 {
-    let image = word_found(found, "IMAGE")?;
-    let path = word_found(found, "PATH")?;
+    let Some((image, path)) = two_words(found, "IMAGE", "PATH") else {
+        return None;
+    };
     let out = option_found(found, "OUT");
     Some(Job::Get(Get { image, path, out }))
 }
@@ -356,9 +418,12 @@ fn get<'a>(found: &ArgMatches<'a>) -> Option<Job<'a>>
 fn put<'a>(found: &ArgMatches<'a>) -> Option<Job<'a>>
     ensures { IfSome result (IsJob (Some (codes "put", rows_of (found_of found.now)))) }
 {
-    let image = word_found(found, "IMAGE")?;
-    let path = word_found(found, "PATH")?;
-    let file = word_found(found, "FILE")?;
+    let Some((image, path)) = two_words(found, "IMAGE", "PATH") else {
+        return None;
+    };
+    let Some(file) = word_found(found, "FILE") else {
+        return None;
+    };
     Some(Job::Put(Put { image, path, file }))
 }
 
@@ -366,8 +431,9 @@ fn put<'a>(found: &ArgMatches<'a>) -> Option<Job<'a>>
 fn migrate<'a>(found: &ArgMatches<'a>) -> Option<Job<'a>>
     ensures { IfSome result (IsJob (Some (codes "migrate", rows_of (found_of found.now)))) }
 {
-    let old = word_found(found, "OLD")?;
-    let new = word_found(found, "NEW")?;
+    let Some((old, new)) = two_words(found, "OLD", "NEW") else {
+        return None;
+    };
     Some(Job::Migrate(Migrate { old, new }))
 }
 
@@ -375,8 +441,9 @@ fn migrate<'a>(found: &ArgMatches<'a>) -> Option<Job<'a>>
 fn asm<'a>(found: &ArgMatches<'a>) -> Option<Job<'a>>
     ensures { IfSome result (IsJob (Some (codes "asm", rows_of (found_of found.now)))) }
 {
-    let text = word_found(found, "TEXT")?;
-    let elf = word_found(found, "ELF")?;
+    let Some((text, elf)) = two_words(found, "TEXT", "ELF") else {
+        return None;
+    };
     Some(Job::Asm(Asm { text, elf }))
 }
 
@@ -384,7 +451,9 @@ fn asm<'a>(found: &ArgMatches<'a>) -> Option<Job<'a>>
 fn dump<'a>(found: &ArgMatches<'a>) -> Option<Job<'a>>
     ensures { IfSome result (IsJob (Some (codes "dump", rows_of (found_of found.now)))) }
 {
-    let elf = word_found(found, "ELF")?;
+    let Some(elf) = word_found(found, "ELF") else {
+        return None;
+    };
     Some(Job::Dump(Dump { elf }))
 }
 
@@ -392,14 +461,18 @@ fn dump<'a>(found: &ArgMatches<'a>) -> Option<Job<'a>>
 fn live<'a>(found: &ArgMatches<'a>) -> Option<Job<'a>>
     ensures { IfSome result (IsJob (Some (codes "live", rows_of (found_of found.now)))) }
 {
-    let frames = number_found(found, "frames")?;
+    let Some(frames) = number_found(found, "frames") else {
+        return None;
+    };
     let Ok(quantum) = count_found(found, "quantum") else {
         return None;
     };
     let script = option_found(found, "record");
     let save = option_found(found, "save");
     let terminal = flag_found(found, "terminal");
-    let image = word_found(found, "IMAGE")?;
+    let Some(image) = word_found(found, "IMAGE") else {
+        return None;
+    };
     Some(Job::Live(Live {
         frames,
         quantum,
@@ -408,6 +481,51 @@ fn live<'a>(found: &ArgMatches<'a>) -> Option<Job<'a>>
         terminal,
         image,
     }))
+}
+
+// The job that was found, which works on the text or the file of a program.
+fn program_job<'a>(matches: &ArgMatches<'a>) -> Option<Job<'a>>
+    ensures { IfSome result (IsJob (subcommand_rows_of matches.now)) }
+{
+    if let Some(found) = matches.subcommand_matches("asm") {
+        return asm(found);
+    }
+    if let Some(found) = matches.subcommand_matches("dump") {
+        return dump(found);
+    }
+    None
+}
+
+// The job that was found, which takes or changes files of an image, or works on a program.
+fn file_job<'a>(matches: &ArgMatches<'a>) -> Option<Job<'a>>
+    ensures { IfSome result (IsJob (subcommand_rows_of matches.now)) }
+{
+    if let Some(found) = matches.subcommand_matches("get") {
+        return get(found);
+    }
+    if let Some(found) = matches.subcommand_matches("put") {
+        return put(found);
+    }
+    if let Some(found) = matches.subcommand_matches("migrate") {
+        return migrate(found);
+    }
+    program_job(matches)
+}
+
+// The job that was found, which doesn't boot a machine.
+fn image_job<'a>(matches: &ArgMatches<'a>) -> Option<Job<'a>>
+    ensures { IfSome result (IsJob (subcommand_rows_of matches.now)) }
+{
+    if let Some(found) = matches.subcommand_matches("mkfs") {
+        return mkfs(found);
+    }
+    if let Some(found) = matches.subcommand_matches("check") {
+        return check(found);
+    }
+    if let Some(found) = matches.subcommand_matches("ls") {
+        return ls(found);
+    }
+    file_job(matches)
 }
 
 // The job that was found.
@@ -429,28 +547,7 @@ fn job_found<'a>(matches: &ArgMatches<'a>) -> Option<Job<'a>>
     if let Some(found) = matches.subcommand_matches("trace") {
         return trace(found);
     }
-    if let Some(found) = matches.subcommand_matches("mkfs") {
-        return mkfs(found);
-    }
-    if let Some(found) = matches.subcommand_matches("check") {
-        return check(found);
-    }
-    if let Some(found) = matches.subcommand_matches("ls") {
-        return ls(found);
-    }
-    if let Some(found) = matches.subcommand_matches("get") {
-        return get(found);
-    }
-    if let Some(found) = matches.subcommand_matches("put") {
-        return put(found);
-    }
-    if let Some(found) = matches.subcommand_matches("migrate") {
-        return migrate(found);
-    }
-    if let Some(found) = matches.subcommand_matches("asm") {
-        return asm(found);
-    }
-    dump(matches.subcommand_matches("dump")?)
+    image_job(matches)
 }
 
 // Why the words are no job, where the command line let them pass: a number has a sign.
@@ -487,9 +584,16 @@ pub fn job<'a>(alloc: Global, words: &'a [&'a str]) -> Result<Job<'a>, Error>
 
 /// Whether the words ask that more is said of what is wrong, in a line behind the usual one.
 pub fn explains(words: &[&str]) -> bool {
-    words
-        .iter()
-        .skip(1)
-        .take_while(|word| **word != "--")
-        .any(|word| *word == "--explain")
+    let Some((_program, words)) = words.split_first() else {
+        return false;
+    };
+    for word in words {
+        if *word == "--" {
+            return false;
+        }
+        if *word == "--explain" {
+            return true;
+        }
+    }
+    false
 }

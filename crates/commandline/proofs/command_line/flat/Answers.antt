@@ -3,9 +3,9 @@ use Rattle.commandline.proofs.command_line.flat.Goals as goal
 
 pub returns : goal.returns
 returns c = told (record {
-  frames = c.in_ok-frames.ensures;
+  frames = c.in-Some.ensures;
   tlb = c.flag_found-tlb.ensures;
-  telling = c.in_ok-telling.ensures;
-  file = c.in_ok-file.ensures;
-  script = c.in_ok-script.ensures;
+  telling = c.in-Some-telling.ensures;
+  file = c.in-Some-two_words.ensures.0;
+  script = c.in-Some-two_words.ensures.1;
 })

@@ -2,7 +2,7 @@ use Rattle.commandline.proofs.command_line.lines.Goals as goal
 
 pub returns : goal.returns
 returns c = record {
-  bytes = c.in_ok-bytes.ensures;
+  bytes = c.in-Some.ensures;
   each = c.flag_found-each.ensures;
   time = c.flag_found-time.ensures;
   turns = c.flag_found-turns.ensures;

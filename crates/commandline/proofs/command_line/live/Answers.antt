@@ -3,10 +3,10 @@ use Rattle.commandline.proofs.command_line.live.Goals as goal
 
 pub returns : goal.returns
 returns c = told (record {
-  frames = c.in_ok-frames.ensures;
+  frames = c.in-Some.ensures;
   quantum = c.in-Ok.ensures;
   script = c.option_found-script.ensures;
   save = c.option_found-save.ensures;
   terminal = c.flag_found-terminal.ensures;
-  image = c.in_ok-image.ensures;
+  image = c.in-Some-word_found.ensures;
 })

@@ -3,8 +3,8 @@ use Rattle.commandline.proofs.command_line.mkfs.Goals as goal
 
 pub returns : goal.returns
 returns c = told (record {
-  size = c.in_ok-size.ensures;
-  inodes = c.in_ok-inodes.ensures;
-  manifest = c.in_ok-manifest.ensures;
-  image = c.in_ok-image.ensures;
+  size = c.in-Some.ensures;
+  inodes = c.in-Some-number_found.ensures;
+  manifest = c.in-Some-two_words.ensures.0;
+  image = c.in-Some-two_words.ensures.1;
 })

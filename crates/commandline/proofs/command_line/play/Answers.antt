@@ -3,6 +3,6 @@ use Rattle.commandline.proofs.command_line.play.Goals as goal
 
 pub returns : goal.returns
 returns c = told (record {
-  run = c.in_ok-run.ensures;
+  run = c.in-Some.ensures;
   script = c.option_found-script.ensures;
 })

@@ -3,7 +3,7 @@ use Rattle.commandline.proofs.command_line.put.Goals as goal
 
 pub returns : goal.returns
 returns c = told (record {
-  image = c.in_ok-image.ensures;
-  path = c.in_ok-path.ensures;
-  file = c.in_ok-file.ensures;
+  image = c.in-Some.ensures.0;
+  path = c.in-Some.ensures.1;
+  file = c.in-Some-word_found.ensures;
 })

@@ -2,4 +2,4 @@ use Rattle.commandline.proofs.CommandLineLemmas.{told}
 use Rattle.commandline.proofs.command_line.run.Goals as goal
 
 pub returns : goal.returns
-returns c = told c.in_ok-run_found.ensures
+returns c = told c.in-Some.ensures

@@ -3,9 +3,9 @@ use Rattle.commandline.proofs.command_line.trace.Goals as goal
 
 pub returns : goal.returns
 returns c = told (record {
-  run = c.in_ok-run.ensures;
-  part = c.in_ok-part.ensures;
-  lines = c.in_ok-lines.ensures;
+  run = c.in-Some.ensures;
+  part = c.in-Some-part.ensures;
+  lines = c.in-Some-lines.ensures;
   text = c.option_found-text.ensures;
   perfetto = c.option_found-perfetto.ensures;
   commits = c.option_found-commits.ensures;
