@@ -60,18 +60,29 @@ fn repeat<'a>(name: &'a [u8], words: &mut Words<'a>) -> Result<Deed<'a>, Fault<'
     Ok(Deed::Repeat { times, end: 0 })
 }
 
+// The command of a script that a line says that has this first word.
+fn command<'a>(
+    alloc: Global,
+    name: &'a [u8],
+    words: &mut Words<'a>,
+) -> Result<Command<'a>, Fault<'a>> {
+    match name {
+        b"step" => Ok(Command::Step(words.number(name)?)),
+        b"tick" => Ok(Command::Tick(words.number(name)?)),
+        b"keys" => keys(alloc, name, words),
+        _ => Err(Fault::at(name, Why::Command)),
+    }
+}
+
 // What a line says that has this first word.
 fn deed<'a>(alloc: Global, name: &'a [u8], words: &mut Words<'a>) -> Result<Deed<'a>, Fault<'a>> {
     match name {
-        b"step" => Ok(Deed::Give(Command::Step(words.number(name)?))),
-        b"tick" => Ok(Deed::Give(Command::Tick(words.number(name)?))),
-        b"keys" => Ok(Deed::Give(keys(alloc, name, words)?)),
         b"until" => until(name, words),
         b"every" => every(name, words),
         b"random" => random(name, words),
         b"repeat" => repeat(name, words),
         b"}" => Ok(Deed::End),
-        _ => Err(Fault::at(name, Why::Command)),
+        _ => Ok(Deed::Give(command(alloc, name, words)?)),
     }
 }
 
@@ -126,11 +137,12 @@ impl<'a> Draft<'a> {
         let Some((name, deed)) = deed_of(alloc, bytes)? else {
             return Ok(());
         };
-        match deed {
-            Deed::Repeat { .. } => self.open(name)?,
-            Deed::End => self.close(name)?,
-            _ => {}
-        }
+        let fits = match deed {
+            Deed::Repeat { .. } => self.open(name),
+            Deed::End => self.close(name),
+            _ => Ok(()),
+        };
+        fits?;
         self.acts.push(Act { line, deed })?;
         Ok(())
     }

@@ -114,24 +114,24 @@ impl<'a> Words<'a> {
 
 // The byte that two hexadecimal digits write, with which a text begins, and the rest.
 fn hex_byte(bytes: &[u8]) -> Option<(u8, &[u8])> {
-    let (high, rest) = bytes.split_first()?;
-    let (low, rest) = rest.split_first()?;
-    Some((pair_value(*high, *low)?, rest))
+    match bytes {
+        [high, low, rest @ ..] => Some((pair_value(*high, *low)?, rest)),
+        _ => None,
+    }
 }
 
 // The byte that a quoted text begins with, and the rest; `None` where an escape is unknown.
 fn first_byte(bytes: &[u8]) -> Option<(u8, &[u8])> {
-    let (first, rest) = bytes.split_first()?;
-    if *first != b'\\' {
-        return Some((*first, rest));
-    }
-    let (escaped, rest) = rest.split_first()?;
-    match *escaped {
-        b'n' => Some((b'\n', rest)),
-        b't' => Some((b'\t', rest)),
-        b'\\' | b'"' => Some((*escaped, rest)),
-        b'x' => hex_byte(rest),
-        _ => None,
+    match bytes {
+        [b'\\', escaped, rest @ ..] => match *escaped {
+            b'n' => Some((b'\n', rest)),
+            b't' => Some((b'\t', rest)),
+            b'\\' | b'"' => Some((*escaped, rest)),
+            b'x' => hex_byte(rest),
+            _ => None,
+        },
+        [] | [b'\\'] => None,
+        [first, rest @ ..] => Some((*first, rest)),
     }
 }
 
