@@ -209,23 +209,39 @@ const IN_VAIN: Meaning = (
     "the machine didn't come to that in so many steps: --report tells what each process does",
 );
 
+// Where a text stands in the lines that it is found in.
+#[derive(Clone, Copy)]
+enum Place {
+    Whole,
+    Begin,
+    End,
+    Within,
+}
+
+// Whether a text stands in a line.
+fn stands(text: &str, place: Place, line: &str) -> bool {
+    match place {
+        Place::Whole => line == text,
+        Place::Begin => line.starts_with(text),
+        Place::End => line.ends_with(text),
+        Place::Within => line.contains(text),
+    }
+}
+
+// What a line means in which one of these texts stands.
+fn among(meanings: &[Meaning], place: Place, line: &str) -> Option<&'static str> {
+    for (text, means) in meanings {
+        if stands(text, place, line) {
+            return Some(*means);
+        }
+    }
+    None
+}
+
 /// What a line means by which the program tells how a job ended, and what to do.
 pub fn meaning(line: &str) -> Option<&'static str> {
-    for (text, means) in &LINES {
-        if line == *text {
-            return Some(*means);
-        }
-    }
-    for (text, means) in &BEGINNINGS {
-        if line.starts_with(*text) {
-            return Some(*means);
-        }
-    }
-    for (text, means) in &ENDS {
-        if line.ends_with(*text) {
-            return Some(*means);
-        }
-    }
-    let (text, means) = IN_VAIN;
-    line.contains(text).then_some(means)
+    among(&LINES, Place::Whole, line)
+        .or(among(&BEGINNINGS, Place::Begin, line))
+        .or(among(&ENDS, Place::End, line))
+        .or(among(&[IN_VAIN], Place::Within, line))
 }
