@@ -1,131 +1,18 @@
 //! The arguments of a call as text.
 
-use crate::call_names::call_of;
 use crate::memory;
-use crate::quoting::Quoted;
 use arrayvec::ArrayVec;
 use blockdev::BlockDev;
 use machine::{Call, Machine};
-use std::alloc::{AllocError, Global};
-use std::fmt;
+use std::alloc::AllocError;
 use sv39::Translate;
+use tracetext::{Asked, CallText, Quoted, Shown};
 
 /// The most bytes of a path.
 const MOST_PATH: usize = 127;
 
 /// The most arguments of a program, with the 0 behind them.
 const MOST_ARGUMENTS: u64 = 32;
-
-/// A call that a process made.
-#[derive(Clone, Copy)]
-pub struct Asked {
-    pub pid: u32,
-    /// The number of the call, or of none.
-    pub number: u32,
-    /// The registers a0 to a5 as it began.
-    pub arguments: [u64; 6],
-    /// The number of the event in which it began.
-    pub at: u64,
-}
-
-impl Asked {
-    /// The call, if the number is one of one.
-    pub fn call(&self) -> Option<Call> {
-        call_of(self.number)
-    }
-}
-
-/// How much of a buffer is shown.
-#[derive(Clone, Copy, PartialEq, Eq)]
-pub enum Shown {
-    /// There is none to show.
-    Nothing,
-    /// All of it.
-    Whole,
-    /// Its first bytes.
-    Cut,
-}
-
-/// The arguments of a call: what comes before the bytes of a buffer, these bytes, and what comes behind them.
-#[derive(Drop)]
-pub struct CallText {
-    pub front: String,
-    pub data: Vec<u8>,
-    pub shown: Shown,
-    pub back: String,
-}
-
-impl CallText {
-    /// No arguments.
-    pub fn new(alloc: Global) -> CallText {
-        CallText {
-            front: String::new(alloc),
-            data: Vec::new(alloc),
-            shown: Shown::Nothing,
-            back: String::new(alloc),
-        }
-    }
-
-    fn clear(&mut self) {
-        self.front.clear();
-        self.data.clear();
-        self.shown = Shown::Nothing;
-        self.back.clear();
-    }
-
-    /// Puts these arguments in the place of its own.
-    pub fn copy_from(&mut self, other: &CallText) -> Result<(), AllocError> {
-        self.clear();
-        self.front.push_str(other.front.as_str())?;
-        self.data.extend_from_slice(other.data.as_slice())?;
-        self.shown = other.shown;
-        self.back.push_str(other.back.as_str())
-    }
-
-    /// Puts bytes behind those of the buffer, as far as so many are shown.
-    pub fn add_data(&mut self, bytes: &[u8], most: usize) -> Result<(), AllocError> {
-        for byte in bytes {
-            if self.data.len() >= most {
-                self.shown = Shown::Cut;
-                break;
-            }
-            self.data.push(*byte)?;
-        }
-        Ok(())
-    }
-
-    /// What a call fills in: the bytes of the buffer and what stands behind them.
-    pub fn rest(&self) -> Rest<'_> {
-        Rest(self)
-    }
-}
-
-/// The end of the arguments, from the buffer on.
-#[derive(Clone, Copy)]
-pub struct Rest<'a>(&'a CallText);
-
-impl fmt::Display for Rest<'_> {
-    fn fmt<W: fmt::Write>(&self, f: &mut fmt::Formatter<W>) -> fmt::Result {
-        let text = self.0;
-        let (bytes, back) = (text.data.as_slice(), &text.back);
-        match text.shown {
-            Shown::Nothing => (),
-            Shown::Whole | Shown::Cut => {
-                let is_cut = text.shown == Shown::Cut;
-                let quoted = Quoted { bytes, is_cut };
-                write!(f, "{quoted}")?;
-            }
-        }
-        write!(f, "{back}")
-    }
-}
-
-impl fmt::Display for CallText {
-    fn fmt<W: fmt::Write>(&self, f: &mut fmt::Formatter<W>) -> fmt::Result {
-        let (front, rest) = (&self.front, self.rest());
-        write!(f, "{front}{rest}")
-    }
-}
 
 /// An argument as the kernel takes it: its low 32 bits, with their sign.
 pub fn int(argument: u64) -> i32 {
@@ -135,6 +22,29 @@ pub fn int(argument: u64) -> i32 {
 // A device's number: the low 16 bits, with their sign.
 fn short(argument: u64) -> i16 {
     ((argument % 0x1_0000) as u16).cast_signed()
+}
+
+// Writes an argument as a number.
+fn write_int(out: &mut String, argument: u64) -> Result<(), AllocError> {
+    let number = int(argument);
+    write!(out, "{number}")
+}
+
+// Writes an argument as an address.
+fn write_address(out: &mut String, address: u64) -> Result<(), AllocError> {
+    write!(out, "{address:#x}")
+}
+
+// Writes an argument as an address, behind another argument.
+fn write_next_address(out: &mut String, address: u64) -> Result<(), AllocError> {
+    out.push_str(", ")?;
+    write_address(out, address)
+}
+
+// Writes bytes in quotes.
+fn write_quoted(out: &mut String, bytes: &[u8], is_cut: bool) -> Result<(), AllocError> {
+    let quoted = Quoted { bytes, is_cut };
+    write!(out, "{quoted}")
 }
 
 // Writes the text that stands in memory up to a 0, quoted, or the address where none can be read.
@@ -148,22 +58,16 @@ fn write_string<D: BlockDev, T: Translate>(
     let mut string = ArrayVec::<u8, MOST_PATH>::new();
     for at in 0..128 {
         let Some(byte) = memory::byte(machine, pid, address.wrapping_add(at)) else {
-            return write!(out, "{address:#x}");
+            return write_address(out, address);
         };
         if byte == 0 {
-            let bytes = string.as_slice();
-            let is_cut = false;
-            let quoted = Quoted { bytes, is_cut };
-            return write!(out, "{quoted}");
+            return write_quoted(out, string.as_slice(), false);
         }
         if string.len() >= most || string.try_push(byte).is_err() {
             break;
         }
     }
-    let bytes = string.as_slice();
-    let is_cut = true;
-    let quoted = Quoted { bytes, is_cut };
-    write!(out, "{quoted}")
+    write_quoted(out, string.as_slice(), true)
 }
 
 // Writes the arguments of a program: texts up to an address of 0.
@@ -176,7 +80,7 @@ fn write_strings<D: BlockDev, T: Translate>(
 ) -> Result<(), AllocError> {
     for index in 0..MOST_ARGUMENTS {
         let place = address.wrapping_add(8 * index);
-        let pointer = memory::number(machine, pid, place, 8).unwrap_or(0);
+        let pointer = memory::double(machine, pid, place).unwrap_or(0);
         if pointer == 0 {
             break;
         }
@@ -188,50 +92,77 @@ fn write_strings<D: BlockDev, T: Translate>(
     Ok(())
 }
 
-// Writes how a file is opened, by the names that xv6 has.
-fn write_flags(out: &mut String, flags: u64) -> Result<(), AllocError> {
+// Whether a file is opened to be read, to be written, or both.
+fn access_name(flags: u64) -> &'static str {
     match flags % 4 {
-        0 => out.push_str("O_RDONLY")?,
-        1 => out.push_str("O_WRONLY")?,
-        2 => out.push_str("O_RDWR")?,
-        _ => out.push_str("O_WRONLY|O_RDWR")?,
+        0 => "O_RDONLY",
+        1 => "O_WRONLY",
+        2 => "O_RDWR",
+        _ => "O_WRONLY|O_RDWR",
     }
-    if flags & 0x200 != 0 {
-        out.push_str("|O_CREATE")?;
-    }
-    if flags & 0x400 != 0 {
-        out.push_str("|O_TRUNC")?;
-    }
-    let others = flags & 0xffff_f9fc;
-    if others != 0 {
-        write!(out, "|{others:#x}")?;
-    }
-    Ok(())
 }
 
-// Takes the first bytes of a buffer; whether they can be read.
-fn take_data<D: BlockDev, T: Translate>(
-    text: &mut CallText,
+// What is to become of a file that is opened.
+fn change_names(flags: u64) -> &'static str {
+    match (flags & 0x200 != 0, flags & 0x400 != 0) {
+        (false, false) => "",
+        (false, true) => "|O_TRUNC",
+        (true, false) => "|O_CREATE",
+        (true, true) => "|O_CREATE|O_TRUNC",
+    }
+}
+
+// Writes how a file is opened, by the names that xv6 has.
+fn write_flags(out: &mut String, flags: u64) -> Result<(), AllocError> {
+    out.push_str(access_name(flags))?;
+    out.push_str(change_names(flags))?;
+    let others = flags & 0xffff_f9fc;
+    if others == 0 {
+        Ok(())
+    } else {
+        write!(out, "|{others:#x}")
+    }
+}
+
+// Takes bytes of a buffer; whether they can be read.
+fn take_bytes<D: BlockDev, T: Translate>(
+    data: &mut Vec<u8>,
     machine: &Machine<D, T>,
     pid: u32,
     address: u64,
     count: u64,
-    most: usize,
 ) -> Result<bool, AllocError> {
-    text.shown = if count > most as u64 {
+    for at in 0..count {
+        let Some(byte) = memory::byte(machine, pid, address.wrapping_add(at)) else {
+            data.clear();
+            return Ok(false);
+        };
+        data.push(byte)?;
+    }
+    Ok(true)
+}
+
+// Takes the first bytes of a buffer, if so many are known, or its address.
+fn write_data<D: BlockDev, T: Translate>(
+    text: &mut CallText,
+    machine: &Machine<D, T>,
+    pid: u32,
+    address: u64,
+    known: Option<u64>,
+    most: u64,
+) -> Result<(), AllocError> {
+    let Some(count) = known else {
+        return write_address(&mut text.back, address);
+    };
+    if !take_bytes(&mut text.data, machine, pid, address, count.min(most))? {
+        return write_address(&mut text.back, address);
+    }
+    text.shown = if count > most {
         Shown::Cut
     } else {
         Shown::Whole
     };
-    for at in 0..count.min(most as u64) {
-        let Some(byte) = memory::byte(machine, pid, address.wrapping_add(at)) else {
-            text.data.clear();
-            text.shown = Shown::Nothing;
-            return Ok(false);
-        };
-        text.data.push(byte)?;
-    }
-    Ok(true)
+    Ok(())
 }
 
 // A buffer, of which so many bytes are known, and the count that was asked for.
@@ -243,16 +174,24 @@ fn write_buffer<D: BlockDev, T: Translate>(
     most: usize,
 ) -> Result<(), AllocError> {
     let [descriptor, address, count, ..] = asked.arguments;
-    let (descriptor, wanted) = (int(descriptor), int(count));
-    write!(text.front, "{descriptor}, ")?;
-    let is_shown = match known {
-        Some(known) => take_data(text, machine, asked.pid, address, known, most)?,
-        None => false,
-    };
-    if !is_shown {
-        write!(text.back, "{address:#x}")?;
+    write_int(&mut text.front, descriptor)?;
+    text.front.push_str(", ")?;
+    write_data(text, machine, asked.pid, address, known, most as u64)?;
+    text.back.push_str(", ")?;
+    write_int(&mut text.back, count)
+}
+
+// The status that a call of wait filled in.
+fn status_of<D: BlockDev, T: Translate>(
+    machine: &Machine<D, T>,
+    asked: &Asked,
+    answer: Option<i64>,
+) -> Option<u32> {
+    let [address, ..] = asked.arguments;
+    match answer {
+        Some(1..) => memory::word(machine, asked.pid, address),
+        _ => None,
     }
-    write!(text.back, ", {wanted}")
 }
 
 // The arguments of wait: where a status goes, or the one that came.
@@ -266,13 +205,26 @@ fn write_status<D: BlockDev, T: Translate>(
     if address == 0 {
         return text.back.push_str("NULL");
     }
-    if matches!(answer, Some(1..))
-        && let Some(status) = memory::number(machine, asked.pid, address, 4)
-    {
-        let status = int(status);
-        return write!(text.back, "[{status}]");
+    match status_of(machine, asked, answer) {
+        Some(status) => {
+            let status = status.cast_signed();
+            write!(text.back, "[{status}]")
+        }
+        None => write_address(&mut text.back, address),
     }
-    write!(text.back, "{address:#x}")
+}
+
+// The descriptors that a call of pipe filled in.
+fn ends_of<D: BlockDev, T: Translate>(
+    machine: &Machine<D, T>,
+    asked: &Asked,
+    answer: Option<i64>,
+) -> Option<u64> {
+    let [address, ..] = asked.arguments;
+    match answer {
+        Some(0) => memory::double(machine, asked.pid, address),
+        _ => None,
+    }
 }
 
 // The arguments of pipe: where its descriptors go, or those that came.
@@ -283,52 +235,104 @@ fn write_ends<D: BlockDev, T: Translate>(
     answer: Option<i64>,
 ) -> Result<(), AllocError> {
     let [address, ..] = asked.arguments;
-    if let Some(0) = answer
-        && let Some(ends) = memory::number(machine, asked.pid, address, 8)
-    {
-        let (read, write) = (int(ends), int(ends / 0x1_0000_0000));
-        return write!(text.front, "[{read}, {write}]");
+    match ends_of(machine, asked, answer) {
+        Some(ends) => {
+            let (read, write) = (int(ends), int(ends / 0x1_0000_0000));
+            write!(text.front, "[{read}, {write}]")
+        }
+        None => write_address(&mut text.front, address),
     }
-    write!(text.front, "{address:#x}")
+}
+
+// The arguments of a program that is to run, behind its path.
+fn write_program<D: BlockDev, T: Translate>(
+    out: &mut String,
+    machine: &Machine<D, T>,
+    asked: &Asked,
+    most: usize,
+) -> Result<(), AllocError> {
+    let [_, arguments, ..] = asked.arguments;
+    out.push_str(", [")?;
+    write_strings(out, machine, asked.pid, arguments, most)?;
+    out.push_str("]")
+}
+
+// The second path of a call, behind the first one.
+fn write_second_path<D: BlockDev, T: Translate>(
+    out: &mut String,
+    machine: &Machine<D, T>,
+    asked: &Asked,
+) -> Result<(), AllocError> {
+    let [_, path, ..] = asked.arguments;
+    out.push_str(", ")?;
+    write_string(out, machine, asked.pid, path, MOST_PATH)
+}
+
+// How a file is opened, behind its path.
+fn write_opening(out: &mut String, asked: &Asked) -> Result<(), AllocError> {
+    let [_, flags, ..] = asked.arguments;
+    out.push_str(", ")?;
+    write_flags(out, flags)
+}
+
+// The numbers of a device, behind its path.
+fn write_device(out: &mut String, asked: &Asked) -> Result<(), AllocError> {
+    let [_, major, minor, ..] = asked.arguments;
+    let (major, minor) = (short(major), short(minor));
+    write!(out, ", {major}, {minor}")
 }
 
 // The arguments of a call whose first one is a path.
 fn write_path_call<D: BlockDev, T: Translate>(
-    text: &mut CallText,
+    out: &mut String,
     machine: &Machine<D, T>,
     asked: &Asked,
     call: Call,
     most: usize,
 ) -> Result<(), AllocError> {
-    let [path, second, third, ..] = asked.arguments;
-    let pid = asked.pid;
-    write_string(&mut text.front, machine, pid, path, MOST_PATH)?;
+    let [path, ..] = asked.arguments;
+    write_string(out, machine, asked.pid, path, MOST_PATH)?;
     match call {
-        Call::Exec => {
-            text.front.push_str(", [")?;
-            write_strings(&mut text.front, machine, pid, second, most)?;
-            text.front.push_str("]")
-        }
-        Call::Open => {
-            text.front.push_str(", ")?;
-            write_flags(&mut text.front, second)
-        }
-        Call::Mknod => {
-            let (major, minor) = (short(second), short(third));
-            write!(text.front, ", {major}, {minor}")
-        }
-        Call::Link => {
-            text.front.push_str(", ")?;
-            write_string(&mut text.front, machine, pid, second, MOST_PATH)
-        }
+        Call::Exec => write_program(out, machine, asked, most),
+        Call::Open => write_opening(out, asked),
+        Call::Mknod => write_device(out, asked),
+        Call::Link => write_second_path(out, machine, asked),
         _ => Ok(()),
     }
 }
 
 // Three arguments of a number that no call has.
-fn write_unknown(text: &mut CallText, asked: &Asked) -> Result<(), AllocError> {
+fn write_unknown(out: &mut String, asked: &Asked) -> Result<(), AllocError> {
     let [first, second, third, ..] = asked.arguments;
-    write!(text.front, "{first:#x}, {second:#x}, {third:#x}")
+    write_address(out, first)?;
+    write_next_address(out, second)?;
+    write_next_address(out, third)
+}
+
+// The arguments of fstat: a descriptor, and where what is told goes.
+fn write_stat(out: &mut String, asked: &Asked) -> Result<(), AllocError> {
+    let [descriptor, address, ..] = asked.arguments;
+    write_int(out, descriptor)?;
+    write_next_address(out, address)
+}
+
+// How many bytes a call of read filled in, where that is known.
+fn count_read(answer: Option<i64>) -> Option<u64> {
+    match answer {
+        Some(count) if count >= 0 => Some(count.cast_unsigned()),
+        _ => None,
+    }
+}
+
+// How many bytes a call of write takes; `None` where its count is below 0.
+fn count_written(asked: &Asked) -> Option<u64> {
+    let [_, _, count, ..] = asked.arguments;
+    let count = int(count);
+    if count < 0 {
+        None
+    } else {
+        Some(u64::from(count.cast_unsigned()))
+    }
 }
 
 /// Writes the arguments of a call; what it fills in is told where its answer is known.
@@ -341,35 +345,24 @@ pub fn describe<D: BlockDev, T: Translate>(
 ) -> Result<(), AllocError> {
     text.clear();
     let Some(call) = asked.call() else {
-        return write_unknown(text, asked);
+        return write_unknown(&mut text.front, asked);
     };
-    let [first, second, third, ..] = asked.arguments;
     match call {
         Call::Fork | Call::Getpid | Call::Uptime => Ok(()),
         Call::Exit | Call::Kill | Call::Dup | Call::Sbrk | Call::Sleep | Call::Close => {
-            let number = int(first);
-            write!(text.front, "{number}")
+            write_int(&mut text.front, asked.arguments[0])
         }
         Call::Wait => write_status(text, machine, asked, answer),
         Call::Pipe => write_ends(text, machine, asked, answer),
-        Call::Read => {
-            let known = answer.and_then(|count| u64::try_from(count).ok());
-            write_buffer(text, machine, asked, known, most)
-        }
-        Call::Write => {
-            let known = u64::try_from(int(third)).ok();
-            write_buffer(text, machine, asked, known, most)
-        }
-        Call::Fstat => {
-            let descriptor = int(first);
-            write!(text.front, "{descriptor}, {second:#x}")
-        }
+        Call::Read => write_buffer(text, machine, asked, count_read(answer), most),
+        Call::Write => write_buffer(text, machine, asked, count_written(asked), most),
+        Call::Fstat => write_stat(&mut text.front, asked),
         Call::Exec
         | Call::Open
         | Call::Mknod
         | Call::Link
         | Call::Chdir
         | Call::Unlink
-        | Call::Mkdir => write_path_call(text, machine, asked, call, most),
+        | Call::Mkdir => write_path_call(&mut text.front, machine, asked, call, most),
     }
 }

@@ -1,14 +1,14 @@
 //! What is kept of each process.
 
-use crate::call_text::Asked;
 use arrayvec::ArrayVec;
 use machine::ProcessState;
+use tracetext::Asked;
 
 /// The most bytes of a program's name that are kept.
 pub const MOST_NAME: usize = 64;
 
 /// What a process did at the last event.
-#[derive(Clone, Copy, PartialEq, Eq)]
+#[derive(Clone, Copy)]
 pub enum Doing {
     /// It has the hart.
     Runs,
@@ -66,6 +66,11 @@ impl Lane {
             killer: None,
             exit: None,
         }
+    }
+
+    /// Whether the process has ended.
+    pub fn has_ended(&self) -> bool {
+        matches!(self.doing, Doing::Ended)
     }
 
     /// Calls it by this name, or by its first bytes.

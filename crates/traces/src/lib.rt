@@ -4,21 +4,12 @@
 //! and open files that a machine has. It changes nothing of the machine, and goes on where a sink fails.
 #![tactic(auto)]
 
-mod call_names;
 mod call_text;
-mod commits;
+mod faults;
 mod lanes;
-mod lines;
 mod memory;
-mod pen;
 mod pipes;
-mod quoting;
-mod rows;
-mod spans;
 mod tracing;
-mod wishes;
 
-pub use call_names::CallSet;
-pub use pen::{Form, SinkFault, Sinks, Trouble};
+pub use tracetext::{CallSet, Form, SinkFault, Sinks, Trouble, Wanted};
 pub use tracing::Tracer;
-pub use wishes::Wanted;

@@ -13,23 +13,45 @@ pub fn byte<D: BlockDev, T: Translate>(
     pid: u32,
     address: u64,
 ) -> Option<u8> {
-    let (page, marks) = machine.peek(pid, address / PAGE_SIZE)?;
-    if !marks.u {
-        return None;
+    match machine.peek(pid, address / PAGE_SIZE) {
+        Some((page, marks)) if marks.u => Some(page[(address % PAGE_SIZE) as usize]),
+        _ => None,
     }
-    page.get((address % PAGE_SIZE) as usize).copied()
 }
 
-/// The number at an address, of so many bytes from the least one on, at most 8; `None` where the process may not read one of them.
-pub fn number<D: BlockDev, T: Translate>(
+/// Takes the bytes from an address on; `None` where the process may not read one of them.
+pub fn read<D: BlockDev, T: Translate>(
     machine: &Machine<D, T>,
     pid: u32,
     address: u64,
-    size: usize,
+    bytes: &mut [u8],
+) -> Option<()> {
+    let mut at = address;
+    for place in bytes {
+        *place = byte(machine, pid, at)?;
+        at = at.wrapping_add(1);
+    }
+    Some(())
+}
+
+/// The number of 4 bytes at an address, from the least one on; `None` where the process may not read one of them.
+pub fn word<D: BlockDev, T: Translate>(
+    machine: &Machine<D, T>,
+    pid: u32,
+    address: u64,
+) -> Option<u32> {
+    let mut bytes = [0; 4];
+    read(machine, pid, address, &mut bytes)?;
+    Some(u32::from_le_bytes(bytes))
+}
+
+/// The number of 8 bytes at an address, from the least one on; `None` where the process may not read one of them.
+pub fn double<D: BlockDev, T: Translate>(
+    machine: &Machine<D, T>,
+    pid: u32,
+    address: u64,
 ) -> Option<u64> {
     let mut bytes = [0; 8];
-    for (at, place) in bytes.iter_mut().enumerate().take(size) {
-        *place = byte(machine, pid, address.wrapping_add(at as u64))?;
-    }
+    read(machine, pid, address, &mut bytes)?;
     Some(u64::from_le_bytes(bytes))
 }

@@ -6,13 +6,10 @@ mod logging;
 mod saying;
 mod turning;
 
-use crate::call_text::{Asked, CallText, describe};
+use crate::call_text::describe;
 use crate::lanes::{Doing, Lane, MOST_NAME, place_of};
 use crate::memory;
-use crate::pen::{Form, Pen, Sinks, Trouble};
 use crate::pipes::PipeTrack;
-use crate::rows::Row;
-use crate::wishes::Wanted;
 use arrayvec::ArrayVec;
 use blockdev::BlockDev;
 use causes::word;
@@ -20,6 +17,8 @@ use live::Watch;
 use machine::{Call, Halt, Machine, ProcessState, Seen};
 use std::alloc::{AllocError, Global};
 use sv39::Translate;
+use tracetext::lines::Outcome;
+use tracetext::{Asked, CallText, Form, Pen, Row, Sinks, Trouble, Wanted};
 use unixmodel::event::Event;
 
 /// The most processes that a machine has.
@@ -104,9 +103,16 @@ fn empty_pipes(alloc: Global) -> Result<Vec<PipeTrack>, AllocError> {
     Ok(pipes)
 }
 
+// Places for all processes and pipes, with no process so far.
+fn empty_tables(alloc: Global) -> Result<(Vec<Lane>, Vec<PipeTrack>), AllocError> {
+    let pipes = empty_pipes(alloc)?;
+    Ok((Vec::with_capacity(alloc, MOST_PROCESSES)?, pipes))
+}
+
 impl<S: Sinks + Drop> Tracer<S> {
     /// A tracer that writes what is wanted to these sinks.
     pub fn new(alloc: Global, wanted: Wanted, sinks: S) -> Result<Self, AllocError> {
+        let (lanes, pipes) = empty_tables(alloc)?;
         let mut pen = Pen::new(alloc, sinks);
         pen.set(Form::Text, wanted.text);
         pen.set(Form::Spans, wanted.spans);
@@ -119,8 +125,8 @@ impl<S: Sinks + Drop> Tracer<S> {
             is_over: false,
             ahead: Ahead::Nothing,
             running: None,
-            lanes: Vec::with_capacity(alloc, MOST_PROCESSES)?,
-            pipes: empty_pipes(alloc)?,
+            lanes,
+            pipes,
             text: CallText::new(alloc),
             path: ArrayVec::new(),
             whole: String::new(alloc),
@@ -152,7 +158,7 @@ impl<S: Sinks + Drop> Tracer<S> {
 
     // Whether the events of a process are shown now.
     fn shows(&self, pid: u32) -> bool {
-        self.wanted.has_event(self.number()) && self.wanted.pid.unwrap_or(pid) == pid
+        self.wanted.has_event(self.number()) && self.wanted.has_process(pid)
     }
 
     // Whether a call of a process is shown now.
@@ -166,12 +172,19 @@ impl<S: Sinks + Drop> Tracer<S> {
         machine: &Machine<D, T>,
         event: Event,
     ) -> Ahead {
-        match (event, self.running) {
-            (Event::Step, Some(pid)) => self.look_at(machine, pid),
-            (Event::Step, None) if machine.is_idle() => Ahead::Nothing,
-            (Event::Step, None) => Ahead::Turn,
-            (Event::Tick, _) => Ahead::Tick,
-            (Event::Key(key), _) => Ahead::Key(key),
+        match event {
+            Event::Step => self.look_at_step(machine),
+            Event::Tick => Ahead::Tick,
+            Event::Key(key) => Ahead::Key(key),
+        }
+    }
+
+    // What the machine's next step shows.
+    fn look_at_step<D: BlockDev, T: Translate>(&mut self, machine: &Machine<D, T>) -> Ahead {
+        match self.running {
+            Some(pid) => self.look_at(machine, pid),
+            None if machine.is_idle() => Ahead::Nothing,
+            None => Ahead::Turn,
         }
     }
 
@@ -180,16 +193,24 @@ impl<S: Sinks + Drop> Tracer<S> {
         let Some(seen) = machine.inspect(pid) else {
             return Ahead::Nothing;
         };
-        let next = word(machine, pid, seen.pc);
-        if next != Some(ECALL) {
-            return Ahead::Instruction { seen, word: next };
+        match word(machine, pid, seen.pc) {
+            Some(ECALL) => Ahead::Call(self.look_at_call(machine, &seen)),
+            word => Ahead::Instruction { seen, word },
         }
-        let asked = asked_of(&seen, self.at);
+    }
+
+    // What the process asks for that is about to make a call.
+    fn look_at_call<D: BlockDev, T: Translate>(
+        &mut self,
+        machine: &Machine<D, T>,
+        seen: &Seen,
+    ) -> Asked {
+        let asked = asked_of(seen, self.at);
         self.describe(machine, &asked, None);
-        if asked.call() == Some(Call::Exec) {
+        if asked.is(Call::Exec) {
             self.take_path(machine, &asked);
         }
-        Ahead::Call(asked)
+        asked
     }
 
     // Takes the arguments of a call as text.
@@ -254,7 +275,7 @@ impl<S: Sinks + Drop> Tracer<S> {
 
     // What a call did.
     fn after_call<D: BlockDev, T: Translate>(&mut self, machine: &Machine<D, T>, asked: &Asked) {
-        if asked.call() == Some(Call::Exit) {
+        if asked.is(Call::Exit) {
             return self.left(machine, asked);
         }
         let Some(seen) = machine.inspect(asked.pid) else {
@@ -285,7 +306,7 @@ impl<S: Sinks + Drop> Tracer<S> {
     // A call at which the machine failed.
     fn break_off(&mut self) {
         if let Ahead::Call(asked) = self.ahead {
-            self.say_unfinished(&asked);
+            self.say_call(&asked, Outcome::Unfinished);
             if let Some(lane) = self.lane_mut(asked.pid) {
                 lane.pending = Some(asked);
             }

@@ -1,12 +1,11 @@
 //! What a tracer knows of a machine at first.
 
 use super::{MOST_PROCESSES, Tracer};
-use crate::call_text::Asked;
 use crate::lanes::{Doing, Lane, doing_in};
-use crate::pen::Sinks;
 use blockdev::BlockDev;
 use machine::{Machine, Pending, ProcessState, Seen};
 use sv39::Translate;
+use tracetext::{Asked, Sinks};
 
 /// The program of process 1.
 const FIRST: &[u8] = b"/init";

@@ -1,13 +1,20 @@
 //! The spans in Chrome's JSON.
 
 use super::{MOST_PIPES, MOST_PROCESSES, Tracer};
-use crate::call_text::Asked;
-use crate::lanes::Doing;
-use crate::pen::{Form, Sinks};
-use crate::spans::{Arrow, CALLS, Done, HEAD, Next, Period, Point, Span, TAIL};
+use crate::pipes::Put;
 use blockdev::BlockDev;
 use machine::Machine;
 use sv39::Translate;
+use tracetext::spans::{Arrow, CALLS, Done, HEAD, Lanes, Next, Period, Point, Span, TAIL};
+use tracetext::{Asked, Form, Sinks};
+
+// How many bytes a pipe has.
+fn level_of<D: BlockDev, T: Translate>(machine: &Machine<D, T>, number: usize) -> usize {
+    match machine.pipe(number) {
+        Some((first, second)) => first.len().saturating_add(second.len()),
+        None => 0,
+    }
+}
 
 impl<S: Sinks + Drop> Tracer<S> {
     // Writes what the file begins with.
@@ -38,11 +45,16 @@ impl<S: Sinks + Drop> Tracer<S> {
     }
 
     pub(super) fn draw_tick(&mut self) {
-        self.draw_machine(Span::Tick { at: self.at });
+        self.draw_machine(Span::tick(self.at));
     }
 
     pub(super) fn draw_key(&mut self, key: u8) {
-        self.draw_machine(Span::Key { at: self.at, key });
+        self.draw_machine(Span::key(self.at, key));
+    }
+
+    // The time from which on a process has the hart.
+    fn since(&mut self, pid: u32) -> Option<u64> {
+        Some(self.lane_mut(pid)?.since)
     }
 
     // Writes the slice of the process that has the hart, which loses it or comes to the end of what is shown.
@@ -50,15 +62,14 @@ impl<S: Sinks + Drop> Tracer<S> {
         let Some(pid) = self.running else {
             return;
         };
-        let since = match self.lane_mut(pid) {
-            Some(lane) => lane.since,
-            None => return,
+        let Some(since) = self.since(pid) else {
+            return;
         };
         let period = Period {
             since,
             until: self.number(),
         };
-        self.draw(pid, Span::Runs { pid, period });
+        self.draw(pid, Span::runs(pid, period));
     }
 
     // Writes the slice of a call.
@@ -81,39 +92,22 @@ impl<S: Sinks + Drop> Tracer<S> {
             answer,
         };
         let pid = asked.pid;
-        self.pen.put(Form::Spans, &Next(Span::Call { pid, done }));
+        self.pen.put(Form::Spans, &Next(Span::call(pid, done)));
     }
 
     // Writes an arrow.
     pub(super) fn draw_arrow(&mut self, arrow: Arrow, from: Point, to: Point) {
         self.arrows = self.arrows.saturating_add(1);
         let id = self.arrows;
-        let begin = Span::From {
-            arrow,
-            id,
-            point: from,
-        };
-        let end = Span::To {
-            arrow,
-            id,
-            point: to,
-        };
-        self.pen.put(Form::Spans, &Next(begin));
-        self.pen.put(Form::Spans, &Next(end));
+        self.pen
+            .put(Form::Spans, &Next(Span::from(arrow, id, from)));
+        self.pen.put(Form::Spans, &Next(Span::to(arrow, id, to)));
     }
 
     // Writes that a process was forked, and the arrow that leads to it.
     pub(super) fn draw_birth(&mut self, asked: &Asked, child: u32) {
         let at = self.at.saturating_add(1);
-        let name = "born";
-        self.draw(
-            child,
-            Span::Moment {
-                pid: child,
-                name,
-                at,
-            },
-        );
+        self.draw(child, Span::moment(child, "born", at));
         if self.shows_call(asked) && self.shows(child) {
             let from = Point {
                 at: asked.at,
@@ -132,34 +126,38 @@ impl<S: Sinks + Drop> Tracer<S> {
     // Writes the name of the process at a place, and those of its lanes.
     pub(super) fn draw_name(&mut self, place: usize) {
         let is_shown = self.wanted.from <= self.number() && !self.is_over;
-        let only = self.wanted.pid;
         let Some(lane) = self.lanes.get(place) else {
             return;
         };
         let pid = lane.pid;
-        if !is_shown || only.unwrap_or(pid) != pid {
+        if !is_shown || !self.wanted.has_process(pid) {
             return;
         }
         let name = lane.name.as_slice();
-        self.pen.put(Form::Spans, &Next(Span::Name { pid, name }));
-        self.pen.put(Form::Spans, &Next(Span::Lanes { pid }));
+        self.pen.put(Form::Spans, &Next(Span::name(pid, name)));
+        self.pen.put(Form::Spans, &Lanes(pid));
+    }
+
+    // The call of the process at a place that is not answered so far.
+    fn open_call(&self, place: usize) -> Option<Asked> {
+        match self.lanes.get(place) {
+            Some(lane) if !lane.has_ended() => lane.pending,
+            _ => None,
+        }
     }
 
     // Writes the call of the process at a place that is not answered so far.
     fn draw_open(&mut self, place: usize) {
-        let pending = match self.lanes.get(place) {
-            Some(lane) if lane.doing != Doing::Ended => lane.pending,
-            _ => None,
+        let Some(asked) = self.open_call(place) else {
+            return;
         };
-        if let Some(asked) = pending
-            && self.wanted.calls.contains(asked.number)
-            && self.wanted.pid.unwrap_or(asked.pid) == asked.pid
-        {
-            let span = Span::Open {
+        if self.wanted.calls.contains(asked.number) && self.wanted.has_process(asked.pid) {
+            let since = Point {
+                at: asked.at,
                 pid: asked.pid,
-                number: asked.number,
-                since: asked.at,
+                lane: CALLS,
             };
+            let span = Span::open(asked.number, since);
             self.pen.put(Form::Spans, &Next(span));
         }
     }
@@ -181,14 +179,13 @@ impl<S: Sinks + Drop> Tracer<S> {
         let Some(pid) = self.running else {
             return;
         };
-        let since = match self.lane_mut(pid) {
-            Some(lane) => lane.since,
-            None => return,
+        let Some(since) = self.since(pid) else {
+            return;
         };
-        if self.wanted.pid.unwrap_or(pid) == pid {
+        if self.wanted.has_process(pid) {
             let until = self.at.max(since);
             let period = Period { since, until };
-            self.pen.put(Form::Spans, &Next(Span::Runs { pid, period }));
+            self.pen.put(Form::Spans, &Next(Span::runs(pid, period)));
         }
     }
 
@@ -215,23 +212,32 @@ impl<S: Sinks + Drop> Tracer<S> {
         asked: Option<&Asked>,
         waits: bool,
     ) {
-        let level = match machine.pipe(number) {
-            Some((first, second)) => first.len().saturating_add(second.len()),
-            None => 0,
-        };
+        let level = level_of(machine, number);
         let before = match self.pipes.get(number) {
             Some(pipe) => pipe.level,
             None => return,
         };
-        if level == before {
-            return;
+        if level != before {
+            self.draw_level(number, level);
+            self.follow_bytes(number, asked, before, level, waits);
         }
+    }
+
+    // Writes how full a pipe is.
+    fn draw_level(&mut self, number: usize, level: usize) {
         let at = self.at.saturating_add(1);
-        self.draw_machine(Span::Level {
-            pipe: number,
-            at,
-            bytes: level,
-        });
+        self.draw_machine(Span::level(number, at, level));
+    }
+
+    // What a call did that changed how full a pipe is, or that the pipe is gone.
+    fn follow_bytes(
+        &mut self,
+        number: usize,
+        asked: Option<&Asked>,
+        before: usize,
+        level: usize,
+        waits: bool,
+    ) {
         match asked {
             Some(asked) if level > before => self.fill(number, asked, level - before, waits),
             Some(asked) => self.drain(number, asked, before.saturating_sub(level)),
@@ -269,26 +275,23 @@ impl<S: Sinks + Drop> Tracer<S> {
             return;
         };
         let read = pipe.take(count);
-        if !self.shows_call(asked) {
-            return;
-        }
-        let to = Point {
-            at: self.at,
-            pid: asked.pid,
-            lane: CALLS,
-        };
-        for put in read.iter() {
-            if let Some((at, pid)) = put.arrow {
-                self.draw_arrow(
-                    Arrow::Bytes,
-                    Point {
-                        at,
-                        pid,
-                        lane: CALLS,
-                    },
-                    to,
-                );
+        if self.shows_call(asked) {
+            for put in read.iter() {
+                self.draw_bytes(asked.pid, put);
             }
+        }
+    }
+
+    // Draws the arrow from a write to the process that read its last byte.
+    fn draw_bytes(&mut self, reader: u32, put: &Put) {
+        if let Some((at, pid)) = put.arrow {
+            let lane = CALLS;
+            let to = Point {
+                at: self.at,
+                pid: reader,
+                lane,
+            };
+            self.draw_arrow(Arrow::Bytes, Point { at, pid, lane }, to);
         }
     }
 }

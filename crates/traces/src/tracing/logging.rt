@@ -1,15 +1,12 @@
 //! The commit log.
 
 use super::{MOST_PROCESSES, Tracer};
-use crate::call_text::Asked;
-use crate::commits::{Comment, Commit, Note, ROW};
-use crate::lanes::Doing;
-use crate::memory::{PAGE_SIZE, byte};
-use crate::pen::{Form, Sinks};
-use arrayvec::ArrayVec;
+use crate::memory::{PAGE_SIZE, read};
 use blockdev::BlockDev;
 use machine::{Call, Machine, Seen};
 use sv39::Translate;
+use tracetext::commits::{Comment, Commit, Note, ROW};
+use tracetext::{Asked, Form, Sinks};
 
 /// The bytes that fstat writes.
 const STAT_SIZE: u64 = 24;
@@ -18,12 +15,22 @@ const STAT_SIZE: u64 = 24;
 fn written(asked: &Asked, answer: i64) -> Option<(u64, u64)> {
     let [first, second, ..] = asked.arguments;
     match asked.call()? {
-        Call::Read => Some((second, u64::try_from(answer).ok()?)),
+        Call::Read if answer >= 0 => Some((second, answer.cast_unsigned())),
         Call::Wait if answer > 0 && first != 0 => Some((first, 4)),
         Call::Pipe if answer == 0 => Some((first, 8)),
         Call::Fstat if answer == 0 => Some((second, STAT_SIZE)),
         _ => None,
     }
+}
+
+// Whether all bytes are zeros.
+fn is_blank(bytes: &[u8]) -> bool {
+    for byte in bytes {
+        if *byte != 0 {
+            return false;
+        }
+    }
+    true
 }
 
 impl<S: Sinks + Drop> Tracer<S> {
@@ -34,21 +41,24 @@ impl<S: Sinks + Drop> Tracer<S> {
         }
     }
 
+    // The core that a process's instructions are told of.
+    fn core_of(&self, pid: u32) -> u32 {
+        if self.wanted.core_is_pid { pid } else { 0 }
+    }
+
     // Writes an instruction that is done.
     pub(super) fn log_commit(&mut self, before: &Seen, behind: &Seen, word: u32) {
         if !self.pen.has(Form::Commits) || !self.shows(before.pid) {
             return;
         }
+        let core = self.core_of(before.pid);
+        let (pc, before, behind) = (before.pc, &before.registers, &behind.registers);
         let commit = Commit {
-            core: if self.wanted.core_is_pid {
-                before.pid
-            } else {
-                0
-            },
-            pc: before.pc,
+            core,
+            pc,
             word,
-            before: &before.registers,
-            behind: &behind.registers,
+            before,
+            behind,
         };
         self.pen.put(Form::Commits, &commit);
     }
@@ -66,15 +76,25 @@ impl<S: Sinks + Drop> Tracer<S> {
         self.log(
             asked.pid,
             Note::Answered {
-                asked: *asked,
+                number: asked.number,
                 answer,
             },
         );
+        self.log_written(machine, asked, answer);
+        if asked.is(Call::Exec) && answer >= 0 {
+            self.log_process(machine, asked.pid);
+        }
+    }
+
+    // Writes the bytes that an answered call wrote.
+    fn log_written<D: BlockDev, T: Translate>(
+        &mut self,
+        machine: &Machine<D, T>,
+        asked: &Asked,
+        answer: i64,
+    ) {
         if let Some((address, count)) = written(asked, answer) {
             self.log_memory(machine, asked.pid, address, count, true);
-        }
-        if asked.call() == Some(Call::Exec) && answer >= 0 {
-            self.log_process(machine, asked.pid);
         }
     }
 
@@ -89,7 +109,7 @@ impl<S: Sinks + Drop> Tracer<S> {
     ) {
         for row in 0..count.div_ceil(ROW as u64) {
             let done = row.saturating_mul(ROW as u64);
-            let size = count.saturating_sub(done).min(ROW as u64);
+            let size = count.saturating_sub(done).min(ROW as u64) as usize;
             self.log_row(machine, pid, address.wrapping_add(done), size, is_whole);
         }
     }
@@ -100,21 +120,25 @@ impl<S: Sinks + Drop> Tracer<S> {
         machine: &Machine<D, T>,
         pid: u32,
         address: u64,
-        size: u64,
+        size: usize,
         is_whole: bool,
     ) {
-        let mut row = ArrayVec::<u8, ROW>::new();
-        for at in 0..size {
-            match byte(machine, pid, address.wrapping_add(at)) {
-                Some(byte) => {
-                    let _ = row.try_push(byte);
-                }
-                None => return,
-            }
-        }
-        let bytes = row.as_slice();
-        if is_whole || bytes.iter().any(|byte| *byte != 0) {
+        let mut row = [0; ROW];
+        let Some(bytes) = row.get_mut(..size) else {
+            return;
+        };
+        if read(machine, pid, address, bytes).is_some() && (is_whole || !is_blank(bytes)) {
             self.log(pid, Note::Memory { address, bytes });
+        }
+    }
+
+    // Writes the registers of a process that aren't 0.
+    fn log_registers(&mut self, pid: u32, registers: &[u64; 32]) {
+        for number in 0..32 {
+            let value = registers[number];
+            if value != 0 {
+                self.log(pid, Note::Register { number, value });
+            }
         }
     }
 
@@ -132,20 +156,18 @@ impl<S: Sinks + Drop> Tracer<S> {
         };
         self.log(pid, Note::Size(seen.size));
         self.log(pid, Note::Counter(seen.pc));
-        for (number, value) in seen.registers.iter().enumerate() {
-            if *value != 0 {
-                self.log(
-                    pid,
-                    Note::Register {
-                        number,
-                        value: *value,
-                    },
-                );
-            }
-        }
+        self.log_registers(pid, &seen.registers);
         for page in 0..seen.size.div_ceil(PAGE_SIZE) {
             let address = page.saturating_mul(PAGE_SIZE);
             self.log_memory(machine, pid, address, PAGE_SIZE, false);
+        }
+    }
+
+    // The pid of the process at a place, if it has not ended.
+    fn living(&self, place: usize) -> Option<u32> {
+        match self.lanes.get(place) {
+            Some(lane) if !lane.has_ended() => Some(lane.pid),
+            _ => None,
         }
     }
 
@@ -155,12 +177,9 @@ impl<S: Sinks + Drop> Tracer<S> {
             return;
         }
         for place in 0..MOST_PROCESSES {
-            let pid = match self.lanes.get(place) {
-                Some(lane) if lane.doing != Doing::Ended => lane.pid,
-                Some(_) => continue,
-                None => break,
-            };
-            self.log_process(machine, pid);
+            if let Some(pid) = self.living(place) {
+                self.log_process(machine, pid);
+            }
         }
     }
 }

@@ -1,9 +1,8 @@
 //! The text in strace's manner.
 
 use super::Tracer;
-use crate::call_text::Asked;
-use crate::lines::{Line, Says};
-use crate::pen::{Form, Sinks};
+use tracetext::lines::{Line, Outcome, Says, Told};
+use tracetext::{Asked, Form, Sinks};
 
 impl<S: Sinks + Drop> Tracer<S> {
     // The number of the event at a time, where it is told.
@@ -17,20 +16,18 @@ impl<S: Sinks + Drop> Tracer<S> {
 
     // Writes the calls in a row that were held back.
     pub(super) fn say_row(&mut self) {
-        if self.row.times == 0 {
+        let times = self.row.times;
+        if times == 0 {
             return;
         }
-        let line = Line {
-            at: self.stamp(self.row.at),
-            pid: self.row.pid,
-            says: Says::Answered {
-                number: self.row.number,
-                text: &self.row.text,
-                answer: self.row.answer,
-                times: self.row.times,
-            },
+        let at = self.stamp(self.row.at);
+        let (pid, number, answer) = (self.row.pid, self.row.number, self.row.answer);
+        let text = &self.row.text;
+        let says = Says::Call {
+            call: Told { number, text },
+            outcome: Outcome::Answered { answer, times },
         };
-        self.pen.put(Form::Text, &line);
+        self.pen.put(Form::Text, &Line { at, pid, says });
         self.row.times = 0;
     }
 
@@ -61,55 +58,17 @@ impl<S: Sinks + Drop> Tracer<S> {
         }
     }
 
-    // Writes that a call waits.
-    pub(super) fn say_unfinished(&mut self, asked: &Asked) {
+    // Writes what becomes of a call.
+    pub(super) fn say_call(&mut self, asked: &Asked, outcome: Outcome) {
         if !self.shows_call(asked) {
             return;
         }
         self.say_row();
-        let line = Line {
-            at: self.stamp(self.at),
-            pid: asked.pid,
-            says: Says::Unfinished {
-                number: asked.number,
-                text: &self.text,
-            },
-        };
-        self.pen.put(Form::Text, &line);
-    }
-
-    // Writes that a call was answered in a turn.
-    pub(super) fn say_resumed(&mut self, asked: &Asked, answer: i64) {
-        if !self.shows_call(asked) {
-            return;
-        }
-        self.say_row();
-        let line = Line {
-            at: self.stamp(self.at),
-            pid: asked.pid,
-            says: Says::Resumed {
-                number: asked.number,
-                text: &self.text,
-                answer,
-            },
-        };
-        self.pen.put(Form::Text, &line);
-    }
-
-    // Writes that a call doesn't return.
-    pub(super) fn say_left(&mut self, asked: &Asked) {
-        if !self.shows_call(asked) {
-            return;
-        }
-        self.say_row();
-        let line = Line {
-            at: self.stamp(self.at),
-            pid: asked.pid,
-            says: Says::Left {
-                number: asked.number,
-                text: &self.text,
-            },
-        };
-        self.pen.put(Form::Text, &line);
+        let at = self.stamp(self.at);
+        let (pid, number) = (asked.pid, asked.number);
+        let text = &self.text;
+        let call = Told { number, text };
+        let says = Says::Call { call, outcome };
+        self.pen.put(Form::Text, &Line { at, pid, says });
     }
 }

@@ -2,16 +2,17 @@
 
 use super::beginning::done_of;
 use super::{Tracer, answer_of};
-use crate::call_text::{Asked, int};
-use crate::commits::Note;
+use crate::call_text::int;
+use crate::faults::fault_text;
 use crate::lanes::{Doing, Exit, Lane, place_of};
-use crate::lines::{FaultText, Says};
-use crate::pen::{Form, Sinks};
-use crate::spans::{Arrow, CALLS, HART, Point, Span};
 use blockdev::BlockDev;
 use causes::fault_of;
 use machine::{Call, Machine, ProcessState, Seen};
 use sv39::Translate;
+use tracetext::commits::Note;
+use tracetext::lines::{Outcome, Says};
+use tracetext::spans::{Arrow, CALLS, HART, Point, Span};
+use tracetext::{Asked, Sinks};
 
 // Whether a turn picked a process that did this before: it got the hart, ended, or read or wrote more.
 fn is_picked<D: BlockDev, T: Translate>(
@@ -59,22 +60,30 @@ impl<S: Sinks + Drop> Tracer<S> {
         if self.wanted.turns {
             self.say(pid, Says::Turn);
         }
-        let pending = match self.lane_mut(pid) {
-            Some(lane) => lane.pending.take(),
-            None => None,
-        };
-        if let Some(asked) = pending {
+        if let Some(asked) = self.take_pending(pid) {
             self.answered(machine, &asked, answer_of(seen), true);
         }
+    }
+
+    // The call that a process waits in.
+    fn pending(&mut self, pid: u32) -> Option<Asked> {
+        self.lane_mut(pid)?.pending
+    }
+
+    // The call that a process waits in, which it doesn't any more.
+    fn take_pending(&mut self, pid: u32) -> Option<Asked> {
+        self.lane_mut(pid)?.pending.take()
+    }
+
+    // The one who killed a process first.
+    fn killer(&mut self, pid: u32) -> Option<u32> {
+        self.lane_mut(pid)?.killer
     }
 
     // A call that waits has written a part.
     fn goes_on<D: BlockDev, T: Translate>(&mut self, machine: &Machine<D, T>, pid: u32) {
         self.set_doing(pid, Doing::Waits(done_of(machine, pid)));
-        let pending = match self.lane_mut(pid) {
-            Some(lane) => lane.pending,
-            None => None,
-        };
+        let pending = self.pending(pid);
         self.draw_pipes(machine, pending.as_ref(), true);
     }
 
@@ -96,7 +105,7 @@ impl<S: Sinks + Drop> Tracer<S> {
         machine: &Machine<D, T>,
         asked: &Asked,
     ) {
-        self.say_unfinished(asked);
+        self.say_call(asked, Outcome::Unfinished);
         let done = done_of(machine, asked.pid);
         if let Some(lane) = self.lane_mut(asked.pid) {
             lane.doing = Doing::Waits(done);
@@ -119,7 +128,7 @@ impl<S: Sinks + Drop> Tracer<S> {
             self.describe(machine, asked, Some(answer));
         }
         if is_resumed {
-            self.say_resumed(asked, answer);
+            self.say_call(asked, Outcome::Resumed(answer));
         } else {
             self.say_answered(asked, answer);
         }
@@ -175,7 +184,7 @@ impl<S: Sinks + Drop> Tracer<S> {
     fn marked(&mut self, asked: &Asked) {
         let [pid, ..] = asked.arguments;
         if let Some(lane) = self.lane_mut(int(pid).cast_unsigned())
-            && lane.doing != Doing::Ended
+            && !lane.has_ended()
             && lane.killer.is_none()
         {
             lane.killer = Some(asked.pid);
@@ -187,31 +196,38 @@ impl<S: Sinks + Drop> Tracer<S> {
         let Some(place) = place_of(self.lanes.as_slice(), child) else {
             return;
         };
-        let exit = match self.lanes.get(place) {
-            Some(lane) => lane.exit,
-            None => None,
-        };
         self.draw_name(place);
         if place < self.lanes.len() {
-            self.lanes.swap_remove(place);
+            let lane = self.lanes.swap_remove(place);
+            self.draw_end(asked, child, lane.exit);
         }
+    }
+
+    // Draws the arrow from where a process ended to the one that waited for it.
+    fn draw_end(&mut self, asked: &Asked, child: u32, exit: Option<Exit>) {
         if let Some(Exit { at, lane }) = exit
             && self.shows_call(asked)
         {
+            let from = Point {
+                at,
+                pid: child,
+                lane,
+            };
             let to = Point {
                 at: self.at,
                 pid: asked.pid,
                 lane: CALLS,
             };
-            self.draw_arrow(
-                Arrow::End,
-                Point {
-                    at,
-                    pid: child,
-                    lane,
-                },
-                to,
-            );
+            self.draw_arrow(Arrow::End, from, to);
+        }
+    }
+
+    // Where a process ends in a lane, if that is shown.
+    fn exit(&self, lane: u8, is_shown: bool) -> Option<Exit> {
+        if is_shown {
+            Some(Exit { at: self.at, lane })
+        } else {
+            None
         }
     }
 
@@ -243,19 +259,11 @@ impl<S: Sinks + Drop> Tracer<S> {
     ) {
         let [status, ..] = asked.arguments;
         let status = int(status);
-        self.say_left(asked);
+        self.say_call(asked, Outcome::Left);
         self.say(asked.pid, Says::Ended(status));
         self.draw_call(asked, None);
-        let exit = Exit {
-            at: self.at,
-            lane: CALLS,
-        };
-        let shown = if self.shows_call(asked) {
-            Some(exit)
-        } else {
-            None
-        };
-        self.ends(machine, asked.pid, status, shown);
+        let exit = self.exit(CALLS, self.shows_call(asked));
+        self.ends(machine, asked.pid, status, exit);
     }
 
     // A process faulted.
@@ -265,50 +273,30 @@ impl<S: Sinks + Drop> Tracer<S> {
         before: &Seen,
     ) {
         let (pid, pc) = (before.pid, before.pc);
-        let fault = FaultText(fault_of(machine, pid));
+        let fault = fault_text(fault_of(machine, pid));
         self.say(pid, Says::Fault { fault, pc });
         self.say(pid, Says::Ended(-1));
-        self.draw(
-            pid,
-            Span::Fault {
-                pid,
-                at: self.at,
-                fault,
-            },
-        );
-        let exit = Exit {
-            at: self.at,
-            lane: HART,
-        };
-        let shown = if self.shows(pid) { Some(exit) } else { None };
-        self.ends(machine, pid, -1, shown);
+        self.draw(pid, Span::fault(pid, self.at, fault));
+        let exit = self.exit(HART, self.shows(pid));
+        self.ends(machine, pid, -1, exit);
+    }
+
+    // Draws the call that a process waits in, which isn't answered any more.
+    fn draw_unanswered<D: BlockDev, T: Translate>(&mut self, machine: &Machine<D, T>, pid: u32) {
+        if let Some(asked) = self.pending(pid) {
+            self.describe(machine, &asked, None);
+            self.draw_call(&asked, None);
+        }
     }
 
     // A process that was killed ended.
     pub(super) fn killed<D: BlockDev, T: Translate>(&mut self, machine: &Machine<D, T>, pid: u32) {
-        let (killer, pending) = match self.lane_mut(pid) {
-            Some(lane) => (lane.killer, lane.pending),
-            None => (None, None),
-        };
+        let killer = self.killer(pid);
         self.say(pid, Says::Killed(killer));
-        if let Some(asked) = pending {
-            self.describe(machine, &asked, None);
-            self.draw_call(&asked, None);
-        }
-        self.draw(
-            pid,
-            Span::Moment {
-                pid,
-                name: "killed",
-                at: self.at,
-            },
-        );
-        let exit = Exit {
-            at: self.at,
-            lane: CALLS,
-        };
-        let shown = if self.shows(pid) { Some(exit) } else { None };
-        self.ends(machine, pid, -1, shown);
+        self.draw_unanswered(machine, pid);
+        self.draw(pid, Span::moment(pid, "killed", self.at));
+        let exit = self.exit(CALLS, self.shows(pid));
+        self.ends(machine, pid, -1, exit);
     }
 
     // The hart goes to a process, or to none.

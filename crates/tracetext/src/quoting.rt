@@ -46,6 +46,15 @@ impl fmt::Display for Quoted<'_> {
     }
 }
 
+// A character of ASCII text as JSON has it between quotes.
+fn write_escaped<W: fmt::Write>(f: &mut fmt::Formatter<W>, character: char) -> fmt::Result {
+    match character {
+        '"' => f.write_str("\\\""),
+        '\\' => f.write_str("\\\\"),
+        _ => f.write_char(character),
+    }
+}
+
 /// ASCII text as JSON has it between quotes.
 #[derive(Clone, Copy)]
 pub struct Escaped<'a>(pub &'a str);
@@ -53,13 +62,19 @@ pub struct Escaped<'a>(pub &'a str);
 impl fmt::Display for Escaped<'_> {
     fn fmt<W: fmt::Write>(&self, f: &mut fmt::Formatter<W>) -> fmt::Result {
         for character in self.0.chars() {
-            match character {
-                '"' => f.write_str("\\\"")?,
-                '\\' => f.write_str("\\\\")?,
-                _ => f.write_char(character)?,
-            }
+            write_escaped(f, character)?;
         }
         Ok(())
+    }
+}
+
+// A byte as JSON has it between quotes: one that is no text as its octal text.
+fn write_spelled<W: fmt::Write>(f: &mut fmt::Formatter<W>, byte: u8) -> fmt::Result {
+    match byte {
+        b'\n' => f.write_str("\\\\n"),
+        b'\t' => f.write_str("\\\\t"),
+        b' '..=b'~' => write_escaped(f, char::from(byte)),
+        _ => write!(f, "\\\\{byte:o}"),
     }
 }
 
@@ -70,14 +85,7 @@ pub struct Spelled<'a>(pub &'a [u8]);
 impl fmt::Display for Spelled<'_> {
     fn fmt<W: fmt::Write>(&self, f: &mut fmt::Formatter<W>) -> fmt::Result {
         for byte in self.0 {
-            match *byte {
-                b'\n' => f.write_str("\\\\n")?,
-                b'\t' => f.write_str("\\\\t")?,
-                b'"' => f.write_str("\\\"")?,
-                b'\\' => f.write_str("\\\\")?,
-                b' '..=b'~' => f.write_char(char::from(*byte))?,
-                _ => write!(f, "\\\\{byte:o}")?,
-            }
+            write_spelled(f, *byte)?;
         }
         Ok(())
     }

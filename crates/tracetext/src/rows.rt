@@ -1,6 +1,6 @@
 //! Equal calls in a row, which are one line.
 
-use crate::call_text::{Asked, CallText, Shown};
+use crate::asked::{Asked, CallText, Shown};
 use std::alloc::{AllocError, Global};
 
 /// A call that was answered at once, and how often it came in a row.

@@ -4,7 +4,7 @@ use std::alloc::Global;
 use std::fmt;
 
 /// A form of a trace.
-#[derive(Clone, Copy, PartialEq, Eq, Debug)]
+#[derive(Clone, Copy, PartialEq, Eq)]
 pub enum Form {
     /// Text in strace's manner.
     Text,
@@ -15,7 +15,7 @@ pub enum Form {
 }
 
 /// A sink took not all that was written to it.
-#[derive(Clone, Copy, PartialEq, Eq, Debug)]
+#[derive(Clone, Copy)]
 pub struct SinkFault;
 
 /// Where the forms of a trace go.
@@ -25,7 +25,7 @@ pub trait Sinks {
 }
 
 /// Why a trace isn't whole.
-#[derive(Clone, Copy, PartialEq, Eq, Debug)]
+#[derive(Clone, Copy, PartialEq, Eq)]
 pub enum Trouble {
     /// Memory was refused.
     NoMemory,

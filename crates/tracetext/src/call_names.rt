@@ -1,7 +1,7 @@
 //! The calls by their numbers and names.
 
-use machine::Call;
 use std::fmt;
+use unixmodel::call::Call;
 
 /// The calls in the order of their numbers, from 1 on.
 const CALLS: [(Call, &str); 21] = [
@@ -34,6 +34,11 @@ fn entry(number: u32) -> Option<(Call, &'static str)> {
     CALLS.get(index as usize).copied()
 }
 
+/// The number of a call.
+pub fn number_of(call: Call) -> u32 {
+    call as u32 + 1
+}
+
 /// The call of a number; `None` where no call has it.
 pub fn call_of(number: u32) -> Option<Call> {
     let (call, _) = entry(number)?;
@@ -55,27 +60,19 @@ impl fmt::Display for CallName {
 }
 
 /// A set of calls.
-#[derive(Clone, Copy, PartialEq, Eq, Debug)]
+#[derive(Clone, Copy, PartialEq, Eq)]
 pub struct CallSet {
-    // Of each number of a call whether it is in the set.
-    has: [bool; 21],
-    // Whether numbers of no call are in it.
-    has_others: bool,
+    // Of each number whether its call is in the set. That of 0 stands for all numbers of no call.
+    has: [bool; 22],
 }
 
 impl CallSet {
     /// All calls, and the numbers of none.
-    pub const ALL: CallSet = CallSet {
-        has: [true; 21],
-        has_others: true,
-    };
+    pub const ALL: CallSet = CallSet { has: [true; 22] };
 
     /// The calls of these names, with commas between them; `Err` has the first name that no call has.
     pub fn parse(names: &str) -> Result<CallSet, &str> {
-        let mut set = CallSet {
-            has: [false; 21],
-            has_others: false,
-        };
+        let mut set = CallSet { has: [false; 22] };
         for name in names.split(',') {
             if !set.add(name) {
                 return Err(name);
@@ -86,9 +83,11 @@ impl CallSet {
 
     // Adds the call of a name; whether there is one.
     fn add(&mut self, name: &str) -> bool {
-        for (mark, (_, known)) in self.has.iter_mut().zip(CALLS.iter()) {
-            if *known == name {
-                *mark = true;
+        for number in 1..22u32 {
+            if let Some((_, known)) = entry(number)
+                && known == name
+            {
+                self.has[number as usize] = true;
                 return true;
             }
         }
@@ -97,12 +96,9 @@ impl CallSet {
 
     /// Whether a number's call is in the set.
     pub fn contains(&self, number: u32) -> bool {
-        match number.checked_sub(1) {
-            Some(index) => match self.has.get(index as usize) {
-                Some(mark) => *mark,
-                None => self.has_others,
-            },
-            None => self.has_others,
+        match self.has.get(number as usize) {
+            Some(has) => *has,
+            None => self.has[0],
         }
     }
 }

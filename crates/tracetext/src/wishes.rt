@@ -56,6 +56,14 @@ impl Wanted {
         self.from <= number && number <= self.to
     }
 
+    /// Whether the process with a pid is shown.
+    pub fn has_process(&self, pid: u32) -> bool {
+        match self.pid {
+            Some(only) => only == pid,
+            None => true,
+        }
+    }
+
     /// How many bytes of a buffer are shown.
     pub fn most(&self) -> usize {
         self.bytes.min(MOST_BYTES)

@@ -1,0 +1,121 @@
+//! A call that a process made, and its arguments as text.
+
+use crate::call_names::{call_of, number_of};
+use crate::quoting::Quoted;
+use std::alloc::{AllocError, Global};
+use std::fmt;
+use std::fmt::Display;
+use unixmodel::call::Call;
+
+/// A call that a process made.
+#[derive(Clone, Copy)]
+pub struct Asked {
+    pub pid: u32,
+    /// The number of the call, or of none.
+    pub number: u32,
+    /// The registers a0 to a5 as it began.
+    pub arguments: [u64; 6],
+    /// The number of the event in which it began.
+    pub at: u64,
+}
+
+impl Asked {
+    /// The call, if the number is one of one.
+    pub fn call(&self) -> Option<Call> {
+        call_of(self.number)
+    }
+
+    /// Whether it is this call.
+    pub fn is(&self, call: Call) -> bool {
+        self.number == number_of(call)
+    }
+}
+
+/// How much of a buffer is shown.
+#[derive(Clone, Copy, PartialEq, Eq)]
+pub enum Shown {
+    /// There is none to show.
+    Nothing,
+    /// All of it.
+    Whole,
+    /// Its first bytes.
+    Cut,
+}
+
+/// The arguments of a call: what comes before the bytes of a buffer, these bytes, and what comes behind them.
+#[derive(Drop)]
+pub struct CallText {
+    pub front: String,
+    pub data: Vec<u8>,
+    pub shown: Shown,
+    pub back: String,
+}
+
+impl CallText {
+    /// No arguments.
+    pub fn new(alloc: Global) -> CallText {
+        CallText {
+            front: String::new(alloc),
+            data: Vec::new(alloc),
+            shown: Shown::Nothing,
+            back: String::new(alloc),
+        }
+    }
+
+    /// Takes all arguments away.
+    pub fn clear(&mut self) {
+        self.front.clear();
+        self.data.clear();
+        self.shown = Shown::Nothing;
+        self.back.clear();
+    }
+
+    /// Puts these arguments in the place of its own.
+    pub fn copy_from(&mut self, other: &CallText) -> Result<(), AllocError> {
+        self.clear();
+        self.front.push_str(other.front.as_str())?;
+        self.data.extend_from_slice(other.data.as_slice())?;
+        self.shown = other.shown;
+        self.back.push_str(other.back.as_str())
+    }
+
+    /// Puts bytes behind those of the buffer, as far as so many are shown.
+    pub fn add_data(&mut self, bytes: &[u8], most: usize) -> Result<(), AllocError> {
+        for byte in bytes {
+            if self.data.len() >= most {
+                self.shown = Shown::Cut;
+                break;
+            }
+            self.data.push(*byte)?;
+        }
+        Ok(())
+    }
+
+    /// What a call fills in: the bytes of the buffer and what stands behind them.
+    pub fn rest(&self) -> Rest<'_> {
+        Rest(self)
+    }
+}
+
+/// The end of the arguments, from the buffer on.
+#[derive(Clone, Copy)]
+pub struct Rest<'a>(&'a CallText);
+
+impl fmt::Display for Rest<'_> {
+    fn fmt<W: fmt::Write>(&self, f: &mut fmt::Formatter<W>) -> fmt::Result {
+        let text = self.0;
+        if text.shown != Shown::Nothing {
+            let bytes = text.data.as_slice();
+            let is_cut = text.shown == Shown::Cut;
+            Quoted { bytes, is_cut }.fmt(f)?;
+        }
+        f.write_str(text.back.as_str())
+    }
+}
+
+impl fmt::Display for CallText {
+    fn fmt<W: fmt::Write>(&self, f: &mut fmt::Formatter<W>) -> fmt::Result {
+        f.write_str(self.front.as_str())?;
+        self.rest().fmt(f)
+    }
+}

@@ -1,0 +1,21 @@
+//! How it is written what a machine does: text in strace's manner, spans in Chrome's JSON, and commits in Spike's form.
+//!
+//! What is written is told by plain values, so nothing here knows a machine.
+#![tactic(auto)]
+
+mod asked;
+mod call_names;
+pub mod commits;
+pub mod lines;
+mod pen;
+mod quoting;
+mod rows;
+pub mod spans;
+mod wishes;
+
+pub use asked::{Asked, CallText, Shown};
+pub use call_names::CallSet;
+pub use pen::{Form, Pen, SinkFault, Sinks, Trouble};
+pub use quoting::Quoted;
+pub use rows::Row;
+pub use wishes::Wanted;
