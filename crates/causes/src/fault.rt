@@ -9,7 +9,7 @@ use sv39::Translate;
 use unixmodel::trap::{Cause, Trap};
 
 /// What explains a trap.
-#[derive(Clone, Copy, PartialEq, Eq, Debug)]
+#[derive(Clone, Copy)]
 pub enum Why {
     /// The cause says all.
     Cause,
@@ -24,7 +24,7 @@ pub enum Why {
 }
 
 /// The fault of a process: the trap that its next instruction raises.
-#[derive(Clone, Copy, PartialEq, Eq, Debug)]
+#[derive(Clone, Copy)]
 pub struct Fault {
     pub trap: Trap,
     /// The address of the instruction.
@@ -59,20 +59,16 @@ pub fn fault_of<D: BlockDev, T: Translate>(machine: &Machine<D, T>, pid: u32) ->
 // A word that is no instruction. Code of the extension C comes in halves of which the low two bits aren't both 1; a half of zeros is
 // none of it.
 fn write_word<W: fmt::Write>(f: &mut fmt::Formatter<W>, word: u32, pc: u64) -> fmt::Result {
-    let half = word % 0x1_0000;
     if word % 4 == 3 {
-        write!(f, "illegal instruction {word:#010x} at pc {pc:#x}")
-    } else if half == 0 {
-        write!(
-            f,
-            "illegal instruction {word:#x} at pc {pc:#x} (zeros are no code)"
-        )
-    } else {
-        write!(
-            f,
-            "illegal instruction {half:#x} at pc {pc:#x} (compressed code? compile with -march=rv64im)"
-        )
+        return write!(f, "illegal instruction {word:#010x} at pc {pc:#x}");
     }
+    let half = word % 0x1_0000;
+    let (shown, guess) = if half == 0 {
+        (word, "zeros are no code")
+    } else {
+        (half, "compressed code? compile with -march=rv64im")
+    };
+    write!(f, "illegal instruction {shown:#x} at pc {pc:#x} ({guess})")
 }
 
 impl Fault {
@@ -86,40 +82,51 @@ impl Fault {
             _ => "the page may not be read",
         }
     }
+
+    // What was done at the pc.
+    fn write_at<W: fmt::Write>(&self, f: &mut fmt::Formatter<W>, what: &str) -> fmt::Result {
+        let pc = self.pc;
+        write!(f, "{what} at pc {pc:#x}")
+    }
+
+    // What was done with the address, and why that isn't allowed.
+    fn write_access<W: fmt::Write>(
+        &self,
+        f: &mut fmt::Formatter<W>,
+        what: &str,
+        reason: &str,
+    ) -> fmt::Result {
+        let (address, pc) = (self.trap.address, self.pc);
+        write!(f, "{what} {address:#x} at pc {pc:#x}: {reason}")
+    }
+
+    // A fetch from a page that does not permit it.
+    fn write_fetch<W: fmt::Write>(&self, f: &mut fmt::Formatter<W>) -> fmt::Result {
+        let (pc, reason) = (self.pc, self.reason());
+        write!(f, "fetch at pc {pc:#x}: {reason}")
+    }
+
+    // A word that can't be executed.
+    fn write_illegal<W: fmt::Write>(&self, f: &mut fmt::Formatter<W>) -> fmt::Result {
+        match self.why {
+            Why::Word(word) => write_word(f, word, self.pc),
+            _ => self.write_at(f, "illegal instruction"),
+        }
+    }
 }
 
 impl fmt::Display for Fault {
     fn fmt<W: fmt::Write>(&self, f: &mut fmt::Formatter<W>) -> fmt::Result {
-        let (address, pc) = (self.trap.address, self.pc);
         match self.trap.cause {
-            Cause::InstructionMisaligned => {
-                write!(f, "jump to {address:#x} at pc {pc:#x}: no multiple of 4")
-            }
-            Cause::IllegalInstruction => match self.why {
-                Why::Word(word) => write_word(f, word, pc),
-                _ => write!(f, "illegal instruction at pc {pc:#x}"),
-            },
-            Cause::Breakpoint => write!(f, "ebreak at pc {pc:#x}"),
-            Cause::EnvironmentCall => write!(f, "ecall at pc {pc:#x}"),
-            Cause::LoadMisaligned => {
-                write!(
-                    f,
-                    "load from {address:#x} at pc {pc:#x}: no multiple of its size"
-                )
-            }
-            Cause::StoreMisaligned => {
-                write!(
-                    f,
-                    "store to {address:#x} at pc {pc:#x}: no multiple of its size"
-                )
-            }
-            Cause::InstructionPageFault => { write!(f, "fetch at pc {pc:#x}: {}", self.reason()) }
-            Cause::LoadPageFault => {
-                write!(f, "load from {address:#x} at pc {pc:#x}: {}", self.reason())
-            }
-            Cause::StorePageFault => {
-                write!(f, "store to {address:#x} at pc {pc:#x}: {}", self.reason())
-            }
+            Cause::InstructionMisaligned => self.write_access(f, "jump to", "no multiple of 4"),
+            Cause::IllegalInstruction => self.write_illegal(f),
+            Cause::Breakpoint => self.write_at(f, "ebreak"),
+            Cause::EnvironmentCall => self.write_at(f, "ecall"),
+            Cause::LoadMisaligned => self.write_access(f, "load from", "no multiple of its size"),
+            Cause::StoreMisaligned => self.write_access(f, "store to", "no multiple of its size"),
+            Cause::InstructionPageFault => self.write_fetch(f),
+            Cause::LoadPageFault => self.write_access(f, "load from", self.reason()),
+            Cause::StorePageFault => self.write_access(f, "store to", self.reason()),
         }
     }
 }
