@@ -2,15 +2,30 @@
 
 use crate::report::{On, Report, Stop, frames_of};
 use crate::reporter::{Fallen, pids};
+use crate::who::{Name, Who};
 use blockdev::BlockDev;
+use causes::Fault;
 use machine::{Opened, ProcessState, Seen};
-use serde::Serialize;
+use serde::{Described, Serialize, Serializer};
 use serde_json::Error;
 use std::alloc::{AllocError, Global};
+use std::fmt::Display;
 use sv39::Translate;
 
+/// A value that stands as the text that it prints.
+#[derive(Clone, Copy)]
+struct Printed<V>(V);
+
+impl<V: Display> Described for Printed<V> {}
+
+impl<V: Display> Serialize for Printed<V> {
+    fn serialize<S: Serializer>(&self, out: &mut S) -> Result<(), S::Error> {
+        out.collect_str(&self.0)
+    }
+}
+
 /// Why a run stopped: `ended`, `device`, `console`, `halted`, `idle`, `running` or `ready`.
-#[derive(Drop, Serialize)]
+#[derive(Clone, Copy, Serialize)]
 struct StopRow {
     why: &'static str,
     /// The status of process 1, where it has ended.
@@ -19,10 +34,10 @@ struct StopRow {
     pid: Option<u32>,
 }
 
-#[derive(Drop, Serialize)]
+#[derive(Clone, Copy, Serialize)]
 struct DescriptorRow {
     descriptor: u32,
-    on: String,
+    on: Printed<On>,
     readable: bool,
     writable: bool,
 }
@@ -31,7 +46,7 @@ struct DescriptorRow {
 struct ProcessRow {
     pid: u32,
     parent: u32,
-    program: Option<String>,
+    program: Option<Printed<Name>>,
     /// `running`, `ready`, `waiting` or `ended`.
     state: &'static str,
     status: Option<i32>,
@@ -44,13 +59,13 @@ struct ProcessRow {
     descriptors: Vec<DescriptorRow>,
 }
 
-#[derive(Drop, Serialize)]
+#[derive(Clone, Copy, Serialize)]
 struct FaultRow {
     pid: u32,
-    program: Option<String>,
+    program: Option<Printed<Name>>,
     pc: u64,
     address: u64,
-    words: String,
+    words: Printed<Fault>,
 }
 
 #[derive(Drop, Serialize)]
@@ -78,36 +93,38 @@ fn stop_row(stop: Stop) -> StopRow {
     StopRow { why, status, pid }
 }
 
-fn descriptor_row(
-    alloc: Global,
-    descriptor: usize,
-    opened: &Opened,
-) -> Result<DescriptorRow, AllocError> {
-    let on = On(opened.on);
-    Ok(DescriptorRow {
-        descriptor: (descriptor % 16) as u32,
-        on: format!(in alloc; "{on}")?,
-        readable: opened.readable,
-        writable: opened.writable,
-    })
+fn program_of(who: Who) -> Option<Printed<Name>> {
+    match who.name {
+        Some(name) => Some(Printed(name)),
+        None => None,
+    }
 }
 
-fn fault_row(alloc: Global, fallen: &Fallen) -> Result<FaultRow, AllocError> {
+fn descriptor_row(descriptor: usize, opened: &Opened) -> DescriptorRow {
+    DescriptorRow {
+        descriptor: (descriptor % 16) as u32,
+        on: Printed(On(opened.on)),
+        readable: opened.readable,
+        writable: opened.writable,
+    }
+}
+
+fn fault_row(fallen: &Fallen) -> FaultRow {
     let (who, fault) = (fallen.who, fallen.fault);
-    Ok(FaultRow {
+    FaultRow {
         pid: who.pid,
-        program: who.program(alloc)?,
+        program: program_of(who),
         pc: fault.pc,
         address: fault.trap.address,
-        words: format!(in alloc; "{fault}")?,
-    })
+        words: Printed(fault),
+    }
 }
 
 fn fault_rows(alloc: Global, faults: &[Option<Fallen>]) -> Result<Vec<FaultRow>, AllocError> {
     let mut rows = Vec::new(alloc);
     for fallen in faults {
         if let Some(fallen) = fallen {
-            rows.push(fault_row(alloc, fallen)?)?;
+            rows.push(fault_row(fallen))?;
         }
     }
     Ok(rows)
@@ -128,7 +145,7 @@ impl<D: BlockDev, T: Translate> Report<'_, D, T> {
         let mut rows = Vec::new(alloc);
         for descriptor in 0..16 {
             if let Some(opened) = self.open_on(pid, descriptor) {
-                rows.push(descriptor_row(alloc, descriptor, &opened)?)?;
+                rows.push(descriptor_row(descriptor, &opened))?;
             }
         }
         Ok(rows)
@@ -145,13 +162,12 @@ impl<D: BlockDev, T: Translate> Report<'_, D, T> {
     fn process_row(&self, alloc: Global, seen: &Seen) -> Result<ProcessRow, AllocError> {
         let (state, status) = state_of(seen.state);
         let pid = seen.pid;
-        let program = self.reporter.who(pid).program(alloc)?;
         let waits = self.waits(alloc, pid)?;
         let descriptors = self.descriptor_rows(alloc, pid)?;
         Ok(ProcessRow {
             pid,
             parent: seen.parent,
-            program,
+            program: program_of(self.reporter.who(pid)),
             state,
             status,
             waits,

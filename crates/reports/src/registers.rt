@@ -19,21 +19,29 @@ impl RegisterReport {
     }
 }
 
+// A register in a line.
+fn write_register<W: fmt::Write>(f: &mut fmt::Formatter<W>, name: &str, value: u64) -> fmt::Result {
+    let signed = value.cast_signed();
+    writeln!(f, "  {name:<4} {value:#018x} {signed}")
+}
+
+// The registers but x0, which is 0.
+fn write_registers<W: fmt::Write>(f: &mut fmt::Formatter<W>, registers: &[u64; 32]) -> fmt::Result {
+    for number in 1..32u8 {
+        let name = register_name(Reg::new(number));
+        write_register(f, name, registers[usize::from(number)])?;
+    }
+    Ok(())
+}
+
 impl fmt::Display for RegisterReport {
     fn fmt<W: fmt::Write>(&self, f: &mut fmt::Formatter<W>) -> fmt::Result {
         let who = self.who;
-        let Some(seen) = self.seen else {
+        let Some(seen) = &self.seen else {
             return writeln!(f, "{who}: no process");
         };
-        writeln!(f, "{who}: registers")?;
         let pc = seen.pc;
-        writeln!(f, "  pc   {pc:#018x}")?;
-        for number in 1..32u8 {
-            let name = register_name(Reg::new(number));
-            let value = seen.registers[usize::from(number)];
-            let signed = value.cast_signed();
-            writeln!(f, "  {name:<4} {value:#018x} {signed}")?;
-        }
-        Ok(())
+        writeln!(f, "{who}: registers\n  pc   {pc:#018x}")?;
+        write_registers(f, &seen.registers)
     }
 }

@@ -1,11 +1,11 @@
 //! The report of a run, as a text.
 
-use crate::reporter::{Reporter, pids, running};
+use crate::reporter::{Fallen, Reporter, pids, running};
 use crate::waits::{Wait, holds, wait_of};
-use crate::who::Who;
 use blockdev::BlockDev;
 use machine::{Halt, Machine, OpenOn, Opened, ProcessState, Seen};
 use std::fmt;
+use std::fmt::Display;
 use sv39::Translate;
 
 /// What a run was, at its end.
@@ -17,7 +17,7 @@ pub struct Report<'a, D: BlockDev, T: Translate> {
 }
 
 /// Why a run stopped.
-#[derive(Clone, Copy, PartialEq, Eq)]
+#[derive(Clone, Copy)]
 pub(crate) enum Stop {
     /// Process 1 ended with this status.
     Ended(i32),
@@ -52,7 +52,7 @@ impl fmt::Display for On {
     fn fmt<W: fmt::Write>(&self, f: &mut fmt::Formatter<W>) -> fmt::Result {
         match self.0 {
             OpenOn::File { number, offset } => write!(f, "file {number} at {offset}"),
-            OpenOn::Console { .. } => write!(f, "console"),
+            OpenOn::Console { .. } => f.write_str("console"),
             OpenOn::Device { number } => write!(f, "device {number}"),
             OpenOn::ReadEnd { pipe } => write!(f, "read end of pipe {pipe}"),
             OpenOn::WriteEnd { pipe } => write!(f, "write end of pipe {pipe}"),
@@ -67,9 +67,9 @@ pub(crate) struct Doing(pub ProcessState);
 impl fmt::Display for Doing {
     fn fmt<W: fmt::Write>(&self, f: &mut fmt::Formatter<W>) -> fmt::Result {
         match self.0 {
-            ProcessState::Running => write!(f, "runs"),
-            ProcessState::Ready => write!(f, "is ready"),
-            ProcessState::Waiting(_) => write!(f, "waits"),
+            ProcessState::Running => f.write_str("runs"),
+            ProcessState::Ready => f.write_str("is ready"),
+            ProcessState::Waiting(_) => f.write_str("waits"),
             ProcessState::Zombie(status) => write!(f, "ended with status {status}"),
         }
     }
@@ -98,6 +98,15 @@ impl<D: BlockDev, T: Translate> Waiting<'_, D, T> {
         }
     }
 
+    // One who can end the wait.
+    fn write_cause<W: fmt::Write>(&self, f: &mut fmt::Formatter<W>, pid: u32) -> fmt::Result {
+        if pid == self.pid {
+            f.write_str("it itself")
+        } else {
+            self.reporter.who(pid).fmt(f)
+        }
+    }
+
     // Those who can end the wait, with a word between them; how many they are.
     fn write_causes<W: fmt::Write>(
         &self,
@@ -112,12 +121,7 @@ impl<D: BlockDev, T: Translate> Waiting<'_, D, T> {
             if count > 0 {
                 write!(f, " {between} ")?;
             }
-            if *pid == self.pid {
-                write!(f, "it itself")?;
-            } else {
-                let who = self.reporter.who(*pid);
-                write!(f, "{who}")?;
-            }
+            self.write_cause(f, *pid)?;
             count = count.saturating_add(1);
         }
         Ok(count)
@@ -125,34 +129,61 @@ impl<D: BlockDev, T: Translate> Waiting<'_, D, T> {
 
     // Those who hold the other end of a pipe.
     fn write_holders<W: fmt::Write>(&self, f: &mut fmt::Formatter<W>) -> fmt::Result {
-        if self.write_causes(f, "and")? > 1 {
-            write!(f, " hold")
-        } else {
-            write!(f, " holds")
-        }
+        let count = self.write_causes(f, "and")?;
+        f.write_str(if count > 1 { " hold" } else { " holds" })
+    }
+
+    // The children that are waited for.
+    fn write_children<W: fmt::Write>(&self, f: &mut fmt::Formatter<W>) -> fmt::Result {
+        f.write_str("waits for ")?;
+        self.write_causes(f, "or")?;
+        Ok(())
+    }
+
+    // A wait on a pipe, whose other end these hold.
+    fn write_pipe<W: fmt::Write>(&self, f: &mut fmt::Formatter<W>, what: &str) -> fmt::Result {
+        f.write_str(what)?;
+        self.write_holders(f)
     }
 }
 
 impl<D: BlockDev, T: Translate> fmt::Display for Waiting<'_, D, T> {
     fn fmt<W: fmt::Write>(&self, f: &mut fmt::Formatter<W>) -> fmt::Result {
         match self.wait {
-            Wait::Console => write!(f, "reads the console"),
+            Wait::Console => f.write_str("reads the console"),
             Wait::Tick(tick) => write!(f, "sleeps until tick {tick}"),
-            Wait::Child => {
-                write!(f, "waits for ")?;
-                self.write_causes(f, "or")?;
-                Ok(())
-            }
-            Wait::Bytes(_) => {
-                write!(f, "reads a pipe whose write end ")?;
-                self.write_holders(f)
-            }
-            Wait::Room(_) => {
-                write!(f, "writes to a full pipe whose read end ")?;
-                self.write_holders(f)
-            }
+            Wait::Child => self.write_children(f),
+            Wait::Bytes(_) => self.write_pipe(f, "reads a pipe whose write end "),
+            Wait::Room(_) => self.write_pipe(f, "writes to a full pipe whose read end "),
         }
     }
+}
+
+// Whose child a process is, where it goes on, and what it takes.
+fn write_place<W: fmt::Write>(f: &mut fmt::Formatter<W>, seen: &Seen) -> fmt::Result {
+    let (parent, pc, size) = (seen.parent, seen.pc, seen.size);
+    let frames = frames_of(size);
+    let killed = if seen.killed { ", killed" } else { "" };
+    writeln!(
+        f,
+        "; parent {parent}, pc {pc:#x}, {size} bytes, {frames} frames{killed}"
+    )
+}
+
+// An open file that a descriptor names, in a line.
+fn write_opened<W: fmt::Write>(
+    f: &mut fmt::Formatter<W>,
+    descriptor: usize,
+    opened: &Opened,
+) -> fmt::Result {
+    let on = On(opened.on);
+    writeln!(f, "  {descriptor}: {on}")
+}
+
+// A fault in a line.
+fn write_fault<W: fmt::Write>(f: &mut fmt::Formatter<W>, fallen: &Fallen) -> fmt::Result {
+    let (who, fault) = (fallen.who, fallen.fault);
+    writeln!(f, "fault: {who}: {fault}")
 }
 
 impl<'a, D: BlockDev, T: Translate> Report<'a, D, T> {
@@ -207,53 +238,48 @@ impl<'a, D: BlockDev, T: Translate> Report<'a, D, T> {
     }
 
     fn write_stop<W: fmt::Write>(&self, f: &mut fmt::Formatter<W>) -> fmt::Result {
+        f.write_str("stopped: ")?;
         match self.stop() {
-            Stop::Ended(status) => writeln!(f, "stopped: process 1 ended with status {status}"),
-            Stop::Device => writeln!(f, "stopped: an access of the disk failed"),
-            Stop::Console => writeln!(f, "stopped: the console's bytes were not all taken"),
-            Stop::Halted => writeln!(f, "stopped: the machine takes no events"),
-            Stop::Idle => writeln!(f, "stopped: nobody is ready"),
+            Stop::Ended(status) => writeln!(f, "process 1 ended with status {status}"),
+            Stop::Device => f.write_str("an access of the disk failed\n"),
+            Stop::Console => f.write_str("the console's bytes were not all taken\n"),
+            Stop::Halted => f.write_str("the machine takes no events\n"),
+            Stop::Idle => f.write_str("nobody is ready\n"),
             Stop::Runs(pid) => {
                 let who = self.reporter.who(pid);
-                writeln!(f, "stopped: the events are used up while {who} runs")
+                writeln!(f, "the events are used up while {who} runs")
             }
-            Stop::Ready => writeln!(
-                f,
-                "stopped: the events are used up while a process is ready"
-            ),
+            Stop::Ready => f.write_str("the events are used up while a process is ready\n"),
         }
     }
 
-    // A process in a line.
-    fn write_process<W: fmt::Write>(
+    // What a process does, or what it waits for.
+    fn write_doing<W: fmt::Write>(
         &self,
         f: &mut fmt::Formatter<W>,
-        who: Who,
-        seen: &Seen,
+        pid: u32,
+        state: ProcessState,
     ) -> fmt::Result {
+        match self.waiting(pid) {
+            Some(waiting) => waiting.fmt(f),
+            None => Doing(state).fmt(f),
+        }
+    }
+
+    // A process in a line, and its descriptors in further ones.
+    fn write_process<W: fmt::Write>(&self, f: &mut fmt::Formatter<W>, seen: &Seen) -> fmt::Result {
+        let who = self.reporter.who(seen.pid);
         write!(f, "{who} ")?;
-        match self.waiting(who.pid) {
-            Some(waiting) => write!(f, "{waiting}")?,
-            None => write!(f, "{}", Doing(seen.state))?,
-        }
-        let (parent, pc, size) = (seen.parent, seen.pc, seen.size);
-        let frames = frames_of(size);
-        write!(
-            f,
-            "; parent {parent}, pc {pc:#x}, {size} bytes, {frames} frames"
-        )?;
-        if seen.killed {
-            write!(f, ", killed")?;
-        }
-        writeln!(f)
+        self.write_doing(f, seen.pid, seen.state)?;
+        write_place(f, seen)?;
+        self.write_descriptors(f, seen.pid)
     }
 
     // What the descriptors of a process are open on, a line each.
     fn write_descriptors<W: fmt::Write>(&self, f: &mut fmt::Formatter<W>, pid: u32) -> fmt::Result {
         for descriptor in 0..16 {
             if let Some(opened) = self.open_on(pid, descriptor) {
-                let on = On(opened.on);
-                writeln!(f, "  {descriptor}: {on}")?;
+                write_opened(f, descriptor, &opened)?;
             }
         }
         Ok(())
@@ -262,8 +288,7 @@ impl<'a, D: BlockDev, T: Translate> Report<'a, D, T> {
     fn write_processes<W: fmt::Write>(&self, f: &mut fmt::Formatter<W>) -> fmt::Result {
         for pid in pids(self.machine).as_slice() {
             if let Some(seen) = self.machine.inspect(*pid) {
-                self.write_process(f, self.reporter.who(*pid), &seen)?;
-                self.write_descriptors(f, *pid)?;
+                self.write_process(f, &seen)?;
             }
         }
         Ok(())
@@ -272,15 +297,24 @@ impl<'a, D: BlockDev, T: Translate> Report<'a, D, T> {
     fn write_faults<W: fmt::Write>(&self, f: &mut fmt::Formatter<W>) -> fmt::Result {
         for fallen in self.reporter.faults() {
             if let Some(fallen) = fallen {
-                let (who, fault) = (fallen.who, fallen.fault);
-                writeln!(f, "fault: {who}: {fault}")?;
+                write_fault(f, fallen)?;
             }
         }
-        let more = self.reporter.more_faults();
-        if more > 0 {
-            writeln!(f, "fault: {more} more")?;
-        }
         Ok(())
+    }
+
+    // How many faults came that aren't kept.
+    fn write_more_faults<W: fmt::Write>(&self, f: &mut fmt::Formatter<W>) -> fmt::Result {
+        let more = self.reporter.more_faults();
+        if more == 0 {
+            return Ok(());
+        }
+        writeln!(f, "fault: {more} more")
+    }
+
+    fn write_free_frames<W: fmt::Write>(&self, f: &mut fmt::Formatter<W>) -> fmt::Result {
+        let free = self.machine.free_frames();
+        writeln!(f, "free frames: {free}")
     }
 }
 
@@ -289,8 +323,8 @@ impl<D: BlockDev, T: Translate> fmt::Display for Report<'_, D, T> {
         self.write_counts(f)?;
         self.write_stop(f)?;
         self.write_processes(f)?;
-        let free = self.machine.free_frames();
-        writeln!(f, "free frames: {free}")?;
-        self.write_faults(f)
+        self.write_free_frames(f)?;
+        self.write_faults(f)?;
+        self.write_more_faults(f)
     }
 }

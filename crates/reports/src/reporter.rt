@@ -7,7 +7,7 @@ use crate::who::{Name, Programs, Who};
 use arrayvec::ArrayVec;
 use blockdev::BlockDev;
 use causes::{Fault, fault_of, word};
-use machine::{Halt, Machine, ProcessState};
+use machine::{Halt, Machine, ProcessState, Seen};
 use sv39::Translate;
 use unixmodel::event::Event;
 
@@ -76,12 +76,17 @@ fn next_of<D: BlockDev, T: Translate>(machine: &Machine<D, T>, pid: u32) -> Next
     let Some(seen) = machine.inspect(pid) else {
         return Next::Other;
     };
-    if word(machine, pid, seen.pc) != Some(ECALL) {
-        return Next::Other;
+    match word(machine, pid, seen.pc) {
+        Some(ECALL) => call_of(machine, &seen),
+        _ => Next::Other,
     }
+}
+
+// What the call does that a process makes.
+fn call_of<D: BlockDev, T: Translate>(machine: &Machine<D, T>, seen: &Seen) -> Next {
     match seen.registers[A7] % 0x1_0000_0000 {
         FORK => Next::Forks,
-        EXEC => match Name::at(machine, pid, seen.registers[A0]) {
+        EXEC => match Name::at(machine, seen.pid, seen.registers[A0]) {
             Some(name) => Next::Execs(name),
             None => Next::Other,
         },
@@ -218,21 +223,35 @@ impl Reporter {
         let Some(child) = answer(machine, self.running) else {
             return;
         };
-        if let (Ok(child), Some(name)) = (u32::try_from(child), self.programs.name(self.running)) {
+        let Some(name) = self.programs.name(self.running) else {
+            return;
+        };
+        if let Ok(child) = u32::try_from(child) {
             self.programs.set(machine, child, name);
         }
     }
 
-    /// Looks at the machine before an event.
-    pub fn before<D: BlockDev, T: Translate>(&mut self, machine: &Machine<D, T>, event: Event) {
-        self.next = Next::Other;
+    // The running process runs another program, if its call wasn't refused.
+    fn note_exec<D: BlockDev, T: Translate>(&mut self, machine: &Machine<D, T>, name: Name) {
+        if answer(machine, self.running).is_some() {
+            self.programs.set(machine, self.running, name);
+        }
+    }
+
+    fn count(&mut self, event: Event) {
         let counts = &mut self.counts;
         match event {
             Event::Step => counts.steps = counts.steps.saturating_add(1),
             Event::Tick => counts.ticks = counts.ticks.saturating_add(1),
             Event::Key(_) => counts.keys = counts.keys.saturating_add(1),
         }
-        if event == Event::Step
+    }
+
+    /// Looks at the machine before an event.
+    pub fn before<D: BlockDev, T: Translate>(&mut self, machine: &Machine<D, T>, event: Event) {
+        self.next = Next::Other;
+        self.count(event);
+        if let Event::Step = event
             && let Some(pid) = self.find_running(machine)
         {
             self.next = next_of(machine, pid);
@@ -253,11 +272,7 @@ impl Reporter {
             Next::Other => {}
             Next::Faults(fault) => self.note_fault(fault),
             Next::Forks => self.note_child(machine),
-            Next::Execs(name) => {
-                if answer(machine, self.running).is_some() {
-                    self.programs.set(machine, self.running, name);
-                }
-            }
+            Next::Execs(name) => self.note_exec(machine, name),
         }
     }
 }

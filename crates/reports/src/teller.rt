@@ -7,7 +7,7 @@ use std::alloc::{AllocError, Global};
 use sv39::Translate;
 
 /// What is to be told of a run at its end.
-#[derive(Clone, Copy, PartialEq, Eq)]
+#[derive(Clone, Copy)]
 pub struct Wanted {
     /// Whether the report is.
     pub report: bool,
@@ -28,6 +28,28 @@ pub struct Told {
     pub json: Option<String>,
 }
 
+// Writes the text that is wanted of a machine.
+fn write_text<D: BlockDev, T: Translate>(
+    text: &mut String,
+    reporter: &Reporter,
+    machine: &Machine<D, T>,
+    wanted: Wanted,
+) -> Result<(), AllocError> {
+    if wanted.report {
+        let report = reporter.report(machine);
+        write!(text, "{report}")?;
+    }
+    if let Some(pid) = wanted.registers {
+        let registers = reporter.registers(machine, pid);
+        write!(text, "{registers}")?;
+    }
+    if let Some(pid) = wanted.memory {
+        let memory = reporter.memory(machine, pid);
+        write!(text, "{memory}")?;
+    }
+    Ok(())
+}
+
 // The text that is wanted of a machine.
 fn text_of<D: BlockDev, T: Translate>(
     alloc: Global,
@@ -36,18 +58,7 @@ fn text_of<D: BlockDev, T: Translate>(
     wanted: Wanted,
 ) -> Result<String, AllocError> {
     let mut text = String::new(alloc);
-    if wanted.report {
-        let report = reporter.report(machine);
-        text.push_str(&format!(in alloc; "{report}")?)?;
-    }
-    if let Some(pid) = wanted.registers {
-        let registers = reporter.registers(machine, pid);
-        text.push_str(&format!(in alloc; "{registers}")?)?;
-    }
-    if let Some(pid) = wanted.memory {
-        let memory = reporter.memory(machine, pid);
-        text.push_str(&format!(in alloc; "{memory}")?)?;
-    }
+    write_text(&mut text, reporter, machine, wanted)?;
     Ok(text)
 }
 

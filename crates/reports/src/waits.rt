@@ -5,7 +5,7 @@ use machine::{Call, Holdings, Machine, OpenOn, Opened, Pending};
 use sv39::Translate;
 
 /// What a process waits for.
-#[derive(Clone, Copy, PartialEq, Eq)]
+#[derive(Clone, Copy)]
 pub enum Wait {
     /// A child that ends.
     Child,

@@ -2,7 +2,6 @@
 
 use blockdev::BlockDev;
 use machine::Machine;
-use std::alloc::{AllocError, Global};
 use std::fmt;
 use sv39::Translate;
 
@@ -67,21 +66,26 @@ impl Name {
     }
 }
 
+// A byte as it is, if it is printed as a character.
+fn write_byte<W: fmt::Write>(f: &mut fmt::Formatter<W>, byte: u8) -> fmt::Result {
+    if byte.is_ascii_graphic() {
+        f.write_char(char::from(byte))
+    } else {
+        write!(f, "\\x{byte:02x}")
+    }
+}
+
 impl fmt::Display for Name {
     fn fmt<W: fmt::Write>(&self, f: &mut fmt::Formatter<W>) -> fmt::Result {
         for byte in self.shown() {
-            if byte.is_ascii_graphic() {
-                write!(f, "{}", char::from(*byte))?;
-            } else {
-                write!(f, "\\x{byte:02x}")?;
-            }
+            write_byte(f, *byte)?;
         }
         Ok(())
     }
 }
 
 /// The programs of processes by their pids.
-#[derive(Clone, Copy)]
+#[derive(Drop)]
 pub struct Programs {
     known: [Option<(u32, Name)>; 64],
 }
@@ -139,16 +143,6 @@ impl Programs {
 pub struct Who {
     pub pid: u32,
     pub name: Option<Name>,
-}
-
-impl Who {
-    /// The name as a text, if it is known.
-    pub fn program(&self, alloc: Global) -> Result<Option<String>, AllocError> {
-        match self.name {
-            Some(name) => Ok(Some(format!(in alloc; "{name}")?)),
-            None => Ok(None),
-        }
-    }
 }
 
 impl fmt::Display for Who {
