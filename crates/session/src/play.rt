@@ -10,7 +10,7 @@ use sv39::Tlb;
 use unixmodel::event::Event;
 
 /// How far a run came.
-#[derive(Clone, Copy, Debug)]
+#[derive(Clone, Copy)]
 pub struct Ran {
     /// How many steps it took; a step at which the machine stops is one of them.
     pub steps: u32,

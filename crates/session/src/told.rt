@@ -6,7 +6,7 @@ use machine::{ProcessState, Seen};
 
 /// A process, as it stands between two events.
 #[repr(C)]
-#[derive(Clone, Copy, Debug)]
+#[derive(Clone, Copy)]
 pub struct ProcessTold {
     /// x0 to x31.
     pub registers: [u64; 32],
