@@ -1,12 +1,15 @@
 //! Stored runs: jobs done with files in memory, and what they have to write.
 mod images;
+mod listing;
 mod living;
 mod meanings;
 mod migrating;
+mod narrow_outputs;
 mod openings;
 mod plays;
 mod program_files;
 mod progress;
+mod refusals;
 mod replacing;
 mod runs;
 mod telling;
@@ -16,8 +19,6 @@ mod words;
 use commands::perform::perform;
 use commands::{Flat, Host, HostFault, Job, NoScreen, Telling};
 use std::alloc::{AllocError, Global};
-use std::io;
-use std::io::Write;
 use std::process::Abort;
 
 // Says `hi`: the words of the program, after which come the three bytes that it writes.
@@ -88,30 +89,63 @@ fn files_of(alloc: Global, bytes: Vec<u8>, text: &[u8]) -> Result<Files, AllocEr
     })
 }
 
-// What was written, and the status: standard output, standard error, and the status.
-type Told<'a> = (&'a [u8], &'a [u8], u8);
-
-fn expect_told(rt: &impl Abort, told: Told<'_>, stdout: &str, stderr: &str, status: u8) {
-    let (out, err, ended) = told;
-    assert_eq!(rt; out, stdout.as_bytes(), "{stderr}");
-    assert_eq!(rt; err, stderr.as_bytes());
-    assert_eq!(rt; ended, status, "{stderr}");
+// Gives an image or a program's file these bytes at these places.
+fn change(bytes: &mut Vec<u8>, changes: &[(usize, u8)]) {
+    for (at, byte) in changes {
+        if let Some(old) = bytes.get_mut(*at) {
+            *old = *byte;
+        }
+    }
 }
 
-// Does a job: it has to write these texts, and to exit with this status.
-fn expect(
+// What is written, and the status: standard output, standard error, and the status.
+type Told<'a> = (&'a [u8], &'a [u8], u8);
+
+// The same of what has to be written.
+type Wanted<'a> = (&'a str, &'a str, u8);
+
+// Nothing, of a job that is done.
+const DONE: Wanted<'static> = ("", "", 0);
+
+// The subject and the row that are tried.
+type Name<'a> = (&'a str, &'a str);
+
+// This has to hold in the row that is tried.
+fn expect_that(rt: &impl Abort, name: Name<'_>, what: &str, holds: bool) {
+    let (subject, row) = name;
+    assert!(rt; holds, "{subject}: {row}: {what}");
+}
+
+fn text_of(bytes: &[u8]) -> &str {
+    str::from_utf8(bytes).unwrap_or("bytes that are no text")
+}
+
+// A text has to be the one that is wanted.
+fn expect_text(rt: &impl Abort, name: Name<'_>, text: &[u8], wanted: &str) {
+    expect_that(rt, name, text_of(text), text == wanted.as_bytes());
+}
+
+// What was told has to be what is wanted.
+fn expect_told(rt: &impl Abort, name: Name<'_>, told: Told<'_>, wanted: Wanted<'_>) {
+    let (out, err, ended) = told;
+    let (stdout, stderr, status) = wanted;
+    expect_text(rt, name, out, stdout);
+    expect_text(rt, name, err, stderr);
+    expect_that(rt, name, "the status", ended == status);
+}
+
+// Does a job with a host.
+fn expect<H: Host>(
     rt: &(impl Abort + AllocGlobal),
-    files: &mut Files,
+    name: Name<'_>,
+    host: &mut H,
     job: &Job<'_>,
-    stdout: &str,
-    stderr: &str,
-    status: u8,
+    wanted: Wanted<'_>,
 ) {
     let mut out = Vec::new(rt.alloc());
     let mut err = Vec::new(rt.alloc());
-    let ended = perform(rt.alloc(), job, files, &mut out, &mut err);
-    let told = (out.as_slice(), err.as_slice(), ended);
-    expect_told(rt, told, stdout, stderr, status);
+    let ended = perform(rt.alloc(), job, host, &mut out, &mut err);
+    expect_told(rt, name, (out.as_slice(), err.as_slice(), ended), wanted);
 }
 
 fn flat(frames: u32, tlb: bool) -> Job<'static> {
@@ -124,20 +158,6 @@ fn flat(frames: u32, tlb: bool) -> Job<'static> {
     })
 }
 
-// Runs a flat program with each translator: either has to write these texts, and to exit with this status.
-fn expect_flat(
-    rt: &(impl Abort + AllocGlobal),
-    files: &mut Files,
-    frames: u32,
-    stdout: &str,
-    stderr: &str,
-    status: u8,
-) {
-    for tlb in [false, true] {
-        expect(rt, files, &flat(frames, tlb), stdout, stderr, status);
-    }
-}
-
 // The bytes of a program's words.
 fn program_of(alloc: Global, words: &[u32]) -> Result<Vec<u8>, AllocError> {
     let mut bytes = Vec::new(alloc);
@@ -147,24 +167,6 @@ fn program_of(alloc: Global, words: &[u32]) -> Result<Vec<u8>, AllocError> {
     Ok(bytes)
 }
 
-// A program's run: its frames, its words, the script, standard output, standard error and status.
-type Run = (
-    u32,
-    &'static [u32],
-    &'static str,
-    &'static str,
-    &'static str,
-    u8,
-);
-
-fn expect_runs(rt: &(impl Abort + AllocGlobal), runs: &[Run]) {
-    for (frames, words, script, stdout, stderr, status) in runs {
-        let program = program_of(rt.alloc(), words).expect(rt, "memory");
-        let mut files = files_of(rt.alloc(), program, script.as_bytes()).expect(rt, "memory");
-        expect_flat(rt, &mut files, *frames, stdout, stderr, *status);
-    }
-}
-
 // The program that says `hi`, of 35 bytes.
 fn hello(alloc: Global) -> Result<Vec<u8>, AllocError> {
     let mut bytes = program_of(alloc, HELLO)?;
@@ -172,55 +174,109 @@ fn hello(alloc: Global) -> Result<Vec<u8>, AllocError> {
     Ok(bytes)
 }
 
-// Runs of the program that says `hi`: the script, standard output and standard error.
-static GREETINGS: [(&str, &str, &str); 11] = [
-    ("step 9\n", "hi\n", "halt 1 InitEnded 0\n"),
-    ("", "", "running\n"),
-    ("step 5", "", "running\n"),
-    ("step 6", "hi\n", "running\n"),
-    ("step 8", "hi\n", "running\n"),
-    ("step 1000000000", "hi\n", "halt 1 InitEnded 0\n"),
-    ("step 3\ntick 1\nstep 3\n", "", "running\n"),
-    ("step 3\ntick 1\nstep 4\n", "hi\n", "running\n"),
-    ("step 3\ntick 1\nstep 6\n", "hi\n", "running\n"),
-    ("step 3\ntick 1\nstep 7\n", "hi\n", "halt 1 InitEnded 0\n"),
+// What is run: the program that says `hi`, so many zeros, or these words.
+#[derive(Clone, Copy)]
+enum Program {
+    Hello,
+    Zeros(usize),
+    Words(&'static [u32]),
+}
+
+fn bytes_of(alloc: Global, program: Program) -> Result<Vec<u8>, AllocError> {
+    match program {
+        Program::Hello => hello(alloc),
+        Program::Zeros(length) => vec![in alloc; 0u8; length],
+        Program::Words(words) => program_of(alloc, words),
+    }
+}
+
+// A program's run: its frames, the program, the script, standard output, standard error and status.
+type Run = (u32, Program, &'static str, &'static str, &'static str, u8);
+
+// Runs a flat program with each translator: either has to write these texts, and to exit with this status.
+fn expect_run(rt: &(impl Abort + AllocGlobal), subject: &str, run: &Run) {
+    let (frames, program, script, stdout, stderr, status) = *run;
+    let bytes = bytes_of(rt.alloc(), program).expect(rt, "memory");
+    let mut files = files_of(rt.alloc(), bytes, script.as_bytes()).expect(rt, "memory");
+    let name = (subject, script);
+    let wanted = (stdout, stderr, status);
+    expect(rt, name, &mut files, &flat(frames, false), wanted);
+    expect(rt, name, &mut files, &flat(frames, true), wanted);
+}
+
+const GREETINGS: &[Run] = &[
     (
+        256,
+        Program::Hello,
+        "step 9\n",
+        "hi\n",
+        "halt 1 InitEnded 0\n",
+        0,
+    ),
+    (256, Program::Hello, "", "", "running\n", 0),
+    (256, Program::Hello, "step 5", "", "running\n", 0),
+    (256, Program::Hello, "step 6", "hi\n", "running\n", 0),
+    (256, Program::Hello, "step 8", "hi\n", "running\n", 0),
+    (
+        256,
+        Program::Hello,
+        "step 1000000000",
+        "hi\n",
+        "halt 1 InitEnded 0\n",
+        0,
+    ),
+    (
+        256,
+        Program::Hello,
+        "step 3\ntick 1\nstep 3\n",
+        "",
+        "running\n",
+        0,
+    ),
+    (
+        256,
+        Program::Hello,
+        "step 3\ntick 1\nstep 4\n",
+        "hi\n",
+        "running\n",
+        0,
+    ),
+    (
+        256,
+        Program::Hello,
+        "step 3\ntick 1\nstep 6\n",
+        "hi\n",
+        "running\n",
+        0,
+    ),
+    (
+        256,
+        Program::Hello,
+        "step 3\ntick 1\nstep 7\n",
+        "hi\n",
+        "halt 1 InitEnded 0\n",
+        0,
+    ),
+    (
+        256,
+        Program::Hello,
         "step 003\n\ntick 1\n\nstep 0\nstep 7",
         "hi\n",
         "halt 1 InitEnded 0\n",
+        0,
     ),
 ];
 
-#[test]
-fn says_hi_and_ends(rt: HostRuntime) {
-    for (script, stdout, stderr) in &GREETINGS {
-        let program = hello(rt.alloc()).expect(&rt, "memory");
-        let mut files = files_of(rt.alloc(), program, script.as_bytes()).expect(&rt, "memory");
-        expect_flat(&rt, &mut files, 256, stdout, stderr, 0);
-    }
-}
-
-// Programs of zeros: the frames, the length, the script, standard error and status.
-static BOOTS: [(u32, usize, &str, &str, u8); 8] = [
-    (64, 0, "step 1", "running\n", 0),
-    (32768, 0, "step 1", "running\n", 0),
-    (256, 0, "step 1", "running\n", 0),
-    (256, 0, "step 2", DEAD, 0),
-    (63, 0, "", "fault 2 FrameCount\n", 1),
-    (32769, 0, "", "fault 2 FrameCount\n", 1),
-    (64, 229376, "", "running\n", 0),
-    (64, 229377, "", "fault 5 NoInit\n", 1),
+const BOOTS: &[Run] = &[
+    (64, Program::Zeros(0), "step 1", "", "running\n", 0),
+    (32768, Program::Zeros(0), "step 1", "", "running\n", 0),
+    (256, Program::Zeros(0), "step 1", "", "running\n", 0),
+    (256, Program::Zeros(0), "step 2", "", DEAD, 0),
+    (63, Program::Zeros(0), "", "", "fault 2 FrameCount\n", 1),
+    (32769, Program::Zeros(0), "", "", "fault 2 FrameCount\n", 1),
+    (64, Program::Zeros(229376), "", "", "running\n", 0),
+    (64, Program::Zeros(229377), "", "", "fault 5 NoInit\n", 1),
 ];
-
-#[test]
-fn boots_what_fits(rt: HostRuntime) {
-    let alloc = rt.alloc();
-    for (frames, length, script, line, status) in &BOOTS {
-        let program = vec![in alloc; 0u8; *length].expect(&rt, "memory");
-        let mut files = files_of(alloc, program, script.as_bytes()).expect(&rt, "memory");
-        expect_flat(&rt, &mut files, *frames, "", line, *status);
-    }
-}
 
 const GUARD: &[u32] = &[0x0000_1537, 0x0005_0023]; // lui a0, 0x1; sb zero, 0(a0)
 
@@ -238,18 +294,14 @@ const TRAP_FRAME: &[u32] = &[
     0x0005_0023, // sb   zero, 0(a0)     # 0x3fffffe000
 ];
 
-#[test]
-fn ends_at_faults(rt: HostRuntime) {
-    static RUNS: [Run; 6] = [
-        (64, GUARD, "step 2", "", "running\n", 0),
-        (64, GUARD, "step 3", "", DEAD, 0),
-        (64, &[0x0000_0000], "step 2", "", DEAD, 0),
-        (64, &[0xffff_ffff], "step 2", "", DEAD, 0),
-        (64, PAST_END, "step 4", "", DEAD, 0),
-        (64, TRAP_FRAME, "step 6", "", DEAD, 0),
-    ];
-    expect_runs(&rt, &RUNS);
-}
+const ENDS: &[Run] = &[
+    (64, Program::Words(GUARD), "step 2", "", "running\n", 0),
+    (64, Program::Words(GUARD), "step 3", "", DEAD, 0),
+    (64, Program::Words(&[0x0000_0000]), "step 2", "", DEAD, 0),
+    (64, Program::Words(&[0xffff_ffff]), "step 2", "", DEAD, 0),
+    (64, Program::Words(PAST_END), "step 4", "", DEAD, 0),
+    (64, Program::Words(TRAP_FRAME), "step 6", "", DEAD, 0),
+];
 
 // addi a7, zero, 14, 11 and 99; ecall; addi a7, zero, 2; ecall
 const UPTIME: &[u32] = &[0x00e0_0893, 0x0000_0073, 0x0020_0893, 0x0000_0073];
@@ -258,15 +310,25 @@ const GETPID: &[u32] = &[0x00b0_0893, 0x0000_0073, 0x0020_0893, 0x0000_0073];
 
 const UNKNOWN: &[u32] = &[0x0630_0893, 0x0000_0073, 0x0020_0893, 0x0000_0073];
 
-#[test]
-fn answers_small_calls(rt: HostRuntime) {
-    static RUNS: [Run; 3] = [
-        (64, UPTIME, "tick 3\nstep 5", "", "halt 1 InitEnded 3\n", 0),
-        (64, GETPID, "step 5", "", "halt 1 InitEnded 1\n", 0),
-        (64, UNKNOWN, "step 5", "", DEAD, 0),
-    ];
-    expect_runs(&rt, &RUNS);
-}
+const SMALL_CALLS: &[Run] = &[
+    (
+        64,
+        Program::Words(UPTIME),
+        "tick 3\nstep 5",
+        "",
+        "halt 1 InitEnded 3\n",
+        0,
+    ),
+    (
+        64,
+        Program::Words(GETPID),
+        "step 5",
+        "",
+        "halt 1 InitEnded 1\n",
+        0,
+    ),
+    (64, Program::Words(UNKNOWN), "step 5", "", DEAD, 0),
+];
 
 const WRITES_TO_3: &[u32] = &[
     0x0030_0513, // addi a0, zero, 3
@@ -297,15 +359,18 @@ const WRITES_NOTHING: &[u32] = &[
     0x0000_0073, // ecall
 ];
 
-#[test]
-fn tells_refused_writes(rt: HostRuntime) {
-    static RUNS: [Run; 3] = [
-        (64, WRITES_TO_3, "step 7", "", DEAD, 0),
-        (64, WRITES_THE_GUARD, "step 9", "", DEAD, 0),
-        (64, WRITES_NOTHING, "step 7", "", "halt 1 InitEnded 0\n", 0),
-    ];
-    expect_runs(&rt, &RUNS);
-}
+const REFUSED_WRITES: &[Run] = &[
+    (64, Program::Words(WRITES_TO_3), "step 7", "", DEAD, 0),
+    (64, Program::Words(WRITES_THE_GUARD), "step 9", "", DEAD, 0),
+    (
+        64,
+        Program::Words(WRITES_NOTHING),
+        "step 7",
+        "",
+        "halt 1 InitEnded 0\n",
+        0,
+    ),
+];
 
 // lui a0, ..; addi a7, zero, 12; ecall: sbrk(225280), sbrk(229376), and sbrk(-12288), which takes
 // the code away; addi a7, zero, 2; ecall
@@ -352,26 +417,29 @@ const GROWS_TWICE: &[u32] = &[
     0x0000_0073, // ecall
 ];
 
-#[test]
-fn grows_and_shrinks(rt: HostRuntime) {
-    static RUNS: [Run; 7] = [
-        (64, GROWS, "step 6", "", "halt 1 InitEnded 12288\n", 0),
-        (64, GROWS_TOO_FAR, "step 6", "", DEAD, 0),
-        (64, SHRINKS, "step 4", "", "running\n", 0),
-        (64, SHRINKS, "step 5", "", DEAD, 0),
-        (64, SHRINKS_BELOW_0, "step 7", "", DEAD, 0),
-        (519, GROWS_TWICE, "step 8", "", DEAD, 0),
-        (
-            520,
-            GROWS_TWICE,
-            "step 8",
-            "",
-            "halt 1 InitEnded 2097152\n",
-            0,
-        ),
-    ];
-    expect_runs(&rt, &RUNS);
-}
+const GROWTH: &[Run] = &[
+    (
+        64,
+        Program::Words(GROWS),
+        "step 6",
+        "",
+        "halt 1 InitEnded 12288\n",
+        0,
+    ),
+    (64, Program::Words(GROWS_TOO_FAR), "step 6", "", DEAD, 0),
+    (64, Program::Words(SHRINKS), "step 4", "", "running\n", 0),
+    (64, Program::Words(SHRINKS), "step 5", "", DEAD, 0),
+    (64, Program::Words(SHRINKS_BELOW_0), "step 7", "", DEAD, 0),
+    (519, Program::Words(GROWS_TWICE), "step 8", "", DEAD, 0),
+    (
+        520,
+        Program::Words(GROWS_TWICE),
+        "step 8",
+        "",
+        "halt 1 InitEnded 2097152\n",
+        0,
+    ),
+];
 
 const GIVES_A_PAGE_BACK: &[u32] = &[
     0x0000_1537, // lui  a0, 0x1
@@ -405,21 +473,24 @@ const KEEPS_A_PAGE: &[u32] = &[
     0x0000_0073, // ecall
 ];
 
-#[test]
-fn hands_out_zeroed_pages(rt: HostRuntime) {
-    static RUNS: [Run; 2] = [
-        (
-            64,
-            GIVES_A_PAGE_BACK,
-            "step 14",
-            "",
-            "halt 1 InitEnded 0\n",
-            0,
-        ),
-        (64, KEEPS_A_PAGE, "step 14", "", "halt 1 InitEnded 85\n", 0),
-    ];
-    expect_runs(&rt, &RUNS);
-}
+const ZEROED_PAGES: &[Run] = &[
+    (
+        64,
+        Program::Words(GIVES_A_PAGE_BACK),
+        "step 14",
+        "",
+        "halt 1 InitEnded 0\n",
+        0,
+    ),
+    (
+        64,
+        Program::Words(KEEPS_A_PAGE),
+        "step 14",
+        "",
+        "halt 1 InitEnded 85\n",
+        0,
+    ),
+];
 
 // The last byte of the stack, over sizes 12288, 12289, 16384, 12287 and 12288.
 const KEEPS_A_BYTE: &[u32] = &[
@@ -444,182 +515,74 @@ const KEEPS_A_BYTE: &[u32] = &[
     0x0000_0073, // ecall                # 12287 + 85
 ];
 
-#[test]
-fn keeps_what_stays(rt: HostRuntime) {
-    static RUNS: [Run; 1] = [(
-        64,
-        KEEPS_A_BYTE,
-        "step 20",
-        "",
-        "halt 1 InitEnded 12372\n",
-        0,
-    )];
-    expect_runs(&rt, &RUNS);
-}
+const KEPT: &[Run] = &[(
+    64,
+    Program::Words(KEEPS_A_BYTE),
+    "step 20",
+    "",
+    "halt 1 InitEnded 12372\n",
+    0,
+)];
 
-// Scripts with a line that says nothing, and standard error.
-static BAD_SCRIPTS: [(&str, &str); 16] = [
-    ("step", "script line 1\n"),
-    ("step ", "script line 1\n"),
-    ("step 1 ", "script line 1\n"),
-    ("step  1", "script line 1\n"),
-    ("step +1", "script line 1\n"),
-    ("step -1", "script line 1\n"),
-    ("step 1\r\n", "script line 1\n"),
-    ("step 1000000001", "script line 1\n"),
-    ("step 9\n\ntick x\nnonsense", "script line 3\n"),
-    ("keys", "script line 1\n"),
-    ("keys 0", "script line 1\n"),
-    ("keys 0A", "script line 1\n"),
-    ("keys 0d 7f", "script line 1\n"),
-    ("\ntype", "script line 2\n"),
-    (" ", "script line 1\n"),
-    ("Step 1", "script line 1\n"),
-];
-
-#[test]
-fn tells_bad_scripts(rt: HostRuntime) {
-    for (script, line) in &BAD_SCRIPTS {
-        let program = hello(rt.alloc()).expect(&rt, "memory");
-        let mut files = files_of(rt.alloc(), program, script.as_bytes()).expect(&rt, "memory");
-        expect_flat(&rt, &mut files, 256, "", line, 1);
-    }
-}
-
-// The names of the program and the script, the bytes of the script, and standard error.
-static READS: [(&str, &str, &[u8], &str); 5] = [
-    ("none", "nothing", b"", "cannot read none\n"),
-    ("program", "nothing", b"", "cannot read nothing\n"),
-    ("program", "script", b"step 1\xff", "cannot read script\n"),
-    ("program", "script", b"step", "script line 1\n"),
-    ("program", "script", b"step 1", "fault 2 FrameCount\n"),
-];
-
-#[test]
-fn reads_files_in_order(rt: HostRuntime) {
-    for (file, script, text, line) in &READS {
-        let program = hello(rt.alloc()).expect(&rt, "memory");
-        let mut files = files_of(rt.alloc(), program, text).expect(&rt, "memory");
-        let job = Job::Flat(Flat {
-            frames: 1,
-            tlb: false,
-            telling: UNTOLD,
-            file,
-            script,
-        });
-        expect(&rt, &mut files, &job, "", line, 1);
-    }
-}
-
-// Takes one byte at a time, so many of them, and then fails; a flush may fail too. It notes how many bytes it has at each that doesn't.
-#[derive(Drop)]
-struct Narrow {
-    taken: Vec<u8>,
-    room: usize,
-    flushes: bool,
-    flushed: Vec<usize>,
-}
-
-impl Write for Narrow {
-    fn write(&mut self, buf: &[u8]) -> io::Result<usize> {
-        match buf.first() {
-            Some(byte) if self.taken.len() < self.room => {
-                self.taken.push(*byte)?;
-                Ok(1)
-            }
-            _ => Ok(0),
-        }
-    }
-
-    fn flush(&mut self) -> io::Result<()> {
-        if !self.flushes {
-            return Err(io::Error::from(io::ErrorKind::StorageFull));
-        }
-        self.flushed.push(self.taken.len())?;
-        Ok(())
-    }
-}
-
-// How many bytes the console takes, whether it can be flushed, which bytes it took, standard error and status.
-static CONSOLES: [(usize, bool, &str, &str, u8); 4] = [
-    (3, true, "hi\n", "halt 1 InitEnded 0\n", 0),
-    (3, false, "hi\n", "halt 3 Console\n", 1),
-    (2, true, "hi", "halt 3 Console\n", 1),
-    (0, true, "", "halt 3 Console\n", 1),
-];
-
-// An output that takes so many bytes.
-fn output_of(alloc: Global, room: usize, flushes: bool) -> Narrow {
-    Narrow {
-        taken: Vec::new(alloc),
-        room,
-        flushes,
-        flushed: Vec::new(alloc),
-    }
-}
-
-// Does a job on a standard output that takes so many bytes, and can be flushed or not.
-fn expect_narrow(
-    rt: &(impl Abort + AllocGlobal),
-    files: &mut Files,
-    job: &Job<'_>,
-    row: (usize, bool, &str, &str, u8),
-) {
-    let (room, flushes, stdout, stderr, status) = row;
-    let mut out = output_of(rt.alloc(), room, flushes);
-    let mut err = Vec::new(rt.alloc());
-    let ended = perform(rt.alloc(), job, files, &mut out, &mut err);
-    let told = (out.taken.as_slice(), err.as_slice(), ended);
-    expect_told(rt, told, stdout, stderr, status);
-}
-
-#[test]
-fn halts_where_the_console_fails(rt: HostRuntime) {
-    let program = hello(rt.alloc()).expect(&rt, "memory");
-    let mut files = files_of(rt.alloc(), program, b"step 9").expect(&rt, "memory");
-    for row in &CONSOLES {
-        expect_narrow(&rt, &mut files, &flat(256, false), *row);
-    }
-}
-
-// Writes one byte after the other, for ever: of its steps, the first of which is its turn, every other one writes a byte from the sixth on.
-const WRITES: &[u32] = &[
-    0x0010_0513, // addi a0, zero, 1
-    0x0000_0593, // addi a1, zero, 0
-    0x0010_0613, // addi a2, zero, 1
-    0x0100_0893, // addi a7, zero, 16
-    0x0000_0073, // ecall                # write answers 1
-    0xffdf_f06f, // jal  zero, -4
-];
-
-// A script, and how many bytes there are each time that the output is written out: before more of a command's events, where there would
-// be more than 65536 since the last time, and at the end.
-static BATCHES: [(&str, &[usize]); 8] = [
-    ("", &[0]),
-    ("step 65536", &[32766]),
-    ("step 65538", &[32766, 32767]),
-    ("step 131074", &[32766, 65534, 65535]),
-    ("tick 65536\nstep 1", &[0, 0]),
-    ("step 6\nstep 65536", &[1, 32769]),
-    ("step 65000\nstep 536\ntick 1", &[32766, 32766]),
+// Scripts with a line that says nothing.
+const BAD_SCRIPTS: &[Run] = &[
+    (256, Program::Hello, "step", "", "script line 1\n", 1),
+    (256, Program::Hello, "step ", "", "script line 1\n", 1),
+    (256, Program::Hello, "step 1 ", "", "script line 1\n", 1),
+    (256, Program::Hello, "step  1", "", "script line 1\n", 1),
+    (256, Program::Hello, "step +1", "", "script line 1\n", 1),
+    (256, Program::Hello, "step -1", "", "script line 1\n", 1),
+    (256, Program::Hello, "step 1\r\n", "", "script line 1\n", 1),
     (
-        "step 30000\nstep 30000\nstep 30000\nstep 30000\nstep 30000",
-        &[29998, 59998, 74998],
+        256,
+        Program::Hello,
+        "step 1000000001",
+        "",
+        "script line 1\n",
+        1,
     ),
+    (
+        256,
+        Program::Hello,
+        "step 9\n\ntick x\nnonsense",
+        "",
+        "script line 3\n",
+        1,
+    ),
+    (256, Program::Hello, "keys", "", "script line 1\n", 1),
+    (256, Program::Hello, "keys 0", "", "script line 1\n", 1),
+    (256, Program::Hello, "keys 0A", "", "script line 1\n", 1),
+    (256, Program::Hello, "keys 0d 7f", "", "script line 1\n", 1),
+    (256, Program::Hello, "\ntype", "", "script line 2\n", 1),
+    (256, Program::Hello, " ", "", "script line 1\n", 1),
+    (256, Program::Hello, "Step 1", "", "script line 1\n", 1),
 ];
 
-#[test]
-fn writes_out_as_it_runs(rt: HostRuntime) {
-    for (script, flushed) in &BATCHES {
-        let program = program_of(rt.alloc(), WRITES).expect(&rt, "memory");
-        let mut files = files_of(rt.alloc(), program, script.as_bytes()).expect(&rt, "memory");
-        let mut out = output_of(rt.alloc(), usize::MAX, true);
-        let mut err = Vec::new(rt.alloc());
-        let job = flat(256, false);
-        let status = perform(rt.alloc(), &job, &mut files, &mut out, &mut err);
-        assert!(rt;
-            status == 0 && out.flushed.as_slice() == *flushed,
-            "{script}"
-        );
+static SUBJECTS: [(&str, &[Run]); 9] = [
+    ("says hi and ends", GREETINGS),
+    ("boots what fits", BOOTS),
+    ("ends at faults", ENDS),
+    ("answers small calls", SMALL_CALLS),
+    ("tells refused writes", REFUSED_WRITES),
+    ("grows and shrinks", GROWTH),
+    ("hands out zeroed pages", ZEROED_PAGES),
+    ("keeps what stays", KEPT),
+    ("tells bad scripts", BAD_SCRIPTS),
+];
+
+fn expect_runs(rt: &(impl Abort + AllocGlobal), subject: &str, runs: &[Run]) {
+    for run in runs {
+        expect_run(rt, subject, run);
     }
+}
+
+fn expect_subjects(rt: &(impl Abort + AllocGlobal)) {
+    for (subject, runs) in &SUBJECTS {
+        expect_runs(rt, subject, runs);
+    }
+}
+
+#[test]
+fn flat_programs_run(rt: HostRuntime) {
+    expect_subjects(&rt);
 }

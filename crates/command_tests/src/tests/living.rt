@@ -1,9 +1,9 @@
 //! Stored sessions at a keyboard.
 ghost use Rattle.std.specs.Prelude.{◌≤◌, IfOk, length};
 
+use crate::tests::narrow_outputs::{expect_narrow, output_of};
 use crate::tests::runs::{WITH_CONSOLE, with_image};
-use crate::tests::{UNTOLD, expect_told, output_of};
-use commands::perform::perform;
+use crate::tests::{Name, UNTOLD, Wanted, expect_that};
 use commands::{Host, HostFault, Job, Live, NoScreen, Run};
 use std::alloc::{AllocError, Global};
 use std::num::NonZeroU64;
@@ -88,16 +88,14 @@ pub fn desk_of(alloc: Global, image: &[u8], typed: &[u8], room: usize) -> Result
 // Does a job at a desk, with a standard output of so much room.
 fn expect_at(
     rt: &(impl Abort + AllocGlobal),
+    name: Name<'_>,
     desk: &mut Desk,
     job: &Job<'_>,
-    row: (usize, &str, &str, u8),
+    room: usize,
+    wanted: Wanted<'_>,
 ) {
-    let (room, stdout, stderr, status) = row;
-    let mut out = output_of(rt.alloc(), room, true);
-    let mut err = Vec::new(rt.alloc());
-    let ended = perform(rt.alloc(), job, desk, &mut out, &mut err);
-    let told = (out.taken.as_slice(), err.as_slice(), ended);
-    expect_told(rt, told, stdout, stderr, status);
+    let out = output_of(rt.alloc(), room, true);
+    expect_narrow(rt, name, desk, job, out, wanted);
 }
 
 const LIVE: Live<'static> = Live {
@@ -119,7 +117,7 @@ const REPLAY: Job<'static> = Job::Run(Run {
     script: "record",
 });
 
-// Whether it is at a terminal, what is typed, standard output, standard error but for its end, and that.
+// Whether it is at a terminal, what is typed, standard output, standard error, and its end.
 type Session = (
     bool,
     &'static [u8],
@@ -128,7 +126,9 @@ type Session = (
     &'static str,
 );
 
-const REPLAYED: &str = "xv6 run --frames 256 image record\n";
+const REPLAYED: &str = "xv6 run --frames 256 image record\nrunning\n";
+
+const ENDED: &str = "xv6 run --frames 256 image record\nhalt 1 InitEnded 7\n";
 
 static SESSIONS: [Session; 8] = [
     (false, b"", "", REPLAYED, "running\n"),
@@ -144,7 +144,7 @@ static SESSIONS: [Session; 8] = [
         false,
         b"ab\n\x04ef\n",
         "ab\nab\n\x04",
-        REPLAYED,
+        ENDED,
         "halt 1 InitEnded 7\n",
     ),
     (false, b"\x01x\n", "\x01x\n\x01x\n", REPLAYED, "running\n"),
@@ -157,43 +157,33 @@ static SESSIONS: [Session; 8] = [
 fn expect_session(
     rt: &(impl Abort + AllocGlobal),
     image: &[u8],
-    session: Session,
+    session: &Session,
     quantum: Option<NonZeroU64>,
 ) {
-    let alloc = rt.alloc();
-    let (terminal, typed, stdout, told, line) = session;
-    let mut desk = desk_of(alloc, image, typed, 100_000).expect(rt, "memory");
+    let (terminal, typed, stdout, stderr, line) = *session;
+    let mut desk = desk_of(rt.alloc(), image, typed, 100_000).expect(rt, "memory");
     let live = Job::Live(Live {
         terminal,
         quantum,
         ..LIVE
     });
-    let stderr = format!(in alloc; "{told}{line}").expect(rt, "memory");
-    expect_at(rt, &mut desk, &live, (1000, stdout, stderr.as_str(), 0));
+    let name = ("a session", stdout);
+    expect_at(rt, name, &mut desk, &live, 1000, (stdout, stderr, 0));
     let left = desk.saved.clone().expect(rt, "memory");
-    expect_at(rt, &mut desk, &REPLAY, (1000, stdout, line, 0));
-    assert!(rt; desk.saved == left && !left.is_empty(), "{stderr}");
+    let name = ("its record", stdout);
+    expect_at(rt, name, &mut desk, &REPLAY, 1000, (stdout, line, 0));
+    let same = desk.saved == left && !left.is_empty();
+    expect_that(rt, name, "what is saved", same);
 }
 
 // The shown processes are none of the console's bytes. With many steps between two ticks process 1 waits by then.
-const SHOWN: Session = (
+static SHOWN: Session = (
     true,
     b"a\x10b\x01x",
     "ab",
-    "\n1 sleep 12288\nxv6 run --frames 256 image record\n",
+    "\n1 sleep 12288\nxv6 run --frames 256 image record\nrunning\n",
     "running\n",
 );
-
-#[test]
-fn replays_what_was_typed(rt: HostRuntime) {
-    let files = with_image(&rt, LISTENS, WITH_CONSOLE, 32);
-    for session in &SESSIONS {
-        for quantum in [None, NonZeroU64::new(5)] {
-            expect_session(&rt, files.image.as_slice(), *session, quantum);
-        }
-    }
-    expect_session(&rt, files.image.as_slice(), SHOWN, None);
-}
 
 // The words of a session, how long the record may get, how many bytes standard output takes, what it took, standard error and status.
 type Refused = (Live<'static>, usize, usize, &'static str, &'static str, u8);
@@ -262,14 +252,35 @@ const REFUSED: [Refused; 7] = [
     (LIVE, 1000, 3, "a\na", "halt 3 Console\n", 1),
 ];
 
-#[test]
-fn tells_what_fails_in_a_session(rt: HostRuntime) {
-    let files = with_image(&rt, LISTENS, WITH_CONSOLE, 32);
-    for (words, length, room, stdout, stderr, status) in &REFUSED {
-        let mut desk = desk_of(rt.alloc(), files.image.as_slice(), b"a\n", *length).expect(
-            &rt, "memory",
-        );
-        let row = (*room, *stdout, *stderr, *status);
-        expect_at(&rt, &mut desk, &Job::Live(*words), row);
+fn expect_refused(rt: &(impl Abort + AllocGlobal), image: &[u8], row: &Refused) {
+    let (words, length, room, stdout, stderr, status) = *row;
+    let mut desk = desk_of(rt.alloc(), image, b"a\n", length).expect(rt, "memory");
+    let name = ("a session that fails", stderr);
+    let wanted = (stdout, stderr, status);
+    expect_at(rt, name, &mut desk, &Job::Live(words), room, wanted);
+}
+
+fn expect_sessions(rt: &(impl Abort + AllocGlobal), image: &[u8]) {
+    for session in &SESSIONS {
+        expect_session(rt, image, session, None);
+        expect_session(rt, image, session, NonZeroU64::new(5));
     }
+}
+
+fn expect_all_refused(rt: &(impl Abort + AllocGlobal), image: &[u8]) {
+    for row in &REFUSED {
+        expect_refused(rt, image, row);
+    }
+}
+
+fn expect_desks(rt: &(impl Abort + AllocGlobal)) {
+    let files = with_image(rt, LISTENS, WITH_CONSOLE, 32);
+    expect_sessions(rt, files.image.as_slice());
+    expect_session(rt, files.image.as_slice(), &SHOWN, None);
+    expect_all_refused(rt, files.image.as_slice());
+}
+
+#[test]
+fn replays_what_was_typed(rt: HostRuntime) {
+    expect_desks(&rt);
 }

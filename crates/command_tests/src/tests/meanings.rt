@@ -1,51 +1,130 @@
 //! Lines and what is told of them.
+use crate::tests::expect_that;
 use explanations::words::{first_word, line_of, number_behind};
 use explanations::{Noting, meaning, misfit_of, nearest};
 use std::io::{Write, sink};
+use std::process::Abort;
 
-#[test]
-fn lines_have_meanings(rt: HostRuntime) {
-    assert!(rt; meaning("fault 2 FrameCount") == Some("--frames takes 64 to 32768"));
-    assert!(rt; meaning("line 3: 5 Label") == Some("no line defines the label"));
-    assert!(rt; meaning("cannot write a") == Some("the file cannot be written"));
-    assert!(rt; meaning("fault 14 Odd").is_none());
-    assert!(rt; meaning("a:3: untill: no such command").is_some());
-    assert!(rt; meaning("a:4: not reached in 7 steps").is_some());
+// Lines, and what is said of them.
+static MEANINGS: [(&str, Option<&str>); 4] = [
+    ("fault 2 FrameCount", Some("--frames takes 64 to 32768")),
+    ("line 3: 5 Label", Some("no line defines the label")),
+    ("cannot write a", Some("the file cannot be written")),
+    ("fault 14 Odd", None),
+];
+
+static SOME_MEANING: [&str; 2] = [
+    "a:3: untill: no such command",
+    "a:4: not reached in 7 steps",
+];
+
+// A word, the names that there are, and the one that was meant.
+static NAMES: [(&str, &[&str], Option<&str>); 5] = [
+    ("liv", &["run", "live", "mkfs"], Some("live")),
+    ("mksf", &["run", "live", "mkfs"], Some("mkfs")),
+    ("x", &["run", "live", "mkfs"], None),
+    ("run", &["run", "live", "mkfs"], None),
+    ("reedme", &["init", "README"], Some("README")),
+];
+
+// A manifest, and the line, the path and the fault of what does not fit in it.
+type Manifest = (&'static str, Option<(usize, &'static str, u8)>);
+
+static MANIFESTS: [Manifest; 3] = [
+    ("dir /a\nfile /a/b x\ndir /a\n", Some((3, "/a", 2))),
+    ("file /a/b x\n", Some((1, "/a/b", 5))),
+    ("dev /console 1 0\n", None),
+];
+
+// Whether that is what doesn't fit.
+fn tells(manifest: &str, wanted: Option<(usize, &str, u8)>) -> bool {
+    match (misfit_of(manifest), wanted) {
+        (Some(misfit), Some((line, path, fault))) => {
+            misfit.line == line && misfit.path == path && misfit.fault == fault
+        }
+        (None, None) => true,
+        _ => false,
+    }
 }
 
-#[test]
-fn the_name_that_was_meant(rt: HostRuntime) {
-    let names = ["run", "live", "mkfs"];
-    assert!(rt; nearest(rt.alloc(), "liv", &names) == Ok(Some("live")));
-    assert!(rt; nearest(rt.alloc(), "mksf", &names) == Ok(Some("mkfs")));
-    assert!(rt; nearest(rt.alloc(), "x", &names) == Ok(None));
-    assert!(rt; nearest(rt.alloc(), "run", &names) == Ok(None));
-    assert!(rt; nearest(rt.alloc(), "reedme", &["init", "README"]) == Ok(Some("README")));
+fn expect_manifests(rt: &impl Abort) {
+    for (manifest, wanted) in &MANIFESTS {
+        expect_that(
+            rt,
+            ("a manifest", manifest),
+            "its line",
+            tells(manifest, *wanted),
+        );
+    }
 }
 
-#[test]
-fn manifests_are_told_by_their_lines(rt: HostRuntime) {
-    let misfit = misfit_of("dir /a\nfile /a/b x\ndir /a\n").expect(&rt, "a misfit");
-    assert!(rt; misfit.line == 3 && misfit.path == "/a" && misfit.fault == 2);
-    let misfit = misfit_of("file /a/b x\n").expect(&rt, "a misfit");
-    assert!(rt; misfit.line == 1 && misfit.fault == 5);
-    let misfit = misfit_of("# a comment\nfile a x\n");
-    assert!(rt; misfit.is_some() && misfit_of("dev /console 1 0\n").is_none());
+fn expect_odd_manifest(rt: &impl Abort) {
+    let odd = "# a comment\nfile a x\n";
+    expect_that(rt, ("a manifest", odd), "a line", misfit_of(odd).is_some());
 }
 
-#[test]
-fn lines_are_found_by_their_numbers(rt: HostRuntime) {
-    let number = number_behind("line 2: 2 Mnemonic", "line ").expect(&rt, "a number");
-    let line = line_of("a\nstart: lii a0, 1\n", number).expect(&rt, "a line");
-    assert!(rt;
-        first_word(line) == "lii" && number_behind("script line 7", "script line ") == Some(7)
+fn expect_line_of_number(rt: &impl Abort) {
+    let number = number_behind("line 2: 2 Mnemonic", "line ").expect(rt, "a number");
+    let line = line_of("a\nstart: lii a0, 1\n", number).expect(rt, "a line");
+    expect_that(
+        rt,
+        ("a line", line),
+        "its first word",
+        first_word(line) == "lii",
+    );
+    let number = number_behind("script line 7", "script line ");
+    expect_that(
+        rt,
+        ("a line", "script line 7"),
+        "its number",
+        number == Some(7),
     );
 }
 
-#[test]
-fn the_last_line_is_kept(rt: HostRuntime) {
+fn expect_last_line(rt: &impl Abort) {
     let mut out = sink();
     let mut noting = Noting::new(&mut out);
-    assert!(rt; noting.write_all(b"1 run 4096\nfault 5 NoInit\n").is_ok());
-    assert!(rt; noting.line() == "fault 5 NoInit");
+    let name = ("the last line", "fault 5 NoInit");
+    let written = noting.write_all(b"1 run 4096\nfault 5 NoInit\n");
+    expect_that(rt, name, "written", written.is_ok());
+    expect_that(rt, name, "kept", noting.line() == "fault 5 NoInit");
+}
+
+fn expect_meanings(rt: &impl Abort) {
+    for (line, said) in &MEANINGS {
+        expect_that(
+            rt,
+            ("a meaning", line),
+            "what is said",
+            meaning(line) == *said,
+        );
+    }
+}
+
+fn expect_some_meanings(rt: &impl Abort) {
+    for line in &SOME_MEANING {
+        expect_that(rt, ("a meaning", line), "anything", meaning(line).is_some());
+    }
+}
+
+fn expect_names(rt: &(impl Abort + AllocGlobal)) {
+    for (word, names, meant) in &NAMES {
+        let same = nearest(rt.alloc(), word, names) == Ok(*meant);
+        expect_that(rt, ("a name", word), "what was meant", same);
+    }
+}
+
+fn expect_lines(rt: &(impl Abort + AllocGlobal)) {
+    expect_meanings(rt);
+    expect_some_meanings(rt);
+    expect_names(rt);
+    expect_manifests(rt);
+    expect_odd_manifest(rt);
+    expect_line_of_number(rt);
+    expect_last_line(rt);
+}
+
+#[test]
+fn lines_have_meanings(rt: HostRuntime) {
+    expect_lines(&rt);
 }

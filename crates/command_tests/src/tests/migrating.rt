@@ -1,6 +1,6 @@
 //! Stored runs of the command that makes an image of the large format of one of the small format.
-use crate::tests::images::{CHECK, mkfs};
-use crate::tests::{Files, expect, files_of};
+use crate::tests::images::{expect_outcome, mkfs};
+use crate::tests::{DONE, Files, Wanted, change, expect, files_of};
 use commands::{Job, Migrate};
 use std::process::Abort;
 
@@ -18,33 +18,35 @@ fn with_old(
 ) -> Files {
     let bytes = vec![in rt.alloc(); 0u8; length].expect(rt, "memory");
     let mut files = files_of(rt.alloc(), bytes, manifest.as_bytes()).expect(rt, "memory");
-    expect(rt, &mut files, &mkfs(32, 16), "", "", 0);
-    for (at, byte) in changes {
-        if let Some(old) = files.image.get_mut(*at) {
-            *old = *byte;
-        }
-    }
+    let name = ("an old image", manifest);
+    expect(rt, name, &mut files, &mkfs(32, 16), DONE);
+    change(&mut files.image, changes);
     std::mem::swap(&mut files.bytes, &mut files.image);
     files.image.clear();
     files
 }
 
-// A manifest, the length of the host's file, the changes, and what `migrate` and `check` print.
-type Made = (&'static str, usize, &'static [(usize, u8)], &'static str);
+// A manifest, the length of the host's file, the changes, and what `migrate` and `check` print or why no image is made.
+type Old = (
+    &'static str,
+    usize,
+    &'static [(usize, u8)],
+    Result<&'static str, &'static str>,
+);
 
-// A file gets a twelfth block, whose number stands where the large format has that of the index block.
-static MADE: [Made; 3] = [
+static OLD: [Old; 7] = [
     (
         "dir /a\ndev /b 1 2",
         0,
         &[(1024, 0x40)],
-        "ok 3 inodes 2 blocks\n",
+        Ok("ok 3 inodes 2 blocks\n"),
     ),
+    // A file gets a twelfth block, whose number stands where the large format has that of the index block.
     (
         "file /a host",
         11264,
         &[(1024, 0x40), (2185, 0x30), (2232, 17), (4098, 0x03)],
-        "ok 2 inodes 14 blocks\n",
+        Ok("ok 2 inodes 14 blocks\n"),
     ),
     (
         "file /a host\nfile /b host",
@@ -57,28 +59,20 @@ static MADE: [Made; 3] = [
             (2296, 29),
             (4099, 0x3f),
         ],
-        "ok 3 inodes 27 blocks\n",
+        Ok("ok 3 inodes 27 blocks\n"),
     ),
-];
-
-#[test]
-fn migrates_images(rt: HostRuntime) {
-    for (manifest, length, changes, line) in &MADE {
-        let mut files = with_old(&rt, manifest, *length, changes);
-        expect(&rt, &mut files, &migrate("host", "image"), line, "", 0);
-        expect(&rt, &mut files, &CHECK, line, "", 0);
-    }
-}
-
-// The same, and why no image is made.
-static REFUSED: [Made; 4] = [
-    ("dir /a", 0, &[], "fault 2 Magic\n"),
-    ("dir /a", 0, &[(1024, 0x40), (2118, 9)], "fault 10 Links\n"),
+    ("dir /a", 0, &[], Err("fault 2 Magic\n")),
+    (
+        "dir /a",
+        0,
+        &[(1024, 0x40), (2118, 9)],
+        Err("fault 10 Links\n"),
+    ),
     (
         "file /a host",
         11264,
         &[(1024, 0x40), (2185, 0x30)],
-        "fault 5 Address\n",
+        Err("fault 5 Address\n"),
     ),
     (
         "file /a host\nfile /b host\ndir /c",
@@ -91,30 +85,59 @@ static REFUSED: [Made; 4] = [
             (2296, 30),
             (4099, 0x7f),
         ],
-        "fault 2 Blocks\n",
+        Err("fault 2 Blocks\n"),
     ),
 ];
 
-#[test]
-fn tells_why_images_are_not_migrated(rt: HostRuntime) {
-    for (manifest, length, changes, line) in &REFUSED {
-        let mut files = with_old(&rt, manifest, *length, changes);
-        expect(&rt, &mut files, &migrate("host", "image"), "", line, 1);
-        assert!(rt; files.image.is_empty(), "{line}");
+fn told_of(outcome: Result<&'static str, &'static str>) -> Wanted<'static> {
+    match outcome {
+        Ok(line) => (line, "", 0),
+        Err(line) => ("", line, 1),
     }
 }
 
+fn expect_migrated(rt: &(impl Abort + AllocGlobal), row: &Old) {
+    let (manifest, length, changes, outcome) = *row;
+    let name = ("a new image", manifest);
+    let mut files = with_old(rt, manifest, length, changes);
+    let job = migrate("host", "image");
+    expect(rt, name, &mut files, &job, told_of(outcome));
+    expect_outcome(rt, name, &mut files, outcome);
+}
+
+fn expect_unusable(rt: &(impl Abort + AllocGlobal), files: &mut Files, row: &Unusable) {
+    let (old, new, line) = *row;
+    expect(rt, (old, new), files, &migrate(old, new), ("", line, 1));
+}
+
 // Files that can't be read or written, or are no image: the old one, the new one, and standard error.
-static UNUSABLE: [(&str, &str, &str); 3] = [
+type Unusable = (&'static str, &'static str, &'static str);
+
+static UNUSABLE: [Unusable; 3] = [
     ("none", "image", "cannot read none\n"),
     ("host", "none", "cannot write none\n"),
     ("manifest", "image", "fault 1 Length\n"),
 ];
 
-#[test]
-fn tells_files_that_cannot_be_migrated(rt: HostRuntime) {
-    let mut files = with_old(&rt, "dir /a", 0, &[(1024, 0x40)]);
-    for (old, new, line) in &UNUSABLE {
-        expect(&rt, &mut files, &migrate(old, new), "", line, 1);
+fn expect_all_migrated(rt: &(impl Abort + AllocGlobal)) {
+    for row in &OLD {
+        expect_migrated(rt, row);
     }
+}
+
+fn expect_all_unusable(rt: &(impl Abort + AllocGlobal)) {
+    let mut files = with_old(rt, "dir /a", 0, &[(1024, 0x40)]);
+    for row in &UNUSABLE {
+        expect_unusable(rt, &mut files, row);
+    }
+}
+
+fn expect_migrations(rt: &(impl Abort + AllocGlobal)) {
+    expect_all_migrated(rt);
+    expect_all_unusable(rt);
+}
+
+#[test]
+fn migrates_images(rt: HostRuntime) {
+    expect_migrations(&rt);
 }

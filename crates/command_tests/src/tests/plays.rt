@@ -2,8 +2,7 @@
 use crate::tests::living::LISTENS;
 use crate::tests::runs::{WITH_CONSOLE, with_image};
 use crate::tests::telling::expect_explained;
-use crate::tests::{UNTOLD, expect_told};
-use commands::perform::perform;
+use crate::tests::{UNTOLD, expect, expect_that};
 use commands::{Host, HostFault, Job, NoScreen, Play, Run};
 use std::alloc::{AllocError, Global};
 use std::process::Abort;
@@ -65,19 +64,11 @@ fn run(script: &str, tlb: bool) -> Run<'_> {
     }
 }
 
-// Does a job on a stage.
-fn expect_on(
-    rt: &(impl Abort + AllocGlobal),
-    stage: &mut Stage,
-    job: &Job<'_>,
-    row: (&str, &str, u8),
-) {
-    let (stdout, stderr, status) = row;
-    let mut out = Vec::new(rt.alloc());
-    let mut err = Vec::new(rt.alloc());
-    let ended = perform(rt.alloc(), job, stage, &mut out, &mut err);
-    let told = (out.as_slice(), err.as_slice(), ended);
-    expect_told(rt, told, stdout, stderr, status);
+fn play_of(tlb: bool, script: Option<&'static str>) -> Job<'static> {
+    Job::Play(Play {
+        run: run("play", tlb),
+        script,
+    })
 }
 
 // A play, standard output, standard error, status, and the script that it comes to.
@@ -168,88 +159,122 @@ static PLAYED: [Row; 12] = [
 fn expect_played(rt: &(impl Abort + AllocGlobal), image: &[u8], row: &Row, tlb: bool) {
     let (play, stdout, stderr, status, script) = *row;
     let mut stage = stage_of(rt.alloc(), image, play).expect(rt, "memory");
-    let job = Job::Play(Play {
-        run: run("play", tlb),
-        script: Some("script"),
-    });
-    expect_on(rt, &mut stage, &job, (stdout, stderr, status));
-    if !script.is_empty() {
-        assert_eq!(rt; stage.script.as_slice(), script.as_bytes());
-    }
+    let job = play_of(tlb, Some("script"));
+    expect(
+        rt,
+        ("a play", play),
+        &mut stage,
+        &job,
+        (stdout, stderr, status),
+    );
+    let same = script.is_empty() || stage.script.as_slice() == script.as_bytes();
+    expect_that(rt, ("a play", play), "its script", same);
     let replay = Job::Run(run("script", tlb));
     let line = if status == 0 { stderr } else { "running\n" };
-    expect_on(rt, &mut stage, &replay, (stdout, line, 0));
-}
-
-#[test]
-fn scripts_of_plays_print_the_same(rt: HostRuntime) {
-    let files = with_image(&rt, LISTENS, WITH_CONSOLE, 32);
-    for row in &PLAYED {
-        for tlb in [false, true] {
-            expect_played(&rt, files.image.as_slice(), row, tlb);
-        }
-    }
+    expect(
+        rt,
+        ("its script", play),
+        &mut stage,
+        &replay,
+        (stdout, line, 0),
+    );
 }
 
 // Plays that can't be read, and what is told of them: the line, the word, and why.
 static FAULTS: [(&str, &str); 30] = [
-    ("untill", "1: untill: no such command"),
-    ("step 1\n\n  # none\ntick", "4: tick: more has to follow"),
-    ("step x", "1: x: no number up to 1000000000"),
+    ("untill", "play:1: untill: no such command\n"),
+    (
+        "step 1\n\n  # none\ntick",
+        "play:4: tick: more has to follow\n",
+    ),
+    ("step x", "play:1: x: no number up to 1000000000\n"),
     (
         "step 1000000001",
-        "1: 1000000001: no number up to 1000000000",
+        "play:1: 1000000001: no number up to 1000000000\n",
     ),
-    ("step -1", "1: -1: no number up to 1000000000"),
-    ("step 1 2", "1: 2: nothing may follow here"),
-    ("step 1 # 2\ntick 1 x", "2: x: nothing may follow here"),
-    ("keys 7", "1: 7: no pairs of hexadecimal digits"),
-    ("keys 7G", "1: 7G: no pairs of hexadecimal digits"),
-    ("keys", "1: keys: more has to follow"),
-    ("until", "1: until: more has to follow"),
-    ("until halted 5", "1: halted: no \"text\", idle or halt"),
-    ("until idle", "1: idle: more has to follow"),
-    ("until \"$ \"", "1: \"$ \": more has to follow"),
-    ("until \"$ 5", "1: \"$ 5: no quote ends it"),
-    ("until \"\\\" 5", "1: \"\\\" 5: no quote ends it"),
-    ("until \"\" 5", "1: \"\": no text of 1 to 64 bytes"),
+    ("step -1", "play:1: -1: no number up to 1000000000\n"),
+    ("step 1 2", "play:1: 2: nothing may follow here\n"),
+    (
+        "step 1 # 2\ntick 1 x",
+        "play:2: x: nothing may follow here\n",
+    ),
+    ("keys 7", "play:1: 7: no pairs of hexadecimal digits\n"),
+    ("keys 7G", "play:1: 7G: no pairs of hexadecimal digits\n"),
+    ("keys", "play:1: keys: more has to follow\n"),
+    ("until", "play:1: until: more has to follow\n"),
+    (
+        "until halted 5",
+        "play:1: halted: no \"text\", idle or halt\n",
+    ),
+    ("until idle", "play:1: idle: more has to follow\n"),
+    ("until \"$ \"", "play:1: \"$ \": more has to follow\n"),
+    ("until \"$ 5", "play:1: \"$ 5: no quote ends it\n"),
+    ("until \"\\\" 5", "play:1: \"\\\" 5: no quote ends it\n"),
+    ("until \"\" 5", "play:1: \"\": no text of 1 to 64 bytes\n"),
     (
         "until \"0123456789abcdef0123456789abcdef0123456789abcdef0123456789abcdef.\" 5",
-        "1: \"0123456789abcdef0123456789abcdef0123456789abcdef0123456789abcdef.\": no text of 1 to 64 bytes",
+        "play:1: \"0123456789abcdef0123456789abcdef0123456789abcdef0123456789abcdef.\": no text of 1 to 64 bytes\n",
     ),
-    ("until \"\\q\" 5", "1: \"\\q\": an unknown escape"),
-    ("until \"\\x4\" 5", "1: \"\\x4\": an unknown escape"),
-    ("until \"\\x4G\" 5", "1: \"\\x4G\": an unknown escape"),
-    ("every 5", "1: every: more has to follow"),
-    ("every 5 tack", "1: tack: tick is wanted here"),
-    ("every tick", "1: tick: no number up to 1000000000"),
-    ("random 1 tick", "1: tick: no number up to 1000000000"),
-    ("random 1 2 ticks", "1: ticks: tick is wanted here"),
-    ("repeat 2", "1: repeat: more has to follow"),
+    ("until \"\\q\" 5", "play:1: \"\\q\": an unknown escape\n"),
+    ("until \"\\x4\" 5", "play:1: \"\\x4\": an unknown escape\n"),
+    (
+        "until \"\\x4G\" 5",
+        "play:1: \"\\x4G\": an unknown escape\n",
+    ),
+    ("every 5", "play:1: every: more has to follow\n"),
+    ("every 5 tack", "play:1: tack: tick is wanted here\n"),
+    ("every tick", "play:1: tick: no number up to 1000000000\n"),
+    (
+        "random 1 tick",
+        "play:1: tick: no number up to 1000000000\n",
+    ),
+    ("random 1 2 ticks", "play:1: ticks: tick is wanted here\n"),
+    ("repeat 2", "play:1: repeat: more has to follow\n"),
     (
         "repeat 2 {\nstep 1\nrepeat 3 {\n}",
-        "1: repeat: no } ends it",
+        "play:1: repeat: no } ends it\n",
     ),
-    ("step 1\n}", "2: }: no repeat is open"),
+    ("step 1\n}", "play:2: }: no repeat is open\n"),
     (
         "repeat 1 {\nrepeat 1 {\nrepeat 1 {\nrepeat 1 {\nrepeat 1 {\nrepeat 1 {\nrepeat 1 {\nrepeat 1 {\n repeat 1 {",
-        "9: repeat: more than 8 in one another",
+        "play:9: repeat: more than 8 in one another\n",
     ),
 ];
 
-#[test]
-fn faults_of_plays_are_told(rt: HostRuntime) {
-    for (play, told) in &FAULTS {
-        let mut stage = stage_of(rt.alloc(), &[], play).expect(&rt, "memory");
-        let job = Job::Play(Play {
-            run: run("play", false),
-            script: None,
-        });
-        let line = format!(in rt.alloc(); "play:{told}\n").expect(&rt, "memory");
-        expect_on(&rt, &mut stage, &job, ("", line.as_str(), 1));
-        if *play == "untill" {
-            let more = "untill: did you mean until?";
-            expect_explained(&rt, &mut stage, &job, line.as_str(), more);
-        }
+fn expect_fault(rt: &(impl Abort + AllocGlobal), play: &str, line: &str) {
+    let mut stage = stage_of(rt.alloc(), &[], play).expect(rt, "memory");
+    let job = play_of(false, None);
+    expect(rt, ("a fault", play), &mut stage, &job, ("", line, 1));
+}
+
+fn expect_faults(rt: &(impl Abort + AllocGlobal)) {
+    for (play, line) in &FAULTS {
+        expect_fault(rt, play, line);
     }
+}
+
+fn expect_word_meant(rt: &(impl Abort + AllocGlobal)) {
+    let mut stage = stage_of(rt.alloc(), &[], "untill").expect(rt, "memory");
+    let more = "explain: untill: did you mean until?\n";
+    let line = "play:1: untill: no such command";
+    expect_explained(rt, &mut stage, &play_of(false, None), line, more);
+}
+
+fn expect_all_played(rt: &(impl Abort + AllocGlobal), image: &[u8]) {
+    for row in &PLAYED {
+        expect_played(rt, image, row, false);
+        expect_played(rt, image, row, true);
+    }
+}
+
+fn expect_plays(rt: &(impl Abort + AllocGlobal)) {
+    let files = with_image(rt, LISTENS, WITH_CONSOLE, 32);
+    expect_all_played(rt, files.image.as_slice());
+    expect_faults(rt);
+    expect_word_meant(rt);
+}
+
+#[test]
+fn scripts_of_plays_print_the_same(rt: HostRuntime) {
+    expect_plays(&rt);
 }

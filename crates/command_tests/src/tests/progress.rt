@@ -2,8 +2,7 @@
 ghost use Rattle.std.specs.Prelude.{◌≤◌, IfOk, length};
 
 use crate::tests::runs::{INIT, with_image};
-use crate::tests::{UNTOLD, expect_told};
-use commands::perform::perform;
+use crate::tests::{UNTOLD, expect, expect_that};
 use commands::{Host, HostFault, Job, Live, Play, Run, Screen, Telling};
 use std::alloc::Global;
 use std::cell::Cell;
@@ -78,6 +77,19 @@ impl<'a> Host for Room<'a> {
     }
 }
 
+fn wall_of<'a>(alloc: Global, now: &'a Cell<u64>, shown: &'a Cell<String>) -> Wall<'a> {
+    Wall { alloc, now, shown }
+}
+
+fn room_of<'a>(wall: Wall<'a>, image: &'a [u8], script: &'a [u8]) -> Room<'a> {
+    Room {
+        wall,
+        image,
+        script,
+        reads: 0,
+    }
+}
+
 const RUN: Run<'static> = Run {
     frames: 64,
     tlb: false,
@@ -107,8 +119,8 @@ const LIVE: Live<'static> = Live {
     image: "image",
 };
 
-// A job, its script, and the steps that are shown with the steps a second.
-type Row = (Job<'static>, &'static [u8], &'static [(u32, u32)]);
+// A job, its script, and the lines that are shown.
+type Row = (Job<'static>, &'static [u8], &'static [&'static str]);
 
 const ROWS: [Row; 4] = [
     (Job::Run(RUN), b"step 65537", &[]),
@@ -118,51 +130,64 @@ const ROWS: [Row; 4] = [
             ..RUN
         }),
         b"step 196609",
-        &[(131072, 109226), (196608, 109226)],
+        &[
+            "        131072 steps,      109226 a second ",
+            "        196608 steps,      109226 a second ",
+            BLANKS,
+        ],
     ),
-    (Job::Play(PLAY), b"step 65537", &[(65536, 54613)]),
-    (Job::Live(LIVE), b"", &[(2, 1), (3, 1), (4, 1)]),
+    (
+        Job::Play(PLAY),
+        b"step 65537",
+        &["         65536 steps,       54613 a second ", BLANKS],
+    ),
+    (
+        Job::Live(LIVE),
+        b"",
+        &[
+            "             2 steps,           1 a second ",
+            "             3 steps,           1 a second ",
+            "             4 steps,           1 a second ",
+            BLANKS,
+        ],
+    ),
 ];
 
-// The lines, each of 43 columns, and at last blanks; behind each the cursor goes back.
-fn lines_of(rt: &(impl Abort + AllocGlobal), rows: &[(u32, u32)]) -> String {
+// A line is at last blanks.
+const BLANKS: &str = "                                           ";
+
+// The lines, each of 43 columns, behind which the cursor goes back.
+fn lines_of(rt: &(impl Abort + AllocGlobal), rows: &[&str]) -> String {
     let mut lines = String::new(rt.alloc());
-    let back = "\x08".repeat(rt.alloc(), 43).expect(rt, "memory");
-    for (steps, rate) in rows {
-        write!(lines, " {steps:>13} steps, {rate:>11} a second {back}").expect(rt, "memory");
-    }
-    if !rows.is_empty() {
-        write!(lines, "{:43}{back}", "").expect(rt, "memory");
+    for line in rows {
+        lines.push_str(line).expect(rt, "memory");
+        for _ in 0..43 {
+            lines.push('\x08').expect(rt, "memory");
+        }
     }
     lines
 }
 
+fn expect_shown(rt: &(impl Abort + AllocGlobal), image: &[u8], row: &Row) {
+    let (job, script, rows) = row;
+    let now = Cell::new(0);
+    let shown = Cell::new(String::new(rt.alloc()));
+    let wall = wall_of(rt.alloc(), &now, &shown);
+    let mut room = room_of(wall, image, script);
+    let name = ("a long run", rows.first().copied().unwrap_or("nothing"));
+    expect(rt, name, &mut room, job, ("", "running\n", 0));
+    let same = shown.into_inner() == lines_of(rt, rows);
+    expect_that(rt, name, "what is shown", same);
+}
+
+fn expect_all_shown(rt: &(impl Abort + AllocGlobal)) {
+    let files = with_image(rt, "start: j start\n", INIT, 32);
+    for row in &ROWS {
+        expect_shown(rt, files.image.as_slice(), row);
+    }
+}
+
 #[test]
 fn long_runs_tell_that_they_go_on(rt: HostRuntime) {
-    let files = with_image(&rt, "start: j start\n", INIT, 32);
-    for (job, script, rows) in &ROWS {
-        let now = Cell::new(0);
-        let shown = Cell::new(String::new(rt.alloc()));
-        let mut room = Room {
-            wall: Wall {
-                alloc: rt.alloc(),
-                now: &now,
-                shown: &shown,
-            },
-            image: files.image.as_slice(),
-            script,
-            reads: 0,
-        };
-        let mut out = Vec::new(rt.alloc());
-        let mut err = Vec::new(rt.alloc());
-        let ended = perform(rt.alloc(), job, &mut room, &mut out, &mut err);
-        expect_told(
-            &rt,
-            (out.as_slice(), err.as_slice(), ended),
-            "",
-            "running\n",
-            0,
-        );
-        assert!(rt; shown.into_inner() == lines_of(&rt, rows));
-    }
+    expect_all_shown(&rt);
 }

@@ -1,4 +1,5 @@
 //! A folder in memory, in which each step fails in turn.
+use crate::tests::{Name, expect_that};
 use outputs::{Folder, PutFault, StepFault, replace};
 use std::alloc::{AllocError, Global};
 use std::process::Abort;
@@ -127,8 +128,9 @@ fn shelf_of<'a>(
     Ok(shelf)
 }
 
-// The steps that fail, the fault they tell, what comes of it, what stands under the file's name, and how many files there are.
+// A name, the steps that fail, the fault they tell, what comes of it, what stands under the file's name, and how many files there are.
 type Row = (
+    &'static str,
     &'static [Step],
     StepFault,
     Result<(), PutFault>,
@@ -136,9 +138,13 @@ type Row = (
     usize,
 );
 
+// How many bytes a write that fails takes, as rows tell it.
+static ROOMS: [&str; 5] = ["room 0", "room 1", "room 2", "room 3", "room 4"];
+
 static ROWS: [Row; 11] = [
-    (&[], StepFault::Failed, Ok(()), b"newer", 2),
+    ("nothing fails", &[], StepFault::Failed, Ok(()), b"newer", 2),
     (
+        "no file can be begun",
         &[Step::Begin],
         StepFault::Failed,
         Err(PutFault::Failed),
@@ -146,6 +152,7 @@ static ROWS: [Row; 11] = [
         2,
     ),
     (
+        "no file may be begun",
         &[Step::Begin],
         StepFault::Denied,
         Err(PutFault::Denied),
@@ -153,6 +160,7 @@ static ROWS: [Row; 11] = [
         2,
     ),
     (
+        "a write fails",
         &[Step::Write],
         StepFault::Failed,
         Err(PutFault::Failed),
@@ -160,6 +168,7 @@ static ROWS: [Row; 11] = [
         2,
     ),
     (
+        "a sync fails",
         &[Step::Sync],
         StepFault::Failed,
         Err(PutFault::Failed),
@@ -167,6 +176,7 @@ static ROWS: [Row; 11] = [
         2,
     ),
     (
+        "a rename fails",
         &[Step::Rename],
         StepFault::Failed,
         Err(PutFault::Failed),
@@ -174,14 +184,23 @@ static ROWS: [Row; 11] = [
         2,
     ),
     (
+        "no file may be renamed",
         &[Step::Rename],
         StepFault::Denied,
         Err(PutFault::Denied),
         b"old",
         2,
     ),
-    (&[Step::Remove], StepFault::Failed, Ok(()), b"newer", 2),
     (
+        "nothing can be removed",
+        &[Step::Remove],
+        StepFault::Failed,
+        Ok(()),
+        b"newer",
+        2,
+    ),
+    (
+        "a write and a removal fail",
         &[Step::Write, Step::Remove],
         StepFault::Failed,
         Err(PutFault::Left),
@@ -189,6 +208,7 @@ static ROWS: [Row; 11] = [
         3,
     ),
     (
+        "a sync and a removal fail",
         &[Step::Sync, Step::Remove],
         StepFault::Failed,
         Err(PutFault::Left),
@@ -196,6 +216,7 @@ static ROWS: [Row; 11] = [
         3,
     ),
     (
+        "a rename and a removal fail",
         &[Step::Rename, Step::Remove],
         StepFault::Denied,
         Err(PutFault::Left),
@@ -204,22 +225,27 @@ static ROWS: [Row; 11] = [
     ),
 ];
 
-fn expect_row(rt: &(impl Abort + AllocGlobal), row: &Row, room: usize) {
-    let (fails, fault, told, bytes, count) = *row;
-    let mut shelf = shelf_of(rt.alloc(), fails, fault, room).expect(rt, "memory");
-    let got = replace(rt.alloc(), &mut shelf, "a/image", b"newer");
-    assert_eq!(rt; got, told);
-    assert_eq!(rt; shelf.entries.len(), count);
-    assert_eq!(rt; shelf.bytes("a/image"), Some(bytes));
+// Replaces a file with another of five bytes, of which this comes.
+fn expect_replaced(
+    rt: &(impl Abort + AllocGlobal),
+    name: Name<'_>,
+    shelf: &mut Shelf<'_>,
+    path: &str,
+    told: Result<(), PutFault>,
+) {
+    let same = replace(rt.alloc(), shelf, path, b"newer") == told;
+    expect_that(rt, name, "what comes of it", same);
 }
 
-#[test]
-fn keeps_the_old_file_or_has_the_new_one(rt: HostRuntime) {
-    for row in &ROWS {
-        for room in 0..5 {
-            expect_row(&rt, row, room);
-        }
-    }
+// A write that fails takes so many bytes.
+fn expect_row(rt: &(impl Abort + AllocGlobal), row: &Row, room: usize) {
+    let (subject, fails, fault, told, bytes, count) = *row;
+    let name = (subject, ROOMS.get(room).copied().unwrap_or(""));
+    let mut shelf = shelf_of(rt.alloc(), fails, fault, room).expect(rt, "memory");
+    expect_replaced(rt, name, &mut shelf, "a/image", told);
+    let same = shelf.bytes("a/image") == Some(bytes);
+    expect_that(rt, name, "the files", shelf.entries.len() == count);
+    expect_that(rt, name, "the file", same);
 }
 
 // A path, and the name of the file that is begun for it.
@@ -231,14 +257,40 @@ static BEGUN: [(&str, &str); 4] = [
 ];
 
 // A file that can't be removed is left under its name.
-#[test]
-fn begins_a_file_beside_the_old_one(rt: HostRuntime) {
-    for (path, begun) in &BEGUN {
-        let fails = [Step::Write, Step::Remove];
-        let shelf = shelf_of(rt.alloc(), &fails, StepFault::Failed, 0);
-        let mut shelf = shelf.expect(&rt, "memory");
-        let told = replace(rt.alloc(), &mut shelf, path, b"newer");
-        assert_eq!(rt; told, Err(PutFault::Left));
-        assert!(rt; shelf.bytes(begun) == Some(b"".as_slice()), "{path}");
+fn expect_begun(rt: &(impl Abort + AllocGlobal), path: &str, begun: &str) {
+    let fails = [Step::Write, Step::Remove];
+    let shelf = shelf_of(rt.alloc(), &fails, StepFault::Failed, 0);
+    let mut shelf = shelf.expect(rt, "memory");
+    let name = ("a file is begun", path);
+    expect_replaced(rt, name, &mut shelf, path, Err(PutFault::Left));
+    let same = shelf.bytes(begun) == Some(b"".as_slice());
+    expect_that(rt, name, "the file", same);
+}
+
+fn expect_rooms(rt: &(impl Abort + AllocGlobal), row: &Row) {
+    for room in 0..ROOMS.len() {
+        expect_row(rt, row, room);
     }
+}
+
+fn expect_rows(rt: &(impl Abort + AllocGlobal)) {
+    for row in &ROWS {
+        expect_rooms(rt, row);
+    }
+}
+
+fn expect_all_begun(rt: &(impl Abort + AllocGlobal)) {
+    for (path, begun) in &BEGUN {
+        expect_begun(rt, path, begun);
+    }
+}
+
+fn expect_files(rt: &(impl Abort + AllocGlobal)) {
+    expect_rows(rt);
+    expect_all_begun(rt);
+}
+
+#[test]
+fn keeps_the_old_file_or_has_the_new_one(rt: HostRuntime) {
+    expect_files(&rt);
 }

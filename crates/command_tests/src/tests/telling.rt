@@ -1,7 +1,11 @@
 //! What is told of a run besides how it ended, and what is said of a line that tells a fault.
 use crate::tests::images::mkfs;
+use crate::tests::openings::{get, with_letters};
 use crate::tests::runs::put_text;
-use crate::tests::{UNTOLD, expect, files_of, flat, hello, program_of};
+use crate::tests::tracing::ALL;
+use crate::tests::{
+    Name, Program, Wanted, bytes_of, expect, expect_text, expect_that, files_of, flat, text_of,
+};
 use commands::{Flat, Host, Job, Telling, explain, explain_words};
 use std::num::NonZeroU64;
 use std::process::Abort;
@@ -9,137 +13,223 @@ use std::process::Abort;
 // A program that runs for ever.
 const LOOP: &[u32] = &[0x0000_006f];
 
-// A run of a flat program of which this is told.
-fn told(telling: Telling<'static>) -> Job<'static> {
+// A run of a program of which something is told besides its end: the registers and the memory of the process of a number, if
+// that isn't 0; and parts of the file `image`.
+struct Row {
+    name: &'static str,
+    program: Program,
+    script: &'static str,
+    report: bool,
+    json: Option<&'static str>,
+    registers: u64,
+    memory: u64,
+    status: bool,
+    wanted: Wanted<'static>,
+    parts: &'static [&'static str],
+}
+
+static ROWS: [Row; 3] = [
+    Row {
+        name: "a program that ended is reported",
+        program: Program::Hello,
+        script: "step 9",
+        report: true,
+        json: None,
+        registers: 0,
+        memory: 0,
+        status: false,
+        wanted: (
+            "hi\n",
+            "report: 9 steps, 0 ticks, 0 keys\n\
+            stopped: process 1 ended with status 0\n\
+            pid 1 (program) ended with status 0; parent 0, pc 0x20, 12288 bytes, 9 frames\n\
+            free frames: 247\n\
+            halt 1 InitEnded 0\n",
+            0,
+        ),
+        parts: &[],
+    },
+    Row {
+        name: "an endless loop is told",
+        program: Program::Words(LOOP),
+        script: "step 5",
+        report: true,
+        json: Some("image"),
+        registers: 0,
+        memory: 0,
+        status: true,
+        wanted: (
+            "",
+            "report: 5 steps, 0 ticks, 0 keys\n\
+            stopped: the events are used up while pid 1 (program) runs\n\
+            pid 1 (program) runs; parent 0, pc 0x0, 12288 bytes, 9 frames\n  \
+            0: console\n  1: console\n  2: console\n\
+            free frames: 247\n\
+            running\n",
+            1,
+        ),
+        parts: &[
+            "{\n  \"steps\": 5,\n",
+            "\"why\": \"running\"",
+            "\"free_frames\": 247,",
+        ],
+    },
+    Row {
+        name: "pages and registers",
+        program: Program::Hello,
+        script: "step 5",
+        report: false,
+        json: None,
+        registers: 7,
+        memory: 1,
+        status: false,
+        wanted: (
+            "",
+            "pid 7: no process\n\
+            pid 1 (program): 12288 bytes, 3 pages\n  \
+            0x00000000 to 0x00000fff rwx\n  \
+            0x00001000 to 0x00001fff ---\n  \
+            0x00002000 to 0x00002fff rw-\n\
+            running\n",
+            0,
+        ),
+        parts: &[],
+    },
+];
+
+fn job_of(row: &Row) -> Job<'static> {
     Job::Flat(Flat {
         frames: 256,
         tlb: false,
-        telling,
+        telling: Telling {
+            report: row.report,
+            json: row.json,
+            registers: NonZeroU64::new(row.registers),
+            memory: NonZeroU64::new(row.memory),
+            status: row.status,
+            progress: false,
+        },
         file: "program",
         script: "script",
     })
 }
 
-#[test]
-fn reports_how_a_program_ended(rt: HostRuntime) {
-    let program = hello(rt.alloc()).expect(&rt, "memory");
-    let mut files = files_of(rt.alloc(), program, b"step 9").expect(&rt, "memory");
-    let job = told(Telling {
-        report: true,
-        ..UNTOLD
-    });
-    let report = "report: 9 steps, 0 ticks, 0 keys\n\
-        stopped: process 1 ended with status 0\n\
-        pid 1 (program) ended with status 0; parent 0, pc 0x20, 12288 bytes, 9 frames\n\
-        free frames: 247\n\
-        halt 1 InitEnded 0\n";
-    expect(&rt, &mut files, &job, "hi\n", report, 0);
+fn expect_row(rt: &(impl Abort + AllocGlobal), row: &Row) {
+    let bytes = bytes_of(rt.alloc(), row.program).expect(rt, "memory");
+    let mut files = files_of(rt.alloc(), bytes, row.script.as_bytes()).expect(rt, "memory");
+    let name = (row.name, row.script);
+    expect(rt, name, &mut files, &job_of(row), row.wanted);
+    expect_parts(rt, name, files.image.as_slice(), row.parts);
 }
 
-#[test]
-fn tells_of_an_endless_loop(rt: HostRuntime) {
-    let program = program_of(rt.alloc(), LOOP).expect(&rt, "memory");
-    let mut files = files_of(rt.alloc(), program, b"step 5").expect(&rt, "memory");
-    let job = told(Telling {
-        report: true,
-        json: Some("image"),
-        status: true,
-        ..UNTOLD
-    });
-    let report = "report: 5 steps, 0 ticks, 0 keys\n\
-        stopped: the events are used up while pid 1 (program) runs\n\
-        pid 1 (program) runs; parent 0, pc 0x0, 12288 bytes, 9 frames\n  \
-        0: console\n  1: console\n  2: console\n\
-        free frames: 247\n\
-        running\n";
-    expect(&rt, &mut files, &job, "", report, 1);
-    let json = str::from_utf8(files.image.as_slice()).expect(&rt, "a text");
-    for part in [
-        "{\n  \"steps\": 5,\n",
-        "\"why\": \"running\"",
-        "\"free_frames\": 247,",
-    ] {
-        assert!(rt; json.contains(part), "{part}: {json}");
+// A text has these parts.
+pub fn expect_parts(rt: &impl Abort, name: Name<'_>, text: &[u8], parts: &[&str]) {
+    let text = text_of(text);
+    for part in parts {
+        expect_that(rt, name, part, text.contains(*part));
     }
 }
 
-#[test]
-fn tells_pages_and_registers(rt: HostRuntime) {
-    let program = hello(rt.alloc()).expect(&rt, "memory");
-    let mut files = files_of(rt.alloc(), program, b"step 5").expect(&rt, "memory");
-    let job = told(Telling {
-        registers: NonZeroU64::new(7),
-        memory: NonZeroU64::new(1),
-        ..UNTOLD
-    });
-    let pages = "pid 7: no process\n\
-        pid 1 (program): 12288 bytes, 3 pages\n  \
-        0x00000000 to 0x00000fff rwx\n  \
-        0x00001000 to 0x00001fff ---\n  \
-        0x00002000 to 0x00002fff rw-\n\
-        running\n";
-    expect(&rt, &mut files, &job, "", pages, 0);
-}
-
 // What is said of the last line that a job told.
-pub fn expect_explained(
+pub fn expect_explained<H: Host>(
     rt: &(impl Abort + AllocGlobal),
-    files: &mut impl Host,
+    host: &mut H,
     job: &Job<'_>,
     line: &str,
     wanted: &str,
 ) {
     let mut err = Vec::new(rt.alloc());
-    explain(rt.alloc(), job, line.trim_end(), files, &mut err).expect(rt, "memory");
-    let told = str::from_utf8(err.as_slice()).unwrap_or("").trim_end();
-    assert_eq!(rt;
-        told.strip_prefix("explain: ").unwrap_or(""),
-        wanted,
-        "{line}"
-    );
+    explain(rt.alloc(), job, line, host, &mut err).expect(rt, "memory");
+    expect_text(rt, ("explained", line), err.as_slice(), wanted);
+}
+
+// The text of a manifest or a script, a line that was told, and what is said of it.
+type Said = (&'static str, &'static str, &'static str);
+
+const MANIFESTS: &[Said] = &[
+    (
+        "dir /a\ndir /a\n",
+        "fault 2 Twice",
+        "explain: manifest:2: /a is listed twice\n",
+    ),
+    (
+        "dri /a\n",
+        "manifest line 1",
+        "explain: manifest:1: dri /a: did you mean dir?\n",
+    ),
+    ("dir /a\n", "a line of no fault", ""),
+];
+
+const SCRIPTS: &[Said] = &[
+    (
+        "step 1\nstepp 1\n",
+        "script line 2",
+        "explain: script:2: stepp 1: did you mean step?\n",
+    ),
+    (
+        "step x\n",
+        "script line 1",
+        "explain: script:1: step x: the line is none of `step N`, `tick N`, `keys HEX` and `type TEXT`; N is up to 1000000000\n",
+    ),
+];
+
+const CALLS: &[Said] = &[("", "no call wrote", "explain: wrote: did you mean write?\n")];
+
+fn expect_all_said(rt: &(impl Abort + AllocGlobal), job: &Job<'_>, rows: &[Said]) {
+    let nothing = Vec::new(rt.alloc());
+    let mut files = files_of(rt.alloc(), nothing, b"").expect(rt, "memory");
+    for (text, line, wanted) in rows {
+        put_text(rt, &mut files, text.as_bytes());
+        expect_explained(rt, &mut files, job, line, wanted);
+    }
+}
+
+// A path that leads to no file, and the one that was meant.
+static MEANT: [(&str, &str); 5] = [
+    ("/F", "explain: /F: did you mean /f?\n"),
+    ("D//e/x", "explain: D//e/x: did you mean /d//e/x?\n"),
+    ("/d/E/x", "explain: /d/E/x: did you mean /d/e/x?\n"),
+    ("/d/f", NOTHING),
+    ("/c", NOTHING),
+];
+
+const NOTHING: &str =
+    "explain: there is nothing of this name on the image: xv6 ls IMAGE / shows what there is\n";
+
+fn expect_meant(rt: &(impl Abort + AllocGlobal)) {
+    let mut files = with_letters(rt, 1);
+    for (path, more) in &MEANT {
+        expect_explained(rt, &mut files, &get(path), "fault 1 NotFound", more);
+    }
+}
+
+fn expect_word_meant(rt: &(impl Abort + AllocGlobal)) {
+    let mut err = Vec::new(rt.alloc());
+    explain_words(rt.alloc(), &["xv6", "rnu", "a"], &mut err).expect(rt, "memory");
+    let wanted = "explain: rnu: did you mean run?\n";
+    expect_text(rt, ("explained", "rnu"), err.as_slice(), wanted);
+}
+
+fn expect_rows(rt: &(impl Abort + AllocGlobal)) {
+    for row in &ROWS {
+        expect_row(rt, row);
+    }
+}
+
+fn expect_texts(rt: &(impl Abort + AllocGlobal)) {
+    expect_all_said(rt, &mkfs(64, 16), MANIFESTS);
+    expect_all_said(rt, &flat(256, false), SCRIPTS);
+    expect_all_said(rt, &Job::Trace(ALL), CALLS);
+}
+
+fn expect_lines(rt: &(impl Abort + AllocGlobal)) {
+    expect_rows(rt);
+    expect_texts(rt);
+    expect_meant(rt);
+    expect_word_meant(rt);
 }
 
 #[test]
-fn explains_what_is_wrong(rt: HostRuntime) {
-    static MANIFESTS: [(&str, &str, &str); 3] = [
-        (
-            "dir /a\ndir /a\n",
-            "fault 2 Twice",
-            "manifest:2: /a is listed twice",
-        ),
-        (
-            "dri /a\n",
-            "manifest line 1",
-            "manifest:1: dri /a: did you mean dir?",
-        ),
-        ("dir /a\n", "a line of no fault", ""),
-    ];
-    static SCRIPTS: [(&str, &str, &str); 2] = [
-        (
-            "step 1\nstepp 1\n",
-            "script line 2",
-            "script:2: stepp 1: did you mean step?",
-        ),
-        (
-            "step x\n",
-            "script line 1",
-            "script:1: step x: the line is none of `step N`, `tick N`, `keys HEX` and `type TEXT`; N is up to 1000000000",
-        ),
-    ];
-    let nothing = Vec::new(rt.alloc());
-    let mut files = files_of(rt.alloc(), nothing, b"").expect(&rt, "memory");
-    for (text, line, wanted) in &MANIFESTS {
-        put_text(&rt, &mut files, text.as_bytes());
-        expect_explained(&rt, &mut files, &mkfs(64, 16), line, wanted);
-    }
-    for (text, line, wanted) in &SCRIPTS {
-        put_text(&rt, &mut files, text.as_bytes());
-        expect_explained(&rt, &mut files, &flat(256, false), line, wanted);
-    }
-    let mut err = Vec::new(rt.alloc());
-    explain_words(rt.alloc(), &["xv6", "rnu", "a"], &mut err).expect(&rt, "memory");
-    assert_eq!(rt;
-        err.as_slice(),
-        "explain: rnu: did you mean run?\n".as_bytes()
-    );
+fn tells_more_of_runs_and_lines(rt: HostRuntime) {
+    expect_lines(&rt);
 }

@@ -1,9 +1,7 @@
 //! Traces in files.
 use crate::tests::living::desk_of;
 use crate::tests::runs::{HELLO, INIT, with_image};
-use crate::tests::telling::expect_explained;
-use crate::tests::{UNTOLD, expect_told};
-use commands::perform::perform;
+use crate::tests::{UNTOLD, expect, expect_that};
 use commands::{Job, Lines, Part, Run, Trace};
 use std::num::NonZeroU64;
 use std::process::Abort;
@@ -18,7 +16,7 @@ const RUN: Run<'static> = Run {
     script: "record",
 };
 
-const ALL: Trace<'static> = Trace {
+pub const ALL: Trace<'static> = Trace {
     run: RUN,
     part: Part {
         pid: None,
@@ -41,13 +39,27 @@ const ALL: Trace<'static> = Trace {
 const TEXT: &str =
     "[pid 1] write(1, \"hi\\n\", 3) = -1\n[pid 1] exit(0) = ?\n[pid 1] +++ ended with 0 +++\n";
 
-// What is traced, how long its file may get, whether the text goes to standard error, what is told at the end, and how the file
-// ends.
-type Row = (Trace<'static>, usize, bool, &'static str, &'static str);
+// A name, what is traced, how long its file may get, standard error and status, and how the file ends.
+type Row = (
+    &'static str,
+    Trace<'static>,
+    usize,
+    &'static str,
+    u8,
+    &'static str,
+);
 
 const ENDED: &str = "halt 1 InitEnded 0\n";
 
+const TOLD_AND_ENDED: &str =
+    "[pid 1] write(1, \"hi\\n\", 3) = -1\n[pid 1] exit(0) = ?\n[pid 1] +++ ended with 0 +++\n\
+    halt 1 InitEnded 0\n";
+
 const LOST: &str = "halt 1 InitEnded 0\ncannot write record\n";
+
+const TOLD_AND_LOST: &str =
+    "[pid 1] write(1, \"hi\\n\", 3) = -1\n[pid 1] exit(0) = ?\n[pid 1] +++ ended with 0 +++\n\
+    halt 1 InitEnded 0\ncannot write record\n";
 
 const UNSAVED: &str = "halt 1 InitEnded 0\ncannot write none\n";
 
@@ -55,56 +67,62 @@ const UNBOOTED: &str = "fault 3 Device\n";
 
 const TRACED: [Row; 7] = [
     (
+        "a text in a file",
         Trace {
             text: Some("record"),
             ..ALL
         },
         1000,
-        false,
         ENDED,
+        0,
         TEXT,
     ),
     (
+        "a trace for Perfetto in a file",
         Trace {
             perfetto: Some("record"),
             ..ALL
         },
         10000,
-        true,
-        ENDED,
+        TOLD_AND_ENDED,
+        0,
         "\n]}\n",
     ),
     (
+        "commits in a file",
         Trace {
             commits: Some("record"),
             ..ALL
         },
         10000,
-        true,
-        ENDED,
+        TOLD_AND_ENDED,
+        0,
         "(0x00200893) x17 0x0000000000000002\n# pid 1 ended with 0\n",
     ),
     (
+        "a text that finds no room",
         Trace {
             text: Some("record"),
             ..ALL
         },
         10,
-        false,
         LOST,
+        1,
         "",
     ),
     (
+        "commits that find no room",
         Trace {
             commits: Some("record"),
             ..ALL
         },
         10,
-        true,
-        LOST,
+        TOLD_AND_LOST,
+        1,
         "",
     ),
     (
+        "a run that can't be saved",
         Trace {
             run: Run {
                 save: Some("none"),
@@ -114,11 +132,12 @@ const TRACED: [Row; 7] = [
             ..ALL
         },
         1000,
-        false,
         UNSAVED,
+        1,
         TEXT,
     ),
     (
+        "a boot that fails",
         Trace {
             run: Run {
                 fail: Some(NonZeroU64::MIN),
@@ -128,51 +147,37 @@ const TRACED: [Row; 7] = [
             ..ALL
         },
         1000,
-        false,
         UNBOOTED,
+        1,
         "",
     ),
 ];
 
 // Traces a run of nine steps.
 fn expect_traced(rt: &(impl Abort + AllocGlobal), image: &[u8], row: &Row) {
-    let (trace, room, has_text, told, end) = *row;
+    let (name, trace, room, stderr, status, end) = *row;
     let mut desk = desk_of(rt.alloc(), image, b"", room).expect(rt, "memory");
     desk.record = b"step 9".to_vec(rt.alloc()).expect(rt, "memory");
-    let mut out = Vec::new(rt.alloc());
-    let mut err = Vec::new(rt.alloc());
-    let ended = perform(
-        rt.alloc(),
-        &Job::Trace(trace),
+    let name = ("a trace", name);
+    expect(
+        rt,
+        name,
         &mut desk,
-        &mut out,
-        &mut err,
+        &Job::Trace(trace),
+        ("", stderr, status),
     );
-    let text = if has_text { TEXT } else { "" };
-    let wanted = format!(in rt.alloc(); "{text}{told}").expect(rt, "memory");
-    let status = u8::from(told != ENDED);
-    let seen = (out.as_slice(), err.as_slice(), ended);
-    expect_told(rt, seen, "", wanted.as_str(), status);
-    assert!(rt; desk.record.as_slice().ends_with(end.as_bytes()));
+    let same = desk.record.as_slice().ends_with(end.as_bytes());
+    expect_that(rt, name, "its file", same);
 }
 
-#[test]
-fn traces_go_to_files(rt: HostRuntime) {
-    let files = with_image(&rt, HELLO, INIT, 32);
+fn expect_all_traced(rt: &(impl Abort + AllocGlobal)) {
+    let files = with_image(rt, HELLO, INIT, 32);
     for row in &TRACED {
-        expect_traced(&rt, files.image.as_slice(), row);
+        expect_traced(rt, files.image.as_slice(), row);
     }
 }
 
 #[test]
-fn calls_are_known_by_name(rt: HostRuntime) {
-    let mut desk = desk_of(rt.alloc(), &[], b"", 0).expect(&rt, "memory");
-    let job = Job::Trace(ALL);
-    expect_explained(
-        &rt,
-        &mut desk,
-        &job,
-        "no call wrote",
-        "wrote: did you mean write?",
-    );
+fn traces_go_to_files(rt: HostRuntime) {
+    expect_all_traced(&rt);
 }

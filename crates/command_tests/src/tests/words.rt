@@ -1,11 +1,15 @@
 //! Stored words, and the jobs that they name.
-use crate::tests::{UNTOLD, output_of};
+use crate::tests::narrow_outputs::output_of;
+use crate::tests::telling::expect_parts;
+use crate::tests::{UNTOLD, expect_that};
+use clap::Error;
 use clap::error::ErrorKind;
 use commands::{
     Asm, Check, Dump, Flat, Get, Job, Lines, Live, Ls, Migrate, Mkfs, Part, Play, Put, Run,
     Telling, Trace, explains, job, refuse,
 };
 use std::num::NonZeroU64;
+use std::process::Abort;
 
 // What `run a b` asks for.
 const PLAIN: Run<'static> = Run {
@@ -269,17 +273,14 @@ const JOBS: [(&[&str], Job<'static>); 21] = [
     ),
 ];
 
-#[test]
-fn knows_its_words(rt: HostRuntime) {
-    for (words, wanted) in &JOBS {
-        let found = job(rt.alloc(), words).expect(&rt, "a job");
-        assert!(rt; found == *wanted);
-    }
+fn expect_job(rt: &(impl Abort + AllocGlobal), words: &[&str], wanted: &Job<'_>) {
+    let found = job(rt.alloc(), words).expect(rt, "a job");
+    let name = words.get(1).copied().unwrap_or("");
+    expect_that(rt, ("a job", name), "the job", found == *wanted);
 }
 
 // Each number from 1 on has its own option.
-#[test]
-fn knows_counts(rt: HostRuntime) {
+fn counts() -> ([&'static str; 12], Job<'static>) {
     let words = [
         "xv6",
         "trace",
@@ -323,8 +324,12 @@ fn knows_counts(rt: HostRuntime) {
         perfetto: None,
         commits: None,
     });
-    let found = job(rt.alloc(), &words).expect(&rt, "a job");
-    assert!(rt; found == wanted);
+    (words, wanted)
+}
+
+// The error of words that are no job.
+fn error_of(rt: &(impl Abort + AllocGlobal), words: &[&str]) -> Error {
+    job(rt.alloc(), words).err().expect(rt, "an error")
 }
 
 static REFUSALS: [(&[&str], ErrorKind); 23] = [
@@ -395,19 +400,11 @@ static REFUSALS: [(&[&str], ErrorKind); 23] = [
     (&["xv6", "live", "a", "b"], ErrorKind::UnknownArgument),
 ];
 
-#[test]
-fn refuses_other_words(rt: HostRuntime) {
-    for (words, kind) in &REFUSALS {
-        match job(rt.alloc(), words) {
-            Ok(_) => assert!(rt; false, "a job"),
-            Err(error) => assert!(rt; error.kind() == *kind, "{error}"),
-        }
-    }
-}
-
 // What is told of words that are no job: the words, how many bytes standard output takes, how standard error begins, and
 // the status.
-static TOLD: [(&[&str], usize, &str, u8); 5] = [
+type Told = (&'static [&'static str], usize, &'static str, u8);
+
+static TOLD: [Told; 5] = [
     (&["xv6", "--help"], 100_000, "", 0),
     (&["xv6", "--help"], 99, "cannot write standard output\n", 1),
     (&["xv6", "sharp"], 100_000, "error: ", 2),
@@ -425,22 +422,13 @@ static TOLD: [(&[&str], usize, &str, u8); 5] = [
     ),
 ];
 
-#[test]
-fn tells_why_words_are_refused(rt: HostRuntime) {
-    for (words, room, line, status) in &TOLD {
-        let mut out = output_of(rt.alloc(), *room, true);
-        let mut err = Vec::new(rt.alloc());
-        match job(rt.alloc(), words) {
-            Ok(_) => assert!(rt; false, "a job"),
-            Err(error) => {
-                let ended = refuse(&error, &mut out, &mut err);
-                assert!(rt;
-                    ended == *status && err.starts_with(line.as_bytes()),
-                    "{error}"
-                );
-            }
-        }
-    }
+fn expect_told(rt: &(impl Abort + AllocGlobal), row: &Told) {
+    let (words, room, line, status) = *row;
+    let mut out = output_of(rt.alloc(), room, true);
+    let mut err = Vec::new(rt.alloc());
+    let ended = refuse(&error_of(rt, words), &mut out, &mut err);
+    let told = ended == status && err.starts_with(line.as_bytes());
+    expect_that(rt, ("words", line), "what is told", told);
 }
 
 // The help of words, and what it has to name. Its ranges are those whose ends are taken and beyond which all is refused:
@@ -510,26 +498,77 @@ static HELP: [(&[&str], &[&str]); 5] = [
     ),
 ];
 
-#[test]
-fn teaches_its_words(rt: HostRuntime) {
-    for (words, named) in &HELP {
-        let mut out = output_of(rt.alloc(), 100_000, true);
-        let mut err = Vec::new(rt.alloc());
-        match job(rt.alloc(), words) {
-            Ok(_) => assert!(rt; false, "a job"),
-            Err(error) => assert_eq!(rt; refuse(&error, &mut out, &mut err), 0),
-        }
-        let text = str::from_utf8(out.taken.as_slice()).expect(&rt, "a text");
-        for word in *named {
-            assert!(rt; text.contains(*word), "{word}: {text}");
-        }
+fn expect_help(rt: &(impl Abort + AllocGlobal), words: &[&str], named: &[&str]) {
+    let mut out = output_of(rt.alloc(), 100_000, true);
+    let mut err = Vec::new(rt.alloc());
+    let ended = refuse(&error_of(rt, words), &mut out, &mut err);
+    expect_that(rt, ("a help", "of words"), "status 0", ended == 0);
+    expect_parts(rt, ("a help", "of words"), out.taken.as_slice(), named);
+}
+
+// Words, and whether they ask that more is said of what is wrong.
+static EXPLAINS: [(&[&str], bool); 4] = [
+    (&["xv6", "check", "--explain", "a"], true),
+    (&["xv6", "check", "a"], false),
+    (&["--explain", "check", "a"], false),
+    (&["xv6", "check", "--", "--explain"], false),
+];
+
+fn expect_jobs(rt: &(impl Abort + AllocGlobal)) {
+    for (words, wanted) in &JOBS {
+        expect_job(rt, words, wanted);
     }
 }
 
+fn expect_counts(rt: &(impl Abort + AllocGlobal)) {
+    let (words, wanted) = counts();
+    expect_job(rt, &words, &wanted);
+}
+
+fn expect_helps(rt: &(impl Abort + AllocGlobal)) {
+    for (words, named) in &HELP {
+        expect_help(rt, words, named);
+    }
+}
+
+fn expect_explains(rt: &impl Abort) {
+    for (words, wanted) in &EXPLAINS {
+        let same = explains(words) == *wanted;
+        expect_that(rt, ("words", "--explain"), "whether it is asked for", same);
+    }
+}
+
+fn expect_refusals(rt: &(impl Abort + AllocGlobal)) {
+    for (words, kind) in &REFUSALS {
+        let same = error_of(rt, words).kind() == *kind;
+        expect_that(rt, ("words", "refused"), "the kind of the error", same);
+    }
+}
+
+fn expect_all_told(rt: &(impl Abort + AllocGlobal)) {
+    for row in &TOLD {
+        expect_told(rt, row);
+    }
+}
+
+fn expect_words(rt: &(impl Abort + AllocGlobal)) {
+    expect_jobs(rt);
+    expect_counts(rt);
+    expect_helps(rt);
+    expect_explains(rt);
+}
+
+fn expect_other_words(rt: &(impl Abort + AllocGlobal)) {
+    expect_refusals(rt);
+    expect_all_told(rt);
+}
+
 #[test]
-fn explains_what_is_asked_for(rt: HostRuntime) {
-    assert!(rt; explains(&["xv6", "check", "--explain", "a"]) && !explains(&["xv6", "check", "a"]));
-    assert!(rt;
-        !explains(&["--explain", "check", "a"]) && !explains(&["xv6", "check", "--", "--explain"])
-    );
+fn knows_its_words(rt: HostRuntime) {
+    expect_words(&rt);
+}
+
+#[test]
+fn refuses_other_words(rt: HostRuntime) {
+    expect_other_words(&rt);
 }
