@@ -1,15 +1,11 @@
 //! The commands of the program, done over a host's files.
 #![tactic(auto)]
 
-mod explaining;
-mod host;
 pub mod perform;
-mod report;
 
 pub use commandline::{
     Asm, Check, Dump, Flat, Get, Job, Lines, Live, Ls, Migrate, Mkfs, Part, Play, Put, Run,
     Telling, Trace, explains, job,
 };
-pub use explaining::{explain, explain_words};
-pub use host::{Front, Host, HostFault, NoScreen, Screen, Why};
-pub use report::refuse;
+pub use hosts::{Front, Host, HostFault, NoScreen, Screen, Why, refuse};
+pub use image_commands::{explain, explain_words};

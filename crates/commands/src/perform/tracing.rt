@@ -1,15 +1,16 @@
 //! Runs of which it is shown what each process does.
 
-use crate::host::{Host, Screen};
-use crate::perform::images::{disk_of, read_image};
-use crate::perform::progress::{Gauge, Meter};
-use crate::perform::runs::{keep, run_watched_over};
-use crate::perform::telling::{Both, Teller};
-use crate::perform::{append, finish, read, script_of, write};
-use crate::report::{End, Failure, tell};
+use blockdev::MemDisk;
 use commandline::Trace;
+use hosts::{End, Failure, Host, Screen, append, disk_of, tell, write};
+use run_commands::scripted::finish;
+use run_commands::{
+    Both, Gauge, Meter, Teller, keep, pid_of, read_run, run_watched_over, script_of,
+};
+use scripts::Command;
 use std::alloc::Global;
 use std::io::Write;
+use std::num::NonZeroU64;
 use traces::{CallSet, Form, SinkFault, Sinks, Tracer, Trouble, Wanted};
 
 /// The most bytes of a file that wait to be written.
@@ -160,6 +161,14 @@ fn calls_of<'a>(words: &Trace<'a>) -> Result<CallSet, Failure<'a>> {
     }
 }
 
+// A number of the command line, or what stands for none.
+fn number_or(number: Option<NonZeroU64>, missing: u64) -> u64 {
+    match number {
+        Some(number) => number.get(),
+        None => missing,
+    }
+}
+
 // What is traced, and how.
 fn wanted_of<'a>(words: &Trace<'a>) -> Result<Wanted, Failure<'a>> {
     let calls = calls_of(words)?;
@@ -168,12 +177,10 @@ fn wanted_of<'a>(words: &Trace<'a>) -> Result<Wanted, Failure<'a>> {
         text: true,
         spans: words.perfetto.is_some(),
         commits: words.commits.is_some(),
-        pid: part
-            .pid
-            .map(|pid| u32::try_from(pid.get()).unwrap_or(u32::MAX)),
+        pid: pid_of(part.pid),
         calls,
-        from: part.from.map_or(1, |from| from.get()),
-        to: part.to.map_or(u64::MAX, |to| to.get()),
+        from: number_or(part.from, 1),
+        to: number_or(part.to, u64::MAX),
         joins: !lines.each,
         bytes: lines.bytes as usize,
         times: lines.time,
@@ -193,20 +200,18 @@ fn whole<'a>(
     }
 }
 
-// A run, to its end: how it ended, whether all files were written, and what is to be told of it.
-fn trace<'a, H: Host, S: Screen, W: Write, E: Write>(
+// A run from a disk, to its end: how it ended, whether all files were written, and what is to be told of it.
+fn trace_disk<'a, H: Host, S: Screen, W: Write, E: Write>(
     alloc: Global,
     words: &Trace<'a>,
+    wanted: Wanted,
+    disk: MemDisk,
+    script: &[Command<'_>],
     host: &mut H,
     meter: &Meter<S>,
     stdout: &mut W,
     stderr: &mut E,
 ) -> Result<(End, Result<(), Failure<'a>>, Teller), Failure<'a>> {
-    let wanted = wanted_of(words)?;
-    let image = read_image(host, words.run.image)?;
-    let bytes = read(host, words.run.script)?;
-    let script = script_of(alloc, words.run.script, bytes.as_slice())?;
-    let disk = disk_of(image)?;
     let sheets = Sheets::begin(alloc, words, host, stderr)?;
     let Ok(tracer) = Tracer::new(alloc, wanted, sheets) else {
         return Err(Failure::NoMemory);
@@ -218,14 +223,7 @@ fn trace<'a, H: Host, S: Screen, W: Write, E: Write>(
             second: Gauge { meter },
         },
     };
-    let (end, disk) = run_watched_over(
-        alloc,
-        words.run,
-        disk,
-        script.as_slice(),
-        &mut all,
-        stdout,
-    )?;
+    let (end, disk) = run_watched_over(alloc, words.run, disk, script, &mut all, stdout)?;
     let Both {
         first: tracer,
         second: others,
@@ -234,6 +232,25 @@ fn trace<'a, H: Host, S: Screen, W: Write, E: Write>(
     let written = whole(traced, sheets.finish());
     let saved = keep(words.run.save, disk, host);
     Ok((end, written.and(saved), others.first))
+}
+
+// The same, once its files are read in the order of the command line.
+fn trace<'a, H: Host, S: Screen, W: Write, E: Write>(
+    alloc: Global,
+    words: &Trace<'a>,
+    host: &mut H,
+    meter: &Meter<S>,
+    stdout: &mut W,
+    stderr: &mut E,
+) -> Result<(End, Result<(), Failure<'a>>, Teller), Failure<'a>> {
+    let wanted = wanted_of(words)?;
+    let (image, bytes) = read_run(host, &words.run)?;
+    let script = script_of(alloc, words.run.script, bytes.as_slice())?;
+    let disk = disk_of(image)?;
+    let script = script.as_slice();
+    trace_disk(
+        alloc, words, wanted, disk, script, host, meter, stdout, stderr,
+    )
 }
 
 /// The command `trace`: as `run`, and what each process does is written as it does it.

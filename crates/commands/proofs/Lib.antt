@@ -1,2 +1,0 @@
-mod Sitting
-pub mod Ends

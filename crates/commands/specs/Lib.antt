@@ -1,4 +1,0 @@
-pub mod Entries
-pub mod Reports
-pub mod Runs
-pub mod Seats

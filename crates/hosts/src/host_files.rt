@@ -1,0 +1,51 @@
+//! Reads and writes a host's files, and tells which of them could not be.
+ghost use Rattle.std.specs.Prelude.{◌≤◌, IfOk, vec_len};
+
+use crate::host::{Front, Host, Why};
+use crate::report::Failure;
+
+// Why a file is not read or written: where memory was refused, that is told in place of the file.
+fn refused<'a, H: Host>(host: &H, failure: Failure<'a>) -> Failure<'a> {
+    match host.why() {
+        Why::NoMemory => Failure::NoMemory,
+        Why::Unknown | Why::System(_) => failure,
+    }
+}
+
+/// A file's bytes.
+pub fn read<'a, H: Host>(host: &mut H, name: &'a str) -> Result<Vec<u8>, Failure<'a>> {
+    match host.read(name) {
+        Ok(bytes) => Ok(bytes),
+        Err(_) => Err(refused(host, Failure::Read(name))),
+    }
+}
+
+/// A file's first bytes, so many at most.
+pub fn read_front<'a, H: Host>(
+    host: &mut H,
+    name: &'a str,
+    most: usize,
+) -> Result<Front, Failure<'a>>
+    ensures { IfOk result (λ front. vec_len front.bytes ≤ most) }
+{
+    match host.read_front(name, most) {
+        Ok(front) => Ok(front),
+        Err(_) => Err(refused(host, Failure::Read(name))),
+    }
+}
+
+/// Puts bytes behind those of a file.
+pub fn append<'a, H: Host>(host: &mut H, name: &'a str, bytes: &[u8]) -> Result<(), Failure<'a>> {
+    match host.append(name, bytes) {
+        Ok(()) => Ok(()),
+        Err(_) => Err(refused(host, Failure::Write(name))),
+    }
+}
+
+/// Makes a file of the bytes.
+pub fn write<'a, H: Host>(host: &mut H, name: &'a str, bytes: &[u8]) -> Result<(), Failure<'a>> {
+    match host.write(name, bytes) {
+        Ok(()) => Ok(()),
+        Err(_) => Err(refused(host, Failure::Write(name))),
+    }
+}

@@ -1,0 +1,12 @@
+//! A host's files and disk images, and what is told of a job that is not done.
+#![tactic(auto)]
+
+mod host;
+mod host_files;
+mod images;
+mod report;
+
+pub use host::{Front, Host, HostFault, NoScreen, Screen, Why};
+pub use host_files::{append, read, read_front, write};
+pub use images::{bytes_of, disk_of, read_image};
+pub use report::{End, Failure, print, refuse, tell};

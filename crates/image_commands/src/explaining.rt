@@ -1,0 +1,207 @@
+//! What --explain adds: a line that says more of the one by which a job told that it is not done.
+
+mod images;
+
+use commandline::Job;
+use explanations::words::{
+    ASSEMBLY, CALLS, COMMANDS, MANIFEST, PLAY, SCRIPT, first_word, last_word, line_of,
+    number_behind,
+};
+use explanations::{meaning, misfit_of, nearest};
+use hosts::{Host, Why};
+use std::alloc::{AllocError, Global};
+use std::io::Write;
+
+// A text that a job was told to read, and what was told of it.
+#[derive(Clone, Copy)]
+struct Told<'a> {
+    name: &'a str,
+    text: &'a str,
+    line: &'a str,
+}
+
+// What is said behind a line that is none: the word that was meant, if one is near, or what is wrong.
+fn hint(alloc: Global, word: &str, words: &[&str], told: &str) -> Result<String, AllocError> {
+    match (nearest(alloc, word, words)?, meaning(told)) {
+        (Some(meant), _) => format!(in alloc; ": did you mean {meant}?"),
+        (None, Some(means)) => format!(in alloc; ": {means}"),
+        (None, None) => Ok(String::new(alloc)),
+    }
+}
+
+// A line of a text that is none: its file, its number, its words, and a hint.
+fn odd_line(
+    alloc: Global,
+    told: Told<'_>,
+    number: Option<usize>,
+    words: &[&str],
+) -> Result<Option<String>, AllocError> {
+    let Some(number) = number else {
+        return Ok(None);
+    };
+    let Some(line) = line_of(told.text, number) else {
+        return Ok(None);
+    };
+    let (name, line) = (told.name, line.trim());
+    let more = hint(alloc, first_word(line), words, told.line)?;
+    Ok(Some(format!(in alloc; "{name}:{number}: {line}{more}")?))
+}
+
+// The text of a file, if it has one.
+fn text_of<H: Host>(alloc: Global, name: &str, host: &mut H) -> Option<String> {
+    let bytes = host.read(name).ok()?;
+    let text = str::from_utf8(bytes.as_slice()).ok()?;
+    String::from_str(alloc, text).ok()
+}
+
+// What is wrong with a manifest.
+fn of_manifest(alloc: Global, told: Told<'_>) -> Result<Option<String>, AllocError> {
+    if let Some(number) = number_behind(told.line, "manifest line ") {
+        return odd_line(alloc, told, Some(number), &MANIFEST);
+    }
+    let Some(misfit) = misfit_of(told.text) else {
+        return Ok(None);
+    };
+    let names_it = match misfit.fault {
+        1 => told.line == "fault 1 Name",
+        2 => told.line == "fault 2 Twice",
+        _ => told.line == "fault 5 Parent",
+    };
+    if !names_it {
+        return Ok(None);
+    }
+    let (name, number, path, why) = (told.name, misfit.line, misfit.path, misfit.why);
+    Ok(Some(format!(in alloc; "{name}:{number}: {path} {why}")?))
+}
+
+// The text that a job was told to read, which its faults are of.
+fn name_of<'a>(job: &Job<'a>) -> Option<&'a str> {
+    match *job {
+        Job::Flat(words) => Some(words.script),
+        Job::Run(words) => Some(words.script),
+        Job::Trace(words) => Some(words.run.script),
+        Job::Mkfs(words) => Some(words.manifest),
+        Job::Asm(words) => Some(words.text),
+        _ => None,
+    }
+}
+
+// What is said of this text alone, if anything is.
+fn of_text<H: Host>(
+    alloc: Global,
+    job: &Job<'_>,
+    line: &str,
+    host: &mut H,
+) -> Result<Option<String>, AllocError> {
+    let Some(name) = name_of(job) else {
+        return Ok(None);
+    };
+    let Some(text) = text_of(alloc, name, host) else {
+        return Ok(None);
+    };
+    let text = text.as_str();
+    let told = Told { name, text, line };
+    match *job {
+        Job::Mkfs(_) => of_manifest(alloc, told),
+        Job::Asm(_) => odd_line(alloc, told, number_behind(line, "line "), &ASSEMBLY),
+        _ => odd_line(alloc, told, number_behind(line, "script line "), &SCRIPT),
+    }
+}
+
+// A word of a line, and the one of these that was meant, if one is near.
+fn guess(alloc: Global, word: &str, words: &[&str]) -> Result<Option<String>, AllocError> {
+    match nearest(alloc, word, words)? {
+        Some(meant) => Ok(Some(format!(in alloc; "{word}: did you mean {meant}?")?)),
+        None => Ok(None),
+    }
+}
+
+// The command of a play, or the call, that was meant by a word of this line.
+fn of_word(alloc: Global, job: &Job<'_>, line: &str) -> Result<Option<String>, AllocError> {
+    match *job {
+        Job::Play(_) => match line.strip_suffix(": no such command") {
+            Some(front) => guess(alloc, last_word(front), &PLAY),
+            None => Ok(None),
+        },
+        Job::Trace(_) => match line.strip_prefix("no call ") {
+            Some(name) => guess(alloc, name, &CALLS),
+            None => Ok(None),
+        },
+        _ => Ok(None),
+    }
+}
+
+// What is said of this job alone, if anything is.
+fn particular<H: Host>(
+    alloc: Global,
+    job: &Job<'_>,
+    line: &str,
+    host: &mut H,
+) -> Result<Option<String>, AllocError> {
+    let told = match line {
+        "fault 5 NoInit" => images::of_init(alloc, job, host)?,
+        "fault 1 NotFound" => images::of_path(alloc, job, host)?,
+        _ => of_word(alloc, job, line)?,
+    };
+    match told {
+        Some(told) => Ok(Some(told)),
+        None => of_text(alloc, job, line, host),
+    }
+}
+
+// Why the system refused the file of a line.
+fn refusal(alloc: Global, line: &str, why: Why) -> Result<Option<String>, AllocError> {
+    let name = match (
+        line.strip_prefix("cannot read "),
+        line.strip_prefix("cannot write "),
+    ) {
+        (Some(name), _) | (None, Some(name)) => name,
+        (None, None) => return Ok(None),
+    };
+    match why {
+        Why::System(error) => Ok(Some(format!(in alloc; "{name}: {error}")?)),
+        Why::NoMemory | Why::Unknown => Ok(None),
+    }
+}
+
+// Says this of the last line.
+fn say<E: Write>(stderr: &mut E, told: &str) {
+    let _ = writeln!(stderr, "explain: {told}");
+}
+
+/// Says more of the last line that a job told: what the system says of a file, which line of a text or which name on an image is
+/// meant, or what the line means.
+pub fn explain<H: Host, E: Write>(
+    alloc: Global,
+    job: &Job<'_>,
+    line: &str,
+    host: &mut H,
+    stderr: &mut E,
+) -> Result<(), AllocError> {
+    let why = host.why();
+    let told = match refusal(alloc, line, why)? {
+        Some(told) => Some(told),
+        None => particular(alloc, job, line, host)?,
+    };
+    match (told, meaning(line)) {
+        (Some(told), _) => say(stderr, told.as_str()),
+        (None, Some(means)) => say(stderr, means),
+        (None, None) => {}
+    }
+    Ok(())
+}
+
+/// Says which command was meant where the words name none.
+pub fn explain_words<E: Write>(
+    alloc: Global,
+    words: &[&str],
+    stderr: &mut E,
+) -> Result<(), AllocError> {
+    let Some(word) = words.get(1) else {
+        return Ok(());
+    };
+    if let Some(told) = guess(alloc, word, &COMMANDS)? {
+        say(stderr, told.as_str());
+    }
+    Ok(())
+}

@@ -1,0 +1,42 @@
+//! Assembles texts, and shows program files.
+
+use asm::assemble;
+use commandline::{Asm, Dump};
+use hosts::{Failure, Host, read, write};
+use listings::{ProgramFault, segments, write_program};
+use std::alloc::Global;
+use std::io::Write;
+
+/// The command `asm`.
+pub fn asm<'a, H: Host>(alloc: Global, words: Asm<'a>, host: &mut H) -> Result<(), Failure<'a>> {
+    let bytes = read(host, words.text)?;
+    let Ok(text) = str::from_utf8(bytes.as_slice()) else {
+        return Err(Failure::Read(words.text));
+    };
+    let file = match assemble(alloc, text) {
+        Ok(file) => file,
+        Err(fault) => return Err(Failure::Assembly(fault)),
+    };
+    write(host, words.elf, file.as_slice())
+}
+
+/// The command `dump`. All headers are read before anything is shown.
+pub fn dump<'a, H: Host, W: Write>(
+    alloc: Global,
+    words: Dump<'a>,
+    host: &mut H,
+    stdout: &mut W,
+) -> Result<(), Failure<'a>> {
+    let file = read(host, words.elf)?;
+    let segments = match segments(alloc, file.as_slice()) {
+        Ok(segments) => segments,
+        Err(ProgramFault::Refused(fault)) => return Err(Failure::Program(fault)),
+        Err(ProgramFault::NoMemory) => return Err(Failure::NoMemory),
+    };
+    if write_program(file.as_slice(), segments.as_slice(), stdout).is_err()
+        || stdout.flush().is_err()
+    {
+        return Err(Failure::Output);
+    }
+    Ok(())
+}

@@ -1,0 +1,15 @@
+//! The commands that run a machine, done over a host's files: scripts, plays and sessions.
+#![tactic(auto)]
+
+pub mod plays;
+mod progress;
+mod runs;
+mod scribe;
+pub mod scripted;
+mod seat;
+pub mod sessions;
+mod telling;
+
+pub use progress::{Cleared, Gauge, Meter};
+pub use runs::{keep, read_run, run_watched_over, script_of};
+pub use telling::{Both, Teller, pid_of};

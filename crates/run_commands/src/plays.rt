@@ -1,0 +1,266 @@
+//! Plays: scripts that wait for what the machine does.
+ghost use Rattle.std.specs.Prelude.{◌≡◌};
+ghost use Rattle.run_commands.specs.Seats.{PlaysOutTo};
+ghost use Rattle.machine.specs.View.{IsUp};
+ghost use Rattle.player.specs.Played.{halts};
+
+use crate::progress::{Gauge, Meter};
+use crate::runs::{inner_of, keep, leave, read_run};
+use crate::scribe::Scribe;
+use crate::sessions::end_with;
+use crate::telling::{Both, Teller, looks_on, status_of, tell_kept};
+use blockdev::{BlockDev, FailAt, MemDisk};
+use commandline::{Play, Run, Telling};
+use hosts::{End, Failure, Front, Host, Screen, disk_of, tell};
+use live::Watch;
+use machine::{BootFault, Halt, Machine, boot};
+use player::{Record, Tail, Unreached};
+use playtext::{PlayFault, Why, parse};
+use std::alloc::Global;
+use std::io::Write;
+use sv39::{Plain, Tlb, Translate};
+
+/// The status of a play that can't be read, or that waited in vain.
+const IN_VAIN: u8 = 1;
+
+// How a play ended: how the machine did, and what it waited for in vain, if it did.
+#[derive(Clone, Copy)]
+struct Finish {
+    end: End,
+    unreached: Option<Unreached>,
+}
+
+// How a play ended for the machine, and what it waited for in vain, if it did.
+fn parts(ended: Result<Option<Unreached>, Halt>) -> (Result<(), Halt>, Option<Unreached>)
+    ensures { result.0 ≡ halts ended }
+{
+    match ended {
+        Ok(unreached) => (Ok(()), unreached),
+        Err(halt) => (Err(halt), None),
+    }
+}
+
+// The events of a play, whose bytes for the console are written out.
+fn play_out<D: BlockDev, T: Translate, R: Record, V: Watch, W: Write>(
+    machine: &mut Machine<D, T>,
+    play: &playtext::Play<'_>,
+    keeper: &mut R,
+    watch: &mut V,
+    stdout: W,
+) -> (Finish, W)
+    requires { IsUp machine.old }
+    ensures { PlaysOutTo W.contents R.kept keeper.old keeper.new machine.old machine.new stdout result.1 result.0.end }
+{
+    let mut out = Tail::new(stdout);
+    let played = player::perform(machine, play, keeper, watch, &mut out);
+    watch.end(machine);
+    let (ended, unreached) = parts(played);
+    let out = out.into_out();
+    let failures = out.failures();
+    let mut stdout = out.into_inner();
+    let is_written = stdout.flush().is_ok();
+    let end = end_with(ended, failures, is_written);
+    (Finish { end, unreached }, stdout)
+}
+
+// Boots a machine from a disk over a translator and gives it the events of a play; then it is saved, if it is to be and the play
+// came to its end.
+fn play_disk<D: BlockDev, T: Translate, R: Record, V: Watch, W: Write>(
+    alloc: Global,
+    disk: D,
+    translator: T,
+    words: &Run<'_>,
+    play: &playtext::Play<'_>,
+    record: &mut R,
+    watch: &mut V,
+    stdout: &mut W,
+) -> Result<(Finish, Option<D>), BootFault> {
+    let mut machine = boot(alloc, disk, translator, words.frames)?;
+    let (Finish { end, unreached }, _) = play_out(&mut machine, play, record, watch, stdout);
+    let saves = words.save.is_some() && unreached.is_none();
+    let (end, disk) = leave(machine, saves, end);
+    Ok((Finish { end, unreached }, disk))
+}
+
+// The same, with a disk of which one access fails, if the words ask for it.
+fn play_with<T: Translate, R: Record, V: Watch, W: Write>(
+    alloc: Global,
+    disk: MemDisk,
+    translator: T,
+    words: &Run<'_>,
+    play: &playtext::Play<'_>,
+    record: &mut R,
+    watch: &mut V,
+    stdout: &mut W,
+) -> Result<(Finish, Option<MemDisk>), BootFault> {
+    let Some(n) = words.fail else {
+        return play_disk(alloc, disk, translator, words, play, record, watch, stdout);
+    };
+    let failing = FailAt::new(disk, n);
+    let (finish, left) = play_disk(
+        alloc, failing, translator, words, play, record, watch, stdout,
+    )?;
+    Ok((finish, inner_of(left)))
+}
+
+// The same, over the translator that the words ask for.
+fn play_over<R: Record, V: Watch, W: Write>(
+    alloc: Global,
+    disk: MemDisk,
+    words: &Run<'_>,
+    play: &playtext::Play<'_>,
+    record: &mut R,
+    watch: &mut V,
+    stdout: &mut W,
+) -> Result<(Finish, Option<MemDisk>), BootFault> {
+    if words.tlb {
+        let cache = Tlb::<64>::new();
+        play_with(alloc, disk, cache, words, play, record, watch, stdout)
+    } else {
+        play_with(
+            alloc,
+            disk,
+            Plain::new(),
+            words,
+            play,
+            record,
+            watch,
+            stdout,
+        )
+    }
+}
+
+// What is to be done with a play: how it ended, and whether all files were written.
+fn go<'a, H: Host, V: Watch, W: Write>(
+    alloc: Global,
+    words: &Play<'a>,
+    image: Front,
+    play: &playtext::Play<'_>,
+    watch: &mut V,
+    host: &mut H,
+    stdout: &mut W,
+) -> Result<(Finish, Result<(), Failure<'a>>), Failure<'a>> {
+    let disk = disk_of(image)?;
+    let mut scribe = Scribe::new(alloc, host, words.script);
+    let (finish, left) = match play_over(
+        alloc,
+        disk,
+        &words.run,
+        play,
+        &mut scribe,
+        watch,
+        stdout,
+    ) {
+        Ok(played) => played,
+        Err(fault) => return Err(Failure::Boot(fault)),
+    };
+    let written = scribe.finish();
+    let saved = keep(words.run.save, left, host);
+    Ok((finish, written.and(saved)))
+}
+
+// Tells how a play ended, and answers the status to exit with.
+fn tell_end<E: Write>(
+    name: &str,
+    finish: Finish,
+    written: Result<(), Failure<'_>>,
+    telling: &Telling<'_>,
+    stderr: &mut E,
+) -> u8 {
+    let Finish { end, unreached } = finish;
+    let status = match (end, unreached) {
+        (End::Running, Some(Unreached { line, steps })) => {
+            let _ = writeln!(stderr, "{name}:{line}: not reached in {steps} steps");
+            IN_VAIN
+        }
+        _ => {
+            let _ = writeln!(stderr, "{end}");
+            status_of(telling, end)
+        }
+    };
+    match written {
+        Ok(()) => status,
+        Err(failure) => tell(&failure, stderr),
+    }
+}
+
+// Tells why a play can't be read, and answers the status to exit with.
+fn tell_fault<E: Write>(name: &str, fault: PlayFault<'_>, stderr: &mut E) -> u8 {
+    if let Why::NoMemory = fault.why {
+        return tell(&Failure::NoMemory, stderr);
+    }
+    let _ = writeln!(stderr, "{name}:{fault}");
+    IN_VAIN
+}
+
+// The image and the play's text, which are read in this order.
+fn read_both<'a, H: Host>(host: &mut H, words: &Run<'a>) -> Result<(Front, Vec<u8>), Failure<'a>> {
+    let (image, text) = read_run(host, words)?;
+    match str::from_utf8(text.as_slice()) {
+        Ok(_) => Ok((image, text)),
+        Err(_) => Err(Failure::Read(words.script)),
+    }
+}
+
+// A play that is read: it is done, and how it ended is told.
+fn perform_read<H: Host, S: Screen, W: Write, E: Write>(
+    alloc: Global,
+    words: &Play<'_>,
+    image: Front,
+    play: &playtext::Play<'_>,
+    host: &mut H,
+    meter: &Meter<S>,
+    stdout: &mut W,
+    stderr: &mut E,
+) -> u8 {
+    let telling = words.run.telling;
+    let mut gauge = Gauge { meter };
+    let (gone, teller) = if looks_on(&telling) {
+        let mut both = Both {
+            first: Teller::new(alloc, "/init", &telling),
+            second: gauge,
+        };
+        let gone = go(alloc, words, image, play, &mut both, host, stdout);
+        (gone, Some(both.first))
+    } else {
+        (
+            go(alloc, words, image, play, &mut gauge, host, stdout),
+            None,
+        )
+    };
+    match gone {
+        Ok((finish, written)) => {
+            let told = tell_kept(teller, &telling, host, stderr);
+            tell_end(
+                words.run.script,
+                finish,
+                written.and(told),
+                &telling,
+                stderr,
+            )
+        }
+        Err(failure) => tell(&failure, stderr),
+    }
+}
+
+/// The command `play`: boots a machine from an image, gives it the events of a play, and tells how that ended. The script and the
+/// image that is left are written before. The play is read whole before the machine boots.
+pub fn perform<H: Host, S: Screen, W: Write, E: Write>(
+    alloc: Global,
+    words: Play<'_>,
+    host: &mut H,
+    meter: &Meter<S>,
+    stdout: &mut W,
+    stderr: &mut E,
+) -> u8 {
+    let name = words.run.script;
+    let (image, text) = match read_both(host, &words.run) {
+        Ok(two) => two,
+        Err(failure) => return tell(&failure, stderr),
+    };
+    let play = match parse(alloc, text.as_slice()) {
+        Ok(play) => play,
+        Err(fault) => return tell_fault(name, fault, stderr),
+    };
+    perform_read(alloc, &words, image, &play, host, meter, stdout, stderr)
+}

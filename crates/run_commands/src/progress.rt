@@ -1,0 +1,246 @@
+//! The line by which a long run tells on a terminal that it goes on.
+
+use blockdev::BlockDev;
+use hosts::Screen;
+use live::Watch;
+use machine::{Halt, Machine};
+use std::cell::Cell;
+use std::io::Write;
+use std::{fmt, io};
+use sv39::Translate;
+use unixmodel::event::Event;
+
+/// How many milliseconds a run takes before it tells anything.
+const FIRST: u64 = 1000;
+
+/// How many milliseconds there are at least between two times at which it tells.
+const REST: u64 = 250;
+
+/// How many columns the line takes.
+const WIDTH: usize = 43;
+
+/// The columns behind which a line is not shown, since it might not fit.
+const LAST_COLUMN: usize = 80 - WIDTH;
+
+/// As many blanks, and as many steps back.
+const BLANKS: &str = "                                           ";
+
+const BACK: &str =
+    "\x08\x08\x08\x08\x08\x08\x08\x08\x08\x08\x08\x08\x08\x08\x08\x08\x08\x08\x08\x08\x08\x08\x08\x08\x08\x08\x08\x08\x08\x08\x08\x08\x08\x08\x08\x08\x08\x08\x08\x08\x08\x08\x08";
+
+// The line, behind which the cursor stands where it was.
+#[derive(Clone, Copy)]
+struct Line {
+    steps: u64,
+    rate: u64,
+}
+
+impl fmt::Display for Line {
+    fn fmt<W: fmt::Write>(&self, f: &mut fmt::Formatter<W>) -> fmt::Result {
+        let (steps, rate) = (self.steps, self.rate);
+        write!(f, " {steps:>13} steps, {rate:>11} a second {BACK}")
+    }
+}
+
+// How far a run is, and what a terminal shows of it.
+#[derive(Clone, Copy)]
+struct State {
+    // The steps that are done, and those of them that were when a line was shown last, or nothing was told yet.
+    steps: u64,
+    told: u64,
+    // When that was, and when the next line is due, in milliseconds.
+    told_at: u64,
+    due_at: u64,
+    is_shown: bool,
+    // How many columns the console's last line takes at most.
+    column: usize,
+}
+
+impl State {
+    // The line at this time. It tells the steps a second since the last one.
+    fn line(&self, now: u64) -> Line {
+        let lasted = now.saturating_sub(self.told_at).max(1);
+        let done = self.steps.saturating_sub(self.told);
+        Line {
+            steps: self.steps,
+            rate: done.saturating_mul(1000) / lasted,
+        }
+    }
+
+    // From this time on, at which something is told, the next is due so many milliseconds later.
+    fn rest(&mut self, now: u64, rest: u64) {
+        self.told = self.steps;
+        self.told_at = now;
+        self.due_at = now.saturating_add(rest);
+    }
+}
+
+/// Tells how far a run is, if there is a terminal.
+#[derive(Drop)]
+pub struct Meter<S> {
+    screen: Option<S>,
+    state: Cell<State>,
+}
+
+impl<S: Screen> Meter<S> {
+    /// A run that begins.
+    pub fn new(screen: Option<S>) -> Self {
+        let mut state = State {
+            steps: 0,
+            told: 0,
+            told_at: 0,
+            due_at: 0,
+            is_shown: false,
+            column: 0,
+        };
+        if let Some(screen) = &screen {
+            state.rest(screen.milliseconds(), FIRST);
+        }
+        Meter {
+            screen,
+            state: Cell::new(state),
+        }
+    }
+
+    /// Counts steps.
+    pub fn count(&self, steps: u32) {
+        let mut state = self.state.get();
+        state.steps = state.steps.saturating_add(u64::from(steps));
+        self.state.set(state);
+    }
+
+    /// Shows how far the run is, where that is due; so many steps more are done than were counted.
+    pub fn show(&self, more: u32) {
+        let Some(screen) = &self.screen else {
+            return;
+        };
+        let mut state = self.state.get();
+        let now = screen.milliseconds();
+        if now < state.due_at || state.column > LAST_COLUMN {
+            return;
+        }
+        let counted = state.steps;
+        state.steps = counted.saturating_add(u64::from(more));
+        screen.show(&state.line(now));
+        state.rest(now, REST);
+        state.steps = counted;
+        state.is_shown = true;
+        self.state.set(state);
+    }
+
+    /// Takes the line away, if one is shown.
+    pub fn clear(&self) {
+        let mut state = self.state.get();
+        if let Some(screen) = &self.screen
+            && state.is_shown
+        {
+            screen.show(&Blank);
+            state.is_shown = false;
+            self.state.set(state);
+        }
+    }
+
+    /// Takes the line away; the next one is due later, as of a run that begins.
+    pub fn pause(&self) {
+        self.clear();
+        if let Some(screen) = &self.screen {
+            let mut state = self.state.get();
+            state.rest(screen.milliseconds(), FIRST);
+            self.state.set(state);
+        }
+    }
+
+    // The console writes these bytes.
+    fn writes(&self, bytes: &[u8]) {
+        let Some(screen) = &self.screen else {
+            return;
+        };
+        self.clear();
+        if screen.has_console() {
+            let mut state = self.state.get();
+            for byte in bytes {
+                state.column = if *byte == b'\n' {
+                    0
+                } else {
+                    state.column.saturating_add(1)
+                };
+            }
+            self.state.set(state);
+        }
+    }
+}
+
+// Blanks in place of the line.
+#[derive(Clone, Copy)]
+struct Blank;
+
+impl fmt::Display for Blank {
+    fn fmt<W: fmt::Write>(&self, f: &mut fmt::Formatter<W>) -> fmt::Result {
+        f.write_str(BLANKS)?;
+        f.write_str(BACK)
+    }
+}
+
+/// Looks on at a run, and has its meter show how far it is.
+#[derive(Clone, Copy)]
+pub struct Gauge<'a, S> {
+    pub meter: &'a Meter<S>,
+}
+
+impl<S: Screen> Watch for Gauge<'_, S> {
+    #[inline]
+    fn before<D: BlockDev, T: Translate>(&mut self, _machine: &Machine<D, T>, _event: Event) {}
+
+    #[inline]
+    fn after<D: BlockDev, T: Translate>(
+        &mut self,
+        _machine: &Machine<D, T>,
+        _event: Event,
+        _ended: Result<(), Halt>,
+    ) {}
+
+    #[inline]
+    fn sees_steps(&self) -> bool {
+        false
+    }
+
+    fn written_out(&mut self, event: Event, made: u32) {
+        let more = if event == Event::Step { made } else { 0 };
+        self.meter.show(more);
+    }
+
+    fn repeated(&mut self, event: Event, times: u32) {
+        if event == Event::Step {
+            self.meter.count(times);
+        }
+    }
+
+    fn end<D: BlockDev, T: Translate>(&mut self, _machine: &Machine<D, T>) {
+        self.meter.clear();
+    }
+}
+
+/// Standard output, before whose bytes the line is taken away.
+#[derive(Drop)]
+pub struct Cleared<'a, 'b, W, S> {
+    out: &'a mut W,
+    meter: &'b Meter<S>,
+}
+
+impl<'a, 'b, W: Write, S: Screen> Cleared<'a, 'b, W, S> {
+    /// The output over another one.
+    pub fn new(out: &'a mut W, meter: &'b Meter<S>) -> Self {
+        Cleared { out, meter }
+    }
+}
+
+impl<W: Write, S: Screen> Write for Cleared<'_, '_, W, S> {
+    fn write(&mut self, buf: &[u8]) -> io::Result<usize> {
+        self.meter.writes(buf);
+        self.out.write(buf)
+    }
+
+    fn flush(&mut self) -> io::Result<()> {
+        self.out.flush()
+    }
+}

@@ -1,0 +1,284 @@
+//! The terminal of a session: standard input is its keyboard, and a file has its record.
+ghost use Rattle.std.specs.Prelude.{◌≡◌, ◌≢◌, None, false, true};
+ghost use Rattle.run_commands.specs.declared.seat.Typed.TheVariants.{Key};
+
+use crate::progress::Meter;
+use arrayvec::ArrayVec;
+use blockdev::BlockDev;
+use hosts::{Failure, Host, Screen, append};
+use live::{Given, MOST_KEYS, Mood, Move, Terminal};
+use machine::{Machine, ProcessState, Seen};
+use std::alloc::{AllocError, Global};
+use std::fmt;
+use std::io::Write;
+use sv39::Translate;
+
+/// Control-A: the key behind it is for the session, as at QEMU.
+const ESCAPE: u8 = 0x01;
+
+/// Control-P: the processes are shown.
+const SHOW: u8 = 0x10;
+
+/// The key that ends a typed line.
+const LINE_END: u8 = b'\n';
+
+/// The most bytes of the record that wait to be written.
+const MOST_WAITING: usize = 4096;
+
+/// The most processes that a machine has.
+const MOST_PROCESSES: usize = 64;
+
+/// The key that ends a session behind an escape.
+const LEAVE: u8 = b'x';
+
+// What a typed byte is.
+#[derive(Clone, Copy)]
+enum Typed {
+    Key(u8),
+    Escape,
+    Show,
+    End,
+}
+
+// What is told of a process: its pid, what it does, and its size.
+#[derive(Clone, Copy)]
+struct Line(Seen);
+
+impl fmt::Display for Line {
+    fn fmt<W: fmt::Write>(&self, f: &mut fmt::Formatter<W>) -> fmt::Result {
+        let (pid, size) = (self.0.pid, self.0.size);
+        let does = match self.0.state {
+            ProcessState::Running => "run",
+            ProcessState::Ready => "runble",
+            ProcessState::Waiting(_) => "sleep",
+            ProcessState::Zombie(_) => "zombie",
+        };
+        writeln!(f, "{pid} {does} {size}")
+    }
+}
+
+/// The terminal of a session.
+#[derive(Drop)]
+pub struct Seat<'a, 'b, H, S, E> {
+    host: &'b mut H,
+    meter: &'b Meter<S>,
+    stderr: &'b mut E,
+    // Whether standard input is a terminal that waits only a moment.
+    is_terminal: bool,
+    // The file that has the record, where one has.
+    script: Option<&'a str>,
+    // The lines of the record that are not written yet.
+    lines: String,
+    // What was read and not given yet.
+    typed: ArrayVec<u8, MOST_KEYS>,
+    // Whether the last byte was an escape.
+    is_escaped: bool,
+    // Why the record could not be written.
+    failure: Option<Failure<'a>>,
+}
+
+impl<'a, 'b, H: Host, S: Screen, E: Write> Seat<'a, 'b, H, S, E> {
+    /// A terminal over a host, whose record goes to the file of this name, which is there.
+    pub fn new(
+        alloc: Global,
+        host: &'b mut H,
+        meter: &'b Meter<S>,
+        stderr: &'b mut E,
+        is_terminal: bool,
+        script: Option<&'a str>,
+    ) -> Self {
+        Seat {
+            host,
+            meter,
+            stderr,
+            is_terminal,
+            script,
+            lines: String::new(alloc),
+            typed: ArrayVec::new(),
+            is_escaped: false,
+            failure: None,
+        }
+    }
+
+    // Writes the lines of the record that wait.
+    fn write_out(&mut self) {
+        let Some(name) = self.script else {
+            return;
+        };
+        if self.lines.is_empty() || self.failure.is_some() {
+            return;
+        }
+        if let Err(failure) = append(self.host, name, self.lines.as_bytes()) {
+            self.failure = Some(failure);
+        }
+        self.lines.clear();
+    }
+
+    /// Writes the record to its end. An error says why it could not all be written.
+    pub fn finish(mut self) -> Result<(), Failure<'a>> {
+        self.meter.clear();
+        self.write_out();
+        match self.failure {
+            None => Ok(()),
+            Some(failure) => Err(failure),
+        }
+    }
+
+    // Whether the keyboard is read where the machine does this.
+    fn is_asked(&mut self, mood: Mood) -> bool {
+        match (self.is_terminal, mood) {
+            (true, Mood::Busy) => self.host.is_due(),
+            (true, _) | (false, Mood::Idle) => true,
+            (false, _) => false,
+        }
+    }
+
+    // Reads what is typed; whether it was anything.
+    fn read(&mut self) -> Result<bool, Given> {
+        self.write_out();
+        let mut bytes = [0; MOST_KEYS];
+        match self.host.type_in(&mut bytes) {
+            Ok(0) if self.is_terminal => Ok(false),
+            Ok(0) | Err(_) => Err(Given::End),
+            Ok(count) => {
+                for byte in bytes.iter().take(count) {
+                    let _ = self.typed.try_push(*byte);
+                }
+                Ok(true)
+            }
+        }
+    }
+}
+
+// What a byte is, behind an escape or not: from a pipe or a file always a key.
+fn meaning(is_terminal: bool, is_escaped: bool, byte: u8) -> Typed
+    ensures piped { is_terminal ≡ false → result ≡ Key byte }
+    ensures escaped { is_escaped ≡ true → byte ≢ 120 → result ≡ Key byte }
+    ensures plain { is_escaped ≡ false → byte ≢ 1 → byte ≢ 16 → result ≡ Key byte }
+{
+    if !is_terminal {
+        return Typed::Key(byte);
+    }
+    match (is_escaped, byte) {
+        (true, LEAVE) => Typed::End,
+        (true, _) => Typed::Key(byte),
+        (false, ESCAPE) => Typed::Escape,
+        (false, SHOW) => Typed::Show,
+        (false, _) => Typed::Key(byte),
+    }
+}
+
+/// Writes a line of a record.
+pub fn write_line(lines: &mut String, moved: Move<'_>) -> Result<(), AllocError> {
+    match moved {
+        Move::Steps(0) | Move::Keys(&[]) => Ok(()),
+        Move::Steps(count) => writeln!(lines, "step {count}"),
+        Move::Tick => writeln!(lines, "tick 1"),
+        Move::Keys(keys) => {
+            write!(lines, "keys ")?;
+            for key in keys {
+                write!(lines, "{key:02x}")?;
+            }
+            writeln!(lines)
+        }
+    }
+}
+
+impl<H: Host, S: Screen, E: Write> Seat<'_, '_, H, S, E> {
+    // Takes the first byte that was typed, which is that key.
+    fn take(&mut self) {
+        if !self.typed.is_empty() {
+            self.typed.remove(0);
+        }
+        self.is_escaped = false;
+    }
+
+    // What the bytes give that were read: keys up to the end of a line or to a byte that is none, or what that byte asks for.
+    fn next_given(&mut self) -> Given {
+        let mut keys = ArrayVec::new();
+        for _ in 0..MOST_KEYS {
+            let Some(byte) = self.typed.first().copied() else {
+                break;
+            };
+            match meaning(self.is_terminal, self.is_escaped, byte) {
+                Typed::Key(key) => {
+                    self.take();
+                    let _ = keys.try_push(key);
+                    if key == LINE_END {
+                        break;
+                    }
+                }
+                Typed::Escape => {
+                    self.take();
+                    self.is_escaped = true;
+                }
+                Typed::Show | Typed::End if !keys.is_empty() => break,
+                Typed::Show => {
+                    self.take();
+                    return Given::Show;
+                }
+                Typed::End => return Given::End,
+            }
+        }
+        if keys.is_empty() {
+            Given::Nothing
+        } else {
+            Given::Keys(keys)
+        }
+    }
+}
+
+impl<H: Host, S: Screen, E: Write> Terminal for Seat<'_, '_, H, S, E> {
+    ghost gives = { λ seat. None };
+
+    ghost kept = { λ seat. None };
+
+    fn ask(&mut self, mood: Mood) -> Given {
+        match mood {
+            Mood::Busy => self.meter.show(0),
+            Mood::Asleep | Mood::Idle => self.meter.pause(),
+        }
+        if !self.is_asked(mood) {
+            return Given::Nothing;
+        }
+        if self.typed.is_empty() {
+            match self.read() {
+                Ok(true) => (),
+                Ok(false) => return Given::Nothing,
+                Err(end) => return end,
+            }
+        }
+        self.next_given()
+    }
+
+    fn note(&mut self, moved: Move<'_>) {
+        if let Move::Steps(count) = moved {
+            self.meter.count(count);
+        }
+        if self.script.is_none() || self.failure.is_some() {
+            return;
+        }
+        if write_line(&mut self.lines, moved).is_err() {
+            self.failure = Some(Failure::NoMemory);
+        }
+        if self.lines.len() > MOST_WAITING {
+            self.write_out();
+        }
+    }
+
+    fn show<D: BlockDev, T: Translate>(&mut self, machine: &Machine<D, T>) {
+        self.meter.clear();
+        let _ = writeln!(self.stderr);
+        let mut pid = 0;
+        for _shown in 0..MOST_PROCESSES {
+            let Some(next) = machine.next_pid(pid) else {
+                break;
+            };
+            if let Some(seen) = machine.inspect(next) {
+                let _ = write!(self.stderr, "{}", Line(seen));
+            }
+            pid = next;
+        }
+        let _ = self.stderr.flush();
+    }
+}

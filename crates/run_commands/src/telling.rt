@@ -1,0 +1,148 @@
+//! What is told of a run besides the console's bytes and how it ended.
+
+use blockdev::BlockDev;
+use commandline::Telling;
+use hosts::{End, Failure, Host, write};
+use live::Watch;
+use machine::{Halt, Machine};
+use reports::{Reporter, Told, Wanted};
+use std::alloc::{AllocError, Global};
+use std::io::Write;
+use std::num::NonZeroU64;
+use sv39::Translate;
+use unixmodel::event::Event;
+
+/// Looks on at a run, and keeps what is to be told of it.
+#[derive(Drop)]
+pub struct Teller {
+    alloc: Global,
+    reporter: Reporter,
+    wanted: Wanted,
+    told: Option<Result<Told, AllocError>>,
+}
+
+/// The process that a number of the command line names; there is no process with a longer one.
+pub fn pid_of(number: Option<NonZeroU64>) -> Option<u32> {
+    match number {
+        Some(number) => Some(u32::try_from(number.get()).unwrap_or(u32::MAX)),
+        None => None,
+    }
+}
+
+impl Teller {
+    /// Looks on at a run whose first program has this name.
+    pub fn new(alloc: Global, first: &str, telling: &Telling<'_>) -> Teller {
+        Teller {
+            alloc,
+            reporter: Reporter::new(first.as_bytes()),
+            wanted: Wanted {
+                report: telling.report,
+                json: telling.json.is_some(),
+                registers: pid_of(telling.registers),
+                memory: pid_of(telling.memory),
+            },
+            told: None,
+        }
+    }
+}
+
+impl Watch for Teller {
+    fn before<D: BlockDev, T: Translate>(&mut self, machine: &Machine<D, T>, event: Event) {
+        self.reporter.before(machine, event);
+    }
+
+    fn after<D: BlockDev, T: Translate>(
+        &mut self,
+        machine: &Machine<D, T>,
+        _event: Event,
+        ended: Result<(), Halt>,
+    ) {
+        self.reporter.after(machine, ended);
+    }
+
+    fn end<D: BlockDev, T: Translate>(&mut self, machine: &Machine<D, T>) {
+        self.told = Some(self.reporter.tell(self.alloc, machine, self.wanted));
+    }
+}
+
+/// Two that look on, the first one first.
+#[derive(Drop)]
+pub struct Both<A, B> {
+    pub first: A,
+    pub second: B,
+}
+
+impl<A: Watch, B: Watch> Watch for Both<A, B> {
+    fn before<D: BlockDev, T: Translate>(&mut self, machine: &Machine<D, T>, event: Event) {
+        self.first.before(machine, event);
+        self.second.before(machine, event);
+    }
+
+    fn after<D: BlockDev, T: Translate>(
+        &mut self,
+        machine: &Machine<D, T>,
+        event: Event,
+        ended: Result<(), Halt>,
+    ) {
+        self.first.after(machine, event, ended);
+        self.second.after(machine, event, ended);
+    }
+
+    fn sees_steps(&self) -> bool {
+        self.first.sees_steps() || self.second.sees_steps()
+    }
+
+    fn written_out(&mut self, event: Event, made: u32) {
+        self.first.written_out(event, made);
+        self.second.written_out(event, made);
+    }
+
+    fn repeated(&mut self, event: Event, times: u32) {
+        self.first.repeated(event, times);
+        self.second.repeated(event, times);
+    }
+
+    fn end<D: BlockDev, T: Translate>(&mut self, machine: &Machine<D, T>) {
+        self.first.end(machine);
+        self.second.end(machine);
+    }
+}
+
+/// Whether anything is to be told that one has to look on for.
+pub fn looks_on(telling: &Telling<'_>) -> bool {
+    telling.report
+        || telling.json.is_some()
+        || telling.registers.is_some()
+        || telling.memory.is_some()
+}
+
+/// Tells what the teller has kept, if there is one: on standard error, and as JSON in the file that is named.
+pub fn tell_kept<'a, H: Host, E: Write>(
+    teller: Option<Teller>,
+    telling: &Telling<'a>,
+    host: &mut H,
+    stderr: &mut E,
+) -> Result<(), Failure<'a>> {
+    let Some(teller) = teller else {
+        return Ok(());
+    };
+    let told = match teller.told {
+        Some(Ok(told)) => told,
+        Some(Err(_)) => return Err(Failure::NoMemory),
+        None => return Ok(()),
+    };
+    let _ = stderr.write_all(told.text.as_bytes());
+    match (telling.json, told.json) {
+        (Some(name), Some(json)) => write(host, name, json.as_bytes()),
+        _ => Ok(()),
+    }
+}
+
+/// The status to exit with. Where process 1's is wanted it is its low 8 bits, and 1 where it has not ended.
+pub fn status_of(telling: &Telling<'_>, end: End) -> u8 {
+    match end {
+        _ if !telling.status => end.status(),
+        End::Halted(Halt::InitEnded(status)) => (status.cast_unsigned() % 0x100) as u8,
+        _ => 1,
+    }
+}
