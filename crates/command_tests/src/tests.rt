@@ -558,31 +558,37 @@ const BAD_SCRIPTS: &[Run] = &[
     (256, Program::Hello, "Step 1", "", "script line 1\n", 1),
 ];
 
-static SUBJECTS: [(&str, &[Run]); 9] = [
-    ("says hi and ends", GREETINGS),
-    ("boots what fits", BOOTS),
-    ("ends at faults", ENDS),
-    ("answers small calls", SMALL_CALLS),
-    ("tells refused writes", REFUSED_WRITES),
-    ("grows and shrinks", GROWTH),
-    ("hands out zeroed pages", ZEROED_PAGES),
-    ("keeps what stays", KEPT),
-    ("tells bad scripts", BAD_SCRIPTS),
-];
-
 fn expect_runs(rt: &(impl Abort + AllocGlobal), subject: &str, runs: &[Run]) {
     for run in runs {
         expect_run(rt, subject, run);
     }
 }
 
-fn expect_subjects(rt: &(impl Abort + AllocGlobal)) {
-    for (subject, runs) in &SUBJECTS {
-        expect_runs(rt, subject, runs);
-    }
+fn expect_starts(rt: &(impl Abort + AllocGlobal)) {
+    expect_runs(rt, "says hi and ends", GREETINGS);
+    expect_runs(rt, "boots what fits", BOOTS);
+    expect_runs(rt, "tells bad scripts", BAD_SCRIPTS);
+}
+
+fn expect_calls(rt: &(impl Abort + AllocGlobal)) {
+    expect_runs(rt, "ends at faults", ENDS);
+    expect_runs(rt, "answers small calls", SMALL_CALLS);
+    expect_runs(rt, "tells refused writes", REFUSED_WRITES);
+}
+
+fn expect_sizes(rt: &(impl Abort + AllocGlobal)) {
+    expect_runs(rt, "grows and shrinks", GROWTH);
+    expect_runs(rt, "hands out zeroed pages", ZEROED_PAGES);
+    expect_runs(rt, "keeps what stays", KEPT);
+}
+
+fn expect_flat_programs(rt: &(impl Abort + AllocGlobal)) {
+    expect_starts(rt);
+    expect_calls(rt);
+    expect_sizes(rt);
 }
 
 #[test]
 fn flat_programs_run(rt: HostRuntime) {
-    expect_subjects(&rt);
+    expect_flat_programs(&rt);
 }

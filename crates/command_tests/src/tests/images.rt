@@ -131,8 +131,10 @@ const BLOCKS: &[Image] = &[
     ("file /a host", 12289, 32, 16, Ok("ok 2 inodes 15 blocks\n")),
     ("file /a host", 25600, 32, 16, Ok("ok 2 inodes 27 blocks\n")),
     ("file /a host", 25601, 32, 16, Err("fault 3 Blocks\n")),
-    ("file /a host", 67_382_273, 32, 16, Err("fault 3 Blocks\n")),
 ];
+
+// A file that is longer than any.
+const LONG_FILE: &[Image] = &[("file /a host", 67_382_273, 32, 16, Err("fault 3 Blocks\n"))];
 
 const FOURTEEN: &str = "dir /a\ndir /b\ndir /c\ndir /d\ndir /e\ndir /f\ndir /g\n\
     dir /h\ndir /i\ndir /j\ndir /k\ndir /l\ndir /m\ndir /n\n";
@@ -223,7 +225,8 @@ const BEHIND_A_FAULT: &[Image] = &[
     ),
 ];
 
-static NUMBERS: [(&str, &[Image]); 2] = [
+static NUMBERS: [(&str, &[Image]); 3] = [
+    ("the blocks of a long file", LONG_FILE),
     ("the numbers of an image", IMAGE_NUMBERS),
     ("numbers of no image", NUMBER_FAULTS),
 ];
@@ -291,7 +294,7 @@ fn expect_images(rt: &(impl Abort + AllocGlobal)) {
     expect_subjects(rt, &SUBJECTS);
 }
 
-// An image of 131072 blocks takes long, so it stands apart.
+// A file of 64 MiB and an image of 131072 blocks take long, so they stand apart.
 #[test]
 fn knows_the_numbers_of_an_image(rt: HostRuntime) {
     expect_subjects(&rt, &NUMBERS);

@@ -185,79 +185,76 @@ static SHOWN: Session = (
     "running\n",
 );
 
-// The words of a session, how long the record may get, how many bytes standard output takes, what it took, standard error and status.
-type Refused = (Live<'static>, usize, usize, &'static str, &'static str, u8);
+// The words of a session that fails, how long its record may get, how many bytes standard output takes, and what is told.
+struct Refused {
+    image: &'static str,
+    frames: u32,
+    script: Option<&'static str>,
+    save: Option<&'static str>,
+    record: usize,
+    room: usize,
+    wanted: Wanted<'static>,
+}
 
-const REFUSED: [Refused; 7] = [
-    (
-        Live {
-            image: "none",
-            ..LIVE
-        },
-        1000,
-        1000,
-        "",
-        "cannot read none\n",
-        1,
-    ),
-    (
-        Live {
-            image: "record",
-            ..LIVE
-        },
-        1000,
-        1000,
-        "",
-        "fault 1 Length\n",
-        1,
-    ),
-    (
-        Live { frames: 63, ..LIVE },
-        1000,
-        1000,
-        "",
-        "fault 2 FrameCount\n",
-        1,
-    ),
-    (
-        Live {
-            script: Some("none"),
-            ..LIVE
-        },
-        1000,
-        1000,
-        "",
-        "cannot write none\n",
-        1,
-    ),
-    (
-        Live {
-            save: Some("none"),
-            ..LIVE
-        },
-        1000,
-        1000,
-        "a\na\n",
-        "running\ncannot write none\n",
-        1,
-    ),
-    (
-        LIVE,
-        10,
-        1000,
-        "a\na\n",
-        "running\ncannot write record\n",
-        1,
-    ),
-    (LIVE, 1000, 3, "a\na", "halt 3 Console\n", 1),
+const FAILS: Refused = Refused {
+    image: "image",
+    frames: 256,
+    script: Some("record"),
+    save: Some("saved"),
+    record: 1000,
+    room: 1000,
+    wanted: ("", "", 1),
+};
+
+static REFUSED: [Refused; 7] = [
+    Refused {
+        image: "none",
+        wanted: ("", "cannot read none\n", 1),
+        ..FAILS
+    },
+    Refused {
+        image: "record",
+        wanted: ("", "fault 1 Length\n", 1),
+        ..FAILS
+    },
+    Refused {
+        frames: 63,
+        wanted: ("", "fault 2 FrameCount\n", 1),
+        ..FAILS
+    },
+    Refused {
+        script: Some("none"),
+        wanted: ("", "cannot write none\n", 1),
+        ..FAILS
+    },
+    Refused {
+        save: Some("none"),
+        wanted: ("a\na\n", "running\ncannot write none\n", 1),
+        ..FAILS
+    },
+    Refused {
+        record: 10,
+        wanted: ("a\na\n", "running\ncannot write record\n", 1),
+        ..FAILS
+    },
+    Refused {
+        room: 3,
+        wanted: ("a\na", "halt 3 Console\n", 1),
+        ..FAILS
+    },
 ];
 
 fn expect_refused(rt: &(impl Abort + AllocGlobal), image: &[u8], row: &Refused) {
-    let (words, length, room, stdout, stderr, status) = *row;
-    let mut desk = desk_of(rt.alloc(), image, b"a\n", length).expect(rt, "memory");
-    let name = ("a session that fails", stderr);
-    let wanted = (stdout, stderr, status);
-    expect_at(rt, name, &mut desk, &Job::Live(words), room, wanted);
+    let mut desk = desk_of(rt.alloc(), image, b"a\n", row.record).expect(rt, "memory");
+    let name = ("a session that fails", row.wanted.1);
+    let job = Job::Live(Live {
+        image: row.image,
+        frames: row.frames,
+        script: row.script,
+        save: row.save,
+        ..LIVE
+    });
+    expect_at(rt, name, &mut desk, &job, row.room, row.wanted);
 }
 
 fn expect_sessions(rt: &(impl Abort + AllocGlobal), image: &[u8]) {

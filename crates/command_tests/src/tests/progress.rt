@@ -90,45 +90,61 @@ fn room_of<'a>(wall: Wall<'a>, image: &'a [u8], script: &'a [u8]) -> Room<'a> {
     }
 }
 
-const RUN: Run<'static> = Run {
-    frames: 64,
-    tlb: false,
-    fail: None,
-    save: None,
-    telling: UNTOLD,
-    image: "image",
-    script: "script",
-};
+// What is done for long.
+#[derive(Clone, Copy)]
+enum Doing {
+    Run,
+    RunTold,
+    Play,
+    Live,
+}
 
-const TELLING: Telling<'static> = Telling {
-    progress: true,
-    ..UNTOLD
-};
+fn run(progress: bool) -> Run<'static> {
+    Run {
+        frames: 64,
+        tlb: false,
+        fail: None,
+        save: None,
+        telling: Telling { progress, ..UNTOLD },
+        image: "image",
+        script: "script",
+    }
+}
 
-const PLAY: Play<'static> = Play {
-    run: RUN,
-    script: None,
-};
+fn play() -> Job<'static> {
+    Job::Play(Play {
+        run: run(false),
+        script: None,
+    })
+}
 
-const LIVE: Live<'static> = Live {
-    frames: 64,
-    quantum: Some(NonZeroU64::MIN),
-    script: None,
-    save: None,
-    terminal: true,
-    image: "image",
-};
+fn live() -> Job<'static> {
+    Job::Live(Live {
+        frames: 64,
+        quantum: Some(NonZeroU64::MIN),
+        script: None,
+        save: None,
+        terminal: true,
+        image: "image",
+    })
+}
 
-// A job, its script, and the lines that are shown.
-type Row = (Job<'static>, &'static [u8], &'static [&'static str]);
+fn job_of(doing: Doing) -> Job<'static> {
+    match doing {
+        Doing::Run => Job::Run(run(false)),
+        Doing::RunTold => Job::Run(run(true)),
+        Doing::Play => play(),
+        Doing::Live => live(),
+    }
+}
 
-const ROWS: [Row; 4] = [
-    (Job::Run(RUN), b"step 65537", &[]),
+// What is done, its script, and the lines that are shown.
+type Row = (Doing, &'static [u8], &'static [&'static str]);
+
+static ROWS: [Row; 4] = [
+    (Doing::Run, b"step 65537", &[]),
     (
-        Job::Run(Run {
-            telling: TELLING,
-            ..RUN
-        }),
+        Doing::RunTold,
         b"step 196609",
         &[
             "        131072 steps,      109226 a second ",
@@ -137,12 +153,12 @@ const ROWS: [Row; 4] = [
         ],
     ),
     (
-        Job::Play(PLAY),
+        Doing::Play,
         b"step 65537",
         &["         65536 steps,       54613 a second ", BLANKS],
     ),
     (
-        Job::Live(LIVE),
+        Doing::Live,
         b"",
         &[
             "             2 steps,           1 a second ",
@@ -169,13 +185,13 @@ fn lines_of(rt: &(impl Abort + AllocGlobal), rows: &[&str]) -> String {
 }
 
 fn expect_shown(rt: &(impl Abort + AllocGlobal), image: &[u8], row: &Row) {
-    let (job, script, rows) = row;
+    let (doing, script, rows) = *row;
     let now = Cell::new(0);
     let shown = Cell::new(String::new(rt.alloc()));
     let wall = wall_of(rt.alloc(), &now, &shown);
     let mut room = room_of(wall, image, script);
     let name = ("a long run", rows.first().copied().unwrap_or("nothing"));
-    expect(rt, name, &mut room, job, ("", "running\n", 0));
+    expect(rt, name, &mut room, &job_of(doing), ("", "running\n", 0));
     let same = shown.into_inner() == lines_of(rt, rows);
     expect_that(rt, name, "what is shown", same);
 }

@@ -1,191 +1,193 @@
 //! Jobs whose files aren't there, can't be written, or aren't what they have to be: nothing is printed, and no image made.
-use crate::tests::images::CHECK;
-use crate::tests::program_files::ASM;
 use crate::tests::{UNTOLD, expect, expect_that, files_of, hello};
 use commands::{Asm, Check, Dump, Flat, Job, Ls, Mkfs, Run};
 use std::process::Abort;
 
-const FLAT: Flat<'static> = Flat {
-    frames: 1,
-    tlb: false,
-    telling: UNTOLD,
-    file: "program",
-    script: "script",
-};
+// What is tried, and with which files.
+#[derive(Clone, Copy)]
+enum Tried {
+    Flat(&'static str, &'static str),
+    Run(&'static str, &'static str),
+    Mkfs(&'static str, &'static str),
+    Check(&'static str),
+    Ls(&'static str),
+    Asm(&'static str, &'static str),
+    Dump(&'static str),
+}
 
-const RUN: Run<'static> = Run {
-    frames: 1,
-    tlb: false,
-    fail: None,
-    save: None,
-    telling: UNTOLD,
-    image: "image",
-    script: "script",
-};
+fn job_of(tried: Tried) -> Job<'static> {
+    match tried {
+        Tried::Flat(file, script) => flat_job(file, script),
+        Tried::Run(image, script) => run_job(image, script),
+        Tried::Mkfs(manifest, image) => mkfs_job(manifest, image),
+        Tried::Check(image) => Job::Check(Check { image }),
+        Tried::Ls(image) => ls_job(image),
+        Tried::Asm(text, elf) => Job::Asm(Asm { text, elf }),
+        Tried::Dump(elf) => Job::Dump(Dump { elf }),
+    }
+}
 
-const MKFS: Mkfs<'static> = Mkfs {
-    size: 32,
-    inodes: 16,
-    manifest: "manifest",
-    image: "image",
-};
+fn flat_job(file: &'static str, script: &'static str) -> Job<'static> {
+    Job::Flat(Flat {
+        frames: 1,
+        tlb: false,
+        telling: UNTOLD,
+        file,
+        script,
+    })
+}
 
-const DUMP: Job<'static> = Job::Dump(Dump { elf: "script" });
+fn run_job(image: &'static str, script: &'static str) -> Job<'static> {
+    Job::Run(Run {
+        frames: 1,
+        tlb: false,
+        fail: None,
+        save: None,
+        telling: UNTOLD,
+        image,
+        script,
+    })
+}
+
+fn mkfs_job(manifest: &'static str, image: &'static str) -> Job<'static> {
+    Job::Mkfs(Mkfs {
+        size: 32,
+        inodes: 16,
+        manifest,
+        image,
+    })
+}
+
+fn ls_job(image: &'static str) -> Job<'static> {
+    Job::Ls(Ls {
+        recursive: false,
+        image,
+        path: "/",
+    })
+}
+
+const ASM: Tried = Tried::Asm("script", "image");
+
+const DUMP: Tried = Tried::Dump("script");
 
 // What is tried, the text of the script or the manifest, the job, and why it isn't done.
-type Refused = (&'static str, &'static [u8], Job<'static>, &'static str);
+type Refused = (&'static str, &'static [u8], Tried, &'static str);
 
-const REFUSED: [Refused; 34] = [
+static REFUSED: [Refused; 34] = [
     // A program, and then its script.
     (
         "a flat run reads files in order",
         b"",
-        Job::Flat(Flat {
-            file: "none",
-            script: "nothing",
-            ..FLAT
-        }),
+        Tried::Flat("none", "nothing"),
         "cannot read none\n",
     ),
     (
         "a flat run reads files in order",
         b"",
-        Job::Flat(Flat {
-            script: "nothing",
-            ..FLAT
-        }),
+        Tried::Flat("program", "nothing"),
         "cannot read nothing\n",
     ),
     (
         "a flat run reads files in order",
         b"step 1\xff",
-        Job::Flat(FLAT),
+        Tried::Flat("program", "script"),
         "cannot read script\n",
     ),
     (
         "a flat run reads files in order",
         b"step",
-        Job::Flat(FLAT),
+        Tried::Flat("program", "script"),
         "script line 1\n",
     ),
     (
         "a flat run reads files in order",
         b"step 1",
-        Job::Flat(FLAT),
+        Tried::Flat("program", "script"),
         "fault 2 FrameCount\n",
     ),
     // An image, and then the script.
     (
         "a run reads the image first",
         b"",
-        Job::Run(Run {
-            image: "none",
-            script: "nothing",
-            ..RUN
-        }),
+        Tried::Run("none", "nothing"),
         "cannot read none\n",
     ),
     (
         "a run reads the image first",
         b"",
-        Job::Run(Run {
-            script: "nothing",
-            ..RUN
-        }),
+        Tried::Run("image", "nothing"),
         "cannot read nothing\n",
     ),
     (
         "a run reads the image first",
         b"step 1\xff",
-        Job::Run(RUN),
+        Tried::Run("image", "script"),
         "cannot read script\n",
     ),
     (
         "a run reads the image first",
         b"step 1\nstep",
-        Job::Run(Run {
-            image: "script",
-            ..RUN
-        }),
+        Tried::Run("script", "script"),
         "script line 2\n",
     ),
     (
         "a run reads the image first",
         b"step 1",
-        Job::Run(Run {
-            image: "script",
-            ..RUN
-        }),
+        Tried::Run("script", "script"),
         "fault 1 Length\n",
     ),
     (
         "a run reads the image first",
         b"step 1",
-        Job::Run(RUN),
+        Tried::Run("image", "script"),
         "fault 2 FrameCount\n",
     ),
     (
         "files of images that cannot be used",
         b"",
-        Job::Mkfs(Mkfs {
-            manifest: "none",
-            ..MKFS
-        }),
+        Tried::Mkfs("none", "image"),
         "cannot read none\n",
     ),
     (
         "files of images that cannot be used",
         b"",
-        Job::Mkfs(Mkfs {
-            image: "none",
-            ..MKFS
-        }),
+        Tried::Mkfs("manifest", "none"),
         "cannot write none\n",
     ),
     (
         "files of images that cannot be used",
         b"",
-        Job::Check(Check { image: "none" }),
+        Tried::Check("none"),
         "cannot read none\n",
     ),
     (
         "files of images that cannot be used",
         b"",
-        CHECK,
+        Tried::Check("image"),
         "fault 1 Length\n",
     ),
     (
         "files of images that cannot be used",
         b"",
-        Job::Ls(Ls {
-            recursive: false,
-            image: "nosuch",
-            path: "/",
-        }),
+        Tried::Ls("nosuch"),
         "cannot read nosuch\n",
     ),
     (
         "files of programs that are not there",
         b"ret",
-        Job::Asm(Asm {
-            text: "nosuch",
-            elf: "image",
-        }),
+        Tried::Asm("nosuch", "image"),
         "cannot read nosuch\n",
     ),
     (
         "files of programs that are not there",
         b"ret",
-        Job::Asm(Asm {
-            text: "script",
-            elf: "nosuch",
-        }),
+        Tried::Asm("script", "nosuch"),
         "cannot write nosuch\n",
     ),
     (
         "files of programs that are not there",
         b"ret",
-        Job::Dump(Dump { elf: "nosuch" }),
+        Tried::Dump("nosuch"),
         "cannot read nosuch\n",
     ),
     ("what is wrong with texts", b"_x", ASM, "line 1: 1 Syntax\n"),
@@ -257,11 +259,11 @@ const REFUSED: [Refused; 34] = [
 
 // The program is that which says `hi`, and the image has no byte.
 fn expect_refused(rt: &(impl Abort + AllocGlobal), row: &Refused) {
-    let (subject, text, job, line) = row;
+    let (subject, text, tried, line) = *row;
     let bytes = hello(rt.alloc()).expect(rt, "memory");
     let mut files = files_of(rt.alloc(), bytes, text).expect(rt, "memory");
-    let name = (*subject, *line);
-    expect(rt, name, &mut files, job, ("", line, 1));
+    let name = (subject, line);
+    expect(rt, name, &mut files, &job_of(tried), ("", line, 1));
     expect_that(rt, name, "no image", files.image.is_empty());
 }
 

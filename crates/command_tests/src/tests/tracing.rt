@@ -6,18 +6,16 @@ use commands::{Job, Lines, Part, Run, Trace};
 use std::num::NonZeroU64;
 use std::process::Abort;
 
-const RUN: Run<'static> = Run {
-    frames: 64,
-    tlb: false,
-    fail: None,
-    save: None,
-    telling: UNTOLD,
-    image: "image",
-    script: "record",
-};
-
 pub const ALL: Trace<'static> = Trace {
-    run: RUN,
+    run: Run {
+        frames: 64,
+        tlb: false,
+        fail: None,
+        save: None,
+        telling: UNTOLD,
+        image: "image",
+        script: "record",
+    },
     part: Part {
         pid: None,
         calls: None,
@@ -39,15 +37,20 @@ pub const ALL: Trace<'static> = Trace {
 const TEXT: &str =
     "[pid 1] write(1, \"hi\\n\", 3) = -1\n[pid 1] exit(0) = ?\n[pid 1] +++ ended with 0 +++\n";
 
-// A name, what is traced, how long its file may get, standard error and status, and how the file ends.
-type Row = (
-    &'static str,
-    Trace<'static>,
-    usize,
-    &'static str,
-    u8,
-    &'static str,
-);
+// What is traced into the file, if it is that, and whether the image that is left can be written and the boot fails.
+struct Row {
+    name: &'static str,
+    text: Option<&'static str>,
+    perfetto: Option<&'static str>,
+    commits: Option<&'static str>,
+    save: Option<&'static str>,
+    fail: u64,
+    // How long the file may get, standard error and status, and how the file ends.
+    room: usize,
+    stderr: &'static str,
+    status: u8,
+    end: &'static str,
+}
 
 const ENDED: &str = "halt 1 InitEnded 0\n";
 
@@ -65,108 +68,120 @@ const UNSAVED: &str = "halt 1 InitEnded 0\ncannot write none\n";
 
 const UNBOOTED: &str = "fault 3 Device\n";
 
-const TRACED: [Row; 7] = [
-    (
-        "a text in a file",
-        Trace {
-            text: Some("record"),
-            ..ALL
-        },
-        1000,
-        ENDED,
-        0,
-        TEXT,
-    ),
-    (
-        "a trace for Perfetto in a file",
-        Trace {
-            perfetto: Some("record"),
-            ..ALL
-        },
-        10000,
-        TOLD_AND_ENDED,
-        0,
-        "\n]}\n",
-    ),
-    (
-        "commits in a file",
-        Trace {
-            commits: Some("record"),
-            ..ALL
-        },
-        10000,
-        TOLD_AND_ENDED,
-        0,
-        "(0x00200893) x17 0x0000000000000002\n# pid 1 ended with 0\n",
-    ),
-    (
-        "a text that finds no room",
-        Trace {
-            text: Some("record"),
-            ..ALL
-        },
-        10,
-        LOST,
-        1,
-        "",
-    ),
-    (
-        "commits that find no room",
-        Trace {
-            commits: Some("record"),
-            ..ALL
-        },
-        10,
-        TOLD_AND_LOST,
-        1,
-        "",
-    ),
-    (
-        "a run that can't be saved",
-        Trace {
-            run: Run {
-                save: Some("none"),
-                ..RUN
-            },
-            text: Some("record"),
-            ..ALL
-        },
-        1000,
-        UNSAVED,
-        1,
-        TEXT,
-    ),
-    (
-        "a boot that fails",
-        Trace {
-            run: Run {
-                fail: Some(NonZeroU64::MIN),
-                ..RUN
-            },
-            text: Some("record"),
-            ..ALL
-        },
-        1000,
-        UNBOOTED,
-        1,
-        "",
-    ),
+static TRACED: [Row; 7] = [
+    Row {
+        name: "a text in a file",
+        text: Some("record"),
+        perfetto: None,
+        commits: None,
+        save: None,
+        fail: 0,
+        room: 1000,
+        stderr: ENDED,
+        status: 0,
+        end: TEXT,
+    },
+    Row {
+        name: "a trace for Perfetto in a file",
+        text: None,
+        perfetto: Some("record"),
+        commits: None,
+        save: None,
+        fail: 0,
+        room: 10000,
+        stderr: TOLD_AND_ENDED,
+        status: 0,
+        end: "\n]}\n",
+    },
+    Row {
+        name: "commits in a file",
+        text: None,
+        perfetto: None,
+        commits: Some("record"),
+        save: None,
+        fail: 0,
+        room: 10000,
+        stderr: TOLD_AND_ENDED,
+        status: 0,
+        end: "(0x00200893) x17 0x0000000000000002\n# pid 1 ended with 0\n",
+    },
+    Row {
+        name: "a text that finds no room",
+        text: Some("record"),
+        perfetto: None,
+        commits: None,
+        save: None,
+        fail: 0,
+        room: 10,
+        stderr: LOST,
+        status: 1,
+        end: "",
+    },
+    Row {
+        name: "commits that find no room",
+        text: None,
+        perfetto: None,
+        commits: Some("record"),
+        save: None,
+        fail: 0,
+        room: 10,
+        stderr: TOLD_AND_LOST,
+        status: 1,
+        end: "",
+    },
+    Row {
+        name: "a run that can't be saved",
+        text: Some("record"),
+        perfetto: None,
+        commits: None,
+        save: Some("none"),
+        fail: 0,
+        room: 1000,
+        stderr: UNSAVED,
+        status: 1,
+        end: TEXT,
+    },
+    Row {
+        name: "a boot that fails",
+        text: Some("record"),
+        perfetto: None,
+        commits: None,
+        save: None,
+        fail: 1,
+        room: 1000,
+        stderr: UNBOOTED,
+        status: 1,
+        end: "",
+    },
 ];
+
+fn job_of(row: &Row) -> Job<'static> {
+    Job::Trace(Trace {
+        run: Run {
+            fail: NonZeroU64::new(row.fail),
+            save: row.save,
+            ..ALL.run
+        },
+        text: row.text,
+        perfetto: row.perfetto,
+        commits: row.commits,
+        ..ALL
+    })
+}
 
 // Traces a run of nine steps.
 fn expect_traced(rt: &(impl Abort + AllocGlobal), image: &[u8], row: &Row) {
-    let (name, trace, room, stderr, status, end) = *row;
-    let mut desk = desk_of(rt.alloc(), image, b"", room).expect(rt, "memory");
+    let name = ("a trace", row.name);
+    let mut desk = desk_of(rt.alloc(), image, b"", row.room).expect(rt, "memory");
     desk.record = b"step 9".to_vec(rt.alloc()).expect(rt, "memory");
-    let name = ("a trace", name);
     expect(
         rt,
         name,
         &mut desk,
-        &Job::Trace(trace),
-        ("", stderr, status),
+        &job_of(row),
+        ("", row.stderr, row.status),
     );
-    let same = desk.record.as_slice().ends_with(end.as_bytes());
+    let same = desk.record.as_slice().ends_with(row.end.as_bytes());
     expect_that(rt, name, "its file", same);
 }
 

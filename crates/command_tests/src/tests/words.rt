@@ -22,257 +22,6 @@ const PLAIN: Run<'static> = Run {
     script: "b",
 };
 
-const JOBS: [(&[&str], Job<'static>); 21] = [
-    (
-        &["xv6", "flat", "a", "b"],
-        Job::Flat(Flat {
-            frames: 256,
-            tlb: false,
-            telling: UNTOLD,
-            file: "a",
-            script: "b",
-        }),
-    ),
-    (
-        &["xv6", "flat", "--frames", "4294967295", "--", "a", "-b"],
-        Job::Flat(Flat {
-            frames: 4294967295,
-            tlb: false,
-            telling: UNTOLD,
-            file: "a",
-            script: "-b",
-        }),
-    ),
-    (
-        &["xv6", "flat", "--tlb", "--frames=64", "a", "b"],
-        Job::Flat(Flat {
-            frames: 64,
-            tlb: true,
-            telling: UNTOLD,
-            file: "a",
-            script: "b",
-        }),
-    ),
-    (
-        &["xv6", "run", "a", "b"],
-        Job::Run(Run {
-            frames: 256,
-            tlb: false,
-            fail: None,
-            save: None,
-            telling: UNTOLD,
-            image: "a",
-            script: "b",
-        }),
-    ),
-    (
-        &[
-            "xv6",
-            "run",
-            "--save",
-            "c",
-            "--tlb",
-            "a",
-            "--frames=64",
-            "b",
-        ],
-        Job::Run(Run {
-            frames: 64,
-            tlb: true,
-            fail: None,
-            save: Some("c"),
-            telling: UNTOLD,
-            image: "a",
-            script: "b",
-        }),
-    ),
-    (
-        &["xv6", "run", "--fail", "1", "a", "b"],
-        Job::Run(Run {
-            frames: 256,
-            tlb: false,
-            fail: Some(NonZeroU64::MIN),
-            save: None,
-            telling: UNTOLD,
-            image: "a",
-            script: "b",
-        }),
-    ),
-    (
-        &["xv6", "mkfs", "a", "b"],
-        Job::Mkfs(Mkfs {
-            size: 2000,
-            inodes: 200,
-            manifest: "a",
-            image: "b",
-        }),
-    ),
-    (
-        &["xv6", "mkfs", "--inodes", "16", "--size=32", "a", "b"],
-        Job::Mkfs(Mkfs {
-            size: 32,
-            inodes: 16,
-            manifest: "a",
-            image: "b",
-        }),
-    ),
-    (&["xv6", "check", "b"], Job::Check(Check { image: "b" })),
-    (
-        &["xv6", "ls", "a", ""],
-        Job::Ls(Ls {
-            recursive: false,
-            image: "a",
-            path: "",
-        }),
-    ),
-    (
-        &["xv6", "migrate", "a", "b"],
-        Job::Migrate(Migrate { old: "a", new: "b" }),
-    ),
-    (
-        &["xv6", "asm", "a", "b"],
-        Job::Asm(Asm {
-            text: "a",
-            elf: "b",
-        }),
-    ),
-    (&["xv6", "dump", "b"], Job::Dump(Dump { elf: "b" })),
-    (
-        &["xv6", "live", "b"],
-        Job::Live(Live {
-            frames: 256,
-            quantum: None,
-            script: None,
-            save: None,
-            terminal: false,
-            image: "b",
-        }),
-    ),
-    (
-        &[
-            "xv6",
-            "live",
-            "--record=c",
-            "--terminal",
-            "--frames=64",
-            "--quantum",
-            "1",
-            "b",
-            "--save=d",
-        ],
-        Job::Live(Live {
-            frames: 64,
-            quantum: Some(NonZeroU64::MIN),
-            script: Some("c"),
-            save: Some("d"),
-            terminal: true,
-            image: "b",
-        }),
-    ),
-    (
-        &[
-            "xv6",
-            "run",
-            "--report",
-            "--json",
-            "c",
-            "--status",
-            "--progress",
-            "--explain",
-            "a",
-            "b",
-        ],
-        Job::Run(Run {
-            frames: 256,
-            tlb: false,
-            fail: None,
-            save: None,
-            telling: Telling {
-                report: true,
-                json: Some("c"),
-                registers: None,
-                memory: None,
-                status: true,
-                progress: true,
-            },
-            image: "a",
-            script: "b",
-        }),
-    ),
-    (
-        &["xv6", "play", "--script", "c", "a", "b"],
-        Job::Play(Play {
-            run: PLAIN,
-            script: Some("c"),
-        }),
-    ),
-    (
-        &[
-            "xv6",
-            "trace",
-            "--calls",
-            "read,write",
-            "--bytes",
-            "0",
-            "--each",
-            "--time",
-            "--turns",
-            "--core-is-pid",
-            "--text",
-            "c",
-            "--perfetto",
-            "d",
-            "--commits",
-            "e",
-            "a",
-            "b",
-        ],
-        Job::Trace(Trace {
-            run: PLAIN,
-            part: Part {
-                pid: None,
-                calls: Some("read,write"),
-                from: None,
-                to: None,
-            },
-            lines: Lines {
-                bytes: 0,
-                each: true,
-                time: true,
-                turns: true,
-                core_is_pid: true,
-            },
-            text: Some("c"),
-            perfetto: Some("d"),
-            commits: Some("e"),
-        }),
-    ),
-    (
-        &["xv6", "ls", "-R", "a", "/"],
-        Job::Ls(Ls {
-            recursive: true,
-            image: "a",
-            path: "/",
-        }),
-    ),
-    (
-        &["xv6", "get", "a", "/b"],
-        Job::Get(Get {
-            image: "a",
-            path: "/b",
-            out: None,
-        }),
-    ),
-    (
-        &["xv6", "put", "a", "/b", "c"],
-        Job::Put(Put {
-            image: "a",
-            path: "/b",
-            file: "c",
-        }),
-    ),
-];
-
 fn expect_job(rt: &(impl Abort + AllocGlobal), words: &[&str], wanted: &Job<'_>) {
     let found = job(rt.alloc(), words).expect(rt, "a job");
     let name = words.get(1).copied().unwrap_or("");
@@ -514,10 +263,306 @@ static EXPLAINS: [(&[&str], bool); 4] = [
     (&["xv6", "check", "--", "--explain"], false),
 ];
 
+fn expect_flat_jobs(rt: &(impl Abort + AllocGlobal)) {
+    expect_job(
+        rt,
+        &["xv6", "flat", "a", "b"],
+        &Job::Flat(Flat {
+            frames: 256,
+            tlb: false,
+            telling: UNTOLD,
+            file: "a",
+            script: "b",
+        }),
+    );
+    expect_job(
+        rt,
+        &["xv6", "flat", "--frames", "4294967295", "--", "a", "-b"],
+        &Job::Flat(Flat {
+            frames: 4294967295,
+            tlb: false,
+            telling: UNTOLD,
+            file: "a",
+            script: "-b",
+        }),
+    );
+    expect_job(
+        rt,
+        &["xv6", "flat", "--tlb", "--frames=64", "a", "b"],
+        &Job::Flat(Flat {
+            frames: 64,
+            tlb: true,
+            telling: UNTOLD,
+            file: "a",
+            script: "b",
+        }),
+    );
+}
+
+fn expect_run_jobs(rt: &(impl Abort + AllocGlobal)) {
+    expect_job(
+        rt,
+        &["xv6", "run", "a", "b"],
+        &Job::Run(Run {
+            frames: 256,
+            tlb: false,
+            fail: None,
+            save: None,
+            telling: UNTOLD,
+            image: "a",
+            script: "b",
+        }),
+    );
+    expect_job(
+        rt,
+        &[
+            "xv6",
+            "run",
+            "--save",
+            "c",
+            "--tlb",
+            "a",
+            "--frames=64",
+            "b",
+        ],
+        &Job::Run(Run {
+            frames: 64,
+            tlb: true,
+            fail: None,
+            save: Some("c"),
+            telling: UNTOLD,
+            image: "a",
+            script: "b",
+        }),
+    );
+    expect_job(
+        rt,
+        &["xv6", "run", "--fail", "1", "a", "b"],
+        &Job::Run(Run {
+            frames: 256,
+            tlb: false,
+            fail: Some(NonZeroU64::MIN),
+            save: None,
+            telling: UNTOLD,
+            image: "a",
+            script: "b",
+        }),
+    );
+    expect_job(
+        rt,
+        &[
+            "xv6",
+            "run",
+            "--report",
+            "--json",
+            "c",
+            "--status",
+            "--progress",
+            "--explain",
+            "a",
+            "b",
+        ],
+        &Job::Run(Run {
+            frames: 256,
+            tlb: false,
+            fail: None,
+            save: None,
+            telling: Telling {
+                report: true,
+                json: Some("c"),
+                registers: None,
+                memory: None,
+                status: true,
+                progress: true,
+            },
+            image: "a",
+            script: "b",
+        }),
+    );
+}
+
+fn expect_image_jobs(rt: &(impl Abort + AllocGlobal)) {
+    expect_job(
+        rt,
+        &["xv6", "mkfs", "a", "b"],
+        &Job::Mkfs(Mkfs {
+            size: 2000,
+            inodes: 200,
+            manifest: "a",
+            image: "b",
+        }),
+    );
+    expect_job(
+        rt,
+        &["xv6", "mkfs", "--inodes", "16", "--size=32", "a", "b"],
+        &Job::Mkfs(Mkfs {
+            size: 32,
+            inodes: 16,
+            manifest: "a",
+            image: "b",
+        }),
+    );
+    expect_job(
+        rt,
+        &["xv6", "check", "b"],
+        &Job::Check(Check { image: "b" }),
+    );
+    expect_job(
+        rt,
+        &["xv6", "migrate", "a", "b"],
+        &Job::Migrate(Migrate { old: "a", new: "b" }),
+    );
+}
+
+fn expect_path_jobs(rt: &(impl Abort + AllocGlobal)) {
+    expect_job(
+        rt,
+        &["xv6", "ls", "a", ""],
+        &Job::Ls(Ls {
+            recursive: false,
+            image: "a",
+            path: "",
+        }),
+    );
+    expect_job(
+        rt,
+        &["xv6", "ls", "-R", "a", "/"],
+        &Job::Ls(Ls {
+            recursive: true,
+            image: "a",
+            path: "/",
+        }),
+    );
+    expect_job(
+        rt,
+        &["xv6", "get", "a", "/b"],
+        &Job::Get(Get {
+            image: "a",
+            path: "/b",
+            out: None,
+        }),
+    );
+    expect_job(
+        rt,
+        &["xv6", "put", "a", "/b", "c"],
+        &Job::Put(Put {
+            image: "a",
+            path: "/b",
+            file: "c",
+        }),
+    );
+}
+
+fn expect_program_jobs(rt: &(impl Abort + AllocGlobal)) {
+    expect_job(
+        rt,
+        &["xv6", "asm", "a", "b"],
+        &Job::Asm(Asm {
+            text: "a",
+            elf: "b",
+        }),
+    );
+    expect_job(rt, &["xv6", "dump", "b"], &Job::Dump(Dump { elf: "b" }));
+}
+
+fn expect_live_jobs(rt: &(impl Abort + AllocGlobal)) {
+    expect_job(
+        rt,
+        &["xv6", "live", "b"],
+        &Job::Live(Live {
+            frames: 256,
+            quantum: None,
+            script: None,
+            save: None,
+            terminal: false,
+            image: "b",
+        }),
+    );
+    expect_job(
+        rt,
+        &[
+            "xv6",
+            "live",
+            "--record=c",
+            "--terminal",
+            "--frames=64",
+            "--quantum",
+            "1",
+            "b",
+            "--save=d",
+        ],
+        &Job::Live(Live {
+            frames: 64,
+            quantum: Some(NonZeroU64::MIN),
+            script: Some("c"),
+            save: Some("d"),
+            terminal: true,
+            image: "b",
+        }),
+    );
+}
+
+fn expect_play_and_trace_jobs(rt: &(impl Abort + AllocGlobal)) {
+    expect_job(
+        rt,
+        &["xv6", "play", "--script", "c", "a", "b"],
+        &Job::Play(Play {
+            run: PLAIN,
+            script: Some("c"),
+        }),
+    );
+    expect_job(
+        rt,
+        &[
+            "xv6",
+            "trace",
+            "--calls",
+            "read,write",
+            "--bytes",
+            "0",
+            "--each",
+            "--time",
+            "--turns",
+            "--core-is-pid",
+            "--text",
+            "c",
+            "--perfetto",
+            "d",
+            "--commits",
+            "e",
+            "a",
+            "b",
+        ],
+        &Job::Trace(Trace {
+            run: PLAIN,
+            part: Part {
+                pid: None,
+                calls: Some("read,write"),
+                from: None,
+                to: None,
+            },
+            lines: Lines {
+                bytes: 0,
+                each: true,
+                time: true,
+                turns: true,
+                core_is_pid: true,
+            },
+            text: Some("c"),
+            perfetto: Some("d"),
+            commits: Some("e"),
+        }),
+    );
+}
+
 fn expect_jobs(rt: &(impl Abort + AllocGlobal)) {
-    for (words, wanted) in &JOBS {
-        expect_job(rt, words, wanted);
-    }
+    expect_flat_jobs(rt);
+    expect_run_jobs(rt);
+    expect_image_jobs(rt);
+    expect_path_jobs(rt);
+    expect_program_jobs(rt);
+    expect_live_jobs(rt);
+    expect_play_and_trace_jobs(rt);
 }
 
 fn expect_counts(rt: &(impl Abort + AllocGlobal)) {
