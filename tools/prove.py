@@ -107,19 +107,36 @@ def all_below(name, crates):
     return found
 
 
+def lines_of(name):
+    """How many lines a crate's code, specs and proofs have, which tells about how long its check takes."""
+    files = [it for folder in ("src", "specs", "proofs") for it in (CRATES / name / folder).rglob("*") if it.is_file()]
+    return sum(it.read_bytes().count(b"\n") for it in files)
+
+
+def chains(names, crates):
+    """How many lines the longest chain of these crates has that begins with each and goes on to what stands on it."""
+    found = {}
+    for name in reversed(with_all_above(names, crates)):
+        if name in names:
+            found[name] = lines_of(name) + max((found[it] for it in found if name in crates[it]), default=0)
+    return found
+
+
 def build_library(name):
     return subprocess.run(["rt", "lib", "--jobs", "1"], cwd=CRATES / name, stdout=subprocess.PIPE, stderr=subprocess.STDOUT, text=True)
 
 
 def prove_below(name, jobs):
-    """What a crate stands on: each crate once all below it are libraries, up to the first that isn't proved."""
+    """What a crate stands on: each crate once all below it are libraries, the longest chains first, up to the first that isn't proved."""
     started, crates = time.monotonic(), read_crates()
     left, done, at_work = all_below(name, crates), set(), {}
+    chain = chains(left, crates)
     with ThreadPoolExecutor(jobs) as pool:
         while left or at_work:
-            ready = sorted(it for it in left if done.issuperset(crates[it]))
-            at_work |= {pool.submit(build_library, it): it for it in ready}
-            left.difference_update(ready)
+            ready = sorted((it for it in left if done.issuperset(crates[it])), key=chain.get, reverse=True)
+            begun = ready[: jobs - len(at_work)]
+            at_work |= {pool.submit(build_library, it): it for it in begun}
+            left.difference_update(begun)
             for built in wait(at_work, return_when=FIRST_COMPLETED).done:
                 crate, ran = at_work.pop(built), built.result()
                 tell(crate, ran.stdout.splitlines(keepends=True), started)
