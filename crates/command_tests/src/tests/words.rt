@@ -22,34 +22,28 @@ const PLAIN: Run<'static> = Run {
     script: "b",
 };
 
-fn expect_job(rt: &(impl Abort + AllocGlobal), words: &[&str], wanted: &Job<'_>) {
-    let found = job(rt.alloc(), words).expect(rt, "a job");
-    let name = words.get(1).copied().unwrap_or("");
-    expect_that(rt, ("a job", name), "the job", found == *wanted);
+// The words of a line, with one space between two of them.
+fn words_of<'a>(rt: &(impl Abort + AllocGlobal), line: &'a str) -> Vec<&'a str> {
+    line.split(' ').collect(rt.alloc()).expect(rt, "the words")
+}
+
+fn expect_job(rt: &(impl Abort + AllocGlobal), line: &str, wanted: &Job<'_>) {
+    let words = words_of(rt, line);
+    let found = job(rt.alloc(), words.as_slice()).expect(rt, "a job");
+    expect_that(rt, ("a job", line), "the job", found == *wanted);
 }
 
 // Each number from 1 on has its own option.
-fn counts() -> ([&'static str; 12], Job<'static>) {
-    let words = [
-        "xv6",
-        "trace",
-        "--save=c",
-        "a",
-        "--fail=4294967295",
-        "--registers",
-        "1",
-        "--memory=2",
-        "--pid=3",
-        "--from=4",
-        "--to=5",
-        "b",
-    ];
+static COUNTS: &str =
+    "xv6 trace --save=c a --fail=4294967295 --registers 1 --memory=2 --pid=3 --from=4 --to=5 b";
+
+fn counts() -> Job<'static> {
     let telling = Telling {
         registers: NonZeroU64::new(1),
         memory: NonZeroU64::new(2),
         ..UNTOLD
     };
-    let wanted = Job::Trace(Trace {
+    Job::Trace(Trace {
         run: Run {
             fail: NonZeroU64::new(4294967295),
             save: Some("c"),
@@ -72,119 +66,69 @@ fn counts() -> ([&'static str; 12], Job<'static>) {
         text: None,
         perfetto: None,
         commits: None,
-    });
-    (words, wanted)
+    })
 }
 
-// The error of words that are no job.
-fn error_of(rt: &(impl Abort + AllocGlobal), words: &[&str]) -> Error {
-    job(rt.alloc(), words).err().expect(rt, "an error")
+// The error of a line that is no job.
+fn error_of(rt: &(impl Abort + AllocGlobal), line: &str) -> Error {
+    let words = words_of(rt, line);
+    job(rt.alloc(), words.as_slice())
+        .err()
+        .expect(rt, "an error")
 }
 
-static REFUSALS: [(&[&str], ErrorKind); 23] = [
-    (&["xv6", "--help", "", ""], ErrorKind::DisplayHelp),
-    (&["xv6", "flat", "a", "--help"], ErrorKind::DisplayHelp),
-    (&["xv6", "sharp", "a", "b"], ErrorKind::InvalidSubcommand),
-    (
-        &["xv6", "flat", "--frames=1", "a"],
-        ErrorKind::MissingRequiredArgument,
-    ),
-    (
-        &["xv6", "run", "--save", "a", "b"],
-        ErrorKind::MissingRequiredArgument,
-    ),
-    (
-        &["xv6", "run", "--frames=", "a", "b"],
-        ErrorKind::ValueValidation,
-    ),
-    (&["xv6", "ls", "a"], ErrorKind::MissingRequiredArgument),
-    (&["xv6", "migrate", "a"], ErrorKind::MissingRequiredArgument),
-    (&["xv6", "asm", "a"], ErrorKind::MissingRequiredArgument),
-    (&["xv6", "dump"], ErrorKind::MissingRequiredArgument),
-    (
-        &["xv6", "flat", "--frames=x", "a"],
-        ErrorKind::ValueValidation,
-    ),
-    (
-        &["xv6", "flat", "--frames=4294967296", "a"],
-        ErrorKind::ValueValidation,
-    ),
-    (
-        &["xv6", "flat", "--frames", "+64", "a", "b"],
-        ErrorKind::ValueValidation,
-    ),
-    (
-        &["xv6", "mkfs", "--inodes=+16", "a", "b"],
-        ErrorKind::ValueValidation,
-    ),
-    (
-        &["xv6", "run", "--fail", "0", "a", "b"],
-        ErrorKind::ValueValidation,
-    ),
-    (
-        &["xv6", "run", "--fail=4294967296", "a", "b"],
-        ErrorKind::ValueValidation,
-    ),
-    (
-        &["xv6", "run", "--fail", "+1", "a", "b"],
-        ErrorKind::ValueValidation,
-    ),
-    (
-        &["xv6", "run", "--fail=-1", "a", "b"],
-        ErrorKind::ValueValidation,
-    ),
-    (
-        &["xv6", "run", "--fail=", "a", "b"],
-        ErrorKind::ValueValidation,
-    ),
-    (
-        &["xv6", "flat", "--fail", "1", "a", "b"],
-        ErrorKind::UnknownArgument,
-    ),
-    (&["xv6", "live"], ErrorKind::MissingRequiredArgument),
-    (
-        &["xv6", "live", "--quantum=0", "a"],
-        ErrorKind::ValueValidation,
-    ),
-    (&["xv6", "live", "a", "b"], ErrorKind::UnknownArgument),
+static REFUSALS: [(&str, ErrorKind); 23] = [
+    ("xv6 --help  ", ErrorKind::DisplayHelp),
+    ("xv6 flat a --help", ErrorKind::DisplayHelp),
+    ("xv6 sharp a b", ErrorKind::InvalidSubcommand),
+    ("xv6 flat --frames=1 a", ErrorKind::MissingRequiredArgument),
+    ("xv6 run --save a b", ErrorKind::MissingRequiredArgument),
+    ("xv6 run --frames= a b", ErrorKind::ValueValidation),
+    ("xv6 ls a", ErrorKind::MissingRequiredArgument),
+    ("xv6 migrate a", ErrorKind::MissingRequiredArgument),
+    ("xv6 asm a", ErrorKind::MissingRequiredArgument),
+    ("xv6 dump", ErrorKind::MissingRequiredArgument),
+    ("xv6 flat --frames=x a", ErrorKind::ValueValidation),
+    ("xv6 flat --frames=4294967296 a", ErrorKind::ValueValidation),
+    ("xv6 flat --frames +64 a b", ErrorKind::ValueValidation),
+    ("xv6 mkfs --inodes=+16 a b", ErrorKind::ValueValidation),
+    ("xv6 run --fail 0 a b", ErrorKind::ValueValidation),
+    ("xv6 run --fail=4294967296 a b", ErrorKind::ValueValidation),
+    ("xv6 run --fail +1 a b", ErrorKind::ValueValidation),
+    ("xv6 run --fail=-1 a b", ErrorKind::ValueValidation),
+    ("xv6 run --fail= a b", ErrorKind::ValueValidation),
+    ("xv6 flat --fail 1 a b", ErrorKind::UnknownArgument),
+    ("xv6 live", ErrorKind::MissingRequiredArgument),
+    ("xv6 live --quantum=0 a", ErrorKind::ValueValidation),
+    ("xv6 live a b", ErrorKind::UnknownArgument),
 ];
 
-// What is told of words that are no job: the words, how many bytes standard output takes, how standard error begins, and
+// What is told of a line that is no job: the line, how many bytes standard output takes, how standard error begins, and
 // the status.
-type Told = (&'static [&'static str], usize, &'static str, u8);
+type Told = (&'static str, usize, &'static str, u8);
 
 static TOLD: [Told; 5] = [
-    (&["xv6", "--help"], 100_000, "", 0),
-    (&["xv6", "--help"], 99, "cannot write standard output\n", 1),
-    (&["xv6", "sharp"], 100_000, "error: ", 2),
-    (
-        &["xv6", "flat", "--frames", "+64", "a", "b"],
-        100_000,
-        "error: ",
-        2,
-    ),
-    (
-        &["xv6", "run", "--fail", "0", "a", "b"],
-        100_000,
-        "error: ",
-        2,
-    ),
+    ("xv6 --help", 100_000, "", 0),
+    ("xv6 --help", 99, "cannot write standard output\n", 1),
+    ("xv6 sharp", 100_000, "error: ", 2),
+    ("xv6 flat --frames +64 a b", 100_000, "error: ", 2),
+    ("xv6 run --fail 0 a b", 100_000, "error: ", 2),
 ];
 
 fn expect_told(rt: &(impl Abort + AllocGlobal), row: &Told) {
-    let (words, room, line, status) = *row;
+    let (line, room, begin, status) = *row;
     let mut out = output_of(rt.alloc(), room, true);
     let mut err = Vec::new(rt.alloc());
-    let ended = refuse(&error_of(rt, words), &mut out, &mut err);
-    let told = ended == status && err.starts_with(line.as_bytes());
+    let ended = refuse(&error_of(rt, line), &mut out, &mut err);
+    let told = ended == status && err.starts_with(begin.as_bytes());
     expect_that(rt, ("words", line), "what is told", told);
 }
 
 // The help of words, and what it has to name. Its ranges are those whose ends are taken and beyond which all is refused:
 // `BOOTS`, and `needs_frames` in `runs.rt`; `IMAGE_NUMBERS` and `NUMBER_FAULTS` in `images.rt`.
-static HELP: [(&[&str], &[&str]); 5] = [
+static HELP: [(&str, &[&str]); 5] = [
     (
-        &["xv6", "--help"],
+        "xv6 --help",
         &[
             "flat",
             "run",
@@ -207,7 +151,7 @@ static HELP: [(&[&str], &[&str]); 5] = [
         ],
     ),
     (
-        &["xv6", "run", "--help"],
+        "xv6 run --help",
         &[
             "IMAGE",
             "SCRIPT",
@@ -223,16 +167,13 @@ static HELP: [(&[&str], &[&str]); 5] = [
             "keys HEX",
         ],
     ),
+    ("xv6 flat --help", &["Frames of 4096 bytes, 64 to 32768"]),
     (
-        &["xv6", "flat", "--help"],
-        &["Frames of 4096 bytes, 64 to 32768"],
-    ),
-    (
-        &["xv6", "mkfs", "--help"],
+        "xv6 mkfs --help",
         &["Blocks of 1024 bytes, 32 to 131072", "Inodes, 16 to 8192"],
     ),
     (
-        &["xv6", "live", "--help"],
+        "xv6 live --help",
         &[
             "IMAGE",
             "Frames of 4096 bytes, 64 to 32768",
@@ -247,26 +188,26 @@ static HELP: [(&[&str], &[&str]); 5] = [
     ),
 ];
 
-fn expect_help(rt: &(impl Abort + AllocGlobal), words: &[&str], named: &[&str]) {
+fn expect_help(rt: &(impl Abort + AllocGlobal), line: &str, named: &[&str]) {
     let mut out = output_of(rt.alloc(), 100_000, true);
     let mut err = Vec::new(rt.alloc());
-    let ended = refuse(&error_of(rt, words), &mut out, &mut err);
-    expect_that(rt, ("a help", "of words"), "status 0", ended == 0);
-    expect_parts(rt, ("a help", "of words"), out.taken.as_slice(), named);
+    let ended = refuse(&error_of(rt, line), &mut out, &mut err);
+    expect_that(rt, ("a help", line), "status 0", ended == 0);
+    expect_parts(rt, ("a help", line), out.taken.as_slice(), named);
 }
 
 // Words, and whether they ask that more is said of what is wrong.
-static EXPLAINS: [(&[&str], bool); 4] = [
-    (&["xv6", "check", "--explain", "a"], true),
-    (&["xv6", "check", "a"], false),
-    (&["--explain", "check", "a"], false),
-    (&["xv6", "check", "--", "--explain"], false),
+static EXPLAINS: [(&str, bool); 4] = [
+    ("xv6 check --explain a", true),
+    ("xv6 check a", false),
+    ("--explain check a", false),
+    ("xv6 check -- --explain", false),
 ];
 
 fn expect_flat_jobs(rt: &(impl Abort + AllocGlobal)) {
     expect_job(
         rt,
-        &["xv6", "flat", "a", "b"],
+        "xv6 flat a b",
         &Job::Flat(Flat {
             frames: 256,
             tlb: false,
@@ -277,7 +218,7 @@ fn expect_flat_jobs(rt: &(impl Abort + AllocGlobal)) {
     );
     expect_job(
         rt,
-        &["xv6", "flat", "--frames", "4294967295", "--", "a", "-b"],
+        "xv6 flat --frames 4294967295 -- a -b",
         &Job::Flat(Flat {
             frames: 4294967295,
             tlb: false,
@@ -288,7 +229,7 @@ fn expect_flat_jobs(rt: &(impl Abort + AllocGlobal)) {
     );
     expect_job(
         rt,
-        &["xv6", "flat", "--tlb", "--frames=64", "a", "b"],
+        "xv6 flat --tlb --frames=64 a b",
         &Job::Flat(Flat {
             frames: 64,
             tlb: true,
@@ -300,73 +241,29 @@ fn expect_flat_jobs(rt: &(impl Abort + AllocGlobal)) {
 }
 
 fn expect_run_jobs(rt: &(impl Abort + AllocGlobal)) {
+    expect_job(rt, "xv6 run a b", &Job::Run(PLAIN));
     expect_job(
         rt,
-        &["xv6", "run", "a", "b"],
-        &Job::Run(Run {
-            frames: 256,
-            tlb: false,
-            fail: None,
-            save: None,
-            telling: UNTOLD,
-            image: "a",
-            script: "b",
-        }),
-    );
-    expect_job(
-        rt,
-        &[
-            "xv6",
-            "run",
-            "--save",
-            "c",
-            "--tlb",
-            "a",
-            "--frames=64",
-            "b",
-        ],
+        "xv6 run --save c --tlb a --frames=64 b",
         &Job::Run(Run {
             frames: 64,
             tlb: true,
-            fail: None,
             save: Some("c"),
-            telling: UNTOLD,
-            image: "a",
-            script: "b",
+            ..PLAIN
         }),
     );
     expect_job(
         rt,
-        &["xv6", "run", "--fail", "1", "a", "b"],
+        "xv6 run --fail 1 a b",
         &Job::Run(Run {
-            frames: 256,
-            tlb: false,
             fail: Some(NonZeroU64::MIN),
-            save: None,
-            telling: UNTOLD,
-            image: "a",
-            script: "b",
+            ..PLAIN
         }),
     );
     expect_job(
         rt,
-        &[
-            "xv6",
-            "run",
-            "--report",
-            "--json",
-            "c",
-            "--status",
-            "--progress",
-            "--explain",
-            "a",
-            "b",
-        ],
+        "xv6 run --report --json c --status --progress --explain a b",
         &Job::Run(Run {
-            frames: 256,
-            tlb: false,
-            fail: None,
-            save: None,
             telling: Telling {
                 report: true,
                 json: Some("c"),
@@ -375,8 +272,7 @@ fn expect_run_jobs(rt: &(impl Abort + AllocGlobal)) {
                 status: true,
                 progress: true,
             },
-            image: "a",
-            script: "b",
+            ..PLAIN
         }),
     );
 }
@@ -384,7 +280,7 @@ fn expect_run_jobs(rt: &(impl Abort + AllocGlobal)) {
 fn expect_image_jobs(rt: &(impl Abort + AllocGlobal)) {
     expect_job(
         rt,
-        &["xv6", "mkfs", "a", "b"],
+        "xv6 mkfs a b",
         &Job::Mkfs(Mkfs {
             size: 2000,
             inodes: 200,
@@ -394,7 +290,7 @@ fn expect_image_jobs(rt: &(impl Abort + AllocGlobal)) {
     );
     expect_job(
         rt,
-        &["xv6", "mkfs", "--inodes", "16", "--size=32", "a", "b"],
+        "xv6 mkfs --inodes 16 --size=32 a b",
         &Job::Mkfs(Mkfs {
             size: 32,
             inodes: 16,
@@ -402,14 +298,10 @@ fn expect_image_jobs(rt: &(impl Abort + AllocGlobal)) {
             image: "b",
         }),
     );
+    expect_job(rt, "xv6 check b", &Job::Check(Check { image: "b" }));
     expect_job(
         rt,
-        &["xv6", "check", "b"],
-        &Job::Check(Check { image: "b" }),
-    );
-    expect_job(
-        rt,
-        &["xv6", "migrate", "a", "b"],
+        "xv6 migrate a b",
         &Job::Migrate(Migrate { old: "a", new: "b" }),
     );
 }
@@ -417,7 +309,7 @@ fn expect_image_jobs(rt: &(impl Abort + AllocGlobal)) {
 fn expect_path_jobs(rt: &(impl Abort + AllocGlobal)) {
     expect_job(
         rt,
-        &["xv6", "ls", "a", ""],
+        "xv6 ls a ",
         &Job::Ls(Ls {
             recursive: false,
             image: "a",
@@ -426,7 +318,7 @@ fn expect_path_jobs(rt: &(impl Abort + AllocGlobal)) {
     );
     expect_job(
         rt,
-        &["xv6", "ls", "-R", "a", "/"],
+        "xv6 ls -R a /",
         &Job::Ls(Ls {
             recursive: true,
             image: "a",
@@ -435,7 +327,7 @@ fn expect_path_jobs(rt: &(impl Abort + AllocGlobal)) {
     );
     expect_job(
         rt,
-        &["xv6", "get", "a", "/b"],
+        "xv6 get a /b",
         &Job::Get(Get {
             image: "a",
             path: "/b",
@@ -444,7 +336,7 @@ fn expect_path_jobs(rt: &(impl Abort + AllocGlobal)) {
     );
     expect_job(
         rt,
-        &["xv6", "put", "a", "/b", "c"],
+        "xv6 put a /b c",
         &Job::Put(Put {
             image: "a",
             path: "/b",
@@ -456,19 +348,19 @@ fn expect_path_jobs(rt: &(impl Abort + AllocGlobal)) {
 fn expect_program_jobs(rt: &(impl Abort + AllocGlobal)) {
     expect_job(
         rt,
-        &["xv6", "asm", "a", "b"],
+        "xv6 asm a b",
         &Job::Asm(Asm {
             text: "a",
             elf: "b",
         }),
     );
-    expect_job(rt, &["xv6", "dump", "b"], &Job::Dump(Dump { elf: "b" }));
+    expect_job(rt, "xv6 dump b", &Job::Dump(Dump { elf: "b" }));
 }
 
 fn expect_live_jobs(rt: &(impl Abort + AllocGlobal)) {
     expect_job(
         rt,
-        &["xv6", "live", "b"],
+        "xv6 live b",
         &Job::Live(Live {
             frames: 256,
             quantum: None,
@@ -480,17 +372,7 @@ fn expect_live_jobs(rt: &(impl Abort + AllocGlobal)) {
     );
     expect_job(
         rt,
-        &[
-            "xv6",
-            "live",
-            "--record=c",
-            "--terminal",
-            "--frames=64",
-            "--quantum",
-            "1",
-            "b",
-            "--save=d",
-        ],
+        "xv6 live --record=c --terminal --frames=64 --quantum 1 b --save=d",
         &Job::Live(Live {
             frames: 64,
             quantum: Some(NonZeroU64::MIN),
@@ -505,7 +387,7 @@ fn expect_live_jobs(rt: &(impl Abort + AllocGlobal)) {
 fn expect_play_and_trace_jobs(rt: &(impl Abort + AllocGlobal)) {
     expect_job(
         rt,
-        &["xv6", "play", "--script", "c", "a", "b"],
+        "xv6 play --script c a b",
         &Job::Play(Play {
             run: PLAIN,
             script: Some("c"),
@@ -513,26 +395,7 @@ fn expect_play_and_trace_jobs(rt: &(impl Abort + AllocGlobal)) {
     );
     expect_job(
         rt,
-        &[
-            "xv6",
-            "trace",
-            "--calls",
-            "read,write",
-            "--bytes",
-            "0",
-            "--each",
-            "--time",
-            "--turns",
-            "--core-is-pid",
-            "--text",
-            "c",
-            "--perfetto",
-            "d",
-            "--commits",
-            "e",
-            "a",
-            "b",
-        ],
+        "xv6 trace --calls read,write --bytes 0 --each --time --turns --core-is-pid --text c --perfetto d --commits e a b",
         &Job::Trace(Trace {
             run: PLAIN,
             part: Part {
@@ -566,27 +429,26 @@ fn expect_jobs(rt: &(impl Abort + AllocGlobal)) {
 }
 
 fn expect_counts(rt: &(impl Abort + AllocGlobal)) {
-    let (words, wanted) = counts();
-    expect_job(rt, &words, &wanted);
+    expect_job(rt, COUNTS, &counts());
 }
 
 fn expect_helps(rt: &(impl Abort + AllocGlobal)) {
-    for (words, named) in &HELP {
-        expect_help(rt, words, named);
+    for (line, named) in &HELP {
+        expect_help(rt, line, named);
     }
 }
 
-fn expect_explains(rt: &impl Abort) {
-    for (words, wanted) in &EXPLAINS {
-        let same = explains(words) == *wanted;
-        expect_that(rt, ("words", "--explain"), "whether it is asked for", same);
+fn expect_explains(rt: &(impl Abort + AllocGlobal)) {
+    for (line, wanted) in &EXPLAINS {
+        let same = explains(words_of(rt, line).as_slice()) == *wanted;
+        expect_that(rt, ("words", line), "whether it is asked for", same);
     }
 }
 
 fn expect_refusals(rt: &(impl Abort + AllocGlobal)) {
-    for (words, kind) in &REFUSALS {
-        let same = error_of(rt, words).kind() == *kind;
-        expect_that(rt, ("words", "refused"), "the kind of the error", same);
+    for (line, kind) in &REFUSALS {
+        let same = error_of(rt, line).kind() == *kind;
+        expect_that(rt, ("words", line), "the kind of the error", same);
     }
 }
 
