@@ -8,28 +8,36 @@
 
 Without --changed as many checks run side by side as there are processors, and 3 GB of free memory for each (--jobs N: N of
 them); with it they run one after the other, each with so many jobs. A crate waits for those below it. What was proved
-already and has not changed costs a look.
+already and has not changed costs a look. With --below the checks that run side by side have copies of the crates, below .git/lanes
+while they last.
 The status is 0 where all is proved; else what the check of a crate said is printed. This is for work: `rt ci` alone is the
 gate, which proves from nothing and tries the edits.
 """
 import argparse
 import os
 import re
+import shutil
 import subprocess
 import sys
 import time
 from concurrent.futures import FIRST_COMPLETED, ThreadPoolExecutor, wait
 from pathlib import Path
+from queue import SimpleQueue
 
 ROOT = Path(__file__).resolve().parent.parent
 CRATES = ROOT / "crates"
 
 
+def read_lines():
+    """The lines of crates.txt, by the crates that they are of."""
+    lines = (line.split("#")[0].strip() for line in (ROOT / "crates.txt").read_text().splitlines())
+    return {line.split(":")[0].split()[0]: line for line in lines if line}
+
+
 def read_crates():
     """The crates of crates.txt, each with those of the repository that it stands on."""
-    lines = (line.split("#")[0].strip() for line in (ROOT / "crates.txt").read_text().splitlines())
-    named = {line.split(":")[0].split()[0]: line.split(":")[1].split() for line in lines if line}
-    return {name: [it for it in below if it in named] for name, below in named.items()}
+    lines = read_lines()
+    return {name: [it for it in line.split(":")[1].split() if it in lines] for name, line in lines.items()}
 
 
 def with_all_above(names, crates):
@@ -55,15 +63,16 @@ def has_tests(name):
 
 
 def free_jobs():
-    """A check for each processor, if there are 3 GB of memory for each."""
-    memory = os.sysconf("SC_AVPHYS_PAGES") * os.sysconf("SC_PAGE_SIZE")
+    """A check for each processor, if there are 3 GB of available memory for each."""
+    lines = Path("/proc/meminfo").read_text().splitlines()
+    memory = next(int(it.split()[1]) << 10 for it in lines if it.startswith("MemAvailable:"))
     return max(1, min(len(os.sched_getaffinity(0)), memory // (3 << 30)))
 
 
-def tell(name, said, started):
+def tell(name, said, started, status=0):
     """Prints the line of a crate, and what its check said where it isn't proved. Nothing is said of one that hasn't changed."""
     verdicts = [it for it in said if it.startswith("logic=")]
-    if all(it.startswith("logic=proved") for it in verdicts) and not any(re.search(r"(^|\s)error[:\[]", it) for it in said):
+    if status == 0 and all(it.startswith("logic=proved") for it in verdicts) and not any(re.search(r"(^|\s)error[:\[]", it) for it in said):
         word = "is proved" if verdicts else "was proved before"
         print(f"{time.monotonic() - started:6.0f} s  {name} {word}", flush=True)
         return
@@ -122,24 +131,98 @@ def chains(names, crates):
     return found
 
 
-def build_library(name):
-    return subprocess.run(["rt", "lib", "--jobs", "1"], cwd=CRATES / name, stdout=subprocess.PIPE, stderr=subprocess.STDOUT, text=True)
+def lay_lane(root, names):
+    """A folder with copies of these crates, in which one rt works beside those in other folders: rt locks the folder of a crate and of all
+    below it, and nearly all stand on one, so two in the same folder would wait for each other."""
+    for name in names:
+        shutil.copytree(CRATES / name, root / "crates" / name, ignore=shutil.ignore_patterns("out", "must-fail", "edits"))
+    lines = read_lines()
+    (root / "crates.txt").write_text("".join(f"{lines[name]}\n" for name in names))
+    return root / "crates"
+
+
+def git_folder(name):
+    """A folder of this name among git's own, where rt looks for no crates; None where this is no checkout of git."""
+    asked = subprocess.run(["git", "rev-parse", "--git-path", name], cwd=ROOT, capture_output=True, text=True)
+    return None if asked.returncode else ROOT / asked.stdout.strip()
+
+
+def link(source, to):
+    """A second name of a file; a copy where it can't have one."""
+    try:
+        os.link(source, to)
+    except OSError:
+        shutil.copy2(source, to)
+
+
+def link_library(name, source, to):
+    """Has the library of a crate that is built in one folder of crates in another one, too, in place of an older one."""
+    library, place = source / name / "out/rlib", to / name / "out/rlib"
+    if not (library / "stamp").is_file() or (place / "stamp").is_file() and (place / "stamp").samefile(library / "stamp"):
+        return
+    shutil.rmtree(place, ignore_errors=True)
+    shutil.copytree(library, place, copy_function=link)
+
+
+def move_kept(name, source, to):
+    """Moves what a check kept for the next one."""
+    kept, place = source / name / "out/incremental", to / name / "out/incremental"
+    if kept.is_dir():
+        shutil.rmtree(place, ignore_errors=True)
+        kept.rename(place)
+
+
+def build_library(name, below, lane, jobs):
+    """Proves a crate as a library in a lane, which takes over what is built already, and gives back what it builds."""
+    if lane != CRATES:
+        for it in (*below, name):
+            link_library(it, CRATES, lane)
+    words = ["rt", "lib", "--jobs", str(jobs)]
+    built = subprocess.run(words, cwd=lane / name, stdout=subprocess.PIPE, stderr=subprocess.STDOUT, text=True)
+    if lane != CRATES:
+        link_library(name, lane, CRATES)
+        move_kept(name, lane, CRATES)
+    return built
 
 
 def prove_below(name, jobs):
-    """What a crate stands on: each crate once all below it are libraries, the longest chains first, up to the first that isn't proved."""
-    started, crates = time.monotonic(), read_crates()
-    left, done, at_work = all_below(name, crates), set(), {}
-    chain = chains(left, crates)
-    with ThreadPoolExecutor(jobs) as pool:
+    """What a crate stands on, in as many lanes as checks may run side by side."""
+    crates = read_crates()
+    names, root = all_below(name, crates), git_folder("lanes")
+    if jobs == 1 or root is None:
+        return prove_in([CRATES], names, crates)
+    shutil.rmtree(root, ignore_errors=True)
+    try:
+        return prove_in([lay_lane(root / str(it), names) for it in range(jobs)], names, crates)
+    finally:
+        shutil.rmtree(root, ignore_errors=True)
+
+
+def prove_in(lanes, names, crates):
+    """These crates in these lanes, each once all below it are libraries, the longest chains first, up to the first that isn't proved. What
+    begins while there are more lanes than crates to begin with has so many jobs."""
+    started, chain = time.monotonic(), chains(names, crates)
+    left, done, at_work, free = set(names), set(), {}, SimpleQueue()
+    for lane in lanes:
+        free.put(lane)
+
+    def build(name, jobs):
+        lane = free.get()
+        try:
+            return build_library(name, all_below(name, crates), lane, jobs)
+        finally:
+            free.put(lane)
+
+    with ThreadPoolExecutor(len(lanes)) as pool:
         while left or at_work:
             ready = sorted((it for it in left if done.issuperset(crates[it])), key=chain.get, reverse=True)
-            begun = ready[: jobs - len(at_work)]
-            at_work |= {pool.submit(build_library, it): it for it in begun}
+            room = len(lanes) - len(at_work)
+            begun = ready[:room]
+            at_work |= {pool.submit(build, it, room // len(begun)): it for it in begun}
             left.difference_update(begun)
             for built in wait(at_work, return_when=FIRST_COMPLETED).done:
                 crate, ran = at_work.pop(built), built.result()
-                tell(crate, ran.stdout.splitlines(keepends=True), started)
+                tell(crate, ran.stdout.splitlines(keepends=True), started, ran.returncode)
                 if ran.returncode:
                     pool.shutdown(cancel_futures=True)
                     return 1
@@ -155,7 +238,7 @@ def prove_changed(commit, jobs):
     for name in names:
         words = ["rt", "test" if has_tests(name) else "check", "--jobs", str(jobs)]
         check = subprocess.run(words, cwd=CRATES / name, stdout=subprocess.PIPE, stderr=subprocess.STDOUT, text=True)
-        tell(name, check.stdout.splitlines(keepends=True), started)
+        tell(name, check.stdout.splitlines(keepends=True), started, check.returncode)
         if check.returncode:
             return 1
     return 0
