@@ -169,7 +169,8 @@ def move_kept(name, source, to):
     kept, place = source / name / "out/incremental", to / name / "out/incremental"
     if kept.is_dir():
         shutil.rmtree(place, ignore_errors=True)
-        kept.rename(place)
+        place.parent.mkdir(exist_ok=True)
+        shutil.move(kept, place)
 
 
 def build_library(name, below, lane, jobs):
