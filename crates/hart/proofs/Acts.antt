@@ -1,12 +1,12 @@
 -- Operations without an access, and those with one.
-use Rattle.hart.proofs.Common.{Ram, Access, Acts, allowed, Answers, ap, Bool, Cause, Effect, Err, false, given, Hart, Held, if◌then◌else◌, inl, IsAnswer, IsKept, Leaves, length, List, Next, None, Ok, Op, op_by, Option, option_map, Page}
+use Rattle.hart.proofs.Common.{Ram, Access, Acts, Answers, ap, Bool, Cause, Effect, Err, false, given, Hart, Held, if◌then◌else◌, inl, IsAnswer, IsKept, Leaves, length, List, Next, None, Ok, Op, op_by, Option, option_map, Page}
 use Rattle.hart.proofs.Common.{place_in, refl, seen, Sight, Stop, stored, sym, trap, true, Turns, ℕ, ◌≡◌}
 use Rattle.hart.proofs.Steps.{one-answer, walked}
 use Rattle.hart.specs.declared.operation.Op.TheVariants as op
 
 pub turned-leaves : (effect : Effect) (answers : Answers) (next : Next) (pc : ℕ) (old new : Hart) (ram : Ram) → Turns effect next pc old new → Leaves effect answers next pc old new ram ram
 turned-leaves (Ok d) answers next pc old new ram h = (h.0, h.1, h.2, h.3, ap (stored ram answers) (sym h.4))
-turned-leaves (Err t) answers next pc old new ram h = (h.0, h.1, h.2, refl)
+turned-leaves (Err t) answers next pc old new ram h = (h.0, h.1, refl)
 
 -- whatever is answered
 acts-unanswered : {held : Held} {meaning : Sight → Effect} {next : Next} {pc : ℕ} {old new : Hart} {ram : Ram}
@@ -74,7 +74,7 @@ op_acts held o next pc old new ram none h =
 
 pub acts-odd : {held : Held} {ram : Ram} {hart : Hart} {even : Bool} (found : Option Page → Effect) (access : Access) {cause : Cause} {address pc : ℕ} → even ≡ false
     → Acts held held (λ see. if even then found (see access address) else trap cause address) (Stop (record { cause = cause; address = address })) pc hart hart ram ram
-acts-odd {held} {ram} {hart} found access {pc} odd = acts-unanswered (λ answers. rw odd (refl, refl, refl, refl))
+acts-odd {held} {ram} {hart} found access {pc} odd = acts-unanswered (λ answers. rw odd (refl, refl, refl))
 
 pub acts-even : {held held' : Held} {ram ram' : Ram} {old new : Hart} {next : Next} {even : Bool} (found : Option Page → Effect) (access : Access) (cause : Cause) {address pc : ℕ} (o : Option ℕ) → even ≡ true
     → IsAnswer held ram old.root.0 address access (option_map (place_in address) o) → IsKept held held' ram old.root.0 → length ram' ≡ length ram

@@ -28,10 +28,10 @@ pub use Rattle.unixmodel.specs.declared.trap.Cause.{Cause}
 pub use Rattle.unixmodel.specs.declared.trap.Cause.TheVariants.{IllegalInstruction, InstructionPageFault, LoadMisaligned, LoadPageFault, StoreMisaligned, StorePageFault}
 pub use Rattle.unixmodel.specs.declared.trap.Trap.{Trap}
 pub use Rattle.hart.specs.Acts.{Acts, Leaves, pc_after, trap_of, Turns}
-pub use Rattle.hart.specs.Answered.{Answers, AreAllowed, fetched_by, given, HasEffect, IsStep, load_by, load_on, put_at, seen, Sight, store_by, store_on, stored, word_by}
+pub use Rattle.hart.specs.Answered.{Answers, AreAllowed, fetched_by, given, HasEffect, IsStep, load_by, put_at, seen, Sight, store_by, stored, word_by}
 unfoldable pub use Rattle.hart.specs.Answered.{act_by, cycle_by}
 pub use Rattle.hart.specs.Changes.{changed, IsAlone, IsSound, IsStore, put_in, Stores, WritesOnly, WritesPage}
-pub use Rattle.hart.specs.Follows.{Computes, Follows}
+pub use Rattle.hart.specs.Follows.{Follows}
 pub use Rattle.hart.specs.Operations.{IsOp}
 unfoldable pub use Rattle.hart.specs.Operations.{op_by}
 pub use Rattle.hart.specs.Runs.{Goes, GoesOn, pc_at, Point, point_at, point_of, StaysWhole, word_in}

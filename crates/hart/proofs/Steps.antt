@@ -1,7 +1,7 @@
 -- Steps whose accesses a translator answers.
-use Rattle.hart.proofs.Common.{Ram, Access, allowed, ap, cond, false, Held, HoldsInside, inl, inr, IsKept, List, Mapped, memory_of, None, Option, option_map, page_for, page_in, permits, permitted, refl, slice_get, slice_get-map, Some, true}
-use Rattle.hart.proofs.Common.{walk_page-inside, ℕ, ◌/◌, ◌∙◌, ◌≡◌, [], act, act_by, act_word, and_parts, Answers, AreAllowed, arith, Bool, Bytes, bytes_at, Cause, Change, changed, Computed, Computes, cycle, cycle_by, Effect, eq-eqb}
-use Rattle.hart.proofs.Common.{eqb-true, Err, extend, Fetch, fetched, fetched_by, Follows, frame_for, given, Hart, HasEffect, IfSome, if◌then◌else◌, IllegalInstruction, Instr, instruction_of, InstructionPageFault, IsAnswer, IsStep, Load}
+use Rattle.hart.proofs.Common.{Ram, Access, Acts, allowed, At, Behind, Leaves, Next, pc_after, Stop, trap_of, word_in, ap, cond, false, Held, HoldsInside, inl, inr, IsKept, List, Mapped, memory_of, None, Option, option_map, page_for, page_in, permits, permitted, refl, slice_get, slice_get-map, Some, true}
+use Rattle.hart.proofs.Common.{walk_page-inside, ℕ, ◌/◌, ◌∙◌, ◌≡◌, act, act_by, act_word, and_parts, Answers, AreAllowed, arith, Bool, Bytes, bytes_at, Change, changed, Computed, cycle, cycle_by, Effect, eq-eqb}
+use Rattle.hart.proofs.Common.{eqb-true, Err, extend, Fetch, fetched, fetched_by, Follows, frame_for, given, Hart, HasEffect, IfSome, if◌then◌else◌, Instr, instruction_of, InstructionPageFault, IsAnswer, IsStep, Load}
 use Rattle.hart.proofs.Common.{load_size, LoadMisaligned, Memory, Nothing, number, Ok, Page, place_in, plus, put_at, put_in, seen, Shows, Sight, slice_index, Store, store_size, stored, StoreMisaligned, Stores, subst, sym, Trap, trap}
 use Rattle.hart.proofs.Common.{walk_page, word_by, ◌%◌, ◌&&◌, ◌-◌, ◌==◌}
 use Rattle.hart.proofs.ChangeLemmas.{stored-entry, cycle-stores, Alike, load-same, store-same}
@@ -99,46 +99,6 @@ pub one-answer : (held : Held) (ram : Ram) {root : ℕ} {access : Access} {addre
 one-answer held ram {root} {access} {address} {o} is =
     (with_answer access address o (walked ram root), with_answer-allowed held ram address o (walked ram root) (λ a b. inl refl) is, with_answer-itself access address (walked ram root))
 
--- ---- steps without an access
-
-pub does_computes : (effect : Effect) (answers : Answers) (result : Option Trap) (old new : Hart) (ram : Ram) → Computes effect result old new → HasEffect effect answers result old new ram ram
-does_computes (Ok d) answers result old new ram h = (h.0, h.1, h.2, h.3, ap (stored ram answers) (sym h.4))
-does_computes (Err t) answers result old new ram h = (h.0, h.1, refl)
-
--- whatever is answered
-step_unanswered : {held : Held} {meaning : Sight → Effect} {result : Option Trap} {old new : Hart} {ram : Ram}
-    → ((answers : Answers) → HasEffect (meaning (seen ram answers)) answers result old new ram ram) → IsStep held meaning result old new ram ram
-step_unanswered {old} {ram} does = record { answers = walked ram old.root.0; allowed = λ access address. inl refl; does = does (walked ram old.root.0) }
-
--- all instructions but loads and stores
-abbrev pub has_no_access : Instr → Bool
-has_no_access (instr.Load op rd rs1 imm) = false
-has_no_access (instr.Store op rs1 rs2 imm) = false
-has_no_access i = true
-
-act_by-without : (i : Instr) (regs : List ℕ) (pc : ℕ) (see : Sight) → has_no_access i ≡ true → act_by i regs pc see ≡ act i regs pc []
-unfolding act_by
-act_by-without (instr.Load op rd rs1 imm) regs pc see h = absurd (cc)
-act_by-without (instr.Store op rs1 rs2 imm) regs pc see h = absurd (cc)
-act_by-without _ regs pc see h = refl
-
-pub step_acts : (held : Held) (i : Instr) (result : Option Trap) (old new : Hart) (ram : Ram) → has_no_access i ≡ true → Computes (act i old.registers old.pc []) result old new
-    → IsStep held (act_by i old.registers old.pc) result old new ram ram
-step_acts held i result old new ram none h =
-    step_unanswered (λ answers.
-    rw (act_by-without i old.registers old.pc (seen ram answers) none) (does_computes (act i old.registers old.pc []) answers result old new ram h))
-
--- ---- a step with one access
-
--- the meaning looks at one access alone, and was answered so
-step_answered : (held : Held) (meaning : Sight → Effect) (result : Option Trap) (old new : Hart) (ram ram' : Ram) (access : Access) (address : ℕ) (o : Option ℕ)
-    → IsAnswer held ram old.root.0 address access (option_map (place_in address) o)
-    → ((answers : Answers) → answers access address ≡ o → HasEffect (meaning (seen ram answers)) answers result old new ram ram')
-    → IsStep held meaning result old new ram ram'
-step_answered held meaning result old new ram ram' access address o is does =
-    let one = one-answer held ram is in
-    record { answers = one.0; allowed = one.1; does = does one.0 one.2 }
-
 -- ---- traps
 
 pub trap-still : (effect : Effect) (answers : Answers) (result : Option Trap) (old new : Hart) (ram ram' : Ram) → HasEffect effect answers result old new ram ram'
@@ -146,70 +106,57 @@ pub trap-still : (effect : Effect) (answers : Answers) (result : Option Trap) (o
 trap-still (Ok d) answers result old new ram ram' h = rw h.0 tt
 trap-still (Err t) answers result old new ram ram' h = rw h.0 (h.1, h.2)
 
--- ---- loads and stores
-
--- at an address that isn't aligned
-pub step-odd : {held : Held} {ram : Ram} {old new : Hart} {result : Option Trap} {even : Bool} (found : Option Page → Effect) (access : Access) (cause : Cause) (address : ℕ) → even ≡ false
-    → Computes (trap cause address) result old new → IsStep held (λ see. if even then found (see access address) else trap cause address) result old new ram ram
-step-odd {held} {ram} {old} {new} {result} found access cause address odd h = step_unanswered (λ answers. rw odd (does_computes (trap cause address) answers result old new ram h))
-
--- and at one that is
-pub step-even : {held : Held} {ram ram' : Ram} {old new : Hart} {result : Option Trap} {even : Bool} (found : Option Page → Effect) (access : Access) (cause : Cause) {address : ℕ} (o : Option ℕ) → even ≡ true
-    → IsAnswer held ram old.root.0 address access (option_map (place_in address) o) → ((answers : Answers) → answers access address ≡ o → HasEffect (found (option_map (given ram) o)) answers result old new ram ram')
-    → IsStep held (λ see. if even then found (see access address) else trap cause address) result old new ram ram'
-step-even {held} {ram} {ram'} {old} {new} {result} found access cause {address} o aligned is h =
-    step_answered held _ result old new ram ram' access address o is (λ answers same. rw (aligned, same) (h answers same))
-
 -- ---- the instruction at the pc
 
--- but for a fetch an instruction looks at the same answers
+-- nothing was fetched
+pub step-unfetched : {held : Held} {ram : Ram} {hart : Hart} → IsAnswer held ram hart.root.0 hart.pc Fetch None
+    → IsStep held (cycle_by hart.registers hart.pc) (Some (record { cause = InstructionPageFault; address = hart.pc })) hart hart ram ram
+unfolding cycle_by
+step-unfetched {held} {ram} is =
+    let one = one-answer held ram {o = None} is in
+    record { answers = one.0; allowed = one.1; does = rw one.2 (refl, refl, refl) }
+
+-- but for a fetch a word looks at the same answers
 act_by-fetch : (i : Instr) (regs : List ℕ) (pc at : ℕ) (ram : Ram) (o : Option ℕ) (answers : Answers)
     → act_by i regs pc (seen ram (with_answer Fetch at o answers)) ≡ act_by i regs pc (seen ram answers)
 unfolding act_by
 act_by-fetch (instr.Load op rd rs1 imm) regs pc at ram o answers = refl
 act_by-fetch _ regs pc at ram o answers = refl
 
+word_by-fetch : (found : Option Instr) (regs : List ℕ) (pc at : ℕ) (ram : Ram) (o : Option ℕ) (answers : Answers)
+    → word_by found regs pc (seen ram (with_answer Fetch at o answers)) ≡ word_by found regs pc (seen ram answers)
+word_by-fetch None regs pc at ram o answers = refl
+word_by-fetch (Some i) regs pc at ram o answers = act_by-fetch i _ _ _ _ _ _
+
 stored-fetch : (ram : Ram) (at : ℕ) (o : Option ℕ) (answers : Answers) (change : Change) → stored ram (with_answer Fetch at o answers) change ≡ stored ram answers change
 stored-fetch ram at o answers Nothing = refl
 stored-fetch ram at o answers (Bytes address bytes) = refl
 
-does-fetch : (effect : Effect) (at : ℕ) (o : Option ℕ) (answers : Answers) (result : Option Trap) (old new : Hart) (ram ram' : Ram) → HasEffect effect answers result old new ram ram'
-    → HasEffect effect (with_answer Fetch at o answers) result old new ram ram'
-does-fetch (Ok d) at o answers result old new ram ram' h = (h.0, h.1, h.2, h.3, h.4 ∙ sym (stored-fetch ram at o answers d.change))
-does-fetch (Err t) at o answers result old new ram ram' h = h
+-- a hart is where its operation goes on, and after a trap as it was
+abbrev pub Arrives : Next → ℕ → Hart → Hart → Type 0
+Arrives (Stop t) pc hart new = new ≡ hart
+Arrives next pc hart new = (new.registers ≡ hart.registers) × (new.pc ≡ pc_after next pc) × (new.root ≡ hart.root)
 
--- nothing was fetched
-pub step-unfetched : {held : Held} {ram : Ram} {old new : Hart} {result : Option Trap} → IsAnswer held ram old.root.0 old.pc Fetch None
-    → Computes (trap InstructionPageFault old.pc) result old new → IsStep held (cycle_by old.registers old.pc) result old new ram ram
-unfolding cycle_by
-step-unfetched {held} {ram} {old} {new} {result} is h =
-    step_answered held (cycle_by old.registers old.pc) result old new ram ram Fetch old.pc None is (λ answers same.
-    rw same (does_computes (trap InstructionPageFault old.pc) answers result old new ram h))
+leaves-effect : (effect : Effect) (at : ℕ) (o : Option ℕ) (answers : Answers) (next : Next) (pc : ℕ) (old hart new : Hart) (ram ram' : Ram) → Leaves effect answers next pc old hart ram ram' → Arrives next pc hart new
+    → HasEffect effect (with_answer Fetch at o answers) (trap_of next) old new ram ram'
+leaves-effect (Ok d) at o answers Behind pc old hart new ram ram' h a = (refl, a.0 ∙ h.1, a.1 ∙ h.2, a.2 ∙ h.3, h.4 ∙ sym (stored-fetch ram at o answers d.change))
+leaves-effect (Ok d) at o answers (At to) pc old hart new ram ram' h a = (refl, a.0 ∙ h.1, a.1 ∙ h.2, a.2 ∙ h.3, h.4 ∙ sym (stored-fetch ram at o answers d.change))
+leaves-effect (Err t) at o answers (Stop s) pc old hart new ram ram' h a = (h.0, a ∙ h.1, h.2)
+leaves-effect (Ok d) at o answers (Stop s) pc old hart new ram ram' h a = absurd (cc h.0)
+leaves-effect (Err t) at o answers next pc old hart new ram ram' h a = absurd (cc h.0)
 
--- the word that was fetched is no instruction
-pub step-illegal : {held : Held} {ram : Ram} {old new : Hart} {result : Option Trap} (f : ℕ) {word : ℕ} → IsAnswer held ram old.root.0 old.pc Fetch (Some (place_in old.pc f))
-    → word ≡ number (bytes_at 4 old.pc (given ram f)) → instruction_of word ≡ None
-    → Computes (trap IllegalInstruction old.pc) result old new → IsStep held (cycle_by old.registers old.pc) result old new ram ram
+-- the word that was fetched is done
+pub step-done : {held mid held' : Held} {ram ram' : Ram} {old hart new : Hart} (next : Next) (f : ℕ) → IsAnswer held ram old.root.0 old.pc Fetch (Some (place_in old.pc f)) → IsKept held mid ram old.root.0
+    → Acts mid held' (word_by (instruction_of (word_in ram f old.pc)) old.registers old.pc) next old.pc old hart ram ram' → Arrives next old.pc hart new → IsStep held (cycle_by old.registers old.pc) (trap_of next) old new ram ram'
 unfolding cycle_by
-step-illegal {held} {ram} {old} {new} {result} f is read none h =
-    step_answered held (cycle_by old.registers old.pc) result old new ram ram Fetch old.pc (Some f) is (λ answers same.
-    rw (same, ← read, none) (does_computes (trap IllegalInstruction old.pc) answers result old new ram h))
-
--- it is one, which was done
-pub step-executed : {held mid : Held} {ram ram' : Ram} {old new : Hart} {result : Option Trap} (f : ℕ) {word : ℕ} {i : Instr} → IsAnswer held ram old.root.0 old.pc Fetch (Some (place_in old.pc f))
-    → IsKept held mid ram old.root.0
-    → word ≡ number (bytes_at 4 old.pc (given ram f)) → instruction_of word ≡ Some i
-    → IsStep mid (act_by i old.registers old.pc) result old new ram ram' → IsStep held (cycle_by old.registers old.pc) result old new ram ram'
-unfolding cycle_by
-step-executed {held} {mid} {ram} {ram'} {old} {new} {result} f {i} is kept read found step =
-    let answers : Answers = with_answer Fetch old.pc (Some f) step.answers in
-    let before : AreAllowed held ram old.root.0 step.answers = λ access address. answered-kept _ _ kept (step.allowed access address) in
-    let itself : with_answer Fetch old.pc (Some f) step.answers Fetch old.pc ≡ Some f = with_answer-itself Fetch old.pc step.answers in
-    let is_act : cycle_by old.registers old.pc (seen ram answers) ≡ act_by i old.registers old.pc (seen ram step.answers) = rw (itself, ← read, found) (act_by-fetch i _ _ _ _ _ _) in
+step-done {held} {ram} {ram'} {old} {hart} {new} next f is kept acts arrives =
+    let word : Option Instr = instruction_of (word_in ram f old.pc) in
+    let before : AreAllowed held ram old.root.0 acts.answers = λ access address. answered-kept _ _ kept (acts.allowed access address) in
+    let itself : with_answer Fetch old.pc (Some f) acts.answers Fetch old.pc ≡ Some f = with_answer-itself Fetch old.pc acts.answers in
     record {
-      answers = answers;
-      allowed = with_answer-allowed held ram old.pc (Some f) step.answers before is;
-      does = rw is_act (does-fetch (act_by i old.registers old.pc (seen ram step.answers)) old.pc (Some f) step.answers result old new ram ram' step.does);
+      answers = with_answer Fetch old.pc (Some f) acts.answers;
+      allowed = with_answer-allowed held ram old.pc (Some f) acts.answers before is;
+      does = rw (itself, word_by-fetch word old.registers old.pc old.pc ram (Some f) acts.answers) (leaves-effect (word_by word old.registers old.pc (seen ram acts.answers)) old.pc (Some f) acts.answers next old.pc old hart new ram ram' acts.does arrives);
     }
 
 -- ---- where all allowed answers are a mapping's

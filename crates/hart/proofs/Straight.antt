@@ -70,7 +70,7 @@ leaves-not : (effect : Effect) (answers : Answers) (next : Next) (pc : ℕ) (old
 leaves-not (Ok d) answers next pc old new some h = absurd (cc (some, h.0))
 leaves-not (Err s) answers next pc old new {t} some h =
     let same : s ≡ t = cc (some, h.0) in
-    (ap Err same, h.1, h.3)
+    (ap Err same, ap (λ (hart : Hart). hart.registers) h.1, h.2)
 
 -- the word at a pc is done by what a translator answers
 module _ {held held' : Held} {mapping : List Mapped} {n : ℕ} {first : Point} {next : Next} {pc f : ℕ} {old new : Hart} {ram ram' : Ram} (g : Goes held old.root.0 mapping n first (point_at old pc ram))
@@ -160,7 +160,7 @@ straight-begins {from} inside = record {
 
 acts-root : (effect : Effect) (answers : Answers) (next : Next) (pc : ℕ) (old new : Hart) (ram ram' : Ram) → Leaves effect answers next pc old new ram ram' → new.root ≡ old.root
 acts-root (Ok d) answers next pc old new ram ram' h = h.3
-acts-root (Err t) answers next pc old new ram ram' h = h.2
+acts-root (Err t) answers next pc old new ram ram' h = ap (λ (hart : Hart). hart.root) h.1
 
 pub whole-after : {held' held'' : Held} {meaning : Sight → Effect} {next : Next} {pc : ℕ} {first old new : Hart} {ram ram' ram'' : Ram} → StaysWhole held' first old ram ram' → Acts held' held'' meaning next pc old new ram' ram'' → StaysWhole held'' first new ram ram''
 whole-after {held'} {held''} {meaning} {next} {pc} {old} {new} {ram'} {ram''} whole acts = record {

@@ -48,13 +48,6 @@ abbrev pub store_by : List ℕ → ℕ → StoreOp → ℕ → ℕ → Sight →
 store_by regs pc op address value see =
     if address % store_size op == 0 then store_to regs pc address (le (store_size op) value) (see Store address) else trap StoreMisaligned address
 
--- the same on the registers and the pc of a hart
-abbrev pub load_on : Hart → LoadOp → ℕ → ℕ → Sight → Effect
-load_on hart op rd address = load_by hart.registers hart.pc op rd address
-
-abbrev pub store_on : Hart → StoreOp → ℕ → ℕ → Sight → Effect
-store_on hart op address value = store_by hart.registers hart.pc op address value
-
 -- all but loads and stores access no memory
 unfoldable pub act_by : Instr → List ℕ → ℕ → Sight → Effect
 act_by (instr.Load op rd rs1 imm) regs pc see = load_by regs pc op rd (plus (slice_index regs rs1) (extend 12 imm)) see

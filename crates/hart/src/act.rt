@@ -2,12 +2,12 @@
 //!
 //! The pc is an argument, and where to go on is the result, so that a loop over operations has the pc in a register.
 ghost use Rattle.std.specs.Prelude.{◌≡◌, ◌%◌, ◌/◌, ◌<◌, ◌+◌, ◌*◌, ◌^◌, ◌==◌, ◌≤◌, ℕ, if◌then◌else◌, Some, None, slice_index, length, IfSome};
-ghost use Rattle.unixmodel.specs.Meaning.{jump, set_register, shifted, shifted_word, write};
-ghost use Rattle.unixmodel.specs.Numbers.{extend, low};
+ghost use Rattle.unixmodel.specs.Meaning.{jump, set_register, write};
+ghost use Rattle.unixmodel.specs.Numbers.{extend};
 ghost use Rattle.unixmodel.specs.Translation.{HoldsInside};
 ghost use Rattle.hart.specs.Acts.{Acts, Turns};
 ghost use Rattle.hart.specs.Answered.{load_by, store_by};
-ghost use Rattle.hart.specs.Operations.{by_branch, by_immediate, by_registers, by_words, offset_by, op_by};
+ghost use Rattle.hart.specs.Operations.{by_branch, by_registers, by_words, offset_by, op_by};
 
 use crate::access::{is_aligned, load_size, load_value, locate, place, store_size, store_value};
 use crate::operation::{Op, Target};
@@ -16,9 +16,7 @@ use crate::{alu, bits};
 use ram::Ram;
 use std::marker::Model;
 use sv39::Translate;
-use unixmodel::instr::{
-    Amount, AmountW, BranchOp, ImmOp, LoadOp, Reg, RegOp, RegOpW, ShiftOp, StoreOp,
-};
+use unixmodel::instr::{BranchOp, LoadOp, Reg, RegOp, RegOpW, StoreOp};
 use unixmodel::trap::{Access, Cause, Trap};
 
 /// The address of an instruction: a multiple of 4.
@@ -107,33 +105,6 @@ impl Hart {
     {
         self.write(rd, value);
         Next::Behind
-    }
-
-    #[inline(always)]
-    fn immediate(&mut self, op: ImmOp, rd: Target, rs1: Reg, imm: u32) -> Next
-        ensures { (pc : ℕ) → Turns (by_immediate op rd rs1 (extend 32 imm) self.old.registers pc) result pc self.old self.new }
-    {
-        self.put(
-            rd,
-            alu::immediate_op(op, self.read(rs1), bits::extend_u32(imm)),
-        )
-    }
-
-    #[inline(always)]
-    fn shift(&mut self, op: ShiftOp, rd: Target, rs1: Reg, amount: Amount) -> Next
-        ensures { (pc : ℕ) → Turns (set_register self.old.registers pc rd
-            (shifted op (slice_index self.old.registers rs1) amount)) result pc self.old self.new }
-    {
-        self.put(rd, alu::shift(op, self.read(rs1), u32::from(amount.bits())))
-    }
-
-    #[inline(always)]
-    fn shift_word(&mut self, op: ShiftOp, rd: Target, rs1: Reg, amount: AmountW) -> Next
-        ensures { (pc : ℕ) → Turns (set_register self.old.registers pc rd
-            (shifted_word op (low (slice_index self.old.registers rs1)) amount)) result pc self.old self.new }
-    {
-        let low = alu::low(self.read(rs1));
-        self.put(rd, alu::shift_word(op, low, u32::from(amount.bits())))
     }
 
     #[inline(always)]
@@ -324,15 +295,30 @@ impl Hart {
                 ram,
                 trans,
             ),
-            Op::Addi { rd, rs1, imm } => self.immediate(ImmOp::Addi, rd, rs1, imm),
-            Op::Slti { rd, rs1, imm } => self.immediate(ImmOp::Slti, rd, rs1, imm),
-            Op::Sltiu { rd, rs1, imm } => self.immediate(ImmOp::Sltiu, rd, rs1, imm),
-            Op::Xori { rd, rs1, imm } => self.immediate(ImmOp::Xori, rd, rs1, imm),
-            Op::Ori { rd, rs1, imm } => self.immediate(ImmOp::Ori, rd, rs1, imm),
-            Op::Andi { rd, rs1, imm } => self.immediate(ImmOp::Andi, rd, rs1, imm),
-            Op::Slli { rd, rs1, amount } => self.shift(ShiftOp::Sll, rd, rs1, amount),
-            Op::Srli { rd, rs1, amount } => self.shift(ShiftOp::Srl, rd, rs1, amount),
-            Op::Srai { rd, rs1, amount } => self.shift(ShiftOp::Sra, rd, rs1, amount),
+            Op::Addi { rd, rs1, imm } => self.put(rd, self.offset(rs1, imm)),
+            Op::Slti { rd, rs1, imm } => self.put(
+                rd,
+                u64::from(alu::is_below(self.read(rs1), bits::extend_u32(imm))),
+            ),
+            Op::Sltiu { rd, rs1, imm } => self.put(
+                rd,
+                u64::from(self.read(rs1) < bits::extend_u32(imm)),
+            ),
+            Op::Xori { rd, rs1, imm } => self.put(rd, self.read(rs1) ^ bits::extend_u32(imm)),
+            Op::Ori { rd, rs1, imm } => self.put(rd, self.read(rs1) | bits::extend_u32(imm)),
+            Op::Andi { rd, rs1, imm } => self.put(rd, self.read(rs1) & bits::extend_u32(imm)),
+            Op::Slli { rd, rs1, amount } => self.put(
+                rd,
+                self.read(rs1) << u32::from(amount.bits()),
+            ),
+            Op::Srli { rd, rs1, amount } => self.put(
+                rd,
+                self.read(rs1) >> u32::from(amount.bits()),
+            ),
+            Op::Srai { rd, rs1, amount } => self.put(
+                rd,
+                alu::sra(self.read(rs1), u32::from(amount.bits())),
+            ),
             Op::Add { rd, rs1, rs2 } => self.register(RegOp::Add, rd, rs1, rs2),
             Op::Sub { rd, rs1, rs2 } => self.register(RegOp::Sub, rd, rs1, rs2),
             Op::Sll { rd, rs1, rs2 } => self.register(RegOp::Sll, rd, rs1, rs2),
@@ -352,9 +338,18 @@ impl Hart {
             Op::Rem { rd, rs1, rs2 } => self.register(RegOp::Rem, rd, rs1, rs2),
             Op::Remu { rd, rs1, rs2 } => self.register(RegOp::Remu, rd, rs1, rs2),
             Op::Addiw { rd, rs1, imm } => self.put(rd, bits::word(self.offset(rs1, imm))),
-            Op::Slliw { rd, rs1, amount } => self.shift_word(ShiftOp::Sll, rd, rs1, amount),
-            Op::Srliw { rd, rs1, amount } => self.shift_word(ShiftOp::Srl, rd, rs1, amount),
-            Op::Sraiw { rd, rs1, amount } => self.shift_word(ShiftOp::Sra, rd, rs1, amount),
+            Op::Slliw { rd, rs1, amount } => self.put(
+                rd,
+                alu::sllw(alu::low(self.read(rs1)), u32::from(amount.bits())),
+            ),
+            Op::Srliw { rd, rs1, amount } => self.put(
+                rd,
+                alu::srlw(alu::low(self.read(rs1)), u32::from(amount.bits())),
+            ),
+            Op::Sraiw { rd, rs1, amount } => self.put(
+                rd,
+                alu::sraw(alu::low(self.read(rs1)), u32::from(amount.bits())),
+            ),
             Op::Addw { rd, rs1, rs2 } => self.word(RegOpW::Addw, rd, rs1, rs2),
             Op::Subw { rd, rs1, rs2 } => self.word(RegOpW::Subw, rd, rs1, rs2),
             Op::Sllw { rd, rs1, rs2 } => self.word(RegOpW::Sllw, rd, rs1, rs2),

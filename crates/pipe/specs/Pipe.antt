@@ -2,8 +2,8 @@
 use Rattle.std.specs.Prelude.{Bool, List, [], false, length, take, ℕ, ◌++◌, ◌-◌, ◌∷◌, ◌≡◌}
 use Rattle.ram.specs.Memory.{frame_of}
 use Rattle.unixmodel.specs.OpenFiles.{pipe_room}
-use Rattle.pipe.specs.declared.End.{End}
-use Rattle.pipe.specs.declared.End.TheVariants.{Read, Write}
+use Rattle.files.specs.declared.file.End.{End}
+use Rattle.files.specs.declared.file.End.TheVariants.{Read, Write}
 use Rattle.ring.specs.Ring.{ring}
 
 pub record Pipe : Type 0 where

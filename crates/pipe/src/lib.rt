@@ -8,18 +8,12 @@ ghost use Rattle.unixmodel.specs.Turn.{is_empty};
 ghost use Rattle.pipe.specs.Pipe.{ring_in};
 ghost use Rattle.ring.specs.Ring.{ring};
 
+pub use files::End;
 use ram::{FRAME_SIZE, FrameNo, Ram};
 use std::marker::Model;
 
 /// How many bytes a pipe holds at the most.
 pub const ROOM: usize = 512;
-
-/// An end of a pipe.
-#[derive(Clone, Copy, PartialEq, Eq, Debug)]
-pub enum End {
-    Read,
-    Write,
-}
 
 /// A pipe. Its bytes stand in a ring at the beginning of a frame, and it says where and which ends are open.
 #[derive(Clone, Copy)]

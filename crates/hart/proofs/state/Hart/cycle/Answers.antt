@@ -1,21 +1,25 @@
-use Rattle.hart.proofs.Common.{refl, sym}
-use Rattle.hart.proofs.Steps.{inside-kept, step-executed, step-illegal, step-unfetched}
+use Rattle.hart.proofs.Common.{refl}
+use Rattle.hart.proofs.Steps.{inside-kept, step-done, step-unfetched}
+use Rattle.hart.proofs.Straight.{acts-worded}
 use Rattle.hart.proofs.state.Hart.cycle.Goals as goal
 
-pub execute-requires : goal.execute-requires
-execute-requires g c = inside-kept _ c.requires c.fetch.ensures.kept
+pub act-requires : goal.act-requires
+act-requires g c = inside-kept _ c.requires c.fetch.ensures.kept
 
 pub returns-in_default-clause-step : goal.returns-in_default-clause-step
-returns-in_default-clause-step g c =
-    step-unfetched c.in_default.ensures.fault (c.trap.ensures, refl)
+returns-in_default-clause-step g c = step-unfetched c.in_default.ensures.fault
 
-pub returns-in-None-clause-step : goal.returns-in-None-clause-step
-returns-in-None-clause-step g c =
+pub returns-in-Behind-clause-step : goal.returns-in-Behind-clause-step
+returns-in-Behind-clause-step g c =
     let found = c.in-Some.ensures.word in
-    step-illegal _ found.1 found.2 (sym c.in-None.ensures.is) (c.trap-in-None.ensures, refl)
+    step-done _ found.0 found.1 c.fetch.ensures.kept (acts-worded _ found.0 c.flatten.ensures found.2 c.in-Behind.ensures) (refl, refl, refl)
 
-pub returns-in-Some-decode-clause-step : goal.returns-in-Some-decode-clause-step
-returns-in-Some-decode-clause-step g c =
+pub returns-in-At-clause-step : goal.returns-in-At-clause-step
+returns-in-At-clause-step g c =
     let found = c.in-Some.ensures.word in
-    step-executed _
-    found.1 c.fetch.ensures.kept found.2 (sym c.in-Some-decode.ensures.is) c.execute.ensures.step
+    step-done _ found.0 found.1 c.fetch.ensures.kept (acts-worded _ found.0 c.flatten.ensures found.2 c.in-At.ensures) (refl, c.address-self.ensures.is, refl)
+
+pub returns-in-Stop-clause-step : goal.returns-in-Stop-clause-step
+returns-in-Stop-clause-step g c =
+    let found = c.in-Some.ensures.word in
+    step-done _ found.0 found.1 c.fetch.ensures.kept (acts-worded _ found.0 c.flatten.ensures found.2 c.in-Stop.ensures) refl
