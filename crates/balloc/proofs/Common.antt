@@ -16,10 +16,10 @@ pub use Rattle.layout.proofs.GrowLemmas.{asks_none, at_or, data_from, get_or-nod
 pub use Rattle.layout.proofs.GrowLemmas.{node_at-none, nodes_of-changed, PutsBlock-write, set_from, WritesInode-write, zero_at}
 pub use Rattle.layout.specs.Image.{bit_of, free_blocks, inode_at, IsFree, IsInode, IsUsed, node_with, RawNode}
 unfoldable pub use Rattle.layout.specs.Image.{bit_in, data_bits, node_at, nodes_of}
-pub use Rattle.layout.specs.Inode.{Fits, inode_bytes, inode_of}
+pub use Rattle.layout.specs.Inode.{Fits, fresh_inode, inode_bytes, inode_of}
 pub use Rattle.layout.specs.Sound.{HasParts, IsSound, TellsGeometry}
 pub use Rattle.layout.specs.Super.{bitmap_start_of, data_start_of, HasNumbers, super_bytes, super_of, SuperFits}
 pub use Rattle.layout.specs.declared.Geometry.{Geometry}
 pub use Rattle.balloc.specs.Bitmap.{Finds, IsFirstFree, IsFullFrom, lowest_clear, SetsBit, TakesLowest}
 pub use Rattle.balloc.specs.Format.{Cleared, HasFront, IsNew, new_super}
-pub use Rattle.balloc.specs.Inodes.{FindsInode, fresh_inode, fresh_node, IsLowestUnused, IsUnused, SetsNode, TakesNode}
+pub use Rattle.balloc.specs.Inodes.{FindsInode, fresh_node, IsLowestUnused, IsUnused, SetsNode, TakesNode}

@@ -1,13 +1,15 @@
 -- How a change of one bit changes the count of free blocks.
 use Rattle.balloc.proofs.Common.{set, drop, ap, sym, ◌∙◌, arith, refl, add-zero, cond, ◌≡◌, ℕ, ◌+◌, ◌-◌, ◌<◌, ◌≤◌, ◌==◌, List, [], ◌∷◌, length, get_or, count_by, zero, suc, ext_get_or, bitmap_start_of, Geometry, set_from, data_from, mark}
-use Rattle.balloc.proofs.Common.{Blocks, IsFree, data_bits, free_blocks, SetsBit, subst, IsFirstFree, IsFullFrom, TakesLowest, ◌≢◌, ◌*◌, ◌/◌, ◌%◌, ◌^◌, Option, Some, None, inr, Fits, inode_bytes, IsInode, IsUsed, RawNode, bit_in, inode_at}
+use Rattle.balloc.proofs.Common.{Blocks, IsFree, data_bits, free_blocks, SetsBit, subst, IsFirstFree, IsFullFrom, TakesLowest, ◌≢◌, ◌*◌, ◌/◌, ◌%◌, Option, Some, None, inr, Fits, inode_bytes, IsInode, IsUsed, RawNode, bit_in, inode_at}
 use Rattle.balloc.proofs.Common.{node_at, node_with, nodes_of, IsSound, IsSound-replace, KeepsOthers, node_at-none, nodes_of-changed, Grows-keeps, Grows-node, Grows-sound, Grows-empty, HoldsBytes-empty, asks_none, zero_at, IsUnused}
-use Rattle.balloc.proofs.Common.{SetsNode, fresh_inode, fresh_node}
+use Rattle.balloc.proofs.Common.{SetsNode, fresh_inode, fresh_node, replicate}
 use Rattle.std.proofs.lemmas.List.{drop_all, drop_more}
 use Rattle.std.proofs.lemmas.List.Sums.{sum_by-cons, sum_by-set}
 use Rattle.std.proofs.lemmas.List.FromFn.{length-map-range_with_len, get_or-map-range_with_len}
 use Rattle.layout.specs.Numbers.{spelled}
 use Rattle.layout.specs.declared.DiskInode.{DiskInode}
+use Rattle.layout.specs.declared.Kind.{Kind}
+use Rattle.layout.specs.declared.Kind.TheVariants.{Device, Directory, File, Free}
 use Rattle.layout.specs.Grow.{Grows, WritesInode}
 
 pub length-data_bits : (g : Geometry) (blocks : Blocks) → length (data_bits g blocks) ≡ g.size - data_from g
@@ -130,13 +132,13 @@ length-spelled (x ∷ xs) = omega (arith, length-spelled xs)
 pub length-inode_bytes : (inode : DiskInode) → Fits inode → length (inode_bytes inode) ≡ 64
 length-inode_bytes inode fits = omega (arith, length-spelled inode.addresses, fits.places)
 
--- the record of an inode without bytes
-pub fresh_fits : (kind major minor links : ℕ) → kind < 2 ^ 16 → major < 2 ^ 16 → minor < 2 ^ 16 → links < 2 ^ 16 → Fits (fresh_inode kind major minor links)
-fresh_fits kind major minor links a b c d = record {
-  kind = a;
-  major = b;
-  minor = c;
-  links = d;
+-- a record that loses its blocks
+pub emptied_fits : {inode : DiskInode} → Fits inode → Fits (record inode { size = 0; addresses = replicate 13 0 })
+emptied_fits fits = record {
+  kind = fits.kind;
+  major = fits.major;
+  minor = fits.minor;
+  links = fits.links;
   size = omega arith;
   addresses = λ i h. omega (arith, zero_at 13 i);
   places = refl;
@@ -164,12 +166,17 @@ module _ {g : Geometry} {old new : Blocks} {n : ℕ} {inode : DiskInode} (sound 
   recorded_none free = recorded None (node_at-none new n (inr (ap (λ (i : DiskInode). i.kind) writes.here ∙ free)))
 
 -- a free inode is taken
-pub recorded_fresh : {g : Geometry} {old new : Blocks} {n kind major minor links : ℕ} → IsSound g old → IsUnused g old n → 1 ≤ kind → kind ≤ 3 → WritesInode g old new n (fresh_inode kind major minor links)
-    → SetsNode g old new n (Some (fresh_node kind major minor links))
-recorded_fresh sound unused some kinds writes =
-    recorded_some sound unused.low unused.high (λ j u. u.inode.kind unused.unused) kinds refl (zero_at 13) writes (λ z. omega arith)
+pub recorded_fresh : {g : Geometry} {old new : Blocks} {n links : ℕ} (kind : Kind) → IsSound g old → IsUnused g old n → WritesInode g old new n (fresh_inode kind links) → SetsNode g old new n (fresh_node kind links)
+recorded_fresh Free sound unused writes =
+    recorded_none sound unused.low unused.high (λ j u. u.inode.kind unused.unused) (omega arith) refl (zero_at 13) writes refl
+recorded_fresh Directory sound unused writes =
+    recorded_some sound unused.low unused.high (λ j u. u.inode.kind unused.unused) (omega arith) refl (zero_at 13) writes (λ z. omega arith)
+recorded_fresh File sound unused writes =
+    recorded_some sound unused.low unused.high (λ j u. u.inode.kind unused.unused) (omega arith) refl (zero_at 13) writes (λ z. omega arith)
+recorded_fresh (Device major minor) sound unused writes =
+    recorded_some sound unused.low unused.high (λ j u. u.inode.kind unused.unused) (omega arith) refl (zero_at 13) writes (λ z. omega arith)
 
 -- an inode without bytes is given back
-pub recorded_given : {g : Geometry} {old new : Blocks} {n : ℕ} → IsSound g old → IsInode old g.inodes n → (inode_at old n).size ≡ 0 → WritesInode g old new n (fresh_inode 0 0 0 0) → SetsNode g old new n None
+pub recorded_given : {g : Geometry} {old new : Blocks} {n : ℕ} → IsSound g old → IsInode old g.inodes n → (inode_at old n).size ≡ 0 → WritesInode g old new n (fresh_inode Free 0) → SetsNode g old new n None
 recorded_given sound inode empty writes =
     recorded_none sound inode.low inode.high (λ j u. asks_none _ j empty u.slot) (omega arith) refl (zero_at 13) writes refl

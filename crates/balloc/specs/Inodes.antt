@@ -1,9 +1,11 @@
 -- Inodes that are free, and new ones.
-use Rattle.std.specs.Prelude.{◌≡◌, ◌≢◌, ℕ, ◌<◌, ◌≤◌, List, [], None, Option, Some, replicate, slice_set}
+use Rattle.std.specs.Prelude.{◌≡◌, ◌≢◌, ℕ, ◌<◌, ◌≤◌, List, [], None, Option, Some, slice_set}
 use Rattle.layout.specs.declared.DiskInode.{DiskInode}
 use Rattle.layout.specs.declared.Geometry.{Geometry}
 use Rattle.layout.specs.Image.{RawNode, free_blocks, inode_at, nodes_of}
-use Rattle.layout.specs.Inode.{Fits}
+use Rattle.layout.specs.Inode.{Fits, fresh_inode}
+use Rattle.layout.specs.declared.Kind.{Kind}
+use Rattle.layout.specs.declared.Kind.TheVariants.{Free}
 use Rattle.layout.specs.Sound.{IsSound}
 
 -- no inode is free
@@ -23,13 +25,10 @@ pub record IsLowestUnused (g : Geometry) (blocks : List (List ℕ)) (n : ℕ) : 
   pub unused : (inode_at blocks n).kind ≡ 0
   pub lowest : (m : ℕ) → 1 ≤ m → m < n → (inode_at blocks m).kind ≢ 0
 
--- the record of an inode without bytes
-abbrev pub fresh_inode : ℕ → ℕ → ℕ → ℕ → DiskInode
-fresh_inode kind major minor links = record { kind = kind; major = major; minor = minor; links = links; size = 0; addresses = replicate 13 0 }
-
--- a node without bytes
-abbrev pub fresh_node : ℕ → ℕ → ℕ → ℕ → RawNode
-fresh_node kind major minor links = record { kind = kind; major = major; minor = minor; links = links; bytes = [] }
+-- a node without bytes, where the kind is that of one
+abbrev pub fresh_node : Kind → ℕ → Option RawNode
+fresh_node Free links = None
+fresh_node kind links = Some (record { kind = kind; links = links; bytes = [] })
 
 -- what is read of the record of inode n
 pub record IsRecord (blocks : List (List ℕ)) (n : ℕ) (inode : DiskInode) : Type 0 where
@@ -43,9 +42,9 @@ pub record SetsNode (g : Geometry) (old new : List (List ℕ)) (n : ℕ) (node :
   pub free : free_blocks g new ≡ free_blocks g old
 
 -- number n has a node without bytes
-pub record TakesNode (g : Geometry) (old new : List (List ℕ)) (n kind major minor links : ℕ) : Type 0 where
-  pub inode : inode_at new n ≡ fresh_inode kind major minor links
-  pub sets : SetsNode g old new n (Some (fresh_node kind major minor links))
+pub record TakesNode (g : Geometry) (old new : List (List ℕ)) (n : ℕ) (kind : Kind) (links : ℕ) : Type 0 where
+  pub inode : inode_at new n ≡ fresh_inode kind links
+  pub sets : SetsNode g old new n (fresh_node kind links)
 
 -- the lowest free inode is told, or that there is none
 abbrev pub FindsInode : Geometry → List (List ℕ) → Option ℕ → Type 0
@@ -53,6 +52,6 @@ FindsInode g blocks (Some n) = IsLowestUnused g blocks n
 FindsInode g blocks None = AreAllUsed g blocks
 
 -- the lowest free inode is taken, or none is free and nothing is changed
-abbrev pub TakesInode : Geometry → List (List ℕ) → List (List ℕ) → ℕ → ℕ → ℕ → ℕ → Option ℕ → Type 0
-TakesInode g old new kind major minor links (Some n) = IsLowestUnused g old n × TakesNode g old new n kind major minor links
-TakesInode g old new kind major minor links None = AreAllUsed g old × (new ≡ old)
+abbrev pub TakesInode : Geometry → List (List ℕ) → List (List ℕ) → Kind → ℕ → Option ℕ → Type 0
+TakesInode g old new kind links (Some n) = IsLowestUnused g old n × TakesNode g old new n kind links
+TakesInode g old new kind links None = AreAllUsed g old × (new ≡ old)

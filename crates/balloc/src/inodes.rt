@@ -11,7 +11,7 @@ ghost use Rattle.balloc.specs.Inodes.{FindsInode, IsRecord, IsUnused, SetsNode, 
 
 use blockdev::{Block, BlockDev, DeviceFault};
 use cache::Cache;
-use layout::{DiskInode, Geometry};
+use layout::{DiskInode, Geometry, Kind};
 
 /// The record of an inode.
 #[inline]
@@ -25,7 +25,8 @@ pub fn read_inode<D: BlockDev>(
     ensures { Reads D.identity disk.old disk.new result (IsRecord disk.old.blocks number) }
 {
     let mut record = [0; 64];
-    disk.read_part(2 + number / 16, 64 * (number % 16), &mut record)?;
+    let place = DiskInode::at(number);
+    disk.read_part(place.block, place.offset, &mut record)?;
     Ok(DiskInode::from_front(&record))
 }
 
@@ -41,57 +42,42 @@ pub fn write_inode<D: BlockDev>(
     requires fits { Fits inode.now }
     ensures { Steps D.identity disk.old disk.new result (λ _. WritesInode geometry disk.old.blocks disk.new.blocks number inode.now) }
 {
-    disk.write(2 + number / 16, 64 * (number % 16), &inode.to_bytes())
+    let place = DiskInode::at(number);
+    disk.write(place.block, place.offset, &inode.to_bytes())
 }
 
-/// Takes the lowest free inode, for a node without bytes of this type, major, minor and number of links. `None`
-/// comes exactly where none is free, and nothing is changed then.
+/// Takes the lowest free inode, for a node without bytes of this kind and number of links. `None` comes exactly where none is
+/// free, and nothing is changed then.
 pub fn take_inode<D: BlockDev>(
     disk: &mut Cache<D>,
     geometry: Geometry,
-    kind: u16,
-    major: u16,
-    minor: u16,
+    kind: Kind,
     links: u16,
 ) -> Result<Option<usize>, DeviceFault>
     requires sound { IsSound geometry disk.old.blocks }
-    requires some { 1 ≤ kind }
-    requires kind { kind ≤ 3 }
-    ensures { Steps D.identity disk.old disk.new result (TakesInode geometry disk.old.blocks disk.new.blocks kind major minor links) }
+    ensures { Steps D.identity disk.old disk.new result (TakesInode geometry disk.old.blocks disk.new.blocks kind links) }
 {
     let Some(number) = find_unused(disk, geometry)? else {
         return Ok(None);
     };
-    take_inode_at(disk, geometry, number, kind, major, minor, links)?;
+    take_inode_at(disk, geometry, number, kind, links)?;
     Ok(Some(number))
 }
 
-/// Takes an inode that is known to be free, for a node without bytes of this type, major, minor and number of links.
+/// Takes an inode that is known to be free, for a node without bytes of this kind and number of links.
 pub fn take_inode_at<D: BlockDev>(
     disk: &mut Cache<D>,
     geometry: Geometry,
     number: usize,
-    kind: u16,
-    major: u16,
-    minor: u16,
+    kind: Kind,
     links: u16,
 ) -> Result<(), DeviceFault>
     requires sound { IsSound geometry disk.old.blocks }
     requires unused { IsUnused geometry disk.old.blocks number }
-    requires some { 1 ≤ kind }
-    requires kind { kind ≤ 3 }
     ensures { Steps D.identity disk.old disk.new result (λ _.
-        TakesNode geometry disk.old.blocks disk.new.blocks number kind major minor links) }
+        TakesNode geometry disk.old.blocks disk.new.blocks number kind links) }
 {
-    let inode = DiskInode {
-        kind,
-        major,
-        minor,
-        links,
-        size: 0,
-        addresses: [0; 13],
-    };
-    write_inode(disk, geometry, number, &inode)
+    write_inode(disk, geometry, number, &DiskInode::new(kind, links))
 }
 
 /// Gives back an inode that has no bytes.
@@ -105,15 +91,7 @@ pub fn give_inode<D: BlockDev>(
     requires empty { (inode_at disk.old.blocks number).size ≡ 0 }
     ensures { Steps D.identity disk.old disk.new result (λ _. SetsNode geometry disk.old.blocks disk.new.blocks number None) }
 {
-    let inode = DiskInode {
-        kind: 0,
-        major: 0,
-        minor: 0,
-        links: 0,
-        size: 0,
-        addresses: [0; 13],
-    };
-    write_inode(disk, geometry, number, &inode)
+    write_inode(disk, geometry, number, &DiskInode::new(Kind::Free, 0))
 }
 
 // The lowest number from 1 on whose type is 0.
@@ -126,7 +104,7 @@ fn find_unused<D: BlockDev>(
 {
     let mut n = 1;
     'scan: while n < geometry.inodes {
-        let block = disk.read(2 + n / 16)?;
+        let block = disk.read(DiskInode::at(n).block)?;
         let first = n / 16 * 16;
         let end = geometry.inodes.min(first + 16);
         if let Some(i) = first_unused(&block, n % 16, end - first) {

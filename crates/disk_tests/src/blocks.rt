@@ -7,7 +7,7 @@ use crate::volume::{SMALL, disk_of};
 use balloc::{first_clear, format, give_block, give_inode, take_block, take_inode};
 use blockdev::{DeviceFault, FailAt, MemDisk};
 use cache::Cache;
-use layout::Geometry;
+use layout::{Geometry, Kind};
 use std::process::Abort;
 
 // What is taken: the number of an inode, and three blocks, of which the second is given back before the third is taken.
@@ -21,7 +21,7 @@ fn use_inode(
     requires sound { IsSound geometry disk.old.blocks }
     ensures sound { OnOk result (IsSound geometry disk.new.blocks) }
 {
-    let Some(number) = take_inode(disk, geometry, 2, 0, 0, 1)? else {
+    let Some(number) = take_inode(disk, geometry, Kind::File, 1)? else {
         return Ok(None);
     };
     give_inode(disk, geometry, number)?;

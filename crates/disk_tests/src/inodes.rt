@@ -29,9 +29,9 @@ static CASES: [Case; 8] = [
             Step::Fill(1, 0, 11 * 1024, 7, Ok(())),
             Step::Write(1, 11 * 1024 - 1, *b"hello"),
             Step::Read(1, 11 * 1024 - 3, 7, *b"\x07\x07hello\x01\x01"),
-            Step::Link(1, 2, (2, 1, 11 * 1024 + 4)),
+            Step::Link(1, 2, (1, 11 * 1024 + 4)),
             Step::Empty(1),
-            Step::Link(1, 3, (2, 2, 0)),
+            Step::Link(1, 3, (2, 0)),
         ],
     },
     Case {
@@ -170,7 +170,7 @@ static LONGEST: [Step; 7] = [
     Step::Fill(1, 67_382_272, 1, b'x', Err(InodeFault::TooLong)),
     Step::Read(1, 535_548, 9, [7; 9]),
     Step::Read(1, 67_382_265, 7, *b"\x07\x07\x07\x07\x07\x07x\x01\x01"),
-    Step::Link(1, 1, (2, 1, 67_382_272)),
+    Step::Link(1, 1, (1, 67_382_272)),
 ];
 
 #[test]
@@ -182,7 +182,7 @@ fn has_at_most_67382272_bytes(rt: HostRuntime) {
 const EACH: [Step; 5] = [
     Step::Create(Some(1)),
     Step::Fill(1, 0, 14 * 1024, 7, Ok(())),
-    Step::Link(1, 2, (2, 1, 14 * 1024)),
+    Step::Link(1, 2, (1, 14 * 1024)),
     Step::Read(1, 13 * 1024, 9, [7; 9]),
     Step::Empty(1),
 ];

@@ -1,6 +1,6 @@
 //! The records of an image and their bytes.
 
-use layout::{CURRENT, DiskInode, Entry, Format, LayoutFault, MAGIC, SuperBlock};
+use layout::{CURRENT, DiskInode, Entry, Format, LayoutFault, SuperBlock};
 
 // The numbers of an image of 32 blocks and 16 inodes.
 const SMALLEST: [u8; 32] = [
@@ -10,7 +10,7 @@ const SMALLEST: [u8; 32] = [
 
 // What these bytes spell.
 const NUMBERS: SuperBlock = SuperBlock {
-    magic: MAGIC,
+    magic: 0x1020_3041,
     size: 32,
     blocks: 27,
     inodes: 16,

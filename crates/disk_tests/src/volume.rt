@@ -12,8 +12,8 @@ use crate::devices::fail_after;
 use balloc::format;
 use blockdev::{BLOCK_SIZE, DeviceFault, FailAt, MemDisk};
 use cache::Cache;
-use inode::{InodeFault, Volume};
-use layout::{Geometry, MOST_BLOCKS};
+use inode::{FILE, InodeFault, Volume};
+use layout::{Geometry, Kind, MOST_BLOCKS};
 use std::alloc::Global;
 
 /// The numbers of the smallest disk.
@@ -76,8 +76,8 @@ pub enum Step {
     Read(usize, usize, usize, [u8; 9]),
     /// The file loses all its bytes.
     Empty(usize),
-    /// The file gets another number of names. It had this type, number of names and size.
-    Link(usize, u16, (u16, u16, u32)),
+    /// The file gets another number of names. It had this number of names and size.
+    Link(usize, u16, (u16, u32)),
 }
 
 /// Takes the steps on a new disk with files, and tells the first that gives anything else than its row says. One access
@@ -110,7 +110,7 @@ fn walk(volume: &mut Files, alloc: Global, step: Step) -> Result<bool, InodeFaul
     ensures { OnOk result (volume.new.failed ≡ false) }
 {
     match step {
-        Step::Create(number) => Ok(volume.take(2, 0, 0, 1)? == number),
+        Step::Create(number) => Ok(volume.take(Kind::File, 1)? == number),
         Step::Fill(number, at, count, byte, want) => {
             fill(volume, alloc, number, at, count, byte, want)
         }
@@ -211,12 +211,12 @@ fn empty(volume: &mut Files, number: usize) -> Result<bool, InodeFault>
     Ok(true)
 }
 
-// Sets the number of names of a file that had this type, number of names and size.
+// Sets the number of names of a file that had this number of names and size.
 fn link(
     volume: &mut Files,
     number: usize,
     links: u16,
-    before: (u16, u16, u32),
+    before: (u16, u32),
 ) -> Result<bool, InodeFault>
     requires { volume.old.failed ≡ false }
     ensures { OnOk result (volume.new.failed ≡ false) }
@@ -226,5 +226,5 @@ fn link(
     }
     let told = volume.stat(number)?;
     volume.set_links(number, links)?;
-    Ok((told.kind, told.links, told.size) == before)
+    Ok(told.kind == FILE && (told.links, told.size) == before)
 }

@@ -9,7 +9,7 @@ ghost use Rattle.imagecheck.specs.Slots.{IsFound};
 ghost use Rattle.imagerules.specs.Fields.{HasGeometry, HasInode, HasPlace, is_data_in};
 ghost use Rattle.imagerules.specs.Pieces.{HasSizes, HasAddresses, FitsAddresses};
 
-use crate::fields::{inode_place, kind, number32, size};
+use crate::fields::{inode_place, is_free, number32, size};
 use crate::slots::{address_of, holder_of, index_blocks, is_in_record, place_of, slot_at, there};
 use layout::{Format, Geometry};
 
@@ -115,7 +115,7 @@ fn has_own_addresses(image: &[u8], geometry: Geometry, n: usize) -> bool
     requires high { n < geometry.inodes }
     ensures { IsTrue result ↔ (kind_in image.now n ≢ 0 → FitsAddresses image.now n) }
 {
-    kind(image, n) == 0 || fits_addresses(image, geometry, n)
+    is_free(image, n) || fits_addresses(image, geometry, n)
 }
 
 // Whether the numbers of each inode in use that its size asks for are data blocks, and all others 0.

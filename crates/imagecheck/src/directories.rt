@@ -11,10 +11,10 @@ ghost use Rattle.imagecheck.specs.Namings.{namings_in, namings_of};
 use crate::ImageFault;
 use crate::contents::read_contents;
 use crate::entries::are_good;
-use crate::fields::kind;
+use crate::fields::is_directory;
 use crate::names::{are_distinct, read_names};
 use crate::namings::{Naming, add_entries};
-use layout::{DIRECTORY, Geometry};
+use layout::Geometry;
 use std::alloc::{AllocError, Allocator};
 
 // Whether the names in a directory's bytes are good, one by one and all together. Their numbers are sorted.
@@ -113,7 +113,7 @@ pub fn test_directories<A: Allocator>(
     let mut bytes = Vec::new(&alloc);
     let mut names = Vec::new(&alloc);
     for n in 1..geometry.inodes {
-        if kind(image, n) == DIRECTORY {
+        if is_directory(image, n) {
             test_directory(image, geometry, n, &mut bytes, &mut names, namings)?;
         }
     }

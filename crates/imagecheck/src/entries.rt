@@ -6,7 +6,7 @@ ghost use Rattle.imagecheck.specs.Entries.{GoodPlace, IsGood, entries_in};
 ghost use Rattle.imagerules.specs.Fields.{HasGeometry};
 ghost use Rattle.imagerules.specs.Places.{files_in, place_of_bytes};
 
-use crate::fields::kind;
+use crate::fields;
 use imagerules::{is_free, is_good_name, name_in, number_in, place_at};
 use layout::Geometry;
 
@@ -21,7 +21,7 @@ fn is_used(image: &[u8], geometry: Geometry, n: usize) -> bool
     if n >= geometry.inodes {
         return false;
     }
-    kind(image, n) != 0
+    !fields::is_free(image, n)
 }
 
 // Whether a place is free, or has a name and the number of an inode in use.

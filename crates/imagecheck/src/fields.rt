@@ -1,11 +1,12 @@
 //! Numbers in the bytes of an image, and the fields of its inodes.
 
-ghost use Rattle.std.specs.Prelude.{◌≡◌, ◌+◌, ◌*◌, ◌/◌, ◌%◌, ◌<◌, ◌≤◌, length};
+ghost use Rattle.std.specs.Prelude.{◌≡◌, ◌+◌, ◌*◌, ◌/◌, ◌%◌, ◌<◌, ◌≤◌, ◌↔◌, IsTrue, length};
 ghost use Rattle.unixmodel.specs.Numbers.{number_at};
-ghost use Rattle.unixmodel.specs.Image.{inode_at, kind_in, length_in, links_in, major_in, minor_in};
-ghost use Rattle.imagerules.specs.Fields.{HasPlace};
+ghost use Rattle.unixmodel.specs.Image.{inode_at, kind_in, length_in, links_in};
+ghost use Rattle.imagerules.specs.Fields.{HasPlace, kind_at};
 
 use byteorder::{ByteOrder, LittleEndian};
+use layout::Kind;
 
 // The number of two bytes at a place.
 pub fn number16(image: &[u8], at: usize) -> u16
@@ -31,28 +32,41 @@ pub fn inode_place(n: usize) -> usize
     1024 * (2 + n / 16) + 64 * (n % 16)
 }
 
-/// The type of an inode: 0 free, 1 directory, 2 file, 3 device.
-pub fn kind(image: &[u8], n: usize) -> u16
+/// What an inode is of.
+pub fn kind(image: &[u8], n: usize) -> Kind
     requires { HasPlace image.now n }
-    ensures { result ≡ kind_in image.now n }
+    ensures { result ≡ kind_at image.now n }
 {
-    number16(image, inode_place(n))
+    let at = inode_place(n);
+    Kind::read(
+        number16(image, at),
+        number16(image, at + 2),
+        number16(image, at + 4),
+    )
 }
 
-/// The major number of an inode, which counts where it is a device.
-pub fn major(image: &[u8], n: usize) -> u16
+// Whether an inode has a type that there is.
+pub fn is_known(image: &[u8], n: usize) -> bool
     requires { HasPlace image.now n }
-    ensures { result ≡ major_in image.now n }
+    ensures { IsTrue result ↔ (kind_in image.now n ≤ 3) }
 {
-    number16(image, inode_place(n) + 2)
+    Kind::is_known(number16(image, inode_place(n)))
 }
 
-/// The minor number of an inode, which counts where it is a device.
-pub fn minor(image: &[u8], n: usize) -> u16
+// Whether an inode is free.
+pub fn is_free(image: &[u8], n: usize) -> bool
     requires { HasPlace image.now n }
-    ensures { result ≡ minor_in image.now n }
+    ensures { IsTrue result ↔ (kind_in image.now n ≡ 0) }
 {
-    number16(image, inode_place(n) + 4)
+    kind(image, n).is_free()
+}
+
+// Whether an inode is that of a directory.
+pub fn is_directory(image: &[u8], n: usize) -> bool
+    requires { HasPlace image.now n }
+    ensures { IsTrue result ↔ (kind_in image.now n ≡ 1) }
+{
+    kind(image, n).is_directory()
 }
 
 /// How many names an inode says that it has.

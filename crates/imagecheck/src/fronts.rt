@@ -10,9 +10,9 @@ ghost use Rattle.imagecheck.specs.Reach.{IsDirectoryIn};
 ghost use Rattle.imagerules.specs.Places.{place_of_bytes};
 
 use crate::contents::front_place;
-use crate::fields::kind;
+use crate::fields::is_directory;
 use imagerules::{are_same, is_free, name_in, number_in, place_at};
-use layout::{DIRECTORY, Geometry};
+use layout::Geometry;
 
 // Whether a place has this name and number.
 fn holds(place: &[u8], name: &[u8], number: usize) -> bool
@@ -59,24 +59,18 @@ pub fn has_fronts(image: &[u8], geometry: Geometry, parents: &[u16]) -> bool
     ensures { IsTrue result ↔ HasFronts image.now }
 {
     for n in 1..geometry.inodes {
-        if kind(image, n) == DIRECTORY && !has_front(image, geometry, n, parents[n] as usize) {
+        if is_directory(image, n) && !has_front(image, geometry, n, parents[n] as usize) {
             return false;
         }
     }
     true
 }
 
-// Whether a directory has as many names as it may: the root none, another one. An inode of another type may have any.
-fn fits_names(kind: u16, n: usize, names: usize) -> bool
-    ensures { IsTrue result ↔ (kind ≡ 1 → names ≡ (if n == 1 then 0 else 1)) }
+// Whether a directory has as many names as it may: the root none, another one.
+fn fits_names(n: usize, names: usize) -> bool
+    ensures { IsTrue result ↔ (names ≡ (if n == 1 then 0 else 1)) }
 {
-    if kind != DIRECTORY {
-        return true;
-    }
-    if n == 1 {
-        return names == 0;
-    }
-    names == 1
+    if n == 1 { names == 0 } else { names == 1 }
 }
 
 // Whether one place names each directory, and none the root.
@@ -87,7 +81,7 @@ pub fn are_named(image: &[u8], geometry: Geometry, counts: &[usize]) -> bool
     ensures { IsTrue result ↔ AreNamed image.now }
 {
     for n in 1..geometry.inodes {
-        if !fits_names(kind(image, n), n, counts[n]) {
+        if is_directory(image, n) && !fits_names(n, counts[n]) {
             return false;
         }
     }

@@ -1,13 +1,14 @@
 //! The types and the sizes of inodes.
 
-ghost use Rattle.std.specs.Prelude.{◌↔◌, IsTrue, ◌%◌, ◌<◌, ◌≤◌};
+ghost use Rattle.std.specs.Prelude.{◌↔◌, IsTrue, ◌%◌, ◌<◌};
 ghost use Rattle.imagerules.specs.Fields.{HasGeometry};
+ghost use Rattle.layout.specs.Kinds.{kind_number};
 ghost use Rattle.imagerules.specs.Pieces.{HasKinds, HasSizes, FitsKind};
 
 use crate::blocks::format_of;
-use crate::fields::{kind, size};
+use crate::fields::{is_directory, is_known, kind, size};
 use crate::slots::single;
-use layout::{DEVICE, DIRECTORY, FILE, Geometry};
+use layout::{Geometry, Kind};
 
 // Whether each type is known, and the root is a directory.
 pub fn has_kinds(image: &[u8], geometry: Geometry) -> bool
@@ -15,23 +16,22 @@ pub fn has_kinds(image: &[u8], geometry: Geometry) -> bool
     ensures { IsTrue result ↔ HasKinds image.now }
 {
     for n in 1..geometry.inodes {
-        if kind(image, n) > DEVICE {
+        if !is_known(image, n) {
             return false;
         }
     }
-    kind(image, 1) == DIRECTORY
+    is_directory(image, 1)
 }
 
-// Whether an inode of this type may have this size in bytes, if a file has so many at most.
-fn fits_kind(longest: usize, kind: u16, size: usize) -> bool
-    requires { kind ≤ 3 }
-    ensures { IsTrue result ↔ FitsKind longest kind size }
+// Whether an inode of this kind may have this size in bytes, if a file has so many at most.
+fn fits_kind(longest: usize, kind: Kind, size: usize) -> bool
+    ensures { IsTrue result ↔ FitsKind longest (kind_number kind) size }
 {
     match kind {
-        0 => true,
-        DIRECTORY => size >= 32 && size <= longest && size % 16 == 0,
-        FILE => size <= longest,
-        _ => size == 0,
+        Kind::Free => true,
+        Kind::Directory => size >= 32 && size <= longest && size % 16 == 0,
+        Kind::File => size <= longest,
+        Kind::Device { .. } => size == 0,
     }
 }
 

@@ -23,9 +23,7 @@ mod tables;
 
 use blockdev::DeviceFault;
 pub use contents::read_contents;
-pub use fields::{
-    kind as inode_kind, links as inode_links, major as inode_major, minor as inode_minor,
-};
+pub use fields::{kind as inode_kind, links as inode_links};
 pub use memory::check1_bytes;
 pub use rules::{Summary, check, check1};
 use std::alloc::AllocError;

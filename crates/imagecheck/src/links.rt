@@ -3,20 +3,21 @@
 ghost use Rattle.std.specs.Prelude.{◌↔◌, IsTrue, ◌≡◌, ◌<◌, length};
 ghost use Rattle.imagerules.specs.Rules.{BlockRules};
 ghost use Rattle.imagerules.specs.Fields.{HasGeometry};
+ghost use Rattle.layout.specs.Kinds.{kind_number};
 ghost use Rattle.imagecheck.specs.Namings.{FitsLinks, TellsNames, TellsSubdirectories};
 ghost use Rattle.imagerules.specs.Places.{HasLinks, files_in};
 
 use crate::fields::{kind, links};
-use layout::{DIRECTORY, Geometry};
+use layout::{Geometry, Kind};
 
-// Whether an inode of this type may have this count of links: a directory one more than its subdirectories, a file or a
+// Whether an inode of this kind may have this count of links: a directory one more than its subdirectories, a file or a
 // device as many as there are places that name it.
-fn fits_links(kind: u16, links: usize, names: usize, subdirectories: usize) -> bool
-    ensures { IsTrue result ↔ FitsLinks kind links names subdirectories }
+fn fits_links(kind: Kind, links: usize, names: usize, subdirectories: usize) -> bool
+    ensures { IsTrue result ↔ FitsLinks (kind_number kind) links names subdirectories }
 {
     match kind {
-        0 => true,
-        DIRECTORY => links >= 1 && links - 1 == subdirectories,
+        Kind::Free => true,
+        Kind::Directory => links >= 1 && links - 1 == subdirectories,
         _ => links >= 1 && links <= 32767 && links == names,
     }
 }

@@ -9,7 +9,7 @@ ghost use Rattle.imagerules.specs.Pieces.{FitsAddresses, HasSizes, HasAddresses,
 ghost use Rattle.imagecheck.specs.Faults.{MarksMore};
 
 use crate::blocks::{block_count, format_of, number};
-use crate::fields::kind;
+use crate::fields::is_free;
 use crate::slots::{index_blocks, slot_at};
 use layout::Geometry;
 
@@ -52,7 +52,7 @@ fn mark_inode(image: &[u8], geometry: Geometry, n: usize, marks: &mut [bool]) ->
     requires long { length marks.old ≡ geometry.size }
     ensures { MarksMore marks.old marks.new (blocks_of image.now n) result }
 {
-    if kind(image, n) == 0 {
+    if is_free(image, n) {
         return true;
     }
     mark_all(image, n, marks)

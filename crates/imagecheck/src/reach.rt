@@ -10,8 +10,8 @@ ghost use Rattle.imagecheck.specs.Reach.{HasClimbed, HasWalked, IsDirectoryIn};
 
 use crate::ImageFault;
 use crate::contents::front_place;
-use crate::fields::{kind, number16};
-use layout::{DIRECTORY, Geometry};
+use crate::fields::{is_directory, number16};
+use layout::Geometry;
 use std::alloc::Allocator;
 
 // The directory that a directory's ".." names.
@@ -60,7 +60,7 @@ fn test_climbs(image: &[u8], geometry: Geometry, marks: &mut [u16]) -> Result<()
     ensures own { IfErr result IsOfImage }
 {
     for n in 2..geometry.inodes {
-        if kind(image, n) == DIRECTORY && !climb(image, geometry, n, marks) {
+        if is_directory(image, n) && !climb(image, geometry, n, marks) {
             return Err(ImageFault::Unreached);
         }
     }

@@ -7,7 +7,7 @@ ghost use Rattle.imagerules.specs.Marks.{blocks_of};
 ghost use Rattle.imagerules.specs.Pieces.{HasSizes};
 
 use crate::blocks::{block_count, format_of};
-use crate::fields::kind;
+use crate::fields::is_free;
 use crate::slots::index_blocks;
 use layout::Geometry;
 
@@ -20,7 +20,7 @@ fn block_total(image: &[u8], geometry: Geometry, n: usize) -> usize
     ensures total { result ≡ length (blocks_of image.now n) }
     ensures most { result ≤ 66061 }
 {
-    if kind(image, n) == 0 {
+    if is_free(image, n) {
         return 0;
     }
     let count = block_count(image, n);
@@ -47,7 +47,7 @@ pub fn inodes_in_use(image: &[u8], geometry: Geometry) -> usize
 {
     let mut total = 0;
     for n in 1..geometry.inodes {
-        if kind(image, n) != 0 {
+        if !is_free(image, n) {
             total += 1;
         }
     }

@@ -7,9 +7,9 @@ ghost use Rattle.imagecheck.specs.declared.namings.Naming.{Naming};
 ghost use Rattle.imagerules.specs.Places.{files_in};
 ghost use Rattle.unixmodel.specs.Image.{is_directory_at};
 
-use crate::fields::kind;
+use crate::fields;
 use crate::namings::Naming;
-use layout::{DIRECTORY, Geometry};
+use layout::Geometry;
 
 // Counts how many entries name each number.
 pub fn count_names(namings: &[Naming], counts: &mut [usize])
@@ -59,7 +59,7 @@ fn is_directory(image: &[u8], geometry: Geometry, n: usize) -> bool
     requires high { n < geometry.inodes }
     ensures { result ≡ is_directory_at (files_in image.now) n }
 {
-    kind(image, n) == DIRECTORY
+    fields::is_directory(image, n)
 }
 
 // Counts how many entries of each directory name directories.

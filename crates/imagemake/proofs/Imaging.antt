@@ -1,23 +1,24 @@
 -- From a blank disk to the bytes of an image that denotes files.
 use Rattle.imagemake.proofs.Common.{◌≡◌, ℕ, ◌*◌, ◌-◌, ◌<◌, ◌≤◌, List, None, Option, Some, length, ap, sym, refl, ◌∙◌, arith, subst, inl, inr, All, IsTrue, nat_lt, Decides, get_or, and_from, cases_eq, le-leb, lt-ltb, Decides-eqb}
-use Rattle.imagemake.proofs.Common.{Decides-like, same_from_decides, length-bytes_of, IsInode, IsUsed, asked_slot, bytes_of, node_at, node_with, slot_of, HasParts, IsSound, bitmap_start_of, super_of, Geometry, Files, Node, slot, File}
+use Rattle.imagemake.proofs.Common.{Decides-like, same_from_decides, length-bytes_of, IsInode, IsUsed, asked_slot, bytes_of, node_at, node_with, slot_of, HasParts, IsSound, bitmap_start_of, super_of, Geometry, Files, Node, slot}
 use Rattle.imagemake.proofs.Common.{Format, format, most_bytes, KeepsRules, bit_of, data_start, format_of, inodes_in, kind_in, size_in, super_number, image_of, length-image_of, IsOnce, blocks_of-free, blocks_of-used, named_before-all}
-use Rattle.imagemake.proofs.Common.{kind-located, size-located, HasAddresses-from, whole-node, Directory, Device, ◌+◌, ◌&&◌, true, false, cond, Ok, Err, Result, nat_le, replicate, OnOk, IsErrAnd, and_parts, cases_lt, false≢true, nat_tests}
+use Rattle.imagemake.proofs.Common.{kind-located, size-located, HasAddresses-from, whole-node, ◌+◌, ◌&&◌, true, false, cond, Ok, Err, Result, nat_le, replicate, OnOk, IsErrAnd, and_parts, cases_lt, false≢true, nat_tests}
 use Rattle.imagemake.proofs.Common.{get_or-replicate, get_or_past, length-replicate, RawNode, FileTree, tree_with, IsNow, now-limit, files-are, free_slots, ManifestEntry, Wrong, bare_files, data_blocks_of, files_made, has_numbers}
 use Rattle.imagemake.proofs.Common.{with_entries, Numbers, IsBlank, IsPossible, MakesEntries, made_by, MakesImage, Refuses, MakeFault, NoMemory, IfErr, IfOk, IsOk, blocks_of}
 use Rattle.layout.specs.Image as disk
 use Rattle.blockdev.specs.Blocks as device
 use Rattle.imagerules.specs.Marks.{blocks_of as blocks_in}
 use Rattle.imagerules.specs.Pieces.{HasAddresses, HasBitmap, NamesOnce}
-use Rattle.imagerules.proofs.Super.{HasSuper-from, inodes-is, magic-is, size-is, links-located, major-located, minor-located}
+use Rattle.imagerules.proofs.Super.{HasSuper-from, inodes-is, magic-is, size-is, kind-told, links-located}
+use Rattle.imagerules.proofs.Nodes.{node-kind}
 use Rattle.imagemake.proofs.Slotted.{once-range, IsLegible, bit-held, inode_at, named-decides, All-listed, IsReadable, contents-are, format-told, listed-asks, listed-once, listed-slot, spares-zero}
 use Rattle.balloc.specs.Format.{IsNew}
 use Rattle.cache.specs.Disk.{Disk}
 use Rattle.inode.specs.Store.{IsWhole, Store, store_over}
-use Rattle.tree.specs.Stored.{Stores, Agrees, FitsPlaces, HasDevice, IsRaw, IsStored}
+use Rattle.tree.specs.Stored.{Stores, Agrees, FitsPlaces, IsRaw, IsStored}
 use Rattle.imagemake.proofs.Putting.{length-free, no-files, slot-free, told_err}
 use Rattle.layout.proofs.GrowLemmas.{get_or-nodes_of, length-nodes_of, node_at-none, node_at-some}
-use Rattle.unixmodel.specs.Image.{Denotes, HasMajor, HasSuper, is_data_block, IsNode, KeepsRulesTo, Stands}
+use Rattle.unixmodel.specs.Image.{Denotes, HasSuper, is_data_block, IsNode, KeepsRulesTo, Stands}
 
 -- ---- the image of a disk denotes the files that the disk stores
 
@@ -143,19 +144,17 @@ module _ {size : ℕ} {blocks : List (List ℕ)} {files : Files} (stored : IsSto
   agrees n high = subst (λ raw. Agrees raw (slot files n)) (get_or-nodes_of blocks _ n high) (stored.nodes.each n (omega (arith, count)))
 
   module _ (n : ℕ) (i : IsInode blocks g.inodes n) where
-    has-major : (node : Node) → HasDevice (node_with (disk.inode_at blocks n) (bytes_of blocks n)) node → HasMajor (image_of blocks) n node
-    has-major (File links bytes) h = tt
-    has-major (Device links major minor) h = (sym (major-located g blocks parts n i.high) ∙ h.0, sym (minor-located g blocks parts n i.high) ∙ h.1)
-    has-major (Directory links places) h = tt
-
     stands-node : (node : Node) → IsRaw (node_with (disk.inode_at blocks n) (bytes_of blocks n)) node → FitsPlaces (Some node) → IsNode (image_of blocks) n node
-    stands-node node raw fits = record {
-      kind = sym (kind-located g blocks parts n i.high) ∙ raw.kind;
-      links = sym (links-located g blocks parts n i.high) ∙ raw.links;
-      size = sym (size-located g blocks parts n i.high) ∙ sym (length-bytes_of blocks n) ∙ ap length raw.bytes ∙ whole-node node fits;
-      contents = contents-are g blocks n (readable g blocks stored.sound n i) ∙ raw.bytes;
-      major = has-major node raw.device;
-    }
+    stands-node node raw fits =
+        let known = stored.sound.kinds n i.low i.high in
+        let told = node-kind (image_of blocks) n node (omega (arith, known, kind-located g blocks parts n i.high)) (sym (kind-told g blocks parts n i.high) ∙ raw.kind) in
+        record {
+          kind = told.0;
+          links = sym (links-located g blocks parts n i.high) ∙ raw.links;
+          size = sym (size-located g blocks parts n i.high) ∙ sym (length-bytes_of blocks n) ∙ ap length raw.bytes ∙ whole-node node fits;
+          contents = contents-are g blocks n (readable g blocks stored.sound n i) ∙ raw.bytes;
+          major = told.1;
+        }
 
     stands-used : (o : Option Node) → Agrees (Some (node_with (disk.inode_at blocks n) (bytes_of blocks n))) o → FitsPlaces o → Stands (image_of blocks) n o
     stands-used None h fits = absurd h

@@ -1,10 +1,10 @@
 -- Steps that put nodes, one after the other.
 use Rattle.imagemake.proofs.FromRules.{KeepsRules-live}
-use Rattle.imagemake.proofs.Common.{names_by-le, links_of, none-some, same_Some, ◌≡◌, ◌≢◌, ℕ, zero, suc, ◌-◌, ◌<◌, ◌≤◌, true, List, [], ◌∷◌, ◌++◌, length, None, Option, Some, inl, inr, map, ap, sym, refl, ◌∙◌, arith, subst, count_by}
+use Rattle.imagemake.proofs.Common.{set, names_by-le, links_of, none-some, same_Some, ◌≡◌, ◌≢◌, ℕ, zero, suc, ◌-◌, ◌<◌, ◌≤◌, true, List, [], ◌∷◌, ◌++◌, length, None, Option, Some, inl, inr, map, ap, sym, refl, ◌∙◌, arith, subst, count_by}
 use Rattle.imagemake.proofs.Common.{flat_map, is_some, sum_by, ◌==◌, cases_lt, get_or-replicate, get_or-set_other, get_or-set_same, get_or_past, length-replicate, length-set, at_or, Node, blocks_for, dot, dot_dot, free_slots, size_of, slot}
 use Rattle.imagemake.proofs.Common.{taken, KeepsRules, KeepsSize, all_entries, entries_of, names_of, bare_directory, bare_files, node_for, Bytes, Folder, Special, PackedAt, IsBegun, blocks_of, Entry, Thing, KeepsLive, KeepsTree, folders}
 use Rattle.imagemake.proofs.Common.{names_for, Err, Ok, Result, OnOk, IsErrAnd, err_from_is_err_and, BlamesDevice, make_fault, MakeFault, StoreFault, is_err, ◌+◌, set-set, FileTree, IsNow, now-files, now-limit, blocks_of-set, slot-within}
-use Rattle.imagemake.proofs.Common.{taken_by, Files, kind_of, put, Puts, bare, major_of, minor_of, Directory, false, nat_lt, IfOk-at_ok, cond-false, cond-true, le-ltb, lt-ltb, false≢true, get_or-append_right, get_or_append_left}
+use Rattle.imagemake.proofs.Common.{taken_by, Files, put, Puts, Directory, false, nat_lt, IfOk-at_ok, cond-false, cond-true, le-ltb, lt-ltb, false≢true, get_or-append_right, get_or_append_left}
 use Rattle.imagemake.proofs.Common.{length_push, entered, room_in, Looks, change_node, most_places, appended, linked, more_links, HasDirectory, change-is, blocks_of-entered, entered-is, room-end, ◌⊎◌, cond, Bool, take, nat_le, le-leb}
 use Rattle.imagemake.proofs.Common.{leb-false, lt-leb, append-nil, drop_all, take_all, longest, File}
 use Rattle.imagemake.specs.declared.store.StoreFault.TheVariants.{Blocks, Device}
@@ -16,7 +16,7 @@ use Rattle.tree.proofs.Links.{links-size}
 use Rattle.tree.specs.Written.{Written, count_of, files_after, fitting, with_bytes, write_to, written}
 use Rattle.unixmodel.specs.FileCalls.{greatest, with_file}
 use Rattle.unixmodel.specs.Memory.{overwrite}
-use Rattle.tree.specs.Entering.{fresh, growth, placed, room_behind, HasRoom}
+use Rattle.tree.specs.Entering.{growth, placed, room_behind, HasRoom}
 use Rattle.unixmodel.specs.Failures.{HasCause}
 use Rattle.imagemake.specs.Added.{IsPacked, LacksRoomFor, Owns, TellsFull}
 
@@ -198,16 +198,8 @@ module _ {old mid : FileTree} (n : ℕ) (a b : Node) (is : IsNow old mid (put ol
 
 -- ---- a number is taken for a thing
 
-fresh-bare : (t : Thing) → fresh (kind_of (bare t)) (major_of (bare t)) (minor_of (bare t)) ≡ bare t
-fresh-bare Folder = refl
-fresh-bare (Bytes bytes) = refl
-fresh-bare (Special major minor) = refl
-
-pub took-thing : {old now : FileTree} (number : ℕ) {kind major minor : ℕ} (t : Thing) → kind ≡ kind_of (bare t) → major ≡ major_of (bare t) → minor ≡ minor_of (bare t)
-    → IsNow old now (put old.files number (fresh kind major minor)) → IsNow old now (put old.files number (bare t))
-took-thing {old} {now} number {kind} {major} {minor} t is_kind is_major is_minor took =
-    let node : fresh kind major minor ≡ bare t = (λ i. fresh (is_kind i) (is_major i) (is_minor i)) ∙ fresh-bare t in
-    subst (IsNow old now) (ap (put old.files number) node) took
+pub took-thing : {old now : FileTree} (number : ℕ) {o : Option Node} {node : Node} → o ≡ Some node → IsNow old now (set old.files number o) → IsNow old now (put old.files number node)
+took-thing {old} {now} number is took = subst (λ o. IsNow old now (set old.files number o)) is took
 
 -- it stands at its number, and what stood elsewhere stays
 module _ {old mid : FileTree} {number : ℕ} (node : Node) (free : IsUnnamed old.files number) (is : IsNow old mid (put old.files number node)) where

@@ -1,17 +1,9 @@
 -- The nodes that things make before they have bytes.
-use Rattle.std.specs.Prelude.{[], ℕ}
+use Rattle.std.specs.Prelude.{[]}
 use Rattle.unixmodel.specs.Files.{Node}
 use Rattle.unixmodel.specs.Files.Node.{Device, Directory, File}
 use Rattle.unixmodel.specs.Manifest.{Thing}
 use Rattle.unixmodel.specs.Manifest.Thing.{Bytes, Folder, Special}
-
-abbrev pub major_of : Node → ℕ
-major_of (Device links major minor) = major
-major_of node = 0
-
-abbrev pub minor_of : Node → ℕ
-minor_of (Device links major minor) = minor
-minor_of node = 0
 
 abbrev pub bare : Thing → Node
 bare Folder = Directory 1 []

@@ -1,20 +1,20 @@
 //! Nodes and their names are put among files.
 
 ghost use Rattle.std.specs.Prelude.{◌≡◌, ◌≢◌, ◌≤◌, IsTrue, None, Some, [], false, length};
-ghost use Rattle.tree.specs.Entering.{room_in};
+ghost use Rattle.tree.specs.Entering.{fresh, room_in};
 ghost use Rattle.tree.specs.Steps.{IsUnnamed, Turns};
 ghost use Rattle.tree.specs.Tree.{Looks};
-ghost use Rattle.unixmodel.specs.Files.{free_slots, kind_of, slot};
+ghost use Rattle.unixmodel.specs.Files.{free_slots, slot};
 ghost use Rattle.unixmodel.specs.Files.Node.{Directory, File};
 ghost use Rattle.unixmodel.specs.Manifest.{bare_directory, bare_files, node_for};
 ghost use Rattle.unixmodel.specs.Image.{is_name};
 ghost use Rattle.imagemake.specs.Added.{CanAdd, HasDirectory, Puts, PutsName, Stores};
 ghost use Rattle.imagemake.specs.Making.{thing_of};
-ghost use Rattle.imagemake.specs.Nodes.{bare, major_of, minor_of};
+ghost use Rattle.imagemake.specs.Nodes.{bare};
 
 use crate::manifest::Thing;
 use blockdev::{BlockDev, DeviceFault};
-use layout::LONGEST;
+use layout::{Kind, LONGEST};
 use thiserror::Error;
 use tree::{Gap, Tree};
 
@@ -48,7 +48,7 @@ pub fn store_root<D: BlockDev>(tree: &mut Tree<D>) -> Result<(), DeviceFault>
     requires block { 1 ≤ tree.old.block_limit }
     ensures { Turns tree.old tree.new result (bare_files (length tree.old.files)) }
 {
-    tree.take_node_at(1, 1, 0, 0)?;
+    tree.take_node_at(1, Kind::Directory)?;
     tree.put_dots(1, 1)
 }
 
@@ -82,7 +82,7 @@ fn store_node<D: BlockDev>(
     requires directory { slot tree.old.files directory ≢ None }
     ensures { Puts tree.old tree.new number (node_for number directory (thing_of thing.now)) result }
 {
-    tree.take_node_at(number, kind(thing), major(thing), minor(thing))?;
+    tree.take_node_at(number, kind(thing))?;
     match thing {
         Thing::Directory => put_dots(tree, number, directory),
         Thing::File(bytes) => put_bytes(tree, number, bytes),
@@ -173,35 +173,16 @@ fn store_name<D: BlockDev>(
     Ok(())
 }
 
-// The type of the inode that a thing has.
-fn kind(thing: &Thing) -> u16
-    ensures kind { result ≡ kind_of (bare (thing_of thing.now)) }
-    ensures some { 1 ≤ result }
-    ensures most { result ≤ 3 }
+// The kind of the inode that a thing has.
+fn kind(thing: &Thing) -> Kind
+    ensures { fresh result ≡ Some (bare (thing_of thing.now)) }
 {
     match thing {
-        Thing::Directory => 1,
-        Thing::File(_) => 2,
-        Thing::Device { .. } => 3,
-    }
-}
-
-// The major number of a device, and 0 for all else.
-fn major(thing: &Thing) -> u16
-    ensures { result ≡ major_of (bare (thing_of thing.now)) }
-{
-    match thing {
-        Thing::Device { major, .. } => *major,
-        _ => 0,
-    }
-}
-
-// The minor number of a device, and 0 for all else.
-fn minor(thing: &Thing) -> u16
-    ensures { result ≡ minor_of (bare (thing_of thing.now)) }
-{
-    match thing {
-        Thing::Device { minor, .. } => *minor,
-        _ => 0,
+        Thing::Directory => Kind::Directory,
+        Thing::File(_) => Kind::File,
+        Thing::Device { major, minor } => Kind::Device {
+            major: *major,
+            minor: *minor,
+        },
     }
 }

@@ -7,6 +7,9 @@ use Rattle.std.specs.Prelude.{is_some}
 use Rattle.std.proofs.lemmas.Option.{none-some}
 use Rattle.balloc.specs.Inodes.{IsUnused, SetsNode, TakesInode, TakesNode, fresh_node}
 use Rattle.inode.specs.Store.{Keeps, TakesLowest}
+use Rattle.layout.proofs.KindLemmas.{read-free}
+use Rattle.layout.specs.declared.Kind.{Kind}
+use Rattle.layout.specs.declared.Kind.TheVariants.{Device, Directory, File, Free}
 use Rattle.inode.specs.declared.write.Outcome.{Outcome}
 use Rattle.inode.specs.declared.write.Outcome.TheVariants.{PastEnd, TooLong, Written}
 use Rattle.std.specs.Result.{IsErrAnd, is_err}
@@ -90,8 +93,7 @@ whole-sound {D} {g} {disk} sound = record {
       let used = inode-some disk.blocks g.inodes n (there here) in
       subst (IsNode n) (back (slot-inode disk.blocks g.inodes n used) here) (record {
         low = used.low;
-        some = omega (arith, used.kind);
-        kind = sound.kinds n used.low used.high;
+        kind = λ free. used.kind ((read-free _ _ _).0 free);
         short = omega (arith, sound.fits n used, length-bytes_of disk.blocks n);
       });
 } where
@@ -116,6 +118,13 @@ pub asked : {D : Type 0} {g : Geometry} {d : Disk D} {f : Bool} {seen : Store D}
 asked {g = g} {d} is sound up n some = record { sound = sound (up-inside is up); inode = inode-some d.blocks g.inodes n (at-inside is (λ s. IsSome (slot s.nodes n)) some) }
 
 -- ---- changes
+
+-- a node without bytes takes no blocks
+used-fresh : (kind : Kind) (links : ℕ) → used_by (fresh_node kind links) ≡ 0
+used-fresh Free links = refl
+used-fresh Directory links = refl
+used-fresh File links = refl
+used-fresh (Device major minor) links = refl
 
 -- where no block is written the nodes are as they were
 kept : {D : Type 0} {g : Geometry} {d d' : Disk D} {f b : Bool} → d'.blocks ≡ d.blocks → Keeps (store_over g d f) (store_over g d' b)
@@ -164,12 +173,12 @@ module _ {D : Type 0} {g : Geometry} {d d' : Disk D} {f b : Bool} {n : ℕ} wher
         changes-sets sets refl (ap taken_for (sym empty) ∙ ap (λ (raw : RawNode). taken_for (length raw.bytes)) (raw-inode inode) ∙ sym (used-inode inode))
 
   -- a node more
-  pub changes-taken : {kind major minor links : ℕ} → slot (nodes_of d.blocks g.inodes) n ≡ None → TakesNode g d.blocks d'.blocks n kind major minor links → Names g d d' f b n (Some (fresh_node kind major minor links))
-  changes-taken free takes = changes-sets takes.sets refl (sym (ap used_by free))
+  pub changes-taken : (kind : Kind) {links : ℕ} → slot (nodes_of d.blocks g.inodes) n ≡ None → TakesNode g d.blocks d'.blocks n kind links → Names g d d' f b n (fresh_node kind links)
+  changes-taken kind {links} free takes = changes-sets takes.sets refl (used-fresh kind links ∙ sym (ap used_by free))
 
 module _ {D : Type 0} (g : Geometry) (d d' : Disk D) (f b : Bool) where
-  pub takes-lowest : (kind major minor links : ℕ) (o : Option ℕ) → TakesInode g d.blocks d'.blocks kind major minor links o → TakesLowest (store_over g d f) (store_over g d' b) kind major minor links o
-  takes-lowest kind major minor links (Some n) takes =
+  pub takes-lowest : (kind : Kind) (links : ℕ) (o : Option ℕ) → TakesInode g d.blocks d'.blocks kind links o → TakesLowest (store_over g d f) (store_over g d' b) kind links o
+  takes-lowest kind links (Some n) takes =
       let lowest = takes.0 in
       let free = slot-free d.blocks g.inodes n (λ used. used.kind lowest.unused) in (
         record {
@@ -178,9 +187,9 @@ module _ {D : Type 0} (g : Geometry) (d d' : Disk D) (f b : Bool) where
           free = free;
           lowest = λ m low less none. taken-none (record { low = low; high = omega (arith, lowest.high); kind = lowest.lowest m low less }) none;
         },
-        changes-taken free takes.1,
+        changes-taken kind free takes.1,
       )
-  takes-lowest kind major minor links None all = (
+  takes-lowest kind links None all = (
     kept all.1,
     λ m low high none.
         let within : m < g.inodes = omega (arith, length-nodes_of d.blocks g.inodes) in
@@ -196,9 +205,9 @@ module _ {D : Type 0} (g : Geometry) (d d' : Disk D) (f b : Bool) where
 
 -- the disk is sound still
 module _ {g : Geometry} {old new : Blocks} where
-  pub takes-sound : (kind major minor links : ℕ) → IsSound g old → (o : Option ℕ) → TakesInode g old new kind major minor links o → IsSound g new
-  takes-sound kind major minor links sound (Some n) takes = takes.1.sets.sound
-  takes-sound kind major minor links sound None all = subst (IsSound g) (sym all.1) sound
+  pub takes-sound : (kind : Kind) (links : ℕ) → IsSound g old → (o : Option ℕ) → TakesInode g old new kind links o → IsSound g new
+  takes-sound kind links sound (Some n) takes = takes.1.sets.sound
+  takes-sound kind links sound None all = subst (IsSound g) (sym all.1) sound
 
   pub writes-sound : (n at : ℕ) (bytes : List ℕ) → IsSound g old → (o : Outcome) → WritesAt g old new n at bytes o → IsSound g new
   writes-sound n at bytes sound PastEnd past = subst (IsSound g) (sym past.0) sound

@@ -2,15 +2,17 @@
 use Rattle.std.specs.Prelude.{◌≡◌, ℕ, List, None, Option, Some, length, ⊤}
 use Rattle.inode.specs.declared.InodeStat.{InodeStat}
 use Rattle.layout.specs.declared.DiskInode.{DiskInode}
+use Rattle.layout.specs.Inode.{inode_kind}
+use Rattle.layout.specs.Kinds.{kind_major, kind_number}
 use Rattle.layout.specs.Image.{IsInode, RawNode, bytes_of, inode_at, node_with}
 
 abbrev pub told : DiskInode → InodeStat
-told inode = record { kind = inode.kind; major = inode.major; links = inode.links; size = inode.size }
+told inode = record { kind = kind_number (inode_kind inode); major = kind_major (inode_kind inode); links = inode.links; size = inode.size }
 
 -- this is told of a node
 pub record IsTold (node : RawNode) (s : InodeStat) : Type 0 where
-  pub kind : s.kind ≡ node.kind
-  pub major : s.major ≡ node.major
+  pub kind : s.kind ≡ kind_number node.kind
+  pub major : s.major ≡ kind_major node.kind
   pub links : s.links ≡ node.links
   pub size : s.size ≡ length node.bytes
 

@@ -11,6 +11,8 @@ use Rattle.inode.specs.declared.write.Outcome.{Outcome}
 use Rattle.inode.specs.declared.write.Outcome.TheVariants as outcome
 use Rattle.inode.specs.declared.volume.Volume.TheInside.{Inside}
 use Rattle.layout.specs.declared.Geometry.{Geometry}
+use Rattle.layout.specs.declared.Kind.{Kind}
+use Rattle.layout.specs.declared.Kind.TheVariants.{Free}
 use Rattle.layout.specs.Image.{RawNode, free_blocks, nodes_of, taken_for}
 use Rattle.layout.specs.Sound.{IsSound}
 use Rattle.unixmodel.specs.Failures.{HasCause, Rises}
@@ -49,8 +51,7 @@ IsInside t = t.failed ≡ false → IsSound t.geometry t.disk.blocks
 
 pub record IsNode (n : ℕ) (node : RawNode) : Type 0 where
   pub low : 1 ≤ n
-  pub some : 1 ≤ node.kind
-  pub kind : node.kind ≤ 3
+  pub kind : node.kind ≢ Free
   pub short : length node.bytes ≤ longest
 
 pub record IsWhole {D : Type 0} (s : Store D) : Type 0 where
@@ -107,7 +108,7 @@ pub record Changes {D : Type 0} (old new : Store D) (n : ℕ) (node : Option Raw
 
 -- the node of a number that names one
 abbrev pub no_node : RawNode
-no_node = record { kind = 0; major = 0; minor = 0; links = 0; bytes = [] }
+no_node = record { kind = Free; links = 0; bytes = [] }
 
 abbrev pub raw_at : List (Option RawNode) → ℕ → RawNode
 raw_at nodes n = unwrap_or (slot nodes n) no_node
@@ -133,9 +134,9 @@ pub record IsLowestFree (nodes : List (Option RawNode)) (n : ℕ) : Type 0 where
   pub lowest : (m : ℕ) → 1 ≤ m → m < n → slot nodes m ≢ None
 
 -- the lowest number that names none gets a node without bytes, or each names one and nothing is changed
-abbrev pub TakesLowest : {D : Type 0} → Store D → Store D → ℕ → ℕ → ℕ → ℕ → Option ℕ → Type 0
-TakesLowest old new kind major minor links (Some n) = IsLowestFree old.nodes n × Changes old new n (Some (fresh_node kind major minor links))
-TakesLowest old new kind major minor links None = Keeps old new × ((n : ℕ) → 1 ≤ n → n < length old.nodes → slot old.nodes n ≢ None)
+abbrev pub TakesLowest : {D : Type 0} → Store D → Store D → Kind → ℕ → Option ℕ → Type 0
+TakesLowest old new kind links (Some n) = IsLowestFree old.nodes n × Changes old new n (fresh_node kind links)
+TakesLowest old new kind links None = Keeps old new × ((n : ℕ) → 1 ≤ n → n < length old.nodes → slot old.nodes n ≢ None)
 
 -- ---- bytes are written
 

@@ -11,7 +11,7 @@ ghost use Rattle.inode.specs.Writing.{HasIndex};
 
 use blockdev::BlockDev;
 use cache::Cache;
-use layout::{DIRECT, Geometry, read_number};
+use layout::{DIRECT, DiskInode, Geometry, read_number};
 
 /// The block that a byte of a file stands in.
 #[derive(Clone, Copy)]
@@ -29,11 +29,11 @@ fn record_bytes<D: BlockDev>(disk: &Cache<D>, geometry: Geometry, number: usize)
     ensures bytes { IfSome result (λ bytes. bytes.now ≡ part (64 * (number % 16)) 64 (block_at disk.now.blocks (2 + number / 16))) }
     ensures size { IfSome result (λ bytes. length bytes.now ≡ 64) }
 {
-    let Some(block) = disk.recent(2 + number / 16) else {
+    let place = DiskInode::at(number);
+    let Some(block) = disk.recent(place.block) else {
         return None;
     };
-    let at = 64 * (number % 16);
-    Some(&block[at..at + 64])
+    Some(&block[place.offset..place.offset + 64])
 }
 
 // The number of a data block that the size asks for, where the record has it, or the single index block, if that was used of late.

@@ -1,6 +1,6 @@
 //! A disk with files, by the numbers of their inodes.
 
-ghost use Rattle.std.specs.Prelude.{◌≡◌, ◌≢◌, ◌+◌, ◌<◌, ◌≤◌, IfOk, IsSome, None, OnOk, Some, false, length, nat_le, slice_set, take};
+ghost use Rattle.std.specs.Prelude.{◌≡◌, ◌≢◌, ◌+◌, ◌<◌, ◌≤◌, IfOk, IsSome, None, OnOk, false, length, nat_le, slice_set, take};
 ghost use Rattle.inode.specs.Looking.{IsTold, TellsAny};
 ghost use Rattle.inode.specs.Reading.{IsReadInto};
 ghost use Rattle.inode.specs.Store.{Changes, Flushed, HasLinks, IsEmptied, IsWhole, LacksWriting, Looks, Serves, TakesLowest, Tries, Writes, WritesFrom, is_device, raw_at, store_over};
@@ -15,7 +15,7 @@ use crate::{InodeFault, InodeStat};
 use balloc::{give_inode, has_blocks, take_inode, take_inode_at};
 use blockdev::{BlockDev, DeviceFault, Duplicate};
 use cache::Cache;
-use layout::Geometry;
+use layout::{Geometry, Kind};
 use std::alloc::{AllocError, Global};
 use std::marker::Model;
 
@@ -192,52 +192,26 @@ impl<D: BlockDev> Volume<D> {
         result
     }
 
-    /// Takes the lowest free number for a node without bytes of this type, major, minor and number of links. `None` comes exactly
+    /// Takes the lowest free number for a node without bytes of this kind and number of links. `None` comes exactly
     /// where none is free, and nothing is changed then.
-    pub fn take(
-        &mut self,
-        kind: u16,
-        major: u16,
-        minor: u16,
-        links: u16,
-    ) -> Result<Option<usize>, DeviceFault>
+    pub fn take(&mut self, kind: Kind, links: u16) -> Result<Option<usize>, DeviceFault>
         requires up { self.old.failed ≡ false }
-        requires some { 1 ≤ kind }
-        requires kind { kind ≤ 3 }
-        ensures { Tries D.identity self.old self.new result (TakesLowest self.old self.new kind major minor links) }
+        ensures { Tries D.identity self.old self.new result (TakesLowest self.old self.new kind links) }
     {
-        let result = take_inode(&mut self.disk, self.geometry, kind, major, minor, links);
+        let result = take_inode(&mut self.disk, self.geometry, kind, links);
         self.failed = result.is_err();
         result
     }
 
-    /// Takes a number that is known to be free, for a node without bytes of this type, major, minor and number of links.
-    pub fn take_at(
-        &mut self,
-        number: usize,
-        kind: u16,
-        major: u16,
-        minor: u16,
-        links: u16,
-    ) -> Result<(), DeviceFault>
+    /// Takes a number that is known to be free, for a node without bytes of this kind and number of links.
+    pub fn take_at(&mut self, number: usize, kind: Kind, links: u16) -> Result<(), DeviceFault>
         requires up { self.old.failed ≡ false }
         requires low { 1 ≤ number }
         requires high { number < self.old.geometry.inodes }
         requires free { slot self.old.nodes number ≡ None }
-        requires some { 1 ≤ kind }
-        requires kind { kind ≤ 3 }
-        ensures { Tries D.identity self.old self.new result (λ _. Changes self.old self.new number
-            (Some (fresh_node kind major minor links))) }
+        ensures { Tries D.identity self.old self.new result (λ _. Changes self.old self.new number (fresh_node kind links)) }
     {
-        let result = take_inode_at(
-            &mut self.disk,
-            self.geometry,
-            number,
-            kind,
-            major,
-            minor,
-            links,
-        );
+        let result = take_inode_at(&mut self.disk, self.geometry, number, kind, links);
         self.failed = result.is_err();
         result
     }

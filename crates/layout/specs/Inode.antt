@@ -1,7 +1,9 @@
 -- An inode and its 64 bytes.
-use Rattle.std.specs.Prelude.{◌≡◌, ℕ, ◌<◌, ◌^◌, ◌++◌, List, length, drop, get_or}
+use Rattle.std.specs.Prelude.{◌≡◌, ℕ, ◌<◌, ◌^◌, ◌++◌, List, length, drop, get_or, replicate}
 use Rattle.byteorder.specs.Endian.{little_number, little_bytes}
 use Rattle.layout.specs.declared.DiskInode.{DiskInode}
+use Rattle.layout.specs.declared.Kind.{Kind}
+use Rattle.layout.specs.Kinds.{kind_major, kind_minor, kind_number, kind_read}
 use Rattle.layout.specs.Numbers.{numbers_in, spelled}
 
 -- the inode that the bytes spell
@@ -13,6 +15,21 @@ inode_of bytes = record {
   links = little_number 2 (drop 6 bytes);
   size = little_number 4 (drop 8 bytes);
   addresses = numbers_in 13 (drop 12 bytes);
+}
+
+-- what it is of
+abbrev pub inode_kind : DiskInode → Kind
+inode_kind inode = kind_read inode.kind inode.major inode.minor
+
+-- one without bytes
+abbrev pub fresh_inode : Kind → ℕ → DiskInode
+fresh_inode kind links = record {
+  kind = kind_number kind;
+  major = kind_major kind;
+  minor = kind_minor kind;
+  links = links;
+  size = 0;
+  addresses = replicate 13 0;
 }
 
 -- its spelling

@@ -1,4 +1,5 @@
 pub mod Numbers
+pub mod Kinds
 pub mod Inode
 pub mod Super
 pub mod Entries

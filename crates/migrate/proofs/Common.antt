@@ -4,7 +4,6 @@ pub use Rattle.std.proofs.lemmas.Bool.{cases_lt, false≢true}
 pub use Rattle.std.proofs.lemmas.List.{append-nil, drop_all, ext_get_or, get_or-set_other, get_or-set_same, length-set, set-set}
 pub use Rattle.std.specs.Prelude.{false, is_some, IsOk, IsSome, OnOk, unwrap_or}
 pub use Rattle.imagemake.proofs.Putting.{told_err}
-pub use Rattle.imagemake.specs.Nodes.{major_of, minor_of}
 pub use Rattle.imagerules.proofs.Bounds.{HasPlace-at, inodes-least, inodes-most}
 pub use Rattle.imagerules.proofs.Denoting.{Denotes-files, HasKinds-denotes, HasSizes-denotes, node_fits}
 pub use Rattle.imagerules.specs.Fields.{HasGeometry}
@@ -22,7 +21,7 @@ pub use Rattle.unixmodel.specs.Files.{blocks_for, Files, kind_of, links_of, long
 unfoldable pub use Rattle.unixmodel.specs.Files.{free_slots}
 pub use Rattle.unixmodel.specs.Files.Node.{Directory, File}
 pub use Rattle.unixmodel.specs.Formats.{Format, large, most_bytes, small}
-pub use Rattle.unixmodel.specs.Image.{Denotes, DenotesSmall, FitsSize, format_of, inodes_in, IsNode, KeepsNode, KeepsRules, KeepsRulesTo, kind_in, major_in, minor_in, size_in, Stands}
+pub use Rattle.unixmodel.specs.Image.{Denotes, DenotesSmall, FitsSize, format_of, inodes_in, IsNode, KeepsNode, KeepsRules, KeepsRulesTo, kind_in, size_in, Stands}
 pub use Rattle.migrate.specs.Copies.{CanStand, Copies, image_fault, IsBroken, Lacks, write_fault}
 pub use Rattle.migrate.specs.declared.fault.MigrateFault.{MigrateFault}
 pub use Rattle.migrate.specs.declared.fault.MigrateFault.TheVariants.{Image, NoMemory}

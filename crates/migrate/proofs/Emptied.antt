@@ -1,7 +1,11 @@
 -- A node is copied: first without its bytes, and then they come.
+use Rattle.layout.specs.declared.Kind.{Kind}
+use Rattle.layout.specs.declared.Kind.TheVariants.{Free}
+use Rattle.layout.specs.Kinds.{node_kind}
 use Rattle.migrate.proofs.Common.{◌++◌, ◌≡◌, ◌<◌, ◌+◌, ℕ, List, [], None, Some, length, ap, refl, ◌∙◌, arith, subst, Err, IsSome, Ok, false, is_some, unwrap_or, append-nil, drop_all, get_or-set_same, length-set, set-set, blocks_of, Files}
-use Rattle.migrate.proofs.Common.{Node, blocks_for, kind_of, links_of, node_bytes, put, size_of, slot, Directory, File, Geometry, Changes, IsFull, LacksWriting, Serves, Store, Writes, is_device, no_node, raw_at, with_bytes, FitsPlaces}
-use Rattle.migrate.proofs.Common.{IsRaw, Stores, Stores-set, blocks_of-set, length-held, taken_by, whole-node, major_of, minor_of, CanStand, Copies, Lacks, write_fault, taken-grows, ◌≢◌, IsNode, kind_in, major_in, minor_in}
+use Rattle.migrate.proofs.Common.{Node, blocks_for, links_of, node_bytes, put, size_of, slot, Directory, File, Geometry, Changes, IsFull, LacksWriting, Serves, Store, Writes, is_device, no_node, raw_at, with_bytes, FitsPlaces}
+use Rattle.migrate.proofs.Common.{IsRaw, Stores, Stores-set, blocks_of-set, length-held, taken_by, whole-node, CanStand, Copies, Lacks, write_fault, taken-grows, ◌≢◌}
+use Rattle.std.specs.Prelude.{true}
 use Rattle.blockdev.specs.Splice.{splice}
 use Rattle.unixmodel.specs.Files.Node.{Device}
 use Rattle.unixmodel.specs.Manifest.{data_blocks_of}
@@ -18,19 +22,28 @@ emptied (Directory links places) = Directory links []
 
 -- as a disk holds it
 abbrev raw_of : Node → RawNode
-raw_of node = fresh_node (kind_of node) (major_of node) (minor_of node) (links_of node)
+raw_of node = record { kind = node_kind node; links = links_of node; bytes = [] }
+
+fresh-some : (kind : Kind) (links : ℕ) → kind ≢ Free → is_some (fresh_node kind links) ≡ true
+fresh-some Free links some = absurd (some refl)
+fresh-some kind links some = refl
+
+raw-fresh : (node : Node) → fresh_node (node_kind node) (links_of node) ≡ Some (raw_of node)
+raw-fresh (File links bytes) = refl
+raw-fresh (Device links major minor) = refl
+raw-fresh (Directory links places) = refl
 
 raw-emptied : (node : Node) → IsRaw (raw_of node) (emptied node)
-raw-emptied (Device links major minor) = record { kind = refl; links = refl; bytes = refl; device = (refl, refl) }
-raw-emptied node = record { kind = refl; links = refl; bytes = refl; device = tt }
+raw-emptied (Device links major minor) = record { kind = refl; links = refl; bytes = refl }
+raw-emptied node = record { kind = refl; links = refl; bytes = refl }
 
 emptied-fits : (node : Node) → FitsPlaces (Some (emptied node))
 emptied-fits (Directory links places) = λ k d l. absurd (omega arith)
 emptied-fits node = tt
 
 raw-whole : (node : Node) → IsRaw (with_bytes (raw_of node) (node_bytes node)) node
-raw-whole (Device links major minor) = record { kind = refl; links = refl; bytes = refl; device = (refl, refl) }
-raw-whole node = record { kind = refl; links = refl; bytes = refl; device = tt }
+raw-whole (Device links major minor) = record { kind = refl; links = refl; bytes = refl }
+raw-whole node = record { kind = refl; links = refl; bytes = refl }
 
 emptied-size : (node : Node) → size_of (emptied node) ≡ 0
 emptied-size (Device links major minor) = refl
@@ -41,16 +54,16 @@ splice-none : (bytes : List ℕ) → splice 0 bytes [] ≡ bytes
 splice-none bytes = ap (λ r. bytes ++ r) (drop_all _ [] (omega arith)) ∙ append-nil _
 
 -- the fields of a node without bytes
-pub fresh-as : {D : Type 0} {old mid : Store D} {n : ℕ} (node : Node) {kind major minor links : ℕ} → kind ≡ kind_of node → major ≡ major_of node → minor ≡ minor_of node → links ≡ links_of node → Changes old mid n (Some (fresh_node kind major minor links))
-    → Changes old mid n (Some (raw_of node))
-fresh-as {D} {old} {mid} {n} node k a i l = subst (λ raw. Changes old mid n (Some raw)) (λ at. fresh_node (k at) (a at) (i at) (l at))
+pub fresh-as : {D : Type 0} {old mid : Store D} {n : ℕ} (node : Node) {kind : Kind} {links : ℕ} → kind ≡ node_kind node → links ≡ links_of node → Changes old mid n (fresh_node kind links) → Changes old mid n (Some (raw_of node))
+fresh-as {D} {old} {mid} {n} node k l = subst (Changes old mid n) ((λ at. fresh_node (k at) (l at)) ∙ raw-fresh node)
 
 module _ {D : Type 0} {g : Geometry} {s : Store D} {now : Files} (copies : Copies g s now) where
   pub in-files : (n : ℕ) → n < g.inodes → n < length now
   in-files n h = let long = length-held copies.stores in let same = ap (λ (g : Geometry). g.inodes) copies.numbers in omega arith
 
-  pub taken-some : {mid : Store D} (n : ℕ) → n < length now → {raw : RawNode} → Changes s mid n (Some raw) → IsSome (slot mid.nodes n)
-  taken-some n high {raw} changes = ap (λ ns. is_some (slot ns n)) changes.nodes ∙ ap is_some (get_or-set_same _ n _ None (omega (arith, copies.stores.nodes.count)))
+  pub taken-some : {mid : Store D} (n : ℕ) → n < length now → (kind : Kind) (links : ℕ) → kind ≢ Free → Changes s mid n (fresh_node kind links) → IsSome (slot mid.nodes n)
+  taken-some n high kind links some changes =
+      ap (λ ns. is_some (slot ns n)) changes.nodes ∙ ap is_some (get_or-set_same _ n _ None (omega (arith, copies.stores.nodes.count))) ∙ fresh-some kind links some
 
 module _ {D : Type 0} {g : Geometry} {old : Store D} {now : Files} (copies : Copies g old now) (n : ℕ) (high : n < length now) (none : slot now n ≡ None) (node : Node) where
   abbrev raw : RawNode
@@ -106,14 +119,3 @@ module _ {D : Type 0} {g : Geometry} {old : Store D} {now : Files} (copies : Cop
       -- why not all go
       pub refused-lacks : {identity : D → List ℕ} {new : Store D} {fault : InodeFault} → Serves {T = Unit {0}} identity is_device mid new (Err fault) (λ _. Writes mid new n 0 bytes) (LacksWriting mid new n 0 bytes) → Lacks g (put now n node) (write_fault fault)
       refused-lacks {new = new} {fault} written = lacks new fault written.refused
-
--- ---- the numbers of a device; all other nodes have 0 for them
-
-module _ (image : List ℕ) (n : ℕ) where
-  pub of-device : (node : Node) → IsNode image n node → kind_in image n ≡ 3 → (major_in image n ≡ major_of node) × (minor_in image n ≡ minor_of node)
-  of-device (Device links major minor) is device = is.major
-  of-device node is device = let kind = is.kind in absurd (omega arith)
-
-  pub of-other : (node : Node) → IsNode image n node → kind_in image n ≢ 3 → (0 ≡ major_of node) × (0 ≡ minor_of node)
-  of-other (Device links major minor) is other = absurd (other is.kind)
-  of-other node is other = (refl, refl)

@@ -1,44 +1,19 @@
 //! The nodes of an old image are put on a new disk, by their numbers.
 
 ghost use Rattle.std.specs.Prelude.{◌≡◌, ◌≢◌, ◌<◌, ◌≤◌, None};
-ghost use Rattle.unixmodel.specs.Files.{Files, Node, free_slots, slot};
-ghost use Rattle.unixmodel.specs.Image.{DenotesSmall, IsNode, kind_in};
-ghost use Rattle.imagerules.specs.Fields.{HasGeometry, HasPlace};
+ghost use Rattle.unixmodel.specs.Files.{Files, free_slots, slot};
+ghost use Rattle.unixmodel.specs.Image.{DenotesSmall, kind_in};
+ghost use Rattle.imagerules.specs.Fields.{HasGeometry};
 ghost use Rattle.imagerules.specs.Places.{files_in};
 ghost use Rattle.imagerules.specs.Rules.{BlockRules};
-ghost use Rattle.imagemake.specs.Nodes.{major_of, minor_of};
 ghost use Rattle.migrate.specs.Copies.{Copies, CopiesNode, IsCopied};
 
 use crate::MigrateFault;
 use blockdev::BlockDev;
-use imagecheck::{inode_kind, inode_links, inode_major, inode_minor, read_contents};
+use imagecheck::{inode_kind, inode_links, read_contents};
 use inode::Volume;
-use layout::{DEVICE, Geometry};
+use layout::{Geometry, Kind};
 use std::alloc::Global;
-
-// The major number of a device, and 0 for all else.
-fn device_major(old: &[u8], n: usize) -> u16
-    requires { HasPlace old.now n }
-    ensures { (node : Node) → IsNode old.now n node → result ≡ major_of node }
-{
-    if inode_kind(old, n) == DEVICE {
-        inode_major(old, n)
-    } else {
-        0
-    }
-}
-
-// The minor number of a device, and 0 for all else.
-fn device_minor(old: &[u8], n: usize) -> u16
-    requires { HasPlace old.now n }
-    ensures { (node : Node) → IsNode old.now n node → result ≡ minor_of node }
-{
-    if inode_kind(old, n) == DEVICE {
-        inode_minor(old, n)
-    } else {
-        0
-    }
-}
 
 // Copies a node: its number is taken, and gets its bytes.
 fn copy_node<D: BlockDev>(
@@ -56,10 +31,7 @@ fn copy_node<D: BlockDev>(
     requires able { (now : Files) × Copies geometry volume.old now × (slot now n ≡ None) }
     ensures { CopiesNode geometry old.now volume.old volume.new n result }
 {
-    let kind = inode_kind(old, n);
-    let major = device_major(old, n);
-    let minor = device_minor(old, n);
-    volume.take_at(n, kind, major, minor, inode_links(old, n))?;
+    volume.take_at(n, inode_kind(old, n), inode_links(old, n))?;
     read_contents(old, geometry, n, bytes)?;
     volume.write_at(n, 0, bytes)?;
     Ok(())
@@ -79,7 +51,7 @@ pub fn copy_nodes<D: BlockDev>(
 {
     let mut bytes = Vec::new(alloc);
     for n in 1..geometry.inodes {
-        if inode_kind(old, n) != 0 {
+        if !inode_kind(old, n).is_free() {
             copy_node(volume, geometry, old, n, &mut bytes)?;
         }
     }

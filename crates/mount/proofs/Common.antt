@@ -21,7 +21,7 @@ pub use Rattle.layout.specs.Sound.{HasParts, IsNamed, IsSound, TellsGeometry}
 pub use Rattle.layout.specs.Super.{bitmap_start_of, data_start_of, super_of}
 pub use Rattle.layout.specs.declared.Geometry.{Geometry}
 pub use Rattle.tree.proofs.Storing.{files-are, held-again, sum-taken, taken_by}
-pub use Rattle.tree.specs.Stored.{Agrees, FitsPlaces, HasDevice, IsFileSystem, IsStored, Stores, StoresFiles}
+pub use Rattle.tree.specs.Stored.{Agrees, FitsPlaces, IsFileSystem, IsStored, Stores, StoresFiles}
 unfoldable pub use Rattle.tree.specs.Stored.{files_of}
 pub use Rattle.tree.specs.Tree.{FileTree, tree_over}
 pub use Rattle.unixmodel.specs.Files.{blocks_for, Files, kind_of, longest, Node, slot}

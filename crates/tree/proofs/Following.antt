@@ -1,5 +1,6 @@
 -- Steps of a call on files, one after the other, and how the call ends.
-use Rattle.tree.proofs.Common.{◌≡◌, ◌≢◌, ◌≤◌, ◌∙◌, ℕ, Err, List, Ok, Result, ap, arith, false, refl, subst, sym, true, IfOk, IsSome, None, OnErr, Option, Some, IsRefusal, false≢true, DeviceFault, IsFolder, Reads, Tries, Turns, Acts}
+use Rattle.tree.proofs.Common.{set, ◌≡◌, ◌≢◌, ◌≤◌, ◌∙◌, ℕ, Err, List, Ok, Result, ap, arith, false, refl, subst, sym, true, IfOk, IsSome, None, OnErr, Option, Some, IsRefusal, false≢true, DeviceFault, IsFolder, Reads, Tries, Turns, Acts}
+use Rattle.layout.specs.declared.Kind.{Kind}
 use Rattle.tree.proofs.Common.{FileTree, TreeFault, Files, Node, lookup, slot, fresh, Rewrites, TakesNode, IsFile, free_number, put, Directory, Serves, Entry}
 use Rattle.cache.proofs.Using.{rises-before}
 use Rattle.std.specs.Result.{is_err, IsErrAnd}
@@ -221,17 +222,17 @@ module _ {old mid : FileTree} {files : Files} (now : IsNow old mid files) where
     end-changed e = turned-last now r turns (ap change (now-files now) ∙ e)
 
   -- a node was taken
-  module _ {new : FileTree} {r : Result (Option ℕ) DeviceFault} (kind major minor : ℕ) (takes : Tries mid new r (TakesNode mid new kind major minor)) {o : Option ℕ} (is : r ≡ Ok o) where
-    told : TakesNode mid new kind major minor o
-    told = IfOk-at_ok (TakesNode mid new kind major minor) is takes.serves.told
+  module _ {new : FileTree} {r : Result (Option ℕ) DeviceFault} (kind : Kind) (takes : Tries mid new r (TakesNode mid new kind)) {o : Option ℕ} (is : r ≡ Ok o) where
+    told : TakesNode mid new kind o
+    told = IfOk-at_ok (TakesNode mid new kind) is takes.serves.told
 
-    pub now-took : {n : ℕ} → o ≡ Some n → (free_number files ≡ Some n) × IsNow old new (put files n (fresh kind major minor))
+    pub now-took : {n : ℕ} → o ≡ Some n → (free_number files ≡ Some n) × IsNow old new (set files n (fresh kind))
     now-took {n} some =
-        let t = subst (TakesNode mid new kind major minor) some told in
-        (ap free_number (sym (now-files now)) ∙ t.0, now-wanted (now-served now takes.serves is (λ _. t.1)) (ap (λ fs. put fs n (fresh kind major minor)) (now-files now)))
+        let t = subst (TakesNode mid new kind) some told in
+        (ap free_number (sym (now-files now)) ∙ t.0, now-wanted (now-served now takes.serves is (λ _. t.1)) (ap (λ fs. set fs n (fresh kind)) (now-files now)))
 
     pub now-none : o ≡ None → (free_number files ≡ None) × IsNow old new files
-    now-none none = let t = subst (TakesNode mid new kind major minor) none told in (ap free_number (sym (now-files now)) ∙ t.0, now-wanted (now-served now takes.serves is (λ _. t.1)) (now-files now))
+    now-none none = let t = subst (TakesNode mid new kind) none told in (ap free_number (sym (now-files now)) ∙ t.0, now-wanted (now-served now takes.serves is (λ _. t.1)) (now-files now))
 
   -- behind a call on names
   module _ {new : FileTree} {T : Type 0} {r : Result T TreeFault} {Done : T → Type 0} {Refused : Type 0} {Why : TreeFault → Type 0} (acts : Acts mid new r Done Refused Why) where

@@ -1,5 +1,6 @@
 -- A new name, and one that goes by its path: where it stands, why it is refused, and what becomes of the files.
-use Rattle.tree.proofs.Common.{◌≡◌, ℕ, ◌≤◌, List, None, Option, Some, ap, sym, ◌∙◌, arith, suc, option_and_then, option_map, get_or-set_other, none-some, Store, TakesLowest, IsFree, free-number, entered, room_in, TakesNode, IsFileSystem}
+use Rattle.tree.proofs.Common.{set, ◌≡◌, ℕ, ◌≤◌, List, None, Option, Some, ap, sym, ◌∙◌, arith, suc, option_and_then, option_map, get_or-set_other, none-some, Store, TakesLowest, IsFree, free-number, entered, room_in, TakesNode, IsFileSystem}
+use Rattle.layout.specs.declared.Kind.{Kind}
 use Rattle.tree.proofs.Common.{blocks_of, Files, Node, Spot, blocks_for, enter, free_number, put, size_of, slot, Directory, Made, make_at, ◌+◌, Bool, refl, subst, cond, true, false, IsSome, is_none, is_some, nat_le, false≢true, leb-false}
 use Rattle.tree.proofs.Common.{leb-true, same_Some, Overflows, HasGap, HasRoom, IsFullAt, LacksBlocks, growth, made_files, made_in, IsFolder, IsDead, IsNoDirectory, above, is_directory, live_places, lookup, spot_of, made_at, ◌≢◌, ◌<◌, []}
 use Rattle.tree.proofs.Common.{◌∷◌, length, not, All, list_all, and_parts, eq-eqb, All-cons, All-nil, get_or-set_same, is_part, is_plain, spot-parts, Leaf, TreeFault, DeadDir, Exists, Full, NotDir, NotFound, IsPlain, LacksGap, LacksMaking}
@@ -54,13 +55,13 @@ fresh-blocks files n node number empty =
 
 -- ---- what the volume's call says
 
-pub taken-told : {D : Type 0} {v v' : Store D} (seen new : FileTree) {kind : ℕ} (major minor : ℕ) → 1 ≤ kind → kind ≤ 3 → Stores v seen.files → (o : Option ℕ) → TakesLowest v v' kind major minor 1 o → v'.geometry ≡ v.geometry
-    → (((files : Files) → Stores v' files → HasFiles seen new files) → TakesNode seen new kind major minor o) × IsFileSystem v'
-taken-told seen new {kind} major minor some most holds (Some n) takes same =
+pub taken-told : {D : Type 0} {v v' : Store D} (seen new : FileTree) (kind : Kind) → Stores v seen.files → (o : Option ℕ) → TakesLowest v v' kind 1 o → v'.geometry ≡ v.geometry
+    → (((files : Files) → Stores v' files → HasFiles seen new files) → TakesNode seen new kind o) × IsFileSystem v'
+taken-told seen new kind holds (Some n) takes same =
     let is = lowest-number holds n takes.0 in
-    let now = fresh-stores holds same kind major minor n some most (free-number seen.files n is).within takes.1 in
+    let now = fresh-stores holds same kind n (free-number seen.files n is).within takes.1 in
     ((λ turn. (is, turn _ now)), held-again now)
-taken-told seen new major minor some most holds None all same = let now = kept-stores same all.0 holds in ((λ turn. (no-number holds all.1, turn _ now)), held-again now)
+taken-told seen new kind holds None all same = let now = kept-stores same all.0 holds in ((λ turn. (no-number holds all.1, turn _ now)), held-again now)
 
 -- ---- the directory of a spot
 
@@ -236,9 +237,6 @@ pub leaf-empty : (l : Leaf) → size_of (leaf_node l) ≡ 0
 leaf-empty leaf.File = refl
 leaf-empty (leaf.Device major minor) = refl
 
-pub some-kind : {kind : ℕ} → 2 ≤ kind → 1 ≤ kind
-some-kind {kind} h = omega arith
-
 -- a node that comes is there
 pub comes-some : (files : Files) (n : ℕ) (node : Node) → n < length files → slot (put files n node) n ≢ None
 comes-some files n node within none = none-some node (sym none ∙ get_or-set_same _ n _ None within)
@@ -284,8 +282,8 @@ entry-asked {old} {mid} {files} {next} now {d} {path} {at} {k} gap blocks here n
 })
 
 -- what came is this node
-pub fresh-now : {old now : FileTree} (files : Files) (n : ℕ) {came node : Node} → came ≡ node → IsNow old now (put files n came) → IsNow old now (put files n node)
-fresh-now {old} {now} files n e = subst (λ x. IsNow old now (put files n x)) e
+pub fresh-now : {old now : FileTree} (files : Files) (n : ℕ) {came : Option Node} {node : Node} → came ≡ Some node → IsNow old now (set files n came) → IsNow old now (put files n node)
+fresh-now {old} {now} files n e = subst (λ x. IsNow old now (set files n x)) e
 
 -- the entry of a file or device
 pub made-asked : {old mid : FileTree} {files : Files} {d : ℕ} {path : List ℕ} (node : Node) → size_of node ≡ 0 → {at : Spot} {k n : ℕ} (gap : HasGap old.block_limit files d path 0 at k) → free_number files ≡ Some n → IsNow old mid (put files n node)

@@ -1,6 +1,8 @@
 -- How an entry comes into a directory, and what it needs.
-use Rattle.std.specs.Prelude.{IsSome, List, None, Option, Some, [], if◌then◌else◌, length, nat_lt, option_and_then, option_map, suc, ℕ, ◌*◌, ◌++◌, ◌+◌, ◌-◌, ◌<◌, ◌==◌, ◌∷◌, ◌≡◌, ◌≤◌}
+use Rattle.std.specs.Prelude.{IsSome, List, None, Option, Some, [], if◌then◌else◌, length, nat_lt, option_and_then, option_map, suc, ℕ, ◌*◌, ◌++◌, ◌+◌, ◌-◌, ◌<◌, ◌∷◌, ◌≡◌, ◌≤◌}
 use Rattle.layout.specs.Image.{taken_for}
+use Rattle.layout.specs.declared.Kind.{Kind}
+use Rattle.layout.specs.declared.Kind.TheVariants as kind
 use Rattle.unixmodel.specs.Counts.{blocks_of}
 use Rattle.unixmodel.specs.Files.{Entry, Files, Node, Spot, change_node, find, free_slot, lookup, most_places, places_at, put, slot, spot_of}
 use Rattle.unixmodel.specs.Files.Node.{Device, Directory, File}
@@ -82,9 +84,12 @@ pub record LacksBlocks (limit : ℕ) (files : Files) (d : ℕ) (path : List ℕ)
 
 -- ---- a new node
 
--- a node without bytes, of a type as inodes tell it
-abbrev pub fresh : ℕ → ℕ → ℕ → Node
-fresh kind major minor = if kind == 1 then Directory 1 [] else if kind == 2 then File 1 [] else Device 1 major minor
+-- a node without bytes, where the kind is that of one
+abbrev pub fresh : Kind → Option Node
+fresh kind.Free = None
+fresh kind.Directory = Some (Directory 1 [])
+fresh kind.File = Some (File 1 [])
+fresh (kind.Device major minor) = Some (Device 1 major minor)
 
 -- the files with a new file or device
 unfoldable pub made_in : Files → ℕ → List ℕ → Node → Option Made

@@ -12,7 +12,7 @@ mod tree;
 
 use blockdev::DeviceFault;
 pub use entering::Gap;
-pub use layout::{DEVICE, DIRECTORY, FILE};
+pub use inode::{DEVICE, DIRECTORY, FILE};
 pub use making::Leaf;
 pub use place::Found;
 use thiserror::Error;

@@ -14,7 +14,8 @@ ghost use Rattle.tree.specs.Calls.{MakesDirectory, MakesLink, MakesNode};
 use crate::entering::Gap;
 use crate::{Tree, TreeFault};
 use blockdev::{BlockDev, DeviceFault};
-use layout::DIRECTORY;
+use inode::DIRECTORY;
+use layout::Kind;
 
 // The most links of a node.
 const MOST_LINKS: u16 = 32767;
@@ -34,15 +35,13 @@ pub enum Leaf {
 }
 
 impl Leaf {
-    // The type, major and minor of its inode.
-    fn numbers(self) -> (u16, u16, u16)
-        ensures node { fresh result.0 result.1 result.2 ≡ leaf_node self }
-        ensures some { 2 ≤ result.0 }
-        ensures most { result.0 ≤ 3 }
+    // The kind of its inode.
+    fn kind(self) -> Kind
+        ensures { fresh result ≡ Some (leaf_node self) }
     {
         match self {
-            Leaf::File => (2, 0, 0),
-            Leaf::Device { major, minor } => (3, major, minor),
+            Leaf::File => Kind::File,
+            Leaf::Device { major, minor } => Kind::Device { major, minor },
         }
     }
 }
@@ -59,8 +58,7 @@ impl<D: BlockDev> Tree<D> {
         ensures { MakesNode self.old self.new directory path.now (leaf_node leaf) result }
     {
         let gap = self.find_gap(directory, path, 0)?;
-        let (kind, major, minor) = leaf.numbers();
-        let Some(number) = self.take_node(kind, major, minor)? else {
+        let Some(number) = self.take_node(leaf.kind())? else {
             return Err(TreeFault::Inodes);
         };
         self.put_entry(&gap, number)?;
@@ -108,7 +106,7 @@ impl<D: BlockDev> Tree<D> {
         if above.links >= MOST_LINKS {
             return Err(TreeFault::Links);
         }
-        let Some(number) = self.take_node(DIRECTORY, 0, 0)? else {
+        let Some(number) = self.take_node(Kind::Directory)? else {
             return Err(TreeFault::Inodes);
         };
         self.put_dots(number, gap.directory)?;

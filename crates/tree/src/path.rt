@@ -9,7 +9,7 @@ ghost use Rattle.tree.specs.Calls.{FindsSpot, IsAbove};
 
 use crate::{Tree, TreeFault};
 use blockdev::{BlockDev, DeviceFault};
-use layout::DIRECTORY;
+use inode::DIRECTORY;
 
 // The number of the root.
 const ROOT: usize = 1;

@@ -12,8 +12,8 @@ ghost use Rattle.tree.specs.Calls.{ArePlaces, FindsName, ScansFolder};
 use crate::Tree;
 use blockdev::{BLOCK_SIZE, BlockDev, DeviceFault};
 use imagerules::{PLACE_SIZE, is_free, name_in, number_in, place_at};
-use inode::InodeStat;
-use layout::{DIRECTORY, LONGEST};
+use inode::{DIRECTORY, InodeStat};
+use layout::LONGEST;
 
 // How many places a block has.
 const PLACES: usize = BLOCK_SIZE / PLACE_SIZE;

@@ -11,7 +11,7 @@ ghost use Rattle.tree.specs.Calls.{LetsGo};
 
 use crate::Tree;
 use blockdev::{BlockDev, DeviceFault};
-use layout::FILE;
+use inode::FILE;
 
 impl<D: BlockDev> Tree<D> {
     /// One that held a node lets go: it goes with its blocks where it has no links and nobody else holds it.

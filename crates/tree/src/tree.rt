@@ -1,6 +1,6 @@
 //! A file system in use.
 
-ghost use Rattle.std.specs.Prelude.{◌≡◌, ◌≢◌, ℕ, ◌+◌, ◌-◌, ◌<◌, ◌≤◌, List, Option, Some, None, IfOk, OnOk, false, length, nat_le, replicate};
+ghost use Rattle.std.specs.Prelude.{◌≡◌, ◌≢◌, ℕ, ◌+◌, ◌-◌, ◌<◌, ◌≤◌, List, Option, Some, None, IfOk, OnOk, false, length, nat_le, replicate, slice_set};
 ghost use Rattle.inode.specs.Store.{Store};
 ghost use Rattle.tree.specs.Stored.{IsFileSystem, IsStored};
 ghost use Rattle.tree.specs.Holding.{holders, with_hold, without_hold};
@@ -12,12 +12,13 @@ ghost use Rattle.tree.specs.Whole.{IsWhole};
 ghost use Rattle.tree.specs.Written.{IsFile, written};
 ghost use Rattle.unixmodel.specs.Counts.{blocks_of};
 ghost use Rattle.unixmodel.specs.Failures.{HasCause};
-ghost use Rattle.unixmodel.specs.Files.{Entry, Node, change_node, clear, put, slot, with_links};
+ghost use Rattle.unixmodel.specs.Files.{Entry, Node, change_node, clear, slot, with_links};
 ghost use Rattle.unixmodel.specs.Shown.{bytes_or_none};
 ghost use Rattle.tree.specs.Calls.{HasNoBytes, HasPlaces, IsPart, IsPartOf, WritesAt};
 
 use blockdev::{BlockDev, DeviceFault, Duplicate};
 use inode::{InodeFault, InodeStat, Volume};
+use layout::Kind;
 use std::alloc::{AllocError, Global};
 use std::marker::Model;
 
@@ -220,35 +221,20 @@ impl<D: BlockDev> Tree<D> {
     }
 
     // The lowest free number gets a node without bytes that has one link; `None` where no number is free.
-    pub(crate) fn take_node(
-        &mut self,
-        kind: u16,
-        major: u16,
-        minor: u16,
-    ) -> Result<Option<usize>, DeviceFault>
+    pub(crate) fn take_node(&mut self, kind: Kind) -> Result<Option<usize>, DeviceFault>
         requires up { self.old.failed ≡ false }
-        requires some { 1 ≤ kind }
-        requires kind { kind ≤ 3 }
-        ensures { Tries self.old self.new result (TakesNode self.old self.new kind major minor) }
+        ensures { Tries self.old self.new result (TakesNode self.old self.new kind) }
     {
-        self.volume.take(kind, major, minor, 1)
+        self.volume.take(kind, 1)
     }
 
     /// A number that names nothing gets a node without bytes that has one link.
-    pub fn take_node_at(
-        &mut self,
-        number: usize,
-        kind: u16,
-        major: u16,
-        minor: u16,
-    ) -> Result<(), DeviceFault>
+    pub fn take_node_at(&mut self, number: usize, kind: Kind) -> Result<(), DeviceFault>
         requires up { self.old.failed ≡ false }
         requires number { IsUnnamed self.old.files number }
-        requires some { 1 ≤ kind }
-        requires kind { kind ≤ 3 }
-        ensures { Turns self.old self.new result (put self.old.files number (fresh kind major minor)) }
+        ensures { Turns self.old self.new result (slice_set self.old.files number (fresh kind)) }
     {
-        self.volume.take_at(number, kind, major, minor, 1)
+        self.volume.take_at(number, kind, 1)
     }
 
     // A node goes with its blocks.

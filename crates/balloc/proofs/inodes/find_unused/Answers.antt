@@ -11,7 +11,7 @@ returns-in_err-block g c = step-failed c.scan.invariant.goes c.read.ensures c.in
 pub returns-in-Some : goal.returns-in-Some
 returns-in-Some g c =
     read-done (goes-after c.scan.invariant.goes c.read.ensures.goes) (c.in_ok-block.ensures.done.same ∙ c.scan.invariant.disk)
-    (lowest_here c.scan.n c.in_ok-block.ensures.done.told c.scan.invariant.disk c.args.geometry c.in-Some.i
+    (lowest_here c.scan.n (rw c.at.ensures.block at c.in_ok-block.ensures.done.told) c.scan.invariant.disk c.args.geometry c.in-Some.i
     (omega (arith, c.in-Some.ensures.some.1, c.min-end.ensures)) c.in-Some.ensures.some.0 c.scan.invariant.from (omega (arith, c.in-Some.ensures.some.1, c.min-end.ensures))
     c.in-Some.ensures.some.2 c.scan.invariant.used_so_far c.in-Some.ensures.lowest)
 
@@ -22,7 +22,7 @@ scan-preserved g c =
       disk = c.in_ok-block.ensures.done.same ∙ c.scan.invariant.disk;
       goes = goes-after c.scan.invariant.goes c.read.ensures.goes;
       from = omega (arith, c.scan.invariant.from, c.scan-test.true, c.min-end.ensures);
-      used_so_far = λ m low high. used_up_to c.scan.n c.in_ok-block.ensures.done.told c.scan.invariant.disk (c.min-end.result - c.scan.n / 16 * 16)
+      used_so_far = λ m low high. used_up_to c.scan.n (rw c.at.ensures.block at c.in_ok-block.ensures.done.told) c.scan.invariant.disk (c.min-end.result - c.scan.n / 16 * 16)
           (omega (arith, c.min-end.ensures)) c.scan.invariant.used_so_far none m low (omega (arith, high, c.min-end.ensures, c.scan-test.true));
     }
 

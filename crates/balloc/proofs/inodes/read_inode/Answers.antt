@@ -6,4 +6,4 @@ returns-in_err-read_part g c = step-failed goes-stays c.read_part.ensures c.in_e
 
 pub returns : goal.returns
 returns g c =
-    read-done c.read_part.ensures.goes c.in_ok-read_part.ensures.done.same (record { is = c.from_front.ensures.inode ∙ ap inode_of c.in_ok-read_part.ensures.done.told; fits = c.from_front.ensures.fits })
+    read-done c.read_part.ensures.goes c.in_ok-read_part.ensures.done.same (record { is = c.from_front.ensures.inode ∙ ap inode_of (rw (c.at-place.ensures.block, c.at-place.ensures.offset) at c.in_ok-read_part.ensures.done.told); fits = c.from_front.ensures.fits })

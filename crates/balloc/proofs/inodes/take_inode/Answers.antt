@@ -14,8 +14,6 @@ take_inode_at-requires g c =
     record {
       sound = rw c.in_ok-number.ensures.done.same c.requires.sound;
       unused = rw c.in_ok-number.ensures.done.same (record { low = lowest.low; high = lowest.high; unused = lowest.unused });
-      some = c.requires.some;
-      kind = c.requires.kind;
     }
 
 pub returns-in_err-take_inode_at : goal.returns-in_err-take_inode_at
@@ -25,4 +23,4 @@ pub returns : goal.returns
 returns g c =
     let found = subst (FindsInode _ _) c.in-Some.is c.in_ok-number.ensures.done.told in
     step-done (goes-after c.find_unused.ensures.goes c.take_inode_at.ensures.goes)
-    (found, subst (λ b. TakesNode c.args.geometry b c.take_inode_at.new.disk.blocks c.in-Some.number c.args.kind c.args.major c.args.minor c.args.links) c.in_ok-number.ensures.done.same c.in_ok-take_inode_at.ensures.done)
+    (found, subst (λ b. TakesNode c.args.geometry b c.take_inode_at.new.disk.blocks c.in-Some.number c.args.kind c.args.links) c.in_ok-number.ensures.done.same c.in_ok-take_inode_at.ensures.done)

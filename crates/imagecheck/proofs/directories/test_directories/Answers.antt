@@ -1,12 +1,13 @@
+use Rattle.std.proofs.lemmas.Bool.{iff_false}
 use Rattle.imagecheck.proofs.Common.{◌≡◌, sym, ap, ◌∙◌, arith, contents_in, inodes_in, kind_in, HasNames, HasPlace-at, inodes-least, up_to_more}
 use Rattle.std.proofs.Common.{append-nil}
 use Rattle.imagecheck.proofs.Collecting.{entries-other, namings_to, namings_to-all, namings_to-first, namings_to-more}
 use Rattle.imagecheck.proofs.Parents.{slot-directory}
 use Rattle.imagecheck.proofs.directories.test_directories.Goals as goal
-use Rattle.imagecheck.proofs.directories.test_directories.Goals.{else-kind-eq-DIRECTORY, then-kind-eq-DIRECTORY+in_ok-test_directory}
+use Rattle.imagecheck.proofs.directories.test_directories.Goals.{else-is_directory, then-is_directory+in_ok-test_directory}
 
-pub kind-requires : goal.kind-requires
-kind-requires g c = HasPlace-at c.requires.geometry c.loop-n.n c.loop-n-test.true
+pub is_directory-requires : goal.is_directory-requires
+is_directory-requires g c = HasPlace-at c.requires.geometry c.loop-n.n c.loop-n-test.true
 
 pub loop-n-init : goal.loop-n-init
 loop-n-init g c =
@@ -19,12 +20,12 @@ loop-n-preserved g c =
     let n = c.loop-n.n in
     let inv = c.loop-n.invariant in
     let named = λ (here : kind_in image n ≡ 1 → HasNames image (contents_in image n)). up_to_more (λ m. kind_in image m ≡ 1 → HasNames image (contents_in image m)) n inv.named here in
-    elim c.if-kind-eq-DIRECTORY.branch [
-      | then-kind-eq-DIRECTORY+in_ok-test_directory w ↦
-          let directory = slot-directory image n (omega arith) (omega (arith, c.requires.geometry.inodes, c.loop-n-test.true)) (sym c.kind.ensures ∙ w.if-kind-eq-DIRECTORY.true) in
+    elim c.if-is_directory.branch [
+      | then-is_directory+in_ok-test_directory w ↦
+          let directory = slot-directory image n (omega arith) (omega (arith, c.requires.geometry.inodes, c.loop-n-test.true)) (c.is_directory.ensures.0 w.if-is_directory.true) in
           record { named = named (λ e. w.in_ok-test_directory.ensures.judged); collected = rw (w.namings-is, namings_to-more image n, directory, ← inv.collected) w.in_ok-test_directory.ensures.namings }
-      | else-kind-eq-DIRECTORY w ↦
-          let other = λ (e : kind_in image n ≡ 1). w.if-kind-eq-DIRECTORY.false (c.kind.ensures ∙ e) in
+      | else-is_directory w ↦
+          let other = iff_false c.is_directory.ensures w.if-is_directory.false in
           record { named = named (λ e. absurd (other e)); collected = rw (w.namings-is, namings_to-more image n, entries-other image c.requires.blocks n other, append-nil) inv.collected }
     ]
 

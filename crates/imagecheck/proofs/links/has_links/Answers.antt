@@ -1,3 +1,5 @@
+use Rattle.layout.proofs.KindLemmas.{number-read}
+use Rattle.unixmodel.specs.Image.{kind_in, major_in, minor_in}
 use Rattle.imagecheck.proofs.Common.{◌<◌, length, arith, IsTrue, ◌↔◌, HasPlace-at, up_to_more, HasBlocks-of}
 use Rattle.imagecheck.proofs.Judging.{refused, told}
 use Rattle.imagecheck.proofs.Entering.{FitsLinks-at, HasLinks-from, LinksFit}
@@ -9,7 +11,8 @@ fits-is : (c : After-fits_links) → IsTrue c.fits_links.result ↔ LinksFit c.a
 fits-is c =
     let in_names : c.loop-n.n < length c.args.names.now = omega (arith, c.requires.names_long, c.loop-n-test.true) in
     let in_subdirectories : c.loop-n.n < length c.args.subdirectories.now = omega (arith, c.requires.subdirectories_long, c.loop-n-test.true) in
-    rw (c.kind.ensures, c.links-told.ensures, c.requires.names c.loop-n.n in_names, c.requires.subdirectories c.loop-n.n in_subdirectories) at c.fits_links.ensures
+    let known = number-read (kind_in c.args.image.now c.loop-n.n) (major_in c.args.image.now c.loop-n.n) (minor_in c.args.image.now c.loop-n.n) ((HasBlocks-of c.args.image.now c.requires.blocks).inodes.kinds.known c.loop-n.n (omega arith) (omega (arith, c.requires.geometry.inodes, c.loop-n-test.true))) in
+    rw (c.kind.ensures, known, c.links-told.ensures, c.requires.names c.loop-n.n in_names, c.requires.subdirectories c.loop-n.n in_subdirectories) at c.fits_links.ensures
 
 pub links-told-requires : goal.links-told-requires
 links-told-requires c = HasPlace-at c.requires.geometry c.loop-n.n c.loop-n-test.true

@@ -1,5 +1,5 @@
 use Rattle.cache.proofs.Using.{goes-after, goes-stays, step-failed, step-last}
-use Rattle.balloc.proofs.Counting.{fresh_fits}
+use Rattle.balloc.proofs.Counting.{emptied_fits}
 use Rattle.inode.proofs.Emptying.{Wrote-empty}
 use Rattle.inode.proofs.Growing.{HasInode-read, IsInHand-read}
 use Rattle.inode.proofs.empty.truncate.Goals as goal
@@ -18,12 +18,7 @@ returns-in_err-give_blocks g c = step-failed c.read_inode.ensures.goes c.give_bl
 
 pub write_inode-requires : goal.write_inode-requires
 write_inode-requires g c =
-    let fits = c.in_ok-inode.ensures.done.told.fits in
-    record {
-      parts = c.in_ok-give_blocks.ensures.done.parts;
-      high = c.requires.inode.high;
-      fits = fresh_fits c.in_ok-inode.inode.kind c.in_ok-inode.inode.major c.in_ok-inode.inode.minor c.in_ok-inode.inode.links fits.kind fits.major fits.minor fits.links;
-    }
+    record { parts = c.in_ok-give_blocks.ensures.done.parts; high = c.requires.inode.high; fits = emptied_fits c.in_ok-inode.ensures.done.told.fits }
 
 pub returns : goal.returns
 returns g c =
