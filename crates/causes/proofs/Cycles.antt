@@ -1,7 +1,7 @@
 -- How the cycle of a process that is seen traps.
 use Rattle.std.proofs.Common.{ap, refl, sym, ◌∙◌, ◌≡◌, ℕ, Option, Some, None, option_and_then, option_map, arith, zero, suc, ◌+◌, ◌-◌, ◌*◌, List, [], ◌∷◌, drop, take, slice_get, slice_range}
 use Rattle.std.proofs.lemmas.Option.{none-some, same_Some}
-use Rattle.causes.specs.Causes.{memory_of, trap_of, trap_shown}
+use Rattle.causes.specs.Causes.{fault_shown, memory_of, trap_of, trap_shown}
 use Rattle.machine.specs.declared.seen.Seen.{Seen}
 use Rattle.machine.specs.Seen.{seen_of}
 use Rattle.unixmodel.specs.Cycle.{act_word, cycle, fetched}
@@ -51,6 +51,22 @@ shown-word (Some p) seen word is h =
     let same : seen ≡ seen_of p = same_Some seen (seen_of p) is in
     ap (λ (s : Seen). trap_of (act_word (instruction_of word) s.registers s.pc p.memory)) same
     ∙ traps-word p word (h ∙ ap (λ (s : Seen). word_at p.memory s.pc) same)
+
+-- ---- a fault is that trap, at the pc
+
+pub fault-shown : (o : Option Process) (seen : Seen) (trap : Trap) → Some seen ≡ option_map seen_of o → Some trap ≡ option_and_then trap_shown o → Some (trap, seen.pc) ≡ option_and_then fault_shown o
+fault-shown None seen trap is h = absurd (none-some seen (sym is))
+fault-shown (Some p) seen trap is h =
+    let pc : seen.pc ≡ p.pc = ap (λ (s : Seen). s.pc) (same_Some seen (seen_of p) is) in
+    rw pc (ap (option_map (λ t. (t, p.pc))) h)
+
+pub without-trap : (o : Option Process) → None ≡ option_and_then trap_shown o → None ≡ option_and_then fault_shown o
+without-trap None h = refl
+without-trap (Some p) h = ap (option_map (λ t. (t, p.pc))) h
+
+pub unseen : (o : Option Process) → None ≡ option_map seen_of o → None ≡ option_and_then fault_shown o
+unseen None h = refl
+unseen (Some p) h = absurd (none-some (seen_of p) h)
 
 -- ---- four bytes from a place in a page on, and their number
 

@@ -1,5 +1,6 @@
 -- What the next instruction of a process traps with, where that is no call.
-use Rattle.std.specs.Prelude.{Err, List, None, Ok, Option, Some, [], if◌then◌else◌, ℕ, ◌≡◌}
+use Rattle.std.specs.Prelude.{Err, List, None, Ok, Option, Some, [], if◌then◌else◌, option_map, ℕ, ◌≡◌}
+use Rattle.causes.specs.declared.fault.Fault.{Fault}
 use Rattle.unixmodel.specs.declared.instr.StoreOp.{StoreOp}
 use Rattle.unixmodel.specs.declared.trap.Trap.{Trap}
 use Rattle.unixmodel.specs.Meaning.{Effect, store}
@@ -15,6 +16,14 @@ trap_of (Err t) = if is_ecall t.cause then None else Some t
 
 abbrev pub trap_shown : Process → Option Trap
 trap_shown p = trap_of (effect_of p)
+
+-- that trap, and the pc of the instruction that raises it
+abbrev pub fault_shown : Process → Option (Trap × ℕ)
+fault_shown p = option_map (λ trap. (trap, p.pc)) (trap_shown p)
+
+-- the trap and the pc that are told
+abbrev pub told_in : Option Fault → Option (Trap × ℕ)
+told_in told = option_map (λ fault. (fault.trap, fault.pc)) told
 
 -- the memory of the process with a pid; no page where there is none
 abbrev pub memory_of : Option Process → Memory

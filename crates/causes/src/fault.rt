@@ -1,4 +1,7 @@
 //! A fault in words.
+ghost use Rattle.std.specs.Prelude.{◌≡◌, option_and_then};
+ghost use Rattle.causes.specs.Causes.{fault_shown, told_in};
+ghost use Rattle.unixmodel.specs.Shown.{shown_process};
 
 use crate::access::word;
 use crate::traps::cause;
@@ -41,13 +44,24 @@ fn barred<D: BlockDev, T: Translate>(machine: &Machine<D, T>, pid: u32, address:
     }
 }
 
+// What explains that a word is no instruction.
+fn spelled(word: Option<u32>) -> Why {
+    match word {
+        Some(word) => Why::Word(word),
+        None => Why::Cause,
+    }
+}
+
 /// The fault that the next instruction of the process with a pid would raise if it were done now; `None` where it would raise none, and
 /// where there is no such process.
-pub fn fault_of<D: BlockDev, T: Translate>(machine: &Machine<D, T>, pid: u32) -> Option<Fault> {
+pub fn fault_of<D: BlockDev, T: Translate>(machine: &Machine<D, T>, pid: u32) -> Option<Fault>
+    ensures { told_in result ≡ option_and_then fault_shown (shown_process machine.now.state pid) }
+{
     let trap = cause(machine, pid)?;
-    let pc = machine.inspect(pid)?.pc;
+    let seen = machine.inspect(pid)?;
+    let pc = seen.pc;
     let why = match trap.cause {
-        Cause::IllegalInstruction => Why::Word(word(machine, pid, pc)?),
+        Cause::IllegalInstruction => spelled(word(machine, pid, pc)),
         Cause::InstructionPageFault | Cause::LoadPageFault | Cause::StorePageFault => {
             barred(machine, pid, trap.address)
         }

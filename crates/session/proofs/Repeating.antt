@@ -3,10 +3,13 @@ use Rattle.std.specs.Prelude.{OnOk, is_ok, IfErr, IsErrOf}
 use Rattle.calls.specs.Steps.{IsBusy, IsBusyFor}
 use Rattle.machine.specs.Booted.{IsUnbooted}
 use Rattle.calls.specs.declared.halt.Halt.{Halt}
-use Rattle.machine.proofs.RunLemmas.{SoFar, both, runs_on}
+use Rattle.machine.proofs.RunLemmas.{Rises-later, SoFar, both, runs_on}
 use Rattle.machine.specs.Gives.{IsRefused, RunGives}
 use Rattle.machine.specs.View.{IsUp, View}
-use Rattle.session.specs.Played.{Advances, Refuses}
+use Rattle.session.specs.Played.{Advances, IsAsFar, Refuses, Runs, Tells, console_failures, console_of}
+use Rattle.session.specs.declared.session.Session.{Session}
+use Rattle.unixmodel.specs.Failures.{Rises}
+use Rattle.unixmodel.specs.declared.event.Event.{Event}
 use Rattle.std.proofs.Common.{◌%◌, ◌+◌, ◌-◌, ◌<◌, [], ap, append-nil, arith, Err, inl, inr, length, List, Ok, Option, refl, replicate, Result, Some, subst, sym, true, ℕ, ◌↔◌, ◌∙◌, ◌≡◌, ◌≢◌, ◌≤◌, ◌⊎◌}
 use Rattle.std.proofs.lemmas.Bool.{cases_eq, cases_lt}
 use Rattle.unixmodel.specs.Run.{run}
@@ -89,6 +92,50 @@ stands old new xs ys rising (Err (InitEnded status)) h first now = absurd (let e
 stands old new xs ys rising (Err Device) h first now = absurd (let more = h.1.more in omega (arith, more))
 stands old new xs ys rising (Err Console) h first now = absurd (let more = h.1.more in omega (arith, more))
 stands old new xs ys rising (Err Halted) h first now = (h.same, h.printed ∙ append-nil xs, (λ up. absurd (h.stopped up), λ ok. absurd cc))
+
+-- a count that rose after a look has risen since before it
+rises-sooner : (old new : View) (events : List Event) (before after : Option (List ℕ)) (step_rises rises : Type 0) (r : Result (Unit {0}) Halt) → (step_rises → rises) → RunGives old new events before after step_rises r
+    → RunGives old new events before after rises r
+rises-sooner old new events before after step_rises rises (Ok u) rise k = k
+rises-sooner old new events before after step_rises rises (Err (InitEnded status)) rise k = k
+rises-sooner old new events before after step_rises rises (Err Device) rise k = k
+rises-sooner old new events before after step_rises rises (Err Console) rise k = (
+  k.0,
+  record { rises = rise k.1.rises; failed = k.1.failed; printed = k.1.printed; done = k.1.done; more = k.1.more; goes = k.1.goes; files = k.1.files; same_device = k.1.same_device; later = k.1.later },
+)
+rises-sooner old new events before after step_rises rises (Err Halted) rise k = k
+
+-- where the disk never fails, no answer blames it
+tells-of : (old new : View) (events : List Event) (xs ys : List ℕ) (rising : Type 0) (r : Result (Unit {0}) Halt) → new.failures ≡ 0 → RunGives old new events (Some xs) (Some ys) rising r → Tells old new events xs ys rising r
+tells-of old new events xs ys rising (Ok u) zero k = k
+tells-of old new events xs ys rising (Err (InitEnded status)) zero k = k
+tells-of old new events xs ys rising (Err Device) zero k = absurd (let more = k.1.fails.rises in omega (arith, more, zero))
+tells-of old new events xs ys rising (Err Console) zero k = k
+tells-of old new events xs ys rising (Err Halted) zero k = k
+
+-- a machine that takes events is not told as one that had stopped
+never : (old new : View) (events : List Event) (before after : Option (List ℕ)) (rising : Type 0) (n : ℕ) (r : Result (Unit {0}) Halt) → IsUp old → RunGives old new events before after rising r → IsErrOf r Halted → n ≡ 0
+never old new events before after rising n (Ok u) up k is = absurd cc
+never old new events before after rising n (Err (InitEnded status)) up k is = absurd cc
+never old new events before after rising n (Err Device) up k is = absurd cc
+never old new events before after rising n (Err Console) up k is = absurd cc
+never old new events before after rising n (Err Halted) up k is = absurd (k.stopped up)
+
+-- the run of a session whose machine takes events, which was looked at before
+pub runs-on : {old new : Session} {most : ℕ} {ran : Ran} (mid : View) (bytes : List ℕ) (failed : ℕ) → mid ≡ old.machine → bytes ≡ console_of old → console_failures old ≤ failed → failed ≤ console_failures new → IsUp old.machine
+    → new.machine.failures ≡ 0 → Advances mid new.machine most (Some bytes) (Some (console_of new)) (Rises failed (console_failures new)) ran → Runs old new most ran
+runs-on {old} {new} {most} {ran} mid bytes failed same kept later rose up zero a =
+    let steps : List Event = replicate ran.steps Step in
+    let rises : Type 0 = Rises (console_failures old) (console_failures new) in
+    record {
+      answers =
+          subst (λ (m : View). Tells m new.machine steps (console_of old) (console_of new) rises ran.answer) same
+          (subst (λ (b : List ℕ). Tells mid new.machine steps b (console_of new) rises ran.answer) kept
+          (tells-of mid new.machine steps bytes (console_of new) rises ran.answer zero
+          (rises-sooner mid new.machine steps (Some bytes) (Some (console_of new)) (Rises failed (console_failures new)) rises ran.answer (λ r. Rises-later (console_failures old) failed (console_failures new) later r rose) a.gives)));
+      far = subst (λ (m : View). IsAsFar m new.machine most ran) same a.far;
+      none = never mid new.machine steps (Some bytes) (Some (console_of new)) (Rises failed (console_failures new)) ran.steps ran.answer (subst IsUp (sym same) up) a.gives;
+    }
 
 -- a machine that had stopped
 pub refused : (old new : View) (xs ys : List ℕ) → (IsUp old → ⊥) → new ≡ old → ys ≡ xs → IsRefused old new (Some xs) (Some ys)

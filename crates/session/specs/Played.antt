@@ -24,6 +24,10 @@ use Rattle.unixmodel.specs.Failures.{Rises}
 abbrev pub console_of : Session → List ℕ
 console_of s = s.console.inner.items
 
+-- how often the console's writer has failed
+abbrev pub console_failures : Session → ℕ
+console_failures s = s.console.failed
+
 -- why a machine doesn't boot from an image
 abbrev pub Refuses : List ℕ → ℕ → BootFault → Type 0
 Refuses image frames fault.Device = ⊥
@@ -31,21 +35,21 @@ Refuses image frames f = IsUnbooted {D = Unit {0}} (λ u. []) (λ u. 0) tt image
 
 -- ---- events
 
--- what an event that makes `a` is answered with, over the bytes before and after
-abbrev pub StepTells : View → View → After → List ℕ → List ℕ → Result (Unit {0}) Halt → Type 0
-StepTells old new a before after (Err Device) = ⊥
-StepTells old new a before after result = StepGives old new a (Some before) (Some after) (Unit {0}) result
+-- what an event that makes `a` is answered with, over the bytes before and after; rising: the count of failures of the console's writer rose
+abbrev pub StepTells : View → View → After → List ℕ → List ℕ → Type 0 → Result (Unit {0}) Halt → Type 0
+StepTells old new a before after rising (Err Device) = ⊥
+StepTells old new a before after rising result = StepGives old new a (Some before) (Some after) rising result
 
 abbrev pub StepAnswers : Session → Session → After → Result (Unit {0}) Halt → Type 0
-StepAnswers old new a result = StepTells old.machine new.machine a (console_of old) (console_of new) result
+StepAnswers old new a result = StepTells old.machine new.machine a (console_of old) (console_of new) (Rises (console_failures old) (console_failures new)) result
 
 -- what a list of events is answered with
-abbrev pub Tells : View → View → List Event → List ℕ → List ℕ → Result (Unit {0}) Halt → Type 0
-Tells old new events before after (Err Device) = ⊥
-Tells old new events before after result = RunGives old new events (Some before) (Some after) (Unit {0}) result
+abbrev pub Tells : View → View → List Event → List ℕ → List ℕ → Type 0 → Result (Unit {0}) Halt → Type 0
+Tells old new events before after rising (Err Device) = ⊥
+Tells old new events before after rising result = RunGives old new events (Some before) (Some after) rising result
 
 abbrev pub Answers : Session → Session → List Event → Result (Unit {0}) Halt → Type 0
-Answers old new events result = Tells old.machine new.machine events (console_of old) (console_of new) result
+Answers old new events result = Tells old.machine new.machine events (console_of old) (console_of new) (Rises (console_failures old) (console_failures new)) result
 
 -- ---- a run until nobody is ready
 

@@ -24,6 +24,7 @@ pub fn is_up(machine: &mut Machine<MemDisk, Tlb<64>>, out: &mut Writer<Vec<u8>>)
     ensures stopped { result ≡ false → ¬ IsUp machine.old }
     ensures same { machine.new ≡ machine.old }
     ensures bytes { out.new.inner.items ≡ out.old.inner.items }
+    ensures later { out.old.failed ≤ out.new.failed }
 {
     // The count of failures of a disk in memory stays 0.
     let _disk = machine.device();

@@ -1,4 +1,6 @@
 //! A call that a process made, and its arguments as text.
+ghost use Rattle.std.specs.Prelude.{◌≡◌, ◌-◌, ◌++◌, OnOk, length, string_bytes, take};
+ghost use Rattle.tracetext.specs.Texts.{IsEmpty, IsSameText, shown_after};
 
 use crate::call_names::{call_of, number_of};
 use crate::quoting::Quoted;
@@ -53,7 +55,9 @@ pub struct CallText {
 
 impl CallText {
     /// No arguments.
-    pub fn new(alloc: Global) -> CallText {
+    pub fn new(alloc: Global) -> CallText
+        ensures { IsEmpty result }
+    {
         CallText {
             front: String::new(alloc),
             data: Vec::new(alloc),
@@ -63,7 +67,9 @@ impl CallText {
     }
 
     /// Takes all arguments away.
-    pub fn clear(&mut self) {
+    pub fn clear(&mut self)
+        ensures { IsEmpty self.new }
+    {
         self.front.clear();
         self.data.clear();
         self.shown = Shown::Nothing;
@@ -71,7 +77,9 @@ impl CallText {
     }
 
     /// Puts these arguments in the place of its own.
-    pub fn copy_from(&mut self, other: &CallText) -> Result<(), AllocError> {
+    pub fn copy_from(&mut self, other: &CallText) -> Result<(), AllocError>
+        ensures { OnOk result (IsSameText self.new other.now) }
+    {
         self.clear();
         self.front.push_str(other.front.as_str())?;
         self.data.extend_from_slice(other.data.as_slice())?;
@@ -80,19 +88,25 @@ impl CallText {
     }
 
     /// Puts bytes behind those of the buffer, as far as so many are shown.
-    pub fn add_data(&mut self, bytes: &[u8], most: usize) -> Result<(), AllocError> {
-        for byte in bytes {
-            if self.data.len() >= most {
-                self.shown = Shown::Cut;
-                break;
-            }
-            self.data.push(*byte)?;
+    pub fn add_data(&mut self, bytes: &[u8], most: usize) -> Result<(), AllocError>
+        ensures added { OnOk result (self.new.«data».items ≡ self.old.«data».items ++ take (most - length self.old.«data».items) bytes.now) }
+        ensures shown { OnOk result (self.new.shown ≡ shown_after (most - length self.old.«data».items) (length bytes.now) self.old.shown) }
+        ensures front { string_bytes self.new.front ≡ string_bytes self.old.front }
+        ensures back { string_bytes self.new.back ≡ string_bytes self.old.back }
+    {
+        let room = most.saturating_sub(self.data.len());
+        let count = bytes.len().min(room);
+        self.data.extend_from_slice(&bytes[..count])?;
+        if room < bytes.len() {
+            self.shown = Shown::Cut;
         }
         Ok(())
     }
 
     /// What a call fills in: the bytes of the buffer and what stands behind them.
-    pub fn rest(&self) -> Rest<'_> {
+    pub fn rest(&self) -> Rest<'_>
+        ensures { result.0.now ≡ self.now }
+    {
         Rest(self)
     }
 }

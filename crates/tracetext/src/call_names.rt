@@ -1,4 +1,5 @@
 //! The calls by their numbers and names.
+ghost use Rattle.std.specs.Prelude.{◌≡◌, false, get_or};
 
 use std::fmt;
 use unixmodel::call::Call;
@@ -95,7 +96,9 @@ impl CallSet {
     }
 
     /// Whether a number's call is in the set.
-    pub fn contains(&self, number: u32) -> bool {
+    pub fn contains(&self, number: u32) -> bool
+        ensures { result ≡ get_or self.now.has number (get_or self.now.has 0 false) }
+    {
         match self.has.get(number as usize) {
             Some(has) => *has,
             None => self.has[0],

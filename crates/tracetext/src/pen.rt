@@ -1,4 +1,6 @@
 //! Writes lines to where each form goes.
+ghost use Rattle.std.specs.Prelude.{◌≡◌, ◌≢◌, None, Some, false};
+ghost use Rattle.tracetext.specs.Pens.{first_trouble, has, lost, set};
 
 use std::alloc::Global;
 use std::fmt;
@@ -46,7 +48,11 @@ pub struct Pen<S> {
 
 impl<S: Sinks + Drop> Pen<S> {
     /// A pen that writes no form so far.
-    pub fn new(alloc: Global, sinks: S) -> Self {
+    pub fn new(alloc: Global, sinks: S) -> Self
+        ensures sinks { result.sinks ≡ sinks }
+        ensures none { (form : Form) → has result form ≡ false }
+        ensures trouble { result.trouble ≡ None }
+    {
         Pen {
             sinks,
             line: String::new(alloc),
@@ -58,7 +64,9 @@ impl<S: Sinks + Drop> Pen<S> {
     }
 
     /// Whether lines of a form are written: it is wanted, and all went well so far.
-    pub fn has(&self, form: Form) -> bool {
+    pub fn has(&self, form: Form) -> bool
+        ensures { result ≡ has self.now form }
+    {
         match form {
             Form::Text => self.has_text,
             Form::Spans => self.has_spans,
@@ -67,7 +75,9 @@ impl<S: Sinks + Drop> Pen<S> {
     }
 
     /// Sets whether lines of a form are written.
-    pub fn set(&mut self, form: Form, is_wanted: bool) {
+    pub fn set(&mut self, form: Form, is_wanted: bool)
+        ensures { self.new ≡ set self.old form is_wanted }
+    {
         match form {
             Form::Text => self.has_text = is_wanted,
             Form::Spans => self.has_spans = is_wanted,
@@ -76,7 +86,9 @@ impl<S: Sinks + Drop> Pen<S> {
     }
 
     /// Gives up a form, and remembers why, if nothing was given up before.
-    pub fn lose(&mut self, form: Form, trouble: Trouble) {
+    pub fn lose(&mut self, form: Form, trouble: Trouble)
+        ensures { self.new ≡ lost self.old form trouble }
+    {
         self.set(form, false);
         if self.trouble.is_none() {
             self.trouble = Some(trouble);
@@ -84,19 +96,29 @@ impl<S: Sinks + Drop> Pen<S> {
     }
 
     /// Gives up all forms, since memory was refused.
-    pub fn starve(&mut self) {
+    pub fn starve(&mut self)
+        ensures none { (form : Form) → has self.new form ≡ false }
+        ensures trouble { self.new.trouble ≡ first_trouble self.old.trouble Trouble.NoMemory }
+        ensures sinks { self.new.sinks ≡ self.old.sinks }
+    {
         self.lose(Form::Text, Trouble::NoMemory);
         self.lose(Form::Spans, Trouble::NoMemory);
         self.lose(Form::Commits, Trouble::NoMemory);
     }
 
     /// Why the trace isn't whole, if it isn't.
-    pub fn trouble(&self) -> Option<Trouble> {
+    pub fn trouble(&self) -> Option<Trouble>
+        ensures { result ≡ self.now.trouble }
+    {
         self.trouble
     }
 
     /// Writes a line, if its form is written.
-    pub fn put<L: fmt::Display>(&mut self, form: Form, line: &L) {
+    pub fn put<L: fmt::Display>(&mut self, form: Form, line: &L)
+        ensures unwanted { has self.old form ≡ false → self.new ≡ self.old }
+        ensures others { (other : Form) → other ≢ form → has self.new other ≡ has self.old other }
+        ensures given_up { has self.old form ≢ has self.new form → self.new.trouble ≢ None }
+    {
         if !self.has(form) {
             return;
         }
@@ -109,7 +131,9 @@ impl<S: Sinks + Drop> Pen<S> {
     }
 
     /// The sinks.
-    pub fn into_sinks(self) -> S {
+    pub fn into_sinks(self) -> S
+        ensures { result ≡ self.sinks }
+    {
         self.sinks
     }
 }

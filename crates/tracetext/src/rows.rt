@@ -1,4 +1,7 @@
 //! Equal calls in a row, which are one line.
+ghost use Rattle.std.specs.Prelude.{◌≡◌, ◌≢◌, ◌-◌, ◌<◌, ◌++◌, IsTrue, OnOk, length, pos, take};
+ghost use Rattle.tracetext.specs.Rows.{Counts, Holds, IsAlike};
+ghost use Rattle.tracetext.specs.Texts.{IsEmpty};
 
 use crate::asked::{Asked, CallText, Shown};
 use std::alloc::{AllocError, Global};
@@ -18,7 +21,10 @@ pub struct Row {
 
 impl Row {
     /// Holds no call.
-    pub fn new(alloc: Global) -> Row {
+    pub fn new(alloc: Global) -> Row
+        ensures times { result.times ≡ 0 }
+        ensures text { IsEmpty result.text }
+    {
         Row {
             times: 0,
             pid: 0,
@@ -30,7 +36,9 @@ impl Row {
     }
 
     // Whether the buffers let two calls be told as one: they are equal, or single bytes.
-    fn fits(&self, text: &CallText) -> bool {
+    fn fits(&self, text: &CallText) -> bool
+        ensures { IsTrue result → self.now.answer ≢ pos 1 → self.now.text.«data».items ≡ text.now.«data».items }
+    {
         let is_single = self.answer == 1
             && self.text.shown != Shown::Nothing
             && text.shown == Shown::Whole;
@@ -39,7 +47,11 @@ impl Row {
     }
 
     /// Whether a call goes on with the row.
-    pub fn takes(&self, asked: &Asked, text: &CallText, answer: i64) -> bool {
+    pub fn takes(&self, asked: &Asked, text: &CallText, answer: i64) -> bool
+        ensures held { IsTrue result → 0 < self.now.times }
+        ensures alike { IsTrue result → IsAlike self.now asked.now text.now answer }
+        ensures bytes { IsTrue result → answer ≢ pos 1 → self.now.text.«data».items ≡ text.now.«data».items }
+    {
         self.times > 0
             && self.pid == asked.pid
             && self.number == asked.number
@@ -50,7 +62,9 @@ impl Row {
     }
 
     /// Holds this call in the place of the one before.
-    pub fn begin(&mut self, asked: &Asked, text: &CallText, answer: i64) -> Result<(), AllocError> {
+    pub fn begin(&mut self, asked: &Asked, text: &CallText, answer: i64) -> Result<(), AllocError>
+        ensures { OnOk result (Holds self.new asked.now text.now answer) }
+    {
         self.text.copy_from(text)?;
         self.times = 1;
         self.pid = asked.pid;
@@ -61,7 +75,11 @@ impl Row {
     }
 
     /// Counts one call more, and shows its byte, if it is one of a single byte.
-    pub fn go_on(&mut self, text: &CallText, most: usize) -> Result<(), AllocError> {
+    pub fn go_on(&mut self, text: &CallText, most: usize) -> Result<(), AllocError>
+        ensures counts { Counts self.old self.new }
+        ensures shows { self.old.answer ≡ pos 1 → OnOk result (self.new.text.«data».items ≡ self.old.text.«data».items ++ take (most - length self.old.text.«data».items) text.now.«data».items) }
+        ensures same { self.old.answer ≢ pos 1 → self.new.text ≡ self.old.text }
+    {
         self.times = self.times.saturating_add(1);
         if self.answer == 1 {
             self.text.add_data(text.data.as_slice(), most)?;

@@ -1,4 +1,6 @@
 //! The events of Chrome's trace format. One event of the machine is a microsecond.
+ghost use Rattle.std.specs.Prelude.{◌≡◌, ◌-◌, None, Some, codes};
+ghost use Rattle.tracetext.specs.Spans.{IsCall, IsNamed, IsPlain, Stands};
 
 use crate::call_names::CallName;
 use crate::lines::FaultText;
@@ -92,7 +94,9 @@ pub struct Period {
 
 impl Period {
     // How long it lasted.
-    fn length(self) -> u64 {
+    fn length(self) -> u64
+        ensures { result ≡ self.until - self.since }
+    {
         self.until.saturating_sub(self.since)
     }
 }
@@ -223,7 +227,11 @@ pub struct Span<'a> {
 
 impl<'a> Span<'a> {
     // An event of a process, or of the machine, which is process 0, that has nothing besides.
-    fn new(kind: &'static str, title: Title, pid: u32) -> Self {
+    fn new(kind: &'static str, title: Title, pid: u32) -> Self
+        ensures stands { Stands result None None pid None None }
+        ensures kind { result.kind.now ≡ kind.now }
+        ensures title { result.title ≡ title }
+    {
         Span {
             kind,
             title,
@@ -237,7 +245,11 @@ impl<'a> Span<'a> {
     }
 
     // An event of a lane.
-    fn on(kind: &'static str, title: Title, point: Point) -> Self {
+    fn on(kind: &'static str, title: Title, point: Point) -> Self
+        ensures stands { Stands result (Some point.at) None point.pid (Some point.lane) None }
+        ensures kind { result.kind.now ≡ kind.now }
+        ensures title { result.title ≡ title }
+    {
         Span {
             at: Some(point.at),
             lane: Some(u64::from(point.lane)),
@@ -246,7 +258,11 @@ impl<'a> Span<'a> {
     }
 
     // A slice of a lane.
-    fn slice(kind: &'static str, title: Title, pid: u32, lane: u8, period: Period) -> Self {
+    fn slice(kind: &'static str, title: Title, pid: u32, lane: u8, period: Period) -> Self
+        ensures stands { Stands result (Some period.since) (Some (period.until - period.since)) pid (Some lane) None }
+        ensures kind { result.kind.now ≡ kind.now }
+        ensures title { result.title ≡ title }
+    {
         let at = period.since;
         Span {
             lasts: Some(period.length()),
@@ -255,7 +271,11 @@ impl<'a> Span<'a> {
     }
 
     /// A process has this name.
-    pub fn name(pid: u32, name: &'a [u8]) -> Self {
+    pub fn name(pid: u32, name: &'a [u8]) -> Self
+        ensures stands { Stands result None None pid None None }
+        ensures name { IsNamed result.details name.now }
+        ensures title { IsPlain result.title (codes "process_name") }
+    {
         Span {
             details: Details::Name(name),
             ..Span::new(SETTING, Title::Plain("process_name"), pid)
@@ -280,12 +300,18 @@ impl<'a> Span<'a> {
     }
 
     /// A process had the hart.
-    pub fn runs(pid: u32, period: Period) -> Self {
+    pub fn runs(pid: u32, period: Period) -> Self
+        ensures stands { Stands result (Some period.since) (Some (period.until - period.since)) pid (Some HART) None }
+        ensures title { IsPlain result.title (codes "runs") }
+    {
         Span::slice(SLICE_OF_HART, Title::Plain("runs"), pid, HART, period)
     }
 
     /// A call of a process.
-    pub fn call(pid: u32, done: Done<'a>) -> Self {
+    pub fn call(pid: u32, done: Done<'a>) -> Self
+        ensures stands { Stands result (Some done.entry.period.since) (Some (done.entry.period.until - done.entry.period.since)) pid (Some CALLS) None }
+        ensures call { IsCall result.details done.entry.number done.entry.text.now done.entry.answer }
+    {
         let name = CallName(done.number);
         let (text, answer) = (done.text, done.answer);
         Span {
@@ -295,12 +321,18 @@ impl<'a> Span<'a> {
     }
 
     /// A call that was not answered, which began at this point.
-    pub fn open(number: u32, since: Point) -> Self {
+    pub fn open(number: u32, since: Point) -> Self
+        ensures stands { Stands result (Some since.at) None since.pid (Some since.lane) None }
+        ensures title { result.title ≡ Title.Call (record { 0 = number }) }
+    {
         Span::on(BEGINNING_OF_CALL, Title::Call(CallName(number)), since)
     }
 
     /// A moment in the lane of calls.
-    pub fn moment(pid: u32, name: &'static str, at: u64) -> Self {
+    pub fn moment(pid: u32, name: &'static str, at: u64) -> Self
+        ensures stands { Stands result (Some at) (Some 1) pid (Some CALLS) None }
+        ensures title { IsPlain result.title name.now }
+    {
         let lane = CALLS;
         Span {
             lasts: Some(1),
@@ -309,7 +341,9 @@ impl<'a> Span<'a> {
     }
 
     /// The arrow of this number begins at a point.
-    pub fn from(arrow: Arrow, id: u64, point: Point) -> Self {
+    pub fn from(arrow: Arrow, id: u64, point: Point) -> Self
+        ensures { Stands result (Some point.at) None point.pid (Some point.lane) (Some id) }
+    {
         Span {
             id: Some(id),
             ..Span::on(arrow.from(), Title::Plain(arrow.name()), point)
@@ -317,7 +351,9 @@ impl<'a> Span<'a> {
     }
 
     /// The arrow of this number ends at a point.
-    pub fn to(arrow: Arrow, id: u64, point: Point) -> Self {
+    pub fn to(arrow: Arrow, id: u64, point: Point) -> Self
+        ensures { Stands result (Some point.at) None point.pid (Some point.lane) (Some id) }
+    {
         Span {
             id: Some(id),
             ..Span::on(arrow.to(), Title::Plain(arrow.name()), point)
@@ -325,7 +361,11 @@ impl<'a> Span<'a> {
     }
 
     /// How many bytes a pipe has.
-    pub fn level(pipe: usize, at: u64, bytes: usize) -> Self {
+    pub fn level(pipe: usize, at: u64, bytes: usize) -> Self
+        ensures stands { Stands result (Some at) None 0 None None }
+        ensures title { result.title ≡ Title.Pipe pipe }
+        ensures bytes { result.details ≡ Details.Bytes bytes }
+    {
         Span {
             at: Some(at),
             details: Details::Bytes(bytes),
@@ -334,23 +374,35 @@ impl<'a> Span<'a> {
     }
 
     // A moment of the whole machine.
-    fn moment_of_all(title: Title, at: u64) -> Self {
+    fn moment_of_all(title: Title, at: u64) -> Self
+        ensures stands { Stands result (Some at) None 0 (Some 0) None }
+        ensures title { result.title ≡ title }
+    {
         let (pid, lane) = (0, 0);
         Span::on(MOMENT_OF_ALL, title, Point { at, pid, lane })
     }
 
     /// A timer interrupt.
-    pub fn tick(at: u64) -> Self {
+    pub fn tick(at: u64) -> Self
+        ensures stands { Stands result (Some at) None 0 (Some 0) None }
+        ensures title { IsPlain result.title (codes "tick") }
+    {
         Span::moment_of_all(Title::Plain("tick"), at)
     }
 
     /// A typed byte.
-    pub fn key(at: u64, key: u8) -> Self {
+    pub fn key(at: u64, key: u8) -> Self
+        ensures stands { Stands result (Some at) None 0 (Some 0) None }
+        ensures title { result.title ≡ Title.Key key }
+    {
         Span::moment_of_all(Title::Key(key), at)
     }
 
     /// A process faulted.
-    pub fn fault(pid: u32, at: u64, fault: FaultText) -> Self {
+    pub fn fault(pid: u32, at: u64, fault: FaultText) -> Self
+        ensures stands { Stands result (Some at) None pid (Some HART) None }
+        ensures title { result.title ≡ Title.Fault fault }
+    {
         let lane = HART;
         Span::on(MOMENT_OF_LANE, Title::Fault(fault), Point { at, pid, lane })
     }

@@ -1,4 +1,6 @@
 //! What of a run is traced, and how.
+ghost use Rattle.std.specs.Prelude.{◌≡◌, ◌↔◌, ◌≤◌, IsTrue, min};
+ghost use Rattle.tracetext.specs.Wishes.{IsOf};
 
 use crate::call_names::CallSet;
 
@@ -52,12 +54,16 @@ impl Wanted {
     };
 
     /// Whether the event of this number is shown.
-    pub fn has_event(&self, number: u64) -> bool {
+    pub fn has_event(&self, number: u64) -> bool
+        ensures { IsTrue result ↔ ((self.now.from ≤ number) × (number ≤ self.now.to)) }
+    {
         self.from <= number && number <= self.to
     }
 
     /// Whether the process with a pid is shown.
-    pub fn has_process(&self, pid: u32) -> bool {
+    pub fn has_process(&self, pid: u32) -> bool
+        ensures { IsTrue result ↔ IsOf self.now.pid pid }
+    {
         match self.pid {
             Some(only) => only == pid,
             None => true,
@@ -65,7 +71,9 @@ impl Wanted {
     }
 
     /// How many bytes of a buffer are shown.
-    pub fn most(&self) -> usize {
+    pub fn most(&self) -> usize
+        ensures { result ≡ min self.now.bytes MOST_BYTES }
+    {
         self.bytes.min(MOST_BYTES)
     }
 }

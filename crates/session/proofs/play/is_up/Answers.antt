@@ -10,4 +10,5 @@ returns c =
       stopped = λ no up. true≢false (sym (c.is_ok.ensures.value ∙ told.2.0 up) ∙ no);
       same = told.0;
       bytes = told.1;
+      later = c.run-done.ensures.later;
     }

@@ -1,0 +1,5 @@
+pub mod Pens
+pub mod Rows
+pub mod Spans
+pub mod Texts
+pub mod Wishes

@@ -1,0 +1,27 @@
+-- What a pen writes, and what it gave up.
+use Rattle.std.specs.Prelude.{Bool, None, Option, Some, false, ℕ, ◌≡◌}
+use Rattle.tracetext.specs.declared.pen.Form.{Form}
+use Rattle.tracetext.specs.declared.pen.Form.TheVariants.{Commits, Spans, Text}
+use Rattle.tracetext.specs.declared.pen.Pen.{Pen}
+use Rattle.tracetext.specs.declared.pen.Trouble.{Trouble}
+
+-- whether lines of a form are written
+abbrev pub has : {S : Type 0} → Pen S → Form → Bool
+has pen Text = pen.has_text
+has pen Spans = pen.has_spans
+has pen Commits = pen.has_commits
+
+-- the pen with this said of a form
+abbrev pub set : {S : Type 0} → Pen S → Form → Bool → Pen S
+set pen Text wanted = record pen { has_text = wanted }
+set pen Spans wanted = record pen { has_spans = wanted }
+set pen Commits wanted = record pen { has_commits = wanted }
+
+-- the trouble that came first
+abbrev pub first_trouble : Option Trouble → Trouble → Option Trouble
+first_trouble None trouble = Some trouble
+first_trouble (Some first) trouble = Some first
+
+-- the pen that gave up a form
+abbrev pub lost : {S : Type 0} → Pen S → Form → Trouble → Pen S
+lost pen form trouble = record (set pen form false) { trouble = first_trouble pen.trouble trouble }
