@@ -1,0 +1,35 @@
+-- Hexadecimal numbers: the highest digit first.
+use Rattle.std.specs.Prelude.{◌+◌, ◌-◌, ◌*◌, ◌/◌, ◌%◌, ◌&&◌, ◌∷◌, ℕ, List, [], None, Option, Some, flat_map, if◌then◌else◌, nat_le, nat_lt}
+
+-- the digit of a number below 16; letters are of lower case
+unfoldable pub hex_digit : ℕ → ℕ
+hex_digit n = if nat_lt n 10 then 48 + n else 87 + n
+
+-- a byte as two digits
+unfoldable pub hex_byte : ℕ → List ℕ
+hex_byte n = hex_digit (n / 16) ∷ hex_digit (n % 16) ∷ []
+
+-- bytes as two digits each
+abbrev pub hex_bytes : List ℕ → List ℕ
+hex_bytes bytes = flat_map hex_byte bytes
+
+-- what a digit stands for; letters are of either case
+unfoldable pub value_of : ℕ → Option ℕ
+value_of code = if nat_le 48 code && nat_le code 57 then Some (code - 48)
+    else (if nat_le 97 code && nat_le code 102 then Some (code - 87)
+    else (if nat_le 65 code && nat_le code 70 then Some (code - 55) else None))
+
+-- a number so far, and one digit more, where that is below 2 ^ 64
+abbrev pub with_digit : ℕ → Option ℕ → Option ℕ
+with_digit n (Some digit) = if nat_lt n 1152921504606846976 then Some (16 * n + digit) else None
+with_digit n None = None
+
+-- a number so far, and the digits after it
+unfoldable pub number_from : Option ℕ → List ℕ → Option ℕ
+number_from (Some n) (code ∷ codes) = number_from (with_digit n (value_of code)) codes
+number_from n _ = n
+
+-- what digits stand for: none where one is no digit, where there are none, and where they stand for 2 ^ 64 or more
+unfoldable pub number_of : List ℕ → Option ℕ
+number_of [] = None
+number_of codes = number_from (Some 0) codes

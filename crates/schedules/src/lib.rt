@@ -1,0 +1,16 @@
+//! Laws of schedules: when timer interrupts come, and what of it shows. Each is a function that runs no code.
+#![tactic(auto)]
+
+ghost use Rattle.schedules.specs.Schedules.{StepIsPrivate, TickPasses, TickPassesAll};
+
+/// A step that computes, one that neither calls nor faults, changes the process that runs and nothing else.
+pub fn step_is_private()
+    ensures { StepIsPrivate }
+{}
+
+/// A timer interrupt after such a step, or after many, does what it does before the first of them, and the process that ran has computed
+/// as much: so it matters before calls and faults alone.
+pub fn tick_passes()
+    ensures one { TickPasses }
+    ensures many { TickPassesAll }
+{}
