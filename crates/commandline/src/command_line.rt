@@ -14,7 +14,7 @@ use std::alloc::{AllocError, Global};
 use std::num::NonZeroU64;
 
 /// What `--version` prints behind the name: the list of changes tells what each version brought.
-const VERSION: &str = "0.9.0";
+const VERSION: &str = "1.0.0";
 
 // An argument that is given by its place.
 fn placed<'a>(alloc: Global, word: &Word<'a>) -> Arg<'a>

@@ -442,7 +442,7 @@ const LIVE: [Word<'static>; 7] = [
     Word {
         name: "quantum",
         given: Given::Count("N"),
-        help: "Steps between two ticks while a process is ready, 100000 if left out",
+        help: "Steps between two ticks while a process is ready, 10000 if left out",
     },
     Word {
         name: "record",

@@ -38,6 +38,11 @@ impl Clock {
         }
     }
 
+    /// Whether it never strikes.
+    pub fn is_off(&self) -> bool {
+        matches!(self, Clock::Off)
+    }
+
     /// So many steps more it surely doesn't strike.
     pub fn quiet_steps(&self) -> u32 {
         match self {

@@ -101,33 +101,70 @@ fn deed_of<'a>(alloc: Global, line: &'a [u8]) -> Result<Option<(&'a [u8], Deed<'
     Ok(Some((name, deed)))
 }
 
+// A repeat that has no end yet: where it stands, and whether a line in it may give an event.
+#[derive(Clone, Copy, Default)]
+struct Open {
+    at: usize,
+    may_give: bool,
+}
+
+// Whether a line may give an event by itself.
+fn may_give(deed: &Deed<'_>) -> bool {
+    match deed {
+        Deed::Give(Command::Step(count) | Command::Tick(count)) | Deed::Until(_, count) => {
+            *count > 0
+        }
+        Deed::Give(Command::Keys(keys)) => !keys.is_empty(),
+        Deed::Give(Command::Type(_)) => true,
+        Deed::Set(_) | Deed::Repeat { .. } | Deed::End => false,
+    }
+}
+
 // A play that is being read.
 #[derive(Drop)]
 struct Draft<'a> {
     acts: Vec<Act<'a>>,
-    // The repeats that have no end yet: where they stand.
-    open: ArrayVec<usize, MOST_DEPTH>,
+    open: ArrayVec<Open, MOST_DEPTH>,
 }
 
 impl<'a> Draft<'a> {
     // A repeat begins here.
     fn open(&mut self, name: &'a [u8]) -> Result<(), Fault<'a>> {
-        match self.open.try_push(self.acts.len()) {
+        let open = Open {
+            at: self.acts.len(),
+            may_give: false,
+        };
+        match self.open.try_push(open) {
             Ok(()) => Ok(()),
             Err(_) => Err(Fault::at(name, Why::Depth)),
         }
     }
 
-    // The repeat that was begun last ends here.
+    // A line in the repeats that are open may give an event.
+    fn give(&mut self) {
+        if let Some(open) = self.open.last_mut() {
+            open.may_give = true;
+        }
+    }
+
+    // The repeat that was begun last ends here. One that gives no event in a round gives none in any, so it is done once at most.
     fn close(&mut self, name: &'a [u8]) -> Result<(), Fault<'a>> {
-        let Some(at) = self.open.pop() else {
+        let Some(Open { at, may_give }) = self.open.pop() else {
             return Err(Fault::at(name, Why::NoRepeat));
         };
-        let behind = self.acts.len().saturating_add(1);
+        let next = self.acts.len().saturating_add(1);
+        let mut gives = false;
         if let Some(act) = self.acts.get_mut(at)
-            && let Deed::Repeat { end, .. } = &mut act.deed
+            && let Deed::Repeat { times, end } = &mut act.deed
         {
-            *end = behind;
+            *end = next;
+            if !may_give {
+                *times = (*times).min(1);
+            }
+            gives = may_give && *times > 0;
+        }
+        if gives {
+            self.give();
         }
         Ok(())
     }
@@ -143,6 +180,9 @@ impl<'a> Draft<'a> {
             _ => Ok(()),
         };
         fits?;
+        if may_give(&deed) {
+            self.give();
+        }
         self.acts.push(Act { line, deed })?;
         Ok(())
     }
@@ -150,7 +190,7 @@ impl<'a> Draft<'a> {
     // The play, which has been read to its end.
     fn finish(self) -> Result<Play<'a>, PlayFault<'a>> {
         let Draft { acts, open } = self;
-        if let Some(at) = open.last()
+        if let Some(Open { at, .. }) = open.last()
             && let Some(act) = acts.get(*at)
         {
             return Err(PlayFault {

@@ -21,7 +21,7 @@ use std::io::Write;
 use sv39::{Tlb, Translate};
 
 /// How many steps there are between two ticks where it isn't told.
-const QUANTUM: u32 = 100_000;
+const QUANTUM: u32 = 10_000;
 
 /// The most steps of a line of a script.
 const MOST_STEPS: u32 = 1_000_000_000;

@@ -178,7 +178,7 @@ static HELP: [(&str, &[&str]); 5] = [
             "IMAGE",
             "Frames of 4096 bytes, 64 to 32768",
             "--quantum",
-            "100000",
+            "10000",
             "--record",
             "SCRIPT",
             "--save",
