@@ -1,4 +1,4 @@
-# What one does with this repository. `rt` is the command of the Rattle toolchain.
+# What one does with this repository: `make help` lists it. `rt` is the command of the Rattle toolchain.
 
 # Where `rt run` leaves the program once every crate below it is proved.
 PROGRAM := crates/xv6/out/xv6
@@ -15,30 +15,35 @@ IMAGE := out/xv6.img
 # The library for C and Python.
 LIBRARY := out/library
 
-.PHONY: demo build program image user live qemu check-live library check-library test quick edits check bench check-qemu kills full places limits large fuzz outages refusals fmt
+.DEFAULT_GOAL := help
+.PHONY: help demo build program image user live qemu check-live library check-library test check-docs quick edits check bench measure measure-gate \
+	check-qemu kills full places limits large fuzz accesses outages refusals fmt
 
-# Boots a machine from an image with the user programs, types at its shell, and shows its console. It takes the
-# proved build where there is one that is not older than the sources. Else `rt try` compiles, and proves nothing of, the
-# program of crates/userland, which does the same in one run.
+# Lists the targets.
+help:
+	@awk '/^# /{if (!said) said = substr($$0, 3)} /^$$/{said = ""} \
+		/^[a-z][a-z-]*:/{split($$0, name, ":"); if (said) printf "%-15s %s\n", name[1], said; said = ""}' $(MAKEFILE_LIST)
+
+# Boots an image with the user programs, types two lines at its shell, and shows its console.
+# It takes the proved program where one stands that is not older than the sources. Else it compiles one, unproved, in some two minutes.
 demo:
-	@if $(IS_FRESH); then \
-		echo 'demo: the proved build, $(PROGRAM)'; \
-		$(MAKE) -s image && $(PROGRAM) run $(IMAGE) user/demo; \
-	else \
-		echo 'demo: compiled by rt try, unproved (make build proves and builds the program)'; \
-		{ echo '# user/demo'; echo 'boot xv6.img 256'; cat user/demo; } | (cd crates/userland && \
-			rt try $$(for file in $$(ls data); do echo --data $$file=data/$$file; done)); \
-	fi
+	@if $(IS_FRESH); then make -s image && tools/demo.sh $(PROGRAM) $(IMAGE) user/demo; else tools/demo.sh '' '' user/demo; fi
 
-# Proves what the program stands on, several crates at a time, a line for each; builds it as $(PROGRAM), and runs it once.
+# The merge gate: the docs, every proof from nothing, the wrong bodies that must be refused, all tests.
+test:
+	.ci/run
+
+# Proves what the program stands on, several crates at a time, and builds it: 48 minutes on two processors.
+# Where nothing was proved before, the time is noted for `make measure`.
 build:
 	@if $(IS_FRESH); then echo '$(PROGRAM) is proved and built'; else \
-		tools/prove.py --below xv6 && cd crates/xv6 && rt run -- flat data/hello.bin data/hello.txt && touch out/xv6; \
+		$$([ -d crates/unixmodel/out ] || echo tools/timed.py build) tools/prove.py --below xv6 && cd crates/xv6 && rt run -- flat data/hello.bin data/hello.txt && touch out/xv6; \
 	fi
 
 # The program that is there: what needs it starts no proofs by itself.
+
 program:
-	@[ -x $(PROGRAM) ] || { echo '$(PROGRAM) is not built: make build proves and builds it, in three quarters of an hour' >&2; exit 1; }
+	@[ -x $(PROGRAM) ] || { echo '$(PROGRAM) is not built: make build proves and builds it, in 48 minutes on two processors' >&2; exit 1; }
 	@$(IS_FRESH) || echo 'note: $(PROGRAM) is older than the sources (make build)' >&2
 
 # Assembles the user programs.
@@ -48,107 +53,34 @@ out/user/%: user/%.s $(wildcard $(PROGRAM)) | program
 	@mkdir -p $(@D)
 	$(PROGRAM) asm $< $@
 
-# Makes a disk image with the user programs, as $(IMAGE).
+# Makes a disk image with the user programs, out/xv6.img.
 image: $(IMAGE)
 
 $(IMAGE): user/manifest $(USER)
-	cd out/user && ../../$(PROGRAM) mkfs ../../$< ../../$@
+	cd out/user && $(abspath $(PROGRAM)) mkfs $(abspath $<) $(abspath $@)
 
-# A session at the shell: what is typed goes to the machine. ^A x ends it, ^P shows the processes, ^C kills it; the terminal is set
-# back exactly. out/last.script replays the session.
+# A session at the shell: ^A x ends it, ^P shows the processes, ^C kills it; out/last.script replays it.
 live: $(IMAGE)
 	@tools/live.sh $(PROGRAM) $(IMAGE) out/last.script
 
-# What xv6's users type.
+# The same as live: what xv6's users type.
 qemu: live
 
-# A session at a pseudo-terminal: keys while a program spins, ^A x, ^C, and the end of the input.
-check-live: $(IMAGE)
-	bench/terminal.py $(PROGRAM) $(IMAGE)
-
-# Proves the functions for C and Python, and makes out/library: libxv6.a, libxv6.so, xv6.h and the package cathompi.
+# Makes out/library for C and Python: libxv6.a, libxv6.so, xv6.h and the package cathompi.
 library:
-	@if [ -f $(LIBRARY)/libxv6.so ] && [ -z "$$(find crates crates.txt c python tools -name out -prune -o \
+	@if [ -f $(LIBRARY)/libxv6.so ] && [ -z "$$(find crates crates.txt bindings tools -name out -prune -o \
 		\( -name '*.rt' -o -name '*.antt' -o -name crates.txt -o -name xv6.h -o -name __init__.py -o -name library.sh \) \
 		-newer $(LIBRARY)/libxv6.so -print -quit)" ]; then echo '$(LIBRARY) is proved and made'; else tools/library.sh $(LIBRARY); fi
 
-# Tries the library: C under valgrind, Python, and 50 random sessions beside the program. It takes a minute.
-check-library: $(IMAGE) library
-	tools/check_library.sh $(LIBRARY) $(PROGRAM) $(IMAGE)
+# Makes the page, out/web/xv6.html: the machine in one file that opens offline. It needs Debian's binaryen.
+# It takes the proved library of crates/xv6_c. A module that is there already is taken by MODULE=FILE.
+.PHONY: web check-web
+web: out/web/xv6.html
 
-# The merge gate: every proof from nothing, the edits that must fail, all tests and stored runs.
-test:
-	rt ci
-
-# The wrong bodies that the gate leaves out: those of the functions inside and of the tools. It takes some four hours of a processor, by estimate.
-edits:
-	tools/edits.py
-
-# Every proof, over what earlier checks kept: several at a time, a line a crate.
-check:
-	tools/prove.py
-
-# What differs from the last commit of main, and all above it, with their tests.
-quick:
-	tools/prove.py --changed
-
-# Times the built program beside a plain Rust interpreter of the same design.
-bench: | program
-	bench/run.py $(PROGRAM)
-
-# Compares multiplications and divisions with qemu's: the stored rows, and 1,000,000 random pairs. It needs Debian's packages
-# qemu-user, gcc-riscv64-linux-gnu and libc6-dev-riscv64-cross.
-check-qemu: | program
-	qemu/compare.py $(PROGRAM)
-
-# Ends a thousand saves at random moments, and looks whether the old file or the new one is there, whole.
-kills: | program
-	bench/saves.py kills $(PROGRAM)
-
-# Saves to a full disk, at each length.
-full: | program
-	bench/saves.py full $(PROGRAM)
-
-# Saves to links, pipes, closed folders and the like.
-places: | program
-	bench/saves.py places $(PROGRAM)
-
-# Hands the program inputs without end, and looks how much memory it takes.
-limits: | program
-	bench/saves.py memory $(PROGRAM)
-
-# Makes the longest file on the largest image, and has a shell fill, read and remove files as long as that.
-large: | program
-	bench/large.py $(PROGRAM)
-
-# Hands the program random files for a minute.
-fuzz: | program
-	bench/fuzz.py --seed $$$$ $(PROGRAM)
-
-# Lets each access of the disk fail in its turn, in a session at the shell of the built program. It takes a minute.
-outages: $(IMAGE)
-	bench/each_access.py $(PROGRAM) $(IMAGE)
-
-# Refuses each request for memory in its turn, in each command of the built program. It takes a minute.
-refusals: | program
-	bench/each_allocation.py $(PROGRAM)
-
-# Lays out the sources of every crate.
-fmt:
-	@for crate in crates/*/; do (cd $$crate && rt fmt) || exit 1; done
-
-# ---- the page
-
-# The machine as a page of one file, which opens offline: out/web/xv6.html. It takes the proved library of crates/xv6_c, and Debian's
-# package binaryen. A module that is there already is taken by MODULE=FILE.
 WEB := out/web/xv6.html
 MODULE := out/web/machine.wasm
 
-.PHONY: web check-web
-
-web: $(WEB)
-
-out/web/machine.wasm: $(wildcard crates/xv6_c/src/*.rt c/xv6.h web/*.sh)
+out/web/machine.wasm: $(wildcard crates/xv6_c/src/*.rt bindings/c/xv6.h web/*.sh)
 	web/build.sh out/web
 
 # The page's image has the user programs, and unhex, by which files are put on it.
@@ -162,6 +94,140 @@ $(WEB): $(MODULE) out/web/xv6.img $(wildcard web/*.js web/*.css web/*.html) web/
 	web/make_page.py $(MODULE) out/web/xv6.img $@
 	@echo '$@ is written: open it in a browser'
 
-# Uses the page in a browser without a window, and compares it with the program. It needs Debian's package chromium.
+# Makes out/release: program, page, image, library, wheel, man page, completions and their sums.
+.PHONY: release check-release
+release: $(IMAGE) $(WEB) library
+	tools/release.py out/release
+
+# Uses out/release in an empty folder: the program, the wheel in a new venv, C by pkg-config, the page.
+check-release:
+	tools/check_release.py out/release
+
+# ---- proofs, in parts
+
+# Proves every crate over what earlier checks kept, several at a time.
+check:
+	tools/prove.py
+
+# Proves and tests what differs from the last commit of main, and all above it.
+quick:
+	tools/prove.py --changed
+
+# Tries the wrong bodies that the gate leaves out: some four hours of a processor.
+edits:
+	tools/edits.py
+
+# Lays out the sources of every crate.
+fmt:
+	@for crate in crates/*/; do (cd $$crate && rt fmt) || exit 1; done
+
+# Looks whether paths, contracts and sentences of the docs are there, and reads the words that a change adds.
+check-docs:
+	@tools/check_docs.sh
+
+# ---- what is tried by hand; CONTRIBUTING.md says what each needs and takes
+
+# Times the program beside a plain Rust interpreter of the same design.
+bench: | program
+	bench/run.py $(PROGRAM)
+
+# Measures what docs/MEASURED.md and the README say, and writes it there: half an hour.
+measure: | program
+	bench/report.py $(PROGRAM)
+
+# Times the gate from nothing, and notes that for `make measure`: hours.
+measure-gate:
+	tools/timed.py gate rt ci --anew
+
+# Sessions at a pseudo-terminal: keys while a program spins, ^A x, ^C, the end of the input.
+check-live: $(IMAGE)
+	trials/terminal.py $(PROGRAM) $(IMAGE)
+
+# Tries the library: C under valgrind, Python, and 50 random sessions beside the program.
+check-library: $(IMAGE) library
+	tools/check_library.sh $(LIBRARY) $(PROGRAM) $(IMAGE)
+
+# Uses the page in Chromium without a window, compares it with the program, and takes its picture.
 check-web: $(WEB)
 	web/check.py $(WEB) $(PROGRAM) out/web/xv6.img out/web/pictures
+
+# Compares multiplications and divisions with qemu's: the stored rows and 1,000,000 random pairs.
+check-qemu: | program
+	trials/qemu/compare.py $(PROGRAM)
+
+# Ends a thousand saves at random moments: the old file or the new one is there, whole.
+kills: | program
+	trials/saves.py kills $(PROGRAM)
+
+# Saves to a full disk, at each length.
+full: | program
+	trials/saves.py full $(PROGRAM)
+
+# Saves to links, pipes, closed folders and the like.
+places: | program
+	trials/saves.py places $(PROGRAM)
+
+# Hands the program inputs without end, and looks how much memory it takes.
+limits: | program
+	trials/saves.py memory $(PROGRAM)
+
+# Makes the longest file on the largest image; a shell fills, reads and removes such files.
+large: | program
+	trials/large.py $(PROGRAM)
+
+# Hands the program random files for a minute.
+fuzz: | program
+	trials/fuzz.py --seed $$$$ $(PROGRAM)
+
+# Counts how often jobs read and write the disk, with the cache and without.
+accesses: | program
+	trials/accesses.py $(PROGRAM)
+
+# Lets each access of the disk fail in its turn, in a session at the shell.
+outages: $(IMAGE)
+	trials/each_access.py $(PROGRAM) $(IMAGE)
+
+# Refuses each request for memory in its turn, in each command.
+refusals: | program
+	trials/each_allocation.py $(PROGRAM)
+
+# ---- programs in C
+
+# An image with the programs of user-c.
+IMAGE_C := out/user-c.img
+
+.PHONY: user-c live-c check-user-c check-picolibc check-course always
+
+# Compiles the programs of user-c, as out/user-c/NAME, by gcc, or by clang: make user-c CC=clang.
+user-c:
+	$(MAKE) -C user-c
+
+# Compiles one of them, or another one whose text is user-c/NAME.c.
+user-c/%: always
+	$(MAKE) -C user-c $*
+
+# Compiles a program over Debian's picolibc, whose text is user-c/picolibc/NAME.c.
+user-c/picolibc/%: always
+	$(MAKE) -C user-c/picolibc $*
+
+# Compiles interpreters of Lua and of JavaScript, whose sources are fetched from Debian, as out/picolibc/lua and duk.
+user-c/lua user-c/duk: user-c/%: always
+	$(MAKE) -C user-c/picolibc $*
+
+# A session at the shell of an image of them, as make live.
+live-c: user-c | program
+	$(MAKE) -C user-c ../$(IMAGE_C) XV6=$(abspath $(PROGRAM))
+	@tools/live.sh $(PROGRAM) $(IMAGE_C) out/last.script
+
+# Compiles them by gcc and clang, and tries them beside the programs in assembly.
+# selftest passes at each pace of a clock, and the file that the gate runs is what the compiler gives. It needs Debian's packages
+# gcc-riscv64-unknown-elf, clang and lld.
+check-user-c: $(USER)
+	tools/check_user_c.sh $(PROGRAM)
+
+# Compares what programs over picolibc print with what the same texts print on the host. It needs Debian's packages
+# picolibc-riscv64-unknown-elf and dpkg-dev, and fetches the sources of Lua and Duktape.
+check-picolibc: out/user/init out/user/sh
+	tools/check_picolibc.sh $(PROGRAM)
+
+check-course: check-user-c check-picolibc

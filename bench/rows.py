@@ -306,16 +306,7 @@ def text_rows():
     yield Row("asm of 50000 lines and labels", whole, 50_000, "line", (Beside("of half as many", half, 2.2),))
 
 
-# ---- accesses of the disk
-
-
-def counted_jobs():
-    """The jobs of which it is told how often they ask the disk, by their names."""
-    return {
-        "accesses: 1000 files of 100 bytes made, opened and unlinked, 100 at a time": naming(100, 100, 10),
-        "accesses: 10 lines `echo hi | cat` at a shell": session(10),
-        "accesses: boot and save of 16384 blocks": Booted(full_with_init(16384)),
-    }
+# ---- all of them
 
 
 def all_rows():

@@ -19,16 +19,13 @@ work on the machine slows both, and the least times are taken.
 What ran has to print and answer what the table says: the programs look at each answer that they get, and end with status 1
 where it is wrong. A row that fails is told as such, and the status is 1 then. A ratio that is too high changes no status.
 
-The rows `accesses` tell how often the disk is read and written, which no command does: `rt try` compiles a small program with
-the crates, once with the cache and once with one that passes each access through. The counts are exact. The times are by the
-clock, of a program that is compiled with checks and without optimization: compare them with one another, on a quiet machine.
-
 The twin is another plain interpreter, the fastest that we know: it decodes a word once, and has nothing but the call exit.
-`instructions.py` counts the instructions of the processor for a unit of a row, where valgrind is there.
+`instructions.py` counts the instructions of the processor for a unit of a row, where valgrind is there;
+`trials/accesses.py` counts the accesses of the disk.
 
-`rustc` and `rt` have to be in the PATH. `rows.py` has the table, `jobs.py` says how the files of a row are made, `measure.py`
-measures, `accesses.py` counts, `programs` has the assembly texts, `c` the C programs with their bytes, which `make -C bench/c`
-compiles anew and compares, `baseline` the plain interpreter and `twin.rs` its twin.
+`rustc` has to be in the PATH. `rows.py` has the table, `jobs.py` says how the files of a row are made, `measure.py`
+measures, `programs` has the assembly texts, `c` the C programs with their bytes, which `make -C bench/c` compiles anew
+and compares, `baseline` the plain interpreter and `twin.rs` its twin.
 """
 
 import argparse
@@ -40,10 +37,9 @@ import tempfile
 
 sys.dont_write_bytecode = True
 
-import accesses
 from jobs import Place, compile_plain
 from measure import Failed, compare
-from rows import all_rows, counted_jobs
+from rows import all_rows
 
 TURNS = 3
 
@@ -75,43 +71,29 @@ def measure_row(row, place, turns):
     show(row, took, others)
 
 
-def measure_accesses(jobs, place):
-    """Counts how often some jobs, by their names, ask the disk, and prints it."""
-    made = {name: (job.image(place)[0], job.script) for name, job in jobs.items()}
-    for name, (check, held, passed) in zip(made, accesses.count_both(place.folder, list(made.values()))):
-        print(f"{name}: {held}")
-        print(f"    passed through: {passed}")
-        print(f"    check of its image, which takes no cache: {check}", flush=True)
-
-
-def is_done(name, measure, place):
-    """Measures in a folder of its own; whether all that ran did what it has to do."""
+def is_done(row, place, turns):
+    """Measures a row in a folder of its own; whether all that ran did what it has to do."""
     with tempfile.TemporaryDirectory(dir=place.folder) as folder:
         try:
-            measure(dataclasses.replace(place, folder=pathlib.Path(folder)))
+            measure_row(row, dataclasses.replace(place, folder=pathlib.Path(folder)), turns)
         except Failed as failed:
-            print(f"{name}: FAILED: {failed}", flush=True)
+            print(f"{row.name}: FAILED: {failed}", flush=True)
             return False
     return True
 
 
-def measure_all(rows, counted, program, turns):
-    """Measures the rows, and counts the accesses of the disk of other jobs; whether all of them did what they have to do."""
+def measure_all(rows, program, turns):
+    """Measures the rows; whether all of them did what they have to do."""
     with tempfile.TemporaryDirectory() as folder:
         place = compile_plain(Place(pathlib.Path(folder), program))
-        done = [is_done(row.name, lambda place: measure_row(row, place, turns), place) for row in rows]
-        if counted:
-            done.append(is_done("accesses", lambda place: measure_accesses(counted, place), place))
-    return all(done)
+        return all([is_done(row, place, turns) for row in rows])
 
 
-def list_rows(rows, counted):
+def list_rows(rows):
     """Prints what the rows measure, without running them."""
     for row in rows:
         besides = [beside.what + (f" (at most {beside.most})" if beside.most else "") for beside in row.beside]
         print(f"{row.name}, for each {row.unit}" + "".join(f"\n    {beside}" for beside in besides))
-    for name in counted:
-        print(f"{name}, reads and writes\n    passed through")
 
 
 def words_of_line():
@@ -138,14 +120,13 @@ def main():
         return not given.only or any(words in name for words in given.only)
 
     rows = [row for row in all_rows() if is_asked(row.name)]
-    counted = {name: job for name, job in counted_jobs().items() if is_asked(name)}
-    if not rows and not counted:
+    if not rows:
         print("no row has such a name: --list prints the names", file=sys.stderr)
         return 2
     if given.list:
-        list_rows(rows, counted)
+        list_rows(rows)
         return 0
-    return 0 if measure_all(rows, counted, given.program.resolve(), given.turns) else 1
+    return 0 if measure_all(rows, given.program.resolve(), given.turns) else 1
 
 
 if __name__ == "__main__":

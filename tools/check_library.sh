@@ -1,7 +1,8 @@
 #!/bin/sh
 # check_library.sh FOLDER PROGRAM IMAGE: tries the library that library.sh made. C: a session, 40 machines, copies and arguments that are wrong,
 # under valgrind, which has to find no leak and no invalid access; Python: the package, and 50 random sessions. The console's bytes are those
-# of `xv6 run`. It needs Debian's gcc, g++, make, valgrind, python3 and python3-matplotlib.
+# of `xv6 run`. It needs Debian's gcc, g++, make, valgrind and python3;
+# what pip and python3-matplotlib are for is told as left out where they are missing.
 set -e
 cd "$(dirname "$0")/.."
 for tool in cc c++ valgrind python3; do
@@ -9,34 +10,37 @@ for tool in cc c++ valgrind python3; do
 done
 scratch=$(mktemp -d)
 trap 'rm -rf "$scratch"' EXIT
-cc -std=c99 -Wall -Wextra -pedantic -Werror -O1 -g -I"$1" c/test.c "$1/libxv6.a" -o "$scratch/test"
+cc -std=c99 -Wall -Wextra -pedantic -Werror -O1 -g -I"$1" bindings/c/test.c "$1/libxv6.a" -o "$scratch/test"
 c++ -x c++ -std=c++11 -Wall -Wextra -pedantic -Werror -fsyntax-only "$1/xv6.h"
 valgrind --quiet --error-exitcode=9 --leak-check=full --show-leak-kinds=all --errors-for-leak-kinds=all \
     "$scratch/test" "$3" "$scratch/script" > "$scratch/console"
 "$2" run --frames 256 "$3" "$scratch/script" > "$scratch/program" 2> /dev/null
 cmp "$scratch/console" "$scratch/program"
 echo "check-library: C: $(wc -c < "$scratch/console") bytes of the console, the same as the program's"
-python3 python/test.py "$1" "$2" "$3"
+python3 bindings/python/test.py "$1" "$2" "$3"
 # What pip installs.
 if python3 -m pip --version > /dev/null 2>&1; then
-    PIP_ROOT_USER_ACTION=ignore python3 -m pip install --quiet --no-index --target "$scratch/pip" ./python
+    PIP_ROOT_USER_ACTION=ignore python3 -m pip install --quiet --no-index --target "$scratch/pip" ./bindings/python
     (cd "$scratch" && PYTHONPATH=$scratch/pip python3 -c 'import cathompi; assert cathompi.__file__.startswith("'"$scratch"'")')
-    echo "check-library: Python: pip install ./python"
+    echo "check-library: Python: pip install ./bindings/python"
 else
-    echo "check-library: no pip: pip install ./python is not tried (apt install python3-pip)"
+    echo "check-library: no pip: pip install ./bindings/python is not tried (apt install python3-pip)"
 fi
 # The tour, by a Python that has what draws its picture.
 python=
 for it in python3 /usr/bin/python3; do
     if [ -z "$python" ] && $it -c 'import matplotlib' 2> /dev/null; then python=$it; fi
 done
-[ -n "$python" ] || { echo 'check-library: no matplotlib for docs/PYTHON.md (apt install python3-matplotlib)' >&2; exit 1; }
-mkdir -p "$scratch/out" "$scratch/docs"
-cp "$3" "$scratch/out/xv6.img"
-sed 's/^```.*//' docs/PYTHON.md > "$scratch/tour.txt"
 library=$(realpath "$1")
-(cd "$scratch" && PYTHONPATH=$library $python -m doctest tour.txt)
-echo "check-library: Python: the tour of docs/PYTHON.md"
+if [ -n "$python" ]; then
+    mkdir -p "$scratch/out" "$scratch/docs"
+    cp "$3" "$scratch/out/xv6.img"
+    sed 's/^```.*//' docs/PYTHON.md > "$scratch/tour.txt"
+    (cd "$scratch" && PYTHONPATH=$library $python -m doctest tour.txt)
+    echo "check-library: Python: the tour of docs/PYTHON.md"
+else
+    echo "check-library: no matplotlib: the tour of docs/PYTHON.md is not tried (apt install python3-matplotlib)"
+fi
 # Another simulator beside the machine.
 make -s -C examples/lockstep LIBRARY="$library" XV6="$(realpath "$2")" IMAGE="$(realpath "$3")" run > "$scratch/lockstep"
 grep -q '^lockstep: step .*, word 0x40b552bb: x5 differs$' "$scratch/lockstep"

@@ -155,8 +155,10 @@ class Browser:
         os.remove(path)
         return got
 
-    def picture(self, path, whole=False):
+    def picture(self, path, whole=False, small=None):
+        """Takes a picture: of all of the page, of what is seen, or of a width and a height of it, made small by a factor."""
         self.js("scrollTo(0, 0)")
-        shot = self.call("Page.captureScreenshot", format="png", captureBeyondViewport=whole)
+        clip = {"clip": dict(zip(("x", "y", "width", "height", "scale"), (0, 0, *small)))} if small else {}
+        shot = self.call("Page.captureScreenshot", format="png", captureBeyondViewport=whole, **clip)
         with open(path, "wb") as file:
             file.write(base64.b64decode(shot["data"]))

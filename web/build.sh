@@ -31,4 +31,4 @@ chmod +x "$own/toolchain/bin/clang"
 
 rm -f "$out/module.bc"
 (cd "$here/../crates/xv6_c" && "$own/bin/rt" lib)
-"$here/to_wasm.sh" "$kit" "$out/module.bc" "$here/../c/xv6.h" "$out/machine.wasm"
+"$here/to_wasm.sh" "$kit" "$out/module.bc" "$here/../bindings/c/xv6.h" "$out/machine.wasm"

@@ -14,6 +14,7 @@ from browser import Browser
 from make_page import UNPACK, joined
 
 HERE = pathlib.Path(__file__).resolve().parent
+PORTRAIT = HERE.parent / "docs" / "page.png"
 WIDTHS = {1400: 900, 400: 800}
 LINES = ["ls", "echo hi | cat", "mkdir d", "ls"]
 PASTED = "echo one > a\necho two > b\r\ncat a b\n" + "echo " + " ".join(["word"] * 8) + "\n"
@@ -232,6 +233,14 @@ class Check:
         self.browser.press("F8")
         self.settle("the rest")
 
+    def portrait(self):
+        """The picture of the docs: the shell has made the two children of `echo hi | cat`."""
+        (self.folder / "portrait").write_text("step 5000\ntype ls\nstep 20000\ntype echo hi | cat\nstep 190\n")
+        self.browser.give_file("#script-input", self.folder / "portrait")
+        self.browser.wait("document.querySelectorAll('#processes tr').length >= 4", "the children")
+        self.browser.js("new Promise((done) => setTimeout(done, 300))")
+        self.browser.picture(PORTRAIT, small=(1400, 900, 0.6))
+
     def fits(self, width):
         wide = self.browser.js("document.documentElement.scrollWidth")
         self.equal(wide <= width, True, f"nothing is wider than {width} pixels")
@@ -297,6 +306,8 @@ def main():
         check = Check(browser, page, program, image, folder)
         try:
             check.start(check.address, 1400)
+            check.portrait()
+            check.start(check.address, 1400)
             check.words()
             check.seeds()
             for width in WIDTHS:
@@ -307,7 +318,7 @@ def main():
             raise
         if browser.faults:
             raise SystemExit(f"the page complains: {browser.faults}")
-    print(f"the page does as the program; look at the pictures in {folder}")
+    print(f"the page does as the program; look at the pictures in {folder}, and at {PORTRAIT}")
 
 
 if __name__ == "__main__":

@@ -1,10 +1,11 @@
 #!/usr/bin/env python3
 """measure.py PAGE PROGRAM IMAGE: how large the page and its module are, how long a boot takes there, and how many steps a second a loop with a
-load and a store makes: in the browser, and by PROGRAM, the built xv6, beside it."""
+load and a store makes: in the browser, and by PROGRAM, the built xv6, beside it. Rates are medians of long runs."""
 import json
 import pathlib
 import re
 import resource
+import statistics
 import subprocess
 import sys
 import tempfile
@@ -18,9 +19,11 @@ loop: ld t0, 0(sp)
       sd t0, 0(sp)
       j loop
 """
-STEPS = 50_000_000
+STEPS = 200_000_000
+# The program's runs: of a boot and these steps one takes seconds, so that a boot is a hundredth of it.
+LONG = 1_000_000_000
 FEW = 1_000_000
-BEST_OF = 5
+TIMES = 5
 BOOT_TIMES = 100
 
 MEASURE = """(async () => {
@@ -62,13 +65,20 @@ def script_time(browser):
 
 
 def rate(browser, text, steps):
-    """Steps a second of a processor, the best of several runs."""
-    best = 0
-    for _ in range(BEST_OF):
+    """Steps a second of a processor, the median of several runs."""
+    rates = []
+    for _ in range(TIMES):
         before = script_time(browser)
         browser.js(text)
-        best = max(best, steps / (script_time(browser) - before))
-    return best
+        rates.append(steps / (script_time(browser) - before))
+    return statistics.median(rates)
+
+
+def native_rate(program, folder):
+    """The same of the program, less what a run without steps takes: medians of long runs, so that no difference of two noisy times is taken."""
+    idle = statistics.median(seconds(program, folder, 0) for _ in range(TIMES))
+    busy = statistics.median(seconds(program, folder, LONG) for _ in range(TIMES))
+    return LONG / (busy - idle)
 
 
 def in_browser(page, loop):
@@ -92,10 +102,10 @@ def main():
     with tempfile.TemporaryDirectory() as name:
         folder = pathlib.Path(name)
         got = in_browser(page, image_of_loop(program, folder))
-        native = min(seconds(program, folder, 2 * STEPS) - seconds(program, folder, STEPS) for _ in range(BEST_OF))
+        native = native_rate(program, folder)
     print(f"page {pathlib.Path(page).stat().st_size} bytes, module {got['module']}, image {pathlib.Path(image).stat().st_size}")
     print(f"module compiled in {got['compiled']:.1f} ms; first boot in {got['first']:.1f} ms, best of {BOOT_TIMES} {got['boot']:.1f}")
-    rates = [got["plain"], got["noted"], STEPS / native]
+    rates = [got["plain"], got["noted"], native]
     print("million steps a second of a processor: {:.1f}; with calls noted {:.2f}; the program {:.1f}".format(*(it / 1e6 for it in rates)))
 
 

@@ -1,0 +1,281 @@
+#!/usr/bin/env python3
+"""Measures what docs/MEASURED.md and the README say of this machine and commit, and writes it there.
+
+    bench/report.py [--only WORDS] [--commit HASH] PROGRAM      as `make measure` calls it
+    bench/report.py --lines                                     only counts lines anew
+
+Counts of instructions (callgrind) are the same in each run, of the same program. Times are the least of three turns, in which
+what is compared runs one after the other; they want a quiet machine. With `--only` no file is written: what has these words in its
+heading is printed; `--commit` says of which commit PROGRAM was built, if not of this one. Times of the gate and of the build are
+those that `make measure-gate` and `make build` noted last; where none is noted the page keeps its rows. It takes Debian's valgrind, `rustc`, and half an hour.
+"""
+import argparse
+import dataclasses
+import datetime
+import hashlib
+import json
+import os
+import pathlib
+import re
+import subprocess
+import sys
+import tempfile
+
+sys.dont_write_bytecode = True
+
+import images
+import instructions
+import rows
+from instructions import BESIDE, Counted, count_unit, figure
+from jobs import Flat, Place, Program, compile_plain
+from measure import Command, Failed, compare, run
+
+TOP = pathlib.Path(__file__).resolve().parent.parent
+PAGE = TOP / "docs" / "MEASURED.md"
+README = TOP / "README.md"
+TURNS = 3
+SIXTEEN = b"fifteen letters\n"
+BESIDE_WORDS = ["the program", "plain Rust", "plain Rust with `--tlb`", "the twin"]
+
+
+def table(head, lines):
+    """A table of Markdown."""
+    return "\n".join([f"| {' | '.join(head)} |", "|" + "---|" * len(head), *(f"| {' | '.join(map(str, line))} |" for line in lines)])
+
+
+# ---- steps
+
+
+def steps(place):
+    """Instructions of the host a step, and nanoseconds, beside the plain interpreters."""
+    counted = []
+    for row in filter(instructions.stands_beside_plain, instructions.all_rows()):
+        counted.append([row.name, *(figure(sum(count_unit(row, place, **changes).values())) for changes in BESIDE.values())])
+    timed = []
+    for row in [*rows.hart_rows(), *rows.c_rows()]:
+        if not isinstance(row.job, Flat) or row.job.flags:
+            continue
+        jobs = [dataclasses.replace(row.job, **changes) for changes in BESIDE.values()]
+        took = [it.seconds / row.count * 1e9 for it in compare([job.command(place) for job in jobs], TURNS)]
+        timed.append([row.name, *(f"{it:.2f}" for it in took), *(f"{took[0] / it:.2f}" for it in took[1:])])
+    first = {line[0]: float(line[1]) for line in counted}
+    text = "Instructions of the host a step (callgrind, the difference of two sizes by the difference of their steps).\n"
+    text += "`--tlb` of plain Rust is a cache of translations of its own; the twin decodes a word once, the fastest that we know:\n\n"
+    text += table(["row", *BESIDE_WORDS], counted)
+    text += f"\n\nNanoseconds a step, processor time, the least of {TURNS} turns in the same run, and the program's ratio to each:\n\n"
+    text += table(["row", *BESIDE_WORDS, *(f"by {name}" for name in BESIDE_WORDS[1:])], timed)
+    return text, first["tight loop"]
+
+
+# ---- units
+
+
+def call_rows():
+    """Calls, by the difference of two counts of them, with the few steps of the loop around."""
+
+    def called(which, printed, rounds):
+        return Flat(Program("calls", ROUNDS=rounds, WHICH=which), stdout=SIXTEEN * rounds if printed else b""), rounds
+
+    for name, which, printed in [
+        ("getpid", "getpids", False),
+        ("write of 16 bytes to the console", "prints", True),
+        ("write and read of 16 bytes through a pipe", "pipes", False),
+        ("write of 16 bytes to a file", "writes", False),
+        ("write and read of 16 bytes of a file", "pairs", False),
+    ]:
+        yield Counted(name, "call", lambda n, w=which, p=printed: called(w, p, n), (200, 800))
+
+
+def units(place):
+    """Instructions of each other row."""
+    counted = []
+    for row in [*call_rows(), *(it for it in instructions.all_rows() if not instructions.stands_beside_plain(it))]:
+        took = count_unit(row, place)
+        counted.append([row.name, row.unit, figure(sum(took.values())), figure(instructions.own(took))])
+        print(f"  {row.name}: {counted[-1][2]}", file=sys.stderr, flush=True)
+    text = "Instructions of the host for a unit (callgrind), and those without the host's memset, memcpy and memcmp, of which\n"
+    text += "callgrind counts each byte of a page. Calls have the steps of a loop around them in them:\n\n"
+    return text + table(["row", "unit", "instructions", "without filling and copying"], counted)
+
+
+# ---- tools
+
+
+def tools(place):
+    """The commands on images of 1, 16 and 128 MB, full of files."""
+    lines = []
+    for blocks in (1024, 16384, 131072):
+        folder = place.new_folder()
+        elf = Program("exit").elf(place)
+        content, said = images.many_blocks(blocks, elf)
+        (folder / "image").write_bytes(content)
+        (folder / "script").write_text("step 100\n")
+        size = 1024 * blocks * 12 // 25
+        (folder / "half").write_bytes(b"x" * size)
+        (folder / "manifest").write_text("file /a half\nfile /b half\n")
+        numbers = ["--size", str(blocks), "--inodes", "64"]
+        jobs = [
+            Command([place.xv6, "mkfs", *numbers, "manifest", "made"], folder),
+            Command([place.xv6, "check", "image"], folder, said),
+            Command([place.xv6, "run", "image", "script"], folder, stderr="halt 1 InitEnded 0"),
+            Command([place.xv6, "run", "--save", "saved", "image", "script"], folder, stderr="halt 1 InitEnded 0"),
+        ]
+        took = [f"{it.seconds:.2f} s, {it.peak // 1024} MiB" for it in compare(jobs, TURNS)]
+        lines.append([f"{blocks} ({blocks // 1024} MB)", *took])
+    text = "Processor time, the program's and the host's for it, the least of three, and the peak of memory.\n"
+    text += "`mkfs` makes an image with two files that fill most of it; the others take an image that is full:\n\n"
+    return text + table(["blocks", "`mkfs`", "`check`", "`run` of 100 steps", "with `--save`"], lines)
+
+
+def library():
+    """The library and the page, where they are made."""
+    lines = []
+    folder = TOP / "out" / "library"
+    if (folder / "libxv6.so").exists():
+        lines += [[name, f"{(folder / name).stat().st_size // 1000} kB"] for name in ("libxv6.a", "libxv6.so")]
+    for name in ("crates/xv6/out/xv6", "out/web/xv6.html"):
+        if (TOP / name).exists():
+            lines.append([pathlib.Path(name).name, f"{(TOP / name).stat().st_size // 1000} kB"])
+    return "`bench/library.py` times the library from C and from Python beside the program, `web/measure.py` the page:\n\n" + table(["file", "size"], lines)
+
+
+# ---- lines, and times that others noted
+
+
+def lines_of(pattern):
+    """The lines of files, and those of them that are no comment, blank or import."""
+    whole = own = 0
+    for file in TOP.glob(pattern):
+        for line in file.read_text().splitlines():
+            whole += 1
+            word = line.strip()
+            own += bool(word) and not re.match(r"(//|--|use |pub use |ghost use |unfoldable pub use |mod |pub mod )", word)
+    return whole, own
+
+
+def lines():
+    """Lines by kinds."""
+    kinds = {
+        "code": lines_of("crates/*/src/**/*.rt"),
+        "definitions": lines_of("crates/*/specs/**/*.antt"),
+        "definitions of the Unix, among these": lines_of("crates/unixmodel/specs/**/*.antt"),
+        "proofs": lines_of("crates/*/proofs/**/*.antt"),
+    }
+    edits = [len(list(TOP.glob(f"crates/*/{it}/*.edit"))) for it in ("must-fail", "edits")]
+    text = f"`wc -l` over `crates/*/src`, `specs` and `proofs`, and without comments, blanks and imports.\n"
+    text += f"There are {edits[0]} wrong bodies in the gate, and {edits[1]} more:\n\n"
+    rows_of = [[name, f"{whole:,}", f"{own:,}"] for name, (whole, own) in kinds.items()]
+    return text + table(["kind", "lines", "without comments, blanks, imports"], rows_of), kinds
+
+
+NOTED = {"gate": "the gate, from nothing", "build": "the program, from nothing"}
+
+
+def times(page):
+    """The gate's and the build's times, as they were noted last; else the rows of the page."""
+    lines = []
+    for name, what in NOTED.items():
+        note = TOP / "out" / "times" / name
+        old = re.search(rf"^\| {re.escape(what)} \|.*$", page, re.M)
+        if note.exists():
+            it = json.loads(note.read_text())
+            lines.append([what, it["minutes"], it["of processors"], it["processors"], it["commit"], it["date"]])
+        elif old:
+            lines.append([cell.strip() for cell in old[0].strip("|").split("|")])
+    head = ["what", "minutes", "of one processor", "processors", "commit", "date"]
+    return "As `make measure-gate` and `make build` noted them:\n\n" + table(head, lines), lines
+
+
+# ---- the page
+
+
+def machine():
+    """The host: its processor, how many of them, and its memory."""
+    model = re.search(r"model name\s*: (.*)", pathlib.Path("/proc/cpuinfo").read_text())
+    memory = int(re.search(r"MemTotal:\s*(\d+)", pathlib.Path("/proc/meminfo").read_text())[1]) >> 20
+    return f"{model[1] if model else 'a processor'}, {os.cpu_count()} processors, {memory} GiB, load {os.getloadavg()[0]:.1f}"
+
+
+def head(given):
+    """What the page begins with."""
+    def git(*words):
+        return subprocess.run(["git", *words], cwd=TOP, capture_output=True, text=True, check=True).stdout.strip()
+
+    changed = " with changes" if git("status", "--porcelain", "-uno") else ""
+    commit, today = given.commit or git("rev-parse", "--short=8", "HEAD") + changed, datetime.date.today().isoformat()
+    program = given.program.read_bytes()
+    return f"""# Measured
+
+`make measure` (`bench/report.py`) writes this page whole: commit {commit}, {today}.
+The machine: {machine()}.
+The program: {len(program):,} bytes, whose SHA-256 begins with {hashlib.sha256(program).hexdigest()[:16]}.
+Counts of instructions are exact, and the same in each run of one program; times are not, beside other work.
+What a page measures by hand is in that page.
+"""
+
+
+def write_readme(instructions_a_step, kinds, noted):
+    """The README's three numbers."""
+    text = README.read_text()
+    gate = next((it for it in noted if it[0] == NOTED["gate"]), None)
+    code, definitions, proofs = (f"{kinds[it][0]:,}" for it in ("code", "definitions", "proofs"))
+    if instructions_a_step is None:
+        instructions_a_step = re.search(r"^(\S+) instructions of the host", text, re.M)[1]
+    new = f"{instructions_a_step} instructions of the host a step. {code} lines of code, {definitions} of definitions, {proofs} of proofs.\n"
+    new += f"The gate takes {gate[1]} minutes on {gate[3]} processors. " if gate else ""
+    new += "[MEASURED](docs/MEASURED.md) says how each was got.\n"
+    README.write_text(re.sub(r"(?<=the empty one -->\n)(?:.+\n)+", new, text))
+
+
+def words_of_line():
+    how = argparse.RawDescriptionHelpFormatter
+    words = argparse.ArgumentParser(description=__doc__, formatter_class=how, usage=argparse.SUPPRESS)
+    words.add_argument("program", metavar="PROGRAM", type=pathlib.Path, nargs="?", help="the built xv6")
+    words.add_argument("--only", metavar="WORDS", help="prints the parts whose headings have these words, and writes nothing")
+    words.add_argument("--commit", metavar="HASH", help="of which commit PROGRAM was built, if not of this one")
+    words.add_argument("--lines", action="store_true", help="only counts lines anew")
+    given = words.parse_args()
+    if not given.lines and not (given.program and given.program.is_file()):
+        words.error(f"{given.program or 'nothing'} is no program: `make build` makes crates/xv6/out/xv6")
+    return given
+
+
+def main():
+    given = words_of_line()
+    page = PAGE.read_text() if PAGE.exists() else ""
+    counted, kinds = lines()
+    noted_text, noted = times(page)
+    if given.lines:
+        PAGE.write_text(re.sub(r"(?<=## Lines\n\n).*?(?=\n\n## )", lambda _: counted, page, flags=re.S))
+        write_readme(None, kinds, noted)
+        return 0
+    first = None
+    with tempfile.TemporaryDirectory() as folder:
+        place = compile_plain(Place(pathlib.Path(folder), given.program.resolve()))
+        makers = {"Steps": lambda: steps(place), "Calls and other units": lambda: units(place), "Tools": lambda: tools(place),
+                  "Sizes": library, "Lines": lambda: counted, "Gate and build": lambda: noted_text}
+        parts = {}
+        for name, make in makers.items():
+            if given.only and given.only not in name:
+                continue
+            print(f"measure: {name}", file=sys.stderr, flush=True)
+            try:
+                made = make()
+            except Failed as failed:
+                print(f"measure: {name}: FAILED: {failed}", file=sys.stderr)
+                return 1
+            if name == "Steps":
+                made, first = made
+            parts[name] = made
+    text = "\n".join(f"## {name}\n\n{part}\n" for name, part in parts.items())
+    if given.only:
+        print(text)
+        return 0
+    PAGE.write_text(head(given) + "\n" + text)
+    write_readme(f"{first:.1f}", kinds, noted)
+    print(f"{PAGE.relative_to(TOP)} and the README's numbers are written")
+    return 0
+
+
+if __name__ == "__main__":
+    sys.exit(main())

@@ -1,0 +1,230 @@
+#!/usr/bin/env python3
+"""terminal.py PROGRAM IMAGE: sessions at a pseudo-terminal, as `make live` has them: ^A x, ^C, keys while a program spins, lines that
+come slowly, a terminal that is closed, and input from a pipe. The terminal is set back exactly, and each record replays to the same console."""
+import os
+import pty
+import select
+import shutil
+import signal
+import subprocess
+import sys
+import tempfile
+import termios
+import time
+
+PROGRAM, IMAGE = (os.path.abspath(path) for path in sys.argv[1:3])
+TOP = os.path.dirname(os.path.dirname(os.path.abspath(__file__)))
+FRAMES = ["--frames", "4096"]
+
+# Says six times that it is there, each time after a second of work or so.
+SLOW = """li s1, 6
+line: li s0, 20000000
+again: addi s0, s0, -1
+bne s0, zero, again
+li a0, 1
+la a1, there
+li a2, 6
+li a7, 16
+ecall
+addi s1, s1, -1
+bne s1, zero, line
+li a0, 0
+li a7, 2
+ecall
+there: .ascii "there\\n"
+"""
+
+# Works for some seconds, and then says so.
+SPIN = """li s0, 400000000
+again: addi s0, s0, -1
+bne s0, zero, again
+li a0, 1
+la a1, done
+li a2, 5
+li a7, 16
+ecall
+li a0, 0
+li a7, 2
+ecall
+done: .ascii "done\\n"
+"""
+
+
+class Session:
+    """A session at a pseudo-terminal of its own."""
+
+    def __init__(self, folder, image):
+        self.image = image
+        self.record, self.told = os.path.join(folder, "record"), os.path.join(folder, "told")
+        self.console = b""
+        self.lead, self.follow = pty.openpty()
+        self.settings = termios.tcgetattr(self.follow)
+        with open(self.told, "wb") as told:
+            self.child = subprocess.Popen(
+                [os.path.join(TOP, "tools", "live.sh"), PROGRAM, image, self.record],
+                stdin=self.follow, stdout=self.follow, stderr=told, preexec_fn=self.own_terminal,
+            )
+
+    def own_terminal(self):
+        os.setsid()
+        os.close(os.open(os.ttyname(self.follow), os.O_RDWR))
+
+    def read(self, seconds):
+        end = time.time() + seconds
+        while time.time() < end:
+            if select.select([self.lead], [], [], 0.05)[0]:
+                self.console += os.read(self.lead, 4096).replace(b"\r\n", b"\n")
+
+    def until(self, text, seconds=20):
+        end = time.time() + seconds
+        while text not in self.console and time.time() < end:
+            self.read(0.1)
+        assert text in self.console, (text, self.console)
+
+    def type(self, keys):
+        os.write(self.lead, keys)
+
+    def wait(self):
+        for _ in range(200):
+            if self.child.poll() is not None:
+                return self.child.returncode
+            self.read(0.1)
+        raise AssertionError(("no end", self.console))
+
+    def ends(self, status):
+        assert self.wait() == status, (self.child.returncode, self.console)
+        self.read(0.2)
+        assert termios.tcgetattr(self.follow) == self.settings, "the terminal is not set back"
+
+    def replay(self):
+        """What the record prints, which the session has begun with."""
+        done = subprocess.run([PROGRAM, "run", *FRAMES, self.image, self.record], capture_output=True)
+        assert self.console.startswith(done.stdout), (done.stdout, self.console)
+        return done.stdout
+
+
+def with_program(folder, name, text):
+    """An image with the user programs and one more."""
+    for file in os.listdir(os.path.join(TOP, "out", "user")):
+        shutil.copy(os.path.join(TOP, "out", "user", file), folder)
+    with open(os.path.join(TOP, "user", "manifest")) as manifest, open(os.path.join(folder, "manifest"), "w") as wider:
+        wider.write(manifest.read() + f"file /{name} {name}\n")
+    with open(os.path.join(folder, name + ".s"), "w") as file:
+        file.write(text)
+    subprocess.run([PROGRAM, "asm", name + ".s", name], cwd=folder, check=True)
+    subprocess.run([PROGRAM, "mkfs", "manifest", "image"], cwd=folder, check=True)
+    return os.path.join(folder, "image")
+
+
+def leave(folder):
+    session = Session(folder, IMAGE)
+    session.until(b"$ ")
+    session.type(b"echo hi | cat\n")
+    session.until(b"hi\n$ ")
+    session.type(b"\x10")
+    session.read(0.5)
+    session.type(b"\x01x")
+    session.ends(0)
+    with open(session.told) as told:
+        lines = told.read().splitlines()
+    assert lines[-1] == "running" and lines[-2].startswith("xv6 run --frames 4096 "), lines
+    assert any(line.startswith("1 sleep ") for line in lines), lines
+    assert session.replay() == session.console, session.console
+
+
+def kill(folder):
+    session = Session(folder, IMAGE)
+    session.until(b"$ ")
+    session.type(b"echo seen\n")
+    session.until(b"seen\n$ ")
+    session.type(b"\x03")
+    session.ends(130)
+    assert b"seen\n" in session.replay()
+
+
+def terminate(folder):
+    """A signal to the script alone ends a session that waits for keys, within a second."""
+    session = Session(folder, IMAGE)
+    session.until(b"$ ")
+    began = time.time()
+    session.child.send_signal(signal.SIGTERM)
+    session.ends(143)
+    assert time.time() - began < 1, time.time() - began
+
+
+def spin(folder):
+    """Keys are echoed while a program spins, and obeyed behind it; ^A x ends a session in which one does."""
+    session = Session(folder, with_program(folder, "spin", SPIN))
+    session.until(b"$ ")
+    session.type(b"spin\n")
+    session.until(b"spin\n")
+    session.type(b"echo still\n")
+    session.until(b"echo still\n", 4)
+    assert b"done\n" not in session.console, session.console
+    session.until(b"done\n$ still\n$ ")
+    session.type(b"spin\n")
+    session.until(b"$ spin\n")
+    session.type(b"\x01x")
+    session.ends(0)
+    assert session.replay() == session.console, session.console
+
+
+def close(folder):
+    """A terminal that is closed ends the session, and the record has what was typed."""
+    session = Session(folder, IMAGE)
+    session.until(b"$ ")
+    session.type(b"echo seen\n")
+    session.until(b"seen\n$ ")
+    os.close(session.follow)
+    os.close(session.lead)
+    session.child.wait(timeout=20)
+    assert b"seen\n" in session.replay()
+
+
+def slow(folder):
+    """Lines come as they are printed; ^C loses none that came, and the record has them."""
+    image = with_program(folder, "slow", SLOW)
+    script = os.path.join(folder, "script")
+    with open(script, "w") as text:
+        text.write("step 5000\ntype slow\nstep 300000000\n")
+    run = subprocess.Popen([PROGRAM, "run", image, script], stdout=subprocess.PIPE, stderr=subprocess.DEVNULL)
+    console, times = b"", []
+    while console.count(b"there\n") < 3:
+        byte = os.read(run.stdout.fileno(), 1)
+        assert byte, console
+        console += byte
+        if console.endswith(b"there\n"):
+            times.append(time.time())
+    assert min(after - before for before, after in zip(times, times[1:])) > 0.1, times
+    run.send_signal(signal.SIGINT)
+    console += run.stdout.read()
+    assert run.wait() == -signal.SIGINT and console.count(b"there\n") == 3, console
+    session = Session(folder, image)
+    session.until(b"$ ")
+    session.type(b"slow\n")
+    session.until(3 * b"there\n")
+    # (a busy machine's keyboard is read once a second, and the record is complete up to the last read)
+    session.read(1.5)
+    session.type(b"\x03")
+    session.ends(130)
+    assert session.replay().count(b"there\n") >= 3, session.console
+
+
+def pipe(folder):
+    record = os.path.join(folder, "record")
+    done = subprocess.run([PROGRAM, "live", "--record", record, IMAGE], input=b"echo hi | cat\n", capture_output=True)
+    assert done.returncode == 0 and done.stderr.endswith(b"running\n"), done
+    again = subprocess.run([PROGRAM, "run", IMAGE, record], capture_output=True)
+    assert (again.stdout, again.stderr) == (done.stdout, b"running\n"), again
+    for closed in (["sh", "-c", '"$0" live "$1" <&-'], ["sh", "-c", '"$0" live "$1" < /dev/null']):
+        none = subprocess.run([*closed, PROGRAM, IMAGE], capture_output=True, timeout=20)
+        assert (none.returncode, none.stdout[-2:], none.stderr) == (0, b"$ ", b"running\n"), none
+    with open("/dev/full", "w") as full:
+        lost = subprocess.run([PROGRAM, "live", IMAGE], input=b"ls\n", stdout=full, stderr=subprocess.PIPE)
+    assert (lost.returncode, lost.stderr) == (1, b"halt 3 Console\n"), lost
+
+
+for part in (leave, kill, terminate, spin, slow, close, pipe):
+    with tempfile.TemporaryDirectory() as place:
+        part(place)
+    print(part.__name__, "ok", flush=True)
