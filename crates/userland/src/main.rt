@@ -2,8 +2,9 @@
 //! at their consoles shows what each program does.
 //!
 //! Standard input has sessions, with an empty line between two. The first line of one is its title, the second `boot IMAGE
-//! FRAMES`, and the others are a script as `xv6 flat` takes it. Images are `xv6.img` and `small.img`; `migrated.img`, which
-//! was made of an image of the small format with the files of `xv6.img`; and `left.img`, which the session before left. Of each
+//! FRAMES`, and the others are a script as `xv6 flat` takes it. Images are `xv6.img` and `small.img`; `tests.img`, which has the
+//! compiled program `selftest`; `migrated.img`, which was made of an image of the small format with the files of `xv6.img`; and
+//! `left.img`, which the session before left. Of each
 //! session the title is printed, the console's bytes with a line end behind them, and a line that says how it ended, how many
 //! frames were free then, and what the image that it leaves uses.
 //!
@@ -60,13 +61,14 @@ fn assemble<R: Files + AllocGlobal>(
     desk.assemble(text.as_str(), name)
 }
 
-// Assembles the programs, and makes the images: one as `make image` does, and one with little room.
+// Assembles the programs, and makes the images: one as `make image` does, one with little room, and one for the compiled program.
 fn prepare<R: Files + AllocGlobal>(alloc: Global, desk: &mut Desk<'_, R>) -> anyhow::Result<()> {
     for name in &PROGRAMS {
         assemble(alloc, desk, name)?;
     }
     desk.make("manifest", (2000, 200), "xv6.img")?;
     desk.make("small", (64, 16), "small.img")?;
+    desk.make("tests", (1000, 100), "tests.img")?;
     migrate(desk, "xv6.img")
 }
 
