@@ -18,7 +18,7 @@ unfolding hears_all
 passes r next b bs is = ap (λ step. told step ++ hears_all step.0 bs) is
 
 -- a digit stands for what it was made of
-digit-read : (n : ℕ) → n < 16 → value_of (hex_digit n) ≡ Some n
+pub digit-read : (n : ℕ) → n < 16 → value_of (hex_digit n) ≡ Some n
 unfolding value_of hex_digit
 digit-read n lt = grind arith
 

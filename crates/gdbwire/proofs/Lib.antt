@@ -1,2 +1,4 @@
 pub mod Bodies
+pub mod Cuts
 pub mod Numbers
+pub mod Sent

@@ -1,5 +1,5 @@
 -- Hexadecimal numbers: the highest digit first.
-use Rattle.std.specs.Prelude.{◌+◌, ◌-◌, ◌*◌, ◌/◌, ◌%◌, ◌&&◌, ◌∷◌, ℕ, List, [], None, Option, Some, flat_map, if◌then◌else◌, nat_le, nat_lt}
+use Rattle.std.specs.Prelude.{◌++◌, ◌+◌, ◌-◌, ◌*◌, ◌/◌, ◌%◌, ◌&&◌, ◌∷◌, ℕ, zero, suc, List, [], None, Option, Some, flat_map, if◌then◌else◌, nat_le, nat_lt}
 
 -- the digit of a number below 16; letters are of lower case
 unfoldable pub hex_digit : ℕ → ℕ
@@ -33,3 +33,12 @@ number_from n _ = n
 unfoldable pub number_of : List ℕ → Option ℕ
 number_of [] = None
 number_of codes = number_from (Some 0) codes
+
+-- the digits of a number, at most so many; the first is 0 for 0 alone
+unfoldable pub hex_up_to : ℕ → ℕ → List ℕ
+hex_up_to zero n = []
+hex_up_to (suc most) n = (if nat_lt n 16 then [] else hex_up_to most (n / 16)) ++ hex_digit (n % 16) ∷ []
+
+-- the digits of a number of 64 bits
+abbrev pub hex_number : ℕ → List ℕ
+hex_number n = hex_up_to 16 n

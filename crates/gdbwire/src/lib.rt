@@ -4,11 +4,15 @@
 mod frames;
 mod hex;
 mod laws;
+mod packets;
 mod reader;
 
 pub use frames::push_frame;
 pub use hex::{digit_value, number, push_byte, push_bytes};
-pub use laws::frames_are_heard;
+pub use laws::{frames_are_heard, packets_are_read};
+pub use packets::{
+    Id, Numbered, Packet, Part, Parted, Point, Texted, Thread, Threaded, Word, parse, thread_in,
+};
 pub use reader::{Heard, MOST, Reader};
 
 #[cfg(test)]

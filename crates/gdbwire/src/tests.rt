@@ -1,4 +1,7 @@
-use crate::{Heard, Reader, number, push_bytes, push_frame};
+use crate::{
+    Heard, Id, Numbered, Packet, Part, Parted, Point, Reader, Texted, Thread, Threaded, Word,
+    number, parse, push_bytes, push_frame,
+};
 use std::alloc::{AllocError, Global};
 
 // What is heard last of these bytes, and the body that the reader has.
@@ -44,4 +47,94 @@ fn frames_and_numbers_are_written_as_the_protocol_has_them(rt: HostRuntime) {
             && number(b"") == None
             && number(b"10000000000000000") == None
     );
+}
+
+// A thread of a process.
+const SECOND: Thread = Thread {
+    process: Id::One(2),
+    thread: Id::One(2),
+};
+
+const FIRST_PAGE: Part = Part {
+    from: 0,
+    count: 0x1000,
+};
+
+const BREAK: Part = Part {
+    from: 0x28,
+    count: 4,
+};
+
+// Bodies as gdb sends them, and the packets that they are.
+const PACKETS: [(&[u8], Option<Packet>); 24] = [
+    (b"?", Some(Packet::Word(Word::LastStop))),
+    (b"qC", Some(Packet::Word(Word::CurrentThread))),
+    (b"qCRC:0,4", None),
+    (b"qAttached", Some(Packet::Word(Word::IsAttached))),
+    (
+        b"qAttached:1",
+        Some(Packet::Numbered(Numbered::IsAttachedTo, 1)),
+    ),
+    (b"p20", Some(Packet::Numbered(Numbered::Register, 32))),
+    (b"p", None),
+    (b"D;2", Some(Packet::Numbered(Numbered::Detach, 2))),
+    (b"Hgp2.2", Some(Packet::Threaded(Threaded::Looks, SECOND))),
+    (
+        b"Hcp-1.-1",
+        Some(Packet::Threaded(
+            Threaded::Steps,
+            Thread {
+                process: Id::All,
+                thread: Id::All,
+            },
+        )),
+    ),
+    (
+        b"Hg1",
+        Some(Packet::Threaded(
+            Threaded::Looks,
+            Thread {
+                process: Id::One(0),
+                thread: Id::One(1),
+            },
+        )),
+    ),
+    (
+        b"Tp2",
+        Some(Packet::Threaded(
+            Threaded::IsAlive,
+            Thread {
+                process: Id::One(2),
+                thread: Id::All,
+            },
+        )),
+    ),
+    (b"T", None),
+    (b"m0,1000", Some(Packet::Parted(Parted::Memory, FIRST_PAGE))),
+    (b"m0", None),
+    (b"m0,10000000000000000", None),
+    (
+        b"qSupported:swbreak+",
+        Some(Packet::Texted(Texted::Supported, 8)),
+    ),
+    (b"vCont;s:p2.2;c", Some(Packet::Texted(Texted::Resume, 8))),
+    (
+        b"qXfer:exec-file:read:2:0,1000",
+        Some(Packet::ProgramPath(2, FIRST_PAGE)),
+    ),
+    (
+        b"vFile:pread:1,1000,0",
+        Some(Packet::ReadFile(1, FIRST_PAGE)),
+    ),
+    (b"Z0,28,4", Some(Packet::Set(Point::Break, BREAK, 0))),
+    (b"Z0,28,4;X1,27", Some(Packet::Set(Point::Break, BREAK, 5))),
+    (b"z2,28,4", Some(Packet::Clear(Point::Write, BREAK, 0))),
+    (b"vMustReplyEmpty", None),
+];
+
+#[test]
+fn packets_are_read_as_gdb_sends_them(rt: HostRuntime) {
+    for (body, packet) in &PACKETS {
+        assert!(rt; parse(*body) == *packet);
+    }
 }
