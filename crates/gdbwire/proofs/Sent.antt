@@ -3,8 +3,11 @@ use Rattle.std.proofs.Common.{◌≡◌, ◌+◌, ◌*◌, ◌/◌, ◌%◌, ◌
 use Rattle.std.specs.Prelude.{nat_lt, ⊤}
 use Rattle.std.specs.List.{prefix_len}
 use Rattle.std.proofs.lemmas.Bool.{le-ltb, lt-ltb, cases_lt}
-use Rattle.gdbwire.specs.Hex.{hex_digit, hex_number, hex_up_to, number_from, number_of, value_of, with_digit}
+use Rattle.gdbwire.specs.Hex.{BytesAreRead, bytes_of, hex_byte, hex_digit, hex_number, hex_up_to, number_from, number_of, pair_of, value_of, with_digit}
 use Rattle.gdbwire.specs.Packets.{PacketsAreRead, IsId, IsPart, IsSent, IsThread, behind_word, conditions_sent, cut, file_part_of, head_among, head_of, heads, id_of, id_sent, packet_after, packet_for, packet_of, part_of, part_sent, point_of, program_part_of, thread_of, thread_sent, word_of}
+use Rattle.gdbwire.specs.Actions.{ActionsAreRead, IsGoing, IsNamed, action_of, going_of, going_sent, named}
+use Rattle.gdbwire.specs.declared.actions.Going.{Going}
+use Rattle.gdbwire.specs.declared.actions.Going.TheVariants.{Continue, Range, Step}
 use Rattle.gdbwire.proofs.Bodies.{digit-read}
 use Rattle.gdbwire.proofs.Cuts.{other}
 use Rattle.gdbwire.proofs.Numbers.{begins, no-number, whole}
@@ -124,6 +127,15 @@ some-digits n = rw (length-append (if nat_lt n 16 then [] else hex_up_to 15 (n /
 
 pub number-read : (n : ℕ) → n < 2 ^ 64 → number_of (hex_number n) ≡ Some n
 number-read n small = begins (hex_number n) (some-digits n) ∙ digits-read 16 n small small
+
+pub bytes-read : BytesAreRead
+unfolding bytes_of hex_byte
+bytes-read [] are = refl
+bytes-read (b ∷ bs) are =
+    let small = are 0 in
+    let whole_byte : 16 * (b / 16) + b % 16 ≡ b = omega arith in
+    let both : pair_of (value_of (hex_digit (b / 16))) (value_of (hex_digit (b % 16))) ≡ Some b = rw (digit-read (b / 16) (omega (arith, small)), digit-read (b % 16) (omega arith)) (ap (λ x. Some x) whole_byte) in
+    rw (both, bytes-read bs (λ i. are (suc i))) refl
 
 -- ---- where a byte stands not
 
@@ -263,3 +275,24 @@ followed (packet.Clear kind part n) text = tt
 pub packets-read : PacketsAreRead
 unfolding packet_of
 packets-read p text is = ap packet_after (headed (head_of p) (behind_word p text) (followed p text)) ∙ rest-read p text is
+
+-- ---- actions
+
+going-read : (g : Going) → IsGoing g → going_of (going_sent g) ≡ Some g
+unfolding going_of
+going-read Continue is = refl
+going-read Step is = refl
+going-read (Range from end) is = rw (cut-some 44 (hex_number from) (hex_number end) (digits-lack comma 16 from), number-read from is.0, number-read end is.1) refl
+
+going-lacks : (g : Going) → Lacks 58 (going_sent g)
+going-lacks Continue = (refl, tt)
+going-lacks Step = (refl, tt)
+going-lacks (Range from end) = (refl, lacks-more 58 (hex_number from) (codes "," ++ hex_number end) (digits-lack colon 16 from) (refl, digits-lack colon 16 end))
+
+with-thread : (going : Going) (named_thread : Option Thread) → IsGoing going → IsNamed named_thread → action_of (going_sent going ++ named named_thread) ≡ Some (record { going = going; thread = named_thread })
+unfolding action_of
+with-thread going None is whose = rw (append-nil (going_sent going), cut-none 58 (going_sent going) (going-lacks going), going-read going is) refl
+with-thread going (Some thread) is whose = rw (cut-some 58 (going_sent going) (thread_sent thread) (going-lacks going), going-read going is, thread-read thread whose) refl
+
+pub actions-read : ActionsAreRead
+actions-read a is whose = with-thread a.going a.thread is whose

@@ -1,5 +1,5 @@
 -- Hexadecimal numbers: the highest digit first.
-use Rattle.std.specs.Prelude.{◌++◌, ◌+◌, ◌-◌, ◌*◌, ◌/◌, ◌%◌, ◌&&◌, ◌∷◌, ℕ, zero, suc, List, [], None, Option, Some, flat_map, if◌then◌else◌, nat_le, nat_lt}
+use Rattle.std.specs.Prelude.{◌≡◌, ◌<◌, ◌^◌, ◌++◌, ◌+◌, ◌-◌, ◌*◌, ◌/◌, ◌%◌, ◌&&◌, ◌∷◌, ℕ, zero, suc, List, [], None, Option, Some, flat_map, get_or, if◌then◌else◌, nat_le, nat_lt}
 
 -- the digit of a number below 16; letters are of lower case
 unfoldable pub hex_digit : ℕ → ℕ
@@ -42,3 +42,25 @@ hex_up_to (suc most) n = (if nat_lt n 16 then [] else hex_up_to most (n / 16)) +
 -- the digits of a number of 64 bits
 abbrev pub hex_number : ℕ → List ℕ
 hex_number n = hex_up_to 16 n
+
+-- the byte that two digits stand for
+abbrev pub pair_of : Option ℕ → Option ℕ → Option ℕ
+pair_of (Some high) (Some low) = Some (16 * high + low)
+pair_of high low = None
+
+abbrev pub with_byte : Option ℕ → Option (List ℕ) → Option (List ℕ)
+with_byte (Some byte) (Some bytes) = Some (byte ∷ bytes)
+with_byte byte bytes = None
+
+-- the bytes that digits stand for, two digits a byte
+unfoldable pub bytes_of : List ℕ → Option (List ℕ)
+bytes_of [] = Some []
+bytes_of (high ∷ []) = None
+bytes_of (high ∷ low ∷ codes) = with_byte (pair_of (value_of high) (value_of low)) (bytes_of codes)
+
+-- what is written is read as what it was
+abbrev pub NumbersAreRead : Type 0
+NumbersAreRead = (n : ℕ) → n < 2 ^ 64 → number_of (hex_number n) ≡ Some n
+
+abbrev pub BytesAreRead : Type 0
+BytesAreRead = (bytes : List ℕ) → ((i : ℕ) → get_or bytes i 0 < 256) → bytes_of (hex_bytes bytes) ≡ Some bytes

@@ -1,3 +1,4 @@
 pub mod Frames
 pub mod Hex
 pub mod Packets
+pub mod Actions

@@ -1,6 +1,6 @@
 //! Hexadecimal numbers, as the protocol has them: the highest digit first, and lower case letters where they are written.
-ghost use Rattle.std.specs.Prelude.{◌≡◌, ◌<◌, ◌++◌, IfSome, OnOk};
-ghost use Rattle.gdbwire.specs.Hex.{hex_byte, hex_bytes, hex_digit, number_of, value_of, with_digit};
+ghost use Rattle.std.specs.Prelude.{◌≡◌, ◌<◌, ◌++◌, None, Some, IfOk, IfSome, OnOk, if◌then◌else◌, option_map};
+ghost use Rattle.gdbwire.specs.Hex.{bytes_of, hex_byte, hex_bytes, hex_digit, hex_number, hex_up_to, number_of, pair_of, value_of, with_digit};
 
 use std::alloc::AllocError;
 
@@ -73,4 +73,53 @@ pub fn push_bytes(bytes: &[u8], out: &mut Vec<u8>) -> Result<(), AllocError>
         push_byte(*byte, out)?;
     }
     Ok(())
+}
+
+// Puts the digits of a number at the end, at most so many, the highest first.
+fn push_up_to(most: u32, number: u64, out: &mut Vec<u8>) -> Result<(), AllocError>
+    ensures { OnOk result (out.new.items ≡ out.old.items ++ hex_up_to most number) }
+{
+    if most == 0 {
+        return Ok(());
+    }
+    if number < 16 {
+        return out.extend_from_slice(&[digit(number as u8)]);
+    }
+    push_up_to(most - 1, number / 16, out)?;
+    out.extend_from_slice(&[digit((number % 16) as u8)])
+}
+
+/// Puts a number at the end, with no more digits than it needs. An error leaves a beginning of them.
+pub fn push_number(number: u64, out: &mut Vec<u8>) -> Result<(), AllocError>
+    ensures { OnOk result (out.new.items ≡ out.old.items ++ hex_number number) }
+{
+    push_up_to(16, number, out)
+}
+
+// The byte that two digits stand for.
+fn pair(high: u8, low: u8) -> Option<u8>
+    ensures { result ≡ pair_of (value_of high) (value_of low) }
+{
+    let high = digit_value(high)?;
+    let low = digit_value(low)?;
+    Some(16 * high + low)
+}
+
+/// Puts the bytes that digits stand for at the end, two digits a byte, and returns whether they stand for bytes. Where they don't,
+/// or memory fails, it leaves a beginning of them.
+pub fn push_decoded(digits: &[u8], out: &mut Vec<u8>) -> Result<bool, AllocError>
+    ensures { IfOk result (λ known. option_map (λ bytes. out.old.items ++ bytes) (bytes_of digits.now) ≡ (if known then Some out.new.items else None)) }
+{
+    let mut at = 0;
+    while at < digits.len() {
+        if at + 1 == digits.len() {
+            return Ok(false);
+        }
+        let Some(byte) = pair(digits[at], digits[at + 1]) else {
+            return Ok(false);
+        };
+        out.extend_from_slice(&[byte])?;
+        at += 2;
+    }
+    Ok(true)
 }

@@ -232,8 +232,8 @@ const HEADS: [(&[u8], Head); 48] = [
     (b"z4,", Head::Clear(Point::Access)),
 ];
 
-// What stands before the first of a byte, and after it.
-fn cut(at: u8, text: &[u8]) -> Option<(&[u8], &[u8])>
+/// What stands before the first of a byte, and after it; `None` where it is not there.
+pub fn cut(at: u8, text: &[u8]) -> Option<(&[u8], &[u8])>
     ensures { option_map (λ two. (two.0.now, two.1.now)) result ≡ cut at text.now }
 {
     for (index, byte) in text.iter().enumerate() {

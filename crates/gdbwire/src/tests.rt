@@ -1,6 +1,6 @@
 use crate::{
-    Heard, Id, Numbered, Packet, Part, Parted, Point, Reader, Texted, Thread, Threaded, Word,
-    number, parse, push_bytes, push_frame,
+    Action, Going, Heard, Id, Numbered, Packet, Part, Parted, Point, Reader, Texted, Thread,
+    Threaded, Word, action_in, number, parse, push_bytes, push_decoded, push_frame, push_number,
 };
 use std::alloc::{AllocError, Global};
 
@@ -137,4 +137,52 @@ fn packets_are_read_as_gdb_sends_them(rt: HostRuntime) {
     for (body, packet) in &PACKETS {
         assert!(rt; parse(*body) == *packet);
     }
+}
+
+// Actions as gdb sends them.
+const ACTIONS: [(&[u8], Option<Action>); 7] = [
+    (
+        b"c",
+        Some(Action {
+            going: Going::Continue,
+            thread: None,
+        }),
+    ),
+    (
+        b"S05:p2.2",
+        Some(Action {
+            going: Going::Step,
+            thread: Some(SECOND),
+        }),
+    ),
+    (
+        b"r0,28:p2.2",
+        Some(Action {
+            going: Going::Range(0, 0x28),
+            thread: Some(SECOND),
+        }),
+    ),
+    (b"ss", None),
+    (b"r0", None),
+    (b"t", None),
+    (b"", None),
+];
+
+#[test]
+fn actions_are_read_as_gdb_sends_them(rt: HostRuntime) {
+    for (text, action) in &ACTIONS {
+        assert!(rt; action_in(*text) == *action);
+    }
+}
+
+#[test]
+fn numbers_and_bytes_are_written_and_read(rt: HostRuntime) {
+    let mut out = Vec::new(rt.alloc());
+    for number in &[0, 16, 0x7fff_ffff, u64::MAX] {
+        push_number(*number, &mut out).expect(&rt, "memory");
+        push_decoded(b"20", &mut out).expect(&rt, "memory");
+    }
+    assert!(rt; out.as_slice() == b"0 10 7fffffff ffffffffffffffff ".as_slice());
+    assert!(rt; push_decoded(b"2f6", &mut out) == Ok(false));
+    assert!(rt; push_decoded(b"2g", &mut out) == Ok(false));
 }
