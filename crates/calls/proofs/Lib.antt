@@ -10,3 +10,4 @@ pub mod Names
 pub mod Stores
 pub mod Opens
 pub mod Pieces
+pub mod Computing

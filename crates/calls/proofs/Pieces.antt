@@ -11,6 +11,7 @@ use Rattle.calls.specs.Resuming.{taken}
 use Rattle.kernel.proofs.Steps.{advances-on}
 use Rattle.kernel.specs.Idle.{is_idle}
 use Rattle.spaces.proofs.SpacesLemmas.{advances-last, advances-same}
+use Rattle.hart.specs.Stops.{EndsAt}
 use Rattle.spaces.specs.Instructions.{Advances}
 use Rattle.calls.proofs.Acts.{lost-after, same-served, served-after}
 use Rattle.calls.proofs.Takes.{next-executes, next-turns, step-computes, turn-takes}
@@ -195,10 +196,15 @@ module _ {old mid : Kernel} {n : ℕ} {before at : Option (List ℕ)} (went : We
 pub stops-rest : {old now new : Kernel} {n : ℕ} (m count : ℕ) {before mid after : Option (List ℕ)} {step_rises rises : Type 0} {halt : Halt} → Went old now n before mid → old.halted ≡ None → n + m ≤ count → (step_rises → rises)
     → StopsAt now new m mid after step_rises halt → StepsGive old new count before after rises (Err halt) × LeavesFiles {X = Unit {0}} old.tree new.tree (Err halt)
 stops-rest {new = new} m count {after = after} {step_rises} {rises} {halt} went up within r stop =
-    let more = stop.more in
-    stops-give (went-trans went up stop.went) up new after step_rises rises halt count (omega (arith, more, within)) r stop.last stop.leaves
+    let counts = stop.counts in
+    stops-give (went-trans went up stop.went) up new after step_rises rises halt count (omega (arith, counts, within)) r stop.last stop.leaves
 
 -- ---- instructions
+
+-- where there are no stops, all are done
+pub ends-all : (count done pc : ℕ) → EndsAt [] count done pc → done ≡ count
+ends-all count done pc (inl all) = all
+ends-all count done pc (inr at) = absurd (let never = at.1 in cc)
 
 -- after instructions that don't trap the process still runs, and the next step is its next instruction
 pub record Begun (k mid : Kernel) (i n : ℕ) (at : Option (List ℕ)) : Type 0 where
@@ -207,14 +213,14 @@ pub record Begun (k mid : Kernel) (i n : ℕ) (at : Option (List ℕ)) : Type 0 
   pub is : next (state_of mid) Step ≡ execute_at (state_of mid) i (process_at (state_of mid) i)
 
 module _ {k : Kernel} {i : ℕ} (is : IsKernel k) (active : k.spaces.active ≡ Some i) (goes : k.halted ≡ None) where
-  run-advances : (n : ℕ) (new : Spaces) → Advances n k.spaces i new → stepped k n ≡ quiet (state_of (record k { spaces = new }))
+  pub run-advances : (stops : List ℕ) (n : ℕ) (new : Spaces) → Advances stops n k.spaces i new → stepped k n ≡ quiet (state_of (record k { spaces = new }))
   unfolding run
-  run-advances zero new all = ap (λ (s : Spaces). quiet (state_of (record k { spaces = s }))) (sym (advances-same k.spaces i new all))
-  run-advances (suc n) new all =
-      let last = advances-last n k.spaces new i all in
+  run-advances stops zero new all = ap (λ (s : Spaces). quiet (state_of (record k { spaces = s }))) (sym (advances-same stops k.spaces i new all))
+  run-advances stops (suc n) new all =
+      let last = advances-last stops n k.spaces new i all in
       let mid : Kernel = record k { spaces = last.0 } in
-      let on = advances-on n k i last.0 is active last.1 in
-      let first = run-advances n last.0 last.1 in
+      let on = advances-on stops n k i last.0 is active last.1 in
+      let first = run-advances stops n last.0 last.1 in
       let one : suc n ≡ n + 1 = omega arith in
       ap (stepped k) one
       ∙ steps-go (state_of k) goes n 1 (ap (λ (a : After). a.state.halted) first ∙ goes)
@@ -225,24 +231,24 @@ module _ {k : Kernel} {i : ℕ} (is : IsKernel k) (active : k.spaces.active ≡ 
       ∙ ap (λ (s : Spaces). quiet (state_of (record k { spaces = s }))) (sym last.2.leaves)
 
   -- a process runs before each of them, and behind the last
-  busy-at : (n : ℕ) (new : Spaces) → Advances n k.spaces i new → IsBusy (stepped k n).state
-  busy-at n new all =
-      let on = advances-on n k i new is active all in
-      let made : (stepped k n).state ≡ state_of (record k { spaces = new }) = ap (λ (a : After). a.state) (run-advances n new all) in
+  busy-at : (stops : List ℕ) (n : ℕ) (new : Spaces) → Advances stops n k.spaces i new → IsBusy (stepped k n).state
+  busy-at stops n new all =
+      let on = advances-on stops n k i new is active all in
+      let made : (stepped k n).state ≡ state_of (record k { spaces = new }) = ap (λ (a : After). a.state) (run-advances stops n new all) in
       record { goes = ap (λ (s : State). s.halted) made ∙ goes; busy = ap is_idle made ∙ sym (busy-state (record k { spaces = new }) on.sound i on.active) }
 
-  pub busy-advances : (n : ℕ) (new : Spaces) → Advances n k.spaces i new → (done : ℕ) → done ≤ n → IsBusy (stepped k done).state
-  busy-advances zero new all done within = let first : done ≡ 0 = omega (arith, within) in rw first (busy-at 0 new all)
-  busy-advances (suc n) new all done within = elim (cases_lt done (suc n)) [
-    | inl less ↦ let last = advances-last n k.spaces new i all in busy-advances n last.0 last.1 done (omega (arith, less))
-    | inr least ↦ let end : done ≡ suc n = omega (arith, within, least) in rw end (busy-at (suc n) new all)
+  pub busy-advances : (stops : List ℕ) (n : ℕ) (new : Spaces) → Advances stops n k.spaces i new → (done : ℕ) → done ≤ n → IsBusy (stepped k done).state
+  busy-advances stops zero new all done within = let first : done ≡ 0 = omega (arith, within) in rw first (busy-at stops 0 new all)
+  busy-advances stops (suc n) new all done within = elim (cases_lt done (suc n)) [
+    | inl less ↦ let last = advances-last stops n k.spaces new i all in busy-advances stops n last.0 last.1 done (omega (arith, less))
+    | inr least ↦ let end : done ≡ suc n = omega (arith, within, least) in rw end (busy-at stops (suc n) new all)
   ]
 
-  pub begun : (n : ℕ) (mid : Kernel) (at : Option (List ℕ)) → k.tree.failed ≡ false → Advances n k.spaces i mid.spaces × (mid ≡ record k { spaces = mid.spaces }) → Begun k mid i n at
-  begun n mid at up done =
-      let on = advances-on n k i mid.spaces is active done.0 in
+  pub begun : (stops : List ℕ) (n : ℕ) (mid : Kernel) (at : Option (List ℕ)) → k.tree.failed ≡ false → Advances stops n k.spaces i mid.spaces × (mid ≡ record k { spaces = mid.spaces }) → Begun k mid i n at
+  begun stops n mid at up done =
+      let on = advances-on stops n k i mid.spaces is active done.0 in
       record {
-        went = went-quiet {old = k} {new = mid} at (same-served (ap (λ (x : Kernel). x.tree) done.1) up) (run-advances n mid.spaces done.0 ∙ ap (λ (x : Kernel). quiet (state_of x)) (sym done.1)) (ap (λ (x : Kernel). x.halted) done.1 ∙ goes);
+        went = went-quiet {old = k} {new = mid} at (same-served (ap (λ (x : Kernel). x.tree) done.1) up) (run-advances stops n mid.spaces done.0 ∙ ap (λ (x : Kernel). quiet (state_of x)) (sym done.1)) (ap (λ (x : Kernel). x.halted) done.1 ∙ goes);
         active = on.active;
         is = subst (λ (x : Kernel). next (state_of x) Step ≡ execute_at (state_of x) i (process_at (state_of x) i)) (sym done.1) (next-executes (record k { spaces = mid.spaces }) i on.sound on.active);
       }
@@ -274,7 +280,7 @@ last-goes new after rising (Ok u) went up is gives leaves = (record { makes = ma
 last-goes {mid = mid} {n} {before} new after rising (Err halt) went up is gives leaves = record {
   mid = mid;
   done = n;
-  more = omega arith;
+  counts = refl;
   went = went;
   last = subst (λ (x : After). EventGives new x before after rising (Err halt)) (sym is) gives;
   leaves = leaves;
@@ -285,7 +291,7 @@ module _ (old new : Kernel) (before after : Option (List ℕ)) (rising : Type 0)
   silent-goes : (count : ℕ) (r : Result (Unit {0}) Halt) → PieceGoes old new count before after ⊥ r → PieceGoes old new count before after rising r
   silent-goes count (Ok u) h = h
   silent-goes count (Err Console) h = absurd h.last.0
-  silent-goes count (Err _) h = record { mid = h.mid; done = h.done; more = h.more; went = h.went; last = h.last; leaves = h.leaves }
+  silent-goes count (Err _) h = record { mid = h.mid; done = h.done; counts = h.counts; went = h.went; last = h.last; leaves = h.leaves }
 
   pub silent : {most count : ℕ} {r : Result (Unit {0}) Halt} → PieceGives old new most before after ⊥ count r → PieceGives old new most before after rising count r
   silent {count = count} {r} h = record { within = h.within; busy = h.busy; goes = silent-goes count r h.goes }

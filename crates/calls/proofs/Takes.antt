@@ -73,11 +73,13 @@ does-err new a b before after rising _ same made = absurd made
 -- ---- the running process
 
 module _ {k : Kernel} {i : ℕ} (x : Runner k i) where
+  pub effect-is : {r : Result Computed Trap} → cycle k.spaces.registers k.spaces.pc (memory_at k i) ≡ r → effect_of (me_of x) ≡ r
+  unfolding effect_of
+  effect-is means = ap (λ (h : SpaceView). cycle k.spaces.registers k.spaces.pc h.memory) (sym (held-run k i x.process x.held x.run x.sound)) ∙ means
+
   effect-run : {r : Result Computed Trap} → cycle k.spaces.registers k.spaces.pc (memory_at k i) ≡ r → execute_at (state_of k) i (process_at (state_of k) i) ≡ acted (state_of k) i (me_of x) r
-  unfolding execute effect_of
-  effect-run means =
-      ap (execute_at (state_of k) i) (process-run k i x.process x.held x.run)
-      ∙ ap (acted (state_of k) i (me_of x)) (ap (λ (h : SpaceView). cycle k.spaces.registers k.spaces.pc h.memory) (sym (held-run k i x.process x.held x.run x.sound)) ∙ means)
+  unfolding execute
+  effect-run means = ap (execute_at (state_of k) i) (process-run k i x.process x.held x.run) ∙ ap (acted (state_of k) i (me_of x)) (effect-is means)
 
   pub step-computes : {d : Computed} → cycle k.spaces.registers k.spaces.pc (memory_at k i) ≡ Ok d → execute_at (state_of k) i (process_at (state_of k) i) ≡ quiet (state_of (computed k i d))
   step-computes {d} means =

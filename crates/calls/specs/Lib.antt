@@ -8,3 +8,4 @@ pub mod Reads
 pub mod Named
 pub mod Opened
 pub mod Replaced
+pub mod Computing

@@ -1,5 +1,5 @@
 -- What many steps of the kernel come to.
-use Rattle.std.specs.Prelude.{Err, List, None, Ok, Option, Result, Some, false, replicate, true, ℕ, ◌<◌, ◌≡◌, ◌≤◌}
+use Rattle.std.specs.Prelude.{Err, List, None, Ok, Option, Result, Some, false, replicate, true, ℕ, ◌+◌, ◌<◌, ◌≡◌, ◌≤◌}
 use Rattle.std.specs.Io.KnownBytes.{Appends}
 use Rattle.console.specs.Output.{AppendsBeginning}
 use Rattle.calls.specs.declared.halt.Halt.{Halt}
@@ -25,11 +25,11 @@ pub record Went (old now : Kernel) (count : ℕ) (before after : Option (List �
   pub makes : Makes now (stepped old count) before after None
   pub served : IsServed old.tree now.tree
 
--- a step halts: those before it went
+-- the last of so many steps halts: those before it went
 pub record StopsAt (old new : Kernel) (count : ℕ) (before after : Option (List ℕ)) (rising : Type 0) (halt : Halt) : Type 0 where
   pub mid : Kernel
   pub done : ℕ
-  pub more : done < count
+  pub counts : done + 1 ≡ count
   pub went : Went old mid done before before
   pub last : EventGives new (next (state_of mid) Step) before after rising (Err halt)
   pub leaves : LeavesTree {X = Unit {0}} mid.tree new.tree (Err halt)

@@ -17,4 +17,4 @@ mod transfer_calls;
 pub use events::{key, step, tick};
 pub use halt::Halt;
 pub use kernel::Kernel;
-pub use many_steps::{advance, steps};
+pub use many_steps::{advance, compute, steps};

@@ -2,6 +2,7 @@
 //!
 //! They are done in pieces: instructions of the running process up to a call or a fault, or a turn.
 ghost use Rattle.std.specs.Prelude.{ℕ, List, Option, ◌≡◌, ◌<◌, ◌≤◌, Err, None, Some, false};
+ghost use Rattle.calls.specs.Computing.{Computes};
 ghost use Rattle.calls.specs.Gives.{EventGives, EventGivesTo, LeavesTree, executed};
 ghost use Rattle.calls.specs.Resuming.{taken};
 ghost use Rattle.calls.specs.Steps.{LeavesFiles, PieceGives, PieceGivesTo, StepsGiveTo};
@@ -15,6 +16,7 @@ use crate::events::{goes, take, take_trap};
 use crate::halt::Halt;
 use blockdev::BlockDev;
 use console::Out;
+use hart::{Breakpoints, NoStops};
 use kernel::Kernel;
 use sv39::Translate;
 use unixmodel::trap::Trap;
@@ -63,6 +65,24 @@ pub fn advance<D: BlockDev, T: Translate, W: Out>(
     }
 }
 
+/// Instructions of the running process, at most so many, up to a call or a fault and not over it, and no further than to the first of
+/// some addresses that the pc comes to: how many they are. None are done where no process runs.
+pub fn compute<D: BlockDev, T: Translate>(
+    kernel: &mut Kernel<D, T>,
+    most: u32,
+    addresses: &[u64],
+) -> u32
+    requires { kernel.old.halted ≡ None }
+    ensures computes { Computes (state_of kernel.old) (state_of kernel.new) addresses.now most result }
+    ensures tree { kernel.new.tree ≡ kernel.old.tree }
+{
+    kernel.is_sound();
+    match kernel.active() {
+        None => 0,
+        Some(at) => kernel.execute_many(at, most, &Breakpoints { addresses }).0,
+    }
+}
+
 // Instructions of the running process up to the first that traps, with the call or the end that it traps into.
 fn instruct_many<D: BlockDev, T: Translate, W: Out>(
     kernel: &mut Kernel<D, T>,
@@ -78,7 +98,7 @@ fn instruct_many<D: BlockDev, T: Translate, W: Out>(
     ensures later { W.failures console.old ≤ W.failures console.new }
 {
     kernel.is_sound();
-    match kernel.execute_many(at, most) {
+    match kernel.execute_many(at, most, &NoStops) {
         (done, None) => (done, Ok(())),
         (done, Some(trap)) => (done + 1, trap_once(kernel, at, trap, console)),
     }

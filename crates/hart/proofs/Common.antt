@@ -1,7 +1,7 @@
 -- The names that the lemmas of this crate import from elsewhere, passed on from one place. Declares nothing.
 pub use Rattle.std.proofs.Common.{◌%◌, ◌&&◌, ◌*◌, ◌+◌, ◌++◌, ◌-◌, ◌/◌, ◌<◌, ◌==◌, [], ◌^◌, ap, append_assoc, arith, Bool, cond, drop, Err, false, get_or, get_or-set_other, get_or-set_same, inl, inr, length}
 pub use Rattle.std.proofs.Common.{length-set, List, None, Ok, Option, refl, rules, set, slice_index_or, slice_range, slice_set, Some, subst, suc, sym, take, true, zero, ℕ, ◌∙◌, ◌∷◌, ◌≡◌, ◌≢◌, ◌≤◌, ◌⊎◌}
-pub use Rattle.std.proofs.lemmas.Bool.{and_parts, cases_eq, eq-eqb, eqb-true}
+pub use Rattle.std.proofs.lemmas.Bool.{and_parts, cases_eq, cases_lt, eq-eqb, eqb-true, ne_eqb}
 pub use Rattle.std.proofs.lemmas.Option.{get_or_from_slice_get, slice_get-get_or, slice_get-map, slice_get_within}
 pub use Rattle.std.specs.Int.{byte_at, bytes_low_first, cast_signed, w128, w64}
 pub use Rattle.std.specs.Prelude.{◌*ℤ◌, FitsSigned, IfSome, if◌then◌else◌, option_map, pos, slice_get, slice_index, unsigned_abs}
@@ -34,7 +34,8 @@ pub use Rattle.hart.specs.Changes.{changed, IsAlone, IsSound, IsStore, put_in, S
 pub use Rattle.hart.specs.Follows.{Follows}
 pub use Rattle.hart.specs.Operations.{IsOp}
 unfoldable pub use Rattle.hart.specs.Operations.{op_by}
-pub use Rattle.hart.specs.Runs.{Goes, GoesOn, pc_at, Point, point_at, point_of, StaysWhole, word_in}
+pub use Rattle.hart.specs.Stops.{EndsAt, IsBehind, IsClear, IsPast, is_stop, pc_at}
+pub use Rattle.hart.specs.Runs.{Goes, GoesOn, Point, point_at, point_of, StaysWhole, word_in}
 unfoldable pub use Rattle.hart.specs.Runs.{Reaches, RunsTo}
 pub use Rattle.hart.specs.Sizes.{IsSize}
 pub use Rattle.hart.specs.declared.act.Next.{Next}

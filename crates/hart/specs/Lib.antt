@@ -5,3 +5,4 @@ pub mod Answered
 pub mod Operations
 pub mod Acts
 pub mod Runs
+pub mod Stops

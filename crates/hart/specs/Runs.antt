@@ -1,14 +1,15 @@
 -- The hart's instructions, one after the other, on the memory that a mapping shows.
-use Rattle.std.specs.Prelude.{ℕ, ◌≡◌, ◌<◌, ◌+◌, ◌*◌, Err, IfSome, List, Ok, Option, length, suc, zero}
+use Rattle.std.specs.Prelude.{ℕ, ◌≡◌, ◌<◌, ◌+◌, Err, IfSome, List, Ok, Option, length, suc, zero}
 use Rattle.unixmodel.specs.declared.trap.Trap.{Trap}
 use Rattle.unixmodel.specs.Cycle.{cycle}
 use Rattle.unixmodel.specs.Meaning.{Computed}
 use Rattle.unixmodel.specs.Memory.{bytes_at}
-use Rattle.unixmodel.specs.Numbers.{number, plus}
+use Rattle.unixmodel.specs.Numbers.{number}
 use Rattle.unixmodel.specs.Translation.{Held, HoldsInside}
 use Rattle.sv39.specs.Mapping.{IsCoherent, Mapped, WalksTo, memory_of}
 use Rattle.hart.specs.Answered.{given}
 use Rattle.hart.specs.Changes.{IsSound, WritesOnly, changed}
+use Rattle.hart.specs.Stops.{IsPast}
 use Rattle.hart.specs.declared.act.Next.{Next}
 use Rattle.hart.specs.declared.act.Next.TheVariants.{At, Behind, Stop}
 use Rattle.hart.specs.declared.state.Hart.{Hart}
@@ -26,10 +27,10 @@ pub record DoesOne (mapping : List Mapped) (old new : Point) : Type 0 where
   pub leaves : new ≡ record { registers = done.regs; pc = done.pc; ram = changed old.ram mapping done.change }
   pub writes : WritesOnly old.ram mapping new.ram
 
--- so many are, one after the other
-unfoldable pub RunsTo : ℕ → List Mapped → Point → Point → Type 0
-RunsTo zero mapping old new = new ≡ old
-RunsTo (suc n) mapping old new = (mid : Point) × RunsTo n mapping old mid × DoesOne mapping mid new
+-- so many are, one after the other, and none after the first begins at a stop
+unfoldable pub RunsTo : List ℕ → ℕ → List Mapped → Point → Point → Type 0
+RunsTo stops zero mapping old new = new ≡ old
+RunsTo stops (suc n) mapping old new = (mid : Point) × RunsTo stops n mapping old mid × DoesOne mapping mid new × IsPast stops n mid.pc
 
 -- so many may have written this
 unfoldable pub Reaches : ℕ → List Mapped → List (List ℕ) → List (List ℕ) → Type 0
@@ -42,27 +43,24 @@ pub record IsSteady (ram : List (List ℕ)) (root : ℕ) (mapping : List Mapped)
   pub walks : (n : ℕ) (ram' : List (List ℕ)) → Reaches n mapping ram ram' → WalksTo ram' root mapping
 
 -- a program has come so far by a mapping, of which all is that a translator holds under the root
-pub record Goes (held : Held) (root : ℕ) (mapping : List Mapped) (n : ℕ) (first now : Point) : Type 0 where
+pub record Goes (held : Held) (root : ℕ) (mapping : List Mapped) (stops : List ℕ) (n : ℕ) (first now : Point) : Type 0 where
   pub steady : IsSteady first.ram root mapping
   pub coherent : IsCoherent held root mapping
-  pub runs : RunsTo n mapping first now
+  pub runs : RunsTo stops n mapping first now
   pub reaches : Reaches n mapping first.ram now.ram
   pub count : length now.ram ≡ length first.ram
 
--- a hart's own point, and the one of a place in a page
+-- a hart's own point, and the one at a pc
 abbrev pub point_of : Hart → List (List ℕ) → Point
 point_of hart ram = record { registers = hart.registers; pc = hart.pc; ram = ram }
-
-abbrev pub pc_at : ℕ → ℕ → ℕ
-pc_at base k = plus base (4 * k)
 
 abbrev pub point_at : Hart → ℕ → List (List ℕ) → Point
 point_at hart pc ram = record { registers = hart.registers; pc = pc; ram = ram }
 
 -- so many more are done, by each mapping that was gone by, and a trap is what the next one comes to
-abbrev pub GoesOn : Held → Held → ℕ → List Mapped → Point → Point → ℕ → Option Trap → Type 0
-GoesOn held held' root mapping old new done stopped = (n : ℕ) (first : Point) → Goes held root mapping n first old
-    → Goes held' root mapping (n + done) first new × IfSome stopped (λ t. cycle new.registers new.pc (memory_of new.ram mapping) ≡ Err t)
+abbrev pub GoesOn : Held → Held → ℕ → List Mapped → List ℕ → Point → Point → ℕ → Option Trap → Type 0
+GoesOn held held' root mapping stops old new done trap = (n : ℕ) (first : Point) → IsPast stops n old.pc → Goes held root mapping stops n first old
+    → Goes held' root mapping stops (n + done) first new × IfSome trap (λ t. cycle new.registers new.pc (memory_of new.ram mapping) ≡ Err t)
 
 -- what a run keeps: what is held lies in the memory, which has as many frames, and the root is the same
 pub record StaysWhole (held : Held) (old new : Hart) (ram ram' : List (List ℕ)) : Type 0 where

@@ -8,26 +8,28 @@ ghost use Rattle.unixmodel.specs.Words.{instruction_of};
 ghost use Rattle.sv39.specs.Mapping.{Mapped, frame_for};
 ghost use Rattle.hart.specs.Acts.{Acts, trap_of};
 ghost use Rattle.hart.specs.Answered.{word_by};
-ghost use Rattle.hart.specs.Runs.{GoesOn, MovesOn, StaysWhole, goes_to, pc_at, point_at, point_of, word_in};
+ghost use Rattle.hart.specs.Runs.{GoesOn, MovesOn, StaysWhole, goes_to, point_at, point_of, word_in};
+ghost use Rattle.hart.specs.Stops.{EndsAt, IsBehind, IsClear, pc_at};
 
 use crate::access::locate;
 use crate::act::Next;
 use crate::decoded::{Decoded, Line};
 use crate::state::Hart;
+use crate::stops::Stops;
 use ram::{FrameNo, Ram};
 use sv39::Translate;
 use unixmodel::trap::{Access, Cause, Trap};
 
-// How many words there are from a place in a page on, at most so many.
+// How many words there are from a place up to another, at most so many.
 #[inline(always)]
-fn room(k: usize, left: u32) -> usize
-    requires { k < 1024 }
-    ensures page { k + result ≤ 1024 }
+fn room(k: usize, end: usize, left: u32) -> usize
+    requires { k < end }
+    ensures end { k + result ≤ end }
     ensures count { result ≤ left }
     ensures some { 0 < left → 0 < result }
 {
     let left = left as usize;
-    if left < 1024 - k { left } else { 1024 - k }
+    if left < end - k { left } else { end - k }
 }
 
 impl Hart {
@@ -71,8 +73,8 @@ impl Hart {
         requires lines { length lines.old ≡ 1024 }
         requires places { (from ≤ end) × (end ≤ 1024) }
         requires page { base % 4096 ≡ 0 }
-        ensures goes { (mapping : List Mapped) → frame_for mapping (base / 4096) Access.Fetch ≡ Some f.0 →
-            GoesOn (T.held trans.old) (T.held trans.new) self.old.root.0 mapping
+        ensures goes { (mapping : List Mapped) (stops : List ℕ) → frame_for mapping (base / 4096) Access.Fetch ≡ Some f.0 → IsClear stops base from end →
+            GoesOn (T.held trans.old) (T.held trans.new) self.old.root.0 mapping stops
             (point_at self.old (pc_at base from) ram.old) (point_at self.new (goes_to (pc_at base (from + result.0)) result.1) ram.new) result.0 (trap_of result.1) }
         ensures whole { StaysWhole (T.held trans.new) self.old self.new ram.old ram.new }
         ensures within { from + result.0 ≤ end }
@@ -89,36 +91,46 @@ impl Hart {
         ((end - from) as u32, Next::Behind)
     }
 
-    // Does at most so many operations of the page of the pc, which has frame `f`, until a jump leaves the page: how many are left, and a trap.
+    // Does at most so many operations of the page of the pc, which has frame `f`, until a jump leaves the page, up to a stop: how many are left, and a trap.
     #[inline(never)]
-    fn run_page<T: Translate>(
+    fn run_page<T: Translate, S: Stops>(
         &mut self,
         lines: &mut [Line],
         f: FrameNo,
         ram: &mut Ram,
         trans: &mut T,
         count: u32,
+        stops: &S,
     ) -> (u32, Option<Trap>)
         requires inside { HoldsInside (T.held trans.old) ram.old }
         requires frame { f.0 < length ram.old }
         requires lines { length lines.old ≡ 1024 }
         requires some { 0 < count }
         ensures goes { (mapping : List Mapped) → frame_for mapping (self.old.pc / 4096) Access.Fetch ≡ Some f.0 →
-            GoesOn (T.held trans.old) (T.held trans.new) self.old.root.0 mapping (point_of self.old ram.old) (point_of self.new ram.new) (count - result.0) result.1 }
+            GoesOn (T.held trans.old) (T.held trans.new) self.old.root.0 mapping (S.addresses stops.now)
+            (point_of self.old ram.old) (point_of self.new ram.new) (count - result.0) result.1 }
         ensures whole { StaysWhole (T.held trans.new) self.old self.new ram.old ram.new }
         ensures within { result.0 ≤ count }
         ensures fewer { IfNone result.1 (result.0 < count) }
         ensures trap { IfSome result.1 (λ t. 0 < result.0) }
+        ensures behind { IfSome result.1 (λ t. IsBehind (S.addresses stops.now) (count - result.0) self.old.pc self.new.pc) }
     {
         let base = self.pc / 4096 * 4096;
         let mut pc = self.pc;
         let mut left = count;
         while left > 0 && pc / 4096 * 4096 == base {
             let k = (pc % 4096 / 4) as usize;
-            let (done, next) = self.straight(lines, f, base, k, k + room(k, left), ram, trans);
+            let end = k + room(k, stops.clear_to(base, k), left);
+            let (done, next) = self.straight(lines, f, base, k, end, ram, trans);
             left -= done;
             match next {
-                Next::At(to) => pc = to.address(),
+                Next::At(to) => {
+                    pc = to.address();
+                    if stops.has(pc) {
+                        self.pc = pc;
+                        return (left, None);
+                    }
+                }
                 Next::Behind => {
                     self.pc = base.wrapping_add(4 * (k + done as usize) as u64);
                     return (left, None);
@@ -133,22 +145,25 @@ impl Hart {
         (left, None)
     }
 
-    /// Does at most so many instructions, up to the first that isn't done: how many were done, and the trap of that one.
+    /// Does at most so many instructions, up to the first that isn't done, and no further than to a stop after the first of them: how many
+    /// were done, and the trap of the one that isn't.
     #[inline(always)]
-    pub fn run<T: Translate>(
+    pub fn run<T: Translate, S: Stops>(
         &mut self,
         ram: &mut Ram,
         trans: &mut T,
         decoded: &mut Decoded,
         count: u32,
+        stops: &S,
     ) -> (u32, Option<Trap>)
         requires { HoldsInside (T.held trans.old) ram.old }
-        ensures goes { (mapping : List Mapped) → GoesOn (T.held trans.old) (T.held trans.new)
-            self.old.root.0 mapping (point_of self.old ram.old) (point_of self.new ram.new) result.0 result.1 }
+        ensures goes { (mapping : List Mapped) → GoesOn (T.held trans.old) (T.held trans.new) self.old.root.0 mapping (S.addresses stops.now)
+            (point_of self.old ram.old) (point_of self.new ram.new) result.0 result.1 }
         ensures whole { StaysWhole (T.held trans.new) self.old self.new ram.old ram.new }
         ensures within { result.0 ≤ count }
-        ensures all { IfNone result.1 (result.0 ≡ count) }
+        ensures ends { IfNone result.1 (EndsAt (S.addresses stops.now) count result.0 self.new.pc) }
         ensures trap { IfSome result.1 (λ t. result.0 < count) }
+        ensures behind { IfSome result.1 (λ t. IsBehind (S.addresses stops.now) result.0 self.old.pc self.new.pc) }
     {
         let mut left = count;
         while left > 0 {
@@ -159,10 +174,13 @@ impl Hart {
                 };
                 return (count - left, Some(trap));
             };
-            let (rest, stopped) = self.run_page(decoded.page(f.0), f, ram, trans, left);
+            let (rest, stopped) = self.run_page(decoded.page(f.0), f, ram, trans, left, stops);
             left = rest;
             if let Some(trap) = stopped {
                 return (count - left, Some(trap));
+            }
+            if stops.has(self.pc) {
+                return (count - left, None);
             }
         }
         (count, None)

@@ -132,11 +132,11 @@ does-on k i mid new before does =
     })
 
 -- instructions keep what a kernel keeps
-pub advances-on : (n : ℕ) (k : Kernel) (i : ℕ) (new : Spaces) → IsKernel k → k.spaces.active ≡ Some i → Advances n k.spaces i new → GoesOn k i new
-advances-on zero k i new is active all = rw (advances-same _ i new all) (record { sound = is; active = active; pipes = refl })
-advances-on (suc n) k i new is active all =
-    let last = advances-last n _ new i all in
-    does-on k i _ new (advances-on n k i last.0 is active last.1) last.2
+pub advances-on : (stops : List ℕ) (n : ℕ) (k : Kernel) (i : ℕ) (new : Spaces) → IsKernel k → k.spaces.active ≡ Some i → Advances stops n k.spaces i new → GoesOn k i new
+advances-on stops zero k i new is active all = rw (advances-same stops _ i new all) (record { sound = is; active = active; pipes = refl })
+advances-on stops (suc n) k i new is active all =
+    let last = advances-last stops n _ new i all in
+    does-on k i _ new (advances-on stops n k i last.0 is active last.1) last.2
 
 -- one does, or stops at a trap; o is the active place
 pub execute-on : (k : Kernel) (i : ℕ) (new : Spaces) (o : Option ℕ) (result : Option Trap) → IsKernel k → k.spaces.active ≡ Some i → o ≡ Some i → taken_frames new ≤ new.frames
@@ -316,8 +316,8 @@ module _ {k now : Kernel} {i : ℕ} {q : Process} (status : ℤ) (same : k ≡ n
       serves
 
 -- what many do, and where they stop, of the active place
-pub advances-at : (o : Option ℕ) (i n : ℕ) (old new : Spaces) → o ≡ Some i → IfSome o (λ at. Advances n old at new) → Advances n old i new
-advances-at o i n old new active all = subst (λ (x : Option ℕ). IfSome x (λ at. Advances n old at new)) active all
+pub advances-at : (stops : List ℕ) (o : Option ℕ) (i n : ℕ) (old new : Spaces) → o ≡ Some i → IfSome o (λ at. Advances stops n old at new) → Advances stops n old i new
+advances-at stops o i n old new active all = subst (λ (x : Option ℕ). IfSome x (λ at. Advances stops n old at new)) active all
 
 pub trap-at : (o : Option ℕ) (i n count : ℕ) (new : Spaces) (r : Option Trap) → o ≡ Some i → IfSome r (λ t. (n < count) × IfSome o (λ at. cycle new.registers new.pc (view_at new at).memory ≡ Err t))
     → IfSome r (λ t. (n < count) × (cycle new.registers new.pc (view_at new i).memory ≡ Err t))

@@ -6,10 +6,14 @@ use Rattle.kernel.proofs.Common.{all-set, WaitsWell, option_map, get_or-set_othe
 use Rattle.kernel.proofs.Common.{woken_by, Bytes, none-some, ◌||◌, is_pipe, Places, IsOpenOn, count-opened, free-opens, count_by, has_pipe-put, IsWhole, free_slot, inl, inr, [], get_or-set_same, cases_eq, ne_eqb, End, slice_set}
 use Rattle.kernel.proofs.Common.{slot-within, free-put, with_pipe, ReadEnd, WriteEnd, set-set}
 use Rattle.kernel.proofs.Holding.{sum-put, FitsIn, fits-some, used-put, used-shared, fits-there, used-more, used-opened, Fds, Opens, Pipes, Views}
-use Rattle.kernel.proofs.Runs.{IsRun, home-running, moved-state, run-of, runs-set, self, set-slot, slot-put, stands-set, with_process, within-run, within-space, live, not-killed, runs-mode, match-active, match-place, within-state_with}
+use Rattle.kernel.proofs.Runs.{IsRun, home-running, moved-state, process-run, run-of, runs-set, self, set-slot, slot-put, stands-set, with_process, within-run, within-space, live, not-killed, runs-mode, match-active, match-place, within-state_with}
 use Rattle.unixmodel.specs.Process as unix
 use Rattle.kernel.proofs.Joined.{file-shared, place-counts, waits-fewer, waits-running, alike-same, waits-kept}
 use Rattle.kernel.proofs.Watching.{running-at, watched-running, kernel-waking, watched-bytes}
+use Rattle.kernel.proofs.Readies.{running-state}
+use Rattle.kernel.specs.Idle.{running_process}
+use Rattle.std.specs.Prelude.{option_and_then}
+use Rattle.unixmodel.specs.State.{process_at}
 use Rattle.unixmodel.specs.FileCalls as row
 use Rattle.unixmodel.specs.OpenFiles as unix_files
 use Rattle.files.specs.Places.{has_pipe, free_count}
@@ -34,6 +38,12 @@ runner-of {k} {i} is active = let run = run-of k i is active in record { process
 -- as the abstract Unix sees it
 abbrev pub me_of : {k : Kernel} {i : ℕ} → Runner k i → unix.Process
 me_of {k} x = self k x.process x.held
+
+pub running-me : {k : Kernel} {i : ℕ} (x : Runner k i) → running_process (state_of k) ≡ Some (me_of x)
+running-me {k} {i} x = ap (option_and_then (process_at (state_of k))) (running-state k x.sound ∙ x.run.active) ∙ process-run k i x.process x.held x.run
+
+pub running-nobody : {k : Kernel} → IsKernel k → k.spaces.active ≡ None → running_process (state_of k) ≡ None
+running-nobody {k} is idle = ap (option_and_then (process_at (state_of k))) (running-state k is ∙ idle)
 
 -- the files stay in use where the running process is another one that works where it did
 pub used-turned : {k : Kernel} {i : ℕ} (x : Runner k i) (q : Process) → q.mode ≡ Running → q.directory ≡ x.process.directory → k.tree.failed ≡ false → IsInUse k.tree k.files (put k.table.places i q)

@@ -1,13 +1,20 @@
 -- Whether anything goes on: who runs, who is ready, and who sleeps.
-use Rattle.std.specs.Prelude.{Bool, false, is_none, true, ◌&&◌}
+use Rattle.std.specs.Prelude.{Bool, Option, false, is_none, option_and_then, option_map, true, ℕ, ◌&&◌}
 use Rattle.std.specs.List.{list_any}
 use Rattle.unixmodel.specs.declared.call.Call.{Call}
 use Rattle.unixmodel.specs.declared.call.Call.TheVariants.{Sleep}
 use Rattle.unixmodel.specs.declared.process.Mode.{Mode}
 use Rattle.unixmodel.specs.declared.process.Mode.TheVariants.{Ready, Running, Waiting, Zombie}
 use Rattle.unixmodel.specs.Process.{Process}
-use Rattle.unixmodel.specs.State.{State, holds, running}
+use Rattle.unixmodel.specs.State.{State, holds, process_at, running}
 use Rattle.unixmodel.specs.Turn.{turn}
+
+-- the process that runs, and its pid
+abbrev pub running_process : State → Option Process
+running_process s = option_and_then (process_at s) (running s)
+
+abbrev pub running_pid : State → Option ℕ
+running_pid s = option_map (λ (p : Process). p.pid) (running_process s)
 
 -- no process runs, and none is ready: a step changes nothing
 abbrev pub is_idle : State → Bool

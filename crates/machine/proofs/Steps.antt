@@ -6,10 +6,12 @@ use Rattle.unixmodel.specs.Next.{stopped}
 use Rattle.std.proofs.lemmas.List.{length-drop, length-take, take-replicate, take_min}
 use Rattle.unixmodel.specs.Shown.{left, stat_of}
 use Rattle.calls.specs.Gives.{Dispatches, EventGives, LeavesTree, Makes}
-use Rattle.calls.specs.Steps.{LeavesFiles, PieceGives, PieceGoes, StepsGive}
+use Rattle.calls.specs.Steps.{LeavesFiles, PieceGives, PieceGoes, stepped, StepsGive}
 use Rattle.calls.proofs.Pieces.{stops-rest, went-all, went-none}
-use Rattle.machine.specs.Pieces.{IsPiece}
+use Rattle.machine.specs.Pieces.{HaltsLast, IsPiece}
 use Rattle.console.specs.Output.{AppendsBeginning}
+use Rattle.std.proofs.KnownBytes.{Appends-trans}
+use Rattle.std.proofs.Common.{append-nil}
 use Rattle.std.proofs.Math.Bool.{or-false}
 use Rattle.std.specs.List.{list_any}
 use Rattle.machine.specs.Saved.{IsLost, IsSaved, LosesDevice}
@@ -97,6 +99,24 @@ module _ (old new : Kernel) (before after : Option (List ℕ)) (goes : old.halte
     goes-unhalted : (count : ℕ) (result : Result (Unit {0}) Halt) → PieceGoes old new count before after rising result → result ≡ Err Halted → ⊥
     goes-unhalted count (Err Halted) piece is = piece.last
     goes-unhalted count r piece is = cc
+
+    -- where it stops it is at the last of them
+    pub halts-last : (count : ℕ) (result : Result (Unit {0}) Halt) → PieceGoes old new count before after rising result → HaltsLast (told old false) (told new failed) before after count result
+    halts-last count (Ok u) piece = tt
+    halts-last count (Err (InitEnded status)) piece = record { done = piece.done; last = piece.counts; goes = piece.went.makes.halts; leaves = tt }
+    halts-last count (Err Device) piece = record {
+      done = piece.done;
+      last = piece.counts;
+      goes = piece.went.makes.halts;
+      leaves = rw (append-nil (stepped old piece.done).bytes) at (Appends-trans before before after (stepped old piece.done).bytes [] piece.went.makes.printed piece.last);
+    }
+    halts-last count (Err Console) piece = record {
+      done = piece.done;
+      last = piece.counts;
+      goes = piece.went.makes.halts;
+      leaves = ap (λ (t : FileTree). t.files) piece.leaves ∙ ap (λ (s : State). s.files) piece.went.makes.state;
+    }
+    halts-last count (Err Halted) piece = absurd piece.last
 
     -- what was done in one go
     pub advance-gives : (most count : ℕ) (result : Result (Unit {0}) Halt) → old.tree.failed ≡ false → failed ≡ fails result → PieceGives old new most before after rising count result

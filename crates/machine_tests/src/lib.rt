@@ -6,6 +6,8 @@ mod answers;
 #[cfg(test)]
 mod booting;
 #[cfg(test)]
+mod computing;
+#[cfg(test)]
 mod copying;
 #[cfg(test)]
 mod execs;

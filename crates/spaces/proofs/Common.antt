@@ -51,6 +51,7 @@ pub use Rattle.vm.specs.declared.VmFault.{VmFault}
 pub use Rattle.hart.specs.Runs.{Point, DoesOne, point_of}
 pub use Rattle.spaces.specs.Ends.{IsOpen}
 pub use Rattle.spaces.specs.Instructions.{Does}
+pub use Rattle.hart.specs.Stops.{EndsAt, IsBehind, IsPast, is_stop}
 unfoldable pub use Rattle.spaces.specs.Instructions.{Advances}
 pub use Rattle.spaces.specs.Spaces.{bytes_in, computed, forked, frames_in, grown, has_pipe, has_space, no_pages, shrunk, Spaces, SpaceView, taken_frames, Traps, view_at, with_pipe, with_place, with_view, Executes, copied}
 pub use Rattle.spaces.specs.View.{frames_at, IsActive, IsSpaces, pipe_frames, pipe_shown, Runs, shown, spaces_of, view_with}

@@ -4,6 +4,7 @@ use Rattle.spaces.proofs.Common.{append-nil, get_or-set_other, get_or-set_same, 
 use Rattle.spaces.proofs.Common.{taken_frames, with_view, with_pipe, with_place, page_frames, slot, taken, Memory, shared_page, zero_page, ceil_div, ◌%◌, ◌/◌, drop, Err, subst, take-append-drop, length-append, IfNone, IfSome, Advances}
 use Rattle.spaces.proofs.Common.{Does, Traps, computed, cycle, Trap, Change, Computed, Bytes, Nothing, Page, write_bytes, write_from, memory_after, Executes, All, if◌then◌else◌, nat_le, option_map, Bool, before_nul, path_at, reach}
 use Rattle.spaces.proofs.Common.{short_path, string_at, Load, short_string, string_in, Result, Ok, OnFalse, OnTrue, ◌↔◌, IsErrOf, OnErr, OnOk, is_ok, VmFault}
+use Rattle.spaces.proofs.Common.{cases_lt, inl, inr, EndsAt, IsBehind, IsPast, is_stop}
 use Rattle.arrayvec.proofs.ArrayVecLemmas.{items-with_items}
 use Rattle.unixmodel.specs.Plan.{stack_marks}
 use Rattle.unixmodel.specs.ProcessCalls.{with_pages}
@@ -119,40 +120,40 @@ some-pipe (Some bytes) e = refl
 
 -- ---- one after the other
 
-pub advances-none : (s : Spaces) (at : ℕ) → Advances 0 s at s
+pub advances-none : (stops : List ℕ) (s : Spaces) (at : ℕ) → Advances stops 0 s at s
 unfolding Advances
-advances-none s at = refl
+advances-none stops s at = refl
 
-pub advances-same : (s : Spaces) (at : ℕ) (new : Spaces) → Advances 0 s at new → new ≡ s
+pub advances-same : (stops : List ℕ) (s : Spaces) (at : ℕ) (new : Spaces) → Advances stops 0 s at new → new ≡ s
 unfolding Advances
-advances-same s at new same = same
+advances-same stops s at new same = same
 
-pub advances-more : (n : ℕ) (old mid new : Spaces) (at : ℕ) → Advances n old at mid → Does mid at new → Advances (suc n) old at new
+pub advances-more : (stops : List ℕ) (n : ℕ) (old mid new : Spaces) (at : ℕ) → Advances stops n old at mid → Does mid at new → IsPast stops n mid.pc → Advances stops (suc n) old at new
 unfolding Advances
-advances-more n old mid new at first does = (mid, first, does)
+advances-more stops n old mid new at first does past = (mid, first, does, past)
 
-pub advances-last : (n : ℕ) (old new : Spaces) (at : ℕ) → Advances (suc n) old at new → (mid : Spaces) × Advances n old at mid × Does mid at new
+pub advances-last : (stops : List ℕ) (n : ℕ) (old new : Spaces) (at : ℕ) → Advances stops (suc n) old at new → (mid : Spaces) × Advances stops n old at mid × Does mid at new × IsPast stops n mid.pc
 unfolding Advances
-advances-last n old new at all = all
+advances-last stops n old new at all = all
 
 -- of the process of the active place
-abbrev pub AdvancesTo : ℕ → Option ℕ → Spaces → Spaces → Type 0
-AdvancesTo n o old now = IfSome o (λ at. Advances n old at now)
+abbrev pub AdvancesTo : List ℕ → ℕ → Option ℕ → Spaces → Spaces → Type 0
+AdvancesTo stops n o old now = IfSome o (λ at. Advances stops n old at now)
 
-pub begins : (s : Spaces) (o : Option ℕ) → AdvancesTo 0 o s s
-begins s None = tt
-begins s (Some at) = advances-none s at
+pub begins : (stops : List ℕ) (s : Spaces) (o : Option ℕ) → AdvancesTo stops 0 o s s
+begins stops s None = tt
+begins stops s (Some at) = advances-none stops s at
 
 -- an instruction more
-pub goes-on : (n : ℕ) (old mid new : Spaces) (o : Option ℕ) (result : Option Trap) → is_some o ≡ true → mid.active ≡ o → AdvancesTo n o old mid → result ≡ None
-    → IfNone result (IfSome mid.active (Executes mid new)) → (new.active ≡ o) × AdvancesTo (n + 1) o old new
-goes-on n old mid new o (Some t) some active first none done = absurd (cc)
-goes-on n old mid new None None some active first none done = absurd (cc)
-goes-on n old mid new (Some at) None some active first none done =
+pub goes-on : (stops : List ℕ) (n : ℕ) (old mid new : Spaces) (o : Option ℕ) (result : Option Trap) → is_some o ≡ true → mid.active ≡ o → AdvancesTo stops n o old mid → IsPast stops n mid.pc → result ≡ None
+    → IfNone result (IfSome mid.active (Executes mid new)) → (new.active ≡ o) × AdvancesTo stops (n + 1) o old new
+goes-on stops n old mid new o (Some t) some active first past none done = absurd (cc)
+goes-on stops n old mid new None None some active first past none done = absurd (cc)
+goes-on stops n old mid new (Some at) None some active first past none done =
     let one : suc n ≡ n + 1 = omega arith in
     let does = subst (λ (a : Option ℕ). IfSome a (Executes mid new)) active done in
-    let all = advances-more n old mid new at first (record { done = does.0; means = does.1; leaves = does.2 }) in
-    (ap (λ (s : Spaces). s.active) does.2 ∙ active, subst (λ (k : ℕ). Advances k old at new) one all)
+    let all = advances-more stops n old mid new at first (record { done = does.0; means = does.1; leaves = does.2 }) past in
+    (ap (λ (s : Spaces). s.active) does.2 ∙ active, subst (λ (k : ℕ). Advances stops k old at new) one all)
 
 -- ---- the frames
 
@@ -185,35 +186,58 @@ computed-frames s at d h there =
 
 -- ---- many behind many
 
-advances-sum : (a b c : ℕ) (old mid new : Spaces) (at : ℕ) → a + b ≡ c → Advances a old at mid → Advances b mid at new → Advances c old at new
+-- after some and some more
+past-sum : (stops : List ℕ) (a b : ℕ) (mid new : Spaces) (at : ℕ) → Advances stops b mid at new → IsPast stops a mid.pc → IsPast stops b new.pc → IsPast stops (a + b) new.pc
+past-sum stops a b mid new at all before past more = elim (cases_lt 0 b) [
+  | inl some ↦ past some
+  | inr least ↦
+      let none : b ≡ 0 = omega (arith, least) in
+      let same = advances-same stops mid at new (subst (λ n. Advances stops n mid at new) none all) in
+      rw same (before (omega (arith, more, none)))
+]
+
+advances-sum : (stops : List ℕ) (a b c : ℕ) (old mid new : Spaces) (at : ℕ) → a + b ≡ c → IsPast stops a mid.pc → Advances stops a old at mid → Advances stops b mid at new → Advances stops c old at new
 unfolding Advances
-advances-sum a zero c old mid new at sum first same =
+advances-sum stops a zero c old mid new at sum past first same =
     let all : a ≡ c = omega (arith, sum) in
     rw (same, ← all) first
-advances-sum a (suc b) c old mid new at sum first (last, before, does) =
+advances-sum stops a (suc b) c old mid new at sum past first (last, before, does, behind) =
     let all : suc (a + b) ≡ c = omega (arith, sum) in
-    rw (← all) (last, advances-sum a b (a + b) old mid last at refl first before, does)
+    rw (← all) (last, advances-sum stops a b (a + b) old mid last at refl past first before, does, past-sum stops a b mid last at before past behind)
 
-pub advances-on : (a b c : ℕ) (o : Option ℕ) (old mid new : Spaces) → a + b ≡ c → mid.active ≡ o → AdvancesTo a o old mid → AdvancesTo b mid.active mid new → AdvancesTo c o old new
-advances-on a b c None old mid new sum active first last = tt
-advances-on a b c (Some at) old mid new sum active first last =
-    let there = subst (λ (o : Option ℕ). AdvancesTo b o mid new) active last in
-    advances-sum a b c old mid new at sum first there
+-- after a run it is at no stop
+pub behind-past : (stops : List ℕ) {done old new : ℕ} → IsBehind stops done old new → IsPast stops done new
+behind-past stops (inl go) more = go.1
+behind-past stops (inr none) more = absurd (let e = none.0 in omega (arith, e, more))
+
+pub still-past : (stops : List ℕ) {done old new : ℕ} → is_stop stops old ≡ false → IsBehind stops done old new → is_stop stops new ≡ false
+still-past stops not (inl go) = go.1
+still-past stops not (inr none) = rw none.1 not
+
+pub advances-on : (stops : List ℕ) (a b c : ℕ) (o : Option ℕ) (old mid new : Spaces) → a + b ≡ c → mid.active ≡ o → IsPast stops a mid.pc → AdvancesTo stops a o old mid → AdvancesTo stops b mid.active mid new → AdvancesTo stops c o old new
+advances-on stops a b c None old mid new sum active past first last = tt
+advances-on stops a b c (Some at) old mid new sum active past first last =
+    let there = subst (λ (o : Option ℕ). AdvancesTo stops b o mid new) active last in
+    advances-sum stops a b c old mid new at sum past first there
 
 -- none behind them is, for a trap
-pub stops-at : (n : ℕ) (o : Option ℕ) (old mid new : Spaces) (t : Trap) → is_some o ≡ true → mid.active ≡ o → AdvancesTo n o old mid → IfSome mid.active (λ at. Traps mid new at t)
-    → AdvancesTo n o old new × IfSome o (λ at. cycle new.registers new.pc (view_at new at).memory ≡ Err t)
-stops-at n None old mid new t some active first traps = absurd (cc)
-stops-at n (Some at) old mid new t some active first traps =
+pub stops-at : (stops : List ℕ) (n : ℕ) (o : Option ℕ) (old mid new : Spaces) (t : Trap) → is_some o ≡ true → mid.active ≡ o → AdvancesTo stops n o old mid → IfSome mid.active (λ at. Traps mid new at t)
+    → AdvancesTo stops n o old new × IfSome o (λ at. cycle new.registers new.pc (view_at new at).memory ≡ Err t)
+stops-at stops n None old mid new t some active first traps = absurd (cc)
+stops-at stops n (Some at) old mid new t some active first traps =
     let here = subst (λ (o : Option ℕ). IfSome o (λ at. Traps mid new at t)) active traps in
     rw here.1 (first, here.0)
 
 -- ---- what a run told of its end
 
 -- what the rest of a run told of its end, told of all
-pub all-behind : (o : Option Trap) (done more count : ℕ) → done ≤ count → IfNone o (more ≡ count - done) → IfNone o (done + more ≡ count)
-all-behind None done more count within all = omega (arith, within, all)
-all-behind (Some t) done more count within all = tt
+pub ends-behind : (stops : List ℕ) (done more count pc : ℕ) → done ≤ count → EndsAt stops (count - done) more pc → EndsAt stops count (done + more) pc
+ends-behind stops done more count pc within (inl all) = inl (omega (arith, within, all))
+ends-behind stops done more count pc within (inr at) = inr (let some = at.0 in omega (arith, some), at.1)
+
+pub all-behind : (stops : List ℕ) (o : Option Trap) (done more count pc : ℕ) → done ≤ count → IfNone o (EndsAt stops (count - done) more pc) → IfNone o (EndsAt stops count (done + more) pc)
+all-behind stops None done more count pc within all = ends-behind stops done more count pc within all
+all-behind stops (Some t) done more count pc within all = tt
 
 pub trap-behind : (o : Option Trap) (done more count : ℕ) (a b : Option ℕ) (P : Trap → ℕ → Type 0) → b ≡ a → IfSome o (λ t. (more < count - done) × IfSome b (P t)) → IfSome o (λ t. (done + more < count) × IfSome a (P t))
 trap-behind None done more count a b P same traps = tt

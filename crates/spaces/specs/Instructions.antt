@@ -1,5 +1,6 @@
 -- Many instructions, one after the other.
-use Rattle.std.specs.Prelude.{Ok, zero, suc, ℕ, ◌≡◌}
+use Rattle.std.specs.Prelude.{List, Ok, zero, suc, ℕ, ◌≡◌}
+use Rattle.hart.specs.Stops.{IsPast}
 use Rattle.spaces.specs.Spaces.{Spaces, computed, view_at}
 use Rattle.unixmodel.specs.Cycle.{cycle}
 use Rattle.unixmodel.specs.Meaning.{Computed}
@@ -10,7 +11,7 @@ pub record Does (old : Spaces) (at : ℕ) (new : Spaces) : Type 0 where
   pub means : cycle old.registers old.pc (view_at old at).memory ≡ Ok done
   pub leaves : new ≡ computed old at done
 
--- so many are, one after the other
-unfoldable pub Advances : ℕ → Spaces → ℕ → Spaces → Type 0
-Advances zero old at new = new ≡ old
-Advances (suc n) old at new = (mid : Spaces) × Advances n old at mid × Does mid at new
+-- so many are, one after the other, and none after the first begins at a stop
+unfoldable pub Advances : List ℕ → ℕ → Spaces → ℕ → Spaces → Type 0
+Advances stops zero old at new = new ≡ old
+Advances stops (suc n) old at new = (mid : Spaces) × Advances stops n old at mid × Does mid at new × IsPast stops n mid.pc

@@ -1,12 +1,14 @@
 //! Many instructions of the process of the active place.
 ghost use Rattle.std.specs.Prelude.{◌≡◌, ◌<◌, ◌≤◌, Err, IfNone, IfSome, is_some, true};
 ghost use Rattle.std.specs.Bool.{OnFalse};
+ghost use Rattle.hart.specs.Stops.{EndsAt, IsBehind, is_stop};
 ghost use Rattle.spaces.specs.Instructions.{Advances};
 ghost use Rattle.spaces.specs.Spaces.{Executes, Traps, view_at};
 ghost use Rattle.unixmodel.specs.declared.trap.Cause.TheVariants.{StorePageFault};
 ghost use Rattle.unixmodel.specs.Cycle.{cycle};
 
 use crate::Spaces;
+use hart::Stops;
 use sv39::Translate;
 use unixmodel::trap::{Cause, Trap};
 
@@ -21,16 +23,25 @@ fn is_store_fault(cause: Cause) -> bool
 }
 
 impl<T: Translate> Spaces<T> {
-    // Does at most so many instructions in the memory of the active place, up to the first that its pages don't let through: how many,
-    // and what that one traps into. A store that faulted may be one to a closed page, which `execute` does.
+    // Whether the pc is at a stop.
     #[inline(always)]
-    fn run(&mut self, count: u32) -> (u32, Option<Trap>)
+    fn is_at<S: Stops>(&self, stops: &S) -> bool
+        ensures { result ≡ is_stop (S.addresses stops.now) self.now.pc }
+    {
+        stops.has(self.hart.pc)
+    }
+
+    // Does at most so many instructions in the memory of the active place, up to the first that its pages don't let through, and no further
+    // than to a stop: how many, and what that one traps into. A store that faulted may be one to a closed page, which `execute` does.
+    #[inline(always)]
+    fn run<S: Stops>(&mut self, count: u32, stops: &S) -> (u32, Option<Trap>)
         requires { is_some self.old.active ≡ true }
-        ensures done { IfSome self.old.active (λ at. Advances result.0 self.old at self.new) }
+        ensures done { IfSome self.old.active (λ at. Advances (S.addresses stops.now) result.0 self.old at self.new) }
         ensures active { self.new.active ≡ self.old.active }
         ensures within { result.0 ≤ count }
-        ensures all { IfNone result.1 (result.0 ≡ count) }
+        ensures ends { IfNone result.1 (EndsAt (S.addresses stops.now) count result.0 self.new.pc) }
         ensures some { IfSome result.1 (λ t. result.0 < count) }
+        ensures behind { IfSome result.1 (λ t. IsBehind (S.addresses stops.now) result.0 self.old.pc self.new.pc) }
         ensures trap { IfSome result.1 (λ t. (t.cause ≡ StorePageFault → ⊥) →
             IfSome self.old.active (λ at. cycle self.new.registers self.new.pc (view_at self.new at).memory ≡ Err t)) }
     {
@@ -40,6 +51,7 @@ impl<T: Translate> Spaces<T> {
             &mut self.translator,
             &mut self.decoded,
             count,
+            stops,
         )
     }
 
@@ -53,23 +65,23 @@ impl<T: Translate> Spaces<T> {
         self.execute()
     }
 
-    /// Does so many instructions in the memory of the active place, up to the first that isn't done: how many were done, and why
-    /// the next one isn't. Each is done as `execute` does it.
+    /// Does so many instructions in the memory of the active place, up to the first that isn't done, and no further than to a stop after
+    /// the first of them: how many were done, and why the next one isn't. Each is done as `execute` does it.
     #[inline(always)]
-    pub fn execute_many(&mut self, count: u32) -> (u32, Option<Trap>)
+    pub fn execute_many<S: Stops>(&mut self, count: u32, stops: &S) -> (u32, Option<Trap>)
         requires { is_some self.old.active ≡ true }
-        ensures done { IfSome self.old.active (λ at. Advances result.0 self.old at self.new) }
+        ensures done { IfSome self.old.active (λ at. Advances (S.addresses stops.now) result.0 self.old at self.new) }
         ensures within { result.0 ≤ count }
-        ensures all { IfNone result.1 (result.0 ≡ count) }
+        ensures ends { IfNone result.1 (EndsAt (S.addresses stops.now) count result.0 self.new.pc) }
         ensures trap { IfSome result.1 (λ t. (result.0 < count) ×
             IfSome self.old.active (λ at. cycle self.new.registers self.new.pc (view_at self.new at).memory ≡ Err t)) }
     {
-        let (done, stopped) = self.run(count);
+        let (done, stopped) = self.run(count, stops);
         let Some(Trap { cause, address }) = stopped else {
-            return (count, None);
+            return (done, None);
         };
         if is_store_fault(cause) {
-            let (more, stopped) = self.execute_behind(count - done);
+            let (more, stopped) = self.execute_behind(count - done, stops);
             return (done + more, stopped);
         }
         (done, Some(Trap { cause, address }))
@@ -78,11 +90,11 @@ impl<T: Translate> Spaces<T> {
     // The same, of which the first may be a store to a closed page. It is out of line: few instructions need it, and the way from
     // a call to the next is short.
     #[inline(never)]
-    fn execute_behind(&mut self, count: u32) -> (u32, Option<Trap>)
+    fn execute_behind<S: Stops>(&mut self, count: u32, stops: &S) -> (u32, Option<Trap>)
         requires { is_some self.old.active ≡ true }
-        ensures done { IfSome self.old.active (λ at. Advances result.0 self.old at self.new) }
+        ensures done { IfSome self.old.active (λ at. Advances (S.addresses stops.now) result.0 self.old at self.new) }
         ensures within { result.0 ≤ count }
-        ensures all { IfNone result.1 (result.0 ≡ count) }
+        ensures ends { IfNone result.1 (EndsAt (S.addresses stops.now) count result.0 self.new.pc) }
         ensures trap { IfSome result.1 (λ t. (result.0 < count) ×
             IfSome self.old.active (λ at. cycle self.new.registers self.new.pc (view_at self.new at).memory ≡ Err t)) }
     {
@@ -92,10 +104,13 @@ impl<T: Translate> Spaces<T> {
                 return (count - left, Some(trap));
             }
             left -= 1;
-            let (done, stopped) = self.run(left);
+            if self.is_at(stops) {
+                return (count - left, None);
+            }
+            let (done, stopped) = self.run(left, stops);
             left -= done;
             let Some(trap) = stopped else {
-                return (count, None);
+                return (count - left, None);
             };
             if !is_store_fault(trap.cause) {
                 return (count - left, Some(trap));

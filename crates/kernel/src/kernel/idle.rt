@@ -3,7 +3,7 @@ ghost use Rattle.std.specs.Prelude.{◌≡◌, None};
 ghost use Rattle.std.specs.List.{list_any};
 ghost use Rattle.files.specs.Pipes.{IsPiped};
 ghost use Rattle.files.specs.Places.{opens_of};
-ghost use Rattle.kernel.specs.Idle.{is_anyone_asleep, is_idle, is_sleep, is_sleeping_mode};
+ghost use Rattle.kernel.specs.Idle.{is_anyone_asleep, is_idle, is_sleep, is_sleeping_mode, running_pid};
 ghost use Rattle.kernel.specs.Kernel.{state_of};
 ghost use Rattle.kernel.specs.Ready.{awaited, seen};
 ghost use Rattle.proc.specs.declared.process.Process.{Process};
@@ -57,6 +57,17 @@ impl<D: BlockDev, T: Translate> Kernel<D, T> {
                 ensures { result ≡ ready (seen (awaited now.entry) places.now) at }
             { now.is_ready(places, at) },
         )
+    }
+
+    /// The pid of the process that runs.
+    pub fn running(&self) -> Option<u32>
+        ensures { result ≡ running_pid (state_of self.now) }
+    {
+        self.is_sound();
+        match self.active() {
+            None => None,
+            Some(at) => Some(self.pid(at)),
+        }
     }
 
     /// Whether no process runs and none is ready, so that a step changes nothing.

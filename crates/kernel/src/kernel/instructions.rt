@@ -1,23 +1,30 @@
 //! Many instructions of the running process.
 ghost use Rattle.std.specs.Prelude.{◌≡◌, ◌<◌, ◌≤◌, Err, IfNone, IfSome, Some};
+ghost use Rattle.hart.specs.Stops.{EndsAt};
 ghost use Rattle.spaces.specs.Instructions.{Advances};
 ghost use Rattle.spaces.specs.Spaces.{cycle_at};
 
 use crate::kernel::Kernel;
 use blockdev::BlockDev;
+use hart::Stops;
 use sv39::Translate;
 use unixmodel::trap::Trap;
 
 impl<D: BlockDev, T: Translate> Kernel<D, T> {
-    /// Does so many instructions of the running process, up to the first that isn't done: how many were done, and why the next
-    /// one isn't.
-    pub fn execute_many(&mut self, at: usize, count: u32) -> (u32, Option<Trap>)
+    /// Does so many instructions of the running process, up to the first that isn't done, and no further than to a stop after the first
+    /// of them: how many were done, and why the next one isn't.
+    pub fn execute_many<S: Stops>(
+        &mut self,
+        at: usize,
+        count: u32,
+        stops: &S,
+    ) -> (u32, Option<Trap>)
         requires { self.old.spaces.active ≡ Some at }
-        ensures done { Advances result.0 self.old.spaces at self.new.spaces × (self.new ≡ record self.old { spaces = self.new.spaces }) }
+        ensures done { Advances (S.addresses stops.now) result.0 self.old.spaces at self.new.spaces × (self.new ≡ record self.old { spaces = self.new.spaces }) }
         ensures within { result.0 ≤ count }
-        ensures all { IfNone result.1 (result.0 ≡ count) }
+        ensures ends { IfNone result.1 (EndsAt (S.addresses stops.now) count result.0 self.new.spaces.pc) }
         ensures trap { IfSome result.1 (λ t. (result.0 < count) × (cycle_at self.new.spaces at ≡ Err t)) }
     {
-        self.spaces.execute_many(count)
+        self.spaces.execute_many(count, stops)
     }
 }

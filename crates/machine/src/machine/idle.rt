@@ -1,12 +1,19 @@
-//! Whether a machine has anything to do.
+//! Who runs, and whether a machine has anything to do.
 ghost use Rattle.std.specs.Prelude.{◌≡◌};
-ghost use Rattle.kernel.specs.Idle.{is_anyone_asleep, is_idle};
+ghost use Rattle.kernel.specs.Idle.{is_anyone_asleep, is_idle, running_pid};
 
 use crate::machine::Machine;
 use blockdev::BlockDev;
 use sv39::Translate;
 
 impl<D: BlockDev, T: Translate> Machine<D, T> {
+    /// The pid of the process that runs; `None` where none does.
+    pub fn running(&self) -> Option<u32>
+        ensures { result ≡ running_pid self.now.state }
+    {
+        self.kernel.running()
+    }
+
     /// Whether no process runs and none is ready, so that a step changes nothing.
     pub fn is_idle(&self) -> bool
         ensures { result ≡ is_idle self.now.state }

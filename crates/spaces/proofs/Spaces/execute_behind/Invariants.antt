@@ -1,4 +1,5 @@
 use Rattle.std.proofs.Common.{◌≡◌, ◌≤◌, ◌-◌}
+use Rattle.hart.specs.Stops.{IsPast}
 use Rattle.spaces.proofs.SpacesLemmas.{AdvancesTo}
 use Rattle.spaces.proofs.Spaces.execute_behind.Given as goal
 
@@ -7,7 +8,8 @@ abbrev pub invariant-loop-left : goal.invariant-loop-left
 invariant-loop-left g l = record {
   bounded : l.left ≤ l.count;
   active : l.self.active ≡ l.fn.self.active;
-  advances : AdvancesTo (l.count - l.left) l.fn.self.active l.fn.self l.self;
+  past : IsPast (g.S.Stops.addresses l.stops) (l.count - l.left) l.self.pc;
+  advances : AdvancesTo (g.S.Stops.addresses l.stops) (l.count - l.left) l.fn.self.active l.fn.self l.self;
 }
 
 abbrev pub decreases-loop-left : goal.decreases-loop-left

@@ -1,20 +1,16 @@
-use Rattle.spaces.proofs.Common.{◌≡◌, ◌+◌, Err, refl, subst, view_at, cycle}
-use Rattle.spaces.proofs.SpacesLemmas.{AdvancesTo, advances-on, all-behind, trap-behind}
+use Rattle.spaces.proofs.Common.{◌≡◌, ◌+◌, Err, refl, view_at, cycle}
+use Rattle.spaces.proofs.SpacesLemmas.{advances-on, all-behind, behind-past, trap-behind}
 use Rattle.spaces.proofs.Spaces.execute_many.Goals as goal
-
--- all are done
-pub returns-in_default-clause-done : goal.returns-in_default-clause-done
-returns-in_default-clause-done g c =
-    subst (λ n. AdvancesTo n c.args.self.now.active c.args.self.now c.run-done.new.self) (rw c.in_default.is at c.run-done.ensures.all) c.run-done.ensures.done
 
 -- a store faulted: it is done, and those behind it
 pub returns-then-is_store_fault-clause-done : goal.returns-then-is_store_fault-clause-done
 returns-then-is_store_fault-clause-done g c =
-    advances-on c.run-done.result.0 c.execute_behind-more.result.0 (c.run-done.result.0 + c.execute_behind-more.result.0) c.args.self.now.active c.args.self.now c.run-done.new.self c.execute_behind-more.new.self
-    refl c.run-done.ensures.active c.run-done.ensures.done c.execute_behind-more.ensures.done
+    advances-on _ c.run-done.result.0 c.execute_behind-more.result.0 (c.run-done.result.0 + c.execute_behind-more.result.0) c.args.self.now.active c.args.self.now c.run-done.new.self c.execute_behind-more.new.self
+    refl c.run-done.ensures.active (behind-past _ (rw c.in-Some.is at c.run-done.ensures.behind)) c.run-done.ensures.done c.execute_behind-more.ensures.done
 
-pub returns-then-is_store_fault-clause-all : goal.returns-then-is_store_fault-clause-all
-returns-then-is_store_fault-clause-all g c = all-behind c.execute_behind-more.result.1 c.run-done.result.0 c.execute_behind-more.result.0 c.args.count c.run-done.ensures.within c.execute_behind-more.ensures.all
+pub returns-then-is_store_fault-clause-ends : goal.returns-then-is_store_fault-clause-ends
+returns-then-is_store_fault-clause-ends g c =
+    all-behind _ c.execute_behind-more.result.1 c.run-done.result.0 c.execute_behind-more.result.0 c.args.count c.execute_behind-more.new.self.pc c.run-done.ensures.within c.execute_behind-more.ensures.ends
 
 pub returns-then-is_store_fault-clause-trap : goal.returns-then-is_store_fault-clause-trap
 returns-then-is_store_fault-clause-trap g c =

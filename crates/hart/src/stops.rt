@@ -1,0 +1,80 @@
+//! Addresses at which a run of many instructions stops.
+ghost use Rattle.std.specs.Prelude.{ℕ, List, ◌≡◌, ◌%◌, ◌<◌, ◌≤◌};
+ghost use Rattle.hart.specs.Stops.{IsClear, is_stop, pc_at};
+
+/// Addresses at which a run stops. In contracts they are a list.
+pub trait Stops {
+    ghost addresses: { Self → List ℕ };
+
+    /// Whether an address is one of them.
+    fn has(&self, address: u64) -> bool
+        ensures { result ≡ is_stop (addresses self.now) address };
+
+    /// Up to where the places of a page after one are none of them; the page is that of an address.
+    fn clear_to(&self, base: u64, k: usize) -> usize
+        requires place { k < 1024 }
+        requires page { base % 4096 ≡ 0 }
+        ensures within { (k < result) × (result ≤ 1024) }
+        ensures clear { IsClear (addresses self.now) base k result };
+}
+
+/// None.
+#[derive(Clone, Copy)]
+pub struct NoStops;
+
+impl Stops for NoStops {
+    ghost use Rattle.std.specs.Prelude.{[]};
+
+    ghost addresses = { λ _. [] };
+
+    #[inline(always)]
+    fn has(&self, _address: u64) -> bool {
+        false
+    }
+
+    #[inline(always)]
+    fn clear_to(&self, _base: u64, _k: usize) -> usize {
+        1024
+    }
+}
+
+/// Those of a list.
+#[derive(Clone, Copy)]
+pub struct Breakpoints<'a> {
+    /// The addresses, in any order.
+    pub addresses: &'a [u64],
+}
+
+// Up to where the places of a page after one are not that of an address, and no further than to an end.
+#[inline]
+fn clear_of(address: u64, base: u64, k: usize, end: usize) -> usize
+    requires page { base % 4096 ≡ 0 }
+    requires place { (k < end) × (end ≤ 1024) }
+    ensures within { (k < result) × (result ≤ end) }
+    ensures clear { (j : ℕ) → k < j → j < result → address ≡ pc_at base j → ⊥ }
+{
+    if address / 4096 * 4096 != base {
+        return end;
+    }
+    let place = (address % 4096 / 4) as usize;
+    if place <= k || place >= end {
+        return end;
+    }
+    place
+}
+
+impl Stops for Breakpoints<'_> {
+    ghost addresses = { λ b. b.addresses.now };
+
+    fn has(&self, address: u64) -> bool {
+        self.addresses.contains(&address)
+    }
+
+    fn clear_to(&self, base: u64, k: usize) -> usize {
+        let mut end = 1024;
+        for address in self.addresses {
+            end = clear_of(*address, base, k, end);
+        }
+        end
+    }
+}
