@@ -1,0 +1,130 @@
+//! A text without its comments: blanks are in their place, so lines and columns stay.
+
+use std::alloc::{AllocError, Global};
+
+/// What the reader is in.
+#[derive(Clone, Copy)]
+enum Mode {
+    Code,
+    /// After a slash.
+    Slash,
+    /// In a string, and after a backslash there.
+    Text,
+    TextEscape,
+    /// After an apostrophe, after a backslash there, and after the character.
+    Character,
+    CharacterEscape,
+    Closing,
+    /// In a comment that the line ends.
+    Line,
+    /// In a comment, and after an asterisk there.
+    Block,
+    Star,
+}
+
+// The mode after a character outside of comments and strings.
+fn in_code(c: u8) -> Mode {
+    match c {
+        b'/' => Mode::Slash,
+        b'#' => Mode::Line,
+        b'"' => Mode::Text,
+        b'\'' => Mode::Character,
+        _ => Mode::Code,
+    }
+}
+
+fn in_text(c: u8) -> Mode {
+    match c {
+        b'"' | b'\n' => Mode::Code,
+        b'\\' => Mode::TextEscape,
+        _ => Mode::Text,
+    }
+}
+
+fn after_slash(c: u8) -> Mode {
+    match c {
+        b'/' => Mode::Line,
+        b'*' => Mode::Block,
+        _ => in_code(c),
+    }
+}
+
+fn after_apostrophe(c: u8) -> Mode {
+    match c {
+        b'\\' => Mode::CharacterEscape,
+        b'\n' => Mode::Code,
+        _ => Mode::Closing,
+    }
+}
+
+fn after_character(c: u8) -> Mode {
+    match c {
+        b'\'' => Mode::Code,
+        _ => in_code(c),
+    }
+}
+
+fn in_line(c: u8) -> Mode {
+    match c {
+        b'\n' => Mode::Code,
+        _ => Mode::Line,
+    }
+}
+
+fn in_block(c: u8) -> Mode {
+    match c {
+        b'*' => Mode::Star,
+        _ => Mode::Block,
+    }
+}
+
+fn after_star(c: u8) -> Mode {
+    match c {
+        b'/' => Mode::Code,
+        b'*' => Mode::Star,
+        _ => Mode::Block,
+    }
+}
+
+fn mode_after(mode: Mode, c: u8) -> Mode {
+    match mode {
+        Mode::Code => in_code(c),
+        Mode::Slash => after_slash(c),
+        Mode::Text => in_text(c),
+        Mode::TextEscape => Mode::Text,
+        Mode::Character => after_apostrophe(c),
+        Mode::CharacterEscape => Mode::Closing,
+        Mode::Closing => after_character(c),
+        Mode::Line => in_line(c),
+        Mode::Block => in_block(c),
+        Mode::Star => after_star(c),
+    }
+}
+
+// Whether a character is in a comment: the mode before it is, or it begins one.
+fn is_comment(before: Mode, after: Mode) -> bool {
+    matches!(before, Mode::Line | Mode::Block | Mode::Star)
+        || matches!(after, Mode::Line | Mode::Block)
+}
+
+// The character that stays: a line's end always does.
+fn kept(c: u8, is_comment: bool) -> u8 {
+    if is_comment && c != b'\n' { b' ' } else { c }
+}
+
+/// A text with blanks in place of its comments.
+pub fn without_comments(alloc: Global, text: &[u8]) -> Result<Vec<u8>, AllocError> {
+    let mut kept_text = Vec::new(alloc);
+    let mut mode = Mode::Code;
+    for c in text {
+        let next = mode_after(mode, *c);
+        let is_comment = is_comment(mode, next);
+        if is_comment && matches!(mode, Mode::Slash) {
+            let _slash = kept_text.pop();
+            kept_text.push(b' ')?;
+        }
+        kept_text.push(kept(*c, is_comment))?;
+        mode = next;
+    }
+    Ok(kept_text)
+}

@@ -1,0 +1,84 @@
+//! The expanded text of each section.
+
+use crate::layout::index_of;
+use crate::registers::Register;
+use crate::value::Section;
+use itoa::Buffer;
+use std::alloc::{AllocError, Global};
+
+/// The text of the sections, written line by line.
+#[derive(Drop)]
+pub struct Output {
+    texts: [Vec<u8>; 5],
+    is_on: bool,
+    section: Section,
+}
+
+impl Output {
+    /// Nothing yet, and what is put isn't kept until it is switched on.
+    pub fn new(alloc: Global) -> Output {
+        Output {
+            texts: [
+                Vec::new(alloc),
+                Vec::new(alloc),
+                Vec::new(alloc),
+                Vec::new(alloc),
+                Vec::new(alloc),
+            ],
+            is_on: false,
+            section: Section::Text,
+        }
+    }
+
+    pub fn switch_on(&mut self) {
+        self.is_on = true;
+    }
+
+    pub fn go_to(&mut self, section: Section) {
+        self.section = section;
+    }
+
+    /// What was put into a section.
+    pub fn text(&self, section: Section) -> &[u8] {
+        &self.texts[index_of(section)]
+    }
+
+    /// Adds a text.
+    pub fn put(&mut self, text: &[u8]) -> Result<(), AllocError> {
+        if !self.is_on {
+            return Ok(());
+        }
+        self.texts[index_of(self.section)].extend_from_slice(text)
+    }
+
+    pub fn number(&mut self, number: i64) -> Result<(), AllocError> {
+        let mut buffer = Buffer::new();
+        self.put(buffer.format(number).as_bytes())
+    }
+
+    /// Begins a line with a word.
+    pub fn word(&mut self, word: &str) -> Result<(), AllocError> {
+        self.put(b"    ")?;
+        self.put(word.as_bytes())?;
+        self.put(b" ")
+    }
+
+    pub fn comma(&mut self) -> Result<(), AllocError> {
+        self.put(b", ")
+    }
+
+    pub fn end(&mut self) -> Result<(), AllocError> {
+        self.put(b"\n")
+    }
+
+    pub fn register(&mut self, register: Register) -> Result<(), AllocError> {
+        self.put(register.name().as_bytes())
+    }
+
+    /// A line of a word and a number.
+    pub fn counted(&mut self, word: &str, number: i64) -> Result<(), AllocError> {
+        self.word(word)?;
+        self.number(number)?;
+        self.end()
+    }
+}
