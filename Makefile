@@ -69,29 +69,33 @@ qemu: live
 # Makes out/library for C and Python: libxv6.a, libxv6.so, xv6.h and the package cathompi.
 library:
 	@if [ -f $(LIBRARY)/libxv6.so ] && [ -z "$$(find crates crates.txt bindings tools -name out -prune -o \
-		\( -name '*.rt' -o -name '*.antt' -o -name crates.txt -o -name xv6.h -o -name __init__.py -o -name library.sh \) \
+		\( -name '*.rt' -o -name '*.antt' -o -name crates.txt -o -name xv6.h -o -path 'bindings/python/cathompi/*.py' -o -name library.sh \) \
 		-newer $(LIBRARY)/libxv6.so -print -quit)" ]; then echo '$(LIBRARY) is proved and made'; else tools/library.sh $(LIBRARY); fi
 
 # Makes the page, out/web/xv6.html: the machine in one file that opens offline. It needs Debian's binaryen.
-# It takes the proved library of crates/xv6_c. A module that is there already is taken by MODULE=FILE.
+# It takes the proved library of crates/xv6_c. A module that is there already is taken by MODULE=FILE, the texts of another language by WORDS=FILE.
 .PHONY: web check-web
 web: out/web/xv6.html
 
 WEB := out/web/xv6.html
 MODULE := out/web/machine.wasm
+WORDS := web/words.json
 
 out/web/machine.wasm: $(wildcard crates/xv6_c/src/*.rt bindings/c/xv6.h web/*.sh)
 	web/build.sh out/web
 
-# The page's image has the user programs, and unhex, by which files are put on it.
-out/web/xv6.img: user/manifest web/unhex.s $(USER) | program
-	$(PROGRAM) asm web/unhex.s out/user/unhex
-	{ cat user/manifest; echo 'file /unhex unhex'; } > out/user/web-manifest
+# The page's image has the user programs, unhex, by which files are put on it, race, which loses an update where a tick comes in between,
+# and crash.
+WEB_TEXTS := $(wildcard web/*.s)
+
+out/web/xv6.img: user/manifest $(WEB_TEXTS) $(USER) | program
+	{ cat user/manifest; for name in $(WEB_TEXTS:web/%.s=%); do echo "file /$$name $$name"; done; } > out/user/web-manifest
+	for name in $(WEB_TEXTS:web/%.s=%); do $(PROGRAM) asm web/$$name.s out/user/$$name || exit 1; done
 	@mkdir -p $(@D)
 	cd out/user && $(abspath $(PROGRAM)) mkfs web-manifest $(abspath $@)
 
-$(WEB): $(MODULE) out/web/xv6.img $(wildcard web/*.js web/*.css web/*.html) web/make_page.py
-	web/make_page.py $(MODULE) out/web/xv6.img $@
+$(WEB): $(MODULE) out/web/xv6.img $(wildcard web/*.js web/*.css web/*.html) $(WORDS) web/make_page.py
+	web/make_page.py $(MODULE) out/web/xv6.img $@ $(WORDS)
 	@echo '$@ is written: open it in a browser'
 
 # Makes out/release: program, page, image, library, wheel, man page, completions and their sums.
@@ -147,7 +151,7 @@ check-live: $(IMAGE)
 check-library: $(IMAGE) library
 	tools/check_library.sh $(LIBRARY) $(PROGRAM) $(IMAGE)
 
-# Uses the page in Chromium without a window, compares it with the program, and takes its picture.
+# Uses the page in Chromium and Firefox without a window, compares it with the program, and takes pictures of its views.
 check-web: $(WEB)
 	web/check.py $(WEB) $(PROGRAM) out/web/xv6.img out/web/pictures
 

@@ -2,7 +2,7 @@
 # check_library.sh FOLDER PROGRAM IMAGE: tries the library that library.sh made. C: a session, 40 machines, copies and arguments that are wrong,
 # under valgrind, which has to find no leak and no invalid access; Python: the package, and 50 random sessions. The console's bytes are those
 # of `xv6 run`. It needs Debian's gcc, g++, make, valgrind and python3;
-# what pip and python3-matplotlib are for is told as left out where they are missing.
+# what pip, python3-matplotlib, jupyter-nbconvert and mypy are for is left out, with a word, where they are missing.
 set -e
 cd "$(dirname "$0")/.."
 for tool in cc c++ valgrind python3; do
@@ -40,6 +40,21 @@ if [ -n "$python" ]; then
     echo "check-library: Python: the tour of docs/PYTHON.md"
 else
     echo "check-library: no matplotlib: the tour of docs/PYTHON.md is not tried (apt install python3-matplotlib)"
+fi
+# The notebook, and the types of the package and of the examples.
+if python3 -c 'import nbconvert, ipykernel' 2> /dev/null; then
+    mkdir -p "$scratch/out"
+    cp "$3" "$scratch/out/xv6.img"
+    cp examples/notebooks/tour.ipynb "$scratch/"
+    (cd "$scratch" && PYTHONPATH=$library python3 -m nbconvert --log-level WARN --to html --execute tour.ipynb)
+    echo "check-library: Python: examples/notebooks/tour.ipynb"
+else
+    echo "check-library: no nbconvert: the notebook is not tried (apt install jupyter-nbconvert python3-ipykernel)"
+fi
+if command -v mypy > /dev/null; then
+    MYPYPATH=bindings/python mypy --strict bindings/python/cathompi examples/python
+else
+    echo "check-library: no mypy: the types are not tried (apt install mypy)"
 fi
 # Another simulator beside the machine.
 make -s -C examples/lockstep LIBRARY="$library" XV6="$(realpath "$2")" IMAGE="$(realpath "$3")" run > "$scratch/lockstep"

@@ -17,7 +17,7 @@ echo '{ global: xv6_raw_*; local: *; };' > "$scratch/exports"
 command -v cc > /dev/null || { echo 'library: no C compiler (apt install gcc): libxv6.so is not made' >&2; exit 1; }
 cc -shared -o "$1/libxv6.so" -Wl,--version-script="$scratch/exports" -Wl,--whole-archive "$1/libxv6.a" -Wl,--no-whole-archive
 cp bindings/c/xv6.h "$1/"
-cp bindings/python/cathompi/__init__.py bindings/python/cathompi/py.typed "$1/libxv6.so" "$1/cathompi/"
+cp bindings/python/cathompi/*.py bindings/python/cathompi/py.typed "$1/libxv6.so" "$1/cathompi/"
 # pip install ./bindings/python takes it from there.
 cp "$1/libxv6.so" bindings/python/cathompi/
 ls -l "$1/libxv6.a" "$1/libxv6.so"

@@ -8,7 +8,7 @@ import tempfile
 import time
 
 NAMES = ("chromium", "chromium-browser", "google-chrome")
-KEYS = {"\n": ("Enter", "\r", 13), "Tab": ("Tab", "", 9), "F8": ("F8", "", 119), "F9": ("F9", "", 120)}
+KEYS = {"\n": ("Enter", "\r", 13), "Tab": ("Tab", "", 9), **{f"F{number}": (f"F{number}", "", 111 + number) for number in range(1, 13)}}
 CONTROL = 2
 
 
@@ -109,6 +109,7 @@ class Browser:
             time.sleep(0.05)
 
     def size(self, width, height, dark=False):
+        self.call("Emulation.setScrollbarsHidden", hidden=width < 640)
         self.call("Emulation.setDeviceMetricsOverride", width=width, height=height, deviceScaleFactor=1, mobile=False)
         self.call("Emulation.setEmulatedMedia", features=[{"name": "prefers-color-scheme", "value": "dark" if dark else "light"}])
 

@@ -1,10 +1,11 @@
-// Looks at each step of the hart, and tells the kernel calls of the programs as lines.
+// Looks at each step of the hart, and notes the kernel calls of the programs, their faults, the switches and the output, each with its position.
 import { isCall } from "./disassembly.js";
+import { faultOf } from "./faults.js";
+import { bytesAt, listAt, textAt } from "./memory.js";
+import { say } from "./words.js";
 
-const MOST_LINES = 100; // of a process
-const MOST_PROCESSES = 200;
-const MOST_BYTES = 32;
-const PAGE = 4096;
+const MOST_BYTES = 32; // that are shown
+const MOST_KEPT = 4096; // of a write
 const A0 = 10;
 const A7 = 17;
 
@@ -32,12 +33,18 @@ const CALLS = {
   20: { name: "mkdir", takes: ["path"] },
   21: { name: "close", takes: ["number"] },
 };
-const READ = 5;
-const WRITE = 16;
-const EXIT = 2;
-const EXEC = 7;
+export const FORK = 1;
+export const EXIT = 2;
+export const PIPE = 4;
+export const READ = 5;
+export const EXEC = 7;
+export const CHDIR = 9;
+export const DUP = 10;
+export const OPEN = 15;
+export const WRITE = 16;
+export const CLOSE = 21;
 
-export const callName = (number) => CALLS[number]?.name ?? `call ${number}`;
+export const callName = (number) => CALLS[number]?.name ?? say("call-number", { number });
 
 const low = (value) => Number(BigInt.asIntN(32, value));
 const hex = (value) => `0x${value.toString(16)}`;
@@ -48,59 +55,23 @@ function letterOf(byte) {
   return byte >= 0x20 && byte < 0x7f ? String.fromCharCode(byte) : `\\${byte.toString(8)}`;
 }
 
-function quote(bytes) {
-  const text = bytes.slice(0, MOST_BYTES).map(letterOf).join("");
-  return `"${text}"${bytes.length > MOST_BYTES ? "..." : ""}`;
+/** Bytes between quotes, as a program's text has them. */
+export function quote(bytes, most = MOST_BYTES) {
+  const text = [...bytes.slice(0, most)].map(letterOf).join("");
+  return `"${text}"${bytes.length > most ? "..." : ""}`;
 }
 
 /** What a waiting process waits for, in words. */
 export function waitsFor({ call, registers }) {
-  const first = low(registers[A0]);
-  switch (callName(call)) {
-    case "read":
-      return `for bytes at descriptor ${first} (read)`;
-    case "write":
-      return `for room at descriptor ${first} (write)`;
-    case "wait":
-      return "for the end of a child (wait)";
-    case "sleep":
-      return `for ${first} ticks (sleep)`;
-    default:
-      return `in ${callName(call)}`;
-  }
+  const number = low(registers[A0]);
+  const known = { [READ]: "waits-read", [WRITE]: "waits-write", 3: "waits-child", 13: "waits-ticks" }[call];
+  return known ? say(known, { number }) : say("waits-call", { call: callName(call) });
 }
 
-// Bytes of a program's memory, as far as there is any.
-function bytesAt(machine, pid, address, count) {
-  const bytes = [];
-  let at = address;
-  while (bytes.length < count) {
-    const page = machine.page(pid, at / BigInt(PAGE));
-    if (!page?.read) break;
-    const from = Number(at % BigInt(PAGE));
-    const part = page.bytes.subarray(from, from + count - bytes.length);
-    bytes.push(...part);
-    at += BigInt(part.length);
-  }
-  return bytes;
-}
-
-function textAt(machine, pid, address) {
-  const bytes = bytesAt(machine, pid, address, MOST_BYTES + 1);
-  const end = bytes.indexOf(0);
-  return quote(end < 0 ? bytes : bytes.slice(0, end));
-}
-
-function listAt(machine, pid, address) {
-  const texts = [];
-  for (let index = 0n; index < 8n; index += 1n) {
-    const pointer = bytesAt(machine, pid, address + 8n * index, 8);
-    const at = pointer.reduceRight((sum, byte) => sum * 256n + BigInt(byte), 0n);
-    if (pointer.length < 8 || at === 0n) return `[${texts.join(", ")}]`;
-    texts.push(textAt(machine, pid, at));
-  }
-  return `[${texts.join(", ")}, ...]`;
-}
+const numberAt = (machine, pid, address) => {
+  const bytes = bytesAt(machine, pid, address, 4);
+  return bytes.length < 4 ? null : new DataView(bytes.buffer).getInt32(0, true);
+};
 
 function told(machine, process, kind, index) {
   const value = process.registers[A0 + index];
@@ -108,104 +79,181 @@ function told(machine, process, kind, index) {
     case "number":
       return String(low(value));
     case "path":
-      return textAt(machine, process.pid, value);
+      return quote(textAt(machine, process.pid, value));
     case "list":
-      return listAt(machine, process.pid, value);
+      return `[${listAt(machine, process.pid, value).map((text) => quote(text)).join(", ")}]`;
     default:
       return hex(value);
   }
 }
 
-/** The last calls of each process, while it is watched. */
+// How many lines there are before a position.
+function countBefore(lines, position) {
+  let [from, to] = [0, lines.length];
+  while (from < to) {
+    const middle = (from + to) >>> 1;
+    if (lines[middle].at < position) from = middle + 1;
+    else to = middle;
+  }
+  return from;
+}
+
+/** The last of lines that stands before a position. */
+export const lastBefore = (lines, position) => lines[countBefore(lines, position) - 1];
+
+/** The first of lines that stands after a position. */
+export const firstAfter = (lines, position) => lines[countBefore(lines, position + 1)];
+
+/**
+ * What was noted. Each line has its position, `at`: the number of events before the step that did it. All of it is known of the positions between
+ * `from` and `to`.
+ */
 export class Calls {
   constructor() {
-    this.lines = new Map();
-    this.open = new Map();
+    this.lines = []; // calls
+    this.switches = [];
+    this.faults = [];
+    this.outputs = [];
+    this.open = new Map(); // the lines of calls that have no answer yet, by pid
+    this.from = 0;
+    this.to = 0;
     this.running = 0;
-    this.last = 0;
+    this.last = 0; // the pid that ran last
+    this.stepped = null;
   }
 
-  /** What the calls of a process were, the oldest first. */
-  of(pid) {
-    return this.lines.get(pid) ?? [];
+  knows(position) {
+    return this.from <= position && position <= this.to;
   }
 
-  /** So many steps at most, each looked at. */
-  run(machine, most, done) {
+  /** What was not looked at is not known: what comes begins at a position. */
+  skipTo(position) {
+    for (const line of this.open.values()) line.isLost = true;
+    this.open.clear();
+    this.from = position;
+    this.to = position;
+    this.running = 0;
+    this.stepped = null;
+  }
+
+  /** Forgets all from a position on. */
+  cut(position) {
+    for (const name of ["lines", "switches", "faults", "outputs"]) this[name].length = countBefore(this[name], position);
+    this.open.clear();
+    for (const line of this.lines) if (line.number !== EXIT && !line.isLost && (line.end === null || line.end > position)) this.reopen(line);
+    this.from = Math.min(this.from, position);
+    this.to = Math.min(this.to, position);
+    this.running = 0;
+    this.stepped = null;
+    this.last = lastBefore(this.switches, position)?.pid ?? 0;
+  }
+
+  reopen(line) {
+    Object.assign(line, { end: null, answer: null });
+    this.open.set(line.pid, line);
+  }
+
+  /** What the calls of a process were before a position, the oldest first. */
+  of(pid, position) {
+    const lines = this.lines.slice(0, countBefore(this.lines, position)).filter((line) => line.pid === pid);
+    return joined(lines.map((line) => asOf(line, position)));
+  }
+
+  /**
+   * So many steps at most, from a position on, each looked at. `stop(pid, machine, position)` is asked before each; none is made once it says so.
+   */
+  run(machine, position, most, done, stop) {
     let count = 0;
     const add = (made) => {
       count += made;
     };
     try {
       while (count < most) {
-        const pid = this.runningIn(machine);
-        if (pid) this.before(machine, pid);
+        const pid = this.look(machine, position + count);
+        if (stop?.(pid, machine, position + count)) break;
         if (machine.run(1, add) === 0) break;
       }
     } finally {
+      this.settle(machine, position + count);
       done(count);
-      this.settle(machine);
+      this.to = position + count;
     }
     return count;
   }
 
-  // A call of which a process came back before the last step has its answer.
-  settle(machine) {
-    for (const pid of this.open.keys()) {
-      const process = machine.process(pid);
-      if (process?.state === "running" || process?.state === "ready") this.answer(machine, process);
-    }
-  }
-
-  /** What was not looked at is not known. */
-  lose() {
-    for (const line of this.open.values()) line.answer = "?";
-    this.open.clear();
+  // The process that runs; what it did in the step before is noted, and the call that it does next.
+  look(machine, position) {
+    this.settleStep(machine, position);
+    const pid = this.runningIn(machine);
+    if (!pid) return 0;
+    if (pid !== this.last) this.switches.push({ at: position, pid });
+    this.last = pid;
+    const isAtCall = isCall(machine.word(pid));
+    const open = this.open.get(pid);
+    if (open && open.at !== position) this.answer(machine, machine.process(pid), position);
+    if (isAtCall && open?.at !== position) this.begin(machine, machine.process(pid), position);
+    this.stepped = { pid, isAtCall, at: position };
+    return pid;
   }
 
   runningIn(machine) {
-    if (this.running && machine.isRunning(this.running)) return this.running;
-    this.running = machine.processes().find(({ state }) => state === "running")?.pid ?? 0;
-    return this.running && machine.isRunning(this.running) ? this.running : 0;
+    if (!this.running || !machine.isRunning(this.running)) this.running = machine.running();
+    return this.running;
   }
 
-  // A process that runs has the answer of its last call, and may be at the next one. `last` is the pid of the last that ran.
-  before(machine, pid) {
-    this.last = pid;
-    const isAtCall = isCall(machine.word(pid));
-    if (!isAtCall && !this.open.has(pid)) return;
-    const process = machine.process(pid);
-    this.answer(machine, process);
-    if (isAtCall && !this.open.has(pid)) this.begin(machine, process);
+  // What the last step came to: an output, an answer, an end.
+  settleStep(machine, position) {
+    const { stepped } = this;
+    if (!stepped || stepped.at === position) return;
+    this.stepped = null;
+    if (machine.isRunning(stepped.pid)) {
+      if (stepped.isAtCall) this.answer(machine, machine.process(stepped.pid), position);
+      return;
+    }
+    const process = machine.process(stepped.pid);
+    if (process?.state === "ready" && stepped.isAtCall) this.answer(machine, process, position);
+    if (process && process.state !== "ended") return;
+    this.open.delete(stepped.pid);
+    if (!stepped.isAtCall) this.faults.push({ at: stepped.at, pid: stepped.pid, text: faultOf(machine, process) ?? say("fault-killed") });
   }
 
-  begin(machine, process) {
+  /** Bytes came to the console in the event at a position. */
+  wrote(position) {
+    if (this.outputs.at(-1)?.at !== position) this.outputs.push({ at: position });
+  }
+
+  // A call of which a process came back before the last step has its answer.
+  settle(machine, position) {
+    this.settleStep(machine, position);
+    for (const pid of [...this.open.keys()]) {
+      const process = machine.process(pid);
+      if (!process || process.state === "ended") this.open.delete(pid);
+      else if (process.state !== "waiting") this.answer(machine, process, position);
+    }
+  }
+
+  begin(machine, process, position) {
     const number = low(process.registers[A7]);
     const { takes = [] } = CALLS[number] ?? {};
     const line = {
+      at: position,
+      end: null,
+      pid: process.pid,
       number,
-      at: process.pc,
-      buffer: process.registers[A0 + 1],
+      pc: process.pc,
+      values: process.registers.slice(A0, A0 + 3),
       parts: takes.map((kind, index) => told(machine, process, kind, index)),
-      answer: number === EXIT ? "?" : null,
+      answer: null,
       bytes: null,
-      times: 1,
     };
-    if (number === WRITE) this.spell(line, bytesAt(machine, process.pid, line.buffer, this.room(low(process.registers[A0 + 2]))));
-    this.keep(process.pid, line);
+    if (number === WRITE) this.spell(line, bytesAt(machine, process.pid, line.values[1], this.room(low(line.values[2]))));
+    if (takes[0] === "path") line.path = new TextDecoder().decode(textAt(machine, process.pid, line.values[0]));
+    this.lines.push(line);
     if (number !== EXIT) this.open.set(process.pid, line);
   }
 
-  keep(pid, line) {
-    const lines = this.of(pid);
-    lines.push(line);
-    if (lines.length > MOST_LINES) lines.shift();
-    this.lines.set(pid, lines);
-    if (this.lines.size > MOST_PROCESSES) this.lines.delete(this.lines.keys().next().value);
-  }
-
   room(count) {
-    return Math.max(0, Math.min(count, MOST_BYTES + 1));
+    return Math.max(0, Math.min(count, MOST_KEPT));
   }
 
   spell(line, bytes) {
@@ -213,30 +261,49 @@ export class Calls {
     line.parts[1] = quote(bytes);
   }
 
-  answer(machine, process) {
+  answer(machine, process, position) {
     const line = this.open.get(process.pid);
-    if (!line || (process.pc === line.at && line.number !== EXEC)) return;
+    if (!line || line.at === position || (process.pc === line.pc && line.number !== EXEC)) return;
     this.open.delete(process.pid);
     const answer = low(process.registers[A0]);
-    line.answer = String(answer);
-    if (line.number === READ && answer >= 0) this.spell(line, bytesAt(machine, process.pid, line.buffer, this.room(answer)));
-    this.join(this.of(process.pid));
-  }
-
-  // Reads and writes of single bytes, one behind the other, are one line.
-  join(lines) {
-    const [before, line] = lines.slice(-2);
-    const alike = before?.bytes && line?.bytes?.length === 1 && before.number === line.number && before.answer === "1" && line.answer === "1";
-    if (!alike || before.parts[0] !== line.parts[0]) return;
-    lines.pop();
-    before.times += 1;
-    this.spell(before, [...before.bytes, ...line.bytes]);
+    Object.assign(line, { answer, end: position });
+    if (line.number === READ && answer >= 0) this.spell(line, bytesAt(machine, process.pid, line.values[1], this.room(answer)));
+    if (line.number === PIPE && answer === 0) line.ends = [0n, 4n].map((by) => numberAt(machine, process.pid, line.values[0] + by));
+    if (line.number === WRITE && machine.hasOutput()) this.wrote(line.at);
   }
 }
 
+// A line as it was at a position: without what came later.
+function asOf(line, position) {
+  const isDone = line.end !== null && line.end <= position;
+  if (isDone || line.number === EXIT) return { ...line, times: 1 };
+  return { ...line, answer: null, parts: line.number === READ ? [line.parts[0], hex(line.values[1]), line.parts[2]] : line.parts, times: 1 };
+}
+
+// Reads and writes of single bytes, one after the other, are one line.
+function joined(lines) {
+  const all = [];
+  for (const line of lines) {
+    const before = all.at(-1);
+    if (!isAlike(before, line)) all.push(line);
+    else all.splice(-1, 1, joinedWith(before, line));
+  }
+  return all;
+}
+
+function isAlike(before, line) {
+  const isSingle = ({ bytes, answer }) => bytes && answer === 1;
+  return before && before.number === line.number && isSingle(before) && isSingle(line) && line.bytes.length === 1 && before.parts[0] === line.parts[0];
+}
+
+function joinedWith(before, line) {
+  const bytes = Uint8Array.of(...before.bytes, ...line.bytes);
+  return { ...before, bytes, parts: [before.parts[0], quote(bytes), before.parts[2]], times: before.times + 1 };
+}
+
 /** A line of a call. */
-export function callText({ number, parts, answer, times }) {
-  const joined = times > 1 ? ` (${times} times)` : "";
-  const answered = answer === null ? "waits" : `= ${answer}`;
-  return `${callName(number)}(${parts.join(", ")}) ${answered}${joined}`;
+export function callText({ number, parts, answer, times, isLost }) {
+  const joinedText = times > 1 ? ` (${say("times", { times })})` : "";
+  const unanswered = number === EXIT ? "" : isLost ? " = ?" : ` ${say("call-waits")}`;
+  return `${callName(number)}(${parts.join(", ")})${answer === null ? unanswered : ` = ${answer}`}${joinedText}`;
 }

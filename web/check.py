@@ -1,21 +1,27 @@
 #!/usr/bin/env python3
 """check.py PAGE PROGRAM IMAGE FOLDER: uses the page in a browser without a window, at two widths, and compares what its terminal shows with the
-console that PROGRAM, the built xv6, gives of the same events, and its files with what that leaves. FOLDER gets pictures."""
+console that PROGRAM, the built xv6, gives of the same events, and its files with what that leaves. FOLDER gets pictures of each view. Where
+Firefox is there, it is used too."""
 import base64
+import hashlib
 import json
+import os
 import pathlib
 import random
 import subprocess
 import sys
 import tempfile
+import time
 import zlib
 
 from browser import Browser
+from firefox import Firefox
 from make_page import UNPACK, joined
 
 HERE = pathlib.Path(__file__).resolve().parent
 PORTRAIT = HERE.parent / "docs" / "page.png"
-WIDTHS = {1400: 900, 400: 800}
+WIDTHS = {1280: 800, 390: 844}
+VIEWS = ("run", "inside", "disk")
 LINES = ["ls", "echo hi | cat", "mkdir d", "ls"]
 PASTED = "echo one > a\necho two > b\r\ncat a b\n" + "echo " + " ".join(["word"] * 8) + "\n"
 IDLE = "document.getElementById('status').textContent.startsWith('runs') && [...document.querySelectorAll('#processes tr')].every((row) => row.dataset.state === 'waiting')"
@@ -29,15 +35,70 @@ const [code, image] = await Promise.all(["packed-module", "packed-image"].map(un
 {joined("driver", set())}
 const module = await machine.loadModule(code);
 return SCRIPTS.map((script) => {{
-  const played = new driver.Driver(module, image, 256);
-  played.watch(false);
-  played.replay(record.eventsOf(script));
-  while (played.isReplaying) played.replaySome(1000000);
-  const bytes = played.machine.console();
-  played.close();
+  const plain = new driver.Driver(module, image, 256, record.eventsOf(script));
+  plain.seek(plain.end);
+  const bytes = plain.text;
+  // Looked at step by step, back, and there again: the same.
+  const looked = new driver.Driver(module, image, 256, record.eventsOf(script));
+  looked.pause();
+  while (!looked.isAtEnd && !looked.halt) looked.playRecorded(1000);
+  const same = [looked.text];
+  looked.seek(looked.end >> 1);
+  looked.seek(looked.end);
+  same.push(looked.text);
+  for (const one of [plain, looked]) one.close();
+  if (same.some((text) => String(text) !== String(bytes))) throw new Error("another way, other bytes: " + script);
   return bytes;
 }});
 }})()"""
+
+
+# What the page says of /crash.
+CRASH = "process 3 ended: ld a0, 0(t0) at 0x8: a load of 8 bytes from 0x5000: the process has no page there, its 3 pages end at 0x3000"
+MANY = 10_000_000
+# How many times as long as on an idle machine things may take.
+SLOW = float(os.environ.get("SLOW", "1"))
+# The milliseconds that it takes to be back by one event, from ten positions.
+BACKS = """[...Array(10).keys()].map((index) => {
+  const bar = document.getElementById("position");
+  const go = (position) => { bar.value = String(position); bar.dispatchEvent(new Event("input")); };
+  go(Math.floor((Number(bar.max) * (index + 1)) / 10));
+  const begin = performance.now();
+  document.querySelector("[data-back=step]").click();
+  return performance.now() - begin;
+})"""
+# The texts whose contrast to what is behind them is too small.
+CONTRAST = """(() => {
+  const parts = (text) => text.match(/[\\d.]+/g).map(Number);
+  const light = (text) => {
+    const [red, green, blue] = parts(text).map((part) => (part /= 255) <= 0.03928 ? part / 12.92 : ((part + 0.055) / 1.055) ** 2.4);
+    return 0.2126 * red + 0.7152 * green + 0.0722 * blue;
+  };
+  const behind = (position) => {
+    for (let it = position; it; it = it.parentElement) {
+      const colour = getComputedStyle(it).backgroundColor;
+      if ((parts(colour)[3] ?? 1) > 0.99) return colour;
+    }
+    return "rgb(255, 255, 255)";
+  };
+  const bad = new Set();
+  const walker = document.createTreeWalker(document.body, NodeFilter.SHOW_TEXT);
+  while (walker.nextNode()) {
+    const position = walker.currentNode.parentElement;
+    if (!walker.currentNode.data.trim() || position.offsetParent === null || position.closest("script, .spoken, :disabled")) continue;
+    const [one, two] = [light(getComputedStyle(position).color), light(behind(position))].sort((a, b) => b - a);
+    const ratio = (one + 0.05) / (two + 0.05);
+    if (ratio < 7) bad.add(`${position.tagName}.${position.className}#${position.id}: ${ratio.toFixed(2)}`);
+  }
+  return [...bad];
+})()"""
+
+
+def script_of(address):
+    """The script in a link."""
+    letters = address.split("#session=")[1].split("&")[0]
+    text = zlib.decompress(base64.urlsafe_b64decode(letters + "=" * (-len(letters) % 4)), -15).decode()
+    return text.split("\n", 1)[1]
 
 
 class Check:
@@ -66,12 +127,28 @@ class Check:
         self.browser.wait(f"document.getElementById('screen') && {PROMPT}", "the first prompt")
         self.settle("the first prompt")
 
+    def look(self, view):
+        """Shows a view."""
+        self.browser.click(f"#tab-{view}")
+        self.rest(300)
+
+    def rest(self, milliseconds):
+        self.browser.js(f"new Promise((done) => setTimeout(done, {milliseconds}))")
+
+    def text(self, name):
+        return self.browser.js(f"document.getElementById({json.dumps(name)}).innerText")
+
+    def said(self, text, what):
+        """Waits until the page says something."""
+        self.browser.wait(f"document.getElementById('said').textContent.includes({json.dumps(text)})", what)
+
     def to_terminal(self):
         """Gives the terminal the focus, which the link's field has after a link."""
         self.browser.js("document.getElementById('keys').focus()")
 
     def enter(self, line):
         """Types a line at the shell, which has to do what it says."""
+        self.look("run")
         self.to_terminal()
         before = self.screen()
         self.browser.type(line + "\n")
@@ -88,9 +165,7 @@ class Check:
         self.browser.click("#make-link")
         self.browser.wait("document.getElementById('link').value.includes('#session=')", "the link")
         address = self.browser.js("document.getElementById('link').value")
-        letters = address.split("#session=")[1]
-        text = zlib.decompress(base64.urlsafe_b64decode(letters + "=" * (-len(letters) % 4)), -15).decode()
-        return address, text.split("\n", 1)[1]
+        return address, script_of(address)
 
     # ---- the program
 
@@ -197,9 +272,6 @@ class Check:
         self.browser.wait(f"!document.getElementById('status').textContent.includes({json.dumps(before)})", "three steps")
         self.browser.press("F8")
         self.settle("ls")
-        for wanted in ("copy", "follow", "pid-1"):
-            self.browser.press("Tab")
-            self.equal(self.browser.js("document.activeElement.id"), wanted, f"Tab leads to {wanted}")
         console, _ = self.run(self.link()[1])
         self.equal(self.screen(), self.shown(console), "steps by keys")
 
@@ -234,12 +306,205 @@ class Check:
         self.settle("the rest")
 
     def portrait(self):
-        """The picture of the docs: the shell has made the two children of `echo hi | cat`."""
-        (self.folder / "portrait").write_text("step 5000\ntype ls\nstep 20000\ntype echo hi | cat\nstep 190\n")
-        self.browser.give_file("#script-input", self.folder / "portrait")
-        self.browser.wait("document.querySelectorAll('#processes tr').length >= 4", "the children")
-        self.browser.js("new Promise((done) => setTimeout(done, 300))")
-        self.browser.picture(PORTRAIT, small=(1400, 900, 0.6))
+        """The picture of the docs: the shell's two children of `echo hi | cat`, with the bytes in the pipe."""
+        self.pause()
+        self.browser.type("echo hi | cat\n")
+        self.look("inside")
+        self.to_pipe_bytes()
+        self.browser.picture(PORTRAIT, small=(1280, 800, 0.6))
+
+    def pause(self):
+        self.browser.press("F8")
+        self.browser.wait("document.getElementById('run').textContent === 'Run'", "the pause")
+
+    def to_pipe_bytes(self):
+        """Goes forward, by calls, until there are bytes in a pipe."""
+        for _ in range(60):
+            if "of 512 bytes" in self.text("pipes") and "0 of 512 bytes" not in self.text("pipes"):
+                return
+            self.browser.press("F10")
+            self.browser.wait("!document.getElementById('status').textContent.startsWith('goes')", "the next call")
+            self.rest(60)
+        raise SystemExit(f"no bytes came into a pipe: {self.text('pipes')!r}")
+
+    def pipes(self):
+        """`echo hi | cat` is stopped with bytes in the pipe, and the picture says so."""
+        self.start(self.address, 1280)
+        self.portrait()
+        shown = self.text("pipes")
+        for part in ("Pipe 1", "echo (descriptor 1)", '"hi\\n"', "3 of 512 bytes", "sh (descriptor 3)"):
+            if part not in shown:
+                raise SystemExit(f"the picture of the pipe has no {part!r}: {shown!r}")
+        self.equal("writes pipe 1" in self.text("descriptors"), True, "bytes in a pipe are shown, and who holds its ends")
+
+    def back_to_key(self):
+        self.browser.js("document.querySelector('[data-back=key]').click()")
+        self.rest(300)
+
+    def digest(self):
+        """A sum of all that is seen of the machine: its files, processes and console."""
+        self.look("run")
+        self.browser.click("#save-image")
+        image = self.browser.downloaded("xv6.img")
+        return hashlib.sha256(image).hexdigest(), self.screen(), self.text("processes")
+
+    def travels(self):
+        """Back to before a fork and forward again: the same bytes; another time, which is kept."""
+        self.start(self.address, 1280)
+        self.enter("mkdir d")
+        self.pause()
+        before = self.digest()
+        position = self.browser.js("Number(document.getElementById('position').value)")
+        self.back_to_key()
+        self.equal(self.screen().endswith("$ mkdir d\n"), True, "back to the last key")
+        self.browser.js("document.querySelector('[data-forward=fork]').click()")
+        self.said("the next instruction is a fork", "the fork")
+        self.browser.press("F7")
+        self.rest(200)
+        self.browser.click("#to-end")
+        self.equal(self.digest(), before, "forward again: the same bytes")
+        self.back_to_key()
+        self.to_terminal()
+        self.browser.type("x\n")
+        self.browser.press("F8")
+        self.settle("another time")
+        self.equal(self.browser.js("document.getElementById('branches-label').hidden"), False, "the time that was left is kept")
+        other = self.screen()
+        self.browser.js("(() => { const it = document.getElementById('branches'); it.value = it.options[1].value; it.dispatchEvent(new Event('change')); })()")
+        self.rest(300)
+        self.equal((self.digest(), self.browser.js("Number(document.getElementById('position').value)")), (before, position), "back in the time that was left")
+        self.equal(other == self.screen(), False, "the other one was another")
+
+    def breaks(self):
+        """A breakpoint at an address."""
+        self.start(self.address, 1280)
+        self.pause()
+        self.look("inside")
+        self.browser.js("(() => { const it = document.getElementById('address'); it.value = '0x0'; it.dispatchEvent(new Event('input')); })()")
+        self.rest(200)
+        self.browser.click("#break")
+        self.look("run")
+        self.to_terminal()
+        self.browser.type("ls\n")
+        self.browser.press("F8")
+        self.said("a breakpoint, at 0x0", "the breakpoint")
+        self.look("inside")
+        current = self.browser.js("document.querySelector('#code .current').innerText")
+        self.equal(current.startswith("●") and "00000" in current, True, "a breakpoint")
+        self.equal("ls" in self.browser.js("document.getElementById('pids').selectedOptions[0].text"), True, "it is ls that is there")
+
+    def crashes(self):
+        """A process that crashes is shown in words."""
+        self.start(self.address, 1280)
+        self.enter("crash")
+        self.browser.wait("document.getElementById('fault').textContent !== ''", "the fault")
+        self.equal(self.text("fault"), CRASH, "a crash is shown in words")
+        self.pause()
+        self.back_to_key()
+        self.browser.js("document.querySelector('[data-forward=fault]').click()")
+        self.said("the next instruction ends its process", "the fault")
+        self.look("inside")
+        self.equal(self.text("next-fault").endswith(CRASH.split(": ", 1)[1]), True, "and before it comes")
+
+    def races(self):
+        """A lost update is found by trying a tick at each position, shown, and shared by a link."""
+        self.start(self.address, 1280)
+        self.enter("race")
+        self.equal(self.screen().endswith("race\n2\n$ "), True, "no update is lost")
+        self.back_to_key()
+        self.browser.click("#search")
+        self.browser.wait("/steps: /.test(document.getElementById('outcomes-said').textContent)", "the search", 120)
+        outcomes = self.browser.js("[...document.querySelectorAll('#outcomes pre')].map((it) => it.textContent)")
+        self.equal([it for it in outcomes if it.startswith("1\n")] != [], True, f"{len(outcomes)} outcomes: {self.text('outcomes-said')}")
+        self.browser.picture(self.pictures / "outcomes.png")
+        index = next(at for at, it in enumerate(outcomes) if it.startswith("1\n"))
+        self.browser.click(f"#outcome-{index}")
+        self.rest(300)
+        self.equal(self.screen().endswith("race\n1\n$ "), True, "an update is lost")
+        address, script = self.link()
+        console, _ = self.run(script)
+        self.equal(self.screen(), self.shown(console), "the program loses it too")
+        self.links(address, self.screen(), 1280)
+
+    # ---- what holds of each view
+
+    def above_the_fold(self):
+        for view in VIEWS:
+            self.look(view)
+            tall, wide = self.browser.js("[document.documentElement.scrollHeight, document.documentElement.scrollWidth]")
+            self.equal(tall <= 800 and wide <= 1280, True, f"{view}: above the fold")
+
+    def contrasts(self):
+        """Each text has a contrast of 7 at least to what is behind it."""
+        for view in VIEWS:
+            self.look(view)
+            self.equal(self.browser.js(CONTRAST), [], f"{view}: contrast")
+
+    def stops(self):
+        """Any control is at most 12 stops of Tab away."""
+        for view in VIEWS:
+            self.look(view)
+            self.browser.js("document.activeElement.blur(), document.getSelection().removeAllRanges()")
+            self.browser.js("document.getElementById('run').focus()")
+            seen = []
+            for _ in range(40):
+                self.browser.press("Tab")
+                name = self.browser.js("document.activeElement.id || document.activeElement.textContent.slice(0, 20)")
+                if name == "run" or name in seen or self.browser.js("document.activeElement === document.body"):
+                    break
+                seen.append(name)
+            self.equal(len(seen) + 1 <= 12, True, f"{view}: {len(seen) + 1} stops of Tab: {' '.join(seen)}")
+
+    def speaks(self):
+        """The tree of a screen reader has the console's new lines."""
+        self.start(self.address, 1280)
+        self.enter("echo spoken words")
+        nodes = self.browser.call("Accessibility.getFullAXTree")["nodes"]
+        logs = [it for it in nodes if it.get("role", {}).get("value") == "log"]
+        self.equal(len(logs), 1, "one live region for the console")
+        names = [it.get("name", {}).get("value", "") for it in nodes if it.get("role", {}).get("value") == "StaticText"]
+        self.equal("spoken words" in names, True, "a screen reader finds the console's new lines")
+        unnamed = [it["role"]["value"] for it in nodes if it.get("role", {}).get("value") in ("button", "textbox", "combobox", "slider", "checkbox", "spinbutton", "tab") and not it.get("ignored") and not it.get("name", {}).get("value")]
+        self.equal(unnamed, [], "each control has a name")
+
+    def helps(self):
+        """`?` lists the keys; large type; colours."""
+        self.browser.js("document.getElementById('run').focus()")
+        self.browser.press("?")
+        self.equal(self.browser.js("document.getElementById('keys-help').open"), True, "? lists the keys")
+        self.browser.picture(self.pictures / "keys.png")
+        self.browser.click("#close-help")
+        self.browser.click("#lecture")
+        self.equal(self.browser.js("getComputedStyle(document.documentElement).fontSize"), "21px", "large type")
+        self.rest(200)
+        self.browser.picture(self.pictures / "lecture.png")
+        self.browser.click("#lecture")
+
+    def framed(self):
+        """In a frame of 700 by 500 a link shows its view alone."""
+        for view in VIEWS:
+            self.browser.size(700, 500)
+            self.browser.open(f"{self.address}#view={view}&only")
+            self.browser.wait(f"!document.getElementById('view-{view}').hidden && {PROMPT}", "the view")
+            self.rest(500)
+            tall, wide = self.browser.js("[document.documentElement.scrollHeight, document.documentElement.scrollWidth]")
+            self.browser.picture(self.pictures / f"frame-{view}.png")
+            self.equal((tall <= 500, wide <= 700), (True, True), f"{view} fits a frame of 700 by 500")
+
+    def times(self):
+        """How long the first prompt, a link of many steps, and the way back take."""
+        self.start(self.address, 1280)
+        shown = self.browser.js("performance.getEntriesByName('prompt')[0].startTime")
+        script = f"step 5000\ntype spin\nstep {MANY}\n"
+        (self.folder / "many").write_text(script)
+        self.browser.js("(() => { const it = document.getElementById('watch'); if (it.checked) it.click(); })()")
+        begin = self.browser.js("performance.now()")
+        self.browser.give_file("#script-input", self.folder / "many")
+        self.browser.wait(f"document.getElementById('position').max > {MANY} && document.getElementById('status').textContent.match(/^(runs|pauses)/)", "the replay", 60)
+        replayed = self.browser.js("performance.now()") - begin
+        backs = self.browser.js(BACKS)
+        print(f"  first prompt {shown:.0f} ms after the load begins, {MANY} steps replayed in {replayed:.0f} ms, back in {max(backs):.1f} ms at most")
+        self.equal((shown < 500 * SLOW, replayed < 2000 * SLOW, max(backs) < 100 * SLOW), (True, True, True), "times")
 
     def fits(self, width):
         wide = self.browser.js("document.documentElement.scrollWidth")
@@ -278,6 +543,19 @@ class Check:
         self.equal(got, wanted, f"the texts of {len(words)} words")
 
 
+def looks(check, width):
+    """Pictures of each view, light and dark."""
+    for dark in (False, True):
+        check.browser.size(width, WIDTHS[width], dark)
+        for view in VIEWS:
+            check.look(view)
+            check.fits(width)
+            check.browser.picture(check.pictures / f"{view}-{width}{'-dark' if dark else ''}.png", whole=width < 1000)
+        check.contrasts()
+    check.browser.size(width, WIDTHS[width])
+    check.look("run")
+
+
 def use(check, width):
     print(f"{width} pixels:")
     check.start(check.address, width)
@@ -285,8 +563,7 @@ def use(check, width):
     check.edits()
     check.pastes()
     check.files()
-    check.fits(width)
-    check.browser.picture(check.pictures / f"web-{width}.png", whole=True)
+    looks(check, width)
     check.images()
     check.steps()
     check.shows()
@@ -295,8 +572,42 @@ def use(check, width):
     check.lines()
     address, _ = check.link()
     check.links(address, check.screen(), width)
-    check.browser.size(width, WIDTHS[width], dark=True)
-    check.browser.picture(check.pictures / f"web-{width}-dark.png")
+
+
+def wide(check):
+    """What is looked at in a wide window alone."""
+    print("views and time:")
+    for part in (check.pipes, check.travels, check.breaks, check.crashes, check.races, check.speaks, check.above_the_fold, check.stops, check.helps, check.framed, check.times):
+        part()
+
+
+def firefox(check, image):
+    """The same console in Firefox, and pictures of the views."""
+    if not Firefox.program():
+        print("no firefox: not tried (apt install firefox-esr)")
+        return
+    print("firefox:")
+    with Firefox() as browser:
+        browser.size(1280, 800)
+        browser.open(check.address)
+        browser.wait(f"document.getElementById('screen') && {PROMPT} && {IDLE}", "the first prompt")
+        browser.js("document.getElementById('keys').focus()")
+        for line in LINES:
+            browser.type(f"{line}\n")
+            browser.wait(f"{PROMPT} && {IDLE} && document.getElementById('screen').textContent.includes({json.dumps(line)})", line)
+            time.sleep(0.4)
+        screen = browser.js("document.getElementById('screen').textContent")
+        browser.js("document.getElementById('link').value = ''")
+        browser.click("#make-link")
+        browser.wait("document.getElementById('link').value.includes('#session=')", "the link")
+        console, _ = check.run(script_of(browser.js("document.getElementById('link').value")))
+        check.equal(screen, check.shown(console), "four lines in Firefox")
+        for view in VIEWS:
+            browser.click(f"#tab-{view}")
+            time.sleep(0.4)
+            tall = browser.js("document.documentElement.scrollHeight")
+            check.equal(tall <= 800, True, f"{view}: above the fold")
+            browser.picture(check.pictures / f"firefox-{view}.png")
 
 
 def main():
@@ -305,15 +616,15 @@ def main():
     with Browser() as browser:
         check = Check(browser, page, program, image, folder)
         try:
-            check.start(check.address, 1400)
-            check.portrait()
-            check.start(check.address, 1400)
+            check.start(check.address, 1280)
             check.words()
             check.seeds()
+            wide(check)
             for width in WIDTHS:
                 use(check, width)
+            firefox(check, image)
         except (TimeoutError, SystemExit):
-            browser.picture(check.pictures / "failed.png", whole=True)
+            browser.picture(check.pictures / "failed.png")
             print(f"see {check.pictures / 'failed.png'}; the page complains: {browser.faults}", file=sys.stderr)
             raise
         if browser.faults:

@@ -19,6 +19,7 @@ const WORD_OPERATIONS = {
   0x01: ["mulw", , , , "divw", "divuw", "remw", "remuw"],
 };
 const SHIFTS = { 0x00: [, "slli", , , , "srli"], 0x20: [, , , , , "srai"] };
+const FENCE = 0x0f;
 const FULL_FENCE = 0x0ff0000f;
 const ECALL = 0x00000073;
 const EBREAK = 0x00100073;
@@ -72,10 +73,14 @@ const FORMS = {
   0x73: fixed,
 };
 
+const textOf = (word) => FORMS[word & 0x7f]?.(word, fieldsOf(word));
+
+/** Whether a word is an instruction. */
+export const isInstruction = (word) => Boolean(textOf(word)) || (word & 0x707f) === FENCE;
+
 /** The text of a word: an instruction, or data where it is none. */
 export function disassemble(word) {
-  const text = FORMS[word & 0x7f]?.(word, fieldsOf(word));
-  return text || `.word 0x${(word >>> 0).toString(16).padStart(8, "0")}`;
+  return textOf(word) || `.word 0x${(word >>> 0).toString(16).padStart(8, "0")}`;
 }
 
 /** Whether a word is a call of the kernel. */

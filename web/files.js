@@ -1,5 +1,6 @@
 // The files of the disk as a tree, and a file that is put on it.
-import { download, element, replace } from "./elements.js";
+import { button, download, element, replace, stopAtOne } from "./elements.js";
+import { say } from "./words.js";
 
 const MOST_DEPTH = 16;
 const MOST_UPLOAD = 1 << 20;
@@ -9,21 +10,20 @@ const NAME = /^[\w.+-]{1,14}$/;
 const END_OF_INPUT = "\x04";
 
 function fileItem(machine, file, path, look) {
-  const show = element("button", { type: "button", class: "name", id: `show-${path}` }, file.name);
-  show.addEventListener("click", () => look(path, machine().read(file.inode)));
-  const save = element("button", { type: "button", id: `save-${path}`, "aria-label": `save ${path}` }, "save");
-  save.addEventListener("click", () => download(file.name, machine().read(file.inode)));
-  const links = file.links > 1 ? `, ${file.links} names` : "";
-  return element("li", { class: "file" }, show, element("span", {}, `${file.size} bytes, inode ${file.inode}${links}`), save);
+  const show = button({ class: "name", id: `show-${path}` }, file.name, () => look(path, machine().read(file.inode)));
+  const save = button({ id: `save-${path}`, "aria-label": say("save-path", { path }) }, say("save"), () => download(file.name, machine().read(file.inode)));
+  const links = file.links > 1 ? say("file-links", { links: file.links }) : "";
+  return element("li", { class: "file" }, show, element("span", {}, say("file-size", { size: file.size, inode: file.inode }) + links), save);
 }
 
 function otherItem(file) {
-  return element("li", { class: "file" }, element("b", { class: "name" }, file.name), element("span", {}, `${file.kind}, inode ${file.inode}`));
+  const text = say("other-file", { kind: say(file.kind), inode: file.inode });
+  return element("li", { class: "file" }, element("b", { class: "name" }, file.name), element("span", {}, text));
 }
 
 function directoryItem(machine, file, path, look, depth) {
   const list = element("ul", {}, ...itemsOf(machine, file.inode, `${path}/`, look, depth + 1));
-  return element("li", {}, element("details", { open: "true" }, element("summary", {}, `${file.name}/`), list));
+  return element("li", {}, element("details", { open: "true" }, element("summary", { id: `folder-${path}` }, `${file.name}/`), list));
 }
 
 function itemsOf(machine, inode, folder, look, depth) {
@@ -39,7 +39,9 @@ function itemsOf(machine, inode, folder, look, depth) {
 
 /** The tree. `machine()` is the machine as it stands; a press of a file's name calls `look(path, bytes)`. */
 export function showFiles(list, machine, look) {
-  replace(list, itemsOf(machine, undefined, "/", look, 0));
+  const items = itemsOf(machine, undefined, "/", look, 0);
+  stopAtOne(items.flatMap((item) => [...item.querySelectorAll("button, summary")]));
+  replace(list, items);
 }
 
 /**
@@ -56,10 +58,10 @@ export class Upload {
 
   /** Why a file can't be put on the disk; `null` where it can. */
   static refusal(machine, screen, name, size) {
-    if (!NAME.test(name)) return "a name has 1 to 14 letters, digits, dots, dashes";
-    if (size > MOST_UPLOAD) return `a file that is added has up to ${MOST_UPLOAD} bytes`;
-    if (!machine.names().some((file) => file.name === HELPER)) return `the image has no program /${HELPER}, which does it`;
-    if (!screen.endsWith("$ ")) return "the shell has to wait for a line";
+    if (!NAME.test(name)) return say("bad-name");
+    if (size > MOST_UPLOAD) return say("too-large", { most: MOST_UPLOAD });
+    if (!machine.names().some((file) => file.name === HELPER)) return say("no-helper", { helper: HELPER });
+    if (!screen.endsWith("$ ")) return say("shell-busy");
     return null;
   }
 
@@ -80,6 +82,6 @@ export class Upload {
     const text = new TextDecoder().decode(Uint8Array.from(this.echo));
     const [command] = text.split("\n");
     const end = text.slice(text.lastIndexOf(END_OF_INPUT) + 1);
-    return `${command}\n[${this.size} bytes are typed as digits]\n${end}`;
+    return `${command}\n${say("typed-as-digits", { size: this.size })}\n${end}`;
   }
 }

@@ -16,6 +16,7 @@ export class Heap {
     this.end = Math.ceil(start / SMALLEST) * SMALLEST;
     this.free = new Map();
     this.rooms = new Map();
+    this.used = 0; // bytes of the blocks that are in use
     this.view = new DataView(memory.buffer);
   }
 
@@ -23,7 +24,9 @@ export class Heap {
   take(size) {
     const room = classOf(size);
     const at = this.free.get(room)?.pop() ?? this.extend(room);
-    if (at) this.rooms.set(at, room);
+    if (!at) return 0;
+    this.rooms.set(at, room);
+    this.used += room;
     return at;
   }
 
@@ -31,6 +34,7 @@ export class Heap {
     const room = this.rooms.get(at);
     if (room === undefined) throw new Error(`no block begins at ${at}`);
     this.rooms.delete(at);
+    this.used -= room;
     if (!this.free.has(room)) this.free.set(room, []);
     this.free.get(room).push(at);
   }

@@ -1,5 +1,6 @@
 // The machine in WebAssembly: the module, and its functions as the methods of a class.
 import { Heap } from "./heap.js";
+import { say } from "./words.js";
 
 const MAJOR = 1;
 const ROOM = 4096;
@@ -12,22 +13,13 @@ const EXECUTE = 8;
 const ROOT = 1;
 const ENTRY_SIZE = 16;
 
-const HALTS = ["", "process 1 has ended", "the disk failed", "no memory for the console's bytes", "the machine has stopped"];
-const BOOTS = [
-  "",
-  "these bytes are no disk image",
-  "a machine has from 64 to 32768 frames",
-  "the disk failed",
-  "the browser has no memory",
-  "the image has no program /init that fits",
-];
 const STATES = ["", "running", "ready", "waiting", "ended"];
 const KINDS = ["", "directory", "file", "device"];
 
 /** Why a machine stops. */
 export class Halt extends Error {
   constructor(number) {
-    super(HALTS[number]);
+    super(say(`halt-${number}`));
     this.number = number;
   }
 }
@@ -68,7 +60,7 @@ export async function loadModule(bytes) {
   loaded.heap = new Heap(exports.memory, Number(exports.__heap_base.value));
   loaded.calls = exports;
   const major = Math.floor(exports.xv6_raw_version() / 1000);
-  if (major !== MAJOR) throw new Error(`the module has version ${major}, and not ${MAJOR}`);
+  if (major !== MAJOR) throw new Error(say("module-version", { major, wanted: MAJOR }));
   return loaded;
 }
 
@@ -79,13 +71,13 @@ export class Machine {
     const { heap, calls } = module;
     const at = heap.take(image.length);
     const handle = heap.take(16);
-    if (!at || !handle) throw new Error(BOOTS[4]);
+    if (!at || !handle) throw new Error(say("boot-4"));
     heap.bytes(at, image.length).set(image);
     const fault = calls.xv6_raw_boot(BigInt(at), BigInt(image.length), frames, BigInt(handle));
     heap.give(at);
     if (fault) {
       heap.give(handle);
-      throw new Error(BOOTS[fault]);
+      throw new Error(say(`boot-${fault}`));
     }
     return new Machine(module, handle, image.length);
   }
@@ -100,6 +92,22 @@ export class Machine {
     this.countAt = BigInt(this.count);
     this.roomAt = BigInt(this.room);
     this.codePage = { number: 0, asked: 0n };
+    this.pc = 0;
+    this.pending = [];
+  }
+
+  /** A machine of its own, which goes on from where this one stands. It throws where the browser has no memory. */
+  copy() {
+    const handle = this.heap.take(16);
+    const fault = handle ? this.calls.xv6_raw_copy(this.handle, BigInt(handle)) : 4;
+    if (!fault) return new Machine(this, handle, this.imageLength);
+    if (handle) this.heap.give(handle);
+    throw new Error(say("boot-4"));
+  }
+
+  /** The bytes that the machine would leave on the disk if it were saved now. */
+  image() {
+    return this.copy().save();
   }
 
   check(number) {
@@ -135,11 +143,18 @@ export class Machine {
 
   /** The console's bytes since the last call. */
   console() {
-    const parts = [];
+    this.hasOutput();
+    const bytes = this.pending;
+    this.pending = [];
+    return bytes;
+  }
+
+  /** Whether there are bytes of the console that nobody took. */
+  hasOutput() {
     for (;;) {
       const count = Number(this.calls.xv6_raw_console(this.handle, this.roomAt, ALL));
-      if (count === 0) return parts.flat();
-      parts.push([...this.heap.bytes(this.room, count)]);
+      if (count === 0) return this.pending.length > 0;
+      this.pending.push(...this.heap.bytes(this.room, count));
     }
   }
 
@@ -166,14 +181,23 @@ export class Machine {
     return this.calls.xv6_raw_process(this.handle, pid, this.roomAt) === 0 && this.heap.view.getUint32(this.room + STATE, true) === RUNNING;
   }
 
-  /** The word at the pc of the process that `isRunning` looked at; 0 where there is none. */
+  /** The word at the pc of the process that `isRunning` looked at; 0 where there is none. `pc` has that pc then. */
   word(pid) {
     const { view } = this.heap;
     const low = view.getUint32(this.room + PC, true);
     const number = view.getUint32(this.room + PC + 4, true) * 2 ** 20 + (low >>> 12);
     if (number !== this.codePage.number) this.codePage = { number, asked: BigInt(number) };
-    const marks = this.calls.xv6_raw_page(this.handle, pid, this.codePage.asked, this.roomAt, ALL);
-    return marks & EXECUTE && low % 4 === 0 ? view.getInt32(this.room + (low & (ROOM - 1)), true) : 0;
+    const at = low & (ROOM - 1);
+    this.pc = number * ROOM + at;
+    const marks = this.calls.xv6_raw_page(this.handle, pid, this.codePage.asked, this.roomAt, BigInt(Math.min(at + 4, ROOM)));
+    return marks & EXECUTE && low % 4 === 0 ? view.getInt32(this.room + at, true) : 0;
+  }
+
+  /** The pid of the process that runs; 0 where none does. `word` finds its word then. */
+  running() {
+    let pid = this.calls.xv6_raw_next_pid(this.handle, 0);
+    while (pid && !this.isRunning(pid)) pid = this.calls.xv6_raw_next_pid(this.handle, pid);
+    return pid;
   }
 
   processes() {
@@ -208,6 +232,13 @@ export class Machine {
     const view = new DataView(this.heap.memory.buffer, this.room, 12);
     const kind = KINDS[view.getUint32(0, true)];
     return kind ? { inode, kind, links: view.getUint32(4, true), size: view.getUint32(8, true) } : null;
+  }
+
+  /** The node with a path from the root on; `null` where there is none. */
+  find(path) {
+    let node = this.stat(ROOT);
+    for (const name of path.split("/").filter(Boolean)) node = node && (this.names(node.inode).find((file) => file.name === name) ?? null);
+    return node;
   }
 
   /** All bytes of a node. */
@@ -249,7 +280,7 @@ export class Machine {
   /** Ends the machine, and hands back the bytes of its disk. */
   save() {
     const at = this.heap.take(this.imageLength);
-    if (!at) throw new Error(BOOTS[4]);
+    if (!at) throw new Error(say("boot-4"));
     const halt = this.calls.xv6_raw_save(this.inside(), BigInt(at), BigInt(this.imageLength), this.countAt);
     const image = this.heap.bytes(at, this.imageLength).slice();
     this.heap.give(at);

@@ -1,6 +1,6 @@
 #!/usr/bin/env python3
-"""measure.py PAGE PROGRAM IMAGE: how large the page and its module are, how long a boot takes there, and how many steps a second a loop with a
-load and a store makes: in the browser, and by PROGRAM, the built xv6, beside it. Rates are medians of long runs."""
+"""measure.py PAGE PROGRAM IMAGE: how large the page and its module are, how long a boot and the way back take there, and how many steps a
+second a loop with a load and a store makes: in the browser, and by PROGRAM, the built xv6, beside it. Rates are medians of long runs."""
 import json
 import pathlib
 import re
@@ -23,6 +23,8 @@ STEPS = 200_000_000
 # The program's runs: of a boot and these steps one takes seconds, so that a boot is a hundredth of it.
 LONG = 1_000_000_000
 FEW = 1_000_000
+MANY = 10_000_000
+PART = 100_000
 TIMES = 5
 BOOT_TIMES = 100
 
@@ -37,7 +39,14 @@ const times = (count, act) => Array.from({ length: count }, () => { const from =
 const boots = times(BOOT_TIMES, () => machine.Machine.boot(module, image, 256).close());
 globalThis.spin = machine.Machine.boot(module, Uint8Array.from(LOOP_IMAGE), 64);
 globalThis.noted = new calls.Calls();
-return { module: code.length, compiled, first: boots[0], boot: Math.min(...boots) };
+const travelled = new driver.Driver(module, Uint8Array.from(LOOP_IMAGE), 256, [{ kind: "step", times: MANY }]);
+travelled.goal = null;
+const whole = times(1, () => { while (travelled.position < MANY) travelled.go(Math.min(travelled.position + PART, MANY), Infinity); })[0];
+const backs = Array.from({ length: 20 }, (_, index) => {
+  travelled.seek(Math.floor((MANY * (index + 1)) / 20));
+  return times(1, () => travelled.back("step"))[0];
+});
+return { module: code.length, compiled, first: boots[0], boot: Math.min(...boots), whole, back: Math.max(...backs), copies: travelled.snapshots.all.length };
 })()"""
 
 
@@ -83,7 +92,7 @@ def native_rate(program, folder):
 
 def in_browser(page, loop):
     text = MEASURE.replace("UNPACK", UNPACK).replace("MODULES", joined("driver", set()))
-    for name, value in {"LOOP_IMAGE": json.dumps(list(loop)), "BOOT_TIMES": BOOT_TIMES}.items():
+    for name, value in {"LOOP_IMAGE": json.dumps(list(loop)), "BOOT_TIMES": BOOT_TIMES, "MANY": MANY, "PART": PART}.items():
         text = re.sub(rf"\b{name}\b", str(value), text)
     with Browser() as browser:
         browser.open(pathlib.Path(page).resolve().as_uri())
@@ -92,7 +101,7 @@ def in_browser(page, loop):
         browser.call("Performance.enable", timeDomain="threadTicks")
         got = browser.js(text)
         got["plain"] = rate(browser, f"spin.steps({STEPS})", STEPS)
-        got["noted"] = rate(browser, f"noted.run(spin, {FEW}, () => {{}})", FEW)
+        got["noted"] = rate(browser, f"noted.run(spin, noted.to, {FEW}, () => {{}})", FEW)
         return got
 
 
@@ -105,6 +114,7 @@ def main():
         native = native_rate(program, folder)
     print(f"page {pathlib.Path(page).stat().st_size} bytes, module {got['module']}, image {pathlib.Path(image).stat().st_size}")
     print(f"module compiled in {got['compiled']:.1f} ms; first boot in {got['first']:.1f} ms, best of {BOOT_TIMES} {got['boot']:.1f}")
+    print(f"{MANY} steps replayed in {got['whole']:.0f} ms with {got['copies']} copies kept; back by one in {got['back']:.1f} ms at most")
     rates = [got["plain"], got["noted"], native]
     print("million steps a second of a processor: {:.1f}; with calls noted {:.2f}; the program {:.1f}".format(*(it / 1e6 for it in rates)))
 

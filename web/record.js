@@ -1,6 +1,8 @@
-// What a machine was given: the script that replays it, and the link that holds the script.
+// What a machine was given: a list of events, each with its position, the script that replays it, and the link that holds the script.
+import { Halt } from "./machine.js";
+import { say } from "./words.js";
 
-const SIGN = "#session=";
+const SIGN = "session";
 const MOST = 1_000_000_000;
 
 /** A number that tells two images apart, as eight digits (FNV-1a). It guards against mistakes alone. */
@@ -26,41 +28,104 @@ function eventOf(line) {
   if ((word === "step" || word === "tick") && /^\d+$/.test(rest)) return { kind: word, times: Number(rest) };
   if (word === "keys" && /^([0-9a-f]{2})*$/.test(rest)) return { kind: word, bytes: bytesOf(rest) };
   if (word === "type") return { kind: "keys", bytes: [...new TextEncoder().encode(`${rest ?? ""}\n`)] };
-  throw new Error(`no line of a script: ${line.slice(0, 40)}`);
+  throw new Error(say("no-line", { line: line.slice(0, 40) }));
 }
 
-/** The events of a machine, each kind's runs as one. */
+const endOf = (run) => run.start + run.times;
+
+// A run's first events.
+function front(run, times) {
+  return run.bytes ? { ...run, times, bytes: run.bytes.slice(0, times) } : { ...run, times };
+}
+
+/** The events of a machine, each kind's runs as one. A position is a number of events. */
 export class Record {
-  constructor(frames) {
+  constructor(frames, events = []) {
     this.frames = frames;
-    this.events = [];
-    this.count = { step: 0, tick: 0, keys: 0 };
+    this.runs = [];
+    for (const event of events) this.add(event);
+  }
+
+  /** The events, as `eventsOf` gives them. */
+  get events() {
+    return this.runs.map(({ kind, times, bytes }) => ({ kind, times, bytes }));
+  }
+
+  get length() {
+    return this.runs.length > 0 ? endOf(this.runs.at(-1)) : 0;
+  }
+
+  add({ kind, times, bytes }) {
+    if (kind === "keys") bytes.forEach((byte) => this.key(byte));
+    else this.repeat(kind, times);
   }
 
   /** So many steps or ticks. */
   repeat(kind, times) {
     if (times === 0) return;
-    this.count[kind] += times;
-    const last = this.events.at(-1);
+    const last = this.runs.at(-1);
     if (last?.kind === kind && last.times + times <= MOST) last.times += times;
-    else this.events.push({ kind, times });
+    else this.push({ kind, times });
   }
 
   key(byte) {
-    this.count.keys += 1;
-    const last = this.events.at(-1);
-    if (last?.kind === "keys") last.bytes.push(byte);
-    else this.events.push({ kind: "keys", bytes: [byte] });
+    const last = this.runs.at(-1);
+    if (last?.kind !== "keys") return this.push({ kind: "keys", times: 1, bytes: [byte] });
+    last.bytes.push(byte);
+    last.times += 1;
+    return undefined;
   }
 
-  /** How many events there were. */
-  get length() {
-    return this.count.step + this.count.tick + this.count.keys;
+  push(run) {
+    this.runs.push({ ...run, start: this.length, before: this.counts() });
+  }
+
+  indexAt(position) {
+    let [low, high] = [0, this.runs.length];
+    while (low < high) {
+      const middle = (low + high) >>> 1;
+      if (endOf(this.runs[middle]) <= position) low = middle + 1;
+      else high = middle;
+    }
+    return low;
+  }
+
+  /** The run of events that the one after a position is of; none at the end. */
+  at(position) {
+    return this.runs[this.indexAt(position)];
+  }
+
+  /** How many steps, ticks and keys stand before a position. */
+  counts(position = this.length) {
+    const run = this.at(position) ?? this.runs.at(-1);
+    if (!run) return { step: 0, tick: 0, keys: 0 };
+    return { ...run.before, [run.kind]: run.before[run.kind] + Math.min(position - run.start, run.times) };
+  }
+
+  /** The events before a position, as another record. */
+  before(position) {
+    const index = this.indexAt(position);
+    const record = new Record(this.frames);
+    record.runs = this.runs.slice(0, index).map((run) => front(run, run.times));
+    const cut = this.runs[index];
+    if (cut && position > cut.start) record.runs.push(front(cut, position - cut.start));
+    return record;
+  }
+
+  /** Up to which position another record has the same events. */
+  sharedWith(other) {
+    const most = Math.min(this.runs.length, other.runs.length);
+    for (let index = 0; index < most; index += 1) {
+      const [one, two] = [this.runs[index], other.runs[index]];
+      const same = one.kind === two.kind ? sharedTimes(one, two) : 0;
+      if (same < one.times || same < two.times) return one.start + same;
+    }
+    return Math.min(this.length, other.length);
   }
 
   /** As `xv6 run` takes it. */
   script() {
-    return this.events.map((event) => `${lineOf(event)}\n`).join("");
+    return this.runs.map((run) => `${lineOf(run)}\n`).join("");
   }
 
   /** The mark of the image, frames and script, as a link holds them. */
@@ -69,9 +134,45 @@ export class Record {
   }
 }
 
+function sharedTimes(one, two) {
+  const most = Math.min(one.times, two.times);
+  if (!one.bytes) return most;
+  let same = 0;
+  while (same < most && one.bytes[same] === two.bytes[same]) same += 1;
+  return same;
+}
+
 /** The events of a script. It throws where a line says nothing. */
 export function eventsOf(script) {
   return script.split("\n").map(eventOf).filter((event) => !isNothing(event));
+}
+
+const PART = 200_000; // steps between two looks at the clock
+
+/** Gives `player.machine` the events of a record from `player.position` on, without looking, up to a position, a time, or a halt. */
+export function replay(player, record, to, until = Infinity) {
+  while (player.position < to && !player.halt && performance.now() < until) playSome(player, record.at(player.position), to);
+}
+
+// The next event of a run, or a part of its steps. Steps of a machine in which nobody is ready change nothing.
+function playSome(player, run, to) {
+  const left = Math.min(endOf(run), to) - player.position;
+  let made = 1;
+  try {
+    if (run.kind === "tick") player.machine.tick();
+    else if (run.kind === "keys") player.machine.key(run.bytes[player.position - run.start]);
+    else made = playSteps(player.machine, left, (count) => (made = count));
+  } catch (error) {
+    if (!(error instanceof Halt)) throw error;
+    player.halt = error;
+  }
+  player.position += made;
+}
+
+function playSteps(machine, left, tell) {
+  const asked = Math.min(left, PART);
+  const made = machine.run(asked, tell);
+  return made < asked ? left : made;
 }
 
 async function through(bytes, stream) {
@@ -86,26 +187,30 @@ const toLetters = (bytes) => {
 };
 const fromLetters = (letters) => Uint8Array.from(atob(letters.replaceAll("-", "+").replaceAll("_", "/")), (letter) => letter.charCodeAt(0));
 
-/** The part of a link that holds a session on the image with a mark. */
-export async function toFragment(record, mark) {
+/** The part of a link that holds a session on the image with a mark, and what one looks at: `view`, `at`, `pid`, `break`, `only`. */
+export async function toFragment(record, mark, seen = {}) {
   const packed = await through(new TextEncoder().encode(record.text(mark)), new CompressionStream("deflate-raw"));
-  return SIGN + toLetters(packed);
+  const words = Object.entries(seen).filter(([, value]) => value).map(([name, value]) => `&${name}=${value}`);
+  return `#${SIGN}=${toLetters(packed)}${words.join("")}`;
 }
 
-async function unpacked(fragment) {
+async function unpacked(letters) {
   try {
-    const packed = fromLetters(fragment.slice(SIGN.length));
-    return new TextDecoder().decode(await through(packed, new DecompressionStream("deflate-raw")));
+    return new TextDecoder().decode(await through(fromLetters(letters), new DecompressionStream("deflate-raw")));
   } catch {
     return "";
   }
 }
 
-/** The session of a link: `{ mark, frames, events }`. It throws where the link holds none. */
-export async function fromFragment(fragment) {
-  const text = fragment.startsWith(SIGN) ? await unpacked(fragment) : "";
-  const [head, ...lines] = text.split("\n");
+/** The words of a link, as `view` and `only`. */
+export const wordsOf = (fragment) => Object.fromEntries(new URLSearchParams(fragment.replace(/^#/, "")));
+
+/** The session of a link: `{ mark, frames, events }`; `null` where it names none. It throws where the link is broken. */
+export async function sessionOf(fragment) {
+  const letters = wordsOf(fragment)[SIGN];
+  if (!letters) return null;
+  const [head, ...lines] = (await unpacked(letters)).split("\n");
   const [, mark, frames] = head.match(/^boot ([0-9a-f]{8}) (\d+)$/) ?? [];
-  if (!mark) throw new Error("the link holds no session");
+  if (!mark) throw new Error(say("no-session"));
   return { mark, frames: Number(frames), events: eventsOf(lines.join("\n")) };
 }

@@ -1,4 +1,6 @@
 // The terminal: what the console wrote, and what is typed at it.
+import { element } from "./elements.js";
+import { say } from "./words.js";
 
 const MOST_CELLS = 20_000;
 const CONTROL = { d: 0x04, h: 0x08, u: 0x15 };
@@ -6,6 +8,7 @@ const NAMED = { Enter: 0x0a, Backspace: 0x7f };
 const BACKSPACE = 0x08;
 const HELD = " "; // the text field holds a blank, so that a phone's keyboard has something to take back
 const PRINTED = [0x09, 0x0a];
+const MOST_SPOKEN = 40; // lines that a screen reader finds
 
 /** The cells of a screen. The console writes text, line ends, and a backspace, a blank and a backspace for each key that is taken back. */
 class Cells {
@@ -40,10 +43,10 @@ function byteOf({ key, ctrlKey, altKey, metaKey }) {
 
 const lineEnds = (text) => text.replace(/\r\n?/g, "\n");
 
-/** A terminal in the page. It calls `type(bytes)`, `showProcesses()` and `say(text)`. */
+/** A terminal in the page. It calls `type(bytes)`, `showProcesses()` and `tell(text)`. */
 export class Terminal {
-  constructor({ frame, screen, keys }, { type, showProcesses, say }) {
-    Object.assign(this, { frame, screen, keys, type, showProcesses, say });
+  constructor({ frame, screen, keys, spoken }, { type, showProcesses, tell }) {
+    Object.assign(this, { frame, screen, keys, spoken, type, showProcesses, tell });
     this.clear();
     keys.addEventListener("keydown", (event) => this.press(event));
     keys.addEventListener("input", (event) => event.isComposing || this.take());
@@ -56,6 +59,16 @@ export class Terminal {
 
   clear() {
     this.cells = new Cells();
+    this.line = "";
+    this.spoken.replaceChildren();
+    this.show();
+  }
+
+  /** Shows other bytes in position of all. */
+  reset(bytes) {
+    this.cells = new Cells();
+    this.cells.write(bytes);
+    this.line = "";
     this.show();
   }
 
@@ -63,6 +76,19 @@ export class Terminal {
     if (bytes.length === 0) return;
     this.cells.write(bytes);
     this.show();
+    this.speak(bytes);
+  }
+
+  // Whole lines, and a prompt, are read out by a screen reader.
+  speak(bytes) {
+    const cells = new Cells();
+    cells.write([...new TextEncoder().encode(this.line), ...bytes]);
+    const lines = cells.text.split("\n");
+    this.line = lines.pop();
+    if (this.line === "$ ") lines.push(this.line);
+    const shown = lines.filter((line) => line.trim() !== "").slice(-MOST_SPOKEN);
+    this.spoken.append(...shown.map((line) => element("div", {}, line)));
+    while (this.spoken.childElementCount > MOST_SPOKEN) this.spoken.firstChild.remove();
   }
 
   /** Lines of the page's own among the console's. */
@@ -94,7 +120,8 @@ export class Terminal {
 
   // A letter that is typed where nothing has the focus is the terminal's.
   wake(event) {
-    if (document.activeElement === document.body && event.key.length === 1 && !event.ctrlKey && !event.metaKey) this.focus();
+    const isLetter = event.key.length === 1 && !event.ctrlKey && !event.metaKey && !event.altKey && event.key !== "?";
+    if (document.activeElement === document.body && isLetter && this.frame.offsetParent !== null) this.focus();
   }
 
   press(event) {
@@ -109,7 +136,7 @@ export class Terminal {
 
   interrupt() {
     if (document.getSelection().isCollapsed) {
-      this.say("^C copies what is selected. xv6 has no key that ends a program: kill PID does.");
+      this.tell(say("no-interrupt"));
     }
   }
 

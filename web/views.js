@@ -1,91 +1,109 @@
 // What the page shows of a machine: its processes, and of one of them the registers, the instructions, the calls and the pages.
 import { callText, waitsFor } from "./calls.js";
 import { REGISTERS, disassemble } from "./disassembly.js";
-import { element, replace } from "./elements.js";
+import { button, element, replace, stopAtOne } from "./elements.js";
+import { PAGE, wordAt } from "./memory.js";
+import { say } from "./words.js";
 
-const PAGE = 4096;
-const BEFORE = 3; // instructions
-const AFTER = 6;
+const BEFORE = 6; // instructions
+const AFTER = 12;
 const MOST_CALLS = 60;
 const MOST_PAGES = 512;
 const ROW = 16;
 
-const digits = (value, count) => value.toString(16).padStart(count, "0");
+export const digits = (value, count) => value.toString(16).padStart(count, "0");
 
-function stateText(process) {
-  const killed = process.killed ? ", killed" : "";
+/** What a process is doing, in words. */
+export function stateText(process) {
+  const killed = process.killed ? `, ${say("killed")}` : "";
   switch (process.state) {
     case "waiting":
-      return `waits ${waitsFor(process)}${killed}`;
+      return waitsFor(process) + killed;
     case "ended":
-      return `ended with ${process.status}`;
+      return say("ended-with", { status: process.status });
     default:
-      return process.state + killed;
+      return say(process.state) + killed;
   }
 }
 
-/** The table of processes. A press of one's button calls `choose(pid)`. */
-export function showProcesses(body, processes, chosen, choose) {
-  const rows = processes.map((process) => {
-    const isChosen = process.pid === chosen;
-    const button = element("button", { type: "button", id: `pid-${process.pid}`, "aria-pressed": isChosen }, String(process.pid));
-    button.addEventListener("click", () => choose(process.pid));
-    return element(
-      "tr",
-      { class: isChosen ? "chosen" : "", "data-state": process.state },
-      element("td", {}, button),
-      element("td", {}, process.parent ? String(process.parent) : ""),
-      element("td", { class: "state" }, stateText(process)),
-      element("td", { class: "number" }, `0x${process.pc.toString(16)}`),
-      element("td", { class: "number" }, String(process.size)),
-    );
+// The processes as a tree: each after its parent, with its depth.
+function asTree(processes) {
+  const pids = new Set(processes.map(({ pid }) => pid));
+  const rows = [];
+  const add = (process, depth) => {
+    rows.push({ process, depth });
+    for (const child of processes) if (child.parent === process.pid && child !== process) add(child, depth + 1);
+  };
+  for (const process of processes) if (!pids.has(process.parent) || process.parent === process.pid) add(process, 0);
+  return rows;
+}
+
+/** The processes as a tree. `nameOf(pid)` is the name of its program; a press of one's button calls `choose(pid)`. */
+export function showProcesses(body, processes, nameOf, chosen, choose) {
+  const buttons = [];
+  const rows = asTree(processes).map(({ process, depth }) => {
+    const { pid } = process;
+    const isChosen = pid === chosen;
+    const pressed = button({ id: `pid-${pid}`, "aria-pressed": isChosen }, `${pid} ${nameOf(pid)}`.trim(), () => choose(pid));
+    buttons.push(pressed);
+    const name = element("td", { style: `padding-left: ${0.3 + 1.2 * depth}em` }, depth > 0 ? "└ " : "", pressed);
+    return element("tr", { class: isChosen ? "chosen" : "", "data-state": process.state }, name, element("td", { class: "state" }, stateText(process)));
   });
+  stopAtOne(buttons, buttons.find((one) => one.id === `pid-${chosen}`));
   replace(body, rows);
+}
+
+/** The choice of the process that is looked at. */
+export function showPids(select, processes, nameOf, chosen) {
+  replace(select, processes.map(({ pid }) => element("option", { value: pid }, say("process-name", { pid, name: nameOf(pid) }))));
+  select.value = String(chosen);
 }
 
 /** The registers; those that differ from the values of before are marked. */
 export function showRegisters(list, process, before) {
   const items = process.registers.map((value, index) => {
     const isChanged = before && before[index] !== value;
-    const text = digits(value, 16);
-    const zeros = text.match(/^0{0,15}/)[0];
-    return element(
-      "li",
-      { class: isChanged ? "changed" : "" },
-      element("b", {}, REGISTERS[index]),
-      element("span", {}, element("i", {}, zeros), text.slice(zeros.length)),
-    );
+    return element("li", { class: isChanged ? "changed" : "" }, element("b", {}, REGISTERS[index]), element("span", {}, value.toString(16)));
   });
   replace(list, items);
 }
 
-/** The instructions around the pc. */
-export function showCode(list, machine, process) {
+/** The instructions around the pc. A press of one calls `toggle(address)`, which sets a breakpoint or takes it away. */
+export function showCode(list, machine, process, breaks, toggle) {
   const items = [];
-  for (let place = -BEFORE; place <= AFTER; place += 1) {
-    const address = process.pc + BigInt(4 * place);
-    const word = address < 0n ? null : wordAt(machine, process.pid, address);
-    if (word === null && place !== 0) continue;
-    const text = word === null ? "no instruction can be read here" : disassemble(word);
-    const current = place === 0 ? { class: "current", "aria-current": "true" } : {};
-    items.push(element("li", current, element("i", {}, `${digits(address, 6)}  `), text));
+  const buttons = [];
+  for (let position = -BEFORE; position <= AFTER; position += 1) {
+    const address = process.pc + BigInt(4 * position);
+    const word = wordAt(machine, process.pid, address);
+    if (word === null && position !== 0) continue;
+    const isBroken = breaks.has(Number(address));
+    const title = say(isBroken ? "break-off" : "break-on", { address: `0x${address.toString(16)}` });
+    const words = { class: "mark", id: `code-${position}`, "aria-pressed": isBroken, title, "aria-label": title };
+    const mark = button(words, isBroken ? "●" : "○", () => toggle(Number(address)));
+    buttons.push(mark);
+    const current = position === 0 ? { class: "current", "aria-current": "true" } : {};
+    items.push(element("li", current, mark, element("i", {}, `${digits(address, 5)}  `), word === null ? say("no-instruction") : disassemble(word)));
   }
+  stopAtOne(buttons, buttons.find((one) => one.id === "code-0"));
   replace(list, items);
+  showCurrent(list, list.querySelector(".current"));
 }
 
-function wordAt(machine, pid, address) {
-  const page = machine.page(pid, address / BigInt(PAGE));
-  const at = Number(address % BigInt(PAGE));
-  return page?.execute && at % 4 === 0 ? new DataView(page.bytes.buffer).getInt32(at, true) : null;
+// Scrolls a list alone, and not the page.
+function showCurrent(list, current) {
+  const isSeen = current && current.offsetTop >= list.scrollTop && current.offsetTop + current.offsetHeight <= list.scrollTop + list.clientHeight;
+  if (current && !isSeen) list.scrollTop = current.offsetTop - list.clientHeight / 3;
 }
 
-/** The last calls, the newest first. */
-export function showCalls(list, lines) {
-  const items = lines.slice(-MOST_CALLS).reverse().map((line) => element("li", {}, callText(line)));
-  replace(list, items.length > 0 ? items : [element("li", { class: "none" }, "no calls were noted")]);
+/** The last calls, the newest first, and among them the faults. */
+export function showCalls(list, lines, faults) {
+  const told = faults.map(({ at, text }) => ({ at, item: element("li", { class: "fault" }, text) }));
+  const all = lines.map((line) => ({ at: line.at, item: element("li", {}, callText(line)) })).concat(told);
+  const items = all.sort((one, two) => two.at - one.at).slice(0, MOST_CALLS).map(({ item }) => item);
+  replace(list, items.length > 0 ? items : [element("li", { class: "none" }, say("no-calls"))]);
 }
 
-const markText = (page) => (page.read ? "r" : "-") + (page.write ? "w" : "-") + (page.execute ? "x" : "-");
+export const markText = (page) => (page.read ? "r" : "-") + (page.write ? "w" : "-") + (page.execute ? "x" : "-");
 
 const wordsOf = (bytes) => new Uint32Array(bytes.buffer);
 
@@ -111,10 +129,10 @@ function pageClass(page, holders) {
 }
 
 function pageTitle(page, number, holders) {
-  const where = `page ${number}, from 0x${digits(number * PAGE, 4)} on: `;
-  if (!page.read) return `${where}can't be touched`;
-  const others = holders.length > 1 ? `; the same bytes in processes ${holders.join(", ")}` : "";
-  return `${where}${markText(page)}${others}`;
+  const where = say("page-from", { number, address: `0x${digits(number * PAGE, 4)}` });
+  if (!page.read) return `${where}: ${say("guard")}`;
+  const others = holders.length > 1 ? `; ${say("same-bytes", { pids: holders.join(", ") })}` : "";
+  return `${where}: ${markText(page)}${others}`;
 }
 
 /** The pages as a picture, and what its colours mean. A press of a page's button calls `choose(number)`. */
@@ -129,31 +147,31 @@ export function showPages({ picture, legend }, machine, process, processes, chos
     const kind = pageClass(page, holders);
     if (holders.length > 1) groups.set(holders.join(", "), kind);
     const title = pageTitle(page, number, holders);
-    const words = { type: "button", id: `page-${number}`, class: kind, title, "aria-label": title, "aria-pressed": number === chosen };
-    const button = element("button", words, element("b", {}, String(number)), element("span", {}, markText(page)));
-    button.addEventListener("click", () => choose(number));
-    buttons.push(button);
+    const words = { id: `page-${number}`, class: kind, title, "aria-label": title, "aria-pressed": number === chosen };
+    const pressed = button(words, element("b", {}, String(number)), () => choose(number));
+    pressed.append(element("span", {}, markText(page)));
+    buttons.push(pressed);
   }
-  replace(picture, buttons);
+  replace(picture, stopAtOne(buttons, buttons.find((one) => one.id === `page-${chosen}`)));
   showLegend(legend, groups, count);
 }
 
 function showLegend(legend, groups, count) {
-  const items = [element("li", { class: "own" }, "its own"), element("li", { class: "guard" }, "can't be touched")];
-  for (const [holders, kind] of groups) items.push(element("li", { class: kind }, `the same bytes in ${holders}`));
-  if (count > MOST_PAGES) items.push(element("li", {}, `and ${count - MOST_PAGES} more`));
+  const items = [element("li", { class: "own" }, say("own-page")), element("li", { class: "guard" }, say("guard"))];
+  for (const [holders, kind] of groups) items.push(element("li", { class: kind }, say("same-bytes", { pids: holders })));
+  if (count > MOST_PAGES) items.push(element("li", {}, say("more-pages", { count: count - MOST_PAGES })));
   replace(legend, items);
 }
 
 const letter = (byte) => (byte >= 0x20 && byte < 0x7f ? String.fromCharCode(byte) : ".");
 
 /** The bytes of something, in rows. */
-export function bytesText(bytes, start = 0) {
+export function bytesText(bytes, start = 0, row = ROW) {
   const rows = [];
-  for (let at = 0; at < bytes.length; at += ROW) {
-    const row = [...bytes.subarray(at, at + ROW)];
-    const numbers = row.map((byte) => digits(byte, 2)).join(" ");
-    rows.push(`${digits(start + at, 5)}  ${numbers.padEnd(3 * ROW)} ${row.map(letter).join("")}`);
+  for (let at = 0; at < bytes.length; at += row) {
+    const part = [...bytes.subarray(at, at + row)];
+    const numbers = part.map((byte) => digits(byte, 2)).join(" ");
+    rows.push(`${digits(start + at, 5)}  ${numbers.padEnd(3 * row)} ${part.map(letter).join("")}`);
   }
   return rows.join("\n");
 }

@@ -9,7 +9,7 @@ import tempfile
 from concurrent.futures import ThreadPoolExecutor
 
 sys.path.insert(0, os.path.abspath(sys.argv[1]))
-from cathompi import BootError, Closed, Error, Halted, Machine, NotPrinted
+from cathompi import BootError, Call, Closed, Error, Exit, Fault, Halted, Machine, NotPrinted, NotReached, Output, schedules
 
 SEEDS = 50
 LINES = ["ls", "echo hi | cat", "mkdir d", "cat init | cat", "rm cat", "ln sh x", "forktest", "kill 2", "echo a b c", "ls | cat", "nope", "\x08\x15x", "\x04"]
@@ -84,6 +84,67 @@ def try_errors(image):
         except Halted as error:
             assert error.number == 1 and error.reason == "process 1 ended" and isinstance(error, Error)
         assert halting.process(1).state == "ended" and raises(Halted, halting.run) and len(halting.save()) == len(image)
+
+
+def replayed(script, image, frames):
+    """A machine that plays a script."""
+    machine = Machine(image, frames)
+    for line in script.splitlines():
+        kind, what = line.split(" ")
+        if kind == "keys":
+            machine.type(bytes.fromhex(what))
+        else:
+            {"step": machine.steps, "tick": machine.tick}[kind](int(what))
+    return machine
+
+
+def try_events(image):
+    """Events come in their order, change nothing of what the machine does, and `until` runs to one of them."""
+    with Machine(image) as machine, Machine(image) as plain:
+        for one in (machine, plain):
+            one.run()
+            one.type("echo hi | cat\n")
+        happened = list(machine.events())
+        plain.run()
+        assert told(machine) == told(plain) and machine.console() == plain.console() and machine.script() == plain.script()
+        with replayed(machine.script(), image, 256) as again:
+            assert told(again) == told(machine)
+        assert b"".join(it.data for it in happened if isinstance(it, Output)) == b"hi\n$ "
+        assert [it.pid for it in happened if isinstance(it, Exit)] == [3, 4] and not any(isinstance(it, Fault) for it in happened)
+        names = [it.name for it in happened if isinstance(it, Call) and it.pid == 2]
+        assert names[0] == "pipe" and names.count("fork") == 2 and names[-1] == "read"
+        machine.type("ls\n")
+        fork = machine.until(call="fork")
+        assert fork.name == "fork" and machine.process(2).state == "running" and machine.process(5) is None
+        assert machine.until(call="any").pid in (2, 5) and machine.process(5) is not None
+        assert machine.until(call="write", pid=5).arguments[0] == 1 and machine.until(exit=True).status == 0
+        assert raises(NotReached, lambda: machine.until(fault=True)) and raises(ValueError, machine.until)
+
+
+def try_schedules(image):
+    """A tick after each step: the same is printed, and the machine stays where it is; each script replays its outcome."""
+    with Machine(image) as machine:
+        machine.run()
+        machine.type("echo hi | cat\n")
+        before = told(machine)
+        outcomes = schedules(machine, most=300)
+        assert told(machine) == before and outcomes[0].steps[0] is None and sum(len(it.steps) for it in outcomes) > 250
+        assert [it.value for it in outcomes] == [b"init: starting sh\n$ echo hi | cat\nhi\n$ "]
+        states = schedules(machine, lambda copy: copy.run(500) and str(told(copy)), most=50)
+        assert len(states) > 1
+        for outcome in states:
+            with replayed(outcome.script, image, 256) as again:
+                assert str(told(again)) == outcome.value
+
+
+def try_pictures(image):
+    """What a notebook shows."""
+    with Machine(image) as machine:
+        machine.run()
+        assert "waits in read" in machine._repr_html_() and "frames free" in machine._repr_html_()
+        assert "<table>" in machine.process(2)._repr_html_() and "rwx" in machine.page(2, 0)._repr_html_()
+        assert machine.tree._repr_svg_().count("<text") == 2
+    assert "closed" in machine._repr_html_()
 
 
 def told(machine):
@@ -191,7 +252,10 @@ def main():
     try_errors(image)
     try_copies(image)
     try_threads(image)
-    print(f"check-library: Python: a session, with {free} frames free; files; errors; copies; threads")
+    try_events(image)
+    try_schedules(image)
+    try_pictures(image)
+    print(f"check-library: Python: a session, with {free} frames free; files; errors; copies; threads; events; schedules")
     try_copied_seeds(image)
     print(f"check-library: Python: {SEEDS} random sessions, each copied on its way")
     print(f"check-library: Python: {SEEDS} random sessions, {try_seeds(os.path.abspath(program), path, image)} bytes, the same as the program's")

@@ -16,9 +16,16 @@ import ctypes
 import os
 import threading
 from dataclasses import dataclass
-from typing import Dict, Iterator, List, Optional, Tuple, Union
+from typing import Any, Dict, Iterator, List, Optional, Tuple, Union
 
-__all__ = ["BootError", "Closed", "Error", "Halted", "Machine", "Node", "NotPrinted", "Page", "Process", "VERSION"]
+from .events import CALLS as _CALLS, Call, Event, Exit, Fault, Output, events_of
+from .schedules import Outcome, schedules
+from .shown import machine_html, page_html, process_html, tree_svg
+
+__all__ = [
+    "BootError", "Call", "Closed", "Error", "Event", "Exit", "Fault", "Halted", "Machine", "Node", "NotPrinted", "NotReached", "Outcome",
+    "Output", "Page", "Process", "Tree", "VERSION", "schedules",
+]
 
 VERSION = 1001
 """The number of the interface, not of the release: the major number times 1000, and the minor one."""
@@ -40,9 +47,6 @@ _HALTS = {
 }
 _STATES = {1: "running", 2: "ready", 3: "waiting", 4: "ended"}
 _KINDS = {1: "directory", 2: "file", 3: "device"}
-_CALLS = dict(enumerate(
-    "fork exit wait pipe read kill exec fstat chdir dup getpid sbrk sleep uptime open write mknod unlink link mkdir close".split(), 1
-))
 _ROOT = 1
 _SLICE = 100_000
 
@@ -80,6 +84,10 @@ class Closed(Error, ValueError):
 
 class NotPrinted(Error):
     """A run ended before a text was printed. What was printed is kept for `console`."""
+
+
+class NotReached(Error):
+    """`until` ended before what it was to run to."""
 
 
 class _Machine(ctypes.Structure):
@@ -156,6 +164,19 @@ class Process:
     size: int
     """In bytes."""
 
+    def _repr_html_(self) -> str:
+        return process_html(self)
+
+
+@dataclass(frozen=True)
+class Tree:
+    """Processes as a tree, each below its parent; a notebook draws it."""
+
+    processes: Tuple[Process, ...]
+
+    def _repr_svg_(self) -> str:
+        return tree_svg(self.processes)
+
 
 @dataclass(frozen=True)
 class Page:
@@ -170,6 +191,9 @@ class Page:
     def marks(self) -> str:
         """What the program may do with it, as "rw-"."""
         return "".join(mark if may else "-" for mark, may in zip("rwx", (self.readable, self.writable, self.executable)))
+
+    def _repr_html_(self) -> str:
+        return page_html(self)
 
 
 @dataclass(frozen=True)
@@ -206,6 +230,7 @@ class Machine:
         self._room = ctypes.create_string_buffer(1 << 16)
         self._length = length
         self._kept = kept
+        self._lines: List[Tuple[str, Any]] = []
 
     # ---- its life
 
@@ -220,6 +245,7 @@ class Machine:
             other._set_up(self._length, self._kept)
             if _library.xv6_raw_copy(at, other._at):
                 raise MemoryError("the host has no memory for a copy")
+            other._lines = list(self._lines)
             return other
 
     __copy__ = copy
@@ -268,26 +294,45 @@ class Machine:
     def steps(self, times: int) -> None:
         """Takes so many steps, each an instruction or a turn of the scheduler, up to the first at which the machine stops."""
         with self._lock:
-            _raise_for(_library.xv6_raw_steps(self._open(), _number(times)))
+            answer = _library.xv6_raw_steps(self._open(), _number(times))
+            self._note("step", times)
+            _raise_for(answer)
 
     def run(self, most: int = 100_000_000) -> int:
         """Takes steps until no process runs or is ready, and at most so many. Tells how many: `steps` of as many does the same."""
         with self._lock:
             done = ctypes.c_uint32()
-            _raise_for(_library.xv6_raw_run(self._open(), _number(most), done))
+            answer = _library.xv6_raw_run(self._open(), _number(most), done)
+            self._note("step", done.value)
+            _raise_for(answer)
             return done.value
 
     def tick(self, times: int = 1) -> None:
         """So many timer interrupts."""
         with self._lock:
             for _tick in range(times):
-                _raise_for(_library.xv6_raw_tick(self._open()))
+                answer = _library.xv6_raw_tick(self._open())
+                self._note("tick", 1)
+                _raise_for(answer)
 
     def type(self, text: Union[str, bytes]) -> None:
         """Types a text at the console, a byte after the other."""
         with self._lock:
             for byte in text.encode() if isinstance(text, str) else text:
-                _raise_for(_library.xv6_raw_key(self._open(), byte))
+                answer = _library.xv6_raw_key(self._open(), byte)
+                self._note("keys", bytes([byte]))
+                _raise_for(answer)
+
+    def _note(self, kind: str, what: Any) -> None:
+        """Keeps events for `script`: a number of steps or ticks, or keys."""
+        if what and self._lines and self._lines[-1][0] == kind:
+            self._lines[-1] = (kind, self._lines[-1][1] + what)
+        elif what:
+            self._lines.append((kind, what))
+
+    def script(self) -> str:
+        """All events since the boot, as `xv6 run` takes them: with the same image and as many frames it does the same."""
+        return "".join(f"{kind} {what.hex() if kind == 'keys' else what}\n" for kind, what in self._lines)
 
     def run_until(self, text: Union[str, bytes], most: int = 100_000_000, ticks: int = 0) -> bytes:
         """Runs until the console has printed a text, and gives what it printed up to the text's end.
@@ -313,6 +358,31 @@ class Machine:
                     ticks -= 1
                     self.tick()
 
+    def events(self, most: int = 1_000_000) -> Iterator[Event]:
+        """Takes steps, at most so many, until no process runs or is ready, and gives what happens: calls, faults, exits, output.
+
+        A `Call` is given before its instruction is done, and the others after the step that did them: whoever stops at a call finds
+        the machine before it. It looks at each step, which takes some microseconds.
+        """
+        return events_of(self, most)
+
+    def until(
+        self, call: Optional[str] = None, *, pid: Optional[int] = None, fault: bool = False, exit: bool = False, most: int = 1_000_000
+    ) -> Event:
+        """Runs to the next call with a name, fault or exit, of any process or of one, and returns that event.
+
+        The machine is before the instruction of a call, and after that of a fault or an exit. `call="any"` is each call. A call that is
+        next already is passed. `NotReached` where nothing of it comes.
+        """
+        if call is None and not fault and not exit:
+            raise ValueError("until: no call, fault or exit is named")
+        for event in self.events(most):
+            is_passed = isinstance(event, Call) and event.at == 0
+            if not is_passed and _is_wanted(event, call, fault, exit) and pid in (None, getattr(event, "pid", None)):
+                return event
+        wanted = " or ".join([f"call {call}"] * (call is not None) + ["fault"] * fault + ["exit"] * exit)
+        raise NotReached(f"no {wanted} came: {'all processes wait' if self.idle else f'not in {most} steps'}")
+
     # ---- the console
 
     def console(self) -> bytes:
@@ -330,12 +400,12 @@ class Machine:
         yield from self.console()
 
     def _take(self) -> bytes:
-        parts = []
+        parts: List[bytes] = []
         while True:
             count = _library.xv6_raw_console(self._open(), self._room, len(self._room))
             if not count:
                 return b"".join(parts)
-            parts.append(self._room[:count])
+            parts.append(ctypes.string_at(self._room, count))
 
     # ---- processes
 
@@ -350,6 +420,41 @@ class Machine:
             status=told.status if told.state == 4 else None, killed=bool(told.killed), pc=told.pc, registers=tuple(told.registers), size=told.size,
         )
 
+    def _is_running(self, pid: int) -> bool:
+        told = _Process()
+        return not _library.xv6_raw_process(self._open(), pid, told) and told.state == 1
+
+    def _running(self) -> Optional[Process]:
+        """The process that runs, if one does."""
+        with self._lock:
+            pid = _library.xv6_raw_next_pid(self._open(), 0)
+            while pid and not self._is_running(pid):
+                pid = _library.xv6_raw_next_pid(self._open(), pid)
+            return self.process(pid) if pid else None
+
+    def _word(self, process: Process) -> int:
+        """The word at a process's pc; 0 where there is none."""
+        page, at = divmod(process.pc, PAGE_SIZE)
+        marks = _library.xv6_raw_page(self._open(), process.pid, page, self._room, at + 4)
+        return int.from_bytes(ctypes.string_at(self._room, at + 4)[at:], "little") if marks & 8 and at % 4 == 0 else 0
+
+    def _printed(self) -> bytes:
+        """What the console printed since it was looked at last; it is kept for `console`."""
+        with self._lock:
+            data = self._take()
+            self._kept += data
+            return data
+
+    @property
+    def tree(self) -> Tree:
+        """The processes as a tree."""
+        return Tree(tuple(self.processes()))
+
+    def _repr_html_(self) -> str:
+        if self.closed:
+            return "<p>a machine that is closed</p>"
+        return machine_html(self.processes(), self.free_frames)
+
     def processes(self) -> List[Process]:
         """All processes, in the order of their pids."""
         with self._lock:
@@ -363,7 +468,7 @@ class Machine:
         """A page of a process, by its number from 0 on; None past the last, and where there is no such process."""
         with self._lock:
             marks = _library.xv6_raw_page(self._open(), _number(pid), _number(number, 64), self._room, PAGE_SIZE)
-            return Page(self._room[:PAGE_SIZE], bool(marks & 2), bool(marks & 4), bool(marks & 8)) if marks else None
+            return Page(ctypes.string_at(self._room, PAGE_SIZE), bool(marks & 2), bool(marks & 4), bool(marks & 8)) if marks else None
 
     @property
     def idle(self) -> bool:
@@ -375,7 +480,7 @@ class Machine:
     def free_frames(self) -> int:
         """How many frames are free."""
         with self._lock:
-            return _library.xv6_raw_free_frames(self._open())
+            return int(_library.xv6_raw_free_frames(self._open()))
 
     # ---- files
 
@@ -392,12 +497,13 @@ class Machine:
     def read(self, where: Union[int, str]) -> bytes:
         """All bytes of the file or directory with a path or a number; none of a device. FileNotFoundError where there is none."""
         with self._lock:
-            number, count, parts, at = self.stat(where).number, ctypes.c_size_t(), [], 0
+            parts: List[bytes] = []
+            number, count, at = self.stat(where).number, ctypes.c_size_t(), 0
             while True:
                 _raise_for(_library.xv6_raw_read(self._open(), number, at, self._room, len(self._room), count))
                 if not count.value:
                     return b"".join(parts)
-                parts.append(self._room[:count.value])
+                parts.append(ctypes.string_at(self._room, count.value))
                 at += count.value
 
     def files(self) -> Dict[str, Node]:
@@ -429,6 +535,13 @@ class Machine:
                 raise FileNotFoundError(path)
             number = there[name]
         return number
+
+
+def _is_wanted(event: Event, call: Optional[str], fault: bool, exit: bool) -> bool:
+    """Whether `until` was to run to an event."""
+    if isinstance(event, Call):
+        return call in ("any", event.name)
+    return (fault and isinstance(event, Fault)) or (exit and isinstance(event, Exit))
 
 
 def _number(number: int, bits: int = 32) -> int:

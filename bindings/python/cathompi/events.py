@@ -1,0 +1,101 @@
+"""What happens in a machine, step by step: calls, faults, exits, and what the console prints."""
+from __future__ import annotations
+
+from dataclasses import dataclass
+from typing import TYPE_CHECKING, Iterator, Optional, Tuple, Union
+
+if TYPE_CHECKING:
+    from . import Machine, Process
+
+__all__ = ["Call", "Event", "Exit", "Fault", "Output", "events_of"]
+
+CALLS = dict(enumerate(
+    "fork exit wait pipe read kill exec fstat chdir dup getpid sbrk sleep uptime open write mknod unlink link mkdir close".split(), 1
+))
+_TAKES = {
+    "exit": 1, "wait": 1, "pipe": 1, "read": 3, "kill": 1, "exec": 2, "fstat": 2, "chdir": 1, "dup": 1, "sbrk": 1, "sleep": 1, "open": 2,
+    "write": 3, "mknod": 3, "unlink": 1, "link": 2, "mkdir": 1, "close": 1,
+}
+_ECALL = 0x73
+_A0, _A7 = 10, 17
+
+
+@dataclass(frozen=True)
+class Call:
+    """A process calls the kernel with its next instruction."""
+
+    at: int
+    """How many steps the machine had taken before that instruction, counted from where the events begin."""
+    pid: int
+    name: str
+    """As "fork"; the number where the kernel has no such call."""
+    arguments: Tuple[int, ...]
+
+
+@dataclass(frozen=True)
+class Fault:
+    """An instruction ended its process."""
+
+    at: int
+    pid: int
+    pc: int
+
+
+@dataclass(frozen=True)
+class Exit:
+    """A process ended: by `exit`, by a fault, or since it was killed."""
+
+    at: int
+    pid: int
+    status: int
+
+
+@dataclass(frozen=True)
+class Output:
+    """The console printed bytes. `console` and `run_until` return them, too."""
+
+    at: int
+    data: bytes
+
+
+Event = Union[Call, Fault, Exit, Output]
+
+
+def _signed(value: int) -> int:
+    """The low 32 bits of a register, as a signed number."""
+    value &= 0xFFFFFFFF
+    return value - (1 << 32) if value >> 31 else value
+
+
+def _call_of(process: Process, at: int) -> Call:
+    number = _signed(process.registers[_A7])
+    name = CALLS.get(number, str(number))
+    return Call(at, process.pid, name, process.registers[_A0:_A0 + _TAKES.get(name, 0)])
+
+
+def _ended(machine: Machine, process: Process, call: Optional[Call], at: int) -> Iterator[Event]:
+    """What a process that no longer runs, and was not in a call that goes on, came to."""
+    now = machine.process(process.pid)
+    if now is not None and now.state != "ended":
+        return
+    status = now.status if now is not None and now.status is not None else -1
+    if call is None and not process.killed:
+        yield Fault(at, process.pid, process.pc)
+    yield Exit(at, process.pid, status)
+
+
+def events_of(machine: Machine, most: int) -> Iterator[Event]:
+    """The events of the next steps, at most so many, until no process runs or is ready."""
+    for at in range(most):
+        process = machine._running()
+        call = None
+        if process is not None and machine._word(process) == _ECALL:
+            call = _call_of(process, at)
+            yield call
+        if machine.run(1) == 0:
+            return
+        data = machine._printed()
+        if data:
+            yield Output(at, data)
+        if process is not None and not machine._is_running(process.pid):
+            yield from _ended(machine, process, call, at)
