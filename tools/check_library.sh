@@ -42,11 +42,15 @@ else
     echo "check-library: no matplotlib: the tour of docs/PYTHON.md is not tried (apt install python3-matplotlib)"
 fi
 # The notebook, and the types of the package and of the examples.
-if python3 -c 'import nbconvert, ipykernel' 2> /dev/null; then
+python=
+for it in python3 /usr/bin/python3; do
+    if [ -z "$python" ] && $it -c 'import nbconvert, ipykernel' 2> /dev/null; then python=$it; fi
+done
+if [ -n "$python" ]; then
     mkdir -p "$scratch/out"
     cp "$3" "$scratch/out/xv6.img"
     cp examples/notebooks/tour.ipynb "$scratch/"
-    (cd "$scratch" && PYTHONPATH=$library python3 -m nbconvert --log-level WARN --to html --execute tour.ipynb)
+    (cd "$scratch" && PYTHONPATH=$library PYDEVD_DISABLE_FILE_VALIDATION=1 $python -Xfrozen_modules=off -m nbconvert --log-level WARN --to html --execute tour.ipynb)
     echo "check-library: Python: examples/notebooks/tour.ipynb"
 else
     echo "check-library: no nbconvert: the notebook is not tried (apt install jupyter-nbconvert python3-ipykernel)"

@@ -13,9 +13,10 @@ def main(image: str) -> None:
     with Machine(pathlib.Path(image).read_bytes()) as machine:
         machine.run_until("$ ")
         machine.type("race\n")
-        for outcome in schedules(machine):
+        outcomes = schedules(machine)
+        for outcome in outcomes:
             print(f"{outcome.value!r}: {len(outcome.steps)} schedules")
-        lost = next(it for it in schedules(machine) if it.value == b"race\n1\n$ ")
+        lost = next(it for it in outcomes if it.value == b"race\n1\n$ ")
         print(f"first with a tick after {lost.steps[0]} steps:\n{lost.script}", end="")
 
 

@@ -86,6 +86,7 @@ def _ended(machine: Machine, process: Process, call: Optional[Call], at: int) ->
 
 def events_of(machine: Machine, most: int) -> Iterator[Event]:
     """The events of the next steps, at most so many, until no process runs or is ready."""
+    machine._printed()
     for at in range(most):
         process = machine._running()
         call = None
