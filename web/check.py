@@ -421,10 +421,34 @@ class Check:
         self.browser.click(f"#outcome-{index}")
         self.rest(300)
         self.equal(self.screen().endswith("race\n1\n$ "), True, "an update is lost")
-        address, script = self.link()
-        console, _ = self.run(script)
+        console, _ = self.run(self.link()[1])
         self.equal(self.screen(), self.shown(console), "the program loses it too")
-        self.links(address, self.screen(), 1280)
+        self.look("inside")
+        self.browser.js("document.querySelector('[data-back=tick]').click()")
+        self.rest(300)
+        self.equal(self.last_call(), 'read(3, "0", 1) = 1', "the first process has read 0")
+        first = self.looked_at()
+        for wanted in (str(int(first) + 1), first):
+            self.browser.js("document.querySelector('[data-forward=switch]').click()")
+            self.said("another process runs", "the switch")
+            self.rest(300)
+            self.equal(self.looked_at(), wanted, f"process {wanted} runs")
+        self.browser.picture(self.pictures / "lost.png")
+        self.look("run")
+        address, _ = self.link()
+        self.equal("&at=" in address, True, "the link holds the position")
+        screen, position = self.screen(), self.text("position-text")
+        self.browser.open(address)
+        self.browser.wait(f"document.getElementById('position-text').textContent === {json.dumps(position)}", "the position of the link")
+        self.rest(300)
+        self.equal(self.screen(), screen, "the link shows the same")
+
+    def last_call(self):
+        return self.browser.js("document.querySelector('#calls li').textContent")
+
+    def looked_at(self):
+        """The pid of the process that is looked at."""
+        return self.browser.js("document.getElementById('pids').value")
 
     # ---- what holds of each view
 

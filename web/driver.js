@@ -439,7 +439,13 @@ export class Driver {
     return { call: lines, fork: lines.filter(({ number }) => number === FORK), switch: switches, fault: faults, output: outputs }[kind];
   }
 
-  /** Back to the last call, switch, key .. before here; whether there is one. */
+  /** The pid of the process that ran last; 0 where that isn't known. */
+  get lastRan() {
+    const { calls, position } = this;
+    return calls.knows(position) ? (lastBefore(calls.switches, position)?.pid ?? 0) : calls.last;
+  }
+
+  /** Back to the last call, switch, tick, key .. before here; whether there is one. */
   back(kind) {
     const position = kind === "step" ? this.position - 1 : lastBefore(this.linesOf(kind), this.position)?.at;
     if (position === undefined || position < 0) return false;

@@ -39,11 +39,11 @@ const times = (count, act) => Array.from({ length: count }, () => { const from =
 const boots = times(BOOT_TIMES, () => machine.Machine.boot(module, image, 256).close());
 globalThis.spin = machine.Machine.boot(module, Uint8Array.from(LOOP_IMAGE), 64);
 globalThis.noted = new calls.Calls();
-const travelled = new driver.Driver(module, Uint8Array.from(LOOP_IMAGE), 256, [{ kind: "step", times: MANY }]);
+const travelled = new driver.Driver(module, Uint8Array.from(LOOP_IMAGE), 256, [{ kind: "step", times: ALL_EVENTS }]);
 travelled.goal = null;
-const whole = times(1, () => { while (travelled.position < MANY) travelled.go(Math.min(travelled.position + PART, MANY), Infinity); })[0];
+const whole = times(1, () => { while (travelled.position < ALL_EVENTS) travelled.go(Math.min(travelled.position + SOME_EVENTS, ALL_EVENTS), Infinity); })[0];
 const backs = Array.from({ length: 20 }, (_, index) => {
-  travelled.seek(Math.floor((MANY * (index + 1)) / 20));
+  travelled.seek(Math.floor((ALL_EVENTS * (index + 1)) / 20));
   return times(1, () => travelled.back("step"))[0];
 });
 return { module: code.length, compiled, first: boots[0], boot: Math.min(...boots), whole, back: Math.max(...backs), copies: travelled.snapshots.all.length };
@@ -92,7 +92,7 @@ def native_rate(program, folder):
 
 def in_browser(page, loop):
     text = MEASURE.replace("UNPACK", UNPACK).replace("MODULES", joined("driver", set()))
-    for name, value in {"LOOP_IMAGE": json.dumps(list(loop)), "BOOT_TIMES": BOOT_TIMES, "MANY": MANY, "PART": PART}.items():
+    for name, value in {"LOOP_IMAGE": json.dumps(list(loop)), "BOOT_TIMES": BOOT_TIMES, "ALL_EVENTS": MANY, "SOME_EVENTS": PART}.items():
         text = re.sub(rf"\b{name}\b", str(value), text)
     with Browser() as browser:
         browser.open(pathlib.Path(page).resolve().as_uri())

@@ -28,6 +28,7 @@ const MOST_PARTS = 20;
 const PAGE_SIZE = 4096;
 const MOST_SHOWN = 1 << 16;
 const VIEWS = ["run", "inside", "disk"];
+const NOTED = ["call", "switch"]; // what is known of noted calls alone
 const THEMES = ["", "dark", "light"];
 const FIRST_BLOCK = 1;
 const ROOT = 1;
@@ -176,7 +177,7 @@ class Page {
   }
 
   back(kind) {
-    if (kind !== "step" && kind !== "key" && !this.driver.calls.knows(this.driver.position)) return this.noteFirst(() => this.back(kind));
+    if (NOTED.includes(kind) && !this.driver.calls.knows(this.driver.position)) return this.noteFirst(() => this.back(kind));
     if (!this.driver.back(kind)) this.say(say(`no-back-${kind}`));
     return this.refresh();
   }
@@ -212,7 +213,7 @@ class Page {
   // The process that is shown: the one that runs or ran last, where that is wished.
   chooseAmong(processes) {
     const withPid = (wanted) => processes.find(({ pid }) => pid === wanted);
-    const running = () => processes.find(({ state }) => state === "running") ?? withPid(this.driver.calls.last);
+    const running = () => processes.find(({ state }) => state === "running") ?? withPid(this.driver.lastRan);
     const process = (byId("follow").checked && running()) || withPid(this.chosen) || processes.at(-1);
     this.chosen = process?.pid;
     return process;
