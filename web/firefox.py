@@ -100,7 +100,7 @@ class Firefox:
         self.call("WebDriver:Navigate", url=address)
 
     def size(self, width, height):
-        """The size of the window, so that the page has so much room."""
+        """The size of the window, so that the page has that much room."""
         self.call("WebDriver:SetWindowRect", width=width, height=height)
         inner = self.js("[innerWidth, innerHeight]")
         self.call("WebDriver:SetWindowRect", width=2 * width - inner[0], height=2 * height - inner[1])

@@ -1,4 +1,4 @@
-// The names of the programs that processes run: those of the files whose bytes stand in their memory.
+// The names of the programs that processes run: those of the files whose bytes are in their memory.
 
 const FIRST_HEADER = 64;
 const LOADED = 1;

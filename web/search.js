@@ -1,4 +1,4 @@
-// Tries a timer interrupt at each of the next positions, each on a copy of the machine, and tells the outcomes.
+// Tries a timer interrupt at each of the next positions, each on a copy of the machine, and returns the outcomes.
 import { Halt } from "./machine.js";
 
 const MOST_POSITIONS = 20_000;

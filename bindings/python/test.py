@@ -121,6 +121,42 @@ def try_events(image):
         assert raises(NotReached, lambda: machine.until(fault=True)) and raises(ValueError, machine.until)
 
 
+# Programs that end by a fault, and a part of its reason.
+FAULTS = {
+    "li t0, 0x5000\nld a0, 0(t0)\n": "a load of 8 bytes from 0x5000, by t0: the process has no page there, its 3 pages end at 0x3000",
+    "li t0, 0x1000\nsb zero, 4(t0)\n": "a store of 1 bytes to 0x1004, by t0: the page there is a guard",
+    "lw a0, 2(zero)\n": "a load of 4 bytes from 0x2, by zero: it is no multiple of 4",
+    "jalr zero, 2(zero)\n": "a jump to 0x2, which is no multiple of 4",
+    "li t0, 0x2000\njalr zero, 0(t0)\n": "no instruction can be fetched at 0x2000: the page there can't be executed",
+    "ebreak\n": "ebreak",
+    ".word 0\n": "0x00000000 is no instruction",
+}
+
+
+def try_faults(program):
+    """A fault is given before the end of process 1 is raised, with its reason."""
+    for text, wanted in FAULTS.items():
+        with tempfile.TemporaryDirectory() as folder:
+            for name, content in (("init.s", text), ("manifest", "file /init init\n")):
+                with open(os.path.join(folder, name), "w") as file:
+                    file.write(content)
+            for words in (["asm", "init.s", "init"], ["mkfs", "--size", "64", "--inodes", "16", "manifest", "image"]):
+                subprocess.run([program, *words], cwd=folder, check=True)
+            with open(os.path.join(folder, "image"), "rb") as file:
+                image = file.read()
+        with Machine(image, 64) as machine:
+            happened = []
+            assert raises(Halted, keep, machine.events(), happened)
+            fault, end = happened
+            assert fault.reason.startswith(wanted) and end == Exit(fault.at, 1, -1), (text, happened)
+
+
+def keep(events, kept):
+    """Keeps events as they come."""
+    for event in events:
+        kept.append(event)
+
+
 def try_schedules(image):
     """A tick after each step: the same is printed, and the machine stays where it is; each script replays its outcome."""
     with Machine(image) as machine:
@@ -253,9 +289,10 @@ def main():
     try_copies(image)
     try_threads(image)
     try_events(image)
+    try_faults(os.path.abspath(program))
     try_schedules(image)
     try_pictures(image)
-    print(f"check-library: Python: a session, with {free} frames free; files; errors; copies; threads; events; schedules")
+    print(f"check-library: Python: a session, with {free} frames free; files; errors; copies; threads; events; faults; schedules")
     try_copied_seeds(image)
     print(f"check-library: Python: {SEEDS} random sessions, each copied on its way")
     print(f"check-library: Python: {SEEDS} random sessions, {try_seeds(os.path.abspath(program), path, image)} bytes, the same as the program's")

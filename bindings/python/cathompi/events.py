@@ -4,6 +4,8 @@ from __future__ import annotations
 from dataclasses import dataclass
 from typing import TYPE_CHECKING, Iterator, Optional, Tuple, Union
 
+from .faults import fault_of
+
 if TYPE_CHECKING:
     from . import Machine, Process
 
@@ -39,6 +41,8 @@ class Fault:
     at: int
     pid: int
     pc: int
+    reason: str
+    """Why, in words."""
 
 
 @dataclass(frozen=True)
@@ -80,12 +84,12 @@ def _ended(machine: Machine, process: Process, call: Optional[Call], at: int) ->
         return
     status = now.status if now is not None and now.status is not None else -1
     if call is None and not process.killed:
-        yield Fault(at, process.pid, process.pc)
+        yield Fault(at, process.pid, process.pc, fault_of(machine, process))
     yield Exit(at, process.pid, status)
 
 
 def events_of(machine: Machine, most: int) -> Iterator[Event]:
-    """The events of the next steps, at most so many, until no process runs or is ready."""
+    """The events of the next `most` steps, until no process runs or is ready. Where the machine stops, that is raised after them."""
     machine._printed()
     for at in range(most):
         process = machine._running()
@@ -93,8 +97,13 @@ def events_of(machine: Machine, most: int) -> Iterator[Event]:
         if process is not None and machine._word(process) == _ECALL:
             call = _call_of(process, at)
             yield call
-        if machine.run(1) == 0:
-            return
+        try:
+            if machine.run(1) == 0:
+                return
+        except Exception:
+            if process is not None:
+                yield from _ended(machine, process, call, at)
+            raise
         data = machine._printed()
         if data:
             yield Output(at, data)
