@@ -217,6 +217,15 @@ export class Calls {
     if (!stepped.isAtCall) this.faults.push({ at: stepped.at, pid: stepped.pid, text: faultOf(machine, process) ?? say("fault-killed") });
   }
 
+  /** A tick or a key comes at a position: a call that was next there comes later. Then `act` gives it to the machine. */
+  pass(machine, position, act) {
+    if ([this.lines, this.switches].some((lines) => lines.at(-1)?.at === position)) this.cut(position);
+    const before = machine.written();
+    act();
+    if (machine.written() > before) this.wrote(position);
+    this.to = position + 1;
+  }
+
   /** Bytes came to the console in the event at a position. */
   wrote(position) {
     if (this.outputs.at(-1)?.at !== position) this.outputs.push({ at: position });
@@ -245,6 +254,7 @@ export class Calls {
       parts: takes.map((kind, index) => told(machine, process, kind, index)),
       answer: null,
       bytes: null,
+      written: number === WRITE ? machine.written() : 0,
     };
     if (number === WRITE) this.spell(line, bytesAt(machine, process.pid, line.values[1], this.room(low(line.values[2]))));
     if (takes[0] === "path") line.path = new TextDecoder().decode(textAt(machine, process.pid, line.values[0]));
@@ -269,7 +279,7 @@ export class Calls {
     Object.assign(line, { answer, end: position });
     if (line.number === READ && answer >= 0) this.spell(line, bytesAt(machine, process.pid, line.values[1], this.room(answer)));
     if (line.number === PIPE && answer === 0) line.ends = [0n, 4n].map((by) => numberAt(machine, process.pid, line.values[0] + by));
-    if (line.number === WRITE && machine.hasOutput()) this.wrote(line.at);
+    if (line.number === WRITE && position === line.at + 1 && machine.written() > line.written) this.wrote(line.at);
   }
 }
 

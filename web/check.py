@@ -28,6 +28,7 @@ IDLE = "document.getElementById('status').textContent.startsWith('runs') && [...
 PROMPT = "document.getElementById('screen').textContent.endsWith('$ ')"
 WORDS = 4000
 SEEDS = 60
+JOURNEYS, MOVES = 20, 40
 TYPED = ["ls", "echo hi | cat", "mkdir d", "cat init", "rm cat", "ln sh x", "forktest", "kill 2", "echo a b c", "ls | cat", "nope", "\x08\x15x\x04"]
 PLAY = f"""(async () => {{
 {UNPACK}
@@ -53,6 +54,13 @@ return SCRIPTS.map((script) => {{
 }})()"""
 
 
+TRAVEL = f"""(async () => {{
+{UNPACK}
+const [code, image] = await Promise.all(["packed-module", "packed-image"].map(unpack));
+{joined("journeys", set())}
+const module = await machine.loadModule(code);
+for (let seed = 1; seed <= {JOURNEYS}; seed += 1) journeys.journey(module, image, seed, {MOVES});
+}})()"""
 # What the page says of /crash.
 CRASH = "process 3 ended: ld a0, 0(t0) at 0x8: a load of 8 bytes from 0x5000: the process has no page there, its 3 pages end at 0x3000"
 MANY = 10_000_000
@@ -542,6 +550,11 @@ class Check:
         got = self.browser.js(PLAY.replace("SCRIPTS", json.dumps(scripts)))
         self.equal(got, wanted, f"{SEEDS} random scripts, {sum(map(len, wanted))} bytes")
 
+    def journeys(self):
+        """Wherever one goes in time, all is as in a machine that was only given the events."""
+        self.browser.js(TRAVEL)
+        print(f"  {JOURNEYS} journeys of {MOVES} moves each")
+
     @staticmethod
     def event(chance):
         """A line of a script."""
@@ -643,6 +656,7 @@ def main():
             check.start(check.address, 1280)
             check.words()
             check.seeds()
+            check.journeys()
             wide(check)
             for width in WIDTHS:
                 use(check, width)

@@ -243,15 +243,13 @@ export class Driver {
   playOne(machine, run, position, most, left) {
     if (run.kind === "step") {
       const made = this.calls.run(machine, position, most, () => {});
+      machine.console();
       if (made === most) return made;
       this.calls.to = position + left;
       return left;
     }
-    if (run.kind === "tick") machine.tick();
-    else machine.key(run.bytes[position - run.start]);
-    if (machine.hasOutput()) this.calls.wrote(position);
+    this.calls.pass(machine, position, () => giveOne(machine, run, position));
     machine.console();
-    this.calls.to = position + 1;
     return 1;
   }
 
@@ -262,11 +260,13 @@ export class Driver {
     this.leave();
     if (kind === "keys") this.record.key(byte);
     else this.record.repeat(kind, 1);
-    this.guard(act);
-    if (this.calls.to === this.position) {
-      this.calls.to += 1;
-      if (this.machine.hasOutput()) this.calls.wrote(this.position);
-    }
+    this.give(act);
+  }
+
+  // Gives the machine an event that is no step, which is noted where all before it is.
+  give(act) {
+    const isNoted = this.calls.to === this.position;
+    this.guard(() => (isNoted ? this.calls.pass(this.machine, this.position, act) : act()));
     this.position += 1;
     this.take();
   }
@@ -348,13 +348,7 @@ export class Driver {
     const run = this.record.at(this.position);
     const left = run.start + run.times - this.position;
     if (run.kind === "step") return this.playSteps(Math.min(most, left), left, stop);
-    const from = this.position;
-    const isNew = this.isWatched && from === this.calls.to;
-    this.guard(() => (run.kind === "tick" ? this.machine.tick() : this.machine.key(run.bytes[from - run.start])));
-    if (isNew) this.calls.to += 1;
-    if (isNew && this.machine.hasOutput()) this.calls.wrote(from);
-    this.position += 1;
-    this.take();
+    this.give(() => giveOne(this.machine, run, this.position));
     return 1;
   }
 
@@ -493,6 +487,12 @@ export class Driver {
     this.forward = null;
     this.stopped = { kind: `no-${kind}` };
   }
+}
+
+// Gives a machine a tick, or the key of a run that is at a position.
+function giveOne(machine, run, position) {
+  if (run.kind === "tick") machine.tick();
+  else machine.key(run.bytes[position - run.start]);
 }
 
 // Where a line has been typed, or the last of several ticks has come.

@@ -94,6 +94,7 @@ export class Machine {
     this.codePage = { number: 0, asked: 0n };
     this.pc = 0;
     this.pending = [];
+    this.taken = 0;
   }
 
   /** A machine of its own, which goes on from where this one stands. It throws where the browser has no memory. */
@@ -146,6 +147,7 @@ export class Machine {
     this.hasOutput();
     const bytes = this.pending;
     this.pending = [];
+    this.taken += bytes.length;
     return bytes;
   }
 
@@ -156,6 +158,12 @@ export class Machine {
       if (count === 0) return this.pending.length > 0;
       this.pending.push(...this.heap.bytes(this.room, count));
     }
+  }
+
+  /** How many bytes the console has written since this machine was made. */
+  written() {
+    this.hasOutput();
+    return this.taken + this.pending.length;
   }
 
   /** A process; `null` where there is none with this pid. */
