@@ -17,7 +17,7 @@ LIBRARY := out/library
 
 .DEFAULT_GOAL := help
 .PHONY: help demo build program image user live qemu check-live library check-library test check-docs quick edits check bench measure measure-gate \
-	check-qemu kills full places limits large fuzz accesses outages refusals fmt
+	check-assembly check-qemu kills full places limits large fuzz accesses outages refusals fmt
 
 # Lists the targets.
 help:
@@ -158,6 +158,10 @@ check-web: $(WEB)
 # Compares multiplications and divisions with qemu's: the stored rows and 1,000,000 random pairs.
 check-qemu: | program
 	trials/qemu/compare.py $(PROGRAM)
+
+# Assembles the examples of docs/ASSEMBLY.md, and runs the programs of examples/assembly.
+check-assembly: | program
+	trials/assembly.py $(PROGRAM)
 
 # Ends a thousand saves at random moments: the old file or the new one is there, whole.
 kills: | program

@@ -1,0 +1,93 @@
+#!/usr/bin/env python3
+"""assembly.py PROGRAM: tries the examples of docs/ASSEMBLY.md, and runs the programs of examples/assembly.
+
+In the table of words each example is assembled; in that of other assemblers' texts each on the left is refused, and each on the right
+that is code alone is assembled. A program's console has to show what the file NAME.out beside it has, after the keys of NAME.keys."""
+import glob
+import os
+import re
+import subprocess
+import sys
+import tempfile
+
+TOP = os.path.join(os.path.dirname(os.path.abspath(__file__)), "..")
+# What the examples go to.
+LABELS = "\n.pad 8\ndone:\nsum:\ntext:\nvalue: .dword 0\n"
+STEPS = "step 200000\n"
+
+
+def is_assembled(program, text, folder):
+    source = os.path.join(folder, "text.s")
+    open(source, "w").write(text)
+    return subprocess.run([program, "asm", source, os.path.join(folder, "text")], capture_output=True).returncode == 0
+
+
+def rows(page, title, n):
+    """The rows of the tables below a heading that have n cells."""
+    part = page.split(f"\n## {title}\n")[1].split("\n## ")[0]
+    for line in part.splitlines():
+        cells = [cell.strip() for cell in line.strip("|").split("|")]
+        if line.startswith("|") and len(cells) == n and not cells[0].startswith("---"):
+            yield cells
+
+
+def code(cell):
+    """The lines of a cell, where it is code alone."""
+    lines = re.findall(r"`([^`]*)`", cell)
+    return lines if lines and not re.sub(r"`[^`]*`", "", cell).strip(", ") else []
+
+
+def examples(program, page, folder):
+    """What is wrong with the examples of the page, and how many there are."""
+    wrong, count = [], 0
+    for _, example, _ in rows(page, "The language", 3):
+        for line in code(example):
+            count += 1
+            if not is_assembled(program, line + LABELS, folder):
+                wrong.append(f"{line} is refused")
+    for there, here in rows(page, "A text for another assembler", 2):
+        for line in code(there):
+            count += 1
+            if is_assembled(program, line + LABELS, folder):
+                wrong.append(f"{line} is assembled")
+        if code(here) and not is_assembled(program, "\n".join(code(here)) + LABELS, folder):
+            wrong.append(f"{here} is refused")
+    return wrong, count
+
+
+def shown(program, name, folder):
+    """What the console shows of a program."""
+    keys = os.path.join(TOP, "examples/assembly", name + ".keys")
+    typed = "".join(f"type {line}" for line in open(keys)) if os.path.exists(keys) else ""
+    files = {"manifest": f"file /init {name}\nfile /child child\n", "script": typed + STEPS}
+    for file, text in files.items():
+        open(os.path.join(folder, file), "w").write(text)
+    subprocess.run([program, "mkfs", "--size", "64", "--inodes", "32", "manifest", "img"], cwd=folder, check=True, capture_output=True)
+    return subprocess.run([program, "run", "img", "script"], cwd=folder, capture_output=True, text=True).stdout
+
+
+def programs(program, folder):
+    """The names of the programs that don't show what they should, and how many there are."""
+    texts = sorted(glob.glob(os.path.join(TOP, "examples/assembly/*.s")))
+    for text in texts:
+        subprocess.run([program, "asm", text, os.path.join(folder, os.path.basename(text)[:-2])], check=True)
+    names = [os.path.basename(out)[:-4] for out in sorted(glob.glob(os.path.join(TOP, "examples/assembly/*.out")))]
+    wrong = [f"{name} shows something else" for name in names
+             if shown(program, name, folder) != open(os.path.join(TOP, "examples/assembly", name + ".out")).read()]
+    return wrong, len(names)
+
+
+def main():
+    program = os.path.abspath(sys.argv[1])
+    page = open(os.path.join(TOP, "docs/ASSEMBLY.md")).read()
+    with tempfile.TemporaryDirectory() as folder:
+        wrong, count = examples(program, page, folder)
+        odd, run = programs(program, folder)
+    for line in wrong + odd:
+        print(line)
+    print(f"{count} examples, {run} programs, {len(wrong + odd)} wrong")
+    return 1 if wrong or odd else 0
+
+
+if __name__ == "__main__":
+    sys.exit(main())
