@@ -183,8 +183,11 @@ export class Calls {
 
   // The process that runs; what it did in the step before is noted, and the call that it does next.
   look(machine, position) {
-    this.settleStep(machine, position);
     const pid = this.runningIn(machine);
+    if (this.hasToSettle(pid)) {
+      this.settleStep(machine, position);
+      if (pid) machine.isRunning(pid);
+    }
     if (!pid) return 0;
     if (pid !== this.last) this.switches.push({ at: position, pid });
     this.last = pid;
@@ -194,6 +197,11 @@ export class Calls {
     if (isAtCall && open?.at !== position) this.begin(machine, machine.process(pid), position);
     this.stepped = { pid, isAtCall, at: position };
     return pid;
+  }
+
+  // An instruction that is no call, after which its process runs on, comes to nothing that is noted.
+  hasToSettle(pid) {
+    return this.stepped !== null && (this.stepped.isAtCall || this.stepped.pid !== pid);
   }
 
   runningIn(machine) {

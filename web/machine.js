@@ -12,6 +12,7 @@ const RUNNING = 1;
 const EXECUTE = 8;
 const ROOT = 1;
 const ENTRY_SIZE = 16;
+const SIZES = Array.from({ length: ROOM / 4 + 1 }, (_, words) => BigInt(4 * words)); // of the beginnings of a page
 
 const STATES = ["", "running", "ready", "waiting", "ended"];
 const KINDS = ["", "directory", "file", "device"];
@@ -197,8 +198,9 @@ export class Machine {
     if (number !== this.codePage.number) this.codePage = { number, asked: BigInt(number) };
     const at = low & (ROOM - 1);
     this.pc = number * ROOM + at;
-    const marks = this.calls.xv6_raw_page(this.handle, pid, this.codePage.asked, this.roomAt, BigInt(Math.min(at + 4, ROOM)));
-    return marks & EXECUTE && low % 4 === 0 ? view.getInt32(this.room + at, true) : 0;
+    if (low % 4 !== 0) return 0;
+    const marks = this.calls.xv6_raw_page(this.handle, pid, this.codePage.asked, this.roomAt, SIZES[at / 4 + 1]);
+    return marks & EXECUTE ? view.getInt32(this.room + at, true) : 0;
   }
 
   /** The pid of the process that runs; 0 where none does. `word` finds its word then. */
