@@ -1,6 +1,6 @@
 #!/usr/bin/env python3
 """user_c_sessions.py PROGRAM FOLDER: plays the sessions of crates/userland with the programs in assembly (out/user)
-and with those in C, which the folder has. The consoles have to show the same, but for what stands here: a session is
+and with those in C, which the folder has. The consoles have to show the same, except for what is listed here: a session is
 left out where the programs differ in what they are for, and ls in C shows more of a file than its name."""
 import pathlib
 import re
@@ -25,7 +25,7 @@ LEFT_OUT = {
     "The same of sleeps": "as before",
 }
 
-# A step of a program in assembly is at most so many of one in C.
+# A step of a program in assembly is at most that many of one in C.
 STEPS = 30
 
 

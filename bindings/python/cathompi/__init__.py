@@ -359,7 +359,7 @@ class Machine:
                     self.tick()
 
     def events(self, most: int = 1_000_000) -> Iterator[Event]:
-        """Takes steps, at most so many, until no process runs or is ready, and gives what happens: calls, faults, exits, output.
+        """Takes steps, at most `most`, until no process runs or is ready, and gives what happens: calls, faults, exits, output.
 
         A `Call` is given before its instruction is done, and the others after the step that did them: whoever stops at a call finds
         the machine before it. It looks at each step, which takes some microseconds.

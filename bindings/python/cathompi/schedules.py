@@ -43,7 +43,7 @@ def _tries(machine: Machine, most: int) -> Iterator[Optional[int]]:
 
 
 def schedules(machine: Machine, until: Until = None, most: int = 20_000) -> List[Outcome]:
-    """The outcomes of a machine's schedules: without a tick, and with one after each of the next steps, at most so many.
+    """The outcomes of a machine's schedules: without a tick, and with one after each of the next steps, at most `most`.
 
     `until` takes a copy on and returns the outcome: a function of it, or a text up to which it runs; none: it runs until no process
     runs or is ready, and the outcome is what it printed. The machine itself stays where it is. The outcome of the schedule without a
