@@ -11,14 +11,14 @@ FREE, DIRECTORY, FILE, DEVICE = range(4)
 
 
 def index_blocks(count):
-    """How many index blocks a file of so many blocks has: the single one, and past its numbers the double one and leaves."""
+    """How many index blocks a file of n blocks has: the single one, and past its numbers the double one and leaves."""
     if count > DIRECT + NUMBERS:
         return 2 + -(-(count - DIRECT - NUMBERS) // NUMBERS)
     return int(count > DIRECT)
 
 
 def most_in(room):
-    """How many blocks the longest file has that fits in so many with its index blocks."""
+    """How many blocks the longest file has that fits in n with its index blocks."""
     count = min(MOST_BLOCKS, room)
     while count + index_blocks(count) > room:
         count -= 1
@@ -26,7 +26,7 @@ def most_in(room):
 
 
 class Image:
-    """An image of so many blocks and inodes, with a root that has no entries yet."""
+    """An image of that many blocks and inodes, with a root that has no entries yet."""
 
     def __init__(self, size, inodes):
         self.size, self.inodes = size, inodes
@@ -122,7 +122,7 @@ def many_blocks(size, init=b""):
 
 
 def many_names(names, directories=1):
-    """An image of directories with so many names each, all of one file. There is room for 60 large ones."""
+    """An image of directories with n names each, all of one file. There is room for 60 large ones."""
     image = Image(16384, 128)
     above = [image.directory(1, b"d%d" % at) for at in range(directories)]
     number = image.file(above[0], b"name0")

@@ -338,7 +338,7 @@ def own(counts):
     return sum(count for name, count in counts.items() if not FILLS.fullmatch(name))
 
 
-# What stands beside a program, and how its job is changed for that.
+# What is compared with a program, and how its job is changed for that.
 BESIDE = {
     "the program": {},
     "plain Rust": {"on": PLAIN, "flags": ()},
@@ -379,7 +379,7 @@ def words_of_line():
     words.add_argument("programs", metavar="PROGRAM", type=pathlib.Path, nargs="*", help="the built xv6, before and after, or one of them")
     only = "only rows whose names have these words, or those of another --only"
     words.add_argument("--only", metavar="WORDS", action="append", help=only)
-    words.add_argument("--functions", metavar="N", type=int, default=0, help="how many functions to tell beneath a row")
+    words.add_argument("--functions", metavar="N", type=int, default=0, help="how many functions to print below a row")
     words.add_argument("--plain", action="store_true", help="one program beside the plain interpreters")
     words.add_argument("--list", action="store_true", help="only prints the rows and their units")
     given = words.parse_args()

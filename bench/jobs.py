@@ -36,7 +36,7 @@ class Place:
 
 
 def compile_plain(place):
-    """The place with the plain interpreter and its twin, which are compiled in its folder."""
+    """The folder with the plain interpreter and its twin, which are compiled there."""
     made = {"plain": HERE / "baseline" / "main.rs", "twin": HERE / "twin.rs"}
     for name, source in made.items():
         rustc = ["rustc", "-O", "-C", "codegen-units=1", "--edition", "2021", "-o", place.folder / name, source]
@@ -87,7 +87,7 @@ XV6, PLAIN, TWIN = "xv6", "plain", "twin"
 
 @dataclasses.dataclass(frozen=True)
 class Flat:
-    """A program of bytes and a script on `xv6 flat`, or on a plain interpreter. Where `steps` are given, it takes so many."""
+    """A program of bytes and a script on `xv6 flat`, or on a plain interpreter. Where `steps` are given, it takes that many."""
 
     program: typing.Any
     script: str = TO_THE_END

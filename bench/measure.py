@@ -1,4 +1,4 @@
-"""Runs commands, looks at what they print, and tells what they took."""
+"""Runs commands, looks at what they print, and returns what they took."""
 
 import dataclasses
 import os
@@ -40,7 +40,7 @@ def peak_of(pid):
 
 
 def run(command):
-    """Runs a command once, and tells what it took where it did what it has to do."""
+    """Runs a command once, and returns what it took where it did what it has to do."""
     with tempfile.TemporaryFile() as stdout, tempfile.TemporaryFile() as stderr:
         child = subprocess.Popen(command.words, cwd=command.folder, stdin=subprocess.DEVNULL, stdout=stdout, stderr=stderr)
         ended, peak, pause = 0, 0, 0.0005
@@ -65,6 +65,6 @@ def run(command):
 
 
 def compare(commands, turns):
-    """Runs the commands turn by turn, and tells of each the least time and the most memory that it took."""
+    """Runs the commands turn by turn, and returns of each the least time and the most memory that it took."""
     runs = [[run(command) for command in commands] for _ in range(turns)]
     return [Took(min(one.seconds for one in took), max(one.peak for one in took)) for took in zip(*runs)]

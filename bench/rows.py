@@ -24,7 +24,7 @@ class Beside:
 
 @dataclasses.dataclass(frozen=True)
 class Row:
-    """A row: its name, its job, how many units of what it does, by which its cost is told, and what stands beside it."""
+    """A row: its name, its job, how many units of what it does, by which its cost is given, and what it is compared with."""
 
     name: str
     job: typing.Any
@@ -131,7 +131,7 @@ def fork(pages, touched, rounds):
 
 
 def executing(pages, length):
-    """An image whose process 1 grows by so many pages and forks 1000 children that execute a program of `length` pages."""
+    """An image whose process 1 grows by n pages and forks 1000 children that execute a program of `length` pages."""
     init = Program("exec", BYTES=pages * PAGE, ROUNDS=1000)
     program = Program("p", pages=length, LAST=length * PAGE - 1)
     return Booted(image_of({"init": init, "p": program}), frames=2048)
@@ -168,7 +168,7 @@ TICKS = 100_000
 
 
 def ticking(program, steps, before=""):
-    """A program of up to 64 processes with a timer interrupt after each so many steps."""
+    """A program of up to 64 processes with a timer interrupt after each n steps."""
     return Flat(program, before + f"step {steps}\ntick 1\n" * TICKS, 1024, end=RUNNING)
 
 
@@ -205,7 +205,7 @@ def byte_rows():
 
 
 def session(lines):
-    """An image of the user programs, and a script that types so many lines at the shell."""
+    """An image of the user programs, and a script that types n lines at the shell."""
     programs = {text.stem: Program(text.stem, folder=USER) for text in sorted(USER.glob("*.s"))}
     script = "step 20000\n" + f"type {ECHO}step 20000\n" * lines
     shown = "init: starting sh\n$ " + f"{ECHO}hi\n$ " * lines

@@ -53,7 +53,7 @@ def cost(seconds):
 
 
 def show(row, took, others):
-    """Prints a row, and a line for each job that stands beside it."""
+    """Prints a row, and a line for each job that it is compared with."""
     each = f", {cost(took.seconds / row.count)} for each {row.unit}"
     print(f"{row.name}: {took.seconds:.3f} s{each}, peak {took.peak} KiB")
     for beside, other in zip(row.beside, others):

@@ -21,7 +21,7 @@ def full_manifest(size, inodes):
 
 
 def flat_manifest(count):
-    """The manifest of so many devices in the root, and what `xv6 check` says: it has no bytes but those of the root's places."""
+    """The manifest of n devices in the root, and what `xv6 check` says: it has no bytes but those of the root's entries."""
     text = "".join(f"dev /d{name} 1 1\n" for name in range(count))
     blocks = -(-16 * (count + 2) // 1024)
     return text, f"ok {count + 1} inodes {blocks + index_blocks(blocks)} blocks\n".encode()
@@ -35,12 +35,12 @@ def chain_manifest(depth):
 
 
 def jump(offset):
-    """The word of a jump by so many bytes, which is no call."""
+    """The word of a jump by n bytes, which is no call."""
     return (offset >> 20 & 1) << 31 | (offset >> 1 & 1023) << 21 | (offset >> 11 & 1) << 20 | (offset >> 12 & 255) << 12 | 0x6F
 
 
 def labelled(count):
-    """A text of so many lines, each with a label and a jump to the label of a line far away; and what `xv6 dump` prints of it."""
+    """A text of n lines, each with a label and a jump to the label of a line far away; and what `xv6 dump` prints of it."""
     targets = [at * 7919 % count for at in range(count)]
     text = "".join(f"l{at:05}: j l{target:05}\n" for at, target in enumerate(targets))
     offsets = [4 * (target - at) for at, target in enumerate(targets)]

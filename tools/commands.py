@@ -22,7 +22,7 @@ class Word:
 
     @property
     def spelled(self):
-        """As it stands in a command line."""
+        """As it is written in a command line."""
         if self.given == "Letter":
             return f"-{self.value}"
         takes = {"Number": " N", "Flag": ""}.get(self.given, f" {self.value}")

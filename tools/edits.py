@@ -36,7 +36,7 @@ def main(words):
     edits = edits_of(names)
     twice = [to for _, to in edits if to.exists()]
     if twice:
-        print(f"tools/edits.py: {twice[0].relative_to(ROOT)} stands there already", file=sys.stderr)
+        print(f"tools/edits.py: {twice[0].relative_to(ROOT)} is there already", file=sys.stderr)
         return 2
     try:
         for edit, to in edits:

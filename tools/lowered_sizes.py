@@ -50,7 +50,7 @@ def main(words):
     folders = [it for it in words if not it.isdigit()]
     counts = [int(it) for it in words if it.isdigit()]
     if len(folders) > 1 or len(counts) > 1:
-        print("lowered_sizes.py: one folder and one number at most; --help tells more", file=sys.stderr)
+        print("lowered_sizes.py: one folder and one number at most; --help says more", file=sys.stderr)
         return 2
     crate = Path(*folders).resolve()
     file = crate / "out" / "rlib" / f"{crate.name}.rlib" / "toolchain" / "mir.json"

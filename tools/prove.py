@@ -2,7 +2,7 @@
 """Proves crates, lowest first, and prints a line for each as it ends.
 
     tools/prove.py                    every crate, several side by side
-    tools/prove.py --below xv6        what a crate stands on, several side by side, each as a library
+    tools/prove.py --below xv6        what a crate is built on, several side by side, each as a library
     tools/prove.py --changed          what differs from the last commit of main, and all crates above that, with their tests
     tools/prove.py --changed HEAD~3   what differs from that commit
 
@@ -35,13 +35,13 @@ def read_lines():
 
 
 def read_crates():
-    """The crates of crates.txt, each with those of the repository that it stands on."""
+    """The crates of crates.txt, each with those of the repository that it is built on."""
     lines = read_lines()
     return {name: [it for it in line.split(":")[1].split() if it in lines] for name, line in lines.items()}
 
 
 def with_all_above(names, crates):
-    """These crates and those that stand on them, lowest first: crates.txt may have any order."""
+    """These crates and those that are built on them, lowest first: crates.txt may have any order."""
     found, left = [], dict(crates)
     while left:
         name = next(it for it, below in left.items() if not any(lower in left for lower in below))
@@ -81,7 +81,7 @@ def tell(name, said, started, status=0):
 
 
 def groups(lines):
-    """Of what rt all check prints, each crate's name and what its check said: up to where it is told to be proved, or all."""
+    """Of what rt all check prints, each crate's name and what its check said: up to where it says that it is proved, or all."""
     name, said = None, []
     for line in lines:
         if line.startswith("== "):
@@ -106,7 +106,7 @@ def prove_all(jobs):
 
 
 def all_below(name, crates):
-    """The crates that a crate stands on."""
+    """The crates that a crate is built on."""
     found, left = set(), list(crates[name])
     while left:
         it = left.pop()
@@ -117,13 +117,13 @@ def all_below(name, crates):
 
 
 def lines_of(name):
-    """How many lines a crate's code, specs and proofs have, which tells about how long its check takes."""
+    """How many lines a crate's code, specs and proofs have, which says about how long its check takes."""
     files = [it for folder in ("src", "specs", "proofs") for it in (CRATES / name / folder).rglob("*") if it.is_file()]
     return sum(it.read_bytes().count(b"\n") for it in files)
 
 
 def chains(names, crates):
-    """How many lines the longest chain of these crates has that begins with each and goes on to what stands on it."""
+    """How many lines the longest chain of these crates has that begins with each and goes on to what is built on it."""
     found = {}
     for name in reversed(with_all_above(names, crates)):
         if name in names:
@@ -187,7 +187,7 @@ def build_library(name, below, lane, jobs):
 
 
 def prove_below(name, jobs):
-    """What a crate stands on, in as many lanes as checks may run side by side."""
+    """What a crate is built on, in as many lanes as checks may run side by side."""
     crates = read_crates()
     names, root = all_below(name, crates), git_folder("lanes")
     if jobs == 1 or root is None:
@@ -248,7 +248,7 @@ def prove_changed(commit, jobs):
 def main(words):
     parser = argparse.ArgumentParser(description=__doc__, formatter_class=argparse.RawDescriptionHelpFormatter)
     parser.add_argument("--changed", nargs="?", const="main", metavar="COMMIT", help="what differs from a commit (main), and all above it")
-    parser.add_argument("--below", choices=sorted(read_crates()), metavar="CRATE", help="what this crate stands on")
+    parser.add_argument("--below", choices=sorted(read_crates()), metavar="CRATE", help="what this crate is built on")
     parser.add_argument("--jobs", type=int, metavar="N", help="how many at a time, at least 1")
     wanted = parser.parse_args(words)
     if wanted.jobs is not None and wanted.jobs < 1:

@@ -24,7 +24,7 @@ from jobs import Booted, Place
 from measure import Failed
 from rows import full_with_init, naming, session
 
-# What the program stands on, as a line of crates.txt says it.
+# What the program is built on, as a line of crates.txt says it.
 LISTED = "accesses: blockdev console image machine sv39 scripts unixmodel\n"
 
 # Where a block that was read comes into the cache. Without it the cache passes everything through, as where there is no memory.
@@ -74,7 +74,7 @@ def pass_through(source):
     """Makes the cache of a source file one that holds no block."""
     text, count = HOLDING.subn(PASSING, source.read_text())
     if count != 1:
-        raise Failed(f"{source.name} of the cache holds blocks at other places than one: {HOLDING.pattern}")
+        raise Failed(f"{source.name} of the cache holds blocks at other offsets than one: {HOLDING.pattern}")
     source.write_text(text)
 
 

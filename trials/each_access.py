@@ -47,7 +47,7 @@ class Session:
         self.saved = self.run(EVENTS, "--save", self.out)[0] and self.left()
 
     def run(self, events, *words):
-        """What the first events print, and what is told behind them."""
+        """What the first events print, and what is reported after them."""
         self.script.write_text(script(events))
         self.out.unlink(missing_ok=True)
         ran = subprocess.run([self.program, "run", *words, self.image, self.script], capture_output=True)
@@ -59,7 +59,7 @@ class Session:
 
     @functools.cache
     def is_whole(self, count):
-        """Whether some number of events prints so many bytes."""
+        """Whether some number of events prints n bytes."""
         low, high = 0, EVENTS
         while low < high:
             middle = (low + high) // 2

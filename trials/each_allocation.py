@@ -23,7 +23,7 @@ import tempfile
 HERE = pathlib.Path(__file__).resolve().parent
 USER = HERE.parent / "user"
 
-# Lines that tell that memory is wanting.
+# Lines that report that memory is wanting.
 WANTING = [rb"no memory", rb"cannot read \w+", rb"line \d+: 8 NoMemory", rb"fault (3|4|7|13) NoMemory"]
 # Where a save is not written, the line of the run comes before.
 WANTING = re.compile(rb"(?:running\n)?(" + rb"|".join(WANTING) + rb")\n")
@@ -71,7 +71,7 @@ def fill(folder, program):
 
 
 def run(program, library, words, written, folder, number):
-    """What a run tells and writes, and whether the request of this number was refused."""
+    """What a run prints and writes, and whether the request of this number was refused."""
     if written:
         (folder / written).unlink(missing_ok=True)
     read, write = os.pipe()
@@ -112,7 +112,7 @@ def show(name, count, lines):
 
 
 def refuse_all(program):
-    """Refuses each request of each command; whether all answers are right."""
+    """Refuses each request of each command; whether all results are right."""
     is_well = True
     with tempfile.TemporaryDirectory() as place:
         folder = pathlib.Path(place)

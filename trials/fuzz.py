@@ -109,7 +109,7 @@ class Files:
         subprocess.run([self.program, *words], cwd=self.folder, check=True, capture_output=True)
 
     def place(self, content):
-        """A random place, the first blocks more often than the others."""
+        """A random offset, the first blocks more often than the others."""
         end = len(content) if self.chance.random() < 0.5 else min(len(content), 8192)
         return self.chance.randrange(end + 1)
 
@@ -208,21 +208,21 @@ def limited():
 
 
 def wrong(command, ran):
-    """What is wrong with what a run answered, if anything is."""
+    """What is wrong with what a run returned, if anything is."""
     shown, told = ran.stdout.decode("latin-1"), ran.stderr.decode("utf-8", errors="replace")
     if ran.returncode not in (0, 1):
         return f"status {ran.returncode}"
     if not re.fullmatch(command.shows, shown) and (shown or ran.returncode == 0):
         return "standard output"
     if ran.returncode == 0 and told and not re.fullmatch(r"running\n|halt 1 InitEnded -?\d+\n", told):
-        return f"status 0, and told {told[:100]!r}"
+        return f"status 0, and printed {told[:100]!r}"
     if ran.returncode == 1 and not re.fullmatch("((" + "|".join(command.tells) + ")\n){1,2}", told):
-        return f"status 1, and told {told[:100]!r}"
+        return f"status 1, and printed {told[:100]!r}"
     return None
 
 
 def tried(program, files, name):
-    """Calls a command: its words, what it answered, and what is wrong with that."""
+    """Calls a command: its words, what it returned, and what is wrong with that."""
     command = COMMANDS[name]
     words = words_of(files, name, command)
     try:

@@ -50,7 +50,7 @@ def done(program, *words, cwd, status=0):
 
 
 def prepare(program, folder, size):
-    """An image of so many blocks with a program that never ends, a script, and the digest of what a save leaves."""
+    """An image of n blocks with a program that never ends, a script, and the digest of what a save leaves."""
     (folder / "loop.s").write_text(LOOP)
     (folder / "manifest").write_text("file /init loop\n")
     (folder / "script").write_text("step 100\n")
@@ -66,7 +66,7 @@ def begun(folder):
 
 
 def digest(path):
-    """What stands in a file."""
+    """What is in a file."""
     with open(path, "rb") as file:
         return hashlib.file_digest(file, "sha256").digest()
 
@@ -133,7 +133,7 @@ class Kills:
 
 
 def kills(arguments, folder):
-    """Kills so many runs."""
+    """Kills n runs."""
     tried = Kills(arguments.program, folder, arguments.seed)
     for number in range(arguments.runs):
         tried.run(number)
@@ -146,13 +146,13 @@ def kills(arguments, folder):
 # ---- a disk without room
 
 def mounted(folder, size):
-    """Mounts a tmpfs of so many bytes."""
+    """Mounts a tmpfs of n bytes."""
     folder.mkdir(exist_ok=True)
     return subprocess.run(["mount", "-t", "tmpfs", "-o", f"size={size}", "tmpfs", str(folder)], capture_output=True).returncode == 0
 
 
 def room_left(folder, room):
-    """Fills a file system until so many bytes are free, and says whether that was possible."""
+    """Fills a file system until n bytes are free, and says whether that was possible."""
     stats = os.statvfs(folder)
     filler = stats.f_bavail * stats.f_frsize - room
     if filler < 0:
@@ -171,7 +171,7 @@ def judged(ran, out, old, new, others):
     if ran.returncode not in (0, 1):
         return f"status {ran.returncode}"
     if ran.returncode == 1 and f"cannot write {out}" not in ran.stderr.splitlines():
-        return f"told {ran.stderr!r}"
+        return f"printed {ran.stderr!r}"
     if set(os.listdir(out.parent)) != others:
         return f"left {sorted(os.listdir(out.parent))}"
     return None
@@ -190,7 +190,7 @@ def saved_to(program, folder, out, limit=None):
 
 
 def full_at(program, folder, disk, new, room):
-    """Saves where so many bytes are free: what is wrong, if anything is, and whether the save was refused."""
+    """Saves where n bytes are free: what is wrong, if anything is, and whether the save was refused."""
     old = b"\xa5" * len(new)
     out = disk / "out.img"
     out.write_bytes(old)
@@ -218,7 +218,7 @@ def limited_at(program, folder, disk, new, limit):
 
 
 def told(name, results):
-    """Tells what came of the lengths."""
+    """Prints what came of the lengths."""
     wrong = [(length, what) for length, (what, _) in results if what]
     refused = sum(is_refused for _, (_, is_refused) in results)
     print(f"{name}: {len(results)} lengths, {refused} refused, {len(wrong)} wrong")
@@ -250,10 +250,10 @@ def full(arguments, folder):
     return good
 
 
-# ---- places
+# ---- destinations
 
 class Places:
-    """Saves to places of all kinds, as a user who isn't root, and what is wrong."""
+    """Saves to destinations of all kinds, as a user who isn't root, and what is wrong."""
 
     def __init__(self, program, folder):
         self.folder, self.new = folder, prepare(program, folder, 32)
@@ -335,7 +335,7 @@ class Places:
 
 
 def places(arguments, folder):
-    """Places of all kinds."""
+    """Destinations of all kinds."""
     tried = Places(arguments.program, folder)
     tried.links()
     tried.modes()
@@ -347,7 +347,7 @@ def places(arguments, folder):
 # ---- memory
 
 def peak(words, cwd):
-    """The status of a command, what it told, and the most memory that it had, in bytes."""
+    """The status of a command, what it printed, and the most memory that it had, in bytes."""
     with tempfile.TemporaryFile() as told:
         process = subprocess.Popen(words, cwd=cwd, stdout=told, stderr=told)
         _, status, usage = os.wait4(process.pid, 0)

@@ -9,7 +9,7 @@ const MOST_KEPT = 4096; // of a write
 const A0 = 10;
 const A7 = 17;
 
-// How the arguments of a call are told: a number, an address, a path, an argument list, bytes that go out or come in.
+// How the arguments of a call are shown: a number, an address, a path, an argument list, bytes that go out or come in.
 const CALLS = {
   1: { name: "fork", takes: [] },
   2: { name: "exit", takes: ["number"] },

@@ -60,7 +60,7 @@ def image_of_loop(program, folder):
 
 
 def seconds(program, folder, steps):
-    """The seconds of a processor that the program's run of so many steps takes."""
+    """The seconds of a processor that the program's run of n steps takes."""
     (folder / "script").write_text(f"step {steps}\n")
     before = resource.getrusage(resource.RUSAGE_CHILDREN).ru_utime
     subprocess.run([program, "run", "--tlb", "loop.img", "script"], cwd=folder, check=True, stderr=subprocess.DEVNULL)

@@ -69,7 +69,7 @@ static void look_at_processes(struct xv6_machine *machine)
     struct xv6_process process;
     uint8_t page[4096], few[4] = {9, 9, 9, 9};
     must(xv6_next_pid(machine, 0) == 1, "process 1 is the first");
-    must(xv6_process(machine, 1, &process) == 0 && process.pid == 1 && process.parent == 0, "process 1 is told");
+    must(xv6_process(machine, 1, &process) == 0 && process.pid == 1 && process.parent == 0, "process 1 is reported");
     must(process.state == XV6_WAITING && process.call == 3, "process 1 waits in wait");
     must(xv6_next_pid(machine, 1) == 2 && xv6_next_pid(machine, 2) == 0, "the shell is the other");
     must(xv6_process(machine, 2, &process) == 0 && process.parent == 1 && process.call == 5, "the shell waits in read");

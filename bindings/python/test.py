@@ -25,7 +25,7 @@ def raises(kind, call, *arguments):
 
 
 def try_session(image):
-    """A line at the shell, and what is told of the machine."""
+    """A line at the shell, and what is known of the machine."""
     with Machine(image) as machine:
         assert machine.run_until("$ ") == b"init: starting sh\n$ " and machine.idle
         machine.type("ls\n")
@@ -230,7 +230,7 @@ def try_threads(image):
 
 
 def play(machine, dice):
-    """Random events until the machine stops; tells them as lines of a script."""
+    """Random events until the machine stops; returns them as lines of a script."""
     script = []
     for _event in range(dice.randrange(3, 25)):
         kind = dice.randrange(4)
@@ -267,7 +267,7 @@ def try_copied_seeds(image):
 
 
 def try_seeds(program, path, image):
-    """Random sessions; tells how many bytes their consoles have."""
+    """Random sessions; returns how many bytes their consoles have."""
     all_bytes = 0
     for seed in range(SEEDS):
         with Machine(image) as machine, tempfile.NamedTemporaryFile("w", suffix=".script") as script:

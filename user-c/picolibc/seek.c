@@ -20,7 +20,7 @@ static void walk(void)
     FILE *file = fopen("data", "w+");
     for (int line = 0; line < 1000; line++)
         fprintf(file, "line %d\n", line);
-    show("place at the end", ftell(file));
+    show("offset at the end", ftell(file));
     show("to 100", fseek(file, 100, SEEK_SET));
     show_line(file);
     show("9 before the end", fseek(file, -9, SEEK_END));

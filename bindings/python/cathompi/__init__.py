@@ -146,7 +146,7 @@ if _library.xv6_raw_version() // 1000 != VERSION // 1000:
 
 @dataclass(frozen=True)
 class Process:
-    """A process, as it stands between two events."""
+    """A process, as it is between two events."""
 
     pid: int
     parent: int
@@ -292,14 +292,14 @@ class Machine:
     # ---- events
 
     def steps(self, times: int) -> None:
-        """Takes so many steps, each an instruction or a turn of the scheduler, up to the first at which the machine stops."""
+        """Takes n steps, each an instruction or a turn of the scheduler, up to the first at which the machine stops."""
         with self._lock:
             answer = _library.xv6_raw_steps(self._open(), _number(times))
             self._note("step", times)
             _raise_for(answer)
 
     def run(self, most: int = 100_000_000) -> int:
-        """Takes steps until no process runs or is ready, and at most so many. Tells how many: `steps` of as many does the same."""
+        """Takes steps until no process runs or is ready, and at most n. Returns how many: `steps` of as many does the same."""
         with self._lock:
             done = ctypes.c_uint32()
             answer = _library.xv6_raw_run(self._open(), _number(most), done)
@@ -308,7 +308,7 @@ class Machine:
             return done.value
 
     def tick(self, times: int = 1) -> None:
-        """So many timer interrupts."""
+        """That many timer interrupts."""
         with self._lock:
             for _tick in range(times):
                 answer = _library.xv6_raw_tick(self._open())
@@ -410,7 +410,7 @@ class Machine:
     # ---- processes
 
     def process(self, pid: int) -> Optional[Process]:
-        """What is told of the process with a pid, if there is one."""
+        """What is known of the process with a pid, if there is one."""
         told = _Process()
         with self._lock:
             if _library.xv6_raw_process(self._open(), _number(pid), told):
