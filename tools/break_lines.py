@@ -116,6 +116,26 @@ def comments(line):
     return [parts["head"] + it for it in [*found, left]]
 
 
+def is_going_on(last, line):
+    """Whether a comment goes on in this line: a sentence of the last one, which is too long, has not ended."""
+    parts = COMMENT.match(line)
+    if not last or not parts or parts["head"] != last["head"] or re.match(r"[-|`#]", parts["words"]):
+        return False
+    return len(last.string) > WIDTH and not re.search(r"[.:|;]$", last["words"])
+
+
+def flowing(lines):
+    """The lines, where what follows a comment's line that is too long, and goes on with its sentence, is joined to it."""
+    found, last = [], None
+    for line in lines:
+        if is_going_on(last, line):
+            found[-1] += f" {COMMENT.match(line)['words']}"
+        else:
+            found.append(line)
+        last = COMMENT.match(found[-1])
+    return found
+
+
 def joined(lines):
     """The lines, where imports from one file that follow one another are one, if one of them is too long."""
     found, names = [], []
@@ -163,7 +183,7 @@ def main():
     left = 0
     for file in (it for path in wanted.paths for it in files_of(path)):
         lines = file.read_text(encoding="utf-8").split("\n")
-        made = [it for line in joined(lines) for it in (parts_of(line) if file.suffix == ".antt" or is_clause(line) else [line])]
+        made = [it for line in flowing(joined(lines)) for it in (parts_of(line) if file.suffix == ".antt" or is_clause(line) else [line])]
         if wanted.list:
             made = lines
         elif made != lines:
