@@ -16,7 +16,7 @@ IMAGE := out/xv6.img
 LIBRARY := out/library
 
 .DEFAULT_GOAL := help
-.PHONY: help demo build program image user live qemu check-live library check-library test check-docs quick edits check bench measure measure-gate \
+.PHONY: help demo build program image user live fresh qemu check-live library check-library test check-docs quick edits check bench measure measure-gate \
 	check-assembly check-qemu kills full places limits large fuzz accesses outages refusals fmt
 
 # Lists the targets.
@@ -59,9 +59,19 @@ image: $(IMAGE)
 $(IMAGE): user/manifest $(USER)
 	cd out/user && $(abspath $(PROGRAM)) mkfs $(abspath $<) $(abspath $@)
 
-# A session at the shell: ^A x ends it, ^P shows the processes, ^C kills it; out/last.script replays it.
-live: $(IMAGE)
-	@tools/live.sh $(PROGRAM) $(IMAGE) out/last.script
+# The disk of `make live`, which keeps what its sessions write.
+DISK := out/live.img
+
+$(DISK): | $(IMAGE)
+	cp $(IMAGE) $@
+
+# A session at the shell: ^A x ends it, ^P shows the processes, ^C kills it. out/live.img keeps its files; out/last.script replays it.
+live: $(DISK)
+	@tools/live.sh $(PROGRAM) $(DISK) out/last.script out/last.img
+
+# Makes the disk of `make live` anew, with the user programs as they are now: what sessions left on it is gone.
+fresh: $(IMAGE)
+	cp $(IMAGE) $(DISK)
 
 # The same as live: what xv6's users type.
 qemu: live

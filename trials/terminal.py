@@ -53,15 +53,15 @@ done: .ascii "done\\n"
 class Session:
     """A session at a pseudo-terminal of its own."""
 
-    def __init__(self, folder, image):
-        self.image = image
+    def __init__(self, folder, image, start=None):
+        self.image = start or image
         self.record, self.told = os.path.join(folder, "record"), os.path.join(folder, "told")
         self.console = b""
         self.lead, self.follow = pty.openpty()
         self.settings = termios.tcgetattr(self.follow)
         with open(self.told, "wb") as told:
             self.child = subprocess.Popen(
-                [os.path.join(TOP, "tools", "live.sh"), PROGRAM, image, self.record],
+                [os.path.join(TOP, "tools", "live.sh"), PROGRAM, image, self.record, *([start] if start else [])],
                 stdin=self.follow, stdout=self.follow, stderr=told, preexec_fn=self.own_terminal,
             )
 
@@ -130,6 +130,27 @@ def leave(folder):
     assert lines[-1] == "running" and lines[-2].startswith("xv6 run --frames 4096 "), lines
     assert any(line.startswith("1 sleep ") for line in lines), lines
     assert session.replay() == session.console, session.console
+
+
+def keep(folder):
+    """What a session writes is there in the next one, and its record replays from the image as it was before; ^C keeps nothing."""
+    image, start = os.path.join(folder, "image"), os.path.join(folder, "start")
+    shutil.copy(IMAGE, image)
+    session = Session(folder, image, start)
+    session.until(b"$ ")
+    session.type(b"echo kept > note\n")
+    session.until(b"note\n$ ")
+    session.type(b"\x01x")
+    session.ends(0)
+    assert session.replay() == session.console, session.console
+    session = Session(folder, image, start)
+    session.until(b"$ ")
+    session.type(b"cat note\nrm note\n")
+    session.until(b"kept\n$ rm note\n$ ")
+    session.type(b"\x03")
+    session.ends(130)
+    done = subprocess.run([PROGRAM, "get", image, "/note", os.path.join(folder, "note")], capture_output=True)
+    assert done.returncode == 0, done
 
 
 def kill(folder):
@@ -224,7 +245,7 @@ def pipe(folder):
     assert (lost.returncode, lost.stderr) == (1, b"halt 3 Console\n"), lost
 
 
-for part in (leave, kill, terminate, spin, slow, close, pipe):
+for part in (leave, keep, kill, terminate, spin, slow, close, pipe):
     with tempfile.TemporaryDirectory() as place:
         part(place)
     print(part.__name__, "ok", flush=True)
