@@ -30,6 +30,9 @@ const MOST_SHOWN = 1 << 16;
 const VIEWS = ["run", "inside", "disk"];
 const NOTED = ["call", "switch"]; // what is known of noted calls alone
 const THEMES = ["", "dark", "light"];
+const SYSTEM_DARK = matchMedia("(prefers-color-scheme: dark)");
+// The theme that was chosen; where none was, the system's is shown.
+let theme = "";
 const FIRST_BLOCK = 1;
 const ROOT = 1;
 
@@ -674,10 +677,14 @@ function lecture() {
   byId("lecture").setAttribute("aria-pressed", isLarge);
 }
 
+function showTheme() {
+  document.documentElement.dataset.theme = theme || (SYSTEM_DARK.matches ? "dark" : "light");
+}
+
 function nextTheme() {
-  const { dataset } = document.documentElement;
-  dataset.theme = THEMES[(THEMES.indexOf(dataset.theme ?? "") + 1) % THEMES.length];
-  byId("theme").textContent = say(`theme${dataset.theme && `-${dataset.theme}`}`);
+  theme = THEMES[(THEMES.indexOf(theme) + 1) % THEMES.length];
+  byId("theme").textContent = say(`theme${theme && `-${theme}`}`);
+  showTheme();
 }
 
 function wireLooks(page) {
@@ -687,6 +694,7 @@ function wireLooks(page) {
   };
   byId("lecture").addEventListener("click", redraw(lecture));
   byId("theme").addEventListener("click", redraw(nextTheme));
+  SYSTEM_DARK.addEventListener("change", redraw(showTheme));
   byId("help").addEventListener("click", () => byId("keys-help").showModal());
   byId("close-help").addEventListener("click", () => byId("keys-help").close());
   document.querySelectorAll("[role=toolbar], [role=tablist]").forEach(group);
@@ -747,6 +755,7 @@ async function unpack(id) {
 }
 
 async function start() {
+  showTheme();
   const [code, image] = await Promise.all(["packed-module", "packed-image"].map(unpack));
   const page = new Page(await loadModule(code), image);
   page.lookIn("run");
