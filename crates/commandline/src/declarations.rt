@@ -55,11 +55,11 @@ A long run tells on a terminal how far it is:
 
 xv6 run --progress disk.img script.txt
 
-A play waits for what the machine prints, and for idle machines, where a script counts steps:
+A play waits for the shell's prompt, for a text, and for idle and quiet machines, where a script counts steps:
 
-    until \"$ \" 10000000
+    until prompt 10000000
     type ls
-    until idle 10000000
+    until prompt 10000000
 
 xv6 play disk.img play.txt
 
@@ -492,11 +492,14 @@ xv6 run disk.img record.txt",
         name: "play",
         about: "Boots a machine from a disk image and runs a play, which waits for what the machine does",
         example: "\
-Example, where play.txt has a wait, a line that is typed, and a wait for an idle machine:
+Example, where play.txt has a wait for the shell, a line that is typed, and a wait for the end of what it does:
 
-    until \"$ \" 10000000
+    until prompt 10000000
     type ls
-    until idle 10000000
+    until prompt 10000000
+
+A play also waits for a text that was printed (until \"TEXT\" N), until nobody is ready (until idle N), until nobody
+sleeps either (until quiet N), and for the end of process 1 (until halt N); N is the most steps.
 
 xv6 play disk.img play.txt",
         words: &PLAY,

@@ -14,6 +14,7 @@ use scripts::Command;
 use std::io::Write;
 use sv39::Translate;
 use unixmodel::event::Event;
+use waits::{is_at_prompt, is_quiet};
 
 /// The key that ends a typed line.
 const LINE_END: u8 = b'\n';
@@ -23,6 +24,12 @@ const BATCH: u32 = 65536;
 
 /// So many steps at least go in one loop: to enter it costs as much as a few steps.
 const LOOP: u32 = 8;
+
+/// What comes of an act without events.
+const NOTHING: Done = Done {
+    gave: false,
+    unreached: None,
+};
 
 /// A record of what a machine is given.
 pub trait Record {
@@ -47,8 +54,22 @@ pub trait Record {
 pub struct Unreached {
     /// The number of the line that waits, from 1 on.
     pub line: usize,
-    /// How many steps it waited.
+    /// How many steps it waited: those that it may, or fewer where nobody is ready and no clock runs.
     pub steps: u32,
+}
+
+// The steps of a wait: how many they were, and whether that has come for which they were done.
+#[derive(Clone, Copy)]
+struct Walked {
+    made: u32,
+    is_there: bool,
+}
+
+// What came of an act: whether it gave an event, and what it waited for in vain, if it did.
+#[derive(Clone, Copy)]
+struct Done {
+    gave: bool,
+    unreached: Option<Unreached>,
 }
 
 // One event, which is recorded.
@@ -195,6 +216,8 @@ fn is_reached<D: BlockDev, T: Translate, W: Write>(
     match goal {
         Some(Goal::Shown(text)) => out.ends_with(text.as_slice()),
         Some(Goal::Idle) => machine.is_idle(),
+        Some(Goal::Prompt) => is_at_prompt(machine),
+        Some(Goal::Quiet) => is_quiet(machine),
         Some(Goal::Halt) | None => false,
     }
 }
@@ -210,7 +233,18 @@ fn write_out_at<V: Watch, W: Write>(made: u32, watch: &mut V, out: &mut Tail<W>)
     }
 }
 
-// Steps until that has come for which a play waits, so many at most; and whether it has come.
+// Whether a wait is over: that has come, or nothing can come, since nobody is ready and no clock runs.
+fn is_over<D: BlockDev, T: Translate>(
+    machine: &Machine<D, T>,
+    goal: Option<&Goal>,
+    clock: &Clock,
+    is_there: bool,
+) -> bool {
+    is_there || (goal.is_some() && clock.is_off() && machine.is_idle())
+}
+
+// Steps until that has come for which a play waits, or until nothing can come, n at most; how many they were, and
+// whether it has come.
 fn walk<D: BlockDev, T: Translate, R: Record, V: Watch, W: Write>(
     machine: &mut Machine<D, T>,
     goal: Option<&Goal>,
@@ -219,22 +253,27 @@ fn walk<D: BlockDev, T: Translate, R: Record, V: Watch, W: Write>(
     keeper: &mut R,
     watch: &mut V,
     out: &mut Tail<W>,
-) -> Result<bool, Halt>
+) -> Result<Walked, Halt>
     requires { IsUp machine.old }
     ensures { PlaysTo W.contents R.kept machine.old machine.new out.old.out out.new.out keeper.old keeper.new (halts result) }
 {
     let mut made = 0;
     while made < most {
-        if is_reached(machine, goal, out) {
+        let is_there = is_reached(machine, goal, out);
+        if is_over(machine, goal, clock, is_there) {
             watch.repeated(Event::Step, made);
-            return Ok(true);
+            return Ok(Walked { made, is_there });
         }
         write_out_at(made, watch, out);
         let batch = (BATCH - made % BATCH).min(most - made);
         made += go_on(machine, batch, clock, keeper, watch, out)?;
     }
     watch.repeated(Event::Step, most);
-    Ok(is_reached(machine, goal, out))
+    let is_there = is_reached(machine, goal, out);
+    Ok(Walked {
+        made: most,
+        is_there,
+    })
 }
 
 // The events of a command.
@@ -251,7 +290,7 @@ fn command<D: BlockDev, T: Translate, R: Record, V: Watch, W: Write>(
 {
     match command {
         Command::Step(times) => {
-            let _reached = walk(machine, None, *times, clock, keeper, watch, out)?;
+            let _walked = walk(machine, None, *times, clock, keeper, watch, out)?;
             Ok(())
         }
         Command::Tick(times) => repeat(machine, Event::Tick, *times, keeper, watch, out),
@@ -263,7 +302,25 @@ fn command<D: BlockDev, T: Translate, R: Record, V: Watch, W: Write>(
     }
 }
 
-// The events of an act; and what it waited for in vain, if it did.
+// Whether a command gives an event.
+fn gives(command: &Command<'_>) -> bool {
+    match command {
+        Command::Step(times) | Command::Tick(times) => *times > 0,
+        Command::Keys(keys) => !keys.is_empty(),
+        Command::Type(_) => true,
+    }
+}
+
+// What came of the steps of a wait in a line.
+fn waited(line: usize, walked: Walked) -> Done {
+    let Walked { made, is_there } = walked;
+    Done {
+        gave: made > 0,
+        unreached: (!is_there).then_some(Unreached { line, steps: made }),
+    }
+}
+
+// The events of an act, and what came of it.
 fn act<D: BlockDev, T: Translate, R: Record, V: Watch, W: Write>(
     machine: &mut Machine<D, T>,
     act: &Act<'_>,
@@ -271,25 +328,34 @@ fn act<D: BlockDev, T: Translate, R: Record, V: Watch, W: Write>(
     keeper: &mut R,
     watch: &mut V,
     out: &mut Tail<W>,
-) -> Result<Option<Unreached>, Halt>
+) -> Result<Done, Halt>
     requires { IsUp machine.old }
     ensures { PlaysTo W.contents R.kept machine.old machine.new out.old.out out.new.out keeper.old keeper.new (halts result) }
 {
     match &act.deed {
         Deed::Give(said) => {
             command(machine, said, clock, keeper, watch, out)?;
-            Ok(None)
+            Ok(Done {
+                gave: gives(said),
+                unreached: None,
+            })
         }
         Deed::Until(goal, most) => {
-            let (line, steps) = (act.line, *most);
-            let is_there = walk(machine, Some(goal), steps, clock, keeper, watch, out)?;
-            Ok((!is_there).then_some(Unreached { line, steps }))
+            let walked = walk(machine, Some(goal), *most, clock, keeper, watch, out)?;
+            Ok(waited(act.line, walked))
         }
         Deed::Set(next) => {
             *clock = *next;
-            Ok(None)
+            Ok(NOTHING)
         }
-        Deed::Repeat { .. } | Deed::End => Ok(None),
+        Deed::Repeat { .. } | Deed::End => Ok(NOTHING),
+    }
+}
+
+// Notes whether an act gave an event.
+fn note(place: &mut Place, gave: bool) {
+    if gave {
+        place.note_event();
     }
 }
 
@@ -311,10 +377,11 @@ pub fn perform<D: BlockDev, T: Translate, R: Record, V: Watch, W: Write>(
         let Some(next) = place.next_act(play.acts.as_slice()) else {
             break;
         };
-        let unreached = act(machine, next, &mut clock, keeper, watch, out)?;
-        if unreached.is_some() {
-            return Ok(unreached);
+        let done = act(machine, next, &mut clock, keeper, watch, out)?;
+        if done.unreached.is_some() {
+            return Ok(done.unreached);
         }
+        note(&mut place, done.gave);
         out.flush();
     }
     Ok(None)

@@ -45,7 +45,7 @@ impl Why {
             Why::More => "nothing may follow here",
             Why::Number => "no number up to 1000000000",
             Why::Keys => "no pairs of hexadecimal digits",
-            Why::Goal => "no \"text\", idle or halt",
+            Why::Goal => "no \"text\", prompt, quiet, idle or halt",
             Why::Open => "no quote ends it",
             Why::Length => "no text of 1 to 64 bytes",
             Why::Escape => "an unknown escape",

@@ -17,6 +17,10 @@ pub enum Goal {
     Shown(ArrayVec<u8, MOST_SHOWN>),
     /// No process runs and none is ready.
     Idle,
+    /// The shell waits for a typed line, and no process is alive but it and process 1.
+    Prompt,
+    /// No process runs and none is ready, and none sleeps.
+    Quiet,
     /// The machine halts.
     Halt,
 }

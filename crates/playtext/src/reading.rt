@@ -25,6 +25,8 @@ fn keys<'a>(
 fn goal<'a>(word: &'a [u8]) -> Result<Goal, Fault<'a>> {
     match word {
         b"idle" => Ok(Goal::Idle),
+        b"prompt" => Ok(Goal::Prompt),
+        b"quiet" => Ok(Goal::Quiet),
         b"halt" => Ok(Goal::Halt),
         [b'"', ..] => Ok(Goal::Shown(shown(word)?)),
         _ => Err(Fault::at(word, Why::Goal)),
@@ -101,70 +103,33 @@ fn deed_of<'a>(alloc: Global, line: &'a [u8]) -> Result<Option<(&'a [u8], Deed<'
     Ok(Some((name, deed)))
 }
 
-// A repeat that has no end yet: where it stands, and whether a line in it may give an event.
-#[derive(Clone, Copy, Default)]
-struct Open {
-    at: usize,
-    may_give: bool,
-}
-
-// Whether a line may give an event by itself.
-fn may_give(deed: &Deed<'_>) -> bool {
-    match deed {
-        Deed::Give(Command::Step(count) | Command::Tick(count)) | Deed::Until(_, count) => {
-            *count > 0
-        }
-        Deed::Give(Command::Keys(keys)) => !keys.is_empty(),
-        Deed::Give(Command::Type(_)) => true,
-        Deed::Set(_) | Deed::Repeat { .. } | Deed::End => false,
-    }
-}
-
 // A play that is being read.
 #[derive(Drop)]
 struct Draft<'a> {
     acts: Vec<Act<'a>>,
-    open: ArrayVec<Open, MOST_DEPTH>,
+    // Where the repeats begin that have no end yet.
+    open: ArrayVec<usize, MOST_DEPTH>,
 }
 
 impl<'a> Draft<'a> {
     // A repeat begins here.
     fn open(&mut self, name: &'a [u8]) -> Result<(), Fault<'a>> {
-        let open = Open {
-            at: self.acts.len(),
-            may_give: false,
-        };
-        match self.open.try_push(open) {
+        match self.open.try_push(self.acts.len()) {
             Ok(()) => Ok(()),
             Err(_) => Err(Fault::at(name, Why::Depth)),
         }
     }
 
-    // A line in the repeats that are open may give an event.
-    fn give(&mut self) {
-        if let Some(open) = self.open.last_mut() {
-            open.may_give = true;
-        }
-    }
-
-    // The repeat that was begun last ends here. One that gives no event in a round gives none in any, so it is done once at most.
+    // The repeat that was begun last ends here.
     fn close(&mut self, name: &'a [u8]) -> Result<(), Fault<'a>> {
-        let Some(Open { at, may_give }) = self.open.pop() else {
+        let Some(at) = self.open.pop() else {
             return Err(Fault::at(name, Why::NoRepeat));
         };
         let next = self.acts.len().saturating_add(1);
-        let mut gives = false;
         if let Some(act) = self.acts.get_mut(at)
-            && let Deed::Repeat { times, end } = &mut act.deed
+            && let Deed::Repeat { end, .. } = &mut act.deed
         {
             *end = next;
-            if !may_give {
-                *times = (*times).min(1);
-            }
-            gives = may_give && *times > 0;
-        }
-        if gives {
-            self.give();
         }
         Ok(())
     }
@@ -180,9 +145,6 @@ impl<'a> Draft<'a> {
             _ => Ok(()),
         };
         fits?;
-        if may_give(&deed) {
-            self.give();
-        }
         self.acts.push(Act { line, deed })?;
         Ok(())
     }
@@ -190,7 +152,7 @@ impl<'a> Draft<'a> {
     // The play, which has been read to its end.
     fn finish(self) -> Result<Play<'a>, PlayFault<'a>> {
         let Draft { acts, open } = self;
-        if let Some(Open { at, .. }) = open.last()
+        if let Some(at) = open.last()
             && let Some(act) = acts.get(*at)
         {
             return Err(PlayFault {

@@ -17,17 +17,53 @@ use machine::{BootFault, Halt, Machine, boot};
 use player::{Record, Tail, Unreached};
 use playtext::{PlayFault, Why, parse};
 use std::alloc::Global;
+use std::fmt;
 use std::io::Write;
-use sv39::{Plain, Tlb, Translate};
+use sv39::{Plain, Recent, Tlb, Translate};
+use waits::{Waiters, who_waits};
 
 /// The status of a play that can't be read, or that waited in vain.
 const IN_VAIN: u8 = 1;
 
-// How a play ended: how the machine did, and what it waited for in vain, if it did.
+// How the events of a play ended: how the machine did, and what was waited for in vain, if anything was.
 #[derive(Clone, Copy)]
-struct Finish {
+struct Played {
     end: End,
     unreached: Option<Unreached>,
+}
+
+// What a play waited for in vain, and who waits for what, if nobody is ready.
+#[derive(Drop)]
+struct InVain {
+    unreached: Unreached,
+    waiters: Option<Waiters>,
+}
+
+impl fmt::Display for InVain {
+    fn fmt<W: fmt::Write>(&self, f: &mut fmt::Formatter<W>) -> fmt::Result {
+        let Unreached { line, steps } = self.unreached;
+        write!(f, "{line}: not reached in {steps} steps")?;
+        match &self.waiters {
+            Some(waiters) => write!(f, "; nobody is ready: {waiters}"),
+            None => Ok(()),
+        }
+    }
+}
+
+// How a play ended: how the machine did, and what the play waited for in vain, if it did.
+#[derive(Drop)]
+struct Finish {
+    end: End,
+    in_vain: Option<InVain>,
+}
+
+// A play, its record, who looks on, and where the console's bytes go.
+#[derive(Drop)]
+struct Show<'a, 'b, R, V, W> {
+    play: &'a playtext::Play<'b>,
+    record: &'a mut R,
+    watch: &'a mut V,
+    stdout: &'a mut W,
 }
 
 // How a play ended for the machine, and what it waited for in vain, if it did.
@@ -47,7 +83,7 @@ fn play_out<D: BlockDev, T: Translate, R: Record, V: Watch, W: Write>(
     keeper: &mut R,
     watch: &mut V,
     stdout: W,
-) -> (Finish, W)
+) -> (Played, W)
     requires { IsUp machine.old }
     ensures { PlaysOutTo W.contents R.kept keeper.old keeper.new machine.old machine.new stdout result.1 result.0.end }
 {
@@ -60,7 +96,21 @@ fn play_out<D: BlockDev, T: Translate, R: Record, V: Watch, W: Write>(
     let mut stdout = out.into_inner();
     let is_written = stdout.flush().is_ok();
     let end = end_with(ended, failures, is_written);
-    (Finish { end, unreached }, stdout)
+    (Played { end, unreached }, stdout)
+}
+
+// What a play waited for in vain on a machine, if it did.
+fn waited_in_vain<D: BlockDev, T: Translate>(
+    machine: &Machine<D, T>,
+    unreached: Option<Unreached>,
+) -> Option<InVain> {
+    let unreached = unreached?;
+    let waiters = if machine.is_idle() {
+        Some(who_waits(machine))
+    } else {
+        None
+    };
+    Some(InVain { unreached, waiters })
 }
 
 // Boots a machine from a disk over a translator and gives it the events of a play; then it is saved, if it is to be and the play
@@ -70,16 +120,20 @@ fn play_disk<D: BlockDev, T: Translate, R: Record, V: Watch, W: Write>(
     disk: D,
     translator: T,
     words: &Run<'_>,
-    play: &playtext::Play<'_>,
-    record: &mut R,
-    watch: &mut V,
-    stdout: &mut W,
+    show: Show<'_, '_, R, V, W>,
 ) -> Result<(Finish, Option<D>), BootFault> {
     let mut machine = boot(alloc, disk, translator, words.frames)?;
-    let (Finish { end, unreached }, _) = play_out(&mut machine, play, record, watch, stdout);
-    let saves = words.save.is_some() && unreached.is_none();
+    let Show {
+        play,
+        record,
+        watch,
+        stdout,
+    } = show;
+    let (Played { end, unreached }, _) = play_out(&mut machine, play, record, watch, stdout);
+    let in_vain = waited_in_vain(&machine, unreached);
+    let saves = words.save.is_some() && in_vain.is_none();
     let (end, disk) = leave(machine, saves, end);
-    Ok((Finish { end, unreached }, disk))
+    Ok((Finish { end, in_vain }, disk))
 }
 
 // The same, with a disk of which one access fails, if the words ask for it.
@@ -88,18 +142,13 @@ fn play_with<T: Translate, R: Record, V: Watch, W: Write>(
     disk: MemDisk,
     translator: T,
     words: &Run<'_>,
-    play: &playtext::Play<'_>,
-    record: &mut R,
-    watch: &mut V,
-    stdout: &mut W,
+    show: Show<'_, '_, R, V, W>,
 ) -> Result<(Finish, Option<MemDisk>), BootFault> {
     let Some(n) = words.fail else {
-        return play_disk(alloc, disk, translator, words, play, record, watch, stdout);
+        return play_disk(alloc, disk, translator, words, show);
     };
     let failing = FailAt::new(disk, n);
-    let (finish, left) = play_disk(
-        alloc, failing, translator, words, play, record, watch, stdout,
-    )?;
+    let (finish, left) = play_disk(alloc, failing, translator, words, show)?;
     Ok((finish, inner_of(left)))
 }
 
@@ -108,25 +157,14 @@ fn play_over<R: Record, V: Watch, W: Write>(
     alloc: Global,
     disk: MemDisk,
     words: &Run<'_>,
-    play: &playtext::Play<'_>,
-    record: &mut R,
-    watch: &mut V,
-    stdout: &mut W,
+    show: Show<'_, '_, R, V, W>,
 ) -> Result<(Finish, Option<MemDisk>), BootFault> {
     if words.tlb {
-        let cache = Tlb::<64>::new();
-        play_with(alloc, disk, cache, words, play, record, watch, stdout)
+        let cache = Recent::new(Tlb::<64>::new());
+        play_with(alloc, disk, cache, words, show)
     } else {
-        play_with(
-            alloc,
-            disk,
-            Plain::new(),
-            words,
-            play,
-            record,
-            watch,
-            stdout,
-        )
+        let plain = Recent::new(Plain::new());
+        play_with(alloc, disk, plain, words, show)
     }
 }
 
@@ -142,15 +180,13 @@ fn go<'a, H: Host, V: Watch, W: Write>(
 ) -> Result<(Finish, Result<(), Failure<'a>>), Failure<'a>> {
     let disk = disk_of(image)?;
     let mut scribe = Scribe::new(alloc, host, words.script);
-    let (finish, left) = match play_over(
-        alloc,
-        disk,
-        &words.run,
+    let show = Show {
         play,
-        &mut scribe,
+        record: &mut scribe,
         watch,
         stdout,
-    ) {
+    };
+    let (finish, left) = match play_over(alloc, disk, &words.run, show) {
         Ok(played) => played,
         Err(fault) => return Err(Failure::Boot(fault)),
     };
@@ -167,10 +203,10 @@ fn tell_end<E: Write>(
     telling: &Telling<'_>,
     stderr: &mut E,
 ) -> u8 {
-    let Finish { end, unreached } = finish;
-    let status = match (end, unreached) {
-        (End::Running, Some(Unreached { line, steps })) => {
-            let _ = writeln!(stderr, "{name}:{line}: not reached in {steps} steps");
+    let Finish { end, in_vain } = finish;
+    let status = match (end, in_vain) {
+        (End::Running, Some(in_vain)) => {
+            let _ = writeln!(stderr, "{name}:{in_vain}");
             IN_VAIN
         }
         _ => {

@@ -71,10 +71,23 @@ fn play_of(tlb: bool, script: Option<&'static str>) -> Job<'static> {
     })
 }
 
+// The first process waits for its children. Its child reads lines, and for each its own child prints `$ `, as it does
+// itself, and
+// `x` two ticks later.
+const PROMPTS: &str = "\
+    la a0, console\n li a1, 2\n li a7, 15\n ecall\n li a7, 1\n ecall\n beq a0, zero, shell\n\
+    waits: li a0, 0\n li a7, 3\n ecall\n j waits\n\
+    shell: li a0, 0\n la a1, prompt\n li a2, 2\n li a7, 16\n ecall\n\
+    li a0, 0\n la a1, line\n li a2, 100\n li a7, 5\n ecall\n li a7, 1\n ecall\n beq a0, zero, job\n\
+    li a0, 0\n li a7, 3\n ecall\n j shell\n\
+    job: li a0, 0\n la a1, prompt\n li a2, 2\n li a7, 16\n ecall\n li a0, 2\n li a7, 13\n ecall\n\
+    li a0, 0\n la a1, said\n li a2, 2\n li a7, 16\n ecall\n li a0, 0\n li a7, 2\n ecall\n\
+    console: .ascii \"console\\0\"\nprompt: .ascii \"$ \"\nsaid: .ascii \"x\\n\"\nline: .zero 100\n";
+
 // A play, standard output, standard error, status, and the script that it comes to.
 type Row = (&'static str, &'static str, &'static str, u8, &'static str);
 
-static PLAYED: [Row; 12] = [
+static PLAYED: [Row; 18] = [
     ("", "", "running\n", 0, ""),
     (
         "# nothing\n\n   step 3 # steps\nstep 4\n",
@@ -128,7 +141,7 @@ static PLAYED: [Row; 12] = [
     (
         "until idle 1000\ntype a\nuntil \"a\\na\\n\" 1000",
         "a\n",
-        "play:3: not reached in 1000 steps\n",
+        "play:3: not reached in 8 steps; nobody is ready: pid 1 sleeps until tick 2\n",
         1,
         "",
     ),
@@ -151,6 +164,82 @@ static PLAYED: [Row; 12] = [
         "y\ny\ny\ny\n",
         "running\n",
         0,
+        "",
+    ),
+    (
+        "until prompt 1000\ntype a\nevery 100 tick\nuntil prompt 1000\nkeys 04\nuntil halt 1000",
+        "a\na\n\x04",
+        "halt 1 InitEnded 7\n",
+        0,
+        "",
+    ),
+    (
+        "until quiet 0",
+        "",
+        "play:1: not reached in 0 steps\n",
+        1,
+        "",
+    ),
+    (
+        "until prompt 16",
+        "",
+        "play:1: not reached in 16 steps\n",
+        1,
+        "step 16\n",
+    ),
+    (
+        "until quiet 17\nuntil prompt 0\nuntil halt 1000000000",
+        "",
+        "play:3: not reached in 0 steps; nobody is ready: pid 1 reads the console\n",
+        1,
+        "step 17\n",
+    ),
+    (
+        "until quiet 17\ntype a\nuntil idle 1000\nuntil quiet 1000",
+        "a\n",
+        "play:4: not reached in 0 steps; nobody is ready: pid 1 sleeps until tick 2\n",
+        1,
+        "step 17\nkeys 610a\nstep 8\n",
+    ),
+    (
+        "until idle 17\nrepeat 1000000000 {\nrepeat 1000000000 {\nuntil idle 5\nevery 9 tick\n}\n}\nstep 9",
+        "",
+        "running\n",
+        0,
+        "step 26\ntick 1\n",
+    ),
+];
+
+// The same with `PROMPTS`. A prompt is not the text of one, and no program that sleeps.
+static PROMPTED: [Row; 4] = [
+    (
+        "every 100 tick\nuntil prompt 1000\ntype a\nuntil prompt 1000\ntype b\nuntil prompt 1000",
+        "$ a\n$ x\n$ b\n$ x\n$ ",
+        "running\n",
+        0,
+        "",
+    ),
+    (
+        "every 100 tick\nuntil prompt 1000\ntype a\nuntil \"$ \" 1000\nuntil \"\\n$ \" 1000\nuntil quiet 1000",
+        "$ a\n$ x\n$ ",
+        "running\n",
+        0,
+        "",
+    ),
+    (
+        "until prompt 1000\ntype a\nuntil idle 1000\nuntil prompt 1000",
+        "$ a\n$ ",
+        "play:4: not reached in 0 steps; nobody is ready: pid 1 waits for a child; pid 2 waits for a child; pid 3 \
+            sleeps until tick 2\n",
+        1,
+        "",
+    ),
+    (
+        "until prompt 1000\ntype a\nuntil \"x\" 1000\n",
+        "$ a\n$ ",
+        "play:3: not reached in 26 steps; nobody is ready: pid 1 waits for a child; pid 2 waits for a child; pid 3 \
+            sleeps until tick 2\n",
+        1,
         "",
     ),
 ];
@@ -181,7 +270,7 @@ fn expect_played(rt: &(impl Abort + AllocGlobal), image: &[u8], row: &Row, tlb: 
 }
 
 // Plays that can't be read, and what is told of them: the line, the word, and why.
-static FAULTS: [(&str, &str); 30] = [
+static FAULTS: [(&str, &str); 33] = [
     ("untill", "play:1: untill: no such command\n"),
     (
         "step 1\n\n  # none\ntick",
@@ -204,7 +293,16 @@ static FAULTS: [(&str, &str); 30] = [
     ("until", "play:1: until: more has to follow\n"),
     (
         "until halted 5",
-        "play:1: halted: no \"text\", idle or halt\n",
+        "play:1: halted: no \"text\", prompt, quiet, idle or halt\n",
+    ),
+    (
+        "step 1\nuntil promt 5",
+        "play:2: promt: no \"text\", prompt, quiet, idle or halt\n",
+    ),
+    ("until prompt", "play:1: prompt: more has to follow\n"),
+    (
+        "until quiet 1000000001",
+        "play:1: 1000000001: no number up to 1000000000\n",
     ),
     ("until idle", "play:1: idle: more has to follow\n"),
     ("until \"$ \"", "play:1: \"$ \": more has to follow\n"),
@@ -260,8 +358,8 @@ fn expect_word_meant(rt: &(impl Abort + AllocGlobal)) {
     expect_explained(rt, &mut stage, &play_of(false, None), line, more);
 }
 
-fn expect_all_played(rt: &(impl Abort + AllocGlobal), image: &[u8]) {
-    for row in &PLAYED {
+fn expect_all_played(rt: &(impl Abort + AllocGlobal), image: &[u8], rows: &[Row]) {
+    for row in rows {
         expect_played(rt, image, row, false);
         expect_played(rt, image, row, true);
     }
@@ -269,7 +367,9 @@ fn expect_all_played(rt: &(impl Abort + AllocGlobal), image: &[u8]) {
 
 fn expect_plays(rt: &(impl Abort + AllocGlobal)) {
     let files = with_image(rt, LISTENS, WITH_CONSOLE, 32);
-    expect_all_played(rt, files.image.as_slice());
+    expect_all_played(rt, files.image.as_slice(), &PLAYED);
+    let files = with_image(rt, PROMPTS, WITH_CONSOLE, 32);
+    expect_all_played(rt, files.image.as_slice(), &PROMPTED);
     expect_faults(rt);
     expect_word_meant(rt);
 }
