@@ -1,0 +1,22 @@
+//! JSON of runs: the rows that a report and the lines of events have in common, and how a line is written.
+//!
+//! The members of an object are the fields of its row, in this order; docs/REPORT.md has the form.
+#![tactic(auto)]
+
+mod call_rows;
+mod descriptors;
+mod ends;
+mod faults;
+mod lines;
+#[cfg(test)]
+mod tests;
+mod texts;
+mod waiting;
+
+pub use call_rows::{Argument, CallRow, Handed, WaitRow};
+pub use descriptors::{DescriptorRow, Descriptors, OnRow, descriptor_rows, descriptors_of};
+pub use ends::{EndedRow, ExitRow, How};
+pub use faults::FaultRow;
+pub use lines::{BeginRow, EndRow, Kind, TurnRow, VERSION, line};
+pub use texts::{Bytes, Latin, Printed};
+pub use waiting::{WaitsRow, can_end, waits_row};
