@@ -127,12 +127,13 @@ line_options app =
     with_rule (with_rule (with_rule (with_rule app
     (number_rule (codes "bytes") (codes "32"))) (flag_rule (codes "each"))) (flag_rule (codes "time"))) (flag_rule (codes "turns"))
 
--- trace [..] [--text FILE] [--perfetto FILE] [--commits FILE] [--core-is-pid] IMAGE SCRIPT
+-- trace [..] [--text FILE] [--perfetto FILE] [--commits FILE] [--core-is-pid] [--jsonl FILE] [--play] IMAGE SCRIPT
 abbrev pub declared_trace : App
 declared_trace =
-    with_bare (with_bare (with_rule (with_rule (with_rule (with_rule (line_options (part_options (run_options (new_app (codes "trace")))))
+    with_bare (with_bare (with_rule (with_rule (with_rule (with_rule (with_rule (with_rule
+    (line_options (part_options (run_options (new_app (codes "trace")))))
     (option_rule (codes "text"))) (option_rule (codes "perfetto"))) (option_rule (codes "commits"))) (flag_rule (codes "core-is-pid")))
-    (codes "IMAGE")) (codes "SCRIPT")
+    (option_rule (codes "jsonl"))) (flag_rule (codes "play"))) (codes "IMAGE")) (codes "SCRIPT")
 
 -- mkfs [--size N] [--inodes N] MANIFEST IMAGE
 abbrev pub declared_mkfs : App
@@ -291,6 +292,8 @@ pub record IsTrace (found : List Row) (trace : Trace) : Type 0 where
   pub text : IsOption (codes "text") found trace.text
   pub perfetto : IsOption (codes "perfetto") found trace.perfetto
   pub commits : IsOption (codes "commits") found trace.commits
+  pub jsonl : IsOption (codes "jsonl") found trace.jsonl
+  pub play : IsFlag (codes "play") found trace.play
 
 pub record IsMkfs (found : List Row) (mkfs : Mkfs) : Type 0 where
   pub size : IsWritten (codes "size") found mkfs.size

@@ -347,13 +347,17 @@ fn trace<'a>(found: &ArgMatches<'a>) -> Option<Job<'a>>
     let text = option_found(found, "text");
     let perfetto = option_found(found, "perfetto");
     let commits = option_found(found, "commits");
+    let jsonl = option_found(found, "jsonl");
+    let play = flag_found(found, "play");
     Some(Job::Trace(Trace {
         run,
+        play,
         part,
         lines,
         text,
         perfetto,
         commits,
+        jsonl,
     }))
 }
 

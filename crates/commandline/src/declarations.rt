@@ -151,7 +151,7 @@ const REPORT: Word<'static> = Word {
 const JSON: Word<'static> = Word {
     name: "json",
     given: Given::Option("FILE"),
-    help: "Where the same is written as JSON",
+    help: "Where the same is written as JSON, for programs",
 };
 
 const REGISTERS: Word<'static> = Word {
@@ -231,7 +231,7 @@ const RUN: [Word<'static>; 13] = [
     SCRIPT,
 ];
 
-const TRACE: [Word<'static>; 25] = [
+const TRACE: [Word<'static>; 27] = [
     FRAMES,
     TLB,
     FAIL,
@@ -302,6 +302,16 @@ const TRACE: [Word<'static>; 25] = [
         name: "core-is-pid",
         given: Given::Flag,
         help: "Has the pid where a log of commits has the number of the core",
+    },
+    Word {
+        name: "jsonl",
+        given: Given::Option("FILE"),
+        help: "Where a line of JSON is written for each call, wait, fault and end, for programs",
+    },
+    Word {
+        name: "play",
+        given: Given::Flag,
+        help: "Takes SCRIPT as a play, with `until`, `every`, `repeat` and `random`, too",
     },
     BOOTED,
     SCRIPT,

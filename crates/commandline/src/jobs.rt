@@ -126,6 +126,8 @@ pub struct Lines {
 pub struct Trace<'a> {
     /// The words that it shares with `run`.
     pub run: Run<'a>,
+    /// Whether its script is a play.
+    pub play: bool,
     /// Which events are shown.
     pub part: Part<'a>,
     /// How the lines are written.
@@ -136,6 +138,8 @@ pub struct Trace<'a> {
     pub perfetto: Option<&'a str>,
     /// The name of the file to which a log of commits is written, where one is.
     pub commits: Option<&'a str>,
+    /// The name of the file to which a line of JSON is written for each event, where they are.
+    pub jsonl: Option<&'a str>,
 }
 
 /// The words of the command `mkfs`.

@@ -9,4 +9,6 @@ returns c = told (record {
   text = c.option_found-text.ensures;
   perfetto = c.option_found-perfetto.ensures;
   commits = c.option_found-commits.ensures;
+  jsonl = c.option_found-jsonl.ensures;
+  play = c.flag_found-play.ensures;
 })
