@@ -1,7 +1,7 @@
 -- What a pen writes, and what it gave up.
 use Rattle.std.specs.Prelude.{Bool, None, Option, Some, false, ℕ, ◌≡◌}
 use Rattle.tracetext.specs.declared.pen.Form.{Form}
-use Rattle.tracetext.specs.declared.pen.Form.TheVariants.{Commits, Spans, Text}
+use Rattle.tracetext.specs.declared.pen.Form.TheVariants.{Commits, Events, Spans, Text}
 use Rattle.tracetext.specs.declared.pen.Pen.{Pen}
 use Rattle.tracetext.specs.declared.pen.Trouble.{Trouble}
 
@@ -10,12 +10,14 @@ abbrev pub has : {S : Type 0} → Pen S → Form → Bool
 has pen Text = pen.has_text
 has pen Spans = pen.has_spans
 has pen Commits = pen.has_commits
+has pen Events = pen.has_events
 
 -- the pen with this said of a form
 abbrev pub set : {S : Type 0} → Pen S → Form → Bool → Pen S
 set pen Text wanted = record pen { has_text = wanted }
 set pen Spans wanted = record pen { has_spans = wanted }
 set pen Commits wanted = record pen { has_commits = wanted }
+set pen Events wanted = record pen { has_events = wanted }
 
 -- the trouble that came first
 abbrev pub first_trouble : Option Trouble → Trouble → Option Trouble

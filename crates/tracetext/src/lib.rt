@@ -14,7 +14,7 @@ pub mod spans;
 mod wishes;
 
 pub use asked::{Asked, CallText, Shown};
-pub use call_names::CallSet;
+pub use call_names::{CallName, CallSet};
 pub use pen::{Form, Pen, SinkFault, Sinks, Trouble};
 pub use quoting::Quoted;
 pub use rows::Row;

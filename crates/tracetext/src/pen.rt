@@ -14,6 +14,8 @@ pub enum Form {
     Spans,
     /// Commits in Spike's form.
     Commits,
+    /// Lines of JSON, one for each event of a process.
+    Events,
 }
 
 /// A sink took not all that was written to it.
@@ -43,6 +45,7 @@ pub struct Pen<S> {
     has_text: bool,
     has_spans: bool,
     has_commits: bool,
+    has_events: bool,
     trouble: Option<Trouble>,
 }
 
@@ -59,6 +62,7 @@ impl<S: Sinks + Drop> Pen<S> {
             has_text: false,
             has_spans: false,
             has_commits: false,
+            has_events: false,
             trouble: None,
         }
     }
@@ -71,6 +75,7 @@ impl<S: Sinks + Drop> Pen<S> {
             Form::Text => self.has_text,
             Form::Spans => self.has_spans,
             Form::Commits => self.has_commits,
+            Form::Events => self.has_events,
         }
     }
 
@@ -82,6 +87,7 @@ impl<S: Sinks + Drop> Pen<S> {
             Form::Text => self.has_text = is_wanted,
             Form::Spans => self.has_spans = is_wanted,
             Form::Commits => self.has_commits = is_wanted,
+            Form::Events => self.has_events = is_wanted,
         }
     }
 
@@ -104,6 +110,7 @@ impl<S: Sinks + Drop> Pen<S> {
         self.lose(Form::Text, Trouble::NoMemory);
         self.lose(Form::Spans, Trouble::NoMemory);
         self.lose(Form::Commits, Trouble::NoMemory);
+        self.lose(Form::Events, Trouble::NoMemory);
     }
 
     /// Why the trace isn't whole, if it isn't.

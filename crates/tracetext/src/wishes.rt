@@ -16,6 +16,8 @@ pub struct Wanted {
     pub spans: bool,
     /// Whether there are commits, in Spike's form.
     pub commits: bool,
+    /// Whether there are lines of JSON.
+    pub events: bool,
     /// The one process that is shown, or all.
     pub pid: Option<u32>,
     /// The calls that are shown; ends and faults are shown always.
@@ -42,6 +44,7 @@ impl Wanted {
         text: false,
         spans: false,
         commits: false,
+        events: false,
         pid: None,
         calls: CallSet::ALL,
         from: 1,
