@@ -1,213 +1,283 @@
 //! The report of a run, for programs: JSON, with the members in the order of these fields.
 
-use crate::report::{On, Report, Stop, frames_of};
-use crate::reporter::{Fallen, pids};
-use crate::who::{Name, Who};
+use crate::ended::Ended;
+use crate::outcome::{Outcome, PlayEnd, Stop};
+use crate::report::{Report, frames_of};
+use crate::reporter::{Fallen, Reporter, pids};
+use crate::who::Who;
 use blockdev::BlockDev;
-use causes::Fault;
-use machine::{Opened, ProcessState, Seen};
-use serde::{Described, Serialize, Serializer};
+use jsonrows::{
+    DescriptorRow, EndedRow, FaultRow, Latin, VERSION, WaitsRow, descriptor_rows, descriptors_of,
+    waits_row,
+};
+use machine::{ProcessState, Seen};
+use serde::Serialize;
 use serde_json::Error;
 use std::alloc::{AllocError, Global};
-use std::fmt::Display;
 use sv39::Translate;
 
-/// A value that stands as the text that it prints.
-#[derive(Clone, Copy)]
-struct Printed<V>(V);
-
-impl<V: Display> Described for Printed<V> {}
-
-impl<V: Display> Serialize for Printed<V> {
-    fn serialize<S: Serializer>(&self, out: &mut S) -> Result<(), S::Error> {
-        out.collect_str(&self.0)
-    }
+/// Why a run stopped.
+#[derive(Clone, Copy, Serialize)]
+#[serde(rename_all = "snake_case")]
+enum StopWord {
+    Ended,
+    Device,
+    Console,
+    Halted,
+    Idle,
+    Running,
+    Ready,
 }
 
-/// Why a run stopped: `ended`, `device`, `console`, `halted`, `idle`, `running` or `ready`.
 #[derive(Clone, Copy, Serialize)]
 struct StopRow {
-    why: &'static str,
+    why: StopWord,
     /// The status of process 1, where it has ended.
     status: Option<i32>,
     /// The process that runs, where one does.
     pid: Option<u32>,
 }
 
+/// What became of a play.
 #[derive(Clone, Copy, Serialize)]
-struct DescriptorRow {
-    descriptor: u32,
-    on: Printed<On>,
-    readable: bool,
-    writable: bool,
+#[serde(rename_all = "snake_case")]
+enum PlayWord {
+    Done,
+    Halted,
+    Unreached,
 }
 
-#[derive(Drop, Serialize)]
-struct ProcessRow {
-    pid: u32,
-    parent: u32,
-    program: Option<Printed<Name>>,
-    /// `running`, `ready`, `waiting` or `ended`.
-    state: &'static str,
-    status: Option<i32>,
-    /// What it waits for, in words.
-    waits: Option<String>,
-    killed: bool,
-    pc: u64,
-    size: u64,
-    frames: u64,
+#[derive(Clone, Copy, Serialize)]
+struct PlayRow {
+    end: PlayWord,
+    /// The line that waited in vain, and for how many steps.
+    line: Option<u64>,
+    steps: Option<u32>,
+}
+
+/// What a process does.
+#[derive(Clone, Copy, Serialize)]
+#[serde(rename_all = "snake_case")]
+enum StateWord {
+    Running,
+    Ready,
+    Waiting,
+    Ended,
+}
+
+// A process that is there at the end of a run.
+#[derive(Drop)]
+struct Process {
+    who: Who,
+    seen: Seen,
+    waits: Option<WaitsRow>,
     descriptors: Vec<DescriptorRow>,
 }
 
 #[derive(Clone, Copy, Serialize)]
-struct FaultRow {
+struct ProcessRow<'a> {
     pid: u32,
-    program: Option<Printed<Name>>,
+    parent: u32,
+    program: Option<Latin<'a>>,
+    state: StateWord,
+    status: Option<i32>,
+    waits: &'a Option<WaitsRow>,
+    killed: bool,
     pc: u64,
-    address: u64,
-    words: Printed<Fault>,
+    size: u64,
+    frames: u64,
+    descriptors: &'a Vec<DescriptorRow>,
+}
+
+/// The processes and the free frames of a machine at the end of a run.
+#[derive(Drop)]
+pub(crate) struct Left {
+    processes: Vec<Process>,
+    free_frames: u32,
 }
 
 #[derive(Drop, Serialize)]
-struct ReportRow {
+struct ReportRow<'a> {
+    version: u32,
     steps: u64,
     ticks: u64,
     keys: u64,
     stopped: StopRow,
-    processes: Vec<ProcessRow>,
+    play: Option<PlayRow>,
+    processes: Vec<ProcessRow<'a>>,
+    ended: Vec<EndedRow<'a>>,
+    more_ended: u64,
     free_frames: u32,
-    faults: Vec<FaultRow>,
+    faults: Vec<FaultRow<'a>>,
     more_faults: u64,
 }
 
 fn stop_row(stop: Stop) -> StopRow {
     let (why, status, pid) = match stop {
-        Stop::Ended(status) => ("ended", Some(status), None),
-        Stop::Device => ("device", None, None),
-        Stop::Console => ("console", None, None),
-        Stop::Halted => ("halted", None, None),
-        Stop::Idle => ("idle", None, None),
-        Stop::Runs(pid) => ("running", None, Some(pid)),
-        Stop::Ready => ("ready", None, None),
+        Stop::Ended(status) => (StopWord::Ended, Some(status), None),
+        Stop::Device => (StopWord::Device, None, None),
+        Stop::Console => (StopWord::Console, None, None),
+        Stop::Halted => (StopWord::Halted, None, None),
+        Stop::Idle => (StopWord::Idle, None, None),
+        Stop::Runs(who) => (StopWord::Running, None, Some(who.pid)),
+        Stop::Ready => (StopWord::Ready, None, None),
     };
     StopRow { why, status, pid }
 }
 
-fn program_of(who: Who) -> Option<Printed<Name>> {
-    match who.name {
-        Some(name) => Some(Printed(name)),
-        None => None,
+fn play_row(play: PlayEnd) -> PlayRow {
+    let (end, line, steps) = match play {
+        PlayEnd::Done => (PlayWord::Done, None, None),
+        PlayEnd::Halted => (PlayWord::Halted, None, None),
+        PlayEnd::Unreached { line, steps } => (PlayWord::Unreached, Some(line as u64), Some(steps)),
+    };
+    PlayRow { end, line, steps }
+}
+
+// The word of a state, and the status of a process that has ended.
+fn state_of(state: ProcessState) -> (StateWord, Option<i32>) {
+    match state {
+        ProcessState::Running => (StateWord::Running, None),
+        ProcessState::Ready => (StateWord::Ready, None),
+        ProcessState::Waiting(_) => (StateWord::Waiting, None),
+        ProcessState::Zombie(status) => (StateWord::Ended, Some(status)),
     }
 }
 
-fn descriptor_row(descriptor: usize, opened: &Opened) -> DescriptorRow {
-    DescriptorRow {
-        descriptor: (descriptor % 16) as u32,
-        on: Printed(On(opened.on)),
-        readable: opened.readable,
-        writable: opened.writable,
+fn process_row(process: &Process) -> ProcessRow<'_> {
+    let seen = &process.seen;
+    let (state, status) = state_of(seen.state);
+    ProcessRow {
+        pid: seen.pid,
+        parent: seen.parent,
+        program: process.who.program(),
+        state,
+        status,
+        waits: &process.waits,
+        killed: seen.killed,
+        pc: seen.pc,
+        size: seen.size,
+        frames: frames_of(seen.size),
+        descriptors: &process.descriptors,
     }
 }
 
-fn fault_row(fallen: &Fallen) -> FaultRow {
-    let (who, fault) = (fallen.who, fallen.fault);
-    FaultRow {
-        pid: who.pid,
-        program: program_of(who),
-        pc: fault.pc,
-        address: fault.trap.address,
-        words: Printed(fault),
-    }
-}
-
-fn fault_rows(alloc: Global, faults: &[Option<Fallen>]) -> Result<Vec<FaultRow>, AllocError> {
+fn process_rows(alloc: Global, processes: &[Process]) -> Result<Vec<ProcessRow<'_>>, AllocError> {
     let mut rows = Vec::new(alloc);
-    for fallen in faults {
-        if let Some(fallen) = fallen {
-            rows.push(fault_row(fallen))?;
-        }
+    for process in processes {
+        rows.push(process_row(process))?;
     }
     Ok(rows)
 }
 
-// The word of a state, and the status of a process that has ended.
-fn state_of(state: ProcessState) -> (&'static str, Option<i32>) {
-    match state {
-        ProcessState::Running => ("running", None),
-        ProcessState::Ready => ("ready", None),
-        ProcessState::Waiting(_) => ("waiting", None),
-        ProcessState::Zombie(status) => ("ended", Some(status)),
+fn ended_row(ended: &Ended) -> EndedRow<'_> {
+    EndedRow {
+        at: ended.at,
+        pid: ended.who.pid,
+        program: ended.who.program(),
+        parent: ended.parent,
+        how: ended.how,
+        status: ended.status,
+        killer: ended.killer,
     }
 }
 
+fn ended_rows(alloc: Global, ones: &[Ended]) -> Result<Vec<EndedRow<'_>>, AllocError> {
+    let mut rows = Vec::new(alloc);
+    for ended in ones {
+        rows.push(ended_row(ended))?;
+    }
+    Ok(rows)
+}
+
+fn fault_row(fallen: &Fallen) -> FaultRow<'_> {
+    let who = &fallen.who;
+    FaultRow::new(
+        fallen.at,
+        who.pid,
+        who.program(),
+        fallen.fault,
+        &fallen.registers,
+    )
+}
+
+fn fault_rows(alloc: Global, faults: &[Fallen]) -> Result<Vec<FaultRow<'_>>, AllocError> {
+    let mut rows = Vec::new(alloc);
+    for fallen in faults {
+        rows.push(fault_row(fallen))?;
+    }
+    Ok(rows)
+}
+
 impl<D: BlockDev, T: Translate> Report<'_, D, T> {
-    fn descriptor_rows(&self, alloc: Global, pid: u32) -> Result<Vec<DescriptorRow>, AllocError> {
-        let mut rows = Vec::new(alloc);
-        for descriptor in 0..16 {
-            if let Some(opened) = self.open_on(pid, descriptor) {
-                rows.push(descriptor_row(descriptor, &opened))?;
-            }
-        }
-        Ok(rows)
-    }
-
-    // What a process waits for, in words.
-    fn waits(&self, alloc: Global, pid: u32) -> Result<Option<String>, AllocError> {
-        match self.waiting(pid) {
-            Some(waiting) => Ok(Some(format!(in alloc; "{waiting}")?)),
-            None => Ok(None),
-        }
-    }
-
-    fn process_row(&self, alloc: Global, seen: &Seen) -> Result<ProcessRow, AllocError> {
-        let (state, status) = state_of(seen.state);
-        let pid = seen.pid;
-        let waits = self.waits(alloc, pid)?;
-        let descriptors = self.descriptor_rows(alloc, pid)?;
-        Ok(ProcessRow {
-            pid,
-            parent: seen.parent,
-            program: program_of(self.reporter.who(pid)),
-            state,
-            status,
+    fn process(&self, alloc: Global, seen: &Seen) -> Result<Process, AllocError> {
+        let waits = waits_row(alloc, self.machine, seen.pid)?;
+        let opened = descriptors_of(self.machine, seen.pid);
+        let descriptors = descriptor_rows(alloc, &opened)?;
+        Ok(Process {
+            who: self.reporter.who(seen.pid),
+            seen: *seen,
             waits,
-            killed: seen.killed,
-            pc: seen.pc,
-            size: seen.size,
-            frames: frames_of(seen.size),
             descriptors,
         })
     }
 
-    fn process_rows(&self, alloc: Global) -> Result<Vec<ProcessRow>, AllocError> {
-        let mut rows = Vec::new(alloc);
+    /// What is left at the end of the run.
+    pub(crate) fn left(&self, alloc: Global) -> Result<Left, AllocError> {
+        let mut processes = Vec::new(alloc);
         for pid in pids(self.machine).as_slice() {
             if let Some(seen) = self.machine.inspect(*pid) {
-                rows.push(self.process_row(alloc, &seen)?)?;
+                processes.push(self.process(alloc, &seen)?)?;
             }
         }
-        Ok(rows)
+        Ok(Left {
+            processes,
+            free_frames: self.machine.free_frames(),
+        })
     }
+}
 
-    fn row(&self, alloc: Global) -> Result<ReportRow, AllocError> {
-        let counts = self.reporter.counts();
-        let processes = self.process_rows(alloc)?;
-        let faults = fault_rows(alloc, self.reporter.faults())?;
+impl Reporter {
+    fn row<'a>(
+        &'a self,
+        alloc: Global,
+        left: &'a Left,
+        stop: Stop,
+        outcome: Outcome,
+    ) -> Result<ReportRow<'a>, AllocError> {
+        let counts = self.counts();
+        let play = match outcome.play {
+            Some(play) => Some(play_row(play)),
+            None => None,
+        };
+        let processes = process_rows(alloc, left.processes.as_slice())?;
+        let ended = ended_rows(alloc, self.ended_ones())?;
+        let faults = fault_rows(alloc, self.faults())?;
         Ok(ReportRow {
+            version: VERSION,
             steps: counts.steps,
             ticks: counts.ticks,
             keys: counts.keys,
-            stopped: stop_row(self.stop()),
+            stopped: stop_row(stop),
+            play,
             processes,
-            free_frames: self.machine.free_frames(),
+            ended,
+            more_ended: self.more_ended(),
+            free_frames: left.free_frames,
             faults,
-            more_faults: self.reporter.more_faults() as u64,
+            more_faults: self.more_faults(),
         })
     }
 
     /// The report as a JSON text. An error is of memory.
-    pub fn to_json(&self, alloc: Global) -> Result<String, Error> {
-        let row = self.row(alloc)?;
+    pub(crate) fn to_json(
+        &self,
+        alloc: Global,
+        left: &Left,
+        stop: Stop,
+        outcome: Outcome,
+    ) -> Result<String, Error> {
+        let row = self.row(alloc, left, stop, outcome)?;
         serde_json::to_string_pretty(alloc, &row)
     }
 }

@@ -1,18 +1,21 @@
-//! What a run was, told at its end: what was used, why it stopped, who waits for what, what each process holds, and the faults that came.
+//! What a run was, told at its end: what was used, why it stopped, who waits for what, what each process holds, which ended, and the
+//! faults that came.
 #![tactic(auto)]
 
+mod ended;
 mod json;
 mod memory;
+mod outcome;
 mod registers;
 mod report;
 mod reporter;
 mod teller;
-mod waits;
 mod who;
 
 pub use memory::MemoryReport;
+pub use outcome::{Outcome, PlayEnd};
 pub use registers::RegisterReport;
 pub use report::Report;
 pub use reporter::Reporter;
-pub use teller::{Told, Wanted};
+pub use teller::{Looked, Told, Wanted};
 pub use who::Name;

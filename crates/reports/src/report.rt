@@ -1,12 +1,14 @@
 //! The report of a run, as a text.
 
-use crate::reporter::{Fallen, Reporter, pids, running};
-use crate::waits::{Wait, holds, wait_of};
+use crate::outcome::Stop;
+use crate::reporter::{Fallen, Reporter, pids};
 use blockdev::BlockDev;
+use jsonrows::can_end;
 use machine::{Halt, Machine, OpenOn, Opened, ProcessState, Seen};
 use std::fmt;
 use std::fmt::Display;
 use sv39::Translate;
+use waits::{Wait, wait_of};
 
 /// What a run was, at its end.
 #[derive(Drop)]
@@ -14,25 +16,6 @@ pub struct Report<'a, D: BlockDev, T: Translate> {
     pub(crate) reporter: &'a Reporter,
     pub(crate) machine: &'a Machine<D, T>,
     pub(crate) ended: Result<(), Halt>,
-}
-
-/// Why a run stopped.
-#[derive(Clone, Copy)]
-pub(crate) enum Stop {
-    /// Process 1 ended with this status.
-    Ended(i32),
-    /// An access of the disk failed.
-    Device,
-    /// The console's bytes weren't all taken.
-    Console,
-    /// The machine takes no events.
-    Halted,
-    /// No process runs, and none is ready.
-    Idle,
-    /// The events are used up while the process with this pid runs.
-    Runs(u32),
-    /// The events are used up while a process is ready.
-    Ready,
 }
 
 /// How many frames a process of so many bytes takes.
@@ -85,19 +68,6 @@ pub(crate) struct Waiting<'a, D: BlockDev, T: Translate> {
 }
 
 impl<D: BlockDev, T: Translate> Waiting<'_, D, T> {
-    // Whether the process with a pid is one that can end the wait: a child, or one that holds the other end of a pipe.
-    fn is_cause(&self, pid: u32) -> bool {
-        match self.wait {
-            Wait::Child => match self.machine.inspect(pid) {
-                Some(seen) => seen.parent == self.pid,
-                None => false,
-            },
-            Wait::Bytes(pipe) => holds(self.machine, pid, OpenOn::WriteEnd { pipe }),
-            Wait::Room(pipe) => holds(self.machine, pid, OpenOn::ReadEnd { pipe }),
-            Wait::Console | Wait::Tick(_) => false,
-        }
-    }
-
     // One who can end the wait.
     fn write_cause<W: fmt::Write>(&self, f: &mut fmt::Formatter<W>, pid: u32) -> fmt::Result {
         if pid == self.pid {
@@ -115,7 +85,7 @@ impl<D: BlockDev, T: Translate> Waiting<'_, D, T> {
     ) -> Result<usize, fmt::Error> {
         let mut count: usize = 0;
         for pid in pids(self.machine).as_slice() {
-            if !self.is_cause(*pid) {
+            if !can_end(self.machine, *pid, self.pid, self.wait) {
                 continue;
             }
             if count > 0 {
@@ -199,14 +169,12 @@ impl<'a, D: BlockDev, T: Translate> Report<'a, D, T> {
         }
     }
 
+    /// Why the events came to their end.
     pub(crate) fn stop(&self) -> Stop {
         match self.ended {
-            Err(Halt::InitEnded(status)) => Stop::Ended(status),
-            Err(Halt::Device) => Stop::Device,
-            Err(Halt::Console) => Stop::Console,
-            Err(Halt::Halted) => Stop::Halted,
-            Ok(()) => match running(self.machine) {
-                Some(pid) => Stop::Runs(pid),
+            Err(halt) => Stop::at(halt),
+            Ok(()) => match self.machine.running() {
+                Some(pid) => Stop::Runs(self.reporter.who(pid)),
                 None if self.machine.is_idle() => Stop::Idle,
                 None => Stop::Ready,
             },
@@ -229,28 +197,6 @@ impl<'a, D: BlockDev, T: Translate> Report<'a, D, T> {
         let holdings = self.machine.holdings(pid)?;
         let file = (*holdings.descriptors.get(descriptor)?)?;
         self.machine.opened(usize::from(file))
-    }
-
-    fn write_counts<W: fmt::Write>(&self, f: &mut fmt::Formatter<W>) -> fmt::Result {
-        let counts = self.reporter.counts();
-        let (steps, ticks, keys) = (counts.steps, counts.ticks, counts.keys);
-        writeln!(f, "report: {steps} steps, {ticks} ticks, {keys} keys")
-    }
-
-    fn write_stop<W: fmt::Write>(&self, f: &mut fmt::Formatter<W>) -> fmt::Result {
-        f.write_str("stopped: ")?;
-        match self.stop() {
-            Stop::Ended(status) => writeln!(f, "process 1 ended with status {status}"),
-            Stop::Device => f.write_str("an access of the disk failed\n"),
-            Stop::Console => f.write_str("the console's bytes were not all taken\n"),
-            Stop::Halted => f.write_str("the machine takes no events\n"),
-            Stop::Idle => f.write_str("nobody is ready\n"),
-            Stop::Runs(pid) => {
-                let who = self.reporter.who(pid);
-                writeln!(f, "the events are used up while {who} runs")
-            }
-            Stop::Ready => f.write_str("the events are used up while a process is ready\n"),
-        }
     }
 
     // What a process does, or what it waits for.
@@ -296,9 +242,7 @@ impl<'a, D: BlockDev, T: Translate> Report<'a, D, T> {
 
     fn write_faults<W: fmt::Write>(&self, f: &mut fmt::Formatter<W>) -> fmt::Result {
         for fallen in self.reporter.faults() {
-            if let Some(fallen) = fallen {
-                write_fault(f, fallen)?;
-            }
+            write_fault(f, fallen)?;
         }
         Ok(())
     }
@@ -318,10 +262,9 @@ impl<'a, D: BlockDev, T: Translate> Report<'a, D, T> {
     }
 }
 
+// What there is at the end, after why the run stopped.
 impl<D: BlockDev, T: Translate> fmt::Display for Report<'_, D, T> {
     fn fmt<W: fmt::Write>(&self, f: &mut fmt::Formatter<W>) -> fmt::Result {
-        self.write_counts(f)?;
-        self.write_stop(f)?;
         self.write_processes(f)?;
         self.write_free_frames(f)?;
         self.write_faults(f)?;

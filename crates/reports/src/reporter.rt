@@ -1,26 +1,38 @@
 //! What is noted while a machine runs.
 
+use crate::ended::{Ended, Kill, Kills, has_ended};
 use crate::memory::MemoryReport;
 use crate::registers::RegisterReport;
 use crate::report::Report;
+use crate::teller::Wanted;
 use crate::who::{Name, Programs, Who};
 use arrayvec::ArrayVec;
 use blockdev::BlockDev;
 use causes::{Fault, fault_of, word};
-use machine::{Halt, Machine, ProcessState, Seen};
+use jsonrows::How;
+use machine::{Halt, Machine, Seen};
+use std::alloc::Global;
+use std::fmt;
 use sv39::Translate;
 use unixmodel::event::Event;
 
 /// How many faults are kept; those that come later are counted.
-pub(crate) const MOST_FAULTS: usize = 64;
+const MOST_FAULTS: usize = 64;
+
+/// How many processes that ended are kept; those that end later are counted.
+const MOST_ENDED: usize = 1024;
 
 /// How many processes a machine has at most.
 const MOST_PROCESSES: usize = 64;
 
-/// The word of ecall, and the numbers of fork and exec.
+/// The word of ecall, and the numbers of fork, exit, kill and exec.
 const ECALL: u32 = 0x73;
 
 const FORK: u64 = 1;
+
+const EXIT: u64 = 2;
+
+const KILL: u64 = 6;
 
 const EXEC: u64 = 7;
 
@@ -29,20 +41,25 @@ const A7: usize = 17;
 
 const A0: usize = 10;
 
-/// What the next instruction of the running process does that is noted.
+/// What the next step does that is noted.
 #[derive(Clone, Copy)]
 enum Next {
     Other,
-    Faults(Fault),
+    Turn,
+    Faults(Fault, [u64; 32]),
     Forks,
+    Exits(i32),
+    Kills(u32),
     Execs(Name),
 }
 
-/// A process that a fault ended.
+/// A process that a fault ended, at the event of this number, and its registers then.
 #[derive(Clone, Copy)]
 pub(crate) struct Fallen {
+    pub at: u64,
     pub who: Who,
     pub fault: Fault,
+    pub registers: [u64; 32],
 }
 
 /// How many events of each kind there were.
@@ -53,9 +70,18 @@ pub(crate) struct Counts {
     pub keys: u64,
 }
 
-/// Looks on while a machine is given events: it counts them, and notes the faults that come and the names of programs.
+impl fmt::Display for Counts {
+    fn fmt<W: fmt::Write>(&self, f: &mut fmt::Formatter<W>) -> fmt::Result {
+        let (steps, ticks, keys) = (self.steps, self.ticks, self.keys);
+        writeln!(f, "report: {steps} steps, {ticks} ticks, {keys} keys")
+    }
+}
+
+/// Looks on while a machine is given events: it counts them, and notes the faults that come, the processes that end and the names of
+/// programs.
 #[derive(Drop)]
 pub struct Reporter {
+    wanted: Wanted,
     counts: Counts,
     // What the last event was answered with.
     ended: Result<(), Halt>,
@@ -63,29 +89,42 @@ pub struct Reporter {
     running: u32,
     next: Next,
     programs: Programs,
-    faults: [Option<Fallen>; MOST_FAULTS],
-    // How many faults came, those that aren't kept among them.
-    fallen: usize,
+    faults: Vec<Fallen>,
+    // How many faults came that aren't kept.
+    more_faults: u64,
+    // The fault of the process whose registers are wanted.
+    crash: Option<Fallen>,
+    kills: Kills,
+    ended_ones: Vec<Ended>,
+    // How many processes ended that aren't kept.
+    more_ended: u64,
 }
 
 // What a process does next that is noted.
 fn next_of<D: BlockDev, T: Translate>(machine: &Machine<D, T>, pid: u32) -> Next {
-    if let Some(fault) = fault_of(machine, pid) {
-        return Next::Faults(fault);
-    }
     let Some(seen) = machine.inspect(pid) else {
         return Next::Other;
     };
+    if let Some(fault) = fault_of(machine, pid) {
+        return Next::Faults(fault, seen.registers);
+    }
     match word(machine, pid, seen.pc) {
         Some(ECALL) => call_of(machine, &seen),
         _ => Next::Other,
     }
 }
 
+// An argument as the kernel takes it: its low 32 bits, with their sign.
+fn int(argument: u64) -> i32 {
+    ((argument % 0x1_0000_0000) as u32).cast_signed()
+}
+
 // What the call does that a process makes.
 fn call_of<D: BlockDev, T: Translate>(machine: &Machine<D, T>, seen: &Seen) -> Next {
     match seen.registers[A7] % 0x1_0000_0000 {
         FORK => Next::Forks,
+        EXIT => Next::Exits(int(seen.registers[A0])),
+        KILL => Next::Kills(int(seen.registers[A0]).cast_unsigned()),
         EXEC => match Name::at(machine, seen.pid, seen.registers[A0]) {
             Some(name) => Next::Execs(name),
             None => Next::Other,
@@ -94,11 +133,11 @@ fn call_of<D: BlockDev, T: Translate>(machine: &Machine<D, T>, seen: &Seen) -> N
     }
 }
 
-// Whether the process with a pid has the hart.
-fn is_running<D: BlockDev, T: Translate>(machine: &Machine<D, T>, pid: u32) -> bool {
+// The parent of the process with a pid, 0 where there is none.
+fn parent_of<D: BlockDev, T: Translate>(machine: &Machine<D, T>, pid: u32) -> u32 {
     match machine.inspect(pid) {
-        Some(seen) => seen.state == ProcessState::Running,
-        None => false,
+        Some(seen) => seen.parent,
+        None => 0,
     }
 }
 
@@ -120,16 +159,6 @@ pub(crate) fn pids<D: BlockDev, T: Translate>(
     pids
 }
 
-/// The process that has the hart.
-pub(crate) fn running<D: BlockDev, T: Translate>(machine: &Machine<D, T>) -> Option<u32> {
-    for pid in pids(machine).as_slice() {
-        if is_running(machine, *pid) {
-            return Some(*pid);
-        }
-    }
-    None
-}
-
 // The answer of a call that wasn't refused.
 fn answer<D: BlockDev, T: Translate>(machine: &Machine<D, T>, pid: u32) -> Option<u64> {
     let answer = machine.inspect(pid)?.registers[A0];
@@ -140,9 +169,10 @@ fn answer<D: BlockDev, T: Translate>(machine: &Machine<D, T>, pid: u32) -> Optio
 }
 
 impl Reporter {
-    /// Looks on from the boot of a machine, whose first program has this name.
-    pub fn new(first: &[u8]) -> Reporter {
+    /// Looks on from the boot of a machine, whose first program has this name, for what is wanted.
+    pub fn new(alloc: Global, first: &[u8], wanted: Wanted) -> Reporter {
         Reporter {
+            wanted,
             counts: Counts {
                 steps: 0,
                 ticks: 0,
@@ -152,9 +182,24 @@ impl Reporter {
             running: 1,
             next: Next::Other,
             programs: Programs::new(Name::new(first)),
-            faults: [None; MOST_FAULTS],
-            fallen: 0,
+            faults: Vec::new(alloc),
+            more_faults: 0,
+            crash: None,
+            kills: Kills::new(),
+            ended_ones: Vec::new(alloc),
+            more_ended: 0,
         }
+    }
+
+    /// Whether it looks at each step. The pages of a process alone are looked at when no more events come.
+    pub fn sees_steps(&self) -> bool {
+        let wanted = self.wanted;
+        wanted.report || wanted.json || wanted.registers.is_some()
+    }
+
+    /// What is wanted of the run.
+    pub(crate) fn wanted(&self) -> Wanted {
+        self.wanted
     }
 
     /// The report of the machine after its last event.
@@ -171,7 +216,11 @@ impl Reporter {
         machine: &Machine<D, T>,
         pid: u32,
     ) -> RegisterReport {
-        RegisterReport::new(self.who(pid), machine.inspect(pid))
+        let crash = match self.crash {
+            Some(fallen) if fallen.who.pid == pid => Some(fallen),
+            _ => None,
+        };
+        RegisterReport::new(self.who(pid), machine.inspect(pid), crash)
     }
 
     /// The pages of a process of the machine.
@@ -188,34 +237,119 @@ impl Reporter {
     }
 
     /// The faults that are kept.
-    pub(crate) fn faults(&self) -> &[Option<Fallen>] {
-        &self.faults
+    pub(crate) fn faults(&self) -> &[Fallen] {
+        self.faults.as_slice()
     }
 
     /// How many faults came later.
-    pub(crate) fn more_faults(&self) -> usize {
-        self.fallen.saturating_sub(MOST_FAULTS)
+    pub(crate) fn more_faults(&self) -> u64 {
+        self.more_faults
+    }
+
+    /// The processes that ended, as far as they are kept.
+    pub(crate) fn ended_ones(&self) -> &[Ended] {
+        self.ended_ones.as_slice()
+    }
+
+    /// How many ended later.
+    pub(crate) fn more_ended(&self) -> u64 {
+        self.more_ended
+    }
+
+    // The number of the last event.
+    fn at(&self) -> u64 {
+        let counts = self.counts;
+        counts
+            .steps
+            .saturating_add(counts.ticks)
+            .saturating_add(counts.keys)
     }
 
     pub(crate) fn who(&self, pid: u32) -> Who {
-        let name = self.programs.name(pid);
+        let name = if self.sees_steps() {
+            self.programs.name(pid)
+        } else {
+            None
+        };
         Who { pid, name }
     }
 
-    // Finds the process that runs, mostly the one that ran last.
-    fn find_running<D: BlockDev, T: Translate>(&mut self, machine: &Machine<D, T>) -> Option<u32> {
-        if !is_running(machine, self.running) {
-            self.running = running(machine)?;
-        }
-        Some(self.running)
+    // What the next step does that is noted.
+    fn look_ahead<D: BlockDev, T: Translate>(&mut self, machine: &Machine<D, T>) -> Next {
+        let Some(pid) = machine.running() else {
+            return Next::Turn;
+        };
+        self.running = pid;
+        next_of(machine, pid)
     }
 
-    fn note_fault(&mut self, fault: Fault) {
-        let who = self.who(self.running);
-        if let Some(place) = self.faults.get_mut(self.fallen) {
-            *place = Some(Fallen { who, fault });
+    // Keeps a process that ended, or counts it.
+    fn keep_ended(&mut self, ended: Ended) {
+        if self.ended_ones.len() >= MOST_ENDED || self.ended_ones.push(ended).is_err() {
+            self.more_ended = self.more_ended.saturating_add(1);
         }
-        self.fallen = self.fallen.saturating_add(1);
+    }
+
+    // The process with a pid ended.
+    fn note_end<D: BlockDev, T: Translate>(
+        &mut self,
+        machine: &Machine<D, T>,
+        pid: u32,
+        how: How,
+        status: i32,
+        killer: Option<u32>,
+    ) {
+        self.keep_ended(Ended {
+            at: self.at(),
+            who: self.who(pid),
+            parent: parent_of(machine, pid),
+            how,
+            status,
+            killer,
+        });
+    }
+
+    // Keeps a fault, or counts it.
+    fn keep_fault(&mut self, fallen: Fallen) {
+        if self.wanted.registers == Some(fallen.who.pid) {
+            self.crash = Some(fallen);
+        }
+        if self.faults.len() >= MOST_FAULTS || self.faults.push(fallen).is_err() {
+            self.more_faults = self.more_faults.saturating_add(1);
+        }
+    }
+
+    // The running process faulted, and ended of it.
+    fn note_fault<D: BlockDev, T: Translate>(
+        &mut self,
+        machine: &Machine<D, T>,
+        fault: Fault,
+        registers: [u64; 32],
+    ) {
+        self.keep_fault(Fallen {
+            at: self.at(),
+            who: self.who(self.running),
+            fault,
+            registers,
+        });
+        self.note_end(machine, self.running, How::Fault, -1, None);
+    }
+
+    // The running process marked another to be killed, if its call wasn't refused.
+    fn note_kill<D: BlockDev, T: Translate>(&mut self, machine: &Machine<D, T>, pid: u32) {
+        let killer = self.running;
+        if answer(machine, killer).is_some() && !has_ended(machine, pid) {
+            self.kills.mark(Kill { pid, killer });
+        } else if pid == killer && has_ended(machine, pid) {
+            self.note_end(machine, pid, How::Killed, -1, Some(killer));
+        }
+    }
+
+    // A process that was marked to be killed may have ended.
+    fn note_killed<D: BlockDev, T: Translate>(&mut self, machine: &Machine<D, T>) {
+        if let Some(Kill { pid, killer }) = self.kills.take_ended(machine) {
+            self.note_end(machine, pid, How::Killed, -1, Some(killer));
+        }
     }
 
     // A child runs its parent's program.
@@ -249,13 +383,11 @@ impl Reporter {
 
     /// Looks at the machine before an event.
     pub fn before<D: BlockDev, T: Translate>(&mut self, machine: &Machine<D, T>, event: Event) {
-        self.next = Next::Other;
         self.count(event);
-        if let Event::Step = event
-            && let Some(pid) = self.find_running(machine)
-        {
-            self.next = next_of(machine, pid);
-        }
+        self.next = match event {
+            Event::Step => self.look_ahead(machine),
+            Event::Tick | Event::Key(_) => Next::Other,
+        };
     }
 
     /// Looks at the machine after the event, which was answered so.
@@ -270,8 +402,11 @@ impl Reporter {
         }
         match self.next {
             Next::Other => {}
-            Next::Faults(fault) => self.note_fault(fault),
+            Next::Turn => self.note_killed(machine),
+            Next::Faults(fault, registers) => self.note_fault(machine, fault, registers),
             Next::Forks => self.note_child(machine),
+            Next::Exits(status) => self.note_end(machine, self.running, How::Exit, status, None),
+            Next::Kills(pid) => self.note_kill(machine, pid),
             Next::Execs(name) => self.note_exec(machine, name),
         }
     }

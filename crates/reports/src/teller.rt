@@ -1,12 +1,14 @@
-//! The texts that are wanted of a run, made when no more events come.
+//! The texts that are wanted of a run.
 
+use crate::json::Left;
+use crate::outcome::{Outcome, Stop};
 use crate::reporter::Reporter;
 use blockdev::BlockDev;
 use machine::Machine;
 use std::alloc::{AllocError, Global};
 use sv39::Translate;
 
-/// What is to be told of a run at its end.
+/// What is wanted of a run at its end.
 #[derive(Clone, Copy)]
 pub struct Wanted {
     /// Whether the report is.
@@ -19,6 +21,18 @@ pub struct Wanted {
     pub memory: Option<u32>,
 }
 
+/// What a machine shows when no more events come.
+#[derive(Drop)]
+pub struct Looked {
+    stop: Stop,
+    // The report after why the run stopped, if it is wanted.
+    report: Option<String>,
+    // The registers and the pages, as far as they are wanted.
+    looks: String,
+    // What the report as JSON has of the machine, if it is wanted.
+    left: Option<Left>,
+}
+
 /// What is told of a run.
 #[derive(Drop)]
 pub struct Told {
@@ -28,66 +42,100 @@ pub struct Told {
     pub json: Option<String>,
 }
 
-// Writes the text that is wanted of a machine.
-fn write_text<D: BlockDev, T: Translate>(
-    text: &mut String,
-    reporter: &Reporter,
-    machine: &Machine<D, T>,
-    wanted: Wanted,
-) -> Result<(), AllocError> {
-    if wanted.report {
-        let report = reporter.report(machine);
-        write!(text, "{report}")?;
-    }
-    if let Some(pid) = wanted.registers {
-        let registers = reporter.registers(machine, pid);
-        write!(text, "{registers}")?;
-    }
-    if let Some(pid) = wanted.memory {
-        let memory = reporter.memory(machine, pid);
-        write!(text, "{memory}")?;
-    }
-    Ok(())
-}
-
-// The text that is wanted of a machine.
-fn text_of<D: BlockDev, T: Translate>(
-    alloc: Global,
-    reporter: &Reporter,
-    machine: &Machine<D, T>,
-    wanted: Wanted,
-) -> Result<String, AllocError> {
-    let mut text = String::new(alloc);
-    write_text(&mut text, reporter, machine, wanted)?;
-    Ok(text)
-}
-
-// The JSON text that is wanted of a machine.
-fn json_of<D: BlockDev, T: Translate>(
-    alloc: Global,
-    reporter: &Reporter,
-    machine: &Machine<D, T>,
-    wanted: Wanted,
-) -> Result<Option<String>, AllocError> {
-    if !wanted.json {
-        return Ok(None);
-    }
-    match reporter.report(machine).to_json(alloc) {
-        Ok(json) => Ok(Some(json)),
-        Err(_) => Err(AllocError),
-    }
-}
-
 impl Reporter {
-    /// What is wanted of the machine after its last event.
-    pub fn tell<D: BlockDev, T: Translate>(
+    // The report after why the run stopped, if it is wanted.
+    fn report_text<D: BlockDev, T: Translate>(
         &self,
         alloc: Global,
         machine: &Machine<D, T>,
-        wanted: Wanted,
-    ) -> Result<Told, AllocError> {
-        let text = text_of(alloc, self, machine, wanted)?;
-        let json = json_of(alloc, self, machine, wanted)?;
+    ) -> Result<Option<String>, AllocError> {
+        if !self.wanted().report {
+            return Ok(None);
+        }
+        let report = self.report(machine);
+        Ok(Some(format!(in alloc; "{report}")?))
+    }
+
+    // The registers and the pages that are wanted.
+    fn looks<D: BlockDev, T: Translate>(
+        &self,
+        alloc: Global,
+        machine: &Machine<D, T>,
+    ) -> Result<String, AllocError> {
+        let mut text = String::new(alloc);
+        if let Some(pid) = self.wanted().registers {
+            let registers = self.registers(machine, pid);
+            write!(text, "{registers}")?;
+        }
+        if let Some(pid) = self.wanted().memory {
+            let memory = self.memory(machine, pid);
+            write!(text, "{memory}")?;
+        }
+        Ok(text)
+    }
+
+    // What the report as JSON has of the machine, if it is wanted.
+    fn left<D: BlockDev, T: Translate>(
+        &self,
+        alloc: Global,
+        machine: &Machine<D, T>,
+    ) -> Result<Option<Left>, AllocError> {
+        if !self.wanted().json {
+            return Ok(None);
+        }
+        Ok(Some(self.report(machine).left(alloc)?))
+    }
+
+    /// What is wanted of the machine after its last event.
+    pub fn look<D: BlockDev, T: Translate>(
+        &self,
+        alloc: Global,
+        machine: &Machine<D, T>,
+    ) -> Result<Looked, AllocError> {
+        let report = self.report_text(alloc, machine)?;
+        let looks = self.looks(alloc, machine)?;
+        let left = self.left(alloc, machine)?;
+        Ok(Looked {
+            stop: self.report(machine).stop(),
+            report,
+            looks,
+            left,
+        })
+    }
+
+    // The text that is wanted of a run that stopped so.
+    fn text(&self, alloc: Global, seen: &Looked, stop: Stop) -> Result<String, AllocError> {
+        let mut text = String::new(alloc);
+        if let Some(report) = &seen.report {
+            let counts = self.counts();
+            write!(text, "{counts}stopped: {stop}\n{report}")?;
+        }
+        text.push_str(seen.looks.as_str())?;
+        Ok(text)
+    }
+
+    // The JSON text that is wanted of a run that stopped so.
+    fn json(
+        &self,
+        alloc: Global,
+        seen: &Looked,
+        stop: Stop,
+        outcome: Outcome,
+    ) -> Result<Option<String>, AllocError> {
+        let Some(left) = &seen.left else {
+            return Ok(None);
+        };
+        match self.to_json(alloc, left, stop, outcome) {
+            Ok(json) => Ok(Some(json)),
+            Err(_) => Err(AllocError),
+        }
+    }
+
+    /// What is told of a run that ended so.
+    pub fn tell(&self, alloc: Global, seen: &Looked, outcome: Outcome) -> Result<Told, AllocError> {
+        let stop = seen.stop.or(outcome.halt);
+        let text = self.text(alloc, seen, stop)?;
+        let json = self.json(alloc, seen, stop, outcome)?;
         Ok(Told { text, json })
     }
 }

@@ -1,6 +1,7 @@
 //! The names of programs: the paths that exec was given.
 
 use blockdev::BlockDev;
+use jsonrows::Latin;
 use machine::Machine;
 use std::fmt;
 use sv39::Translate;
@@ -55,6 +56,11 @@ impl Name {
             }
         }
         None
+    }
+
+    /// The name as a text of JSON.
+    pub(crate) fn latin(&self) -> Latin<'_> {
+        Latin(self.shown())
     }
 
     // What is printed of it.
@@ -143,6 +149,16 @@ impl Programs {
 pub struct Who {
     pub pid: u32,
     pub name: Option<Name>,
+}
+
+impl Who {
+    /// The name of its program as a text of JSON, if it is known.
+    pub(crate) fn program(&self) -> Option<Latin<'_>> {
+        match &self.name {
+            Some(name) => Some(name.latin()),
+            None => None,
+        }
+    }
 }
 
 impl fmt::Display for Who {
