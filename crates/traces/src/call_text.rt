@@ -19,8 +19,8 @@ pub fn int(argument: u64) -> i32 {
     ((argument % 0x1_0000_0000) as u32).cast_signed()
 }
 
-// A device's number: the low 16 bits, with their sign.
-fn short(argument: u64) -> i16 {
+/// A device's number: the low 16 bits, with their sign.
+pub fn short(argument: u64) -> i16 {
     ((argument % 0x1_0000) as u16).cast_signed()
 }
 
@@ -181,8 +181,8 @@ fn write_buffer<D: BlockDev, T: Translate>(
     write_int(&mut text.back, count)
 }
 
-// The status that a call of wait filled in.
-fn status_of<D: BlockDev, T: Translate>(
+/// The status that a call of wait filled in.
+pub fn status_of<D: BlockDev, T: Translate>(
     machine: &Machine<D, T>,
     asked: &Asked,
     answer: Option<i64>,
@@ -214,8 +214,8 @@ fn write_status<D: BlockDev, T: Translate>(
     }
 }
 
-// The descriptors that a call of pipe filled in.
-fn ends_of<D: BlockDev, T: Translate>(
+/// The descriptors that a call of pipe filled in.
+pub fn ends_of<D: BlockDev, T: Translate>(
     machine: &Machine<D, T>,
     asked: &Asked,
     answer: Option<i64>,
@@ -316,16 +316,16 @@ fn write_stat(out: &mut String, asked: &Asked) -> Result<(), AllocError> {
     write_next_address(out, address)
 }
 
-// How many bytes a call of read filled in, where that is known.
-fn count_read(answer: Option<i64>) -> Option<u64> {
+/// How many bytes a call of read filled in, where that is known.
+pub fn count_read(answer: Option<i64>) -> Option<u64> {
     match answer {
         Some(count) if count >= 0 => Some(count.cast_unsigned()),
         _ => None,
     }
 }
 
-// How many bytes a call of write takes; `None` where its count is below 0.
-fn count_written(asked: &Asked) -> Option<u64> {
+/// How many bytes a call of write takes; `None` where its count is below 0.
+pub fn count_written(asked: &Asked) -> Option<u64> {
     let [_, _, count, ..] = asked.arguments;
     let count = int(count);
     if count < 0 {

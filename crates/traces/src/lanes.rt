@@ -1,11 +1,12 @@
 //! What is kept of each process.
 
 use arrayvec::ArrayVec;
+use jsonrows::Descriptors;
 use machine::ProcessState;
 use tracetext::Asked;
 
-/// The most bytes of a program's name that are kept.
-pub const MOST_NAME: usize = 64;
+/// The most bytes of a program's name: the longest path.
+pub const MOST_NAME: usize = 127;
 
 /// What a process did at the last event.
 #[derive(Clone, Copy)]
@@ -42,6 +43,8 @@ pub struct Lane {
     pub killer: Option<u32>,
     /// Where an arrow to the one that waits for it leaves, if there is to be one.
     pub exit: Option<Exit>,
+    /// What its descriptors named before the event at which it ended.
+    pub descriptors: Descriptors,
 }
 
 /// What a state says of a process that waits in no call that is known.
@@ -65,6 +68,7 @@ impl Lane {
             pending: None,
             killer: None,
             exit: None,
+            descriptors: [None; 16],
         }
     }
 

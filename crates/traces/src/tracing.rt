@@ -3,6 +3,7 @@
 mod beginning;
 mod drawing;
 mod logging;
+mod noting;
 mod saying;
 mod turning;
 
@@ -12,7 +13,8 @@ use crate::memory;
 use crate::pipes::PipeTrack;
 use arrayvec::ArrayVec;
 use blockdev::BlockDev;
-use causes::word;
+use causes::{fault_of, word};
+use jsonrows::Handed;
 use live::Watch;
 use machine::{Call, Halt, Machine, ProcessState, Seen};
 use std::alloc::{AllocError, Global};
@@ -50,6 +52,7 @@ enum Ahead {
 /// Traces a machine: writes to sinks what it does, as it does it.
 #[derive(Drop)]
 pub struct Tracer<S> {
+    alloc: Global,
     pen: Pen<S>,
     wanted: Wanted,
     // How many events have passed: where one of spans stands in time.
@@ -64,6 +67,8 @@ pub struct Tracer<S> {
     // The arguments of the call that is looked at, and the path where it has one.
     text: CallText,
     path: ArrayVec<u8, MOST_NAME>,
+    // What the call was handed, for its line.
+    handed: Handed,
     // The same arguments as one text.
     whole: String,
     row: Row,
@@ -117,7 +122,9 @@ impl<S: Sinks + Drop> Tracer<S> {
         pen.set(Form::Text, wanted.text);
         pen.set(Form::Spans, wanted.spans);
         pen.set(Form::Commits, wanted.commits);
+        pen.set(Form::Events, wanted.events);
         Ok(Tracer {
+            alloc,
             pen,
             wanted,
             at: 0,
@@ -129,6 +136,7 @@ impl<S: Sinks + Drop> Tracer<S> {
             pipes,
             text: CallText::new(alloc),
             path: ArrayVec::new(),
+            handed: Handed::nothing(),
             whole: String::new(alloc),
             row: Row::new(alloc),
             arrows: 0,
@@ -144,6 +152,7 @@ impl<S: Sinks + Drop> Tracer<S> {
     pub fn finish(mut self) -> (S, Result<(), Trouble>) {
         self.close();
         self.draw_tail();
+        self.note_tail();
         let done = match self.pen.trouble() {
             None => Ok(()),
             Some(trouble) => Err(trouble),
@@ -184,7 +193,10 @@ impl<S: Sinks + Drop> Tracer<S> {
         match self.running {
             Some(pid) => self.look_at(machine, pid),
             None if machine.is_idle() => Ahead::Nothing,
-            None => Ahead::Turn,
+            None => {
+                self.take_marked(machine);
+                Ahead::Turn
+            }
         }
     }
 
@@ -195,8 +207,21 @@ impl<S: Sinks + Drop> Tracer<S> {
         };
         match word(machine, pid, seen.pc) {
             Some(ECALL) => Ahead::Call(self.look_at_call(machine, &seen)),
-            word => Ahead::Instruction { seen, word },
+            word => self.look_at_instruction(machine, seen, word),
         }
+    }
+
+    // What the process does whose next instruction is no call. Where lines of events are written, a fault is looked for before it comes.
+    fn look_at_instruction<D: BlockDev, T: Translate>(
+        &mut self,
+        machine: &Machine<D, T>,
+        seen: Seen,
+        word: Option<u32>,
+    ) -> Ahead {
+        if self.pen.has(Form::Events) && fault_of(machine, seen.pid).is_some() {
+            self.take_descriptors(machine, seen.pid);
+        }
+        Ahead::Instruction { seen, word }
     }
 
     // What the process asks for that is about to make a call.
@@ -207,6 +232,8 @@ impl<S: Sinks + Drop> Tracer<S> {
     ) -> Asked {
         let asked = asked_of(seen, self.at);
         self.describe(machine, &asked, None);
+        self.take_handed(machine, &asked, None);
+        self.take_descriptors(machine, asked.pid);
         if asked.is(Call::Exec) {
             self.take_path(machine, &asked);
         }
@@ -244,6 +271,11 @@ impl<S: Sinks + Drop> Tracer<S> {
     }
 
     // The process with a pid.
+    fn lane(&self, pid: u32) -> Option<&Lane> {
+        self.lanes.get(place_of(self.lanes.as_slice(), pid)?)
+    }
+
+    // The same, to be changed.
     fn lane_mut(&mut self, pid: u32) -> Option<&mut Lane> {
         let place = place_of(self.lanes.as_slice(), pid)?;
         self.lanes.get_mut(place)

@@ -61,6 +61,7 @@ impl<S: Sinks + Drop> Tracer<S> {
     pub(super) fn begin<D: BlockDev, T: Translate>(&mut self, machine: &Machine<D, T>) {
         self.is_begun = true;
         self.draw_head();
+        self.note_head();
         let mut pid = 0;
         for _found in 0..MOST_PROCESSES {
             let Some(next) = machine.next_pid(pid) else {

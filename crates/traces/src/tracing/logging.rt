@@ -3,13 +3,16 @@
 use super::{MOST_PROCESSES, Tracer};
 use crate::memory::{PAGE_SIZE, read};
 use blockdev::BlockDev;
-use machine::{Call, Machine, Seen};
+use machine::{Call, Machine, ProcessState, Seen};
 use sv39::Translate;
 use tracetext::commits::{Comment, Commit, Note, ROW};
 use tracetext::{Asked, Form, Sinks};
 
 /// The bytes that fstat writes.
 const STAT_SIZE: u64 = 24;
+
+/// The bytes of an instruction.
+const WORD_SIZE: u64 = 4;
 
 // How many bytes an answered call wrote, and to which address.
 fn written(asked: &Asked, answer: i64) -> Option<(u64, u64)> {
@@ -20,6 +23,14 @@ fn written(asked: &Asked, answer: i64) -> Option<(u64, u64)> {
         Call::Pipe if answer == 0 => Some((first, 8)),
         Call::Fstat if answer == 0 => Some((second, STAT_SIZE)),
         _ => None,
+    }
+}
+
+// Where a process goes on by the log: one that waits in a call has not come past its ecall.
+fn counter_of(seen: &Seen) -> u64 {
+    match seen.state {
+        ProcessState::Waiting(_) => seen.pc.wrapping_sub(WORD_SIZE),
+        _ => seen.pc,
     }
 }
 
@@ -81,8 +92,18 @@ impl<S: Sinks + Drop> Tracer<S> {
             },
         );
         self.log_written(machine, asked, answer);
+        if asked.is(Call::Sbrk) && answer >= 0 {
+            self.log_size(machine, asked.pid);
+        }
         if asked.is(Call::Exec) && answer >= 0 {
             self.log_process(machine, asked.pid);
+        }
+    }
+
+    // Writes how many bytes of memory a process has.
+    fn log_size<D: BlockDev, T: Translate>(&mut self, machine: &Machine<D, T>, pid: u32) {
+        if let Some(seen) = machine.inspect(pid) {
+            self.log(pid, Note::Size(seen.size));
         }
     }
 
@@ -155,7 +176,7 @@ impl<S: Sinks + Drop> Tracer<S> {
             return;
         };
         self.log(pid, Note::Size(seen.size));
-        self.log(pid, Note::Counter(seen.pc));
+        self.log(pid, Note::Counter(counter_of(&seen)));
         self.log_registers(pid, &seen.registers);
         for page in 0..seen.size.div_ceil(PAGE_SIZE) {
             let address = page.saturating_mul(PAGE_SIZE);

@@ -7,6 +7,7 @@ use crate::faults::fault_text;
 use crate::lanes::{Doing, Exit, Lane, place_of};
 use blockdev::BlockDev;
 use causes::fault_of;
+use jsonrows::{How, Kind};
 use machine::{Call, Machine, ProcessState, Seen};
 use sv39::Translate;
 use tracetext::commits::Note;
@@ -59,6 +60,7 @@ impl<S: Sinks + Drop> Tracer<S> {
         self.give_hart(Some(pid));
         if self.wanted.turns {
             self.say(pid, Says::Turn);
+            self.note_turn(Kind::Turn, pid);
         }
         if let Some(asked) = self.take_pending(pid) {
             self.answered(machine, &asked, answer_of(seen), true);
@@ -93,6 +95,7 @@ impl<S: Sinks + Drop> Tracer<S> {
         if let Some(pid) = self.running {
             if self.wanted.turns {
                 self.say(pid, Says::Tick);
+                self.note_turn(Kind::Tick, pid);
             }
             self.set_doing(pid, Doing::Rests);
             self.give_hart(None);
@@ -106,6 +109,7 @@ impl<S: Sinks + Drop> Tracer<S> {
         asked: &Asked,
     ) {
         self.say_call(asked, Outcome::Unfinished);
+        self.note_wait(machine, asked);
         let done = done_of(machine, asked.pid);
         if let Some(lane) = self.lane_mut(asked.pid) {
             lane.doing = Doing::Waits(done);
@@ -126,12 +130,14 @@ impl<S: Sinks + Drop> Tracer<S> {
         let fills_in = matches!(asked.call(), Some(Call::Wait | Call::Pipe | Call::Read));
         if is_resumed || fills_in {
             self.describe(machine, asked, Some(answer));
+            self.take_handed(machine, asked, Some(answer));
         }
         if is_resumed {
             self.say_call(asked, Outcome::Resumed(answer));
         } else {
             self.say_answered(asked, answer);
         }
+        self.note_call(asked, answer);
         self.draw_call(asked, Some(answer));
         self.draw_pipes(machine, Some(asked), false);
         self.log_answer(machine, asked, answer);
@@ -261,6 +267,7 @@ impl<S: Sinks + Drop> Tracer<S> {
         let status = int(status);
         self.say_call(asked, Outcome::Left);
         self.say(asked.pid, Says::Ended(status));
+        self.note_exit(machine, asked.pid, How::Exit, status);
         self.draw_call(asked, None);
         let exit = self.exit(CALLS, self.shows_call(asked));
         self.ends(machine, asked.pid, status, exit);
@@ -273,9 +280,12 @@ impl<S: Sinks + Drop> Tracer<S> {
         before: &Seen,
     ) {
         let (pid, pc) = (before.pid, before.pc);
-        let fault = fault_text(fault_of(machine, pid));
+        let raised = fault_of(machine, pid);
+        let fault = fault_text(raised);
         self.say(pid, Says::Fault { fault, pc });
         self.say(pid, Says::Ended(-1));
+        self.note_fault(before, raised);
+        self.note_exit(machine, pid, How::Fault, -1);
         self.draw(pid, Span::fault(pid, self.at, fault));
         let exit = self.exit(HART, self.shows(pid));
         self.ends(machine, pid, -1, exit);
@@ -293,6 +303,7 @@ impl<S: Sinks + Drop> Tracer<S> {
     pub(super) fn killed<D: BlockDev, T: Translate>(&mut self, machine: &Machine<D, T>, pid: u32) {
         let killer = self.killer(pid);
         self.say(pid, Says::Killed(killer));
+        self.note_exit(machine, pid, How::Killed, -1);
         self.draw_unanswered(machine, pid);
         self.draw(pid, Span::moment(pid, "killed", self.at));
         let exit = self.exit(CALLS, self.shows(pid));
