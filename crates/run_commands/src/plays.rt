@@ -1,5 +1,5 @@
 //! Plays: scripts that wait for what the machine does.
-ghost use Rattle.std.specs.Prelude.{◌≡◌};
+ghost use Rattle.std.specs.Prelude.{◌≡◌, None};
 ghost use Rattle.run_commands.specs.Seats.{PlaysOutTo};
 ghost use Rattle.machine.specs.View.{IsUp};
 ghost use Rattle.player.specs.Played.{halts};
@@ -8,7 +8,7 @@ use crate::progress::{Gauge, Meter};
 use crate::runs::{inner_of, keep, leave, read_run};
 use crate::scribe::Scribe;
 use crate::sessions::end_with;
-use crate::telling::{Both, Teller, looks_on, status_of, tell_kept};
+use crate::telling::{Both, Teller, looks_on, outcome_of, status_of, tell_kept};
 use blockdev::{BlockDev, FailAt, MemDisk};
 use commandline::{Play, Run, Telling};
 use hosts::{End, Failure, Front, Host, Screen, disk_of, tell};
@@ -16,10 +16,12 @@ use live::Watch;
 use machine::{BootFault, Halt, Machine, boot};
 use player::{Record, Tail, Unreached};
 use playtext::{PlayFault, Why, parse};
+use reports::PlayEnd;
 use std::alloc::Global;
 use std::fmt;
 use std::io::Write;
 use sv39::{Plain, Recent, Tlb, Translate};
+use unixmodel::event::Event;
 use waits::{Waiters, who_waits};
 
 /// The status of a play that can't be read, or that waited in vain.
@@ -50,11 +52,37 @@ impl fmt::Display for InVain {
     }
 }
 
-// How a play ended: how the machine did, and what the play waited for in vain, if it did.
+/// How a play ended: how the machine did, and what the play waited for in vain, if it did.
 #[derive(Drop)]
-struct Finish {
+pub struct Finish {
     end: End,
     in_vain: Option<InVain>,
+}
+
+impl Finish {
+    // What became of the play.
+    fn play_end(&self) -> PlayEnd {
+        match (self.end, &self.in_vain) {
+            (End::Running, Some(InVain { unreached, .. })) => PlayEnd::Unreached {
+                line: unreached.line,
+                steps: unreached.steps,
+            },
+            (End::Running, None) => PlayEnd::Done,
+            (End::Halted(_), _) => PlayEnd::Halted,
+        }
+    }
+}
+
+/// Records nothing.
+#[derive(Clone, Copy)]
+struct Unrecorded;
+
+impl Record for Unrecorded {
+    ghost kept = { λ unrecorded. None };
+
+    fn note(&mut self, _event: Event) {}
+
+    fn note_steps(&mut self, _count: u32) {}
 }
 
 // A play, its record, who looks on, and where the console's bytes go.
@@ -168,6 +196,28 @@ fn play_over<R: Record, V: Watch, W: Write>(
     }
 }
 
+/// The events of a play from a disk, which aren't recorded: how it ended, and the disk that is left where it is to be saved.
+pub fn play_watched<'a, V: Watch, W: Write>(
+    alloc: Global,
+    words: &Run<'a>,
+    disk: MemDisk,
+    play: &playtext::Play<'_>,
+    watch: &mut V,
+    stdout: &mut W,
+) -> Result<(Finish, Option<MemDisk>), Failure<'a>> {
+    let mut unrecorded = Unrecorded;
+    let show = Show {
+        play,
+        record: &mut unrecorded,
+        watch,
+        stdout,
+    };
+    match play_over(alloc, disk, words, show) {
+        Ok(played) => Ok(played),
+        Err(fault) => Err(Failure::Boot(fault)),
+    }
+}
+
 // What is to be done with a play: how it ended, and whether all files were written.
 fn go<'a, H: Host, V: Watch, W: Write>(
     alloc: Global,
@@ -195,16 +245,10 @@ fn go<'a, H: Host, V: Watch, W: Write>(
     Ok((finish, written.and(saved)))
 }
 
-// Tells how a play ended, and answers the status to exit with.
-fn tell_end<E: Write>(
-    name: &str,
-    finish: Finish,
-    written: Result<(), Failure<'_>>,
-    telling: &Telling<'_>,
-    stderr: &mut E,
-) -> u8 {
+// Prints how a play ended, and returns the status to exit with.
+fn print_end<E: Write>(name: &str, finish: Finish, telling: &Telling<'_>, stderr: &mut E) -> u8 {
     let Finish { end, in_vain } = finish;
-    let status = match (end, in_vain) {
+    match (end, in_vain) {
         (End::Running, Some(in_vain)) => {
             let _ = writeln!(stderr, "{name}:{in_vain}");
             IN_VAIN
@@ -213,15 +257,31 @@ fn tell_end<E: Write>(
             let _ = writeln!(stderr, "{end}");
             status_of(telling, end)
         }
-    };
-    match written {
+    }
+}
+
+/// Prints how the play of this name ended, after what else is to be said of it, and then what was not written; returns the status to
+/// exit with.
+pub fn finish<'a, H: Host, E: Write>(
+    words: &Run<'a>,
+    finish: Finish,
+    written: Result<(), Failure<'a>>,
+    teller: Option<Teller>,
+    host: &mut H,
+    stderr: &mut E,
+) -> u8 {
+    let telling = words.telling;
+    let outcome = outcome_of(finish.end, Some(finish.play_end()));
+    let told = tell_kept(teller, outcome, telling.json, host, stderr);
+    let status = print_end(words.script, finish, &telling, stderr);
+    match written.and(told) {
         Ok(()) => status,
         Err(failure) => tell(&failure, stderr),
     }
 }
 
-// Tells why a play can't be read, and answers the status to exit with.
-fn tell_fault<E: Write>(name: &str, fault: PlayFault<'_>, stderr: &mut E) -> u8 {
+/// Prints why a play can't be read, and returns the status to exit with.
+pub fn tell_fault<E: Write>(name: &str, fault: PlayFault<'_>, stderr: &mut E) -> u8 {
     if let Why::NoMemory = fault.why {
         return tell(&Failure::NoMemory, stderr);
     }
@@ -229,8 +289,11 @@ fn tell_fault<E: Write>(name: &str, fault: PlayFault<'_>, stderr: &mut E) -> u8 
     IN_VAIN
 }
 
-// The image and the play's text, which are read in this order.
-fn read_both<'a, H: Host>(host: &mut H, words: &Run<'a>) -> Result<(Front, Vec<u8>), Failure<'a>> {
+/// The image and the play's text, which are read in this order.
+pub fn read_both<'a, H: Host>(
+    host: &mut H,
+    words: &Run<'a>,
+) -> Result<(Front, Vec<u8>), Failure<'a>> {
     let (image, text) = read_run(host, words)?;
     match str::from_utf8(text.as_slice()) {
         Ok(_) => Ok((image, text)),
@@ -265,16 +328,7 @@ fn perform_read<H: Host, S: Screen, W: Write, E: Write>(
         )
     };
     match gone {
-        Ok((finish, written)) => {
-            let told = tell_kept(teller, &telling, host, stderr);
-            tell_end(
-                words.run.script,
-                finish,
-                written.and(told),
-                &telling,
-                stderr,
-            )
-        }
+        Ok((ended, written)) => finish(&words.run, ended, written, teller, host, stderr),
         Err(failure) => tell(&failure, stderr),
     }
 }

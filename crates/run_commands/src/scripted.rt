@@ -2,7 +2,7 @@
 
 use crate::progress::{Gauge, Meter};
 use crate::runs;
-use crate::telling::{Both, Teller, looks_on, status_of, tell_kept};
+use crate::telling::{Both, Teller, looks_on, outcome_of, status_of, tell_kept};
 use commandline::{Flat, Run, Telling};
 use hosts::{End, Failure, Host, Screen, tell};
 use std::alloc::Global;
@@ -17,7 +17,7 @@ pub fn finish<'a, H: Host, E: Write>(
     host: &mut H,
     stderr: &mut E,
 ) -> u8 {
-    let told = tell_kept(teller, telling, host, stderr);
+    let told = tell_kept(teller, outcome_of(end, None), telling.json, host, stderr);
     let _ = writeln!(stderr, "{end}");
     match written.and(told) {
         Ok(()) => status_of(telling, end),

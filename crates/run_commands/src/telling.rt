@@ -5,7 +5,7 @@ use commandline::Telling;
 use hosts::{End, Failure, Host, write};
 use live::Watch;
 use machine::{Halt, Machine};
-use reports::{Reporter, Told, Wanted};
+use reports::{Looked, Outcome, PlayEnd, Reporter, Wanted};
 use std::alloc::{AllocError, Global};
 use std::io::Write;
 use std::num::NonZeroU64;
@@ -17,8 +17,7 @@ use unixmodel::event::Event;
 pub struct Teller {
     alloc: Global,
     reporter: Reporter,
-    wanted: Wanted,
-    told: Option<Result<Told, AllocError>>,
+    looked: Option<Result<Looked, AllocError>>,
 }
 
 /// The process that a number of the command line names; there is no process with a longer one.
@@ -32,16 +31,16 @@ pub fn pid_of(number: Option<NonZeroU64>) -> Option<u32> {
 impl Teller {
     /// Looks on at a run whose first program has this name.
     pub fn new(alloc: Global, first: &str, telling: &Telling<'_>) -> Teller {
+        let wanted = Wanted {
+            report: telling.report,
+            json: telling.json.is_some(),
+            registers: pid_of(telling.registers),
+            memory: pid_of(telling.memory),
+        };
         Teller {
             alloc,
-            reporter: Reporter::new(first.as_bytes()),
-            wanted: Wanted {
-                report: telling.report,
-                json: telling.json.is_some(),
-                registers: pid_of(telling.registers),
-                memory: pid_of(telling.memory),
-            },
-            told: None,
+            reporter: Reporter::new(alloc, first.as_bytes(), wanted),
+            looked: None,
         }
     }
 }
@@ -60,8 +59,12 @@ impl Watch for Teller {
         self.reporter.after(machine, ended);
     }
 
+    fn sees_steps(&self) -> bool {
+        self.reporter.sees_steps()
+    }
+
     fn end<D: BlockDev, T: Translate>(&mut self, machine: &Machine<D, T>) {
-        self.told = Some(self.reporter.tell(self.alloc, machine, self.wanted));
+        self.looked = Some(self.reporter.look(self.alloc, machine));
     }
 }
 
@@ -116,23 +119,36 @@ pub fn looks_on(telling: &Telling<'_>) -> bool {
         || telling.memory.is_some()
 }
 
-/// Tells what the teller has kept, if there is one: on standard error, and as JSON in the file that is named.
+/// How a run ended, as a report has it.
+pub fn outcome_of(end: End, play: Option<PlayEnd>) -> Outcome {
+    let halt = match end {
+        End::Running => None,
+        End::Halted(halt) => Some(halt),
+    };
+    Outcome { halt, play }
+}
+
+/// Writes what the teller has kept of a run that ended so, if there is one: on standard error, and as JSON in the file that is named.
 pub fn tell_kept<'a, H: Host, E: Write>(
     teller: Option<Teller>,
-    telling: &Telling<'a>,
+    outcome: Outcome,
+    json: Option<&'a str>,
     host: &mut H,
     stderr: &mut E,
 ) -> Result<(), Failure<'a>> {
     let Some(teller) = teller else {
         return Ok(());
     };
-    let told = match teller.told {
-        Some(Ok(told)) => told,
+    let looked = match teller.looked {
+        Some(Ok(looked)) => looked,
         Some(Err(_)) => return Err(Failure::NoMemory),
         None => return Ok(()),
     };
+    let Ok(told) = teller.reporter.tell(teller.alloc, &looked, outcome) else {
+        return Err(Failure::NoMemory);
+    };
     let _ = stderr.write_all(told.text.as_bytes());
-    match (telling.json, told.json) {
+    match (json, told.json) {
         (Some(name), Some(json)) => write(host, name, json.as_bytes()),
         _ => Ok(()),
     }

@@ -2,10 +2,12 @@
 
 use blockdev::MemDisk;
 use commandline::Trace;
-use hosts::{End, Failure, Host, Screen, append, disk_of, tell, write};
-use run_commands::scripted::finish;
+use hosts::{End, Failure, Front, Host, Screen, append, disk_of, tell, write};
+use live::Watch;
+use playtext::{Play, parse};
 use run_commands::{
-    Both, Gauge, Meter, Teller, keep, pid_of, read_run, run_watched_over, script_of,
+    Both, Gauge, Meter, Teller, keep, pid_of, plays, read_run, run_watched_over, script_of,
+    scripted,
 };
 use scripts::Command;
 use std::alloc::Global;
@@ -16,10 +18,12 @@ use traces::{CallSet, Form, SinkFault, Sinks, Tracer, Trouble, Wanted};
 /// The most bytes of a file that wait to be written.
 const MOST_WAITING: usize = 65536;
 
-// A file to which one form goes, if it goes to one, and the bytes that are not written yet.
+// A file to which one form goes, if it goes to one, whether it is made, and the bytes that are not written yet. It is made once the
+// machine runs, so that an old one is there where none boots.
 #[derive(Drop)]
 struct Sheet<'a> {
     name: Option<&'a str>,
+    is_made: bool,
     waiting: Vec<u8>,
 }
 
@@ -27,15 +31,8 @@ impl<'a> Sheet<'a> {
     fn new(alloc: Global, name: Option<&'a str>) -> Self {
         Sheet {
             name,
+            is_made: false,
             waiting: Vec::new(alloc),
-        }
-    }
-
-    // Makes the file, which is empty so far.
-    fn begin<H: Host>(&self, host: &mut H) -> Result<(), Failure<'a>> {
-        match self.name {
-            Some(name) => write(host, name, &[]),
-            None => Ok(()),
         }
     }
 
@@ -44,10 +41,14 @@ impl<'a> Sheet<'a> {
         let Some(name) = self.name else {
             return Ok(());
         };
-        if self.waiting.is_empty() {
-            return Ok(());
-        }
-        let done = append(host, name, self.waiting.as_slice());
+        let done = if !self.is_made {
+            write(host, name, self.waiting.as_slice())
+        } else if self.waiting.is_empty() {
+            Ok(())
+        } else {
+            append(host, name, self.waiting.as_slice())
+        };
+        self.is_made = true;
         self.waiting.clear();
         done
     }
@@ -72,32 +73,23 @@ struct Sheets<'a, 'b, H, E> {
     text: Sheet<'a>,
     spans: Sheet<'a>,
     commits: Sheet<'a>,
+    events: Sheet<'a>,
     // Why the first that could not be written could not.
     failure: Option<Failure<'a>>,
 }
 
 impl<'a, 'b, H: Host, E: Write> Sheets<'a, 'b, H, E> {
-    // The files of these names, which are made.
-    fn begin(
-        alloc: Global,
-        words: &Trace<'a>,
-        host: &'b mut H,
-        stderr: &'b mut E,
-    ) -> Result<Self, Failure<'a>> {
-        let text = Sheet::new(alloc, words.text);
-        let spans = Sheet::new(alloc, words.perfetto);
-        let commits = Sheet::new(alloc, words.commits);
-        text.begin(host)?;
-        spans.begin(host)?;
-        commits.begin(host)?;
-        Ok(Sheets {
+    // The files of these names.
+    fn new(alloc: Global, words: &Trace<'a>, host: &'b mut H, stderr: &'b mut E) -> Self {
+        Sheets {
             host,
             stderr,
-            text,
-            spans,
-            commits,
+            text: Sheet::new(alloc, words.text),
+            spans: Sheet::new(alloc, words.perfetto),
+            commits: Sheet::new(alloc, words.commits),
+            events: Sheet::new(alloc, words.jsonl),
             failure: None,
-        })
+        }
     }
 
     // A line of the text, to its file or to standard error.
@@ -119,14 +111,16 @@ impl<'a, 'b, H: Host, E: Write> Sheets<'a, 'b, H, E> {
             mut text,
             mut spans,
             mut commits,
+            mut events,
             failure,
         } = self;
         let text = text.write_out(host);
         let spans = spans.write_out(host);
         let commits = commits.write_out(host);
+        let events = events.write_out(host);
         match failure {
             Some(failure) => Err(failure),
-            None => text.and(spans).and(commits),
+            None => text.and(spans).and(commits).and(events),
         }
     }
 }
@@ -137,6 +131,7 @@ impl<H: Host, E: Write> Sinks for Sheets<'_, '_, H, E> {
             Form::Text => self.put_text(bytes),
             Form::Spans => self.spans.put(self.host, bytes),
             Form::Commits => self.commits.put(self.host, bytes),
+            Form::Events => self.events.put(self.host, bytes),
         };
         match done {
             Ok(()) => Ok(()),
@@ -177,6 +172,7 @@ fn wanted_of<'a>(words: &Trace<'a>) -> Result<Wanted, Failure<'a>> {
         text: true,
         spans: words.perfetto.is_some(),
         commits: words.commits.is_some(),
+        events: words.jsonl.is_some(),
         pid: pid_of(part.pid),
         calls,
         from: number_or(part.from, 1),
@@ -200,19 +196,69 @@ fn whole<'a>(
     }
 }
 
-// A run from a disk, to its end: how it ended, whether all files were written, and what is to be told of it.
-fn trace_disk<'a, H: Host, S: Screen, W: Write, E: Write>(
+// What gives the machine its events.
+#[derive(Clone, Copy)]
+enum Source<'a> {
+    Script(&'a [Command<'a>]),
+    Play(&'a Play<'a>),
+}
+
+// How the events of a source ended.
+#[derive(Drop)]
+enum Finish {
+    Script(End),
+    Play(plays::Finish),
+}
+
+// What is left of a run: how it ended, whether all files were written, and what is to be printed of it.
+#[derive(Drop)]
+struct Traced<'a> {
+    finish: Finish,
+    written: Result<(), Failure<'a>>,
+    teller: Teller,
+}
+
+// A machine that is given the events of a source: how that ended, and the disk that is left where it was to be saved.
+fn run_source<'a, V: Watch, W: Write>(
     alloc: Global,
     words: &Trace<'a>,
-    wanted: Wanted,
     disk: MemDisk,
-    script: &[Command<'_>],
-    host: &mut H,
-    meter: &Meter<S>,
+    source: Source<'_>,
+    watch: &mut V,
     stdout: &mut W,
-    stderr: &mut E,
-) -> Result<(End, Result<(), Failure<'a>>, Teller), Failure<'a>> {
-    let sheets = Sheets::begin(alloc, words, host, stderr)?;
+) -> Result<(Finish, Option<MemDisk>), Failure<'a>> {
+    match source {
+        Source::Script(script) => {
+            let (end, disk) = run_watched_over(alloc, words.run, disk, script, watch, stdout)?;
+            Ok((Finish::Script(end), disk))
+        }
+        Source::Play(play) => {
+            let (end, disk) = plays::play_watched(alloc, &words.run, disk, play, watch, stdout)?;
+            Ok((Finish::Play(end), disk))
+        }
+    }
+}
+
+/// What a run is handed: the host's files, the meter, and where the console's bytes and what is said go.
+#[derive(Drop)]
+struct Desk<'d, H, S, W, E> {
+    host: &'d mut H,
+    meter: &'d Meter<S>,
+    stdout: &'d mut W,
+    stderr: &'d mut E,
+}
+
+// A run from an image, to its end.
+fn trace<'a, H: Host, S: Screen, W: Write, E: Write>(
+    alloc: Global,
+    words: &Trace<'a>,
+    image: Front,
+    source: Source<'_>,
+    desk: &mut Desk<'_, H, S, W, E>,
+) -> Result<Traced<'a>, Failure<'a>> {
+    let wanted = wanted_of(words)?;
+    let disk = disk_of(image)?;
+    let sheets = Sheets::new(alloc, words, &mut *desk.host, &mut *desk.stderr);
     let Ok(tracer) = Tracer::new(alloc, wanted, sheets) else {
         return Err(Failure::NoMemory);
     };
@@ -220,40 +266,95 @@ fn trace_disk<'a, H: Host, S: Screen, W: Write, E: Write>(
         first: tracer,
         second: Both {
             first: Teller::new(alloc, "/init", &words.run.telling),
-            second: Gauge { meter },
+            second: Gauge { meter: desk.meter },
         },
     };
-    let (end, disk) = run_watched_over(alloc, words.run, disk, script, &mut all, stdout)?;
+    let (finish, disk) = run_source(alloc, words, disk, source, &mut all, &mut *desk.stdout)?;
     let Both {
         first: tracer,
         second: others,
     } = all;
     let (sheets, traced) = tracer.finish();
     let written = whole(traced, sheets.finish());
-    let saved = keep(words.run.save, disk, host);
-    Ok((end, written.and(saved), others.first))
+    let saved = keep(words.run.save, disk, &mut *desk.host);
+    Ok(Traced {
+        finish,
+        written: written.and(saved),
+        teller: others.first,
+    })
 }
 
-// The same, once its files are read in the order of the command line.
-fn trace<'a, H: Host, S: Screen, W: Write, E: Write>(
-    alloc: Global,
+// Prints how a run ended, and returns the status to exit with.
+fn print<'a, H: Host, E: Write>(
     words: &Trace<'a>,
+    traced: Traced<'a>,
     host: &mut H,
-    meter: &Meter<S>,
-    stdout: &mut W,
     stderr: &mut E,
-) -> Result<(End, Result<(), Failure<'a>>, Teller), Failure<'a>> {
-    let wanted = wanted_of(words)?;
-    let (image, bytes) = read_run(host, &words.run)?;
-    let script = script_of(alloc, words.run.script, bytes.as_slice())?;
-    let disk = disk_of(image)?;
-    let script = script.as_slice();
-    trace_disk(
-        alloc, words, wanted, disk, script, host, meter, stdout, stderr,
-    )
+) -> u8 {
+    let Traced {
+        finish,
+        written,
+        teller,
+    } = traced;
+    let run = &words.run;
+    match finish {
+        Finish::Script(end) => {
+            scripted::finish(end, written, Some(teller), &run.telling, host, stderr)
+        }
+        Finish::Play(end) => plays::finish(run, end, written, Some(teller), host, stderr),
+    }
 }
 
-/// The command `trace`: as `run`, and what each process does is written as it does it.
+// A run that a source has the events of.
+fn perform_source<H: Host, S: Screen, W: Write, E: Write>(
+    alloc: Global,
+    words: &Trace<'_>,
+    image: Front,
+    source: Source<'_>,
+    mut desk: Desk<'_, H, S, W, E>,
+) -> u8 {
+    match trace(alloc, words, image, source, &mut desk) {
+        Ok(traced) => print(words, traced, desk.host, desk.stderr),
+        Err(failure) => tell(&failure, desk.stderr),
+    }
+}
+
+// A run that a script has the events of.
+fn perform_script<H: Host, S: Screen, W: Write, E: Write>(
+    alloc: Global,
+    words: &Trace<'_>,
+    desk: Desk<'_, H, S, W, E>,
+) -> u8 {
+    let (image, bytes) = match read_run(desk.host, &words.run) {
+        Ok(read) => read,
+        Err(failure) => return tell(&failure, desk.stderr),
+    };
+    match script_of(alloc, words.run.script, bytes.as_slice()) {
+        Ok(script) => {
+            let source = Source::Script(script.as_slice());
+            perform_source(alloc, words, image, source, desk)
+        }
+        Err(failure) => tell(&failure, desk.stderr),
+    }
+}
+
+// A run that a play has the events of.
+fn perform_play<H: Host, S: Screen, W: Write, E: Write>(
+    alloc: Global,
+    words: &Trace<'_>,
+    desk: Desk<'_, H, S, W, E>,
+) -> u8 {
+    let (image, text) = match plays::read_both(desk.host, &words.run) {
+        Ok(read) => read,
+        Err(failure) => return tell(&failure, desk.stderr),
+    };
+    match parse(alloc, text.as_slice()) {
+        Ok(play) => perform_source(alloc, words, image, Source::Play(&play), desk),
+        Err(fault) => plays::tell_fault(words.run.script, fault, desk.stderr),
+    }
+}
+
+/// The command `trace`: as `run` or `play`, and what each process does is written as it does it.
 pub fn perform<H: Host, S: Screen, W: Write, E: Write>(
     alloc: Global,
     words: Trace<'_>,
@@ -262,15 +363,18 @@ pub fn perform<H: Host, S: Screen, W: Write, E: Write>(
     stdout: &mut W,
     stderr: &mut E,
 ) -> u8 {
-    match trace(alloc, &words, host, meter, stdout, stderr) {
-        Ok((end, written, teller)) => finish(
-            end,
-            written,
-            Some(teller),
-            &words.run.telling,
-            host,
-            stderr,
-        ),
-        Err(failure) => tell(&failure, stderr),
+    if let Err(failure) = calls_of(&words) {
+        return tell(&failure, stderr);
+    }
+    let desk = Desk {
+        host,
+        meter,
+        stdout,
+        stderr,
+    };
+    if words.play {
+        perform_play(alloc, &words, desk)
+    } else {
+        perform_script(alloc, &words, desk)
     }
 }
