@@ -168,3 +168,16 @@ child:  li a0, 100
         li a7, 13
         ecall
 ";
+
+/// Takes a page, gives it back, and ends.
+pub(crate) const GROWS: &str = "
+        li a0, 4096
+        li a7, 12
+        ecall
+        li a0, -4096
+        li a7, 12
+        ecall
+        li a0, 0
+        li a7, 2
+        ecall
+";

@@ -1,6 +1,8 @@
 //! Programs as `/init`, what happens to them, and all that is told of that.
 use crate::disks::{Given, Whole, expect_row, image_with, run_on};
-use reports::{Reporter, Told, Wanted};
+use crate::samples;
+use machine::Halt;
+use reports::{Outcome, PlayEnd, Reporter, Told, Wanted};
 use std::alloc::Global;
 use sv39::Plain;
 use unixmodel::event::Event;
@@ -83,31 +85,42 @@ parent: li a0, 1
         ecall
 ";
 
-/// What is asked for: a report, as text or as JSON, or the pages of a process.
+/// What is asked for: a report, as text or as JSON, or the pages or the registers of a process.
 enum Asked {
     Report,
     Json,
     Pages(u32),
+    Registers(u32),
 }
 
-/// A program as `/init`; how many steps are made, and ticks behind them; what is asked for, and what is told, with JSON where that is
-/// asked for.
+/// A program as `/init`; how many steps are made, and ticks after them, and how often; how the run ended after all; what is asked for,
+/// what the text begins with, and parts of the JSON.
 struct Row {
     name: &'static str,
     init: &'static str,
     steps: u32,
     ticks: u32,
+    rounds: u32,
+    outcome: Outcome,
     asked: Asked,
     text: &'static str,
-    json: Option<&'static str>,
+    json: &'static [&'static str],
 }
 
-static ROWS: [Row; 9] = [
+/// The events came to their end, and they were no play's.
+const RAN: Outcome = Outcome {
+    halt: None,
+    play: None,
+};
+
+static ROWS: [Row; 15] = [
     Row {
         name: "a loop",
         init: LOOP,
         steps: 100,
         ticks: 0,
+        rounds: 1,
+        outcome: RAN,
         asked: Asked::Report,
         text: "\
 report: 100 steps, 0 ticks, 0 keys
@@ -115,13 +128,15 @@ stopped: the events are used up while pid 1 (/init) runs
 pid 1 (/init) runs; parent 0, pc 0x0, 12288 bytes, 9 frames
 free frames: 55
 ",
-        json: None,
+        json: &[],
     },
     Row {
         name: "a process reads a pipe whose both ends it has",
         init: DEADLOCK,
         steps: 100,
         ticks: 1,
+        rounds: 1,
+        outcome: RAN,
         asked: Asked::Report,
         text: "\
 report: 100 steps, 1 ticks, 0 keys
@@ -131,13 +146,15 @@ pid 1 (/init) reads a pipe whose write end it itself holds; parent 0, pc 0x30, 1
   1: write end of pipe 0
 free frames: 54
 ",
-        json: None,
+        json: &[],
     },
     Row {
         name: "a process sleeps",
         init: SLEEPER,
         steps: 100,
         ticks: 3,
+        rounds: 1,
+        outcome: RAN,
         asked: Asked::Report,
         text: "\
 report: 100 steps, 3 ticks, 0 keys
@@ -145,13 +162,15 @@ stopped: nobody is ready
 pid 1 (/init) sleeps until tick 7; parent 0, pc 0x14, 12288 bytes, 9 frames
 free frames: 55
 ",
-        json: None,
+        json: &[],
     },
     Row {
         name: "a process stores to its code",
         init: CRASH,
         steps: 100,
         ticks: 0,
+        rounds: 1,
+        outcome: RAN,
         asked: Asked::Report,
         text: "\
 report: 4 steps, 0 ticks, 0 keys
@@ -160,13 +179,15 @@ pid 1 (/init) ended with status -1; parent 0, pc 0x8, 12288 bytes, 9 frames
 free frames: 55
 fault: pid 1 (/init): store to 0x0 at pc 0x8: the page may not be written
 ",
-        json: None,
+        json: &[],
     },
     Row {
         name: "a child executes compressed code",
         init: COMPRESSED,
         steps: 1000,
         ticks: 0,
+        rounds: 1,
+        outcome: RAN,
         asked: Asked::Report,
         text: "\
 report: 1000 steps, 0 ticks, 0 keys
@@ -176,13 +197,15 @@ pid 1 (/init) reads the console; parent 0, pc 0x90, 12288 bytes, 9 frames
 free frames: 55
 fault: pid 2 (wc): illegal instruction 0x1141 at pc 0x0 (compressed code? compile with -march=rv64im)
 ",
-        json: None,
+        json: &[],
     },
     Row {
         name: "a child fills a pipe",
         init: FULL,
         steps: 1000,
         ticks: 0,
+        rounds: 1,
+        outcome: RAN,
         asked: Asked::Report,
         text: "\
 report: 1000 steps, 0 ticks, 0 keys
@@ -194,18 +217,21 @@ pid 2 (/init) writes to a full pipe whose read end pid 1 (/init) and it itself h
   1: write end of pipe 0
 free frames: 45
 ",
-        json: None,
+        json: &[],
     },
     Row {
         name: "a process that sleeps, as JSON",
         init: SLEEPER,
         steps: 100,
         ticks: 3,
+        rounds: 1,
+        outcome: RAN,
         asked: Asked::Json,
         text: "",
-        json: Some(
+        json: &[
             "\
 {
+  \"version\": 1,
   \"steps\": 100,
   \"ticks\": 3,
   \"keys\": 0,
@@ -214,6 +240,7 @@ free frames: 45
     \"status\": null,
     \"pid\": null
   },
+  \"play\": null,
   \"processes\": [
     {
       \"pid\": 1,
@@ -221,7 +248,13 @@ free frames: 45
       \"program\": \"/init\",
       \"state\": \"waiting\",
       \"status\": null,
-      \"waits\": \"sleeps until tick 7\",
+      \"waits\": {
+        \"call\": \"sleep\",
+        \"kind\": \"tick\",
+        \"pids\": [],
+        \"pipe\": null,
+        \"tick\": 7
+      },
       \"killed\": false,
       \"pc\": 20,
       \"size\": 12288,
@@ -229,11 +262,158 @@ free frames: 45
       \"descriptors\": []
     }
   ],
+  \"ended\": [],
+  \"more_ended\": 0,
   \"free_frames\": 55,
   \"faults\": [],
   \"more_faults\": 0
 }",
-        ),
+        ],
+    },
+    Row {
+        name: "a process reads its own pipe, as JSON",
+        init: DEADLOCK,
+        steps: 100,
+        ticks: 0,
+        rounds: 1,
+        outcome: Outcome {
+            halt: None,
+            play: Some(PlayEnd::Unreached { line: 4, steps: 99 }),
+        },
+        asked: Asked::Json,
+        text: "",
+        json: &[
+            "  \"play\": {\n    \"end\": \"unreached\",\n    \"line\": 4,\n    \"steps\": 99\n  },\n",
+            "\
+      \"waits\": {
+        \"call\": \"read\",
+        \"kind\": \"bytes\",
+        \"pids\": [
+          1
+        ],
+        \"pipe\": 0,
+        \"tick\": null
+      },
+",
+            "\
+        {
+          \"descriptor\": 1,
+          \"on\": {
+            \"kind\": \"write_end\",
+            \"number\": 0,
+            \"offset\": null
+          },
+          \"readable\": false,
+          \"writable\": true
+        }
+      ]
+",
+        ],
+    },
+    Row {
+        name: "a child fills a pipe, as JSON, and the disk fails in the save",
+        init: FULL,
+        steps: 1000,
+        ticks: 0,
+        rounds: 1,
+        outcome: Outcome {
+            halt: Some(Halt::Device),
+            play: Some(PlayEnd::Halted),
+        },
+        asked: Asked::Json,
+        text: "",
+        json: &[
+            "    \"why\": \"device\",\n",
+            "    \"end\": \"halted\",\n    \"line\": null,\n    \"steps\": null\n",
+            "        \"call\": \"wait\",\n        \"kind\": \"child\",\n        \"pids\": [\n          2\n        ],\n",
+            "        \"call\": \"write\",\n        \"kind\": \"room\",\n        \"pids\": [\n          1,\n          2\n        ],\n        \"pipe\": 0,\n",
+        ],
+    },
+    Row {
+        name: "a fault, as JSON",
+        init: CRASH,
+        steps: 100,
+        ticks: 0,
+        rounds: 1,
+        outcome: RAN,
+        asked: Asked::Json,
+        text: "",
+        json: &[
+            "    \"why\": \"ended\",\n    \"status\": -1,\n",
+            "\
+  \"ended\": [
+    {
+      \"at\": 4,
+      \"pid\": 1,
+      \"program\": \"/init\",
+      \"parent\": 0,
+      \"how\": \"fault\",
+      \"status\": -1,
+      \"killer\": null
+    }
+  ],
+",
+            "\
+  \"faults\": [
+    {
+      \"at\": 4,
+      \"pid\": 1,
+      \"program\": \"/init\",
+      \"cause\": \"store_page_fault\",
+      \"reason\": \"closed\",
+      \"pc\": 8,
+      \"address\": 0,
+      \"word\": null,
+      \"words\": \"store to 0x0 at pc 0x8: the page may not be written\",
+      \"registers\": {
+        \"ra\": 0,
+        \"sp\": 12256,
+",
+        ],
+    },
+    Row {
+        name: "a word that is no instruction, as JSON",
+        init: COMPRESSED,
+        steps: 1000,
+        ticks: 0,
+        rounds: 1,
+        outcome: RAN,
+        asked: Asked::Json,
+        text: "",
+        json: &[
+            "        \"call\": \"read\",\n        \"kind\": \"console\",\n        \"pids\": [],\n",
+            "      \"cause\": \"illegal_instruction\",\n      \"reason\": null,\n      \"pc\": 0,\n      \"address\": 0,\n      \"word\": 3825602881,\n",
+            "      \"pid\": 2,\n      \"program\": \"wc\",\n      \"parent\": 1,\n      \"how\": \"fault\",\n",
+        ],
+    },
+    Row {
+        name: "a process that is killed, as JSON",
+        init: samples::SLEEPER,
+        steps: 300,
+        ticks: 1,
+        rounds: 3,
+        outcome: RAN,
+        asked: Asked::Json,
+        text: "",
+        json: &[
+            "      \"pid\": 2,\n      \"program\": \"/init\",\n      \"parent\": 1,\n      \"how\": \"killed\",\n      \"status\": -1,\n      \"killer\": 1\n",
+        ],
+    },
+    Row {
+        name: "the registers of a process that is gone, as they were at its fault",
+        init: COMPRESSED,
+        steps: 1000,
+        ticks: 0,
+        rounds: 1,
+        outcome: RAN,
+        asked: Asked::Registers(2),
+        text: "\
+pid 2 (wc): registers at its fault
+  pc   0x0000000000000000
+  ra   0x0000000000000000 0
+  sp   0x0000000000002ff0 12272
+",
+        json: &[],
     },
     // Its pages, of which there are three; and those of a process that is not there.
     Row {
@@ -241,23 +421,27 @@ free frames: 45
         init: LOOP,
         steps: 100,
         ticks: 0,
+        rounds: 1,
+        outcome: RAN,
         asked: Asked::Pages(1),
         text: "\
-pid 1 (/init): 12288 bytes, 3 pages
+pid 1: 12288 bytes, 3 pages
   0x00000000 to 0x00000fff r-x
   0x00001000 to 0x00001fff ---
   0x00002000 to 0x00002fff rw-
 ",
-        json: None,
+        json: &[],
     },
     Row {
         name: "the pages of no process",
         init: LOOP,
         steps: 100,
         ticks: 0,
+        rounds: 1,
+        outcome: RAN,
         asked: Asked::Pages(7),
         text: "pid 7: no process\n",
-        json: None,
+        json: &[],
     },
 ];
 
@@ -273,6 +457,7 @@ fn wanted_of(asked: &Asked) -> Wanted {
         Asked::Report => wanted.report = true,
         Asked::Json => wanted.json = true,
         Asked::Pages(pid) => wanted.memory = Some(*pid),
+        Asked::Registers(pid) => wanted.registers = Some(*pid),
     }
     wanted
 }
@@ -299,20 +484,34 @@ fn play(run: &mut Whole, reporter: &mut Reporter, event: Event, times: u32) {
     }
 }
 
-// What is told of a row's run.
+// What is printed of a row's run.
 fn told_of(alloc: Global, run: &mut Whole, row: &Row) -> Option<Told> {
-    let mut reporter = Reporter::new(b"/init");
-    play(run, &mut reporter, Event::Step, row.steps);
-    play(run, &mut reporter, Event::Tick, row.ticks);
-    reporter
-        .tell(alloc, &run.machine, wanted_of(&row.asked))
-        .ok()
+    let mut reporter = Reporter::new(alloc, b"/init", wanted_of(&row.asked));
+    for _round in 0..row.rounds {
+        play(run, &mut reporter, Event::Step, row.steps);
+        play(run, &mut reporter, Event::Tick, row.ticks);
+    }
+    let looked = reporter.look(alloc, &run.machine).ok()?;
+    reporter.tell(alloc, &looked, row.outcome).ok()
 }
 
-// Whether that is what the row says.
+// Whether a text has these parts, where there is one, and there is none without parts.
+fn has_parts(text: Option<&str>, parts: &[&str]) -> bool {
+    match text {
+        Some(text) => !parts.is_empty() && parts.iter().all(|part| text.contains(*part)),
+        None => parts.is_empty(),
+    }
+}
+
+// Whether that is what the row says; of registers the text has more.
 fn tells(alloc: Global, run: &mut Whole, row: &Row) -> Option<bool> {
     let told = told_of(alloc, run, row)?;
-    Some(told.text.as_str() == row.text && told.json.as_deref() == row.json)
+    let text = told.text.as_str();
+    let is_text = match row.asked {
+        Asked::Registers(_) => text.starts_with(row.text),
+        _ => text == row.text,
+    };
+    Some(is_text && has_parts(told.json.as_deref(), row.json))
 }
 
 fn holds(alloc: Global, row: &Row) -> Option<bool> {

@@ -1,7 +1,7 @@
 //! Stored runs of small programs: the exact text, the shape of the spans, and lines of the commit log.
 
 use crate::disks::{Given, Whole, expect_row, image_with, run_on};
-use crate::samples::{CAT, ECHO, FAULTS, FORKS, SHELL, SLEEPER};
+use crate::samples::{CAT, ECHO, FAULTS, FORKS, GROWS, SHELL, SLEEPER};
 use crate::shape::is_well_shaped;
 use live::Watch;
 use std::alloc::Global;
@@ -15,6 +15,7 @@ struct Pages {
     text: String,
     spans: String,
     commits: String,
+    events: String,
     is_text_full: bool,
 }
 
@@ -24,6 +25,7 @@ impl Pages {
             text: String::new(alloc),
             spans: String::new(alloc),
             commits: String::new(alloc),
+            events: String::new(alloc),
             is_text_full,
         }
     }
@@ -38,6 +40,7 @@ impl Sinks for Pages {
             Form::Text => &mut self.text,
             Form::Spans => &mut self.spans,
             Form::Commits => &mut self.commits,
+            Form::Events => &mut self.events,
         };
         let Ok(line) = str::from_utf8(bytes) else {
             return Err(SinkFault);
@@ -71,15 +74,27 @@ fn play(run: &mut Whole, tracer: &mut Tracer<Pages>) {
     }
 }
 
-/// A run of programs, whether a part of it is wanted alone, and what is told: the text, and lines that stand in the log of commits and
-/// one that doesn't.
+/// What of a run is wanted.
+#[derive(Clone, Copy, PartialEq, Eq)]
+enum Part {
+    Whole,
+    /// Some calls of process 2.
+    Calls,
+    /// All from an event on at which process 1 waits in a call.
+    Later,
+}
+
+/// A run of programs, what of it is wanted, and what is told: the text, and lines that stand in the log of commits and
+/// one that doesn't, and parts of the lines of events.
 struct Case {
     name: &'static str,
     files: &'static [(&'static str, Given<'static>)],
-    is_part: bool,
+    part: Part,
     is_text_full: bool,
     text: &'static str,
     commits: &'static [&'static str],
+    // Lines of events.
+    events: &'static [&'static str],
     missing: Option<&'static str>,
 }
 
@@ -88,6 +103,7 @@ const FORMS: Wanted = Wanted {
     text: true,
     spans: true,
     commits: true,
+    events: true,
     ..Wanted::ALL
 };
 
@@ -102,6 +118,9 @@ const PART: Wanted = Wanted {
     core_is_pid: true,
     ..FORMS
 };
+
+/// The rest of a run, from where process 1 waits for its children.
+const LATER: Wanted = Wanted { from: 83, ..FORMS };
 
 /// The programs of the first run.
 const PIPELINE: [(&str, Given<'static>); 4] = [
@@ -120,12 +139,49 @@ const COMMITS: [&str; 5] = [
     "# pid 3 read = 3\n# pid 3 mem 0x0000000000000058 68690a\ncore   0: 0 0x0000000000000024 (0x00050613) x12 0x0000000000000003\ncore   0: 0 0x0000000000000028 (0x00060e63)\n",
 ];
 
+/// A pipe, a fork, a wait for children, a program, bytes through a pipe, and ends with what was open.
+const EVENTS: [&str; 9] = [
+    "{\"event\":\"begin\",\"version\":1}\n{\"event\":\"call\",",
+    "\"call\":\"open\",\"since\":",
+    "\"result\":0,\"path\":\"console\"}\n",
+    "\"result\":0,\"ends\":[3,4]}\n",
+    "\"call\":\"wait\",\"arguments\":[0],\"waits\":{\"call\":\"wait\",\"kind\":\"child\",\"pids\":[2,3],\"pipe\":null,\"tick\":null},\"status\":null}\n",
+    "\"result\":2,\"path\":\"echo\",\"argv\":[\"echo\",\"hi\"],\"cut\":false}\n",
+    "\"pid\":2,\"program\":\"echo\",\"parent\":1,\"how\":\"exit\",\"status\":3,\"killer\":null,\"descriptors\":[{\"descriptor\":0,\"on\":{\"kind\":\"console\",",
+    "\"pid\":3,\"program\":\"cat\",\"call\":\"read\",",
+    "\"result\":3,\"data\":\"hi\\n\",\"cut\":false}\n",
+];
+
+/// A child that faults, and its parent that gets the status and faults, too.
+const FAULT_EVENTS: [&str; 4] = [
+    "\"pid\":2,\"program\":\"/init\",\"cause\":\"store_page_fault\",\"reason\":\"no_page\",\"pc\":40,\"address\":1048580,\"word\":null,",
+    "\"pid\":2,\"program\":\"/init\",\"parent\":1,\"how\":\"fault\",\"status\":-1,\"killer\":null,\"descriptors\":[]}\n",
+    "\"result\":2,\"status\":-1}\n",
+    "\"cause\":\"breakpoint\",\"reason\":null,\"pc\":32,\"address\":32,\"word\":null,",
+];
+
+/// A sleep, a kill, the end that comes of it, and a number of no call.
+const KILL_EVENTS: [&str; 5] = [
+    "\"call\":\"sleep\",\"arguments\":[100],\"waits\":{\"call\":\"sleep\",\"kind\":\"tick\",\"pids\":[],\"pipe\":null,\"tick\":100}}\n",
+    "\"call\":\"kill\",\"since\":",
+    "\"parent\":1,\"how\":\"killed\",\"status\":-1,\"killer\":1,\"descriptors\":[]}\n",
+    "\"arguments\":[1,12256,0],\"result\":-1}\n",
+    "{\"event\":\"end\",\"at\":903}\n",
+];
+
+/// Two writes of a byte and an end.
+const PART_EVENTS: [&str; 3] = [
+    "{\"event\":\"call\",\"at\":83,\"pid\":2,\"program\":\"echo\",\"call\":\"write\",\"since\":83,",
+    "\"result\":1,\"data\":\"\\n\",\"cut\":false}\n{\"event\":\"exit\",\"at\":92,",
+    "{\"event\":\"end\",\"at\":",
+];
+
 // Each run with its whole text, worked out from the programs and the table of calls.
-static CASES: [Case; 6] = [
+static CASES: [Case; 8] = [
     Case {
         name: "a shell pipes echo into cat",
         files: &PIPELINE,
-        is_part: false,
+        part: Part::Whole,
         is_text_full: false,
         text: "[pid 1] open(\"console\", O_RDWR) = 0
 [pid 1] dup(0) = 1
@@ -159,6 +215,7 @@ static CASES: [Case; 6] = [
 [pid 1] +++ ended with 0 +++
 ",
         commits: &COMMITS,
+        events: &EVENTS,
         missing: None,
     },
     Case {
@@ -167,7 +224,7 @@ static CASES: [Case; 6] = [
             ("/console", Given::Console),
             ("/init", Given::Program(FORKS)),
         ],
-        is_part: false,
+        part: Part::Whole,
         is_text_full: false,
         text: "[pid 1] fork() = 2
 [pid 1] fork() = 3
@@ -192,6 +249,7 @@ static CASES: [Case; 6] = [
 [pid 1] +++ ended with 0 +++
 ",
         commits: &[],
+        events: &[],
         missing: None,
     },
     Case {
@@ -200,7 +258,7 @@ static CASES: [Case; 6] = [
             ("/console", Given::Console),
             ("/init", Given::Program(FAULTS)),
         ],
-        is_part: false,
+        part: Part::Whole,
         is_text_full: false,
         text: "[pid 1] fork() = 2
 [pid 1] wait(0x2fd8 <unfinished ...>
@@ -211,6 +269,7 @@ static CASES: [Case; 6] = [
 [pid 1] +++ ended with -1 +++
 ",
         commits: &[],
+        events: &FAULT_EVENTS,
         missing: None,
     },
     Case {
@@ -219,7 +278,7 @@ static CASES: [Case; 6] = [
             ("/console", Given::Console),
             ("/init", Given::Program(SLEEPER)),
         ],
-        is_part: false,
+        part: Part::Whole,
         is_text_full: false,
         text: "[pid 1] fork() = 2
 [pid 1] sleep(1 <unfinished ...>
@@ -235,38 +294,96 @@ static CASES: [Case; 6] = [
 [pid 1] sleep(100 <unfinished ...>
 ",
         commits: &[],
+        events: &KILL_EVENTS,
         missing: None,
     },
     Case {
         name: "a part is told",
         files: &PIPELINE,
-        is_part: true,
+        part: Part::Calls,
         is_text_full: false,
         text: "83 [pid 2] write(1, \"i\", 1) = 1
 87 [pid 2] write(1, \"\\n\", 1) = 1
 92 [pid 2] +++ ended with 3 +++
 ",
         commits: &["core   2: 0 0x"],
+        events: &PART_EVENTS,
         missing: Some("core   0"),
+    },
+    Case {
+        name: "a log of commits begins inside a call that waits",
+        files: &PIPELINE,
+        part: Part::Later,
+        is_text_full: false,
+        text: "[pid 2] write(1, \"i\\n\", 1) = 1 (2 times)
+[pid 2] exit(3) = ?
+[pid 2] +++ ended with 3 +++
+[pid 3] close(0) = 0
+[pid 3] dup(3) = 0
+[pid 3] close(3) = 0
+[pid 3] exec(\"cat\", [\"cat\"]) = 1
+[pid 3] read(0, \"hi\\n\", 512) = 3
+[pid 3] write(1, \"hi\\n\", 3) = 3
+[pid 3] read(0, \"\", 512) = 0
+[pid 3] exit(0) = ?
+[pid 3] +++ ended with 0 +++
+[pid 1] <... wait resumed> NULL) = 2
+[pid 1] wait([0]) = 3
+[pid 1] exit(0) = ?
+[pid 1] +++ ended with 0 +++
+",
+        commits: &[
+            "# pid 1 size 12288\n# pid 1 pc 0x00000000000000a0\n",
+            "# pid 1 wait = 2\ncore   0: 0 0x00000000000000a4 ",
+        ],
+        events: &["{\"event\":\"begin\",\"version\":1}\n{\"event\":\"call\",\"at\":83,"],
+        missing: None,
+    },
+    Case {
+        name: "sbrk takes a page away and gives one",
+        files: &[
+            ("/console", Given::Console),
+            ("/init", Given::Program(GROWS)),
+        ],
+        part: Part::Whole,
+        is_text_full: false,
+        text: "[pid 1] sbrk(4096) = 12288
+[pid 1] sbrk(-4096) = 16384
+[pid 1] exit(0) = ?
+[pid 1] +++ ended with 0 +++
+",
+        commits: &[
+            "# pid 1 sbrk = 12288\n# pid 1 size 16384\n",
+            "# pid 1 sbrk = 16384\n# pid 1 size 12288\n",
+        ],
+        events: &[
+            "\"call\":\"sbrk\",\"since\":",
+            "\"arguments\":[-4096],\"result\":16384}\n",
+        ],
+        missing: None,
     },
     Case {
         name: "a full sink is told",
         files: &PIPELINE,
-        is_part: false,
+        part: Part::Whole,
         is_text_full: true,
         text: "",
         commits: &[],
+        events: &[],
         missing: None,
     },
 ];
 
 // What is wanted of a run.
 fn wanted_of(case: &Case) -> Option<Wanted> {
-    if !case.is_part {
-        return Some(FORMS);
+    let mut wanted = match case.part {
+        Part::Whole => FORMS,
+        Part::Calls => PART,
+        Part::Later => LATER,
+    };
+    if case.part == Part::Calls {
+        wanted.calls = CallSet::parse("read,write").ok()?;
     }
-    let mut wanted = PART;
-    wanted.calls = CallSet::parse("read,write").ok()?;
     Some(wanted)
 }
 
@@ -307,11 +424,24 @@ fn ends(case: &Case, done: Result<(), Trouble>) -> bool {
     }
 }
 
+// Whether the lines of events have the case's parts, in this order.
+fn has_events(case: &Case, events: &str) -> bool {
+    let mut rest = events;
+    for part in case.events {
+        let Some(at) = rest.find(*part) else {
+            return false;
+        };
+        rest = &rest[at..];
+    }
+    true
+}
+
 // Whether pages are as the case says.
 fn are_right(alloc: Global, case: &Case, pages: &Pages) -> bool {
     pages.text.as_str() == case.text
         && is_well_shaped(alloc, pages.spans.as_str())
         && has_commits(case, pages.commits.as_str())
+        && has_events(case, pages.events.as_str())
 }
 
 // Whether what is written of a run is as the case says.

@@ -69,7 +69,8 @@ static ROWS: [Row; 3] = [
             1,
         ),
         parts: &[
-            "{\n  \"steps\": 5,\n",
+            "{\n  \"version\": 1,\n  \"steps\": 5,\n",
+            "\"play\": null,",
             "\"why\": \"running\"",
             "\"free_frames\": 247,",
         ],

@@ -32,6 +32,8 @@ pub const ALL: Trace<'static> = Trace {
     text: None,
     perfetto: None,
     commits: None,
+    jsonl: None,
+    play: false,
 };
 
 const TEXT: &str =
@@ -43,6 +45,10 @@ struct Row {
     text: Option<&'static str>,
     perfetto: Option<&'static str>,
     commits: Option<&'static str>,
+    jsonl: Option<&'static str>,
+    // The events, and whether they are those of a play.
+    events: &'static str,
+    play: bool,
     save: Option<&'static str>,
     fail: u64,
     // How long the file may get, standard error and status, and how the file ends.
@@ -66,14 +72,25 @@ const TOLD_AND_LOST: &str =
 
 const UNSAVED: &str = "halt 1 InitEnded 0\ncannot write none\n";
 
+const UNREAD: &str = "record:1: until: more has to follow\n";
+
 const UNBOOTED: &str = "fault 3 Device\n";
 
-static TRACED: [Row; 7] = [
+// The end of a file of events.
+const LAST_EVENTS: &str = "\"arguments\":[1,32,3],\"result\":-1,\"data\":\"hi\\n\",\"cut\":false}\n\
+    {\"event\":\"exit\",\"at\":9,\"pid\":1,\"program\":\"/init\",\"parent\":0,\"how\":\"exit\",\"status\":0,\
+    \"killer\":null,\"descriptors\":[]}\n\
+    {\"event\":\"end\",\"at\":9}\n";
+
+static TRACED: [Row; 10] = [
     Row {
         name: "a text in a file",
         text: Some("record"),
         perfetto: None,
         commits: None,
+        jsonl: None,
+        events: "step 9",
+        play: false,
         save: None,
         fail: 0,
         room: 1000,
@@ -86,6 +103,9 @@ static TRACED: [Row; 7] = [
         text: None,
         perfetto: Some("record"),
         commits: None,
+        jsonl: None,
+        events: "step 9",
+        play: false,
         save: None,
         fail: 0,
         room: 10000,
@@ -98,6 +118,9 @@ static TRACED: [Row; 7] = [
         text: None,
         perfetto: None,
         commits: Some("record"),
+        jsonl: None,
+        events: "step 9",
+        play: false,
         save: None,
         fail: 0,
         room: 10000,
@@ -106,10 +129,58 @@ static TRACED: [Row; 7] = [
         end: "(0x00200893) x17 0x0000000000000002\n# pid 1 ended with 0\n",
     },
     Row {
+        name: "lines of events in a file",
+        text: None,
+        perfetto: None,
+        commits: None,
+        jsonl: Some("record"),
+        events: "step 9",
+        play: false,
+        save: None,
+        fail: 0,
+        room: 10000,
+        stderr: TOLD_AND_ENDED,
+        status: 0,
+        end: LAST_EVENTS,
+    },
+    Row {
+        name: "lines of the events of a play",
+        text: None,
+        perfetto: None,
+        commits: None,
+        jsonl: Some("record"),
+        events: "until halt 9 # or not",
+        play: true,
+        save: None,
+        fail: 0,
+        room: 10000,
+        stderr: TOLD_AND_ENDED,
+        status: 0,
+        end: LAST_EVENTS,
+    },
+    Row {
+        name: "a play that can't be read",
+        text: None,
+        perfetto: None,
+        commits: None,
+        jsonl: Some("record"),
+        events: "until",
+        play: true,
+        save: None,
+        fail: 0,
+        room: 10000,
+        stderr: UNREAD,
+        status: 1,
+        end: "until",
+    },
+    Row {
         name: "a text that finds no room",
         text: Some("record"),
         perfetto: None,
         commits: None,
+        jsonl: None,
+        events: "step 9",
+        play: false,
         save: None,
         fail: 0,
         room: 10,
@@ -122,6 +193,9 @@ static TRACED: [Row; 7] = [
         text: None,
         perfetto: None,
         commits: Some("record"),
+        jsonl: None,
+        events: "step 9",
+        play: false,
         save: None,
         fail: 0,
         room: 10,
@@ -134,6 +208,9 @@ static TRACED: [Row; 7] = [
         text: Some("record"),
         perfetto: None,
         commits: None,
+        jsonl: None,
+        events: "step 9",
+        play: false,
         save: Some("none"),
         fail: 0,
         room: 1000,
@@ -146,6 +223,9 @@ static TRACED: [Row; 7] = [
         text: Some("record"),
         perfetto: None,
         commits: None,
+        jsonl: None,
+        events: "step 9",
+        play: false,
         save: None,
         fail: 1,
         room: 1000,
@@ -165,15 +245,21 @@ fn job_of(row: &Row) -> Job<'static> {
         text: row.text,
         perfetto: row.perfetto,
         commits: row.commits,
+        jsonl: row.jsonl,
+        play: row.play,
         ..ALL
     })
 }
 
-// Traces a run of nine steps.
+// Traces a run of up to nine steps.
 fn expect_traced(rt: &(impl Abort + AllocGlobal), image: &[u8], row: &Row) {
     let name = ("a trace", row.name);
     let mut desk = desk_of(rt.alloc(), image, b"", row.room).expect(rt, "memory");
-    desk.record = b"step 9".to_vec(rt.alloc()).expect(rt, "memory");
+    desk.record = row
+        .events
+        .as_bytes()
+        .to_vec(rt.alloc())
+        .expect(rt, "memory");
     expect(
         rt,
         name,

@@ -66,6 +66,8 @@ fn counts() -> Job<'static> {
         text: None,
         perfetto: None,
         commits: None,
+        jsonl: None,
+        play: false,
     })
 }
 
@@ -395,7 +397,7 @@ fn expect_play_and_trace_jobs(rt: &(impl Abort + AllocGlobal)) {
     );
     expect_job(
         rt,
-        "xv6 trace --calls read,write --bytes 0 --each --time --turns --core-is-pid --text c --perfetto d --commits e a b",
+        "xv6 trace --calls read,write --bytes 0 --each --time --turns --core-is-pid --text c --perfetto d --commits e --jsonl f --play a b",
         &Job::Trace(Trace {
             run: PLAIN,
             part: Part {
@@ -414,6 +416,8 @@ fn expect_play_and_trace_jobs(rt: &(impl Abort + AllocGlobal)) {
             text: Some("c"),
             perfetto: Some("d"),
             commits: Some("e"),
+            jsonl: Some("f"),
+            play: true,
         }),
     );
 }
