@@ -19,8 +19,8 @@ impl Default for Argument {
     }
 }
 
-/// What a call was handed in memory, or filled in. What it has none of is left out; what can't be read, or was not filled in, is
-/// null.
+/// What a call was handed in memory, or filled in.
+/// What it has none of is left out; what can't be read, or was not filled in, is null.
 #[derive(Drop, Serialize)]
 pub struct Handed {
     #[serde(skip_serializing_if = "Option::is_none")]

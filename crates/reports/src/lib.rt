@@ -1,5 +1,5 @@
-//! What a run was, told at its end: what was used, why it stopped, who waits for what, what each process holds, which ended, and the
-//! faults that came.
+//! What a run was, at its end: what was used, why it stopped, who waits for what, what each process holds, which ended,
+//! and the faults that came.
 #![tactic(auto)]
 
 mod ended;

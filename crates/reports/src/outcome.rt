@@ -11,12 +11,12 @@ pub enum PlayEnd {
     Done,
     /// The machine halted first.
     Halted,
-    /// A line waited in vain for so many steps.
+    /// A line waited in vain for this number of steps.
     Unreached { line: usize, steps: u32 },
 }
 
-/// How a run ended: the halt that it came to, in its events, in the save or where the console's bytes are written; and what became of
-/// the play, if it had one.
+/// How a run ended: the halt that it came to, in its events, in the save or where the console's bytes are written; and
+/// what became of the play, if it had one.
 #[derive(Clone, Copy)]
 pub struct Outcome {
     pub halt: Option<Halt>,

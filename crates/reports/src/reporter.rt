@@ -77,8 +77,8 @@ impl fmt::Display for Counts {
     }
 }
 
-/// Looks on while a machine is given events: it counts them, and notes the faults that come, the processes that end and the names of
-/// programs.
+/// Looks on while a machine is given events: it counts them, and notes the faults that come, the processes that end and
+/// the names of programs.
 #[derive(Drop)]
 pub struct Reporter {
     wanted: Wanted,

@@ -33,7 +33,7 @@ pub struct Looked {
     left: Option<Left>,
 }
 
-/// What is told of a run.
+/// What is printed and written of a run.
 #[derive(Drop)]
 pub struct Told {
     /// The report, the registers and the pages, as far as they are wanted.
@@ -131,7 +131,7 @@ impl Reporter {
         }
     }
 
-    /// What is told of a run that ended so.
+    /// What is printed and written of a run that ended so.
     pub fn tell(&self, alloc: Global, seen: &Looked, outcome: Outcome) -> Result<Told, AllocError> {
         let stop = seen.stop.or(outcome.halt);
         let text = self.text(alloc, seen, stop)?;

@@ -196,7 +196,7 @@ fn play_over<R: Record, V: Watch, W: Write>(
     }
 }
 
-/// The events of a play from a disk, which aren't recorded: how it ended, and the disk that is left where it is to be saved.
+/// The events of a play from a disk, which aren't recorded: how it ended, and the disk that is left, if it is saved.
 pub fn play_watched<'a, V: Watch, W: Write>(
     alloc: Global,
     words: &Run<'a>,
@@ -260,7 +260,7 @@ fn print_end<E: Write>(name: &str, finish: Finish, telling: &Telling<'_>, stderr
     }
 }
 
-/// Prints how the play of this name ended, after what else is to be said of it, and then what was not written; returns the status to
+/// Prints how a play ended, after what else is to be said of it, and then what was not written; returns the status to
 /// exit with.
 pub fn finish<'a, H: Host, E: Write>(
     words: &Run<'a>,

@@ -128,7 +128,8 @@ pub fn outcome_of(end: End, play: Option<PlayEnd>) -> Outcome {
     Outcome { halt, play }
 }
 
-/// Writes what the teller has kept of a run that ended so, if there is one: on standard error, and as JSON in the file that is named.
+/// Writes what the teller has kept of a run that ended so, if there is one: on standard error, and as JSON in the file
+/// that is named.
 pub fn tell_kept<'a, H: Host, E: Write>(
     teller: Option<Teller>,
     outcome: Outcome,

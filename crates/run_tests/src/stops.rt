@@ -93,8 +93,8 @@ enum Asked {
     Registers(u32),
 }
 
-/// A program as `/init`; how many steps are made, and ticks after them, and how often; how the run ended after all; what is asked for,
-/// what the text begins with, and parts of the JSON.
+/// A program as `/init`; how many steps are made, and ticks after them, and how often; how the run ended after all;
+/// what is asked for, what the text begins with, and parts of the JSON.
 struct Row {
     name: &'static str,
     init: &'static str,

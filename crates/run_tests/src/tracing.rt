@@ -84,8 +84,8 @@ enum Part {
     Later,
 }
 
-/// A run of programs, what of it is wanted, and what is told: the text, and lines that stand in the log of commits and
-/// one that doesn't, and parts of the lines of events.
+/// A run of programs, and what of it is wanted: the text, lines that the log of commits has and one that it hasn't, and
+/// parts of the lines of events.
 struct Case {
     name: &'static str,
     files: &'static [(&'static str, Given<'static>)],

@@ -123,7 +123,7 @@ impl<D: BlockDev, T: Translate> Reader<'_, D, T> {
         Ok(Some(strings))
     }
 
-    // The bytes from an address on, of which there are so many, or the first of them.
+    // The bytes from an address on, of which there are `count`, or the first of them.
     fn data(&mut self, address: u64, count: u64) -> Result<Option<Bytes>, AllocError> {
         let mut bytes = Vec::new(self.alloc);
         for at in 0..count.min(self.most) {
@@ -197,7 +197,7 @@ impl<D: BlockDev, T: Translate> Reader<'_, D, T> {
     }
 }
 
-/// What a call was handed in memory, or filled in where its answer is known; texts have so many bytes at most.
+/// What a call was handed in memory, or filled in if its answer is known; texts have `most` bytes at most.
 pub fn handed_of<D: BlockDev, T: Translate>(
     alloc: Global,
     machine: &Machine<D, T>,

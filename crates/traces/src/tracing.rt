@@ -211,7 +211,8 @@ impl<S: Sinks + Drop> Tracer<S> {
         }
     }
 
-    // What the process does whose next instruction is no call. Where lines of events are written, a fault is looked for before it comes.
+    // What the process does whose next instruction is no call. For lines of events a fault is looked for before it
+    // comes, since the descriptors are closed after it.
     fn look_at_instruction<D: BlockDev, T: Translate>(
         &mut self,
         machine: &Machine<D, T>,

@@ -18,8 +18,8 @@ use traces::{CallSet, Form, SinkFault, Sinks, Tracer, Trouble, Wanted};
 /// The most bytes of a file that wait to be written.
 const MOST_WAITING: usize = 65536;
 
-// A file to which one form goes, if it goes to one, whether it is made, and the bytes that are not written yet. It is made once the
-// machine runs, so that an old one is there where none boots.
+// A file to which one form goes, if it goes to one, whether it is made, and the bytes that are not written yet.
+// It is made once the machine runs, so that an old one is kept if none boots.
 #[derive(Drop)]
 struct Sheet<'a> {
     name: Option<&'a str>,
