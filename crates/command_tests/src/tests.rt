@@ -10,7 +10,6 @@ mod plays;
 mod program_files;
 mod progress;
 mod refusals;
-mod replacing;
 mod runs;
 mod telling;
 mod tracing;

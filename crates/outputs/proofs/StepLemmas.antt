@@ -1,8 +1,10 @@
 -- Steps of a folder, one after the other.
 use Rattle.std.proofs.Common.{Bool, List, [], None, Err, Ok, OnErr, Option, Result, Some, false, true, refl, sym, ap, bytes_eq, ℕ, ◌∙◌, ◌≡◌, ◌≢◌}
+use Rattle.std.proofs.Common.{inl, inr, ◌⊎◌}
 use Rattle.std.proofs.lemmas.Bool.{false≢true}
 use Rattle.std.proofs.lemmas.Slice.Eq.{bytes_eq-Decides}
 use Rattle.outputs.specs.Steps.{Begins, Ends, GivesUp, Held, IsBut, IsSame, IsSynced, Keeps, Known, Moves, Sets, Spoils, Syncs, Writes}
+use Rattle.outputs.specs.Steps.{Sweeps}
 use Rattle.outputs.specs.declared.fault.PutFault.{PutFault}
 use Rattle.outputs.specs.declared.fault.PutFault.TheVariants as fault
 
@@ -84,3 +86,25 @@ pub known-given-up : (begun path : List ℕ) (fault : PutFault) → begun ≢ pa
 known-given-up begun path fault apart x y z w p q r =
     let both : Known (λ a c. (b : Held) × Begins begun a b × Spoils b c) x z = known-then (λ a b c begins spoils. (b, begins, spoils)) x y z p q in
     known-then (λ a c d both gone. given-up begun path fault apart a both.0 c d both.1 both.2 gone) x z w both r
+
+-- ---- files that programs left are removed
+
+pub sweeps-none : (path : List ℕ) (x : Option Held) → Known (Sweeps path) x x
+sweeps-none path None = tt
+sweeps-none path (Some a) = record { kept = refl; each = λ n. inl refl; left = refl }
+
+-- a name holds what it held, or what programs left is gone, by one of two steps
+gone-then : (n : List ℕ) (a b c : Held) → b.left ≡ a.left
+    → (b.bytes n ≡ a.bytes n) ⊎ ((a.left n ≡ true) × (b.bytes n ≡ None))
+    → (c.bytes n ≡ b.bytes n) ⊎ ((b.left n ≡ true) × (c.bytes n ≡ None))
+    → (c.bytes n ≡ a.bytes n) ⊎ ((a.left n ≡ true) × (c.bytes n ≡ None))
+gone-then n a b c left (inl p) (inl q) = inl (q ∙ p)
+gone-then n a b c left (inr p) (inl q) = inr (p.0, q ∙ p.1)
+gone-then n a b c left p (inr q) = inr (sym (ap (λ l. l n) left) ∙ q.0, q.1)
+
+pub sweeps-then : (path : List ℕ) (a b c : Held) → Sweeps path a b → Sweeps path b c → Sweeps path a c
+sweeps-then path a b c p q = record {
+  kept = q.kept ∙ p.kept;
+  each = λ n. gone-then n a b c p.left (p.each n) (q.each n);
+  left = q.left ∙ p.left;
+}

@@ -4,15 +4,18 @@ use Rattle.outputs.specs.declared.put.Attempt.{Attempt}
 use Rattle.outputs.specs.declared.put.Attempt.TheVariants.{Put, Taken}
 use Rattle.outputs.specs.declared.fault.PutFault.{PutFault}
 use Rattle.outputs.specs.declared.fault.PutFault.TheVariants as fault
+use Rattle.outputs.specs.declared.folder.Swept.{Swept}
+use Rattle.outputs.specs.declared.folder.Swept.TheVariants as swept
 use Rattle.outputs.specs.declared.fault.StepFault.{StepFault}
 use Rattle.outputs.specs.declared.fault.StepFault.TheVariants as step
 
 -- the bytes under each name, if there is a file; the name of the file that was begun last, and whether all that was
--- written to it stands on the disk
+-- written to it is on the disk; and whether the file of a name was left by a program that was killed
 pub record Held : Type 0 where
   pub bytes : List ℕ → Option (List ℕ)
   pub begun : List ℕ
   pub synced : Bool
+  pub left : List ℕ → Bool
 
 -- all names but one hold what they held
 abbrev pub IsBut : List ℕ → Held → Held → Type 0
@@ -78,6 +81,18 @@ Keeps name _ old new = IsSame old new
 abbrev pub GivesUp : List ℕ → PutFault → Held → Held → Type 0
 GivesUp begun fault.Left old new = IsSame old new
 GivesUp begun _ old new = Sets begun None old new
+
+-- a file of this name is gone only if a program left it
+abbrev pub SweepsAt : List ℕ → Swept → Held → Held → Type 0
+SweepsAt name swept.Absent old new = IsSame old new × (new.left ≡ old.left) × (old.bytes name ≡ None)
+SweepsAt name swept.Removed old new = Sets name None old new × (new.left ≡ old.left) × (old.left name ≡ true)
+SweepsAt name swept.Kept old new = IsSame old new × (new.left ≡ old.left)
+
+-- each name holds what it held, but files that programs left may be gone; the one of this name never is
+pub record Sweeps (name : List ℕ) (old new : Held) : Type 0 where
+  pub kept : new.bytes name ≡ old.bytes name
+  pub each : (n : List ℕ) → (new.bytes n ≡ old.bytes n) ⊎ ((old.left n ≡ true) × (new.bytes n ≡ None))
+  pub left : new.left ≡ old.left
 
 -- what holds of the two, where it is known what a folder holds
 abbrev pub Known : (Held → Held → Type 0) → Option Held → Option Held → Type 0

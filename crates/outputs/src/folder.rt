@@ -1,8 +1,20 @@
 //! The folder in which a file is put in the place of another.
 ghost use Rattle.std.specs.Prelude.{◌≢◌, IfErr, None, OnErr, OnOk, Option, Some};
-ghost use Rattle.outputs.specs.Steps.{Begins, Held, IsSame, IsSynced, Known, Moves, RefusesName, Sets, Spoils, Syncs, Writes};
+ghost use Rattle.outputs.specs.Steps.{Begins, Held, IsSame, IsSynced, Known, Moves, RefusesName, Sets, Spoils};
+ghost use Rattle.outputs.specs.Steps.{SweepsAt, Syncs, Writes};
 
 use crate::fault::StepFault;
+
+/// What became of a file that a program may have left as it was killed.
+#[derive(Clone, Copy, Debug, PartialEq, Eq)]
+pub enum Swept {
+    /// There is none of the name.
+    Absent,
+    /// Nobody held it, and it is removed.
+    Removed,
+    /// It stays: a program holds it, or it can't be removed.
+    Kept,
+}
 
 /// A folder: files by their names, of which the one that was begun last can be written. A step that is refused changes
 /// nothing, but for a write, which may have written a part.
@@ -36,4 +48,8 @@ pub trait Folder {
     fn remove_file(&mut self, name: &str) -> Result<(), StepFault>
         ensures ok { OnOk result (Known (Sets name.now None) (held self.old) (held self.new)) }
         ensures err { OnErr result (Known IsSame (held self.old) (held self.new)) };
+
+    /// Removes the file of this name if no program holds it: the one that began it was killed.
+    fn sweep(&mut self, name: &str) -> Swept
+        ensures { Known (SweepsAt name.now result) (held self.old) (held self.new) };
 }

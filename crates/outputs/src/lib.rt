@@ -4,10 +4,12 @@
 
 mod fault;
 mod folder;
+mod locks;
 mod put;
 mod system;
 
 pub use fault::{PutFault, StepFault};
-pub use folder::Folder;
-pub use put::replace;
+pub use folder::{Folder, Swept};
+pub use locks::{Holding, hold, is_same};
+pub use put::{replace, sweep};
 pub use system::write;

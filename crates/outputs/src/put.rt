@@ -1,10 +1,13 @@
 //! Puts a file in the place of another.
 ghost use Rattle.std.specs.Prelude.{◌≢◌, IfErr, IfOk, OnErr, OnOk, Some};
-ghost use Rattle.outputs.specs.Steps.{Ends, GivesUp, Keeps, Known, Sets, Spoils, Tries};
+ghost use Rattle.outputs.specs.Steps.{Ends, GivesUp, Keeps, Known, Sets, Spoils, Sweeps, Tries};
 
 use crate::fault::{PutFault, StepFault};
-use crate::folder::Folder;
+use crate::folder::{Folder, Swept};
 use std::alloc::{AllocError, Global};
+
+// How many names are looked at for files that were left, whether there are files of them or not.
+const LEAST_SWEPT: u32 = 32;
 
 // What came of an attempt that met no fault.
 #[derive(Clone, Copy)]
@@ -68,6 +71,29 @@ fn put_by<F: Folder>(
     match finish(folder, begun, path, bytes) {
         Ok(()) => Ok(Attempt::Put),
         Err(fault) => Err(give_up(folder, begun, fault)),
+    }
+}
+
+// Removes the file of this number and name if no program holds it, unless it is the one of this path; whether there was
+// none, and it is not one of the first names.
+fn sweep_at<F: Folder>(folder: &mut F, number: u32, begun: &str, path: &str) -> bool
+    ensures { Known (Sweeps path.now) (F.held folder.old) (F.held folder.new) }
+{
+    begun != path && folder.sweep(begun) == Swept::Absent && number >= LEAST_SWEPT
+}
+
+/// Removes the files that programs began beside the file of this path and left as they were killed: those that nobody
+/// holds, of the first 32 names and of those that follow without a gap. All else is as it was.
+pub fn sweep<F: Folder>(alloc: Global, folder: &mut F, path: &str)
+    ensures { Known (Sweeps path.now) (F.held folder.old) (F.held folder.new) }
+{
+    for number in 0..u32::MAX {
+        let Ok(begun) = name_beside(alloc, path, number) else {
+            return;
+        };
+        if sweep_at(folder, number, begun.as_str(), path) {
+            return;
+        }
     }
 }
 

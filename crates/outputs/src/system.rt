@@ -1,7 +1,8 @@
 //! Files of the system, written whole.
 use crate::fault::{PutFault, StepFault};
-use crate::folder::Folder;
-use crate::put::replace;
+use crate::folder::{Folder, Swept};
+use crate::locks::{Holding, claim, hold};
+use crate::put::{replace, sweep};
 use std::fs::{self, File, Metadata, OpenFile, OpenOptions, Permissions};
 use std::io::{self, ErrorKind, Write};
 use std::os::unix::fs::{MetadataExt, OpenOptionsExt, PermissionsExt, chown};
@@ -13,12 +14,12 @@ const PERMISSIONS: u32 = 0o777;
 /// The bits of the mode of a file that is begun, until it has those of the one that it replaces.
 const OWN: u32 = 0o600;
 
-// The system's files. The file that was begun is open; it becomes as the one that it replaces, if there is one.
+// The system's files. The file that was begun is open and held; it becomes like the one that it replaces, if any.
 #[derive(Drop)]
-struct SystemFolder<'a, R: Files> {
+struct SystemFolder<'a, R> {
     rt: &'a R,
     old: Option<Metadata>,
-    begun: Option<R::File>,
+    begun: Option<File>,
     error: Option<io::Error>,
 }
 
@@ -33,7 +34,7 @@ fn step_fault(kind: ErrorKind) -> StepFault {
     }
 }
 
-impl<R: Files> SystemFolder<'_, R> {
+impl<R: Files<File = File>> SystemFolder<'_, R> {
     // What came of a step. Its error is kept.
     fn told(&mut self, done: io::Result<()>) -> Result<(), StepFault> {
         match done {
@@ -52,7 +53,11 @@ impl<R: Files> SystemFolder<'_, R> {
         if self.old.is_some() {
             how.mode(OWN);
         }
-        self.begun = Some(how.open(self.rt, name)?);
+        let file = how.open(self.rt, name)?;
+        if !claim(self.rt, name, &file) {
+            return Err(io::Error::from(ErrorKind::AlreadyExists));
+        }
+        self.begun = Some(file);
         if let Some(old) = &self.old {
             let _ = chown(self.rt, name, Some(old.uid()), Some(old.gid()));
         }
@@ -78,7 +83,7 @@ impl<R: Files> SystemFolder<'_, R> {
     }
 }
 
-impl<R: Files> Folder for SystemFolder<'_, R> {
+impl<R: Files<File = File>> Folder for SystemFolder<'_, R> {
     fn create_new(&mut self, name: &str) -> Result<(), StepFault> {
         let done = self.begin(name);
         self.told(done)
@@ -105,6 +110,18 @@ impl<R: Files> Folder for SystemFolder<'_, R> {
             Err(error) => Err(step_fault(error.kind())),
         }
     }
+
+    fn sweep(&mut self, name: &str) -> Swept {
+        match fs::symlink_metadata(self.rt, name) {
+            Ok(found) if found.is_file() => {}
+            Ok(_) => return Swept::Kept,
+            Err(_) => return Swept::Absent,
+        }
+        match hold(self.rt, name) {
+            Holding::Held(_held) if fs::remove_file(self.rt, name).is_ok() => Swept::Removed,
+            _ => Swept::Kept,
+        }
+    }
 }
 
 // How a file came to be written, if it was.
@@ -115,7 +132,7 @@ enum Ending {
 }
 
 // Puts the bytes in the place of the file of this path, which is the one that is told, or of none.
-fn replace_file<R: Files + AllocGlobal>(
+fn replace_file<R: Files<File = File> + AllocGlobal>(
     rt: &R,
     path: &str,
     old: Option<Metadata>,
@@ -127,6 +144,7 @@ fn replace_file<R: Files + AllocGlobal>(
         begun: None,
         error: None,
     };
+    sweep(rt.alloc(), &mut folder, path);
     match replace(rt.alloc(), &mut folder, path, bytes) {
         Ok(()) => Ok(Ending::Written),
         Err(PutFault::NoMemory) => Err(io::Error::from(ErrorKind::OutOfMemory)),
@@ -147,7 +165,7 @@ fn is_open_already(path: &str) -> bool {
 
 // Replaces the file that the path leads to, which is this one. False where that can't be done: where it has no path, or its
 // folder takes no new file.
-fn replace_there<R: Files + AllocGlobal>(
+fn replace_there<R: Files<File = File> + AllocGlobal>(
     rt: &R,
     path: &str,
     old: Metadata,
@@ -166,8 +184,13 @@ fn replace_there<R: Files + AllocGlobal>(
 
 /// Writes a file whole: after an error, and wherever the program ends, its name has what it had, or all of the bytes. Links
 /// are followed to the file, and its permissions stay, and its owner where the system lets it. What is no regular file is
-/// written as it is, and so is one whose folder takes no new file.
-pub fn write<R: Files + AllocGlobal>(rt: &R, path: &str, bytes: &[u8]) -> io::Result<()> {
+/// written as it is, and so is one whose folder takes no new file. Files that killed programs left in the folder are
+/// removed: those of the names of begun files that nobody holds.
+pub fn write<R: Files<File = File> + AllocGlobal>(
+    rt: &R,
+    path: &str,
+    bytes: &[u8],
+) -> io::Result<()> {
     let ending = match OpenOptions::new().write(true).open(rt, path) {
         Ok(mut file) => {
             let old = file.metadata()?;

@@ -1,6 +1,6 @@
 //! A folder in memory, in which each step fails in turn.
 use crate::tests::{Name, expect_that};
-use outputs::{Folder, PutFault, StepFault, replace};
+use outputs::{Folder, PutFault, StepFault, Swept, replace, sweep};
 use std::alloc::{AllocError, Global};
 use std::process::Abort;
 
@@ -39,7 +39,7 @@ impl Shelf<'_> {
         Ok(())
     }
 
-    // What stands under a name.
+    // What a name holds.
     fn bytes(&self, name: &str) -> Option<&[u8]> {
         let entry = self
             .entries
@@ -106,6 +106,18 @@ impl Folder for Shelf<'_> {
             return Err(StepFault::Failed);
         }
         Ok(())
+    }
+
+    // A file of three bytes was left.
+    fn sweep(&mut self, name: &str) -> Swept {
+        match self.bytes(name) {
+            None => Swept::Absent,
+            Some(bytes) if bytes.len() != 3 => Swept::Kept,
+            Some(_) => match self.remove_file(name) {
+                Ok(()) => Swept::Removed,
+                Err(_) => Swept::Kept,
+            },
+        }
     }
 }
 
@@ -285,9 +297,47 @@ fn expect_all_begun(rt: &(impl Abort + AllocGlobal)) {
     }
 }
 
+// A path, the files beside `a/image`, what the folder does, and how many files stay.
+type Sweep = (
+    &'static str,
+    &'static [&'static str],
+    &'static [Step],
+    usize,
+);
+
+static SWEEPS: [Sweep; 6] = [
+    ("a/image", &[], &[], 1),
+    ("a/image", &["a/.xv6-new-1", "a/.xv6-new-2"], &[], 1),
+    ("a/image", &["a/.xv6-new-31"], &[], 1),
+    ("a/image", &["a/.xv6-new-33"], &[], 2),
+    ("a/image", &["a/.xv6-new-1"], &[Step::Remove], 3),
+    ("a/.xv6-new-0", &["a/.xv6-new-1"], &[], 2),
+];
+
+// The files that were left are gone: those of the first 32 names, and those that follow without a gap.
+fn expect_swept(rt: &(impl Abort + AllocGlobal), row: &Sweep) {
+    let (path, others, fails, count) = *row;
+    let shelf = shelf_of(rt.alloc(), fails, StepFault::Failed, 0);
+    let mut shelf = shelf.expect(rt, "memory");
+    for other in others {
+        shelf.add(other, b"old").expect(rt, "memory");
+    }
+    sweep(rt.alloc(), &mut shelf, path);
+    let name = ("files that were left", path);
+    expect_that(rt, name, "how many stay", shelf.entries.len() == count);
+    expect_that(rt, name, "the file", shelf.bytes(path).is_some());
+}
+
+fn expect_sweeps(rt: &(impl Abort + AllocGlobal)) {
+    for row in &SWEEPS {
+        expect_swept(rt, row);
+    }
+}
+
 fn expect_files(rt: &(impl Abort + AllocGlobal)) {
     expect_rows(rt);
     expect_all_begun(rt);
+    expect_sweeps(rt);
 }
 
 #[test]
