@@ -57,6 +57,10 @@ count_rule name = record (new_rule name) {
   parser = Some (Signed (pos 1) (pos 4294967295));
 }
 
+-- the same of a number from 2 on
+abbrev pub several_rule : Text → Rule
+several_rule name = record (count_rule name) { parser = Some (Signed (pos 2) (pos 4294967295)) }
+
 -- --name
 abbrev pub named_rule : Text → Rule
 named_rule name = record (new_rule name) { long = Some name }
@@ -108,7 +112,7 @@ declared_run = with_bare (with_bare (run_options (new_app (codes "run"))) (codes
 abbrev pub declared_live : App
 declared_live =
     with_bare (explained (with_rule (with_rule (with_rule (with_rule (with_rule (new_app (codes "live"))
-    (number_rule (codes "frames") (codes "256"))) (count_rule (codes "quantum"))) (option_rule (codes "record")))
+    (number_rule (codes "frames") (codes "256"))) (several_rule (codes "quantum"))) (option_rule (codes "record")))
     (option_rule (codes "save"))) (flag_rule (codes "terminal")))) (codes "IMAGE")
 
 -- play [..] [--script OUT] IMAGE PLAY
@@ -207,6 +211,7 @@ rule_given name given.Bare = word_rule name
 rule_given name given.Last = last_rule name
 rule_given name (given.Number default) = number_rule name default.now
 rule_given name (given.Count value) = count_rule name
+rule_given name (given.Several value) = several_rule name
 rule_given name (given.Option value) = option_rule name
 rule_given name given.Flag = flag_rule name
 rule_given name (given.Letter letter) = letter_rule name letter

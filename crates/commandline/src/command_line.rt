@@ -62,6 +62,9 @@ fn arg<'a>(alloc: Global, word: &Word<'a>) -> Arg<'a>
         Given::Count(value) => {
             option(alloc, word, value).value_parser(value_parser!(u32).range(1..))
         }
+        Given::Several(value) => {
+            option(alloc, word, value).value_parser(value_parser!(u32).range(2..))
+        }
         Given::Option(value) => option(alloc, word, value),
         Given::Flag => flag(alloc, word),
         Given::Letter(letter) => flag(alloc, word).short(letter),

@@ -1,7 +1,7 @@
 //! The commands, and the words that they take.
 
 pub(crate) const EXAMPLE: &str = "\
-Example: hello.bin is a program of RV64I instructions, loaded at address 0, and hello.txt says
+Example: hello.bin is a program of RV64IM instructions, loaded at address 0, and hello.txt says
 what happens to the machine, one command a line:
 
     step 1000       1000 instructions or turns
@@ -92,6 +92,8 @@ pub(crate) enum Given<'a> {
     Number(&'a str),
     // As an option with a number from 1 on, that may be left out; help calls it so.
     Count(&'a str),
+    // As an option with a number from 2 on, that may be left out; help calls it so.
+    Several(&'a str),
     // As an option that may be left out; help calls its value so.
     Option(&'a str),
     // As a flag, which is left out or given once.
@@ -451,8 +453,8 @@ const LIVE: [Word<'static>; 7] = [
     FRAMES,
     Word {
         name: "quantum",
-        given: Given::Count("N"),
-        help: "Steps between two ticks while a process is ready, 10000 if left out",
+        given: Given::Several("N"),
+        help: "Steps between two ticks while a process is ready, from 2 on, 10000 if left out",
     },
     Word {
         name: "record",

@@ -79,7 +79,7 @@ fn error_of(rt: &(impl Abort + AllocGlobal), line: &str) -> Error {
         .expect(rt, "an error")
 }
 
-static REFUSALS: [(&str, ErrorKind); 23] = [
+static REFUSALS: [(&str, ErrorKind); 24] = [
     ("xv6 --help  ", ErrorKind::DisplayHelp),
     ("xv6 flat a --help", ErrorKind::DisplayHelp),
     ("xv6 sharp a b", ErrorKind::InvalidSubcommand),
@@ -102,6 +102,7 @@ static REFUSALS: [(&str, ErrorKind); 23] = [
     ("xv6 flat --fail 1 a b", ErrorKind::UnknownArgument),
     ("xv6 live", ErrorKind::MissingRequiredArgument),
     ("xv6 live --quantum=0 a", ErrorKind::ValueValidation),
+    ("xv6 live --quantum=1 a", ErrorKind::ValueValidation),
     ("xv6 live a b", ErrorKind::UnknownArgument),
 ];
 
@@ -374,10 +375,10 @@ fn expect_live_jobs(rt: &(impl Abort + AllocGlobal)) {
     );
     expect_job(
         rt,
-        "xv6 live --record=c --terminal --frames=64 --quantum 1 b --save=d",
+        "xv6 live --record=c --terminal --frames=64 --quantum 2 b --save=d",
         &Job::Live(Live {
             frames: 64,
-            quantum: Some(NonZeroU64::MIN),
+            quantum: NonZeroU64::new(2),
             script: Some("c"),
             save: Some("d"),
             terminal: true,
