@@ -12,22 +12,22 @@ import sys
 TOP = pathlib.Path(__file__).resolve().parent.parent
 PAGE = TOP / "docs" / "STATUS.md"
 ROW = re.compile(r"^\| `([^`]*)`([^|]*)\| ([^|]*) \|$", re.M)
-FITS = {"LINES": str.__eq__, "BEGINNINGS": str.startswith, "ENDS": str.endswith, "IN_VAIN": str.__contains__}
+FITS = {"BEGINNINGS": str.startswith, "ENDS": str.endswith, "IN_VAIN": str.__contains__}
 
 
 def meanings():
-    """Each line of the program, or its beginning, end or part, with how it fits a row, and its sentence."""
+    """Each line of the program, or its beginning, end or part, with how it fits a row, whether it is of `migrate`, and its sentence."""
     text = (TOP / "crates" / "explanations" / "src" / "meanings.rt").read_text()
-    for name, body in re.findall(r"^const (\w+):(.*?)^(?=const|fn|enum|pub fn)", text + "fn", re.M | re.S):
+    for name, body in re.findall(r"^const (\w+):(.*?)^(?=const|fn|enum|pub)", text + "fn", re.M | re.S):
         for line, means in re.findall(r'\(\s*"((?:[^"\\]|\\.)*)",\s*"((?:[^"\\]|\\.)*)",?\s*\)', body):
-            yield line, FITS[name], means[0].upper() + means[1:] + ("" if means[-1] in "?." else ".")
+            yield line, FITS.get(name, str.__eq__), name == "MIGRATION", means[0].upper() + means[1:] + ("" if means[-1] in "?." else ".")
 
 
 def main(words):
     page, bad, missing, taken = PAGE.read_text(), 0, [], set()
-    for line, fits, sentence in meanings():
-        rows = [row for row in ROW.finditer(page) if row[1] not in taken and fits(row[1], line)]
-        taken.update(row[1] for row in rows)
+    for line, fits, is_migrated, sentence in meanings():
+        rows = [row for row in ROW.finditer(page) if row[1] + row[2] not in taken and fits(row[1], line) and is_migrated == ("migrate" in row[2])]
+        taken.update(row[1] + row[2] for row in rows)
         if not rows:
             missing.append(f"| `{line}` | {sentence} |\n")
         for row in rows:

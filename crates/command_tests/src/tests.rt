@@ -2,7 +2,6 @@
 mod images;
 mod listing;
 mod living;
-mod meanings;
 mod migrating;
 mod narrow_outputs;
 mod openings;

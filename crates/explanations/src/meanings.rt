@@ -1,10 +1,41 @@
 //! What each line means.
 
+/// What a command works on: a line means after one command what it need not mean after another.
+#[derive(Clone, Copy, Debug, PartialEq, Eq)]
+pub enum Topic {
+    /// A machine: `flat`, `run`, `live`, `play` and `trace`.
+    Machine,
+    /// A manifest: `mkfs`.
+    Making,
+    /// An image: `check`.
+    Image,
+    /// A path on an image: `ls`, `get` and `put`.
+    Files,
+    /// An image of the small format: `migrate`.
+    Migration,
+    /// An assembly text: `asm`.
+    Assembly,
+    /// A program file: `dump`.
+    Program,
+}
+
 /// A line, or the beginning of one, and what it means.
 type Meaning = (&'static str, &'static str);
 
-/// Lines that stand as they are.
-const LINES: [Meaning; 45] = [
+/// Lines of every command.
+const COMMON: [Meaning; 2] = [
+    (
+        "no memory",
+        "the program itself found no memory: end other programs, or take a smaller image",
+    ),
+    (
+        "cannot write standard output",
+        "standard output took not all: is the disk full, or the reader gone?",
+    ),
+];
+
+/// Lines of commands that run a machine.
+const MACHINE: [Meaning; 8] = [
     (
         "running",
         "the script came to its end, and the machine goes on: --report tells what each process does",
@@ -18,14 +49,6 @@ const LINES: [Meaning; 45] = [
         "standard output took not all of the console's bytes: is the disk full, or the reader gone? nothing was saved",
     ),
     ("halt 4 Halted", "the machine had stopped before"),
-    (
-        "no memory",
-        "the program itself found no memory: end other programs, or take a smaller image",
-    ),
-    (
-        "cannot write standard output",
-        "standard output took not all: is the disk full, or the reader gone?",
-    ),
     ("fault 2 FrameCount", "--frames takes 64 to 32768"),
     (
         "fault 3 Device",
@@ -39,6 +62,10 @@ const LINES: [Meaning; 45] = [
         "fault 5 NoInit",
         "there is no /init on the image, or it is no program (xv6 dump shows), or the frames don't suffice for it",
     ),
+];
+
+/// Faults of a manifest.
+const MAKING: [Meaning; 7] = [
     (
         "fault 1 Name",
         "a name of the manifest is none: each is of 1 to 14 bytes, and a path begins with /",
@@ -64,9 +91,13 @@ const LINES: [Meaning; 45] = [
         "fault 7 NoMemory",
         "the host has no memory for the image: take a smaller --size",
     ),
+];
+
+/// Faults of an image.
+const IMAGE: [Meaning; 13] = [
     (
         "fault 1 Length",
-        "the file has another length than its super block says: is it cut off?",
+        "the file's length is not the one that its super block says: is it cut off, or no image?",
     ),
     (
         "fault 2 Magic",
@@ -95,7 +126,7 @@ const LINES: [Meaning; 45] = [
     ),
     (
         "fault 9 Entry",
-        "a place of a directory is wrong: its name, or the inode that it names",
+        "an entry of a directory is wrong: its name, or the inode that it names",
     ),
     (
         "fault 10 Links",
@@ -110,6 +141,34 @@ const LINES: [Meaning; 45] = [
         "fault 13 NoMemory",
         "the host has no memory to check the image",
     ),
+];
+
+/// Faults of a path on an image.
+const FILES: [Meaning; 7] = [
+    (
+        "fault 1 NotFound",
+        "there is nothing of this name on the image: xv6 ls IMAGE / shows what there is",
+    ),
+    ("fault 2 NotDir", "what has this name is no directory"),
+    (
+        "fault 3 Exists",
+        "what has this name is a device, to which no file is written",
+    ),
+    ("fault 4 IsDir", "what has this name is a directory"),
+    (
+        "fault 9 Blocks",
+        "the image has no blocks left for that, or the bytes are more than a file can have, 67382272",
+    ),
+    ("fault 10 Inodes", "the image has no inodes left for that"),
+    ("fault 11 Full", "the directory or the file takes no more"),
+];
+
+/// Faults of an image that is migrated, which come before those of an image.
+const MIGRATION: [Meaning; 3] = [
+    (
+        "fault 2 Magic",
+        "it is no image of the small format: one of the large format is used as it is, and xv6 check looks at it",
+    ),
     (
         "fault 2 Blocks",
         "the files take more blocks in the large format than the image has: put fewer on it",
@@ -118,16 +177,10 @@ const LINES: [Meaning; 45] = [
         "fault 3 NoMemory",
         "the host has no memory for the new image",
     ),
-    (
-        "fault 1 NotFound",
-        "there is nothing of this name on the image: xv6 ls IMAGE / shows what there is",
-    ),
-    ("fault 2 NotDir", "what has this name is no directory"),
-    ("fault 3 Exists", "there is something of this name"),
-    ("fault 4 IsDir", "what has this name is a directory"),
-    ("fault 9 Blocks", "the image has no blocks left for that"),
-    ("fault 10 Inodes", "the image has no inodes left for that"),
-    ("fault 11 Full", "the directory or the file takes no more"),
+];
+
+/// Faults of a program file.
+const PROGRAM: [Meaning; 5] = [
     (
         "fault 1 Magic",
         "the file does not begin as an ELF file: xv6 asm makes one, and docs/PROGRAMS.md tells how C is compiled",
@@ -148,17 +201,23 @@ const LINES: [Meaning; 45] = [
         "fault 5 Short",
         "the file ends before its headers or segments do: is it cut off?",
     ),
-    (
-        "line 0: 8 NoMemory",
-        "the host has no memory for the program",
-    ),
 ];
 
+/// The fault of an assembly text that is of no line of it.
+const ASSEMBLY: [Meaning; 1] = [(
+    "line 0: 8 NoMemory",
+    "the host has no memory for the program",
+)];
+
 /// Beginnings of lines.
-const BEGINNINGS: [Meaning; 6] = [
+const BEGINNINGS: [Meaning; 7] = [
     (
         "halt 1 InitEnded",
         "process 1 ended with that status: -1 of a fault of its own, which --report tells, or killed",
+    ),
+    (
+        "cannot read standard input",
+        "standard input gave an error, and the session ended",
     ),
     (
         "cannot read",
@@ -176,8 +235,8 @@ const BEGINNINGS: [Meaning; 6] = [
     ),
 ];
 
-/// Ends of lines: what is wrong with a line of a play or of an assembly text.
-const ENDS: [Meaning; 8] = [
+/// Ends of lines: what is wrong with a line of a play or of an assembly text, or with a name.
+const ENDS: [Meaning; 10] = [
     (
         ": no such command",
         "a line of a play begins with step, tick, keys, type, until, every, random or repeat",
@@ -200,6 +259,14 @@ const ENDS: [Meaning; 8] = [
     (
         ": 7 Align",
         "an instruction stands at an address that is no multiple of 4 (.pad 4 before it), or an offset is odd",
+    ),
+    (
+        " is named twice",
+        "another file that the words name would be lost: give each output a name of its own",
+    ),
+    (
+        " is in use",
+        "another command works on the image: try again once it has ended",
     ),
 ];
 
@@ -238,9 +305,32 @@ fn among(meanings: &[Meaning], place: Place, line: &str) -> Option<&'static str>
     None
 }
 
-/// What a line means by which the program tells how a job ended, and what to do.
-pub fn meaning(line: &str) -> Option<&'static str> {
-    among(&LINES, Place::Whole, line)
+// The lines of a topic alone.
+fn own(topic: Topic) -> &'static [Meaning] {
+    match topic {
+        Topic::Machine => &MACHINE,
+        Topic::Making => &MAKING,
+        Topic::Image => &[],
+        Topic::Files => &FILES,
+        Topic::Migration => &MIGRATION,
+        Topic::Assembly => &ASSEMBLY,
+        Topic::Program => &PROGRAM,
+    }
+}
+
+// The lines of a topic that come of an image which is read first.
+fn of_image(topic: Topic) -> &'static [Meaning] {
+    match topic {
+        Topic::Machine | Topic::Image | Topic::Files | Topic::Migration => &IMAGE,
+        Topic::Making | Topic::Assembly | Topic::Program => &[],
+    }
+}
+
+/// What a line means by which a command on this topic says how a job ended, and what to do.
+pub fn meaning(topic: Topic, line: &str) -> Option<&'static str> {
+    among(own(topic), Place::Whole, line)
+        .or(among(of_image(topic), Place::Whole, line))
+        .or(among(&COMMON, Place::Whole, line))
         .or(among(&BEGINNINGS, Place::Begin, line))
         .or(among(&ENDS, Place::End, line))
         .or(among(&[IN_VAIN], Place::Within, line))

@@ -34,10 +34,10 @@ pub const ASSEMBLY: [&str; 76] = [
     ".zero", ".pad",
 ];
 
-/// The line of this number of a text, counted from 1.
+/// The line of this number of a text, counted from 1, without its line feed alone.
 pub fn line_of(text: &str, number: usize) -> Option<&str> {
     let mut counted: usize = 0;
-    for line in text.lines() {
+    for line in text.split('\n') {
         counted = counted.saturating_add(1);
         if counted == number {
             return Some(line);

@@ -7,12 +7,12 @@ use explanations::words::{
     ASSEMBLY, CALLS, COMMANDS, MANIFEST, PLAY, SCRIPT, first_word, last_word, line_of,
     number_behind,
 };
-use explanations::{meaning, misfit_of, nearest};
+use explanations::{Topic, meaning, misfit_of, nearest, oddity_of};
 use hosts::{Host, Why};
 use std::alloc::{AllocError, Global};
 use std::io::Write;
 
-// A text that a job was told to read, and what was told of it.
+// A text that a job reads, and what was said of it.
 #[derive(Clone, Copy)]
 struct Told<'a> {
     name: &'a str,
@@ -20,21 +20,66 @@ struct Told<'a> {
     line: &'a str,
 }
 
-// What is said behind a line that is none: the word that was meant, if one is near, or what is wrong.
-fn hint(alloc: Global, word: &str, words: &[&str], told: &str) -> Result<String, AllocError> {
-    match (nearest(alloc, word, words)?, meaning(told)) {
-        (Some(meant), _) => format!(in alloc; ": did you mean {meant}?"),
+// The words with which a line of a text begins.
+#[derive(Clone, Copy)]
+enum Kind {
+    Script,
+    Manifest,
+    Assembly,
+}
+
+impl Kind {
+    fn words(self) -> &'static [&'static str] {
+        match self {
+            Kind::Script => &SCRIPT,
+            Kind::Manifest => &MANIFEST,
+            Kind::Assembly => &ASSEMBLY,
+        }
+    }
+
+    fn topic(self) -> Topic {
+        match self {
+            Kind::Script => Topic::Machine,
+            Kind::Manifest => Topic::Making,
+            Kind::Assembly => Topic::Assembly,
+        }
+    }
+}
+
+// Whether a line of a script is one of a play.
+fn is_of_play(kind: Kind, line: &str) -> bool {
+    let word = first_word(line);
+    matches!(kind, Kind::Script) && PLAY.contains(&word) && !SCRIPT.contains(&word)
+}
+
+// What is wrong with a line that says nothing: the character that doesn't fit, if one doesn't, or what its fault means.
+fn wrong(alloc: Global, kind: Kind, line: &str, told: &str) -> Result<String, AllocError> {
+    let oddity = match kind {
+        Kind::Script | Kind::Manifest => oddity_of(line),
+        Kind::Assembly => None,
+    };
+    match (oddity, meaning(kind.topic(), told)) {
+        _ if is_of_play(kind, line) => format!(in alloc; ": xv6 play takes such lines"),
+        (Some(oddity), _) => format!(in alloc; ": {oddity}"),
         (None, Some(means)) => format!(in alloc; ": {means}"),
         (None, None) => Ok(String::new(alloc)),
     }
 }
 
-// A line of a text that is none: its file, its number, its words, and a hint.
+// What is said after a line that says nothing: the word that was meant, if one is near, or what is wrong.
+fn hint(alloc: Global, kind: Kind, line: &str, told: &str) -> Result<String, AllocError> {
+    match nearest(alloc, first_word(line), kind.words())? {
+        Some(meant) => format!(in alloc; ": did you mean {meant}?"),
+        None => wrong(alloc, kind, line, told),
+    }
+}
+
+// A line of a text that says nothing: its file, its number, its words, and a hint.
 fn odd_line(
     alloc: Global,
     told: Told<'_>,
     number: Option<usize>,
-    words: &[&str],
+    kind: Kind,
 ) -> Result<Option<String>, AllocError> {
     let Some(number) = number else {
         return Ok(None);
@@ -42,8 +87,8 @@ fn odd_line(
     let Some(line) = line_of(told.text, number) else {
         return Ok(None);
     };
+    let more = hint(alloc, kind, line, told.line)?;
     let (name, line) = (told.name, line.trim());
-    let more = hint(alloc, first_word(line), words, told.line)?;
     Ok(Some(format!(in alloc; "{name}:{number}: {line}{more}")?))
 }
 
@@ -57,7 +102,7 @@ fn text_of<H: Host>(alloc: Global, name: &str, host: &mut H) -> Option<String> {
 // What is wrong with a manifest.
 fn of_manifest(alloc: Global, told: Told<'_>) -> Result<Option<String>, AllocError> {
     if let Some(number) = number_behind(told.line, "manifest line ") {
-        return odd_line(alloc, told, Some(number), &MANIFEST);
+        return odd_line(alloc, told, Some(number), Kind::Manifest);
     }
     let Some(misfit) = misfit_of(told.text) else {
         return Ok(None);
@@ -103,8 +148,13 @@ fn of_text<H: Host>(
     let told = Told { name, text, line };
     match *job {
         Job::Mkfs(_) => of_manifest(alloc, told),
-        Job::Asm(_) => odd_line(alloc, told, number_behind(line, "line "), &ASSEMBLY),
-        _ => odd_line(alloc, told, number_behind(line, "script line "), &SCRIPT),
+        Job::Asm(_) => odd_line(alloc, told, number_behind(line, "line "), Kind::Assembly),
+        _ => odd_line(
+            alloc,
+            told,
+            number_behind(line, "script line "),
+            Kind::Script,
+        ),
     }
 }
 
@@ -149,8 +199,11 @@ fn particular<H: Host>(
     }
 }
 
-// Why the system refused the file of a line.
+// Why the system refused the file of a line. Of standard input the line says so itself.
 fn refusal(alloc: Global, line: &str, why: Why) -> Result<Option<String>, AllocError> {
+    if line.starts_with("cannot read standard input") {
+        return Ok(None);
+    }
     let name = match (
         line.strip_prefix("cannot read "),
         line.strip_prefix("cannot write "),
@@ -161,6 +214,19 @@ fn refusal(alloc: Global, line: &str, why: Why) -> Result<Option<String>, AllocE
     match why {
         Why::System(error) => Ok(Some(format!(in alloc; "{name}: {error}")?)),
         Why::NoMemory | Why::Unknown => Ok(None),
+    }
+}
+
+// What a job works on.
+fn topic_of(job: &Job<'_>) -> Topic {
+    match job {
+        Job::Flat(_) | Job::Run(_) | Job::Live(_) | Job::Play(_) | Job::Trace(_) => Topic::Machine,
+        Job::Mkfs(_) => Topic::Making,
+        Job::Check(_) => Topic::Image,
+        Job::Ls(_) | Job::Get(_) | Job::Put(_) => Topic::Files,
+        Job::Migrate(_) => Topic::Migration,
+        Job::Asm(_) => Topic::Assembly,
+        Job::Dump(_) => Topic::Program,
     }
 }
 
@@ -183,7 +249,7 @@ pub fn explain<H: Host, E: Write>(
         Some(told) => Some(told),
         None => particular(alloc, job, line, host)?,
     };
-    match (told, meaning(line)) {
+    match (told, meaning(topic_of(job), line)) {
         (Some(told), _) => say(stderr, told.as_str()),
         (None, Some(means)) => say(stderr, means),
         (None, None) => {}

@@ -168,9 +168,29 @@ const SCRIPTS: &[Said] = &[
         "explain: script:2: stepp 1: did you mean step?\n",
     ),
     (
+        "step 1000000001\n",
+        "script line 1",
+        "explain: script:1: step 1000000001: the line is none of `step N`, `tick N`, `keys HEX` and `type TEXT`; N is up to 1000000000\n",
+    ),
+    (
         "step x\n",
         "script line 1",
-        "explain: script:1: step x: the line is none of `step N`, `tick N`, `keys HEX` and `type TEXT`; N is up to 1000000000\n",
+        "explain: script:1: step x: `x` at column 6\n",
+    ),
+    (
+        "tick 1\nstep 10\r\n",
+        "script line 2",
+        "explain: script:2: step 10: a carriage return at column 8\n",
+    ),
+    (
+        "step 1\nuntil idle 100\n",
+        "script line 2",
+        "explain: script:2: until idle 100: xv6 play takes such lines\n",
+    ),
+    (
+        "step 10 \n",
+        "script line 1",
+        "explain: script:1: step 10: a blank at column 8\n",
     ),
 ];
 
@@ -191,7 +211,7 @@ static MEANT: [(&str, &str); 5] = [
     ("D//e/x", "explain: D//e/x: did you mean /d//e/x?\n"),
     ("/d/E/x", "explain: /d/E/x: did you mean /d/e/x?\n"),
     ("/d/f", NOTHING),
-    ("/c", NOTHING),
+    ("/c", "explain: /c is a device, which has no bytes\n"),
 ];
 
 const NOTHING: &str =

@@ -2,7 +2,7 @@
 
 use blockdev::MemDisk;
 use commandline::Job;
-use explanations::{meaning, nearest};
+use explanations::{Topic, meaning, nearest};
 use hosts::{Failure, Host, disk_of, read_image};
 use listings::{Missing, OpeningFault, ProgramFault, first_missing, read_file, segments};
 use std::alloc::{AllocError, Global};
@@ -24,7 +24,7 @@ fn too_few(alloc: Global, frames: u32, program: &str) -> Result<Option<String>, 
 // What is wrong with the file of process 1's program.
 fn no_program(alloc: Global, fault: Failure<'_>) -> Result<Option<String>, AllocError> {
     let line = format!(in alloc; "{fault}")?;
-    let means = meaning(line.as_str()).unwrap_or("");
+    let means = meaning(Topic::Program, line.as_str()).unwrap_or("");
     Ok(Some(format!(in alloc; "{INIT} is no program: {line}: {means}")?))
 }
 
@@ -106,7 +106,25 @@ fn meant(alloc: Global, missing: &Missing<'_>) -> Result<Option<String>, AllocEr
     }
 }
 
-/// Which name was meant by a path that leads to nothing.
+// Whether a name is among these.
+fn has_name(names: &[String], name: &str) -> bool {
+    for known in names {
+        if known.as_str() == name {
+            return true;
+        }
+    }
+    false
+}
+
+// That a path, each of whose names is there, leads to a device, where that is why a file is not taken out of an image.
+fn of_device(alloc: Global, job: &Job<'_>, path: &str) -> Result<Option<String>, AllocError> {
+    match job {
+        Job::Get(_) => Ok(Some(format!(in alloc; "{path} is a device, which has no bytes")?)),
+        _ => Ok(None),
+    }
+}
+
+/// Which name was meant by a path that leads to nothing, or that it leads to a device.
 pub fn of_path<H: Host>(
     alloc: Global,
     job: &Job<'_>,
@@ -121,6 +139,9 @@ pub fn of_path<H: Host>(
     let Ok(Some(missing)) = first_missing(alloc, disk, path) else {
         return Ok(None);
     };
+    if has_name(missing.names.as_slice(), missing.name) {
+        return of_device(alloc, job, path);
+    }
     match meant(alloc, &missing)? {
         Some(meant) => Ok(Some(format!(in alloc; "{path}: did you mean {meant}?")?)),
         None => Ok(None),

@@ -1,16 +1,32 @@
-//! Lines and what is told of them.
+//! Lines, words and texts, and what is said of them.
 use crate::tests::expect_that;
 use explanations::words::{first_word, line_of, number_behind};
-use explanations::{Noting, meaning, misfit_of, nearest};
+use explanations::{Noting, Topic, meaning, misfit_of, nearest, oddity_of};
 use std::io::{Write, sink};
 use std::process::Abort;
 
-// Lines, and what is said of them.
+// Lines of a command on a machine, and what is said of them.
 static MEANINGS: [(&str, Option<&str>); 4] = [
     ("fault 2 FrameCount", Some("--frames takes 64 to 32768")),
     ("line 3: 5 Label", Some("no line defines the label")),
     ("cannot write a", Some("the file cannot be written")),
     ("fault 14 Odd", None),
+];
+
+// Lines that say nothing, the character that keeps them from it, and its column.
+static ODDITIES: [(&str, Option<(char, usize)>); 12] = [
+    ("step 10 ", Some((' ', 8))),
+    ("step 10\r", Some(('\r', 8))),
+    ("\tstep 10", Some(('\t', 1))),
+    (" step 10", Some((' ', 1))),
+    ("step +1", Some(('+', 6))),
+    ("tick 1 # one", Some((' ', 7))),
+    ("# a comment", Some(('#', 1))),
+    ("keys 0A", Some(('A', 7))),
+    ("dev /console 1 0\r", Some(('\r', 17))),
+    ("dir /a ", Some((' ', 7))),
+    ("step 1000000001", None),
+    ("", None),
 ];
 
 static SOME_MEANING: [&str; 2] = [
@@ -96,14 +112,22 @@ fn expect_meanings(rt: &impl Abort) {
             rt,
             ("a meaning", line),
             "what is said",
-            meaning(line) == *said,
+            meaning(Topic::Machine, line) == *said,
         );
     }
 }
 
 fn expect_some_meanings(rt: &impl Abort) {
     for line in &SOME_MEANING {
-        expect_that(rt, ("a meaning", line), "anything", meaning(line).is_some());
+        let said = meaning(Topic::Machine, line);
+        expect_that(rt, ("a meaning", line), "anything", said.is_some());
+    }
+}
+
+fn expect_oddities(rt: &impl Abort) {
+    for (line, wanted) in &ODDITIES {
+        let found = oddity_of(line).map(|oddity| (oddity.character, oddity.column));
+        expect_that(rt, ("an odd line", line), "its character", found == *wanted);
     }
 }
 
@@ -117,6 +141,7 @@ fn expect_names(rt: &(impl Abort + AllocGlobal)) {
 fn expect_lines(rt: &(impl Abort + AllocGlobal)) {
     expect_meanings(rt);
     expect_some_meanings(rt);
+    expect_oddities(rt);
     expect_names(rt);
     expect_manifests(rt);
     expect_odd_manifest(rt);
