@@ -15,7 +15,8 @@ a small tmpfs where one can be mounted (that needs root, or `unshare`), and then
 OUT must have the old bytes and no other file be left where the program answers 1, and the new bytes where it answers 0.
 
 `places` saves to a link, to a link that leads nowhere, to a pipe and to standard output, over a file of permissions of its own,
-over one that may not be written, and into a folder that takes no new file, with a file that may be written and without.
+over one that may not be written, and into a folder that takes no new file, with a file that may be written and without. It puts
+twenty files into one image at once, saves beside files that killed programs left, and names outputs twice.
 
 `memory` checks an endless file, boots one, and makes images of a manifest with 2000 lines that name a file of 270,000 bytes,
 and of one that names an endless file: at most 64 MB over the size of the image, or of the largest one where it is read. On a
@@ -25,6 +26,7 @@ The status is 1 where something was lost.
 """
 
 import argparse
+import fcntl
 import hashlib
 import os
 import pathlib
@@ -296,11 +298,12 @@ class Places:
 
     def modes(self):
         place = self.place("modes")
-        for mode in (0o600, 0o640, 0o666, 0o755):
-            out = self.old(place / f"{mode:o}", mode)
+        for mode in (0o600, 0o640, 0o666, 0o755, 0o4755):
+            out = self.old(place / f"{mode:o}")
             os.chown(out, *(65534, 65534) if self.user else (-1, -1))
+            os.chmod(out, mode)
             status = self.save(out)
-            self.expect(f"permissions {mode:o}", status == 0 and out.stat().st_mode & 0o7777 == mode and out.read_bytes() == self.new)
+            self.expect(f"permissions {mode:o}", status == 0 and out.stat().st_mode & 0o7777 == mode & 0o777 and out.read_bytes() == self.new)
         out = self.old(place / "closed", 0o444)
         self.expect("a file that may not be written", self.save(out) == 1 and out.read_bytes() == b"old")
         self.expect("a new file", self.save(place / "new") == 0 and (place / "new").read_bytes() == self.new)
@@ -323,6 +326,50 @@ class Places:
         self.expect("standard output, a file", ran.returncode == 0 and (place / "shown").stat().st_size == 32768)
         self.expect("a folder", self.save(place) == 1)
 
+    def left(self):
+        """Files that killed programs left are removed by the next save, and those that a program holds are not."""
+        place = self.place("left")
+        left, held = self.old(place / ".xv6-new-0"), self.old(place / ".xv6-new-1")
+        with open(held) as file:
+            fcntl.flock(file, fcntl.LOCK_EX)
+            status = self.save(place / "out")
+        self.expect("a file that was left, and one that is held", status == 0 and begun(place) == [held.name] and not left.exists())
+        self.expect("the same once nobody holds it", self.save(place / "out") == 0 and not begun(place))
+
+    def at_once(self):
+        """Programs that put a file into one image at once."""
+        place = self.place("once")
+        done(self.program, "mkfs", "--size", "100", "/dev/null", str(place / "image"), cwd=self.folder)
+        os.chmod(place / "image", 0o666)
+        words = [[self.program, "put", "image", f"/n{k}", "../script"] for k in range(20)]
+        running = [subprocess.Popen(put, cwd=place, stderr=subprocess.DEVNULL, **self.user) for put in words]
+        statuses = {put.wait() for put in running}
+        listed = done(self.program, "ls", "image", "/", cwd=place).stdout.split()
+        self.expect("twenty puts at once", statuses == {0} and {f"n{k}" for k in range(20)} <= set(listed))
+        with open(place / "image") as file:
+            fcntl.flock(file, fcntl.LOCK_EX)
+            put = subprocess.run(words[0], cwd=place, capture_output=True, text=True, **self.user)
+        self.expect("an image that another program holds", (put.returncode, put.stderr) == (1, "image is in use\n"))
+
+    def twice(self):
+        """Outputs that are another file of the words."""
+        place = self.place("twice")
+        for name in ("image", "script"):
+            (place / name).write_bytes((self.folder / name).read_bytes())
+        (place / "link").symlink_to("image")
+        before = {path.name: path.read_bytes() for path in place.iterdir()}
+        rows = [
+            ("j", "run", "--save", "j", "--json", "j", "image", "script"), ("./j", "run", "--save", "j", "--json", "./j", "image", "script"),
+            ("image", "run", "--json", "image", "image", "script"), ("link", "live", "--record", "link", "image"),
+            ("script", "play", "--script", "script", "image", "script"), ("t", "trace", "--text", "t", "--perfetto", "t", "image", "script"),
+            ("c", "trace", "--text", "t", "--perfetto", "c", "--commits", "c", "image", "script"), ("image", "get", "image", "/init", "image"),
+            ("script", "flat", "--json", "script", "image", "script"),
+        ]
+        for name, *words in rows:
+            ran = subprocess.run([self.program, *words], cwd=place, capture_output=True, text=True, stdin=subprocess.DEVNULL)
+            same = before == {path.name: path.read_bytes() for path in place.iterdir()}
+            self.expect(" ".join(words), (ran.returncode, ran.stdout, ran.stderr) == (1, "", f"{name} is named twice\n") and same)
+
     def closed(self):
         place = self.place("shut")
         out = self.old(place / "out")
@@ -340,6 +387,9 @@ def places(arguments, folder):
     tried.links()
     tried.modes()
     tried.pipes()
+    tried.left()
+    tried.at_once()
+    tried.twice()
     tried.closed()
     return not tried.wrong
 
@@ -383,6 +433,7 @@ def memory(arguments, folder):
     with open(folder / "long.img", "wb") as file:
         file.truncate(3 << 30)
     rows = [
+        (["dump", "/dev/zero"], 2, 1, "fault 1 Magic"),
         (["check", "/dev/zero"], 128, 1, "fault 1 Length"),
         (["check", "long.img"], 128, 1, "fault 1 Length"),
         (["run", "/dev/zero", "empty"], 128, 1, "fault 1 Length"),

@@ -1,6 +1,6 @@
 #!/usr/bin/env python3
 """terminal.py PROGRAM IMAGE: sessions at a pseudo-terminal, as `make live` has them: ^A x, ^C, keys while a program spins, lines that
-come slowly, a terminal that is closed, and input from a pipe. The terminal is set back exactly, and each record replays to the same console."""
+come slowly, a terminal that is closed, input from a pipe, and standard input that gives errors or doesn't wait. The terminal is set back exactly, and each record replays to the same console."""
 import os
 import pty
 import select
@@ -202,6 +202,43 @@ def close(folder):
     assert b"seen\n" in session.replay()
 
 
+def hang_up(folder):
+    """A terminal that goes while a machine works ends the session within two seconds, also where SIGHUP is ignored."""
+    settings = signal.signal(signal.SIGHUP, signal.SIG_IGN)
+    try:
+        session = Session(folder, with_program(folder, "spin", SPIN))
+    finally:
+        signal.signal(signal.SIGHUP, settings)
+    session.until(b"$ ")
+    session.type(b"spin\n")
+    session.until(b"spin\n")
+    os.close(session.follow)
+    os.close(session.lead)
+    began = time.time()
+    session.child.wait(timeout=20)
+    assert time.time() - began < 2, time.time() - began
+
+
+def errors(folder):
+    """An error of standard input is said, status 1; where it doesn't wait for bytes the session does."""
+    place = os.open(folder, os.O_RDONLY)
+    refused = subprocess.run([PROGRAM, "live", IMAGE], stdin=place, capture_output=True, text=True, timeout=20)
+    os.close(place)
+    last = refused.stderr.splitlines()[-1]
+    assert refused.returncode == 1 and last.startswith("cannot read standard input: "), refused
+    reader, writer = os.pipe()
+    os.set_blocking(reader, False)
+    session = subprocess.Popen([PROGRAM, "live", IMAGE], stdin=reader, stdout=subprocess.PIPE, stderr=subprocess.PIPE)
+    time.sleep(0.5)
+    assert session.poll() is None, session.stderr.read()
+    os.write(writer, b"echo hi\n")
+    time.sleep(0.5)
+    assert session.poll() is None, session.stderr.read()
+    os.close(writer)
+    console, told = session.communicate(timeout=20)
+    assert session.returncode == 0 and b"hi\n" in console and told == b"running\n", (console, told)
+
+
 def slow(folder):
     """Lines come as they are printed; ^C loses none that came, and the record has them."""
     image = with_program(folder, "slow", SLOW)
@@ -245,7 +282,7 @@ def pipe(folder):
     assert (lost.returncode, lost.stderr) == (1, b"halt 3 Console\n"), lost
 
 
-for part in (leave, keep, kill, terminate, spin, slow, close, pipe):
+for part in (leave, keep, kill, terminate, spin, slow, close, hang_up, pipe, errors):
     with tempfile.TemporaryDirectory() as place:
         part(place)
     print(part.__name__, "ok", flush=True)

@@ -8,6 +8,7 @@ mod openings;
 mod plays;
 mod program_files;
 mod progress;
+mod reading;
 mod refusals;
 mod runs;
 mod telling;

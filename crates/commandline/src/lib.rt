@@ -4,9 +4,11 @@
 mod command_line;
 mod declarations;
 mod jobs;
+mod names;
 
 pub use command_line::{explains, job};
 pub use jobs::{
     Asm, Check, Dump, Flat, Get, Job, Lines, Live, Ls, Migrate, Mkfs, Part, Play, Put, Run,
     Telling, Trace,
 };
+pub use names::{Names, names_of};

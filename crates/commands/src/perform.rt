@@ -6,6 +6,7 @@ use commandline::{Job, Mkfs};
 use hosts::{Failure, Host, Screen, print, read, tell};
 use image::Summary;
 use image_commands::{images, openings, program_files};
+use jobfiles::named_twice;
 use run_commands::{Cleared, Meter, plays, scripted, sessions};
 use std::alloc::Global;
 use std::fmt;
@@ -96,7 +97,8 @@ fn perform_on<H: Host, S: Screen, W: Write, E: Write>(
     }
 }
 
-/// Does the job, with the host's files, and answers the status to exit with: 0 where it was done.
+/// Does the job, with the host's files, and returns the status to exit with: 0 where it was done. Nothing is read or
+/// written if an output is another file that the words name.
 /// The console's bytes and what is found or listed go to `stdout`, and all else that is told to `stderr`.
 pub fn perform<H: Host, W: Write, E: Write>(
     alloc: Global,
@@ -105,6 +107,9 @@ pub fn perform<H: Host, W: Write, E: Write>(
     stdout: &mut W,
     stderr: &mut E,
 ) -> u8 {
+    if let Some(name) = named_twice(job, host) {
+        return tell(&Failure::Twice(name), stderr);
+    }
     let meter = Meter::new(screen_of(job, host));
     let mut stdout = Cleared::new(stdout, &meter);
     perform_on(alloc, job, host, &meter, &mut stdout, stderr)

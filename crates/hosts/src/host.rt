@@ -1,11 +1,15 @@
 //! Where files come from and go to.
-ghost use Rattle.std.specs.Prelude.{◌≤◌, IfOk, length, vec_len};
+ghost use Rattle.std.specs.Prelude.{◌≡◌, ◌≤◌, IfOk, IfSome, IsTrue, length, vec_len};
 
 use std::{fmt, io};
 
 /// A file could not be read or written.
 #[derive(Clone, Copy)]
 pub struct HostFault;
+
+/// Another job holds a file.
+#[derive(Clone, Copy)]
+pub struct InUse;
 
 /// Why the last file that could not be read or written could not.
 #[derive(Clone, Copy)]
@@ -81,18 +85,37 @@ pub trait Host {
         Ok(Front { bytes, length })
     }
 
+    /// The whole of a file that begins with these bytes; of another one its front, at least as long. A host that can reads
+    /// no more.
+    fn read_marked(&mut self, name: &str, _mark: &[u8]) -> Result<Vec<u8>, HostFault> {
+        self.read(name)
+    }
+
+    /// Whether two names are of one file, so that what is written to the one is lost if the other is written.
+    fn is_same(&mut self, one: &str, other: &str) -> bool
+        ensures { one.now ≡ other.now → IsTrue result }
+    {
+        one == other
+    }
+
+    /// Holds a file to the end of the job, so that no other job that holds it reads or writes it meanwhile. A host of one
+    /// job has nothing to do.
+    fn hold(&mut self, _name: &str) -> Result<(), InUse> {
+        Ok(())
+    }
+
     /// Puts bytes behind those of a file that is there.
     fn append(&mut self, _name: &str, _bytes: &[u8]) -> Result<(), HostFault> {
         Err(HostFault)
     }
 
-    /// Reads from standard input into the front of `bytes`, and tells how many they are: none at its end, and none where a terminal
-    /// that waits only a moment was given none.
-    fn type_in(&mut self, bytes: &mut [u8]) -> Result<usize, HostFault>
-        ensures { IfOk result (λ count. count ≤ length bytes.old) }
+    /// Reads from standard input into the front of `bytes`, and returns how many they are: 0 at its end. `None` is nothing so
+    /// far, from a terminal that waits only a moment, and from an input that doesn't wait.
+    fn type_in(&mut self, bytes: &mut [u8], _is_terminal: bool) -> Result<Option<usize>, HostFault>
+        ensures { IfOk result (λ typed. IfSome typed (λ count. count ≤ length bytes.old)) }
     {
         let _ = bytes.len();
-        Ok(0)
+        Ok(Some(0))
     }
 
     /// Whether a second has passed since standard input was read, so that it is read while the machine works, too.

@@ -34,6 +34,26 @@ pub fn read_front<'a, H: Host>(
     }
 }
 
+/// The bytes of a file that begins with these, and of another one its front.
+pub fn read_marked<'a, H: Host>(
+    host: &mut H,
+    name: &'a str,
+    mark: &[u8],
+) -> Result<Vec<u8>, Failure<'a>> {
+    match host.read_marked(name, mark) {
+        Ok(bytes) => Ok(bytes),
+        Err(_) => Err(refused(host, Failure::Read(name))),
+    }
+}
+
+/// Holds a file to the end of the job, which other jobs may hold.
+pub fn hold<'a, H: Host>(host: &mut H, name: &'a str) -> Result<(), Failure<'a>> {
+    match host.hold(name) {
+        Ok(()) => Ok(()),
+        Err(_) => Err(Failure::InUse(name)),
+    }
+}
+
 /// Puts bytes behind those of a file.
 pub fn append<'a, H: Host>(host: &mut H, name: &'a str, bytes: &[u8]) -> Result<(), Failure<'a>> {
     match host.append(name, bytes) {

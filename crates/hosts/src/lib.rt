@@ -6,7 +6,7 @@ mod host_files;
 mod images;
 mod report;
 
-pub use host::{Front, Host, HostFault, NoScreen, Screen, Why};
-pub use host_files::{append, read, read_front, write};
+pub use host::{Front, Host, HostFault, InUse, NoScreen, Screen, Why};
+pub use host_files::{append, hold, read, read_front, read_marked, write};
 pub use images::{bytes_of, disk_of, read_image};
 pub use report::{End, Failure, print, refuse, tell};

@@ -2,6 +2,7 @@
 ghost use Rattle.std.specs.Prelude.{◌≡◌};
 ghost use Rattle.hosts.specs.Reports.{assembly_name, assembly_number, boot_name, boot_number, image_name, image_number, make_name, make_number, migrate_name, migrate_number, program_name, program_number, status_of, tree_name, tree_number};
 
+use crate::host::Why;
 use asm::{AsmFault, AsmKind};
 use clap::Error;
 use clap::error::ErrorKind;
@@ -52,6 +53,12 @@ pub enum Failure<'a> {
     Read(&'a str),
     /// The file of this name cannot be written.
     Write(&'a str),
+    /// What is written to this name would be lost, or another file that the words name.
+    Twice(&'a str),
+    /// Another job holds the file of this name.
+    InUse(&'a str),
+    /// Standard input cannot be read.
+    Input(Why),
     /// The line of this number in the script is no command.
     Script(usize),
     /// The line of this number in the manifest can't be read.
@@ -83,6 +90,9 @@ impl fmt::Display for Failure<'_> {
         match self {
             Failure::Read(name) => write_name(f, "cannot read ", name),
             Failure::Write(name) => write_name(f, "cannot write ", name),
+            Failure::Twice(name) => write!(f, "{name} is named twice"),
+            Failure::InUse(name) => write!(f, "{name} is in use"),
+            Failure::Input(why) => write_why(f, *why),
             Failure::Script(line) => write_number(f, "script line ", *line),
             Failure::Manifest(line) => write_number(f, "manifest line ", *line),
             Failure::Boot(fault) => write_fault(f, boot_fault(*fault)),
@@ -102,6 +112,15 @@ impl fmt::Display for Failure<'_> {
 // The line that ends with a name.
 fn write_name<W: fmt::Write>(f: &mut fmt::Formatter<W>, front: &str, name: &str) -> fmt::Result {
     write!(f, "{front}{name}")
+}
+
+// That standard input cannot be read, and why.
+fn write_why<W: fmt::Write>(f: &mut fmt::Formatter<W>, why: Why) -> fmt::Result {
+    f.write_str("cannot read standard input")?;
+    match why {
+        Why::System(error) => write!(f, ": {error}"),
+        Why::NoMemory | Why::Unknown => Ok(()),
+    }
 }
 
 // The line that ends with the number of a text's line.

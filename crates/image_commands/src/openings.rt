@@ -2,7 +2,7 @@
 
 use blockdev::MemDisk;
 use commandline::{Get, Put};
-use hosts::{Failure, Host, disk_of, read_front, read_image, write};
+use hosts::{Failure, Host, disk_of, hold, read_front, read_image, write};
 use layout::LONGEST;
 use listings::{OpeningFault, read_file, write_file};
 use std::alloc::Global;
@@ -43,9 +43,10 @@ pub fn get<'a, H: Host, W: Write>(
     Ok(())
 }
 
-/// The command `put`. Of the host's file no more is read than shows that no file can have so many bytes. The image is written
-/// once all of it is done.
+/// The command `put`. The image is held before it is read, so that of jobs that put files at once each finds what the
+/// others put. Of the host's file no more is read than shows that it is too long. The image is written once all is done.
 pub fn put<'a, H: Host>(alloc: Global, words: Put<'a>, host: &mut H) -> Result<(), Failure<'a>> {
+    hold(host, words.image)?;
     let disk = disk_at(host, words.image)?;
     let bytes = read_front(host, words.file, LONGEST + 1)?.bytes;
     match write_file(alloc, disk, words.path.as_bytes(), bytes.as_slice()) {

@@ -2,10 +2,13 @@
 
 use asm::assemble;
 use commandline::{Asm, Dump};
-use hosts::{Failure, Host, read, write};
+use hosts::{Failure, Host, read, read_marked, write};
 use listings::{ProgramFault, segments, write_program};
 use std::alloc::Global;
 use std::io::Write;
+
+/// The bytes with which a program file begins.
+const MARK: &[u8] = b"\x7fELF";
 
 /// The command `asm`.
 pub fn asm<'a, H: Host>(alloc: Global, words: Asm<'a>, host: &mut H) -> Result<(), Failure<'a>> {
@@ -20,14 +23,15 @@ pub fn asm<'a, H: Host>(alloc: Global, words: Asm<'a>, host: &mut H) -> Result<(
     write(host, words.elf, file.as_slice())
 }
 
-/// The command `dump`. All headers are read before anything is shown.
+/// The command `dump`. All headers are read before anything is shown. Of a file that doesn't begin as an ELF file only the
+/// front is read.
 pub fn dump<'a, H: Host, W: Write>(
     alloc: Global,
     words: Dump<'a>,
     host: &mut H,
     stdout: &mut W,
 ) -> Result<(), Failure<'a>> {
-    let file = read(host, words.elf)?;
+    let file = read_marked(host, words.elf, MARK)?;
     let segments = match segments(alloc, file.as_slice()) {
         Ok(segments) => segments,
         Err(ProgramFault::Refused(fault)) => return Err(Failure::Program(fault)),

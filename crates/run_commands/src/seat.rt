@@ -5,7 +5,7 @@ ghost use Rattle.run_commands.specs.declared.seat.Typed.TheVariants.{Key};
 use crate::progress::Meter;
 use arrayvec::ArrayVec;
 use blockdev::BlockDev;
-use hosts::{Failure, Host, Screen, append};
+use hosts::{Failure, Host, Screen, Why, append};
 use live::{Given, MOST_KEYS, Mood, Move, Terminal};
 use machine::{Machine, ProcessState, Seen};
 use std::alloc::{AllocError, Global};
@@ -75,6 +75,8 @@ pub struct Seat<'a, 'b, H, S, E> {
     is_escaped: bool,
     // Why the record could not be written.
     failure: Option<Failure<'a>>,
+    // Why standard input could not be read.
+    unread: Option<Failure<'a>>,
 }
 
 impl<'a, 'b, H: Host, S: Screen, E: Write> Seat<'a, 'b, H, S, E> {
@@ -97,6 +99,7 @@ impl<'a, 'b, H: Host, S: Screen, E: Write> Seat<'a, 'b, H, S, E> {
             typed: ArrayVec::new(),
             is_escaped: false,
             failure: None,
+            unread: None,
         }
     }
 
@@ -114,14 +117,24 @@ impl<'a, 'b, H: Host, S: Screen, E: Write> Seat<'a, 'b, H, S, E> {
         self.lines.clear();
     }
 
-    /// Writes the record to its end. An error says why it could not all be written.
+    /// Writes the record to its end. An error says why it could not all be written, or why standard input could not be
+    /// read.
     pub fn finish(mut self) -> Result<(), Failure<'a>> {
         self.meter.clear();
         self.write_out();
-        match self.failure {
+        match self.failure.or(self.unread) {
             None => Ok(()),
             Some(failure) => Err(failure),
         }
+    }
+
+    // Ends the session where standard input can't be read, and keeps why, if the host says so.
+    fn stop(&mut self) -> Given {
+        match self.host.why() {
+            Why::Unknown => {}
+            why => self.unread = Some(Failure::Input(why)),
+        }
+        Given::End
     }
 
     // Whether the keyboard is read where the machine does this.
@@ -137,10 +150,11 @@ impl<'a, 'b, H: Host, S: Screen, E: Write> Seat<'a, 'b, H, S, E> {
     fn read(&mut self) -> Result<bool, Given> {
         self.write_out();
         let mut bytes = [0; MOST_KEYS];
-        match self.host.type_in(&mut bytes) {
-            Ok(0) if self.is_terminal => Ok(false),
-            Ok(0) | Err(_) => Err(Given::End),
-            Ok(count) => {
+        match self.host.type_in(&mut bytes, self.is_terminal) {
+            Ok(None) => Ok(false),
+            Ok(Some(0)) => Err(Given::End),
+            Err(_) => Err(self.stop()),
+            Ok(Some(count)) => {
                 for byte in bytes.iter().take(count) {
                     let _ = self.typed.try_push(*byte);
                 }

@@ -1,10 +1,11 @@
 //! The host of the program: real files.
-ghost use Rattle.std.specs.Prelude.{◌≤◌, IfOk, length, vec_len};
+ghost use Rattle.std.specs.Prelude.{◌≡◌, ◌≤◌, IfOk, IfSome, IsTrue, length, vec_len};
 
-use commands::{Front, Host, HostFault, Screen, Why};
+use commands::{Front, Host, HostFault, InUse, Screen, Why};
+use outputs::Holding;
 use std::alloc::AllocError;
 use std::fmt;
-use std::fs::{self, OpenFile, OpenOptions};
+use std::fs::{self, File, OpenFile, OpenOptions};
 use std::io::{self, ErrorKind, Read, Write};
 use std::rt::Files;
 use std::time::{Clock, Duration};
@@ -24,8 +25,17 @@ const REST: u64 = 1;
 /// How many milliseconds a terminal waits at least before it answers that nothing was typed.
 const MOMENT: u128 = 10;
 
-/// How many answers of nothing in a row may come sooner: a terminal that is gone gives no others.
+/// How many reads of nothing in a row end sooner at a terminal that is gone.
 const MOST_EARLY: u32 = 100;
+
+/// What the system says of standard input that is closed: the program was begun without one.
+const CLOSED: i32 = 9;
+
+/// For how many milliseconds standard input that doesn't wait, and a file that another job holds, are left alone.
+const PAUSE: u64 = 10;
+
+/// How often it is tried to hold a file: for ten seconds.
+const MOST_TRIES: u32 = 1000;
 
 /// Which of the standard streams are terminals.
 #[derive(Clone, Copy)]
@@ -66,11 +76,11 @@ pub struct RealFiles<'a, R> {
     error: Option<io::Error>,
     // When standard input was last read, by the clock.
     read_at: Option<Duration>,
-    // How many reads of it in a row gave nothing, and at once.
-    early: u32,
+    // The file that is held to the end of the job.
+    held: Option<File>,
 }
 
-impl<'a, R: Files + Clock + Input + Eprint + AllocGlobal> RealFiles<'a, R> {
+impl<'a, R: Files<File = File> + Clock + Input + Eprint + AllocGlobal> RealFiles<'a, R> {
     /// The files of this system, whose standard streams are these terminals.
     pub fn new(rt: &'a R, terminals: Terminals) -> RealFiles<'a, R> {
         RealFiles {
@@ -78,20 +88,32 @@ impl<'a, R: Files + Clock + Input + Eprint + AllocGlobal> RealFiles<'a, R> {
             terminals,
             error: None,
             read_at: None,
-            early: 0,
+            held: None,
         }
     }
 
-    // Counts a read that began then, and whether standard input is still there.
-    fn is_there(&mut self, begun: Option<Duration>, count: usize) -> bool {
-        self.early = match (begun, self.read_at) {
-            (Some(begun), Some(end))
-                if count == 0 && end.saturating_sub(begun).as_millis() < MOMENT => {
-                self.early.saturating_add(1)
+    // Whether the last read of standard input, which began then, has ended at once.
+    fn is_early(&self, begun: Option<Duration>) -> bool {
+        match (begun, self.read_at) {
+            (Some(begun), Some(end)) => end.saturating_sub(begun).as_millis() < MOMENT,
+            _ => false,
+        }
+    }
+
+    // Reads standard input once. Nothing was typed where a signal interrupts it, or where it doesn't wait.
+    fn read_once(&mut self, bytes: &mut [u8]) -> io::Result<Option<usize>>
+        ensures { IfOk result (λ typed. IfSome typed (λ count. count ≤ length bytes.old)) }
+    {
+        match self.rt.reader().read(bytes) {
+            Ok(count) => Ok(Some(count)),
+            Err(error) if error.raw_os_error() == Some(CLOSED) => Ok(Some(0)),
+            Err(error) if error.kind() == ErrorKind::Interrupted => Ok(None),
+            Err(error) if error.kind() == ErrorKind::WouldBlock => {
+                self.rt.sleep(Duration::from_millis(PAUSE));
+                Ok(None)
             }
-            _ => 0,
-        };
-        self.early <= MOST_EARLY
+            Err(error) => Err(error),
+        }
     }
 
     // What came of a call. Its error is kept.
@@ -149,13 +171,29 @@ fn front<R: Files + AllocGlobal>(rt: &R, name: &str, most: usize) -> io::Result<
     Ok(Front { bytes, length })
 }
 
+// The whole of a file that begins with these bytes, and of another one the first piece.
+fn marked<R: Files + AllocGlobal>(rt: &R, name: &str, mark: &[u8]) -> io::Result<Vec<u8>> {
+    let mut file = fs::open(rt, name)?;
+    let mut bytes = Vec::new(rt.alloc());
+    let mut piece = vec![in rt.alloc(); 0; MOST_PIECE]?;
+    read_rest(
+        &mut (&mut file).take(mark.len() as u64),
+        &mut piece,
+        &mut bytes,
+    )?;
+    if bytes.starts_with(mark) {
+        read_rest(&mut file, &mut piece, &mut bytes)?;
+    }
+    Ok(bytes)
+}
+
 // Puts bytes behind those of a file.
 fn append<R: Files>(rt: &R, name: &str, bytes: &[u8]) -> io::Result<()> {
     let mut file = OpenOptions::new().append(true).open(rt, name)?;
     file.write_all(bytes)
 }
 
-impl<'a, R: Files + Clock + Input + Eprint + AllocGlobal> Host for RealFiles<'a, R> {
+impl<'a, R: Files<File = File> + Clock + Input + Eprint + AllocGlobal> Host for RealFiles<'a, R> {
     type Screen = RealScreen<'a, R>;
 
     fn screen(&self) -> Option<RealScreen<'a, R>> {
@@ -190,24 +228,45 @@ impl<'a, R: Files + Clock + Input + Eprint + AllocGlobal> Host for RealFiles<'a,
         self.told(done)
     }
 
-    fn type_in(&mut self, bytes: &mut [u8]) -> Result<usize, HostFault>
-        ensures { IfOk result (λ count. count ≤ length bytes.old) }
+    fn read_marked(&mut self, name: &str, mark: &[u8]) -> Result<Vec<u8>, HostFault> {
+        let done = marked(self.rt, name, mark);
+        self.told(done)
+    }
+
+    fn is_same(&mut self, one: &str, other: &str) -> bool
+        ensures { one.now ≡ other.now → IsTrue result }
     {
-        let begun = self.rt.monotonic().ok();
-        let count = match self.rt.reader().read(bytes) {
-            Ok(count) => count,
-            Err(error) if error.kind() == ErrorKind::Interrupted => 0,
-            Err(error) => {
-                self.error = Some(error);
-                return Err(HostFault);
+        one == other || outputs::is_same(self.rt, one, other)
+    }
+
+    fn hold(&mut self, name: &str) -> Result<(), InUse> {
+        for _ in 0..MOST_TRIES {
+            match outputs::hold(self.rt, name) {
+                Holding::Held(file) => {
+                    self.held = Some(file);
+                    return Ok(());
+                }
+                Holding::Unheld => return Ok(()),
+                Holding::Busy => self.rt.sleep(Duration::from_millis(PAUSE)),
             }
-        };
-        self.read_at = self.rt.monotonic().ok();
-        if self.is_there(begun, count) {
-            Ok(count)
-        } else {
-            Err(HostFault)
         }
+        Err(InUse)
+    }
+
+    fn type_in(&mut self, bytes: &mut [u8], is_terminal: bool) -> Result<Option<usize>, HostFault>
+        ensures { IfOk result (λ typed. IfSome typed (λ count. count ≤ length bytes.old)) }
+    {
+        for _ in 0..MOST_EARLY {
+            let begun = self.rt.monotonic().ok();
+            let typed = self.read_once(bytes);
+            self.read_at = self.rt.monotonic().ok();
+            match self.told(typed)? {
+                Some(0) if is_terminal && self.is_early(begun) => {}
+                Some(0) if is_terminal => return Ok(None),
+                typed => return Ok(typed),
+            }
+        }
+        Ok(Some(0))
     }
 
     fn is_due(&mut self) -> bool {

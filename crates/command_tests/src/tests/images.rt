@@ -133,8 +133,17 @@ const BLOCKS: &[Image] = &[
     ("file /a host", 25601, 32, 16, Err("fault 3 Blocks\n")),
 ];
 
-// A file that is longer than any.
-const LONG_FILE: &[Image] = &[("file /a host", 67_382_273, 32, 16, Err("fault 3 Blocks\n"))];
+// A file that is longer than any: it isn't cut, also where all blocks would hold it.
+const LONG_FILE: &[Image] = &[
+    ("file /a host", 67_382_273, 32, 16, Err("fault 3 Blocks\n")),
+    (
+        "file /a host",
+        67_382_273,
+        131_072,
+        16,
+        Err("fault 3 Blocks\n"),
+    ),
+];
 
 const FOURTEEN: &str = "dir /a\ndir /b\ndir /c\ndir /d\ndir /e\ndir /f\ndir /g\n\
     dir /h\ndir /i\ndir /j\ndir /k\ndir /l\ndir /m\ndir /n\n";

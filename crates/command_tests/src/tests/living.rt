@@ -1,5 +1,5 @@
 //! Stored sessions at a keyboard.
-ghost use Rattle.std.specs.Prelude.{◌≤◌, IfOk, length};
+ghost use Rattle.std.specs.Prelude.{◌≤◌, IfOk, IfSome, length};
 
 use crate::tests::narrow_outputs::{expect_narrow, output_of};
 use crate::tests::runs::{WITH_CONSOLE, with_image};
@@ -62,8 +62,8 @@ impl Host for Desk {
     }
 
     // Gives two keys at most.
-    fn type_in(&mut self, bytes: &mut [u8]) -> Result<usize, HostFault>
-        ensures { IfOk result (λ count. count ≤ length bytes.old) }
+    fn type_in(&mut self, bytes: &mut [u8], is_terminal: bool) -> Result<Option<usize>, HostFault>
+        ensures { IfOk result (λ typed. IfSome typed (λ count. count ≤ length bytes.old)) }
     {
         let count = self.typed.len().min(bytes.len()).min(2);
         for place in bytes.iter_mut().take(count) {
@@ -71,7 +71,7 @@ impl Host for Desk {
                 *place = self.typed.remove(0);
             }
         }
-        Ok(count)
+        Ok((count > 0 || !is_terminal).then_some(count))
     }
 }
 
@@ -206,7 +206,17 @@ const FAILS: Refused = Refused {
     wanted: ("", "", 1),
 };
 
-static REFUSED: [Refused; 7] = [
+static REFUSED: [Refused; 9] = [
+    Refused {
+        script: Some("image"),
+        wanted: ("", "image is named twice\n", 1),
+        ..FAILS
+    },
+    Refused {
+        save: Some("record"),
+        wanted: ("", "record is named twice\n", 1),
+        ..FAILS
+    },
     Refused {
         image: "none",
         wanted: ("", "cannot read none\n", 1),
@@ -214,6 +224,7 @@ static REFUSED: [Refused; 7] = [
     },
     Refused {
         image: "record",
+        script: None,
         wanted: ("", "fault 1 Length\n", 1),
         ..FAILS
     },

@@ -1,6 +1,7 @@
 //! Standard outputs that take so many bytes, or can't be flushed.
 use crate::tests::images::{CHECK, mkfs, with_files};
 use crate::tests::listing::ls;
+use crate::tests::openings::{get, put, with_letters};
 use crate::tests::program_files::{DUMP, with_program};
 use crate::tests::runs::{REPEATS, WITH_CONSOLE, put_text, run, with_image};
 use crate::tests::{
@@ -99,6 +100,12 @@ const ROOT: &str =
 static LISTS: [Output; 2] = [
     (14, true, ".             ", UNWRITTEN, 1),
     (1000, false, ROOT, UNWRITTEN, 1),
+];
+
+static GETS: [Output; 3] = [
+    (2, true, "ab", UNWRITTEN, 1),
+    (300, false, "abc", UNWRITTEN, 1),
+    (300, true, "abc", "", 0),
 ];
 
 static DUMPS: [Output; 3] = [
@@ -223,6 +230,9 @@ fn expect_narrow_texts(rt: &(impl Abort + AllocGlobal)) {
         &list,
         &LISTS,
     );
+    let mut files = with_letters(rt, 3);
+    expect(rt, ("put", "/f"), &mut files, &put("/f"), DONE);
+    expect_outputs(rt, "a file", files, &get("/f"), &GETS);
     expect_outputs(rt, "a dump", with_program(rt, "ret", &[]), &DUMP, &DUMPS);
 }
 

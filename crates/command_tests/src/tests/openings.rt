@@ -90,6 +90,28 @@ fn expect_put(rt: &(impl Abort + AllocGlobal), row: &PutRow) {
     }
 }
 
+// A file that is longer than any isn't cut, also where all blocks would hold it.
+#[test]
+fn puts_no_part_of_a_file(rt: HostRuntime) {
+    let mut files = files_of(rt.alloc(), Vec::new(rt.alloc()), b"").expect(&rt, "memory");
+    expect(
+        &rt,
+        ("an image", "the longest"),
+        &mut files,
+        &mkfs(131_072, 16),
+        DONE,
+    );
+    files.bytes = vec![in rt.alloc(); 0u8; 67_382_273].expect(&rt, "memory");
+    let name = ("not put", "a long file");
+    expect(
+        &rt,
+        name,
+        &mut files,
+        &put("/f"),
+        ("", "fault 9 Blocks\n", 1),
+    );
+}
+
 fn expect_all_put(rt: &(impl Abort + AllocGlobal)) {
     for row in &PUT {
         expect_put(rt, row);

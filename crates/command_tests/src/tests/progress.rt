@@ -1,5 +1,5 @@
 //! What long runs show on a terminal.
-ghost use Rattle.std.specs.Prelude.{◌≤◌, IfOk, length};
+ghost use Rattle.std.specs.Prelude.{◌≤◌, IfOk, IfSome, length};
 
 use crate::tests::runs::{INIT, with_image};
 use crate::tests::{UNTOLD, expect, expect_that};
@@ -64,13 +64,13 @@ impl<'a> Host for Room<'a> {
         Err(HostFault)
     }
 
-    fn type_in(&mut self, bytes: &mut [u8]) -> Result<usize, HostFault>
-        ensures { IfOk result (λ count. count ≤ length bytes.old) }
+    fn type_in(&mut self, bytes: &mut [u8], _is_terminal: bool) -> Result<Option<usize>, HostFault>
+        ensures { IfOk result (λ typed. IfSome typed (λ count. count ≤ length bytes.old)) }
     {
         let _ = bytes.len();
         self.reads = self.reads.saturating_add(1);
         if self.reads < 4 {
-            Ok(0)
+            Ok(None)
         } else {
             Err(HostFault)
         }
