@@ -8,14 +8,8 @@ use crate::operands::Operand;
 use crate::output::Output;
 use crate::registers::Register;
 use crate::value::{Base, UNKNOWN, Value};
-use std::alloc::Global;
-
-/// Where a `%pcrel_hi` is, and the way from there to its target.
-#[derive(Clone, Copy)]
-pub struct Relative {
-    pub address: i64,
-    pub way: i64,
-}
+use std::alloc::{AllocError, Global};
+use std::collections::HashMap;
 
 /// A pass: the first finds where everything lies, the last writes it.
 #[derive(Drop)]
@@ -24,10 +18,12 @@ pub struct Assembler<'a> {
     pub names: Names<'a>,
     pub layout: Layout,
     pub output: Output,
-    pub relatives: Vec<Relative>,
+    /// The ways from each `%pcrel_hi`, by its address.
+    pub relatives: HashMap<i64, i64>,
+    /// Where directives are that say nothing here.
+    pub passed: Vec<Position>,
     pub is_last: bool,
-    /// The statement's index, place in the texts and place in memory.
-    pub index: usize,
+    /// The statement's position in the texts, and its address.
     pub at: Position,
     pub here: Value,
     /// The address of the instruction that is written.
@@ -35,23 +31,20 @@ pub struct Assembler<'a> {
 }
 
 impl<'a> Assembler<'a> {
-    pub fn new(alloc: Global) -> Assembler<'a> {
-        Assembler {
+    /// Nothing yet, of that many files.
+    pub fn new(alloc: Global, units: usize) -> Result<Assembler<'a>, AllocError> {
+        Ok(Assembler {
             alloc,
-            names: Names::new(alloc),
-            layout: Layout::new(),
+            names: Names::new(alloc, units)?,
+            layout: Layout::new(alloc, units)?,
             output: Output::new(alloc),
-            relatives: Vec::new(alloc),
+            relatives: HashMap::new(alloc),
+            passed: Vec::new(alloc),
             is_last: false,
-            index: 0,
-            at: Position {
-                file: 0,
-                line: 0,
-                column: 0,
-            },
+            at: Position { row: 0, column: 1 },
             here: UNKNOWN,
             address: 0,
-        }
+        })
     }
 
     // The value of an operand.
@@ -59,7 +52,7 @@ impl<'a> Assembler<'a> {
         let scope = Scope {
             names: &self.names,
             layout: &self.layout,
-            index: self.index,
+            row: self.at.row,
             is_last: self.is_last,
             is_early,
             here: self.here,
@@ -77,7 +70,7 @@ impl<'a> Assembler<'a> {
         let value = self.value_where(operand, true)?;
         match value.base {
             Base::Number => Ok(value.number),
-            Base::Section(_) | Base::Unknown => Err(Stop::Wrong(Wrong::Address, operand.column)),
+            Base::Section(_, _) | Base::Unknown => Err(Stop::Wrong(Wrong::Address, operand.column)),
         }
     }
 
@@ -89,7 +82,7 @@ impl<'a> Assembler<'a> {
     /// The number that an operand is, which lies from the one to the other.
     pub fn number(&self, operand: &Operand, low: i64, high: i64) -> Result<i64, Stop> {
         let value = self.value(operand)?;
-        if let Base::Section(_) = value.base {
+        if let Base::Section(_, _) = value.base {
             return Err(Stop::Wrong(Wrong::Address, operand.column));
         }
         self.within(value.number, low, high, operand.column)

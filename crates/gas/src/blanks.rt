@@ -22,6 +22,13 @@ enum Mode {
     Star,
 }
 
+impl Mode {
+    // Whether a character here is neither in a comment nor between quotes.
+    fn is_open(self) -> bool {
+        matches!(self, Mode::Code | Mode::Slash | Mode::Closing)
+    }
+}
+
 // The mode after a character outside of comments and strings.
 fn in_code(c: u8) -> Mode {
     match c {
@@ -127,4 +134,16 @@ pub fn without_comments(alloc: Global, text: &[u8]) -> Result<Vec<u8>, AllocErro
         mode = next;
     }
     Ok(kept_text)
+}
+
+/// How many characters of a text without comments come before a mark outside of quotes, or before the line's end.
+pub fn length_before(text: &[u8], mark: u8) -> usize {
+    let mut mode = Mode::Code;
+    for (length, c) in text.iter().enumerate() {
+        if *c == b'\n' || *c == mark && mode.is_open() {
+            return length;
+        }
+        mode = mode_after(mode, *c);
+    }
+    text.len()
 }

@@ -280,10 +280,29 @@ impl<'a> Assembler<'a> {
         Ok(())
     }
 
-    /// Ends the instructions at a multiple of what they lie at.
+    /// A name for zeros at a multiple.
+    pub fn put_common(
+        &mut self,
+        name: &'a [u8],
+        column: usize,
+        count: &Operand<'a>,
+        align: &[Operand<'a>],
+    ) -> Result<(), Stop> {
+        let count = self.count(count)?;
+        if let [align, ..] = align {
+            let align = self.multiple(false, align)?;
+            self.pad(align)?;
+        }
+        self.label(name, column)?;
+        self.put_bytes(count, 0)?;
+        Ok(())
+    }
+
+    /// Ends the instructions of a file at a multiple of what they lie at.
     pub fn close_text(&mut self) -> Result<(), AllocError> {
         self.layout.section = Section::Text;
         self.output.go_to(Section::Text);
+        self.output.begin(None);
         let part = self.layout.part(Section::Text);
         self.put_nops(padding(part.offset, part.align))
     }

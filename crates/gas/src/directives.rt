@@ -2,10 +2,12 @@
 
 use crate::assembler::Assembler;
 use crate::data::Width;
-use crate::fault::{Stop, Usage, Wrong};
+use crate::fault::{Position, Stop, Usage, Wrong};
 use crate::names::Symbol;
 use crate::operands::Call;
-use crate::value::Section;
+use crate::value::{Section, Value};
+use crate::words::add_instructions;
+use std::alloc::{AllocError, Global};
 
 /// What a directive asks for.
 #[derive(Clone, Copy)]
@@ -21,6 +23,10 @@ pub enum Directive {
     Align(bool),
     /// .equ name, value
     Equate,
+    /// .comm name, count, multiple
+    Common,
+    /// .globl name
+    Export,
     /// What says nothing here.
     Passed,
 }
@@ -59,19 +65,21 @@ const DATA: [(&str, Directive); 16] = [
     (".zero", Directive::Space),
 ];
 
-const OTHERS: [(&str, Directive); 5] = [
+const OTHERS: [(&str, Directive); 10] = [
     (".align", Directive::Align(true)),
     (".p2align", Directive::Align(true)),
     (".balign", Directive::Align(false)),
     (".equ", Directive::Equate),
     (".set", Directive::Equate),
+    (".globl", Directive::Export),
+    (".global", Directive::Export),
+    (".weak", Directive::Export),
+    (".comm", Directive::Common),
+    (".lcomm", Directive::Common),
 ];
 
-const PASSED: [&str; 14] = [
-    ".globl",
-    ".global",
+const PASSED: [&str; 11] = [
     ".local",
-    ".weak",
     ".hidden",
     ".type",
     ".size",
@@ -84,9 +92,22 @@ const PASSED: [&str; 14] = [
     ".end",
 ];
 
+// What is done as texts are read.
+const READ: [&str; 5] = [".include", ".macro", ".endm", ".rept", ".endr"];
+
 const EQUATE: Usage = Usage {
     takes: "a name and a value",
     example: "SIZE, 64",
+};
+
+const COMMON: Usage = Usage {
+    takes: "a name, how many bytes, and maybe a multiple for its address",
+    example: "buffer, 64, 8",
+};
+
+const NAMES: Usage = Usage {
+    takes: "names",
+    example: "main",
 };
 
 const SECTION: Usage = Usage {
@@ -122,6 +143,28 @@ fn passed(name: &[u8]) -> Option<Named> {
         });
     }
     None
+}
+
+fn add(
+    words: &mut Vec<&'static str>,
+    table: &[(&'static str, Directive)],
+) -> Result<(), AllocError> {
+    for (name, _) in table {
+        words.push(*name)?;
+    }
+    Ok(())
+}
+
+/// The names of all instructions and directives.
+pub fn known_words(alloc: Global) -> Result<Vec<&'static str>, AllocError> {
+    let mut words = Vec::new(alloc);
+    add_instructions(&mut words)?;
+    add(&mut words, &DATA)?;
+    add(&mut words, &SECTIONS)?;
+    add(&mut words, &OTHERS)?;
+    words.extend_from_slice(&PASSED)?;
+    words.extend_from_slice(&READ)?;
+    Ok(words)
 }
 
 /// The directive of a name.
@@ -194,20 +237,79 @@ impl<'a> Assembler<'a> {
         }
     }
 
-    /// Notes what a name stands for; it is a fault if an earlier statement says what it is.
+    /// Notes what a name stands for; it is a fault if an earlier statement says so, and one of them is a label.
     pub fn define(&mut self, name: &'a [u8], symbol: Symbol, column: usize) -> Result<(), Stop> {
-        match self.names.symbol(name) {
-            None => {
-                self.names.define(name, symbol)?;
-                Ok(())
+        if let Some(first) = self.names.own(name) {
+            let is_label = first.is_label || symbol.is_label;
+            if is_label && first.at.row != symbol.at.row {
+                return Err(Stop::Wrong(Wrong::Twice(first.at), column));
             }
-            Some(first) => {
-                if first.index == symbol.index {
-                    return Ok(());
-                }
+            self.unshared(name, symbol, column)?;
+        }
+        self.names.define(name, symbol)?;
+        Ok(())
+    }
+
+    // It is a fault if another file exports the name, too.
+    fn unshared(&self, name: &[u8], symbol: Symbol, column: usize) -> Result<(), Stop> {
+        match self.names.exported(name) {
+            Some(first) if first.unit != symbol.unit => {
                 Err(Stop::Wrong(Wrong::Twice(first.at), column))
             }
+            _ => Ok(()),
         }
+    }
+
+    /// A symbol of the file, at a column of the statement.
+    pub fn symbol(&self, value: Value, column: usize, is_label: bool) -> Symbol {
+        Symbol {
+            value,
+            at: Position { column, ..self.at },
+            unit: self.names.unit(),
+            is_label,
+        }
+    }
+
+    // .comm name, count, multiple
+    fn common(&mut self, call: &Call<'_, 'a>) -> Result<(), Stop> {
+        let [name, count, align @ ..] = call.operands else {
+            return Err(call.misused(COMMON));
+        };
+        let Some(called) = name.name() else {
+            return Err(call.misused(COMMON));
+        };
+        let section = self.layout.section;
+        self.go_to(Section::Commons);
+        let put = self.put_common(called, name.column, count, align);
+        self.go_to(section);
+        put
+    }
+
+    // .globl names
+    fn export(&mut self, call: &Call<'_, 'a>) -> Result<(), Stop> {
+        if call.operands.is_empty() {
+            return Err(call.misused(NAMES));
+        }
+        for operand in call.operands {
+            let Some(name) = operand.name() else {
+                return Err(call.misused(NAMES));
+            };
+            if !self.is_last {
+                self.names.export(name)?;
+            }
+        }
+        Ok(())
+    }
+
+    // A directive that says nothing here.
+    fn pass(&mut self, call: &Call<'_, 'a>) -> Result<(), Stop> {
+        if self.is_last {
+            self.passed.push(Position {
+                column: call.column,
+                ..self.at
+            })?;
+        }
+        Ok(())
     }
 
     // .equ name, value
@@ -219,12 +321,7 @@ impl<'a> Assembler<'a> {
             return Err(call.misused(EQUATE));
         };
         let value = self.early_value(operand)?;
-        let symbol = Symbol {
-            value,
-            index: self.index,
-            at: self.at,
-            is_label: false,
-        };
+        let symbol = self.symbol(value, name.column, false);
         self.define(called, symbol, name.column)
     }
 
@@ -238,7 +335,9 @@ impl<'a> Assembler<'a> {
             Directive::Space => self.space(call)?,
             Directive::Align(is_power) => self.align(is_power, call)?,
             Directive::Equate => self.equate(call)?,
-            Directive::Passed => {}
+            Directive::Common => self.common(call)?,
+            Directive::Export => self.export(call)?,
+            Directive::Passed => self.pass(call)?,
         }
         Ok(())
     }

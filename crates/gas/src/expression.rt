@@ -12,8 +12,8 @@ use std::alloc::Global;
 pub struct Scope<'s, 'a> {
     pub names: &'s Names<'a>,
     pub layout: &'s Layout,
-    /// The statement's index.
-    pub index: usize,
+    /// The statement's row.
+    pub row: usize,
     /// Whether names that aren't defined are a fault.
     pub is_last: bool,
     /// Whether names have to be defined above the statement.
@@ -23,10 +23,10 @@ pub struct Scope<'s, 'a> {
 }
 
 impl Scope<'_, '_> {
-    fn known(&self, found: Option<Value>, index: usize) -> Result<Value, Wrong> {
+    fn known(&self, found: Option<Value>, row: usize) -> Result<Value, Wrong> {
         match found {
             Some(value) => {
-                if self.is_early && index > self.index {
+                if self.is_early && row > self.row {
                     return Err(Wrong::Later);
                 }
                 Ok(value)
@@ -45,17 +45,17 @@ impl Scope<'_, '_> {
             return Ok(self.here);
         }
         match self.names.symbol(name) {
-            Some(symbol) => self.known(Some(symbol.value), symbol.index),
+            Some(symbol) => self.known(Some(symbol.value), symbol.at.row),
             None => self.known(None, 0),
         }
     }
 
     fn local(&self, number: u64, way: Way) -> Result<Value, Wrong> {
-        let index = match way {
+        let row = match way {
             Way::Backward => 0,
             Way::Forward => usize::MAX,
         };
-        self.known(self.names.local(number, way, self.index), index)
+        self.known(self.names.local(number, way, self.row), row)
     }
 
     // The value of a token that is an operand.

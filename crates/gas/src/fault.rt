@@ -2,11 +2,10 @@
 
 use std::alloc::{AllocError, AllocFailed};
 
-/// A place in the texts: the file by its index, the line and the column from 1 on.
+/// Where something is in a program: the row by its index, the column from 1 on.
 #[derive(Clone, Copy)]
 pub struct Position {
-    pub file: usize,
-    pub line: usize,
+    pub row: usize,
     pub column: usize,
 }
 
@@ -68,8 +67,22 @@ pub enum Wrong {
     Limit,
     /// The program doesn't begin at `_start`.
     Start,
-    /// A directive that has no meaning here.
-    Unsupported,
+    /// A file that can't be read.
+    File,
+    /// Files and macros that lie too deep in one another.
+    Deep,
+    /// More statements than texts may have, once files and macros are in place.
+    Long,
+    /// A `.macro` or a `.rept` that no line ends.
+    Open,
+    /// An `.endm` or an `.endr` that ends nothing.
+    Closed,
+    /// A macro that is defined again.
+    Again,
+    /// More macros than there may be.
+    Macros,
+    /// More arguments than the macro has, which is that many.
+    Arguments(usize),
 }
 
 /// Something that is wrong, and where.

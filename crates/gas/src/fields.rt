@@ -1,7 +1,7 @@
 //! The numbers of instructions: 12 bits, 20 bits, and the parts of addresses that fit them.
 ghost use Rattle.std.specs.Prelude.{◌≤◌, ◌<◌};
 
-use crate::assembler::{Assembler, Relative};
+use crate::assembler::Assembler;
 use crate::fault::{Stop, Wrong};
 use crate::operands::Operand;
 use crate::registers::Register;
@@ -25,10 +25,8 @@ impl Assembler<'_> {
     // The way that the %pcrel_hi at a label goes.
     fn relative_at(&self, operand: &Operand) -> Result<i64, Stop> {
         let address = self.address_of(operand)?;
-        for relative in &self.relatives {
-            if relative.address == address {
-                return Ok(relative.way);
-            }
+        if let Some(way) = self.relatives.get(&address) {
+            return Ok(*way);
         }
         if self.is_last {
             return Err(Stop::Wrong(Wrong::Pair, operand.column));
@@ -40,10 +38,7 @@ impl Assembler<'_> {
     fn way_to(&mut self, operand: &Operand) -> Result<i64, Stop> {
         let way = self.address_of(operand)?.wrapping_sub(self.address);
         if self.is_last {
-            self.relatives.push(Relative {
-                address: self.address,
-                way,
-            })?;
+            self.relatives.insert(self.address, way)?;
         }
         Ok(way)
     }

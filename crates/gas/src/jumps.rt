@@ -48,8 +48,8 @@ fn may_begin(c: u8) -> bool {
     c.is_ascii_alphabetic() || c == b'_'
 }
 
-/// Whether the expanded text can have a label of this name.
-pub fn is_plain(name: &[u8]) -> bool {
+// Whether the expanded text can have a label of this name.
+fn is_plain(name: &[u8]) -> bool {
     match name {
         [] => false,
         [first, rest @ ..] => {
@@ -72,16 +72,21 @@ impl<'a> Assembler<'a> {
     // Whether a name is that of a label.
     fn is_label(&self, name: &[u8]) -> bool {
         match self.names.symbol(name) {
-            Some(symbol) => matches!(symbol.value.base, Base::Section(_)) && symbol.is_label,
+            Some(symbol) => matches!(symbol.value.base, Base::Section(_, _)) && symbol.is_label,
             None => false,
         }
+    }
+
+    /// Whether the expanded text has a label of this name, which is one file's alone.
+    pub fn is_kept(&self, name: &[u8]) -> bool {
+        is_plain(name) && self.names.is_alone(name)
     }
 
     fn goal(&self, operand: &Operand<'a>, reach: i64) -> Result<Goal<'a>, Stop> {
         let way = self.way(operand, reach)?;
         match operand.name() {
             Some(name) => {
-                if is_plain(name) && self.is_label(name) {
+                if self.is_kept(name) && self.is_label(name) {
                     return Ok(Goal::Label(name));
                 }
                 Ok(Goal::Way(way))

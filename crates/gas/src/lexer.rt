@@ -3,9 +3,9 @@
 use crate::fault::Wrong;
 use crate::numbers::number_called;
 use crate::quoted::character_at;
+use crate::source::{Program, Status};
 use crate::tokens::{Kind, Mark, Token, Way};
 use std::alloc::{AllocError, Global};
-use std::mem;
 
 /// A token and how many characters it has.
 #[derive(Clone, Copy)]
@@ -149,7 +149,6 @@ fn mark_of(c: u8) -> Option<Mark> {
         b')' => Some(Mark::Close),
         b',' => Some(Mark::Comma),
         b':' => Some(Mark::Colon),
-        b';' => Some(Mark::Semicolon),
         b'=' => Some(Mark::Equals),
         _ => operator_of(c),
     }
@@ -208,8 +207,12 @@ fn token_at<'a>(text: &'a [u8]) -> Option<Lexed<'a>> {
     Some(lexed_from(*c, text, rest))
 }
 
-/// The tokens of a line, which has at most as many as characters.
-pub fn tokens_of<'a>(alloc: Global, line: &'a [u8]) -> Result<Vec<Token<'a>>, AllocError> {
+/// The tokens of a line after an indent, which has at most as many as characters.
+pub fn tokens_of<'a>(
+    alloc: Global,
+    line: &'a [u8],
+    indent: usize,
+) -> Result<Vec<Token<'a>>, AllocError> {
     let mut tokens = Vec::new(alloc);
     let mut at = 0usize;
     for _ in 0..line.len() {
@@ -222,51 +225,38 @@ pub fn tokens_of<'a>(alloc: Global, line: &'a [u8]) -> Result<Vec<Token<'a>>, Al
         };
         tokens.push(Token {
             kind: lexed.kind,
-            column: at.saturating_add(1),
+            column: indent.saturating_add(at).saturating_add(1),
         })?;
         at = at.saturating_add(lexed.length.max(1));
     }
     Ok(tokens)
 }
 
-/// The tokens of a statement, and the line that it is on.
+/// The tokens of a statement, and its row.
 #[derive(Drop)]
 pub struct Sentence<'a> {
-    pub file: usize,
-    pub line: usize,
+    pub row: usize,
+    pub unit: usize,
+    pub status: Status,
     pub tokens: Vec<Token<'a>>,
 }
 
-// Adds the statements of a line, between its semicolons.
-fn add_line<'a>(
+/// The statements of a program that are not done yet.
+pub fn sentences_of<'a>(
     alloc: Global,
-    sentences: &mut Vec<Sentence<'a>>,
-    file: usize,
-    line: usize,
-    text: &'a [u8],
-) -> Result<(), AllocError> {
-    let mut tokens = Vec::new(alloc);
-    for token in &tokens_of(alloc, text)? {
-        if !token.is(Mark::Semicolon) {
-            tokens.push(*token)?;
-            continue;
+    program: &'a Program,
+) -> Result<Vec<Sentence<'a>>, AllocError> {
+    let mut sentences = Vec::new(alloc);
+    for (index, row) in program.rows.iter().enumerate() {
+        if !matches!(row.status, Status::Done) {
+            let tokens = tokens_of(alloc, &row.text, row.line.indent)?;
+            sentences.push(Sentence {
+                row: index,
+                unit: row.line.unit,
+                status: row.status,
+                tokens,
+            })?;
         }
-        let tokens = mem::replace(&mut tokens, Vec::new(alloc));
-        sentences.push(Sentence { file, line, tokens })?;
     }
-    sentences.push(Sentence { file, line, tokens })?;
-    Ok(())
-}
-
-/// Adds the statements of a text without comments.
-pub fn add_text<'a>(
-    alloc: Global,
-    sentences: &mut Vec<Sentence<'a>>,
-    file: usize,
-    text: &'a [u8],
-) -> Result<(), AllocError> {
-    for (index, line) in text.split(|c| *c == b'\n').enumerate() {
-        add_line(alloc, sentences, file, index.saturating_add(1), line)?;
-    }
-    Ok(())
+    Ok(sentences)
 }

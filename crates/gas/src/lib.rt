@@ -3,6 +3,7 @@
 
 mod assembler;
 mod blanks;
+mod collector;
 mod data;
 mod directives;
 mod expression;
@@ -13,6 +14,7 @@ mod jumps;
 mod layout;
 mod lexer;
 mod literals;
+mod macros;
 mod messages;
 mod names;
 mod numbers;
@@ -21,15 +23,21 @@ mod output;
 mod passes;
 mod pseudo;
 mod quoted;
+mod reader;
 mod registers;
+mod source;
+mod statement_text;
 mod statements;
 mod tokens;
 mod value;
 mod words;
 
-pub use fault::{Fault, Position, Wrong};
+pub use directives::known_words;
+pub use fault::{Fault, Position, Usage, Wrong};
 pub use messages::message;
-pub use passes::{Expansion, expand};
+pub use passes::{Expanded, Expansion, expand};
+pub use reader::{MOST_BYTES, read};
+pub use source::{File, Line, Place, Program, Row, Sources, Status};
 
 #[cfg(test)]
 mod tests;

@@ -1,6 +1,7 @@
 //! What is wrong, in words, and what to write.
 
 use crate::fault::{Usage, Wrong};
+use crate::source::Program;
 use itoa::Buffer;
 use std::alloc::{AllocError, Global};
 
@@ -48,6 +49,21 @@ fn words_of_place(wrong: Wrong) -> &'static str {
         Wrong::Limit => "a program has at most 270336 bytes",
         Wrong::Start =>
             "a program begins at its first instruction: _start belongs there, or j _start",
+        _ => words_of_text(wrong),
+    }
+}
+
+fn words_of_text(wrong: Wrong) -> &'static str {
+    match wrong {
+        Wrong::File => "the file can't be read, neither beside this one nor from where xv6 runs",
+        Wrong::Deep =>
+            "files and macros lie in one another more than 32 deep: does one call itself?",
+        Wrong::Long =>
+            "the texts have more than 200000 statements, or 8 MiB, with all that they include and call",
+        Wrong::Open => "nothing ends this: .endm ends a .macro, .endr a .rept",
+        Wrong::Closed => "this ends nothing: a .macro or a .rept has to be above it",
+        Wrong::Again => "a macro of this name is defined above",
+        Wrong::Macros => "there are more than 1000 macros",
         _ => "this has no meaning here",
     }
 }
@@ -77,20 +93,37 @@ fn range(alloc: Global, low: i64, high: i64) -> Result<String, AllocError> {
     Ok(text)
 }
 
-fn twice(alloc: Global, line: usize) -> Result<String, AllocError> {
+// Adds the file and the line of a row.
+fn add_place(text: &mut String, program: &Program, row: usize) -> Result<(), AllocError> {
+    let Some(row) = program.row(row) else {
+        return Ok(());
+    };
     let mut buffer = Buffer::new();
-    let mut text = String::from_str(alloc, "this name is defined in line ")?;
-    text.push_str(buffer.format(line))?;
-    text.push_str(" first")?;
+    text.push_str(program.name(row.line.place.file))?;
+    text.push_str(":")?;
+    text.push_str(buffer.format(row.line.place.line))
+}
+
+fn twice(alloc: Global, program: &Program, row: usize) -> Result<String, AllocError> {
+    let mut text = String::from_str(alloc, "this name is defined first in ")?;
+    add_place(&mut text, program, row)?;
+    Ok(text)
+}
+
+fn arguments(alloc: Global, most: usize) -> Result<String, AllocError> {
+    let mut buffer = Buffer::new();
+    let mut text = String::from_str(alloc, "the macro has fewer arguments: ")?;
+    text.push_str(buffer.format(most))?;
     Ok(text)
 }
 
 /// What is wrong, in words.
-pub fn message(alloc: Global, wrong: Wrong) -> Result<String, AllocError> {
+pub fn message(alloc: Global, program: &Program, wrong: Wrong) -> Result<String, AllocError> {
     match wrong {
         Wrong::Takes(word, what) => usage(alloc, word, what),
         Wrong::Range(low, high) => range(alloc, low, high),
-        Wrong::Twice(first) => twice(alloc, first.line),
+        Wrong::Twice(first) => twice(alloc, program, first.row),
+        Wrong::Arguments(most) => arguments(alloc, most),
         _ => String::from_str(alloc, words_of(wrong)),
     }
 }

@@ -9,9 +9,12 @@ use std::alloc::{AllocError, Global};
 /// The text of the sections, written line by line.
 #[derive(Drop)]
 pub struct Output {
-    texts: [Vec<u8>; 5],
+    texts: [Vec<u8>; 6],
+    // The row of each line.
+    rows: [Vec<Option<usize>>; 6],
     is_on: bool,
     section: Section,
+    row: Option<usize>,
 }
 
 impl Output {
@@ -24,9 +27,19 @@ impl Output {
                 Vec::new(alloc),
                 Vec::new(alloc),
                 Vec::new(alloc),
+                Vec::new(alloc),
+            ],
+            rows: [
+                Vec::new(alloc),
+                Vec::new(alloc),
+                Vec::new(alloc),
+                Vec::new(alloc),
+                Vec::new(alloc),
+                Vec::new(alloc),
             ],
             is_on: false,
             section: Section::Text,
+            row: None,
         }
     }
 
@@ -38,17 +51,32 @@ impl Output {
         self.section = section;
     }
 
+    /// The lines that follow are of a row, or of none.
+    pub fn begin(&mut self, row: Option<usize>) {
+        self.row = row;
+    }
+
     /// What was put into a section.
     pub fn text(&self, section: Section) -> &[u8] {
         &self.texts[index_of(section)]
     }
 
-    /// Adds a text.
+    /// The rows of its lines.
+    pub fn rows(&self, section: Section) -> &[Option<usize>] {
+        &self.rows[index_of(section)]
+    }
+
+    /// Adds a text, at most up to a line's end.
     pub fn put(&mut self, text: &[u8]) -> Result<(), AllocError> {
         if !self.is_on {
             return Ok(());
         }
-        self.texts[index_of(self.section)].extend_from_slice(text)
+        let index = index_of(self.section);
+        self.texts[index].extend_from_slice(text)?;
+        if text.ends_with(b"\n") {
+            self.rows[index].push(self.row)?;
+        }
+        Ok(())
     }
 
     pub fn number(&mut self, number: i64) -> Result<(), AllocError> {

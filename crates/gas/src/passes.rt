@@ -1,18 +1,28 @@
 //! The passes over the statements of all texts, and what they make.
 
 use crate::assembler::Assembler;
-use crate::blanks::without_comments;
 use crate::fault::{Fault, Position, Stop, Wrong};
-use crate::layout::{Layout, SECTIONS, padding};
-use crate::lexer::{Sentence, add_text};
+use crate::layout::SECTIONS;
+use crate::lexer::{Sentence, sentences_of};
 use crate::output::Output;
+use crate::source::Program;
 use crate::value::{Base, Section};
 use std::alloc::{AllocError, Global};
 
-/// What texts are expanded to: a text, or all that is wrong with them, in the order of the lines.
+/// A text in the language of `asm`, and what it comes from.
+#[derive(Drop)]
+pub struct Expanded {
+    pub text: String,
+    /// The row of each line, where it is of one.
+    pub rows: Vec<Option<usize>>,
+    /// Where directives are that say nothing here.
+    pub passed: Vec<Position>,
+}
+
+/// What a program is expanded to: a text, or all that is wrong with it, in the order of the rows.
 #[derive(Drop)]
 pub enum Expansion {
-    Text(String),
+    Text(Expanded),
     Faults(Vec<Fault>),
 }
 
@@ -35,6 +45,11 @@ fn note(faults: &mut Vec<Fault>, fault: Fault) -> Result<(), AllocError> {
     Ok(())
 }
 
+// Whether a fault comes of what is missing.
+fn is_undefined(fault: &Fault) -> bool {
+    matches!(fault.wrong, Wrong::Undefined)
+}
+
 impl<'a> Assembler<'a> {
     // What is wrong with a statement.
     fn tried(&mut self, sentence: &'a Sentence<'a>) -> Result<Option<Fault>, AllocError> {
@@ -48,14 +63,49 @@ impl<'a> Assembler<'a> {
         }
     }
 
+    // The zeros before a section of the file.
+    fn put_gap(&mut self, section: Section) -> Result<(), AllocError> {
+        let gap = self.layout.part(section).gap;
+        self.output.go_to(section);
+        if gap > 0 {
+            self.output.counted(".zero", gap.cast_signed())?;
+        }
+        Ok(())
+    }
+
+    // Begins a file.
+    fn begin(&mut self, unit: usize) -> Result<(), AllocError> {
+        self.names.go_to(unit);
+        self.layout.go_to(unit);
+        self.output.begin(None);
+        for section in &SECTIONS {
+            self.put_gap(*section)?;
+        }
+        self.output.go_to(Section::Text);
+        Ok(())
+    }
+
+    // Goes on from a file to the one of the next statement.
+    fn cross(&mut self, from: usize, to: usize) -> Result<(), AllocError> {
+        if from != to {
+            self.close_text()?;
+            self.begin(to)?;
+        }
+        Ok(())
+    }
+
     // Finds where the statements lie, which is noted.
     fn first_pass(&mut self, sentences: &'a [Sentence<'a>]) -> Result<Vec<u64>, AllocError> {
         let mut starts = Vec::new(self.alloc);
-        for (index, sentence) in sentences.iter().enumerate() {
-            self.index = index;
+        let mut unit = 0usize;
+        self.begin(unit)?;
+        for sentence in sentences {
+            self.cross(unit, sentence.unit)?;
+            unit = sentence.unit;
             starts.push(self.layout.offset())?;
             let _fault = self.tried(sentence)?;
         }
+        self.close_text()?;
         Ok(starts)
     }
 
@@ -66,26 +116,32 @@ impl<'a> Assembler<'a> {
         starts: &[u64],
     ) -> Result<Vec<Fault>, AllocError> {
         let mut faults = Vec::new(self.alloc);
-        for (index, (sentence, start)) in sentences.iter().zip(starts).enumerate() {
-            self.index = index;
+        let mut unit = 0usize;
+        self.begin(unit)?;
+        for (sentence, start) in sentences.iter().zip(starts) {
+            self.cross(unit, sentence.unit)?;
+            unit = sentence.unit;
             self.layout.set_offset(*start);
+            self.output.begin(Some(sentence.row));
             if let Some(fault) = self.tried(sentence)? {
                 note(&mut faults, fault)?;
             }
         }
+        self.close_text()?;
         Ok(faults)
     }
 
     // What is wrong with the whole: it begins elsewhere than at _start, or has too many bytes.
-    fn whole(&self, end: u64) -> Option<Fault> {
+    fn whole(&mut self, end: u64) -> Option<Fault> {
         if end > LIMIT {
             return Some(Fault {
                 at: self.at,
                 wrong: Wrong::Limit,
             });
         }
+        self.names.go_to(0);
         let symbol = self.names.symbol(b"_start")?;
-        if symbol.value.base == Base::Section(Section::Text) && symbol.value.number == 0 {
+        if symbol.value.base == Base::Section(Section::Text, 0) && symbol.value.number == 0 {
             return None;
         }
         Some(Fault {
@@ -96,14 +152,12 @@ impl<'a> Assembler<'a> {
 
     fn expand(&mut self, sentences: &'a [Sentence<'a>]) -> Result<Vec<Fault>, AllocError> {
         let starts = self.first_pass(sentences)?;
-        self.close_text()?;
+        self.names.share()?;
         let end = self.layout.place();
         self.layout.rewind();
         self.is_last = true;
         self.output.switch_on();
-        self.output.go_to(Section::Text);
         let mut faults = self.last_pass(sentences, &starts)?;
-        self.close_text()?;
         if let Some(fault) = self.whole(end) {
             faults.push(fault)?;
         }
@@ -118,56 +172,44 @@ fn add(text: &mut String, bytes: &[u8]) -> Result<(), AllocError> {
     Ok(())
 }
 
-// The zeros before a section.
-fn gap(alloc: Global, text: &mut String, count: u64) -> Result<(), AllocError> {
-    if count == 0 {
-        return Ok(());
-    }
-    let mut output = Output::new(alloc);
-    output.switch_on();
-    output.counted(".zero", count.cast_signed())?;
-    add(text, output.text(Section::Text))
-}
-
 // The texts of the sections, one after the other.
-fn joined(alloc: Global, layout: &Layout, output: &Output) -> Result<String, AllocError> {
+fn joined(alloc: Global, output: &Output, passed: Vec<Position>) -> Result<Expanded, AllocError> {
     let mut text = String::new(alloc);
-    let mut end = 0u64;
+    let mut rows = Vec::new(alloc);
     for section in &SECTIONS {
-        let part = layout.part(*section);
-        if part.offset > 0 {
-            gap(alloc, &mut text, padding(end, part.align))?;
-            end = part.start.saturating_add(part.offset);
-        }
         add(&mut text, output.text(*section))?;
+        rows.extend_from_slice(output.rows(*section))?;
     }
-    Ok(text)
+    Ok(Expanded { text, rows, passed })
 }
 
-fn sentences_of<'a>(alloc: Global, texts: &'a [Vec<u8>]) -> Result<Vec<Sentence<'a>>, AllocError> {
-    let mut sentences = Vec::new(alloc);
-    for (file, text) in texts.iter().enumerate() {
-        add_text(alloc, &mut sentences, file, text)?;
+// The faults but those that come of what is missing.
+fn told(alloc: Global, faults: Vec<Fault>, is_cut: bool) -> Result<Vec<Fault>, AllocError> {
+    let mut told = Vec::new(alloc);
+    for fault in &faults {
+        if !is_cut || !is_undefined(fault) {
+            told.push(*fault)?;
+        }
     }
-    Ok(sentences)
+    Ok(told)
 }
 
-fn expanded<'a>(alloc: Global, sentences: &'a [Sentence<'a>]) -> Result<Expansion, AllocError> {
-    let mut assembler: Assembler<'a> = Assembler::new(alloc);
+fn expand_sentences<'a>(
+    alloc: Global,
+    sentences: &'a [Sentence<'a>],
+    program: &Program,
+) -> Result<Expansion, AllocError> {
+    let mut assembler: Assembler<'a> = Assembler::new(alloc, program.units)?;
     let faults = assembler.expand(sentences)?;
-    if faults.is_empty() {
-        let text = joined(alloc, &assembler.layout, &assembler.output)?;
-        return Ok(Expansion::Text(text));
+    if !faults.is_empty() {
+        return Ok(Expansion::Faults(told(alloc, faults, program.is_cut)?));
     }
-    Ok(Expansion::Faults(faults))
+    let Assembler { output, passed, .. } = assembler;
+    Ok(Expansion::Text(joined(alloc, &output, passed)?))
 }
 
-/// Texts, one after the other, in the language of `asm`, or all that is wrong with them.
-pub fn expand(alloc: Global, files: &[&[u8]]) -> Result<Expansion, AllocError> {
-    let mut texts = Vec::new(alloc);
-    for file in files {
-        texts.push(without_comments(alloc, file)?)?;
-    }
-    let sentences = sentences_of(alloc, &texts)?;
-    expanded(alloc, &sentences)
+/// A program in the language of `asm`, or all that is wrong with it.
+pub fn expand(alloc: Global, program: &Program) -> Result<Expansion, AllocError> {
+    let sentences = sentences_of(alloc, program)?;
+    expand_sentences(alloc, &sentences, program)
 }

@@ -3,10 +3,9 @@
 use crate::assembler::Assembler;
 use crate::directives::directive_called;
 use crate::fault::{Position, Stop, Wrong};
-use crate::jumps::is_plain;
 use crate::lexer::Sentence;
-use crate::names::Symbol;
 use crate::operands::{Call, Operand, operands_of};
+use crate::source::Status;
 use crate::tokens::{Kind, Mark, Token, after_labels, column_of, label_count};
 use crate::words::word_called;
 use std::alloc::AllocError;
@@ -24,20 +23,16 @@ fn unread(tokens: &[Token]) -> Result<(), Stop> {
 impl<'a> Assembler<'a> {
     // A line of the expanded text for a label: a comment where it can't have one.
     fn put_label(&mut self, name: &[u8]) -> Result<(), AllocError> {
-        if !is_plain(name) {
+        if !self.is_kept(name) {
             self.output.put(b"# ")?;
         }
         self.output.put(name)?;
         self.output.put(b":\n")
     }
 
-    fn label(&mut self, name: &'a [u8], column: usize) -> Result<(), Stop> {
-        let symbol = Symbol {
-            value: self.layout.here(),
-            index: self.index,
-            at: Position { column, ..self.at },
-            is_label: true,
-        };
+    /// A label.
+    pub fn label(&mut self, name: &'a [u8], column: usize) -> Result<(), Stop> {
+        let symbol = self.symbol(self.layout.here(), column, true);
         self.define(name, symbol, column)?;
         self.put_label(name)?;
         Ok(())
@@ -46,7 +41,7 @@ impl<'a> Assembler<'a> {
     fn local_label(&mut self, number: u64) -> Result<(), Stop> {
         if !self.is_last {
             let here = self.layout.here();
-            self.names.define_local(number, self.index, here)?;
+            self.names.define_local(number, self.at.row, here)?;
         }
         Ok(())
     }
@@ -79,12 +74,7 @@ impl<'a> Assembler<'a> {
         operand: &Operand<'a>,
     ) -> Result<(), Stop> {
         let value = self.early_value(operand)?;
-        let symbol = Symbol {
-            value,
-            index: self.index,
-            at: Position { column, ..self.at },
-            is_label: false,
-        };
+        let symbol = self.symbol(value, column, false);
         self.define(name, symbol, column)
     }
 
@@ -144,10 +134,12 @@ impl<'a> Assembler<'a> {
     /// A statement.
     pub fn statement(&mut self, sentence: &'a Sentence<'a>) -> Result<(), Stop> {
         self.at = Position {
-            file: sentence.file,
-            line: sentence.line,
+            row: sentence.row,
             column: column_of(&sentence.tokens, 1),
         };
+        if let Status::Wrong(wrong, column) = sentence.status {
+            return Err(Stop::Wrong(wrong, column));
+        }
         unread(&sentence.tokens)?;
         self.labels(&sentence.tokens)?;
         self.here = self.layout.here();

@@ -20,7 +20,6 @@ pub enum Mark {
     Close,
     Comma,
     Colon,
-    Semicolon,
     Equals,
 }
 

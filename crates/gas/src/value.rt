@@ -10,6 +10,8 @@ pub enum Section {
     ReadOnly,
     Data,
     Zeros,
+    /// Zeros that `.comm` names.
+    Commons,
     /// What is no part of a program.
     Dropped,
 }
@@ -19,8 +21,8 @@ pub enum Section {
 pub enum Base {
     /// From 0: it is a number.
     Number,
-    /// From a section's start.
-    Section(Section),
+    /// From a section's start, in a file.
+    Section(Section, usize),
     /// It isn't known yet.
     Unknown,
 }

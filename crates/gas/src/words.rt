@@ -1,5 +1,7 @@
 //! The words of instructions.
 
+use std::alloc::AllocError;
+
 /// How an instruction is written, and what it stands for.
 #[derive(Clone, Copy)]
 pub enum Form {
@@ -191,6 +193,32 @@ fn pseudo_called(word: &[u8]) -> Option<Word> {
         return Some(found);
     }
     formed(&OTHER_FORMS, word)
+}
+
+fn add_forms(
+    words: &mut Vec<&'static str>,
+    forms: &[(&'static str, Form)],
+) -> Result<(), AllocError> {
+    for (name, _) in forms {
+        words.push(*name)?;
+    }
+    Ok(())
+}
+
+/// Adds the names of all instructions.
+pub fn add_instructions(words: &mut Vec<&'static str>) -> Result<(), AllocError> {
+    words.extend_from_slice(&REGISTERS)?;
+    words.extend_from_slice(&NUMBERS)?;
+    words.extend_from_slice(&SHIFTS)?;
+    words.extend_from_slice(&WORD_SHIFTS)?;
+    words.extend_from_slice(&LOADS)?;
+    words.extend_from_slice(&STORES)?;
+    words.extend_from_slice(&BRANCHES)?;
+    words.extend_from_slice(&UPPERS)?;
+    add_forms(words, &BRANCH_FORMS)?;
+    add_forms(words, &PAIR_FORMS)?;
+    add_forms(words, &MORE_FORMS)?;
+    add_forms(words, &OTHER_FORMS)
 }
 
 /// The instruction of a name.

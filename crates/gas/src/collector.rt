@@ -1,0 +1,101 @@
+//! The text of a macro or of a repetition, up to the line that ends it.
+
+use crate::macros::Parameter;
+use crate::source::Place;
+use std::alloc::{AllocError, Global};
+
+/// What a text is collected for.
+#[derive(Drop)]
+pub enum Goal {
+    /// A macro of this name.
+    Macro(Vec<u8>, Vec<Parameter>),
+    /// That many repetitions.
+    Repeat(usize),
+}
+
+/// What a directive does to the text that is collected.
+#[derive(Clone, Copy, PartialEq, Eq)]
+pub enum Bracket {
+    OpensMacro,
+    ClosesMacro,
+    OpensRepeat,
+    ClosesRepeat,
+}
+
+const BRACKETS: [(&str, Bracket); 5] = [
+    (".macro", Bracket::OpensMacro),
+    (".endm", Bracket::ClosesMacro),
+    (".rept", Bracket::OpensRepeat),
+    (".endr", Bracket::ClosesRepeat),
+    (".rep", Bracket::OpensRepeat),
+];
+
+/// The bracket that a word is.
+pub fn bracket_called(word: &[u8]) -> Option<Bracket> {
+    for (name, bracket) in &BRACKETS {
+        if name.as_bytes().eq_ignore_ascii_case(word) {
+            return Some(*bracket);
+        }
+    }
+    None
+}
+
+/// What is collected so far.
+#[derive(Drop)]
+pub struct Collector {
+    pub goal: Goal,
+    pub body: Vec<u8>,
+    /// The row that asks for it, and the line after that.
+    pub row: usize,
+    pub place: Place,
+    nesting: usize,
+}
+
+impl Collector {
+    pub fn new(alloc: Global, goal: Goal, row: usize, place: Place) -> Collector {
+        Collector {
+            goal,
+            body: Vec::new(alloc),
+            row,
+            place,
+            nesting: 0,
+        }
+    }
+
+    // Whether brackets are of its kind: those that open, or those that close.
+    fn is_its(&self, bracket: Bracket, closes: bool) -> bool {
+        let its = match (&self.goal, closes) {
+            (Goal::Macro(_, _), false) => Bracket::OpensMacro,
+            (Goal::Macro(_, _), true) => Bracket::ClosesMacro,
+            (Goal::Repeat(_), false) => Bracket::OpensRepeat,
+            (Goal::Repeat(_), true) => Bracket::ClosesRepeat,
+        };
+        its == bracket
+    }
+
+    /// Whether a bracket ends the text. Those within are counted.
+    pub fn is_ended_by(&mut self, bracket: Bracket) -> bool {
+        if self.is_its(bracket, true) {
+            if self.nesting == 0 {
+                return true;
+            }
+            self.nesting = self.nesting.saturating_sub(1);
+        }
+        if self.is_its(bracket, false) {
+            self.nesting = self.nesting.saturating_add(1);
+        }
+        false
+    }
+
+    /// How many lines end in the text.
+    pub fn lines(&self) -> usize {
+        self.body.iter().filter(|c| **c == b'\n').count()
+    }
+
+    /// Adds a statement, and the character after it.
+    pub fn add(&mut self, text: &[u8], end: u8) -> Result<(), AllocError> {
+        self.body.extend_from_slice(text)?;
+        self.body.push(end)?;
+        Ok(())
+    }
+}
