@@ -1,0 +1,10 @@
+//! Program files of assembly texts as they are written elsewhere, and reports of what is wrong with the texts.
+#![tactic(auto)]
+
+mod hints;
+mod making;
+mod reporting;
+
+pub use gas::{File, MOST_BYTES, Program, Sources, read};
+pub use making::{Made, Unmade, make};
+pub use reporting::Reporter;
