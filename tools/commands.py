@@ -9,7 +9,7 @@ TABLES = TOP / "crates" / "commandline" / "src" / "declarations.rt"
 
 @dataclasses.dataclass(frozen=True)
 class Word:
-    """A word of a command: its name, how it is given (Bare, Last, Number, Count, Option, Flag, Letter), with what, and its help."""
+    """A word of a command: its name, how it is given (Bare, Last, Each, Number, Count, Option, Flag, Letter, Short), with what, and its help."""
 
     name: str
     given: str
@@ -18,13 +18,15 @@ class Word:
 
     @property
     def is_option(self):
-        return self.given not in ("Bare", "Last")
+        return self.given not in ("Bare", "Last", "Each")
 
     @property
     def spelled(self):
         """As it is written in a command line."""
-        if self.given == "Letter":
-            return f"-{self.value}"
+        if self.given in ("Letter", "Short"):
+            return f"-{self.value}" + (" OUT" if self.given == "Short" else "")
+        if self.given == "Each":
+            return f"{self.name}.."
         takes = {"Number": " N", "Flag": ""}.get(self.given, f" {self.value}")
         return f"--{self.name}{takes}" if self.is_option else self.name if self.given == "Bare" else f"[{self.name}]"
 
@@ -103,7 +105,7 @@ def man_page(version):
 
 def options(command):
     """The options of a command as they are typed, with their helps."""
-    return [(f"-{it.value}" if it.given == "Letter" else f"--{it.name}", it.help, it) for it in command.words if it.is_option]
+    return [(f"-{it.value}" if it.given in ("Letter", "Short") else f"--{it.name}", it.help, it) for it in command.words if it.is_option]
 
 
 def bash():
@@ -136,7 +138,7 @@ def quoted(text):
 
 def zsh_option(word, says, how):
     """An option as `_arguments` of zsh takes it."""
-    takes = f":{how.name}:_files" if how.given in ("Option", "Number", "Count") else ""
+    takes = f":{how.name}:_files" if how.given in ("Option", "Number", "Count", "Short") else ""
     return "'" + word + "[" + quoted(re.sub(r"([][:])", r"\\\1", says)) + "]" + takes + "'"
 
 
@@ -176,6 +178,6 @@ def fish():
     for it in commands:
         for word, says, how in options(it):
             name = f"-s {how.value}" if how.given == "Letter" else f"-l {how.name}"
-            takes = " -r" if how.given in ("Option", "Number", "Count") else ""
+            takes = " -r" if how.given in ("Option", "Number", "Count", "Short") else ""
             lines.append(f"complete -c xv6 -n '__fish_seen_subcommand_from {it.name}' {name}{takes} -d '{quoted(says)}'")
     return "\n".join(lines) + "\n"

@@ -1,8 +1,9 @@
 #!/usr/bin/env python3
 """assembly.py PROGRAM: tries the examples of docs/ASSEMBLY.md, and runs the programs of examples/assembly.
 
-In the table of words each example is assembled; in that of other assemblers' texts each on the left is refused, and each on the right
-that is code alone is assembled. A program's console has to show what the file NAME.out beside it has, after the keys of NAME.keys."""
+In the table of words each example is assembled; in that of other assemblers' texts each on the left is refused by `asm` and taken by
+`as`, and each on the right that is code alone is assembled. The forms of `as` are taken, and its faults are those that the page shows.
+A program's console has to show what the file NAME.out beside it has, after the keys of NAME.keys."""
 import glob
 import os
 import re
@@ -14,12 +15,15 @@ TOP = os.path.join(os.path.dirname(os.path.abspath(__file__)), "..")
 # What the examples go to.
 LABELS = "\n.pad 8\ndone:\nsum:\ntext:\nvalue: .dword 0\n"
 STEPS = "step 200000\n"
+# What the forms of `as` use.
+FORMS = "nop\n.data\n1: start: x: .word 1\nend:\n.text\n.equ SIZE, 4\nlabel: auipc a0, %pcrel_hi(x)\n"
 
 
-def is_assembled(program, text, folder):
-    source = os.path.join(folder, "text.s")
+def is_assembled(program, text, folder, command="asm"):
+    source, made = os.path.join(folder, "text.s"), os.path.join(folder, "text")
     open(source, "w").write(text)
-    return subprocess.run([program, "asm", source, os.path.join(folder, "text")], capture_output=True).returncode == 0
+    words = [source, made] if command == "asm" else [source, "-o", made]
+    return subprocess.run([program, command, *words], capture_output=True).returncode == 0
 
 
 def rows(page, title, n):
@@ -40,7 +44,7 @@ def code(cell):
 def examples(program, page, folder):
     """What is wrong with the examples of the page, and how many there are."""
     wrong, count = [], 0
-    for _, example, _ in rows(page, "The language", 3):
+    for _, example, _ in rows(page, "The language of `asm`", 3):
         for line in code(example):
             count += 1
             if not is_assembled(program, line + LABELS, folder):
@@ -50,9 +54,26 @@ def examples(program, page, folder):
             count += 1
             if is_assembled(program, line + LABELS, folder):
                 wrong.append(f"{line} is assembled")
+            if not is_assembled(program, line + LABELS.replace(".pad 8", "main: .align 3"), folder, "as"):
+                wrong.append(f"as refuses {line}")
         if code(here) and not is_assembled(program, "\n".join(code(here)) + LABELS, folder):
             wrong.append(f"{here} is refused")
+    for form, example in rows(page, "Texts for `xv6 as`", 2):
+        for line in [] if form.startswith("`") else code(example):
+            count += 1
+            if not is_assembled(program, FORMS + line + "\n", folder, "as"):
+                wrong.append(f"as refuses {line}")
     return wrong, count
+
+
+def reported(program, page, folder):
+    """What is wrong with the report that the page shows."""
+    block = next(part for part in page.split("```") if part.strip().startswith("$ xv6 as prog.s"))
+    lines = [line for line in block.strip().splitlines()[1:] if line.startswith("prog.s:")]
+    pictures = [line for line in block.strip().splitlines()[1:] if not line.startswith("prog.s:") and "^" not in line]
+    open(os.path.join(folder, "prog.s"), "w").write("".join(line[4:] + "\n" for line in pictures))
+    said = subprocess.run([program, "as", "prog.s"], cwd=folder, capture_output=True, text=True).stderr.splitlines()
+    return [] if said == lines else [f"as reports {said}"]
 
 
 def shown(program, name, folder):
@@ -70,7 +91,9 @@ def programs(program, folder):
     """The names of the programs that don't show what they should, and how many there are."""
     texts = sorted(glob.glob(os.path.join(TOP, "examples/assembly/*.s")))
     for text in texts:
-        subprocess.run([program, "asm", text, os.path.join(folder, os.path.basename(text)[:-2])], check=True)
+        if text.endswith("lib.s"):
+            continue
+        subprocess.run([program, "as", text, "-o", os.path.join(folder, os.path.basename(text)[:-2])], check=True)
     names = [os.path.basename(out)[:-4] for out in sorted(glob.glob(os.path.join(TOP, "examples/assembly/*.out")))]
     wrong = [f"{name} shows something else" for name in names
              if shown(program, name, folder) != open(os.path.join(TOP, "examples/assembly", name + ".out")).read()]
@@ -83,6 +106,7 @@ def main():
     with tempfile.TemporaryDirectory() as folder:
         wrong, count = examples(program, page, folder)
         odd, run = programs(program, folder)
+        odd += reported(program, page, folder)
     for line in wrong + odd:
         print(line)
     print(f"{count} examples, {run} programs, {len(wrong + odd)} wrong")

@@ -1,10 +1,10 @@
 -- The command line that the program declares, and what a job says of it.
-use Rattle.std.specs.Prelude.{◌≡◌, ◌↔◌, IsTrue, Bool, ℕ, pos, List, [], ◌∷◌, None, Option, Some, true, false, codes, fold, option_map}
+use Rattle.std.specs.Prelude.{◌≡◌, ◌↔◌, IsTrue, Bool, ℕ, pos, List, [], ◌∷◌, None, Option, Some, true, false, codes, fold, map, option_map, slice_get}
 use Rattle.std.specs.Borrow.{Bor}
 use Rattle.std.specs.Int.NonZero.{non_zero_u64_get}
 use Rattle.std.specs.Str.Parse.{IsNumeral, digits_value}
 use Rattle.std.specs.declared.num.NonZeroU64.{NonZeroU64}
-use Rattle.clap.specs.Words.{App, Row, Rule, Text, app_of, first_of, new_app, new_rule, with_rule, with_subcommand}
+use Rattle.clap.specs.Words.{App, Row, Rule, Text, all_of, app_of, first_of, new_app, new_rule, with_rule, with_subcommand}
 use Rattle.clap.specs.declared.builder.action.ArgAction.TheVariants.{SetTrue}
 use Rattle.clap.specs.declared.builder.command.Command.{Command}
 use Rattle.clap.specs.declared.builder.command.Command.TheViews.{out-Command}
@@ -13,9 +13,11 @@ use Rattle.commandline.specs.declared.declarations.Declared.{Declared}
 use Rattle.commandline.specs.declared.declarations.Given.{Given}
 use Rattle.commandline.specs.declared.declarations.Given.TheVariants as given
 use Rattle.commandline.specs.declared.declarations.Word.{Word}
+use Rattle.commandline.specs.declared.jobs.As.{As}
 use Rattle.commandline.specs.declared.jobs.Asm.{Asm}
 use Rattle.commandline.specs.declared.jobs.Check.{Check}
 use Rattle.commandline.specs.declared.jobs.Dump.{Dump}
+use Rattle.commandline.specs.declared.jobs.Files.{Files}
 use Rattle.commandline.specs.declared.jobs.Flat.{Flat}
 use Rattle.commandline.specs.declared.jobs.Job.{Job}
 use Rattle.commandline.specs.declared.jobs.Job.TheVariants as job
@@ -68,6 +70,14 @@ named_rule name = record (new_rule name) { long = Some name }
 -- --name WORD, which may be left out
 abbrev pub option_rule : Text → Rule
 option_rule name = record (new_rule name) { long = Some name; value_names = 1 }
+
+-- --name WORD, or -l WORD, which may be left out
+abbrev pub short_rule : Text → ℕ → Rule
+short_rule name letter = record (option_rule name) { short = Some letter }
+
+-- one to eight words
+abbrev pub each_rule : Text → Rule
+each_rule name = record (word_rule name) { range = Some (record { start_inclusive = 1; end_inclusive = 8 }) }
 
 -- --name, a flag
 abbrev pub flag_rule : Text → Rule
@@ -170,6 +180,12 @@ declared_migrate = with_bare (with_bare (explained (new_app (codes "migrate"))) 
 abbrev pub declared_asm : App
 declared_asm = with_bare (with_bare (explained (new_app (codes "asm"))) (codes "TEXT")) (codes "ELF")
 
+-- as [-o OUT] [--expand] [-v] FILE..
+abbrev pub declared_as : App
+declared_as =
+    with_rule (explained (with_rule (with_rule (with_rule (new_app (codes "as"))
+    (short_rule (codes "out") 111)) (flag_rule (codes "expand"))) (letter_rule (codes "verbose") 118))) (each_rule (codes "FILE"))
+
 -- dump ELF
 abbrev pub declared_dump : App
 declared_dump = with_bare (explained (new_app (codes "dump"))) (codes "ELF")
@@ -194,7 +210,7 @@ with_images app =
 
 -- what works on the texts and the files of programs
 abbrev pub with_programs : App → App
-with_programs app = with_subcommand (with_subcommand app declared_asm.top) declared_dump.top
+with_programs app = with_subcommand (with_subcommand (with_subcommand app declared_asm.top) declared_as.top) declared_dump.top
 
 abbrev pub declared : App
 declared = with_programs (with_images (with_machines declared_top))
@@ -213,6 +229,8 @@ rule_given name (given.Number default) = number_rule name default.now
 rule_given name (given.Count value) = count_rule name
 rule_given name (given.Several value) = several_rule name
 rule_given name (given.Option value) = option_rule name
+rule_given name (given.Short letter) = short_rule name letter
+rule_given name given.Each = each_rule name
 rule_given name given.Flag = flag_rule name
 rule_given name (given.Letter letter) = letter_rule name letter
 
@@ -332,6 +350,29 @@ pub record IsAsm (found : List Row) (asm : Asm) : Type 0 where
   pub text : first_of (codes "TEXT") found ≡ Some asm.text.now
   pub elf : first_of (codes "ELF") found ≡ Some asm.elf.now
 
+-- the word of this index of all these, none where there is none
+abbrev pub IsWordOf : List Text → ℕ → Option (Bor Text) → Type 0
+IsWordOf all index word = option_map (λ w. w.now) word ≡ slice_get all index
+
+-- the first eight of the words of a name
+pub record AreFirst (name : Text) (found : List Row) (files : Files) : Type 0 where
+  pub all : List Text
+  pub are : all_of name found ≡ Some all
+  pub first : slice_get all 0 ≡ Some files.first.now
+  pub second : IsWordOf all 1 files.second
+  pub third : IsWordOf all 2 files.third
+  pub fourth : IsWordOf all 3 files.fourth
+  pub fifth : IsWordOf all 4 files.fifth
+  pub sixth : IsWordOf all 5 files.sixth
+  pub seventh : IsWordOf all 6 files.seventh
+  pub eighth : IsWordOf all 7 files.eighth
+
+pub record IsAs (found : List Row) (as_job : As) : Type 0 where
+  pub texts : AreFirst (codes "FILE") found as_job.texts
+  pub out : IsOption (codes "out") found as_job.out
+  pub expand : IsFlag (codes "expand") found as_job.expand
+  pub verbose : IsFlag (codes "verbose") found as_job.verbose
+
 pub record IsDump (found : List Row) (dump : Dump) : Type 0 where
   pub elf : first_of (codes "ELF") found ≡ Some dump.elf.now
 
@@ -356,5 +397,6 @@ IsJob found (job.Get get) = (rows : List Row) × (found ≡ Some (codes "get", r
 IsJob found (job.Put put) = (rows : List Row) × (found ≡ Some (codes "put", rows)) × IsPut rows put
 IsJob found (job.Migrate migrate) = (rows : List Row) × (found ≡ Some (codes "migrate", rows)) × IsMigrate rows migrate
 IsJob found (job.Asm asm) = (rows : List Row) × (found ≡ Some (codes "asm", rows)) × IsAsm rows asm
+IsJob found (job.As words) = (rows : List Row) × (found ≡ Some (codes "as", rows)) × IsAs rows words
 IsJob found (job.Dump dump) = (rows : List Row) × (found ≡ Some (codes "dump", rows)) × IsDump rows dump
 IsJob found (job.Live live) = (rows : List Row) × (found ≡ Some (codes "live", rows)) × IsLive rows live

@@ -1,12 +1,12 @@
 //! What the words of a command line ask for.
-ghost use Rattle.std.specs.Prelude.{◌≡◌, ◌↔◌, IfOk, IfSome, IsTrue, Some, codes, false, fold, map, option_map};
+ghost use Rattle.std.specs.Prelude.{◌≡◌, ◌↔◌, IfOk, IfSome, IsTrue, Some, codes, false, fold, map, option_map, slice_get};
 ghost use Rattle.clap.specs.Words.{app_of, first_of, found_of, rows_of, rule_of, subcommand_of, subcommand_rows_of};
-ghost use Rattle.commandline.specs.Declarations.{DeclaresOwn, IsCount, IsJob, IsLines, IsPart, IsRun, IsTelling, IsWritten, Writes, declared, declared_by, declared_top, flag_rule, last_rule, named_rule, option_rule, rule_given, with_declared};
+ghost use Rattle.commandline.specs.Declarations.{AreFirst, DeclaresOwn, IsCount, IsJob, IsLines, IsPart, IsRun, IsTelling, IsWritten, Writes, declared, declared_by, declared_top, flag_rule, last_rule, named_rule, option_rule, rule_given, with_declared};
 
 use crate::declarations::{COMMANDS, Declared, EXAMPLE, Given, Word};
 use crate::jobs::{
-    Asm, Check, Dump, Flat, Get, Job, Lines, Live, Ls, Migrate, Mkfs, Part, Play, Put, Run,
-    Telling, Trace,
+    As, Asm, Check, Dump, Files, Flat, Get, Job, Lines, Live, Ls, Migrate, Mkfs, Part, Play, Put,
+    Run, Telling, Trace,
 };
 use clap::error::ErrorKind;
 use clap::{Arg, ArgAction, ArgMatches, Command, Error, value_parser};
@@ -66,6 +66,8 @@ fn arg<'a>(alloc: Global, word: &Word<'a>) -> Arg<'a>
             option(alloc, word, value).value_parser(value_parser!(u32).range(2..))
         }
         Given::Option(value) => option(alloc, word, value),
+        Given::Short(letter) => option(alloc, word, "OUT").short(letter),
+        Given::Each => placed(alloc, word).required(true).num_args(1..=8),
         Given::Flag => flag(alloc, word),
         Given::Letter(letter) => flag(alloc, word).short(letter),
     }
@@ -454,6 +456,53 @@ fn asm<'a>(found: &ArgMatches<'a>) -> Option<Job<'a>>
     Some(Job::Asm(Asm { text, elf }))
 }
 
+// The word of this index, if there is one.
+fn word_in<'a>(words: &[&'a str], index: usize) -> Option<&'a str>
+    ensures { option_map (λ word. word.now) result ≡ slice_get (map (λ word. word.now) words.now) index }
+{
+    match words.get(index) {
+        Some(word) => Some(*word),
+        None => None,
+    }
+}
+
+// The first eight words that were found of this name.
+fn files_found<'a>(found: &ArgMatches<'a>, name: &str) -> Option<Files<'a>>
+    ensures { IfSome result (AreFirst name.now (rows_of (found_of found.now))) }
+{
+    let Some(words) = found.get_strs(name) else {
+        return None;
+    };
+    Some(Files {
+        first: word_in(words, 0)?,
+        second: word_in(words, 1),
+        third: word_in(words, 2),
+        fourth: word_in(words, 3),
+        fifth: word_in(words, 4),
+        sixth: word_in(words, 5),
+        seventh: word_in(words, 6),
+        eighth: word_in(words, 7),
+    })
+}
+
+// What the words after `as` ask for.
+fn assemble<'a>(found: &ArgMatches<'a>) -> Option<Job<'a>>
+    ensures { IfSome result (IsJob (Some (codes "as", rows_of (found_of found.now)))) }
+{
+    let out = option_found(found, "out");
+    let expand = flag_found(found, "expand");
+    let verbose = flag_found(found, "verbose");
+    let Some(texts) = files_found(found, "FILE") else {
+        return None;
+    };
+    Some(Job::As(As {
+        texts,
+        out,
+        expand,
+        verbose,
+    }))
+}
+
 // What the word after `dump` asks for.
 fn dump<'a>(found: &ArgMatches<'a>) -> Option<Job<'a>>
     ensures { IfSome result (IsJob (Some (codes "dump", rows_of (found_of found.now)))) }
@@ -496,6 +545,9 @@ fn program_job<'a>(matches: &ArgMatches<'a>) -> Option<Job<'a>>
 {
     if let Some(found) = matches.subcommand_matches("asm") {
         return asm(found);
+    }
+    if let Some(found) = matches.subcommand_matches("as") {
+        return assemble(found);
     }
     if let Some(found) = matches.subcommand_matches("dump") {
         return dump(found);

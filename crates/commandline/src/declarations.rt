@@ -79,7 +79,11 @@ Programs are written as assembly texts:
 xv6 asm start.s start
 xv6 dump start
 
-The second prints a line for each word, the first `00000000: 000008b7 lui a7, 0x0`.";
+Texts for other assemblers, as GNU as, RARS and Venus, go to another command:
+
+xv6 as hello.s
+
+`xv6 dump start` prints a line for each word, the first `00000000: 000008b7 lui a7, 0x0`.";
 
 // How a word of a command is given.
 #[derive(Clone, Copy)]
@@ -96,6 +100,10 @@ pub(crate) enum Given<'a> {
     Several(&'a str),
     // As an option that may be left out; help calls its value so.
     Option(&'a str),
+    // As an option that has a letter, too; help calls its value OUT.
+    Short(char),
+    // Once to eight times.
+    Each,
     // As a flag, which is left out or given once.
     Flag,
     // As a flag that has a letter, too.
@@ -447,6 +455,30 @@ const ASM: [Word<'static>; 3] = [
     },
 ];
 
+const AS: [Word<'static>; 5] = [
+    Word {
+        name: "out",
+        given: Given::Short('o'),
+        help: "The program's file, which is written: the first text's name without .s, if left out",
+    },
+    Word {
+        name: "expand",
+        given: Given::Flag,
+        help: "Prints the text that `xv6 asm` takes, and writes no file",
+    },
+    Word {
+        name: "verbose",
+        given: Given::Letter('v'),
+        help: "Names the directives that say nothing here",
+    },
+    EXPLAIN,
+    Word {
+        name: "FILE",
+        given: Given::Each,
+        help: "The texts, 1 to 8; the program begins at the first instruction of the first one",
+    },
+];
+
 const DUMP: [Word<'static>; 2] = [EXPLAIN, PROGRAM_FILE];
 
 const LIVE: [Word<'static>; 7] = [
@@ -471,7 +503,7 @@ const LIVE: [Word<'static>; 7] = [
     BOOTED,
 ];
 
-pub(crate) const COMMANDS: [Declared<'static>; 13] = [
+pub(crate) const COMMANDS: [Declared<'static>; 14] = [
     Declared {
         name: "flat",
         about: "Boots a flat program and runs a script of events",
@@ -593,6 +625,21 @@ Example, where start.s is a text as `start: li a7, 11`, `ecall`, `j start`, a li
 
 xv6 asm start.s start",
         words: &ASM,
+    },
+    Declared {
+        name: "as",
+        about: "Makes a program file of texts for other assemblers: GNU as, RARS, Venus",
+        example: "\
+Example, where hello.s has sections, `la`, `call`, `li` of any number, `.asciz`, macros and the like:
+
+xv6 as hello.s
+xv6 as main.s lib.s -o program
+xv6 as --expand hello.s
+
+The first writes the program's file hello, the last prints the text that `xv6 asm` takes. All that is
+wrong is printed at once, each fault as `hello.s:7:9: beqz takes a register and a label: beqz a0, done`.
+`.globl` lets another text use a label, and `.include \"lib.s\"` reads a text beside the one that names it.",
+        words: &AS,
     },
     Declared {
         name: "dump",

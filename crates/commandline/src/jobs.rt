@@ -29,6 +29,8 @@ pub enum Job<'a> {
     Migrate(Migrate<'a>),
     /// Assembles a text.
     Asm(Asm<'a>),
+    /// Assembles texts as they are written for other assemblers.
+    As(As<'a>),
     /// Shows the instructions of a program file.
     Dump(Dump<'a>),
 }
@@ -211,6 +213,32 @@ pub struct Asm<'a> {
     pub text: &'a str,
     /// The name of the program's file, which is written.
     pub elf: &'a str,
+}
+
+/// The names of one to eight files.
+#[derive(Clone, Copy, PartialEq, Eq)]
+pub struct Files<'a> {
+    pub first: &'a str,
+    pub second: Option<&'a str>,
+    pub third: Option<&'a str>,
+    pub fourth: Option<&'a str>,
+    pub fifth: Option<&'a str>,
+    pub sixth: Option<&'a str>,
+    pub seventh: Option<&'a str>,
+    pub eighth: Option<&'a str>,
+}
+
+/// The words of the command `as`.
+#[derive(Clone, Copy, PartialEq, Eq)]
+pub struct As<'a> {
+    /// The names of the texts' files.
+    pub texts: Files<'a>,
+    /// The name of the program's file, where it isn't the first text's without its end.
+    pub out: Option<&'a str>,
+    /// Whether the text in the language of `asm` is printed, and no file written.
+    pub expand: bool,
+    /// Whether directives are named that say nothing.
+    pub verbose: bool,
 }
 
 /// The word of the command `dump`.

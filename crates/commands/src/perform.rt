@@ -5,7 +5,7 @@ mod tracing;
 use commandline::{Job, Mkfs};
 use hosts::{Failure, Host, Screen, print, read, tell};
 use image::Summary;
-use image_commands::{images, openings, program_files};
+use image_commands::{assembling, images, openings, program_files};
 use jobfiles::named_twice;
 use run_commands::{Cleared, Meter, plays, scripted, sessions};
 use std::alloc::Global;
@@ -56,6 +56,15 @@ fn perform_quietly<E: Write>(done: Result<(), Failure<'_>>, stderr: &mut E) -> u
     }
 }
 
+// The status of a job that reports by itself why it isn't done, or what was wrong.
+fn perform_reporting<E: Write>(done: Result<bool, Failure<'_>>, stderr: &mut E) -> u8 {
+    match done {
+        Ok(true) => 0,
+        Ok(false) => 1,
+        Err(failure) => tell(&failure, stderr),
+    }
+}
+
 // The terminal on which a job tells that it goes on, where it does: of a trace, where its text isn't on standard error.
 fn screen_of<H: Host>(job: &Job<'_>, host: &H) -> Option<H::Screen> {
     let is_told = match *job {
@@ -85,6 +94,12 @@ fn perform_on<H: Host, S: Screen, W: Write, E: Write>(
         Job::Ls(words) => perform_quietly(images::ls(alloc, words, host, stdout), stderr),
         Job::Migrate(words) => perform_telling(images::migrate(alloc, words, host), stdout, stderr),
         Job::Asm(words) => perform_quietly(program_files::asm(alloc, words, host), stderr),
+        Job::As(words) => {
+            perform_reporting(
+                assembling::assemble(alloc, words, host, stdout, stderr),
+                stderr,
+            )
+        }
         Job::Dump(words) => perform_quietly(
             program_files::dump(alloc, words, host, stdout),
             stderr,

@@ -1,9 +1,9 @@
 //! The words that texts and command lines are made of.
 
 /// The commands.
-pub const COMMANDS: [&str; 13] = [
+pub const COMMANDS: [&str; 14] = [
     "flat", "run", "live", "play", "trace", "mkfs", "check", "ls", "get", "put", "migrate", "asm",
-    "dump",
+    "as", "dump",
 ];
 
 /// What a line of a script begins with.

@@ -2,6 +2,7 @@
 
 mod images;
 
+use crate::assembling::takes;
 use commandline::Job;
 use explanations::words::{
     ASSEMBLY, CALLS, COMMANDS, MANIFEST, PLAY, SCRIPT, first_word, last_word, line_of,
@@ -92,6 +93,25 @@ fn odd_line(
     Ok(Some(format!(in alloc; "{name}:{number}: {line}{more}")?))
 }
 
+// A line of an assembly text that is none: what `as` makes of it, or a hint.
+fn odd_assembly<H: Host>(
+    alloc: Global,
+    told: Told<'_>,
+    host: &mut H,
+) -> Result<Option<String>, AllocError> {
+    let number = number_behind(told.line, "line ");
+    if !takes(alloc, told.name, told.text.as_bytes(), host) {
+        return odd_line(alloc, told, number, Kind::Assembly);
+    }
+    match number {
+        Some(number) => {
+            let name = told.name;
+            Ok(Some(format!(in alloc; "{name}:{number}: xv6 as takes this text")?))
+        }
+        None => Ok(None),
+    }
+}
+
 // The text of a file, if it has one.
 fn text_of<H: Host>(alloc: Global, name: &str, host: &mut H) -> Option<String> {
     let bytes = host.read(name).ok()?;
@@ -148,7 +168,7 @@ fn of_text<H: Host>(
     let told = Told { name, text, line };
     match *job {
         Job::Mkfs(_) => of_manifest(alloc, told),
-        Job::Asm(_) => odd_line(alloc, told, number_behind(line, "line "), Kind::Assembly),
+        Job::Asm(_) => odd_assembly(alloc, told, host),
         _ => odd_line(
             alloc,
             told,

@@ -1,6 +1,7 @@
 //! The commands on disk images and program files, done over a host's files, and what `--explain` adds.
 #![tactic(auto)]
 
+pub mod assembling;
 mod explaining;
 pub mod images;
 pub mod openings;

@@ -1,6 +1,6 @@
 //! Stored runs of the commands on the texts and the files of programs.
 use crate::tests::{DONE, Files, change, expect, files_of};
-use commands::{Asm, Dump, Job};
+use commands::{As, Asm, Dump, Files as Names, Job};
 use std::process::Abort;
 
 // The text lies where scripts do, and the program's file where images do.
@@ -130,6 +130,90 @@ fn expect_all_shown(rt: &(impl Abort + AllocGlobal), rows: &[Shown]) {
 fn expect_files(rt: &(impl Abort + AllocGlobal)) {
     expect_all_shown(rt, TEXTS);
     expect_all_shown(rt, CHANGED);
+}
+
+// The words of `as` for the text that lies where scripts do.
+const AS: As<'static> = As {
+    texts: Names {
+        first: "script",
+        second: None,
+        third: None,
+        fourth: None,
+        fifth: None,
+        sixth: None,
+        seventh: None,
+        eighth: None,
+    },
+    out: Some("image"),
+    expand: false,
+    verbose: false,
+};
+
+// A text, what is shown of the file that `as` makes of it, and what is reported.
+type Made = (&'static str, &'static str, &'static str);
+
+// A text for GNU as, one that names what is passed over, and two that are refused.
+const MADE: &[Made] = &[
+    (
+        ".data\nx: .word 7\n.text\n.globl main\nmain: la a0, x; lw a0, (a0)\nbeqz a0, 1f\n1: ret",
+        "00000000: 00000517 auipc a0, 0x0\n00000004: 01450513 addi a0, a0, 20\n00000008: 00052503 lw a0, 0(a0)\n0000000c: 00050263 beq a0, zero, 4\n00000010: 00008067 jalr zero, 0(ra)\n00000014: 00000007 .word 0x00000007\n",
+        "",
+    ),
+    (
+        ".type f, @function\nf: ret",
+        "00000000: 00008067 jalr zero, 0(ra)\n",
+        "script:1:1: .type says nothing here\n",
+    ),
+    (
+        "  beqz a0\n  bnezz a0, x",
+        "",
+        "script:1:3: beqz takes a register and a label: beqz a0, done\nscript:2:3: no instruction has this name: did you mean bnez?\n",
+    ),
+    (
+        ".macro m r\n li \\r, 1\n.endm\n m b9",
+        "",
+        "script:2:5: a register belongs here: x0 to x31, zero, ra, sp, gp, tp, t0 to t6, s0 to s11, a0 to a7, fp\nscript:4: called from here\n",
+    ),
+];
+
+// Nothing but a file that is made is shown.
+fn expect_made(rt: &(impl Abort + AllocGlobal), row: &Made) {
+    let (text, shown, reported) = *row;
+    let nothing = Vec::new(rt.alloc());
+    let mut files = files_of(rt.alloc(), nothing, text.as_bytes()).expect(rt, "memory");
+    let job = Job::As(As {
+        verbose: true,
+        ..AS
+    });
+    let status = if shown.is_empty() { 1 } else { 0 };
+    expect(rt, ("as", text), &mut files, &job, ("", reported, status));
+    if status == 0 {
+        expect(rt, ("a dump", text), &mut files, &DUMP, (shown, "", 0));
+    }
+}
+
+// The text in the language of `asm` is printed, and no file written.
+fn expect_expanded(rt: &(impl Abort + AllocGlobal)) {
+    let nothing = Vec::new(rt.alloc());
+    let mut files = files_of(rt.alloc(), nothing, b"mv a0, a1; nop").expect(rt, "memory");
+    let job = Job::As(As { expand: true, ..AS });
+    let wanted = ("    addi a0, a1, 0\n    addi zero, zero, 0\n", "", 0);
+    expect(rt, ("as", "--expand"), &mut files, &job, wanted);
+    expect(
+        rt,
+        ("a dump", "of nothing"),
+        &mut files,
+        &DUMP,
+        ("", "fault 1 Magic\n", 1),
+    );
+}
+
+#[test]
+fn assembles_texts_for_others(rt: HostRuntime) {
+    for row in MADE {
+        expect_made(&rt, row);
+    }
+    expect_expanded(&rt);
 }
 
 #[test]

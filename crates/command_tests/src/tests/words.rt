@@ -5,8 +5,8 @@ use crate::tests::{UNTOLD, expect_that};
 use clap::Error;
 use clap::error::ErrorKind;
 use commands::{
-    Asm, Check, Dump, Flat, Get, Job, Lines, Live, Ls, Migrate, Mkfs, Part, Play, Put, Run,
-    Telling, Trace, explains, job, refuse,
+    As, Asm, Check, Dump, Files, Flat, Get, Job, Lines, Live, Ls, Migrate, Mkfs, Part, Play, Put,
+    Run, Telling, Trace, explains, job, refuse,
 };
 use std::num::NonZeroU64;
 use std::process::Abort;
@@ -79,7 +79,7 @@ fn error_of(rt: &(impl Abort + AllocGlobal), line: &str) -> Error {
         .expect(rt, "an error")
 }
 
-static REFUSALS: [(&str, ErrorKind); 24] = [
+static REFUSALS: [(&str, ErrorKind); 26] = [
     ("xv6 --help  ", ErrorKind::DisplayHelp),
     ("xv6 flat a --help", ErrorKind::DisplayHelp),
     ("xv6 sharp a b", ErrorKind::InvalidSubcommand),
@@ -89,6 +89,8 @@ static REFUSALS: [(&str, ErrorKind); 24] = [
     ("xv6 ls a", ErrorKind::MissingRequiredArgument),
     ("xv6 migrate a", ErrorKind::MissingRequiredArgument),
     ("xv6 asm a", ErrorKind::MissingRequiredArgument),
+    ("xv6 as -v", ErrorKind::MissingRequiredArgument),
+    ("xv6 as a b c d e f g h i", ErrorKind::TooManyValues),
     ("xv6 dump", ErrorKind::MissingRequiredArgument),
     ("xv6 flat --frames=x a", ErrorKind::ValueValidation),
     ("xv6 flat --frames=4294967296 a", ErrorKind::ValueValidation),
@@ -145,6 +147,7 @@ static HELP: [(&str, &[&str]); 5] = [
             "put",
             "migrate",
             "asm",
+            "as",
             "dump",
             "--save",
             "--fail",
@@ -349,6 +352,25 @@ fn expect_path_jobs(rt: &(impl Abort + AllocGlobal)) {
 }
 
 fn expect_program_jobs(rt: &(impl Abort + AllocGlobal)) {
+    expect_job(
+        rt,
+        "xv6 as a.s b.s -o c --expand",
+        &Job::As(As {
+            texts: Files {
+                first: "a.s",
+                second: Some("b.s"),
+                third: None,
+                fourth: None,
+                fifth: None,
+                sixth: None,
+                seventh: None,
+                eighth: None,
+            },
+            out: Some("c"),
+            expand: true,
+            verbose: false,
+        }),
+    );
     expect_job(
         rt,
         "xv6 asm a b",
