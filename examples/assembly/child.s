@@ -1,25 +1,4 @@
 # Prints how many arguments it has; descriptor 0 is the console's.
-start:      jal ra, print_number
-            li a0, 0
-            li a7, 2                # exit
-            ecall
-
-# print_number(a0): writes it in decimal, and the line's end. The digits are made from the last to the first, on the stack.
-print_number:
-            addi sp, sp, -32
-            addi a1, sp, 31         # a1: where the text begins
-            li t1, 10
-            sb t1, 0(a1)            # the line's end has the number 10, too
-digit:      remu t0, a0, t1         # the last digit
-            divu a0, a0, t1
-            addi t0, t0, 48         # as a character
-            addi a1, a1, -1
-            sb t0, 0(a1)
-            bne a0, zero, digit
-            addi a2, sp, 32         # a2: how many characters
-            sub a2, a2, a1
-            li a0, 0
-            li a7, 16               # write
-            ecall
-            addi sp, sp, 32
-            ret
+            .include "lib.s"
+start:      call print_number
+            exit 0

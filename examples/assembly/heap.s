@@ -1,55 +1,22 @@
 # Asks for memory, fills it with the numbers 1 to 1000, and prints their sum.
-start:
-            la a0, console          # the console is made and opened: descriptor 0, to read and to write
-            li a1, 1                # major 1, minor 0
-            li a2, 0
-            li a7, 17               # mknod
-            ecall
-            la a0, console
-            li a1, 2
-            li a7, 15               # open
-            ecall
-            li a0, 8000             # 1000 numbers of 8 bytes
-            li a7, 12               # sbrk: where the new bytes begin
-            ecall
+            .include "lib.s"
+            .equ COUNT, 1000
+start:      call open_console
+            li a0, COUNT * 8
+            system SBRK             # where the new bytes begin
             mv s0, a0
             li t0, 1
-fill:       sd t0, 0(a0)
+            li t1, COUNT
+fill:       sd t0, (a0)
             addi a0, a0, 8
             addi t0, t0, 1
-            li t1, 1000
-            bge t1, t0, fill
+            ble t0, t1, fill
             li t0, 0                # t0: how many are added
             li a0, 0                # a0: their sum
-add:        ld t1, 0(s0)
-            add a0, a0, t1
+add:        ld t2, (s0)
+            add a0, a0, t2
             addi s0, s0, 8
             addi t0, t0, 1
-            li t1, 1000
             blt t0, t1, add
-            jal ra, print_number
-            li a0, 0
-            li a7, 2                # exit: the machine halts
-            ecall
-
-# print_number(a0): writes it in decimal, and the line's end. The digits are made from the last to the first, on the stack.
-print_number:
-            addi sp, sp, -32
-            addi a1, sp, 31         # a1: where the text begins
-            li t1, 10
-            sb t1, 0(a1)            # the line's end has the number 10, too
-digit:      remu t0, a0, t1         # the last digit
-            divu a0, a0, t1
-            addi t0, t0, 48         # as a character
-            addi a1, a1, -1
-            sb t0, 0(a1)
-            bne a0, zero, digit
-            addi a2, sp, 32         # a2: how many characters
-            sub a2, a2, a1
-            li a0, 0
-            li a7, 16               # write
-            ecall
-            addi sp, sp, 32
-            ret
-
-console:    .ascii "console\0"
+            call print_number
+            exit 0
