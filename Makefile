@@ -173,6 +173,11 @@ check-qemu: | program
 check-assembly: | program
 	trials/assembly.py $(PROGRAM)
 
+# Compares what `xv6 as` makes with the files of GNU as and ld, for random texts and for what gcc makes of the C programs.
+.PHONY: check-as
+check-as: | program
+	trials/as.py $(PROGRAM)
+
 # Ends a thousand saves at random moments: the old file or the new one is there, whole.
 kills: | program
 	trials/saves.py kills $(PROGRAM)
