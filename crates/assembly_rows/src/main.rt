@@ -1,7 +1,7 @@
 //! Texts for other assemblers beside what GNU as and ld make of them.
 //!
 //! Standard input has the texts, each after a line `@ LENGTH SUM`: how many bytes the program has, and their FNV-1a sum
-//! of 64 bits in hexadecimal digits. `trials/as.py --rows PROGRAM` writes them. The program assembles each, and prints how many
+//! of 64 bits in hexadecimal digits. `trials/as.py --rows` writes them. The program assembles each, and prints how many
 //! there are; the first whose program has other bytes ends it with status 1.
 #![tactic(auto)]
 
@@ -89,7 +89,10 @@ fn count(alloc: Global, rows: &str) -> anyhow::Result<u64> {
 fn main(rt: HostRuntime) -> anyhow::Result<()> {
     let alloc = rt.alloc();
     let rows = io::read_to_string(alloc, rt.reader())?;
-    let rows = rows.as_str().strip_prefix("@ ").context("the texts begin with an @")?;
+    let rows = rows
+        .as_str()
+        .strip_prefix("@ ")
+        .context("the texts begin with an @")?;
     let count = count(alloc, rows)?;
     println!(rt; "{count} texts")?;
     Ok(())

@@ -154,10 +154,8 @@ impl Layout {
             let mut part = self.part_of(section, unit);
             let gap = padding(end, part.align);
             part.start = end.saturating_add(gap);
-            if part.offset > 0 {
-                part.gap = gap;
-                end = part.start.saturating_add(part.offset);
-            }
+            part.gap = gap;
+            end = part.start.saturating_add(part.offset);
             self.set_part(section, unit, part);
         }
         end
