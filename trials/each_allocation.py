@@ -36,6 +36,7 @@ FLAT = bytes.fromhex("9308b000730000006ff0dfff")
 # Each command, with the file that it writes.
 COMMANDS = {
     "asm": (["asm", "text", "out"], "out"),
+    "as": (["as", "macros.s", "-o", "out"], "out"),
     "dump": (["dump", "init"], None),
     "mkfs": (["mkfs", "manifest", "out"], "out"),
     "check": (["check", "image"], None),
@@ -60,6 +61,8 @@ def fill(folder, program):
     (folder / "text").write_bytes((USER / "sh.s").read_bytes())
     (folder / "script").write_text(SCRIPT)
     (folder / "short").write_text("step 100\ntick 2\n")
+    (folder / "macros.s").write_text('.include "lib.s"\n1: twice li, to=t0\nj 1b\n')
+    (folder / "lib.s").write_text(".macro twice op, to=a0\n\\op \\to, 1\n.rept 2\n\\op \\to, 2\n.endr\n.endm\n")
     (folder / "flat").write_bytes(FLAT)
     subprocess.run([program, "mkfs", "manifest", "image"], cwd=folder, check=True)
     # an image of the small format: where no file has more than 11 blocks only the magic number differs

@@ -7,7 +7,7 @@
 
 use anyhow::{Context, bail, ensure};
 use assembly_texts::{File, Sources, make, read};
-use std::alloc::Global;
+use std::alloc::{AllocError, Global};
 use std::io;
 
 /// Where the program's bytes begin in its file.
@@ -18,8 +18,8 @@ const PROGRAM_AT: usize = 4096;
 struct NoFiles;
 
 impl Sources for NoFiles {
-    fn text(&mut self, _name: &str) -> Option<Vec<u8>> {
-        None
+    fn text(&mut self, _name: &str) -> Result<Option<Vec<u8>>, AllocError> {
+        Ok(None)
     }
 }
 

@@ -25,11 +25,11 @@ pub fn word_at(row: &Row, column: usize) -> &str {
 }
 
 /// The word that was meant where no instruction or directive is called so.
-pub fn meant(
+pub fn meant<'w>(
     alloc: Global,
     program: &Program,
     fault: &Fault,
-) -> Result<Option<&'static str>, AllocError> {
+) -> Result<Option<&'w str>, AllocError> {
     if !matches!(fault.wrong, Wrong::Instruction | Wrong::Directive) {
         return Ok(None);
     }

@@ -43,11 +43,10 @@ pub fn bracket_called(word: &[u8]) -> Option<Bracket> {
 /// What is collected so far.
 #[derive(Drop)]
 pub struct Collector {
-    pub goal: Goal,
-    pub body: Vec<u8>,
-    /// The row that asks for it, and the line after that.
-    pub row: usize,
-    pub place: Place,
+    goal: Goal,
+    body: Vec<u8>,
+    row: usize,
+    place: Place,
     nesting: usize,
 }
 
@@ -85,6 +84,23 @@ impl Collector {
             self.nesting = self.nesting.saturating_add(1);
         }
         false
+    }
+
+    /// The row that asks for it.
+    pub fn row(&self) -> usize {
+        self.row
+    }
+
+    /// What it is collected for, the text, the row that asks for it, and the line after that.
+    pub fn parts(self) -> (Goal, Vec<u8>, usize, Place) {
+        let Collector {
+            goal,
+            body,
+            row,
+            place,
+            ..
+        } = self;
+        (goal, body, row, place)
     }
 
     /// How many lines end in the text.

@@ -6,7 +6,7 @@ use crate::fault::{Position, Stop, Usage, Wrong};
 use crate::names::Symbol;
 use crate::operands::Call;
 use crate::value::{Section, Value};
-use crate::words::add_instructions;
+use crate::words::{add_instructions, add_names};
 use std::alloc::{AllocError, Global};
 
 /// What a directive asks for.
@@ -145,8 +145,8 @@ fn passed(name: &[u8]) -> Option<Named> {
     None
 }
 
-fn add(
-    words: &mut Vec<&'static str>,
+fn add<'w>(
+    words: &mut Vec<&'w str>,
     table: &[(&'static str, Directive)],
 ) -> Result<(), AllocError> {
     for (name, _) in table {
@@ -155,15 +155,23 @@ fn add(
     Ok(())
 }
 
+fn add_data<'w>(words: &mut Vec<&'w str>) -> Result<(), AllocError> {
+    add(words, &DATA)
+}
+
+fn add_others<'w>(words: &mut Vec<&'w str>) -> Result<(), AllocError> {
+    add(words, &SECTIONS)?;
+    add(words, &OTHERS)?;
+    add_names(words, &PASSED)?;
+    add_names(words, &READ)
+}
+
 /// The names of all instructions and directives.
-pub fn known_words(alloc: Global) -> Result<Vec<&'static str>, AllocError> {
+pub fn known_words<'w>(alloc: Global) -> Result<Vec<&'w str>, AllocError> {
     let mut words = Vec::new(alloc);
     add_instructions(&mut words)?;
-    add(&mut words, &DATA)?;
-    add(&mut words, &SECTIONS)?;
-    add(&mut words, &OTHERS)?;
-    words.extend_from_slice(&PASSED)?;
-    words.extend_from_slice(&READ)?;
+    add_data(&mut words)?;
+    add_others(&mut words)?;
     Ok(words)
 }
 

@@ -275,19 +275,20 @@ impl Reader {
 
     // What is collected is used, after the statement that ends it.
     fn close(&mut self, collector: Collector, statement: &Statement) -> Result<(), AllocError> {
-        let (index, place, lines) = (collector.row, collector.place, collector.lines());
-        match collector.goal {
+        let lines = collector.lines();
+        let (goal, body, index, place) = collector.parts();
+        match goal {
             Goal::Macro(name, parameters) => {
                 let defined = Macro {
                     name,
                     parameters,
-                    body: collector.body,
+                    body,
                     place,
                 };
                 self.define(index, defined)
             }
             Goal::Repeat(count) => {
-                let repeated = repeated(self.alloc, &collector.body, count, MOST_BYTES)?;
+                let repeated = repeated(self.alloc, &body, count, MOST_BYTES)?;
                 let line = self.line_of(place, statement);
                 match repeated {
                     Some(bytes) => self.enter(index, Text::of_repetition(bytes, line, lines)),
@@ -397,12 +398,12 @@ impl Reader {
         name: &str,
     ) -> Result<(), AllocError> {
         let beside = self.beside(index, name)?;
-        if let Some(text) = sources.text(beside.as_str()) {
+        if let Some(text) = sources.text(beside.as_str())? {
             let name = beside.as_str();
             return self.enter_file(index, File { name, text: &text });
         }
         if beside.as_str() != name {
-            if let Some(text) = sources.text(name) {
+            if let Some(text) = sources.text(name)? {
                 return self.enter_file(index, File { name, text: &text });
             }
         }
@@ -452,7 +453,7 @@ impl Reader {
             self.stop(last, Wrong::Long);
         }
         if let Some(collector) = self.collector.take() {
-            self.note(collector.row, Wrong::Open);
+            self.note(collector.row(), Wrong::Open);
         }
         Ok(())
     }

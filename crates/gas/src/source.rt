@@ -1,12 +1,12 @@
 //! What is read: files, and the statements that they have once files and macros are in place.
 
 use crate::fault::Wrong;
-use std::alloc::Global;
+use std::alloc::{AllocError, Global};
 
 /// Where texts come from.
 pub trait Sources {
-    /// The text of this name, if there is one.
-    fn text(&mut self, name: &str) -> Option<Vec<u8>>;
+    /// The text of this name, if there is one that can be read.
+    fn text(&mut self, name: &str) -> Result<Option<Vec<u8>>, AllocError>;
 }
 
 /// A file, and its text.

@@ -12,11 +12,11 @@ const LIBRARY: &str = ".macro twice op, to=a0\n\\op \\to, 1\n\\op \\to, 2\n.endm
 struct Library(Global);
 
 impl Sources for Library {
-    fn text(&mut self, name: &str) -> Option<Vec<u8>> {
+    fn text(&mut self, name: &str) -> Result<Option<Vec<u8>>, AllocError> {
         match name {
-            "dir/lib.s" => LIBRARY.as_bytes().to_vec(self.0).ok(),
-            "dir/loop.s" => b".include \"loop.s\"".to_vec(self.0).ok(),
-            _ => None,
+            "dir/lib.s" => Ok(Some(LIBRARY.as_bytes().to_vec(self.0)?)),
+            "dir/loop.s" => Ok(Some(b".include \"loop.s\"".to_vec(self.0)?)),
+            _ => Ok(None),
         }
     }
 }

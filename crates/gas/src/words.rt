@@ -195,8 +195,16 @@ fn pseudo_called(word: &[u8]) -> Option<Word> {
     formed(&OTHER_FORMS, word)
 }
 
-fn add_forms(
-    words: &mut Vec<&'static str>,
+/// Adds names.
+pub fn add_names<'w>(words: &mut Vec<&'w str>, names: &[&'static str]) -> Result<(), AllocError> {
+    for name in names {
+        words.push(*name)?;
+    }
+    Ok(())
+}
+
+fn add_forms<'w>(
+    words: &mut Vec<&'w str>,
     forms: &[(&'static str, Form)],
 ) -> Result<(), AllocError> {
     for (name, _) in forms {
@@ -205,20 +213,42 @@ fn add_forms(
     Ok(())
 }
 
-/// Adds the names of all instructions.
-pub fn add_instructions(words: &mut Vec<&'static str>) -> Result<(), AllocError> {
-    words.extend_from_slice(&REGISTERS)?;
-    words.extend_from_slice(&NUMBERS)?;
-    words.extend_from_slice(&SHIFTS)?;
-    words.extend_from_slice(&WORD_SHIFTS)?;
-    words.extend_from_slice(&LOADS)?;
-    words.extend_from_slice(&STORES)?;
-    words.extend_from_slice(&BRANCHES)?;
-    words.extend_from_slice(&UPPERS)?;
-    add_forms(words, &BRANCH_FORMS)?;
+// Those that are operations on registers and numbers.
+fn add_operations<'w>(words: &mut Vec<&'w str>) -> Result<(), AllocError> {
+    add_names(words, &REGISTERS)?;
+    add_names(words, &NUMBERS)?;
+    add_names(words, &SHIFTS)?;
+    add_names(words, &WORD_SHIFTS)
+}
+
+// Those that go to memory or elsewhere.
+fn add_transfers<'w>(words: &mut Vec<&'w str>) -> Result<(), AllocError> {
+    add_names(words, &LOADS)?;
+    add_names(words, &STORES)?;
+    add_names(words, &BRANCHES)?;
+    add_names(words, &UPPERS)
+}
+
+fn add_branch_forms<'w>(words: &mut Vec<&'w str>) -> Result<(), AllocError> {
+    add_forms(words, &BRANCH_FORMS)
+}
+
+fn add_pair_forms<'w>(words: &mut Vec<&'w str>) -> Result<(), AllocError> {
     add_forms(words, &PAIR_FORMS)?;
-    add_forms(words, &MORE_FORMS)?;
+    add_forms(words, &MORE_FORMS)
+}
+
+fn add_other_forms<'w>(words: &mut Vec<&'w str>) -> Result<(), AllocError> {
     add_forms(words, &OTHER_FORMS)
+}
+
+/// Adds the names of all instructions.
+pub fn add_instructions<'w>(words: &mut Vec<&'w str>) -> Result<(), AllocError> {
+    add_operations(words)?;
+    add_transfers(words)?;
+    add_branch_forms(words)?;
+    add_pair_forms(words)?;
+    add_other_forms(words)
 }
 
 /// The instruction of a name.

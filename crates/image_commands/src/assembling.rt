@@ -11,10 +11,11 @@ use std::io::Write;
 struct Included<'h, H>(&'h mut H);
 
 impl<H: Host> Sources for Included<'_, H> {
-    fn text(&mut self, name: &str) -> Option<Vec<u8>> {
-        match self.0.read_front(name, MOST_BYTES + 1) {
-            Ok(front) => Some(front.bytes),
-            Err(_) => None,
+    fn text(&mut self, name: &str) -> Result<Option<Vec<u8>>, AllocError> {
+        match read_front(self.0, name, MOST_BYTES + 1) {
+            Ok(front) => Ok(Some(front.bytes)),
+            Err(Failure::NoMemory) => Err(AllocError),
+            Err(_) => Ok(None),
         }
     }
 }
