@@ -9,9 +9,9 @@ use Rattle.commandline.specs.declared.jobs.Run.{Run}
 abbrev pub Name : Type 0
 Name = Option (Bor Text)
 
--- one name of four
+-- one name of five
 abbrev pub one_of : Name → List Name
-one_of name = name ∷ None ∷ None ∷ None ∷ []
+one_of name = name ∷ None ∷ None ∷ None ∷ None ∷ []
 
 -- reports, records and traces, and what is taken out of an image
 abbrev pub outputs_of : Job → List Name
@@ -19,8 +19,9 @@ outputs_of (job.Flat flat) = one_of flat.telling.json
 outputs_of (job.Run run) = one_of run.telling.json
 outputs_of (job.Live live) = one_of live.script
 outputs_of (job.Get get) = one_of get.out
-outputs_of (job.Play play) = play.run.telling.json ∷ play.script ∷ None ∷ None ∷ []
-outputs_of (job.Trace trace) = trace.run.telling.json ∷ trace.text ∷ trace.perfetto ∷ trace.commits ∷ []
+outputs_of (job.Play play) = play.run.telling.json ∷ play.script ∷ None ∷ None ∷ None ∷ []
+outputs_of (job.Trace trace) =
+    trace.run.telling.json ∷ trace.text ∷ trace.jsonl ∷ trace.perfetto ∷ trace.commits ∷ []
 outputs_of _ = one_of None
 
 abbrev pub others_of_run : Run → List Name

@@ -9,16 +9,16 @@ use crate::jobs::{Job, Run};
 pub struct Names<'a> {
     /// What it writes beside the image that it leaves, which has to be a file of its own: reports, records and traces, and what
     /// it takes out of an image.
-    pub outputs: [Option<&'a str>; 4],
+    pub outputs: [Option<&'a str>; 5],
     /// What it reads, and the image that it leaves.
     pub others: [Option<&'a str>; 3],
 }
 
 // One output.
-fn one<'a>(output: Option<&'a str>) -> [Option<&'a str>; 4]
+fn one<'a>(output: Option<&'a str>) -> [Option<&'a str>; 5]
     ensures { result ≡ one_of output.entry }
 {
-    [output, None, None, None]
+    [output, None, None, None, None]
 }
 
 // What a run reads, and the image that it leaves.
@@ -51,13 +51,14 @@ pub fn names_of<'a>(job: &Job<'a>) -> Names<'a>
             others: [Some(words.image), None, None],
         },
         Job::Play(words) => Names {
-            outputs: [words.run.telling.json, words.script, None, None],
+            outputs: [words.run.telling.json, words.script, None, None, None],
             others: others_of_run(&words.run),
         },
         Job::Trace(words) => Names {
             outputs: [
                 words.run.telling.json,
                 words.text,
+                words.jsonl,
                 words.perfetto,
                 words.commits,
             ],

@@ -102,6 +102,16 @@ fn out_of<'a>(words: As<'a>) -> &'a str {
     }
 }
 
+// Whether the program would be written over one of its texts.
+fn is_over_a_text<H: Host>(out: &str, texts: &[Text<'_>], host: &mut H) -> bool {
+    for text in texts {
+        if host.is_same(out, text.name) {
+            return true;
+        }
+    }
+    false
+}
+
 // Writes the file, or prints the text that `asm` takes.
 fn deliver<'a, H: Host, W: Write>(
     made: &Made,
@@ -128,6 +138,9 @@ pub fn assemble<'a, H: Host, W: Write, E: Write>(
     stderr: &mut E,
 ) -> Result<bool, Failure<'a>> {
     let texts = texts_of(alloc, words, host)?;
+    if !words.expand && is_over_a_text(out_of(words), &texts, host) {
+        return Err(Failure::Twice(out_of(words)));
+    }
     let Ok(program) = program_of(alloc, &texts, host) else {
         return Err(Failure::NoMemory);
     };

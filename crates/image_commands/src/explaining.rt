@@ -245,7 +245,7 @@ fn topic_of(job: &Job<'_>) -> Topic {
         Job::Check(_) => Topic::Image,
         Job::Ls(_) | Job::Get(_) | Job::Put(_) => Topic::Files,
         Job::Migrate(_) => Topic::Migration,
-        Job::Asm(_) => Topic::Assembly,
+        Job::Asm(_) | Job::As(_) => Topic::Assembly,
         Job::Dump(_) => Topic::Program,
     }
 }
