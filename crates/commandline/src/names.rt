@@ -7,8 +7,8 @@ use crate::jobs::{Job, Run};
 /// The names of a job's files.
 #[derive(Clone, Copy)]
 pub struct Names<'a> {
-    /// What it writes beside the image that it leaves, which has to be a file of its own: reports, records and traces, and what
-    /// it takes out of an image.
+    /// What it writes beside the image that it leaves, which has to be a file of its own: reports, records and traces,
+    /// and what it takes out of an image.
     pub outputs: [Option<&'a str>; 5],
     /// What it reads, and the image that it leaves.
     pub others: [Option<&'a str>; 3],

@@ -1,27 +1,14 @@
 //! Compares the names of a job's files, as the host does.
-ghost use Rattle.std.specs.Prelude.{◌≢◌, IfNone, IfSome, IsFalse};
-ghost use Rattle.commandline.specs.Names.{others_of, outputs_of};
-ghost use Rattle.jobfiles.specs.Apart.{AreApart, IsApart, IsOther};
 
 use commandline::{Job, Names, names_of};
 use hosts::Host;
 
-// Whether there is another name, and it is of the same file.
-fn is_same<H: Host>(name: &str, other: Option<&str>, host: &mut H) -> bool
-    ensures { IsFalse result → IsOther name.now other.entry }
-{
-    match other {
-        Some(other) => host.is_same(name, other),
-        None => false,
-    }
-}
-
 // Whether one of these names is of the same file.
-fn is_among<H: Host>(name: &str, others: &[Option<&str>], host: &mut H) -> bool
-    ensures { IsFalse result → IsApart name.now others.now }
-{
+fn is_among<H: Host>(name: &str, others: &[Option<&str>], host: &mut H) -> bool {
     for other in others {
-        if is_same(name, *other, host) {
+        if let Some(other) = other
+            && host.is_same(name, other)
+        {
             return true;
         }
     }
@@ -29,9 +16,7 @@ fn is_among<H: Host>(name: &str, others: &[Option<&str>], host: &mut H) -> bool
 }
 
 /// The first output of a job that is another file that its words name: one of the two would be lost.
-pub fn named_twice<'a, H: Host>(job: &Job<'a>, host: &mut H) -> Option<&'a str>
-    ensures { IfNone result (AreApart (outputs_of job.now) (others_of job.now)) }
-{
+pub fn named_twice<'a, H: Host>(job: &Job<'a>, host: &mut H) -> Option<&'a str> {
     let Names { outputs, others } = names_of(job);
     for index in 0..outputs.len() {
         if let Some(name) = outputs[index]

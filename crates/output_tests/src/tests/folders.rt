@@ -34,7 +34,7 @@ pub fn path_of<R: Files<File = File> + AllocGlobal + Abort>(
 }
 
 // How many names a folder has.
-fn count_names<R: Files<File = File> + AllocGlobal + Abort>(
+fn count_names<R: Files<File = File> + AllocGlobal + Abort + Clone>(
     rt: &R,
     folder: &str,
 ) -> io::Result<usize> {
@@ -84,7 +84,7 @@ fn begin<R: Files<File = File> + AllocGlobal + Abort>(
     fs::set_permissions(rt, path, Permissions::from_mode(mode))
 }
 
-fn expect_row<R: Files<File = File> + AllocGlobal + Abort>(
+fn expect_row<R: Files<File = File> + AllocGlobal + Abort + Clone>(
     rt: &R,
     folder: &str,
     row: &Row,
@@ -101,7 +101,7 @@ fn expect_row<R: Files<File = File> + AllocGlobal + Abort>(
     fs::remove_file(rt, path.as_str())
 }
 
-fn expect_rows<R: Files<File = File> + AllocGlobal + Abort>(rt: &R) -> io::Result<()> {
+fn expect_rows<R: Files<File = File> + AllocGlobal + Abort + Clone>(rt: &R) -> io::Result<()> {
     let folder = folder(rt, "modes")?;
     for row in &ROWS {
         expect_row(rt, folder.as_str(), row)?;
