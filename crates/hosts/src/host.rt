@@ -1,5 +1,6 @@
 //! Where files come from and go to.
-ghost use Rattle.std.specs.Prelude.{◌≡◌, ◌≤◌, IfOk, IfSome, IsTrue, length, vec_len};
+ghost use Rattle.std.specs.Prelude.{◌≡◌, ◌≤◌, IfOk, IfSome, IsTrue, None, OnOk, Option, length, vec_len};
+ghost use Rattle.hosts.specs.Files.{Holds, HoldsFront, HostFiles, Writes};
 
 use std::{fmt, io};
 
@@ -64,20 +65,28 @@ pub trait Host {
     /// Its terminal.
     type Screen: Screen + Drop;
 
+    /// What its names hold, where that is known.
+    ghost files: { Self → Option HostFiles } = { λ _. None };
+
     /// The terminal that standard error is, where it is one.
     fn screen(&self) -> Option<Self::Screen> {
         None
     }
 
     /// The whole of a file.
-    fn read(&mut self, name: &str) -> Result<Vec<u8>, HostFault>;
+    fn read(&mut self, name: &str) -> Result<Vec<u8>, HostFault>
+        ensures bytes { IfOk result (λ bytes. Holds name.now bytes.items (files self.old)) }
+        ensures same { files self.new ≡ files self.old };
 
     /// Makes a file of the bytes, in place of the one of that name if there is one.
-    fn write(&mut self, name: &str, bytes: &[u8]) -> Result<(), HostFault>;
+    fn write(&mut self, name: &str, bytes: &[u8]) -> Result<(), HostFault>
+        ensures { OnOk result (Writes name.now bytes.now (files self.old) (files self.new)) };
 
-    /// The first bytes of a file, so many where it has as many. A host that can stops reading there.
+    /// The first bytes of a file, that many where it has as many. A host that can stops reading there.
     fn read_front(&mut self, name: &str, most: usize) -> Result<Front, HostFault>
-        ensures { IfOk result (λ front. vec_len front.bytes ≤ most) }
+        ensures most { IfOk result (λ front. vec_len front.bytes ≤ most) }
+        ensures front { IfOk result (λ front. HoldsFront name.now most front (files self.old)) }
+        ensures same { files self.new ≡ files self.old }
     {
         let mut bytes = self.read(name)?;
         let length = Some(bytes.len() as u64);
@@ -85,22 +94,25 @@ pub trait Host {
         Ok(Front { bytes, length })
     }
 
-    /// The whole of a file that begins with these bytes; of another one its front, at least as long. A host that can reads
-    /// no more.
+    /// The whole of a file that begins with these bytes; of another one its front, at least as long. A host that can
+    /// reads no more.
     fn read_marked(&mut self, name: &str, _mark: &[u8]) -> Result<Vec<u8>, HostFault> {
         self.read(name)
     }
 
     /// Whether two names are of one file, so that what is written to the one is lost if the other is written.
     fn is_same(&mut self, one: &str, other: &str) -> bool
-        ensures { one.now ≡ other.now → IsTrue result }
+        ensures equal { one.now ≡ other.now → IsTrue result }
+        ensures same { files self.new ≡ files self.old }
     {
         one == other
     }
 
-    /// Holds a file to the end of the job, so that no other job that holds it reads or writes it meanwhile. A host of one
-    /// job has nothing to do.
-    fn hold(&mut self, _name: &str) -> Result<(), InUse> {
+    /// Holds a file to the end of the job, so that no other job that holds it reads or writes it meanwhile. A host of
+    /// one job has nothing to do.
+    fn hold(&mut self, _name: &str) -> Result<(), InUse>
+        ensures { files self.new ≡ files self.old }
+    {
         Ok(())
     }
 
@@ -109,8 +121,8 @@ pub trait Host {
         Err(HostFault)
     }
 
-    /// Reads from standard input into the front of `bytes`, and returns how many they are: 0 at its end. `None` is nothing so
-    /// far, from a terminal that waits only a moment, and from an input that doesn't wait.
+    /// Reads from standard input into the front of `bytes`, and returns how many they are: 0 at its end. `None` is
+    /// nothing so far, from a terminal that waits only a moment, and from an input that doesn't wait.
     fn type_in(&mut self, bytes: &mut [u8], _is_terminal: bool) -> Result<Option<usize>, HostFault>
         ensures { IfOk result (λ typed. IfSome typed (λ count. count ≤ length bytes.old)) }
     {

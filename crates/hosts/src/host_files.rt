@@ -1,5 +1,6 @@
 //! Reads and writes a host's files, and tells which of them could not be.
-ghost use Rattle.std.specs.Prelude.{◌≤◌, IfOk, vec_len};
+ghost use Rattle.std.specs.Prelude.{◌≡◌, ◌≤◌, IfOk, OnOk, vec_len};
+ghost use Rattle.hosts.specs.Files.{Holds, HoldsFront, Writes};
 
 use crate::host::{Front, Host, Why};
 use crate::report::Failure;
@@ -13,20 +14,25 @@ fn refused<'a, H: Host>(host: &H, failure: Failure<'a>) -> Failure<'a> {
 }
 
 /// A file's bytes.
-pub fn read<'a, H: Host>(host: &mut H, name: &'a str) -> Result<Vec<u8>, Failure<'a>> {
+pub fn read<'a, H: Host>(host: &mut H, name: &'a str) -> Result<Vec<u8>, Failure<'a>>
+    ensures bytes { IfOk result (λ bytes. Holds name.now bytes.items (H.files host.old)) }
+    ensures same { H.files host.new ≡ H.files host.old }
+{
     match host.read(name) {
         Ok(bytes) => Ok(bytes),
         Err(_) => Err(refused(host, Failure::Read(name))),
     }
 }
 
-/// A file's first bytes, so many at most.
+/// A file's first bytes, that many at most.
 pub fn read_front<'a, H: Host>(
     host: &mut H,
     name: &'a str,
     most: usize,
 ) -> Result<Front, Failure<'a>>
-    ensures { IfOk result (λ front. vec_len front.bytes ≤ most) }
+    ensures most { IfOk result (λ front. vec_len front.bytes ≤ most) }
+    ensures front { IfOk result (λ front. HoldsFront name.now most front (H.files host.old)) }
+    ensures same { H.files host.new ≡ H.files host.old }
 {
     match host.read_front(name, most) {
         Ok(front) => Ok(front),
@@ -47,7 +53,9 @@ pub fn read_marked<'a, H: Host>(
 }
 
 /// Holds a file to the end of the job, which other jobs may hold.
-pub fn hold<'a, H: Host>(host: &mut H, name: &'a str) -> Result<(), Failure<'a>> {
+pub fn hold<'a, H: Host>(host: &mut H, name: &'a str) -> Result<(), Failure<'a>>
+    ensures { H.files host.new ≡ H.files host.old }
+{
     match host.hold(name) {
         Ok(()) => Ok(()),
         Err(_) => Err(Failure::InUse(name)),
@@ -63,7 +71,9 @@ pub fn append<'a, H: Host>(host: &mut H, name: &'a str, bytes: &[u8]) -> Result<
 }
 
 /// Makes a file of the bytes.
-pub fn write<'a, H: Host>(host: &mut H, name: &'a str, bytes: &[u8]) -> Result<(), Failure<'a>> {
+pub fn write<'a, H: Host>(host: &mut H, name: &'a str, bytes: &[u8]) -> Result<(), Failure<'a>>
+    ensures { OnOk result (Writes name.now bytes.now (H.files host.old) (H.files host.new)) }
+{
     match host.write(name, bytes) {
         Ok(()) => Ok(()),
         Err(_) => Err(refused(host, Failure::Write(name))),

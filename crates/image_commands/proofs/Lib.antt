@@ -1,1 +1,2 @@
+mod Manifests
 mod Migrated

@@ -5,7 +5,9 @@ ghost use Rattle.unixmodel.specs.Formats.{small};
 ghost use Rattle.unixmodel.specs.Image.{Denotes, DenotesSmall, named_blocks, numbers_in_use};
 ghost use Rattle.imagecheck.specs.Faults.{Tells};
 ghost use Rattle.imagecheck.specs.declared.ImageFault.{ImageFault};
-ghost use Rattle.image_commands.specs.Entries.{IsEntryOf};
+ghost use Rattle.image_commands.specs.Entries.{AreFirst, IsEntryOf, IsManifestOf, count_in, space_of};
+ghost use Rattle.scripts.specs.Lines.{AreSaid, lines_of};
+ghost use Rattle.scripts.specs.Manifests.{IsLine};
 ghost use Rattle.migrate.specs.Copies.{Overfills};
 
 use blockdev::{BLOCK_SIZE, MemDisk};
@@ -19,11 +21,9 @@ use std::alloc::{AllocError, Global};
 use std::io::Write;
 
 // What the lines of a manifest say; the text has to be one.
-fn lines_of<'a>(
-    alloc: Global,
-    name: &'a str,
-    text: &'a [u8],
-) -> Result<Vec<Line<'a>>, Failure<'a>> {
+fn lines_of<'a>(alloc: Global, name: &'a str, text: &'a [u8]) -> Result<Vec<Line<'a>>, Failure<'a>>
+    ensures { IfOk result (λ lines. AreSaid IsLine (lines_of text.now) lines.items) }
+{
     if str::from_utf8(text).is_err() {
         return Err(Failure::Read(name));
     }
@@ -34,9 +34,11 @@ fn lines_of<'a>(
     }
 }
 
-// The first bytes of the host's file of this name, so many at most.
+// The first bytes of the host's file of this name, that many at most.
 fn host_file<'a, H: Host>(host: &mut H, name: &'a [u8], most: usize) -> Result<Vec<u8>, Failure<'a>>
-    ensures { IfOk result (λ bytes. vec_len bytes ≤ most) }
+    ensures most { IfOk result (λ bytes. vec_len bytes ≤ most) }
+    ensures first { IfOk result (λ bytes. AreFirst most name.now (H.files host.old) bytes.items) }
+    ensures same { H.files host.new ≡ H.files host.old }
 {
     match str::from_utf8(name) {
         Ok(name) => Ok(read_front(host, name, most)?.bytes),
@@ -54,14 +56,15 @@ fn entry(alloc: Global, path: &[u8], thing: Thing) -> Result<Entry, AllocError>
     Ok(Entry { path: bytes, thing })
 }
 
-// The entry that a line asks for, with so many bytes of a host's file at most.
+// The entry that a line asks for, with that many bytes of a host's file at most.
 fn entry_of<'a, H: Host>(
     alloc: Global,
     line: &Line<'a>,
     host: &mut H,
     most: usize,
 ) -> Result<Entry, Failure<'a>>
-    ensures { IfOk result (IsEntryOf line.now) }
+    ensures entry { IfOk result (IsEntryOf most (H.files host.old) line.now) }
+    ensures same { H.files host.new ≡ H.files host.old }
 {
     let made = match *line {
         Line::Directory(path) => entry(alloc, path, Thing::Directory),
@@ -75,29 +78,41 @@ fn entry_of<'a, H: Host>(
 }
 
 // How many bytes of a file an entry has.
-fn bytes_in(entry: &Entry) -> usize {
+fn bytes_in(entry: &Entry) -> usize
+    ensures { result ≡ count_in entry.now.thing }
+{
     match &entry.thing {
         Thing::File(bytes) => bytes.len(),
         Thing::Directory | Thing::Device { .. } => 0,
     }
 }
 
-// The manifest that the lines say, for an image of so many blocks. All of the host's files are read, in their order, each to a byte
-// more than a file or all blocks hold. No entry is kept behind the one with which the files are more than all blocks hold: the
-// making ends there at the latest.
+// How many bytes the blocks of an image of this size have; there is no image of more blocks, and nothing is kept for
+// it.
+fn space_of(size: u32) -> usize
+    ensures { result ≡ space_of size }
+{
+    if size <= MOST_BLOCKS {
+        BLOCK_SIZE * size as usize
+    } else {
+        0
+    }
+}
+
+// The manifest that the lines say, for an image of this size. All of the host's files are read, in their order, each
+// to a byte more than a file or all blocks hold. No entry is kept after the one with which the files are more than
+// all blocks hold: the making ends there at the latest.
 fn manifest_of<'a, H: Host>(
     alloc: Global,
     lines: &[Line<'a>],
     size: u32,
     host: &mut H,
-) -> Result<Manifest, Failure<'a>> {
+) -> Result<Manifest, Failure<'a>>
+    ensures entries { IfOk result (λ made. IsManifestOf size (H.files host.old) lines.now made.entries.items) }
+    ensures same { H.files host.new ≡ H.files host.old }
+{
     let mut entries = Vec::new(alloc);
-    // (there is no image of more blocks, and nothing has to be kept for it)
-    let space = if size <= MOST_BLOCKS {
-        BLOCK_SIZE * size as usize
-    } else {
-        0
-    };
+    let space = space_of(size);
     let most = LONGEST.min(space) + 1;
     let mut room = Some(space);
     for line in lines {

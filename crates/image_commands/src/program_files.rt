@@ -23,8 +23,8 @@ pub fn asm<'a, H: Host>(alloc: Global, words: Asm<'a>, host: &mut H) -> Result<(
     write(host, words.elf, file.as_slice())
 }
 
-/// The command `dump`. All headers are read before anything is shown. Of a file that doesn't begin as an ELF file only the
-/// front is read.
+/// The command `dump`. All headers are read before anything is shown. Of a file that doesn't begin as an ELF file
+/// only the front is read.
 pub fn dump<'a, H: Host, W: Write>(
     alloc: Global,
     words: Dump<'a>,

@@ -1,5 +1,5 @@
 //! The host of the program: real files.
-ghost use Rattle.std.specs.Prelude.{◌≡◌, ◌≤◌, IfOk, IfSome, IsTrue, length, vec_len};
+ghost use Rattle.std.specs.Prelude.{◌≤◌, IfOk, IfSome, length, vec_len};
 
 use commands::{Front, Host, HostFault, InUse, Screen, Why};
 use outputs::Holding;
@@ -233,9 +233,7 @@ impl<'a, R: Files<File = File> + Clock + Input + Eprint + AllocGlobal> Host for 
         self.told(done)
     }
 
-    fn is_same(&mut self, one: &str, other: &str) -> bool
-        ensures { one.now ≡ other.now → IsTrue result }
-    {
+    fn is_same(&mut self, one: &str, other: &str) -> bool {
         one == other || outputs::is_same(self.rt, one, other)
     }
 
