@@ -5,7 +5,7 @@ use Rattle.image_commands.specs.Entries.{IsEntryOf, counts_in}
 use Rattle.imagemake.specs.declared.manifest.Entry.{Entry}
 use Rattle.scripts.specs.declared.manifest.Line.{Line}
 
--- how much room the entries of so many lines leave: none where the files are too long
+-- how much room the entries of these lines leave: none where the files are too long
 abbrev pub Leaves : ℕ → ℕ → List Entry → Option ℕ → Type 0
 Leaves space index entries (Some left) = (length entries ≡ index) × (left + counts_in entries ≡ space)
 Leaves space index entries None = space < counts_in entries

@@ -1,11 +1,12 @@
 //! Makes, checks and lists disk images.
-ghost use Rattle.std.specs.Prelude.{◌≡◌, ◌<◌, ◌≤◌, IfOk, IsErrOf, length, vec_len};
+ghost use Rattle.std.specs.Prelude.{◌≡◌, ◌<◌, ◌≤◌, IfOk, IsErrOf, OnOk, length, vec_len};
 ghost use Rattle.unixmodel.specs.Files.{Files};
 ghost use Rattle.unixmodel.specs.Formats.{small};
 ghost use Rattle.unixmodel.specs.Image.{Denotes, DenotesSmall, named_blocks, numbers_in_use};
 ghost use Rattle.imagecheck.specs.Faults.{Tells};
 ghost use Rattle.imagecheck.specs.declared.ImageFault.{ImageFault};
 ghost use Rattle.image_commands.specs.Entries.{AreFirst, IsEntryOf, IsManifestOf, count_in, space_of};
+ghost use Rattle.image_commands.specs.Handed.{Known, MakesIn, MigratesIn};
 ghost use Rattle.scripts.specs.Lines.{AreSaid, lines_of};
 ghost use Rattle.scripts.specs.Manifests.{IsLine};
 ghost use Rattle.migrate.specs.Copies.{Overfills};
@@ -134,7 +135,9 @@ pub fn mkfs<'a, H: Host>(
     words: Mkfs<'a>,
     text: &'a [u8],
     host: &mut H,
-) -> Result<(), Failure<'a>> {
+) -> Result<(), Failure<'a>>
+    ensures { OnOk result (Known (MakesIn words.entry text.now) (H.files host.old) (H.files host.new)) }
+{
     let lines = lines_of(alloc, words.manifest, text)?;
     let manifest = manifest_of(alloc, lines.as_slice(), words.size, host)?;
     let image = match image::make(alloc, &manifest, words.size, words.inodes) {
@@ -160,6 +163,7 @@ pub fn check<'a, H: Host>(
 // The image of the large format that one of the small format becomes, and what it uses.
 fn migrated(alloc: Global, old: &[u8]) -> Result<(Vec<u8>, Summary), MigrateFault>
     ensures image { IfOk result (λ made. (files : Files) → DenotesSmall old.now files → Denotes made.0.items files) }
+    ensures source { IfOk result (λ made. (files : Files) × DenotesSmall old.now files) }
     ensures inodes { IfOk result (λ made. made.1.inodes ≡ length (numbers_in_use made.0.items)) }
     ensures blocks { IfOk result (λ made. made.1.blocks ≡ length (named_blocks made.0.items)) }
     ensures refused { (fault : ImageFault) → IsErrOf result (MigrateFault.Image fault) → Tells small old.now fault }
@@ -179,7 +183,9 @@ pub fn migrate<'a, H: Host>(
     alloc: Global,
     words: Migrate<'a>,
     host: &mut H,
-) -> Result<Summary, Failure<'a>> {
+) -> Result<Summary, Failure<'a>>
+    ensures { OnOk result (Known (MigratesIn words.entry) (H.files host.old) (H.files host.new)) }
+{
     let most = BLOCK_SIZE * Format::Small.most() as usize + 1;
     let old = bytes_of(read_front(host, words.old, most)?)?;
     let (new, summary) = match migrated(alloc, &old) {

@@ -1,4 +1,6 @@
 //! Reads and writes files of disk images.
+ghost use Rattle.std.specs.Prelude.{◌≡◌, ◌%◌, IfOk, IfSome, OnOk, length};
+ghost use Rattle.image_commands.specs.Handed.{Gets, HoldsDisk, HoldsFile, Known, PutsIn};
 
 use blockdev::MemDisk;
 use commandline::{Get, Put};
@@ -18,8 +20,28 @@ fn failure<'a>(fault: OpeningFault) -> Failure<'a> {
 }
 
 // The disk of the image of this name.
-fn disk_at<'a, H: Host>(host: &mut H, image: &'a str) -> Result<MemDisk, Failure<'a>> {
+fn disk_at<'a, H: Host>(host: &mut H, image: &'a str) -> Result<MemDisk, Failure<'a>>
+    ensures disk { IfOk result (λ disk. HoldsDisk image.now disk.bytes (H.files host.old)) }
+    ensures blocks { IfOk result (λ disk. length disk.bytes % 1024 ≡ 0) }
+    ensures same { H.files host.new ≡ H.files host.old }
+{
     disk_of(read_image(host, image)?)
+}
+
+// The bytes of the file that the words name on an image, which is checked first.
+fn file_of<'a, H: Host>(
+    alloc: Global,
+    words: &Get<'a>,
+    host: &mut H,
+) -> Result<Vec<u8>, Failure<'a>>
+    ensures file { IfOk result (λ bytes. HoldsFile words.now bytes.items (H.files host.old)) }
+    ensures same { H.files host.new ≡ H.files host.old }
+{
+    let disk = disk_at(host, words.image)?;
+    match read_file(alloc, disk, words.path.as_bytes()) {
+        Ok(bytes) => Ok(bytes),
+        Err(fault) => Err(failure(fault)),
+    }
 }
 
 /// The command `get`. The image is checked before anything is read.
@@ -28,12 +50,10 @@ pub fn get<'a, H: Host, W: Write>(
     words: Get<'a>,
     host: &mut H,
     stdout: &mut W,
-) -> Result<(), Failure<'a>> {
-    let disk = disk_at(host, words.image)?;
-    let bytes = match read_file(alloc, disk, words.path.as_bytes()) {
-        Ok(bytes) => bytes,
-        Err(fault) => return Err(failure(fault)),
-    };
+) -> Result<(), Failure<'a>>
+    ensures { OnOk result (IfSome words.entry.out (Gets words.entry (H.files host.old) (H.files host.new))) }
+{
+    let bytes = file_of(alloc, &words, host)?;
     if let Some(name) = words.out {
         return write(host, name, bytes.as_slice());
     }
@@ -44,8 +64,11 @@ pub fn get<'a, H: Host, W: Write>(
 }
 
 /// The command `put`. The image is held before it is read, so that of jobs that put files at once each finds what the
-/// others put. Of the host's file no more is read than shows that it is too long. The image is written once all is done.
-pub fn put<'a, H: Host>(alloc: Global, words: Put<'a>, host: &mut H) -> Result<(), Failure<'a>> {
+/// others put. Of the host's file no more is read than shows that it is too long. The image is written once all is
+/// done.
+pub fn put<'a, H: Host>(alloc: Global, words: Put<'a>, host: &mut H) -> Result<(), Failure<'a>>
+    ensures { OnOk result (Known (PutsIn words.entry) (H.files host.old) (H.files host.new)) }
+{
     hold(host, words.image)?;
     let disk = disk_at(host, words.image)?;
     let bytes = read_front(host, words.file, LONGEST + 1)?.bytes;

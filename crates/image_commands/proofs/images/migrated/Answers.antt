@@ -18,6 +18,7 @@ returns-in_err-new c =
     let told = told_fault r fault c.from_residual.ensures.1 in
     record {
       image = IfOk-from_err r _ c.from_residual.ensures.0;
+      source = IfOk-from_err r _ c.from_residual.ensures.0;
       inodes = IfOk-from_err r _ c.from_residual.ensures.0;
       blocks = IfOk-from_err r _ c.from_residual.ensures.0;
       refused = λ f is. (c.in_err-new.ensures.image f (ap Err (cc (sym told ∙ is)))).0;
@@ -39,6 +40,7 @@ returns-in_err-summary c =
     let told = told_fault r (image_fault fault) c.from_residual-in_err-summary.ensures.1 ∙ ap (λ f. Err (image_fault f)) only in
     record {
       image = IfOk-from_err r _ c.from_residual-in_err-summary.ensures.0;
+      source = IfOk-from_err r _ c.from_residual-in_err-summary.ensures.0;
       inodes = IfOk-from_err r _ c.from_residual-in_err-summary.ensures.0;
       blocks = IfOk-from_err r _ c.from_residual-in_err-summary.ensures.0;
       refused = λ f is. absurd (cc (sym told ∙ is));
@@ -56,6 +58,7 @@ returns c =
     let kept = kept-bytes c.in-Ok.disk.bytes c.check.new.device.bytes made c.in_ok-summary.ensures.same c.into_bytes.ensures.bytes (omega (arith, c.into_bytes.ensures.whole, c.into_bytes.result.ok.0)) in
     record {
       image = λ files e. subst (λ b. Denotes b files) (sym (kept ∙ same)) (c.in_ok-new.ensures.migrated files e);
+      source = source;
       inodes = c.in_ok-summary.ensures.inodes ∙ ap (λ b. length (numbers_in_use b)) (sym kept);
       blocks = c.in_ok-summary.ensures.blocks ∙ ap (λ b. length (named_blocks b)) (sym kept);
       refused = λ f is. absurd cc;
