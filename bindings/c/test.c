@@ -94,6 +94,22 @@ static size_t find(struct xv6_machine *machine, const char *name)
     return 0;
 }
 
+/* The shell waits for the console, which all of its descriptors name. */
+static void look_at_descriptors(struct xv6_machine *machine)
+{
+    struct xv6_descriptor one, other;
+    struct xv6_wait wait;
+    struct xv6_fault fault;
+    must(xv6_wait(machine, 2, &wait) == 0 && wait.arguments[0] == 0 && wait.done == 0, "the shell reads its input");
+    must(xv6_descriptor(machine, 2, 0, &one) == 0 && one.kind == XV6_ON_CONSOLE && one.readable == 1, "its input is the console");
+    must(one.number == find(machine, "console") && one.offset == 0 && one.descriptors >= 3, "the console's node");
+    must(xv6_descriptor(machine, 1, 1, &other) == 0 && memcmp(&one, &other, sizeof one) == 0, "its parent has the same open file");
+    must(xv6_descriptor(machine, 2, 3, &one) == XV6_NONE && xv6_descriptor(machine, 2, 16, &one) == XV6_NONE, "no descriptor");
+    must(xv6_directory(machine, 2) == 1 && xv6_directory(machine, 77) == 0, "its directory is the root");
+    must(xv6_running(machine) == 0 && xv6_is_anyone_asleep(machine) == 0, "nobody runs, and nobody sleeps");
+    must(xv6_compute(machine, 100, NULL, 0) == 0 && xv6_fault(machine, 2, &fault) == XV6_NONE, "no instruction, and no fault");
+}
+
 static void look_at_files(struct xv6_machine *machine)
 {
     struct xv6_stat stat;
@@ -146,6 +162,7 @@ static void play(FILE *script)
     must(xv6_free_frames(&machine) == free_frames, "all frames came back");
     must(print_console(&machine, stdout) > 100, "the console's bytes");
     look_at_processes(&machine);
+    look_at_descriptors(&machine);
     look_at_files(&machine);
     save_and_boot(&machine);
 }
@@ -229,11 +246,89 @@ static void copy_stopped(void)
     free(other);
 }
 
+/* ---- a machine looked at while it runs */
+
+/* How many bytes are in the pipe that a descriptor of a process names, and the bytes. */
+static size_t bytes_in_pipe(struct xv6_machine *machine, uint32_t pid, uint8_t *out, size_t most)
+{
+    struct xv6_descriptor named;
+    size_t i, bytes = 0;
+    for (i = 0; i < 16; i++) {
+        if (xv6_descriptor(machine, pid, i, &named) != 0 || named.kind < XV6_ON_READ_END) continue;
+        must(named.readable == (named.kind == XV6_ON_READ_END) && named.writable != named.readable, "an end of a pipe");
+        must(xv6_pipe(machine, named.number, out, most, &bytes) == 0, "a pipe that is named is there");
+        if (bytes != 0) return bytes;
+    }
+    return 0;
+}
+
+/* Steps up to the first after which a pipe has bytes. */
+static void find_pipe(struct xv6_machine *machine)
+{
+    uint8_t bytes[8] = {0};
+    size_t many = 0, none = 9;
+    uint32_t pid, i;
+    for (i = 0; i < 5000 && many == 0; i++) {
+        must(xv6_steps(machine, 1) == 0, "a step of a pipe's writer");
+        for (pid = xv6_next_pid(machine, 0); pid != 0 && many == 0; pid = xv6_next_pid(machine, pid)) many = bytes_in_pipe(machine, pid, bytes, 2);
+    }
+    must(many >= 2 && many <= 3 && memcmp(bytes, "hi\0", 3) == 0, "two bytes of a pipe");
+    must(xv6_pipe(machine, SIZE_MAX, bytes, sizeof bytes, &none) == XV6_NONE && none == 9, "no pipe");
+}
+
+/* Goes from call to call to the end, and returns how many steps that were. */
+static uint32_t go_by_calls(struct xv6_machine *machine, uint64_t *stops, size_t many)
+{
+    struct xv6_fault fault;
+    uint32_t done = 0, pid, more;
+    while (xv6_is_idle(machine) == 0) {
+        pid = xv6_running(machine);
+        more = xv6_compute(machine, MANY, stops, many);
+        must(more == 0 || xv6_running(machine) == pid, "instructions of one process");
+        must(pid == 0 || xv6_fault(machine, pid, &fault) == XV6_NONE, "a call is no fault");
+        must(xv6_steps(machine, 1) == 0, "the step after them");
+        done += more + 1;
+    }
+    return done;
+}
+
+static void watch(void)
+{
+    static const char line[] = "echo hi | cat\n";
+    struct xv6_machine machine = {NULL}, twin = {NULL}, probe = {NULL};
+    struct xv6_process process, other_process;
+    uint64_t digest = 0, other = 0;
+    uint32_t done;
+    size_t i;
+    must(xv6_boot(image, length, FRAMES, &machine) == 0 && xv6_run(&machine, MANY, &done) == 0, "a machine that is watched");
+    for (i = 0; line[i] != 0; i++) must(xv6_key(&machine, (uint8_t)line[i]) == 0, "a key of a pipe");
+    must(xv6_copy(&machine, &twin) == 0, "a copy of it");
+    must(xv6_digest(&machine, &digest) == 0 && xv6_digest(&twin, &other) == 0 && digest == other, "the same state, the same digest");
+    must(xv6_run(&twin, MANY, &done) == 0 && go_by_calls(&machine, NULL, 0) == done, "from call to call it is as many steps");
+    must(xv6_digest(&machine, &digest) == 0 && xv6_digest(&twin, &other) == 0 && digest == other, "and leaves the same state");
+    must(xv6_tick(&twin) == 0 && xv6_digest(&twin, &other) == 0 && digest != other, "a tick has another digest");
+    for (i = 0; line[i] != 0; i++) must(xv6_key(&machine, (uint8_t)line[i]) == 0, "the keys again");
+    must(xv6_steps(&machine, 1) == 0 && xv6_process(&machine, xv6_running(&machine), &process) == 0, "the shell runs");
+    must(xv6_compute(&machine, 100, &process.pc, 0) > 2 && xv6_process(&machine, 2, &process) == 0, "the shell computes");
+    must(xv6_copy(&machine, &probe) == 0 && xv6_steps(&probe, 1) == 0 && xv6_compute(&probe, 1, NULL, 0) == 1, "a step after its call");
+    must(xv6_process(&probe, 2, &process) == 0 && xv6_steps(&machine, 1) == 0, "where that comes to");
+    must(xv6_compute(&machine, 100, &process.pc, 1) == 1 && xv6_process(&machine, 2, &other_process) == 0, "to an address");
+    must(other_process.pc == process.pc, "and no further");
+    find_pipe(&machine);
+    xv6_close(&machine);
+    xv6_close(&twin);
+    xv6_close(&probe);
+}
+
 /* ---- arguments that are wrong */
 
 static struct xv6_machine up, closed, copied;
 static struct xv6_process process;
 static struct xv6_stat stat_out;
+static struct xv6_descriptor named;
+static struct xv6_wait waits;
+static struct xv6_fault fault;
+static uint64_t digest;
 static uint8_t room[16];
 static size_t count;
 static uint32_t steps;
@@ -276,6 +371,15 @@ static void refuse_handle(struct xv6_machine *machine)
     ROW(xv6_process(machine, 1, &process), XV6_NULL);
     ROW(xv6_page(machine, 1, 0, room, sizeof room), 0u);
     ROW(xv6_free_frames(machine), 0u);
+    ROW(xv6_compute(machine, 1, NULL, 0), 0u);
+    ROW(xv6_running(machine), 0u);
+    ROW(xv6_is_anyone_asleep(machine), 0u);
+    ROW(xv6_descriptor(machine, 1, 0, &named), XV6_NULL);
+    ROW(xv6_pipe(machine, 0, room, sizeof room, &count), XV6_NULL);
+    ROW(xv6_wait(machine, 1, &waits), XV6_NULL);
+    ROW(xv6_directory(machine, 1), 0u);
+    ROW(xv6_fault(machine, 1, &fault), XV6_NULL);
+    ROW(xv6_digest(machine, &digest), XV6_NULL);
     ROW(xv6_stat(machine, 1, &stat_out), XV6_NULL);
     ROW(xv6_read(machine, 1, 0, room, sizeof room, &count), XV6_NULL);
     ROW(xv6_save(machine, room, sizeof room, &count), XV6_NULL);
@@ -293,6 +397,13 @@ static void refuse_places(void)
     ROW(xv6_run(&up, 1, NULL), XV6_NULL);
     ROW(xv6_process(&up, 1, NULL), XV6_NULL);
     ROW(xv6_stat(&up, 1, NULL), XV6_NULL);
+    ROW(xv6_compute(&up, 1, NULL, 1), 0u);
+    ROW(xv6_descriptor(&up, 1, 0, NULL), XV6_NULL);
+    ROW(xv6_pipe(&up, 0, NULL, 1, &count), XV6_NULL);
+    ROW(xv6_pipe(&up, 0, room, sizeof room, NULL), XV6_NULL);
+    ROW(xv6_wait(&up, 1, NULL), XV6_NULL);
+    ROW(xv6_fault(&up, 1, NULL), XV6_NULL);
+    ROW(xv6_digest(&up, NULL), XV6_NULL);
     ROW(xv6_console(&up, NULL, 1), 0u);
     ROW(xv6_console(&up, NULL, 0), 0u);
     ROW(xv6_page(&up, 1, 0, NULL, 1), 0u);
@@ -311,6 +422,11 @@ static void find_nothing(void)
     ROW(xv6_process(&up, 77, &process), (uint32_t)XV6_NO_PROCESS);
     ROW(xv6_process(&up, 0xffffffffu, &process), (uint32_t)XV6_NO_PROCESS);
     ROW(xv6_next_pid(&up, 0xffffffffu), 0u);
+    ROW(xv6_descriptor(&up, 77, 0, &named), (uint32_t)XV6_NONE);
+    ROW(xv6_descriptor(&up, 1, SIZE_MAX, &named), (uint32_t)XV6_NONE);
+    ROW(xv6_pipe(&up, 0, room, sizeof room, &count), (uint32_t)XV6_NONE);
+    ROW(xv6_wait(&up, 77, &waits), (uint32_t)XV6_NONE);
+    ROW(xv6_fault(&up, 77, &fault), (uint32_t)XV6_NONE);
     ROW(xv6_page(&up, 77, 0, room, sizeof room), 0u);
     ROW(xv6_page(&up, 1, UINT64_MAX, room, sizeof room), 0u);
     ROW(xv6_stat(&up, SIZE_MAX, &stat_out) + stat_out.kind, 0u);
@@ -361,6 +477,7 @@ int main(int argc, char **argv)
     play_copies(0);
     play_copies(1);
     copy_stopped();
+    watch();
     refuse();
     free(image);
     return wrong;

@@ -8,7 +8,8 @@
             that was closed is not known as such, and to use it is undefined. xv6_copy makes a machine of its own.
    Errors   0, or a number of those below. After XV6_INIT_ENDED one can still look and save; after XV6_CONSOLE_LOST each event,
             xv6_stat, xv6_read and xv6_save answer XV6_HALTED. The numbers that xv6_is_idle, xv6_console, xv6_next_pid,
-            xv6_page and xv6_free_frames tell are no errors: where something is null they tell 1, 0, 0, 0 and 0.
+            xv6_page, xv6_free_frames, xv6_compute, xv6_running, xv6_is_anyone_asleep and xv6_directory return are no errors: where
+            something is null the first returns 1, and the others 0.
    Threads  A machine is at one call at a time. Different machines may be at calls in different threads. No call is made from a
             signal handler, nor from the forked child of a process with threads. A thread that calls has a stack of 1 MB or more:
             machines are built there, and one that finds too little ends the process.
@@ -26,7 +27,7 @@ extern "C" {
 
 /* The number of the interface, not of the release: the major number times 1000, and the minor one. A new function adds 1; one that
    changes, or a struct that does, adds 1000. */
-#define XV6_VERSION 1001
+#define XV6_VERSION 1002
 
 /* A machine. All of it is cleared before xv6_boot and xv6_copy, and after xv6_close. */
 struct xv6_machine {
@@ -44,6 +45,31 @@ struct xv6_process {
     uint32_t call;          /* the number of the call that it waits in; else 0 */
     int32_t status;         /* what it ended with; else 0 */
     uint32_t killed;        /* 1 where it was killed, else 0 */
+};
+
+/* The open file that a descriptor of a process names. */
+struct xv6_descriptor {
+    uint64_t number;        /* of its node, or of its pipe */
+    uint32_t file;          /* its own number: descriptors that name the same open file share its offset */
+    uint32_t kind;          /* XV6_ON_FILE .. XV6_ON_WRITE_END */
+    uint32_t offset;        /* in bytes; 0 except in a file or a directory */
+    uint32_t readable;      /* 1 or 0 */
+    uint32_t writable;      /* 1 or 0 */
+    uint32_t descriptors;   /* how many descriptors of all processes name it */
+};
+
+/* The call that a process waits in. Its number is in struct xv6_process. */
+struct xv6_wait {
+    uint64_t arguments[3];  /* a0 to a2 as it began: of read and write the descriptor, the address and the count */
+    uint64_t done;          /* how many bytes were read or written so far */
+    uint32_t since;         /* the count of ticks as it began */
+};
+
+/* The fault that the next instruction of a process would raise. */
+struct xv6_fault {
+    uint64_t address;       /* the target of a jump, the address of a load or a store, else the pc */
+    uint64_t pc;
+    uint32_t cause;         /* XV6_JUMP_MISALIGNED .. XV6_STORE_PAGE */
 };
 
 /* A node of the disk. */
@@ -70,14 +96,28 @@ enum {
     XV6_HALTED = 4          /* it had stopped before */
 };
 
-/* What xv6_process answers where there is no such process. */
-enum { XV6_NO_PROCESS = 1 };
+/* What xv6_process returns where there is no such process, and others where there is nothing to put. */
+enum { XV6_NO_PROCESS = 1, XV6_NONE = 1 };
 
 /* Something that must not be null is. The number is no other's. */
 #define XV6_NULL 6u
 
 enum { XV6_RUNNING = 1, XV6_READY = 2, XV6_WAITING = 3, XV6_ENDED = 4 };
 enum { XV6_NO_NODE = 0, XV6_DIRECTORY = 1, XV6_FILE = 2, XV6_DEVICE = 3 };
+enum { XV6_ON_FILE = 1, XV6_ON_CONSOLE = 2, XV6_ON_DEVICE = 3, XV6_ON_READ_END = 4, XV6_ON_WRITE_END = 5 };
+
+/* The causes of faults, by the numbers of the RISC-V manual. */
+enum {
+    XV6_JUMP_MISALIGNED = 0,
+    XV6_ILLEGAL_INSTRUCTION = 2,
+    XV6_BREAKPOINT = 3,
+    XV6_LOAD_MISALIGNED = 4,
+    XV6_STORE_MISALIGNED = 6,
+    XV6_FETCH_PAGE = 12,
+    XV6_LOAD_PAGE = 13,
+    XV6_STORE_PAGE = 15
+};
+
 enum { XV6_PAGE = 1, XV6_READ = 2, XV6_WRITE = 4, XV6_EXECUTE = 8 };
 
 /* ---- the functions of the library; nothing is tested */
@@ -88,14 +128,23 @@ uint32_t xv6_raw_copy(struct xv6_machine *machine, struct xv6_machine *out);
 void xv6_raw_close(struct xv6_machine machine);
 uint32_t xv6_raw_steps(struct xv6_machine *machine, uint32_t times);
 uint32_t xv6_raw_run(struct xv6_machine *machine, uint32_t most, uint32_t *done);
+uint32_t xv6_raw_compute(struct xv6_machine *machine, uint32_t most, const uint64_t *stops, size_t count);
 uint32_t xv6_raw_tick(struct xv6_machine *machine);
 uint32_t xv6_raw_key(struct xv6_machine *machine, uint8_t byte);
 size_t xv6_raw_console(struct xv6_machine *machine, uint8_t *out, size_t room);
 uint32_t xv6_raw_is_idle(struct xv6_machine *machine);
+uint32_t xv6_raw_is_anyone_asleep(struct xv6_machine *machine);
+uint32_t xv6_raw_running(struct xv6_machine *machine);
 uint32_t xv6_raw_next_pid(struct xv6_machine *machine, uint32_t after);
 uint32_t xv6_raw_process(struct xv6_machine *machine, uint32_t pid, struct xv6_process *out);
+uint32_t xv6_raw_descriptor(struct xv6_machine *machine, uint32_t pid, size_t descriptor, struct xv6_descriptor *out);
+uint32_t xv6_raw_pipe(struct xv6_machine *machine, size_t number, uint8_t *out, size_t room, size_t *count);
+uint32_t xv6_raw_wait(struct xv6_machine *machine, uint32_t pid, struct xv6_wait *out);
+uint32_t xv6_raw_directory(struct xv6_machine *machine, uint32_t pid);
+uint32_t xv6_raw_fault(struct xv6_machine *machine, uint32_t pid, struct xv6_fault *out);
 uint32_t xv6_raw_page(struct xv6_machine *machine, uint32_t pid, uint64_t page, uint8_t *out, size_t room);
 uint32_t xv6_raw_free_frames(struct xv6_machine *machine);
+uint32_t xv6_raw_digest(struct xv6_machine *machine, uint64_t *out);
 uint32_t xv6_raw_stat(struct xv6_machine *machine, size_t inode, struct xv6_stat *out);
 uint32_t xv6_raw_read(struct xv6_machine *machine, size_t inode, size_t at, uint8_t *out, size_t room, size_t *count);
 uint32_t xv6_raw_save(struct xv6_machine machine, uint8_t *out, size_t room, size_t *bytes);
@@ -148,6 +197,13 @@ static inline uint32_t xv6_run(struct xv6_machine *machine, uint32_t most, uint3
     return xv6_is_closed(machine) || done == NULL ? XV6_NULL : xv6_raw_run(machine, most, done);
 }
 
+/* At most so many steps that are instructions of the process that runs: up to a call or a fault, which is not done, and no further
+   than to the first of `count` addresses that its pc comes to after the first of them. Returns how many: 0 where no process runs. */
+static inline uint32_t xv6_compute(struct xv6_machine *machine, uint32_t most, const uint64_t *stops, size_t count)
+{
+    return xv6_is_closed(machine) || (stops == NULL && count != 0) ? 0 : xv6_raw_compute(machine, most, stops, count);
+}
+
 /* A timer interrupt. */
 static inline uint32_t xv6_tick(struct xv6_machine *machine)
 {
@@ -172,6 +228,18 @@ static inline uint32_t xv6_is_idle(struct xv6_machine *machine)
     return xv6_is_closed(machine) ? 1 : xv6_raw_is_idle(machine);
 }
 
+/* 1 where a process waits in sleep, so that a tick can make it ready; else 0. */
+static inline uint32_t xv6_is_anyone_asleep(struct xv6_machine *machine)
+{
+    return xv6_is_closed(machine) ? 0 : xv6_raw_is_anyone_asleep(machine);
+}
+
+/* The pid of the process that runs. 0: none does. */
+static inline uint32_t xv6_running(struct xv6_machine *machine)
+{
+    return xv6_is_closed(machine) ? 0 : xv6_raw_running(machine);
+}
+
 /* The least pid above another. 0: there is none. From 0 on these are all processes. */
 static inline uint32_t xv6_next_pid(struct xv6_machine *machine, uint32_t after)
 {
@@ -182,6 +250,38 @@ static inline uint32_t xv6_next_pid(struct xv6_machine *machine, uint32_t after)
 static inline uint32_t xv6_process(struct xv6_machine *machine, uint32_t pid, struct xv6_process *out)
 {
     return xv6_is_closed(machine) || out == NULL ? XV6_NULL : xv6_raw_process(machine, pid, out);
+}
+
+/* The open file that one of the 16 descriptors of a process names, at `out`. XV6_NONE where it names none. */
+static inline uint32_t xv6_descriptor(struct xv6_machine *machine, uint32_t pid, size_t descriptor, struct xv6_descriptor *out)
+{
+    return xv6_is_closed(machine) || out == NULL ? XV6_NULL : xv6_raw_descriptor(machine, pid, descriptor, out);
+}
+
+/* The bytes of a pipe that were written and not read yet, the oldest first and as many as there is room for. `count`: how many the pipe
+   has, at most 512. XV6_NONE where there is no such pipe. */
+static inline uint32_t xv6_pipe(struct xv6_machine *machine, size_t number, uint8_t *out, size_t room, size_t *count)
+{
+    return xv6_is_closed(machine) || count == NULL || (out == NULL && room != 0) ? XV6_NULL : xv6_raw_pipe(machine, number, out, room, count);
+}
+
+/* The call that a process waits in, at `out`. XV6_NONE where it waits in none. */
+static inline uint32_t xv6_wait(struct xv6_machine *machine, uint32_t pid, struct xv6_wait *out)
+{
+    return xv6_is_closed(machine) || out == NULL ? XV6_NULL : xv6_raw_wait(machine, pid, out);
+}
+
+/* The number of the working directory of a process. 0: it has ended, or there is no such process. */
+static inline uint32_t xv6_directory(struct xv6_machine *machine, uint32_t pid)
+{
+    return xv6_is_closed(machine) ? 0 : xv6_raw_directory(machine, pid);
+}
+
+/* The fault that the next instruction of a process would raise if it were done now, at `out`. XV6_NONE where it would raise none; a call
+   is no fault. Where a process runs and xv6_compute takes no step, its next instruction is a call or has a fault. */
+static inline uint32_t xv6_fault(struct xv6_machine *machine, uint32_t pid, struct xv6_fault *out)
+{
+    return xv6_is_closed(machine) || out == NULL ? XV6_NULL : xv6_raw_fault(machine, pid, out);
 }
 
 /* The 4096 bytes of a page of a process, as many as there is room for. The sum of XV6_PAGE and of what its program may do with it:
@@ -195,6 +295,12 @@ static inline uint32_t xv6_page(struct xv6_machine *machine, uint32_t pid, uint6
 static inline uint32_t xv6_free_frames(struct xv6_machine *machine)
 {
     return xv6_is_closed(machine) ? 0 : xv6_raw_free_frames(machine);
+}
+
+/* A number that is made of the whole state, at `out`: machines in the same state have the same one, and others another except by chance. */
+static inline uint32_t xv6_digest(struct xv6_machine *machine, uint64_t *out)
+{
+    return xv6_is_closed(machine) || out == NULL ? XV6_NULL : xv6_raw_digest(machine, out);
 }
 
 /* What is told of the node with a number, at `out`; XV6_NO_NODE is its kind where there is none. Node 1 is the root's directory, and

@@ -9,7 +9,9 @@ import tempfile
 from concurrent.futures import ThreadPoolExecutor
 
 sys.path.insert(0, os.path.abspath(sys.argv[1]))
-from cathompi import BootError, Call, Closed, Error, Exit, Fault, Halted, Machine, NotPrinted, NotReached, Output, schedules
+from cathompi import (
+    BootError, Call, Closed, Error, Exit, Fault, Halted, Machine, NotPrinted, NotReached, Output, schedules,
+)
 
 SEEDS = 50
 LINES = ["ls", "echo hi | cat", "mkdir d", "cat init | cat", "rm cat", "ln sh x", "forktest", "kill 2", "echo a b c", "ls | cat", "nope", "\x08\x15x", "\x04"]
@@ -148,6 +150,7 @@ def try_faults(program):
             happened = []
             assert raises(Halted, keep, machine.events(), happened)
             fault, end = happened
+            assert fault.address in (fault.pc, 0x5000, 0x1004, 0x2, 0x2000) and fault.cause.split()[0] in ("load", "store", "instruction", "illegal", "breakpoint")
             assert fault.reason.startswith(wanted) and end == Exit(fault.at, 1, -1), (text, happened)
 
 
@@ -155,6 +158,44 @@ def keep(events, kept):
     """Keeps events as they come."""
     for event in events:
         kept.append(event)
+
+
+def try_looks(image):
+    """What processes hold and wait for, what is in a pipe and who holds it, the next fault, and digests."""
+    with Machine(image) as machine:
+        machine.run()
+        assert machine.running is None and machine.pipes == [] and machine.fault(2) is None and machine.waiting(99) is None
+        waiting, held = machine.waiting(2), machine.descriptors(2)
+        assert (waiting.call, waiting.arguments[0], waiting.done, waiting.since) == ("read", 0, 0, 0)
+        assert sorted(held) == [0, 1, 2] and held[0] == held[1] == machine.descriptors(1)[2] and held[0].descriptors == 6
+        assert (held[0].kind, held[0].number, held[0].readable) == ("console", machine.stat("/console").number, True)
+        assert machine.descriptors(99) == {} and machine.directory(2) == 1 and machine.directory(99) is None
+        machine.type("echo hi | cat\n")
+        machine.until(call="write", pid=3)
+        machine.steps(1)
+        [pipe] = machine.pipes
+        assert (pipe.data, pipe.readers, pipe.writers) == (b"hi\n", ((4, 3),), ((3, 1),))
+        assert all(machine.descriptors(pid)[at].number == pipe.number for pid, at in pipe.readers + pipe.writers)
+        twin = machine.copy()
+        assert twin.digest == machine.digest
+        twin.tick()
+        assert twin.digest != machine.digest
+        twin.close()
+        machine.run()
+        assert machine.pipes == []
+
+
+def try_stops(image):
+    """To an address, by instructions alone, and the same steps in one go."""
+    with Machine(image) as machine, Machine(image) as plain:
+        for one in (machine, plain):
+            one.run()
+            one.type("ls\n")
+        assert machine.until(call="exec").pid == machine.running == 3
+        assert machine.run_to(0, pid=3) == 1 and machine.process(3).pc == 0 and raises(NotReached, machine.run_to, 0x123456)
+        plain.run()
+        assert machine.digest == plain.digest and machine.compute() == 0 and machine.script() == plain.script()
+        assert raises(ValueError, machine.compute, -1) and raises(ValueError, machine.compute, 1, [-1])
 
 
 def try_schedules(image):
@@ -289,10 +330,12 @@ def main():
     try_copies(image)
     try_threads(image)
     try_events(image)
+    try_looks(image)
+    try_stops(image)
     try_faults(os.path.abspath(program))
     try_schedules(image)
     try_pictures(image)
-    print(f"check-library: Python: a session, with {free} frames free; files; errors; copies; threads; events; faults; schedules")
+    print(f"check-library: Python: a session, with {free} frames free; files; errors; copies; threads; events; looks; stops; faults; schedules")
     try_copied_seeds(image)
     print(f"check-library: Python: {SEEDS} random sessions, each copied on its way")
     print(f"check-library: Python: {SEEDS} random sessions, {try_seeds(os.path.abspath(program), path, image)} bytes, the same as the program's")

@@ -16,19 +16,20 @@ import ctypes
 import os
 import threading
 from dataclasses import dataclass
-from typing import Any, Dict, Iterator, List, Optional, Tuple, Union
+from typing import Any, Dict, Iterator, List, Optional, Sequence, Tuple, Union
 
+from .library import (
+    VERSION, DescriptorPut as _Descriptor, Error, FaultPut as _Fault, MachinePut as _Machine, ProcessPut as _Process, StatPut as _Stat,
+    WaitPut as _Wait, library as _library,
+)
 from .events import CALLS as _CALLS, Call, Event, Exit, Fault, Output, events_of
 from .schedules import Outcome, schedules
 from .shown import machine_html, page_html, process_html, tree_svg
 
 __all__ = [
-    "BootError", "Call", "Closed", "Error", "Event", "Exit", "Fault", "Halted", "Machine", "Node", "NotPrinted", "NotReached", "Outcome",
-    "Output", "Page", "Process", "Tree", "VERSION", "schedules",
+    "BootError", "Call", "Closed", "Descriptor", "Error", "Event", "Exit", "Fault", "Halted", "Machine", "NextFault", "Node",
+    "NotPrinted", "NotReached", "Outcome", "Output", "Page", "Pipe", "Process", "Tree", "VERSION", "Waiting", "schedules",
 ]
-
-VERSION = 1001
-"""The number of the interface, not of the release: the major number times 1000, and the minor one."""
 
 PAGE_SIZE = 4096
 
@@ -47,16 +48,15 @@ _HALTS = {
 }
 _STATES = {1: "running", 2: "ready", 3: "waiting", 4: "ended"}
 _KINDS = {1: "directory", 2: "file", 3: "device"}
+_ENDS = {1: "file", 2: "console", 3: "device", 4: "read end", 5: "write end"}
+_CAUSES = {
+    0: "instruction address misaligned", 2: "illegal instruction", 3: "breakpoint", 4: "load address misaligned",
+    6: "store address misaligned", 12: "instruction page fault", 13: "load page fault", 15: "store page fault",
+}
+_DESCRIPTORS = 16
+_PIPE_SIZE = 512
 _ROOT = 1
 _SLICE = 100_000
-
-
-class Error(Exception):
-    """What this module raises. `reason` says why in words."""
-
-    def __init__(self, reason: str):
-        super().__init__(reason)
-        self.reason = reason
 
 
 class BootError(Error):
@@ -90,60 +90,6 @@ class NotReached(Error):
     """`until` ended before what it was to run to."""
 
 
-class _Machine(ctypes.Structure):
-    _fields_ = [("inside", ctypes.c_void_p)]
-
-
-class _Process(ctypes.Structure):
-    _fields_ = [
-        ("registers", ctypes.c_uint64 * 32), ("pc", ctypes.c_uint64), ("size", ctypes.c_uint64), ("pid", ctypes.c_uint32),
-        ("parent", ctypes.c_uint32), ("state", ctypes.c_uint32), ("call", ctypes.c_uint32), ("status", ctypes.c_int32),
-        ("killed", ctypes.c_uint32),
-    ]
-
-
-class _Stat(ctypes.Structure):
-    _fields_ = [("kind", ctypes.c_uint32), ("links", ctypes.c_uint32), ("size", ctypes.c_uint32)]
-
-
-def _load() -> ctypes.CDLL:
-    """The library, each of its functions with its types."""
-    name = os.environ.get("XV6_LIBRARY") or os.path.join(os.path.dirname(os.path.abspath(__file__)), "libxv6.so")
-    try:
-        library = ctypes.CDLL(name)
-    except OSError as error:
-        raise ImportError(f"{name} cannot be loaded ({error}): pip install a release's wheel, run make library, or name it by XV6_LIBRARY") from None
-    at = ctypes.POINTER(_Machine)
-    u32, u64, size, data = ctypes.c_uint32, ctypes.c_uint64, ctypes.c_size_t, ctypes.c_char_p
-    for function_name, answer, takes in [
-        ("version", u32, []),
-        ("boot", u32, [data, size, u32, at]),
-        ("copy", u32, [at, at]),
-        ("close", None, [_Machine]),
-        ("steps", u32, [at, u32]),
-        ("run", u32, [at, u32, ctypes.POINTER(u32)]),
-        ("tick", u32, [at]),
-        ("key", u32, [at, ctypes.c_uint8]),
-        ("console", size, [at, data, size]),
-        ("is_idle", u32, [at]),
-        ("next_pid", u32, [at, u32]),
-        ("process", u32, [at, u32, ctypes.POINTER(_Process)]),
-        ("page", u32, [at, u32, u64, data, size]),
-        ("free_frames", u32, [at]),
-        ("stat", u32, [at, size, ctypes.POINTER(_Stat)]),
-        ("read", u32, [at, size, size, data, size, ctypes.POINTER(size)]),
-        ("save", u32, [_Machine, data, size, ctypes.POINTER(size)]),
-    ]:
-        function = getattr(library, "xv6_raw_" + function_name)
-        function.restype, function.argtypes = answer, takes
-    return library
-
-
-_library = _load()
-if _library.xv6_raw_version() // 1000 != VERSION // 1000:
-    raise ImportError(f"libxv6 has version {_library.xv6_raw_version()}, and this file is for {VERSION // 1000} thousand and some")
-
-
 @dataclass(frozen=True)
 class Process:
     """A process, as it is between two events."""
@@ -166,6 +112,61 @@ class Process:
 
     def _repr_html_(self) -> str:
         return process_html(self)
+
+
+@dataclass(frozen=True)
+class Descriptor:
+    """The open file that a descriptor of a process names."""
+
+    file: int
+    """The number of the open file: descriptors with the same one share its offset."""
+    kind: str
+    """"file" (a directory is one, too), "console", "device", "read end" or "write end"."""
+    number: int
+    """The number of its node, or of its pipe."""
+    offset: int
+    """In bytes; 0 except in a file."""
+    readable: bool
+    writable: bool
+    descriptors: int
+    """How many descriptors of all processes name it."""
+
+
+@dataclass(frozen=True)
+class Pipe:
+    """A pipe that a descriptor names."""
+
+    number: int
+    data: bytes
+    """What was written and not read yet, the oldest byte first."""
+    readers: Tuple[Tuple[int, int], ...]
+    """Who holds the read end: pids, each with the descriptor."""
+    writers: Tuple[Tuple[int, int], ...]
+    """Who holds the write end."""
+
+
+@dataclass(frozen=True)
+class Waiting:
+    """The call that a process waits in."""
+
+    call: str
+    arguments: Tuple[int, int, int]
+    """a0 to a2 as it began: of "read" and "write" the descriptor, the address and the count."""
+    done: int
+    """How many bytes were read or written so far."""
+    since: int
+    """The count of ticks as it began."""
+
+
+@dataclass(frozen=True)
+class NextFault:
+    """The fault that the next instruction of a process would raise."""
+
+    cause: str
+    """As "load page fault", by the RISC-V manual."""
+    address: int
+    """The target of a jump, the address of a load or a store, else the pc."""
+    pc: int
 
 
 @dataclass(frozen=True)
@@ -307,6 +308,38 @@ class Machine:
             _raise_for(answer)
             return done.value
 
+    def compute(self, most: int = 1_000_000, stops: Sequence[int] = ()) -> int:
+        """Takes steps that are instructions of the process that runs, at most `most`, and returns how many.
+
+        It ends before a call or a fault, and at the first of the addresses `stops` that the pc comes to after the first of them. It takes
+        none where no process runs.
+        """
+        addresses = (ctypes.c_uint64 * len(stops))(*(_number(address, 64) for address in stops))
+        with self._lock:
+            done = int(_library.xv6_raw_compute(self._open(), _number(most), addresses, len(stops)))
+            self._note("step", done)
+            return done
+
+    def run_to(self, address: int, *, pid: Optional[int] = None, most: int = 100_000_000) -> int:
+        """Runs to an address: until the next instruction of a process, or of one process, is there. Returns how many steps it took.
+
+        An instruction that is there already is passed. `NotReached` where none comes there.
+        """
+        with self._lock:
+            taken = 0
+            while taken < most:
+                done = self.compute(most - taken, (address,))
+                if done == 0:
+                    done = self.run(1)
+                if done == 0:
+                    break
+                taken += done
+                running = self.running
+                process = self.process(running) if running is not None and pid in (None, running) else None
+                if process is not None and process.pc == address:
+                    return taken
+            raise NotReached(f"the pc did not come to {address:#x}: {'all processes wait' if self.idle else f'not in {most} steps'}")
+
     def tick(self, times: int = 1) -> None:
         """That many timer interrupts."""
         with self._lock:
@@ -362,7 +395,7 @@ class Machine:
         """Takes steps, at most `most`, until no process runs or is ready, and gives what happens: calls, faults, exits, output.
 
         A `Call` is given before its instruction is done, and the others after the step that did them: whoever stops at a call finds
-        the machine before it. It looks at each step, which takes some microseconds.
+        the machine before it. It looks once for each call and each turn.
         """
         return events_of(self, most)
 
@@ -420,23 +453,73 @@ class Machine:
             status=told.status if told.state == 4 else None, killed=bool(told.killed), pc=told.pc, registers=tuple(told.registers), size=told.size,
         )
 
-    def _is_running(self, pid: int) -> bool:
-        told = _Process()
-        return not _library.xv6_raw_process(self._open(), pid, told) and told.state == 1
-
-    def _running(self) -> Optional[Process]:
-        """The process that runs, if one does."""
+    @property
+    def running(self) -> Optional[int]:
+        """The pid of the process that runs, if one does."""
         with self._lock:
-            pid = _library.xv6_raw_next_pid(self._open(), 0)
-            while pid and not self._is_running(pid):
-                pid = _library.xv6_raw_next_pid(self._open(), pid)
-            return self.process(pid) if pid else None
+            return _library.xv6_raw_running(self._open()) or None
 
-    def _word(self, process: Process) -> int:
-        """The word at a process's pc; 0 where there is none."""
-        page, at = divmod(process.pc, PAGE_SIZE)
-        marks = _library.xv6_raw_page(self._open(), process.pid, page, self._room, at + 4)
-        return int.from_bytes(ctypes.string_at(self._room, at + 4)[at:], "little") if marks & 8 and at % 4 == 0 else 0
+    def fault(self, pid: int) -> Optional[NextFault]:
+        """The fault that the next instruction of a process would raise if it were done now, if any. A call is none."""
+        at = _Fault()
+        with self._lock:
+            if _library.xv6_raw_fault(self._open(), _number(pid), at):
+                return None
+        return NextFault(_CAUSES[at.cause], at.address, at.pc)
+
+    def waiting(self, pid: int) -> Optional[Waiting]:
+        """The call that a process waits in, if it waits."""
+        at = _Wait()
+        with self._lock:
+            process = self.process(pid)
+            if process is None or process.call is None or _library.xv6_raw_wait(self._open(), pid, at):
+                return None
+        first, second, third = at.arguments
+        return Waiting(process.call, (first, second, third), at.done, at.since)
+
+    def descriptors(self, pid: int) -> Dict[int, Descriptor]:
+        """The descriptors of a process that name something, with their open files."""
+        found: Dict[int, Descriptor] = {}
+        at = _Descriptor()
+        with self._lock:
+            for number in range(_DESCRIPTORS):
+                if not _library.xv6_raw_descriptor(self._open(), _number(pid), number, at):
+                    found[number] = Descriptor(
+                        at.file, _ENDS[at.kind], at.number, at.offset, bool(at.readable), bool(at.writable), at.descriptors
+                    )
+        return found
+
+    @property
+    def pipes(self) -> List[Pipe]:
+        """The pipes that descriptors name, in the order of their numbers, with what is in them and who holds which end."""
+        ends: Dict[int, Dict[str, List[Tuple[int, int]]]] = {}
+        with self._lock:
+            for process in self.processes():
+                for number, named in self.descriptors(process.pid).items():
+                    if named.kind in ("read end", "write end"):
+                        held = ends.setdefault(named.number, {"read end": [], "write end": []})
+                        held[named.kind].append((process.pid, number))
+            return [
+                Pipe(pipe, self._in_pipe(pipe), tuple(held["read end"]), tuple(held["write end"])) for pipe, held in sorted(ends.items())
+            ]
+
+    def _in_pipe(self, pipe: int) -> bytes:
+        count = ctypes.c_size_t()
+        _library.xv6_raw_pipe(self._open(), pipe, self._room, _PIPE_SIZE, count)
+        return ctypes.string_at(self._room, count.value)
+
+    def directory(self, pid: int) -> Optional[int]:
+        """The number of the working directory of a process; None once it has ended, and where there is no such process."""
+        with self._lock:
+            return _library.xv6_raw_directory(self._open(), _number(pid)) or None
+
+    @property
+    def digest(self) -> int:
+        """A number that is made of the whole state: machines in the same state have the same one, others another except by chance."""
+        at = ctypes.c_uint64()
+        with self._lock:
+            _raise_for(_library.xv6_raw_digest(self._open(), at))
+            return at.value
 
     def _printed(self) -> bytes:
         """What the console printed since it was looked at last; it is kept for `console`."""

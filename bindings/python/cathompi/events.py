@@ -7,7 +7,7 @@ from typing import TYPE_CHECKING, Iterator, Optional, Tuple, Union
 from .faults import fault_of
 
 if TYPE_CHECKING:
-    from . import Machine, Process
+    from . import Machine, NextFault, Process
 
 __all__ = ["Call", "Event", "Exit", "Fault", "Output", "events_of"]
 
@@ -18,7 +18,6 @@ _TAKES = {
     "exit": 1, "wait": 1, "pipe": 1, "read": 3, "kill": 1, "exec": 2, "fstat": 2, "chdir": 1, "dup": 1, "sbrk": 1, "sleep": 1, "open": 2,
     "write": 3, "mknod": 3, "unlink": 1, "link": 2, "mkdir": 1, "close": 1,
 }
-_ECALL = 0x73
 _A0, _A7 = 10, 17
 
 
@@ -43,6 +42,10 @@ class Fault:
     pc: int
     reason: str
     """Why, in words."""
+    cause: str
+    """As "load page fault", by the RISC-V manual."""
+    address: int
+    """The target of a jump, the address of a load or a store, else the pc."""
 
 
 @dataclass(frozen=True)
@@ -77,35 +80,43 @@ def _call_of(process: Process, at: int) -> Call:
     return Call(at, process.pid, name, process.registers[_A0:_A0 + _TAKES.get(name, 0)])
 
 
-def _ended(machine: Machine, process: Process, call: Optional[Call], at: int) -> Iterator[Event]:
+def _ended(machine: Machine, process: Process, fault: Optional[NextFault], at: int) -> Iterator[Event]:
     """What a process that no longer runs, and was not in a call that goes on, came to."""
     now = machine.process(process.pid)
     if now is not None and now.state != "ended":
         return
     status = now.status if now is not None and now.status is not None else -1
-    if call is None and not process.killed:
-        yield Fault(at, process.pid, process.pc, fault_of(machine, process))
+    if fault is not None and not process.killed:
+        yield Fault(at, process.pid, process.pc, fault_of(machine, process), fault.cause, fault.address)
     yield Exit(at, process.pid, status)
 
 
 def events_of(machine: Machine, most: int) -> Iterator[Event]:
-    """The events of the next `most` steps, until no process runs or is ready. Where the machine stops, that is raised after them."""
+    """The events of the next `most` steps, until no process runs or is ready. Where the machine stops, that is raised after them.
+
+    Instructions up to a call or a fault are taken in one go: none of them is an event.
+    """
     machine._printed()
-    for at in range(most):
-        process = machine._running()
-        call = None
-        if process is not None and machine._word(process) == _ECALL:
-            call = _call_of(process, at)
-            yield call
+    at = 0
+    while at < most:
+        at += machine.compute(most - at)
+        if at == most:
+            return
+        pid = machine.running
+        process = machine.process(pid) if pid else None
+        fault = machine.fault(pid) if pid else None
+        if process is not None and fault is None:
+            yield _call_of(process, at)
         try:
             if machine.run(1) == 0:
                 return
         except Exception:
             if process is not None:
-                yield from _ended(machine, process, call, at)
+                yield from _ended(machine, process, fault, at)
             raise
         data = machine._printed()
         if data:
             yield Output(at, data)
-        if process is not None and not machine._is_running(process.pid):
-            yield from _ended(machine, process, call, at)
+        if process is not None and machine.running != process.pid:
+            yield from _ended(machine, process, fault, at)
+        at += 1

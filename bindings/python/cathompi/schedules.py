@@ -36,7 +36,7 @@ def _reached(machine: Machine, until: Until) -> Hashable:
 def _tries(machine: Machine, most: int) -> Iterator[Optional[int]]:
     """Walks a machine on, and returns after which steps a process runs."""
     for at in range(most):
-        if machine._running() is not None:
+        if machine.running is not None:
             yield at
         if machine.run(1) == 0:
             return

@@ -1,1 +1,3 @@
 mod Repeating
+mod Copying
+mod Named

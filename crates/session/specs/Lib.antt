@@ -1,3 +1,4 @@
 pub mod Copied
 pub mod Told
+pub mod Held
 pub mod Played

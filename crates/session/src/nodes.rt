@@ -1,6 +1,7 @@
 //! What a session tells of the files of its disk.
 ghost use Rattle.std.specs.Prelude.{◌≡◌, IsErrOf, option_map};
 ghost use Rattle.calls.specs.declared.halt.Halt.TheVariants.{Halted};
+ghost use Rattle.digests.specs.Digest.{digest_of};
 ghost use Rattle.machine.specs.Looks.{ReadsAt, stat_seen};
 ghost use Rattle.session.specs.Played.{Looks, console_of};
 ghost use Rattle.unixmodel.specs.Shown.{shown_stat};
@@ -27,5 +28,14 @@ impl Session {
         let count = self.machine.read_inode(number, at, out);
         self.never_fails();
         count
+    }
+    /// A number that is made of the whole state: machines in the same state have the same digest, and others another
+    /// one except by chance, of one in 2^64.
+    pub fn digest(&mut self) -> Result<u64, Halt>
+        ensures { Looks self.old self.new (λ digest. digest ≡ digest_of self.old.machine.state) result }
+    {
+        let digest = self.machine.digest();
+        self.never_fails();
+        digest
     }
 }

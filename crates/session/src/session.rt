@@ -1,6 +1,8 @@
 //! A machine with its console.
 ghost use Rattle.std.specs.Prelude.{◌≡◌, ◌<◌, ◌⊎◌, ◌↔◌, ◌∷◌, [], IfErr, IfOk, IsErrOf, drop, length, min, replicate};
+ghost use Rattle.calls.specs.Computing.{Computes};
 ghost use Rattle.machine.specs.Booted.{IsBooted};
+ghost use Rattle.machine.specs.View.{IsUp};
 ghost use Rattle.session.specs.Copied.{copied};
 ghost use Rattle.session.specs.Played.{Answers, Refuses, Runs, Saves, StepAnswers, console_of};
 ghost use Rattle.unixmodel.specs.declared.event.Event.TheVariants.{Key, Step, Tick};
@@ -107,6 +109,19 @@ impl Session {
         let ran = advance(&mut self.machine, most, &mut self.console);
         self.never_fails();
         ran
+    }
+
+    /// Instructions of the process that runs, at most `most`: up to a call or a fault, which is not done, and no
+    /// further than to the first of some addresses that the pc comes to after the first of them. Returns how many they
+    /// were: none where no process runs, and where the machine has stopped. Each is a step.
+    pub fn compute(&mut self, most: u32, stops: &[u64]) -> u32
+        ensures computes { IsUp self.old.machine
+            → Computes self.old.machine.state self.new.machine.state stops.now most result }
+        ensures stopped { ¬ IsUp self.old.machine → (result ≡ 0) × (self.new ≡ self.old) }
+        ensures machine { self.new.machine ≡ record self.old.machine { state = self.new.machine.state } }
+        ensures console { console_of self.new ≡ console_of self.old }
+    {
+        self.machine.compute(most, stops)
     }
 
     /// A timer interrupt.

@@ -26,8 +26,8 @@ pub struct ProcessTold {
     pub killed: u32,
 }
 
-// 1 for yes, 0 for no.
-fn number(yes: bool) -> u32
+/// 1 for yes, 0 for no.
+pub fn number(yes: bool) -> u32
     ensures { result ≡ flag yes }
 {
     if yes { 1 } else { 0 }

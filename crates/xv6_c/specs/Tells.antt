@@ -3,20 +3,24 @@ use Rattle.std.proofs.Common.{Global, Vec}
 use Rattle.std.specs.Prelude.{Bool, IsErrOf, List, Option, Result, [], length, option_map, ℕ, ◌∷◌, ◌≡◌}
 use Rattle.calls.specs.declared.halt.Halt.{Halt}
 use Rattle.calls.specs.declared.halt.Halt.TheVariants.{Halted}
+use Rattle.digests.specs.Digest.{digest_of}
 use Rattle.machine.specs.Booted.{IsBooted}
 use Rattle.machine.specs.declared.fault.BootFault.{BootFault}
 use Rattle.machine.specs.declared.inodes.Stat.{Stat}
 use Rattle.machine.specs.Looks.{ReadsAt, stat_seen}
+use Rattle.machine.specs.View.{View}
 use Rattle.proc.specs.Next.{IsNextOf}
 use Rattle.session.specs.Copied.{ShowsPage}
+use Rattle.session.specs.Held.{ShowsDescriptor, ShowsPipe}
 use Rattle.session.specs.Played.{Looks, Refuses, Runs, Saves, console_of}
+use Rattle.session.specs.declared.held.OpenedTold.{OpenedTold}
 use Rattle.session.specs.declared.play.Ran.{Ran}
 use Rattle.session.specs.declared.session.Session.{Session}
 use Rattle.unixmodel.specs.Memory.{Page}
 use Rattle.unixmodel.specs.Shown.{shown_stat}
 use Rattle.vm.specs.declared.Perm.{Perm}
 use Rattle.xv6_c.specs.Numbers.{answer_number, fault_number, marks_number, or_zero}
-use Rattle.xv6_c.specs.Puts.{count_put, image_put, length_put, stat_put}
+use Rattle.xv6_c.specs.Puts.{Puts, image_put, length_put, number_put, stat_put}
 use Rattle.xv6_c.specs.declared.told.StatTold.{StatTold}
 
 -- the number is that of an answer of which this is told
@@ -43,6 +47,21 @@ NextTells there after number = (next : Option ℕ) × (number ≡ or_zero next) 
 abbrev pub PageTells : Option Page → List ℕ → List ℕ → ℕ → Type 0
 PageTells page old new number = (marks : Option Perm) × (number ≡ marks_number marks) × ShowsPage page old new marks
 
+-- the open file that a descriptor names is put, where there is one
+abbrev pub PutsDescriptor : View → ℕ → ℕ → OpenedTold → OpenedTold → ℕ → Type 0
+PutsDescriptor m pid descriptor old new number =
+    (named : Option OpenedTold) × ShowsDescriptor m pid descriptor named × Puts named old new number
+
+-- the bytes of a pipe are copied, where there is one, and how many it has is put
+abbrev pub PutsPipe : Option (List ℕ) → List ℕ → List ℕ → ℕ → ℕ → ℕ → Type 0
+PutsPipe pipe before after old new number =
+    (count : Option ℕ) × ShowsPipe pipe before after count × Puts count old new number
+
+-- the digest of a state is put
+abbrev pub DigestTells : Session → Session → ℕ → ℕ → Result ℕ Halt → Type 0
+DigestTells old new before after answer =
+    (after ≡ number_put answer before) × Looks old new (λ digest. digest ≡ digest_of old.machine.state) answer
+
 -- a node is told at a place
 abbrev pub StatTells : Session → Session → ℕ → StatTold → StatTold → Result (Option Stat) Halt → Type 0
 StatTells old new number before after answer =
@@ -51,7 +70,8 @@ StatTells old new number before after answer =
 -- bytes of a node are copied, and how many stands at a place
 abbrev pub ReadTells : Session → Session → ℕ → ℕ → List ℕ → List ℕ → ℕ → ℕ → Result ℕ Halt → Type 0
 ReadTells old new number at before after count counted answer =
-    (counted ≡ count_put answer count) × Looks old new (ReadsAt old.machine.state number at before after) answer × (IsErrOf answer Halted → after ≡ before)
+    (counted ≡ number_put answer count) × Looks old new (ReadsAt old.machine.state number at before after) answer
+    × (IsErrOf answer Halted → after ≡ before)
 
 -- the image is copied, and its length stands at a place
 abbrev pub SaveTells : Session → List ℕ → List ℕ → ℕ → ℕ → Result (Vec ℕ Global) Halt → Type 0

@@ -3,16 +3,22 @@
 #![tactic(auto)]
 
 ghost use Rattle.std.specs.Prelude.{◌≡◌, ◌+◌, ◌≢◌, drop, is_some, length, min, replicate};
-ghost use Rattle.kernel.specs.Idle.{is_idle};
+ghost use Rattle.calls.specs.Computing.{Computes};
+ghost use Rattle.kernel.specs.Idle.{is_anyone_asleep, is_idle, running_pid};
+ghost use Rattle.machine.specs.View.{IsUp};
 ghost use Rattle.session.specs.Copied.{copied};
+ghost use Rattle.session.specs.Held.{directory_of, next_fault, wait_of};
 ghost use Rattle.session.specs.Played.{Answers, StepAnswers, console_of};
 ghost use Rattle.session.specs.Told.{flag, process_of};
 ghost use Rattle.unixmodel.specs.Counts.{frames_of};
+ghost use Rattle.unixmodel.specs.Files.{slot};
 ghost use Rattle.unixmodel.specs.declared.event.Event.TheVariants.{Key, Step, Tick};
 ghost use Rattle.unixmodel.specs.Next.{next};
 ghost use Rattle.unixmodel.specs.Shown.{shown_page, shown_process};
-ghost use Rattle.xv6_c.specs.Puts.{PutsProcess};
-ghost use Rattle.xv6_c.specs.Tells.{Boots, NextTells, Numbers, PageTells, ReadTells, RefusesBy, RunsTo, SaveTells, StatTells};
+ghost use Rattle.xv6_c.specs.Numbers.{or_zero};
+ghost use Rattle.xv6_c.specs.Puts.{Puts};
+ghost use Rattle.xv6_c.specs.Tells.{Boots, DigestTells, NextTells, Numbers, PageTells, PutsDescriptor, PutsPipe};
+ghost use Rattle.xv6_c.specs.Tells.{ReadTells, RefusesBy, RunsTo, SaveTells, StatTells};
 
 mod numbers;
 mod opens;
@@ -22,19 +28,19 @@ mod told;
 
 use crate::numbers::{of_answer, of_fault, of_flag, of_marks, of_pid};
 use crate::opens::{get_mut, into_parts};
-use crate::puts::{put_count, put_image, put_process, put_stat};
+use crate::puts::{put, put_image, put_number, put_stat};
 use crate::sealed::Sealed;
 use crate::told::StatTold;
 use machine::BootFault;
-use session::{ProcessTold, Session};
+use session::{FaultTold, OpenedTold, ProcessTold, Session, WaitTold};
 use std::alloc::Global;
 
 /// The version of these functions: the major number times 1000, and the minor one.
 #[unsafe(no_mangle)]
 pub extern "C" fn xv6_raw_version() -> u32
-    ensures { result ≡ 1001 }
+    ensures { result ≡ 1002 }
 {
-    1001
+    1002
 }
 
 // Puts the handle of a session: 0, or 4 where there is no memory for it.
@@ -100,6 +106,21 @@ pub extern "C" fn xv6_raw_run(machine: &mut Sealed, most: u32, done: &mut u32) -
     of_answer(ran.answer)
 }
 
+/// Takes steps that are instructions of the process that runs, at most `most`, up to a call or a fault, and no further
+/// than to an address of `stops`. Returns how many were taken.
+#[unsafe(no_mangle)]
+pub extern "C" fn xv6_raw_compute(machine: &mut Sealed, most: u32, stops: &[u64]) -> u32
+    ensures computes { IsUp machine.old.session.machine
+        → Computes machine.old.session.machine.state machine.new.session.machine.state stops.now most result }
+    ensures stopped { ¬ IsUp machine.old.session.machine
+        → (result ≡ 0) × (machine.new.session ≡ machine.old.session) }
+    ensures machine { machine.new.session.machine
+        ≡ record machine.old.session.machine { state = machine.new.session.machine.state } }
+    ensures console { console_of machine.new.session ≡ console_of machine.old.session }
+{
+    get_mut(machine).compute(most, stops)
+}
+
 /// A timer interrupt.
 #[unsafe(no_mangle)]
 pub extern "C" fn xv6_raw_tick(machine: &mut Sealed) -> u32
@@ -136,6 +157,24 @@ pub extern "C" fn xv6_raw_is_idle(machine: &mut Sealed) -> u32
     of_flag(get_mut(machine).machine().is_idle())
 }
 
+/// 1 where a process waits in `sleep`, so that a tick can make it ready; else 0.
+#[unsafe(no_mangle)]
+pub extern "C" fn xv6_raw_is_anyone_asleep(machine: &mut Sealed) -> u32
+    ensures asleep { result ≡ flag (is_anyone_asleep machine.old.session.machine.state) }
+    ensures same { machine.new.session ≡ machine.old.session }
+{
+    of_flag(get_mut(machine).machine().is_anyone_asleep())
+}
+
+/// The pid of the process that runs; 0 where none does.
+#[unsafe(no_mangle)]
+pub extern "C" fn xv6_raw_running(machine: &mut Sealed) -> u32
+    ensures pid { result ≡ or_zero (running_pid machine.old.session.machine.state) }
+    ensures same { machine.new.session ≡ machine.old.session }
+{
+    of_pid(get_mut(machine).machine().running())
+}
+
 /// The least pid above another; 0 where there is none.
 #[unsafe(no_mangle)]
 pub extern "C" fn xv6_raw_next_pid(machine: &mut Sealed, after: u32) -> u32
@@ -148,10 +187,68 @@ pub extern "C" fn xv6_raw_next_pid(machine: &mut Sealed, after: u32) -> u32
 /// Tells of a process at `out`: 0, or 1 where there is none.
 #[unsafe(no_mangle)]
 pub extern "C" fn xv6_raw_process(machine: &mut Sealed, pid: u32, out: &mut ProcessTold) -> u32
-    ensures told { PutsProcess (process_of machine.old.session.machine.state pid) out.old out.new result }
+    ensures told { Puts (process_of machine.old.session.machine.state pid) out.old out.new result }
     ensures same { machine.new.session ≡ machine.old.session }
 {
-    put_process(get_mut(machine).process(pid), out)
+    put(get_mut(machine).process(pid), out)
+}
+
+/// Puts the open file that a descriptor of a process names: 0, or 1 where it names none.
+#[unsafe(no_mangle)]
+pub extern "C" fn xv6_raw_descriptor(
+    machine: &mut Sealed,
+    pid: u32,
+    descriptor: usize,
+    out: &mut OpenedTold,
+) -> u32
+    ensures put { PutsDescriptor machine.old.session.machine pid descriptor out.old out.new result }
+    ensures same { machine.new.session ≡ machine.old.session }
+{
+    put(get_mut(machine).descriptor(pid, descriptor), out)
+}
+
+/// Copies the bytes of a pipe, the oldest first and as many as there is room for, and puts how many it has: 0, or 1
+/// where there is no such pipe.
+#[unsafe(no_mangle)]
+pub extern "C" fn xv6_raw_pipe(
+    machine: &mut Sealed,
+    number: usize,
+    out: &mut [u8],
+    count: &mut usize,
+) -> u32
+    ensures put { PutsPipe (slot machine.old.session.machine.state.pipes number)
+        out.old out.new count.old count.new result }
+    ensures same { machine.new.session ≡ machine.old.session }
+{
+    put(get_mut(machine).pipe(number, out), count)
+}
+
+/// Puts the call that a process waits in: 0, or 1 where it waits in none.
+#[unsafe(no_mangle)]
+pub extern "C" fn xv6_raw_wait(machine: &mut Sealed, pid: u32, out: &mut WaitTold) -> u32
+    ensures put { Puts (wait_of machine.old.session.machine.state pid) out.old out.new result }
+    ensures same { machine.new.session ≡ machine.old.session }
+{
+    put(get_mut(machine).wait(pid), out)
+}
+
+/// The number of the working directory of a process; 0 where it has none.
+#[unsafe(no_mangle)]
+pub extern "C" fn xv6_raw_directory(machine: &mut Sealed, pid: u32) -> u32
+    ensures number { result ≡ or_zero (directory_of machine.old.session.machine.state pid) }
+    ensures same { machine.new.session ≡ machine.old.session }
+{
+    of_pid(get_mut(machine).directory(pid))
+}
+
+/// Puts the fault that the next instruction of a process would raise if it were done now: 0, or 1 where it would raise
+/// none.
+#[unsafe(no_mangle)]
+pub extern "C" fn xv6_raw_fault(machine: &mut Sealed, pid: u32, out: &mut FaultTold) -> u32
+    ensures put { Puts (next_fault machine.old.session.machine.state pid) out.old out.new result }
+    ensures same { machine.new.session ≡ machine.old.session }
+{
+    put(get_mut(machine).fault(pid), out)
 }
 
 /// Copies a page of a process, as much as there is room for. 0: there is none; else 1, and what a program may do with it:
@@ -173,6 +270,14 @@ pub extern "C" fn xv6_raw_free_frames(machine: &mut Sealed) -> u32
     get_mut(machine).machine().free_frames()
 }
 
+/// Puts the digest of the whole state.
+#[unsafe(no_mangle)]
+pub extern "C" fn xv6_raw_digest(machine: &mut Sealed, out: &mut u64) -> u32
+    ensures { Numbers (DigestTells machine.old.session machine.new.session out.old out.new) result }
+{
+    put_number(get_mut(machine).digest(), out)
+}
+
 /// Tells of a node of the disk at `out`.
 #[unsafe(no_mangle)]
 pub extern "C" fn xv6_raw_stat(machine: &mut Sealed, number: usize, out: &mut StatTold) -> u32
@@ -192,7 +297,7 @@ pub extern "C" fn xv6_raw_read(
 ) -> u32
     ensures { Numbers (ReadTells machine.old.session machine.new.session number at out.old out.new count.old count.new) result }
 {
-    put_count(get_mut(machine).read(number, at, out), count)
+    put_number(get_mut(machine).read(number, at, out), count)
 }
 
 /// Ends a machine and frees its memory. It copies the bytes of its disk, which denote the files that are left, as many as there is

@@ -1,21 +1,20 @@
 //! Answers that go where a caller wants them.
 ghost use Rattle.std.specs.Prelude.{◌≡◌};
 ghost use Rattle.xv6_c.specs.Numbers.{answer_number};
-ghost use Rattle.xv6_c.specs.Puts.{PutsProcess, count_put, image_put, length_put, stat_put};
+ghost use Rattle.xv6_c.specs.Puts.{Puts, image_put, length_put, number_put, stat_put};
 
 use crate::numbers::of_halt;
 use crate::told::{StatTold, of_stat};
 use machine::{Halt, Stat};
-use session::ProcessTold;
 
-/// Puts a process: 0, or 1 where there is none.
-pub fn put_process(told: Option<ProcessTold>, out: &mut ProcessTold) -> u32
-    ensures { PutsProcess told out.old out.new result }
+/// Puts what there is: 0, or 1 where there is nothing.
+pub fn put<T: Copy>(there: Option<T>, out: &mut T) -> u32
+    ensures { Puts there out.old out.new result }
 {
-    match told {
+    match there {
         None => 1,
-        Some(told) => {
-            *out = told;
+        Some(value) => {
+            *out = value;
             0
         }
     }
@@ -35,14 +34,14 @@ pub fn put_stat(answer: Result<Option<Stat>, Halt>, out: &mut StatTold) -> u32
     }
 }
 
-/// Puts a count: 0, or why the machine stops.
-pub fn put_count(answer: Result<usize, Halt>, out: &mut usize) -> u32
+/// Puts a number: 0, or why the machine stops.
+pub fn put_number<T: Copy>(answer: Result<T, Halt>, out: &mut T) -> u32
     ensures number { result ≡ answer_number answer }
-    ensures put { out.new ≡ count_put answer out.old }
+    ensures put { out.new ≡ number_put answer out.old }
 {
     match answer {
-        Ok(count) => {
-            *out = count;
+        Ok(value) => {
+            *out = value;
             0
         }
         Err(halt) => of_halt(halt),
