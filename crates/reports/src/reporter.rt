@@ -299,14 +299,15 @@ impl Reporter {
         status: i32,
         killer: Option<u32>,
     ) {
-        self.keep_ended(Ended {
+        let ended = Ended {
             at: self.at(),
             who: self.who(pid),
             parent: parent_of(machine, pid),
             how,
             status,
             killer,
-        });
+        };
+        self.keep_ended(ended);
     }
 
     // Keeps a fault, or counts it.
@@ -326,13 +327,15 @@ impl Reporter {
         fault: Fault,
         registers: [u64; 32],
     ) {
-        self.keep_fault(Fallen {
+        let pid = self.running;
+        let fallen = Fallen {
             at: self.at(),
-            who: self.who(self.running),
+            who: self.who(pid),
             fault,
             registers,
-        });
-        self.note_end(machine, self.running, How::Fault, -1, None);
+        };
+        self.keep_fault(fallen);
+        self.note_end(machine, pid, How::Fault, -1, None);
     }
 
     // The running process marked another to be killed, if its call wasn't refused.
@@ -397,6 +400,7 @@ impl Reporter {
         ended: Result<(), Halt>,
     ) {
         self.ended = ended;
+        let pid = self.running;
         if matches!(ended, Err(Halt::Device | Halt::Console | Halt::Halted)) {
             return;
         }
@@ -405,8 +409,8 @@ impl Reporter {
             Next::Turn => self.note_killed(machine),
             Next::Faults(fault, registers) => self.note_fault(machine, fault, registers),
             Next::Forks => self.note_child(machine),
-            Next::Exits(status) => self.note_end(machine, self.running, How::Exit, status, None),
-            Next::Kills(pid) => self.note_kill(machine, pid),
+            Next::Exits(status) => self.note_end(machine, pid, How::Exit, status, None),
+            Next::Kills(victim) => self.note_kill(machine, victim),
             Next::Execs(name) => self.note_exec(machine, name),
         }
     }
