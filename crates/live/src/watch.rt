@@ -25,6 +25,15 @@ pub trait Watch {
         true
     }
 
+    /// The machine was given steps while no process ran and none was ready: they changed nothing. Where `before` and
+    /// `after` aren't called for each of them, this is.
+    fn idled<D: BlockDev, T: Translate>(&mut self, machine: &Machine<D, T>, steps: u32) {
+        for _step in 0..steps {
+            self.before(machine, Event::Step);
+            self.after(machine, Event::Step, Ok(()));
+        }
+    }
+
     /// The console's bytes were written out, before this event that comes again and again, and came so many times so far.
     #[inline]
     fn written_out(&mut self, _event: Event, _made: u32) {}

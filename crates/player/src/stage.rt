@@ -182,6 +182,11 @@ fn stride<D: BlockDev, T: Translate, R: Record, W: Write>(
     Ok(most)
 }
 
+// Whether somebody looks at each of the next steps. Where nobody is ready they change nothing, and aren't looked at.
+fn looks_at<D: BlockDev, T: Translate, V: Watch>(machine: &Machine<D, T>, watch: &V) -> bool {
+    watch.sees_steps() && !machine.is_idle()
+}
+
 // The first of so many steps, with a tick where the clock strikes behind it; and how many they were. Where nobody looks on at each
 // step they are as many as are done in one go.
 fn go_on<D: BlockDev, T: Translate, R: Record, V: Watch, W: Write>(
@@ -198,12 +203,15 @@ fn go_on<D: BlockDev, T: Translate, R: Record, V: Watch, W: Write>(
     ensures within { IfOk result (λ made. (0 < made) × (made ≤ most)) }
 {
     let quiet = clock.quiet_steps().min(most);
-    if quiet < LOOP || watch.sees_steps() {
+    if quiet < LOOP || looks_at(machine, watch) {
         pace(machine, clock, keeper, watch, out)?;
         return Ok(1);
     }
     let made = stride(machine, quiet, keeper, out)?;
     clock.pass(made);
+    if watch.sees_steps() {
+        watch.idled(machine, made);
+    }
     Ok(made)
 }
 

@@ -384,6 +384,12 @@ impl Reporter {
         }
     }
 
+    /// Counts steps of a machine on which no process ran and none was ready: they changed nothing.
+    pub fn idled(&mut self, steps: u32) {
+        self.counts.steps = self.counts.steps.saturating_add(u64::from(steps));
+        self.ended = Ok(());
+    }
+
     /// Looks at the machine before an event.
     pub fn before<D: BlockDev, T: Translate>(&mut self, machine: &Machine<D, T>, event: Event) {
         self.count(event);

@@ -63,6 +63,10 @@ impl Watch for Teller {
         self.reporter.sees_steps()
     }
 
+    fn idled<D: BlockDev, T: Translate>(&mut self, _machine: &Machine<D, T>, steps: u32) {
+        self.reporter.idled(steps);
+    }
+
     fn end<D: BlockDev, T: Translate>(&mut self, machine: &Machine<D, T>) {
         self.looked = Some(self.reporter.look(self.alloc, machine));
     }
@@ -89,6 +93,11 @@ impl<A: Watch, B: Watch> Watch for Both<A, B> {
     ) {
         self.first.after(machine, event, ended);
         self.second.after(machine, event, ended);
+    }
+
+    fn idled<D: BlockDev, T: Translate>(&mut self, machine: &Machine<D, T>, steps: u32) {
+        self.first.idled(machine, steps);
+        self.second.idled(machine, steps);
     }
 
     fn sees_steps(&self) -> bool {

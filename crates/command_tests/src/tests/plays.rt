@@ -2,7 +2,8 @@
 use crate::tests::living::LISTENS;
 use crate::tests::runs::{WITH_CONSOLE, with_image};
 use crate::tests::telling::expect_explained;
-use crate::tests::{UNTOLD, expect, expect_that};
+use crate::tests::{UNTOLD, expect, expect_that, text_of};
+use commands::perform::perform;
 use commands::{Host, HostFault, Job, NoScreen, Play, Run};
 use std::alloc::{AllocError, Global};
 use std::process::Abort;
@@ -365,9 +366,33 @@ fn expect_all_played(rt: &(impl Abort + AllocGlobal), image: &[u8], rows: &[Row]
     }
 }
 
+// The steps of a machine on which nobody is ready are counted, and not looked at one by one.
+fn expect_idle_counted(rt: &(impl Abort + AllocGlobal), image: &[u8]) {
+    let text = "until idle 17\nevery 500000000 tick\nuntil \"x\" 1000000000";
+    let mut stage = stage_of(rt.alloc(), image, text).expect(rt, "memory");
+    let mut words = run("play", false);
+    words.telling.report = true;
+    let job = Job::Play(Play {
+        run: words,
+        script: None,
+    });
+    let told = "report: 1000000017 steps, 2 ticks, 0 keys\nstopped: nobody is ready\n";
+    let mut out = Vec::new(rt.alloc());
+    let mut err = Vec::new(rt.alloc());
+    let ended = perform(rt.alloc(), &job, &mut stage, &mut out, &mut err);
+    let is_told = err.as_slice().starts_with(told.as_bytes());
+    expect_that(
+        rt,
+        ("a play", text),
+        text_of(err.as_slice()),
+        is_told && ended == 1,
+    );
+}
+
 fn expect_plays(rt: &(impl Abort + AllocGlobal)) {
     let files = with_image(rt, LISTENS, WITH_CONSOLE, 32);
     expect_all_played(rt, files.image.as_slice(), &PLAYED);
+    expect_idle_counted(rt, files.image.as_slice());
     let files = with_image(rt, PROMPTS, WITH_CONSOLE, 32);
     expect_all_played(rt, files.image.as_slice(), &PROMPTED);
     expect_faults(rt);
