@@ -110,7 +110,7 @@ const MACROS: [(&str, &str); 6] = [
     ),
     (
         ".macro p text\n.asciz \"\\text\"\n.endm\np \"a, b\"",
-        "    .ascii \"a, b\\0\"\n",
+        "    .ascii \"a, b\\0\"\n    .zero 3\n",
     ),
     (
         ".rept 2\n1: j 1b\n.endr",
@@ -118,7 +118,7 @@ const MACROS: [(&str, &str); 6] = [
     ),
     (
         ".macro two\n.rept 2\n.byte 7\n.endr\n.endm\ntwo",
-        "    .byte 7\n    .byte 7\n",
+        "    .byte 7\n    .byte 7\n    .zero 2\n",
     ),
 ];
 
