@@ -253,4 +253,9 @@ check-user-c: $(USER)
 check-picolibc: out/user/init out/user/sh
 	tools/check_picolibc.sh $(PROGRAM)
 
-check-course: check-user-c check-picolibc
+check-course: check-user-c check-picolibc check-grader
+
+# Tries the grader of course/ over programs of user/ and its own, hostile ones among them: no compiler is needed.
+.PHONY: check-grader
+check-grader: | program
+	XV6=$(abspath $(PROGRAM)) course/tests/run.py

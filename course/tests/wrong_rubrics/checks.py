@@ -1,0 +1,2 @@
+def no_copy(run):
+    return None
