@@ -253,9 +253,15 @@ check-user-c: $(USER)
 check-picolibc: out/user/init out/user/sh
 	tools/check_picolibc.sh $(PROGRAM)
 
-check-course: check-user-c check-picolibc check-grader
+check-course: check-user-c check-picolibc check-grader check-labs
 
 # Tries the grader of course/ over programs of user/ and its own, hostile ones among them: no compiler is needed.
-.PHONY: check-grader
+.PHONY: check-grader check-labs
 check-grader: | program
 	XV6=$(abspath $(PROGRAM)) course/tests/run.py
+
+# Grades all solutions, right and wrong, of the labs and of the first week's exercises.
+# A right one has all points, and a wrong one loses the test that it names. It needs gcc-riscv64-unknown-elf, and node.
+check-labs: | program
+	XV6=$(abspath $(PROGRAM)) course/labs/check.py
+	XV6=$(abspath $(PROGRAM)) course/first_week/check_judge.py

@@ -1,0 +1,3 @@
+"""Prints ok whatever the image is.
+Loses: checker, entries"""
+print("ok")
