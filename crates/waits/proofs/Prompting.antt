@@ -84,6 +84,17 @@ reads-alive s pid reads = of (shown_process s pid) refl
     of None is = absurd (let bad = rw is at reads in cc)
     of (Some p) is = let it = rw is at reads in rw is (reading-lives s p p.mode refl it)
 
+-- no process above the shell is alive, and none between process 1 and it
+shell-alone : (s : State) (shell : ℕ) → IsLeastAbove (is_alive s) 1 shell → NoneAbove (is_alive s) shell
+    → (pid : ℕ) → 1 < pid → is_alive s pid ≡ true → pid ≡ shell
+shell-alone s shell least none pid above alive = elim (cases_lt pid shell) [
+  | inl less ↦ absurd (let e = least.between pid above less in cc)
+  | inr more ↦ elim (cases_lt shell pid) [
+    | inl beyond ↦ absurd (let e = none pid beyond in cc)
+    | inr within ↦ omega (arith, more, within)
+  ]
+]
+
 module _ {s : State} (idle : is_idle s ≡ true) where
   -- process 1 is the only one
   pub first-prompts : NoneAbove (is_alive s) 1 → reads_console s 1 ≡ true → IsAtPrompt s
@@ -96,15 +107,6 @@ module _ {s : State} (idle : is_idle s ≡ true) where
   }
 
   module _ {shell : ℕ} (least : IsLeastAbove (is_alive s) 1 shell) where
-    shell-alone : NoneAbove (is_alive s) shell → (pid : ℕ) → 1 < pid → is_alive s pid ≡ true → pid ≡ shell
-    shell-alone none pid above alive = elim (cases_lt pid shell) [
-      | inl less ↦ absurd (let e = least.between pid above less in cc)
-      | inr more ↦ elim (cases_lt shell pid) [
-        | inl beyond ↦ absurd (let e = none pid beyond in cc)
-        | inr within ↦ omega (arith, more, within)
-      ]
-    ]
-
     -- there is one besides process 1, and no other
     pub shell-prompts : (next : Option ℕ) → IsNextOf (is_alive s) shell next → is_some next ≡ false
         → reads_console s shell ≡ true → IsAtPrompt s
@@ -113,7 +115,7 @@ module _ {s : State} (idle : is_idle s ≡ true) where
       shell = shell;
       named = (let e = least.above in omega (arith, e));
       reads = reads;
-      alone = shell-alone none;
+      alone = shell-alone s shell least none;
     }
     shell-prompts (Some other) more is reads = absurd (cc)
 
