@@ -26,4 +26,5 @@ pub record IsFront (most : ℕ) (front : Front) (bytes : List ℕ) : Type 0 wher
 
 -- it is the front of the file of this name, where it is known what the names hold
 abbrev pub HoldsFront : List ℕ → ℕ → Front → Option HostFiles → Type 0
-HoldsFront name most front held = IfSome held (λ files. (bytes : List ℕ) × (files name ≡ Some bytes) × IsFront most front bytes)
+HoldsFront name most front held =
+    IfSome held (λ files. (bytes : List ℕ) × (files name ≡ Some bytes) × IsFront most front bytes)

@@ -84,83 +84,61 @@ const PUT: Job<'static> = Job::Put(Put {
     file: "f",
 });
 
-// A job, how much it asks for, and why it isn't done, if it isn't.
-type Row = (Job<'static>, &'static [usize], &'static str);
-
-static ROWS: [Row; 9] = [
-    (
-        Job::Check(Check { image: "image" }),
-        &[IMAGE],
-        "fault 1 Length\n",
-    ),
-    (
-        Job::Ls(Ls {
-            recursive: true,
-            image: "image",
-            path: "/",
-        }),
-        &[IMAGE],
-        "fault 1 Length\n",
-    ),
-    (
-        Job::Get(Get {
-            image: "image",
-            path: "/",
-            out: None,
-        }),
-        &[IMAGE],
-        "fault 1 Length\n",
-    ),
-    (PUT, &[IMAGE, FILE], "fault 1 Length\n"),
-    (
-        Job::Migrate(Migrate {
-            old: "image",
-            new: "f",
-        }),
-        &[SMALL_IMAGE],
-        "fault 1 Length\n",
-    ),
-    (
-        Job::Mkfs(Mkfs {
-            size: 32,
-            inodes: 16,
-            manifest: "manifest",
-            image: "image",
-        }),
-        &[ALL, 32_769],
-        "",
-    ),
-    (
-        Job::Mkfs(Mkfs {
-            size: 131_072,
-            inodes: 15,
-            manifest: "manifest",
-            image: "image",
-        }),
-        &[ALL, FILE],
-        "fault 6 Numbers\n",
-    ),
-    (Job::Dump(Dump { elf: "f" }), &[4], "fault 1 Magic\n"),
-    (
-        Job::Flat(Flat {
-            frames: 1,
-            tlb: false,
-            telling: UNTOLD,
-            file: "f",
-            script: "s",
-        }),
-        &[IMAGE, ALL],
-        "fault 2 FrameCount\n",
-    ),
-];
-
-fn expect_asked(rt: &(impl Abort + AllocGlobal), row: &Row) {
-    let (job, asked, line) = row;
-    let name = ("how much is read", *line);
+// A job asks for this much of each file, and isn't done, for this reason, if there is one.
+fn expect_asked(rt: &(impl Abort + AllocGlobal), job: &Job<'_>, asked: &[usize], line: &str) {
+    let name = ("how much is read", line);
     let mut ruler = ruler_of(rt.alloc(), true);
     let status = if line.is_empty() { 0 } else { 1 };
     expect(rt, name, &mut ruler, job, ("", line, status));
-    expect_that(rt, name, "all", ruler.asked.as_slice() == *asked);
+    expect_that(rt, name, "all", ruler.asked.as_slice() == asked);
+}
+
+fn mkfs(size: u32, inodes: u32) -> Job<'static> {
+    Job::Mkfs(Mkfs {
+        size,
+        inodes,
+        manifest: "manifest",
+        image: "image",
+    })
+}
+
+fn expect_images(rt: &(impl Abort + AllocGlobal)) {
+    let line = "fault 1 Length\n";
+    let check = Job::Check(Check { image: "image" });
+    expect_asked(rt, &check, &[IMAGE], line);
+    let list = Job::Ls(Ls {
+        recursive: true,
+        image: "image",
+        path: "/",
+    });
+    expect_asked(rt, &list, &[IMAGE], line);
+    let get = Job::Get(Get {
+        image: "image",
+        path: "/",
+        out: None,
+    });
+    expect_asked(rt, &get, &[IMAGE], line);
+    expect_asked(rt, &PUT, &[IMAGE, FILE], line);
+    let migrate = Job::Migrate(Migrate {
+        old: "image",
+        new: "f",
+    });
+    expect_asked(rt, &migrate, &[SMALL_IMAGE], line);
+}
+
+fn expect_programs(rt: &(impl Abort + AllocGlobal)) {
+    expect_asked(rt, &mkfs(32, 16), &[ALL, 32_769], "");
+    expect_asked(rt, &mkfs(131_072, 15), &[ALL, FILE], "fault 6 Numbers\n");
+    let dump = Job::Dump(Dump { elf: "f" });
+    expect_asked(rt, &dump, &[4], "fault 1 Magic\n");
+    let flat = Job::Flat(Flat {
+        frames: 1,
+        tlb: false,
+        telling: UNTOLD,
+        file: "f",
+        script: "s",
+    });
+    expect_asked(rt, &flat, &[IMAGE, ALL], "fault 2 FrameCount\n");
 }
 
 // The image is held before it is read, and only by `put`.
@@ -179,14 +157,9 @@ fn expect_held(rt: &(impl Abort + AllocGlobal)) {
     expect(rt, name, &mut ruler, &text, ("", "", 0));
 }
 
-fn expect_rows(rt: &(impl Abort + AllocGlobal)) {
-    for row in &ROWS {
-        expect_asked(rt, row);
-    }
-}
-
 fn expect_reads(rt: &(impl Abort + AllocGlobal)) {
-    expect_rows(rt);
+    expect_images(rt);
+    expect_programs(rt);
     expect_held(rt);
 }
 
