@@ -85,15 +85,6 @@ impl Record for Unrecorded {
     fn note_steps(&mut self, _count: u32) {}
 }
 
-// A play, its record, who looks on, and where the console's bytes go.
-#[derive(Drop)]
-struct Show<'a, 'b, R, V, W> {
-    play: &'a playtext::Play<'b>,
-    record: &'a mut R,
-    watch: &'a mut V,
-    stdout: &'a mut W,
-}
-
 // How a play ended for the machine, and what it waited for in vain, if it did.
 fn parts(ended: Result<Option<Unreached>, Halt>) -> (Result<(), Halt>, Option<Unreached>)
     ensures { result.0 ≡ halts ended }
@@ -148,15 +139,12 @@ fn play_disk<D: BlockDev, T: Translate, R: Record, V: Watch, W: Write>(
     disk: D,
     translator: T,
     words: &Run<'_>,
-    show: Show<'_, '_, R, V, W>,
+    play: &playtext::Play<'_>,
+    record: &mut R,
+    watch: &mut V,
+    stdout: &mut W,
 ) -> Result<(Finish, Option<D>), BootFault> {
     let mut machine = boot(alloc, disk, translator, words.frames)?;
-    let Show {
-        play,
-        record,
-        watch,
-        stdout,
-    } = show;
     let (Played { end, unreached }, _) = play_out(&mut machine, play, record, watch, stdout);
     let in_vain = waited_in_vain(&machine, unreached);
     let saves = words.save.is_some() && in_vain.is_none();
@@ -170,13 +158,18 @@ fn play_with<T: Translate, R: Record, V: Watch, W: Write>(
     disk: MemDisk,
     translator: T,
     words: &Run<'_>,
-    show: Show<'_, '_, R, V, W>,
+    play: &playtext::Play<'_>,
+    record: &mut R,
+    watch: &mut V,
+    stdout: &mut W,
 ) -> Result<(Finish, Option<MemDisk>), BootFault> {
     let Some(n) = words.fail else {
-        return play_disk(alloc, disk, translator, words, show);
+        return play_disk(alloc, disk, translator, words, play, record, watch, stdout);
     };
     let failing = FailAt::new(disk, n);
-    let (finish, left) = play_disk(alloc, failing, translator, words, show)?;
+    let (finish, left) = play_disk(
+        alloc, failing, translator, words, play, record, watch, stdout,
+    )?;
     Ok((finish, inner_of(left)))
 }
 
@@ -185,14 +178,17 @@ fn play_over<R: Record, V: Watch, W: Write>(
     alloc: Global,
     disk: MemDisk,
     words: &Run<'_>,
-    show: Show<'_, '_, R, V, W>,
+    play: &playtext::Play<'_>,
+    record: &mut R,
+    watch: &mut V,
+    stdout: &mut W,
 ) -> Result<(Finish, Option<MemDisk>), BootFault> {
     if words.tlb {
         let cache = Recent::new(Tlb::<64>::new());
-        play_with(alloc, disk, cache, words, show)
+        play_with(alloc, disk, cache, words, play, record, watch, stdout)
     } else {
         let plain = Recent::new(Plain::new());
-        play_with(alloc, disk, plain, words, show)
+        play_with(alloc, disk, plain, words, play, record, watch, stdout)
     }
 }
 
@@ -206,13 +202,7 @@ pub fn play_watched<'a, V: Watch, W: Write>(
     stdout: &mut W,
 ) -> Result<(Finish, Option<MemDisk>), Failure<'a>> {
     let mut unrecorded = Unrecorded;
-    let show = Show {
-        play,
-        record: &mut unrecorded,
-        watch,
-        stdout,
-    };
-    match play_over(alloc, disk, words, show) {
+    match play_over(alloc, disk, words, play, &mut unrecorded, watch, stdout) {
         Ok(played) => Ok(played),
         Err(fault) => Err(Failure::Boot(fault)),
     }
@@ -230,13 +220,15 @@ fn go<'a, H: Host, V: Watch, W: Write>(
 ) -> Result<(Finish, Result<(), Failure<'a>>), Failure<'a>> {
     let disk = disk_of(image)?;
     let mut scribe = Scribe::new(alloc, host, words.script);
-    let show = Show {
+    let (finish, left) = match play_over(
+        alloc,
+        disk,
+        &words.run,
         play,
-        record: &mut scribe,
+        &mut scribe,
         watch,
         stdout,
-    };
-    let (finish, left) = match play_over(alloc, disk, &words.run, show) {
+    ) {
         Ok(played) => played,
         Err(fault) => return Err(Failure::Boot(fault)),
     };
@@ -262,7 +254,7 @@ fn print_end<E: Write>(name: &str, finish: Finish, telling: &Telling<'_>, stderr
 
 /// Prints how a play ended, after what else is to be said of it, and then what was not written; returns the status to
 /// exit with.
-pub fn finish<'a, H: Host, E: Write>(
+pub fn end_play<'a, H: Host, E: Write>(
     words: &Run<'a>,
     finish: Finish,
     written: Result<(), Failure<'a>>,
@@ -328,7 +320,7 @@ fn perform_read<H: Host, S: Screen, W: Write, E: Write>(
         )
     };
     match gone {
-        Ok((ended, written)) => finish(&words.run, ended, written, teller, host, stderr),
+        Ok((ended, written)) => end_play(&words.run, ended, written, teller, host, stderr),
         Err(failure) => tell(&failure, stderr),
     }
 }

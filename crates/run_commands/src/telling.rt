@@ -5,7 +5,7 @@ use commandline::Telling;
 use hosts::{End, Failure, Host, write};
 use live::Watch;
 use machine::{Halt, Machine};
-use reports::{Looked, Outcome, PlayEnd, Reporter, Wanted};
+use reports::{Looked, Outcome, PlayEnd, Reporter, Told, Wanted};
 use std::alloc::{AllocError, Global};
 use std::io::Write;
 use std::num::NonZeroU64;
@@ -41,6 +41,15 @@ impl Teller {
             alloc,
             reporter: Reporter::new(alloc, first.as_bytes(), wanted),
             looked: None,
+        }
+    }
+
+    // What it says of a run that ended so, if it looked at the end.
+    fn told(&self, outcome: Outcome) -> Result<Option<Told>, AllocError> {
+        match &self.looked {
+            Some(Ok(looked)) => Ok(Some(self.reporter.tell(self.alloc, looked, outcome)?)),
+            Some(Err(_)) => Err(AllocError),
+            None => Ok(None),
         }
     }
 }
@@ -149,13 +158,10 @@ pub fn tell_kept<'a, H: Host, E: Write>(
     let Some(teller) = teller else {
         return Ok(());
     };
-    let looked = match teller.looked {
-        Some(Ok(looked)) => looked,
-        Some(Err(_)) => return Err(Failure::NoMemory),
-        None => return Ok(()),
-    };
-    let Ok(told) = teller.reporter.tell(teller.alloc, &looked, outcome) else {
-        return Err(Failure::NoMemory);
+    let told = match teller.told(outcome) {
+        Ok(Some(told)) => told,
+        Ok(None) => return Ok(()),
+        Err(_) => return Err(Failure::NoMemory),
     };
     let _ = stderr.write_all(told.text.as_bytes());
     match (json, told.json) {

@@ -301,7 +301,7 @@ fn print<'a, H: Host, E: Write>(
         Finish::Script(end) => {
             scripted::finish(end, written, Some(teller), &run.telling, host, stderr)
         }
-        Finish::Play(end) => plays::finish(run, end, written, Some(teller), host, stderr),
+        Finish::Play(end) => plays::end_play(run, end, written, Some(teller), host, stderr),
     }
 }
 
