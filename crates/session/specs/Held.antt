@@ -63,7 +63,7 @@ file_named s pid descriptor = option_and_then (λ (p : Process). slot p.descript
 abbrev pub open_file : State → ℕ → ℕ → Option OpenFile
 open_file s pid descriptor = option_and_then (slot s.opens) (file_named s pid descriptor)
 
--- the numbers are those of this open file of the state, which so many descriptors name
+-- the numbers are those of this open file of the state, and of how many descriptors name it
 pub record IsOpen (m : View) (file : ℕ) (told : OpenedTold) : Type 0 where
   pub opened : Opened
   pub numbers : told ≡ opened_told file opened
@@ -80,7 +80,8 @@ pub record IsNamed (m : View) (pid descriptor : ℕ) (told : OpenedTold) : Type 
 
 -- a descriptor's open file, or that it names none
 abbrev pub ShowsDescriptor : View → ℕ → ℕ → Option OpenedTold → Type 0
-ShowsDescriptor m pid descriptor told = MatchOption told (open_file m.state pid descriptor ≡ None) (IsNamed m pid descriptor)
+ShowsDescriptor m pid descriptor told =
+    MatchOption told (open_file m.state pid descriptor ≡ None) (IsNamed m pid descriptor)
 
 -- ---- pipes
 

@@ -40,8 +40,8 @@ pub fn put_number<T: Copy>(answer: Result<T, Halt>, out: &mut T) -> u32
     ensures put { out.new ≡ number_put answer out.old }
 {
     match answer {
-        Ok(value) => {
-            *out = value;
+        Ok(number) => {
+            *out = number;
             0
         }
         Err(halt) => of_halt(halt),

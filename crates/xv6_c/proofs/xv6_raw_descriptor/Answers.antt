@@ -6,6 +6,7 @@ use Rattle.xv6_c.proofs.xv6_raw_descriptor.Goals as goal
 pub returns-clause-put : goal.returns-clause-put
 returns-clause-put c = (
   c.descriptor.result,
-  subst (λ (s : Session). ShowsDescriptor s.machine c.args.pid c.args.descriptor c.descriptor.result) c.get_mut.ensures.value c.descriptor.ensures,
+  subst (λ (s : Session). ShowsDescriptor s.machine c.args.pid c.args.descriptor c.descriptor.result)
+      c.get_mut.ensures.value c.descriptor.ensures,
   c.put.ensures,
 )
