@@ -17,10 +17,11 @@ pub const LISTENS: &str = "\
     ends: li a0, 7\n li a7, 2\n ecall\n\
     console: .ascii \"console\\0\"\nline: .zero 100\n";
 
-// The files `image`, `record` and `saved`, and what is typed.
+// The files `image`, `script`, `record` and `saved`, and what is typed.
 #[derive(Drop)]
 pub struct Desk {
     pub image: Vec<u8>,
+    pub script: Vec<u8>,
     pub record: Vec<u8>,
     saved: Vec<u8>,
     typed: Vec<u8>,
@@ -34,6 +35,8 @@ impl Host for Desk {
     fn read(&mut self, name: &str) -> Result<Vec<u8>, HostFault> {
         let found = if name == "image" {
             &self.image
+        } else if name == "script" {
+            &self.script
         } else if name == "record" {
             &self.record
         } else {
@@ -78,6 +81,7 @@ impl Host for Desk {
 pub fn desk_of(alloc: Global, image: &[u8], typed: &[u8], room: usize) -> Result<Desk, AllocError> {
     Ok(Desk {
         image: image.to_vec(alloc)?,
+        script: Vec::new(alloc),
         record: Vec::new(alloc),
         saved: Vec::new(alloc),
         typed: typed.to_vec(alloc)?,

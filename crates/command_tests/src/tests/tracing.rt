@@ -72,9 +72,12 @@ const TOLD_AND_LOST: &str =
 
 const UNSAVED: &str = "halt 1 InitEnded 0\ncannot write none\n";
 
-const UNREAD: &str = "record:1: until: more has to follow\n";
+const UNREAD: &str = "script:1: until: more has to follow\n";
 
 const UNBOOTED: &str = "fault 3 Device\n";
+
+// What the file has before.
+const OLD: &str = "an old trace";
 
 // The end of a file of events.
 const LAST_EVENTS: &str = "\"arguments\":[1,32,3],\"result\":-1,\"data\":\"hi\\n\",\"cut\":false}\n\
@@ -171,7 +174,7 @@ static TRACED: [Row; 10] = [
         room: 10000,
         stderr: UNREAD,
         status: 1,
-        end: "until",
+        end: OLD,
     },
     Row {
         name: "a text that finds no room",
@@ -231,7 +234,7 @@ static TRACED: [Row; 10] = [
         room: 1000,
         stderr: UNBOOTED,
         status: 1,
-        end: "",
+        end: OLD,
     },
 ];
 
@@ -240,6 +243,7 @@ fn job_of(row: &Row) -> Job<'static> {
         run: Run {
             fail: NonZeroU64::new(row.fail),
             save: row.save,
+            script: "script",
             ..ALL.run
         },
         text: row.text,
@@ -255,11 +259,12 @@ fn job_of(row: &Row) -> Job<'static> {
 fn expect_traced(rt: &(impl Abort + AllocGlobal), image: &[u8], row: &Row) {
     let name = ("a trace", row.name);
     let mut desk = desk_of(rt.alloc(), image, b"", row.room).expect(rt, "memory");
-    desk.record = row
+    desk.script = row
         .events
         .as_bytes()
         .to_vec(rt.alloc())
         .expect(rt, "memory");
+    desk.record = OLD.as_bytes().to_vec(rt.alloc()).expect(rt, "memory");
     expect(
         rt,
         name,
