@@ -1,5 +1,6 @@
 -- Where an event is in its stretch.
-use Rattle.std.proofs.Common.{ap, append-nil, arith, drop, get_or, length, length-append, List, refl, replicate, sym, take, take-append-drop, ℕ, ◌+◌, ◌++◌, ◌-◌, ◌<◌, ◌∙◌, ◌∷◌, ◌≡◌, ◌≤◌, []}
+use Rattle.std.proofs.Common.{ap, append-nil, arith, drop, get_or, length, length-append, List, refl, replicate, sym}
+use Rattle.std.proofs.Common.{take, take-append-drop, ℕ, ◌+◌, ◌++◌, ◌-◌, ◌<◌, ◌∙◌, ◌∷◌, ◌≡◌, ◌≤◌, []}
 use Rattle.std.proofs.lemmas.List.{drop-append-le, drop-drop, drop-replicate, drop_at, length-replicate, take_more}
 use Rattle.std.proofs.lemmas.List.Concat.{flat_map-append}
 use Rattle.stretches.specs.declared.Stretch.{Stretch}
@@ -15,26 +16,32 @@ repeated s = replicate s.times s.event
 drop-inside : (front rest : List Event) (times at : ℕ) (e : Event) → length front ≤ at → at ≤ length front + times
     → drop at ((front ++ replicate times e) ++ rest) ≡ replicate (length front + times - at) e ++ rest
 drop-inside front rest times at e least most =
-    let whole : length (front ++ replicate times e) ≡ length front + times = length-append front (replicate times e) ∙ ap (λ n. length front + n) (length-replicate times e) in
+    let whole : length (front ++ replicate times e) ≡ length front + times = length-append front (replicate times e)
+    ∙ ap (λ n. length front + n) (length-replicate times e) in
     let back : length front + (at - length front) ≡ at = omega (arith, least) in
     let left : times - (at - length front) ≡ length front + times - at = omega (arith, least) in
     drop-append-le at (front ++ replicate times e) rest (rw whole most)
     ∙ ap (λ xs. xs ++ rest)
-    (ap (λ n. drop n (front ++ replicate times e)) (sym back) ∙ sym (drop-drop (at - length front) (length front) (front ++ replicate times e))
-    ∙ ap (drop (at - length front)) (drop_at front (replicate times e) (length front) refl) ∙ drop-replicate (at - length front) times e
+    (ap (λ n. drop n (front ++ replicate times e)) (sym back)
+    ∙ sym (drop-drop (at - length front) (length front) (front ++ replicate times e))
+    ∙ ap (drop (at - length front)) (drop_at front (replicate times e) (length front) refl)
+    ∙ drop-replicate (at - length front) times e
     ∙ ap (λ n. replicate n e) left)
 
 -- what follows the stretch
-drop-past : (front rest : List Event) (times : ℕ) (e : Event) → drop (length front + times) ((front ++ replicate times e) ++ rest) ≡ rest
+drop-past : (front rest : List Event) (times : ℕ) (e : Event)
+    → drop (length front + times) ((front ++ replicate times e) ++ rest) ≡ rest
 drop-past front rest times e =
-    drop_at (front ++ replicate times e) rest (length front + times) (length-append front (replicate times e) ∙ ap (λ n. length front + n) (length-replicate times e))
+    drop_at (front ++ replicate times e) rest (length front + times)
+    (length-append front (replicate times e) ∙ ap (λ n. length front + n) (length-replicate times e))
 
 -- ---- one of many stretches
 
 module _ (xs : List Stretch) (i : ℕ) (s : Stretch) (within : i < length xs) (is : s ≡ get_or xs i s) where
   front-more : spelled (take (i + 1) xs) ≡ spelled (take i xs) ++ repeated s
   front-more =
-      ap spelled (take_more xs i s within ∙ ap (λ x. take i xs ++ x ∷ []) (sym is)) ∙ flat_map-append repeated (take i xs) (s ∷ [])
+      ap spelled (take_more xs i s within ∙ ap (λ x. take i xs ++ x ∷ []) (sym is))
+      ∙ flat_map-append repeated (take i xs) (s ∷ [])
       ∙ ap (λ es. spelled (take i xs) ++ es) (append-nil (repeated s))
 
   whole : spelled xs ≡ (spelled (take i xs) ++ repeated s) ++ spelled (drop (i + 1) xs)
@@ -44,7 +51,8 @@ module _ (xs : List Stretch) (i : ℕ) (s : Stretch) (within : i < length xs) (i
 
   -- its end
   pub ends-at : length (spelled (take (i + 1) xs)) ≡ length (spelled (take i xs)) + s.times
-  ends-at = ap length front-more ∙ length-append (spelled (take i xs)) (repeated s) ∙ ap (λ n. length (spelled (take i xs)) + n) (length-replicate s.times s.event)
+  ends-at = ap length front-more ∙ length-append (spelled (take i xs)) (repeated s)
+      ∙ ap (λ n. length (spelled (take i xs)) + n) (length-replicate s.times s.event)
 
   ends-within : length (spelled (take i xs)) + s.times ≤ length (spelled xs)
   ends-within =
@@ -57,7 +65,8 @@ module _ (xs : List Stretch) (i : ℕ) (s : Stretch) (within : i < length xs) (i
   pub left-within : (at : ℕ) → IsIn xs at i → s.end ≡ length (spelled (take (i + 1) xs)) → s.end - at ≤ s.times
   left-within at e ends = let first = e.begun in omega (arith, first, ends, ends-at)
 
-  pub is-ahead : (at : ℕ) → IsIn xs at i → s.end ≡ length (spelled (take (i + 1) xs)) → IsAhead (spelled xs) at (s.event, s.end - at)
+  pub is-ahead : (at : ℕ) → IsIn xs at i → s.end ≡ length (spelled (take (i + 1) xs))
+      → IsAhead (spelled xs) at (s.event, s.end - at)
   is-ahead at e ends =
       let first = e.begun in
       let more = e.more in
@@ -68,9 +77,11 @@ module _ (xs : List Stretch) (i : ℕ) (s : Stretch) (within : i < length xs) (i
         within = let most = ends-within in omega (arith, most, total, more, ends);
         next =
             ap (drop at) whole
-            ∙ drop-inside (spelled (take i xs)) (spelled (drop (i + 1) xs)) s.times at s.event first (omega (arith, more, ends-at))
+            ∙ drop-inside (spelled (take i xs)) (spelled (drop (i + 1) xs)) s.times at s.event first
+            (omega (arith, more, ends-at))
             ∙ ap (λ n. replicate (n - at) s.event ++ spelled (drop (i + 1) xs)) (sym total)
             ∙ ap (λ es. replicate (s.end - at) s.event ++ es)
-            (sym (ap (λ n. drop n (spelled xs)) (back ∙ total) ∙ ap (drop (length (spelled (take i xs)) + s.times)) whole
+            (sym (ap (λ n. drop n (spelled xs)) (back ∙ total)
+            ∙ ap (drop (length (spelled (take i xs)) + s.times)) whole
             ∙ drop-past (spelled (take i xs)) (spelled (drop (i + 1) xs)) s.times s.event));
       }

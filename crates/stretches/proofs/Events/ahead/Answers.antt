@@ -10,7 +10,9 @@ overflow_cast-result c =
     let s = c.index-stretch.result.now in
     let same = c.deref.ensures.value in
     let read : s ≡ get_or c.deref.result.now i s = rw same c.index-stretch.ensures in
-    let ends : s.end ≡ length (spelled (take (i + 1) c.deref.result.now)) = rw same (ap (λ (x : Stretch). x.end) c.index-stretch.ensures ∙ c.self.invariant.each i (subst (λ xs. i < length xs) same c.find.ensures.within) s) in
+    let ends : s.end ≡ length (spelled (take (i + 1) c.deref.result.now)) =
+    rw same (ap (λ (x : Stretch). x.end) c.index-stretch.ensures
+    ∙ c.self.invariant.each i (subst (λ xs. i < length xs) same c.find.ensures.within) s) in
     let few = left-within c.deref.result.now i s c.find.ensures.within read c.args.at c.find.ensures ends in
     omega (arith, few)
 
@@ -20,6 +22,8 @@ returns-clause-some c =
     let s = c.index-stretch.result.now in
     let same = c.deref.ensures.value in
     let read : s ≡ get_or c.deref.result.now i s = rw same c.index-stretch.ensures in
-    let ends : s.end ≡ length (spelled (take (i + 1) c.deref.result.now)) = rw same (ap (λ (x : Stretch). x.end) c.index-stretch.ensures ∙ c.self.invariant.each i (subst (λ xs. i < length xs) same c.find.ensures.within) s) in
+    let ends : s.end ≡ length (spelled (take (i + 1) c.deref.result.now)) =
+    rw same (ap (λ (x : Stretch). x.end) c.index-stretch.ensures
+    ∙ c.self.invariant.each i (subst (λ xs. i < length xs) same c.find.ensures.within) s) in
     subst (λ events. IsAhead events c.args.at (s.event, s.end - c.args.at)) (ap spelled same ∙ c.self.view_is)
     (is-ahead c.deref.result.now i s c.find.ensures.within read c.args.at c.find.ensures ends)
