@@ -6,6 +6,8 @@ mod copies;
 mod giving;
 mod moving;
 mod printed;
+#[cfg(test)]
+mod tests;
 mod timeline;
 mod wanted;
 
