@@ -1,7 +1,7 @@
 //! Runs of which it is shown what each process does.
 
 use blockdev::MemDisk;
-use commandline::Trace;
+use commandline::{Run, Trace};
 use hosts::{End, Failure, Front, Host, Screen, append, disk_of, tell, write};
 use live::Watch;
 use playtext::{Play, parse};
@@ -196,11 +196,52 @@ fn whole<'a>(
     }
 }
 
-// What gives the machine its events.
-#[derive(Clone, Copy)]
-enum Source<'a> {
-    Script(&'a [Command<'a>]),
-    Play(&'a Play<'a>),
+// What gives a machine its events.
+trait Source {
+    // Gives them to the machine of a disk: how that ended, and the disk that is left where it was to be saved.
+    fn run<'a, V: Watch, W: Write>(
+        &self,
+        alloc: Global,
+        words: Run<'a>,
+        disk: MemDisk,
+        watch: &mut V,
+        stdout: &mut W,
+    ) -> Result<(Finish, Option<MemDisk>), Failure<'a>>;
+}
+
+// A script that is read.
+#[derive(Drop)]
+struct Script<'a> {
+    commands: Vec<Command<'a>>,
+}
+
+impl Source for Script<'_> {
+    fn run<'a, V: Watch, W: Write>(
+        &self,
+        alloc: Global,
+        words: Run<'a>,
+        disk: MemDisk,
+        watch: &mut V,
+        stdout: &mut W,
+    ) -> Result<(Finish, Option<MemDisk>), Failure<'a>> {
+        let commands = self.commands.as_slice();
+        let (end, disk) = run_watched_over(alloc, words, disk, commands, watch, stdout)?;
+        Ok((Finish::Script(end), disk))
+    }
+}
+
+impl Source for Play<'_> {
+    fn run<'a, V: Watch, W: Write>(
+        &self,
+        alloc: Global,
+        words: Run<'a>,
+        disk: MemDisk,
+        watch: &mut V,
+        stdout: &mut W,
+    ) -> Result<(Finish, Option<MemDisk>), Failure<'a>> {
+        let (end, disk) = plays::play_watched(alloc, &words, disk, self, watch, stdout)?;
+        Ok((Finish::Play(end), disk))
+    }
 }
 
 // How the events of a source ended.
@@ -218,70 +259,73 @@ struct Traced<'a> {
     teller: Teller,
 }
 
-// A machine that is given the events of a source: how that ended, and the disk that is left where it was to be saved.
-fn run_source<'a, V: Watch, W: Write>(
+// Gives a machine the events of a source while a tracer, a teller and a gauge look on.
+fn run_traced<'a, Z: Source, T: Watch + Drop, S: Screen, W: Write>(
     alloc: Global,
-    words: &Trace<'a>,
+    run: Run<'a>,
     disk: MemDisk,
-    source: Source<'_>,
-    watch: &mut V,
+    source: &Z,
+    tracer: T,
+    meter: &Meter<S>,
     stdout: &mut W,
-) -> Result<(Finish, Option<MemDisk>), Failure<'a>> {
-    match source {
-        Source::Script(script) => {
-            let (end, disk) = run_watched_over(alloc, words.run, disk, script, watch, stdout)?;
-            Ok((Finish::Script(end), disk))
-        }
-        Source::Play(play) => {
-            let (end, disk) = plays::play_watched(alloc, &words.run, disk, play, watch, stdout)?;
-            Ok((Finish::Play(end), disk))
-        }
-    }
-}
-
-/// What a run is handed: the host's files, the meter, and where the console's bytes and what is said go.
-#[derive(Drop)]
-struct Desk<'d, H, S, W, E> {
-    host: &'d mut H,
-    meter: &'d Meter<S>,
-    stdout: &'d mut W,
-    stderr: &'d mut E,
-}
-
-// A run from an image, to its end.
-fn trace<'a, H: Host, S: Screen, W: Write, E: Write>(
-    alloc: Global,
-    words: &Trace<'a>,
-    image: Front,
-    source: Source<'_>,
-    desk: &mut Desk<'_, H, S, W, E>,
-) -> Result<Traced<'a>, Failure<'a>> {
-    let wanted = wanted_of(words)?;
-    let disk = disk_of(image)?;
-    let sheets = Sheets::new(alloc, words, &mut *desk.host, &mut *desk.stderr);
-    let Ok(tracer) = Tracer::new(alloc, wanted, sheets) else {
-        return Err(Failure::NoMemory);
-    };
+) -> Result<(Finish, Option<MemDisk>, T, Teller), Failure<'a>> {
     let mut all = Both {
         first: tracer,
         second: Both {
-            first: Teller::new(alloc, "/init", &words.run.telling),
-            second: Gauge { meter: desk.meter },
+            first: Teller::new(alloc, "/init", &run.telling),
+            second: Gauge { meter },
         },
     };
-    let (finish, disk) = run_source(alloc, words, disk, source, &mut all, &mut *desk.stdout)?;
-    let Both {
-        first: tracer,
-        second: others,
-    } = all;
+    let (finish, disk) = source.run(alloc, run, disk, &mut all, stdout)?;
+    let Both { first, second } = all;
+    Ok((finish, disk, first, second.first))
+}
+
+// A run from a disk, to its end.
+fn trace_disk<'a, Z: Source, H: Host, S: Screen, W: Write, E: Write>(
+    alloc: Global,
+    words: &Trace<'a>,
+    wanted: Wanted,
+    disk: MemDisk,
+    source: &Z,
+    host: &mut H,
+    meter: &Meter<S>,
+    stdout: &mut W,
+    stderr: &mut E,
+) -> Result<Traced<'a>, Failure<'a>> {
+    let sheets = Sheets::new(alloc, words, host, stderr);
+    let Ok(tracer) = Tracer::new(alloc, wanted, sheets) else {
+        return Err(Failure::NoMemory);
+    };
+    let (finish, disk, tracer, teller) = run_traced(
+        alloc, words.run, disk, source, tracer, meter, stdout,
+    )?;
     let (sheets, traced) = tracer.finish();
     let written = whole(traced, sheets.finish());
-    let saved = keep(words.run.save, disk, &mut *desk.host);
+    let saved = keep(words.run.save, disk, host);
     Ok(Traced {
         finish,
         written: written.and(saved),
-        teller: others.first,
+        teller,
     })
+}
+
+// A run from an image, to its end.
+fn trace<'a, Z: Source, H: Host, S: Screen, W: Write, E: Write>(
+    alloc: Global,
+    words: &Trace<'a>,
+    image: Front,
+    source: &Z,
+    host: &mut H,
+    meter: &Meter<S>,
+    stdout: &mut W,
+    stderr: &mut E,
+) -> Result<Traced<'a>, Failure<'a>> {
+    let wanted = wanted_of(words)?;
+    let disk = disk_of(image)?;
+    trace_disk(
+        alloc, words, wanted, disk, source, host, meter, stdout, stderr,
+    )
 }
 
 // Prints how a run ended, and returns the status to exit with.
@@ -306,16 +350,19 @@ fn print<'a, H: Host, E: Write>(
 }
 
 // A run that a source has the events of.
-fn perform_source<H: Host, S: Screen, W: Write, E: Write>(
+fn perform_source<Z: Source, H: Host, S: Screen, W: Write, E: Write>(
     alloc: Global,
     words: &Trace<'_>,
     image: Front,
-    source: Source<'_>,
-    mut desk: Desk<'_, H, S, W, E>,
+    source: &Z,
+    host: &mut H,
+    meter: &Meter<S>,
+    stdout: &mut W,
+    stderr: &mut E,
 ) -> u8 {
-    match trace(alloc, words, image, source, &mut desk) {
-        Ok(traced) => print(words, traced, desk.host, desk.stderr),
-        Err(failure) => tell(&failure, desk.stderr),
+    match trace(alloc, words, image, source, host, meter, stdout, stderr) {
+        Ok(traced) => print(words, traced, host, stderr),
+        Err(failure) => tell(&failure, stderr),
     }
 }
 
@@ -323,35 +370,42 @@ fn perform_source<H: Host, S: Screen, W: Write, E: Write>(
 fn perform_script<H: Host, S: Screen, W: Write, E: Write>(
     alloc: Global,
     words: &Trace<'_>,
-    desk: Desk<'_, H, S, W, E>,
+    host: &mut H,
+    meter: &Meter<S>,
+    stdout: &mut W,
+    stderr: &mut E,
 ) -> u8 {
-    let (image, bytes) = match read_run(desk.host, &words.run) {
-        Ok(read) => read,
-        Err(failure) => return tell(&failure, desk.stderr),
+    let (image, bytes) = match read_run(host, &words.run) {
+        Ok(two) => two,
+        Err(failure) => return tell(&failure, stderr),
     };
-    match script_of(alloc, words.run.script, bytes.as_slice()) {
-        Ok(script) => {
-            let source = Source::Script(script.as_slice());
-            perform_source(alloc, words, image, source, desk)
-        }
-        Err(failure) => tell(&failure, desk.stderr),
-    }
+    let commands = match script_of(alloc, words.run.script, bytes.as_slice()) {
+        Ok(commands) => commands,
+        Err(failure) => return tell(&failure, stderr),
+    };
+    let script = Script { commands };
+    perform_source(alloc, words, image, &script, host, meter, stdout, stderr)
 }
 
 // A run that a play has the events of.
 fn perform_play<H: Host, S: Screen, W: Write, E: Write>(
     alloc: Global,
-    words: &Trace<'_>,
-    desk: Desk<'_, H, S, W, E>,
+    words: Trace<'_>,
+    host: &mut H,
+    meter: &Meter<S>,
+    stdout: &mut W,
+    stderr: &mut E,
 ) -> u8 {
-    let (image, text) = match plays::read_both(desk.host, &words.run) {
-        Ok(read) => read,
-        Err(failure) => return tell(&failure, desk.stderr),
+    let name = words.run.script;
+    let (image, text) = match plays::read_both(host, &words.run) {
+        Ok(two) => two,
+        Err(failure) => return tell(&failure, stderr),
     };
-    match parse(alloc, text.as_slice()) {
-        Ok(play) => perform_source(alloc, words, image, Source::Play(&play), desk),
-        Err(fault) => plays::tell_fault(words.run.script, fault, desk.stderr),
-    }
+    let play = match parse(alloc, text.as_slice()) {
+        Ok(play) => play,
+        Err(fault) => return plays::tell_fault(name, fault, stderr),
+    };
+    perform_source(alloc, &words, image, &play, host, meter, stdout, stderr)
 }
 
 /// The command `trace`: as `run` or `play`, and what each process does is written as it does it.
@@ -366,15 +420,9 @@ pub fn perform<H: Host, S: Screen, W: Write, E: Write>(
     if let Err(failure) = calls_of(&words) {
         return tell(&failure, stderr);
     }
-    let desk = Desk {
-        host,
-        meter,
-        stdout,
-        stderr,
-    };
     if words.play {
-        perform_play(alloc, &words, desk)
+        perform_play(alloc, words, host, meter, stdout, stderr)
     } else {
-        perform_script(alloc, &words, desk)
+        perform_script(alloc, &words, host, meter, stdout, stderr)
     }
 }
