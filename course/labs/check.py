@@ -10,7 +10,7 @@ otherwise the status is 1. The variable XV6 names the program, and CC the compil
 A right solution is the folder `right`. A file PROGRAM-REASON.* of `also` is another right one, graded under five seeds,
 and one of `wrong` a wrong one, in place of the file PROGRAM.* of the right one. A wrong one with the ending .edit has
 what is changed: after lines with # the lines `file: NAME`, `old: TEXT` and `new: TEXT`; lines that follow one another
-are one text, which is there once.
+are one text, which is there once. One with the ending .from names a file of the repository that it is.
 """
 import argparse
 import concurrent.futures
@@ -93,7 +93,11 @@ def variant(lab, path, right):
     else:
         if path.suffix == ".script":
             text = re.sub(r"^#.*\n", "", text, flags=re.M)
-        files = right | {program + path.suffix: text}
+        suffix = path.suffix
+        if suffix == ".from":
+            source = TOP / text.strip()
+            suffix, text = source.suffix, source.read_text()
+        files = right | {program + suffix: text}
     loses = loses_of(path.read_text()) if path.parent.name == "wrong" else ""
     return Solution(lab, path.stem, files, loses, is_other=path.parent.name == "also")
 
