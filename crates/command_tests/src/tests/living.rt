@@ -46,7 +46,7 @@ impl Host for Desk {
     }
 
     fn write(&mut self, name: &str, bytes: &[u8]) -> Result<(), HostFault> {
-        let file = if name == "record" {
+        let file = if name == "record" && bytes.len() <= self.room {
             &mut self.record
         } else if name == "saved" {
             &mut self.saved
