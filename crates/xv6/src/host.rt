@@ -254,6 +254,7 @@ impl<'a, R: Files<File = File> + Clock + Input + Eprint + AllocGlobal> Host for 
     fn type_in(&mut self, bytes: &mut [u8], is_terminal: bool) -> Result<Option<usize>, HostFault>
         ensures { IfOk result (λ typed. IfSome typed (λ count. count ≤ length bytes.old)) }
     {
+        let most = bytes.len();
         for _ in 0..MOST_EARLY {
             let begun = self.rt.monotonic().ok();
             let typed = self.read_once(bytes);
@@ -261,7 +262,8 @@ impl<'a, R: Files<File = File> + Clock + Input + Eprint + AllocGlobal> Host for 
             match self.told(typed)? {
                 Some(0) if is_terminal && self.is_early(begun) => {}
                 Some(0) if is_terminal => return Ok(None),
-                typed => return Ok(typed),
+                Some(count) => return Ok(Some(count.min(most))),
+                None => return Ok(None),
             }
         }
         Ok(Some(0))
