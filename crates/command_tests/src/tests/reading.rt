@@ -27,9 +27,8 @@ struct Ruler {
 }
 
 impl Ruler {
-    fn ask(&mut self, most: usize) -> Result<Vec<u8>, HostFault> {
-        self.asked.push(most).map_err(|_| HostFault)?;
-        Ok(Vec::new(self.alloc))
+    fn ask(&mut self, most: usize) -> Result<(), HostFault> {
+        self.asked.push(most).map_err(|_| HostFault)
     }
 }
 
@@ -37,23 +36,24 @@ impl Host for Ruler {
     type Screen = NoScreen;
 
     fn read(&mut self, name: &str) -> Result<Vec<u8>, HostFault> {
-        let nothing = self.ask(ALL)?;
+        self.ask(ALL)?;
         if name == "manifest" {
             return b"file /a f\n".to_vec(self.alloc).map_err(|_| HostFault);
         }
-        Ok(nothing)
+        Ok(Vec::new(self.alloc))
     }
 
     fn read_front(&mut self, _name: &str, most: usize) -> Result<Front, HostFault> {
-        let bytes = self.ask(most)?;
+        self.ask(most)?;
         Ok(Front {
-            bytes,
+            bytes: Vec::new(self.alloc),
             length: Some(0),
         })
     }
 
     fn read_marked(&mut self, _name: &str, mark: &[u8]) -> Result<Vec<u8>, HostFault> {
-        self.ask(mark.len())
+        self.ask(mark.len())?;
+        Ok(Vec::new(self.alloc))
     }
 
     fn hold(&mut self, name: &str) -> Result<(), InUse> {
