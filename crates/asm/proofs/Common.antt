@@ -1,6 +1,9 @@
 -- The names that the lemmas of this crate import from elsewhere, passed on from one place. Declares nothing.
-pub use Rattle.std.proofs.Common.{◌%◌, ◌*◌, ◌+◌, ◌++◌, ◌-◌, ◌/◌, ◌<◌, ◌==◌, [], ◌^◌, add-one, ap, append_assoc, arith, Bool, bytes_eq, cond, drop, Err, false, find, get_or, if◌then◌else◌, inl, inr, is_ok, length}
-pub use Rattle.std.proofs.Common.{length-append, List, map, neg_ℤ, negsuc, None, not, Ok, OnOk, Option, option_map, pos, refl, replicate, Result, rules, slice_get, Some, suc, sym, take, true, zero, ℕ, ℤ, ◌∙◌, ◌∷◌, ◌≡◌, ◌≤◌}
+pub use Rattle.std.proofs.Common.{◌%◌, ◌*◌, ◌+◌, ◌++◌, ◌-◌, ◌/◌, ◌<◌, ◌==◌, [], ◌^◌, add-one, ap, append_assoc, arith}
+pub use Rattle.std.proofs.Common.{Bool, bytes_eq, cond, drop, Err, false, find, get_or, if◌then◌else◌, inl, inr, is_ok}
+pub use Rattle.std.proofs.Common.{length, length-append, List, map, neg_ℤ, negsuc, None, not, Ok, OnOk, Option}
+pub use Rattle.std.proofs.Common.{option_map, pos, refl, replicate, Result, rules, slice_get, Some, suc, sym, take}
+pub use Rattle.std.proofs.Common.{true, zero, ℕ, ℤ, ◌∙◌, ◌∷◌, ◌≡◌, ◌≤◌}
 pub use Rattle.std.proofs.Math.Nat.{div-add-mod, mod-lt, mul_right_comm, pow-suc}
 pub use Rattle.std.proofs.lemmas.Bool.{le-leb, lt-leb, lt-ltb, ne_eqb}
 pub use Rattle.std.proofs.lemmas.List.{length-replicate, take_all}

@@ -1,6 +1,8 @@
 -- Ways between addresses, and offsets, as fields.
-use Rattle.asm.proofs.Common.{ℤ, ◌≡◌, ◌≤◌, ◌<◌, ◌∙◌, ◌+◌, ◌-◌, ◌*◌, ◌%◌, ◌/◌, ◌^◌, ℕ, Bool, Err, None, Ok, Result, Some, ap, arith, false, if◌then◌else◌, neg_ℤ, negsuc, not}
-use Rattle.asm.proofs.Common.{pos, refl, suc, sym, true, zero, ◌==◌, div-add-mod, mod-lt, mul_right_comm, pow-suc, le-leb, lt-leb, away, field, lies_in, AsmKind, field_within}
+use Rattle.asm.proofs.Common.{ℤ, ◌≡◌, ◌≤◌, ◌<◌, ◌∙◌, ◌+◌, ◌-◌, ◌*◌, ◌%◌, ◌/◌, ◌^◌, ℕ, Bool, Err, None, Ok, Result, Some}
+use Rattle.asm.proofs.Common.{ap, arith, false, if◌then◌else◌, neg_ℤ, negsuc, not, pos, refl, suc, sym, true, zero}
+use Rattle.asm.proofs.Common.{◌==◌, div-add-mod, mod-lt, mul_right_comm, pow-suc, le-leb, lt-leb, away, field, lies_in}
+use Rattle.asm.proofs.Common.{AsmKind, field_within}
 use Rattle.std.proofs.lemmas.Nat.{pow_pos}
 use Rattle.std.proofs.Math.Pow.{pow-lt}
 use Rattle.unixmodel.specs.Assembly as the
@@ -9,15 +11,19 @@ use Rattle.asmtext.proofs.NumberLemmas.{field_negated, negative_within, positive
 
 -- ---- the way between two addresses
 
-pub ahead_in : (a b below above bits : ℕ) → a ≤ b → b - a ≤ above → above < 2 ^ bits → Some (b - a) ≡ field_within below above bits (away a b)
+pub ahead_in : (a b below above bits : ℕ) → a ≤ b → b - a ≤ above → above < 2 ^ bits
+    → Some (b - a) ≡ field_within below above bits (away a b)
 ahead_in a b below above bits h k l =
-    ap (λ t. if t then Some (b - a) else None) (sym (le-leb (b - a) above k)) ∙ positive_within below above bits (b - a) l
+    ap (λ t. if t then Some (b - a) else None) (sym (le-leb (b - a) above k))
+        ∙ positive_within below above bits (b - a) l
     ∙ ap (λ t. field_within below above bits (if t then pos (b - a) else neg_ℤ (pos (a - b)))) (sym (le-leb a b h))
 
-pub back_in : (a b below above bits : ℕ) → b < a → a - b ≤ below → below < 2 ^ bits → Some (2 ^ bits - (a - b)) ≡ field_within below above bits (away a b)
+pub back_in : (a b below above bits : ℕ) → b < a → a - b ≤ below → below < 2 ^ bits
+    → Some (2 ^ bits - (a - b)) ≡ field_within below above bits (away a b)
 back_in a b below above bits h k l =
     ap Some (sym (field_negated bits (a - b) (omega arith) (omega arith)))
-    ∙ negative_within below above bits (a - b) (Some (a - b)) (ap (λ t. if t then Some (a - b) else None) (sym (le-leb (a - b) below k)))
+    ∙ negative_within below above bits (a - b) (Some (a - b))
+        (ap (λ t. if t then Some (a - b) else None) (sym (le-leb (a - b) below k)))
     ∙ ap (λ t. field_within below above bits (if t then pos (b - a) else neg_ℤ (pos (a - b)))) (sym (lt-leb a b h))
 
 -- ---- offsets: whether one is odd shows in its field
@@ -44,15 +50,18 @@ parity (suc k) (negsuc n) h =
 abbrev tested : (bits : ℕ) (n : ℤ) → Result ℕ AsmKind
 tested bits n = if field 1 n == 1 then Err kind.Align else Ok (field bits n)
 
-offset_some : (bits : ℕ) (n : ℤ) (found : ℕ) → Some found ≡ field_within (2 ^ (bits - 1)) (2 ^ (bits - 1) - 1) bits n → (found ≡ field bits n) × (the.offset_field bits n ≡ tested bits n)
+offset_some : (bits : ℕ) (n : ℤ) (found : ℕ) → Some found ≡ field_within (2 ^ (bits - 1)) (2 ^ (bits - 1) - 1) bits n
+    → (found ≡ field bits n) × (the.offset_field bits n ≡ tested bits n)
 offset_some bits n found e = step (lies_in (2 ^ (bits - 1)) (2 ^ (bits - 1) - 1) n) e
   where
-    step : (b : Bool) → Some found ≡ (if b then Some (field bits n) else None) → (found ≡ field bits n) × ((if not b then Err kind.Range else tested bits n) ≡ tested bits n)
+    step : (b : Bool) → Some found ≡ (if b then Some (field bits n) else None)
+        → (found ≡ field bits n) × ((if not b then Err kind.Range else tested bits n) ≡ tested bits n)
     step true h = (grind (arith, h), refl)
     step false h = grind (arith, h)
 
 -- an offset that is found, by whether it is odd
-pub offset_is : (bits : ℕ) (n : ℤ) (found : ℕ) → 1 ≤ bits → Some found ≡ field_within (2 ^ (bits - 1)) (2 ^ (bits - 1) - 1) bits n
+pub offset_is : (bits : ℕ) (n : ℤ) (found : ℕ) → 1 ≤ bits
+    → Some found ≡ field_within (2 ^ (bits - 1)) (2 ^ (bits - 1) - 1) bits n
     → (if found % 2 == 1 then Err kind.Align else Ok found) ≡ the.offset_field bits n
 offset_is bits n found h e =
     let both = offset_some bits n found e in

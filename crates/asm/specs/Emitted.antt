@@ -36,8 +36,10 @@ behind bytes (Err fault) = Err fault
 -- the bytes of an instruction with a number, where it is in its range
 abbrev pub numbered_bytes : ℕ → Partial → ℤ → Result (List ℕ) AsmKind
 numbered_bytes address partial n =
-    if lies_in (below_of partial) (above_of partial) n then the.code address (partial_instr partial (field (bits_of partial) n) ∷ []) else Err kind.Range
+    if lies_in (below_of partial) (above_of partial) n
+        then the.code address (partial_instr partial (field (bits_of partial) n) ∷ []) else Err kind.Range
 
 -- a number as so many bytes, signed or unsigned
 abbrev pub data_bytes : ℕ → ℤ → Result (List ℕ) AsmKind
-data_bytes size n = if lies_in (2 ^ (8 * size - 1)) (2 ^ (8 * size) - 1) n then Ok (le size (field (8 * size) n)) else Err kind.Range
+data_bytes size n = if lies_in (2 ^ (8 * size - 1)) (2 ^ (8 * size) - 1) n then Ok (le size (field (8 * size) n))
+    else Err kind.Range

@@ -15,7 +15,8 @@ index_of labels name = get_by (λ k. bytes_eq name k.now) labels
 
 -- it has the index of a line for the line's label too, unless it had one
 abbrev pub Notes : {S : Type 0} → HashMap (Bor (List ℕ)) ℕ S → HashMap (Bor (List ℕ)) ℕ S → Option (List ℕ) → ℕ → Type 0
-Notes old new label index = (name : List ℕ) → index_of new name ≡ option_or (index_of old name) (if is_labelled name label then Some index else None)
+Notes old new label index = (name : List ℕ)
+    → index_of new name ≡ option_or (index_of old name) (if is_labelled name label then Some index else None)
 
 -- of each label it has the index of the first line with it
 abbrev pub Finds : {S : Type 0} → HashMap (Bor (List ℕ)) ℕ S → List ThePlaced → Type 0

@@ -1,6 +1,9 @@
 -- The names that the lemmas of this crate import from elsewhere, passed on from one place. Declares nothing.
-pub use Rattle.std.proofs.Common.{◌%◌, ◌+◌, ◌++◌, ◌-◌, ◌<◌, ◌==◌, [], ◌^◌, add-one, ap, append_assoc, ap₂, arith, Bool, Bor, bytes_eq, codes, cond, drop, drop-cons, false, fold, get_or, if◌then◌else◌, length, List}
-pub use Rattle.std.proofs.Common.{map, nat_le, nat_lt, neg_ℤ, negsuc, None, not, Option, option_map, pos, refl, reverse, rules, slice_index_or, Some, suc, sym, take, tests, true, zero, ℕ, ℤ, ◌∙◌, ◌∷◌, ◌≡◌, ◌≤◌}
+pub use Rattle.std.proofs.Common.{◌%◌, ◌+◌, ◌++◌, ◌-◌, ◌<◌, ◌==◌, [], ◌^◌, add-one, ap, append_assoc, ap₂, arith, Bool}
+pub use Rattle.std.proofs.Common.{Bor, bytes_eq, codes, cond, drop, drop-cons, false, fold, get_or, if◌then◌else◌}
+pub use Rattle.std.proofs.Common.{length, List, map, nat_le, nat_lt, neg_ℤ, negsuc, None, not, Option, option_map, pos}
+pub use Rattle.std.proofs.Common.{refl, reverse, rules, slice_index_or, Some, suc, sym, take, tests, true, zero, ℕ, ℤ}
+pub use Rattle.std.proofs.Common.{◌∙◌, ◌∷◌, ◌≡◌, ◌≤◌}
 pub use Rattle.std.proofs.lemmas.Bool.Decides.{nat_tests}
 pub use Rattle.std.proofs.lemmas.Iterator.Consumers.{map_from_collect}
 pub use Rattle.std.proofs.lemmas.Iterator.Splits.{YieldsList-from_slice_split}

@@ -1,5 +1,7 @@
 -- Lemmas on numbers that are tested, and on their fields.
-use Rattle.asmtext.proofs.Common.{ℤ, ◌≡◌, ◌≤◌, ◌<◌, ◌∙◌, ◌-◌, ◌%◌, ◌^◌, ℕ, Bool, None, Option, Some, ap, arith, false, option_map, refl, true, nat_le, if◌then◌else◌, pos, neg_ℤ, negsuc, suc, zero, sym, nat_tests, field_within}
+use Rattle.asmtext.proofs.Common.{ℤ, ◌≡◌, ◌≤◌, ◌<◌, ◌∙◌, ◌-◌, ◌%◌, ◌^◌, ℕ, Bool, None, Option, Some, ap, arith, false}
+use Rattle.asmtext.proofs.Common.{option_map, refl, true, nat_le, if◌then◌else◌, pos, neg_ℤ, negsuc, suc, zero, sym}
+use Rattle.asmtext.proofs.Common.{nat_tests, field_within}
 use Rattle.std.proofs.Math.Nat.{mod-eq_of_lt, mod-lt}
 use Rattle.std.proofs.lemmas.Nat.{pow_pos}
 use Rattle.unixmodel.specs.Numbers.{field, lies_in}
@@ -9,7 +11,8 @@ none_above n most h = grind (arith, nat_tests)
 
 pub field_negated : (bits size : ℕ) → 0 < size → size < 2 ^ bits → field bits (neg_ℤ (pos size)) ≡ 2 ^ bits - size
 field_negated bits zero h k = absurd (omega arith)
-field_negated bits (suc n) h k = let e : n % 2 ^ bits ≡ n = mod-eq_of_lt (omega arith) in ap (λ r. 2 ^ bits - 1 - r) e ∙ omega arith
+field_negated bits (suc n) h k = let e : n % 2 ^ bits ≡ n = mod-eq_of_lt (omega arith) in ap (λ r. 2 ^ bits - 1 - r) e
+    ∙ omega arith
 
 lies_negated : (below above size : ℕ) → lies_in below above (neg_ℤ (pos size)) ≡ nat_le size below
 lies_negated below above zero = grind (arith, nat_tests)
@@ -20,11 +23,13 @@ pub negative_within : (below above bits n : ℕ) (found : Option ℕ) → found 
 negative_within below above bits n found e =
     rw (e, lies_negated below above n) (pass (nat_le n below))
   where
-    pass : (b : Bool) → option_map (λ size. field bits (neg_ℤ (pos size))) (if b then Some n else None) ≡ (if b then Some (field bits (neg_ℤ (pos n))) else None)
+    pass : (b : Bool) → option_map (λ size. field bits (neg_ℤ (pos size))) (if b then Some n else None)
+        ≡ (if b then Some (field bits (neg_ℤ (pos n))) else None)
     pass true = refl
     pass false = refl
 
-pub positive_within : (below above bits n : ℕ) → above < 2 ^ bits → (if nat_le n above then Some n else None) ≡ field_within below above bits (pos n)
+pub positive_within : (below above bits n : ℕ) → above < 2 ^ bits
+    → (if nat_le n above then Some n else None) ≡ field_within below above bits (pos n)
 positive_within below above bits n h = step (nat_le n above) refl
   where
     step : (b : Bool) → nat_le n above ≡ b → (if b then Some n else None) ≡ (if b then Some (n % 2 ^ bits) else None)
@@ -40,5 +45,6 @@ pub field_fits : (below above bits found : ℕ) (n : ℤ) → Some found ≡ fie
 field_fits below above bits found n e = step (lies_in below above n) e
   where
     step : (b : Bool) → Some found ≡ (if b then Some (field bits n) else None) → found < 2 ^ bits
-    step true h = let is : found ≡ field bits n = grind (arith, h) in let less : field bits n < 2 ^ bits = field_below bits n in omega (arith, is, less)
+    step true h = let is : found ≡ field bits n = grind (arith, h) in let less : field bits n < 2 ^ bits =
+        field_below bits n in omega (arith, is, less)
     step false h = grind (arith, h)

@@ -4,7 +4,8 @@ use Rattle.std.specs.Borrow.{Bor}
 use Rattle.unixmodel.specs.Statements as the
 use Rattle.unixmodel.specs.Statements.Statement.{Data, Padding as Pad, Whole, Zeros as Fill}
 use Rattle.unixmodel.specs.declared.instr.Instr.TheVariants as instr
-use Rattle.asmtext.specs.Operations.{bare_instr, based_instr, number_above, number_below, number_bits, numbered_instr, register_instr, upper_instr}
+use Rattle.asmtext.specs.Operations.{bare_instr, based_instr, number_above, number_below, number_bits, numbered_instr}
+use Rattle.asmtext.specs.Operations.{register_instr, upper_instr}
 use Rattle.asmtext.specs.declared.mnemonics.Width.{Width}
 use Rattle.asmtext.specs.declared.mnemonics.Width.TheVariants as width
 use Rattle.asmtext.specs.declared.mnemonics.Word.{Word}

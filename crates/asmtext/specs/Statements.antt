@@ -33,7 +33,8 @@ target_of (target.Label name) = operands.Target.Label name.items
 abbrev pub statement_of : Statement → the.Statement
 statement_of statement.Empty = the.Statement.Empty
 statement_of (statement.Whole i) = the.Statement.Whole i
-statement_of (statement.Numbered p n) = the.Statement.Numbered (below_of p) (above_of p) (bits_of p) (partial_instr p) (number_of n)
+statement_of (statement.Numbered p n) =
+    the.Statement.Numbered (below_of p) (above_of p) (bits_of p) (partial_instr p) (number_of n)
 statement_of (statement.Jump l to) = the.Statement.Jump (leap_bits l) (leap_instr l) (target_of to)
 statement_of (statement.Load rd value) = the.Statement.Load rd (target_of value)
 statement_of (statement.Data width n) = the.Statement.Data (size_of width) (number_of n)

@@ -31,7 +31,8 @@ fn registers(
     op: RegisterOp,
     parts: &[&[Symbol]],
 ) -> Result<Option<Statement>, AllocError>
-    ensures { IfOk result (λ found. option_map statement_of found ≡ the.registers (register_instr op) (parts_seen parts.now)) }
+    ensures { IfOk result (λ found. option_map statement_of found
+            ≡ the.registers (register_instr op) (parts_seen parts.now)) }
 {
     let [rd, rs1, rs2] = parts else {
         return Ok(None);
@@ -73,7 +74,8 @@ fn numbered(
 
 // op r, n(base)
 fn based(alloc: Global, op: BaseOp, parts: &[&[Symbol]]) -> Result<Option<Statement>, AllocError>
-    ensures { IfOk result (λ found. option_map statement_of found ≡ the.memorial (based_instr op) (parts_seen parts.now)) }
+    ensures { IfOk result (λ found. option_map statement_of found
+            ≡ the.memorial (based_instr op) (parts_seen parts.now)) }
 {
     let [r, place] = parts else {
         return Ok(None);
@@ -105,7 +107,8 @@ fn upper(alloc: Global, op: UpperOp, parts: &[&[Symbol]]) -> Result<Option<State
 
 // op rs1, rs2, target
 fn branch(alloc: Global, op: BranchOp, parts: &[&[Symbol]]) -> Result<Option<Statement>, AllocError>
-    ensures { IfOk result (λ found. option_map statement_of found ≡ the.branch (instr.Branch op) (parts_seen parts.now)) }
+    ensures { IfOk result (λ found. option_map statement_of found
+            ≡ the.branch (instr.Branch op) (parts_seen parts.now)) }
 {
     let [rs1, rs2, to] = parts else {
         return Ok(None);
@@ -236,7 +239,8 @@ fn text(alloc: Global, parts: &[&[Symbol]]) -> Result<Option<Statement>, AllocEr
 
 // .zero n
 fn zeros(alloc: Global, parts: &[&[Symbol]]) -> Result<Option<Statement>, AllocError>
-    ensures { IfOk result (λ found. option_map statement_of found ≡ the.counted the.Statement.Zeros (parts_seen parts.now)) }
+    ensures { IfOk result (λ found. option_map statement_of found
+            ≡ the.counted the.Statement.Zeros (parts_seen parts.now)) }
 {
     let [n] = parts else {
         return Ok(None);
@@ -249,7 +253,8 @@ fn zeros(alloc: Global, parts: &[&[Symbol]]) -> Result<Option<Statement>, AllocE
 
 // .pad n
 fn padding(alloc: Global, parts: &[&[Symbol]]) -> Result<Option<Statement>, AllocError>
-    ensures { IfOk result (λ found. option_map statement_of found ≡ the.counted the.Statement.Padding (parts_seen parts.now)) }
+    ensures { IfOk result (λ found. option_map statement_of found
+            ≡ the.counted the.Statement.Padding (parts_seen parts.now)) }
 {
     let [n] = parts else {
         return Ok(None);

@@ -22,7 +22,8 @@ fn with_symbols(
     word: &[u8],
     symbols: &[Symbol],
 ) -> Result<Result<Statement, AsmKind>, AllocError>
-    ensures { IfOk result (λ says. said_seen says ≡ the.with_form (parts_of (map symbol_of symbols.now)) (the.form_called word.now)) }
+    ensures { IfOk result (λ says. said_seen says
+            ≡ the.with_form (parts_of (map symbol_of symbols.now)) (the.form_called word.now)) }
 {
     let Some(word) = word_called(word) else {
         return Ok(Err(AsmKind::Mnemonic));

@@ -1,5 +1,6 @@
 //! Numbers as they are written, of any length.
-ghost use Rattle.std.specs.Prelude.{◌≡◌, ◌≤◌, ◌<◌, ◌^◌, ◌&&◌, IfOk, Some, None, if◌then◌else◌, nat_le, neg_ℤ, option_map, pos};
+ghost use Rattle.std.specs.Prelude.{◌≡◌, ◌≤◌, ◌<◌, ◌^◌, ◌&&◌, IfOk, Some, None, if◌then◌else◌, nat_le, neg_ℤ};
+ghost use Rattle.std.specs.Prelude.{option_map, pos};
 ghost use Rattle.std.specs.Char.{digit_value};
 ghost use Rattle.std.specs.List.{list_all};
 ghost use Rattle.std.specs.Str.Parse.{digits_value};
@@ -63,7 +64,8 @@ fn signed(
     radix: Radix,
     digits: &[u8],
 ) -> Result<Option<Number>, AllocError>
-    ensures { IfOk result (λ found. option_map number_of found ≡ option_map (signed_of negative) (numeral_of radix digits.now)) }
+    ensures { IfOk result (λ found. option_map number_of found
+            ≡ option_map (signed_of negative) (numeral_of radix digits.now)) }
 {
     if !is_numeral(radix.base(), digits) {
         return Ok(None);
@@ -104,7 +106,8 @@ fn digit_of(c: u8) -> u32
 // The number that digits write, where it is at most that.
 fn magnitude(radix: u32, digits: &[u8], most: u64) -> Option<u64>
     requires { (2 ≤ radix) × (radix ≤ 16) }
-    ensures { result ≡ (if nat_le (digits_value radix digits.now) most then Some (digits_value radix digits.now) else None) }
+    ensures { result ≡ (if nat_le (digits_value radix digits.now) most then Some (digits_value radix digits.now)
+            else None) }
 {
     let mut value = 0u64;
     for digit in digits {

@@ -1,5 +1,6 @@
 //! What the parts of a statement say.
-ghost use Rattle.std.specs.Prelude.{◌≡◌, ◌-◌, ◌≤◌, ◌==◌, IfOk, None, Some, if◌then◌else◌, length, map, option_map, take};
+ghost use Rattle.std.specs.Prelude.{◌≡◌, ◌-◌, ◌≤◌, ◌==◌, IfOk, None, Some, if◌then◌else◌, length, map, option_map};
+ghost use Rattle.std.specs.Prelude.{take};
 ghost use Rattle.std.specs.List.{after_first, before_first, position_or_len};
 ghost use Rattle.unixmodel.specs.Operands as the;
 ghost use Rattle.asmtext.specs.Numbers.{number_of};
@@ -50,7 +51,8 @@ fn split_at_parenthesis(text: &[u8]) -> (&[u8], &[u8])
 
 // The register before a closing parenthesis.
 fn closed_register(text: &[u8]) -> Option<Reg>
-    ensures { result ≡ (if the.is_closed text.now then the.register_called (take (length text.now - 1) text.now) else None) }
+    ensures { result ≡ (if the.is_closed text.now then the.register_called (take (length text.now - 1) text.now)
+            else None) }
 {
     match text {
         [name @ .., b')'] => register_called(name),

@@ -1,6 +1,7 @@
 //! Operations, by the form in which their instructions are written.
 ghost use Rattle.std.specs.Prelude.{◌≡◌, option_map};
-ghost use Rattle.asmtext.specs.Operations.{bare_instr, based_instr, number_within, numbered_instr, partial_instr, partial_within, register_instr, upper_instr};
+ghost use Rattle.asmtext.specs.Operations.{bare_instr, based_instr, number_within, numbered_instr, partial_instr};
+ghost use Rattle.asmtext.specs.Operations.{partial_within, register_instr, upper_instr};
 ghost use Rattle.asmtext.specs.Numbers.{field_within, number_of};
 
 use crate::number::Number;

@@ -34,7 +34,8 @@ struct Reader {
 
 // The byte that stands for an escape.
 fn escaped(c: u8) -> Option<u8>
-    ensures { MatchOption result ((bytes : List ℕ) → the.after_escape bytes c ≡ the.Mode.Lost) (λ byte. Escapes c byte) }
+    ensures { MatchOption result ((bytes : List ℕ) → the.after_escape bytes c ≡ the.Mode.Lost)
+            (λ byte. Escapes c byte) }
 {
     match c {
         b'n' => Some(b'\n'),
@@ -102,7 +103,8 @@ impl Reader {
 /// `\0`, `\\` and `\"`.
 #[tactic(auto, unfolding(unixmodel::specs::Tokens::symbols_in))]
 pub fn symbols_in(alloc: Global, line: &[u8]) -> Result<Option<Vec<Symbol>>, AllocError>
-    ensures { IfOk result (λ found. option_map (λ symbols. map symbol_of symbols.items) found ≡ the.symbols_in line.now) }
+    ensures { IfOk result (λ found. option_map (λ symbols. map symbol_of symbols.items) found
+            ≡ the.symbols_in line.now) }
 {
     let mut reader = Reader::new(alloc);
     for c in line {

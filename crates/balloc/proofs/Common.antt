@@ -1,19 +1,27 @@
 -- The names that the lemmas of this crate import from elsewhere, passed on from one place. Declares nothing.
-pub use Rattle.std.proofs.Common.{◌%◌, ◌*◌, ◌+◌, ◌++◌, ◌-◌, ◌/◌, ◌<◌, [], ◌^◌, add-zero, ap, arith, Bool, cond, drop, eqb, false, get_or, inl, inr, length}
-pub use Rattle.std.proofs.Common.{List, map, None, not, Option, refl, replicate, set, Some, subst, suc, sym, true, w8, zero, ℕ, ◌∙◌, ◌∷◌, ◌≡◌, ◌≢◌, ◌≤◌}
-pub use Rattle.std.proofs.lemmas.Bool.{cases_eq, cases_lt, cond-false, cond-true, eq-eqb, eqb-false, eqb-true, le-leb, lt-leb, ne_eqb, not-false, not-true}
-pub use Rattle.std.proofs.lemmas.List.{ext_get_or, get_or-replicate, get_or-set_other, get_or-set_same, get_or_past, length-replicate, length-take}
-pub use Rattle.std.proofs.lemmas.Nat.Bits.{bit_at-lt, bit_at-zero, bit_at_clear_other, bit_at_clear_same, bit_at_ones, bit_at_set_other, bit_at_set_same}
-pub use Rattle.std.proofs.lemmas.Simd.{bitmask_splat, get_or-chunk, length-chunk, none_from_empty_mask, run_in_chunk_fails, run_in_chunk_stops, trailing_mask_l}
+pub use Rattle.std.proofs.Common.{◌%◌, ◌*◌, ◌+◌, ◌++◌, ◌-◌, ◌/◌, ◌<◌, [], ◌^◌, add-zero, ap, arith, Bool, cond, drop}
+pub use Rattle.std.proofs.Common.{eqb, false, get_or, inl, inr, length, List, map, None, not, Option, refl, replicate}
+pub use Rattle.std.proofs.Common.{set, Some, subst, suc, sym, true, w8, zero, ℕ, ◌∙◌, ◌∷◌, ◌≡◌, ◌≢◌, ◌≤◌}
+pub use Rattle.std.proofs.lemmas.Bool.{cases_eq, cases_lt, cond-false, cond-true, eq-eqb, eqb-false, eqb-true, le-leb}
+pub use Rattle.std.proofs.lemmas.Bool.{lt-leb, ne_eqb, not-false, not-true}
+pub use Rattle.std.proofs.lemmas.List.{ext_get_or, get_or-replicate, get_or-set_other, get_or-set_same, get_or_past}
+pub use Rattle.std.proofs.lemmas.List.{length-replicate, length-take}
+pub use Rattle.std.proofs.lemmas.Nat.Bits.{bit_at-lt, bit_at-zero, bit_at_clear_other, bit_at_clear_same, bit_at_ones}
+pub use Rattle.std.proofs.lemmas.Nat.Bits.{bit_at_set_other, bit_at_set_same}
+pub use Rattle.std.proofs.lemmas.Simd.{bitmask_splat, get_or-chunk, length-chunk, none_from_empty_mask}
+pub use Rattle.std.proofs.lemmas.Simd.{run_in_chunk_fails, run_in_chunk_stops, trailing_mask_l}
 pub use Rattle.std.specs.Int.{bit_at}
 pub use Rattle.std.specs.Prelude.{◌==◌, count_by, find}
-pub use Rattle.blockdev.proofs.SpliceLemmas.{Blocks, get_or-part, get_or-splice_after, get_or-splice_before, get_or-splice_inside, length-splice}
+pub use Rattle.blockdev.proofs.SpliceLemmas.{Blocks, get_or-part, get_or-splice_after, get_or-splice_before}
+pub use Rattle.blockdev.proofs.SpliceLemmas.{get_or-splice_inside, length-splice}
 pub use Rattle.blockdev.specs.Blocks.{block_at}
 pub use Rattle.blockdev.specs.Splice.{part, splice}
 pub use Rattle.cache.proofs.Using.{goes-after, goes-stays, read-done, step-done, step-failed, step-last}
 pub use Rattle.cache.specs.Steps.{Goes}
-pub use Rattle.layout.proofs.GrowLemmas.{asks_none, at_or, data_from, get_or-nodes_of, Grows-empty, Grows-keeps, Grows-node, Grows-sound, HasParts-kept, HoldsBytes-empty, IsSound-replace, KeepsOthers, length-nodes_of, mark}
-pub use Rattle.layout.proofs.GrowLemmas.{node_at-none, nodes_of-changed, PutsBlock-write, set_from, WritesInode-write, zero_at}
+pub use Rattle.layout.proofs.GrowLemmas.{asks_none, at_or, data_from, get_or-nodes_of, Grows-empty, Grows-keeps}
+pub use Rattle.layout.proofs.GrowLemmas.{Grows-node, Grows-sound, HasParts-kept, HoldsBytes-empty, IsSound-replace}
+pub use Rattle.layout.proofs.GrowLemmas.{KeepsOthers, length-nodes_of, mark, node_at-none, nodes_of-changed}
+pub use Rattle.layout.proofs.GrowLemmas.{PutsBlock-write, set_from, WritesInode-write, zero_at}
 pub use Rattle.layout.specs.Image.{bit_of, free_blocks, inode_at, IsFree, IsInode, IsUsed, node_with, RawNode}
 unfoldable pub use Rattle.layout.specs.Image.{bit_in, data_bits, node_at, nodes_of}
 pub use Rattle.layout.specs.Inode.{Fits, fresh_inode, inode_bytes, inode_of}

@@ -15,7 +15,8 @@ lowest_clear block from to = find (λ i. bit_in block i == 0) (range_with_len fr
 pub record SetsBit (g : Geometry) (old new : List (List ℕ)) (b bit : ℕ) : Type 0 where
   pub parts : HasParts g new
   pub here : bit_of new (bitmap_start_of g.inodes) b ≡ bit
-  pub others : (c : ℕ) → c < g.size → c ≢ b → bit_of new (bitmap_start_of g.inodes) c ≡ bit_of old (bitmap_start_of g.inodes) c
+  pub others : (c : ℕ) → c < g.size → c ≢ b
+      → bit_of new (bitmap_start_of g.inodes) c ≡ bit_of old (bitmap_start_of g.inodes) c
   pub before : (k : ℕ) → k < bitmap_start_of g.inodes → block_at new k ≡ block_at old k
   pub after : (k : ℕ) → data_start_of g.size g.inodes ≤ k → block_at new k ≡ block_at old k
 

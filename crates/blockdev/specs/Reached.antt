@@ -2,7 +2,8 @@
 use Rattle.std.specs.Prelude.{List, ℕ, ◌≡◌, ◌≤◌}
 use Rattle.unixmodel.specs.Failures.{Rises}
 
--- the new device has the numbers of the old one, and no failure is forgotten; that accesses lead from the one to the other is not said
+-- the new device has the numbers of the old one, and no failure is forgotten; that accesses lead from the one to the
+-- other is not said
 pub record Reaches {D : Type 0} (identity : D → List ℕ) (failures : D → ℕ) (old new : D) : Type 0 where
   pub same_device : identity new ≡ identity old
   pub later : failures old ≤ failures new

@@ -8,7 +8,8 @@ use Rattle.blockdev.specs.Blocks.{AreBlocks, block_of, blocks_of}
 pub length-blocks_of : (bytes : List ℕ) → length (blocks_of bytes) ≡ length bytes / 1024
 length-blocks_of bytes = length-map-range_with_len (block_of bytes) 0 (length bytes / 1024)
 
-pub block_at-blocks_of : (bytes : List ℕ) (n : ℕ) → n < length bytes / 1024 → get_or (blocks_of bytes) n [] ≡ block_of bytes n
+pub block_at-blocks_of : (bytes : List ℕ) (n : ℕ) → n < length bytes / 1024
+    → get_or (blocks_of bytes) n [] ≡ block_of bytes n
 block_at-blocks_of bytes n h = get_or-map-range_with_len (block_of bytes) 0 (length bytes / 1024) n n [] h (omega arith)
 
 pub length-block_of : (bytes : List ℕ) (n : ℕ) → n < length bytes / 1024 → length (block_of bytes n) ≡ 1024

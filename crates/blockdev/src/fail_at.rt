@@ -1,6 +1,7 @@
 //! A device of which one access fails, to see how its callers take a failure.
 
-ghost use Rattle.std.specs.Prelude.{◌≡◌, ◌≢◌, ℕ, ◌-◌, ◌<◌, ◌↔◌, IfOk, IfSome, IsErr, IsTrue, None, OnOk, length, slice_set};
+ghost use Rattle.std.specs.Prelude.{◌≡◌, ◌≢◌, ℕ, ◌-◌, ◌<◌, ◌↔◌, IfOk, IfSome, IsErr, IsTrue, None, OnOk, length};
+ghost use Rattle.std.specs.Prelude.{slice_set};
 ghost use Rattle.std.specs.Int.NonZero.{non_zero_u64_get};
 ghost use Rattle.unixmodel.specs.Failures.{HasCause};
 

@@ -1,8 +1,12 @@
 -- The names that the lemmas of this crate import from elsewhere, passed on from one place. Declares nothing.
-pub use Rattle.std.proofs.Common.{◌&&◌, ◌+◌, ◌++◌, ◌-◌, ◌<◌, [], ◌^◌, ap, arith, Bool, Bor, cond, drop, Err, false, Fits, get_or, inl, inr, length, List, min, MutBor, nat_eq, nat_le}
-pub use Rattle.std.proofs.Common.{None, Ok, OnErr, OnOk, Option, refl, Result, set, slice_get, Some, subst, suc, sym, take, true, w64, zero, ◌||◌, ℕ, ◌∙◌, ◌∷◌, ◌≡◌, ◌≢◌, ◌≤◌, ◌⊎◌}
-pub use Rattle.std.proofs.lemmas.Bool.{and_from, and_parts, cases_eq, cases_lt, eq-eqb, false_from_ne_true, le-leb, leb-true, ne_eqb, or_parts}
-pub use Rattle.std.proofs.lemmas.List.{append_assoc, ext_get_or, get_or-set_other, get_or-set_same, length-append, length-set, take_all}
+pub use Rattle.std.proofs.Common.{◌&&◌, ◌+◌, ◌++◌, ◌-◌, ◌<◌, [], ◌^◌, ap, arith, Bool, Bor, cond, drop, Err, false}
+pub use Rattle.std.proofs.Common.{Fits, get_or, inl, inr, length, List, min, MutBor, nat_eq, nat_le, None, Ok, OnErr}
+pub use Rattle.std.proofs.Common.{OnOk, Option, refl, Result, set, slice_get, Some, subst, suc, sym, take, true, w64}
+pub use Rattle.std.proofs.Common.{zero, ◌||◌, ℕ, ◌∙◌, ◌∷◌, ◌≡◌, ◌≢◌, ◌≤◌, ◌⊎◌}
+pub use Rattle.std.proofs.lemmas.Bool.{and_from, and_parts, cases_eq, cases_lt, eq-eqb, false_from_ne_true, le-leb}
+pub use Rattle.std.proofs.lemmas.Bool.{leb-true, ne_eqb, or_parts}
+pub use Rattle.std.proofs.lemmas.List.{append_assoc, ext_get_or, get_or-set_other, get_or-set_same, length-append}
+pub use Rattle.std.proofs.lemmas.List.{length-set, take_all}
 pub use Rattle.std.proofs.lemmas.Map.Entries.{lookup_from_place, none_past_head}
 pub use Rattle.std.proofs.lemmas.Option.{none-some, same_Some}
 pub use Rattle.std.specs.Cmp.{nat_eq_equiv}

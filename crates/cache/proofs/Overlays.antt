@@ -1,8 +1,14 @@
 -- Equations on what a device and the blocks over it show.
-use Rattle.cache.proofs.Common.{◌≡◌, ◌≢◌, ◌⊎◌, ℕ, zero, suc, ◌-◌, ◌≤◌, cond, List, [], ◌∷◌, length, take, slice_get, Option, Some, None, nat_eq, ap, sym, ◌∙◌, refl, arith, inl, inr, lookup, lookup_entry, remove_entry, set_value, Blocks}
-use Rattle.cache.proofs.Common.{option_map_or, cases_eq, eq-eqb, ne_eqb, promoted, put_entries, LruCache, ◌<◌, Bool, true, get_or, set, Result, Ok, Err, OnOk, OnErr, none-some, same_Some, subst, length-set, get_or-set_same}
-use Rattle.cache.proofs.Common.{get_or-set_other, ext_get_or, AreBlocks, block_at, Slot, AreKept, IsKept, kept_or, overlay, ◌++◌, IsDistinct, keys_of, nat_eq_equiv, append_assoc, length-append, take_all, none_past_head, IsValid, lru_cache}
-use Rattle.cache.proofs.Common.{false, ◌&&◌, ◌||◌, min, nat_le, cases_lt, and_from, and_parts, false_from_ne_true, le-leb, leb-true, is_due, lower, next_of, scan, ◌+◌, ◌^◌, Fits, w64, or_parts, AreFlushed, cleaned}
+use Rattle.cache.proofs.Common.{◌≡◌, ◌≢◌, ◌⊎◌, ℕ, zero, suc, ◌-◌, ◌≤◌, cond, List, [], ◌∷◌, length, take, slice_get}
+use Rattle.cache.proofs.Common.{Option, Some, None, nat_eq, ap, sym, ◌∙◌, refl, arith, inl, inr, lookup, lookup_entry}
+use Rattle.cache.proofs.Common.{remove_entry, set_value, Blocks, option_map_or, cases_eq, eq-eqb, ne_eqb, promoted}
+use Rattle.cache.proofs.Common.{put_entries, LruCache, ◌<◌, Bool, true, get_or, set, Result, Ok, Err, OnOk, OnErr}
+use Rattle.cache.proofs.Common.{none-some, same_Some, subst, length-set, get_or-set_same, get_or-set_other, ext_get_or}
+use Rattle.cache.proofs.Common.{AreBlocks, block_at, Slot, AreKept, IsKept, kept_or, overlay, ◌++◌, IsDistinct, keys_of}
+use Rattle.cache.proofs.Common.{nat_eq_equiv, append_assoc, length-append, take_all, none_past_head, IsValid, lru_cache}
+use Rattle.cache.proofs.Common.{false, ◌&&◌, ◌||◌, min, nat_le, cases_lt, and_from, and_parts, false_from_ne_true}
+use Rattle.cache.proofs.Common.{le-leb, leb-true, is_due, lower, next_of, scan, ◌+◌, ◌^◌, Fits, w64, or_parts}
+use Rattle.cache.proofs.Common.{AreFlushed, cleaned}
 use Rattle.std.proofs.lemmas.List.FromFn.{length-map-range_with_len, get_or-map-range_with_len}
 use Rattle.std.proofs.lemmas.Map.{lookup-none}
 use Rattle.std.proofs.lemmas.Map.Keys.{IsDistinct-tail}
@@ -20,47 +26,59 @@ module _ {V : Type 0} where
   pub lookup-here : (e : ℕ × V) (es : List (ℕ × V)) (k : ℕ) → k ≡ e.0 → lookup (nat_eq k) (e ∷ es) ≡ Some e.1
   lookup-here e es k h = ap (λ b. cond b (Some e.1) (lookup (nat_eq k) es)) (eq-eqb k e.0 h)
 
-  pub lookup-later : (e : ℕ × V) (es : List (ℕ × V)) (k : ℕ) → k ≢ e.0 → lookup (nat_eq k) (e ∷ es) ≡ lookup (nat_eq k) es
+  pub lookup-later : (e : ℕ × V) (es : List (ℕ × V)) (k : ℕ) → k ≢ e.0
+      → lookup (nat_eq k) (e ∷ es) ≡ lookup (nat_eq k) es
   lookup-later e es k h = ap (λ b. cond b (Some e.1) (lookup (nat_eq k) es)) (ne_eqb k e.0 h)
 
-  lookup-remove : (es : List (ℕ × V)) (n k : ℕ) → k ≢ n → lookup (nat_eq k) (remove_entry (nat_eq n) es) ≡ lookup (nat_eq k) es
+  lookup-remove : (es : List (ℕ × V)) (n k : ℕ) → k ≢ n
+      → lookup (nat_eq k) (remove_entry (nat_eq n) es) ≡ lookup (nat_eq k) es
   lookup-remove [] n k h = refl
   lookup-remove (e ∷ es) n k h = elim (cases_eq n e.0) [
     | inl here ↦ rw (eq-eqb n e.0 here, ne_eqb k e.0 (λ z. h (z ∙ sym here))) refl
     | inr other ↦ rw (ne_eqb n e.0 other) (ap (cond (nat_eq k e.0) (Some e.1)) (lookup-remove es n k h))
   ]
 
-  found : (es : List (ℕ × V)) (n : ℕ) (e : ℕ × V) → lookup_entry (nat_eq n) es ≡ Some e → (n ≡ e.0) × (lookup (nat_eq n) es ≡ Some e.1)
+  found : (es : List (ℕ × V)) (n : ℕ) (e : ℕ × V) → lookup_entry (nat_eq n) es ≡ Some e
+      → (n ≡ e.0) × (lookup (nat_eq n) es ≡ Some e.1)
   found [] n e h = absurd cc
   found (d ∷ es) n e h = elim (cases_eq n d.0) [
     | inl here ↦
-        let first : Some d ≡ Some e = sym (ap (λ b. cond b (Some d) (lookup_entry (nat_eq n) es)) (eq-eqb n d.0 here)) ∙ h in
+        let first : Some d ≡ Some e = sym (ap (λ b. cond b (Some d) (lookup_entry (nat_eq n) es)) (eq-eqb n d.0 here))
+                ∙ h in
         let same : d ≡ e = cc in
         (here ∙ ap (λ (x : ℕ × V). x.0) same, lookup-here d es n here ∙ ap (λ (x : ℕ × V). Some x.1) same)
     | inr other ↦
-        let rest = found es n e (sym (ap (λ b. cond b (Some d) (lookup_entry (nat_eq n) es)) (ne_eqb n d.0 other)) ∙ h) in
+        let rest = found es n e (sym (ap (λ b. cond b (Some d) (lookup_entry (nat_eq n) es)) (ne_eqb n d.0 other)) ∙ h)
+                in
         (rest.0, lookup-later d es n other ∙ rest.1)
   ]
 
   -- a use changes the order alone
-  pub lookup-promoted : (es : List (ℕ × V)) (n k : ℕ) → lookup (nat_eq k) (promoted (nat_eq n) es) ≡ lookup (nat_eq k) es
+  pub lookup-promoted : (es : List (ℕ × V)) (n k : ℕ)
+      → lookup (nat_eq k) (promoted (nat_eq n) es) ≡ lookup (nat_eq k) es
   lookup-promoted es n k = go (lookup_entry (nat_eq n) es) refl where
-    go : (o : Option (ℕ × V)) → lookup_entry (nat_eq n) es ≡ o → lookup (nat_eq k) (option_map_or (λ e. e ∷ remove_entry (nat_eq n) es) o es) ≡ lookup (nat_eq k) es
+    go : (o : Option (ℕ × V)) → lookup_entry (nat_eq n) es ≡ o
+        → lookup (nat_eq k) (option_map_or (λ e. e ∷ remove_entry (nat_eq n) es) o es) ≡ lookup (nat_eq k) es
     go None h = refl
     go (Some e) h = let f = found es n e h in elim (cases_eq k n) [
-      | inl same ↦ ap (λ b. cond b (Some e.1) (lookup (nat_eq k) (remove_entry (nat_eq n) es))) (eq-eqb k e.0 (same ∙ f.0)) ∙ sym f.1 ∙ ap (λ q. lookup (nat_eq q) es) (sym same)
+      | inl same ↦ ap (λ b. cond b (Some e.1) (lookup (nat_eq k) (remove_entry (nat_eq n) es)))
+          (eq-eqb k e.0 (same ∙ f.0)) ∙ sym f.1 ∙ ap (λ q. lookup (nat_eq q) es) (sym same)
       | inr other ↦ rw (ne_eqb k e.0 (λ z. other (z ∙ sym f.0))) (lookup-remove es n k other)
     ]
 
   -- a new value at n
-  pub lookup-set_same : (es : List (ℕ × V)) (n : ℕ) (v w : V) → lookup (nat_eq n) es ≡ Some v → lookup (nat_eq n) (set_value (nat_eq n) es w) ≡ Some w
+  pub lookup-set_same : (es : List (ℕ × V)) (n : ℕ) (v w : V) → lookup (nat_eq n) es ≡ Some v
+      → lookup (nat_eq n) (set_value (nat_eq n) es w) ≡ Some w
   lookup-set_same [] n v w h = absurd cc
   lookup-set_same (e ∷ es) n v w h = elim (cases_eq n e.0) [
     | inl here ↦ rw (eq-eqb n e.0 here) (lookup-here (e.0, w) es n here)
-    | inr other ↦ rw (ne_eqb n e.0 other) (lookup-later e (set_value (nat_eq n) es w) n other ∙ lookup-set_same es n v w (sym (lookup-later e es n other) ∙ h))
+    | inr other ↦ rw (ne_eqb n e.0 other)
+        (lookup-later e (set_value (nat_eq n) es w) n other
+        ∙ lookup-set_same es n v w (sym (lookup-later e es n other) ∙ h))
   ]
 
-  pub lookup-set_other : (es : List (ℕ × V)) (n k : ℕ) (w : V) → k ≢ n → lookup (nat_eq k) (set_value (nat_eq n) es w) ≡ lookup (nat_eq k) es
+  pub lookup-set_other : (es : List (ℕ × V)) (n k : ℕ) (w : V) → k ≢ n
+      → lookup (nat_eq k) (set_value (nat_eq n) es w) ≡ lookup (nat_eq k) es
   lookup-set_other [] n k w h = refl
   lookup-set_other (e ∷ es) n k w h = elim (cases_eq n e.0) [
     | inl here ↦ rw (eq-eqb n e.0 here, ne_eqb k e.0 (λ z. h (z ∙ sym here))) refl
@@ -78,7 +96,8 @@ module _ {V : Type 0} where
   abbrev pub IsCut : ℕ → List (ℕ × V) → ℕ → Type 0
   IsCut n es q = (s : V) × (length es ≡ suc n) × (slice_get es n ≡ Some (q, s)) × (lookup (nat_eq q) es ≡ Some s)
 
-  pub lookup-cut : (n : ℕ) (es : List (ℕ × V)) (q : ℕ) → length es ≤ suc n → (lookup (nat_eq q) (take n es) ≡ lookup (nat_eq q) es) ⊎ ((lookup (nat_eq q) (take n es) ≡ None) × IsCut n es q)
+  pub lookup-cut : (n : ℕ) (es : List (ℕ × V)) (q : ℕ) → length es ≤ suc n
+      → (lookup (nat_eq q) (take n es) ≡ lookup (nat_eq q) es) ⊎ ((lookup (nat_eq q) (take n es) ≡ None) × IsCut n es q)
   lookup-cut zero [] q h = inl refl
   lookup-cut (suc n) [] q h = inl refl
   lookup-cut zero (e ∷ []) q h = elim (cases_eq q e.0) [
@@ -90,15 +109,19 @@ module _ {V : Type 0} where
     | inl here ↦ inl (lookup-here e (take n es) q here ∙ sym (lookup-here e es q here))
     | inr other ↦ (elim (lookup-cut n es q (omega arith)) [
       | inl same ↦ inl (lookup-later e (take n es) q other ∙ same ∙ sym (lookup-later e es q other))
-      | inr gone ↦ inr (lookup-later e (take n es) q other ∙ gone.0, (gone.1.0, ap suc gone.1.1, gone.1.2, lookup-later e es q other ∙ gone.1.3))
+      | inr gone ↦ inr (lookup-later e (take n es) q other
+          ∙ gone.0, (gone.1.0, ap suc gone.1.1, gone.1.2, lookup-later e es q other ∙ gone.1.3))
     ])
   ]
 
   -- a new entry goes to the front
-  pub put-is : (c : LruCache ℕ V) (n : ℕ) (v : V) → lookup (nat_eq n) c.entries ≡ None → put_entries nat_eq c n v ≡ (n, v) ∷ take (c.cap - 1) c.entries
-  put-is c n v h = ap (λ o. option_map_or (λ e. (e.0, v) ∷ remove_entry (nat_eq n) c.entries) o ((n, v) ∷ take (c.cap - 1) c.entries)) (entry-none c.entries n h)
+  pub put-is : (c : LruCache ℕ V) (n : ℕ) (v : V) → lookup (nat_eq n) c.entries ≡ None
+      → put_entries nat_eq c n v ≡ (n, v) ∷ take (c.cap - 1) c.entries
+  put-is c n v h = ap (λ o. option_map_or (λ e. (e.0, v) ∷ remove_entry (nat_eq n) c.entries) o
+      ((n, v) ∷ take (c.cap - 1) c.entries)) (entry-none c.entries n h)
 
-pub held-some : (es : Entries) (c : Blocks) (k : ℕ) (s : Slot) → lookup (nat_eq k) es ≡ Some s → kept_or es c k ≡ s.bytes
+pub held-some : (es : Entries) (c : Blocks) (k : ℕ) (s : Slot) → lookup (nat_eq k) es ≡ Some s
+    → kept_or es c k ≡ s.bytes
 held-some es c k s h = ap (λ o. bytes_or o (block_at c k)) h
 
 pub held-none : (es : Entries) (c : Blocks) (k : ℕ) → lookup (nat_eq k) es ≡ None → kept_or es c k ≡ block_at c k
@@ -112,26 +135,32 @@ pub at-overlay : (es : Entries) (c : Blocks) (k : ℕ) → k < length c → bloc
 unfolding overlay
 at-overlay es c k h = get_or-map-range_with_len (kept_or es c) 0 (length c) k k [] h (omega arith)
 
-pub overlay-same : (es fs : Entries) (c d : Blocks) → length d ≡ length c → ((k : ℕ) → k < length c → kept_or fs d k ≡ kept_or es c k) → overlay fs d ≡ overlay es c
+pub overlay-same : (es fs : Entries) (c d : Blocks) → length d ≡ length c
+    → ((k : ℕ) → k < length c → kept_or fs d k ≡ kept_or es c k) → overlay fs d ≡ overlay es c
 overlay-same es fs c d e same =
     ext_get_or [] (overlay fs d) (overlay es c) (length-overlay fs d ∙ e ∙ sym (length-overlay es c)) (λ k h.
     let low : k < length d = omega (arith, length-overlay fs d) in
     let low' : k < length c = omega arith in
     at-overlay fs d k low ∙ same k low' ∙ sym (at-overlay es c k low'))
 
-pub overlay-put : (es fs : Entries) (c d : Blocks) (n : ℕ) (b : List ℕ) → length d ≡ length c → n < length c → ((k : ℕ) → k < length c → k ≢ n → kept_or fs d k ≡ kept_or es c k) → kept_or fs d n ≡ b → overlay fs d ≡ set (overlay es c) n b
+pub overlay-put : (es fs : Entries) (c d : Blocks) (n : ℕ) (b : List ℕ) → length d ≡ length c → n < length c
+    → ((k : ℕ) → k < length c → k ≢ n → kept_or fs d k ≡ kept_or es c k) → kept_or fs d n ≡ b
+    → overlay fs d ≡ set (overlay es c) n b
 overlay-put es fs c d n b e m same here =
-    ext_get_or [] (overlay fs d) (set (overlay es c) n b) (length-overlay fs d ∙ e ∙ sym (length-overlay es c) ∙ sym (length-set (overlay es c) n b)) (λ k h.
+    ext_get_or [] (overlay fs d) (set (overlay es c) n b)
+        (length-overlay fs d ∙ e ∙ sym (length-overlay es c) ∙ sym (length-set (overlay es c) n b)) (λ k h.
     let low : k < length d = omega (arith, length-overlay fs d) in
     let low' : k < length c = omega arith in
     let top : n < length (overlay es c) = omega (arith, length-overlay es c) in
     at-overlay fs d k low ∙ (elim (cases_eq k n) [
-      | inl is ↦ ap (kept_or fs d) is ∙ here ∙ sym (get_or-set_same (overlay es c) n b [] top) ∙ ap (λ i. get_or (set (overlay es c) n b) i []) (sym is)
+      | inl is ↦ ap (kept_or fs d) is ∙ here ∙ sym (get_or-set_same (overlay es c) n b [] top)
+          ∙ ap (λ i. get_or (set (overlay es c) n b) i []) (sym is)
       | inr not ↦ same k low' not ∙ sym (get_or-set_other (overlay es c) n k b [] not ∙ at-overlay es c k low')
     ]))
 
 -- what is held is the device's
-pub overlay-is : (es : Entries) (c : Blocks) → ((k : ℕ) (s : Slot) → lookup (nat_eq k) es ≡ Some s → s.bytes ≡ block_at c k) → overlay es c ≡ c
+pub overlay-is : (es : Entries) (c : Blocks)
+    → ((k : ℕ) (s : Slot) → lookup (nat_eq k) es ≡ Some s → s.bytes ≡ block_at c k) → overlay es c ≡ c
 overlay-is es c same =
     ext_get_or [] (overlay es c) c (length-overlay es c) (λ k h.
     at-overlay es c k (omega (arith, length-overlay es c)) ∙ go k (lookup (nat_eq k) es) refl) where
@@ -158,29 +187,37 @@ sizes-overlay es c d held sizes n h = ap length (at-overlay es c n low) ∙ go (
 
 -- a use
 pub overlay-promoted : (es : Entries) (c : Blocks) (n : ℕ) → overlay (promoted (nat_eq n) es) c ≡ overlay es c
-overlay-promoted es c n = overlay-same es (promoted (nat_eq n) es) c c refl (λ k h. ap (λ o. bytes_or o (block_at c k)) (lookup-promoted es n k))
+overlay-promoted es c n =
+    overlay-same es (promoted (nat_eq n) es) c c refl
+    (λ k h. ap (λ o. bytes_or o (block_at c k)) (lookup-promoted es n k))
 
-pub AreKept-promoted : (es : Entries) (c : Blocks) (d : Bool) (n : ℕ) → AreKept es c d → AreKept (promoted (nat_eq n) es) c d
+pub AreKept-promoted : (es : Entries) (c : Blocks) (d : Bool) (n : ℕ) → AreKept es c d
+    → AreKept (promoted (nat_eq n) es) c d
 unfolding AreKept
 AreKept-promoted es c d n held k s h = held k s (sym (lookup-promoted es n k) ∙ h)
 
 -- a new value at n
-pub overlay-set : (es : Entries) (c : Blocks) (n : ℕ) (v w : Slot) → lookup (nat_eq n) es ≡ Some v → n < length c → overlay (set_value (nat_eq n) es w) c ≡ set (overlay es c) n w.bytes
+pub overlay-set : (es : Entries) (c : Blocks) (n : ℕ) (v w : Slot) → lookup (nat_eq n) es ≡ Some v → n < length c
+    → overlay (set_value (nat_eq n) es w) c ≡ set (overlay es c) n w.bytes
 overlay-set es c n v w h low = overlay-put es (set_value (nat_eq n) es w) c c n w.bytes refl low
     (λ k _ other. ap (λ o. bytes_or o (block_at c k)) (lookup-set_other es n k w other))
     (held-some (set_value (nat_eq n) es w) c n w (lookup-set_same es n v w h))
 
-pub AreKept-set : (es : Entries) (c : Blocks) (d : Bool) (n : ℕ) (v w : Slot) → lookup (nat_eq n) es ≡ Some v → AreKept es c d → IsKept c d n w → AreKept (set_value (nat_eq n) es w) c d
+pub AreKept-set : (es : Entries) (c : Blocks) (d : Bool) (n : ℕ) (v w : Slot) → lookup (nat_eq n) es ≡ Some v
+    → AreKept es c d → IsKept c d n w → AreKept (set_value (nat_eq n) es w) c d
 unfolding AreKept
 AreKept-set es c d n v w h held new k s e = elim (cases_eq k n) [
-  | inl is ↦ let same : Some w ≡ Some s = sym (lookup-set_same es n v w h) ∙ ap (λ i. lookup (nat_eq i) (set_value (nat_eq n) es w)) (sym is) ∙ e in
+  | inl is ↦ let same : Some w ≡ Some s = sym (lookup-set_same es n v w h)
+      ∙ ap (λ i. lookup (nat_eq i) (set_value (nat_eq n) es w)) (sym is) ∙ e in
       let value : w ≡ s = cc in subst (λ i. IsKept c d i s) (sym is) (subst (λ t. IsKept c d n t) value new)
   | inr not ↦ held k s (sym (lookup-set_other es n k w not) ∙ e)
 ]
 
 -- a held block is written to the device
-pub overlay-written : (es : Entries) (c : Blocks) (n : ℕ) (s : Slot) → lookup (nat_eq n) es ≡ Some s → overlay es (set c n s.bytes) ≡ overlay es c
-overlay-written es c n s h = overlay-same es es c (set c n s.bytes) (length-set c n s.bytes) (λ k low. elim (cases_eq k n) [
+pub overlay-written : (es : Entries) (c : Blocks) (n : ℕ) (s : Slot) → lookup (nat_eq n) es ≡ Some s
+    → overlay es (set c n s.bytes) ≡ overlay es c
+overlay-written es c n s h =
+    overlay-same es es c (set c n s.bytes) (length-set c n s.bytes) (λ k low. elim (cases_eq k n) [
   | inl is ↦ let found : lookup (nat_eq k) es ≡ Some s = ap (λ i. lookup (nat_eq i) es) is ∙ h in
       held-some es (set c n s.bytes) k s found ∙ sym (held-some es c k s found)
   | inr not ↦ ap (λ b. bytes_or (lookup (nat_eq k) es) b) (get_or-set_other c n k s.bytes [] not)
@@ -197,7 +234,8 @@ pub unheld-as : (es : Entries) (n : ℕ) (b : List ℕ) → lookup (nat_eq n) es
 unheld-as es n b h t e = absurd (none-some t (sym h ∙ e))
 
 -- it is written to the device
-pub AreKept-written : (es : Entries) (c : Blocks) (d : Bool) (n : ℕ) (b : List ℕ) → IsHeldAs es n b → AreKept es c d → AreKept es (set c n b) d
+pub AreKept-written : (es : Entries) (c : Blocks) (d : Bool) (n : ℕ) (b : List ℕ) → IsHeldAs es n b → AreKept es c d
+    → AreKept es (set c n b) d
 unfolding AreKept
 AreKept-written es c d n b told held k t e =
     let was = held k t e in
@@ -205,30 +243,39 @@ AreKept-written es c d n b told held k t e =
       inside = omega (arith, length-set c n b, was.inside);
       size = was.size;
       clean = λ sure same. elim (cases_eq k n) [
-        | inl is ↦ told t (ap (λ i. lookup (nat_eq i) es) (sym is) ∙ e) ∙ sym (get_or-set_same c n b [] (subst (λ i. i < length c) is was.inside)) ∙ ap (λ i. get_or (set c n b) i []) (sym is)
+        | inl is ↦ told t (ap (λ i. lookup (nat_eq i) es) (sym is) ∙ e)
+            ∙ sym (get_or-set_same c n b [] (subst (λ i. i < length c) is was.inside))
+            ∙ ap (λ i. get_or (set c n b) i []) (sym is)
         | inr not ↦ was.clean sure same ∙ sym (get_or-set_other c n k b [] not)
       ];
     }
 
 -- a write failed
-pub AreKept-doubt : (es : Entries) (c : Blocks) (d : Bool) (new : Blocks) → length new ≡ length c → AreKept es c d → AreKept es new true
+pub AreKept-doubt : (es : Entries) (c : Blocks) (d : Bool) (new : Blocks) → length new ≡ length c → AreKept es c d
+    → AreKept es new true
 unfolding AreKept
 AreKept-doubt es c d new e held k s h =
     let was = held k s h in
     record { inside = omega (arith, was.inside); size = was.size; clean = λ sure _. absurd cc }
 
 -- what the write of a held block leaves, whether it was done or not
-pub AreKept-tried : {E : Type 0} (es : Entries) (c new : Blocks) (d e : Bool) (n : ℕ) (b : List ℕ) (r : Result Unit E) → IsHeldAs es n b → AreKept es c d → length new ≡ length c
+pub AreKept-tried : {E : Type 0} (es : Entries) (c new : Blocks) (d e : Bool) (n : ℕ) (b : List ℕ) (r : Result Unit E)
+    → IsHeldAs es n b → AreKept es c d → length new ≡ length c
     → OnOk r (new ≡ set c n b) → OnOk r (e ≡ d) → OnErr r (e ≡ true) → AreKept es new e
-AreKept-tried es c new d e n b (Ok x) told held count written kept doubt = subst (λ l. AreKept es l e) (sym written) (subst (AreKept es (set c n b)) (sym kept) (AreKept-written es c d n b told held))
-AreKept-tried es c new d e n b (Err x) told held count written kept doubt = subst (AreKept es new) (sym doubt) (AreKept-doubt es c d new count held)
+AreKept-tried es c new d e n b (Ok x) told held count written kept doubt =
+    subst (λ l. AreKept es l e) (sym written)
+    (subst (AreKept es (set c n b)) (sym kept) (AreKept-written es c d n b told held))
+AreKept-tried es c new d e n b (Err x) told held count written kept doubt =
+    subst (AreKept es new) (sym doubt) (AreKept-doubt es c d new count held)
 
-pub overlay-tried : {E : Type 0} (es : Entries) (c new : Blocks) (n : ℕ) (s : Slot) (r : Result Unit E) → lookup (nat_eq n) es ≡ Some s → OnOk r (new ≡ set c n s.bytes) → OnOk r (overlay es new ≡ overlay es c)
+pub overlay-tried : {E : Type 0} (es : Entries) (c new : Blocks) (n : ℕ) (s : Slot) (r : Result Unit E)
+    → lookup (nat_eq n) es ≡ Some s → OnOk r (new ≡ set c n s.bytes) → OnOk r (overlay es new ≡ overlay es c)
 overlay-tried es c new n s (Ok x) h written = ap (overlay es) written ∙ overlay-written es c n s h
 overlay-tried es c new n s (Err x) h written = written
 
 -- a block that isn't held is written to the device
-pub overlay-other : (es : Entries) (c : Blocks) (n : ℕ) (b : List ℕ) → lookup (nat_eq n) es ≡ None → n < length c → overlay es (set c n b) ≡ set (overlay es c) n b
+pub overlay-other : (es : Entries) (c : Blocks) (n : ℕ) (b : List ℕ) → lookup (nat_eq n) es ≡ None → n < length c
+    → overlay es (set c n b) ≡ set (overlay es c) n b
 overlay-other es c n b none low = overlay-put es es c (set c n b) n b (length-set c n b) low
     (λ k _ not. ap (λ x. bytes_or (lookup (nat_eq k) es) x) (get_or-set_other c n k b [] not))
     (held-none es (set c n b) n none ∙ get_or-set_same c n b [] low)
@@ -240,20 +287,25 @@ pub record IsHalf (held copy : LruCache ℕ Slot) (rest : Entries) : Type 0 wher
   pub joined : rest ++ copy.entries ≡ held.entries
   pub cap : copy.cap ≡ held.cap
 
-absent : (rest done : Entries) (n : ℕ) (s : Slot) → IsDistinct nat_eq (keys_of (rest ++ (n, s) ∷ done)) → lookup (nat_eq n) done ≡ None
+absent : (rest done : Entries) (n : ℕ) (s : Slot) → IsDistinct nat_eq (keys_of (rest ++ (n, s) ∷ done))
+    → lookup (nat_eq n) done ≡ None
 absent [] done n s d = lookup-none (nat_eq n) done (none_past_head nat_eq_equiv n (n, s) done d (nat_eq_equiv.refl n))
 absent (e ∷ rest) done n s d = absent rest done n s (IsDistinct-tail nat_eq e.0 (keys_of (rest ++ (n, s) ∷ done)) d)
 
 -- one more
-pub more : (held copy new : LruCache ℕ Slot) (rest left : Entries) (n : ℕ) (s : Slot) → IsValid nat_eq held → IsHalf held copy rest → rest ≡ left ++ (n, s) ∷ []
+pub more : (held copy new : LruCache ℕ Slot) (rest left : Entries) (n : ℕ) (s : Slot) → IsValid nat_eq held
+    → IsHalf held copy rest → rest ≡ left ++ (n, s) ∷ []
     → new ≡ record { entries = put_entries nat_eq copy n s; cap = copy.cap } → IsHalf held new left
 more held copy new rest left n s valid half is put =
     let whole : left ++ (n, s) ∷ copy.entries ≡ held.entries =
     sym (append_assoc left ((n, s) ∷ []) copy.entries) ∙ ap (λ l. l ++ copy.entries) (sym is) ∙ half.joined in
     let apart = absent left copy.entries n s (subst (λ l. IsDistinct nat_eq (keys_of l)) (sym whole) valid.0) in
-    let room : length copy.entries ≤ copy.cap - 1 = omega (arith, half.cap, valid.1, ap length whole, length-append left ((n, s) ∷ copy.entries)) in
+    let room : length copy.entries ≤ copy.cap - 1 =
+            omega (arith, half.cap, valid.1, ap length whole, length-append left ((n, s) ∷ copy.entries)) in
     record {
-      joined = ap (λ (c : LruCache ℕ Slot). left ++ c.entries) put ∙ ap (λ l. left ++ l) (put-is copy n s apart ∙ ap (λ l. (n, s) ∷ l) (take_all (copy.cap - 1) copy.entries room)) ∙ whole;
+      joined = ap (λ (c : LruCache ℕ Slot). left ++ c.entries) put
+          ∙ ap (λ l. left ++ l) (put-is copy n s apart
+          ∙ ap (λ l. (n, s) ∷ l) (take_all (copy.cap - 1) copy.entries room)) ∙ whole;
       cap = ap (λ (c : LruCache ℕ Slot). c.cap) put ∙ half.cap;
     }
 
@@ -283,17 +335,21 @@ module _ (from : ℕ) (doubt : Bool) where
   scan-keeps : (o : Option ℕ) (es : Entries) (k : ℕ) → IsAtMost o k → IsAtMost (scan from doubt o es) k
   unfolding scan
   scan-keeps o [] k h = h
-  scan-keeps o (e ∷ es) k h = scan-keeps (cond (is_due from doubt e) (lower o e.0) o) es k (step-keeps (is_due from doubt e) o e.0 k h)
+  scan-keeps o (e ∷ es) k h =
+      scan-keeps (cond (is_due from doubt e) (lower o e.0) o) es k (step-keeps (is_due from doubt e) o e.0 k h)
 
   -- a block that is due bounds the answer
-  pub scan-bounds : (o : Option ℕ) (es : Entries) (k : ℕ) (s : Slot) → lookup (nat_eq k) es ≡ Some s → is_due from doubt (k, s) ≡ true → IsAtMost (scan from doubt o es) k
+  pub scan-bounds : (o : Option ℕ) (es : Entries) (k : ℕ) (s : Slot) → lookup (nat_eq k) es ≡ Some s
+      → is_due from doubt (k, s) ≡ true → IsAtMost (scan from doubt o es) k
   unfolding scan
   scan-bounds o [] k s h due = absurd cc
   scan-bounds o (e ∷ es) k s h due = elim (cases_eq k e.0) [
     | inl is ↦ let one : Some e.1 ≡ Some s = sym (lookup-here e es k is) ∙ h in
         let value : s ≡ e.1 = cc in
-        let now : is_due from doubt e ≡ true = ap (λ t. is_due from doubt (e.0, t)) (sym value) ∙ ap (λ i. is_due from doubt (i, s)) (sym is) ∙ due in
-        scan-keeps (cond (is_due from doubt e) (lower o e.0) o) es k (rw now (subst (IsAtMost (lower o e.0)) (sym is) (lower-at o e.0)))
+        let now : is_due from doubt e ≡ true = ap (λ t. is_due from doubt (e.0, t)) (sym value)
+                ∙ ap (λ i. is_due from doubt (i, s)) (sym is) ∙ due in
+        scan-keeps (cond (is_due from doubt e) (lower o e.0) o) es k
+            (rw now (subst (IsAtMost (lower o e.0)) (sym is) (lower-at o e.0)))
     | inr not ↦ scan-bounds (cond (is_due from doubt e) (lower o e.0) o) es k s (sym (lookup-later e es k not) ∙ h) due
   ]
 
@@ -303,7 +359,8 @@ module _ (from : ℕ) (doubt : Bool) where
   due-from : (b c : Bool) (m : ℕ) → (nat_le from m && b) ≡ true → from ≤ m
   due-from b c m h = leb-true from m (and_parts (nat_le from m) b h).0
 
-  step-found : (b : Bool) (o : Option ℕ) (m n : ℕ) → cond b (lower o m) o ≡ Some n → (o ≡ Some n) ⊎ ((b ≡ true) × (m ≡ n))
+  step-found : (b : Bool) (o : Option ℕ) (m n : ℕ) → cond b (lower o m) o ≡ Some n
+      → (o ≡ Some n) ⊎ ((b ≡ true) × (m ≡ n))
   step-found false o m n h = inl h
   step-found true None m n h = inr (refl, cc)
   step-found true (Some j) m n h = let same : min j m ≡ n = cc in elim (cases_lt j m) [
@@ -318,18 +375,25 @@ module _ (from : ℕ) (doubt : Bool) where
   scan-found o (e ∷ es) n h = elim (scan-found (cond (is_due from doubt e) (lower o e.0) o) es n h) [
     | inl step ↦ (elim (step-found (is_due from doubt e) o e.0 n step) [
       | inl before ↦ inl before
-      | inr now ↦ inr (subst (λ i. from ≤ i) now.1 (due-from (e.1.changed || doubt) true e.0 now.0), (e.1, lookup-here e es n (sym now.1)))
+      | inr now ↦ inr (subst (λ i. from ≤ i) now.1 (due-from (e.1.changed || doubt) true e.0 now.0),
+          (e.1, lookup-here e es n (sym now.1)))
     ])
-    | inr later ↦ inr (later.0, (elim (cases_eq n e.0) [ inl is ↦ (e.1, lookup-here e es n is) | inr not ↦ (later.1.0, lookup-later e es n not ∙ later.1.1) ]))
+    | inr later ↦ inr (later.0,
+        (elim (cases_eq n e.0) [ inl is ↦ (e.1, lookup-here e es n is) | inr not ↦
+        (later.1.0, lookup-later e es n not ∙ later.1.1) ]))
   ]
 
-pub found-of : (from : ℕ) (doubt : Bool) (es : Entries) (n : ℕ) → next_of from doubt es ≡ Some n → IsFound from doubt es n
+pub found-of : (from : ℕ) (doubt : Bool) (es : Entries) (n : ℕ) → next_of from doubt es ≡ Some n
+    → IsFound from doubt es n
 found-of from doubt es n h = elim (scan-found from doubt None es n h) [ inl wrong ↦ absurd cc | inr found ↦ found ]
 
 -- the device has a block that the search passed over
-pub settled : (from : ℕ) (doubt : Bool) (es : Entries) (k : ℕ) (s : Slot) → lookup (nat_eq k) es ≡ Some s → from ≤ k → (IsAtMost (next_of from doubt es) k → ⊥) → (s.changed || doubt) ≡ false
+pub settled : (from : ℕ) (doubt : Bool) (es : Entries) (k : ℕ) (s : Slot) → lookup (nat_eq k) es ≡ Some s → from ≤ k
+    → (IsAtMost (next_of from doubt es) k → ⊥) → (s.changed || doubt) ≡ false
 settled from doubt es k s h late passed =
-    false_from_ne_true (s.changed || doubt) (λ due. passed (scan-bounds from doubt None es k s h (and_from (nat_le from k) (s.changed || doubt) (le-leb from k late) due)))
+    false_from_ne_true (s.changed || doubt)
+        (λ due. passed (scan-bounds from doubt None es k s h
+        (and_from (nat_le from k) (s.changed || doubt) (le-leb from k late) due)))
 
 -- ---- the held blocks are written in rising order of number
 
@@ -340,12 +404,15 @@ pub record IsFlushing (es : Entries) (c : Blocks) (b : Bool) (blocks stored : Bl
   pub done : AreFlushed es c to
   pub count : length c ≡ length stored
 
-pub flush-begins : {es : Entries} {c : Blocks} {b : Bool} {blocks stored : Blocks} → AreKept es c b → overlay es c ≡ blocks → c ≡ stored → IsFlushing es c b blocks stored 0
+pub flush-begins : {es : Entries} {c : Blocks} {b : Bool} {blocks stored : Blocks} → AreKept es c b
+    → overlay es c ≡ blocks → c ≡ stored → IsFlushing es c b blocks stored 0
 unfolding AreFlushed
-flush-begins held shows is = record { held = held; shows = shows; done = λ k s h low. absurd (omega arith); count = ap length is }
+flush-begins held shows is =
+    record { held = held; shows = shows; done = λ k s h low. absurd (omega arith); count = ap length is }
 
 -- block n, which holds s, was written
-module _ (es : Entries) (c : Blocks) (b : Bool) (n : ℕ) (s : Slot) (h : lookup (nat_eq n) es ≡ Some s) (low : n < length c) where
+module _ (es : Entries) (c : Blocks) (b : Bool) (n : ℕ) (s : Slot) (h : lookup (nat_eq n) es ≡ Some s)
+    (low : n < length c) where
   abbrev es' : Entries
   es' = set_value (nat_eq n) es (cleaned s)
 
@@ -357,7 +424,8 @@ module _ (es : Entries) (c : Blocks) (b : Bool) (n : ℕ) (s : Slot) (h : lookup
 
   wrote-held : AreKept es c b → AreKept es' c' b
   unfolding AreKept
-  wrote-held held = AreKept-set es c' b n s (cleaned s) h (AreKept-written es c b n s.bytes (held-as es n s h) held) (record {
+  wrote-held held = AreKept-set es c' b n s (cleaned s) h (AreKept-written es c b n s.bytes (held-as es n s h) held)
+      (record {
     inside = subst (λ k. n < k) (sym (length-set c n s.bytes)) low;
     size = (held n s h).size;
     clean = λ _ _. sym (get_or-set_same c n s.bytes [] low);
@@ -365,12 +433,14 @@ module _ (es : Entries) (c : Blocks) (b : Bool) (n : ℕ) (s : Slot) (h : lookup
 
   wrote-shows : overlay es' c' ≡ overlay es c
   wrote-shows = overlay-same es es' c c' (length-set c n s.bytes) (λ k _. elim (cases_eq k n) [
-    | inl is ↦ held-some es' c' k (cleaned s) (ap (λ i. lookup (nat_eq i) es') is ∙ here) ∙ sym (held-some es c k s (ap (λ i. lookup (nat_eq i) es) is ∙ h))
+    | inl is ↦ held-some es' c' k (cleaned s) (ap (λ i. lookup (nat_eq i) es') is ∙ here)
+        ∙ sym (held-some es c k s (ap (λ i. lookup (nat_eq i) es) is ∙ h))
     | inr not ↦ ap (λ o. bytes_or o (block_at c' k)) (lookup-set_other es n k (cleaned s) not)
         ∙ ap (λ x. bytes_or (lookup (nat_eq k) es) x) (get_or-set_other c n k s.bytes [] not)
   ])
 
-  wrote-done : (from : ℕ) → AreKept es c b → AreFlushed es c from → next_of from b es ≡ Some n → AreFlushed es' c' (n + 1)
+  wrote-done : (from : ℕ) → AreKept es c b → AreFlushed es c from → next_of from b es ≡ Some n
+      → AreFlushed es' c' (n + 1)
   unfolding AreFlushed AreKept
   wrote-done from held done next k t e below = elim (cases_eq k n) [
     | inl is ↦ let one : Some t ≡ Some (cleaned s) = sym e ∙ ap (λ i. lookup (nat_eq i) es') is ∙ here in
@@ -381,19 +451,24 @@ module _ (es : Entries) (c : Blocks) (b : Bool) (n : ℕ) (s : Slot) (h : lookup
         (elim (cases_lt k from) [
           | inl early ↦ done k t was early
           | inr late ↦
-              let still : (t.changed || b) ≡ false = settled from b es k t was late (λ most. let m : n ≤ k = subst (λ o. IsAtMost o k) next most in not (omega arith)) in
+              let still : (t.changed || b) ≡ false =
+                      settled from b es k t was late
+                      (λ most. let m : n ≤ k = subst (λ o. IsAtMost o k) next most in not (omega arith)) in
               (held k t was).clean (or_parts t.changed b still).1 (or_parts t.changed b still).0
         ])
         ∙ sym (get_or-set_other c n k s.bytes [] not)
   ]
 
-module _ {es : Entries} {c : Blocks} {b : Bool} {blocks stored : Blocks} {from : ℕ} (f : IsFlushing es c b blocks stored from) where
+module _ {es : Entries} {c : Blocks} {b : Bool} {blocks stored : Blocks} {from : ℕ}
+    (f : IsFlushing es c b blocks stored from) where
   module _ {n : ℕ} (next : next_of from b es ≡ Some n) where
     pub low-next : n < length c
     unfolding AreKept
     low-next = let found = found-of from b es n next in (f.held n found.1.0 found.1.1).inside
 
-    pub flush-goes-on : {new : Entries} {d : Blocks} {e : Bool} → ((s : Slot) → lookup (nat_eq n) es ≡ Some s → d ≡ set c n s.bytes) → ((s : Slot) → lookup (nat_eq n) es ≡ Some s → new ≡ set_value (nat_eq n) es (cleaned s)) → e ≡ b
+    pub flush-goes-on : {new : Entries} {d : Blocks} {e : Bool}
+        → ((s : Slot) → lookup (nat_eq n) es ≡ Some s → d ≡ set c n s.bytes)
+        → ((s : Slot) → lookup (nat_eq n) es ≡ Some s → new ≡ set_value (nat_eq n) es (cleaned s)) → e ≡ b
         → IsFlushing new d e blocks stored (n + 1)
     flush-goes-on wrote cleans kept =
         let found = found-of from b es n next in
@@ -420,7 +495,8 @@ module _ {es : Entries} {c : Blocks} {b : Bool} {blocks stored : Blocks} {from :
     all-flushed k t h = elim (cases_lt k from) [
       | inl early ↦ f.done k t h early
       | inr late ↦
-          let still : (t.changed || b) ≡ false = settled from b es k t h late (λ most. subst (λ o. IsAtMost o k) next most) in
+          let still : (t.changed || b) ≡ false =
+                  settled from b es k t h late (λ most. subst (λ o. IsAtMost o k) next most) in
           (f.held k t h).clean (or_parts t.changed b still).1 (or_parts t.changed b still).0
     ]
 
@@ -429,15 +505,19 @@ module _ {es : Entries} {c : Blocks} {b : Bool} {blocks stored : Blocks} {from :
 
     pub flushed-held : AreKept es c false
     unfolding AreKept
-    flushed-held k s h = let was = f.held k s h in record { inside = was.inside; size = was.size; clean = λ _ _. all-flushed k s h }
+    flushed-held k s h = let was =
+        f.held k s h in record { inside = was.inside; size = was.size; clean = λ _ _. all-flushed k s h }
 
   pub flush-count : (fs : Entries) (d : Blocks) → length d ≡ length c → length (overlay fs d) ≡ length blocks
   flush-count fs d count = length-overlay fs d ∙ count ∙ sym (length-overlay es c) ∙ ap length f.shows
 
 -- a write failed
-pub flush-fails : (l : LruCache ℕ Slot) {m : LruCache ℕ Slot} (c d : Blocks) {b : Bool} (e : Bool) {blocks stored : Blocks} {from : ℕ} → IsFlushing l.entries c b blocks stored from → m ≡ l → e ≡ true → length d ≡ length c → AreKept m.entries d e
+pub flush-fails : (l : LruCache ℕ Slot) {m : LruCache ℕ Slot} (c d : Blocks) {b : Bool} (e : Bool)
+    {blocks stored : Blocks} {from : ℕ} → IsFlushing l.entries c b blocks stored from → m ≡ l → e ≡ true
+    → length d ≡ length c → AreKept m.entries d e
 flush-fails l c d {b} e f same doubt count =
-    subst (λ (x : LruCache ℕ Slot). AreKept x.entries d e) (sym same) (subst (AreKept l.entries d) (sym doubt) (AreKept-doubt l.entries c b d count f.held))
+    subst (λ (x : LruCache ℕ Slot). AreKept x.entries d e) (sym same)
+        (subst (AreKept l.entries d) (sym doubt) (AreKept-doubt l.entries c b d count f.held))
 
 pub up : {a b c : ℕ} → a ≤ b → b ≤ c → a ≤ c
 up h k = omega arith

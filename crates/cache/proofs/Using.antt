@@ -1,11 +1,16 @@
 -- A cache between the look-up of a block and the end of the call.
-use Rattle.cache.proofs.Common.{IsValid, ◌≡◌, ◌≢◌, ℕ, ◌-◌, ◌<◌, ◌≤◌, Bool, false, ◌||◌, Bor, List, [], ◌∷◌, length, set, take, slice_get, Result, Ok, Err, OnOk, Option, Some, None, nat_eq, refl, sym, ap, subst, ◌∙◌, arith, inl, inr, Blocks}
-use Rattle.cache.proofs.Common.{option_map, lookup, nat_eq_equiv, cases_eq, or_parts, lookup_from_place, get_or-set_same, LruCache, put_entries, last_entry, block_at, Slot, AreKept, IsKept, IsLastSafe, kept_or, overlay, ◌+◌, drop, true}
-use Rattle.cache.proofs.Common.{MutBor, OnErr, UnwrapsOrElse, option_copied, option_copied_mut, set_value, lru_cache, promoted, AreBlocks, part, splice, length-splice, put_mid-splice, Disk, IsErrAnd, is_err, DeviceFault, Goes, Reads, Steps}
-use Rattle.cache.proofs.Common.{Rises, HasCause}
+use Rattle.cache.proofs.Common.{IsValid, ◌≡◌, ◌≢◌, ℕ, ◌-◌, ◌<◌, ◌≤◌, Bool, false, ◌||◌, Bor, List, [], ◌∷◌, length, set}
+use Rattle.cache.proofs.Common.{take, slice_get, Result, Ok, Err, OnOk, Option, Some, None, nat_eq, refl, sym, ap}
+use Rattle.cache.proofs.Common.{subst, ◌∙◌, arith, inl, inr, Blocks, option_map, lookup, nat_eq_equiv, cases_eq}
+use Rattle.cache.proofs.Common.{or_parts, lookup_from_place, get_or-set_same, LruCache, put_entries, last_entry}
+use Rattle.cache.proofs.Common.{block_at, Slot, AreKept, IsKept, IsLastSafe, kept_or, overlay, ◌+◌, drop, true, MutBor}
+use Rattle.cache.proofs.Common.{OnErr, UnwrapsOrElse, option_copied, option_copied_mut, set_value, lru_cache, promoted}
+use Rattle.cache.proofs.Common.{AreBlocks, part, splice, length-splice, put_mid-splice, Disk, IsErrAnd, is_err}
+use Rattle.cache.proofs.Common.{DeviceFault, Goes, Reads, Steps, Rises, HasCause}
 use Rattle.std.specs.Map.Iter.{deref_pair}
-use Rattle.cache.proofs.Overlays.{Entries, bytes_or, lookup-cut, lookup-here, lookup-later, put-is, held-some, held-none, overlay-same, lookup-promoted, AreKept-promoted, AreKept-set, at-overlay, length-overlay, overlay-other}
-use Rattle.cache.proofs.Overlays.{overlay-promoted, overlay-set}
+use Rattle.cache.proofs.Overlays.{Entries, bytes_or, lookup-cut, lookup-here, lookup-later, put-is, held-some}
+use Rattle.cache.proofs.Overlays.{held-none, overlay-same, lookup-promoted, AreKept-promoted, AreKept-set, at-overlay}
+use Rattle.cache.proofs.Overlays.{length-overlay, overlay-other, overlay-promoted, overlay-set}
 use Rattle.std.specs.Prelude.{IfOk, MatchResult}
 use borrow.Rule.Slice.PartMut.{put_mid}
 use Rattle.std.proofs.lemmas.Result.{err_from_is_err_and}
@@ -13,7 +18,8 @@ use Rattle.std.proofs.lemmas.Result.{err_from_is_err_and}
 -- ---- a block comes into the cache, and another leaves
 
 -- which block leaves, as a look at the last entry tells
-module _ (c : LruCache ℕ Slot) {r : Option (Bor ℕ × Bor Slot)} {x : Bor ℕ × Bor Slot} (valid : IsValid nat_eq c) (told : option_map deref_pair r ≡ last_entry c.entries) (is : r ≡ Some x) where
+module _ (c : LruCache ℕ Slot) {r : Option (Bor ℕ × Bor Slot)} {x : Bor ℕ × Bor Slot} (valid : IsValid nat_eq c)
+    (told : option_map deref_pair r ≡ last_entry c.entries) (is : r ≡ Some x) where
   abbrev number : ℕ
   number = x.0.now
 
@@ -38,27 +44,33 @@ module _ (c : LruCache ℕ Slot) {r : Option (Bor ℕ × Bor Slot)} {x : Bor ℕ
   -- it is as the device has it
   pub safe-clean : (d : Blocks) (b : Bool) → AreKept c.entries d b → (slot.changed || b) ≡ false → IsLastSafe c d
   unfolding AreKept
-  safe-clean d b held clean = safe-one d ((held number slot last-lookup).clean (or_parts slot.changed b clean).1 (or_parts slot.changed b clean).0)
+  safe-clean d b held clean =
+      safe-one d ((held number slot last-lookup).clean (or_parts slot.changed b clean).1
+      (or_parts slot.changed b clean).0)
 
   -- it is written
   pub low-last : (d : Blocks) (b : Bool) → AreKept c.entries d b → number < length d
   unfolding AreKept
   low-last d b held = (held number slot last-lookup).inside
 
-  pub safe-tried : {E : Type 0} (d new : Blocks) (r : Result Unit E) → number < length d → OnOk r (new ≡ set d number slot.bytes) → OnOk r (IsLastSafe c new)
-  safe-tried d new (Ok y) low e = safe-one new (sym (ap (λ l. block_at l number) e ∙ get_or-set_same d number slot.bytes [] low))
+  pub safe-tried : {E : Type 0} (d new : Blocks) (r : Result Unit E) → number < length d
+      → OnOk r (new ≡ set d number slot.bytes) → OnOk r (IsLastSafe c new)
+  safe-tried d new (Ok y) low e =
+      safe-one new (sym (ap (λ l. block_at l number) e ∙ get_or-set_same d number slot.bytes [] low))
   safe-tried d new (Err y) low e = e
 
 module _ (c : LruCache ℕ Slot) (n : ℕ) (v : Slot) (absent : lookup (nat_eq n) c.entries ≡ None) where
   abbrev after : Entries
   after = (n, v) ∷ take (c.cap - 1) c.entries
 
-  held-after : (d : Blocks) (b : Bool) → length c.entries ≤ c.cap → AreKept c.entries d b → IsKept d b n v → AreKept after d b
+  held-after : (d : Blocks) (b : Bool) → length c.entries ≤ c.cap → AreKept c.entries d b → IsKept d b n v
+      → AreKept after d b
   unfolding AreKept
   held-after d b fits held new k s e = elim (cases_eq k n) [
     | inl is ↦ let same : Some v ≡ Some s = sym (lookup-here (n, v) (take (c.cap - 1) c.entries) k is) ∙ e in
         let value : v ≡ s = cc in subst (λ i. IsKept d b i s) (sym is) (subst (λ t. IsKept d b n t) value new)
-    | inr not ↦ let rest : lookup (nat_eq k) (take (c.cap - 1) c.entries) ≡ Some s = sym (lookup-later (n, v) (take (c.cap - 1) c.entries) k not) ∙ e in
+    | inr not ↦ let rest : lookup (nat_eq k) (take (c.cap - 1) c.entries) ≡ Some s =
+        sym (lookup-later (n, v) (take (c.cap - 1) c.entries) k not) ∙ e in
         (elim (lookup-cut (c.cap - 1) c.entries k (omega arith)) [
           | inl same ↦ held k s (sym same ∙ rest)
           | inr gone ↦ let wrong : None ≡ Some s = sym gone.0 ∙ rest in absurd cc
@@ -73,18 +85,24 @@ module _ (c : LruCache ℕ Slot) (n : ℕ) (v : Slot) (absent : lookup (nat_eq n
         | inr gone ↦
             let cut = gone.1 in
             let full : length c.entries ≡ c.cap = omega (arith, safe.fits, cut.1) in
-            let place : slice_get c.entries (length c.entries - 1) ≡ Some (k, cut.0) = ap (λ i. slice_get c.entries (i - 1)) full ∙ cut.2 in
-            held-none (take (c.cap - 1) c.entries) d k gone.0 ∙ sym (safe.last k cut.0 full place) ∙ sym (held-some c.entries d k cut.0 cut.3)
+            let place : slice_get c.entries (length c.entries - 1) ≡ Some (k, cut.0) =
+                    ap (λ i. slice_get c.entries (i - 1)) full ∙ cut.2 in
+            held-none (take (c.cap - 1) c.entries) d k gone.0 ∙ sym (safe.last k cut.0 full place)
+                ∙ sym (held-some c.entries d k cut.0 cut.3)
       ])
 
-  pub AreKept-put : (d : Blocks) (b : Bool) → IsLastSafe c d → AreKept c.entries d b → IsKept d b n v → AreKept (put_entries nat_eq c n v) d b
-  AreKept-put d b safe held new = subst (λ es. AreKept es d b) (sym (put-is c n v absent)) (held-after d b safe.fits held new)
+  pub AreKept-put : (d : Blocks) (b : Bool) → IsLastSafe c d → AreKept c.entries d b → IsKept d b n v
+      → AreKept (put_entries nat_eq c n v) d b
+  AreKept-put d b safe held new =
+      subst (λ es. AreKept es d b) (sym (put-is c n v absent)) (held-after d b safe.fits held new)
 
   -- a block as it was read comes in
-  pub overlay-read : (d : Blocks) → IsLastSafe c d → v.bytes ≡ block_at d n → overlay (put_entries nat_eq c n v) d ≡ overlay c.entries d
+  pub overlay-read : (d : Blocks) → IsLastSafe c d → v.bytes ≡ block_at d n
+      → overlay (put_entries nat_eq c n v) d ≡ overlay c.entries d
   overlay-read d safe same = ap (λ es. overlay es d) (put-is c n v absent)
       ∙ overlay-same c.entries after d d refl (λ k _. elim (cases_eq k n) [
-        | inl is ↦ held-some after d k v (lookup-here (n, v) (take (c.cap - 1) c.entries) k is) ∙ same ∙ ap (block_at d) (sym is)
+        | inl is ↦ held-some after d k v (lookup-here (n, v) (take (c.cap - 1) c.entries) k is) ∙ same
+            ∙ ap (block_at d) (sym is)
             ∙ sym (held-none c.entries d k (ap (λ i. lookup (nat_eq i) c.entries) is ∙ absent))
         | inr not ↦ others d safe k not
       ])
@@ -99,53 +117,69 @@ pub record IsUsed (l : LruCache ℕ Slot) (c : Blocks) (b : Bool) (blocks : Bloc
   pub low : n < length c
 
 -- a block that is shown is the device's
-pub low-shown : (es : Entries) (c : Blocks) {blocks : Blocks} {n : ℕ} → overlay es c ≡ blocks → n < length blocks → n < length c
+pub low-shown : (es : Entries) (c : Blocks) {blocks : Blocks} {n : ℕ} → overlay es c ≡ blocks → n < length blocks
+    → n < length c
 low-shown es c shows low = omega (arith, ap length shows, length-overlay es c)
 
-pub used : (old : LruCache ℕ Slot) {new : LruCache ℕ Slot} {c : Blocks} {b : Bool} {blocks : Blocks} {n : ℕ} → new ≡ lru_cache (promoted (nat_eq n) old.entries) old.cap → AreKept old.entries c b → overlay old.entries c ≡ blocks → n < length blocks → IsUsed new c b blocks n
+pub used : (old : LruCache ℕ Slot) {new : LruCache ℕ Slot} {c : Blocks} {b : Bool} {blocks : Blocks} {n : ℕ}
+    → new ≡ lru_cache (promoted (nat_eq n) old.entries) old.cap → AreKept old.entries c b
+    → overlay old.entries c ≡ blocks → n < length blocks → IsUsed new c b blocks n
 used old {c = c} {b} {n = n} is held shows low = record {
   held = subst (λ (l : LruCache ℕ Slot). AreKept l.entries c b) (sym is) (AreKept-promoted old.entries c b n held);
   shows = ap (λ (l : LruCache ℕ Slot). overlay l.entries c) is ∙ overlay-promoted old.entries c n ∙ shows;
   low = low-shown old.entries c shows low;
 }
 
-pub unkept : (old new : LruCache ℕ Slot) (r : Option (Bor Slot)) (n : ℕ) → new ≡ lru_cache (promoted (nat_eq n) old.entries) old.cap → option_copied r ≡ lookup (nat_eq n) old.entries → r ≡ None → lookup (nat_eq n) new.entries ≡ None
-unkept old new r n is told none = ap (λ (l : LruCache ℕ Slot). lookup (nat_eq n) l.entries) is ∙ lookup-promoted old.entries n n ∙ sym told ∙ ap option_copied none
+pub unkept : (old new : LruCache ℕ Slot) (r : Option (Bor Slot)) (n : ℕ)
+    → new ≡ lru_cache (promoted (nat_eq n) old.entries) old.cap → option_copied r ≡ lookup (nat_eq n) old.entries
+    → r ≡ None → lookup (nat_eq n) new.entries ≡ None
+unkept old new r n is told none = ap (λ (l : LruCache ℕ Slot). lookup (nat_eq n) l.entries) is
+    ∙ lookup-promoted old.entries n n ∙ sym told ∙ ap option_copied none
 
 -- the device was read
-pub moved : {l : LruCache ℕ Slot} {c d : Blocks} {b : Bool} {blocks : Blocks} {n : ℕ} → IsUsed l c b blocks n → d ≡ c → IsUsed l d b blocks n
+pub moved : {l : LruCache ℕ Slot} {c d : Blocks} {b : Bool} {blocks : Blocks} {n : ℕ} → IsUsed l c b blocks n → d ≡ c
+    → IsUsed l d b blocks n
 moved {l} {b = b} {blocks} {n} u same = subst (λ x. IsUsed l x b blocks n) (sym same) u
 
 -- the block that leaves was written
-pub roomed : {l : LruCache ℕ Slot} {c d : Blocks} {b e : Bool} {blocks : Blocks} {n : ℕ} → IsUsed l c b blocks n → length d ≡ length c → AreKept l.entries d e → overlay l.entries d ≡ overlay l.entries c → IsUsed l d e blocks n
-roomed {n = n} u count held same = record { held = held; shows = same ∙ u.shows; low = subst (λ k. n < k) (sym count) u.low }
+pub roomed : {l : LruCache ℕ Slot} {c d : Blocks} {b e : Bool} {blocks : Blocks} {n : ℕ} → IsUsed l c b blocks n
+    → length d ≡ length c → AreKept l.entries d e → overlay l.entries d ≡ overlay l.entries c → IsUsed l d e blocks n
+roomed {n = n} u count held same =
+    record { held = held; shows = same ∙ u.shows; low = subst (λ k. n < k) (sym count) u.low }
 
 -- what is shown of a block that isn't held
-pub shown : {l : LruCache ℕ Slot} {c : Blocks} {b : Bool} {blocks : Blocks} {n : ℕ} → IsUsed l c b blocks n → lookup (nat_eq n) l.entries ≡ None → block_at c n ≡ block_at blocks n
-shown {l} {c} {n = n} u none = sym (held-none l.entries c n none) ∙ sym (at-overlay l.entries c n u.low) ∙ ap (λ x. block_at x n) u.shows
+pub shown : {l : LruCache ℕ Slot} {c : Blocks} {b : Bool} {blocks : Blocks} {n : ℕ} → IsUsed l c b blocks n
+    → lookup (nat_eq n) l.entries ≡ None → block_at c n ≡ block_at blocks n
+shown {l} {c} {n = n} u none = sym (held-none l.entries c n none) ∙ sym (at-overlay l.entries c n u.low)
+    ∙ ap (λ x. block_at x n) u.shows
 
 -- a block as the device has it comes in, if there is memory
 abbrev CameIn : {X E : Type 0} → LruCache ℕ Slot → LruCache ℕ Slot → ℕ → Slot → Result X E → Type 0
 CameIn l new n s r = OnOk r (new ≡ lru_cache (put_entries nat_eq l n s) l.cap) × OnErr r (new ≡ l)
 
-module _ {X E : Type 0} {l : LruCache ℕ Slot} {c : Blocks} {b : Bool} {blocks : Blocks} {n : ℕ} (s : Slot) (new : LruCache ℕ Slot) (r : Result X E)
+module _ {X E : Type 0} {l : LruCache ℕ Slot} {c : Blocks} {b : Bool} {blocks : Blocks} {n : ℕ} (s : Slot)
+    (new : LruCache ℕ Slot) (r : Result X E)
     (u : IsUsed l c b blocks n) (safe : IsLastSafe l c) (none : lookup (nat_eq n) l.entries ≡ None)
     (same : s.bytes ≡ block_at c n) (came : CameIn l new n s r) where
   pub read-held : AreBlocks c → AreKept new.entries c b
   read-held sizes = held r came where
     held : (r : Result X E) → CameIn l new n s r → AreKept new.entries c b
     held (Ok x) came = subst (λ (m : LruCache ℕ Slot). AreKept m.entries c b) (sym came.0)
-        (AreKept-put l n s none c b safe u.held (record { inside = u.low; size = ap length same ∙ sizes n u.low; clean = λ _ _. same }))
+        (AreKept-put l n s none c b safe u.held
+            (record { inside = u.low; size = ap length same ∙ sizes n u.low; clean = λ _ _. same }))
     held (Err x) came = subst (λ (m : LruCache ℕ Slot). AreKept m.entries c b) (sym came.1) u.held
 
   pub read-shows : overlay new.entries c ≡ blocks
   read-shows = shows r came where
     shows : (r : Result X E) → CameIn l new n s r → overlay new.entries c ≡ blocks
-    shows (Ok x) came = ap (λ (m : LruCache ℕ Slot). overlay m.entries c) came.0 ∙ overlay-read l n s none c safe same ∙ u.shows
+    shows (Ok x) came = ap (λ (m : LruCache ℕ Slot). overlay m.entries c) came.0 ∙ overlay-read l n s none c safe same
+        ∙ u.shows
     shows (Err x) came = ap (λ (m : LruCache ℕ Slot). overlay m.entries c) came.1 ∙ u.shows
 
 -- what becomes of a cache as a block comes in that it doesn't hold
-pub came-in : {E : Type 0} (l new : LruCache ℕ Slot) (n : ℕ) (s : Slot) (r : Result (Bor Slot) E) → lookup (nat_eq n) l.entries ≡ None → MatchResult r (λ x. new ≡ lru_cache (put_entries nat_eq l n x.now) l.cap) (λ _. new ≡ l)
+pub came-in : {E : Type 0} (l new : LruCache ℕ Slot) (n : ℕ) (s : Slot) (r : Result (Bor Slot) E)
+    → lookup (nat_eq n) l.entries ≡ None
+    → MatchResult r (λ x. new ≡ lru_cache (put_entries nat_eq l n x.now) l.cap) (λ _. new ≡ l)
     → IfOk r (λ x. UnwrapsOrElse (lookup (nat_eq n) l.entries) (λ t. t ≡ s) x.now) → CameIn l new n s r
 came-in l new n s (Ok x) none did value =
     let is : x.now ≡ s = subst (λ (o : Option Slot). UnwrapsOrElse o (λ t. t ≡ s) x.now) none value in
@@ -153,45 +187,64 @@ came-in l new n s (Ok x) none did value =
 came-in l new n s (Err e) none did value = (tt, did)
 
 -- what a held block shows
-pub hit : (old : LruCache ℕ Slot) (c blocks : Blocks) (n : ℕ) (s : Slot) → overlay old.entries c ≡ blocks → n < length blocks → lookup (nat_eq n) old.entries ≡ Some s → s.bytes ≡ block_at blocks n
-hit old c blocks n s shows low is = sym (held-some old.entries c n s is) ∙ sym (at-overlay old.entries c n (low-shown old.entries c shows low)) ∙ ap (λ b. block_at b n) shows
+pub hit : (old : LruCache ℕ Slot) (c blocks : Blocks) (n : ℕ) (s : Slot) → overlay old.entries c ≡ blocks
+    → n < length blocks → lookup (nat_eq n) old.entries ≡ Some s → s.bytes ≡ block_at blocks n
+hit old c blocks n s shows low is = sym (held-some old.entries c n s is)
+    ∙ sym (at-overlay old.entries c n (low-shown old.entries c shows low)) ∙ ap (λ b. block_at b n) shows
 
-pub hit-is : (es : Entries) (r : Option (Bor Slot)) (x : Bor Slot) (n : ℕ) → option_copied r ≡ lookup (nat_eq n) es → r ≡ Some x → lookup (nat_eq n) es ≡ Some x.now
+pub hit-is : (es : Entries) (r : Option (Bor Slot)) (x : Bor Slot) (n : ℕ) → option_copied r ≡ lookup (nat_eq n) es
+    → r ≡ Some x → lookup (nat_eq n) es ≡ Some x.now
 hit-is es r x n told is = sym told ∙ ap option_copied is
 
 -- what a look-up for a change gave
-pub got-mut : (es : Entries) (n : ℕ) {r o : Option (MutBor Slot)} → option_copied_mut r ≡ lookup (nat_eq n) es → r ≡ o → lookup (nat_eq n) es ≡ option_copied_mut o
+pub got-mut : (es : Entries) (n : ℕ) {r o : Option (MutBor Slot)} → option_copied_mut r ≡ lookup (nat_eq n) es → r ≡ o
+    → lookup (nat_eq n) es ≡ option_copied_mut o
 got-mut es n told is = sym told ∙ ap option_copied_mut is
 
 -- bytes that are copied out of a block
-pub parted : (at k : ℕ) (out block same : List ℕ) → out ≡ take (at + k - at) (drop at block) → block ≡ same → out ≡ part at k same
+pub parted : (at k : ℕ) (out block same : List ℕ) → out ≡ take (at + k - at) (drop at block) → block ≡ same
+    → out ≡ part at k same
 parted at k out block same copied is =
     let long : at + k - at ≡ k = omega arith in
     copied ∙ ap (λ j. take j (drop at block)) long ∙ ap (part at k) is
 
 -- bytes are written into a held block
-module _ (old : LruCache ℕ Slot) (c : Blocks) (b : Bool) (blocks : Blocks) (n : ℕ) (s t : Slot) (at : ℕ) (bytes : List ℕ) where
-  pub hit-held : AreKept old.entries c b → overlay old.entries c ≡ blocks → n < length blocks → lookup (nat_eq n) old.entries ≡ Some s → t ≡ record { bytes = splice at bytes s.bytes; changed = true } → at + length bytes ≤ 1024 → AreKept (set_value (nat_eq n) (promoted (nat_eq n) old.entries) t) c b
+module _ (old : LruCache ℕ Slot) (c : Blocks) (b : Bool) (blocks : Blocks) (n : ℕ) (s t : Slot) (at : ℕ)
+    (bytes : List ℕ) where
+  pub hit-held : AreKept old.entries c b → overlay old.entries c ≡ blocks → n < length blocks
+      → lookup (nat_eq n) old.entries ≡ Some s → t ≡ record { bytes = splice at bytes s.bytes; changed = true }
+      → at + length bytes ≤ 1024 → AreKept (set_value (nat_eq n) (promoted (nat_eq n) old.entries) t) c b
   unfolding AreKept
   hit-held held shows low is now fits =
       let long : length s.bytes ≡ 1024 = (held n s is).size in
-      AreKept-set (promoted (nat_eq n) old.entries) c b n s t (lookup-promoted old.entries n n ∙ is) (AreKept-promoted old.entries c b n held) (record {
+      AreKept-set (promoted (nat_eq n) old.entries) c b n s t (lookup-promoted old.entries n n ∙ is)
+          (AreKept-promoted old.entries c b n held) (record {
         inside = low-shown old.entries c shows low;
-        size = ap (λ (x : Slot). length x.bytes) now ∙ length-splice at bytes s.bytes (omega (arith, long, fits)) ∙ long;
+        size = ap (λ (x : Slot). length x.bytes) now ∙ length-splice at bytes s.bytes (omega (arith, long, fits))
+            ∙ long;
         clean = λ _ clean. let wrong : true ≡ false = sym (ap (λ (x : Slot). x.changed) now) ∙ clean in absurd cc;
       })
 
-  pub hit-shows : overlay old.entries c ≡ blocks → n < length blocks → lookup (nat_eq n) old.entries ≡ Some s → t ≡ record { bytes = splice at bytes s.bytes; changed = true } → overlay (set_value (nat_eq n) (promoted (nat_eq n) old.entries) t) c ≡ set blocks n (splice at bytes (block_at blocks n))
+  pub hit-shows : overlay old.entries c ≡ blocks → n < length blocks → lookup (nat_eq n) old.entries ≡ Some s
+      → t ≡ record { bytes = splice at bytes s.bytes; changed = true }
+      → overlay (set_value (nat_eq n) (promoted (nat_eq n) old.entries) t) c
+      ≡ set blocks n (splice at bytes (block_at blocks n))
   hit-shows shows low is now =
-      overlay-set (promoted (nat_eq n) old.entries) c n s t (lookup-promoted old.entries n n ∙ is) (low-shown old.entries c shows low)
+      overlay-set (promoted (nat_eq n) old.entries) c n s t (lookup-promoted old.entries n n ∙ is)
+          (low-shown old.entries c shows low)
       ∙ ap (λ l. set l n t.bytes) (overlay-promoted old.entries c n ∙ shows)
       ∙ ap (set blocks n) (ap (λ (x : Slot). x.bytes) now ∙ ap (splice at bytes) (hit old c blocks n s shows low is))
 
 -- bytes are written into it, where it isn't held
-module _ (l : LruCache ℕ Slot) (c : Blocks) (blocks : Blocks) (n at k : ℕ) (block bytes new : List ℕ) (shows : overlay l.entries c ≡ blocks) (low : n < length blocks) (none : lookup (nat_eq n) l.entries ≡ None) where
-  pub refused-shows : {E : Type 0} (d : Blocks) (r : Result Unit E) → block ≡ block_at blocks n → new ≡ bytes → k ≡ length bytes → OnOk r (d ≡ set c n (put_mid at k block new)) → OnOk r (overlay l.entries d ≡ set blocks n (splice at bytes (block_at blocks n)))
-  refused-shows d (Ok x) read after count written = ap (overlay l.entries) written ∙ overlay-other l.entries c n (put_mid at k block new) none (low-shown l.entries c shows low)
-      ∙ ap (λ x. set x n (put_mid at k block new)) shows ∙ ap (set blocks n) (put_mid-splice at k block new bytes after count ∙ ap (splice at bytes) read)
+module _ (l : LruCache ℕ Slot) (c : Blocks) (blocks : Blocks) (n at k : ℕ) (block bytes new : List ℕ)
+    (shows : overlay l.entries c ≡ blocks) (low : n < length blocks) (none : lookup (nat_eq n) l.entries ≡ None) where
+  pub refused-shows : {E : Type 0} (d : Blocks) (r : Result Unit E) → block ≡ block_at blocks n → new ≡ bytes
+      → k ≡ length bytes → OnOk r (d ≡ set c n (put_mid at k block new))
+      → OnOk r (overlay l.entries d ≡ set blocks n (splice at bytes (block_at blocks n)))
+  refused-shows d (Ok x) read after count written = ap (overlay l.entries) written
+      ∙ overlay-other l.entries c n (put_mid at k block new) none (low-shown l.entries c shows low)
+      ∙ ap (λ x. set x n (put_mid at k block new)) shows
+          ∙ ap (set blocks n) (put_mid-splice at k block new bytes after count ∙ ap (splice at bytes) read)
   refused-shows d (Err x) read after count written = written
 
 -- ---- how steps on a disk follow one another, and how a call of several ends
@@ -204,7 +257,9 @@ module _ {D : Type 0} {identity : D → List ℕ} where
   goes-stays = record { count = refl; same_device = refl; later = omega arith }
 
   pub goes-after : {a b c : Disk D} → Goes identity a b → Goes identity b c → Goes identity a c
-  goes-after one two = record { count = two.count ∙ one.count; same_device = two.same_device ∙ one.same_device; later = omega (arith, one.later, two.later) }
+  goes-after one two = record
+      { count = two.count ∙ one.count; same_device = two.same_device ∙ one.same_device;
+      later = omega (arith, one.later, two.later) }
 
   pub goes-twice : {a b c d : Disk D} → Goes identity a b → Goes identity b c → Goes identity c d → Goes identity a d
   goes-twice one two three = goes-after (goes-after one two) three
@@ -217,21 +272,30 @@ module _ {D : Type 0} {identity : D → List ℕ} where
     step-done goes done = record { done = done; goes = goes; failed = λ e. cc }
 
     -- a fault is told
-    pub step-lost : {s : Result T DeviceFault} {f : DeviceFault} → Goes identity old new → Rises old.failures new.failures → IsErrAnd s (λ x. x ≡ f) → Steps identity old new s Done
-    step-lost {s} goes rises told = record { done = rw (err_from_is_err_and s told).1 tt; goes = goes; failed = λ _. rises }
+    pub step-lost : {s : Result T DeviceFault} {f : DeviceFault} → Goes identity old new
+        → Rises old.failures new.failures → IsErrAnd s (λ x. x ≡ f) → Steps identity old new s Done
+    step-lost {s} goes rises told =
+        record { done = rw (err_from_is_err_and s told).1 tt; goes = goes; failed = λ _. rises }
 
     module _ {mid : Disk D} {U : Type 0} {Was : U → Type 0} (goes : Goes identity old mid) where
       -- the last step failed
-      pub step-failed : {r : Result U DeviceFault} {e f : DeviceFault} {s : Result T DeviceFault} → Steps identity mid new r Was → r ≡ Err e → IsErrAnd s (λ x. x ≡ f) → Steps identity old new s Done
-      step-failed step was told = step-lost (goes-after goes step.goes) (rises-before goes.later (step.failed (ap is_err was))) told
+      pub step-failed : {r : Result U DeviceFault} {e f : DeviceFault} {s : Result T DeviceFault}
+          → Steps identity mid new r Was → r ≡ Err e → IsErrAnd s (λ x. x ≡ f) → Steps identity old new s Done
+      step-failed step was told =
+          step-lost (goes-after goes step.goes) (rises-before goes.later (step.failed (ap is_err was))) told
 
   -- the last step tells all
-  pub step-last : {old mid new : Disk D} {T : Type 0} {Was Done : T → Type 0} {r : Result T DeviceFault} → Goes identity old mid → ((x : T) → Was x → Done x) → Steps identity mid new r Was → Steps identity old new r Done
-  step-last {r = Ok x} goes so step = record { done = so x step.done; goes = goes-after goes step.goes; failed = λ e. cc }
-  step-last {r = Err e} goes so step = record { done = tt; goes = goes-after goes step.goes; failed = λ e. rises-before goes.later (step.failed e) }
+  pub step-last : {old mid new : Disk D} {T : Type 0} {Was Done : T → Type 0} {r : Result T DeviceFault}
+      → Goes identity old mid → ((x : T) → Was x → Done x) → Steps identity mid new r Was
+      → Steps identity old new r Done
+  step-last {r = Ok x} goes so step =
+      record { done = so x step.done; goes = goes-after goes step.goes; failed = λ e. cc }
+  step-last {r = Err e} goes so step =
+      record { done = tt; goes = goes-after goes step.goes; failed = λ e. rises-before goes.later (step.failed e) }
 
   -- what was told before the last step
-  pub read-done : {old new : Disk D} {T : Type 0} {Told : T → Type 0} {x : T} → Goes identity old new → new.blocks ≡ old.blocks → Told x → Reads identity old new (Ok x) Told
+  pub read-done : {old new : Disk D} {T : Type 0} {Told : T → Type 0} {x : T} → Goes identity old new
+      → new.blocks ≡ old.blocks → Told x → Reads identity old new (Ok x) Told
   read-done goes same told = step-done goes (record { told = told; same = same })
 
 -- ---- what is seen of a cache, before and after accesses of its device
@@ -250,17 +314,27 @@ module _ {D : Type 0} (content : D → Blocks) (failures : D → ℕ) where
     pub device-seen : (identity : D → List ℕ) → identity a ≡ identity old.device
     device-seen identity = ap (λ (d : Disk D). identity d.device) is
 
-    module _ {identity : D → List ℕ} (fs : Entries) (b : D) (count : length (content b) ≡ length (content a)) (same : identity b ≡ identity a) where
+    module _ {identity : D → List ℕ} (fs : Entries) (b : D) (count : length (content b) ≡ length (content a))
+        (same : identity b ≡ identity a) where
       pub goes-seen : failures a ≤ failures b → Goes identity old (seen fs b)
-      goes-seen later = subst (λ (d : Disk D). Goes identity d (seen fs b)) is (record { count = length-overlay fs (content b) ∙ count ∙ sym (length-overlay es (content a)); same_device = same; later = later })
+      goes-seen later = subst (λ (d : Disk D). Goes identity d (seen fs b)) is
+          (record { count = length-overlay fs (content b) ∙ count ∙ sym (length-overlay es (content a));
+          same_device = same; later = later })
 
       -- an access failed
-      pub lost-seen : {T U : Type 0} {Done : T → Type 0} {before : ℕ} {r : Result U DeviceFault} {e f : DeviceFault} {s : Result T DeviceFault} → failures a ≤ before → HasCause before (failures b) r → r ≡ Err e → IsErrAnd s (λ x. x ≡ f) → Steps identity old (seen fs b) s Done
+      pub lost-seen : {T U : Type 0} {Done : T → Type 0} {before : ℕ} {r : Result U DeviceFault} {e f : DeviceFault}
+          {s : Result T DeviceFault} → failures a ≤ before → HasCause before (failures b) r → r ≡ Err e
+          → IsErrAnd s (λ x. x ≡ f) → Steps identity old (seen fs b) s Done
       lost-seen later cause was told =
-          let rises : Rises old.failures (failures b) = rises-before failures-seen (rises-before later (cause.failed (ap is_err was))) in
+          let rises : Rises old.failures (failures b) =
+                  rises-before failures-seen (rises-before later (cause.failed (ap is_err was))) in
           step-lost (goes-seen (omega (arith, cause.later))) rises told
 
       -- the last access tells all
-      pub last-seen : {Done : Type 0} {before : ℕ} (r : Result Unit DeviceFault) → failures a ≤ before → HasCause before (failures b) r → OnOk r Done → Steps identity old (seen fs b) r (λ _. Done)
-      last-seen (Ok x) later cause done = record { done = done; goes = goes-seen (omega (arith, cause.later)); failed = λ e. cc }
-      last-seen (Err x) later cause done = record { done = tt; goes = goes-seen (omega (arith, cause.later)); failed = λ e. rises-before failures-seen (rises-before later (cause.failed e)) }
+      pub last-seen : {Done : Type 0} {before : ℕ} (r : Result Unit DeviceFault) → failures a ≤ before
+          → HasCause before (failures b) r → OnOk r Done → Steps identity old (seen fs b) r (λ _. Done)
+      last-seen (Ok x) later cause done =
+          record { done = done; goes = goes-seen (omega (arith, cause.later)); failed = λ e. cc }
+      last-seen (Err x) later cause done =
+          record { done = tt; goes = goes-seen (omega (arith, cause.later));
+          failed = λ e. rises-before failures-seen (rises-before later (cause.failed e)) }

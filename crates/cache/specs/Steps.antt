@@ -10,8 +10,10 @@ pub record Goes {D : Type 0} (identity : D → List ℕ) (old new : Disk D) : Ty
   pub same_device : identity new.device ≡ identity old.device
   pub later : old.failures ≤ new.failures
 
--- so does a disk on which a step is tried. It is done, or a fault is told, and that only where the device counts a failure
-pub record Steps {D T : Type 0} (identity : D → List ℕ) (old new : Disk D) (result : Result T DeviceFault) (Done : T → Type 0) : Type 0 where
+-- so does a disk on which a step is tried. It is done, or a fault is told, and that only where the device counts a
+-- failure
+pub record Steps {D T : Type 0} (identity : D → List ℕ) (old new : Disk D) (result : Result T DeviceFault)
+    (Done : T → Type 0) : Type 0 where
   pub done : IfOk result Done
   pub goes : Goes identity old new
   pub failed : IsErr result → Rises old.failures new.failures

@@ -1,9 +1,9 @@
 //! The blocks of a device as one list, for the layers above.
 //!
 //! At most 30 blocks are held, those that were used last; a read of a part of one of the first four leaves the four in
-//! their order. A write changes the held block alone; the device has it once the block had to leave, or after `flush`. Where
-//! there is no memory for a block it isn't held: a read answers from the one block that was read, and a write goes to the
-//! device at once.
+//! their order. A write changes the held block alone; the device has it once the block had to leave, or after `flush`.
+//! Where there is no memory for a block it isn't held: a read answers from the one block that was read, and a write
+//! goes to the device at once.
 #![tactic(auto)]
 
 ghost use Rattle.std.specs.Prelude.{◌≡◌, ℕ, ◌+◌, ◌<◌, ◌≤◌, List, length, IfOk, IfSome, slice_set};
@@ -41,7 +41,9 @@ impl<D: BlockDev, A: Allocator + Clone> Model for Cache<D, A> {
 
     ghost use Rattle.cache.specs.Overlay.{overlay, AreKept};
 
-    ghost view = { λ c. record { blocks = overlay c.held.entries (D.content c.device); device = c.device; failures = D.failures c.device } };
+    ghost view = { λ c. record
+            { blocks = overlay c.held.entries (D.content c.device); device = c.device;
+            failures = D.failures c.device } };
 
     ghost invariant = { λ c. AreKept c.held.entries (D.content c.device) c.in_doubt };
 }
@@ -49,7 +51,8 @@ impl<D: BlockDev, A: Allocator + Clone> Model for Cache<D, A> {
 impl<D: BlockDev, A: Allocator + Clone> Cache<D, A> {
     /// The blocks of the device. It is the only call that can ask for host memory and be refused.
     pub fn new(alloc: A, device: D) -> Result<Cache<D, A>, AllocError>
-        ensures made { IfOk result (λ cache. cache ≡ record { blocks = D.content device; device = device; failures = D.failures device }) }
+        ensures made { IfOk result
+                (λ cache. cache ≡ record { blocks = D.content device; device = device; failures = D.failures device }) }
         ensures sizes { AreBlocks (D.content device) }
     {
         let held = LruCache::new(alloc, NonZeroUsize::new(HELD).unwrap())?;
@@ -105,7 +108,8 @@ impl<D: BlockDev, A: Allocator + Clone> Cache<D, A> {
             bytes,
             changed: false,
         };
-        // Without memory for it the block isn't held. `put` would hand on what had to leave, which costs more than all else.
+        // Without memory for it the block isn't held. `put` would hand on what had to leave, which costs more than all
+        // else.
         let _ = self.held.get_or_insert(
             n,
             ||
@@ -132,7 +136,8 @@ impl<D: BlockDev, A: Allocator + Clone> Cache<D, A> {
     pub fn read_part(&mut self, n: usize, at: usize, out: &mut [u8]) -> Result<(), DeviceFault>
         requires block { n < length self.old.blocks }
         requires fits { at + length out.old ≤ 1024 }
-        ensures { Reads D.identity self.old self.new result (λ _. out.new ≡ part at (length out.old) (block_at self.old.blocks n)) }
+        ensures { Reads D.identity self.old self.new result
+                (λ _. out.new ≡ part at (length out.old) (block_at self.old.blocks n)) }
     {
         if let Some(slot) = recent(&self.held, n) {
             out.copy_from_slice(&slot.bytes[at..at + out.len()]);
@@ -141,12 +146,14 @@ impl<D: BlockDev, A: Allocator + Clone> Cache<D, A> {
         self.read_older(n, at, out)
     }
 
-    // The same for a block after which others were used. It is out of line, so that the way to those used last is short.
+    // The same for a block after which others were used. It is out of line, so that the way to those used last is
+    // short.
     #[inline(never)]
     fn read_older(&mut self, n: usize, at: usize, out: &mut [u8]) -> Result<(), DeviceFault>
         requires block { n < length self.old.blocks }
         requires fits { at + length out.old ≤ 1024 }
-        ensures { Reads D.identity self.old self.new result (λ _. out.new ≡ part at (length out.old) (block_at self.old.blocks n)) }
+        ensures { Reads D.identity self.old self.new result
+                (λ _. out.new ≡ part at (length out.old) (block_at self.old.blocks n)) }
     {
         let count = out.len();
         if let Some(held) = self.held.get(&n) {
@@ -156,12 +163,14 @@ impl<D: BlockDev, A: Allocator + Clone> Cache<D, A> {
         self.read_unheld(n, at, out)
     }
 
-    // The same for a block that isn't held, by way of a copy. It is out of line: a held block needs no room for the copy.
+    // The same for a block that isn't held, by way of a copy. It is out of line: a held block needs no room for the
+    // copy.
     #[inline(never)]
     fn read_unheld(&mut self, n: usize, at: usize, out: &mut [u8]) -> Result<(), DeviceFault>
         requires block { n < length self.old.blocks }
         requires fits { at + length out.old ≤ 1024 }
-        ensures { Reads D.identity self.old self.new result (λ _. out.new ≡ part at (length out.old) (block_at self.old.blocks n)) }
+        ensures { Reads D.identity self.old self.new result
+                (λ _. out.new ≡ part at (length out.old) (block_at self.old.blocks n)) }
     {
         let block = self.read(n)?;
         out.copy_from_slice(&block[at..at + out.len()]);
@@ -217,7 +226,8 @@ impl<D: BlockDev, A: Allocator + Clone> Cache<D, A> {
 }
 
 impl<D: Duplicate> Cache<D> {
-    /// The same blocks over a duplicate of the device. It asks for host memory for the device, and for the blocks that are held.
+    /// The same blocks over a duplicate of the device. It asks for host memory for the device, and for the blocks that
+    /// are held.
     pub fn duplicate(&self, alloc: Global) -> Result<Cache<D>, AllocError>
         ensures { IfOk result (λ cache. cache ≡ self.now) }
     {

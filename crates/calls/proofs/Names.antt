@@ -1,11 +1,21 @@
 -- Calls on names: the running process stays as it is, and the files alone change.
-use Rattle.calls.proofs.Common.{[], Acts, ActsOnDisk, and_left, and_right, answer-here, answered, answered-here, Answers, answers, ap, arg, argument, arith, blocks_of, Bool, Call, call, Came, change_node, change_process, DeviceFault}
-use Rattle.calls.proofs.Common.{Directory, directory_at, directory_in, Done, erase, Err, false, false≢true, File, Files, find, folder_in, frames_of, free-here, given, has_failed, HasRead, held-here, Here, here-as, home-folder, home-running}
-use Rattle.calls.proofs.Common.{home_in, if◌then◌else◌, is_by, is_device, is_directory, is_used, is_within, IsKernel, IsRefused, IsServed, IsSome, kept, kept-cong, Kernel, leaf_node, length-set, limited, Link, link_row, linked, linked_in}
-use Rattle.calls.proofs.Common.{links_of, List, loaded, lookup, lt-leb, Made, made_at, made_directory, made_files, made_in, MakesNode, me, Mkdir, mkdir_row, Mknod, mknod_row, nat_le, nat_lt, Node, None, none-some, Ok, open_limit, Option}
-use Rattle.calls.proofs.Common.{option_and_then, option_map, Outcome, outcome_at, outcome_of, Overflows, path_argument, path_at, process-here, provided, quiet, Reaches, reap, refl, Refused, Refuses, Result, row, row_of, Runs, settle}
-use Rattle.calls.proofs.Common.{settled_by, slot, Some, SpaceView, Spot, spot_of, State, state_of, subst, sym, TreeFault, true, Unlink, unlink-parts, unlink_row, unlinked, used-is, with_answer, with_tree, within-state, without_nodes}
-use Rattle.calls.proofs.Common.{without_opens, without_opens-same, without_pipes, ℕ, ◌%◌, ◌&&◌, ◌*◌, ◌<◌, ◌^◌, ◌||◌, ◌∙◌, ◌≡◌, ◌≢◌, ◌≤◌}
+use Rattle.calls.proofs.Common.{[], Acts, ActsOnDisk, and_left, and_right, answer-here, answered, answered-here}
+use Rattle.calls.proofs.Common.{Answers, answers, ap, arg, argument, arith, blocks_of, Bool, Call, call, Came}
+use Rattle.calls.proofs.Common.{change_node, change_process, DeviceFault, Directory, directory_at, directory_in, Done}
+use Rattle.calls.proofs.Common.{erase, Err, false, false≢true, File, Files, find, folder_in, frames_of, free-here}
+use Rattle.calls.proofs.Common.{given, has_failed, HasRead, held-here, Here, here-as, home-folder, home-running}
+use Rattle.calls.proofs.Common.{home_in, if◌then◌else◌, is_by, is_device, is_directory, is_used, is_within, IsKernel}
+use Rattle.calls.proofs.Common.{IsRefused, IsServed, IsSome, kept, kept-cong, Kernel, leaf_node, length-set, limited}
+use Rattle.calls.proofs.Common.{Link, link_row, linked, linked_in, links_of, List, loaded, lookup, lt-leb, Made}
+use Rattle.calls.proofs.Common.{made_at, made_directory, made_files, made_in, MakesNode, me, Mkdir, mkdir_row, Mknod}
+use Rattle.calls.proofs.Common.{mknod_row, nat_le, nat_lt, Node, None, none-some, Ok, open_limit, Option}
+use Rattle.calls.proofs.Common.{option_and_then, option_map, Outcome, outcome_at, outcome_of, Overflows, path_argument}
+use Rattle.calls.proofs.Common.{path_at, process-here, provided, quiet, Reaches, reap, refl, Refused, Refuses, Result}
+use Rattle.calls.proofs.Common.{row, row_of, Runs, settle, settled_by, slot, Some, SpaceView, Spot, spot_of, State}
+use Rattle.calls.proofs.Common.{state_of, subst, sym, TreeFault, true, Unlink, unlink-parts, unlink_row, unlinked}
+use Rattle.calls.proofs.Common.{used-is, with_answer, with_tree, within-state, without_nodes, without_opens}
+use Rattle.calls.proofs.Common.{without_opens-same, without_pipes, ℕ, ◌%◌, ◌&&◌, ◌*◌, ◌<◌, ◌^◌, ◌||◌, ◌∙◌, ◌≡◌, ◌≢◌}
+use Rattle.calls.proofs.Common.{◌≤◌}
 use Rattle.tree.specs.Calls.{MakesDirectory, MakesLink, TakesName}
 use Rattle.unixmodel.specs.NameCalls.{fewer_links, path_arg, with_files, without_name}
 use Rattle.tree.proofs.Keeping.{device-is, Reaps}
@@ -42,40 +52,52 @@ module _ {k : Kernel} {i : ℕ} (x : Here k i) where
   path-is n is = sym (is ∙ ap (λ (h : SpaceView). path_at h.memory (argument k n)) (held-here x))
 
   -- there is none
-  pub pathless : (rest : List ℕ → Outcome) (call : Call) → row_of x call ≡ given (path_arg (me x) 0) rest → None ≡ path_argument k i 0 → Acts k k i (Some call) Refuses
+  pub pathless : (rest : List ℕ → Outcome) (call : Call) → row_of x call ≡ given (path_arg (me x) 0) rest
+      → None ≡ path_argument k i 0 → Acts k k i (Some call) Refuses
   pathless rest call is none = refused x (Some call) (ap limited (is ∙ ap (λ o. given o rest) (path-is 0 none)))
 
   -- what it reaches from the directory that the process works in
-  pub found-here : (path : List ℕ) {o : Option ℕ} → o ≡ find k.tree.files (directory_at k i) path → find k.tree.files x.process.directory path ≡ o
+  pub found-here : (path : List ℕ) {o : Option ℕ} → o ≡ find k.tree.files (directory_at k i) path
+      → find k.tree.files x.process.directory path ≡ o
   found-here path is = sym (is ∙ ap (λ d. find k.tree.files d path) home-is)
 
   -- that is a node
-  pub node-here : (path : List ℕ) {n : ℕ} → Some n ≡ find k.tree.files (directory_at k i) path → (node : Node) × (slot k.tree.files n ≡ Some node)
+  pub node-here : (path : List ℕ) {n : ℕ} → Some n ≡ find k.tree.files (directory_at k i) path
+      → (node : Node) × (slot k.tree.files n ≡ Some node)
   node-here path {n} at =
       let home = x.process.directory in
       let used = x.sound.used x.up in
-      let there = folder-there (slot k.tree.files home) (home-folder used i home (ap home_in x.run.process ∙ home-running x.process x.run.runs)) in
+      let there = folder-there (slot k.tree.files home)
+              (home-folder used i home (ap home_in x.run.process ∙ home-running x.process x.run.runs)) in
       some-there (slot k.tree.files n) (find-used used.rules home path n there (found-here path at))
 
 -- ---- once the disk was read
 
 module _ {k e : Kernel} (has : HasRead k e) where
   pub read-served : k.tree.failed ≡ false → IsServed k.tree e.tree
-  read-served up = record { up = ap (λ (y : Kernel). y.tree.failed) has.same ∙ up; same_device = ap (λ (y : Kernel). y.tree.identity) has.same; later = has.later }
+  read-served up = record { up = ap (λ (y : Kernel). y.tree.failed) has.same ∙ up;
+      same_device = ap (λ (y : Kernel). y.tree.identity) has.same; later = has.later }
 
   pub read-runs : {i : ℕ} → Runs k i → Runs e i
-  read-runs {i} runs = subst (λ (y : Kernel). Runs y i) (sym has.same) (record { active = runs.active; up = runs.up; sound = counting-kernel k e.tree.failures runs.sound; zero = runs.zero; aligned = runs.aligned })
+  read-runs {i} runs = subst (λ (y : Kernel). Runs y i) (sym has.same)
+      (record { active = runs.active; up = runs.up; sound = counting-kernel k e.tree.failures runs.sound;
+      zero = runs.zero; aligned = runs.aligned })
 
   -- a call that is refused then
-  pub refused-read : {i : ℕ} (x : Here k i) (call : Call) → outcome_of (state_of k) i (me x) (Some call) ≡ Refused → Acts k e i (Some call) Refuses
+  pub refused-read : {i : ℕ} (x : Here k i) (call : Call) → outcome_of (state_of k) i (me x) (Some call) ≡ Refused
+      → Acts k e i (Some call) Refuses
   refused-read x call is =
-      refuses-on (outcome-here x (Some call) ∙ is) (ap state_of has.same) (ap (λ (y : Kernel). y.spaces.active) has.same ∙ x.run.active) (subst IsKernel (sym has.same) (counting-kernel k e.tree.failures x.sound)) (read-served x.up)
+      refuses-on (outcome-here x (Some call) ∙ is) (ap state_of has.same)
+          (ap (λ (y : Kernel). y.spaces.active) has.same ∙ x.run.active)
+          (subst IsKernel (sym has.same) (counting-kernel k e.tree.failures x.sound)) (read-served x.up)
 
   -- and one that goes on
-  pub after-look : (new : Kernel) (i : ℕ) → k.tree.failed ≡ false → (call : Call) (r : Result Came DeviceFault) → ActsOnDisk e new i (Some call) r → ActsOnDisk k new i (Some call) r
+  pub after-look : (new : Kernel) (i : ℕ) → k.tree.failed ≡ false → (call : Call) (r : Result Came DeviceFault)
+      → ActsOnDisk e new i (Some call) r → ActsOnDisk k new i (Some call) r
   after-look new i up call (Err fault) lost = lost-after (read-served up) lost
   after-look new i up call (Ok came) acts = record {
-    makes = subst (λ (y : Kernel). settle (state_of y) i (outcome_at (state_of y) i (Some call)) ≡ record { state = settled_by (state_of new) i came; bytes = [] }) has.same acts.makes;
+    makes = subst (λ (y : Kernel). settle (state_of y) i (outcome_at (state_of y) i (Some call))
+        ≡ record { state = settled_by (state_of new) i came; bytes = [] }) has.same acts.makes;
     active = acts.active;
     sound = acts.sound;
     can = acts.can;
@@ -84,22 +106,32 @@ module _ {k e : Kernel} (has : HasRead k e) where
   }
 
 -- the path reaches nothing
-pub lost-path : {k e : Kernel} {i : ℕ} (x : Here k i) {path : List ℕ} (rest : List ℕ → ℕ → Outcome) (call : Call) → row_of x call ≡ given (path_arg (me x) 0) (λ path. given (find k.tree.files x.process.directory path) (rest path))
-    → Some path ≡ path_argument k i 0 → HasRead k e × (None ≡ find k.tree.files (directory_at k i) path) → Acts k e i (Some call) Refuses
+pub lost-path : {k e : Kernel} {i : ℕ} (x : Here k i) {path : List ℕ} (rest : List ℕ → ℕ → Outcome) (call : Call)
+    → row_of x call ≡ given (path_arg (me x) 0) (λ path. given (find k.tree.files x.process.directory path) (rest path))
+    → Some path ≡ path_argument k i 0 → HasRead k e × (None ≡ find k.tree.files (directory_at k i) path)
+        → Acts k e i (Some call) Refuses
 lost-path {k} x {path} rest call row is reads =
-    refused-read reads.0 x call (ap limited (row ∙ ap (λ (o : Option (List ℕ)). given o (λ path. given (find k.tree.files x.process.directory path) (rest path))) (path-is x 0 is) ∙ ap (λ (o : Option ℕ). given o (rest path)) (found-here x path reads.1)))
+    refused-read reads.0 x call
+        (ap limited (row ∙ ap (λ (o : Option (List ℕ)). given o
+        (λ path. given (find k.tree.files x.process.directory path) (rest path))) (path-is x 0 is)
+        ∙ ap (λ (o : Option ℕ). given o (rest path)) (found-here x path reads.1)))
 
 -- it reaches a number
-pub reaches : {k e : Kernel} {i n : ℕ} {path : List ℕ} {o : Option ℕ} → Some path ≡ path_argument k i 0 → HasRead k e × (o ≡ find k.tree.files (directory_at k i) path) → o ≡ Some n → Reaches e i n
-reaches {i = i} {n = n} {path = path} named reads some = subst (λ (y : Kernel). Reaches y i n) (sym reads.0.same) (record { path = path; named = named; found = sym some ∙ reads.1 })
+pub reaches : {k e : Kernel} {i n : ℕ} {path : List ℕ} {o : Option ℕ} → Some path ≡ path_argument k i 0
+    → HasRead k e × (o ≡ find k.tree.files (directory_at k i) path) → o ≡ Some n → Reaches e i n
+reaches {i = i} {n = n} {path = path} named reads some =
+    subst (λ (y : Kernel). Reaches y i n) (sym reads.0.same)
+    (record { path = path; named = named; found = sym some ∙ reads.1 })
 
 -- ---- rows
 
-pub given-then : {X Y : Type 0} (o : Option X) (f : X → Option Y) (g : Y → Outcome) → given o (λ x. given (f x) g) ≡ given (option_and_then f o) g
+pub given-then : {X Y : Type 0} (o : Option X) (f : X → Option Y) (g : Y → Outcome)
+    → given o (λ x. given (f x) g) ≡ given (option_and_then f o) g
 given-then None f g = refl
 given-then (Some x) f g = refl
 
-given-map : {X Y : Type 0} (o : Option X) (f : X → Y) (g : Y → Outcome) → given o (λ x. g (f x)) ≡ given (option_map f o) g
+given-map : {X Y : Type 0} (o : Option X) (f : X → Y) (g : Y → Outcome)
+    → given o (λ x. g (f x)) ≡ given (option_map f o) g
 given-map None f g = refl
 given-map (Some x) f g = refl
 
@@ -108,33 +140,47 @@ abbrev pub with_made : State → Option Files → Outcome
 with_made s made = given made (λ files. answers (with_files s files) 0)
 
 mknod-row : (s : State) (i : ℕ) (p : unix.Process) (path : List ℕ) → path_arg p 0 ≡ Some path
-    → mknod_row s i p ≡ with_made s (made_files (made_in s.files p.directory path (Node.Device 1 (arg p 1 % 2 ^ 16) (arg p 2 % 2 ^ 16))))
+    → mknod_row s i p ≡ with_made s
+        (made_files (made_in s.files p.directory path (Node.Device 1 (arg p 1 % 2 ^ 16) (arg p 2 % 2 ^ 16))))
 unfolding mknod_row made_in
 mknod-row s i p path at =
     rw at (
-    given-then (spot_of s.files p.directory path) (λ at. made_at s.files at (λ n. Node.Device 1 (arg p 1 % 2 ^ 16) (arg p 2 % 2 ^ 16))) (λ (made : Made). answers (with_files s made.files) 0)
-    ∙ given-map (option_and_then (λ at. made_at s.files at (λ n. Node.Device 1 (arg p 1 % 2 ^ 16) (arg p 2 % 2 ^ 16))) (spot_of s.files p.directory path)) (λ (made : Made). made.files) (λ files. answers (with_files s files) 0))
+    given-then (spot_of s.files p.directory path)
+        (λ at. made_at s.files at (λ n. Node.Device 1 (arg p 1 % 2 ^ 16) (arg p 2 % 2 ^ 16)))
+        (λ (made : Made). answers (with_files s made.files) 0)
+    ∙ given-map (option_and_then (λ at. made_at s.files at (λ n. Node.Device 1 (arg p 1 % 2 ^ 16) (arg p 2 % 2 ^ 16)))
+        (spot_of s.files p.directory path)) (λ (made : Made). made.files) (λ files. answers (with_files s files) 0))
 
-mkdir-row : (s : State) (i : ℕ) (p : unix.Process) (path : List ℕ) → path_arg p 0 ≡ Some path → mkdir_row s i p ≡ with_made s (folder_in s.files p.directory path)
+mkdir-row : (s : State) (i : ℕ) (p : unix.Process) (path : List ℕ) → path_arg p 0 ≡ Some path
+    → mkdir_row s i p ≡ with_made s (folder_in s.files p.directory path)
 unfolding mkdir_row folder_in
-mkdir-row s i p path at = rw at (given-then (spot_of s.files p.directory path) (made_directory s.files) (λ files. answers (with_files s files) 0))
+mkdir-row s i p path at =
+    rw at (given-then (spot_of s.files p.directory path) (made_directory s.files)
+    (λ files. answers (with_files s files) 0))
 
-link-row : (s : State) (i : ℕ) (p : unix.Process) (old new : List ℕ) → path_arg p 0 ≡ Some old → path_arg p 1 ≡ Some new → link_row s i p ≡ with_made s (linked_in s.files p.directory old new)
+link-row : (s : State) (i : ℕ) (p : unix.Process) (old new : List ℕ) → path_arg p 0 ≡ Some old
+    → path_arg p 1 ≡ Some new → link_row s i p ≡ with_made s (linked_in s.files p.directory old new)
 unfolding link_row linked_in
 link-row s i p old new from to = rw (from, to) (go (find s.files p.directory old)) where
-  go : (o : Option ℕ) → given o (λ n. given (spot_of s.files p.directory new) (λ at. with_made s (linked s.files at n))) ≡ with_made s (option_and_then (λ n. option_and_then (λ at. linked s.files at n) (spot_of s.files p.directory new)) o)
+  go : (o : Option ℕ) → given o
+      (λ n. given (spot_of s.files p.directory new) (λ at. with_made s (linked s.files at n)))
+      ≡ with_made s (option_and_then
+      (λ n. option_and_then (λ at. linked s.files at n) (spot_of s.files p.directory new)) o)
   go None = refl
-  go (Some n) = given-then (spot_of s.files p.directory new) (λ at. linked s.files at n) (λ files. answers (with_files s files) 0)
+  go (Some n) = given-then (spot_of s.files p.directory new) (λ at. linked s.files at n)
+      (λ files. answers (with_files s files) 0)
 
 -- more blocks are taken than there are
 pub over-blocks : (s : State) → s.block_limit < blocks_of s.files → is_within s ≡ false
 over-blocks s over =
-    and_left (nat_le (frames_of s) s.frame_limit && nat_le (blocks_of s.files) s.block_limit) (nat_le (opens_of s) open_limit)
+    and_left (nat_le (frames_of s) s.frame_limit && nat_le (blocks_of s.files) s.block_limit)
+        (nat_le (opens_of s) open_limit)
     (and_right (nat_le (frames_of s) s.frame_limit) (nat_le (blocks_of s.files) s.block_limit) (lt-leb _ _ over))
 
 made-over : (s : State) (made : Option Files) → Overflows s.block_limit made → limited (with_made s made) ≡ Refused
 made-over s None over = refl
-made-over s (Some files) over = ap (λ b. provided b (Done (with_files s files) 0 [])) (over-blocks (with_files s files) (over files refl))
+made-over s (Some files) over =
+    ap (λ b. provided b (Done (with_files s files) 0 [])) (over-blocks (with_files s files) (over files refl))
 
 is-device : (fault : TreeFault) → is_device fault ≡ true → fault ≡ Device
 is-device Device is = refl
@@ -147,54 +193,79 @@ abbrev pub ActsNamed : {T : Type 0} → Kernel → Kernel → ℕ → Call → R
 ActsNamed k new i call r = (came : Result Came DeviceFault) → IsNamed r came → ActsOnDisk k new i (Some call) came
 
 -- new is that, and keeps what a kernel keeps
-module _ {k : Kernel} {i : ℕ} (x : Here k i) {new : Kernel} (rest : new ≡ with_tree k new.tree) (sound : IsKernel new) where
+module _ {k : Kernel} {i : ℕ} (x : Here k i) {new : Kernel} (rest : new ≡ with_tree k new.tree) (sound : IsKernel new)
+    where
   pub over-here : new.tree.failed ≡ false → Here new i
   over-here = here-as x sound rest refl
 
   pub tree-state : new.tree.block_limit ≡ k.tree.block_limit → state_of new ≡ with_files (state_of k) new.tree.files
   tree-state limit = ap state_of rest ∙ ap (λ b. record (state_of k) { files = new.tree.files; block_limit = b }) limit
 
-  module _ {T : Type 0} {Done' : T → Type 0} {Bad : Type 0} {Why : TreeFault → Type 0} {r : Result T TreeFault} (acts : tree.Acts k.tree new.tree r Done' Bad Why) (call : Call) where
+  module _ {T : Type 0} {Done' : T → Type 0} {Bad : Type 0} {Why : TreeFault → Type 0} {r : Result T TreeFault}
+      (acts : tree.Acts k.tree new.tree r Done' Bad Why) (call : Call) where
     -- nothing was made: the call is refused, or an access failed
-    pub refused-acts : (Bad → outcome_of (state_of k) i (me x) (Some call) ≡ Refused) → (fault : TreeFault) → r ≡ Err fault → (came : Result Came DeviceFault) → IsRefused fault came → ActsOnDisk k new i (Some call) came
+    pub refused-acts : (Bad → outcome_of (state_of k) i (me x) (Some call) ≡ Refused) → (fault : TreeFault)
+        → r ≡ Err fault → (came : Result Came DeviceFault) → IsRefused fault came → ActsOnDisk k new i (Some call) came
     refused-acts bad fault e (Ok c) is =
         let up : new.tree.failed ≡ false = acts.failed ∙ ap has_failed e ∙ is.1 in
         let why = (rw e at acts.refused) (device-is fault is.1) in
-        rw is.0 (refuses-on (outcome-here x (Some call) ∙ bad why.refused) (tree-state acts.limit ∙ ap (with_files (state_of k)) why.same) (over-here up).run.active sound (record { up = up; same_device = acts.same_device; later = acts.later }))
-    refused-acts bad fault e (Err f) is = record { down = acts.failed ∙ ap has_failed e ∙ is; same_device = acts.same_device; later = acts.later; rises = acts.cause (e ∙ ap Err (is-device fault is)) }
+        rw is.0 (refuses-on (outcome-here x (Some call) ∙ bad why.refused)
+            (tree-state acts.limit ∙ ap (with_files (state_of k)) why.same) (over-here up).run.active sound
+            (record { up = up; same_device = acts.same_device; later = acts.later }))
+    refused-acts bad fault e (Err f) is =
+        record { down = acts.failed ∙ ap has_failed e ∙ is; same_device = acts.same_device; later = acts.later;
+        rises = acts.cause (e ∙ ap Err (is-device fault is)) }
 
-    pub named-acts : ((v : T) → r ≡ Ok v → Acts k new i (Some call) (Answers 0)) → (Bad → outcome_of (state_of k) i (me x) (Some call) ≡ Refused) → ActsNamed k new i call r
+    pub named-acts : ((v : T) → r ≡ Ok v → Acts k new i (Some call) (Answers 0))
+        → (Bad → outcome_of (state_of k) i (me x) (Some call) ≡ Refused) → ActsNamed k new i call r
     named-acts done bad = go r refl where
-      go : (s : Result T TreeFault) → r ≡ s → (came : Result Came DeviceFault) → IsNamed s came → ActsOnDisk k new i (Some call) came
+      go : (s : Result T TreeFault) → r ≡ s → (came : Result Came DeviceFault) → IsNamed s came
+          → ActsOnDisk k new i (Some call) came
       go (Ok v) e came named = rw named (done v e)
       go (Err fault) e came named = refused-acts bad fault e came named
 
     -- the row makes these files, unless they take too many blocks
-    pub makes-acts : {made : Option Files} → row_of x call ≡ with_made (state_of k) made → ((v : T) → Done' v → made ≡ Some new.tree.files) → (Bad → Overflows k.tree.block_limit made)
+    pub makes-acts : {made : Option Files} → row_of x call ≡ with_made (state_of k) made
+        → ((v : T) → Done' v → made ≡ Some new.tree.files) → (Bad → Overflows k.tree.block_limit made)
         → ActsNamed k new i call r
     makes-acts {made} is told bad = named-acts
         (λ v e.
         let up : new.tree.failed ≡ false = acts.failed ∙ ap has_failed e in
-        does x call 0 (over-here up) (record { up = up; same_device = acts.same_device; later = acts.later }) (is ∙ ap (with_made (state_of k)) (told v (rw e at acts.done)) ∙ ap (λ (s : State). Done s 0 []) (sym (tree-state acts.limit))))
+        does x call 0 (over-here up) (record { up = up; same_device = acts.same_device; later = acts.later })
+            (is ∙ ap (with_made (state_of k)) (told v (rw e at acts.done))
+            ∙ ap (λ (s : State). Done s 0 []) (sym (tree-state acts.limit))))
         (λ b. ap limited is ∙ made-over (state_of k) made (bad b))
 
 -- ---- the calls
 
 module _ {k : Kernel} {i : ℕ} (x : Here k i) where
-  pub link-newless : {old : List ℕ} → Some old ≡ path_argument k i 0 → None ≡ path_argument k i 1 → Acts k k i (Some Link) Refuses
+  pub link-newless : {old : List ℕ} → Some old ≡ path_argument k i 0 → None ≡ path_argument k i 1
+      → Acts k k i (Some Link) Refuses
   unfolding link_row
-  link-newless some none = let from = path-is x 0 some in let to = path-is x 1 none in refused x (Some Link) (rw (from, to) refl)
+  link-newless some none = let from = path-is x 0 some in let to =
+      path-is x 1 none in refused x (Some Link) (rw (from, to) refl)
 
-  module _ {path : List ℕ} (is : Some path ≡ path_argument k i 0) {new : Kernel} (rest : new ≡ with_tree k new.tree) (sound : IsKernel new) where
-    pub mknod-acts : {a b : ℕ} → a ≡ argument k 1 → b ≡ argument k 2 → {r : Result ℕ TreeFault} → MakesNode k.tree new.tree (directory_at k i) path (leaf_node (leaf.Device (a % 65536) (b % 65536))) r
+  module _ {path : List ℕ} (is : Some path ≡ path_argument k i 0) {new : Kernel} (rest : new ≡ with_tree k new.tree)
+      (sound : IsKernel new) where
+    pub mknod-acts : {a b : ℕ} → a ≡ argument k 1 → b ≡ argument k 2 → {r : Result ℕ TreeFault}
+        → MakesNode k.tree new.tree (directory_at k i) path (leaf_node (leaf.Device (a % 65536) (b % 65536))) r
         → ActsNamed k new i Mknod r
-    mknod-acts first second acts = makes-acts x rest sound acts Mknod (rw (first, second, home-is x) (mknod-row (state_of k) i (me x) path (path-is x 0 is))) (λ v made. ap made_files made) (λ over. over)
+    mknod-acts first second acts =
+        makes-acts x rest sound acts Mknod
+        (rw (first, second, home-is x) (mknod-row (state_of k) i (me x) path (path-is x 0 is)))
+        (λ v made. ap made_files made) (λ over. over)
 
-    pub mkdir-acts : {r : Result (Unit {0}) TreeFault} → MakesDirectory k.tree new.tree (directory_at k i) path r → ActsNamed k new i Mkdir r
-    mkdir-acts acts = makes-acts x rest sound acts Mkdir (rw (home-is x) (mkdir-row (state_of k) i (me x) path (path-is x 0 is))) (λ v made. made) (λ over. over)
+    pub mkdir-acts : {r : Result (Unit {0}) TreeFault} → MakesDirectory k.tree new.tree (directory_at k i) path r
+        → ActsNamed k new i Mkdir r
+    mkdir-acts acts = makes-acts x rest sound acts Mkdir
+        (rw (home-is x) (mkdir-row (state_of k) i (me x) path (path-is x 0 is))) (λ v made. made) (λ over. over)
 
-    pub link-acts : {to : List ℕ} → Some to ≡ path_argument k i 1 → {r : Result (Unit {0}) TreeFault} → MakesLink k.tree new.tree (directory_at k i) path to r → ActsNamed k new i Link r
-    link-acts {to} second acts = makes-acts x rest sound acts Link (rw (home-is x) (link-row (state_of k) i (me x) path to (path-is x 0 is) (path-is x 1 second))) (λ v made. made) (λ over. over)
+    pub link-acts : {to : List ℕ} → Some to ≡ path_argument k i 1 → {r : Result (Unit {0}) TreeFault}
+        → MakesLink k.tree new.tree (directory_at k i) path to r → ActsNamed k new i Link r
+    link-acts {to} second acts =
+        makes-acts x rest sound acts Link
+        (rw (home-is x) (link-row (state_of k) i (me x) path to (path-is x 0 is) (path-is x 1 second)))
+        (λ v made. made) (λ over. over)
 
 -- ---- unlink: a name less, and its node is given up where nothing keeps it any more
 
@@ -204,19 +275,26 @@ module _ {k : Kernel} {i : ℕ} (x : Here k i) where
 abbrev nameless : Files → ℕ → List ℕ → Option Files
 nameless files d path = option_and_then (unlinked files) (spot_of files d path)
 
-unlink-row : (s : State) (i : ℕ) (p : unix.Process) (path : List ℕ) → path_arg p 0 ≡ Some path → unlink_row s i p ≡ with_made s (nameless s.files p.directory path)
+unlink-row : (s : State) (i : ℕ) (p : unix.Process) (path : List ℕ) → path_arg p 0 ≡ Some path
+    → unlink_row s i p ≡ with_made s (nameless s.files p.directory path)
 unfolding unlink_row
-unlink-row s i p path at = rw at (given-then (spot_of s.files p.directory path) (unlinked s.files) (λ files. answers (with_files s files) 0))
+unlink-row s i p path at =
+    rw at (given-then (spot_of s.files p.directory path) (unlinked s.files) (λ files. answers (with_files s files) 0))
 
 -- where the tree takes no name away the row doesn't
-nameless-none : (holds : List ℕ) (files : Files) (d : ℕ) (path : List ℕ) → unlinked_in holds files d path ≡ None → nameless files d path ≡ None
+nameless-none : (holds : List ℕ) (files : Files) (d : ℕ) (path : List ℕ) → unlinked_in holds files d path ≡ None
+    → nameless files d path ≡ None
 unfolding unlinked_in
 nameless-none holds files d path none = go (spot_of files d path) none where
-  taken : (at : Spot) → option_and_then (λ n. option_map (λ (less : Files). let_go holds less n) (unlinked files at)) (lookup files at.directory at.name) ≡ None → (o : Option Files) → unlinked files at ≡ o → o ≡ None
+  taken : (at : Spot) → option_and_then (λ n. option_map (λ (less : Files). let_go holds less n) (unlinked files at))
+      (lookup files at.directory at.name) ≡ None → (o : Option Files) → unlinked files at ≡ o → o ≡ None
   taken at h None e = refl
-  taken at h (Some more) e = let u = unlink-parts files at more e in absurd (none-some (let_go holds more u.number) (sym h ∙ rw (u.found, e) refl))
+  taken at h (Some more) e = let u =
+      unlink-parts files at more e in absurd (none-some (let_go holds more u.number) (sym h ∙ rw (u.found, e) refl))
 
-  go : (o : Option Spot) → option_and_then (λ at. option_and_then (λ n. option_map (λ (less : Files). let_go holds less n) (unlinked files at)) (lookup files at.directory at.name)) o ≡ None → option_and_then (unlinked files) o ≡ None
+  go : (o : Option Spot) → option_and_then
+      (λ at. option_and_then (λ n. option_map (λ (less : Files). let_go holds less n) (unlinked files at))
+      (lookup files at.directory at.name)) o ≡ None → option_and_then (unlinked files) o ≡ None
   go None h = refl
   go (Some at) h = taken at h (unlinked files at) refl
 
@@ -228,7 +306,8 @@ record IsLess (files less : Files) : Type 0 where
   pub none : (m : ℕ) → slot files m ≡ None → slot less m ≡ None
 
 less-then : {a b c : Files} → IsLess a b → IsLess b c → IsLess a c
-less-then first second = record { blocks = second.blocks ∙ first.blocks; none = λ m gone. second.none m (first.none m gone) }
+less-then first second =
+    record { blocks = second.blocks ∙ first.blocks; none = λ m gone. second.none m (first.none m gone) }
 
 fewer-size : (x : Node) → size_of (fewer_links x) ≡ size_of x
 fewer-size (File links bytes) = refl
@@ -238,9 +317,13 @@ placeless-size : (k : ℕ) (x : Node) → size_of (without_place k x) ≡ size_o
 placeless-size k (Directory links places) = ap (λ n. 16 * n) (length-set places k None)
 placeless-size k _ = refl
 
-changed-less : (files : Files) (n : ℕ) (f : Node → Node) → ((x : Node) → size_of (f x) ≡ size_of x) → IsLess files (change_node files n f)
+changed-less : (files : Files) (n : ℕ) (f : Node → Node) → ((x : Node) → size_of (f x) ≡ size_of x)
+    → IsLess files (change_node files n f)
 unfolding blocks_of
-changed-less files n f sized = record { blocks = sum-altered (λ (x : Node). blocks_for (size_of x)) f (λ x. ap blocks_for (sized x)) files n; none = all-set (λ m o. slot files m ≡ None → o ≡ None) files n (option_map f (slot files n)) (λ gone. ap (option_map f) gone) (λ m gone. gone) }
+changed-less files n f sized =
+    record { blocks = sum-altered (λ (x : Node). blocks_for (size_of x)) f (λ x. ap blocks_for (sized x)) files n;
+    none = all-set (λ m o. slot files m ≡ None → o ≡ None) files n (option_map f (slot files n))
+    (λ gone. ap (option_map f) gone) (λ m gone. gone) }
 
 erased-less : (files : Files) (d k : ℕ) → IsLess files (erase files d k)
 unfolding erase
@@ -251,22 +334,31 @@ named-less files d k n node = go (is_directory node) where
   less : IsLess files (change_node (erase files d k) n fewer_links)
   less = less-then (erased-less files d k) (changed-less (erase files d k) n fewer_links fewer-size)
 
-  go : (b : Bool) → IsLess files (if b then change_node (change_node (erase files d k) n fewer_links) d fewer_links else change_node (erase files d k) n fewer_links)
+  go : (b : Bool) → IsLess files
+      (if b then change_node (change_node (erase files d k) n fewer_links) d fewer_links
+      else change_node (erase files d k) n fewer_links)
   go true = less-then less (changed-less (change_node (erase files d k) n fewer_links) d fewer_links fewer-size)
   go false = less
 
 unlinked-less : (files : Files) (at : Spot) (more : Files) → unlinked files at ≡ Some more → IsLess files more
-unlinked-less files at more h = let u = unlink-parts files at more h in subst (IsLess files) (sym u.is) (named-less files at.directory u.place u.number u.node)
+unlinked-less files at more h = let u =
+    unlink-parts files at more h
+    in subst (IsLess files) (sym u.is) (named-less files at.directory u.place u.number u.node)
 
 -- files that take as many blocks are within the limits as well
-within-files : (s : State) (files : Files) → blocks_of files ≡ blocks_of s.files → is_within (with_files s files) ≡ is_within s
+within-files : (s : State) (files : Files) → blocks_of files ≡ blocks_of s.files
+    → is_within (with_files s files) ≡ is_within s
 unfolding frames_of
-within-files s files same = ap (λ n. nat_le (frames_of s) s.frame_limit && nat_le n s.block_limit && nat_le (opens_of s) open_limit) same
+within-files s files same =
+    ap (λ n. nat_le (frames_of s) s.frame_limit && nat_le n s.block_limit && nat_le (opens_of s) open_limit) same
 
 -- ---- the kernel with a name less
 
-module _ {k : Kernel} {i : ℕ} (x : Here k i) (d : ℕ) (path : List ℕ) {to : Kernel} (rest : to ≡ with_tree k to.tree) (sound : IsKernel to) (made : unlinked_in k.tree.holds k.tree.files d path ≡ Some to.tree.files)
-    (limit : to.tree.block_limit ≡ k.tree.block_limit) (holds : to.tree.holds ≡ k.tree.holds) (up : to.tree.failed ≡ false) (device : to.tree.identity ≡ k.tree.identity) (later : k.tree.failures ≤ to.tree.failures) where
+module _ {k : Kernel} {i : ℕ} (x : Here k i) (d : ℕ) (path : List ℕ) {to : Kernel} (rest : to ≡ with_tree k to.tree)
+    (sound : IsKernel to) (made : unlinked_in k.tree.holds k.tree.files d path ≡ Some to.tree.files)
+    (limit : to.tree.block_limit ≡ k.tree.block_limit) (holds : to.tree.holds ≡ k.tree.holds)
+        (up : to.tree.failed ≡ false) (device : to.tree.identity ≡ k.tree.identity)
+        (later : k.tree.failures ≤ to.tree.failures) where
   abbrev g : Reaps k.tree.holds k.tree.files d path to.tree.files
   g = reaps (x.sound.used x.up) to.tree d path made
 
@@ -291,8 +383,12 @@ module _ {k : Kernel} {i : ℕ} (x : Here k i) (d : ℕ) (path : List ℕ) {to :
       (kept-cong (λ n node. nat_lt 0 (links_of node) || is_used full n) (is_by to.tree.holds) 0 g.less (λ a j y e at.
       let same : j ≡ a = omega (arith, e) in
       let used = x.sound.used x.up in
-      let some : j ≢ 0 = λ z. none-some y (sym ((unlinked-less k.tree.files g.at g.less g.made).none 0 used.zero) ∙ ap (slot g.less) (sym z ∙ same) ∙ at) in
-      ap (λ b. nat_lt 0 (links_of y) || b) (used-is new.files (loaded new).places new.spaces.places (away-loaded new last.sound) full refl refl j some ∙ ap (nat_lt 0) (sym (now.holds j))))
+      let some : j ≢ 0 = λ z. none-some y
+              (sym ((unlinked-less k.tree.files g.at g.less g.made).none 0 used.zero) ∙ ap (slot g.less) (sym z ∙ same)
+              ∙ at) in
+      ap (λ b. nat_lt 0 (links_of y) || b)
+          (used-is new.files (loaded new).places new.spaces.places (away-loaded new last.sound) full refl refl j some
+          ∙ ap (nat_lt 0) (sym (now.holds j))))
       ∙ ap (λ hs. kept (is_by hs) 0 g.less) holds
       ∙ sym (kept-is (x.sound.used x.up) to.tree d path made))
 
@@ -301,28 +397,42 @@ module _ {k : Kernel} {i : ℕ} (x : Here k i) (d : ℕ) (path : List ℕ) {to :
   reaped =
       let new = answered to 0 in
       let opened = opened-loaded new last.sound in
-      let counts : Counts new.files full.places = counts-joined new.files (loaded new).places new.spaces.places opened.counted in
+      let counts : Counts new.files full.places =
+              counts-joined new.files (loaded new).places new.spaces.places opened.counted in
       let opens : without_opens full ≡ full = without_opens-same full new.files opened.table counts in
       let pipes : without_pipes full ≡ full = without_pipes-same full opened.piped in
       ap (λ (s : State). without_nodes (without_pipes s)) opens ∙ ap without_nodes pipes ∙ nodes-reaped
 
-  unlinks : row_of x Unlink ≡ with_made (state_of k) (nameless k.tree.files d path) → Acts k to i (Some Unlink) (Answers 0)
+  unlinks : row_of x Unlink ≡ with_made (state_of k) (nameless k.tree.files d path)
+      → Acts k to i (Some Unlink) (Answers 0)
   unlinks makes =
       let answered-is : change_process (with_files (state_of k) g.less) i (with_answer 0) ≡ full =
-      ap (λ (s : State). change_process (with_files s g.less) i (with_answer 0)) (sym (tree-state x rest sound limit)) ∙ ap (λ (s : State). with_files s g.less) (answer-here here-then 0) in
-      let within : is_within (with_files (state_of k) g.less) ≡ true = within-files (state_of k) g.less (unlinked-less k.tree.files g.at g.less g.made).blocks ∙ within-state k x.sound x.up in
-      let settled : settle (state_of k) i (limited (Done (with_files (state_of k) g.less) 0 [])) ≡ quiet (state_of (answered to 0)) =
-      rw within (settle-reaped (state_of k) (with_files (state_of k) g.less) i 0 [] answered-is (process-here last) (free-here here-then) reaped) in
+      ap (λ (s : State). change_process (with_files s g.less) i (with_answer 0)) (sym (tree-state x rest sound limit))
+          ∙ ap (λ (s : State). with_files s g.less) (answer-here here-then 0) in
+      let within : is_within (with_files (state_of k) g.less) ≡ true =
+              within-files (state_of k) g.less (unlinked-less k.tree.files g.at g.less g.made).blocks
+              ∙ within-state k x.sound x.up in
+      let settled : settle (state_of k) i (limited (Done (with_files (state_of k) g.less) 0 []))
+              ≡ quiet (state_of (answered to 0)) =
+      rw within (settle-reaped (state_of k) (with_files (state_of k) g.less) i 0 [] answered-is (process-here last)
+          (free-here here-then) reaped) in
       settles x Unlink 0 here-then (record { up = up; same_device = device; later = later })
-      (ap (λ (o : Outcome). settle (state_of k) i (limited o)) (makes ∙ ap (with_made (state_of k)) (ap (option_and_then (unlinked k.tree.files)) g.spot ∙ g.made)) ∙ settled)
+      (ap (λ (o : Outcome). settle (state_of k) i (limited o))
+          (makes ∙ ap (with_made (state_of k)) (ap (option_and_then (unlinked k.tree.files)) g.spot ∙ g.made))
+          ∙ settled)
 
 -- ---- the process that calls
 
-module _ {k : Kernel} {i : ℕ} (x : Here k i) {path : List ℕ} (is : Some path ≡ path_argument k i 0) {new : Kernel} (rest : new ≡ with_tree k new.tree) (sound : IsKernel new) where
+module _ {k : Kernel} {i : ℕ} (x : Here k i) {path : List ℕ} (is : Some path ≡ path_argument k i 0) {new : Kernel}
+    (rest : new ≡ with_tree k new.tree) (sound : IsKernel new) where
   unlink-makes : row_of x Unlink ≡ with_made (state_of k) (nameless k.tree.files (directory_at k i) path)
   unlink-makes = rw (home-is x) (unlink-row (state_of k) i (me x) path (path-is x 0 is))
 
-  pub unlink-acts : {r : Result (Unit {0}) TreeFault} → TakesName k.tree new.tree (directory_at k i) path r → ActsNamed k new i Unlink r
+  pub unlink-acts : {r : Result (Unit {0}) TreeFault} → TakesName k.tree new.tree (directory_at k i) path r
+      → ActsNamed k new i Unlink r
   unlink-acts acts = named-acts x rest sound acts Unlink
-      (λ v e. unlinks x (directory_at k i) path rest sound (rw e at acts.done) acts.limit acts.holds (acts.failed ∙ ap has_failed e) acts.same_device acts.later unlink-makes)
-      (λ none. ap limited unlink-makes ∙ ap (λ (o : Option Files). limited (with_made (state_of k) o)) (nameless-none k.tree.holds k.tree.files (directory_at k i) path none))
+      (λ v e. unlinks x (directory_at k i) path rest sound (rw e at acts.done) acts.limit acts.holds
+          (acts.failed ∙ ap has_failed e) acts.same_device acts.later unlink-makes)
+      (λ none. ap limited unlink-makes
+          ∙ ap (λ (o : Option Files). limited (with_made (state_of k) o))
+          (nameless-none k.tree.holds k.tree.files (directory_at k i) path none))

@@ -1,11 +1,21 @@
 -- open, chdir and exec: a node is opened, comes to be the directory of the running process, or gives its program.
-use Rattle.calls.proofs.Common.{[], Acts, ActsOnDisk, and_parts, answered, answered-here, Answers, answers, ap, args_at, argument, arith, blocks_of, Bool, Came, change_node, Chdir, chdir_row, count_by, descriptors_in, DeviceFault}
-use Rattle.calls.proofs.Common.{Directory, directory_at, Done, enter-parts, Err, Exec, exec_row, false, false≢true, File, file_bytes, file_of, Files, FileTree, find, fits_beside, FitsNode, frames-state, free-None, free-opens, free_count}
-use Rattle.calls.proofs.Common.{free_slot, get_or-set_other, get_or-set_same, given, has_bit, has_failed, has_seat, HasRead, HasReplaced, held-here, Here, here-as, here-of, if◌then◌else◌, inl, InodeStat, inr, is_directory, is_none}
-use Rattle.calls.proofs.Common.{IsFolder, IsKernel, IsRefused, IsServed, IsWhole, Kernel, kind_of, le-leb, le_trans, leaf_node, length, limited, List, low, lt-leb, Made, made_at, made_files, made_in, make-parts, MakesNode, me, nat_le}
-use Rattle.calls.proofs.Common.{nat_lt, ne_eqb, Node, node_on, None, none-some, not, Ok, OnNode, Open, open_row, Option, option_and_then, option_and_then_some, option_map, Outcome, outcome_of, Overflows, page_frames, path_argument, Process}
-use Rattle.calls.proofs.Common.{process-here, provided, put, put_process, Reaches, refl, Refused, Refuses, replaced, Result, row_of, Runs, same_Some, set-slot, settle, slice_index, slice_set, slot, slot-within, Some, Spot, spot_of, State}
-use Rattle.calls.proofs.Common.{state-but, state_of, subst, suc, sym, target_of, Tells, TellsMajor, TreeFault, true, view_at, with_tree, WorksIn, ℕ, ◌%◌, ◌+◌, ◌<◌, ◌==◌, ◌||◌, ◌∙◌, ◌≡◌, ◌≢◌, ◌≤◌}
+use Rattle.calls.proofs.Common.{[], Acts, ActsOnDisk, and_parts, answered, answered-here, Answers, answers, ap, args_at}
+use Rattle.calls.proofs.Common.{argument, arith, blocks_of, Bool, Came, change_node, Chdir, chdir_row, count_by}
+use Rattle.calls.proofs.Common.{descriptors_in, DeviceFault, Directory, directory_at, Done, enter-parts, Err, Exec}
+use Rattle.calls.proofs.Common.{exec_row, false, false≢true, File, file_bytes, file_of, Files, FileTree, find}
+use Rattle.calls.proofs.Common.{fits_beside, FitsNode, frames-state, free-None, free-opens, free_count, free_slot}
+use Rattle.calls.proofs.Common.{get_or-set_other, get_or-set_same, given, has_bit, has_failed, has_seat, HasRead}
+use Rattle.calls.proofs.Common.{HasReplaced, held-here, Here, here-as, here-of, if◌then◌else◌, inl, InodeStat, inr}
+use Rattle.calls.proofs.Common.{is_directory, is_none, IsFolder, IsKernel, IsRefused, IsServed, IsWhole, Kernel}
+use Rattle.calls.proofs.Common.{kind_of, le-leb, le_trans, leaf_node, length, limited, List, low, lt-leb, Made, made_at}
+use Rattle.calls.proofs.Common.{made_files, made_in, make-parts, MakesNode, me, nat_le, nat_lt, ne_eqb, Node, node_on}
+use Rattle.calls.proofs.Common.{None, none-some, not, Ok, OnNode, Open, open_row, Option, option_and_then}
+use Rattle.calls.proofs.Common.{option_and_then_some, option_map, Outcome, outcome_of, Overflows, page_frames}
+use Rattle.calls.proofs.Common.{path_argument, Process, process-here, provided, put, put_process, Reaches, refl}
+use Rattle.calls.proofs.Common.{Refused, Refuses, replaced, Result, row_of, Runs, same_Some, set-slot, settle}
+use Rattle.calls.proofs.Common.{slice_index, slice_set, slot, slot-within, Some, Spot, spot_of, State, state-but}
+use Rattle.calls.proofs.Common.{state_of, subst, suc, sym, target_of, Tells, TellsMajor, TreeFault, true, view_at}
+use Rattle.calls.proofs.Common.{with_tree, WorksIn, ℕ, ◌%◌, ◌+◌, ◌<◌, ◌==◌, ◌||◌, ◌∙◌, ◌≡◌, ◌≢◌, ◌≤◌}
 use Rattle.kernel.specs.Opening.{free_descriptors, MayOpen, opened_on, OpensOn}
 use Rattle.std.proofs.lemmas.Bool.{cases_eq, eqb-true, lt-ltb, ltb-true}
 use Rattle.calls.specs.Opened.{Asks, cut_tree, file_by, IsCut, IsOpenable, may_open_by, Opens, target_by, with_open}
@@ -14,7 +24,8 @@ use Rattle.files.specs.declared.file.OpenFile.{OpenFile}
 use Rattle.files.specs.Places.{opens_of}
 use Rattle.names.proofs.Finding.{spot-absent}
 use Rattle.unixmodel.specs.Files.Node.{Device}
-use Rattle.unixmodel.specs.NameCalls.{opened, creates, emptied, found_or_made, may_open, new_file, truncated, truncates, make_at}
+use Rattle.unixmodel.specs.NameCalls.{opened, creates, emptied, found_or_made, may_open, new_file, truncated, truncates}
+use Rattle.unixmodel.specs.NameCalls.{make_at}
 use Rattle.calls.proofs.Acts.{does, given-refused, provided-refused, refused, runs-of, settles, settles-gone}
 use Rattle.calls.proofs.Names.{found-here, home-is, node-here, over-blocks, path-is, refused-acts, refused-read}
 use Rattle.files.specs.declared.file.Target.TheVariants as target
@@ -30,9 +41,11 @@ use Rattle.kernel.proofs.Forking.{replaced-state}
 
 -- ---- flags and types
 
-target-of : (n kind major : ℕ) → (target_of (target_by n kind major) ≡ OnNode n 0) × (node_on (target_by n kind major) ≡ Some n)
+target-of : (n kind major : ℕ)
+    → (target_of (target_by n kind major) ≡ OnNode n 0) × (node_on (target_by n kind major) ≡ Some n)
 target-of n kind major = go (kind == 3) (major == 1) where
-  go : (a b : Bool) → (target_of (if a then (if b then target.Console n else target.Device n) else target.File n 0) ≡ OnNode n 0)
+  go : (a b : Bool) → (target_of (if a then (if b then target.Console n else target.Device n) else target.File n 0)
+      ≡ OnNode n 0)
       × (node_on (if a then (if b then target.Console n else target.Device n) else target.File n 0) ≡ Some n)
   go true true = (refl, refl)
   go true false = (refl, refl)
@@ -40,37 +53,53 @@ target-of n kind major = go (kind == 3) (major == 1) where
 
 -- that is the open file of the row
 file-by : (f n kind major : ℕ) → file_of (file_by f (target_by n kind major)) ≡ opened f n
-file-by f n kind major = ap (λ (t : unix_files.Target). let g : unix_files.OpenFile = record { target = t; readable = not (has_bit f 0); writable = has_bit f 0 || has_bit f 1 } in g) (target-of n kind major).0
+file-by f n kind major =
+    ap (λ (t : unix_files.Target).
+    let g : unix_files.OpenFile =
+    record { target = t; readable = not (has_bit f 0); writable = has_bit f 0 || has_bit f 1 } in g)
+    (target-of n kind major).0
 
-may-by : (f : ℕ) (node : Node) (kind major : ℕ) → kind ≡ kind_of node → TellsMajor major node → may_open_by f kind major ≡ may_open f node
+may-by : (f : ℕ) (node : Node) (kind major : ℕ) → kind ≡ kind_of node → TellsMajor major node
+    → may_open_by f kind major ≡ may_open f node
 may-by f (Device links a b) kind major e m = rw (e, m) refl
 may-by f node kind major e m = rw e refl
 
-device-fits : (f : OpenFile) (n links a b : ℕ) (c : Bool) → (a == 1) ≡ c → FitsNode f (if c then target.Console n else target.Device n) (Some (Device links a b))
+device-fits : (f : OpenFile) (n links a b : ℕ) (c : Bool) → (a == 1) ≡ c
+    → FitsNode f (if c then target.Console n else target.Device n) (Some (Device links a b))
 device-fits f n links a b true e = eqb-true a 1 e
 device-fits f n links a b false e = e
 
-fits-by : (f n : ℕ) (node : Node) (kind major : ℕ) → kind ≡ kind_of node → TellsMajor major node → may_open f node ≡ true → FitsNode (file_by f (target_by n kind major)) (target_by n kind major) (Some node)
+fits-by : (f n : ℕ) (node : Node) (kind major : ℕ) → kind ≡ kind_of node → TellsMajor major node
+    → may_open f node ≡ true → FitsNode (file_by f (target_by n kind major)) (target_by n kind major) (Some node)
 fits-by f n (File links bytes) kind major e m may = rw e (omega arith)
-fits-by f n (Device links a b) kind major e m may = rw (e, m) (device-fits (file_by f (target_by n 3 a)) n links a b (a == 1) refl)
-fits-by f n (Directory links places) kind major e m may = let zero' : f ≡ 0 = eqb-true f 0 may in rw (e, zero') (omega arith, refl)
+fits-by f n (Device links a b) kind major e m may =
+    rw (e, m) (device-fits (file_by f (target_by n 3 a)) n links a b (a == 1) refl)
+fits-by f n (Directory links places) kind major e m may = let zero' : f ≡ 0 =
+    eqb-true f 0 may in rw (e, zero') (omega arith, refl)
 
-pub openable-told : (files : Files) (n f : ℕ) (told : InodeStat) → (node : Node) × (slot files n ≡ Some node) → ((node : Node) → slot files n ≡ Some node → Tells told node) → may_open_by f told.kind told.major ≡ true → IsOpenable files n f told
+pub openable-told : (files : Files) (n f : ℕ) (told : InodeStat) → (node : Node) × (slot files n ≡ Some node)
+    → ((node : Node) → slot files n ≡ Some node → Tells told node) → may_open_by f told.kind told.major ≡ true
+    → IsOpenable files n f told
 openable-told files n f told here tells may =
     let t = tells here.0 here.1 in
-    record { node = here.0; here = here.1; kind = t.0; major = t.3; may = sym (may-by f here.0 told.kind told.major t.0 t.3) ∙ may }
+    record { node = here.0; here = here.1; kind = t.0; major = t.3;
+        may = sym (may-by f here.0 told.kind told.major t.0 t.3) ∙ may }
 
 -- a file that is emptied stays of its type
-emptied-same : (node : Node) → (kind_of (emptied node) ≡ kind_of node) × ((m : ℕ) → TellsMajor m node → TellsMajor m (emptied node)) × ((f : ℕ) → may_open f (emptied node) ≡ may_open f node)
+emptied-same : (node : Node)
+    → (kind_of (emptied node) ≡ kind_of node) × ((m : ℕ) → TellsMajor m node → TellsMajor m (emptied node))
+    × ((f : ℕ) → may_open f (emptied node) ≡ may_open f node)
 emptied-same (File links bytes) = (refl, λ m is. is, λ f. refl)
 emptied-same node = (refl, λ m is. is, λ f. refl)
 
-openable-cut : (files : Files) (n f : ℕ) (told : InodeStat) → IsOpenable files n f told → IsOpenable (truncated f (record { files = files; number = n })) n f told
+openable-cut : (files : Files) (n f : ℕ) (told : InodeStat) → IsOpenable files n f told
+    → IsOpenable (truncated f (record { files = files; number = n })) n f told
 openable-cut files n f told is = go (truncates f) where
   go : (b : Bool) → IsOpenable (if b then change_node files n emptied else files) n f told
   go true = record {
     node = emptied is.node;
-    here = get_or-set_same files n (option_map emptied (slot files n)) None (slot-within files n is.node is.here) ∙ ap (option_map emptied) is.here;
+    here = get_or-set_same files n (option_map emptied (slot files n)) None (slot-within files n is.node is.here)
+        ∙ ap (option_map emptied) is.here;
     kind = is.kind ∙ sym (emptied-same is.node).0;
     major = (emptied-same is.node).1 told.major is.major;
     may = (emptied-same is.node).2 f ∙ is.may;
@@ -87,7 +116,8 @@ some-place xs n at = elim (cases_eq (count_by is_none xs) 0) [
 
 -- ---- the kernel with one open file more
 
-module _ {k : Kernel} {i : ℕ} (runs : Runs k i) {n f : ℕ} {told : InodeStat} (is : IsOpenable k.tree.files n f told) where
+module _ {k : Kernel} {i : ℕ} (runs : Runs k i) {n f : ℕ} {told : InodeStat} (is : IsOpenable k.tree.files n f told)
+    where
   abbrev g : OpenFile
   g = file_by f (target_by n told.kind told.major)
 
@@ -112,34 +142,48 @@ module _ {k : Kernel} {i : ℕ} (runs : Runs k i) {n f : ℕ} {told : InodeStat}
         free = o.free;
         state = λ p at.
             state-but (opened_on k i n g o.place fd) o.same ∙ open-state x.runner g o.place fd n
-            ∙ ap (λ (y : unix.Process). with_open (state_of k) i y fd o.place (file_of g)) (same_Some (me x) p (sym (process-here x) ∙ at)) ∙ ap (with_open (state_of k) i p fd o.place) (file-by f n told.kind told.major);
-        runs = subst (λ (y : Kernel). Runs y i) (sym o.same) (record { active = runs.active; up = runs.up; sound = subst IsKernel o.same sound; zero = runs.zero; aligned = runs.aligned });
+            ∙ ap (λ (y : unix.Process). with_open (state_of k) i y fd o.place (file_of g))
+                (same_Some (me x) p (sym (process-here x) ∙ at))
+                ∙ ap (with_open (state_of k) i p fd o.place) (file-by f n told.kind told.major);
+        runs = subst (λ (y : Kernel). Runs y i) (sym o.same)
+            (record { active = runs.active; up = runs.up; sound = subst IsKernel o.same sound; zero = runs.zero;
+            aligned = runs.aligned });
         served = rw o.same (record { up = runs.up; same_device = refl; later = omega arith });
       }
 
 -- ---- a file that is emptied
 
 pub cut-runs : {old new : Kernel} {f n i : ℕ} → IsCut old new f n → Runs old i → Runs new i
-cut-runs {i = i} cut runs = subst (λ (y : Kernel). Runs y i) (sym cut.same) (record { active = runs.active; up = runs.up; sound = subst IsKernel cut.same cut.sound; zero = runs.zero; aligned = runs.aligned })
+cut-runs {i = i} cut runs =
+    subst (λ (y : Kernel). Runs y i) (sym cut.same)
+    (record { active = runs.active; up = runs.up; sound = subst IsKernel cut.same cut.sound; zero = runs.zero;
+    aligned = runs.aligned })
 
 -- ---- a new file
 
-made-new : (files : Files) (at : Spot) (made : Made) → make_at files at new_file ≡ Some made → slot made.files made.number ≡ Some (File 1 [])
+made-new : (files : Files) (at : Spot) (made : Made) → make_at files at new_file ≡ Some made
+    → slot made.files made.number ≡ Some (File 1 [])
 made-new files at made h =
     let n = made.number in
     let is = make-parts files at new_file made h in
     let e = enter-parts (put files n (File 1 [])) at n made.files is.entered in
-    let self : slot (put files n (File 1 [])) n ≡ Some (File 1 []) = get_or-set_same files n (Some (File 1 [])) None is.free.within in
+    let self : slot (put files n (File 1 [])) n ≡ Some (File 1 []) =
+            get_or-set_same files n (Some (File 1 [])) None is.free.within in
     elim (cases_eq n at.directory) [
-      | inl same ↦ absurd (let bad : 2 ≡ 1 = ap kind_of (same_Some (File 1 []) (Directory (suc e.links) e.places) (sym self ∙ ap (slot (put files n (File 1 []))) same ∙ e.here)) in omega (arith, bad))
-      | inr other ↦ ap (λ fs. slot fs n) e.is ∙ get_or-set_other (put files n (File 1 [])) at.directory n (Some (Directory (suc e.links) e.next)) None other ∙ self
+      | inl same ↦ absurd (let bad : 2
+          ≡ 1 = ap kind_of (same_Some (File 1 []) (Directory (suc e.links) e.places)
+          (sym self ∙ ap (slot (put files n (File 1 []))) same ∙ e.here)) in omega (arith, bad))
+      | inr other ↦ ap (λ fs. slot fs n) e.is
+          ∙ get_or-set_other (put files n (File 1 [])) at.directory n (Some (Directory (suc e.links) e.next)) None
+          other ∙ self
     ]
 
 -- it is empty already
 truncated-new : (f : ℕ) (got : Made) → slot got.files got.number ≡ Some (File 1 []) → truncated f got ≡ got.files
 truncated-new f got here = go (truncates f) where
   go : (b : Bool) → (if b then change_node got.files got.number emptied else got.files) ≡ got.files
-  go true = ap (λ (o : Option Node). slice_set got.files got.number (option_map emptied o)) here ∙ set-slot got.files got.number (Some (File 1 [])) here
+  go true = ap (λ (o : Option Node). slice_set got.files got.number (option_map emptied o)) here
+      ∙ set-slot got.files got.number (Some (File 1 [])) here
   go false = refl
 
 -- ---- the row
@@ -156,31 +200,48 @@ abbrev opens_got : State → ℕ → unix.Process → ℕ → Made → Outcome
 opens_got s i p f got = given (slot got.files got.number) λ node. provided (may_open f node) (opens_seat s i p f got)
 
 module _ {k : Kernel} {i : ℕ} (x : Here k i) where
-  open-row : {path : List ℕ} (f : ℕ) (o : Option ℕ) → Asks k i path f o → row_of x Open ≡ given (found_or_made k.tree.files x.process.directory path f o) (opens_got (state_of k) i (me x) f)
+  open-row : {path : List ℕ} (f : ℕ) (o : Option ℕ) → Asks k i path f o
+      → row_of x Open ≡ given (found_or_made k.tree.files x.process.directory path f o)
+      (opens_got (state_of k) i (me x) f)
   unfolding open_row
-  open-row {path} f o asks = let at = path-is x 0 asks.named in let found = found-here x path asks.found in rw (asks.flags, at, found) refl
+  open-row {path} f o asks = let at = path-is x 0 asks.named in let found =
+      found-here x path asks.found in rw (asks.flags, at, found) refl
 
   -- no descriptor or no place is free
-  full : has_seat k i ≡ false → (f : ℕ) (made : Option Made) → limited (given made (opens_got (state_of k) i (me x) f)) ≡ Refused
+  full : has_seat k i ≡ false → (f : ℕ) (made : Option Made)
+      → limited (given made (opens_got (state_of k) i (me x) f)) ≡ Refused
   full none f made =
-      given-refused made _ (λ got e1. given-refused (slot got.files got.number) _ (λ node e2. provided-refused (may_open f node) _ (
-      given-refused (free_slot x.process.descriptors) _ (λ fd e3. given-refused (free_slot (opens_of k.files)) _ (λ place e4.
-      let one : nat_lt 0 (free_descriptors k.table i) ≡ true = some-place (descriptors_in (slot k.table.places i)) fd (ap (λ (o : Option Process). free_slot (descriptors_in o)) x.run.process ∙ e3) in
-      let two : nat_lt 0 (free_count k.files) ≡ true = ap (nat_lt 0) (sym (free-opens k.files)) ∙ some-place (opens_of k.files) place e4 in
+      given-refused made _ (λ got e1. given-refused (slot got.files got.number) _
+          (λ node e2. provided-refused (may_open f node) _ (
+      given-refused (free_slot x.process.descriptors) _
+          (λ fd e3. given-refused (free_slot (opens_of k.files)) _ (λ place e4.
+      let one : nat_lt 0 (free_descriptors k.table i) ≡ true =
+              some-place (descriptors_in (slot k.table.places i)) fd
+              (ap (λ (o : Option Process). free_slot (descriptors_in o)) x.run.process ∙ e3) in
+      let two : nat_lt 0 (free_count k.files) ≡ true = ap (nat_lt 0) (sym (free-opens k.files))
+              ∙ some-place (opens_of k.files) place e4 in
       absurd (false≢true (sym none ∙ rw (one, two) refl)))))))
 
   -- e is kernel k with that tree, in which it got the node; then it was opened
-  opens-acts : (tree : FileTree) → tree.block_limit ≡ k.tree.block_limit → tree.identity ≡ k.tree.identity → k.tree.failures ≤ tree.failures → {e : Kernel} → e ≡ record k { tree = tree } → (f : ℕ) (got : Made) → tree.files ≡ truncated f got
-      → row_of x Open ≡ opens_got (state_of k) i (me x) f got → {node : Node} → slot got.files got.number ≡ Some node → may_open f node ≡ true → {new : Kernel} {fd : ℕ} → Opens e new i (opened f got.number) fd → Acts k new i (Some Open) (Answers fd)
+  opens-acts : (tree : FileTree) → tree.block_limit ≡ k.tree.block_limit → tree.identity ≡ k.tree.identity
+      → k.tree.failures ≤ tree.failures → {e : Kernel} → e ≡ record k { tree = tree } → (f : ℕ) (got : Made)
+      → tree.files ≡ truncated f got
+      → row_of x Open ≡ opens_got (state_of k) i (me x) f got → {node : Node} → slot got.files got.number ≡ Some node
+          → may_open f node ≡ true → {new : Kernel} {fd : ℕ} → Opens e new i (opened f got.number) fd
+          → Acts k new i (Some Open) (Answers fd)
   opens-acts tree limit device later is f got cut made here may {new} {fd} opens =
-      let one : Opens (record k { tree = tree }) new i (opened f got.number) fd = subst (λ (y : Kernel). Opens y new i (opened f got.number) fd) is opens in
-      let free : free_slot x.process.descriptors ≡ Some fd = ap (λ (o : Option Process). free_slot (descriptors_in o)) (sym x.run.process) ∙ one.free in
+      let one : Opens (record k { tree = tree }) new i (opened f got.number) fd =
+              subst (λ (y : Kernel). Opens y new i (opened f got.number) fd) is opens in
+      let free : free_slot x.process.descriptors ≡ Some fd =
+              ap (λ (o : Option Process). free_slot (descriptors_in o)) (sym x.run.process) ∙ one.free in
       let last = with_open (state_of k) i (me x) fd one.place (opened f got.number) in
       let state : state_of new ≡ record last { files = truncated f got } =
       one.state (me x) (process-here x)
       ∙ ap (λ (fs : Files). record last { files = fs; block_limit = tree.block_limit }) cut
       ∙ ap (λ (b : ℕ). record last { files = truncated f got; block_limit = b }) limit in
-      does x Open fd (here-of one.runs) (record { up = one.served.up; same_device = one.served.same_device ∙ device; later = le_trans later one.served.later })
+      does x Open fd (here-of one.runs)
+          (record { up = one.served.up; same_device = one.served.same_device ∙ device;
+          later = le_trans later one.served.later })
       (made
       ∙ ap (λ (o : Option Node). given o (λ m. provided (may_open f m) (opens_seat (state_of k) i (me x) f got))) here
       ∙ ap (λ (b : Bool). provided b (opens_seat (state_of k) i (me x) f got)) may
@@ -198,30 +259,40 @@ module _ {k : Kernel} {i : ℕ} (x : Here k i) where
     open-got : row_of x Open ≡ opens_got (state_of k) i (me x) f got
     open-got = open-row f (Some n) asks.1
 
-    module _ {k1 : Kernel} (told : InodeStat) (reads : HasRead k k1 × ((node : Node) → slot k.tree.files n ≡ Some node → Tells told node)) where
+    module _ {k1 : Kernel} (told : InodeStat)
+        (reads : HasRead k k1 × ((node : Node) → slot k.tree.files n ≡ Some node → Tells told node)) where
       pub open-closed : may_open_by f told.kind told.major ≡ false → Acts k k1 i (Some Open) Refuses
       open-closed no' =
           refused-read reads.0 x Open (
           ap limited open-got
-          ∙ given-refused (slot k.tree.files n) _ (λ node here. let t = reads.1 node here in rw (sym (may-by f node told.kind told.major t.0 t.3) ∙ no') refl))
+          ∙ given-refused (slot k.tree.files n) _
+              (λ node here. let t = reads.1 node here
+              in rw (sym (may-by f node told.kind told.major t.0 t.3) ∙ no') refl))
 
       pub open-full : has_seat k1 i ≡ false → Acts k k1 i (Some Open) Refuses
-      open-full none = refused-read reads.0 x Open (ap limited open-got ∙ full (subst (λ (y : Kernel). has_seat y i ≡ false) reads.0.same none) f (Some got))
+      open-full none = refused-read reads.0 x Open
+          (ap limited open-got ∙ full (subst (λ (y : Kernel). has_seat y i ≡ false) reads.0.same none) f (Some got))
 
       pub node-then : slot k1.tree.files n ≢ None
-      node-then none = none-some open-node.0 (sym none ∙ ap (λ (y : Kernel). slot y.tree.files n) reads.0.same ∙ open-node.1)
+      node-then none = none-some open-node.0
+          (sym none ∙ ap (λ (y : Kernel). slot y.tree.files n) reads.0.same ∙ open-node.1)
 
       module _ (may : may_open_by f told.kind told.major ≡ true) {k2 : Kernel} (cut : IsCut k1 k2 f n) where
         may-open : IsOpenable k.tree.files n f told
         may-open = openable-told k.tree.files n f told open-node reads.1 may
 
         pub may-open-cut : IsOpenable k2.tree.files n f told
-        may-open-cut = subst (λ (y : Kernel). IsOpenable y.tree.files n f told) (sym cut.same) (openable-cut k1.tree.files n f told (subst (λ (y : Kernel). IsOpenable y.tree.files n f told) (sym reads.0.same) may-open))
+        may-open-cut = subst (λ (y : Kernel). IsOpenable y.tree.files n f told) (sym cut.same)
+            (openable-cut k1.tree.files n f told
+            (subst (λ (y : Kernel). IsOpenable y.tree.files n f told) (sym reads.0.same) may-open))
 
-        pub open-found : {new : Kernel} {fd : ℕ} → Opens k2 new i (opened f n) fd → Acts k new i (Some Open) (Answers fd)
+        pub open-found : {new : Kernel} {fd : ℕ} → Opens k2 new i (opened f n) fd
+            → Acts k new i (Some Open) (Answers fd)
         open-found opens =
-            let after = cut.same ∙ ap (λ (y : Kernel). record y { tree = cut_tree y.tree f n k2.tree.failures }) reads.0.same in
-            opens-acts (cut_tree k.tree f n k2.tree.failures) refl refl (le_trans reads.0.later cut.later) after f got refl open-got may-open.here may-open.may opens
+            let after = cut.same ∙ ap (λ (y : Kernel). record y { tree = cut_tree y.tree f n k2.tree.failures })
+                    reads.0.same in
+            opens-acts (cut_tree k.tree f n k2.tree.failures) refl refl (le_trans reads.0.later cut.later) after f got
+                refl open-got may-open.here may-open.may opens
 
   -- ---- it reaches nothing
 
@@ -231,10 +302,12 @@ module _ {k : Kernel} {i : ℕ} (x : Here k i) where
 
     module _ (asked : creates f ≡ true) where
       abbrev made_here : Option Made
-      made_here = option_and_then (λ at. make_at k.tree.files at new_file) (spot_of k.tree.files x.process.directory path)
+      made_here = option_and_then (λ at. make_at k.tree.files at new_file)
+          (spot_of k.tree.files x.process.directory path)
 
       new-row : row_of x Open ≡ given made_here (opens_got (state_of k) i (me x) f)
-      new-row = open-row f None asks ∙ ap (λ (b : Bool). given (if b then made_here else None) (opens_got (state_of k) i (me x) f)) asked
+      new-row = open-row f None asks
+          ∙ ap (λ (b : Bool). given (if b then made_here else None) (opens_got (state_of k) i (me x) f)) asked
 
       pub open-new-full : has_seat k i ≡ false → Acts k k i (Some Open) Refuses
       open-new-full none = refused x (Some Open) (ap limited new-row ∙ full none f made_here)
@@ -242,23 +315,38 @@ module _ {k : Kernel} {i : ℕ} (x : Here k i) where
       made-from : made_in k.tree.files (directory_at k i) path (leaf_node leaf.File) ≡ made_here
       unfolding made_in made_at
       made-from = rw (home-is x) (go (spot_of k.tree.files x.process.directory path) refl) where
-        go : (o : Option Spot) → spot_of k.tree.files x.process.directory path ≡ o → option_and_then (λ at. made_at k.tree.files at (λ n. File 1 [])) o ≡ option_and_then (λ at. make_at k.tree.files at new_file) o
+        go : (o : Option Spot) → spot_of k.tree.files x.process.directory path ≡ o
+            → option_and_then (λ at. made_at k.tree.files at (λ n. File 1 [])) o
+            ≡ option_and_then (λ at. make_at k.tree.files at new_file) o
         go None e = refl
-        go (Some at) e = ap (λ (o : Option ℕ). if is_none o then make_at k.tree.files at new_file else None) (spot-absent k.tree.files x.process.directory path at e (found-here x path asks.found))
+        go (Some at) e = ap (λ (o : Option ℕ). if is_none o then make_at k.tree.files at new_file else None)
+            (spot-absent k.tree.files x.process.directory path at e (found-here x path asks.found))
 
       -- the new node is an empty file
       made-there : {made : Made} → made_here ≡ Some made → slot made.files made.number ≡ Some (File 1 [])
-      made-there {made} e = option_and_then_some (λ at. make_at k.tree.files at new_file) (spot_of k.tree.files x.process.directory path) made e (λ at spot is. made-new k.tree.files at made is)
+      made-there {made} e = option_and_then_some (λ at. make_at k.tree.files at new_file)
+          (spot_of k.tree.files x.process.directory path) made e (λ at spot is. made-new k.tree.files at made is)
 
-      new-over : Overflows k.tree.block_limit (made_files (made_in k.tree.files (directory_at k i) path (leaf_node leaf.File))) → outcome_of (state_of k) i (me x) (Some Open) ≡ Refused
+      new-over : Overflows k.tree.block_limit
+          (made_files (made_in k.tree.files (directory_at k i) path (leaf_node leaf.File)))
+          → outcome_of (state_of k) i (me x) (Some Open) ≡ Refused
       new-over over =
           ap limited new-row
-          ∙ given-refused made_here _ (λ made e1. given-refused (slot made.files made.number) _ (λ node e2. provided-refused (may_open f node) _ (given-refused (free_slot x.process.descriptors) _ (λ fd e3. given-refused (free_slot (opens_of k.files)) _ (λ place e4.
-          let last : State = record (with_open (state_of k) i (me x) fd place (opened f made.number)) { files = truncated f made } in
-          ap (λ (b : Bool). provided b (Done last fd [])) (over-blocks last (subst (λ (fs : Files). k.tree.block_limit < blocks_of fs) (sym (truncated-new f made (made-there e1))) (over made.files (ap made_files (made-from ∙ e1))))))))))
+          ∙ given-refused made_here _
+              (λ made e1. given-refused (slot made.files made.number) _
+              (λ node e2. provided-refused (may_open f node) _
+              (given-refused (free_slot x.process.descriptors) _
+              (λ fd e3. given-refused (free_slot (opens_of k.files)) _ (λ place e4.
+          let last : State = record (with_open (state_of k) i (me x) fd place (opened f made.number))
+                  { files = truncated f made } in
+          ap (λ (b : Bool). provided b (Done last fd []))
+              (over-blocks last (subst (λ (fs : Files). k.tree.block_limit < blocks_of fs)
+              (sym (truncated-new f made (made-there e1))) (over made.files (ap made_files (made-from ∙ e1))))))))))
 
-      module _ {mid : Kernel} (rest : mid ≡ with_tree k mid.tree) (sound : IsKernel mid) {r : Result ℕ TreeFault} (acts : MakesNode k.tree mid.tree (directory_at k i) path (leaf_node leaf.File) r) where
-        pub create-fails : (fault : TreeFault) → r ≡ Err fault → (came : Result Came DeviceFault) → IsRefused fault came → ActsOnDisk k mid i (Some Open) came
+      module _ {mid : Kernel} (rest : mid ≡ with_tree k mid.tree) (sound : IsKernel mid) {r : Result ℕ TreeFault}
+          (acts : MakesNode k.tree mid.tree (directory_at k i) path (leaf_node leaf.File) r) where
+        pub create-fails : (fault : TreeFault) → r ≡ Err fault → (came : Result Came DeviceFault)
+            → IsRefused fault came → ActsOnDisk k mid i (Some Open) came
         create-fails = refused-acts x rest sound acts Open new-over
 
         module _ {v : ℕ} (done : r ≡ Ok v) where
@@ -272,18 +360,28 @@ module _ {k : Kernel} {i : ℕ} (x : Here k i) where
           new-there = made-there {made = new_node} made
 
           pub created-runs : Runs k i → Runs mid i
-          created-runs runs = runs-of (ap (λ (y : Kernel). y.spaces.active) rest ∙ runs.active) (acts.failed ∙ ap has_failed done) sound (ap (λ (y : Kernel). slice_index y.spaces.registers 0) rest ∙ runs.zero) (ap (λ (y : Kernel). y.spaces.pc % 4) rest ∙ runs.aligned)
+          created-runs runs = runs-of (ap (λ (y : Kernel). y.spaces.active) rest ∙ runs.active)
+              (acts.failed ∙ ap has_failed done) sound
+              (ap (λ (y : Kernel). slice_index y.spaces.registers 0) rest ∙ runs.zero)
+              (ap (λ (y : Kernel). y.spaces.pc % 4) rest ∙ runs.aligned)
 
           pub created-openable : (told : InodeStat) → told.kind ≡ 2 → IsOpenable mid.tree.files v f told
-          created-openable told kind = record { node = File 1 []; here = new-there; kind = kind; major = tt; may = refl }
+          created-openable told kind =
+              record { node = File 1 []; here = new-there; kind = kind; major = tt; may = refl }
 
-          pub open-created : {new : Kernel} {fd : ℕ} → Opens mid new i (opened f v) fd → Acts k new i (Some Open) (Answers fd)
+          pub open-created : {new : Kernel} {fd : ℕ} → Opens mid new i (opened f v) fd
+              → Acts k new i (Some Open) (Answers fd)
           open-created opens =
-              opens-acts mid.tree acts.limit acts.same_device acts.later rest f new_node (sym (truncated-new f new_node new-there)) (new-row ∙ ap (λ o. given o (opens_got (state_of k) i (me x) f)) made) new-there refl opens
+              opens-acts mid.tree acts.limit acts.same_device acts.later rest f new_node
+                  (sym (truncated-new f new_node new-there))
+                  (new-row ∙ ap (λ o. given o (opens_got (state_of k) i (me x) f)) made) new-there refl opens
 
 -- what is asked for once the path was looked up
-pub asks-of : {k e : Kernel} {i f : ℕ} {path : List ℕ} {o q : Option ℕ} → Some path ≡ path_argument k i 0 → f ≡ low (argument k 1) → HasRead k e × (o ≡ find k.tree.files (directory_at k i) path) → o ≡ q → Asks e i path f q
-asks-of {i = i} {f = f} {path = path} {q = q} named flags reads is = subst (λ (y : Kernel). Asks y i path f q) (sym reads.0.same) (record { named = named; flags = flags; found = sym is ∙ reads.1 })
+pub asks-of : {k e : Kernel} {i f : ℕ} {path : List ℕ} {o q : Option ℕ} → Some path ≡ path_argument k i 0
+    → f ≡ low (argument k 1) → HasRead k e × (o ≡ find k.tree.files (directory_at k i) path) → o ≡ q → Asks e i path f q
+asks-of {i = i} {f = f} {path = path} {q = q} named flags reads is =
+    subst (λ (y : Kernel). Asks y i path f q) (sym reads.0.same)
+    (record { named = named; flags = flags; found = sym is ∙ reads.1 })
 
 -- ---- chdir: the running process works in another directory, and the one that it leaves may go
 
@@ -305,30 +403,41 @@ module _ {k : Kernel} {i n : ℕ} (x : Here k i) (r : Reaches k i n) where
 
   chdir-made : {b : Bool} → is_directory chdir-there.0 ≡ b → row_of x Chdir ≡ provided b works
   unfolding chdir_row
-  chdir-made is = let at = path-is x 0 r.named in let found = found-here x r.path r.found in let there = chdir-there.1 in rw (at, found, there, is) refl
+  chdir-made is = let at = path-is x 0 r.named in let found = found-here x r.path r.found in let there =
+      chdir-there.1 in rw (at, found, there, is) refl
 
   -- told of it
-  module _ {e : Kernel} (told : InodeStat) (reads : HasRead k e × ((node : Node) → slot k.tree.files n ≡ Some node → Tells told node)) where
+  module _ {e : Kernel} (told : InodeStat)
+      (reads : HasRead k e × ((node : Node) → slot k.tree.files n ≡ Some node → Tells told node)) where
     tells : Tells told chdir-there.0
     tells = reads.1 chdir-there.0 chdir-there.1
 
     pub chdir-other : told.kind ≢ 1 → Acts k e i (Some Chdir) Refuses
-    chdir-other other = refused-read reads.0 x Chdir (ap limited (chdir-made {b = false} (rw (← tells.0) (ne_eqb told.kind 1 other))))
+    chdir-other other = refused-read reads.0 x Chdir
+        (ap limited (chdir-made {b = false} (rw (← tells.0) (ne_eqb told.kind 1 other))))
 
     pub chdir-goes : told.kind ≡ 1 → Reaches e i n × IsFolder (slot e.tree.files n)
-    chdir-goes kind = subst (λ (y : Kernel). Reaches y i n × IsFolder (slot y.tree.files n)) (sym reads.0.same) (record { path = r.path; named = r.named; found = r.found }, subst IsFolder (sym chdir-there.1) (folder-kind chdir-there.0 (sym tells.0 ∙ kind)))
+    chdir-goes kind = subst (λ (y : Kernel). Reaches y i n × IsFolder (slot y.tree.files n)) (sym reads.0.same)
+        (record { path = r.path; named = r.named; found = r.found },
+        subst IsFolder (sym chdir-there.1) (folder-kind chdir-there.0 (sym tells.0 ∙ kind)))
 
   -- it is a directory, and the process works there now
-  pub chdirs : IsFolder (slot k.tree.files n) → IsWhole k.tree → {new : Kernel} → IsKernel new → WorksIn k new i n × IsServed k.tree new.tree → Acts k new i (Some Chdir) (Answers 0)
+  pub chdirs : IsFolder (slot k.tree.files n) → IsWhole k.tree → {new : Kernel} → IsKernel new
+      → WorksIn k new i n × IsServed k.tree new.tree → Acts k new i (Some Chdir) (Answers 0)
   chdirs folder whole sound told =
       let made = chdir-made (folder-is chdir-there.0 (rw chdir-there.1 at folder)) in
-      let reaped = work-reaps (answered-here x 0).runner n (record { running = x.run.active; folder = folder; up = x.up }) whole ∙ sym (ap state_of (ap (λ (z : Kernel). answered z 0) told.0)) in
+      let reaped = work-reaps (answered-here x 0).runner n
+              (record { running = x.run.active; folder = folder; up = x.up }) whole
+              ∙ sym (ap state_of (ap (λ (z : Kernel). answered z 0) told.0)) in
       settles x Chdir 0 (here-as x sound told.0 refl told.1.up) told.1
-      (ap (λ (o : Outcome). settle (state_of k) i (limited o)) made ∙ settles-gone x x.process.descriptors n refl reaped)
+      (ap (λ (o : Outcome). settle (state_of k) i (limited o)) made
+          ∙ settles-gone x x.process.descriptors n refl reaped)
 
 -- ---- exec: another program comes in the place of the one that runs
 
-given-plan : (o : Option (List ℕ)) (args : Option (List (List ℕ))) (rest : Plan → Outcome) → given o (λ file. given args (λ a. given (plan file a) rest)) ≡ given (option_and_then (λ file. option_and_then (plan file) args) o) rest
+given-plan : (o : Option (List ℕ)) (args : Option (List (List ℕ))) (rest : Plan → Outcome)
+    → given o (λ file. given args (λ a. given (plan file a) rest))
+    ≡ given (option_and_then (λ file. option_and_then (plan file) args) o) rest
 given-plan None args rest = refl
 given-plan (Some file) None rest = refl
 given-plan (Some file) (Some a) rest = refl
@@ -347,13 +456,16 @@ module _ {k : Kernel} {i n : ℕ} (x : Here k i) (r : Reaches k i n) where
   exec-row =
       let at = path-is x 0 r.named in
       let found = found-here x r.path r.found in
-      rw (at, found, held-here x) (given-plan (file_bytes (slot k.tree.files n)) (args_at x.held.memory (argument k 1)) (replaces (state_of k) i (me x)))
+      rw (at, found, held-here x)
+          (given-plan (file_bytes (slot k.tree.files n)) (args_at x.held.memory (argument k 1))
+          (replaces (state_of k) i (me x)))
 
   fits-is : (new : Plan) → fits_beside (state_of k) new ≡ nat_le (frames_beside k.spaces new) k.spaces.frames
   fits-is new = ap (λ m. nat_le (m + 3 + page_frames (length new.memory)) k.spaces.frames) (frames-state k x.sound)
 
   -- it is no program, or the frames don't suffice
-  pub exec-refused : {e : Kernel} → HasRead k e → ((p : Plan) → planned ≡ Some p → k.spaces.frames < frames_beside k.spaces p) → Acts k e i (Some Exec) Refuses
+  pub exec-refused : {e : Kernel} → HasRead k e
+      → ((p : Plan) → planned ≡ Some p → k.spaces.frames < frames_beside k.spaces p) → Acts k e i (Some Exec) Refuses
   exec-refused has over =
       refused-read has x Exec (
       ap limited exec-row
@@ -362,13 +474,16 @@ module _ {k : Kernel} {i n : ℕ} (x : Here k i) (r : Reaches k i n) where
       ap (λ b. limited (provided b (answers (put_process (state_of k) i (replaced (me x) p)) p.argc))) none))
 
   -- its program comes in the place of the old one
-  pub exec-done : {new : Kernel} {started : Started} → HasReplaced k new i n (argument k 1) started → IsKernel new → Acts k new i (Some Exec) (Answers started.count)
+  pub exec-done : {new : Kernel} {started : Started} → HasReplaced k new i n (argument k 1) started → IsKernel new
+      → Acts k new i (Some Exec) (Answers started.count)
   exec-done {new} h sound =
       let p = h.plan in
       let up = ap (λ (z : Kernel). z.tree.failed) h.same ∙ x.up in
       rw h.begins (
-      does x Exec p.argc (here-as x sound h.same refl up) (record { up = up; same_device = ap (λ (z : Kernel). z.tree.identity) h.same; later = h.later })
+      does x Exec p.argc (here-as x sound h.same refl up)
+          (record { up = up; same_device = ap (λ (z : Kernel). z.tree.identity) h.same; later = h.later })
       (exec-row
       ∙ ap (λ o. given o (replaces (state_of k) i (me x))) h.is
-      ∙ ap (λ b. provided b (answers (put_process (state_of k) i (replaced (me x) p)) p.argc)) (fits-is p ∙ le-leb _ _ h.fits)
+      ∙ ap (λ b. provided b (answers (put_process (state_of k) i (replaced (me x) p)) p.argc))
+          (fits-is p ∙ le-leb _ _ h.fits)
       ∙ ap (λ (s : State). Done s p.argc []) (sym (ap state_of h.same ∙ replaced-state x.runner p))))

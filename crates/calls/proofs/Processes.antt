@@ -1,17 +1,27 @@
 -- kill, fork, sbrk and wait: calls on processes. A process that marks itself is answered, and ends.
-use Rattle.calls.proofs.Common.{[], Acts, answer-here, answered, answered-here, Answers, answers, ap, argument, arith, asked, base, Blocks, blocks_of, Bool, Came, can_answer, cast_unsigned, change_process, changed, clear, collected, copied}
-use Rattle.calls.proofs.Common.{descriptors_at, Done, end_at, end_process, ended, ends-run, Err, false, Files, Fork, forked_as, frames_of, free_slot, get_or-set_other, given, goes_on, GoesOn, has_child, held-here, Here, here-as, here-of}
-use Rattle.calls.proofs.Common.{IfSome, int_of, is_described, is_same, is_some, is_within, IsKernel, IsPending, kept-cong, Kernel, Kill, KillsItself, last_pid, le, le-leb, length, limited, links_of, List, loaded, map, marked, marked_by, me}
-use Rattle.calls.proofs.Common.{memory_at, nat_eq, nat_le, nat_lt, natural, ne_eqb, negsuc, no_pages, None, Ok, on_hart, open_limit, Option, option_map, Outcome, Pending, pending_arg, pending_for, place_called, place_of_pid, Places, pos}
-use Rattle.calls.proofs.Common.{Process, process-here, process_at, provided, put, put_process, quiet, reap, refl, Refused, Refuses, reheld-full, resized, resized-state, rest_of, row_of, Runs, Sbrk, set-slot, set_comm, settle, settled_by}
-use Rattle.calls.proofs.Common.{slice_index, slice_set, slot, slot-put, slot-within, Some, SpaceView, State, state-but, state-waking, state_of, subst, suc, sum_by, sym, taken_frames, true, unwrap_or, view_at, Wait, wait_for, waits-other}
-use Rattle.calls.proofs.Common.{waking, with_answer, with_space, with_status, with_table, within-state, without_nodes, without_opens, without_pipes, wrote-state, zero, zombie_child, ℕ, ℤ, ◌%◌, ◌&&◌, ◌+ℤ◌, ◌+◌, ◌<◌, ◌==◌, ◌||◌, ◌∙◌, ◌∷◌}
-use Rattle.calls.proofs.Common.{◌≡◌, ◌≢◌}
+use Rattle.calls.proofs.Common.{[], Acts, answer-here, answered, answered-here, Answers, answers, ap, argument, arith}
+use Rattle.calls.proofs.Common.{asked, base, Blocks, blocks_of, Bool, Came, can_answer, cast_unsigned, change_process}
+use Rattle.calls.proofs.Common.{changed, clear, collected, copied, descriptors_at, Done, end_at, end_process, ended}
+use Rattle.calls.proofs.Common.{ends-run, Err, false, Files, Fork, forked_as, frames_of, free_slot, get_or-set_other}
+use Rattle.calls.proofs.Common.{given, goes_on, GoesOn, has_child, held-here, Here, here-as, here-of, IfSome, int_of}
+use Rattle.calls.proofs.Common.{is_described, is_same, is_some, is_within, IsKernel, IsPending, kept-cong, Kernel, Kill}
+use Rattle.calls.proofs.Common.{KillsItself, last_pid, le, le-leb, length, limited, links_of, List, loaded, map, marked}
+use Rattle.calls.proofs.Common.{marked_by, me, memory_at, nat_eq, nat_le, nat_lt, natural, ne_eqb, negsuc, no_pages}
+use Rattle.calls.proofs.Common.{None, Ok, on_hart, open_limit, Option, option_map, Outcome, Pending, pending_arg}
+use Rattle.calls.proofs.Common.{pending_for, place_called, place_of_pid, Places, pos, Process, process-here, process_at}
+use Rattle.calls.proofs.Common.{provided, put, put_process, quiet, reap, refl, Refused, Refuses, reheld-full, resized}
+use Rattle.calls.proofs.Common.{resized-state, rest_of, row_of, Runs, Sbrk, set-slot, set_comm, settle, settled_by}
+use Rattle.calls.proofs.Common.{slice_index, slice_set, slot, slot-put, slot-within, Some, SpaceView, State, state-but}
+use Rattle.calls.proofs.Common.{state-waking, state_of, subst, suc, sum_by, sym, taken_frames, true, unwrap_or, view_at}
+use Rattle.calls.proofs.Common.{Wait, wait_for, waits-other, waking, with_answer, with_space, with_status, with_table}
+use Rattle.calls.proofs.Common.{within-state, without_nodes, without_opens, without_pipes, wrote-state, zero}
+use Rattle.calls.proofs.Common.{zombie_child, ℕ, ℤ, ◌%◌, ◌&&◌, ◌+ℤ◌, ◌+◌, ◌<◌, ◌==◌, ◌||◌, ◌∙◌, ◌∷◌, ◌≡◌, ◌≢◌}
 use Rattle.kernel.proofs.Readies.{place-changed, place-state, process-state}
 use Rattle.std.specs.List.{list_any}
 use Rattle.unixmodel.specs.Outcome.{halt_status, orphaned, with_zombie, zombie_of}
 use Rattle.unixmodel.specs.ProcessCalls.{fork_row, kill_row, sbrk_row, wait_on, wait_row}
-use Rattle.proc.specs.Places.{changed_at, has_pid, is_child_of, is_zombie_child_of, place_where, reaped_at, seat_at, seat_of, with_mark, zombie_place}
+use Rattle.proc.specs.Places.{changed_at, has_pid, is_child_of, is_zombie_child_of, place_where, reaped_at, seat_at}
+use Rattle.proc.specs.Places.{seat_of, with_mark, zombie_place}
 use Rattle.kernel.proofs.Joined.{change_process-with_table, has_child-with_table, zombie_child-with_table}
 use Rattle.kernel.proofs.Runs.{change-run, loaded-run, slot-other}
 use Rattle.std.proofs.lemmas.List.Sums.{sum_by-cons}
@@ -25,7 +35,8 @@ use Rattle.kernel.proofs.Forking.{fork-full, fork-state, free-run, IsSeat, next-
 use Rattle.proc.specs.declared.table.ProcFault.{ProcFault}
 use Rattle.proc.specs.declared.table.Seat.{Seat}
 use Rattle.std.specs.Int.{w32}
-use Rattle.kernel.proofs.Working.{collected-kernel, collected-run, collected-state, has-reaped, HasReaped, unreaped-go, zombie-idle}
+use Rattle.kernel.proofs.Working.{collected-kernel, collected-run, collected-state, has-reaped, HasReaped, unreaped-go}
+use Rattle.kernel.proofs.Working.{zombie-idle}
 use Rattle.proc.specs.declared.table.Reaped.{Reaped}
 
 -- ---- lists in which one place changes
@@ -34,7 +45,8 @@ abbrev pub altered : {X : Type 0} → List (Option X) → ℕ → (X → X) → 
 altered os i change = slice_set os i (option_map change (slot os i))
 
 -- two changes that don't look at one another may be made in any order
-pub altered-swap : {X : Type 0} (f g : X → X) → ((x : X) → g (f x) ≡ f (g x)) → (os : List (Option X)) (i j : ℕ) → altered (altered os i f) j g ≡ altered (altered os j g) i f
+pub altered-swap : {X : Type 0} (f g : X → X) → ((x : X) → g (f x) ≡ f (g x)) → (os : List (Option X)) (i j : ℕ)
+    → altered (altered os i f) j g ≡ altered (altered os j g) i f
 altered-swap f g same [] i j = refl
 altered-swap f g same (None ∷ os) zero zero = refl
 altered-swap f g same (Some x ∷ os) zero zero = ap (λ y. Some y ∷ os) (same x)
@@ -43,13 +55,16 @@ altered-swap f g same (o ∷ os) (suc i) zero = refl
 altered-swap f g same (o ∷ os) (suc i) (suc j) = ap (λ ps. o ∷ ps) (altered-swap f g same os i j)
 
 -- what is put in a place where all have changed may be changed before or after
-pub put-altered : {X : Type 0} (all : Option X → Option X) (f : X → X) (x : X) (os : List (Option X)) (i : ℕ) → put (map all (altered os i f)) i (f x) ≡ altered (put (map all os) i x) i f
+pub put-altered : {X : Type 0} (all : Option X → Option X) (f : X → X) (x : X) (os : List (Option X)) (i : ℕ)
+    → put (map all (altered os i f)) i (f x) ≡ altered (put (map all os) i x) i f
 put-altered all f x [] i = refl
 put-altered all f x (o ∷ os) zero = refl
 put-altered all f x (o ∷ os) (suc i) = ap (λ ps. all o ∷ ps) (put-altered all f x os i)
 
 -- what is read of all that stand there stays, where it is the same of one that changes
-module _ {X Y : Type 0} (read : List X → Y) (more : (x : X) (xs ys : List X) → read xs ≡ read ys → read (x ∷ xs) ≡ read (x ∷ ys)) (f : X → X) (alike : (x : X) (xs : List X) → read (f x ∷ xs) ≡ read (x ∷ xs)) where
+module _ {X Y : Type 0} (read : List X → Y)
+    (more : (x : X) (xs ys : List X) → read xs ≡ read ys → read (x ∷ xs) ≡ read (x ∷ ys)) (f : X → X)
+    (alike : (x : X) (xs : List X) → read (f x ∷ xs) ≡ read (x ∷ xs)) where
   read-altered : (os : List (Option X)) (i : ℕ) → read (taken (altered os i f)) ≡ read (taken os)
   read-altered [] i = refl
   read-altered (None ∷ os) zero = refl
@@ -57,12 +72,17 @@ module _ {X Y : Type 0} (read : List X → Y) (more : (x : X) (xs ys : List X) �
   read-altered (None ∷ os) (suc i) = read-altered os i
   read-altered (Some x ∷ os) (suc i) = more x (taken (altered os i f)) (taken os) (read-altered os i)
 
-pub any-altered : {X : Type 0} (test : X → Bool) (f : X → X) → ((x : X) → test (f x) ≡ test x) → (os : List (Option X)) (i : ℕ) → list_any test (taken (altered os i f)) ≡ list_any test (taken os)
-any-altered test f alike = read-altered (list_any test) (λ x xs ys same. ap (λ b. test x || b) same) f (λ x xs. ap (λ b. b || list_any test xs) (alike x))
+pub any-altered : {X : Type 0} (test : X → Bool) (f : X → X) → ((x : X) → test (f x) ≡ test x)
+    → (os : List (Option X)) (i : ℕ) → list_any test (taken (altered os i f)) ≡ list_any test (taken os)
+any-altered test f alike =
+    read-altered (list_any test) (λ x xs ys same. ap (λ b. test x || b) same) f
+    (λ x xs. ap (λ b. b || list_any test xs) (alike x))
 
-pub sum-altered : {X : Type 0} (size : X → ℕ) (f : X → X) → ((x : X) → size (f x) ≡ size x) → (os : List (Option X)) (i : ℕ) → sum_by size (taken (altered os i f)) ≡ sum_by size (taken os)
+pub sum-altered : {X : Type 0} (size : X → ℕ) (f : X → X) → ((x : X) → size (f x) ≡ size x)
+    → (os : List (Option X)) (i : ℕ) → sum_by size (taken (altered os i f)) ≡ sum_by size (taken os)
 sum-altered size f alike =
-    read-altered (sum_by size) (λ x xs ys same. sum_by-cons size x xs ∙ ap (λ n. size x + n) same ∙ sym (sum_by-cons size x ys)) f
+    read-altered (sum_by size)
+        (λ x xs ys same. sum_by-cons size x xs ∙ ap (λ n. size x + n) same ∙ sym (sum_by-cons size x ys)) f
     (λ x xs. sum_by-cons size (f x) xs ∙ ap (λ n. n + sum_by size xs) (alike x) ∙ sym (sum_by-cons size x xs))
 
 -- ---- a process is marked
@@ -73,27 +93,39 @@ mark-state k j =
     change_process-with_table rows.marked with_mark (λ g x. refl) (base (rest_of k)) (loaded k) k.spaces.places j
     ∙ ap (λ (t : Places). with_table (base (rest_of k)) t k.spaces.places) (go k.spaces.active)
   where
-    go : (o : Option ℕ) → changed (changed_at k.table (on_hart k.spaces) o) j with_mark ≡ changed_at (changed k.table j with_mark) (on_hart k.spaces) o
+    go : (o : Option ℕ) → changed (changed_at k.table (on_hart k.spaces) o) j with_mark
+        ≡ changed_at (changed k.table j with_mark) (on_hart k.spaces) o
     go None = refl
-    go (Some i) = ap (λ (os : List (Option Process)). record k.table { places = os }) (altered-swap (on_hart k.spaces) with_mark (λ x. refl) k.table.places i j)
+    go (Some i) = ap (λ (os : List (Option Process)). record k.table { places = os })
+        (altered-swap (on_hart k.spaces) with_mark (λ x. refl) k.table.places i j)
 
 mark-within : (s : State) (i : ℕ) → is_within (change_process s i rows.marked) ≡ is_within s
 unfolding frames_of
-mark-within s i = ap (λ n. nat_le (n + length (taken s.pipes)) s.frame_limit && nat_le (blocks_of s.files) s.block_limit && nat_le (opens_of s) open_limit) (sum-altered process_frames rows.marked (λ p. refl) s.places i)
+mark-within s i = ap (λ n. nat_le (n + length (taken s.pipes)) s.frame_limit
+    && nat_le (blocks_of s.files) s.block_limit && nat_le (opens_of s) open_limit)
+    (sum-altered process_frames rows.marked (λ p. refl) s.places i)
 
 -- nothing goes for that
 mark-reaps : (s : State) (i : ℕ) → reap (change_process s i rows.marked) ≡ change_process (reap s) i rows.marked
 unfolding reap without_nodes without_pipes without_opens
 mark-reaps s i =
-    let opens = kept-cong (λ n f. is_described (change_process s i rows.marked) n) (λ n f. is_described s n) 0 s.opens (λ a n f e at. any-altered (λ (p : unix.Process). list_any (is_same n) p.descriptors) rows.marked (λ p. refl) s.places i) in
-    rw opens (ap (λ (files : Files). record (change_process (reap s) i rows.marked) { files = files }) (kept-cong _ _ 0 s.files (λ a n node e at.
-    ap (λ b. nat_lt 0 (links_of node) || (list_any (λ (f : OpenFile). is_node n f.target) (taken (without_opens s).opens) || b)) (any-altered (λ (p : unix.Process). p.directory == n) rows.marked (λ p. refl) s.places i))))
+    let opens = kept-cong (λ n f. is_described (change_process s i rows.marked) n) (λ n f. is_described s n) 0 s.opens
+            (λ a n f e at. any-altered (λ (p : unix.Process). list_any (is_same n) p.descriptors) rows.marked
+            (λ p. refl) s.places i) in
+    rw opens (ap (λ (files : Files). record (change_process (reap s) i rows.marked) { files = files })
+        (kept-cong _ _ 0 s.files (λ a n node e at.
+    ap (λ b. nat_lt 0 (links_of node)
+        || (list_any (λ (f : OpenFile). is_node n f.target) (taken (without_opens s).opens) || b))
+        (any-altered (λ (p : unix.Process). p.directory == n) rows.marked (λ p. refl) s.places i))))
 
 -- it is marked before it ends, or after that
-mark-ends : (s : State) (i : ℕ) (p : unix.Process) (status : ℤ) → end_process (change_process s i rows.marked) i (rows.marked p) status ≡ change_process (end_process s i p status) i rows.marked
+mark-ends : (s : State) (i : ℕ) (p : unix.Process) (status : ℤ)
+    → end_process (change_process s i rows.marked) i (rows.marked p) status
+    ≡ change_process (end_process s i p status) i rows.marked
 unfolding end_process
 mark-ends s i p status =
-    ap (λ (os : List (Option unix.Process)). reap (record s { places = os; halted = halt_status s p status })) (put-altered (option_map (orphaned p.pid)) rows.marked (zombie_of p status) s.places i)
+    ap (λ (os : List (Option unix.Process)). reap (record s { places = os; halted = halt_status s p status }))
+        (put-altered (option_map (orphaned p.pid)) rows.marked (zombie_of p status) s.places i)
     ∙ mark-reaps (with_zombie s i p status) i
 
 -- ---- the running process marks itself
@@ -105,19 +137,25 @@ module _ {k : Kernel} {i : ℕ} (x : Here k i) where
 
   self-marked : marked_by (state_of k) i ≡ change_process (state_of (answered k 0)) i rows.marked
   self-marked =
-      ap (λ (os : List (Option unix.Process)). record (state_of k) { places = os }) (altered-swap rows.marked (with_answer 0) (λ p. refl) (state_of k).places i i)
+      ap (λ (os : List (Option unix.Process)). record (state_of k) { places = os })
+          (altered-swap rows.marked (with_answer 0) (λ p. refl) (state_of k).places i i)
       ∙ ap (λ (s : State). change_process s i rows.marked) (answer-here x 0)
 
   self-there : process_at (marked_by (state_of k) i) i ≡ Some (rows.marked (me y))
   self-there =
-      ap (λ (s : State). process_at s i) (self-marked ∙ change-run (answered k 0) i y.process y.held y.run y.sound rows.marked)
-      ∙ slot-put (state_of (answered k 0)).places i (Some (rows.marked (me y))) (slot-within (state_of (answered k 0)).places i (me y) (process-here y))
+      ap (λ (s : State). process_at s i)
+          (self-marked ∙ change-run (answered k 0) i y.process y.held y.run y.sound rows.marked)
+      ∙ slot-put (state_of (answered k 0)).places i (Some (rows.marked (me y)))
+          (slot-within (state_of (answered k 0)).places i (me y) (process-here y))
 
   -- it is answered, ends, and is marked
-  pub settles-killed : slice_index k.spaces.registers 0 ≡ 0 → k.spaces.pc % 4 ≡ 0 → state_of (marked (ended (answered k 0) i (negsuc 0)) i) ≡ settled_by (state_of k) i KillsItself
+  pub settles-killed : slice_index k.spaces.registers 0 ≡ 0 → k.spaces.pc % 4 ≡ 0
+      → state_of (marked (ended (answered k 0) i (negsuc 0)) i) ≡ settled_by (state_of k) i KillsItself
   settles-killed zero' aligned =
       sym (mark-state (ended (answered k 0) i (negsuc 0)) i)
-      ∙ ap (λ (s : State). change_process s i rows.marked) (sym (ends-run (answered k 0) i y.process y.held y.run y.sound (get_or-set_other k.spaces.registers 10 0 0 0 (λ e. absurd (omega arith)) ∙ zero') aligned (negsuc 0) x.up))
+      ∙ ap (λ (s : State). change_process s i rows.marked)
+          (sym (ends-run (answered k 0) i y.process y.held y.run y.sound
+          (get_or-set_other k.spaces.registers 10 0 0 0 (λ e. absurd (omega arith)) ∙ zero') aligned (negsuc 0) x.up))
       ∙ sym (mark-ends (state_of (answered k 0)) i (me y) (negsuc 0))
       ∙ sym (ap (λ (s : State). end_process s i (rows.marked (me y)) (negsuc 0)) self-marked)
       ∙ sym (ap (end_at (marked_by (state_of k) i) i (negsuc 0)) self-there)
@@ -127,27 +165,36 @@ module _ {k : Kernel} {i : ℕ} (x : Here k i) where
   abbrev kills : Option ℕ → Outcome
   kills o = given o (λ j. answers (change_process (state_of k) j rows.marked) 0)
 
-  kill-named : (o : Option ℕ) → given o (λ pid. provided (nat_le 1 pid) (kills (place_of_pid (state_of k) pid))) ≡ kills (place_called k.table.places o)
+  kill-named : (o : Option ℕ)
+      → given o (λ pid. provided (nat_le 1 pid) (kills (place_of_pid (state_of k) pid)))
+      ≡ kills (place_called k.table.places o)
   kill-named None = refl
   kill-named (Some zero) = refl
   kill-named (Some (suc n)) =
       let some : nat_le 1 (suc n) ≡ true = le-leb _ _ (omega arith) in
       rw some (ap kills (place-state k (suc n)))
 
-  kill-is : {o : Option ℕ} → place_called k.table.places (natural (int_of (argument k 0))) ≡ o → kill_row (state_of k) i (me x) ≡ kills o
+  kill-is : {o : Option ℕ} → place_called k.table.places (natural (int_of (argument k 0))) ≡ o
+      → kill_row (state_of k) i (me x) ≡ kills o
   unfolding kill_row
   kill-is found = kill-named (natural (int_of (argument k 0))) ∙ ap kills found
 
   pub kills-none : place_called k.table.places (natural (int_of (argument k 0))) ≡ None → Acts k k i (Some Kill) Refuses
   kills-none none = refused x (Some Kill) (ap limited (kill-is none))
 
-  pub kills-other : {j : ℕ} → place_called k.table.places (natural (int_of (argument k 0))) ≡ Some j → {new : Kernel} → new ≡ waking (marked k j) new.table.awake → IsKernel new → Acts k new i (Some Kill) (Answers 0)
-  kills-other {j} found made sound = makes x Kill 0 sound made refl refl (state-waking (marked k j) _ ∙ sym (mark-state k j)) (kill-is found)
+  pub kills-other : {j : ℕ} → place_called k.table.places (natural (int_of (argument k 0))) ≡ Some j → {new : Kernel}
+      → new ≡ waking (marked k j) new.table.awake → IsKernel new → Acts k new i (Some Kill) (Answers 0)
+  kills-other {j} found made sound =
+      makes x Kill 0 sound made refl refl (state-waking (marked k j) _ ∙ sym (mark-state k j)) (kill-is found)
 
-  pub kills-self : place_called k.table.places (natural (int_of (argument k 0))) ≡ Some i → Acts k k i (Some Kill) KillsItself
+  pub kills-self : place_called k.table.places (natural (int_of (argument k 0))) ≡ Some i
+      → Acts k k i (Some Kill) KillsItself
   kills-self found =
-      let settled : settle (state_of k) i (limited (Done (change_process (state_of k) i rows.marked) 0 [])) ≡ quiet (settled_by (state_of k) i KillsItself) = rw (mark-within (state_of k) i ∙ within-state k x.sound x.up, self-there) refl in
-      came x (Some Kill) KillsItself tt (ap (λ (o : Outcome). settle (state_of k) i (limited o)) (kill-is found) ∙ settled)
+      let settled : settle (state_of k) i (limited (Done (change_process (state_of k) i rows.marked) 0 []))
+              ≡ quiet (settled_by (state_of k) i KillsItself) =
+              rw (mark-within (state_of k) i ∙ within-state k x.sound x.up, self-there) refl in
+      came x (Some Kill) KillsItself tt
+          (ap (λ (o : Outcome). settle (state_of k) i (limited o)) (kill-is found) ∙ settled)
 
 -- a pid that is not 0 is looked for
 pub named-is : (os : List (Option Process)) (n : ℕ) → n ≢ 0 → place_called os (Some n) ≡ place_where os (has_pid n)
@@ -162,14 +209,18 @@ module _ {k : Kernel} {i : ℕ} (runs : Runs k i) where
   abbrev x : Here k i
   x = here-of runs
 
-  unseated-go : (o : Option ℕ) (b : Bool) (fault : ProcFault) → free_slot k.table.places ≡ o → nat_le k.table.next_pid last_pid ≡ b → seat_at k.table.next_pid o ≡ Err fault → fork_row (state_of k) i (me x) ≡ Refused
+  unseated-go : (o : Option ℕ) (b : Bool) (fault : ProcFault) → free_slot k.table.places ≡ o
+      → nat_le k.table.next_pid last_pid ≡ b → seat_at k.table.next_pid o ≡ Err fault
+      → fork_row (state_of k) i (me x) ≡ Refused
   unfolding fork_row
   unseated-go None b fault at left is = rw (free-run x.runner, at) refl
   unseated-go (Some j) true fault at left is = let e = rw left at is in absurd (cc)
   unseated-go (Some j) false fault at left is = rw (free-run x.runner, at, next-run x.runner, left) refl
 
   pub fork-unseated : {fault : ProcFault} → seat_of k.table ≡ Err fault → Acts k k i (Some Fork) Refuses
-  fork-unseated {fault} seats = refused x (Some Fork) (ap limited (unseated-go (free_slot k.table.places) (nat_le k.table.next_pid last_pid) fault refl refl seats))
+  fork-unseated {fault} seats =
+      refused x (Some Fork) (ap limited
+      (unseated-go (free_slot k.table.places) (nat_le k.table.next_pid last_pid) fault refl refl seats))
 
   module _ {seat : Seat} (seats : seat_of k.table ≡ Ok seat) where
     is : IsSeat k.table seat
@@ -183,15 +234,23 @@ module _ {k : Kernel} {i : ℕ} (runs : Runs k i) where
     forked-row =
         let next = next-run x.runner in
         let left : nat_le (state_of k).next_pid last_pid ≡ true = rw next is.left in
-        rw (free-run x.runner, is.free, left) (ap (λ (s : State). Done s (state_of k).next_pid []) (sym (fork-state x.runner runs.zero runs.aligned seat is)) ∙ ap (λ (n : ℕ). Done (state_of new) n []) (next ∙ sym is.pid))
+        rw (free-run x.runner, is.free, left)
+            (ap (λ (s : State). Done s (state_of k).next_pid [])
+            (sym (fork-state x.runner runs.zero runs.aligned seat is))
+            ∙ ap (λ (n : ℕ). Done (state_of new) n []) (next ∙ sym is.pid))
 
     pub fork-unfit : k.spaces.frames < taken_frames (copied k.spaces i seat.place) → Acts k k i (Some Fork) Refuses
-    fork-unfit over = refused x (Some Fork) (ap limited forked-row ∙ rw (fork-full x.runner runs.zero runs.aligned seat is over) refl)
+    fork-unfit over = refused x (Some Fork)
+        (ap limited forked-row ∙ rw (fork-full x.runner runs.zero runs.aligned seat is over) refl)
 
-    pub forks : {k' : Kernel} → IsKernel k' → ((p : Process) → slot k.table.places i ≡ Some p → k' ≡ waking (forked_as k i seat (on_hart k.spaces p)) k'.table.awake) → Acts k k' i (Some Fork) (Answers seat.pid)
+    pub forks : {k' : Kernel} → IsKernel k'
+        → ((p : Process) → slot k.table.places i ≡ Some p
+        → k' ≡ waking (forked_as k i seat (on_hart k.spaces p)) k'.table.awake)
+        → Acts k k' i (Some Fork) (Answers seat.pid)
     forks {k'} sound made =
         let so = made x.process x.run.process in
-        does x Fork seat.pid (here-as x sound so refl (ap (λ (y : Kernel). y.tree.failed) so ∙ runs.up)) (rw so (record { up = runs.up; same_device = refl; later = omega arith }))
+        does x Fork seat.pid (here-as x sound so refl (ap (λ (y : Kernel). y.tree.failed) so ∙ runs.up))
+            (rw so (record { up = runs.up; same_device = refl; later = omega arith }))
         (forked-row ∙ ap (λ (s : State). Done s seat.pid []) (sym (state-but new so)))
 
 -- ---- sbrk
@@ -199,7 +258,8 @@ module _ {k : Kernel} {i : ℕ} (runs : Runs k i) where
 module _ {k : Kernel} {i : ℕ} (x : Here k i) where
   pub sbrk-below : asked k i (int_of (argument k 0)) ≡ None → Acts k k i (Some Sbrk) Refuses
   unfolding sbrk_row
-  sbrk-below below = let none : natural (pos x.held.size +ℤ int_of (argument k 0)) ≡ None = rw (held-here x) at below in refused x (Some Sbrk) (rw none refl)
+  sbrk-below below = let none : natural (pos x.held.size +ℤ int_of (argument k 0)) ≡ None =
+      rw (held-here x) at below in refused x (Some Sbrk) (rw none refl)
 
   module _ {size : ℕ} (can : asked k i (int_of (argument k 0)) ≡ Some size) where
     sized-row : row_of x Sbrk ≡ Done (state_of (resized k i size)) x.held.size []
@@ -208,25 +268,36 @@ module _ {k : Kernel} {i : ℕ} (x : Here k i) where
         let can' : natural (pos x.held.size +ℤ int_of (argument k 0)) ≡ Some size = rw (held-here x) at can in
         rw can' (ap (λ (s : State). Done s x.held.size []) (sym (resized-state x.run x.sound size)))
 
-    pub sbrk-acts : {new : Kernel} → new ≡ resized k i size → IsKernel new → {old : ℕ} → old ≡ (view_at k.spaces i).size → Acts k new i (Some Sbrk) (Answers old)
-    sbrk-acts is sound old = rw (is, old ∙ ap (λ (h : SpaceView). h.size) (held-here x)) (makes x Sbrk x.held.size (subst IsKernel is sound) refl refl refl refl sized-row)
+    pub sbrk-acts : {new : Kernel} → new ≡ resized k i size → IsKernel new → {old : ℕ}
+        → old ≡ (view_at k.spaces i).size → Acts k new i (Some Sbrk) (Answers old)
+    sbrk-acts is sound old =
+        rw (is, old ∙ ap (λ (h : SpaceView). h.size) (held-here x))
+        (makes x Sbrk x.held.size (subst IsKernel is sound) refl refl refl refl sized-row)
 
-    pub sbrk-over : {new : Kernel} → k.spaces.frames < taken_frames (resized k i size).spaces → new ≡ k → Acts k new i (Some Sbrk) Refuses
-    sbrk-over over same = rw same (refused x (Some Sbrk) (ap limited sized-row ∙ rw (reheld-full x.run x.sound _ over) refl))
+    pub sbrk-over : {new : Kernel} → k.spaces.frames < taken_frames (resized k i size).spaces → new ≡ k
+        → Acts k new i (Some Sbrk) Refuses
+    sbrk-over over same = rw same
+        (refused x (Some Sbrk) (ap limited sized-row ∙ rw (reheld-full x.run x.sound _ over) refl))
 
 -- ---- wait: the first zombie child of the running process goes, and its status is written
 
 -- ---- the status is written
 
-status-is : {k : Kernel} {i : ℕ} (x : Here k i) (a : ℕ) (status : ℤ) → let to = with_status k i a status in (state_of to ≡ put_process (state_of k) i (rows.with_status (me x) a status)) × ((to.spaces.active ≡ k.spaces.active) × (to.tree ≡ k.tree))
-status-is {k} {i} x zero status = (ap (λ (places : List (Option unix.Process)). record (state_of k) { places = places }) (sym (set-slot (state_of k).places i (Some (me x)) (process-here x))), (refl, refl))
+status-is : {k : Kernel} {i : ℕ} (x : Here k i) (a : ℕ) (status : ℤ)
+    → let to = with_status k i a status
+    in (state_of to ≡ put_process (state_of k) i (rows.with_status (me x) a status))
+    × ((to.spaces.active ≡ k.spaces.active) × (to.tree ≡ k.tree))
+status-is {k} {i} x zero status =
+    (ap (λ (places : List (Option unix.Process)). record (state_of k) { places = places })
+    (sym (set-slot (state_of k).places i (Some (me x)) (process-here x))), (refl, refl))
 status-is x (suc a) status =
     let some : nat_eq (suc a) 0 ≡ false = ne_eqb (suc a) 0 (λ same. absurd (omega (arith, same))) in
     rw some (wrote-state x.run x.sound (suc a) (le 4 (cast_unsigned w32 status)), (refl, refl))
 
 -- ---- the call
 
-module _ {k : Kernel} {i : ℕ} (x : Here k i) (parent : ℕ) (named : IfSome (slot k.table.places i) (λ p. parent ≡ p.pid)) where
+module _ {k : Kernel} {i : ℕ} (x : Here k i) (parent : ℕ)
+    (named : IfSome (slot k.table.places i) (λ p. parent ≡ p.pid)) where
   parent-is : x.process.pid ≡ parent
   parent-is = let e : parent ≡ x.process.pid = rw x.run.process at named in sym e
 
@@ -248,7 +319,8 @@ module _ {k : Kernel} {i : ℕ} (x : Here k i) (parent : ℕ) (named : IfSome (s
     wait-row = ap (goes_on (state_of k) i (me x) w) number ∙ ap (wait_for (state_of k) i (me x) w) zombie-is
 
     -- r was waited for, which left kernel m
-    module _ {r : Reaped} (said : Some r ≡ reaped_at k.table (zombie_place k.table parent)) {m : Kernel} (left : m ≡ collected k (zombie_place k.table parent)) where
+    module _ {r : Reaped} (said : Some r ≡ reaped_at k.table (zombie_place k.table parent)) {m : Kernel}
+        (left : m ≡ collected k (zombie_place k.table parent)) where
       has : HasReaped k parent r
       has = has-reaped said
 
@@ -262,33 +334,52 @@ module _ {k : Kernel} {i : ℕ} (x : Here k i) (parent : ℕ) (named : IfSome (s
       mid-is = left ∙ ap (collected k) has.found
 
       abbrev mid-here : Here mid i
-      mid-here = record { runner = record { process = x.process; held = x.held; run = collected-run x.runner r.place apart; sound = collected-kernel x.sound r.place has.child has.zombie }; up = x.up }
+      mid-here = record { runner = record
+          { process = x.process; held = x.held; run = collected-run x.runner r.place apart;
+          sound = collected-kernel x.sound r.place has.child has.zombie }; up = x.up }
 
       child-at : process_at (state_of k) r.place ≡ Some (with_space (view_at k.spaces r.place) has.child)
       child-at =
           process-state k r.place
-          ∙ ap (option_map (with_space (view_at k.spaces r.place))) (ap (λ (t : Places). slot t.places r.place) (loaded-run k i x.process x.held x.run) ∙ slot-other k.table.places i r.place (Some (on_hart k.spaces x.process)) apart ∙ has.zombie.at)
+          ∙ ap (option_map (with_space (view_at k.spaces r.place)))
+              (ap (λ (t : Places). slot t.places r.place) (loaded-run k i x.process x.held x.run)
+              ∙ slot-other k.table.places i r.place (Some (on_hart k.spaces x.process)) apart ∙ has.zombie.at)
 
-      pub collects-can : can_answer (memory_at k i) (pending_arg w 0) ≡ true → (m.spaces.active ≡ Some i) × (can_answer (memory_at m i) (pending_arg w 0) ≡ true)
-      collects-can can = rw mid-is (x.run.active, ap (λ (o : Option SpaceView). can_answer (unwrap_or o no_pages).memory (pending_arg w 0)) (slot-other k.spaces.places r.place i None (λ e. apart (sym e))) ∙ can)
+      pub collects-can : can_answer (memory_at k i) (pending_arg w 0) ≡ true
+          → (m.spaces.active ≡ Some i) × (can_answer (memory_at m i) (pending_arg w 0) ≡ true)
+      collects-can can = rw mid-is
+          (x.run.active, ap (λ (o : Option SpaceView). can_answer (unwrap_or o no_pages).memory (pending_arg w 0))
+          (slot-other k.spaces.places r.place i None (λ e. apart (sym e))) ∙ can)
 
-      pub collects : {new : Kernel} → IsKernel new → new ≡ with_status m i (pending_arg w 0) r.status → GoesOn k new i w (Answers r.pid)
+      pub collects : {new : Kernel} → IsKernel new → new ≡ with_status m i (pending_arg w 0) r.status
+          → GoesOn k new i w (Answers r.pid)
       collects {new} sound is =
           let a = pending_arg w 0 in
           let to : new ≡ with_status mid i a r.status = is ∙ ap (λ (y : Kernel). with_status y i a r.status) mid-is in
           let after = status-is mid-here a r.status in
-          let state : state_of (with_status mid i a r.status) ≡ record (state_of k) { places = clear (put (state_of k).places i (rows.with_status (me x) a r.status)) r.place } =
+          let state : state_of (with_status mid i a r.status)
+                  ≡ record (state_of k) { places = clear
+                  (put (state_of k).places i (rows.with_status (me x) a r.status)) r.place } =
           after.0
-          ∙ ap (λ (s : State). put_process s i (rows.with_status (me x) a r.status)) (collected-state x.runner r.place has.child has.zombie apart)
-          ∙ ap (λ (places : List (Option unix.Process)). record (state_of k) { places = places }) (set_comm (state_of k).places r.place i None (Some (rows.with_status (me x) a r.status)) apart) in
+          ∙ ap (λ (s : State). put_process s i (rows.with_status (me x) a r.status))
+              (collected-state x.runner r.place has.child has.zombie apart)
+          ∙ ap (λ (places : List (Option unix.Process)). record (state_of k) { places = places })
+              (set_comm (state_of k).places r.place i None (Some (rows.with_status (me x) a r.status)) apart) in
           rw has.pid (goes-done x w has.child.pid sound to after.1.0 after.1.1
-          (state ∙ ap (λ (z : ℤ). record (state_of k) { places = clear (put (state_of k).places i (rows.with_status (me x) a z)) r.place }) has.status)
-          (wait-row ∙ ap (wait_for (state_of k) i (me x) w) has.found ∙ ap (λ (o : Option unix.Process). given o (λ c. rows.collect (state_of k) i (me x) a r.place c)) child-at))
+          (state ∙ ap (λ (z : ℤ). record (state_of k)
+              { places = clear (put (state_of k).places i (rows.with_status (me x) a z)) r.place }) has.status)
+          (wait-row ∙ ap (wait_for (state_of k) i (me x) w) has.found
+              ∙ ap (λ (o : Option unix.Process). given o (λ c. rows.collect (state_of k) i (me x) a r.place c))
+              child-at))
 
-    pub wait-blocks : {m : Kernel} → can_answer (memory_at k i) (pending_arg w 0) ≡ true → reaped_at k.table (zombie_place k.table parent) ≡ None → m ≡ collected k (zombie_place k.table parent) → GoesOn k m i w (Blocks w)
+    pub wait-blocks : {m : Kernel} → can_answer (memory_at k i) (pending_arg w 0) ≡ true
+        → reaped_at k.table (zombie_place k.table parent) ≡ None → m ≡ collected k (zombie_place k.table parent)
+        → GoesOn k m i w (Blocks w)
     wait-blocks can is left =
         let none = unreaped-go k.table parent (zombie_place k.table parent) refl is in
-        rw (left, none) (goes-waits x w w x.sound refl refl refl (subst (IsPending (descriptors_at k i) (memory_at k i) w) (sym number) can, waits-other _ _ w Wait (λ same. absurd (cc)) (λ same. absurd (cc)) number) refl
+        rw (left, none) (goes-waits x w w x.sound refl refl refl
+            (subst (IsPending (descriptors_at k i) (memory_at k i) w) (sym number) can,
+            waits-other _ _ w Wait (λ same. absurd (cc)) (λ same. absurd (cc)) number) refl
         (wait-row ∙ ap (wait_for (state_of k) i (me x) w) none))
 
   -- ---- the call begins
@@ -296,16 +387,19 @@ module _ {k : Kernel} {i : ℕ} (x : Here k i) (parent : ℕ) (named : IfSome (s
   can-is : can_answer (memory_at k i) (argument k 0) ≡ can_answer x.held.memory (argument k 0)
   can-is = ap (λ (y : SpaceView). can_answer y.memory (argument k 0)) (held-here x)
 
-  pub wait-childless : is_some (place_where k.table.places (is_child_of parent)) ≡ false → Acts k k i (Some Wait) Refuses
+  pub wait-childless : is_some (place_where k.table.places (is_child_of parent)) ≡ false
+      → Acts k k i (Some Wait) Refuses
   unfolding wait_row
   wait-childless none = refused x (Some Wait) (rw (child-is, none) refl)
 
   pub wait-unwritable : can_answer (memory_at k i) (argument k 0) ≡ false → Acts k k i (Some Wait) Refuses
   unfolding wait_row
-  wait-unwritable cannot = refused x (Some Wait) (provided-refused (has_child (state_of k) x.process.pid) _ (rw (sym can-is ∙ cannot) refl))
+  wait-unwritable cannot =
+      refused x (Some Wait) (provided-refused (has_child (state_of k) x.process.pid) _ (rw (sym can-is ∙ cannot) refl))
 
   -- the call goes on as it would later
-  pub wait-begins : is_some (place_where k.table.places (is_child_of parent)) ≡ true → can_answer (memory_at k i) (argument k 0) ≡ true
+  pub wait-begins : is_some (place_where k.table.places (is_child_of parent)) ≡ true
+      → can_answer (memory_at k i) (argument k 0) ≡ true
       → {new : Kernel} {c : Came} → GoesOn k new i (pending_for k Wait) c → Acts k new i (Some Wait) c
   unfolding wait_row
   wait-begins some can goes = begins-on x (pending_for k Wait) Wait (rw (child-is, some, sym can-is ∙ can) refl) goes

@@ -38,7 +38,8 @@ pub here-of : {k : Kernel} {i : ℕ} → Runs k i → Here k i
 here-of runs = here-in runs.sound runs.active runs.up
 
 -- it runs on in another kernel
-pub here-as : {k new made : Kernel} {i : ℕ} → Here k i → IsKernel new → new ≡ made → made.spaces.active ≡ k.spaces.active → new.tree.failed ≡ false → Here new i
+pub here-as : {k new made : Kernel} {i : ℕ} → Here k i → IsKernel new → new ≡ made
+    → made.spaces.active ≡ k.spaces.active → new.tree.failed ≡ false → Here new i
 here-as x sound is same up = here-in sound (ap (λ (y : Kernel). y.spaces.active) is ∙ same ∙ x.run.active) up
 
 module _ {k : Kernel} {i : ℕ} (x : Here k i) where
@@ -65,4 +66,6 @@ module _ {k : Kernel} {i : ℕ} (x : Here k i) where
   abbrev pub answered-here : (value : ℕ) → Here (answered k value) i
   answered-here value =
       let regs = slice_set k.spaces.registers 10 value in
-      record { runner = record { process = x.process; held = x.held; run = regs-run k i x.process x.held x.run x.sound regs k.spaces.pc; sound = regs-kernel k x.sound regs k.spaces.pc }; up = x.up }
+      record { runner = record
+          { process = x.process; held = x.held; run = regs-run k i x.process x.held x.run x.sound regs k.spaces.pc;
+          sound = regs-kernel k x.sound regs k.spaces.pc }; up = x.up }

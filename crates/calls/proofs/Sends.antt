@@ -1,9 +1,16 @@
 -- Writes to the console and to a pipe, and reads from them.
-use Rattle.calls.proofs.Common.{[], answered, Answers, answers, ap, Appends, Appends-nil, Appends-trans, arith, begins_more, Blocks, Bool, bytes_given, bytes_in, Came, can_write, CanWait, Comes, descriptors_at, Done, drew, drew-state, drop}
-use Rattle.calls.proofs.Common.{eq-eqb, false, false≢true, GoesOn, going_at, held-same, if◌then◌else◌, is_on_pipe, is_some, IsFresh, IsFront, IsKernel, IsPending, IsSized, Kernel, leb-true, length, length-drop, length-take, length-take-le}
-use Rattle.calls.proofs.Common.{limited, List, Load, me, Memory, memory_at, min, minus_one, nat_eq, nat_le, nat_lt, ne_eqb, not, Option, Outcome, Pending, pending_arg, piece_at, pipe_room, put, put_process, reach, read_bytes, read_on}
-use Rattle.calls.proofs.Common.{read_pipe, read_taken, ReadEnd, refl, sent, settle, slot-within, SpaceView, State, state-waking, state_of, Store, subst, suc, sym, take, take_line, Transfers, true, typed, unwrap_or, view_at, Waits}
-use Rattle.calls.proofs.Common.{waits-reading, waits-writing, waking, wanted, write_bytes, write_on, write_pipe, WriteEnd, wrote, wrote-state, zero, ℕ, ◌++◌, ◌+◌, ◌-◌, ◌<◌, ◌==◌, ◌^◌, ◌∙◌, ◌∷◌, ◌≡◌, ◌≢◌, ◌≤◌}
+use Rattle.calls.proofs.Common.{[], answered, Answers, answers, ap, Appends, Appends-nil, Appends-trans, arith}
+use Rattle.calls.proofs.Common.{begins_more, Blocks, Bool, bytes_given, bytes_in, Came, can_write, CanWait, Comes}
+use Rattle.calls.proofs.Common.{descriptors_at, Done, drew, drew-state, drop, eq-eqb, false, false≢true, GoesOn}
+use Rattle.calls.proofs.Common.{going_at, held-same, if◌then◌else◌, is_on_pipe, is_some, IsFresh, IsFront, IsKernel}
+use Rattle.calls.proofs.Common.{IsPending, IsSized, Kernel, leb-true, length, length-drop, length-take, length-take-le}
+use Rattle.calls.proofs.Common.{limited, List, Load, me, Memory, memory_at, min, minus_one, nat_eq, nat_le, nat_lt}
+use Rattle.calls.proofs.Common.{ne_eqb, not, Option, Outcome, Pending, pending_arg, piece_at, pipe_room, put}
+use Rattle.calls.proofs.Common.{put_process, reach, read_bytes, read_on, read_pipe, read_taken, ReadEnd, refl, sent}
+use Rattle.calls.proofs.Common.{settle, slot-within, SpaceView, State, state-waking, state_of, Store, subst, suc, sym}
+use Rattle.calls.proofs.Common.{take, take_line, Transfers, true, typed, unwrap_or, view_at, Waits, waits-reading}
+use Rattle.calls.proofs.Common.{waits-writing, waking, wanted, write_bytes, write_on, write_pipe, WriteEnd, wrote}
+use Rattle.calls.proofs.Common.{wrote-state, zero, ℕ, ◌++◌, ◌+◌, ◌-◌, ◌<◌, ◌==◌, ◌^◌, ◌∙◌, ◌∷◌, ◌≡◌, ◌≢◌, ◌≤◌}
 use Rattle.unixmodel.specs.Console.{Taken}
 use Rattle.file_transfers.proofs.Memory.{reach-written, readable-count, rest-writes}
 use Rattle.vm.proofs.ReachLemmas.{reach-drop, reach-next, reach-page}
@@ -16,7 +23,8 @@ use Rattle.files.specs.declared.file.End.{End}
 use Rattle.files.specs.Places.{opens_of, has_end}
 use Rattle.spaces.specs.Spaces.{fitting, written, put_behind, read_at}
 use Rattle.calls.proofs.Acts.{after, goes-done, goes-waits, going, going-here, settle-limited, settles-to, same-served}
-use Rattle.calls.proofs.Transfers.{console-here, file, file-named, given_bytes, going-is, here, length-given, pipe-here, read-given, named-file}
+use Rattle.calls.proofs.Transfers.{console-here, file, file-named, given_bytes, going-is, here, length-given, pipe-here}
+use Rattle.calls.proofs.Transfers.{read-given, named-file}
 use Rattle.files.specs.declared.file.End.TheVariants as end
 use Rattle.files.specs.declared.file.Target.TheVariants as target
 use Rattle.std.proofs.lemmas.Bool.Decides.{nat_tests}
@@ -26,15 +34,19 @@ use Rattle.unixmodel.specs.FileCalls as rows
 -- ---- bytes that are put out in pieces
 
 front-rest : (xs : List ℕ) (a n : ℕ) → a ≤ n → take a xs ++ drop a (take n xs) ≡ take n xs
-front-rest xs a n less = ap (λ ys. ys ++ drop a (take n xs)) (sym (take-take a n xs less)) ∙ take-append-drop a (take n xs)
+front-rest xs a n less = ap (λ ys. ys ++ drop a (take n xs)) (sym (take-take a n xs less))
+    ∙ take-append-drop a (take n xs)
 
 -- ---- the bytes of a process
 
 -- what is left of a buffer has an address
-pub buffer-fits : (a : Access) (mem : Memory) (address count done : ℕ) → IsSized mem → count ≤ length (reach a mem address) → done < count → length mem ≤ 32768 → address + done < 2 ^ 64
-buffer-fits a mem address count done sized all less few = let page = (reach-page a mem address done sized (omega (arith, all, less))).0 in omega (arith, page, few)
+pub buffer-fits : (a : Access) (mem : Memory) (address count done : ℕ) → IsSized mem
+    → count ≤ length (reach a mem address) → done < count → length mem ≤ 32768 → address + done < 2 ^ 64
+buffer-fits a mem address count done sized all less few = let page =
+    (reach-page a mem address done sized (omega (arith, all, less))).0 in omega (arith, page, few)
 
-module _ (mem : Memory) (address count done : ℕ) (sized : IsSized mem) (readable : is_some (read_bytes mem address count) ≡ true) (less : done < count) where
+module _ (mem : Memory) (address count done : ℕ) (sized : IsSized mem)
+    (readable : is_some (read_bytes mem address count) ≡ true) (less : done < count) where
   abbrev all : List ℕ
   all = reach Load mem address
 
@@ -51,7 +63,8 @@ module _ (mem : Memory) (address count done : ℕ) (sized : IsSized mem) (readab
   pub rest-readable : count - done ≤ length (reach Load mem (address + done))
   rest-readable = rw rest-on (let a = whole.0 in let l = length-drop done all in omega (arith, a, l))
 
-  pub rest-is : take (count - done) (reach Load mem (address + done)) ≡ drop done (unwrap_or (read_bytes mem address count) [])
+  pub rest-is : take (count - done) (reach Load mem (address + done))
+      ≡ drop done (unwrap_or (read_bytes mem address count) [])
   rest-is =
       let sum : done + (count - done) ≡ count = omega (arith, less) in
       ap (take (count - done)) rest-on
@@ -60,49 +73,64 @@ module _ (mem : Memory) (address count done : ℕ) (sized : IsSized mem) (readab
       ∙ sym (ap (drop done) whole.1)
 
   -- a piece that is put out continues what was put out before
-  module _ (piece : List ℕ) (most : length piece ≤ count - done) (front : IsFront piece (piece_at Load mem (address + done))) where
+  module _ (piece : List ℕ) (most : length piece ≤ count - done)
+      (front : IsFront piece (piece_at Load mem (address + done))) where
     pub prints-within : done + length piece ≤ count
     prints-within = omega (arith, most, less)
 
     more : take done all ++ piece ≡ take (done + length piece) all
-    more = ap (λ (bs : List ℕ). take done all ++ bs) front.1 ∙ reach-next Load mem address done (length piece) sized (let a = whole.0 in omega (arith, a, less)) front.0
+    more = ap (λ (bs : List ℕ). take done all ++ bs) front.1
+        ∙ reach-next Load mem address done (length piece) sized (let a = whole.0 in omega (arith, a, less)) front.0
 
-    pub prints-more : (before mid after : Option (List ℕ)) → Appends before mid (take done all) → Appends mid after piece → Appends before after (take (done + length piece) all)
-    prints-more before mid after printed put = subst (Appends before after) more (Appends-trans before mid after (take done all) piece printed put)
+    pub prints-more : (before mid after : Option (List ℕ)) → Appends before mid (take done all)
+        → Appends mid after piece → Appends before after (take (done + length piece) all)
+    prints-more before mid after printed put =
+        subst (Appends before after) more (Appends-trans before mid after (take done all) piece printed put)
 
-    pub prints-front : (before mid after : Option (List ℕ)) → Appends before mid (take done all) → AppendsBeginning mid after piece → AppendsBeginning before after (unwrap_or (read_bytes mem address count) [])
+    pub prints-front : (before mid after : Option (List ℕ)) → Appends before mid (take done all)
+        → AppendsBeginning mid after piece → AppendsBeginning before after (unwrap_or (read_bytes mem address count) [])
     prints-front before mid after printed put =
         let rest = drop (done + length piece) (take count all) in
         let joined = ap (λ (bs : List ℕ). bs ++ rest) more ∙ front-rest all (done + length piece) count prints-within in
         rw whole.1 (begins_more before mid after (take done all) piece rest (take count all) printed put joined)
 
 -- all is put out
-pub prints-all : (mem : Memory) (address count done : ℕ) → is_some (read_bytes mem address count) ≡ true → done ≤ count → count ≤ done → (before after : Option (List ℕ)) → Appends before after (take done (reach Load mem address))
+pub prints-all : (mem : Memory) (address count done : ℕ) → is_some (read_bytes mem address count) ≡ true → done ≤ count
+    → count ≤ done → (before after : Option (List ℕ)) → Appends before after (take done (reach Load mem address))
     → Appends before after (unwrap_or (read_bytes mem address count) [])
 prints-all mem address count done readable within end before after printed =
     let same : done ≡ count = omega (arith, within, end) in
-    rw (readable-count mem address count readable).1 (subst (λ (n : ℕ). Appends before after (take n (reach Load mem address))) same printed)
+    rw (readable-count mem address count readable).1
+        (subst (λ (n : ℕ). Appends before after (take n (reach Load mem address))) same printed)
 
 -- ---- to the console
 
 module _ {k : Kernel} {i n : ℕ} {w : Pending} (g : Transfers k i end.Write (target.Console n) w) where
   puts-row : going (here g) w ≡ Done (state_of k) (wanted w) (given_bytes g)
   unfolding write_on
-  puts-row = let f = file-named g in going-is g ∙ rw (f.named, f.opened, read-given g, (file g).on, (console-here g).3, length-given g) refl
+  puts-row = let f = file-named g in going-is g
+      ∙ rw (f.named, f.opened, read-given g, (file g).on, (console-here g).3, length-given g) refl
 
-  settles-puts : settle (state_of k) i (limited (going_at (state_of k) i w)) ≡ after (state_of (answered k (wanted w))) (given_bytes g)
-  settles-puts = ap (λ (o : Outcome). settle (state_of k) i (limited o)) (going-here (here g) w ∙ puts-row) ∙ settle-limited (here g) (state_of k) (wanted w) (given_bytes g)
+  settles-puts : settle (state_of k) i (limited (going_at (state_of k) i w))
+      ≡ after (state_of (answered k (wanted w))) (given_bytes g)
+  settles-puts = ap (λ (o : Outcome). settle (state_of k) i (limited o)) (going-here (here g) w ∙ puts-row)
+      ∙ settle-limited (here g) (state_of k) (wanted w) (given_bytes g)
 
   module _ {m : ℕ} (all : m ≡ wanted w) (before now : Option (List ℕ)) where
-    pub puts-all : Appends before now (bytes_given k.spaces i (pending_arg w 1) m) → (bs : List ℕ) × Comes k k i (limited (going_at (state_of k) i w)) bs (Answers m) × Appends before now bs
-    puts-all printed = rw all (given_bytes g, settles-to (wanted w) (given_bytes g) (here g) (same-served refl (here g).up) settles-puts, rw all at printed)
+    pub puts-all : Appends before now (bytes_given k.spaces i (pending_arg w 1) m)
+        → (bs : List ℕ) × Comes k k i (limited (going_at (state_of k) i w)) bs (Answers m) × Appends before now bs
+    puts-all printed = rw all
+        (given_bytes g, settles-to (wanted w) (given_bytes g) (here g) (same-served refl (here g).up) settles-puts,
+        rw all at printed)
 
     -- the console failed
-    pub puts-beginning : AppendsBeginning before now (bytes_given k.spaces i (pending_arg w 1) m) → AppendsBeginning before now (settle (state_of k) i (limited (going_at (state_of k) i w))).bytes
+    pub puts-beginning : AppendsBeginning before now (bytes_given k.spaces i (pending_arg w 1) m)
+        → AppendsBeginning before now (settle (state_of k) i (limited (going_at (state_of k) i w))).bytes
     puts-beginning printed = rw settles-puts (rw all at printed)
 
 -- nothing is put out
-pub puts-none : {k new : Kernel} {i : ℕ} {w : Pending} {came : Came} (at : Option (List ℕ)) → GoesOn k new i w came → (bs : List ℕ) × Comes k new i (limited (going_at (state_of k) i w)) bs came × Appends at at bs
+pub puts-none : {k new : Kernel} {i : ℕ} {w : Pending} {came : Came} (at : Option (List ℕ)) → GoesOn k new i w came
+    → (bs : List ℕ) × Comes k new i (limited (going_at (state_of k) i w)) bs came × Appends at at bs
 puts-none at goes = ([], rw goes.within goes.comes, Appends-nil at)
 
 -- ---- to a pipe
@@ -125,8 +153,10 @@ module _ {k : Kernel} {i : ℕ} {w : Pending} {q : ℕ} {d : End} (g : Transfers
   sends-row = let f = file-named g in going-is g ∙ rw (f.named, f.opened, read-given g, (file g).on, pipe-here g) refl
 
   -- nobody can read it
-  pub sends-closed : {e : Bool} → e ≡ has_end (opens_of k.files) q ReadEnd → e ≡ false → GoesOn k k i w (Answers minus_one)
-  sends-closed told closed = let none : has_end (opens_of k.files) q ReadEnd ≡ false = sym told ∙ closed in goes-done (here g) w minus_one g.runs.sound refl refl refl refl (sends-row ∙ rw none refl)
+  pub sends-closed : {e : Bool} → e ≡ has_end (opens_of k.files) q ReadEnd → e ≡ false
+      → GoesOn k k i w (Answers minus_one)
+  sends-closed told closed = let none : has_end (opens_of k.files) q ReadEnd ≡ false = sym told
+      ∙ closed in goes-done (here g) w minus_one g.runs.sound refl refl refl refl (sends-row ∙ rw none refl)
 
   -- m: what is left to put
   module _ (sized : IsSized (memory_at k i)) {m : ℕ} (wide : m ≡ wanted w - w.done) where
@@ -140,7 +170,8 @@ module _ {k : Kernel} {i : ℕ} {w : Pending} {q : ℕ} {d : End} (g : Transfers
     sends-fits = rest-fits (memory_at k i) (pending_arg w 1) (wanted w) w.done sized g.can.readable g.can.left
 
     pub sends-readable : m ≤ length (reach Load (memory_at k i) (pending_arg w 1 + w.done))
-    sends-readable = rw wide (rest-readable (memory_at k i) (pending_arg w 1) (wanted w) w.done sized g.can.readable g.can.left)
+    sends-readable = rw wide
+        (rest-readable (memory_at k i) (pending_arg w 1) (wanted w) w.done sized g.can.readable g.can.left)
 
     module _ {c : ℕ} (count : c ≡ length (fitting held piece)) where
       count-is : c ≡ length (fitting held left)
@@ -151,20 +182,25 @@ module _ {k : Kernel} {i : ℕ} {w : Pending} {q : ℕ} {d : End} (g : Transfers
           let few : length (fitting held left) ≤ length left = fitting-less held left in
           omega (arith, count-is, few, length-drop w.done (given_bytes g), length-given g, g.can.left)
 
-      module _ {e : Bool} (told : e ≡ has_end (opens_of k.files) q ReadEnd) (yes : e ≡ true) {to : Kernel} (made : to ≡ waking (sent k i q (pending_arg w 1 + w.done) m) to.table.awake) (sound : IsKernel to) where
+      module _ {e : Bool} (told : e ≡ has_end (opens_of k.files) q ReadEnd) (yes : e ≡ true) {to : Kernel}
+          (made : to ≡ waking (sent k i q (pending_arg w 1 + w.done) m) to.table.awake) (sound : IsKernel to) where
         some : has_end (opens_of k.files) q ReadEnd ≡ true
         some = sym told ∙ yes
 
         made-full : to ≡ waking full to.table.awake
-        made-full = made ∙ ap (λ (bs : List ℕ). waking (record k { spaces = put_behind k.spaces q bs }) to.table.awake) piece-is
+        made-full = made ∙ ap (λ (bs : List ℕ). waking (record k { spaces = put_behind k.spaces q bs }) to.table.awake)
+            piece-is
 
-        tested : (b : Bool) → nat_eq (w.done + c) (wanted w) ≡ b → nat_eq (w.done + length (fitting held left)) (length (given_bytes g)) ≡ b
-        tested b test = ap (λ (y : ℕ). nat_eq (w.done + y) (length (given_bytes g))) (sym count-is) ∙ ap (nat_eq (w.done + c)) (length-given g) ∙ test
+        tested : (b : Bool) → nat_eq (w.done + c) (wanted w) ≡ b
+            → nat_eq (w.done + length (fitting held left)) (length (given_bytes g)) ≡ b
+        tested b test = ap (λ (y : ℕ). nat_eq (w.done + y) (length (given_bytes g))) (sym count-is)
+            ∙ ap (nat_eq (w.done + c)) (length-given g) ∙ test
 
         pub sends-over : w.done + c ≡ wanted w → GoesOn k to i w (Answers (w.done + c))
         sends-over all =
             let test = tested true (eq-eqb (w.done + c) (wanted w) all) in
-            rw count-is (goes-done (here g) w (w.done + length (fitting held left)) sound made-full refl refl (state-waking full to.table.awake) (sends-row ∙ rw (some, test) refl))
+            rw count-is (goes-done (here g) w (w.done + length (fitting held left)) sound made-full refl refl
+                (state-waking full to.table.awake) (sends-row ∙ rw (some, test) refl))
 
         pub sends-on : w.done + c ≢ wanted w → GoesOn k to i w (Blocks (record w { done = w.done + c }))
         sends-on rests =
@@ -172,10 +208,15 @@ module _ {k : Kernel} {i : ℕ} {w : Pending} {q : ℕ} {d : End} (g : Transfers
             let further = record w { done = w.done + length (fitting held left) } in
             let f = file g in
             let within = sends-within in
-            let writing : IsWriting (descriptors_at k i) (memory_at k i) further = record { named = g.can.named; readable = g.can.readable; left = omega (arith, rests, within, count-is) } in
+            let writing : IsWriting (descriptors_at k i) (memory_at k i) further =
+                    record { named = g.can.named; readable = g.can.readable;
+                    left = omega (arith, rests, within, count-is) } in
             let for : IsForPipe k.files (descriptors_at k i) further = λ write. rw (f.named, f.opened, f.on) refl in
-            let may : CanWait full i further = (subst (IsPending (descriptors_at k i) (memory_at k i) further) (sym g.number) writing, waits-writing k.files (descriptors_at k i) further g.number for) in
-            rw count-is (goes-waits (here g) w further sound made-full refl refl may (state-waking full to.table.awake) (sends-row ∙ rw (some, test) refl))
+            let may : CanWait full i further =
+                    (subst (IsPending (descriptors_at k i) (memory_at k i) further) (sym g.number) writing,
+                    waits-writing k.files (descriptors_at k i) further g.number for) in
+            rw count-is (goes-waits (here g) w further sound made-full refl refl may (state-waking full to.table.awake)
+                (sends-row ∙ rw (some, test) refl))
 
 -- ---- a read from the console or a pipe goes on
 
@@ -185,16 +226,20 @@ module _ {k : Kernel} {i : ℕ} {w : Pending} {q : ℕ} {d : End} (g : Transfers
 abbrev FitsIn : ℕ → Taken → Type 0
 FitsIn n t = (length t.bytes ≤ n) × (t.over ≡ false → length t.bytes < n)
 
-step-fits : (x y has : Bool) (b n : ℕ) (bs : List ℕ) (more : Taken) → FitsIn n more → FitsIn (suc n) (let t : Taken = if x then record { bytes = []; rest = if has then b ∷ bs else bs; over = true } else if y then record { bytes = b ∷ []; rest = bs; over = true } else record more { bytes = b ∷ more.bytes } in t)
+step-fits : (x y has : Bool) (b n : ℕ) (bs : List ℕ) (more : Taken) → FitsIn n more
+    → FitsIn (suc n) (let t : Taken = if x then record { bytes = []; rest = if has then b ∷ bs else bs; over = true }
+    else if y then record { bytes = b ∷ []; rest = bs; over = true } else record more { bytes = b ∷ more.bytes } in t)
 step-fits true y has b n bs more fits = (omega arith, λ over. absurd (cc))
 step-fits false true has b n bs more fits = (omega arith, λ over. absurd (cc))
-step-fits false false has b n bs more fits = (let most = fits.0 in omega (arith, most), λ over. let less = fits.1 over in omega (arith, less))
+step-fits false false has b n bs more fits =
+    (let most = fits.0 in omega (arith, most), λ over. let less = fits.1 over in omega (arith, less))
 
 line-fits : (has : Bool) (n : ℕ) (bytes : List ℕ) → FitsIn n (take_line has n bytes)
 unfolding take_line
 line-fits has zero bytes = (omega arith, λ over. absurd (cc))
 line-fits has (suc n) [] = (omega arith, λ over. omega arith)
-line-fits has (suc n) (b ∷ bs) = step-fits (nat_eq b 4) (nat_eq b 10) has b n bs (take_line true n bs) (line-fits true n bs)
+line-fits has (suc n) (b ∷ bs) =
+    step-fits (nat_eq b 4) (nat_eq b 10) has b n bs (take_line true n bs) (line-fits true n bs)
 
 -- ---- what console and spaces answer
 
@@ -209,16 +254,22 @@ pub record Took (k k1 : Kernel) (i : ℕ) (w : Pending) (n : ℕ) (buffer : List
   pub took : line_for k w ≡ record { bytes = take n buffer; rest = k1.console.committed; over = over }
   pub rest : k1 ≡ typed k (record k.console { committed = k1.console.committed })
 
-pub took-of : {k k1 : Kernel} {i : ℕ} {w : Pending} {n : ℕ} {buffer : List ℕ} {over : Bool} → IsSized (memory_at k i) → n ≤ 128 → length buffer ≡ 128 → {wide : ℕ} → wide ≡ wanted w
-    → take_line (nat_lt 0 w.done) (wide - w.done) k.console.committed ≡ record { bytes = take n buffer; rest = k1.console.committed; over = over } → k1 ≡ typed k (record k.console { committed = k1.console.committed }) → Took k k1 i w n buffer over
-took-of {k} {w = w} sized few long all took rest = record { sized = sized; long = omega (arith, few, long); took = ap (λ (m : ℕ). take_line (nat_lt 0 w.done) (m - w.done) k.console.committed) (sym all) ∙ took; rest = rest }
+pub took-of : {k k1 : Kernel} {i : ℕ} {w : Pending} {n : ℕ} {buffer : List ℕ} {over : Bool} → IsSized (memory_at k i)
+    → n ≤ 128 → length buffer ≡ 128 → {wide : ℕ} → wide ≡ wanted w
+    → take_line (nat_lt 0 w.done) (wide - w.done) k.console.committed
+        ≡ record { bytes = take n buffer; rest = k1.console.committed; over = over }
+        → k1 ≡ typed k (record k.console { committed = k1.console.committed }) → Took k k1 i w n buffer over
+took-of {k} {w = w} sized few long all took rest =
+    record { sized = sized; long = omega (arith, few, long);
+    took = ap (λ (m : ℕ). take_line (nat_lt 0 w.done) (m - w.done) k.console.committed) (sym all) ∙ took; rest = rest }
 
 -- ---- from the console
 
 module _ {k : Kernel} {i n : ℕ} {w : Pending} (g : Transfers k i end.Read (target.Console n) w) where
   -- the bytes go to addresses of the memory
   pub reads-fit : IsSized (memory_at k i) → length (memory_at k i) ≤ 32768 → pending_arg w 1 + w.done < 2 ^ 64
-  reads-fit sized few = buffer-fits Store (memory_at k i) (pending_arg w 1) (wanted w) w.done sized (leb-true (wanted w) (length (reach Store (memory_at k i) (pending_arg w 1))) g.can.buffer) g.can.left few
+  reads-fit sized few = buffer-fits Store (memory_at k i) (pending_arg w 1) (wanted w) w.done sized
+      (leb-true (wanted w) (length (reach Store (memory_at k i) (pending_arg w 1))) g.can.buffer) g.can.left few
 
   line-row : going (here g) w ≡ read_taken (state_of k) i (me (here g)) w (line_for k w)
   unfolding read_on
@@ -235,7 +286,8 @@ module _ {k : Kernel} {i n : ℕ} {w : Pending} (g : Transfers k i end.Read (tar
     t = record { bytes = line; rest = k1.console.committed; over = over }
 
     abbrev after_line : State
-    after_line = put_process (record (state_of k) { console = record k.console { committed = t.rest } }) i (rows.received (me (here g)) w line)
+    after_line = put_process (record (state_of k) { console = record k.console { committed = t.rest } }) i
+        (rows.received (me (here g)) w line)
 
     count : length line ≡ c
     count = length-take-le c buffer f.long
@@ -245,11 +297,13 @@ module _ {k : Kernel} {i n : ℕ} {w : Pending} (g : Transfers k i end.Read (tar
 
     pub reads-write : can_write (memory_at k1 i) address (length line) ≡ true
     reads-write =
-        let most : length (line_for k w).bytes ≤ wanted w - w.done = (line-fits (nat_lt 0 w.done) (wanted w - w.done) k.console.committed).0 in
+        let most : length (line_for k w).bytes ≤ wanted w - w.done =
+                (line-fits (nat_lt 0 w.done) (wanted w - w.done) k.console.committed).0 in
         let left = g.can.left in
         let all = same in
         ap (λ (y : Kernel). can_write (memory_at y i) address (length line)) f.rest
-        ∙ rest-writes (memory_at k i) (pending_arg w 1) w.done (length line) (wanted w) f.sized g.can.buffer (omega (arith, most, all, left))
+        ∙ rest-writes (memory_at k i) (pending_arg w 1) w.done (length line) (wanted w) f.sized g.can.buffer
+            (omega (arith, most, all, left))
 
     -- what was typed goes, and the bytes go to the process
     abbrev made : Kernel
@@ -260,13 +314,18 @@ module _ {k : Kernel} {i n : ℕ} {w : Pending} (g : Transfers k i end.Read (tar
       made-is = is ∙ ap (λ (y : Kernel). wrote y i address line) f.rest
 
       state : state_of made ≡ after_line
-      state = ap (λ (s : State). record s { console = record k.console { committed = k1.console.committed } }) (wrote-state (here g).run g.runs.sound address line)
+      state = ap (λ (s : State). record s { console = record k.console { committed = k1.console.committed } })
+          (wrote-state (here g).run g.runs.sound address line)
 
-      line-taken : (b : Bool) → over ≡ b → going (here g) w ≡ (if b then Done after_line (w.done + c) [] else Waits after_line (record w { done = w.done + c }))
+      line-taken : (b : Bool) → over ≡ b
+          → going (here g) w ≡ (if b then Done after_line (w.done + c) []
+          else Waits after_line (record w { done = w.done + c }))
       line-taken b is =
           line-row ∙ ap (read_taken (state_of k) i (me (here g)) w) f.took
-          ∙ ap (λ (b : Bool). if b then Done after_line (w.done + length line) [] else Waits after_line (record w { done = w.done + length line })) is
-          ∙ ap (λ (m : ℕ). if b then Done after_line (w.done + m) [] else Waits after_line (record w { done = w.done + m })) count
+          ∙ ap (λ (b : Bool). if b then Done after_line (w.done + length line) []
+              else Waits after_line (record w { done = w.done + length line })) is
+          ∙ ap (λ (m : ℕ). if b then Done after_line (w.done + m) []
+              else Waits after_line (record w { done = w.done + m })) count
 
       pub reads-over : over ≡ true → GoesOn k new i w (Answers (w.done + c))
       reads-over passed = goes-done (here g) w (w.done + c) sound made-is refl refl state (line-taken true passed)
@@ -278,23 +337,31 @@ module _ {k : Kernel} {i n : ℕ} {w : Pending} (g : Transfers k i end.Read (tar
       reading : over ≡ false → IsReading (descriptors_at k i) (memory_at made i) further
       reading more =
           let mem = memory_at k i in
-          let less : length (line_for k w).bytes < wanted w - w.done = (line-fits (nat_lt 0 w.done) (wanted w - w.done) k.console.committed).1 (ap (λ (t : Taken). t.over) f.took ∙ more) in
+          let less : length (line_for k w).bytes < wanted w - w.done =
+                  (line-fits (nat_lt 0 w.done) (wanted w - w.done) k.console.committed).1
+                  (ap (λ (t : Taken). t.over) f.took ∙ more) in
           let all = same in
           let some = count in
           let on : IsReading (descriptors_at k i) (write_bytes mem address line) further = record {
             named = g.can.named;
-            buffer = ap (nat_le (wanted w)) (reach-written Store mem (pending_arg w 1) address line f.sized) ∙ g.can.buffer;
+            buffer = ap (nat_le (wanted w)) (reach-written Store mem (pending_arg w 1) address line f.sized)
+                ∙ g.can.buffer;
             left = omega (arith, less, all, some);
           } in
-          subst (λ (h : SpaceView). IsReading (descriptors_at k i) h.memory further) (sym (held-same k.spaces i (written (view_at k.spaces i) address line) (slot-within k.spaces.places i (here g).held (here g).run.space))) on
+          subst (λ (h : SpaceView). IsReading (descriptors_at k i) h.memory further)
+              (sym (held-same k.spaces i (written (view_at k.spaces i) address line)
+              (slot-within k.spaces.places i (here g).held (here g).run.space))) on
 
       pub reads-on : over ≡ false → GoesOn k new i w (Blocks further)
       reads-on more =
           let f = file g in
           let for : IsForBytes k.files (descriptors_at k i) further = λ read. rw (f.named, f.opened, f.on) refl in
           -- a read of the console may have taken some
-          let fresh : IsFresh k.files (descriptors_at k i) further = λ read. rw (f.named, f.opened) (λ on. absurd (false≢true (ap is_on_pipe (sym f.on) ∙ on))) in
-          let may : CanWait made i further = (subst (IsPending (descriptors_at k i) (memory_at made i) further) (sym g.number) (reading more), waits-reading k.files (descriptors_at k i) further g.number for fresh) in
+          let fresh : IsFresh k.files (descriptors_at k i) further =
+                  λ read. rw (f.named, f.opened) (λ on. absurd (false≢true (ap is_on_pipe (sym f.on) ∙ on))) in
+          let may : CanWait made i further =
+                  (subst (IsPending (descriptors_at k i) (memory_at made i) further) (sym g.number) (reading more),
+                  waits-reading k.files (descriptors_at k i) further g.number for fresh) in
           goes-waits (here g) w further sound made-is refl refl may state (line-taken false more)
 
 -- ---- from a pipe
@@ -311,7 +378,8 @@ module _ {k : Kernel} {i : ℕ} {w : Pending} {q : ℕ} {d : End} (g : Transfers
 
   -- it has taken nothing yet
   start : w.done ≡ 0
-  start = named-file g (λ (f : OpenFile). is_on_pipe f.target ≡ true → w.done ≡ 0) (g.fresh g.number) (ap is_on_pipe (file g).on)
+  start = named-file g (λ (f : OpenFile). is_on_pipe f.target ≡ true → w.done ≡ 0) (g.fresh g.number)
+      (ap is_on_pipe (file g).on)
 
   pipe-row : going (here g) w ≡ read_pipe (state_of k) i (me (here g)) w q bytes
   unfolding read_on
@@ -321,27 +389,40 @@ module _ {k : Kernel} {i : ℕ} {w : Pending} {q : ℕ} {d : End} (g : Transfers
   abbrev drawn : Kernel
   drawn = drew k i q (pending_arg w 1) (wanted w)
 
-  row-taken : (all : List ℕ) → bytes ≡ all → 0 < length all → read_pipe (state_of k) i (me (here g)) w q all ≡ Done (state_of drawn) (min (wanted w) (length all)) []
+  row-taken : (all : List ℕ) → bytes ≡ all → 0 < length all
+      → read_pipe (state_of k) i (me (here g)) w q all ≡ Done (state_of drawn) (min (wanted w) (length all)) []
   row-taken [] same some = absurd (omega (arith, some))
   row-taken (b ∷ bs) same some =
       let x = here g in
       let count = wanted w in
-      ap (λ (n : ℕ). answers (put_process (record (state_of k) { pipes = put k.spaces.pipes q (drop count (b ∷ bs)) }) i (record (me x) { memory = write_bytes x.held.memory n (take count (b ∷ bs)) })) (min count (length (b ∷ bs)))) (let s = start in omega (arith, s))
-      ∙ ap (λ (all : List ℕ). answers (put_process (record (state_of k) { pipes = put k.spaces.pipes q (drop count all) }) i (record (me x) { memory = write_bytes x.held.memory (pending_arg w 1) (take count all) })) (min count (length (b ∷ bs)))) (sym same)
-      ∙ ap (λ (s : State). Done s (min count (length (b ∷ bs))) []) (sym (drew-state x.run x.sound q (pending_arg w 1) count))
+      ap (λ (n : ℕ). answers (put_process (record (state_of k) { pipes = put k.spaces.pipes q (drop count (b ∷ bs)) })
+          i (record (me x) { memory = write_bytes x.held.memory n (take count (b ∷ bs)) }))
+          (min count (length (b ∷ bs)))) (let s = start in omega (arith, s))
+      ∙ ap (λ (all : List ℕ). answers
+          (put_process (record (state_of k) { pipes = put k.spaces.pipes q (drop count all) }) i
+          (record (me x) { memory = write_bytes x.held.memory (pending_arg w 1) (take count all) }))
+          (min count (length (b ∷ bs)))) (sym same)
+      ∙ ap (λ (s : State). Done s (min count (length (b ∷ bs))) [])
+          (sym (drew-state x.run x.sound q (pending_arg w 1) count))
 
-  pub reads-taken : {b : Bool} → b ≡ not (is_empty bytes) → b ≡ true → {m : ℕ} → m ≡ wanted w → {new : Kernel} {n : ℕ} → new ≡ waking (drew k i q (pending_arg w 1) m) new.table.awake → IsKernel new → n ≡ min m (length bytes) → GoesOn k new i w (Answers n)
+  pub reads-taken : {b : Bool} → b ≡ not (is_empty bytes) → b ≡ true → {m : ℕ} → m ≡ wanted w → {new : Kernel} {n : ℕ}
+      → new ≡ waking (drew k i q (pending_arg w 1) m) new.table.awake → IsKernel new → n ≡ min m (length bytes)
+      → GoesOn k new i w (Answers n)
   reads-taken told full wide {new} made sound counted =
-      let made' : new ≡ waking drawn new.table.awake = made ∙ ap (λ m. waking (drew k i q (pending_arg w 1) m) new.table.awake) wide in
-      rw (counted, wide) (goes-done (here g) w (min (wanted w) (length bytes)) sound made' refl refl (state-waking drawn new.table.awake)
+      let made' : new ≡ waking drawn new.table.awake = made
+              ∙ ap (λ m. waking (drew k i q (pending_arg w 1) m) new.table.awake) wide in
+      rw (counted, wide) (goes-done (here g) w (min (wanted w) (length bytes)) sound made' refl refl
+          (state-waking drawn new.table.awake)
       (pipe-row ∙ row-taken bytes refl (some-bytes (length bytes) (sym told ∙ full))))
 
   -- it is empty
-  row-empty : (all : List ℕ) → length all ≡ 0 → (b : Bool) → has_end (opens_of k.files) q WriteEnd ≡ b → read_pipe (state_of k) i (me (here g)) w q all ≡ (if b then Waits (state_of k) w else answers (state_of k) 0)
+  row-empty : (all : List ℕ) → length all ≡ 0 → (b : Bool) → has_end (opens_of k.files) q WriteEnd ≡ b
+      → read_pipe (state_of k) i (me (here g)) w q all ≡ (if b then Waits (state_of k) w else answers (state_of k) 0)
   row-empty [] none b ends = ap (λ (x : Bool). if x then Waits (state_of k) w else answers (state_of k) 0) ends
   row-empty (x ∷ xs) none b ends = absurd (omega (arith, none))
 
-  module _ {b : Bool} (told : b ≡ not (is_empty bytes)) (none : b ≡ false) {e : Bool} (ends : e ≡ has_end (opens_of k.files) q WriteEnd) where
+  module _ {b : Bool} (told : b ≡ not (is_empty bytes)) (none : b ≡ false) {e : Bool}
+      (ends : e ≡ has_end (opens_of k.files) q WriteEnd) where
     empty : (c : Bool) → e ≡ c → going (here g) w ≡ (if c then Waits (state_of k) w else answers (state_of k) 0)
     empty c is = pipe-row ∙ row-empty bytes (no-bytes (length bytes) (sym told ∙ none)) c (sym ends ∙ is)
 
@@ -352,4 +433,6 @@ module _ {k : Kernel} {i : ℕ} {w : Pending} {q : ℕ} {d : End} (g : Transfers
     reads-waiting is =
         let f = file g in
         let for : IsForBytes k.files (descriptors_at k i) w = λ read. rw (f.named, f.opened, f.on) refl in
-        goes-waits (here g) w w g.runs.sound refl refl refl (subst (IsPending (descriptors_at k i) (memory_at k i) w) (sym g.number) g.can, waits-reading k.files (descriptors_at k i) w g.number for g.fresh) refl (empty true is)
+        goes-waits (here g) w w g.runs.sound refl refl refl
+            (subst (IsPending (descriptors_at k i) (memory_at k i) w) (sym g.number) g.can,
+            waits-reading k.files (descriptors_at k i) w g.number for g.fresh) refl (empty true is)

@@ -1,9 +1,16 @@
 -- A read and a write of a file, whose offset goes on behind what was transferred; and fstat.
-use Rattle.calls.proofs.Common.{[], Acts, and_parts, Answers, answers, ap, argument, arith, blocks_of, Bool, bytes_of, bytes_read, can_write, cond_some, counting, descriptors_at, Directory, Done, drop, Err, false, File, file-opens, file_at}
-use Rattle.calls.proofs.Common.{file_of, Files, FileTree, FitsNode, Fstat, fstat_row, given, GoesOn, HasRead, Here, here-as, here-in, if◌then◌else◌, InodeStat, IsKernel, IsServed, IsWhole, Kernel, le, leb-true, length, length-drop}
-use Rattle.calls.proofs.Common.{length-take, limited, List, longest, low, me, memory_at, minus_one, nat_le, Node, node_bytes, node_of, node_on, None, none-some, Ok, OnNode, opens-moved, Option, option_map, Outcome, Pending, pending_arg}
-use Rattle.calls.proofs.Common.{provided, put, put_process, read_on, refl, Refused, Refuses, room_for, row, row_of, same_Some, slot, Some, stat_bytes, stat_told, State, state_of, subst, sym, take, Target, target_of, Tells, Transfers, true}
-use Rattle.calls.proofs.Common.{Uses, wanted, with_tree, write_bytes, write_on, wrote, wrote-state, zeros, ℕ, ◌%◌, ◌&&◌, ◌+◌, ◌/◌, ◌<◌, ◌==◌, ◌^◌, ◌∙◌, ◌∷◌, ◌≡◌, ◌≤◌}
+use Rattle.calls.proofs.Common.{[], Acts, and_parts, Answers, answers, ap, argument, arith, blocks_of, Bool, bytes_of}
+use Rattle.calls.proofs.Common.{bytes_read, can_write, cond_some, counting, descriptors_at, Directory, Done, drop, Err}
+use Rattle.calls.proofs.Common.{false, File, file-opens, file_at, file_of, Files, FileTree, FitsNode, Fstat, fstat_row}
+use Rattle.calls.proofs.Common.{given, GoesOn, HasRead, Here, here-as, here-in, if◌then◌else◌, InodeStat, IsKernel}
+use Rattle.calls.proofs.Common.{IsServed, IsWhole, Kernel, le, leb-true, length, length-drop, length-take, limited}
+use Rattle.calls.proofs.Common.{List, longest, low, me, memory_at, minus_one, nat_le, Node, node_bytes, node_of}
+use Rattle.calls.proofs.Common.{node_on, None, none-some, Ok, OnNode, opens-moved, Option, option_map, Outcome, Pending}
+use Rattle.calls.proofs.Common.{pending_arg, provided, put, put_process, read_on, refl, Refused, Refuses, room_for, row}
+use Rattle.calls.proofs.Common.{row_of, same_Some, slot, Some, stat_bytes, stat_told, State, state_of, subst, sym, take}
+use Rattle.calls.proofs.Common.{Target, target_of, Tells, Transfers, true, Uses, wanted, with_tree, write_bytes}
+use Rattle.calls.proofs.Common.{write_on, wrote, wrote-state, zeros, ℕ, ◌%◌, ◌&&◌, ◌+◌, ◌/◌, ◌<◌, ◌==◌, ◌^◌, ◌∙◌, ◌∷◌}
+use Rattle.calls.proofs.Common.{◌≡◌, ◌≤◌}
 use Rattle.unixmodel.specs.FileCalls.{node_number, read_file, read_node, with_file, with_offset, write_node}
 use Rattle.kernel.specs.Opening.{advanced, HasFetched, HasStored, MayMove}
 use Rattle.tree.proofs.Storing.{whole-node}
@@ -16,7 +23,8 @@ use Rattle.tree.specs.Stored.{FitsPlaces}
 use Rattle.tree.specs.Written.{count_of, files_after, fitting, IsFile, with_bytes, Written, written}
 use Rattle.unixmodel.specs.Image.{KeepsSize}
 use Rattle.calls.proofs.Acts.{goes-serves, going, going-here, refused, refuses-on, can-here, descriptor-is, does}
-use Rattle.calls.proofs.Transfers.{file, file-fits, file-named, given_bytes, going-is, length-given, named-file, read-given, here, fits-at}
+use Rattle.calls.proofs.Transfers.{file, file-fits, file-named, given_bytes, going-is, length-given, named-file}
+use Rattle.calls.proofs.Transfers.{read-given, here, fits-at}
 use Rattle.files.specs.declared.file.End.TheVariants as end
 use Rattle.files.specs.declared.file.Target.TheVariants as target
 use Rattle.unixmodel.specs.OpenFiles as unix_files
@@ -30,27 +38,40 @@ low-same : (n m : ℕ) → n ≤ m → m < 2 ^ 32 → low n ≡ n
 low-same n m few short = omega (arith, few, short)
 
 -- so many bytes were transferred, which end within the longest file
-module _ {k : Kernel} {i : ℕ} {e : End} {number offset : ℕ} {w : Pending} (g : Transfers k i e (target.File number offset) w) (n : ℕ) (near : offset + n ≤ longest) where
+module _ {k : Kernel} {i : ℕ} {e : End} {number offset : ℕ} {w : Pending}
+    (g : Transfers k i e (target.File number offset) w) (n : ℕ) (near : offset + n ≤ longest) where
   same : low n ≡ n
   same = low-same n longest (omega (arith, near)) (omega arith)
 
   moves-near : offset + low n < 2 ^ 32
   moves-near = let cut = same in omega (arith, near, cut)
 
-  moves-may : {m : Kernel} → m.files ≡ k.files → {id l : ℕ} → id ≡ (file g).number → l ≡ low n → MayMove m id (offset + l)
-  moves-may files named cut = rw (named, cut, same) (record { number = number; old = offset; on = ap (λ t. option_map (λ (f : OpenFile). f.target) (file_at t (file g).number)) files ∙ ap (option_map (λ (f : OpenFile). f.target)) (file g).opened ∙ ap Some (file g).on; within = near })
+  moves-may : {m : Kernel} → m.files ≡ k.files → {id l : ℕ} → id ≡ (file g).number → l ≡ low n
+      → MayMove m id (offset + l)
+  moves-may files named cut =
+      rw (named, cut, same) (record
+      { number = number; old = offset;
+      on = ap (λ t. option_map (λ (f : OpenFile). f.target) (file_at t (file g).number)) files
+      ∙ ap (option_map (λ (f : OpenFile). f.target)) (file g).opened ∙ ap Some (file g).on; within = near })
 
-  moved-opens : opens_of (moved k.files (file g).number (offset + n)) ≡ put (opens_of k.files) (file g).number (record (file_of (file g).file) { target = OnNode number (offset + n) })
+  moved-opens : opens_of (moved k.files (file g).number (offset + n))
+      ≡ put (opens_of k.files) (file g).number (record (file_of (file g).file) { target = OnNode number (offset + n) })
   moved-opens = opens-moved k.files (file g).number (offset + n) number offset (file g).file (file g).opened (file g).on
 
   -- m, which is z, is what the transfer left, and new what goes on behind it
-  moves-done : {m z new : Kernel} → m ≡ z → z.spaces.active ≡ k.spaces.active → {id l : ℕ} → id ≡ (file g).number → l ≡ low n → new ≡ advanced m id (offset + l) → IsKernel new → IsServed k.tree m.tree
-      → (answer : ℕ) → going (here g) w ≡ Done (state_of (advanced z (file g).number (offset + n))) answer [] → GoesOn k new i w (Answers answer)
+  moves-done : {m z new : Kernel} → m ≡ z → z.spaces.active ≡ k.spaces.active → {id l : ℕ} → id ≡ (file g).number
+      → l ≡ low n → new ≡ advanced m id (offset + l) → IsKernel new → IsServed k.tree m.tree
+      → (answer : ℕ) → going (here g) w ≡ Done (state_of (advanced z (file g).number (offset + n))) answer []
+          → GoesOn k new i w (Answers answer)
   moves-done {m} {z} {new} left active {l = l} named cut is sound served answer row =
       let at = (file g).number in
-      let made : new ≡ advanced z at (offset + n) = is ∙ ap (λ (j : ℕ). advanced m j (offset + l)) named ∙ ap (λ (d : ℕ). advanced m at (offset + d)) (cut ∙ same) ∙ ap (λ (y : Kernel). advanced y at (offset + n)) left in
+      let made : new ≡ advanced z at (offset + n) = is ∙ ap (λ (j : ℕ). advanced m j (offset + l)) named
+              ∙ ap (λ (d : ℕ). advanced m at (offset + d)) (cut ∙ same)
+              ∙ ap (λ (y : Kernel). advanced y at (offset + n)) left in
       let tree : new.tree ≡ m.tree = ap (λ (y : Kernel). y.tree) is in
-      goes-serves (here g) w answer (here-as (here g) sound made active (ap (λ (t : FileTree). t.failed) tree ∙ served.up)) (rw tree served) (row ∙ ap (λ (s : State). Done s answer []) (sym (ap state_of made)))
+      goes-serves (here g) w answer
+          (here-as (here g) sound made active (ap (λ (t : FileTree). t.failed) tree ∙ served.up)) (rw tree served)
+          (row ∙ ap (λ (s : State). Done s answer []) (sym (ap state_of made)))
 
 -- ---- a read
 
@@ -59,20 +80,26 @@ pub record HasBytes (o : Option Node) (offset : ℕ) : Type 0 where
   pub node : Node
   pub here : o ≡ Some node
   pub near : offset ≤ longest
-  pub reads : (s : State) (i : ℕ) (p : unix.Process) (w : Pending) (k : ℕ) (f : unix_files.OpenFile) (n at : ℕ) → read_file s i p w k f n at node ≡ read_node s i p w k f n at (node_bytes node)
+  pub reads : (s : State) (i : ℕ) (p : unix.Process) (w : Pending) (k : ℕ) (f : unix_files.OpenFile) (n at : ℕ)
+      → read_file s i p w k f n at node ≡ read_node s i p w k f n at (node_bytes node)
 
 has-bytes : (f : OpenFile) (n offset : ℕ) (o : Option Node) → FitsNode f (target.File n offset) o → HasBytes o offset
-has-bytes f n offset (Some (File links bytes)) fits = record { node = File links bytes; here = refl; near = fits; reads = λ s i p w k f n at. refl }
-has-bytes f n offset (Some (Directory links places)) fits = record { node = Directory links places; here = refl; near = fits.0; reads = λ s i p w k f n at. refl }
+has-bytes f n offset (Some (File links bytes)) fits =
+    record { node = File links bytes; here = refl; near = fits; reads = λ s i p w k f n at. refl }
+has-bytes f n offset (Some (Directory links places)) fits =
+    record { node = Directory links places; here = refl; near = fits.0; reads = λ s i p w k f n at. refl }
 has-bytes f n offset _ fits = absurd fits
 
 -- the row
-reads-file : (s : State) (i : ℕ) (p : unix.Process) (w : Pending) (f : unix_files.OpenFile) (is : IsNamed s p (low (pending_arg w 0)) f) (n at : ℕ) → f.target ≡ OnNode n at → (node : Node) → slot s.files n ≡ Some node
+reads-file : (s : State) (i : ℕ) (p : unix.Process) (w : Pending) (f : unix_files.OpenFile)
+    (is : IsNamed s p (low (pending_arg w 0)) f) (n at : ℕ) → f.target ≡ OnNode n at → (node : Node)
+    → slot s.files n ≡ Some node
     → read_on s i p w ≡ read_file s i p w is.number f n at node
 unfolding read_on
 reads-file s i p w f is n at on node here = rw (is.named, is.opened, on, here) refl
 
-module _ {k : Kernel} {i : ℕ} {w : Pending} {number offset : ℕ} (u : Uses k i end.Read (target.File number offset) w) where
+module _ {k : Kernel} {i : ℕ} {w : Pending} {number offset : ℕ} (u : Uses k i end.Read (target.File number offset) w)
+    where
   abbrev g : Transfers k i end.Read (target.File number offset) w
   g = u.goes
 
@@ -96,7 +123,8 @@ module _ {k : Kernel} {i : ℕ} {w : Pending} {number offset : ℕ} (u : Uses k 
   piece-is = ap (λ (o : Option Node). take count (drop offset (bytes_of o))) content.here
 
   -- m is what the read left, and new what goes on behind it
-  module _ (whole : IsWhole k.tree) {m : Kernel} {n c : ℕ} (wide : c ≡ count) (fetched : HasFetched k m i number offset address c n) where
+  module _ (whole : IsWhole k.tree) {m : Kernel} {n c : ℕ} (wide : c ≡ count)
+      (fetched : HasFetched k m i number offset address c n) where
     told : HasFetched k m i number offset address count n
     told = rw wide at fetched
 
@@ -107,7 +135,8 @@ module _ {k : Kernel} {i : ℕ} {w : Pending} {number offset : ℕ} (u : Uses k 
         let size = whole-node c.node (subst FitsPlaces c.here (whole.places number)) in
         let used = (here g).sound.used (here g).up in
         let short = subst KeepsSize c.here (used.rules.sizes number) in
-        omega (arith, same, size, short, c.near, length-take count (drop offset (node_bytes c.node)), length-drop offset (node_bytes c.node), told.counted)
+        omega (arith, same, size, short, c.near, length-take count (drop offset (node_bytes c.node)),
+            length-drop offset (node_bytes c.node), told.counted)
 
     pub reads-near : offset + low n < 2 ^ 32
     reads-near = moves-near g n reads-within
@@ -117,21 +146,29 @@ module _ {k : Kernel} {i : ℕ} {w : Pending} {number offset : ℕ} (u : Uses k 
 
     -- the state with that
     abbrev left : ℕ → ℕ → List ℕ → State
-    left o at bs = record (put_process (state_of k) i (record (me (here g)) { memory = write_bytes (here g).held.memory at bs })) { opens = put (opens_of k.files) (file g).number (record (file_of (file g).file) { target = OnNode number (offset + o) }) }
+    left o at bs = record (put_process (state_of k) i
+        (record (me (here g)) { memory = write_bytes (here g).held.memory at bs }))
+        { opens = put (opens_of k.files) (file g).number
+        (record (file_of (file g).file) { target = OnNode number (offset + o) }) }
 
-    left-is : state_of (advanced (counting (wrote k i address piece) m.tree.failures) (file g).number (offset + n)) ≡ left n address piece
+    left-is : state_of (advanced (counting (wrote k i address piece) m.tree.failures) (file g).number (offset + n))
+        ≡ left n address piece
     left-is =
-        ap (λ (s : State). record s { opens = opens_of (moved k.files (file g).number (offset + n)) }) (wrote-state (here g).run (here g).sound address piece)
-        ∙ ap (λ (os : List (Option unix_files.OpenFile)). record (left n address piece) { opens = os }) (moved-opens g n reads-within)
+        ap (λ (s : State). record s { opens = opens_of (moved k.files (file g).number (offset + n)) })
+            (wrote-state (here g).run (here g).sound address piece)
+        ∙ ap (λ (os : List (Option unix_files.OpenFile)). record (left n address piece) { opens = os })
+            (moved-opens g n reads-within)
 
-    pub reads-done : {new : Kernel} {id l : ℕ} → id ≡ (file g).number → l ≡ low n → new ≡ advanced m id (offset + l) → IsKernel new → IsServed k.tree m.tree → GoesOn k new i w (Answers n)
+    pub reads-done : {new : Kernel} {id l : ℕ} → id ≡ (file g).number → l ≡ low n → new ≡ advanced m id (offset + l)
+        → IsKernel new → IsServed k.tree m.tree → GoesOn k new i w (Answers n)
     reads-done named cut is sound served =
         let c = content in
         let start = u.start in
         let from : address + w.done ≡ address = omega (arith, start) in
         moves-done g n reads-within told.same refl named cut is sound served n (
         going-is g
-        ∙ reads-file (state_of k) i (me (here g)) w (file_of (file g).file) (file-named g) number offset (ap target_of (file g).on) c.node c.here
+        ∙ reads-file (state_of k) i (me (here g)) w (file_of (file g).file) (file-named g) number offset
+            (ap target_of (file g).on) c.node c.here
         ∙ c.reads (state_of k) i (me (here g)) w (file g).number (file_of (file g).file) number offset
         ∙ ap (λ (at : ℕ). Done (left (length bytes) at bytes) (length bytes) []) from
         ∙ ap (λ (bs : List ℕ). Done (left (length bs) address bs) (length bs) []) (sym piece-is)
@@ -141,12 +178,16 @@ module _ {k : Kernel} {i : ℕ} {w : Pending} {number offset : ℕ} (u : Uses k 
 -- ---- a write: the row
 
 -- what is written so, and what is answered
-record IsStored (s : State) (k : ℕ) (f : unix_files.OpenFile) (n at links : ℕ) (old new : List ℕ) (v : Written) : Type 0 where
-  row : write_node s k f n at links old new ≡ Done (record (with_offset s k f n (at + v.count)) { files = v.files }) (if v.count == length new then v.count else minus_one) []
+record IsStored (s : State) (k : ℕ) (f : unix_files.OpenFile) (n at links : ℕ) (old new : List ℕ) (v : Written) : Type
+    0 where
+  row : write_node s k f n at links old new
+      ≡ Done (record (with_offset s k f n (at + v.count)) { files = v.files })
+      (if v.count == length new then v.count else minus_one) []
   low : at + length new ≤ longest
   few : v.count ≤ length new
 
-module _ (s : State) (k : ℕ) (f : unix_files.OpenFile) (n at links : ℕ) (old new : List ℕ) (here : slot s.files n ≡ Some (File links old)) where
+module _ (s : State) (k : ℕ) (f : unix_files.OpenFile) (n at links : ℕ) (old new : List ℕ)
+    (here : slot s.files n ≡ Some (File links old)) where
   abbrev test : Bool
   test = nat_le at (length old) && nat_le (at + length new) longest
 
@@ -161,14 +202,19 @@ module _ (s : State) (k : ℕ) (f : unix_files.OpenFile) (n at links : ℕ) (old
   unfolding fitting room_for
   is-made is = record {
     row = rw is refl;
-    low = leb-true (at + length new) longest (and_parts (nat_le at (length old)) (nat_le (at + length new) longest) is).1;
-    few = greatest-low (λ m. nat_le (blocks_of (with_file s.files n links (overwrite old at (take m new)))) s.block_limit) (length new);
+    low = leb-true (at + length new) longest
+        (and_parts (nat_le at (length old)) (nat_le (at + length new) longest) is).1;
+    few = greatest-low (λ m. nat_le (blocks_of (with_file s.files n links (overwrite old at (take m new))))
+        s.block_limit) (length new);
   }
 
   is-stored : (v : Written) → written s.block_limit s.files n at new ≡ Some v → IsStored s k f n at links old new v
-  is-stored v same = let parts = cond_some test made v (sym written-is ∙ same) in subst (IsStored s k f n at links old new) parts.1 (is-made parts.0)
+  is-stored v same = let parts =
+      cond_some test made v (sym written-is ∙ same)
+      in subst (IsStored s k f n at links old new) parts.1 (is-made parts.0)
 
-  refused-go : (b : Bool) → test ≡ b → (if b then Some made else None) ≡ None → write_node s k f n at links old new ≡ Refused
+  refused-go : (b : Bool) → test ≡ b → (if b then Some made else None) ≡ None
+      → write_node s k f n at links old new ≡ Refused
   refused-go true is same = absurd (none-some made (sym same))
   refused-go false is same = rw is refl
 
@@ -185,29 +231,38 @@ none-count None is = refl
 none-count (Some v) is = absurd (none-some v.count is)
 
 -- a file that is open for writing
-open-file : (f : OpenFile) (n offset : ℕ) (files : Files) (o : Option Node) → slot files n ≡ o → f.writable ≡ true → FitsNode f (target.File n offset) o → IsFile files n
-open-file f n offset files (Some (File links bytes)) here writable fits = record { links = links; bytes = bytes; here = here }
-open-file f n offset files (Some (Directory links places)) here writable fits = absurd (let bad : true ≡ false = sym writable ∙ fits.1 in cc)
+open-file : (f : OpenFile) (n offset : ℕ) (files : Files) (o : Option Node) → slot files n ≡ o → f.writable ≡ true
+    → FitsNode f (target.File n offset) o → IsFile files n
+open-file f n offset files (Some (File links bytes)) here writable fits =
+    record { links = links; bytes = bytes; here = here }
+open-file f n offset files (Some (Directory links places)) here writable fits =
+    absurd (let bad : true ≡ false = sym writable ∙ fits.1 in cc)
 open-file f n offset files _ here writable fits = absurd fits
 
 -- ---- the write
 
-module _ {k : Kernel} {i : ℕ} {w : Pending} {number offset : ℕ} (u : Uses k i end.Write (target.File number offset) w) where
+module _ {k : Kernel} {i : ℕ} {w : Pending} {number offset : ℕ} (u : Uses k i end.Write (target.File number offset) w)
+    where
   abbrev to : Transfers k i end.Write (target.File number offset) w
   to = u.goes
 
   pub is-file : IsFile k.tree.files number
-  is-file = open-file (file to).file number offset k.tree.files (slot k.tree.files number) refl (named-file to (λ f. f.writable ≡ true) u.mode) (file-fits to)
+  is-file = open-file (file to).file number offset k.tree.files (slot k.tree.files number) refl
+      (named-file to (λ f. f.writable ≡ true) u.mode) (file-fits to)
 
   abbrev went : Option Written
   went = written k.tree.block_limit k.tree.files number offset (given_bytes to)
 
-  stores-row : going (here to) w ≡ write_node (state_of k) (file to).number (file_of (file to).file) number offset is-file.links is-file.bytes (given_bytes to)
+  stores-row : going (here to) w
+      ≡ write_node (state_of k) (file to).number (file_of (file to).file) number offset is-file.links is-file.bytes
+      (given_bytes to)
   unfolding write_on
-  stores-row = let f = file-named to in going-is to ∙ rw (f.named, f.opened, read-given to, (file to).on, is-file.here) refl
+  stores-row = let f = file-named to in going-is to
+      ∙ rw (f.named, f.opened, read-given to, (file to).on, is-file.here) refl
 
   -- m is what the write left
-  module _ {m : Kernel} {c : ℕ} {r : Option ℕ} (wide : c ≡ wanted w) (stores : HasStored k m i number offset (pending_arg w 1) c r) where
+  module _ {m : Kernel} {c : ℕ} {r : Option ℕ} (wide : c ≡ wanted w)
+      (stores : HasStored k m i number offset (pending_arg w 1) c r) where
     stored : HasStored k m i number offset (pending_arg w 1) (wanted w) r
     stored = rw wide at stores
 
@@ -215,16 +270,23 @@ module _ {k : Kernel} {i : ℕ} {w : Pending} {number offset : ℕ} (u : Uses k 
     pub writes-refused : r ≡ None → IsKernel m → IsServed k.tree m.tree → GoesOn k m i w Refuses
     writes-refused none sound served =
         let gone = none-count went (sym none ∙ stored.counted) in
-        let state : state_of m ≡ state_of k = ap state_of stored.same ∙ ap (λ (v : Option Written). record (state_of k) { files = files_after k.tree.files v }) gone in
-        let refused = going-here (here to) w ∙ stores-row ∙ is-refused (state_of k) (file to).number (file_of (file to).file) number offset is-file.links is-file.bytes (given_bytes to) is-file.here gone in
-        record { comes = refuses-on refused state (ap (λ (y : Kernel). y.spaces.active) stored.same ∙ (here to).run.active) sound served; within = rw refused refl }
+        let state : state_of m ≡ state_of k = ap state_of stored.same
+                ∙ ap (λ (v : Option Written). record (state_of k) { files = files_after k.tree.files v }) gone in
+        let refused = going-here (here to) w ∙ stores-row
+                ∙ is-refused (state_of k) (file to).number (file_of (file to).file) number offset is-file.links
+                is-file.bytes (given_bytes to) is-file.here gone in
+        record { comes = refuses-on refused state
+            (ap (λ (y : Kernel). y.spaces.active) stored.same ∙ (here to).run.active) sound served; within =
+            rw refused refl }
 
     module _ {n : ℕ} (some : r ≡ Some n) where
       written-so : (v : Written) × (went ≡ Some v) × (v.count ≡ n)
       written-so = some-count went n (sym some ∙ stored.counted)
 
-      store-is : IsStored (state_of k) (file to).number (file_of (file to).file) number offset is-file.links is-file.bytes (given_bytes to) written-so.0
-      store-is = is-stored (state_of k) (file to).number (file_of (file to).file) number offset is-file.links is-file.bytes (given_bytes to) is-file.here written-so.0 written-so.1
+      store-is : IsStored (state_of k) (file to).number (file_of (file to).file) number offset is-file.links
+          is-file.bytes (given_bytes to) written-so.0
+      store-is = is-stored (state_of k) (file to).number (file_of (file to).file) number offset is-file.links
+          is-file.bytes (given_bytes to) is-file.here written-so.0 written-so.1
 
       writes-within : offset + n ≤ longest
       writes-within = omega (arith, store-is.low, store-is.few, written-so.2)
@@ -239,20 +301,27 @@ module _ {k : Kernel} {i : ℕ} {w : Pending} {number offset : ℕ} (u : Uses k 
       z = with_tree k (record k.tree { files = files_after k.tree.files went; failures = m.tree.failures })
 
       abbrev kept : ℕ → State
-      kept o = record (with_offset (state_of k) (file to).number (file_of (file to).file) number (offset + o)) { files = written-so.0.files }
+      kept o = record (with_offset (state_of k) (file to).number (file_of (file to).file) number (offset + o))
+          { files = written-so.0.files }
 
       kept-is : state_of (advanced z (file to).number (offset + n)) ≡ kept n
       kept-is =
-          ap (λ (o : Option Written). record (state_of k) { files = files_after k.tree.files o; opens = opens_of (moved k.files (file to).number (offset + n)) }) written-so.1
-          ∙ ap (λ (os : List (Option unix_files.OpenFile)). record (kept n) { opens = os }) (moved-opens to n writes-within)
+          ap (λ (o : Option Written). record (state_of k)
+              { files = files_after k.tree.files o; opens = opens_of (moved k.files (file to).number (offset + n)) })
+              written-so.1
+          ∙ ap (λ (os : List (Option unix_files.OpenFile)). record (kept n) { opens = os })
+              (moved-opens to n writes-within)
 
-      pub writes-done : {last : Kernel} {id l : ℕ} → id ≡ (file to).number → l ≡ low n → last ≡ advanced m id (offset + l) → IsKernel last → IsServed k.tree m.tree → {answer : ℕ} → answer ≡ (if n == c then n else minus_one) → GoesOn k last i w (Answers answer)
+      pub writes-done : {last : Kernel} {id l : ℕ} → id ≡ (file to).number → l ≡ low n
+          → last ≡ advanced m id (offset + l) → IsKernel last → IsServed k.tree m.tree → {answer : ℕ}
+          → answer ≡ (if n == c then n else minus_one) → GoesOn k last i w (Answers answer)
       writes-done named cut is sound served {answer} answers =
           moves-done to n writes-within stored.same refl named cut is sound served answer (
           stores-row ∙ store-is.row
           ∙ ap (λ (o : ℕ). Done (kept o) (if o == length (given_bytes to) then o else minus_one) []) written-so.2
           ∙ ap (λ (s : State). Done s (if n == length (given_bytes to) then n else minus_one) []) (sym kept-is)
-          ∙ ap (λ (o : ℕ). Done (state_of (advanced z (file to).number (offset + n))) o []) (ap (λ (l : ℕ). if n == l then n else minus_one) (length-given to ∙ sym wide) ∙ sym answers))
+          ∙ ap (λ (o : ℕ). Done (state_of (advanced z (file to).number (offset + n))) o [])
+              (ap (λ (l : ℕ). if n == l then n else minus_one) (length-given to ∙ sym wide) ∙ sym answers))
 
 -- ---- fstat: a node tells of itself
 
@@ -261,7 +330,8 @@ module _ {k : Kernel} {i : ℕ} {w : Pending} {number offset : ℕ} (u : Uses k 
 pub le-4 : (x : ℕ) → x % 256 ∷ x / 256 % 256 ∷ x / 65536 % 256 ∷ x / 16777216 % 256 ∷ [] ≡ le 4 x
 le-4 x = simp div-div-eq-div-mul
 
-pub le-8 : (x : ℕ) → x % 256 ∷ x / 256 % 256 ∷ x / 65536 % 256 ∷ x / 16777216 % 256 ∷ x / 4294967296 % 256 ∷ x / 1099511627776 % 256 ∷ x / 281474976710656 % 256 ∷ x / 72057594037927936 % 256 ∷ [] ≡ le 8 x
+pub le-8 : (x : ℕ) → x % 256 ∷ x / 256 % 256 ∷ x / 65536 % 256 ∷ x / 16777216 % 256 ∷ x / 4294967296 % 256
+    ∷ x / 1099511627776 % 256 ∷ x / 281474976710656 % 256 ∷ x / 72057594037927936 % 256 ∷ [] ≡ le 8 x
 le-8 x = simp div-div-eq-div-mul
 
 -- ---- the node of an open file
@@ -270,15 +340,19 @@ from-ok : (o : Option ℕ) (n : ℕ) → node_from o ≡ Ok n → o ≡ Some n
 from-ok None n e = absurd (cc)
 from-ok (Some m) n e = let same : m ≡ n = cc in ap Some same
 
-node-named : (o : Option OpenFile) (n : ℕ) → node_at o ≡ Ok n → (f : OpenFile) × (o ≡ Some f) × (node_number (target_of f.target) ≡ Some n)
+node-named : (o : Option OpenFile) (n : ℕ) → node_at o ≡ Ok n
+    → (f : OpenFile) × (o ≡ Some f) × (node_number (target_of f.target) ≡ Some n)
 node-named None n e = absurd (cc)
 node-named (Some f) n e = (f, refl, from-ok (node_number (target_of f.target)) n e)
 
-no-number : (o : Option ℕ) (fault : FileFault) → node_from o ≡ Err fault → (rest : ℕ → Outcome) → limited (given o rest) ≡ Refused
+no-number : (o : Option ℕ) (fault : FileFault) → node_from o ≡ Err fault → (rest : ℕ → Outcome)
+    → limited (given o rest) ≡ Refused
 no-number None fault e rest = refl
 no-number (Some n) fault e rest = absurd (cc)
 
-no-node : (o : Option OpenFile) (fault : FileFault) → node_at o ≡ Err fault → (rest : unix_files.OpenFile → ℕ → Outcome) → limited (given (option_map file_of o) (λ f. given (node_number f.target) (rest f))) ≡ Refused
+no-node : (o : Option OpenFile) (fault : FileFault) → node_at o ≡ Err fault
+    → (rest : unix_files.OpenFile → ℕ → Outcome)
+    → limited (given (option_map file_of o) (λ f. given (node_number f.target) (rest f))) ≡ Refused
 no-node None fault e rest = refl
 no-node (Some f) fault e rest = no-number (node_number (target_of f.target)) fault e (rest (file_of f))
 
@@ -287,7 +361,8 @@ node-on (target.Pipe q e) = refl
 node-on _ = refl
 
 -- it is there
-node-there : (f : OpenFile) (t : Target) (n : ℕ) (o : Option Node) → node_on t ≡ Some n → FitsNode f t o → (node : Node) × (o ≡ Some node)
+node-there : (f : OpenFile) (t : Target) (n : ℕ) (o : Option Node) → node_on t ≡ Some n → FitsNode f t o
+    → (node : Node) × (o ≡ Some node)
 node-there f t n (Some node) on fits = (node, refl)
 node-there f (target.Pipe q e) n None on fits = absurd (none-some n on)
 node-there f _ n None on fits = absurd fits
@@ -302,13 +377,15 @@ length-told n _ = refl
 
 -- ---- the row
 
-module _ {k : Kernel} {i : ℕ} (x : Here k i) {d id : ℕ} (is : d ≡ low (argument k 0)) (named : Some id ≡ slot (descriptors_at k i) d) where
+module _ {k : Kernel} {i : ℕ} (x : Here k i) {d id : ℕ} (is : d ≡ low (argument k 0))
+    (named : Some id ≡ slot (descriptors_at k i) d) where
   named-here : slot x.process.descriptors (low (argument k 0)) ≡ Some id
   named-here = descriptor-is x is named
 
   pub fstat-nodeless : {fault : FileFault} → Err fault ≡ node_at (file_at k.files id) → Acts k k i (Some Fstat) Refuses
   unfolding fstat_row
-  fstat-nodeless {fault} none = refused x (Some Fstat) (rw (named-here, file-opens k.files id) (no-node (file_at k.files id) fault (sym none) _))
+  fstat-nodeless {fault} none =
+      refused x (Some Fstat) (rw (named-here, file-opens k.files id) (no-node (file_at k.files id) fault (sym none) _))
 
   module _ {n : ℕ} (on : Ok n ≡ node_at (file_at k.files id)) where
     open-on : (f : OpenFile) × (file_at k.files id ≡ Some f) × (node_number (target_of f.target) ≡ Some n)
@@ -319,30 +396,41 @@ module _ {k : Kernel} {i : ℕ} (x : Here k i) {d id : ℕ} (is : d ≡ low (arg
         let f = open-on.0 in
         let used = x.sound.used x.up in
         let on = node-on f.target ∙ open-on.2 in
-        node-there f f.target n (slot k.tree.files n) on (subst (λ o. FitsNode f f.target (node_of k.tree.files o)) on (fits-at used id f open-on.1))
+        node-there f f.target n (slot k.tree.files n) on
+            (subst (λ o. FitsNode f f.target (node_of k.tree.files o)) on (fits-at used id f open-on.1))
 
     abbrev told_bytes : List ℕ
     told_bytes = stat_bytes n fstat-there.0
 
     abbrev writes : Outcome
-    writes = answers (put_process (state_of k) i (record (me x) { memory = write_bytes x.held.memory (argument k 1) told_bytes })) 0
+    writes = answers (put_process (state_of k) i
+        (record (me x) { memory = write_bytes x.held.memory (argument k 1) told_bytes })) 0
 
     fstat-row : row_of x Fstat ≡ provided (can_write x.held.memory (argument k 1) 24) writes
     unfolding fstat_row
     fstat-row = rw (named-here, file-opens k.files id, open-on.1, open-on.2, fstat-there.1) refl
 
     pub fstat-unwritable : false ≡ can_write (memory_at k i) (argument k 1) 24 → Acts k k i (Some Fstat) Refuses
-    fstat-unwritable cannot = refused x (Some Fstat) (ap limited (fstat-row ∙ ap (λ (b : Bool). provided b writes) (can-here x (argument k 1) 24 cannot)))
+    fstat-unwritable cannot =
+        refused x (Some Fstat) (ap limited
+        (fstat-row ∙ ap (λ (b : Bool). provided b writes) (can-here x (argument k 1) 24 cannot)))
 
     -- the node was told, and its bytes are written
-    module _ (can : true ≡ can_write (memory_at k i) (argument k 1) 24) {read : Kernel} (has : HasRead k read) {a : ℕ} (is-a : a ≡ argument k 1) (told : InodeStat) {bytes : List ℕ} (numbers : bytes ≡ stat_told n told) where
+    module _ (can : true ≡ can_write (memory_at k i) (argument k 1) 24) {read : Kernel} (has : HasRead k read) {a : ℕ}
+        (is-a : a ≡ argument k 1) (told : InodeStat) {bytes : List ℕ} (numbers : bytes ≡ stat_told n told) where
       pub fstat-can : can_write (memory_at read i) a (length bytes) ≡ true
-      fstat-can = ap (λ (y : Kernel). can_write (memory_at y i) a (length bytes)) has.same ∙ rw (is-a, ap length numbers ∙ length-told n told) (sym can)
+      fstat-can = ap (λ (y : Kernel). can_write (memory_at y i) a (length bytes)) has.same
+          ∙ rw (is-a, ap length numbers ∙ length-told n told) (sym can)
 
-      pub fstat-acts : ((node : Node) → slot k.tree.files n ≡ Some node → Tells told node) → {new : Kernel} → new ≡ wrote read i a bytes → IsKernel new → Acts k new i (Some Fstat) (Answers 0)
+      pub fstat-acts : ((node : Node) → slot k.tree.files n ≡ Some node → Tells told node) → {new : Kernel}
+          → new ≡ wrote read i a bytes → IsKernel new → Acts k new i (Some Fstat) (Answers 0)
       fstat-acts tells {new} is sound =
           let from = counting k read.tree.failures in
           let made : new ≡ wrote from i (argument k 1) told_bytes =
-          is ∙ ap (λ (y : Kernel). wrote y i a bytes) has.same ∙ ap (λ m. wrote from i m bytes) is-a ∙ ap (wrote from i (argument k 1)) (numbers ∙ told-is n told fstat-there.0 (tells fstat-there.0 fstat-there.1)) in
-          rw made (does x Fstat 0 (here-in (subst IsKernel made sound) x.run.active x.up) (record { up = x.up; same_device = refl; later = has.later }) (
-          fstat-row ∙ ap (λ (b : Bool). provided b writes) (can-here x (argument k 1) 24 can) ∙ ap (λ (s : State). Done s 0 []) (sym (wrote-state x.run x.sound (argument k 1) told_bytes))))
+          is ∙ ap (λ (y : Kernel). wrote y i a bytes) has.same ∙ ap (λ m. wrote from i m bytes) is-a
+              ∙ ap (wrote from i (argument k 1))
+              (numbers ∙ told-is n told fstat-there.0 (tells fstat-there.0 fstat-there.1)) in
+          rw made (does x Fstat 0 (here-in (subst IsKernel made sound) x.run.active x.up)
+              (record { up = x.up; same_device = refl; later = has.later }) (
+          fstat-row ∙ ap (λ (b : Bool). provided b writes) (can-here x (argument k 1) 24 can)
+              ∙ ap (λ (s : State). Done s 0 []) (sym (wrote-state x.run x.sound (argument k 1) told_bytes))))

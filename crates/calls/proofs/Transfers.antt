@@ -1,10 +1,17 @@
 -- How a read and a write begin, and what they go on with: their tests are the same.
-use Rattle.calls.proofs.Common.{Acts, ActsOnDisk, Answers, ap, arg, argument, arith, Bool, bytes_given, bytes_in, Came, can_write, CanWait, cast_signed, cast_unsigned, cond_some, Counted, descriptors_at, descriptors_in, DeviceFault}
-use Rattle.calls.proofs.Common.{Directory, Err, false, false≢true, File, file-opens, file_at, file_named, file_of, Files, FileTree, FitsFiles, FitsNode, given, goes_on, GoesOnDisk, held-here, Here, here-of, IfSome, if◌then◌else◌, int_of}
-use Rattle.calls.proofs.Common.{is_on_pipe, is_some, IsFresh, IsInUse, IsPending, IsSome, Kernel, leb-true, length, length-take-le, limited, List, Load, low, me, Memory, memory_at, nat_le, natural, negsuc, Node, node_of, node_on, None}
-use Rattle.calls.proofs.Common.{none-some, of_z-to_z, Ok, Option, option_and_then, option_map, Outcome, Pending, pending_arg, pending_for, pending_of, pos, Process, provided, reach, read_bytes, read_row, refl, Refused, Refuses, Result}
-use Rattle.calls.proofs.Common.{result_ok, row, row_of, Runs, same_Some, slot, Some, some-pipe, SpaceView, Stands, stands-open, State, state_of, subst, suc, sym, take, Target, target_of, Transfers, true, wanted, write_row, zero, ℕ, ℤ, ◌&&◌}
-use Rattle.calls.proofs.Common.{◌<◌, ◌^◌, ◌∙◌, ◌≡◌, ◌≢◌}
+use Rattle.calls.proofs.Common.{Acts, ActsOnDisk, Answers, ap, arg, argument, arith, Bool, bytes_given, bytes_in, Came}
+use Rattle.calls.proofs.Common.{can_write, CanWait, cast_signed, cast_unsigned, cond_some, Counted, descriptors_at}
+use Rattle.calls.proofs.Common.{descriptors_in, DeviceFault, Directory, Err, false, false≢true, File, file-opens}
+use Rattle.calls.proofs.Common.{file_at, file_named, file_of, Files, FileTree, FitsFiles, FitsNode, given, goes_on}
+use Rattle.calls.proofs.Common.{GoesOnDisk, held-here, Here, here-of, IfSome, if◌then◌else◌, int_of, is_on_pipe}
+use Rattle.calls.proofs.Common.{is_some, IsFresh, IsInUse, IsPending, IsSome, Kernel, leb-true, length, length-take-le}
+use Rattle.calls.proofs.Common.{limited, List, Load, low, me, Memory, memory_at, nat_le, natural, negsuc, Node, node_of}
+use Rattle.calls.proofs.Common.{node_on, None, none-some, of_z-to_z, Ok, Option, option_and_then, option_map, Outcome}
+use Rattle.calls.proofs.Common.{Pending, pending_arg, pending_for, pending_of, pos, Process, provided, reach}
+use Rattle.calls.proofs.Common.{read_bytes, read_row, refl, Refused, Refuses, Result, result_ok, row, row_of, Runs}
+use Rattle.calls.proofs.Common.{same_Some, slot, Some, some-pipe, SpaceView, Stands, stands-open, State, state_of}
+use Rattle.calls.proofs.Common.{subst, suc, sym, take, Target, target_of, Transfers, true, wanted, write_row, zero, ℕ}
+use Rattle.calls.proofs.Common.{ℤ, ◌&&◌, ◌<◌, ◌^◌, ◌∙◌, ◌≡◌, ◌≢◌}
 use Rattle.unixmodel.specs.FileCalls.{is_usable, is_usable_node, unless_empty}
 use Rattle.calls.specs.Transfers.{Begins, call_on, can_transfer, MayUse, target_for, target_named}
 use Rattle.std.specs.Int.{w32}
@@ -34,7 +41,8 @@ int-low x c is = natural-cast (low x) c (omega arith) is
 
 -- ---- what is open
 
-usable-node : (f : OpenFile) (t : Target) (n : ℕ) (o : Option Node) → node_on t ≡ Some n → FitsNode f t o → is_usable_node o ≡ is_some (result_ok (usable t))
+usable-node : (f : OpenFile) (t : Target) (n : ℕ) (o : Option Node) → node_on t ≡ Some n → FitsNode f t o
+    → is_usable_node o ≡ is_some (result_ok (usable t))
 usable-node f (target.Pipe q end) n o on fits = absurd (none-some n on)
 usable-node f (target.File m offset) n (Some (File links bytes)) on fits = refl
 usable-node f (target.File m offset) n (Some (Directory links places)) on fits = refl
@@ -43,22 +51,26 @@ usable-node f (target.Device m) n (Some (Device links major minor)) on fits = fi
 usable-node f _ n _ on fits = absurd fits
 
 -- what is open may be read and written, but for a device that isn't the console
-usable-open : (files : Files) (f : OpenFile) (t : Target) → FitsNode f t (node_of files (node_on t)) → is_usable files (target_of t) ≡ is_some (result_ok (usable t))
+usable-open : (files : Files) (f : OpenFile) (t : Target) → FitsNode f t (node_of files (node_on t))
+    → is_usable files (target_of t) ≡ is_some (result_ok (usable t))
 usable-open files f (target.File n offset) fits = usable-node f (target.File n offset) n (slot files n) refl fits
 usable-open files f (target.Console n) fits = usable-node f (target.Console n) n (slot files n) refl fits
 usable-open files f (target.Device n) fits = usable-node f (target.Device n) n (slot files n) refl fits
 usable-open files f (target.Pipe q end) fits = refl
 
 -- the console is a device
-console-device : (f : OpenFile) (n : ℕ) (o : Option Node) → FitsNode f (target.Console n) o → (links : ℕ) × (major : ℕ) × (minor : ℕ) × (o ≡ Some (Device links major minor))
+console-device : (f : OpenFile) (n : ℕ) (o : Option Node) → FitsNode f (target.Console n) o
+    → (links : ℕ) × (major : ℕ) × (minor : ℕ) × (o ≡ Some (Device links major minor))
 console-device f n (Some (Device links major minor)) fits = (links, major, minor, refl)
 console-device f n _ fits = absurd fits
 
 -- what an open file is on fits it
-module _ {t : FileTree} {opens : List (Option Counted)} {places : List (Option Process)} (is : IsInUse t opens places) where
+module _ {t : FileTree} {opens : List (Option Counted)} {places : List (Option Process)} (is : IsInUse t opens places)
+    where
   fits-of : (n : ℕ) → IfSome (file_at opens n) (λ f. FitsFiles t.files f)
   fits-of n = go (slot opens n) refl where
-    go : (o : Option Counted) → slot opens n ≡ o → IfSome (option_map (λ (c : Counted). c.file) o) (λ f. FitsFiles t.files f)
+    go : (o : Option Counted) → slot opens n ≡ o
+        → IfSome (option_map (λ (c : Counted). c.file) o) (λ f. FitsFiles t.files f)
     go None at = tt
     go (Some c) at = is.fits n c at
 
@@ -81,7 +93,8 @@ record IsFor (e : End) (f : OpenFile) (t : Target) : Type 0 where
   on : f.target ≡ t
   usable : usable t ≡ Ok t
 
-may-is : (e : End) (f : OpenFile) (b : Bool) → may e f ≡ b → target_for e (Some f) ≡ (if b then result_ok (usable f.target) else None)
+may-is : (e : End) (f : OpenFile) (b : Bool) → may e f ≡ b
+    → target_for e (Some f) ≡ (if b then result_ok (usable f.target) else None)
 may-is Read f true is = rw is refl
 may-is Read f false is = rw is refl
 may-is Write f true is = rw is refl
@@ -92,10 +105,12 @@ usable-is (target.Device n) t is = absurd (none-some t is)
 usable-is x t is = let same = same_Some x t is in (same, subst (λ (y : Target). usable y ≡ Ok y) same refl)
 
 may-go : (e : End) (f : OpenFile) (t : Target) (b : Bool) → may e f ≡ b → target_for e (Some f) ≡ Some t → IsFor e f t
-may-go e f t true flag is = let u = usable-is f.target t (sym (may-is e f true flag) ∙ is) in record { may = flag; on = u.0; usable = u.1 }
+may-go e f t true flag is = let u =
+    usable-is f.target t (sym (may-is e f true flag) ∙ is) in record { may = flag; on = u.0; usable = u.1 }
 may-go e f t false flag is = absurd (none-some t (sym (may-is e f false flag) ∙ is))
 
-for-of : (e : End) (o : Option OpenFile) (t : Target) → target_for e o ≡ Some t → (f : OpenFile) × (o ≡ Some f) × IsFor e f t
+for-of : (e : End) (o : Option OpenFile) (t : Target) → target_for e o ≡ Some t
+    → (f : OpenFile) × (o ≡ Some f) × IsFor e f t
 for-of Read None t is = absurd (none-some t is)
 for-of Write None t is = absurd (none-some t is)
 for-of e (Some f) t is = (f, refl, may-go e f t (may e f) refl is)
@@ -111,25 +126,39 @@ abbrev filed : End → State → Option OpenFile → Outcome → Outcome
 filed e s o rest = given o (λ f. provided (may e f && is_usable s.files (target_of f.target)) rest)
 
 abbrev counted : End → State → ℕ → unix.Process → Outcome
-counted e s i p = given (natural (int_of (arg p 2))) (λ c. unless_empty s c (provided (can_transfer e p.memory (arg p 1) c) (goes_on s i p (pending_of (call_on e) s p) (call_on e))))
+counted e s i p = given (natural (int_of (arg p 2)))
+    (λ c. unless_empty s c (provided (can_transfer e p.memory (arg p 1) c)
+    (goes_on s i p (pending_of (call_on e) s p) (call_on e))))
 
-given-file : (o : Option OpenFile) (rest : unix_files.OpenFile → Outcome) → given (option_map file_of o) rest ≡ given o (λ f. rest (file_of f))
+given-file : (o : Option OpenFile) (rest : unix_files.OpenFile → Outcome)
+    → given (option_map file_of o) rest ≡ given o (λ f. rest (file_of f))
 given-file None rest = refl
 given-file (Some f) rest = refl
 
-given-named : (opens : List (Option Counted)) (o : Option ℕ) (rest : unix_files.OpenFile → Outcome) → given o (λ n. given (slot (opens_of opens) n) rest) ≡ given (option_and_then (file_at opens) o) (λ f. rest (file_of f))
+given-named : (opens : List (Option Counted)) (o : Option ℕ) (rest : unix_files.OpenFile → Outcome)
+    → given o (λ n. given (slot (opens_of opens) n) rest)
+    ≡ given (option_and_then (file_at opens) o) (λ f. rest (file_of f))
 given-named opens None rest = refl
 given-named opens (Some n) rest = ap (λ o. given o rest) (file-opens opens n) ∙ given-file (file_at opens n) rest
 
-row-files : (e : End) (k : Kernel) (i : ℕ) (p : unix.Process) → row (state_of k) i p (call_on e) ≡ filed e (state_of k) (file_named k.files p.descriptors (low (arg p 0))) (counted e (state_of k) i p)
+row-files : (e : End) (k : Kernel) (i : ℕ) (p : unix.Process)
+    → row (state_of k) i p (call_on e)
+    ≡ filed e (state_of k) (file_named k.files p.descriptors (low (arg p 0))) (counted e (state_of k) i p)
 unfolding read_row write_row
-row-files Read k i p = given-named k.files (slot p.descriptors (low (arg p 0))) (λ (f : unix_files.OpenFile). provided (f.readable && is_usable k.tree.files f.target) (counted Read (state_of k) i p))
-row-files Write k i p = given-named k.files (slot p.descriptors (low (arg p 0))) (λ (f : unix_files.OpenFile). provided (f.writable && is_usable k.tree.files f.target) (counted Write (state_of k) i p))
+row-files Read k i p = given-named k.files (slot p.descriptors (low (arg p 0)))
+    (λ (f : unix_files.OpenFile). provided (f.readable && is_usable k.tree.files f.target)
+    (counted Read (state_of k) i p))
+row-files Write k i p = given-named k.files (slot p.descriptors (low (arg p 0)))
+    (λ (f : unix_files.OpenFile). provided (f.writable && is_usable k.tree.files f.target)
+    (counted Write (state_of k) i p))
 
 -- the file's test is what the kernel answers
-filed-is : (o : Option OpenFile) (e : End) (s : State) (rest : Outcome) → IfSome o (λ f. FitsFiles s.files f) → filed e s o rest ≡ given (target_for e o) (λ t. rest)
-filed-is (Some f) e s rest fits = ap (λ b. provided (may e f && b) rest) (usable-open s.files f f.target fits) ∙ go (may e f) refl (result_ok (usable f.target)) refl where
-  go : (b : Bool) → may e f ≡ b → (u : Option Target) → result_ok (usable f.target) ≡ u → provided (may e f && is_some (result_ok (usable f.target))) rest ≡ given (target_for e (Some f)) (λ t. rest)
+filed-is : (o : Option OpenFile) (e : End) (s : State) (rest : Outcome) → IfSome o (λ f. FitsFiles s.files f)
+    → filed e s o rest ≡ given (target_for e o) (λ t. rest)
+filed-is (Some f) e s rest fits = ap (λ b. provided (may e f && b) rest) (usable-open s.files f f.target fits)
+    ∙ go (may e f) refl (result_ok (usable f.target)) refl where
+  go : (b : Bool) → may e f ≡ b → (u : Option Target) → result_ok (usable f.target) ≡ u
+      → provided (may e f && is_some (result_ok (usable f.target))) rest ≡ given (target_for e (Some f)) (λ t. rest)
   go false flag u on = rw (flag, may-is e f false flag) refl
   go true flag (Some t) on = rw (flag, may-is e f true flag, on) refl
   go true flag None on = rw (flag, may-is e f true flag, on) refl
@@ -141,14 +170,17 @@ unless-some s zero rest some = absurd (omega (arith, some))
 unless-some s (suc n) rest some = refl
 
 -- a pending call that begins
-pending-can : (e : End) (k : Kernel) (ds : List (Option ℕ)) (mem : Memory) (n : ℕ) → is_some (slot ds (low (argument k 0))) ≡ true → natural (int_of (argument k 2)) ≡ Some n → 0 < n → can_transfer e mem (argument k 1) n ≡ true
+pending-can : (e : End) (k : Kernel) (ds : List (Option ℕ)) (mem : Memory) (n : ℕ)
+    → is_some (slot ds (low (argument k 0))) ≡ true → natural (int_of (argument k 2)) ≡ Some n → 0 < n
+    → can_transfer e mem (argument k 1) n ≡ true
     → IsPending ds mem (pending_for k (call_on e)) (call_on e)
 pending-can Read k ds mem n named count some can =
     let same : low (argument k 2) ≡ n = int-low (argument k 2) n count in
     record { named = named; buffer = ap (can_write mem (argument k 1)) same ∙ can; left = omega (arith, same, some) }
 pending-can Write k ds mem n named count some can =
     let same : low (argument k 2) ≡ n = int-low (argument k 2) n count in
-    record { named = named; readable = ap (λ (m : ℕ). is_some (read_bytes mem (argument k 1) m)) same ∙ can; left = omega (arith, same, some) }
+    record { named = named; readable = ap (λ (m : ℕ). is_some (read_bytes mem (argument k 1) m)) same ∙ can;
+        left = omega (arith, same, some) }
 
 fresh-go : (o : Option OpenFile) (P : Type 0) → P → IfSome o (λ f. is_on_pipe f.target ≡ true → P)
 fresh-go None P is = tt
@@ -161,7 +193,8 @@ start-fresh opens ds w start = λ read. fresh-go (file_named opens ds (low (pend
 -- ---- the call of the running process
 
 -- r is what its descriptor is open on, if such a call may be made on it
-module _ {k : Kernel} {i : ℕ} (x : Here k i) (e : End) {r : Option Target} (found : r ≡ target_for e (file_named k.files (descriptors_at k i) (low (argument k 0)))) where
+module _ {k : Kernel} {i : ℕ} (x : Here k i) (e : End) {r : Option Target}
+    (found : r ≡ target_for e (file_named k.files (descriptors_at k i) (low (argument k 0)))) where
   abbrev named : Option OpenFile
   named = file_named k.files (descriptors_at k i) (low (argument k 0))
 
@@ -174,8 +207,10 @@ module _ {k : Kernel} {i : ℕ} (x : Here k i) (e : End) {r : Option Target} (fo
   row-here : row_of x (call_on e) ≡ given r (λ t. rest)
   row-here =
       row-files e k i (me x)
-      ∙ ap (λ (o : Option Process). filed e (state_of k) (file_named k.files (descriptors_in o) (low (argument k 0))) rest) (sym x.run.process)
-      ∙ filed-is named e (state_of k) rest (fits-named (x.sound.used x.up) (slot (descriptors_at k i) (low (argument k 0))))
+      ∙ ap (λ (o : Option Process). filed e (state_of k) (file_named k.files (descriptors_in o) (low (argument k 0)))
+          rest) (sym x.run.process)
+      ∙ filed-is named e (state_of k) rest
+          (fits-named (x.sound.used x.up) (slot (descriptors_at k i) (low (argument k 0))))
       ∙ ap (λ (o : Option Target). given o (λ t. rest)) (sym found)
 
   refuses : row_of x (call_on e) ≡ Refused → Acts k k i (Some (call_on e)) Refuses
@@ -195,7 +230,8 @@ module _ {k : Kernel} {i : ℕ} (x : Here k i) (e : End) {r : Option Target} (fo
     row-counted = row-here ∙ rw is refl
 
     pub begins-below : o ≡ None → Acts k k i (Some (call_on e)) Refuses
-    begins-below none = let below : natural (int_of (argument k 2)) ≡ None = sym told ∙ none in refuses (row-counted ∙ rw below refl)
+    begins-below none = let below : natural (int_of (argument k 2)) ≡ None = sym told
+        ∙ none in refuses (row-counted ∙ rw below refl)
 
     module _ {n : ℕ} (some : o ≡ Some n) where
       count : natural (int_of (argument k 2)) ≡ Some n
@@ -208,8 +244,10 @@ module _ {k : Kernel} {i : ℕ} (x : Here k i) (e : End) {r : Option Target} (fo
         row-tested : row_of x (call_on e) ≡ provided b (going x w)
         row-tested =
             row-counted
-            ∙ rw count (unless-some (state_of k) n (provided (can_transfer e x.held.memory (argument k 1) n) (going x w)) (omega arith))
-            ∙ ap (λ (b : Bool). provided b (going x w)) (ap (λ (h : SpaceView). can_transfer e h.memory (argument k 1) n) (sym (held-here x)) ∙ sym can)
+            ∙ rw count (unless-some (state_of k) n
+                (provided (can_transfer e x.held.memory (argument k 1) n) (going x w)) (omega arith))
+            ∙ ap (λ (b : Bool). provided b (going x w))
+                (ap (λ (h : SpaceView). can_transfer e h.memory (argument k 1) n) (sym (held-here x)) ∙ sym can)
 
         pub begins-unusable : b ≡ false → Acts k k i (Some (call_on e)) Refuses
         begins-unusable failed = refuses (row-tested ∙ ap (λ (b : Bool). provided b (going x w)) failed)
@@ -220,7 +258,9 @@ module _ {k : Kernel} {i : ℕ} (x : Here k i) (e : End) {r : Option Target} (fo
             goes = record {
               runs = runs;
               number = refl;
-              can = pending-can e k (descriptors_at k i) (memory_at k i) n (ap is_some (file-at k.files (descriptors_at k i) (low (argument k 0)) t on).named) count (omega arith) (sym can ∙ passed);
+              can = pending-can e k (descriptors_at k i) (memory_at k i) n
+                  (ap is_some (file-at k.files (descriptors_at k i) (low (argument k 0)) t on).named) count
+                  (omega arith) (sym can ∙ passed);
               fresh = start-fresh k.files (descriptors_at k i) w refl;
               target = on;
             };
@@ -228,13 +268,15 @@ module _ {k : Kernel} {i : ℕ} (x : Here k i) (e : End) {r : Option Target} (fo
             usable = for-it.2.usable;
             mode = mode-is e named for-it.0 for-it.1 for-it.2.may;
           };
-          row = outcome-here x (Some (call_on e)) ∙ ap limited (row-tested ∙ ap (λ (b : Bool). provided b (going x w)) passed ∙ sym (going-here x w));
+          row = outcome-here x (Some (call_on e))
+              ∙ ap limited (row-tested ∙ ap (λ (b : Bool). provided b (going x w)) passed ∙ sym (going-here x w));
         })
 
 -- ---- it goes on
 
 -- what goes on with the call does the call
-pub begun-acts : {k : Kernel} {i : ℕ} {e : End} {t : Target} {w : Pending} → Begins k i e t w → (new : Kernel) (r : Result Came DeviceFault) → GoesOnDisk k new i w r → ActsOnDisk k new i (Some (call_on e)) r
+pub begun-acts : {k : Kernel} {i : ℕ} {e : End} {t : Target} {w : Pending} → Begins k i e t w
+    → (new : Kernel) (r : Result Came DeviceFault) → GoesOnDisk k new i w r → ActsOnDisk k new i (Some (call_on e)) r
 begun-acts b new (Ok came) goes = rw (b.row ∙ goes.within) goes.comes
 begun-acts b new (Err fault) lost = lost
 
@@ -249,35 +291,44 @@ module _ {k : Kernel} {i : ℕ} {e : End} {t : Target} {w : Pending} (g : Transf
   abbrev pub file-named : IsNamed (state_of k) (me here) (low (pending_arg w 0)) (file_of file.file)
   file-named = record {
     number = file.number;
-    named = ap (λ (o : Option Process). slot (descriptors_in o) (low (pending_arg w 0))) (sym here.run.process) ∙ file.named;
+    named = ap (λ (o : Option Process). slot (descriptors_in o) (low (pending_arg w 0))) (sym here.run.process)
+        ∙ file.named;
     opened = file-opens k.files file.number ∙ ap (option_map file_of) file.opened;
   }
 
   -- its node fits it
   pub file-fits : FitsNode file.file t (node_of k.tree.files (node_on t))
-  file-fits = subst (λ (y : Target). FitsNode file.file y (node_of k.tree.files (node_on y))) file.on (fits-at (here.sound.used here.up) file.number file.file file.opened)
+  file-fits = subst (λ (y : Target). FitsNode file.file y (node_of k.tree.files (node_on y))) file.on
+      (fits-at (here.sound.used here.up) file.number file.file file.opened)
 
   -- the pipe that it is an end of is there
   pub transfer-stands : Stands k.spaces (target_of t)
-  transfer-stands = stands-open k.spaces (opens_of k.files) file.number (file_of file.file) (target_of t) g.runs.sound.opened.piped (file-opens k.files file.number ∙ ap (option_map file_of) file.opened) (ap target_of file.on)
+  transfer-stands = stands-open k.spaces (opens_of k.files) file.number (file_of file.file) (target_of t)
+      g.runs.sound.opened.piped (file-opens k.files file.number ∙ ap (option_map file_of) file.opened)
+      (ap target_of file.on)
 
   -- the number of its open file
-  pub named-number : {d : ℕ} → d ≡ low (pending_arg w 0) → (o : Option ℕ) → o ≡ slot (descriptors_at k i) d → (n : ℕ) → o ≡ Some n → n ≡ file.number
-  named-number place o told n some = same_Some n file.number (sym some ∙ told ∙ ap (slot (descriptors_at k i)) place ∙ file.named)
+  pub named-number : {d : ℕ} → d ≡ low (pending_arg w 0) → (o : Option ℕ) → o ≡ slot (descriptors_at k i) d → (n : ℕ)
+      → o ≡ Some n → n ≡ file.number
+  named-number place o told n some =
+      same_Some n file.number (sym some ∙ told ∙ ap (slot (descriptors_at k i)) place ∙ file.named)
 
   pub going-is : going here w ≡ goes_on (state_of k) i (me here) w (call_on e)
   going-is = ap (goes_on (state_of k) i (me here) w) g.number
 
   -- what holds of the open file that is named
-  pub named-file : (P : OpenFile → Type 0) → IfSome (file_named k.files (descriptors_at k i) (low (pending_arg w 0))) P → P file.file
+  pub named-file : (P : OpenFile → Type 0) → IfSome (file_named k.files (descriptors_at k i) (low (pending_arg w 0))) P
+      → P file.file
   named-file P is = subst (λ o. IfSome o P) (ap (option_and_then (file_at k.files)) file.named ∙ file.opened) is
 
 -- the console is a device
-pub console-here : {k : Kernel} {i n : ℕ} {e : End} {w : Pending} → Transfers k i e (target.Console n) w → (links : ℕ) × (major : ℕ) × (minor : ℕ) × (slot k.tree.files n ≡ Some (Device links major minor))
+pub console-here : {k : Kernel} {i n : ℕ} {e : End} {w : Pending} → Transfers k i e (target.Console n) w
+    → (links : ℕ) × (major : ℕ) × (minor : ℕ) × (slot k.tree.files n ≡ Some (Device links major minor))
 console-here {k = k} {n = n} g = console-device (file g).file n (slot k.tree.files n) (file-fits g)
 
 -- what is in the pipe
-pub pipe-here : {k : Kernel} {i q : ℕ} {e d : End} {w : Pending} → Transfers k i e (target.Pipe q d) w → slot k.spaces.pipes q ≡ Some (bytes_in k.spaces q)
+pub pipe-here : {k : Kernel} {i q : ℕ} {e d : End} {w : Pending} → Transfers k i e (target.Pipe q d) w
+    → slot k.spaces.pipes q ≡ Some (bytes_in k.spaces q)
 pipe-here {k = k} {q = q} g = some-pipe (slot k.spaces.pipes q) (transfer-stands g)
 
 -- the bytes that a write puts
@@ -286,7 +337,8 @@ module _ {k : Kernel} {i : ℕ} {t : Target} {w : Pending} (g : Transfers k i Wr
   given_bytes = bytes_given k.spaces i (pending_arg w 1) (wanted w)
 
   pub read-given : read_bytes (here g).held.memory (pending_arg w 1) (wanted w) ≡ Some given_bytes
-  read-given = ap (λ (h : SpaceView). read_bytes h.memory (pending_arg w 1) (wanted w)) (sym (held-here (here g))) ∙ some-pipe (read_bytes (memory_at k i) (pending_arg w 1) (wanted w)) g.can.readable
+  read-given = ap (λ (h : SpaceView). read_bytes h.memory (pending_arg w 1) (wanted w)) (sym (held-here (here g)))
+      ∙ some-pipe (read_bytes (memory_at k i) (pending_arg w 1) (wanted w)) g.can.readable
 
   -- as many as were asked for
   pub length-given : length given_bytes ≡ wanted w
@@ -298,7 +350,8 @@ module _ {k : Kernel} {i : ℕ} {t : Target} {w : Pending} (g : Transfers k i Wr
 
 -- ---- a pending call that goes on
 
-pending-named : (e : End) (ds : List (Option ℕ)) (memory : Memory) (w : Pending) → IsPending ds memory w (call_on e) → is_some (slot ds (low (pending_arg w 0))) ≡ true
+pending-named : (e : End) (ds : List (Option ℕ)) (memory : Memory) (w : Pending) → IsPending ds memory w (call_on e)
+    → is_some (slot ds (low (pending_arg w 0))) ≡ true
 pending-named Read ds memory w is = is.named
 pending-named Write ds memory w is = is.named
 
@@ -311,7 +364,9 @@ some-file None some none = false≢true some
 some-file (Some f) some none = none-some f.target (sym none)
 
 -- r is what its descriptor d is open on
-module _ {k : Kernel} {i : ℕ} {w : Pending} (e : End) (runs : Runs k i) (can : CanWait k i w) (number : w.number ≡ call_on e) {d : ℕ} (place : d ≡ low (pending_arg w 0)) (r : Option Target) (told : r ≡ target_named k i d) where
+module _ {k : Kernel} {i : ℕ} {w : Pending} (e : End) (runs : Runs k i) (can : CanWait k i w)
+    (number : w.number ≡ call_on e) {d : ℕ} (place : d ≡ low (pending_arg w 0)) (r : Option Target)
+    (told : r ≡ target_named k i d) where
   pending : IsPending (descriptors_at k i) (memory_at k i) w (call_on e)
   pending = subst (IsPending (descriptors_at k i) (memory_at k i) w) number can.0
 
@@ -322,10 +377,16 @@ module _ {k : Kernel} {i : ℕ} {w : Pending} (e : End) (runs : Runs k i) (can :
   pub target-some : r ≡ None → ⊥
   target-some none =
       let x = here-of runs in
-      let n = some-named (slot (descriptors_at k i) (low (pending_arg w 0))) (pending-named e (descriptors_at k i) (memory_at k i) w pending) in
-      let there = open-named k.files k.spaces.pipes k.table.places x.sound.opened i x.process (low (pending_arg w 0)) n.0 x.run.process (ap (λ (o : Option Process). slot (descriptors_in o) (low (pending_arg w 0))) (sym x.run.process) ∙ n.1) in
-      let named : file_named k.files (descriptors_at k i) (low (pending_arg w 0)) ≡ file_at k.files n.0 = ap (option_and_then (file_at k.files)) n.1 in
-      some-file (file_at k.files n.0) (ap is_some (sym (file-opens k.files n.0) ∙ there.1.0)) (sym (ap (option_map (λ (f : OpenFile). f.target)) named) ∙ open-on None none)
+      let n = some-named (slot (descriptors_at k i) (low (pending_arg w 0)))
+              (pending-named e (descriptors_at k i) (memory_at k i) w pending) in
+      let there = open-named k.files k.spaces.pipes k.table.places x.sound.opened i x.process (low (pending_arg w 0))
+              n.0 x.run.process (ap (λ (o : Option Process). slot (descriptors_in o) (low (pending_arg w 0)))
+              (sym x.run.process) ∙ n.1) in
+      let named : file_named k.files (descriptors_at k i) (low (pending_arg w 0)) ≡ file_at k.files n.0 =
+              ap (option_and_then (file_at k.files)) n.1 in
+      some-file (file_at k.files n.0) (ap is_some (sym (file-opens k.files n.0) ∙ there.1.0))
+          (sym (ap (option_map (λ (f : OpenFile). f.target)) named) ∙ open-on None none)
 
   pub goes-transfers : {t : Target} → r ≡ Some t → Transfers k i e t w
-  goes-transfers {t = t} is = record { runs = runs; number = number; can = pending; fresh = can.1.fresh; target = open-on (Some t) is }
+  goes-transfers {t = t} is =
+      record { runs = runs; number = number; can = pending; fresh = can.1.fresh; target = open-on (Some t) is }

@@ -1,6 +1,8 @@
--- What a call of the running process makes of the state, once it has begun, and what the kernel's function for it promises.
+-- What a call of the running process makes of the state, once it has begun, and what the kernel's function for it
+-- promises.
 use Rattle.std.specs.Io.KnownBytes.{Appends}
-use Rattle.std.specs.Prelude.{Err, List, false, None, Ok, Option, Result, Some, [], negsuc, slice_index, ℕ, ◌%◌, ◌∷◌, ◌≡◌}
+use Rattle.std.specs.Prelude.{Err, List, false, None, Ok, Option, Result, Some, [], negsuc, slice_index, ℕ, ◌%◌, ◌∷◌}
+use Rattle.std.specs.Prelude.{◌≡◌}
 use Rattle.std.specs.Int.{cast_signed, cast_unsigned, w32}
 use Rattle.blockdev.specs.declared.DeviceFault.{DeviceFault}
 use Rattle.calls.specs.declared.halt.Halt.{Halt}
@@ -58,7 +60,8 @@ outcome_at s i call = outcome_by s i call (process_at s i)
 pub record IsBegun (k e : Kernel) (i : ℕ) : Type 0 where
   pub runs : Runs e i
   pub tree : e.tree ≡ k.tree
-  pub row : (call : Option Call) → call_of (low (slice_index k.spaces.registers 17)) ≡ call → called (state_of k) i ≡ settle (state_of e) i (outcome_at (state_of e) i call)
+  pub row : (call : Option Call) → call_of (low (slice_index k.spaces.registers 17)) ≡ call
+      → called (state_of k) i ≡ settle (state_of e) i (outcome_at (state_of e) i call)
 
 -- what the process in place i comes to as it goes on with a pending call
 abbrev pub going_by : State → ℕ → Pending → Option unix.Process → Outcome
@@ -82,11 +85,13 @@ settled_by s i KillsItself = end_at (marked_by s i) i (negsuc 0) (process_at (ma
 
 -- the call that waits, as it begins
 abbrev pub pending_for : Kernel → Call → Pending
-pending_for k number = record { number = number; args = argument k 0 ∷ argument k 1 ∷ argument k 2 ∷ []; done = 0; since = k.ticks }
+pending_for k number = record
+    { number = number; args = argument k 0 ∷ argument k 1 ∷ argument k 2 ∷ []; done = 0; since = k.ticks }
 
 -- a call may wait so
 abbrev pub CanWait : Kernel → ℕ → Pending → Type 0
-CanWait k i w = IsPending (descriptors_at k i) (view_at k.spaces i).memory w w.number × IsAwaiting k.files (descriptors_at k i) w
+CanWait k i w = IsPending (descriptors_at k i) (view_at k.spaces i).memory w w.number
+    × IsAwaiting k.files (descriptors_at k i) w
 
 -- a call may come to that: a status is an int
 abbrev pub CanCome : Kernel → ℕ → Came → Type 0
@@ -137,21 +142,30 @@ GoesOnDisk old new i w (Ok came) = GoesOn old new i w came
 GoesOnDisk old new i w (Err fault) = IsLost old.tree new.tree
 
 -- a call that has that outcome; before and after: what the writer took; console: the writer's count of failures rose
-abbrev pub Tries : Kernel → Kernel → ℕ → Outcome → Option (List ℕ) → Option (List ℕ) → Type 0 → Result Came Halt → Type 0
-Tries old new i o before after console (Ok came) = (bytes : List ℕ) × Comes old new i o bytes came × Appends before after bytes
+abbrev pub Tries : Kernel → Kernel → ℕ → Outcome → Option (List ℕ) → Option (List ℕ) → Type 0 → Result Came Halt
+    → Type 0
+Tries old new i o before after console (Ok came) = (bytes : List ℕ) × Comes old new i o bytes came
+    × Appends before after bytes
 -- a beginning of what it puts out is on the console, and the files are as they were
-Tries old new i o before after console (Err Console) = console × AppendsBeginning before after (settle (state_of old) i o).bytes × (new.tree ≡ old.tree)
+Tries old new i o before after console (Err Console) = console
+    × AppendsBeginning before after (settle (state_of old) i o).bytes × (new.tree ≡ old.tree)
 -- nothing is
 Tries old new i o before after console (Err Device) = IsLost old.tree new.tree × Appends before after []
 Tries old new i o before after console (Err (InitEnded status)) = ⊥
 Tries old new i o before after console (Err Halted) = ⊥
 
 -- the same where the bytes go to an output
-abbrev pub TriesTo : {W : Type 0} → (W → Option (List ℕ)) → (W → ℕ) → Kernel → Kernel → W → W → ℕ → Outcome → Result Came Halt → Type 0
-TriesTo contents failures old new from to i o result = Tries old new i o (contents from) (contents to) (Rises (failures from) (failures to)) result
+abbrev pub TriesTo : {W : Type 0} → (W → Option (List ℕ)) → (W → ℕ) → Kernel → Kernel → W → W → ℕ → Outcome
+    → Result Came Halt → Type 0
+TriesTo contents failures old new from to i o result =
+    Tries old new i o (contents from) (contents to) (Rises (failures from) (failures to)) result
 
-abbrev pub CallTries : {W : Type 0} → (W → Option (List ℕ)) → (W → ℕ) → Kernel → Kernel → W → W → ℕ → Option Call → Result Came Halt → Type 0
-CallTries contents failures old new from to i call result = TriesTo contents failures old new from to i (outcome_at (state_of old) i call) result
+abbrev pub CallTries : {W : Type 0} → (W → Option (List ℕ)) → (W → ℕ) → Kernel → Kernel → W → W → ℕ → Option Call
+    → Result Came Halt → Type 0
+CallTries contents failures old new from to i call result =
+    TriesTo contents failures old new from to i (outcome_at (state_of old) i call) result
 
-abbrev pub PendingTries : {W : Type 0} → (W → Option (List ℕ)) → (W → ℕ) → Kernel → Kernel → W → W → ℕ → Pending → Result Came Halt → Type 0
-PendingTries contents failures old new from to i w result = TriesTo contents failures old new from to i (limited (going_at (state_of old) i w)) result
+abbrev pub PendingTries : {W : Type 0} → (W → Option (List ℕ)) → (W → ℕ) → Kernel → Kernel → W → W → ℕ → Pending
+    → Result Came Halt → Type 0
+PendingTries contents failures old new from to i w result =
+    TriesTo contents failures old new from to i (limited (going_at (state_of old) i w)) result

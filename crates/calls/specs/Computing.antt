@@ -1,5 +1,6 @@
 -- Instructions of the process that runs, up to a call or a fault, and no further than to a stop.
-use Rattle.std.specs.Prelude.{Bool, Err, List, None, Ok, Option, Some, false, is_some, replicate, true, ℕ, ◌<◌, ◌≡◌, ◌≤◌, ◌⊎◌}
+use Rattle.std.specs.Prelude.{Bool, Err, List, None, Ok, Option, Some, false, is_some, replicate, true, ℕ, ◌<◌, ◌≡◌}
+use Rattle.std.specs.Prelude.{◌≤◌, ◌⊎◌}
 use Rattle.hart.specs.Stops.{is_stop}
 use Rattle.kernel.specs.Idle.{running_process}
 use Rattle.unixmodel.specs.Calls.{quiet}
@@ -43,4 +44,5 @@ pub record Computes (old new : State) (stops : List ℕ) (most count : ℕ) : Ty
   -- no state strictly between is at a stop
   pub none_between : (n : ℕ) → 0 < n → n < count → is_at stops (after_steps old n) ≡ false
   -- where there could be more, the next instruction calls or faults, or is at a stop
-  pub first_stop : count < most → is_some (running old) ≡ true → (computes new ≡ false) ⊎ ((0 < count) × (is_at stops new ≡ true))
+  pub first_stop : count < most → is_some (running old) ≡ true
+      → (computes new ≡ false) ⊎ ((0 < count) × (is_at stops new ≡ true))

@@ -24,7 +24,8 @@ pub record IsMade (new : Kernel) (a : After) (before after : Option (List ℕ)) 
   pub printed : Appends before after a.bytes
 
 -- what a call that makes `a` is answered with; rising: the console's count of failures rose
-abbrev pub Dispatches : {X : Type 0} → Kernel → After → Option (List ℕ) → Option (List ℕ) → Type 0 → Result X Halt → Type 0
+abbrev pub Dispatches : {X : Type 0} → Kernel → After → Option (List ℕ) → Option (List ℕ) → Type 0 → Result X Halt
+    → Type 0
 Dispatches new a before after rising (Ok x) = IsMade new a before after
 Dispatches new a before after rising (Err (InitEnded status)) = ⊥
 Dispatches new a before after rising (Err Console) = rising × AppendsBeginning before after a.bytes
@@ -46,11 +47,15 @@ EventGives new a before after rising (Err Device) = Appends before after []
 EventGives new a before after rising (Err Halted) = ⊥
 
 -- the same where the bytes go to an output: the bytes that it took, and how often it failed, are read off it
-abbrev pub DispatchesTo : {W X : Type 0} → (W → Option (List ℕ)) → (W → ℕ) → Kernel → W → W → After → Result X Halt → Type 0
-DispatchesTo contents failures new from to a result = Dispatches new a (contents from) (contents to) (Rises (failures from) (failures to)) result
+abbrev pub DispatchesTo : {W X : Type 0} → (W → Option (List ℕ)) → (W → ℕ) → Kernel → W → W → After → Result X Halt
+    → Type 0
+DispatchesTo contents failures new from to a result =
+    Dispatches new a (contents from) (contents to) (Rises (failures from) (failures to)) result
 
-abbrev pub EventGivesTo : {W : Type 0} → (W → Option (List ℕ)) → (W → ℕ) → Kernel → W → W → After → Result (Unit {0}) Halt → Type 0
-EventGivesTo contents failures new from to a result = EventGives new a (contents from) (contents to) (Rises (failures from) (failures to)) result
+abbrev pub EventGivesTo : {W : Type 0} → (W → Option (List ℕ)) → (W → ℕ) → Kernel → W → W → After
+    → Result (Unit {0}) Halt → Type 0
+EventGivesTo contents failures new from to a result =
+    EventGives new a (contents from) (contents to) (Rises (failures from) (failures to)) result
 
 -- what the instruction at the pc of the process of a place makes
 abbrev pub executed : Kernel → ℕ → After

@@ -1,5 +1,6 @@
 -- What open makes of a kernel, step by step.
-use Rattle.std.specs.Prelude.{Bool, Err, List, Ok, Option, Result, Some, if◌then◌else◌, nat_le, nat_lt, not, true, ℕ, ◌&&◌, ◌==◌, ◌||◌, ◌≡◌, ◌≤◌}
+use Rattle.std.specs.Prelude.{Bool, Err, List, Ok, Option, Result, Some, if◌then◌else◌, nat_le, nat_lt, not, true, ℕ}
+use Rattle.std.specs.Prelude.{◌&&◌, ◌==◌, ◌||◌, ◌≡◌, ◌≤◌}
 use Rattle.blockdev.specs.declared.DeviceFault.{DeviceFault}
 use Rattle.calls.specs.Acts.{Runs}
 use Rattle.kernel.specs.Opening.{free_descriptors}
@@ -35,7 +36,8 @@ pub record Asks (k : Kernel) (i : ℕ) (path : List ℕ) (f : ℕ) (o : Option �
 
 -- what is open on number n, whose inode tells that type and major
 abbrev pub target_by : ℕ → ℕ → ℕ → Target
-target_by n kind major = if kind == 3 then (if major == 1 then target.Console n else target.Device n) else target.File n 0
+target_by n kind major =
+    if kind == 3 then (if major == 1 then target.Console n else target.Device n) else target.File n 0
 
 -- the open file that flags f ask for
 abbrev pub file_by : ℕ → Target → OpenFile
@@ -60,14 +62,16 @@ has_seat k i = nat_lt 0 (free_descriptors k.table i) && nat_lt 0 (free_count k.f
 
 -- descriptor fd of process p, in place i, names f, which takes a place
 abbrev pub with_open : State → ℕ → Process → ℕ → ℕ → unix.OpenFile → State
-with_open s i p fd place f = record s { places = put s.places i (with_descriptor p fd place); opens = put s.opens place f }
+with_open s i p fd place f =
+    record s { places = put s.places i (with_descriptor p fd place); opens = put s.opens place f }
 
 -- the lowest free descriptor of process i, fd, names f, which takes the lowest free place
 pub record Opens (old new : Kernel) (i : ℕ) (f : unix.OpenFile) (fd : ℕ) : Type 0 where
   pub place : ℕ
   pub first : free_slot (opens_of old.files) ≡ Some place
   pub free : free_slot (descriptors_at old i) ≡ Some fd
-  pub state : (p : Process) → process_at (state_of old) i ≡ Some p → state_of new ≡ with_open (state_of old) i p fd place f
+  pub state : (p : Process) → process_at (state_of old) i ≡ Some p
+      → state_of new ≡ with_open (state_of old) i p fd place f
   pub runs : Runs new i
   pub served : IsServed old.tree new.tree
 

@@ -26,7 +26,8 @@ pub record Went (old now : Kernel) (count : ℕ) (before after : Option (List �
   pub served : IsServed old.tree now.tree
 
 -- the last of so many steps halts: those before it went
-pub record StopsAt (old new : Kernel) (count : ℕ) (before after : Option (List ℕ)) (rising : Type 0) (halt : Halt) : Type 0 where
+pub record StopsAt (old new : Kernel) (count : ℕ) (before after : Option (List ℕ)) (rising : Type 0) (halt : Halt)
+    : Type 0 where
   pub mid : Kernel
   pub done : ℕ
   pub counts : done + 1 ≡ count
@@ -44,12 +45,15 @@ abbrev pub IsBusyFor : State → ℕ → Type 0
 IsBusyFor s count = (done : ℕ) → done < count → IsBusy (run s (replicate done Step)).state
 
 -- so many steps went, none only where nobody runs and none is ready; or the last of them halts
-abbrev pub PieceGoes : Kernel → Kernel → ℕ → Option (List ℕ) → Option (List ℕ) → Type 0 → Result (Unit {0}) Halt → Type 0
-PieceGoes old new count before after rising (Ok u) = Went old new count before after × (count ≡ 0 → is_idle (state_of new) ≡ true)
+abbrev pub PieceGoes : Kernel → Kernel → ℕ → Option (List ℕ) → Option (List ℕ) → Type 0 → Result (Unit {0}) Halt
+    → Type 0
+PieceGoes old new count before after rising (Ok u) = Went old new count before after
+    × (count ≡ 0 → is_idle (state_of new) ≡ true)
 PieceGoes old new count before after rising (Err halt) = StopsAt old new count before after rising halt
 
 -- what the first of so many steps are answered with, which are done in one go
-pub record PieceGives (old new : Kernel) (most : ℕ) (before after : Option (List ℕ)) (rising : Type 0) (count : ℕ) (result : Result (Unit {0}) Halt) : Type 0 where
+pub record PieceGives (old new : Kernel) (most : ℕ) (before after : Option (List ℕ)) (rising : Type 0) (count : ℕ)
+    (result : Result (Unit {0}) Halt) : Type 0 where
   pub within : count ≤ most
   pub busy : IsBusyFor (state_of old) count
   pub goes : PieceGoes old new count before after rising result
@@ -61,8 +65,8 @@ pub record DeviceStops (old : Kernel) (count : ℕ) (before after : Option (List
   pub goes : (stepped old done).state.halted ≡ None
   pub printed : Appends before after (stepped old done).bytes
 
--- the console's count of failures rose at the step after so many, a beginning of what all print was printed, and the files are
--- those that the steps before it leave
+-- the console's count of failures rose at the step after so many, a beginning of what all print was printed, and the
+-- files are those that the steps before it leave
 pub record ConsoleStops (old new : Kernel) (count : ℕ) (before after : Option (List ℕ)) (rising : Type 0) : Type 0 where
   pub rises : rising
   pub printed : AppendsBeginning before after (stepped old count).bytes
@@ -72,19 +76,25 @@ pub record ConsoleStops (old new : Kernel) (count : ℕ) (before after : Option 
   pub files : new.tree.files ≡ (stepped old done).state.files
 
 -- what so many steps are answered with; rising: the console's count of failures rose
-abbrev pub StepsGive : Kernel → Kernel → ℕ → Option (List ℕ) → Option (List ℕ) → Type 0 → Result (Unit {0}) Halt → Type 0
+abbrev pub StepsGive : Kernel → Kernel → ℕ → Option (List ℕ) → Option (List ℕ) → Type 0 → Result (Unit {0}) Halt
+    → Type 0
 StepsGive old new count before after rising (Ok u) = Makes new (stepped old count) before after None
-StepsGive old new count before after rising (Err (InitEnded status)) = Makes new (stepped old count) before after (Some status)
+StepsGive old new count before after rising (Err (InitEnded status)) =
+    Makes new (stepped old count) before after (Some status)
 StepsGive old new count before after rising (Err Device) = DeviceStops old count before after
 StepsGive old new count before after rising (Err Console) = ConsoleStops old new count before after rising
 StepsGive old new count before after rising (Err Halted) = ⊥
 
 -- the same where the bytes go to an output
-abbrev pub PieceGivesTo : {W : Type 0} → (W → Option (List ℕ)) → (W → ℕ) → Kernel → Kernel → W → W → ℕ → ℕ → Result (Unit {0}) Halt → Type 0
-PieceGivesTo contents failures old new from to most count result = PieceGives old new most (contents from) (contents to) (Rises (failures from) (failures to)) count result
+abbrev pub PieceGivesTo : {W : Type 0} → (W → Option (List ℕ)) → (W → ℕ) → Kernel → Kernel → W → W → ℕ → ℕ
+    → Result (Unit {0}) Halt → Type 0
+PieceGivesTo contents failures old new from to most count result =
+    PieceGives old new most (contents from) (contents to) (Rises (failures from) (failures to)) count result
 
-abbrev pub StepsGiveTo : {W : Type 0} → (W → Option (List ℕ)) → (W → ℕ) → Kernel → Kernel → W → W → ℕ → Result (Unit {0}) Halt → Type 0
-StepsGiveTo contents failures old new from to count result = StepsGive old new count (contents from) (contents to) (Rises (failures from) (failures to)) result
+abbrev pub StepsGiveTo : {W : Type 0} → (W → Option (List ℕ)) → (W → ℕ) → Kernel → Kernel → W → W → ℕ
+    → Result (Unit {0}) Halt → Type 0
+StepsGiveTo contents failures old new from to count result =
+    StepsGive old new count (contents from) (contents to) (Rises (failures from) (failures to)) result
 
 -- what steps that are answered so leave of the files of the disk
 abbrev pub LeavesFiles : {X : Type 0} → FileTree → FileTree → Result X Halt → Type 0

@@ -1,6 +1,7 @@
--- How read and write begin, and go on with what a descriptor names. Which of them it is goes by the end of a pipe that it
--- would use.
-use Rattle.std.specs.Prelude.{Bool, IfSome, List, Ok, Option, Some, is_some, length, option_map, take, true, ℕ, ◌≡◌, ◌≤◌}
+-- How read and write begin, and go on with what a descriptor names. Which of them it is goes by the end of a pipe that
+-- it would use.
+use Rattle.std.specs.Prelude.{Bool, IfSome, List, Ok, Option, Some, is_some, length, option_map, take, true, ℕ, ◌≡◌}
+use Rattle.std.specs.Prelude.{◌≤◌}
 use Rattle.std.specs.Result.{result_ok}
 use Rattle.calls.specs.Acts.{Runs, going_at, outcome_at}
 use Rattle.kernel.specs.Kernel.{Kernel, descriptors_at, state_of}

@@ -61,8 +61,8 @@ pub(crate) fn begin<D: BlockDev, T: Translate>(kernel: &mut Kernel<D, T>, at: us
     kernel.enter();
 }
 
-// The table of calls: a call that has begun, but for what it comes to; a number of no call is refused. `Device`, `Console`: the
-// device failed, the console did.
+// The table of calls: a call that has begun, but for what it comes to; a number of no call is refused. `Device`,
+// `Console`: the device failed, the console did.
 fn act<D: BlockDev, T: Translate, W: Out>(
     kernel: &mut Kernel<D, T>,
     at: usize,
@@ -111,7 +111,8 @@ pub fn call<D: BlockDev, T: Translate, W: Out>(
 ) -> Result<(), Halt>
     requires running { kernel.old.spaces.active ≡ Some at }
     requires up { kernel.old.tree.failed ≡ false }
-    ensures gives { DispatchesTo W.contents W.failures kernel.new console.old console.new (called (state_of kernel.old) at) result }
+    ensures gives { DispatchesTo W.contents W.failures kernel.new console.old console.new
+            (called (state_of kernel.old) at) result }
     ensures tree { LeavesTree kernel.old.tree kernel.new.tree result }
     ensures later { W.failures console.old ≤ W.failures console.new }
 {

@@ -47,8 +47,8 @@ pub(crate) fn dup<D: BlockDev, T: Translate>(kernel: &mut Kernel<D, T>, at: usiz
     Came::Answers(free as u64)
 }
 
-/// close(descriptor): the descriptor is free; a pipe that has no end any more goes, and so does a node without links that nobody holds
-/// any more.
+/// close(descriptor): the descriptor is free; a pipe that has no end any more goes, and so does a node without links
+/// that nobody holds any more.
 pub(crate) fn close<D: BlockDev, T: Translate>(
     kernel: &mut Kernel<D, T>,
     at: usize,

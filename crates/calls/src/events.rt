@@ -67,7 +67,8 @@ pub fn key<D: BlockDev, T: Translate, W: Out>(
     byte: u8,
     console: &mut W,
 ) -> Result<(), Halt>
-    ensures gives { DispatchesTo W.contents W.failures kernel.new console.old console.new (next (state_of kernel.old) (Key byte)) result }
+    ensures gives { DispatchesTo W.contents W.failures kernel.new console.old console.new
+            (next (state_of kernel.old) (Key byte)) result }
     ensures lost { OnErr result (kernel.new ≡ kernel.old) }
     ensures fault { IfErr result (λ halt. halt ≡ Console) }
     ensures tree { kernel.new.tree ≡ kernel.old.tree }
@@ -87,7 +88,8 @@ pub fn step<D: BlockDev, T: Translate, W: Out>(
 ) -> Result<(), Halt>
     requires goes { kernel.old.halted ≡ None }
     requires up { kernel.old.tree.failed ≡ false }
-    ensures does { EventGivesTo W.contents W.failures kernel.new console.old console.new (next (state_of kernel.old) Step) result }
+    ensures does { EventGivesTo W.contents W.failures kernel.new console.old console.new
+            (next (state_of kernel.old) Step) result }
     ensures tree { LeavesTree kernel.old.tree kernel.new.tree result }
     ensures later { W.failures console.old ≤ W.failures console.new }
 {
@@ -117,7 +119,8 @@ fn instruct<D: BlockDev, T: Translate, W: Out>(
 ) -> Result<(), Halt>
     requires running { kernel.old.spaces.active ≡ Some at }
     requires up { kernel.old.tree.failed ≡ false }
-    ensures gives { DispatchesTo W.contents W.failures kernel.new console.old console.new (executed kernel.old at) result }
+    ensures gives { DispatchesTo W.contents W.failures kernel.new console.old console.new (executed kernel.old at)
+            result }
     ensures tree { LeavesTree kernel.old.tree kernel.new.tree result }
     ensures later { W.failures console.old ≤ W.failures console.new }
 {
@@ -137,8 +140,10 @@ pub(crate) fn take_trap<D: BlockDev, T: Translate, W: Out>(
 ) -> Result<(), Halt>
     requires running { kernel.old.spaces.active ≡ Some at }
     requires up { kernel.old.tree.failed ≡ false }
-    requires traps { cycle kernel.old.spaces.registers kernel.old.spaces.pc (view_at kernel.old.spaces at).memory ≡ Err trap }
-    ensures gives { DispatchesTo W.contents W.failures kernel.new console.old console.new (executed kernel.old at) result }
+    requires traps { cycle kernel.old.spaces.registers kernel.old.spaces.pc (view_at kernel.old.spaces at).memory
+            ≡ Err trap }
+    ensures gives { DispatchesTo W.contents W.failures kernel.new console.old console.new (executed kernel.old at)
+            result }
     ensures tree { LeavesTree kernel.old.tree kernel.new.tree result }
     ensures later { W.failures console.old ≤ W.failures console.new }
 {
@@ -154,7 +159,8 @@ pub(crate) fn take_trap<D: BlockDev, T: Translate, W: Out>(
 fn take_turn<D: BlockDev, T: Translate>(kernel: &mut Kernel<D, T>) -> Result<(), DeviceFault>
     requires idle { kernel.old.spaces.active ≡ None }
     requires up { kernel.old.tree.failed ≡ false }
-    ensures gives { OnOk result (take_turn (state_of kernel.old) (turn (state_of kernel.old)) ≡ quiet (state_of kernel.new)) }
+    ensures gives { OnOk result
+            (take_turn (state_of kernel.old) (turn (state_of kernel.old)) ≡ quiet (state_of kernel.new)) }
     ensures tree { LeavesDisk kernel.old.tree kernel.new.tree result }
 {
     kernel.is_sound();

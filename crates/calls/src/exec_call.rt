@@ -32,8 +32,8 @@ fn exec_found<D: BlockDev, T: Translate>(
     }
 }
 
-/// exec(path, argv): the program of the file that the path reaches comes in the place of the one that runs, with the arguments
-/// that argv points at.
+/// exec(path, argv): the program of the file that the path reaches comes in the place of the one that runs, with the
+/// arguments that argv points at.
 pub(crate) fn exec<D: BlockDev, T: Translate>(
     kernel: &mut Kernel<D, T>,
     at: usize,

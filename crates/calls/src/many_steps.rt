@@ -46,8 +46,8 @@ pub fn steps<D: BlockDev, T: Translate, W: Out>(
     Ok(())
 }
 
-/// The first of so many steps, as many as are done in one go: how many they are, with the one at which the machine halts. They are
-/// none where no process runs and none is ready.
+/// The first of so many steps, as many as are done in one go: how many they are, with the one at which the machine
+/// halts. They are none where no process runs and none is ready.
 pub fn advance<D: BlockDev, T: Translate, W: Out>(
     kernel: &mut Kernel<D, T>,
     most: u32,
@@ -56,7 +56,8 @@ pub fn advance<D: BlockDev, T: Translate, W: Out>(
     requires goes { kernel.old.halted ≡ None }
     requires up { kernel.old.tree.failed ≡ false }
     requires some { 0 < most }
-    ensures does { PieceGivesTo W.contents W.failures kernel.old kernel.new console.old console.new most result.0 result.1 }
+    ensures does { PieceGivesTo W.contents W.failures kernel.old kernel.new console.old console.new most result.0
+            result.1 }
     ensures later { W.failures console.old ≤ W.failures console.new }
 {
     match kernel.active() {
@@ -65,8 +66,8 @@ pub fn advance<D: BlockDev, T: Translate, W: Out>(
     }
 }
 
-/// Instructions of the running process, at most so many, up to a call or a fault and not over it, and no further than to the first of
-/// some addresses that the pc comes to: how many they are. None are done where no process runs.
+/// Instructions of the running process, at most so many, up to a call or a fault and not over it, and no further than
+/// to the first of some addresses that the pc comes to: how many they are. None are done where no process runs.
 pub fn compute<D: BlockDev, T: Translate>(
     kernel: &mut Kernel<D, T>,
     most: u32,
@@ -94,7 +95,8 @@ fn instruct_many<D: BlockDev, T: Translate, W: Out>(
     requires goes { kernel.old.halted ≡ None }
     requires up { kernel.old.tree.failed ≡ false }
     requires some { 0 < most }
-    ensures does { PieceGivesTo W.contents W.failures kernel.old kernel.new console.old console.new most result.0 result.1 }
+    ensures does { PieceGivesTo W.contents W.failures kernel.old kernel.new console.old console.new most result.0
+            result.1 }
     ensures later { W.failures console.old ≤ W.failures console.new }
 {
     kernel.is_sound();
@@ -113,8 +115,10 @@ fn trap_once<D: BlockDev, T: Translate, W: Out>(
 ) -> Result<(), Halt>
     requires running { kernel.old.spaces.active ≡ Some at }
     requires up { kernel.old.tree.failed ≡ false }
-    requires traps { cycle kernel.old.spaces.registers kernel.old.spaces.pc (view_at kernel.old.spaces at).memory ≡ Err trap }
-    ensures does { EventGivesTo W.contents W.failures kernel.new console.old console.new (executed kernel.old at) result }
+    requires traps { cycle kernel.old.spaces.registers kernel.old.spaces.pc (view_at kernel.old.spaces at).memory
+            ≡ Err trap }
+    ensures does { EventGivesTo W.contents W.failures kernel.new console.old console.new (executed kernel.old at)
+            result }
     ensures tree { LeavesTree kernel.old.tree kernel.new.tree result }
     ensures later { W.failures console.old ≤ W.failures console.new }
 {
@@ -128,7 +132,8 @@ fn turn_once<D: BlockDev, T: Translate>(kernel: &mut Kernel<D, T>) -> (u32, Resu
     requires idle { kernel.old.spaces.active ≡ None }
     requires goes { kernel.old.halted ≡ None }
     requires up { kernel.old.tree.failed ≡ false }
-    ensures does { (at : Option (List ℕ)) → (most : ℕ) → 0 < most → PieceGives kernel.old kernel.new most at at ⊥ result.0 result.1 }
+    ensures does { (at : Option (List ℕ)) → (most : ℕ) → 0 < most
+            → PieceGives kernel.old kernel.new most at at ⊥ result.0 result.1 }
 {
     kernel.is_sound();
     match kernel.turn() {
@@ -142,7 +147,8 @@ fn take_once<D: BlockDev, T: Translate>(kernel: &mut Kernel<D, T>, at: usize) ->
     requires idle { kernel.old.spaces.active ≡ None }
     requires up { kernel.old.tree.failed ≡ false }
     requires alive { IsAlive (slot kernel.old.table.places at) }
-    ensures gives { (bytes : Option (List ℕ)) → EventGives kernel.new (taken (state_of kernel.old) at) bytes bytes ⊥ result }
+    ensures gives { (bytes : Option (List ℕ))
+            → EventGives kernel.new (taken (state_of kernel.old) at) bytes bytes ⊥ result }
     ensures tree { LeavesTree kernel.old.tree kernel.new.tree result }
 {
     take(kernel, at)?;

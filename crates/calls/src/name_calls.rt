@@ -57,7 +57,8 @@ fn named<D: BlockDev, T: Translate, X>(
     }
 }
 
-/// mknod(path, major, minor): a device with the lowest free number, and a name for it; major and minor are cut to 16 bits.
+/// mknod(path, major, minor): a device with the lowest free number, and a name for it; major and minor are cut to 16
+/// bits.
 pub(crate) fn mknod<D: BlockDev, T: Translate>(
     kernel: &mut Kernel<D, T>,
     at: usize,

@@ -179,8 +179,8 @@ fn open_new<D: BlockDev, T: Translate>(
     }
 }
 
-/// open(path, flags): the lowest free descriptor names a new open file on what the path reaches, and is the answer. Bit 9 of the flags
-/// makes a file where the path reaches nothing, and bit 10 empties a file.
+/// open(path, flags): the lowest free descriptor names a new open file on what the path reaches, and is the answer. Bit
+/// 9 of the flags makes a file where the path reaches nothing, and bit 10 empties a file.
 pub(crate) fn open<D: BlockDev, T: Translate>(
     kernel: &mut Kernel<D, T>,
     at: usize,
@@ -199,7 +199,8 @@ pub(crate) fn open<D: BlockDev, T: Translate>(
     }
 }
 
-// The process works in the directory that its path reaches; the one that it leaves goes where it has no links and nobody holds it any more.
+// The process works in the directory that its path reaches; the one that it leaves goes where it has no links and
+// nobody holds it any more.
 fn work_in<D: BlockDev, T: Translate>(
     kernel: &mut Kernel<D, T>,
     at: usize,
@@ -232,8 +233,8 @@ fn chdir_found<D: BlockDev, T: Translate>(
     work_in(kernel, at, number)
 }
 
-/// chdir(path): the process works in another directory; the one that it leaves goes where it has no links and nobody holds it any
-/// more.
+/// chdir(path): the process works in another directory; the one that it leaves goes where it has no links and nobody
+/// holds it any more.
 pub(crate) fn chdir<D: BlockDev, T: Translate>(
     kernel: &mut Kernel<D, T>,
     at: usize,

@@ -6,7 +6,8 @@ ghost use Rattle.calls.specs.Acts.{Acts, ActsOnDisk, CanWait, GoesOn, GoesOnDisk
 ghost use Rattle.files.specs.declared.file.Target.TheVariants as target;
 ghost use Rattle.kernel.specs.Kernel.{descriptors_at};
 ghost use Rattle.kernel.specs.Sound.{file_named};
-ghost use Rattle.calls.specs.Transfers.{Begins, OnConsole, OnThePipe, Uses, IsFront, call_on, can_transfer, target_for, target_named};
+ghost use Rattle.calls.specs.Transfers.{Begins, OnConsole, OnThePipe, Uses, IsFront, call_on, can_transfer, target_for};
+ghost use Rattle.calls.specs.Transfers.{target_named};
 ghost use Rattle.files.specs.declared.file.End.TheVariants as End;
 ghost use Rattle.console.specs.Output.{AppendsBeginning};
 ghost use Rattle.files.specs.Meant.{end_of};
@@ -131,8 +132,8 @@ fn begin_transfer<D: BlockDev, T: Translate>(
 
 // ---- read
 
-/// read(descriptor, address, count) from a file or a directory, the console or a pipe. Its bytes go to an address that may be
-/// written for all of the count, which is tested first.
+/// read(descriptor, address, count) from a file or a directory, the console or a pipe. Its bytes go to an address that
+/// may be written for all of the count, which is tested first.
 pub(crate) fn read<D: BlockDev, T: Translate>(
     kernel: &mut Kernel<D, T>,
     at: usize,
@@ -295,7 +296,8 @@ fn print<D: BlockDev, T: Translate, W: Out>(
 ) -> Result<(), OutFault>
     requires running { kernel.now.spaces.active ≡ Some at }
     requires readable { is_some (read_bytes (view_at kernel.now.spaces at).memory address count) ≡ true }
-    ensures ok { OnOk result (Appends (W.contents out.old) (W.contents out.new) (bytes_given kernel.now.spaces at address count)) }
+    ensures ok { OnOk result
+            (Appends (W.contents out.old) (W.contents out.new) (bytes_given kernel.now.spaces at address count)) }
     ensures err { OnErr result (AppendsBeginning (W.contents out.old) (W.contents out.new)
         (bytes_given kernel.now.spaces at address count)) }
     ensures later { W.failures out.old ≤ W.failures out.new }
@@ -311,7 +313,8 @@ fn print<D: BlockDev, T: Translate, W: Out>(
     Ok(())
 }
 
-/// write(descriptor, address, count) to a file, the console or a pipe. Its bytes are all readable, which is tested first.
+/// write(descriptor, address, count) to a file, the console or a pipe. Its bytes are all readable, which is tested
+/// first.
 /// `Device`, `Console`: the device failed, the console did.
 pub(crate) fn write<D: BlockDev, T: Translate, W: Out>(
     kernel: &mut Kernel<D, T>,
@@ -319,7 +322,8 @@ pub(crate) fn write<D: BlockDev, T: Translate, W: Out>(
     console: &mut W,
 ) -> Result<Came, Halt>
     requires { Runs kernel.old at }
-    ensures tries { CallTries W.contents W.failures kernel.old kernel.new console.old console.new at (Some Call.Write) result }
+    ensures tries { CallTries W.contents W.failures kernel.old kernel.new console.old console.new
+            at (Some Call.Write) result }
     ensures later { W.failures console.old ≤ W.failures console.new }
 {
     match begin_transfer(kernel, at, End::Write) {
@@ -361,7 +365,8 @@ fn write_answer(wrote: u64, count: u64) -> u64
     if wrote == count { wrote } else { REFUSED }
 }
 
-// To a file: as many of its bytes go as there are blocks for, and the offset goes on behind them; it answers -1 where some are left.
+// To a file: as many of its bytes go as there are blocks for, and the offset goes on behind them; it answers -1 where
+// some are left.
 fn write_file<D: BlockDev, T: Translate>(
     kernel: &mut Kernel<D, T>,
     at: usize,

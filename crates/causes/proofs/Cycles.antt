@@ -1,5 +1,6 @@
 -- How the cycle of a process that is seen traps.
-use Rattle.std.proofs.Common.{ap, refl, sym, ◌∙◌, ◌≡◌, ℕ, Option, Some, None, option_and_then, option_map, arith, zero, suc, ◌+◌, ◌-◌, ◌*◌, List, [], ◌∷◌, drop, take, slice_get, slice_range}
+use Rattle.std.proofs.Common.{ap, refl, sym, ◌∙◌, ◌≡◌, ℕ, Option, Some, None, option_and_then, option_map, arith, zero}
+use Rattle.std.proofs.Common.{suc, ◌+◌, ◌-◌, ◌*◌, List, [], ◌∷◌, drop, take, slice_get, slice_range}
 use Rattle.std.proofs.lemmas.Option.{none-some, same_Some}
 use Rattle.causes.specs.Causes.{fault_shown, memory_of, trap_of, trap_shown}
 use Rattle.machine.specs.declared.seen.Seen.{Seen}
@@ -25,26 +26,32 @@ page_fault pc = record { cause = InstructionPageFault; address = pc }
 traps-unfetched : (p : Process) → None ≡ word_at p.memory p.pc → trap_shown p ≡ Some (page_fault p.pc)
 unfolding effect_of cycle
 traps-unfetched p h = go (page_for Fetch p.memory p.pc) h where
-  go : (found : Option Page) → None ≡ option_map (λ page. number (bytes_at 4 p.pc page)) found → trap_of (fetched found p.registers p.pc p.memory) ≡ Some (page_fault p.pc)
+  go : (found : Option Page) → None ≡ option_map (λ page. number (bytes_at 4 p.pc page)) found
+      → trap_of (fetched found p.registers p.pc p.memory) ≡ Some (page_fault p.pc)
   go None none = refl
   go (Some page) none = absurd (none-some (number (bytes_at 4 p.pc page)) none)
 
-traps-word : (p : Process) (word : ℕ) → Some word ≡ word_at p.memory p.pc → trap_of (act_word (instruction_of word) p.registers p.pc p.memory) ≡ trap_shown p
+traps-word : (p : Process) (word : ℕ) → Some word ≡ word_at p.memory p.pc
+    → trap_of (act_word (instruction_of word) p.registers p.pc p.memory) ≡ trap_shown p
 unfolding effect_of cycle
 traps-word p word h = go (page_for Fetch p.memory p.pc) h where
   go : (found : Option Page) → Some word ≡ option_map (λ page. number (bytes_at 4 p.pc page)) found
-      → trap_of (act_word (instruction_of word) p.registers p.pc p.memory) ≡ trap_of (fetched found p.registers p.pc p.memory)
+      → trap_of (act_word (instruction_of word) p.registers p.pc p.memory)
+          ≡ trap_of (fetched found p.registers p.pc p.memory)
   go None some = absurd (none-some word (sym some))
-  go (Some page) some = ap (λ w. trap_of (act_word (instruction_of w) p.registers p.pc p.memory)) (same_Some word (number (bytes_at 4 p.pc page)) some)
+  go (Some page) some = ap (λ w. trap_of (act_word (instruction_of w) p.registers p.pc p.memory))
+      (same_Some word (number (bytes_at 4 p.pc page)) some)
 
-pub shown-unfetched : (o : Option Process) (seen : Seen) → Some seen ≡ option_map seen_of o → None ≡ word_at (memory_of o) seen.pc
+pub shown-unfetched : (o : Option Process) (seen : Seen) → Some seen ≡ option_map seen_of o
+    → None ≡ word_at (memory_of o) seen.pc
     → Some (page_fault seen.pc) ≡ option_and_then trap_shown o
 shown-unfetched None seen is h = absurd (none-some seen (sym is))
 shown-unfetched (Some p) seen is h =
     let pc : seen.pc ≡ p.pc = ap (λ (s : Seen). s.pc) (same_Some seen (seen_of p) is) in
     rw pc (sym (traps-unfetched p (h ∙ ap (λ pc. word_at p.memory pc) pc)))
 
-pub shown-word : (o : Option Process) (seen : Seen) (word : ℕ) → Some seen ≡ option_map seen_of o → Some word ≡ word_at (memory_of o) seen.pc
+pub shown-word : (o : Option Process) (seen : Seen) (word : ℕ) → Some seen ≡ option_map seen_of o
+    → Some word ≡ word_at (memory_of o) seen.pc
     → trap_of (act_word (instruction_of word) seen.registers seen.pc (memory_of o)) ≡ option_and_then trap_shown o
 shown-word None seen word is h = absurd (none-some seen (sym is))
 shown-word (Some p) seen word is h =
@@ -54,7 +61,8 @@ shown-word (Some p) seen word is h =
 
 -- ---- a fault is that trap, at the pc
 
-pub fault-shown : (o : Option Process) (seen : Seen) (trap : Trap) → Some seen ≡ option_map seen_of o → Some trap ≡ option_and_then trap_shown o → Some (trap, seen.pc) ≡ option_and_then fault_shown o
+pub fault-shown : (o : Option Process) (seen : Seen) (trap : Trap) → Some seen ≡ option_map seen_of o
+    → Some trap ≡ option_and_then trap_shown o → Some (trap, seen.pc) ≡ option_and_then fault_shown o
 fault-shown None seen trap is h = absurd (none-some seen (sym is))
 fault-shown (Some p) seen trap is h =
     let pc : seen.pc ≡ p.pc = ap (λ (s : Seen). s.pc) (same_Some seen (seen_of p) is) in
@@ -74,7 +82,8 @@ unseen (Some p) h = absurd (none-some (seen_of p) h)
 abbrev byte : List ℕ → ℕ → ℕ
 byte xs k = unwrap_or (slice_get xs k) 0
 
-number-four : (xs : List ℕ) → number (take 4 xs) ≡ byte xs 0 + 256 * byte xs 1 + 65536 * byte xs 2 + 16777216 * byte xs 3
+number-four : (xs : List ℕ)
+    → number (take 4 xs) ≡ byte xs 0 + 256 * byte xs 1 + 65536 * byte xs 2 + 16777216 * byte xs 3
 number-four [] = refl
 number-four (a ∷ []) = omega arith
 number-four (a ∷ b ∷ []) = omega arith
@@ -88,7 +97,9 @@ byte-drop (suc at) k n [] h = refl
 byte-drop (suc at) k zero (x ∷ xs) h = omega arith
 byte-drop (suc at) k (suc n) (x ∷ xs) h = byte-drop at k n xs (omega arith)
 
-pub word-is : (at : ℕ) (xs : List ℕ) → number (slice_range xs at (at + 4)) ≡ byte xs at + 256 * byte xs (at + 1) + 65536 * byte xs (at + 2) + 16777216 * byte xs (at + 3)
+pub word-is : (at : ℕ) (xs : List ℕ)
+    → number (slice_range xs at (at + 4))
+    ≡ byte xs at + 256 * byte xs (at + 1) + 65536 * byte xs (at + 2) + 16777216 * byte xs (at + 3)
 word-is at xs =
     let four : at + 4 - at ≡ 4 = omega arith in
     let first : byte (drop at xs) 0 ≡ byte xs at = byte-drop at 0 at xs (omega arith) in

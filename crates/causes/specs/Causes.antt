@@ -35,4 +35,5 @@ memory_shown s pid = memory_of (shown_process s pid)
 
 -- so a store to an address traps, whatever the registers and the pc are
 abbrev pub StoreTraps : Memory → StoreOp → ℕ → Option Trap → Type 0
-StoreTraps memory op address told = (regs : List ℕ) (pc value : ℕ) → told ≡ trap_of (store regs pc memory op address value)
+StoreTraps memory op address told = (regs : List ℕ) (pc value : ℕ)
+    → told ≡ trap_of (store regs pc memory op address value)

@@ -52,8 +52,8 @@ fn spelled(word: Option<u32>) -> Why {
     }
 }
 
-/// The fault that the next instruction of the process with a pid would raise if it were done now; `None` where it would raise none, and
-/// where there is no such process.
+/// The fault that the next instruction of the process with a pid would raise if it were done now; `None` where it would
+/// raise none, and where there is no such process.
 pub fn fault_of<D: BlockDev, T: Translate>(machine: &Machine<D, T>, pid: u32) -> Option<Fault>
     ensures { told_in result ≡ option_and_then fault_shown (shown_process machine.now.state pid) }
 {
@@ -70,8 +70,8 @@ pub fn fault_of<D: BlockDev, T: Translate>(machine: &Machine<D, T>, pid: u32) ->
     Some(Fault { trap, pc, why })
 }
 
-// A word that is no instruction. Code of the extension C comes in halves of which the low two bits aren't both 1; a half of zeros is
-// none of it.
+// A word that is no instruction. Code of the extension C comes in halves of which the low two bits aren't both 1; a
+// half of zeros is none of it.
 fn write_word<W: fmt::Write>(f: &mut fmt::Formatter<W>, word: u32, pc: u64) -> fmt::Result {
     if word % 4 == 3 {
         return write!(f, "illegal instruction {word:#010x} at pc {pc:#x}");

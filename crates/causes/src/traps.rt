@@ -1,7 +1,7 @@
 //! The trap that the next instruction of a process would raise.
 //!
-//! From the RISC-V unprivileged manual. The address that is told is the target of a jump, the accessed address of a load or store, and
-//! else the pc; an address that is no multiple of the size comes before a page fault.
+//! From the RISC-V unprivileged manual. The address that is told is the target of a jump, the accessed address of a
+//! load or store, and else the pc; an address that is no multiple of the size comes before a page fault.
 ghost use Rattle.std.specs.Prelude.{◌≡◌, ◌+◌, Some, option_and_then, slice_index, ℕ, List};
 ghost use Rattle.causes.specs.Causes.{StoreTraps, memory_shown, trap_of, trap_shown};
 ghost use Rattle.unixmodel.specs.Cycle.{act_word};
@@ -51,7 +51,8 @@ fn load<D: BlockDev, T: Translate>(
     op: LoadOp,
     address: u64,
 ) -> Option<Trap>
-    ensures { (regs : List ℕ) (pc rd : ℕ) → result ≡ trap_of (load regs pc (memory_shown machine.now.state pid) op rd address) }
+    ensures { (regs : List ℕ) (pc rd : ℕ)
+            → result ≡ trap_of (load regs pc (memory_shown machine.now.state pid) op rd address) }
 {
     if address % load_size(op) != 0 {
         return trap(Cause::LoadMisaligned, address);
@@ -137,8 +138,8 @@ fn act_word<D: BlockDev, T: Translate>(
     }
 }
 
-/// What the next instruction of the process with a pid would fault with if it were done now: the trap that the cycle of the process
-/// ends in, if that is no call. `None` where it would not fault, and where there is no such process.
+/// What the next instruction of the process with a pid would fault with if it were done now: the trap that the cycle of
+/// the process ends in, if that is no call. `None` where it would not fault, and where there is no such process.
 pub fn cause<D: BlockDev, T: Translate>(machine: &Machine<D, T>, pid: u32) -> Option<Trap>
     ensures { result ≡ option_and_then trap_shown (shown_process machine.now.state pid) }
 {

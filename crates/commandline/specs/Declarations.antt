@@ -1,10 +1,12 @@
 -- The command line that the program declares, and what a job says of it.
-use Rattle.std.specs.Prelude.{◌≡◌, ◌↔◌, IsTrue, Bool, ℕ, pos, List, [], ◌∷◌, None, Option, Some, true, false, codes, fold, map, option_map, slice_get}
+use Rattle.std.specs.Prelude.{◌≡◌, ◌↔◌, IsTrue, Bool, ℕ, pos, List, [], ◌∷◌, None, Option, Some, true, false, codes}
+use Rattle.std.specs.Prelude.{fold, map, option_map, slice_get}
 use Rattle.std.specs.Borrow.{Bor}
 use Rattle.std.specs.Int.NonZero.{non_zero_u64_get}
 use Rattle.std.specs.Str.Parse.{IsNumeral, digits_value}
 use Rattle.std.specs.declared.num.NonZeroU64.{NonZeroU64}
-use Rattle.clap.specs.Words.{App, Row, Rule, Text, all_of, app_of, first_of, new_app, new_rule, with_rule, with_subcommand}
+use Rattle.clap.specs.Words.{App, Row, Rule, Text, all_of, app_of, first_of, new_app, new_rule, with_rule}
+use Rattle.clap.specs.Words.{with_subcommand}
 use Rattle.clap.specs.declared.builder.action.ArgAction.TheVariants.{SetTrue}
 use Rattle.clap.specs.declared.builder.command.Command.{Command}
 use Rattle.clap.specs.declared.builder.command.Command.TheViews.{out-Command}
@@ -95,7 +97,8 @@ boot_options app = with_rule (with_rule app (number_rule (codes "frames") (codes
 abbrev pub telling_options : App → App
 telling_options app =
     with_rule (with_rule (with_rule (with_rule (with_rule (with_rule app
-    (flag_rule (codes "report"))) (option_rule (codes "json"))) (count_rule (codes "registers"))) (count_rule (codes "memory")))
+    (flag_rule (codes "report"))) (option_rule (codes "json"))) (count_rule (codes "registers")))
+        (count_rule (codes "memory")))
     (flag_rule (codes "status"))) (flag_rule (codes "progress"))
 
 -- [--explain]
@@ -108,11 +111,14 @@ with_bare app name = with_rule app (word_rule name)
 
 -- what all runs from an image take
 abbrev pub run_options : App → App
-run_options app = explained (telling_options (with_rule (with_rule (boot_options app) (count_rule (codes "fail"))) (option_rule (codes "save"))))
+run_options app = explained
+    (telling_options (with_rule (with_rule (boot_options app) (count_rule (codes "fail")))
+    (option_rule (codes "save"))))
 
 -- flat [..] FILE SCRIPT
 abbrev pub declared_flat : App
-declared_flat = with_bare (with_bare (explained (telling_options (boot_options (new_app (codes "flat"))))) (codes "FILE")) (codes "SCRIPT")
+declared_flat = with_bare
+    (with_bare (explained (telling_options (boot_options (new_app (codes "flat"))))) (codes "FILE")) (codes "SCRIPT")
 
 -- run [..] [--fail N] [--save OUT] IMAGE SCRIPT
 abbrev pub declared_run : App
@@ -127,7 +133,9 @@ declared_live =
 
 -- play [..] [--script OUT] IMAGE PLAY
 abbrev pub declared_play : App
-declared_play = with_bare (with_bare (with_rule (run_options (new_app (codes "play"))) (option_rule (codes "script"))) (codes "IMAGE")) (codes "PLAY")
+declared_play = with_bare
+    (with_bare (with_rule (run_options (new_app (codes "play"))) (option_rule (codes "script"))) (codes "IMAGE"))
+    (codes "PLAY")
 
 -- [--pid PID] [--calls NAMES] [--from N] [--to N]
 abbrev pub part_options : App → App
@@ -139,14 +147,16 @@ part_options app =
 abbrev pub line_options : App → App
 line_options app =
     with_rule (with_rule (with_rule (with_rule app
-    (number_rule (codes "bytes") (codes "32"))) (flag_rule (codes "each"))) (flag_rule (codes "time"))) (flag_rule (codes "turns"))
+    (number_rule (codes "bytes") (codes "32"))) (flag_rule (codes "each"))) (flag_rule (codes "time")))
+        (flag_rule (codes "turns"))
 
 -- trace [..] [--text FILE] [--perfetto FILE] [--commits FILE] [--core-is-pid] [--jsonl FILE] [--play] IMAGE SCRIPT
 abbrev pub declared_trace : App
 declared_trace =
     with_bare (with_bare (with_rule (with_rule (with_rule (with_rule (with_rule (with_rule
     (line_options (part_options (run_options (new_app (codes "trace")))))
-    (option_rule (codes "text"))) (option_rule (codes "perfetto"))) (option_rule (codes "commits"))) (flag_rule (codes "core-is-pid")))
+    (option_rule (codes "text"))) (option_rule (codes "perfetto"))) (option_rule (codes "commits")))
+        (flag_rule (codes "core-is-pid")))
     (option_rule (codes "jsonl"))) (flag_rule (codes "play"))) (codes "IMAGE")) (codes "SCRIPT")
 
 -- mkfs [--size N] [--inodes N] MANIFEST IMAGE
@@ -162,15 +172,18 @@ declared_check = with_bare (explained (new_app (codes "check"))) (codes "IMAGE")
 
 -- ls [-R] IMAGE PATH
 abbrev pub declared_ls : App
-declared_ls = with_bare (with_bare (explained (with_rule (new_app (codes "ls")) (letter_rule (codes "recursive") 82))) (codes "IMAGE")) (codes "PATH")
+declared_ls = with_bare (with_bare (explained (with_rule (new_app (codes "ls")) (letter_rule (codes "recursive") 82)))
+    (codes "IMAGE")) (codes "PATH")
 
 -- get IMAGE PATH [OUT]
 abbrev pub declared_get : App
-declared_get = with_rule (with_bare (with_bare (explained (new_app (codes "get"))) (codes "IMAGE")) (codes "PATH")) (last_rule (codes "OUT"))
+declared_get = with_rule (with_bare (with_bare (explained (new_app (codes "get"))) (codes "IMAGE")) (codes "PATH"))
+    (last_rule (codes "OUT"))
 
 -- put IMAGE PATH FILE
 abbrev pub declared_put : App
-declared_put = with_bare (with_bare (with_bare (explained (new_app (codes "put"))) (codes "IMAGE")) (codes "PATH")) (codes "FILE")
+declared_put = with_bare (with_bare (with_bare (explained (new_app (codes "put"))) (codes "IMAGE")) (codes "PATH"))
+    (codes "FILE")
 
 -- migrate OLD NEW
 abbrev pub declared_migrate : App
@@ -184,7 +197,8 @@ declared_asm = with_bare (with_bare (explained (new_app (codes "asm"))) (codes "
 abbrev pub declared_as : App
 declared_as =
     with_rule (explained (with_rule (with_rule (with_rule (new_app (codes "as"))
-    (short_rule (codes "out") 111)) (flag_rule (codes "expand"))) (letter_rule (codes "verbose") 118))) (each_rule (codes "FILE"))
+    (short_rule (codes "out") 111)) (flag_rule (codes "expand"))) (letter_rule (codes "verbose") 118)))
+        (each_rule (codes "FILE"))
 
 -- dump ELF
 abbrev pub declared_dump : App
@@ -193,7 +207,8 @@ declared_dump = with_bare (explained (new_app (codes "dump"))) (codes "ELF")
 -- a command has to be there
 abbrev pub declared_top : App
 declared_top = record (new_app (codes "xv6")) {
-  top = record (new_app (codes "xv6")).top { subcommand_required = true; arg_required_else_help = true; has_version = true };
+  top = record (new_app (codes "xv6")).top
+      { subcommand_required = true; arg_required_else_help = true; has_version = true };
 }
 
 -- what boots a machine
@@ -210,7 +225,8 @@ with_images app =
 
 -- what works on the texts and the files of programs
 abbrev pub with_programs : App → App
-with_programs app = with_subcommand (with_subcommand (with_subcommand app declared_asm.top) declared_as.top) declared_dump.top
+with_programs app = with_subcommand (with_subcommand (with_subcommand app declared_asm.top) declared_as.top)
+    declared_dump.top
 
 abbrev pub declared : App
 declared = with_programs (with_images (with_machines declared_top))

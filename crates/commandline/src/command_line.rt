@@ -1,7 +1,11 @@
 //! What the words of a command line ask for.
-ghost use Rattle.std.specs.Prelude.{◌≡◌, ◌↔◌, IfOk, IfSome, IsTrue, Some, codes, false, fold, map, option_map, slice_get};
+ghost use Rattle.std.specs.Prelude.{◌≡◌, ◌↔◌, IfOk, IfSome, IsTrue, Some, codes, false, fold, map, option_map};
+ghost use Rattle.std.specs.Prelude.{slice_get};
 ghost use Rattle.clap.specs.Words.{app_of, first_of, found_of, rows_of, rule_of, subcommand_of, subcommand_rows_of};
-ghost use Rattle.commandline.specs.Declarations.{AreFirst, DeclaresOwn, IsCount, IsJob, IsLines, IsPart, IsRun, IsTelling, IsWritten, Writes, declared, declared_by, declared_top, flag_rule, last_rule, named_rule, option_rule, rule_given, with_declared};
+ghost use Rattle.commandline.specs.Declarations.{AreFirst, DeclaresOwn, IsCount, IsJob, IsLines, IsPart, IsRun};
+ghost use Rattle.commandline.specs.Declarations.{IsTelling, IsWritten, Writes, declared, declared_by, declared_top};
+ghost use Rattle.commandline.specs.Declarations.{flag_rule, last_rule, named_rule, option_rule, rule_given};
+ghost use Rattle.commandline.specs.Declarations.{with_declared};
 
 use crate::declarations::{COMMANDS, Declared, EXAMPLE, Given, Word};
 use crate::jobs::{
@@ -139,7 +143,8 @@ fn word_found<'a>(found: &ArgMatches<'a>, name: &str) -> Option<&'a str>
 
 // The two words that were found of these names.
 fn two_words<'a>(found: &ArgMatches<'a>, one: &str, other: &str) -> Option<(&'a str, &'a str)>
-    ensures { IfSome result (λ two. (first_of one.now (rows_of (found_of found.now)) ≡ Some two.0.now) × (first_of other.now (rows_of (found_of found.now)) ≡ Some two.1.now)) }
+    ensures { IfSome result (λ two. (first_of one.now (rows_of (found_of found.now)) ≡ Some two.0.now)
+            × (first_of other.now (rows_of (found_of found.now)) ≡ Some two.1.now)) }
 {
     let Some(one) = word_found(found, one) else {
         return None;

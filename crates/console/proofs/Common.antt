@@ -1,11 +1,13 @@
 -- The names that the lemmas of this crate import from elsewhere, passed on from one place. Declares nothing.
-pub use Rattle.std.proofs.Common.{◌%◌, ◌+◌, ◌++◌, ◌-◌, ◌<◌, [], ap, append-nil, append_assoc, ap₂, arith, Bool, drop, false, flat_map, get_or, inl, inr}
-pub use Rattle.std.proofs.Common.{length, List, min, None, Option, refl, rules, set, slice_get, Some, suc, sym, take, true, zero, ℕ, ◌∙◌, ◌∷◌, ◌≡◌, ◌≢◌, ◌≤◌}
+pub use Rattle.std.proofs.Common.{◌%◌, ◌+◌, ◌++◌, ◌-◌, ◌<◌, [], ap, append-nil, append_assoc, ap₂, arith, Bool, drop}
+pub use Rattle.std.proofs.Common.{false, flat_map, get_or, inl, inr, length, List, min, None, Option, refl, rules, set}
+pub use Rattle.std.proofs.Common.{slice_get, Some, suc, sym, take, true, zero, ℕ, ◌∙◌, ◌∷◌, ◌≡◌, ◌≢◌, ◌≤◌}
 pub use Rattle.std.proofs.KnownBytes.{Appends-nil, Appends-trans}
 pub use Rattle.std.proofs.lemmas.Bool.{ne_eqb}
 pub use Rattle.std.proofs.lemmas.Grind.{common_steps}
 pub use Rattle.std.specs.Io.KnownBytes.{Appends}
-pub use Rattle.ring.proofs.RingLemmas.{first-ring, length-ring, none-ring, ring-append, ring-around, ring-push, ring-set_behind, take-ring}
+pub use Rattle.ring.proofs.RingLemmas.{first-ring, length-ring, none-ring, ring-append, ring-around, ring-push}
+pub use Rattle.ring.proofs.RingLemmas.{ring-set_behind, take-ring}
 unfoldable pub use Rattle.ring.specs.Ring.{ring}
 pub use Rattle.unixmodel.specs.Console.{commit, Console, erase_byte, erase_line, rub_out, Taken, with_byte}
 unfoldable pub use Rattle.unixmodel.specs.Console.{key, take_line}

@@ -1,13 +1,19 @@
 -- Lemmas on a console's bytes in its ring.
-use Rattle.console.proofs.Common.{◌≡◌, ◌<◌, ℕ, zero, suc, ◌+◌, ◌++◌, ◌-◌, ◌%◌, List, [], get_or, length, drop, set, refl, sym, ap, ap₂, ◌∙◌, arith, commit, with_byte, line_of, without_last, ring, length-ring, take-ring, ring-append}
-use Rattle.console.proofs.Common.{ring-around, ring-set_behind, ring-push, ◌≢◌, ◌≤◌, Bool, true, false, ◌∷◌, None, Some, slice_get, append_assoc, append-nil, ne_eqb, Taken, take_line, behind, Option, flat_map, Appends-trans, Appends}
-use Rattle.console.proofs.Common.{rub_out, rub_outs, min, Console, erase_byte, erase_line, keyed_by}
+use Rattle.console.proofs.Common.{◌≡◌, ◌<◌, ℕ, zero, suc, ◌+◌, ◌++◌, ◌-◌, ◌%◌, List, [], get_or, length, drop, set}
+use Rattle.console.proofs.Common.{refl, sym, ap, ap₂, ◌∙◌, arith, commit, with_byte, line_of, without_last, ring}
+use Rattle.console.proofs.Common.{length-ring, take-ring, ring-append, ring-around, ring-set_behind, ring-push, ◌≢◌}
+use Rattle.console.proofs.Common.{◌≤◌, Bool, true, false, ◌∷◌, None, Some, slice_get, append_assoc, append-nil, ne_eqb}
+use Rattle.console.proofs.Common.{Taken, take_line, behind, Option, flat_map, Appends-trans, Appends, rub_out, rub_outs}
+use Rattle.console.proofs.Common.{min, Console, erase_byte, erase_line, keyed_by}
 use Rattle.console.specs.Output.{AppendsBeginning}
 use Rattle.console.specs.declared.input.Change.TheVariants.{Erase}
 
-pub line-push : (xs : List ℕ) {k : ℕ} (c e b : ℕ) → length xs ≡ 128 → k < 128 → c + e < 128 → line_of (set xs ((k + c + e) % 128) b) k c (e + 1) ≡ with_byte (line_of xs k c e) b
+pub line-push : (xs : List ℕ) {k : ℕ} (c e b : ℕ) → length xs ≡ 128 → k < 128 → c + e < 128
+    → line_of (set xs ((k + c + e) % 128) b) k c (e + 1) ≡ with_byte (line_of xs k c e) b
 line-push xs {k} c e b full start fits =
-    ap₂ (λ l m. record { committed = l; edited = m }) (ring-set_behind _ xs k c _ b (omega arith) (omega arith) (omega arith)) (ring-push _ xs _ e _ b (omega arith) refl (omega arith) (omega arith))
+    ap₂ (λ l m. record { committed = l; edited = m })
+        (ring-set_behind _ xs k c _ b (omega arith) (omega arith) (omega arith))
+        (ring-push _ xs _ e _ b (omega arith) refl (omega arith) (omega arith))
 
 pub line-commit : (xs : List ℕ) (k c e : ℕ) → line_of xs k (c + e) 0 ≡ commit (line_of xs k c e)
 unfolding ring
@@ -15,9 +21,11 @@ line-commit xs k c e = ap (λ l. record { committed = l; edited = [] }) (ring-ap
 
 pub line-erase : (xs : List ℕ) (k c e n m : ℕ) → m ≡ e - n → line_of xs k c m ≡ without_last n (line_of xs k c e)
 line-erase xs k c e n m h =
-    rw (length-ring, ← h) (ap (λ l. record { committed = ring 128 xs k c; edited = l }) (sym (take-ring _ xs _ m e (omega arith))))
+    rw (length-ring, ← h) (ap (λ l. record { committed = ring 128 xs k c; edited = l })
+        (sym (take-ring _ xs _ m e (omega arith))))
 
-pub line-drop_first : (xs : List ℕ) (k c e : ℕ) → 0 < c → line_of xs ((k + 1) % 128) (c - 1) e ≡ record (line_of xs k c e) { committed = drop 1 (ring 128 xs k c) }
+pub line-drop_first : (xs : List ℕ) (k c e : ℕ) → 0 < c
+    → line_of xs ((k + 1) % 128) (c - 1) e ≡ record (line_of xs k c e) { committed = drop 1 (ring 128 xs k c) }
 unfolding ring
 line-drop_first xs k zero e h = absurd (omega arith)
 line-drop_first xs k (suc c) e h =
@@ -41,7 +49,8 @@ byte-ring xs k (suc n) (suc i) h =
     let a : k + 1 + i ≡ k + suc i = omega arith in
     byte-ring xs (k + 1) n i (omega arith) ∙ ap (λ j. get_or xs (j % 128) 0) a
 
-pub line-byte : (xs : List ℕ) (k c e : ℕ) {i : ℕ} → i < c + e → get_or xs ((k + i) % 128) 0 ≡ get_or (ring 128 xs k c ++ ring 128 xs (k + c) e) i 0
+pub line-byte : (xs : List ℕ) (k c e : ℕ) {i : ℕ} → i < c + e
+    → get_or xs ((k + i) % 128) 0 ≡ get_or (ring 128 xs k c ++ ring 128 xs (k + c) e) i 0
 line-byte xs k c e {i} h = sym (byte-ring xs k (c + e) i h) ∙ ap (λ l. get_or l i 0) (ring-append _ xs k c e _ refl)
 
 -- ---- the steps of a read
@@ -67,7 +76,8 @@ module _ (xs bs : List ℕ) (h : Bool) (n i : ℕ) (t : Taken) (same : behind xs
   module _ (low : i < n) where
     pub read-none : None ≡ slice_get bs 0 → t ≡ record { bytes = xs; rest = bs; over = false }
     unfolding take_line
-    read-none e = let one : n - i ≡ suc (n - (i + 1)) = omega arith in sym same ∙ rw (none-is bs e, one, append-nil) refl
+    read-none e = let one : n - i ≡ suc (n - (i + 1)) = omega arith in sym same
+        ∙ rw (none-is bs e, one, append-nil) refl
 
     module _ (b : ℕ) (first' : Some b ≡ slice_get bs 0) where
       begins : t ≡ behind xs (take_line h (suc (n - (i + 1))) (b ∷ drop 1 bs))
@@ -98,7 +108,8 @@ pub rub_outs-split : (n m t : ℕ) → t ≡ n + suc m → rub_outs t ≡ rub_ou
 unfolding rub_outs
 rub_outs-split zero m t h = let same : t ≡ suc m = omega arith in rw same refl
 rub_outs-split (suc n) m zero h = absurd (omega arith)
-rub_outs-split (suc n) m (suc t) h = ap (λ l. rub_out ++ l) (rub_outs-split n m t (omega arith)) ∙ sym (append_assoc rub_out (rub_outs n) (rub_out ++ rub_outs m))
+rub_outs-split (suc n) m (suc t) h = ap (λ l. rub_out ++ l) (rub_outs-split n m t (omega arith))
+    ∙ sym (append_assoc rub_out (rub_outs n) (rub_out ++ rub_outs m))
 
 pub rub_outs-more : (n : ℕ) → rub_outs (n + 1) ≡ rub_outs n ++ rub_out
 unfolding rub_outs
@@ -111,11 +122,14 @@ rub_outs-line [] = refl
 rub_outs-line (x ∷ xs) = ap (λ l. rub_out ++ l) (rub_outs-line xs)
 
 -- a whole, and then a beginning of what follows it
-pub begins_more : (before mid after : Option (List ℕ)) (xs ys zs all : List ℕ) → Appends before mid xs → AppendsBeginning mid after ys → (xs ++ ys) ++ zs ≡ all → AppendsBeginning before after all
+pub begins_more : (before mid after : Option (List ℕ)) (xs ys zs all : List ℕ) → Appends before mid xs
+    → AppendsBeginning mid after ys → (xs ++ ys) ++ zs ≡ all → AppendsBeginning before after all
 begins_more before mid after xs ys zs all first p e = record {
   front = xs ++ p.front;
   rest = p.rest ++ zs;
-  parts = append_assoc xs p.front (p.rest ++ zs) ∙ ap (λ l. xs ++ l) (sym (append_assoc p.front p.rest zs) ∙ ap (λ l. l ++ zs) p.parts) ∙ sym (append_assoc xs ys zs) ∙ e;
+  parts = append_assoc xs p.front (p.rest ++ zs)
+      ∙ ap (λ l. xs ++ l) (sym (append_assoc p.front p.rest zs) ∙ ap (λ l. l ++ zs) p.parts)
+      ∙ sym (append_assoc xs ys zs) ∙ e;
   took = Appends-trans _ _ _ xs _ first p.took;
 }
 
@@ -127,7 +141,8 @@ erases-line c {n} h = let none : length c.edited - n ≡ 0 = omega arith in rw (
 pub erases-byte : (c : Console) {n : ℕ} → n ≡ min (length c.edited) 1 → keyed_by c (Erase n) ≡ erase_byte c
 unfolding rub_outs
 erases-byte c {n} h = go _ n h where
-  go : (es : List ℕ) (n : ℕ) → n ≡ min (length es) 1 → keyed_by (record c { edited = es }) (Erase n) ≡ erase_byte (record c { edited = es })
+  go : (es : List ℕ) (n : ℕ) → n ≡ min (length es) 1
+      → keyed_by (record c { edited = es }) (Erase n) ≡ erase_byte (record c { edited = es })
   go [] n h = let none : n ≡ 0 = omega arith in rw none refl
   go (x ∷ xs) n h =
       let one : n ≡ 1 = omega arith in

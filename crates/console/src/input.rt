@@ -1,5 +1,6 @@
 //! What is typed at the console, and what a read takes of it.
-ghost use Rattle.std.specs.Prelude.{◌≡◌, ◌+◌, ◌++◌, ◌-◌, ◌<◌, ◌≤◌, List, [], length, take, drop, slice_get, slice_index, false, not, OnOk, OnErr};
+ghost use Rattle.std.specs.Prelude.{◌≡◌, ◌+◌, ◌++◌, ◌-◌, ◌<◌, ◌≤◌, List, [], length, take, drop, slice_get};
+ghost use Rattle.std.specs.Prelude.{slice_index, false, not, OnOk, OnErr};
 ghost use Rattle.std.specs.Io.KnownBytes.{Appends};
 ghost use Rattle.unixmodel.specs.Console.{add_byte, key, take_line, is_full, commit, committed_at_end, with_byte};
 ghost use Rattle.unixmodel.specs.Failures.{Rises};
@@ -182,7 +183,8 @@ impl Console {
         ensures ok { OnOk result (self.new ≡ (key self.old byte).console) }
         ensures echo { OnOk result (Appends (W.contents out.old) (W.contents out.new) (key self.old byte).echo) }
         ensures err { OnErr result (self.new ≡ self.old) }
-        ensures beginning { OnErr result (AppendsBeginning (W.contents out.old) (W.contents out.new) (key self.old byte).echo) }
+        ensures beginning { OnErr result
+                (AppendsBeginning (W.contents out.old) (W.contents out.new) (key self.old byte).echo) }
         ensures later { W.failures out.old ≤ W.failures out.new }
         ensures cause { OnErr result (Rises (W.failures out.old) (W.failures out.new)) }
     {
@@ -237,8 +239,8 @@ impl Console {
     }
 
     /// Takes bytes for a read that still has a count of `n`, and already has some bytes or none. It ends at its count,
-    /// behind a line feed, or before ^D; with none yet it takes the ^D, which is none of its bytes. If the bytes run out
-    /// first the read isn't over.
+    /// behind a line feed, or before ^D; with none yet it takes the ^D, which is none of its bytes. If the bytes run
+    /// out first the read isn't over.
     pub fn take(&mut self, n: usize, has_some: bool, buffer: &mut [u8; ROOM]) -> Taken
         ensures took { take_line has_some n self.old.committed ≡ record {
           bytes = take result.count buffer.new;

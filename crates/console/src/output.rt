@@ -55,7 +55,8 @@ impl<W: Write> Writer<W> {
         self.failed
     }
 
-    /// Writes out what the writer kept back. The bytes that it took stay what they were; where that fails, it is a failure.
+    /// Writes out what the writer kept back. The bytes that it took stay what they were; where that fails, it is a
+    /// failure.
     pub fn flush(&mut self) -> Result<(), OutFault>
         ensures kept { Keeps (W.contents self.old.inner) (W.contents self.new.inner) }
         ensures later { self.old.failed ≤ self.new.failed }
@@ -94,7 +95,8 @@ impl<W: Write> Out for Writer<W> {
 
     fn put(&mut self, bytes: &[u8]) -> Result<(), OutFault>
         ensures ok { OnOk result (Appends (W.contents self.old.inner) (W.contents self.new.inner) bytes.now) }
-        ensures err { OnErr result (AppendsBeginning (W.contents self.old.inner) (W.contents self.new.inner) bytes.now) }
+        ensures err { OnErr result
+                (AppendsBeginning (W.contents self.old.inner) (W.contents self.new.inner) bytes.now) }
         ensures later { self.old.failed ≤ self.new.failed }
         ensures cause { OnErr result (Rises self.old.failed self.new.failed) }
         ensures sound { OnOk result (self.new.failed ≡ self.old.failed) }

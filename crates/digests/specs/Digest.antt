@@ -1,7 +1,9 @@
--- The digest of a state: a number of 64 bits, into which the numbers that make up the state are mixed one after the other.
--- What no event changes is left out (how many frames and blocks there are), and of devices their minor numbers, and of pages
--- whether a fork had them.
-use Rattle.std.specs.Prelude.{Bool, List, None, Option, Some, [], bit_xor, drop, false, length, slice_get, suc, take, true, zero, ℕ, ℤ, ◌%◌, ◌*◌, ◌++◌, ◌+◌, ◌/◌, ◌^◌, ◌∷◌}
+-- The digest of a state: a number of 64 bits, into which the numbers that make up the state are mixed one after the
+-- other.
+-- What no event changes is left out (how many frames and blocks there are), and of devices their minor numbers, and of
+-- pages whether a fork had them.
+use Rattle.std.specs.Prelude.{Bool, List, None, Option, Some, [], bit_xor, drop, false, length, slice_get, suc, take}
+use Rattle.std.specs.Prelude.{true, zero, ℕ, ℤ, ◌%◌, ◌*◌, ◌++◌, ◌+◌, ◌/◌, ◌^◌, ◌∷◌}
 use Rattle.std.specs.Int.{cast_unsigned, div_ceil, w32}
 use Rattle.std.specs.List.{fold}
 use Rattle.byteorder.specs.Endian.{little_number}
@@ -85,7 +87,8 @@ abbrev pub descriptors_mixed : ℕ → List (Option ℕ) → ℕ
 descriptors_mixed digest descriptors = fold (λ d o. mix d (descriptor_number o)) digest descriptors
 
 abbrev pub page_mixed : ℕ → Page → ℕ
-page_mixed digest p = bytes_mixed (mixed digest (flag p.marks.writable ∷ flag p.marks.executable ∷ flag p.marks.user ∷ [])) p.bytes
+page_mixed digest p = bytes_mixed
+    (mixed digest (flag p.marks.writable ∷ flag p.marks.executable ∷ flag p.marks.user ∷ [])) p.bytes
 
 abbrev pub page_or_same : ℕ → Option Page → ℕ
 page_or_same digest None = digest
@@ -93,14 +96,16 @@ page_or_same digest (Some p) = page_mixed digest p
 
 -- a memory: how many pages it has, and each of them
 unfoldable pub memory_mixed : ℕ → Memory → ℕ
-memory_mixed digest memory = each (λ d n. page_or_same d (slice_get memory n)) (length memory) (mix digest (length memory))
+memory_mixed digest memory =
+    each (λ d n. page_or_same d (slice_get memory n)) (length memory) (mix digest (length memory))
 
 abbrev pub front_numbers : Process → List ℕ
 front_numbers p = p.pid ∷ p.parent ∷ p.pc ∷ p.size ∷ p.directory ∷ flag p.killed ∷ []
 
 -- a process, but for its memory
 unfoldable pub bare_mixed : ℕ → Process → ℕ
-bare_mixed digest p = descriptors_mixed (mixed (mixed (mixed digest (front_numbers p)) p.registers) (mode_numbers p.mode)) p.descriptors
+bare_mixed digest p = descriptors_mixed
+    (mixed (mixed (mixed digest (front_numbers p)) p.registers) (mode_numbers p.mode)) p.descriptors
 
 abbrev pub place_mixed : ℕ → Option Process → ℕ
 place_mixed digest None = mix digest 0
@@ -143,12 +148,14 @@ major_of (Directory links places) = 0
 
 -- the bytes of a node of a size, block by block
 unfoldable pub contents_mixed : ℕ → ℕ → List ℕ → ℕ
-contents_mixed digest size bytes = each (λ d k. bytes_mixed d (take 1024 (drop (1024 * k) bytes))) (div_ceil size 1024) digest
+contents_mixed digest size bytes =
+    each (λ d k. bytes_mixed d (take 1024 (drop (1024 * k) bytes))) (div_ceil size 1024) digest
 
 abbrev pub node_mixed : ℕ → Option Node → ℕ
 node_mixed digest None = mix digest 0
 node_mixed digest (Some node) =
-    contents_mixed (mixed digest (kind_of node ∷ links_of node ∷ size_of node ∷ major_of node ∷ [])) (size_of node) (node_bytes node)
+    contents_mixed (mixed digest (kind_of node ∷ links_of node ∷ size_of node ∷ major_of node ∷ [])) (size_of node)
+        (node_bytes node)
 
 -- a disk has at most 8192 numbers
 unfoldable pub files_mixed : ℕ → Files → ℕ
@@ -165,7 +172,8 @@ front_of s = s.ticks ∷ s.next_pid ∷ s.last ∷ status_number s.halted ∷ []
 
 -- all but the files
 unfoldable pub digest_but_files : State → ℕ
-digest_but_files s = pipes_mixed (opens_mixed (places_mixed (console_mixed (mixed start (front_of s)) s.console) s) s.opens) s.pipes
+digest_but_files s = pipes_mixed
+    (opens_mixed (places_mixed (console_mixed (mixed start (front_of s)) s.console) s) s.opens) s.pipes
 
 unfoldable pub digest_of : State → ℕ
 digest_of s = files_mixed (digest_but_files s) s.files

@@ -1,5 +1,6 @@
-//! The digest of a kernel: a number of 64 bits, made of the state of the abstract Unix that the kernel stands for and of nothing
-//! else. So kernels of equal states have equal digests, whatever translator they have and wherever their pages and blocks lie.
+//! The digest of a kernel: a number of 64 bits, made of the state of the abstract Unix that the kernel stands for and
+//! of nothing else. So kernels of equal states have equal digests, whatever translator they have and wherever their
+//! pages and blocks lie.
 #![tactic(auto)]
 
 mod mixing;

@@ -48,7 +48,8 @@ fn mix_contents<D: BlockDev, T: Translate>(
     size: u32,
 ) -> Result<u64, DeviceFault>
     requires { kernel.old.tree.failed ≡ false }
-    ensures { ReadsDisk kernel.old kernel.new (λ told. told ≡ contents_mixed digest size (bytes_or_none (slot kernel.old.tree.files number))) result }
+    ensures { ReadsDisk kernel.old kernel.new
+            (λ told. told ≡ contents_mixed digest size (bytes_or_none (slot kernel.old.tree.files number))) result }
 {
     let mut block = [0; BLOCK_SIZE];
     let mut digest = digest;
@@ -66,7 +67,8 @@ fn mix_node<D: BlockDev, T: Translate>(
     number: usize,
 ) -> Result<u64, DeviceFault>
     requires { kernel.old.tree.failed ≡ false }
-    ensures { ReadsDisk kernel.old kernel.new (λ told. told ≡ node_mixed digest (slot kernel.old.tree.files number)) result }
+    ensures { ReadsDisk kernel.old kernel.new (λ told. told ≡ node_mixed digest (slot kernel.old.tree.files number))
+            result }
 {
     let Some(stat) = kernel.look(number)? else {
         return Ok(mix(digest, 0));

@@ -1,6 +1,7 @@
 //! How open files, pipes and the console go into a digest.
 ghost use Rattle.std.specs.Prelude.{◌≡◌, ◌++◌};
-ghost use Rattle.digests.specs.Digest.{console_mixed, mixed, open_mixed, opens_mixed, pipe_mixed, pipes_mixed, target_numbers};
+ghost use Rattle.digests.specs.Digest.{console_mixed, mixed, open_mixed, opens_mixed, pipe_mixed, pipes_mixed};
+ghost use Rattle.digests.specs.Digest.{target_numbers};
 ghost use Rattle.files.specs.Meant.{target_of};
 ghost use Rattle.kernel.specs.Kernel.{state_of};
 ghost use Rattle.unixmodel.specs.Files.{slot};

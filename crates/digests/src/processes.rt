@@ -1,6 +1,7 @@
 //! How processes go into a digest.
 ghost use Rattle.std.specs.Prelude.{◌≡◌, [], slice_get, true};
-ghost use Rattle.digests.specs.Digest.{bare_mixed, descriptor_number, descriptors_mixed, memory_mixed, mixed, mode_numbers, page_or_same, place_mixed, places_mixed, waiting_number};
+ghost use Rattle.digests.specs.Digest.{bare_mixed, descriptor_number, descriptors_mixed, memory_mixed, mixed};
+ghost use Rattle.digests.specs.Digest.{mode_numbers, page_or_same, place_mixed, places_mixed, waiting_number};
 ghost use Rattle.kernel.specs.Kernel.{state_of};
 ghost use Rattle.kernel.specs.Whole.{with_space};
 ghost use Rattle.spaces.specs.Spaces.{has_space, view_at};

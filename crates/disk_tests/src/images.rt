@@ -12,8 +12,9 @@ pub type Change = (usize, u8);
 /// The first byte of the root's inode.
 pub const ROOT: usize = 2048 + 64;
 
-// An image of 32 blocks and 16 inodes, in which the root has its two first places in block 5: the super block's numbers,
-// the root's inode, its places, and the bitmap; the other bytes are 0. The first byte of its magic number tells its format.
+// An image of 32 blocks and 16 inodes, in which the root has its two first places in block 5: the super block's
+// numbers, the root's inode, its places, and the bitmap; the other bytes are 0. The first byte of its magic number
+// tells its format.
 const SMALL: [Change; 19] = [
     (1025, 0x30),
     (1026, 0x20),
@@ -187,8 +188,8 @@ fn told_within(
     check(&heap, &mut disk)
 }
 
-// Changes that are made one list after the other, and what is told of the image then: how many inodes and blocks are in use,
-// or what is wrong.
+// Changes that are made one list after the other, and what is told of the image then: how many inodes and blocks are in
+// use, or what is wrong.
 struct Case {
     name: &'static str,
     /// Whether this is told where the image is to have the large format, and the small one.
@@ -620,8 +621,8 @@ fn reads_what_is_not_lent(rt: HostRuntime) {
     }
 }
 
-// However much memory there is, what is told of the image is that it doesn't suffice, or the same as with enough of it. Each
-// request is refused at some of the sizes.
+// However much memory there is, what is told of the image is that it doesn't suffice, or the same as with enough of it.
+// Each request is refused at some of the sizes.
 fn expect_refusals(rt: &(impl Abort + AllocGlobal), lists: &[&[Change]], is_copied: bool) {
     let told = told_of(rt, lists);
     let least = if is_copied { TOO_LITTLE } else { 0 };

@@ -115,12 +115,12 @@ fn files_are_written_and_read(rt: HostRuntime) {
     }
 }
 
-// A disk of so many blocks, the bytes of a file on it, how many blocks are free, one fewer than a byte behind them needs, and how
-// many all but the last are of another file, which has the rest.
+// A disk of so many blocks, the bytes of a file on it, how many blocks are free, one fewer than a byte behind them
+// needs, and how many all but the last are of another file, which has the rest.
 type Filled = (usize, usize, u8, u8);
 
-// The twelfth block of a file needs the single index block too, the 268th the double one and its first leaf, and each 256th from
-// there on a leaf.
+// The twelfth block of a file needs the single index block too, the 268th the double one and its first leaf, and each
+// 256th from there on a leaf.
 const FILLED: [Filled; 5] = [
     (32, 11264, 1, 13),
     (32, 12288, 0, 12),

@@ -1,5 +1,5 @@
-//! An image with a file of 268 blocks, the last of which is found through a leaf of its double index block, and faults put into
-//! its index blocks.
+//! An image with a file of 268 blocks, the last of which is found through a leaf of its double index block, and faults
+//! put into its index blocks.
 
 ghost use Rattle.std.specs.Prelude.{◌<◌};
 

@@ -1,6 +1,6 @@
 //! The crates of the disk on worked rows, through their public calls: records and their bytes, free blocks and
-//! inodes, the bytes of files, images, their making, and the files of an image in use. Each expected value is worked out
-//! apart from the code.
+//! inodes, the bytes of files, images, their making, and the files of an image in use. Each expected value is worked
+//! out apart from the code.
 #![tactic(auto)]
 
 #[cfg(test)]

@@ -144,7 +144,8 @@ fn unlink(files: &mut Used, path: &[u8], want: Result<(), TreeFault>) -> Result<
     Ok(told == want)
 }
 
-// The first step that gives anything else than its row says, on the small image. One access fails, after so many good ones.
+// The first step that gives anything else than its row says, on the small image. One access fails, after so many good
+// ones.
 fn first_wrong(
     rt: &(impl Abort + AllocGlobal),
     good: u64,

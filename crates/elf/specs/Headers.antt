@@ -1,5 +1,6 @@
 -- What the headers of a program file say, or why they are refused.
-use Rattle.std.specs.Prelude.{Bool, Err, List, None, Ok, Option, Result, Some, if◌then◌else◌, nat_le, nat_lt, not, ℕ, ◌%◌, ◌&&◌, ◌*◌, ◌+◌, ◌==◌, ◌^◌, ◌||◌}
+use Rattle.std.specs.Prelude.{Bool, Err, List, None, Ok, Option, Result, Some, if◌then◌else◌, nat_le, nat_lt, not, ℕ}
+use Rattle.std.specs.Prelude.{◌%◌, ◌&&◌, ◌*◌, ◌+◌, ◌==◌, ◌^◌, ◌||◌}
 use Rattle.elf.specs.declared.ElfFault.{ElfFault}
 use Rattle.elf.specs.declared.ElfFault.TheVariants.{Align, Magic, Overlap, Short, Sizes}
 use Rattle.elf.specs.declared.FileHeader.{FileHeader}
@@ -24,7 +25,8 @@ header_in bytes = record {
 abbrev pub header_of : List ℕ → ℕ → Result FileHeader ElfFault
 header_of bytes len =
     if number_at 4 0 bytes == 0x464C457F
-    then (if nat_le 64 len && is_within (number_at 8 32 bytes) (56 * number_at 2 56 bytes) len then Ok (header_in bytes) else Err Short)
+    then (if nat_le 64 len && is_within (number_at 8 32 bytes) (56 * number_at 2 56 bytes) len
+        then Ok (header_in bytes) else Err Short)
     else Err Magic
 
 -- ---- a program header

@@ -1,7 +1,7 @@
 //! The headers of a program file, as exec reads them: ELF64, whose numbers stand lowest byte first.
 //!
-//! Only what exec asks for is looked at: the first four bytes, the entry, where the program headers stand and how many they
-//! are, and of each its type, flags, places and sizes. What the segments make of memory is the caller's affair.
+//! Only what exec asks for is looked at: the first four bytes, the entry, where the program headers stand and how many
+//! they are, and of each its type, flags, places and sizes. What the segments make of memory is the caller's affair.
 #![tactic(auto)]
 
 ghost use Rattle.std.specs.Prelude.{◌≡◌};
@@ -66,8 +66,8 @@ pub struct LoadSegment {
     pub size: u64,
 }
 
-/// What the first 64 bytes of a file of `len` bytes say. `Magic` where it doesn't begin as an ELF file, and `Short` where the
-/// file has no 64 bytes, or ends before its program headers do.
+/// What the first 64 bytes of a file of `len` bytes say. `Magic` where it doesn't begin as an ELF file, and `Short`
+/// where the file has no 64 bytes, or ends before its program headers do.
 pub fn header(bytes: &[u8; HEADER_SIZE], len: u64) -> Result<FileHeader, ElfFault>
     ensures { result ≡ header_of bytes.now len }
 {
@@ -86,8 +86,8 @@ pub fn header(bytes: &[u8; HEADER_SIZE], len: u64) -> Result<FileHeader, ElfFaul
     Ok(header)
 }
 
-/// The segment that a program header asks for, behind what ends at address `end`, of a file of `len` bytes; `None` for a
-/// program header of a type that isn't loaded. Of several refusals the first in the order of `ElfFault` is told.
+/// The segment that a program header asks for, behind what ends at address `end`, of a file of `len` bytes; `None` for
+/// a program header of a type that isn't loaded. Of several refusals the first in the order of `ElfFault` is told.
 pub fn segment(
     bytes: &[u8; PROGRAM_HEADER_SIZE],
     end: u64,

@@ -6,8 +6,8 @@ use strsim::levenshtein;
 /// How many edits may lead to the name that was meant.
 const MOST_EDITS: usize = 2;
 
-/// The name among some that is nearest to a word that is none of them: it takes at most two edits, and fewer than the word has
-/// letters, where large and small letters are the same.
+/// The name among some that is nearest to a word that is none of them: it takes at most two edits, and fewer than the
+/// word has letters, where large and small letters are the same.
 pub fn nearest<'a>(
     alloc: Global,
     word: &str,

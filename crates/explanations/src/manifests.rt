@@ -21,7 +21,8 @@ fn path_of(line: &str) -> Option<&str> {
     words.next()
 }
 
-// Whether a line before one of this number has this path; where only directories count, whether one that makes a directory has.
+// Whether a line before one of this number has this path; where only directories count, whether one that makes a
+// directory has.
 fn is_before(text: &str, number: usize, path: &str, only_directories: bool) -> bool {
     for line in text.lines().take(number) {
         if path_of(line) == Some(path) && (!only_directories || line.starts_with("dir ")) {

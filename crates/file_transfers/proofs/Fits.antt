@@ -1,7 +1,12 @@
 -- Bytes of a program that are written into a file in pieces.
-use Rattle.file_transfers.proofs.Common.{◌≡◌, ℕ, zero, suc, ◌+◌, ◌-◌, ◌<◌, ◌≤◌, ◌^◌, ◌⊎◌, inl, inr, Bool, false, true, List, [], ◌++◌, length, take, min, None, Ok, Option, Some, is_some, unwrap_or, slice_set, refl, ap, subst, sym, ◌∙◌}
-use Rattle.file_transfers.proofs.Common.{arith, nat_le, ◌&&◌, take-append-add, cases_eq, cases_lt, cond-true, false≢true, leb-false, lt-leb, get_or-set_same, length-take, length-take-le, set-get_or, set-set, take-take, take_min, FileTree}
-use Rattle.file_transfers.proofs.Common.{Serves, Load, Files, Node, longest, put, File, Memory, overwrite, reach, read_bytes, IsSized, piece_at, length-piece, reach-front, reach-next, reach-page}
+use Rattle.file_transfers.proofs.Common.{◌≡◌, ℕ, zero, suc, ◌+◌, ◌-◌, ◌<◌, ◌≤◌, ◌^◌, ◌⊎◌, inl, inr, Bool, false, true}
+use Rattle.file_transfers.proofs.Common.{List, [], ◌++◌, length, take, min, None, Ok, Option, Some, is_some, unwrap_or}
+use Rattle.file_transfers.proofs.Common.{slice_set, refl, ap, subst, sym, ◌∙◌, arith, nat_le, ◌&&◌, take-append-add}
+use Rattle.file_transfers.proofs.Common.{cases_eq, cases_lt, cond-true, false≢true, leb-false, lt-leb, get_or-set_same}
+use Rattle.file_transfers.proofs.Common.{length-take, length-take-le, set-get_or, set-set, take-take, take_min}
+use Rattle.file_transfers.proofs.Common.{FileTree, Serves, Load, Files, Node, longest, put, File, Memory, overwrite}
+use Rattle.file_transfers.proofs.Common.{reach, read_bytes, IsSized, piece_at, length-piece, reach-front, reach-next}
+use Rattle.file_transfers.proofs.Common.{reach-page}
 use Rattle.std.proofs.lemmas.Bool.Decides.{nat_tests}
 use Rattle.std.proofs.lemmas.Option.{none-some}
 use Rattle.file_transfers.proofs.Memory.{length-overwrite, overwrite-none, overwrite-twice, readable-count}
@@ -19,10 +24,13 @@ record IsGreatest (test : ℕ → Bool) (n k : ℕ) : Type 0 where
   above : (j : ℕ) → k < j → j ≤ n → test j ≡ false
 
 greatest-stands : {test : ℕ → Bool} (n : ℕ) → IsGreatest test n (greatest test n)
-greatest-stands zero = record { low = omega arith; passes = inl refl; above = λ j above low. absurd (omega (arith, above, low)) }
+greatest-stands zero = record
+    { low = omega arith; passes = inl refl; above = λ j above low. absurd (omega (arith, above, low)) }
 greatest-stands {test} (suc n) = go (greatest-stands n) (test (suc n)) refl where
-  go : IsGreatest test n (greatest test n) → (b : Bool) → test (suc n) ≡ b → IsGreatest test (suc n) (elim b [ true ↦ suc n | false ↦ greatest test n ])
-  go rest true e = record { low = omega arith; passes = inr e; above = λ j above low. absurd (omega (arith, above, low)) }
+  go : IsGreatest test n (greatest test n) → (b : Bool) → test (suc n) ≡ b
+      → IsGreatest test (suc n) (elim b [ true ↦ suc n | false ↦ greatest test n ])
+  go rest true e = record { low = omega arith; passes = inr e;
+      above = λ j above low. absurd (omega (arith, above, low)) }
   go rest false e = let within = rest.low in record {
     low = omega (arith, within);
     passes = rest.passes;
@@ -75,9 +83,12 @@ module _ {limit : ℕ} {files : Files} {n at : ℕ} {new : List ℕ} (w : Writes
   unfolding written
   written-some =
       ap (write_to limit files n at new) w.file.here
-      ∙ cond-true (nat_le at (length w.file.bytes) && nat_le (at + length new) longest) (Some (with_bytes files n at w.file.links w.file.bytes new fits-all)) None (grind (arith, nat_tests, w.start, w.short))
+      ∙ cond-true (nat_le at (length w.file.bytes) && nat_le (at + length new) longest)
+          (Some (with_bytes files n at w.file.links w.file.bytes new fits-all)) None
+          (grind (arith, nat_tests, w.start, w.short))
 
-  length-front : (k : ℕ) → k ≤ length new → length (overwrite w.file.bytes at (take k new)) ≡ at + k + (length w.file.bytes - (at + k))
+  length-front : (k : ℕ) → k ≤ length new
+      → length (overwrite w.file.bytes at (take k new)) ≡ at + k + (length w.file.bytes - (at + k))
   length-front k low = omega (arith, length-overwrite w.file.bytes at (take k new) w.start, length-take-le k new low)
 
   -- more bytes take no fewer blocks
@@ -87,11 +98,14 @@ module _ {limit : ℕ} {files : Files} {n at : ℕ} {new : List ℕ} (w : Writes
       let ys = overwrite w.file.bytes at (take k new) in
       let b = blocks_of-set files n (Some (File w.file.links xs)) inside in
       let c = blocks_of-set files n (Some (File w.file.links ys)) inside in
-      let grows = taken-grows (length xs) (length ys) (omega (arith, less, length-front j (omega (arith, less, high)), length-front k high)) in
+      let grows = taken-grows (length xs) (length ys)
+              (omega (arith, less, length-front j (omega (arith, less, high)), length-front k high)) in
       omega (arith, b, c, grows)
 
   test-falls : {j : ℕ} (k : ℕ) → j ≤ k → k ≤ length new → test j ≡ false → test k ≡ false
-  test-falls {j} k less high over = lt-leb (blocks_of (front k)) limit (omega (arith, leb-false (blocks_of (front j)) limit over, front-grows j k less high))
+  test-falls {j} k less high over =
+      lt-leb (blocks_of (front k)) limit
+      (omega (arith, leb-false (blocks_of (front j)) limit over, front-grows j k less high))
 
   -- so many go, and no more
   fitting-stands : IsGreatest test (length new) fits-all
@@ -99,17 +113,23 @@ module _ {limit : ℕ} {files : Files} {n at : ℕ} {new : List ℕ} (w : Writes
   fitting-stands = greatest-stands (length new)
 
   -- what is told of a write of them
-  pub told-written : {k : ℕ} → fits-all ≡ k → (files_after files (written limit files n at new) ≡ front k) × (Some k ≡ count_of (written limit files n at new))
+  pub told-written : {k : ℕ} → fits-all ≡ k
+      → (files_after files (written limit files n at new) ≡ front k)
+      × (Some k ≡ count_of (written limit files n at new))
   told-written is = rw (written-some, is) (refl, refl)
 
   -- nothing is written yet
   pub front-none : front 0 ≡ files
-  front-none = ap (λ bytes. put files n (File w.file.links bytes)) (overwrite-none at) ∙ ap (λ (o : Option Node). slice_set files n o) (sym w.file.here) ∙ set-get_or files n None
+  front-none = ap (λ bytes. put files n (File w.file.links bytes)) (overwrite-none at)
+      ∙ ap (λ (o : Option Node). slice_set files n o) (sym w.file.here) ∙ set-get_or files n None
 
 -- ---- the pieces of a write
 
-pub serves-told : {T : Type 0} {old now : FileTree} {Told : T → Type 0} (x : T) → Told x → now.failed ≡ false → now.identity ≡ old.identity → old.failures ≤ now.failures → Serves old now (Ok x) Told
-serves-told x told up same later = record { told = told; up = up; down = tt; same_device = same; cause = record { later = later; failed = λ e. absurd (false≢true e) } }
+pub serves-told : {T : Type 0} {old now : FileTree} {Told : T → Type 0} (x : T) → Told x → now.failed ≡ false
+    → now.identity ≡ old.identity → old.failures ≤ now.failures → Serves old now (Ok x) Told
+serves-told x told up same later =
+    record { told = told; up = up; down = tt; same_device = same;
+    cause = record { later = later; failed = λ e. absurd (false≢true e) } }
 
 -- the next piece of some bytes
 pub record IsPiece (new : List ℕ) (done : ℕ) (q : List ℕ) : Type 0 where
@@ -120,30 +140,40 @@ pub record IsPiece (new : List ℕ) (done : ℕ) (q : List ℕ) : Type 0 where
 -- what a write tells
 abbrev pub Tells : FileTree → FileTree → ℕ → ℕ → List ℕ → Option ℕ → Type 0
 Tells old now n at new told =
-    (now ≡ record old { files = files_after old.files (written old.block_limit old.files n at new); failures = now.failures }) × (told ≡ count_of (written old.block_limit old.files n at new))
+    (now ≡ record old { files = files_after old.files (written old.block_limit old.files n at new);
+        failures = now.failures }) × (told ≡ count_of (written old.block_limit old.files n at new))
 
 -- the first bytes are written, and there are blocks for them
 pub record HasWritten (old now : FileTree) (n at : ℕ) (new : List ℕ) (done : ℕ) : Type 0 where
   pub within : done ≤ length new
   pub writes : Writes old.block_limit old.files n at new
   pub open writes use *
-  pub same : now ≡ record old { files = with_file old.files n file.links (overwrite file.bytes at (take done new)); failures = now.failures }
-  pub fits : (done ≡ 0) ⊎ (nat_le (blocks_of (with_file old.files n file.links (overwrite file.bytes at (take done new)))) old.block_limit ≡ true)
+  pub same : now ≡ record old
+      { files = with_file old.files n file.links (overwrite file.bytes at (take done new)); failures = now.failures }
+  pub fits : (done ≡ 0) ⊎ (nat_le
+      (blocks_of (with_file old.files n file.links (overwrite file.bytes at (take done new)))) old.block_limit ≡ true)
   pub later : old.failures ≤ now.failures
 
 -- where the place lies past the end, or the file would be too long, nothing is written
-pub write-refused : (old : FileTree) {now : FileTree} {n at : ℕ} (new : List ℕ) (file : IsFile old.files n) → now ≡ record old { failures = now.failures } → (length file.bytes < at) ⊎ (longest < at + length new) → Tells old now n at new None
+pub write-refused : (old : FileTree) {now : FileTree} {n at : ℕ} (new : List ℕ) (file : IsFile old.files n)
+    → now ≡ record old { failures = now.failures } → (length file.bytes < at) ⊎ (longest < at + length new)
+    → Tells old now n at new None
 unfolding written
 write-refused old {now} {n} {at} new file same over =
-    let never : (nat_le at (length file.bytes) && nat_le (at + length new) longest) ≡ false = grind (arith, nat_tests, over) in
+    let never : (nat_le at (length file.bytes) && nat_le (at + length new) longest) ≡ false =
+            grind (arith, nat_tests, over) in
     let none : written old.block_limit old.files n at new ≡ None = rw (file.here, never) refl in
-    (same ∙ ap (λ (o : Option Written). record old { files = files_after old.files o; failures = now.failures }) (sym none), ap count_of (sym none))
+    (same ∙ ap (λ (o : Option Written). record old { files = files_after old.files o; failures = now.failures })
+        (sym none), ap count_of (sym none))
 
-pub write-begun : {old now : FileTree} {n at : ℕ} {new : List ℕ} (file : IsFile old.files n) → at ≤ length file.bytes → at + length new ≤ longest → now ≡ record old { failures = now.failures } → old.failures ≤ now.failures → HasWritten old now n at new 0
+pub write-begun : {old now : FileTree} {n at : ℕ} {new : List ℕ} (file : IsFile old.files n) → at ≤ length file.bytes
+    → at + length new ≤ longest → now ≡ record old { failures = now.failures } → old.failures ≤ now.failures
+    → HasWritten old now n at new 0
 write-begun {old} {now} {n} {at} {new} file start short same later = record {
   within = omega arith;
   writes = record { file = file; start = start; short = short };
-  same = same ∙ ap (λ (f : Files). record old { files = f; failures = now.failures }) (sym (front-none {limit = old.block_limit} (record { file = file; start = start; short = short })));
+  same = same ∙ ap (λ (f : Files). record old { files = f; failures = now.failures })
+      (sym (front-none {limit = old.block_limit} (record { file = file; start = start; short = short })));
   fits = inl refl;
   later = later;
 }
@@ -152,24 +182,30 @@ module _ {old now : FileTree} {n at : ℕ} {new : List ℕ} {done : ℕ} (has : 
   abbrev first : ℕ → Files
   first k = with_file old.files n has.file.links (overwrite has.file.bytes at (take k new))
 
-  tells-first : {next : FileTree} {k : ℕ} → IsGreatest (test has.writes) (length new) k → next ≡ record old { files = first k; failures = next.failures } → Tells old next n at new (Some k)
+  tells-first : {next : FileTree} {k : ℕ} → IsGreatest (test has.writes) (length new) k
+      → next ≡ record old { files = first k; failures = next.failures } → Tells old next n at new (Some k)
   tells-first {next} {k} stands same =
       let told = told-written has.writes (greatest-is _ _ k (fitting-stands has.writes) stands) in
       (same ∙ ap (λ (f : Files). record old { files = f; failures = next.failures }) (sym told.0), told.1)
 
-  pub write-serves : {T : Type 0} {Told : T → Type 0} → old.failed ≡ false → {x : T} → Told x → Serves old now (Ok x) Told
-  write-serves up {x} told = serves-told x told (ap (λ (t : FileTree). t.failed) has.same ∙ up) (ap (λ (t : FileTree). t.identity) has.same) has.later
+  pub write-serves : {T : Type 0} {Told : T → Type 0} → old.failed ≡ false → {x : T} → Told x
+      → Serves old now (Ok x) Told
+  write-serves up {x} told =
+      serves-told x told (ap (λ (t : FileTree). t.failed) has.same ∙ up) (ap (λ (t : FileTree). t.identity) has.same)
+      has.later
 
   -- all are written
   pub write-all : length new ≤ done → Tells old now n at new (Some done)
   write-all over =
-      tells-first (record { low = has.within; passes = has.fits; above = λ j above high. absurd (omega (arith, above, high, over)) }) has.same
+      tells-first (record { low = has.within; passes = has.fits;
+          above = λ j above high. absurd (omega (arith, above, high, over)) }) has.same
 
   abbrev mid : IsFile (first done) n
   mid = record {
     links = has.file.links;
     bytes = overwrite has.file.bytes at (take done new);
-    here = get_or-set_same old.files n (Some (File has.file.links (overwrite has.file.bytes at (take done new)))) None (slot-within old.files n (File has.file.links has.file.bytes) has.file.here);
+    here = get_or-set_same old.files n (Some (File has.file.links (overwrite has.file.bytes at (take done new)))) None
+        (slot-within old.files n (File has.file.links has.file.bytes) has.file.here);
   }
 
   pub file-now : IsFile now.files n
@@ -197,11 +233,15 @@ module _ {old now : FileTree} {n at : ℕ} {new : List ℕ} {done : ℕ} (has : 
         ∙ take-take (done + k) (done + length q) new (omega (arith, low))
 
     -- bytes of the piece behind the first ones
-    joins : {k : ℕ} → k ≤ length q → with_file (first done) n has.file.links (overwrite (overwrite has.file.bytes at (take done new)) (at + done) (take k q)) ≡ first (done + k)
+    joins : {k : ℕ} → k ≤ length q
+        → with_file (first done) n has.file.links
+        (overwrite (overwrite has.file.bytes at (take done new)) (at + done) (take k q)) ≡ first (done + k)
     joins {k} low =
-        ap (λ m. with_file (first done) n has.file.links (overwrite (overwrite has.file.bytes at (take done new)) (at + m) (take k q))) (sym done-length)
+        ap (λ m. with_file (first done) n has.file.links
+            (overwrite (overwrite has.file.bytes at (take done new)) (at + m) (take k q))) (sym done-length)
         ∙ ap (with_file (first done) n has.file.links) (overwrite-twice _ _ _ has.start)
-        ∙ set-set old.files n (Some (File has.file.links (overwrite has.file.bytes at (take done new)))) (Some (File has.file.links (overwrite has.file.bytes at (take done new ++ take k q))))
+        ∙ set-set old.files n (Some (File has.file.links (overwrite has.file.bytes at (take done new))))
+            (Some (File has.file.links (overwrite has.file.bytes at (take done new ++ take k q))))
         ∙ ap (λ bytes. with_file old.files n has.file.links (overwrite has.file.bytes at bytes)) (joined k low)
 
     abbrev piece-writes : Writes old.block_limit (first done) n (at + done) q
@@ -212,7 +252,8 @@ module _ {old now : FileTree} {n at : ℕ} {new : List ℕ} {done : ℕ} (has : 
 
     module _ {next : FileTree} {told : Option ℕ} (tells : Tells now next n (at + done) q told) where
       told-is : told ≡ Some piece-fits
-      told-is = tells.1 ∙ ap (λ (t : FileTree). count_of (written t.block_limit t.files n (at + done) q)) has.same ∙ ap count_of (written-some piece-writes)
+      told-is = tells.1 ∙ ap (λ (t : FileTree). count_of (written t.block_limit t.files n (at + done) q)) has.same
+          ∙ ap count_of (written-some piece-writes)
 
       -- a write that is refused would have begun elsewhere
       pub never-refused : told ≡ None → ⊥
@@ -231,14 +272,19 @@ module _ {old now : FileTree} {n at : ℕ} {new : List ℕ} {done : ℕ} (has : 
         next-first : next ≡ record old { files = first (done + k); failures = next.failures }
         next-first =
             tells.0
-            ∙ ap (λ (t : FileTree). record t { files = files_after t.files (written t.block_limit t.files n (at + done) q); failures = next.failures }) has.same
-            ∙ ap (λ (f : Files). record old { files = f; failures = next.failures }) ((told-written piece-writes went-is).0 ∙ joins went-low)
+            ∙ ap (λ (t : FileTree). record t
+                { files = files_after t.files (written t.block_limit t.files n (at + done) q);
+                failures = next.failures }) has.same
+            ∙ ap (λ (f : Files). record old { files = f; failures = next.failures })
+                ((told-written piece-writes went-is).0 ∙ joins went-low)
 
         -- where some go, there are blocks for them
         passes : (done + k ≡ 0) ⊎ (nat_le (blocks_of (first (done + k))) old.block_limit ≡ true)
         passes = elim stands.passes [
           | inr can ↦ inr (ap (λ (f : Files). nat_le (blocks_of f) old.block_limit) (sym (joins went-low)) ∙ can)
-          | inl none ↦ let e : done ≡ done + k = omega (arith, none) in subst (λ j. (j ≡ 0) ⊎ (nat_le (blocks_of (first j)) old.block_limit ≡ true)) e has.fits
+          | inl none ↦ let e : done ≡ done + k =
+              omega (arith, none) in subst (λ j. (j ≡ 0) ⊎ (nat_le (blocks_of (first j)) old.block_limit ≡ true)) e
+              has.fits
         ]
 
         pub write-more : now.failures ≤ next.failures → HasWritten old next n at new (done + k)
@@ -253,15 +299,19 @@ module _ {old now : FileTree} {n at : ℕ} {new : List ℕ} {done : ℕ} (has : 
         -- there are no blocks for more
         pub write-part : k < length q → Tells old next n at new (Some (done + k))
         write-part less =
-            let over : (j : ℕ) → done + k < j → j ≤ done + length q → nat_le (blocks_of (first j)) old.block_limit ≡ false = λ j above high.
+            let over : (j : ℕ) → done + k < j → j ≤ done + length q
+                    → nat_le (blocks_of (first j)) old.block_limit ≡ false = λ j above high.
             let e : done + (j - done) ≡ j = omega (arith, above) in
             let low : j - done ≤ length q = omega (arith, high) in
             ap (λ i. nat_le (blocks_of (first i)) old.block_limit) (sym e)
             ∙ ap (λ (f : Files). nat_le (blocks_of f) old.block_limit) (sym (joins low))
             ∙ stands.above (j - done) (omega (arith, above)) low in
-            let past : (j : ℕ) → done + k < j → j ≤ length new → nat_le (blocks_of (first j)) old.block_limit ≡ false = λ j above high. elim (cases_lt (done + length q) j) [
+            let past : (j : ℕ) → done + k < j → j ≤ length new
+                    → nat_le (blocks_of (first j)) old.block_limit ≡ false =
+                    λ j above high. elim (cases_lt (done + length q) j) [
               | inr near ↦ over j above near
-              | inl far ↦ test-falls has.writes j (omega (arith, far)) high (over (done + length q) (omega (arith, less)) (omega arith))
+              | inl far ↦ test-falls has.writes j (omega (arith, far)) high
+                  (over (done + length q) (omega (arith, less)) (omega arith))
             ] in
             tells-first (record { low = omega (arith, fits, less); passes = passes; above = past }) next-first
 
@@ -281,11 +331,13 @@ module _ (mem : Memory) (address count : ℕ) (readable : is_some (read_bytes me
   pub count-low : IsSized mem → length mem ≤ 32768 → count < 2 ^ 28
   count-low sized few = elim (cases_lt 0 count) [
     | inr none ↦ omega (arith, none)
-    | inl some ↦ let all = given-is.0 in omega (arith, (reach-page Load mem address (count - 1) sized (omega (arith, all, some))).0, few)
+    | inl some ↦ let all = given-is.0
+        in omega (arith, (reach-page Load mem address (count - 1) sized (omega (arith, all, some))).0, few)
   ]
 
   -- all of them lie in one page
-  pub given-whole : {q : List ℕ} → IsSized mem → q ≡ take count (piece_at Load mem address) → length q ≡ count → q ≡ given
+  pub given-whole : {q : List ℕ} → IsSized mem → q ≡ take count (piece_at Load mem address) → length q ≡ count
+      → q ≡ given
   given-whole sized is whole =
       let page = piece_at Load mem address in
       let long : count ≤ length page = omega (arith, ap length is, length-take count page, whole) in
@@ -305,7 +357,9 @@ module _ (mem : Memory) (address count : ℕ) (readable : is_some (read_bytes me
       pub is-piece : IsPiece given done q
       is-piece =
           let p = piece_at Load mem (address + done) in
-          let begin : (k : ℕ) → k ≤ count → take k given ≡ take k (reach Load mem address) = λ k low. ap (take k) given-is.1 ∙ take-take k count (reach Load mem address) low in
+          let begin : (k : ℕ) → k ≤ count
+                  → take k given ≡ take k (reach Load mem address) = λ k low. ap (take k) given-is.1
+                  ∙ take-take k count (reach Load mem address) low in
           let same : q ≡ take (length q) p = is ∙ sym (take_min _ p) ∙ ap (λ j. take j p) (sym long) in
           record {
             some = omega (arith, long, less, (reach-page Load mem address done sized near).1);

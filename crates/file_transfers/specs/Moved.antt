@@ -33,8 +33,10 @@ with_read s at address files number offset count = with_bytes s at address (byte
 
 -- or fewer of them do
 abbrev pub ReadsSome : Spaces → Spaces → ℕ → ℕ → Files → ℕ → ℕ → ℕ → Type 0
-ReadsSome old new at address files number offset count = (done : ℕ) × (done ≤ count) × (new ≡ with_read old at address files number offset done)
+ReadsSome old new at address files number offset count = (done : ℕ) × (done ≤ count)
+    × (new ≡ with_read old at address files number offset done)
 
 -- what a write of so many bytes of a place to a node comes to
 abbrev pub written_from : Spaces → ℕ → ℕ → ℕ → FileTree → ℕ → ℕ → Option Written
-written_from s at address count tree number offset = written_to tree.block_limit tree.files number offset (bytes_given s at address count)
+written_from s at address count tree number offset =
+    written_to tree.block_limit tree.files number offset (bytes_given s at address count)

@@ -31,7 +31,8 @@ fn read_piece<D: BlockDev, T: Translate>(
     requires space { has_space spaces.old at ≡ true }
     requires writable { can_write (view_at spaces.old at).memory address (length buffer.old) ≡ true }
     ensures serves { Serves tree.old tree.new result (IsRead tree.old tree.new number offset (length buffer.old)) }
-    ensures written { OnOk result (spaces.new ≡ with_read spaces.old at address tree.old.files number offset (length buffer.old)) }
+    ensures written { OnOk result
+            (spaces.new ≡ with_read spaces.old at address tree.old.files number offset (length buffer.old)) }
     ensures failed { OnErr result (spaces.new ≡ spaces.old) }
 {
     spaces.pages_are_whole(at);
@@ -40,8 +41,8 @@ fn read_piece<D: BlockDev, T: Translate>(
     Ok(count)
 }
 
-/// Reads bytes of a node from the place `offset` on into the memory of a place from `address` on, at most `count` of them,
-/// and tells how many. Where the device fails the first of them may have come.
+/// Reads bytes of a node from the place `offset` on into the memory of a place from `address` on, at most `count` of
+/// them, and tells how many. Where the device fails the first of them may have come.
 pub fn read_node<D: BlockDev, T: Translate>(
     tree: &mut Tree<D>,
     spaces: &mut Spaces<T>,

@@ -29,7 +29,8 @@ fn piece<T: Translate>(spaces: &Spaces<T>, at: usize, address: u64, most: u64) -
     }
 }
 
-// Writes bytes into a file from a place on, as many as there are blocks for, and tells how many. `None`: nothing is written.
+// Writes bytes into a file from a place on, as many as there are blocks for, and tells how many. `None`: nothing is
+// written.
 fn write_piece<D: BlockDev>(
     tree: &mut Tree<D>,
     number: usize,
@@ -46,9 +47,9 @@ fn write_piece<D: BlockDev>(
     }
 }
 
-/// Writes `count` bytes of the memory of a place from `address` on into a file from the place `offset` on, as many as there
-/// are blocks for, and tells how many. `None` comes where `offset` lies past the file's end or the file would be longer than
-/// any file of the disk's format; nothing is written then.
+/// Writes `count` bytes of the memory of a place from `address` on into a file from the place `offset` on, as many as
+/// there are blocks for, and tells how many. `None` comes where `offset` lies past the file's end or the file would be
+/// longer than any file of the disk's format; nothing is written then.
 pub fn write_node<D: BlockDev, T: Translate>(
     tree: &mut Tree<D>,
     spaces: &Spaces<T>,
@@ -62,7 +63,8 @@ pub fn write_node<D: BlockDev, T: Translate>(
     requires file { IsFile tree.old.files number }
     requires space { has_space spaces.now at ≡ true }
     requires readable { is_some (read_bytes (view_at spaces.now at).memory address count) ≡ true }
-    ensures { Serves tree.old tree.new result (Writes tree.old tree.new (written_from spaces.now at address count tree.old number offset)) }
+    ensures { Serves tree.old tree.new result
+            (Writes tree.old tree.new (written_from spaces.now at address count tree.old number offset)) }
 {
     spaces.pages_are_whole(at);
     let first = piece(spaces, at, address, count);
@@ -86,7 +88,8 @@ fn write_pages<D: BlockDev, T: Translate>(
     requires file { IsFile tree.old.files number }
     requires space { has_space spaces.now at ≡ true }
     requires readable { is_some (read_bytes (view_at spaces.now at).memory address count) ≡ true }
-    ensures { Serves tree.old tree.new result (Writes tree.old tree.new (written_from spaces.now at address count tree.old number offset)) }
+    ensures { Serves tree.old tree.new result
+            (Writes tree.old tree.new (written_from spaces.now at address count tree.old number offset)) }
 {
     spaces.pages_are_whole(at);
     let size = tree.stat(number)?.size;

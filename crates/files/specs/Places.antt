@@ -1,5 +1,6 @@
 -- The table of open files: an open file, and how many descriptors name it.
-use Rattle.std.specs.Prelude.{Bool, Err, List, None, Ok, Option, Result, Some, count_by, if◌then◌else◌, is_none, length, map, nat_lt, option_and_then, option_map, slice_set, ℕ, ◌+◌, ◌-◌, ◌<◌, ◌≡◌}
+use Rattle.std.specs.Prelude.{Bool, Err, List, None, Ok, Option, Result, Some, count_by, if◌then◌else◌, is_none, length}
+use Rattle.std.specs.Prelude.{map, nat_lt, option_and_then, option_map, slice_set, ℕ, ◌+◌, ◌-◌, ◌<◌, ◌≡◌}
 use Rattle.std.specs.List.{list_any}
 use Rattle.files.specs.declared.file.OpenFile.{OpenFile}
 use Rattle.files.specs.declared.file.Target.{Target}

@@ -2,7 +2,9 @@
 ghost use Rattle.std.specs.Prelude.{◌≡◌, ◌<◌, count_by, is_none, length, option_map, IfSome, IfOk, OnErr, slice_set};
 ghost use Rattle.std.specs.List.{list_any};
 ghost use Rattle.files.specs.Meant.{end_of, is_slot_end, is_slot_pipe};
-ghost use Rattle.files.specs.Places.{IsTable, closed, count_at, counted_of, file_at, free_count, has_end, has_pipe, last_target, moved, node_at, opened, opens_of, place_for, readable_at, shared, usable, writable_at};
+ghost use Rattle.files.specs.Places.{IsTable, closed, count_at, counted_of, file_at, free_count, has_end, has_pipe};
+ghost use Rattle.files.specs.Places.{last_target, moved, node_at, opened, opens_of, place_for, readable_at, shared};
+ghost use Rattle.files.specs.Places.{usable, writable_at};
 ghost use Rattle.unixmodel.specs.Files.{free_slot, free_slots, slot};
 ghost use Rattle.unixmodel.specs.State.{holds};
 

@@ -1,13 +1,17 @@
 -- Lemmas on holders.
 use Rattle.ram.proofs.MemoryLemmas.{Ram}
-use Rattle.std.proofs.Common.{◌≡◌, ◌≢◌, ℕ, zero, suc, ◌+◌, ◌-◌, ◌<◌, ◌≤◌, ◌⊎◌, inl, inr, Bool, true, false, nat_eq, List, [], ◌∷◌, ◌++◌, length, refl, sym, ap, ◌∙◌, arith, eq-eqb, ltb, eqb, length-append, get_or, slice_set}
+use Rattle.std.proofs.Common.{◌≡◌, ◌≢◌, ℕ, zero, suc, ◌+◌, ◌-◌, ◌<◌, ◌≤◌, ◌⊎◌, inl, inr, Bool, true, false, nat_eq}
+use Rattle.std.proofs.Common.{List, [], ◌∷◌, ◌++◌, length, refl, sym, ap, ◌∙◌, arith, eq-eqb, ltb, eqb, length-append}
+use Rattle.std.proofs.Common.{get_or, slice_set}
 use Rattle.std.proofs.lemmas.Bool.{cases_eq, cases_lt, le-ltb, lt-ltb, ne_eqb}
 use Rattle.std.proofs.lemmas.List.Sums.{sum_by-cons}
 use Rattle.std.specs.List.{IsDistinct, range_with_len, sum_by}
 use Rattle.ram.specs.Memory.{frame_of}
 use Rattle.frames.specs.declared.Frames.{Frames}
-use Rattle.frames.specs.Free.{among, counted, free_count, free_of, further_at, less_one, extra_of, IsFreeList, SameBut, IsDuplicate}
-use Rattle.frames.proofs.FreeLemmas.{apart-not, further-is, further-free, further-past, further-count, shared-is, not_free}
+use Rattle.frames.specs.Free.{among, counted, free_count, free_of, further_at, less_one, extra_of, IsFreeList, SameBut}
+use Rattle.frames.specs.Free.{IsDuplicate}
+use Rattle.frames.proofs.FreeLemmas.{apart-not, further-is, further-free, further-past, further-count, shared-is}
+use Rattle.frames.proofs.FreeLemmas.{not_free}
 use Rattle.frames.specs.Holders.{one_if, count_of, holders_of, Gains, IsShared, Loses, Trades}
 
 pub one_if-le : (b : Bool) → one_if b ≤ 1
@@ -43,13 +47,15 @@ pub distinct-count : (f : ℕ) (xs : List ℕ) → IsDistinct nat_eq xs → coun
 unfolding IsDistinct
 distinct-count f [] h = omega arith
 distinct-count f (x ∷ xs) h = elim (cases_eq f x) [
-  | inl same ↦ omega (arith, count_of-first f x xs same, ap (λ g. count_of g xs) same, none-among x xs (apart-not x xs h.0))
+  | inl same ↦ omega (arith, count_of-first f x xs same, ap (λ g. count_of g xs) same,
+      none-among x xs (apart-not x xs h.0))
   | inr other ↦ rw (count_of-other f x xs other) (distinct-count f xs h.1)
 ]
 
 -- a frame is among these, or stands there no time
 pub count-cases : (f : ℕ) (xs : List ℕ) → (among f xs ≡ true) ⊎ (count_of f xs ≡ 0)
-count-cases f xs = elim (among f xs) as (λ b. among f xs ≡ b → (among f xs ≡ true) ⊎ (count_of f xs ≡ 0)) [ true ↦ λ e. inl e | false ↦ λ e. inr (none-among f xs e) ] refl
+count-cases f xs = elim (among f xs) as (λ b. among f xs ≡ b → (among f xs ≡ true) ⊎ (count_of f xs ≡ 0))
+    [ true ↦ λ e. inl e | false ↦ λ e. inr (none-among f xs e) ] refl
 
 pub among-count : (f : ℕ) (xs : List ℕ) → among f xs ≡ true → 0 < count_of f xs
 among-count f xs at = elim (cases_eq (count_of f xs) 0) [
@@ -63,7 +69,8 @@ module _ {m : Ram} {s : Frames} (is : IsFreeList m s) where
   pub holders-free : (f : ℕ) → holders_of m s f + count_of f (free_of m s) ≡ one_if (ltb f (length m)) + further_at s f
   unfolding holders_of
   holders-free f = elim (count-cases f (free_of m s)) [
-    | inl at ↦ let e = lt-ltb f (length m) (is.inside f at) in rw e (omega (arith, distinct-count f (free_of m s) is.distinct))
+    | inl at ↦ let e = lt-ltb f (length m) (is.inside f at)
+        in rw e (omega (arith, distinct-count f (free_of m s) is.distinct))
     | inr none ↦ rw none (omega arith)
   ]
 
@@ -78,23 +85,29 @@ module _ {m : Ram} {s : Frames} (is : IsFreeList m s) where
       ]
 
 -- a frame with a holder is one of the memory, and isn't free
-pub held-inside : (m : Ram) (s : Frames) (f : ℕ) → IsFreeList m s → 0 < holders_of m s f → (f < length m) × (among f (free_of m s) ≡ false)
+pub held-inside : (m : Ram) (s : Frames) (f : ℕ) → IsFreeList m s → 0 < holders_of m s f
+    → (f < length m) × (among f (free_of m s) ≡ false)
 held-inside m s f is some =
     let sum = holders-free is f in
-    let low : f < length m = elim (cases_lt f (length m)) [ inl low ↦ low | inr past ↦ absurd (omega (arith, ap one_if (le-ltb f (length m) past), further-past is f past)) ] in
+    let low : f < length m =
+            elim (cases_lt f (length m))
+            [ inl low ↦ low | inr past ↦ absurd
+            (omega (arith, ap one_if (le-ltb f (length m) past), further-past is f past)) ] in
     (low, not_free is f (omega (arith, holders-counted is f low)))
 
 count_of-range : (f a n : ℕ) → a ≤ f → f < a + n → 1 ≤ count_of f (range_with_len a n)
 count_of-range f a zero low high = absurd (omega arith)
 count_of-range f a (suc n) low high = elim (cases_eq f a) [
   | inl same ↦ omega (arith, count_of-first f a (range_with_len (a + 1) n) same)
-  | inr other ↦ rw (count_of-other f a (range_with_len (a + 1) n) other) (count_of-range f (a + 1) n (omega arith) (omega arith))
+  | inr other ↦ rw (count_of-other f a (range_with_len (a + 1) n) other)
+      (count_of-range f (a + 1) n (omega arith) (omega arith))
 ]
 
 module _ {m : Ram} {s : Frames} (is : IsFreeList m s) where
   -- one that isn't free has a holder
   pub not-free-held : (f : ℕ) → f < length m → among f (free_of m s) ≡ false → holders_of m s f ≡ 1 + further_at s f
-  not-free-held f low absent = omega (arith, holders-free is f, ap one_if (lt-ltb f (length m) low), none-among f (free_of m s) absent)
+  not-free-held f low absent =
+      omega (arith, holders-free is f, ap one_if (lt-ltb f (length m) low), none-among f (free_of m s) absent)
 
   -- one with no more than one holder has no further one
   pub single : (f : ℕ) → holders_of m s f ≤ 1 → further_at s f ≡ 0
@@ -109,7 +122,8 @@ module _ {m : Ram} {s : Frames} (is : IsFreeList m s) where
 
   -- a free frame has none
   pub free-holders : (f : ℕ) → among f (free_of m s) ≡ true → holders_of m s f ≡ 0
-  free-holders f at = omega (arith, holders-free is f, one_if-le (ltb f (length m)), further-free is f at, among-count f (free_of m s) at)
+  free-holders f at = omega
+      (arith, holders-free is f, one_if-le (ltb f (length m)), further-free is f at, among-count f (free_of m s) at)
 
   -- where all frames are free nobody holds one
   pub IsShared-new : free_of m s ≡ range_with_len 0 (length m) → ((f : ℕ) → further_at s f ≡ 0) → IsShared m s []
@@ -117,15 +131,18 @@ module _ {m : Ram} {s : Frames} (is : IsFreeList m s) where
     each = λ f.
         let sum = holders-free is f in
         elim (cases_lt f (length m)) [
-          | inl low ↦ omega (arith, alone f, ap one_if (lt-ltb f (length m) low), ap (count_of f) e, count_of-range f 0 (length m) (omega arith) (omega arith))
+          | inl low ↦ omega (arith, alone f, ap one_if (lt-ltb f (length m) low), ap (count_of f) e,
+              count_of-range f 0 (length m) (omega arith) (omega arith))
           | inr high ↦ omega (arith, alone f, ap one_if (le-ltb f (length m) high))
         ];
   }
 
 pub Trades-none : (m : Ram) (s : Frames) (old : List ℕ) → Trades m m s s old old
-Trades-none m s old = record { count = refl; moved = λ f. refl; others = λ f h. refl; fresh = λ f none some. absurd (omega arith) }
+Trades-none m s old = record
+    { count = refl; moved = λ f. refl; others = λ f h. refl; fresh = λ f none some. absurd (omega arith) }
 
-module _ {m k l : Ram} {s n q : Frames} {old mid new : List ℕ} (a : Trades m k s n old mid) (b : Trades k l n q mid new) where
+module _ {m k l : Ram} {s n q : Frames} {old mid new : List ℕ} (a : Trades m k s n old mid)
+    (b : Trades k l n q mid new) where
   -- one trade after another
   pub Trades-twice : Trades m l s q old new
   Trades-twice = record {
@@ -151,7 +168,8 @@ sum_below-zero (suc n) g h = omega (arith, h n (omega arith), sum_below-zero n g
 
 pub sum_below-same : (n : ℕ) (g h : ℕ → ℕ) → ((f : ℕ) → f < n → g f ≡ h f) → sum_below n g ≡ sum_below n h
 sum_below-same zero g h same = refl
-sum_below-same (suc n) g h same = omega (arith, same n (omega arith), sum_below-same n g h (λ f l. same f (omega arith)))
+sum_below-same (suc n) g h same =
+    omega (arith, same n (omega arith), sum_below-same n g h (λ f l. same f (omega arith)))
 
 pub sum_below-plus : (n : ℕ) (g h : ℕ → ℕ) → sum_below n (λ f. g f + h f) ≡ sum_below n g + sum_below n h
 sum_below-plus zero g h = refl
@@ -163,20 +181,25 @@ sum_below-first (suc n) g = omega (arith, sum_below-first n g)
 
 sum_below-list : (h : ℕ → ℕ) (xs : List ℕ) → sum_below (length xs) (λ f. h (get_or xs f 0)) ≡ sum_by h xs
 sum_below-list h [] = refl
-sum_below-list h (x ∷ xs) = sum_below-first (length xs) (λ f. h (get_or (x ∷ xs) f 0)) ∙ ap (λ n. h x + n) (sum_below-list h xs) ∙ sym (sum_by-cons h x xs)
+sum_below-list h (x ∷ xs) = sum_below-first (length xs) (λ f. h (get_or (x ∷ xs) f 0))
+    ∙ ap (λ n. h x + n) (sum_below-list h xs) ∙ sym (sum_by-cons h x xs)
 
 sum_below-one : (n x : ℕ) (g : ℕ → ℕ) → x < n → sum_below n (λ f. one_if (eqb f x) + g f) ≡ 1 + sum_below n g
 sum_below-one zero x g h = absurd (omega arith)
 sum_below-one (suc n) x g h = elim (cases_eq n x) [
-  | inl same ↦ rw (eq-eqb n x same) (omega (arith, sum_below-same n (λ f. one_if (eqb f x) + g f) g (λ f l. let ne : f ≢ x = omega arith in rw (ne_eqb f x ne) (omega arith))))
+  | inl same ↦ rw (eq-eqb n x same)
+      (omega (arith, sum_below-same n (λ f. one_if (eqb f x) + g f) g
+      (λ f l. let ne : f ≢ x = omega arith in rw (ne_eqb f x ne) (omega arith))))
   | inr other ↦ rw (ne_eqb n x other) (omega (arith, sum_below-one n x g (omega arith)))
 ]
 
 -- a list of frames below n is as long as the frames stand there
-pub length-counts : (xs : List ℕ) (n : ℕ) → ((f : ℕ) → n ≤ f → count_of f xs ≡ 0) → length xs ≡ sum_below n (λ f. count_of f xs)
+pub length-counts : (xs : List ℕ) (n : ℕ) → ((f : ℕ) → n ≤ f → count_of f xs ≡ 0)
+    → length xs ≡ sum_below n (λ f. count_of f xs)
 length-counts [] n h = sym (sum_below-zero n (λ f. 0) (λ f l. refl))
 length-counts (x ∷ xs) n h =
-    let low : x < n = elim (cases_lt x n) [ inl l ↦ l | inr g ↦ absurd (omega (arith, h x g, count_of-first x x xs refl)) ] in
+    let low : x < n = elim (cases_lt x n)
+            [ inl l ↦ l | inr g ↦ absurd (omega (arith, h x g, count_of-first x x xs refl)) ] in
     rw (sum_below-one n x (λ f. count_of f xs) low) (omega (arith, length-counts xs n (λ f l. omega (arith, h f l))))
 
 sum_below-ones : (n : ℕ) → sum_below n (λ f. 1) ≡ n
@@ -193,48 +216,67 @@ module _ {m : Ram} {s : Frames} (is : IsFreeList m s) where
       ∙ sym is.sum
 
   -- frames that are held, those that hold the rest, and what is free are all frames of the memory
-  accounted : (old : List ℕ) (rest : ℕ → ℕ) → ((f : ℕ) → count_of f old + rest f ≡ holders_of m s f) → free_count m s + length old + sum_below (length m) rest ≡ length m
+  accounted : (old : List ℕ) (rest : ℕ → ℕ) → ((f : ℕ) → count_of f old + rest f ≡ holders_of m s f)
+      → free_count m s + length old + sum_below (length m) rest ≡ length m
   accounted old rest all =
-      let both : (f : ℕ) → count_of f (free_of m s ++ old) + rest f ≡ one_if (ltb f (length m)) + further_at s f = λ f. omega (arith, count_of-append f (free_of m s) old, all f, holders-free is f) in
-      let sums : sum_below (length m) (λ f. count_of f (free_of m s ++ old) + rest f) ≡ sum_below (length m) (λ f. 1 + further_at s f) =
-      sum_below-same (length m) (λ f. count_of f (free_of m s ++ old) + rest f) (λ f. 1 + further_at s f) (λ f l. omega (arith, both f, ap one_if (lt-ltb f (length m) l))) in
-      omega (arith, sum_below-plus (length m) (λ f. count_of f (free_of m s ++ old)) rest, sum_below-plus (length m) (λ f. 1) (further_at s), sum_below-ones (length m), further-sum, length-counts (free_of m s ++ old) (length m) (λ f l. omega (arith, both f, ap one_if (le-ltb f (length m) l), further-past is f l)), length-append (free_of m s) old, shared-is s)
+      let both : (f : ℕ) → count_of f (free_of m s ++ old) + rest f ≡ one_if (ltb f (length m)) + further_at s f =
+              λ f. omega (arith, count_of-append f (free_of m s) old, all f, holders-free is f) in
+      let sums : sum_below (length m) (λ f. count_of f (free_of m s ++ old) + rest f)
+              ≡ sum_below (length m) (λ f. 1 + further_at s f) =
+      sum_below-same (length m) (λ f. count_of f (free_of m s ++ old) + rest f) (λ f. 1 + further_at s f)
+          (λ f l. omega (arith, both f, ap one_if (lt-ltb f (length m) l))) in
+      omega (arith, sum_below-plus (length m) (λ f. count_of f (free_of m s ++ old)) rest,
+          sum_below-plus (length m) (λ f. 1) (further_at s), sum_below-ones (length m), further-sum,
+          length-counts (free_of m s ++ old) (length m)
+          (λ f l. omega (arith, both f, ap one_if (le-ltb f (length m) l), further-past is f l)),
+          length-append (free_of m s) old, shared-is s)
 
   -- what the holders hold, frames that are shared as often as they are, and what is free are all frames of the memory
   pub shared-count : (all : List ℕ) → IsShared m s all → free_count m s + length all ≡ length m
-  shared-count hs all = omega (arith, accounted hs (λ f. 0) (λ f. omega arith), sum_below-zero (length m) (λ f. 0) (λ f l. refl))
+  shared-count hs all = omega
+      (arith, accounted hs (λ f. 0) (λ f. omega arith), sum_below-zero (length m) (λ f. 0) (λ f l. refl))
 
   -- frames that are held as often as they have holders at the most, and the free ones, are no more than the memory has
-  pub held-count : (old : List ℕ) → ((f : ℕ) → count_of f old ≤ holders_of m s f) → free_count m s + length old ≤ length m
+  pub held-count : (old : List ℕ) → ((f : ℕ) → count_of f old ≤ holders_of m s f)
+      → free_count m s + length old ≤ length m
   held-count old all = omega (arith, accounted old (λ f. holders_of m s f - count_of f old) (λ f. omega (arith, all f)))
 
 module _ {m k : Ram} {s n : Frames} {old new : List ℕ} (t : Trades m k s n old new) where
   -- after a trade of one holder the holders still hold all that is not free
-  pub IsShared-trade : (all after : List ℕ) → IsShared m s all → ((f : ℕ) → count_of f after + count_of f old ≡ count_of f all + count_of f new) → IsShared k n after
+  pub IsShared-trade : (all after : List ℕ) → IsShared m s all
+      → ((f : ℕ) → count_of f after + count_of f old ≡ count_of f all + count_of f new) → IsShared k n after
   IsShared-trade all after is e = record { each = λ f. omega (arith, e f) }
 
   -- what another holder holds keeps its bytes
-  pub Trades-beside : (other : List ℕ) → ((f : ℕ) → count_of f old + count_of f other ≤ holders_of m s f) → (f : ℕ) → 0 < count_of f other → frame_of k f ≡ frame_of m f
+  pub Trades-beside : (other : List ℕ) → ((f : ℕ) → count_of f old + count_of f other ≤ holders_of m s f) → (f : ℕ)
+      → 0 < count_of f other → frame_of k f ≡ frame_of m f
   Trades-beside other room f h = t.others f (omega (arith, room f))
 
   -- what a trade takes is no longer free
-  pub Trades-lengths : IsFreeList m s → IsFreeList k n → ((f : ℕ) → count_of f old ≤ holders_of m s f) → free_count k n + length new ≡ free_count m s + length old
+  pub Trades-lengths : IsFreeList m s → IsFreeList k n → ((f : ℕ) → count_of f old ≤ holders_of m s f)
+      → free_count k n + length new ≡ free_count m s + length old
   Trades-lengths is_m is_k room =
       let rest = λ (f : ℕ). holders_of m s f - count_of f old in
-      omega (arith, accounted is_m old rest (λ f. omega (arith, room f)), accounted is_k new rest (λ f. omega (arith, room f)), ap (λ l. sum_below l rest) t.count)
+      omega (arith, accounted is_m old rest (λ f. omega (arith, room f)),
+          accounted is_k new rest (λ f. omega (arith, room f)), ap (λ l. sum_below l rest) t.count)
 
 -- ---- what the calls on frames do, as trades
 
 module _ {m k : Ram} {s n : Frames} (is : IsFreeList m s) (after : IsFreeList k n) where
   -- the holders where the free list is another and the table the same
-  pub holders-table : length k ≡ length m → extra_of n ≡ extra_of s → (f : ℕ) → holders_of k n f + count_of f (free_of k n) ≡ holders_of m s f + count_of f (free_of m s)
-  holders-table len same f = omega (arith, holders-free is f, holders-free after f, ap (λ l. one_if (ltb f l)) len, ap (λ (t : List ℕ × ℕ). get_or t.0 f 0) same)
+  pub holders-table : length k ≡ length m → extra_of n ≡ extra_of s → (f : ℕ)
+      → holders_of k n f + count_of f (free_of k n) ≡ holders_of m s f + count_of f (free_of m s)
+  holders-table len same f =
+      omega (arith, holders-free is f, holders-free after f, ap (λ l. one_if (ltb f l)) len,
+      ap (λ (t : List ℕ × ℕ). get_or t.0 f 0) same)
 
   -- a frame comes into the list, from its last holder
-  pub holders-list : (f : ℕ) → length k ≡ length m → free_of k n ≡ f ∷ free_of m s → extra_of n ≡ extra_of s → Loses m k s n (f ∷ [])
+  pub holders-list : (f : ℕ) → length k ≡ length m → free_of k n ≡ f ∷ free_of m s → extra_of n ≡ extra_of s
+      → Loses m k s n (f ∷ [])
   holders-list f len e same g = omega (arith, holders-table len same g, ap (count_of g) e)
 
-pub Trades-take : (m : Ram) (s n : Frames) (f : ℕ) → IsFreeList m s → IsFreeList m n → free_of m s ≡ f ∷ free_of m n → extra_of n ≡ extra_of s → Trades m m s n [] (f ∷ [])
+pub Trades-take : (m : Ram) (s n : Frames) (f : ℕ) → IsFreeList m s → IsFreeList m n → free_of m s ≡ f ∷ free_of m n
+    → extra_of n ≡ extra_of s → Trades m m s n [] (f ∷ [])
 Trades-take m s n f is after e same = record {
   count = refl;
   moved = λ g. omega (arith, holders-table is after refl same g, ap (count_of g) e);
@@ -254,7 +296,9 @@ Trades-give m k s n f is moved same stays held = record {
   others = λ g h. elim (cases_eq g f) [
     | inl here ↦
         let in_memory = held-inside m s f is held in
-        let more : 0 < further_at s f = omega (arith, count_of-first g f [] here, ap (holders_of m s) here, not-free-held is f in_memory.0 in_memory.1) in
+        let more : 0 < further_at s f =
+                omega (arith, count_of-first g f [] here, ap (holders_of m s) here,
+                not-free-held is f in_memory.0 in_memory.1) in
         ap (λ x. frame_of x g) (stays more)
     | inr other ↦ same.others g (rw (ne_eqb g f other) refl)
   ];
@@ -262,18 +306,24 @@ Trades-give m k s n f is moved same stays held = record {
 }
 
 module _ {m : Ram} {s t : Frames} (is : IsFreeList m s) (after : IsFreeList m t) where
-  pub holders-more : (f x : ℕ) → free_of m t ≡ free_of m s → f < length m → 0 < counted s f → t.holders.items ≡ slice_set s.holders.items f x → x ≡ counted s f + 1 → Gains m m s t (f ∷ [])
+  pub holders-more : (f x : ℕ) → free_of m t ≡ free_of m s → f < length m → 0 < counted s f
+      → t.holders.items ≡ slice_set s.holders.items f x → x ≡ counted s f + 1 → Gains m m s t (f ∷ [])
   holders-more f x e low some items more g =
       elim (further-count s t f x g (omega arith) items) [
-        | inl here ↦ omega (arith, holders-free is g, holders-free after g, ap (count_of g) e, count_of-first g f [] here.0)
-        | inr other ↦ omega (arith, holders-free is g, holders-free after g, ap (count_of g) e, count_of-other g f [] other.0)
+        | inl here ↦ omega (arith, holders-free is g, holders-free after g, ap (count_of g) e,
+            count_of-first g f [] here.0)
+        | inr other ↦ omega (arith, holders-free is g, holders-free after g, ap (count_of g) e,
+            count_of-other g f [] other.0)
       ]
 
-  pub holders-fewer : (f x : ℕ) → free_of m t ≡ free_of m s → f < length m → t.holders.items ≡ slice_set s.holders.items f x → x + 1 ≡ counted s f → 0 < x → Loses m m s t (f ∷ [])
+  pub holders-fewer : (f x : ℕ) → free_of m t ≡ free_of m s → f < length m
+      → t.holders.items ≡ slice_set s.holders.items f x → x + 1 ≡ counted s f → 0 < x → Loses m m s t (f ∷ [])
   holders-fewer f x e low items fewer some g =
       elim (further-count s t f x g (omega arith) items) [
-        | inl here ↦ omega (arith, holders-free is g, holders-free after g, ap (count_of g) e, count_of-first g f [] here.0)
-        | inr other ↦ omega (arith, holders-free is g, holders-free after g, ap (count_of g) e, count_of-other g f [] other.0)
+        | inl here ↦ omega (arith, holders-free is g, holders-free after g, ap (count_of g) e,
+            count_of-first g f [] here.0)
+        | inr other ↦ omega (arith, holders-free is g, holders-free after g, ap (count_of g) e,
+            count_of-other g f [] other.0)
       ]
 
 -- ---- a duplicate says of a memory what its source says

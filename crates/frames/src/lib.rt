@@ -1,10 +1,12 @@
 //! The frames of a memory: which are free, and how many hold each of the others.
 #![tactic(auto)]
 
-ghost use Rattle.std.specs.Prelude.{◌≡◌, ℕ, ◌+◌, ◌<◌, ◌≤◌, List, [], ◌∷◌, length, false, replicate, None, IfSome, IfNone, IfOk, ◌↔◌};
+ghost use Rattle.std.specs.Prelude.{◌≡◌, ℕ, ◌+◌, ◌<◌, ◌≤◌, List, [], ◌∷◌, length, false, replicate, None, IfSome};
+ghost use Rattle.std.specs.Prelude.{IfNone, IfOk, ◌↔◌};
 ghost use Rattle.std.specs.Bool.{OnTrue, OnFalse};
 ghost use Rattle.std.specs.List.{range_with_len};
-ghost use Rattle.frames.specs.Free.{among, free_of, free_count, extra_of, further_at, Frees, FreesNone, IsDuplicate, IsFreeList, SameBut};
+ghost use Rattle.frames.specs.Free.{among, free_of, free_count, extra_of, further_at, Frees, FreesNone, IsDuplicate};
+ghost use Rattle.frames.specs.Free.{IsFreeList, SameBut};
 ghost use Rattle.frames.specs.Holders.{Gains, IsShared, Loses, Moves, holders_of};
 
 use ram::{FrameNo, NoMemory, Ram};

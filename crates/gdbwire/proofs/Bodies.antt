@@ -1,9 +1,12 @@
 -- A frame is heard as its body.
-use Rattle.std.proofs.Common.{◌≡◌, ◌+◌, ◌*◌, ◌/◌, ◌%◌, ◌<◌, ◌≤◌, ◌++◌, ◌∷◌, ◌⊎◌, ◌∙◌, ℕ, Bool, List, [], None, Option, Some, ap, append_assoc, append-nil, bit_xor, eq-eqb, false, inl, inr, length, length-append, lit<, refl, subst, sum, sym, true, zero-add}
+use Rattle.std.proofs.Common.{◌≡◌, ◌+◌, ◌*◌, ◌/◌, ◌%◌, ◌<◌, ◌≤◌, ◌++◌, ◌∷◌, ◌⊎◌, ◌∙◌, ℕ, Bool, List, [], None, Option}
+use Rattle.std.proofs.Common.{Some, ap, append_assoc, append-nil, bit_xor, eq-eqb, false, inl, inr, length}
+use Rattle.std.proofs.Common.{length-append, lit<, refl, subst, sum, sym, true, zero-add}
 use native.Mathlib.Omega.{arith}
 use Rattle.std.proofs.lemmas.Grind.{common_steps}
 use Rattle.gdbwire.specs.Hex.{hex_byte, hex_digit, value_of}
-use Rattle.gdbwire.specs.Frames.{FramesAreHeard, Reading, adding, begun, between, checksum, framed, hears, hears_all, hears_at, inside, is_reserved, judged, longest, sent, sent_byte, told}
+use Rattle.gdbwire.specs.Frames.{FramesAreHeard, Reading, adding, begun, between, checksum, framed, hears, hears_all}
+use Rattle.gdbwire.specs.Frames.{hears_at, inside, is_reserved, judged, longest, sent, sent_byte, told}
 use Rattle.gdbwire.specs.declared.reader.Heard.TheVariants.{Packet}
 use Rattle.gdbwire.specs.declared.reader.Stage.{Stage}
 use Rattle.gdbwire.specs.declared.reader.Stage.TheVariants.{Between, Body, Escaped, Sum, LastDigit}
@@ -58,17 +61,22 @@ flips-apart b is = let P : ℕ → Type 0 = λ n. (36 < bit_xor n 32) ⊎ (bit_x
     ]
 
 -- a byte that is sent is heard as itself
-byte-heard : (test : Bool) (total : ℕ) (body : List ℕ) (b : ℕ) (bs : List ℕ) → is_reserved b ≡ test → length body < longest →
-    hears_all (at Body total body) (sent_byte b ++ bs) ≡ hears_all (at Body ((total + sum (sent_byte b)) % 256) (body ++ b ∷ [])) bs
+byte-heard : (test : Bool) (total : ℕ) (body : List ℕ) (b : ℕ) (bs : List ℕ) → is_reserved b ≡ test
+    → length body < longest →
+    hears_all (at Body total body) (sent_byte b ++ bs)
+        ≡ hears_all (at Body ((total + sum (sent_byte b)) % 256) (body ++ b ∷ [])) bs
 unfolding sent_byte
-byte-heard false total body b bs is lt = rw is (rw (zero-add b) (passes (at Body total body) (at Body ((total + b) % 256) (body ++ b ∷ [])) b bs (plain total body b is lt)))
+byte-heard false total body b bs is lt =
+    rw is (rw (zero-add b) (passes (at Body total body) (at Body ((total + b) % 256) (body ++ b ∷ [])) b bs
+    (plain total body b is lt)))
 byte-heard true total body b bs is lt =
     let c = bit_xor b 32 in
     let half = (total + 125) % 256 in
     let sums : (half + c) % 256 ≡ (total + (0 + 125 + c)) % 256 = omega arith in
     rw is (
     passes (at Body total body) (at Escaped half body) 125 (c ∷ bs) (escape total body)
-    ∙ passes (at Escaped half body) (at Body ((half + c) % 256) (body ++ bit_xor c 32 ∷ [])) c bs (flipped half body c (flips-apart b is) lt)
+    ∙ passes (at Escaped half body) (at Body ((half + c) % 256) (body ++ bit_xor c 32 ∷ [])) c bs
+        (flipped half body c (flips-apart b is) lt)
     ∙ ap (λ t. hears_all (at Body t (body ++ bit_xor c 32 ∷ [])) bs) sums
     ∙ ap (λ byte. hears_all (at Body ((total + (0 + 125 + c)) % 256) (body ++ byte ∷ [])) bs) (flip-twice b))
 
@@ -77,21 +85,26 @@ sum-append xs ys = grind (arith, common_steps)
 
 -- a body that is sent is heard as itself
 body-heard : (total : ℕ) (before body rest : List ℕ) → total < 256 → length before + length body ≤ longest →
-    hears_all (at Body total before) (sent body ++ rest) ≡ hears_all (at Body ((total + sum (sent body)) % 256) (before ++ body)) rest
+    hears_all (at Body total before) (sent body ++ rest)
+        ≡ hears_all (at Body ((total + sum (sent body)) % 256) (before ++ body)) rest
 body-heard total before [] rest lt le =
     let e : total ≡ (total + 0) % 256 = omega arith in
-    ap (λ t. hears_all (at Body t before) rest) e ∙ ap (λ b. hears_all (at Body ((total + 0) % 256) b) rest) (sym (append-nil before))
+    ap (λ t. hears_all (at Body t before) rest) e
+        ∙ ap (λ b. hears_all (at Body ((total + 0) % 256) b) rest) (sym (append-nil before))
 body-heard total before (b ∷ bs) rest lt le =
     let room : length before < longest = omega (arith, le) in
     let next = (total + sum (sent_byte b)) % 256 in
     let below : next < 256 = omega arith in
-    let more : length (before ++ b ∷ []) + length bs ≤ longest = rw (length-append before (b ∷ [])) (omega (arith, le)) in
-    let sums : (next + sum (sent bs)) % 256 ≡ (total + sum (sent_byte b ++ sent bs)) % 256 = rw (sum-append (sent_byte b) (sent bs)) (omega arith) in
+    let more : length (before ++ b ∷ []) + length bs ≤ longest =
+            rw (length-append before (b ∷ [])) (omega (arith, le)) in
+    let sums : (next + sum (sent bs)) % 256 ≡ (total + sum (sent_byte b ++ sent bs)) % 256 =
+            rw (sum-append (sent_byte b) (sent bs)) (omega arith) in
     ap (λ bytes. hears_all (at Body total before) bytes) (append_assoc (sent_byte b) (sent bs) rest)
     ∙ byte-heard (is_reserved b) total before b (sent bs ++ rest) refl room
     ∙ body-heard next (before ++ b ∷ []) bs rest below more
     ∙ ap (λ t. hears_all (at Body t ((before ++ b ∷ []) ++ bs)) rest) sums
-    ∙ ap (λ text. hears_all (at Body ((total + sum (sent_byte b ++ sent bs)) % 256) text) rest) (append_assoc before (b ∷ []) bs)
+    ∙ ap (λ text. hears_all (at Body ((total + sum (sent_byte b ++ sent bs)) % 256) text) rest)
+        (append_assoc before (b ∷ []) bs)
 
 -- a whole frame with the right digits
 judged-right : (total : ℕ) (body : List ℕ) (high low : Option ℕ) → high ≡ Some (total / 16) → low ≡ Some (total % 16) →
@@ -110,13 +123,15 @@ ends-body total body = refl
 
 -- the sum behind a body
 sum-heard : (total : ℕ) (body rest : List ℕ) → total < 256 →
-    hears_all (at Body total body) (35 ∷ hex_byte total ++ rest) ≡ (Packet, body) ∷ hears_all (at Between total body) rest
+    hears_all (at Body total body) (35 ∷ hex_byte total ++ rest) ≡ (Packet, body)
+        ∷ hears_all (at Between total body) rest
 unfolding hears_all hex_byte
 sum-heard total body rest lt =
     let high = digit-read (total / 16) (omega (arith, lt)) in
     let low = digit-read (total % 16) (omega arith) in
     passes (at Body total body) (at Sum total body) 35 (hex_byte total ++ rest) (ends-body total body)
-    ∙ ap (λ heard. (heard, body) ∷ hears_all (at Between total body) rest) (judged-right total body (value_of (hex_digit (total / 16))) (value_of (hex_digit (total % 16))) high low)
+    ∙ ap (λ heard. (heard, body) ∷ hears_all (at Between total body) rest)
+        (judged-right total body (value_of (hex_digit (total / 16))) (value_of (hex_digit (total % 16))) high low)
 
 pub frame : FramesAreHeard
 unfolding framed
@@ -124,7 +139,9 @@ frame r body rest is le =
     let total = checksum (sent body) in
     let behind = 35 ∷ hex_byte total ++ rest in
     passes r begun 36 _ (begins r is)
-    ∙ ap (λ bytes. hears_all begun bytes) (append_assoc (sent body ++ 35 ∷ []) (hex_byte total) rest ∙ append_assoc (sent body) (35 ∷ []) (hex_byte total ++ rest))
+    ∙ ap (λ bytes. hears_all begun bytes)
+        (append_assoc (sent body ++ 35 ∷ []) (hex_byte total) rest
+        ∙ append_assoc (sent body) (35 ∷ []) (hex_byte total ++ rest))
     ∙ body-heard 0 [] body behind (lit< tt) (rw (zero-add (length body)) le)
     ∙ ap (λ t. hears_all (at Body (t % 256) body) behind) (zero-add (sum (sent body)))
     ∙ sum-heard total body rest (omega arith)

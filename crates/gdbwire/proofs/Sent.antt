@@ -1,10 +1,16 @@
 -- Packets that are sent are read as what they were.
-use Rattle.std.proofs.Common.{◌≡◌, ◌+◌, ◌*◌, ◌/◌, ◌%◌, ◌<◌, ◌==◌, ◌++◌, ◌∷◌, ◌∙◌, ◌^◌, ℕ, zero, suc, [], List, None, Option, Some, ap, append-nil, arith, bytes_eq, codes, drop, eq-eqb, false, if◌then◌else◌, inl, inr, length, length-append, option_map, refl, sym, take}
+use Rattle.std.proofs.Common.{◌≡◌, ◌+◌, ◌*◌, ◌/◌, ◌%◌, ◌<◌, ◌==◌, ◌++◌, ◌∷◌, ◌∙◌, ◌^◌, ℕ, zero, suc, [], List, None}
+use Rattle.std.proofs.Common.{Option, Some, ap, append-nil, arith, bytes_eq, codes, drop, eq-eqb, false, if◌then◌else◌}
+use Rattle.std.proofs.Common.{inl, inr, length, length-append, option_map, refl, sym, take}
 use Rattle.std.specs.Prelude.{nat_lt, ⊤}
 use Rattle.std.specs.List.{prefix_len}
 use Rattle.std.proofs.lemmas.Bool.{le-ltb, lt-ltb, cases_lt}
-use Rattle.gdbwire.specs.Hex.{BytesAreRead, bytes_of, hex_byte, hex_digit, hex_number, hex_up_to, number_from, number_of, pair_of, value_of, with_digit}
-use Rattle.gdbwire.specs.Packets.{PacketsAreRead, IsId, IsPart, IsSent, IsThread, behind_word, conditions_sent, cut, file_part_of, head_among, head_of, heads, id_of, id_sent, packet_after, packet_for, packet_of, part_of, part_sent, point_of, program_part_of, thread_of, thread_sent, word_of}
+use Rattle.gdbwire.specs.Hex.{BytesAreRead, bytes_of, hex_byte, hex_digit, hex_number, hex_up_to, number_from}
+use Rattle.gdbwire.specs.Hex.{number_of, pair_of, value_of, with_digit}
+use Rattle.gdbwire.specs.Packets.{PacketsAreRead, IsId, IsPart, IsSent, IsThread, behind_word, conditions_sent, cut}
+use Rattle.gdbwire.specs.Packets.{file_part_of, head_among, head_of, heads, id_of, id_sent, packet_after, packet_for}
+use Rattle.gdbwire.specs.Packets.{packet_of, part_of, part_sent, point_of, program_part_of, thread_of, thread_sent}
+use Rattle.gdbwire.specs.Packets.{word_of}
 use Rattle.gdbwire.specs.Actions.{ActionsAreRead, IsGoing, IsNamed, action_of, going_of, going_sent, named}
 use Rattle.gdbwire.specs.declared.actions.Going.{Going}
 use Rattle.gdbwire.specs.declared.actions.Going.TheVariants.{Continue, Range, Step}
@@ -111,19 +117,23 @@ digits-read (suc most) n few small =
     elim (cases_lt n 16) [
       | inl less ↦
           let same : 16 * 0 + n % 16 ≡ n = omega (arith, less) in
-          rw (lt-ltb n 16 less) (last-digit (Some 0) [] (hex_digit (n % 16)) ∙ ap (λ o. more o (hex_digit (n % 16))) (whole 0) ∙ ap (with_digit 0) digit ∙ with-digit 0 (n % 16) (omega arith) ∙ ap (λ x. Some x) same)
+          rw (lt-ltb n 16 less) (last-digit (Some 0) [] (hex_digit (n % 16))
+              ∙ ap (λ o. more o (hex_digit (n % 16))) (whole 0) ∙ ap (with_digit 0) digit
+              ∙ with-digit 0 (n % 16) (omega arith) ∙ ap (λ x. Some x) same)
       | inr least ↦
           let fewer : n / 16 < 16 ^ most = omega (arith, few) in
           let same : 16 * (n / 16) + n % 16 ≡ n = omega arith in
           rw (le-ltb n 16 least) (
           last-digit (Some 0) (hex_up_to most (n / 16)) (hex_digit (n % 16))
           ∙ ap (λ o. more o (hex_digit (n % 16))) (digits-read most (n / 16) fewer (omega (arith, small)))
-          ∙ ap (with_digit (n / 16)) digit ∙ with-digit (n / 16) (n % 16) (omega (arith, small)) ∙ ap (λ x. Some x) same)
+          ∙ ap (with_digit (n / 16)) digit ∙ with-digit (n / 16) (n % 16) (omega (arith, small))
+              ∙ ap (λ x. Some x) same)
     ]
 
 some-digits : (n : ℕ) → 0 < length (hex_number n)
 unfolding hex_up_to
-some-digits n = rw (length-append (if nat_lt n 16 then [] else hex_up_to 15 (n / 16)) (hex_digit (n % 16) ∷ [])) (omega arith)
+some-digits n = rw (length-append (if nat_lt n 16 then [] else hex_up_to 15 (n / 16)) (hex_digit (n % 16) ∷ []))
+    (omega arith)
 
 pub number-read : (n : ℕ) → n < 2 ^ 64 → number_of (hex_number n) ≡ Some n
 number-read n small = begins (hex_number n) (some-digits n) ∙ digits-read 16 n small small
@@ -134,7 +144,9 @@ bytes-read [] are = refl
 bytes-read (b ∷ bs) are =
     let small = are 0 in
     let whole_byte : 16 * (b / 16) + b % 16 ≡ b = omega arith in
-    let both : pair_of (value_of (hex_digit (b / 16))) (value_of (hex_digit (b % 16))) ≡ Some b = rw (digit-read (b / 16) (omega (arith, small)), digit-read (b % 16) (omega arith)) (ap (λ x. Some x) whole_byte) in
+    let both : pair_of (value_of (hex_digit (b / 16))) (value_of (hex_digit (b % 16))) ≡ Some b =
+            rw (digit-read (b / 16) (omega (arith, small)), digit-read (b % 16) (omega arith))
+            (ap (λ x. Some x) whole_byte) in
     rw (both, bytes-read bs (λ i. are (suc i))) refl
 
 -- ---- where a byte stands not
@@ -156,7 +168,8 @@ unfolding hex_up_to
 digits-lack is zero n = tt
 digits-lack {at} is (suc most) n = elim (cases_lt n 16) [
   | inl less ↦ rw (lt-ltb n 16 less) (is.differs (n % 16) (omega arith), tt)
-  | inr least ↦ rw (le-ltb n 16 least) (lacks-more at (hex_up_to most (n / 16)) _ (digits-lack is most (n / 16)) (is.differs (n % 16) (omega arith), tt))
+  | inr least ↦ rw (le-ltb n 16 least)
+      (lacks-more at (hex_up_to most (n / 16)) _ (digits-lack is most (n / 16)) (is.differs (n % 16) (omega arith), tt))
 ]
 
 lacks-all : (at : ℕ) (xs : List ℕ) → Lacks at xs → prefix_len (other at) xs ≡ length xs
@@ -184,7 +197,8 @@ unfolding cut
 cut-some at xs rest lacks =
     let less : length xs < length (xs ++ at ∷ rest) = rw (length-append xs (at ∷ rest)) (omega arith) in
     let one : length xs + 1 ≡ suc (length xs) = omega arith in
-    rw (lacks-front at xs rest lacks, lt-ltb (length xs) (length (xs ++ at ∷ rest)) less, one, take-front xs (at ∷ rest), drop-front xs rest at) refl
+    rw (lacks-front at xs rest lacks, lt-ltb (length xs) (length (xs ++ at ∷ rest)) less, one,
+        take-front xs (at ∷ rest), drop-front xs rest at) refl
 
 -- ---- separators are no digits
 
@@ -217,7 +231,8 @@ not-all (x ∷ xs) (first, rest) = rw first refl
 id-read : (i : Id) → IsId i → id_of (id_sent i) ≡ Some i
 unfolding id_of
 id-read All is = refl
-id-read (One n) small = rw (not-all (hex_number n) (digits-lack minus 16 n)) (ap (λ o. option_map (λ x. One x) o) (number-read n small))
+id-read (One n) small = rw (not-all (hex_number n) (digits-lack minus 16 n))
+    (ap (λ o. option_map (λ x. One x) o) (number-read n small))
 
 id-lacks : (i : Id) → Lacks 46 (id_sent i)
 id-lacks All = (refl, (refl, tt))
@@ -225,28 +240,42 @@ id-lacks (One n) = digits-lack dot 16 n
 
 thread-read : (t : Thread) → IsThread t → thread_of (thread_sent t) ≡ Some t
 unfolding thread_of
-thread-read t is = rw (cut-some 46 (id_sent t.process) (id_sent t.thread) (id-lacks t.process), id-read t.process is.process, id-read t.thread is.thread) refl
+thread-read t is = rw (cut-some 46 (id_sent t.process) (id_sent t.thread) (id-lacks t.process),
+    id-read t.process is.process, id-read t.thread is.thread) refl
 
-pair-read : (x y : ℕ) → x < 2 ^ 64 → y < 2 ^ 64 → part_of (hex_number x ++ (codes "," ++ hex_number y)) ≡ Some (record { from = x; count = y })
+pair-read : (x y : ℕ) → x < 2 ^ 64 → y < 2 ^ 64
+    → part_of (hex_number x ++ (codes "," ++ hex_number y)) ≡ Some (record { from = x; count = y })
 unfolding part_of
-pair-read x y small less = rw (cut-some 44 (hex_number x) (hex_number y) (digits-lack comma 16 x), number-read x small, number-read y less) refl
+pair-read x y small less =
+    rw (cut-some 44 (hex_number x) (hex_number y) (digits-lack comma 16 x), number-read x small, number-read y less)
+    refl
 
 part-lacks : (p : Part) → Lacks 59 (part_sent p)
-part-lacks p = lacks-more 59 (hex_number p.from) (codes "," ++ hex_number p.count) (digits-lack semicolon 16 p.from) (refl, digits-lack semicolon 16 p.count)
+part-lacks p = lacks-more 59 (hex_number p.from) (codes "," ++ hex_number p.count) (digits-lack semicolon 16 p.from)
+    (refl, digits-lack semicolon 16 p.count)
 
-point-read : (p : Part) (text : List ℕ) → IsPart p → point_of (part_sent p ++ conditions_sent text) ≡ Some (p, length text)
+point-read : (p : Part) (text : List ℕ) → IsPart p
+    → point_of (part_sent p ++ conditions_sent text) ≡ Some (p, length text)
 unfolding point_of
-point-read p [] is = rw (append-nil (part_sent p), cut-none 59 (part_sent p) (part-lacks p), pair-read p.from p.count is.from is.count) refl
-point-read p (b ∷ bs) is = rw (cut-some 59 (part_sent p) (b ∷ bs) (part-lacks p), pair-read p.from p.count is.from is.count) refl
+point-read p [] is = rw (append-nil (part_sent p), cut-none 59 (part_sent p) (part-lacks p),
+    pair-read p.from p.count is.from is.count) refl
+point-read p (b ∷ bs) is =
+    rw (cut-some 59 (part_sent p) (b ∷ bs) (part-lacks p), pair-read p.from p.count is.from is.count) refl
 
-program-read : (pid : ℕ) (p : Part) → pid < 2 ^ 64 → IsPart p → program_part_of (hex_number pid ++ (codes ":" ++ part_sent p)) ≡ Some (pid, p)
+program-read : (pid : ℕ) (p : Part) → pid < 2 ^ 64 → IsPart p
+    → program_part_of (hex_number pid ++ (codes ":" ++ part_sent p)) ≡ Some (pid, p)
 unfolding program_part_of
-program-read pid p small is = rw (cut-some 58 (hex_number pid) (part_sent p) (digits-lack colon 16 pid), number-read pid small, pair-read p.from p.count is.from is.count) refl
+program-read pid p small is =
+    rw (cut-some 58 (hex_number pid) (part_sent p) (digits-lack colon 16 pid), number-read pid small,
+    pair-read p.from p.count is.from is.count) refl
 
-file-read : (file : ℕ) (p : Part) → file < 2 ^ 64 → IsPart p → file_part_of (hex_number file ++ (codes "," ++ (hex_number p.count ++ (codes "," ++ hex_number p.from)))) ≡ Some (file, p)
+file-read : (file : ℕ) (p : Part) → file < 2 ^ 64 → IsPart p
+    → file_part_of (hex_number file ++ (codes "," ++ (hex_number p.count ++ (codes "," ++ hex_number p.from))))
+    ≡ Some (file, p)
 unfolding file_part_of
 file-read file p small is =
-    rw (cut-some 44 (hex_number file) (hex_number p.count ++ (codes "," ++ hex_number p.from)) (digits-lack comma 16 file), number-read file small, pair-read p.count p.from is.count is.from) refl
+    rw (cut-some 44 (hex_number file) (hex_number p.count ++ (codes "," ++ hex_number p.from))
+        (digits-lack comma 16 file), number-read file small, pair-read p.count p.from is.count is.from) refl
 
 -- ---- packets
 
@@ -254,12 +283,19 @@ rest-read : (p : Packet) (text : List ℕ) → IsSent p text → packet_for (hea
 rest-read (packet.Word word) text is = refl
 rest-read (packet.Numbered kind n) text is = ap (option_map (λ n. packet.Numbered kind n)) (number-read n is)
 rest-read (packet.Threaded kind thread) text is = ap (option_map (λ t. packet.Threaded kind t)) (thread-read thread is)
-rest-read (packet.Parted kind part) text is = ap (option_map (λ p. packet.Parted kind p)) (pair-read part.from part.count is.from is.count)
+rest-read (packet.Parted kind part) text is =
+    ap (option_map (λ p. packet.Parted kind p)) (pair-read part.from part.count is.from is.count)
 rest-read (packet.Texted kind n) text is = ap (λ n. Some (packet.Texted kind n)) is
-rest-read (packet.ProgramPath pid part) text is = ap (option_map (λ (two : ℕ × Part). packet.ProgramPath two.0 two.1)) (program-read pid part is.0 is.1)
-rest-read (packet.ReadFile file part) text is = ap (option_map (λ (two : ℕ × Part). packet.ReadFile two.0 two.1)) (file-read file part is.0 is.1)
-rest-read (packet.Set kind part n) text is = ap (option_map (λ (two : Part × ℕ). packet.Set kind two.0 two.1)) (point-read part text is.0) ∙ ap (λ n. Some (packet.Set kind part n)) is.1
-rest-read (packet.Clear kind part n) text is = ap (option_map (λ (two : Part × ℕ). packet.Clear kind two.0 two.1)) (point-read part text is.0) ∙ ap (λ n. Some (packet.Clear kind part n)) is.1
+rest-read (packet.ProgramPath pid part) text is =
+    ap (option_map (λ (two : ℕ × Part). packet.ProgramPath two.0 two.1)) (program-read pid part is.0 is.1)
+rest-read (packet.ReadFile file part) text is =
+    ap (option_map (λ (two : ℕ × Part). packet.ReadFile two.0 two.1)) (file-read file part is.0 is.1)
+rest-read (packet.Set kind part n) text is =
+    ap (option_map (λ (two : Part × ℕ). packet.Set kind two.0 two.1)) (point-read part text is.0)
+    ∙ ap (λ n. Some (packet.Set kind part n)) is.1
+rest-read (packet.Clear kind part n) text is =
+    ap (option_map (λ (two : Part × ℕ). packet.Clear kind two.0 two.1)) (point-read part text is.0)
+    ∙ ap (λ n. Some (packet.Clear kind part n)) is.1
 
 followed : (p : Packet) (text : List ℕ) → IsFollowed (head_of p) (behind_word p text)
 followed (packet.Word word) text = refl
@@ -274,7 +310,8 @@ followed (packet.Clear kind part n) text = tt
 
 pub packets-read : PacketsAreRead
 unfolding packet_of
-packets-read p text is = ap packet_after (headed (head_of p) (behind_word p text) (followed p text)) ∙ rest-read p text is
+packets-read p text is = ap packet_after (headed (head_of p) (behind_word p text) (followed p text))
+    ∙ rest-read p text is
 
 -- ---- actions
 
@@ -282,17 +319,25 @@ going-read : (g : Going) → IsGoing g → going_of (going_sent g) ≡ Some g
 unfolding going_of
 going-read Continue is = refl
 going-read Step is = refl
-going-read (Range from end) is = rw (cut-some 44 (hex_number from) (hex_number end) (digits-lack comma 16 from), number-read from is.0, number-read end is.1) refl
+going-read (Range from end) is =
+    rw (cut-some 44 (hex_number from) (hex_number end) (digits-lack comma 16 from), number-read from is.0,
+    number-read end is.1) refl
 
 going-lacks : (g : Going) → Lacks 58 (going_sent g)
 going-lacks Continue = (refl, tt)
 going-lacks Step = (refl, tt)
-going-lacks (Range from end) = (refl, lacks-more 58 (hex_number from) (codes "," ++ hex_number end) (digits-lack colon 16 from) (refl, digits-lack colon 16 end))
+going-lacks (Range from end) =
+    (refl, lacks-more 58 (hex_number from) (codes "," ++ hex_number end) (digits-lack colon 16 from)
+    (refl, digits-lack colon 16 end))
 
-with-thread : (going : Going) (named_thread : Option Thread) → IsGoing going → IsNamed named_thread → action_of (going_sent going ++ named named_thread) ≡ Some (record { going = going; thread = named_thread })
+with-thread : (going : Going) (named_thread : Option Thread) → IsGoing going → IsNamed named_thread
+    → action_of (going_sent going ++ named named_thread) ≡ Some (record { going = going; thread = named_thread })
 unfolding action_of
-with-thread going None is whose = rw (append-nil (going_sent going), cut-none 58 (going_sent going) (going-lacks going), going-read going is) refl
-with-thread going (Some thread) is whose = rw (cut-some 58 (going_sent going) (thread_sent thread) (going-lacks going), going-read going is, thread-read thread whose) refl
+with-thread going None is whose =
+    rw (append-nil (going_sent going), cut-none 58 (going_sent going) (going-lacks going), going-read going is) refl
+with-thread going (Some thread) is whose =
+    rw (cut-some 58 (going_sent going) (thread_sent thread) (going-lacks going), going-read going is,
+    thread-read thread whose) refl
 
 pub actions-read : ActionsAreRead
 actions-read a is whose = with-thread a.going a.thread is whose

@@ -1,5 +1,6 @@
 -- What goes on, and how: parts of a text with `;` between them.
-use Rattle.std.specs.Prelude.{◌==◌, ◌≡◌, ◌<◌, ◌++◌, ◌∷◌, ◌^◌, ℕ, ⊤, List, [], None, Option, Some, codes, if◌then◌else◌, option_map}
+use Rattle.std.specs.Prelude.{◌==◌, ◌≡◌, ◌<◌, ◌++◌, ◌∷◌, ◌^◌, ℕ, ⊤, List, [], None, Option, Some, codes, if◌then◌else◌}
+use Rattle.std.specs.Prelude.{option_map}
 use Rattle.gdbwire.specs.Hex.{hex_number, number_of}
 use Rattle.gdbwire.specs.Packets.{IsThread, cut, thread_of, thread_sent, ◌>>=◌}
 use Rattle.gdbwire.specs.declared.actions.Action.{Action}

@@ -1,5 +1,6 @@
 -- Frames of gdb's remote protocol: `$`, a body, `#`, and the sum of the body's bytes as two hexadecimal digits.
-use Rattle.std.specs.Prelude.{◌==◌, ◌≡◌, ◌≤◌, ◌||◌, ◌++◌, ◌∷◌, ◌%◌, ◌+◌, ◌*◌, ℕ, Bool, List, [], None, Option, Some, bit_xor, flat_map, if◌then◌else◌, length, nat_lt, sum, true, false}
+use Rattle.std.specs.Prelude.{◌==◌, ◌≡◌, ◌≤◌, ◌||◌, ◌++◌, ◌∷◌, ◌%◌, ◌+◌, ◌*◌, ℕ, Bool, List, [], None, Option, Some}
+use Rattle.std.specs.Prelude.{bit_xor, flat_map, if◌then◌else◌, length, nat_lt, sum, true, false}
 use Rattle.gdbwire.specs.Hex.{hex_byte, value_of}
 use Rattle.gdbwire.specs.declared.reader.Heard.{Heard}
 use Rattle.gdbwire.specs.declared.reader.Heard.TheVariants.{Packet, TooLong, Damaged, Acknowledged, Refused, Interrupt}
@@ -29,7 +30,8 @@ framed body = (36 ∷ []) ++ sent body ++ (35 ∷ []) ++ hex_byte (checksum (sen
 abbrev pub longest : ℕ
 longest = 16384
 
--- A reader of bytes: where it is, the sum and the body of the frame so far, and whether that body has more bytes than are read.
+-- A reader of bytes: where it is, the sum and the body of the frame so far, and whether that body has more bytes than
+-- are read.
 pub record Reading : Type 0 where
   pub stage : Stage
   pub sum : ℕ
@@ -46,7 +48,8 @@ counting b r = record r { sum = (r.sum + b) % 256 }
 
 -- one byte more of the body, where it is not too long
 unfoldable pub adding : ℕ → Reading → Reading
-adding b r = if nat_lt (length r.body) longest then record r { stage = Body; body = r.body ++ b ∷ [] } else record r { stage = Body; is_long = true }
+adding b r = if nat_lt (length r.body) longest then record r { stage = Body; body = r.body ++ b ∷ [] }
+    else record r { stage = Body; is_long = true }
 
 -- a byte of a frame before its sum: # ends the body, and $ begins another frame
 unfoldable pub inside : ℕ → Reading → Reading → Reading
@@ -63,12 +66,14 @@ judged r high low = if is_sum r.sum high low then (if r.is_long then TooLong els
 
 -- what is heard between frames: an answer to the last frame that was sent, a wish to interrupt, or nothing
 unfoldable pub between : ℕ → Option Heard
-between b = if b == 43 then Some Acknowledged else (if b == 45 then Some Refused else (if b == 3 then Some Interrupt else None))
+between b = if b == 43 then Some Acknowledged
+    else (if b == 45 then Some Refused else (if b == 3 then Some Interrupt else None))
 
 -- what a byte makes of a reader, and what is heard with it
 abbrev pub hears_at : Stage → Reading → ℕ → Reading × Option Heard
 hears_at Between r b = ((if b == 36 then begun else r), between b)
-hears_at Body r b = (inside b r (if b == 125 then counting b (record r { stage = Escaped }) else adding b (counting b r)), None)
+hears_at Body r b = (inside b r
+    (if b == 125 then counting b (record r { stage = Escaped }) else adding b (counting b r)), None)
 hears_at Escaped r b = (inside b r (adding (bit_xor b 32) (counting b r)), None)
 hears_at Sum r b = (record r { stage = LastDigit (value_of b) }, None)
 hears_at (LastDigit high) r b = (record r { stage = Between }, Some (judged r high (value_of b)))

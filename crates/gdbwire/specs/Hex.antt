@@ -1,5 +1,6 @@
 -- Hexadecimal numbers: the highest digit first.
-use Rattle.std.specs.Prelude.{◌≡◌, ◌<◌, ◌^◌, ◌++◌, ◌+◌, ◌-◌, ◌*◌, ◌/◌, ◌%◌, ◌&&◌, ◌∷◌, ℕ, zero, suc, List, [], None, Option, Some, flat_map, get_or, if◌then◌else◌, nat_le, nat_lt}
+use Rattle.std.specs.Prelude.{◌≡◌, ◌<◌, ◌^◌, ◌++◌, ◌+◌, ◌-◌, ◌*◌, ◌/◌, ◌%◌, ◌&&◌, ◌∷◌, ℕ, zero, suc, List, [], None}
+use Rattle.std.specs.Prelude.{Option, Some, flat_map, get_or, if◌then◌else◌, nat_le, nat_lt}
 
 -- the digit of a number below 16; letters are of lower case
 unfoldable pub hex_digit : ℕ → ℕ

@@ -1,5 +1,6 @@
 -- Packets: a word, and what it is about. Of text the place in the body is told at which it begins.
-use Rattle.std.specs.Prelude.{◌==◌, ◌≡◌, ◌<◌, ◌++◌, ◌∷◌, ◌+◌, ◌^◌, ℕ, ⊤, List, [], None, Option, Some, bytes_eq, codes, drop, if◌then◌else◌, length, map, nat_eq, nat_lt, not, option_and_then, option_map, take}
+use Rattle.std.specs.Prelude.{◌==◌, ◌≡◌, ◌<◌, ◌++◌, ◌∷◌, ◌+◌, ◌^◌, ℕ, ⊤, List, [], None, Option, Some, bytes_eq, codes}
+use Rattle.std.specs.Prelude.{drop, if◌then◌else◌, length, map, nat_eq, nat_lt, not, option_and_then, option_map, take}
 use Rattle.std.specs.List.{prefix_len, starts_with}
 use Rattle.gdbwire.specs.Hex.{hex_number, number_of}
 use Rattle.gdbwire.specs.declared.packets.Head.{Head}
@@ -60,7 +61,8 @@ part_of text = do
 -- the first of so many heads whose word a body begins with, and what follows the word
 abbrev pub head_among : List (List ℕ × Head) → List ℕ → Option (Head × List ℕ)
 head_among [] body = None
-head_among (row ∷ rows) body = if starts_with nat_eq body row.0 then Some (row.1, drop (length row.0) body) else head_among rows body
+head_among (row ∷ rows) body =
+    if starts_with nat_eq body row.0 then Some (row.1, drop (length row.0) body) else head_among rows body
 
 -- a process, and a part of the path of its program
 unfoldable pub program_part_of : List ℕ → Option (ℕ × Part)
@@ -240,7 +242,8 @@ behind_word (packet.Threaded kind thread) text = thread_sent thread
 behind_word (packet.Parted kind part) text = part_sent part
 behind_word (packet.Texted kind n) text = text
 behind_word (packet.ProgramPath pid part) text = hex_number pid ++ (codes ":" ++ part_sent part)
-behind_word (packet.ReadFile file part) text = hex_number file ++ (codes "," ++ (hex_number part.count ++ (codes "," ++ hex_number part.from)))
+behind_word (packet.ReadFile file part) text =
+    hex_number file ++ (codes "," ++ (hex_number part.count ++ (codes "," ++ hex_number part.from)))
 behind_word (packet.Set kind part n) text = part_sent part ++ conditions_sent text
 behind_word (packet.Clear kind part n) text = part_sent part ++ conditions_sent text
 

@@ -1,6 +1,8 @@
-//! Hexadecimal numbers, as the protocol has them: the highest digit first, and lower case letters where they are written.
+//! Hexadecimal numbers, as the protocol has them: the highest digit first, and lower case letters where they are
+//! written.
 ghost use Rattle.std.specs.Prelude.{◌≡◌, ◌<◌, ◌++◌, None, Some, IfOk, IfSome, OnOk, if◌then◌else◌, option_map};
-ghost use Rattle.gdbwire.specs.Hex.{bytes_of, hex_byte, hex_bytes, hex_digit, hex_number, hex_up_to, number_of, pair_of, value_of, with_digit};
+ghost use Rattle.gdbwire.specs.Hex.{bytes_of, hex_byte, hex_bytes, hex_digit, hex_number, hex_up_to, number_of};
+ghost use Rattle.gdbwire.specs.Hex.{pair_of, value_of, with_digit};
 
 use std::alloc::AllocError;
 
@@ -105,10 +107,11 @@ fn pair(high: u8, low: u8) -> Option<u8>
     Some(16 * high + low)
 }
 
-/// Puts the bytes that digits stand for at the end, two digits a byte, and returns whether they stand for bytes. Where they don't,
-/// or memory fails, it leaves a beginning of them.
+/// Puts the bytes that digits stand for at the end, two digits a byte, and returns whether they stand for bytes. Where
+/// they don't, or memory fails, it leaves a beginning of them.
 pub fn push_decoded(digits: &[u8], out: &mut Vec<u8>) -> Result<bool, AllocError>
-    ensures { IfOk result (λ known. option_map (λ bytes. out.old.items ++ bytes) (bytes_of digits.now) ≡ (if known then Some out.new.items else None)) }
+    ensures { IfOk result (λ known. option_map (λ bytes. out.old.items ++ bytes) (bytes_of digits.now)
+            ≡ (if known then Some out.new.items else None)) }
 {
     let mut at = 0;
     while at < digits.len() {

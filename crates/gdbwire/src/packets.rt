@@ -1,6 +1,7 @@
 //! Packets: what gdb asks.
 ghost use Rattle.std.specs.Prelude.{◌≡◌, ◌<◌, map, option_map};
-ghost use Rattle.gdbwire.specs.Packets.{cut, file_part_of, head_among, id_of, packet_for, packet_of, part_of, point_of, program_part_of, thread_of};
+ghost use Rattle.gdbwire.specs.Packets.{cut, file_part_of, head_among, id_of, packet_for, packet_of, part_of, point_of};
+ghost use Rattle.gdbwire.specs.Packets.{program_part_of, thread_of};
 ghost use Rattle.gdbwire.specs.declared.packets.Packet.TheVariants as packet;
 
 use crate::hex::number;
@@ -333,7 +334,8 @@ fn point_in(text: &[u8]) -> Option<(Part, usize)>
 
 // The first of some heads whose word a body begins with, and what follows the word.
 fn among<'a>(heads: &[(&[u8], Head)], body: &'a [u8]) -> Option<(Head, &'a [u8])>
-    ensures { option_map (λ two. (two.0, two.1.now)) result ≡ head_among (map (λ row. (row.0.now, row.1)) heads.now) body.now }
+    ensures { option_map (λ two. (two.0, two.1.now)) result
+            ≡ head_among (map (λ row. (row.0.now, row.1)) heads.now) body.now }
 {
     for (word, head) in heads {
         if body.starts_with(*word) {

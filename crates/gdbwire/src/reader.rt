@@ -1,6 +1,7 @@
 //! Frames, read byte by byte.
 ghost use Rattle.std.specs.Prelude.{◌≡◌, [], false, IfOk};
-ghost use Rattle.gdbwire.specs.declared.reader.Stage.TheVariants.{Between as BetweenFrames, Body as InBody, Escaped as AfterEscape};
+ghost use Rattle.gdbwire.specs.declared.reader.Stage.TheVariants.{Between as BetweenFrames, Body as InBody};
+ghost use Rattle.gdbwire.specs.declared.reader.Stage.TheVariants.{Escaped as AfterEscape};
 ghost use Rattle.gdbwire.specs.Frames.{adding, begun, between, hears, hears_at, judged};
 
 use crate::frames::{ESCAPE, FLIP};
@@ -70,7 +71,8 @@ impl Model for Reader {
 impl Reader {
     /// A reader between frames, or no memory.
     pub fn new(alloc: Global) -> Result<Self, AllocError>
-        ensures { IfOk result (λ reader. reader ≡ record { stage = BetweenFrames; sum = 0; body = []; is_long = false }) }
+        ensures { IfOk result (λ reader. reader
+                ≡ record { stage = BetweenFrames; sum = 0; body = []; is_long = false }) }
     {
         let body = Vec::with_capacity(alloc, MOST)?;
         Ok(Reader {

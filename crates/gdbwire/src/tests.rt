@@ -14,7 +14,8 @@ fn last_heard(alloc: Global, bytes: &[u8]) -> Result<(Option<Heard>, Reader), Al
     Ok((last, reader))
 }
 
-// Bytes as they come, what is heard with the last of them, and the body. The sums are of gdb's manual, or added up by hand.
+// Bytes as they come, what is heard with the last of them, and the body. The sums are of gdb's manual, or added up by
+// hand.
 const ROWS: [(&[u8], Option<Heard>, &[u8]); 9] = [
     (b"$OK#9a", Some(Heard::Packet), b"OK"),
     (b"+$qC#b4", Some(Heard::Packet), b"qC"),

@@ -1,16 +1,20 @@
 -- Operations without an access, and those with one.
-use Rattle.hart.proofs.Common.{Ram, Access, Acts, Answers, ap, Bool, Cause, Effect, Err, false, given, Hart, Held, if◌then◌else◌, inl, IsAnswer, IsKept, Leaves, length, List, Next, None, Ok, Op, op_by, Option, option_map, Page}
-use Rattle.hart.proofs.Common.{place_in, refl, seen, Sight, Stop, stored, sym, trap, true, Turns, ℕ, ◌≡◌}
+use Rattle.hart.proofs.Common.{Ram, Access, Acts, Answers, ap, Bool, Cause, Effect, Err, false, given, Hart, Held}
+use Rattle.hart.proofs.Common.{if◌then◌else◌, inl, IsAnswer, IsKept, Leaves, length, List, Next, None, Ok, Op, op_by}
+use Rattle.hart.proofs.Common.{Option, option_map, Page, place_in, refl, seen, Sight, Stop, stored, sym, trap, true}
+use Rattle.hart.proofs.Common.{Turns, ℕ, ◌≡◌}
 use Rattle.hart.proofs.Steps.{one-answer, walked}
 use Rattle.hart.specs.declared.operation.Op.TheVariants as op
 
-pub turned-leaves : (effect : Effect) (answers : Answers) (next : Next) (pc : ℕ) (old new : Hart) (ram : Ram) → Turns effect next pc old new → Leaves effect answers next pc old new ram ram
+pub turned-leaves : (effect : Effect) (answers : Answers) (next : Next) (pc : ℕ) (old new : Hart) (ram : Ram)
+    → Turns effect next pc old new → Leaves effect answers next pc old new ram ram
 turned-leaves (Ok d) answers next pc old new ram h = (h.0, h.1, h.2, h.3, ap (stored ram answers) (sym h.4))
 turned-leaves (Err t) answers next pc old new ram h = (h.0, h.1, refl)
 
 -- whatever is answered
 acts-unanswered : {held : Held} {meaning : Sight → Effect} {next : Next} {pc : ℕ} {old new : Hart} {ram : Ram}
-    → ((answers : Answers) → Leaves (meaning (seen ram answers)) answers next pc old new ram ram) → Acts held held meaning next pc old new ram ram
+    → ((answers : Answers) → Leaves (meaning (seen ram answers)) answers next pc old new ram ram)
+        → Acts held held meaning next pc old new ram ram
 acts-unanswered {old} {ram} does = record {
   answers = walked ram old.root.0;
   allowed = λ access address. inl refl;
@@ -20,9 +24,13 @@ acts-unanswered {old} {ram} does = record {
 }
 
 -- the meaning looks at one access alone, and was answered so
-acts-answered : {held held' : Held} {meaning : Sight → Effect} {next : Next} {pc : ℕ} {old new : Hart} {ram ram' : Ram} {access : Access} {address : ℕ} (o : Option ℕ)
-    → IsAnswer held ram old.root.0 address access (option_map (place_in address) o) → IsKept held held' ram old.root.0 → length ram' ≡ length ram
-    → ((answers : Answers) → answers access address ≡ o → Leaves (meaning (seen ram answers)) answers next pc old new ram ram') → Acts held held' meaning next pc old new ram ram'
+acts-answered : {held held' : Held} {meaning : Sight → Effect} {next : Next} {pc : ℕ} {old new : Hart} {ram ram' : Ram}
+    {access : Access} {address : ℕ} (o : Option ℕ)
+    → IsAnswer held ram old.root.0 address access (option_map (place_in address) o) → IsKept held held' ram old.root.0
+        → length ram' ≡ length ram
+    → ((answers : Answers) → answers access address ≡ o
+        → Leaves (meaning (seen ram answers)) answers next pc old new ram ram')
+        → Acts held held' meaning next pc old new ram ram'
 acts-answered {held} {old} {ram} {access} {address} o is kept count does =
     let one = one-answer held ram is in
     record { answers = one.0; allowed = one.1; does = does one.0 one.2; kept = kept; count = count }
@@ -48,7 +56,8 @@ has_no_access o = true
 abbrev pub blind : Sight
 blind access address = None
 
-op_by-without : (o : Op) (regs : List ℕ) (pc : ℕ) (see : Sight) → has_no_access o ≡ true → op_by o regs pc see ≡ op_by o regs pc blind
+op_by-without : (o : Op) (regs : List ℕ) (pc : ℕ) (see : Sight) → has_no_access o ≡ true
+    → op_by o regs pc see ≡ op_by o regs pc blind
 unfolding op_by
 op_by-without (op.Lb rd rs1 i) regs pc see h = absurd (cc)
 op_by-without (op.Lh rd rs1 i) regs pc see h = absurd (cc)
@@ -64,20 +73,30 @@ op_by-without (op.Sw rs1 rs2 i) regs pc see h = absurd (cc)
 op_by-without (op.Sd rs1 rs2 i) regs pc see h = absurd (cc)
 op_by-without _ regs pc see h = refl
 
-pub op_acts : (held : Held) (o : Op) (next : Next) (pc : ℕ) (old new : Hart) (ram : Ram) → has_no_access o ≡ true → Turns (op_by o old.registers pc blind) next pc old new
+pub op_acts : (held : Held) (o : Op) (next : Next) (pc : ℕ) (old new : Hart) (ram : Ram) → has_no_access o ≡ true
+    → Turns (op_by o old.registers pc blind) next pc old new
     → Acts held held (op_by o old.registers pc) next pc old new ram ram
 op_acts held o next pc old new ram none h =
     acts-unanswered (λ answers.
-    rw (op_by-without o old.registers pc (seen ram answers) none) (turned-leaves (op_by o old.registers pc blind) answers next pc old new ram h))
+    rw (op_by-without o old.registers pc (seen ram answers) none)
+        (turned-leaves (op_by o old.registers pc blind) answers next pc old new ram h))
 
 -- ---- loads and stores: at a misaligned address, where nothing is found, and in a frame
 
-pub acts-odd : {held : Held} {ram : Ram} {hart : Hart} {even : Bool} (found : Option Page → Effect) (access : Access) {cause : Cause} {address pc : ℕ} → even ≡ false
-    → Acts held held (λ see. if even then found (see access address) else trap cause address) (Stop (record { cause = cause; address = address })) pc hart hart ram ram
+pub acts-odd : {held : Held} {ram : Ram} {hart : Hart} {even : Bool} (found : Option Page → Effect) (access : Access)
+    {cause : Cause} {address pc : ℕ} → even ≡ false
+    → Acts held held (λ see. if even then found (see access address) else trap cause address)
+        (Stop (record { cause = cause; address = address })) pc hart hart ram ram
 acts-odd {held} {ram} {hart} found access {pc} odd = acts-unanswered (λ answers. rw odd (refl, refl, refl))
 
-pub acts-even : {held held' : Held} {ram ram' : Ram} {old new : Hart} {next : Next} {even : Bool} (found : Option Page → Effect) (access : Access) (cause : Cause) {address pc : ℕ} (o : Option ℕ) → even ≡ true
-    → IsAnswer held ram old.root.0 address access (option_map (place_in address) o) → IsKept held held' ram old.root.0 → length ram' ≡ length ram
-    → ((answers : Answers) → answers access address ≡ o → Leaves (found (option_map (given ram) o)) answers next pc old new ram ram') → Acts held held' (λ see. if even then found (see access address) else trap cause address) next pc old new ram ram'
-acts-even {held} {held'} {ram} {ram'} {old} {new} {next} found access cause {address} {pc} o aligned is kept count does =
+pub acts-even : {held held' : Held} {ram ram' : Ram} {old new : Hart} {next : Next} {even : Bool}
+    (found : Option Page → Effect) (access : Access) (cause : Cause) {address pc : ℕ} (o : Option ℕ) → even ≡ true
+    → IsAnswer held ram old.root.0 address access (option_map (place_in address) o) → IsKept held held' ram old.root.0
+        → length ram' ≡ length ram
+    → ((answers : Answers) → answers access address ≡ o
+        → Leaves (found (option_map (given ram) o)) answers next pc old new ram ram')
+        → Acts held held' (λ see. if even then found (see access address) else trap cause address) next pc old new ram
+        ram'
+acts-even {held} {held'} {ram} {ram'} {old} {new} {next} found access cause {address} {pc} o aligned is kept count does
+    =
     acts-answered o is kept count (λ answers same. rw (aligned, same) (does answers same))

@@ -1,9 +1,17 @@
--- The frames after a store show the memory after it, and nothing else is new; so a cycle is done again where its store is let through.
-use Rattle.hart.proofs.Common.{Ram, act, act_word, ap, arith, Bool, bytes_at, Cause, Computed, cond, cycle, Effect, Err, extend, false, Fetch, fetched, IllegalInstruction, inl, inr, Instr, instruction_of, InstructionPageFault, is_taken}
-use Rattle.hart.proofs.Common.{IsSize, le, length, List, Load, load_from, load_size, LoadOp, Memory, None, number, Ok, Option, Page, page_for, plus, refl, slice_index, Some, Store, store_size, store_to, StoreOp, Stores, subst, suc, trap}
-use Rattle.hart.proofs.Common.{true, zero, ℕ, ◌%◌, ◌*◌, ◌/◌, ◌==◌, ◌≡◌, [], append_assoc, Bytes, cases_eq, Change, changed, drop, frame_of, get_or, get_or-set_other, get_or-set_same, get_or_from_slice_get, IsAlone, IsMemory, IsSound}
-use Rattle.hart.proofs.Common.{IsStore, length-set, Mapped, memory_of, Nothing, option_map, overwrite, page_in, permits, permitted, put, put_bytes, put_in, set, slice_get, slice_get-get_or, slice_get-map, slice_get_within, slice_index_or}
-use Rattle.hart.proofs.Common.{slice_set, sym, take, write_bytes, write_from, WritesOnly, WritesPage, ◌++◌, ◌+◌, ◌-◌, ◌<◌, ◌∙◌, ◌∷◌, ◌≢◌, ◌≤◌, ◌⊎◌, Follows, Hart, Trap, StoreMisaligned, StorePageFault}
+-- The frames after a store show the memory after it, and nothing else is new; so a cycle is done again where its store
+-- is let through.
+use Rattle.hart.proofs.Common.{Ram, act, act_word, ap, arith, Bool, bytes_at, Cause, Computed, cond, cycle, Effect, Err}
+use Rattle.hart.proofs.Common.{extend, false, Fetch, fetched, IllegalInstruction, inl, inr, Instr, instruction_of}
+use Rattle.hart.proofs.Common.{InstructionPageFault, is_taken, IsSize, le, length, List, Load, load_from, load_size}
+use Rattle.hart.proofs.Common.{LoadOp, Memory, None, number, Ok, Option, Page, page_for, plus, refl, slice_index, Some}
+use Rattle.hart.proofs.Common.{Store, store_size, store_to, StoreOp, Stores, subst, suc, trap, true, zero, ℕ, ◌%◌, ◌*◌}
+use Rattle.hart.proofs.Common.{◌/◌, ◌==◌, ◌≡◌, [], append_assoc, Bytes, cases_eq, Change, changed, drop, frame_of}
+use Rattle.hart.proofs.Common.{get_or, get_or-set_other, get_or-set_same, get_or_from_slice_get, IsAlone, IsMemory}
+use Rattle.hart.proofs.Common.{IsSound, IsStore, length-set, Mapped, memory_of, Nothing, option_map, overwrite, page_in}
+use Rattle.hart.proofs.Common.{permits, permitted, put, put_bytes, put_in, set, slice_get, slice_get-get_or}
+use Rattle.hart.proofs.Common.{slice_get-map, slice_get_within, slice_index_or, slice_set, sym, take, write_bytes}
+use Rattle.hart.proofs.Common.{write_from, WritesOnly, WritesPage, ◌++◌, ◌+◌, ◌-◌, ◌<◌, ◌∙◌, ◌∷◌, ◌≢◌, ◌≤◌, ◌⊎◌}
+use Rattle.hart.proofs.Common.{Follows, Hart, Trap, StoreMisaligned, StorePageFault}
 use Rattle.std.proofs.lemmas.Bool.Decides.{nat_tests}
 use Rattle.unixmodel.specs.declared.instr.StoreOp.TheVariants.{Sb, Sd, Sh, Sw}
 use Rattle.unixmodel.specs.declared.instr.Instr.TheVariants as instr
@@ -14,15 +22,20 @@ use Rattle.ram.proofs.MemoryLemmas.{length-put_bytes}
 
 -- ---- what holds of traps and of each instruction's effect holds of a cycle's
 
-at_word : (P : Effect → Type 0) (regs : List ℕ) (pc : ℕ) (mem : Memory) (found : Option Instr) → ((c : Cause) (address : ℕ) → P (trap c address)) → ((i : Instr) → P (act i regs pc mem)) → P (act_word found regs pc mem)
+at_word : (P : Effect → Type 0) (regs : List ℕ) (pc : ℕ) (mem : Memory) (found : Option Instr)
+    → ((c : Cause) (address : ℕ) → P (trap c address)) → ((i : Instr) → P (act i regs pc mem))
+    → P (act_word found regs pc mem)
 at_word P regs pc mem None traps acts = traps IllegalInstruction pc
 at_word P regs pc mem (Some i) traps acts = acts i
 
-at_page : (P : Effect → Type 0) (regs : List ℕ) (pc : ℕ) (mem : Memory) (page : Option Page) → ((c : Cause) (address : ℕ) → P (trap c address)) → ((i : Instr) → P (act i regs pc mem)) → P (fetched page regs pc mem)
+at_page : (P : Effect → Type 0) (regs : List ℕ) (pc : ℕ) (mem : Memory) (page : Option Page)
+    → ((c : Cause) (address : ℕ) → P (trap c address)) → ((i : Instr) → P (act i regs pc mem))
+    → P (fetched page regs pc mem)
 at_page P regs pc mem None traps acts = traps InstructionPageFault pc
 at_page P regs pc mem (Some p) traps acts = at_word P _ pc _ _ traps acts
 
-at_cycle : (P : Effect → Type 0) (regs : List ℕ) (pc : ℕ) (mem : Memory) → ((c : Cause) (address : ℕ) → P (trap c address)) → ((i : Instr) → P (act i regs pc mem)) → P (cycle regs pc mem)
+at_cycle : (P : Effect → Type 0) (regs : List ℕ) (pc : ℕ) (mem : Memory)
+    → ((c : Cause) (address : ℕ) → P (trap c address)) → ((i : Instr) → P (act i regs pc mem)) → P (cycle regs pc mem)
 unfolding cycle
 at_cycle P regs pc mem traps acts = at_page P _ pc _ _ traps acts
 
@@ -49,11 +62,14 @@ store_size-is Sh = inr (inl refl)
 store_size-is Sw = inr (inr (inl refl))
 store_size-is Sd = inr (inr (inr refl))
 
-load-leaves : (regs : List ℕ) (pc : ℕ) (mem : Memory) (op : LoadOp) (rd address : ℕ) (page : Option Page) → Leaves mem (load_from regs pc op rd address page)
+load-leaves : (regs : List ℕ) (pc : ℕ) (mem : Memory) (op : LoadOp) (rd address : ℕ) (page : Option Page)
+    → Leaves mem (load_from regs pc op rd address page)
 load-leaves regs pc mem op rd address None = tt
 load-leaves regs pc mem op rd address (Some p) = tt
 
-store-leaves : (regs : List ℕ) (pc : ℕ) (mem : Memory) (op : StoreOp) (address value : ℕ) (page : Option Page) → page_for Store mem address ≡ page → address % store_size op ≡ 0 → Leaves mem (store_to regs pc address (le (store_size op) value) page)
+store-leaves : (regs : List ℕ) (pc : ℕ) (mem : Memory) (op : StoreOp) (address value : ℕ) (page : Option Page)
+    → page_for Store mem address ≡ page → address % store_size op ≡ 0
+    → Leaves mem (store_to regs pc address (le (store_size op) value) page)
 store-leaves regs pc mem op address value None found aligned = tt
 store-leaves regs pc mem op address value (Some p) found aligned =
     let count : length (le (store_size op) value) ≡ store_size op = length-le (store_size op) _ in
@@ -61,33 +77,43 @@ store-leaves regs pc mem op address value (Some p) found aligned =
 
 act-leaves : (regs : List ℕ) (pc : ℕ) (mem : Memory) (i : Instr) → Leaves mem (act i regs pc mem)
 unfolding act
-act-leaves regs pc mem (instr.Jal rd offset) = let target = plus pc (extend 21 offset) in at_test (Leaves mem) (target % 4 == 0) (λ _. tt) tt
-act-leaves regs pc mem (instr.Jalr rd rs1 imm) = let target = plus (slice_index regs rs1) (extend 12 imm) / 2 * 2 in at_test (Leaves mem) (target % 4 == 0) (λ _. tt) tt
+act-leaves regs pc mem (instr.Jal rd offset) = let target =
+    plus pc (extend 21 offset) in at_test (Leaves mem) (target % 4 == 0) (λ _. tt) tt
+act-leaves regs pc mem (instr.Jalr rd rs1 imm) = let target =
+    plus (slice_index regs rs1) (extend 12 imm) / 2 * 2 in at_test (Leaves mem) (target % 4 == 0) (λ _. tt) tt
 act-leaves regs pc mem (instr.Branch op rs1 rs2 offset) =
     let target = plus pc (extend 13 offset) in
-    at_test (Leaves mem) (is_taken op (slice_index regs rs1) (slice_index regs rs2)) (λ _. at_test (Leaves mem) (target % 4 == 0) (λ _. tt) tt) tt
+    at_test (Leaves mem) (is_taken op (slice_index regs rs1) (slice_index regs rs2))
+        (λ _. at_test (Leaves mem) (target % 4 == 0) (λ _. tt) tt) tt
 act-leaves regs pc mem (instr.Load op rd rs1 imm) =
     let address = plus (slice_index regs rs1) (extend 12 imm) in
     at_test (Leaves mem) (address % load_size op == 0) (λ _. load-leaves _ pc _ op rd _ _) tt
 act-leaves regs pc mem (instr.Store op rs1 rs2 imm) =
     let address = plus (slice_index regs rs1) (extend 12 imm) in
-    at_test (Leaves mem) (address % store_size op == 0) (λ h. store-leaves _ pc _ op _ _ (page_for Store mem address) refl (is_zero h)) tt
+    at_test (Leaves mem) (address % store_size op == 0)
+        (λ h. store-leaves _ pc _ op _ _ (page_for Store mem address) refl (is_zero h)) tt
 act-leaves regs pc mem _ = tt
 
 -- what an instruction writes is what a store may write
-pub cycle-stores : (regs : List ℕ) (pc : ℕ) (mem : Memory) (d : Computed) → cycle regs pc mem ≡ Ok d → Stores mem d.change
-cycle-stores regs pc mem d h = subst (Leaves mem) h (at_cycle (Leaves mem) _ pc _ (λ c address. tt) (act-leaves _ pc mem))
+pub cycle-stores : (regs : List ℕ) (pc : ℕ) (mem : Memory) (d : Computed) → cycle regs pc mem ≡ Ok d
+    → Stores mem d.change
+cycle-stores regs pc mem d h =
+    subst (Leaves mem) h (at_cycle (Leaves mem) _ pc _ (λ c address. tt) (act-leaves _ pc mem))
 
 -- ---- what a store needs
 
 -- the bytes of a store lie in one page, and there is at least one
 size-fits : (address : ℕ) {n : ℕ} → IsSize n → address % n ≡ 0 → (0 < n) × (address % 4096 + n ≤ 4096)
 size-fits address (inl one) aligned = (omega arith, omega arith)
-size-fits address (inr (inl two)) aligned = let even : address % 2 ≡ 0 = rw (sym two) aligned in (omega arith, omega arith)
-size-fits address (inr (inr (inl four))) aligned = let even : address % 4 ≡ 0 = rw (sym four) aligned in (omega arith, omega arith)
-size-fits address (inr (inr (inr eight))) aligned = let even : address % 8 ≡ 0 = rw (sym eight) aligned in (omega arith, omega arith)
+size-fits address (inr (inl two)) aligned = let even : address % 2 ≡ 0 =
+    rw (sym two) aligned in (omega arith, omega arith)
+size-fits address (inr (inr (inl four))) aligned = let even : address % 4 ≡ 0 =
+    rw (sym four) aligned in (omega arith, omega arith)
+size-fits address (inr (inr (inr eight))) aligned = let even : address % 8 ≡ 0 =
+    rw (sym eight) aligned in (omega arith, omega arith)
 
-store-fits : {mem : Memory} {address : ℕ} {bytes : List ℕ} → IsStore mem address bytes → (0 < length bytes) × (address % 4096 + length bytes ≤ 4096)
+store-fits : {mem : Memory} {address : ℕ} {bytes : List ℕ} → IsStore mem address bytes
+    → (0 < length bytes) × (address % 4096 + length bytes ≤ 4096)
 store-fits {address} {bytes} is = size-fits _ is.size is.aligned
 
 chosen : (b : Bool) (d : Page) (p : Page) → cond b (Some d) None ≡ Some p → b ≡ true
@@ -97,17 +123,21 @@ chosen false d p h = absurd (cc)
 -- ---- which frame is new
 
 -- the entry of a page that a store is allowed on
-allowed-entry : (ram : Ram) (o : Option Mapped) {p : Page} → permitted Store (option_map (page_in ram) o) ≡ Some p → (e : Mapped) × (o ≡ Some e) × (permits Store e.marks ≡ true)
+allowed-entry : (ram : Ram) (o : Option Mapped) {p : Page} → permitted Store (option_map (page_in ram) o) ≡ Some p
+    → (e : Mapped) × (o ≡ Some e) × (permits Store e.marks ≡ true)
 allowed-entry ram None h = absurd (cc)
 allowed-entry ram (Some e) {p} h = (e, refl, chosen (permits Store e.marks) (page_in ram e) p h)
 
-pub stored-entry : (ram : Ram) (mapping : List Mapped) {address : ℕ} {bytes : List ℕ} → IsStore (memory_of ram mapping) address bytes
+pub stored-entry : (ram : Ram) (mapping : List Mapped) {address : ℕ} {bytes : List ℕ}
+    → IsStore (memory_of ram mapping) address bytes
     → (e : Mapped) × (slice_get mapping (address / 4096) ≡ Some e) × (permits Store e.marks ≡ true)
 stored-entry ram mapping {address} is =
-    allowed-entry _ (slice_get mapping (address / 4096)) (ap (permitted Store) (sym (slice_get-map (page_in ram) mapping (address / 4096))) ∙ is.found)
+    allowed-entry _ (slice_get mapping (address / 4096))
+        (ap (permitted Store) (sym (slice_get-map (page_in ram) mapping (address / 4096))) ∙ is.found)
 
 -- in the memory's own words
-changed-put : (ram : Ram) (mapping : List Mapped) (address : ℕ) (bytes : List ℕ) (e : Mapped) → slice_get mapping (address / 4096) ≡ Some e
+changed-put : (ram : Ram) (mapping : List Mapped) (address : ℕ) (bytes : List ℕ) (e : Mapped)
+    → slice_get mapping (address / 4096) ≡ Some e
     → changed ram mapping (Bytes address bytes) ≡ put ram e.frame (address % 4096) bytes
 unfolding put put_bytes
 changed-put ram mapping address bytes e mapped =
@@ -116,7 +146,8 @@ changed-put ram mapping address bytes e mapped =
     ap (λ o. put_in ram o at bytes) mapped
     ∙ ap (slice_set ram e.frame) (append_assoc (take at frame) bytes (drop (at + length bytes) frame))
 
-written-page : {ram : Ram} {mapping : List Mapped} (page at : ℕ) (bytes : List ℕ) (e : Mapped) → IsMemory ram → e.frame < length ram → slice_get mapping page ≡ Some e → permits Store e.marks ≡ true
+written-page : {ram : Ram} {mapping : List Mapped} (page at : ℕ) (bytes : List ℕ) (e : Mapped) → IsMemory ram
+    → e.frame < length ram → slice_get mapping page ≡ Some e → permits Store e.marks ≡ true
     → at + length bytes ≤ 4096 → WritesPage ram mapping (put ram e.frame at bytes)
 unfolding put
 written-page {ram} page at bytes e is within mapped permitted fits =
@@ -132,7 +163,8 @@ written-page {ram} page at bytes e is within mapped permitted fits =
     }
 
 -- a store writes one frame of the mapping, whose page may be written
-changed-only : {ram : Ram} {mapping : List Mapped} (change : Change) → IsMemory ram → IsSound ram mapping → Stores (memory_of ram mapping) change → WritesOnly ram mapping (changed ram mapping change)
+changed-only : {ram : Ram} {mapping : List Mapped} (change : Change) → IsMemory ram → IsSound ram mapping
+    → Stores (memory_of ram mapping) change → WritesOnly ram mapping (changed ram mapping change)
 changed-only Nothing is sound stores = inl refl
 changed-only {ram} {mapping} (Bytes address bytes) is sound stores =
     let entry = stored-entry _ _ stores in
@@ -141,19 +173,25 @@ changed-only {ram} {mapping} (Bytes address bytes) is sound stores =
     (written-page _ _ _ e is (sound.inside (address / 4096) e entry.1) entry.1 entry.2 (store-fits stores).1))
 
 -- the same for what an instruction leaves
-pub cycle-only : {ram : Ram} {mapping : List Mapped} (regs : List ℕ) (pc : ℕ) {d : Computed} → IsMemory ram → IsSound ram mapping → cycle regs pc (memory_of ram mapping) ≡ Ok d → WritesOnly ram mapping (changed ram mapping d.change)
+pub cycle-only : {ram : Ram} {mapping : List Mapped} (regs : List ℕ) (pc : ℕ) {d : Computed} → IsMemory ram
+    → IsSound ram mapping → cycle regs pc (memory_of ram mapping) ≡ Ok d
+    → WritesOnly ram mapping (changed ram mapping d.change)
 cycle-only {ram} {mapping} regs pc {d} is sound h = changed-only d.change is sound (cycle-stores _ pc _ d h)
 
 -- ---- the memory that is shown
 
 -- page k of the memory
-page_at : (ram : Ram) (mapping : List Mapped) (k : ℕ) {e : Mapped} (d : Page) → slice_get mapping k ≡ Some e → get_or (memory_of ram mapping) k d ≡ page_in ram e
-page_at ram mapping k {e} d h = get_or_from_slice_get _ k _ d (slice_get-map (page_in ram) mapping k ∙ ap (option_map (page_in ram)) h)
+page_at : (ram : Ram) (mapping : List Mapped) (k : ℕ) {e : Mapped} (d : Page) → slice_get mapping k ≡ Some e
+    → get_or (memory_of ram mapping) k d ≡ page_in ram e
+page_at ram mapping k {e} d h =
+    get_or_from_slice_get _ k _ d (slice_get-map (page_in ram) mapping k ∙ ap (option_map (page_in ram)) h)
 
 -- page k after the frame of page n is new
-shown_at : (ram : Ram) (mapping : List Mapped) {n : ℕ} (e : Mapped) (new : List ℕ) → slice_get mapping n ≡ Some e → e.frame < length ram → IsAlone mapping n
+shown_at : (ram : Ram) (mapping : List Mapped) {n : ℕ} (e : Mapped) (new : List ℕ) → slice_get mapping n ≡ Some e
+    → e.frame < length ram → IsAlone mapping n
     → (k : ℕ) {f : Mapped} (d : Page) → slice_get mapping k ≡ Some f → (k ≡ n) ⊎ (k ≡ n → ⊥)
-    → get_or (memory_of (set ram e.frame new) mapping) k d ≡ get_or (set (memory_of ram mapping) n (record { bytes = new; marks = e.marks })) k d
+    → get_or (memory_of (set ram e.frame new) mapping) k d
+        ≡ get_or (set (memory_of ram mapping) n (record { bytes = new; marks = e.marks })) k d
 shown_at ram mapping {n} e new found within alone k {f} d at (inl same) =
     let entry : Some f ≡ Some e = sym at ∙ ap (slice_get mapping) same ∙ found in
     let is : f ≡ e = cc in
@@ -162,7 +200,8 @@ shown_at ram mapping {n} e new found within alone k {f} d at (inl same) =
     page_at _ _ k d at
     ∙ ap (page_in (set ram e.frame new)) is
     ∙ ap (λ bytes. record { bytes = bytes; marks = e.marks }) written
-    ∙ sym (ap (λ j. get_or (set (memory_of ram mapping) n (record { bytes = new; marks = e.marks })) j d) same ∙ rw get_or-set_same)
+    ∙ sym (ap (λ j. get_or (set (memory_of ram mapping) n (record { bytes = new; marks = e.marks })) j d) same
+        ∙ rw get_or-set_same)
 shown_at ram mapping e new found within alone k {f} d at (inr other) =
     let apart : f.frame ≢ e.frame = λ same. other (alone k e f found at same) in
     let kept : get_or (set ram e.frame new) f.frame [] ≡ get_or ram f.frame [] = rw get_or-set_other in
@@ -172,9 +211,11 @@ shown_at ram mapping e new found within alone k {f} d at (inr other) =
     ∙ sym (rw get_or-set_other)
 
 -- where the frame of a page is new, and no other page has it, that page is new
-memory_of-set : (ram : Ram) (mapping : List Mapped) (n : ℕ) (e : Mapped) (new : List ℕ) → slice_get mapping n ≡ Some e → e.frame < length ram → IsAlone mapping n
+memory_of-set : (ram : Ram) (mapping : List Mapped) (n : ℕ) (e : Mapped) (new : List ℕ) → slice_get mapping n ≡ Some e
+    → e.frame < length ram → IsAlone mapping n
     → memory_of (set ram e.frame new) mapping ≡ set (memory_of ram mapping) n (record { bytes = new; marks = e.marks })
-memory_of-set ram mapping n e new found within alone = same_lists _ _ (rw (length-set, length-map, length-map)) (λ k d below.
+memory_of-set ram mapping n e new found within alone =
+    same_lists _ _ (rw (length-set, length-map, length-map)) (λ k d below.
     let fits : k < length mapping = rw length-map at below in
     shown_at _ _ e _ found within alone k d (slice_get-get_or _ k e fits) (cases_eq k n))
 
@@ -183,7 +224,8 @@ write_from-none [] = refl
 write_from-none (p ∷ ps) = refl
 
 -- bytes that end on the first page
-write_from-first : (p : Page) {ps : List Page} (at : ℕ) (new : List ℕ) → 0 < length new → at + length new ≤ 4096 → write_from (p ∷ ps) at new ≡ record p { bytes = overwrite p.bytes at new } ∷ ps
+write_from-first : (p : Page) {ps : List Page} (at : ℕ) (new : List ℕ) → 0 < length new → at + length new ≤ 4096
+    → write_from (p ∷ ps) at new ≡ record p { bytes = overwrite p.bytes at new } ∷ ps
 write_from-first p at [] some fits = absurd (omega arith)
 write_from-first p {ps} at (b ∷ bs) some fits =
     let all : take (4096 - at) (b ∷ bs) ≡ b ∷ bs = take_all (4096 - at) (b ∷ bs) (omega arith) in
@@ -193,18 +235,22 @@ write_from-first p {ps} at (b ∷ bs) some fits =
     ∙ ap (λ rest. record p { bytes = overwrite p.bytes at (b ∷ bs) } ∷ rest) (write_from-none ps)
 
 -- bytes in one page make that page new
-write_bytes-page : (mem : Memory) (address : ℕ) (new : List ℕ) {p : Page} → slice_get mem (address / 4096) ≡ Some p → 0 < length new → address % 4096 + length new ≤ 4096
-    → write_bytes mem address new ≡ set mem (address / 4096) (record { bytes = overwrite p.bytes (address % 4096) new; marks = p.marks })
+write_bytes-page : (mem : Memory) (address : ℕ) (new : List ℕ) {p : Page} → slice_get mem (address / 4096) ≡ Some p
+    → 0 < length new → address % 4096 + length new ≤ 4096
+    → write_bytes mem address new
+        ≡ set mem (address / 4096) (record { bytes = overwrite p.bytes (address % 4096) new; marks = p.marks })
 unfolding write_bytes
 write_bytes-page mem address new {p} found some fits =
     let n : ℕ = address / 4096 in
     let there : n < length mem = slice_get_within mem n p found in
-    ap (λ pages. take n mem ++ write_from pages (address % 4096) new) (drop-cons mem n p there ∙ ap (λ q. q ∷ drop (suc n) mem) (get_or_from_slice_get _ n p p found))
+    ap (λ pages. take n mem ++ write_from pages (address % 4096) new)
+        (drop-cons mem n p there ∙ ap (λ q. q ∷ drop (suc n) mem) (get_or_from_slice_get _ n p p found))
     ∙ ap (λ pages. take n mem ++ pages) (write_from-first p _ _ some fits)
     ∙ sym (set_split mem n (record { bytes = overwrite p.bytes (address % 4096) new; marks = p.marks }) there)
 
 -- the frames after a change show the memory after it
-memory_of-changed : {ram : Ram} {mapping : List Mapped} (change : Change) → IsSound ram mapping → Stores (memory_of ram mapping) change
+memory_of-changed : {ram : Ram} {mapping : List Mapped} (change : Change) → IsSound ram mapping
+    → Stores (memory_of ram mapping) change
     → memory_of (changed ram mapping change) mapping ≡ memory_after (memory_of ram mapping) change
 memory_of-changed Nothing sound stores = refl
 memory_of-changed {ram} {mapping} (Bytes address bytes) sound stores =
@@ -213,20 +259,23 @@ memory_of-changed {ram} {mapping} (Bytes address bytes) sound stores =
     let entry = stored-entry _ _ stores in
     let e : Mapped = entry.0 in
     let fits = store-fits stores in
-    let shown : slice_get (memory_of ram mapping) n ≡ Some (page_in ram e) = slice_get-map (page_in ram) mapping n ∙ ap (option_map (page_in ram)) entry.1 in
+    let shown : slice_get (memory_of ram mapping) n ≡ Some (page_in ram e) = slice_get-map (page_in ram) mapping n
+            ∙ ap (option_map (page_in ram)) entry.1 in
     ap (λ o. memory_of (put_in ram o at bytes) mapping) entry.1
     ∙ memory_of-set _ _ n e _ entry.1 (sound.inside n e entry.1) (sound.alone n e entry.1 entry.2)
     ∙ sym (write_bytes-page _ _ _ shown fits.0 fits.1)
 
 -- the same for what an instruction leaves
-pub memory_of-cycle : (ram : Ram) (mapping : List Mapped) (regs : List ℕ) (pc : ℕ) (d : Computed) → IsSound ram mapping → cycle regs pc (memory_of ram mapping) ≡ Ok d
+pub memory_of-cycle : (ram : Ram) (mapping : List Mapped) (regs : List ℕ) (pc : ℕ) (d : Computed) → IsSound ram mapping
+    → cycle regs pc (memory_of ram mapping) ≡ Ok d
     → memory_of (changed ram mapping d.change) mapping ≡ memory_after (memory_of ram mapping) d.change
 memory_of-cycle ram mapping regs pc d sound h = memory_of-changed d.change sound (cycle-stores _ pc _ d h)
 
 -- ---- what a caller of a step goes on with
 
 -- an instruction was done
-pub record IsDone (effect : Effect) (mapping : List Mapped) (result : Option Trap) (old new : Hart) (ram ram' : Ram) : Type 0 where
+pub record IsDone (effect : Effect) (mapping : List Mapped) (result : Option Trap) (old new : Hart) (ram ram' : Ram)
+    : Type 0 where
   pub done : Computed
   pub is : effect ≡ Ok done
   pub result_is : result ≡ None
@@ -244,13 +293,17 @@ pub record IsTrapped (effect : Effect) (result : Option Trap) (old new : Hart) (
   pub memory : ram' ≡ ram
 
 -- either of the two
-pub follows-cases : (effect : Effect) (mapping : List Mapped) (result : Option Trap) (old new : Hart) (ram ram' : Ram) → Follows effect mapping result old new ram ram'
+pub follows-cases : (effect : Effect) (mapping : List Mapped) (result : Option Trap) (old new : Hart) (ram ram' : Ram)
+    → Follows effect mapping result old new ram ram'
     → IsDone effect mapping result old new ram ram' ⊎ IsTrapped effect result old new ram ram'
-follows-cases (Ok d) mapping result old new ram ram' h = inl (record { done = d; is = refl; result_is = h.0; registers = h.1; pc = h.2; root = h.3; memory = h.4 })
-follows-cases (Err t) mapping result old new ram ram' h = inr (record { cause = t; is = refl; result_is = h.0; hart = h.1; memory = h.2 })
+follows-cases (Ok d) mapping result old new ram ram' h =
+    inl (record { done = d; is = refl; result_is = h.0; registers = h.1; pc = h.2; root = h.3; memory = h.4 })
+follows-cases (Err t) mapping result old new ram ram' h =
+    inr (record { cause = t; is = refl; result_is = h.0; hart = h.1; memory = h.2 })
 
 -- a step writes one frame of the mapping at most, and only where its page may be written
-pub follows-only : (regs : List ℕ) (pc : ℕ) (mapping : List Mapped) (result : Option Trap) (old new : Hart) (ram ram' : Ram) → IsMemory ram → IsSound ram mapping
+pub follows-only : (regs : List ℕ) (pc : ℕ) (mapping : List Mapped) (result : Option Trap) (old new : Hart)
+    (ram ram' : Ram) → IsMemory ram → IsSound ram mapping
     → Follows (cycle regs pc (memory_of ram mapping)) mapping result old new ram ram' → WritesOnly ram mapping ram'
 follows-only regs pc mapping result old new ram ram' is sound h =
     elim (follows-cases _ _ _ _ _ _ _ h) [
@@ -268,38 +321,46 @@ Alike p q = option_map (λ (a : Page). a.bytes) p ≡ option_map (λ (a : Page).
 pub record Narrows (low high : Memory) : Type 0 where
   pub fetch : (address : ℕ) → Alike (page_for Fetch low address) (page_for Fetch high address)
   pub load : (address : ℕ) → Alike (page_for Load low address) (page_for Load high address)
-  pub store : (address : ℕ) → (page_for Store low address ≡ None) ⊎ Alike (page_for Store low address) (page_for Store high address)
+  pub store : (address : ℕ)
+      → (page_for Store low address ≡ None) ⊎ Alike (page_for Store low address) (page_for Store high address)
 
 -- Something does the same at both, or faults at a store that the first doesn't let through; at each memory between them
 -- that treats this store as the second does it does what it does there.
 abbrev pub Retries : (Memory → Effect) → Memory → Memory → Type 0
-Retries e low high = (e low ≡ e high) ⊎ ((address : ℕ) × (e low ≡ trap StorePageFault address) × (page_for Store low address ≡ None)
-    × ((mid : Memory) → Narrows mid high → Alike (page_for Store mid address) (page_for Store high address) → e mid ≡ e high))
+Retries e low high = (e low ≡ e high)
+    ⊎ ((address : ℕ) × (e low ≡ trap StorePageFault address) × (page_for Store low address ≡ None)
+    × ((mid : Memory) → Narrows mid high → Alike (page_for Store mid address) (page_for Store high address)
+        → e mid ≡ e high))
 
-pub load-same : (regs : List ℕ) (pc : ℕ) (op : LoadOp) (rd address : ℕ) (p q : Option Page) → Alike p q → load_from regs pc op rd address p ≡ load_from regs pc op rd address q
+pub load-same : (regs : List ℕ) (pc : ℕ) (op : LoadOp) (rd address : ℕ) (p q : Option Page) → Alike p q
+    → load_from regs pc op rd address p ≡ load_from regs pc op rd address q
 load-same regs pc op rd address None None h = refl
 load-same regs pc op rd address (Some p) (Some q) h =
     let same : p.bytes ≡ q.bytes = cc in
     ap (λ bytes. load_from regs pc op rd address (Some (record { bytes = bytes; marks = q.marks }))) same
 load-same regs pc op rd address p q h = absurd cc
 
-pub store-same : (regs : List ℕ) (pc address : ℕ) (bytes : List ℕ) (p q : Option Page) → Alike p q → store_to regs pc address bytes p ≡ store_to regs pc address bytes q
+pub store-same : (regs : List ℕ) (pc address : ℕ) (bytes : List ℕ) (p q : Option Page) → Alike p q
+    → store_to regs pc address bytes p ≡ store_to regs pc address bytes q
 store-same regs pc address bytes None None h = refl
 store-same regs pc address bytes (Some p) (Some q) h = refl
 store-same regs pc address bytes p q h = absurd cc
 
-fetched-same : (p q : Option Page) (regs : List ℕ) (pc : ℕ) (mem : Memory) → Alike p q → fetched p regs pc mem ≡ fetched q regs pc mem
+fetched-same : (p q : Option Page) (regs : List ℕ) (pc : ℕ) (mem : Memory) → Alike p q
+    → fetched p regs pc mem ≡ fetched q regs pc mem
 fetched-same None None regs pc mem h = refl
 fetched-same (Some p) (Some q) regs pc mem h =
     let same : p.bytes ≡ q.bytes = cc in
-    ap (λ bytes. act_word (instruction_of (number (bytes_at 4 pc (record { bytes = bytes; marks = q.marks })))) regs pc mem) same
+    ap (λ bytes. act_word (instruction_of (number (bytes_at 4 pc (record { bytes = bytes; marks = q.marks })))) regs pc
+        mem) same
 fetched-same p q regs pc mem h = absurd cc
 
 cond-same : (b : Bool) {d e : Effect} (f : Effect) → d ≡ e → cond b d f ≡ cond b e f
 cond-same true f h = h
 cond-same false f h = refl
 
-cycle-at : (regs : List ℕ) (pc : ℕ) (mem : Memory) (o : Option Page) → Alike (page_for Fetch mem pc) o → cycle regs pc mem ≡ fetched o regs pc mem
+cycle-at : (regs : List ℕ) (pc : ℕ) (mem : Memory) (o : Option Page) → Alike (page_for Fetch mem pc) o
+    → cycle regs pc mem ≡ fetched o regs pc mem
 unfolding cycle
 cycle-at regs pc mem o same = fetched-same (page_for Fetch mem pc) o _ pc _ same
 
@@ -317,18 +378,22 @@ record StoresAt (e : Memory → Effect) (high : Memory) : Type 0 where
 abbrev Sees : (Memory → Effect) → Memory → Type 0
 Sees e high = ((mid : Memory) → Narrows mid high → e mid ≡ e high) ⊎ StoresAt e high
 
-store-sees : (b : Bool) (regs : List ℕ) (pc address : ℕ) (bytes : List ℕ) (f : Effect) {high : Memory} → Sees (λ mem. cond b (store_to regs pc address bytes (page_for Store mem address)) f) high
+store-sees : (b : Bool) (regs : List ℕ) (pc address : ℕ) (bytes : List ℕ) (f : Effect) {high : Memory}
+    → Sees (λ mem. cond b (store_to regs pc address bytes (page_for Store mem address)) f) high
 store-sees false regs pc address bytes f = inl (λ mid h. refl)
-store-sees true regs pc address bytes f = inr (record { regs = regs; pc = pc; address = address; bytes = bytes; is = λ mid h. refl })
+store-sees true regs pc address bytes f =
+    inr (record { regs = regs; pc = pc; address = address; bytes = bytes; is = λ mid h. refl })
 
 act-sees : (i : Instr) (regs : List ℕ) (pc : ℕ) {high : Memory} → Sees (act i regs pc) high
 unfolding act
 act-sees (instr.Load op rd rs1 imm) regs pc {high} =
     let address = plus (slice_index regs rs1) (extend 12 imm) in
-    inl (λ mid h. cond-same (address % load_size op == 0) _ (load-same regs pc op rd address (page_for Load mid address) (page_for Load high address) (h.load address)))
+    inl (λ mid h. cond-same (address % load_size op == 0) _
+        (load-same regs pc op rd address (page_for Load mid address) (page_for Load high address) (h.load address)))
 act-sees (instr.Store op rs1 rs2 imm) regs pc {high} =
     let address = plus (slice_index regs rs1) (extend 12 imm) in
-    store-sees (address % store_size op == 0) regs pc address (le (store_size op) (slice_index regs rs2)) (trap StoreMisaligned address)
+    store-sees (address % store_size op == 0) regs pc address (le (store_size op) (slice_index regs rs2))
+        (trap StoreMisaligned address)
 act-sees _ regs pc = inl (λ mid h. refl)
 
 word-sees : (found : Option Instr) (regs : List ℕ) (pc : ℕ) {high : Memory} → Sees (act_word found regs pc) high
@@ -344,11 +409,13 @@ cycle-sees regs pc {high} =
     let o = page_for Fetch high pc in
     elim (fetched-sees o _ pc) [
       | inl same ↦ inl (λ mid h. cycle-at _ pc _ o (h.fetch pc) ∙ same mid h ∙ sym (cycle-at _ pc _ o refl))
-      | inr s ↦ inr (record { regs = s.regs; pc = s.pc; address = s.address; bytes = s.bytes; is = λ mid h. cycle-at _ pc _ o (h.fetch pc) ∙ s.is mid h })
+      | inr s ↦ inr (record { regs = s.regs; pc = s.pc; address = s.address; bytes = s.bytes;
+          is = λ mid h. cycle-at _ pc _ o (h.fetch pc) ∙ s.is mid h })
     ]
 
 -- it does the same where the page is alike
-store-alike : {e : Memory → Effect} {mid high : Memory} (s : StoresAt e high) → Narrows mid high → Alike (page_for Store mid s.address) (page_for Store high s.address) → e mid ≡ e high
+store-alike : {e : Memory → Effect} {mid high : Memory} (s : StoresAt e high) → Narrows mid high
+    → Alike (page_for Store mid s.address) (page_for Store high s.address) → e mid ≡ e high
 store-alike {mid} {high} s h same =
     s.is mid h ∙ store-same _ _ _ _ (page_for Store mid s.address) (page_for Store high s.address) same
     ∙ sym (s.is high (record { fetch = λ address. refl; load = λ address. refl; store = λ address. inr refl }))
@@ -357,7 +424,8 @@ pub cycle-retries : (regs : List ℕ) (pc : ℕ) (low high : Memory) → Narrows
 cycle-retries regs pc low high h = elim (cycle-sees _ pc) [
   | inl same ↦ inl (same low h)
   | inr s ↦ elim (h.store s.address) [
-    | inl none ↦ inr (s.address, s.is low h ∙ ap (store_to s.regs s.pc s.address s.bytes) none, none, λ mid nm same. store-alike s nm same)
+    | inl none ↦ inr (s.address, s.is low h
+        ∙ ap (store_to s.regs s.pc s.address s.bytes) none, none, λ mid nm same. store-alike s nm same)
     | inr same ↦ inl (store-alike s h same)
   ]
 ]
@@ -369,12 +437,16 @@ fault_at (Ok d) = 0
 fault_at (Err t) = t.address
 
 -- a store faults at its own address
-store-fault : (o : Option Page) (regs : List ℕ) (pc : ℕ) {address a : ℕ} (bytes : List ℕ) → store_to regs pc address bytes o ≡ trap StorePageFault a → address ≡ a
+store-fault : (o : Option Page) (regs : List ℕ) (pc : ℕ) {address a : ℕ} (bytes : List ℕ)
+    → store_to regs pc address bytes o ≡ trap StorePageFault a → address ≡ a
 store-fault None regs pc bytes e = ap fault_at e
 store-fault (Some p) regs pc bytes e = absurd cc
 
--- An instruction that faulted at a store does, at a memory that treats this store as the second does, what it does there.
-pub cycle-again : (regs : List ℕ) (pc a : ℕ) (low mid high : Memory) → Narrows low high → Narrows mid high → Alike (page_for Store mid a) (page_for Store high a) → cycle regs pc low ≡ trap StorePageFault a → cycle regs pc mid ≡ cycle regs pc high
+-- An instruction that faulted at a store does, at a memory that treats this store as the second does, what it does
+-- there.
+pub cycle-again : (regs : List ℕ) (pc a : ℕ) (low mid high : Memory) → Narrows low high → Narrows mid high
+    → Alike (page_for Store mid a) (page_for Store high a) → cycle regs pc low ≡ trap StorePageFault a
+    → cycle regs pc mid ≡ cycle regs pc high
 cycle-again regs pc a low mid high down between lets fault = elim (cycle-sees _ pc) [
   | inl same ↦ same mid between
   | inr s ↦

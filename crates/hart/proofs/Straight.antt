@@ -1,8 +1,13 @@
 -- Operations of a page, one after the other; places in a page, and the words there.
-use Rattle.hart.proofs.Common.{Ram, Access, act_word, Acts, Answers, ap, changed, Computed, cycle, Effect, Err, Fetch, fetched, frame_for, Goes, Hart, Held, HoldsInside, inl, inr, instruction_of, InstructionPageFault, IsAnswer}
-use Rattle.hart.proofs.Common.{IsKept, IsMemory, Leaves, List, Mapped, Memory, memory_of, Next, None, Ok, Option, option_map, page_in, pc_after, place_in, Point, point_at, Reaches, refl, RunsTo, seen, Shows, Sight, Some, Stores, subst, suc}
-use Rattle.hart.proofs.Common.{sym, Trap, trap, trap_of, walk_page-inside, word_by, word_in, ℕ, ◌/◌, ◌∙◌, ◌≡◌, [], arith, Behind, GoesOn, IsOp, number, Op, op_by, pc_at, plus, point_of, slice_index_or, slice_range, StaysWhole, word_of, ◌%◌}
-use Rattle.hart.proofs.Common.{◌*◌, ◌+◌, ◌-◌, ◌<◌, ◌^◌, ◌≤◌, ◌==◌, false, cases_lt, get_or, length, ne_eqb, take, IsBehind, IsClear, IsPast, is_stop}
+use Rattle.hart.proofs.Common.{Ram, Access, act_word, Acts, Answers, ap, changed, Computed, cycle, Effect, Err, Fetch}
+use Rattle.hart.proofs.Common.{fetched, frame_for, Goes, Hart, Held, HoldsInside, inl, inr, instruction_of}
+use Rattle.hart.proofs.Common.{InstructionPageFault, IsAnswer, IsKept, IsMemory, Leaves, List, Mapped, Memory}
+use Rattle.hart.proofs.Common.{memory_of, Next, None, Ok, Option, option_map, page_in, pc_after, place_in, Point}
+use Rattle.hart.proofs.Common.{point_at, Reaches, refl, RunsTo, seen, Shows, Sight, Some, Stores, subst, suc, sym, Trap}
+use Rattle.hart.proofs.Common.{trap, trap_of, walk_page-inside, word_by, word_in, ℕ, ◌/◌, ◌∙◌, ◌≡◌, [], arith, Behind}
+use Rattle.hart.proofs.Common.{GoesOn, IsOp, number, Op, op_by, pc_at, plus, point_of, slice_index_or, slice_range}
+use Rattle.hart.proofs.Common.{StaysWhole, word_of, ◌%◌, ◌*◌, ◌+◌, ◌-◌, ◌<◌, ◌^◌, ◌≤◌, ◌==◌, false, cases_lt, get_or}
+use Rattle.hart.proofs.Common.{length, ne_eqb, take, IsBehind, IsClear, IsPast, is_stop}
 use Rattle.std.proofs.lemmas.List.Folds.{list_any_more}
 use Rattle.sv39.proofs.Placed.{coherent-kept, shows-coherent}
 use Rattle.hart.proofs.ChangeLemmas.{cycle-only, cycle-stores}
@@ -12,7 +17,8 @@ use Rattle.hart.proofs.Bytes.{number_of_word}
 
 -- ---- what holds of a program that has come so far
 
-module _ {held : Held} {root : ℕ} {mapping : List Mapped} {stops : List ℕ} {n : ℕ} {first now : Point} (g : Goes held root mapping stops n first now) where
+module _ {held : Held} {root : ℕ} {mapping : List Mapped} {stops : List ℕ} {n : ℕ} {first now : Point}
+    (g : Goes held root mapping stops n first now) where
   shows-now : Shows held now.ram root mapping
   shows-now = shows-coherent _ _ _ _ (g.steady.walks n now.ram g.reaches) g.coherent
 
@@ -27,12 +33,15 @@ module _ {held : Held} {root : ℕ} {mapping : List Mapped} {stops : List ℕ} {
   }
 
   -- an answer to a fetch is the mapping's
-  frame-found : (o : Option ℕ) → IsAnswer held now.ram root now.pc Fetch (option_map (place_in now.pc) o) → frame_for mapping (now.pc / 4096) Fetch ≡ o
-  frame-found o is = sym (place-frame _ o (frame_for mapping (now.pc / 4096) Fetch) (shows-now now.pc Fetch (option_map (place_in now.pc) o) is))
+  frame-found : (o : Option ℕ) → IsAnswer held now.ram root now.pc Fetch (option_map (place_in now.pc) o)
+      → frame_for mapping (now.pc / 4096) Fetch ≡ o
+  frame-found o is = sym (place-frame _ o (frame_for mapping (now.pc / 4096) Fetch)
+      (shows-now now.pc Fetch (option_map (place_in now.pc) o) is))
 
 -- ---- one instruction
 
-at-entry : (ram : Ram) (mem : Memory) (regs : List ℕ) (pc : ℕ) {f : ℕ} (o : Option Mapped) → option_map (λ (e : Mapped). e.frame) o ≡ Some f
+at-entry : (ram : Ram) (mem : Memory) (regs : List ℕ) (pc : ℕ) {f : ℕ} (o : Option Mapped)
+    → option_map (λ (e : Mapped). e.frame) o ≡ Some f
     → fetched (option_map (page_in ram) o) regs pc mem ≡ act_word (instruction_of (word_in ram f pc)) regs pc mem
 at-entry ram mem regs pc None h = absurd (cc)
 at-entry ram mem regs pc {f} (Some e) h =
@@ -40,33 +49,43 @@ at-entry ram mem regs pc {f} (Some e) h =
     ap (λ k. act_word (instruction_of (word_in ram k pc)) regs pc mem) same
 
 -- what is at the pc is the word in the frame of its page
-cycle-worded : (ram : Ram) (mapping : List Mapped) (regs : List ℕ) (pc f : ℕ) → frame_for mapping (pc / 4096) Fetch ≡ Some f
-    → cycle regs pc (memory_of ram mapping) ≡ act_word (instruction_of (word_in ram f pc)) regs pc (memory_of ram mapping)
+cycle-worded : (ram : Ram) (mapping : List Mapped) (regs : List ℕ) (pc f : ℕ)
+    → frame_for mapping (pc / 4096) Fetch ≡ Some f
+    → cycle regs pc (memory_of ram mapping)
+        ≡ act_word (instruction_of (word_in ram f pc)) regs pc (memory_of ram mapping)
 unfolding cycle
 cycle-worded ram mapping regs pc f at = rw (page_for-memory_of ram mapping Fetch pc) (at-entry _ _ _ pc _ at)
 
 -- where no frame is found there is a page fault
-at-none : (ram : Ram) (mem : Memory) (regs : List ℕ) (pc : ℕ) (o : Option Mapped) → option_map (λ (e : Mapped). e.frame) o ≡ None → fetched (option_map (page_in ram) o) regs pc mem ≡ trap InstructionPageFault pc
+at-none : (ram : Ram) (mem : Memory) (regs : List ℕ) (pc : ℕ) (o : Option Mapped)
+    → option_map (λ (e : Mapped). e.frame) o ≡ None
+    → fetched (option_map (page_in ram) o) regs pc mem ≡ trap InstructionPageFault pc
 at-none ram mem regs pc None h = refl
 at-none ram mem regs pc (Some e) h = absurd (cc)
 
-cycle-unfound : (ram : Ram) (mapping : List Mapped) (regs : List ℕ) (pc : ℕ) → frame_for mapping (pc / 4096) Fetch ≡ None → cycle regs pc (memory_of ram mapping) ≡ trap InstructionPageFault pc
+cycle-unfound : (ram : Ram) (mapping : List Mapped) (regs : List ℕ) (pc : ℕ)
+    → frame_for mapping (pc / 4096) Fetch ≡ None → cycle regs pc (memory_of ram mapping) ≡ trap InstructionPageFault pc
 unfolding cycle
 cycle-unfound ram mapping regs pc at = rw (page_for-memory_of ram mapping Fetch pc) (at-none _ _ _ pc _ at)
 
 abbrev IsPoint : Point → Point → Type 0
 IsPoint new point = new ≡ point
 
-leaves-done : (effect : Effect) (mapping : List Mapped) {answers : Answers} (next : Next) (pc : ℕ) (old new : Hart) {ram ram' : Ram}
-    → ((access : Access) (address : ℕ) → answers access address ≡ frame_for mapping (address / 4096) access) → ((d : Computed) → effect ≡ Ok d → Stores (memory_of ram mapping) d.change)
+leaves-done : (effect : Effect) (mapping : List Mapped) {answers : Answers} (next : Next) (pc : ℕ) (old new : Hart)
+    {ram ram' : Ram}
+    → ((access : Access) (address : ℕ) → answers access address ≡ frame_for mapping (address / 4096) access)
+        → ((d : Computed) → effect ≡ Ok d → Stores (memory_of ram mapping) d.change)
     → trap_of next ≡ None → Leaves effect answers next pc old new ram ram'
-    → (d : Computed) × (effect ≡ Ok d) × IsPoint (record { registers = new.registers; pc = pc_after next pc; ram = ram' }) (record { registers = d.regs; pc = d.pc; ram = changed ram mapping d.change })
+    → (d : Computed) × (effect ≡ Ok d)
+        × IsPoint (record { registers = new.registers; pc = pc_after next pc; ram = ram' })
+        (record { registers = d.regs; pc = d.pc; ram = changed ram mapping d.change })
 leaves-done (Ok d) mapping {answers} next pc old new {ram} {ram'} shown stores none h =
     let memory : ram' ≡ changed ram mapping d.change = h.4 ∙ stored-changed _ _ d.change shown (stores d refl) in
     (d, refl, rw (h.1, h.2, memory) refl)
 leaves-done (Err t) mapping next pc old new shown stores none h = absurd (cc (none, h.0))
 
-leaves-not : (effect : Effect) (answers : Answers) (next : Next) (pc : ℕ) (old new : Hart) {ram ram' : Ram} {t : Trap} → trap_of next ≡ Some t → Leaves effect answers next pc old new ram ram'
+leaves-not : (effect : Effect) (answers : Answers) (next : Next) (pc : ℕ) (old new : Hart) {ram ram' : Ram} {t : Trap}
+    → trap_of next ≡ Some t → Leaves effect answers next pc old new ram ram'
     → (effect ≡ Err t) × (new.registers ≡ old.registers) × (ram' ≡ ram)
 leaves-not (Ok d) answers next pc old new some h = absurd (cc (some, h.0))
 leaves-not (Err s) answers next pc old new {t} some h =
@@ -74,40 +93,53 @@ leaves-not (Err s) answers next pc old new {t} some h =
     (ap Err same, ap (λ (hart : Hart). hart.registers) h.1, h.2)
 
 -- the word at a pc is done by what a translator answers
-module _ {held held' : Held} {mapping : List Mapped} {stops : List ℕ} {n : ℕ} {first : Point} {next : Next} {pc f : ℕ} {old new : Hart} {ram ram' : Ram} (g : Goes held old.root.0 mapping stops n first (point_at old pc ram))
-    (at : frame_for mapping (pc / 4096) Fetch ≡ Some f) (acts : Acts held held' (word_by (instruction_of (word_in ram f pc)) old.registers pc) next pc old new ram ram') where
+module _ {held held' : Held} {mapping : List Mapped} {stops : List ℕ} {n : ℕ} {first : Point} {next : Next} {pc f : ℕ}
+    {old new : Hart} {ram ram' : Ram} (g : Goes held old.root.0 mapping stops n first (point_at old pc ram))
+    (at : frame_for mapping (pc / 4096) Fetch ≡ Some f)
+        (acts : Acts held held' (word_by (instruction_of (word_in ram f pc)) old.registers pc) next pc old new ram
+        ram') where
   -- the instruction does what the word means
   cycle-leaves : Leaves (cycle old.registers pc (memory_of ram mapping)) acts.answers next pc old new ram ram'
   cycle-leaves =
-      let means = word_by-alike (instruction_of (word_in ram f pc)) old.registers pc (seen ram acts.answers) (memory_of ram mapping) (seen-alike held ram mapping acts.answers (shows-now g) acts.allowed) in
-      subst (λ (e : Effect). Leaves e acts.answers next pc old new ram ram') (means ∙ sym (cycle-worded _ _ _ pc f at)) acts.does
+      let means = word_by-alike (instruction_of (word_in ram f pc)) old.registers pc (seen ram acts.answers)
+              (memory_of ram mapping) (seen-alike held ram mapping acts.answers (shows-now g) acts.allowed) in
+      subst (λ (e : Effect). Leaves e acts.answers next pc old new ram ram') (means ∙ sym (cycle-worded _ _ _ pc f at))
+          acts.does
 
   -- one more is done
-  goes-on : IsMemory ram → trap_of next ≡ None → IsPast stops n pc → Goes held' old.root.0 mapping stops (suc n) first (point_at new (pc_after next pc) ram')
+  goes-on : IsMemory ram → trap_of next ≡ None → IsPast stops n pc
+      → Goes held' old.root.0 mapping stops (suc n) first (point_at new (pc_after next pc) ram')
   unfolding RunsTo Reaches
   goes-on is none past =
       let mem : Memory = memory_of ram mapping in
       let shown = shown-answer held ram mapping acts.answers (shows-now g) acts.allowed in
-      let did = leaves-done (cycle old.registers pc mem) mapping next pc old new shown (cycle-stores _ pc _) none cycle-leaves in
+      let did = leaves-done (cycle old.registers pc mem) mapping next pc old new shown (cycle-stores _ pc _) none
+              cycle-leaves in
       let memory : ram' ≡ changed ram mapping did.0.change = ap (λ (p : Point). p.ram) did.2 in
       let sound = g.steady.sound in
-      let only = cycle-only _ pc is (record { inside = λ k e found. rw g.count (sound.inside k e found); alone = sound.alone }) did.1 in
+      let only = cycle-only _ pc is
+              (record { inside = λ k e found. rw g.count (sound.inside k e found); alone = sound.alone }) did.1 in
       record {
         steady = g.steady;
         coherent = (goes-kept g held' acts.kept).coherent;
-        runs = (point_at old pc ram, g.runs, record { done = did.0; means = did.1; leaves = did.2; writes = rw memory only }, past);
+        runs = (point_at old pc ram, g.runs,
+            record { done = did.0; means = did.1; leaves = did.2; writes = rw memory only }, past);
         reaches = (ram, g.reaches, rw memory only);
         count = acts.count ∙ g.count;
       }
 
   -- none is, for a trap
-  goes-not : (t : Trap) → trap_of next ≡ Some t → Goes held' old.root.0 mapping stops n first (point_at new pc ram') × (cycle new.registers pc (memory_of ram' mapping) ≡ Err t)
+  goes-not : (t : Trap) → trap_of next ≡ Some t
+      → Goes held' old.root.0 mapping stops n first (point_at new pc ram')
+      × (cycle new.registers pc (memory_of ram' mapping) ≡ Err t)
   goes-not t some =
-      let not = leaves-not (cycle old.registers pc (memory_of ram mapping)) acts.answers next pc old new some cycle-leaves in
+      let not = leaves-not (cycle old.registers pc (memory_of ram mapping)) acts.answers next pc old new some
+              cycle-leaves in
       rw (not.1, not.2) (goes-kept g held' acts.kept, not.0)
 
 -- what is held stays inside
-acts-inside : {held held' : Held} {meaning : Sight → Effect} {next : Next} {pc : ℕ} {old new : Hart} {ram ram' : Ram} → Acts held held' meaning next pc old new ram ram' → HoldsInside held ram → HoldsInside held' ram'
+acts-inside : {held held' : Held} {meaning : Sight → Effect} {next : Next} {pc : ℕ} {old new : Hart} {ram ram' : Ram}
+    → Acts held held' meaning next pc old new ram ram' → HoldsInside held ram → HoldsInside held' ram'
 acts-inside {ram} acts inside t holds = elim (acts.kept t holds) [
   | inl was ↦ rw acts.count (inside t was)
   | inr now ↦ rw acts.count (walk_page-inside ram t.root t.page t.access t.frame now.1)
@@ -125,7 +157,8 @@ pc-place : {base : ℕ} (k : ℕ) → base % 4096 ≡ 0 → base < 2 ^ 64 → k 
 pc-place {base} k even small within = rw (pc-whole even small within) (omega (arith, even, within))
 
 -- an address that is that of a place tells the page and the place
-pub place-of : {base address : ℕ} (j : ℕ) → base % 4096 ≡ 0 → base < 2 ^ 64 → j < 1024 → address ≡ pc_at base j → (address / 4096 * 4096 ≡ base) × (address % 4096 / 4 ≡ j)
+pub place-of : {base address : ℕ} (j : ℕ) → base % 4096 ≡ 0 → base < 2 ^ 64 → j < 1024 → address ≡ pc_at base j
+    → (address / 4096 * 4096 ≡ base) × (address % 4096 / 4 ≡ j)
 place-of j even small within e =
     let page = ap (λ x. x / 4096) e ∙ pc-page j even small within in
     let place = ap (λ x. x % 4096) e ∙ pc-place j even small within in
@@ -140,66 +173,89 @@ pc-of small even page place = omega (arith, small, even, page, place)
 
 -- ---- words
 
-pub word-at : (ram : Ram) (f : ℕ) {base : ℕ} (k : ℕ) → base % 4096 ≡ 0 → base < 2 ^ 64 → k < 1024 → word_of ram f (4 * k) 4 ≡ word_in ram f (pc_at base k)
+pub word-at : (ram : Ram) (f : ℕ) {base : ℕ} (k : ℕ) → base % 4096 ≡ 0 → base < 2 ^ 64 → k < 1024
+    → word_of ram f (4 * k) 4 ≡ word_in ram f (pc_at base k)
 word-at ram f {base} k even small within =
-    number_of_word _ f _ 4 ∙ ap (λ p. number (slice_range (slice_index_or ram f []) p (p + 4))) (sym (pc-place k even small within))
+    number_of_word _ f _ 4 ∙ ap (λ p. number (slice_range (slice_index_or ram f []) p (p + 4)))
+        (sym (pc-place k even small within))
 
 -- an operation does what its word means
-pub acts-worded : {held held' : Held} (o : Op) {word : ℕ} (f : ℕ) {next : Next} {pc : ℕ} {old new : Hart} {ram ram' : Ram} → IsOp o word → word ≡ word_in ram f pc
-    → Acts held held' (op_by o old.registers pc) next pc old new ram ram' → Acts held held' (word_by (instruction_of (word_in ram f pc)) old.registers pc) next pc old new ram ram'
+pub acts-worded : {held held' : Held} (o : Op) {word : ℕ} (f : ℕ) {next : Next} {pc : ℕ} {old new : Hart}
+    {ram ram' : Ram} → IsOp o word → word ≡ word_in ram f pc
+    → Acts held held' (op_by o old.registers pc) next pc old new ram ram'
+        → Acts held held' (word_by (instruction_of (word_in ram f pc)) old.registers pc) next pc old new ram ram'
 acts-worded o f {next} {pc} {old} {new} {ram} {ram'} is same acts =
     let P : Effect → Type 0 = λ e. Leaves e acts.answers next pc old new ram ram' in
-    let means = is old.registers pc (seen ram acts.answers) ∙ ap (λ w. word_by (instruction_of w) old.registers pc (seen ram acts.answers)) same in
-    record { answers = acts.answers; allowed = acts.allowed; does = subst P means acts.does; kept = acts.kept; count = acts.count }
+    let means = is old.registers pc (seen ram acts.answers)
+            ∙ ap (λ w. word_by (instruction_of w) old.registers pc (seen ram acts.answers)) same in
+    record { answers = acts.answers; allowed = acts.allowed; does = subst P means acts.does; kept = acts.kept;
+        count = acts.count }
 
 -- ---- stops
 
 -- fewer places are clear, too
-pub less-clear : (stops : List ℕ) (base : ℕ) {from to end : ℕ} → to ≤ end → IsClear stops base from end → IsClear stops base from to
+pub less-clear : (stops : List ℕ) (base : ℕ) {from to end : ℕ} → to ≤ end → IsClear stops base from end
+    → IsClear stops base from to
 less-clear stops base within clear j more less = clear j more (omega (arith, within, less))
 
 -- one more address, which is that of no place up to there
-pub clear-more : (stops : List ℕ) (i base k end to : ℕ) → i < length stops → IsClear (take i stops) base k end → to ≤ end → ((j : ℕ) → k < j → j < to → get_or stops i 0 ≡ pc_at base j → ⊥) → IsClear (take (i + 1) stops) base k to
+pub clear-more : (stops : List ℕ) (i base k end to : ℕ) → i < length stops → IsClear (take i stops) base k end
+    → to ≤ end → ((j : ℕ) → k < j → j < to → get_or stops i 0 ≡ pc_at base j → ⊥)
+    → IsClear (take (i + 1) stops) base k to
 clear-more stops i base k end to within clear before other j more less =
     let first = clear j more (omega (arith, less, before)) in
-    let last : (get_or stops i 0 == pc_at base j) ≡ false = ne_eqb (get_or stops i 0) (pc_at base j) (other j more less) in
+    let last : (get_or stops i 0 == pc_at base j) ≡ false =
+            ne_eqb (get_or stops i 0) (pc_at base j) (other j more less) in
     list_any_more (λ s. s == pc_at base j) stops i 0 within ∙ rw (first, last) refl
 
 -- after the first place none is at a stop
-clear-past : (stops : List ℕ) (base : ℕ) {from k : ℕ} (n : ℕ) → from ≤ k → IsClear stops base from (k + 1) → IsPast stops n (pc_at base from) → IsPast stops (n + (k - from)) (pc_at base k)
+clear-past : (stops : List ℕ) (base : ℕ) {from k : ℕ} (n : ℕ) → from ≤ k → IsClear stops base from (k + 1)
+    → IsPast stops n (pc_at base from) → IsPast stops (n + (k - from)) (pc_at base k)
 clear-past stops base {from} {k} n since clear past more = elim (cases_lt from k) [
   | inl behind ↦ clear k behind (omega arith)
-  | inr first ↦ let same : from ≡ k = omega (arith, since, first) in subst (λ j. is_stop stops (pc_at base j) ≡ false) same (past (omega (arith, more, same)))
+  | inr first ↦ let same : from ≡ k =
+      omega (arith, since, first)
+      in subst (λ j. is_stop stops (pc_at base j) ≡ false) same (past (omega (arith, more, same)))
 ]
 
-pub behind-past : (stops : List ℕ) {done old new : ℕ} → IsBehind stops done old new → (n : ℕ) → IsPast stops n old → IsPast stops (n + done) new
+pub behind-past : (stops : List ℕ) {done old new : ℕ} → IsBehind stops done old new → (n : ℕ) → IsPast stops n old
+    → IsPast stops (n + done) new
 behind-past stops (inl go) n past more = go.1
-behind-past stops (inr none) n past more = let e = none.0 in subst (λ pc. is_stop stops pc ≡ false) (sym none.1) (past (omega (arith, more, e)))
+behind-past stops (inr none) n past more = let e =
+    none.0 in subst (λ pc. is_stop stops pc ≡ false) (sym none.1) (past (omega (arith, more, e)))
 
-pub behind-then : (stops : List ℕ) {x y old mid new : ℕ} → IsBehind stops x old mid → IsBehind stops y mid new → IsBehind stops (x + y) old new
+pub behind-then : (stops : List ℕ) {x y old mid new : ℕ} → IsBehind stops x old mid → IsBehind stops y mid new
+    → IsBehind stops (x + y) old new
 behind-then stops a (inl go) = inl (let some = go.0 in omega (arith, some), go.1)
 behind-then stops (inl go) (inr none) = inl (let some = go.0 in omega (arith, some), rw none.1 go.1)
-behind-then stops (inr first) (inr none) = inr (let a = first.0 in let b = none.0 in omega (arith, a, b), none.1 ∙ first.1)
+behind-then stops (inr first) (inr none) =
+    inr (let a = first.0 in let b = none.0 in omega (arith, a, b), none.1 ∙ first.1)
 
 -- ---- the operations of a page, in their order
 
 -- those from a place up to another are done
 pub record GoesStraight (held held' : Held) (old new : Hart) (ram ram' : Ram) (base from k f : ℕ) : Type 0 where
   pub whole : StaysWhole held' old new ram ram'
-  pub goes : (mapping : List Mapped) (stops : List ℕ) → frame_for mapping (base / 4096) Fetch ≡ Some f → IsClear stops base from k
-      → GoesOn held held' old.root.0 mapping stops (point_at old (pc_at base from) ram) (point_at new (pc_at base k) ram') (k - from) None
+  pub goes : (mapping : List Mapped) (stops : List ℕ) → frame_for mapping (base / 4096) Fetch ≡ Some f
+      → IsClear stops base from k
+      → GoesOn held held' old.root.0 mapping stops (point_at old (pc_at base from) ram)
+          (point_at new (pc_at base k) ram') (k - from) None
 
-pub straight-begins : {held : Held} {hart : Hart} {ram : Ram} {base from f : ℕ} → HoldsInside held ram → GoesStraight held held hart hart ram ram base from from f
+pub straight-begins : {held : Held} {hart : Hart} {ram : Ram} {base from f : ℕ} → HoldsInside held ram
+    → GoesStraight held held hart hart ram ram base from from f
 straight-begins {from} inside = record {
   whole = record { inside = inside; count = refl; root = refl };
   goes = λ mapping stops at clear n first past g. (let none : n + (from - from) ≡ n = omega arith in rw none g, tt);
 }
 
-acts-root : (effect : Effect) (answers : Answers) (next : Next) (pc : ℕ) (old new : Hart) (ram ram' : Ram) → Leaves effect answers next pc old new ram ram' → new.root ≡ old.root
+acts-root : (effect : Effect) (answers : Answers) (next : Next) (pc : ℕ) (old new : Hart) (ram ram' : Ram)
+    → Leaves effect answers next pc old new ram ram' → new.root ≡ old.root
 acts-root (Ok d) answers next pc old new ram ram' h = h.3
 acts-root (Err t) answers next pc old new ram ram' h = ap (λ (hart : Hart). hart.root) h.1
 
-pub whole-after : {held' held'' : Held} {meaning : Sight → Effect} {next : Next} {pc : ℕ} {first old new : Hart} {ram ram' ram'' : Ram} → StaysWhole held' first old ram ram' → Acts held' held'' meaning next pc old new ram' ram'' → StaysWhole held'' first new ram ram''
+pub whole-after : {held' held'' : Held} {meaning : Sight → Effect} {next : Next} {pc : ℕ} {first old new : Hart}
+    {ram ram' ram'' : Ram} → StaysWhole held' first old ram ram' → Acts held' held'' meaning next pc old new ram' ram''
+    → StaysWhole held'' first new ram ram''
 whole-after {held'} {held''} {meaning} {next} {pc} {old} {new} {ram'} {ram''} whole acts = record {
   inside = acts-inside acts whole.inside;
   count = acts.count ∙ whole.count;
@@ -207,8 +263,12 @@ whole-after {held'} {held''} {meaning} {next} {pc} {old} {new} {ram'} {ram''} wh
 }
 
 -- the operation at the next place comes to this
-module _ {held held' held'' : Held} {next : Next} {first old new : Hart} {ram ram' ram'' : Ram} {base from k f : ℕ} (even : base % 4096 ≡ 0) (small : base < 2 ^ 64) (within : k < 1024)
-    (straight : GoesStraight held held' first old ram ram' base from k f) (acts : Acts held' held'' (word_by (instruction_of (word_in ram' f (pc_at base k))) old.registers (pc_at base k)) next (pc_at base k) old new ram' ram'')
+module _ {held held' held'' : Held} {next : Next} {first old new : Hart} {ram ram' ram'' : Ram} {base from k f : ℕ}
+    (even : base % 4096 ≡ 0) (small : base < 2 ^ 64) (within : k < 1024)
+    (straight : GoesStraight held held' first old ram ram' base from k f)
+        (acts : Acts held' held''
+        (word_by (instruction_of (word_in ram' f (pc_at base k))) old.registers (pc_at base k)) next (pc_at base k) old
+        new ram' ram'')
     (mapping : List Mapped) (stops : List ℕ) (at : frame_for mapping (base / 4096) Fetch ≡ Some f) where
   root-first : old.root.0 ≡ first.root.0
   root-first = ap (λ (r : FrameNo). r.0) straight.whole.root
@@ -218,18 +278,29 @@ module _ {held held' held'' : Held} {next : Next} {first old new : Hart} {ram ra
 
   -- one more is done, and the program is elsewhere or goes on
   pub straight-on : IsMemory ram' → trap_of next ≡ None → from ≤ k → IsClear stops base from (k + 1)
-      → GoesOn held held'' first.root.0 mapping stops (point_at first (pc_at base from) ram) (point_at new (pc_after next (pc_at base k)) ram'') (k - from + 1) None
+      → GoesOn held held'' first.root.0 mapping stops (point_at first (pc_at base from) ram)
+          (point_at new (pc_after next (pc_at base k)) ram'') (k - from + 1) None
   straight-on is none since clear n start past g =
       let count : n + (k - from + 1) ≡ suc (n + (k - from)) = omega arith in
-      rw (← root-first, count) (goes-on (rw (← root-first) at (straight.goes mapping stops at (less-clear stops base (omega arith) clear) n start past g).0) place-found acts is none (clear-past stops base n since clear past), tt)
+      rw (← root-first, count)
+          (goes-on (rw (← root-first)
+          at (straight.goes mapping stops at (less-clear stops base (omega arith) clear) n start past g).0) place-found
+          acts is none (clear-past stops base n since clear past), tt)
 
   -- none is
-  pub straight-stops : {t : Trap} → trap_of next ≡ Some t → IsClear stops base from k → GoesOn held held'' first.root.0 mapping stops (point_at first (pc_at base from) ram) (point_at new (pc_at base k) ram'') (k - from) (Some t)
-  straight-stops {t} some clear n start past g = rw (← root-first) (goes-not (rw (← root-first) at (straight.goes mapping stops at clear n start past g).0) place-found acts t some)
+  pub straight-stops : {t : Trap} → trap_of next ≡ Some t → IsClear stops base from k
+      → GoesOn held held'' first.root.0 mapping stops (point_at first (pc_at base from) ram)
+      (point_at new (pc_at base k) ram'') (k - from) (Some t)
+  straight-stops {t} some clear n start past g =
+      rw (← root-first) (goes-not (rw (← root-first) at (straight.goes mapping stops at clear n start past g).0)
+      place-found acts t some)
 
 -- the next place
-pub straight-more : {held held' held'' : Held} {first old new : Hart} {ram ram' ram'' : Ram} {base from k f : ℕ} → IsMemory ram' → base % 4096 ≡ 0 → base < 2 ^ 64 → k < 1024 → from ≤ k
-    → GoesStraight held held' first old ram ram' base from k f → Acts held' held'' (word_by (instruction_of (word_in ram' f (pc_at base k))) old.registers (pc_at base k)) Behind (pc_at base k) old new ram' ram''
+pub straight-more : {held held' held'' : Held} {first old new : Hart} {ram ram' ram'' : Ram} {base from k f : ℕ}
+    → IsMemory ram' → base % 4096 ≡ 0 → base < 2 ^ 64 → k < 1024 → from ≤ k
+    → GoesStraight held held' first old ram ram' base from k f
+        → Acts held' held'' (word_by (instruction_of (word_in ram' f (pc_at base k))) old.registers (pc_at base k))
+        Behind (pc_at base k) old new ram' ram''
     → GoesStraight held held'' first new ram ram'' base from (k + 1) f
 straight-more {base} {from} {k} is even small within since straight acts = record {
   whole = whole-after straight.whole acts;
@@ -240,33 +311,45 @@ straight-more {base} {from} {k} is even small within since straight acts = recor
 
 -- ---- one run behind another
 
-goes-then : {a b d : Held} {root : ℕ} {mapping : List Mapped} {stops : List ℕ} {old mid new : Point} (x y : ℕ) (stopped : Option Trap) → IsBehind stops x old.pc mid.pc
-    → GoesOn a b root mapping stops old mid x None → GoesOn b d root mapping stops mid new y stopped → GoesOn a d root mapping stops old new (x + y) stopped
+goes-then : {a b d : Held} {root : ℕ} {mapping : List Mapped} {stops : List ℕ} {old mid new : Point} (x y : ℕ)
+    (stopped : Option Trap) → IsBehind stops x old.pc mid.pc
+    → GoesOn a b root mapping stops old mid x None → GoesOn b d root mapping stops mid new y stopped
+        → GoesOn a d root mapping stops old new (x + y) stopped
 goes-then {stops = stops} x y stopped behind f h n first past g =
     let both = h (n + x) first (behind-past stops behind n past) (f n first past g).0 in
     let sum : n + x + y ≡ n + (x + y) = omega arith in
     (rw (← sum) both.0, both.1)
 
 -- nothing is done yet
-pub goes-none : {held : Held} {root : ℕ} {mapping : List Mapped} {stops : List ℕ} {point : Point} {x : ℕ} → x ≡ 0 → GoesOn held held root mapping stops point point x None
+pub goes-none : {held : Held} {root : ℕ} {mapping : List Mapped} {stops : List ℕ} {point : Point} {x : ℕ} → x ≡ 0
+    → GoesOn held held root mapping stops point point x None
 goes-none {x} none n first past g = (let same : n + x ≡ n = omega (arith, none) in rw same g, tt)
 
 -- of so many some are left
-pub record GoesLeft (held held' : Held) (stops : List ℕ) (old new : Hart) (pc : ℕ) (ram ram' : Ram) (count left : ℕ) (f : ℕ) : Type 0 where
+pub record GoesLeft (held held' : Held) (stops : List ℕ) (old new : Hart) (pc : ℕ) (ram ram' : Ram) (count left : ℕ)
+    (f : ℕ) : Type 0 where
   pub whole : StaysWhole held' old new ram ram'
   pub bounded : left ≤ count
   pub behind : IsBehind stops (count - left) old.pc pc
-  pub goes : (mapping : List Mapped) → frame_for mapping (old.pc / 4096) Fetch ≡ Some f → GoesOn held held' old.root.0 mapping stops (point_of old ram) (point_at new pc ram') (count - left) None
+  pub goes : (mapping : List Mapped) → frame_for mapping (old.pc / 4096) Fetch ≡ Some f
+      → GoesOn held held' old.root.0 mapping stops (point_of old ram) (point_at new pc ram') (count - left) None
 
-pub whole-then : {b d : Held} {first mid new : Hart} {ram ram' ram'' : Ram} → StaysWhole b first mid ram ram' → StaysWhole d mid new ram' ram'' → StaysWhole d first new ram ram''
+pub whole-then : {b d : Held} {first mid new : Hart} {ram ram' ram'' : Ram} → StaysWhole b first mid ram ram'
+    → StaysWhole d mid new ram' ram'' → StaysWhole d first new ram ram''
 whole-then one two = record { inside = two.inside; count = two.count ∙ one.count; root = two.root ∙ one.root }
 
 -- operations of a page behind those before
-pub page-then : {a b d : Held} {stops : List ℕ} {first mid : Hart} (new : Hart) {pc : ℕ} {base : ℕ} (k to : ℕ) {ram ram' : Ram} (ram'' : Ram) {count left f : ℕ} {done : ℕ} (stopped : Option Trap) → GoesLeft a b stops first mid pc ram ram' count left f
+pub page-then : {a b d : Held} {stops : List ℕ} {first mid : Hart} (new : Hart) {pc : ℕ} {base : ℕ} (k to : ℕ)
+    {ram ram' : Ram} (ram'' : Ram) {count left f : ℕ} {done : ℕ} (stopped : Option Trap)
+    → GoesLeft a b stops first mid pc ram ram' count left f
     → base ≡ first.pc / 4096 * 4096 → pc_at base k ≡ pc → done ≤ left
-    → ((mapping : List Mapped) → frame_for mapping (base / 4096) Fetch ≡ Some f → GoesOn b d mid.root.0 mapping stops (point_at mid (pc_at base k) ram') (point_at new to ram'') done stopped)
-    → (mapping : List Mapped) → frame_for mapping (first.pc / 4096) Fetch ≡ Some f → GoesOn a d first.root.0 mapping stops (point_of first ram) (point_at new to ram'') (count - (left - done)) stopped
-page-then {a} {b} {d} {first} {mid} new {pc} {base} k to {ram} {ram'} ram'' {count} {left} {done} stopped before is start within straight mapping at =
+    → ((mapping : List Mapped) → frame_for mapping (base / 4096) Fetch ≡ Some f
+        → GoesOn b d mid.root.0 mapping stops (point_at mid (pc_at base k) ram') (point_at new to ram'') done stopped)
+    → (mapping : List Mapped) → frame_for mapping (first.pc / 4096) Fetch ≡ Some f
+        → GoesOn a d first.root.0 mapping stops (point_of first ram) (point_at new to ram'') (count - (left - done))
+        stopped
+page-then {a} {b} {d} {first} {mid} new {pc} {base} k to {ram} {ram'} ram'' {count} {left} {done} stopped before is
+    start within straight mapping at =
     let root : mid.root.0 ≡ first.root.0 = ap (λ (r : FrameNo). r.0) before.whole.root in
     let page : base / 4096 ≡ first.pc / 4096 = omega (arith, is) in
     let step = rw (root, start) at (straight mapping (rw page at)) in
@@ -274,10 +357,14 @@ page-then {a} {b} {d} {first} {mid} new {pc} {base} k to {ram} {ram'} ram'' {cou
     rw sum (goes-then _ _ _ before.behind (before.goes mapping at) step)
 
 -- one that isn't done, after those before, is at no stop
-pub stop-behind : {held held' : Held} {stops : List ℕ} {old new : Hart} {pc : ℕ} {ram ram' : Ram} {count left f : ℕ} (base k end done : ℕ) → GoesLeft held held' stops old new pc ram ram' count left f
-    → pc_at base k ≡ pc → done < end - k → done ≤ left → IsClear stops base k end → IsBehind stops (count - (left - done)) old.pc (pc_at base (k + done))
+pub stop-behind : {held held' : Held} {stops : List ℕ} {old new : Hart} {pc : ℕ} {ram ram' : Ram} {count left f : ℕ}
+    (base k end done : ℕ) → GoesLeft held held' stops old new pc ram ram' count left f
+    → pc_at base k ≡ pc → done < end - k → done ≤ left → IsClear stops base k end
+        → IsBehind stops (count - (left - done)) old.pc (pc_at base (k + done))
 stop-behind {stops} {old} {pc} {count} {left} base k end done before start fewer within clear = elim (cases_lt 0 done) [
-  | inl some ↦ let bounded = before.bounded in inl (omega (arith, some, within, bounded), clear (k + done) (omega (arith, some)) (omega (arith, fewer)))
+  | inl some ↦ let bounded =
+      before.bounded in inl (omega (arith, some, within, bounded),
+      clear (k + done) (omega (arith, some)) (omega (arith, fewer)))
   | inr least ↦
       let none : done ≡ 0 = omega (arith, least) in
       let same : k ≡ k + done = omega (arith, none) in
@@ -287,20 +374,34 @@ stop-behind {stops} {old} {pc} {count} {left} base k end done before start fewer
 ]
 
 -- a program has come to a page, where a look-up was answered
-module _ (a : Held) {b : Held} (d : Held) {stops : List ℕ} {first mid : Hart} {ram ram' : Ram} (done : ℕ) (mapping : List Mapped) (whole : StaysWhole b first mid ram ram')
-    (before : GoesOn a b first.root.0 mapping stops (point_of first ram) (point_of mid ram') done None) (kept : IsKept b d ram' mid.root.0) {o : Option ℕ} (found : IsAnswer b ram' mid.root.0 mid.pc Fetch (option_map (place_in mid.pc) o)) where
-  come : {n : ℕ} {start : Point} → IsPast stops n first.pc → Goes a first.root.0 mapping stops n start (point_of first ram) → Goes d mid.root.0 mapping stops (n + done) start (point_of mid ram') × (frame_for mapping (mid.pc / 4096) Fetch ≡ o)
-  come {n} {start} past g = let now : Goes b mid.root.0 mapping stops (n + done) start (point_of mid ram') = rw (ap (λ (r : FrameNo). r.0) whole.root) (before n start past g).0 in (goes-kept now d kept, frame-found now o found)
+module _ (a : Held) {b : Held} (d : Held) {stops : List ℕ} {first mid : Hart} {ram ram' : Ram} (done : ℕ)
+    (mapping : List Mapped) (whole : StaysWhole b first mid ram ram')
+    (before : GoesOn a b first.root.0 mapping stops (point_of first ram) (point_of mid ram') done None)
+        (kept : IsKept b d ram' mid.root.0) {o : Option ℕ}
+        (found : IsAnswer b ram' mid.root.0 mid.pc Fetch (option_map (place_in mid.pc) o)) where
+  come : {n : ℕ} {start : Point} → IsPast stops n first.pc
+      → Goes a first.root.0 mapping stops n start (point_of first ram)
+      → Goes d mid.root.0 mapping stops (n + done) start (point_of mid ram')
+      × (frame_for mapping (mid.pc / 4096) Fetch ≡ o)
+  come {n} {start} past g = let now : Goes b mid.root.0 mapping stops (n + done) start (point_of mid ram') =
+      rw (ap (λ (r : FrameNo). r.0) whole.root) (before n start past g).0
+      in (goes-kept now d kept, frame-found now o found)
 
   -- where no page is found there is a page fault
-  pub run-faults : o ≡ None → GoesOn a d first.root.0 mapping stops (point_of first ram) (point_of mid ram') done (Some (record { cause = InstructionPageFault; address = mid.pc }))
-  run-faults none n start past g = let now = come past g in rw (← ap (λ (r : FrameNo). r.0) whole.root) (now.0, cycle-unfound _ _ _ _ (now.1 ∙ none))
+  pub run-faults : o ≡ None
+      → GoesOn a d first.root.0 mapping stops (point_of first ram) (point_of mid ram') done
+      (Some (record { cause = InstructionPageFault; address = mid.pc }))
+  run-faults none n start past g = let now =
+      come past g in rw (← ap (λ (r : FrameNo). r.0) whole.root) (now.0, cycle-unfound _ _ _ _ (now.1 ∙ none))
 
   -- a page behind those before
-  pub run-then : {e : Held} (new : Hart) (ram'' : Ram) (count left rest f : ℕ) (stopped : Option Trap) → IsBehind stops done first.pc mid.pc → o ≡ Some f → left ≤ count → rest ≤ left → done ≡ count - left
-      → ((mapping : List Mapped) → frame_for mapping (mid.pc / 4096) Fetch ≡ Some f → GoesOn d e mid.root.0 mapping stops (point_of mid ram') (point_of new ram'') (left - rest) stopped)
+  pub run-then : {e : Held} (new : Hart) (ram'' : Ram) (count left rest f : ℕ) (stopped : Option Trap)
+      → IsBehind stops done first.pc mid.pc → o ≡ Some f → left ≤ count → rest ≤ left → done ≡ count - left
+      → ((mapping : List Mapped) → frame_for mapping (mid.pc / 4096) Fetch ≡ Some f
+          → GoesOn d e mid.root.0 mapping stops (point_of mid ram') (point_of new ram'') (left - rest) stopped)
       → GoesOn a e first.root.0 mapping stops (point_of first ram) (point_of new ram'') (count - rest) stopped
   run-then new ram'' count left rest f stopped behind some bounded fewer is page n start past g =
       let now = come past g in
       let sum : n + (count - rest) ≡ n + done + (left - rest) = omega (arith, bounded, fewer, is) in
-      rw (← ap (λ (r : FrameNo). r.0) whole.root, sum) (page mapping (now.1 ∙ some) (n + done) start (behind-past stops behind n past) now.0)
+      rw (← ap (λ (r : FrameNo). r.0) whole.root, sum)
+          (page mapping (now.1 ∙ some) (n + done) start (behind-past stops behind n past) now.0)

@@ -25,18 +25,21 @@ pc_after (Stop t) pc = pc
 -- The registers and the pc are the effect's, and it writes no memory. A trap leaves the hart as it was.
 abbrev pub Turns : Effect → Next → ℕ → Hart → Hart → Type 0
 Turns effect next pc old new = MatchResult effect
-    (λ d. (trap_of next ≡ None) × (new.registers ≡ d.regs) × (pc_after next pc ≡ d.pc) × (new.root ≡ old.root) × (d.change ≡ Nothing))
+    (λ d. (trap_of next ≡ None) × (new.registers ≡ d.regs) × (pc_after next pc ≡ d.pc) × (new.root ≡ old.root)
+        × (d.change ≡ Nothing))
     (λ t. (trap_of next ≡ Some t) × (new ≡ old))
 
 -- The registers, the pc and the frames are the effect's. A trap changes nothing.
 abbrev pub Leaves : Effect → Answers → Next → ℕ → Hart → Hart → List (List ℕ) → List (List ℕ) → Type 0
 Leaves effect answers next pc old new ram ram' = MatchResult effect
-    (λ d. (trap_of next ≡ None) × (new.registers ≡ d.regs) × (pc_after next pc ≡ d.pc) × (new.root ≡ old.root) × (ram' ≡ stored ram answers d.change))
+    (λ d. (trap_of next ≡ None) × (new.registers ≡ d.regs) × (pc_after next pc ≡ d.pc) × (new.root ≡ old.root)
+        × (ram' ≡ stored ram answers d.change))
     (λ t. (trap_of next ≡ Some t) × (new ≡ old) × (ram' ≡ ram))
 
--- What is meant is done at a pc, with each access answered as the law of translators allows. The hart's own pc is looked at by
--- nothing. What is held behind it was held, or is what the walk gives.
-pub record Acts (held held' : Held) (meaning : Sight → Effect) (next : Next) (pc : ℕ) (old new : Hart) (ram ram' : List (List ℕ)) : Type 0 where
+-- What is meant is done at a pc, with each access answered as the law of translators allows. The hart's own pc is
+-- looked at by nothing. What is held behind it was held, or is what the walk gives.
+pub record Acts (held held' : Held) (meaning : Sight → Effect) (next : Next) (pc : ℕ) (old new : Hart)
+    (ram ram' : List (List ℕ)) : Type 0 where
   pub answers : Answers
   pub allowed : AreAllowed held ram old.root.0 answers
   pub does : Leaves (meaning (seen ram answers)) answers next pc old new ram ram'

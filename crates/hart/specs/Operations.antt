@@ -5,7 +5,8 @@ use Rattle.unixmodel.specs.declared.instr.ImmOp.{ImmOp}
 use Rattle.unixmodel.specs.declared.instr.RegOp.{RegOp}
 use Rattle.unixmodel.specs.declared.instr.RegOpW.{RegOpW}
 use Rattle.unixmodel.specs.declared.trap.Cause.TheVariants.{Breakpoint, EnvironmentCall, IllegalInstruction}
-use Rattle.unixmodel.specs.Meaning.{Effect, branch, imm_value, is_taken, jump, reg_value, reg_w_value, set_register, shifted, shifted_word, trap, word}
+use Rattle.unixmodel.specs.Meaning.{Effect, branch, imm_value, is_taken, jump, reg_value, reg_w_value, set_register}
+use Rattle.unixmodel.specs.Meaning.{shifted, shifted_word, trap, word}
 use Rattle.unixmodel.specs.Meaning.Change.{Nothing}
 use Rattle.unixmodel.specs.Numbers.{extend, low, plus}
 use Rattle.unixmodel.specs.Words.{instruction_of}
@@ -43,7 +44,8 @@ abbrev pub by_immediate : ImmOp → ℕ → ℕ → ℕ → List ℕ → ℕ →
 by_immediate o rd rs1 value regs pc = set_register regs pc rd (imm_value o (slice_index regs rs1) value)
 
 abbrev pub by_branch : BranchOp → ℕ → ℕ → ℕ → List ℕ → ℕ → Effect
-by_branch o rs1 rs2 offset regs pc = branch regs pc (is_taken o (slice_index regs rs1) (slice_index regs rs2)) (plus pc offset)
+by_branch o rs1 rs2 offset regs pc =
+    branch regs pc (is_taken o (slice_index regs rs1) (slice_index regs rs2)) (plus pc offset)
 
 -- what an operation does
 unfoldable pub op_by : Op → Meant
@@ -99,9 +101,12 @@ op_by (op.Divu rd rs1 rs2) regs pc see = by_registers reg.Divu rd rs1 rs2 regs p
 op_by (op.Rem rd rs1 rs2) regs pc see = by_registers reg.Rem rd rs1 rs2 regs pc
 op_by (op.Remu rd rs1 rs2) regs pc see = by_registers reg.Remu rd rs1 rs2 regs pc
 op_by (op.Addiw rd rs1 i) regs pc see = set_register regs pc rd (word (offset_by regs rs1 i))
-op_by (op.Slliw rd rs1 amount) regs pc see = set_register regs pc rd (shifted_word shift.Sll (low (slice_index regs rs1)) amount)
-op_by (op.Srliw rd rs1 amount) regs pc see = set_register regs pc rd (shifted_word shift.Srl (low (slice_index regs rs1)) amount)
-op_by (op.Sraiw rd rs1 amount) regs pc see = set_register regs pc rd (shifted_word shift.Sra (low (slice_index regs rs1)) amount)
+op_by (op.Slliw rd rs1 amount) regs pc see =
+    set_register regs pc rd (shifted_word shift.Sll (low (slice_index regs rs1)) amount)
+op_by (op.Srliw rd rs1 amount) regs pc see =
+    set_register regs pc rd (shifted_word shift.Srl (low (slice_index regs rs1)) amount)
+op_by (op.Sraiw rd rs1 amount) regs pc see =
+    set_register regs pc rd (shifted_word shift.Sra (low (slice_index regs rs1)) amount)
 op_by (op.Addw rd rs1 rs2) regs pc see = by_words reg_w.Addw rd rs1 rs2 regs pc
 op_by (op.Subw rd rs1 rs2) regs pc see = by_words reg_w.Subw rd rs1 rs2 regs pc
 op_by (op.Sllw rd rs1 rs2) regs pc see = by_words reg_w.Sllw rd rs1 rs2 regs pc

@@ -30,7 +30,8 @@ pub record DoesOne (mapping : List Mapped) (old new : Point) : Type 0 where
 -- so many are, one after the other, and none after the first begins at a stop
 unfoldable pub RunsTo : List ℕ → ℕ → List Mapped → Point → Point → Type 0
 RunsTo stops zero mapping old new = new ≡ old
-RunsTo stops (suc n) mapping old new = (mid : Point) × RunsTo stops n mapping old mid × DoesOne mapping mid new × IsPast stops n mid.pc
+RunsTo stops (suc n) mapping old new = (mid : Point) × RunsTo stops n mapping old mid × DoesOne mapping mid new
+    × IsPast stops n mid.pc
 
 -- so many may have written this
 unfoldable pub Reaches : ℕ → List Mapped → List (List ℕ) → List (List ℕ) → Type 0
@@ -43,7 +44,8 @@ pub record IsSteady (ram : List (List ℕ)) (root : ℕ) (mapping : List Mapped)
   pub walks : (n : ℕ) (ram' : List (List ℕ)) → Reaches n mapping ram ram' → WalksTo ram' root mapping
 
 -- a program has come so far by a mapping, of which all is that a translator holds under the root
-pub record Goes (held : Held) (root : ℕ) (mapping : List Mapped) (stops : List ℕ) (n : ℕ) (first now : Point) : Type 0 where
+pub record Goes (held : Held) (root : ℕ) (mapping : List Mapped) (stops : List ℕ) (n : ℕ) (first now : Point) : Type 0
+    where
   pub steady : IsSteady first.ram root mapping
   pub coherent : IsCoherent held root mapping
   pub runs : RunsTo stops n mapping first now
@@ -59,8 +61,10 @@ point_at hart pc ram = record { registers = hart.registers; pc = pc; ram = ram }
 
 -- so many more are done, by each mapping that was gone by, and a trap is what the next one comes to
 abbrev pub GoesOn : Held → Held → ℕ → List Mapped → List ℕ → Point → Point → ℕ → Option Trap → Type 0
-GoesOn held held' root mapping stops old new done trap = (n : ℕ) (first : Point) → IsPast stops n old.pc → Goes held root mapping stops n first old
-    → Goes held' root mapping stops (n + done) first new × IfSome trap (λ t. cycle new.registers new.pc (memory_of new.ram mapping) ≡ Err t)
+GoesOn held held' root mapping stops old new done trap = (n : ℕ) (first : Point) → IsPast stops n old.pc
+    → Goes held root mapping stops n first old
+    → Goes held' root mapping stops (n + done) first new
+        × IfSome trap (λ t. cycle new.registers new.pc (memory_of new.ram mapping) ≡ Err t)
 
 -- what a run keeps: what is held lies in the memory, which has as many frames, and the root is the same
 pub record StaysWhole (held : Held) (old new : Hart) (ram ram' : List (List ℕ)) : Type 0 where

@@ -1,5 +1,6 @@
 //! Loads and stores: how many bytes, where they are, and what they are worth.
-ghost use Rattle.std.specs.Prelude.{◌≡◌, ◌%◌, ◌/◌, ◌<◌, ◌+◌, ◌*◌, ◌-◌, ◌^◌, ◌==◌, ◌≤◌, ◌⊎◌, IfSome, length, List, [], slice_range, slice_index_or, slice_set, IsTrue, OnSome, Option, Some, None};
+ghost use Rattle.std.specs.Prelude.{◌≡◌, ◌%◌, ◌/◌, ◌<◌, ◌+◌, ◌*◌, ◌-◌, ◌^◌, ◌==◌, ◌≤◌, ◌⊎◌, IfSome, length, List, []};
+ghost use Rattle.std.specs.Prelude.{slice_range, slice_index_or, slice_set, IsTrue, OnSome, Option, Some, None};
 ghost use Rattle.std.specs.Result.{result_ok};
 ghost use Rattle.unixmodel.specs.Numbers.{le, number};
 ghost use Rattle.unixmodel.specs.Memory.{overwrite};
@@ -75,7 +76,8 @@ pub fn locate<T: Translate>(
     access: Access,
 ) -> Option<FrameNo>
     requires { HoldsInside (T.held trans.old) ram.now }
-    ensures answer { IsAnswer (T.held trans.old) ram.now root.0 address access (option_map (λ f. place_in address f.0) result) }
+    ensures answer { IsAnswer (T.held trans.old) ram.now root.0 address access
+            (option_map (λ f. place_in address f.0) result) }
     ensures inside { IfSome result (λ f. f.0 < length ram.now) }
     ensures kept { IsKept (T.held trans.old) (T.held trans.new) ram.now root.0 }
 {
@@ -110,7 +112,8 @@ pub fn load_value(op: LoadOp, ram: &Ram, f: FrameNo, at: usize) -> u64
 pub fn store_value(op: StoreOp, ram: &mut Ram, f: FrameNo, at: usize, value: u64)
     requires within { f.0 < length ram.old }
     requires inside { at + store_size op ≤ 4096 }
-    ensures { ram.new ≡ slice_set ram.old f.0 (overwrite (slice_index_or ram.old f.0 []) at (le (store_size op) value)) }
+    ensures { ram.new ≡ slice_set ram.old f.0
+            (overwrite (slice_index_or ram.old f.0 []) at (le (store_size op) value)) }
 {
     match op {
         StoreOp::Sb => ram.store_u8(f, at, (value % 0x100) as u8),

@@ -1,7 +1,8 @@
 //! Operations are done: each does what its instruction means.
 //!
 //! The pc is an argument, and where to go on is the result, so that a loop over operations has the pc in a register.
-ghost use Rattle.std.specs.Prelude.{◌≡◌, ◌%◌, ◌/◌, ◌<◌, ◌+◌, ◌*◌, ◌^◌, ◌==◌, ◌≤◌, ℕ, if◌then◌else◌, Some, None, slice_index, length, IfSome};
+ghost use Rattle.std.specs.Prelude.{◌≡◌, ◌%◌, ◌/◌, ◌<◌, ◌+◌, ◌*◌, ◌^◌, ◌==◌, ◌≤◌, ℕ, if◌then◌else◌, Some, None};
+ghost use Rattle.std.specs.Prelude.{slice_index, length, IfSome};
 ghost use Rattle.unixmodel.specs.Meaning.{jump, set_register, write};
 ghost use Rattle.unixmodel.specs.Numbers.{extend};
 ghost use Rattle.unixmodel.specs.Translation.{HoldsInside};

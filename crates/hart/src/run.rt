@@ -1,8 +1,9 @@
 //! Many instructions, one after the other.
 //!
-//! The loop over the operations of a page has the registers, the memory, the translator and the decoded words behind references of their own, and the place in
-//! the page as a local: a hart's pc is written where a page is left.
-ghost use Rattle.std.specs.Prelude.{◌≡◌, ◌%◌, ◌/◌, ◌<◌, ◌≤◌, ◌+◌, ◌-◌, ◌*◌, ℕ, Err, IfNone, IfSome, List, None, Some, length};
+//! The loop over the operations of a page has the registers, the memory, the translator and the decoded words behind
+//! references of their own, and the place in the page as a local: a hart's pc is written where a page is left.
+ghost use Rattle.std.specs.Prelude.{◌≡◌, ◌%◌, ◌/◌, ◌<◌, ◌≤◌, ◌+◌, ◌-◌, ◌*◌, ℕ, Err, IfNone, IfSome, List, None, Some};
+ghost use Rattle.std.specs.Prelude.{length};
 ghost use Rattle.unixmodel.specs.Translation.{HoldsInside};
 ghost use Rattle.unixmodel.specs.Words.{instruction_of};
 ghost use Rattle.sv39.specs.Mapping.{Mapped, frame_for};
@@ -56,7 +57,8 @@ impl Hart {
         self.act(line.op(), base.wrapping_add(4 * k as u64), ram, trans)
     }
 
-    // Does operations of that page, from a place up to an end or to the first that goes elsewhere: how many were done, and where it goes.
+    // Does operations of that page, from a place up to an end or to the first that goes elsewhere: how many were done,
+    // and where it goes.
     #[inline(always)]
     fn straight<T: Translate>(
         &mut self,
@@ -73,9 +75,12 @@ impl Hart {
         requires lines { length lines.old ≡ 1024 }
         requires places { (from ≤ end) × (end ≤ 1024) }
         requires page { base % 4096 ≡ 0 }
-        ensures goes { (mapping : List Mapped) (stops : List ℕ) → frame_for mapping (base / 4096) Access.Fetch ≡ Some f.0 → IsClear stops base from end →
+        ensures goes { (mapping : List Mapped) (stops : List ℕ)
+                → frame_for mapping (base / 4096) Access.Fetch ≡ Some f.0 → IsClear stops base from end →
             GoesOn (T.held trans.old) (T.held trans.new) self.old.root.0 mapping stops
-            (point_at self.old (pc_at base from) ram.old) (point_at self.new (goes_to (pc_at base (from + result.0)) result.1) ram.new) result.0 (trap_of result.1) }
+            (point_at self.old (pc_at base from) ram.old)
+                (point_at self.new (goes_to (pc_at base (from + result.0)) result.1) ram.new) result.0
+                (trap_of result.1) }
         ensures whole { StaysWhole (T.held trans.new) self.old self.new ram.old ram.new }
         ensures within { from + result.0 ≤ end }
         ensures moves { MovesOn (end - from) result.0 result.1 }
@@ -91,7 +96,8 @@ impl Hart {
         ((end - from) as u32, Next::Behind)
     }
 
-    // Does at most so many operations of the page of the pc, which has frame `f`, until a jump leaves the page, up to a stop: how many are left, and a trap.
+    // Does at most so many operations of the page of the pc, which has frame `f`, until a jump leaves the page, up to a
+    // stop: how many are left, and a trap.
     #[inline(never)]
     fn run_page<T: Translate, S: Stops>(
         &mut self,
@@ -113,7 +119,8 @@ impl Hart {
         ensures within { result.0 ≤ count }
         ensures fewer { IfNone result.1 (result.0 < count) }
         ensures trap { IfSome result.1 (λ t. 0 < result.0) }
-        ensures behind { IfSome result.1 (λ t. IsBehind (S.addresses stops.now) (count - result.0) self.old.pc self.new.pc) }
+        ensures behind { IfSome result.1
+                (λ t. IsBehind (S.addresses stops.now) (count - result.0) self.old.pc self.new.pc) }
     {
         let base = self.pc / 4096 * 4096;
         let mut pc = self.pc;
@@ -145,8 +152,8 @@ impl Hart {
         (left, None)
     }
 
-    /// Does at most so many instructions, up to the first that isn't done, and no further than to a stop after the first of them: how many
-    /// were done, and the trap of the one that isn't.
+    /// Does at most so many instructions, up to the first that isn't done, and no further than to a stop after the
+    /// first of them: how many were done, and the trap of the one that isn't.
     #[inline(always)]
     pub fn run<T: Translate, S: Stops>(
         &mut self,
@@ -157,7 +164,8 @@ impl Hart {
         stops: &S,
     ) -> (u32, Option<Trap>)
         requires { HoldsInside (T.held trans.old) ram.old }
-        ensures goes { (mapping : List Mapped) → GoesOn (T.held trans.old) (T.held trans.new) self.old.root.0 mapping (S.addresses stops.now)
+        ensures goes { (mapping : List Mapped)
+                → GoesOn (T.held trans.old) (T.held trans.new) self.old.root.0 mapping (S.addresses stops.now)
             (point_of self.old ram.old) (point_of self.new ram.new) result.0 result.1 }
         ensures whole { StaysWhole (T.held trans.new) self.old self.new ram.old ram.new }
         ensures within { result.0 ≤ count }

@@ -1,8 +1,8 @@
 //! One step of a hart: fetch, decode, execute.
 //!
-//! From the RISC-V unprivileged manual, its chapters on RV32I, RV64I and the extension M. An instruction that raises a trap changes
-//! nothing; the address that is told with it is the target of a jump, the accessed address of a load or store, and
-//! else the pc.
+//! From the RISC-V unprivileged manual, its chapters on RV32I, RV64I and the extension M. An instruction that raises a
+//! trap changes nothing; the address that is told with it is the target of a jump, the accessed address of a load or
+//! store, and else the pc.
 ghost use Rattle.std.specs.Prelude.{◌≡◌, Some, None, List, length, IfSome, IfNone};
 ghost use Rattle.unixmodel.specs.Cycle.{cycle};
 ghost use Rattle.unixmodel.specs.Translation.{HoldsInside, IsAnswer, IsKept};
@@ -24,7 +24,8 @@ impl Hart {
     #[tactic(auto, using(crate::proofs::Bytes::number_of_word))]
     fn fetch<T: Translate>(&self, ram: &Ram, trans: &mut T) -> Option<u32>
         requires { HoldsInside (T.held trans.old) ram.now }
-        ensures fault { IfNone result (IsAnswer (T.held trans.old) ram.now self.now.root.0 self.now.pc Access.Fetch None) }
+        ensures fault { IfNone result
+                (IsAnswer (T.held trans.old) ram.now self.now.root.0 self.now.pc Access.Fetch None) }
         ensures word { IfSome result (IsFetched (T.held trans.old) ram.now self.now) }
         ensures kept { IsKept (T.held trans.old) (T.held trans.new) ram.now self.now.root.0 }
     {
@@ -36,7 +37,8 @@ impl Hart {
     #[inline(always)]
     fn cycle<T: Translate>(&mut self, ram: &mut Ram, trans: &mut T) -> Option<Trap>
         requires { HoldsInside (T.held trans.old) ram.old }
-        ensures step { IsStep (T.held trans.old) (cycle_by self.old.registers self.old.pc) result self.old self.new ram.old ram.new }
+        ensures step { IsStep (T.held trans.old) (cycle_by self.old.registers self.old.pc) result self.old self.new
+                ram.old ram.new }
         ensures kept { IsKept (T.held trans.old) (T.held trans.new) ram.old self.old.root.0 }
         ensures count { length ram.new ≡ length ram.old }
     {
@@ -62,16 +64,18 @@ impl Hart {
 
     /// Does one instruction, or says why it isn't done.
     ///
-    /// `answered` holds whatever the tables are, and for every translator; `trap` is a part of it. `step` is what follows
-    /// where all answers that the translator may give are those of a mapping: then the registers, the pc and the frames
-    /// are the instruction's on the memory which that mapping shows.
+    /// `answered` holds whatever the tables are, and for every translator; `trap` is a part of it. `step` is what
+    /// follows where all answers that the translator may give are those of a mapping: then the registers, the pc and
+    /// the frames are the instruction's on the memory which that mapping shows.
     #[inline(always)]
     pub fn step<T: Translate>(&mut self, ram: &mut Ram, trans: &mut T) -> Option<Trap>
         requires { HoldsInside (T.held trans.old) ram.old }
-        ensures answered { IsStep (T.held trans.old) (cycle_by self.old.registers self.old.pc) result self.old self.new ram.old ram.new }
+        ensures answered { IsStep (T.held trans.old) (cycle_by self.old.registers self.old.pc) result self.old self.new
+                ram.old ram.new }
         ensures trap { IfSome result (λ t. (self.new ≡ self.old) × (ram.new ≡ ram.old)) }
         ensures step { (mapping : List Mapped) → Shows (T.held trans.old) ram.old self.old.root.0 mapping →
-            Follows (cycle self.old.registers self.old.pc (memory_of ram.old mapping)) mapping result self.old self.new ram.old ram.new }
+            Follows (cycle self.old.registers self.old.pc (memory_of ram.old mapping)) mapping result self.old self.new
+                ram.old ram.new }
         ensures kept { IsKept (T.held trans.old) (T.held trans.new) ram.old self.old.root.0 }
         ensures count { length ram.new ≡ length ram.old }
     {

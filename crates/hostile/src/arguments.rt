@@ -12,8 +12,8 @@ const PROGRAM_AT: usize = 4096;
 // The number of s2, behind which s3 to s11 follow.
 const S2: usize = 18;
 
-// A program, and what it does with these keys typed first: what is printed, the status with which it ends, and its registers from
-// s2 on.
+// A program, and what it does with these keys typed first: what is printed, the status with which it ends, and its
+// registers from s2 on.
 struct Row {
     text: &'static str,
     keys: &'static [u8],
@@ -38,7 +38,8 @@ const HIGH_NUMBER: &str = "
 text:   .ascii \"hi\\n\"
 ";
 
-// The last byte of the stack, into which nothing goes that is longer than a byte. No key, no descriptor and no child is taken.
+// The last byte of the stack, into which nothing goes that is longer than a byte. No key, no descriptor and no child is
+// taken.
 const LAST_BYTE: &str = "
         lui s0, 3
         addi s0, s0, -1
@@ -87,8 +88,8 @@ quit:   li a0, 0
         ecall
 ";
 
-// Stores a word over its next instruction, and forks: the child stores the word over the next but one, which its parent then
-// runs as it was.
+// Stores a word over its next instruction, and forks: the child stores the word over the next but one, which its parent
+// then runs as it was.
 const CHANGES_ITSELF: &str = "
         la s0, word
         lw s0, 0(s0)

@@ -1,5 +1,5 @@
-//! Programs that write their own code. Whoever writes over a word, what memory holds is what runs: in many steps at once as in one
-//! event at a time, over each translator.
+//! Programs that write their own code. Whoever writes over a word, what memory holds is what runs: in many steps at
+//! once as in one event at a time, over each translator.
 ghost use Rattle.std.specs.Prelude.{◌<◌};
 
 use crate::runs::{AnyMachine, KINDS, let_go};
@@ -130,8 +130,8 @@ place:  addi a0, zero, 1
 word:   addi a0, zero, 4
 ";
 
-// A child writes over an instruction that ran, in a page that it shares with its parent, and ends with what the new one gives; its
-// parent waits for it, and then runs the instruction as it was.
+// A child writes over an instruction that ran, in a page that it shares with its parent, and ends with what the new one
+// gives; its parent waits for it, and then runs the instruction as it was.
 const FORK: &str = "
         jal ra, place
         li a7, 1
@@ -157,8 +157,8 @@ place:  addi a0, zero, 1
 word:   addi a0, zero, 6
 ";
 
-// An instruction is written into each of 65 pages, which adds the page's number, and they run in turn, twice. Decoded words have places for
-// 64 frames, so two of the pages share theirs.
+// An instruction is written into each of 65 pages, which adds the page's number, and they run in turn, twice. Decoded
+// words have places for 64 frames, so two of the pages share theirs.
 const PAGES: &str = "
         la s0, place
         lw s1, 0(s0)

@@ -1,5 +1,5 @@
-//! Images, and what is told of them: by the check, by a plain reading of the rules, and by a boot. And images of which parts name
-//! themselves.
+//! Images, and what is told of them: by the check, by a plain reading of the rules, and by a boot. And images of which
+//! parts name themselves.
 use crate::rules::{LARGE, Rules, SMALL, judge};
 use crate::runs::{let_go, plain};
 use blockdev::MemDisk;
@@ -77,7 +77,8 @@ fn boots_not(alloc: Global, image: &[u8], told: Told) -> bool {
     refusal(alloc, image) == Some(fault)
 }
 
-/// What is told of an image that has no `/init`. `None`: the rules tell something else, or a boot answers by something else.
+/// What is told of an image that has no `/init`. `None`: the rules tell something else, or a boot answers by something
+/// else.
 pub fn judged(alloc: Global, image: &[u8], format: Format) -> Option<Told> {
     let told = told(alloc, image, format)?;
     if told != judge(alloc, image, format.rules()) {
@@ -99,8 +100,8 @@ fn put(image: &mut [u8], change: &Change) {
     }
 }
 
-/// The image of a machine without a disk in a format, with these changes. It has 32 blocks, of which block 5 is the root's, and two
-/// inodes: the root, and the console that it names.
+/// The image of a machine without a disk in a format, with these changes. It has 32 blocks, of which block 5 is the
+/// root's, and two inodes: the root, and the console that it names.
 pub fn changed(alloc: Global, format: Format, changes: &[Change]) -> Option<Vec<u8>> {
     let Ok(mut image) = flat_image(alloc) else {
         return None;
@@ -129,7 +130,8 @@ pub const DIRECTORY: [Change; 8] = [
     (6176, b"\0\0\0"),
 ];
 
-/// The root names a file, inode 3, of 13 blocks, 6 to 17 and 19, with the block 18 of its single index: in the small format.
+/// The root names a file, inode 3, of 13 blocks, 6 to 17 and 19, with the block 18 of its single index: in the small
+/// format.
 pub const SMALL_FILE: [Change; 7] = [
     (ROOT + 8, &[64]),
     (5168, b"\x03\0f"),

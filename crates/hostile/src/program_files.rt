@@ -27,8 +27,8 @@ const THREE_PAGES: u64 = 12288;
 
 const S2: usize = 18;
 
-// A file of a header and a program header: where the program headers are said to be and how many, and the sizes of the segment in
-// the file and in memory. It becomes a program of so many bytes, or is refused.
+// A file of a header and a program header: where the program headers are said to be and how many, and the sizes of the
+// segment in the file and in memory. It becomes a program of so many bytes, or is refused.
 struct Odd {
     at: u64,
     count: u64,
@@ -79,7 +79,8 @@ const ROWS: [Odd; 6] = [
 ];
 
 impl Odd {
-    // The bytes of the file. The entry is 0, and the segment, which may be read and executed, begins with the file's first byte.
+    // The bytes of the file. The entry is 0, and the segment, which may be read and executed, begins with the file's
+    // first byte.
     fn bytes(&self, alloc: Global) -> Result<Vec<u8>, AllocError> {
         let header = [0x1_0102_464c_457f, 0, 0x1_00f3_0002, 0, self.at, 0];
         let behind = [0x38_0040_0000_0000, self.count];

@@ -8,8 +8,8 @@
 //! 6. No block is named twice.
 //! 7. The bitmap marks what comes before the data blocks and the blocks that are named, and no others.
 //! 8. Each inode has a size that its type can have.
-//! 9. Each place of a directory is free or has a name of its own and an inode in use; the first two are `.` and `..`; a directory but the
-//!    root is named once, and the root never.
+//! 9. Each place of a directory is free or has a name of its own and an inode in use; the first two are `.` and `..`; a
+//! directory but the    root is named once, and the root never.
 //! 10. Each inode has as many links as names; a directory one for itself and one for each directory in it.
 //! 11. A path reaches each inode in use.
 use image::{ImageFault, Summary};

@@ -92,7 +92,8 @@ fn has_same_pages(first: &AnyMachine<'_>, other: &AnyMachine<'_>, pid: u32) -> b
     false
 }
 
-// Whether both have the same processes with the same pages. A pid takes a step, so there are no more pids than steps and one.
+// Whether both have the same processes with the same pages. A pid takes a step, so there are no more pids than steps
+// and one.
 fn has_same_processes(first: &AnyMachine<'_>, other: &AnyMachine<'_>, steps: u32) -> bool {
     for pid in 0..steps.wrapping_add(2) {
         if first.inspect(pid) != other.inspect(pid) || !has_same_pages(first, other, pid) {

@@ -49,8 +49,8 @@ struct Part {
     to: u16,
 }
 
-// The blocks 1 to 4 and the root's of the image of a machine without a disk; and the records and the places of one with a directory,
-// the records and the numbers of one with a file.
+// The blocks 1 to 4 and the root's of the image of a machine without a disk; and the records and the places of one with
+// a directory, the records and the numbers of one with a file.
 const PARTS: [Part; 8] = [
     Part {
         format: Format::Small,

@@ -1,6 +1,8 @@
 //! What the program tells of how a job ended.
 ghost use Rattle.std.specs.Prelude.{◌≡◌};
-ghost use Rattle.hosts.specs.Reports.{assembly_name, assembly_number, boot_name, boot_number, image_name, image_number, make_name, make_number, migrate_name, migrate_number, program_name, program_number, status_of, tree_name, tree_number};
+ghost use Rattle.hosts.specs.Reports.{assembly_name, assembly_number, boot_name, boot_number, image_name, image_number};
+ghost use Rattle.hosts.specs.Reports.{make_name, make_number, migrate_name, migrate_number, program_name};
+ghost use Rattle.hosts.specs.Reports.{program_number, status_of, tree_name, tree_number};
 
 use crate::host::Why;
 use asm::{AsmFault, AsmKind};
@@ -265,8 +267,8 @@ pub fn tell<E: Write>(failure: &Failure<'_>, stderr: &mut E) -> u8
     1
 }
 
-/// Writes a text to standard output, and writes that out; where it is not taken, that is told. The answer is the status to
-/// exit with.
+/// Writes a text to standard output, and writes that out; where it is not taken, that is told. The answer is the status
+/// to exit with.
 pub fn print<T: fmt::Display, W: Write, E: Write>(text: &T, stdout: &mut W, stderr: &mut E) -> u8 {
     if write!(stdout, "{text}").is_err() || stdout.flush().is_err() {
         return tell(&Failure::Output, stderr);
@@ -274,8 +276,8 @@ pub fn print<T: fmt::Display, W: Write, E: Write>(text: &T, stdout: &mut W, stde
     0
 }
 
-/// Tells why the words are no job, or the help that they ask for, and answers the status: 0 for help, 2 for words that are
-/// no job, 1 where memory or standard output is wanting.
+/// Tells why the words are no job, or the help that they ask for, and answers the status: 0 for help, 2 for words that
+/// are no job, 1 where memory or standard output is wanting.
 pub fn refuse<W: Write, E: Write>(error: &Error, stdout: &mut W, stderr: &mut E) -> u8 {
     if error.kind() == ErrorKind::OutOfMemory {
         return tell(&Failure::NoMemory, stderr);

@@ -1,5 +1,5 @@
-//! Disk images: their making of a manifest or of an image of the small format, the check whether their bytes denote files, and that
-//! these are no others.
+//! Disk images: their making of a manifest or of an image of the small format, the check whether their bytes denote
+//! files, and that these are no others.
 #![tactic(auto)]
 
 pub use imagecheck::{ImageFault, Summary, check, check1};

@@ -11,7 +11,8 @@ use Rattle.std.proofs.lemmas.Result.{err_from_is_err_and}
 use Rattle.imagerules.proofs.Spelling.{image_of-blocks}
 
 -- the fault that a step passes on
-pub told_fault : {T : Type 0} (r : Result T MigrateFault) (fault : MigrateFault) → IsErrAnd r (λ f. f ≡ fault) → r ≡ Err fault
+pub told_fault : {T : Type 0} (r : Result T MigrateFault) (fault : MigrateFault) → IsErrAnd r (λ f. f ≡ fault)
+    → r ≡ Err fault
 told_fault r fault h = let p = err_from_is_err_and r h in p.1 ∙ ap Err p.2
 
 -- a good image on a disk that never fails is refused for want of memory alone
@@ -24,5 +25,7 @@ only-memory fault none device = absurd (none tt)
 pub disk-bytes : (new disk : List ℕ) → length new % 1024 ≡ 0 → disk ≡ new → image_of (blocks_of disk) ≡ new
 disk-bytes new disk whole e = ap (λ b. image_of (blocks_of b)) e ∙ image_of-blocks new whole
 
-pub kept-bytes : (disk after into : List ℕ) → blocks_of after ≡ blocks_of disk → into ≡ after → length into % 1024 ≡ 0 → into ≡ image_of (blocks_of disk)
-kept-bytes disk after into same e whole = sym (image_of-blocks into whole) ∙ ap (λ b. image_of (blocks_of b)) e ∙ ap image_of same
+pub kept-bytes : (disk after into : List ℕ) → blocks_of after ≡ blocks_of disk → into ≡ after → length into % 1024 ≡ 0
+    → into ≡ image_of (blocks_of disk)
+kept-bytes disk after into same e whole = sym (image_of-blocks into whole) ∙ ap (λ b. image_of (blocks_of b)) e
+    ∙ ap image_of same

@@ -255,8 +255,8 @@ fn say<E: Write>(stderr: &mut E, told: &str) {
     let _ = writeln!(stderr, "explain: {told}");
 }
 
-/// Says more of the last line that a job told: what the system says of a file, which line of a text or which name on an image is
-/// meant, or what the line means.
+/// Says more of the last line that a job told: what the system says of a file, which line of a text or which name on an
+/// image is meant, or what the line means.
 pub fn explain<H: Host, E: Write>(
     alloc: Global,
     job: &Job<'_>,

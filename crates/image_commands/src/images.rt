@@ -177,8 +177,8 @@ fn migrated(alloc: Global, old: &[u8]) -> Result<(Vec<u8>, Summary), MigrateFaul
     Ok((disk.into_bytes(), summary))
 }
 
-/// The command `migrate`. Of an old image that is too long a byte more than the longest has is read. The new one is checked
-/// before it is written.
+/// The command `migrate`. Of an old image that is too long a byte more than the longest has is read. The new one is
+/// checked before it is written.
 pub fn migrate<'a, H: Host>(
     alloc: Global,
     words: Migrate<'a>,

@@ -1,7 +1,12 @@
 -- The slots of an inode that are there, one after the other: an index block is read behind the number that names it.
-use Rattle.imagecheck.proofs.Common.{◌≡◌, ℕ, ◌<◌, ◌≤◌, IsTrue, List, ap, arith, false, get_or, inl, inr, length, subst, sym, true, ◌∙◌, cases_lt, nat_tests, cond, nat_lt, ◌==◌, ◌↔◌, is_data_in, HasGeometry, Geometry, HasSuper, count_in}
-use Rattle.imagecheck.proofs.Common.{data_blocks, format_of, is_data_block, named_by, number_in, size_in, Asks, address_of, asked_slot, holder_of, in_record, single, slot_at, taken_blocks, there, FitsAddresses, direct-high, direct-low}
-use Rattle.imagecheck.proofs.Common.{is_data_block-below, FitsSlot, IsFound, Lies, Format, ◌+◌, ◌-◌, ◌*◌, refl, false≢true, inode_at, number_at, level_of, place_of, number_in-block, number_in-record}
+use Rattle.imagecheck.proofs.Common.{◌≡◌, ℕ, ◌<◌, ◌≤◌, IsTrue, List, ap, arith, false, get_or, inl, inr, length, subst}
+use Rattle.imagecheck.proofs.Common.{sym, true, ◌∙◌, cases_lt, nat_tests, cond, nat_lt, ◌==◌, ◌↔◌, is_data_in}
+use Rattle.imagecheck.proofs.Common.{HasGeometry, Geometry, HasSuper, count_in, data_blocks, format_of, is_data_block}
+use Rattle.imagecheck.proofs.Common.{named_by, number_in, size_in, Asks, address_of, asked_slot, holder_of, in_record}
+use Rattle.imagecheck.proofs.Common.{single, slot_at, taken_blocks, there, FitsAddresses, direct-high, direct-low}
+use Rattle.imagecheck.proofs.Common.{is_data_block-below, FitsSlot, IsFound, Lies, Format, ◌+◌, ◌-◌, ◌*◌, refl}
+use Rattle.imagecheck.proofs.Common.{false≢true, inode_at, number_at, level_of, place_of, number_in-block}
+use Rattle.imagecheck.proofs.Common.{number_in-record}
 use Rattle.std.proofs.Common.{eq-eqb, eqb-true}
 use Rattle.imagerules.proofs.Marking.{cond_no, cond_yes, is_data_in-is}
 use Rattle.layout.proofs.Places as places
@@ -41,13 +46,15 @@ module _ (image : List ℕ) (n : ℕ) (small : count_in image n ≤ single (form
   at-taken k l = places.at-asked f (direct-low image) (direct-high image) count k l
 
   asks-nth : (k : ℕ) → k < taken_blocks f count → Asks f count (nth k)
-  asks-nth k l = subst (Asks f count) (sym (at-taken k l)) (places.asked-asks f (direct-low image) (direct-high image) count k small l)
+  asks-nth k l = subst (Asks f count) (sym (at-taken k l))
+      (places.asked-asks f (direct-low image) (direct-high image) count k small l)
 
   rank-low : (j : ℕ) → Asks f count j → rank j < taken_blocks f count
   rank-low j a = places.rank-within f (direct-low image) (direct-high image) count j small a.within a.reached
 
   rank-is : (j : ℕ) → Asks f count j → nth (rank j) ≡ j
-  rank-is j a = at-taken (rank j) (rank-low j a) ∙ places.rank-slot f (direct-low image) (direct-high image) count j small a.within a.reached
+  rank-is j a = at-taken (rank j) (rank-low j a)
+      ∙ places.rank-slot f (direct-low image) (direct-high image) count j small a.within a.reached
 
   -- the index block of the k-th comes before it, and so does the one of that
   holder-first : (k : ℕ) → k < there f count → in_record f (nth k) ≡ false → ComesBefore k (holder_of f (nth k))
@@ -57,9 +64,11 @@ module _ (image : List ℕ) (n : ℕ) (small : count_in image n ≤ single (form
         record {
           asks = record {
             within = places.holder-within f (direct-low image) (direct-high image) (nth k) apart a.within;
-            reached = omega (arith, places.holder-before f (direct-low image) (direct-high image) (nth k) apart a.within, a.reached);
+            reached = omega (arith, places.holder-before f (direct-low image) (direct-high image) (nth k) apart
+                a.within, a.reached);
           };
-          before = subst (λ s. in_record f s ≡ false → rank (holder_of f s) < k) (sym (at-taken k l)) (places.rank-holder f (direct-low image) (direct-high image) count k small l) apart;
+          before = subst (λ s. in_record f s ≡ false → rank (holder_of f s) < k) (sym (at-taken k l))
+              (places.rank-holder f (direct-low image) (direct-high image) count k small l) apart;
         }
     | inr past ↦
         let a = (places.at-spare f (direct-low image) (direct-high image) count k small past high).index apart in
@@ -68,7 +77,8 @@ module _ (image : List ℕ) (n : ℕ) (small : count_in image n ≤ single (form
 
   holder-next : (k j : ℕ) → ComesBefore k j → in_record f j ≡ false → ComesBefore k (holder_of f j)
   holder-next k j b apart =
-      let up = subst (λ s. in_record f s ≡ false → ComesBefore (rank j) (holder_of f s)) (rank-is j b.asks) (holder-first _ (below-there (rank-low j b.asks))) apart in
+      let up = subst (λ s. in_record f s ≡ false → ComesBefore (rank j) (holder_of f s)) (rank-is j b.asks)
+              (holder-first _ (below-there (rank-low j b.asks))) apart in
       record { asks = up.asks; before = omega (arith, up.before, b.before) }
 
   -- ---- where those before it were seen, the index blocks that lead to the k-th lie in the image
@@ -76,7 +86,8 @@ module _ (image : List ℕ) (n : ℕ) (small : count_in image n ≤ single (form
   module _ (sound : HasSuper image) (k : ℕ) (seen : (i : ℕ) → i < k → FitsSlot image n i) where
     seen-lies : (j : ℕ) → ComesBefore k j → Lies image n j
     seen-lies j b =
-        let named = subst (λ s. IsTrue (is_data_block image (number_in image n s))) (rank-is j b.asks) ((seen (rank j) b.before).asked (rank-low j b.asks)) in
+        let named = subst (λ s. IsTrue (is_data_block image (number_in image n s))) (rank-is j b.asks)
+                ((seen (rank j) b.before).asked (rank-low j b.asks)) in
         let whole = sound.whole in
         omega (arith, is_data_block-below image (number_in image n j) named)
 
@@ -91,19 +102,26 @@ module _ (image : List ℕ) (n : ℕ) (small : count_in image n ≤ single (form
     }
 
   -- what the test of a number tells of its slot
-  pub FitsSlot-is : {g : Geometry} → HasGeometry image g → (k : ℕ) → IsTrue (cond (nat_lt k (taken_blocks f count)) (is_data_in g (number_in image n (nth k))) (number_in image n (nth k) == 0)) ↔ FitsSlot image n k
+  pub FitsSlot-is : {g : Geometry} → HasGeometry image g → (k : ℕ)
+      → IsTrue (cond (nat_lt k (taken_blocks f count)) (is_data_in g (number_in image n (nth k)))
+      (number_in image n (nth k) == 0)) ↔ FitsSlot image n k
   FitsSlot-is {g} h k =
       let number = number_in image n (nth k) in
       elim (cases_lt k (taken_blocks f count)) [
-        | inl l ↦ rw (cond_yes k (taken_blocks f count) (is_data_in g number) (number == 0) l, is_data_in-is image g h number) (λ t. record { asked = λ _. t; spare = λ past. absurd (omega arith) }, λ fits. fits.asked l)
-        | inr past ↦ rw (cond_no k (taken_blocks f count) (is_data_in g number) (number == 0) past) (λ t. record { asked = λ l. absurd (omega arith); spare = λ _. eqb-true number 0 t }, λ fits. eq-eqb number 0 (fits.spare past))
+        | inl l ↦ rw (cond_yes k (taken_blocks f count) (is_data_in g number) (number == 0) l,
+            is_data_in-is image g h number)
+            (λ t. record { asked = λ _. t; spare = λ past. absurd (omega arith) }, λ fits. fits.asked l)
+        | inr past ↦ rw (cond_no k (taken_blocks f count) (is_data_in g number) (number == 0) past)
+            (λ t. record { asked = λ l. absurd (omega arith); spare = λ _. eqb-true number 0 t },
+            λ fits. eq-eqb number 0 (fits.spare past))
       ]
 
   -- ---- its numbers
 
   named-at : (k d : ℕ) → k < taken_blocks f count → get_or (named_by image n) k d ≡ number_in image n (nth k)
   unfolding named_by
-  named-at k d l = get_or-map-range_with_len (λ j. number_in image n (asked_slot f count j)) 0 _ k k d l (omega arith) ∙ ap (number_in image n) (sym (at-taken k l))
+  named-at k d l = get_or-map-range_with_len (λ j. number_in image n (asked_slot f count j)) 0 _ k k d l (omega arith)
+      ∙ ap (number_in image n) (sym (at-taken k l))
 
   pub named-long : length (named_by image n) ≡ taken_blocks f count
   unfolding named_by
@@ -121,7 +139,8 @@ module _ (image : List ℕ) (n : ℕ) (small : count_in image n ≤ single (form
 
   pub FitsSlot-at : FitsAddresses image n → (k : ℕ) → k < there f count → FitsSlot image n k
   FitsSlot-at h k high = record {
-    asked = λ l. subst (λ b. IsTrue (is_data_block image b)) (named-at k 0 l) (h.blocks k 0 (omega (arith, named-long)));
+    asked = λ l. subst (λ b. IsTrue (is_data_block image b)) (named-at k 0 l)
+        (h.blocks k 0 (omega (arith, named-long)));
     spare = λ past. h.spares _ (places.at-spare f (direct-low image) (direct-high image) count k small past high);
   }
 
@@ -144,7 +163,9 @@ module _ (image : List ℕ) (n : ℕ) (small : count_in image n ≤ single (form
     -- those of data
     module _ (k : ℕ) (l : k < count) where
       asks-data : Asks f count k
-      asks-data = record { within = omega arith; reached = subst (λ i. i < count) (sym (places.first-data f (direct-low image) (direct-high image) k (omega arith))) l }
+      asks-data = record { within = omega arith;
+          reached = subst (λ i. i < count)
+          (sym (places.first-data f (direct-low image) (direct-high image) k (omega arith))) l }
 
       pub found-data : IsFound image n k
       found-data = subst (IsFound image n) (rank-is k asks-data) (found-at (rank k) (rank-low k asks-data))
@@ -153,7 +174,8 @@ module _ (image : List ℕ) (n : ℕ) (small : count_in image n ≤ single (form
       lies-data = seen-lies sound _ seen k (record { asks = asks-data; before = rank-low k asks-data })
 
 -- the number of a data block
-pub data-at : (image : List ℕ) (n k d : ℕ) → k < count_in image n → get_or (data_blocks image n) k d ≡ number_in image n k
+pub data-at : (image : List ℕ) (n k d : ℕ) → k < count_in image n
+    → get_or (data_blocks image n) k d ≡ number_in image n k
 unfolding data_blocks
 data-at image n k d l = get_or-map-range_with_len _ 0 _ k k d l (omega arith)
 
@@ -169,12 +191,16 @@ first-address image = let low = direct-low image in grind (arith, nat_tests)
 -- ---- the number in a slot, from its place: in the record, or in the index block of the slot that holds it
 
 module _ (image : List ℕ) (n k : ℕ) {f : Format} (e : f ≡ format_of image) where
-  pub number-own : in_record f k ≡ true → {place number : ℕ} → place ≡ address_of f k → number ≡ number_at 4 (inode_at n + 12 + 4 * place) image → number ≡ number_in image n k
+  pub number-own : in_record f k ≡ true → {place number : ℕ} → place ≡ address_of f k
+      → number ≡ number_at 4 (inode_at n + 12 + 4 * place) image → number ≡ number_in image n k
   number-own here at is = is ∙ rw (at, e) (sym (number_in-record image n k (rw e at here)))
 
   module _ (apart : in_record f k ≡ false) {holder : ℕ} (held : holder ≡ holder_of f k) where
-    pub number-held : {block place number : ℕ} → block ≡ number_in image n holder → place ≡ place_of f k → number ≡ number_at 4 (1024 * block + 4 * place) image → number ≡ number_in image n k
-    number-held of at is = is ∙ rw (of, at, held, e) (sym (number_in-block image n _ refl (direct-low image) (direct-high image) k (rw e at apart)))
+    pub number-held : {block place number : ℕ} → block ≡ number_in image n holder → place ≡ place_of f k
+        → number ≡ number_at 4 (1024 * block + 4 * place) image → number ≡ number_in image n k
+    number-held of at is = is
+        ∙ rw (of, at, held, e) (sym
+        (number_in-block image n _ refl (direct-low image) (direct-high image) k (rw e at apart)))
 
     module _ (found : IsFound image n k) where
       -- its holder is found before it, lies in the image, and is one level up
@@ -182,7 +208,8 @@ module _ (image : List ℕ) (n k : ℕ) {f : Format} (e : f ≡ format_of image)
       holder-found = rw (held, e) (record {
         within = places.holder-within _ (direct-low image) (direct-high image) k (rw e at apart) found.within;
         holder = found.above (rw e at apart);
-        above = λ _ never. absurd (false≢true (sym never ∙ places.holder-holder _ (direct-low image) (direct-high image) k));
+        above = λ _ never. absurd
+            (false≢true (sym never ∙ places.holder-holder _ (direct-low image) (direct-high image) k));
       })
 
       pub holder-lies : {block : ℕ} → block ≡ number_in image n holder → 1024 * block + 1024 ≤ length image
@@ -190,6 +217,8 @@ module _ (image : List ℕ) (n k : ℕ) {f : Format} (e : f ≡ format_of image)
 
       pub holder-up : 2 - level_of (format_of image) holder < 2 - level_of (format_of image) k
       holder-up =
-          let up = places.level-holder (format_of image) (direct-low image) (direct-high image) k (rw e at apart) found.within in
-          let most = places.level-most (format_of image) (direct-low image) (direct-high image) (holder_of (format_of image) k) in
+          let up = places.level-holder (format_of image) (direct-low image) (direct-high image) k (rw e at apart)
+                  found.within in
+          let most = places.level-most (format_of image) (direct-low image) (direct-high image)
+                  (holder_of (format_of image) k) in
           rw (held, e) (omega arith)

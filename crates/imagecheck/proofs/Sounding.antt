@@ -1,6 +1,9 @@
 -- What a result of a pass tells, from what the pass before it tells.
-use Rattle.imagecheck.proofs.Common.{Err, List, length, ℕ, ◌≡◌, ◌≤◌, ap, arith, subst, ◌∙◌, IfErr, MatchResult, DenotesIn, named_blocks, numbers_in_use, Denies, DenotesOwn, Finds, IsOutside, Tells, HasMagic, IsSummary, err_from_is_err_and}
-use Rattle.imagecheck.proofs.Common.{Format, ◌≢◌, cond, ◌==◌, sym, format_named, large, small, format_of, IsFront, image_of, SuperRules-of, Begins, ◌/◌, slice_range}
+use Rattle.imagecheck.proofs.Common.{Err, List, length, ℕ, ◌≡◌, ◌≤◌, ap, arith, subst, ◌∙◌, IfErr, MatchResult}
+use Rattle.imagecheck.proofs.Common.{DenotesIn, named_blocks, numbers_in_use, Denies, DenotesOwn, Finds, IsOutside}
+use Rattle.imagecheck.proofs.Common.{Tells, HasMagic, IsSummary, err_from_is_err_and, Format, ◌≢◌, cond, ◌==◌, sym}
+use Rattle.imagecheck.proofs.Common.{format_named, large, small, format_of, IsFront, image_of, SuperRules-of, Begins}
+use Rattle.imagecheck.proofs.Common.{◌/◌, slice_range}
 use Rattle.unixmodel.specs.Failures.{Rises}
 use Rattle.imagecheck.specs.declared.ImageFault.{ImageFault}
 use Rattle.imagecheck.specs.declared.rules.Summary.{Summary}
@@ -13,12 +16,16 @@ use Rattle.layout.specs.declared.Format.TheVariants as kinds
 use Rattle.layout.specs.declared.SuperBlock.{SuperBlock}
 use Rattle.blockdev.specs.Sizes.{AreBlocks-blocks_of, block_at-blocks_of, length-blocks_of}
 use Rattle.std.proofs.Common.{IfOk, IsErrAnd, IsErrOf, Ok, OnOk, Result}
-use Rattle.imagerules.proofs.Denoting.{HasEntries-denotes, HasKinds-denotes, HasLinks-denotes, HasSizes-denotes, IsReached-denotes}
-use Rattle.imagerules.proofs.Super.{HasLength-from, HasLength-not, HasNumbers-in, HasSuper-in, inodes-is, magic-is, size-is}
+use Rattle.imagerules.proofs.Denoting.{HasEntries-denotes, HasKinds-denotes, HasLinks-denotes, HasSizes-denotes}
+use Rattle.imagerules.proofs.Denoting.{IsReached-denotes}
+use Rattle.imagerules.proofs.Super.{HasLength-from, HasLength-not, HasNumbers-in, HasSuper-in, inodes-is, magic-is}
+use Rattle.imagerules.proofs.Super.{size-is}
 
 -- a fault that holds rules out that the image denotes files
-pub Tells-not : (f : Format) (image : List ℕ) (fault : ImageFault) → Tells f image fault → Denies (DenotesIn f image) fault
-Tells-not f image fault.Length t i files d = t (record { least = let l = d.super.size_least in let w = d.super.whole in omega arith; whole = d.super.whole })
+pub Tells-not : (f : Format) (image : List ℕ) (fault : ImageFault) → Tells f image fault
+    → Denies (DenotesIn f image) fault
+Tells-not f image fault.Length t i files d =
+    t (record { least = let l = d.super.size_least in let w = d.super.whole in omega arith; whole = d.super.whole })
 Tells-not f image fault.Magic t i files d = t.1 d.magic
 Tells-not f image fault.Numbers t i files d = t.2 d.super
 Tells-not f image fault.NodeType t i files d = t.1.1 (HasKinds-denotes image files d)
@@ -47,7 +54,8 @@ pub not_device : fault.NoMemory ≡ fault.Device → ⊥
 not_device e = cc
 
 -- a pass over an image tells what it finds, and blames no device
-pub Finds-told : (f : Format) (image : List ℕ) → HasMagic f image → (fault : ImageFault) → Finds image fault → Tells f image fault
+pub Finds-told : (f : Format) (image : List ℕ) → HasMagic f image → (fault : ImageFault) → Finds image fault
+    → Tells f image fault
 Finds-told f image m fault.Length h = absurd h
 Finds-told f image m fault.Magic h = absurd h
 Finds-told f image m fault.Numbers h = absurd h
@@ -70,11 +78,15 @@ pub record IsJudged (f : Format) (image : List ℕ) (r : Result Summary ImageFau
   pub refused : IfErr r (Denies (DenotesIn f image))
   pub device : IsErrOf r Device → ⊥
 
-pub judged-from : (f : Format) (image : List ℕ) → HasMagic f image → (r : Result Summary ImageFault) → MatchResult r (IsSummary image) (Finds image) → IsJudged f image r
-judged-from f image m (Ok summary) h = record { denotes = h.denotes f m; inodes = h.inodes; blocks = h.blocks; fault = tt; refused = tt; device = λ told. cc }
+pub judged-from : (f : Format) (image : List ℕ) → HasMagic f image → (r : Result Summary ImageFault)
+    → MatchResult r (IsSummary image) (Finds image) → IsJudged f image r
+judged-from f image m (Ok summary) h =
+    record { denotes = h.denotes f m; inodes = h.inodes; blocks = h.blocks; fault = tt; refused = tt;
+    device = λ told. cc }
 judged-from f image m (Err fault) h =
     let told = Finds-told f image m fault h in
-    record { denotes = tt; inodes = tt; blocks = tt; fault = told; refused = Tells-not f image fault told; device = λ is. subst (λ x. IfErr x (Finds image)) is h }
+    record { denotes = tt; inodes = tt; blocks = tt; fault = told; refused = Tells-not f image fault told;
+        device = λ is. subst (λ x. IfErr x (Finds image)) is h }
 
 -- a rise from a later count is one from an earlier
 pub Rises-before : (a b c : ℕ) → a ≤ b → Rises b c → Rises a c
@@ -83,11 +95,13 @@ Rises-before a b c h r = omega arith
 -- ---- what the super block of a device of so many blocks tells, if it has this length
 
 -- its magic number tells the format of an image
-pub format_of-magic : (format : layout.Format) (image : List ℕ) → HasMagic (format_named format) image → format_of image ≡ format_named format
+pub format_of-magic : (format : layout.Format) (image : List ℕ) → HasMagic (format_named format) image
+    → format_of image ≡ format_named format
 format_of-magic kinds.Small image m = ap (λ k. cond (k == large.magic) large small) m
 format_of-magic kinds.Large image m = ap (λ k. cond (k == large.magic) large small) m
 
-module _ {blocks : List (List ℕ)} {count : ℕ} {block : List ℕ} (front : IsFront blocks count block) (least : 2 ≤ count) {s : SuperBlock} (read : s ≡ super_of block) where
+module _ {blocks : List (List ℕ)} {count : ℕ} {block : List ℕ} (front : IsFront blocks count block) (least : 2 ≤ count)
+    {s : SuperBlock} (read : s ≡ super_of block) where
   two : 2 ≤ length blocks
   two = omega (arith, front.many)
 
@@ -104,20 +118,24 @@ module _ {blocks : List (List ℕ)} {count : ℕ} {block : List ℕ} (front : Is
     most_is : s.magic ≡ (format_named format).magic → (format_of (image_of blocks)).most ≡ (format_named format).most
     most_is m = ap (λ (f : Format). f.most) (format_of-magic format (image_of blocks) (magic_told m))
 
-    pub Begins-from : s.magic ≡ (format_named format).magic → HasNumbersIn (format_named format) s → Begins (format_named format) (image_of blocks) (record { size = count; inodes = s.inodes })
+    pub Begins-from : s.magic ≡ (format_named format).magic → HasNumbersIn (format_named format) s
+        → Begins (format_named format) (image_of blocks) (record { size = count; inodes = s.inodes })
     Begins-from magic numbers = record {
       magic = magic_told magic;
       geometry = record {
-        rules = SuperRules-of (HasSuper-in blocks front.sizes two s e (format_named format) (size ∙ front.many) (most_is magic) numbers);
+        rules = SuperRules-of (HasSuper-in blocks front.sizes two s e (format_named format) (size ∙ front.many)
+            (most_is magic) numbers);
         size = sym size ∙ size-is blocks front.sizes two s e;
         inodes = inodes-is blocks front.sizes two s e;
       };
     }
 
     pub Magic-told : s.magic ≢ (format_named format).magic → Tells (format_named format) (image_of blocks) Magic
-    Magic-told n = (HasLength-from blocks front.sizes two s e (size ∙ front.many), λ m. n (magic-is blocks front.sizes two s e ∙ m))
+    Magic-told n = (HasLength-from blocks front.sizes two s e (size ∙ front.many),
+        λ m. n (magic-is blocks front.sizes two s e ∙ m))
 
-    pub Numbers-told : s.magic ≡ (format_named format).magic → (HasNumbersIn (format_named format) s → ⊥) → Tells (format_named format) (image_of blocks) Numbers
+    pub Numbers-told : s.magic ≡ (format_named format).magic → (HasNumbersIn (format_named format) s → ⊥)
+        → Tells (format_named format) (image_of blocks) Numbers
     Numbers-told magic n = (
       HasLength-from blocks front.sizes two s e (size ∙ front.many),
       magic_told magic,
@@ -126,7 +144,8 @@ module _ {blocks : List (List ℕ)} {count : ℕ} {block : List ℕ} (front : Is
 
 -- ---- the super block of whole blocks in memory
 
-pub IsFront-memory : (bytes block : List ℕ) → 2 ≤ length bytes / 1024 → block ≡ slice_range bytes 1024 2048 → IsFront (blocks_of bytes) (length bytes / 1024) block
+pub IsFront-memory : (bytes block : List ℕ) → 2 ≤ length bytes / 1024 → block ≡ slice_range bytes 1024 2048
+    → IsFront (blocks_of bytes) (length bytes / 1024) block
 IsFront-memory bytes block two e = record {
   sizes = AreBlocks-blocks_of bytes;
   many = sym (length-blocks_of bytes);

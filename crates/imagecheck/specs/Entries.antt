@@ -1,5 +1,6 @@
 -- The places of a directory behind "." and "..", one by one.
-use Rattle.std.specs.Prelude.{All, AllPairs, IsSome, IsTrue, List, None, Option, Some, drop, if◌then◌else◌, map, take, ℕ, ⊤, ◌<◌, ◌==◌, ◌≡◌, ◌≢◌, ◌≤◌}
+use Rattle.std.specs.Prelude.{All, AllPairs, IsSome, IsTrue, List, None, Option, Some, drop, if◌then◌else◌, map, take}
+use Rattle.std.specs.Prelude.{ℕ, ⊤, ◌<◌, ◌==◌, ◌≡◌, ◌≢◌, ◌≤◌}
 use Rattle.unixmodel.specs.Files.{Entry, dot, dot_dot, name_bytes, slot, taken}
 use Rattle.unixmodel.specs.Image.{contents_in, inodes_in, is_name, kind_in, names_of, parent_of}
 use Rattle.unixmodel.specs.Numbers.{number}
@@ -42,7 +43,8 @@ pub record HasNames (image bytes : List ℕ) : Type 0 where
   pub once : AllPairs AreOther (entries_in bytes)
 
 abbrev pub NamesDirectories : List ℕ → Type 0
-NamesDirectories image = (n : ℕ) → 1 ≤ n → n < inodes_in image → kind_in image n ≡ 1 → HasNames image (contents_in image n)
+NamesDirectories image = (n : ℕ) → 1 ≤ n → n < inodes_in image → kind_in image n ≡ 1
+    → HasNames image (contents_in image n)
 
 -- a directory starts with ".", which is itself, and "..", which is the one above
 pub record FitsFront (d above : ℕ) (bytes : List ℕ) : Type 0 where
@@ -50,8 +52,10 @@ pub record FitsFront (d above : ℕ) (bytes : List ℕ) : Type 0 where
   pub parent : slot (places_in bytes) 1 ≡ Some (record { name = dot_dot; number = above })
 
 abbrev pub HasFronts : List ℕ → Type 0
-HasFronts image = (n : ℕ) → 1 ≤ n → n < inodes_in image → kind_in image n ≡ 1 → FitsFront n (parent_of (files_in image) n) (contents_in image n)
+HasFronts image = (n : ℕ) → 1 ≤ n → n < inodes_in image → kind_in image n ≡ 1
+    → FitsFront n (parent_of (files_in image) n) (contents_in image n)
 
 -- one place names each directory, and none the root
 abbrev pub AreNamed : List ℕ → Type 0
-AreNamed image = (n : ℕ) → 1 ≤ n → n < inodes_in image → kind_in image n ≡ 1 → names_of (files_in image) n ≡ (if n == 1 then 0 else 1)
+AreNamed image = (n : ℕ) → 1 ≤ n → n < inodes_in image → kind_in image n ≡ 1
+    → names_of (files_in image) n ≡ (if n == 1 then 0 else 1)

@@ -12,14 +12,16 @@ use Rattle.imagerules.specs.Rules.{HasBlocks, HasInodes}
 use Rattle.imagerules.specs.Pieces.{HasAddresses, HasBitmap, HasKinds, HasLength, HasMagic, HasSizes, NamesOnce}
 use Rattle.imagerules.specs.Places.{HasEntries, HasLinks, IsReached, files_in}
 use Rattle.imagecheck.specs.declared.ImageFault.{ImageFault}
-use Rattle.imagecheck.specs.declared.ImageFault.TheVariants.{Address, Bitmap, Device, Entry, Length, Links, Magic, NoMemory, NodeType, Numbers, SharedBlock, Size, Unreached}
+use Rattle.imagecheck.specs.declared.ImageFault.TheVariants.{Address, Bitmap, Device, Entry, Length, Links, Magic}
+use Rattle.imagecheck.specs.declared.ImageFault.TheVariants.{NoMemory, NodeType, Numbers, SharedBlock, Size, Unreached}
 
 -- the super block is one of the format, and tells this geometry
 pub record Begins (f : Format) (image : List ℕ) (g : Geometry) : Type 0 where
   pub magic : HasMagic f image
   pub geometry : HasGeometry image g
 
--- the fault that a pass over an image in memory finds: it holds of an image with a sound super block, and those before it don't;
+-- the fault that a pass over an image in memory finds: it holds of an image with a sound super block, and those before
+-- it don't;
 -- or memory ran out
 abbrev pub Finds : List ℕ → ImageFault → Type 0
 Finds image NodeType = HasSuper image × (HasKinds image → ⊥)
@@ -29,7 +31,8 @@ Finds image SharedBlock = HasInodes image × HasAddresses image × (NamesOnce im
 Finds image Bitmap = HasInodes image × HasAddresses image × NamesOnce image × (HasBitmap image → ⊥)
 Finds image Entry = HasBlocks image × (HasEntries (files_in image) → ⊥)
 Finds image Links = HasBlocks image × HasEntries (files_in image) × (HasLinks (files_in image) → ⊥)
-Finds image Unreached = HasBlocks image × HasEntries (files_in image) × HasLinks (files_in image) × (IsReached (files_in image) → ⊥)
+Finds image Unreached = HasBlocks image × HasEntries (files_in image) × HasLinks (files_in image)
+    × (IsReached (files_in image) → ⊥)
 Finds image NoMemory = ⊤
 Finds image fault = ⊥
 
@@ -72,4 +75,5 @@ DenotesOwn f image = DenotesIn f image (files_in image)
 
 -- it is told whether these blocks have no marks before and none stands twice; they have marks then, beside those before
 abbrev pub MarksMore : List Bool → List Bool → List ℕ → Bool → Type 0
-MarksMore old new blocks told = (before : List ℕ) → HasMarks before old → MatchBool told (HasMarks (before ++ blocks) new) (¬ IsOnce (before ++ blocks))
+MarksMore old new blocks told = (before : List ℕ) → HasMarks before old
+    → MatchBool told (HasMarks (before ++ blocks) new) (¬ IsOnce (before ++ blocks))

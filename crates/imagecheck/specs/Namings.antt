@@ -1,5 +1,7 @@
--- The entries of all directories, each as the directory that it stands in and the number that it names, and tables of them.
-use Rattle.std.specs.Prelude.{IsSome, List, Option, count_by, if◌then◌else◌, length, map, option_map, slice_index_or, unwrap_or, ℕ, ◌&&◌, ◌+◌, ◌<◌, ◌==◌, ◌≡◌, ◌≢◌, ◌≤◌}
+-- The entries of all directories, each as the directory that it stands in and the number that it names, and tables of
+-- them.
+use Rattle.std.specs.Prelude.{IsSome, List, Option, count_by, if◌then◌else◌, length, map, option_map, slice_index_or}
+use Rattle.std.specs.Prelude.{unwrap_or, ℕ, ◌&&◌, ◌+◌, ◌<◌, ◌==◌, ◌≡◌, ◌≢◌, ◌≤◌}
 use Rattle.std.specs.List.{find}
 use Rattle.unixmodel.specs.Files.{Entry, most_links, slot}
 use Rattle.unixmodel.specs.Image.{all_entries, inodes_in, is_directory_at, names_of, parent_of, subdirectories}
@@ -51,7 +53,8 @@ abbrev pub parent_among : List Naming → ℕ → ℕ
 parent_among namings n = if n == 1 then 1 else first_directory namings n
 
 abbrev pub times_holding : List ℕ → List Naming → ℕ → ℕ
-times_holding image namings d = count_by (λ (m : Naming). (m.directory == d) && is_directory_at (files_in image) m.number) namings
+times_holding image namings d =
+    count_by (λ (m : Naming). (m.directory == d) && is_directory_at (files_in image) m.number) namings
 
 abbrev pub CountsNames : List Naming → List ℕ → Type 0
 CountsNames namings counts = (n : ℕ) → n < length counts → slice_index_or counts n 0 ≡ times_named namings n
@@ -63,7 +66,8 @@ abbrev pub HasParentsAmong : List Naming → List ℕ → Type 0
 HasParentsAmong namings parents = (n : ℕ) → n < length parents → slice_index_or parents n 0 ≡ parent_among namings n
 
 abbrev pub CountsSubdirectories : List ℕ → List Naming → List ℕ → Type 0
-CountsSubdirectories image namings counts = (d : ℕ) → d < length counts → slice_index_or counts d 0 ≡ times_holding image namings d
+CountsSubdirectories image namings counts = (d : ℕ) → d < length counts
+    → slice_index_or counts d 0 ≡ times_holding image namings d
 
 -- ---- what a table tells of the files
 
@@ -74,7 +78,8 @@ abbrev pub HasParents : List ℕ → List ℕ → Type 0
 HasParents image parents = (n : ℕ) → n < length parents → slice_index_or parents n 0 ≡ parent_of (files_in image) n
 
 abbrev pub TellsSubdirectories : List ℕ → List ℕ → Type 0
-TellsSubdirectories image counts = (d : ℕ) → d < length counts → slice_index_or counts d 0 ≡ subdirectories (files_in image) d
+TellsSubdirectories image counts = (d : ℕ) → d < length counts
+    → slice_index_or counts d 0 ≡ subdirectories (files_in image) d
 
 -- a count of links that an inode of a type may have
 pub record FitsLinks (kind links names subdirectories : ℕ) : Type 0 where

@@ -11,10 +11,13 @@ Lies image n k = 1024 * number_in image n k + 1024 ≤ length image
 pub record IsFound (image : List ℕ) (n k : ℕ) : Type 0 where
   pub within : k < slots (format_of image)
   pub holder : in_record (format_of image) k ≡ false → Lies image n (holder_of (format_of image) k)
-  pub above : in_record (format_of image) k ≡ false → in_record (format_of image) (holder_of (format_of image) k) ≡ false
+  pub above : in_record (format_of image) k ≡ false
+      → in_record (format_of image) (holder_of (format_of image) k) ≡ false
       → Lies image n (holder_of (format_of image) (holder_of (format_of image) k))
 
 -- the number in the k-th of the slots that are there is that of a data block, or 0 where the size asks for none
 pub record FitsSlot (image : List ℕ) (n k : ℕ) : Type 0 where
-  pub asked : k < taken_blocks (format_of image) (count_in image n) → IsTrue (is_data_block image (number_in image n (slot_at (format_of image) (count_in image n) k)))
-  pub spare : taken_blocks (format_of image) (count_in image n) ≤ k → number_in image n (slot_at (format_of image) (count_in image n) k) ≡ 0
+  pub asked : k < taken_blocks (format_of image) (count_in image n)
+      → IsTrue (is_data_block image (number_in image n (slot_at (format_of image) (count_in image n) k)))
+  pub spare : taken_blocks (format_of image) (count_in image n) ≤ k
+      → number_in image n (slot_at (format_of image) (count_in image n) k) ≡ 0

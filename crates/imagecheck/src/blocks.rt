@@ -88,8 +88,8 @@ fn fits(geometry: Geometry, asked: bool, number: usize) -> bool
     }
 }
 
-// Whether the numbers of an inode that its size asks for are data blocks, and all others 0. An index block is read once its own
-// number was found to be a data block.
+// Whether the numbers of an inode that its size asks for are data blocks, and all others 0. An index block is read once
+// its own number was found to be a data block.
 fn fits_addresses(image: &[u8], geometry: Geometry, n: usize) -> bool
     requires geometry { HasGeometry image.now geometry }
     requires inode { HasInode image.now n }

@@ -11,7 +11,8 @@ use blockdev::{BLOCK_SIZE, Block, BlockDev};
 use layout::{Format, Geometry, LayoutFault, SuperBlock};
 use std::alloc::Allocator;
 
-// The geometry that the super block tells of a device of so many blocks, if its numbers and the length are right in the format.
+// The geometry that the super block tells of a device of so many blocks, if its numbers and the length are right in the
+// format.
 pub fn geometry_in(format: Format, block: &Block, count: usize) -> Result<Geometry, ImageFault>
     requires { 2 ≤ count }
     ensures judged { OfFront count block.now (λ image. TellsGeometry (format_named format) image result) }

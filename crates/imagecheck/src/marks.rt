@@ -1,6 +1,7 @@
 //! Marks of the blocks that inodes name: none is named twice, and the bitmap agrees with them.
 
-ghost use Rattle.std.specs.Prelude.{◌↔◌, IsTrue, ◌≡◌, ℕ, ◌+◌, ◌*◌, ◌/◌, ◌%◌, ◌<◌, ◌≤◌, ◌++◌, [], List, not, length, slice_index, slice_index_or, slice_set, MatchBool, false, true};
+ghost use Rattle.std.specs.Prelude.{◌↔◌, IsTrue, ◌≡◌, ℕ, ◌+◌, ◌*◌, ◌/◌, ◌%◌, ◌<◌, ◌≤◌, ◌++◌, [], List, not, length};
+ghost use Rattle.std.specs.Prelude.{slice_index, slice_index_or, slice_set, MatchBool, false, true};
 ghost use Rattle.unixmodel.specs.Numbers.{has_bit};
 ghost use Rattle.unixmodel.specs.Image.{bitmap_start, named_blocks, named_by, size_in};
 ghost use Rattle.imagerules.specs.Fields.{HasGeometry, HasInode, SuperRules};

@@ -47,7 +47,8 @@ pub fn check_bytes<A: Allocator>(
     summary_of(alloc, image, geometry)
 }
 
-/// Tests bytes in memory as `check1` tests those of a device, and tells the numbers of their super block. No fault is `Device`.
+/// Tests bytes in memory as `check1` tests those of a device, and tells the numbers of their super block. No fault is
+/// `Device`.
 pub fn check1_bytes<A: Allocator>(alloc: A, image: &[u8]) -> Result<Geometry, ImageFault>
     ensures geometry { IfOk result (λ g. HasGeometry image.now g) }
     ensures denotes { OnOk result (DenotesSmall image.now (files_in image.now)) }

@@ -12,7 +12,8 @@ use std::alloc::{AllocError, Allocator};
 // Appends the number of the name in a place, if it is taken.
 fn add_name<A: Allocator>(place: &[u8], names: &mut Vec<u128, A>) -> Result<(), AllocError>
     requires { length place.now ≡ 16 }
-    ensures { OnOk result (names.new.items ≡ names.old.items ++ name_numbers (option_to_list (place_of_bytes place.now))) }
+    ensures { OnOk result (names.new.items ≡ names.old.items
+            ++ name_numbers (option_to_list (place_of_bytes place.now))) }
 {
     if is_free(place) {
         return Ok(());

@@ -106,7 +106,8 @@ fn check_in<A: Allocator, D: BlockDev>(
     format: Format,
 ) -> Result<Summary, ImageFault>
     ensures denotes { OnOk result (DenotesOwn (format_named format) (image_of (D.content device.old))) }
-    ensures inodes { IfOk result (λ summary. summary.inodes ≡ length (numbers_in_use (image_of (D.content device.old)))) }
+    ensures inodes { IfOk result
+            (λ summary. summary.inodes ≡ length (numbers_in_use (image_of (D.content device.old)))) }
     ensures blocks { IfOk result (λ summary. summary.blocks ≡ length (named_blocks (image_of (D.content device.old)))) }
     ensures fault { IfErr result (λ fault. Tells (format_named format) (image_of (D.content device.old)) fault) }
     ensures refused { IfErr result (Denies (DenotesIn (format_named format) (image_of (D.content device.old)))) }
@@ -124,14 +125,16 @@ fn check_in<A: Allocator, D: BlockDev>(
 }
 
 /// Tests that an image denotes files: its length, its super block, its inodes, the blocks that they name,
-/// the places of its directories, the counts of links, and that a path reaches each inode in use. What a device lends in
-/// memory (`as_bytes`) is looked at where it stands, with no access; else all blocks are read into a copy.
+/// the places of its directories, the counts of links, and that a path reaches each inode in use. What a device lends
+/// in memory (`as_bytes`) is looked at where it stands, with no access; else all blocks are read into a copy.
 ///
-/// The fault is that of the first rule that the image breaks, in the order that `ImageFault` tells. An image that has one
-/// denotes no files.
+/// The fault is that of the first rule that the image breaks, in the order that `ImageFault` tells. An image that has
+/// one denotes no files.
 pub fn check<A: Allocator, D: BlockDev>(alloc: A, device: &mut D) -> Result<Summary, ImageFault>
-    ensures denotes { OnOk result (Denotes (image_of (D.content device.old)) (files_in (image_of (D.content device.old)))) }
-    ensures inodes { IfOk result (λ summary. summary.inodes ≡ length (numbers_in_use (image_of (D.content device.old)))) }
+    ensures denotes { OnOk result
+            (Denotes (image_of (D.content device.old)) (files_in (image_of (D.content device.old)))) }
+    ensures inodes { IfOk result
+            (λ summary. summary.inodes ≡ length (numbers_in_use (image_of (D.content device.old)))) }
     ensures blocks { IfOk result (λ summary. summary.blocks ≡ length (named_blocks (image_of (D.content device.old)))) }
     ensures fault { IfErr result (λ fault. Tells format (image_of (D.content device.old)) fault) }
     ensures refused { IfErr result (Denies (Denotes (image_of (D.content device.old)))) }
@@ -146,8 +149,10 @@ pub fn check<A: Allocator, D: BlockDev>(alloc: A, device: &mut D) -> Result<Summ
 /// Tests that an image in the small format denotes files, by the rules of `check` and in their order. An
 /// image of another format has the fault `Magic`.
 pub fn check1<A: Allocator, D: BlockDev>(alloc: A, device: &mut D) -> Result<Summary, ImageFault>
-    ensures denotes { OnOk result (DenotesSmall (image_of (D.content device.old)) (files_in (image_of (D.content device.old)))) }
-    ensures inodes { IfOk result (λ summary. summary.inodes ≡ length (numbers_in_use (image_of (D.content device.old)))) }
+    ensures denotes { OnOk result
+            (DenotesSmall (image_of (D.content device.old)) (files_in (image_of (D.content device.old)))) }
+    ensures inodes { IfOk result
+            (λ summary. summary.inodes ≡ length (numbers_in_use (image_of (D.content device.old)))) }
     ensures blocks { IfOk result (λ summary. summary.blocks ≡ length (named_blocks (image_of (D.content device.old)))) }
     ensures fault { IfErr result (λ fault. Tells small (image_of (D.content device.old)) fault) }
     ensures refused { IfErr result (Denies (DenotesSmall (image_of (D.content device.old)))) }

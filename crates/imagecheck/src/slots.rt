@@ -3,7 +3,8 @@
 ghost use Rattle.std.specs.Prelude.{◌≡◌, ◌+◌, ◌*◌, ◌<◌, ◌≤◌, false, true};
 ghost use Rattle.layout.specs.Formats.{format_named};
 ghost use Rattle.unixmodel.specs.Formats.{index_blocks};
-ghost use Rattle.unixmodel.specs.Slots.{address_of, data_end, holder_of, in_record, place_of, single, slot_at, slots, taken_blocks, there};
+ghost use Rattle.unixmodel.specs.Slots.{address_of, data_end, holder_of, in_record, place_of, single, slot_at, slots};
+ghost use Rattle.unixmodel.specs.Slots.{taken_blocks, there};
 
 use layout::Format;
 
@@ -120,8 +121,8 @@ pub fn there(format: Format, count: usize) -> usize
     data_end(format, count) + index
 }
 
-// The slots that are there, one after the other: those of the index blocks, each behind its holder, those of the data, and the
-// spare ones.
+// The slots that are there, one after the other: those of the index blocks, each behind its holder, those of the data,
+// and the spare ones.
 #[tactic(auto, unfolding(unixmodel::specs::Slots::slot_at, unixmodel::specs::Slots::asked_slot))]
 pub fn slot_at(format: Format, count: usize, k: usize) -> usize
     requires count { count ≤ single (format_named format) }

@@ -1,16 +1,27 @@
 -- A name in a directory of what is made is found in the list of the names that are made so far.
-use Rattle.imagemake.proofs.Common.{◌≡◌, ℕ, zero, suc, ◌≤◌, Bool, true, false, cond, List, [], ◌∷◌, ◌++◌, None, Option, Some, ap, refl, arith, bytes_eq, option_and_then, position, Files, Node, lookup, slot, Entry, Directory, ◌≢◌, ◌+◌, ◌-◌}
-use Rattle.imagemake.proofs.Common.{length, inl, inr, ap₂, sym, ◌∙◌, nat_lt, option_map, slice_get, unwrap_or, ◌&&◌, ◌==◌, not, eqb, list_all, position_or_len, and_parts, cases_lt, false≢true, false_from_ne_true, or_parts, cond-false}
-use Rattle.imagemake.proofs.Common.{length_push, bytes_eq-Decides, dot, dot_dot, is_directory, KeepsRules, is_directory_at, is_name, added, bare_files, node_for, CanAdd, Folder, IsListed, MadeName, found, is_folder, made_name, seek}
-use Rattle.imagemake.proofs.Common.{stands_at, position_or_len_push, prefix_len-le-length, Thing, eq-eqb, ne_eqb, slice_get_read, ◌<◌, get_or, take, drop, eqb-true, length-append, length-take-le, position-Some, onto_first, pieces, LeadsTo}
-use Rattle.imagemake.proofs.Common.{reach, Result, subst, drop_all, FileTree, ManifestEntry, Wrong, with_entries, with_manifest_entry, AddsEntry, IsGoing, MakesEntries, made_by, IsBegun, Refuses, entry_of, meaning, MakeFault, NoMemory, Err}
-use Rattle.imagemake.proofs.Common.{is_some, nat_le, list_all-append, none-some, some_pair_parts, same_Some, split_last, with_last, if_room, names_in, Inodes, Name, Twice, IsSpot, Ok, HasFiles, KeepsNode, PackedAt, IsMade, make_fault}
-use Rattle.imagemake.proofs.Common.{StoreFault, below-slot, lt-leb, IsWhole, Stores, cases_Bool, nat_tests}
+use Rattle.imagemake.proofs.Common.{◌≡◌, ℕ, zero, suc, ◌≤◌, Bool, true, false, cond, List, [], ◌∷◌, ◌++◌, None, Option}
+use Rattle.imagemake.proofs.Common.{Some, ap, refl, arith, bytes_eq, option_and_then, position, Files, Node, lookup}
+use Rattle.imagemake.proofs.Common.{slot, Entry, Directory, ◌≢◌, ◌+◌, ◌-◌, length, inl, inr, ap₂, sym, ◌∙◌, nat_lt}
+use Rattle.imagemake.proofs.Common.{option_map, slice_get, unwrap_or, ◌&&◌, ◌==◌, not, eqb, list_all, position_or_len}
+use Rattle.imagemake.proofs.Common.{and_parts, cases_lt, false≢true, false_from_ne_true, or_parts, cond-false}
+use Rattle.imagemake.proofs.Common.{length_push, bytes_eq-Decides, dot, dot_dot, is_directory, KeepsRules}
+use Rattle.imagemake.proofs.Common.{is_directory_at, is_name, added, bare_files, node_for, CanAdd, Folder, IsListed}
+use Rattle.imagemake.proofs.Common.{MadeName, found, is_folder, made_name, seek, stands_at, position_or_len_push}
+use Rattle.imagemake.proofs.Common.{prefix_len-le-length, Thing, eq-eqb, ne_eqb, slice_get_read, ◌<◌, get_or, take}
+use Rattle.imagemake.proofs.Common.{drop, eqb-true, length-append, length-take-le, position-Some, onto_first, pieces}
+use Rattle.imagemake.proofs.Common.{LeadsTo, reach, Result, subst, drop_all, FileTree, ManifestEntry, Wrong}
+use Rattle.imagemake.proofs.Common.{with_entries, with_manifest_entry, AddsEntry, IsGoing, MakesEntries, made_by}
+use Rattle.imagemake.proofs.Common.{IsBegun, Refuses, entry_of, meaning, MakeFault, NoMemory, Err, is_some, nat_le}
+use Rattle.imagemake.proofs.Common.{list_all-append, none-some, some_pair_parts, same_Some, split_last, with_last}
+use Rattle.imagemake.proofs.Common.{if_room, names_in, Inodes, Name, Twice, IsSpot, Ok, HasFiles, KeepsNode, PackedAt}
+use Rattle.imagemake.proofs.Common.{IsMade, make_fault, StoreFault, below-slot, lt-leb, IsWhole, Stores, cases_Bool}
+use Rattle.imagemake.proofs.Common.{nat_tests}
 use Rattle.imagerules.proofs.Denoting.{first_named as first, first_named-is as first-position, IsGiven-name}
 use Rattle.std.proofs.Math.Seq.{get_or-append_seam}
 use Rattle.imagemake.proofs.Pathing.{is_folder-high, is_folder-low, reach_found, reach_some, split-pieces}
 use Rattle.imagemake.proofs.Putting.{bare-each, IsBegun-bare}
-use Rattle.imagemake.proofs.MadeEntry.{apart, each-more, entry, links-with, links_with, places_more, directory-kept, few-directories, directory-at, IsBegun-more}
+use Rattle.imagemake.proofs.MadeEntry.{apart, each-more, entry, links-with, links_with, places_more, directory-kept}
+use Rattle.imagemake.proofs.MadeEntry.{few-directories, directory-at, IsBegun-more}
 use Rattle.imagemake.specs.declared.manifest.Entry.{Entry as Item}
 use Rattle.imagemake.specs.declared.store.StoreFault.TheVariants.{Blocks, Device}
 use Rattle.std.proofs.lemmas.List.{append_assoc, drop_more, take-append-drop, take_at}
@@ -26,27 +37,36 @@ finds name o = option_and_then (λ places. entry_number (first name places)) (li
 
 pub lookup-finds : (files : Files) (d : ℕ) (name : List ℕ) → lookup files d name ≡ finds name (slot files d)
 unfolding lookup
-lookup-finds files d name = λ j. option_and_then (λ places. entry_number (first-position name places j)) (places_at files d)
+lookup-finds files d name =
+    λ j. option_and_then (λ places. entry_number (first-position name places j)) (places_at files d)
 
-pub finds-live : (links : ℕ) (places : List (Option Entry)) (name : List ℕ) → 1 ≤ links → finds name (Some (Directory links places)) ≡ entry_number (first name places)
+pub finds-live : (links : ℕ) (places : List (Option Entry)) (name : List ℕ) → 1 ≤ links
+    → finds name (Some (Directory links places)) ≡ entry_number (first name places)
 finds-live zero places name h = absurd (omega arith)
 finds-live (suc links) places name h = refl
 
 -- with an entry more at the end
-pub number-push : (name : List ℕ) (os : List (Option Entry)) (e : Entry) → entry_number (first name (os ++ Some e ∷ [])) ≡ option_or (entry_number (first name os)) (cond (bytes_eq e.name name) (Some e.number) None)
+pub number-push : (name : List ℕ) (os : List (Option Entry)) (e : Entry)
+    → entry_number (first name (os ++ Some e ∷ []))
+    ≡ option_or (entry_number (first name os)) (cond (bytes_eq e.name name) (Some e.number) None)
 number-push name [] e = elim (cases_Bool (bytes_eq e.name name)) [ inl t ↦ rw t refl | inr f ↦ rw f refl ]
 number-push name (None ∷ os) e = number-push name os e
-number-push name (Some f ∷ os) e = elim (cases_Bool (bytes_eq f.name name)) [ inl t ↦ rw t refl | inr n ↦ rw n (number-push name os e) ]
+number-push name (Some f ∷ os) e =
+    elim (cases_Bool (bytes_eq f.name name)) [ inl t ↦ rw t refl | inr n ↦ rw n (number-push name os e) ]
 
-push_step : (n k m : ℕ) (b : Bool) → n ≤ k → m ≡ cond (eqb n k) (k + cond b 0 1) n → cond (nat_lt m (k + 1)) (Some m) None ≡ option_or (cond (nat_lt n k) (Some n) None) (cond b (Some k) None)
+push_step : (n k m : ℕ) (b : Bool) → n ≤ k → m ≡ cond (eqb n k) (k + cond b 0 1) n
+    → cond (nat_lt m (k + 1)) (Some m) None ≡ option_or (cond (nat_lt n k) (Some n) None) (cond b (Some k) None)
 push_step n k m b h e = let c = cases_Bool b in grind (arith, nat_tests)
 
-position-push : {X : Type 0} (p : X → Bool) (xs : List X) (x : X) → position p (xs ++ x ∷ []) ≡ option_or (position p xs) (cond (p x) (Some (length xs)) None)
+position-push : {X : Type 0} (p : X → Bool) (xs : List X) (x : X)
+    → position p (xs ++ x ∷ []) ≡ option_or (position p xs) (cond (p x) (Some (length xs)) None)
 position-push p xs x =
-    ap (λ k. cond (nat_lt (position_or_len p (xs ++ x ∷ [])) k) (Some (position_or_len p (xs ++ x ∷ []))) None) (length_push xs x)
+    ap (λ k. cond (nat_lt (position_or_len p (xs ++ x ∷ [])) k) (Some (position_or_len p (xs ++ x ∷ []))) None)
+        (length_push xs x)
     ∙ push_step _ _ _ _ (prefix_len-le-length (λ y. not (p y)) xs) (position_or_len_push p xs x)
 
-slice_get-other : {X : Type 0} (xs : List X) (x : X) (k : ℕ) → k ≢ length xs → slice_get (xs ++ x ∷ []) k ≡ slice_get xs k
+slice_get-other : {X : Type 0} (xs : List X) (x : X) (k : ℕ) → k ≢ length xs
+    → slice_get (xs ++ x ∷ []) k ≡ slice_get xs k
 slice_get-other [] x zero h = absurd (h refl)
 slice_get-other [] x (suc k) h = refl
 slice_get-other (y ∷ ys) x zero h = refl
@@ -55,10 +75,13 @@ slice_get-other (y ∷ ys) x (suc k) h = slice_get-other ys x k (λ e. h (ap suc
 -- ---- the list with an item more
 
 module _ (made : List MadeName) (x : MadeName) where
-  pub found-push : (k : ℕ) (w : List ℕ) → found (made ++ x ∷ []) k w ≡ option_or (found made k w) (cond (stands_at k w x) (Some (length made + 2)) None)
+  pub found-push : (k : ℕ) (w : List ℕ)
+      → found (made ++ x ∷ []) k w ≡ option_or (found made k w) (cond (stands_at k w x) (Some (length made + 2)) None)
   unfolding found
   found-push k w = ap (option_map (λ j. j + 2)) (position-push _ made x) ∙ go _ _ where
-    go : (o : Option ℕ) (b : Bool) → option_map (λ j. j + 2) (option_or o (cond b (Some (length made)) None)) ≡ option_or (option_map (λ j. j + 2) o) (cond b (Some (length made + 2)) None)
+    go : (o : Option ℕ) (b : Bool)
+        → option_map (λ j. j + 2) (option_or o (cond b (Some (length made)) None))
+        ≡ option_or (option_map (λ j. j + 2) o) (cond b (Some (length made + 2)) None)
     go None true = refl
     go None false = refl
     go (Some j) b = refl
@@ -67,49 +90,70 @@ module _ (made : List MadeName) (x : MadeName) where
   folder-new =
       let at : length made + 2 - 2 ≡ length made = omega arith in
       is_folder-high _ _ (omega arith)
-      ∙ rw (at, slice_get_read (made ++ x ∷ []) _ (length made) x refl (omega (arith, length_push made x)) (sym (get_or-append_seam made x [] x))) refl
+      ∙ rw (at, slice_get_read (made ++ x ∷ []) _ (length made) x refl (omega (arith, length_push made x))
+          (sym (get_or-append_seam made x [] x))) refl
 
   folder-other : (m : ℕ) → m ≢ length made + 2 → is_folder (made ++ x ∷ []) m ≡ is_folder made m
   folder-other m s = elim (cases_lt m 2) [
     | inl l ↦ is_folder-low _ m l ∙ sym (is_folder-low made m l)
-    | inr l ↦ is_folder-high _ m l ∙ ap (λ o. unwrap_or (option_map (λ (y : MadeName). y.folder) o) false) (slice_get-other made x _ (λ e. s (omega arith))) ∙ sym (is_folder-high made m l)
+    | inr l ↦ is_folder-high _ m l
+        ∙ ap (λ o. unwrap_or (option_map (λ (y : MadeName). y.folder) o) false)
+        (slice_get-other made x _ (λ e. s (omega arith))) ∙ sym (is_folder-high made m l)
   ]
 
 -- ---- a name that is neither "." nor ".."
 
 other_bytes : (xs ys : List ℕ) → bytes_eq ys xs ≡ false → bytes_eq xs ys ≡ false
-other_bytes xs ys h = false_from_ne_true _ (λ t. false≢true (sym h ∙ (bytes_eq-Decides ys xs).1 (sym ((bytes_eq-Decides xs ys).0 t))))
+other_bytes xs ys h = false_from_ne_true _
+    (λ t. false≢true (sym h ∙ (bytes_eq-Decides ys xs).1 (sym ((bytes_eq-Decides xs ys).0 t))))
 
 -- isn't in what a thing makes
 nothing-found : (n d : ℕ) (thing : Thing) (w : List ℕ) → is_name w ≡ true → finds w (Some (node_for n d thing)) ≡ None
 nothing-found n d Folder w good =
     let dots = or_parts (bytes_eq w dot) (bytes_eq w dot_dot) (IsGiven-name w good).no_dots in
-    ap₂ (λ s t. entry_number (cond s (Some (record { name = dot; number = n })) (cond t (Some (record { name = dot_dot; number = d })) None))) (other_bytes dot w dots.0) (other_bytes dot_dot w dots.1)
+    ap₂ (λ s t. entry_number
+        (cond s (Some (record { name = dot; number = n }))
+        (cond t (Some (record { name = dot_dot; number = d })) None))) (other_bytes dot w dots.0)
+        (other_bytes dot_dot w dots.1)
 nothing-found n d thing w good = refl
 
 option_or-none : {X : Type 0} (o : Option X) → option_or o None ≡ o
 option_or-none None = refl
 option_or-none (Some x) = refl
 
-module _ {files : Files} (rules : KeepsRules files) {d : ℕ} {name : List ℕ} {n : ℕ} (thing : Thing) (can : CanAdd files d name n) where
+module _ {files : Files} (rules : KeepsRules files) {d : ℕ} {name : List ℕ} {n : ℕ} (thing : Thing)
+    (can : CanAdd files d name n) where
   -- each name leads where it led, and the new one to its number
-  lookup-more : (w : List ℕ) → is_name w ≡ true → (k : ℕ) → lookup (added files d name n thing) k w ≡ option_or (lookup files k w) (cond ((d == k) && bytes_eq name w) (Some n) None)
+  lookup-more : (w : List ℕ) → is_name w ≡ true → (k : ℕ)
+      → lookup (added files d name n thing) k w
+      ≡ option_or (lookup files k w) (cond ((d == k) && bytes_eq name w) (Some n) None)
   lookup-more w good k =
       let some : 1 ≤ can.links = let c = (directory-kept rules can).counted in omega arith in
-      lookup-finds (added files d name n thing) k w ∙ each-more thing can (λ k o. finds w o ≡ option_or (lookup files k w) (cond ((d == k) && bytes_eq name w) (Some n) None))
-      (nothing-found n d thing w good ∙ sym (rw (lookup-finds files n w, can.number.unused, ne_eqb d n (apart thing can)) refl))
-      (finds-live (links_with thing can.links) (places_more thing can) w (omega (arith, links-with thing n d can.links)) ∙ number-push w can.places (entry thing can)
+      lookup-finds (added files d name n thing) k w
+          ∙ each-more thing can (λ k o. finds w o
+          ≡ option_or (lookup files k w) (cond ((d == k) && bytes_eq name w) (Some n) None))
+      (nothing-found n d thing w good
+          ∙ sym (rw (lookup-finds files n w, can.number.unused, ne_eqb d n (apart thing can)) refl))
+      (finds-live (links_with thing can.links) (places_more thing can) w
+          (omega (arith, links-with thing n d can.links)) ∙ number-push w can.places (entry thing can)
       ∙ sym (rw (lookup-finds files d w, can.directory, finds-live can.links can.places w some, eq-eqb d d refl) refl))
       (λ m s t. rw (lookup-finds files m w, ne_eqb d m (λ e. t (sym e))) (sym (option_or-none _)))
       k
 
-  pub IsListed-more : (made : List MadeName) → length made + 2 ≡ n → IsListed files made → {folder : Bool} → folder ≡ is_directory (node_for n d thing) → IsListed (added files d name n thing) (made ++ made_name d name folder ∷ [])
+  pub IsListed-more : (made : List MadeName) → length made + 2 ≡ n → IsListed files made → {folder : Bool}
+      → folder ≡ is_directory (node_for n d thing)
+      → IsListed (added files d name n thing) (made ++ made_name d name folder ∷ [])
   IsListed-more made long listed {folder} kind =
       let x = made_name d name folder in
       record {
-        names = λ k w good. lookup-more w good k ∙ ap₂ (λ o i. option_or o (cond ((d == k) && bytes_eq name w) (Some i) None)) (listed.names k w good) (sym long) ∙ sym (found-push made x k w);
-        folders = each-more thing can (λ m o. unwrap_or (option_map is_directory o) false ≡ is_folder (made ++ x ∷ []) m) (sym kind ∙ sym (folder-new made x) ∙ ap (is_folder (made ++ x ∷ [])) long)
-            (ap (λ o. unwrap_or (option_map is_directory o) false) (sym can.directory) ∙ listed.folders d ∙ sym (folder-other made x d (λ e. apart thing can (e ∙ long))))
+        names = λ k w good. lookup-more w good k
+            ∙ ap₂ (λ o i. option_or o (cond ((d == k) && bytes_eq name w) (Some i) None)) (listed.names k w good)
+            (sym long) ∙ sym (found-push made x k w);
+        folders = each-more thing can
+            (λ m o. unwrap_or (option_map is_directory o) false ≡ is_folder (made ++ x ∷ []) m)
+            (sym kind ∙ sym (folder-new made x) ∙ ap (is_folder (made ++ x ∷ [])) long)
+            (ap (λ o. unwrap_or (option_map is_directory o) false) (sym can.directory) ∙ listed.folders d
+                ∙ sym (folder-other made x d (λ e. apart thing can (e ∙ long))))
             (λ m s t. listed.folders m ∙ sym (folder-other made x m (λ e. s (e ∙ long))));
       }
 
@@ -120,10 +164,12 @@ unfolding found is_folder
 IsListed-bare inodes some = record { names = no_name; folders = root_alone }
   where
     no_name : (d : ℕ) (w : List ℕ) → is_name w ≡ true → lookup (bare_files inodes) d w ≡ found [] d w
-    no_name d w good = lookup-finds _ d w ∙ bare-each inodes some (λ _ o. finds w o ≡ None) (nothing-found 1 1 Folder w good) (λ _ _. refl) d
+    no_name d w good = lookup-finds _ d w
+        ∙ bare-each inodes some (λ _ o. finds w o ≡ None) (nothing-found 1 1 Folder w good) (λ _ _. refl) d
 
     root_alone : (n : ℕ) → is_directory_at (bare_files inodes) n ≡ is_folder [] n
-    root_alone = bare-each inodes some (λ n o. unwrap_or (option_map is_directory o) false ≡ is_folder [] n) refl (λ n s. sym (other n (nat_lt n 2) (ne_eqb n 1 s)))
+    root_alone = bare-each inodes some (λ n o. unwrap_or (option_map is_directory o) false ≡ is_folder [] n) refl
+        (λ n s. sym (other n (nat_lt n 2) (ne_eqb n 1 s)))
       where
         other : (n : ℕ) (b : Bool) → (n == 1) ≡ false → cond b (n == 1) false ≡ false
         other n true e = e
@@ -131,7 +177,8 @@ IsListed-bare inodes some = record { names = no_name; folders = root_alone }
 
 -- ---- names in turn
 
-pub follow-made : (made : List MadeName) (files : Files) → IsListed files made → (ws : List (List ℕ)) → list_all is_name ws ≡ true → (d : ℕ) → follow files d ws ≡ seek made d ws
+pub follow-made : (made : List MadeName) (files : Files) → IsListed files made → (ws : List (List ℕ))
+    → list_all is_name ws ≡ true → (d : ℕ) → follow files d ws ≡ seek made d ws
 follow-made made files listed [] good d = refl
 follow-made made files listed (w ∷ ws) good d =
     let parts = and_parts (is_name w) (list_all is_name ws) good in
@@ -139,22 +186,29 @@ follow-made made files listed (w ∷ ws) good d =
 
 -- ---- paths that lead to directories that are made
 
-pieces_upto : (rest : List ℕ) (i : ℕ) (bs : List ℕ) → i ≤ length rest → ((k : ℕ) → k < i → (get_or rest k 0 == 0x2f) ≡ false) → pieces (take i rest ++ 0x2f ∷ bs) ≡ take i rest ∷ pieces bs
+pieces_upto : (rest : List ℕ) (i : ℕ) (bs : List ℕ) → i ≤ length rest
+    → ((k : ℕ) → k < i → (get_or rest k 0 == 0x2f) ≡ false)
+    → pieces (take i rest ++ 0x2f ∷ bs) ≡ take i rest ∷ pieces bs
 pieces_upto rest zero bs h none = refl
 pieces_upto [] (suc i) bs h none = absurd (omega arith)
 pieces_upto (b ∷ rest) (suc i) bs h none =
     cond-false _ _ _ (none 0 (omega arith))
     ∙ ap (onto_first b) (pieces_upto rest i bs (omega arith) (λ k l. none (suc k) (omega arith)))
 
-module _ (path above rest : List ℕ) (i : ℕ) (joined : path ≡ above ++ 0x2f ∷ rest) (slash : position (λ b. b == 0x2f) rest ≡ Some i) where
-  slashed : (i < length rest) × ((get_or rest i 0 == 0x2f) ≡ true) × ((k : ℕ) → k < i → (get_or rest k 0 == 0x2f) ≡ false)
+module _ (path above rest : List ℕ) (i : ℕ) (joined : path ≡ above ++ 0x2f ∷ rest)
+    (slash : position (λ b. b == 0x2f) rest ≡ Some i) where
+  slashed : (i < length rest) × ((get_or rest i 0 == 0x2f) ≡ true)
+      × ((k : ℕ) → k < i → (get_or rest k 0 == 0x2f) ≡ false)
   slashed = position-Some (λ b. b == 0x2f) rest i 0 slash
 
   parted : rest ≡ take i rest ++ 0x2f ∷ drop (i + 1) rest
-  parted = sym (take-append-drop i rest) ∙ ap (λ r. take i rest ++ r) (drop_more rest i 0 slashed.0 ∙ ap (λ b. b ∷ drop (i + 1) rest) (eqb-true _ 0x2f slashed.1))
+  parted = sym (take-append-drop i rest)
+      ∙ ap (λ r. take i rest ++ r)
+      (drop_more rest i 0 slashed.0 ∙ ap (λ b. b ∷ drop (i + 1) rest) (eqb-true _ 0x2f slashed.1))
 
   rejoined : path ≡ (above ++ 0x2f ∷ take i rest) ++ 0x2f ∷ drop (i + 1) rest
-  rejoined = joined ∙ ap (λ r. above ++ 0x2f ∷ r) parted ∙ sym (append_assoc above (0x2f ∷ take i rest) (0x2f ∷ drop (i + 1) rest))
+  rejoined = joined ∙ ap (λ r. above ++ 0x2f ∷ r) parted
+      ∙ sym (append_assoc above (0x2f ∷ take i rest) (0x2f ∷ drop (i + 1) rest))
 
   pub above-next : take (length above + 1 + i) path ≡ above ++ 0x2f ∷ take i rest
   above-next =
@@ -162,11 +216,13 @@ module _ (path above rest : List ℕ) (i : ℕ) (joined : path ≡ above ++ 0x2f
       ∙ take_at (above ++ 0x2f ∷ take i rest) (0x2f ∷ drop (i + 1) rest) (length above + 1 + i)
       (length-append above (0x2f ∷ take i rest) ∙ omega (arith, length-take-le i rest (omega (arith, slashed.0))))
 
-  pub joined-next : {now next : List ℕ} → now ≡ above ++ 0x2f ∷ take i rest → next ≡ drop (i + 1) rest → path ≡ now ++ 0x2f ∷ next
+  pub joined-next : {now next : List ℕ} → now ≡ above ++ 0x2f ∷ take i rest → next ≡ drop (i + 1) rest
+      → path ≡ now ++ 0x2f ∷ next
   joined-next now next = rejoined ∙ ap₂ (λ a r. a ++ 0x2f ∷ r) (sym now) (sym next)
 
   -- a name that is found leads on
-  pub leads-next : {now : List ℕ} → now ≡ above ++ 0x2f ∷ take i rest → {made : List MadeName} {d next : ℕ} → LeadsTo made above d → found made d (take i rest) ≡ Some next → LeadsTo made now next
+  pub leads-next : {now : List ℕ} → now ≡ above ++ 0x2f ∷ take i rest → {made : List MadeName} {d next : ℕ}
+      → LeadsTo made above d → found made d (take i rest) ≡ Some next → LeadsTo made now next
   leads-next now {d = d} {next = next} leads told = record {
     below = λ more kept bs.
         ap (λ a. reach more 1 (pieces (drop 1 (a ++ 0x2f ∷ bs)))) now
@@ -178,25 +234,35 @@ module _ (path above rest : List ℕ) (i : ℕ) (joined : path ≡ above ++ 0x2f
 
 -- ---- what leads where
 
-pub reach-below : {made : List MadeName} {above : List ℕ} {d : ℕ} → LeadsTo made above d → (path rest : List ℕ) → path ≡ above ++ 0x2f ∷ rest → reach made 1 (pieces (drop 1 path)) ≡ reach made d (pieces rest)
-reach-below {made} leads path rest joined = ap (λ t. reach made 1 (pieces (drop 1 t))) joined ∙ leads.below made (λ _ _ _ told. told) rest
+pub reach-below : {made : List MadeName} {above : List ℕ} {d : ℕ} → LeadsTo made above d → (path rest : List ℕ)
+    → path ≡ above ++ 0x2f ∷ rest → reach made 1 (pieces (drop 1 path)) ≡ reach made d (pieces rest)
+reach-below {made} leads path rest joined = ap (λ t. reach made 1 (pieces (drop 1 t))) joined
+    ∙ leads.below made (λ _ _ _ told. told) rest
 
-pub leads-push : {made : List MadeName} {above : List ℕ} {d : ℕ} → LeadsTo made above d → (x : MadeName) → LeadsTo (made ++ x ∷ []) above d
-leads-push {made} leads x = record { below = λ more kept bs. leads.below more (λ d w n told. kept d w n (found-push made x d w ∙ ap (λ o. option_or o (cond (stands_at d w x) (Some (length made + 2)) None)) told)) bs }
+pub leads-push : {made : List MadeName} {above : List ℕ} {d : ℕ} → LeadsTo made above d → (x : MadeName)
+    → LeadsTo (made ++ x ∷ []) above d
+leads-push {made} leads x =
+    record { below = λ more kept bs. leads.below more
+    (λ d w n told. kept d w n
+    (found-push made x d w ∙ ap (λ o. option_or o (cond (stands_at d w x) (Some (length made + 2)) None)) told)) bs }
 
 -- ---- the entries of a manifest, one after the other
 
 -- what is wrong with one is wrong with all
-Refuses-step : (r : Result Files Wrong) (rest : Files → Result Files Wrong) (fault : MakeFault) → Refuses r fault → Refuses (and_then r rest) fault
+Refuses-step : (r : Result Files Wrong) (rest : Files → Result Files Wrong) (fault : MakeFault) → Refuses r fault
+    → Refuses (and_then r rest) fault
 Refuses-step r rest NoMemory h = tt
 Refuses-step r rest fault h = ap (λ x. and_then x rest) h
 
 -- the root alone
-pub going-root : {t : FileTree} (made : List MadeName) (entries : List ManifestEntry) → t.failed ≡ false → t.files ≡ bare_files (length t.files) → 16 ≤ length t.files → 1 ≤ t.block_limit → made ≡ [] → IsGoing t t made entries entries
+pub going-root : {t : FileTree} (made : List MadeName) (entries : List ManifestEntry) → t.failed ≡ false
+    → t.files ≡ bare_files (length t.files) → 16 ≤ length t.files → 1 ≤ t.block_limit → made ≡ []
+    → IsGoing t t made entries entries
 going-root {t} made entries up root some block none = subst (λ m. IsGoing t t m entries entries) (sym none) (record {
   made_so_far = record {
     up = up;
-    begun = subst (λ (fs : Files). IsBegun t.block_limit (length t.files) fs 2) (sym root) (IsBegun-bare (length t.files) (omega arith) t.block_limit block);
+    begun = subst (λ (fs : Files). IsBegun t.block_limit (length t.files) fs 2) (sym root)
+        (IsBegun-bare (length t.files) (omega arith) t.block_limit block);
     listed = subst (λ (fs : Files). IsListed fs []) (sym root) (IsListed-bare (length t.files) (omega arith));
   };
   rest = refl;
@@ -207,7 +273,8 @@ going-root {t} made entries up root some block none = subst (λ m. IsGoing t t m
 abbrev adding : FileTree → List MadeName → ManifestEntry → Result Files Wrong
 adding t made = with_manifest_entry t.block_limit (length t.files) t.files (length made + 2)
 
-module _ {t now : FileTree} {made : List MadeName} {entries : List ManifestEntry} (es : List Item) (i : ℕ) (e : Item) (h : i < length es) (going : IsGoing t now made entries (meaning (drop i es))) where
+module _ {t now : FileTree} {made : List MadeName} {entries : List ManifestEntry} (es : List Item) (i : ℕ) (e : Item)
+    (h : i < length es) (going : IsGoing t now made entries (meaning (drop i es))) where
   abbrev one : Result Files Wrong
   one = adding now made (entry_of (get_or es i e))
 
@@ -216,25 +283,31 @@ module _ {t now : FileTree} {made : List MadeName} {entries : List ManifestEntry
 
   rest_is : made_by t entries ≡ and_then one others
   unfolding with_entries
-  rest_is = going.still ∙ ap (λ xs. with_entries now.block_limit (length now.files) now.files (length made + 2) (meaning xs)) (drop_more es i e h)
+  rest_is = going.still ∙ ap
+      (λ xs. with_entries now.block_limit (length now.files) now.files (length made + 2) (meaning xs))
+      (drop_more es i e h)
 
-  pub going-more : {new : FileTree} {names : List MadeName} → AddsEntry now new made names (entry_of (get_or es i e)) → IsGoing t new names entries (meaning (drop (i + 1) es))
+  pub going-more : {new : FileTree} {names : List MadeName} → AddsEntry now new made names (entry_of (get_or es i e))
+      → IsGoing t new names entries (meaning (drop (i + 1) es))
   going-more {new} {names} adds =
       let next : length made + 2 + 1 ≡ length names + 2 = omega (arith, adds.longer) in
       let limit : now.block_limit ≡ new.block_limit = sym (ap (λ (t : FileTree). t.block_limit) adds.rest) in
       record {
         made_so_far = adds.made_more;
         rest = adds.rest ∙ ap (λ (t : FileTree). record t { files = new.files; failures = new.failures }) going.rest;
-        still = rest_is ∙ ap (λ r. and_then r others) adds.is ∙ (λ j. with_entries (limit j) (sym adds.long j) new.files (next j) (meaning (drop (i + 1) es)));
+        still = rest_is ∙ ap (λ r. and_then r others) adds.is
+            ∙ (λ j. with_entries (limit j) (sym adds.long j) new.files (next j) (meaning (drop (i + 1) es)));
       }
 
   pub refused-going : (fault : MakeFault) → Refuses one fault → Refuses (made_by t entries) fault
   refused-going fault h = subst (λ r. Refuses r fault) (sym rest_is) (Refuses-step one others fault h)
 
-pub makes-entries : {t now : FileTree} {made : List MadeName} {entries : List ManifestEntry} (es : List Item) (i : ℕ) → length es ≤ i → IsGoing t now made entries (meaning (drop i es)) → MakesEntries t now entries
+pub makes-entries : {t now : FileTree} {made : List MadeName} {entries : List ManifestEntry} (es : List Item) (i : ℕ)
+    → length es ≤ i → IsGoing t now made entries (meaning (drop i es)) → MakesEntries t now entries
 unfolding with_entries
 makes-entries {now = now} {made = made} es i h going = record {
-  is = going.still ∙ ap (λ xs. with_entries now.block_limit (length now.files) now.files (length made + 2) (meaning xs)) (drop_all i es h);
+  is = going.still ∙ ap (λ xs. with_entries now.block_limit (length now.files) now.files (length made + 2)
+      (meaning xs)) (drop_all i es h);
   rest = going.rest;
   rules = going.made_so_far.begun.rules;
 }
@@ -250,31 +323,37 @@ pub record IsPath (path : List ℕ) : Type 0 where
 pub path-is : (path : List ℕ) → is_some (names_in path) ≡ true → IsPath path
 path-is [] h = absurd (false≢true h)
 path-is (b ∷ rest) h = go _ refl h where
-  go : (t : Bool) → (b == 0x2f && list_all is_name (pieces rest)) ≡ t → is_some (cond t (Some (pieces rest)) None) ≡ true → IsPath (b ∷ rest)
+  go : (t : Bool) → (b == 0x2f && list_all is_name (pieces rest)) ≡ t
+      → is_some (cond t (Some (pieces rest)) None) ≡ true → IsPath (b ∷ rest)
   go true e h =
       let both = and_parts (b == 0x2f) (list_all is_name (pieces rest)) e in
-      record { slash = ap (λ c. c ∷ rest) (eqb-true b 0x2f both.0); named = ap (λ t. cond t (Some (pieces rest)) None) e; good = both.1 }
+      record { slash = ap (λ c. c ∷ rest) (eqb-true b 0x2f both.0);
+          named = ap (λ t. cond t (Some (pieces rest)) None) e; good = both.1 }
   go false e h = absurd (false≢true h)
 
 is-none : {X : Type 0} (o : Option X) → is_some o ≡ false → o ≡ None
 is-none None h = refl
 is-none (Some x) h = absurd (false≢true (sym h))
 
-split_names : (w : List ℕ) (ws : List (List ℕ)) → w ∷ ws ≡ (with_last w (split_last ws)).0 ++ (with_last w (split_last ws)).1 ∷ []
+split_names : (w : List ℕ) (ws : List (List ℕ))
+    → w ∷ ws ≡ (with_last w (split_last ws)).0 ++ (with_last w (split_last ws)).1 ∷ []
 split_names w [] = refl
 split_names w (x ∷ xs) = ap (λ r. w ∷ r) (split_names x xs)
 
-split-good : (ws above : List (List ℕ)) (last : List ℕ) → split_last ws ≡ Some (above, last) → list_all is_name ws ≡ true → (list_all is_name above ≡ true) × (is_name last ≡ true)
+split-good : (ws above : List (List ℕ)) (last : List ℕ) → split_last ws ≡ Some (above, last)
+    → list_all is_name ws ≡ true → (list_all is_name above ≡ true) × (is_name last ≡ true)
 split-good [] above last split good = absurd (none-some _ split)
 split-good (w ∷ ws) above last split good =
     let is = split_names w ws ∙ ap (λ (p : List (List ℕ) × List ℕ). p.0 ++ p.1 ∷ []) (same_Some _ _ split) in
-    let p = and_parts (list_all is_name above) (list_all is_name (last ∷ [])) (sym (list_all-append is_name above (last ∷ [])) ∙ ap (list_all is_name) (sym is) ∙ good) in
+    let p = and_parts (list_all is_name above) (list_all is_name (last ∷ []))
+            (sym (list_all-append is_name above (last ∷ [])) ∙ ap (list_all is_name) (sym is) ∙ good) in
     (p.0, (and_parts _ true p.1).0)
 
 -- ---- an entry
 
 -- whose path is none
-pub entry-name : (blocks inodes : ℕ) (files : Files) (n : ℕ) (e : ManifestEntry) → is_some (names_in e.path) ≡ false → with_manifest_entry blocks inodes files n e ≡ Err Name
+pub entry-name : (blocks inodes : ℕ) (files : Files) (n : ℕ) (e : ManifestEntry) → is_some (names_in e.path) ≡ false
+    → with_manifest_entry blocks inodes files n e ≡ Err Name
 unfolding with_manifest_entry
 entry-name blocks inodes files n e h = ap (with_names blocks inodes files n e.thing) (is-none _ h)
 
@@ -286,16 +365,20 @@ pub record Reaches (made : List MadeName) (path : List ℕ) (o : Option ℕ) (la
   pub split : split_last (pieces (drop 1 path)) ≡ Some (above, last)
   pub seeks : seek made 1 above ≡ o
 
-pub reaches : {made : List MadeName} {path : List ℕ} {o : Option ℕ} {last : List ℕ} → is_some (names_in path) ≡ true → reach made 1 (pieces (drop 1 path)) ≡ Some (o, last) → Reaches made path o last
+pub reaches : {made : List MadeName} {path : List ℕ} {o : Option ℕ} {last : List ℕ} → is_some (names_in path) ≡ true
+    → reach made 1 (pieces (drop 1 path)) ≡ Some (o, last) → Reaches made path o last
 reaches {made} {path} {o} {last} good h =
     let s = split-pieces (drop 1 path) in
     let e = some_pair_parts _ o s.0.1 last (sym (reach_some made 1 (pieces (drop 1 path)) s.0 s.1) ∙ h) in
     record { is = path-is path good; above = s.0.0; split = s.1 ∙ ap (λ w. Some (s.0.0, w)) e.1; seeks = e.0 }
 
-pub spot-reaches : {made : List MadeName} {path : List ℕ} {d : ℕ} {name : List ℕ} → IsSpot made path d name → Reaches made path (Some d) name
+pub spot-reaches : {made : List MadeName} {path : List ℕ} {d : ℕ} {name : List ℕ} → IsSpot made path d name
+    → Reaches made path (Some d) name
 spot-reaches {path = path} spot =
     let is = path-is path (ap is_some spot.named) in
-    record { is = is; above = spot.above; split = ap split_last (same_Some (pieces (drop 1 path)) spot.names (sym is.named ∙ spot.named)) ∙ spot.split; seeks = spot.reached }
+    record { is = is; above = spot.above;
+        split = ap split_last (same_Some (pieces (drop 1 path)) spot.names (sym is.named ∙ spot.named)) ∙ spot.split;
+        seeks = spot.reached }
 
 module _ {made : List MadeName} {path : List ℕ} {o : Option ℕ} {last : List ℕ} (r : Reaches made path o last) where
   goods : (list_all is_name r.above ≡ true) × (is_name last ≡ true)
@@ -304,7 +387,9 @@ module _ {made : List MadeName} {path : List ℕ} {o : Option ℕ} {last : List 
   pub last-good : is_name last ≡ true
   last-good = goods.1
 
-  pub entry-reaches : (blocks inodes : ℕ) (files : Files) (n : ℕ) (thing : Thing) → IsListed files made → with_manifest_entry blocks inodes files n (record { path = path; thing = thing }) ≡ with_name blocks inodes files n thing last o
+  pub entry-reaches : (blocks inodes : ℕ) (files : Files) (n : ℕ) (thing : Thing) → IsListed files made
+      → with_manifest_entry blocks inodes files n (record { path = path; thing = thing })
+      ≡ with_name blocks inodes files n thing last o
   unfolding with_manifest_entry
   entry-reaches blocks inodes files n thing listed =
       ap (with_names blocks inodes files n thing) r.is.named ∙ ap (with_split blocks inodes files n thing) r.split
@@ -312,21 +397,29 @@ module _ {made : List MadeName} {path : List ℕ} {o : Option ℕ} {last : List 
 
 -- ---- in a directory
 
-module _ {made : List MadeName} {path : List ℕ} {d : ℕ} {last : List ℕ} (r : Reaches made path (Some d) last) (folder : is_folder made d ≡ true) where
+module _ {made : List MadeName} {path : List ℕ} {d : ℕ} {last : List ℕ} (r : Reaches made path (Some d) last)
+    (folder : is_folder made d ≡ true) where
   pub spot-at : is_some (found made d last) ≡ false → IsSpot made path d last
-  spot-at absent = record { names = pieces (drop 1 path); above = r.above; named = r.is.named; split = r.split; reached = r.seeks; folder = folder; absent = is-none _ absent }
+  spot-at absent = record { names = pieces (drop 1 path); above = r.above; named = r.is.named; split = r.split;
+      reached = r.seeks; folder = folder; absent = is-none _ absent }
 
   module _ (blocks inodes : ℕ) (files : Files) (n : ℕ) (thing : Thing) (listed : IsListed files made) where
-    pub entry-at : with_manifest_entry blocks inodes files n (record { path = path; thing = thing }) ≡ cond (is_some (found made d last)) (Err Twice) (cond (nat_le inodes n) (Err Inodes) (if_room blocks d n (added files d last n thing)))
-    entry-at = entry-reaches r blocks inodes files n thing listed ∙ rw (listed.folders d, folder, listed.names d last (last-good r)) refl
+    pub entry-at : with_manifest_entry blocks inodes files n (record { path = path; thing = thing })
+        ≡ cond (is_some (found made d last)) (Err Twice)
+        (cond (nat_le inodes n) (Err Inodes) (if_room blocks d n (added files d last n thing)))
+    entry-at = entry-reaches r blocks inodes files n thing listed
+        ∙ rw (listed.folders d, folder, listed.names d last (last-good r)) refl
 
-module _ {made : List MadeName} {path : List ℕ} {d : ℕ} {name : List ℕ} (spot : IsSpot made path d name) (blocks inodes : ℕ) (files : Files) (n : ℕ) (thing : Thing) (listed : IsListed files made) where
-  pub entry-spot : with_manifest_entry blocks inodes files n (record { path = path; thing = thing }) ≡ cond (nat_le inodes n) (Err Inodes) (if_room blocks d n (added files d name n thing))
+module _ {made : List MadeName} {path : List ℕ} {d : ℕ} {name : List ℕ} (spot : IsSpot made path d name)
+    (blocks inodes : ℕ) (files : Files) (n : ℕ) (thing : Thing) (listed : IsListed files made) where
+  pub entry-spot : with_manifest_entry blocks inodes files n (record { path = path; thing = thing })
+      ≡ cond (nat_le inodes n) (Err Inodes) (if_room blocks d n (added files d name n thing))
   entry-spot = entry-at (spot-reaches spot) spot.folder blocks inodes files n thing listed ∙ rw spot.absent refl
 
 -- ---- an entry is put among the files
 
-few-links : (files : Files) (d links : ℕ) (places : List (Option Entry)) → KeepsRules files → length files ≤ 8192 → slot files d ≡ Some (Directory links places) → links < 65535
+few-links : (files : Files) (d links : ℕ) (places : List (Option Entry)) → KeepsRules files → length files ≤ 8192
+    → slot files d ≡ Some (Directory links places) → links < 65535
 few-links files d links places rules most at =
     let kept : KeepsNode files d (Some (Directory links places)) = subst (KeepsNode files d) at (rules.nodes d) in
     omega (arith, kept.counted, few-directories rules d)
@@ -334,13 +427,15 @@ few-links files d links places rules most at =
 module _ {t : FileTree} {made : List MadeName} (whole : IsWhole t) (is : IsMade t made) where
   pub made-inodes : length made + 2 ≤ length t.files
   made-inodes =
-      let last : length made + 1 < length t.files = below-slot t.files _ (is.begun.used _ (omega arith) (omega arith)) in
+      let last : length made + 1 < length t.files =
+              below-slot t.files _ (is.begun.used _ (omega arith) (omega arith)) in
       omega arith
 
   pub made-few : length made < 65536
   made-few = let most = whole.most in let k = made-inodes in omega arith
 
-  module _ {path : List ℕ} {d : ℕ} {name : List ℕ} (spot : IsSpot made path d name) (room : length made + 2 < length t.files) where
+  module _ {path : List ℕ} {d : ℕ} {name : List ℕ} (spot : IsSpot made path d name)
+      (room : length made + 2 < length t.files) where
     can-add : CanAdd t.files d name (length made + 2)
     can-add =
         let above = directory-at _ (is.listed.folders d ∙ spot.folder) in
@@ -360,19 +455,24 @@ module _ {t : FileTree} {made : List MadeName} (whole : IsWhole t) (is : IsMade 
       CanAdd-next = subst (CanAdd t.files d name) (sym next) can-add
 
       -- the files after it was stored, or wasn't
-      module _ {new : FileTree} (thing : Thing) {r : Result (Unit {0}) StoreFault} (told : Stores t new d name k thing r) {given : List ℕ} (given_is : path ≡ given) where
+      module _ {new : FileTree} (thing : Thing) {r : Result (Unit {0}) StoreFault}
+          (told : Stores t new d name k thing r) {given : List ℕ} (given_is : path ≡ given) where
         stored : Stores t new d name (length made + 2) thing r
         stored = subst (λ n. Stores t new d name n thing r) next told
 
         abbrev item : ManifestEntry
         item = record { path = given; thing = thing }
 
-        passed : adding t made item ≡ if_room t.block_limit d (length made + 2) (added t.files d name (length made + 2) thing)
+        passed : adding t made item
+            ≡ if_room t.block_limit d (length made + 2) (added t.files d name (length made + 2) thing)
         passed =
             ap (λ p. adding t made (record { path = p; thing = thing })) (sym given_is)
-            ∙ entry-spot spot t.block_limit (length t.files) t.files (length made + 2) thing is.listed ∙ rw (lt-leb (length t.files) (length made + 2) room) refl
+            ∙ entry-spot spot t.block_limit (length t.files) t.files (length made + 2) thing is.listed
+                ∙ rw (lt-leb (length t.files) (length made + 2) room) refl
 
-        pub AddsEntry-stored : r ≡ Ok tt → {folder : Bool} {now : List MadeName} → now ≡ made ++ made_name d name folder ∷ [] → folder ≡ is_directory (node_for (length made + 2) d thing) → AddsEntry t new made now item
+        pub AddsEntry-stored : r ≡ Ok tt → {folder : Bool} {now : List MadeName}
+            → now ≡ made ++ made_name d name folder ∷ [] → folder ≡ is_directory (node_for (length made + 2) d thing)
+            → AddsEntry t new made now item
         AddsEntry-stored done {folder} {now} pushed is_folder =
             let one = made_name d name folder in
             let n = length made + 2 in
@@ -381,15 +481,18 @@ module _ {t : FileTree} {made : List MadeName} (whole : IsWhole t) (is : IsMade 
             let becomes : HasFiles t new more = kept.stored.0 in
             let files : new.files ≡ more = ap (λ (t : FileTree). t.files) becomes in
             let next : n + 1 ≡ length (made ++ one ∷ []) + 2 = omega (arith, length_push made one) in
-            let begun = IsBegun-more is.begun thing can-add (is.listed.names d name (last-good (spot-reaches spot)) ∙ spot.absent) kept.stored.1 in
+            let begun = IsBegun-more is.begun thing can-add
+                    (is.listed.names d name (last-good (spot-reaches spot)) ∙ spot.absent) kept.stored.1 in
             record {
               is = passed ∙ kept.stored.1 ∙ ap Ok (sym files);
               rest = becomes ∙ ap (λ (fs : Files). record t { files = fs; failures = new.failures }) (sym files);
               long = ap length files ∙ begun.count;
               longer = ap length pushed ∙ length_push made one;
-              made_more = subst (IsMade new) (sym pushed) (subst (λ (x : FileTree). IsMade x (made ++ one ∷ [])) (sym becomes) (record {
+              made_more = subst (IsMade new) (sym pushed)
+                  (subst (λ (x : FileTree). IsMade x (made ++ one ∷ [])) (sym becomes) (record {
                 up = is.up;
-                begun = subst (λ c. IsBegun t.block_limit c more (length (made ++ one ∷ []) + 2)) (sym begun.count) (subst (IsBegun t.block_limit (length t.files) more) next begun);
+                begun = subst (λ c. IsBegun t.block_limit c more (length (made ++ one ∷ []) + 2)) (sym begun.count)
+                    (subst (IsBegun t.block_limit (length t.files) more) next begun);
                 listed = IsListed-more is.begun.rules thing can-add made refl is.listed is_folder;
               }));
             }

@@ -1,12 +1,21 @@
 -- Steps that put nodes, one after the other.
 use Rattle.imagemake.proofs.FromRules.{KeepsRules-live}
-use Rattle.imagemake.proofs.Common.{set, names_by-le, links_of, none-some, same_Some, ◌≡◌, ◌≢◌, ℕ, zero, suc, ◌-◌, ◌<◌, ◌≤◌, true, List, [], ◌∷◌, ◌++◌, length, None, Option, Some, inl, inr, map, ap, sym, refl, ◌∙◌, arith, subst, count_by}
-use Rattle.imagemake.proofs.Common.{flat_map, is_some, sum_by, ◌==◌, cases_lt, get_or-replicate, get_or-set_other, get_or-set_same, get_or_past, length-replicate, length-set, at_or, Node, blocks_for, dot, dot_dot, free_slots, size_of, slot}
-use Rattle.imagemake.proofs.Common.{taken, KeepsRules, KeepsSize, all_entries, entries_of, names_of, bare_directory, bare_files, node_for, Bytes, Folder, Special, PackedAt, IsBegun, blocks_of, Entry, Thing, KeepsLive, KeepsTree, folders}
-use Rattle.imagemake.proofs.Common.{names_for, Err, Ok, Result, OnOk, IsErrAnd, err_from_is_err_and, BlamesDevice, make_fault, MakeFault, StoreFault, is_err, ◌+◌, set-set, FileTree, IsNow, now-files, now-limit, blocks_of-set, slot-within}
-use Rattle.imagemake.proofs.Common.{taken_by, Files, put, Puts, Directory, false, nat_lt, IfOk-at_ok, cond-false, cond-true, le-ltb, lt-ltb, false≢true, get_or-append_right, get_or_append_left}
-use Rattle.imagemake.proofs.Common.{length_push, entered, room_in, Looks, change_node, most_places, appended, linked, more_links, HasDirectory, change-is, blocks_of-entered, entered-is, room-end, ◌⊎◌, cond, Bool, take, nat_le, le-leb}
-use Rattle.imagemake.proofs.Common.{leb-false, lt-leb, append-nil, drop_all, take_all, longest, File}
+use Rattle.imagemake.proofs.Common.{set, names_by-le, links_of, none-some, same_Some, ◌≡◌, ◌≢◌, ℕ, zero, suc, ◌-◌, ◌<◌}
+use Rattle.imagemake.proofs.Common.{◌≤◌, true, List, [], ◌∷◌, ◌++◌, length, None, Option, Some, inl, inr, map, ap, sym}
+use Rattle.imagemake.proofs.Common.{refl, ◌∙◌, arith, subst, count_by, flat_map, is_some, sum_by, ◌==◌, cases_lt}
+use Rattle.imagemake.proofs.Common.{get_or-replicate, get_or-set_other, get_or-set_same, get_or_past, length-replicate}
+use Rattle.imagemake.proofs.Common.{length-set, at_or, Node, blocks_for, dot, dot_dot, free_slots, size_of, slot, taken}
+use Rattle.imagemake.proofs.Common.{KeepsRules, KeepsSize, all_entries, entries_of, names_of, bare_directory}
+use Rattle.imagemake.proofs.Common.{bare_files, node_for, Bytes, Folder, Special, PackedAt, IsBegun, blocks_of, Entry}
+use Rattle.imagemake.proofs.Common.{Thing, KeepsLive, KeepsTree, folders, names_for, Err, Ok, Result, OnOk, IsErrAnd}
+use Rattle.imagemake.proofs.Common.{err_from_is_err_and, BlamesDevice, make_fault, MakeFault, StoreFault, is_err, ◌+◌}
+use Rattle.imagemake.proofs.Common.{set-set, FileTree, IsNow, now-files, now-limit, blocks_of-set, slot-within}
+use Rattle.imagemake.proofs.Common.{taken_by, Files, put, Puts, Directory, false, nat_lt, IfOk-at_ok, cond-false}
+use Rattle.imagemake.proofs.Common.{cond-true, le-ltb, lt-ltb, false≢true, get_or-append_right, get_or_append_left}
+use Rattle.imagemake.proofs.Common.{length_push, entered, room_in, Looks, change_node, most_places, appended, linked}
+use Rattle.imagemake.proofs.Common.{more_links, HasDirectory, change-is, blocks_of-entered, entered-is, room-end, ◌⊎◌}
+use Rattle.imagemake.proofs.Common.{cond, Bool, take, nat_le, le-leb, leb-false, lt-leb, append-nil, drop_all, take_all}
+use Rattle.imagemake.proofs.Common.{longest, File}
 use Rattle.imagemake.specs.declared.store.StoreFault.TheVariants.{Blocks, Device}
 use Rattle.cache.proofs.Using.{rises-before}
 use Rattle.tree.specs.Steps.{IsUnnamed}
@@ -75,9 +84,11 @@ module _ (inodes : ℕ) (some : 2 ≤ inodes) where
   slot-bare m s = get_or-set_other _ 1 m _ None s ∙ slot-free inodes m
 
   -- what holds of the root and of numbers that aren't in use holds of each
-  pub bare-each : (P : ℕ → Option Node → Type 0) → P 1 (Some (bare_directory 1 1)) → ((m : ℕ) → m ≢ 1 → P m None) → (m : ℕ) → P m (slot (bare_files inodes) m)
+  pub bare-each : (P : ℕ → Option Node → Type 0) → P 1 (Some (bare_directory 1 1)) → ((m : ℕ) → m ≢ 1 → P m None)
+      → (m : ℕ) → P m (slot (bare_files inodes) m)
   bare-each P root none m =
-      at_or (λ k. P k (slot (bare_files inodes) k)) 1 m (subst (P 1) (sym slot-root) root) (λ s. subst (P m) (sym (slot-bare m s)) (none m s))
+      at_or (λ k. P k (slot (bare_files inodes) k)) 1 m (subst (P 1) (sym slot-root) root)
+          (λ s. subst (P m) (sym (slot-bare m s)) (none m s))
 
   no_entries : all_entries (bare_files inodes) ≡ []
   unfolding all_entries
@@ -94,16 +105,19 @@ module _ (inodes : ℕ) (some : 2 ≤ inodes) where
   KeepsTree-bare = record {
     root = record { links = 0; places = _; here = slot-root };
     sizes = bare-each (λ m o. KeepsSize o) (omega arith) (λ m s. tt);
-    named = bare-each (λ m o. names_of (bare_files inodes) m ≡ names_for m o) (nothing-named 1) (λ m s. nothing-named m);
+    named = bare-each (λ m o. names_of (bare_files inodes) m ≡ names_for m o) (nothing-named 1)
+        (λ m s. nothing-named m);
     nodes = bare-each (KeepsLive (bare_files inodes))
-        (record { own = refl; up = 1; parent = refl; above = record { root = λ e. refl; names = λ s. absurd (s refl) }; good = refl; once = λ name. omega arith; counted = refl }) (λ m s. tt);
+        (record { own = refl; up = 1; parent = refl; above = record { root = λ e. refl; names = λ s. absurd (s refl) };
+            good = refl; once = λ name. omega arith; counted = refl }) (λ m s. tt);
     depth = λ m. 0;
     ranked = λ d n h directory. absurd (omega (arith, h, names_by-le (bare_files inodes) d n, nothing-named n));
   }
 
   pub KeepsRules-bare : KeepsRules (bare_files inodes)
   KeepsRules-bare = KeepsRules-live KeepsTree-bare (bare-each (λ m o. (node : Node) → o ≡ Some node → 1 ≤ links_of node)
-      (λ node e. subst (λ x. 1 ≤ links_of x) (same_Some (bare_directory 1 1) node e) (omega arith)) (λ m s node e. absurd (none-some node e)))
+      (λ node e. subst (λ x. 1 ≤ links_of x) (same_Some (bare_directory 1 1) node e) (omega arith))
+          (λ m s node e. absurd (none-some node e)))
 
   room_bare : blocks_of (bare_files inodes) ≡ 1
   room_bare =
@@ -114,7 +128,8 @@ module _ (inodes : ℕ) (some : 2 ≤ inodes) where
     rules = KeepsRules-bare;
     count = length-bare;
     zero = slot-bare 0 (λ e. absurd (omega arith));
-    used = λ m l u. let e : m ≡ 1 = omega arith in ap (λ k. is_some (slot (bare_files inodes) k)) e ∙ ap is_some slot-root;
+    used = λ m l u. let e : m ≡ 1 = omega arith in ap (λ k. is_some (slot (bare_files inodes) k)) e
+        ∙ ap is_some slot-root;
     free = λ m l. slot-bare m (λ e. absurd (omega arith));
     next = omega arith;
     room = omega (arith, room_bare);
@@ -138,27 +153,36 @@ none-done {T} {E} P e = subst (λ (x : Result T E). OnOk x P) (sym e) tt
 
 module _ {F : Type 0} {fault : F} where
   -- an access failed, and those before were good
-  pub Owns-failed : {T E : Type 0} {a b c : ℕ} {access : Result T E} {e : E} {r : Result (Unit {0}) F} → a ≤ b → HasCause b c access → access ≡ Err e → Owns fault a c r
-  Owns-failed h cause was = record { later = let l = cause.later in omega arith; failed = λ _. let rises = cause.failed (ap is_err was) in omega arith }
+  pub Owns-failed : {T E : Type 0} {a b c : ℕ} {access : Result T E} {e : E} {r : Result (Unit {0}) F} → a ≤ b
+      → HasCause b c access → access ≡ Err e → Owns fault a c r
+  Owns-failed h cause was =
+      record { later = let l = cause.later in omega arith;
+      failed = λ _. let rises = cause.failed (ap is_err was) in omega arith }
 
   -- the last step tells
   pub Owns-after : {a b c : ℕ} {r : Result (Unit {0}) F} → a ≤ b → Owns fault b c r → Owns fault a c r
-  Owns-after h owns = record { later = let l = owns.later in omega arith; failed = λ e. let rises = owns.failed e in omega arith }
+  Owns-after h owns = record
+      { later = let l = owns.later in omega arith; failed = λ e. let rises = owns.failed e in omega arith }
 
   -- a step tells its fault, and it is passed on
-  pub Owns-told : {a b c : ℕ} {told : F} {r : Result (Unit {0}) F} → a ≤ b → Owns fault b c (Err told) → r ≡ Err told → Owns fault a c r
+  pub Owns-told : {a b c : ℕ} {told : F} {r : Result (Unit {0}) F} → a ≤ b → Owns fault b c (Err told) → r ≡ Err told
+      → Owns fault a c r
   Owns-told {a} {c = c} h owns is = subst (Owns fault a c) (sym is) (Owns-after h owns)
 
   pub Owns-done : {a c : ℕ} → a ≤ c → Owns fault a c (Ok tt)
   Owns-done h = record { later = h; failed = λ e. cc }
 
   -- another fault is told
-  pub Owns-other : {a c : ℕ} {other : F} {r : Result (Unit {0}) F} → a ≤ c → (other ≡ fault → ⊥) → r ≡ Err other → Owns fault a c r
-  Owns-other {other = other} h differs is = record { later = h; failed = λ e. absurd (differs (err_is other fault (sym is ∙ e))) }
+  pub Owns-other : {a c : ℕ} {other : F} {r : Result (Unit {0}) F} → a ≤ c → (other ≡ fault → ⊥) → r ≡ Err other
+      → Owns fault a c r
+  Owns-other {other = other} h differs is =
+      record { later = h; failed = λ e. absurd (differs (err_is other fault (sym is ∙ e))) }
 
-pub Blames-stored : {a b c : ℕ} {r : Result (Unit {0}) MakeFault} (fault : StoreFault) → a ≤ b → Owns Device b c (Err fault) → r ≡ Err (make_fault fault) → BlamesDevice a c r
+pub Blames-stored : {a b c : ℕ} {r : Result (Unit {0}) MakeFault} (fault : StoreFault) → a ≤ b
+    → Owns Device b c (Err fault) → r ≡ Err (make_fault fault) → BlamesDevice a c r
 Blames-stored Blocks h owns is = Owns-other (let l = owns.later in omega arith) (λ e. cc) is
-Blames-stored Device h owns is = record { later = let l = owns.later in omega arith; failed = λ e. let rises = owns.failed refl in omega arith }
+Blames-stored Device h owns is =
+    record { later = let l = owns.later in omega arith; failed = λ e. let rises = owns.failed refl in omega arith }
 
 pub TellsFull-weaker : {P Q : Type 0} → (P → Q) → (told : StoreFault) → TellsFull P told → TellsFull Q told
 TellsFull-weaker f Blocks h = f h
@@ -169,16 +193,24 @@ slot-put files n node h = get_or-set_same files n _ None h
 
 -- ---- how a step ends
 
-pub puts-done : {old now : FileTree} {n : ℕ} {node : Node} → IsNow old now (put old.files n node) → Puts old now n node (Ok tt)
+pub puts-done : {old now : FileTree} {n : ℕ} {node : Node} → IsNow old now (put old.files n node)
+    → Puts old now n node (Ok tt)
 puts-done is = record { done = is.is; owns = Owns-done is.later }
 
-pub puts-full : {old now : FileTree} {files : Files} {n : ℕ} {node : Node} → IsNow old now files → LacksRoomFor old.block_limit old.files n node → Puts old now n node (Err Blocks)
+pub puts-full : {old now : FileTree} {files : Files} {n : ℕ} {node : Node} → IsNow old now files
+    → LacksRoomFor old.block_limit old.files n node → Puts old now n node (Err Blocks)
 puts-full is lacks = record { done = lacks; owns = Owns-other is.later (λ e. cc) refl }
 
-module _ {old mid now : FileTree} {files : Files} (is : IsNow old mid files) {n : ℕ} {node : Node} {s : Result (Unit {0}) StoreFault} where
+module _ {old mid now : FileTree} {files : Files} (is : IsNow old mid files) {n : ℕ} {node : Node}
+    {s : Result (Unit {0}) StoreFault} where
   -- an access failed
-  pub puts-lost : {U E : Type 0} {r : Result U E} {e : E} → HasCause mid.failures now.failures r → r ≡ Err e → IsErrAnd s (λ f. f ≡ Device) → Puts old now n node s
-  puts-lost cause was told = rw (told_err s told) (record { done = tt; owns = record { later = let l = is.later in let m = cause.later in omega arith; failed = λ _. rises-before is.later (cause.failed (ap is_err was)) } })
+  pub puts-lost : {U E : Type 0} {r : Result U E} {e : E} → HasCause mid.failures now.failures r → r ≡ Err e
+      → IsErrAnd s (λ f. f ≡ Device) → Puts old now n node s
+  puts-lost cause was told =
+      rw (told_err s told) (record
+      { done = tt; owns = record
+      { later = let l = is.later in let m = cause.later in omega arith;
+      failed = λ _. rises-before is.later (cause.failed (ap is_err was)) } })
 
 -- ---- a node is put twice
 
@@ -190,29 +222,37 @@ module _ {old mid : FileTree} (n : ℕ) (a b : Node) (is : IsNow old mid (put ol
   limit = ap (λ (t : FileTree). t.block_limit) is.is
 
   pub puts-last : {new : FileTree} (r : Result (Unit {0}) StoreFault) → Puts mid new n b r → Puts old new n b r
-  puts-last (Err fault) puts = record { done = TellsFull-weaker (λ lacks. elim lacks [ inl long ↦ inl long | inr full ↦ inr (omega (arith, full, ap blocks_of twice, limit)) ]) fault puts.done; owns = Owns-after is.later puts.owns }
+  puts-last (Err fault) puts =
+      record { done = TellsFull-weaker
+      (λ lacks. elim lacks [ inl long ↦ inl long | inr full ↦ inr (omega (arith, full, ap blocks_of twice, limit)) ])
+      fault puts.done; owns = Owns-after is.later puts.owns }
   puts-last {new} (Ok u) puts = record {
-    done = puts.done ∙ ap (λ (t : FileTree). record t { files = put mid.files n b; failures = new.failures }) is.is ∙ ap (λ (fs : Files). record old { files = fs; failures = new.failures }) twice;
+    done = puts.done ∙ ap (λ (t : FileTree). record t { files = put mid.files n b; failures = new.failures }) is.is
+        ∙ ap (λ (fs : Files). record old { files = fs; failures = new.failures }) twice;
     owns = Owns-after is.later puts.owns;
   }
 
 -- ---- a number is taken for a thing
 
-pub took-thing : {old now : FileTree} (number : ℕ) {o : Option Node} {node : Node} → o ≡ Some node → IsNow old now (set old.files number o) → IsNow old now (put old.files number node)
+pub took-thing : {old now : FileTree} (number : ℕ) {o : Option Node} {node : Node} → o ≡ Some node
+    → IsNow old now (set old.files number o) → IsNow old now (put old.files number node)
 took-thing {old} {now} number is took = subst (λ o. IsNow old now (set old.files number o)) is took
 
 -- it stands at its number, and what stood elsewhere stays
-module _ {old mid : FileTree} {number : ℕ} (node : Node) (free : IsUnnamed old.files number) (is : IsNow old mid (put old.files number node)) where
+module _ {old mid : FileTree} {number : ℕ} (node : Node) (free : IsUnnamed old.files number)
+    (is : IsNow old mid (put old.files number node)) where
   pub here-now : slot mid.files number ≡ Some node
   here-now = ap (λ (fs : Files). slot fs number) (now-files is) ∙ slot-put _ number node free.high
 
   pub still-used : (d : ℕ) → slot old.files d ≢ None → slot mid.files d ≢ None
   still-used d some none =
-      some (sym (get_or-set_other _ number d _ None (λ e. some (ap (slot old.files) e ∙ free.unused))) ∙ sym (ap (λ (fs : Files). slot fs d) (now-files is)) ∙ none)
+      some (sym (get_or-set_other _ number d _ None (λ e. some (ap (slot old.files) e ∙ free.unused)))
+          ∙ sym (ap (λ (fs : Files). slot fs d) (now-files is)) ∙ none)
 
 -- ---- the first two places of a directory
 
-pub lacks-dots : (limit : ℕ) (files : Files) (n d : ℕ) → slot files n ≡ Some (Directory 1 []) → limit < blocks_of files + 1 → LacksRoomFor limit files n (bare_directory n d)
+pub lacks-dots : (limit : ℕ) (files : Files) (n d : ℕ) → slot files n ≡ Some (Directory 1 [])
+    → limit < blocks_of files + 1 → LacksRoomFor limit files n (bare_directory n d)
 lacks-dots limit files n d here few =
     let b = blocks_of-set files n (Some (bare_directory n d)) (slot-within files n (Directory 1 []) here) in
     let was : taken_by (slot files n) ≡ 0 = ap taken_by here in
@@ -223,7 +263,8 @@ lacks-dots limit files n d here few =
 
 module _ (t : FileTree) (none : t.files ≡ free_slots (length t.files)) (some : 2 ≤ length t.files) where
   pub root-free : IsUnnamed t.files 1
-  root-free = record { low = omega arith; high = omega arith; unused = ap (λ (fs : Files). slot fs 1) none ∙ slot-free _ 1 }
+  root-free = record { low = omega arith; high = omega arith; unused = ap (λ (fs : Files). slot fs 1) none
+      ∙ slot-free _ 1 }
 
   module _ {mid : FileTree} (is : IsNow t mid (put t.files 1 (Directory 1 []))) where
     pub root-bare : slot mid.files 1 ≡ Some (Directory 1 [])
@@ -232,7 +273,9 @@ module _ (t : FileTree) (none : t.files ≡ free_slots (length t.files)) (some :
     -- no block is taken
     pub root-block : 1 ≤ t.block_limit → blocks_of mid.files + 1 ≤ mid.block_limit
     root-block room =
-        omega (arith, ap blocks_of (now-files is), fresh-blocks t.files 1 (Directory 1 []) (record { free = root-free.unused; within = root-free.high }) refl, ap blocks_of none, no-files (length t.files), now-limit is)
+        omega (arith, ap blocks_of (now-files is),
+            fresh-blocks t.files 1 (Directory 1 []) (record { free = root-free.unused; within = root-free.high }) refl,
+            ap blocks_of none, no-files (length t.files), now-limit is)
 
     pub root-made : put mid.files 1 (bare_directory 1 1) ≡ bare_files (length t.files)
     unfolding bare_files
@@ -246,14 +289,16 @@ module _ (places : List (Option Entry)) (packed : IsPacked places) where
   room-packed : room_in places ≡ room_behind (length places)
   room-packed = room-end places _ _ refl (omega arith) packed
 
-  room-is : ((length places < most_places) × (room_in places ≡ Some (length places))) ⊎ ((most_places ≤ length places) × (room_in places ≡ None))
+  room-is : ((length places < most_places) × (room_in places ≡ Some (length places)))
+      ⊎ ((most_places ≤ length places) × (room_in places ≡ None))
   room-is = elim (cases_lt (length places) most_places) [
     | inl l ↦ inl (l, room-packed ∙ cond-true _ _ None (lt-ltb _ _ l))
     | inr m ↦ inr (m, room-packed ∙ cond-false _ _ None (le-ltb (length places) _ m))
   ]
 
   room-some : (k : ℕ) → room_in places ≡ Some k → k ≡ length places
-  room-some k some = elim room-is [ inl e ↦ same_Some k _ (sym some ∙ e.1) | inr e ↦ absurd (none-some k (sym e.1 ∙ some)) ]
+  room-some k some = elim room-is
+      [ inl e ↦ same_Some k _ (sym some ∙ e.1) | inr e ↦ absurd (none-some k (sym e.1 ∙ some)) ]
 
 pub packed-more : (places : List (Option Entry)) (e : Entry) → IsPacked places → IsPacked (places ++ Some e ∷ [])
 packed-more places e packed k high = elim (cases_lt k (length places)) [
@@ -264,7 +309,8 @@ packed-more places e packed k high = elim (cases_lt k (length places)) [
 ]
 
 pub placed-end : (places : List (Option Entry)) (e : Entry) → placed places (length places) e ≡ places ++ Some e ∷ []
-placed-end places e = cond-false (nat_lt (length places) (length places)) (put places (length places) e) (places ++ Some e ∷ []) (le-ltb (length places) (length places) (omega arith))
+placed-end places e = cond-false (nat_lt (length places) (length places)) (put places (length places) e)
+    (places ++ Some e ∷ []) (le-ltb (length places) (length places) (omega arith))
 
 -- ---- what it takes
 
@@ -273,13 +319,15 @@ linked-size Folder node = links-size node _
 linked-size thing node = refl
 
 -- a link takes no room
-lacks-linked : (limit : ℕ) (files : Files) (d : ℕ) (t : Thing) (node : Node) → d < length files → LacksRoomFor limit files d node → LacksRoomFor limit files d (linked t node)
+lacks-linked : (limit : ℕ) (files : Files) (d : ℕ) (t : Thing) (node : Node) → d < length files
+    → LacksRoomFor limit files d node → LacksRoomFor limit files d (linked t node)
 lacks-linked limit files d t node h lacks =
     let size : size_of (linked t node) ≡ size_of node = linked-size t node in
     let blocks : blocks_for (size_of (linked t node)) ≡ blocks_for (size_of node) = ap blocks_for size in
     elim lacks [
       | inl long ↦ inl (omega arith)
-      | inr full ↦ inr (omega (arith, blocks_of-set files d (Some node) h, blocks_of-set files d (Some (linked t node)) h))
+      | inr full ↦ inr (omega (arith, blocks_of-set files d (Some node) h,
+          blocks_of-set files d (Some (linked t node)) h))
     ]
 
 module _ {files : Files} {d : ℕ} (h : HasDirectory files d) (e : Entry) where
@@ -293,16 +341,21 @@ module _ {files : Files} {d : ℕ} (h : HasDirectory files d) (e : Entry) where
   pub named-is : (k : ℕ) → room_in h.places ≡ Some k → entered files d k e ≡ put files d named
   named-is k room =
       let end = room-some h.places h.packed k room in
-      entered-is files d h.links _ h.here k e ∙ ap (λ k. put files d (Directory h.links (placed h.places k e))) end ∙ ap (λ ps. put files d (Directory h.links ps)) (placed-end _ e)
+      entered-is files d h.links _ h.here k e ∙ ap (λ k. put files d (Directory h.links (placed h.places k e))) end
+          ∙ ap (λ ps. put files d (Directory h.links ps)) (placed-end _ e)
 
   module _ (limit : ℕ) (t : Thing) where
     pub lacks-place : None ≡ room_in h.places → LacksRoomFor limit files d (linked t named)
     lacks-place none =
-        let many : most_places ≤ length h.places = elim (room-is h.places h.packed) [ inl e ↦ absurd (none-some _ (none ∙ e.1)) | inr e ↦ e.0 ] in
+        let many : most_places ≤ length h.places =
+                elim (room-is h.places h.packed) [ inl e ↦ absurd (none-some _ (none ∙ e.1)) | inr e ↦ e.0 ] in
         lacks-linked limit files d t named within (inl (omega (arith, length_push h.places (Some e))))
 
-    pub lacks-growth : (k : ℕ) → room_in h.places ≡ Some k → limit < blocks_of files + (growth h.places k + 0) → LacksRoomFor limit files d (linked t named)
-    lacks-growth k room few = lacks-linked limit files d t named within (inr (omega (arith, ap blocks_of (named-is k room), blocks_of-entered files d h.links h.places h.here k e)))
+    pub lacks-growth : (k : ℕ) → room_in h.places ≡ Some k → limit < blocks_of files + (growth h.places k + 0)
+        → LacksRoomFor limit files d (linked t named)
+    lacks-growth k room few =
+        lacks-linked limit files d t named within
+        (inr (omega (arith, ap blocks_of (named-is k room), blocks_of-entered files d h.links h.places h.here k e)))
 
   -- and with a link more
   pub named-linked : change_node (put files d named) d more_links ≡ put files d (linked Folder named)
@@ -312,12 +365,15 @@ module _ {files : Files} {d : ℕ} (h : HasDirectory files d) (e : Entry) where
 
 module _ {old mid : FileTree} (now : IsNow old mid old.files) {d : ℕ} where
   abbrev pub room-now : {k : ℕ} → HasRoom old.files d k → HasRoom mid.files d k
-  room-now r = record { links = r.links; places = r.places; here = ap (λ (fs : Files). slot fs d) (now-files now) ∙ r.here; room = r.room }
+  room-now r = record { links = r.links; places = r.places; here = ap (λ (fs : Files). slot fs d) (now-files now)
+      ∙ r.here; room = r.room }
 
   abbrev pub room-was : {k : ℕ} → HasRoom mid.files d k → HasRoom old.files d k
-  room-was r = record { links = r.links; places = r.places; here = ap (λ (fs : Files). slot fs d) (sym (now-files now)) ∙ r.here; room = r.room }
+  room-was r = record { links = r.links; places = r.places; here = ap (λ (fs : Files). slot fs d) (sym (now-files now))
+      ∙ r.here; room = r.room }
 
-abbrev pub room-at : {files : Files} {d k : ℕ} (h : HasDirectory files d) → room_in h.places ≡ Some k → HasRoom files d k
+abbrev pub room-at : {files : Files} {d k : ℕ} (h : HasDirectory files d) → room_in h.places ≡ Some k
+    → HasRoom files d k
 room-at h room = record { links = h.links; places = h.places; here = h.here; room = room }
 
 -- ---- the last place
@@ -327,10 +383,12 @@ module _ {files : Files} {d : ℕ} (h : HasDirectory files d) where
   room-full-at full = elim (room-is h.places h.packed) [ inl e ↦ absurd (let l = e.0 in omega arith) | inr e ↦ sym e.1 ]
 
   pub room-end-at : {k : ℕ} → k ≡ length h.places → k < most_places → Some k ≡ room_in h.places
-  room-end-at is less = elim (room-is h.places h.packed) [ inl e ↦ ap Some is ∙ sym e.1 | inr e ↦ absurd (let m = e.0 in omega arith) ]
+  room-end-at is less = elim (room-is h.places h.packed)
+      [ inl e ↦ ap Some is ∙ sym e.1 | inr e ↦ absurd (let m = e.0 in omega arith) ]
 
 -- what follows a look
-pub looks-done : {old now : FileTree} {T U : Type 0} {Was : T → Type 0} {Told : U → Type 0} {r : Result T DeviceFault} {x : T} {y : U} → Looks old now r Was → r ≡ Ok x → Told y → Looks old now (Ok y) Told
+pub looks-done : {old now : FileTree} {T U : Type 0} {Was : T → Type 0} {Told : U → Type 0} {r : Result T DeviceFault}
+    {x : T} {y : U} → Looks old now r Was → r ≡ Ok x → Told y → Looks old now (Ok y) Told
 looks-done {old} {now} {T} {Was = Was} {r = r} looks was told = record {
   told = ((IfOk-at_ok (λ x. (now ≡ record old { failures = now.failures }) × Was x) was looks.told).0, told);
   up = subst (λ (q : Result T DeviceFault). OnOk q (now.failed ≡ false)) was looks.up;
@@ -339,15 +397,20 @@ looks-done {old} {now} {T} {Was = Was} {r = r} looks was told = record {
   cause = record { later = looks.cause.later; failed = λ e. absurd (false≢true e) };
 }
 
-pub now-looked : {old now : FileTree} {T : Type 0} {Was : T → Type 0} {r : Result T DeviceFault} {x : T} → Looks old now r Was → r ≡ Ok x → IsNow old now old.files
-now-looked {old} {now} {Was = Was} looks was = record { is = (IfOk-at_ok (λ x. (now ≡ record old { failures = now.failures }) × Was x) was looks.told).0; later = looks.cause.later }
+pub now-looked : {old now : FileTree} {T : Type 0} {Was : T → Type 0} {r : Result T DeviceFault} {x : T}
+    → Looks old now r Was → r ≡ Ok x → IsNow old now old.files
+now-looked {old} {now} {Was = Was} looks was =
+    record { is = (IfOk-at_ok (λ x. (now ≡ record old { failures = now.failures }) × Was x) was looks.told).0;
+    later = looks.cause.later }
 
 -- ---- a file without bytes gets some, where there is room for all of them
 
 greatest-tells : (test : ℕ → Bool) (n : ℕ) → (greatest test n ≤ n) × (greatest test n < n → test n ≡ false)
 greatest-tells test zero = (omega arith, λ h. absurd (omega arith))
 greatest-tells test (suc n) = go _ refl (greatest-tells test n).0 where
-  go : (b : Bool) → test (suc n) ≡ b → greatest test n ≤ n → (elim b [ true ↦ suc n | false ↦ greatest test n ] ≤ suc n) × (elim b [ true ↦ suc n | false ↦ greatest test n ] < suc n → test (suc n) ≡ false)
+  go : (b : Bool) → test (suc n) ≡ b → greatest test n ≤ n
+      → (elim b [ true ↦ suc n | false ↦ greatest test n ] ≤ suc n)
+      × (elim b [ true ↦ suc n | false ↦ greatest test n ] < suc n → test (suc n) ≡ false)
   go true e h = (omega arith, λ l. absurd (omega arith))
   go false e h = (omega arith, λ l. e)
 
@@ -376,12 +439,14 @@ module _ (limit : ℕ) (files : Files) (n : ℕ) (bytes : List ℕ) (here : slot
   long h = w-is ∙ rw (lt-leb (0 + length bytes) longest (omega arith)) refl
 
   pub fill-long : None ≡ count_of w → longest < length bytes
-  fill-long told = elim (cases_lt longest (length bytes)) [ inl l ↦ l | inr m ↦ absurd (none-some fit (told ∙ ap count_of (short m))) ]
+  fill-long told = elim (cases_lt longest (length bytes))
+      [ inl l ↦ l | inr m ↦ absurd (none-some fit (told ∙ ap count_of (short m))) ]
 
   module _ {count : ℕ} (told : Some count ≡ count_of w) where
     -- it is written at all
     fits : length bytes ≤ longest
-    fits = elim (cases_lt longest (length bytes)) [ inl l ↦ absurd (none-some count (sym (ap count_of (long l)) ∙ sym told)) | inr m ↦ m ]
+    fits = elim (cases_lt longest (length bytes))
+        [ inl l ↦ absurd (none-some count (sym (ap count_of (long l)) ∙ sym told)) | inr m ↦ m ]
 
     counted : count ≡ fit
     counted = same_Some count fit (told ∙ ap count_of (short fits))
@@ -389,12 +454,17 @@ module _ (limit : ℕ) (files : Files) (n : ℕ) (bytes : List ℕ) (here : slot
     pub fill-less : count < length bytes → limit < blocks_of (put files n (File 1 bytes))
     unfolding fitting
     fill-less less =
-        let no = (greatest-tells (λ k. nat_le (blocks_of (with_file files n 1 (overwrite [] 0 (take k bytes)))) limit) (length bytes)).1 (omega (arith, counted)) in
-        leb-false (blocks_of (put files n (File 1 bytes))) limit (ap (λ bs. nat_le (blocks_of (put files n (File 1 bs))) limit) (sym (over-none bytes (length bytes) (omega arith))) ∙ no)
+        let no = (greatest-tells (λ k. nat_le (blocks_of (with_file files n 1 (overwrite [] 0 (take k bytes)))) limit)
+                (length bytes)).1 (omega (arith, counted)) in
+        leb-false (blocks_of (put files n (File 1 bytes))) limit
+            (ap (λ bs. nat_le (blocks_of (put files n (File 1 bs))) limit)
+            (sym (over-none bytes (length bytes) (omega arith))) ∙ no)
 
     pub fill-whole : length bytes ≤ count → files_after files w ≡ put files n (File 1 bytes)
     unfolding fitting
     fill-whole whole =
-        let most = (greatest-tells (λ k. nat_le (blocks_of (with_file files n 1 (overwrite [] 0 (take k bytes)))) limit) (length bytes)).0 in
+        let most = (greatest-tells
+                (λ k. nat_le (blocks_of (with_file files n 1 (overwrite [] 0 (take k bytes)))) limit) (length bytes)).0
+                in
         let many : length bytes ≤ fit = omega (arith, counted) in
         ap (files_after files) (short fits) ∙ ap (λ bs. put files n (File 1 bs)) (over-none bytes fit many)

@@ -1,5 +1,6 @@
 -- Which things make directories, and so links.
-use Rattle.imagemake.proofs.Common.{◌≡◌, ℕ, false, refl, sym, true, false≢true, Node, is_directory, linked, node_for, Folder, makes_directory, thing_of}
+use Rattle.imagemake.proofs.Common.{◌≡◌, ℕ, false, refl, sym, true, false≢true, Node, is_directory, linked, node_for}
+use Rattle.imagemake.proofs.Common.{Folder, makes_directory, thing_of}
 use Rattle.imagemake.specs.declared.manifest.Thing.{Thing}
 use Rattle.imagemake.specs.declared.manifest.Thing.TheVariants.{Directory}
 

@@ -1,5 +1,6 @@
 -- What the steps that put a node do to the files.
-use Rattle.std.specs.Prelude.{Err, IsErrOf, IsTrue, List, MatchResult, None, Ok, Option, Result, Some, is_some, length, replicate, true, ⊤, ℕ, ◌+◌, ◌<◌, ◌⊎◌, ◌≡◌, ◌≤◌, false}
+use Rattle.std.specs.Prelude.{Err, IsErrOf, IsTrue, List, MatchResult, None, Ok, Option, Result, Some, is_some, length}
+use Rattle.std.specs.Prelude.{replicate, true, ⊤, ℕ, ◌+◌, ◌<◌, ◌⊎◌, ◌≡◌, ◌≤◌, false}
 use Rattle.inode.specs.Store.{Store}
 use Rattle.layout.specs.declared.Geometry.{Geometry}
 use Rattle.layout.specs.Super.{data_start_of}
@@ -51,7 +52,8 @@ LacksRoomFor limit files n node = (longest < size_of node) ⊎ (limit < blocks_o
 
 -- the node stands at n, or there is no room for it
 pub record Puts (old new : FileTree) (n : ℕ) (node : Node) (result : Result (Unit {0}) StoreFault) : Type 0 where
-  pub done : MatchResult result (λ _. HasFiles old new (put old.files n node)) (TellsFull (LacksRoomFor old.block_limit old.files n node))
+  pub done : MatchResult result (λ _. HasFiles old new (put old.files n node))
+      (TellsFull (LacksRoomFor old.block_limit old.files n node))
   pub owns : Owns Device old.failures new.failures result
 
 -- a name, and the link that a directory's ".." is, come into directory d, or there is no room for them
@@ -72,9 +74,11 @@ pub record CanAdd (files : Files) (d : ℕ) (name : List ℕ) (n : ℕ) : Type 0
   pub number : IsUnnamed files n
 
 -- the files with the entry where they have room; it is refused exactly where they have none
-pub record Stores (old new : FileTree) (d : ℕ) (name : List ℕ) (n : ℕ) (thing : Thing) (result : Result (Unit {0}) StoreFault) : Type 0 where
+pub record Stores (old new : FileTree) (d : ℕ) (name : List ℕ) (n : ℕ) (thing : Thing)
+    (result : Result (Unit {0}) StoreFault) : Type 0 where
   pub stored : MatchResult result
-      (λ _. HasFiles old new (added old.files d name n thing) × (if_room old.block_limit d n (added old.files d name n thing) ≡ Ok (added old.files d name n thing)))
+      (λ _. HasFiles old new (added old.files d name n thing)
+          × (if_room old.block_limit d n (added old.files d name n thing) ≡ Ok (added old.files d name n thing)))
       (TellsFull (if_room old.block_limit d n (added old.files d name n thing) ≡ Err Wrong.Blocks))
   pub owns : Owns Device old.failures new.failures result
 

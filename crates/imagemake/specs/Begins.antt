@@ -2,7 +2,8 @@
 use Rattle.std.specs.Prelude.{List, None, Ok, Result, Some, false, length, true, ℕ, ◌+◌, ◌≡◌}
 use Rattle.unixmodel.specs.Files.{Files, split_last}
 use Rattle.unixmodel.specs.Image.{KeepsRules}
-use Rattle.unixmodel.specs.Manifest.{ManifestEntry, Thing, Wrong, bare_files, names_in, with_entries, with_manifest_entry}
+use Rattle.unixmodel.specs.Manifest.{ManifestEntry, Thing, Wrong, bare_files, names_in, with_entries}
+use Rattle.unixmodel.specs.Manifest.{with_manifest_entry}
 use Rattle.tree.specs.Tree.{FileTree, HasFiles}
 use Rattle.imagemake.specs.Added.{Owns}
 use Rattle.imagemake.specs.Begun.{IsBegun, IsListed}
@@ -35,7 +36,8 @@ pub record IsSpot (made : List MadeName) (path : List ℕ) (d : ℕ) (name : Lis
 -- whatever it is to name, the fault tells what is wrong with the path
 abbrev pub RefusesPath : List MadeName → List ℕ → MakeFault → Type 0
 RefusesPath made path fault =
-    (blocks inodes : ℕ) (files : Files) (n : ℕ) (thing : Thing) → IsListed files made → Refuses (with_manifest_entry blocks inodes files n (record { path = path; thing = thing })) fault
+    (blocks inodes : ℕ) (files : Files) (n : ℕ) (thing : Thing) → IsListed files made
+        → Refuses (with_manifest_entry blocks inodes files n (record { path = path; thing = thing })) fault
 
 -- the files are those of as many entries, which are those of the list
 pub record IsMade (t : FileTree) (made : List MadeName) : Type 0 where
@@ -45,7 +47,8 @@ pub record IsMade (t : FileTree) (made : List MadeName) : Type 0 where
 
 -- the fault tells why an entry can't come to those that are made
 abbrev pub RefusesEntry : FileTree → List MadeName → ManifestEntry → MakeFault → Type 0
-RefusesEntry t made entry fault = Refuses (with_manifest_entry t.block_limit (length t.files) t.files (length made + 2) entry) fault
+RefusesEntry t made entry fault =
+    Refuses (with_manifest_entry t.block_limit (length t.files) t.files (length made + 2) entry) fault
 
 -- an entry more
 pub record AddsEntry (old new : FileTree) (made now : List MadeName) (entry : ManifestEntry) : Type 0 where

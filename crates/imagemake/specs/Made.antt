@@ -1,5 +1,7 @@
 -- Names are looked up among those that are made so far.
-use Rattle.std.specs.Prelude.{Bool, List, Option, Some, [], false, if◌then◌else◌, nat_lt, option_and_then, option_map, position, slice_get, unwrap_or, ℕ, ◌&&◌, ◌+◌, ◌++◌, ◌-◌, ◌==◌, ◌∷◌, ◌≡◌, ◌≤◌, drop, length}
+use Rattle.std.specs.Prelude.{Bool, List, Option, Some, [], false, if◌then◌else◌, nat_lt, option_and_then, option_map}
+use Rattle.std.specs.Prelude.{position, slice_get, unwrap_or, ℕ, ◌&&◌, ◌+◌, ◌++◌, ◌-◌, ◌==◌, ◌∷◌, ◌≡◌, ◌≤◌, drop}
+use Rattle.std.specs.Prelude.{length}
 use Rattle.std.specs.Borrow.{Bor}
 use Rattle.std.specs.Str.{bytes_eq}
 use Rattle.imagemake.specs.declared.made.Spot.{Spot}
@@ -56,7 +58,8 @@ Extends made more = (d : ℕ) (name : List ℕ) (n : ℕ) → found made d name 
 
 -- the path leads to number n, whatever else is made: what stands below it is looked up from there
 pub record LeadsTo (made : List MadeName) (above : List ℕ) (n : ℕ) : Type 0 where
-  pub below : (more : List MadeName) → Extends made more → (bs : List ℕ) → reach more 1 (pieces (drop 1 (above ++ 0x2f ∷ bs))) ≡ reach more n (pieces bs)
+  pub below : (more : List MadeName) → Extends made more → (bs : List ℕ)
+      → reach more 1 (pieces (drop 1 (above ++ 0x2f ∷ bs))) ≡ reach more n (pieces bs)
 
 -- what all but the last name of a path reach, and what stands behind it
 abbrev pub ReachesSpot : List MadeName → List ℕ → Spot → Type 0

@@ -9,7 +9,8 @@ use Rattle.imagemake.specs.declared.manifest.Entry.{Entry}
 use Rattle.imagemake.specs.declared.manifest.Thing.{Thing}
 use Rattle.imagemake.specs.declared.manifest.Thing.TheVariants.{Device, Directory, File}
 use Rattle.imagemake.specs.declared.manifest.MakeFault.{MakeFault}
-use Rattle.imagemake.specs.declared.manifest.MakeFault.TheVariants.{Blocks, Inodes, Name, NoMemory, Numbers, Parent, Twice}
+use Rattle.imagemake.specs.declared.manifest.MakeFault.TheVariants.{Blocks, Inodes, Name, NoMemory, Numbers, Parent}
+use Rattle.imagemake.specs.declared.manifest.MakeFault.TheVariants.{Twice}
 
 abbrev pub thing_of : Thing → unix.Thing
 thing_of Directory = Folder

@@ -2,7 +2,8 @@
 
 ghost use Rattle.std.specs.Prelude.{◌≡◌, ◌≤◌, ◌+◌, ◌<◌, [], false, length, IfOk, IfErr, OnOk};
 ghost use Rattle.unixmodel.specs.Manifest.{bare_files};
-ghost use Rattle.imagemake.specs.Begins.{AddsEntry, BlamesDevice, IsMade, IsSpot, MakesEntries, RefusesEntry, RefusesPath, made_by};
+ghost use Rattle.imagemake.specs.Begins.{AddsEntry, BlamesDevice, IsMade, IsSpot, MakesEntries, RefusesEntry};
+ghost use Rattle.imagemake.specs.Begins.{RefusesPath, made_by};
 ghost use Rattle.imagemake.specs.Made.{HasRoom, LeadsTo};
 ghost use Rattle.imagemake.specs.Making.{Refuses, entry_of, meaning};
 

@@ -1,6 +1,7 @@
 //! What is made so far, for names to be looked up in it.
 
-ghost use Rattle.std.specs.Prelude.{◌≡◌, ◌<◌, ◌≤◌, ◌+◌, ◌++◌, ◌∷◌, [], IfOk, IfSome, IfNone, None, Some, List, ℕ, length, drop};
+ghost use Rattle.std.specs.Prelude.{◌≡◌, ◌<◌, ◌≤◌, ◌+◌, ◌++◌, ◌∷◌, [], IfOk, IfSome, IfNone, None, Some, List, ℕ};
+ghost use Rattle.std.specs.Prelude.{length, drop};
 ghost use Rattle.unixmodel.specs.Files.{pieces};
 ghost use Rattle.imagemake.specs.Made.{LeadsTo, ReachesSpot, found, is_folder, made_name, reach};
 
@@ -114,7 +115,8 @@ impl<'a> Made<'a> {
         requires slash { path.now ≡ 0x2f ∷ drop 1 path.now }
         ensures found { IfSome result (ReachesSpot self.now.items path.now) }
         ensures leads { IfSome result (λ spot. LeadsTo self.now.items spot.above.now spot.directory) }
-        ensures none { IfNone result ((last : List ℕ) × (reach self.now.items 1 (pieces (drop 1 path.now)) ≡ Some (None, last))) }
+        ensures none { IfNone result
+                ((last : List ℕ) × (reach self.now.items 1 (pieces (drop 1 path.now)) ≡ Some (None, last))) }
     {
         let mut spot = self.start(path);
         'name: while let Some(end) = first_slash(spot.below) {
@@ -135,7 +137,8 @@ impl<'a> Made<'a> {
         requires absent { found self.old.items spot.directory spot.below.now ≡ None }
         requires leads { LeadsTo self.old.items spot.above.now spot.directory }
         requires room { 0 < self.old.spare }
-        ensures items { self.new.items ≡ self.old.items ++ made_name spot.entry.directory spot.entry.below.now is_directory ∷ [] }
+        ensures items { self.new.items ≡ self.old.items
+                ++ made_name spot.entry.directory spot.entry.below.now is_directory ∷ [] }
         ensures room { self.old.spare ≤ self.new.spare + 1 }
     {
         let Ok(_) = self

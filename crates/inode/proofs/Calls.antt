@@ -1,8 +1,14 @@
 -- What steps of a disk say of a volume's nodes.
-use Rattle.inode.proofs.Common.{◌≡◌, ◌∙◌, ℕ, Bool, List, None, Option, Some, ap, arith, inl, inr, length, refl, subst, sym, IsSome, false≢true, ◌⊎◌, unwrap_or, cases_eq, cases_lt, get_or_past, Disk, node_in, IsNode, IsWhole, no_node}
-use Rattle.inode.proofs.Common.{Blocks, raw_at, store_over, used_by, Geometry, IsInode, RawNode, bytes_of, inode_at, nodes_of, taken_for, IsSound, get_or-nodes_of, length-bytes_of, length-nodes_of, node_at-none, node_at-some, slot, ◌+◌}
-use Rattle.inode.proofs.Common.{◌<◌, ◌≤◌, [], set, false, take, get_or-set_same, set-set, take_all, splice, IsTold, Tells, TellsAny, IsReadInto, Changes, Store, IsFull, Writes, WritesFrom, WritesSome, with_bytes, LacksAt, Wrote, WritesAt}
-use Rattle.inode.proofs.Common.{WritesFront, with_links, InodeStat, free_blocks, longest, Err, Ok, Result, IfOk, OnOk, true, rises-before, AsBefore, Reads, Steps, Flushed, Follows, IsLaidOut, Looks, Serves, Tries, has_failed}
+use Rattle.inode.proofs.Common.{◌≡◌, ◌∙◌, ℕ, Bool, List, None, Option, Some, ap, arith, inl, inr, length, refl, subst}
+use Rattle.inode.proofs.Common.{sym, IsSome, false≢true, ◌⊎◌, unwrap_or, cases_eq, cases_lt, get_or_past, Disk, node_in}
+use Rattle.inode.proofs.Common.{IsNode, IsWhole, no_node, Blocks, raw_at, store_over, used_by, Geometry, IsInode}
+use Rattle.inode.proofs.Common.{RawNode, bytes_of, inode_at, nodes_of, taken_for, IsSound, get_or-nodes_of}
+use Rattle.inode.proofs.Common.{length-bytes_of, length-nodes_of, node_at-none, node_at-some, slot, ◌+◌, ◌<◌, ◌≤◌, []}
+use Rattle.inode.proofs.Common.{set, false, take, get_or-set_same, set-set, take_all, splice, IsTold, Tells, TellsAny}
+use Rattle.inode.proofs.Common.{IsReadInto, Changes, Store, IsFull, Writes, WritesFrom, WritesSome, with_bytes, LacksAt}
+use Rattle.inode.proofs.Common.{Wrote, WritesAt, WritesFront, with_links, InodeStat, free_blocks, longest, Err, Ok}
+use Rattle.inode.proofs.Common.{Result, IfOk, OnOk, true, rises-before, AsBefore, Reads, Steps, Flushed, Follows}
+use Rattle.inode.proofs.Common.{IsLaidOut, Looks, Serves, Tries, has_failed}
 use Rattle.std.specs.Prelude.{is_some}
 use Rattle.std.proofs.lemmas.Option.{none-some}
 use Rattle.balloc.specs.Inodes.{IsUnused, SetsNode, TakesInode, TakesNode, fresh_node}
@@ -30,10 +36,12 @@ module _ (blocks : Blocks) (inodes n : ℕ) where
   inode-cases : IsInode blocks inodes n ⊎ (here ≡ None)
   inode-cases = elim (cases_lt n inodes) [
     | inl high ↦
-        let none = λ (why : (n ≡ 0) ⊎ ((inode_at blocks n).kind ≡ 0)). get_or-nodes_of blocks inodes n high ∙ node_at-none blocks n why in
+        let none = λ (why : (n ≡ 0) ⊎ ((inode_at blocks n).kind ≡ 0)). get_or-nodes_of blocks inodes n high
+                ∙ node_at-none blocks n why in
         elim (cases_eq n 0) [
           | inl e ↦ inr (none (inl e))
-          | inr low ↦ elim (cases_eq (inode_at blocks n).kind 0) [ inl z ↦ inr (none (inr z)) | inr kind ↦ inl (record { low = omega arith; high = high; kind = kind }) ]
+          | inr low ↦ elim (cases_eq (inode_at blocks n).kind 0)
+              [ inl z ↦ inr (none (inr z)) | inr kind ↦ inl (record { low = omega arith; high = high; kind = kind }) ]
         ]
     | inr past ↦ inr (get_or_past (nodes_of blocks inodes) n None (omega (arith, length-nodes_of blocks inodes)))
   ]
@@ -53,7 +61,9 @@ module _ (blocks : Blocks) (inodes n : ℕ) where
   unused-free e low high free = record {
     low = low;
     high = omega arith;
-    unused = elim (cases_eq (inode_at blocks n).kind 0) [ inl z ↦ z | inr kind ↦ absurd (none-some _ (sym free ∙ slot-inode (record { low = low; high = high; kind = kind }))) ];
+    unused = elim (cases_eq (inode_at blocks n).kind 0)
+        [ inl z ↦ z | inr kind ↦ absurd
+        (none-some _ (sym free ∙ slot-inode (record { low = low; high = high; kind = kind }))) ];
   }
 
 -- of one in use
@@ -77,7 +87,8 @@ module _ {blocks : Blocks} {inodes n : ℕ} (used : IsInode blocks inodes n) whe
   pub told-raw : (s : InodeStat) → IsTold (node_in blocks n) s → IsTold raw s
   told-raw s = of-raw (λ raw. IsTold raw s)
 
-  pub read-raw : {at : ℕ} {old new : List ℕ} (k : ℕ) → IsReadInto (bytes_of blocks n) at old new k → IsReadInto raw.bytes at old new k
+  pub read-raw : {at : ℕ} {old new : List ℕ} (k : ℕ) → IsReadInto (bytes_of blocks n) at old new k
+      → IsReadInto raw.bytes at old new k
   read-raw {at} {old} {new} k = of-raw (λ raw. IsReadInto raw.bytes at old new k)
 
   -- a node without bytes
@@ -85,7 +96,8 @@ module _ {blocks : Blocks} {inodes n : ℕ} (used : IsInode blocks inodes n) whe
   empty-raw e = sym (length-bytes_of blocks n) ∙ of-raw (λ raw. length (bytes_of blocks n) ≡ length raw.bytes) refl ∙ e
 
 -- the nodes of a sound disk
-pub whole-sound : {D : Type 0} {g : Geometry} {disk : Disk D} {failed : Bool} → IsSound g disk.blocks → IsWhole (store_over g disk failed)
+pub whole-sound : {D : Type 0} {g : Geometry} {disk : Disk D} {failed : Bool} → IsSound g disk.blocks
+    → IsWhole (store_over g disk failed)
 whole-sound {D} {g} {disk} sound = record {
   count = length-nodes_of disk.blocks g.inodes;
   most = sound.parts.inodes_high;
@@ -113,9 +125,12 @@ module _ {D : Type 0} {s seen : Store D} (is : s ≡ seen) where
   at-inside P = subst P (sym is)
 
 -- a call on a node
-pub asked : {D : Type 0} {g : Geometry} {d : Disk D} {f : Bool} {seen : Store D} (is : store_over g d f ≡ seen) → (f ≡ false → IsSound g d.blocks) → seen.failed ≡ false → (n : ℕ) → IsSome (slot seen.nodes n)
+pub asked : {D : Type 0} {g : Geometry} {d : Disk D} {f : Bool} {seen : Store D} (is : store_over g d f ≡ seen)
+    → (f ≡ false → IsSound g d.blocks) → seen.failed ≡ false → (n : ℕ) → IsSome (slot seen.nodes n)
     → record { sound : IsSound g d.blocks; inode : IsInode d.blocks g.inodes n }
-asked {g = g} {d} is sound up n some = record { sound = sound (up-inside is up); inode = inode-some d.blocks g.inodes n (at-inside is (λ s. IsSome (slot s.nodes n)) some) }
+asked {g = g} {d} is sound up n some =
+    record { sound = sound (up-inside is up);
+    inode = inode-some d.blocks g.inodes n (at-inside is (λ s. IsSome (slot s.nodes n)) some) }
 
 -- ---- changes
 
@@ -127,7 +142,8 @@ used-fresh File links = refl
 used-fresh (Device major minor) links = refl
 
 -- where no block is written the nodes are as they were
-kept : {D : Type 0} {g : Geometry} {d d' : Disk D} {f b : Bool} → d'.blocks ≡ d.blocks → Keeps (store_over g d f) (store_over g d' b)
+kept : {D : Type 0} {g : Geometry} {d d' : Disk D} {f b : Bool} → d'.blocks ≡ d.blocks
+    → Keeps (store_over g d f) (store_over g d' b)
 kept {g = g} e = record { nodes = ap (λ bs. nodes_of bs g.inodes) e; free = ap (free_blocks g) e }
 
 -- number n names this node now
@@ -136,7 +152,8 @@ Names g d d' f b n node = Changes (store_over g d f) (store_over g d' b) n node
 
 module _ {D : Type 0} {g : Geometry} {d d' : Disk D} {f b : Bool} {n : ℕ} where
   -- the node takes as many blocks as before
-  pub changes-sets : {node shown : Option RawNode} → SetsNode g d.blocks d'.blocks n node → node ≡ shown → used_by shown ≡ used_by (slot (nodes_of d.blocks g.inodes) n) → Names g d d' f b n shown
+  pub changes-sets : {node shown : Option RawNode} → SetsNode g d.blocks d'.blocks n node → node ≡ shown
+      → used_by shown ≡ used_by (slot (nodes_of d.blocks g.inodes) n) → Names g d d' f b n shown
   changes-sets sets is used = record {
     whole = whole-sound sets.sound;
     nodes = sets.nodes ∙ ap (set (nodes_of d.blocks g.inodes) n) is;
@@ -145,17 +162,25 @@ module _ {D : Type 0} {g : Geometry} {d d' : Disk D} {f b : Bool} {n : ℕ} wher
 
   module _ (inode : IsInode d.blocks g.inodes n) where
     -- other bytes
-    pub changes-wrote : {bytes : List ℕ} → Wrote g d.blocks d'.blocks n bytes → Names g d d' f b n (Some (with_bytes (raw_at (nodes_of d.blocks g.inodes) n) bytes))
+    pub changes-wrote : {bytes : List ℕ} → Wrote g d.blocks d'.blocks n bytes
+        → Names g d d' f b n (Some (with_bytes (raw_at (nodes_of d.blocks g.inodes) n) bytes))
     changes-wrote {bytes} wrote = record {
       whole = whole-sound wrote.sound;
-      nodes = wrote.nodes ∙ ap (λ raw. set (nodes_of d.blocks g.inodes) n (Some (with_bytes raw bytes))) (sym (raw-inode inode));
+      nodes = wrote.nodes ∙ ap (λ raw. set (nodes_of d.blocks g.inodes) n (Some (with_bytes raw bytes)))
+          (sym (raw-inode inode));
       free = wrote.balance ∙ ap (λ k. free_blocks g d.blocks + k) (sym (used-inode inode));
     }
 
-    pub changes-spliced : (at : ℕ) (bytes : List ℕ) → Wrote g d.blocks d'.blocks n (splice at bytes (bytes_of d.blocks n)) → Names g d d' f b n (Some (with_bytes (raw_at (nodes_of d.blocks g.inodes) n) (splice at bytes (raw_at (nodes_of d.blocks g.inodes) n).bytes)))
-    changes-spliced at bytes wrote = changes-wrote (of-raw inode (λ raw. Wrote g d.blocks d'.blocks n (splice at bytes raw.bytes)) wrote)
+    pub changes-spliced : (at : ℕ) (bytes : List ℕ)
+        → Wrote g d.blocks d'.blocks n (splice at bytes (bytes_of d.blocks n))
+        → Names g d d' f b n (Some
+        (with_bytes (raw_at (nodes_of d.blocks g.inodes) n)
+        (splice at bytes (raw_at (nodes_of d.blocks g.inodes) n).bytes)))
+    changes-spliced at bytes wrote =
+        changes-wrote (of-raw inode (λ raw. Wrote g d.blocks d'.blocks n (splice at bytes raw.bytes)) wrote)
 
-    pub writes-some : {at : ℕ} {bytes : List ℕ} (k : ℕ) → WritesFront g d.blocks d'.blocks n at bytes k → WritesSome (store_over g d f) (store_over g d' b) n at bytes k
+    pub writes-some : {at : ℕ} {bytes : List ℕ} (k : ℕ) → WritesFront g d.blocks d'.blocks n at bytes k
+        → WritesSome (store_over g d f) (store_over g d' b) n at bytes k
     writes-some {at} {bytes} k front = record {
       most = front.within;
       changes = changes-spliced at (take k bytes) front.wrote;
@@ -163,21 +188,27 @@ module _ {D : Type 0} {g : Geometry} {d d' : Disk D} {f b : Bool} {n : ℕ} wher
     }
 
     -- other links
-    pub changes-links : {links : ℕ} → SetsNode g d.blocks d'.blocks n (Some (with_links (node_in d.blocks n) links)) → Names g d d' f b n (Some (with_links (raw_at (nodes_of d.blocks g.inodes) n) links))
+    pub changes-links : {links : ℕ} → SetsNode g d.blocks d'.blocks n (Some (with_links (node_in d.blocks n) links))
+        → Names g d d' f b n (Some (with_links (raw_at (nodes_of d.blocks g.inodes) n) links))
     changes-links {links} sets =
-        changes-sets sets (ap (λ raw. Some (with_links raw links)) (sym (raw-inode inode))) (ap (λ (raw : RawNode). taken_for (length raw.bytes)) (raw-inode inode) ∙ sym (used-inode inode))
+        changes-sets sets (ap (λ raw. Some (with_links raw links)) (sym (raw-inode inode)))
+            (ap (λ (raw : RawNode). taken_for (length raw.bytes)) (raw-inode inode) ∙ sym (used-inode inode))
 
     -- none any more
-    pub changes-given : length (raw_at (nodes_of d.blocks g.inodes) n).bytes ≡ 0 → SetsNode g d.blocks d'.blocks n None → Names g d d' f b n None
+    pub changes-given : length (raw_at (nodes_of d.blocks g.inodes) n).bytes ≡ 0 → SetsNode g d.blocks d'.blocks n None
+        → Names g d d' f b n None
     changes-given empty sets =
-        changes-sets sets refl (ap taken_for (sym empty) ∙ ap (λ (raw : RawNode). taken_for (length raw.bytes)) (raw-inode inode) ∙ sym (used-inode inode))
+        changes-sets sets refl (ap taken_for (sym empty)
+            ∙ ap (λ (raw : RawNode). taken_for (length raw.bytes)) (raw-inode inode) ∙ sym (used-inode inode))
 
   -- a node more
-  pub changes-taken : (kind : Kind) {links : ℕ} → slot (nodes_of d.blocks g.inodes) n ≡ None → TakesNode g d.blocks d'.blocks n kind links → Names g d d' f b n (fresh_node kind links)
+  pub changes-taken : (kind : Kind) {links : ℕ} → slot (nodes_of d.blocks g.inodes) n ≡ None
+      → TakesNode g d.blocks d'.blocks n kind links → Names g d d' f b n (fresh_node kind links)
   changes-taken kind {links} free takes = changes-sets takes.sets refl (used-fresh kind links ∙ sym (ap used_by free))
 
 module _ {D : Type 0} (g : Geometry) (d d' : Disk D) (f b : Bool) where
-  pub takes-lowest : (kind : Kind) (links : ℕ) (o : Option ℕ) → TakesInode g d.blocks d'.blocks kind links o → TakesLowest (store_over g d f) (store_over g d' b) kind links o
+  pub takes-lowest : (kind : Kind) (links : ℕ) (o : Option ℕ) → TakesInode g d.blocks d'.blocks kind links o
+      → TakesLowest (store_over g d f) (store_over g d' b) kind links o
   takes-lowest kind links (Some n) takes =
       let lowest = takes.0 in
       let free = slot-free d.blocks g.inodes n (λ used. used.kind lowest.unused) in (
@@ -185,7 +216,8 @@ module _ {D : Type 0} (g : Geometry) (d d' : Disk D) (f b : Bool) where
           low = lowest.low;
           high = omega (arith, lowest.high, length-nodes_of d.blocks g.inodes);
           free = free;
-          lowest = λ m low less none. taken-none (record { low = low; high = omega (arith, lowest.high); kind = lowest.lowest m low less }) none;
+          lowest = λ m low less none. taken-none
+              (record { low = low; high = omega (arith, lowest.high); kind = lowest.lowest m low less }) none;
         },
         changes-taken kind free takes.1,
       )
@@ -196,20 +228,24 @@ module _ {D : Type 0} (g : Geometry) (d d' : Disk D) (f b : Bool) where
         taken-none (record { low = low; high = within; kind = all.0 m low within }) none,
   )
 
-  pub writes-from : (n at : ℕ) (bytes : List ℕ) → IsInode d.blocks g.inodes n → (o : Outcome) → WritesAt g d.blocks d'.blocks n at bytes o → WritesFrom (store_over g d f) (store_over g d' b) n at bytes o
+  pub writes-from : (n at : ℕ) (bytes : List ℕ) → IsInode d.blocks g.inodes n → (o : Outcome)
+      → WritesAt g d.blocks d'.blocks n at bytes o → WritesFrom (store_over g d f) (store_over g d' b) n at bytes o
   writes-from n at bytes inode PastEnd past =
       (kept past.0, of-raw inode (λ raw. length raw.bytes < at) past.1)
   writes-from n at bytes inode TooLong long =
       (kept long.0, of-raw inode (λ raw. at ≤ length raw.bytes) long.1, long.2)
-  writes-from n at bytes inode (Written k) wrote = (of-raw inode (λ raw. at ≤ length raw.bytes) wrote.0, wrote.1, writes-some inode k wrote.2)
+  writes-from n at bytes inode (Written k) wrote =
+      (of-raw inode (λ raw. at ≤ length raw.bytes) wrote.0, wrote.1, writes-some inode k wrote.2)
 
 -- the disk is sound still
 module _ {g : Geometry} {old new : Blocks} where
-  pub takes-sound : (kind : Kind) (links : ℕ) → IsSound g old → (o : Option ℕ) → TakesInode g old new kind links o → IsSound g new
+  pub takes-sound : (kind : Kind) (links : ℕ) → IsSound g old → (o : Option ℕ) → TakesInode g old new kind links o
+      → IsSound g new
   takes-sound kind links sound (Some n) takes = takes.1.sets.sound
   takes-sound kind links sound None all = subst (IsSound g) (sym all.1) sound
 
-  pub writes-sound : (n at : ℕ) (bytes : List ℕ) → IsSound g old → (o : Outcome) → WritesAt g old new n at bytes o → IsSound g new
+  pub writes-sound : (n at : ℕ) (bytes : List ℕ) → IsSound g old → (o : Outcome) → WritesAt g old new n at bytes o
+      → IsSound g new
   writes-sound n at bytes sound PastEnd past = subst (IsSound g) (sym past.0) sound
   writes-sound n at bytes sound TooLong long = subst (IsSound g) (sym long.0) sound
   writes-sound n at bytes sound (Written k) wrote = wrote.2.wrote.sound
@@ -217,7 +253,9 @@ module _ {g : Geometry} {old new : Blocks} where
 -- ---- a node goes: first its bytes, then its number
 
 some-within : (nodes : List (Option RawNode)) (n : ℕ) → IsSome (slot nodes n) → n < length nodes
-some-within nodes n some = elim (cases_lt n (length nodes)) [ inl high ↦ high | inr past ↦ absurd (none (get_or_past nodes n None (omega arith)) some) ] where
+some-within nodes n some =
+    elim (cases_lt n (length nodes))
+    [ inl high ↦ high | inr past ↦ absurd (none (get_or_past nodes n None (omega arith)) some) ] where
   none : {o : Option RawNode} → o ≡ None → IsSome o → ⊥
   none e some = cc
 
@@ -226,14 +264,17 @@ raw_of o = unwrap_or o no_node
 
 module _ {D : Type 0} {s mid : Store D} {n : ℕ} where
   slot-changed : {node : Option RawNode} → Changes s mid n node → IsSome (slot s.nodes n) → slot mid.nodes n ≡ node
-  slot-changed {node} changes some = ap (λ ns. slot ns n) changes.nodes ∙ get_or-set_same s.nodes n node None (some-within s.nodes n some)
+  slot-changed {node} changes some = ap (λ ns. slot ns n) changes.nodes
+      ∙ get_or-set_same s.nodes n node None (some-within s.nodes n some)
 
-  pub emptied-asked : Changes s mid n (Some (with_bytes (raw_at s.nodes n) [])) → IsSome (slot s.nodes n) → IsSome (slot mid.nodes n) × (length (raw_at mid.nodes n).bytes ≡ 0)
+  pub emptied-asked : Changes s mid n (Some (with_bytes (raw_at s.nodes n) [])) → IsSome (slot s.nodes n)
+      → IsSome (slot mid.nodes n) × (length (raw_at mid.nodes n).bytes ≡ 0)
   emptied-asked changes some =
       let here = slot-changed changes some in
       (rw here refl, ap (λ o. length (raw_of o).bytes) here)
 
-  pub released : {new : Store D} → IsSome (slot s.nodes n) → Changes s mid n (Some (with_bytes (raw_at s.nodes n) [])) → Changes mid new n None → Changes s new n None
+  pub released : {new : Store D} → IsSome (slot s.nodes n) → Changes s mid n (Some (with_bytes (raw_at s.nodes n) []))
+      → Changes mid new n None → Changes s new n None
   released some emptied given = record {
     whole = given.whole;
     nodes = given.nodes ∙ ap (λ ns. set ns n None) emptied.nodes ∙ set-set s.nodes n _ None;
@@ -246,61 +287,87 @@ module _ {D : Type 0} {s mid : Store D} {n : ℕ} where
 
 -- ---- bytes are written
 
-module _ {D : Type 0} {old new : Store D} {n at : ℕ} {bytes : List ℕ} (k : ℕ) (some : WritesSome old new n at bytes k) (within : at ≤ length (raw_at old.nodes n).bytes) (short : at + length bytes ≤ longest) where
+module _ {D : Type 0} {old new : Store D} {n at : ℕ} {bytes : List ℕ} (k : ℕ) (some : WritesSome old new n at bytes k)
+    (within : at ≤ length (raw_at old.nodes n).bytes) (short : at + length bytes ≤ longest) where
   pub writes-all : length bytes ≤ k → Writes old new n at bytes
   writes-all all = record {
     within = within;
     short = short;
-    changes = subst (λ xs. Changes old new n (Some (with_bytes (raw_at old.nodes n) (splice at xs (raw_at old.nodes n).bytes)))) (take_all k bytes all) some.changes;
+    changes = subst (λ xs. Changes old new n
+        (Some (with_bytes (raw_at old.nodes n) (splice at xs (raw_at old.nodes n).bytes)))) (take_all k bytes all)
+        some.changes;
   }
 
   pub writes-part : k < length bytes → IsFull old new n at bytes k
-  writes-part less = record { some_left = less; within = within; short = short; changes = some.changes; few = some.few less }
+  writes-part less = record
+      { some_left = less; within = within; short = short; changes = some.changes; few = some.few less }
 
 -- ---- a step of the disk, of a volume that is up
 
-module _ {D : Type 0} {identity : D → List ℕ} {g : Geometry} {d d' : Disk D} {b : Bool} {T : Type 0} {Was : T → Type 0} where
-  pub tries : {f : Bool} {Done : T → Type 0} (r : Result T DeviceFault) → Steps identity d d' r Was → b ≡ is_err r → ((x : T) → Was x → Done x) → Tries identity (store_over g d f) (store_over g d' b) r Done
-  tries (Ok x) step e so = record { done = so x step.done; refused = tt; follows = record { geometry = refl; same_device = step.goes.same_device; later = step.goes.later }; failed = e; cause = λ q. absurd (false≢true q) }
-  tries (Err fault) step e so = record { done = tt; refused = λ q. tt; follows = record { geometry = refl; same_device = step.goes.same_device; later = step.goes.later }; failed = e; cause = λ _. step.failed refl }
+module _ {D : Type 0} {identity : D → List ℕ} {g : Geometry} {d d' : Disk D} {b : Bool} {T : Type 0} {Was : T → Type 0}
+    where
+  pub tries : {f : Bool} {Done : T → Type 0} (r : Result T DeviceFault) → Steps identity d d' r Was → b ≡ is_err r
+      → ((x : T) → Was x → Done x) → Tries identity (store_over g d f) (store_over g d' b) r Done
+  tries (Ok x) step e so =
+      record { done = so x step.done; refused = tt;
+      follows = record { geometry = refl; same_device = step.goes.same_device; later = step.goes.later }; failed = e;
+      cause = λ q. absurd (false≢true q) }
+  tries (Err fault) step e so =
+      record { done = tt; refused = λ q. tt;
+      follows = record { geometry = refl; same_device = step.goes.same_device; later = step.goes.later }; failed = e;
+      cause = λ _. step.failed refl }
 
   -- the disk stays sound
-  pub sound-after : (r : Result T DeviceFault) → Steps identity d d' r Was → b ≡ is_err r → ((x : T) → Was x → IsSound g d'.blocks) → b ≡ false → IsSound g d'.blocks
+  pub sound-after : (r : Result T DeviceFault) → Steps identity d d' r Was → b ≡ is_err r
+      → ((x : T) → Was x → IsSound g d'.blocks) → b ≡ false → IsSound g d'.blocks
   sound-after (Ok x) step e so up = so x step.done
   sound-after (Err fault) step e so up = absurd (false≢true (sym up ∙ e))
 
 -- a step that only reads
-module _ {D : Type 0} {identity : D → List ℕ} {g : Geometry} {d d' : Disk D} {b : Bool} {T : Type 0} {Was : T → Type 0} where
-  pub looks : {f : Bool} {Told : T → Type 0} (r : Result T DeviceFault) → Reads identity d d' r Was → b ≡ is_err r → ((x : T) → Was x → Told x) → Looks identity (store_over g d f) (store_over g d' b) r Told
+module _ {D : Type 0} {identity : D → List ℕ} {g : Geometry} {d d' : Disk D} {b : Bool} {T : Type 0} {Was : T → Type 0}
+    where
+  pub looks : {f : Bool} {Told : T → Type 0} (r : Result T DeviceFault) → Reads identity d d' r Was → b ≡ is_err r
+      → ((x : T) → Was x → Told x) → Looks identity (store_over g d f) (store_over g d' b) r Told
   looks r step e so = tries r step e (λ x was. (kept was.same, so x was.told))
 
-  pub sound-same : (r : Result T DeviceFault) → Reads identity d d' r Was → b ≡ is_err r → IsSound g d.blocks → b ≡ false → IsSound g d'.blocks
+  pub sound-same : (r : Result T DeviceFault) → Reads identity d d' r Was → b ≡ is_err r → IsSound g d.blocks
+      → b ≡ false → IsSound g d'.blocks
   sound-same r step e sound up = sound-after r step e (λ x was. subst (IsSound g) (sym was.same) sound) up
 
 -- ---- calls on a volume, one after the other
 
 module _ {D : Type 0} {identity : D → List ℕ} where
   pub follows-after : {a b c : Store D} → Follows identity a b → Follows identity b c → Follows identity a c
-  follows-after one two = record { geometry = two.geometry ∙ one.geometry; same_device = two.same_device ∙ one.same_device; later = omega (arith, one.later, two.later) }
+  follows-after one two = record
+      { geometry = two.geometry ∙ one.geometry; same_device = two.same_device ∙ one.same_device;
+      later = omega (arith, one.later, two.later) }
 
   pub follows-stays : {a : Store D} → Follows identity a a
   follows-stays = record { geometry = refl; same_device = refl; later = omega arith }
 
   -- what a call that did it leaves up
-  pub still-up : {T : Type 0} {mid new : Store D} {r : Result T DeviceFault} {Was : T → Type 0} {x : T} → Tries identity mid new r Was → r ≡ Ok x → new.failed ≡ false
+  pub still-up : {T : Type 0} {mid new : Store D} {r : Result T DeviceFault} {Was : T → Type 0} {x : T}
+      → Tries identity mid new r Was → r ≡ Ok x → new.failed ≡ false
   still-up {r = r} tries is = tries.failed ∙ ap (has_failed (λ _. true)) is
 
   module _ {T E : Type 0} {is_lost : E → Bool} {old new : Store D} {Done : T → Type 0} {Why : E → Type 0} where
     -- it is done
-    pub serves-done : {x : T} → Follows identity old new → new.failed ≡ false → Done x → Serves identity is_lost old new (Ok x) Done Why
-    serves-done follows up done = record { done = done; refused = tt; follows = follows; failed = up; cause = λ q. absurd (false≢true q) }
+    pub serves-done : {x : T} → Follows identity old new → new.failed ≡ false → Done x
+        → Serves identity is_lost old new (Ok x) Done Why
+    serves-done follows up done =
+        record { done = done; refused = tt; follows = follows; failed = up; cause = λ q. absurd (false≢true q) }
 
     -- it is refused
-    pub serves-not : {fault : E} → Follows identity old new → new.failed ≡ false → is_lost fault ≡ false → Why fault → Serves identity is_lost old new (Err fault) Done Why
-    serves-not follows up known why = record { done = tt; refused = λ _. why; follows = follows; failed = up ∙ sym known; cause = λ q. absurd (false≢true (sym known ∙ q)) }
+    pub serves-not : {fault : E} → Follows identity old new → new.failed ≡ false → is_lost fault ≡ false → Why fault
+        → Serves identity is_lost old new (Err fault) Done Why
+    serves-not follows up known why =
+        record { done = tt; refused = λ _. why; follows = follows; failed = up ∙ sym known;
+        cause = λ q. absurd (false≢true (sym known ∙ q)) }
 
     -- a call behind others failed
-    pub serves-lost : {mid : Store D} {U : Type 0} {Was : U → Type 0} {r : Result U DeviceFault} {e : DeviceFault} {s : Result T E} (fault : E) → Follows identity old mid → Tries identity mid new r Was → r ≡ Err e → is_lost fault ≡ true → IsErrAnd s (λ f. f ≡ fault) → Serves identity is_lost old new s Done Why
+    pub serves-lost : {mid : Store D} {U : Type 0} {Was : U → Type 0} {r : Result U DeviceFault} {e : DeviceFault}
+        {s : Result T E} (fault : E) → Follows identity old mid → Tries identity mid new r Was → r ≡ Err e
+        → is_lost fault ≡ true → IsErrAnd s (λ f. f ≡ fault) → Serves identity is_lost old new s Done Why
     serves-lost {s = s} fault follows step was lost told =
         let err = err_from_is_err_and s told in
         let is : s ≡ Err fault = err.1 ∙ ap Err err.2 in
@@ -314,21 +381,30 @@ module _ {D : Type 0} {identity : D → List ℕ} where
         })
 
   -- the last call tells all
-  pub tries-last : {T : Type 0} {old mid new : Store D} {r : Result T DeviceFault} {Was Done : T → Type 0} → Follows identity old mid → ((x : T) → Was x → Done x) → Tries identity mid new r Was → Tries identity old new r Done
+  pub tries-last : {T : Type 0} {old mid new : Store D} {r : Result T DeviceFault} {Was Done : T → Type 0}
+      → Follows identity old mid → ((x : T) → Was x → Done x) → Tries identity mid new r Was
+      → Tries identity old new r Done
   tries-last {r = Ok x} follows so step = serves-done (follows-after follows step.follows) step.failed (so x step.done)
-  tries-last {r = Err e} follows so step = record { done = tt; refused = λ q. tt; follows = follows-after follows step.follows; failed = step.failed; cause = λ q. rises-before follows.later (step.cause q) }
+  tries-last {r = Err e} follows so step =
+      record { done = tt; refused = λ q. tt; follows = follows-after follows step.follows; failed = step.failed;
+      cause = λ q. rises-before follows.later (step.cause q) }
 
 -- ---- the disk is given up
 
-pub flushed : {D : Type 0} {g : Geometry} {d d' : Disk D} {f : Bool} {left : D} (content : D → Blocks) (failures : D → ℕ) {identity : D → List ℕ} (r : Result Unit DeviceFault) → Reads identity d d' r (λ _. content d'.device ≡ d.blocks)
-    → left ≡ d'.device → failures left ≡ d'.failures → IsSound g d.blocks → Flushed content failures identity (store_over g d f) left r
+pub flushed : {D : Type 0} {g : Geometry} {d d' : Disk D} {f : Bool} {left : D} (content : D → Blocks)
+    (failures : D → ℕ) {identity : D → List ℕ} (r : Result Unit DeviceFault)
+    → Reads identity d d' r (λ _. content d'.device ≡ d.blocks)
+    → left ≡ d'.device → failures left ≡ d'.failures → IsSound g d.blocks
+        → Flushed content failures identity (store_over g d f) left r
 flushed {g = g} {d} {d'} {left = left} content failures {identity} r step is count sound = record {
   stored = laid r step.done;
   same_device = ap identity is ∙ step.goes.same_device;
   cause = record { later = omega (arith, step.goes.later); failed = λ e. omega (arith, step.failed e) };
 } where
-  laid : (r : Result Unit DeviceFault) → IfOk r (λ _. AsBefore d d' (content d'.device ≡ d.blocks)) → OnOk r (IsLaidOut g (content left) (nodes_of d.blocks g.inodes) (free_blocks g d.blocks))
+  laid : (r : Result Unit DeviceFault) → IfOk r (λ _. AsBefore d d' (content d'.device ≡ d.blocks))
+      → OnOk r (IsLaidOut g (content left) (nodes_of d.blocks g.inodes) (free_blocks g d.blocks))
   laid (Ok x) before =
       let e : content left ≡ d.blocks = ap content is ∙ before.told in
-      subst (λ bs. IsLaidOut g bs (nodes_of d.blocks g.inodes) (free_blocks g d.blocks)) (sym e) (record { sound = sound; nodes = refl; free = refl })
+      subst (λ bs. IsLaidOut g bs (nodes_of d.blocks g.inodes) (free_blocks g d.blocks)) (sym e)
+          (record { sound = sound; nodes = refl; free = refl })
   laid (Err fault) before = tt

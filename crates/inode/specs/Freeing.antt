@@ -16,5 +16,6 @@ pub record Freed (g : Geometry) (old mid : List (List ℕ)) (n : ℕ) (P : ℕ �
   pub front : (k : ℕ) → k < bitmap_start_of g.inodes → block_at mid k ≡ block_at old k
   pub rest : (p : ℕ) → data_start_of g.size g.inodes ≤ p → block_at mid p ≡ block_at old p
   pub gone : (j : ℕ) → IsUsed old g.inodes n j → P j → bit_of mid (bitmap_start_of g.inodes) (slot_of old n j) ≡ 0
-  pub kept : (c : ℕ) → c < g.size → ((j : ℕ) → IsUsed old g.inodes n j → P j → slot_of old n j ≢ c) → bit_of mid (bitmap_start_of g.inodes) c ≡ bit_of old (bitmap_start_of g.inodes) c
+  pub kept : (c : ℕ) → c < g.size → ((j : ℕ) → IsUsed old g.inodes n j → P j → slot_of old n j ≢ c)
+      → bit_of mid (bitmap_start_of g.inodes) c ≡ bit_of old (bitmap_start_of g.inodes) c
   pub free : free_blocks g mid ≡ free_blocks g old + count

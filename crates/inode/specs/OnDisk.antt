@@ -15,10 +15,12 @@ pub record HasInode (g : Geometry) (blocks : List (List ℕ)) (n : ℕ) (inode :
 unfoldable pub IsInHand : Geometry → List (List ℕ) → ℕ → DiskInode → Type 0
 IsInHand g blocks n inode = HasInode g blocks n inode
 
-pub IsInHand-of : {g : Geometry} {blocks : List (List ℕ)} {n : ℕ} {inode : DiskInode} → HasInode g blocks n inode → IsInHand g blocks n inode
+pub IsInHand-of : {g : Geometry} {blocks : List (List ℕ)} {n : ℕ} {inode : DiskInode} → HasInode g blocks n inode
+    → IsInHand g blocks n inode
 unfolding IsInHand
 IsInHand-of h = h
 
-pub HasInode-of : {g : Geometry} {blocks : List (List ℕ)} {n : ℕ} {inode : DiskInode} → IsInHand g blocks n inode → HasInode g blocks n inode
+pub HasInode-of : {g : Geometry} {blocks : List (List ℕ)} {n : ℕ} {inode : DiskInode} → IsInHand g blocks n inode
+    → HasInode g blocks n inode
 unfolding IsInHand
 HasInode-of h = h

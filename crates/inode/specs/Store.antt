@@ -1,5 +1,6 @@
 -- A disk with files, as callers see it: nodes by the numbers of their inodes.
-use Rattle.std.specs.Prelude.{Bool, Err, OnOk, IfErr, IfOk, List, None, Ok, Option, Result, Some, [], false, length, slice_set, take, true, unwrap_or, ⊤, ℕ, ◌+◌, ◌<◌, ◌≡◌, ◌≢◌, ◌≤◌}
+use Rattle.std.specs.Prelude.{Bool, Err, OnOk, IfErr, IfOk, List, None, Ok, Option, Result, Some, [], false, length}
+use Rattle.std.specs.Prelude.{slice_set, take, true, unwrap_or, ⊤, ℕ, ◌+◌, ◌<◌, ◌≡◌, ◌≢◌, ◌≤◌}
 use Rattle.blockdev.specs.Splice.{splice}
 use Rattle.blockdev.specs.declared.DeviceFault.{DeviceFault}
 use Rattle.balloc.specs.Inodes.{fresh_node}
@@ -71,9 +72,10 @@ abbrev pub has_failed : {T E : Type 0} → (E → Bool) → Result T E → Bool
 has_failed is_lost (Ok x) = false
 has_failed is_lost (Err fault) = is_lost fault
 
--- Where no access fails it is done, or refused, which says why. A failure of an access is told by a fault of its own, and only
--- where the device counts it.
-pub record Serves {D T E : Type 0} (identity : D → List ℕ) (is_lost : E → Bool) (old new : Store D) (result : Result T E) (Done : T → Type 0) (Why : E → Type 0) : Type 0 where
+-- Where no access fails it is done, or refused, which says why. A failure of an access is told by a fault of its own,
+-- and only where the device counts it.
+pub record Serves {D T E : Type 0} (identity : D → List ℕ) (is_lost : E → Bool) (old new : Store D)
+    (result : Result T E) (Done : T → Type 0) (Why : E → Type 0) : Type 0 where
   pub done : IfOk result Done
   pub refused : IfErr result (λ fault. is_lost fault ≡ false → Why fault)
   pub follows : Follows identity old new
@@ -155,25 +157,30 @@ pub record IsFull {D : Type 0} (old new : Store D) (n at : ℕ) (bytes : List �
   pub some_left : k < length bytes
   pub within : at ≤ length (raw_at old.nodes n).bytes
   pub short : at + length bytes ≤ longest
-  pub changes : Changes old new n (Some (with_bytes (raw_at old.nodes n) (splice at (take k bytes) (raw_at old.nodes n).bytes)))
+  pub changes : Changes old new n
+      (Some (with_bytes (raw_at old.nodes n) (splice at (take k bytes) (raw_at old.nodes n).bytes)))
   pub few : LacksAt old.free (raw_at old.nodes n).bytes (at + k)
 
 -- the first k of the bytes are written; if there are more, the next one needs more blocks than are free
 pub record WritesSome {D : Type 0} (old new : Store D) (n at : ℕ) (bytes : List ℕ) (k : ℕ) : Type 0 where
   pub most : k ≤ length bytes
-  pub changes : Changes old new n (Some (with_bytes (raw_at old.nodes n) (splice at (take k bytes) (raw_at old.nodes n).bytes)))
+  pub changes : Changes old new n
+      (Some (with_bytes (raw_at old.nodes n) (splice at (take k bytes) (raw_at old.nodes n).bytes)))
   pub few : k < length bytes → LacksAt old.free (raw_at old.nodes n).bytes (at + k)
 
 -- what comes of these bytes, which are to stand in node n from a place on
 abbrev pub WritesFrom : {D : Type 0} → Store D → Store D → ℕ → ℕ → List ℕ → Outcome → Type 0
 WritesFrom old new n at bytes outcome.PastEnd = Keeps old new × (length (raw_at old.nodes n).bytes < at)
-WritesFrom old new n at bytes outcome.TooLong = Keeps old new × (at ≤ length (raw_at old.nodes n).bytes) × (longest < at + length bytes)
-WritesFrom old new n at bytes (outcome.Written k) = (at ≤ length (raw_at old.nodes n).bytes) × (at + length bytes ≤ longest) × WritesSome old new n at bytes k
+WritesFrom old new n at bytes outcome.TooLong = Keeps old new × (at ≤ length (raw_at old.nodes n).bytes)
+    × (longest < at + length bytes)
+WritesFrom old new n at bytes (outcome.Written k) = (at ≤ length (raw_at old.nodes n).bytes)
+    × (at + length bytes ≤ longest) × WritesSome old new n at bytes k
 
 -- why not all of them are
 abbrev pub LacksWriting : {D : Type 0} → Store D → Store D → ℕ → ℕ → List ℕ → InodeFault → Type 0
 LacksWriting old new n at bytes PastEnd = Keeps old new × (length (raw_at old.nodes n).bytes < at)
-LacksWriting old new n at bytes TooLong = Keeps old new × (at ≤ length (raw_at old.nodes n).bytes) × (longest < at + length bytes)
+LacksWriting old new n at bytes TooLong = Keeps old new × (at ≤ length (raw_at old.nodes n).bytes)
+    × (longest < at + length bytes)
 LacksWriting old new n at bytes (Blocks k) = IsFull old new n at bytes k
 LacksWriting old new n at bytes Device = ⊤
 
@@ -186,7 +193,8 @@ pub record IsLaidOut (g : Geometry) (blocks : List (List ℕ)) (shown : List (Op
   pub free : free_blocks g blocks ≡ left
 
 -- what the device is left with
-pub record Flushed {D : Type 0} (content : D → List (List ℕ)) (failures : D → ℕ) (identity : D → List ℕ) (s : Store D) (left : D) (result : Result (Unit {0}) DeviceFault) : Type 0 where
+pub record Flushed {D : Type 0} (content : D → List (List ℕ)) (failures : D → ℕ) (identity : D → List ℕ) (s : Store D)
+    (left : D) (result : Result (Unit {0}) DeviceFault) : Type 0 where
   pub stored : OnOk result (IsLaidOut s.geometry (content left) s.nodes s.free)
   pub same_device : identity left ≡ identity s.device
   pub cause : HasCause s.failures (failures left) result

@@ -26,7 +26,8 @@ pub struct Found {
 fn record_bytes<D: BlockDev>(disk: &Cache<D>, geometry: Geometry, number: usize) -> Option<&[u8]>
     requires parts { HasParts geometry disk.now.blocks }
     requires high { number < geometry.inodes }
-    ensures bytes { IfSome result (λ bytes. bytes.now ≡ part (64 * (number % 16)) 64 (block_at disk.now.blocks (2 + number / 16))) }
+    ensures bytes { IfSome result
+            (λ bytes. bytes.now ≡ part (64 * (number % 16)) 64 (block_at disk.now.blocks (2 + number / 16))) }
     ensures size { IfSome result (λ bytes. length bytes.now ≡ 64) }
 {
     let place = DiskInode::at(number);
@@ -36,7 +37,8 @@ fn record_bytes<D: BlockDev>(disk: &Cache<D>, geometry: Geometry, number: usize)
     Some(&block[place.offset..place.offset + 64])
 }
 
-// The number of a data block that the size asks for, where the record has it, or the single index block, if that was used of late.
+// The number of a data block that the size asks for, where the record has it, or the single index block, if that was
+// used of late.
 fn number_of<D: BlockDev>(disk: &Cache<D>, bytes: &[u8], slot: usize) -> Option<usize>
     requires size { length bytes.now ≡ 64 }
     requires asked { Asks (inode_of bytes.now).size slot }

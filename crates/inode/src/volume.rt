@@ -1,9 +1,11 @@
 //! A disk with files, by the numbers of their inodes.
 
-ghost use Rattle.std.specs.Prelude.{◌≡◌, ◌≢◌, ◌+◌, ◌<◌, ◌≤◌, IfOk, IsSome, None, OnOk, false, length, nat_le, slice_set, take};
+ghost use Rattle.std.specs.Prelude.{◌≡◌, ◌≢◌, ◌+◌, ◌<◌, ◌≤◌, IfOk, IsSome, None, OnOk, false, length, nat_le};
+ghost use Rattle.std.specs.Prelude.{slice_set, take};
 ghost use Rattle.inode.specs.Looking.{IsTold, TellsAny};
 ghost use Rattle.inode.specs.Reading.{IsReadInto};
-ghost use Rattle.inode.specs.Store.{Changes, Flushed, HasLinks, IsEmptied, IsWhole, LacksWriting, Looks, Serves, TakesLowest, Tries, Writes, WritesFrom, is_device, raw_at, store_over};
+ghost use Rattle.inode.specs.Store.{Changes, Flushed, HasLinks, IsEmptied, IsWhole, LacksWriting, Looks, Serves};
+ghost use Rattle.inode.specs.Store.{TakesLowest, Tries, Writes, WritesFrom, is_device, raw_at, store_over};
 ghost use Rattle.balloc.specs.Inodes.{fresh_node};
 ghost use Rattle.layout.specs.Sound.{IsSound};
 ghost use Rattle.unixmodel.specs.Files.{slot};
@@ -76,8 +78,8 @@ impl<D: BlockDev> Volume<D> {
         let _failed = self.failed;
     }
 
-    /// Gives up the files for their device, which gets what it lacks first. Where an access fails it isn't told what the device
-    /// has.
+    /// Gives up the files for their device, which gets what it lacks first. Where an access fails it isn't told what
+    /// the device has.
     pub fn into_device(self) -> (D, Result<(), DeviceFault>)
         requires up { self.failed ≡ false }
         ensures { Flushed D.content D.failures D.identity self result.0 result.1 }
@@ -117,7 +119,8 @@ impl<D: BlockDev> Volume<D> {
     ) -> Result<usize, DeviceFault>
         requires up { self.old.failed ≡ false }
         requires node { IsSome (slot self.old.nodes number) }
-        ensures { Looks D.identity self.old self.new result (IsReadInto (raw_at self.old.nodes number).bytes at out.old out.new) }
+        ensures { Looks D.identity self.old self.new result
+                (IsReadInto (raw_at self.old.nodes number).bytes at out.old out.new) }
     {
         let result = read_at(&mut self.disk, self.geometry, number, at, out);
         self.failed = result.is_err();
@@ -134,9 +137,9 @@ impl<D: BlockDev> Volume<D> {
         result
     }
 
-    /// Writes bytes of a node from the place `at` on. `PastEnd` comes exactly where `at` is past its end, and else `TooLong`
-    /// exactly where it would have more than `LONGEST` bytes. `Blocks` tells how many bytes are written: the next one needs more
-    /// blocks than are free.
+    /// Writes bytes of a node from the place `at` on. `PastEnd` comes exactly where `at` is past its end, and else
+    /// `TooLong` exactly where it would have more than `LONGEST` bytes. `Blocks` tells how many bytes are written: the
+    /// next one needs more blocks than are free.
     pub fn write_at(&mut self, number: usize, at: usize, bytes: &[u8]) -> Result<(), InodeFault>
         requires up { self.old.failed ≡ false }
         requires node { IsSome (slot self.old.nodes number) }
@@ -209,7 +212,8 @@ impl<D: BlockDev> Volume<D> {
         requires low { 1 ≤ number }
         requires high { number < self.old.geometry.inodes }
         requires free { slot self.old.nodes number ≡ None }
-        ensures { Tries D.identity self.old self.new result (λ _. Changes self.old self.new number (fresh_node kind links)) }
+        ensures { Tries D.identity self.old self.new result
+                (λ _. Changes self.old self.new number (fresh_node kind links)) }
     {
         let result = take_inode_at(&mut self.disk, self.geometry, number, kind, links);
         self.failed = result.is_err();

@@ -1,6 +1,7 @@
 -- What spells a word is listed among its possible instructions, and the eight hexadecimal digits of a word.
-use Rattle.std.proofs.Common.{◌%◌, ◌*◌, ◌+◌, ◌++◌, ◌-◌, ◌/◌, ◌<◌, ◌≤◌, ◌==◌, [], ◌^◌, ap, append-nil, arith, Bool, cond, Contains, false, find, IfSome, length, List, lit<, None, Option, refl, replicate, slice_index_or, Some, suc}
-use Rattle.std.proofs.Common.{sym, true, zero, ℕ, ◌∙◌, ◌∷◌, ◌≡◌}
+use Rattle.std.proofs.Common.{◌%◌, ◌*◌, ◌+◌, ◌++◌, ◌-◌, ◌/◌, ◌<◌, ◌≤◌, ◌==◌, [], ◌^◌, ap, append-nil, arith, Bool, cond}
+use Rattle.std.proofs.Common.{Contains, false, find, IfSome, length, List, lit<, None, Option, refl, replicate}
+use Rattle.std.proofs.Common.{slice_index_or, Some, suc, sym, true, zero, ℕ, ◌∙◌, ◌∷◌, ◌≡◌}
 use Rattle.std.proofs.Math.Nat.{div-div-eq-div-mul, div-one}
 use Rattle.std.proofs.lemmas.Bool.{eqb-true, eq-eqb}
 use Rattle.std.proofs.lemmas.Bool.Decides.{nat_tests}
@@ -9,7 +10,8 @@ use Rattle.std.proofs.lemmas.Option.{none-some}
 use Rattle.std.specs.Fmt.{char_count, digit_glyph, digits, digits_onto, format_spec, padded_integral}
 use Rattle.std.specs.List.{AllByRecursion, position_or_len}
 use Rattle.unixmodel.specs.Disassembly.{eight_digits}
-use Rattle.unixmodel.specs.Spell.{branch_funct3, Fits, imm_funct3, load_funct3, part, reg_funct3, reg_funct7, reg_w_funct3, reg_w_funct7, shift_funct3, shift_funct7, spell, store_funct3}
+use Rattle.unixmodel.specs.Spell.{branch_funct3, Fits, imm_funct3, load_funct3, part, reg_funct3, reg_funct7}
+use Rattle.unixmodel.specs.Spell.{reg_w_funct3, reg_w_funct7, shift_funct3, shift_funct7, spell, store_funct3}
 use Rattle.unixmodel.specs.Words.{branch_offset, instruction_of, jump_offset, possible}
 use Rattle.unixmodel.specs.declared.instr.BranchOp.{BranchOp}
 use Rattle.unixmodel.specs.declared.instr.ImmOp.{ImmOp}
@@ -39,7 +41,8 @@ imm_fits : (op : ImmOp) → imm_funct3 op < 8
 imm_fits ImmOp.Addi = lit< tt
 imm_fits _ = lit< tt
 
-shift_fits : (op : ShiftOp) → (shift_funct3 op < 8) × (shift_funct7 op ≡ 2 * (shift_funct7 op / 2)) × (shift_funct7 op < 128)
+shift_fits : (op : ShiftOp)
+    → (shift_funct3 op < 8) × (shift_funct7 op ≡ 2 * (shift_funct7 op / 2)) × (shift_funct7 op < 128)
 shift_fits ShiftOp.Sll = (lit< tt, refl, lit< tt)
 shift_fits _ = (lit< tt, refl, lit< tt)
 
@@ -120,13 +123,17 @@ module _ (w : ℕ) where
   all_fit : AllByRecursion Fits (possible w)
   all_fit =
       let upper : (rd < 32) × (part w 12 20 < 2 ^ 20) = (omega arith, omega arith) in
-      let jump : (rd < 32) × (jump_offset w < 2 ^ 21) × (jump_offset w % 2 ≡ 0) = (omega arith, omega arith, omega arith) in
+      let jump : (rd < 32) × (jump_offset w < 2 ^ 21) × (jump_offset w % 2 ≡ 0) =
+              (omega arith, omega arith, omega arith) in
       let immediate : (rd < 32) × (rs1 < 32) × (imm < 2 ^ 12) = (omega arith, omega arith, omega arith) in
       let registers : (rd < 32) × (rs1 < 32) × (rs2 < 32) = (omega arith, omega arith, omega arith) in
-      let branch : (rs1 < 32) × (rs2 < 32) × (branch_offset w < 2 ^ 13) × (branch_offset w % 2 ≡ 0) = (omega arith, omega arith, omega arith, omega arith) in
+      let branch : (rs1 < 32) × (rs2 < 32) × (branch_offset w < 2 ^ 13) × (branch_offset w % 2 ≡ 0) =
+              (omega arith, omega arith, omega arith, omega arith) in
       let store : (rs1 < 32) × (rs2 < 32) × (stored < 2 ^ 12) = (omega arith, omega arith, omega arith) in
       let shift : (rd < 32) × (rs1 < 32) × (part w 20 6 < 64) = (omega arith, omega arith, omega arith) in
-      (upper, (upper, (jump, times 3 immediate (tt, (tt, times 6 branch (times 7 immediate (times 4 store (times 6 immediate (times 3 shift (times 31 registers tt))))))))))
+      (upper, (upper, (jump, times 3 immediate
+          (tt, (tt, times 6 branch
+          (times 7 immediate (times 4 store (times 6 immediate (times 3 shift (times 31 registers tt))))))))))
 
   -- an instruction that is listed with the parts of a word is listed with what equals them
   two : (make : ℕ → ℕ → Instr) {a b x y : ℕ} → Has (make a b) → a ≡ x → b ≡ y → Has (make x y)
@@ -136,41 +143,60 @@ module _ (w : ℕ) where
   three make at d e f = rw (← d, ← e, ← f) at
 
   is_listed : (i : Instr) → Fits i → spell i ≡ w → Has i
-  is_listed (instr.Lui a b) fits e = two instr.Lui {a = rd} {b = part w 12 20} (0, lit< tt, refl) (omega arith) (omega arith)
-  is_listed (instr.Auipc a b) fits e = two instr.Auipc {a = rd} {b = part w 12 20} (1, lit< tt, refl) (omega arith) (omega arith)
-  is_listed (instr.Jal a b) fits e = two instr.Jal {a = rd} {b = jump_offset w} (2, lit< tt, refl) (omega arith) (omega arith)
-  is_listed (instr.Jalr a b c) fits e = three instr.Jalr {a = rd} {b = rs1} {c = imm} (3, lit< tt, refl) (omega arith) (omega arith) (omega arith)
-  is_listed (instr.Addiw a b c) fits e = three instr.Addiw {a = rd} {b = rs1} {c = imm} (4, lit< tt, refl) (omega arith) (omega arith) (omega arith)
-  is_listed (instr.Fence a b c) fits e = three instr.Fence {a = rd} {b = rs1} {c = imm} (5, lit< tt, refl) (omega arith) (omega arith) (omega arith)
+  is_listed (instr.Lui a b) fits e =
+      two instr.Lui {a = rd} {b = part w 12 20} (0, lit< tt, refl) (omega arith) (omega arith)
+  is_listed (instr.Auipc a b) fits e =
+      two instr.Auipc {a = rd} {b = part w 12 20} (1, lit< tt, refl) (omega arith) (omega arith)
+  is_listed (instr.Jal a b) fits e =
+      two instr.Jal {a = rd} {b = jump_offset w} (2, lit< tt, refl) (omega arith) (omega arith)
+  is_listed (instr.Jalr a b c) fits e =
+      three instr.Jalr {a = rd} {b = rs1} {c = imm} (3, lit< tt, refl) (omega arith) (omega arith) (omega arith)
+  is_listed (instr.Addiw a b c) fits e =
+      three instr.Addiw {a = rd} {b = rs1} {c = imm} (4, lit< tt, refl) (omega arith) (omega arith) (omega arith)
+  is_listed (instr.Fence a b c) fits e =
+      three instr.Fence {a = rd} {b = rs1} {c = imm} (5, lit< tt, refl) (omega arith) (omega arith) (omega arith)
   is_listed instr.Ecall fits e = (6, lit< tt, refl)
   is_listed instr.Ebreak fits e = (7, lit< tt, refl)
-  is_listed (instr.Branch op a b c) fits e = let op-fits = branch_fits op in three (instr.Branch op) (listed_branch op) (omega arith) (omega arith) (omega arith)
-  is_listed (instr.Load op a b c) fits e = let op-fits = load_fits op in three (instr.Load op) (listed_load op) (omega arith) (omega arith) (omega arith)
-  is_listed (instr.Store op a b c) fits e = let op-fits = store_fits op in three (instr.Store op) (listed_store op) (omega arith) (omega arith) (omega arith)
-  is_listed (instr.Imm op a b c) fits e = let op-fits = imm_fits op in three (instr.Imm op) (listed_imm op) (omega arith) (omega arith) (omega arith)
-  is_listed (instr.Shift op a b c) fits e = let op-fits = shift_fits op in three (instr.Shift op) (listed_shift op) (omega arith) (omega arith) (omega arith)
-  is_listed (instr.Reg op a b c) fits e = let op-fits = reg_fits op in three (instr.Reg op) (listed_reg op) (omega arith) (omega arith) (omega arith)
-  is_listed (instr.ShiftW op a b c) fits e = let op-fits = shift_fits op in three (instr.ShiftW op) (listed_shift_w op) (omega arith) (omega arith) (omega arith)
-  is_listed (instr.RegW op a b c) fits e = let op-fits = reg_w_fits op in three (instr.RegW op) (listed_reg_w op) (omega arith) (omega arith) (omega arith)
+  is_listed (instr.Branch op a b c) fits e = let op-fits =
+      branch_fits op in three (instr.Branch op) (listed_branch op) (omega arith) (omega arith) (omega arith)
+  is_listed (instr.Load op a b c) fits e = let op-fits =
+      load_fits op in three (instr.Load op) (listed_load op) (omega arith) (omega arith) (omega arith)
+  is_listed (instr.Store op a b c) fits e = let op-fits =
+      store_fits op in three (instr.Store op) (listed_store op) (omega arith) (omega arith) (omega arith)
+  is_listed (instr.Imm op a b c) fits e = let op-fits =
+      imm_fits op in three (instr.Imm op) (listed_imm op) (omega arith) (omega arith) (omega arith)
+  is_listed (instr.Shift op a b c) fits e = let op-fits =
+      shift_fits op in three (instr.Shift op) (listed_shift op) (omega arith) (omega arith) (omega arith)
+  is_listed (instr.Reg op a b c) fits e = let op-fits =
+      reg_fits op in three (instr.Reg op) (listed_reg op) (omega arith) (omega arith) (omega arith)
+  is_listed (instr.ShiftW op a b c) fits e = let op-fits =
+      shift_fits op in three (instr.ShiftW op) (listed_shift_w op) (omega arith) (omega arith) (omega arith)
+  is_listed (instr.RegW op a b c) fits e = let op-fits =
+      reg_w_fits op in three (instr.RegW op) (listed_reg_w op) (omega arith) (omega arith) (omega arith)
 
 -- the first that passes fits, where all do
-first_fits : (p : Instr → Bool) (xs : List Instr) → AllByRecursion Fits xs → IfSome (find p xs) (λ j. (p j ≡ true) × Fits j)
+first_fits : (p : Instr → Bool) (xs : List Instr) → AllByRecursion Fits xs
+    → IfSome (find p xs) (λ j. (p j ≡ true) × Fits j)
 first_fits p [] fits = tt
 first_fits p (x ∷ xs) fits =
-    elim (p x) as (λ b. p x ≡ b → IfSome (cond b (Some x) (find p xs)) (λ j. (p j ≡ true) × Fits j)) [ true ↦ λ is. (is, fits.0) | false ↦ λ is. first_fits p xs fits.1 ] refl
+    elim (p x) as (λ b. p x ≡ b → IfSome (cond b (Some x) (find p xs)) (λ j. (p j ≡ true) × Fits j))
+        [ true ↦ λ is. (is, fits.0) | false ↦ λ is. first_fits p xs fits.1 ] refl
 
 none_later : (b : Bool) (x : Instr) (later : Option Instr) → cond b (Some x) later ≡ None → later ≡ None
 none_later true x later e = absurd (none-some x (sym e))
 none_later false x later e = e
 
 -- one that passes isn't missed
-not_missed : (p : Instr → Bool) (xs : List Instr) (k : ℕ) (i : Instr) → k < length xs → slice_index_or xs k i ≡ i → p i ≡ true → find p xs ≡ None → ⊥
+not_missed : (p : Instr → Bool) (xs : List Instr) (k : ℕ) (i : Instr) → k < length xs → slice_index_or xs k i ≡ i
+    → p i ≡ true → find p xs ≡ None → ⊥
 not_missed p [] k i l e t none = absurd (omega (arith, l))
 not_missed p (x ∷ xs) zero i l e t none = none-some x (sym (rw (ap p e ∙ t) at none))
-not_missed p (x ∷ xs) (suc n) i l e t none = not_missed p xs n i (omega (arith, l)) e t (none_later (p x) x (find p xs) none)
+not_missed p (x ∷ xs) (suc n) i l e t none =
+    not_missed p xs n i (omega (arith, l)) e t (none_later (p x) x (find p xs) none)
 
 -- an answer by the two clauses of a decoder is what is found
-agrees_with : (w : ℕ) (r o : Option Instr) → find (λ j. spell j == w) (possible w) ≡ o → IfSome o (λ j. ((spell j == w) ≡ true) × Fits j) → IfSome r (λ i. Fits i × (spell i ≡ w))
+agrees_with : (w : ℕ) (r o : Option Instr) → find (λ j. spell j == w) (possible w) ≡ o
+    → IfSome o (λ j. ((spell j == w) ≡ true) × Fits j) → IfSome r (λ i. Fits i × (spell i ≡ w))
     → ((i : Instr) → Fits i → spell i ≡ w → r ≡ Some i) → r ≡ o
 agrees_with w r (Some j) e is found only = only j is.1 (eqb-true (spell j) w is.0)
 agrees_with w None None e is found only = refl
@@ -178,9 +204,11 @@ agrees_with w (Some i) None e is found only =
     let at = is_listed w i found.0 found.1 in
     absurd (not_missed (λ j. spell j == w) (possible w) at.0 i at.1 at.2 (eq-eqb (spell i) w found.1) e)
 
-pub agrees : (w : ℕ) (r : Option Instr) → IfSome r (λ i. Fits i × (spell i ≡ w)) → ((i : Instr) → Fits i → spell i ≡ w → r ≡ Some i) → r ≡ instruction_of w
+pub agrees : (w : ℕ) (r : Option Instr) → IfSome r (λ i. Fits i × (spell i ≡ w))
+    → ((i : Instr) → Fits i → spell i ≡ w → r ≡ Some i) → r ≡ instruction_of w
 unfolding instruction_of
-agrees w r found only = agrees_with w r (find (λ j. spell j == w) (possible w)) refl (first_fits (λ j. spell j == w) (possible w) (all_fit w)) found only
+agrees w r found only = agrees_with w r (find (λ j. spell j == w) (possible w)) refl
+    (first_fits (λ j. spell j == w) (possible w) (all_fit w)) found only
 
 -- ---- hexadecimal digits, as many as are asked for
 
@@ -200,18 +228,21 @@ lowest_zero (suc k) behind = lowest_zero k (48 ∷ behind) ∙ zero_between k be
 abbrev with_zeros : ℕ → List ℕ → List ℕ
 with_zeros k text = replicate (k - length text) 48 ++ text
 
-last_digit : (k n : ℕ) (behind : List ℕ) → n / 16 ≡ 0 → with_zeros (suc k + length behind) (digit_glyph false (n % 16) ∷ behind) ≡ lowest (suc k) n behind
+last_digit : (k n : ℕ) (behind : List ℕ) → n / 16 ≡ 0
+    → with_zeros (suc k + length behind) (digit_glyph false (n % 16) ∷ behind) ≡ lowest (suc k) n behind
 last_digit k n behind none =
     let here : suc k + length behind - suc (length behind) ≡ k = omega arith in
     let text = digit_glyph false (n % 16) ∷ behind in
     rw (none, here) (sym (lowest_zero k text))
 
-either_way : (P : List ℕ → Type 0) (b : Bool) (stop more : List ℕ) → (b ≡ true → P stop) → (b ≡ false → P more) → P (cond b stop more)
+either_way : (P : List ℕ → Type 0) (b : Bool) (stop more : List ℕ) → (b ≡ true → P stop) → (b ≡ false → P more)
+    → P (cond b stop more)
 either_way P true stop more here there = here refl
 either_way P false stop more here there = there refl
 
 -- zeros before the digits of n, up to k of them and one more
-zeros_before : (k j n : ℕ) (behind : List ℕ) → n < 16 ^ suc k → k ≤ j → with_zeros (suc k + length behind) (digits_onto (suc j) 16 false n behind) ≡ lowest (suc k) n behind
+zeros_before : (k j n : ℕ) (behind : List ℕ) → n < 16 ^ suc k → k ≤ j
+    → with_zeros (suc k + length behind) (digits_onto (suc j) 16 false n behind) ≡ lowest (suc k) n behind
 zeros_before zero j n behind small room =
     let none : n / 16 ≡ 0 = omega arith in
     either_way (λ text. with_zeros (suc zero + length behind) text ≡ lowest (suc zero) n behind) (n / 16 == 0) _ _
@@ -231,7 +262,8 @@ zeros_before (suc k) (suc j) n behind small room =
 eight_lowest : (n : ℕ) → lowest 8 n [] ≡ eight_digits n
 eight_lowest n = simp (div-div-eq-div-mul, div-one)
 
-zeros_in : (j n : ℕ) (text : List ℕ) → 7 ≤ j → n < 16 ^ 8 → digits_onto (suc j) 16 false n [] ≡ text → with_zeros 8 text ≡ lowest 8 n []
+zeros_in : (j n : ℕ) (text : List ℕ) → 7 ≤ j → n < 16 ^ 8 → digits_onto (suc j) 16 false n [] ≡ text
+    → with_zeros 8 text ≡ lowest 8 n []
 zeros_in j n text room small is = rw (← is) (zeros_before 7 j n [] small room)
 
 all_digits : (n : ℕ) → digits_onto 64 16 false n [] ≡ digits 16 false n
@@ -246,5 +278,7 @@ pad_eight text =
     simp (append-nil, e)
 
 -- a word of 32 bits has eight of them
-pub eight : (n : ℕ) → n < 2 ^ 32 → padded_integral (format_spec 32 0 4 8 (2 ^ 64 - 1)) false [] (digits 16 false n) ≡ eight_digits n
-eight n small = pad_eight (digits 16 false n) ∙ zeros_in 63 n (digits 16 false n) (omega arith) small (all_digits n) ∙ eight_lowest n
+pub eight : (n : ℕ) → n < 2 ^ 32
+    → padded_integral (format_spec 32 0 4 8 (2 ^ 64 - 1)) false [] (digits 16 false n) ≡ eight_digits n
+eight n small = pad_eight (digits 16 false n) ∙ zeros_in 63 n (digits 16 false n) (omega arith) small (all_digits n)
+    ∙ eight_lowest n

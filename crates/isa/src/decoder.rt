@@ -1,7 +1,8 @@
 //! From a word to the instruction that it spells.
 ghost use Rattle.std.specs.Prelude.{◌≡◌, ◌↔◌, ◌+◌, ◌*◌, ◌/◌, ◌%◌, ◌^◌, IfSome, Some};
 ghost use Rattle.unixmodel.specs.Spell.{spell, Fits};
-ghost use Rattle.unixmodel.specs.Words.{branch_offset as the_branch_offset, instruction_of, jump_offset as the_jump_offset};
+ghost use Rattle.unixmodel.specs.Words.{branch_offset as the_branch_offset, instruction_of};
+ghost use Rattle.unixmodel.specs.Words.{jump_offset as the_jump_offset};
 ghost use Rattle.unixmodel.specs.declared.instr.Instr.{Instr as TheInstr};
 
 use crate::{opcodes, operations};

@@ -1,7 +1,8 @@
 //! The operations of each opcode and their numbers funct3 and funct7, as the RISC-V unprivileged manual lists
 //! them.
 ghost use Rattle.std.specs.Prelude.{◌≡◌, ◌<◌, ◌^◌, IfSome, Some};
-ghost use Rattle.unixmodel.specs.Spell.{branch_funct3, load_funct3, store_funct3, imm_funct3, shift_funct3, shift_funct7, reg_funct3, reg_funct7, reg_w_funct3, reg_w_funct7};
+ghost use Rattle.unixmodel.specs.Spell.{branch_funct3, load_funct3, store_funct3, imm_funct3, shift_funct3};
+ghost use Rattle.unixmodel.specs.Spell.{shift_funct7, reg_funct3, reg_funct7, reg_w_funct3, reg_w_funct7};
 ghost use Rattle.unixmodel.specs.declared.instr.BranchOp.{BranchOp};
 ghost use Rattle.unixmodel.specs.declared.instr.LoadOp.{LoadOp};
 ghost use Rattle.unixmodel.specs.declared.instr.StoreOp.{StoreOp};

@@ -1,21 +1,30 @@
 -- The open files and the pipes keep what holds of them where descriptors come and go, and what is left of them is what
 -- the abstract Unix leaves.
-use Rattle.kernel.proofs.Common.{file-opens, IsOpened, WaitsWell, drop-cons, eq-eqb, append_assoc, Bool, List, None, Option, Some, [], ap, arith, cond, false, inl, inr, length, refl, subst, suc, sym, true, ℕ, ℤ, ◌+◌, ◌++◌, ◌<◌, ◌≡◌, ◌≤◌}
-use Rattle.kernel.proofs.Common.{◌∙◌, ◌∷◌, drop, SpaceView, is_some, map, option_and_then, option_map, slice_set, cases_lt, none-some, get_or_past, length-append, length-map, set-get_or, sum_by-cons, sum_by-set, IsCounted, after_close}
-use Rattle.kernel.proofs.Common.{all_closed, all_shared, closed_in, named_by, names_in, shared_in, standing, slot-within, files_on, gone_nodes, last_node, listed, node_in, node_on, names, one_in, Counts, count-closed, count-shared}
-use Rattle.kernel.proofs.Common.{names-none, one_at, IsPiped, lt-ltb, has_pipe-clear, pipes-left, pipes-same, file_of, target_of, Counted, IsTable, closed, count_at, file_at, last_target, opens_of, shared, all-set, slot-opens, Process}
-use Rattle.kernel.proofs.Common.{le-ltb, orphaned, zombie_of, joined, Spaces, Files, clear, put, slot, taken, End, OnPipe, reap, without_nodes, without_pipes, State, Kernel, IsKernel, IsLive, IsMode, IsPlace, Mode, Ready, Running, Waiting}
-use Rattle.kernel.proofs.Common.{Zombie, Memory, ◌*◌, count_by-le-length, is_same, one_at-self}
+use Rattle.kernel.proofs.Common.{file-opens, IsOpened, WaitsWell, drop-cons, eq-eqb, append_assoc, Bool, List, None}
+use Rattle.kernel.proofs.Common.{Option, Some, [], ap, arith, cond, false, inl, inr, length, refl, subst, suc, sym}
+use Rattle.kernel.proofs.Common.{true, ℕ, ℤ, ◌+◌, ◌++◌, ◌<◌, ◌≡◌, ◌≤◌, ◌∙◌, ◌∷◌, drop, SpaceView, is_some, map}
+use Rattle.kernel.proofs.Common.{option_and_then, option_map, slice_set, cases_lt, none-some, get_or_past}
+use Rattle.kernel.proofs.Common.{length-append, length-map, set-get_or, sum_by-cons, sum_by-set, IsCounted, after_close}
+use Rattle.kernel.proofs.Common.{all_closed, all_shared, closed_in, named_by, names_in, shared_in, standing}
+use Rattle.kernel.proofs.Common.{slot-within, files_on, gone_nodes, last_node, listed, node_in, node_on, names, one_in}
+use Rattle.kernel.proofs.Common.{Counts, count-closed, count-shared, names-none, one_at, IsPiped, lt-ltb}
+use Rattle.kernel.proofs.Common.{has_pipe-clear, pipes-left, pipes-same, file_of, target_of, Counted, IsTable, closed}
+use Rattle.kernel.proofs.Common.{count_at, file_at, last_target, opens_of, shared, all-set, slot-opens, Process, le-ltb}
+use Rattle.kernel.proofs.Common.{orphaned, zombie_of, joined, Spaces, Files, clear, put, slot, taken, End, OnPipe, reap}
+use Rattle.kernel.proofs.Common.{without_nodes, without_pipes, State, Kernel, IsKernel, IsLive, IsMode, IsPlace, Mode}
+use Rattle.kernel.proofs.Common.{Ready, Running, Waiting, Zombie, Memory, ◌*◌, count_by-le-length, is_same, one_at-self}
 use Rattle.files.specs.Places.{has_pipe, fewer, last_in}
 use Rattle.kernel.proofs.Joined.{waits-fewer, count-joined}
-use Rattle.kernel.proofs.Holding.{sum-put, AreOld, map-same, named_in, orphan-by, same-map, slot-map, Fds, Opens, Pipes, Processes, Views}
+use Rattle.kernel.proofs.Holding.{sum-put, AreOld, map-same, named_in, orphan-by, same-map, slot-map, Fds, Opens, Pipes}
+use Rattle.kernel.proofs.Holding.{Processes, Views}
 use Rattle.files.specs.declared.file.End as files_end
 use Rattle.files.specs.declared.file.OpenFile.{OpenFile}
 use Rattle.files.specs.declared.file.Target.{Target}
 use Rattle.files.specs.declared.file.Target.TheVariants as target
 use Rattle.unixmodel.specs.OpenFiles as unix
 use Rattle.files.proofs.PipesLemmas.{IsLeftOf, pipes-clear, piped-end, piped-last, piped-node, without_pipes-left}
-use Rattle.files.proofs.Whole.{fewer-from, IsLeft, left-closed, left-same, opens-closed, opens-closed_last, opens-shared, set_outside, table-closed, without_opens-left}
+use Rattle.files.proofs.Whole.{fewer-from, IsLeft, left-closed, left-same, opens-closed, opens-closed_last}
+use Rattle.files.proofs.Whole.{opens-shared, set_outside, table-closed, without_opens-left}
 
 -- ---- descriptors that a table counts
 
@@ -30,7 +39,8 @@ pub first-named : (t : Opens) (n : ℕ) (ds : Fds) → AreNamed t (Some n ∷ ds
 first-named t n ds are = omega (arith, are n, names-cons n (Some n) ds, one_at-self n)
 
 -- those of a process are counted
-pub names-counted : (t : Opens) (places : Processes) (i : ℕ) (p : Process) → IsCounted t places → slot places i ≡ Some p → AreNamed t p.descriptors
+pub names-counted : (t : Opens) (places : Processes) (i : ℕ) (p : Process) → IsCounted t places
+    → slot places i ≡ Some p → AreNamed t p.descriptors
 names-counted t places i p counted at n =
     let sums = sum_by-set (names_in n) _ i None None (slot-within _ i p at) in
     let one : names_in n (slot places i) ≡ names n p.descriptors = ap (names_in n) at in
@@ -38,17 +48,21 @@ names-counted t places i p counted at n =
 
 -- ---- fork
 
-count-share : (t : Opens) (d : Option ℕ) (ds : Fds) → AreNamed t (d ∷ ds) → (n : ℕ) → count_at (shared_in t d) n ≡ count_at t n + one_in n d
+count-share : (t : Opens) (d : Option ℕ) (ds : Fds) → AreNamed t (d ∷ ds) → (n : ℕ)
+    → count_at (shared_in t d) n ≡ count_at t n + one_in n d
 count-share t None ds are n = omega arith
 count-share t (Some k) ds are n = count-shared t k (first-named t k ds are) n
 
-pub count-all_shared : (t : Opens) (ds : Fds) → AreNamed t ds → (n : ℕ) → count_at (all_shared t ds) n ≡ count_at t n + names n ds
+pub count-all_shared : (t : Opens) (ds : Fds) → AreNamed t ds → (n : ℕ)
+    → count_at (all_shared t ds) n ≡ count_at t n + names n ds
 count-all_shared t [] are n = omega arith
 count-all_shared t (d ∷ ds) are n =
-    let rest = count-all_shared (shared_in t d) ds (λ m. omega (arith, are m, names-cons m d ds, count-share t d ds are m)) n in
+    let rest = count-all_shared (shared_in t d) ds
+            (λ m. omega (arith, are m, names-cons m d ds, count-share t d ds are m)) n in
     omega (arith, rest, names-cons n d ds, count-share t d ds are n)
 
-pub kept-all_shared : (P : Opens → Type 0) → ((t : Opens) (n : ℕ) → P t → P (shared t n)) → (t : Opens) (ds : Fds) → P t → P (all_shared t ds)
+pub kept-all_shared : (P : Opens → Type 0) → ((t : Opens) (n : ℕ) → P t → P (shared t n)) → (t : Opens) (ds : Fds)
+    → P t → P (all_shared t ds)
 kept-all_shared P step t [] is = is
 kept-all_shared P step t (None ∷ ds) is = kept-all_shared P step t ds is
 kept-all_shared P step t (Some n ∷ ds) is = kept-all_shared P step (shared t n) ds (step t n is)
@@ -58,7 +72,8 @@ pub opens-all_shared : (t : Opens) (ds : Fds) → opens_of (all_shared t ds) ≡
 opens-all_shared t ds = kept-all_shared (λ u. opens_of u ≡ opens_of t) (λ u n same. opens-shared u n ∙ same) t ds refl
 
 -- the table counts the descriptors of a child too, which are those of process i
-pub counted-forked : (t : Opens) (places : Processes) (i j : ℕ) (p child : Process) → IsCounted t places → slot places i ≡ Some p → j < length places → slot places j ≡ None
+pub counted-forked : (t : Opens) (places : Processes) (i j : ℕ) (p child : Process) → IsCounted t places
+    → slot places i ≡ Some p → j < length places → slot places j ≡ None
     → child.descriptors ≡ p.descriptors → IsCounted (all_shared t p.descriptors) (put places j child)
 counted-forked t places i j p child counted at short free same n =
     let names_same : names n child.descriptors ≡ names n p.descriptors = ap (names n) same in
@@ -67,17 +82,21 @@ counted-forked t places i j p child counted at short free same n =
 
 -- ---- the end of a process
 
-count-close : (t : Opens) (d : Option ℕ) (ds : Fds) → AreNamed t (d ∷ ds) → (n : ℕ) → count_at (closed_in t d) n + one_in n d ≡ count_at t n
+count-close : (t : Opens) (d : Option ℕ) (ds : Fds) → AreNamed t (d ∷ ds) → (n : ℕ)
+    → count_at (closed_in t d) n + one_in n d ≡ count_at t n
 count-close t None ds are n = omega arith
 count-close t (Some k) ds are n = count-closed t k (first-named t k ds are) n
 
-pub count-all_closed : (t : Opens) (ds : Fds) → AreNamed t ds → (n : ℕ) → count_at (all_closed t ds) n + names n ds ≡ count_at t n
+pub count-all_closed : (t : Opens) (ds : Fds) → AreNamed t ds → (n : ℕ)
+    → count_at (all_closed t ds) n + names n ds ≡ count_at t n
 count-all_closed t [] are n = omega arith
 count-all_closed t (d ∷ ds) are n =
-    let rest = count-all_closed (closed_in t d) ds (λ m. omega (arith, are m, names-cons m d ds, count-close t d ds are m)) n in
+    let rest = count-all_closed (closed_in t d) ds
+            (λ m. omega (arith, are m, names-cons m d ds, count-close t d ds are m)) n in
     omega (arith, rest, names-cons n d ds, count-close t d ds are n)
 
-kept-all_closed : (P : Opens → Type 0) → ((t : Opens) (n : ℕ) → P t → P (closed t n)) → (t : Opens) (ds : Fds) → P t → P (all_closed t ds)
+kept-all_closed : (P : Opens → Type 0) → ((t : Opens) (n : ℕ) → P t → P (closed t n)) → (t : Opens) (ds : Fds) → P t
+    → P (all_closed t ds)
 kept-all_closed P step t [] is = is
 kept-all_closed P step t (None ∷ ds) is = kept-all_closed P step t ds is
 kept-all_closed P step t (Some n ∷ ds) is = kept-all_closed P step (closed t n) ds (step t n is)
@@ -87,43 +106,57 @@ table-all_closed t ds is = kept-all_closed IsTable table-closed t ds is
 
 old-closed : (t : Opens) (n : ℕ) → AreOld t (closed t n)
 old-closed t n =
-    all-set (λ k o. (c : Counted) → o ≡ Some c → (d : Counted) × ((slot t k ≡ Some d) × (d.file ≡ c.file))) t n _ (fewer-from _) (λ k c at. (c, (at, refl)))
+    all-set (λ k o. (c : Counted) → o ≡ Some c → (d : Counted) × ((slot t k ≡ Some d) × (d.file ≡ c.file))) t n _
+        (fewer-from _) (λ k c at. (c, (at, refl)))
 
 pub old-all_closed : (t : Opens) (ds : Fds) → AreOld t (all_closed t ds)
-old-all_closed t ds = kept-all_closed (AreOld t) (λ u n old k x at. let mid = old-closed u n k x at in let was = old k mid.0 mid.1.0 in (was.0, (was.1.0, was.1.1 ∙ mid.1.1))) t ds (λ k c at. (c, (at, refl)))
+old-all_closed t ds = kept-all_closed (AreOld t)
+    (λ u n old k x at. let mid = old-closed u n k x at in let was = old k mid.0 mid.1.0
+    in (was.0, (was.1.0, was.1.1 ∙ mid.1.1))) t ds (λ k c at. (c, (at, refl)))
 
 -- the open files that are left were there
-files-all_closed : (t : Opens) (ds : Fds) (n : ℕ) (f : OpenFile) → file_at (all_closed t ds) n ≡ Some f → file_at t n ≡ Some f
+files-all_closed : (t : Opens) (ds : Fds) (n : ℕ) (f : OpenFile) → file_at (all_closed t ds) n ≡ Some f
+    → file_at t n ≡ Some f
 files-all_closed t ds n f at = go _ refl at where
-  go : (o : Option Counted) → slot (all_closed t ds) n ≡ o → option_map (λ (c : Counted). c.file) o ≡ Some f → file_at t n ≡ Some f
+  go : (o : Option Counted) → slot (all_closed t ds) n ≡ o → option_map (λ (c : Counted). c.file) o ≡ Some f
+      → file_at t n ≡ Some f
   go None is h = absurd (none-some f h)
-  go (Some c) is h = let was = old-all_closed t ds n c is in ap (option_map (λ (d : Counted). d.file)) was.1.0 ∙ ap Some was.1.1 ∙ h
+  go (Some c) is h = let was = old-all_closed t ds n c is in ap (option_map (λ (d : Counted). d.file)) was.1.0
+      ∙ ap Some was.1.1 ∙ h
 
-opens-all_closed : (t : Opens) (ds : Fds) (n : ℕ) (f : unix.OpenFile) → slot (opens_of (all_closed t ds)) n ≡ Some f → slot (opens_of t) n ≡ Some f
+opens-all_closed : (t : Opens) (ds : Fds) (n : ℕ) (f : unix.OpenFile) → slot (opens_of (all_closed t ds)) n ≡ Some f
+    → slot (opens_of t) n ≡ Some f
 opens-all_closed t ds n f at = go _ refl (sym (file-opens _ n) ∙ at) where
-  go : (o : Option OpenFile) → file_at (all_closed t ds) n ≡ o → option_map file_of o ≡ Some f → slot (opens_of t) n ≡ Some f
+  go : (o : Option OpenFile) → file_at (all_closed t ds) n ≡ o → option_map file_of o ≡ Some f
+      → slot (opens_of t) n ≡ Some f
   go None is h = absurd (none-some f h)
   go (Some g) is h = file-opens t n ∙ ap (option_map file_of) (files-all_closed t ds n g is) ∙ h
 
 -- ---- the counts of an ended process's table
 
 -- what an orphan has as before
-pub orphan-same : {X : Type 0} (f : Option Process → X) (pid : ℕ) → ((p : Process) (parent : ℕ) → f (Some (record p { parent = parent })) ≡ f (Some p)) → (o : Option Process) → f (option_map (orphaned pid) o) ≡ f o
+pub orphan-same : {X : Type 0} (f : Option Process → X) (pid : ℕ)
+    → ((p : Process) (parent : ℕ) → f (Some (record p { parent = parent })) ≡ f (Some p)) → (o : Option Process)
+    → f (option_map (orphaned pid) o) ≡ f o
 orphan-same f pid same = map-same f (orphaned pid) (λ p. orphan-by (λ q. f (Some q) ≡ f (Some p)) pid p (same p))
 
 orphaned-names : (pid n : ℕ) (o : Option Process) → names_in n (option_map (orphaned pid) o) ≡ names_in n o
 orphaned-names pid n = orphan-same _ pid (λ p parent. refl)
 
 -- once process i has ended, the table counts the descriptors of all the others
-pub counted-ended : (t : Opens) (places : Processes) (i : ℕ) (p : Process) (status : ℤ) → IsCounted t places → slot places i ≡ Some p
+pub counted-ended : (t : Opens) (places : Processes) (i : ℕ) (p : Process) (status : ℤ) → IsCounted t places
+    → slot places i ≡ Some p
     → IsCounted (all_closed t p.descriptors) (put (map (option_map (orphaned p.pid)) places) i (zombie_of p status))
 counted-ended t places i p status counted at n =
     let orphans : Processes = map (option_map (orphaned p.pid)) places in
     let short : i < length orphans = rw (length-map places (option_map (orphaned p.pid))) (slot-within places i p at) in
     let sums = sum_by-set (names_in n) orphans i (Some (zombie_of p status)) None short in
-    let there : names_in n (slot orphans i) ≡ names n p.descriptors = ap (names_in n) (slot-map (orphaned p.pid) places i) ∙ orphaned-names p.pid n (slot places i) ∙ ap (names_in n) at in
+    let there : names_in n (slot orphans i) ≡ names n p.descriptors =
+            ap (names_in n) (slot-map (orphaned p.pid) places i) ∙ orphaned-names p.pid n (slot places i)
+            ∙ ap (names_in n) at in
     let closed_all = count-all_closed t p.descriptors (names-counted t places i p counted at) n in
-    omega (arith, closed_all, counted n, sums, there, same-map (names_in n) (orphaned p.pid) (orphaned-names p.pid n) places, names-none n)
+    omega (arith, closed_all, counted n, sums, there,
+        same-map (names_in n) (orphaned p.pid) (orphaned-names p.pid n) places, names-none n)
 
 -- ---- pipes
 
@@ -131,31 +164,43 @@ module _ (pipes : Pipes) (t : Opens) (n : ℕ) (is : IsPiped pipes (opens_of t))
   stays : opens_of (closed t n) ≡ opens_of t → IsPiped pipes (opens_of (closed t n))
   stays same = rw same is
 
-  goes-end : (f : unix.OpenFile) (q : ℕ) (e : End) (b : Bool) → slot (opens_of t) n ≡ Some f → f.target ≡ OnPipe q e → has_pipe (clear (opens_of t) n) q ≡ b
+  goes-end : (f : unix.OpenFile) (q : ℕ) (e : End) (b : Bool) → slot (opens_of t) n ≡ Some f → f.target ≡ OnPipe q e
+      → has_pipe (clear (opens_of t) n) q ≡ b
       → IsPiped (cond b pipes (clear pipes q)) (clear (opens_of t) n)
   goes-end f q e true at on stands = piped-end pipes _ n q f e is at on stands
   goes-end f q e false at on stands = piped-last pipes _ n q f e is at on stands
 
-  goes : (f : OpenFile) (on : Target) → slot (opens_of t) n ≡ Some (file_of f) → f.target ≡ on → IsPiped (after_close pipes (clear (opens_of t) n) (Some on)) (clear (opens_of t) n)
+  goes : (f : OpenFile) (on : Target) → slot (opens_of t) n ≡ Some (file_of f) → f.target ≡ on
+      → IsPiped (after_close pipes (clear (opens_of t) n) (Some on)) (clear (opens_of t) n)
   goes f (target.File number offset) at on = piped-node pipes _ n _ _ _ is at (ap target_of on)
   goes f (target.Console number) at on = piped-node pipes _ n _ 0 _ is at (ap target_of on)
   goes f (target.Device number) at on = piped-node pipes _ n _ 0 _ is at (ap target_of on)
   goes f (target.Pipe q e) at on = goes-end _ q _ _ at (ap target_of on) refl
 
-  follows : (o : Option Counted) → slot t n ≡ o → IsPiped (after_close pipes (opens_of (closed t n)) (option_and_then last_in o)) (opens_of (closed t n))
-  follows None at = stays (ap (λ o. opens_of (slice_set t n (option_and_then fewer o))) at ∙ ap opens_of (rw (← at) (set-get_or t n None)))
+  follows : (o : Option Counted) → slot t n ≡ o
+      → IsPiped (after_close pipes (opens_of (closed t n)) (option_and_then last_in o)) (opens_of (closed t n))
+  follows None at = stays (ap (λ o. opens_of (slice_set t n (option_and_then fewer o)))
+      at ∙ ap opens_of (rw (← at) (set-get_or t n None)))
   follows (Some c) at = elim (cases_lt 1 c.count) [
-    | inl more ↦ (let many : 1 < count_at t n = rw at more in rw (lt-ltb 1 c.count more) (stays (opens-closed t n many)))
+    | inl more ↦ (let many : 1 < count_at t n = rw at more
+        in rw (lt-ltb 1 c.count more) (stays (opens-closed t n many)))
     | inr last ↦
         let one : count_at t n ≤ 1 = rw at last in
-        rw (le-ltb 1 c.count last) (subst (λ (os : List (Option unix.OpenFile)). IsPiped (after_close pipes os (Some c.file.target)) os) (sym (opens-closed_last t n one)) (goes c.file c.file.target (slot-opens t n ∙ ap (option_map (λ (d : Counted). file_of d.file)) at) refl))
+        rw (le-ltb 1 c.count last)
+            (subst (λ (os : List (Option unix.OpenFile)). IsPiped (after_close pipes os (Some c.file.target)) os)
+            (sym (opens-closed_last t n one))
+            (goes c.file c.file.target (slot-opens t n ∙ ap (option_map (λ (d : Counted). file_of d.file)) at) refl))
   ]
 
-pub left-close_pipe : (old pipes : Pipes) (opens : List (Option unix.OpenFile)) (o : Option Target) → IsLeftOf old pipes → IsLeftOf old (after_close pipes opens o)
-left-close_pipe old pipes opens (Some (target.Pipe q e)) left = elim (has_pipe opens q) as (λ b. IsLeftOf old (cond b pipes (clear pipes q))) [ true ↦ left | false ↦ pipes-clear old pipes q left ]
+pub left-close_pipe : (old pipes : Pipes) (opens : List (Option unix.OpenFile)) (o : Option Target)
+    → IsLeftOf old pipes → IsLeftOf old (after_close pipes opens o)
+left-close_pipe old pipes opens (Some (target.Pipe q e)) left =
+    elim (has_pipe opens q) as (λ b. IsLeftOf old (cond b pipes (clear pipes q)))
+    [ true ↦ left | false ↦ pipes-clear old pipes q left ]
 left-close_pipe old pipes opens _ left = left
 
-last-is : (o : Option Counted) (on : Target) → option_and_then last_in o ≡ Some on → (c : Counted) × ((o ≡ Some c) × (c.file.target ≡ on))
+last-is : (o : Option Counted) (on : Target) → option_and_then last_in o ≡ Some on
+    → (c : Counted) × ((o ≡ Some c) × (c.file.target ≡ on))
 last-is None on last = absurd (let bad : None ≡ Some on = last in cc)
 last-is (Some c) on last = elim (cases_lt 1 c.count) [
   | inl more ↦ absurd (let bad : None ≡ Some on = rw (lt-ltb 1 c.count more) at last in cc)
@@ -163,10 +208,12 @@ last-is (Some c) on last = elim (cases_lt 1 c.count) [
 ]
 
 -- the pipe of a last end stood until then
-pub stands-last : (t : Opens) (pipes : Pipes) (n q : ℕ) (e : files_end.End) → IsPiped pipes (opens_of t) → last_target t n ≡ Some (target.Pipe q e) → is_some (slot pipes q) ≡ true
+pub stands-last : (t : Opens) (pipes : Pipes) (n q : ℕ) (e : files_end.End) → IsPiped pipes (opens_of t)
+    → last_target t n ≡ Some (target.Pipe q e) → is_some (slot pipes q) ≡ true
 stands-last t pipes n q e is last =
     let c = last-is _ _ last in
-    let at : slot (opens_of t) n ≡ Some (file_of c.0.file) = slot-opens t n ∙ ap (option_map (λ (d : Counted). file_of d.file)) c.1.0 in
+    let at : slot (opens_of t) n ≡ Some (file_of c.0.file) = slot-opens t n
+            ∙ ap (option_map (λ (d : Counted). file_of d.file)) c.1.0 in
     is q ∙ has_pipe-clear _ n _ q at ∙ rw (c.1.1, eq-eqb q q refl) refl
 
 -- ---- what is left as a whole
@@ -175,16 +222,21 @@ stands-last t pipes n q e is last =
 abbrev pub Leaves : Opens → Pipes → Pipes → Type 0
 Leaves new before pipes = IsPiped pipes (opens_of new) × IsLeftOf before pipes
 
-pub leaves-one : (t : Opens) (before pipes : Pipes) (n : ℕ) → Leaves t before pipes → Leaves (closed t n) before (after_close pipes (opens_of (closed t n)) (last_target t n))
-leaves-one t before pipes n is = (follows pipes t n is.0 _ refl, left-close_pipe _ pipes (opens_of (closed t n)) (last_target t n) is.1)
+pub leaves-one : (t : Opens) (before pipes : Pipes) (n : ℕ) → Leaves t before pipes
+    → Leaves (closed t n) before (after_close pipes (opens_of (closed t n)) (last_target t n))
+leaves-one t before pipes n is =
+    (follows pipes t n is.0 _ refl, left-close_pipe _ pipes (opens_of (closed t n)) (last_target t n) is.1)
 
-pub leaves-standing : (t : Opens) (pipes : Pipes) (ds : Fds) → IsPiped pipes (opens_of t) → Leaves (all_closed t ds) pipes (standing pipes (opens_of (all_closed t ds)))
+pub leaves-standing : (t : Opens) (pipes : Pipes) (ds : Fds) → IsPiped pipes (opens_of t)
+    → Leaves (all_closed t ds) pipes (standing pipes (opens_of (all_closed t ds)))
 leaves-standing t pipes ds is =
-    let all = kept-all_closed (λ u. (after : Pipes) × Leaves u pipes after) (λ u n h. (_, leaves-one u pipes h.0 n h.1)) t ds (pipes, (is, pipes-same pipes)) in
+    let all = kept-all_closed (λ u. (after : Pipes) × Leaves u pipes after)
+            (λ u n h. (_, leaves-one u pipes h.0 n h.1)) t ds (pipes, (is, pipes-same pipes)) in
     rw (pipes-left (opens_of (all_closed t ds)) pipes all.0 all.1.0 all.1.1) all.1
 
 -- what is known of the open files is known then
-pub opened-closed : {t : Opens} {pipes : Pipes} {os : Processes} → IsOpened t pipes os → (ds : Fds) (after : Processes) → IsCounted (all_closed t ds) after → ((j : ℕ) → WaitsWell t (slot after j))
+pub opened-closed : {t : Opens} {pipes : Pipes} {os : Processes} → IsOpened t pipes os → (ds : Fds) (after : Processes)
+    → IsCounted (all_closed t ds) after → ((j : ℕ) → WaitsWell t (slot after j))
     → IsOpened (all_closed t ds) (standing pipes (opens_of (all_closed t ds))) after
 opened-closed {t} {pipes} is ds after counted waits = let leaves = leaves-standing t pipes ds is.piped in record {
   table = table-all_closed t ds is.table;
@@ -196,16 +248,22 @@ opened-closed {t} {pipes} is ds after counted waits = let leaves = leaves-standi
 }
 
 -- no more pipes stand than did
-pub fewer-pipes : (old new : Pipes) → length new ≡ length old → ((q : ℕ) (bytes : List ℕ) → slot new q ≡ Some bytes → is_some (slot old q) ≡ true) → length (taken new) ≤ length (taken old)
+pub fewer-pipes : (old new : Pipes) → length new ≡ length old
+    → ((q : ℕ) (bytes : List ℕ) → slot new q ≡ Some bytes → is_some (slot old q) ≡ true)
+    → length (taken new) ≤ length (taken old)
 fewer-pipes [] [] all each = omega arith
 fewer-pipes (None ∷ old) (None ∷ new) all each = fewer-pipes old new (omega (arith, all)) (λ q. each (suc q))
-fewer-pipes (Some b ∷ old) (None ∷ new) all each = omega (arith, fewer-pipes old new (omega (arith, all)) (λ q. each (suc q)))
+fewer-pipes (Some b ∷ old) (None ∷ new) all each =
+    omega (arith, fewer-pipes old new (omega (arith, all)) (λ q. each (suc q)))
 fewer-pipes (None ∷ old) (Some b ∷ new) all each = absurd (let bad : false ≡ true = each 0 b refl in cc)
-fewer-pipes (Some b ∷ old) (Some c ∷ new) all each = omega (arith, fewer-pipes old new (omega (arith, all)) (λ q. each (suc q)))
+fewer-pipes (Some b ∷ old) (Some c ∷ new) all each =
+    omega (arith, fewer-pipes old new (omega (arith, all)) (λ q. each (suc q)))
 fewer-pipes _ _ all each = absurd (omega (arith, all))
 
-pub fewer-standing : (t : Opens) (pipes : Pipes) (ds : Fds) → IsPiped pipes (opens_of t) → length (taken (standing pipes (opens_of (all_closed t ds)))) ≤ length (taken pipes)
-fewer-standing t pipes ds is = let left = (leaves-standing t pipes ds is).1 in fewer-pipes pipes _ left.all (λ q bytes at. ap is_some (left.each q bytes at))
+pub fewer-standing : (t : Opens) (pipes : Pipes) (ds : Fds) → IsPiped pipes (opens_of t)
+    → length (taken (standing pipes (opens_of (all_closed t ds)))) ≤ length (taken pipes)
+fewer-standing t pipes ds is = let left =
+    (leaves-standing t pipes ds is).1 in fewer-pipes pipes _ left.all (λ q bytes at. ap is_some (left.each q bytes at))
 
 -- ---- what the abstract Unix leaves
 
@@ -213,36 +271,52 @@ fewer-standing t pipes ds is = let left = (leaves-standing t pipes ds is).1 in f
 pub counts-joined : (t : Opens) (os : Processes) (hs : Views) → IsCounted t os → Counts t (joined os hs)
 counts-joined t os hs counted n = counted n ∙ sym (count-joined os hs n)
 
-pub reap-left : (s : State) (old new : Opens) (before pipes : Pipes) (files : Files) → IsTable new → IsLeft old new → Counts new s.places → Leaves new before pipes
-    → without_nodes (record s { opens = opens_of new; pipes = pipes }) ≡ record s { files = files; opens = opens_of new; pipes = pipes }
-    → reap (record s { opens = opens_of old; pipes = before }) ≡ record s { files = files; opens = opens_of new; pipes = pipes }
+pub reap-left : (s : State) (old new : Opens) (before pipes : Pipes) (files : Files) → IsTable new → IsLeft old new
+    → Counts new s.places → Leaves new before pipes
+    → without_nodes (record s { opens = opens_of new; pipes = pipes })
+        ≡ record s { files = files; opens = opens_of new; pipes = pipes }
+    → reap (record s { opens = opens_of old; pipes = before })
+        ≡ record s { files = files; opens = opens_of new; pipes = pipes }
 unfolding reap
 reap-left s old new before pipes files is left counts leaves nodes =
-    ap (λ (x : State). without_nodes (without_pipes x)) (without_opens-left (record s { pipes = before }) old new is left counts)
+    ap (λ (x : State). without_nodes (without_pipes x))
+        (without_opens-left (record s { pipes = before }) old new is left counts)
     ∙ ap without_nodes (without_pipes-left (record s { opens = opens_of new }) _ pipes leaves.0 leaves.1)
     ∙ nodes
 
 -- where descriptors were closed, what is left of the table, the pipes and the nodes is what the state is left with
-pub reap-closed : (s : State) (t : Opens) (pipes : Pipes) (ds : Fds) (files : Files) → IsTable t → IsPiped pipes (opens_of t) → Counts (all_closed t ds) s.places
-    → without_nodes (record s { opens = opens_of (all_closed t ds); pipes = standing pipes (opens_of (all_closed t ds)) }) ≡ record s { files = files; opens = opens_of (all_closed t ds); pipes = standing pipes (opens_of (all_closed t ds)) }
-    → reap (record s { opens = opens_of t; pipes = pipes }) ≡ record s { files = files; opens = opens_of (all_closed t ds); pipes = standing pipes (opens_of (all_closed t ds)) }
+pub reap-closed : (s : State) (t : Opens) (pipes : Pipes) (ds : Fds) (files : Files) → IsTable t
+    → IsPiped pipes (opens_of t) → Counts (all_closed t ds) s.places
+    → without_nodes (record s
+        { opens = opens_of (all_closed t ds); pipes = standing pipes (opens_of (all_closed t ds)) })
+        ≡ record s { files = files; opens = opens_of (all_closed t ds);
+        pipes = standing pipes (opens_of (all_closed t ds)) }
+    → reap (record s { opens = opens_of t; pipes = pipes })
+        ≡ record s { files = files; opens = opens_of (all_closed t ds);
+        pipes = standing pipes (opens_of (all_closed t ds)) }
 reap-closed s t pipes ds files is piped counts nodes =
-    reap-left s t _ pipes _ files (table-all_closed t ds is) (kept-all_closed (IsLeft t) (left-closed t) t ds (left-same t)) counts (leaves-standing t pipes ds piped) nodes
+    reap-left s t _ pipes _ files (table-all_closed t ds is)
+        (kept-all_closed (IsLeft t) (left-closed t) t ds (left-same t)) counts (leaves-standing t pipes ds piped) nodes
 
 -- ---- the nodes of open files that go
 
 -- the holds of an open file that goes are those of its node
-pub files_on-closed : (t : Opens) (n m : ℕ) → files_on (closed t n) m + named_in (listed (last_node t n)) m ≡ files_on t m
+pub files_on-closed : (t : Opens) (n m : ℕ)
+    → files_on (closed t n) m + named_in (listed (last_node t n)) m ≡ files_on t m
 files_on-closed t n m = elim (cases_lt n (length t)) [
-  | inl inside ↦ (let sums = sum_by-set (λ o. one_in m (node_in o)) t n (option_and_then fewer (slot t n)) None inside in omega (arith, sums, goes (slot t n)))
-  | inr outside ↦ rw (set_outside t n (option_and_then fewer (slot t n)) outside, get_or_past t n None outside) (omega arith)
+  | inl inside ↦ (let sums = sum_by-set (λ o. one_in m (node_in o)) t n (option_and_then fewer (slot t n)) None inside
+      in omega (arith, sums, goes (slot t n)))
+  | inr outside ↦ rw (set_outside t n (option_and_then fewer (slot t n)) outside, get_or_past t n None outside)
+      (omega arith)
 ]
   where
     one : (h : Option ℕ) → named_in (listed h) m ≡ one_in m h
     one None = refl
     one (Some k) = sum_by-cons (one_at m) k [] ∙ omega arith
 
-    goes : (o : Option Counted) → one_in m (node_in (option_and_then fewer o)) + named_in (listed (option_and_then node_on (option_and_then last_in o))) m ≡ one_in m (node_in o)
+    goes : (o : Option Counted)
+        → one_in m (node_in (option_and_then fewer o)) + named_in
+        (listed (option_and_then node_on (option_and_then last_in o))) m ≡ one_in m (node_in o)
     goes None = refl
     goes (Some c) = elim (cases_lt 1 c.count) [
       | inl more ↦ rw (lt-ltb 1 c.count more) (omega arith)
@@ -251,17 +325,22 @@ files_on-closed t n m = elim (cases_lt n (length t)) [
 
 pub named_in-append : (xs ys : List ℕ) (m : ℕ) → named_in (xs ++ ys) m ≡ named_in xs m + named_in ys m
 named_in-append [] ys m = omega arith
-named_in-append (x ∷ xs) ys m = omega (arith, sum_by-cons (one_at m) x (xs ++ ys), sum_by-cons (one_at m) x xs, named_in-append xs ys m)
+named_in-append (x ∷ xs) ys m =
+    omega (arith, sum_by-cons (one_at m) x (xs ++ ys), sum_by-cons (one_at m) x xs, named_in-append xs ys m)
 
-pub files_on-all_closed : (t : Opens) (ds : Fds) (m : ℕ) → files_on (all_closed t ds) m + named_in (gone_nodes t ds) m ≡ files_on t m
+pub files_on-all_closed : (t : Opens) (ds : Fds) (m : ℕ)
+    → files_on (all_closed t ds) m + named_in (gone_nodes t ds) m ≡ files_on t m
 files_on-all_closed t [] m = omega arith
 files_on-all_closed t (None ∷ ds) m = files_on-all_closed t ds m
-files_on-all_closed t (Some n ∷ ds) m = omega (arith, files_on-all_closed (closed t n) ds m, files_on-closed t n m, named_in-append (listed (last_node t n)) (gone_nodes (closed t n) ds) m)
+files_on-all_closed t (Some n ∷ ds) m =
+    omega (arith, files_on-all_closed (closed t n) ds m, files_on-closed t n m,
+    named_in-append (listed (last_node t n)) (gone_nodes (closed t n) ds) m)
 
 -- ---- one descriptor after the other
 
 -- the first i descriptors were closed, and these nodes went
-pub record IsClosing (old : Opens) (before : Spaces) (ds : Fds) (t : Opens) (s : Spaces) (gone : List ℕ) (i : ℕ) : Type 0 where
+pub record IsClosing (old : Opens) (before : Spaces) (ds : Fds) (t : Opens) (s : Spaces) (gone : List ℕ) (i : ℕ) : Type
+    0 where
   pub files : all_closed t (drop i ds) ≡ all_closed old ds
   pub leaves : Leaves t before.pipes s.pipes
   pub spaces : s ≡ record before { pipes = s.pipes }
@@ -272,7 +351,8 @@ length-listed : (o : Option ℕ) → length (listed o) ≤ 1
 length-listed None = omega arith
 length-listed (Some n) = omega arith
 
-module _ {old : Opens} {before : Spaces} {ds : Fds} {t : Opens} {s : Spaces} {gone : List ℕ} {i : ℕ} (is : IsClosing old before ds t s gone i) where
+module _ {old : Opens} {before : Spaces} {ds : Fds} {t : Opens} {s : Spaces} {gone : List ℕ} {i : ℕ}
+    (is : IsClosing old before ds t s gone i) where
   next : i < length ds → (o : Option ℕ) → slot ds i ≡ o → o ∷ drop (i + 1) ds ≡ drop i ds
   next h o at =
       let e : suc i ≡ i + 1 = omega arith in
@@ -287,22 +367,28 @@ module _ {old : Opens} {before : Spaces} {ds : Fds} {t : Opens} {s : Spaces} {go
     few = omega (arith, is.few);
   }
 
-  pub closes-some : i < length ds → (n : ℕ) → slot ds i ≡ Some n → (new : List ℕ) → new ≡ gone ++ listed (last_node t n) → IsClosing old before ds (closed t n) (record s { pipes = after_close s.pipes (opens_of (closed t n)) (last_target t n) }) new (i + 1)
+  pub closes-some : i < length ds → (n : ℕ) → slot ds i ≡ Some n → (new : List ℕ)
+      → new ≡ gone ++ listed (last_node t n)
+      → IsClosing old before ds (closed t n)
+      (record s { pipes = after_close s.pipes (opens_of (closed t n)) (last_target t n) }) new (i + 1)
   closes-some h n at new e = record {
     files = ap (all_closed t) (next h _ at) ∙ is.files;
     leaves = leaves-one t _ _ n is.leaves;
-    spaces = ap (λ (x : Spaces). record x { pipes = after_close s.pipes (opens_of (closed t n)) (last_target t n) }) is.spaces;
+    spaces = ap (λ (x : Spaces). record x { pipes = after_close s.pipes (opens_of (closed t n)) (last_target t n) })
+        is.spaces;
     nodes =
         ap (λ ns. ns ++ gone_nodes (closed t n) (drop (i + 1) ds)) e
         ∙ append_assoc gone (listed (last_node t n)) (gone_nodes (closed t n) (drop (i + 1) ds))
         ∙ ap (λ rest. gone ++ gone_nodes t rest) (next h _ at)
         ∙ is.nodes;
-    few = omega (arith, is.few, ap length e, length-append gone (listed (last_node t n)), length-listed (last_node t n));
+    few = omega (arith, is.few, ap length e, length-append gone (listed (last_node t n)),
+        length-listed (last_node t n));
   }
 
   -- all were
   pub closing-all : s ≡ record before { pipes = standing before.pipes (opens_of t) }
-  closing-all = is.spaces ∙ ap (λ (ps : Pipes). record before { pipes = ps }) (sym (pipes-left (opens_of t) _ _ is.leaves.0 is.leaves.1))
+  closing-all = is.spaces ∙ ap (λ (ps : Pipes). record before { pipes = ps })
+      (sym (pipes-left (opens_of t) _ _ is.leaves.0 is.leaves.1))
 
 -- ---- no open file is named by many descriptors
 
@@ -313,7 +399,8 @@ mode-few : (n : ℕ) (p : Process) (memory : Memory) (mode : Mode) → IsMode p 
 mode-few n p memory Running is = live-few n p is.0
 mode-few n p memory Ready is = live-few n p is
 mode-few n p memory (Waiting w) is = live-few n p is.0
-mode-few n p memory (Zombie status) is = let none : names n p.descriptors ≡ 0 = ap (names n) is.descriptors ∙ names-none n in omega (arith, none)
+mode-few n p memory (Zombie status) is = let none : names n p.descriptors ≡ 0 = ap (names n) is.descriptors
+    ∙ names-none n in omega (arith, none)
 
 place-few : (n : ℕ) (o : Option Process) (q : Option SpaceView) → IsPlace o q → names_in n o ≤ 16
 place-few n None q is = omega arith

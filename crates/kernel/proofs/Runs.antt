@@ -1,21 +1,32 @@
 -- The running process, what becomes of the state where it alone changes, and what nothing names any more.
-use Rattle.kernel.proofs.Common.{Bool, subst, ◌≡◌, ◌≢◌, ℕ, ◌<◌, ◌≤◌, inl, inr, true, List, length, Option, Some, None, refl, ap, sym, ◌∙◌, if◌then◌else◌, is_some, no_pages, unwrap_or, space_in, with_space, option_map, slice_set}
-use Rattle.kernel.proofs.Common.{get_or-set_other, get_or-set_same, length-set, set-get_or, descriptors_in, not-true, none-some, same_Some, Kernel, base, lives, loaded, on_hart, rest_of, eq-eqb, state_of, IsKernel, IsPlace, IsPlaced, is_at}
-use Rattle.kernel.proofs.Common.{home_in, Process, Places, with_table, SpaceView, has_space, taken_frames, Mode, Running, put, slot, is_running_mode, is_zombie_mode, State, holds, process_at, put_process, answered, IsLive, IsMode, Memory}
-use Rattle.kernel.proofs.Common.{with_answer, change_process, false, cases_eq, set-set, suc, ◌&&◌, nat_le, [], ◌∷◌, arith, ◌+◌, sum_by, le-leb, lt-leb, sum_by-cons, state_with, IsOpened, Counts, without_pipes-same, IsTable, opens_of}
-use Rattle.kernel.proofs.Common.{length-opens, without_opens-same, changed_at, joined, Spaces, frames_in, blocks_of, frames_of, is_within, process_frames, taken, reap, without_nodes, without_opens, without_pipes, Zombie, IsInUse}
+use Rattle.kernel.proofs.Common.{Bool, subst, ◌≡◌, ◌≢◌, ℕ, ◌<◌, ◌≤◌, inl, inr, true, List, length, Option, Some, None}
+use Rattle.kernel.proofs.Common.{refl, ap, sym, ◌∙◌, if◌then◌else◌, is_some, no_pages, unwrap_or, space_in, with_space}
+use Rattle.kernel.proofs.Common.{option_map, slice_set, get_or-set_other, get_or-set_same, length-set, set-get_or}
+use Rattle.kernel.proofs.Common.{descriptors_in, not-true, none-some, same_Some, Kernel, base, lives, loaded, on_hart}
+use Rattle.kernel.proofs.Common.{rest_of, eq-eqb, state_of, IsKernel, IsPlace, IsPlaced, is_at, home_in, Process}
+use Rattle.kernel.proofs.Common.{Places, with_table, SpaceView, has_space, taken_frames, Mode, Running, put, slot}
+use Rattle.kernel.proofs.Common.{is_running_mode, is_zombie_mode, State, holds, process_at, put_process, answered}
+use Rattle.kernel.proofs.Common.{IsLive, IsMode, Memory, with_answer, change_process, false, cases_eq, set-set, suc}
+use Rattle.kernel.proofs.Common.{◌&&◌, nat_le, [], ◌∷◌, arith, ◌+◌, sum_by, le-leb, lt-leb, sum_by-cons, state_with}
+use Rattle.kernel.proofs.Common.{IsOpened, Counts, without_pipes-same, IsTable, opens_of, length-opens}
+use Rattle.kernel.proofs.Common.{without_opens-same, changed_at, joined, Spaces, frames_in, blocks_of, frames_of}
+use Rattle.kernel.proofs.Common.{is_within, process_frames, taken, reap, without_nodes, without_opens, without_pipes}
+use Rattle.kernel.proofs.Common.{Zombie, IsInUse}
 use Rattle.kernel.proofs.Holding.{fewer-nodes, LetsGo, used-put, AreAway, IsAway, map-same, Processes, Views}
-use Rattle.kernel.proofs.Joined.{opened-put, waits-running, put-joined, put_kept-joined, slot-joined, active-by, active-same, count-joined, few-taken, opened-active}
+use Rattle.kernel.proofs.Joined.{opened-put, waits-running, put-joined, put_kept-joined, slot-joined, active-by}
+use Rattle.kernel.proofs.Joined.{active-same, count-joined, few-taken, opened-active}
 use Rattle.proc.specs.Places as table
 use Rattle.unixmodel.specs.Process as unix
 pub use Rattle.names.proofs.Finding.{slot-within}
 
 -- ---- places
 
-pub slot-put : {X : Type 0} (xs : List (Option X)) (i : ℕ) (o : Option X) → i < length xs → slot (slice_set xs i o) i ≡ o
+pub slot-put : {X : Type 0} (xs : List (Option X)) (i : ℕ) (o : Option X) → i < length xs
+    → slot (slice_set xs i o) i ≡ o
 slot-put xs i o h = get_or-set_same xs i o None h
 
-pub slot-other : {X : Type 0} (xs : List (Option X)) (i j : ℕ) (o : Option X) → j ≢ i → slot (slice_set xs i o) j ≡ slot xs j
+pub slot-other : {X : Type 0} (xs : List (Option X)) (i j : ℕ) (o : Option X) → j ≢ i
+    → slot (slice_set xs i o) j ≡ slot xs j
 slot-other xs i j o h = get_or-set_other xs i j o None h
 
 -- what stands in a place already is put there
@@ -31,7 +42,8 @@ module _ (s : State) (t : Places) (hs : Views) (i : ℕ) (p : Process) where
   process-with is = slot-joined t.places hs i ∙ ap (option_map (with_space (space_in hs i))) is
 
   -- a process is put in place i, and its space stays
-  pub put-same : {h : SpaceView} → slot hs i ≡ Some h → with_table s (with_process t i p) hs ≡ put_process (with_table s t hs) i (with_space h p)
+  pub put-same : {h : SpaceView} → slot hs i ≡ Some h
+      → with_table s (with_process t i p) hs ≡ put_process (with_table s t hs) i (with_space h p)
   put-same space =
       ap (λ places. record (with_table s t hs) { places = places }) (sym (put_kept-joined t.places hs i p))
       ∙ ap (λ (o : Option SpaceView). put_process (with_table s t hs) i (with_space (unwrap_or o no_pages) p)) space
@@ -49,21 +61,25 @@ running-mode : (m : Mode) → is_running_mode m ≡ true → m ≡ Running
 running-mode Running h = refl
 running-mode _ h = absurd (cc)
 
-running-process : (o : Option Process) → holds table.is_running o ≡ true → (p : Process) × ((o ≡ Some p) × (p.mode ≡ Running))
+running-process : (o : Option Process) → holds table.is_running o ≡ true
+    → (p : Process) × ((o ≡ Some p) × (p.mode ≡ Running))
 running-process None runs = absurd (cc)
 running-process (Some p) runs = (p, (refl, running-mode _ runs))
 
 -- a place with a process has a space, which fits it
-pub space-of : (o : Option Process) (q : Option SpaceView) (p : Process) → o ≡ Some p → IsPlace o q → (h : SpaceView) × ((q ≡ Some h) × IsPlaced p h)
+pub space-of : (o : Option Process) (q : Option SpaceView) (p : Process) → o ≡ Some p → IsPlace o q
+    → (h : SpaceView) × ((q ≡ Some h) × IsPlaced p h)
 space-of None q p at is = absurd (none-some p at)
 space-of (Some x) None p at is = absurd is
 space-of (Some x) (Some h) p at is = (h, (refl, subst (λ (y : Process). IsPlaced y h) (same_Some x p at) is))
 
-pub place-space : (o : Option Process) (q : Option SpaceView) (p : Process) → o ≡ Some p → IsPlace o q → is_some q ≡ true
+pub place-space : (o : Option Process) (q : Option SpaceView) (p : Process) → o ≡ Some p → IsPlace o q
+    → is_some q ≡ true
 place-space o q p at is = ap is_some (space-of o q p at is).1.0
 
 -- the active place has the running process
-pub run-of : (k : Kernel) (i : ℕ) → IsKernel k → k.spaces.active ≡ Some i → (p : Process) × ((h : SpaceView) × IsRun k i p h)
+pub run-of : (k : Kernel) (i : ℕ) → IsKernel k → k.spaces.active ≡ Some i
+    → (p : Process) × ((h : SpaceView) × IsRun k i p h)
 run-of k i is active =
     let here : is_at i k.spaces.active ≡ true = rw active (eq-eqb i i refl) in
     let p = running-process _ (is.runs i ∙ here) in
@@ -71,11 +87,13 @@ run-of k i is active =
     (p.0, (h.0, record { active = active; process = p.1.0; space = h.1.0; placed = h.1.1; runs = p.1.1 }))
 
 -- over the fields: k is what they show, and now is the kernel's value
-pub active-space : {k now : Kernel} {i : ℕ} → k ≡ now → IsKernel k → now.spaces.active ≡ Some i → has_space k.spaces i ≡ true
+pub active-space : {k now : Kernel} {i : ℕ} → k ≡ now → IsKernel k → now.spaces.active ≡ Some i
+    → has_space k.spaces i ≡ true
 active-space {k} {now} {i} same is active = ap is_some (run-of k i is (rw (← same) at active)).1.1.space
 
 -- none runs: the state has the table as it is
-pub state-idle : (k : Kernel) → k.spaces.active ≡ None → state_of k ≡ with_table (base (rest_of k)) k.table k.spaces.places
+pub state-idle : (k : Kernel) → k.spaces.active ≡ None
+    → state_of k ≡ with_table (base (rest_of k)) k.table k.spaces.places
 state-idle k idle = rw idle refl
 
 -- process p stands in place i with its space
@@ -84,12 +102,14 @@ pub record IsThere (k : Kernel) (i : ℕ) (p : Process) (h : SpaceView) : Type 0
   pub space : slot k.spaces.places i ≡ Some h
   pub placed : IsPlaced p h
 
-pub there-of : (k : Kernel) (i : ℕ) (p : Process) → IsKernel k → slot k.table.places i ≡ Some p → (h : SpaceView) × IsThere k i p h
+pub there-of : (k : Kernel) (i : ℕ) (p : Process) → IsKernel k → slot k.table.places i ≡ Some p
+    → (h : SpaceView) × IsThere k i p h
 there-of k i p is at =
     let h = space-of _ _ p at (is.stands i) in
     (h.0, record { process = at; space = h.1.0; placed = h.1.1 })
 
-pub process-idle : (k : Kernel) (i : ℕ) {p : Process} {h : SpaceView} → k.spaces.active ≡ None → IsThere k i p h → process_at (state_of k) i ≡ Some (with_space h p)
+pub process-idle : (k : Kernel) (i : ℕ) {p : Process} {h : SpaceView} → k.spaces.active ≡ None → IsThere k i p h
+    → process_at (state_of k) i ≡ Some (with_space h p)
 process-idle k i {p} {h} none t =
     ap (λ (s : State). process_at s i) (state-idle k none)
     ∙ process-with (base (rest_of k)) k.table _ i p t.process
@@ -106,7 +126,8 @@ module _ (k : Kernel) (i : ℕ) (p : Process) (h : SpaceView) (r : IsRun k i p h
   pub within-run : i < length k.table.places
   within-run = slot-within _ i p r.process
 
-  pub state-run : state_of k ≡ with_table (base (rest_of k)) (with_process k.table i (on_hart k.spaces p)) k.spaces.places
+  pub state-run : state_of k
+      ≡ with_table (base (rest_of k)) (with_process k.table i (on_hart k.spaces p)) k.spaces.places
   state-run = rw loaded-run refl
 
   pub process-run : process_at (state_of k) i ≡ Some (self k p h)
@@ -134,17 +155,21 @@ moved k i p h registers pc = record k {
 }
 
 -- where a place has another process and another space
-pub stands-set : (os : Processes) (hs : Views) (i : ℕ) (o : Option Process) (q : Option SpaceView) → i < length os → i < length hs → IsPlace o q
-    → ((j : ℕ) → IsPlace (slot os j) (slot hs j)) → (j : ℕ) → IsPlace (slot (slice_set os i o) j) (slot (slice_set hs i q) j)
+pub stands-set : (os : Processes) (hs : Views) (i : ℕ) (o : Option Process) (q : Option SpaceView) → i < length os
+    → i < length hs → IsPlace o q
+    → ((j : ℕ) → IsPlace (slot os j) (slot hs j)) → (j : ℕ)
+        → IsPlace (slot (slice_set os i o) j) (slot (slice_set hs i q) j)
 stands-set os hs i o q short low is stands j = elim (cases_eq j i) [
   | inl same ↦ rw (same, slot-put os i o short, slot-put hs i q low) is
   | inr other ↦ rw (slot-other os i j o other, slot-other hs i j q other) (stands j)
 ]
 
 -- where another place runs
-pub runs-set : (os : Processes) (i : ℕ) (o : Option Process) (before after : Option ℕ) → i < length os → holds table.is_running o ≡ is_at i after
+pub runs-set : (os : Processes) (i : ℕ) (o : Option Process) (before after : Option ℕ) → i < length os
+    → holds table.is_running o ≡ is_at i after
     → ((j : ℕ) → j ≢ i → is_at j after ≡ is_at j before)
-    → ((j : ℕ) → holds table.is_running (slot os j) ≡ is_at j before) → (j : ℕ) → holds table.is_running (slot (slice_set os i o) j) ≡ is_at j after
+    → ((j : ℕ) → holds table.is_running (slot os j) ≡ is_at j before) → (j : ℕ)
+        → holds table.is_running (slot (slice_set os i o) j) ≡ is_at j after
 runs-set os i o before after short here others runs j = elim (cases_eq j i) [
   | inl same ↦ rw (same, slot-put os i o short) here
   | inr other ↦ rw (slot-other os i j o other, others j other) (runs j)
@@ -154,7 +179,8 @@ module _ (k : Kernel) (i : ℕ) (p : Process) (h : SpaceView) (r : IsRun k i p h
   pub within-space : i < length k.spaces.places
   within-space = slot-within _ i h r.space
 
-  module _ (p' : Process) (h' : SpaceView) (registers : List ℕ) (pc : ℕ) (placed : IsPlaced p' h') (runs : p'.mode ≡ Running) where
+  module _ (p' : Process) (h' : SpaceView) (registers : List ℕ) (pc : ℕ) (placed : IsPlaced p' h')
+      (runs : p'.mode ≡ Running) where
     pub moved-run : IsRun (moved k i p' h' registers pc) i p' h'
     moved-run = record {
       active = r.active;
@@ -164,27 +190,35 @@ module _ (k : Kernel) (i : ℕ) (p : Process) (h : SpaceView) (r : IsRun k i p h
       runs = runs;
     }
 
-    pub moved-kernel : p'.descriptors ≡ p.descriptors → p'.directory ≡ p.directory → taken_frames (moved k i p' h' registers pc).spaces ≤ k.spaces.frames → IsKernel (moved k i p' h' registers pc)
+    pub moved-kernel : p'.descriptors ≡ p.descriptors → p'.directory ≡ p.directory
+        → taken_frames (moved k i p' h' registers pc).spaces ≤ k.spaces.frames → IsKernel (moved k i p' h' registers pc)
     moved-kernel same home fits = record {
       all = length-set k.table.places i (Some p') ∙ is.all;
       spaces = length-set k.spaces.places i (Some h') ∙ is.spaces;
       stands = stands-set _ _ i _ _ (within-run k i p h r) within-space placed is.stands;
-      runs = runs-set _ i _ _ _ (within-run k i p h r) (rw (runs, r.active) (sym (eq-eqb i i refl))) (λ j other. refl) is.runs;
-      used = λ up. used-put (is.used up) i (Some p') (home-running p' runs ∙ ap Some home ∙ sym (home-running p r.runs) ∙ sym (ap home_in r.process));
+      runs = runs-set _ i _ _ _ (within-run k i p h r) (rw (runs, r.active) (sym (eq-eqb i i refl))) (λ j other. refl)
+          is.runs;
+      used = λ up. used-put (is.used up) i (Some p')
+          (home-running p' runs ∙ ap Some home ∙ sym (home-running p r.runs) ∙ sym (ap home_in r.process));
       fits = fits;
-      opened = opened-put _ _ _ i _ (same ∙ sym (ap descriptors_in r.process)) (waits-running k.files p' runs) is.opened;
+      opened = opened-put _ _ _ i _ (same ∙ sym (ap descriptors_in r.process)) (waits-running k.files p' runs)
+          is.opened;
     }
 
     -- that is what the abstract Unix puts in its place
-    pub moved-state : state_of (moved k i p' h' registers pc) ≡ put_process (state_of k) i (with_space h' (record p' { registers = registers; pc = pc }))
+    pub moved-state : state_of (moved k i p' h' registers pc)
+        ≡ put_process (state_of k) i (with_space h' (record p' { registers = registers; pc = pc }))
     moved-state =
         let q = record p' { registers = registers; pc = pc } in
         let twice : put (put k.table.places i p') i q ≡ put (put k.table.places i (on_hart k.spaces p)) i q =
-        set-set k.table.places i (Some p') (Some q) ∙ sym (set-set k.table.places i (Some (on_hart k.spaces p)) (Some q)) in
+        set-set k.table.places i (Some p') (Some q)
+            ∙ sym (set-set k.table.places i (Some (on_hart k.spaces p)) (Some q)) in
         let hs = slice_set k.spaces.places i (Some h') in
         state-run _ i p' h' moved-run
         ∙ ap (λ (places : Processes). with_table (base (rest_of k)) (record k.table { places = places }) hs) twice
-        ∙ sym (ap (λ places. record (base (rest_of k)) { places = places; last = k.table.last; next_pid = k.table.next_pid }) (put-joined _ _ i (Some q) (Some h') within-space))
+        ∙ sym (ap (λ places. record (base (rest_of k))
+            { places = places; last = k.table.last; next_pid = k.table.next_pid })
+            (put-joined _ _ i (Some q) (Some h') within-space))
         ∙ sym (ap (λ (s : State). put_process s i (with_space h' q)) (state-run k i p h r))
 
 -- ---- the hart alone changes
@@ -193,26 +227,36 @@ abbrev pub on_regs : Kernel → List ℕ → ℕ → Kernel
 on_regs k registers pc = record k { spaces = record k.spaces { registers = registers; pc = pc } }
 
 -- a running process may be in that mode
-pub runs-mode : (p : Process) (memory : Memory) (mode : Mode) → mode ≡ Running → IsLive p → p.killed ≡ false → IsMode p memory mode
+pub runs-mode : (p : Process) (memory : Memory) (mode : Mode) → mode ≡ Running → IsLive p → p.killed ≡ false
+    → IsMode p memory mode
 runs-mode p memory mode e l n = rw e (l, n)
 
 -- a process that was put in a place is changed
-pub change-put : (i : ℕ) (s : State) (p : unix.Process) (change : unix.Process → unix.Process) → i < length s.places → change_process (put_process s i p) i change ≡ put_process s i (change p)
+pub change-put : (i : ℕ) (s : State) (p : unix.Process) (change : unix.Process → unix.Process) → i < length s.places
+    → change_process (put_process s i p) i change ≡ put_process s i (change p)
 change-put i s p change short =
-    ap (λ (o : Option unix.Process). record s { places = slice_set (put s.places i p) i (option_map change o) }) (slot-put _ i (Some p) short)
-    ∙ ap (λ (places : List (Option unix.Process)). record s { places = places }) (set-set s.places i (Some p) (Some (change p)))
+    ap (λ (o : Option unix.Process). record s { places = slice_set (put s.places i p) i (option_map change o) })
+        (slot-put _ i (Some p) short)
+    ∙ ap (λ (places : List (Option unix.Process)). record s { places = places })
+        (set-set s.places i (Some p) (Some (change p)))
 
 pub regs-kernel : (k : Kernel) → IsKernel k → (registers : List ℕ) (pc : ℕ) → IsKernel (on_regs k registers pc)
-regs-kernel k is registers pc = record { all = is.all; spaces = is.spaces; stands = is.stands; runs = is.runs; fits = is.fits; opened = is.opened; used = is.used }
+regs-kernel k is registers pc =
+    record { all = is.all; spaces = is.spaces; stands = is.stands; runs = is.runs; fits = is.fits; opened = is.opened;
+    used = is.used }
 
-run-mode : (p : Process) (memory : Memory) (mode : Mode) → mode ≡ Running → IsMode p memory mode → IsLive p × (p.killed ≡ false)
+run-mode : (p : Process) (memory : Memory) (mode : Mode) → mode ≡ Running → IsMode p memory mode
+    → IsLive p × (p.killed ≡ false)
 run-mode p memory mode e is = rw e at is
 
 module _ (k : Kernel) (i : ℕ) (p : Process) (h : SpaceView) (r : IsRun k i p h) (is : IsKernel k) where
   pub regs-run : (registers : List ℕ) (pc : ℕ) → IsRun (on_regs k registers pc) i p h
-  regs-run registers pc = record { active = r.active; process = r.process; space = r.space; placed = r.placed; runs = r.runs }
+  regs-run registers pc = record
+      { active = r.active; process = r.process; space = r.space; placed = r.placed; runs = r.runs }
 
-  pub regs-state : (registers : List ℕ) (pc : ℕ) → state_of (on_regs k registers pc) ≡ put_process (state_of k) i (with_space h (record p { registers = registers; pc = pc }))
+  pub regs-state : (registers : List ℕ) (pc : ℕ)
+      → state_of (on_regs k registers pc)
+      ≡ put_process (state_of k) i (with_space h (record p { registers = registers; pc = pc }))
   regs-state registers pc =
       let table = set-slot _ i _ r.process in
       let places = set-slot _ i _ r.space in
@@ -220,8 +264,10 @@ module _ (k : Kernel) (i : ℕ) (p : Process) (h : SpaceView) (r : IsRun k i p h
       ap state_of (sym same) ∙ moved-state k i p h r is p h registers pc r.placed r.runs
 
   -- the running process is changed
-  pub change-run : (change : unix.Process → unix.Process) → change_process (state_of k) i change ≡ put_process (state_of k) i (change (self k p h))
-  change-run change = ap (λ (o : Option unix.Process). record (state_of k) { places = slice_set (state_of k).places i (option_map change o) }) (process-run k i p h r)
+  pub change-run : (change : unix.Process → unix.Process)
+      → change_process (state_of k) i change ≡ put_process (state_of k) i (change (self k p h))
+  change-run change = ap (λ (o : Option unix.Process). record (state_of k)
+      { places = slice_set (state_of k).places i (option_map change o) }) (process-run k i p h r)
 
   pub answer-run : (value : ℕ) → change_process (state_of k) i (with_answer value) ≡ state_of (answered k value)
   answer-run value = change-run (with_answer value) ∙ sym (regs-state _ _)
@@ -269,26 +315,33 @@ away-in (Some p) q is = λ zombie. let h = space-of _ q p refl is in go _ _ h.1.
 pub are-away : (os : Processes) (hs : Views) → ((j : ℕ) → IsPlace (slot os j) (slot hs j)) → AreAway os
 are-away os hs stands j = away-in _ _ (stands j)
 
-pub reap-with : (k : Kernel) (t : Places) (hs : Views) → IsOpened k.files k.spaces.pipes t.places → IsInUse k.tree k.files t.places → AreAway t.places → reap (state_with t hs (rest_of k)) ≡ state_with t hs (rest_of k)
+pub reap-with : (k : Kernel) (t : Places) (hs : Views) → IsOpened k.files k.spaces.pipes t.places
+    → IsInUse k.tree k.files t.places → AreAway t.places
+    → reap (state_with t hs (rest_of k)) ≡ state_with t hs (rest_of k)
 unfolding reap
 reap-with k t hs is used away =
     let s = state_with t hs (rest_of k) in
     let counts : Counts k.files s.places = λ n. is.counted n ∙ sym (count-joined t.places hs n) in
     let opens : without_opens s ≡ s = without_opens-same s _ is.table counts in
-    let none : LetsGo k.files t.places k.files t.places [] = record { counts = λ m. omega arith; files = λ k c at. (c, (at, refl)); homes = λ j d at. at } in
+    let none : LetsGo k.files t.places k.files t.places [] =
+            record { counts = λ m. omega arith; files = λ k c at. (c, (at, refl)); homes = λ j d at. at } in
     let pipes : without_pipes s ≡ s = without_pipes-same s is.piped in
-    ap (λ (x : State). without_nodes (without_pipes x)) opens ∙ ap without_nodes pipes ∙ fewer-nodes used none s hs away refl refl refl
+    ap (λ (x : State). without_nodes (without_pipes x)) opens ∙ ap without_nodes pipes
+        ∙ fewer-nodes used none s hs away refl refl refl
 
 -- ---- frames
 
-sum-joined : (os : Processes) (hs : Views) → ((i : ℕ) → IsMatch (slot os i) (slot hs i)) → sum_by process_frames (taken (joined os hs)) ≡ sum_by frames_in hs
+sum-joined : (os : Processes) (hs : Views) → ((i : ℕ) → IsMatch (slot os i) (slot hs i))
+    → sum_by process_frames (taken (joined os hs)) ≡ sum_by frames_in hs
 unfolding joined
 sum-joined [] [] stands = refl
 sum-joined [] (None ∷ hs) stands = omega (arith, sum_by-cons frames_in None hs, sum-joined [] hs (λ i. stands (suc i)))
 sum-joined (None ∷ os) [] stands = sum-joined os [] (λ i. stands (suc i))
-sum-joined (None ∷ os) (None ∷ hs) stands = omega (arith, sum_by-cons frames_in None hs, sum-joined os hs (λ i. stands (suc i)))
+sum-joined (None ∷ os) (None ∷ hs) stands =
+    omega (arith, sum_by-cons frames_in None hs, sum-joined os hs (λ i. stands (suc i)))
 sum-joined (Some p ∷ os) (Some h ∷ hs) stands =
-    omega (arith, sum_by-cons frames_in (Some h) hs, sum_by-cons process_frames (with_space h p) (taken (joined os hs)), sum-joined os hs (λ i. stands (suc i)))
+    omega (arith, sum_by-cons frames_in (Some h) hs,
+        sum_by-cons process_frames (with_space h p) (taken (joined os hs)), sum-joined os hs (λ i. stands (suc i)))
 sum-joined _ _ stands = absurd (let bad = stands 0 in cc)
 
 pub frames-with : (k : Kernel) (t : Places) → ((i : ℕ) → IsMatch (slot t.places i) (slot k.spaces.places i))
@@ -301,19 +354,24 @@ and-trues true = refl
 and-trues false = refl
 
 -- the limits are kept where the frames suffice
-pub within-state_with : (k : Kernel) (t : Places) → blocks_of k.tree.files ≤ k.tree.block_limit → IsTable k.files → ((i : ℕ) → IsMatch (slot t.places i) (slot k.spaces.places i))
+pub within-state_with : (k : Kernel) (t : Places) → blocks_of k.tree.files ≤ k.tree.block_limit → IsTable k.files
+    → ((i : ℕ) → IsMatch (slot t.places i) (slot k.spaces.places i))
     → is_within (state_with t k.spaces.places (rest_of k)) ≡ nat_le (taken_frames k.spaces) k.spaces.frames
 within-state_with k t fits is stands =
-    let few : length (taken (opens_of k.files)) ≤ 100 = omega (arith, few-taken (opens_of k.files), length-opens k.files, is.all) in
+    let few : length (taken (opens_of k.files)) ≤ 100 =
+            omega (arith, few-taken (opens_of k.files), length-opens k.files, is.all) in
     let opens : nat_le (length (taken (opens_of k.files))) 100 ≡ true = le-leb _ _ few in
     let blocks : nat_le (blocks_of k.tree.files) k.tree.block_limit ≡ true = le-leb _ _ fits in
     rw (frames-with k t stands, opens, blocks) (and-trues (nat_le (taken_frames k.spaces) k.spaces.frames))
 
 -- ---- a kernel's state
 
-pub used-active : (k : Kernel) (o : Option ℕ) → IsInUse k.tree k.files k.table.places → IsInUse k.tree k.files (changed_at k.table (on_hart k.spaces) o).places
+pub used-active : (k : Kernel) (o : Option ℕ) → IsInUse k.tree k.files k.table.places
+    → IsInUse k.tree k.files (changed_at k.table (on_hart k.spaces) o).places
 used-active k None is = is
-used-active k (Some i) is = used-put is i (option_map (on_hart k.spaces) (slot k.table.places i)) (map-same home_in (on_hart k.spaces) (λ p. refl) _)
+used-active k (Some i) is =
+    used-put is i (option_map (on_hart k.spaces) (slot k.table.places i))
+    (map-same home_in (on_hart k.spaces) (λ p. refl) _)
 
 pub used-loaded : (k : Kernel) → IsKernel k → k.tree.failed ≡ false → IsInUse k.tree k.files (loaded k).places
 used-loaded k is up = used-active k k.spaces.active (is.used up)
@@ -326,13 +384,18 @@ pub away-loaded : (k : Kernel) → IsKernel k → AreAway (loaded k).places
 away-loaded k is = active-by (λ j o. IsAway o) k (λ j. away-hart k.spaces) _ (are-away _ _ is.stands)
 
 pub reap-state : (k : Kernel) → IsKernel k → k.tree.failed ≡ false → reap (state_of k) ≡ state_of k
-reap-state k is up = reap-with k (loaded k) k.spaces.places (opened-loaded k is) (used-loaded k is up) (away-loaded k is)
+reap-state k is up = reap-with k (loaded k) k.spaces.places (opened-loaded k is) (used-loaded k is up)
+    (away-loaded k is)
 
 pub within-state : (k : Kernel) → IsKernel k → k.tree.failed ≡ false → is_within (state_of k) ≡ true
-within-state k is up = within-state_with k (loaded k) (is.used up).within is.opened.table (match-loaded k is) ∙ le-leb _ _ is.fits
+within-state k is up = within-state_with k (loaded k) (is.used up).within is.opened.table (match-loaded k is)
+    ∙ le-leb _ _ is.fits
 
-pub over-state : (k : Kernel) → ((i : ℕ) → IsMatch (slot (loaded k).places i) (slot k.spaces.places i)) → k.spaces.frames < taken_frames k.spaces → is_within (state_of k) ≡ false
-over-state k is over = let full : nat_le (taken_frames k.spaces) k.spaces.frames ≡ false = lt-leb _ _ over in rw (frames-with k (loaded k) is, full) refl
+pub over-state : (k : Kernel) → ((i : ℕ) → IsMatch (slot (loaded k).places i) (slot k.spaces.places i))
+    → k.spaces.frames < taken_frames k.spaces → is_within (state_of k) ≡ false
+over-state k is over = let full : nat_le (taken_frames k.spaces) k.spaces.frames ≡ false =
+    lt-leb _ _ over in rw (frames-with k (loaded k) is, full) refl
 
-pub over-stands : (k : Kernel) → ((j : ℕ) → IsPlace (slot k.table.places j) (slot k.spaces.places j)) → k.spaces.frames < taken_frames k.spaces → is_within (state_of k) ≡ false
+pub over-stands : (k : Kernel) → ((j : ℕ) → IsPlace (slot k.table.places j) (slot k.spaces.places j))
+    → k.spaces.frames < taken_frames k.spaces → is_within (state_of k) ≡ false
 over-stands k stands = over-state k (match-active k _ (λ j. match-place _ _ (stands j)))

@@ -1,15 +1,25 @@
--- The kernel's own steps keep what a kernel keeps: it stops to run a process, does an instruction, reads, and lets nodes go.
-use Rattle.kernel.proofs.Common.{true, false, ◌≡◌, ℕ, ◌≤◌, ◌%◌, Some, refl, ap, subst, sym, ◌∙◌, slice_index, unwrap_or, descriptors_in, Kernel, blocked, computed, descriptors_at, left_as, FileTree, IsInUse, IsKernel, IsPlaced, Keeps}
-use Rattle.kernel.proofs.Common.{true≢false, Process, SpaceView, view_at, no_pages, taken_frames, Ready, Pending, Computed, Waiting, zero, suc, List, Option, Err, IfSome, awaited_in, IsWatched, opens_of, Spaces, Trap, IfNone, Ok, None}
-use Rattle.kernel.proofs.Common.{same_Some, ◌<◌, ℤ, ended, on_hart, state_of, end_at, end_process, reap, change_process, process_at, if◌then◌else◌, length-set, IsMode, idle, base, rest_of, home_in, put, put_process, State, with_space}
-use Rattle.kernel.proofs.Common.{with_table, is_running_mode, is_zombie_mode, Mode, set-set, all-set, IsPlace, counting, arith, le_trans, IfOk, OnErr, Result, DeviceFault, Serves, OnOk, HasCause, Bool, [], ◌∷◌, ◌++◌, AreHeld, gone_nodes}
-use Rattle.kernel.proofs.Common.{loaded, waking, IsAlive, Places, exited, slot, drop-cons, ◌+◌, drop, length, all_dropped, dropped}
-use Rattle.kernel.proofs.Runs.{IsRun, moved, moved-kernel, run-of, set-slot, live, not-killed, runs-mode, put-same, runs-set, state-run, with_process, within-run, home-running, process-run, self, change-run, reap-state, there-of}
+-- The kernel's own steps keep what a kernel keeps: it stops to run a process, does an instruction, reads, and lets
+-- nodes go.
+use Rattle.kernel.proofs.Common.{true, false, ◌≡◌, ℕ, ◌≤◌, ◌%◌, Some, refl, ap, subst, sym, ◌∙◌, slice_index, unwrap_or}
+use Rattle.kernel.proofs.Common.{descriptors_in, Kernel, blocked, computed, descriptors_at, left_as, FileTree, IsInUse}
+use Rattle.kernel.proofs.Common.{IsKernel, IsPlaced, Keeps, true≢false, Process, SpaceView, view_at, no_pages}
+use Rattle.kernel.proofs.Common.{taken_frames, Ready, Pending, Computed, Waiting, zero, suc, List, Option, Err, IfSome}
+use Rattle.kernel.proofs.Common.{awaited_in, IsWatched, opens_of, Spaces, Trap, IfNone, Ok, None, same_Some, ◌<◌, ℤ}
+use Rattle.kernel.proofs.Common.{ended, on_hart, state_of, end_at, end_process, reap, change_process, process_at}
+use Rattle.kernel.proofs.Common.{if◌then◌else◌, length-set, IsMode, idle, base, rest_of, home_in, put, put_process}
+use Rattle.kernel.proofs.Common.{State, with_space, with_table, is_running_mode, is_zombie_mode, Mode, set-set, all-set}
+use Rattle.kernel.proofs.Common.{IsPlace, counting, arith, le_trans, IfOk, OnErr, Result, DeviceFault, Serves, OnOk}
+use Rattle.kernel.proofs.Common.{HasCause, Bool, [], ◌∷◌, ◌++◌, AreHeld, gone_nodes, loaded, waking, IsAlive, Places}
+use Rattle.kernel.proofs.Common.{exited, slot, drop-cons, ◌+◌, drop, length, all_dropped, dropped}
+use Rattle.kernel.proofs.Runs.{IsRun, moved, moved-kernel, run-of, set-slot, live, not-killed, runs-mode, put-same}
+use Rattle.kernel.proofs.Runs.{runs-set, state-run, with_process, within-run, home-running, process-run, self}
+use Rattle.kernel.proofs.Runs.{change-run, reap-state, there-of}
 use Rattle.spaces.specs.Spaces as spaces
 use Rattle.unixmodel.specs.Next.{memory_after}
 use Rattle.spaces.proofs.SpacesLemmas.{advances-last, advances-same, computed-frames}
 use Rattle.spaces.specs.Instructions.{Advances, Does}
-use Rattle.kernel.proofs.Changes.{ended-is, ended-state, last-run, mode-kept, other-at, IsLast, ended-held, ended-kernel, ended-made, ended_of, last-idle}
+use Rattle.kernel.proofs.Changes.{ended-is, ended-state, last-run, mode-kept, other-at, IsLast, ended-held}
+use Rattle.kernel.proofs.Changes.{ended-kernel, ended-made, ended_of, last-idle}
 use Rattle.kernel.proofs.Holding.{used-put, Pipes, Processes}
 use Rattle.kernel.proofs.Joined.{opened-put}
 use Rattle.unixmodel.specs.Process as unix
@@ -22,17 +32,20 @@ use Rattle.kernel.specs.Disk.{HasRead, IsLost, LeavesDisk, ReadsDisk}
 
 module _ (k : Kernel) (i : ℕ) (p : Process) (h : SpaceView) (r : IsRun k i p h) (is : IsKernel k) where
   module _ (z : slice_index k.spaces.registers 0 ≡ 0) (a : k.spaces.pc % 4 ≡ 0) where
-    pub ends-run : (status : ℤ) → k.tree.failed ≡ false → end_process (state_of k) i (self k p h) status ≡ state_of (ended k i status)
+    pub ends-run : (status : ℤ) → k.tree.failed ≡ false
+        → end_process (state_of k) i (self k p h) status ≡ state_of (ended k i status)
     ends-run status up =
         let last = last-run k i p h r in
         ended-state k is z a i _ h last status up ∙ sym (ap state_of (ended-is k is z a i _ h last status))
 
-    pub ends-at : (status : ℤ) → k.tree.failed ≡ false → end_at (state_of k) i status (process_at (state_of k) i) ≡ state_of (ended k i status)
+    pub ends-at : (status : ℤ) → k.tree.failed ≡ false
+        → end_at (state_of k) i status (process_at (state_of k) i) ≡ state_of (ended k i status)
     ends-at status up = ap (end_at (state_of k) i status) (process-run k i p h r) ∙ ends-run status up
 
     -- ---- it is in another mode
 
-    module _ (mode : Mode) (rests : is_running_mode mode ≡ false) (alive : is_zombie_mode mode ≡ false) (may : IsMode p h.memory mode) (well : WaitsAs k.files p.descriptors mode) where
+    module _ (mode : Mode) (rests : is_running_mode mode ≡ false) (alive : is_zombie_mode mode ≡ false)
+        (may : IsMode p h.memory mode) (well : WaitsAs k.files p.descriptors mode) where
       abbrev q : Process
       q = record p { registers = k.spaces.registers; pc = k.spaces.pc; mode = mode }
 
@@ -50,8 +63,10 @@ module _ (k : Kernel) (i : ℕ) (p : Process) (h : SpaceView) (r : IsRun k i p h
         all = length-set k.table.places i (Some q) ∙ is.all;
         spaces = is.spaces;
         stands = all-set (λ j x. IsPlace x (slot k.spaces.places j)) _ i _ (rw r.space q-placed) is.stands;
-        runs = runs-set _ i _ _ None (within-run k i p h r) rests (λ j other. rw (r.active, other-at i j other) refl) is.runs;
-        used = λ up. used-put (is.used up) i (Some q) (ap (λ b. if b then None else Some p.directory) alive ∙ sym (ap home_in r.process ∙ home-running p r.runs));
+        runs = runs-set _ i _ _ None (within-run k i p h r) rests (λ j other. rw (r.active, other-at i j other) refl)
+            is.runs;
+        used = λ up. used-put (is.used up) i (Some q)
+            (ap (λ b. if b then None else Some p.directory) alive ∙ sym (ap home_in r.process ∙ home-running p r.runs));
         fits = is.fits;
         opened = opened-put _ _ _ i _ (sym (ap descriptors_in r.process)) well is.opened;
       })
@@ -59,14 +74,18 @@ module _ (k : Kernel) (i : ℕ) (p : Process) (h : SpaceView) (r : IsRun k i p h
       pub left-state : change_process (state_of k) i (unix.with_mode mode) ≡ state_of (left_as k i mode)
       left-state =
           let held = on_hart k.spaces p in
-          let twice : put k.table.places i q ≡ put (put k.table.places i held) i q = sym (set-set k.table.places i (Some held) (Some q)) in
+          let twice : put k.table.places i q ≡ put (put k.table.places i held) i q =
+                  sym (set-set k.table.places i (Some held) (Some q)) in
           change-run k i p h r is (unix.with_mode mode)
           ∙ sym (ap state_of left-is
-          ∙ ap (λ (places : Processes). with_table (base (rest_of k)) (record k.table { places = places }) k.spaces.places) twice
+          ∙ ap (λ (places : Processes). with_table (base (rest_of k)) (record k.table { places = places })
+              k.spaces.places) twice
           ∙ put-same (base (rest_of k)) (with_process k.table i held) _ i q r.space
           ∙ sym (ap (λ (s : State). put_process s i (with_space h q)) (state-run k i p h r)))
 
-    pub waits-run : (w : Pending) → IsPending p.descriptors h.memory w w.number → IsAwaiting k.files p.descriptors w → k.tree.failed ≡ false → reap (change_process (state_of k) i (unix.with_mode (Waiting w))) ≡ state_of (blocked k i w)
+    pub waits-run : (w : Pending) → IsPending p.descriptors h.memory w w.number → IsAwaiting k.files p.descriptors w
+        → k.tree.failed ≡ false → reap (change_process (state_of k) i (unix.with_mode (Waiting w)))
+        ≡ state_of (blocked k i w)
     waits-run w pending for up =
         let l = live k i p h r is in
         ap reap (left-state _ refl refl (l, pending) for) ∙ reap-state _ (left-kernel _ refl refl (l, pending) for) up
@@ -74,16 +93,23 @@ module _ (k : Kernel) (i : ℕ) (p : Process) (h : SpaceView) (r : IsRun k i p h
     pub stops-run : change_process (state_of k) i (unix.with_mode Ready) ≡ state_of (left_as k i Ready)
     stops-run = left-state Ready refl refl (live k i p h r is) tt
 
-pub block-keeps : {k : Kernel} {i : ℕ} {w : Pending} → IsKernel k → k.spaces.active ≡ Some i → slice_index k.spaces.registers 0 ≡ 0 → k.spaces.pc % 4 ≡ 0
-    → IsPending (descriptors_at k i) (view_at k.spaces i).memory w w.number → IsAwaiting k.files (descriptors_at k i) w → IsKernel (blocked k i w)
+pub block-keeps : {k : Kernel} {i : ℕ} {w : Pending} → IsKernel k → k.spaces.active ≡ Some i
+    → slice_index k.spaces.registers 0 ≡ 0 → k.spaces.pc % 4 ≡ 0
+    → IsPending (descriptors_at k i) (view_at k.spaces i).memory w w.number → IsAwaiting k.files (descriptors_at k i) w
+        → IsKernel (blocked k i w)
 block-keeps {k} {i} {w} is active z a pending for =
     let run = run-of k i is active in
     let held : view_at k.spaces i ≡ run.1.0 = ap (λ o. unwrap_or o no_pages) run.1.1.space in
-    left-kernel k i run.0 _ run.1.1 is z a _ refl refl (live k i run.0 _ run.1.1 is, rw (held, ap descriptors_in run.1.1.process) at pending) (rw (ap descriptors_in run.1.1.process) at for)
+    left-kernel k i run.0 _ run.1.1 is z a _ refl refl
+        (live k i run.0 _ run.1.1 is, rw (held, ap descriptors_in run.1.1.process) at pending)
+        (rw (ap descriptors_in run.1.1.process) at for)
 
 -- other files, which are in use while no access of the device has failed
-pub with-tree : {k : Kernel} → IsKernel k → (t : FileTree) → (t.failed ≡ false → IsInUse t k.files k.table.places) → IsKernel (record k { tree = t })
-with-tree is t used = record { all = is.all; spaces = is.spaces; stands = is.stands; runs = is.runs; fits = is.fits; opened = is.opened; used = used }
+pub with-tree : {k : Kernel} → IsKernel k → (t : FileTree) → (t.failed ≡ false → IsInUse t k.files k.table.places)
+    → IsKernel (record k { tree = t })
+with-tree is t used = record
+    { all = is.all; spaces = is.spaces; stands = is.stands; runs = is.runs; fits = is.fits; opened = is.opened;
+    used = used }
 
 -- an access has failed
 pub fail-kernel : {k : Kernel} → IsKernel k → (t : FileTree) → t.failed ≡ true → IsKernel (record k { tree = t })
@@ -112,7 +138,8 @@ module _ (k : Kernel) (i : ℕ) (p : Process) (h : SpaceView) (r : IsRun k i p h
 
     pub computed-kernel : taken_frames (computed k i d).spaces ≤ k.spaces.frames → IsKernel (computed k i d)
     computed-kernel fits =
-        rw computed-is (moved-kernel k i p h r is p _ _ d.pc (placed-with _) r.runs refl refl (subst (λ (x : Kernel). taken_frames x.spaces ≤ k.spaces.frames) computed-is fits))
+        rw computed-is (moved-kernel k i p h r is p _ _ d.pc (placed-with _) r.runs refl refl
+            (subst (λ (x : Kernel). taken_frames x.spaces ≤ k.spaces.frames) computed-is fits))
 
 -- a kernel with other spaces, in which a process runs
 pub record GoesOn (k : Kernel) (i : ℕ) (new : Spaces) : Type 0 where
@@ -124,7 +151,8 @@ does-on : (k : Kernel) (i : ℕ) (mid new : Spaces) → GoesOn k i mid → Does 
 does-on k i mid new before does =
     let m : Kernel = record k { spaces = mid } in
     let run = run-of m i before.sound before.active in
-    let frames : taken_frames (computed m i does.done).spaces ≡ taken_frames mid = computed-frames mid i does.done _ run.1.1.space in
+    let frames : taken_frames (computed m i does.done).spaces ≡ taken_frames mid =
+            computed-frames mid i does.done _ run.1.1.space in
     rw does.leaves (record {
       sound = computed-kernel m i run.0 _ run.1.1 before.sound _ (rw frames before.sound.fits);
       active = before.active;
@@ -132,56 +160,80 @@ does-on k i mid new before does =
     })
 
 -- instructions keep what a kernel keeps
-pub advances-on : (stops : List ℕ) (n : ℕ) (k : Kernel) (i : ℕ) (new : Spaces) → IsKernel k → k.spaces.active ≡ Some i → Advances stops n k.spaces i new → GoesOn k i new
-advances-on stops zero k i new is active all = rw (advances-same stops _ i new all) (record { sound = is; active = active; pipes = refl })
+pub advances-on : (stops : List ℕ) (n : ℕ) (k : Kernel) (i : ℕ) (new : Spaces) → IsKernel k → k.spaces.active ≡ Some i
+    → Advances stops n k.spaces i new → GoesOn k i new
+advances-on stops zero k i new is active all =
+    rw (advances-same stops _ i new all) (record { sound = is; active = active; pipes = refl })
 advances-on stops (suc n) k i new is active all =
     let last = advances-last stops n _ new i all in
     does-on k i _ new (advances-on stops n k i last.0 is active last.1) last.2
 
 -- one does, or stops at a trap; o is the active place
-pub execute-on : (k : Kernel) (i : ℕ) (new : Spaces) (o : Option ℕ) (result : Option Trap) → IsKernel k → k.spaces.active ≡ Some i → o ≡ Some i → taken_frames new ≤ new.frames
-    → IfNone result (IfSome o (λ at. (d : Computed) × (cycle k.spaces.registers k.spaces.pc (view_at k.spaces at).memory ≡ Ok d) × (new ≡ spaces.computed k.spaces at d)))
-    → IfSome result (λ t. IfSome o (λ at. (cycle k.spaces.registers k.spaces.pc (view_at k.spaces at).memory ≡ Err t) × (new ≡ k.spaces))) → GoesOn k i new
+pub execute-on : (k : Kernel) (i : ℕ) (new : Spaces) (o : Option ℕ) (result : Option Trap) → IsKernel k
+    → k.spaces.active ≡ Some i → o ≡ Some i → taken_frames new ≤ new.frames
+    → IfNone result (IfSome o
+        (λ at. (d : Computed) × (cycle k.spaces.registers k.spaces.pc (view_at k.spaces at).memory ≡ Ok d)
+        × (new ≡ spaces.computed k.spaces at d)))
+    → IfSome result (λ t. IfSome o
+        (λ at. (cycle k.spaces.registers k.spaces.pc (view_at k.spaces at).memory ≡ Err t) × (new ≡ k.spaces)))
+        → GoesOn k i new
 execute-on k i new None result is active here fits done trap = absurd (cc)
 execute-on k i new (Some at) None is active here fits done trap =
     let run = run-of k i is active in
-    let e : new ≡ spaces.computed k.spaces i done.0 = done.2 ∙ ap (λ n. spaces.computed k.spaces n done.0) (same_Some at i here) in
+    let e : new ≡ spaces.computed k.spaces i done.0 = done.2
+            ∙ ap (λ n. spaces.computed k.spaces n done.0) (same_Some at i here) in
     let few : taken_frames (computed k i done.0).spaces ≤ k.spaces.frames = rw e at fits in
     rw e (record { sound = computed-kernel k i run.0 _ run.1.1 is _ few; active = active; pipes = refl })
-execute-on k i new (Some at) (Some t) is active here fits done trap = rw trap.1 (record { sound = is; active = active; pipes = refl })
+execute-on k i new (Some at) (Some t) is active here fits done trap =
+    rw trap.1 (record { sound = is; active = active; pipes = refl })
 
 pub on-keeps : {k : Kernel} {i : ℕ} {new : Spaces} → Keeps k → GoesOn k i new → Keeps (record k { spaces = new })
-on-keeps {k} keeps on = record { sound = on.sound; watched = subst (λ (ps : Pipes). IsWatched (awaited_in (opens_of k.files) ps k.console k.ticks) k.table.places k.table.awake) (sym on.pipes) keeps.watched }
+on-keeps {k} keeps on = record
+    { sound = on.sound; watched = subst
+    (λ (ps : Pipes). IsWatched (awaited_in (opens_of k.files) ps k.console k.ticks) k.table.places k.table.awake)
+    (sym on.pipes) keeps.watched }
 
 -- ---- what steps that reach the disk come to, one after the other
 
 -- what a step that may fail leaves
-pub serves-disk : {T : Type 0} {old new : FileTree} {r : Result T DeviceFault} {Told : T → Type 0} → Serves old new r Told → LeavesDisk old new r
+pub serves-disk : {T : Type 0} {old new : FileTree} {r : Result T DeviceFault} {Told : T → Type 0}
+    → Serves old new r Told → LeavesDisk old new r
 serves-disk {T} {old} {new} {r} {Told} serves = go r serves.up serves.down serves.cause where
-  go : (r : Result T DeviceFault) → OnOk r (new.failed ≡ false) → OnErr r (new.failed ≡ true) → HasCause old.failures new.failures r → LeavesDisk old new r
+  go : (r : Result T DeviceFault) → OnOk r (new.failed ≡ false) → OnErr r (new.failed ≡ true)
+      → HasCause old.failures new.failures r → LeavesDisk old new r
   go (Ok x) up down cause = record { up = up; same_device = serves.same_device; later = cause.later }
-  go (Err fault) up down cause = record { down = down; same_device = serves.same_device; later = cause.later; rises = cause.failed refl }
+  go (Err fault) up down cause =
+      record { down = down; same_device = serves.same_device; later = cause.later; rises = cause.failed refl }
 
 -- ---- steps that read
 
 pub read-then : {a b c : Kernel} → HasRead a b → HasRead b c → HasRead a c
-read-then {c = c} first next = record { same = next.same ∙ ap (λ (k : Kernel). counting k c.tree.failures) first.same; later = le_trans first.later next.later }
+read-then {c = c} first next =
+    record { same = next.same ∙ ap (λ (k : Kernel). counting k c.tree.failures) first.same;
+    later = le_trans first.later next.later }
 
 pub lost-then : {a b : Kernel} {t : FileTree} → HasRead a b → IsLost b.tree t → IsLost a.tree t
-lost-then first lost = record { down = lost.down; same_device = lost.same_device ∙ ap (λ (k : Kernel). k.tree.identity) first.same; later = le_trans first.later lost.later; rises = let rises = lost.rises in let later = first.later in omega (arith, rises, later) }
+lost-then first lost = record
+    { down = lost.down; same_device = lost.same_device ∙ ap (λ (k : Kernel). k.tree.identity) first.same;
+    later = le_trans first.later lost.later; rises = let rises = lost.rises in let later =
+    first.later in omega (arith, rises, later) }
 
 -- more is told
-pub reads-as : {X : Type 0} (old new : Kernel) {Told Says : X → Type 0} → ((x : X) → Told x → Says x) → (r : Result X DeviceFault) → ReadsDisk old new Told r → ReadsDisk old new Says r
+pub reads-as : {X : Type 0} (old new : Kernel) {Told Says : X → Type 0} → ((x : X) → Told x → Says x)
+    → (r : Result X DeviceFault) → ReadsDisk old new Told r → ReadsDisk old new Says r
 reads-as old new says (Ok x) reads = (reads.0, says x reads.1)
 reads-as old new says (Err fault) lost = lost
 
 -- it failed
-pub lost-reads : {X : Type 0} (old new : Kernel) (Told : X → Type 0) (r : Result X DeviceFault) → IsErr r → IsLost old.tree new.tree → ReadsDisk old new Told r
+pub lost-reads : {X : Type 0} (old new : Kernel) (Told : X → Type 0) (r : Result X DeviceFault) → IsErr r
+    → IsLost old.tree new.tree → ReadsDisk old new Told r
 lost-reads old new Told (Ok x) e lost = absurd (cc)
 lost-reads old new Told (Err fault) e lost = lost
 
 -- what is told then, also over a tree that the device can't tell from the old one
-pub serves-as : {T : Type 0} {old other t : FileTree} {r : Result T DeviceFault} {P Q : T → Type 0} → old.identity ≡ other.identity → old.failures ≡ other.failures → ((x : T) → P x → Q x) → Serves old t r P → Serves other t r Q
+pub serves-as : {T : Type 0} {old other t : FileTree} {r : Result T DeviceFault} {P Q : T → Type 0}
+    → old.identity ≡ other.identity → old.failures ≡ other.failures → ((x : T) → P x → Q x) → Serves old t r P
+    → Serves other t r Q
 serves-as {T} {t = t} {r = r} {P} {Q} device failures so serves = record {
   told = go r serves.told;
   up = serves.up;
@@ -201,7 +253,8 @@ serves-as {T} {t = t} {r = r} {P} {Q} device failures so serves = record {
 abbrev pub counted : FileTree → ℕ → FileTree
 counted t failures = record t { failures = failures }
 
-pub all-counted : (t : FileTree) (ns : List ℕ) (failures : ℕ) → all_dropped (counted t failures) ns ≡ counted (all_dropped t ns) failures
+pub all-counted : (t : FileTree) (ns : List ℕ) (failures : ℕ)
+    → all_dropped (counted t failures) ns ≡ counted (all_dropped t ns) failures
 all-counted t [] failures = refl
 all-counted t (n ∷ ns) failures = all-counted (dropped t n) ns failures
 
@@ -213,12 +266,14 @@ held-counted t (n ∷ ns) failures held = (held.0, (held.1.0, held-counted (drop
 pub record IsLetting (old : FileTree) (nodes : List ℕ) (now : FileTree) (i : ℕ) : Type 0 where
   pub up : now.failed ≡ false
   pub held : AreHeld now (drop i nodes)
-  pub goes : (failures : ℕ) → counted (all_dropped now (drop i nodes)) failures ≡ counted (all_dropped old nodes) failures
+  pub goes : (failures : ℕ)
+      → counted (all_dropped now (drop i nodes)) failures ≡ counted (all_dropped old nodes) failures
   pub same_device : now.identity ≡ old.identity
   pub later : old.failures ≤ now.failures
 
 drop-next : (ns : List ℕ) (i : ℕ) → i < length ns → drop i ns ≡ slice_index ns i ∷ drop (i + 1) ns
-drop-next ns i h = let next : suc i ≡ i + 1 = omega arith in drop-cons ns i 0 h ∙ ap (λ j. slice_index ns i ∷ drop j ns) next
+drop-next ns i h = let next : suc i ≡ i + 1 = omega arith in drop-cons ns i 0 h
+    ∙ ap (λ j. slice_index ns i ∷ drop j ns) next
 
 module _ {old now : FileTree} {nodes : List ℕ} {i : ℕ} (is : IsLetting old nodes now i) (h : i < length nodes) where
   abbrev n : ℕ
@@ -228,7 +283,8 @@ module _ {old now : FileTree} {nodes : List ℕ} {i : ℕ} (is : IsLetting old n
   held-next = subst (AreHeld now) (drop-next nodes i h) is.held
 
   -- one more was let go
-  pub lets-next : (t : FileTree) → t ≡ counted (dropped now n) t.failures → t.failed ≡ false → now.failures ≤ t.failures → IsLetting old nodes t (i + 1)
+  pub lets-next : (t : FileTree) → t ≡ counted (dropped now n) t.failures → t.failed ≡ false
+      → now.failures ≤ t.failures → IsLetting old nodes t (i + 1)
   lets-next t told up later = record {
     up = up;
     held = subst (λ x. AreHeld x (drop (i + 1) nodes)) (sym told) (held-counted _ _ _ held-next.1.1);
@@ -242,26 +298,32 @@ module _ {old now : FileTree} {nodes : List ℕ} {i : ℕ} (is : IsLetting old n
   }
 
 -- a node was let go
-pub lets-more : {old now : FileTree} {nodes : List ℕ} {i : ℕ} (is : IsLetting old nodes now i) (h : i < length nodes) (t : FileTree) (r : Result (Unit {0}) DeviceFault)
-    → Serves now t r (λ done. t ≡ counted (dropped now (slice_index nodes i)) t.failures) → (done : Unit {0}) → r ≡ Ok done → IsLetting old nodes t (i + 1)
+pub lets-more : {old now : FileTree} {nodes : List ℕ} {i : ℕ} (is : IsLetting old nodes now i) (h : i < length nodes)
+    (t : FileTree) (r : Result (Unit {0}) DeviceFault)
+    → Serves now t r (λ done. t ≡ counted (dropped now (slice_index nodes i)) t.failures) → (done : Unit {0})
+        → r ≡ Ok done → IsLetting old nodes t (i + 1)
 lets-more is h t (Ok done) serves x e = lets-next is h t serves.told serves.up serves.cause.later
 lets-more is h t (Err fault) serves x e = absurd (let bad : Err fault ≡ Ok x = e in cc)
 
 -- an access failed on the way
-pub lets-fails : {old now : FileTree} {nodes : List ℕ} {i : ℕ} {P Q : Unit {0} → Type 0} → IsLetting old nodes now i → (t : FileTree) (r s : Result (Unit {0}) DeviceFault) → Serves now t r P → (fault : DeviceFault) → r ≡ Err fault → IsErr s → Serves old t s Q
+pub lets-fails : {old now : FileTree} {nodes : List ℕ} {i : ℕ} {P Q : Unit {0} → Type 0} → IsLetting old nodes now i
+    → (t : FileTree) (r s : Result (Unit {0}) DeviceFault) → Serves now t r P → (fault : DeviceFault) → r ≡ Err fault
+    → IsErr s → Serves old t s Q
 lets-fails {old} {now} {nodes} {i} {P} {Q} is t (Err _) (Err _) serves fault bad worse = record {
   told = tt;
   up = tt;
   down = serves.down;
   same_device = serves.same_device ∙ is.same_device;
-  cause = record { later = le_trans is.later serves.cause.later; failed = λ e. let rises = serves.cause.failed refl in omega (arith, rises, is.later) };
+  cause = record { later = le_trans is.later serves.cause.later;
+      failed = λ e. let rises = serves.cause.failed refl in omega (arith, rises, is.later) };
 }
 lets-fails is t (Ok done) s serves fault bad worse = absurd (cc)
 lets-fails is t (Err _) (Ok done) serves fault bad worse = absurd (let none : false ≡ true = worse in cc)
 
 -- ---- the end of a process
 
-last-go : (k : Kernel) (i : ℕ) (q : Process) (o : Option ℕ) → IsKernel k → k.spaces.active ≡ o → CanEndIn k i o → slot (loaded k).places i ≡ Some q → (h : SpaceView) × IsLast k i q h
+last-go : (k : Kernel) (i : ℕ) (q : Process) (o : Option ℕ) → IsKernel k → k.spaces.active ≡ o → CanEndIn k i o
+    → slot (loaded k).places i ≡ Some q → (h : SpaceView) × IsLast k i q h
 last-go k i q (Some j) is active can at =
     let run = run-of k i is (active ∙ ap Some can) in
     let last = last-run k i run.0 _ run.1.1 in
@@ -279,26 +341,34 @@ finished k i q status = record (ended_of k i status q) { table = exited (with_pr
 pub counting-kernel : (k : Kernel) (failures : ℕ) → IsKernel k → IsKernel (counting k failures)
 counting-kernel k failures is = with-tree is _ (λ up.
     let used = is.used up in
-    record { rules = used.rules; zero = used.zero; within = used.within; holds = used.holds; held = used.held; fits = used.fits; homes = used.homes })
+    record { rules = used.rules; zero = used.zero; within = used.within; holds = used.holds; held = used.held;
+        fits = used.fits; homes = used.homes })
 
 -- a step of the disk that tells this tree, or fails
-pub told-kernel : {k : Kernel} → IsKernel k → (t : FileTree) (r : Result (Unit {0}) DeviceFault) → IfOk r (λ done. t ≡ counted k.tree t.failures) → OnErr r (t.failed ≡ true) → IsKernel (record k { tree = t })
-told-kernel {k} is t (Ok done) told down = subst (λ (u : FileTree). IsKernel (record k { tree = u })) (sym told) (counting-kernel k _ is)
+pub told-kernel : {k : Kernel} → IsKernel k → (t : FileTree) (r : Result (Unit {0}) DeviceFault)
+    → IfOk r (λ done. t ≡ counted k.tree t.failures) → OnErr r (t.failed ≡ true) → IsKernel (record k { tree = t })
+told-kernel {k} is t (Ok done) told down =
+    subst (λ (u : FileTree). IsKernel (record k { tree = u })) (sym told) (counting-kernel k _ is)
 told-kernel is t (Err fault) told down = fail-kernel is t down
 
 -- over the fields: k is what they show, and now is the kernel's value
-module _ {k now : Kernel} {i : ℕ} {q : Process} (status : ℤ) (same : k ≡ now) (is : IsKernel now) (can : CanEnd now i) (said : Some q ≡ slot (loaded now).places i) where
+module _ {k now : Kernel} {i : ℕ} {q : Process} (status : ℤ) (same : k ≡ now) (is : IsKernel now) (can : CanEnd now i)
+    (said : Some q ≡ slot (loaded now).places i) where
   last : (h : SpaceView) × IsLast now i q h
   last = last-go now i q _ is refl can.can (sym said)
 
   finish-is : finished now i q status ≡ ended now i status
-  finish-is = ap (λ (t : Places). record (finished now i q status) { table = exited t i status }) (sym last.1.put) ∙ ended-made now i q _ last.1 status
+  finish-is = ap (λ (t : Places). record (finished now i q status) { table = exited t i status }) (sym last.1.put)
+      ∙ ended-made now i q _ last.1 status
 
   module _ (z : slice_index now.spaces.registers 0 ≡ 0) (a : now.spaces.pc % 4 ≡ 0) where
     -- it let go all, or an access failed on the way
-    pub finish-closes : (t : FileTree) (r : Result (Unit {0}) DeviceFault) → IfOk r (λ done. t ≡ counted (finished k i q status).tree t.failures) → OnErr r (t.failed ≡ true) → IsKernel (record (finished k i q status) { tree = t })
+    pub finish-closes : (t : FileTree) (r : Result (Unit {0}) DeviceFault)
+        → IfOk r (λ done. t ≡ counted (finished k i q status).tree t.failures) → OnErr r (t.failed ≡ true)
+        → IsKernel (record (finished k i q status) { tree = t })
     finish-closes = told-kernel {k = finished k i q status} (
-        let ends : IsKernel (ended now i status) = rw (ended-is now is z a i q _ last.1 status) (ended-kernel now is z a i q _ last.1 status) in
+        let ends : IsKernel (ended now i status) =
+                rw (ended-is now is z a i q _ last.1 status) (ended-kernel now is z a i q _ last.1 status) in
         let keeps : IsKernel (finished now i q status) = rw finish-is ends in
         rw same keeps)
 
@@ -306,8 +376,10 @@ module _ {k now : Kernel} {i : ℕ} {q : Process} (status : ℤ) (same : k ≡ n
     pub finish-held : AreHeld k.tree (gone_nodes k.files q.descriptors ++ q.directory ∷ [])
     finish-held = rw same (ended-held now is z a i q _ last.1 status can.up)
 
-  pub finish-serves : (t : FileTree) (r : Result (Unit {0}) DeviceFault) (awake : List Bool) → Serves k.tree t r (λ done. t ≡ counted (finished k i q status).tree t.failures) → (meant : ℤ) → status ≡ meant
-      → Serves now.tree t r (λ done. waking (record (finished k i q status) { tree = t }) awake ≡ waking (counting (ended now i meant) t.failures) awake)
+  pub finish-serves : (t : FileTree) (r : Result (Unit {0}) DeviceFault) (awake : List Bool)
+      → Serves k.tree t r (λ done. t ≡ counted (finished k i q status).tree t.failures) → (meant : ℤ) → status ≡ meant
+      → Serves now.tree t r (λ done. waking (record (finished k i q status) { tree = t }) awake
+          ≡ waking (counting (ended now i meant) t.failures) awake)
   finish-serves t r awake serves meant e =
       serves-as (ap (λ (x : Kernel). x.tree.identity) same) (ap (λ (x : Kernel). x.tree.failures) same)
       (λ done told. ap (λ x. waking (record (finished k i q status) { tree = x }) awake) told
@@ -316,9 +388,14 @@ module _ {k now : Kernel} {i : ℕ} {q : Process} (status : ℤ) (same : k ≡ n
       serves
 
 -- what many do, and where they stop, of the active place
-pub advances-at : (stops : List ℕ) (o : Option ℕ) (i n : ℕ) (old new : Spaces) → o ≡ Some i → IfSome o (λ at. Advances stops n old at new) → Advances stops n old i new
-advances-at stops o i n old new active all = subst (λ (x : Option ℕ). IfSome x (λ at. Advances stops n old at new)) active all
+pub advances-at : (stops : List ℕ) (o : Option ℕ) (i n : ℕ) (old new : Spaces) → o ≡ Some i
+    → IfSome o (λ at. Advances stops n old at new) → Advances stops n old i new
+advances-at stops o i n old new active all =
+    subst (λ (x : Option ℕ). IfSome x (λ at. Advances stops n old at new)) active all
 
-pub trap-at : (o : Option ℕ) (i n count : ℕ) (new : Spaces) (r : Option Trap) → o ≡ Some i → IfSome r (λ t. (n < count) × IfSome o (λ at. cycle new.registers new.pc (view_at new at).memory ≡ Err t))
+pub trap-at : (o : Option ℕ) (i n count : ℕ) (new : Spaces) (r : Option Trap) → o ≡ Some i
+    → IfSome r (λ t. (n < count) × IfSome o (λ at. cycle new.registers new.pc (view_at new at).memory ≡ Err t))
     → IfSome r (λ t. (n < count) × (cycle new.registers new.pc (view_at new i).memory ≡ Err t))
-trap-at o i n count new r active trap = subst (λ (x : Option ℕ). IfSome r (λ t. (n < count) × IfSome x (λ at. cycle new.registers new.pc (view_at new at).memory ≡ Err t))) active trap
+trap-at o i n count new r active trap =
+    subst (λ (x : Option ℕ). IfSome r
+    (λ t. (n < count) × IfSome x (λ at. cycle new.registers new.pc (view_at new at).memory ≡ Err t))) active trap

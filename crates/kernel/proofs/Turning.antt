@@ -1,12 +1,23 @@
--- The running process has other descriptors, or works in another directory; files, open files and pipes may be others too.
-use Rattle.kernel.proofs.Common.{count_by-le-length, is_same, home_in, homes_at, files_on, one_at, IsTable, ◌≡◌, ℕ, ◌≤◌, false, List, length, Option, Some, refl, ap, subst, sym, ◌∙◌, length-set, Kernel, state_of, IsKernel, IsOpened}
-use Rattle.kernel.proofs.Common.{IsPlace, IsPlaced, IsInUse, Counted, opens_of, Process, SpaceView, taken_frames, FileTree, Running, put, slot, State, put_process, eq-eqb, ◌+◌, ◌<◌, None, arith, sum_by-set, descriptors_in, named_by}
-use Rattle.kernel.proofs.Common.{names_in, descriptors_at, Keeps, names, count-shared, IsPiped, count_at, shared, table-shared, IsWatched, awaited_in, true, is_within, loaded, le-leb, names-put, free-place, duplicated, with_descriptor}
-use Rattle.kernel.proofs.Common.{all-set, WaitsWell, option_map, get_or-set_other, is_none, ◌≢◌, same_Some, IsOpenFile, FitsNode, node_in, node_of, node_on, one_in, count_in, file_at, opened, file_of, target_of, holders, with_hold}
-use Rattle.kernel.proofs.Common.{woken_by, Bytes, none-some, ◌||◌, is_pipe, Places, IsOpenOn, count-opened, free-opens, count_by, has_pipe-put, IsWhole, free_slot, inl, inr, [], get_or-set_same, cases_eq, ne_eqb, End, slice_set}
+-- The running process has other descriptors, or works in another directory; files, open files and pipes may be others
+-- too.
+use Rattle.kernel.proofs.Common.{count_by-le-length, is_same, home_in, homes_at, files_on, one_at, IsTable, ◌≡◌, ℕ, ◌≤◌}
+use Rattle.kernel.proofs.Common.{false, List, length, Option, Some, refl, ap, subst, sym, ◌∙◌, length-set, Kernel}
+use Rattle.kernel.proofs.Common.{state_of, IsKernel, IsOpened, IsPlace, IsPlaced, IsInUse, Counted, opens_of, Process}
+use Rattle.kernel.proofs.Common.{SpaceView, taken_frames, FileTree, Running, put, slot, State, put_process, eq-eqb, ◌+◌}
+use Rattle.kernel.proofs.Common.{◌<◌, None, arith, sum_by-set, descriptors_in, named_by, names_in, descriptors_at}
+use Rattle.kernel.proofs.Common.{Keeps, names, count-shared, IsPiped, count_at, shared, table-shared, IsWatched}
+use Rattle.kernel.proofs.Common.{awaited_in, true, is_within, loaded, le-leb, names-put, free-place, duplicated}
+use Rattle.kernel.proofs.Common.{with_descriptor, all-set, WaitsWell, option_map, get_or-set_other, is_none, ◌≢◌}
+use Rattle.kernel.proofs.Common.{same_Some, IsOpenFile, FitsNode, node_in, node_of, node_on, one_in, count_in, file_at}
+use Rattle.kernel.proofs.Common.{opened, file_of, target_of, holders, with_hold, woken_by, Bytes, none-some, ◌||◌}
+use Rattle.kernel.proofs.Common.{is_pipe, Places, IsOpenOn, count-opened, free-opens, count_by, has_pipe-put, IsWhole}
+use Rattle.kernel.proofs.Common.{free_slot, inl, inr, [], get_or-set_same, cases_eq, ne_eqb, End, slice_set}
 use Rattle.kernel.proofs.Common.{slot-within, free-put, with_pipe, ReadEnd, WriteEnd, set-set}
-use Rattle.kernel.proofs.Holding.{sum-put, FitsIn, fits-some, used-put, used-shared, fits-there, used-more, used-opened, Fds, Opens, Pipes, Views}
-use Rattle.kernel.proofs.Runs.{IsRun, home-running, moved-state, process-run, run-of, runs-set, self, set-slot, slot-put, stands-set, with_process, within-run, within-space, live, not-killed, runs-mode, match-active, match-place, within-state_with}
+use Rattle.kernel.proofs.Holding.{sum-put, FitsIn, fits-some, used-put, used-shared, fits-there, used-more, used-opened}
+use Rattle.kernel.proofs.Holding.{Fds, Opens, Pipes, Views}
+use Rattle.kernel.proofs.Runs.{IsRun, home-running, moved-state, process-run, run-of, runs-set, self, set-slot}
+use Rattle.kernel.proofs.Runs.{slot-put, stands-set, with_process, within-run, within-space, live, not-killed}
+use Rattle.kernel.proofs.Runs.{runs-mode, match-active, match-place, within-state_with}
 use Rattle.unixmodel.specs.Process as unix
 use Rattle.kernel.proofs.Joined.{file-shared, place-counts, waits-fewer, waits-running, alike-same, waits-kept}
 use Rattle.kernel.proofs.Watching.{running-at, watched-running, kernel-waking, watched-bytes}
@@ -23,7 +34,8 @@ use Rattle.files.specs.declared.file.Target.TheVariants as target
 use Rattle.files.specs.declared.file.End.TheVariants as end
 use Rattle.unixmodel.specs.FileCalls.{pipe_end}
 use Rattle.files.proofs.Whole.{opens-shared, free_slot-opens, opens-opened, table-opened}
-use Rattle.kernel.specs.Opening.{MayShare, MayOpen, OpensAs, opened_at, opened_on, AreFree, Ends, HasPiped, free_descriptors, half_piped, pipe_file, piped}
+use Rattle.kernel.specs.Opening.{MayShare, MayOpen, OpensAs, opened_at, opened_on, AreFree, Ends, HasPiped}
+use Rattle.kernel.specs.Opening.{free_descriptors, half_piped, pipe_file, piped}
 
 -- the running process and its space, in a kernel that is sound
 pub record Runner (k : Kernel) (i : ℕ) : Type 0 where
@@ -33,21 +45,26 @@ pub record Runner (k : Kernel) (i : ℕ) : Type 0 where
   pub sound : IsKernel k
 
 pub runner-of : {k : Kernel} {i : ℕ} → IsKernel k → k.spaces.active ≡ Some i → Runner k i
-runner-of {k} {i} is active = let run = run-of k i is active in record { process = run.0; held = run.1.0; run = run.1.1; sound = is }
+runner-of {k} {i} is active = let run =
+    run-of k i is active in record { process = run.0; held = run.1.0; run = run.1.1; sound = is }
 
 -- as the abstract Unix sees it
 abbrev pub me_of : {k : Kernel} {i : ℕ} → Runner k i → unix.Process
 me_of {k} x = self k x.process x.held
 
 pub running-me : {k : Kernel} {i : ℕ} (x : Runner k i) → running_process (state_of k) ≡ Some (me_of x)
-running-me {k} {i} x = ap (option_and_then (process_at (state_of k))) (running-state k x.sound ∙ x.run.active) ∙ process-run k i x.process x.held x.run
+running-me {k} {i} x = ap (option_and_then (process_at (state_of k))) (running-state k x.sound ∙ x.run.active)
+    ∙ process-run k i x.process x.held x.run
 
 pub running-nobody : {k : Kernel} → IsKernel k → k.spaces.active ≡ None → running_process (state_of k) ≡ None
 running-nobody {k} is idle = ap (option_and_then (process_at (state_of k))) (running-state k is ∙ idle)
 
 -- the files stay in use where the running process is another one that works where it did
-pub used-turned : {k : Kernel} {i : ℕ} (x : Runner k i) (q : Process) → q.mode ≡ Running → q.directory ≡ x.process.directory → k.tree.failed ≡ false → IsInUse k.tree k.files (put k.table.places i q)
-used-turned {i = i} x q runs same up = used-put (x.sound.used up) i (Some q) (home-running q runs ∙ ap Some same ∙ sym (home-running x.process x.run.runs) ∙ sym (ap home_in x.run.process))
+pub used-turned : {k : Kernel} {i : ℕ} (x : Runner k i) (q : Process) → q.mode ≡ Running
+    → q.directory ≡ x.process.directory → k.tree.failed ≡ false → IsInUse k.tree k.files (put k.table.places i q)
+used-turned {i = i} x q runs same up =
+    used-put (x.sound.used up) i (Some q)
+    (home-running q runs ∙ ap Some same ∙ sym (home-running x.process x.run.runs) ∙ sym (ap home_in x.run.process))
 
 module _ {k : Kernel} {i : ℕ} (x : Runner k i) (ds : Fds) (directory : ℕ) where
   abbrev pub renamed : Process
@@ -55,9 +72,12 @@ module _ {k : Kernel} {i : ℕ} (x : Runner k i) (ds : Fds) (directory : ℕ) wh
 
   -- files, open files and pipes may be others, too
   abbrev pub renamed_to : FileTree → Opens → Pipes → Kernel
-  renamed_to tree files pipes = record k { tree = tree; table = with_process k.table i renamed; spaces = record k.spaces { pipes = pipes }; files = files }
+  renamed_to tree files pipes =
+      record k { tree = tree; table = with_process k.table i renamed; spaces = record k.spaces { pipes = pipes };
+      files = files }
 
-module _ {k : Kernel} {i : ℕ} (x : Runner k i) (ds : Fds) (directory : ℕ) (same : length ds ≡ length x.process.descriptors) where
+module _ {k : Kernel} {i : ℕ} (x : Runner k i) (ds : Fds) (directory : ℕ)
+    (same : length ds ≡ length x.process.descriptors) where
   abbrev q : Process
   q = renamed x ds directory
 
@@ -65,35 +85,45 @@ module _ {k : Kernel} {i : ℕ} (x : Runner k i) (ds : Fds) (directory : ℕ) (s
   named-placed = let l = live k i _ _ x.run x.sound in let placed = x.run.placed in record {
     zero = placed.zero;
     aligned = placed.aligned;
-    mode = runs-mode q _ _ x.run.runs (record { descriptors = same ∙ l.descriptors }) (not-killed k i _ _ x.run x.sound);
+    mode = runs-mode q _ _ x.run.runs (record { descriptors = same ∙ l.descriptors })
+        (not-killed k i _ _ x.run x.sound);
   }
 
   pub renamed-stands : (j : ℕ) → IsPlace (slot (put k.table.places i q) j) (slot k.spaces.places j)
-  renamed-stands = subst (λ hs. (j : ℕ) → IsPlace (slot (put k.table.places i q) j) (slot hs j)) (set-slot _ i _ x.run.space)
+  renamed-stands = subst (λ hs. (j : ℕ) → IsPlace (slot (put k.table.places i q) j) (slot hs j))
+      (set-slot _ i _ x.run.space)
       (stands-set _ _ i _ _ (within-run k i _ _ x.run) (within-space k i _ _ x.run x.sound) named-placed x.sound.stands)
 
   module _ (tree : FileTree) (files : Opens) (pipes : Pipes) where
     abbrev to : Kernel
     to = renamed_to x ds directory tree files pipes
 
-    pub renamed-kernel : (tree.failed ≡ false → IsInUse tree files (put k.table.places i q)) → IsOpened files pipes (put k.table.places i q) → taken_frames to.spaces ≤ k.spaces.frames → IsKernel to
+    pub renamed-kernel : (tree.failed ≡ false → IsInUse tree files (put k.table.places i q))
+        → IsOpened files pipes (put k.table.places i q) → taken_frames to.spaces ≤ k.spaces.frames → IsKernel to
     renamed-kernel used opened fits = record {
       all = length-set k.table.places i (Some q) ∙ x.sound.all;
       spaces = x.sound.spaces;
       stands = renamed-stands;
-      runs = runs-set _ i _ _ _ (within-run k i _ _ x.run) (rw (x.run.runs, x.run.active) (sym (eq-eqb i i refl))) (λ j other. refl) x.sound.runs;
+      runs = runs-set _ i _ _ _ (within-run k i _ _ x.run) (rw (x.run.runs, x.run.active) (sym (eq-eqb i i refl)))
+          (λ j other. refl) x.sound.runs;
       used = used;
       fits = fits;
       opened = opened;
     }
 
     pub renamed-run : IsRun to i q x.held
-    renamed-run = record { active = x.run.active; process = slot-put _ i (Some q) (within-run k i _ _ x.run); space = x.run.space; placed = named-placed; runs = x.run.runs }
+    renamed-run = record { active = x.run.active; process = slot-put _ i (Some q) (within-run k i _ _ x.run);
+        space = x.run.space; placed = named-placed; runs = x.run.runs }
 
-    pub renamed-state : state_of to ≡ record (put_process (state_of k) i (record (me_of x) { descriptors = ds; directory = directory })) { files = tree.files; block_limit = tree.block_limit; opens = opens_of files; pipes = pipes }
+    pub renamed-state : state_of to
+        ≡ record (put_process (state_of k) i (record (me_of x) { descriptors = ds; directory = directory }))
+        { files = tree.files; block_limit = tree.block_limit; opens = opens_of files; pipes = pipes }
     renamed-state =
-        ap (λ (hs : Views). state_of (record to { spaces = record k.spaces { places = hs; pipes = pipes } })) (sym (set-slot _ i _ x.run.space))
-        ∙ ap (λ (s : State). record s { files = tree.files; block_limit = tree.block_limit; opens = opens_of files; pipes = pipes }) (moved-state k i _ _ x.run x.sound q _ _ _ named-placed x.run.runs)
+        ap (λ (hs : Views). state_of (record to { spaces = record k.spaces { places = hs; pipes = pipes } }))
+            (sym (set-slot _ i _ x.run.space))
+        ∙ ap (λ (s : State). record s
+            { files = tree.files; block_limit = tree.block_limit; opens = opens_of files; pipes = pipes })
+            (moved-state k i _ _ x.run x.sound q _ _ _ named-placed x.run.runs)
 
 -- ---- a descriptor more of the running process names an open file
 
@@ -106,10 +136,13 @@ module _ {k : Kernel} {i : ℕ} (x : Runner k i) where
   named-counts d n at = place-counts _ _ x.sound.opened.counted i _ x.run.process d n at
 
   -- how often an open file is named once process q stands in place i
-  pub named-put : (q : Process) (m : ℕ) → named_by (put k.table.places i q) m + names m x.process.descriptors ≡ named_by k.table.places m + names m q.descriptors
+  pub named-put : (q : Process) (m : ℕ)
+      → named_by (put k.table.places i q) m + names m x.process.descriptors
+      ≡ named_by k.table.places m + names m q.descriptors
   named-put q m =
       let was : names_in m (slot k.table.places i) ≡ names m x.process.descriptors = ap (names_in m) x.run.process in
-      ap (λ n. named_by (put k.table.places i q) m + n) (sym was) ∙ sum_by-set (names_in m) _ i (Some q) None (within-run k i _ _ x.run)
+      ap (λ n. named_by (put k.table.places i q) m + n) (sym was)
+          ∙ sum_by-set (names_in m) _ i (Some q) None (within-run k i _ _ x.run)
 
 module _ {k : Kernel} {i : ℕ} (x : Runner k i) (fd place : ℕ) where
   abbrev named_ds : Fds
@@ -122,49 +155,66 @@ module _ {k : Kernel} {i : ℕ} (x : Runner k i) (fd place : ℕ) where
   namer = renamed x named_ds x.process.directory
 
   -- the open files count one name more
-  named-opened : (files : Opens) (pipes : Pipes) → free_slot (descriptors_at k i) ≡ Some fd → ((m : ℕ) → count_at files m ≡ count_at k.files m + one_at m place) → IsTable files
-      → ((m : ℕ) (f : unix_files.OpenFile) → slot (opens_of files) m ≡ Some f → IsOpenFile f) → length pipes ≡ 100 → IsPiped pipes (opens_of files) → ((j : ℕ) → WaitsWell files (slot k.table.places j)) → IsOpened files pipes (put k.table.places i namer)
+  named-opened : (files : Opens) (pipes : Pipes) → free_slot (descriptors_at k i) ≡ Some fd
+      → ((m : ℕ) → count_at files m ≡ count_at k.files m + one_at m place) → IsTable files
+      → ((m : ℕ) (f : unix_files.OpenFile) → slot (opens_of files) m ≡ Some f → IsOpenFile f) → length pipes ≡ 100
+          → IsPiped pipes (opens_of files) → ((j : ℕ) → WaitsWell files (slot k.table.places j))
+          → IsOpened files pipes (put k.table.places i namer)
   named-opened files pipes free more table each all piped waits = record {
     table = table;
     counted = λ m.
         let first = free-place _ fd (rw (← descriptors-run x) free) in
-        omega (arith, more m, named-put x namer m, names-put m x.process.descriptors fd place first.0 first.1, x.sound.opened.counted m);
+        omega (arith, more m, named-put x namer m, names-put m x.process.descriptors fd place first.0 first.1,
+            x.sound.opened.counted m);
     each = each;
     all = all;
     piped = piped;
     waits = all-set (λ j. WaitsWell files) _ i _ (waits-running files namer x.run.runs) waits;
   }
 
-  dup-is : renamed_to x named_ds x.process.directory k.tree (shared k.files place) k.spaces.pipes ≡ duplicated k i fd place
+  dup-is : renamed_to x named_ds x.process.directory k.tree (shared k.files place) k.spaces.pipes
+      ≡ duplicated k i fd place
   dup-is = rw x.run.process refl
 
-  pub dup-state : state_of (duplicated k i fd place) ≡ put_process (state_of k) i (row.with_descriptor (me_of x) fd place)
+  pub dup-state : state_of (duplicated k i fd place)
+      ≡ put_process (state_of k) i (row.with_descriptor (me_of x) fd place)
   dup-state =
       ap state_of (sym dup-is) ∙ renamed-state x _ _ named-length k.tree _ _
-      ∙ ap (λ (os : List (Option unix_files.OpenFile)). record (put_process (state_of k) i (row.with_descriptor (me_of x) fd place)) { opens = os }) (opens-shared k.files place)
+      ∙ ap (λ (os : List (Option unix_files.OpenFile)). record
+          (put_process (state_of k) i (row.with_descriptor (me_of x) fd place)) { opens = os })
+          (opens-shared k.files place)
 
   dup-kernel : MayShare k i fd place → IsKernel (duplicated k i fd place)
   dup-kernel may =
       let was = x.sound.opened in
       let same = sym (opens-shared k.files place) in
-      let opened = named-opened (shared k.files place) k.spaces.pipes may.free (count-shared k.files place (named-counts x may.named.0 place (rw (← descriptors-run x) may.named.1))) (table-shared k.files place was.table)
-      (λ m f at. was.each m f (ap (λ (os : List (Option unix_files.OpenFile)). slot os m) same ∙ at)) was.all (subst (IsPiped k.spaces.pipes) same was.piped)
-      (λ j. waits-fewer k.files (shared k.files place) (λ m f at. sym (file-shared k.files place m) ∙ at) (slot k.table.places j) (was.waits j)) in
-      rw (← dup-is) (renamed-kernel x named_ds x.process.directory named-length k.tree (shared k.files place) k.spaces.pipes (λ up. used-shared (used-turned x namer x.run.runs refl up) place) opened x.sound.fits)
+      let opened = named-opened (shared k.files place) k.spaces.pipes may.free
+              (count-shared k.files place (named-counts x may.named.0 place (rw (← descriptors-run x) may.named.1)))
+              (table-shared k.files place was.table)
+      (λ m f at. was.each m f (ap (λ (os : List (Option unix_files.OpenFile)). slot os m) same ∙ at)) was.all
+          (subst (IsPiped k.spaces.pipes) same was.piped)
+      (λ j. waits-fewer k.files (shared k.files place) (λ m f at. sym (file-shared k.files place m) ∙ at)
+          (slot k.table.places j) (was.waits j)) in
+      rw (← dup-is) (renamed-kernel x named_ds x.process.directory named-length k.tree (shared k.files place)
+          k.spaces.pipes (λ up. used-shared (used-turned x namer x.run.runs refl up) place) opened x.sound.fits)
 
 -- with other descriptors and another directory it is within the limits
-pub renamed-within : {k : Kernel} {i : ℕ} (x : Runner k i) (ds : Fds) (directory : ℕ) → length ds ≡ length x.process.descriptors → k.tree.failed ≡ false
+pub renamed-within : {k : Kernel} {i : ℕ} (x : Runner k i) (ds : Fds) (directory : ℕ)
+    → length ds ≡ length x.process.descriptors → k.tree.failed ≡ false
     → is_within (put_process (state_of k) i (record (me_of x) { descriptors = ds; directory = directory })) ≡ true
 renamed-within {k} {i} x ds directory same up =
     let to = renamed_to x ds directory k.tree k.files k.spaces.pipes in
     ap is_within (sym (renamed-state x ds directory same k.tree k.files _))
-    ∙ within-state_with to (loaded to) (x.sound.used up).within x.sound.opened.table (match-active to _ (λ j. match-place _ _ (renamed-stands x ds directory same j))) ∙ le-leb _ _ x.sound.fits
+    ∙ within-state_with to (loaded to) (x.sound.used up).within x.sound.opened.table
+        (match-active to _ (λ j. match-place _ _ (renamed-stands x ds directory same j))) ∙ le-leb _ _ x.sound.fits
 
 pub dup-keeps : {k : Kernel} {i fd n : ℕ} → Keeps k → MayShare k i fd n → Keeps (duplicated k i fd n)
 dup-keeps {k} {i} {fd} {n} keeps may = record {
   sound = dup-kernel (runner-of keeps.sound may.running) fd n may;
-  watched = subst (λ xs. IsWatched (awaited_in xs k.spaces.pipes k.console k.ticks) (duplicated k i fd n).table.places k.table.awake) (sym (opens-shared k.files n))
-      (watched-running keeps.watched i (with_descriptor fd (Some n)) (running-at keeps.sound i may.running) (λ p pid is. is));
+  watched = subst (λ xs. IsWatched (awaited_in xs k.spaces.pipes k.console k.ticks) (duplicated k i fd n).table.places
+      k.table.awake) (sym (opens-shared k.files n))
+      (watched-running keeps.watched i (with_descriptor fd (Some n)) (running-at keeps.sound i may.running)
+          (λ p pid is. is));
 }
 
 -- ---- the running process has a new open file
@@ -199,18 +249,27 @@ module _ {k : Kernel} {i : ℕ} (x : Runner k i) (f : OpenFile) (place fd : ℕ)
   opens-is = opens-opened k.files place f
 
   -- with other files of the disk, and other pipes
-  opens-made : (tree : FileTree) (pipes : Pipes) → renamed_to x (named_ds x fd place) x.process.directory tree files pipes ≡ record (opened_at k i f place fd) { tree = tree; spaces = record k.spaces { pipes = pipes } }
+  opens-made : (tree : FileTree) (pipes : Pipes)
+      → renamed_to x (named_ds x fd place) x.process.directory tree files pipes
+      ≡ record (opened_at k i f place fd) { tree = tree; spaces = record k.spaces { pipes = pipes } }
   opens-made tree pipes = rw x.run.process refl
 
-  pub open-state : (n : ℕ) → state_of (opened_on k i n f place fd) ≡ record (put_process (state_of k) i (row.with_descriptor (me_of x) fd place)) { opens = put (opens_of k.files) place (file_of f) }
+  pub open-state : (n : ℕ)
+      → state_of (opened_on k i n f place fd)
+      ≡ record (put_process (state_of k) i (row.with_descriptor (me_of x) fd place))
+      { opens = put (opens_of k.files) place (file_of f) }
   open-state n =
       let held : FileTree = record k.tree { holds = with_hold k.tree.holds n } in
       ap state_of (sym (opens-made held _))
       ∙ renamed-state x _ _ (named-length x fd place) held files _
-      ∙ ap (λ (os : List (Option unix_files.OpenFile)). record (put_process (state_of k) i (row.with_descriptor (me_of x) fd place)) { opens = os }) opens-is
+      ∙ ap (λ (os : List (Option unix_files.OpenFile)). record
+          (put_process (state_of k) i (row.with_descriptor (me_of x) fd place)) { opens = os }) opens-is
 
-  pub opens-run : (pipes : Pipes) → IsRun (record (opened_at k i f place fd) { spaces = record k.spaces { pipes = pipes } }) i (namer x fd place) x.held
-  opens-run pipes = rw (← opens-made k.tree pipes) (renamed-run x _ x.process.directory (named-length x fd place) k.tree files pipes)
+  pub opens-run : (pipes : Pipes)
+      → IsRun (record (opened_at k i f place fd) { spaces = record k.spaces { pipes = pipes } }) i (namer x fd place)
+      x.held
+  opens-run pipes = rw (← opens-made k.tree pipes)
+      (renamed-run x _ x.process.directory (named-length x fd place) k.tree files pipes)
 
   module _ (first : free_slot (opens_of k.files) ≡ Some place) (free : free_slot (descriptors_at k i) ≡ Some fd) where
     place-free : (place < length k.files) × (slot k.files place ≡ None)
@@ -219,24 +278,35 @@ module _ {k : Kernel} {i : ℕ} (x : Runner k i) (f : OpenFile) (place fd : ℕ)
     -- each open file but the new one was there
     each : IsOpenFile (file_of f) → (m : ℕ) (g : unix_files.OpenFile) → slot (opens_of files) m ≡ Some g → IsOpenFile g
     each means = subst (λ os. (m : ℕ) (g : unix_files.OpenFile) → slot os m ≡ Some g → IsOpenFile g) (sym opens-is)
-        (all-set (λ m o. (g : unix_files.OpenFile) → o ≡ Some g → IsOpenFile g) _ place _ (λ g at. subst IsOpenFile (same_Some _ g at) means) x.sound.opened.each)
+        (all-set (λ m o. (g : unix_files.OpenFile) → o ≡ Some g → IsOpenFile g) _ place _
+            (λ g at. subst IsOpenFile (same_Some _ g at) means) x.sound.opened.each)
 
     was-there : (m : ℕ) (g : OpenFile) → 0 < count_at k.files m → file_at files m ≡ Some g → file_at k.files m ≡ Some g
     was-there m g some at =
-        let apart : m ≢ place = λ same. (let none : count_at k.files m ≡ 0 = ap (count_at k.files) same ∙ ap count_in place-free.1 in omega (arith, some, none)) in
-        sym (ap (option_map (λ (c : Counted). c.file)) (get_or-set_other k.files place m (Some (record { file = f; count = 1 })) None apart)) ∙ at
+        let apart : m ≢ place = λ same. (let none : count_at k.files m ≡ 0 = ap (count_at k.files) same
+                ∙ ap count_in place-free.1 in omega (arith, some, none)) in
+        sym (ap (option_map (λ (c : Counted). c.file))
+            (get_or-set_other k.files place m (Some (record { file = f; count = 1 })) None apart)) ∙ at
 
-    has-opened : IsOpenFile (file_of f) → (pipes : Pipes) → length pipes ≡ 100 → IsPiped pipes (opens_of files) → IsOpened files pipes (put k.table.places i (namer x fd place))
+    has-opened : IsOpenFile (file_of f) → (pipes : Pipes) → length pipes ≡ 100 → IsPiped pipes (opens_of files)
+        → IsOpened files pipes (put k.table.places i (namer x fd place))
     has-opened means pipes all piped = let was = x.sound.opened in
-        named-opened x fd place files pipes free (count-opened _ place f place-free.0 place-free.1) (table-opened _ place f was.table) (each means) all piped
-        (λ j. waits-kept _ files _ (λ d m g named at. (g, (was-there m g (place-counts _ _ was.counted j _ refl d m named) at, alike-same g))) (was.waits j))
+        named-opened x fd place files pipes free (count-opened _ place f place-free.0 place-free.1)
+            (table-opened _ place f was.table) (each means) all piped
+        (λ j. waits-kept _ files _
+            (λ d m g named at. (g, (was-there m g (place-counts _ _ was.counted j _ refl d m named) at, alike-same g)))
+            (was.waits j))
 
     -- it is on no node
-    pub opens-kernel : IsOpenFile (file_of f) → node_on f.target ≡ None → FitsNode f f.target None → (pipes : Pipes) → length pipes ≡ 100 → IsPiped pipes (put (opens_of k.files) place (file_of f)) → taken_frames (record k.spaces { pipes = pipes }) ≤ k.spaces.frames
+    pub opens-kernel : IsOpenFile (file_of f) → node_on f.target ≡ None → FitsNode f f.target None → (pipes : Pipes)
+        → length pipes ≡ 100 → IsPiped pipes (put (opens_of k.files) place (file_of f))
+        → taken_frames (record k.spaces { pipes = pipes }) ≤ k.spaces.frames
         → IsKernel (record (opened_at k i f place fd) { spaces = record k.spaces { pipes = pipes } })
     opens-kernel means on fits pipes all piped low =
         rw (← opens-made k.tree pipes)
-        (renamed-kernel x _ x.process.directory (named-length x fd place) _ files pipes (λ up. used-opened (used-turned x (namer x fd place) x.run.runs refl up) place f place-free.0 place-free.1 on fits)
+        (renamed-kernel x _ x.process.directory (named-length x fd place) _ files pipes
+            (λ up. used-opened (used-turned x (namer x fd place) x.run.runs refl up) place f place-free.0 place-free.1
+            on fits)
         (has-opened means pipes all (subst (IsPiped pipes) (sym opens-is) piped)) low)
 
     -- ---- it is on node n
@@ -255,37 +325,55 @@ module _ {k : Kernel} {i : ℕ} (x : Runner k i) (f : OpenFile) (place fd : ℕ)
           (λ m.
           let new : one_in m (node_in (Some one)) ≡ one_in m (Some n) = ap (one_in m) may.on in
           omega (arith, new, sum-put (λ o. one_in m (node_in o)) _ place one place-free.0 place-free.1 refl))
-          (all-set (λ j. FitsIn k.tree) _ place _ (fits-some k.tree one (subst (λ o. FitsNode f f.target (node_of k.tree.files o)) (sym may.on) may.fits)) before.fits)
+          (all-set (λ j. FitsIn k.tree) _ place _
+              (fits-some k.tree one (subst (λ o. FitsNode f f.target (node_of k.tree.files o)) (sym may.on) may.fits))
+              before.fits)
           before.homes
 
       pub open-kernel : IsKernel (opened_on k i n f place fd)
       open-kernel =
           let at = free-place _ place first in
-          let piped : IsPiped k.spaces.pipes (opens_of files) = subst (IsPiped k.spaces.pipes) (sym opens-is) (λ r. x.sound.opened.piped r ∙ sym (has_pipe-put _ place _ r at.0 at.1 ∙ ap (λ b. b || has_pipe (opens_of k.files) r) (on-no-pipe n r _ may.on))) in
+          let piped : IsPiped k.spaces.pipes (opens_of files) =
+                  subst (IsPiped k.spaces.pipes) (sym opens-is)
+                  (λ r. x.sound.opened.piped r
+                  ∙ sym (has_pipe-put _ place _ r at.0 at.1
+                  ∙ ap (λ b. b || has_pipe (opens_of k.files) r) (on-no-pipe n r _ may.on))) in
           rw (← opens-made tree k.spaces.pipes)
-          (renamed-kernel x _ x.process.directory (named-length x fd place) tree files _ (λ up. used) (has-opened (on-open n _ _ may.on) _ x.sound.opened.all piped) x.sound.fits)
+          (renamed-kernel x _ x.process.directory (named-length x fd place) tree files _ (λ up. used)
+              (has-opened (on-open n _ _ may.on) _ x.sound.opened.all piped) x.sound.fits)
 
-pub open-keeps : {k : Kernel} {i n fd : ℕ} {f : OpenFile} {t : Places} {files : Opens} → Keeps k → MayOpen k i n f → IsWhole k.tree → OpensAs k.table t k.files files i f fd
-    → Keeps (record k { tree = record k.tree { holds = with_hold k.tree.holds n }; table = woken_by Bytes t; files = files })
+pub open-keeps : {k : Kernel} {i n fd : ℕ} {f : OpenFile} {t : Places} {files : Opens} → Keeps k → MayOpen k i n f
+    → IsWhole k.tree → OpensAs k.table t k.files files i f fd
+    → Keeps (record k { tree = record k.tree { holds = with_hold k.tree.holds n }; table = woken_by Bytes t;
+        files = files })
 open-keeps {k} {i} {n} {fd} {f} keeps may whole opens = rw (opens.names, opens.opens) (record {
-  sound = kernel-waking (open-kernel (runner-of keeps.sound may.running) f _ fd opens.place opens.free n may (whole.numbers n (open-there may)).0) _;
-  watched = watched-bytes (watched-running keeps.watched i (with_descriptor fd (Some opens.number)) (running-at keeps.sound i may.running) (λ p pid is. is)) _ refl;
+  sound = kernel-waking (open-kernel (runner-of keeps.sound may.running) f _ fd opens.place opens.free n may
+      (whole.numbers n (open-there may)).0) _;
+  watched = watched-bytes (watched-running keeps.watched i (with_descriptor fd (Some opens.number))
+      (running-at keeps.sound i may.running) (λ p pid is. is)) _ refl;
 })
 
 -- ---- the running process opens both ends of a new pipe
 
 -- an end comes of a pipe that is put in its place
-end-comes : (pipes : Pipes) (opens : List (Option unix_files.OpenFile)) (q k : ℕ) (e : End) (bytes : List ℕ) → IsPiped pipes opens → q < length pipes → k < length opens → slot opens k ≡ None → IsPiped (put pipes q bytes) (put opens k (pipe_end q e))
+end-comes : (pipes : Pipes) (opens : List (Option unix_files.OpenFile)) (q k : ℕ) (e : End) (bytes : List ℕ)
+    → IsPiped pipes opens → q < length pipes → k < length opens → slot opens k ≡ None
+    → IsPiped (put pipes q bytes) (put opens k (pipe_end q e))
 end-comes pipes opens q k ReadEnd bytes is inside low free r = elim (cases_eq r q) [
-  | inl same ↦ rw (same, has_pipe-put opens k (pipe_end q ReadEnd) q low free, get_or-set_same pipes q (Some bytes) None inside, eq-eqb q q refl) refl
-  | inr other ↦ rw (has_pipe-put opens k (pipe_end q ReadEnd) r low free, get_or-set_other pipes q r (Some bytes) None other, ne_eqb q r (λ same. other (sym same))) (is r)
+  | inl same ↦ rw (same, has_pipe-put opens k (pipe_end q ReadEnd) q low free,
+      get_or-set_same pipes q (Some bytes) None inside, eq-eqb q q refl) refl
+  | inr other ↦ rw (has_pipe-put opens k (pipe_end q ReadEnd) r low free,
+      get_or-set_other pipes q r (Some bytes) None other, ne_eqb q r (λ same. other (sym same))) (is r)
 ]
 end-comes pipes opens q k WriteEnd bytes is inside low free r = elim (cases_eq r q) [
-  | inl same ↦ rw (same, has_pipe-put opens k (pipe_end q WriteEnd) q low free, get_or-set_same pipes q (Some bytes) None inside, eq-eqb q q refl) refl
-  | inr other ↦ rw (has_pipe-put opens k (pipe_end q WriteEnd) r low free, get_or-set_other pipes q r (Some bytes) None other, ne_eqb q r (λ same. other (sym same))) (is r)
+  | inl same ↦ rw (same, has_pipe-put opens k (pipe_end q WriteEnd) q low free,
+      get_or-set_same pipes q (Some bytes) None inside, eq-eqb q q refl) refl
+  | inr other ↦ rw (has_pipe-put opens k (pipe_end q WriteEnd) r low free,
+      get_or-set_other pipes q r (Some bytes) None other, ne_eqb q r (λ same. other (sym same))) (is r)
 ]
 
-module _ {k : Kernel} {i : ℕ} (x : Runner k i) (e : Ends) (free : AreFree k i e) (fits : taken_frames (with_pipe k.spaces e.pipe (Some [])) ≤ k.spaces.frames) where
+module _ {k : Kernel} {i : ℕ} (x : Runner k i) (e : Ends) (free : AreFree k i e)
+    (fits : taken_frames (with_pipe k.spaces e.pipe (Some [])) ≤ k.spaces.frames) where
   abbrev pipes : Pipes
   pipes = put k.spaces.pipes e.pipe []
 
@@ -298,7 +386,8 @@ module _ {k : Kernel} {i : ℕ} (x : Runner k i) (e : Ends) (free : AreFree k i 
     held = x.held;
     run = opens-run x _ e.reader e.read_fd pipes;
     sound = (let at = free-place _ _ free.reader in
-        opens-kernel x _ _ _ free.reader free.read_fd refl refl tt pipes (length-set k.spaces.pipes e.pipe (Some []) ∙ x.sound.opened.all)
+        opens-kernel x _ _ _ free.reader free.read_fd refl refl tt pipes
+            (length-set k.spaces.pipes e.pipe (Some []) ∙ x.sound.opened.all)
         (end-comes _ _ _ _ ReadEnd [] x.sound.opened.piped room at.0 at.1) fits);
   }
 
@@ -311,23 +400,34 @@ module _ {k : Kernel} {i : ℕ} (x : Runner k i) (e : Ends) (free : AreFree k i 
   piped-kernel : IsKernel (piped k i e)
   piped-kernel =
       let at = free-place _ _ writer-first in
-      let comes = end-comes pipes _ _ _ WriteEnd [] half.sound.opened.piped (omega (arith, room, length-set k.spaces.pipes e.pipe (Some []))) at.0 at.1 in
-      opens-kernel half _ _ _ writer-first (ap free_slot (descriptors-run half) ∙ ap (λ (ds : Fds). free_slot (put ds e.read_fd e.reader)) (sym (descriptors-run x)) ∙ free.write_fd) refl refl tt pipes half.sound.opened.all
-      (subst (λ ps. IsPiped ps (put (opens_of reader_files) e.writer (pipe_end e.pipe WriteEnd))) (set-set k.spaces.pipes e.pipe (Some []) (Some [])) comes) fits
+      let comes = end-comes pipes _ _ _ WriteEnd [] half.sound.opened.piped
+              (omega (arith, room, length-set k.spaces.pipes e.pipe (Some []))) at.0 at.1 in
+      opens-kernel half _ _ _ writer-first
+          (ap free_slot (descriptors-run half)
+          ∙ ap (λ (ds : Fds). free_slot (put ds e.read_fd e.reader)) (sym (descriptors-run x)) ∙ free.write_fd) refl
+          refl tt pipes half.sound.opened.all
+      (subst (λ ps. IsPiped ps (put (opens_of reader_files) e.writer (pipe_end e.pipe WriteEnd)))
+          (set-set k.spaces.pipes e.pipe (Some []) (Some [])) comes) fits
 
   piped-watched : Keeps k → Keeps (record (piped k i e) { table = woken_by Bytes (piped k i e).table })
   piped-watched keeps = record {
     sound = kernel-waking piped-kernel _;
-    watched = watched-bytes (watched-running (watched-running keeps.watched i (with_descriptor e.read_fd (Some e.reader)) (running-at x.sound i x.run.active) (λ p pid is. is)) i (with_descriptor e.write_fd (Some e.writer)) (running-at half.sound i x.run.active) (λ p pid is. is)) _ refl;
+    watched = watched-bytes (watched-running
+        (watched-running keeps.watched i (with_descriptor e.read_fd (Some e.reader))
+        (running-at x.sound i x.run.active) (λ p pid is. is)) i (with_descriptor e.write_fd (Some e.writer))
+        (running-at half.sound i x.run.active) (λ p pid is. is)) _ refl;
   }
 
 -- ---- one end is open
 
-module _ {t t1 : Places} {opens opens1 : Opens} {i : ℕ} {f : OpenFile} {fd : ℕ} {p : Process} (at : slot t.places i ≡ Some p) (one : OpensAs t t1 opens opens1 i f fd) where
+module _ {t t1 : Places} {opens opens1 : Opens} {i : ℕ} {f : OpenFile} {fd : ℕ} {p : Process}
+    (at : slot t.places i ≡ Some p) (one : OpensAs t t1 opens opens1 i f fd) where
   names-one : descriptors_in (slot t1.places i) ≡ put p.descriptors fd one.number
   names-one =
       let name = with_descriptor fd (Some one.number) in
-      ap (λ (u : Places). descriptors_in (slot u.places i)) (one.names ∙ ap (λ (o : Option Process). let u : Places = record t { places = slice_set t.places i (option_map name o) } in u) at)
+      ap (λ (u : Places). descriptors_in (slot u.places i))
+          (one.names ∙ ap (λ (o : Option Process).
+          let u : Places = record t { places = slice_set t.places i (option_map name o) } in u) at)
       ∙ ap descriptors_in (slot-put _ i _ (slot-within _ i p at))
 
   opens-one : opens_of opens1 ≡ put (opens_of opens) one.number (file_of f)
@@ -338,19 +438,25 @@ module _ {t t1 : Places} {opens opens1 : Opens} {i : ℕ} {f : OpenFile} {fd : �
   place-left two =
       let there = free-place (opens_of opens) one.number one.place in
       let left = free-put (opens_of opens) one.number (file_of f) there.0 there.1 in
-      let now : count_by is_none (opens_of opens1) ≡ count_by is_none (put (opens_of opens) one.number (file_of f)) = ap (count_by is_none) opens-one in
+      let now : count_by is_none (opens_of opens1) ≡ count_by is_none (put (opens_of opens) one.number (file_of f)) =
+              ap (count_by is_none) opens-one in
       omega (arith, left, now, two, free-opens opens, free-opens opens1)
 
   pub descriptor-left : 2 ≤ free_descriptors t i → 0 < free_descriptors t1 i
   descriptor-left two =
-      let was : free_descriptors t i ≡ count_by is_none p.descriptors = ap (λ (o : Option Process). count_by is_none (descriptors_in o)) at in
-      let there = free-place p.descriptors fd (ap (λ (o : Option Process). free_slot (descriptors_in o)) (sym at) ∙ one.free) in
+      let was : free_descriptors t i ≡ count_by is_none p.descriptors =
+              ap (λ (o : Option Process). count_by is_none (descriptors_in o)) at in
+      let there = free-place p.descriptors fd
+              (ap (λ (o : Option Process). free_slot (descriptors_in o)) (sym at) ∙ one.free) in
       let left = free-put p.descriptors fd one.number there.0 there.1 in
-      let now : free_descriptors t1 i ≡ count_by is_none (put p.descriptors fd one.number) = ap (count_by is_none) names-one in
+      let now : free_descriptors t1 i ≡ count_by is_none (put p.descriptors fd one.number) =
+              ap (count_by is_none) names-one in
       omega (arith, left, now, two, was)
 
 -- both are
-module _ {k : Kernel} {i q r w : ℕ} {t1 t2 : Places} {files1 files2 : Opens} (x : Runner k i) (room : free_slot k.spaces.pipes ≡ Some q) (one : OpensAs k.table t1 k.files files1 i (pipe_file q end.Read) r) (two : OpensAs t1 t2 files1 files2 i (pipe_file q end.Write) w) where
+module _ {k : Kernel} {i q r w : ℕ} {t1 t2 : Places} {files1 files2 : Opens} (x : Runner k i)
+    (room : free_slot k.spaces.pipes ≡ Some q) (one : OpensAs k.table t1 k.files files1 i (pipe_file q end.Read) r)
+    (two : OpensAs t1 t2 files1 files2 i (pipe_file q end.Write) w) where
   abbrev ends : Ends
   ends = record { pipe = q; reader = one.number; writer = two.number; read_fd = r; write_fd = w }
 
@@ -360,7 +466,8 @@ module _ {k : Kernel} {i q r w : ℕ} {t1 t2 : Places} {files1 files2 : Opens} (
     reader = one.place;
     writer = ap free_slot (sym (opens-one x.run.process one)) ∙ two.place;
     read_fd = one.free;
-    write_fd = ap (λ (ds : Fds). free_slot (put ds r one.number)) (descriptors-run x) ∙ ap free_slot (sym (names-one x.run.process one)) ∙ two.free;
+    write_fd = ap (λ (ds : Fds). free_slot (put ds r one.number)) (descriptors-run x)
+        ∙ ap free_slot (sym (names-one x.run.process one)) ∙ two.free;
   }
 
   abbrev made : Kernel
@@ -371,4 +478,5 @@ module _ {k : Kernel} {i q r w : ℕ} {t1 t2 : Places} {files1 files2 : Opens} (
     pipe-keeps keeps = rw (two.names, one.names, two.opens, one.opens) (piped-watched x ends ends-free fits keeps)
 
     pub pipe-made : HasPiped k made i q r w
-    pipe-made = record { ends = ends; free = ends-free; is = (refl, refl, refl); fits = fits; same = rw (two.names, one.names, two.opens, one.opens) refl }
+    pipe-made = record { ends = ends; free = ends-free; is = (refl, refl, refl); fits = fits;
+        same = rw (two.names, one.names, two.opens, one.opens) refl }

@@ -1,5 +1,6 @@
 -- Who holds the nodes of the disk: open files, and the processes that work in a directory.
-use Rattle.std.specs.Prelude.{IfSome, List, None, Option, Some, [], false, if◌then◌else◌, option_and_then, sum_by, ℕ, ◌++◌, ◌+◌, ◌==◌, ◌∷◌, ◌≡◌, ◌≢◌, ◌≤◌}
+use Rattle.std.specs.Prelude.{IfSome, List, None, Option, Some, [], false, if◌then◌else◌, option_and_then, sum_by, ℕ}
+use Rattle.std.specs.Prelude.{◌++◌, ◌+◌, ◌==◌, ◌∷◌, ◌≡◌, ◌≢◌, ◌≤◌}
 use Rattle.files.specs.Counts.{one_in}
 use Rattle.files.specs.declared.file.OpenFile.{OpenFile}
 use Rattle.files.specs.declared.file.Target.{Target}
@@ -62,8 +63,8 @@ abbrev pub IsFolder : Option Node → Type 0
 IsFolder (Some (Directory links places)) = Unit {0}
 IsFolder _ = ⊥
 
--- files that open files and processes use: the rules of names hold, who holds a node is counted, a node without links is held, and
--- what is held is there and of its type
+-- files that open files and processes use: the rules of names hold, who holds a node is counted, a node without links
+-- is held, and what is held is there and of its type
 pub record IsInUse (t : FileTree) (opens : List (Option Counted)) (places : List (Option Process)) : Type 0 where
   pub rules : KeepsTree t.files
   pub zero : slot t.files 0 ≡ None

@@ -1,5 +1,6 @@
 -- A kernel of many processes, as plain values, and the state of the abstract Unix that it stands for.
-use Rattle.std.specs.Prelude.{Bool, List, None, Ok, Option, Some, [], if◌then◌else◌, not, slice_index, slice_set, ℕ, ℤ, ◌%◌, ◌+◌, ◌++◌, ◌==◌, ◌^◌, ◌∷◌, ◌≡◌}
+use Rattle.std.specs.Prelude.{Bool, List, None, Ok, Option, Some, [], if◌then◌else◌, not, slice_index, slice_set, ℕ, ℤ}
+use Rattle.std.specs.Prelude.{◌%◌, ◌+◌, ◌++◌, ◌==◌, ◌^◌, ◌∷◌, ◌≡◌}
 use Rattle.kernel.specs.Descriptors.{all_closed, descriptors_in, standing}
 use Rattle.kernel.specs.Holding.{all_dropped, gone_nodes}
 use Rattle.files.specs.Places.{Counted, opens_of}
@@ -43,7 +44,9 @@ waking k awake = record k { table = record k.table { awake = awake } }
 
 -- a kernel over processes, their spaces and their open files, as it begins
 abbrev pub begun : FileTree → Places → Spaces → List (Option Counted) → Kernel
-begun tree t s files = record { tree = tree; table = t; spaces = s; files = files; console = record { committed = []; edited = [] }; ticks = 0; halted = None }
+begun tree t s files = record
+    { tree = tree; table = t; spaces = s; files = files; console = record { committed = []; edited = [] }; ticks = 0;
+    halted = None }
 
 -- ---- the state
 
@@ -71,7 +74,8 @@ pub record Rest : Type 0 where
   pub halted : Option ℤ
 
 abbrev pub rest_of : Kernel → Rest
-rest_of k = record { files = k.tree.files; block_limit = k.tree.block_limit; opens = opens_of k.files; pipes = k.spaces.pipes; console = k.console; ticks = k.ticks; frames = k.spaces.frames; halted = k.halted }
+rest_of k = record { files = k.tree.files; block_limit = k.tree.block_limit; opens = opens_of k.files;
+    pipes = k.spaces.pipes; console = k.console; ticks = k.ticks; frames = k.spaces.frames; halted = k.halted }
 
 -- the state but for the table
 abbrev pub base : Rest → State
@@ -192,8 +196,8 @@ left_home (Some p) = p.directory ∷ []
 abbrev pub left_nodes : Kernel → ℕ → List ℕ
 left_nodes k i = gone_nodes k.files (descriptors_at k i) ++ left_home (slot k.table.places i)
 
--- process i, which ran, or where none runs, has ended: its descriptors are closed, a pipe that has no end any more goes, and so does
--- a node without links that nobody holds any more
+-- process i, which ran, or where none runs, has ended: its descriptors are closed, a pipe that has no end any more
+-- goes, and so does a node without links that nobody holds any more
 abbrev pub ended : Kernel → ℕ → ℤ → Kernel
 ended k i status = record k {
   tree = all_dropped k.tree (left_nodes k i);

@@ -1,5 +1,6 @@
 -- What the kernel's steps make of the descriptors of the running process, and of the open files that they name.
-use Rattle.std.specs.Prelude.{List, None, Option, Some, [], count_by, false, is_none, length, option_map, true, ℕ, ◌<◌, ◌≡◌, ◌≤◌}
+use Rattle.std.specs.Prelude.{List, None, Option, Some, [], count_by, false, is_none, length, option_map, true, ℕ, ◌<◌}
+use Rattle.std.specs.Prelude.{◌≡◌, ◌≤◌}
 use Rattle.file_transfers.specs.Moved.{bytes_read, written_from}
 use Rattle.files.specs.declared.file.End.{End}
 use Rattle.files.specs.declared.file.End.TheVariants as end
@@ -35,7 +36,8 @@ pub record MayClose (k : Kernel) (i fd n : ℕ) : Type 0 where
   pub named : slot (descriptors_at k i) fd ≡ Some n
   pub up : k.tree.failed ≡ false
 
--- that descriptor is free; a pipe that has no end any more goes, and so does a node without links that nobody holds any more
+-- that descriptor is free; a pipe that has no end any more goes, and so does a node without links that nobody holds any
+-- more
 abbrev pub closed_at : Kernel → ℕ → ℕ → ℕ → Kernel
 closed_at k i fd n = record k {
   tree = all_dropped k.tree (listed (last_node k.files n));
@@ -62,7 +64,8 @@ pub record OpensAs (t t' : Places) (files files' : List (Option Counted)) (i : �
   pub opens : files' ≡ opened files number f
   pub names : t' ≡ changed t i (with_descriptor fd (Some number))
 
--- f fits node n, and the running process, in place i, has a free descriptor and a place for it; no access of the device has failed
+-- f fits node n, and the running process, in place i, has a free descriptor and a place for it; no access of the device
+-- has failed
 pub record MayOpen (k : Kernel) (i n : ℕ) (f : OpenFile) : Type 0 where
   pub running : k.spaces.active ≡ Some i
   pub descriptor : 0 < free_descriptors k.table i
@@ -73,13 +76,16 @@ pub record MayOpen (k : Kernel) (i n : ℕ) (f : OpenFile) : Type 0 where
 
 -- descriptor fd of process i names f, which takes a place
 abbrev pub opened_at : Kernel → ℕ → OpenFile → ℕ → ℕ → Kernel
-opened_at k i f place fd = record k { table = changed k.table i (with_descriptor fd (Some place)); files = opened k.files place f }
+opened_at k i f place fd =
+    record k { table = changed k.table i (with_descriptor fd (Some place)); files = opened k.files place f }
 
 -- and holds node n
 abbrev pub opened_on : Kernel → ℕ → ℕ → OpenFile → ℕ → ℕ → Kernel
-opened_on k i n f place fd = record (opened_at k i f place fd) { tree = record k.tree { holds = with_hold k.tree.holds n } }
+opened_on k i n f place fd =
+    record (opened_at k i f place fd) { tree = record k.tree { holds = with_hold k.tree.holds n } }
 
--- the lowest free descriptor of process i, fd, names f on node n, which takes the lowest free place; who may wait for that is awake
+-- the lowest free descriptor of process i, fd, names f on node n, which takes the lowest free place; who may wait for
+-- that is awake
 pub record OpensOn (old new : Kernel) (i n : ℕ) (f : OpenFile) (fd : ℕ) : Type 0 where
   pub place : ℕ
   pub first : free_slot (opens_of old.files) ≡ Some place
@@ -93,7 +99,8 @@ abbrev pub pipe_file : ℕ → End → OpenFile
 pipe_file q end.Read = record { target = target.Pipe q end.Read; readable = true; writable = false }
 pipe_file q end.Write = record { target = target.Pipe q end.Write; readable = false; writable = true }
 
--- the running process, in place i, has two free descriptors, there are places for both ends, and place q is the lowest for a pipe
+-- the running process, in place i, has two free descriptors, there are places for both ends, and place q is the lowest
+-- for a pipe
 pub record MayPipe (k : Kernel) (i q : ℕ) : Type 0 where
   pub running : k.spaces.active ≡ Some i
   pub descriptors : 2 ≤ free_descriptors k.table i
@@ -118,7 +125,8 @@ pub record AreFree (k : Kernel) (i : ℕ) (e : Ends) : Type 0 where
 
 -- process i has the read end of a new pipe, and then the other too
 abbrev pub half_piped : Kernel → ℕ → Ends → Kernel
-half_piped k i e = record (opened_at k i (pipe_file e.pipe end.Read) e.reader e.read_fd) { spaces = with_pipe k.spaces e.pipe (Some []) }
+half_piped k i e = record (opened_at k i (pipe_file e.pipe end.Read) e.reader e.read_fd)
+    { spaces = with_pipe k.spaces e.pipe (Some []) }
 
 abbrev pub piped : Kernel → ℕ → Ends → Kernel
 piped k i e = opened_at (half_piped k i e) i (pipe_file e.pipe end.Write) e.writer e.write_fd
@@ -155,5 +163,7 @@ pub record HasFetched (old new : Kernel) (i n offset address count told : ℕ) :
 
 -- bytes from an address of process i on went into file n, as many as there are blocks for, and so many are told
 pub record HasStored (old new : Kernel) (i n offset address count : ℕ) (told : Option ℕ) : Type 0 where
-  pub same : new ≡ with_tree old (record old.tree { files = files_after old.tree.files (written_from old.spaces i address count old.tree n offset); failures = new.tree.failures })
+  pub same : new ≡ with_tree old
+      (record old.tree { files = files_after old.tree.files
+      (written_from old.spaces i address count old.tree n offset); failures = new.tree.failures })
   pub counted : told ≡ count_of (written_from old.spaces i address count old.tree n offset)

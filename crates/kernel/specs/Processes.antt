@@ -36,7 +36,8 @@ WorksIn old new i n = new ≡ counting (working_in old i n) new.tree.failures
 
 -- ---- fork
 
--- the running process, in place i, may have a child in a seat, which is the next one; no access of the device has failed
+-- the running process, in place i, may have a child in a seat, which is the next one; no access of the device has
+-- failed
 pub record MayFork (k : Kernel) (i : ℕ) (seat : Seat) : Type 0 where
   pub running : k.spaces.active ≡ Some i
   pub next : seat_of k.table ≡ Ok seat
@@ -56,7 +57,9 @@ forked_as k i seat p = record k {
 
 -- whether the frames suffice for that; the child is awake
 abbrev pub Forks : Kernel → Kernel → ℕ → Seat → Bool → Type 0
-Forks old new i seat true = (taken_frames (copied old.spaces i seat.place) ≤ old.spaces.frames) × ((p : Process) → slot old.table.places i ≡ Some p → new ≡ waking (forked_as old i seat (on_hart old.spaces p)) new.table.awake)
+Forks old new i seat true = (taken_frames (copied old.spaces i seat.place) ≤ old.spaces.frames)
+    × ((p : Process) → slot old.table.places i ≡ Some p
+    → new ≡ waking (forked_as old i seat (on_hart old.spaces p)) new.table.awake)
 Forks old new i seat false = (old.spaces.frames < taken_frames (copied old.spaces i seat.place)) × (new ≡ old)
 
 -- ---- wait

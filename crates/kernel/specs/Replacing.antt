@@ -27,7 +27,9 @@ pub record HasReplaced (old new : Kernel) (i n argv : ℕ) (started : Started) :
 
 -- it is, or it has no plan, or the frames don't suffice for it beside the old one
 abbrev pub Replaces : Kernel → Kernel → ℕ → ℕ → ℕ → Option Started → Type 0
-Replaces old new i n argv None = HasRead old new × ((p : Plan) → plan_at old.tree.files n (view_at old.spaces i).memory argv ≡ Some p → old.spaces.frames < frames_beside old.spaces p)
+Replaces old new i n argv None = HasRead old new
+    × ((p : Plan) → plan_at old.tree.files n (view_at old.spaces i).memory argv ≡ Some p
+    → old.spaces.frames < frames_beside old.spaces p)
 Replaces old new i n argv (Some started) = HasReplaced old new i n argv started
 
 -- what such a step is answered with

@@ -1,5 +1,6 @@
 -- What a kernel keeps.
-use Rattle.std.specs.Prelude.{Bool, IfSome, List, None, Option, Some, false, is_some, length, option_and_then, slice_index, true, ℕ, ◌%◌, ◌<◌, ◌==◌, ◌||◌, ◌≡◌, ◌≤◌}
+use Rattle.std.specs.Prelude.{Bool, IfSome, List, None, Option, Some, false, is_some, length, option_and_then}
+use Rattle.std.specs.Prelude.{slice_index, true, ℕ, ◌%◌, ◌<◌, ◌==◌, ◌||◌, ◌≡◌, ◌≤◌}
 use Rattle.kernel.specs.Descriptors.{IsCounted}
 use Rattle.kernel.specs.Kernel.{Kernel, lives}
 use Rattle.files.specs.Pipes.{IsPiped}
@@ -123,7 +124,8 @@ IsForBytes opens descriptors w =
 -- a read of a pipe waits only while it has taken nothing
 abbrev pub IsFresh : List (Option Counted) → List (Option ℕ) → Pending → Type 0
 IsFresh opens descriptors w =
-    w.number ≡ Read → IfSome (file_named opens descriptors (low (pending_arg w 0))) (λ f. is_on_pipe f.target ≡ true → w.done ≡ 0)
+    w.number ≡ Read → IfSome (file_named opens descriptors (low (pending_arg w 0)))
+        (λ f. is_on_pipe f.target ≡ true → w.done ≡ 0)
 
 pub record IsAwaiting (opens : List (Option Counted)) (descriptors : List (Option ℕ)) (w : Pending) : Type 0 where
   pub write : IsForPipe opens descriptors w
@@ -143,7 +145,8 @@ WaitsWell opens (Some p) = WaitsAs opens p.descriptors p.mode
 
 -- each open file is counted once for each descriptor that names it, and a pipe stands exactly where some open file is
 -- one of its ends
-pub record IsOpened (files : List (Option Counted)) (pipes : List (Option (List ℕ))) (places : List (Option Process)) : Type 0 where
+pub record IsOpened (files : List (Option Counted)) (pipes : List (Option (List ℕ))) (places : List (Option Process))
+    : Type 0 where
   pub table : IsTable files
   pub counted : IsCounted files places
   pub each : (n : ℕ) (f : unix.OpenFile) → slot (opens_of files) n ≡ Some f → IsOpenFile f

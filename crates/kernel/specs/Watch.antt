@@ -60,7 +60,8 @@ woken_by c t = record t { awake = roused (waits_on c) t.places t.awake }
 
 -- a process, which goes back to its place, has ended, and who may wait for that is awake
 abbrev pub ended_in : Places → ℕ → Process → ℤ → Places
-ended_in t at process status = woken_by Bytes (woken_by Children (exited (record t { places = put t.places at process }) at status))
+ended_in t at process status =
+    woken_by Bytes (woken_by Children (exited (record t { places = put t.places at process }) at status))
 
 -- ---- who is asleep
 
@@ -68,7 +69,8 @@ ended_in t at process status = woken_by Bytes (woken_by Children (exited (record
 abbrev pub IsAsleepAs : State → List (Option Process) → Process → Mode → Type 0
 IsAsleepAs a places p Running = ⊥
 IsAsleepAs a places p Ready = ⊥
-IsAsleepAs a places p (Waiting w) = (p.killed ≡ false) × (can_go_on (seen a places) (with_space no_pages p) w w.number ≡ false)
+IsAsleepAs a places p (Waiting w) = (p.killed ≡ false)
+    × (can_go_on (seen a places) (with_space no_pages p) w w.number ≡ false)
 IsAsleepAs a places p (Zombie status) = Unit {0}
 
 abbrev pub IsAsleep : State → List (Option Process) → Option Process → Type 0

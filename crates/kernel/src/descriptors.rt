@@ -76,8 +76,8 @@ pub fn open_as(table: &mut Table, files: &mut Files, at: usize, file: OpenFile) 
     free
 }
 
-/// One descriptor of an open file is closed, and a pipe that has no end any more goes. Where it was the last one of an open file
-/// on a node, that is told.
+/// One descriptor of an open file is closed, and a pipe that has no end any more goes. Where it was the last one of an
+/// open file on a node, that is told.
 pub fn close<T: Translate>(files: &mut Files, spaces: &mut Spaces<T>, id: usize) -> Option<u32>
     requires { IsPiped spaces.old.pipes (opens_of files.old) }
     ensures node { result ≡ last_node files.old id }

@@ -1,9 +1,12 @@
 //! The kernel's own steps: each touches the table, the spaces and the ticks, and keeps them together.
-ghost use Rattle.std.specs.Prelude.{false, ◌≡◌, ◌≢◌, ◌+◌, ◌++◌, ◌∷◌, ◌<◌, ◌≤◌, ◌%◌, ◌^◌, length, Some, None, true, is_some, IfSome, IfNone, slice_index, unwrap_or, []};
-ghost use Rattle.std.specs.Prelude.{if◌then◌else◌, ◌==◌, option_map, OnOk, OnErr, Ok, Err};
+ghost use Rattle.std.specs.Prelude.{false, ◌≡◌, ◌≢◌, ◌+◌, ◌++◌, ◌∷◌, ◌<◌, ◌≤◌, ◌%◌, ◌^◌, length, Some, None, true};
+ghost use Rattle.std.specs.Prelude.{is_some, IfSome, IfNone, slice_index, unwrap_or, [], if◌then◌else◌, ◌==◌};
+ghost use Rattle.std.specs.Prelude.{option_map, OnOk, OnErr, Ok, Err};
 ghost use Rattle.std.specs.Io.KnownBytes.{Appends};
 ghost use Rattle.std.specs.Option.{option_copied};
-ghost use Rattle.kernel.specs.Kernel.{answered, argument, begun, blocked, descriptors_at, entered, idle, left_as, loaded, marked, on_hart, picked, started, state_of, ticked, typed, waking, Executes, HasEnded};
+ghost use Rattle.kernel.specs.Kernel.{answered, argument, begun, blocked, descriptors_at, entered, idle, left_as};
+ghost use Rattle.kernel.specs.Kernel.{loaded, marked, on_hart, picked, started, state_of, ticked, typed, waking};
+ghost use Rattle.kernel.specs.Kernel.{Executes, HasEnded};
 ghost use Rattle.kernel.specs.Sound.{CanRun, IsAwaiting, IsKernel, IsPending, can_answer};
 ghost use Rattle.kernel.specs.Sound.{CanEnd};
 ghost use Rattle.kernel.specs.Ready.{awaited, seen};
@@ -92,8 +95,8 @@ fn halted_after(pid: u32, status: i32, halted: Option<i32>) -> Option<i32>
     if pid == 1 { Some(status) } else { halted }
 }
 
-// The process of a place ends: its descriptors are closed, who may wait for that is woken, and none runs. The nodes that it held are
-// told.
+// The process of a place ends: its descriptors are closed, who may wait for that is woken, and none runs. The nodes
+// that it held are told.
 fn end<T: Translate>(
     table: &mut Table,
     files: &mut Files,
@@ -279,7 +282,8 @@ impl<D: BlockDev, T: Translate> Kernel<D, T> {
     /// The running process waits.
     pub fn block(&mut self, at: usize, pending: Pending)
         requires running { self.old.spaces.active ≡ Some at }
-        requires pending { IsPending (descriptors_at self.old at) (view_at self.old.spaces at).memory pending pending.number }
+        requires pending { IsPending (descriptors_at self.old at) (view_at self.old.spaces at).memory pending
+                pending.number }
         requires awaits { IsAwaiting self.old.files (descriptors_at self.old at) pending }
         ensures { self.new ≡ blocked self.old at pending }
     {
@@ -299,7 +303,8 @@ impl<D: BlockDev, T: Translate> Kernel<D, T> {
         }
     }
 
-    /// The running process ends with this status, or a process where none runs; also where an access of the device fails.
+    /// The running process ends with this status, or a process where none runs; also where an access of the device
+    /// fails.
     #[inline(never)]
     pub fn finish(&mut self, at: usize, status: i32) -> Result<(), DeviceFault>
         requires { CanEnd self.old at }
@@ -392,10 +397,13 @@ impl<D: BlockDev, T: Translate> Kernel<D, T> {
 
     /// A key was typed. Where `out` fails nothing changes, and a beginning of what shows the key was put out.
     pub fn type_key<W: Out>(&mut self, byte: u8, out: &mut W) -> Result<(), OutFault>
-        ensures ok { OnOk result (self.new ≡ waking (typed self.old (key self.old.console byte).console) self.new.table.awake) }
-        ensures echo { OnOk result (Appends (W.contents out.old) (W.contents out.new) (key self.old.console byte).echo) }
+        ensures ok { OnOk result
+                (self.new ≡ waking (typed self.old (key self.old.console byte).console) self.new.table.awake) }
+        ensures echo { OnOk result
+                (Appends (W.contents out.old) (W.contents out.new) (key self.old.console byte).echo) }
         ensures err { OnErr result (self.new ≡ self.old) }
-        ensures beginning { OnErr result (AppendsBeginning (W.contents out.old) (W.contents out.new) (key self.old.console byte).echo) }
+        ensures beginning { OnErr result
+                (AppendsBeginning (W.contents out.old) (W.contents out.new) (key self.old.console byte).echo) }
         ensures later { W.failures out.old ≤ W.failures out.new }
         ensures cause { OnErr result (Rises (W.failures out.old) (W.failures out.new)) }
     {

@@ -202,8 +202,8 @@ fn answer(spaces: &mut Flat, act: Act) -> Option<bool> {
     }
 }
 
-// Acts in a memory of so many frames, the latter ones after the first; beside each: whether it is done, or so, and how many
-// frames are free then.
+// Acts in a memory of so many frames, the latter ones after the first; beside each: whether it is done, or so, and how
+// many frames are free then.
 struct Case {
     name: &'static str,
     frames: u32,

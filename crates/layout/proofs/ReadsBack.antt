@@ -1,7 +1,11 @@
 -- The round trips: of numbers, and of an inode.
-use Rattle.layout.proofs.Common.{◌≡◌, ℕ, ◌+◌, ◌-◌, ◌*◌, ◌^◌, ◌<◌, ◌≤◌, List, length, take, drop, ap, sym, ◌∙◌, arith, get_or, drop-take, ext_get_or, get_or-drop, length-map-range_with_len, get_or-map-range_with_len, little_number}
-use Rattle.layout.proofs.Common.{little_from-take, little_from-lt, DiskInode, SuperBlock, number_at, numbers_in, [], ◌∷◌, ◌++◌, zero, suc, take-append_seam, drop-drop, little_number-reads_back, spelled, inode_of, inode_bytes, Fits}
-use Rattle.layout.proofs.Common.{entry_of, entry_bytes, EntryFits, super_of, super_bytes, super_numbers, SuperFits, ◌/◌, ◌%◌, refl, map, take-add, length-drop, little_bytes, little_from-cons}
+use Rattle.layout.proofs.Common.{◌≡◌, ℕ, ◌+◌, ◌-◌, ◌*◌, ◌^◌, ◌<◌, ◌≤◌, List, length, take, drop, ap, sym, ◌∙◌, arith}
+use Rattle.layout.proofs.Common.{get_or, drop-take, ext_get_or, get_or-drop, length-map-range_with_len}
+use Rattle.layout.proofs.Common.{get_or-map-range_with_len, little_number, little_from-take, little_from-lt, DiskInode}
+use Rattle.layout.proofs.Common.{SuperBlock, number_at, numbers_in, [], ◌∷◌, ◌++◌, zero, suc, take-append_seam}
+use Rattle.layout.proofs.Common.{drop-drop, little_number-reads_back, spelled, inode_of, inode_bytes, Fits, entry_of}
+use Rattle.layout.proofs.Common.{entry_bytes, EntryFits, super_of, super_bytes, super_numbers, SuperFits, ◌/◌, ◌%◌}
+use Rattle.layout.proofs.Common.{refl, map, take-add, length-drop, little_bytes, little_from-cons}
 use Rattle.layout.specs.declared.Entry.{Entry}
 use Rattle.std.specs.Int.{byte_at, bytes_low_first}
 use Rattle.std.specs.List.{range_with_len}
@@ -28,17 +32,21 @@ pub numbers_in-take : (m n : ℕ) (bytes : List ℕ) → 4 * n ≤ m → numbers
 numbers_in-take m n bytes h =
     ext_get_or 0 _ _ (length-numbers_in n (take m bytes) ∙ sym (length-numbers_in n bytes)) (λ i l.
     let i_in : i < n = omega (arith, length-numbers_in n (take m bytes)) in
-    get_or-numbers_in n (take m bytes) i i_in ∙ number_at-take m i bytes (omega arith) ∙ sym (get_or-numbers_in n bytes i i_in))
+    get_or-numbers_in n (take m bytes) i i_in ∙ number_at-take m i bytes (omega arith)
+        ∙ sym (get_or-numbers_in n bytes i i_in))
 
 -- a number of four bytes has 32 bits
-pub number_at-fits : (bytes : List ℕ) (at k : ℕ) → ((i : ℕ) → get_or bytes i 0 < 2 ^ 8) → number_at (drop at bytes) k < 2 ^ 32
+pub number_at-fits : (bytes : List ℕ) (at k : ℕ) → ((i : ℕ) → get_or bytes i 0 < 2 ^ 8)
+    → number_at (drop at bytes) k < 2 ^ 32
 number_at-fits bytes at k fits =
     little_from-lt 0 4 (drop (4 * k) (drop at bytes)) (λ i.
-    let e : get_or (drop (4 * k) (drop at bytes)) i 0 ≡ get_or bytes (at + (4 * k + i)) 0 = get_or-drop (4 * k) (drop at bytes) i 0 ∙ get_or-drop at bytes (4 * k + i) 0 in
+    let e : get_or (drop (4 * k) (drop at bytes)) i 0 ≡ get_or bytes (at + (4 * k + i)) 0 =
+            get_or-drop (4 * k) (drop at bytes) i 0 ∙ get_or-drop at bytes (4 * k + i) 0 in
     let b = fits (at + (4 * k + i)) in
     omega arith)
 
-pub number_at-spelled : (xs rest : List ℕ) (k : ℕ) → k < length xs → ((i : ℕ) → i < length xs → get_or xs i 0 < 2 ^ 32) → number_at (spelled xs ++ rest) k ≡ get_or xs k 0
+pub number_at-spelled : (xs rest : List ℕ) (k : ℕ) → k < length xs → ((i : ℕ) → i < length xs → get_or xs i 0 < 2 ^ 32)
+    → number_at (spelled xs ++ rest) k ≡ get_or xs k 0
 number_at-spelled [] rest k h fits = absurd (omega arith)
 number_at-spelled (x ∷ xs) rest zero h fits = little_number-reads_back 4 x (spelled xs ++ rest) (fits 0 (omega arith))
 number_at-spelled (x ∷ xs) rest (suc k) h fits =
@@ -47,13 +55,15 @@ number_at-spelled (x ∷ xs) rest (suc k) h fits =
     ∙ ap (little_number 4) (sym (drop-drop (4 * k) 4 (spelled (x ∷ xs) ++ rest)))
     ∙ number_at-spelled xs rest k (omega arith) (λ i l. fits (suc i) (omega arith))
 
-pub numbers_in-spelled : (n : ℕ) (xs rest : List ℕ) → length xs ≡ n → ((i : ℕ) → i < length xs → get_or xs i 0 < 2 ^ 32) → numbers_in n (spelled xs ++ rest) ≡ xs
+pub numbers_in-spelled : (n : ℕ) (xs rest : List ℕ) → length xs ≡ n
+    → ((i : ℕ) → i < length xs → get_or xs i 0 < 2 ^ 32) → numbers_in n (spelled xs ++ rest) ≡ xs
 numbers_in-spelled n xs rest e fits =
     ext_get_or 0 _ _ (length-numbers_in n (spelled xs ++ rest) ∙ sym e) (λ i l.
     let i_in : i < n = omega (arith, length-numbers_in n (spelled xs ++ rest)) in
     get_or-numbers_in n (spelled xs ++ rest) i i_in ∙ number_at-spelled xs rest i (omega arith) fits)
 
-pub inode_of-inode_bytes : (inode : DiskInode) (rest : List ℕ) → Fits inode → inode_of (inode_bytes inode ++ rest) ≡ inode
+pub inode_of-inode_bytes : (inode : DiskInode) (rest : List ℕ) → Fits inode
+    → inode_of (inode_bytes inode ++ rest) ≡ inode
 inode_of-inode_bytes inode rest fits = λ i. record {
   kind = little_number-reads_back 2 inode.kind [] fits.kind i;
   major = little_number-reads_back 2 inode.major [] fits.major i;
@@ -63,7 +73,8 @@ inode_of-inode_bytes inode rest fits = λ i. record {
   addresses = numbers_in-spelled 13 inode.addresses rest fits.places fits.addresses i;
 }
 
-pub entry_of-entry_bytes : (entry : Entry) (rest : List ℕ) → EntryFits entry → entry_of (entry_bytes entry ++ rest) ≡ entry
+pub entry_of-entry_bytes : (entry : Entry) (rest : List ℕ) → EntryFits entry
+    → entry_of (entry_bytes entry ++ rest) ≡ entry
 entry_of-entry_bytes entry rest fits = λ i. record {
   number = little_number-reads_back 2 entry.number (entry.name ++ rest) fits.number i;
   name = (ap (λ n. take n (entry.name ++ rest)) (sym fits.name) ∙ take-append_seam entry.name rest) i;
@@ -98,7 +109,8 @@ bytes-drop k xs are i = omega (arith, get_or-drop k xs i 0, are (k + i))
 -- a byte of a number is one lower in the number without its lowest byte
 byte_at-suc : (i x : ℕ) → byte_at (suc i) x ≡ byte_at i (x / 256)
 byte_at-suc zero x = refl
-byte_at-suc (suc i) x = ap (λ p. x / p % 256) (pow-succ' 256 (suc i)) ∙ ap (λ y. y % 256) (sym (div-div-eq-div-mul x 256 (256 ^ suc i)))
+byte_at-suc (suc i) x = ap (λ p. x / p % 256) (pow-succ' 256 (suc i))
+    ∙ ap (λ y. y % 256) (sym (div-div-eq-div-mul x 256 (256 ^ suc i)))
 
 bytes_low_first-suc : (i n x : ℕ) → bytes_low_first (suc i) n x ≡ bytes_low_first i n (x / 256)
 bytes_low_first-suc i zero x = refl
@@ -132,14 +144,19 @@ spelled-range zero i bytes h are = refl
 spelled-range (suc n) i bytes h are =
     let next : 4 * (i + 1) ≡ 4 * i + 4 = omega arith in
     let whole : 4 + 4 * n ≡ 4 * suc n = omega arith in
-    ap (λ rest. little_bytes 4 (number_at bytes i) ++ rest) (spelled-range n (i + 1) bytes (omega arith) are ∙ ap (λ k. take (4 * n) (drop k bytes)) next)
+    ap (λ rest. little_bytes 4 (number_at bytes i) ++ rest)
+        (spelled-range n (i + 1) bytes (omega arith) are ∙ ap (λ k. take (4 * n) (drop k bytes)) next)
     ∙ in_front (4 * i) 4 (4 * n) bytes (omega arith) are
     ∙ ap (λ k. take k (drop (4 * i) bytes)) whole
 
 -- ---- the records
 
-pub inode_bytes-inode_of : (bytes : List ℕ) → 64 ≤ length bytes → AreBytes bytes → inode_bytes (inode_of bytes) ≡ take 64 bytes
+pub inode_bytes-inode_of : (bytes : List ℕ) → 64 ≤ length bytes → AreBytes bytes
+    → inode_bytes (inode_of bytes) ≡ take 64 bytes
 unfolding numbers_in
 inode_bytes-inode_of bytes h are =
-    let addresses = spelled-range 13 0 (drop 12 bytes) (omega (arith, length-drop 12 bytes)) (bytes-drop 12 bytes are) in
-    rw (addresses, in_front 8 4 52 bytes (omega arith) are, in_front 6 2 56 bytes (omega arith) are, in_front 4 2 58 bytes (omega arith) are, in_front 2 2 60 bytes (omega arith) are) (in_front 0 2 62 bytes (omega arith) are)
+    let addresses = spelled-range 13 0 (drop 12 bytes) (omega (arith, length-drop 12 bytes)) (bytes-drop 12 bytes are)
+            in
+    rw (addresses, in_front 8 4 52 bytes (omega arith) are, in_front 6 2 56 bytes (omega arith) are,
+        in_front 4 2 58 bytes (omega arith) are, in_front 2 2 60 bytes (omega arith) are)
+        (in_front 0 2 62 bytes (omega arith) are)

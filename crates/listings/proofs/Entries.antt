@@ -11,7 +11,8 @@ use Rattle.listings.specs.Listed.{IsAtRest, IsFolder}
 -- ---- files at rest
 
 -- the files of an image are
-pub rests : {image identity : List ℕ} {failures : ℕ} {tree : FileTree} → IsMounted image identity failures tree → IsAtRest tree
+pub rests : {image identity : List ℕ} {failures : ℕ} {tree : FileTree} → IsMounted image identity failures tree
+    → IsAtRest tree
 rests {image} {failures} {tree} mounted = record {
   up = mounted.up;
   rules = mounted.rules;
@@ -20,19 +21,26 @@ rests {image} {failures} {tree} mounted = record {
 
 -- a call that changes no file leaves them so
 pub rests-kept : {old new : FileTree} → new ≡ record old { failures = new.failures } → IsAtRest old → IsAtRest new
-rests-kept {old} {new} same rest = subst IsAtRest (sym same) (record { up = rest.up; rules = rest.rules; linked = rest.linked })
+rests-kept {old} {new} same rest =
+    subst IsAtRest (sym same) (record { up = rest.up; rules = rest.rules; linked = rest.linked })
 
-pub folder-kept : {old new : FileTree} → new ≡ record old { failures = new.failures } → (n : ℕ) → IsFolder old n → IsFolder new n
-folder-kept {old} {new} same n folder = subst (λ (t : FileTree). IsFolder t n) (sym same) (record { links = folder.links; places = folder.places; here = folder.here })
+pub folder-kept : {old new : FileTree} → new ≡ record old { failures = new.failures } → (n : ℕ) → IsFolder old n
+    → IsFolder new n
+folder-kept {old} {new} same n folder =
+    subst (λ (t : FileTree). IsFolder t n) (sym same)
+    (record { links = folder.links; places = folder.places; here = folder.here })
 
 -- ---- what a path reaches
 
-pub reached : {tree : FileTree} → IsAtRest tree → {now : FileTree} → now ≡ record tree { failures = now.failures } → (path : List ℕ) (o : Option ℕ) (n : ℕ) → o ≡ find tree.files 1 path → o ≡ Some n → (node : Node) × (slot now.files n ≡ Some node)
+pub reached : {tree : FileTree} → IsAtRest tree → {now : FileTree} → now ≡ record tree { failures = now.failures }
+    → (path : List ℕ) (o : Option ℕ) (n : ℕ) → o ≡ find tree.files 1 path → o ≡ Some n
+    → (node : Node) × (slot now.files n ≡ Some node)
 reached {tree} rest {now} same path o n is some =
     let used = find-used rest.rules 1 path n (ap is_some rest.rules.root.here) (sym is ∙ some) in
     node-of (slot now.files n) (subst (λ (t : FileTree). IsSome (slot t.files n)) (sym same) used)
 
-pub folder-of : {tree : FileTree} → IsAtRest tree → (n : ℕ) (node : Node) → slot tree.files n ≡ Some node → kind_of node ≡ 1 → IsFolder tree n
+pub folder-of : {tree : FileTree} → IsAtRest tree → (n : ℕ) (node : Node) → slot tree.files n ≡ Some node
+    → kind_of node ≡ 1 → IsFolder tree n
 folder-of rest n (File links bytes) here kind = absurd (omega arith)
 folder-of rest n (Device links major minor) here kind = absurd (omega arith)
 folder-of rest n (Directory zero places) here kind = absurd (omega (arith, rest.linked n (Directory zero places) here))

@@ -21,7 +21,9 @@ pub record IsFileOf (image path bytes : List ℕ) : Type 0 where
 
 -- where the path reaches nothing an empty file is made as the calls make one
 abbrev pub IsBegun : Files → List ℕ → Files → Type 0
-IsBegun files path begun = (begun ≡ files) ⊎ ((find files 1 path ≡ None) × ((n : ℕ) × (made_in files 1 path (File 1 []) ≡ Some (record { files = begun; number = n }))))
+IsBegun files path begun = (begun ≡ files)
+    ⊎ ((find files 1 path ≡ None)
+    × ((n : ℕ) × (made_in files 1 path (File 1 []) ≡ Some (record { files = begun; number = n }))))
 
 -- the file has these bytes in place of its own
 pub record HasPut (files : Files) (n : ℕ) (bytes : List ℕ) (new : Files) : Type 0 where

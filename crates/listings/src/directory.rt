@@ -166,7 +166,8 @@ pub fn write_entries<D: BlockDev, W: Write>(
     Ok(())
 }
 
-/// Writes a line for each entry of the directory that a path reaches from the root of a disk, whose image is checked first:
+/// Writes a line for each entry of the directory that a path reaches from the root of a disk, whose image is checked
+/// first:
 /// its name, its type, its number and its size.
 pub fn write_directory<D: BlockDev + Drop, W: Write>(
     alloc: Global,

@@ -17,8 +17,8 @@ fn refusal(kind: u16, device: TreeFault) -> TreeFault {
     }
 }
 
-/// The number of the file that a path reaches from the root, none where it reaches nothing. A directory is refused as `IsDir`,
-/// and a device as `device`.
+/// The number of the file that a path reaches from the root, none where it reaches nothing. A directory is refused as
+/// `IsDir`, and a device as `device`.
 pub fn file_at<D: BlockDev>(
     tree: &mut Tree<D>,
     path: &[u8],

@@ -1,5 +1,5 @@
-//! What the program takes out of images and files: the entries of directories, the bytes of files and the instructions of programs. It
-//! puts files into images, too.
+//! What the program takes out of images and files: the entries of directories, the bytes of files and the instructions
+//! of programs. It puts files into images, too.
 #![tactic(auto)]
 
 mod directory;

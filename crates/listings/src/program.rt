@@ -98,8 +98,8 @@ fn write_segment<W: Write>(file: &[u8], segment: &LoadSegment, out: &mut W) -> i
     Ok(())
 }
 
-/// Writes a line for each whole word of the segments that may be executed: its address, itself, and the instruction that it
-/// is.
+/// Writes a line for each whole word of the segments that may be executed: its address, itself, and the instruction
+/// that it is.
 pub fn write_program<W: Write>(
     file: &[u8],
     segments: &[LoadSegment],

@@ -37,7 +37,8 @@ fn make_missing<D: BlockDev>(tree: &mut Tree<D>, path: &[u8]) -> Result<(), Tree
     Ok(())
 }
 
-// A file gets these bytes in place of those that it has. `Blocks` comes where they are too many for the disk or for a file.
+// A file gets these bytes in place of those that it has. `Blocks` comes where they are too many for the disk or for a
+// file.
 fn replace<D: BlockDev>(tree: &mut Tree<D>, number: usize, bytes: &[u8]) -> Result<(), TreeFault>
     requires rests { IsAtRest tree.old }
     requires file { IsFile tree.old.files number }
@@ -64,9 +65,9 @@ fn put<D: BlockDev>(tree: &mut Tree<D>, path: &[u8], bytes: &[u8]) -> Result<(),
     }
 }
 
-/// The disk on which the file that a path reaches from the root has these bytes, whose image is checked first. A file is made
-/// where there is none. A directory is refused as `IsDir`, a device as `Exists`, and bytes for which the disk has no room, or that
-/// no file can have, as `Blocks`.
+/// The disk on which the file that a path reaches from the root has these bytes, whose image is checked first. A file
+/// is made where there is none. A directory is refused as `IsDir`, a device as `Exists`, and bytes for which the disk
+/// has no room, or that no file can have, as `Blocks`.
 pub fn write_file<D: BlockDev + Drop>(
     alloc: Global,
     disk: D,

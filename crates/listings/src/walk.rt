@@ -128,9 +128,9 @@ fn go_on<D: BlockDev, W: Write>(
     write_listed(tree, usize::from(entry.number), way.path.as_slice(), out)
 }
 
-/// Writes the directory that a path reaches from the root of a disk, whose image is checked first, and all directories below
-/// it: of each its path and a line for each entry, as `write_directory` does, with an empty line between two. Those in a
-/// directory come behind it, in the order of its entries, each with those below it.
+/// Writes the directory that a path reaches from the root of a disk, whose image is checked first, and all directories
+/// below it: of each its path and a line for each entry, as `write_directory` does, with an empty line between two.
+/// Those in a directory come behind it, in the order of its entries, each with those below it.
 pub fn write_tree<D: BlockDev + Drop, W: Write>(
     alloc: Global,
     disk: D,

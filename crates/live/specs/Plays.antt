@@ -22,5 +22,7 @@ script_events [] = []
 script_events (c ∷ commands) = events_of c ++ script_events commands
 
 -- what events are answered with whose bytes go to a writer
-abbrev pub RunWrites : {W : Type 0} → (W → Option (List ℕ)) → View → View → Writer W → Writer W → List Event → Result (Unit {0}) Halt → Type 0
-RunWrites contents old new from to events result = RunGives old new events (contents from.inner) (contents to.inner) (Rises from.failed to.failed) result
+abbrev pub RunWrites : {W : Type 0} → (W → Option (List ℕ)) → View → View → Writer W → Writer W → List Event
+    → Result (Unit {0}) Halt → Type 0
+RunWrites contents old new from to events result =
+    RunGives old new events (contents from.inner) (contents to.inner) (Rises from.failed to.failed) result

@@ -1,5 +1,6 @@
 -- The events of a session: what a machine is given as its keyboard gives keys, nothing or its end.
-use Rattle.std.specs.Prelude.{Bool, Err, List, Ok, Option, Result, [], false, fold, if◌then◌else◌, map, option_map, replicate, true, ℕ, ◌+◌, ◌++◌, ◌∷◌, ◌≡◌, ◌≤◌, length, suc, zero, ◌⊎◌}
+use Rattle.std.specs.Prelude.{Bool, Err, List, Ok, Option, Result, [], false, fold, if◌then◌else◌, map, option_map}
+use Rattle.std.specs.Prelude.{replicate, true, ℕ, ◌+◌, ◌++◌, ◌∷◌, ◌≡◌, ◌≤◌, length, suc, zero, ◌⊎◌}
 use Rattle.calls.specs.declared.halt.Halt.{Halt}
 use Rattle.console.specs.declared.output.Writer.{Writer}
 use Rattle.kernel.specs.Idle.{is_anyone_asleep, is_idle}
@@ -78,7 +79,8 @@ Follows all events (Ok u) = events ≡ all
 Follows all events (Err halt) = (rest : List Event) × (events ++ rest ≡ all)
 
 -- a machine was given the events, up to the one at which it halted; just these are kept, and their bytes printed
-pub record IsGiven (all : List Event) (old new : View) (before after : Option (List ℕ)) (failed fails : ℕ) (kept keeps : Option (List Event)) (result : Result (Unit {0}) Halt) : Type 0 where
+pub record IsGiven (all : List Event) (old new : View) (before after : Option (List ℕ)) (failed fails : ℕ)
+    (kept keeps : Option (List Event)) (result : Result (Unit {0}) Halt) : Type 0 where
   pub events : List Event
   pub follows : Follows all events result
   pub records : keeps ≡ option_map (λ es. es ++ events) kept
@@ -86,7 +88,8 @@ pub record IsGiven (all : List Event) (old new : View) (before after : Option (L
   pub later : failed ≤ fails
 
 -- the same, read off an output that takes the bytes and a keeper that keeps the events
-abbrev pub GivesTo : {W S : Type 0} → (W → Option (List ℕ)) → (W → ℕ) → (S → Option (List Event)) → View → View → W → W → S → S → List Event → Result (Unit {0}) Halt → Type 0
+abbrev pub GivesTo : {W S : Type 0} → (W → Option (List ℕ)) → (W → ℕ) → (S → Option (List Event)) → View → View → W → W
+    → S → S → List Event → Result (Unit {0}) Halt → Type 0
 GivesTo contents failures kept old new from to before after events result =
     IsGiven events old new (contents from) (contents to) (failures from) (failures to) (kept before) (kept after) result
 
@@ -94,20 +97,25 @@ GivesTo contents failures kept old new from to before after events result =
 abbrev pub GaveFirst : Option (List Given) → List Given → Option (List Given) → Type 0
 GaveFirst gives gave later = gives ≡ option_map (λ rest. gave ++ rest) later
 
--- why a session ended before the machine halted: the keyboard gave its end, the console's bytes could not be written out, or it was
--- asked as often as a counter goes
+-- why a session ended before the machine halted: the keyboard gave its end, the console's bytes could not be written
+-- out, or it was asked as often as a counter goes
 abbrev pub Ends : List Given → ℕ → ℕ → Result (Unit {0}) Halt → Type 0
-Ends gave failed fails (Ok u) = ((before : List Given) × (gave ≡ before ++ End ∷ [])) ⊎ (Rises failed fails ⊎ (length gave ≡ 0xffff_ffff_ffff_ffff))
+Ends gave failed fails (Ok u) = ((before : List Given) × (gave ≡ before ++ End ∷ []))
+    ⊎ (Rises failed fails ⊎ (length gave ≡ 0xffff_ffff_ffff_ffff))
 Ends gave failed fails (Err halt) = Unit {0}
 
 -- a session for what a keyboard gave
-pub record IsSession (quantum : ℕ) (gives later : Option (List Given)) (old new : View) (before after : Option (List ℕ)) (failed fails : ℕ) (kept keeps : Option (List Event)) (result : Result (Unit {0}) Halt) : Type 0 where
+pub record IsSession (quantum : ℕ) (gives later : Option (List Given)) (old new : View)
+    (before after : Option (List ℕ)) (failed fails : ℕ) (kept keeps : Option (List Event))
+    (result : Result (Unit {0}) Halt) : Type 0 where
   pub gave : List Given
   pub first : GaveFirst gives gave later
   pub given : IsGiven (session quantum old.state gave) old new before after failed fails kept keeps result
   pub ends : Ends gave failed fails result
 
 -- the same, read off a writer and a terminal
-abbrev pub SessionGives : {W S : Type 0} → (W → Option (List ℕ)) → (S → Option (List Given)) → (S → Option (List Event)) → ℕ → View → View → Writer W → Writer W → S → S → Result (Unit {0}) Halt → Type 0
+abbrev pub SessionGives : {W S : Type 0} → (W → Option (List ℕ)) → (S → Option (List Given))
+    → (S → Option (List Event)) → ℕ → View → View → Writer W → Writer W → S → S → Result (Unit {0}) Halt → Type 0
 SessionGives contents gives kept quantum old new from to before after result =
-    IsSession quantum (gives before) (gives after) old new (contents from.inner) (contents to.inner) from.failed to.failed (kept before) (kept after) result
+    IsSession quantum (gives before) (gives after) old new (contents from.inner) (contents to.inner) from.failed
+        to.failed (kept before) (kept after) result

@@ -25,8 +25,8 @@ const BATCH: u32 = 65536;
 /// So many steps at least go in one loop: to enter it costs as much as a few steps.
 const LOOP: u32 = 8;
 
-// One event, at which somebody looks on. It is inlined, so that the loop of a run has the machine's step in it: what calls it else
-// gives an event that is known.
+// One event, at which somebody looks on. It is inlined, so that the loop of a run has the machine's step in it: what
+// calls it else gives an event that is known.
 #[inline(always)]
 fn step<D: BlockDev, T: Translate, V: Watch, W: Out>(
     machine: &mut Machine<D, T>,
@@ -34,7 +34,8 @@ fn step<D: BlockDev, T: Translate, V: Watch, W: Out>(
     watch: &mut V,
     out: &mut W,
 ) -> Result<(), Halt>
-    ensures gives { StepGivesTo W.contents W.failures machine.old machine.new out.old out.new (next machine.old.state event) result }
+    ensures gives { StepGivesTo W.contents W.failures machine.old machine.new out.old out.new
+            (next machine.old.state event) result }
     ensures later { W.failures out.old ≤ W.failures out.new }
 {
     watch.before(machine, event);
@@ -52,7 +53,8 @@ fn each<D: BlockDev, T: Translate, V: Watch, W: Out>(
     out: &mut W,
 ) -> Result<(), Halt>
     requires { IsUp machine.old }
-    ensures gives { RunGivesTo W.contents W.failures machine.old machine.new out.old out.new (replicate times event) result }
+    ensures gives { RunGivesTo W.contents W.failures machine.old machine.new out.old out.new (replicate times event)
+            result }
     ensures later { W.failures out.old ≤ W.failures out.new }
 {
     let mut left = times;
@@ -72,7 +74,8 @@ fn batch<D: BlockDev, T: Translate, V: Watch, W: Out>(
     out: &mut W,
 ) -> Result<(), Halt>
     requires { IsUp machine.old }
-    ensures gives { RunGivesTo W.contents W.failures machine.old machine.new out.old out.new (replicate times event) result }
+    ensures gives { RunGivesTo W.contents W.failures machine.old machine.new out.old out.new (replicate times event)
+            result }
     ensures later { W.failures out.old ≤ W.failures out.new }
 {
     match event {
@@ -81,8 +84,8 @@ fn batch<D: BlockDev, T: Translate, V: Watch, W: Out>(
     }
 }
 
-// Before more of an event that came so often: the console's bytes are written out, if there would be more events than a batch has since that
-// was done. What the writer doesn't take it keeps back, and is asked again.
+// Before more of an event that came so often: the console's bytes are written out, if there would be more events than a
+// batch has since that was done. What the writer doesn't take it keeps back, and is asked again.
 fn write_out<V: Watch, W: Write>(
     event: Event,
     made: u32,

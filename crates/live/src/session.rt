@@ -1,6 +1,7 @@
 //! A session: a machine is given what is typed, and time.
 ghost use Rattle.std.specs.Prelude.{◌≡◌, ◌≤◌, OnOk, false, map, replicate, true};
-ghost use Rattle.live.specs.Sessions.{GivesTo, SessionGives, answered, is_end, is_ticked, keys_of, mood_of, moved, steps, ticks_of, work};
+ghost use Rattle.live.specs.Sessions.{GivesTo, SessionGives, answered, is_end, is_ticked, keys_of, mood_of, moved};
+ghost use Rattle.live.specs.Sessions.{steps, ticks_of, work};
 ghost use Rattle.machine.specs.Gives.{RunGivesTo};
 ghost use Rattle.machine.specs.View.{IsUp};
 ghost use Rattle.unixmodel.specs.declared.event.Event.TheVariants.{Step};
@@ -56,14 +57,16 @@ fn ticks(mood: Mood, given: &Given) -> bool
     }
 }
 
-// Steps until no process runs and none is ready, so many at most; and how many they were, with the one at which the machine halted.
+// Steps until no process runs and none is ready, so many at most; and how many they were, with the one at which the
+// machine halted.
 fn work<D: BlockDev, T: Translate, W: Out>(
     machine: &mut Machine<D, T>,
     most: u32,
     out: &mut W,
 ) -> (u32, Result<(), Halt>)
     requires { IsUp machine.old }
-    ensures gives { RunGivesTo W.contents W.failures machine.old machine.new out.old out.new (replicate result.0 Step) result.1 }
+    ensures gives { RunGivesTo W.contents W.failures machine.old machine.new out.old out.new (replicate result.0 Step)
+            result.1 }
     ensures count { result.0 ≤ work most machine.old.state }
     ensures all { OnOk result.1 (result.0 ≡ work most machine.old.state) }
     ensures later { W.failures out.old ≤ W.failures out.new }
@@ -87,7 +90,8 @@ fn advance<D: BlockDev, T: Translate, S: Terminal, W: Out>(
     out: &mut W,
 ) -> Result<(), Halt>
     requires { IsUp machine.old }
-    ensures given { GivesTo W.contents W.failures S.kept machine.old machine.new out.old out.new terminal.old terminal.new
+    ensures given { GivesTo W.contents W.failures S.kept machine.old machine.new out.old out.new terminal.old
+            terminal.new
         (steps quantum machine.old.state) result }
     ensures gives { S.gives terminal.new ≡ S.gives terminal.old }
 {
@@ -104,7 +108,8 @@ fn type_keys<D: BlockDev, T: Translate, S: Terminal, W: Out>(
     out: &mut W,
 ) -> Result<(), Halt>
     requires { IsUp machine.old }
-    ensures given { GivesTo W.contents W.failures S.kept machine.old machine.new out.old out.new terminal.old terminal.new
+    ensures given { GivesTo W.contents W.failures S.kept machine.old machine.new out.old out.new terminal.old
+            terminal.new
         (map event.Key keys.now) result }
     ensures gives { S.gives terminal.new ≡ S.gives terminal.old }
 {
@@ -120,7 +125,8 @@ fn tick_if<D: BlockDev, T: Translate, S: Terminal, W: Out>(
     out: &mut W,
 ) -> Result<(), Halt>
     requires { IsUp machine.old }
-    ensures given { GivesTo W.contents W.failures S.kept machine.old machine.new out.old out.new terminal.old terminal.new
+    ensures given { GivesTo W.contents W.failures S.kept machine.old machine.new out.old out.new terminal.old
+            terminal.new
         (ticks_of is_due) result }
     ensures gives { S.gives terminal.new ≡ S.gives terminal.old }
 {
@@ -141,7 +147,8 @@ fn answer<D: BlockDev, T: Translate, S: Terminal, W: Out>(
     out: &mut W,
 ) -> Result<(), Halt>
     requires { IsUp machine.old }
-    ensures given { GivesTo W.contents W.failures S.kept machine.old machine.new out.old out.new terminal.old terminal.new
+    ensures given { GivesTo W.contents W.failures S.kept machine.old machine.new out.old out.new terminal.old
+            terminal.new
         (answered mood given.now) result }
     ensures gives { S.gives terminal.new ≡ S.gives terminal.old }
 {
@@ -173,7 +180,8 @@ fn go_on<D: BlockDev, T: Translate, S: Terminal, W: Out>(
 ) -> Result<(), Halt>
     requires up { IsUp machine.old }
     requires more { is_end given.now ≡ false }
-    ensures given { GivesTo W.contents W.failures S.kept machine.old machine.new out.old out.new terminal.old terminal.new
+    ensures given { GivesTo W.contents W.failures S.kept machine.old machine.new out.old out.new terminal.old
+            terminal.new
         (moved quantum machine.old.state given.now) result }
     ensures gives { S.gives terminal.new ≡ S.gives terminal.old }
 {
@@ -182,9 +190,9 @@ fn go_on<D: BlockDev, T: Translate, S: Terminal, W: Out>(
     advance(machine, quantum, terminal, out)
 }
 
-/// A session: quanta of steps, keys and ticks, as the keyboard gives keys or none, until its end. The events are recorded, and the
-/// console's bytes are written out before each question to the keyboard; where that fails, the session ends too. `Err` says how
-/// the machine halted.
+/// A session: quanta of steps, keys and ticks, as the keyboard gives keys or none, until its end. The events are
+/// recorded, and the console's bytes are written out before each question to the keyboard; where that fails, the
+/// session ends too. `Err` says how the machine halted.
 pub fn session<D: BlockDev, T: Translate, S: Terminal, W: Write>(
     machine: &mut Machine<D, T>,
     quantum: u32,
@@ -192,7 +200,8 @@ pub fn session<D: BlockDev, T: Translate, S: Terminal, W: Write>(
     out: &mut Writer<W>,
 ) -> Result<(), Halt>
     requires { IsUp machine.old }
-    ensures { SessionGives W.contents S.gives S.kept quantum machine.old machine.new out.old out.new terminal.old terminal.new result }
+    ensures { SessionGives W.contents S.gives S.kept quantum machine.old machine.new out.old out.new terminal.old
+            terminal.new result }
 {
     advance(machine, quantum, terminal, out)?;
     for _moves in 0..u64::MAX {

@@ -56,7 +56,8 @@ pub trait Terminal {
     /// The events that are recorded, where they are known.
     ghost kept: { Self → Option (List Event) };
 
-    /// What was typed since the keyboard was last asked. It may wait for that, but for a busy machine only a short time.
+    /// What was typed since the keyboard was last asked. It may wait for that, but for a busy machine only a short
+    /// time.
     fn ask(&mut self, mood: Mood) -> Given
         ensures gives { gives self.old ≡ option_map (λ rest. result ∷ rest) (gives self.new) }
         ensures kept { kept self.new ≡ kept self.old };

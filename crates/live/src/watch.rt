@@ -18,8 +18,8 @@ pub trait Watch {
         ended: Result<(), Halt>,
     );
 
-    /// Whether it looks at each step. Where it doesn't, steps that follow one another are given at once, and `before` and `after` aren't
-    /// called for them.
+    /// Whether it looks at each step. Where it doesn't, steps that follow one another are given at once, and `before`
+    /// and `after` aren't called for them.
     #[inline]
     fn sees_steps(&self) -> bool {
         true
@@ -34,7 +34,8 @@ pub trait Watch {
         }
     }
 
-    /// The console's bytes were written out, before this event that comes again and again, and came so many times so far.
+    /// The console's bytes were written out, before this event that comes again and again, and came so many times so
+    /// far.
     #[inline]
     fn written_out(&mut self, _event: Event, _made: u32) {}
 

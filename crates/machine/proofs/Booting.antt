@@ -1,21 +1,33 @@
 -- The kernel and the state that begin with the plan of /init, and the machine that boots from an image.
-use Rattle.machine.proofs.Common.{[], all_in, alone, ap, arith, bare_of, begun, BootFault, count_at, count_in, Counted, Err, false, file_of, Files, files_on, FileTree, find, first_of, first_process, first_state, FitsNode, FrameCount}
-use Rattle.machine.proofs.Common.{free_slots, has_space, holders, home_in, homes_at, if_fits, IfErr, IfOk, IfSome, init_path, is_some, IsCounted, IsErrOf, IsFolder, IsInUse, IsKernel, IsMounted, IsOpened, IsOpenFile, IsPlaced, IsSome}
-use Rattle.machine.proofs.Common.{IsUnbooted, IsUnmounted, joined, joined-free_slots, KeepsTree, Kernel, le_trans, length, length-replicate, List, Loaded, loaded_of, names-none, names_in, nat_tests, no_pages, no_spaces, Node, node_in}
-use Rattle.machine.proofs.Common.{node_of, node_on, NoInit, NoMemory, None, none-some, number_at, Ok, one_in, open_limit, opens_of, Option, option_and_then, option_map, page_frames, PassesOne, Places, Plan, plan, plan_with, Process, refl}
-use Rattle.machine.proofs.Common.{replicate, Result, same_Some, Serves, slot, slot-opens, Some, sound_view, Spaces, SpaceView, stacked, State, state_of, subst, suc, sum_by-cons, sum_by-replicate, sym, taken_frames, true, View, WaitsWell}
-use Rattle.machine.proofs.Common.{with_args, with_hold, with_place, with_view, zero, zeros, ℕ, ◌%◌, ◌*◌, ◌++◌, ◌+◌, ◌/◌, ◌<◌, ◌==◌, ◌^◌, ◌↔◌, ◌∙◌, ◌∷◌, ◌≡◌, ◌≢◌, ◌≤◌, ◌⊎◌}
+use Rattle.machine.proofs.Common.{[], all_in, alone, ap, arith, bare_of, begun, BootFault, count_at, count_in, Counted}
+use Rattle.machine.proofs.Common.{Err, false, file_of, Files, files_on, FileTree, find, first_of, first_process}
+use Rattle.machine.proofs.Common.{first_state, FitsNode, FrameCount, free_slots, has_space, holders, home_in, homes_at}
+use Rattle.machine.proofs.Common.{if_fits, IfErr, IfOk, IfSome, init_path, is_some, IsCounted, IsErrOf, IsFolder}
+use Rattle.machine.proofs.Common.{IsInUse, IsKernel, IsMounted, IsOpened, IsOpenFile, IsPlaced, IsSome, IsUnbooted}
+use Rattle.machine.proofs.Common.{IsUnmounted, joined, joined-free_slots, KeepsTree, Kernel, le_trans, length}
+use Rattle.machine.proofs.Common.{length-replicate, List, Loaded, loaded_of, names-none, names_in, nat_tests, no_pages}
+use Rattle.machine.proofs.Common.{no_spaces, Node, node_in, node_of, node_on, NoInit, NoMemory, None, none-some}
+use Rattle.machine.proofs.Common.{number_at, Ok, one_in, open_limit, opens_of, Option, option_and_then, option_map}
+use Rattle.machine.proofs.Common.{page_frames, PassesOne, Places, Plan, plan, plan_with, Process, refl, replicate}
+use Rattle.machine.proofs.Common.{Result, same_Some, Serves, slot, slot-opens, Some, sound_view, Spaces, SpaceView}
+use Rattle.machine.proofs.Common.{stacked, State, state_of, subst, suc, sum_by-cons, sum_by-replicate, sym}
+use Rattle.machine.proofs.Common.{taken_frames, true, View, WaitsWell, with_args, with_hold, with_place, with_view}
+use Rattle.machine.proofs.Common.{zero, zeros, ℕ, ◌%◌, ◌*◌, ◌++◌, ◌+◌, ◌/◌, ◌<◌, ◌==◌, ◌^◌, ◌↔◌, ◌∙◌, ◌∷◌, ◌≡◌, ◌≢◌}
+use Rattle.machine.proofs.Common.{◌≤◌, ◌⊎◌}
 use Rattle.unixmodel.specs.Start.{init_plan, start}
 use Rattle.machine.specs.declared.image_boot.Init.{Init}
-use Rattle.machine.specs.Booted.{boot_fault, FindsInit, first_places, init_kernel, IsAccepted, IsBegun, IsBooted, IsInit, IsInPlace, IsNotBegun, IsUnheld, LacksInit, PutsInit, view_by}
-use Rattle.machine.proofs.FlatLemmas.{fresh-fits, fresh-over, none-free, one-home, one-sound, first-alone, same-past, alone-space, created, no-frames, outside}
+use Rattle.machine.specs.Booted.{boot_fault, FindsInit, first_places, init_kernel, IsAccepted, IsBegun, IsBooted}
+use Rattle.machine.specs.Booted.{IsInit, IsInPlace, IsNotBegun, IsUnheld, LacksInit, PutsInit, view_by}
+use Rattle.machine.proofs.FlatLemmas.{fresh-fits, fresh-over, none-free, one-home, one-sound, first-alone, same-past}
+use Rattle.machine.proofs.FlatLemmas.{alone-space, created, no-frames, outside}
 use Rattle.tree.specs.Whole.{IsWhole}
 use Rattle.unixmodel.specs.OpenFiles as unix_files
 use Rattle.unixmodel.specs.Outcome.{no_descriptors}
 use Rattle.unixmodel.specs.Process as unix
 use Rattle.calls.proofs.Opens.{some-there}
 use Rattle.names.proofs.Finding.{find-used}
-use Rattle.programs.proofs.Loads.{IsProgram, is-program, HasProgram, args-long, has-program, length-stacked, no-plan, plan-is}
+use Rattle.programs.proofs.Loads.{IsProgram, is-program, HasProgram, args-long, has-program, length-stacked, no-plan}
+use Rattle.programs.proofs.Loads.{plan-is}
 use Rattle.programs.proofs.Headings.{serves-told}
 use Rattle.programs.specs.declared.arguments.Arguments.{Arguments}
 use Rattle.programs.specs.declared.headers.Program.{Program}
@@ -31,32 +43,43 @@ use Rattle.machine.specs.declared.fault.BootFault.TheVariants.{Device, Image}
 
 -- the state that process 1 begins with
 abbrev pub begun_with : Files → ℕ → ℕ → Plan → State
-begun_with files limit frames new = first_state files limit frames (free_slots open_limit) (first_process new no_descriptors)
+begun_with files limit frames new =
+    first_state files limit frames (free_slots open_limit) (first_process new no_descriptors)
 
-pub state-init : (tree : FileTree) (frames : ℕ) (new : Plan) → state_of (init_kernel tree frames new) ≡ begun_with tree.files tree.block_limit frames new
+pub state-init : (tree : FileTree) (frames : ℕ) (new : Plan)
+    → state_of (init_kernel tree frames new) ≡ begun_with tree.files tree.block_limit frames new
 unfolding joined free_slots
 state-init tree frames new =
-    ap (λ (places : List (Option unix.Process)). record (begun_with tree.files tree.block_limit frames new) { places = Some (first_process new no_descriptors) ∷ places })
+    ap (λ (places : List (Option unix.Process)). record (begun_with tree.files tree.block_limit frames new)
+        { places = Some (first_process new no_descriptors) ∷ places })
     (joined-free_slots 63 (replicate 63 None))
 
-starts-with : (files : Files) (limit frames : ℕ) (new : Plan) → init_plan files ≡ Some new → start files limit frames ≡ if_fits (begun_with files limit frames new)
+starts-with : (files : Files) (limit frames : ℕ) (new : Plan) → init_plan files ≡ Some new
+    → start files limit frames ≡ if_fits (begun_with files limit frames new)
 unfolding start
 starts-with files limit frames new is = rw is refl
 
-pub start-init : (tree : FileTree) (frames : ℕ) (new : Plan) → init_plan tree.files ≡ Some new → 4 + page_frames (length new.memory) ≤ frames → start tree.files tree.block_limit frames ≡ Some (state_of (init_kernel tree frames new))
+pub start-init : (tree : FileTree) (frames : ℕ) (new : Plan) → init_plan tree.files ≡ Some new
+    → 4 + page_frames (length new.memory) ≤ frames
+    → start tree.files tree.block_limit frames ≡ Some (state_of (init_kernel tree frames new))
 start-init tree frames new is fits =
-    starts-with tree.files tree.block_limit frames new is ∙ fresh-fits tree.files tree.block_limit frames (free_slots open_limit) new no_descriptors fits ∙ ap Some (sym (state-init tree frames new))
+    starts-with tree.files tree.block_limit frames new is
+        ∙ fresh-fits tree.files tree.block_limit frames (free_slots open_limit) new no_descriptors fits
+        ∙ ap Some (sym (state-init tree frames new))
 
 start-planless : (files : Files) (limit frames : ℕ) → init_plan files ≡ None → start files limit frames ≡ None
 unfolding start
 start-planless files limit frames none = rw none refl
 
 -- there is no plan, or the frames don't suffice
-pub start-none : (files : Files) (limit frames : ℕ) → ((p : Plan) → init_plan files ≡ Some p → frames < 4 + page_frames (length p.memory)) → start files limit frames ≡ None
+pub start-none : (files : Files) (limit frames : ℕ)
+    → ((p : Plan) → init_plan files ≡ Some p → frames < 4 + page_frames (length p.memory))
+    → start files limit frames ≡ None
 start-none files limit frames over = go (init_plan files) refl where
   go : (o : Option Plan) → init_plan files ≡ o → start files limit frames ≡ None
   go None is = start-planless files limit frames is
-  go (Some new) is = starts-with files limit frames new is ∙ fresh-over files limit frames (free_slots open_limit) new no_descriptors (over new is)
+  go (Some new) is = starts-with files limit frames new is
+      ∙ fresh-over files limit frames (free_slots open_limit) new no_descriptors (over new is)
 
 -- ---- the kernel
 
@@ -73,15 +96,19 @@ init-counted : (new : Plan) → IsCounted no_files (first_places new).places
 unfolding free_slots
 init-counted new n =
     let none : count_at no_files n ≡ 0 = ap count_in (same-past (Option Counted) None 100 n) in
-    omega (arith, none, sum_by-cons (names_in n) (Some (first_of new)) (replicate 63 None), sum_by-replicate (names_in n) 63 None, names-none n)
+    omega (arith, none, sum_by-cons (names_in n) (Some (first_of new)) (replicate 63 None),
+        sum_by-replicate (names_in n) 63 None, names-none n)
 
 init-each : (n : ℕ) (f : unix_files.OpenFile) → slot (opens_of no_files) n ≡ Some f → IsOpenFile f
 init-each n f at =
-    absurd (none-some f (sym (slot-opens no_files n ∙ ap (option_map (λ (c : Counted). file_of c.file)) (same-past (Option Counted) None 100 n)) ∙ at))
+    absurd (none-some f (sym
+        (slot-opens no_files n ∙ ap (option_map (λ (c : Counted). file_of c.file))
+        (same-past (Option Counted) None 100 n)) ∙ at))
 
 init-opened : (new : Plan) → IsOpened no_files (replicate 100 None) (first_places new).places
 init-opened new = record {
-  table = record { all = length-replicate {A = Option Counted} 100 None; named = λ i c at. absurd (none-some c (sym (same-past (Option Counted) None 100 i) ∙ at)) };
+  table = record { all = length-replicate {A = Option Counted} 100 None;
+      named = λ i c at. absurd (none-some c (sym (same-past (Option Counted) None 100 i) ∙ at)) };
   counted = init-counted new;
   each = init-each;
   all = length-replicate {A = Option (List ℕ)} 100 None;
@@ -107,7 +134,8 @@ root-held (suc (suc m)) more (suc (suc n)) =
     rw other (same-past ℕ 0 m n)
 
 -- a tree that was read since
-module _ {old tree : FileTree} (unheld : IsUnheld old) (same : tree ≡ record old { failures = tree.failures }) (whole : IsWhole tree) where
+module _ {old tree : FileTree} (unheld : IsUnheld old) (same : tree ≡ record old { failures = tree.failures })
+    (whole : IsWhole tree) where
   files_same : tree.files ≡ old.files
   files_same = ap (λ (t : FileTree). t.files) same
 
@@ -121,12 +149,15 @@ module _ {old tree : FileTree} (unheld : IsUnheld old) (same : tree ≡ record o
   root-there none = none-some _ (sym none ∙ rules-same.root.here)
 
   root-within : 1 < unheld.count
-  root-within = let low = (whole.numbers 1 root-there).0 in omega (arith, low, ap length holds-same, length-replicate {A = ℕ} unheld.count 0)
+  root-within = let low = (whole.numbers 1 root-there).0
+      in omega (arith, low, ap length holds-same, length-replicate {A = ℕ} unheld.count 0)
 
   pub root-few : holders tree.holds 1 < 65535
-  root-few = let none : holders tree.holds 1 ≡ 0 = ap (λ h. holders h 1) holds-same ∙ same-past ℕ 0 unheld.count 1 in omega (arith, none)
+  root-few = let none : holders tree.holds 1 ≡ 0 = ap (λ h. holders h 1) holds-same
+      ∙ same-past ℕ 0 unheld.count 1 in omega (arith, none)
 
-  init-fits : (k : ℕ) (c : Counted) → slot no_files k ≡ Some c → FitsNode c.file c.file.target (node_of tree.files (node_on c.file.target))
+  init-fits : (k : ℕ) (c : Counted) → slot no_files k ≡ Some c
+      → FitsNode c.file c.file.target (node_of tree.files (node_on c.file.target))
   init-fits k c at = absurd (none-some c (sym (same-past (Option Counted) None 100 k) ∙ at))
 
   init-used : (new : Plan) → IsInUse (record tree { holds = with_hold tree.holds 1 }) no_files (first_places new).places
@@ -134,27 +165,39 @@ module _ {old tree : FileTree} (unheld : IsUnheld old) (same : tree ≡ record o
     rules = rules-same;
     zero = whole.zero;
     within = whole.within;
-    holds = λ n. ap (λ h. holders (with_hold h 1) n) holds-same ∙ root-held unheld.count root-within n ∙ root-only new n;
-    held = λ n node at bare. absurd (let some = unheld.linked n node (ap (λ (files : Files). slot files n) (sym files_same) ∙ at) in omega (arith, some, bare));
+    holds = λ n. ap (λ h. holders (with_hold h 1) n) holds-same ∙ root-held unheld.count root-within n
+        ∙ root-only new n;
+    held = λ n node at bare. absurd
+        (let some = unheld.linked n node (ap (λ (files : Files). slot files n) (sym files_same) ∙ at)
+        in omega (arith, some, bare));
     fits = init-fits;
-    homes = first-alone (λ o. IfSome (home_in o) (λ d. IsFolder (slot tree.files d))) (first_of new) (rw rules-same.root.here tt) tt;
+    homes = first-alone (λ o. IfSome (home_in o) (λ d. IsFolder (slot tree.files d))) (first_of new)
+        (rw rules-same.root.here tt) tt;
   }
 
-  pub init-sound : (frames : ℕ) (new : Plan) → 4 + page_frames (length new.memory) ≤ frames → new.pc % 4 ≡ 0 → IsKernel (init_kernel tree frames new)
+  pub init-sound : (frames : ℕ) (new : Plan) → 4 + page_frames (length new.memory) ≤ frames → new.pc % 4 ≡ 0
+      → IsKernel (init_kernel tree frames new)
   unfolding free_slots
   init-sound frames new fits aligned =
-      one-sound (record tree { holds = with_hold tree.holds 1 }) (first_of new) (view_by new) frames no_files (init-placed new aligned) refl fits (init-opened new) (init-used new)
+      one-sound (record tree { holds = with_hold tree.holds 1 }) (first_of new) (view_by new) frames no_files
+          (init-placed new aligned) refl fits (init-opened new) (init-used new)
 
 -- ---- the kernel as it is made
 
 -- the frames don't suffice, or there is no plan
-pub not-begun : (tree : FileTree) (frames : ℕ) (s put : Spaces) → s.frames ≡ frames → (told : Option Init) → told ≡ None → PutsInit tree.files s.frames put told → start tree.files tree.block_limit frames ≡ None
+pub not-begun : (tree : FileTree) (frames : ℕ) (s put : Spaces) → s.frames ≡ frames → (told : Option Init)
+    → told ≡ None → PutsInit tree.files s.frames put told → start tree.files tree.block_limit frames ≡ None
 not-begun tree frames s put count told none puts =
     let lacks : LacksInit tree.files s.frames = subst (PutsInit tree.files s.frames put) none puts in
     start-none tree.files tree.block_limit frames (λ p is. let more = lacks p is in omega (arith, more, count))
 
-module _ {old mid : FileTree} (unheld : IsUnheld old) (same : mid ≡ record old { failures = mid.failures }) (whole : IsWhole mid) {frames : ℕ} (s put : Spaces) (count : s.frames ≡ frames) {init : Init} {told_init : Option Init} (is_init : told_init ≡ Some init)
-    (puts : PutsInit old.files s.frames put told_init) {held : FileTree} (holds_root : held ≡ record mid { holds = with_hold mid.holds 1 }) {table : Places} (first : table ≡ first_places (bare_of init)) {opens : List (Option Counted)} (none : opens ≡ free_slots 100) where
+module _ {old mid : FileTree} (unheld : IsUnheld old) (same : mid ≡ record old { failures = mid.failures })
+    (whole : IsWhole mid) {frames : ℕ} (s put : Spaces) (count : s.frames ≡ frames) {init : Init}
+    {told_init : Option Init} (is_init : told_init ≡ Some init)
+    (puts : PutsInit old.files s.frames put told_init) {held : FileTree}
+        (holds_root : held ≡ record mid { holds = with_hold mid.holds 1 }) {table : Places}
+        (first : table ≡ first_places (bare_of init)) {opens : List (Option Counted)} (none : opens ≡ free_slots 100)
+        where
   placed : IsInPlace old.files s.frames put init
   placed = subst (PutsInit old.files s.frames put) is_init puts
 
@@ -162,21 +205,29 @@ module _ {old mid : FileTree} (unheld : IsUnheld old) (same : mid ≡ record old
   spaces-are = placed.spaces ∙ ap (λ (n : ℕ). alone n (view_by placed.plan)) count
 
   table-is : table ≡ first_places placed.plan
-  table-is = first ∙ ap (λ (p : Process). let t : Places = record { places = Some p ∷ free_slots 63; last = 63; next_pid = 2; awake = all_in 64 } in t) placed.bare
+  table-is = first ∙ ap (λ (p : Process).
+      let t : Places = record { places = Some p ∷ free_slots 63; last = 63; next_pid = 2; awake = all_in 64 } in t)
+      placed.bare
 
   kernel-is : begun held table put opens ≡ init_kernel mid frames placed.plan
   kernel-is = λ i. begun (holds_root i) (table-is i) (spaces-are i) (none i)
 
   pub kernel-sound : IsKernel (begun held table put opens)
-  kernel-sound = subst IsKernel (sym kernel-is) (init-sound unheld same whole frames placed.plan (let fits = placed.fits in omega (arith, fits, count)) placed.aligned)
+  kernel-sound = subst IsKernel (sym kernel-is)
+      (init-sound unheld same whole frames placed.plan (let fits = placed.fits in omega (arith, fits, count))
+      placed.aligned)
 
-  pub begun-init : {kernel : Kernel} → kernel ≡ begun held table put opens → {m : View} → m ≡ sound_view (state_of kernel) kernel.tree.failures kernel.tree.identity → old.failures ≤ mid.failures → IsBegun old frames m
+  pub begun-init : {kernel : Kernel} → kernel ≡ begun held table put opens → {m : View}
+      → m ≡ sound_view (state_of kernel) kernel.tree.failures kernel.tree.identity → old.failures ≤ mid.failures
+      → IsBegun old frames m
   begun-init {kernel} made machine later =
       let fits = placed.fits in
-      let planned : init_plan mid.files ≡ Some placed.plan = ap (λ (t : FileTree). init_plan t.files) same ∙ placed.is in
+      let planned : init_plan mid.files ≡ Some placed.plan = ap (λ (t : FileTree). init_plan t.files) same
+              ∙ placed.is in
       let is : kernel ≡ init_kernel mid frames placed.plan = made ∙ kernel-is in
       rw (machine, is) (record {
-        starts = sym (ap (λ (t : FileTree). start t.files t.block_limit frames) same) ∙ start-init mid frames placed.plan planned (omega (arith, fits, count));
+        starts = sym (ap (λ (t : FileTree). start t.files t.block_limit frames) same)
+            ∙ start-init mid frames placed.plan planned (omega (arith, fits, count));
         up = record { sound = refl; goes = refl };
         same_device = ap (λ (t : FileTree). t.identity) same;
         later = later;
@@ -190,7 +241,8 @@ abbrev plan_of : Option (List ℕ) → Option Plan
 plan_of = option_and_then (λ file. plan file (init_path ∷ []))
 
 -- of the file that its path finds
-plan_found : (files : Files) (n : ℕ) → find files 1 init_path ≡ Some n → init_plan files ≡ plan_of (file_bytes (slot files n))
+plan_found : (files : Files) (n : ℕ) → find files 1 init_path ≡ Some n
+    → init_plan files ≡ plan_of (file_bytes (slot files n))
 unfolding init_plan
 plan_found files n found = ap (λ o. plan_of (option_and_then (λ m. file_bytes (slot files m)) o)) found
 
@@ -202,26 +254,34 @@ no-program : (o : Option (List ℕ)) → option_and_then program_in o ≡ None �
 no-program None none = refl
 no-program (Some file) none = no-plan file none (Some (init_path ∷ []))
 
-pub plan-none : (files : Files) (n : ℕ) → find files 1 init_path ≡ Some n → option_and_then program_in (file_bytes (slot files n)) ≡ None → init_plan files ≡ None
+pub plan-none : (files : Files) (n : ℕ) → find files 1 init_path ≡ Some n
+    → option_and_then program_in (file_bytes (slot files n)) ≡ None → init_plan files ≡ None
 plan-none files n found none = plan_found files n found ∙ no-program (file_bytes (slot files n)) none
 
-module _ (files : Files) (n : ℕ) (program : Program) (found : find files 1 init_path ≡ Some n) (has : HasProgram files n program) where
+module _ (files : Files) (n : ℕ) (program : Program) (found : find files 1 init_path ≡ Some n)
+    (has : HasProgram files n program) where
   abbrev is : IsProgram (file_at files n) program
   is = has.is
 
   planned : init_plan files ≡ with_args is.loaded.pages program.header.entry (init_path ∷ [])
-  planned = plan_found files n found ∙ ap plan_of has.bytes ∙ plan-is (file_at files n) program is (Some (init_path ∷ []))
+  planned = plan_found files n found ∙ ap plan_of has.bytes
+      ∙ plan-is (file_at files n) program is (Some (init_path ∷ []))
 
-  plan-passed : (told : Option Arguments) → PassesOne (init_path ++ 0 ∷ []) program.pages told → (l : Loaded) → loaded_of (file_at files n) ≡ Some l → init_plan files ≡ option_map (plan_with l.pages program.header.entry) told
+  plan-passed : (told : Option Arguments) → PassesOne (init_path ++ 0 ∷ []) program.pages told → (l : Loaded)
+      → loaded_of (file_at files n) ≡ Some l
+      → init_plan files ≡ option_map (plan_with l.pages program.header.entry) told
   plan-passed told passes l loaded =
       planned
       ∙ passes init_path refl is.loaded.pages program.header.entry is.pages
-      ∙ ap (λ (x : Loaded). option_map (plan_with x.pages program.header.entry) told) (same_Some is.loaded l (sym is.is ∙ loaded))
+      ∙ ap (λ (x : Loaded). option_map (plan_with x.pages program.header.entry) told)
+          (same_Some is.loaded l (sym is.is ∙ loaded))
 
   -- the frames don't suffice for its pages
   too-long : (frames : ℕ) → frames < 4 + page_frames (program.pages + 2) → LacksInit files frames
   too-long frames over p planned-as =
-      let long : length p.memory ≡ program.pages + 2 = args-long is.loaded.pages program.header.entry (init_path ∷ []) p (sym planned ∙ planned-as) ∙ ap (λ n. n + 2) is.pages in
+      let long : length p.memory ≡ program.pages + 2 =
+              args-long is.loaded.pages program.header.entry (init_path ∷ []) p (sym planned ∙ planned-as)
+              ∙ ap (λ n. n + 2) is.pages in
       rw long over
 
 -- ---- reading it
@@ -230,7 +290,8 @@ abbrev Resolves : FileTree → FileTree → Option ℕ → Type 0
 Resolves old mid number = (mid ≡ record old { failures = mid.failures }) × (number ≡ find old.files 1 init_path)
 
 abbrev Programs : FileTree → FileTree → ℕ → Option Program → Type 0
-Programs mid new n told = IsRead mid new told (option_and_then program_in (file_bytes (slot mid.files n))) × IfSome told (λ program. program.pages ≤ 2 ^ 52)
+Programs mid new n told = IsRead mid new told (option_and_then program_in (file_bytes (slot mid.files n)))
+    × IfSome told (λ program. program.pages ≤ 2 ^ 52)
 
 -- and what is told of /init
 abbrev Answered : FileTree → FileTree → ℕ → Option Init → Type 0
@@ -240,10 +301,14 @@ lacks-plan : (files : Files) (frames : ℕ) → init_plan files ≡ None → Lac
 lacks-plan files frames none p is = absurd (none-some p (sym none ∙ is))
 
 -- there is no /init
-pub unresolved : {old mid : FileTree} {number : Option ℕ} (frames : ℕ) → Serves old mid (Ok number) (Resolves old mid) → number ≡ None → Answered old mid frames None
-unresolved {old} {mid} {number} frames serves none = serves-told None (serves.told.0, lacks-plan old.files frames (plan-lost old.files (sym serves.told.1 ∙ none))) serves.up serves.same_device serves.cause.later
+pub unresolved : {old mid : FileTree} {number : Option ℕ} (frames : ℕ) → Serves old mid (Ok number) (Resolves old mid)
+    → number ≡ None → Answered old mid frames None
+unresolved {old} {mid} {number} frames serves none =
+    serves-told None (serves.told.0, lacks-plan old.files frames (plan-lost old.files (sym serves.told.1 ∙ none)))
+    serves.up serves.same_device serves.cause.later
 
-module _ {old mid : FileTree} {number : Option ℕ} (serves : Serves old mid (Ok number) (Resolves old mid)) {n : ℕ} (some : number ≡ Some n) where
+module _ {old mid : FileTree} {number : Option ℕ} (serves : Serves old mid (Ok number) (Resolves old mid)) {n : ℕ}
+    (some : number ≡ Some n) where
   files-same : mid.files ≡ old.files
   files-same = ap (λ (t : FileTree). t.files) serves.told.0
 
@@ -251,20 +316,26 @@ module _ {old mid : FileTree} {number : Option ℕ} (serves : Serves old mid (Ok
   found = sym serves.told.1 ∙ some
 
   pub resolved-node : KeepsTree old.files → (node : Node) × (slot mid.files n ≡ Some node)
-  resolved-node keeps = some-there (slot mid.files n) (subst (λ (files : Files). IsSome (slot files n)) (sym files-same) (find-used keeps 1 init_path n (ap is_some keeps.root.here) found))
+  resolved-node keeps = some-there (slot mid.files n)
+      (subst (λ (files : Files). IsSome (slot files n)) (sym files-same)
+      (find-used keeps 1 init_path n (ap is_some keeps.root.here) found))
 
   module _ {new : FileTree} {told : Option Program} (reads : Serves mid new (Ok told) (Programs mid new n)) where
     pub left : new ≡ record old { failures = new.failures }
     left = reads.told.0.same ∙ ap (λ (t : FileTree). record t { failures = new.failures }) serves.told.0
 
     tells : (frames : ℕ) (told : Option Init) → FindsInit old.files frames told → Answered old new frames told
-    tells frames told finds = serves-told told (left, finds) reads.up (reads.same_device ∙ serves.same_device) (le_trans serves.cause.later reads.cause.later)
+    tells frames told finds =
+        serves-told told (left, finds) reads.up (reads.same_device ∙ serves.same_device)
+        (le_trans serves.cause.later reads.cause.later)
 
     told-is : told ≡ option_and_then program_in (file_bytes (slot old.files n))
-    told-is = reads.told.0.value ∙ ap (λ (files : Files). option_and_then program_in (file_bytes (slot files n))) files-same
+    told-is = reads.told.0.value
+        ∙ ap (λ (files : Files). option_and_then program_in (file_bytes (slot files n))) files-same
 
     pub no-init : (frames : ℕ) → told ≡ None → Answered old new frames None
-    no-init frames none = tells frames None (lacks-plan old.files frames (plan-none old.files n found (sym told-is ∙ none)))
+    no-init frames none = tells frames None
+        (lacks-plan old.files frames (plan-none old.files n found (sym told-is ∙ none)))
 
     module _ {program : Program} (is : told ≡ Some program) where
       has : HasProgram old.files n program
@@ -281,13 +352,19 @@ module _ {old mid : FileTree} {number : Option ℕ} (serves : Serves old mid (Ok
         pub few-pages : needed < frames → frames < 2 ^ 32 → 4096 * (program.pages + 2) < 2 ^ 64
         few-pages less small = omega (arith, count, less, small)
 
-        pub argless-init : (told : Option Arguments) → PassesOne (init_path ++ 0 ∷ []) program.pages told → told ≡ None → Answered old new frames None
-        argless-init told passes none = tells frames None (lacks-plan old.files frames (plan-passed old.files n program found has None (subst (PassesOne (init_path ++ 0 ∷ []) program.pages) none passes) has.is.loaded has.is.is))
+        pub argless-init : (told : Option Arguments) → PassesOne (init_path ++ 0 ∷ []) program.pages told → told ≡ None
+            → Answered old new frames None
+        argless-init told passes none =
+            tells frames None (lacks-plan old.files frames
+            (plan-passed old.files n program found has None
+            (subst (PassesOne (init_path ++ 0 ∷ []) program.pages) none passes) has.is.loaded has.is.is))
 
-        pub init-found : needed < frames → (a : Arguments) → PassesOne (init_path ++ 0 ∷ []) program.pages (Some a) → Answered old new frames (Some (record { number = n; program = program; arguments = a }))
+        pub init-found : needed < frames → (a : Arguments) → PassesOne (init_path ++ 0 ∷ []) program.pages (Some a)
+            → Answered old new frames (Some (record { number = n; program = program; arguments = a }))
         init-found less a passes =
             tells frames (Some (record { number = n; program = program; arguments = a }))
-            (record { file = has.file; program = has.program_is; fits = omega (arith, less, count); plan = plan-passed old.files n program found has (Some a) passes })
+            (record { file = has.file; program = has.program_is; fits = omega (arith, less, count);
+                plan = plan-passed old.files n program found has (Some a) passes })
 
 -- ---- putting it in its place
 
@@ -302,10 +379,12 @@ module _ (files : Files) (frames : ℕ) (init : Init) (is : IsInit files frames 
   long = length-stacked program-of.loaded.pages init.arguments.page ∙ ap (λ n. n + 2) program-of.pages
 
   aligned : init.program.header.entry % 4 ≡ 0
-  aligned = let entry : init.program.header.entry ≡ number_at 8 24 (file_at files init.number) / 4 * 4 = ap (λ h. h.entry) program-of.read in omega (arith, entry)
+  aligned = let entry : init.program.header.entry ≡ number_at 8 24 (file_at files init.number) / 4 * 4 =
+      ap (λ h. h.entry) program-of.read in omega (arith, entry)
 
   pub init-put : (made new : Spaces) → made ≡ alone frames no_pages
-      → ((l : Loaded) → loaded_of (file_at files init.number) ≡ Some l → new ≡ with_view made 0 (paged (stacked l.pages init.arguments.page))) → IsInPlace files frames new init
+      → ((l : Loaded) → loaded_of (file_at files init.number) ≡ Some l
+          → new ≡ with_view made 0 (paged (stacked l.pages init.arguments.page))) → IsInPlace files frames new init
   init-put made new is-made done =
       let pages = program-of.pages in
       let fits = is.fits in
@@ -314,7 +393,10 @@ module _ (files : Files) (frames : ℕ) (init : Init) (is : IsInit files frames 
         plan = the_plan;
         is = is.plan program-of.loaded program-of.is;
         fits = rw long fits;
-        spaces = done program-of.loaded program-of.is ∙ ap (λ (s : Spaces). with_view s 0 (paged (the_plan).memory)) is-made ∙ ap (λ (k : ℕ). alone frames (let h : SpaceView = record { memory = (the_plan).memory; size = k } in h)) size;
+        spaces = done program-of.loaded program-of.is
+            ∙ ap (λ (s : Spaces). with_view s 0 (paged (the_plan).memory)) is-made
+            ∙ ap (λ (k : ℕ). alone frames (let h : SpaceView = record { memory = (the_plan).memory; size = k } in h))
+            size;
         bare = refl;
         aligned = aligned;
       }
@@ -331,8 +413,10 @@ pub record IsReady (tree : FileTree) (made : Spaces) (init : Init) : Type 0 wher
   pub space : has_space made 0 ≡ true
   pub room : HasRoom made 0 (init.program.pages + 2)
 
-module _ {old mid : FileTree} {told : Option Init} {frames : ℕ} (serves : Answered old mid frames told) {init : Init} (some : told ≡ Some init)
-    (s made : Spaces) (none : s ≡ no_spaces s.frames) (done : made ≡ with_view s 0 no_pages) (all : frames + taken_frames s ≡ s.frames) where
+module _ {old mid : FileTree} {told : Option Init} {frames : ℕ} (serves : Answered old mid frames told) {init : Init}
+    (some : told ≡ Some init)
+    (s made : Spaces) (none : s ≡ no_spaces s.frames) (done : made ≡ with_view s 0 no_pages)
+        (all : frames + taken_frames s ≡ s.frames) where
   every : frames ≡ s.frames
   every = omega (arith, all, ap taken_frames none ∙ taken-none s.frames)
 
@@ -348,7 +432,8 @@ module _ {old mid : FileTree} {told : Option Init} {frames : ℕ} (serves : Answ
   pub ready : s.frames ≤ 32768 → IsReady mid made init
   ready small =
       let fits = finds.fits in
-      let none_there : taken_frames (with_place made 0 None) ≡ 0 = ap (λ (x : Spaces). taken_frames (with_place x 0 None)) alone-now ∙ taken-none s.frames in
+      let none_there : taken_frames (with_place made 0 None) ≡ 0 =
+              ap (λ (x : Spaces). taken_frames (with_place x 0 None)) alone-now ∙ taken-none s.frames in
       record {
         file = subst (λ (files : Files). IsFile files init.number) (sym same) finds.file;
         program_is = ap (λ (files : Files). program_in (file_at files init.number)) same ∙ finds.program;
@@ -358,16 +443,21 @@ module _ {old mid : FileTree} {told : Option Init} {frames : ℕ} (serves : Answ
       }
 
   -- /init is in its place
-  pub in-place : (new : Spaces) → ((l : Loaded) → loaded_of (file_at mid.files init.number) ≡ Some l → new ≡ with_view made 0 (paged (stacked l.pages init.arguments.page))) → IsInPlace old.files s.frames new init
-  in-place new loads = init-put old.files s.frames init finds made new alone-now (λ l loaded. loads l (ap (λ (files : Files). loaded_of (file_at files init.number)) same ∙ loaded))
+  pub in-place : (new : Spaces)
+      → ((l : Loaded) → loaded_of (file_at mid.files init.number) ≡ Some l
+      → new ≡ with_view made 0 (paged (stacked l.pages init.arguments.page))) → IsInPlace old.files s.frames new init
+  in-place new loads = init-put old.files s.frames init finds made new alone-now
+      (λ l loaded. loads l (ap (λ (files : Files). loaded_of (file_at files init.number)) same ∙ loaded))
 
 -- ---- from the files of an image to the machine that boots from it
 
-module _ {image identity : List ℕ} {failures : ℕ} {tree : FileTree} (mounted : IsMounted image identity failures tree) (frames : ℕ) where
+module _ {image identity : List ℕ} {failures : ℕ} {tree : FileTree} (mounted : IsMounted image identity failures tree)
+    (frames : ℕ) where
   accepted : IsAccepted image tree.files
   accepted = record { denotes = mounted.denotes; only = mounted.only }
 
-  pub booted-from : (r : Result View BootFault) → IfOk r (IsBegun tree frames) → IfOk r (IsBooted image identity failures frames)
+  pub booted-from : (r : Result View BootFault) → IfOk r (IsBegun tree frames)
+      → IfOk r (IsBooted image identity failures frames)
   booted-from (Ok m) begun = record {
     files = tree.files;
     accepted = accepted;
@@ -378,14 +468,17 @@ module _ {image identity : List ℕ} {failures : ℕ} {tree : FileTree} (mounted
   }
   booted-from (Err f) begun = tt
 
-module _ {D : Type 0} (identity : D → List ℕ) (count : D → ℕ) (disk : D) {image : List ℕ} {tree : FileTree} (mounted : IsMounted image (identity disk) (count disk) tree) (frames : ℕ) where
+module _ {D : Type 0} (identity : D → List ℕ) (count : D → ℕ) (disk : D) {image : List ℕ} {tree : FileTree}
+    (mounted : IsMounted image (identity disk) (count disk) tree) (frames : ℕ) where
   unbooted : (f : BootFault) → IsNotBegun identity count tree frames f → IsUnbooted identity count disk image frames f
   unbooted (Image f) why = absurd why
   unbooted FrameCount why = absurd why
   unbooted Device why =
       let rises = why.rises in
       let later = mounted.later in
-      (why.disk, record { reaches = record { same_device = why.same_device ∙ mounted.same_device; later = le_trans mounted.later why.later }; rises = omega (arith, rises, later) })
+      (why.disk, record { reaches = record
+          { same_device = why.same_device ∙ mounted.same_device; later = le_trans mounted.later why.later }; rises =
+          omega (arith, rises, later) })
   unbooted NoMemory why = tt
   unbooted NoInit why = record {
     files = tree.files;
@@ -393,16 +486,23 @@ module _ {D : Type 0} (identity : D → List ℕ) (count : D → ℕ) (disk : D)
     none = ap (λ limit. start tree.files limit frames) (sym mounted.limit) ∙ why;
   }
 
-  pub refused-from : (r : Result View BootFault) → IfErr r (IsNotBegun identity count tree frames) → IfErr r (IsUnbooted identity count disk image frames)
+  pub refused-from : (r : Result View BootFault) → IfErr r (IsNotBegun identity count tree frames)
+      → IfErr r (IsUnbooted identity count disk image frames)
   refused-from (Ok m) why = tt
   refused-from (Err f) why = unbooted f why
 
 -- where the count is in range the fault isn't that
-pub counted-from : {D : Type 0} (identity : D → List ℕ) (count : D → ℕ) (tree : FileTree) (frames : ℕ) → 64 ≤ frames → frames ≤ 32768 → (r : Result View BootFault) → IfErr r (IsNotBegun identity count tree frames) → IsErrOf r FrameCount ↔ ((frames < 64) ⊎ (32768 < frames))
-counted-from identity count tree frames least most r why = (λ e. absurd (subst (λ x. IfErr x (IsNotBegun identity count tree frames)) e why), λ out. absurd (outside frames least most out))
+pub counted-from : {D : Type 0} (identity : D → List ℕ) (count : D → ℕ) (tree : FileTree) (frames : ℕ) → 64 ≤ frames
+    → frames ≤ 32768 → (r : Result View BootFault) → IfErr r (IsNotBegun identity count tree frames)
+    → IsErrOf r FrameCount ↔ ((frames < 64) ⊎ (32768 < frames))
+counted-from identity count tree frames least most r why =
+    (λ e. absurd (subst (λ x. IfErr x (IsNotBegun identity count tree frames)) e why),
+    λ out. absurd (outside frames least most out))
 
 -- why there are no files
-pub unmounted-why : {D : Type 0} (identity : D → List ℕ) (count : D → ℕ) (disk : D) (image : List ℕ) (frames : ℕ) (f : ImageFault) → IsUnmounted identity count disk image f → IsUnbooted identity count disk image frames (boot_fault f)
+pub unmounted-why : {D : Type 0} (identity : D → List ℕ) (count : D → ℕ) (disk : D) (image : List ℕ) (frames : ℕ)
+    (f : ImageFault) → IsUnmounted identity count disk image f
+    → IsUnbooted identity count disk image frames (boot_fault f)
 unmounted-why identity count disk image frames fault.Device u = u.failed refl
 unmounted-why identity count disk image frames fault.NoMemory u = tt
 unmounted-why identity count disk image frames f u = (tt, u.tells, u.none tt)

@@ -1,13 +1,16 @@
 -- The names that the lemmas of this crate import from elsewhere, passed on from one place. Declares nothing.
-pub use Rattle.std.proofs.Common.{◌%◌, ◌*◌, ◌+◌, ◌++◌, ◌-◌, ◌/◌, ◌<◌, [], ◌^◌, ap, append-nil, arith, Bool, drop, Err, false, is_some, le_refl, le_trans, length, length-append, List, min, None, Ok, Option, refl, replicate, Result, Some}
-pub use Rattle.std.proofs.Common.{subst, suc, sym, take, true, zero, ℕ, ℤ, ◌↔◌, ◌∙◌, ◌∷◌, ◌≡◌, ◌≢◌, ◌≤◌, ◌⊎◌}
+pub use Rattle.std.proofs.Common.{◌%◌, ◌*◌, ◌+◌, ◌++◌, ◌-◌, ◌/◌, ◌<◌, [], ◌^◌, ap, append-nil, arith, Bool, drop, Err}
+pub use Rattle.std.proofs.Common.{false, is_some, le_refl, le_trans, length, length-append, List, min, None, Ok, Option}
+pub use Rattle.std.proofs.Common.{refl, replicate, Result, Some, subst, suc, sym, take, true, zero, ℕ, ℤ, ◌↔◌, ◌∙◌, ◌∷◌}
+pub use Rattle.std.proofs.Common.{◌≡◌, ◌≢◌, ◌≤◌, ◌⊎◌}
 pub use Rattle.std.proofs.lemmas.Bool.Decides.{nat_tests}
 pub use Rattle.std.proofs.lemmas.List.{length-replicate, take-append-drop, take-append-le, take_more}
 pub use Rattle.std.proofs.lemmas.List.Folds.{sum_by-replicate}
 pub use Rattle.std.proofs.lemmas.List.Sums.{sum_by-cons}
 pub use Rattle.std.proofs.lemmas.Option.{none-some, same_Some}
 pub use Rattle.std.proofs.lemmas.Result.{err_from_is_err_and}
-pub use Rattle.std.specs.Prelude.{◌==◌, IfErr, IfOk, IfSome, IsErrOf, IsSome, nat_lt, OnErr, OnOk, option_and_then, option_map, sum_by, ◌||◌}
+pub use Rattle.std.specs.Prelude.{◌==◌, IfErr, IfOk, IfSome, IsErrOf, IsSome, nat_lt, OnErr, OnOk, option_and_then}
+pub use Rattle.std.specs.Prelude.{option_map, sum_by, ◌||◌}
 pub use Rattle.std.specs.Result.{is_err}
 pub use Rattle.std.proofs.KnownBytes.{Appends-nil}
 pub use Rattle.calls.specs.declared.halt.Halt.{Halt}
@@ -20,7 +23,8 @@ pub use Rattle.imagerules.specs.Content.{image_of}
 pub use Rattle.kernel.proofs.Joined.{joined-free_slots, seat_of-first}
 pub use Rattle.kernel.proofs.Watching.{watched-all}
 pub use Rattle.kernel.specs.Descriptors.{IsCounted, named_by, names_in}
-pub use Rattle.kernel.specs.Holding.{files_on, FitsNode, home_in, homes_at, IsFolder, IsInUse, node_in, node_of, node_on}
+pub use Rattle.kernel.specs.Holding.{files_on, FitsNode, home_in, homes_at, IsFolder, IsInUse, node_in, node_of}
+pub use Rattle.kernel.specs.Holding.{node_on}
 pub use Rattle.kernel.specs.Kernel.{begun, Kernel, state_of}
 pub use Rattle.kernel.specs.Sound.{IsKernel, IsOpened, IsOpenFile, IsPlace, IsPlaced, WaitsWell}
 unfoldable pub use Rattle.kernel.specs.Whole.{joined}
@@ -30,7 +34,8 @@ unfoldable pub use Rattle.proc.specs.Mask.{all_in}
 pub use Rattle.proc.specs.Places.{is_running, Places, seat_of, seated}
 pub use Rattle.proc.specs.declared.process.Process.{Process}
 pub use Rattle.programs.specs.Passed.{PassesOne, plan_with, stacked}
-pub use Rattle.spaces.specs.Spaces.{has_space, no_pages, no_spaces, Spaces, SpaceView, taken_frames, with_place, with_view}
+pub use Rattle.spaces.specs.Spaces.{has_space, no_pages, no_spaces, Spaces, SpaceView, taken_frames, with_place}
+pub use Rattle.spaces.specs.Spaces.{with_view}
 pub use Rattle.tree.specs.Holding.{holders, unheld, with_hold}
 pub use Rattle.tree.specs.Tree.{FileTree, Serves}
 pub use Rattle.unixmodel.specs.Calls.{After, quiet}

@@ -1,17 +1,25 @@
 -- A flat program in memory, and the state and the kernel that begin with it.
-use Rattle.machine.proofs.Common.{[], all_in, alone, ap, arith, Bool, BootFault, ceil_div, count_at, count_in, Counted, Err, false, file_of, Files, files_on, FileTree, first, first_kernel, first_process, first_state, FitsNode, flat_space}
-use Rattle.machine.proofs.Common.{FrameCount, free_slots, has_space, holders, holds, home_in, homes_at, if_fits, IfOk, IfSome, is_running, is_some, IsCounted, IsErrOf, IsFlat, IsFolder, IsInUse, IsKernel, IsOpened, IsOpenFile, IsPlace}
-use Rattle.machine.proofs.Common.{IsPlaced, joined, joined-free_slots, le, length, length-append, length-replicate, List, named_by, names, names-free, names_in, nat_tests, no_pages, no_spaces, node_in, node_of, node_on, NoInit, NoMemory}
-use Rattle.machine.proofs.Common.{None, none-some, Ok, one_in, OnErr, opened, opens_of, Option, option_map, page_frames, pages_of, place_for, Plan, Process, refl, replicate, Result, round_down, same_Some, seated, slot, slot-opens, Some}
-use Rattle.machine.proofs.Common.{Spaces, SpaceView, stack_marks, stacked, State, state_of, subst, suc, sum_by, sum_by-cons, sum_by-replicate, sym, taken_frames, true, WaitsWell, with_args, with_hold, with_view, write_bytes, zero, zeros, ℕ}
-use Rattle.machine.proofs.Common.{◌*◌, ◌++◌, ◌+◌, ◌-◌, ◌/◌, ◌<◌, ◌==◌, ◌↔◌, ◌∙◌, ◌∷◌, ◌≡◌, ◌≢◌, ◌≤◌, ◌⊎◌}
+use Rattle.machine.proofs.Common.{[], all_in, alone, ap, arith, Bool, BootFault, ceil_div, count_at, count_in, Counted}
+use Rattle.machine.proofs.Common.{Err, false, file_of, Files, files_on, FileTree, first, first_kernel, first_process}
+use Rattle.machine.proofs.Common.{first_state, FitsNode, flat_space, FrameCount, free_slots, has_space, holders, holds}
+use Rattle.machine.proofs.Common.{home_in, homes_at, if_fits, IfOk, IfSome, is_running, is_some, IsCounted, IsErrOf}
+use Rattle.machine.proofs.Common.{IsFlat, IsFolder, IsInUse, IsKernel, IsOpened, IsOpenFile, IsPlace, IsPlaced, joined}
+use Rattle.machine.proofs.Common.{joined-free_slots, le, length, length-append, length-replicate, List, named_by, names}
+use Rattle.machine.proofs.Common.{names-free, names_in, nat_tests, no_pages, no_spaces, node_in, node_of, node_on}
+use Rattle.machine.proofs.Common.{NoInit, NoMemory, None, none-some, Ok, one_in, OnErr, opened, opens_of, Option}
+use Rattle.machine.proofs.Common.{option_map, page_frames, pages_of, place_for, Plan, Process, refl, replicate, Result}
+use Rattle.machine.proofs.Common.{round_down, same_Some, seated, slot, slot-opens, Some, Spaces, SpaceView, stack_marks}
+use Rattle.machine.proofs.Common.{stacked, State, state_of, subst, suc, sum_by, sum_by-cons, sum_by-replicate, sym}
+use Rattle.machine.proofs.Common.{taken_frames, true, WaitsWell, with_args, with_hold, with_view, write_bytes, zero}
+use Rattle.machine.proofs.Common.{zeros, ℕ, ◌*◌, ◌++◌, ◌+◌, ◌-◌, ◌/◌, ◌<◌, ◌==◌, ◌↔◌, ◌∙◌, ◌∷◌, ◌≡◌, ◌≢◌, ◌≤◌, ◌⊎◌}
 use Rattle.unixmodel.specs.Plan.{plan_flat, push, push_pointers, push_strings, with_stack}
 use Rattle.unixmodel.specs.Memory.{Memory, overwrite, Perm, zero_page}
 use Rattle.std.proofs.lemmas.Bool.{le-leb, lt-leb}
 use Rattle.spaces.specs.Spaces.{frames_in, grown, view_at, written}
 use Rattle.unixmodel.specs.Start.{flat_descriptors, flat_files, flat_opens, start_flat}
 use Rattle.unixmodel.specs.Counts.{blocks_of, frames_of}
-use Rattle.machine.specs.Flat.{bare_plan, console_file, first_files, first_table, first_tree, flat_memory, LoadsFlat, RefusesFlat}
+use Rattle.machine.specs.Flat.{bare_plan, console_file, first_files, first_table, first_tree, flat_memory, LoadsFlat}
+use Rattle.machine.specs.Flat.{RefusesFlat}
 use Rattle.std.proofs.Common.{append_assoc, ap₂, get_or, inl, inr, nat_le}
 use Rattle.files.specs.declared.file.OpenFile.{OpenFile}
 use Rattle.files.specs.declared.table.FileFault.{FileFault}
@@ -30,11 +38,13 @@ zero-word : overwrite (zeros 4096) 4080 (le 8 0) ≡ zeros 4096
 unfolding zeros
 zero-word = refl
 
-bare-stack : (pages : Memory) → write_bytes (with_stack pages) (4096 * (length pages + 2) - 16) (le 8 0) ≡ with_stack pages
+bare-stack : (pages : Memory)
+    → write_bytes (with_stack pages) (4096 * (length pages + 2) - 16) (le 8 0) ≡ with_stack pages
 unfolding with_stack
 bare-stack pages =
     let at : 4096 * (length pages + 2) - 16 ≡ 4096 * (length pages + 1) + 4080 = omega arith in
-    ap (λ a. write_bytes (stacked pages (zeros 4096)) a (le 8 0)) at ∙ write-stack pages (zeros 4096) 4080 (le 8 0) (omega arith) (omega arith) ∙ ap (stacked pages) zero-word
+    ap (λ a. write_bytes (stacked pages (zeros 4096)) a (le 8 0))
+        at ∙ write-stack pages (zeros 4096) 4080 (le 8 0) (omega arith) (omega arith) ∙ ap (stacked pages) zero-word
 
 above : (size n : ℕ) → size ≡ 4096 * (n + 2) → nat_le (size - 4096) (size - 16) ≡ true
 above size n is = le-leb (size - 4096) (size - 16) (omega (arith, is))
@@ -59,11 +69,14 @@ abbrev flat_pages : List ℕ → Memory
 flat_pages bytes = pages_of all_marks (program_pages bytes) bytes
 
 pub length-flat : (bytes : List ℕ) → length (flat_memory bytes) ≡ program_pages bytes + 2
-length-flat bytes = length-with_stack (flat_pages bytes) ∙ ap (λ n. n + 2) (length-pages all_marks (program_pages bytes) bytes)
+length-flat bytes = length-with_stack (flat_pages bytes)
+    ∙ ap (λ n. n + 2) (length-pages all_marks (program_pages bytes) bytes)
 
-pub plan-is : (bytes : List ℕ) → plan_flat bytes ≡ Some (bare_plan (flat_memory bytes) (4096 * length (flat_memory bytes)))
+pub plan-is : (bytes : List ℕ)
+    → plan_flat bytes ≡ Some (bare_plan (flat_memory bytes) (4096 * length (flat_memory bytes)))
 unfolding plan_flat
-plan-is bytes = bare (flat_pages bytes) ∙ ap (λ n. Some (bare_plan (with_stack (flat_pages bytes)) (4096 * n))) (sym (length-with_stack (flat_pages bytes)))
+plan-is bytes = bare (flat_pages bytes)
+    ∙ ap (λ n. Some (bare_plan (with_stack (flat_pages bytes)) (4096 * n))) (sym (length-with_stack (flat_pages bytes)))
 
 -- ---- the first state
 
@@ -84,10 +97,12 @@ taken-alone frames h = omega (arith, sum_by-cons frames_in (Some h) (replicate 6
 
 -- the state that process 1 begins with over a space
 abbrev begun : ℕ → SpaceView → State
-begun frames h = first_state flat_files 27 frames flat_opens (first_process (bare_plan h.memory h.size) flat_descriptors)
+begun frames h = first_state flat_files 27 frames flat_opens
+    (first_process (bare_plan h.memory h.size) flat_descriptors)
 
 -- a first state takes the frames of its space
-module _ (files : Files) (limit frames : ℕ) (opens : List (Option unix_files.OpenFile)) (new : Plan) (descriptors : List (Option ℕ)) where
+module _ (files : Files) (limit frames : ℕ) (opens : List (Option unix_files.OpenFile)) (new : Plan)
+    (descriptors : List (Option ℕ)) where
   abbrev fresh : State
   fresh = first_state files limit frames opens (first_process new descriptors)
 
@@ -96,10 +111,12 @@ module _ (files : Files) (limit frames : ℕ) (opens : List (Option unix_files.O
   frames-fresh = omega arith
 
   pub fresh-fits : 4 + page_frames (length new.memory) ≤ frames → if_fits fresh ≡ Some fresh
-  fresh-fits fits = let within : nat_le (frames_of fresh) frames ≡ true = rw frames-fresh (le-leb _ _ fits) in rw within refl
+  fresh-fits fits = let within : nat_le (frames_of fresh) frames ≡ true =
+      rw frames-fresh (le-leb _ _ fits) in rw within refl
 
   pub fresh-over : frames < 4 + page_frames (length new.memory) → if_fits fresh ≡ None
-  fresh-over over = let without : nat_le (frames_of fresh) frames ≡ false = rw frames-fresh (lt-leb _ _ over) in rw without refl
+  fresh-over over = let without : nat_le (frames_of fresh) frames ≡ false =
+      rw frames-fresh (lt-leb _ _ over) in rw without refl
 
 abbrev flat_plan : List ℕ → Plan
 flat_plan bytes = bare_plan (flat_memory bytes) (4096 * length (flat_memory bytes))
@@ -113,13 +130,20 @@ module _ {tree : FileTree} (flat : IsFlat tree) where
   unfolding joined flat_opens free_slots
   state-first frames h =
       rw (flat.files, flat.limit)
-      (ap (λ (places : List (Option unix.Process)). record (begun frames h) { places = Some (first_process (bare_plan h.memory h.size) flat_descriptors) ∷ places }) (joined-free_slots 63 (replicate 63 None)))
+      (ap (λ (places : List (Option unix.Process)). record (begun frames h)
+          { places = Some (first_process (bare_plan h.memory h.size) flat_descriptors) ∷ places })
+          (joined-free_slots 63 (replicate 63 None)))
 
-  pub start-fits : (bytes : List ℕ) (frames : ℕ) → 4 + page_frames (length (flat_memory bytes)) ≤ frames → start_flat bytes frames ≡ Some (state_of (first_kernel tree frames (flat_space bytes)))
-  start-fits bytes frames fits = starts bytes frames ∙ fresh-fits flat_files 27 frames flat_opens (flat_plan bytes) flat_descriptors fits ∙ ap Some (sym (state-first frames (flat_space bytes)))
+  pub start-fits : (bytes : List ℕ) (frames : ℕ) → 4 + page_frames (length (flat_memory bytes)) ≤ frames
+      → start_flat bytes frames ≡ Some (state_of (first_kernel tree frames (flat_space bytes)))
+  start-fits bytes frames fits = starts bytes frames
+      ∙ fresh-fits flat_files 27 frames flat_opens (flat_plan bytes) flat_descriptors fits
+      ∙ ap Some (sym (state-first frames (flat_space bytes)))
 
-pub start-over : (bytes : List ℕ) (frames : ℕ) → frames < 4 + page_frames (length (flat_memory bytes)) → start_flat bytes frames ≡ None
-start-over bytes frames over = starts bytes frames ∙ fresh-over flat_files 27 frames flat_opens (flat_plan bytes) flat_descriptors over
+pub start-over : (bytes : List ℕ) (frames : ℕ) → frames < 4 + page_frames (length (flat_memory bytes))
+    → start_flat bytes frames ≡ None
+start-over bytes frames over = starts bytes frames
+    ∙ fresh-over flat_files 27 frames flat_opens (flat_plan bytes) flat_descriptors over
 
 -- ---- the first kernel
 
@@ -128,14 +152,18 @@ unfolding flat_descriptors free_slots zeros
 first-placed h = record { zero = refl; aligned = refl; mode = record { descriptors = refl } }
 
 -- what holds of a process and of a free place holds of each, where it stands alone in the first
-pub first-alone : (P : Option Process → Type 0) (p : Process) → P (Some p) → P None → (i : ℕ) → P (slot (Some p ∷ free_slots 63) i)
+pub first-alone : (P : Option Process → Type 0) (p : Process) → P (Some p) → P None → (i : ℕ)
+    → P (slot (Some p ∷ free_slots 63) i)
 unfolding free_slots
 first-alone P p here free zero = here
 first-alone P p here free (suc i) = subst P (sym (same-past (Option Process) None 63 i)) free
 
 -- such a process makes a kernel
-pub one-sound : (tree : FileTree) (p : Process) (h : SpaceView) (frames : ℕ) (opens : List (Option Counted)) → IsPlaced p h → is_running p ≡ false → 4 + page_frames (length h.memory) ≤ frames
-    → IsOpened opens (replicate 100 None) (Some p ∷ free_slots 63) → IsInUse tree opens (Some p ∷ free_slots 63) → IsKernel (begun_by tree (record { places = Some p ∷ free_slots 63; last = 63; next_pid = 2; awake = all_in 64 }) (alone frames h) opens)
+pub one-sound : (tree : FileTree) (p : Process) (h : SpaceView) (frames : ℕ) (opens : List (Option Counted))
+    → IsPlaced p h → is_running p ≡ false → 4 + page_frames (length h.memory) ≤ frames
+    → IsOpened opens (replicate 100 None) (Some p ∷ free_slots 63) → IsInUse tree opens (Some p ∷ free_slots 63)
+        → IsKernel (begun_by tree
+        (record { places = Some p ∷ free_slots 63; last = 63; next_pid = 2; awake = all_in 64 }) (alone frames h) opens)
 unfolding free_slots
 one-sound tree p h frames opens placed rests fits opened used = record {
   all = ap suc (length-replicate {A = Option Process} 63 None);
@@ -151,7 +179,8 @@ one-sound tree p h frames opens placed rests fits opened used = record {
   stands (suc i) = rw (same-past (Option Process) None 63 i, same-past (Option SpaceView) None 63 i) tt
 
 -- that works in the root
-pub one-home : (p : Process) → home_in (Some p) ≡ Some 1 → (n : ℕ) → homes_at (Some p ∷ free_slots 63) n ≡ one_in n (Some 1)
+pub one-home : (p : Process) → home_in (Some p) ≡ Some 1 → (n : ℕ)
+    → homes_at (Some p ∷ free_slots 63) n ≡ one_in n (Some 1)
 unfolding free_slots
 one-home p home n =
     let rest = none-free Process (λ o. one_in n (home_in o)) refl 63 in
@@ -160,7 +189,9 @@ one-home p home n =
 -- ---- the first open files
 
 -- the console takes the first place
-pub open-first : (t new : List (Option Counted)) (r : Result ℕ FileFault) (f : OpenFile) → t ≡ free_slots 100 → r ≡ place_for (opens_of t) → IfOk r (λ i. new ≡ opened t i f) → new ≡ Some (record { file = f; count = 1 }) ∷ replicate 99 None
+pub open-first : (t new : List (Option Counted)) (r : Result ℕ FileFault) (f : OpenFile) → t ≡ free_slots 100
+    → r ≡ place_for (opens_of t) → IfOk r (λ i. new ≡ opened t i f)
+    → new ≡ Some (record { file = f; count = 1 }) ∷ replicate 99 None
 unfolding free_slots
 open-first t new r f is place ok =
     let first : r ≡ Ok 0 = place ∙ ap (λ (x : List (Option Counted)). place_for (opens_of x)) is in
@@ -170,18 +201,23 @@ open-first t new r f is place ok =
 names-first : (n : ℕ) → names n flat_descriptors ≡ 3 * one_in n (Some 0)
 unfolding flat_descriptors
 names-first n =
-    omega (arith, sum_by-cons (one_in n) (Some 0) (Some 0 ∷ Some 0 ∷ free_slots 13), sum_by-cons (one_in n) (Some 0) (Some 0 ∷ free_slots 13), sum_by-cons (one_in n) (Some 0) (free_slots 13), names-free n 13)
+    omega (arith, sum_by-cons (one_in n) (Some 0) (Some 0 ∷ Some 0 ∷ free_slots 13),
+        sum_by-cons (one_in n) (Some 0) (Some 0 ∷ free_slots 13), sum_by-cons (one_in n) (Some 0) (free_slots 13),
+        names-free n 13)
 
 named-first : (size n : ℕ) → named_by (first_table size).places n ≡ 3 * one_in n (Some 0)
 unfolding free_slots
-named-first size n = omega (arith, sum_by-cons (names_in n) (Some (first size)) (replicate 63 None), sum_by-replicate (names_in n) 63 None, names-first n)
+named-first size n = omega
+    (arith, sum_by-cons (names_in n) (Some (first size)) (replicate 63 None), sum_by-replicate (names_in n) 63 None,
+    names-first n)
 
 other-file : (n : ℕ) → one_in (suc n) (Some 0) ≡ 0
 other-file n = let other : (0 == suc n) ≡ false = grind (arith, nat_tests) in rw other refl
 
 first-counted : (size : ℕ) → IsCounted first_files (first_table size).places
 first-counted size zero = omega (arith, named-first size 0)
-first-counted size (suc n) = let none : count_at first_files (suc n) ≡ 0 = ap count_in (same-past (Option Counted) None 99 n) in omega (arith, none, named-first size (suc n), other-file n)
+first-counted size (suc n) = let none : count_at first_files (suc n) ≡ 0 =
+    ap count_in (same-past (Option Counted) None 99 n) in omega (arith, none, named-first size (suc n), other-file n)
 
 first-named : (i : ℕ) (c : Counted) → slot first_files i ≡ Some c → 0 < c.count
 first-named zero c at = let three : 3 ≡ c.count = ap count_in at in omega (arith, three)
@@ -190,7 +226,9 @@ first-named (suc i) c at = absurd (let bad : None ≡ Some c = sym (same-past (O
 first-each : (n : ℕ) (f : unix_files.OpenFile) → slot (opens_of first_files) n ≡ Some f → IsOpenFile f
 first-each zero f at = let e : file_of console_file ≡ f = cc in subst IsOpenFile e tt
 first-each (suc n) f at =
-    absurd (let bad : None ≡ Some f = sym (slot-opens first_files (suc n) ∙ ap (option_map (λ (c : Counted). file_of c.file)) (same-past (Option Counted) None 99 n)) ∙ at in cc)
+    absurd (let bad : None ≡ Some f = sym
+        (slot-opens first_files (suc n)
+        ∙ ap (option_map (λ (c : Counted). file_of c.file)) (same-past (Option Counted) None 99 n)) ∙ at in cc)
 
 first-opened : (size : ℕ) → IsOpened first_files (replicate 100 None) (first_table size).places
 first-opened size = record {
@@ -205,7 +243,10 @@ first-opened size = record {
 -- ---- who holds the root and the console
 
 console-on : (n : ℕ) → files_on first_files n ≡ one_in n (Some 2)
-console-on n = let rest = none-free Counted (λ o. one_in n (node_in o)) refl 99 in omega (arith, sum_by-cons (λ o. one_in n (node_in o)) (Some (record { file = console_file; count = 3 })) (replicate 99 None), rest)
+console-on n = let rest =
+    none-free Counted (λ o. one_in n (node_in o)) refl 99
+    in omega (arith, sum_by-cons (λ o. one_in n (node_in o)) (Some (record { file = console_file; count = 3 }))
+    (replicate 99 None), rest)
 
 first-holders : (n : ℕ) → holders (with_hold (with_hold (replicate 16 0) 1) 2) n ≡ one_in n (Some 2) + one_in n (Some 1)
 first-holders zero = refl
@@ -225,21 +266,27 @@ unfolding blocks_of flat_files free_slots
 flat-blocks = refl
 
 module _ {tree : FileTree} (flat : IsFlat tree) where
-  first-fits : (k : ℕ) (c : Counted) → slot first_files k ≡ Some c → FitsNode c.file c.file.target (node_of tree.files (node_on c.file.target))
+  first-fits : (k : ℕ) (c : Counted) → slot first_files k ≡ Some c
+      → FitsNode c.file c.file.target (node_of tree.files (node_on c.file.target))
   unfolding flat_files free_slots
-  first-fits zero c at = let e : record { file = console_file; count = 3 } ≡ c = same_Some (record { file = console_file; count = 3 }) c at in subst (λ (d : Counted). FitsNode d.file d.file.target (node_of tree.files (node_on d.file.target))) e (rw flat.files refl)
+  first-fits zero c at = let e : record { file = console_file; count = 3 } ≡ c =
+      same_Some (record { file = console_file; count = 3 }) c
+      at in subst (λ (d : Counted). FitsNode d.file d.file.target (node_of tree.files (node_on d.file.target))) e
+      (rw flat.files refl)
   first-fits (suc k) c at = absurd (none-some c (sym (same-past (Option Counted) None 99 k) ∙ at))
 
   first-homes : (size i : ℕ) → IfSome (home_in (slot (first_table size).places i)) (λ d. IsFolder (slot tree.files d))
   unfolding flat_files free_slots
-  first-homes size = first-alone (λ o. IfSome (home_in o) (λ d. IsFolder (slot tree.files d))) (first size) (rw flat.files tt) tt
+  first-homes size = first-alone (λ o. IfSome (home_in o) (λ d. IsFolder (slot tree.files d))) (first size)
+      (rw flat.files tt) tt
 
   first-used : (size : ℕ) → IsInUse (first_tree tree) first_files (first_table size).places
   first-used size = record {
     rules = flat.rules;
     zero = ap (λ (files : Files). slot files 0) flat.files ∙ flat-zero;
     within = rw (flat.files, flat.limit, flat-blocks) (omega arith);
-    holds = λ n. ap (λ h. holders (with_hold (with_hold h 1) 2) n) flat.holds ∙ first-holders n ∙ sym (ap₂ ◌+◌ (console-on n) (one-home (first size) refl n));
+    holds = λ n. ap (λ h. holders (with_hold (with_hold h 1) 2) n) flat.holds ∙ first-holders n
+        ∙ sym (ap₂ ◌+◌ (console-on n) (one-home (first size) refl n));
     held = λ n node at bare. absurd (let some = flat.linked n node at in omega (arith, some, bare));
     fits = first-fits;
     homes = first-homes size;
@@ -248,11 +295,13 @@ module _ {tree : FileTree} (flat : IsFlat tree) where
   -- what the holds ask for
   pub hold-root : slot tree.files 1 ≢ None
   unfolding flat_files free_slots
-  hold-root none = absurd (let bad : slot flat_files 1 ≡ None = ap (λ (files : Files). slot files 1) (sym flat.files) ∙ none in cc)
+  hold-root none = absurd (let bad : slot flat_files 1 ≡ None = ap (λ (files : Files). slot files 1) (sym flat.files)
+      ∙ none in cc)
 
   pub hold-console : slot tree.files 2 ≢ None
   unfolding flat_files free_slots
-  hold-console none = absurd (let bad : slot flat_files 2 ≡ None = ap (λ (files : Files). slot files 2) (sym flat.files) ∙ none in cc)
+  hold-console none = absurd
+      (let bad : slot flat_files 2 ≡ None = ap (λ (files : Files). slot files 2) (sym flat.files) ∙ none in cc)
 
   pub few-root : holders tree.holds 1 < 65535
   few-root = rw flat.holds (omega arith)
@@ -260,17 +309,24 @@ module _ {tree : FileTree} (flat : IsFlat tree) where
   pub few-console : holders (with_hold tree.holds 1) 2 < 65535
   few-console = rw flat.holds (omega arith)
 
-  pub first-sound : (frames : ℕ) (h : SpaceView) → 4 + page_frames (length h.memory) ≤ frames → IsKernel (first_kernel tree frames h)
-  first-sound frames h fits = one-sound (first_tree tree) (first h.size) h frames first_files (first-placed h) refl fits (first-opened h.size) (first-used h.size)
+  pub first-sound : (frames : ℕ) (h : SpaceView) → 4 + page_frames (length h.memory) ≤ frames
+      → IsKernel (first_kernel tree frames h)
+  first-sound frames h fits =
+      one-sound (first_tree tree) (first h.size) h frames first_files (first-placed h) refl fits (first-opened h.size)
+      (first-used h.size)
 
-pub one-seated : (p : Process) → seated (record { places = free_slots 64; last = 63; next_pid = 1; awake = all_in 64 }) p (record { place = 0; pid = 1 }) ≡ record { places = Some (record p { pid = 1 }) ∷ free_slots 63; last = 63; next_pid = 2; awake = all_in 64 }
+pub one-seated : (p : Process)
+    → seated (record { places = free_slots 64; last = 63; next_pid = 1; awake = all_in 64 }) p
+    (record { place = 0; pid = 1 })
+    ≡ record { places = Some (record p { pid = 1 }) ∷ free_slots 63; last = 63; next_pid = 2; awake = all_in 64 }
 unfolding free_slots
 one-seated p = refl
 
 -- ---- the space as it is made: the pages of the program, its bytes in them, the guard page, the stack
 
 abbrev pub segment : List ℕ → SpaceView
-segment bytes = record { memory = replicate (program_pages bytes) (zero_page all_marks); size = program_pages bytes * 4096 }
+segment bytes = record { memory = replicate (program_pages bytes) (zero_page all_marks);
+    size = program_pages bytes * 4096 }
 
 abbrev pub filled_segment : List ℕ → SpaceView
 filled_segment bytes = record { memory = flat_pages bytes; size = program_pages bytes * 4096 }
@@ -288,20 +344,27 @@ segment-is bytes b is =
     rw (n, size) refl
 
 filled-is : (bytes : List ℕ) → written (segment bytes) 0 bytes ≡ filled_segment bytes
-filled-is bytes = ap (λ (memory : Memory). let h : SpaceView = record { memory = memory; size = program_pages bytes * 4096 } in h) (filled all_marks (program_pages bytes) bytes)
+filled-is bytes = ap (λ (memory : Memory).
+    let h : SpaceView = record { memory = memory; size = program_pages bytes * 4096 } in h)
+    (filled all_marks (program_pages bytes) bytes)
 
 guarded-is : (bytes : List ℕ) → grown (filled_segment bytes) 4096 (stack_marks false) ≡ guarded bytes
 guarded-is bytes =
-    let one : ceil_div (program_pages bytes * 4096 + 4096) 4096 - ceil_div (program_pages bytes * 4096) 4096 ≡ 1 = omega arith in
+    let one : ceil_div (program_pages bytes * 4096 + 4096) 4096 - ceil_div (program_pages bytes * 4096) 4096 ≡ 1 =
+            omega arith in
     rw one refl
 
 stacked-is : (bytes : List ℕ) → grown (guarded bytes) 4096 (stack_marks true) ≡ flat_space bytes
 unfolding with_stack
 stacked-is bytes =
-    let one : ceil_div (program_pages bytes * 4096 + 4096 + 4096) 4096 - ceil_div (program_pages bytes * 4096 + 4096) 4096 ≡ 1 = omega arith in
-    let size : program_pages bytes * 4096 + 4096 + 4096 ≡ 4096 * length (flat_memory bytes) = omega (arith, length-flat bytes) in
-    let memory = append_assoc (flat_pages bytes) (zero_page (stack_marks false) ∷ []) (zero_page (stack_marks true) ∷ []) in
-    rw (one, size) (ap (λ (memory : Memory). let h : SpaceView = record { memory = memory; size = 4096 * length (flat_memory bytes) } in h) memory)
+    let one : ceil_div (program_pages bytes * 4096 + 4096 + 4096) 4096 - ceil_div (program_pages bytes * 4096 + 4096)
+            4096 ≡ 1 = omega arith in
+    let size : program_pages bytes * 4096 + 4096 + 4096 ≡ 4096 * length (flat_memory bytes) =
+            omega (arith, length-flat bytes) in
+    let memory = append_assoc (flat_pages bytes) (zero_page (stack_marks false) ∷ [])
+            (zero_page (stack_marks true) ∷ []) in
+    rw (one, size) (ap (λ (memory : Memory).
+        let h : SpaceView = record { memory = memory; size = 4096 * length (flat_memory bytes) } in h) memory)
 
 -- the space in place 0 changes
 abbrev pub changed : Spaces → (SpaceView → SpaceView) → Spaces
@@ -311,15 +374,19 @@ abbrev pub with_stack_page : Spaces → Spaces
 with_stack_page s = changed s (λ h. grown h 4096 (stack_marks true))
 
 -- it is put there, and one that would not fit
-module _ {frames : ℕ} {s : Spaces} {h new : SpaceView} (change : SpaceView → SpaceView) (is : s ≡ alone frames h) (to : change h ≡ new) where
+module _ {frames : ℕ} {s : Spaces} {h new : SpaceView} (change : SpaceView → SpaceView) (is : s ≡ alone frames h)
+    (to : change h ≡ new) where
   placed : {t : Spaces} → t ≡ changed s change → t ≡ alone frames new
   placed done = rw (done, is, to) refl
 
   takes : taken_frames (changed s change) ≡ 4 + page_frames (length new.memory)
   takes = rw (is, to) (taken-alone frames new)
 
-  over : (bytes : List ℕ) → length new.memory ≤ length (flat_memory bytes) → s.frames < taken_frames (changed s change) → frames < 4 + page_frames (length (flat_memory bytes))
-  over bytes less full = omega (arith, full, takes, ap (λ (x : Spaces). x.frames) is, page_frames-more (length new.memory) (length (flat_memory bytes)) less)
+  over : (bytes : List ℕ) → length new.memory ≤ length (flat_memory bytes) → s.frames < taken_frames (changed s change)
+      → frames < 4 + page_frames (length (flat_memory bytes))
+  over bytes less full = omega
+      (arith, full, takes, ap (λ (x : Spaces). x.frames) is,
+      page_frames-more (length new.memory) (length (flat_memory bytes)) less)
 
 -- the first place of no spaces is free, and it has the space that stands alone
 pub first-free : {frames : ℕ} {s : Spaces} → s ≡ no_spaces frames → has_space s 0 ≡ false
@@ -328,7 +395,8 @@ first-free is = ap (λ (s : Spaces). has_space s 0) is
 pub alone-space : {frames : ℕ} {h : SpaceView} {s : Spaces} → s ≡ alone frames h → has_space s 0 ≡ true
 alone-space is = ap (λ (s : Spaces). has_space s 0) is
 
-pub flat-size : {frames size : ℕ} {s : Spaces} (bytes : List ℕ) → size ≡ (view_at s 0).size → s ≡ alone frames (flat_space bytes) → size ≡ 4096 * length (flat_memory bytes)
+pub flat-size : {frames size : ℕ} {s : Spaces} (bytes : List ℕ) → size ≡ (view_at s 0).size
+    → s ≡ alone frames (flat_space bytes) → size ≡ 4096 * length (flat_memory bytes)
 flat-size bytes told is = told ∙ ap (λ (s : Spaces). (view_at s 0).size) is
 
 -- no spaces over so many frames
@@ -338,30 +406,42 @@ frames-of is = ap (λ (x : Spaces). x.frames) is
 pub none-of : {frames : ℕ} {s : Spaces} → s ≡ no_spaces frames → s ≡ no_spaces s.frames
 none-of is = is ∙ ap no_spaces (sym (frames-of is))
 
-pub created : {frames : ℕ} {s t : Spaces} → s ≡ no_spaces frames → t ≡ with_view s 0 no_pages → t ≡ alone frames no_pages
+pub created : {frames : ℕ} {s t : Spaces} → s ≡ no_spaces frames → t ≡ with_view s 0 no_pages
+    → t ≡ alone frames no_pages
 created is done = done ∙ ap (λ (x : Spaces). with_view x 0 no_pages) is
 
 module _ (bytes : List ℕ) {frames : ℕ} {s : Spaces} where
-  pub segment-over : (b : ℕ) {none : Spaces} → b ≡ program_pages bytes * 4096 → none ≡ no_spaces frames → s ≡ with_view none 0 no_pages → s.frames < taken_frames (with_view s 0 (grown (view_at s 0) b all_marks)) → frames < 4 + page_frames (length (flat_memory bytes))
+  pub segment-over : (b : ℕ) {none : Spaces} → b ≡ program_pages bytes * 4096 → none ≡ no_spaces frames
+      → s ≡ with_view none 0 no_pages → s.frames < taken_frames (with_view s 0 (grown (view_at s 0) b all_marks))
+      → frames < 4 + page_frames (length (flat_memory bytes))
   segment-over b size is done full =
-      over (λ h. grown h b all_marks) (created is done) (segment-is bytes b size) bytes (rw (length-flat bytes, length-replicate (program_pages bytes) (zero_page all_marks)) (omega arith)) full
+      over (λ h. grown h b all_marks) (created is done) (segment-is bytes b size) bytes
+          (rw (length-flat bytes, length-replicate (program_pages bytes) (zero_page all_marks)) (omega arith)) full
 
-  pub segment-made : (b : ℕ) {none t : Spaces} → b ≡ program_pages bytes * 4096 → none ≡ no_spaces frames → s ≡ with_view none 0 no_pages → t ≡ with_view s 0 (grown (view_at s 0) b all_marks) → t ≡ alone frames (segment bytes)
+  pub segment-made : (b : ℕ) {none t : Spaces} → b ≡ program_pages bytes * 4096 → none ≡ no_spaces frames
+      → s ≡ with_view none 0 no_pages → t ≡ with_view s 0 (grown (view_at s 0) b all_marks)
+      → t ≡ alone frames (segment bytes)
   segment-made b size is made done = placed (λ h. grown h b all_marks) (created is made) (segment-is bytes b size) done
 
-  pub filled-made : {t : Spaces} → s ≡ alone frames (segment bytes) → t ≡ with_view s 0 (written (view_at s 0) 0 bytes) → t ≡ alone frames (filled_segment bytes)
+  pub filled-made : {t : Spaces} → s ≡ alone frames (segment bytes) → t ≡ with_view s 0 (written (view_at s 0) 0 bytes)
+      → t ≡ alone frames (filled_segment bytes)
   filled-made is done = placed (λ h. written h 0 bytes) is (filled-is bytes) done
 
-  pub guard-made : {t : Spaces} → s ≡ alone frames (filled_segment bytes) → t ≡ with_view s 0 (grown (view_at s 0) 4096 (stack_marks false)) → t ≡ alone frames (guarded bytes)
+  pub guard-made : {t : Spaces} → s ≡ alone frames (filled_segment bytes)
+      → t ≡ with_view s 0 (grown (view_at s 0) 4096 (stack_marks false)) → t ≡ alone frames (guarded bytes)
   guard-made is done = placed (λ h. grown h 4096 (stack_marks false)) is (guarded-is bytes) done
 
-  pub guard-over : s ≡ alone frames (filled_segment bytes) → s.frames < taken_frames (with_view s 0 (grown (view_at s 0) 4096 (stack_marks false))) → frames < 4 + page_frames (length (flat_memory bytes))
+  pub guard-over : s ≡ alone frames (filled_segment bytes)
+      → s.frames < taken_frames (with_view s 0 (grown (view_at s 0) 4096 (stack_marks false)))
+      → frames < 4 + page_frames (length (flat_memory bytes))
   guard-over is full =
       over (λ h. grown h 4096 (stack_marks false)) is (guarded-is bytes) bytes
-      (rw (length-flat bytes, length-append (flat_pages bytes) (zero_page (stack_marks false) ∷ []), length-pages all_marks (program_pages bytes) bytes) (omega arith)) full
+      (rw (length-flat bytes, length-append (flat_pages bytes) (zero_page (stack_marks false) ∷ []),
+          length-pages all_marks (program_pages bytes) bytes) (omega arith)) full
 
   -- the bytes are within the pages
-  pub fill-inside : s ≡ alone frames (segment bytes) → (i : ℕ) → i < length bytes → (0 + i) / 4096 < length (view_at s 0).memory
+  pub fill-inside : s ≡ alone frames (segment bytes) → (i : ℕ) → i < length bytes
+      → (0 + i) / 4096 < length (view_at s 0).memory
   fill-inside is i less = rw (is, length-replicate (program_pages bytes) (zero_page all_marks)) (omega (arith, less))
 
 -- whether the page of the stack comes behind the guard page
@@ -370,16 +450,21 @@ pub flat-loaded : (bytes : List ℕ) (old s t : Spaces) → s ≡ alone old.fram
     → OnFalse r ((s.frames < taken_frames (with_stack_page s)) × (t ≡ s)) → LoadsFlat bytes old t r
 flat-loaded bytes old s t is true done full =
     let fits = takes (λ h. grown h 4096 (stack_marks true)) is (stacked-is bytes) in
-    (placed (λ h. grown h 4096 (stack_marks true)) is (stacked-is bytes) done.1, omega (arith, done.0, fits, ap (λ (x : Spaces). x.frames) is))
-flat-loaded bytes old s t is false done full = over (λ h. grown h 4096 (stack_marks true)) is (stacked-is bytes) bytes (omega arith) full.0
+    (placed (λ h. grown h 4096 (stack_marks true)) is (stacked-is bytes) done.1,
+        omega (arith, done.0, fits, ap (λ (x : Spaces). x.frames) is))
+flat-loaded bytes old s t is false done full =
+    over (λ h. grown h 4096 (stack_marks true)) is (stacked-is bytes) bytes (omega arith) full.0
 
 pub outside : (frames : ℕ) → 64 ≤ frames → frames ≤ 32768 → (frames < 64) ⊎ (32768 < frames) → ⊥
 outside frames least most (inl low) = omega (arith, low, least)
 outside frames least most (inr high) = omega (arith, high, most)
 
 -- where the count is in range the fault isn't that
-pub counted-flat : {M : Type 0} (frames : ℕ) → 64 ≤ frames → frames ≤ 32768 → (r : Result M BootFault) → OnErr r (IsErrOf r NoInit ⊎ IsErrOf r NoMemory) → IsErrOf r FrameCount ↔ ((frames < 64) ⊎ (32768 < frames))
-counted-flat {M} frames least most r only = (λ e. absurd (other e (subst (λ (x : Result M BootFault). OnErr x (IsErrOf r NoInit ⊎ IsErrOf r NoMemory)) e only)), λ out. absurd (outside frames least most out)) where
+pub counted-flat : {M : Type 0} (frames : ℕ) → 64 ≤ frames → frames ≤ 32768 → (r : Result M BootFault)
+    → OnErr r (IsErrOf r NoInit ⊎ IsErrOf r NoMemory) → IsErrOf r FrameCount ↔ ((frames < 64) ⊎ (32768 < frames))
+counted-flat {M} frames least most r only =
+    (λ e. absurd (other e (subst (λ (x : Result M BootFault). OnErr x (IsErrOf r NoInit ⊎ IsErrOf r NoMemory)) e
+    only)), λ out. absurd (outside frames least most out)) where
   other : IsErrOf r FrameCount → (IsErrOf r NoInit ⊎ IsErrOf r NoMemory) → ⊥
   other e (inl i) = cc
   other e (inr i) = cc

@@ -1,5 +1,6 @@
 -- What a machine begins with that boots from a disk, or why it doesn't boot.
-use Rattle.std.specs.Prelude.{List, None, Option, Some, [], length, replicate, false, ℕ, ◌%◌, ◌*◌, ◌+◌, ◌<◌, ◌∷◌, ◌≡◌, ◌≤◌, ◌⊎◌}
+use Rattle.std.specs.Prelude.{List, None, Option, Some, [], length, replicate, false, ℕ, ◌%◌, ◌*◌, ◌+◌, ◌<◌, ◌∷◌, ◌≡◌}
+use Rattle.std.specs.Prelude.{◌≤◌, ◌⊎◌}
 use Rattle.blockdev.specs.Reached.{Fails}
 use Rattle.imagecheck.specs.Faults.{IsOfImage, Tells}
 use Rattle.imagecheck.specs.declared.ImageFault.{ImageFault}
@@ -44,7 +45,8 @@ pub record IsAccepted (image : List ℕ) (files : Files) : Type 0 where
 abbrev pub start_from : List ℕ → Files → ℕ → Option State
 start_from image files frames = start files (data_blocks_of (size_in image) (inodes_in image)) frames
 
--- the machine that boots from an image: its state is that with which the abstract Unix starts, and its device has this identity
+-- the machine that boots from an image: its state is that with which the abstract Unix starts, and its device has this
+-- identity
 pub record IsBooted (image identity : List ℕ) (failures frames : ℕ) (m : View) : Type 0 where
   pub files : Files
   pub accepted : IsAccepted image files
@@ -59,10 +61,11 @@ pub record IsWithoutInit (image : List ℕ) (frames : ℕ) : Type 0 where
   pub accepted : IsAccepted image files
   pub none : start_from image files frames ≡ None
 
--- why a machine doesn't boot from this disk, which has that image; identity, count: what tells a device from others, and its count
--- of failures
+-- why a machine doesn't boot from this disk, which has that image; identity, count: what tells a device from others,
+-- and its count of failures
 abbrev pub IsUnbooted : {D : Type 0} → (D → List ℕ) → (D → ℕ) → D → List ℕ → ℕ → BootFault → Type 0
-IsUnbooted identity count disk image frames (Image fault) = IsOfImage fault × Tells format image fault × ((files : Files) → Denotes image files → ⊥)
+IsUnbooted identity count disk image frames (Image fault) = IsOfImage fault × Tells format image fault
+    × ((files : Files) → Denotes image files → ⊥)
 IsUnbooted identity count disk image frames FrameCount = (frames < 64) ⊎ (32768 < frames)
 IsUnbooted {D} identity count disk image frames Device = (left : D) × Fails identity count disk left
 IsUnbooted identity count disk image frames NoMemory = Unit {0}
@@ -102,7 +105,8 @@ pub record IsInit (files : Files) (frames : ℕ) (init : Init) : Type 0 where
   pub file : IsFile files init.number
   pub program : program_in (file_at files init.number) ≡ Some init.program
   pub fits : 4 + page_frames (init.program.pages + 2) ≤ frames
-  pub plan : (l : Loaded) → loaded_of (file_at files init.number) ≡ Some l → init_plan files ≡ Some (plan_with l.pages init.program.header.entry init.arguments)
+  pub plan : (l : Loaded) → loaded_of (file_at files init.number) ≡ Some l
+      → init_plan files ≡ Some (plan_with l.pages init.program.header.entry init.arguments)
 
 -- there is no plan, or the frames don't suffice
 abbrev pub LacksInit : Files → ℕ → Type 0
@@ -118,7 +122,8 @@ view_by new = record { memory = new.memory; size = new.size }
 
 -- the plan but for its pages
 abbrev pub bare_of : Init → Plan
-bare_of init = record { memory = []; size = 4096 * (init.program.pages + 2); pc = init.program.header.entry; argc = init.arguments.count; sp = init.arguments.sp }
+bare_of init = record { memory = []; size = 4096 * (init.program.pages + 2); pc = init.program.header.entry;
+    argc = init.arguments.count; sp = init.arguments.sp }
 
 -- process 1 with a plan, but for its pages
 abbrev pub first_of : Plan → Process
@@ -154,4 +159,6 @@ first_places new = record { places = Some (first_of new) ∷ free_slots 63; last
 
 -- the kernel of a machine that begins with a plan, over the files of a disk
 abbrev pub init_kernel : FileTree → ℕ → Plan → Kernel
-init_kernel tree frames new = begun (record tree { holds = with_hold tree.holds 1 }) (first_places new) (alone frames (view_by new)) (free_slots 100)
+init_kernel tree frames new =
+    begun (record tree { holds = with_hold tree.holds 1 }) (first_places new) (alone frames (view_by new))
+    (free_slots 100)

@@ -2,7 +2,8 @@
 use Rattle.tree.specs.Holding.{with_hold}
 use Rattle.files.specs.declared.file.Target.TheVariants.{Console}
 use Rattle.files.specs.declared.file.OpenFile.{OpenFile}
-use Rattle.std.specs.Prelude.{Bool, List, None, Option, Some, [], false, length, replicate, true, ℕ, ◌*◌, ◌+◌, ◌-◌, ◌<◌, ◌∷◌, ◌≡◌, ◌≤◌, IsErrOf, OnErr, Result, ◌⊎◌}
+use Rattle.std.specs.Prelude.{Bool, List, None, Option, Some, [], false, length, replicate, true, ℕ, ◌*◌, ◌+◌, ◌-◌, ◌<◌}
+use Rattle.std.specs.Prelude.{◌∷◌, ◌≡◌, ◌≤◌, IsErrOf, OnErr, Result, ◌⊎◌}
 use Rattle.kernel.specs.Kernel.{Kernel, begun}
 use Rattle.files.specs.Places.{Counted}
 use Rattle.proc.specs.declared.process.Process.{Process}
@@ -24,7 +25,8 @@ use Rattle.machine.specs.declared.fault.BootFault.TheVariants.{FrameCount, NoIni
 -- the pages of the bytes, with all marks, and the guard and the stack above them
 abbrev pub flat_memory : List ℕ → Memory
 flat_memory bytes =
-    with_stack (pages_of (record { writable = true; executable = true; user = true; shared = false }) (ceil_div (length bytes) 4096) bytes)
+    with_stack (pages_of (record { writable = true; executable = true; user = true; shared = false })
+        (ceil_div (length bytes) 4096) bytes)
 
 -- the space that shows them
 abbrev pub flat_space : List ℕ → SpaceView
@@ -43,7 +45,8 @@ alone frames space = record {
 
 -- a flat program is loaded into the first place, or the frames don't suffice
 abbrev pub LoadsFlat : List ℕ → Spaces → Spaces → Bool → Type 0
-LoadsFlat bytes old new true = (new ≡ alone old.frames (flat_space bytes)) × (4 + page_frames (length (flat_memory bytes)) ≤ old.frames)
+LoadsFlat bytes old new true = (new ≡ alone old.frames (flat_space bytes))
+    × (4 + page_frames (length (flat_memory bytes)) ≤ old.frames)
 LoadsFlat bytes old new false = old.frames < 4 + page_frames (length (flat_memory bytes))
 
 -- what a process without arguments begins with: its stack holds the 0 word that ends their list

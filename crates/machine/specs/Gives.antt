@@ -1,5 +1,6 @@
 -- What a step and a run of a machine answer.
-use Rattle.std.specs.Prelude.{Bool, Err, List, None, Ok, Option, Result, Some, [], false, length, take, true, ℕ, ℤ, ◌<◌, ◌≡◌, ◌≤◌}
+use Rattle.std.specs.Prelude.{Bool, Err, List, None, Ok, Option, Result, Some, [], false, length, take, true, ℕ, ℤ, ◌<◌}
+use Rattle.std.specs.Prelude.{◌≡◌, ◌≤◌}
 use Rattle.std.specs.Io.KnownBytes.{Appends}
 use Rattle.unixmodel.specs.Failures.{Rises}
 use Rattle.console.specs.Output.{AppendsBeginning}
@@ -27,9 +28,10 @@ pub record DeviceFails (old new : View) (before after : Option (List ℕ)) (byte
   pub printed : Appends before after bytes
   pub same_device : new.identity ≡ old.identity
 
--- the console's count of failures rose, and a beginning of these bytes was printed; the files are as they were, and the device
--- didn't fail
-pub record ConsoleFails (old new : View) (before after : Option (List ℕ)) (rising : Type 0) (bytes : List ℕ) : Type 0 where
+-- the console's count of failures rose, and a beginning of these bytes was printed; the files are as they were, and the
+-- device didn't fail
+pub record ConsoleFails (old new : View) (before after : Option (List ℕ)) (rising : Type 0) (bytes : List ℕ) : Type 0
+    where
   pub rises : rising
   pub failed : new.failed ≡ true
   pub printed : AppendsBeginning before after bytes
@@ -44,9 +46,11 @@ pub record IsRefused (old new : View) (before after : Option (List ℕ)) : Type 
   pub printed : Appends before after []
 
 -- what an event that makes `a` is answered with; rising: the console's count of failures rose
-abbrev pub StepGives : View → View → After → Option (List ℕ) → Option (List ℕ) → Type 0 → Result (Unit {0}) Halt → Type 0
+abbrev pub StepGives : View → View → After → Option (List ℕ) → Option (List ℕ) → Type 0 → Result (Unit {0}) Halt
+    → Type 0
 StepGives old new a before after rising (Ok u) = IsUp old × IsDone old new a before after None
-StepGives old new a before after rising (Err (InitEnded status)) = IsUp old × IsDone old new a before after (Some status)
+StepGives old new a before after rising (Err (InitEnded status)) = IsUp old
+    × IsDone old new a before after (Some status)
 StepGives old new a before after rising (Err Device) = IsUp old × DeviceFails old new before after []
 StepGives old new a before after rising (Err Console) = IsUp old × ConsoleFails old new before after rising a.bytes
 StepGives old new a before after rising (Err Halted) = IsRefused old new before after
@@ -58,9 +62,10 @@ pub record DeviceFailsIn (old new : View) (events : List Event) (before after : 
   pub goes : (run old.state (take done events)).state.halted ≡ None
   pub fails : DeviceFails old new before after (run old.state (take done events)).bytes
 
--- the console's count of failures rose at the event after so many, a beginning of what all print was printed, and the files are
--- those that the events before it leave
-pub record ConsoleFailsIn (old new : View) (events : List Event) (before after : Option (List ℕ)) (rising : Type 0) : Type 0 where
+-- the console's count of failures rose at the event after so many, a beginning of what all print was printed, and the
+-- files are those that the events before it leave
+pub record ConsoleFailsIn (old new : View) (events : List Event) (before after : Option (List ℕ)) (rising : Type 0)
+    : Type 0 where
   pub rises : rising
   pub failed : new.failed ≡ true
   pub printed : AppendsBeginning before after (run old.state events).bytes
@@ -72,18 +77,23 @@ pub record ConsoleFailsIn (old new : View) (events : List Event) (before after :
   pub later : old.failures ≤ new.failures
 
 -- what a list of events is answered with
-abbrev pub RunGives : View → View → List Event → Option (List ℕ) → Option (List ℕ) → Type 0 → Result (Unit {0}) Halt → Type 0
+abbrev pub RunGives : View → View → List Event → Option (List ℕ) → Option (List ℕ) → Type 0 → Result (Unit {0}) Halt
+    → Type 0
 RunGives old new events before after rising (Ok u) = IsUp old × IsDone old new (run old.state events) before after None
-RunGives old new events before after rising (Err (InitEnded status)) = IsUp old × IsDone old new (run old.state events) before after (Some status)
+RunGives old new events before after rising (Err (InitEnded status)) = IsUp old
+    × IsDone old new (run old.state events) before after (Some status)
 RunGives old new events before after rising (Err Device) = IsUp old × DeviceFailsIn old new events before after
 RunGives old new events before after rising (Err Console) = IsUp old × ConsoleFailsIn old new events before after rising
 RunGives old new events before after rising (Err Halted) = IsRefused old new before after
 
 -- the same where the bytes go to an output: the bytes that it took, and how often it failed, are read off it
-abbrev pub StepGivesTo : {W : Type 0} → (W → Option (List ℕ)) → (W → ℕ) → View → View → W → W → After → Result (Unit {0}) Halt → Type 0
-StepGivesTo contents failures old new from to a result = StepGives old new a (contents from) (contents to) (Rises (failures from) (failures to)) result
+abbrev pub StepGivesTo : {W : Type 0} → (W → Option (List ℕ)) → (W → ℕ) → View → View → W → W → After
+    → Result (Unit {0}) Halt → Type 0
+StepGivesTo contents failures old new from to a result =
+    StepGives old new a (contents from) (contents to) (Rises (failures from) (failures to)) result
 
-abbrev pub RunGivesTo : {W : Type 0} → (W → Option (List ℕ)) → (W → ℕ) → View → View → W → W → List Event → Result (Unit {0}) Halt → Type 0
+abbrev pub RunGivesTo : {W : Type 0} → (W → Option (List ℕ)) → (W → ℕ) → View → View → W → W → List Event
+    → Result (Unit {0}) Halt → Type 0
 RunGivesTo contents failures old new from to events result =
     RunGives old new events (contents from) (contents to) (Rises (failures from) (failures to)) result
 

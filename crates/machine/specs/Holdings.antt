@@ -76,4 +76,5 @@ on_as (target.Pipe pipe end.Read) = on.ReadEnd pipe
 on_as (target.Pipe pipe end.Write) = on.WriteEnd pipe
 
 abbrev pub opened_as : table.OpenFile → ℕ → Opened
-opened_as f descriptors = record { on = on_as f.target; readable = f.readable; writable = f.writable; descriptors = descriptors }
+opened_as f descriptors =
+    record { on = on_as f.target; readable = f.readable; writable = f.writable; descriptors = descriptors }

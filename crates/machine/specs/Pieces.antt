@@ -10,7 +10,8 @@ use Rattle.unixmodel.specs.Calls.{After}
 use Rattle.unixmodel.specs.declared.event.Event.TheVariants.{Step}
 use Rattle.unixmodel.specs.Run.{run}
 
--- at most so many, none where the machine had stopped, or where no process runs and none is ready; and where none is, none does
+-- at most so many, none where the machine had stopped, or where no process runs and none is ready; and where none is,
+-- none does
 pub record IsPiece (old new : View) (most count : ℕ) (result : Result (Unit {0}) Halt) : Type 0 where
   pub within : count ≤ most
   pub busy : IsBusyFor old.state count
@@ -24,8 +25,8 @@ pub record StopsLast (old : View) (count : ℕ) (Leaves : After → Type 0) : Ty
   pub goes : (run old.state (replicate done Step)).state.halted ≡ None
   pub leaves : Leaves (run old.state (replicate done Step))
 
--- where a machine stops it is at the last of so many steps: a device that failed leaves the bytes of those before it, a console
--- their files
+-- where a machine stops it is at the last of so many steps: a device that failed leaves the bytes of those before it, a
+-- console their files
 abbrev pub HaltsLast : View → View → Option (List ℕ) → Option (List ℕ) → ℕ → Result (Unit {0}) Halt → Type 0
 HaltsLast old new before after count (Ok u) = ⊤
 HaltsLast old new before after count (Err (InitEnded status)) = StopsLast old count (λ a. ⊤)

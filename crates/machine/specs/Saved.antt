@@ -10,7 +10,8 @@ use Rattle.unixmodel.specs.Image.{Denotes}
 use Rattle.unixmodel.specs.Shown.{left}
 
 -- the disk is the machine's, and its bytes denote the files that are left without the processes
-pub record IsSaved {D : Type 0} (content : D → List (List ℕ)) (identity : D → List ℕ) (m : View) (disk : D) : Type 0 where
+pub record IsSaved {D : Type 0} (content : D → List (List ℕ)) (identity : D → List ℕ) (m : View) (disk : D) : Type 0
+    where
   pub sound : m.failed ≡ false
   pub same_device : identity disk ≡ m.identity
   pub denotes : Denotes (image_of (content disk)) (left m.state)
@@ -30,8 +31,8 @@ pub record LosesDevice {D : Type 0} (identity : D → List ℕ) (count : D → �
   pub later : t.failures ≤ count disk
   pub rises : Rises t.failures (count disk)
 
--- the disk, or why there is none; content, identity, count: the blocks of a device, what tells it from others, and its count of
--- failures
+-- the disk, or why there is none; content, identity, count: the blocks of a device, what tells it from others, and its
+-- count of failures
 abbrev pub SaveGives : {D : Type 0} → (D → List (List ℕ)) → (D → List ℕ) → (D → ℕ) → View → Result D Halt → Type 0
 SaveGives content identity count m (Ok disk) = IsSaved content identity m disk
 SaveGives content identity count m (Err (InitEnded status)) = ⊥

@@ -18,8 +18,8 @@ pub enum BootFault {
     /// The host has no memory.
     #[error("no memory")]
     NoMemory,
-    /// The first program can't be executed: of an image there is no file `/init`, or it is no program; or the frames don't
-    /// suffice.
+    /// The first program can't be executed: of an image there is no file `/init`, or it is no program; or the frames
+    /// don't suffice.
     #[error("the first program cannot be executed")]
     NoInit,
 }

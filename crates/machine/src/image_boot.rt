@@ -2,7 +2,8 @@
 
 ghost use Rattle.std.specs.Prelude.{◌≡◌, ◌<◌, ◌≤◌, ◌^◌, ◌⊎◌, ◌↔◌, IfErr, IfOk, IsErrOf, false};
 ghost use Rattle.imagerules.specs.Content.{image_of};
-ghost use Rattle.machine.specs.Booted.{FindsInit, IsBegun, IsBooted, IsNotBegun, IsUnbooted, IsUnheld, PutsInit, bare_of, boot_fault, first_of, first_places};
+ghost use Rattle.machine.specs.Booted.{FindsInit, IsBegun, IsBooted, IsNotBegun, IsUnbooted, IsUnheld, PutsInit};
+ghost use Rattle.machine.specs.Booted.{bare_of, boot_fault, first_of, first_places};
 ghost use Rattle.names.specs.Rules.{KeepsTree};
 ghost use Rattle.programs.specs.Placed.{Leaves};
 ghost use Rattle.spaces.specs.Spaces.{no_spaces};
@@ -51,7 +52,8 @@ pub(crate) struct Init {
 fn read_init<D: BlockDev>(tree: &mut Tree<D>, frames: u32) -> Result<Option<Init>, DeviceFault>
     requires up { tree.old.failed ≡ false }
     requires rules { KeepsTree tree.old.files }
-    ensures { Serves tree.old tree.new result (λ told. Leaves tree.old tree.new told × FindsInit tree.old.files frames told) }
+    ensures { Serves tree.old tree.new result
+            (λ told. Leaves tree.old tree.new told × FindsInit tree.old.files frames told) }
 {
     let Some(number) = tree.resolve(ROOT, b"/init")? else {
         return Ok(None);
@@ -73,7 +75,8 @@ fn read_init<D: BlockDev>(tree: &mut Tree<D>, frames: u32) -> Result<Option<Init
     }))
 }
 
-// Puts `/init` in the first place, where there is no process yet. `None`: it can't be executed, or the frames don't suffice.
+// Puts `/init` in the first place, where there is no process yet. `None`: it can't be executed, or the frames don't
+// suffice.
 fn put_init<D: BlockDev, T: Translate>(
     tree: &mut Tree<D>,
     spaces: &mut Spaces<T>,
@@ -103,7 +106,14 @@ fn put_init<D: BlockDev, T: Translate>(
 }
 
 // Process 1, about to execute its first instruction with its arguments.
-#[tactic(auto, unfolding(unixmodel::specs::Memory::zeros, unixmodel::specs::Outcome::no_descriptors, unixmodel::specs::Files::free_slots))]
+#[tactic(
+    auto,
+    unfolding(
+        unixmodel::specs::Memory::zeros,
+        unixmodel::specs::Outcome::no_descriptors,
+        unixmodel::specs::Files::free_slots
+    )
+)]
 fn first(init: &Init) -> Process
     ensures { result ≡ first_of (bare_of init.now) }
 {
@@ -177,12 +187,12 @@ fn unmounted(fault: ImageFault) -> BootFault
     }
 }
 
-/// A machine over a disk whose image denotes files, and a translator, which is fenced first: it may hold anything. Process 1
-/// executes the file `/init` with the one argument `/init`; it has no descriptors, and works in the root.
+/// A machine over a disk whose image denotes files, and a translator, which is fenced first: it may hold anything.
+/// Process 1 executes the file `/init` with the one argument `/init`; it has no descriptors, and works in the root.
 ///
-/// `FrameCount` where `frames` is below 64 or above 32768, `Image` where the check refuses the image, `Device` where an access
-/// of the device failed, `NoMemory` where the host has no memory, and else `NoInit` where `/init` can't be executed: there is no
-/// such file, it is no program, or the frames don't suffice.
+/// `FrameCount` where `frames` is below 64 or above 32768, `Image` where the check refuses the image, `Device` where an
+/// access of the device failed, `NoMemory` where the host has no memory, and else `NoInit` where `/init` can't be
+/// executed: there is no such file, it is no program, or the frames don't suffice.
 pub fn boot<D: BlockDev, T: Translate>(
     alloc: Global,
     disk: D,

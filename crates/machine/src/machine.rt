@@ -1,5 +1,6 @@
 //! The machine: events in, the console's bytes and the state of the process out.
-ghost use Rattle.std.specs.Prelude.{◌≡◌, ◌≤◌, ◌+◌, ℕ, None, Some, false, OnOk, OnErr, IfSome, IfOk, IsErrOf, is_some, option_map, slice_index};
+ghost use Rattle.std.specs.Prelude.{◌≡◌, ◌≤◌, ◌+◌, ℕ, None, Some, false, OnOk, OnErr, IfSome, IfOk, IsErrOf, is_some};
+ghost use Rattle.std.specs.Prelude.{option_map, slice_index};
 ghost use Rattle.unixmodel.specs.Next.{next};
 ghost use Rattle.kernel.specs.Kernel.{state_of};
 ghost use Rattle.machine.specs.Gives.{fails};
@@ -81,7 +82,8 @@ impl<D: BlockDev, T: Translate> Machine<D, T> {
     /// One event. An error says why the machine stops; after `Device` and `Console` it is of no more use, and every
     /// later call answers `Halted`.
     pub fn step<W: Out>(&mut self, event: Event, console: &mut W) -> Result<(), Halt>
-        ensures gives { StepGivesTo W.contents W.failures self.old self.new console.old console.new (next self.old.state event) result }
+        ensures gives { StepGivesTo W.contents W.failures self.old self.new console.old console.new
+                (next self.old.state event) result }
         ensures later { W.failures console.old ≤ W.failures console.new }
     {
         if self.is_stopped() {
@@ -119,10 +121,11 @@ impl<D: BlockDev, T: Translate> Machine<D, T> {
         Ok(())
     }
 
-    /// What is told of the node of the disk with this number; `None` where there is none. `Device`: an access of the device
-    /// failed, as at a step.
+    /// What is told of the node of the disk with this number; `None` where there is none. `Device`: an access of the
+    /// device failed, as at a step.
     pub fn stat_inode(&mut self, number: usize) -> Result<Option<Stat>, Halt>
-        ensures { LookGives self.old self.new (λ stat. stat ≡ option_map stat_seen (shown_stat self.old.state number)) result }
+        ensures { LookGives self.old self.new (λ stat. stat ≡ option_map stat_seen (shown_stat self.old.state number))
+                result }
     {
         if self.failed {
             return Err(Halt::Halted);
@@ -132,9 +135,9 @@ impl<D: BlockDev, T: Translate> Machine<D, T> {
         Ok(told?)
     }
 
-    /// Reads bytes of the node of the disk with this number into `out`, from the place `at` on and as many as there are, and
-    /// tells how many: none past its end, none of a device, and none where there is no such node. `Device`: an access of the
-    /// device failed, as at a step; nothing is said of `out` then.
+    /// Reads bytes of the node of the disk with this number into `out`, from the place `at` on and as many as there
+    /// are, and tells how many: none past its end, none of a device, and none where there is no such node. `Device`: an
+    /// access of the device failed, as at a step; nothing is said of `out` then.
     pub fn read_inode(&mut self, number: usize, at: usize, out: &mut [u8]) -> Result<usize, Halt>
         ensures gives { LookGives self.old self.new (ReadsAt self.old.state number at out.old out.new) result }
         ensures kept { IsErrOf result Halted → out.new ≡ out.old }
@@ -182,7 +185,8 @@ impl<D: BlockDev, T: Translate> Machine<D, T> {
     /// elsewhere. At a page that a fork had since it came a store may fault, too.
     pub fn tables(&self, pid: u32) -> Option<(&Ram, FrameNo)>
         ensures some { is_some result ≡ is_some (shown_process self.now.state pid) }
-        ensures shows { IfSome result (λ r. IfSome (shown_process self.now.state pid) (λ p. ShowsMemory r.0.now r.1.0 p.memory)) }
+        ensures shows { IfSome result
+                (λ r. IfSome (shown_process self.now.state pid) (λ p. ShowsMemory r.0.now r.1.0 p.memory)) }
     {
         self.kernel.tables(pid)
     }

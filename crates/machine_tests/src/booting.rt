@@ -136,7 +136,8 @@ fn fault_of(alloc: Global, image: &[u8], frames: u32) -> Option<BootFault> {
     boot(alloc, disk, Plain::new(), frames).err()
 }
 
-// What an image has: `/init`, which is a program, without its last block, or with another name, a directory or an empty file.
+// What an image has: `/init`, which is a program, without its last block, or with another name, a directory or an empty
+// file.
 #[derive(Clone, Copy)]
 enum Has {
     Init,

@@ -18,8 +18,8 @@ const BUFFER: u64 = 0x2800;
 // Behind the rows of the family.
 const NAME: u64 = 64 + 40 * 11;
 
-// A child reads the console, hands what it read to its parent through a pipe, sleeps and makes a directory; the parent prints what
-// it gets, and waits for its child.
+// A child reads the console, hands what it read to its parent through a pipe, sleeps and makes a directory; the parent
+// prints what it gets, and waits for its child.
 const ROWS: [Row; 12] = [
     Row([STACK, 0, 0, PIPE], 1),
     Row([0, 0, 0, FORK], 6),
@@ -41,8 +41,8 @@ const EVENTS: usize = 320;
 /// What all of them print.
 pub(crate) const PRINTED: &[u8] = b"abc\nabc\n";
 
-// As the events go: while nothing is shared yet; a line is typed in part; it is there; a pipe holds bytes; a process sleeps; the
-// directory is made; process 1 has ended.
+// As the events go: while nothing is shared yet; a line is typed in part; it is there; a pipe holds bytes; a process
+// sleeps; the directory is made; process 1 has ended.
 const PLACES: [usize; 9] = [0, 30, 62, 65, 90, 120, 161, 200, EVENTS];
 
 // An event by its number.

@@ -232,8 +232,8 @@ fn runs(rt: HostRuntime) {
     run_each(&rt, &RUNS);
 }
 
-// The first of nine steps is a turn, and each of the others is an instruction: boot and the turn may fence, and the end of the
-// process, but no instruction between them.
+// The first of nine steps is a turn, and each of the others is an instruction: boot and the turn may fence, and the end
+// of the process, but no instruction between them.
 #[test]
 fn each_fetch_is_translated_and_no_step_fences(rt: HostRuntime) {
     let (fetches, fences) = (Cell::new(0), Cell::new(0));

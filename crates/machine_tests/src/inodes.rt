@@ -95,7 +95,8 @@ static RUNS: [Case; 5] = [
             Reads(usize::MAX, usize::MAX, 10, &[]),
         ],
     },
-    // Between two steps, and after process 1 has ended: a device comes, and then a directory, which gives the root a link.
+    // Between two steps, and after process 1 has ended: a device comes, and then a directory, which gives the root a
+    // link.
     Case {
         name: "what calls make is told of",
         size: USUAL,

@@ -33,8 +33,8 @@ const READABLE: (bool, bool) = (true, false);
 const WRITABLE: (bool, bool) = (false, true);
 
 static RUNS: [Case; 3] = [
-    // Descriptor 0 is closed and becomes a pipe's read end, the fifth its write end. The program's first bytes go through the pipe, the
-    // last ones around the end of its room.
+    // Descriptor 0 is closed and becomes a pipe's read end, the fifth its write end. The program's first bytes go
+    // through the pipe, the last ones around the end of its room.
     Case {
         name: "descriptors are told as they come and go",
         size: USUAL,

@@ -81,8 +81,8 @@ static RUNS: [Case; 4] = [
             DONE, DONE, DONE, DONE, DONE, DONE, DONE, DONE, DONE, DONE, DONE, DONE, DONE, REFUSED,
         ])],
     },
-    // The console is device 1's node 2, of type 3 and with one link; the root its node 1, of type 1, with 48 bytes. A slash stands behind
-    // the calls.
+    // The console is device 1's node 2, of type 3 and with one link; the root its node 1, of type 1, with 48 bytes. A
+    // slash stands behind the calls.
     Case {
         name: "fstat tells what a descriptor is open on",
         size: USUAL,

@@ -29,7 +29,8 @@ const FOLDER: Stat = Stat {
 };
 
 static RUNS: [Case; 4] = [
-    // 26 blocks are free: those of 25600 bytes, and the block of their numbers. Behind the calls stand `f`, `n`, `m` and `q`.
+    // 26 blocks are free: those of 25600 bytes, and the block of their numbers. Behind the calls stand `f`, `n`, `m`
+    // and `q`.
     Case {
         name: "a write ends with the blocks",
         size: USUAL,
@@ -65,8 +66,8 @@ static RUNS: [Case; 4] = [
             ),
         ],
     },
-    // The twelfth block of a file comes with the block of its numbers, or not at all. Files of eleven and of twelve blocks leave two
-    // free, of which directories take one or both. Behind the calls stand `f`, `g`, `d` and `e`.
+    // The twelfth block of a file comes with the block of its numbers, or not at all. Files of eleven and of twelve
+    // blocks leave two free, of which directories take one or both. Behind the calls stand `f`, `g`, `d` and `e`.
     Case {
         name: "one free block stays free",
         size: USUAL,

@@ -22,8 +22,8 @@ const THIRD: (u64, u32) = (3, 55);
 
 const CLOSE_THIRD: [u64; 4] = [3, 0, 0, CLOSE];
 
-// Thirteen numbers of the disk are free, 3 to 15: a file for each, and no more; then the third goes, which has number 5, and
-// the last is made in its place. Behind the calls stand the names: one letter each.
+// Thirteen numbers of the disk are free, 3 to 15: a file for each, and no more; then the third goes, which has number
+// 5, and the last is made in its place. Behind the calls stand the names: one letter each.
 const FOURTEEN: [[u64; 4]; 33] = [
     [960, NEW, 0, OPEN],
     CLOSE_THIRD,
@@ -124,8 +124,8 @@ static RUNS: [Case; 5] = [
             Node(5, Some(EMPTY_FILE)),
         ],
     },
-    // A name is cut to 14 bytes, and a path has 127 at most. Behind the calls stand `abcdefghijklmno`, `abcdefghijklmn`, `q`, `z`, and 128
-    // slashes.
+    // A name is cut to 14 bytes, and a path has 127 at most. Behind the calls stand `abcdefghijklmno`,
+    // `abcdefghijklmn`, `q`, `z`, and 128 slashes.
     Case {
         name: "open opens what a path names",
         size: USUAL,
@@ -174,7 +174,8 @@ static RUNS: [Case; 5] = [
             REFUSED,
         ])],
     },
-    // What is open for reading can't be written, and the other way round; 0x400 empties a file. Behind the calls stands `f`.
+    // What is open for reading can't be written, and the other way round; 0x400 empties a file. Behind the calls stands
+    // `f`.
     Case {
         name: "open opens as its flags ask",
         size: USUAL,
@@ -212,7 +213,8 @@ static RUNS: [Case; 5] = [
             REFUSED,
         ])],
     },
-    // A path that begins with no slash is looked up where the process works. Behind the calls stand `d`, `f`, `..` and `d/f`.
+    // A path that begins with no slash is looked up where the process works. Behind the calls stand `d`, `f`, `..` and
+    // `d/f`.
     Case {
         name: "a process works in another directory",
         size: USUAL,

@@ -87,8 +87,8 @@ const CALLER: [u32; 8] = [
 /// The steps of a list of calls to the first answer, and from one answer to the next.
 pub(crate) const NEXT_CALL: usize = 7;
 
-// Makes one call after the other, as rows behind the instructions say: a0, a1, a2 and a7 of each, and the address of the
-// row that is next where the answer is 0.
+// Makes one call after the other, as rows behind the instructions say: a0, a1, a2 and a7 of each, and the address of
+// the row that is next where the answer is 0.
 const FAMILY: [u32; 11] = [
     0x0400_0293, // addi t0, zero, 64
     0x0002_b503, // ld   a0, 0(t0)
@@ -193,9 +193,11 @@ pub(crate) enum Act<'a> {
     Gone(u32),
     /// The least pid above this one.
     Next(u32, Option<u32>),
-    /// What the first descriptors of a process name, behind which all are free; its directory; and the call that it waits in.
+    /// What the first descriptors of a process name, behind which all are free; its directory; and the call that it
+    /// waits in.
     Holds(u32, &'a [Option<u8>], u32, Option<Pending>),
-    /// What the open file with this number is open on, whether for reading and for writing, and how many descriptors name it.
+    /// What the open file with this number is open on, whether for reading and for writing, and how many descriptors
+    /// name it.
     Opens(usize, OpenOn, (bool, bool), u32),
     /// There is no open file with this number.
     Closed(usize),
@@ -633,8 +635,8 @@ pub(crate) fn holds_at(rt: &impl Abort, row: usize, holds: bool) {
     assert!(rt; holds, "row {row}");
 }
 
-// All acts of a case go as they say: else its name is told with the number of the act that doesn't, and how many calls were
-// answered as they should be before.
+// All acts of a case go as they say: else its name is told with the number of the act that doesn't, and how many calls
+// were answered as they should be before.
 fn none_wrong(rt: &impl Abort, name: &str, wrong: Option<usize>, answered: usize) {
     if let Some(act) = wrong {
         assert!(rt; false, "{name}: act {act}, behind {answered} answers");

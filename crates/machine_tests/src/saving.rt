@@ -91,7 +91,8 @@ static LEFT: [Left; 4] = [
         names: &[CONSOLE],
         used: FLAT,
     },
-    // The names stand behind the calls. Each byte is as the maker of images has it, also the numbers of a file that is no device.
+    // The names stand behind the calls. Each byte is as the maker of images has it, also the numbers of a file that is
+    // no device.
     Left {
         run: Case {
             name: "the disk has what was made",

@@ -153,8 +153,8 @@ const STUMBLES: &str = "
         .zero 4
 ";
 
-// A program, how many steps it takes before the one at which process 1 ends, its status then, and counts of steps: none, and those that end
-// just before and just behind a trap or the end of a page, or go on behind the last step.
+// A program, how many steps it takes before the one at which process 1 ends, its status then, and counts of steps:
+// none, and those that end just before and just behind a trap or the end of a page, or go on behind the last step.
 type Course = (&'static str, u32, i32, &'static [u32]);
 
 const COURSES: [Course; 4] = [
@@ -202,7 +202,8 @@ fn steps_end_at_any_place(rt: HostRuntime) {
     }
 }
 
-// What so many steps of a program that says `hi` are answered, at a console that takes so many bytes, and what as many more are.
+// What so many steps of a program that says `hi` are answered, at a console that takes so many bytes, and what as many
+// more are.
 fn answers(alloc: Global, room: usize, steps: u32) -> Option<(Result<(), Halt>, Result<(), Halt>)> {
     let mut machine = boot_flat_with(alloc, &BYTES, Plain::new(), 64).ok()?;
     let mut out = narrow_console(alloc, room);

@@ -12,8 +12,8 @@ use unixmodel::event::Event;
 // More strides than the program takes.
 const STRIDES: u32 = 1000;
 
-// How many steps a program that says `hi` takes at a console that takes so many bytes, and how it ends: each time as many as go in one,
-// at most so many.
+// How many steps a program that says `hi` takes at a console that takes so many bytes, and how it ends: each time as
+// many as go in one, at most so many.
 fn by_strides(alloc: Global, room: usize, most: u32) -> Option<(u32, Halt)>
     requires { 0 < most }
 {

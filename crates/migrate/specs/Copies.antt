@@ -49,9 +49,11 @@ pub record CanStand (old : List ℕ) (n : ℕ) (node : Node) : Type 0 where
   pub fits : FitsPlaces (Some node)
 
 -- a node of an old image stands at number n, which was free, or there are too few blocks for it
-abbrev pub CopiesNode : {D : Type 0} → Geometry → List ℕ → Store D → Store D → ℕ → Result (Unit {0}) MigrateFault → Type 0
+abbrev pub CopiesNode : {D : Type 0} → Geometry → List ℕ → Store D → Store D → ℕ → Result (Unit {0}) MigrateFault
+    → Type 0
 CopiesNode g old before after n result =
-    (now : Files) (node : Node) → Copies g before now → slot now n ≡ None → CanStand old n node → IsCopied g after (put now n node) result
+    (now : Files) (node : Node) → Copies g before now → slot now n ≡ None → CanStand old n node
+        → IsCopied g after (put now n node) result
 
 -- the old image denotes no files: it has this fault
 abbrev pub IsBroken : List ℕ → ImageFault → Type 0
@@ -59,4 +61,5 @@ IsBroken old fault = Tells small old fault × IsOfImage fault × ((files : Files
 
 -- its files take more blocks than an image of as many blocks has in the new format
 abbrev pub Overfills : List ℕ → Type 0
-Overfills old = (files : Files) × DenotesSmall old files × (data_blocks_of (size_in old) (inodes_in old) < blocks_of files)
+Overfills old = (files : Files) × DenotesSmall old files
+    × (data_blocks_of (size_in old) (inodes_in old) < blocks_of files)

@@ -16,11 +16,12 @@ use imagecheck::check1_bytes;
 use imagemake::{blank, bytes_left};
 use std::alloc::Global;
 
-/// Makes of an image of the format of small files one of the format in use that denotes the same files, by the same numbers.
+/// Makes of an image of the format of small files one of the format in use that denotes the same files, by the same
+/// numbers.
 /// It has as many blocks and inodes.
 ///
-/// The fault is `Image` where the old one denotes no files of its format, and `Blocks` where the files take more blocks than the new one has: a
-/// file of 12 blocks has an index block there, and one of 268 blocks three.
+/// The fault is `Image` where the old one denotes no files of its format, and `Blocks` where the files take more blocks
+/// than the new one has: a file of 12 blocks has an index block there, and one of 268 blocks three.
 pub fn migrate(alloc: Global, old: &[u8]) -> Result<Vec<u8>, MigrateFault>
     ensures migrated { IfOk result (λ new. (files : Files) → DenotesSmall old.now files → Denotes new.items files) }
     ensures source { OnOk result ((files : Files) × DenotesSmall old.now files) }

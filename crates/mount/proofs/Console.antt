@@ -1,15 +1,20 @@
 -- The image of the console alone, and its files in use.
-use Rattle.mount.proofs.Common.{Err, List, Ok, Result, length, replicate, ℕ, ◌%◌, ◌∙◌, ◌≡◌, ap, arith, refl, subst, sym, Files, find, free_slots, lookup, parts, place_of, Denotes, inodes_in, size_in, Wrong, added, bare_files}
-use Rattle.mount.proofs.Common.{data_blocks_of, files_made, with_entries, with_manifest_entry, flat_files, image_of, MakesImage, Refuses, image_of-blocks, IsFlat, IsFlatImage, IsMounted, IsUnmounted, console_manifest, FileTree}
+use Rattle.mount.proofs.Common.{Err, List, Ok, Result, length, replicate, ℕ, ◌%◌, ◌∙◌, ◌≡◌, ap, arith, refl, subst, sym}
+use Rattle.mount.proofs.Common.{Files, find, free_slots, lookup, parts, place_of, Denotes, inodes_in, size_in, Wrong}
+use Rattle.mount.proofs.Common.{added, bare_files, data_blocks_of, files_made, with_entries, with_manifest_entry}
+use Rattle.mount.proofs.Common.{flat_files, image_of, MakesImage, Refuses, image_of-blocks, IsFlat, IsFlatImage}
+use Rattle.mount.proofs.Common.{IsMounted, IsUnmounted, console_manifest, FileTree}
 use Rattle.blockdev.specs.Blocks as device
 use Rattle.unixmodel.specs.Counts.{blocks_of}
 use Rattle.imagecheck.specs.declared.ImageFault.{ImageFault}
 use Rattle.imagecheck.specs.declared.ImageFault.TheVariants as fault
 use Rattle.imagemake.specs.declared.manifest.MakeFault.{MakeFault}
-use Rattle.imagemake.specs.declared.manifest.MakeFault.TheVariants.{Blocks, Inodes, Name, NoMemory, Numbers, Parent, Twice}
+use Rattle.imagemake.specs.declared.manifest.MakeFault.TheVariants.{Blocks, Inodes, Name, NoMemory, Numbers, Parent}
+use Rattle.imagemake.specs.declared.manifest.MakeFault.TheVariants.{Twice}
 
 files_made-console : files_made console_manifest 32 16 ≡ Ok flat_files
-unfolding files_made with_entries with_manifest_entry bare_files added free_slots blocks_of flat_files lookup place_of parts find
+unfolding files_made with_entries with_manifest_entry bare_files added free_slots blocks_of flat_files lookup place_of
+    parts find
 files_made-console = refl
 
 -- ---- its making
@@ -38,14 +43,16 @@ not-refused NoMemory h other = other refl
 
 -- ---- its mount
 
-pub Denotes-disk : (bytes image : List ℕ) → bytes ≡ image → IsFlatImage image → Denotes (image_of (device.blocks_of bytes)) flat_files
+pub Denotes-disk : (bytes image : List ℕ) → bytes ≡ image → IsFlatImage image
+    → Denotes (image_of (device.blocks_of bytes)) flat_files
 Denotes-disk bytes image e flat =
     let whole = flat.whole in
     let long : length bytes % 1024 ≡ 0 = omega (arith, ap length e) in
     subst (λ b. Denotes b flat_files) (sym (image_of-blocks _ long ∙ e)) flat.denotes
 
 -- on a device that never fails it is refused only where there is no memory
-pub not-unmounted : {D : Type 0} {identity : D → List ℕ} {disk : D} (image : List ℕ) (files : Files) (f : ImageFault) → Denotes image files → IsUnmounted identity (λ _. 0) disk image f → (f ≡ fault.NoMemory → ⊥) → ⊥
+pub not-unmounted : {D : Type 0} {identity : D → List ℕ} {disk : D} (image : List ℕ) (files : Files) (f : ImageFault)
+    → Denotes image files → IsUnmounted identity (λ _. 0) disk image f → (f ≡ fault.NoMemory → ⊥) → ⊥
 not-unmounted image files fault.Device d u other = let rises = (u.failed refl).1.rises in absurd (omega arith)
 not-unmounted image files fault.NoMemory d u other = other refl
 not-unmounted image files f d u other = u.none tt files d
@@ -54,7 +61,8 @@ length-flat : length flat_files ≡ 16
 unfolding flat_files free_slots
 length-flat = refl
 
-pub IsFlat-mounted : (bytes image : List ℕ) {identity : List ℕ} (failures : ℕ) (tree : FileTree) → bytes ≡ image → IsFlatImage image → IsMounted (image_of (device.blocks_of bytes)) identity failures tree → IsFlat tree
+pub IsFlat-mounted : (bytes image : List ℕ) {identity : List ℕ} (failures : ℕ) (tree : FileTree) → bytes ≡ image
+    → IsFlatImage image → IsMounted (image_of (device.blocks_of bytes)) identity failures tree → IsFlat tree
 IsFlat-mounted bytes image failures tree e flat mounted =
     let disk = image_of (device.blocks_of bytes) in
     let d = Denotes-disk bytes image e flat in

@@ -23,8 +23,8 @@ pub record TellsNumbers (image : List ℕ) (g : Geometry) : Type 0 where
   pub size : g.size ≡ size_in image
   pub inodes : g.inodes ≡ inodes_in image
 
--- the files that the image denotes, and there are no others: they keep the rules of names, each node of them has links, and
--- nobody holds any; an access of the device, which this tells from others, had failed this often before
+-- the files that the image denotes, and there are no others: they keep the rules of names, each node of them has links,
+-- and nobody holds any; an access of the device, which this tells from others, had failed this often before
 pub record IsMounted (image : List ℕ) (identity : List ℕ) (failures : ℕ) (tree : FileTree) : Type 0 where
   pub denotes : Denotes image tree.files
   pub only : (files : Files) → Denotes image files → files ≡ tree.files
@@ -36,9 +36,10 @@ pub record IsMounted (image : List ℕ) (identity : List ℕ) (failures : ℕ) (
   pub same_device : tree.identity ≡ identity
   pub later : failures ≤ tree.failures
 
--- why none are in use: the fault is one of the image, which then denotes no files; or an access of this device failed, and it
--- counts it; or the host has no memory
-pub record IsUnmounted {D : Type 0} (identity : D → List ℕ) (count : D → ℕ) (device : D) (image : List ℕ) (fault : ImageFault) : Type 0 where
+-- why none are in use: the fault is one of the image, which then denotes no files; or an access of this device failed,
+-- and it counts it; or the host has no memory
+pub record IsUnmounted {D : Type 0} (identity : D → List ℕ) (count : D → ℕ) (device : D) (image : List ℕ)
+    (fault : ImageFault) : Type 0 where
   pub tells : Tells format image fault
   pub none : IsOfImage fault → (files : Files) → Denotes image files → ⊥
   pub failed : fault ≡ Device → (left : D) × Fails identity count device left

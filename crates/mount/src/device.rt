@@ -44,8 +44,8 @@ pub fn mount<D: BlockDev>(alloc: Global, mut device: D) -> Result<Tree<D>, Image
     Ok(Tree::new(alloc, volume)?)
 }
 
-/// Gives up files in use for their device, whose image denotes them then. Where an access fails it isn't told what the device
-/// has.
+/// Gives up files in use for their device, whose image denotes them then. Where an access fails it isn't told what the
+/// device has.
 pub fn unmount<D: BlockDev>(tree: Tree<D>) -> (D, Result<(), DeviceFault>)
     requires up { tree.failed ≡ false }
     requires rules { KeepsTree tree.files }

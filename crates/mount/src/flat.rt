@@ -36,8 +36,8 @@ pub fn flat_image(alloc: Global) -> Result<Vec<u8>, AllocError>
     }
 }
 
-/// A root and the console, on a disk in memory: the files of a machine that boots without a disk. It fails only where the
-/// host has no memory.
+/// A root and the console, on a disk in memory: the files of a machine that boots without a disk. It fails only where
+/// the host has no memory.
 pub fn mount_flat(alloc: Global) -> Result<Tree<MemDisk>, AllocError>
     ensures { IfOk result IsFlat }
 {

@@ -1,8 +1,8 @@
 //! Multiplications and divisions beside a table that another language worked out.
 //!
-//! Standard input has a line for each row: an instruction's name and its word, what registers 6 and 7 hold, and what register 5
-//! holds behind it, in hexadecimal digits. `rows.py` writes such a table. The program does each word on a hart, and prints how many
-//! rows there are; the first row that does not hold ends it with status 1.
+//! Standard input has a line for each row: an instruction's name and its word, what registers 6 and 7 hold, and what
+//! register 5 holds behind it, in hexadecimal digits. `rows.py` writes such a table. The program does each word on a
+//! hart, and prints how many rows there are; the first row that does not hold ends it with status 1.
 #![tactic(auto)]
 
 use anyhow::{Context, bail, ensure};

@@ -1,6 +1,8 @@
 -- Worked cases: calls on names from a root alone on, with each list of files written out, and files that break a rule.
-use Rattle.names.proofs.Common.{◌≡◌, ℕ, zero, suc, ◌≤◌, List, [], ◌∷◌, None, Option, Some, refl, arith, Entry, Files, Node, Spot, dot, dot_dot, enter, erase, free_number, lookup, place_of, slot, with_entry, Directory, File, KeepsSize}
-use Rattle.names.proofs.Common.{all_entries, names_of, linked, made_at, made_directory, make_at, unlinked, KeepsLive, KeepsTree, folders, names_by, names_for}
+use Rattle.names.proofs.Common.{◌≡◌, ℕ, zero, suc, ◌≤◌, List, [], ◌∷◌, None, Option, Some, refl, arith, Entry, Files}
+use Rattle.names.proofs.Common.{Node, Spot, dot, dot_dot, enter, erase, free_number, lookup, place_of, slot, with_entry}
+use Rattle.names.proofs.Common.{Directory, File, KeepsSize, all_entries, names_of, linked, made_at, made_directory}
+use Rattle.names.proofs.Common.{make_at, unlinked, KeepsLive, KeepsTree, folders, names_by, names_for}
 use Rattle.names.proofs.Changing.{keeps-linked, keeps-made, keeps-made-directory, keeps-unlinked}
 use Rattle.names.proofs.Quiet.{leaves, releases, writes-bytes}
 
@@ -76,7 +78,8 @@ made_folder = with_nodes (folder 2 1 1 (e d_name 2 ∷ [])) (folder 1 2 1 []) No
 
 folder-keeps : KeepsTree made_folder
 unfolding made_directory make_at free_number enter with_entry lookup
-folder-keeps = (keeps-made-directory bare-keeps (spot 1 d_name) (record { links = 0; places = e dot 1 ∷ e dot_dot 1 ∷ []; here = refl; name = refl }) made_folder refl).tree
+folder-keeps = (keeps-made-directory bare-keeps (spot 1 d_name)
+    (record { links = 0; places = e dot 1 ∷ e dot_dot 1 ∷ []; here = refl; name = refl }) made_folder refl).tree
 
 abbrev made_file : Files
 made_file = with_nodes (folder 2 1 1 (e d_name 2 ∷ [])) (folder 1 2 1 (e f_name 3 ∷ [])) (Some (File 1 []))
@@ -84,18 +87,24 @@ made_file = with_nodes (folder 2 1 1 (e d_name 2 ∷ [])) (folder 1 2 1 (e f_nam
 file-keeps : KeepsTree made_file
 unfolding made_at make_at free_number enter with_entry lookup
 file-keeps =
-    (keeps-made folder-keeps (spot 2 f_name) (record { links = 0; places = e dot 2 ∷ e dot_dot 1 ∷ []; here = refl; name = refl })
-    (λ n. File 1 []) (λ n. record { kind = refl; links = refl; size = omega arith }) (record { files = made_file; number = 3 }) refl).tree
+    (keeps-made folder-keeps (spot 2 f_name)
+        (record { links = 0; places = e dot 2 ∷ e dot_dot 1 ∷ []; here = refl; name = refl })
+    (λ n. File 1 []) (λ n. record { kind = refl; links = refl; size = omega arith })
+        (record { files = made_file; number = 3 }) refl).tree
 
 abbrev linked_file : Files
-linked_file = with_nodes (folder 2 1 1 (e d_name 2 ∷ e g_name 3 ∷ [])) (folder 1 2 1 (e f_name 3 ∷ [])) (Some (File 2 []))
+linked_file = with_nodes (folder 2 1 1 (e d_name 2 ∷ e g_name 3 ∷ [])) (folder 1 2 1 (e f_name 3 ∷ []))
+    (Some (File 2 []))
 
 linked-keeps : KeepsTree linked_file
 unfolding linked enter with_entry lookup
 linked-keeps =
-    (keeps-linked file-keeps (spot 1 g_name) (record { links = 1; places = e dot 1 ∷ e dot_dot 1 ∷ e d_name 2 ∷ []; here = refl; name = refl }) 3 linked_file refl).tree
+    (keeps-linked file-keeps (spot 1 g_name)
+        (record { links = 1; places = e dot 1 ∷ e dot_dot 1 ∷ e d_name 2 ∷ []; here = refl; name = refl }) 3
+        linked_file refl).tree
 
-written-keeps : KeepsTree (with_nodes (folder 2 1 1 (e d_name 2 ∷ e g_name 3 ∷ [])) (folder 1 2 1 (e f_name 3 ∷ [])) (Some (File 2 (7 ∷ []))))
+written-keeps : KeepsTree
+    (with_nodes (folder 2 1 1 (e d_name 2 ∷ e g_name 3 ∷ [])) (folder 1 2 1 (e f_name 3 ∷ [])) (Some (File 2 (7 ∷ []))))
 written-keeps = (writes-bytes linked-keeps 3 2 [] (7 ∷ []) refl (omega arith)).tree
 
 abbrev one_name : Files

@@ -37,7 +37,8 @@ pub trait Folder {
         ensures ok { OnOk result (Known Syncs (held self.old) (held self.new)) }
         ensures err { OnErr result (Known IsSame (held self.old) (held self.new)) };
 
-    /// Gives the file that was begun last, and stands on the disk, another name, in place of the file that has it, if there is one: at no moment has neither the name.
+    /// Gives the file that was begun last, and stands on the disk, another name, in place of the file that has it, if
+    /// there is one: at no moment has neither the name.
     fn rename(&mut self, one: &str, other: &str) -> Result<(), StepFault>
         requires apart { one.now ≢ other.now }
         requires synced { IsSynced (held self.old) }

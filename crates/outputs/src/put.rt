@@ -18,8 +18,8 @@ enum Attempt {
     Taken,
 }
 
-// The name of the new file of this number, in the folder of the file of this path. It is short, so that it fits where the
-// path's last name does.
+// The name of the new file of this number, in the folder of the file of this path. It is short, so that it fits where
+// the path's last name does.
 fn name_beside(alloc: Global, path: &str, number: u32) -> Result<String, AllocError> {
     match path.rsplit_once('/') {
         Some((folder, _)) => format!(in alloc; "{folder}/.xv6-new-{number}"),
@@ -56,7 +56,8 @@ fn put_by<F: Folder>(
     path: &str,
     bytes: &[u8],
 ) -> Result<Attempt, PutFault>
-    ensures ok { IfOk result (λ attempt. Known (Tries begun.now path.now bytes.now attempt) (F.held folder.old) (F.held folder.new)) }
+    ensures ok { IfOk result
+            (λ attempt. Known (Tries begun.now path.now bytes.now attempt) (F.held folder.old) (F.held folder.new)) }
     ensures err { IfErr result (λ fault. Known (Keeps path.now fault) (F.held folder.old) (F.held folder.new)) }
 {
     if begun == path {
@@ -97,9 +98,9 @@ pub fn sweep<F: Folder>(alloc: Global, folder: &mut F, path: &str)
     }
 }
 
-/// Puts the bytes in the place of the file of this path, if there is one, by a new file in its folder: the name has the old
-/// file or the new one, and after a fault the old one. The new file is removed where a step fails; only where that fails too
-/// (`Left`) it stays. Names that are taken, as by files that a program left that was killed, are passed over.
+/// Puts the bytes in the place of the file of this path, if there is one, by a new file in its folder: the name has the
+/// old file or the new one, and after a fault the old one. The new file is removed where a step fails; only where that
+/// fails too (`Left`) it stays. Names that are taken, as by files that a program left that was killed, are passed over.
 pub fn replace<F: Folder>(
     alloc: Global,
     folder: &mut F,

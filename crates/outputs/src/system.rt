@@ -163,8 +163,8 @@ fn is_open_already(path: &str) -> bool {
         || path.starts_with("/proc/")
 }
 
-// Replaces the file that the path leads to, which is this one. False where that can't be done: where it has no path, or its
-// folder takes no new file.
+// Replaces the file that the path leads to, which is this one. False where that can't be done: where it has no path, or
+// its folder takes no new file.
 fn replace_there<R: Files<File = File> + AllocGlobal>(
     rt: &R,
     path: &str,
@@ -182,10 +182,10 @@ fn replace_there<R: Files<File = File> + AllocGlobal>(
     replace_file(rt, place.as_str(), Some(old), bytes)
 }
 
-/// Writes a file whole: after an error, and wherever the program ends, its name has what it had, or all of the bytes. Links
-/// are followed to the file, and its permissions stay, and its owner where the system lets it. What is no regular file is
-/// written as it is, and so is one whose folder takes no new file. Files that killed programs left in the folder are
-/// removed: those of the names of begun files that nobody holds.
+/// Writes a file whole: after an error, and wherever the program ends, its name has what it had, or all of the bytes.
+/// Links are followed to the file, and its permissions stay, and its owner where the system lets it. What is no regular
+/// file is written as it is, and so is one whose folder takes no new file. Files that killed programs left in the
+/// folder are removed: those of the names of begun files that nobody holds.
 pub fn write<R: Files<File = File> + AllocGlobal>(
     rt: &R,
     path: &str,

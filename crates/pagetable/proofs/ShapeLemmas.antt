@@ -1,18 +1,26 @@
 -- Lemmas on the tables that come and go.
-use Rattle.pagetable.proofs.Common.{Ram, Adds, ap, arith, cases_eq, extra_of, Frames, free_count, free_of, inl, inr, Inserts, IsNode, IsPaged, IsTidy, IsUsed, length, length-append, lookup_of, low_node, made, made_by, mid_node, missing}
-use Rattle.pagetable.proofs.Common.{missing_by, Node, None, Option, refl, SameMap, Some, sym, table_at, table_of, unwrap_or, ℕ, ◌++◌, ◌+◌, ◌<◌, ◌^◌, ◌∙◌, ◌≡◌, ◌≢◌, ◌⊎◌, child_at, entry_of, leaf_at, leaf_of, Low, Mid, Removes, ◌%◌, ◌*◌, ◌/◌}
-use Rattle.pagetable.proofs.Common.{[], among, frame_of, free_of-same, get_or-set_other, IsEmpty, IsFreeList, IsFreeList-same, length-set, no_table, replicate, Root, slice_set, true, ◌∷◌}
-use Rattle.pagetable.proofs.TreeLemmas.{cases_node, free_count-taken, child_of-some, leaf_of-some, child_of-zero, entry_of-zeros, free-first, further-taken, root_at}
+use Rattle.pagetable.proofs.Common.{Ram, Adds, ap, arith, cases_eq, extra_of, Frames, free_count, free_of, inl, inr}
+use Rattle.pagetable.proofs.Common.{Inserts, IsNode, IsPaged, IsTidy, IsUsed, length, length-append, lookup_of}
+use Rattle.pagetable.proofs.Common.{low_node, made, made_by, mid_node, missing, missing_by, Node, None, Option, refl}
+use Rattle.pagetable.proofs.Common.{SameMap, Some, sym, table_at, table_of, unwrap_or, ℕ, ◌++◌, ◌+◌, ◌<◌, ◌^◌, ◌∙◌, ◌≡◌}
+use Rattle.pagetable.proofs.Common.{◌≢◌, ◌⊎◌, child_at, entry_of, leaf_at, leaf_of, Low, Mid, Removes, ◌%◌, ◌*◌, ◌/◌}
+use Rattle.pagetable.proofs.Common.{[], among, frame_of, free_of-same, get_or-set_other, IsEmpty, IsFreeList}
+use Rattle.pagetable.proofs.Common.{IsFreeList-same, length-set, no_table, replicate, Root, slice_set, true, ◌∷◌}
+use Rattle.pagetable.proofs.TreeLemmas.{cases_node, free_count-taken, child_of-some, leaf_of-some, child_of-zero}
+use Rattle.pagetable.proofs.TreeLemmas.{entry_of-zeros, free-first, further-taken, root_at}
 
 -- ---- a page that comes
 
 pub table_of-some : (m : Ram) (r : ℕ) (x : Node) (t : ℕ) → table_at m r x ≡ Some t → table_of m r x ≡ t
 table_of-some m r x t e = rw e refl
 
-pub some-table_of : (m : Ram) (r : ℕ) (x : Node) (t : ℕ) → table_at m r x ≡ Some t → table_at m r x ≡ Some (table_of m r x)
+pub some-table_of : (m : Ram) (r : ℕ) (x : Node) (t : ℕ) → table_at m r x ≡ Some t
+    → table_at m r x ≡ Some (table_of m r x)
 some-table_of m r x t e = e ∙ ap Some (sym (table_of-some m r x t e))
 
-pub made-is : (m k : Ram) (r page : ℕ) {o q : Option ℕ} → o ≡ table_at m r (mid_node page) → q ≡ table_at m r (low_node page) → made m k r page ≡ made_by o q (table_of k r (mid_node page)) (table_of k r (low_node page))
+pub made-is : (m k : Ram) (r page : ℕ) {o q : Option ℕ} → o ≡ table_at m r (mid_node page)
+    → q ≡ table_at m r (low_node page)
+    → made m k r page ≡ made_by o q (table_of k r (mid_node page)) (table_of k r (low_node page))
 unfolding made
 made-is m k r page a b = rw (← a, ← b) refl
 
@@ -23,11 +31,16 @@ length-made_by (Some a) (Some b) t u = refl
 
 pub length-made : (m k : Ram) (r page : ℕ) → length (made m k r page) ≡ missing m r page
 unfolding made missing
-length-made m k r page = length-made_by (table_at m r (mid_node page)) (table_at m r (low_node page)) (table_of k r (mid_node page)) (table_of k r (low_node page))
+length-made m k r page =
+    length-made_by (table_at m r (mid_node page)) (table_at m r (low_node page)) (table_of k r (mid_node page))
+    (table_of k r (low_node page))
 
 -- where the tables on the way to a page stand now, which weren't there or were these, and all others are as they were
-pub Adds-by : (m l : Ram) (r page : ℕ) (s n : Frames) {t u : ℕ} {o q : Option ℕ} → o ≡ table_at m r (mid_node page) → q ≡ table_at m r (low_node page) → unwrap_or o t ≡ t → unwrap_or q u ≡ u → table_at l r (mid_node page) ≡ Some t
-    → table_at l r (low_node page) ≡ Some u → ((x : Node) → IsNode x → x ≢ mid_node page → x ≢ low_node page → table_at l r x ≡ table_at m r x) → free_of m s ≡ made_by o q t u ++ free_of l n → Adds m l r page s n
+pub Adds-by : (m l : Ram) (r page : ℕ) (s n : Frames) {t u : ℕ} {o q : Option ℕ} → o ≡ table_at m r (mid_node page)
+    → q ≡ table_at m r (low_node page) → unwrap_or o t ≡ t → unwrap_or q u ≡ u → table_at l r (mid_node page) ≡ Some t
+    → table_at l r (low_node page) ≡ Some u
+        → ((x : Node) → IsNode x → x ≢ mid_node page → x ≢ low_node page → table_at l r x ≡ table_at m r x)
+        → free_of m s ≡ made_by o q t u ++ free_of l n → Adds m l r page s n
 Adds-by m l r page s n {t} {u} a b old older mid low beside taken = record {
   mid = some-table_of l r (mid_node page) t mid;
   low = some-table_of l r (low_node page) u low;
@@ -39,15 +52,20 @@ Adds-by m l r page s n {t} {u} a b old older mid low beside taken = record {
     ]
   ];
   beside = beside;
-  taken = rw (made-is m l r page a b, table_of-some l r (mid_node page) t mid, table_of-some l r (low_node page) u low) taken;
+  taken = rw (made-is m l r page a b, table_of-some l r (mid_node page) t mid, table_of-some l r (low_node page) u low)
+      taken;
 }
 
 -- the tables stay in use
-pub IsTidy-insert : {m : Ram} (k : Ram) {r page : ℕ} {value : ℕ × ℕ} → IsTidy m r → page < 2 ^ 27 → Inserts (lookup_of m r) (lookup_of k r) page value → ((x : Node) → IsNode x → x ≢ mid_node page → x ≢ low_node page → table_at k r x ≡ table_at m r x)
+pub IsTidy-insert : {m : Ram} (k : Ram) {r page : ℕ} {value : ℕ × ℕ} → IsTidy m r → page < 2 ^ 27
+    → Inserts (lookup_of m r) (lookup_of k r) page value
+    → ((x : Node) → IsNode x → x ≢ mid_node page → x ≢ low_node page → table_at k r x ≡ table_at m r x)
     → IsTidy k r
 IsTidy-insert {m} k {r} {page} {value} is small ins beside = record {
   used = λ x t nx nr h.
-      let here : (x ≡ mid_node page) ⊎ (x ≡ low_node page) → IsUsed k r x = λ o. record { page = page; value = value; inside = small; over = o; mapped = ins.changed } in
+      let here : (x ≡ mid_node page) ⊎ (x ≡ low_node page)
+              → IsUsed k r x = λ o. record
+              { page = page; value = value; inside = small; over = o; mapped = ins.changed } in
       elim (cases_node x (mid_node page)) [
         | inl e ↦ here (inl e)
         | inr nm ↦ elim (cases_node x (low_node page)) [
@@ -56,14 +74,17 @@ IsTidy-insert {m} k {r} {page} {value} is small ins beside = record {
               let u : IsUsed m r x = is.used x t nx nr (sym (beside x nx nm nl) ∙ h) in
               elim (cases_eq u.page page) [
                 | inl same ↦ here (rw (← same) u.over)
-                | inr other ↦ record { page = u.page; value = u.value; inside = u.inside; over = u.over; mapped = ins.others u.page u.inside other ∙ u.mapped }
+                | inr other ↦ record { page = u.page; value = u.value; inside = u.inside; over = u.over;
+                    mapped = ins.others u.page u.inside other ∙ u.mapped }
               ]
         ]
       ];
 }
 
-pub Inserts-after : (m k l : Ram) (r page : ℕ) (value : ℕ × ℕ) → SameMap m k r → Inserts (lookup_of k r) (lookup_of l r) page value → Inserts (lookup_of m r) (lookup_of l r) page value
-Inserts-after m k l r page value same ins = record { changed = ins.changed; others = λ p small ne. ins.others p small ne ∙ same p }
+pub Inserts-after : (m k l : Ram) (r page : ℕ) (value : ℕ × ℕ) → SameMap m k r
+    → Inserts (lookup_of k r) (lookup_of l r) page value → Inserts (lookup_of m r) (lookup_of l r) page value
+Inserts-after m k l r page value same ins =
+    record { changed = ins.changed; others = λ p small ne. ins.others p small ne ∙ same p }
 
 -- what a page that is mapped by these tables tells
 pub record IsMapped (m k : Ram) (r page : ℕ) (s n : Frames) : Type 0 where
@@ -72,10 +93,14 @@ pub record IsMapped (m k : Ram) (r page : ℕ) (s n : Frames) : Type 0 where
   pub not_refused : ¬ (free_count m s < missing m r page)
   pub tidy : IsTidy m r → IsTidy k r
 
-pub mapped-by : {m k : Ram} {r page : ℕ} {s n : Frames} {value : ℕ × ℕ} → Inserts (lookup_of m r) (lookup_of k r) page value → page < 2 ^ 27 → IsPaged k r n → extra_of n ≡ extra_of s → Adds m k r page s n → IsMapped m k r page s n
+pub mapped-by : {m k : Ram} {r page : ℕ} {s n : Frames} {value : ℕ × ℕ}
+    → Inserts (lookup_of m r) (lookup_of k r) page value → page < 2 ^ 27 → IsPaged k r n → extra_of n ≡ extra_of s
+    → Adds m k r page s n → IsMapped m k r page s n
 mapped-by {m} {k} {r} {page} {s} {n} ins small is table adds =
-    let taken = free_count-taken m k s n (missing m r page) (rw (adds.taken, length-append, length-made m k r page) refl) table is.free in
-    record { adds = adds; taken = taken; not_refused = λ less. absurd (omega arith); tidy = λ tidy. IsTidy-insert k tidy small ins adds.beside }
+    let taken = free_count-taken m k s n (missing m r page)
+            (rw (adds.taken, length-append, length-made m k r page) refl) table is.free in
+    record { adds = adds; taken = taken; not_refused = λ less. absurd (omega arith);
+        tidy = λ tidy. IsTidy-insert k tidy small ins adds.beside }
 
 -- ---- a page that goes
 
@@ -83,7 +108,8 @@ pub some-none : {v : ℕ} → ◌≡◌ {A = Option ℕ} (Some v) None → ⊥
 some-none e = cc
 
 -- a used entry of the low table
-pub used-low : (k : Ram) (r page : ℕ) {u : ℕ} (i : ℕ) → page < 2 ^ 27 → table_at k r (low_node page) ≡ Some u → i < 512 → entry_of k u i ≢ 0 → (x : Node) → (x ≡ mid_node page) ⊎ (x ≡ low_node page) → IsUsed k r x
+pub used-low : (k : Ram) (r page : ℕ) {u : ℕ} (i : ℕ) → page < 2 ^ 27 → table_at k r (low_node page) ≡ Some u → i < 512
+    → entry_of k u i ≢ 0 → (x : Node) → (x ≡ mid_node page) ⊎ (x ≡ low_node page) → IsUsed k r x
 unfolding lookup_of
 used-low k r page {u} i small at low ne x o =
     let q = page / 512 * 512 + i in
@@ -97,15 +123,19 @@ used-low k r page {u} i small at low ne x o =
       value = _;
       inside = omega arith;
       over = elim o [ inl e ↦ inl (e ∙ sym mid) | inr e ↦ inr (e ∙ sym node) ];
-      mapped = ap (λ y. leaf_at k (table_at k r y) (q % 512)) node ∙ ap (λ y. leaf_at k y (q % 512)) at ∙ ap (λ y. leaf_of (entry_of k u y)) c ∙ leaf_of-some (entry_of k u i) ne;
+      mapped = ap (λ y. leaf_at k (table_at k r y) (q % 512)) node
+          ∙ ap (λ y. leaf_at k y (q % 512)) at ∙ ap (λ y. leaf_of (entry_of k u y)) c
+          ∙ leaf_of-some (entry_of k u i) ne;
     }
 
 low-first-same : (a b c d : ℕ) → Low a b ≡ Low c d → a ≡ c
 low-first-same a b c d e = cc
 
-module _ {m k : Ram} {r page : ℕ} {s n : Frames} (is : IsTidy m r) (rem : Removes (lookup_of m r) (lookup_of k r) page) (drops : Adds k m r page n s) where
+module _ {m k : Ram} {r page : ℕ} {s n : Frames} (is : IsTidy m r) (rem : Removes (lookup_of m r) (lookup_of k r) page)
+    (drops : Adds k m r page n s) where
   -- no table but the root is empty afterwards
-  pub IsTidy-remove : ((t : ℕ) → table_at k r (mid_node page) ≡ Some t → IsUsed k r (mid_node page)) → ((t : ℕ) → table_at k r (low_node page) ≡ Some t → IsUsed k r (low_node page)) → IsTidy k r
+  pub IsTidy-remove : ((t : ℕ) → table_at k r (mid_node page) ≡ Some t → IsUsed k r (mid_node page))
+      → ((t : ℕ) → table_at k r (low_node page) ≡ Some t → IsUsed k r (low_node page)) → IsTidy k r
   IsTidy-remove mid low = record {
     used = λ x t nx nr h.
         let u = is.used x t nx nr (drops.stand x t nx h) in
@@ -114,12 +144,14 @@ module _ {m k : Ram} {r page : ℕ} {s n : Frames} (is : IsTidy m r) (rem : Remo
             | inl e ↦ let at : x ≡ mid_node page = e ∙ ap mid_node same in rw at (mid t (rw at at h))
             | inr e ↦ let at : x ≡ low_node page = e ∙ ap low_node same in rw at (low t (rw at at h))
           ]
-          | inr ne ↦ record { page = u.page; value = u.value; inside = u.inside; over = u.over; mapped = rem.others u.page u.inside ne ∙ u.mapped }
+          | inr ne ↦ record { page = u.page; value = u.value; inside = u.inside; over = u.over;
+              mapped = rem.others u.page u.inside ne ∙ u.mapped }
         ];
   }
 
   -- a used entry of the mid table
-  pub used-mid : (t j : ℕ) → page < 2 ^ 27 → table_at k r (mid_node page) ≡ Some t → table_at k r (low_node page) ≡ None → j < 512 → entry_of k t j ≢ 0 → IsUsed k r (mid_node page)
+  pub used-mid : (t j : ℕ) → page < 2 ^ 27 → table_at k r (mid_node page) ≡ Some t
+      → table_at k r (low_node page) ≡ None → j < 512 → entry_of k t j ≢ 0 → IsUsed k r (mid_node page)
   unfolding table_at
   used-mid t j small at none low ne =
       let a = page / 262144 % 512 in
@@ -130,11 +162,14 @@ module _ {m k : Ram} {r page : ℕ} {s n : Frames} (is : IsTidy m r) (rem : Remo
         | inr e ↦
             let other : u.page ≢ page = λ f. some-none (sym there ∙ ap (table_at k r) (e ∙ ap low_node f) ∙ none) in
             let first : a ≡ u.page / 262144 % 512 = low-first-same a j (u.page / 262144 % 512) (u.page / 512 % 512) e in
-            record { page = u.page; value = u.value; inside = u.inside; over = inl (ap Mid first); mapped = rem.others u.page u.inside other ∙ u.mapped }
+            record { page = u.page; value = u.value; inside = u.inside; over = inl (ap Mid first);
+                mapped = rem.others u.page u.inside other ∙ u.mapped }
       ]
 
-pub Removes-after : (m k l : Ram) (r page : ℕ) → SameMap k l r → Removes (lookup_of m r) (lookup_of k r) page → Removes (lookup_of m r) (lookup_of l r) page
-Removes-after m k l r page same rem = record { changed = same page ∙ rem.changed; others = λ p small ne. same p ∙ rem.others p small ne }
+pub Removes-after : (m k l : Ram) (r page : ℕ) → SameMap k l r → Removes (lookup_of m r) (lookup_of k r) page
+    → Removes (lookup_of m r) (lookup_of l r) page
+Removes-after m k l r page same rem =
+    record { changed = same page ∙ rem.changed; others = λ p small ne. same p ∙ rem.others p small ne }
 
 -- ---- a page table that maps nothing
 
@@ -165,13 +200,17 @@ module _ {k : Ram} {r : ℕ} (is : IsEmpty k r) where
   only-root (Mid a) t nx h = absurd (let none = is.tables (Mid a) nx (λ e. cc) in cc)
   only-root (Low a b) t nx h = absurd (let none = is.tables (Low a b) nx (λ e. cc) in cc)
 
-pub IsPaged-new : (m : Ram) (r : ℕ) (s n : Frames) → IsFreeList m s → free_of m s ≡ r ∷ free_of m n → IsFreeList m n → (k : Ram) → k ≡ slice_set m r (replicate 4096 0) → extra_of n ≡ extra_of s
+pub IsPaged-new : (m : Ram) (r : ℕ) (s n : Frames) → IsFreeList m s → free_of m s ≡ r ∷ free_of m n → IsFreeList m n
+    → (k : Ram) → k ≡ slice_set m r (replicate 4096 0) → extra_of n ≡ extra_of s
     → IsPaged k r n × IsEmpty k r × (free_of m s ≡ r ∷ free_of k n)
 IsPaged-new m r s n is taken after k e table =
     let first = free-first is r (free_of m n) taken in
     let len : length k ≡ length m = rw e (length-set m r (replicate {A = ℕ} 4096 0)) in
-    let others : (g : ℕ) → g ≢ r → frame_of k g ≡ frame_of m g = λ g ne. rw e (get_or-set_other m r g (replicate {A = ℕ} 4096 0) [] ne) in
-    let same : (g : ℕ) → among g (free_of m n) ≡ true → frame_of k g ≡ frame_of m g = λ g at. others g (λ f. cc (ap (λ x. among x (free_of m n)) f, at, first.1)) in
+    let others : (g : ℕ) → g ≢ r
+            → frame_of k g ≡ frame_of m g = λ g ne. rw e (get_or-set_other m r g (replicate {A = ℕ} 4096 0) [] ne) in
+    let same : (g : ℕ) → among g (free_of m n) ≡ true
+            → frame_of k g ≡ frame_of m g =
+            λ g at. others g (λ f. cc (ap (λ x. among x (free_of m n)) f, at, first.1)) in
     let free : free_of k n ≡ free_of m n = free_of-same m k n same in
     let zero : (i : ℕ) → i < 512 → entry_of k r i ≡ 0 = λ i l. rw e (entry_of-zeros m r i first.0 l) in
     let empty = IsEmpty-zeros k r zero in

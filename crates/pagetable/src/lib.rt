@@ -6,7 +6,8 @@
 //! `walks_by_map` says that the walk of the hardware gives what the map gives.
 #![tactic(auto)]
 
-ghost use Rattle.std.specs.Prelude.{◌≡◌, ◌≢◌, ℕ, ◌+◌, ◌*◌, ◌/◌, ◌%◌, ◌^◌, ◌<◌, ◌≤◌, List, [], ◌∷◌, length, None, Some, true, false, OnOk, OnErr, IsErr, IsTrue, ◌↔◌, IfSome, IfNone};
+ghost use Rattle.std.specs.Prelude.{◌≡◌, ◌≢◌, ℕ, ◌+◌, ◌*◌, ◌/◌, ◌%◌, ◌^◌, ◌<◌, ◌≤◌, List, [], ◌∷◌, length, None, Some};
+ghost use Rattle.std.specs.Prelude.{true, false, OnOk, OnErr, IsErr, IsTrue, ◌↔◌, IfSome, IfNone};
 ghost use Rattle.std.specs.Option.{option_map};
 ghost use Rattle.frames.specs.Free.{among, free_of, free_count, extra_of, IsFreeList, SameBut};
 ghost use Rattle.frames.specs.Holders.{one_if};
@@ -14,7 +15,10 @@ ghost use Rattle.sv39.specs.Walk.{base, entry_of, numbered};
 ghost use Rattle.pagetable.specs.Agree.{WalksByMap};
 ghost use Rattle.pagetable.specs.Marks.{leaf_marks};
 ghost use Rattle.pagetable.specs.Shape.{table_of, IsTidy, IsEmpty, Adds, Removes};
-ghost use Rattle.pagetable.specs.Tree.{Root, table_entry, leaf_entry, child_of, leaf_of, table_at, low_node, mid_node, lookup_of, IsTableEntry, IsLeafEntry, IsLeafMarks, IsTree, IsPaged, Keeps, HasTable, Writes, Links, missing, Maps, SameMap, SameTables, SameTablesBut, SetsMarks, TakesMissing};
+ghost use Rattle.pagetable.specs.Tree.{Root, table_entry, leaf_entry, child_of, leaf_of, table_at, low_node, mid_node};
+ghost use Rattle.pagetable.specs.Tree.{lookup_of, IsTableEntry, IsLeafEntry, IsLeafMarks, IsTree, IsPaged, Keeps};
+ghost use Rattle.pagetable.specs.Tree.{HasTable, Writes, Links, missing, Maps, SameMap, SameTables, SameTablesBut};
+ghost use Rattle.pagetable.specs.Tree.{SetsMarks, TakesMissing};
 
 use frames::Frames;
 use ram::{FrameNo, Ram};
@@ -58,7 +62,8 @@ fn bits_if(set: bool, mark: EntryBits) -> u16
 /// The walk sets no A or D, so they stand from the start; without U a program has no access.
 #[tactic(auto, unfolding(crate::specs::Marks::leaf_marks))]
 pub fn leaf_marks(writable: bool, executable: bool, user: bool) -> EntryBits
-    ensures marks { result.0 ≡ leaf_marks (record { writable = writable; executable = executable; user = user; shared = false }) }
+    ensures marks { result.0
+            ≡ leaf_marks (record { writable = writable; executable = executable; user = user; shared = false }) }
     ensures leaf { IsLeafMarks result.0 }
 {
     let always = EntryBits::VALID.0
@@ -184,7 +189,8 @@ impl PageTable {
         ensures tidy { IfSome result (λ t. IsTidy ram.new t.root.0) }
         ensures taken { IfSome result (λ t. free_of ram.old frames.old ≡ t.root.0 ∷ free_of ram.new frames.new) }
         ensures bytes { IfSome result (λ t. ram.new ≡ slice_set ram.old t.root.0 (replicate 4096 0)) }
-        ensures none { IfNone result ((free_count ram.old frames.old ≡ 0) × (ram.new ≡ ram.old) × (frames.new ≡ frames.old)) }
+        ensures none { IfNone result
+                ((free_count ram.old frames.old ≡ 0) × (ram.new ≡ ram.old) × (frames.new ≡ frames.old)) }
         ensures extra { extra_of frames.new ≡ extra_of frames.old }
     {
         ram.frames_are_whole();

@@ -158,8 +158,8 @@ fn pace<D: BlockDev, T: Translate, R: Record, V: Watch, W: Write>(
     tick_if(machine, clock.strikes(), keeper, watch, out)
 }
 
-// The first of so many steps behind none of which the clock strikes, and at none of which anybody looks on: as many as are done in
-// one go, and all where no process runs and none is ready; and how many they were.
+// The first of so many steps behind none of which the clock strikes, and at none of which anybody looks on: as many as
+// are done in one go, and all where no process runs and none is ready; and how many they were.
 fn stride<D: BlockDev, T: Translate, R: Record, W: Write>(
     machine: &mut Machine<D, T>,
     most: u32,
@@ -168,7 +168,8 @@ fn stride<D: BlockDev, T: Translate, R: Record, W: Write>(
 ) -> Result<u32, Halt>
     requires up { IsUp machine.old }
     requires some { 0 < most }
-    ensures plays { PlaysTo W.contents R.kept machine.old machine.new out.old.out out.new.out keeper.old keeper.new (halts result) }
+    ensures plays { PlaysTo W.contents R.kept machine.old machine.new out.old.out out.new.out keeper.old keeper.new
+            (halts result) }
     ensures within { IfOk result (λ made. (0 < made) × (made ≤ most)) }
 {
     let (made, ended) = machine.advance(most, out);
@@ -187,8 +188,8 @@ fn looks_at<D: BlockDev, T: Translate, V: Watch>(machine: &Machine<D, T>, watch:
     watch.sees_steps() && !machine.is_idle()
 }
 
-// The first of so many steps, with a tick where the clock strikes behind it; and how many they were. Where nobody looks on at each
-// step they are as many as are done in one go.
+// The first of so many steps, with a tick where the clock strikes behind it; and how many they were. Where nobody looks
+// on at each step they are as many as are done in one go.
 fn go_on<D: BlockDev, T: Translate, R: Record, V: Watch, W: Write>(
     machine: &mut Machine<D, T>,
     most: u32,
@@ -199,7 +200,8 @@ fn go_on<D: BlockDev, T: Translate, R: Record, V: Watch, W: Write>(
 ) -> Result<u32, Halt>
     requires up { IsUp machine.old }
     requires some { 0 < most }
-    ensures plays { PlaysTo W.contents R.kept machine.old machine.new out.old.out out.new.out keeper.old keeper.new (halts result) }
+    ensures plays { PlaysTo W.contents R.kept machine.old machine.new out.old.out out.new.out keeper.old keeper.new
+            (halts result) }
     ensures within { IfOk result (λ made. (0 < made) × (made ≤ most)) }
 {
     let quiet = clock.quiet_steps().min(most);
@@ -263,7 +265,8 @@ fn walk<D: BlockDev, T: Translate, R: Record, V: Watch, W: Write>(
     out: &mut Tail<W>,
 ) -> Result<Walked, Halt>
     requires { IsUp machine.old }
-    ensures { PlaysTo W.contents R.kept machine.old machine.new out.old.out out.new.out keeper.old keeper.new (halts result) }
+    ensures { PlaysTo W.contents R.kept machine.old machine.new out.old.out out.new.out keeper.old keeper.new
+            (halts result) }
 {
     let mut made = 0;
     while made < most {
@@ -338,7 +341,8 @@ fn act<D: BlockDev, T: Translate, R: Record, V: Watch, W: Write>(
     out: &mut Tail<W>,
 ) -> Result<Done, Halt>
     requires { IsUp machine.old }
-    ensures { PlaysTo W.contents R.kept machine.old machine.new out.old.out out.new.out keeper.old keeper.new (halts result) }
+    ensures { PlaysTo W.contents R.kept machine.old machine.new out.old.out out.new.out keeper.old keeper.new
+            (halts result) }
 {
     match &act.deed {
         Deed::Give(said) => {
@@ -367,8 +371,9 @@ fn note(place: &mut Place, gave: bool) {
     }
 }
 
-/// The events of a play, up to the first at which the machine halts, or to a line that waits in vain, which is told then: the
-/// machine's run over them all, and just these are recorded. The console's bytes are written out as the machine runs.
+/// The events of a play, up to the first at which the machine halts, or to a line that waits in vain, which is told
+/// then: the machine's run over them all, and just these are recorded. The console's bytes are written out as the
+/// machine runs.
 pub fn perform<D: BlockDev, T: Translate, R: Record, V: Watch, W: Write>(
     machine: &mut Machine<D, T>,
     play: &Play<'_>,
@@ -377,7 +382,8 @@ pub fn perform<D: BlockDev, T: Translate, R: Record, V: Watch, W: Write>(
     out: &mut Tail<W>,
 ) -> Result<Option<Unreached>, Halt>
     requires { IsUp machine.old }
-    ensures { PlaysTo W.contents R.kept machine.old machine.new out.old.out out.new.out keeper.old keeper.new (halts result) }
+    ensures { PlaysTo W.contents R.kept machine.old machine.new out.old.out out.new.out keeper.old keeper.new
+            (halts result) }
 {
     let mut place = Place::new();
     let mut clock = Clock::Off;

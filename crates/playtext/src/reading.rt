@@ -170,8 +170,8 @@ fn split_lines<'a>(alloc: Global, text: &'a [u8]) -> Result<Vec<&'a [u8]>, Alloc
     text.split(|byte| *byte == b'\n').collect(alloc)
 }
 
-/// The play that a text says. Lines end at LF, blanks may stand before the first word, and a word that begins with `#` begins
-/// a comment. The first line that says nothing is told.
+/// The play that a text says. Lines end at LF, blanks may stand before the first word, and a word that begins with `#`
+/// begins a comment. The first line that says nothing is told.
 pub fn parse<'a>(alloc: Global, text: &'a [u8]) -> Result<Play<'a>, PlayFault<'a>> {
     let mut draft = Draft {
         acts: Vec::new(alloc),

@@ -5,7 +5,8 @@ use crate::grammar::MOST_SHOWN;
 use arrayvec::ArrayVec;
 use scripts::{count, pair_value};
 
-/// The words of a line that are not read yet. Blanks stand between words, and a word that begins with `#` begins a comment.
+/// The words of a line that are not read yet. Blanks stand between words, and a word that begins with `#` begins a
+/// comment.
 #[derive(Clone, Copy)]
 pub struct Words<'a> {
     rest: &'a [u8],

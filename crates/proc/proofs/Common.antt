@@ -1,6 +1,7 @@
 -- The names that the lemmas of this crate import from elsewhere, passed on from one place. Declares nothing.
-pub use Rattle.std.proofs.Common.{◌%◌, ◌*◌, ◌+◌, ◌-◌, ◌/◌, ◌<◌, ◌==◌, [], ◌^◌, ◌++◌, ap, arith, drop, Bool, false, get_or, inl, inr, is_some, length, List, map, max, None}
-pub use Rattle.std.proofs.Common.{Ok, Option, option_map, refl, slice_set, Some, subst, suc, sym, take, true, w64, zero, ℕ, ◌∙◌, ◌∷◌, ◌≡◌, ◌≢◌, ◌≤◌}
+pub use Rattle.std.proofs.Common.{◌%◌, ◌*◌, ◌+◌, ◌-◌, ◌/◌, ◌<◌, ◌==◌, [], ◌^◌, ◌++◌, ap, arith, drop, Bool, false}
+pub use Rattle.std.proofs.Common.{get_or, inl, inr, is_some, length, List, map, max, None, Ok, Option, option_map, refl}
+pub use Rattle.std.proofs.Common.{slice_set, Some, subst, suc, sym, take, true, w64, zero, ℕ, ◌∙◌, ◌∷◌, ◌≡◌, ◌≢◌, ◌≤◌}
 pub use Rattle.std.proofs.lemmas.Bool.{cases_eq, cases_lt, eq-eqb, le-ltb, leb-true, lt-ltb, ne_eqb, true≢false}
 pub use Rattle.std.proofs.lemmas.List.{ext_get_or, get_or-set_other, get_or-set_same, set_past, take_all}
 pub use Rattle.std.specs.List.{list_any, position_or_len, refill}

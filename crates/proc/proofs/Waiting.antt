@@ -1,8 +1,12 @@
 -- Where processes may wait.
-use Rattle.proc.proofs.Common.{Bool, List, [], arith, false, get_or, inl, inr, length, refl, subst, suc, true, zero, ℕ, ◌+◌, ◌<◌, ◌∷◌, ◌≡◌, ◌≤◌, slice_set, cases_lt, get_or-set_same, IsNext, NoneIsIn, all_in, is_in, IsFirst, NoneSays}
-use Rattle.proc.proofs.Common.{place_in_round, None, Ok, Option, Some, ap, map, option_map, sym, ◌-◌, ◌∙◌, Err, if◌then◌else◌, nat_le, refill, leb-true, true≢false, IsFirstFrom, NoneFrom, Places, is_child_of, orphaned, seat_at, seat_of}
-use Rattle.proc.proofs.Common.{AreWithin, IsFirstWaiting, IsWithin, NoneWaits, waits_so, with_place, Process, Inside, WaitPlaces, free_slot, slot, holds, take, cond, is_some, position, ◌==◌, ◌||◌, list_any, eq-eqb, le-ltb, lt-ltb, ne_eqb}
-use Rattle.proc.proofs.Common.{take_all, IsNextOf, lesser, has_pid, place_where}
+use Rattle.proc.proofs.Common.{Bool, List, [], arith, false, get_or, inl, inr, length, refl, subst, suc, true, zero, ℕ}
+use Rattle.proc.proofs.Common.{◌+◌, ◌<◌, ◌∷◌, ◌≡◌, ◌≤◌, slice_set, cases_lt, get_or-set_same, IsNext, NoneIsIn, all_in}
+use Rattle.proc.proofs.Common.{is_in, IsFirst, NoneSays, place_in_round, None, Ok, Option, Some, ap, map, option_map}
+use Rattle.proc.proofs.Common.{sym, ◌-◌, ◌∙◌, Err, if◌then◌else◌, nat_le, refill, leb-true, true≢false, IsFirstFrom}
+use Rattle.proc.proofs.Common.{NoneFrom, Places, is_child_of, orphaned, seat_at, seat_of, AreWithin, IsFirstWaiting}
+use Rattle.proc.proofs.Common.{IsWithin, NoneWaits, waits_so, with_place, Process, Inside, WaitPlaces, free_slot, slot}
+use Rattle.proc.proofs.Common.{holds, take, cond, is_some, position, ◌==◌, ◌||◌, list_any, eq-eqb, le-ltb, lt-ltb}
+use Rattle.proc.proofs.Common.{ne_eqb, take_all, IsNextOf, lesser, has_pid, place_where}
 use Rattle.std.proofs.Common.{length-set}
 use Rattle.std.proofs.lemmas.List.{length-map}
 use Rattle.arrayvec.proofs.ArrayVecLemmas.{items-with_items}
@@ -32,7 +36,8 @@ all-in (suc n) zero = refl
 all-in (suc n) (suc i) = all-in n i
 
 -- what holds of each place of a list, where one has something else
-pub set-all : {X : Type 0} (P : ℕ → X → Type 0) (xs : List X) (i : ℕ) {x : X} (d : X) → P i x → ((j : ℕ) → P j (get_or xs j d)) → (j : ℕ) → P j (get_or (slice_set xs i x) j d)
+pub set-all : {X : Type 0} (P : ℕ → X → Type 0) (xs : List X) (i : ℕ) {x : X} (d : X) → P i x
+    → ((j : ℕ) → P j (get_or xs j d)) → (j : ℕ) → P j (get_or (slice_set xs i x) j d)
 set-all P [] i d here each j = each j
 set-all P (y ∷ ys) zero d here each zero = here
 set-all P (y ∷ ys) zero d here each (suc j) = each (suc j)
@@ -63,7 +68,8 @@ pub record HasLooked (says : ℕ → Bool → Type 0) (last turn : ℕ) : Type 0
 pub looked-none : {says : ℕ → Bool → Type 0} {last : ℕ} → HasLooked says last 1
 looked-none = record { in_round = (omega arith, omega arith); before = λ k low high. absurd (omega arith) }
 
-module _ {says : ℕ → Bool → Type 0} {last turn : ℕ} (looked : HasLooked says last turn) (awake : List Bool) (asleep : (i : ℕ) → is_in awake i ≡ false → says i false) where
+module _ {says : ℕ → Bool → Type 0} {last turn : ℕ} (looked : HasLooked says last turn) (awake : List Bool)
+    (asleep : (i : ℕ) → is_in awake i ≡ false → says i false) where
   looked-to : {to : ℕ} → NoneIsIn awake last turn to → (k : ℕ) → 1 ≤ k → k < to → says (place_in_round last k) false
   looked-to {to} out = up_to looked.before (λ k low high. asleep (place_in_round last k) (out k low high))
 
@@ -93,12 +99,17 @@ pub record IsLooking (says : ℕ → Bool → Type 0) (last : ℕ) (awake : List
   pub passed : HasLooked (λ i. λ b. is_in awake i ≡ b) last turn
   pub asleep : (i : ℕ) → is_in awake i ≡ false → says i false
 
-pub looks-begin : {says : ℕ → Bool → Type 0} (last : ℕ) (awake : List Bool) → ((i : ℕ) → is_in awake i ≡ false → says i false) → IsLooking says last awake 1
+pub looks-begin : {says : ℕ → Bool → Type 0} (last : ℕ) (awake : List Bool)
+    → ((i : ℕ) → is_in awake i ≡ false → says i false) → IsLooking says last awake 1
 looks-begin last awake asleep = record { passed = looked-none; asleep = asleep }
 
-module _ {says : ℕ → Bool → Type 0} {last : ℕ} {awake : List Bool} {turn : ℕ} (looks : IsLooking says last awake turn) {next : ℕ} (is : IsNext awake last turn next) where
+module _ {says : ℕ → Bool → Type 0} {last : ℕ} {awake : List Bool} {turn : ℕ} (looks : IsLooking says last awake turn)
+    {next : ℕ} (is : IsNext awake last turn next) where
   pub first-says : says (place_in_round last next) true → IsFirst says last (place_in_round last next)
-  first-says = looked-first (record { in_round = looks.passed.in_round; before = λ k low high. looks.asleep (place_in_round last k) (looks.passed.before k low high) }) awake looks.asleep is
+  first-says = looked-first
+      (record { in_round = looks.passed.in_round;
+      before = λ k low high. looks.asleep (place_in_round last k) (looks.passed.before k low high) }) awake
+      looks.asleep is
 
   -- one that isn't ready is no more awake
   module _ (all : length awake ≡ 64) (no' : says (place_in_round last next) false) where
@@ -110,24 +121,29 @@ module _ {says : ℕ → Bool → Type 0} {last : ℕ} {awake : List Bool} {turn
 
     pub looks-on : IsLooking says last (slice_set awake at false) (next + 1)
     looks-on = record {
-      passed = looked-on (record { in_round = looks.passed.in_round; before = λ k low high. gone _ (looks.passed.before k low high) }) awake gone is (get_or-set_same awake at false true (omega arith));
+      passed = looked-on (record
+          { in_round = looks.passed.in_round; before = λ k low high. gone _ (looks.passed.before k low high) }) awake
+          gone is (get_or-set_same awake at false true (omega arith));
       asleep = set-all (λ i b. b ≡ false → says i false) awake at true (λ _. no') looks.asleep;
     }
 
 -- ---- the first place of a mask from one on: a round that begins after the last place
 
-pub first-from : {places : List Bool} {from turn : ℕ} → IsNext places 63 (from + 1) turn → IsFirstFrom places from (turn - 1)
+pub first-from : {places : List Bool} {from turn : ℕ} → IsNext places 63 (from + 1) turn
+    → IsFirstFrom places from (turn - 1)
 first-from {places} {from} {turn} is =
     let inside = is.in_round in
     let here : place_in_round 63 turn ≡ turn - 1 = omega arith in
     record {
       in_places = (omega arith, omega arith);
       there = subst (λ j. is_in places j ≡ true) here is.there;
-      before = λ j low high. (let there : place_in_round 63 (j + 1) ≡ j = omega arith in subst (λ k. is_in places k ≡ false) there (is.before (j + 1) (omega arith) (omega arith)));
+      before = λ j low high. (let there : place_in_round 63 (j + 1) ≡ j = omega arith
+          in subst (λ k. is_in places k ≡ false) there (is.before (j + 1) (omega arith) (omega arith)));
     }
 
 pub none-from : (places : List Bool) {from : ℕ} → NoneIsIn places 63 (from + 1) 65 → NoneFrom places from
-none-from places out = λ j low high. let there : place_in_round 63 (j + 1) ≡ j = omega arith in subst (λ k. is_in places k ≡ false) there (out (j + 1) (omega arith) (omega arith))
+none-from places out = λ j low high. let there : place_in_round 63 (j + 1) ≡ j =
+    omega arith in subst (λ k. is_in places k ≡ false) there (out (j + 1) (omega arith) (omega arith))
 
 -- ---- a mask that changes
 
@@ -152,11 +168,15 @@ pub record IsSearching (kind : WaitKind) (places : Processes) (from next : ℕ) 
   pub within : IsWithin kind places may
   pub before : (j : ℕ) → from ≤ j → j < next → holds (waits_so kind) (slot places j) ≡ false
 
-pub search-begins : {kind : WaitKind} {places : Processes} {from : ℕ} {may : List Bool} → from ≤ 64 → IsWithin kind places may → IsSearching kind places from from may
-search-begins low within = record { in_places = (omega arith, low); within = within; before = λ j more less. absurd (omega arith) }
+pub search-begins : {kind : WaitKind} {places : Processes} {from : ℕ} {may : List Bool} → from ≤ 64
+    → IsWithin kind places may → IsSearching kind places from from may
+search-begins low within =
+    record { in_places = (omega arith, low); within = within; before = λ j more less. absurd (omega arith) }
 
-module _ {kind : WaitKind} {places : Processes} {from next : ℕ} {may : List Bool} (search' : IsSearching kind places from next may) where
-  passed-to : {to : ℕ} → ((j : ℕ) → next ≤ j → j < to → is_in may j ≡ false) → (j : ℕ) → from ≤ j → j < to → holds (waits_so kind) (slot places j) ≡ false
+module _ {kind : WaitKind} {places : Processes} {from next : ℕ} {may : List Bool}
+    (search' : IsSearching kind places from next may) where
+  passed-to : {to : ℕ} → ((j : ℕ) → next ≤ j → j < to → is_in may j ≡ false) → (j : ℕ) → from ≤ j → j < to
+      → holds (waits_so kind) (slot places j) ≡ false
   passed-to {to} out = up_to search'.before (λ j low high. search'.within.out j (out j low high))
 
   pub search-none : NoneFrom may next → NoneWaits places kind from
@@ -170,10 +190,12 @@ module _ {kind : WaitKind} {places : Processes} {from next : ℕ} {may : List Bo
       before = passed-to is.before;
     }
 
-    pub search-goes : length may ≡ 64 → holds (waits_so kind) (slot places at) ≡ false → IsSearching kind places from (at + 1) (slice_set may at false)
+    pub search-goes : length may ≡ 64 → holds (waits_so kind) (slot places at) ≡ false
+        → IsSearching kind places from (at + 1) (slice_set may at false)
     search-goes all no' = let inside = is.in_places in let begun = search'.in_places in record {
       in_places = (omega arith, omega arith);
-      within = record { out = set-all (λ j b. b ≡ false → holds (waits_so kind) (slot places j) ≡ false) may at true (λ _. no') search'.within.out };
+      within = record { out = set-all (λ j b. b ≡ false → holds (waits_so kind) (slot places j) ≡ false) may
+          at true (λ _. no') search'.within.out };
       before = up_to-more {P = λ j. holds (waits_so kind) (slot places j) ≡ false} (passed-to is.before) no';
     }
 
@@ -182,12 +204,14 @@ module _ {kind : WaitKind} {places : Processes} {from next : ℕ} {may : List Bo
 module _ {kind : WaitKind} {places : Processes} {may : List Bool} (within : IsWithin kind places may) where
   one-put : (i : ℕ) (o : Option Process) → IsWithin kind (slice_set places i o) (slice_set may i true)
   one-put i o = record {
-    out = set-all (λ j x. is_in (slice_set may i true) j ≡ false → holds (waits_so kind) x ≡ false) places i {x = o} None
+    out = set-all (λ j x. is_in (slice_set may i true) j ≡ false → holds (waits_so kind) x ≡ false) places i {x = o}
+        None
         (λ out. absurd (true≢false (sym (set-in _ i) ∙ out))) (λ j out. within.out j (set-out _ i j out));
   }
 
   one-freed : (i : ℕ) → IsWithin kind (slice_set places i None) may
-  one-freed i = record { out = set-all (λ j x. is_in may j ≡ false → holds (waits_so kind) x ≡ false) places i None (λ _. refl) within.out }
+  one-freed i = record { out = set-all (λ j x. is_in may j ≡ false → holds (waits_so kind) x ≡ false) places i None
+      (λ _. refl) within.out }
 
 -- who goes to process 1 waits as before
 orphan-waits : (kind : WaitKind) (pid : ℕ) (p : Process) → waits_so kind (orphaned pid p) ≡ waits_so kind p
@@ -196,7 +220,8 @@ orphan-waits kind pid p = go (is_child_of pid p) where
   go true = refl
   go false = refl
 
-orphans-wait : (kind : WaitKind) (pid : ℕ) (os : Processes) (j : ℕ) → holds (waits_so kind) (slot (map (option_map (orphaned pid)) os) j) ≡ holds (waits_so kind) (slot os j)
+orphans-wait : (kind : WaitKind) (pid : ℕ) (os : Processes) (j : ℕ)
+    → holds (waits_so kind) (slot (map (option_map (orphaned pid)) os) j) ≡ holds (waits_so kind) (slot os j)
 orphans-wait kind pid [] j = refl
 orphans-wait kind pid (None ∷ os) zero = refl
 orphans-wait kind pid (Some p ∷ os) zero = orphan-waits _ _ p
@@ -205,16 +230,19 @@ orphans-wait kind pid (o ∷ os) (suc j) = orphans-wait _ _ os j
 one-all : {kind : WaitKind} {places : Processes} → IsWithin kind places (all_in 64)
 one-all = record { out = λ j out. absurd (true≢false (sym (all-in 64 j) ∙ out)) }
 
-pub within-all : {places : Processes} → AreWithin places (record { sleeps = all_in 64; transfers = all_in 64; children = all_in 64 })
+pub within-all : {places : Processes}
+    → AreWithin places (record { sleeps = all_in 64; transfers = all_in 64; children = all_in 64 })
 within-all {places} = record { sleeps = one-all; transfers = one-all; children = one-all }
 
 module _ {places : Processes} {may : WaitPlaces} (are : AreWithin places may) where
   -- a place in which a process may wait has another
   pub within-put : (i : ℕ) (o : Option Process) → AreWithin (slice_set places i o) (with_place may i)
-  within-put i o = record { sleeps = one-put are.sleeps i o; transfers = one-put are.transfers i o; children = one-put are.children i o }
+  within-put i o = record { sleeps = one-put are.sleeps i o; transfers = one-put are.transfers i o;
+      children = one-put are.children i o }
 
   pub within-freed : (i : ℕ) → AreWithin (slice_set places i None) may
-  within-freed i = record { sleeps = one-freed are.sleeps i; transfers = one-freed are.transfers i; children = one-freed are.children i }
+  within-freed i = record { sleeps = one-freed are.sleeps i; transfers = one-freed are.transfers i;
+      children = one-freed are.children i }
 
   pub within-orphaned : (pid : ℕ) → AreWithin (map (option_map (orphaned pid)) places) may
   within-orphaned pid = record {
@@ -229,30 +257,41 @@ module _ {places : Processes} {may : WaitPlaces} (are : AreWithin places may) wh
 pub refilled : (xs : Processes) {ys zs : Processes} → length zs ≡ length xs → ys ≡ zs → refill (length xs) xs ys ≡ zs
 refilled xs {ys} same is = items-with_items _ ys (ap length is ∙ same) ∙ is
 
-pub refilled-set : {xs ys : Processes} (i : ℕ) (o : Option Process) → ys ≡ xs → refill (length xs) xs (slice_set ys i o) ≡ slice_set xs i o
+pub refilled-set : {xs ys : Processes} (i : ℕ) (o : Option Process) → ys ≡ xs
+    → refill (length xs) xs (slice_set ys i o) ≡ slice_set xs i o
 refilled-set {xs} {ys} i o same = refilled xs (length-set xs i o) (ap (λ l. slice_set l i o) same)
 
 module _ {t : Inside} (is : IsSound t) where
   -- as many places, and each of those who wait stands where one may
-  sound-as : {items new : Processes} {next_pid : ℕ} {waiting may : WaitPlaces} → items ≡ new → length new ≡ length t.places.items → next_pid ≤ 2147483648 → waiting ≡ may → AreWithin new may
-      → IsSound (record { places = record { items = items }; last = t.last; next_pid = next_pid; awake = t.awake; waiting = waiting })
+  sound-as : {items new : Processes} {next_pid : ℕ} {waiting may : WaitPlaces} → items ≡ new
+      → length new ≡ length t.places.items → next_pid ≤ 2147483648 → waiting ≡ may → AreWithin new may
+      → IsSound (record { places = record { items = items }; last = t.last; next_pid = next_pid; awake = t.awake;
+          waiting = waiting })
   sound-as now all fits set' within =
       record { all = ap length now ∙ all ∙ is.all; last = is.last; pids = fits; waiting = rw (now, set') within }
 
-  pub sound-put : (i : ℕ) (o : Option Process) {items : Processes} {next_pid : ℕ} {waiting : WaitPlaces} → items ≡ slice_set t.places.items i o → next_pid ≤ 2147483648 → waiting ≡ with_place t.waiting i
-      → IsSound (record { places = record { items = items }; last = t.last; next_pid = next_pid; awake = t.awake; waiting = waiting })
-  sound-put i o {next_pid} put fits set' = sound-as put (length-set t.places.items i o) fits set' (within-put is.waiting i o)
+  pub sound-put : (i : ℕ) (o : Option Process) {items : Processes} {next_pid : ℕ} {waiting : WaitPlaces}
+      → items ≡ slice_set t.places.items i o → next_pid ≤ 2147483648 → waiting ≡ with_place t.waiting i
+      → IsSound (record { places = record { items = items }; last = t.last; next_pid = next_pid; awake = t.awake;
+          waiting = waiting })
+  sound-put i o {next_pid} put fits set' =
+      sound-as put (length-set t.places.items i o) fits set' (within-put is.waiting i o)
 
-  pub sound-freed : (i : ℕ) {items : Processes} → items ≡ slice_set t.places.items i None → IsSound (record t { places = record { items = items } })
+  pub sound-freed : (i : ℕ) {items : Processes} → items ≡ slice_set t.places.items i None
+      → IsSound (record t { places = record { items = items } })
   sound-freed i freed = sound-as freed (length-set t.places.items i None) is.pids refl (within-freed is.waiting i)
 
-  pub sound-orphaned : (pid : ℕ) {items : Processes} → items ≡ map (option_map (orphaned pid)) t.places.items → IsSound (record t { places = record { items = items } })
-  sound-orphaned pid mapped = sound-as mapped (length-map t.places.items (option_map (orphaned pid))) is.pids refl (within-orphaned is.waiting _)
+  pub sound-orphaned : (pid : ℕ) {items : Processes} → items ≡ map (option_map (orphaned pid)) t.places.items
+      → IsSound (record t { places = record { items = items } })
+  sound-orphaned pid mapped =
+      sound-as mapped (length-map t.places.items (option_map (orphaned pid))) is.pids refl
+      (within-orphaned is.waiting _)
 
 -- who gets a seat gets a pid that is one
 pub seat-pid : (t : Places) {seat : Seat} → Ok seat ≡ seat_of t → t.next_pid ≤ 2147483647
 seat-pid t {seat} is = go (free_slot t.places) is where
-  at : (b : Bool) (i : ℕ) → (b ≡ true → t.next_pid ≤ 2147483647) → Ok seat ≡ (if b then Ok (record { place = i; pid = t.next_pid }) else Err Pids) → t.next_pid ≤ 2147483647
+  at : (b : Bool) (i : ℕ) → (b ≡ true → t.next_pid ≤ 2147483647)
+      → Ok seat ≡ (if b then Ok (record { place = i; pid = t.next_pid }) else Err Pids) → t.next_pid ≤ 2147483647
   at true i low same = low refl
   at false i low same = absurd (cc)
 
@@ -265,9 +304,12 @@ seat-pid t {seat} is = go (free_slot t.places) is where
 -- ---- of pids
 
 -- the same pids are there
-pub next-same : (there others : ℕ → Bool) (after : ℕ) (result : Option ℕ) → ((q : ℕ) → there q ≡ others q) → IsNextOf there after result → IsNextOf others after result
+pub next-same : (there others : ℕ → Bool) (after : ℕ) (result : Option ℕ) → ((q : ℕ) → there q ≡ others q)
+    → IsNextOf there after result → IsNextOf others after result
 next-same there others after None same is = λ q high. sym (same q) ∙ is q high
-next-same there others after (Some pid) same is = record { above = is.above; stands = sym (same pid) ∙ is.stands; between = λ q high low. sym (same q) ∙ is.between q high low }
+next-same there others after (Some pid) same is =
+    record { above = is.above; stands = sym (same pid) ∙ is.stands; between = λ q high low. sym (same q)
+    ∙ is.between q high low }
 
 -- with one pid more
 module _ (there more : ℕ → Bool) (after pid : ℕ) (one : (q : ℕ) → more q ≡ (there q || (pid == q))) where
@@ -282,14 +324,22 @@ module _ (there more : ℕ → Bool) (after pid : ℕ) (one : (q : ℕ) → more
 
   pub next-more : (found : Option ℕ) → IsNextOf there after found → IsNextOf more after (lesser found after pid)
   next-more None is = elim (cases_lt after pid) [
-    | inl above ↦ rw (lt-ltb after pid above) (record { above = above; stands = now-there; between = λ q high low. still-none (is q high) (λ e. omega arith) })
+    | inl above ↦ rw (lt-ltb after pid above)
+        (record { above = above; stands = now-there;
+        between = λ q high low. still-none (is q high) (λ e. omega arith) })
     | inr below ↦ rw (le-ltb after pid below) (λ q high. still-none (is q high) (λ e. omega arith))
   ]
   next-more (Some least) is = elim (cases_lt least pid) [
-    | inl less ↦ rw (lt-ltb least pid less) (record { above = is.above; stands = still-there _ is.stands; between = λ q high low. still-none (is.between q high low) (λ e. omega arith) })
+    | inl less ↦ rw (lt-ltb least pid less)
+        (record { above = is.above; stands = still-there _ is.stands;
+        between = λ q high low. still-none (is.between q high low) (λ e. omega arith) })
     | inr more' ↦ elim (cases_lt after pid) [
-      | inl above ↦ rw (le-ltb least pid more', lt-ltb after pid above) (record { above = above; stands = now-there; between = λ q high low. still-none (is.between q high (omega arith)) (λ e. omega arith) })
-      | inr below ↦ rw (le-ltb least pid more', le-ltb after pid below) (record { above = is.above; stands = still-there _ is.stands; between = λ q high low. still-none (is.between q high low) (λ e. omega arith) })
+      | inl above ↦ rw (le-ltb least pid more', lt-ltb after pid above)
+          (record { above = above; stands = now-there;
+          between = λ q high low. still-none (is.between q high (omega arith)) (λ e. omega arith) })
+      | inr below ↦ rw (le-ltb least pid more', le-ltb after pid below)
+          (record { above = is.above; stands = still-there _ is.stands;
+          between = λ q high low. still-none (is.between q high low) (λ e. omega arith) })
     ]
   ]
 
@@ -297,7 +347,9 @@ module _ (there more : ℕ → Bool) (after pid : ℕ) (one : (q : ℕ) → more
 
 found-from : {X : Type 0} (test : X → Bool) (n : ℕ) (xs : List X) → is_some (position_from test n xs) ≡ list_any test xs
 found-from test n [] = refl
-found-from test n (x ∷ xs) = elim (test x) as (λ b. is_some (cond b (Some n) (position_from test (n + 1) xs)) ≡ (b || list_any test xs)) [ true ↦ refl | false ↦ found-from test (n + 1) xs ]
+found-from test n (x ∷ xs) =
+    elim (test x) as (λ b. is_some (cond b (Some n) (position_from test (n + 1) xs)) ≡ (b || list_any test xs))
+    [ true ↦ refl | false ↦ found-from test (n + 1) xs ]
 
 -- a search finds one where one passes
 pub found-any : {X : Type 0} (test : X → Bool) (xs : List X) → is_some (position test xs) ≡ list_any test xs
@@ -310,17 +362,24 @@ is_among places n pid = list_any (holds (has_pid pid)) (take n places)
 pub among-none : (places : Processes) {after : ℕ} → IsNextOf (is_among places 0) after None
 among-none places = λ q high. refl
 
-module _ (places : Processes) (after i : ℕ) (low : i < length places) (found : Option ℕ) (is : IsNextOf (is_among places i) after found) where
-  one-more : {o : Option Process} → slot places i ≡ o → (q : ℕ) → is_among places (i + 1) q ≡ (is_among places i q || holds (has_pid q) o)
-  one-more here q = list_any_more (holds (has_pid q)) _ i _ low ∙ ap (λ x. is_among places i q || holds (has_pid q) x) here
+module _ (places : Processes) (after i : ℕ) (low : i < length places) (found : Option ℕ)
+    (is : IsNextOf (is_among places i) after found) where
+  one-more : {o : Option Process} → slot places i ≡ o → (q : ℕ)
+      → is_among places (i + 1) q ≡ (is_among places i q || holds (has_pid q) o)
+  one-more here q = list_any_more (holds (has_pid q)) _ i _ low
+      ∙ ap (λ x. is_among places i q || holds (has_pid q) x) here
 
   pub among-free : slot places i ≡ None → IsNextOf (is_among places (i + 1)) after found
   among-free here = next-same _ _ _ _ (λ q. sym (one-more here q ∙ or-false (is_among places i q))) is
 
-  pub among-more : {p : Process} → slot places i ≡ Some p → IsNextOf (is_among places (i + 1)) after (lesser found after p.pid)
+  pub among-more : {p : Process} → slot places i ≡ Some p
+      → IsNextOf (is_among places (i + 1)) after (lesser found after p.pid)
   among-more {p} here = next-more (is_among places i) (is_among places (i + 1)) after p.pid (one-more here) found is
 
 -- past the last place
-pub among-all : (places : Processes) (after : ℕ) {i : ℕ} (found : Option ℕ) → length places ≤ i → IsNextOf (is_among places i) after found → IsNextOf (λ pid. is_some (place_where places (has_pid pid))) after found
+pub among-all : (places : Processes) (after : ℕ) {i : ℕ} (found : Option ℕ) → length places ≤ i
+    → IsNextOf (is_among places i) after found
+    → IsNextOf (λ pid. is_some (place_where places (has_pid pid))) after found
 among-all places after {i} found all is =
-    next-same (is_among places i) _ after found (λ q. ap (list_any (holds (has_pid q))) (take_all i places all) ∙ sym (found-any (holds (has_pid q)) places)) is
+    next-same (is_among places i) _ after found
+        (λ q. ap (list_any (holds (has_pid q))) (take_all i places all) ∙ sym (found-any (holds (has_pid q)) places)) is

@@ -1,5 +1,6 @@
 -- A set of places, as a list that says of each place whether it is in.
-use Rattle.std.specs.Prelude.{Bool, List, MatchOption, Option, [], false, slice_index_or, suc, true, zero, ℕ, ◌%◌, ◌+◌, ◌/◌, ◌<◌, ◌==◌, ◌∷◌, ◌≡◌, ◌≤◌}
+use Rattle.std.specs.Prelude.{Bool, List, MatchOption, Option, [], false, slice_index_or, suc, true, zero, ℕ, ◌%◌, ◌+◌}
+use Rattle.std.specs.Prelude.{◌/◌, ◌<◌, ◌==◌, ◌∷◌, ◌≡◌, ◌≤◌}
 use Rattle.proc.specs.Pick.{place_in_round}
 use Rattle.unixmodel.specs.State.{place_limit}
 
@@ -29,11 +30,14 @@ pub record IsNext (places : List Bool) (last from k : ℕ) : Type 0 where
 
 -- the first turn of the round, from one on, whose place is in
 abbrev pub Finds : List Bool → ℕ → ℕ → Option ℕ → Type 0
-Finds places last from result = MatchOption result (NoneIsIn places last from (place_limit + 1)) (IsNext places last from)
+Finds places last from result =
+    MatchOption result (NoneIsIn places last from (place_limit + 1)) (IsNext places last from)
 
 -- a pick that began after the last picked has left no place awake that it passed over
 abbrev pub Passes : List Bool → ℕ → Option ℕ → Type 0
-Passes awake last result = MatchOption result (NoneIsIn awake last 1 (place_limit + 1)) (λ i. (k : ℕ) × (1 ≤ k) × (k ≤ place_limit) × (i ≡ place_in_round last k) × NoneIsIn awake last 1 k)
+Passes awake last result =
+    MatchOption result (NoneIsIn awake last 1 (place_limit + 1))
+    (λ i. (k : ℕ) × (1 ≤ k) × (k ≤ place_limit) × (i ≡ place_in_round last k) × NoneIsIn awake last 1 k)
 
 -- no place from one on is in
 abbrev pub NoneFrom : List Bool → ℕ → Type 0

@@ -18,4 +18,5 @@ IsNextOf there after result = MatchOption result (NoneAbove there after) (IsLeas
 -- the lesser of the pid that was found and another, which counts where it is above a third
 abbrev pub lesser : Option ℕ → ℕ → ℕ → Option ℕ
 lesser None after pid = if nat_lt after pid then Some pid else None
-lesser (Some least) after pid = if nat_lt least pid then Some least else if nat_lt after pid then Some pid else Some least
+lesser (Some least) after pid =
+    if nat_lt least pid then Some least else if nat_lt after pid then Some pid else Some least

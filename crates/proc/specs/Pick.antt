@@ -6,7 +6,8 @@ use Rattle.proc.specs.declared.process.Process.{Process}
 use Rattle.unixmodel.specs.State.{place_limit}
 
 -- handed these places and the number i, f may answer b
-pub record Answers {F : Type 0} (g : Shared F (Bor (List (Option Process)) × (ℕ × Unit {0})) Bool) (f : F) (places : List (Option Process)) (i : ℕ) (b : Bool) : Type 0 where
+pub record Answers {F : Type 0} (g : Shared F (Bor (List (Option Process)) × (ℕ × Unit {0})) Bool) (f : F)
+    (places : List (Option Process)) (i : ℕ) (b : Bool) : Type 0 where
   pub shown : Bor (List (Option Process))
   pub shows : shown.now ≡ places
   pub says : FnReturns g f (shown, (i, tt)) b

@@ -1,5 +1,6 @@
 -- The places, in the words of the abstract Unix's state: a process is as there, but for its memory.
-use Rattle.std.specs.Prelude.{Bool, Err, List, None, Ok, Option, Result, Some, if◌then◌else◌, map, nat_le, option_map, position, slice_set, true, ℕ, ℤ, ◌&&◌, ◌+◌, ◌==◌}
+use Rattle.std.specs.Prelude.{Bool, Err, List, None, Ok, Option, Result, Some, if◌then◌else◌, map, nat_le, option_map}
+use Rattle.std.specs.Prelude.{position, slice_set, true, ℕ, ℤ, ◌&&◌, ◌+◌, ◌==◌}
 use Rattle.proc.specs.declared.process.Process.{Process}
 use Rattle.proc.specs.declared.table.ProcFault.{ProcFault}
 use Rattle.proc.specs.declared.table.ProcFault.TheVariants.{Pids, Slots}
@@ -108,7 +109,8 @@ seated t p seat = record t { places = put t.places seat.place (record p { pid = 
 -- the process in place i has ended; its children go to process 1
 abbrev pub ended : Places → ℕ → ℤ → Option Process → Places
 ended t i status None = t
-ended t i status (Some p) = record t { places = put (map (option_map (orphaned p.pid)) t.places) i (zombie_of p status) }
+ended t i status (Some p) =
+    record t { places = put (map (option_map (orphaned p.pid)) t.places) i (zombie_of p status) }
 
 abbrev pub exited : Places → ℕ → ℤ → Places
 exited t i status = ended t i status (slot t.places i)

@@ -1,5 +1,6 @@
 //! The table of processes.
-ghost use Rattle.std.specs.Prelude.{◌≡◌, ◌+◌, ◌<◌, ◌≤◌, ◌%◌, List, ℕ, Some, None, true, false, length, map, option_map, position, is_some, IfSome, IfNone, IfOk, OnErr};
+ghost use Rattle.std.specs.Prelude.{◌≡◌, ◌+◌, ◌<◌, ◌≤◌, ◌%◌, List, ℕ, Some, None, true, false, length, map, option_map};
+ghost use Rattle.std.specs.Prelude.{position, is_some, IfSome, IfNone, IfOk, OnErr};
 ghost use Rattle.std.specs.Borrow.{sem};
 ghost use Rattle.std.specs.Option.{option_copied, option_copied_mut};
 ghost use Rattle.unixmodel.specs.Files.{free_slot, free_slots, put, slot};
@@ -53,8 +54,8 @@ pub struct Reaped {
     pub status: i32,
 }
 
-/// The places, the one that was picked last, the pid that the next process gets, the places that a turn looks at, and those where
-/// processes may wait.
+/// The places, the one that was picked last, the pid that the next process gets, the places that a turn looks at, and
+/// those where processes may wait.
 #[derive(Drop)]
 pub struct Table {
     places: ArrayVec<Place, 64>,
@@ -155,7 +156,9 @@ fn status(mode: Mode) -> i32
 }
 
 impl Table {
-    ghost use Rattle.proc.specs.Places.{Places, changed, exited, has_pid, is_awake, is_child_of, is_running, left, reaped_at, seat_of, seated, with_descriptor, with_directory, with_mark, with_mode, with_running, without, woken, zombie_place};
+    ghost use Rattle.proc.specs.Places.{Places, changed, exited, has_pid, is_awake, is_child_of, is_running, left};
+    ghost use Rattle.proc.specs.Places.{reaped_at, seat_of, seated, with_descriptor, with_directory, with_mark};
+    ghost use Rattle.proc.specs.Places.{with_mode, with_running, without, woken, zombie_place};
     ghost use Rattle.proc.specs.Lending.{LendsProcess};
     ghost use Rattle.proc.specs.Pick.{Answers, Picks};
     ghost use Rattle.proc.specs.Mask.{Passes};
@@ -242,7 +245,8 @@ impl Table {
         }
     }
 
-    /// A descriptor of the process in a place names another open file, or none. Nothing changes where the place is free.
+    /// A descriptor of the process in a place names another open file, or none. Nothing changes where the place is
+    /// free.
     pub fn set_descriptor(&mut self, at: usize, descriptor: usize, id: Option<u8>)
         requires { descriptor < 16 }
         ensures { self.new ≡ changed self.old at (with_descriptor descriptor id) }
@@ -261,7 +265,8 @@ impl Table {
         }
     }
 
-    /// The process in a place runs no more: it keeps these registers and this pc. Nothing changes where the place is free.
+    /// The process in a place runs no more: it keeps these registers and this pc. Nothing changes where the place is
+    /// free.
     pub fn leave(&mut self, at: usize, registers: &[u64; 32], pc: u64, mode: Mode)
         ensures { self.new ≡ changed self.old at (left registers.now pc mode) }
     {
@@ -349,8 +354,8 @@ impl Table {
         self.waiting.first(self.places.as_slice(), kind, from)
     }
 
-    /// Picks the first ready place in the order from the one after the last picked, ending at that one. It looks at those that are
-    /// awake, and at no place twice: one that isn't ready is awake again once it is woken.
+    /// Picks the first ready place in the order from the one after the last picked, ending at that one. It looks at
+    /// those that are awake, and at no place twice: one that isn't ready is awake again once it is woken.
     pub fn pick<F: Fn(&[Place], usize) -> bool>(&mut self, ready: F) -> Option<usize>
         requires callable { F.IsAlwaysCallable ready }
         requires awake { (i : ℕ) → is_awake self.old i ≡ false → Answers F.Fn ready self.old.places i false }

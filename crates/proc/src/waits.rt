@@ -44,7 +44,8 @@ fn waits(place: &Place, kind: WaitKind) -> bool
     }
 }
 
-// The first place from one on whose process waits so, among those where one may. Places before it where none does are taken out.
+// The first place from one on whose process waits so, among those where one may. Places before it where none does are
+// taken out.
 fn first_waiting(places: &[Place], may: &mut Mask, kind: WaitKind, from: usize) -> Option<usize>
     requires all { length places.now ≡ 64 }
     requires from { from ≤ 64 }

@@ -47,8 +47,8 @@ fn place(rt: &(impl Abort + AllocGlobal)) -> Spaces<Plain> {
     spaces
 }
 
-// What a program of one page gets where argv, at address 0, has so many words, each of which points at a string of so many
-// bytes.
+// What a program of one page gets where argv, at address 0, has so many words, each of which points at a string of so
+// many bytes.
 fn arguments(rt: &(impl Abort + AllocGlobal), words: u64, len: usize) -> Option<Arguments> {
     let mut spaces = place(rt);
     let string = [b'a'; 4080];

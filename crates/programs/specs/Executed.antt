@@ -10,7 +10,8 @@ use Rattle.unixmodel.specs.ProcessCalls.{args_at, file_bytes}
 
 -- the plan of the file that a number names, with the arguments that argv points at
 abbrev pub plan_at : Files → ℕ → Memory → ℕ → Option Plan
-plan_at files number mem argv = option_and_then (λ file. option_and_then (plan file) (args_at mem argv)) (file_bytes (slot files number))
+plan_at files number mem argv =
+    option_and_then (λ file. option_and_then (plan file) (args_at mem argv)) (file_bytes (slot files number))
 
 -- the frames of a program beside the old one
 abbrev pub frames_beside : Spaces → Plan → ℕ
@@ -32,5 +33,7 @@ pub record IsExecuted (planned : Option Plan) (old new : Spaces) (at : ℕ) (s :
 
 -- it is, or it has no plan, or the frames don't suffice
 abbrev pub Executes : Files → Spaces → Spaces → ℕ → ℕ → ℕ → Option Started → Type 0
-Executes files old new at number argv None = (new ≡ old) × ((p : Plan) → plan_at files number (view_at old at).memory argv ≡ Some p → old.frames < frames_beside old p)
-Executes files old new at number argv (Some s) = IsExecuted (plan_at files number (view_at old at).memory argv) old new at s
+Executes files old new at number argv None = (new ≡ old)
+    × ((p : Plan) → plan_at files number (view_at old at).memory argv ≡ Some p → old.frames < frames_beside old p)
+Executes files old new at number argv (Some s) =
+    IsExecuted (plan_at files number (view_at old at).memory argv) old new at s

@@ -1,5 +1,6 @@
 -- What exec takes from the headers of a program file.
-use Rattle.std.specs.Prelude.{Err, IfSome, List, None, Ok, Option, Result, Some, drop, length, option_and_then, option_map, take, ℕ, ◌+◌, ◌^◌, ◌≡◌, ◌≤◌}
+use Rattle.std.specs.Prelude.{Err, IfSome, List, None, Ok, Option, Result, Some, drop, length, option_and_then}
+use Rattle.std.specs.Prelude.{option_map, take, ℕ, ◌+◌, ◌^◌, ◌≡◌, ◌≤◌}
 use Rattle.blockdev.specs.Splice.{part}
 use Rattle.elf.specs.declared.ElfFault.{ElfFault}
 use Rattle.elf.specs.declared.FileHeader.{FileHeader}
@@ -33,7 +34,8 @@ file_of tree n = file_at tree.files n
 
 -- the program of a file, where its segments can be loaded
 abbrev pub program_in : List ℕ → Option Program
-program_in file = option_map (λ (l : Loaded). record { header = header_in file; pages = length l.pages }) (loaded_of file)
+program_in file = option_map (λ (l : Loaded). record { header = header_in file; pages = length l.pages })
+    (loaded_of file)
 
 -- the program of what a number names, where that is a file
 abbrev pub program_at : Files → ℕ → Option Program

@@ -47,7 +47,8 @@ next_in file place h end = load_segment file (record { pages = h.memory; end = e
 
 -- a segment of a file stands behind the pages of a place, whatever segment of the format it is
 abbrev pub LoadsSegment : List ℕ → Spaces → Spaces → ℕ → LoadSegment → Type 0
-LoadsSegment file old new at segment = (g : Segment) → segment ≡ segment_shown g → new ≡ with_more old at (segment_pages file (length (view_at old at).memory) g)
+LoadsSegment file old new at segment = (g : Segment) → segment ≡ segment_shown g
+    → new ≡ with_more old at (segment_pages file (length (view_at old at).memory) g)
 
 -- there is something to load, and the place may have its pages
 abbrev pub MayLoad : Spaces → ℕ → Option Loaded → Type 0

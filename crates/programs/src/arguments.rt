@@ -38,7 +38,8 @@ fn word_at<T: Translate>(spaces: &Spaces<T>, at: usize, address: u64) -> Option<
     Some(LittleEndian::read_u64(&bytes))
 }
 
-// Pushes bytes on a stack that reaches down to `top` in its page, and tells where they stand: at a multiple of 16. `None`:
+// Pushes bytes on a stack that reaches down to `top` in its page, and tells where they stand: at a multiple of 16.
+// `None`:
 // there is no room for them.
 fn push(page: &mut [u8; FRAME_SIZE], top: usize, bytes: &[u8]) -> Option<usize>
     requires { top ≤ 4096 }
@@ -52,8 +53,8 @@ fn push(page: &mut [u8; FRAME_SIZE], top: usize, bytes: &[u8]) -> Option<usize>
     Some(place)
 }
 
-// Pushes the string at an address of a place with its NUL, and tells where it stands. `None`: its program may not read it,
-// or there is no room for it.
+// Pushes the string at an address of a place with its NUL, and tells where it stands. `None`: its program may not read
+// it, or there is no room for it.
 fn push_string<T: Translate>(
     spaces: &Spaces<T>,
     at: usize,
@@ -108,7 +109,8 @@ fn finish(
     })
 }
 
-/// The arguments that argv points at in a place, as they stand on the stack of a program whose segments have so many pages.
+/// The arguments that argv points at in a place, as they stand on the stack of a program whose segments have so many
+/// pages.
 /// `None` where there are more than 31, a word or a string can't be read, or the stack's page has no room for them.
 pub fn read_arguments<T: Translate>(
     spaces: &Spaces<T>,
@@ -141,8 +143,8 @@ pub fn read_arguments<T: Translate>(
     None
 }
 
-/// A string, which these bytes are with its NUL, as the only argument: as it stands on the stack of a program whose segments have
-/// so many pages. `None` where the stack's page has no room for it.
+/// A string, which these bytes are with its NUL, as the only argument: as it stands on the stack of a program whose
+/// segments have so many pages. `None` where the stack's page has no room for it.
 pub fn one_argument(bytes: &[u8], pages: u64) -> Option<Arguments>
     requires fits { 4096 * (pages + 2) < 2 ^ 64 }
     ensures { PassesOne bytes.now pages result }

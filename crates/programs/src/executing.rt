@@ -26,8 +26,9 @@ pub struct Started {
     pub sp: u64,
 }
 
-/// Puts the program of the file that a number names in the place of what a place holds, with the arguments that argv points at
-/// there, and tells what it begins with. `None`: it can't be executed, or the frames don't suffice for it beside the old one;
+/// Puts the program of the file that a number names in the place of what a place holds, with the arguments that argv
+/// points at there, and tells what it begins with. `None`: it can't be executed, or the frames don't suffice for it
+/// beside the old one;
 /// then nothing changed. Where the device fails no more is promised of the place than that it has a space.
 pub fn execute<D: BlockDev, T: Translate>(
     tree: &mut Tree<D>,

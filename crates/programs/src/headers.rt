@@ -2,7 +2,8 @@
 
 ghost use Rattle.std.specs.Prelude.{◌≡◌, ◌*◌, ◌+◌, ◌<◌, ◌≤◌, ◌^◌, length, false, true};
 ghost use Rattle.elf.specs.Headers.{is_within};
-ghost use Rattle.programs.specs.Headed.{IsRead, Tells, TellsProgram, end_behind, end_of, file_of, headed, part_of, program_at, program_in, segment_behind};
+ghost use Rattle.programs.specs.Headed.{IsRead, Tells, TellsProgram, end_behind, end_of, file_of, headed, part_of};
+ghost use Rattle.programs.specs.Headed.{program_at, program_in, segment_behind};
 ghost use Rattle.tree.specs.Tree.{Serves};
 ghost use Rattle.tree.specs.Written.{IsFile};
 ghost use Rattle.unixmodel.specs.Counts.{page_frames};
@@ -22,8 +23,8 @@ pub struct Program {
 }
 
 impl Program {
-    /// How many frames have to be free beside the old program: those of its tables and pages, and of the pages of the guard and
-    /// the stack.
+    /// How many frames have to be free beside the old program: those of its tables and pages, and of the pages of the
+    /// guard and the stack.
     pub fn frames(&self) -> u64
         requires { self.now.pages < 2 ^ 63 }
         ensures { result ≡ 3 + page_frames (self.now.pages + 2) }
@@ -43,7 +44,8 @@ pub(crate) fn read_part<D: BlockDev>(
     requires up { tree.old.failed ≡ false }
     requires file { IsFile tree.old.files number }
     requires within { at + length out.old ≤ length (file_of tree.old number) }
-    ensures { Serves tree.old tree.new result (λ done. IsRead tree.old tree.new out.new (part_of tree.old number at (length out.old))) }
+    ensures { Serves tree.old tree.new result
+            (λ done. IsRead tree.old tree.new out.new (part_of tree.old number at (length out.old))) }
 {
     let _all = tree.read(number, at, out)?;
     Ok(())
@@ -80,7 +82,8 @@ pub(crate) fn read_segment<D: BlockDev>(
     requires file { IsFile tree.old.files number }
     requires long { len ≡ length (file_of tree.old number) }
     requires within { at + 56 ≤ len }
-    ensures { Serves tree.old tree.new result (Tells tree.old tree.new (segment_behind (file_of tree.old number) at end)) }
+    ensures { Serves tree.old tree.new result
+            (Tells tree.old tree.new (segment_behind (file_of tree.old number) at end)) }
 {
     let mut bytes = [0; PROGRAM_HEADER_SIZE];
     read_part(tree, number, at, &mut bytes)?;
@@ -153,8 +156,8 @@ fn read_headers<D: BlockDev>(
     Ok(Some(Program { header, pages }))
 }
 
-/// The program of the file that a number names, by what its headers say; `None` where it can't be executed, or the number is
-/// that of no file.
+/// The program of the file that a number names, by what its headers say; `None` where it can't be executed, or the
+/// number is that of no file.
 pub fn read_program<D: BlockDev>(
     tree: &mut Tree<D>,
     number: usize,

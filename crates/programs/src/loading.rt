@@ -1,10 +1,12 @@
 //! How a program comes into the memory of a place.
 
-ghost use Rattle.std.specs.Prelude.{◌≡◌, ◌*◌, ◌+◌, ◌<◌, ◌≤◌, ◌^◌, IfOk, OnErr, OnOk, Some, length, replicate, false, true};
+ghost use Rattle.std.specs.Prelude.{◌≡◌, ◌*◌, ◌+◌, ◌<◌, ◌≤◌, ◌^◌, IfOk, OnErr, OnOk, Some, length, replicate, false};
+ghost use Rattle.std.specs.Prelude.{true};
 ghost use Rattle.elf.specs.Headers.{is_within};
 ghost use Rattle.programs.specs.Headed.{file_of, loaded_by, part_of, program_in};
 ghost use Rattle.programs.specs.Passed.{stacked};
-ghost use Rattle.programs.specs.Placed.{Follows, HasRoom, IsPaged, Leaves, Loads, LoadsSegment, LoadsTo, LoadsWithStack, MayLoad, next_in, with_more, with_paged};
+ghost use Rattle.programs.specs.Placed.{Follows, HasRoom, IsPaged, Leaves, Loads, LoadsSegment, LoadsTo};
+ghost use Rattle.programs.specs.Placed.{LoadsWithStack, MayLoad, next_in, with_more, with_paged};
 ghost use Rattle.spaces.specs.Spaces.{SpaceView, has_space, view_at, no_pages, with_view};
 ghost use Rattle.file_transfers.specs.Moved.{with_bytes};
 ghost use Rattle.tree.specs.Tree.{Serves};
@@ -76,7 +78,8 @@ fn fill_piece<D: BlockDev, T: Translate>(
     requires space { has_space spaces.old at ≡ true }
     requires inside { address + length buffer.old ≤ 4096 * length (view_at spaces.old at).memory }
     ensures serves { Serves tree.old tree.new result (Leaves tree.old tree.new) }
-    ensures filled { OnOk result (spaces.new ≡ with_bytes spaces.old at address (part_of tree.old number offset (length buffer.old))) }
+    ensures filled { OnOk result
+            (spaces.new ≡ with_bytes spaces.old at address (part_of tree.old number offset (length buffer.old))) }
     ensures failed { OnErr result (spaces.new ≡ spaces.old) }
 {
     read_part(tree, number, offset, buffer)?;
@@ -101,7 +104,8 @@ fn fill_node<D: BlockDev, T: Translate>(
     requires space { has_space spaces.old at ≡ true }
     requires inside { address + count ≤ 4096 * length (view_at spaces.old at).memory }
     ensures serves { Serves tree.old tree.new result (Leaves tree.old tree.new) }
-    ensures filled { OnOk result (spaces.new ≡ with_bytes spaces.old at address (part_of tree.old number offset count)) }
+    ensures filled { OnOk result
+            (spaces.new ≡ with_bytes spaces.old at address (part_of tree.old number offset count)) }
     ensures failed { OnErr result ((held : SpaceView) × (spaces.new ≡ with_view spaces.old at held)) }
 {
     spaces.pages_are_whole(at);
@@ -174,7 +178,8 @@ fn load_next<D: BlockDev, T: Translate>(
     requires whole { length (view_at spaces.old at).memory ≡ ceil_div end 4096 }
     requires next { MayLoad spaces.old at (next_in (file_of tree.old number) place (view_at spaces.old at) end) }
     ensures serves { Serves tree.old tree.new result (Leaves tree.old tree.new) }
-    ensures loaded { IfOk result (LoadsTo spaces.old spaces.new at (next_in (file_of tree.old number) place (view_at spaces.old at) end)) }
+    ensures loaded { IfOk result
+            (LoadsTo spaces.old spaces.new at (next_in (file_of tree.old number) place (view_at spaces.old at) end)) }
     ensures failed { OnErr result ((held : SpaceView) × (spaces.new ≡ with_view spaces.old at held)) }
 {
     match read_segment(tree, number, place, end, len)? {
@@ -228,8 +233,8 @@ pub fn add_stack<T: Translate>(spaces: &mut Spaces<T>, at: usize, page: &[u8; FR
     spaces.fill(at, (pages + 1) * FRAME_SIZE as u64, page);
 }
 
-/// Puts a program with its arguments in the place of what a place holds. Where the device fails no more is promised of that place
-/// than that it has a space.
+/// Puts a program with its arguments in the place of what a place holds. Where the device fails no more is promised of
+/// that place than that it has a space.
 pub fn load<D: BlockDev, T: Translate>(
     tree: &mut Tree<D>,
     spaces: &mut Spaces<T>,
@@ -245,7 +250,8 @@ pub fn load<D: BlockDev, T: Translate>(
     requires space { has_space spaces.old at ≡ true }
     requires room { HasRoom spaces.old at (program.now.pages + 2) }
     ensures serves { Serves tree.old tree.new result (Leaves tree.old tree.new) }
-    ensures loaded { OnOk result (LoadsWithStack spaces.old spaces.new at (loaded_of (file_of tree.old number)) arguments.now.page) }
+    ensures loaded { OnOk result
+            (LoadsWithStack spaces.old spaces.new at (loaded_of (file_of tree.old number)) arguments.now.page) }
     ensures failed { OnErr result ((held : SpaceView) × (spaces.new ≡ with_view spaces.old at held)) }
 {
     clear(spaces, at);

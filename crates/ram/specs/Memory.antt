@@ -1,5 +1,6 @@
 -- A memory is a list of frames, and a frame is a list of 4096 bytes.
-use Rattle.std.specs.Prelude.{◌≡◌, ◌<◌, ℕ, ◌+◌, List, [], ◌++◌, length, take, drop, slice_index_or, slice_set, replicate}
+use Rattle.std.specs.Prelude.{◌≡◌, ◌<◌, ℕ, ◌+◌, List, [], ◌++◌, length, take, drop, slice_index_or, slice_set}
+use Rattle.std.specs.Prelude.{replicate}
 use Rattle.byteorder.specs.Endian.{little_number, little_bytes}
 
 -- the bytes of frame f, and none past the end

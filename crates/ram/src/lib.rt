@@ -4,7 +4,8 @@
 //! stands with its lowest byte first, as RISC-V has it. Only `Ram::new` and `Ram::duplicate` take memory of the host.
 #![tactic(auto)]
 
-ghost use Rattle.std.specs.Prelude.{◌≡◌, ◌≢◌, ℕ, ◌+◌, ◌*◌, ◌^◌, ◌<◌, ◌≤◌, List, length, replicate, slice_set, slice_range, slice_index_or, IfOk};
+ghost use Rattle.std.specs.Prelude.{◌≡◌, ◌≢◌, ℕ, ◌+◌, ◌*◌, ◌^◌, ◌<◌, ◌≤◌, List, length, replicate, slice_set};
+ghost use Rattle.std.specs.Prelude.{slice_range, slice_index_or, IfOk};
 ghost use Rattle.std.specs.Borrow.{sem};
 ghost use Rattle.ram.specs.Memory.{frame_of, put, put_bytes, word_of, word_bytes, IsMemory};
 

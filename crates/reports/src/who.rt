@@ -116,7 +116,8 @@ impl Programs {
         None
     }
 
-    // The place of a pid, else one that is free or whose process is gone: there are as many places as processes at a time.
+    // The place of a pid, else one that is free or whose process is gone: there are as many places as processes at a
+    // time.
     fn place<D: BlockDev, T: Translate>(&self, machine: &Machine<D, T>, pid: u32) -> Option<usize> {
         let mut free = None;
         for (place, entry) in self.known.iter().enumerate() {

@@ -1,5 +1,7 @@
 -- Lemmas on the bytes of a ring.
-use Rattle.std.proofs.Common.{◌≡◌, ◌≢◌, ◌<◌, ◌≤◌, ◌⊎◌, inl, inr, ℕ, zero, suc, ◌+◌, ◌-◌, ◌%◌, List, [], ◌∷◌, ◌++◌, drop, length, take, get_or, set, slice_get, None, Some, refl, sym, ap, ap₂, ◌∙◌, arith, mod-eq_of_lt, get_or-set_other, get_or-set_same}
+use Rattle.std.proofs.Common.{◌≡◌, ◌≢◌, ◌<◌, ◌≤◌, ◌⊎◌, inl, inr, ℕ, zero, suc, ◌+◌, ◌-◌, ◌%◌, List, [], ◌∷◌, ◌++◌, drop}
+use Rattle.std.proofs.Common.{length, take, get_or, set, slice_get, None, Some, refl, sym, ap, ap₂, ◌∙◌, arith}
+use Rattle.std.proofs.Common.{mod-eq_of_lt, get_or-set_other, get_or-set_same}
 use Rattle.std.proofs.Math.Nat.{mod-add-mod, mod-eq-sub-mod}
 use Rattle.std.proofs.lemmas.Bool.{cases_lt}
 use Rattle.ring.specs.Ring.{ring}
@@ -13,10 +15,12 @@ pub take-ring : (room : ℕ) (xs : List ℕ) (k m n : ℕ) → m ≤ n → take 
 unfolding ring
 take-ring room xs k zero n h = refl
 take-ring room xs k (suc m) zero h = absurd (omega arith)
-take-ring room xs k (suc m) (suc n) h = ap (λ l. get_or xs (k % room) 0 ∷ l) (take-ring room xs (k + 1) m n (omega arith))
+take-ring room xs k (suc m) (suc n) h =
+    ap (λ l. get_or xs (k % room) 0 ∷ l) (take-ring room xs (k + 1) m n (omega arith))
 
 -- one part of a ring, and the part behind it
-pub ring-append : (room : ℕ) (xs : List ℕ) (k n m t : ℕ) → t ≡ n + m → ring room xs k t ≡ ring room xs k n ++ ring room xs (k + n) m
+pub ring-append : (room : ℕ) (xs : List ℕ) (k n m t : ℕ) → t ≡ n + m
+    → ring room xs k t ≡ ring room xs k n ++ ring room xs (k + n) m
 unfolding ring
 ring-append room xs k zero m t h =
     let a : t ≡ m = omega arith in
@@ -25,10 +29,13 @@ ring-append room xs k zero m t h =
 ring-append room xs k (suc n) m zero h = absurd (omega arith)
 ring-append room xs k (suc n) m (suc t) h =
     let a : k + 1 + n ≡ k + suc n = omega arith in
-    ap (λ l. get_or xs (k % room) 0 ∷ l) (ring-append room xs (k + 1) n m t (omega arith) ∙ ap (λ j. ring room xs (k + 1) n ++ ring room xs j m) a)
+    ap (λ l. get_or xs (k % room) 0 ∷ l)
+        (ring-append room xs (k + 1) n m t (omega arith) ∙ ap (λ j. ring room xs (k + 1) n ++ ring room xs j m) a)
 
 -- parts are the same where their places hold the same
-pub ring-same : (room : ℕ) (xs ys : List ℕ) (k j n : ℕ) → ((i : ℕ) → i < n → get_or xs ((k + i) % room) 0 ≡ get_or ys ((j + i) % room) 0) → ring room xs k n ≡ ring room ys j n
+pub ring-same : (room : ℕ) (xs ys : List ℕ) (k j n : ℕ)
+    → ((i : ℕ) → i < n → get_or xs ((k + i) % room) 0 ≡ get_or ys ((j + i) % room) 0)
+    → ring room xs k n ≡ ring room ys j n
 unfolding ring
 ring-same room xs ys k j zero h = refl
 ring-same room xs ys k j (suc n) h =
@@ -47,7 +54,8 @@ ring-around room xs k m n =
     ring-same room xs xs (k % room + m) (k + m) n (λ i l.
     let a : k % room + m + i ≡ k % room + (m + i) = omega arith in
     let b : k + (m + i) ≡ k + m + i = omega arith in
-    ap (λ i. get_or xs (i % room) 0) (a) ∙ ap (λ i. get_or xs i 0) (mod-add-mod k room (m + i)) ∙ ap (λ i. get_or xs (i % room) 0) b)
+    ap (λ i. get_or xs (i % room) 0) (a) ∙ ap (λ i. get_or xs i 0) (mod-add-mod k room (m + i))
+        ∙ ap (λ i. get_or xs (i % room) 0) b)
 
 -- a place below twice the room wraps once at most
 wraps_once : (room j : ℕ) → j < room + room → ((j < room) × (j % room ≡ j)) ⊎ ((room ≤ j) × (j % room ≡ j - room))
@@ -66,26 +74,32 @@ places-apart room a b low near h e =
     ]
 
 -- a write behind a part, and before it comes around, leaves it
-pub ring-set_behind : (room : ℕ) (xs : List ℕ) (k n at b : ℕ) → k + n ≤ at → at < k + room → at < room + room → ring room (set xs (at % room) b) k n ≡ ring room xs k n
+pub ring-set_behind : (room : ℕ) (xs : List ℕ) (k n at b : ℕ) → k + n ≤ at → at < k + room → at < room + room
+    → ring room (set xs (at % room) b) k n ≡ ring room xs k n
 ring-set_behind room xs k n at b low near h =
-    ring-same room (set xs (at % room) b) xs k k n (λ i l. get_or-set_other xs (at % room) ((k + i) % room) b 0 (places-apart room (k + i) at (omega arith) (omega arith) h))
+    ring-same room (set xs (at % room) b) xs k k n
+        (λ i l. get_or-set_other xs (at % room) ((k + i) % room) b 0
+        (places-apart room (k + i) at (omega arith) (omega arith) h))
 
 -- a byte that is written right behind a part makes it longer
-pub ring-push : (room : ℕ) (xs : List ℕ) (k n at b : ℕ) → room ≤ length xs → at ≡ k + n → n < room → at < room + room → ring room (set xs (at % room) b) k (n + 1) ≡ ring room xs k n ++ b ∷ []
+pub ring-push : (room : ℕ) (xs : List ℕ) (k n at b : ℕ) → room ≤ length xs → at ≡ k + n → n < room → at < room + room
+    → ring room (set xs (at % room) b) k (n + 1) ≡ ring room xs k n ++ b ∷ []
 unfolding ring
 ring-push room xs k n at b full e fits h =
     let inside : at % room < length xs = elim (wraps_once room at h) [ inl p ↦ omega arith | inr p ↦ omega arith ] in
     ring-append room (set xs (at % room) b) k n 1 (n + 1) refl
     ∙ ap₂ ◌++◌
     (ring-set_behind room xs k n at b (omega arith) (omega arith) h)
-    (ap (λ i. get_or (set xs (at % room) b) (i % room) 0 ∷ []) (sym e) ∙ ap (λ x. x ∷ []) (get_or-set_same xs (at % room) b 0 inside))
+    (ap (λ i. get_or (set xs (at % room) b) (i % room) 0 ∷ []) (sym e)
+        ∙ ap (λ x. x ∷ []) (get_or-set_same xs (at % room) b 0 inside))
 
 pub none-ring : (room : ℕ) (xs : List ℕ) (k n : ℕ) → n ≡ 0 → slice_get (ring room xs k n) 0 ≡ None
 unfolding ring
 none-ring room xs k zero h = refl
 none-ring room xs k (suc n) h = absurd (omega arith)
 
-pub first-ring : (room : ℕ) (xs : List ℕ) (k n : ℕ) → 0 < n → k < room → slice_get (ring room xs k n) 0 ≡ Some (get_or xs k 0)
+pub first-ring : (room : ℕ) (xs : List ℕ) (k n : ℕ) → 0 < n → k < room
+    → slice_get (ring room xs k n) 0 ≡ Some (get_or xs k 0)
 unfolding ring
 first-ring room xs k zero h l = absurd (omega arith)
 first-ring room xs k (suc n) h l = ap (λ i. Some (get_or xs i 0)) (mod-eq_of_lt l)

@@ -7,12 +7,14 @@ use Rattle.hosts.specs.declared.report.End.TheVariants.{Halted, Running}
 use Rattle.machine.specs.View.{IsUp, View}
 use Rattle.unixmodel.specs.declared.event.Event.{Event}
 use Rattle.std.specs.Result.{IsErrAnd}
-use Rattle.std.proofs.Common.{[], ap, append-nil, Bool, drop, Err, false, inr, List, None, Ok, Option, refl, Result, Some, subst, sym, take, true, ℕ, ℤ, ◌∙◌, ◌≡◌, IfErr}
+use Rattle.std.proofs.Common.{[], ap, append-nil, Bool, drop, Err, false, inr, List, None, Ok, Option, refl, Result}
+use Rattle.std.proofs.Common.{Some, subst, sym, take, true, ℕ, ℤ, ◌∙◌, ◌≡◌, IfErr}
 use Rattle.std.proofs.KnownBytes.{Appends-kept}
 use Rattle.std.proofs.lemmas.List.{take-append-drop}
 use Rattle.calls.specs.declared.halt.Halt.TheVariants as halt
 use Rattle.machine.proofs.RunLemmas.{begins_both}
-use Rattle.run_commands.specs.Runs.{IsPlayed, Leaves, PlaysOut, Saves, failing_count, failing_identity, IsImageRun, IsRunWith, IsUnbootedWith}
+use Rattle.run_commands.specs.Runs.{IsPlayed, Leaves, PlaysOut, Saves, failing_count, failing_identity, IsImageRun}
+use Rattle.run_commands.specs.Runs.{IsRunWith, IsUnbootedWith}
 use Rattle.console.specs.Output.{AppendsBeginning}
 use Rattle.machine.specs.Gives.{DeviceFailsIn, IsDone, RunGives}
 use Rattle.machine.specs.Saved.{SaveGives}
@@ -29,7 +31,8 @@ use Rattle.machine.specs.declared.fault.BootFault.{BootFault}
 
 module _ (old new : View) (before mid after : Option (List ℕ)) (keeps : Keeps mid after) where
   -- all bytes
-  done-written : (a : After) (halted : Option ℤ) → IsDone old new a before mid halted → IsDone old new a before after halted
+  done-written : (a : After) (halted : Option ℤ) → IsDone old new a before mid halted
+      → IsDone old new a before after halted
   done-written a halted k = record {
     state = k.state;
     halts = k.halts;
@@ -40,7 +43,8 @@ module _ (old new : View) (before mid after : Option (List ℕ)) (keeps : Keeps 
   }
 
   -- all bytes are a beginning of them
-  all-begins : (a : After) (halted : Option ℤ) → IsDone old new a before mid halted → AppendsBeginning before after a.bytes
+  all-begins : (a : After) (halted : Option ℤ) → IsDone old new a before mid halted
+      → AppendsBeginning before after a.bytes
   all-begins a halted k = record {
     front = a.bytes;
     rest = [];
@@ -48,7 +52,8 @@ module _ (old new : View) (before mid after : Option (List ℕ)) (keeps : Keeps 
     took = Appends-kept _ _ _ _ k.printed keeps;
   }
 
-  device-written : (events : List Event) → DeviceFailsIn old new events before mid → DeviceFailsIn old new events before after
+  device-written : (events : List Event) → DeviceFailsIn old new events before mid
+      → DeviceFailsIn old new events before after
   device-written events k = record {
     done = k.done;
     more = k.more;
@@ -63,7 +68,8 @@ module _ (old new : View) (before mid after : Option (List ℕ)) (keeps : Keeps 
   }
 
   -- what is printed before the device fails is a beginning of what all events print
-  device-begins : (events : List Event) → IsUp old → DeviceFailsIn old new events before mid → AppendsBeginning before after (run old.state events).bytes
+  device-begins : (events : List Event) → IsUp old → DeviceFailsIn old new events before mid
+      → AppendsBeginning before after (run old.state events).bytes
   device-begins events up k =
       let both = begins_both (take k.done events) (drop k.done events) old.state up.goes in
       record {
@@ -86,7 +92,8 @@ module _ (old new : View) (before mid after : Option (List ℕ)) (keeps : Keeps 
       → RunGives old new events before mid rising ended → PlaysOut old new events before after (end_of ended written)
   plays-out events rising (Ok u) true up k = done-written (run old.state events) None k.1
   plays-out events rising (Ok u) false up k = all-begins (run old.state events) None k.1
-  plays-out events rising (Err (halt.InitEnded status)) true up k = done-written (run old.state events) (Some status) k.1
+  plays-out events rising (Err (halt.InitEnded status)) true up k =
+      done-written (run old.state events) (Some status) k.1
   plays-out events rising (Err (halt.InitEnded status)) false up k = all-begins (run old.state events) (Some status) k.1
   plays-out events rising (Err halt.Device) true up k = device-written events k.1
   plays-out events rising (Err halt.Device) false up k = device-begins events up k.1
@@ -95,48 +102,64 @@ module _ (old new : View) (before mid after : Option (List ℕ)) (keeps : Keeps 
   plays-out events rising (Err halt.Halted) written up k = absurd (k.stopped up)
 
 -- the same, where what is written by the run is known by other names
-pub plays-through : (old new : View) (from before to mid after : Option (List ℕ)) → from ≡ before → to ≡ mid → Keeps mid after
+pub plays-through : (old new : View) (from before to mid after : Option (List ℕ)) → from ≡ before → to ≡ mid
+    → Keeps mid after
     → (events : List Event) (rising : Type 0) (ended : Result (Unit {0}) Halt) (written : Bool) → IsUp old
     → RunGives old new events from to rising ended → PlaysOut old new events before after (end_of ended written)
 plays-through old new from before to mid after e f keeps events rising ended written up k =
     plays-out old new before mid after keeps events rising ended written up
-    (subst (λ b. RunGives old new events b mid rising ended) e (subst (λ t. RunGives old new events from t rising ended) f k))
+    (subst (λ b. RunGives old new events b mid rising ended) e
+        (subst (λ t. RunGives old new events from t rising ended) f k))
 
 -- ---- what is left
 
-module _ {D : Type 0} (content : D → List (List ℕ)) (identity : D → List ℕ) (count : D → ℕ) (first last : View) (events : List Event) (before after : Option (List ℕ)) (saves : Bool) where
-  played : (halted : Option ℤ) (disk : Option D) → IsDone first last (run first.state events) before after halted → Saves content identity last saves disk
+module _ {D : Type 0} (content : D → List (List ℕ)) (identity : D → List ℕ) (count : D → ℕ) (first last : View)
+    (events : List Event) (before after : Option (List ℕ)) (saves : Bool) where
+  played : (halted : Option ℤ) (disk : Option D) → IsDone first last (run first.state events) before after halted
+      → Saves content identity last saves disk
       → IsPlayed content identity first events before after saves halted disk
   played halted disk done saved = record { last = last; done = done; saved = saved }
 
   -- it is saved
-  pub leaves-saved : (end : End) (disk : D) → saves ≡ true → status_of end ≡ 0 → PlaysOut first last events before after end
-      → SaveGives content identity count last (Ok disk) → Leaves content identity count first events before after saves end (Some disk)
+  pub leaves-saved : (end : End) (disk : D) → saves ≡ true → status_of end ≡ 0
+      → PlaysOut first last events before after end
+      → SaveGives content identity count last (Ok disk)
+          → Leaves content identity count first events before after saves end (Some disk)
   leaves-saved Running disk is zero k s = played None (Some disk) k (rw is s)
   leaves-saved (Halted (halt.InitEnded status)) disk is zero k s = played (Some status) (Some disk) k (rw is s)
   leaves-saved _ disk is zero k s = absurd (cc)
 
   -- all events are done
-  all-done : (end : End) → status_of end ≡ 0 → PlaysOut first last events before after end → (halted : Option ℤ) × IsDone first last (run first.state events) before after halted
+  all-done : (end : End) → status_of end ≡ 0 → PlaysOut first last events before after end
+      → (halted : Option ℤ) × IsDone first last (run first.state events) before after halted
   all-done Running zero k = (None, k)
   all-done (Halted (halt.InitEnded status)) zero k = (Some status, k)
   all-done _ zero k = absurd (cc)
 
   -- it can't be saved
-  pub leaves-unsaved : (end : End) (why : Halt) → saves ≡ true → status_of end ≡ 0 → PlaysOut first last events before after end
-      → SaveGives content identity count last (Err why) → Leaves content identity count first events before after saves (Halted why) None
+  pub leaves-unsaved : (end : End) (why : Halt) → saves ≡ true → status_of end ≡ 0
+      → PlaysOut first last events before after end
+      → SaveGives content identity count last (Err why)
+          → Leaves content identity count first events before after saves (Halted why) None
   leaves-unsaved end halt.Device is zero k s =
       let done = all-done end zero k in
       (refl, (last, inr (record { wanted = is; halted = done.0; done = done.1; lost = s })))
-  leaves-unsaved end halt.Halted is zero k s = let bad : true ≡ false = sym s ∙ (all-done end zero k).1.sound in absurd (cc)
+  leaves-unsaved end halt.Halted is zero k s = let bad : true ≡ false = sym s
+      ∙ (all-done end zero k).1.sound in absurd (cc)
   leaves-unsaved end _ is zero k s = absurd s
 
 -- ---- a run from a disk of which one access fails
 
-module _ {D : Type 0} (identity : D → List ℕ) (count : D → ℕ) (fail : Option NonZeroU64) (n : NonZeroU64) (disk : D) (failing : Failing D) (is : fail ≡ Some n) (device : failing.device ≡ disk) (left : failing.left ≡ non_zero_u64_get n) where
+module _ {D : Type 0} (identity : D → List ℕ) (count : D → ℕ) (fail : Option NonZeroU64) (n : NonZeroU64) (disk : D)
+    (failing : Failing D) (is : fail ≡ Some n) (device : failing.device ≡ disk)
+    (left : failing.left ≡ non_zero_u64_get n) where
   -- what runs from the disk with its access that fails
-  pub runs-failing : (content : D → List (List ℕ)) (frames : ℕ) (events : List Event) (before after : Option (List ℕ)) (saves : Bool) (end : End) (kept : Option (Failing D)) (disk' : Option D) → option_map (λ (d : Failing D). d.device) kept ≡ disk'
-      → IsImageRun (λ (d : Failing D). content d.device) (failing_identity identity) (failing_count count) failing frames events before after saves end kept → IsRunWith content identity count fail disk frames events before after saves end disk'
+  pub runs-failing : (content : D → List (List ℕ)) (frames : ℕ) (events : List Event) (before after : Option (List ℕ))
+      (saves : Bool) (end : End) (kept : Option (Failing D)) (disk' : Option D)
+      → option_map (λ (d : Failing D). d.device) kept ≡ disk'
+      → IsImageRun (λ (d : Failing D). content d.device) (failing_identity identity) (failing_count count) failing
+          frames events before after saves end kept
+          → IsRunWith content identity count fail disk frames events before after saves end disk'
   runs-failing content frames events before after saves end kept disk' inner runs = rw is (record {
     failing = kept;
     inner = inner;
@@ -144,10 +167,13 @@ module _ {D : Type 0} (identity : D → List ℕ) (count : D → ℕ) (fail : Op
   })
 
   -- what doesn't boot from it
-  pub unbooted-failing : (image : List ℕ) (frames : ℕ) (fault : BootFault) → IsUnbooted (failing_identity identity) (failing_count count) failing image frames fault → IsUnbootedWith identity count fail disk image frames fault
+  pub unbooted-failing : (image : List ℕ) (frames : ℕ) (fault : BootFault)
+      → IsUnbooted (failing_identity identity) (failing_count count) failing image frames fault
+      → IsUnbootedWith identity count fail disk image frames fault
   unbooted-failing image frames fault why = rw is (rw (← device, ← left) why)
 
 -- what is told of a fault is told of the answer that passes it on
-pub passed-on : {T : Type 0} (r : Result T BootFault) (fault : BootFault) (Why : BootFault → Type 0) → IsErrAnd r (λ f. f ≡ fault) → Why fault → IfErr r Why
+pub passed-on : {T : Type 0} (r : Result T BootFault) (fault : BootFault) (Why : BootFault → Type 0)
+    → IsErrAnd r (λ f. f ≡ fault) → Why fault → IfErr r Why
 passed-on (Ok x) fault Why is why = tt
 passed-on (Err f) fault Why is why = subst Why (sym is) why

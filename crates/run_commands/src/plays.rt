@@ -132,8 +132,8 @@ fn waited_in_vain<D: BlockDev, T: Translate>(
     Some(InVain { unreached, waiters })
 }
 
-// Boots a machine from a disk over a translator and gives it the events of a play; then it is saved, if it is to be and the play
-// came to its end.
+// Boots a machine from a disk over a translator and gives it the events of a play; then it is saved, if it is to be and
+// the play came to its end.
 fn play_disk<D: BlockDev, T: Translate, R: Record, V: Watch, W: Write>(
     alloc: Global,
     disk: D,
@@ -325,8 +325,8 @@ fn perform_read<H: Host, S: Screen, W: Write, E: Write>(
     }
 }
 
-/// The command `play`: boots a machine from an image, gives it the events of a play, and tells how that ended. The script and the
-/// image that is left are written before. The play is read whole before the machine boots.
+/// The command `play`: boots a machine from an image, gives it the events of a play, and tells how that ended. The
+/// script and the image that is left are written before. The play is read whole before the machine boots.
 pub fn perform<H: Host, S: Screen, W: Write, E: Write>(
     alloc: Global,
     words: Play<'_>,

@@ -21,7 +21,8 @@ use std::alloc::Global;
 use std::io::Write;
 use sv39::{Plain, Recent, Tlb, Translate};
 
-/// How much of a flat program is read: a byte more than the largest memory has, so that what is cut off can't boot either.
+/// How much of a flat program is read: a byte more than the largest memory has, so that what is cut off can't boot
+/// either.
 const MOST_PROGRAM: usize = 32768 * 4096 + 1;
 
 /// The commands of the script of this name, which has to be text.
@@ -69,7 +70,8 @@ fn play_out<D: BlockDev, T: Translate, V: Watch, W: Write>(
     stdout: W,
 ) -> (End, W)
     requires { IsUp machine.old }
-    ensures { PlaysOut machine.old machine.new (script_events script.now) (W.contents stdout) (W.contents result.1) result.0 }
+    ensures { PlaysOut machine.old machine.new (script_events script.now) (W.contents stdout) (W.contents result.1)
+            result.0 }
 {
     let mut out = Writer::new(stdout);
     let ended = play(machine, script, watch, &mut out);
@@ -79,8 +81,8 @@ fn play_out<D: BlockDev, T: Translate, V: Watch, W: Write>(
     (end_of(ended, is_written), stdout)
 }
 
-/// The disk that a machine leaves whose events ended so, if it is to be saved and neither its device nor the console has failed; and how
-/// that ended.
+/// The disk that a machine leaves whose events ended so, if it is to be saved and neither its device nor the console
+/// has failed; and how that ended.
 pub fn leave<D: BlockDev, T: Translate>(
     machine: Machine<D, T>,
     saves: bool,
@@ -106,7 +108,8 @@ fn run_machine<D: BlockDev, T: Translate, V: Watch, W: Write>(
     stdout: W,
 ) -> Ran<D, W>
     requires { IsUp machine }
-    ensures { RunLeaves D.content D.identity D.failures W.contents machine (script_events script.now) stdout saves result }
+    ensures { RunLeaves D.content D.identity D.failures W.contents machine (script_events script.now) stdout saves
+            result }
 {
     let (end, stdout) = play_out(&mut machine, script, watch, stdout);
     let (end, disk) = leave(machine, saves, end);
@@ -142,8 +145,10 @@ fn run_disk<D: BlockDev, T: Translate, V: Watch, W: Write + Drop>(
     watch: &mut V,
     stdout: W,
 ) -> Result<Ran<D, W>, BootFault>
-    ensures ran { IfOk result (ImageRuns D.content D.identity D.failures W.contents disk words.now (script_events script.now) stdout) }
-    ensures refused { IfErr result (IsUnbooted D.identity D.failures disk (image_of (D.content disk)) words.now.frames) }
+    ensures ran { IfOk result
+            (ImageRuns D.content D.identity D.failures W.contents disk words.now (script_events script.now) stdout) }
+    ensures refused { IfErr result
+            (IsUnbooted D.identity D.failures disk (image_of (D.content disk)) words.now.frames) }
 {
     let machine = boot(alloc, disk, translator, words.frames)?;
     Ok(run_machine(machine, script, words.save.is_some(), watch, stdout))
@@ -166,7 +171,8 @@ fn run_with<D: BlockDev, T: Translate, V: Watch, W: Write + Drop>(
     watch: &mut V,
     stdout: W,
 ) -> Result<Ran<D, W>, BootFault>
-    ensures ran { IfOk result (RunsWith D.content D.identity D.failures W.contents disk words.now (script_events script.now) stdout) }
+    ensures ran { IfOk result
+            (RunsWith D.content D.identity D.failures W.contents disk words.now (script_events script.now) stdout) }
     ensures refused { IfErr result (RefusesWith D.content D.identity D.failures disk words.now) }
 {
     let Some(n) = words.fail else {
@@ -183,8 +189,8 @@ fn run_with<D: BlockDev, T: Translate, V: Watch, W: Write + Drop>(
     })
 }
 
-/// The translator of runs at each of whose events somebody looks on. It is a type of its own, so that the code of other runs is compiled without
-/// them; the output is the same over every translator.
+/// The translator of runs at each of whose events somebody looks on. It is a type of its own, so that the code of other
+/// runs is compiled without them; the output is the same over every translator.
 type Watched = Tlb<32>;
 
 // How a flat run ended, or why there was none.
@@ -225,8 +231,8 @@ fn read_flat<'a, H: Host>(
     Ok((program, script))
 }
 
-/// The command `flat`, at whose batches of events somebody looks on. Its files are read in the order of the command line, and the
-/// script is parsed, before anything is booted.
+/// The command `flat`, at whose batches of events somebody looks on. Its files are read in the order of the command
+/// line, and the script is parsed, before anything is booted.
 pub fn flat<'a, H: Host, V: Watch, W: Write>(
     alloc: Global,
     words: Flat<'a>,
@@ -277,7 +283,8 @@ fn run_over<'a, V: Watch, W: Write>(
     }
 }
 
-/// A machine at each of whose events somebody looks on: how it ended, and the disk that is left where it was to be saved.
+/// A machine at each of whose events somebody looks on: how it ended, and the disk that is left where it was to be
+/// saved.
 pub fn run_watched_over<'a, V: Watch, W: Write>(
     alloc: Global,
     words: Run<'a>,
@@ -303,7 +310,8 @@ pub fn read_run<'a, H: Host>(
     Ok((image, bytes))
 }
 
-/// The command `run`, at whose batches of events somebody looks on: how it ended, and the disk that is left where it was to be saved.
+/// The command `run`, at whose batches of events somebody looks on: how it ended, and the disk that is left where it
+/// was to be saved.
 /// Its files are read in the order of the command line, and the script is parsed, before there is a disk.
 pub fn run<'a, H: Host, V: Watch, W: Write>(
     alloc: Global,

@@ -8,7 +8,8 @@ use hosts::{End, Failure, Host, Screen, tell};
 use std::alloc::Global;
 use std::io::Write;
 
-/// Tells how a run ended, behind what else is to be told of it, and then what was not written; answers the status to exit with.
+/// Tells how a run ended, behind what else is to be told of it, and then what was not written; answers the status to
+/// exit with.
 pub fn finish<'a, H: Host, E: Write>(
     end: End,
     written: Result<(), Failure<'a>>,
@@ -52,7 +53,8 @@ pub fn flat<H: Host, S: Screen, W: Write, E: Write>(
     }
 }
 
-/// The command `run`: boots a machine from an image, runs a script, and tells how that ended. The image that is left is written before.
+/// The command `run`: boots a machine from an image, runs a script, and tells how that ended. The image that is left is
+/// written before.
 pub fn run<H: Host, S: Screen, W: Write, E: Write>(
     alloc: Global,
     words: Run<'_>,

@@ -207,7 +207,8 @@ impl<H: Host, S: Screen, E: Write> Seat<'_, '_, H, S, E> {
         self.is_escaped = false;
     }
 
-    // What the bytes give that were read: keys up to the end of a line or to a byte that is none, or what that byte asks for.
+    // What the bytes give that were read: keys up to the end of a line or to a byte that is none, or what that byte
+    // asks for.
     fn next_given(&mut self) -> Given {
         let mut keys = ArrayVec::new();
         for _ in 0..MOST_KEYS {

@@ -52,7 +52,8 @@ fn sit_out<D: BlockDev, T: Translate, S: Terminal, W: Write>(
     stdout: W,
 ) -> (End, W)
     requires { IsUp machine.old }
-    ensures { SitsOutTo W.contents S.gives S.kept quantum terminal.old terminal.new machine.old machine.new stdout result }
+    ensures { SitsOutTo W.contents S.gives S.kept quantum terminal.old terminal.new machine.old machine.new stdout
+            result }
 {
     let mut out = Writer::new(stdout);
     let ended = session(machine, quantum, terminal, &mut out);
@@ -134,7 +135,8 @@ fn tell_end<E: Write>(words: &Live<'_>, end: End, is_whole: bool, stderr: &mut E
     let _ = writeln!(stderr, "{end}");
 }
 
-/// Boots a machine from an image, gives it what is typed, and tells how that ended. The image that is left is written before.
+/// Boots a machine from an image, gives it what is typed, and tells how that ended. The image that is left is written
+/// before.
 pub fn perform<H: Host, S: Screen, W: Write, E: Write>(
     alloc: Global,
     words: Live<'_>,

@@ -1,6 +1,8 @@
 -- What a step of the process in one place leaves in the others.
-use Rattle.run_laws.proofs.Common.{get_or-set_other, slot, Process, is_zombie, State, process_at, IsLeft, Rests, is_child_of, Done, Ends, Refused, Waits, Files, OpenFile}
-use Rattle.std.proofs.Common.{ap, Bool, false, List, map, None, Option, refl, set, Some, subst, sym, true, ℕ, ℤ, ◌∙◌, ◌≡◌, ◌≢◌}
+use Rattle.run_laws.proofs.Common.{get_or-set_other, slot, Process, is_zombie, State, process_at, IsLeft, Rests}
+use Rattle.run_laws.proofs.Common.{is_child_of, Done, Ends, Refused, Waits, Files, OpenFile}
+use Rattle.std.proofs.Common.{ap, Bool, false, List, map, None, Option, refl, set, Some, subst, sym, true, ℕ, ℤ, ◌∙◌}
+use Rattle.std.proofs.Common.{◌≡◌, ◌≢◌}
 use Rattle.std.specs.Prelude.{if◌then◌else◌, option_map}
 use Rattle.unixmodel.specs.Counts.{is_within}
 use Rattle.unixmodel.specs.Outcome.{given, limited, orphaned, Outcome, provided, zombie_of, end_process}
@@ -64,25 +66,31 @@ Spares = Leaves IsSame
 abbrev pub Passes : ℕ → State → State → Type 0
 Passes = Leaves IsPassed
 
-pub leaves-then : {A B C : Option Process → Option Process → Type 0} {r : ℕ} {s t u : State} → ((a b c : Option Process) → A a b → B b c → C a c) → Leaves A r s t → Leaves B r t u → Leaves C r s u
+pub leaves-then : {A B C : Option Process → Option Process → Type 0} {r : ℕ} {s t u : State}
+    → ((a b c : Option Process) → A a b → B b c → C a c) → Leaves A r s t → Leaves B r t u → Leaves C r s u
 leaves-then {s} {t} {u} join first second = record {
   last = second.last ∙ first.last;
-  others = λ i apart. join (process_at s i) (process_at t i) (process_at u i) (first.others i apart) (second.others i apart);
+  others = λ i apart. join (process_at s i) (process_at t i) (process_at u i) (first.others i apart)
+      (second.others i apart);
 }
 
 pub spares-passes : {r : ℕ} {s t : State} → Spares r s t → Passes r s t
-spares-passes {t} spares = leaves-then same-passed spares (record { last = refl; others = λ i apart. passed-refl (process_at t i) })
+spares-passes {t} spares =
+    leaves-then same-passed spares (record { last = refl; others = λ i apart. passed-refl (process_at t i) })
 
 -- only its own place is written
-pub spares-own : {r : ℕ} {s t : State} (o : Option Process) → t.places ≡ set s.places r o → t.last ≡ s.last → Spares r s t
+pub spares-own : {r : ℕ} {s t : State} (o : Option Process) → t.places ≡ set s.places r o → t.last ≡ s.last
+    → Spares r s t
 spares-own {r} {s} {t} o places last = record {
   last = last;
-  others = λ i apart. same-is (process_at s i) (process_at t i) (ap (λ xs. slot xs i) places ∙ get_or-set_other s.places r i o None apart);
+  others = λ i apart. same-is (process_at s i) (process_at t i)
+      (ap (λ xs. slot xs i) places ∙ get_or-set_other s.places r i o None apart);
 }
 
 -- or none
 pub spares-all : {r : ℕ} {s t : State} → t.places ≡ s.places → t.last ≡ s.last → Spares r s t
-spares-all {s} {t} places last = record { last = last; others = λ i apart. same-is (process_at s i) (process_at t i) (ap (λ xs. slot xs i) places) }
+spares-all {s} {t} places last =
+    record { last = last; others = λ i apart. same-is (process_at s i) (process_at t i) (ap (λ xs. slot xs i) places) }
 
 -- what holds on both ways of a test
 pub by-test : {A : Type 0} (P : A → Type 0) (b : Bool) (x y : A) → P x → P y → P (if b then x else y)
@@ -107,7 +115,8 @@ end-spares s r p status = reap-spares (record {
   last = refl;
   others = λ i apart.
       subst (IsSame (process_at s i))
-      (sym (get_or-set_other (map (option_map (orphaned p.pid)) s.places) r i (Some (zombie_of p status)) None apart ∙ get_or-map (option_map (orphaned p.pid)) s.places i None))
+      (sym (get_or-set_other (map (option_map (orphaned p.pid)) s.places) r i (Some (zombie_of p status)) None apart
+          ∙ get_or-map (option_map (orphaned p.pid)) s.places i None))
       (orphaned-same p.pid (process_at s i));
 })
 
@@ -120,15 +129,18 @@ Yields r s (Done t answer bytes) = Passes r s t
 Yields r s (Waits t w) = Passes r s t
 Yields r s (Ends t status) = Passes r s t
 
-pub yields-given : {X : Type 0} (r : ℕ) (s : State) (o : Option X) (rest : X → Outcome) → ((x : X) → o ≡ Some x → Yields r s (rest x)) → Yields r s (given o rest)
+pub yields-given : {X : Type 0} (r : ℕ) (s : State) (o : Option X) (rest : X → Outcome)
+    → ((x : X) → o ≡ Some x → Yields r s (rest x)) → Yields r s (given o rest)
 yields-given r s None rest yields = tt
 yields-given r s (Some x) rest yields = yields x refl
 
-pub yields-provided : (r : ℕ) (s : State) (test : Bool) (rest : Outcome) → Yields r s rest → Yields r s (provided test rest)
+pub yields-provided : (r : ℕ) (s : State) (test : Bool) (rest : Outcome) → Yields r s rest
+    → Yields r s (provided test rest)
 yields-provided r s true rest yields = yields
 yields-provided r s false rest yields = tt
 
-pub yields-either : (r : ℕ) (s : State) (test : Bool) (one other : Outcome) → Yields r s one → Yields r s other → Yields r s (if test then one else other)
+pub yields-either : (r : ℕ) (s : State) (test : Bool) (one other : Outcome) → Yields r s one → Yields r s other
+    → Yields r s (if test then one else other)
 yields-either r s = by-test (Yields r s)
 
 pub yields-limited : (r : ℕ) (s : State) (o : Outcome) → Yields r s o → Yields r s (limited o)
@@ -144,10 +156,13 @@ pub passes-refl : (r : ℕ) (s : State) → Passes r s s
 passes-refl r s = passes-all r s s refl refl
 
 -- a state with one of its places written, whatever else is new
-pub passes-put : (r : ℕ) (s : State) (o : Option Process) (files : Files) (opens : List (Option OpenFile)) (pipes : List (Option (List ℕ))) (console : Console)
+pub passes-put : (r : ℕ) (s : State) (o : Option Process) (files : Files) (opens : List (Option OpenFile))
+    (pipes : List (Option (List ℕ))) (console : Console)
     (ticks next_pid frame_limit block_limit : ℕ) (halted : Option ℤ)
-    → Passes r s (record s { places = set s.places r o; files = files; opens = opens; pipes = pipes; console = console; ticks = ticks; next_pid = next_pid; frame_limit = frame_limit; block_limit = block_limit; halted = halted })
-passes-put r s o files opens pipes console ticks next_pid frame_limit block_limit halted = spares-passes (spares-own o refl refl)
+    → Passes r s (record s { places = set s.places r o; files = files; opens = opens; pipes = pipes; console = console;
+        ticks = ticks; next_pid = next_pid; frame_limit = frame_limit; block_limit = block_limit; halted = halted })
+passes-put r s o files opens pipes console ticks next_pid frame_limit block_limit halted =
+    spares-passes (spares-own o refl refl)
 
 -- what outcomes are made of: a search by these finds what most rows leave
 pub ruleset yielding = (yields-given, yields-provided, yields-either, passes-refl, passes-put, passes-all)

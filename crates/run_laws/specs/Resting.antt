@@ -6,7 +6,8 @@ use Rattle.unixmodel.specs.Process.{Process, is_running, is_zombie}
 use Rattle.unixmodel.specs.Run.{UnlessHalted, picked_by, run}
 use Rattle.unixmodel.specs.State.{State, process_at}
 
--- all of a process stays, its registers, pc, size and pages among it, but its parent, which may end, and the mark of a kill
+-- all of a process stays, its registers, pc, size and pages among it, but its parent, which may end, and the mark of a
+-- kill
 abbrev pub Rests : Process → Process → Type 0
 Rests p q = q ≡ record p { parent = q.parent; killed = q.killed }
 
@@ -17,7 +18,8 @@ IsLeft p (Some q) = Rests p q
 
 -- for each process that doesn't run, and each event that doesn't pick it
 abbrev pub LeavesResting : Type 0
-LeavesResting = (s : State) (i : ℕ) (p : Process) (e : Event) → process_at s i ≡ Some p → is_running p ≡ false → picked_by s e ≢ Some i
+LeavesResting = (s : State) (i : ℕ) (p : Process) (e : Event) → process_at s i ≡ Some p → is_running p ≡ false
+    → picked_by s e ≢ Some i
     → IsLeft p (process_at (next s e).state i)
 
 -- no event of the run, which ends where it halts, picks the process in place i or takes it away
@@ -28,5 +30,6 @@ IsLetBe i s (e ∷ es) =
     × UnlessHalted (next s e).state (λ t. IsLetBe i t es) (next s e).state.halted
 
 abbrev pub KeepsResting : Type 0
-KeepsResting = (s : State) (i : ℕ) (p : Process) (events : List Event) → process_at s i ≡ Some p → is_running p ≡ false → IsLetBe i s events
+KeepsResting = (s : State) (i : ℕ) (p : Process) (events : List Event) → process_at s i ≡ Some p → is_running p ≡ false
+    → IsLetBe i s events
     → (q : Process) × (process_at (run s events).state i ≡ Some q) × Rests p q

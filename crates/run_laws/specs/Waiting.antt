@@ -8,7 +8,8 @@ use Rattle.unixmodel.specs.State.{State, place_limit}
 
 -- the place that was picked last is one of the 64: at each start, and after each run
 pub record LastIsPlace : Type 0 where
-  pub starts : (files : Files) (blocks frames : ℕ) (s : State) → start files blocks frames ≡ Some s → s.last < place_limit
+  pub starts : (files : Files) (blocks frames : ℕ) (s : State) → start files blocks frames ≡ Some s
+      → s.last < place_limit
   pub starts_flat : (bytes : List ℕ) (frames : ℕ) (s : State) → start_flat bytes frames ≡ Some s → s.last < place_limit
   pub stays : (s : State) (events : List Event) → s.last < place_limit → (run s events).state.last < place_limit
 
@@ -19,4 +20,5 @@ pub record IsBounded (s : State) (events : List Event) : Type 0 where
 
 -- wherever a process is passed over
 abbrev pub WaitsBounded : Type 0
-WaitsBounded = (s : State) (i : ℕ) (events : List Event) → s.last < place_limit → i < place_limit → IsPassedOver i s events → IsBounded s events
+WaitsBounded = (s : State) (i : ℕ) (events : List Event) → s.last < place_limit → i < place_limit
+    → IsPassedOver i s events → IsBounded s events

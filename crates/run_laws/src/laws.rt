@@ -7,14 +7,14 @@ pub fn last_is_a_place()
     ensures { LastIsPlace }
 {}
 
-/// Over a stretch of events at each of whose turns a process is ready and isn't picked, no place is picked twice: so at most
-/// 63 other turns come before its own.
+/// Over a stretch of events at each of whose turns a process is ready and isn't picked, no place is picked twice: so at
+/// most 63 other turns come before its own.
 pub fn waiting_is_bounded()
     ensures { WaitsBounded }
 {}
 
-/// From any moment at which a process doesn't run until it is picked, or waited for as a zombie, its registers, pc, size
-/// and pages stay, whatever events come.
+/// From any moment at which a process doesn't run until it is picked, or waited for as a zombie, its registers, pc,
+/// size and pages stay, whatever events come.
 pub fn rest_is_private()
     ensures event { LeavesResting }
     ensures run { KeepsResting }

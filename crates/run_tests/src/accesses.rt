@@ -8,7 +8,8 @@ use unixmodel::event::Event;
 // More steps than the program takes to read the file once more.
 const STEPS: usize = 200;
 
-// Steps until the file was read so often: how often the disk was read until then. `None`: it was written, or not read so often.
+// Steps until the file was read so often: how often the disk was read until then. `None`: it was written, or not read
+// so often.
 fn reads_until(run: &mut Run<Plain>, rounds: u64) -> Option<u64> {
     for _ in 0..STEPS {
         run.event(Event::Step).ok()?;
@@ -52,8 +53,8 @@ fn is_read_again(told: Option<(u64, u64)>) -> bool {
     }
 }
 
-// Thirty blocks are held: those of a file of 20 blocks, of its numbers, its inode and its directory are, and those of a file of 32
-// blocks aren't.
+// Thirty blocks are held: those of a file of 20 blocks, of its numbers, its inode and its directory are, and those of a
+// file of 32 blocks aren't.
 #[test]
 fn what_is_held_is_not_read_again(rt: HostRuntime) {
     let alloc = rt.alloc();

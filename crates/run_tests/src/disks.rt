@@ -84,8 +84,8 @@ pub(crate) fn image_with(
     make(alloc, &Manifest { entries }, blocks, 16).ok()
 }
 
-/// The image of so many blocks whose `/init` is the program of this text, and whose `/big` has so many bytes: the numbers 2 and 3
-/// of sixteen.
+/// The image of so many blocks whose `/init` is the program of this text, and whose `/big` has so many bytes: the
+/// numbers 2 and 3 of sixteen.
 pub(crate) fn image_of(alloc: Global, text: &str, big: usize, blocks: u32) -> Option<Vec<u8>> {
     let files = [("/init", Given::Program(text)), ("/big", Given::Zeros(big))];
     image_with(alloc, &files, blocks)

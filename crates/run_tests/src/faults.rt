@@ -258,7 +258,8 @@ fn tells(alloc: Global, run: &mut Whole, wanted: Option<Wanted>) -> bool {
     }
 }
 
-// Whether a program's last word has this fault. The turn that picks the process comes first, and then all words but that one.
+// Whether a program's last word has this fault. The turn that picks the process comes first, and then all words but
+// that one.
 fn holds(alloc: Global, words: &[u32], wanted: Option<Wanted>) -> Option<bool> {
     let mut run = booted(alloc, words)?;
     let holds = run.steps(words.len()) && tells(alloc, &mut run, wanted);

@@ -1,6 +1,6 @@
 //! Machines that boot from images: lists of events that go in one piece and in pieces, disks that are saved and booted
-//! again, disks of which each access fails in its turn, how often a disk is asked for, the arguments of a program, digests of
-//! states, sessions that are driven from outside, faults, reports and traces.
+//! again, disks of which each access fails in its turn, how often a disk is asked for, the arguments of a program,
+//! digests of states, sessions that are driven from outside, faults, reports and traces.
 #![tactic(auto)]
 
 #[cfg(test)]

@@ -1,5 +1,5 @@
-//! Two machines of one program that makes a file, reads a byte that is typed, writes it into the file, forgets it, and counts: where
-//! their digests are the same, and where they differ.
+//! Two machines of one program that makes a file, reads a byte that is typed, writes it into the file, forgets it, and
+//! counts: where their digests are the same, and where they differ.
 use crate::disks::{Given, Run, Whole, expect_row, flat, image_with, run_on};
 use std::alloc::Global;
 use sv39::{Plain, Tlb, Translate};

@@ -149,8 +149,8 @@ fn booted<T: Translate>(alloc: Global, image: &[u8], translator: T) -> Option<Ru
     Run::boot(alloc, disk, translator, 64)
 }
 
-// Whether a generated list of events ends so in one piece and in pieces that are no longer than a mask; and whether it stopped the
-// machine.
+// Whether a generated list of events ends so in one piece and in pieces that are no longer than a mask; and whether it
+// stopped the machine.
 fn run_both(
     alloc: Global,
     whole: &mut Whole,

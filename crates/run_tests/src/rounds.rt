@@ -73,8 +73,8 @@ fn waiting<T: Translate>(alloc: Global, disk: MemDisk, translator: T) -> Option<
     Some(run)
 }
 
-// Saves a machine, of which no process matters: what it leaves, which the check accepts. Its text goes behind what was printed
-// before.
+// Saves a machine, of which no process matters: what it leaves, which the check accepts. Its text goes behind what was
+// printed before.
 fn put_away(alloc: Global, run: Parted, text: &mut Vec<u8>) -> Option<MemDisk> {
     let (mut disk, printed) = run.left()?;
     text.extend_from_slice(printed.as_slice()).ok()?;
@@ -107,7 +107,8 @@ fn go_round(alloc: Global, whole: &mut Whole, parted: &mut Parted, dice: &mut Di
     }
 }
 
-// All rounds, with a save and a boot behind each: the machine that was booted at last. What is printed goes into the text. `None`:
+// All rounds, with a save and a boot behind each: the machine that was booted at last. What is printed goes into the
+// text. `None`:
 // the two differ.
 fn go_on(
     alloc: Global,
@@ -126,7 +127,8 @@ fn go_on(
     Some(parted)
 }
 
-// Whether the machine that is saved and booted again ends with the files of the other. What it prints goes into the text.
+// Whether the machine that is saved and booted again ends with the files of the other. What it prints goes into the
+// text.
 fn ends_alike(
     alloc: Global,
     whole: &mut Whole,

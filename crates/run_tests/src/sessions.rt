@@ -147,7 +147,8 @@ const LINE: [Act; 5] = [
     Is(ENDED),
 ];
 
-// That the host has no memory for a copy is tried by no test: a session is over the heap itself, which no test can empty.
+// That the host has no memory for a copy is tried by no test: a session is over the heap itself, which no test can
+// empty.
 static ROWS: [Row; 3] = [
     Row {
         name: "a line ends the program",

@@ -1,4 +1,5 @@
-//! Whether spans are as the viewers want them: keys and times, slices of a lane that nest, arrows with two ends on slices.
+//! Whether spans are as the viewers want them: keys and times, slices of a lane that nest, arrows with two ends on
+//! slices.
 
 use std::alloc::Global;
 

@@ -1,7 +1,7 @@
 //! The programs that are `/init` here, as assembly texts.
 
-/// Does what each byte says that is typed, by its low three bits, and prints the byte and what came of it; `x` ends it. Nothing of
-/// one byte is left for the next but files. It makes the console where there is none.
+/// Does what each byte says that is typed, by its low three bits, and prints the byte and what came of it; `x` ends it.
+/// Nothing of one byte is left for the next but files. It makes the console where there is none.
 pub(crate) const SERVANT: &str = "
         la a0, console
         li a1, 1
@@ -291,8 +291,8 @@ big:    .ascii \"big\\0\"
 letter: .ascii \"a\"
 ";
 
-/// Executes itself with 32 arguments, with 31, with one of 4080 bytes, and with one of 4079 bytes, and then turns round. Where one
-/// passes that should be refused, or the other way round, it ends.
+/// Executes itself with 32 arguments, with 31, with one of 4080 bytes, and with one of 4079 bytes, and then turns
+/// round. Where one passes that should be refused, or the other way round, it ends.
 pub(crate) const PASSER: &str = "
         li t0, 31
         beq a0, t0, long

@@ -35,7 +35,8 @@ computed p = done_by p (effect_of p)
 
 -- a step that computes changes the process that runs and nothing else, and prints nothing
 abbrev pub StepIsPrivate : Type 0
-StepIsPrivate = (s : State) (i : ℕ) → running s ≡ Some i → computes s ≡ true → next s Step ≡ quiet (change_process s i computed)
+StepIsPrivate = (s : State) (i : ℕ) → running s ≡ Some i → computes s ≡ true
+    → next s Step ≡ quiet (change_process s i computed)
 
 -- an interrupt after such a step is an interrupt before it, with the same done to the process that ran
 abbrev pub TickPasses : Type 0

@@ -8,8 +8,8 @@ pub fn step_is_private()
     ensures { StepIsPrivate }
 {}
 
-/// A timer interrupt after such a step, or after many, does what it does before the first of them, and the process that ran has computed
-/// as much: so it matters before calls and faults alone.
+/// A timer interrupt after such a step, or after many, does what it does before the first of them, and the process that
+/// ran has computed as much: so it matters before calls and faults alone.
 pub fn tick_passes()
     ensures one { TickPasses }
     ensures many { TickPassesAll }

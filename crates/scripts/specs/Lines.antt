@@ -12,7 +12,8 @@ lines_of text = slice_split (λ byte. byte == 10) text
 abbrev pub AreSaid : {X : Type 0} → (List ℕ → X → Type 0) → List (List ℕ) → List X → Type 0
 AreSaid Says [] items = items ≡ []
 AreSaid Says ([] ∷ lines) items = AreSaid Says lines items
-AreSaid Says ((x ∷ xs) ∷ lines) items = (item : _) × (rest : List _) × (items ≡ item ∷ rest) × Says (x ∷ xs) item × AreSaid Says lines rest
+AreSaid Says ((x ∷ xs) ∷ lines) items = (item : _) × (rest : List _) × (items ≡ item ∷ rest) × Says (x ∷ xs) item
+    × AreSaid Says lines rest
 
 -- the first line that says nothing, counted from 1
 pub record IsFirstFault {X : Type 0} (Says : List ℕ → X → Type 0) (lines : List (List ℕ)) (number : ℕ) : Type 0 where

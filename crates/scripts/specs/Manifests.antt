@@ -1,5 +1,6 @@
 -- What a manifest's text says.
-use Rattle.std.specs.Prelude.{◌≡◌, ℕ, ◌+◌, ◌≤◌, ◌==◌, ◌++◌, List, None, Option, Some, codes, drop, option_map, position, take, MatchOption}
+use Rattle.std.specs.Prelude.{◌≡◌, ℕ, ◌+◌, ◌≤◌, ◌==◌, ◌++◌, List, None, Option, Some, codes, drop, option_map, position}
+use Rattle.std.specs.Prelude.{take, MatchOption}
 use Rattle.std.specs.Borrow.{Bor}
 use Rattle.std.specs.Str.Parse.{IsNumeral, digits_value}
 use Rattle.scripts.specs.declared.manifest.Line.{Line}
@@ -25,15 +26,18 @@ IsFile rest path host = (split_field rest ≡ Some (path, host)) × (split_field
 abbrev pub IsDevice : List ℕ → List ℕ → ℕ → ℕ → Type 0
 IsDevice rest path major minor =
     (numbers : List ℕ) × (first : List ℕ) × (second : List ℕ)
-    × (split_field rest ≡ Some (path, numbers)) × (split_field numbers ≡ Some (first, second)) × IsMajor first major × IsMajor second minor
+    × (split_field rest ≡ Some (path, numbers)) × (split_field numbers ≡ Some (first, second)) × IsMajor first major
+        × IsMajor second minor
 
 -- the path and the numbers of a device are found, or there are none
 abbrev pub FindsDevice : List ℕ → Option (Bor (List ℕ) × ℕ × ℕ) → Type 0
 FindsDevice rest found =
-    MatchOption found ((path : List ℕ) (first second : ℕ) → ¬ IsDevice rest path first second) (λ three. IsDevice rest three.0.now three.1 three.2)
+    MatchOption found ((path : List ℕ) (first second : ℕ) → ¬ IsDevice rest path first second)
+        (λ three. IsDevice rest three.0.now three.1 three.2)
 
 -- what a line says
 abbrev pub IsLine : List ℕ → Line → Type 0
 IsLine text (line.Directory path) = (rest : List ℕ) × (text ≡ codes "dir " ++ rest) × IsDirectory rest path.now
 IsLine text (line.File path host) = (rest : List ℕ) × (text ≡ codes "file " ++ rest) × IsFile rest path.now host.now
-IsLine text (line.Device path major minor) = (rest : List ℕ) × (text ≡ codes "dev " ++ rest) × IsDevice rest path.now major minor
+IsLine text (line.Device path major minor) = (rest : List ℕ) × (text ≡ codes "dev " ++ rest)
+    × IsDevice rest path.now major minor

@@ -1,6 +1,7 @@
 -- The words of a script's lines.
 use Rattle.std.proofs.Common.{Global, Vec}
-use Rattle.std.specs.Prelude.{◌≡◌, ℕ, ◌+◌, ◌-◌, ◌*◌, ◌<◌, ◌≤◌, ◌&&◌, List, Option, Some, None, if◌then◌else◌, nat_le, length, slice_index, MatchOption}
+use Rattle.std.specs.Prelude.{◌≡◌, ℕ, ◌+◌, ◌-◌, ◌*◌, ◌<◌, ◌≤◌, ◌&&◌, List, Option, Some, None, if◌then◌else◌, nat_le}
+use Rattle.std.specs.Prelude.{length, slice_index, MatchOption}
 use Rattle.std.specs.Str.Parse.{IsNumeral, digits_value}
 
 -- the most events of a line
@@ -29,8 +30,10 @@ hex_pair high low = joined (hex_digit high) (hex_digit low)
 -- the digits write the bytes, two each
 pub record IsHexOf (digits bytes : List ℕ) : Type 0 where
   pub pairs : length digits ≡ 2 * length bytes
-  pub each : (k : ℕ) → k < length bytes → hex_pair (slice_index digits (2 * k)) (slice_index digits (2 * k + 1)) ≡ Some (slice_index bytes k)
+  pub each : (k : ℕ) → k < length bytes
+      → hex_pair (slice_index digits (2 * k)) (slice_index digits (2 * k + 1)) ≡ Some (slice_index bytes k)
 
 -- the bytes that the digits write are found, or they write none
 abbrev pub FindsBytes : List ℕ → Option (Vec ℕ Global) → Type 0
-FindsBytes digits found = MatchOption found ((bytes : List ℕ) → ¬ IsHexOf digits bytes) (λ bytes. IsHexOf digits bytes.items)
+FindsBytes digits found =
+    MatchOption found ((bytes : List ℕ) → ¬ IsHexOf digits bytes) (λ bytes. IsHexOf digits bytes.items)

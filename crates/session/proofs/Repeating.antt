@@ -10,7 +10,8 @@ use Rattle.session.specs.Played.{Advances, IsAsFar, Refuses, Runs, Tells, consol
 use Rattle.session.specs.declared.session.Session.{Session}
 use Rattle.unixmodel.specs.Failures.{Rises}
 use Rattle.unixmodel.specs.declared.event.Event.{Event}
-use Rattle.std.proofs.Common.{◌%◌, ◌+◌, ◌-◌, ◌<◌, [], ap, append-nil, arith, Err, inl, inr, length, List, Ok, Option, refl, replicate, Result, Some, subst, sym, true, ℕ, ◌↔◌, ◌∙◌, ◌≡◌, ◌≢◌, ◌≤◌, ◌⊎◌}
+use Rattle.std.proofs.Common.{◌%◌, ◌+◌, ◌-◌, ◌<◌, [], ap, append-nil, arith, Err, inl, inr, length, List, Ok, Option}
+use Rattle.std.proofs.Common.{refl, replicate, Result, Some, subst, sym, true, ℕ, ◌↔◌, ◌∙◌, ◌≡◌, ◌≢◌, ◌≤◌, ◌⊎◌}
 use Rattle.std.proofs.lemmas.Bool.{cases_eq, cases_lt}
 use Rattle.unixmodel.specs.Run.{run}
 use Rattle.std.proofs.lemmas.List.{replicate-append-replicate}
@@ -40,81 +41,107 @@ SoManySteps first now n before after = SoFar first now (replicate n Step) before
 pub busy-at-first : (first : View) → IsBusyFor first.state 0
 busy-at-first first k within = absurd (omega arith)
 
-module _ (first now new : View) (most n more : ℕ) (before mid after : Option (List ℕ)) (h : SoManySteps first now n before mid) where
+module _ (first now new : View) (most n more : ℕ) (before mid after : Option (List ℕ))
+    (h : SoManySteps first now n before mid) where
   busy-behind : (k : ℕ) → (run first.state (replicate (n + k) Step)).state ≡ (run now.state (replicate k Step)).state
-  busy-behind k = ap (λ es. (run first.state es).state) (sym (replicate-append-replicate n k Step)) ∙ ap (λ (a : After). a.state) (both first now (replicate n Step) (replicate k Step) before mid h)
+  busy-behind k = ap (λ es. (run first.state es).state) (sym (replicate-append-replicate n k Step))
+      ∙ ap (λ (a : After). a.state) (both first now (replicate n Step) (replicate k Step) before mid h)
 
   pub busy-on : IsBusyFor first.state n → IsBusyFor now.state more → IsBusyFor first.state (n + more)
   busy-on so_far busy k within = elim (cases_lt k n) [
     | inl less ↦ so_far k less
     | inr least ↦
         let behind : k ≡ n + (k - n) = omega (arith, least) in
-        subst IsBusy (sym (ap (λ j. (run first.state (replicate j Step)).state) behind ∙ busy-behind (k - n))) (busy (k - n) (omega (arith, within, least)))
+        subst IsBusy (sym (ap (λ j. (run first.state (replicate j Step)).state) behind ∙ busy-behind (k - n)))
+            (busy (k - n) (omega (arith, within, least)))
   ]
 
-  runs-behind : (step_rises rises : Type 0) (r : Result (Unit {0}) Halt) → (step_rises → rises) → RunGives now new (replicate more Step) mid after step_rises r → RunGives first new (replicate (n + more) Step) before after rises r
-  runs-behind step_rises rises r rise k = subst (λ es. RunGives first new es before after rises r) (replicate-append-replicate n more Step)
+  runs-behind : (step_rises rises : Type 0) (r : Result (Unit {0}) Halt) → (step_rises → rises)
+      → RunGives now new (replicate more Step) mid after step_rises r
+      → RunGives first new (replicate (n + more) Step) before after rises r
+  runs-behind step_rises rises r rise k =
+      subst (λ es. RunGives first new es before after rises r) (replicate-append-replicate n more Step)
       (runs_on first now new (replicate n Step) (replicate more Step) before mid after step_rises rises r h rise k)
 
   -- more are done
-  pub steps-on : (step_rises rises : Type 0) (u : Unit {0}) (r : Result (Unit {0}) Halt) → r ≡ Ok u → (step_rises → rises) → RunGives now new (replicate more Step) mid after step_rises r → SoManySteps first new (n + more) before after
+  pub steps-on : (step_rises rises : Type 0) (u : Unit {0}) (r : Result (Unit {0}) Halt) → r ≡ Ok u
+      → (step_rises → rises) → RunGives now new (replicate more Step) mid after step_rises r
+      → SoManySteps first new (n + more) before after
   steps-on step_rises rises u r ok rise k =
-      let all = subst (λ (x : Result (Unit {0}) Halt). RunGives first new (replicate (n + more) Step) before after rises x) ok (runs-behind step_rises rises r rise k) in
+      let all = subst (λ (x : Result (Unit {0}) Halt). RunGives first new (replicate (n + more) Step) before after
+              rises x) ok (runs-behind step_rises rises r rise k) in
       record { began = all.0; done = all.1 }
 
   -- they are the last
-  pub ends-by : (step_rises rises : Type 0) (r : Result (Unit {0}) Halt) → IsBusyFor first.state n → n ≤ most → (step_rises → rises) → RunGives now new (replicate more Step) mid after step_rises r → IsPiece now new (most - n) more r
+  pub ends-by : (step_rises rises : Type 0) (r : Result (Unit {0}) Halt) → IsBusyFor first.state n → n ≤ most
+      → (step_rises → rises) → RunGives now new (replicate more Step) mid after step_rises r
+      → IsPiece now new (most - n) more r
       → OnOk r (more ≡ 0) → Advances first new most before after rises (ran_of (n + more) r)
   ends-by step_rises rises r busy within rise k piece none = record {
     gives = runs-behind step_rises rises r rise k;
-    far = record { within = let p = piece.within in omega (arith, p, within); busy = busy-on busy piece.busy; idle = idle r piece.idle none };
+    far = record { within = let p = piece.within in omega (arith, p, within); busy = busy-on busy piece.busy;
+        idle = idle r piece.idle none };
   } where
-    idle : (x : Result (Unit {0}) Halt) → OnOk x (more ≡ 0 → is_idle new.state ≡ true) → OnOk x (more ≡ 0) → OnOk x (n + more < most → is_idle new.state ≡ true)
+    idle : (x : Result (Unit {0}) Halt) → OnOk x (more ≡ 0 → is_idle new.state ≡ true) → OnOk x (more ≡ 0)
+        → OnOk x (n + more < most → is_idle new.state ≡ true)
     idle (Ok u) still none = λ less. still none
     idle (Err halt) still none = tt
 
 -- all were done
-pub ends : (first now : View) (most n : ℕ) (before after : Option (List ℕ)) (rising : Type 0) → SoManySteps first now n before after → IsBusyFor first.state n → n ≤ most → most ≤ n
+pub ends : (first now : View) (most n : ℕ) (before after : Option (List ℕ)) (rising : Type 0)
+    → SoManySteps first now n before after → IsBusyFor first.state n → n ≤ most → most ≤ n
     → Advances first now most before after rising (ran_of n (Ok tt))
-ends first now most n before after rising h busy within all = record { gives = (h.began, h.done); far = record { within = within; busy = busy; idle = λ less. absurd (omega (arith, less, all)) } }
+ends first now most n before after rising h busy within all =
+    record { gives = (h.began, h.done);
+    far = record { within = within; busy = busy; idle = λ less. absurd (omega (arith, less, all)) } }
 
 -- ---- a machine that is given no event: whether it takes any
 
-same-view : (a b : View) → a.state ≡ b.state → a.failures ≡ b.failures → a.failed ≡ b.failed → a.identity ≡ b.identity → a ≡ b
+same-view : (a b : View) → a.state ≡ b.state → a.failures ≡ b.failures → a.failed ≡ b.failed → a.identity ≡ b.identity
+    → a ≡ b
 same-view a b p q r s = λ i. record { state = p i; failures = q i; failed = r i; identity = s i }
 
 -- the machine and the bytes stay, and a machine that is up says so
-pub stands : (old new : View) (xs ys : List ℕ) (rising : Type 0) (r : Result (Unit {0}) Halt) → RunGives old new [] (Some xs) (Some ys) rising r
+pub stands : (old new : View) (xs ys : List ℕ) (rising : Type 0) (r : Result (Unit {0}) Halt)
+    → RunGives old new [] (Some xs) (Some ys) rising r
     → old.failures ≡ 0 → new.failures ≡ 0 → (new ≡ old) × (ys ≡ xs) × (IsUp old ↔ (is_ok r ≡ true))
 unfolding run
-stands old new xs ys rising (Ok u) h first now = (same-view new old h.1.state (now ∙ sym first) (h.1.sound ∙ sym h.0.sound) h.1.same_device, h.1.printed ∙ append-nil xs, (λ up. refl, λ ok. h.0))
+stands old new xs ys rising (Ok u) h first now =
+    (same-view new old h.1.state (now ∙ sym first) (h.1.sound ∙ sym h.0.sound) h.1.same_device, h.1.printed
+    ∙ append-nil xs, (λ up. refl, λ ok. h.0))
 stands old new xs ys rising (Err (InitEnded status)) h first now = absurd (let e = sym h.0.goes ∙ h.1.halts in cc)
 stands old new xs ys rising (Err Device) h first now = absurd (let more = h.1.more in omega (arith, more))
 stands old new xs ys rising (Err Console) h first now = absurd (let more = h.1.more in omega (arith, more))
-stands old new xs ys rising (Err Halted) h first now = (h.same, h.printed ∙ append-nil xs, (λ up. absurd (h.stopped up), λ ok. absurd cc))
+stands old new xs ys rising (Err Halted) h first now =
+    (h.same, h.printed ∙ append-nil xs, (λ up. absurd (h.stopped up), λ ok. absurd cc))
 
 -- a count that rose after a look has risen since before it
-rises-sooner : (old new : View) (events : List Event) (before after : Option (List ℕ)) (step_rises rises : Type 0) (r : Result (Unit {0}) Halt) → (step_rises → rises) → RunGives old new events before after step_rises r
+rises-sooner : (old new : View) (events : List Event) (before after : Option (List ℕ)) (step_rises rises : Type 0)
+    (r : Result (Unit {0}) Halt) → (step_rises → rises) → RunGives old new events before after step_rises r
     → RunGives old new events before after rises r
 rises-sooner old new events before after step_rises rises (Ok u) rise k = k
 rises-sooner old new events before after step_rises rises (Err (InitEnded status)) rise k = k
 rises-sooner old new events before after step_rises rises (Err Device) rise k = k
 rises-sooner old new events before after step_rises rises (Err Console) rise k = (
   k.0,
-  record { rises = rise k.1.rises; failed = k.1.failed; printed = k.1.printed; done = k.1.done; more = k.1.more; goes = k.1.goes; files = k.1.files; same_device = k.1.same_device; later = k.1.later },
+  record { rises = rise k.1.rises; failed = k.1.failed; printed = k.1.printed; done = k.1.done; more = k.1.more;
+      goes = k.1.goes; files = k.1.files; same_device = k.1.same_device; later = k.1.later },
 )
 rises-sooner old new events before after step_rises rises (Err Halted) rise k = k
 
 -- where the disk never fails, no answer blames it
-tells-of : (old new : View) (events : List Event) (xs ys : List ℕ) (rising : Type 0) (r : Result (Unit {0}) Halt) → new.failures ≡ 0 → RunGives old new events (Some xs) (Some ys) rising r → Tells old new events xs ys rising r
+tells-of : (old new : View) (events : List Event) (xs ys : List ℕ) (rising : Type 0) (r : Result (Unit {0}) Halt)
+    → new.failures ≡ 0 → RunGives old new events (Some xs) (Some ys) rising r → Tells old new events xs ys rising r
 tells-of old new events xs ys rising (Ok u) zero k = k
 tells-of old new events xs ys rising (Err (InitEnded status)) zero k = k
-tells-of old new events xs ys rising (Err Device) zero k = absurd (let more = k.1.fails.rises in omega (arith, more, zero))
+tells-of old new events xs ys rising (Err Device) zero k =
+    absurd (let more = k.1.fails.rises in omega (arith, more, zero))
 tells-of old new events xs ys rising (Err Console) zero k = k
 tells-of old new events xs ys rising (Err Halted) zero k = k
 
 -- a machine that takes events is not told as one that had stopped
-never : (old new : View) (events : List Event) (before after : Option (List ℕ)) (rising : Type 0) (n : ℕ) (r : Result (Unit {0}) Halt) → IsUp old → RunGives old new events before after rising r → IsErrOf r Halted → n ≡ 0
+never : (old new : View) (events : List Event) (before after : Option (List ℕ)) (rising : Type 0) (n : ℕ)
+    (r : Result (Unit {0}) Halt) → IsUp old → RunGives old new events before after rising r → IsErrOf r Halted → n ≡ 0
 never old new events before after rising n (Ok u) up k is = absurd cc
 never old new events before after rising n (Err (InitEnded status)) up k is = absurd cc
 never old new events before after rising n (Err Device) up k is = absurd cc
@@ -122,8 +149,11 @@ never old new events before after rising n (Err Console) up k is = absurd cc
 never old new events before after rising n (Err Halted) up k is = absurd (k.stopped up)
 
 -- the run of a session whose machine takes events, which was looked at before
-pub runs-on : {old new : Session} {most : ℕ} {ran : Ran} (mid : View) (bytes : List ℕ) (failed : ℕ) → mid ≡ old.machine → bytes ≡ console_of old → console_failures old ≤ failed → failed ≤ console_failures new → IsUp old.machine
-    → new.machine.failures ≡ 0 → Advances mid new.machine most (Some bytes) (Some (console_of new)) (Rises failed (console_failures new)) ran → Runs old new most ran
+pub runs-on : {old new : Session} {most : ℕ} {ran : Ran} (mid : View) (bytes : List ℕ) (failed : ℕ) → mid ≡ old.machine
+    → bytes ≡ console_of old → console_failures old ≤ failed → failed ≤ console_failures new → IsUp old.machine
+    → new.machine.failures ≡ 0
+        → Advances mid new.machine most (Some bytes) (Some (console_of new)) (Rises failed (console_failures new)) ran
+        → Runs old new most ran
 runs-on {old} {new} {most} {ran} mid bytes failed same kept later rose up zero a =
     let steps : List Event = replicate ran.steps Step in
     let rises : Type 0 = Rises (console_failures old) (console_failures new) in
@@ -132,34 +162,45 @@ runs-on {old} {new} {most} {ran} mid bytes failed same kept later rose up zero a
           subst (λ (m : View). Tells m new.machine steps (console_of old) (console_of new) rises ran.answer) same
           (subst (λ (b : List ℕ). Tells mid new.machine steps b (console_of new) rises ran.answer) kept
           (tells-of mid new.machine steps bytes (console_of new) rises ran.answer zero
-          (rises-sooner mid new.machine steps (Some bytes) (Some (console_of new)) (Rises failed (console_failures new)) rises ran.answer (λ r. Rises-later (console_failures old) failed (console_failures new) later r rose) a.gives)));
+          (rises-sooner mid new.machine steps (Some bytes) (Some (console_of new))
+              (Rises failed (console_failures new)) rises ran.answer
+              (λ r. Rises-later (console_failures old) failed (console_failures new) later r rose) a.gives)));
       far = subst (λ (m : View). IsAsFar m new.machine most ran) same a.far;
-      none = never mid new.machine steps (Some bytes) (Some (console_of new)) (Rises failed (console_failures new)) ran.steps ran.answer (subst IsUp (sym same) up) a.gives;
+      none = never mid new.machine steps (Some bytes) (Some (console_of new)) (Rises failed (console_failures new))
+          ran.steps ran.answer (subst IsUp (sym same) up) a.gives;
     }
 
 -- a machine that had stopped
-pub refused : (old new : View) (xs ys : List ℕ) → (IsUp old → ⊥) → new ≡ old → ys ≡ xs → IsRefused old new (Some xs) (Some ys)
-refused old new xs ys stopped same bytes = record { stopped = stopped; same = same; printed = bytes ∙ sym (append-nil xs) }
+pub refused : (old new : View) (xs ys : List ℕ) → (IsUp old → ⊥) → new ≡ old → ys ≡ xs
+    → IsRefused old new (Some xs) (Some ys)
+refused old new xs ys stopped same bytes =
+    record { stopped = stopped; same = same; printed = bytes ∙ sym (append-nil xs) }
 
 -- ---- why a session doesn't begin, and the bytes of its disk
 
 -- bytes that are no whole blocks
 pub length-refused : (image : List ℕ) (frames : ℕ) → length image % 1024 ≢ 0 → Refuses image frames (Image Length)
-length-refused image frames odd = (tt, λ h. odd (let w = h.whole in omega arith), λ files d. odd (let w = d.super.whole in omega arith))
+length-refused image frames odd =
+    (tt, λ h. odd (let w = h.whole in omega arith), λ files d. odd (let w = d.super.whole in omega arith))
 
-fault-refused : {D : Type 0} (identity : D → List ℕ) (at : D) (image : List ℕ) (frames : ℕ) (f : BootFault) → IsUnbooted identity (λ d. 0) at image frames f → Refuses image frames f
+fault-refused : {D : Type 0} (identity : D → List ℕ) (at : D) (image : List ℕ) (frames : ℕ) (f : BootFault)
+    → IsUnbooted identity (λ d. 0) at image frames f → Refuses image frames f
 fault-refused identity at image frames BootFault.Device why = absurd (let rises = why.1.rises in omega (arith, rises))
 fault-refused identity at image frames _ why = why
 
 -- what is told of a fault is told of the answer that passes it on
-pub refused-on : {T D : Type 0} (identity : D → List ℕ) (at : D) (image disk : List ℕ) (frames : ℕ) (r : Result T BootFault) (f : BootFault) → IsErrAnd r (λ e. e ≡ f) → disk ≡ image
+pub refused-on : {T D : Type 0} (identity : D → List ℕ) (at : D) (image disk : List ℕ) (frames : ℕ)
+    (r : Result T BootFault) (f : BootFault) → IsErrAnd r (λ e. e ≡ f) → disk ≡ image
     → IsUnbooted identity (λ d. 0) at disk frames f → IfErr r (Refuses image frames)
 refused-on identity at image disk frames (Ok x) f is same why = tt
 refused-on identity at image disk frames (Err e) f is same why =
-    subst (Refuses image frames) (sym is) (fault-refused identity at image frames f (subst (λ (bs : List ℕ). IsUnbooted identity (λ d. 0) at bs frames f) same why))
+    subst (Refuses image frames) (sym is)
+        (fault-refused identity at image frames f
+        (subst (λ (bs : List ℕ). IsUnbooted identity (λ d. 0) at bs frames f) same why))
 
 -- where a machine booted the count of frames was in range
-pub counted : {T : Type 0} (x : T) (frames : ℕ) → 64 ≤ frames → frames ≤ 32768 → IsErrOf {T = T} (Ok x) FrameCount ↔ ((frames < 64) ⊎ (32768 < frames))
+pub counted : {T : Type 0} (x : T) (frames : ℕ) → 64 ≤ frames → frames ≤ 32768
+    → IsErrOf {T = T} (Ok x) FrameCount ↔ ((frames < 64) ⊎ (32768 < frames))
 counted x frames least most = (λ e. absurd cc, λ out. absurd (outside out)) where
   outside : ((frames < 64) ⊎ (32768 < frames)) → ⊥
   outside (inl low) = omega (arith, low, least)
@@ -171,10 +212,13 @@ whole-unless : (n : ℕ) (E : Type 0) → (E → ⊥) → (n ≢ 0 → E) → n 
 whole-unless n E none odd = elim (cases_eq n 0) [ inl whole ↦ whole | inr not ↦ absurd (none (odd not)) ]
 
 -- a disk that was made of a copy
-pub disk-image : (image bytes disk : List ℕ) (len : ℕ) → bytes ≡ image → disk ≡ bytes → len ≡ length image → len % 1024 ≡ 0 → image_of (blocks_of disk) ≡ image
+pub disk-image : (image bytes disk : List ℕ) (len : ℕ) → bytes ≡ image → disk ≡ bytes → len ≡ length image
+    → len % 1024 ≡ 0 → image_of (blocks_of disk) ≡ image
 disk-image image bytes disk len copy made is whole =
     ap (λ bs. image_of (blocks_of bs)) (made ∙ copy) ∙ image_of-blocks image (ap (λ n. n % 1024) (sym is) ∙ whole)
 
 -- one that was made of a copy, which is refused only where it is no whole blocks
-pub copied : {image bytes disk : List ℕ} {len : ℕ} {E : Type 0} → (len % 1024 ≢ 0 → E) → (E → ⊥) → bytes ≡ image → disk ≡ bytes → len ≡ length image → image_of (blocks_of disk) ≡ image
-copied {image} {bytes} {disk} {len} {E} odd none copy made is = disk-image image bytes disk len copy made is (whole-unless (len % 1024) E none odd)
+pub copied : {image bytes disk : List ℕ} {len : ℕ} {E : Type 0} → (len % 1024 ≢ 0 → E) → (E → ⊥) → bytes ≡ image
+    → disk ≡ bytes → len ≡ length image → image_of (blocks_of disk) ≡ image
+copied {image} {bytes} {disk} {len} {E} odd none copy made is =
+    disk-image image bytes disk len copy made is (whole-unless (len % 1024) E none odd)

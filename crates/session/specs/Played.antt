@@ -1,6 +1,7 @@
 -- What a session answers to events and looks, and what it leaves. Its disk is in memory and never fails.
 use Rattle.std.proofs.Common.{Global, Vec}
-use Rattle.std.specs.Prelude.{Err, IsErrOf, List, Ok, OnOk, Option, Result, Some, [], false, length, replicate, true, ℕ, ◌<◌, ◌∷◌, ◌≡◌, ◌≤◌}
+use Rattle.std.specs.Prelude.{Err, IsErrOf, List, Ok, OnOk, Option, Result, Some, [], false, length, replicate, true, ℕ}
+use Rattle.std.specs.Prelude.{◌<◌, ◌∷◌, ◌≡◌, ◌≤◌}
 use Rattle.calls.specs.declared.halt.Halt.{Halt}
 use Rattle.calls.specs.declared.halt.Halt.TheVariants.{Console, Device, Halted, InitEnded}
 use Rattle.calls.specs.Steps.{IsBusyFor}
@@ -35,13 +36,16 @@ Refuses image frames f = IsUnbooted {D = Unit {0}} (λ u. []) (λ u. 0) tt image
 
 -- ---- events
 
--- what an event that makes `a` is answered with, over the bytes before and after; rising: the count of failures of the console's writer rose
+-- what an event that makes `a` is answered with, over the bytes before and after; rising: the count of failures of the
+-- console's writer rose
 abbrev pub StepTells : View → View → After → List ℕ → List ℕ → Type 0 → Result (Unit {0}) Halt → Type 0
 StepTells old new a before after rising (Err Device) = ⊥
 StepTells old new a before after rising result = StepGives old new a (Some before) (Some after) rising result
 
 abbrev pub StepAnswers : Session → Session → After → Result (Unit {0}) Halt → Type 0
-StepAnswers old new a result = StepTells old.machine new.machine a (console_of old) (console_of new) (Rises (console_failures old) (console_failures new)) result
+StepAnswers old new a result =
+    StepTells old.machine new.machine a (console_of old) (console_of new)
+    (Rises (console_failures old) (console_failures new)) result
 
 -- what a list of events is answered with
 abbrev pub Tells : View → View → List Event → List ℕ → List ℕ → Type 0 → Result (Unit {0}) Halt → Type 0
@@ -49,7 +53,9 @@ Tells old new events before after rising (Err Device) = ⊥
 Tells old new events before after rising result = RunGives old new events (Some before) (Some after) rising result
 
 abbrev pub Answers : Session → Session → List Event → Result (Unit {0}) Halt → Type 0
-Answers old new events result = Tells old.machine new.machine events (console_of old) (console_of new) (Rises (console_failures old) (console_failures new)) result
+Answers old new events result =
+    Tells old.machine new.machine events (console_of old) (console_of new)
+    (Rises (console_failures old) (console_failures new)) result
 
 -- ---- a run until nobody is ready
 
@@ -60,13 +66,15 @@ pub record IsAsFar (old new : View) (most : ℕ) (ran : Ran) : Type 0 where
   pub idle : OnOk ran.answer (ran.steps < most → is_idle new.state ≡ true)
 
 -- what the run of a machine that takes events is answered with
-pub record Advances (old new : View) (most : ℕ) (before after : Option (List ℕ)) (rising : Type 0) (ran : Ran) : Type 0 where
+pub record Advances (old new : View) (most : ℕ) (before after : Option (List ℕ)) (rising : Type 0) (ran : Ran) : Type 0
+    where
   pub gives : RunGives old new (replicate ran.steps Step) before after rising ran.answer
   pub far : IsAsFar old new most ran
 
 -- the same where the bytes go to an output
 abbrev pub AdvancesTo : {W : Type 0} → (W → Option (List ℕ)) → (W → ℕ) → View → View → W → W → ℕ → Ran → Type 0
-AdvancesTo contents failures old new from to most ran = Advances old new most (contents from) (contents to) (Rises (failures from) (failures to)) ran
+AdvancesTo contents failures old new from to most ran =
+    Advances old new most (contents from) (contents to) (Rises (failures from) (failures to)) ran
 
 -- what the run of a session is answered with; no step is taken by a machine that had stopped
 pub record Runs (old new : Session) (most : ℕ) (ran : Ran) : Type 0 where

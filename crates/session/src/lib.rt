@@ -1,4 +1,5 @@
-//! A machine with its console, as it is driven from outside: exact steps, ticks and keys in, and bytes and plain numbers out.
+//! A machine with its console, as it is driven from outside: exact steps, ticks and keys in, and bytes and plain
+//! numbers out.
 #![tactic(auto)]
 
 mod held;

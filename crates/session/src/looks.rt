@@ -48,8 +48,8 @@ impl Session {
         Some(told(&seen))
     }
 
-    /// Copies the bytes of a page of a process, as many as there is room for, and tells its marks. `None`, and nothing is copied,
-    /// past its last page, and where there is no such process.
+    /// Copies the bytes of a page of a process, as many as there is room for, and tells its marks. `None`, and nothing
+    /// is copied, past its last page, and where there is no such process.
     pub fn page(&self, pid: u32, page: u64, out: &mut [u8]) -> Option<Perm>
         ensures { ShowsPage (shown_page self.now.machine.state pid page) out.old out.new result }
     {

@@ -12,15 +12,16 @@ use machine::{Halt, Stat};
 impl Session {
     /// What is told of the node of the disk with this number; `None` where there is none.
     pub fn stat(&mut self, number: usize) -> Result<Option<Stat>, Halt>
-        ensures { Looks self.old self.new (λ stat. stat ≡ option_map stat_seen (shown_stat self.old.machine.state number)) result }
+        ensures { Looks self.old self.new
+                (λ stat. stat ≡ option_map stat_seen (shown_stat self.old.machine.state number)) result }
     {
         let told = self.machine.stat_inode(number);
         self.never_fails();
         told
     }
 
-    /// Reads bytes of the node of the disk with this number into `out`, from the place `at` on and as many as there are, and
-    /// tells how many: none past its end, none of a device, and none where there is no such node.
+    /// Reads bytes of the node of the disk with this number into `out`, from the place `at` on and as many as there
+    /// are, and tells how many: none past its end, none of a device, and none where there is no such node.
     pub fn read(&mut self, number: usize, at: usize, out: &mut [u8]) -> Result<usize, Halt>
         ensures gives { Looks self.old self.new (ReadsAt self.old.machine.state number at out.old out.new) result }
         ensures kept { IsErrOf result Halted → out.new ≡ out.old }

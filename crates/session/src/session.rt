@@ -25,8 +25,8 @@ const FEWEST: u32 = 64;
 /// The most frames that a machine has.
 const MOST: u32 = 32768;
 
-/// A machine over a disk in memory, and the bytes of its console that nobody took yet. Such a disk never fails, so no call
-/// answers `Device`.
+/// A machine over a disk in memory, and the bytes of its console that nobody took yet. Such a disk never fails, so no
+/// call answers `Device`.
 #[derive(Drop)]
 pub struct Session {
     pub(crate) alloc: Global,
@@ -61,8 +61,8 @@ impl Session {
         })
     }
 
-    /// A session of its own, which goes on as this one would: with the same machine, and the same bytes of its console that nobody
-    /// took yet.
+    /// A session of its own, which goes on as this one would: with the same machine, and the same bytes of its console
+    /// that nobody took yet.
     ///
     /// `NoMemory` where the host has none for it.
     pub fn copy(&self) -> Result<Session, NoMemory>
@@ -95,8 +95,8 @@ impl Session {
         done
     }
 
-    /// At most so many steps, up to the first at which the machine stops, and none once no process runs or is ready. `steps` of
-    /// as many does the same.
+    /// At most so many steps, up to the first at which the machine stops, and none once no process runs or is ready.
+    /// `steps` of as many does the same.
     pub fn run(&mut self, most: u32) -> Ran
         ensures { Runs self.old self.new most result }
     {
@@ -157,8 +157,8 @@ impl Session {
         count
     }
 
-    /// Gives up all processes and hands back the bytes of the disk, as many as the image had that booted, which denote the files that
-    /// are left. The console's bytes that nobody took are gone. It works after `InitEnded`, too.
+    /// Gives up all processes and hands back the bytes of the disk, as many as the image had that booted, which denote
+    /// the files that are left. The console's bytes that nobody took are gone. It works after `InitEnded`, too.
     ///
     /// `Halted` after `Console`.
     pub fn save(self) -> Result<Vec<u8>, Halt>

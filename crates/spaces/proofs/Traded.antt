@@ -1,10 +1,18 @@
 -- One place trades frames: what is left of the fields, and what they show then; and spaces over duplicates.
-use Rattle.spaces.proofs.Common.{Ram, Held, ◌+◌, ◌++◌, ◌-◌, ◌<◌, [], ap, arith, Bool, Err, false, get_or-set_other, get_or-set_same, inl, inr, length, length-append, length-set, List, map, None, Ok, Option, refl, replicate, Result}
-use Rattle.spaces.proofs.Common.{slice_set, Some, subst, sym, take, true, ℕ, ◌∙◌, ◌≡◌, ◌≢◌, ◌≤◌, ◌⊎◌, cases_eq, length-replicate, set-get_or, take_all, OnFalse, OnTrue, refill, OnErr, OnOk, free_count, IsFreeList, Trades, Frames, FrameNo}
-use Rattle.spaces.proofs.Common.{coherent-nothing, IsCoherent, page_frames, slot, Memory, Perm, shared_memory, zero_page, HoldsNothing, Translation, length-mapping, fork-machine, trade-machine, trade-others, frames_for, entry_marks}
-use Rattle.spaces.proofs.Common.{IsMachine, IsPlace, OthersUntouched, entries_of, holds, IsSpace, IsUntouched, pages_in, pages_of, Reframes, Stands, Space, VmFault, forked, frames_in, grown, has_space, no_pages, SpaceView, taken_frames}
-use Rattle.spaces.proofs.Common.{with_place, IsActive, IsSpaces, pipe_frames, Runs, shown, Spaces, spaces_of, view_with, Inside, copied, nil_from_length, IsDuplicate}
-use Rattle.spaces.proofs.Places.{pipes-beside, frames-shown, frames_for-pages, free-is, free-taken, held-is, length-pages_of, places-count, slot-is, taken-fits}
+use Rattle.spaces.proofs.Common.{Ram, Held, ◌+◌, ◌++◌, ◌-◌, ◌<◌, [], ap, arith, Bool, Err, false, get_or-set_other}
+use Rattle.spaces.proofs.Common.{get_or-set_same, inl, inr, length, length-append, length-set, List, map, None, Ok}
+use Rattle.spaces.proofs.Common.{Option, refl, replicate, Result, slice_set, Some, subst, sym, take, true, ℕ, ◌∙◌, ◌≡◌}
+use Rattle.spaces.proofs.Common.{◌≢◌, ◌≤◌, ◌⊎◌, cases_eq, length-replicate, set-get_or, take_all, OnFalse, OnTrue}
+use Rattle.spaces.proofs.Common.{refill, OnErr, OnOk, free_count, IsFreeList, Trades, Frames, FrameNo, coherent-nothing}
+use Rattle.spaces.proofs.Common.{IsCoherent, page_frames, slot, Memory, Perm, shared_memory, zero_page, HoldsNothing}
+use Rattle.spaces.proofs.Common.{Translation, length-mapping, fork-machine, trade-machine, trade-others, frames_for}
+use Rattle.spaces.proofs.Common.{entry_marks, IsMachine, IsPlace, OthersUntouched, entries_of, holds, IsSpace}
+use Rattle.spaces.proofs.Common.{IsUntouched, pages_in, pages_of, Reframes, Stands, Space, VmFault, forked, frames_in}
+use Rattle.spaces.proofs.Common.{grown, has_space, no_pages, SpaceView, taken_frames, with_place, IsActive, IsSpaces}
+use Rattle.spaces.proofs.Common.{pipe_frames, Runs, shown, Spaces, spaces_of, view_with, Inside, copied}
+use Rattle.spaces.proofs.Common.{nil_from_length, IsDuplicate}
+use Rattle.spaces.proofs.Places.{pipes-beside, frames-shown, frames_for-pages, free-is, free-taken, held-is}
+use Rattle.spaces.proofs.Places.{length-pages_of, places-count, slot-is, taken-fits}
 use Rattle.spaces.proofs.SpacesLemmas.{Places, map-placed, place-free, refilled, taken-forked, taken-placed, within}
 use Rattle.vm.specs.Shares as shares
 use Rattle.vm.proofs.SharesLemmas.{same-machine}
@@ -19,36 +27,49 @@ pub same-shown : (m k : Ram) (o : Option Space) → ((x : Space) → o ≡ Some 
 same-shown m k None h = refl
 same-shown m k (Some x) h = ap (λ p. Some (view_with p x.size)) (h x refl).pages
 
-pub shown-placed : (m k : Ram) (places : Places) (at : ℕ) (y : Option Space) → OthersUntouched m k places at → map (shown k) (slice_set places at y) ≡ slice_set (map (shown m) places) at (shown k y)
-shown-placed m k places at y others = map-placed (shown m) (shown k) places at y (λ j ne. same-shown m k (slot places j) (λ x e. others j x ne e))
+pub shown-placed : (m k : Ram) (places : Places) (at : ℕ) (y : Option Space)
+    → OthersUntouched m k places at → map (shown k) (slice_set places at y)
+    ≡ slice_set (map (shown m) places) at (shown k y)
+shown-placed m k places at y others =
+    map-placed (shown m) (shown k) places at y (λ j ne. same-shown m k (slot places j) (λ x e. others j x ne e))
 
 -- ---- what the hart runs
 
 -- what the active place runs, by what any place would
-pub still-active : (old new : Held) (m k : Ram) (root : ℕ) (places q : Places) (a : Option ℕ) → ((j : ℕ) → a ≡ Some j → Runs old m root places j → Runs new k root q j) → IsActive old m root places a → IsActive new k root q a
+pub still-active : (old new : Held) (m k : Ram) (root : ℕ) (places q : Places) (a : Option ℕ)
+    → ((j : ℕ) → a ≡ Some j → Runs old m root places j → Runs new k root q j) → IsActive old m root places a
+    → IsActive new k root q a
 still-active old new m k root places q None each run = tt
 still-active old new m k root places q (Some j) each run = each j refl run
 
 -- a space that stays, where no more is held of its tables
-pub runs-on : {old new : Held} {m k : Ram} {root j : ℕ} {places q : Places} (run : Runs old m root places j) → slot q j ≡ Some run.space → IsUntouched m k run.space → ((t : Translation) → new t → old t) → Runs new k root q j
+pub runs-on : {old new : Held} {m k : Ram} {root j : ℕ} {places q : Places} (run : Runs old m root places j)
+    → slot q j ≡ Some run.space → IsUntouched m k run.space → ((t : Translation) → new t → old t) → Runs new k root q j
 runs-on run stands stays fewer =
-    record { space = run.space; stands = stands; same = run.same; coherent = rw stays.entries (record { walks = λ t h root. run.coherent.walks t (fewer t h) root }) }
+    record { space = run.space; stands = stands; same = run.same;
+        coherent = rw stays.entries (record { walks = λ t h root. run.coherent.walks t (fewer t h) root }) }
 
 -- the space of the active place changes, and keeps its root
-runs-changed : (old new : Held) (m k : Ram) (root : ℕ) (places : Places) (at : ℕ) (x z : Space) → at < length places → slot places at ≡ Some x → z.root ≡ x.root
-    → (IsCoherent old x.root.0 (entries_of m x) → IsCoherent new x.root.0 (entries_of k z)) → Runs old m root places at → Runs new k root (slice_set places at (Some z)) at
+runs-changed : (old new : Held) (m k : Ram) (root : ℕ) (places : Places) (at : ℕ) (x z : Space) → at < length places
+    → slot places at ≡ Some x → z.root ≡ x.root
+    → (IsCoherent old x.root.0 (entries_of m x) → IsCoherent new x.root.0 (entries_of k z))
+        → Runs old m root places at → Runs new k root (slice_set places at (Some z)) at
 runs-changed old new m k root places at x z hi e same coherent run =
     let both : Some run.space ≡ Some x = sym run.stands ∙ e in
     let is : run.space ≡ x = cc in
     let root_is : z.root.0 ≡ x.root.0 = ap (λ (r : FrameNo). r.0) same in
     let was = subst (λ (d : Space). IsCoherent old d.root.0 (entries_of m d)) is run.coherent in
-    let now : IsCoherent new z.root.0 (entries_of k z) = subst (λ (r : ℕ). IsCoherent new r (entries_of k z)) (sym root_is) (coherent was) in
-    record { space = z; stands = get_or-set_same places at (Some z) None hi; same = run.same ∙ ap (λ (d : Space). d.root.0) is ∙ sym root_is; coherent = now }
+    let now : IsCoherent new z.root.0 (entries_of k z) =
+            subst (λ (r : ℕ). IsCoherent new r (entries_of k z)) (sym root_is) (coherent was) in
+    record { space = z; stands = get_or-set_same places at (Some z) None hi; same = run.same
+        ∙ ap (λ (d : Space). d.root.0) is ∙ sym root_is; coherent = now }
 
 -- ---- all of it
 
-pub shown-as : (k : Ram) (z : Space) (memory : Memory) (size : ℕ) → pages_of k z ≡ memory → z.size ≡ size → shown k (Some z) ≡ Some (view_with memory size)
-shown-as k z memory size p e = ap (λ (m : Memory). Some (view_with m z.size)) p ∙ ap (λ (n : ℕ). Some (view_with memory n)) e
+pub shown-as : (k : Ram) (z : Space) (memory : Memory) (size : ℕ) → pages_of k z ≡ memory → z.size ≡ size
+    → shown k (Some z) ≡ Some (view_with memory size)
+shown-as k z memory size p e = ap (λ (m : Memory). Some (view_with m z.size)) p
+    ∙ ap (λ (n : ℕ). Some (view_with memory n)) e
 
 -- the fields after a change, which show these values then
 pub record Shows {T : Type 0} (held : T → Held) (i j : Inside T) (v : Spaces) : Type 0 where
@@ -60,19 +81,26 @@ pub record Shows {T : Type 0} (held : T → Held) (i j : Inside T) (v : Spaces) 
 abbrev pub Placed : {T : Type 0} → (T → Held) → Inside T → Inside T → ℕ → Option SpaceView → Type 0
 Placed held i j at y = Shows held i j (with_place (spaces_of i) at y)
 
-pub placed-as : {T : Type 0} {held : T → Held} {i j : Inside T} (at : ℕ) {y z : Option SpaceView} → Placed held i j at y → y ≡ z → Placed held i j at z
+pub placed-as : {T : Type 0} {held : T → Held} {i j : Inside T} (at : ℕ) {y z : Option SpaceView}
+    → Placed held i j at y → y ≡ z → Placed held i j at z
 placed-as {held} {i} {j} at p e = subst (λ (o : Option SpaceView). Placed held i j at o) e p
 
 -- one place is written, through the slice of all
 abbrev pub set_in : {T : Type 0} → Inside T → Ram → Frames → T → Places → ℕ → Option Space → Inside T
-set_in i k n t xs at y = record i { ram = k; frames = n; translator = t; places = record { items = refill (length i.places.items) i.places.items (slice_set xs at y) } }
+set_in i k n t xs at y =
+    record i { ram = k; frames = n; translator = t;
+    places = record { items = refill (length i.places.items) i.places.items (slice_set xs at y) } }
 
 module _ {T : Type 0} {held : T → Held} {i : Inside T} (is : IsSpaces held i) where
   -- one place has another space, where a place traded with the free frames
-  placed : (at from : ℕ) (y : Option Space) (k : Ram) (n : Frames) (t : T) (q : Places) (new : List ℕ) (places : List (Option SpaceView))
-      → q ≡ slice_set i.places.items at y → IsMachine k n (slice_set i.places.items at y) (pipe_frames i.pipes.items) → IsActive (held t) k i.hart.root.0 (slice_set i.places.items at y) i.active
-      → ((x : Translation) → held t x → held i.translator x) → map (shown k) (slice_set i.places.items at y) ≡ places → Trades i.ram k i.frames n (shares.held_at i.ram (slot i.places.items from)) new
-      → Shows held i (record i { ram = k; frames = n; translator = t; places = record { items = q } }) (record (spaces_of i) { places = places })
+  placed : (at from : ℕ) (y : Option Space) (k : Ram) (n : Frames) (t : T) (q : Places) (new : List ℕ)
+      (places : List (Option SpaceView))
+      → q ≡ slice_set i.places.items at y → IsMachine k n (slice_set i.places.items at y) (pipe_frames i.pipes.items)
+          → IsActive (held t) k i.hart.root.0 (slice_set i.places.items at y) i.active
+      → ((x : Translation) → held t x → held i.translator x) → map (shown k) (slice_set i.places.items at y) ≡ places
+          → Trades i.ram k i.frames n (shares.held_at i.ram (slot i.places.items from)) new
+      → Shows held i (record i { ram = k; frames = n; translator = t; places = record { items = q } })
+          (record (spaces_of i) { places = places })
   placed at from y k n t q new places e machine active fewer shows trades =
       let j : Inside _ = record i { ram = k; frames = n; translator = t; places = record { items = q } } in
       let sound : IsSpaces held j = record {
@@ -83,147 +111,215 @@ module _ {T : Type 0} {held : T → Held} {i : Inside T} (is : IsSpaces held i) 
         pipes = is.pipes;
         both = is.both;
       } in
-      let view : spaces_of j ≡ record (spaces_of i) { places = places } = rw (e, shows, pipes-beside i.ram k i.frames n i.places.items i.pipes.items new from is.machine trades, trades.count) refl in
-      record { sound = sound; view = view; fits = omega (arith, ap taken_frames view, taken-fits held j sound, trades.count) }
+      let view : spaces_of j ≡ record (spaces_of i) { places = places } =
+              rw (e, shows, pipes-beside i.ram k i.frames n i.places.items i.pipes.items new from is.machine trades,
+              trades.count) refl in
+      record { sound = sound; view = view;
+          fits = omega (arith, ap taken_frames view, taken-fits held j sound, trades.count) }
 
-  traded : (at : ℕ) (y : Option Space) (k : Ram) (n : Frames) (t : T) (q : Places) → at < length i.places.items → q ≡ slice_set i.places.items at y → IsPlace k y n
-      → Trades i.ram k i.frames n (shares.held_at i.ram (slot i.places.items at)) (shares.held_at k y) → ((x : Translation) → held t x → held i.translator x)
-      → (i.active ≡ Some at → Runs (held i.translator) i.ram i.hart.root.0 i.places.items at → Runs (held t) k i.hart.root.0 (slice_set i.places.items at y) at)
+  traded : (at : ℕ) (y : Option Space) (k : Ram) (n : Frames) (t : T) (q : Places) → at < length i.places.items
+      → q ≡ slice_set i.places.items at y → IsPlace k y n
+      → Trades i.ram k i.frames n (shares.held_at i.ram (slot i.places.items at)) (shares.held_at k y)
+          → ((x : Translation) → held t x → held i.translator x)
+      → (i.active ≡ Some at → Runs (held i.translator) i.ram i.hart.root.0 i.places.items
+          at → Runs (held t) k i.hart.root.0 (slice_set i.places.items at y) at)
       → Placed held i (record i { ram = k; frames = n; translator = t; places = record { items = q } }) at (shown k y)
   traded at y k n t q hi e place trades fewer here =
-      let others = trade-others i.ram k i.frames n i.places.items (pipe_frames i.pipes.items) (shares.held_at k y) at is.machine trades in
+      let others = trade-others i.ram k i.frames n i.places.items (pipe_frames i.pipes.items) (shares.held_at k y)
+              at is.machine trades in
       let P : ℕ → Type 0 = λ j. Runs (held t) k i.hart.root.0 (slice_set i.places.items at y) j in
-      let active = still-active (held i.translator) (held t) i.ram k i.hart.root.0 i.places.items (slice_set i.places.items at y) i.active (λ j a run. elim (cases_eq j at) [
-        | inl same ↦ subst P (sym same) (here (a ∙ ap Some same) (subst (λ (j : ℕ). Runs (held i.translator) i.ram i.hart.root.0 i.places.items j) same run))
-        | inr ne ↦ runs-on run (get_or-set_other i.places.items at j y None ne ∙ run.stands) (others j run.space ne run.stands) fewer
+      let active = still-active (held i.translator) (held t) i.ram k i.hart.root.0 i.places.items
+              (slice_set i.places.items at y) i.active (λ j a run. elim (cases_eq j at) [
+        | inl same ↦ subst P (sym same)
+            (here (a ∙ ap Some same)
+            (subst (λ (j : ℕ). Runs (held i.translator) i.ram i.hart.root.0 i.places.items j) same run))
+        | inr ne ↦ runs-on run (get_or-set_other i.places.items at j y None ne ∙ run.stands)
+            (others j run.space ne run.stands) fewer
       ]) is.active in
-      placed at at y k n t q (shares.held_at k y) (slice_set (map (shown i.ram) i.places.items) at (shown k y)) e (trade-machine i.ram k i.frames n i.places.items (pipe_frames i.pipes.items) at y is.machine hi place trades)
+      placed at at y k n t q (shares.held_at k y) (slice_set (map (shown i.ram) i.places.items) at (shown k y)) e
+          (trade-machine i.ram k i.frames n i.places.items (pipe_frames i.pipes.items) at y is.machine hi place trades)
       active fewer (shown-placed i.ram k i.places.items at y others) trades
 
-  free-place : (at : ℕ) → at < 64 → has_space (spaces_of i) at ≡ false → (at < length i.places.items) × (slot i.places.items at ≡ None)
-  free-place at low free = (let all = is.all in omega (arith, low, all), free-is i at (place-free (spaces_of i) at free))
+  free-place : (at : ℕ) → at < 64 → has_space (spaces_of i) at ≡ false
+      → (at < length i.places.items) × (slot i.places.items at ≡ None)
+  free-place at low free =
+      (let all = is.all in omega (arith, low, all), free-is i at (place-free (spaces_of i) at free))
 
   -- a space that was made settles in a free place
-  pub settled-there : {k : Ram} {n : Frames} {xs : Places} (at : ℕ) (z : Space) → at < 64 → has_space (spaces_of i) at ≡ false → xs ≡ i.places.items → IsSpace k z n → Trades i.ram k i.frames n [] (holds k z) → z.size ≡ 0
+  pub settled-there : {k : Ram} {n : Frames} {xs : Places} (at : ℕ) (z : Space) → at < 64
+      → has_space (spaces_of i) at ≡ false → xs ≡ i.places.items → IsSpace k z n
+      → Trades i.ram k i.frames n [] (holds k z) → z.size ≡ 0
       → Placed held i (set_in i k n i.translator xs at (Some z)) at (Some no_pages)
   settled-there {k} {n} at z low free same space trades bare =
       let place = free-place at low free in
       let none = nil_from_length (pages_of k z) (length-pages_of k z ∙ ap pages_in bare) in
-      placed-as at (traded at (Some z) k n i.translator _ place.0 (refilled at same refl) space (rw place.1 trades) (λ x h. h) (λ a run. absurd (let bad : None ≡ Some run.space = sym place.1 ∙ run.stands in cc)))
+      placed-as at (traded at (Some z) k n i.translator _ place.0 (refilled at same refl) space (rw place.1 trades)
+          (λ x h. h) (λ a run. absurd (let bad : None ≡ Some run.space = sym place.1 ∙ run.stands in cc)))
       (shown-as k z [] 0 none bare)
 
   -- or one that shares the frames of another one's
-  pub shared-there : {k : Ram} {n : Frames} {xs : Places} (from to : ℕ) (x z : Space) (t : T) → to < 64 → has_space (spaces_of i) to ≡ false → xs ≡ i.places.items → slot i.places.items from ≡ Some x
-      → IsSpace k x n → IsSpace k z n → Trades i.ram k i.frames n (holds i.ram x) (holds k x ++ holds k z) → ((u : Translation) → held t u → held i.translator u) → (i.active ≡ Some from → HoldsNothing (held t))
-      → pages_of k x ≡ shared_memory (pages_of i.ram x) → pages_of k z ≡ shared_memory (pages_of i.ram x) → z.size ≡ x.size → Shows held i (set_in i k n t xs to (Some z)) (copied (spaces_of i) from to)
+  pub shared-there : {k : Ram} {n : Frames} {xs : Places} (from to : ℕ) (x z : Space) (t : T) → to < 64
+      → has_space (spaces_of i) to ≡ false → xs ≡ i.places.items → slot i.places.items from ≡ Some x
+      → IsSpace k x n → IsSpace k z n → Trades i.ram k i.frames n (holds i.ram x) (holds k x ++ holds k z)
+          → ((u : Translation) → held t u → held i.translator u) → (i.active ≡ Some from → HoldsNothing (held t))
+      → pages_of k x ≡ shared_memory (pages_of i.ram x) → pages_of k z ≡ shared_memory (pages_of i.ram x)
+          → z.size ≡ x.size → Shows held i (set_in i k n t xs to (Some z)) (copied (spaces_of i) from to)
   shared-there {k} {n} from to x z t low free same stands parent child trades fewer fenced marked pages size =
       let place = free-place to low free in
       let all = i.places.items in
       let now = Some (forked (view_with (pages_of i.ram x) x.size)) in
-      let first : Trades i.ram k i.frames n (shares.held_at i.ram (slot all from)) (holds k x ++ holds k z) = rw stands trades in
-      let others = trade-others i.ram k i.frames n all (pipe_frames i.pipes.items) (holds k x ++ holds k z) from is.machine first in
-      let active = still-active (held i.translator) (held t) i.ram k i.hart.root.0 all (slice_set all to (Some z)) i.active (λ j a run. (
-      let apart : j ≢ to = λ (e : j ≡ to). let bad : None ≡ Some run.space = sym place.1 ∙ ap (slot all) (sym e) ∙ run.stands in cc in
+      let first : Trades i.ram k i.frames n (shares.held_at i.ram (slot all from)) (holds k x ++ holds k z) =
+              rw stands trades in
+      let others = trade-others i.ram k i.frames n all (pipe_frames i.pipes.items) (holds k x ++ holds k z) from
+              is.machine first in
+      let active = still-active (held i.translator) (held t) i.ram k i.hart.root.0 all (slice_set all to (Some z))
+              i.active (λ j a run. (
+      let apart : j ≢ to = λ (e : j ≡ to). let bad : None ≡ Some run.space = sym place.1 ∙ ap (slot all) (sym e)
+              ∙ run.stands in cc in
       let there = get_or-set_other all to j (Some z) None apart ∙ run.stands in
       elim (cases_eq j from) [
-        | inl same ↦ record { space = run.space; stands = there; same = run.same; coherent = coherent-nothing (held t) run.space.root.0 (entries_of k run.space) (fenced (a ∙ ap Some same)) }
+        | inl same ↦ record { space = run.space; stands = there; same = run.same;
+            coherent = coherent-nothing (held t) run.space.root.0 (entries_of k run.space) (fenced (a ∙ ap Some same)) }
         | inr ne ↦ runs-on run there (others j run.space ne run.stands) fewer
       ])) is.active in
       let shows = map-placed (shown k) (shown k) all to (Some z) (λ j ne. refl)
-      ∙ ap (λ (l : List (Option SpaceView)). slice_set l to (shown k (Some z))) (ap (map (shown k)) (same-place all from x stands) ∙ shown-placed i.ram k all from (Some x) others)
-      ∙ ap (λ (o : Option SpaceView). slice_set (slice_set (spaces_of i).places from o) to (shown k (Some z))) (shown-as k x (shared_memory (pages_of i.ram x)) x.size marked refl)
-      ∙ ap (slice_set (slice_set (spaces_of i).places from now) to) (shown-as k z (shared_memory (pages_of i.ram x)) x.size pages size) in
-      rw (held-is i _ stands) (placed to from (Some z) k n t _ (holds k x ++ holds k z) (slice_set (slice_set (spaces_of i).places from now) to now) (refilled to same refl)
-      (fork-machine i.ram k i.frames n all (pipe_frames i.pipes.items) from to x z is.machine stands place.0 place.1 parent child trades) active fewer shows first)
+      ∙ ap (λ (l : List (Option SpaceView)). slice_set l to (shown k (Some z)))
+          (ap (map (shown k)) (same-place all from x stands) ∙ shown-placed i.ram k all from (Some x) others)
+      ∙ ap (λ (o : Option SpaceView). slice_set (slice_set (spaces_of i).places from o) to (shown k (Some z)))
+          (shown-as k x (shared_memory (pages_of i.ram x)) x.size marked refl)
+      ∙ ap (slice_set (slice_set (spaces_of i).places from now) to)
+          (shown-as k z (shared_memory (pages_of i.ram x)) x.size pages size) in
+      rw (held-is i _ stands) (placed to from (Some z) k n t _ (holds k x ++ holds k z)
+          (slice_set (slice_set (spaces_of i).places from now) to now) (refilled to same refl)
+      (fork-machine i.ram k i.frames n all (pipe_frames i.pipes.items) from to x z is.machine stands place.0 place.1
+          parent child trades) active fewer shows first)
 
   -- a place that isn't the active one loses its space
-  pub destroyed : {k : Ram} {n : Frames} {xs : Places} {y : Option Space} (at : ℕ) (x : Space) → slot i.places.items at ≡ Some x → i.active ≢ Some at → xs ≡ i.places.items → y ≡ None → IsFreeList k n → Trades i.ram k i.frames n (holds i.ram x) []
+  pub destroyed : {k : Ram} {n : Frames} {xs : Places} {y : Option Space} (at : ℕ) (x : Space)
+      → slot i.places.items at ≡ Some x → i.active ≢ Some at → xs ≡ i.places.items → y ≡ None → IsFreeList k n
+      → Trades i.ram k i.frames n (holds i.ram x) []
       → Placed held i (set_in i k n i.translator xs at y) at None
   destroyed {k} {n} at x stands idle same gone free trades =
-      traded at None k n i.translator _ (within i.places.items at x stands) (refilled at same gone) free (rw stands trades) (λ t h. h) (λ a run. absurd (idle a))
+      traded at None k n i.translator _ (within i.places.items at x stands) (refilled at same gone) free
+          (rw stands trades) (λ t h. h) (λ a run. absurd (idle a))
 
   -- the space of a place changes, and keeps its root
-  pub changed : {k : Ram} {n : Frames} {q : Places} (at : ℕ) (x z : Space) (t : T) → slot i.places.items at ≡ Some x → q ≡ slice_set i.places.items at (Some z) → IsSpace k z n → Trades i.ram k i.frames n (holds i.ram x) (holds k z)
-      → z.root ≡ x.root → ((u : Translation) → held t u → held i.translator u) → (i.active ≡ Some at → IsCoherent (held i.translator) x.root.0 (entries_of i.ram x) → IsCoherent (held t) x.root.0 (entries_of k z))
-      → Placed held i (record i { ram = k; frames = n; translator = t; places = record { items = q } }) at (shown k (Some z))
+  pub changed : {k : Ram} {n : Frames} {q : Places} (at : ℕ) (x z : Space) (t : T) → slot i.places.items at ≡ Some x
+      → q ≡ slice_set i.places.items at (Some z) → IsSpace k z n → Trades i.ram k i.frames n (holds i.ram x) (holds k z)
+      → z.root ≡ x.root → ((u : Translation) → held t u → held i.translator u)
+          → (i.active ≡ Some at → IsCoherent (held i.translator) x.root.0 (entries_of i.ram x)
+          → IsCoherent (held t) x.root.0 (entries_of k z))
+      → Placed held i (record i { ram = k; frames = n; translator = t; places = record { items = q } })
+          at (shown k (Some z))
   changed {k} {n} {q} at x z t stands e space trades root fewer coherent =
       let hi = within i.places.items at x stands in
-      traded at (Some z) k n t q hi e space (rw stands trades) fewer (λ a run. runs-changed (held i.translator) (held t) i.ram k i.hart.root.0 i.places.items at x z hi stands root (coherent a) run)
+      traded at (Some z) k n t q hi e space (rw stands trades) fewer
+          (λ a run. runs-changed (held i.translator) (held t) i.ram k i.hart.root.0 i.places.items
+          at x z hi stands root (coherent a) run)
 
-  -- pages of a space are written, and may have other frames: then nothing is held for the active place. It shows this memory then
-  pub reframed-showing : (at : ℕ) (x : Space) (k : Ram) (n : Frames) (t : T) (memory : Memory) → slot i.places.items at ≡ Some x → Reframes i.ram k x i.frames n → ((u : Translation) → held t u → held i.translator u)
-      → (i.active ≡ Some at → HoldsNothing (held t)) → pages_of k x ≡ memory → Placed held i (record i { ram = k; frames = n; translator = t }) at (Some (view_with memory x.size))
+  -- pages of a space are written, and may have other frames: then nothing is held for the active place. It shows this
+  -- memory then
+  pub reframed-showing : (at : ℕ) (x : Space) (k : Ram) (n : Frames) (t : T) (memory : Memory)
+      → slot i.places.items at ≡ Some x → Reframes i.ram k x i.frames n
+      → ((u : Translation) → held t u → held i.translator u)
+      → (i.active ≡ Some at → HoldsNothing (held t)) → pages_of k x ≡ memory
+          → Placed held i (record i { ram = k; frames = n; translator = t }) at (Some (view_with memory x.size))
   reframed-showing at x k n t memory e r fewer fenced pages =
-      placed-as at (changed at x x t e (same-place i.places.items at x e) r.space r.trades refl fewer (λ a was. coherent-nothing (held t) x.root.0 (entries_of k x) (fenced a))) (shown-as k x memory x.size pages refl)
+      placed-as at (changed at x x t e (same-place i.places.items at x e) r.space r.trades refl fewer
+          (λ a was. coherent-nothing (held t) x.root.0 (entries_of k x) (fenced a)))
+          (shown-as k x memory x.size pages refl)
 
   -- a page of a space is written where it stands, so what is held stays: it shows this memory then
-  stood-showing : (at : ℕ) (x : Space) (k : Ram) (memory : Memory) → slot i.places.items at ≡ Some x → Stands i.ram k x → pages_of k x ≡ memory → Placed held i (record i { ram = k }) at (Some (view_with memory x.size))
+  stood-showing : (at : ℕ) (x : Space) (k : Ram) (memory : Memory) → slot i.places.items at ≡ Some x → Stands i.ram k x
+      → pages_of k x ≡ memory → Placed held i (record i { ram = k }) at (Some (view_with memory x.size))
   stood-showing at x k memory e s pages =
       let space = is.machine.each at x e in
-      placed-as at (changed at x x i.translator e (same-place i.places.items at x e) (s.space i.frames space) (s.trades i.frames space) refl (λ u h. h) (λ a was. rw s.entries was)) (shown-as k x memory x.size pages refl)
+      placed-as at (changed at x x i.translator e (same-place i.places.items at x e) (s.space i.frames space)
+          (s.trades i.frames space) refl (λ u h. h) (λ a was. rw s.entries was)) (shown-as k x memory x.size pages refl)
 
   -- or it isn't written, and nothing changed
-  pub stored-sound : (at : ℕ) (x : Space) (k : Ram) (b : Bool) → slot i.places.items at ≡ Some x → OnTrue b (Stands i.ram k x) → OnFalse b (k ≡ i.ram) → IsSpaces held (record i { ram = k })
+  pub stored-sound : (at : ℕ) (x : Space) (k : Ram) (b : Bool) → slot i.places.items at ≡ Some x
+      → OnTrue b (Stands i.ram k x) → OnFalse b (k ≡ i.ram) → IsSpaces held (record i { ram = k })
   stored-sound at x k true e stands same = (stood-showing at x k (pages_of k x) e stands refl).sound
   stored-sound at x k false e stands same = rw same is
 
-  pub stored-showing : (at : ℕ) (x : Space) (k : Ram) (memory : Memory) (b : Bool) → slot i.places.items at ≡ Some x → OnTrue b (Stands i.ram k x) → OnTrue b (pages_of k x ≡ memory)
-      → OnTrue b (spaces_of (record i { ram = k }) ≡ record (spaces_of i) { places = slice_set (spaces_of i).places at (Some (view_with memory x.size)) })
+  pub stored-showing : (at : ℕ) (x : Space) (k : Ram) (memory : Memory) (b : Bool) → slot i.places.items at ≡ Some x
+      → OnTrue b (Stands i.ram k x) → OnTrue b (pages_of k x ≡ memory)
+      → OnTrue b (spaces_of (record i { ram = k })
+          ≡ record (spaces_of i) { places = slice_set (spaces_of i).places at (Some (view_with memory x.size)) })
   stored-showing at x k memory true e stands pages = (stood-showing at x k memory e stands pages).view
   stored-showing at x k memory false e stands pages = tt
 
-pub stored-same : {T : Type 0} (i : Inside T) (k : Ram) (b : Bool) → OnFalse b (k ≡ i.ram) → OnFalse b (spaces_of (record i { ram = k }) ≡ spaces_of i)
+pub stored-same : {T : Type 0} (i : Inside T) (k : Ram) (b : Bool) → OnFalse b (k ≡ i.ram)
+    → OnFalse b (spaces_of (record i { ram = k }) ≡ spaces_of i)
 stored-same i k true same = tt
 stored-same i k false same = rw same refl
 
 -- nothing changed
-pub view-same : {T : Type 0} (i : Inside T) (at : ℕ) (x : Space) (k : Ram) (n : Frames) (z : Space) (q : Places) → (k ≡ i.ram) × (n ≡ i.frames) × (z ≡ x) → slot i.places.items at ≡ Some x
-    → q ≡ slice_set i.places.items at (Some z) → spaces_of (record i { ram = k; frames = n; places = record { items = q } }) ≡ spaces_of i
+pub view-same : {T : Type 0} (i : Inside T) (at : ℕ) (x : Space) (k : Ram) (n : Frames) (z : Space) (q : Places)
+    → (k ≡ i.ram) × (n ≡ i.frames) × (z ≡ x) → slot i.places.items at ≡ Some x
+    → q ≡ slice_set i.places.items at (Some z)
+        → spaces_of (record i { ram = k; frames = n; places = record { items = q } }) ≡ spaces_of i
 view-same i at x k n z q u e same =
-    let stays : q ≡ i.places.items = same ∙ ap (λ y. slice_set i.places.items at (Some y)) u.2 ∙ sym (same-place i.places.items at x e) in
+    let stays : q ≡ i.places.items = same ∙ ap (λ y. slice_set i.places.items at (Some y)) u.2
+            ∙ sym (same-place i.places.items at x e) in
     rw (u.0, stays) refl
 
 -- ---- what spaces show
 
 -- the first pages of a space that grew, or didn't, are mapped as they were
 pub grown-front : (m k : Ram) (s n : Frames) (x z : Space) (r : Result (Unit {0}) VmFault)
-    → OnOk r (take (pages_in x.size) (entries_of k z) ≡ entries_of m x) → OnErr r ((k ≡ m) × (n ≡ s) × (z ≡ x)) → take (length (entries_of m x)) (entries_of k z) ≡ entries_of m x
+    → OnOk r (take (pages_in x.size) (entries_of k z) ≡ entries_of m x) → OnErr r ((k ≡ m) × (n ≡ s) × (z ≡ x))
+        → take (length (entries_of m x)) (entries_of k z) ≡ entries_of m x
 grown-front m k s n x z (Ok u) front same = rw (length-mapping entry_marks m x.root.0 (pages_in x.size)) front
-grown-front m k s n x z (Err f) front same = rw (same.0, same.2) (take_all (length (entries_of m x)) (entries_of m x) (omega arith))
+grown-front m k s n x z (Err f) front same =
+    rw (same.0, same.2) (take_all (length (entries_of m x)) (entries_of m x) (omega arith))
 
 -- ---- refusals
 
 module _ {T : Type 0} {held : T → Held} {i : Inside T} (is : IsSpaces held i) where
   -- the frames don't suffice for what a place would have
-  over : (at : ℕ) (o : Option Space) (y : Option SpaceView) → at < length i.places.items → slot i.places.items at ≡ o → frames_in (shown i.ram o) + free_count i.ram i.frames < frames_in y → length i.ram < taken_frames (with_place (spaces_of i) at y)
+  over : (at : ℕ) (o : Option Space) (y : Option SpaceView) → at < length i.places.items → slot i.places.items at ≡ o
+      → frames_in (shown i.ram o) + free_count i.ram i.frames < frames_in y
+      → length i.ram < taken_frames (with_place (spaces_of i) at y)
   over at o y hi e more =
       let within : at < length (spaces_of i).places = rw (places-count i) hi in
       omega (arith, free-taken held i is, taken-placed (spaces_of i) at y within, ap frames_in (slot-is i at o e), more)
 
   -- nor for one more space
-  pub over-free : (at : ℕ) (y : Option SpaceView) → at < 64 → has_space (spaces_of i) at ≡ false → free_count i.ram i.frames < frames_in y → length i.ram < taken_frames (with_place (spaces_of i) at y)
-  over-free at y low free more = let place = free-place is at low free in over at None y place.0 place.1 (omega (arith, more))
+  pub over-free : (at : ℕ) (y : Option SpaceView) → at < 64 → has_space (spaces_of i) at ≡ false
+      → free_count i.ram i.frames < frames_in y → length i.ram < taken_frames (with_place (spaces_of i) at y)
+  over-free at y low free more = let place =
+      free-place is at low free in over at None y place.0 place.1 (omega (arith, more))
 
   -- nor for a fork
-  pub over-forked : (from to : ℕ) (x : Space) → slot i.places.items from ≡ Some x → to < 64 → has_space (spaces_of i) to ≡ false → free_count i.ram i.frames < frames_for (pages_in x.size)
+  pub over-forked : (from to : ℕ) (x : Space) → slot i.places.items from ≡ Some x → to < 64
+      → has_space (spaces_of i) to ≡ false → free_count i.ram i.frames < frames_for (pages_in x.size)
       → length i.ram < taken_frames (copied (spaces_of i) from to)
   over-forked from to x stands low free more =
       let y = view_with (pages_of i.ram x) x.size in
       let less = over-free to (Some y) low free (rw (frames-shown i.ram x) more) in
-      let same = taken-forked (spaces_of i) from to y (slot-is i from (Some x) stands) free (rw (places-count i) (free-place is to low free).0) in
+      let same = taken-forked (spaces_of i) from to y (slot-is i from (Some x) stands) free
+              (rw (places-count i) (free-place is to low free).0) in
       rw (held-is i _ stands) (omega (arith, less, same))
 
-  -- nor for a space of more bytes, which is refused where it would pass the greatest size or takes more frames than are free
-  pub over-grown : (at : ℕ) (x : Space) (bytes : ℕ) (marks : Perm) → slot i.places.items at ≡ Some x → length i.ram ≤ 32768 → (274877898752 < x.size + bytes) ⊎ (frames_for (pages_in x.size) + free_count i.ram i.frames < frames_for (pages_in (x.size + bytes)))
-      → length i.ram < taken_frames (with_place (spaces_of i) at (Some (grown (view_with (pages_of i.ram x) x.size) bytes marks)))
+  -- nor for a space of more bytes, which is refused where it would pass the greatest size or takes more frames than are
+  -- free
+  pub over-grown : (at : ℕ) (x : Space) (bytes : ℕ) (marks : Perm) → slot i.places.items at ≡ Some x
+      → length i.ram ≤ 32768 → (274877898752 < x.size + bytes)
+      ⊎ (frames_for (pages_in x.size) + free_count i.ram i.frames < frames_for (pages_in (x.size + bytes)))
+      → length i.ram < taken_frames
+          (with_place (spaces_of i) at (Some (grown (view_with (pages_of i.ram x) x.size) bytes marks)))
   over-grown at x bytes marks e small why =
       let all = free-taken held i is in
       let now = frames-shown i.ram x in
       let more = frames_for-pages (pages_in (x.size + bytes)) in
       let old = length-pages_of i.ram x in
       let new : length (grown (view_with (pages_of i.ram x) x.size) bytes marks).memory ≡ pages_in (x.size + bytes) =
-      length-append (pages_of i.ram x) (replicate (pages_in (x.size + bytes) - pages_in x.size) (zero_page marks)) ∙ omega (arith, old, length-replicate (pages_in (x.size + bytes) - pages_in x.size) (zero_page marks)) in
-      let takes : frames_in (Some (grown (view_with (pages_of i.ram x) x.size) bytes marks)) ≡ 4 + page_frames (pages_in (x.size + bytes)) = ap (λ n. 4 + page_frames n) new in
+      length-append (pages_of i.ram x) (replicate (pages_in (x.size + bytes) - pages_in x.size) (zero_page marks))
+          ∙ omega (arith, old, length-replicate (pages_in (x.size + bytes) - pages_in x.size) (zero_page marks)) in
+      let takes : frames_in (Some (grown (view_with (pages_of i.ram x) x.size) bytes marks))
+              ≡ 4 + page_frames (pages_in (x.size + bytes)) = ap (λ n. 4 + page_frames n) new in
       let hi = within i.places.items at x e in
       let rest = taken-placed (spaces_of i) at None (rw (places-count i) hi) in
       let here = ap frames_in (slot-is i at (Some x) e) in
@@ -244,12 +340,18 @@ pub record IsParts {T U : Type 0} (held : U → Held) (i : Inside T) (j : Inside
   pub pipes : j.pipes ≡ i.pipes
   pub fenced : HoldsNothing (held j.translator)
 
-pub parts-sound : {T U : Type 0} (old : T → Held) (new : U → Held) (i : Inside T) (j : Inside U) → IsParts new i j → IsSpaces old i → IsSpaces new j
+pub parts-sound : {T U : Type 0} (old : T → Held) (new : U → Held) (i : Inside T) (j : Inside U) → IsParts new i j
+    → IsSpaces old i → IsSpaces new j
 parts-sound old new i j is spaces = record {
-  machine = rw (is.ram, is.places, is.pipes) (same-machine i.ram i.frames j.frames i.places.items (pipe_frames i.pipes.items) is.frames spaces.machine);
+  machine = rw (is.ram, is.places, is.pipes)
+      (same-machine i.ram i.frames j.frames i.places.items (pipe_frames i.pipes.items) is.frames spaces.machine);
   all = rw is.places spaces.all;
-  active = rw (is.ram, is.places, is.hart, is.active) (still-active (old i.translator) (new j.translator) i.ram i.ram i.hart.root.0 i.places.items i.places.items i.active
-      (λ k a run. record { space = run.space; stands = run.stands; same = run.same; coherent = coherent-nothing (new j.translator) run.space.root.0 (entries_of i.ram run.space) is.fenced }) spaces.active);
+  active = rw (is.ram, is.places, is.hart, is.active)
+      (still-active (old i.translator) (new j.translator) i.ram i.ram i.hart.root.0 i.places.items i.places.items
+      i.active
+      (λ k a run. record { space = run.space; stands = run.stands; same = run.same;
+          coherent = coherent-nothing (new j.translator) run.space.root.0 (entries_of i.ram run.space) is.fenced })
+          spaces.active);
   inside = λ t held. absurd (is.fenced t held);
   pipes = rw is.pipes spaces.pipes;
   both = rw is.pipes spaces.both;

@@ -14,4 +14,5 @@ pub record Does (old : Spaces) (at : ℕ) (new : Spaces) : Type 0 where
 -- so many are, one after the other, and none after the first begins at a stop
 unfoldable pub Advances : List ℕ → ℕ → Spaces → ℕ → Spaces → Type 0
 Advances stops zero old at new = new ≡ old
-Advances stops (suc n) old at new = (mid : Spaces) × Advances stops n old at mid × Does mid at new × IsPast stops n mid.pc
+Advances stops (suc n) old at new = (mid : Spaces) × Advances stops n old at mid × Does mid at new
+    × IsPast stops n mid.pc

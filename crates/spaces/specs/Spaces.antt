@@ -1,5 +1,6 @@
 -- The address spaces of one memory and the hart, as plain values.
-use Rattle.std.specs.Prelude.{Bool, Err, List, None, Ok, Option, Result, Some, [], drop, is_some, length, replicate, slice_set, sum_by, take, unwrap_or, ℕ, ◌++◌, ◌+◌, ◌-◌, ◌<◌, ◌≡◌, ◌≤◌}
+use Rattle.std.specs.Prelude.{Bool, Err, List, None, Ok, Option, Result, Some, [], drop, is_some, length, replicate}
+use Rattle.std.specs.Prelude.{slice_set, sum_by, take, unwrap_or, ℕ, ◌++◌, ◌+◌, ◌-◌, ◌<◌, ◌≡◌, ◌≤◌}
 use Rattle.unixmodel.specs.Counts.{page_frames}
 use Rattle.unixmodel.specs.Cycle.{cycle}
 use Rattle.unixmodel.specs.Files.{slot, taken}

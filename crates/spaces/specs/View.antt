@@ -50,7 +50,8 @@ spaces_of k = record {
 }
 
 -- addresses from a root go through the space of a place, and what is held is what the tables of that space show
-pub record Runs (held : translation.Held) (m : List (List ℕ)) (root : ℕ) (places : List (Option Space)) (at : ℕ) : Type 0 where
+pub record Runs (held : translation.Held) (m : List (List ℕ)) (root : ℕ) (places : List (Option Space)) (at : ℕ) : Type
+    0 where
   pub space : Space
   pub stands : slot places at ≡ Some space
   pub same : root ≡ space.root.0
@@ -72,7 +73,8 @@ pub record IsSpaces {T : Type 0} (held : T → translation.Held) (k : Inside T) 
 -- walks from this root reach the bytes that the tables of a space show
 abbrev pub WalksReach : List (List ℕ) → ℕ → Space → Type 0
 WalksReach m root x =
-    (va : ℕ) (access : Access) → va < 2 ^ 64 → option_and_then (byte_at m) (walk m root va access) ≡ page_byte (memory_of m (entries_of m x)) va access
+    (va : ℕ) (access : Access) → va < 2 ^ 64
+        → option_and_then (byte_at m) (walk m root va access) ≡ page_byte (memory_of m (entries_of m x)) va access
 
 -- a store trapped in this page of a space
 abbrev pub IsStoreIn : Trap → Space → ℕ → Type 0

@@ -2,22 +2,26 @@
 //!
 //! There are 64 places, each free or with a space, and a hart, which runs the process of the active place. Beside them
 //! are 100 places for pipes, whose bytes lie in the same memory. What the processes are, and who may read or write a
-//! pipe, is the caller's affair. Contracts are in plain values, `Spaces` of `specs/Spaces`: the memory of each place, the
-//! bytes of each pipe, the hart's registers, and how many frames there are. No frame and no table shows, and what is done
-//! to one place leaves the others as they are.
+//! pipe, is the caller's affair. Contracts are in plain values, `Spaces` of `specs/Spaces`: the memory of each place,
+//! the bytes of each pipe, the hart's registers, and how many frames there are. No frame and no table shows, and what
+//! is done to one place leaves the others as they are.
 //!
 //! Spaces may share frames: a copy has those of its source, and a page gets a frame of its own before it is written.
 //!
 //! A translator may hold translations, so it is fenced where one that it may hold for the active place goes: where
-//! another space becomes the active one, and where the active one shrinks, is copied, so that its pages are closed, or is
-//! written where a page may get another frame. A space that grows keeps the frames that it had, one that is written at an
-//! open page does, and what is held for spaces that aren't active doesn't count.
+//! another space becomes the active one, and where the active one shrinks, is copied, so that its pages are closed, or
+//! is written where a page may get another frame. A space that grows keeps the frames that it had, one that is written
+//! at an open page does, and what is held for spaces that aren't active doesn't count.
 #![tactic(auto)]
 
-ghost use Rattle.std.specs.Prelude.{◌≡◌, ◌≢◌, List, ◌+◌, ◌-◌, ◌++◌, ◌<◌, ◌≤◌, ◌/◌, ◌%◌, ℕ, [], All, Some, None, true, false, drop, length, is_some, min, nat_le, nat_lt, not, option_map, replicate, slice_get, slice_index, slice_set, take, IfOk, IfSome, IfNone, Ok, Err};
+ghost use Rattle.std.specs.Prelude.{◌≡◌, ◌≢◌, List, ◌+◌, ◌-◌, ◌++◌, ◌<◌, ◌≤◌, ◌/◌, ◌%◌, ℕ, [], All, Some, None, true};
+ghost use Rattle.std.specs.Prelude.{false, drop, length, is_some, min, nat_le, nat_lt, not, option_map, replicate};
+ghost use Rattle.std.specs.Prelude.{slice_get, slice_index, slice_set, take, IfOk, IfSome, IfNone, Ok, Err};
 ghost use Rattle.std.specs.Bool.{OnTrue, OnFalse};
 ghost use Rattle.std.specs.Option.{option_copied};
-ghost use Rattle.spaces.specs.Spaces.{Executes, Fits, Lacks, Traps, bytes_in, copied, filled, fitting, grown_at, has_pipe, has_space, view_at, no_pages, no_spaces, put_behind, read_at, shrunk, taken_frames, taken_to, with_view, with_pipe, with_place, written};
+ghost use Rattle.spaces.specs.Spaces.{Executes, Fits, Lacks, Traps, bytes_in, copied, filled, fitting, grown_at};
+ghost use Rattle.spaces.specs.Spaces.{has_pipe, has_space, view_at, no_pages, no_spaces, put_behind, read_at, shrunk};
+ghost use Rattle.spaces.specs.Spaces.{taken_frames, taken_to, with_view, with_pipe, with_place, written};
 ghost use Rattle.spaces.specs.Ends.{IsOpen};
 ghost use Rattle.spaces.specs.View.{IsStoreIn, WalksReach};
 ghost use Rattle.pipe.specs.Pipe.{Stays, bytes_of};
@@ -58,7 +62,8 @@ pub const PLACES: usize = 64;
 /// How many places for pipes there are.
 pub const PIPES: usize = 100;
 
-// A read or a write of a pipe by so many bytes at the most takes a buffer of that size: one of a pipe costs more than the call.
+// A read or a write of a pipe by so many bytes at the most takes a buffer of that size: one of a pipe costs more than
+// the call.
 const SHORT: usize = 64;
 
 // A free place.
@@ -113,7 +118,8 @@ fn root_of(space: &Space, ram: &Ram) -> FrameNo
 fn step_again<T: Translate>(hart: &mut Hart, ram: &mut Ram, translator: &mut T) -> Option<Trap>
     requires { HoldsInside (T.held translator.old) ram.old }
     ensures step { (mapping : List Mapped) → Shows (T.held translator.old) ram.old hart.old.root.0 mapping →
-        Follows (cycle hart.old.registers hart.old.pc (memory_of ram.old mapping)) mapping result hart.old hart.new ram.old ram.new }
+        Follows (cycle hart.old.registers hart.old.pc (memory_of ram.old mapping)) mapping result hart.old hart.new
+            ram.old ram.new }
     ensures kept { IsKept (T.held translator.old) (T.held translator.new) ram.old hart.old.root.0 }
     ensures count { length ram.new ≡ length ram.old }
 {
@@ -125,7 +131,8 @@ fn step_again<T: Translate>(hart: &mut Hart, ram: &mut Ram, translator: &mut T) 
 fn closed_page(space: &Space, ram: &Ram, trap: Trap) -> Option<u64>
     requires { IsMapped ram.now space.now }
     ensures some { IfSome result (IsStoreIn trap space.now) }
-    ensures none { IfNone result (trap.cause ≡ StorePageFault → page_for Store (pages_of ram.now space.now) trap.address ≡ None) }
+    ensures none { IfNone result
+            (trap.cause ≡ StorePageFault → page_for Store (pages_of ram.now space.now) trap.address ≡ None) }
 {
     let Cause::StorePageFault = trap.cause else {
         return None;
@@ -275,11 +282,11 @@ impl<T: Translate> Spaces<T> {
         })
     }
 
-    /// The same spaces, pipes and registers over a duplicate of the memory, with a translator of its own. That one is fenced: it may
-    /// hold anything.
+    /// The same spaces, pipes and registers over a duplicate of the memory, with a translator of its own. That one is
+    /// fenced: it may hold anything.
     ///
-    /// It takes 4098 bytes a frame of the host, and 768 KiB for decoded words, of which it has none yet: `NoMemory` where it has none
-    /// for them.
+    /// It takes 4098 bytes a frame of the host, and 768 KiB for decoded words, of which it has none yet: `NoMemory`
+    /// where it has none for them.
     pub fn duplicate<U: Translate>(
         &self,
         alloc: Global,
@@ -354,8 +361,8 @@ impl<T: Translate> Spaces<T> {
         vm::pages_in(space.size())
     }
 
-    /// A law: the pages of a place's space are no more than there can be frames, as many as its size asks for, and of 4096 bytes
-    /// each. It runs no code.
+    /// A law: the pages of a place's space are no more than there can be frames, as many as its size asks for, and of
+    /// 4096 bytes each. It runs no code.
     #[inline]
     pub fn pages_are_whole(&self, at: usize)
         requires { has_space self.now at ≡ true }
@@ -469,8 +476,8 @@ impl<T: Translate> Spaces<T> {
     /// Adds so many bytes to a place's space: pages that come are 0 and have these marks. `false`: the frames don't
     /// suffice; then nothing changed.
     ///
-    /// There is no fence: the pages that the space had keep their frames, and what is held says where pages are and never
-    /// that there are none.
+    /// There is no fence: the pages that the space had keep their frames, and what is held says where pages are and
+    /// never that there are none.
     pub fn grow(&mut self, at: usize, bytes: u64, perm: Perm) -> bool
         requires { has_space self.old at ≡ true }
         ensures done { OnTrue result (Fits self.old self.new (grown_at self.old at bytes (marks_from perm))) }
@@ -511,11 +518,12 @@ impl<T: Translate> Spaces<T> {
         self.fill_pages(at, address, bytes);
     }
 
-    // The same where a store goes through and the bytes lie in one page: nothing that a translator holds goes. `false`: it isn't
-    // so, and nothing changed.
+    // The same where a store goes through and the bytes lie in one page: nothing that a translator holds goes. `false`:
+    // it isn't so, and nothing changed.
     fn store(&mut self, at: usize, address: u64, bytes: &[u8]) -> bool
         requires { has_space self.old at ≡ true }
-        ensures done { OnTrue result (self.new ≡ with_view self.old at (written (view_at self.old at) address bytes.now)) }
+        ensures done { OnTrue result
+                (self.new ≡ with_view self.old at (written (view_at self.old at) address bytes.now)) }
         ensures refused { OnFalse result (self.new ≡ self.old) }
     {
         let space = space_at(&self.places, at);
@@ -538,7 +546,8 @@ impl<T: Translate> Spaces<T> {
     pub fn write(&mut self, at: usize, address: u64, bytes: &[u8]) -> bool
         requires { has_space self.old at ≡ true }
         ensures can { result ≡ can_write (view_at self.old at).memory address (length bytes.now) }
-        ensures done { OnTrue result (self.new ≡ with_view self.old at (written (view_at self.old at) address bytes.now)) }
+        ensures done { OnTrue result
+                (self.new ≡ with_view self.old at (written (view_at self.old at) address bytes.now)) }
         ensures refused { OnFalse result (self.new ≡ self.old) }
     {
         self.pages_are_whole(at);
@@ -553,18 +562,21 @@ impl<T: Translate> Spaces<T> {
     pub fn read(&self, at: usize, address: u64, buffer: &mut [u8]) -> bool
         requires { has_space self.now at ≡ true }
         ensures can { result ≡ is_some (read_bytes (view_at self.now at).memory address (length buffer.old)) }
-        ensures done { OnTrue result (read_bytes (view_at self.now at).memory address (length buffer.old) ≡ Some buffer.new) }
+        ensures done { OnTrue result
+                (read_bytes (view_at self.now at).memory address (length buffer.old) ≡ Some buffer.new) }
         ensures refused { OnFalse result (buffer.new ≡ buffer.old) }
     {
         let space = space_at(&self.places, at);
         space.copy_in(&self.ram, address, buffer).is_ok()
     }
 
-    /// Copies the string at an address of a place into a buffer, and tells its length: the bytes before the first 0, none of
-    /// which is 0, without it. `None` where its program may not read them and the 0, or the buffer is too short.
+    /// Copies the string at an address of a place into a buffer, and tells its length: the bytes before the first 0,
+    /// none of which is 0, without it. `None` where its program may not read them and the 0, or the buffer is too
+    /// short.
     pub fn copy_string(&self, at: usize, address: u64, buffer: &mut [u8]) -> Option<usize>
         requires { has_space self.now at ≡ true }
-        ensures string { string_in buffer.new result ≡ short_string (length buffer.old) (string_at (view_at self.now at).memory address) }
+        ensures string { string_in buffer.new result
+                ≡ short_string (length buffer.old) (string_at (view_at self.now at).memory address) }
         ensures within { IfSome result (λ n. n ≤ length buffer.old) }
         ensures bytes { IfSome result (λ n. All (λ b. b ≢ 0) (take n buffer.new)) }
     {
@@ -572,7 +584,8 @@ impl<T: Translate> Spaces<T> {
         space.copy_string(&self.ram, address, buffer)
     }
 
-    /// Copies the path at an address of a place into a buffer, and tells its length: it is a string of 127 bytes at the most.
+    /// Copies the path at an address of a place into a buffer, and tells its length: it is a string of 127 bytes at the
+    /// most.
     pub fn copy_path(&self, at: usize, address: u64, buffer: &mut [u8; 127]) -> Option<usize>
         requires { has_space self.now at ≡ true }
         ensures path { string_in buffer.new result ≡ path_at (view_at self.now at).memory address }
@@ -706,8 +719,8 @@ impl<T: Translate> Spaces<T> {
         }
     }
 
-    /// The bytes of a pipe, the oldest first: those of the second slice stand behind those of the first. `None` where there is no such
-    /// pipe.
+    /// The bytes of a pipe, the oldest first: those of the second slice stand behind those of the first. `None` where
+    /// there is no such pipe.
     pub fn pipe(&self, q: usize) -> Option<(&[u8], &[u8])>
         ensures { option_map (λ r. r.0.now ++ r.1.now) result ≡ slot self.now.pipes q }
     {
@@ -767,7 +780,8 @@ impl<T: Translate> Spaces<T> {
         requires space { has_space self.old at ≡ true }
         requires readable { length buffer.old ≤ length (reach Load (view_at self.old at).memory address) }
         ensures bytes { self.new ≡ put_behind self.old q (read_at (view_at self.old at) address (length buffer.old)) }
-        ensures count { result ≡ length (fitting (bytes_in self.old q) (read_at (view_at self.old at) address (length buffer.old))) }
+        ensures count { result ≡ length
+                (fitting (bytes_in self.old q) (read_at (view_at self.old at) address (length buffer.old))) }
     {
         let _read = self.read(at, address, buffer);
         self.put_bytes(q, buffer)
@@ -804,7 +818,8 @@ impl<T: Translate> Spaces<T> {
         self.write_through(q, at, address, &mut buffer[..size])
     }
 
-    /// Takes bytes of a pipe to an address of a place, as many as there are and so many at the most, and tells how many.
+    /// Takes bytes of a pipe to an address of a place, as many as there are and so many at the most, and tells how
+    /// many.
     pub fn read_pipe(&mut self, q: usize, at: usize, address: u64, count: usize) -> usize
         requires pipe { has_pipe self.old q ≡ true }
         requires space { has_space self.old at ≡ true }

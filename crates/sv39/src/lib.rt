@@ -5,11 +5,14 @@
 //! The walk is inlined as a whole, so that each caller has the tests of the one access that it asks for.
 #![tactic(auto)]
 
-ghost use Rattle.std.specs.Prelude.{⊤, ◌≡◌, ◌≢◌, ◌==◌, ℕ, ◌+◌, ◌-◌, ◌*◌, ◌/◌, ◌%◌, ◌^◌, ◌<◌, ◌≤◌, List, [], ◌∷◌, length, codes, IsTrue, IfSome, IfOk, bit_and, None, Some};
+ghost use Rattle.std.specs.Prelude.{⊤, ◌≡◌, ◌≢◌, ◌==◌, ℕ, ◌+◌, ◌-◌, ◌*◌, ◌/◌, ◌%◌, ◌^◌, ◌<◌, ◌≤◌, List, [], ◌∷◌};
+ghost use Rattle.std.specs.Prelude.{length, codes, IsTrue, IfSome, IfOk, bit_and, None, Some};
 ghost use Rattle.std.specs.Result.{result_ok};
-ghost use Rattle.unixmodel.specs.Translation.{walk_page, walk, walk_count, place_in, Translation, IsAnswer, IsKept, HoldsNothing, HoldsInside};
+ghost use Rattle.unixmodel.specs.Translation.{walk_page, walk, walk_count, place_in, Translation, IsAnswer, IsKept};
+ghost use Rattle.unixmodel.specs.Translation.{HoldsNothing, HoldsInside};
 ghost use Rattle.sv39.specs.Entry.{has, allows, marks_of, number_of, is_sound, is_table, turn_of, IsSmall};
-ghost use Rattle.sv39.specs.Walk.{base, frame_at, entry_of, turn_at, follow, is_canonical, walk_low, walk_mid, walk_high, walk_of, LiesInside, numbered};
+ghost use Rattle.sv39.specs.Walk.{base, frame_at, entry_of, turn_at, follow, is_canonical, walk_low, walk_mid};
+ghost use Rattle.sv39.specs.Walk.{walk_high, walk_of, LiesInside, numbered};
 ghost use Rattle.sv39.specs.Counts.{count_mid, count_high, count_levels};
 
 mod lookaside;
@@ -45,7 +48,8 @@ impl Flags for EntryBits {
 
     ghost exact = { ⊤ };
 
-    ghost table = { (codes "VALID", 1) ∷ (codes "READ", 2) ∷ (codes "WRITE", 4) ∷ (codes "EXECUTE", 8) ∷ (codes "USER", 16) ∷ (codes "GLOBAL", 32) ∷ (codes "ACCESSED", 64) ∷ (codes "DIRTY", 128) ∷ [] };
+    ghost table = { (codes "VALID", 1) ∷ (codes "READ", 2) ∷ (codes "WRITE", 4) ∷ (codes "EXECUTE", 8)
+            ∷ (codes "USER", 16) ∷ (codes "GLOBAL", 32) ∷ (codes "ACCESSED", 64) ∷ (codes "DIRTY", 128) ∷ [] };
 
     ghost set_of = { λ m. m.0 };
 

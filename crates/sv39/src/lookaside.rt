@@ -1,7 +1,9 @@
 //! A translator that remembers what it found, so that most accesses need no walk.
-ghost use Rattle.std.specs.Prelude.{◌≡◌, ◌+◌, ◌-◌, ◌*◌, ◌/◌, ◌%◌, ◌^◌, ◌<◌, ◌⊎◌, List, length, Some, IfSome, IfNone, IfOk};
+ghost use Rattle.std.specs.Prelude.{◌≡◌, ◌+◌, ◌-◌, ◌*◌, ◌/◌, ◌%◌, ◌^◌, ◌<◌, ◌⊎◌, List, length, Some, IfSome, IfNone};
+ghost use Rattle.std.specs.Prelude.{IfOk};
 ghost use Rattle.std.specs.Result.{result_ok};
-ghost use Rattle.unixmodel.specs.Translation.{walk_page, walk, walk_count, place_in, Translation, IsAnswer, IsKept, HoldsNothing, HoldsInside};
+ghost use Rattle.unixmodel.specs.Translation.{walk_page, walk, walk_count, place_in, Translation, IsAnswer, IsKept};
+ghost use Rattle.unixmodel.specs.Translation.{HoldsNothing, HoldsInside};
 ghost use Rattle.sv39.specs.Lookaside.{Keeps, KeepsOthers, Hits, Misses, Reaches, IsFound, Cache, asked, of_page};
 ghost use Rattle.sv39.specs.Walk.{LiesInside, numbered};
 
@@ -72,9 +74,11 @@ impl<const N: usize> Tlb<N> {
         ensures found { IsFound (Keeps N self.old.kept) ram.now root.0 va access (numbered result) }
         ensures inside { HoldsInside (Keeps N self.old.kept) ram.now → IfSome result (λ f. f.0 < length ram.now) }
         ensures kept { IsKept (Keeps N self.old.kept) (Keeps N self.new.kept) ram.now root.0 }
-        ensures hit { Hits (Keeps N self.old.kept) root.0 va access (λ f. (numbered result ≡ Some f) × (self.new ≡ self.old)) }
+        ensures hit { Hits (Keeps N self.old.kept) root.0 va access
+                (λ f. (numbered result ≡ Some f) × (self.new ≡ self.old)) }
         ensures walks { Misses (Keeps N self.old.kept) root.0 va access →
-            (numbered result ≡ (walk_page ram.now root.0 (va / 4096) access).frame) × (self.new.reads ≡ (self.old.reads + walk_count ram.now root.0 va access) % 2 ^ 64) }
+            (numbered result ≡ (walk_page ram.now root.0 (va / 4096) access).frame)
+                × (self.new.reads ≡ (self.old.reads + walk_count ram.now root.0 va access) % 2 ^ 64) }
         ensures joins { IfSome result (λ f. Keeps N self.new.kept (asked root.0 va access f.0)) }
         ensures stays { KeepsOthers N (va / 4096) (Keeps N self.old.kept) (Keeps N self.new.kept) }
     {
@@ -94,9 +98,11 @@ impl<const N: usize> Translate for Tlb<N> {
         // what is held may be of another memory: where it lies inside this one, so does the answer
         ensures inside { HoldsInside (Keeps N self.old.kept) ram.now → IfOk result (LiesInside ram.now) }
         ensures kept { IsKept (Keeps N self.old.kept) (Keeps N self.new.kept) ram.now root.0 }
-        ensures hit { Hits (Keeps N self.old.kept) root.0 va access (λ f. (result ≡ Ok (place_in va f)) × (self.new ≡ self.old)) }
+        ensures hit { Hits (Keeps N self.old.kept) root.0 va access
+                (λ f. (result ≡ Ok (place_in va f)) × (self.new ≡ self.old)) }
         ensures walks { Misses (Keeps N self.old.kept) root.0 va access →
-            (result_ok result ≡ walk ram.now root.0 va access) × (self.new.reads ≡ (self.old.reads + walk_count ram.now root.0 va access) % 2 ^ 64) }
+            (result_ok result ≡ walk ram.now root.0 va access)
+                × (self.new.reads ≡ (self.old.reads + walk_count ram.now root.0 va access) % 2 ^ 64) }
         ensures joins { IfOk result (Reaches (Keeps N self.new.kept) root.0 va access) }
         ensures stays { KeepsOthers N (va / 4096) (Keeps N self.old.kept) (Keeps N self.new.kept) }
     {

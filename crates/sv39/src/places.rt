@@ -1,7 +1,8 @@
 //! Places that keep translations, which translators share that remember some.
 ghost use Rattle.std.specs.Prelude.{◌≡◌, ℕ, ◌+◌, ◌-◌, ◌*◌, ◌/◌, ◌%◌, ◌^◌, ◌<◌, ◌≤◌, ◌⊎◌, length, IfSome, IfNone};
 ghost use Rattle.unixmodel.specs.Translation.{Translation};
-ghost use Rattle.sv39.specs.Lookaside.{Keeps, KeepsOthers, Misses, IsPlaced, IsWithin, asked, filled, for_access, of_page, set_for};
+ghost use Rattle.sv39.specs.Lookaside.{Keeps, KeepsOthers, Misses, IsPlaced, IsWithin, asked, filled, for_access};
+ghost use Rattle.sv39.specs.Lookaside.{of_page, set_for};
 
 use crate::Access;
 use ram::FrameNo;

@@ -65,8 +65,8 @@ fn has_page(ram: &Ram, root: FrameNo, page: u64) -> bool {
     named(ram, low, page % ENTRIES).is_some()
 }
 
-/// Answers the oldest translation that it may hold. At each call it notes the translation that is asked for, and those of
-/// the root's pages from page 0 on, up to the first that isn't mapped.
+/// Answers the oldest translation that it may hold. At each call it notes the translation that is asked for, and those
+/// of the root's pages from page 0 on, up to the first that isn't mapped.
 #[derive(Drop)]
 pub struct Noting {
     notes: Vec<Note>,
@@ -76,8 +76,8 @@ pub struct Noting {
 }
 
 impl Noting {
-    /// A translator with no notes, which notes so many pages of a root at the most at each call: with `MOST_PAGES` all that
-    /// a program has.
+    /// A translator with no notes, which notes so many pages of a root at the most at each call: with `MOST_PAGES` all
+    /// that a program has.
     pub fn new(alloc: Global, ahead: u64) -> Noting
         ensures { result.notes.items ≡ [] }
     {
@@ -90,7 +90,8 @@ impl Noting {
 
     // The frame of the oldest note.
     fn find(&self, root: FrameNo, page: u64, access: Access) -> Option<FrameNo>
-        ensures { IfSome result (λ f. IsNoted self.now.notes.items (record { root = root.0; page = page; access = access; frame = f.0 })) }
+        ensures { IfSome result (λ f. IsNoted self.now.notes.items
+                (record { root = root.0; page = page; access = access; frame = f.0 })) }
     {
         let number = *self.index.as_slice().get(place(page, access)?)?;
         let note = self

@@ -26,5 +26,6 @@ IsNamed _ text = ⊥
 
 -- a call, with its arguments and its answer
 abbrev pub IsCall : Details → ℕ → List ℕ → Option ℤ → Type 0
-IsCall (details.Call name text answer) number told answered = (name.0 ≡ number) × (text.now ≡ told) × (answer ≡ answered)
+IsCall (details.Call name text answer) number told answered = (name.0 ≡ number) × (text.now ≡ told)
+    × (answer ≡ answered)
 IsCall _ number told answered = ⊥

@@ -27,8 +27,8 @@ fn write_byte<W: fmt::Write>(f: &mut fmt::Formatter<W>, byte: u8, next: Option<u
     }
 }
 
-/// Bytes in quotes, as strace writes them: `\n`, `\t`, `\"`, `\\`, and other bytes that are no text in octal. Three dots stand
-/// behind the quotes where more bytes follow that are not shown.
+/// Bytes in quotes, as strace writes them: `\n`, `\t`, `\"`, `\\`, and other bytes that are no text in octal. Three
+/// dots stand behind the quotes where more bytes follow that are not shown.
 #[derive(Clone, Copy)]
 pub struct Quoted<'a> {
     pub bytes: &'a [u8],

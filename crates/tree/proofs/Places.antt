@@ -1,10 +1,18 @@
 -- The places that a scan of a directory goes through.
-use Rattle.tree.proofs.Common.{◌≡◌, ℕ, ◌+◌, ◌-◌, ◌<◌, ◌≤◌, Bool, List, [], ◌∷◌, None, Option, Some, length, ap, refl, sym, ◌∙◌, arith, cond, true, false, suc, drop, nat_lt, option_and_then, ◌==◌, list_all, cond-false, cond-true, false≢true}
-use Rattle.tree.proofs.Common.{le-ltb, lt-ltb, ne_eqb, get_or-drop, length-drop, none-some, Found, found_at, found_in, is_bare, place_of_bytes, has_name, slot, taken, number_at, ◌*◌, ◌⊎◌, ◌++◌, inl, inr, is_none, is_some, option_map}
-use Rattle.tree.proofs.Common.{cases_lt, ltb-true, length-append, length-set, position-Some, same_Some, taken_for, entered, growth, placed, room_at, room_behind, room_in, blocks_of, Files, Spot, change_node, enter, free_slot, live_places}
-use Rattle.tree.proofs.Common.{most_places, put, with_entry, with_entry_at, with_places, Directory, ◌/◌, ◌%◌, min, take, subst, All, flat_map, not, append-nil, drop-drop, drop-take, drop_all, length-take, length-take-le, take-take, part}
-use Rattle.tree.proofs.Common.{Free, Name, Taken, IsFirst, Scans, is_sought, place_in, IsFolder, FitsPlaces, FileTree, IsWhole, PlaceFits, length-spelling, places_in-back, slot-places_in, Node, place_bytes, Entry}
-use Rattle.tree.proofs.Storing.{position-at, position-none, taken-grows, blocks_of-set, change-is, slot-within, taken_by}
+use Rattle.tree.proofs.Common.{◌≡◌, ℕ, ◌+◌, ◌-◌, ◌<◌, ◌≤◌, Bool, List, [], ◌∷◌, None, Option, Some, length, ap, refl}
+use Rattle.tree.proofs.Common.{sym, ◌∙◌, arith, cond, true, false, suc, drop, nat_lt, option_and_then, ◌==◌, list_all}
+use Rattle.tree.proofs.Common.{cond-false, cond-true, false≢true, le-ltb, lt-ltb, ne_eqb, get_or-drop, length-drop}
+use Rattle.tree.proofs.Common.{none-some, Found, found_at, found_in, is_bare, place_of_bytes, has_name, slot, taken}
+use Rattle.tree.proofs.Common.{number_at, ◌*◌, ◌⊎◌, ◌++◌, inl, inr, is_none, is_some, option_map, cases_lt, ltb-true}
+use Rattle.tree.proofs.Common.{length-append, length-set, position-Some, same_Some, taken_for, entered, growth, placed}
+use Rattle.tree.proofs.Common.{room_at, room_behind, room_in, blocks_of, Files, Spot, change_node, enter, free_slot}
+use Rattle.tree.proofs.Common.{live_places, most_places, put, with_entry, with_entry_at, with_places, Directory, ◌/◌}
+use Rattle.tree.proofs.Common.{◌%◌, min, take, subst, All, flat_map, not, append-nil, drop-drop, drop-take, drop_all}
+use Rattle.tree.proofs.Common.{length-take, length-take-le, take-take, part, Free, Name, Taken, IsFirst, Scans}
+use Rattle.tree.proofs.Common.{is_sought, place_in, IsFolder, FitsPlaces, FileTree, IsWhole, PlaceFits, length-spelling}
+use Rattle.tree.proofs.Common.{places_in-back, slot-places_in, Node, place_bytes, Entry}
+use Rattle.tree.proofs.Storing.{position-at, position-none, taken-grows, blocks_of-set, change-is, slot-within}
+use Rattle.tree.proofs.Storing.{taken_by}
 use Rattle.imagerules.proofs.Spelling.{place-free, place-taken}
 use Rattle.std.specs.Borrow.{Bor}
 use Rattle.tree.specs.declared.place.Sought.{Sought}
@@ -25,11 +33,14 @@ slot-drop : (os : List (Option Entry)) (k : ℕ) → slot (drop 2 os) k ≡ slot
 slot-drop os k = get_or-drop 2 os k None
 
 -- a place with a name is taken, by the number that stands in front
-named-place : (bytes name : List ℕ) (k n : ℕ) → has_name name (place_of_bytes bytes) ≡ true → n ≡ number_at 2 0 bytes → found_at k (place_of_bytes bytes) ≡ Some (record { place = k; number = n })
+named-place : (bytes name : List ℕ) (k n : ℕ) → has_name name (place_of_bytes bytes) ≡ true → n ≡ number_at 2 0 bytes
+    → found_at k (place_of_bytes bytes) ≡ Some (record { place = k; number = n })
 named-place bytes name k n has is = go (list_all (λ b. b == 0) bytes) refl where
-  go : (t : Bool) → list_all (λ b. b == 0) bytes ≡ t → found_at k (place_of_bytes bytes) ≡ Some (record { place = k; number = n })
+  go : (t : Bool) → list_all (λ b. b == 0) bytes ≡ t
+      → found_at k (place_of_bytes bytes) ≡ Some (record { place = k; number = n })
   go true e = absurd (false≢true (sym (ap (has_name name) (place-free bytes e)) ∙ has))
-  go false e = ap (found_at k) (place-taken _ e) ∙ ap (λ m. let f : Found = record { place = k; number = m } in Some f) (sym is)
+  go false e = ap (found_at k) (place-taken _ e)
+      ∙ ap (λ m. let f : Found = record { place = k; number = m } in Some f) (sym is)
 
 -- a test that makes no difference
 pub cond-none : {X : Type 0} (b : Bool) {o : Option X} → o ≡ None → cond b o None ≡ None
@@ -42,18 +53,24 @@ none-not (Some x) h = refl
 
 -- a directory's places, and where a new entry is to stand
 module _ (places : List (Option Entry)) where
-  found-at : (name : List ℕ) (i : ℕ) → i < length places → ((k : ℕ) → k < i → has_name name (slot places k) ≡ false) → has_name name (slot places i) ≡ true
+  found-at : (name : List ℕ) (i : ℕ) → i < length places → ((k : ℕ) → k < i → has_name name (slot places k) ≡ false)
+      → has_name name (slot places i) ≡ true
       → found_in places name ≡ found_at i (slot places i)
   unfolding found_in
-  found-at name i h before here = ap (option_and_then (λ k. found_at k (slot places k))) (position-at _ _ i None h before here)
+  found-at name i h before here =
+      ap (option_and_then (λ k. found_at k (slot places k))) (position-at _ _ i None h before here)
 
-  found-none : (name : List ℕ) (n : ℕ) → length places ≤ n → ((k : ℕ) → k < n → has_name name (slot places k) ≡ false) → found_in places name ≡ None
+  found-none : (name : List ℕ) (n : ℕ) → length places ≤ n → ((k : ℕ) → k < n → has_name name (slot places k) ≡ false)
+      → found_in places name ≡ None
   unfolding found_in
-  found-none name n past none = ap (option_and_then (λ k. found_at k (slot places k))) (position-none _ _ n None past none)
+  found-none name n past none =
+      ap (option_and_then (λ k. found_at k (slot places k))) (position-none _ _ n None past none)
 
   bare-yes : (n : ℕ) → length places ≤ n → ((k : ℕ) → k < n → 2 ≤ k → slot places k ≡ None) → is_bare places ≡ true
   bare-yes n past none =
-      ap (λ (es : List Entry). length es == 0) (none-taken (drop 2 places) (λ k l. slot-drop _ k ∙ none (2 + k) (omega (arith, length-drop 2 places)) (omega arith)))
+      ap (λ (es : List Entry). length es == 0)
+          (none-taken (drop 2 places)
+          (λ k l. slot-drop _ k ∙ none (2 + k) (omega (arith, length-drop 2 places)) (omega arith)))
 
   bare-no : (k : ℕ) (e : Entry) → 2 ≤ k → slot places k ≡ Some e → is_bare places ≡ false
   bare-no k e low here =
@@ -61,25 +78,33 @@ module _ (places : List (Option Entry)) where
       let some = some-taken (drop 2 places) (k - 2) e (slot-drop places (k - 2) ∙ ap (slot places) s ∙ here) in
       ne_eqb (length (taken (drop 2 places))) 0 (λ z. absurd (omega arith))
 
-  room-free : (k : ℕ) → k < length places → ((j : ℕ) → j < k → is_some (slot places j) ≡ true) → slot places k ≡ None → room_in places ≡ Some k
+  room-free : (k : ℕ) → k < length places → ((j : ℕ) → j < k → is_some (slot places j) ≡ true) → slot places k ≡ None
+      → room_in places ≡ Some k
   unfolding room_in
-  room-free k h before here = ap (room_at places) (position-at is_none _ k None h (λ j l. none-not _ (before j l)) (ap is_none here))
+  room-free k h before here =
+      ap (room_at places) (position-at is_none _ k None h (λ j l. none-not _ (before j l)) (ap is_none here))
 
-  pub room-end : (n count : ℕ) → length places ≡ count → count ≤ n → ((j : ℕ) → j < n → is_some (slot places j) ≡ true) → room_in places ≡ room_behind count
+  pub room-end : (n count : ℕ) → length places ≡ count → count ≤ n → ((j : ℕ) → j < n → is_some (slot places j) ≡ true)
+      → room_in places ≡ room_behind count
   unfolding room_in
-  room-end n count e h all = ap (room_at places) (position-none is_none places n None (omega arith) (λ j l. none-not _ (all j l))) ∙ ap room_behind e
+  room-end n count e h all =
+      ap (room_at places) (position-none is_none places n None (omega arith) (λ j l. none-not _ (all j l)))
+      ∙ ap room_behind e
 
   -- the end, where there is room
   behind-is : (k : ℕ) → room_behind (length places) ≡ Some k → (length places < most_places) × (length places ≡ k)
   behind-is k h = go (nat_lt (length places) most_places) refl h where
-    go : (b : Bool) → nat_lt (length places) most_places ≡ b → cond b (Some (length places)) None ≡ Some k → (length places < most_places) × (length places ≡ k)
+    go : (b : Bool) → nat_lt (length places) most_places ≡ b → cond b (Some (length places)) None ≡ Some k
+        → (length places < most_places) × (length places ≡ k)
     go true e q = (ltb-true _ most_places e, same_Some _ k q)
     go false e q = absurd (none-some k q)
 
-  pub room-cases : (k : ℕ) → room_in places ≡ Some k → (k < length places) ⊎ ((length places < most_places) × (length places ≡ k))
+  pub room-cases : (k : ℕ) → room_in places ≡ Some k
+      → (k < length places) ⊎ ((length places < most_places) × (length places ≡ k))
   unfolding room_in
   room-cases k h = go (free_slot places) refl h where
-    go : (o : Option ℕ) → free_slot places ≡ o → room_at places o ≡ Some k → (k < length places) ⊎ ((length places < most_places) × (length places ≡ k))
+    go : (o : Option ℕ) → free_slot places ≡ o → room_at places o ≡ Some k
+        → (k < length places) ⊎ ((length places < most_places) × (length places ≡ k))
     go (Some j) e q = let s = (position-Some is_none _ j None e).0 in let same = same_Some j k q in inl (omega arith)
     go None e q = inr (behind-is k q)
 
@@ -92,10 +117,12 @@ module _ (places : List (Option Entry)) where
   with-room : (k : ℕ) (e : Entry) → room_in places ≡ Some k → with_entry places e ≡ Some (placed places k e)
   unfolding room_in with_entry
   with-room k e h = go (free_slot places) refl h where
-    go : (o : Option ℕ) → free_slot places ≡ o → room_at places o ≡ Some k → with_entry_at places e o ≡ Some (placed places k e)
+    go : (o : Option ℕ) → free_slot places ≡ o → room_at places o ≡ Some k
+        → with_entry_at places e o ≡ Some (placed places k e)
     go (Some j) at q =
         let s = (position-Some is_none _ j None at).0 in
-        ap (λ i. Some (put places i e)) (same_Some j k q) ∙ ap Some (sym (placed-inside k e (let same = same_Some j k q in omega arith)))
+        ap (λ i. Some (put places i e)) (same_Some j k q)
+            ∙ ap Some (sym (placed-inside k e (let same = same_Some j k q in omega arith)))
     go None at q =
         let b = behind-is k q in
         cond-true _ _ None (lt-ltb _ most_places b.0) ∙ ap Some (sym (placed-behind k e (omega arith)))
@@ -111,7 +138,8 @@ module _ (places : List (Option Entry)) where
     go (Some j) q = absurd (none-some j (sym q))
     go None q = behind (nat_lt (length places) most_places) q
 
-  taken-placed : (k : ℕ) (e : Entry) → taken_for (16 * length (placed places k e)) ≡ taken_for (16 * length places) + growth places k
+  taken-placed : (k : ℕ) (e : Entry)
+      → taken_for (16 * length (placed places k e)) ≡ taken_for (16 * length places) + growth places k
   taken-placed k e = elim (cases_lt k _) [
     | inl l ↦
         let grown : growth places k ≡ 0 = cond-true _ 0 _ (lt-ltb k _ l) in
@@ -120,36 +148,48 @@ module _ (places : List (Option Entry)) where
         let grown : growth places k ≡ taken_for (16 * length places + 16) - taken_for (16 * length places) =
         cond-false _ 0 _ (le-ltb k _ m) in
         let more : 16 * (length places + 1) ≡ 16 * length places + 16 = omega arith in
-        omega (arith, ap (λ n. taken_for (16 * n)) (ap length (placed-behind k e m) ∙ length-append places (Some e ∷ [])), ap taken_for more, taken-grows (16 * length places) (16 * length places + 16) (omega arith))
+        omega (arith, ap (λ n. taken_for (16 * n))
+            (ap length (placed-behind k e m) ∙ length-append places (Some e ∷ [])), ap taken_for more,
+            taken-grows (16 * length places) (16 * length places + 16) (omega arith))
   ]
 
 -- ---- an entry
 
-module _ (files : Files) (d links : ℕ) (places : List (Option Entry)) (here : slot files d ≡ Some (Directory links places)) where
+module _ (files : Files) (d links : ℕ) (places : List (Option Entry))
+    (here : slot files d ≡ Some (Directory links places)) where
   pub entered-is : (k : ℕ) (e : Entry) → entered files d k e ≡ put files d (Directory links (placed places k e))
   unfolding entered
   entered-is k e = change-is _ d _ _ here
 
-enter-at : (files : Files) (at : Spot) (n links : ℕ) (places : List (Option Entry)) → slot files at.directory ≡ Some (Directory (suc links) places)
-    → enter files at n ≡ option_map (λ ps. change_node files at.directory (λ node. with_places node ps)) (with_entry places (record { name = at.name; number = n }))
+enter-at : (files : Files) (at : Spot) (n links : ℕ) (places : List (Option Entry))
+    → slot files at.directory ≡ Some (Directory (suc links) places)
+    → enter files at n ≡ option_map (λ ps. change_node files at.directory (λ node. with_places node ps))
+        (with_entry places (record { name = at.name; number = n }))
 unfolding enter
 enter-at files at n links places here =
-    ap (λ o. option_map (λ ps. change_node files at.directory (λ node. with_places node ps)) (option_and_then (λ ps. with_entry ps (record { name = at.name; number = n })) (live_places o))) here
+    ap (λ o. option_map (λ ps. change_node files at.directory (λ node. with_places node ps))
+        (option_and_then (λ ps. with_entry ps (record { name = at.name; number = n })) (live_places o))) here
 
-module _ (files : Files) (at : Spot) (n links : ℕ) (places : List (Option Entry)) (here : slot files at.directory ≡ Some (Directory (suc links) places)) where
-  pub enter-room : (k : ℕ) → room_in places ≡ Some k → enter files at n ≡ Some (entered files at.directory k (record { name = at.name; number = n }))
+module _ (files : Files) (at : Spot) (n links : ℕ) (places : List (Option Entry))
+    (here : slot files at.directory ≡ Some (Directory (suc links) places)) where
+  pub enter-room : (k : ℕ) → room_in places ≡ Some k
+      → enter files at n ≡ Some (entered files at.directory k (record { name = at.name; number = n }))
   enter-room k room =
       let e : Entry = record { name = at.name; number = n } in
       enter-at _ at n _ _ here
       ∙ ap (option_map (λ ps. change_node files at.directory (λ node. with_places node ps))) (with-room _ k e room)
-      ∙ ap Some (change-is _ _ (λ node. with_places node (placed places k e)) _ here ∙ sym (entered-is _ _ _ _ here k e))
+      ∙ ap Some (change-is _ _ (λ node. with_places node (placed places k e)) _ here
+          ∙ sym (entered-is _ _ _ _ here k e))
 
   pub enter-full : room_in places ≡ None → enter files at n ≡ None
   enter-full none =
       let e : Entry = record { name = at.name; number = n } in
-      enter-at _ at n _ _ here ∙ ap (option_map (λ ps. change_node files at.directory (λ node. with_places node ps))) (without-room _ e none)
+      enter-at _ at n _ _ here
+          ∙ ap (option_map (λ ps. change_node files at.directory (λ node. with_places node ps))) (without-room _ e none)
 
-pub blocks_of-entered : (files : Files) (d links : ℕ) (places : List (Option Entry)) → slot files d ≡ Some (Directory links places) → (k : ℕ) (e : Entry) → blocks_of (entered files d k e) ≡ blocks_of files + growth places k
+pub blocks_of-entered : (files : Files) (d links : ℕ) (places : List (Option Entry))
+    → slot files d ≡ Some (Directory links places) → (k : ℕ) (e : Entry)
+    → blocks_of (entered files d k e) ≡ blocks_of files + growth places k
 blocks_of-entered files d links places here k e =
     let next = Directory links (placed places k e) in
     let b = blocks_of-set _ d (Some next) (slot-within files d (Directory links places) here) in
@@ -161,10 +201,12 @@ blocks_of-entered files d links places here k e =
 -- ---- a read
 
 -- as many bytes as there is room for
-pub read-whole : (at count : ℕ) (bytes old new : List ℕ) → count ≡ min (length old) (length bytes - at) → at + length old ≤ length bytes → new ≡ part at count bytes ++ drop count old → new ≡ part at (length old) bytes
+pub read-whole : (at count : ℕ) (bytes old new : List ℕ) → count ≡ min (length old) (length bytes - at)
+    → at + length old ≤ length bytes → new ≡ part at count bytes ++ drop count old → new ≡ part at (length old) bytes
 read-whole at count bytes old new is fits read =
     let whole : count ≡ length old = omega arith in
-    read ∙ ap (λ n. part at n bytes ++ drop n old) whole ∙ ap (λ r. part at (length old) bytes ++ r) (drop_all (length old) old (omega arith)) ∙ append-nil _
+    read ∙ ap (λ n. part at n bytes ++ drop n old) whole
+        ∙ ap (λ r. part at (length old) bytes ++ r) (drop_all (length old) old (omega arith)) ∙ append-nil _
 
 -- the places that are read next: no more than there are, nor than a block has
 pub record IsNext (size k m : ℕ) : Type 0 where
@@ -182,8 +224,12 @@ module _ (places : List (Option Entry)) (fits : All PlaceFits places) (k m : ℕ
     pub next-within : 16 * k + length (take (16 * m) block) ≤ 16 * length places
     next-within = let low = next.fits in omega (arith, length-take (16 * m) block, length-spelling places fits)
 
-    pub next-read : length block ≡ 1024 → {out : List ℕ} → out ≡ part (16 * k) (length (take (16 * m) block)) (flat_map place_bytes places) → out ≡ part (16 * k) (16 * m) (flat_map place_bytes places)
-    next-read long read = read ∙ ap (λ n. part (16 * k) n (flat_map place_bytes places)) (length-take-le (16 * m) block (let most = next.most in omega arith))
+    pub next-read : length block ≡ 1024 → {out : List ℕ}
+        → out ≡ part (16 * k) (length (take (16 * m) block)) (flat_map place_bytes places)
+        → out ≡ part (16 * k) (16 * m) (flat_map place_bytes places)
+    next-read long read = read
+        ∙ ap (λ n. part (16 * k) n (flat_map place_bytes places))
+        (length-take-le (16 * m) block (let most = next.most in omega arith))
 
 -- ---- m places from place k on
 
@@ -203,21 +249,26 @@ module _ (bytes : List ℕ) (k m : ℕ) (fits : 16 * (k + m) ≤ length bytes) w
       ∙ take-take 16 (16 * m - 16 * j) (drop (16 * j) (drop (16 * k) bytes)) (omega arith)
       ∙ ap (take 16) (drop-drop (16 * j) (16 * k) bytes ∙ ap (λ n. drop n bytes) at)
 
-  module _ (sought : Sought) (from : ℕ) (before : (j : ℕ) → j < k → from ≤ j → is_sought sought (place_in bytes j) ≡ false) where
+  module _ (sought : Sought) (from : ℕ)
+      (before : (j : ℕ) → j < k → from ≤ j → is_sought sought (place_in bytes j) ≡ false) where
     -- none of the first n of them is sought
-    passed : (n : ℕ) → n ≤ m → ((i : ℕ) → i < n → 0 ≤ i → is_sought sought (place_in some i) ≡ false) → (j : ℕ) → j < k + n → from ≤ j → is_sought sought (place_in bytes j) ≡ false
+    passed : (n : ℕ) → n ≤ m → ((i : ℕ) → i < n → 0 ≤ i → is_sought sought (place_in some i) ≡ false) → (j : ℕ)
+        → j < k + n → from ≤ j → is_sought sought (place_in bytes j) ≡ false
     passed n most none j less low = elim (cases_lt j k) [
       | inl l ↦ before j l low
       | inr r ↦
           let i : k + (j - k) ≡ j = omega arith in
           ap (λ x. is_sought sought (place_in bytes x)) (sym i)
-          ∙ ap (λ b. is_sought sought (place_of_bytes b)) (sym (part-some (j - k) (omega arith))) ∙ none (j - k) (omega arith) (omega arith)
+          ∙ ap (λ b. is_sought sought (place_of_bytes b)) (sym (part-some (j - k) (omega arith)))
+              ∙ none (j - k) (omega arith) (omega arith)
     ]
 
-    pub all-passed : Scans sought some 0 None → (j : ℕ) → j < k + m → from ≤ j → is_sought sought (place_in bytes j) ≡ false
+    pub all-passed : Scans sought some 0 None → (j : ℕ) → j < k + m → from ≤ j
+        → is_sought sought (place_in bytes j) ≡ false
     all-passed none = passed m (omega arith) (λ i l _. none i (let s = length-some in omega arith) (omega arith))
 
-    pub first-there : (found : Found) → from ≤ k → IsFirst sought some 0 found → IsFirst sought bytes from (record { place = k + found.place; number = found.number })
+    pub first-there : (found : Found) → from ≤ k → IsFirst sought some 0 found
+        → IsFirst sought bytes from (record { place = k + found.place; number = found.number })
     first-there found low is =
         let within : found.place < m = let w = is.within in let s = length-some in omega arith in
         record {
@@ -264,11 +315,15 @@ module _ (places : List (Option Entry)) (fits : All PlaceFits places) where
 
   -- a name
   pub name-told : (name : Bor (List ℕ)) (o : Option Found) → Scans (Name name) bytes 0 o → o ≡ found_in places name.now
-  name-told name None none = sym (found-none places name.now (length bytes / 16) (omega (arith, long)) (λ k l. ap (has_name name.now) (place-is k l) ∙ none k l (omega arith)))
+  name-told name None none =
+      sym (found-none places name.now (length bytes / 16) (omega (arith, long))
+      (λ k l. ap (has_name name.now) (place-is k l) ∙ none k l (omega arith)))
   name-told name (Some found) is =
       let here = place-is _ is.within in
-      let before = λ (k : ℕ) (l : k < found.place). let w = is.within in let low : k < length bytes / 16 = omega arith in ap (has_name name.now) (place-is k low) ∙ is.before k l (omega arith) in
-      sym (found-at places name.now found.place (let w = is.within in omega (arith, long)) before (ap (has_name name.now) here ∙ is.here)
+      let before = λ (k : ℕ) (l : k < found.place). let w = is.within in let low : k < length bytes / 16 =
+              omega arith in ap (has_name name.now) (place-is k low) ∙ is.before k l (omega arith) in
+      sym (found-at places name.now found.place (let w = is.within in omega (arith, long)) before
+          (ap (has_name name.now) here ∙ is.here)
       ∙ ap (found_at found.place) here ∙ named-place (part (16 * found.place) 16 bytes) name.now _ _ is.here is.number)
 
   -- a free place
@@ -276,21 +331,26 @@ module _ (places : List (Option Entry)) (fits : All PlaceFits places) where
   free-told found is =
       let w = is.within in
       sym (room-free places found.place (omega (arith, long))
-      (λ j l. let low : j < length bytes / 16 = omega arith in ap is_some (place-is j low) ∙ some-not _ (is.before j l (omega arith)))
+      (λ j l. let low : j < length bytes / 16 = omega arith in ap is_some (place-is j low)
+          ∙ some-not _ (is.before j l (omega arith)))
       (place-is _ w ∙ none-there _ is.here))
 
   pub full-told : Scans Free bytes 0 None → (count : ℕ) → count ≡ length places → room_behind count ≡ room_in places
   full-told none count is =
-      sym (room-end places count count (omega arith) (omega arith) (λ j l. let low : j < length bytes / 16 = omega (arith, long) in ap is_some (place-is j low) ∙ some-not _ (none j low (omega arith))))
+      sym (room-end places count count (omega arith) (omega arith)
+          (λ j l. let low : j < length bytes / 16 = omega (arith, long) in ap is_some (place-is j low)
+          ∙ some-not _ (none j low (omega arith))))
 
   -- a place in use, behind the first two
   bare-is : (o : Option Found) → Scans Taken bytes 2 o → is_none o ≡ is_bare places
-  bare-is None none = sym (bare-yes places (length bytes / 16) (omega (arith, long)) (λ k l low. place-is k l ∙ free-of _ (none k l low)))
+  bare-is None none = sym (bare-yes places (length bytes / 16) (omega (arith, long))
+      (λ k l low. place-is k l ∙ free-of _ (none k l low)))
   bare-is (Some found) is =
       let entry = entry-of _ is.here in
       sym (bare-no _ _ entry.0 is.behind (place-is _ is.within ∙ entry.1))
 
-  pub bare-told : (o : Option Found) → Scans Taken bytes 2 o → (none : Bool) → is_some o ≡ not none → none ≡ is_bare places
+  pub bare-told : (o : Option Found) → Scans Taken bytes 2 o → (none : Bool) → is_some o ≡ not none
+      → none ≡ is_bare places
   bare-told o scanned none is = none-is o none is ∙ bare-is o scanned
 
 -- ---- the places of a directory

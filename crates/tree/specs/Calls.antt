@@ -1,6 +1,7 @@
 -- What calls on the nodes of a file system tell, and what they leave.
 use Rattle.std.specs.Borrow.{Bor}
-use Rattle.std.specs.Prelude.{Bool, List, None, Option, Result, Some, [], drop, flat_map, length, min, nat_le, option_map, replicate, ℕ, ◌*◌, ◌++◌, ◌+◌, ◌-◌, ◌≡◌, ◌≤◌}
+use Rattle.std.specs.Prelude.{Bool, List, None, Option, Result, Some, [], drop, flat_map, length, min, nat_le}
+use Rattle.std.specs.Prelude.{option_map, replicate, ℕ, ◌*◌, ◌++◌, ◌+◌, ◌-◌, ◌≡◌, ◌≤◌}
 use Rattle.blockdev.specs.Splice.{part}
 use Rattle.tree.specs.Answers.{Overflows}
 use Rattle.tree.specs.declared.entering.Gap.{Gap}
@@ -30,7 +31,8 @@ IsPart bytes at old new k = (k ≡ min (length old) (length bytes - at)) × (new
 
 -- they are those of a node
 abbrev pub IsPartOf : Files → ℕ → ℕ → List ℕ → List ℕ → ℕ → Type 0
-IsPartOf files number at old new k = (node : Node) → slot files number ≡ Some node → IsPart (node_bytes node) at old new k
+IsPartOf files number at old new k = (node : Node) → slot files number ≡ Some node
+    → IsPart (node_bytes node) at old new k
 
 -- the files are what a write leaves, and so many bytes went
 abbrev pub Writes : FileTree → FileTree → Option Written → Option ℕ → Type 0
@@ -42,7 +44,8 @@ WritesAt old new number at bytes went = Writes old new (written old.block_limit 
 
 -- a directory has the places that its new bytes spell
 abbrev pub HasPlaces : FileTree → FileTree → ℕ → ℕ → List ℕ → Type 0
-HasPlaces old new d at bytes = (next : List (Option Entry)) → (r : Rewrites old d at bytes next) → HasFiles old new (put old.files d (Directory r.links next))
+HasPlaces old new d at bytes = (next : List (Option Entry)) → (r : Rewrites old d at bytes next)
+    → HasFiles old new (put old.files d (Directory r.links next))
 
 -- a file has no bytes
 abbrev pub HasNoBytes : FileTree → FileTree → ℕ → Type 0
@@ -53,11 +56,13 @@ HasNoBytes old new number = (f : IsFile old.files number) → HasFiles old new (
 -- a node is held once less, and goes where nothing keeps it
 abbrev pub LetsGo : FileTree → FileTree → ℕ → Type 0
 LetsGo old new number =
-    new ≡ record old { files = let_go (without_hold old.holds number) old.files number; holds = without_hold old.holds number; failures = new.failures }
+    new ≡ record old { files = let_go (without_hold old.holds number) old.files number;
+        holds = without_hold old.holds number; failures = new.failures }
 
 -- nobody holds any node, and those without links have gone
 abbrev pub IsSwept : FileTree → FileTree → Type 0
-IsSwept old new = new ≡ record old { files = unheld old.files; holds = replicate (length old.holds) 0; failures = new.failures }
+IsSwept old new = new ≡ record old
+    { files = unheld old.files; holds = replicate (length old.holds) 0; failures = new.failures }
 
 -- ---- directories
 
@@ -75,7 +80,8 @@ FindsName files d name found = (f : IsFolder files d) → found ≡ found_in f.p
 
 -- whether there are blocks for an entry at a place, and as many beside
 abbrev pub TellsRoom : FileTree → ℕ → ℕ → ℕ → Bool → Type 0
-TellsRoom t d place more enough = (r : HasRoom t.files d place) → enough ≡ nat_le (blocks_of t.files + (growth r.places place + more)) t.block_limit
+TellsRoom t d place more enough = (r : HasRoom t.files d place)
+    → enough ≡ nat_le (blocks_of t.files + (growth r.places place + more)) t.block_limit
 
 -- there are
 abbrev pub HasBlocks : FileTree → ℕ → ℕ → Type 0
@@ -99,12 +105,15 @@ IsSpot files d path told = spot_of files d path ≡ Some (record { directory = t
 
 abbrev pub FindsSpot : FileTree → FileTree → ℕ → List ℕ → Result (ℕ × Bor (List ℕ)) TreeFault → Type 0
 FindsSpot old new d path result =
-    Acts old new result (λ told. IsSpot old.files d path told × (new.files ≡ old.files)) (spot_of old.files d path ≡ None) (LacksSpot old.files d path)
+    Acts old new result (λ told. IsSpot old.files d path told × (new.files ≡ old.files))
+        (spot_of old.files d path ≡ None) (LacksSpot old.files d path)
 
--- the spot of a path whose name is free, and the place of an entry there; there are `more` blocks beside those that it takes
+-- the spot of a path whose name is free, and the place of an entry there; there are `more` blocks beside those that it
+-- takes
 abbrev pub FindsGap : FileTree → FileTree → ℕ → List ℕ → ℕ → Result Gap TreeFault → Type 0
 FindsGap old new d path more result =
-    Acts old new result (λ gap. HasGap old.block_limit old.files d path more (spot_in gap) gap.place × (new.files ≡ old.files)) (Unit {0}) (LacksGap old.block_limit old.files d path more)
+    Acts old new result (λ gap. HasGap old.block_limit old.files d path more (spot_in gap) gap.place
+        × (new.files ≡ old.files)) (Unit {0}) (LacksGap old.block_limit old.files d path more)
 
 -- ---- calls on names
 
@@ -112,17 +121,20 @@ FindsGap old new d path more result =
 abbrev pub MakesNode : FileTree → FileTree → ℕ → List ℕ → Node → Result ℕ TreeFault → Type 0
 MakesNode old new d path node result =
     let made = made_in old.files d path node in
-    Acts old new result (λ n. made ≡ Some (record { files = new.files; number = n })) (Overflows old.block_limit (made_files made)) (LacksMaking old.block_limit old.files d path 0)
+    Acts old new result (λ n. made ≡ Some (record { files = new.files; number = n }))
+        (Overflows old.block_limit (made_files made)) (LacksMaking old.block_limit old.files d path 0)
 
 abbrev pub MakesLink : FileTree → FileTree → ℕ → List ℕ → List ℕ → Result (Unit {0}) TreeFault → Type 0
 MakesLink old new d from to result =
     let made = linked_in old.files d from to in
-    Acts old new result (λ _. made ≡ Some new.files) (Overflows old.block_limit made) (LacksLinking old.block_limit old.files d from to)
+    Acts old new result (λ _. made ≡ Some new.files) (Overflows old.block_limit made)
+        (LacksLinking old.block_limit old.files d from to)
 
 abbrev pub MakesDirectory : FileTree → FileTree → ℕ → List ℕ → Result (Unit {0}) TreeFault → Type 0
 MakesDirectory old new d path result =
     let made = folder_in old.files d path in
-    Acts old new result (λ _. made ≡ Some new.files) (Overflows old.block_limit made) (LacksFolder old.block_limit old.files d path)
+    Acts old new result (λ _. made ≡ Some new.files) (Overflows old.block_limit made)
+        (LacksFolder old.block_limit old.files d path)
 
 abbrev pub TakesName : FileTree → FileTree → ℕ → List ℕ → Result (Unit {0}) TreeFault → Type 0
 TakesName old new d path result =
@@ -131,4 +143,5 @@ TakesName old new d path result =
 
 -- a name goes, and its number is told
 abbrev pub RemovesName : FileTree → FileTree → Spot → Result ℕ TreeFault → Type 0
-RemovesName old new at result = Acts old new result (Unlinks old.files new.files at) (unlinked old.files at ≡ None) (LacksName old.files at)
+RemovesName old new at result =
+    Acts old new result (Unlinks old.files new.files at) (unlinked old.files at ≡ None) (LacksName old.files at)

@@ -1,10 +1,12 @@
 -- How an entry comes into a directory, and what it needs.
-use Rattle.std.specs.Prelude.{IsSome, List, None, Option, Some, [], if◌then◌else◌, length, nat_lt, option_and_then, option_map, suc, ℕ, ◌*◌, ◌++◌, ◌+◌, ◌-◌, ◌<◌, ◌∷◌, ◌≡◌, ◌≤◌}
+use Rattle.std.specs.Prelude.{IsSome, List, None, Option, Some, [], if◌then◌else◌, length, nat_lt, option_and_then}
+use Rattle.std.specs.Prelude.{option_map, suc, ℕ, ◌*◌, ◌++◌, ◌+◌, ◌-◌, ◌<◌, ◌∷◌, ◌≡◌, ◌≤◌}
 use Rattle.layout.specs.Image.{taken_for}
 use Rattle.layout.specs.declared.Kind.{Kind}
 use Rattle.layout.specs.declared.Kind.TheVariants as kind
 use Rattle.unixmodel.specs.Counts.{blocks_of}
-use Rattle.unixmodel.specs.Files.{Entry, Files, Node, Spot, change_node, find, free_slot, lookup, most_places, places_at, put, slot, spot_of}
+use Rattle.unixmodel.specs.Files.{Entry, Files, Node, Spot, change_node, find, free_slot, lookup, most_places}
+use Rattle.unixmodel.specs.Files.{places_at, put, slot, spot_of}
 use Rattle.unixmodel.specs.Files.Node.{Device, Directory, File}
 use Rattle.unixmodel.specs.NameCalls.{Made, linked, made_at, made_directory}
 
@@ -38,7 +40,8 @@ entered files d k e = change_node files d (with_place k e)
 
 -- how many blocks more are taken with a place
 abbrev pub growth : List (Option Entry) → ℕ → ℕ
-growth places k = if nat_lt k (length places) then 0 else taken_for (16 * length places + 16) - taken_for (16 * length places)
+growth places k = if nat_lt k (length places) then 0
+    else taken_for (16 * length places + 16) - taken_for (16 * length places)
 
 -- d is a directory in which place k is the next for an entry
 pub record HasRoom (files : Files) (d k : ℕ) : Type 0 where
@@ -49,8 +52,8 @@ pub record HasRoom (files : Files) (d k : ℕ) : Type 0 where
 
 -- ---- a new name
 
--- this spot is that of a path, its name is free, and its entry is to stand in place k; there are `more` blocks beside those that
--- it takes
+-- this spot is that of a path, its name is free, and its entry is to stand in place k; there are `more` blocks beside
+-- those that it takes
 pub record HasGap (limit : ℕ) (files : Files) (d : ℕ) (path : List ℕ) (more : ℕ) (at : Spot) (k : ℕ) : Type 0 where
   pub spot : spot_of files d path ≡ Some at
   pub free : lookup files at.directory at.name ≡ None
@@ -107,7 +110,8 @@ folder_in files d path = option_and_then (made_directory files) (spot_of files d
 
 -- the files with another name for what the old path reaches
 unfoldable pub linked_in : Files → ℕ → List ℕ → List ℕ → Option Files
-linked_in files d old new = option_and_then (λ n. option_and_then (λ at. linked files at n) (spot_of files d new)) (find files d old)
+linked_in files d old new =
+    option_and_then (λ n. option_and_then (λ at. linked files at n) (spot_of files d new)) (find files d old)
 
 -- a path reaches a node of which this holds
 pub record Reaches (files : Files) (d : ℕ) (path : List ℕ) (P : Node → Type 0) : Type 0 where

@@ -1,5 +1,6 @@
 -- Who holds a node, and which node goes.
-use Rattle.std.specs.Prelude.{Bool, List, None, Option, Some, if◌then◌else◌, nat_lt, slice_index_or, slice_set, true, ℕ, ◌+◌, ◌-◌, ◌||◌}
+use Rattle.std.specs.Prelude.{Bool, List, None, Option, Some, if◌then◌else◌, nat_lt, slice_index_or, slice_set, true, ℕ}
+use Rattle.std.specs.Prelude.{◌+◌, ◌-◌, ◌||◌}
 use Rattle.unixmodel.specs.Files.{Files, Node, clear, links_of, slot}
 use Rattle.unixmodel.specs.Reap.{kept}
 

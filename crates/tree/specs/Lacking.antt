@@ -1,11 +1,13 @@
 -- Why a call on names is refused.
 use Rattle.std.specs.Prelude.{List, None, Some, true, ⊤, ℕ, ◌⊎◌, ◌≡◌, ◌≤◌}
 use Rattle.tree.specs.declared.TreeFault.{TreeFault}
-use Rattle.tree.specs.declared.TreeFault.TheVariants.{Blocks, DeadDir, Device, DotName, Exists, Full, Inodes, IsDir, Links, NotDir, NotEmpty, NotFound}
+use Rattle.tree.specs.declared.TreeFault.TheVariants.{Blocks, DeadDir, Device, DotName, Exists, Full, Inodes, IsDir}
+use Rattle.tree.specs.declared.TreeFault.TheVariants.{Links, NotDir, NotEmpty, NotFound}
 use Rattle.tree.specs.Entering.{IsFullAt, IsThere, LacksBlocks, Reaches}
 use Rattle.tree.specs.Paths.{LacksSpot}
 use Rattle.tree.specs.Unlinks.{IsBusy}
-use Rattle.unixmodel.specs.Files.{Files, Node, Spot, find, free_number, is_directory, is_dot_name, links_of, lookup, most_links, slot, spot_of}
+use Rattle.unixmodel.specs.Files.{Files, Node, Spot, find, free_number, is_directory, is_dot_name, links_of, lookup}
+use Rattle.unixmodel.specs.Files.{most_links, slot, spot_of}
 
 -- this holds of the spot of a path
 pub record HasSpot (files : Files) (d : ℕ) (path : List ℕ) (P : Spot → Type 0) : Type 0 where
@@ -70,7 +72,8 @@ LacksLinking limit files d old new _ = ⊥
 
 -- why no name goes
 abbrev pub LacksUnlinking : Files → ℕ → List ℕ → TreeFault → Type 0
-LacksUnlinking files d path NotFound = LacksSpot files d path NotFound ⊎ HasSpot files d path (λ at. lookup files at.directory at.name ≡ None)
+LacksUnlinking files d path NotFound = LacksSpot files d path NotFound
+    ⊎ HasSpot files d path (λ at. lookup files at.directory at.name ≡ None)
 LacksUnlinking files d path NotDir = LacksSpot files d path NotDir
 LacksUnlinking files d path DeadDir = LacksSpot files d path DeadDir
 LacksUnlinking files d path DotName = HasSpot files d path (λ at. is_dot_name at.name ≡ true)

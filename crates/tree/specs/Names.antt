@@ -1,5 +1,6 @@
 -- What calls on names find in a directory, and the steps by which a name goes.
-use Rattle.std.specs.Prelude.{Bool, List, Option, drop, if◌then◌else◌, length, option_and_then, option_map, position, ℕ, ◌==◌, Some, None}
+use Rattle.std.specs.Prelude.{Bool, List, Option, drop, if◌then◌else◌, length, option_and_then, option_map, position, ℕ}
+use Rattle.std.specs.Prelude.{◌==◌, Some, None}
 use Rattle.tree.specs.declared.place.Found.{Found}
 use Rattle.unixmodel.specs.Files.{Entry, Files, Node, change_node, has_name, is_directory, slot, taken}
 use Rattle.unixmodel.specs.NameCalls.{fewer_links, may_remove}
@@ -17,7 +18,8 @@ is_bare places = length (taken (drop 2 places)) == 0
 
 -- node n has one link fewer, and so has directory d where n is one, whose ".." is gone
 abbrev pub dropped : Files → ℕ → ℕ → Bool → Files
-dropped files n d goes = let less = change_node files n fewer_links in if goes then change_node less d fewer_links else less
+dropped files n d goes = let less =
+    change_node files n fewer_links in if goes then change_node less d fewer_links else less
 
 -- whether it is a directory, of a node that may go
 abbrev pub removal : Node → Option Bool

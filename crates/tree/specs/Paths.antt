@@ -7,7 +7,8 @@ use Rattle.unixmodel.specs.Files.Node.{Directory}
 
 -- what all but the last of these names reach from d, and the last
 abbrev pub reach : Files → ℕ → List (List ℕ) → Option (ℕ × List ℕ)
-reach files d names = option_and_then (λ split. option_map (λ k. (k, split.1)) (follow files d split.0)) (split_last names)
+reach files d names = option_and_then (λ split. option_map (λ k. (k, split.1)) (follow files d split.0))
+    (split_last names)
 
 unfoldable pub above : Files → ℕ → List ℕ → Option (ℕ × List ℕ)
 above files d path = reach files (start_of d path) (parts path)

@@ -1,5 +1,6 @@
 -- What a scan of a directory's places finds.
-use Rattle.std.specs.Prelude.{Bool, List, None, Option, Some, is_none, is_some, length, ℕ, ◌*◌, ◌/◌, ◌<◌, ◌≡◌, ◌≤◌, true, false}
+use Rattle.std.specs.Prelude.{Bool, List, None, Option, Some, is_none, is_some, length, ℕ, ◌*◌, ◌/◌, ◌<◌, ◌≡◌, ◌≤◌}
+use Rattle.std.specs.Prelude.{true, false}
 use Rattle.blockdev.specs.Splice.{part}
 use Rattle.imagerules.specs.Places.{place_of_bytes}
 use Rattle.tree.specs.declared.place.Found.{Found}

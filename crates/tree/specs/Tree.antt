@@ -1,5 +1,6 @@
 -- A file system in use, as callers see it.
-use Rattle.std.specs.Prelude.{Bool, Err, IfErr, IfOk, IsErrOf, List, Ok, OnErr, OnOk, Result, false, length, replicate, true, ℕ, ◌≡◌, ◌≢◌, ◌≤◌}
+use Rattle.std.specs.Prelude.{Bool, Err, IfErr, IfOk, IsErrOf, List, Ok, OnErr, OnOk, Result, false, length, replicate}
+use Rattle.std.specs.Prelude.{true, ℕ, ◌≡◌, ◌≢◌, ◌≤◌}
 use Rattle.blockdev.specs.declared.DeviceFault.{DeviceFault}
 use Rattle.inode.specs.Store.{Store}
 use Rattle.tree.specs.declared.tree.Tree.TheInside.{Inside}
@@ -46,8 +47,8 @@ pub record IsInside {D : Type 0} (t : Inside D) : Type 0 where
   pub count : length t.holds.items ≡ t.volume.geometry.inodes
   pub held : t.volume.failed ≡ false → IsFileSystem t.volume
 
--- what a call on a file system answers: what is told holds, and no access has failed; an error is told only where the device
--- counts one. The device is the same
+-- what a call on a file system answers: what is told holds, and no access has failed; an error is told only where the
+-- device counts one. The device is the same
 pub record Serves {T : Type 0} (old new : FileTree) (result : Result T DeviceFault) (Told : T → Type 0) : Type 0 where
   pub told : IfOk result Told
   pub up : OnOk result (new.failed ≡ false)
@@ -80,7 +81,8 @@ pub record IsRefusal (old new : FileTree) (Refused Why : Type 0) : Type 0 where
   pub same : new.files ≡ old.files
 
 -- what a call that changes names answers
-pub record Acts {T : Type 0} (old new : FileTree) (result : Result T TreeFault) (Done : T → Type 0) (Refused : Type 0) (Why : TreeFault → Type 0) : Type 0 where
+pub record Acts {T : Type 0} (old new : FileTree) (result : Result T TreeFault) (Done : T → Type 0) (Refused : Type 0)
+    (Why : TreeFault → Type 0) : Type 0 where
   pub done : IfOk result Done
   pub refused : IfErr result (λ fault. fault ≢ Device → IsRefusal old new Refused (Why fault))
   pub failed : new.failed ≡ has_failed result

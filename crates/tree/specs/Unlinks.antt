@@ -1,5 +1,6 @@
 -- What comes of the files where a name goes, and what is answered.
-use Rattle.std.specs.Prelude.{IsSome, List, None, Option, Some, ⊤, false, option_and_then, option_map, suc, true, ℕ, ◌≡◌, ◌≢◌}
+use Rattle.std.specs.Prelude.{IsSome, List, None, Option, Some, ⊤, false, option_and_then, option_map, suc, true, ℕ}
+use Rattle.std.specs.Prelude.{◌≡◌, ◌≢◌}
 use Rattle.tree.specs.declared.TreeFault.{TreeFault}
 use Rattle.tree.specs.declared.TreeFault.TheVariants.{DotName, Device, NotEmpty, NotFound}
 use Rattle.tree.specs.Holding.{let_go}
@@ -41,4 +42,5 @@ LacksName files at _ = ⊥
 -- the files without a name, and without its node where nothing keeps that any more
 unfoldable pub unlinked_in : List ℕ → Files → ℕ → List ℕ → Option Files
 unlinked_in holds files d path =
-    option_and_then (λ at. option_and_then (λ n. option_map (λ less. let_go holds less n) (unlinked files at)) (lookup files at.directory at.name)) (spot_of files d path)
+    option_and_then (λ at. option_and_then (λ n. option_map (λ less. let_go holds less n) (unlinked files at))
+        (lookup files at.directory at.name)) (spot_of files d path)

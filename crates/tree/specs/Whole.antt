@@ -5,7 +5,8 @@ use Rattle.tree.specs.Tree.{FileTree}
 use Rattle.unixmodel.specs.Counts.{blocks_of}
 use Rattle.unixmodel.specs.Files.{Node, longest, size_of, slot}
 
--- number 0 is none of them, there are blocks for them, the places of a directory have 16 bytes each, and each can be held
+-- number 0 is none of them, there are blocks for them, the places of a directory have 16 bytes each, and each can be
+-- held
 pub record IsWhole (t : FileTree) : Type 0 where
   pub zero : slot t.files 0 ≡ None
   pub within : blocks_of t.files ≤ t.block_limit

@@ -1,5 +1,6 @@
 -- What a write makes of a file: as many of its bytes go as there are blocks for.
-use Rattle.std.specs.Prelude.{List, None, Option, Some, if◌then◌else◌, length, nat_le, option_map, take, ℕ, ◌&&◌, ◌+◌, ◌≡◌}
+use Rattle.std.specs.Prelude.{List, None, Option, Some, if◌then◌else◌, length, nat_le, option_map, take, ℕ, ◌&&◌, ◌+◌}
+use Rattle.std.specs.Prelude.{◌≡◌}
 use Rattle.unixmodel.specs.Counts.{blocks_of}
 use Rattle.unixmodel.specs.FileCalls.{greatest, with_file}
 use Rattle.unixmodel.specs.Files.{Files, Node, longest, slot}
@@ -19,17 +20,20 @@ pub record Written : Type 0 where
 
 -- how many of the bytes there are blocks for
 unfoldable pub fitting : ℕ → Files → ℕ → ℕ → ℕ → List ℕ → List ℕ → ℕ
-fitting limit files n at links old new = greatest (λ k. nat_le (blocks_of (with_file files n links (overwrite old at (take k new)))) limit) (length new)
+fitting limit files n at links old new =
+    greatest (λ k. nat_le (blocks_of (with_file files n links (overwrite old at (take k new)))) limit) (length new)
 
 -- the file with so many of them
 abbrev pub with_bytes : Files → ℕ → ℕ → ℕ → List ℕ → List ℕ → ℕ → Written
-with_bytes files n at links old new fit = record { files = with_file files n links (overwrite old at (take fit new)); count = fit }
+with_bytes files n at links old new fit =
+    record { files = with_file files n links (overwrite old at (take fit new)); count = fit }
 
 -- a write doesn't begin past the end of a file, nor make it too long
 abbrev pub write_to : ℕ → Files → ℕ → ℕ → List ℕ → Option Node → Option Written
 write_to limit files n at new None = None
 write_to limit files n at new (Some (File links old)) =
-    if nat_le at (length old) && nat_le (at + length new) longest then Some (with_bytes files n at links old new (fitting limit files n at links old new)) else None
+    if nat_le at (length old) && nat_le (at + length new) longest
+        then Some (with_bytes files n at links old new (fitting limit files n at links old new)) else None
 write_to limit files n at new (Some (Device links major minor)) = None
 write_to limit files n at new (Some (Directory links places)) = None
 

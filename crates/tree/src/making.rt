@@ -47,9 +47,9 @@ impl Leaf {
 }
 
 impl<D: BlockDev> Tree<D> {
-    /// Makes a file or a device with the lowest free number, which it tells, and a name for it. Beside what has no spot, it is
-    /// refused by `Exists` where the name is there, `Full` where its directory has no room, `Blocks` where the disk has none,
-    /// and `Inodes` where no number is free.
+    /// Makes a file or a device with the lowest free number, which it tells, and a name for it. Beside what has no
+    /// spot, it is refused by `Exists` where the name is there, `Full` where its directory has no room, `Blocks` where
+    /// the disk has none, and `Inodes` where no number is free.
     pub fn create(&mut self, directory: usize, path: &[u8], leaf: Leaf) -> Result<usize, TreeFault>
         requires up { self.old.failed ≡ false }
         requires rules { KeepsTree self.old.files }
@@ -65,8 +65,8 @@ impl<D: BlockDev> Tree<D> {
         Ok(number)
     }
 
-    /// Gives a file or a device another name. `NotFound` comes where the old path reaches nothing, `IsDir` where it reaches a
-    /// directory, `Links` where the node has 32767 links already, and else what is in the way of a new name.
+    /// Gives a file or a device another name. `NotFound` comes where the old path reaches nothing, `IsDir` where it
+    /// reaches a directory, `Links` where the node has 32767 links already, and else what is in the way of a new name.
     pub fn link(&mut self, directory: usize, old: &[u8], new: &[u8]) -> Result<(), TreeFault>
         requires up { self.old.failed ≡ false }
         requires rules { KeepsTree self.old.files }
@@ -90,10 +90,10 @@ impl<D: BlockDev> Tree<D> {
         Ok(())
     }
 
-    /// Makes a directory with the lowest free number, and a name for it: the one above has a link more. Beside what has no
-    /// spot, it is refused by `Exists` where the name is there, `Full` where the directory above has no room, `Links` where
-    /// that has 32767 links already, `Blocks` where the disk has no room for the name and a block, and `Inodes` where no
-    /// number is free.
+    /// Makes a directory with the lowest free number, and a name for it: the one above has a link more. Beside what has
+    /// no spot, it is refused by `Exists` where the name is there, `Full` where the directory above has no room,
+    /// `Links` where that has 32767 links already, `Blocks` where the disk has no room for the name and a block, and
+    /// `Inodes` where no number is free.
     pub fn create_directory(&mut self, directory: usize, path: &[u8]) -> Result<(), TreeFault>
         requires up { self.old.failed ≡ false }
         requires rules { KeepsTree self.old.files }

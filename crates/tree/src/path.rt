@@ -1,6 +1,7 @@
 //! Paths: their names, and what they reach.
 
-ghost use Rattle.std.specs.Prelude.{◌≡◌, ◌<◌, IfNone, IfSome, IsSome, None, Some, [], ◌∷◌, false, length, not, position, ◌==◌};
+ghost use Rattle.std.specs.Prelude.{◌≡◌, ◌<◌, IfNone, IfSome, IsSome, None, Some, [], ◌∷◌, false, length, not};
+ghost use Rattle.std.specs.Prelude.{position, ◌==◌};
 ghost use Rattle.names.specs.Rules.{KeepsTree};
 ghost use Rattle.tree.specs.Steps.{Reads};
 ghost use Rattle.tree.specs.Tree.{Looks};
@@ -87,8 +88,8 @@ impl<D: BlockDev> Tree<D> {
         Ok(Some(number))
     }
 
-    /// The directory in which the last name of a path stands or is to stand, and that name. `NotFound` comes where nothing stands
-    /// above it, `NotDir` where that is no directory, and `DeadDir` where it is one without links.
+    /// The directory in which the last name of a path stands or is to stand, and that name. `NotFound` comes where
+    /// nothing stands above it, `NotDir` where that is no directory, and `DeadDir` where it is one without links.
     pub fn spot<'a>(
         &mut self,
         directory: usize,

@@ -1,6 +1,7 @@
 //! The places of a directory.
 
-ghost use Rattle.std.specs.Prelude.{◌≡◌, IsSome, ℕ, ◌+◌, ◌-◌, ◌*◌, ◌/◌, ◌%◌, ◌<◌, ◌≤◌, ◌==◌, List, false, get_or, length, nat_lt, ◌&&◌};
+ghost use Rattle.std.specs.Prelude.{◌≡◌, IsSome, ℕ, ◌+◌, ◌-◌, ◌*◌, ◌/◌, ◌%◌, ◌<◌, ◌≤◌, ◌==◌, List, false, get_or};
+ghost use Rattle.std.specs.Prelude.{length, nat_lt, ◌&&◌};
 ghost use Rattle.tree.specs.Entering.{room_behind, room_in};
 ghost use Rattle.tree.specs.Names.{is_bare};
 ghost use Rattle.tree.specs.Scanning.{Scans, is_sought};
@@ -113,7 +114,8 @@ impl<D: BlockDev> Tree<D> {
     fn count_places(&mut self, directory: usize) -> Result<usize, DeviceFault>
         requires up { self.old.failed ≡ false }
         requires directory { IsFolder self.old.files directory }
-        ensures { Reads self.old self.new result (λ count. (f : IsFolder self.old.files directory) → count ≡ length f.places) }
+        ensures { Reads self.old self.new result
+                (λ count. (f : IsFolder self.old.files directory) → count ≡ length f.places) }
     {
         let node = self.node(directory)?;
         Ok(node.size as usize / PLACE_SIZE)
@@ -197,12 +199,13 @@ impl<D: BlockDev> Tree<D> {
         Ok(Some(found.number))
     }
 
-    // The place in which a new entry of a directory is to stand: the first free one, or the end. `None` comes where the directory
-    // is full.
+    // The place in which a new entry of a directory is to stand: the first free one, or the end. `None` comes where the
+    // directory is full.
     pub(crate) fn room(&mut self, directory: usize) -> Result<Option<usize>, DeviceFault>
         requires up { self.old.failed ≡ false }
         requires directory { IsFolder self.old.files directory }
-        ensures { Reads self.old self.new result (λ place. (f : IsFolder self.old.files directory) → place ≡ room_in f.places) }
+        ensures { Reads self.old self.new result
+                (λ place. (f : IsFolder self.old.files directory) → place ≡ room_in f.places) }
     {
         self.is_whole();
         let count = self.count_places(directory)?;
@@ -216,7 +219,8 @@ impl<D: BlockDev> Tree<D> {
     pub(crate) fn is_empty(&mut self, directory: usize) -> Result<bool, DeviceFault>
         requires up { self.old.failed ≡ false }
         requires directory { IsFolder self.old.files directory }
-        ensures { Reads self.old self.new result (λ bare. (f : IsFolder self.old.files directory) → bare ≡ is_bare f.places) }
+        ensures { Reads self.old self.new result
+                (λ bare. (f : IsFolder self.old.files directory) → bare ≡ is_bare f.places) }
     {
         self.is_whole();
         let count = self.count_places(directory)?;

@@ -29,7 +29,8 @@ impl<D: BlockDev> Tree<D> {
     pub fn truncate(&mut self, number: usize) -> Result<(), DeviceFault>
         requires up { self.old.failed ≡ false }
         requires node { slot self.old.files number ≢ None }
-        ensures { Serves self.old self.new result (λ done. HasFiles self.old self.new (change_node self.old.files number emptied)) }
+        ensures { Serves self.old self.new result
+                (λ done. HasFiles self.old self.new (change_node self.old.files number emptied)) }
     {
         let node = self.node(number)?;
         if node.kind != FILE {

@@ -24,7 +24,8 @@ impl<D: BlockDev> Tree<D> {
     // What a number names goes with its blocks, if it has no links.
     fn release_unlinked(&mut self, number: usize) -> Result<(), DeviceFault>
         requires up { self.old.failed ≡ false }
-        ensures { Serves self.old self.new result (λ done. HasFiles self.old self.new (let_go [] self.old.files number)) }
+        ensures { Serves self.old self.new result
+                (λ done. HasFiles self.old self.new (let_go [] self.old.files number)) }
     {
         let Some(node) = self.look(number)? else {
             return Ok(());

@@ -1,6 +1,7 @@
 //! A file system in use.
 
-ghost use Rattle.std.specs.Prelude.{◌≡◌, ◌≢◌, ℕ, ◌+◌, ◌-◌, ◌<◌, ◌≤◌, List, Option, Some, None, IfOk, OnOk, false, length, nat_le, replicate, slice_set};
+ghost use Rattle.std.specs.Prelude.{◌≡◌, ◌≢◌, ℕ, ◌+◌, ◌-◌, ◌<◌, ◌≤◌, List, Option, Some, None, IfOk, OnOk, false};
+ghost use Rattle.std.specs.Prelude.{length, nat_le, replicate, slice_set};
 ghost use Rattle.inode.specs.Store.{Store};
 ghost use Rattle.tree.specs.Stored.{IsFileSystem, IsStored};
 ghost use Rattle.tree.specs.Holding.{holders, with_hold, without_hold};
@@ -72,8 +73,8 @@ impl<D: BlockDev> Tree<D> {
         let _holds = self.holds.len();
     }
 
-    /// Gives up the files for their device, which gets what it lacks first. Where an access fails it isn't told what the device
-    /// has.
+    /// Gives up the files for their device, which gets what it lacks first. Where an access fails it isn't told what
+    /// the device has.
     pub fn into_device(self) -> (D, Result<(), DeviceFault>)
         requires up { self.failed ≡ false }
         ensures stored { OnOk result.1 (IsStored self.size (D.content result.0) self.files) }
@@ -102,7 +103,8 @@ impl<D: BlockDev> Tree<D> {
         out: &mut [u8],
     ) -> Result<usize, DeviceFault>
         requires up { self.old.failed ≡ false }
-        ensures { Looks self.old self.new result (IsPart (bytes_or_none (slot self.old.files number)) at out.old out.new) }
+        ensures { Looks self.old self.new result
+                (IsPart (bytes_or_none (slot self.old.files number)) at out.old out.new) }
     {
         if self.look(number)?.is_none() {
             return Ok(0);
@@ -110,8 +112,9 @@ impl<D: BlockDev> Tree<D> {
         self.read(number, at, out)
     }
 
-    /// Writes bytes into a file from the place `at` on, as many as there are blocks for, and tells how many. `None` comes
-    /// where the place lies past the file's end or the file would be longer than `layout::LONGEST`; nothing is written then.
+    /// Writes bytes into a file from the place `at` on, as many as there are blocks for, and tells how many. `None`
+    /// comes where the place lies past the file's end or the file would be longer than `layout::LONGEST`; nothing is
+    /// written then.
     pub fn write(
         &mut self,
         number: usize,
@@ -143,12 +146,14 @@ impl<D: BlockDev> Tree<D> {
     pub fn stat(&mut self, number: usize) -> Result<InodeStat, DeviceFault>
         requires up { self.old.failed ≡ false }
         requires node { (node : Node) × (slot self.old.files number ≡ Some node) }
-        ensures { Looks self.old self.new result (λ s. (node : Node) → slot self.old.files number ≡ Some node → Tells s node) }
+        ensures { Looks self.old self.new result
+                (λ s. (node : Node) → slot self.old.files number ≡ Some node → Tells s node) }
     {
         self.node(number)
     }
 
-    /// One open file or working directory more holds a node: it stays until that lets go, also where its last name goes.
+    /// One open file or working directory more holds a node: it stays until that lets go, also where its last name
+    /// goes.
     pub fn hold(&mut self, number: usize)
         requires up { self.old.failed ≡ false }
         requires node { slot self.old.files number ≢ None }
@@ -164,7 +169,8 @@ impl<D: BlockDev> Tree<D> {
     pub(crate) fn node(&mut self, number: usize) -> Result<InodeStat, DeviceFault>
         requires up { self.old.failed ≡ false }
         requires node { (node : Node) × (slot self.old.files number ≡ Some node) }
-        ensures { Reads self.old self.new result (λ s. (node : Node) → slot self.old.files number ≡ Some node → Tells s node) }
+        ensures { Reads self.old self.new result
+                (λ s. (node : Node) → slot self.old.files number ≡ Some node → Tells s node) }
     {
         self.volume.stat(number)
     }
@@ -186,7 +192,8 @@ impl<D: BlockDev> Tree<D> {
     /// Whether there are so many blocks beside those that the files take.
     pub fn has_blocks(&mut self, wanted: usize) -> Result<bool, DeviceFault>
         requires up { self.old.failed ≡ false }
-        ensures { Reads self.old self.new result (λ enough. enough ≡ nat_le (blocks_of self.old.files + wanted) self.old.block_limit) }
+        ensures { Reads self.old self.new result
+                (λ enough. enough ≡ nat_le (blocks_of self.old.files + wanted) self.old.block_limit) }
     {
         self.volume.has_blocks(wanted)
     }

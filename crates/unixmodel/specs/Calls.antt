@@ -2,7 +2,9 @@
 -- From xv6. A picked process that waits goes on by the same row from its pending call.
 use Rattle.std.specs.Prelude.{List, None, Option, Some, [], if◌then◌else◌, negsuc, slice_get, suc, zero, ℕ, ℤ, ◌∷◌}
 use Rattle.unixmodel.specs.declared.call.Call.{Call}
-use Rattle.unixmodel.specs.declared.call.Call.TheVariants.{Chdir, Close, Dup, Exec, Exit, Fork, Fstat, Getpid, Kill, Link, Mkdir, Mknod, Open, Pipe, Read, Sbrk, Sleep, Unlink, Uptime, Wait, Write}
+use Rattle.unixmodel.specs.declared.call.Call.TheVariants.{Chdir, Close, Dup, Exec, Exit, Fork, Fstat, Getpid, Kill}
+use Rattle.unixmodel.specs.declared.call.Call.TheVariants.{Link, Mkdir, Mknod, Open, Pipe, Read, Sbrk, Sleep, Unlink}
+use Rattle.unixmodel.specs.declared.call.Call.TheVariants.{Uptime, Wait, Write}
 use Rattle.unixmodel.specs.declared.process.Mode.TheVariants.{Running, Waiting}
 use Rattle.unixmodel.specs.declared.process.Pending.{Pending}
 use Rattle.unixmodel.specs.FileCalls.{close_row, dup_row, fstat_row, pipe_row, read_on, read_row, write_on, write_row}
@@ -11,7 +13,8 @@ use Rattle.unixmodel.specs.Numbers.{low, number, plus}
 use Rattle.unixmodel.specs.Outcome.{Outcome, end_process, limited, minus_one}
 use Rattle.unixmodel.specs.Outcome.Outcome.{Done, Ends, Refused, Waits}
 use Rattle.unixmodel.specs.Process.{Process, arg, with_answer, with_mode}
-use Rattle.unixmodel.specs.ProcessCalls.{exec_row, exit_row, fork_row, getpid_row, kill_row, sbrk_row, sleep_on, sleep_row, uptime_row, wait_on, wait_row}
+use Rattle.unixmodel.specs.ProcessCalls.{exec_row, exit_row, fork_row, getpid_row, kill_row, sbrk_row, sleep_on}
+use Rattle.unixmodel.specs.ProcessCalls.{sleep_row, uptime_row, wait_on, wait_row}
 use Rattle.unixmodel.specs.Reap.{reap}
 use Rattle.unixmodel.specs.State.{State, change_process, process_at, put_process}
 

@@ -1,9 +1,11 @@
 -- What a manifest makes: the files of an image, numbered in the manifest's order, or what is wrong with it.
 -- From this project's profile; the numbers of an image are those of xv6's file system layout.
-use Rattle.std.specs.Prelude.{Bool, Err, List, None, Ok, Option, Result, Some, [], if◌then◌else◌, is_some, nat_le, nat_lt, not, option_map, true, unwrap_or, ℕ, ◌&&◌, ◌++◌, ◌+◌, ◌-◌, ◌==◌, ◌∷◌}
+use Rattle.std.specs.Prelude.{Bool, Err, List, None, Ok, Option, Result, Some, [], if◌then◌else◌, is_some, nat_le}
+use Rattle.std.specs.Prelude.{nat_lt, not, option_map, true, unwrap_or, ℕ, ◌&&◌, ◌++◌, ◌+◌, ◌-◌, ◌==◌, ◌∷◌}
 use Rattle.std.specs.List.{list_all}
 use Rattle.unixmodel.specs.Counts.{blocks_of}
-use Rattle.unixmodel.specs.Files.{Entry, Files, Node, change_node, dot, dot_dot, follow, free_slots, links_of, longest, lookup, pieces, put, size_of, slot, split_last, with_links}
+use Rattle.unixmodel.specs.Files.{Entry, Files, Node, change_node, dot, dot_dot, follow, free_slots, links_of, longest}
+use Rattle.unixmodel.specs.Files.{lookup, pieces, put, size_of, slot, split_last, with_links}
 use Rattle.unixmodel.specs.Files.Node.{Device, Directory, File}
 use Rattle.unixmodel.specs.Formats.{format}
 use Rattle.unixmodel.specs.Image.{data_start, is_directory_at, is_name}
@@ -39,7 +41,8 @@ data_blocks_of size inodes = size - data_start size inodes
 
 abbrev pub has_numbers : ℕ → ℕ → Bool
 has_numbers size inodes =
-    nat_le 32 size && nat_le size format.most && nat_le 16 inodes && nat_le inodes 8192 && nat_lt (data_start size inodes) size
+    nat_le 32 size && nat_le size format.most && nat_le 16 inodes && nat_le inodes 8192
+        && nat_lt (data_start size inodes) size
 
 -- ---- an entry
 
@@ -50,7 +53,8 @@ names_in (b ∷ rest) = if b == 0x2f && list_all is_name (pieces rest) then Some
 
 -- a directory without names, of number n in directory d
 abbrev pub bare_directory : ℕ → ℕ → Node
-bare_directory n d = Directory 1 (Some (record { name = dot; number = n }) ∷ Some (record { name = dot_dot; number = d }) ∷ [])
+bare_directory n d = Directory 1
+    (Some (record { name = dot; number = n }) ∷ Some (record { name = dot_dot; number = d }) ∷ [])
 
 abbrev pub node_for : ℕ → ℕ → Thing → Node
 node_for n d Folder = bare_directory n d
@@ -72,14 +76,16 @@ linked (Special major minor) node = node
 -- the files with number n, which has this name in directory d
 unfoldable pub added : Files → ℕ → List ℕ → ℕ → Thing → Files
 added files d name n thing =
-    put (change_node files d (λ node. linked thing (appended (record { name = name; number = n }) node))) n (node_for n d thing)
+    put (change_node files d (λ node. linked thing (appended (record { name = name; number = n }) node))) n
+        (node_for n d thing)
 
 abbrev pub is_short : Files → ℕ → Bool
 is_short files n = unwrap_or (option_map (λ (node : Node). nat_le (size_of node) longest) (slot files n)) true
 
 -- no node is too long, and the blocks suffice
 abbrev pub if_room : ℕ → ℕ → ℕ → Files → Result Files Wrong
-if_room blocks d n files = if is_short files n && is_short files d && nat_le (blocks_of files) blocks then Ok files else Err Blocks
+if_room blocks d n files =
+    if is_short files n && is_short files d && nat_le (blocks_of files) blocks then Ok files else Err Blocks
 
 abbrev pub with_name : ℕ → ℕ → Files → ℕ → Thing → List ℕ → Option ℕ → Result Files Wrong
 with_name blocks inodes files n thing name None = Err Parent
@@ -91,7 +97,8 @@ with_name blocks inodes files n thing name (Some d) =
 
 abbrev pub with_split : ℕ → ℕ → Files → ℕ → Thing → Option (List (List ℕ) × List ℕ) → Result Files Wrong
 with_split blocks inodes files n thing None = Err Name
-with_split blocks inodes files n thing (Some split) = with_name blocks inodes files n thing split.1 (follow files 1 split.0)
+with_split blocks inodes files n thing (Some split) =
+    with_name blocks inodes files n thing split.1 (follow files 1 split.0)
 
 abbrev pub with_names : ℕ → ℕ → Files → ℕ → Thing → Option (List (List ℕ)) → Result Files Wrong
 with_names blocks inodes files n thing None = Err Name
@@ -118,4 +125,5 @@ bare_files inodes = put (free_slots inodes) 1 (bare_directory 1 1)
 
 unfoldable pub files_made : List ManifestEntry → ℕ → ℕ → Result Files Wrong
 files_made entries size inodes =
-    if has_numbers size inodes then with_entries (data_blocks_of size inodes) inodes (bare_files inodes) 2 entries else Err Numbers
+    if has_numbers size inodes then with_entries (data_blocks_of size inodes) inodes (bare_files inodes) 2 entries
+        else Err Numbers

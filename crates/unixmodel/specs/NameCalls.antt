@@ -1,8 +1,11 @@
--- The calls on names: what each makes of the files, from the spot of a name on, and their rows in the table of calls: open,
--- mknod, mkdir, link, unlink, chdir. From xv6; every refusal changes nothing.
-use Rattle.std.specs.Prelude.{Bool, List, None, Option, Some, [], drop, if◌then◌else◌, is_none, length, nat_le, nat_lt, not, option_and_then, option_map, true, ℕ, ◌%◌, ◌&&◌, ◌+◌, ◌-◌, ◌==◌, ◌^◌, ◌||◌, ◌∷◌}
+-- The calls on names: what each makes of the files, from the spot of a name on, and their rows in the table of calls:
+-- open, mknod, mkdir, link, unlink, chdir. From xv6; every refusal changes nothing.
+use Rattle.std.specs.Prelude.{Bool, List, None, Option, Some, [], drop, if◌then◌else◌, is_none, length, nat_le, nat_lt}
+use Rattle.std.specs.Prelude.{not, option_and_then, option_map, true, ℕ, ◌%◌, ◌&&◌, ◌+◌, ◌-◌, ◌==◌, ◌^◌, ◌||◌, ◌∷◌}
 use Rattle.unixmodel.specs.FileCalls.{with_descriptor}
-use Rattle.unixmodel.specs.Files.{Files, Node, Spot, change_node, dot, dot_dot, enter, erase, find, free_number, free_slot, is_directory, is_dot_name, links_of, lookup, most_links, place_of, put, slot, spot_of, taken, with_links}
+use Rattle.unixmodel.specs.Files.{Files, Node, Spot, change_node, dot, dot_dot, enter, erase, find, free_number}
+use Rattle.unixmodel.specs.Files.{free_slot, is_directory, is_dot_name, links_of, lookup, most_links, place_of, put}
+use Rattle.unixmodel.specs.Files.{slot, spot_of, taken, with_links}
 use Rattle.unixmodel.specs.Files.Node.{Device, Directory, File}
 use Rattle.unixmodel.specs.Memory.{path_at}
 use Rattle.unixmodel.specs.Numbers.{has_bit, low}
@@ -34,7 +37,8 @@ pub record Made : Type 0 where
 -- a node with the lowest free number, and a name for it; the node may hold its number
 unfoldable pub make_at : Files → Spot → (ℕ → Node) → Option Made
 make_at files at node =
-    option_and_then (λ n. option_map (λ (new : Files). record { files = new; number = n }) (enter (put files n (node n)) at n))
+    option_and_then (λ n. option_map (λ (new : Files). record { files = new; number = n })
+        (enter (put files n (node n)) at n))
     (free_number files)
 
 -- a file or a device, where the name is free
@@ -56,7 +60,8 @@ abbrev pub made_below : Files → Spot → Option Node → Option Files
 made_below files at None = None
 made_below files at (Some parent) =
     if is_free_name files at && has_room_for_link parent
-    then option_map (λ (made : Made). change_node made.files at.directory more_links) (make_at files at (new_directory at.directory))
+    then option_map (λ (made : Made). change_node made.files at.directory more_links)
+        (make_at files at (new_directory at.directory))
     else None
 
 unfoldable pub made_directory : Files → Spot → Option Files
@@ -67,7 +72,8 @@ made_directory files at = made_below files at (slot files at.directory)
 abbrev pub linked_node : Files → Spot → ℕ → Option Node → Option Files
 linked_node files at n None = None
 linked_node files at n (Some node) =
-    if not (is_directory node) && has_room_for_link node && is_free_name files at then enter (change_node files n more_links) at n else None
+    if not (is_directory node) && has_room_for_link node
+        && is_free_name files at then enter (change_node files n more_links) at n else None
 
 unfoldable pub linked : Files → Spot → ℕ → Option Files
 linked files at n = linked_node files at n (slot files n)
@@ -91,7 +97,8 @@ removed_node files d k n (Some node) = if may_remove node then Some (without_nam
 unfoldable pub unlinked : Files → Spot → Option Files
 unlinked files at =
     if is_dot_name at.name then None
-    else option_and_then (λ k. option_and_then (λ n. removed_node files at.directory k n (slot files n)) (lookup files at.directory at.name))
+    else option_and_then (λ k. option_and_then (λ n. removed_node files at.directory k n (slot files n))
+        (lookup files at.directory at.name))
     (place_of files at.directory at.name)
 
 -- ---- the rows; process p in place i makes the call, and its pc has moved already

@@ -6,7 +6,9 @@ use Rattle.unixmodel.specs.declared.event.Event.TheVariants.{Key, Step, Tick}
 use Rattle.unixmodel.specs.declared.process.Mode.{Mode}
 use Rattle.unixmodel.specs.declared.process.Mode.TheVariants.{Ready, Running, Waiting, Zombie}
 use Rattle.unixmodel.specs.declared.trap.Cause.{Cause}
-use Rattle.unixmodel.specs.declared.trap.Cause.TheVariants.{Breakpoint, EnvironmentCall, IllegalInstruction, InstructionMisaligned, InstructionPageFault, LoadMisaligned, LoadPageFault, StoreMisaligned, StorePageFault}
+use Rattle.unixmodel.specs.declared.trap.Cause.TheVariants.{Breakpoint, EnvironmentCall, IllegalInstruction}
+use Rattle.unixmodel.specs.declared.trap.Cause.TheVariants.{InstructionMisaligned, InstructionPageFault, LoadMisaligned}
+use Rattle.unixmodel.specs.declared.trap.Cause.TheVariants.{LoadPageFault, StoreMisaligned, StorePageFault}
 use Rattle.unixmodel.specs.Calls.{After, call, quiet, resume}
 use Rattle.unixmodel.specs.Console.{Keyed, key}
 use Rattle.unixmodel.specs.Cycle.{cycle}

@@ -1,17 +1,19 @@
-//! Sessions at a shell: the programs of `data/` are assembled and put on images, machines boot from these, and what is typed
-//! at their consoles shows what each program does.
+//! Sessions at a shell: the programs of `data/` are assembled and put on images, machines boot from these, and what is
+//! typed at their consoles shows what each program does.
 //!
-//! Standard input has sessions, with an empty line between two. The first line of one is its title, the second `boot IMAGE
-//! FRAMES`, and the others are a script as `xv6 flat` takes it. Images are `xv6.img` and `small.img`; `tests.img`, which has the
-//! compiled program `selftest`; `migrated.img`, which was made of an image of the small format with the files of `xv6.img`; and
+//! Standard input has sessions, with an empty line between two. The first line of one is its title, the second `boot
+//! IMAGE FRAMES`, and the others are a script as `xv6 flat` takes it. Images are `xv6.img` and `small.img`;
+//! `tests.img`, which has the compiled program `selftest`; `migrated.img`, which was made of an image of the small
+//! format with the files of `xv6.img`; and
 //! `left.img`, which the session before left. Of each
-//! session the title is printed, the console's bytes with a line end behind them, and a line that says how it ended, how many
-//! frames were free then, and what the image that it leaves uses.
+//! session the title is printed, the console's bytes with a line end behind them, and a line that says how it ended,
+//! how many frames were free then, and what the image that it leaves uses.
 //!
-//! Each is played on six machines, which have to show and to leave the same: over each of five translators, and on a disk beside
-//! a cache without memory.
+//! Each is played on six machines, which have to show and to leave the same: over each of five translators, and on a
+//! disk beside a cache without memory.
 //!
-//! Where `fail` stands for `boot`, the session is played again and again, each time with another access of its disk that fails.
+//! Where `fail` stands for `boot`, the session is played again and again, each time with another access of its disk
+//! that fails.
 #![tactic(auto)]
 
 mod desk;
@@ -61,7 +63,8 @@ fn assemble<R: Files + AllocGlobal>(
     desk.assemble(text.as_str(), name)
 }
 
-// Assembles the programs, and makes the images: one as `make image` does, one with little room, and one for the compiled program.
+// Assembles the programs, and makes the images: one as `make image` does, one with little room, and one for the
+// compiled program.
 fn prepare<R: Files + AllocGlobal>(alloc: Global, desk: &mut Desk<'_, R>) -> anyhow::Result<()> {
     for name in &PROGRAMS {
         assemble(alloc, desk, name)?;
@@ -72,8 +75,8 @@ fn prepare<R: Files + AllocGlobal>(alloc: Global, desk: &mut Desk<'_, R>) -> any
     migrate(desk, "xv6.img")
 }
 
-// Makes an image of the small format of one in which no file has more than 11 blocks, as the formats differ in the magic number alone
-// there; and of this one an image of the large format again.
+// Makes an image of the small format of one in which no file has more than 11 blocks, as the formats differ in the
+// magic number alone there; and of this one an image of the large format again.
 fn migrate<R: Files + AllocGlobal>(desk: &mut Desk<'_, R>, image: &str) -> anyhow::Result<()> {
     let mut old = desk.file(image)?;
     if let Some(magic) = old.get_mut(BLOCK_SIZE) {

@@ -170,7 +170,8 @@ impl<'a> Outage<'a> {
         bail!("it never boots")
     }
 
-    // Lets each access behind this one fail, up to where none does. A later access fails no sooner, and each course is reached.
+    // Lets each access behind this one fail, up to where none does. A later access fails no sooner, and each course is
+    // reached.
     fn fail_behind(&self, alloc: Global, booting: NonZeroU64) -> anyhow::Result<()> {
         let mut reached = Course::Boot as u8;
         for more in 1..ACCESSES {
@@ -188,9 +189,9 @@ impl<'a> Outage<'a> {
     }
 }
 
-/// Plays a session once for each access at which its disk may fail, of those that a boot makes for some, and prints its title. The
-/// machine doesn't boot, or halts, or can't be saved, and tells that its device failed; its console has a beginning of what the
-/// whole session prints, up to the end of an event; and it does no more.
+/// Plays a session once for each access at which its disk may fail, of those that a boot makes for some, and prints its
+/// title. The machine doesn't boot, or halts, or can't be saved, and tells that its device failed; its console has a
+/// beginning of what the whole session prints, up to the end of an event; and it does no more.
 pub fn fail_each<W: Write>(
     alloc: Global,
     session: &Session<'_>,

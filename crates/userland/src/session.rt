@@ -26,7 +26,8 @@ pub struct Session<'a> {
 }
 
 impl<'a> Session<'a> {
-    /// The session that a paragraph asks for: its title, a line `WORD IMAGE FRAMES`, and its script. `None`: the word is another.
+    /// The session that a paragraph asks for: its title, a line `WORD IMAGE FRAMES`, and its script. `None`: the word
+    /// is another.
     pub fn read(paragraph: &'a str, word: &str) -> Option<Session<'a>> {
         let (title, rest) = paragraph.split_once('\n')?;
         let (place, script) = rest.split_once('\n')?;
@@ -142,7 +143,8 @@ fn play_booted<D: BlockDev, T: Translate>(
     Ok((shown, disk))
 }
 
-/// Boots a machine from a disk, does what the script says, and saves the machine: what it shows, and the disk that it leaves.
+/// Boots a machine from a disk, does what the script says, and saves the machine: what it shows, and the disk that it
+/// leaves.
 pub fn play_on<D: BlockDev, T: Translate>(
     alloc: Global,
     session: &Session<'_>,

@@ -13,8 +13,8 @@ use std::alloc::Global;
 /// As much memory as a cache without blocks takes, and too little for one block.
 pub const TOO_LITTLE: usize = 4096;
 
-/// A disk, and beside it a cache of another that began with the same bytes. What is read or written on the one is read or written
-/// through the other too, and has to be the same.
+/// A disk, and beside it a cache of another that began with the same bytes. What is read or written on the one is read
+/// or written through the other too, and has to be the same.
 #[derive(Drop)]
 pub struct Starved<'a> {
     disk: MemDisk,

@@ -1,12 +1,22 @@
 -- A page comes to a space: its frame is one that the space is counted to hold already, a new one or a shared one.
-use Rattle.vm.proofs.Common.{Ram, [], add-one, Adds, among, among_first, ap, arith, cases_eq, count-cases, count_of, count_of-append, count_of-first, count_of-other, distinct-count, false, frame_at, frame_of, Frames, frames_below}
-use Rattle.vm.proofs.Common.{frames_for, free-holders, free_count, free_of, further-free, further-same, further_at, held, held-inside, holders-free, holders-table, holders_of, inl, inr, is_open, IsDense, IsFreeList, List, lookup_of}
-use Rattle.vm.proofs.Common.{marks_at, missing, nat_eq, one_if, OwnsFrames, page_at, page_with, pages_below, refl, SameLeavesUpTo, suc, tables_below, tables_for, Trades, Trades-lengths, Trades-twice, true, ℕ, ◌++◌, ◌+◌, ◌<◌, ◌∙◌, ◌∷◌, ◌≡◌}
-use Rattle.vm.proofs.Common.{◌≢◌, ◌≤◌, among-none, extra_of, IsPaged, IsTidy, Keeps, length, lookup-sound, Option, option_map, Removes, SameBut, Some, sym, Trades-give, trap_page, unwrap_or, among_first_not, eqb, free-first}
-use Rattle.vm.proofs.Common.{free_count-taken, get_or-set_other, HasTable, IsEmpty, IsEmpty-tables, IsNode, length-set, lookup_of-same, low_node, made-is, mid_is_node, mid_node, missing-is, Node, None, none-among, only-root, replicate}
-use Rattle.vm.proofs.Common.{Root, root_at, slice_set, table_at, table_at-same, table_of, trap_marks}
-use Rattle.vm.proofs.DenseLemmas.{list-after, Besides, Trades-held, Trades-with, alone-set, beyond-held, count-held, dense-set, frame_at-is, held-same, IsNext, IsTaken, length-held, made-tables, marks_at-is, missing-next, page-held}
-use Rattle.vm.proofs.DenseLemmas.{pages_below-more, pages_below-same, read_below-same, table-held, frame_at-same, held-not_free, lookup-parts, marks_at-same, cases_root, paged-same}
+use Rattle.vm.proofs.Common.{Ram, [], add-one, Adds, among, among_first, ap, arith, cases_eq, count-cases, count_of}
+use Rattle.vm.proofs.Common.{count_of-append, count_of-first, count_of-other, distinct-count, false, frame_at, frame_of}
+use Rattle.vm.proofs.Common.{Frames, frames_below, frames_for, free-holders, free_count, free_of, further-free}
+use Rattle.vm.proofs.Common.{further-same, further_at, held, held-inside, holders-free, holders-table, holders_of, inl}
+use Rattle.vm.proofs.Common.{inr, is_open, IsDense, IsFreeList, List, lookup_of, marks_at, missing, nat_eq, one_if}
+use Rattle.vm.proofs.Common.{OwnsFrames, page_at, page_with, pages_below, refl, SameLeavesUpTo, suc, tables_below}
+use Rattle.vm.proofs.Common.{tables_for, Trades, Trades-lengths, Trades-twice, true, ℕ, ◌++◌, ◌+◌, ◌<◌, ◌∙◌, ◌∷◌, ◌≡◌}
+use Rattle.vm.proofs.Common.{◌≢◌, ◌≤◌, among-none, extra_of, IsPaged, IsTidy, Keeps, length, lookup-sound, Option}
+use Rattle.vm.proofs.Common.{option_map, Removes, SameBut, Some, sym, Trades-give, trap_page, unwrap_or}
+use Rattle.vm.proofs.Common.{among_first_not, eqb, free-first, free_count-taken, get_or-set_other, HasTable, IsEmpty}
+use Rattle.vm.proofs.Common.{IsEmpty-tables, IsNode, length-set, lookup_of-same, low_node, made-is, mid_is_node}
+use Rattle.vm.proofs.Common.{mid_node, missing-is, Node, None, none-among, only-root, replicate, Root, root_at}
+use Rattle.vm.proofs.Common.{slice_set, table_at, table_at-same, table_of, trap_marks}
+use Rattle.vm.proofs.DenseLemmas.{list-after, Besides, Trades-held, Trades-with, alone-set, beyond-held, count-held}
+use Rattle.vm.proofs.DenseLemmas.{dense-set, frame_at-is, held-same, IsNext, IsTaken, length-held, made-tables}
+use Rattle.vm.proofs.DenseLemmas.{marks_at-is, missing-next, page-held, pages_below-more, pages_below-same}
+use Rattle.vm.proofs.DenseLemmas.{read_below-same, table-held, frame_at-same, held-not_free, lookup-parts}
+use Rattle.vm.proofs.DenseLemmas.{marks_at-same, cases_root, paged-same}
 
 -- the space before, beside whoever else holds the page's frame
 pub record IsBefore (z : Ram) (r t n f marks : ℕ) (q : Frames) : Type 0 where
@@ -26,7 +36,8 @@ pub record IsAdded (z k : Ram) (r t n f : ℕ) (q w : Frames) : Type 0 where
 
 -- what is held then: the page's frame, and the tables that came
 pub record IsCounted (z k : Ram) (r t n f : ℕ) (q w : Frames) (v : ℕ) : Type 0 where
-  pub held : count_of v (held k r t (suc n)) ≡ count_of v (tables_for k r n) + count_of v (held z r t n) + count_of v (f ∷ [])
+  pub held : count_of v (held k r t (suc n))
+      ≡ count_of v (tables_for k r n) + count_of v (held z r t n) + count_of v (f ∷ [])
   pub free : count_of v (free_of z q) ≡ count_of v (tables_for k r n) + count_of v (free_of k w)
   pub tables : count_of v (tables_below k r (suc n)) ≡ count_of v (tables_for k r n) + count_of v (tables_below z r n)
 
@@ -39,24 +50,34 @@ module _ {z k : Ram} {r t n f : ℕ} {q w : Frames} (e : IsAdded z k r t n f q w
   added-count v =
       let both = added-same in
       let taken : count_of v (free_of z q) ≡ count_of v (tables_for k r n) + count_of v (free_of k w) =
-      ap (count_of v) (e.adds.taken ∙ ap (λ l. l ++ free_of k w) (made-tables e.dense k e.small)) ∙ count_of-append v (tables_for k r n) (free_of k w) in
-      let frames : count_of v (frames_below k r (suc n)) ≡ one_if (nat_eq v f) + count_of v (frames_below z r n) = ap (λ x. one_if (nat_eq v x) + count_of v (frames_below k r n)) e.frame ∙ ap (λ l. one_if (nat_eq v f) + count_of v l) both.1 in
-      let tables : count_of v (tables_below k r (suc n)) ≡ count_of v (tables_for k r n) + count_of v (tables_below z r n) = count_of-append v (tables_for k r n) (tables_below k r n) ∙ ap (λ l. count_of v (tables_for k r n) + count_of v l) both.0 in
+      ap (count_of v) (e.adds.taken ∙ ap (λ l. l ++ free_of k w) (made-tables e.dense k e.small))
+          ∙ count_of-append v (tables_for k r n) (free_of k w) in
+      let frames : count_of v (frames_below k r (suc n)) ≡ one_if (nat_eq v f) + count_of v (frames_below z r n) =
+              ap (λ x. one_if (nat_eq v x) + count_of v (frames_below k r n)) e.frame
+              ∙ ap (λ l. one_if (nat_eq v f) + count_of v l) both.1 in
+      let tables : count_of v (tables_below k r (suc n))
+              ≡ count_of v (tables_for k r n) + count_of v (tables_below z r n) =
+              count_of-append v (tables_for k r n) (tables_below k r n)
+              ∙ ap (λ l. count_of v (tables_for k r n) + count_of v l) both.0 in
       record { held = omega (arith, count-held); free = taken; tables = tables }
 
 -- a frame of the list has no holder and no further one
-free-none : (m : Ram) (s : Frames) (v : ℕ) → IsFreeList m s → 0 < count_of v (free_of m s) → (holders_of m s v ≡ 0) × (further_at s v ≡ 0)
+free-none : (m : Ram) (s : Frames) (v : ℕ) → IsFreeList m s → 0 < count_of v (free_of m s)
+    → (holders_of m s v ≡ 0) × (further_at s v ≡ 0)
 free-none m s v is some = elim (count-cases v (free_of m s)) [
   | inl at ↦ (free-holders is v at, further-free is v at)
   | inr none ↦ absurd (omega arith)
 ]
 
-module _ {z k : Ram} {r t n f marks : ℕ} {q w : Frames} (b : IsBefore z r t n f marks q) (e : IsNext z k r n f marks q w) where
+module _ {z k : Ram} {r t n f marks : ℕ} {q w : Frames} (b : IsBefore z r t n f marks q)
+    (e : IsNext z k r n f marks q w) where
   next-looks : (p : ℕ) → p < suc n → p ≢ n → lookup_of k r p ≡ lookup_of z r p
   next-looks p h ne = e.inserts.others p (omega arith) ne
 
   pub next-count : (v : ℕ) → IsCounted z k r t n f q w v
-  next-count = added-count (record { dense = b.space.dense; small = b.small; frame = frame_at-is k r n e.inserts.changed; looks = λ p h. next-looks p (omega arith) (omega arith); adds = e.adds })
+  next-count = added-count
+      (record { dense = b.space.dense; small = b.small; frame = frame_at-is k r n e.inserts.changed;
+      looks = λ p h. next-looks p (omega arith) (omega arith); adds = e.adds })
 
   next-holders : (v : ℕ) → holders_of k w v + count_of v (free_of k w) ≡ holders_of z q v + count_of v (free_of z q)
   next-holders v = holders-table b.space.free e.paged.free e.keeps.count e.extra v
@@ -66,13 +87,16 @@ module _ {z k : Ram} {r t n f marks : ℕ} {q w : Frames} (b : IsBefore z r t n 
       let is = b.space in
       let further : (v : ℕ) → further_at w v ≡ further_at q v = λ v. further-same q w v e.extra in
       record {
-        dense = dense-set is.dense k (suc n) n f marks e.paged.tree e.tidy (omega arith) (omega arith) e.inserts.changed e.leaf e.inserts.others (omega arith) (λ p h ne. omega arith);
+        dense = dense-set is.dense k (suc n) n f marks e.paged.tree e.tidy (omega arith) (omega arith)
+            e.inserts.changed e.leaf e.inserts.others (omega arith) (λ p h ne. omega arith);
         once = λ v. elim (cases_eq (count_of v (free_of z q)) 0) [
           | inl none ↦ elim (cases_eq v f) [
-            | inl same ↦ omega (arith, next-count v, count_of-first v f [] same, ap (λ x. count_of x (held z r t n)) same)
+            | inl same ↦ omega (arith, next-count v, count_of-first v f [] same,
+                ap (λ x. count_of x (held z r t n)) same)
             | inr other ↦ omega (arith, next-count v, count_of-other v f [] other)
           ]
-          | inr some ↦ omega (arith, next-count v, distinct-count v (free_of z q) is.free.distinct, (free-none z q v is.free (omega arith)).0)
+          | inr some ↦ omega (arith, next-count v, distinct-count v (free_of z q) is.free.distinct,
+              (free-none z q v is.free (omega arith)).0)
         ];
         free = e.paged.free;
         held = λ v. omega (arith, next-count v, next-holders v);
@@ -80,12 +104,14 @@ module _ {z k : Ram} {r t n f marks : ℕ} {q w : Frames} (b : IsBefore z r t n 
           | inl none ↦ omega (arith, further v, is.own v (omega (arith, next-count v)))
           | inr new ↦ omega (arith, further v, (free-none z q v is.free (omega (arith, next-count v))).1)
         ];
-        alone = alone-set z k r n (suc n) n f marks q w (λ v. omega (arith, further v)) e.inserts.changed (λ p h ne. (omega arith, next-looks p h ne)) (λ wide. further f ∙ b.sole wide) is.alone;
+        alone = alone-set z k r n (suc n) n f marks q w (λ v. omega (arith, further v)) e.inserts.changed
+            (λ p h ne. (omega arith, next-looks p h ne)) (λ wide. further f ∙ b.sole wide) is.alone;
       }
 
   -- a frame that has a holder and is no table of the space keeps its bytes
   next-bytes : (v : ℕ) → 0 < holders_of z q v → count_of v (tables_below z r n) ≡ 0 → frame_of k v ≡ frame_of z v
-  next-bytes v some none = e.keeps.others v (λ h. omega (arith, table-held b.space.dense h)) (held-inside z q v b.space.free some).1
+  next-bytes v some none =
+      e.keeps.others v (λ h. omega (arith, table-held b.space.dense h)) (held-inside z q v b.space.free some).1
 
   -- the space trades for the page's frame, which it was counted to hold, and the tables that came
   pub next-trades : Trades z k q w (f ∷ held z r t n) (held k r t (suc n))
@@ -98,12 +124,18 @@ module _ {z k : Ram} {r t n f marks : ℕ} {q w : Frames} (b : IsBefore z r t n 
 
   pub next-pages : pages_below k r (suc n) ≡ pages_below z r n ++ (page_with (frame_of z f) marks ∷ [])
   next-pages =
-      let old : pages_below k r n ≡ pages_below z r n = pages_below-same z k r n (λ p h. next-looks p (omega arith) (omega arith))
-      (λ p h. let g = frame_at z r p in let at = page-held z r n p h in next-bytes g (omega (arith, count-held z r t n g)) (omega (arith, count-held z r t n g))) in
+      let old : pages_below k r n ≡ pages_below z r n =
+              pages_below-same z k r n (λ p h. next-looks p (omega arith) (omega arith))
+      (λ p h. let g = frame_at z r p in let at = page-held z r n p h
+          in next-bytes g (omega (arith, count-held z r t n g)) (omega (arith, count-held z r t n g))) in
       let here : frame_at k r n ≡ f = frame_at-is k r n e.inserts.changed in
-      let bytes : frame_of k f ≡ frame_of z f = next-bytes f (omega (arith, count_of-first f f [] refl)) (omega (arith, count-held z r t n f)) in
-      let page : page_at k r n ≡ page_with (frame_of z f) marks = ap (λ x. page_with x (marks_at k r n)) (ap (frame_of k) here ∙ bytes) ∙ ap (page_with (frame_of z f)) (marks_at-is k r n e.inserts.changed) in
-      pages_below-more k r n ∙ ap (λ x. pages_below k r n ++ (x ∷ [])) page ∙ ap (λ l. l ++ (page_with (frame_of z f) marks ∷ [])) old
+      let bytes : frame_of k f ≡ frame_of z f =
+              next-bytes f (omega (arith, count_of-first f f [] refl)) (omega (arith, count-held z r t n f)) in
+      let page : page_at k r n ≡ page_with (frame_of z f) marks =
+              ap (λ x. page_with x (marks_at k r n)) (ap (frame_of k) here ∙ bytes)
+              ∙ ap (page_with (frame_of z f)) (marks_at-is k r n e.inserts.changed) in
+      pages_below-more k r n ∙ ap (λ x. pages_below k r n ++ (x ∷ [])) page
+          ∙ ap (λ l. l ++ (page_with (frame_of z f) marks ∷ [])) old
 
   pub next-trap : frame_of k t ≡ frame_of z t
   next-trap =
@@ -120,17 +152,23 @@ module _ {m : Ram} {r t n : ℕ} {s : Frames} (is : OwnsFrames m r t n s) where
       omega (arith, missing-next is.dense small)
 
   -- a space stands where a frame that it holds at a closed page alone, or doesn't hold, gets another holder
-  pub share-stands : (f : ℕ) {q : Frames} → IsFreeList m q → ((v : ℕ) → holders_of m q v ≡ holders_of m s v + count_of v (f ∷ [])) → free_of m q ≡ free_of m s → count_of f (tables_below m r n) + count_of f (t ∷ []) ≡ 0
+  pub share-stands : (f : ℕ) {q : Frames} → IsFreeList m q
+      → ((v : ℕ) → holders_of m q v ≡ holders_of m s v + count_of v (f ∷ [])) → free_of m q ≡ free_of m s
+      → count_of f (tables_below m r n) + count_of f (t ∷ []) ≡ 0
       → ((p : ℕ) → p < n → frame_at m r p ≡ f → is_open (marks_at m r p) ≡ false) → OwnsFrames m r t n q
   share-stands f {q} after more list no_table closed =
-      let further : (v : ℕ) → v ≢ f → further_at q v ≡ further_at s v = λ v ne. omega (arith, more v, count_of-other v f [] ne, holders-free is.free v, holders-free after v, ap (count_of v) list) in
+      let further : (v : ℕ) → v ≢ f
+              → further_at q v ≡ further_at s v =
+              λ v ne. omega (arith, more v, count_of-other v f [] ne, holders-free is.free v, holders-free after v,
+              ap (count_of v) list) in
       record {
         dense = is.dense;
         once = is.once;
         free = after;
         held = λ v. omega (arith, more v);
         own = λ v some. elim (cases_eq v f) [
-          | inl same ↦ absurd (omega (arith, ap (λ x. count_of x (tables_below m r n)) same, ap (λ x. count_of x (t ∷ [])) same))
+          | inl same ↦ absurd (omega
+              (arith, ap (λ x. count_of x (tables_below m r n)) same, ap (λ x. count_of x (t ∷ [])) same))
           | inr ne ↦ further v ne ∙ is.own v some
         ];
         alone = λ p h wide. elim (cases_eq (frame_at m r p) f) [
@@ -155,9 +193,11 @@ module _ {m z : Ram} {s q : Frames} {f : ℕ} (is : IsFreeList m s) (took : IsTa
       let none = free-holders is f (taken-free) in
       record {
         count = took.count;
-        moved = λ v. omega (arith, holders-table is after.1 took.count took.extra v, ap (count_of v) took.taken, ap (count_of v) after.0);
+        moved = λ v. omega (arith, holders-table is after.1 took.count took.extra v, ap (count_of v) took.taken,
+            ap (count_of v) after.0);
         others = λ v some. took.others v (λ e. omega (arith, ap (holders_of m s) e));
-        fresh = λ v absent some. elim (cases_eq v f) [ inl e ↦ ap (holders_of m s) e ∙ none | inr ne ↦ absurd (omega (arith, count_of-other v f [] ne)) ];
+        fresh = λ v absent some. elim (cases_eq v f)
+            [ inl e ↦ ap (holders_of m s) e ∙ none | inr ne ↦ absurd (omega (arith, count_of-other v f [] ne)) ];
       }
 
 -- the page has come, with these bytes
@@ -190,24 +230,30 @@ module _ {m z : Ram} {r t n f : ℕ} {s q : Frames} (is : OwnsFrames m r t n s) 
   pub taken-fits : n < 32768 → frames_for (n + 1) ≤ frames_for n + free_count m s → missing z r n ≤ free_count z q
   taken-fits small room =
       let beside = taken-beside in
-      next-fits beside.space small (omega (arith, Trades-lengths (taken-trades is.free took) is.free beside.space.free (λ v. omega arith)))
+      next-fits beside.space small
+          (omega (arith, Trades-lengths (taken-trades is.free took) is.free beside.space.free (λ v. omega arith)))
 
-  pub taken-grown : (k : Ram) {marks : ℕ} {bytes : List ℕ} {w : Frames} → n < 32768 → frame_of z f ≡ bytes → IsNext z k r n f marks q w → IsGrown m k r t n marks bytes s w
+  pub taken-grown : (k : Ram) {marks : ℕ} {bytes : List ℕ} {w : Frames} → n < 32768 → frame_of z f ≡ bytes
+      → IsNext z k r n f marks q w → IsGrown m k r t n marks bytes s w
   taken-grown k {marks} small e next =
       let b = taken-before marks small in
       let beside = taken-beside in
       let stays = beside.stays in
       let space = next-held b next in
       let first : Trades m z s q (held m r t n) (f ∷ held z r t n) =
-      Trades-with (taken-trades is.free took) (held m r t n) (held m r t n) (f ∷ held z r t n) (λ v. omega arith) (λ v. omega (arith, ap (count_of v) beside.same)) in
+      Trades-with (taken-trades is.free took) (held m r t n) (held m r t n) (f ∷ held z r t n) (λ v. omega arith)
+          (λ v. omega (arith, ap (count_of v) beside.same)) in
       let trades = Trades-twice first (next-trades b next) in
       record {
         space = rw add-one space;
-        pages = rw add-one (next-pages b next) ∙ ap (λ l. l ++ (page_with (frame_of z f) marks ∷ [])) stays.pages ∙ ap (λ x. pages_below m r n ++ (page_with x marks ∷ [])) e;
-        mapping = λ read b le. read_below-same read m k r b (λ p h. next.inserts.others p (omega arith) (omega arith) ∙ stays.put.looks p);
+        pages = rw add-one (next-pages b next) ∙ ap (λ l. l ++ (page_with (frame_of z f) marks ∷ [])) stays.pages
+            ∙ ap (λ x. pages_below m r n ++ (page_with x marks ∷ [])) e;
+        mapping = λ read b le. read_below-same read m k r b
+            (λ p h. next.inserts.others p (omega arith) (omega arith) ∙ stays.put.looks p);
         trap = next-trap b next ∙ stays.trap;
         trades = rw add-one trades;
-        room = rw add-one (omega (arith, Trades-lengths trades is.free space.free is.held, length-held m r t n, length-held k r t (suc n)));
+        room = rw add-one (omega
+            (arith, Trades-lengths trades is.free space.free is.held, length-held m r t n, length-held k r t (suc n)));
       }
 
 -- ---- the last page goes
@@ -254,7 +300,8 @@ module _ {m j : Ram} {r t n f : ℕ} {s a : Frames} (is : OwnsFrames m r t (suc 
     tidy = u.tidy;
     small = omega arith;
     pages = λ p h. lookup-parts j r p (u.removes.others p (omega arith) (omega arith) ∙ is.dense.pages p (omega arith));
-    leaves = λ p h. rw (marks_at-same m j r p (u.removes.others p (omega arith) (omega arith))) (is.dense.leaves p (omega arith));
+    leaves = λ p h. rw (marks_at-same m j r p (u.removes.others p (omega arith) (omega arith)))
+        (is.dense.leaves p (omega arith));
     trap = u.removes.others trap_page (omega arith) (omega arith) ∙ is.dense.trap;
     rest = λ p high low ne. elim (cases_eq p n) [
       | inl e ↦ ap (lookup_of j r) e ∙ u.removes.changed
@@ -282,7 +329,8 @@ module _ {m j : Ram} {r t n f : ℕ} {s a : Frames} (is : OwnsFrames m r t (suc 
       omega (arith, (lookup-sound is.dense.tree n (is.dense.pages n (omega arith))).0)
 
   pub give-held : among f (free_of j a) ≡ false
-  give-held = among-none f (free_of j a) (omega (arith, count-unmapped f, held-not_free is f, count_of-first f f [] refl))
+  give-held = among-none f (free_of j a)
+      (omega (arith, count-unmapped f, held-not_free is f, count_of-first f f [] refl))
 
   holders-unmapped : (v : ℕ) → holders_of j a v + count_of v (tables_for m r n) ≡ holders_of m s v
   holders-unmapped v = omega (arith, holders-table is.free u.paged.free u.keeps.count u.extra v, count-unmapped v)
@@ -295,13 +343,16 @@ module _ {m j : Ram} {r t n f : ℕ} {s a : Frames} (is : OwnsFrames m r t (suc 
     own = λ v some. further-same s a v u.extra ∙ is.own v (omega (arith, count-unmapped v));
     alone = λ p h wide.
         let looks = u.removes.others p (omega arith) (omega arith) in
-        ap (further_at a) (frame_at-same m j r p looks) ∙ further-same s a (frame_at m r p) u.extra ∙ is.alone p (omega arith) (ap is_open (sym (marks_at-same m j r p looks)) ∙ wide);
+        ap (further_at a) (frame_at-same m j r p looks) ∙ further-same s a (frame_at m r p) u.extra
+            ∙ is.alone p (omega arith) (ap is_open (sym (marks_at-same m j r p looks)) ∙ wide);
     held = λ v. omega (arith, count-unmapped v, holders-unmapped v);
   }
 
   -- a frame that has a holder and was no table of the space keeps its bytes
-  bytes-unmapped : (v : ℕ) → 0 < holders_of m s v → count_of v (tables_below m r (suc n)) ≡ 0 → frame_of j v ≡ frame_of m v
-  bytes-unmapped v some none = u.keeps.others v (λ h. omega (arith, table-held is.dense h)) (held-inside m s v is.free some).1
+  bytes-unmapped : (v : ℕ) → 0 < holders_of m s v → count_of v (tables_below m r (suc n)) ≡ 0
+      → frame_of j v ≡ frame_of m v
+  bytes-unmapped v some none =
+      u.keeps.others v (λ h. omega (arith, table-held is.dense h)) (held-inside m s v is.free some).1
 
   stays-unmapped : (v : ℕ) → 0 < count_of v (frames_below m r n) + count_of v (t ∷ []) → frame_of j v ≡ frame_of m v
   stays-unmapped v some =
@@ -314,27 +365,34 @@ module _ {m j : Ram} {r t n f : ℕ} {s a : Frames} (is : OwnsFrames m r t (suc 
   dropped k w g =
       let counts = count-unmapped in
       let holders = holders-unmapped in
-      let give : Trades j k a w (f ∷ []) [] = Trades-give j k a w f u.paged.free g.holders g.others g.stays (omega (arith, counts f, holders f, count_of-first f f [] refl)) in
+      let give : Trades j k a w (f ∷ []) [] =
+              Trades-give j k a w f u.paged.free g.holders g.others g.stays
+              (omega (arith, counts f, holders f, count_of-first f f [] refl)) in
       let beside = Trades-held give (OwnsFrames-unmapped) (λ v. omega (arith, counts v, holders v)) g.valid in
       let stays = beside.stays in
-      let looks : (p : ℕ) → p < n → lookup_of j r p ≡ lookup_of m r p = λ p h. u.removes.others p (omega arith) (omega arith) in
+      let looks : (p : ℕ) → p < n
+              → lookup_of j r p ≡ lookup_of m r p = λ p h. u.removes.others p (omega arith) (omega arith) in
       record {
         space = beside.space;
         pages = λ b le. pages_below-same j k r b (λ p h. stays.put.looks p)
-            (λ p h. let v = frame_at j r p in give.others v (omega (arith, counts v, holders v, count-held, page-held j r n p (omega arith))))
-            ∙ pages_below-same m j r b (λ p h. looks p (omega arith)) (λ p h. stays-unmapped (frame_at m r p) (omega (arith, page-held m r n p (omega arith))));
+            (λ p h. let v = frame_at j r p
+                in give.others v (omega (arith, counts v, holders v, count-held, page-held j r n p (omega arith))))
+            ∙ pages_below-same m j r b (λ p h. looks p (omega arith))
+                (λ p h. stays-unmapped (frame_at m r p) (omega (arith, page-held m r n p (omega arith))));
         mapping = λ read b le. read_below-same read m k r b (λ p h. stays.put.looks p ∙ looks p (omega arith));
         trap = stays.trap ∙ stays-unmapped t (omega (arith, count_of-first t t [] refl));
         trades = rw add-one (record {
           count = give.count ∙ u.keeps.count;
           moved = λ v. omega (arith, counts v, holders v, ap (count_of v) beside.same);
           others = λ v more.
-              give.others v (omega (arith, counts v, holders v)) ∙ bytes-unmapped v (omega arith) (omega (arith, (beyond-held is v more).0));
+              give.others v (omega (arith, counts v, holders v))
+                  ∙ bytes-unmapped v (omega arith) (omega (arith, (beyond-held is v more).0));
           fresh = λ v none some. absurd (omega (arith, ap (count_of v) beside.same, counts v));
         });
       }
 
-pub unmapped-was : (m : Ram) (r n : ℕ) {f : ℕ} {a : ℕ × ℕ} → lookup_of m r n ≡ Some a → ◌≡◌ {A = Option ℕ} (option_map (λ (x : ℕ × ℕ). x.0) (lookup_of m r n)) (Some f) → frame_at m r n ≡ f
+pub unmapped-was : (m : Ram) (r n : ℕ) {f : ℕ} {a : ℕ × ℕ} → lookup_of m r n ≡ Some a
+    → ◌≡◌ {A = Option ℕ} (option_map (λ (x : ℕ × ℕ). x.0) (lookup_of m r n)) (Some f) → frame_at m r n ≡ f
 unmapped-was m r n {f} {a} found e =
     let both : ◌≡◌ {A = Option ℕ} (Some a.0) (Some f) = ap (option_map (λ (x : ℕ × ℕ). x.0)) (sym found) ∙ e in
     ap (λ (o : Option (ℕ × ℕ)). (unwrap_or o (0, 0)).0) found ∙ ap (λ (o : Option ℕ). unwrap_or o 0) both
@@ -364,24 +422,28 @@ module _ {m j z : Ram} {s a q : Frames} {r t : ℕ} (is : IsStart m j z s a q r 
   pub start-empty : IsEmpty z r
   start-empty =
       let same = start-same in
-      record { tables = λ x nx nr. table_at-same j z r same x nx ∙ is.empty.tables x nx nr; pages = λ p. lookup_of-same j z r same p ∙ is.empty.pages p }
+      record { tables = λ x nx nr. table_at-same j z r same x nx ∙ is.empty.tables x nx nr;
+          pages = λ p. lookup_of-same j z r same p ∙ is.empty.pages p }
 
   pub start-paged : IsPaged z r q
   start-paged =
       let after = free-after is.paged.free is.taken in
       paged-same is.paged.tree is.taken.count (start-same) after.1 (λ v h. (
-        rw after.0 (among_first_not v t (free_of j q) (rw is.taken.taken at (is.paged.apart h.place v h.is_node h.at_place))).1,
+        rw after.0 (among_first_not v t (free_of j q)
+            (rw is.taken.taken at (is.paged.apart h.place v h.is_node h.at_place))).1,
         further-same a q v is.taken.extra ∙ is.paged.own h.place v h.is_node h.at_place,
       ))
 
   pub start-missing : missing z r trap_page ≡ 2
-  start-missing = missing-is z r trap_page (sym ((start-empty).tables (mid_node trap_page) (mid_is_node trap_page) (λ e. cc))) refl
+  start-missing = missing-is z r trap_page
+      (sym ((start-empty).tables (mid_node trap_page) (mid_is_node trap_page) (λ e. cc))) refl
 
   pub start-free : free_of m s ≡ r ∷ t ∷ free_of z q
   start-free = is.first ∙ ap (λ l. r ∷ l) (is.taken.taken ∙ ap (λ l. t ∷ l) (sym (free-after is.paged.free is.taken).0))
 
   pub start-count : free_count m s ≡ 2 + free_count z q
-  start-count = free_count-taken m z s q 2 (omega (arith, ap length start-free)) (is.taken.extra ∙ is.extra) (free-after is.paged.free is.taken).1
+  start-count = free_count-taken m z s q 2 (omega (arith, ap length start-free)) (is.taken.extra ∙ is.extra)
+      (free-after is.paged.free is.taken).1
 
 -- the space stands, and traded nothing for its frames
 pub record IsMade (m z k : Ram) (r t : ℕ) (s w : Frames) : Type 0 where
@@ -389,13 +451,16 @@ pub record IsMade (m z k : Ram) (r t : ℕ) (s w : Frames) : Type 0 where
   pub registers : frame_of k t ≡ frame_of z t
   pub trades : Trades m k s w [] (held k r t 0)
 
-module _ {m j z k : Ram} {s a q w : Frames} {r t : ℕ} (is : IsStart m j z s a q r t) (next : IsNext z k r trap_page t trap_marks q w) where
+module _ {m j z k : Ram} {s a q w : Frames} {r t : ℕ} (is : IsStart m j z s a q r t)
+    (next : IsNext z k r trap_page t trap_marks q w) where
   count-start : (g : ℕ) → count_of g (held k r t 0) + count_of g (free_of k w) ≡ count_of g (free_of m s)
   unfolding tables_below frames_below
   count-start g =
       let none = (start-empty is).tables (mid_node trap_page) (mid_is_node trap_page) (λ e. cc) in
-      let all : free_of m s ≡ r ∷ t ∷ table_of k r (mid_node trap_page) ∷ table_of k r (low_node trap_page) ∷ free_of k w =
-      start-free is ∙ ap (λ l. r ∷ t ∷ l) (next.adds.taken ∙ ap (λ l. l ++ free_of k w) (made-is z k r trap_page (sym none) refl)) in
+      let all : free_of m s ≡ r ∷ t ∷ table_of k r (mid_node trap_page) ∷ table_of k r (low_node trap_page)
+              ∷ free_of k w =
+      start-free is ∙ ap (λ l. r ∷ t ∷ l)
+          (next.adds.taken ∙ ap (λ l. l ++ free_of k w) (made-is z k r trap_page (sym none) refl)) in
       omega (arith, ap (count_of g) all)
 
   pub start-made : IsMade m z k r t s w
@@ -408,7 +473,8 @@ module _ {m j z k : Ram} {s a q w : Frames} {r t : ℕ} (is : IsStart m j z s a 
       let free : (g : ℕ) → 0 < count_of g (held k r t 0) → among g (free_of m s) ≡ true = λ g some.
       elim (count-cases g (free_of m s)) [ inl at ↦ at | inr none ↦ absurd (omega (arith, counts g)) ] in
       let stays : (g : ℕ) → g ≢ r → count_of g (free_of z q) ≡ 0 → frame_of k g ≡ frame_of z g = λ g ne none.
-      next.keeps.others g (λ h. ne (only-root (start-empty is) h.place g h.is_node h.at_place).1) (among-none g (free_of z q) none) in
+      next.keeps.others g (λ h. ne (only-root (start-empty is) h.place g h.is_node h.at_place).1)
+          (among-none g (free_of z q) none) in
       record {
         space = record {
           dense = record {
@@ -427,15 +493,20 @@ module _ {m j z k : Ram} {s a q w : Frames} {r t : ℕ} (is : IsStart m j z s a 
           held = λ g. omega (arith, counts g, holders g);
         };
         registers =
-            stays t (start-apart is) (none-among t (free_of z q) (ap (among t) ((free-after is.paged.free is.taken).0) ∙ (free-first is.paged.free t (free_of j q) is.taken.taken).1));
+            stays t (start-apart is)
+                (none-among t (free_of z q)
+                (ap (among t) ((free-after is.paged.free is.taken).0)
+                ∙ (free-first is.paged.free t (free_of j q) is.taken.taken).1));
         trades = record {
           count = len;
           moved = λ g. omega (arith, counts g, holders g);
           others = λ g h.
-              let none : count_of g (r ∷ t ∷ free_of z q) ≡ 0 = ap (count_of g) (sym (start-free is)) ∙ none-among g (free_of m s) (held-inside m s g is.free (omega arith)).1 in
+              let none : count_of g (r ∷ t ∷ free_of z q) ≡ 0 = ap (count_of g) (sym (start-free is))
+                      ∙ none-among g (free_of m s) (held-inside m s g is.free (omega arith)).1 in
               let not_r : g ≢ r = λ e. omega (arith, count_of-first g r (t ∷ free_of z q) e) in
               let not_t : g ≢ t = λ e. omega (arith, count_of-first g t (free_of z q) e) in
-              stays g not_r (omega arith) ∙ is.taken.others g not_t ∙ rw is.start (get_or-set_other m r g zeros [] not_r);
+              stays g not_r (omega arith) ∙ is.taken.others g not_t
+                  ∙ rw is.start (get_or-set_other m r g zeros [] not_r);
           fresh = λ g none some. free-holders is.free g (free g some);
         };
       }
@@ -467,11 +538,15 @@ module _ {m j : Ram} {r t f : ℕ} {s a : Frames} (is : OwnsFrames m r t 0 s) (u
   ]
 
   -- all its frames are free or those two
-  pub count-ended : (g : ℕ) → count_of g (held m r t 0) + count_of g (free_of m s) ≡ one_if (eqb g r) + one_if (eqb g t) + count_of g (free_of j a)
+  pub count-ended : (g : ℕ)
+      → count_of g (held m r t 0) + count_of g (free_of m s)
+      ≡ one_if (eqb g r) + one_if (eqb g t) + count_of g (free_of j a)
   unfolding tables_below frames_below
   count-ended g =
-      let none = none-of (table_at j r (mid_node trap_page)) (λ v h. end-tables (mid_node trap_page) v (mid_is_node trap_page) (λ e. cc) h) in
-      let all : free_of j a ≡ table_of m r (mid_node trap_page) ∷ table_of m r (low_node trap_page) ∷ free_of m s = u.drops.taken ∙ ap (λ l. l ++ free_of m s) (made-is j m r trap_page (sym none) refl) in
+      let none = none-of (table_at j r (mid_node trap_page))
+              (λ v h. end-tables (mid_node trap_page) v (mid_is_node trap_page) (λ e. cc) h) in
+      let all : free_of j a ≡ table_of m r (mid_node trap_page) ∷ table_of m r (low_node trap_page) ∷ free_of m s =
+              u.drops.taken ∙ ap (λ l. l ++ free_of m s) (made-is j m r trap_page (sym none) refl) in
       omega (arith, ap (count_of g) all)
 
   pub end-trap : f ≡ t
@@ -491,7 +566,8 @@ module _ {m j : Ram} {r t f : ℕ} {s a : Frames} (is : OwnsFrames m r t 0 s) (u
 given-other : {j k : Ram} {f : ℕ} {a w : Frames} → IsGiven j k f a w → (v : ℕ) → v ≢ f → frame_of k v ≡ frame_of j v
 given-other {f} g v ne = g.others.others v (among-none v (f ∷ []) (count_of-other v f [] ne))
 
-module _ {m j k : Ram} {r t f : ℕ} {s a w : Frames} (is : OwnsFrames m r t 0 s) (u : IsUnmapped m j r trap_page f s a) (g : IsGiven j k f a w) where
+module _ {m j k : Ram} {r t f : ℕ} {s a w : Frames} (is : OwnsFrames m r t 0 s) (u : IsUnmapped m j r trap_page f s a)
+    (g : IsGiven j k f a w) where
   end-same : (v : ℕ) → HasTable j r v → frame_of k v ≡ frame_of j v
   end-same v h = given-other g v (λ e. end-apart is u (sym (end-root is u v h) ∙ e))
 
@@ -504,14 +580,18 @@ module _ {m j k : Ram} {r t f : ℕ} {s a w : Frames} (is : OwnsFrames m r t 0 s
   -- the trap frame had no other holder, nor had the root
   end-free : (free_of k w ≡ f ∷ free_of j a) × (extra_of w ≡ extra_of a)
   end-free =
-      g.last (further-same s a f u.extra ∙ is.own f (omega (arith, first-one t, ap (λ x. count_of x (t ∷ [])) (end-trap is u))))
+      g.last (further-same s a f u.extra
+          ∙ is.own f (omega (arith, first-one t, ap (λ x. count_of x (t ∷ [])) (end-trap is u))))
 
   pub end-paged : IsPaged k r w
   end-paged =
       let free = end-free in
       paged-same u.paged.tree g.others.count end-same g.valid (λ v h.
       let other : v ≢ f = λ z. end-apart is u (sym (end-root is u v h) ∙ z) in (
-        among-none v (free_of k w) (omega (arith, ap (count_of v) free.0, none-among v (free_of j a) (u.paged.apart h.place v h.is_node h.at_place), count_of-other v f (free_of j a) other)),
+        among-none v (free_of k w)
+            (omega (arith, ap (count_of v) free.0,
+            none-among v (free_of j a) (u.paged.apart h.place v h.is_node h.at_place),
+            count_of-other v f (free_of j a) other)),
         further-same a w v free.1 ∙ u.paged.own h.place v h.is_node h.at_place,
       ))
 
@@ -521,10 +601,13 @@ module _ {m j k : Ram} {r t f : ℕ} {s a w : Frames} (is : OwnsFrames m r t 0 s
       let len : length l ≡ length m = e.others.count ∙ g.others.count ∙ u.keeps.count in
       let trap = end-trap is u in
       let given = end-free in
-      let root = e.last (further-same s w r (given.1 ∙ u.extra) ∙ (is.own r (omega (arith, table-held is.dense (record { place = Root; is_node = tt; at_place = root_at m r }))))) in
+      let root = e.last (further-same s w r (given.1 ∙ u.extra)
+              ∙ (is.own r (omega (arith,
+              table-held is.dense (record { place = Root; is_node = tt; at_place = root_at m r }))))) in
       record {
         count = len;
-        moved = λ v. omega (arith, count-ended is u v, ap (count_of v) given.0, ap (count_of v) root.0, ap (λ x. one_if (eqb v x)) trap, holders-table is.free e.valid len (root.1 ∙ given.1 ∙ u.extra) v);
+        moved = λ v. omega (arith, count-ended is u v, ap (count_of v) given.0, ap (count_of v) root.0,
+            ap (λ x. one_if (eqb v x)) trap, holders-table is.free e.valid len (root.1 ∙ given.1 ∙ u.extra) v);
         others = λ v h.
             let beyond = beyond-held is v h in
             let none : count_of v (held m r t 0) ≡ 0 = omega (arith, count-held) in
@@ -532,6 +615,7 @@ module _ {m j k : Ram} {r t f : ℕ} {s a w : Frames} (is : OwnsFrames m r t 0 s
             let both = count-ended is u v in
             given-other e v (λ z. omega (arith, ap (λ x. one_if (eqb v x)) (sym z), first-one v))
             ∙ given-other g v (λ z. omega (arith, ap (λ x. one_if (eqb v x)) (sym (z ∙ trap)), first-one v))
-            ∙ u.keeps.others v (λ y. omega (arith, count-held, table-held is.dense y)) (among-none v (free_of m s) free);
+            ∙ u.keeps.others v (λ y. omega (arith, count-held, table-held is.dense y))
+                (among-none v (free_of m s) free);
         fresh = λ v none some. absurd (omega arith);
       }

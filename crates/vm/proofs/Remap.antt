@@ -1,11 +1,18 @@
 -- A page gets another frame with the same bytes, or other marks.
-use Rattle.vm.proofs.Common.{Ram, [], among, among_first, among_first_not, ap, arith, Bool, cases_eq, count_of, count_of-first, count_of-other, false, frame_at, frame_of, Frames, frames_below, free-first, free-holders, free_of}
-use Rattle.vm.proofs.Common.{further-free, further_at, get_or-set_other, get_or-set_same, HasRights, HasTable, held, held-inside, holders-free, holders-table, holders_of, inl, inr, is_open, IsFreeList, IsLeafMarks, IsPaged, IsRearranged}
-use Rattle.vm.proofs.Common.{IsSpace, IsTidy, IsUserLeaf, Keeps, length, length-set, lookup-sound, lookup_of, lookup_of-same, low_is_node, low_node, ltb, Maps, marks_at, mid_is_node, mid_node, nat_eq, None, not-free-held, one_if, one_if-le}
-use Rattle.vm.proofs.Common.{OwnsFrames, Page, page_at, page_with, pages_below, pages_in, Perm, refl, Reframes, right_marks, SameMap, SameTables, slice_set, Some, Space, subst, suc, sym, table_at-same, tables_below, Trades, Trades-twice}
-use Rattle.vm.proofs.Common.{true, unwrap_or, user_leaf, zero, ℕ, ◌+◌, ◌<◌, ◌^◌, ◌∙◌, ◌∷◌, ◌≡◌, ◌≢◌, ◌≤◌, ◌⊎◌}
-use Rattle.vm.proofs.DenseLemmas.{alone-set, beyond-held, count-held, dense-set, frame_at-is, frame_at-same, frames_below-same, IsTidy-same, list-after, marks_at-is, page-held, page-kept, paged-same, pages-each, table-held}
-use Rattle.vm.proofs.DenseLemmas.{tables_below-same}
+use Rattle.vm.proofs.Common.{Ram, [], among, among_first, among_first_not, ap, arith, Bool, cases_eq, count_of}
+use Rattle.vm.proofs.Common.{count_of-first, count_of-other, false, frame_at, frame_of, Frames, frames_below}
+use Rattle.vm.proofs.Common.{free-first, free-holders, free_of, further-free, further_at, get_or-set_other}
+use Rattle.vm.proofs.Common.{get_or-set_same, HasRights, HasTable, held, held-inside, holders-free, holders-table}
+use Rattle.vm.proofs.Common.{holders_of, inl, inr, is_open, IsFreeList, IsLeafMarks, IsPaged, IsRearranged, IsSpace}
+use Rattle.vm.proofs.Common.{IsTidy, IsUserLeaf, Keeps, length, length-set, lookup-sound, lookup_of, lookup_of-same}
+use Rattle.vm.proofs.Common.{low_is_node, low_node, ltb, Maps, marks_at, mid_is_node, mid_node, nat_eq, None}
+use Rattle.vm.proofs.Common.{not-free-held, one_if, one_if-le, OwnsFrames, Page, page_at, page_with, pages_below}
+use Rattle.vm.proofs.Common.{pages_in, Perm, refl, Reframes, right_marks, SameMap, SameTables, slice_set, Some, Space}
+use Rattle.vm.proofs.Common.{subst, suc, sym, table_at-same, tables_below, Trades, Trades-twice, true, unwrap_or}
+use Rattle.vm.proofs.Common.{user_leaf, zero, ℕ, ◌+◌, ◌<◌, ◌^◌, ◌∙◌, ◌∷◌, ◌≡◌, ◌≢◌, ◌≤◌, ◌⊎◌}
+use Rattle.vm.proofs.DenseLemmas.{alone-set, beyond-held, count-held, dense-set, frame_at-is, frame_at-same}
+use Rattle.vm.proofs.DenseLemmas.{frames_below-same, IsTidy-same, list-after, marks_at-is, page-held, page-kept}
+use Rattle.vm.proofs.DenseLemmas.{paged-same, pages-each, table-held, tables_below-same}
 use Rattle.vm.proofs.PageLemmas.{leaf-user, leaf-valid, right-leaf}
 
 -- Page p, whose frame was f, has frame g and these marks now. Frame g is f, or was free and has f's bytes.
@@ -27,32 +34,41 @@ pub record IsRemap (m z k : Ram) (r p f g marks : ℕ) (s q : Frames) : Type 0 w
   pub paged : IsPaged k r q
   pub keeps : Keeps z k r q q
 
-held-some : {m : Ram} {r t n : ℕ} {s : Frames} → OwnsFrames m r t n s → (v : ℕ) → 0 < count_of v (held m r t n) → 0 < holders_of m s v
+held-some : {m : Ram} {r t n : ℕ} {s : Frames} → OwnsFrames m r t n s → (v : ℕ) → 0 < count_of v (held m r t n)
+    → 0 < holders_of m s v
 held-some is v some = omega arith
 
 -- the frames of the pages: one for another
-count-frames : (m k : Ram) (r n p f g : ℕ) → ((j : ℕ) → j < n → j ≢ p → lookup_of k r j ≡ lookup_of m r j) → frame_at k r p ≡ g → frame_at m r p ≡ f → p < n
-    → (v : ℕ) → count_of v (frames_below k r n) + count_of v (f ∷ []) ≡ count_of v (frames_below m r n) + count_of v (g ∷ [])
+count-frames : (m k : Ram) (r n p f g : ℕ) → ((j : ℕ) → j < n → j ≢ p → lookup_of k r j ≡ lookup_of m r j)
+    → frame_at k r p ≡ g → frame_at m r p ≡ f → p < n
+    → (v : ℕ) → count_of v (frames_below k r n) + count_of v (f ∷ [])
+        ≡ count_of v (frames_below m r n) + count_of v (g ∷ [])
 unfolding frames_below
 count-frames m k r zero p f g looks new old low v = absurd (omega arith)
 count-frames m k r (suc n) p f g looks new old low v = elim (cases_eq n p) [
   | inl here ↦
-      let rest : frames_below k r n ≡ frames_below m r n = frames_below-same m k r n (λ j h. looks j (omega arith) (omega arith)) in
-      omega (arith, ap (count_of v) rest, ap (λ x. one_if (nat_eq v x)) (ap (frame_at k r) here ∙ new), ap (λ x. one_if (nat_eq v x)) (ap (frame_at m r) here ∙ old))
+      let rest : frames_below k r n ≡ frames_below m r n =
+              frames_below-same m k r n (λ j h. looks j (omega arith) (omega arith)) in
+      omega (arith, ap (count_of v) rest, ap (λ x. one_if (nat_eq v x)) (ap (frame_at k r) here ∙ new),
+          ap (λ x. one_if (nat_eq v x)) (ap (frame_at m r) here ∙ old))
   | inr ne ↦
       let rest = count-frames m k r n p f g (λ j h other. looks j (omega arith) other) new old (omega arith) v in
       omega (arith, ap (λ x. one_if (nat_eq v x)) (frame_at-same m k r n (looks n (omega arith) ne)))
 ]
 
 page-is-held : (m : Ram) (r t n p f : ℕ) → p < n → frame_at m r p ≡ f → 0 < count_of f (held m r t n)
-page-is-held m r t n p f low was = omega (arith, count-held, page-held m r n p low, ap (λ x. count_of x (frames_below m r n)) was)
+page-is-held m r t n p f low was =
+    omega (arith, count-held, page-held m r n p low, ap (λ x. count_of x (frames_below m r n)) was)
 
-module _ {m z k : Ram} {r t n p f g marks : ℕ} {s q : Frames} (is : OwnsFrames m r t n s) (low : p < n) (e : IsRemap m z k r p f g marks s q) where
+module _ {m z k : Ram} {r t n p f g marks : ℕ} {s q : Frames} (is : OwnsFrames m r t n s) (low : p < n)
+    (e : IsRemap m z k r p f g marks s q) where
   table-stays : (v : ℕ) → HasTable m r v → frame_of z v ≡ frame_of m v
   table-stays v h = e.rest v (held-some is v (omega (arith, count-held, table-held is.dense h)))
 
   table-was : (v : ℕ) → HasTable z r v → 0 < count_of v (tables_below m r n)
-  table-was v h = table-held is.dense (record { place = h.place; is_node = h.is_node; at_place = sym (table_at-same m z r table-stays h.place h.is_node) ∙ h.at_place })
+  table-was v h = table-held is.dense
+      (record { place = h.place; is_node = h.is_node;
+      at_place = sym (table_at-same m z r table-stays h.place h.is_node) ∙ h.at_place })
 
   -- what is mapped at other pages
   remap-others : (j : ℕ) → j < 2 ^ 27 → j ≢ p → lookup_of k r j ≡ lookup_of m r j
@@ -64,19 +80,25 @@ module _ {m z k : Ram} {r t n p f g marks : ℕ} {s q : Frames} (is : OwnsFrames
   tables-same : tables_below k r n ≡ tables_below m r n
   tables-same =
       let same : SameTables m k r = λ x nx. e.tables x nx ∙ table_at-same m z r table-stays x nx in
-      tables_below-same m k r n (λ j h. (ap (λ o. unwrap_or o 0) (same (mid_node j) (mid_is_node j)), ap (λ o. unwrap_or o 0) (same (low_node j) (low_is_node j))))
+      tables_below-same m k r n
+          (λ j h. (ap (λ o. unwrap_or o 0) (same (mid_node j) (mid_is_node j)),
+          ap (λ o. unwrap_or o 0) (same (low_node j) (low_is_node j))))
 
   -- what is held: one frame for another
-  remap-held : (v : ℕ) → count_of v (held k r t n) + count_of v (f ∷ []) ≡ count_of v (held m r t n) + count_of v (g ∷ [])
+  remap-held : (v : ℕ) → count_of v (held k r t n) + count_of v (f ∷ [])
+      ≡ count_of v (held m r t n) + count_of v (g ∷ [])
   remap-held v =
-      omega (arith, count-held, count-frames m k r n p f g remap-looks (frame_at-is k r p e.inserts.changed) e.was low v, ap (count_of v) tables-same)
+      omega (arith, count-held,
+          count-frames m k r n p f g remap-looks (frame_at-is k r p e.inserts.changed) e.was low v,
+          ap (count_of v) tables-same)
 
   -- the space stands
   remap-space : OwnsFrames k r t n q
   remap-space =
       let here = page-is-held m r t n p f low e.was in
       record {
-        dense = dense-set is.dense k n p g marks e.paged.tree e.tidy low is.dense.small e.inserts.changed e.leaf remap-others (omega arith) (λ j h ne. h);
+        dense = dense-set is.dense k n p g marks e.paged.tree e.tidy low is.dense.small e.inserts.changed e.leaf
+            remap-others (omega arith) (λ j h ne. h);
         once = λ v. elim (cases_eq v g) [
           | inl same ↦ elim e.new [
             | inl old ↦ omega (arith, remap-held v, count_of-first v f [] (same ∙ old), count_of-first v g [] same)
@@ -87,7 +109,8 @@ module _ {m z k : Ram} {r t n p f g marks : ℕ} {s q : Frames} (is : OwnsFrames
         free = e.paged.free;
         held = λ v. omega (arith, remap-held v);
         own = λ v some. omega (arith, is.own v (omega (arith, ap (count_of v) tables-same)));
-        alone = alone-set m k r n n p g marks s q e.fewer e.inserts.changed (λ j h ne. (h, remap-looks j h ne)) e.sole is.alone;
+        alone = alone-set m k r n n p g marks s q e.fewer e.inserts.changed (λ j h ne. (h, remap-looks j h ne)) e.sole
+            is.alone;
       }
 
   -- a frame that has a holder and is no table of the space keeps its bytes
@@ -113,24 +136,30 @@ module _ {m z k : Ram} {r t n p f g marks : ℕ} {s q : Frames} (is : OwnsFrames
   pub remap-page : page_at k r p ≡ page_with (frame_of m f) marks
   remap-page =
       let no_table : count_of g (tables_below m r n) ≡ 0 = elim e.new [
-        | inl old ↦ omega (arith, ap (λ x. count_of x (tables_below m r n)) old, count-held m r t n f, page-held m r n p low, ap (λ x. count_of x (frames_below m r n)) e.was)
+        | inl old ↦ omega (arith, ap (λ x. count_of x (tables_below m r n)) old, count-held m r t n f,
+            page-held m r n p low, ap (λ x. count_of x (frames_below m r n)) e.was)
         | inr free ↦ omega (arith, count-held m r t n g)
       ] in
-      let bytes : frame_of k g ≡ frame_of m f = e.keeps.others g (λ h. omega (arith, table-was g h)) e.taken ∙ e.bytes in
-      ap (λ x. page_with (frame_of k x) (marks_at k r p)) (frame_at-is k r p e.inserts.changed) ∙ ap (page_with (frame_of k g)) (marks_at-is k r p e.inserts.changed) ∙ ap (λ b. page_with b marks) bytes
+      let bytes : frame_of k g ≡ frame_of m f = e.keeps.others g (λ h. omega (arith, table-was g h)) e.taken
+              ∙ e.bytes in
+      ap (λ x. page_with (frame_of k x) (marks_at k r p)) (frame_at-is k r p e.inserts.changed)
+          ∙ ap (page_with (frame_of k g)) (marks_at-is k r p e.inserts.changed) ∙ ap (λ b. page_with b marks) bytes
 
   -- and the others are as they were
   pub remap-other : (j : ℕ) → j < n → j ≢ p → page_at k r j ≡ page_at m r j
   remap-other j h ne =
       let v = frame_at m r j in
       let some = page-held m r n j h in
-      page-kept m k r j (remap-looks j h ne) (remap-bytes v (held-some is v (omega (arith, count-held m r t n v))) (omega (arith, count-held m r t n v)))
+      page-kept m k r j (remap-looks j h ne)
+          (remap-bytes v (held-some is v (omega (arith, count-held m r t n v))) (omega (arith, count-held m r t n v)))
 
   -- the program's memory is the same, where the rights are
   remap-pages : right_marks marks ≡ right_marks (marks_at m r p) → pages_below k r n ≡ pages_below m r n
   remap-pages right =
       pages-each m k r n (λ j h. elim (cases_eq j p) [
-        | inl same ↦ rw same (remap-page ∙ sym (ap (λ x. let d : Page = record { bytes = frame_of m (frame_at m r p); marks = x } in d) (sym right) ∙ ap (λ v. page_with (frame_of m v) marks) e.was))
+        | inl same ↦ rw same (remap-page
+            ∙ sym (ap (λ x. let d : Page = record { bytes = frame_of m (frame_at m r p); marks = x } in d) (sym right)
+            ∙ ap (λ v. page_with (frame_of m v) marks) e.was))
         | inr ne ↦ remap-other j h ne
       ])
 
@@ -141,7 +170,8 @@ module _ {m z k : Ram} {r t n p f g marks : ℕ} {s q : Frames} (is : OwnsFrames
       remap-bytes t (held-some is t (omega (arith, count-held m r t n t))) (omega (arith, count-held m r t n t))
 
 -- where the page keeps its frame, all pages do, and what is held stays
-module _ {m z k : Ram} {r t n p f marks : ℕ} {s q : Frames} (is : OwnsFrames m r t n s) (low : p < n) (e : IsRemap m z k r p f f marks s q) where
+module _ {m z k : Ram} {r t n p f marks : ℕ} {s q : Frames} (is : OwnsFrames m r t n s) (low : p < n)
+    (e : IsRemap m z k r p f f marks s q) where
   pub remap-frames : (j : ℕ) → j < n → frame_at k r j ≡ frame_at m r j
   remap-frames j h = elim (cases_eq j p) [
     | inl at ↦ ap (frame_at k r) at ∙ frame_at-is k r p e.inserts.changed ∙ sym e.was ∙ ap (frame_at m r) (sym at)
@@ -153,7 +183,8 @@ module _ {m z k : Ram} {r t n p f marks : ℕ} {s q : Frames} (is : OwnsFrames m
 
 -- ---- the whole space
 
-module _ {m z k : Ram} {p f g marks : ℕ} {s q : Frames} (x : Space) (is : IsSpace m x s) (low : p < pages_in x.size) (e : IsRemap m z k x.root.0 p f g marks s q) where
+module _ {m z k : Ram} {p f g marks : ℕ} {s q : Frames} (x : Space) (is : IsSpace m x s) (low : p < pages_in x.size)
+    (e : IsRemap m z k x.root.0 p f g marks s q) where
   pub reframed : Reframes m k x s q
   reframed = record { space = remap-space is low e; registers = remap-trap is low e; trades = remap-trades is low e }
 
@@ -162,13 +193,17 @@ module _ {m z k : Ram} {p f g marks : ℕ} {s q : Frames} (x : Space) (is : IsSp
 
 -- ---- frames that change, one after another
 
-pub reframes-twice : {m k l : Ram} {x : Space} {s q w : Frames} → Reframes m k x s q → Reframes k l x q w → Reframes m l x s w
-reframes-twice a b = record { space = b.space; registers = b.registers ∙ a.registers; trades = Trades-twice a.trades b.trades }
+pub reframes-twice : {m k l : Ram} {x : Space} {s q w : Frames} → Reframes m k x s q → Reframes k l x q w
+    → Reframes m l x s w
+reframes-twice a b = record
+    { space = b.space; registers = b.registers ∙ a.registers; trades = Trades-twice a.trades b.trades }
 
 -- ---- other marks for the same frame
 
-pub remap-marks : {m k : Ram} {r t n p f marks : ℕ} {s : Frames} → OwnsFrames m r t n s → p < n → frame_at m r p ≡ f → IsUserLeaf marks → (is_open marks ≡ true → further_at s f ≡ 0)
-    → Maps m k r p f marks → SameTables m k r → IsTidy k r → IsPaged k r s → Keeps m k r s s → free_of k s ≡ free_of m s → IsRemap m m k r p f f marks s s
+pub remap-marks : {m k : Ram} {r t n p f marks : ℕ} {s : Frames} → OwnsFrames m r t n s → p < n → frame_at m r p ≡ f
+    → IsUserLeaf marks → (is_open marks ≡ true → further_at s f ≡ 0)
+    → Maps m k r p f marks → SameTables m k r → IsTidy k r → IsPaged k r s → Keeps m k r s s
+        → free_of k s ≡ free_of m s → IsRemap m m k r p f f marks s s
 remap-marks {m} {k} {r} {t} {n} {p} {f} {s = s} is low was leaf sole inserts tables tidy paged keeps free = record {
   was = was;
   count = refl;
@@ -217,7 +252,8 @@ module _ {m z : Ram} {s q : Frames} {f g : ℕ} (is : IsFreeList m s) (e : IsSpl
   split-free = list-after m z s q g is e.taken e.after split-count split-others
 
   split-apart : (v : ℕ) → 0 < holders_of m s v → among v (free_of z q) ≡ false
-  split-apart v some = ap (among v) split-free.0 ∙ (among_first_not v g (free_of m q) (sym (ap (among v) e.taken) ∙ (held-inside m s v is some).1)).1
+  split-apart v some = ap (among v) split-free.0
+      ∙ (among_first_not v g (free_of m q) (sym (ap (among v) e.taken) ∙ (held-inside m s v is some).1)).1
 
   -- the frame that came has one holder
   pub split-sole : further_at q g ≡ 0
@@ -228,9 +264,12 @@ module _ {m z : Ram} {r t n : ℕ} {s q : Frames} {f g : ℕ} (is : OwnsFrames m
   pub split-paged : IsPaged z r q × IsTidy z r × SameMap m z r
   split-paged =
       let some : (v : ℕ) → HasTable m r v → 0 < count_of v (tables_below m r n) = λ v h. table-held is.dense h in
-      let same : (v : ℕ) → HasTable m r v → frame_of z v ≡ frame_of m v = λ v h. split-rest is.free e v (held-some is v (omega (arith, some v h, count-held))) in (
+      let same : (v : ℕ) → HasTable m r v
+              → frame_of z v ≡ frame_of m v =
+              λ v h. split-rest is.free e v (held-some is v (omega (arith, some v h, count-held))) in (
         paged-same is.dense.tree (split-count is.free e) same (split-free is.free e).1
-            (λ v h. (split-apart is.free e v (held-some is v (omega (arith, some v h, count-held))), omega (arith, split-fewer is.free e v, is.own v (omega (arith, some v h))))),
+            (λ v h. (split-apart is.free e v (held-some is v (omega (arith, some v h, count-held))),
+                omega (arith, split-fewer is.free e v, is.own v (omega (arith, some v h))))),
         IsTidy-same m z r is.dense.tidy same,
         λ p. lookup_of-same m z r same p,
       )
@@ -238,7 +277,8 @@ module _ {m z : Ram} {r t n : ℕ} {s q : Frames} {f g : ℕ} (is : OwnsFrames m
   pub split-mapped : (p : ℕ) → p < n → lookup_of z r p ≢ None
   split-mapped p low none = cc (split-paged.2 p, none, is.dense.pages p low)
 
-  pub remap-split : {k : Ram} {p marks : ℕ} → p < n → frame_at m r p ≡ f → IsUserLeaf marks → Maps z k r p g marks → SameTables z k r → IsTidy k r → IsPaged k r q → Keeps z k r q q → free_of k q ≡ free_of z q
+  pub remap-split : {k : Ram} {p marks : ℕ} → p < n → frame_at m r p ≡ f → IsUserLeaf marks → Maps z k r p g marks
+      → SameTables z k r → IsTidy k r → IsPaged k r q → Keeps z k r q q → free_of k q ≡ free_of z q
       → IsRemap m z k r p f g marks s q
   remap-split {k} low was leaf inserts tables tidy paged keeps free =
       let first = free-first is.free g (free_of m q) e.taken in
@@ -250,7 +290,8 @@ module _ {m z : Ram} {r t n : ℕ} {s q : Frames} {f g : ℕ} (is : OwnsFrames m
         new = inr (free-holders is.free g (split-first is.free e));
         apart = split-apart is.free e;
         taken = ap (among g) (split-free is.free e).0 ∙ first.1;
-        moved = λ v. omega (arith, holders-table e.after paged.free (keeps.count ∙ split-count is.free e) refl v, ap (count_of v) (free ∙ (split-free is.free e).0));
+        moved = λ v. omega (arith, holders-table e.after paged.free (keeps.count ∙ split-count is.free e) refl v,
+            ap (count_of v) (free ∙ (split-free is.free e).0));
         fewer = split-fewer is.free e;
         leaf = leaf;
         sole = λ wide. split-sole is.free e;
@@ -263,7 +304,8 @@ module _ {m z : Ram} {r t n : ℕ} {s q : Frames} {f g : ℕ} (is : OwnsFrames m
 
 -- ---- what a caller knows
 
-module _ {m : Ram} {r t n : ℕ} {s : Frames} (is : OwnsFrames m r t n s) (p : ℕ) (f : ℕ) (low : p < n) (was : frame_at m r p ≡ f) where
+module _ {m : Ram} {r t n : ℕ} {s : Frames} (is : OwnsFrames m r t n s) (p : ℕ) (f : ℕ) (low : p < n)
+    (was : frame_at m r p ≡ f) where
   pub page-inside-is : f < length m
   page-inside-is = omega (arith, (lookup-sound is.dense.tree p (is.dense.pages p low)).0)
 
@@ -284,10 +326,12 @@ pub record IsMadeLeaf (m : Ram) (r p f a : ℕ) (change : Perm → Perm) (wide :
   pub right : right_marks a ≡ change (right_marks (marks_at m r p))
   pub made : a ≡ user_leaf (change (right_marks (marks_at m r p))) wide
 
-pub made-leaf : (m : Ram) (r p f a b : ℕ) (change : Perm → Perm) (wide : Bool) → Some (f, a) ≡ lookup_of m r p → b ≡ user_leaf (change (right_marks a)) wide → IsMadeLeaf m r p f b change wide
+pub made-leaf : (m : Ram) (r p f a b : ℕ) (change : Perm → Perm) (wide : Bool) → Some (f, a) ≡ lookup_of m r p
+    → b ≡ user_leaf (change (right_marks a)) wide → IsMadeLeaf m r p f b change wide
 made-leaf m r p f a b change wide found is =
     let rights = change (right_marks (marks_at m r p)) in
-    let made : b ≡ user_leaf rights wide = is ∙ ap (λ (l : ℕ). user_leaf (change (right_marks l)) wide) (sym (marks_at-is m r p (sym found))) in
+    let made : b ≡ user_leaf rights wide = is
+            ∙ ap (λ (l : ℕ). user_leaf (change (right_marks l)) wide) (sym (marks_at-is m r p (sym found))) in
     record {
       frame = frame_at-is m r p (sym found);
       leaf = subst IsUserLeaf (sym made) (leaf-user rights wide);

@@ -1,13 +1,22 @@
 -- Pages and the trap frame are written: the space stands.
-use Rattle.vm.proofs.Common.{mapping_of, read_at, Ram, [], among, among-none, ap, arith, cases_eq, cases_lt, count_of, count_of-first, entry_marks, ext_get_or, frame_at, frame_of, Frames, frames_below, free_of, free_of-same, further_at, get_or}
-use Rattle.vm.proofs.Common.{get_or-set_other, get_or-set_same, HasTable, held, holders-free, holders_of, holds, inl, inr, is_open, IsDense, IsFreeList, IsFreeList-same, IsMapped, IsOnce, IsSpace, length, length-set, List, lookup-sound}
-use Rattle.vm.proofs.Common.{ltb, marks_at, one-holder, one_if, OwnsFrames, Page, page_at, page_with, pages_below, pages_in, pages_of, refl, right_marks, slice_set, Space, Stands, sym, Trades, Trades-none, Trades-twice, true, ℕ, ◌<◌, ◌∙◌}
-use Rattle.vm.proofs.Common.{◌∷◌, ◌≡◌, ◌≢◌, ◌≤◌, get_or-map-range_with_len, IsMemory, length-map-range_with_len, put, put_bytes, registers_of, suc, trap_page, word_bytes, word_of, zero, ◌*◌, ◌+◌, ◌^◌, ◌⊎◌, append_assoc, drop, drop-drop}
-use Rattle.vm.proofs.Common.{drop-set-lt, drop_all, length-append, length-drop, length-take, Memory, min, overwrite, Reframes, SameLeaves, sized, slice_get, Some, take, take-append-drop, take-suc-set, take_all, write_bytes, write_from}
-use Rattle.vm.proofs.Common.{written, ◌%◌, ◌++◌, ◌-◌, ◌/◌}
-use Rattle.vm.proofs.DenseLemmas.{owns-as, stays-put, StaysPut, count-held, frame_at-same, held-not_free, IsDense-same, marks_at-same, page-held, pages-apart, pages_below-same, table-held}
+use Rattle.vm.proofs.Common.{mapping_of, read_at, Ram, [], among, among-none, ap, arith, cases_eq, cases_lt, count_of}
+use Rattle.vm.proofs.Common.{count_of-first, entry_marks, ext_get_or, frame_at, frame_of, Frames, frames_below, free_of}
+use Rattle.vm.proofs.Common.{free_of-same, further_at, get_or, get_or-set_other, get_or-set_same, HasTable, held}
+use Rattle.vm.proofs.Common.{holders-free, holders_of, holds, inl, inr, is_open, IsDense, IsFreeList, IsFreeList-same}
+use Rattle.vm.proofs.Common.{IsMapped, IsOnce, IsSpace, length, length-set, List, lookup-sound, ltb, marks_at}
+use Rattle.vm.proofs.Common.{one-holder, one_if, OwnsFrames, Page, page_at, page_with, pages_below, pages_in, pages_of}
+use Rattle.vm.proofs.Common.{refl, right_marks, slice_set, Space, Stands, sym, Trades, Trades-none, Trades-twice, true}
+use Rattle.vm.proofs.Common.{ℕ, ◌<◌, ◌∙◌, ◌∷◌, ◌≡◌, ◌≢◌, ◌≤◌, get_or-map-range_with_len, IsMemory}
+use Rattle.vm.proofs.Common.{length-map-range_with_len, put, put_bytes, registers_of, suc, trap_page, word_bytes}
+use Rattle.vm.proofs.Common.{word_of, zero, ◌*◌, ◌+◌, ◌^◌, ◌⊎◌, append_assoc, drop, drop-drop, drop-set-lt, drop_all}
+use Rattle.vm.proofs.Common.{length-append, length-drop, length-take, Memory, min, overwrite, Reframes, SameLeaves}
+use Rattle.vm.proofs.Common.{sized, slice_get, Some, take, take-append-drop, take-suc-set, take_all, write_bytes}
+use Rattle.vm.proofs.Common.{write_from, written, ◌%◌, ◌++◌, ◌-◌, ◌/◌}
+use Rattle.vm.proofs.DenseLemmas.{owns-as, stays-put, StaysPut, count-held, frame_at-same, held-not_free, IsDense-same}
+use Rattle.vm.proofs.DenseLemmas.{marks_at-same, page-held, pages-apart, pages_below-same, table-held}
 use Rattle.vm.proofs.PageLemmas.{get_or-pages, length-pages, get-mapping, mapped-page}
-use Rattle.ram.proofs.MemoryLemmas.{frame_of-put_same, get_or-put_bytes_above, get_or-put_bytes_below, length-word_bytes, word_of-put_beside, word_of-put_same, sized-full}
+use Rattle.ram.proofs.MemoryLemmas.{frame_of-put_same, get_or-put_bytes_above, get_or-put_bytes_below}
+use Rattle.ram.proofs.MemoryLemmas.{length-word_bytes, word_of-put_beside, word_of-put_same, sized-full}
 use Rattle.vm.specs.TrapFrame.{IsSpare, saved_pc, saved_register, saved_registers}
 use Rattle.vm.proofs.ReachLemmas.{item-at}
 
@@ -16,7 +25,8 @@ pub record Writes (m k : Ram) (r t n : ℕ) : Type 0 where
   pub count : length k ≡ length m
   pub others : (f : ℕ) → count_of f (t ∷ frames_below m r n) ≡ 0 → frame_of k f ≡ frame_of m f
 
-module _ {m k : Ram} {r t n : ℕ} (is : IsDense m r t n) (once : (f : ℕ) → count_of f (held m r t n) ≤ 1) (w : Writes m k r t n) where
+module _ {m k : Ram} {r t n : ℕ} (is : IsDense m r t n) (once : (f : ℕ) → count_of f (held m r t n) ≤ 1)
+    (w : Writes m k r t n) where
   tables-stay : (v : ℕ) → HasTable m r v → frame_of k v ≡ frame_of m v
   tables-stay v h = w.others v (omega (arith, once v, count-held, table-held is h))
 
@@ -31,13 +41,17 @@ module _ {m k : Ram} {r t n : ℕ} {s : Frames} (is : OwnsFrames m r t n s) (w :
   ]
 
   -- the space stands beside free frames and other holders where frames with several holders aren't written
-  pub space-stays : ((f : ℕ) → further_at s f ≢ 0 → frame_of k f ≡ frame_of m f) → OwnsFrames k r t n s × Trades m k s s (held m r t n) (held k r t n)
+  pub space-stays : ((f : ℕ) → further_at s f ≢ 0 → frame_of k f ≡ frame_of m f)
+      → OwnsFrames k r t n s × Trades m k s s (held m r t n) (held k r t n)
   space-stays private =
       let same = (writes-put is.dense is.once w).held in
       let stays = free-stays in
       let free : IsFreeList k s = IsFreeList-same m k s is.free w.count stays in
-      let holders : (v : ℕ) → holders_of k s v ≡ holders_of m s v = λ v. omega (arith, holders-free is.free v, holders-free free v, ap (count_of v) (free_of-same m k s stays), ap (λ l. one_if (ltb v l)) w.count) in (
-        owns-as is w.count (tables-stay is.dense is.once w) free (λ v some alone. alone) (λ v. omega (arith, holders v)),
+      let holders : (v : ℕ) → holders_of k s v ≡ holders_of m s v =
+              λ v. omega (arith, holders-free is.free v, holders-free free v,
+              ap (count_of v) (free_of-same m k s stays), ap (λ l. one_if (ltb v l)) w.count) in (
+        owns-as is w.count (tables-stay is.dense is.once w) free (λ v some alone. alone)
+            (λ v. omega (arith, holders v)),
         record {
           count = w.count;
           moved = λ v. omega (arith, holders v, ap (count_of v) same);
@@ -50,7 +64,9 @@ module _ {m k : Ram} {r t n : ℕ} {s : Frames} (is : OwnsFrames m r t n s) (w :
       )
 
 -- the space stands where only its pages and its trap frame are written, and those alone that it alone holds
-pub stands : (m k : Ram) (s : Space) → IsMapped m s → IsOnce m s → Writes m k s.root.0 s.trap.0 (pages_in s.size) → ((free : Frames) → IsSpace m s free → (f : ℕ) → further_at free f ≢ 0 → frame_of k f ≡ frame_of m f) → Stands m k s
+pub stands : (m k : Ram) (s : Space) → IsMapped m s → IsOnce m s → Writes m k s.root.0 s.trap.0 (pages_in s.size)
+    → ((free : Frames) → IsSpace m s free → (f : ℕ) → further_at free f ≢ 0 → frame_of k f ≡ frame_of m f)
+    → Stands m k s
 stands m k s is once w private =
     let put = writes-put is once w in
     record {
@@ -68,7 +84,8 @@ stands m k s is once w private =
 pub page-inside : (m : Ram) (r t n p : ℕ) → IsDense m r t n → p < n → frame_at m r p < length m
 page-inside m r t n p is low = (lookup-sound is.tree p (is.pages p low)).0
 
-pub page-apart : (m : Ram) (r t n p q : ℕ) → ((f : ℕ) → count_of f (held m r t n) ≤ 1) → p < n → q < n → q ≢ p → frame_at m r q ≢ frame_at m r p
+pub page-apart : (m : Ram) (r t n p q : ℕ) → ((f : ℕ) → count_of f (held m r t n) ≤ 1) → p < n → q < n → q ≢ p
+    → frame_at m r q ≢ frame_at m r p
 page-apart m r t n p q once low high ne e =
     let one : (x : ℕ) → count_of x (frames_below m r n) ≤ 1 = λ x. omega (arith, once x, count-held) in
     elim (cases_lt p q) [
@@ -76,19 +93,23 @@ page-apart m r t n p q once low high ne e =
       | inr more ↦ pages-apart m r n q p one (omega arith) low e
     ]
 
-pub pages-same : (m : Ram) (r t n p q : ℕ) → ((f : ℕ) → count_of f (held m r t n) ≤ 1) → p < n → q < n → frame_at m r p ≡ frame_at m r q → p ≡ q
-pages-same m r t n p q once low high same = elim (cases_eq p q) [ inl e ↦ e | inr ne ↦ absurd (page-apart m r t n q p once high low ne same) ]
+pub pages-same : (m : Ram) (r t n p q : ℕ) → ((f : ℕ) → count_of f (held m r t n) ≤ 1) → p < n → q < n
+    → frame_at m r p ≡ frame_at m r q → p ≡ q
+pages-same m r t n p q once low high same =
+    elim (cases_eq p q) [ inl e ↦ e | inr ne ↦ absurd (page-apart m r t n q p once high low ne same) ]
 
 pub trap-apart : (m : Ram) (r t n p : ℕ) → ((f : ℕ) → count_of f (held m r t n) ≤ 1) → p < n → t ≢ frame_at m r p
 trap-apart m r t n p once low e =
-    omega (arith, once t, count-held, count_of-first t t [] refl, page-held m r n p low, ap (λ x. count_of x (frames_below m r n)) e)
+    omega (arith, once t, count-held, count_of-first t t [] refl, page-held m r n p low,
+        ap (λ x. count_of x (frames_below m r n)) e)
 
 pub Writes-page : (m k : Ram) (r t n p : ℕ) (w : List ℕ) → p < n → k ≡ slice_set m (frame_at m r p) w → Writes m k r t n
 Writes-page m k r t n p w low e =
     let f = frame_at m r p in
     record {
       count = rw e (length-set m f w);
-      others = λ v none. rw e (get_or-set_other m f v w [] (λ z. omega (arith, page-held m r n p low, ap (λ x. count_of x (frames_below m r n)) z)));
+      others = λ v none. rw e (get_or-set_other m f v w []
+          (λ z. omega (arith, page-held m r n p low, ap (λ x. count_of x (frames_below m r n)) z)));
     }
 
 pub Writes-trap : (m k : Ram) (r t n : ℕ) (w : List ℕ) → k ≡ slice_set m t w → Writes m k r t n
@@ -98,16 +119,20 @@ Writes-trap m k r t n w e = record {
 }
 
 -- one frame is written, and it has one holder
-pub private-set : (m k : Ram) (s : Frames) (f : ℕ) (w : List ℕ) → further_at s f ≡ 0 → k ≡ slice_set m f w → (v : ℕ) → further_at s v ≢ 0 → frame_of k v ≡ frame_of m v
+pub private-set : (m k : Ram) (s : Frames) (f : ℕ) (w : List ℕ) → further_at s f ≡ 0 → k ≡ slice_set m f w → (v : ℕ)
+    → further_at s v ≢ 0 → frame_of k v ≡ frame_of m v
 private-set m k s f w one e v more = rw e (get_or-set_other m f v w [] (λ z. more (ap (further_at s) z ∙ one)))
 
 -- a store into an open page keeps the space
-pub space-stored : (m k : Ram) (s : Space) (p : ℕ) (w : List ℕ) → IsMapped m s → IsOnce m s → p < pages_in s.size → is_open (marks_at m s.root.0 p) ≡ true → k ≡ slice_set m (frame_at m s.root.0 p) w → Stands m k s
+pub space-stored : (m k : Ram) (s : Space) (p : ℕ) (w : List ℕ) → IsMapped m s → IsOnce m s → p < pages_in s.size
+    → is_open (marks_at m s.root.0 p) ≡ true → k ≡ slice_set m (frame_at m s.root.0 p) w → Stands m k s
 space-stored m k s p w is once low wide e =
-    stands m k s is once (Writes-page m k s.root.0 s.trap.0 (pages_in s.size) p w low e) (λ free h. private-set m k free (frame_at m s.root.0 p) w (h.alone p low wide) e)
+    stands m k s is once (Writes-page m k s.root.0 s.trap.0 (pages_in s.size) p w low e)
+        (λ free h. private-set m k free (frame_at m s.root.0 p) w (h.alone p low wide) e)
 
 -- and sets that page's bytes
-pub pages-stored : (m k : Ram) (s : Space) (p : ℕ) (w : List ℕ) → IsMapped m s → IsOnce m s → p < pages_in s.size → k ≡ slice_set m (frame_at m s.root.0 p) w
+pub pages-stored : (m k : Ram) (s : Space) (p : ℕ) (w : List ℕ) → IsMapped m s → IsOnce m s → p < pages_in s.size
+    → k ≡ slice_set m (frame_at m s.root.0 p) w
     → pages_of k s ≡ slice_set (pages_of m s) p (page_with w (marks_at m s.root.0 p))
 pages-stored m k s p w is once low e =
     let r = s.root.0 in
@@ -117,25 +142,40 @@ pages-stored m k s p w is once low e =
     let d : Page = page_with w (marks_at m r p) in
     let old = pages_below m r n in
     let looks = (writes-put is once (Writes-page m k r t n p w low e)).looks in
-    let page : (q : ℕ) → page_at k r q ≡ page_with (frame_of k (frame_at m r q)) (marks_at m r q) = λ q. ap (λ x. page_with (frame_of k x) (marks_at k r q)) (frame_at-same m k r q (looks q)) ∙ ap (page_with (frame_of k (frame_at m r q))) (marks_at-same m k r q (looks q)) in
-    let here : page_at k r p ≡ d = page p ∙ ap (λ b. page_with b (marks_at m r p)) (ap (λ x. frame_of x f) e ∙ get_or-set_same m f w [] (page-inside m r t n p is low)) in
-    let others : (q : ℕ) → q < n → q ≢ p → page_at k r q ≡ page_at m r q = λ q h ne. page q ∙ ap (λ b. page_with b (marks_at m r q)) (ap (λ x. frame_of x (frame_at m r q)) e ∙ get_or-set_other m f (frame_at m r q) w [] (page-apart m r t n p q once low h ne)) in
-    ext_get_or d (pages_below k r n) (slice_set old p d) (length-pages k r n ∙ sym (length-set old p d ∙ length-pages m r n)) (λ q h.
+    let page : (q : ℕ) → page_at k r q ≡ page_with (frame_of k (frame_at m r q)) (marks_at m r q) =
+            λ q. ap (λ x. page_with (frame_of k x) (marks_at k r q)) (frame_at-same m k r q (looks q))
+            ∙ ap (page_with (frame_of k (frame_at m r q))) (marks_at-same m k r q (looks q)) in
+    let here : page_at k r p ≡ d = page p
+            ∙ ap (λ b. page_with b (marks_at m r p))
+            (ap (λ x. frame_of x f) e ∙ get_or-set_same m f w [] (page-inside m r t n p is low)) in
+    let others : (q : ℕ) → q < n → q ≢ p
+            → page_at k r q ≡ page_at m r q = λ q h ne. page q
+            ∙ ap (λ b. page_with b (marks_at m r q))
+            (ap (λ x. frame_of x (frame_at m r q)) e
+            ∙ get_or-set_other m f (frame_at m r q) w [] (page-apart m r t n p q once low h ne)) in
+    ext_get_or d (pages_below k r n) (slice_set old p d)
+        (length-pages k r n ∙ sym (length-set old p d ∙ length-pages m r n)) (λ q h.
     let inside : q < n = omega (arith, length-pages k r n) in
     get_or-pages k r n q d inside ∙ (elim (cases_eq q p) [
-      | inl z ↦ ap (page_at k r) z ∙ here ∙ sym (ap (λ x. get_or (slice_set old p d) x d) z ∙ get_or-set_same old p d d (omega (arith, length-pages m r n)))
+      | inl z ↦ ap (page_at k r) z ∙ here
+          ∙ sym (ap (λ x. get_or (slice_set old p d) x d) z
+          ∙ get_or-set_same old p d d (omega (arith, length-pages m r n)))
       | inr ne ↦ others q inside ne ∙ sym (get_or-set_other old p q d d ne ∙ get_or-pages m r n q d inside)
     ]))
 
 -- the pages keep their bytes where only the trap frame is written
-pub pages-kept : (m k : Ram) (s : Space) (w : List ℕ) → IsMapped m s → IsOnce m s → k ≡ slice_set m s.trap.0 w → pages_of k s ≡ pages_of m s
+pub pages-kept : (m k : Ram) (s : Space) (w : List ℕ) → IsMapped m s → IsOnce m s → k ≡ slice_set m s.trap.0 w
+    → pages_of k s ≡ pages_of m s
 pages-kept m k s w is once e =
     pages_below-same m k s.root.0 (pages_in s.size)
     (λ p h. (writes-put is once (Writes-trap m k s.root.0 s.trap.0 (pages_in s.size) w e)).looks p)
-    (λ p h. rw e (get_or-set_other m s.trap.0 (frame_at m s.root.0 p) w [] (λ z. trap-apart m s.root.0 s.trap.0 (pages_in s.size) p once h (sym z))))
+    (λ p h. rw e (get_or-set_other m s.trap.0 (frame_at m s.root.0 p) w []
+        (λ z. trap-apart m s.root.0 s.trap.0 (pages_in s.size) p once h (sym z))))
 
 pub Stands-none : (m : Ram) (s : Space) → IsMapped m s → IsOnce m s → Stands m m s
-Stands-none m s is once = record { count = refl; mapped = is; once = once; mapping = refl; entries = refl; frames = refl; space = λ free h. h; trades = λ free h. Trades-none m free (holds m s) }
+Stands-none m s is once =
+    record { count = refl; mapped = is; once = once; mapping = refl; entries = refl; frames = refl;
+    space = λ free h. h; trades = λ free h. Trades-none m free (holds m s) }
 
 pub Stands-twice : (m k l : Ram) (s : Space) → Stands m k s → Stands k l s → Stands m l s
 Stands-twice m k l s a b = record {
@@ -156,30 +196,41 @@ pub length-saved : (m : Ram) (s : Space) → length (saved_registers m s) ≡ 32
 unfolding saved_registers
 length-saved m s = ap suc (length-map-range_with_len (saved_register m s) 1 31)
 
-module _ (m : Ram) (s : Space) (xs : List ℕ) (len : length xs ≡ 32) (none : get_or xs 0 0 ≡ 0) (same : (i : ℕ) → 0 < i → i < 32 → saved_register m s i ≡ get_or xs i 0) where
+module _ (m : Ram) (s : Space) (xs : List ℕ) (len : length xs ≡ 32) (none : get_or xs 0 0 ≡ 0)
+    (same : (i : ℕ) → 0 < i → i < 32 → saved_register m s i ≡ get_or xs i 0) where
   each : (i : ℕ) → i < 32 → get_or (saved_registers m s) i 0 ≡ get_or xs i 0
   unfolding saved_registers
   each zero h = sym none
-  each (suc i) h = get_or-map-range_with_len (saved_register m s) 1 31 i (suc i) 0 (omega arith) (omega arith) ∙ same (suc i) (omega arith) h
+  each (suc i) h = get_or-map-range_with_len (saved_register m s) 1 31 i (suc i) 0 (omega arith) (omega arith)
+      ∙ same (suc i) (omega arith) h
 
   pub saved-is : saved_registers m s ≡ xs
-  saved-is = ext_get_or 0 (saved_registers m s) xs (length-saved m s ∙ sym len) (λ i h. each i (omega (arith, length-saved m s)))
+  saved-is = ext_get_or 0 (saved_registers m s) xs (length-saved m s ∙ sym len)
+      (λ i h. each i (omega (arith, length-saved m s)))
 
 -- a store into the trap frame leaves the pages
-pub trap-stored : (m k : Ram) (s : Space) (o x : ℕ) → IsMapped m s → IsOnce m s → k ≡ put m s.trap.0 o (word_bytes 8 x) → Stands m k s × (pages_of k s ≡ pages_of m s)
+pub trap-stored : (m k : Ram) (s : Space) (o x : ℕ) → IsMapped m s → IsOnce m s → k ≡ put m s.trap.0 o (word_bytes 8 x)
+    → Stands m k s × (pages_of k s ≡ pages_of m s)
 unfolding put
 trap-stored m k s o x is once e =
     let w = put_bytes (frame_of m s.trap.0) o (word_bytes 8 x) in
     let writes = Writes-trap m k s.root.0 s.trap.0 (pages_in s.size) w e in
-    (stands m k s is once writes (λ free h. private-set m k free s.trap.0 w (h.own s.trap.0 (omega (arith, count_of-first s.trap.0 s.trap.0 [] refl))) e), pages-kept m k s w is once e)
+    (stands m k s is once writes
+        (λ free h. private-set m k free s.trap.0 w
+        (h.own s.trap.0 (omega (arith, count_of-first s.trap.0 s.trap.0 [] refl))) e), pages-kept m k s w is once e)
 
 -- and the bytes beside it
-pub beside-stored : (m k : Ram) (s : Space) (o x at : ℕ) → s.trap.0 < length m → length (frame_of m s.trap.0) ≡ 4096 → o + 8 ≤ 4096 → (at < o) ⊎ (o + 8 ≤ at) → k ≡ put m s.trap.0 o (word_bytes 8 x)
+pub beside-stored : (m k : Ram) (s : Space) (o x at : ℕ) → s.trap.0 < length m → length (frame_of m s.trap.0) ≡ 4096
+    → o + 8 ≤ 4096 → (at < o) ⊎ (o + 8 ≤ at) → k ≡ put m s.trap.0 o (word_bytes 8 x)
     → get_or (registers_of k s) at 0 ≡ get_or (registers_of m s) at 0
 beside-stored m k s o x at inside whole fits (inl low) e =
-    rw (e, frame_of-put_same m s.trap.0 o (word_bytes 8 x) inside) (get_or-put_bytes_below (frame_of m s.trap.0) o (word_bytes 8 x) at 0 (omega (arith, length-word_bytes 8 x)) low)
+    rw (e, frame_of-put_same m s.trap.0 o (word_bytes 8 x) inside)
+        (get_or-put_bytes_below (frame_of m s.trap.0) o (word_bytes 8 x)
+        at 0 (omega (arith, length-word_bytes 8 x)) low)
 beside-stored m k s o x at inside whole fits (inr high) e =
-    rw (e, frame_of-put_same m s.trap.0 o (word_bytes 8 x) inside) (get_or-put_bytes_above (frame_of m s.trap.0) o (word_bytes 8 x) at 0 (omega (arith, length-word_bytes 8 x)) (omega (arith, length-word_bytes 8 x)))
+    rw (e, frame_of-put_same m s.trap.0 o (word_bytes 8 x) inside)
+        (get_or-put_bytes_above (frame_of m s.trap.0) o (word_bytes 8 x)
+        at 0 (omega (arith, length-word_bytes 8 x)) (omega (arith, length-word_bytes 8 x)))
 
 pub trap-inside : (m : Ram) (s : Space) → IsMapped m s → s.trap.0 < length m
 trap-inside m s is = (lookup-sound is.tree trap_page is.trap).0
@@ -192,20 +243,25 @@ pub record Saves (m k : Ram) (s : Space) (xs : List ℕ) (pc i : ℕ) : Type 0 w
   pub saved : (j : ℕ) → 0 < j → j < i → saved_register k s j ≡ get_or xs j 0
   pub spare : (at : ℕ) → IsSpare at → get_or (registers_of k s) at 0 ≡ get_or (registers_of m s) at 0
 
-pub saves-start : {m k : Ram} {s : Space} {xs : List ℕ} {pc : ℕ} → IsMemory m → IsMapped m s → IsOnce m s → pc < 2 ^ 64 → k ≡ put m s.trap.0 24 (word_bytes 8 pc) → Saves m k s xs pc 1
+pub saves-start : {m k : Ram} {s : Space} {xs : List ℕ} {pc : ℕ} → IsMemory m → IsMapped m s → IsOnce m s → pc < 2 ^ 64
+    → k ≡ put m s.trap.0 24 (word_bytes 8 pc) → Saves m k s xs pc 1
 saves-start {m} {k} {s} {pc} memory is once small e =
     let inside = trap-inside m s is in
     let both = trap-stored m k s 24 pc is once e in
     record {
       stands = both.0;
       pages = both.1;
-      counter = ap (λ n. word_of n s.trap.0 24 8) e ∙ word_of-put_same m s.trap.0 24 8 pc memory inside (omega arith) small;
+      counter = ap (λ n. word_of n s.trap.0 24 8) e
+          ∙ word_of-put_same m s.trap.0 24 8 pc memory inside (omega arith) small;
       saved = λ j low high. absurd (omega arith);
-      spare = λ at free. beside-stored m k s 24 pc at inside (memory.sized s.trap.0 inside) (omega arith) (elim free [ inl a ↦ inl a | inr b ↦ elim b [ inl x ↦ inr (omega arith) | inr y ↦ inr (omega arith) ] ]) e;
+      spare = λ at free. beside-stored m k s 24 pc
+          at inside (memory.sized s.trap.0 inside) (omega arith)
+          (elim free [ inl a ↦ inl a | inr b ↦ elim b [ inl x ↦ inr (omega arith) | inr y ↦ inr (omega arith) ] ]) e;
     }
 
 module _ {m k : Ram} {s : Space} {xs : List ℕ} {pc i : ℕ} (memory : IsMemory k) (was : Saves m k s xs pc i) where
-  pub saves-next : {l : Ram} {x : ℕ} → 0 < i → i < 32 → x < 2 ^ 64 → x ≡ get_or xs i 0 → l ≡ put k s.trap.0 (32 + 8 * i) (word_bytes 8 x) → Saves m l s xs pc (i + 1)
+  pub saves-next : {l : Ram} {x : ℕ} → 0 < i → i < 32 → x < 2 ^ 64 → x ≡ get_or xs i 0
+      → l ≡ put k s.trap.0 (32 + 8 * i) (word_bytes 8 x) → Saves m l s xs pc (i + 1)
   saves-next {l} {x} low high small is e =
       let t = s.trap.0 in
       let o = 32 + 8 * i in
@@ -215,12 +271,20 @@ module _ {m k : Ram} {s : Space} {xs : List ℕ} {pc i : ℕ} (memory : IsMemory
       record {
         stands = Stands-twice m k l s was.stands both.0;
         pages = both.1 ∙ was.pages;
-        counter = ap (λ n. word_of n t 24 8) e ∙ word_of-put_beside k t o (word_bytes 8 x) 24 8 memory inside (omega arith) (inl (omega arith)) ∙ was.counter;
+        counter = ap (λ n. word_of n t 24 8) e
+            ∙ word_of-put_beside k t o (word_bytes 8 x) 24 8 memory inside (omega arith) (inl (omega arith))
+            ∙ was.counter;
         saved = λ j lo hi. elim (cases_eq j i) [
-          | inl same ↦ ap (λ q. word_of l t (32 + 8 * q) 8) same ∙ ap (λ n. word_of n t o 8) e ∙ word_of-put_same k t o 8 x memory inside (omega arith) small ∙ is ∙ ap (λ q. get_or xs q 0) (sym same)
-          | inr ne ↦ ap (λ n. word_of n t (32 + 8 * j) 8) e ∙ word_of-put_beside k t o (word_bytes 8 x) (32 + 8 * j) 8 memory inside (omega arith) (inl (omega arith)) ∙ was.saved j lo (omega arith)
+          | inl same ↦ ap (λ q. word_of l t (32 + 8 * q) 8) same ∙ ap (λ n. word_of n t o 8) e
+              ∙ word_of-put_same k t o 8 x memory inside (omega arith) small ∙ is ∙ ap (λ q. get_or xs q 0) (sym same)
+          | inr ne ↦ ap (λ n. word_of n t (32 + 8 * j) 8) e
+              ∙ word_of-put_beside k t o (word_bytes 8 x) (32 + 8 * j) 8 memory inside (omega arith)
+              (inl (omega arith)) ∙ was.saved j lo (omega arith)
         ];
-        spare = λ at free. beside-stored k l s o x at inside (memory.sized t inside) (omega arith) (elim free [ inl a ↦ inl (omega arith) | inr b ↦ elim b [ inl x ↦ inl (omega arith) | inr y ↦ inr (omega arith) ] ]) e ∙ was.spare at free;
+        spare = λ at free. beside-stored k l s o x
+            at inside (memory.sized t inside) (omega arith)
+            (elim free [ inl a ↦ inl (omega arith) | inr b ↦ elim b
+            [ inl x ↦ inl (omega arith) | inr y ↦ inr (omega arith) ] ]) e ∙ was.spare at free;
       }
 
 -- the registers below i of a list are those of the trap frame
@@ -230,14 +294,18 @@ pub record Loads (m : Ram) (s : Space) (xs : List ℕ) (i : ℕ) : Type 0 where
   pub loaded : (j : ℕ) → 0 < j → j < i → saved_register m s j ≡ get_or xs j 0
 
 pub loads-start : (m : Ram) (s : Space) (xs : List ℕ) → length xs ≡ 32 → Loads m s (slice_set xs 0 0) 1
-loads-start m s xs len = record { count = length-set xs 0 0 ∙ len; first = get_or-set_same xs 0 0 0 (omega arith); loaded = λ j low high. absurd (omega arith) }
+loads-start m s xs len =
+    record { count = length-set xs 0 0 ∙ len; first = get_or-set_same xs 0 0 0 (omega arith);
+    loaded = λ j low high. absurd (omega arith) }
 
-pub loads-next : {m : Ram} {s : Space} {xs : List ℕ} {i x : ℕ} → Loads m s xs i → 0 < i → i < 32 → x ≡ saved_register m s i → Loads m s (slice_set xs i x) (i + 1)
+pub loads-next : {m : Ram} {s : Space} {xs : List ℕ} {i x : ℕ} → Loads m s xs i → 0 < i → i < 32
+    → x ≡ saved_register m s i → Loads m s (slice_set xs i x) (i + 1)
 loads-next {m} {s} {xs} {i} {x} was low high is = record {
   count = length-set xs i x ∙ was.count;
   first = get_or-set_other xs i 0 x 0 (omega arith) ∙ was.first;
   loaded = λ j lo hi. elim (cases_eq j i) [
-    | inl same ↦ ap (saved_register m s) same ∙ sym is ∙ sym (ap (λ k. get_or (slice_set xs i x) k 0) same ∙ get_or-set_same xs i x 0 (omega arith))
+    | inl same ↦ ap (saved_register m s) same ∙ sym is
+        ∙ sym (ap (λ k. get_or (slice_set xs i x) k 0) same ∙ get_or-set_same xs i x 0 (omega arith))
     | inr ne ↦ was.loaded j lo (omega arith) ∙ sym (get_or-set_other xs i j x 0 ne)
   ];
 }
@@ -251,15 +319,18 @@ write_from-none (p ∷ ps) at = refl
 -- nothing is written
 pub write-none : (mem : Memory) (at : ℕ) → write_bytes mem at [] ≡ mem
 unfolding write_bytes
-write-none mem at = ap (λ ps. take (at / 4096) mem ++ ps) (write_from-none (drop (at / 4096) mem) (at % 4096)) ∙ take-append-drop (at / 4096) mem
+write-none mem at = ap (λ ps. take (at / 4096) mem ++ ps) (write_from-none (drop (at / 4096) mem) (at % 4096))
+    ∙ take-append-drop (at / 4096) mem
 
-write_from-first : (p : Page) (ps : List Page) (at : ℕ) (bs : List ℕ) → 0 < length bs → write_from (p ∷ ps) at bs ≡ written p at (take (4096 - at) bs) ∷ write_from ps 0 (drop (4096 - at) bs)
+write_from-first : (p : Page) (ps : List Page) (at : ℕ) (bs : List ℕ) → 0 < length bs
+    → write_from (p ∷ ps) at bs ≡ written p at (take (4096 - at) bs) ∷ write_from ps 0 (drop (4096 - at) bs)
 write_from-first p ps at [] h = absurd (omega arith)
 write_from-first p ps at (b ∷ bs) h = refl
 
 -- the part that lies in the first page is written, and then the rest
 whole-page : (mem : Memory) (at : ℕ) (p : Page) (bs : List ℕ) → 0 < length bs → slice_get mem (at / 4096) ≡ Some p
-    → write_bytes (slice_set mem (at / 4096) (written p (at % 4096) (take (4096 - at % 4096) bs))) (at + (4096 - at % 4096)) (drop (4096 - at % 4096) bs) ≡ write_bytes mem at bs
+    → write_bytes (slice_set mem (at / 4096) (written p (at % 4096) (take (4096 - at % 4096) bs)))
+        (at + (4096 - at % 4096)) (drop (4096 - at % 4096) bs) ≡ write_bytes mem at bs
 unfolding write_bytes
 whole-page mem at p bs some here =
     let q = at / 4096 in
@@ -268,13 +339,19 @@ whole-page mem at p bs some here =
     let rest = drop (4096 - o) bs in
     let page : (at + (4096 - o)) / 4096 ≡ suc q = omega arith in
     let start : (at + (4096 - o)) % 4096 ≡ 0 = omega arith in
-    let front : take (suc q) (slice_set mem q w) ≡ take q mem ++ (w ∷ []) = take-suc-set mem q w (item-at mem q p here).1 in
+    let front : take (suc q) (slice_set mem q w) ≡ take q mem ++ (w ∷ []) =
+            take-suc-set mem q w (item-at mem q p here).1 in
     let back : drop (suc q) (slice_set mem q w) ≡ drop (suc q) mem = drop-set-lt (suc q) mem q w (omega arith) in
-    let first : write_from (drop q mem) o bs ≡ w ∷ write_from (drop (suc q) mem) 0 rest = ap (λ l. write_from l o bs) ((item-at mem q p here).0) ∙ write_from-first p (drop (suc q) mem) o bs some in
-    rw (page, start, front, back) (append_assoc (take q mem) (w ∷ []) (write_from (drop (suc q) mem) 0 rest) ∙ sym (ap (λ l. take q mem ++ l) first))
+    let first : write_from (drop q mem) o bs ≡ w ∷ write_from (drop (suc q) mem) 0 rest =
+            ap (λ l. write_from l o bs) ((item-at mem q p here).0) ∙ write_from-first p (drop (suc q) mem) o bs some in
+    rw (page, start, front, back)
+        (append_assoc (take q mem) (w ∷ []) (write_from (drop (suc q) mem) 0 rest)
+        ∙ sym (ap (λ l. take q mem ++ l) first))
 
-pub write-page : (mem : Memory) (at n : ℕ) (p : Page) (bs : List ℕ) → 0 < length bs → slice_get mem (at / 4096) ≡ Some p → n ≡ min (4096 - at % 4096) (length bs)
-    → write_bytes (slice_set mem (at / 4096) (written p (at % 4096) (take n bs))) (at + n) (drop n bs) ≡ write_bytes mem at bs
+pub write-page : (mem : Memory) (at n : ℕ) (p : Page) (bs : List ℕ) → 0 < length bs
+    → slice_get mem (at / 4096) ≡ Some p → n ≡ min (4096 - at % 4096) (length bs)
+    → write_bytes (slice_set mem (at / 4096) (written p (at % 4096) (take n bs))) (at + n) (drop n bs)
+        ≡ write_bytes mem at bs
 write-page mem at n p bs some here is = elim (cases_lt (length bs) (4096 - at % 4096)) [
   | inl short ↦
       let l = 4096 - at % 4096 in
@@ -283,7 +360,9 @@ write-page mem at n p bs some here is = elim (cases_lt (length bs) (4096 - at % 
       let none_l : drop l bs ≡ [] = drop_all l bs (omega arith) in
       let same : take n bs ≡ take l bs = take_all n bs (omega arith) ∙ sym (take_all l bs (omega arith)) in
       let k = slice_set mem (at / 4096) (written p (at % 4096) (take n bs)) in
-      rw (none, write-none k (at + n), same) (rw (none_l, write-none (slice_set mem (at / 4096) (written p (at % 4096) (take l bs))) (at + l)) at (whole-page mem at p bs some here))
+      rw (none, write-none k (at + n), same)
+          (rw (none_l, write-none (slice_set mem (at / 4096) (written p (at % 4096) (take l bs))) (at + l))
+          at (whole-page mem at p bs some here))
   | inr long ↦
       let e : n ≡ 4096 - at % 4096 = omega arith in
       rw e (whole-page mem at p bs some here)
@@ -292,7 +371,8 @@ write-page mem at n p bs some here is = elim (cases_lt (length bs) (4096 - at % 
 -- ---- the frames
 
 -- a page whose frame the space alone holds is written
-pub put-reframes : (m k : Ram) (s : Space) (q : Frames) (p at : ℕ) (bs : List ℕ) → IsSpace m s q → p < pages_in s.size → further_at q (frame_at m s.root.0 p) ≡ 0 → k ≡ put m (frame_at m s.root.0 p) at bs → Reframes m k s q q
+pub put-reframes : (m k : Ram) (s : Space) (q : Frames) (p at : ℕ) (bs : List ℕ) → IsSpace m s q → p < pages_in s.size
+    → further_at q (frame_at m s.root.0 p) ≡ 0 → k ≡ put m (frame_at m s.root.0 p) at bs → Reframes m k s q q
 unfolding put
 put-reframes m k s q p at bs is low sole e =
     let r = s.root.0 in
@@ -300,25 +380,33 @@ put-reframes m k s q p at bs is low sole e =
     let f = frame_at m r p in
     let w = put_bytes (frame_of m f) at bs in
     let both = space-stays is (Writes-page m k r s.trap.0 n p w low e) (private-set m k q f w sole e) in
-    record { space = both.0; registers = rw e (get_or-set_other m f s.trap.0 w [] (trap-apart m r s.trap.0 n p is.once low)); trades = both.1 }
+    record { space = both.0;
+        registers = rw e (get_or-set_other m f s.trap.0 w [] (trap-apart m r s.trap.0 n p is.once low)); trades =
+        both.1 }
 
-module _ (m k : Ram) (s : Space) (p at : ℕ) (bs : List ℕ) (is : IsMapped m s) (once : IsOnce m s) (low : p < pages_in s.size) (e : k ≡ put m (frame_at m s.root.0 p) at bs) where
+module _ (m k : Ram) (s : Space) (p at : ℕ) (bs : List ℕ) (is : IsMapped m s) (once : IsOnce m s)
+    (low : p < pages_in s.size) (e : k ≡ put m (frame_at m s.root.0 p) at bs) where
   -- the leaves are read as before
   pub put-reads : SameLeaves m k s.root.0 (pages_in s.size)
   unfolding put
-  put-reads = (writes-put is once (Writes-page m k s.root.0 s.trap.0 (pages_in s.size) p (put_bytes (frame_of m (frame_at m s.root.0 p)) at bs) low e)).reads
+  put-reads = (writes-put is once
+      (Writes-page m k s.root.0 s.trap.0 (pages_in s.size) p (put_bytes (frame_of m (frame_at m s.root.0 p)) at bs) low
+      e)).reads
 
   pub put-written : pages_of k s ≡ slice_set (pages_of m s) p (written (page_at m s.root.0 p) at bs)
   unfolding put put_bytes
   put-written =
       let bytes = frame_of m (frame_at m s.root.0 p) in
-      let same : put_bytes bytes at bs ≡ overwrite bytes at bs = sym (append_assoc (take at bytes) bs (drop (at + length bs) bytes)) in
+      let same : put_bytes bytes at bs ≡ overwrite bytes at bs =
+              sym (append_assoc (take at bytes) bs (drop (at + length bs) bytes)) in
       pages-stored m k s p (put_bytes bytes at bs) is once low e
       ∙ ap (λ b. slice_set (pages_of m s) p (page_with b (marks_at m s.root.0 p))) same
 
 -- ---- bytes that lie in one page
 
-module _ (m k : Ram) (s : Space) (address : ℕ) (bs : List ℕ) (is : IsMapped m s) (once : IsOnce m s) (low : address / 4096 < pages_in s.size) (e : k ≡ put m (frame_at m s.root.0 (address / 4096)) (address % 4096) bs) where
+module _ (m k : Ram) (s : Space) (address : ℕ) (bs : List ℕ) (is : IsMapped m s) (once : IsOnce m s)
+    (low : address / 4096 < pages_in s.size) (e : k ≡ put m (frame_at m s.root.0 (address / 4096)) (address % 4096) bs)
+    where
   abbrev page : ℕ
   page = address / 4096
 
@@ -326,10 +414,12 @@ module _ (m k : Ram) (s : Space) (address : ℕ) (bs : List ℕ) (is : IsMapped 
   after new = slice_set (pages_of m s) page (written (page_at m s.root.0 page) (address % 4096) new)
 
   -- all of them are written
-  pub put-stored : 0 < length bs → length bs ≤ 4096 - address % 4096 → pages_of k s ≡ write_bytes (pages_of m s) address bs
+  pub put-stored : 0 < length bs → length bs ≤ 4096 - address % 4096
+      → pages_of k s ≡ write_bytes (pages_of m s) address bs
   put-stored some fits =
       let n = length bs in
-      let here = mapped-page m (mapping_of m s) page (read_at right_marks m s.root.0 page) (sym (get-mapping right_marks m s.root.0 (pages_in s.size) page low)) in
+      let here = mapped-page m (mapping_of m s) page (read_at right_marks m s.root.0 page)
+              (sym (get-mapping right_marks m s.root.0 (pages_in s.size) page low)) in
       put-written m k s page (address % 4096) bs is once low e
       ∙ sym (write-none (after bs) (address + n))
       ∙ ap (write_bytes (after bs) (address + n)) (sym (drop_all n bs (omega arith)))
@@ -339,17 +429,22 @@ module _ (m k : Ram) (s : Space) (address : ℕ) (bs : List ℕ) (is : IsMapped 
   -- and the space stands where the page is open
   pub put-stands : is_open (marks_at m s.root.0 page) ≡ true → Stands m k s
   unfolding put
-  put-stands wide = space-stored m k s page (put_bytes (frame_of m (frame_at m s.root.0 page)) (address % 4096) bs) is once low wide e
+  put-stands wide = space-stored m k s page (put_bytes (frame_of m (frame_at m s.root.0 page)) (address % 4096) bs) is
+      once low wide e
 
 -- ---- a part of a frame is written
 
 -- what was lent comes back with the part in place
-pub part-put : (m : Ram) (f at : ℕ) (bs page new : List ℕ) (n : ℕ) → n ≡ length bs → at + length bs ≤ 4096 → length (frame_of m f) ≡ 4096 → page ≡ frame_of m f → new ≡ bs
+pub part-put : (m : Ram) (f at : ℕ) (bs page new : List ℕ) (n : ℕ) → n ≡ length bs → at + length bs ≤ 4096
+    → length (frame_of m f) ≡ 4096 → page ≡ frame_of m f → new ≡ bs
     → slice_set m f (sized (take at page ++ (new ++ drop n (drop at page)))) ≡ put m f at bs
 unfolding put put_bytes
 part-put m f at bs page new n is fits whole same e =
-    let parts : take at page ++ (new ++ drop n (drop at page)) ≡ take at (frame_of m f) ++ (bs ++ drop (at + length bs) (frame_of m f)) =
+    let parts : take at page ++ (new ++ drop n (drop at page)) ≡ take at (frame_of m f)
+            ++ (bs ++ drop (at + length bs) (frame_of m f)) =
     rw (same, e, is, drop-drop (length bs) at (frame_of m f)) refl in
     let full : length (take at (frame_of m f) ++ (bs ++ drop (at + length bs) (frame_of m f))) ≡ 4096 =
-    omega (arith, length-append (take at (frame_of m f)) (bs ++ drop (at + length bs) (frame_of m f)), length-append bs (drop (at + length bs) (frame_of m f)), length-take at (frame_of m f), length-drop (at + length bs) (frame_of m f)) in
+    omega (arith, length-append (take at (frame_of m f)) (bs ++ drop (at + length bs) (frame_of m f)),
+        length-append bs (drop (at + length bs) (frame_of m f)), length-take at (frame_of m f),
+        length-drop (at + length bs) (frame_of m f)) in
     ap (λ b. slice_set m f (sized b)) parts ∙ ap (slice_set m f) (sized-full _ full)

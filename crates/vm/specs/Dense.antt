@@ -1,5 +1,6 @@
 -- Address spaces, read off a memory.
-use Rattle.std.specs.Prelude.{◌≡◌, ◌≢◌, ◌==◌, ◌<◌, ◌≤◌, ℕ, zero, suc, ◌+◌, ◌/◌, ◌%◌, ◌^◌, if◌then◌else◌, nat_lt, true, List, [], ◌∷◌, ◌++◌, Some, None, replicate, unwrap_or}
+use Rattle.std.specs.Prelude.{◌≡◌, ◌≢◌, ◌==◌, ◌<◌, ◌≤◌, ℕ, zero, suc, ◌+◌, ◌/◌, ◌%◌, ◌^◌, if◌then◌else◌, nat_lt, true}
+use Rattle.std.specs.Prelude.{List, [], ◌∷◌, ◌++◌, Some, None, replicate, unwrap_or}
 use Rattle.ram.specs.Memory.{frame_of}
 use Rattle.frames.specs.declared.Frames.{Frames}
 use Rattle.frames.specs.Free.{further_at, IsFreeList}
@@ -68,7 +69,8 @@ entries_below m r n = read_below entry_marks m r n
 
 -- at each page from one on, of those below n, a store goes through where a program may write by right
 abbrev pub IsOpenFrom : List (List ℕ) → ℕ → ℕ → ℕ → Type 0
-IsOpenFrom m r n first = (p : ℕ) → first ≤ p → p < n → is_open (marks_at m r p) ≡ (right_marks (marks_at m r p)).writable
+IsOpenFrom m r n first = (p : ℕ) → first ≤ p → p < n
+    → is_open (marks_at m r p) ≡ (right_marks (marks_at m r p)).writable
 
 -- the pages below n
 abbrev pub pages_below : List (List ℕ) → ℕ → ℕ → Memory
@@ -81,7 +83,8 @@ frames_below m r (suc n) = frame_at m r n ∷ frames_below m r n
 
 -- the tables that page p is the first to need, where all pages below it are mapped
 abbrev pub tables_for : List (List ℕ) → ℕ → ℕ → List ℕ
-tables_for m r p = (if p == 0 then table_of m r (mid_node p) ∷ [] else []) ++ (if p % 512 == 0 then table_of m r (low_node p) ∷ [] else [])
+tables_for m r p = (if p == 0 then table_of m r (mid_node p) ∷ [] else [])
+    ++ (if p % 512 == 0 then table_of m r (low_node p) ∷ [] else [])
 
 -- the tables of a space of n pages
 unfoldable pub tables_below : List (List ℕ) → ℕ → ℕ → List ℕ

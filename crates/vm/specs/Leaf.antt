@@ -8,10 +8,11 @@ use Rattle.unixmodel.specs.Memory.{Page, Perm as Rights}
 use Rattle.vm.specs.declared.Marks.{Marks}
 use Rattle.vm.specs.declared.Perm.{Perm}
 
--- What a program may do at a page by right. Bit 8 of a leaf, which the walk doesn't look at, says that it may write, and bit 9
--- that a fork had the page; W says that a store goes through without the kernel.
+-- What a program may do at a page by right. Bit 8 of a leaf, which the walk doesn't look at, says that it may write,
+-- and bit 9 that a fork had the page; W says that a store goes through without the kernel.
 abbrev pub right_marks : ℕ → Rights
-right_marks leaf = record { writable = has leaf 256; executable = has leaf 8; user = has leaf 16; shared = has leaf 512 }
+right_marks leaf = record
+    { writable = has leaf 256; executable = has leaf 8; user = has leaf 16; shared = has leaf 512 }
 
 -- a leaf is open where a store goes through without the kernel
 abbrev pub is_open : ℕ → Bool
@@ -19,14 +20,18 @@ is_open leaf = has leaf 4
 
 -- what the walk lets through
 abbrev pub entry_marks : ℕ → Rights
-entry_marks leaf = record { writable = is_open leaf; executable = has leaf 8; user = has leaf 16; shared = has leaf 512 }
+entry_marks leaf = record
+    { writable = is_open leaf; executable = has leaf 8; user = has leaf 16; shared = has leaf 512 }
 
--- the leaf of a page: valid, readable, accessed and dirty, and what a program may do there; only a page that a fork had is closed
+-- the leaf of a page: valid, readable, accessed and dirty, and what a program may do there; only a page that a fork had
+-- is closed
 abbrev pub user_leaf : Rights → Bool → ℕ
 user_leaf m wide =
-    1 + 2 + 4 * one_if (m.writable && (wide || not m.shared)) + 8 * one_if m.executable + 16 * one_if m.user + 64 + 128 + 256 * one_if m.writable + 512 * one_if m.shared
+    1 + 2 + 4 * one_if (m.writable && (wide || not m.shared)) + 8 * one_if m.executable + 16 * one_if m.user + 64 + 128
+        + 256 * one_if m.writable + 512 * one_if m.shared
 
--- these are the marks of the leaf of a page: it is open only where it is writable by right, and is so where no fork had it
+-- these are the marks of the leaf of a page: it is open only where it is writable by right, and is so where no fork had
+-- it
 abbrev pub IsUserLeaf : ℕ → Type 0
 IsUserLeaf leaf = leaf ≡ user_leaf (right_marks leaf) (is_open leaf)
 

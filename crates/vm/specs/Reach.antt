@@ -1,5 +1,6 @@
 -- What a program's memory shows from an address on.
-use Rattle.std.specs.Prelude.{◌≡◌, ℕ, ◌%◌, List, [], drop, length, Option, Some, None, option_map, slice_get, take, if◌then◌else◌, nat_le}
+use Rattle.std.specs.Prelude.{◌≡◌, ℕ, ◌%◌, List, [], drop, length, Option, Some, None, option_map, slice_get, take}
+use Rattle.std.specs.Prelude.{if◌then◌else◌, nat_le}
 use Rattle.std.specs.List.{prefix_len}
 use Rattle.unixmodel.specs.declared.trap.Access.{Access}
 use Rattle.unixmodel.specs.Memory.{Page, Memory, permits, page_for, overwrite}

@@ -4,7 +4,8 @@ use Rattle.ram.specs.Memory.{frame_of}
 use Rattle.frames.specs.declared.Frames.{Frames}
 use Rattle.frames.specs.Free.{free_count}
 use Rattle.vm.specs.declared.Space.{Space}
-use Rattle.vm.specs.Dense.{mapping_below, entries_below, frame_at, frames_for, held, marks_at, page_at, pages_below, IsDense, IsOpenFrom, OwnsFrames}
+use Rattle.vm.specs.Dense.{mapping_below, entries_below, frame_at, frames_for, held, marks_at, page_at, pages_below}
+use Rattle.vm.specs.Dense.{IsDense, IsOpenFrom, OwnsFrames}
 use Rattle.vm.specs.Leaf.{marks_from, right_marks}
 use Rattle.frames.specs.Holders.{count_of, holders_of, Trades}
 use Rattle.sv39.specs.Mapping.{Mapped, memory_of}
@@ -72,7 +73,8 @@ HasFramesOf m k x c = (p : ℕ) → p < pages_in x.size → page_frame k c p ≡
 
 -- the frame of each page of a space got a holder more
 abbrev pub GainsHolders : List (List ℕ) → List (List ℕ) → Space → Frames → Frames → Type 0
-GainsHolders m k x s w = (p : ℕ) → p < pages_in x.size → holders_of k w (page_frame m x p) ≡ holders_of m s (page_frame m x p) + 1
+GainsHolders m k x s w = (p : ℕ) → p < pages_in x.size
+    → holders_of k w (page_frame m x p) ≡ holders_of m s (page_frame m x p) + 1
 
 -- the other pages of a space have the marks that they had
 abbrev pub SameOtherMarks : List (List ℕ) → List (List ℕ) → Space → ℕ → Type 0
@@ -88,20 +90,23 @@ new_pages size more perm = replicate (pages_in (size + more) - pages_in size) (z
 
 -- a space of so many bytes may have so many more, but fewer frames are free than it needs for them
 abbrev pub LacksFrames : List (List ℕ) → Frames → ℕ → ℕ → Type 0
-LacksFrames m s size more = (size + more ≤ max_size) × (frames_for (pages_in size) + free_count m s < frames_for (pages_in (size + more)))
+LacksFrames m s size more = (size + more ≤ max_size)
+    × (frames_for (pages_in size) + free_count m s < frames_for (pages_in (size + more)))
 
 -- the memory of a program once these bytes are stored at an address
 abbrev pub stored : List (List ℕ) → Space → ℕ → List ℕ → Memory
 stored m s address bytes = write_bytes (pages_of m s) address bytes
 
--- no frame stands twice in what the space holds: no two pages have the same, and none of them is a table or the trap frame
+-- no frame stands twice in what the space holds: no two pages have the same, and none of them is a table or the trap
+-- frame
 abbrev pub IsOnce : List (List ℕ) → Space → Type 0
 IsOnce m s = (f : ℕ) → count_of f (holds m s) ≤ 1
 
--- A space's pages from one on stay open where they are, and those that come behind it are open: there a store goes through
--- where the program may write by right.
+-- A space's pages from one on stay open where they are, and those that come behind it are open: there a store goes
+-- through where the program may write by right.
 abbrev pub StaysOpen : List (List ℕ) → List (List ℕ) → Space → Space → Type 0
-StaysOpen m k old new = (first : ℕ) → IsOpenFrom m old.root.0 (pages_in old.size) first → IsOpenFrom k new.root.0 (pages_in new.size) first
+StaysOpen m k old new = (first : ℕ) → IsOpenFrom m old.root.0 (pages_in old.size) first
+    → IsOpenFrom k new.root.0 (pages_in new.size) first
 
 -- a space of which no more was written than the bytes of its pages and its trap frame
 pub record Stands (m k : List (List ℕ)) (s : Space) : Type 0 where

@@ -1,5 +1,6 @@
 -- The trap frame of a space: a program's registers while it doesn't run.
--- Numbers of 8 bytes, the lowest first: the program counter from place 24 on, and register x1 to x31, each at 32 and 8 times its number.
+-- Numbers of 8 bytes, the lowest first: the program counter from place 24 on, and register x1 to x31, each at 32 and 8
+-- times its number.
 use Rattle.std.specs.Prelude.{◌≡◌, ◌<◌, ◌≤◌, ◌⊎◌, ℕ, ◌+◌, ◌*◌, List, ◌∷◌, map, slice_index_or}
 use Rattle.std.specs.List.{range_with_len}
 use Rattle.ram.specs.Memory.{word_of}
@@ -22,4 +23,5 @@ IsSpare at = (at < 24) ⊎ ((32 ≤ at) × (at < 40) ⊎ (288 ≤ at))
 
 -- these bytes of the trap frame are as they were
 abbrev pub KeepsSpare : List (List ℕ) → List (List ℕ) → Space → Type 0
-KeepsSpare m k s = (at : ℕ) → IsSpare at → slice_index_or (registers_of k s) at 0 ≡ slice_index_or (registers_of m s) at 0
+KeepsSpare m k s = (at : ℕ)
+    → IsSpare at → slice_index_or (registers_of k s) at 0 ≡ slice_index_or (registers_of m s) at 0

@@ -1,7 +1,9 @@
 //! What the kernel reads and writes of a program's memory: any bytes that the program itself could.
 
 ghost use Rattle.std.specs.Bool.{OnFalse, OnTrue};
-ghost use Rattle.std.specs.Prelude.{◌≡◌, ◌≢◌, ℕ, ◌+◌, ◌-◌, ◌*◌, ◌/◌, ◌%◌, ◌^◌, ◌<◌, ◌≤◌, List, [], ◌∷◌, ◌++◌, length, min, drop, nat_le, option_map, slice_get, None, Some, false, true, OnOk, OnErr, IfSome, IsTrue, IsErrOf, ◌↔◌, ◌⊎◌};
+ghost use Rattle.std.specs.Prelude.{◌≡◌, ◌≢◌, ℕ, ◌+◌, ◌-◌, ◌*◌, ◌/◌, ◌%◌, ◌^◌, ◌<◌, ◌≤◌, List, [], ◌∷◌, ◌++◌, length};
+ghost use Rattle.std.specs.Prelude.{min, drop, nat_le, option_map, slice_get, None, Some, false, true, OnOk, OnErr};
+ghost use Rattle.std.specs.Prelude.{IfSome, IsTrue, IsErrOf, ◌↔◌, ◌⊎◌};
 ghost use Rattle.ram.specs.Memory.{frame_of, put};
 ghost use Rattle.sv39.specs.Mapping.{AreApart, AreInside, WalksTo};
 ghost use Rattle.unixmodel.specs.declared.trap.Access.TheVariants.{Load, Store};
@@ -9,7 +11,8 @@ ghost use Rattle.unixmodel.specs.Memory.{permits, reach, can_write, read_bytes, 
 ghost use Rattle.vm.specs.Dense.{marks_at};
 ghost use Rattle.vm.specs.Leaf.{rights_from, is_open, mapped_as, right_marks};
 ghost use Rattle.vm.specs.Reach.{run_of, piece_at, short_string, string_in};
-ghost use Rattle.vm.specs.Space.{pages_in, max_size, IsMapped, IsOnce, IsSpace, Stands, entries_of, mapping_of, page_frame, pages_of, Reframes, StaysOpen, stored};
+ghost use Rattle.vm.specs.Space.{pages_in, max_size, IsMapped, IsOnce, IsSpace, Stands, entries_of, mapping_of};
+ghost use Rattle.vm.specs.Space.{page_frame, pages_of, Reframes, StaysOpen, stored};
 
 use crate::{Marks, Perm, RIGHT, SHARED, Space, VmFault, pages_in};
 use bitflags::Flags;
@@ -65,8 +68,8 @@ impl Space {
         self.root
     }
 
-    /// The walk from the root goes by the entries: it gives a page's frame for each access that the page's marks permit,
-    /// and nothing elsewhere, not even at the trap frame. A store goes through at open pages alone.
+    /// The walk from the root goes by the entries: it gives a page's frame for each access that the page's marks
+    /// permit, and nothing elsewhere, not even at the trap frame. A store goes through at open pages alone.
     pub fn walks(&self, ram: &Ram)
         requires { IsMapped ram.now self.now }
         ensures entries { WalksTo ram.now self.now.root.0 (entries_of ram.now self.now) }
@@ -192,8 +195,10 @@ impl Space {
     /// program may not read them all.
     pub fn copy_in(&self, ram: &Ram, address: u64, buffer: &mut [u8]) -> Result<(), VmFault>
         requires { IsMapped ram.now self.now }
-        ensures read { OnOk result (read_bytes (pages_of ram.now self.now) address (length buffer.old) ≡ Some buffer.new) }
-        ensures bad { IsErrOf result VmFault.BadAddress ↔ read_bytes (pages_of ram.now self.now) address (length buffer.old) ≡ None }
+        ensures read { OnOk result
+                (read_bytes (pages_of ram.now self.now) address (length buffer.old) ≡ Some buffer.new) }
+        ensures bad { IsErrOf result VmFault.BadAddress ↔ read_bytes (pages_of ram.now self.now) address
+                (length buffer.old) ≡ None }
         ensures only { OnErr result (IsErrOf result VmFault.BadAddress) }
         ensures unchanged { OnErr result (buffer.new ≡ buffer.old) }
     {
@@ -223,7 +228,8 @@ impl Space {
     /// 0, without it. `None` where a program may not read them and the 0, or the buffer is too short.
     pub fn copy_string(&self, ram: &Ram, address: u64, buffer: &mut [u8]) -> Option<usize>
         requires { IsMapped ram.now self.now }
-        ensures string { string_in buffer.new result ≡ short_string (length buffer.old) (string_at (pages_of ram.now self.now) address) }
+        ensures string { string_in buffer.new result
+                ≡ short_string (length buffer.old) (string_at (pages_of ram.now self.now) address) }
         ensures within { IfSome result (λ n. n ≤ length buffer.old) }
     {
         ram.frames_are_whole();
@@ -261,8 +267,8 @@ impl Space {
         }
     }
 
-    /// Puts bytes into a page where a store goes through: no page gets another frame. `false`: there are none, they don't all
-    /// lie in one page, or it isn't such a page; nothing is written then.
+    /// Puts bytes into a page where a store goes through: no page gets another frame. `false`: there are none, they
+    /// don't all lie in one page, or it isn't such a page; nothing is written then.
     pub fn store(&self, ram: &mut Ram, address: u64, bytes: &[u8]) -> bool
         requires mapped { IsMapped ram.old self.now }
         requires once { IsOnce ram.old self.now }
@@ -288,7 +294,8 @@ impl Space {
         requires page { address / 4096 < pages_in self.now.size }
         requires some { 0 < length bytes.now }
         ensures count { result ≡ min (4096 - address % 4096) (length bytes.now) }
-        ensures rest { stored ram.new self.now (address + result) (drop result bytes.now) ≡ stored ram.old self.now address bytes.now }
+        ensures rest { stored ram.new self.now (address + result) (drop result bytes.now)
+                ≡ stored ram.old self.now address bytes.now }
         ensures frames { Reframes ram.old ram.new self.now frames.old frames.new }
         ensures opens { StaysOpen ram.old ram.new self.now self.now }
     {
@@ -327,7 +334,8 @@ impl Space {
     ) -> Result<(), VmFault>
         requires { IsSpace ram.old self.now frames.old }
         ensures written { OnOk result (pages_of ram.new self.now ≡ stored ram.old self.now address bytes.now) }
-        ensures bad { IsErrOf result VmFault.BadAddress ↔ can_write (pages_of ram.old self.now) address (length bytes.now) ≡ false }
+        ensures bad { IsErrOf result VmFault.BadAddress ↔ can_write (pages_of ram.old self.now) address
+                (length bytes.now) ≡ false }
         ensures only { OnErr result (IsErrOf result VmFault.BadAddress) }
         ensures unchanged { OnErr result ((ram.new ≡ ram.old) × (frames.new ≡ frames.old)) }
         ensures frames { Reframes ram.old ram.new self.now frames.old frames.new }

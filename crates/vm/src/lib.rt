@@ -10,7 +10,8 @@
 //! refused changes nothing. Nothing here takes memory of the host.
 #![tactic(auto)]
 
-ghost use Rattle.std.specs.Prelude.{◌≡◌, ◌≢◌, ℕ, ◌+◌, ◌-◌, ◌*◌, ◌/◌, ◌%◌, ◌^◌, ◌<◌, ◌≤◌, List, [], ◌∷◌, ◌++◌, length, take, replicate, None, Some, true, false, OnOk, OnErr, IsErrOf, IsTrue, ◌↔◌, ◌⊎◌};
+ghost use Rattle.std.specs.Prelude.{◌≡◌, ◌≢◌, ℕ, ◌+◌, ◌-◌, ◌*◌, ◌/◌, ◌%◌, ◌^◌, ◌<◌, ◌≤◌, List, [], ◌∷◌, ◌++◌, length};
+ghost use Rattle.std.specs.Prelude.{take, replicate, None, Some, true, false, OnOk, OnErr, IsErrOf, IsTrue, ◌↔◌, ◌⊎◌};
 ghost use Rattle.ram.specs.Memory.{frame_of};
 ghost use Rattle.frames.specs.Free.{among, free_of, free_count, IsFreeList};
 ghost use Rattle.frames.specs.Holders.{Trades, one_if};
@@ -18,7 +19,9 @@ ghost use Rattle.pagetable.specs.Tree.{IsLeafMarks};
 ghost use Rattle.vm.specs.Dense.{IsDense, OwnsFrames, frames_for, marks_at, SameLeaves, SameLeavesUpTo, blank_page};
 ghost use Rattle.unixmodel.specs.Memory.{shared_marks, shared_memory};
 ghost use Rattle.vm.specs.Leaf.{marks_from, rights_from, user_leaf, IsUserLeaf};
-ghost use Rattle.vm.specs.Space.{GainsHolders, HasFramesOf, IsSpace, LacksFrames, SharesWith, StaysOpen, entries_of, first_pages, held_by, holds, mapping_of, max_size, new_pages, pages_in, pages_of, registers_of};
+ghost use Rattle.vm.specs.Space.{GainsHolders, HasFramesOf, IsSpace, LacksFrames, SharesWith, StaysOpen, entries_of};
+ghost use Rattle.vm.specs.Space.{first_pages, held_by, holds, mapping_of, max_size, new_pages, pages_in, pages_of};
+ghost use Rattle.vm.specs.Space.{registers_of};
 
 mod access;
 pub mod shares;
@@ -211,12 +214,15 @@ impl Space {
         requires marks { IsLeafMarks marks.0 }
         requires user { IsUserLeaf marks.0 }
         ensures held { OwnsFrames ram.new self.now.root.0 self.now.trap.0 (n + 1) frames.new }
-        ensures pages { first_pages ram.new self.now (n + 1) ≡ first_pages ram.old self.now n ++ (blank_page marks.0 ∷ []) }
+        ensures pages { first_pages ram.new self.now (n + 1) ≡ first_pages ram.old self.now n
+                ++ (blank_page marks.0 ∷ []) }
         ensures mapping { SameLeavesUpTo ram.old ram.new self.now.root.0 n }
         ensures marks { marks_at ram.new self.now.root.0 n ≡ marks.0 }
         ensures trap { frame_of ram.new self.now.trap.0 ≡ frame_of ram.old self.now.trap.0 }
-        ensures trades { Trades ram.old ram.new frames.old frames.new (held_by ram.old self.now n) (held_by ram.new self.now (n + 1)) }
-        ensures room { frames_for (n + 1) + free_count ram.new frames.new ≡ frames_for n + free_count ram.old frames.old }
+        ensures trades { Trades ram.old ram.new frames.old frames.new (held_by ram.old self.now n)
+                (held_by ram.new self.now (n + 1)) }
+        ensures room { frames_for (n + 1) + free_count ram.new frames.new
+                ≡ frames_for n + free_count ram.old frames.old }
     {
         ram.frames_are_whole();
         let table = PageTable { root: self.root };
@@ -234,8 +240,9 @@ impl Space {
 
     /// Makes a space with the same pages, whose frames each have one holder more then; its trap frame is all 0.
     ///
-    /// Every page is closed in both, and marked as one that a fork had: who may write it by right and stores to it first gets a frame of its own. Each page
-    /// is counted in full: `Frames` where fewer frames are free than the space would need if it shared none.
+    /// Every page is closed in both, and marked as one that a fork had: who may write it by right and stores to it
+    /// first gets a frame of its own. Each page is counted in full: `Frames` where fewer frames are free than the space
+    /// would need if it shared none.
     pub fn copy(&self, ram: &mut Ram, frames: &mut Frames) -> Result<Space, VmFault>
         requires { IsSpace ram.old self.now frames.old }
         ensures space { IfOk result (λ c. IsSpace ram.new c frames.new) }
@@ -248,7 +255,8 @@ impl Space {
         ensures frames { HasFramesOf ram.old ram.new self.now self.now }
         ensures shared { IfOk result (HasFramesOf ram.old ram.new self.now) }
         ensures holders { OnOk result (GainsHolders ram.old ram.new self.now frames.old frames.new) }
-        ensures full { IsErrOf result VmFault.Frames ↔ free_count ram.old frames.old < frames_for (pages_in self.now.size) }
+        ensures full { IsErrOf result VmFault.Frames ↔ free_count ram.old frames.old
+                < frames_for (pages_in self.now.size) }
         ensures only { OnErr result (IsErrOf result VmFault.Frames) }
         ensures unchanged { OnErr result ((ram.new ≡ ram.old) × (frames.new ≡ frames.old)) }
         ensures trades { IfOk result (λ c. SharesWith ram.old ram.new self.now c frames.old frames.new) }
@@ -282,9 +290,12 @@ impl Space {
         requires { IsSpace ram.old self.old frames.old }
         ensures space { IsSpace ram.new self.new frames.new }
         ensures size { OnOk result (self.new.size ≡ self.old.size + bytes) }
-        ensures pages { OnOk result (pages_of ram.new self.new ≡ pages_of ram.old self.old ++ new_pages self.old.size bytes perm) }
-        ensures mapping { OnOk result (take (pages_in self.old.size) (mapping_of ram.new self.new) ≡ mapping_of ram.old self.old) }
-        ensures entries { OnOk result (take (pages_in self.old.size) (entries_of ram.new self.new) ≡ entries_of ram.old self.old) }
+        ensures pages { OnOk result
+                (pages_of ram.new self.new ≡ pages_of ram.old self.old ++ new_pages self.old.size bytes perm) }
+        ensures mapping { OnOk result
+                (take (pages_in self.old.size) (mapping_of ram.new self.new) ≡ mapping_of ram.old self.old) }
+        ensures entries { OnOk result
+                (take (pages_in self.old.size) (entries_of ram.new self.new) ≡ entries_of ram.old self.old) }
         ensures opens { StaysOpen ram.old ram.new self.old self.new }
         ensures root { self.new.root ≡ self.old.root }
         ensures registers { registers_of ram.new self.new ≡ registers_of ram.old self.old }
@@ -292,7 +303,8 @@ impl Space {
         ensures full { IsErrOf result VmFault.Frames ↔ LacksFrames ram.old frames.old self.old.size bytes }
         ensures only { OnErr result (IsErrOf result VmFault.TooLarge ⊎ IsErrOf result VmFault.Frames) }
         ensures unchanged { OnErr result ((ram.new ≡ ram.old) × (frames.new ≡ frames.old) × (self.new ≡ self.old)) }
-        ensures trades { Trades ram.old ram.new frames.old frames.new (holds ram.old self.old) (holds ram.new self.new) }
+        ensures trades { Trades ram.old ram.new frames.old frames.new (holds ram.old self.old)
+                (holds ram.new self.new) }
     {
         ram.frames_are_whole();
         if bytes > MAX_SIZE - self.size {
@@ -319,7 +331,8 @@ impl Space {
         ensures pages { (k : ℕ) → k ≤ n → first_pages ram.new self.now k ≡ first_pages ram.old self.now k }
         ensures mapping { SameLeavesUpTo ram.old ram.new self.now.root.0 n }
         ensures trap { frame_of ram.new self.now.trap.0 ≡ frame_of ram.old self.now.trap.0 }
-        ensures trades { Trades ram.old ram.new frames.old frames.new (held_by ram.old self.now (n + 1)) (held_by ram.new self.now n) }
+        ensures trades { Trades ram.old ram.new frames.old frames.new (held_by ram.old self.now (n + 1))
+                (held_by ram.new self.now n) }
     {
         ram.frames_are_whole();
         let table = PageTable { root: self.root };
@@ -335,7 +348,8 @@ impl Space {
         ensures pages { first_pages ram.new self.now to ≡ first_pages ram.old self.now to }
         ensures mapping { SameLeaves ram.old ram.new self.now.root.0 to }
         ensures trap { frame_of ram.new self.now.trap.0 ≡ frame_of ram.old self.now.trap.0 }
-        ensures trades { Trades ram.old ram.new frames.old frames.new (held_by ram.old self.now from) (held_by ram.new self.now to) }
+        ensures trades { Trades ram.old ram.new frames.old frames.new (held_by ram.old self.now from)
+                (held_by ram.new self.now to) }
     {
         for i in 0..from - to {
             self.drop_page(ram, frames, from - 1 - i);
@@ -348,13 +362,17 @@ impl Space {
         requires less { bytes ≤ self.old.size }
         ensures space { IsSpace ram.new self.new frames.new }
         ensures size { self.new.size + bytes ≡ self.old.size }
-        ensures pages { pages_of ram.new self.new ≡ take (pages_in (self.old.size - bytes)) (pages_of ram.old self.old) }
-        ensures mapping { mapping_of ram.new self.new ≡ take (pages_in (self.old.size - bytes)) (mapping_of ram.old self.old) }
-        ensures entries { entries_of ram.new self.new ≡ take (pages_in (self.old.size - bytes)) (entries_of ram.old self.old) }
+        ensures pages { pages_of ram.new self.new
+                ≡ take (pages_in (self.old.size - bytes)) (pages_of ram.old self.old) }
+        ensures mapping { mapping_of ram.new self.new
+                ≡ take (pages_in (self.old.size - bytes)) (mapping_of ram.old self.old) }
+        ensures entries { entries_of ram.new self.new
+                ≡ take (pages_in (self.old.size - bytes)) (entries_of ram.old self.old) }
         ensures opens { StaysOpen ram.old ram.new self.old self.new }
         ensures root { self.new.root ≡ self.old.root }
         ensures registers { registers_of ram.new self.new ≡ registers_of ram.old self.old }
-        ensures trades { Trades ram.old ram.new frames.old frames.new (holds ram.old self.old) (holds ram.new self.new) }
+        ensures trades { Trades ram.old ram.new frames.old frames.new (holds ram.old self.old)
+                (holds ram.new self.new) }
     {
         let size = self.size - bytes;
         self.drop_pages(ram, frames, pages_in(self.size), pages_in(size));

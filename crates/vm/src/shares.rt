@@ -2,7 +2,8 @@
 //!
 //! Each function here does nothing: its contract is the law.
 
-ghost use Rattle.vm.specs.Shares.{FreeAreTheRest, NewSpaceSettles, OnePlaceForks, OnePlaceSpares, OnePlaceSparesOthers, OnePlaceTrades, OthersSpare, OthersTrade};
+ghost use Rattle.vm.specs.Shares.{FreeAreTheRest, NewSpaceSettles, OnePlaceForks, OnePlaceSpares, OnePlaceSparesOthers};
+ghost use Rattle.vm.specs.Shares.{OnePlaceTrades, OthersSpare, OthersTrade};
 
 /// One place trades what it holds, as a space that grows, shrinks, is written, comes, goes or is
 /// replaced: the machine stays one, and all else is as it was.
@@ -12,13 +13,14 @@ pub fn one_place_trades()
     ensures rest { OnePlaceSparesOthers }
 {}
 
-/// A space shares its frames with a new one, which gets a place that has none: the machine stays one, and all else is as
-/// it was.
+/// A space shares its frames with a new one, which gets a place that has none: the machine stays one, and all else is
+/// as it was.
 pub fn one_place_forks()
     ensures machine { OnePlaceForks }
 {}
 
-/// Frames that no space holds come, each once, go or are written: the machine stays one, and all spaces are as they were.
+/// Frames that no space holds come, each once, go or are written: the machine stays one, and all spaces are as they
+/// were.
 pub fn others_trade()
     ensures machine { OthersTrade }
     ensures untouched { OthersSpare }

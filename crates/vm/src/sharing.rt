@@ -1,8 +1,9 @@
 //! Pages whose frames have several holders.
 //!
-//! A page that is writable by right is open or closed: at an open page a store goes through, at a closed one it faults. An
-//! open page's frame has one holder. Only a page that a fork had is closed, and it stays marked as one. Before a page is written whose frame others hold too, it gets a frame of its own with
-//! the same bytes: what the others see stays, and there always is a free frame for it.
+//! A page that is writable by right is open or closed: at an open page a store goes through, at a closed one it faults.
+//! An open page's frame has one holder. Only a page that a fork had is closed, and it stays marked as one. Before a
+//! page is written whose frame others hold too, it gets a frame of its own with the same bytes: what the others see
+//! stays, and there always is a free frame for it.
 
 ghost use Rattle.std.specs.Prelude.{◌≡◌, ◌≤◌, ◌<◌, ◌+◌, ℕ, true};
 ghost use Rattle.frames.specs.Free.{free_count, further_at};
@@ -12,7 +13,8 @@ ghost use Rattle.ram.specs.Memory.{frame_of};
 ghost use Rattle.vm.specs.Dense.{frames_for, marks_at, page_at, page_with};
 ghost use Rattle.vm.specs.Fork.{IsMore, IsPart, IsSoFar};
 ghost use Rattle.vm.specs.Leaf.{IsUserLeaf, is_open, user_leaf};
-ghost use Rattle.vm.specs.Space.{GainsHolders, HasFramesOf, HasRights, IsRearranged, IsSpace, Reframes, SameOtherMarks, SameOtherPages, StaysOpen, holds, page_frame, page_rights, pages_in};
+ghost use Rattle.vm.specs.Space.{GainsHolders, HasFramesOf, HasRights, IsRearranged, IsSpace, Reframes, SameOtherMarks};
+ghost use Rattle.vm.specs.Space.{SameOtherPages, StaysOpen, holds, page_frame, page_rights, pages_in};
 
 use crate::Space;
 use crate::access::marks_of;
@@ -61,7 +63,8 @@ impl Space {
         requires leaf { IsUserLeaf leaf.0 }
         requires sole { is_open leaf.0 ≡ true → further_at frames.now frame.0 ≡ 0 }
         ensures stands { Reframes ram.old ram.new self.now frames.now frames.now }
-        ensures same { HasRights ram.old self.now page leaf.0 → IsRearranged ram.old ram.new self.now frames.now frames.now }
+        ensures same { HasRights ram.old self.now page leaf.0
+                → IsRearranged ram.old ram.new self.now frames.now frames.now }
         ensures page { page_at ram.new self.now.root.0 page ≡ page_with (frame_of ram.old frame.0) leaf.0 }
         ensures pages { SameOtherPages ram.old ram.new self.now page }
         ensures frame { page_frame ram.new self.now page ≡ frame.0 }
@@ -84,7 +87,8 @@ impl Space {
         ensures frame { page_frame ram.new self.now page ≡ result.0 }
         ensures marks { marks_at ram.new self.now.root.0 page ≡ user_leaf (page_rights ram.old self.now page) true }
         ensures opens { StaysOpen ram.old ram.new self.now self.now }
-        ensures kept { further_at frames.old (page_frame ram.old self.now page) ≡ 0 → result.0 ≡ page_frame ram.old self.now page }
+        ensures kept { further_at frames.old (page_frame ram.old self.now page) ≡ 0
+                → result.0 ≡ page_frame ram.old self.now page }
     {
         ram.frames_are_whole();
         let table = PageTable { root: self.root };

@@ -149,8 +149,8 @@ fn read_rest<R: Read>(reader: &mut R, piece: &mut [u8], bytes: &mut Vec<u8>) -> 
     Err(io::Error::from(ErrorKind::TimedOut))
 }
 
-// The first bytes of a file, and how long it is: so long as it was read to its end, and else as the system says, which knows
-// the length of regular files alone.
+// The first bytes of a file, and how long it is: so long as it was read to its end, and else as the system says, which
+// knows the length of regular files alone.
 fn front<R: Files + AllocGlobal>(rt: &R, name: &str, most: usize) -> io::Result<Front>
     ensures { IfOk result (λ front. vec_len front.bytes ≤ most) }
 {

@@ -37,7 +37,8 @@ RefusesBy image frames number = (why : BootFault) × (number ≡ fault_number wh
 
 -- a run of at most so many steps took these, and this is the number of its answer
 abbrev pub RunsTo : Session → Session → ℕ → ℕ → ℕ → Type 0
-RunsTo old new most done number = (ran : Ran) × (done ≡ ran.steps) × (number ≡ answer_number ran.answer) × Runs old new most ran
+RunsTo old new most done number = (ran : Ran) × (done ≡ ran.steps) × (number ≡ answer_number ran.answer)
+    × Runs old new most ran
 
 -- the least pid above another, or 0
 abbrev pub NextTells : (ℕ → Bool) → ℕ → ℕ → Type 0
@@ -65,7 +66,8 @@ DigestTells old new before after answer =
 -- a node is told at a place
 abbrev pub StatTells : Session → Session → ℕ → StatTold → StatTold → Result (Option Stat) Halt → Type 0
 StatTells old new number before after answer =
-    (after ≡ stat_put answer before) × Looks old new (λ told. told ≡ option_map stat_seen (shown_stat old.machine.state number)) answer
+    (after ≡ stat_put answer before)
+        × Looks old new (λ told. told ≡ option_map stat_seen (shown_stat old.machine.state number)) answer
 
 -- bytes of a node are copied, and how many stands at a place
 abbrev pub ReadTells : Session → Session → ℕ → ℕ → List ℕ → List ℕ → ℕ → ℕ → Result ℕ Halt → Type 0

@@ -68,8 +68,8 @@ pub extern "C" fn xv6_raw_boot(alloc: Global, image: &[u8], frames: u32, out: &m
     }
 }
 
-/// Copies a machine, and the bytes of its console that nobody took yet; nothing of it changes. 0: the copy's handle is at `out`; 4: there is
-/// no memory for it.
+/// Copies a machine, and the bytes of its console that nobody took yet; nothing of it changes. 0: the copy's handle is
+/// at `out`; 4: there is no memory for it.
 #[unsafe(no_mangle)]
 pub extern "C" fn xv6_raw_copy(machine: &mut Sealed, alloc: Global, out: &mut *mut u8) -> u32
     ensures same { machine.new.session ≡ machine.old.session }
@@ -124,7 +124,8 @@ pub extern "C" fn xv6_raw_compute(machine: &mut Sealed, most: u32, stops: &[u64]
 /// A timer interrupt.
 #[unsafe(no_mangle)]
 pub extern "C" fn xv6_raw_tick(machine: &mut Sealed) -> u32
-    ensures { Numbers (StepAnswers machine.old.session machine.new.session (next machine.old.session.machine.state Tick)) result }
+    ensures { Numbers (StepAnswers machine.old.session machine.new.session
+            (next machine.old.session.machine.state Tick)) result }
 {
     of_answer(get_mut(machine).tick())
 }
@@ -132,7 +133,8 @@ pub extern "C" fn xv6_raw_tick(machine: &mut Sealed) -> u32
 /// A typed byte.
 #[unsafe(no_mangle)]
 pub extern "C" fn xv6_raw_key(machine: &mut Sealed, byte: u8) -> u32
-    ensures { Numbers (StepAnswers machine.old.session machine.new.session (next machine.old.session.machine.state (Key byte))) result }
+    ensures { Numbers (StepAnswers machine.old.session machine.new.session
+            (next machine.old.session.machine.state (Key byte))) result }
 {
     of_answer(get_mut(machine).key(byte))
 }
@@ -251,7 +253,8 @@ pub extern "C" fn xv6_raw_fault(machine: &mut Sealed, pid: u32, out: &mut FaultT
     put(get_mut(machine).fault(pid), out)
 }
 
-/// Copies a page of a process, as much as there is room for. 0: there is none; else 1, and what a program may do with it:
+/// Copies a page of a process, as much as there is room for. 0: there is none; else 1, and what a program may do with
+/// it:
 /// 2 read, 4 write, 8 execute.
 #[unsafe(no_mangle)]
 pub extern "C" fn xv6_raw_page(machine: &mut Sealed, pid: u32, page: u64, out: &mut [u8]) -> u32
@@ -264,7 +267,8 @@ pub extern "C" fn xv6_raw_page(machine: &mut Sealed, pid: u32, page: u64, out: &
 /// How many frames are free.
 #[unsafe(no_mangle)]
 pub extern "C" fn xv6_raw_free_frames(machine: &mut Sealed) -> u32
-    ensures count { result + frames_of machine.old.session.machine.state ≡ machine.old.session.machine.state.frame_limit }
+    ensures count { result + frames_of machine.old.session.machine.state
+            ≡ machine.old.session.machine.state.frame_limit }
     ensures same { machine.new.session ≡ machine.old.session }
 {
     get_mut(machine).machine().free_frames()
@@ -295,13 +299,14 @@ pub extern "C" fn xv6_raw_read(
     out: &mut [u8],
     count: &mut usize,
 ) -> u32
-    ensures { Numbers (ReadTells machine.old.session machine.new.session number at out.old out.new count.old count.new) result }
+    ensures { Numbers (ReadTells machine.old.session machine.new.session number at out.old out.new count.old count.new)
+            result }
 {
     put_number(get_mut(machine).read(number, at, out), count)
 }
 
-/// Ends a machine and frees its memory. It copies the bytes of its disk, which denote the files that are left, as many as there is
-/// room for; how many they are stands at `bytes`.
+/// Ends a machine and frees its memory. It copies the bytes of its disk, which denote the files that are left, as many
+/// as there is room for; how many they are stands at `bytes`.
 #[unsafe(no_mangle)]
 pub extern "C" fn xv6_raw_save(machine: Sealed, out: &mut [u8], bytes: &mut usize) -> u32
     ensures { Numbers (SaveTells machine.session out.old out.new bytes.old bytes.new) result }

@@ -5,7 +5,8 @@ ghost use Rattle.xv6_c.specs.Numbers.{answer_number, fault_number, halt_number, 
 
 use machine::{BootFault, Halt, Perm};
 
-/// Why a machine stops: 1 process 1 ended, 2 the device failed, 3 no memory for the console's bytes, 4 it had stopped before.
+/// Why a machine stops: 1 process 1 ended, 2 the device failed, 3 no memory for the console's bytes, 4 it had stopped
+/// before.
 pub fn of_halt(halt: Halt) -> u32
     ensures { result ≡ halt_number halt }
 {

@@ -28,7 +28,8 @@ fn has_bytes(image: &[u8], start: usize, wanted: &[u8]) -> bool {
     }
 }
 
-// Images and their bytes: a name, the manifest, the size, the inodes, what the check says, and from where on there are which bytes.
+// Images and their bytes: a name, the manifest, the size, the inodes, what the check says, and from where on there are
+// which bytes.
 type Bytes = (
     &'static str,
     &'static str,
@@ -94,8 +95,8 @@ fn expect_bytes(rt: &(impl Abort + AllocGlobal), row: &Bytes) {
     expect_parts(rt, name, files.image.as_slice(), parts);
 }
 
-// A manifest, how many bytes the host's file has, the size and the inodes of the image, and what the check says of it or why none is
-// made.
+// A manifest, how many bytes the host's file has, the size and the inodes of the image, and what the check says of it
+// or why none is made.
 type Image = (
     &'static str,
     usize,
@@ -194,8 +195,8 @@ const LINES: &[Image] = &[
     ),
 ];
 
-// Files of 20 blocks for an image of 32, of which two are too many: what is told comes at the second at the latest, after all
-// files were read.
+// Files of 20 blocks for an image of 32, of which two are too many: what is told comes at the second at the latest,
+// after all files were read.
 const BEHIND_A_FAULT: &[Image] = &[
     (
         "file /a host\nfile /b host\ndir x",
@@ -342,8 +343,8 @@ impl Host for Long {
     }
 }
 
-// Images that are longer than the longest: the count of blocks in the super block, the first byte of its magic number, the length
-// of the image if it has an end, and what is told.
+// Images that are longer than the longest: the count of blocks in the super block, the first byte of its magic number,
+// the length of the image if it has an end, and what is told.
 type TooLong = ([u8; 4], u8, Option<u64>, &'static str);
 
 static LONG: [TooLong; 7] = [
@@ -437,8 +438,8 @@ const CYCLE: &[Changed] = &[(
     "fault 11 Unreached\n",
 )];
 
-// An image of 32 blocks and 16 inodes: a name, the manifest, how many bytes the host's file has, what the check says of it, and the changes
-// with which it is refused.
+// An image of 32 blocks and 16 inodes: a name, the manifest, how many bytes the host's file has, what the check says of
+// it, and the changes with which it is refused.
 type Checked = (
     &'static str,
     &'static str,

@@ -189,7 +189,8 @@ static SHOWN: Session = (
     "running\n",
 );
 
-// The words of a session that fails, how long its record may get, how many bytes standard output takes, and what is told.
+// The words of a session that fails, how long its record may get, how many bytes standard output takes, and what is
+// told.
 struct Refused {
     image: &'static str,
     frames: u32,

@@ -8,8 +8,9 @@ fn migrate<'a>(old: &'a str, new: &'a str) -> Job<'a> {
     Job::Migrate(Migrate { old, new })
 }
 
-// Files of which `host` is the image of 32 blocks and 16 inodes that a manifest makes with a file of so many bytes, some of the
-// image's bytes changed: where no file has more than 11 blocks the formats differ in the magic number alone.
+// Files of which `host` is the image of 32 blocks and 16 inodes that a manifest makes with a file of so many bytes,
+// some of the image's bytes changed: where no file has more than 11 blocks the formats differ in the magic number
+// alone.
 fn with_old(
     rt: &(impl Abort + AllocGlobal),
     manifest: &str,

@@ -14,7 +14,8 @@ use std::io;
 use std::io::Write;
 use std::process::Abort;
 
-// Takes one byte at a time, so many of them, and then fails; a flush may fail too. It notes how many bytes it has at each that doesn't.
+// Takes one byte at a time, so many of them, and then fails; a flush may fail too. It notes how many bytes it has at
+// each that doesn't.
 #[derive(Drop)]
 pub struct Narrow {
     pub taken: Vec<u8>,
@@ -164,7 +165,8 @@ fn with_manifest(rt: &(impl Abort + AllocGlobal), manifest: &str) -> Files {
     files
 }
 
-// Writes one byte after the other, for ever: of its steps, the first of which is its turn, every other one writes a byte from the sixth on.
+// Writes one byte after the other, for ever: of its steps, the first of which is its turn, every other one writes a
+// byte from the sixth on.
 const WRITES: &[u32] = &[
     0x0010_0513, // addi a0, zero, 1
     0x0000_0593, // addi a1, zero, 0
@@ -174,8 +176,8 @@ const WRITES: &[u32] = &[
     0xffdf_f06f, // jal  zero, -4
 ];
 
-// A script, and how many bytes there are each time that the output is written out: before more of a command's events, where there would
-// be more than 65536 since the last time, and at the end.
+// A script, and how many bytes there are each time that the output is written out: before more of a command's events,
+// where there would be more than 65536 since the last time, and at the end.
 static BATCHES: [(&str, &[usize]); 8] = [
     ("", &[0]),
     ("step 65536", &[32766]),

@@ -77,7 +77,8 @@ const TEXTS: &[Shown] = &[
     ("", &[], "", "", 0),
 ];
 
-// The program header has its type at 64, its flags at 68, its address at 80, its size in the file at 96 and in memory at 104.
+// The program header has its type at 64, its flags at 68, its address at 80, its size in the file at 96 and in memory
+// at 104.
 const CHANGED: &[Shown] = &[
     ("ret", &[(68, 4)], "", "", 0),
     ("ret", &[(68, 6)], "", "", 0),

@@ -1,4 +1,5 @@
-//! Jobs whose files aren't there, can't be written, or aren't what they have to be: nothing is printed, and no image made.
+//! Jobs whose files aren't there, can't be written, or aren't what they have to be: nothing is printed, and no image
+//! made.
 use crate::tests::{UNTOLD, expect, expect_that, files_of, hello};
 use commands::{Asm, Check, Dump, Flat, Job, Ls, Mkfs, Run};
 use std::process::Abort;

@@ -23,8 +23,8 @@ pub fn put_text(rt: &(impl Abort + AllocGlobal), files: &mut Files, text: &[u8])
     files.text = text.to_vec(rt.alloc()).expect(rt, "memory");
 }
 
-// Files with an image of a manifest, of so many blocks, whose host's file is the program of an assembly text, or so many bytes of
-// its beginning.
+// Files with an image of a manifest, of so many blocks, whose host's file is the program of an assembly text, or so
+// many bytes of its beginning.
 fn with_part(
     rt: &(impl Abort + AllocGlobal),
     text: &str,
@@ -304,7 +304,8 @@ fn expect_saved(rt: &(impl Abort + AllocGlobal), saved: &Saved, tlb: bool) {
     expect(rt, name, &mut files, &CHECK, (saved.used, "", 0));
 }
 
-// A run or a play of a script, of which the access of a number fails, if that isn't 0, and the registers of process 7 may be told.
+// A run or a play of a script, of which the access of a number fails, if that isn't 0, and the registers of process 7
+// may be told.
 #[derive(Clone, Copy)]
 struct Doing {
     plays: bool,
@@ -569,8 +570,8 @@ fn expect_failures(rt: &(impl Abort + AllocGlobal), tlb: bool) {
     expect_that(rt, name, "the save asks for the disk too", asks);
 }
 
-// An image from which no machine boots: the program's text and how long its file is at most, the manifest and the size of the image,
-// bytes of it that are changed and how long it is at most, and the frames.
+// An image from which no machine boots: the program's text and how long its file is at most, the manifest and the size
+// of the image, bytes of it that are changed and how long it is at most, and the frames.
 struct Boot {
     text: &'static str,
     part: usize,

@@ -13,8 +13,8 @@ use std::process::Abort;
 // A program that runs for ever.
 const LOOP: &[u32] = &[0x0000_006f];
 
-// A run of a program of which something is told besides its end: the registers and the memory of the process of a number, if
-// that isn't 0; and parts of the file `image`.
+// A run of a program of which something is told besides its end: the registers and the memory of the process of a
+// number, if that isn't 0; and parts of the file `image`.
 struct Row {
     name: &'static str,
     program: Program,

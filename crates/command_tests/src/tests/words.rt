@@ -129,7 +129,8 @@ fn expect_told(rt: &(impl Abort + AllocGlobal), row: &Told) {
     expect_that(rt, ("words", line), "what is told", told);
 }
 
-// The help of words, and what it has to name. Its ranges are those whose ends are taken and beyond which all is refused:
+// The help of words, and what it has to name. Its ranges are those whose ends are taken and beyond which all is
+// refused:
 // `BOOTS`, and `needs_frames` in `runs.rt`; `IMAGE_NUMBERS` and `NUMBER_FAULTS` in `images.rt`.
 static HELP: [(&str, &[&str]); 5] = [
     (

@@ -1,10 +1,13 @@
-use Rattle.imagemake.proofs.Common.{ap, arith, length, sym, ◌∙◌, bare_files, meaning, now-begin, now-files, now-limit, now-turned, now-up}
+use Rattle.imagemake.proofs.Common.{ap, arith, length, sym, ◌∙◌, bare_files, meaning, now-begin, now-files, now-limit}
+use Rattle.imagemake.proofs.Common.{now-turned, now-up}
 use Rattle.imagemake.proofs.Imaging.{makes-all, refuses-all}
 use Rattle.imagemake.proofs.Putting.{length-bare, Owns-after, Owns-failed}
 use Rattle.imagemake.proofs.put_files.Goals as goal
 
 pub store_root-requires : goal.store_root-requires
-store_root-requires g c = record { up = c.requires.up; none = c.requires.none; some = omega (arith, c.requires.some); block = c.requires.block }
+store_root-requires g c =
+    record { up = c.requires.up; none = c.requires.none; some = omega (arith, c.requires.some);
+    block = c.requires.block }
 
 pub returns-in_default-clause-cause : goal.returns-in_default-clause-cause
 returns-in_default-clause-cause g c = Owns-failed (omega arith) c.store_root.ensures.serves.cause c.in_default.is
@@ -27,7 +30,8 @@ returns g c =
     let now = now-turned now-begin c.store_root.ensures c.in-Ok.is in
     let long = ap length (now-files now) ∙ length-bare _ (omega (arith, c.requires.some)) in
     record {
-      made = makes-all now long (meaning c.args.entries.now) c.add_entries.new.tree c.add_entries.result c.add_entries.ensures.made;
+      made = makes-all now long (meaning c.args.entries.now) c.add_entries.new.tree c.add_entries.result
+          c.add_entries.ensures.made;
       refused = refuses-all now long (meaning c.args.entries.now) c.add_entries.result c.add_entries.ensures.refused;
       cause = Owns-after now.later c.add_entries.ensures.cause;
     }

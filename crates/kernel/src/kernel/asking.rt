@@ -1,5 +1,6 @@
 //! What a call asks of the kernel before it does anything.
-ghost use Rattle.std.specs.Prelude.{◌≡◌, ◌<◌, ◌≤◌, ◌≢◌, All, IfOk, IfSome, Some, false, is_some, length, not, take, true};
+ghost use Rattle.std.specs.Prelude.{◌≡◌, ◌<◌, ◌≤◌, ◌≢◌, All, IfOk, IfSome, Some, false, is_some, length, not, take};
+ghost use Rattle.std.specs.Prelude.{true};
 ghost use Rattle.files.specs.Meant.{end_of};
 ghost use Rattle.files.specs.Places.{file_at, free_count, has_end, node_at, opens_of, readable_at, writable_at};
 ghost use Rattle.proc.specs.Places.{is_child_of, place_where, seat_of};

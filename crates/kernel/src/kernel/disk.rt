@@ -49,7 +49,8 @@ impl<D: BlockDev, T: Translate> Kernel<D, T> {
     pub fn resolve(&mut self, at: usize, path: &[u8]) -> Result<Option<usize>, DeviceFault>
         requires running { self.old.spaces.active ≡ Some at }
         requires up { self.old.tree.failed ≡ false }
-        ensures { ReadsDisk self.old self.new (λ number. number ≡ find self.old.tree.files (directory_at self.old at) path.now) result }
+        ensures { ReadsDisk self.old self.new
+                (λ number. number ≡ find self.old.tree.files (directory_at self.old at) path.now) result }
     {
         let directory = self.home(at);
         self.tree.resolve(directory, path)
@@ -60,7 +61,8 @@ impl<D: BlockDev, T: Translate> Kernel<D, T> {
     pub fn stat(&mut self, number: usize) -> Result<InodeStat, DeviceFault>
         requires up { self.old.tree.failed ≡ false }
         requires node { (node : Node) × (slot self.old.tree.files number ≡ Some node) }
-        ensures { ReadsDisk self.old self.new (λ told. (node : Node) → slot self.old.tree.files number ≡ Some node → Tells told node) result }
+        ensures { ReadsDisk self.old self.new
+                (λ told. (node : Node) → slot self.old.tree.files number ≡ Some node → Tells told node) result }
     {
         self.tree.stat(number)
     }
@@ -74,8 +76,8 @@ impl<D: BlockDev, T: Translate> Kernel<D, T> {
         self.tree.look(number)
     }
 
-    /// Reads bytes of what any number names from the place `from` on, as many as there are, and tells how many: none of a device, and
-    /// none where it names nothing.
+    /// Reads bytes of what any number names from the place `from` on, as many as there are, and tells how many: none of
+    /// a device, and none where it names nothing.
     #[inline]
     pub fn read_any(
         &mut self,
@@ -84,7 +86,8 @@ impl<D: BlockDev, T: Translate> Kernel<D, T> {
         out: &mut [u8],
     ) -> Result<usize, DeviceFault>
         requires { self.old.tree.failed ≡ false }
-        ensures { ReadsDisk self.old self.new (IsPart (bytes_or_none (slot self.old.tree.files number)) from out.old out.new) result }
+        ensures { ReadsDisk self.old self.new
+                (IsPart (bytes_or_none (slot self.old.tree.files number)) from out.old out.new) result }
     {
         self.tree.read_any(number, from, out)
     }
@@ -95,7 +98,8 @@ impl<D: BlockDev, T: Translate> Kernel<D, T> {
         requires running { self.old.spaces.active ≡ Some at }
         requires up { self.old.tree.failed ≡ false }
         requires path { All (λ b. b ≢ 0) path.now }
-        ensures made { MakesNode self.old.tree self.new.tree (directory_at self.old at) path.now (leaf_node leaf) result }
+        ensures made { MakesNode self.old.tree self.new.tree (directory_at self.old at) path.now (leaf_node leaf)
+                result }
         ensures rest { self.new ≡ with_tree self.old self.new.tree }
     {
         let directory = self.home(at);

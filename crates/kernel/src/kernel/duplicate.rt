@@ -8,8 +8,8 @@ use std::alloc::Global;
 use sv39::Translate;
 
 impl<D: Duplicate, T: Translate> Kernel<D, T> {
-    /// The same kernel over a duplicate of the memory and of the disk, with a translator of its own. That one is fenced: it may hold
-    /// anything.
+    /// The same kernel over a duplicate of the memory and of the disk, with a translator of its own. That one is
+    /// fenced: it may hold anything.
     ///
     /// `NoMemory` where the host has none for them.
     pub fn duplicate<U: Translate>(

@@ -11,8 +11,8 @@ use sv39::Translate;
 use unixmodel::trap::Trap;
 
 impl<D: BlockDev, T: Translate> Kernel<D, T> {
-    /// Does so many instructions of the running process, up to the first that isn't done, and no further than to a stop after the first
-    /// of them: how many were done, and why the next one isn't.
+    /// Does so many instructions of the running process, up to the first that isn't done, and no further than to a stop
+    /// after the first of them: how many were done, and why the next one isn't.
     pub fn execute_many<S: Stops>(
         &mut self,
         at: usize,
@@ -20,7 +20,8 @@ impl<D: BlockDev, T: Translate> Kernel<D, T> {
         stops: &S,
     ) -> (u32, Option<Trap>)
         requires { self.old.spaces.active ≡ Some at }
-        ensures done { Advances (S.addresses stops.now) result.0 self.old.spaces at self.new.spaces × (self.new ≡ record self.old { spaces = self.new.spaces }) }
+        ensures done { Advances (S.addresses stops.now) result.0 self.old.spaces at self.new.spaces
+                × (self.new ≡ record self.old { spaces = self.new.spaces }) }
         ensures within { result.0 ≤ count }
         ensures ends { IfNone result.1 (EndsAt (S.addresses stops.now) count result.0 self.new.spaces.pc) }
         ensures trap { IfSome result.1 (λ t. (result.0 < count) × (cycle_at self.new.spaces at ≡ Err t)) }

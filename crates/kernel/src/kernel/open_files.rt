@@ -1,6 +1,7 @@
 //! The kernel's steps on the descriptors of the running process, and on the open files that they name.
 ghost use Rattle.std.specs.Prelude.{◌≡◌, ◌<◌, IfSome, Some, false, is_some, true};
-ghost use Rattle.kernel.specs.Opening.{HasClosed, HasFetched, HasStored, MayClose, MayMove, MayOpen, MayPipe, MayShare, OpensOn, PipesInto, advanced, duplicated, pipe_file};
+ghost use Rattle.kernel.specs.Opening.{HasClosed, HasFetched, HasStored, MayClose, MayMove, MayOpen, MayPipe, MayShare};
+ghost use Rattle.kernel.specs.Opening.{OpensOn, PipesInto, advanced, duplicated, pipe_file};
 ghost use Rattle.spaces.specs.Spaces.{view_at};
 ghost use Rattle.tree.specs.Tree.{Serves};
 ghost use Rattle.tree.specs.Written.{IsFile};
@@ -39,7 +40,8 @@ impl<D: BlockDev, T: Translate> Kernel<D, T> {
         self.files.dup(usize::from(id));
     }
 
-    /// A new open file is on a node of the disk, and the lowest free descriptor of the running process, which is told, names it.
+    /// A new open file is on a node of the disk, and the lowest free descriptor of the running process, which is told,
+    /// names it.
     #[inline]
     pub fn open_on(&mut self, at: usize, node: usize, file: OpenFile) -> usize
         requires { MayOpen self.old at node file }
@@ -52,8 +54,8 @@ impl<D: BlockDev, T: Translate> Kernel<D, T> {
         descriptor
     }
 
-    /// Makes a pipe in the lowest free place. The lowest free descriptors of the running process, which are told, name its read end and
-    /// its write end. `None`: the frames don't suffice; then nothing changes.
+    /// Makes a pipe in the lowest free place. The lowest free descriptors of the running process, which are told, name
+    /// its read end and its write end. `None`: the frames don't suffice; then nothing changes.
     #[inline]
     pub fn open_pipe(&mut self, at: usize, pipe: usize) -> Option<(usize, usize)>
         requires may { MayPipe self.old at pipe }
@@ -80,8 +82,8 @@ impl<D: BlockDev, T: Translate> Kernel<D, T> {
         Some((reader, writer))
     }
 
-    /// A descriptor of the running process, which names an open file, is free. A pipe that has no end any more goes, and so does a node
-    /// without links that nobody holds any more.
+    /// A descriptor of the running process, which names an open file, is free. A pipe that has no end any more goes,
+    /// and so does a node without links that nobody holds any more.
     #[inline]
     pub fn close(&mut self, at: usize, descriptor: usize, id: u8) -> Result<(), DeviceFault>
         requires may { MayClose self.old at descriptor id }
@@ -103,8 +105,8 @@ impl<D: BlockDev, T: Translate> Kernel<D, T> {
         self.files.set_offset(id, offset);
     }
 
-    /// Reads bytes of a node from the place `offset` on into the memory of the running process from `address` on, at most `count` of
-    /// them, and tells how many.
+    /// Reads bytes of a node from the place `offset` on into the memory of the running process from `address` on, at
+    /// most `count` of them, and tells how many.
     #[inline]
     pub fn read_node(
         &mut self,
@@ -118,7 +120,8 @@ impl<D: BlockDev, T: Translate> Kernel<D, T> {
         requires up { self.old.tree.failed ≡ false }
         requires node { (node : Node) × (slot self.old.tree.files number ≡ Some node) }
         requires writable { can_write (view_at self.old.spaces at).memory address count ≡ true }
-        ensures { Serves self.old.tree self.new.tree result (HasFetched self.old self.new at number offset address count) }
+        ensures { Serves self.old.tree self.new.tree result
+                (HasFetched self.old self.new at number offset address count) }
     {
         let read = read_node(
             &mut self.tree,
@@ -133,8 +136,9 @@ impl<D: BlockDev, T: Translate> Kernel<D, T> {
         read
     }
 
-    /// Writes bytes of the memory of the running process from `address` on into a file from the place `offset` on, as many as there
-    /// are blocks for, and tells how many. `None`: `offset` lies past the file's end, or the file would be too long; nothing is written.
+    /// Writes bytes of the memory of the running process from `address` on into a file from the place `offset` on, as
+    /// many as there are blocks for, and tells how many. `None`: `offset` lies past the file's end, or the file would
+    /// be too long; nothing is written.
     #[inline]
     pub fn write_node(
         &mut self,
@@ -148,7 +152,8 @@ impl<D: BlockDev, T: Translate> Kernel<D, T> {
         requires up { self.old.tree.failed ≡ false }
         requires file { IsFile self.old.tree.files number }
         requires readable { is_some (read_bytes (view_at self.old.spaces at).memory address count) ≡ true }
-        ensures { Serves self.old.tree self.new.tree result (HasStored self.old self.new at number offset address count) }
+        ensures { Serves self.old.tree self.new.tree result
+                (HasStored self.old self.new at number offset address count) }
     {
         let wrote = write_node(
             &mut self.tree,

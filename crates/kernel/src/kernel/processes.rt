@@ -19,8 +19,8 @@ impl<D: BlockDev, T: Translate> Kernel<D, T> {
         Some(self.table.process(at)?.directory)
     }
 
-    /// A child of the running process takes a seat, which is the next one: it is ready, with the same pages, descriptors and directory,
-    /// and a0 is 0. `false`: the frames don't suffice; then nothing changes.
+    /// A child of the running process takes a seat, which is the next one: it is ready, with the same pages,
+    /// descriptors and directory, and a0 is 0. `false`: the frames don't suffice; then nothing changes.
     #[inline]
     pub fn fork(&mut self, at: usize, seat: Seat) -> bool
         requires may { MayFork self.old at seat }
@@ -49,7 +49,8 @@ impl<D: BlockDev, T: Translate> Kernel<D, T> {
         true
     }
 
-    /// Waits for the first zombie child of a process: its place and its space are free then. `None`: there is no zombie child.
+    /// Waits for the first zombie child of a process: its place and its space are free then. `None`: there is no zombie
+    /// child.
     #[inline]
     pub fn collect(&mut self, parent: u32) -> Option<Reaped>
         ensures reaped { result ≡ reaped_at self.old.table (zombie_place self.old.table parent) }
@@ -62,7 +63,8 @@ impl<D: BlockDev, T: Translate> Kernel<D, T> {
         Some(reaped)
     }
 
-    /// The running process works in a directory. The one that it leaves goes where it has no links and nobody holds it any more.
+    /// The running process works in a directory. The one that it leaves goes where it has no links and nobody holds it
+    /// any more.
     #[inline]
     pub fn work_in(&mut self, at: usize, number: usize) -> Result<(), DeviceFault>
         requires { MayWorkIn self.old at number }

@@ -21,9 +21,10 @@ fn begin<T: Translate>(spaces: &mut Spaces<T>, started: &Started)
 }
 
 impl<D: BlockDev, T: Translate> Kernel<D, T> {
-    /// Puts the program of the file that a number names in the place of the one that the running process has, with the arguments that
-    /// `argv` points at, and tells what it begins with. `None`: it can't be executed, or the frames don't suffice for it beside the old
-    /// one; then nothing changes. Where the device fails the process keeps a space.
+    /// Puts the program of the file that a number names in the place of the one that the running process has, with the
+    /// arguments that
+    /// `argv` points at, and tells what it begins with. `None`: it can't be executed, or the frames don't suffice for
+    /// it beside the old one; then nothing changes. Where the device fails the process keeps a space.
     pub fn replace(
         &mut self,
         at: usize,

@@ -57,7 +57,8 @@ impl<D: BlockDev, T: Translate> Kernel<D, T> {
     /// The memory, and the frame of the root of the page table of the process with a pid; `None` where there is none.
     pub fn tables(&self, pid: u32) -> Option<(&Ram, FrameNo)>
         ensures some { is_some result ≡ is_some (shown_process (state_of self.now) pid) }
-        ensures shows { IfSome result (λ r. IfSome (shown_process (state_of self.now) pid) (λ p. ShowsMemory r.0.now r.1.0 p.memory)) }
+        ensures shows { IfSome result
+                (λ r. IfSome (shown_process (state_of self.now) pid) (λ p. ShowsMemory r.0.now r.1.0 p.memory)) }
     {
         let at = self.table.find(pid)?;
         Some(self.spaces.tables(at))
@@ -81,8 +82,8 @@ impl<D: BlockDev, T: Translate> Kernel<D, T> {
         Some((file, self.files.references(id)))
     }
 
-    /// The bytes of a pipe, the oldest first: those of the second slice stand behind those of the first. `None` where there is no such
-    /// pipe.
+    /// The bytes of a pipe, the oldest first: those of the second slice stand behind those of the first. `None` where
+    /// there is no such pipe.
     pub fn pipe(&self, number: usize) -> Option<(&[u8], &[u8])>
         ensures { option_map (λ r. r.0.now ++ r.1.now) result ≡ slot (state_of self.now).pipes number }
     {

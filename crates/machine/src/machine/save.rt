@@ -35,8 +35,8 @@ fn give_up<D: BlockDev>(tree: Tree<D>) -> Result<D, DeviceFault>
 impl<D: BlockDev, T: Translate> Machine<D, T> {
     ghost use Rattle.machine.specs.Saved.{SaveGives};
 
-    /// Gives up all processes and hands back the disk, whose bytes denote the files that are left: what nothing names any
-    /// more is gone with its blocks. It works after `InitEnded`, too.
+    /// Gives up all processes and hands back the disk, whose bytes denote the files that are left: what nothing names
+    /// any more is gone with its blocks. It works after `InitEnded`, too.
     ///
     /// `Device` where an access of the device failed, and `Halted` after `Device` and `Console`.
     pub fn save(self) -> Result<D, Halt>

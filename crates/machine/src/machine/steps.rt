@@ -13,9 +13,11 @@ use console::Out;
 use sv39::Translate;
 
 impl<D: BlockDev, T: Translate> Machine<D, T> {
-    /// So many steps, up to the first at which the machine stops: what `run` does with so many `Event::Step`, in less time.
+    /// So many steps, up to the first at which the machine stops: what `run` does with so many `Event::Step`, in less
+    /// time.
     pub fn steps<W: Out>(&mut self, count: u32, console: &mut W) -> Result<(), Halt>
-        ensures gives { RunGivesTo W.contents W.failures self.old self.new console.old console.new (replicate count Step) result }
+        ensures gives { RunGivesTo W.contents W.failures self.old self.new console.old console.new
+                (replicate count Step) result }
         ensures later { W.failures console.old ≤ W.failures console.new }
     {
         if self.is_stopped() {
@@ -26,12 +28,13 @@ impl<D: BlockDev, T: Translate> Machine<D, T> {
         done
     }
 
-    /// The first of so many steps, as many as are done in one go: instructions up to a call or a fault, or a turn. Tells how many they
-    /// were, with the one at which the machine stops. They are none where no process runs and none is ready, and where the machine
-    /// had stopped.
+    /// The first of so many steps, as many as are done in one go: instructions up to a call or a fault, or a turn.
+    /// Tells how many they were, with the one at which the machine stops. They are none where no process runs and none
+    /// is ready, and where the machine had stopped.
     pub fn advance<W: Out>(&mut self, most: u32, console: &mut W) -> (u32, Result<(), Halt>)
         requires { 0 < most }
-        ensures gives { RunGivesTo W.contents W.failures self.old self.new console.old console.new (replicate result.0 Step) result.1 }
+        ensures gives { RunGivesTo W.contents W.failures self.old self.new console.old console.new
+                (replicate result.0 Step) result.1 }
         ensures piece { IsPiece self.old self.new most result.0 result.1 }
         ensures last { HaltsLast self.old self.new (W.contents console.old) (W.contents console.new) result.0 result.1 }
         ensures later { W.failures console.old ≤ W.failures console.new }
@@ -44,9 +47,9 @@ impl<D: BlockDev, T: Translate> Machine<D, T> {
         (count, done)
     }
 
-    /// Instructions of the process that runs, at most so many: up to a call or a fault, which isn't done, and no further than to the first
-    /// of some addresses that the pc comes to after the first of them. Tells how many they were: none where no process runs, and where
-    /// the machine has stopped. An address costs nothing an instruction.
+    /// Instructions of the process that runs, at most so many: up to a call or a fault, which isn't done, and no
+    /// further than to the first of some addresses that the pc comes to after the first of them. Tells how many they
+    /// were: none where no process runs, and where the machine has stopped. An address costs nothing an instruction.
     pub fn compute(&mut self, most: u32, stops: &[u64]) -> u32
         ensures computes { IsUp self.old → Computes self.old.state self.new.state stops.now most result }
         ensures stopped { ¬ IsUp self.old → (result ≡ 0) × (self.new ≡ self.old) }

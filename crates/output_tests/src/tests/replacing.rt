@@ -140,7 +140,8 @@ fn shelf_of<'a>(
     Ok(shelf)
 }
 
-// A name, the steps that fail, the fault they tell, what comes of it, what stands under the file's name, and how many files there are.
+// A name, the steps that fail, the fault they tell, what comes of it, what stands under the file's name, and how many
+// files there are.
 type Row = (
     &'static str,
     &'static [Step],

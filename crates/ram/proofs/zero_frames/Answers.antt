@@ -3,7 +3,8 @@ use Rattle.std.proofs.lemmas.Grind.{replicate_next}
 use Rattle.ram.proofs.zero_frames.Goals as goal
 
 pub loop-preserved : goal.loop-preserved
-loop-preserved c = rw (c.in_ok-push.ensures.items, c.loop.invariant, c.zeros.ensures) (sym (replicate_next c.loop.counter (replicate {A = ℕ} 4096 0)))
+loop-preserved c = rw (c.in_ok-push.ensures.items, c.loop.invariant, c.zeros.ensures)
+    (sym (replicate_next c.loop.counter (replicate {A = ℕ} 4096 0)))
 
 pub returns : goal.returns
 returns c =

@@ -3,9 +3,11 @@ use Rattle.cache.proofs.Using.{goes-stays, step-failed, step-last}
 use Rattle.balloc.proofs.blocks.mark.Goals as goal
 
 pub returns-in_err-read_part : goal.returns-in_err-read_part
-returns-in_err-read_part g c = step-failed goes-stays c.read_part.ensures c.in_err-read_part.was c.from_residual.ensures.1
+returns-in_err-read_part g c =
+    step-failed goes-stays c.read_part.ensures c.in_err-read_part.was c.from_residual.ensures.1
 
 pub returns : goal.returns
 returns g c = step-last c.read_part.ensures.goes (λ _ written.
-    SetsBit-byte c.with_bit-byte.result c.requires.parts c.bitmap_start.ensures c.requires.high c.in_ok-read_part.ensures.done.same c.in_ok-read_part.ensures.done.told
+    SetsBit-byte c.with_bit-byte.result c.requires.parts c.bitmap_start.ensures c.requires.high
+        c.in_ok-read_part.ensures.done.same c.in_ok-read_part.ensures.done.told
     c.with_bit-byte.ensures.here c.with_bit-byte.ensures.others written) c.write.ensures

@@ -2,4 +2,5 @@ use Rattle.cache.proofs.Overlays.{more}
 use Rattle.cache.proofs.held.duplicates.Goals as goal
 
 pub block-preserved : goal.block-preserved
-block-preserved c = more _ _ _ _ _ _ _ c.len.ensures.valid c.block.invariant c.in-Some.ensures.steps c.in_ok-put.ensures.entries
+block-preserved c = more _ _ _ _ _ _ _ c.len.ensures.valid c.block.invariant c.in-Some.ensures.steps
+    c.in_ok-put.ensures.entries

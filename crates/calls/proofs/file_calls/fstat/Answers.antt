@@ -5,7 +5,8 @@ use Rattle.calls.proofs.file_calls.fstat.Goals as goal
 
 pub returns-in_default : goal.returns-in_default
 unfolding fstat_row
-returns-in_default g c = unnamed (here-of c.requires) _ Fstat refl (c.low.ensures ∙ ap low c.argument.ensures) c.in_default.ensures.named
+returns-in_default g c =
+    unnamed (here-of c.requires) _ Fstat refl (c.low.ensures ∙ ap low c.argument.ensures) c.in_default.ensures.named
 
 pub returns-in_default-node_of : goal.returns-in_default-node_of
 returns-in_default-node_of g c =
@@ -27,10 +28,13 @@ pub write-requires-clause-can : goal.write-requires-clause-can
 write-requires-clause-can g c =
     let on = rw c.from.ensures at c.in-Ok.ensures in
     let can = rw c.argument-address.ensures at c.if-not-can_write.ensures in
-    fstat-can (here-of c.requires) (c.low.ensures ∙ ap low c.argument.ensures) c.in-Some.ensures.named on can c.in_ok-told.ensures.0 c.argument-address.ensures _ c.stat_bytes.ensures
+    fstat-can (here-of c.requires) (c.low.ensures ∙ ap low c.argument.ensures) c.in-Some.ensures.named on can
+        c.in_ok-told.ensures.0 c.argument-address.ensures _ c.stat_bytes.ensures
 
 pub returns : goal.returns
 returns g c =
     let on = rw c.from.ensures at c.in-Ok.ensures in
     let can = rw c.argument-address.ensures at c.if-not-can_write.ensures in
-    fstat-acts (here-of c.requires) (c.low.ensures ∙ ap low c.argument.ensures) c.in-Some.ensures.named on can c.in_ok-told.ensures.0 c.argument-address.ensures _ c.stat_bytes.ensures c.in_ok-told.ensures.1 c.write.ensures c.is_sound.ensures.sound
+    fstat-acts (here-of c.requires) (c.low.ensures ∙ ap low c.argument.ensures) c.in-Some.ensures.named on can
+        c.in_ok-told.ensures.0 c.argument-address.ensures _ c.stat_bytes.ensures c.in_ok-told.ensures.1 c.write.ensures
+        c.is_sound.ensures.sound

@@ -7,4 +7,5 @@ unfolding mkdir_row
 returns-in_default g c = pathless (here-of c.requires) _ Mkdir refl c.in_default.ensures.path
 
 pub returns : goal.returns
-returns g c = mkdir-acts (here-of c.requires) c.in-Some.ensures.path c.create_directory-made.ensures.rest c.named.ensures.sound c.create_directory-made.ensures.made _ c.named.ensures.comes
+returns g c = mkdir-acts (here-of c.requires) c.in-Some.ensures.path c.create_directory-made.ensures.rest
+    c.named.ensures.sound c.create_directory-made.ensures.made _ c.named.ensures.comes

@@ -7,4 +7,5 @@ unfolding unlink_row
 returns-in_default g c = pathless (here-of c.requires) _ Unlink refl c.in_default.ensures.path
 
 pub returns : goal.returns
-returns g c = unlink-acts (here-of c.requires) c.in-Some.ensures.path c.unlink-made.ensures.rest c.named.ensures.sound c.unlink-made.ensures.made _ c.named.ensures.comes
+returns g c = unlink-acts (here-of c.requires) c.in-Some.ensures.path c.unlink-made.ensures.rest c.named.ensures.sound
+    c.unlink-made.ensures.made _ c.named.ensures.comes

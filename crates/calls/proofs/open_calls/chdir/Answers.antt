@@ -8,7 +8,9 @@ returns-in_default g c = pathless (here-of c.requires) _ Chdir refl c.in_default
 
 pub returns-in_default-2 : goal.returns-in_default-2
 unfolding chdir_row
-returns-in_default-2 g c = lost-path (here-of c.requires) _ Chdir refl c.in-Some.ensures.path (c.in_ok-number.ensures.0, sym c.in_default-2.is ∙ c.in_ok-number.ensures.1)
+returns-in_default-2 g c =
+    lost-path (here-of c.requires) _ Chdir refl c.in-Some.ensures.path
+    (c.in_ok-number.ensures.0, sym c.in_default-2.is ∙ c.in_ok-number.ensures.1)
 
 pub chdir_found-requires : goal.chdir_found-requires
 chdir_found-requires g c =

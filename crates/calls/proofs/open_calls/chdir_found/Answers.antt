@@ -7,7 +7,8 @@ pub stat-requires : goal.stat-requires
 stat-requires g c = record { up = c.requires.runs.up; node = chdir-there (here-of c.requires.runs) c.requires.reaches }
 
 pub returns-then-branch-ne-DIRECTORY : goal.returns-then-branch-ne-DIRECTORY
-returns-then-branch-ne-DIRECTORY g c = chdir-other (here-of c.requires.runs) c.requires.reaches _ c.in_ok-stat.ensures c.if-branch-ne-DIRECTORY.true
+returns-then-branch-ne-DIRECTORY g c =
+    chdir-other (here-of c.requires.runs) c.requires.reaches _ c.in_ok-stat.ensures c.if-branch-ne-DIRECTORY.true
 
 pub work_in-requires : goal.work_in-requires
 work_in-requires g c =

@@ -8,26 +8,36 @@ pub stat-requires-clause-node : goal.stat-requires-clause-node
 stat-requires-clause-node g c = open-node (here-of c.requires.runs) c.requires.asks
 
 pub returns-then-not-may_open : goal.returns-then-not-may_open
-returns-then-not-may_open g c = open-closed (here-of c.requires.runs) c.requires.asks c.in_ok-told.told c.in_ok-told.ensures (sym c.if-not-may_open.ensures)
+returns-then-not-may_open g c =
+    open-closed (here-of c.requires.runs) c.requires.asks c.in_ok-told.told c.in_ok-told.ensures
+    (sym c.if-not-may_open.ensures)
 
 pub returns-then-not-has_seat : goal.returns-then-not-has_seat
-returns-then-not-has_seat g c = open-full (here-of c.requires.runs) c.requires.asks c.in_ok-told.told c.in_ok-told.ensures (sym c.if-not-has_seat.ensures)
+returns-then-not-has_seat g c =
+    open-full (here-of c.requires.runs) c.requires.asks c.in_ok-told.told c.in_ok-told.ensures
+    (sym c.if-not-has_seat.ensures)
 
 pub cut-requires-clause-node : goal.cut-requires-clause-node
-cut-requires-clause-node g c = node-then (here-of c.requires.runs) c.requires.asks c.in_ok-told.told c.in_ok-told.ensures
+cut-requires-clause-node g c =
+    node-then (here-of c.requires.runs) c.requires.asks c.in_ok-told.told c.in_ok-told.ensures
 
 pub open_on-descriptor-requires : goal.open_on-descriptor-requires
 open_on-descriptor-requires g c = record {
   runs = cut-runs c.in_ok-cut.ensures (read-runs c.in_ok-told.ensures.0 c.requires.runs);
   seat = ap (λ (y : Kernel). has_seat y c.args.at) c.in_ok-cut.ensures.same ∙ sym c.if-not-has_seat.ensures;
-  may = may-open-cut (here-of c.requires.runs) c.requires.asks c.in_ok-told.told c.in_ok-told.ensures (sym c.if-not-may_open.ensures) c.in_ok-cut.ensures;
+  may = may-open-cut (here-of c.requires.runs) c.requires.asks c.in_ok-told.told c.in_ok-told.ensures
+      (sym c.if-not-may_open.ensures) c.in_ok-cut.ensures;
 }
 
 pub returns : goal.returns
-returns g c = open-found (here-of c.requires.runs) c.requires.asks c.in_ok-told.told c.in_ok-told.ensures (sym c.if-not-may_open.ensures) c.in_ok-cut.ensures c.open_on-descriptor.ensures
+returns g c = open-found (here-of c.requires.runs) c.requires.asks c.in_ok-told.told c.in_ok-told.ensures
+    (sym c.if-not-may_open.ensures) c.in_ok-cut.ensures c.open_on-descriptor.ensures
 
 pub cut-requires-clause-up : goal.cut-requires-clause-up
 cut-requires-clause-up g c = (read-runs c.in_ok-told.ensures.0 c.requires.runs).up
 
 pub returns-in_err-cut : goal.returns-in_err-cut
-returns-in_err-cut g c = after-look c.in_ok-told.ensures.0 _ c.args.at c.requires.runs.up Open _ (err-lost c.stat.new.self c.cut.new.kernel c.args.at Open c.from_residual-in_err-cut.result c.from_residual-in_err-cut.ensures.0 c.in_err-cut.ensures)
+returns-in_err-cut g c =
+    after-look c.in_ok-told.ensures.0 _ c.args.at c.requires.runs.up Open _
+    (err-lost c.stat.new.self c.cut.new.kernel c.args.at Open c.from_residual-in_err-cut.result
+    c.from_residual-in_err-cut.ensures.0 c.in_err-cut.ensures)

@@ -1,4 +1,5 @@
-use Rattle.calls.proofs.Common.{answered, ap, counting, ended, here-in, IsEnd, Kernel, marked, negsuc, refl, serves-disk, state-but, state-waking, state_of, subst, sym, waking, ◌∙◌}
+use Rattle.calls.proofs.Common.{answered, ap, counting, ended, here-in, IsEnd, Kernel, marked, negsuc, refl}
+use Rattle.calls.proofs.Common.{serves-disk, state-but, state-waking, state_of, subst, sym, waking, ◌∙◌}
 use Rattle.calls.proofs.Acts.{runs-of, settles-answer, settles-blocks, settles-exits-if, same-served, where-err}
 use Rattle.calls.proofs.Processes.{settles-killed}
 use Rattle.calls.proofs.outcome.settle.Goals as goal
@@ -7,7 +8,8 @@ pub returns-in-Answers : goal.returns-in-Answers
 returns-in-Answers g c =
     let s = c.is_sound.ensures in
     record {
-      gives = rw c.in-Answers.is (settles-answer (runs-of c.requires.running c.requires.up s.sound s.zero s.aligned) _ c.answer.ensures);
+      gives = rw c.in-Answers.is
+          (settles-answer (runs-of c.requires.running c.requires.up s.sound s.zero s.aligned) _ c.answer.ensures);
       fails = tt;
       tree = same-served (ap (λ (x : Kernel). x.tree) c.answer.ensures) c.requires.up;
     }
@@ -16,7 +18,9 @@ pub returns-in-Refuses : goal.returns-in-Refuses
 returns-in-Refuses g c =
     let s = c.is_sound.ensures in
     record {
-      gives = rw c.in-Refuses.is (settles-answer (runs-of c.requires.running c.requires.up s.sound s.zero s.aligned) _ c.answer-in-Refuses.ensures);
+      gives = rw c.in-Refuses.is
+          (settles-answer (runs-of c.requires.running c.requires.up s.sound s.zero s.aligned) _
+          c.answer-in-Refuses.ensures);
       fails = tt;
       tree = same-served (ap (λ (x : Kernel). x.tree) c.answer-in-Refuses.ensures) c.requires.up;
     }
@@ -25,7 +29,9 @@ pub returns-in-Blocks : goal.returns-in-Blocks
 returns-in-Blocks g c =
     let s = c.is_sound.ensures in
     record {
-      gives = rw c.in-Blocks.is (settles-blocks (runs-of c.requires.running c.requires.up s.sound s.zero s.aligned) (rw c.in-Blocks.is at c.requires.can) c.block.ensures);
+      gives = rw c.in-Blocks.is
+          (settles-blocks (runs-of c.requires.running c.requires.up s.sound s.zero s.aligned)
+          (rw c.in-Blocks.is at c.requires.can) c.block.ensures);
       fails = tt;
       tree = same-served (ap (λ (x : Kernel). x.tree) c.block.ensures) c.requires.up;
     }
@@ -34,22 +40,28 @@ pub returns-in-Exits : goal.returns-in-Exits
 returns-in-Exits g c =
     let s = c.is_sound.ensures in
     record {
-      gives = rw c.in-Exits.is (settles-exits-if (runs-of c.requires.running c.requires.up s.sound s.zero s.aligned) c.finish.new.self (rw c.in-Exits.is at c.requires.can) c.finish.result c.finish.ensures.told);
+      gives = rw c.in-Exits.is
+          (settles-exits-if (runs-of c.requires.running c.requires.up s.sound s.zero s.aligned) c.finish.new.self
+          (rw c.in-Exits.is at c.requires.can) c.finish.result c.finish.ensures.told);
       fails = where-err c.finish.result (subst IsEnd (sym c.in-Exits.is) tt);
       tree = serves-disk c.finish.ensures;
     }
 
 pub finish-requires-in-KillsItself : goal.finish-requires-in-KillsItself
-finish-requires-in-KillsItself g c = rw c.answer-in-KillsItself.ensures (record { up = c.requires.up; can = rw c.requires.running refl })
+finish-requires-in-KillsItself g c =
+    rw c.answer-in-KillsItself.ensures (record { up = c.requires.up; can = rw c.requires.running refl })
 
 pub returns-in_ok-finish-in-KillsItself-clause-gives : goal.returns-in_ok-finish-in-KillsItself-clause-gives
 returns-in_ok-finish-in-KillsItself-clause-gives g c =
     let s = c.is_sound.ensures in
     let k = c.args.kernel.now in
     let last = c.finish-in-KillsItself.new.self in
-    let made = c.in_ok-finish-in-KillsItself.ensures.told ∙ ap (λ (x : Kernel). waking (counting (ended x c.args.at (negsuc 0)) last.tree.failures) last.table.awake) c.answer-in-KillsItself.ensures in
+    let made = c.in_ok-finish-in-KillsItself.ensures.told
+            ∙ ap (λ (x : Kernel). waking (counting (ended x c.args.at (negsuc 0)) last.tree.failures) last.table.awake)
+            c.answer-in-KillsItself.ensures in
     rw c.in-KillsItself.is (
     state-but (marked last c.args.at) c.mark.ensures
     ∙ ap (λ (x : Kernel). state_of (marked x c.args.at)) made
-    ∙ state-waking (marked (counting (ended (answered k 0) c.args.at (negsuc 0)) last.tree.failures) c.args.at) last.table.awake
+    ∙ state-waking (marked (counting (ended (answered k 0) c.args.at (negsuc 0)) last.tree.failures) c.args.at)
+        last.table.awake
     ∙ settles-killed (here-in s.sound c.requires.running c.requires.up) s.zero s.aligned)

@@ -6,7 +6,8 @@ pub returns-in_default : goal.returns-in_default
 returns-in_default g c = fork-unseated c.requires (sym c.in_default.ensures.seat)
 
 pub returns-then-not-fork : goal.returns-then-not-fork
-returns-then-not-fork g c = let d = c.if-not-fork.ensures in rw d.1 (fork-unfit c.requires (sym c.in-Ok.ensures.seat) d.0)
+returns-then-not-fork g c = let d =
+    c.if-not-fork.ensures in rw d.1 (fork-unfit c.requires (sym c.in-Ok.ensures.seat) d.0)
 
 pub returns : goal.returns
 returns g c =

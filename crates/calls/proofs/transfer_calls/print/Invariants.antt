@@ -5,7 +5,8 @@ use Rattle.calls.proofs.transfer_calls.print.Given as goal
 abbrev pub invariant-loop-done : goal.invariant-loop-done
 invariant-loop-done g l = record {
   within : l.done ≤ l.count;
-  printed : Appends (g.W.Out.contents l.fn.out) (g.W.Out.contents l.out) (take l.done (reach Load (view_at l.kernel.spaces l.at).memory l.address));
+  printed : Appends (g.W.Out.contents l.fn.out) (g.W.Out.contents l.out)
+      (take l.done (reach Load (view_at l.kernel.spaces l.at).memory l.address));
   later : g.W.Out.failures l.fn.out ≤ g.W.Out.failures l.out;
 }
 

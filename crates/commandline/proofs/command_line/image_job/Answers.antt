@@ -3,13 +3,18 @@ use Rattle.commandline.proofs.CommandLineLemmas.{is-job}
 use Rattle.commandline.proofs.command_line.image_job.Goals as goal
 
 pub returns-in-Some : goal.returns-in-Some
-returns-in-Some c = is-job c.mkfs.result c.args.matches.now _ _ (c.in-Some.ensures.found.0 refl) c.in-Some.ensures.rows c.mkfs.ensures
+returns-in-Some c = is-job c.mkfs.result c.args.matches.now _ _ (c.in-Some.ensures.found.0 refl) c.in-Some.ensures.rows
+    c.mkfs.ensures
 
 pub returns-in-Some-subcommand_matches : goal.returns-in-Some-subcommand_matches
-returns-in-Some-subcommand_matches c = is-job c.check.result c.args.matches.now _ _ (c.in-Some-subcommand_matches.ensures.found.0 refl) c.in-Some-subcommand_matches.ensures.rows c.check.ensures
+returns-in-Some-subcommand_matches c =
+    is-job c.check.result c.args.matches.now _ _ (c.in-Some-subcommand_matches.ensures.found.0 refl)
+    c.in-Some-subcommand_matches.ensures.rows c.check.ensures
 
 pub returns-in-Some-subcommand_matches-2 : goal.returns-in-Some-subcommand_matches-2
-returns-in-Some-subcommand_matches-2 c = is-job c.ls.result c.args.matches.now _ _ (c.in-Some-subcommand_matches-2.ensures.found.0 refl) c.in-Some-subcommand_matches-2.ensures.rows c.ls.ensures
+returns-in-Some-subcommand_matches-2 c =
+    is-job c.ls.result c.args.matches.now _ _ (c.in-Some-subcommand_matches-2.ensures.found.0 refl)
+    c.in-Some-subcommand_matches-2.ensures.rows c.ls.ensures
 
 pub returns : goal.returns
 returns c = c.file_job.ensures

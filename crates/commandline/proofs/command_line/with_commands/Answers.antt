@@ -7,8 +7,11 @@ use Rattle.commandline.proofs.command_line.with_commands.Goals as goal
 pub loop-row-preserved : goal.loop-row-preserved
 loop-row-preserved c =
     let no : Bor (List ℕ) = record { ref_ptr = (0, 0); now = [] } in
-    commands-more declared_top c.args.rows.now c.loop-row.row-index (record { name = no; about = no; example = no; words = record { ref_ptr = (0, 0); now = [] } }) c.loop-row.command _ _ c.loop-row-test.true c.loop-row.invariant c.in-Ok.ensures
+    commands-more declared_top c.args.rows.now c.loop-row.row-index
+        (record { name = no; about = no; example = no; words = record { ref_ptr = (0, 0); now = [] } })
+        c.loop-row.command _ _ c.loop-row-test.true c.loop-row.invariant c.in-Ok.ensures
     c.in-Ok-subcommand.ensures
 
 pub returns : goal.returns
-returns c = c.loop-row.invariant ∙ ap (fold with_declared declared_top) (take_all c.loop-row.row-index c.args.rows.now c.loop-row-test.false)
+returns c = c.loop-row.invariant
+    ∙ ap (fold with_declared declared_top) (take_all c.loop-row.row-index c.args.rows.now c.loop-row-test.false)

@@ -9,4 +9,5 @@ pub returns-in_default : goal.returns-in_default
 returns-in_default g c = none-done c.args.digest _ c.args.number c.in_ok-stat.ensures c.in_default.is c.mix.ensures
 
 pub returns : goal.returns
-returns g c = node-done _ c.args.digest c.args.number _ c.in_ok-stat.ensures c.in-Some.is c.mix_stat.ensures c.mix_contents.ensures
+returns g c = node-done _ c.args.digest c.args.number _ c.in_ok-stat.ensures c.in-Some.is c.mix_stat.ensures
+    c.mix_contents.ensures

@@ -8,5 +8,7 @@ use Rattle.disk_tests.proofs.named.used.Goals as goal
 pub returns : goal.returns
 returns g c =
     let disk = c.fail_after.result in
-    let mounted = subst (λ r. IfOk r (IsMounted (flat_map (λ b. b) (blocks_of disk.device.bytes)) (length disk.device.bytes ∷ []) (count_of disk.left 0))) c.expect.ensures c.mount.ensures.mounted in
+    let mounted = subst (λ r. IfOk r
+            (IsMounted (flat_map (λ b. b) (blocks_of disk.device.bytes)) (length disk.device.bytes ∷ [])
+            (count_of disk.left 0))) c.expect.ensures c.mount.ensures.mounted in
     record { up = mounted.up; rules = mounted.rules }

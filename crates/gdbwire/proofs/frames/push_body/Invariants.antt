@@ -3,4 +3,5 @@ use Rattle.gdbwire.specs.Frames.{checksum, sent}
 use Rattle.gdbwire.proofs.frames.push_body.Given as goal
 
 abbrev pub invariant-loop-byte : goal.invariant-loop-byte
-invariant-loop-byte l = (l.out.items ≡ l.fn.out.items ++ sent (take l.byte-index l.body)) × (l.total ≡ checksum (sent (take l.byte-index l.body)))
+invariant-loop-byte l = (l.out.items ≡ l.fn.out.items ++ sent (take l.byte-index l.body))
+    × (l.total ≡ checksum (sent (take l.byte-index l.body)))

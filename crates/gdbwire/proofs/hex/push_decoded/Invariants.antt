@@ -6,7 +6,8 @@ use Rattle.gdbwire.proofs.hex.push_decoded.Given as goal
 abbrev pub invariant-loop-at : goal.invariant-loop-at
 invariant-loop-at l = record {
   within : l.at ≤ length l.digits;
-  rest : option_map (λ bytes. l.fn.out.items ++ bytes) (bytes_of l.digits) ≡ option_map (λ bytes. l.out.items ++ bytes) (bytes_of (drop l.at l.digits));
+  rest : option_map (λ bytes. l.fn.out.items ++ bytes) (bytes_of l.digits)
+      ≡ option_map (λ bytes. l.out.items ++ bytes) (bytes_of (drop l.at l.digits));
 }
 
 abbrev pub decreases-loop-at : goal.decreases-loop-at

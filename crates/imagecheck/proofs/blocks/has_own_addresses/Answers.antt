@@ -6,7 +6,10 @@ pub is_free-requires : goal.is_free-requires
 is_free-requires c = HasPlace-at c.requires.geometry _ c.requires.high
 
 pub fits_addresses-requires-clause-inode : goal.fits_addresses-requires-clause-inode
-fits_addresses-requires-clause-inode c = HasInode-at c.requires.geometry c.requires.sizes _ c.requires.low c.requires.high (iff_false c.is_free.ensures c.if-is_free.false)
+fits_addresses-requires-clause-inode c =
+    HasInode-at c.requires.geometry c.requires.sizes _ c.requires.low c.requires.high
+    (iff_false c.is_free.ensures c.if-is_free.false)
 
 pub returns-else-is_free : goal.returns-else-is_free
-returns-else-is_free c = Decides-like _ (λ fits _. fits) (λ h. h (iff_false c.is_free.ensures c.if-is_free.false)) c.fits_addresses.ensures
+returns-else-is_free c =
+    Decides-like _ (λ fits _. fits) (λ h. h (iff_false c.is_free.ensures c.if-is_free.false)) c.fits_addresses.ensures

@@ -11,11 +11,15 @@ count_subdirectories-requires g c = record {
   geometry = c.requires.listed.geometry;
   namings = namings-fitting c.requires.listed;
   long = c.deref_mut.ensures.len ∙ c.in_ok-subdirectories.ensures.len;
-  fresh = rw (c.deref_mut.ensures.value, c.in_ok-subdirectories.ensures.items_if_clones_equal (λ y e. cc)) (All-replicate (λ x. x ≡ 0) _ 0 refl);
+  fresh = rw (c.deref_mut.ensures.value, c.in_ok-subdirectories.ensures.items_if_clones_equal (λ y e. cc))
+      (All-replicate (λ x. x ≡ 0) _ 0 refl);
 }
 
 pub test_links-requires-clause-subdirectories : goal.test_links-requires-clause-subdirectories
 test_links-requires-clause-subdirectories g c =
     let counts = c.count_subdirectories.new.counts in
-    rw (c.deref.ensures.value, take_at counts _ c.in_ok-subdirectories.subdirectories.len (c.count_subdirectories.ensures.long ∙ sym c.in_ok-subdirectories.ensures.len))
-    (TellsSubdirectories-from c.requires.listed counts c.count_subdirectories.ensures.long c.count_subdirectories.ensures.counted)
+    rw (c.deref.ensures.value,
+        take_at counts _ c.in_ok-subdirectories.subdirectories.len
+        (c.count_subdirectories.ensures.long ∙ sym c.in_ok-subdirectories.ensures.len))
+    (TellsSubdirectories-from c.requires.listed counts c.count_subdirectories.ensures.long
+        c.count_subdirectories.ensures.counted)

@@ -2,4 +2,5 @@ use Rattle.imagecheck.proofs.Common.{ℕ, ◌≡◌, ◌<◌, ◌≤◌, cond, �
 use Rattle.imagecheck.proofs.fronts.are_named.Given as goal
 
 abbrev pub invariant-loop-n : goal.invariant-loop-n
-invariant-loop-n l = (m : ℕ) → 1 ≤ m → m < l.n → kind_in l.image m ≡ 1 → names_of (files_in l.image) m ≡ cond (m == 1) 0 1
+invariant-loop-n l = (m : ℕ) → 1 ≤ m → m < l.n → kind_in l.image m ≡ 1
+    → names_of (files_in l.image) m ≡ cond (m == 1) 0 1

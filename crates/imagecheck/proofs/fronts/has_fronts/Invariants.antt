@@ -2,4 +2,5 @@ use Rattle.imagecheck.proofs.Common.{ℕ, ◌≡◌, ◌<◌, ◌≤◌, content
 use Rattle.imagecheck.proofs.fronts.has_fronts.Given as goal
 
 abbrev pub invariant-loop-n : goal.invariant-loop-n
-invariant-loop-n l = (m : ℕ) → 1 ≤ m → m < l.n → kind_in l.image m ≡ 1 → FitsFront m (parent_of (files_in l.image) m) (contents_in l.image m)
+invariant-loop-n l = (m : ℕ) → 1 ≤ m → m < l.n → kind_in l.image m ≡ 1
+    → FitsFront m (parent_of (files_in l.image) m) (contents_in l.image m)

@@ -9,10 +9,15 @@ pub is_directory-requires : goal.is_directory-requires
 is_directory-requires c = HasPlace-at c.requires 1 (omega (arith, inodes-least c.requires))
 
 pub returns-then-not-is_known : goal.returns-then-not-is_known
-returns-then-not-is_known c = refused c.if-not-is_known.true c.is_known.ensures (λ h. h.known c.loop-n.n (omega arith) (omega (arith, c.requires.inodes)))
+returns-then-not-is_known c =
+    refused c.if-not-is_known.true c.is_known.ensures
+    (λ h. h.known c.loop-n.n (omega arith) (omega (arith, c.requires.inodes)))
 
 pub loop-n-preserved : goal.loop-n-preserved
-loop-n-preserved c = up_to_more (λ m. kind_in c.args.image.now m ≤ 3) c.loop-n.n c.loop-n.invariant (c.is_known.ensures.0 c.if-not-is_known.false)
+loop-n-preserved c = up_to_more (λ m. kind_in c.args.image.now m ≤ 3) c.loop-n.n c.loop-n.invariant
+    (c.is_known.ensures.0 c.if-not-is_known.false)
 
 pub returns : goal.returns
-returns c = Decides-like _ (λ root. record { known = λ n low high. c.loop-n.invariant n low (omega (arith, c.requires.inodes, c.loop-n-test.false)); root = root }) (λ h. h.root) c.is_directory.ensures
+returns c = Decides-like _
+    (λ root. record { known = λ n low high. c.loop-n.invariant n low
+    (omega (arith, c.requires.inodes, c.loop-n-test.false)); root = root }) (λ h. h.root) c.is_directory.ensures

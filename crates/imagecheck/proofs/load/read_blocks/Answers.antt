@@ -7,7 +7,8 @@ use Rattle.imagecheck.proofs.load.read_blocks.Goals as goal
 pub returns-in_err-image : goal.returns-in_err-image
 returns-in_err-image g c =
     let e = err-told c.from_residual.ensures.1 in
-    record { bytes = rw e tt; only = rw e tt; same = refl; identity = refl; later = omega arith; failed = λ is. absurd (not_device (one-fault e is)) }
+    record { bytes = rw e tt; only = rw e tt; same = refl; identity = refl; later = omega arith;
+        failed = λ is. absurd (not_device (one-fault e is)) }
 
 pub returns-in_err-block : goal.returns-in_err-block
 returns-in_err-block g c =
@@ -19,7 +20,8 @@ returns-in_err-block g c =
       same = c.in_err-block.ensures.same ∙ inv.same;
       identity = c.read.ensures.identity ∙ inv.identity;
       later = omega (arith, inv.later, c.in_err-block.ensures.cause.later);
-      failed = λ _. Rises-before (g.D.BlockDev.failures c.args.device.now) (g.D.BlockDev.failures c.loop-n.device) (g.D.BlockDev.failures c.read.new.self) inv.later (c.in_err-block.ensures.cause.failed refl);
+      failed = λ _. Rises-before (g.D.BlockDev.failures c.args.device.now) (g.D.BlockDev.failures c.loop-n.device)
+          (g.D.BlockDev.failures c.read.new.self) inv.later (c.in_err-block.ensures.cause.failed refl);
     }
 
 pub returns-in_err-extend_from_slice : goal.returns-in_err-extend_from_slice
@@ -50,4 +52,6 @@ loop-n-preserved g c =
     }
 
 pub returns-clause-bytes : goal.returns-clause-bytes
-returns-clause-bytes g c = rw (← take_all c.loop-n.n (g.D.BlockDev.content c.args.device.now) (omega (arith, c.requires.count, c.loop-n-test.false))) c.loop-n.invariant.bytes
+returns-clause-bytes g c =
+    rw (← take_all c.loop-n.n (g.D.BlockDev.content c.args.device.now)
+    (omega (arith, c.requires.count, c.loop-n-test.false))) c.loop-n.invariant.bytes

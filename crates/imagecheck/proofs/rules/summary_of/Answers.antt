@@ -10,7 +10,8 @@ returns g c =
     let bytes : (i : ℕ) → get_or image i 0 < 256 = λ i. omega (arith, c.type_inv.image i) in
     let files = c.in_ok-test_files.ensures in
     record {
-      denotes = λ f magic. Denotes-from image (HasBlocks-of image c.in_ok-test_blocks.ensures) bytes f magic files.entries files.links files.reached;
+      denotes = λ f magic. Denotes-from image (HasBlocks-of image c.in_ok-test_blocks.ensures) bytes f magic
+          files.entries files.links files.reached;
       inodes = c.inodes_in_use.ensures;
       blocks = c.blocks_in_use.ensures;
     }

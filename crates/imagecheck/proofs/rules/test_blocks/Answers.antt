@@ -9,7 +9,8 @@ pub returns-in_err-marks : goal.returns-in_err-marks
 returns-in_err-marks g c = rw (err-told c.from_residual-in_err-marks.ensures.1) tt
 
 pub test_marks-requires-clause-fresh : goal.test_marks-requires-clause-fresh
-test_marks-requires-clause-fresh g c = rw (c.deref_mut.ensures.value, c.in_ok-marks.ensures.items_if_clones_equal (λ y e. cc)) (HasMarks-none _)
+test_marks-requires-clause-fresh g c =
+    rw (c.deref_mut.ensures.value, c.in_ok-marks.ensures.items_if_clones_equal (λ y e. cc)) (HasMarks-none _)
 
 pub test_marks-requires-clause-inodes : goal.test_marks-requires-clause-inodes
 test_marks-requires-clause-inodes g c = c.in_ok-test_inodes.ensures.judged.0

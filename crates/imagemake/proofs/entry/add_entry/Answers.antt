@@ -1,4 +1,5 @@
-use Rattle.imagemake.proofs.Common.{◌≡◌, ◌+◌, ap, arith, length, refl, sym, subst, ◌∙◌, length_push, err_from_is_err_and, with_manifest_entry, Refuses, thing_of, le-leb}
+use Rattle.imagemake.proofs.Common.{◌≡◌, ◌+◌, ap, arith, length, refl, sym, subst, ◌∙◌, length_push}
+use Rattle.imagemake.proofs.Common.{err_from_is_err_and, with_manifest_entry, Refuses, thing_of, le-leb}
 use Rattle.imagemake.proofs.MadeSearch.{AddsEntry-stored, CanAdd-next, made-few, refused-stored, entry-spot}
 use Rattle.imagemake.proofs.Putting.{Owns-done, Owns-other, Blames-stored, none-done, told_err}
 use Rattle.imagemake.proofs.Things.{folder-thing}
@@ -11,7 +12,8 @@ pub locate-requires : goal.locate-requires
 locate-requires g c = made-few c.is_whole.ensures c.requires.made
 
 pub overflow_add-number : goal.overflow_add-number
-overflow_add-number g c = record { fits = omega (arith, c.len-number.ensures, made-few c.is_whole.ensures c.requires.made) }
+overflow_add-number g c =
+    record { fits = omega (arith, c.len-number.ensures, made-few c.is_whole.ensures c.requires.made) }
 
 pub numbers-requires : goal.numbers-requires
 numbers-requires g c = c.requires.made.up
@@ -26,9 +28,11 @@ returns-in_err-spot g c =
       added = none-done _ told;
       room = none-done _ told;
       refused = rw (err.1, err.2)
-          (subst (λ path. Refuses (with_manifest_entry t.block_limit (length t.files) t.files (length made + 2) (record { path = path; thing = thing_of c.args.entry.now.thing })) c.in_err-spot.field-0.0)
+          (subst (λ path. Refuses (with_manifest_entry t.block_limit (length t.files) t.files (length made + 2)
+              (record { path = path; thing = thing_of c.args.entry.now.thing })) c.in_err-spot.field-0.0)
           c.as_slice-path.ensures.value
-          (c.in_err-spot.ensures.refused t.block_limit (length t.files) t.files (length made + 2) (thing_of c.args.entry.now.thing) c.requires.made.listed));
+          (c.in_err-spot.ensures.refused t.block_limit (length t.files) t.files (length made + 2)
+              (thing_of c.args.entry.now.thing) c.requires.made.listed));
       cause = Owns-other (omega arith) c.in_err-spot.ensures.memory told;
     }
 
@@ -37,9 +41,12 @@ returns-then-number-numbers-clause-refused g c =
     let t = c.args.tree.now in
     let made = c.args.made.now.items in
     let thing = thing_of c.args.entry.now.thing in
-    ap (λ path. with_manifest_entry t.block_limit (length t.files) t.files (length made + 2) (record { path = path; thing = thing })) (sym c.as_slice-path.ensures.value)
-    ∙ entry-spot c.in_ok-spot.ensures.spot t.block_limit (length t.files) t.files (length made + 2) thing c.requires.made.listed
-    ∙ rw (le-leb (length t.files) (length made + 2) (omega (arith, c.if-number-numbers.true, c.len-number.ensures, c.numbers.ensures))) refl
+    ap (λ path. with_manifest_entry t.block_limit (length t.files) t.files (length made + 2)
+        (record { path = path; thing = thing })) (sym c.as_slice-path.ensures.value)
+    ∙ entry-spot c.in_ok-spot.ensures.spot t.block_limit (length t.files) t.files (length made + 2) thing
+        c.requires.made.listed
+    ∙ rw (le-leb (length t.files) (length made + 2)
+        (omega (arith, c.if-number-numbers.true, c.len-number.ensures, c.numbers.ensures))) refl
 
 pub returns-then-number-numbers-clause-cause : goal.returns-then-number-numbers-clause-cause
 returns-then-number-numbers-clause-cause g c = Owns-other (omega arith) (λ e. cc) refl
@@ -47,19 +54,25 @@ returns-then-number-numbers-clause-cause g c = Owns-other (omega arith) (λ e. c
 pub store_entry-requires : goal.store_entry-requires
 store_entry-requires g c = record {
   up = c.requires.made.up;
-  able = CanAdd-next c.is_whole.ensures c.requires.made c.in_ok-spot.ensures.spot (omega (arith, c.if-number-numbers.false, c.len-number.ensures, c.numbers.ensures)) (ap (λ k. k + 2) c.len-number.ensures);
+  able = CanAdd-next c.is_whole.ensures c.requires.made c.in_ok-spot.ensures.spot
+      (omega (arith, c.if-number-numbers.false, c.len-number.ensures, c.numbers.ensures))
+      (ap (λ k. k + 2) c.len-number.ensures);
 }
 
 pub returns-in_err-store_entry : goal.returns-in_err-store_entry
 returns-in_err-store_entry g c =
-    let err = err_from_is_err_and c.from_residual-in_err-store_entry.result c.from_residual-in_err-store_entry.ensures.1 in
+    let err = err_from_is_err_and c.from_residual-in_err-store_entry.result
+            c.from_residual-in_err-store_entry.ensures.1 in
     let told = told_err c.from_residual-in_err-store_entry.result c.from_residual-in_err-store_entry.ensures.1 in
     record {
       added = none-done _ told;
       room = none-done _ told;
       refused = rw (err.1, err.2)
-          (refused-stored c.is_whole.ensures c.requires.made c.in_ok-spot.ensures.spot (omega (arith, c.if-number-numbers.false, c.len-number.ensures, c.numbers.ensures)) (ap (λ k. k + 2) c.len-number.ensures)
-          (thing_of c.args.entry.now.thing) c.in_err-store_entry.ensures c.as_slice-path.ensures.value c.in_err-store_entry.field-0.0 refl);
+          (refused-stored c.is_whole.ensures c.requires.made c.in_ok-spot.ensures.spot
+              (omega (arith, c.if-number-numbers.false, c.len-number.ensures, c.numbers.ensures))
+              (ap (λ k. k + 2) c.len-number.ensures)
+          (thing_of c.args.entry.now.thing) c.in_err-store_entry.ensures c.as_slice-path.ensures.value
+              c.in_err-store_entry.field-0.0 refl);
       cause = Blames-stored c.in_err-store_entry.field-0.0 (omega arith) c.in_err-store_entry.ensures.owns told;
     }
 
@@ -72,8 +85,11 @@ push-requires g c = record {
 
 pub returns : goal.returns
 returns g c =
-    let longer : length c.push.new.self.items ≡ length c.args.made.now.items + 1 = ap length c.push.ensures.items ∙ length_push _ _ in
-    let adds = AddsEntry-stored c.is_whole.ensures c.requires.made c.in_ok-spot.ensures.spot (omega (arith, c.if-number-numbers.false, c.len-number.ensures, c.numbers.ensures)) (ap (λ k. k + 2) c.len-number.ensures)
+    let longer : length c.push.new.self.items ≡ length c.args.made.now.items + 1 = ap length c.push.ensures.items
+            ∙ length_push _ _ in
+    let adds = AddsEntry-stored c.is_whole.ensures c.requires.made c.in_ok-spot.ensures.spot
+            (omega (arith, c.if-number-numbers.false, c.len-number.ensures, c.numbers.ensures))
+            (ap (λ k. k + 2) c.len-number.ensures)
     (thing_of _) c.in_ok-store_entry.ensures c.as_slice-path.ensures.value refl c.push.ensures.items
     (c.is_directory.ensures ∙ folder-thing _ c.in_ok-spot.spot.directory _) in
     record {

@@ -9,10 +9,12 @@ returns-then-not-is_good_name c =
 pub name-preserved : goal.name-preserved
 name-preserved c = record {
   within = within_next _ _ c.in-Some.end c.in-Some.ensures;
-  rest = sym (all_next _ _ c.in-Some.end c.in-Some.ensures true (sym c.if-not-is_good_name.ensures)) ∙ c.name.invariant.rest;
+  rest = sym (all_next _ _ c.in-Some.end c.in-Some.ensures true (sym c.if-not-is_good_name.ensures))
+      ∙ c.name.invariant.rest;
 }
 
 pub returns : goal.returns
 returns c =
     c.is_good_name-2.ensures ∙ ap is_name (take_rest c.args.path.now c.name.at)
-    ∙ sym (good_last (drop c.name.at c.args.path.now) (first-in c.args.path.now c.name.at None c.in_default.ensures)) ∙ c.name.invariant.rest
+    ∙ sym (good_last (drop c.name.at c.args.path.now) (first-in c.args.path.now c.name.at None c.in_default.ensures))
+        ∙ c.name.invariant.rest

@@ -9,7 +9,10 @@ pub returns-in_err-node : goal.returns-in_err-node
 returns-in_err-node g c = lost-served now-begin c.stat.ensures c.in_err-node.was c.from_residual.ensures.1
 
 pub returns-then-place : goal.returns-then-place
-returns-then-place g c = looks-done c.stat.ensures c.in_ok-node.was (λ h. room-full-at h (let told = c.in_ok-node.ensures.told.1 _ h.here in let size = told.2 in let full = c.if-place.true in omega arith))
+returns-then-place g c =
+    looks-done c.stat.ensures c.in_ok-node.was
+    (λ h. room-full-at h (let told = c.in_ok-node.ensures.told.1 _ h.here in let size = told.2
+    in let full = c.if-place.true in omega arith))
 
 pub returns : goal.returns
 returns g c = looks-done c.stat.ensures c.in_ok-node.was (λ h.

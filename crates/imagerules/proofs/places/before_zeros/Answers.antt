@@ -16,7 +16,8 @@ returns c =
     let bytes = c.args.bytes.now in
     let i = c.loop-end.invariant in
     elim c.loop-end-test.branch [
-      | then-loop-end-test+else-bytes-end-eq0 w ↦ trimmed_all bytes c.loop-end.end (omega arith) i.within w.if-bytes-end-eq0.false ∙ i.same
+      | then-loop-end-test+else-bytes-end-eq0 w ↦ trimmed_all bytes c.loop-end.end (omega arith) i.within
+          w.if-bytes-end-eq0.false ∙ i.same
       | else-loop-end-test w ↦
           let z : c.loop-end.end ≡ 0 = omega arith in
           ap (λ m. take m bytes) z ∙ sym (ap (λ m. without_zeros (take m bytes)) z) ∙ i.same

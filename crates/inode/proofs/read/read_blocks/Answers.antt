@@ -1,5 +1,7 @@
-use Rattle.inode.proofs.Common.{◌≡◌, ◌+◌, ◌/◌, ◌∙◌, ap, arith, length, refl, block_at, goes-after, goes-stays, goes-twice, read-done, step-failed}
-use Rattle.inode.proofs.Growing.{HasInode-read, chunk_below, chunk_within, count_of, index_in_disk, read-chunk, slot_asked, slot_block, slot_in_disk}
+use Rattle.inode.proofs.Common.{◌≡◌, ◌+◌, ◌/◌, ◌∙◌, ap, arith, length, refl, block_at, goes-after, goes-stays}
+use Rattle.inode.proofs.Common.{goes-twice, read-done, step-failed}
+use Rattle.inode.proofs.Growing.{HasInode-read, chunk_below, chunk_within, count_of, index_in_disk, read-chunk}
+use Rattle.inode.proofs.Growing.{slot_asked, slot_block, slot_in_disk}
 use Rattle.inode.proofs.read.read_blocks.Goals as goal
 
 pub read_inode-requires : goal.read_inode-requires
@@ -21,7 +23,8 @@ chunk-init g c = record {
 pub block_number-requires : goal.block_number-requires
 block_number-requires g c =
     let held = HasInode-read c.requires.sound c.requires.inode c.in_ok-inode.ensures.done.told.is in
-    let below = chunk_below held c.args.at (length c.args.out.now) c.min-count.ensures c.saturating_sub.ensures c.chunk-test.true c.min-len.ensures in
+    let below = chunk_below held c.args.at (length c.args.out.now) c.min-count.ensures c.saturating_sub.ensures
+            c.chunk-test.true c.min-len.ensures in
     record {
       asked = slot_asked held c.chunk.invariant.disk ((c.args.at + c.chunk.done) / 1024) below;
       sizes = rw c.chunk.invariant.disk c.requires.sound.parts.sizes;
@@ -29,28 +32,40 @@ block_number-requires g c =
     }
 
 pub returns-in_err-source : goal.returns-in_err-source
-returns-in_err-source g c = step-failed c.chunk.invariant.goes c.block_number.ensures c.in_err-source.was c.from_residual-in_err-source.ensures.1
+returns-in_err-source g c =
+    step-failed c.chunk.invariant.goes c.block_number.ensures c.in_err-source.was
+    c.from_residual-in_err-source.ensures.1
 
 pub read_part-requires : goal.read_part-requires
 read_part-requires g c =
     let held = HasInode-read c.requires.sound c.requires.inode c.in_ok-inode.ensures.done.told.is in
-    let below = chunk_below held c.args.at (length c.args.out.now) c.min-count.ensures c.saturating_sub.ensures c.chunk-test.true c.min-len.ensures in
-    omega (arith, slot_in_disk held c.chunk.invariant.disk ((c.args.at + c.chunk.done) / 1024) below, c.in_ok-source.ensures.done.told, c.block_number.ensures.goes.count)
+    let below = chunk_below held c.args.at (length c.args.out.now) c.min-count.ensures c.saturating_sub.ensures
+            c.chunk-test.true c.min-len.ensures in
+    omega (arith, slot_in_disk held c.chunk.invariant.disk ((c.args.at + c.chunk.done) / 1024) below,
+        c.in_ok-source.ensures.done.told, c.block_number.ensures.goes.count)
 
 pub returns-in_err-read_part : goal.returns-in_err-read_part
-returns-in_err-read_part g c = step-failed (goes-after c.chunk.invariant.goes c.block_number.ensures.goes) c.read_part.ensures c.in_err-read_part.was c.from_residual-in_err-read_part.ensures.1
+returns-in_err-read_part g c =
+    step-failed (goes-after c.chunk.invariant.goes c.block_number.ensures.goes) c.read_part.ensures
+    c.in_err-read_part.was c.from_residual-in_err-read_part.ensures.1
 
 pub chunk-preserved : goal.chunk-preserved
 chunk-preserved g c =
     let held = HasInode-read c.requires.sound c.requires.inode c.in_ok-inode.ensures.done.told.is in
-    let below = chunk_below held c.args.at (length c.args.out.now) c.min-count.ensures c.saturating_sub.ensures c.chunk-test.true c.min-len.ensures in
-    let block = slot_block held c.chunk.invariant.disk ((c.args.at + c.chunk.done) / 1024) below c.in_ok-source.ensures.done.told (ap (λ b. block_at b c.in_ok-source.source) c.in_ok-source.ensures.done.same) in
+    let below = chunk_below held c.args.at (length c.args.out.now) c.min-count.ensures c.saturating_sub.ensures
+            c.chunk-test.true c.min-len.ensures in
+    let block = slot_block held c.chunk.invariant.disk ((c.args.at + c.chunk.done) / 1024) below
+            c.in_ok-source.ensures.done.told
+            (ap (λ b. block_at b c.in_ok-source.source) c.in_ok-source.ensures.done.same) in
     record {
       disk = c.in_ok-read_part.ensures.done.same ∙ c.in_ok-source.ensures.done.same ∙ c.chunk.invariant.disk;
       goes = goes-twice c.chunk.invariant.goes c.block_number.ensures.goes c.read_part.ensures.goes;
-      within = chunk_within held c.args.at (length c.args.out.now) c.min-count.ensures c.saturating_sub.ensures c.chunk-test.true c.min-len.ensures;
-      has_read = read-chunk held c.args.at (length c.args.out.now) c.min-count.ensures c.saturating_sub.ensures c.chunk-test.true c.min-len.ensures
-          c.args.out.now c.chunk.out _ c.read_part.new.out refl c.chunk.invariant.has_read block c.in_ok-read_part.ensures.done.told;
+      within = chunk_within held c.args.at (length c.args.out.now) c.min-count.ensures c.saturating_sub.ensures
+          c.chunk-test.true c.min-len.ensures;
+      has_read = read-chunk held c.args.at (length c.args.out.now) c.min-count.ensures c.saturating_sub.ensures
+          c.chunk-test.true c.min-len.ensures
+          c.args.out.now c.chunk.out _ c.read_part.new.out refl c.chunk.invariant.has_read block
+              c.in_ok-read_part.ensures.done.told;
     }
 
 -- ---- the end

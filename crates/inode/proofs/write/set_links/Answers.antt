@@ -18,4 +18,5 @@ write_inode-requires-clause-high g c = c.requires.inode.high
 pub returns : goal.returns
 returns g c =
     let held = HasInode-read c.requires.sound c.requires.inode c.in_ok-inode.ensures.done.told.is in
-    step-last c.read_inode.ensures.goes (λ _ writes. linked c.args.links held c.in_ok-inode.ensures.done.same writes) c.write_inode.ensures
+    step-last c.read_inode.ensures.goes (λ _ writes. linked c.args.links held c.in_ok-inode.ensures.done.same writes)
+        c.write_inode.ensures

@@ -21,7 +21,8 @@ overflow_sub-at g c =
 pub returns-then-bytes-at : goal.returns-then-bytes-at
 returns-then-bytes-at g c =
     let long = own_length (HasInode-read c.requires.sound c.requires.inode c.in_ok-inode.ensures.done.told.is) in
-    step-done c.read_inode.ensures.goes (c.in_ok-inode.ensures.done.same, omega (arith, c.if-at-inode.false, long), omega (arith, c.if-bytes-at.true))
+    step-done c.read_inode.ensures.goes
+        (c.in_ok-inode.ensures.done.same, omega (arith, c.if-at-inode.false, long), omega (arith, c.if-bytes-at.true))
 
 pub write_front-requires : goal.write_front-requires
 write_front-requires g c =
@@ -36,7 +37,9 @@ write_front-requires g c =
     }
 
 pub returns-in_err-written : goal.returns-in_err-written
-returns-in_err-written g c = step-failed c.read_inode.ensures.goes c.write_front.ensures c.in_err-written.was c.from_residual-in_err-written.ensures.1
+returns-in_err-written g c =
+    step-failed c.read_inode.ensures.goes c.write_front.ensures c.in_err-written.was
+    c.from_residual-in_err-written.ensures.1
 
 pub returns : goal.returns
 returns g c =
@@ -44,4 +47,5 @@ returns g c =
     let long = own_length held in
     let fits = own_fits held in
     step-done (goes-after c.read_inode.ensures.goes c.write_front.ensures.goes)
-    (omega (arith, c.if-at-inode.false, long), omega (arith, c.if-at-inode.false, fits, c.if-bytes-at.false), rw (sym c.in_ok-inode.ensures.done.same) c.in_ok-written.ensures.done)
+    (omega (arith, c.if-at-inode.false, long), omega (arith, c.if-at-inode.false, fits, c.if-bytes-at.false),
+        rw (sym c.in_ok-inode.ensures.done.same) c.in_ok-written.ensures.done)

@@ -1,4 +1,5 @@
-use Rattle.kernel.proofs.Common.{◌<◌, ap, arith, free-opens, free-Some, place_from, sym, subst, ◌∙◌, is_none, option_copied, descriptors_in, count_by}
+use Rattle.kernel.proofs.Common.{◌<◌, ap, arith, free-opens, free-Some, place_from, sym, subst, ◌∙◌, is_none}
+use Rattle.kernel.proofs.Common.{option_copied, descriptors_in, count_by}
 use Rattle.kernel.proofs.descriptors.open_as.Goals as goal
 
 pub unreachable-requires-in_default-free_descriptor : goal.unreachable-requires-in_default-free_descriptor

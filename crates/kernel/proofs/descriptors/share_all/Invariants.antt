@@ -3,4 +3,6 @@ use Rattle.kernel.proofs.descriptors.share_all.Given as goal
 
 -- the descriptors that are left make of the open files what all make of the old ones
 abbrev pub invariant-loop-descriptor : goal.invariant-loop-descriptor
-invariant-loop-descriptor l = (all_shared l.files (drop l.descriptor-index l.descriptors) ≡ all_shared l.fn.files l.fn.descriptors) × ((n : ℕ) → count_at l.files n ≤ 1024 + l.descriptor-index)
+invariant-loop-descriptor l =
+    (all_shared l.files (drop l.descriptor-index l.descriptors) ≡ all_shared l.fn.files l.fn.descriptors)
+    × ((n : ℕ) → count_at l.files n ≤ 1024 + l.descriptor-index)

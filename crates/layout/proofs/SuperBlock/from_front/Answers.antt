@@ -2,8 +2,10 @@ use Rattle.layout.proofs.Common.{◌≡◌, ℕ, ◌<◌, List, get_or, take, ap
 use Rattle.layout.proofs.ReadsBack.{get_or-numbers_in, number_at-take}
 use Rattle.layout.proofs.SuperBlock.from_front.Goals as goal
 
-field : (bytes read : List ℕ) (k : ℕ) → k < 8 → read ≡ numbers_in 8 (take 32 bytes) → get_or read k 0 ≡ number_at bytes k
-field bytes read k h e = ap (λ l. get_or l k 0) e ∙ get_or-numbers_in 8 (take 32 bytes) k h ∙ number_at-take 32 k bytes (omega arith)
+field : (bytes read : List ℕ) (k : ℕ) → k < 8 → read ≡ numbers_in 8 (take 32 bytes)
+    → get_or read k 0 ≡ number_at bytes k
+field bytes read k h e = ap (λ l. get_or l k 0) e ∙ get_or-numbers_in 8 (take 32 bytes) k h
+    ∙ number_at-take 32 k bytes (omega arith)
 
 pub returns : goal.returns
 returns c =

@@ -16,4 +16,5 @@ returns-clause-folder g c =
     let at = reached c.requires told.0 c.args.path.now c.in_ok-number.field-0 c.in-Some.number told.1 c.in-Some.is in
     let seen = c.in_ok-node.ensures.told.1 at.0 at.1 in
     let kind : c.in_ok-node.node.kind ≡ 1 = search rules in
-    folder-kept c.in_ok-node.ensures.told.0 c.in-Some.number (folder-of (rests-kept told.0 c.requires) c.in-Some.number at.0 at.1 (sym seen.0 ∙ kind))
+    folder-kept c.in_ok-node.ensures.told.0 c.in-Some.number
+        (folder-of (rests-kept told.0 c.requires) c.in-Some.number at.0 at.1 (sym seen.0 ∙ kind))

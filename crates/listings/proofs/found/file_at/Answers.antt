@@ -20,10 +20,12 @@ returns-clause-file g c =
     let at = reached c.requires told.0 c.args.path.now c.in_ok-number.field-0 c.in-Some.number told.1 c.in-Some.is in
     let seen = c.in_ok-node.ensures.told.1 at.0 at.1 in
     let kind : c.in_ok-node.node.kind ≡ 2 = search rules in
-    subst (λ (files : Files). IsFile files c.in-Some.number) (ap (λ (t : FileTree). t.files) told.0) (file-of c.in-Some.number at.0 at.1 (sym seen.0 ∙ kind))
+    subst (λ (files : Files). IsFile files c.in-Some.number) (ap (λ (t : FileTree). t.files) told.0)
+        (file-of c.in-Some.number at.0 at.1 (sym seen.0 ∙ kind))
 
 pub returns-clause-same : goal.returns-clause-same
-returns-clause-same g c = ap (λ (t : FileTree). t.files) c.in_ok-node.ensures.told.0 ∙ ap (λ (t : FileTree). t.files) c.in_ok-number.ensures.told.0
+returns-clause-same g c = ap (λ (t : FileTree). t.files) c.in_ok-node.ensures.told.0
+    ∙ ap (λ (t : FileTree). t.files) c.in_ok-number.ensures.told.0
 
 pub returns-clause-rests : goal.returns-clause-rests
 returns-clause-rests g c = rests-kept c.in_ok-node.ensures.told.0 (rests-kept c.in_ok-number.ensures.told.0 c.requires)

@@ -13,7 +13,9 @@ pub bytes_of-requires-clause-up : goal.bytes_of-requires-clause-up
 bytes_of-requires-clause-up g c = c.in_ok-number.ensures.rests.up
 
 pub bytes_of-requires-clause-file : goal.bytes_of-requires-clause-file
-bytes_of-requires-clause-file g c = subst (λ (files : Files). IsFile files c.in-Some.number) (sym c.in_ok-number.ensures.same) (rw c.in-Some.is at c.in_ok-number.ensures.file)
+bytes_of-requires-clause-file g c =
+    subst (λ (files : Files). IsFile files c.in-Some.number) (sym c.in_ok-number.ensures.same)
+    (rw c.in-Some.is at c.in_ok-number.ensures.file)
 
 pub returns : goal.returns
 returns g c =

@@ -1,4 +1,5 @@
-use Rattle.live.proofs.Common.{arith, replicate, ◌+◌, ◌-◌, ◌<◌, ◌≡◌, length-replicate, err_from_is_err_and, Rises-later, goes_on, so_far_at_first, stops}
+use Rattle.live.proofs.Common.{arith, replicate, ◌+◌, ◌-◌, ◌<◌, ◌≡◌, length-replicate, err_from_is_err_and, Rises-later}
+use Rattle.live.proofs.Common.{goes_on, so_far_at_first, stops}
 use Rattle.live.proofs.EventLemmas.{repeat-next}
 use Rattle.live.proofs.play.each.Goals as goal
 
@@ -12,16 +13,20 @@ returns-in_err-step-clause-gives g c =
     let p = err_from_is_err_and c.from_residual.result c.from_residual.ensures.1 in
     let before = c.loop-left.invariant in
     let more : c.args.times - c.loop-left.left < c.args.times = omega (arith, before.within, c.loop-left-test.true) in
-    rw (p.1, p.2) (stops _ _ _ (c.args.times - c.loop-left.left) (replicate c.args.times c.args.event) _ _ _ _ _ _ _ (rw (length-replicate c.args.times c.args.event) more)
-    (repeat-next _ _ _ more) before.so_far (λ r. Rises-later _ _ _ before.later r c.step.ensures.later) c.in_err-step.ensures.gives)
+    rw (p.1, p.2) (stops _ _ _ (c.args.times - c.loop-left.left) (replicate c.args.times c.args.event) _ _ _ _ _ _ _
+        (rw (length-replicate c.args.times c.args.event) more)
+    (repeat-next _ _ _ more) before.so_far (λ r. Rises-later _ _ _ before.later r c.step.ensures.later)
+        c.in_err-step.ensures.gives)
 
 pub loop-left-preserved : goal.loop-left-preserved
 loop-left-preserved g c =
     let before = c.loop-left.invariant in
     let more : c.args.times - c.loop-left.left < c.args.times = omega (arith, before.within, c.loop-left-test.true) in
-    let next : c.args.times - (c.loop-left.left - 1) ≡ c.args.times - c.loop-left.left + 1 = omega (arith, before.within, c.loop-left-test.true) in
+    let next : c.args.times - (c.loop-left.left - 1) ≡ c.args.times - c.loop-left.left + 1 =
+            omega (arith, before.within, c.loop-left-test.true) in
     record {
-      so_far = rw next (goes_on _ _ _ (c.args.times - c.loop-left.left) (replicate c.args.times c.args.event) _ _ _ _ (rw (length-replicate c.args.times c.args.event) more)
+      so_far = rw next (goes_on _ _ _ (c.args.times - c.loop-left.left) (replicate c.args.times c.args.event) _ _ _ _
+          (rw (length-replicate c.args.times c.args.event) more)
           (repeat-next _ _ _ more) before.so_far c.in_ok-step.ensures.gives.1);
       later = let l = before.later in let m = c.step.ensures.later in omega arith;
       within = omega arith;

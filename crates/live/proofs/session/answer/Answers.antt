@@ -11,4 +11,5 @@ returns-in_err-type_keys-clause-given g c =
     rw (← c.keys.ensures, p.1, p.2) (given-ends _ c.in_err-type_keys.ensures.given)
 
 pub returns-clause-given : goal.returns-clause-given
-returns-clause-given g c = rw (← c.keys.ensures, ← c.ticks.ensures) (given-then c.in_ok-type_keys.ensures.given c.tick_if.ensures.given)
+returns-clause-given g c =
+    rw (← c.keys.ensures, ← c.ticks.ensures) (given-then c.in_ok-type_keys.ensures.given c.tick_if.ensures.given)

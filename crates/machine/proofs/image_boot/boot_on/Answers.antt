@@ -5,17 +5,23 @@ use Rattle.machine.proofs.FlatLemmas.{frames-of, none-of}
 
 pub new-kernel-requires : goal.new-kernel-requires
 new-kernel-requires g c = record {
-  sound = kernel-sound c.requires.unheld c.in-Ok-Some.ensures.serves.told c.is_whole.ensures c.in-Ok.spaces c.put_init.new.spaces (frames-of c.in-Ok.ensures) c.in-Ok-Some.field-0-is c.in-Ok-Some.ensures.put c.hold.ensures c.first_table-table.ensures c.new-files.ensures;
+  sound = kernel-sound c.requires.unheld c.in-Ok-Some.ensures.serves.told c.is_whole.ensures c.in-Ok.spaces
+      c.put_init.new.spaces (frames-of c.in-Ok.ensures) c.in-Ok-Some.field-0-is c.in-Ok-Some.ensures.put c.hold.ensures
+      c.first_table-table.ensures c.new-files.ensures;
   watched = rw c.first_table-table.ensures (watched-all 64);
 }
 
 pub returns-in-Ok-Some-clause-begun : goal.returns-in-Ok-Some-clause-begun
 returns-in-Ok-Some-clause-begun g c =
-    begun-init c.requires.unheld c.in-Ok-Some.ensures.serves.told c.is_whole.ensures c.in-Ok.spaces c.put_init.new.spaces (frames-of c.in-Ok.ensures) c.in-Ok-Some.field-0-is c.in-Ok-Some.ensures.put c.hold.ensures c.first_table-table.ensures c.new-files.ensures
+    begun-init c.requires.unheld c.in-Ok-Some.ensures.serves.told c.is_whole.ensures c.in-Ok.spaces
+        c.put_init.new.spaces (frames-of c.in-Ok.ensures) c.in-Ok-Some.field-0-is c.in-Ok-Some.ensures.put
+        c.hold.ensures c.first_table-table.ensures c.new-files.ensures
     c.new-kernel.ensures c.new-machine.ensures c.in-Ok-Some.ensures.serves.cause.later
 
 pub returns-in-Ok-None-clause-refused : goal.returns-in-Ok-None-clause-refused
-returns-in-Ok-None-clause-refused g c = not-begun c.args.tree c.args.frames c.in-Ok.spaces c.put_init.new.spaces (frames-of c.in-Ok.ensures) c.in-Ok-None.field-0 c.in-Ok-None.field-0-is c.in-Ok-None.ensures.put
+returns-in-Ok-None-clause-refused g c =
+    not-begun c.args.tree c.args.frames c.in-Ok.spaces c.put_init.new.spaces (frames-of c.in-Ok.ensures)
+    c.in-Ok-None.field-0 c.in-Ok-None.field-0-is c.in-Ok-None.ensures.put
 
 pub put_init-requires-clause-none : goal.put_init-requires-clause-none
 put_init-requires-clause-none g c = none-of c.in-Ok.ensures
@@ -34,7 +40,8 @@ hold-requires g c = record {
 }
 
 pub new-machine-requires : goal.new-machine-requires
-new-machine-requires g c = ap (λ (k : Kernel). k.tree.failed) c.new-kernel.ensures ∙ ap (λ (t : FileTree). t.failed) c.hold.ensures ∙ c.in-Ok-Some.ensures.serves.up
+new-machine-requires g c = ap (λ (k : Kernel). k.tree.failed) c.new-kernel.ensures
+    ∙ ap (λ (t : FileTree). t.failed) c.hold.ensures ∙ c.in-Ok-Some.ensures.serves.up
 
 pub returns-in-Err-clause-refused : goal.returns-in-Err-clause-refused
 returns-in-Err-clause-refused g c =

@@ -13,16 +13,19 @@ set_leaf-requires-clause-frame c =
     (tree-leaf_sound c.requires.paged.tree c.args.page c.in-Some.ensures) (sym c.in-Some-leaf.ensures)).0
 
 pub unreachable-requires-in_default-leaf : goal.unreachable-requires-in_default-leaf
-unreachable-requires-in_default-leaf c = c.requires.mapped (lookup_of-low _ _ c.args.page c.in-Some.ensures ∙ sym c.in_default-leaf.ensures)
+unreachable-requires-in_default-leaf c =
+    c.requires.mapped (lookup_of-low _ _ c.args.page c.in-Some.ensures ∙ sym c.in_default-leaf.ensures)
 
 pub unreachable-requires : goal.unreachable-requires
 unreachable-requires c = c.requires.mapped (lookup_of-low _ _ c.args.page c.in_default.ensures)
 
 pub returns-clause-inserts : goal.returns-clause-inserts
 returns-clause-inserts c = λ f old h.
-    let e : ◌≡◌ {A = Option (ℕ × ℕ)} (Some (c.in-Some-leaf.frame.0, _)) (Some (f, old)) = c.in-Some-leaf.ensures ∙ sym (lookup_of-low _ _ c.args.page c.in-Some.ensures) ∙ h in
+    let e : ◌≡◌ {A = Option (ℕ × ℕ)} (Some (c.in-Some-leaf.frame.0, _)) (Some (f, old)) = c.in-Some-leaf.ensures
+            ∙ sym (lookup_of-low _ _ c.args.page c.in-Some.ensures) ∙ h in
     let same : c.in-Some-leaf.frame.0 ≡ f = first-same _ _ f old e in
     rw (← same) c.set_leaf.ensures.inserts
 
 pub returns-clause-tidy : goal.returns-clause-tidy
-returns-clause-tidy c = λ is. IsTidy-insert c.set_leaf.new.ram is c.requires.page c.set_leaf.ensures.inserts (λ x nx _ _. c.set_leaf.ensures.tables x nx)
+returns-clause-tidy c = λ is. IsTidy-insert c.set_leaf.new.ram is c.requires.page c.set_leaf.ensures.inserts
+    (λ x nx _ _. c.set_leaf.ensures.tables x nx)

@@ -9,4 +9,5 @@ returns c =
     let full : length places ≡ 4096 = search rules in
     let front = c.min-front.result in
     let count : s.from + front - s.from ≡ front = omega arith in
-    rw (← c.self.view_is, ← c.frame-places.ensures, count) (ring-parts _ (omega (arith, full)) c.self.invariant.0 c.self.invariant.1 c.min-front.ensures)
+    rw (← c.self.view_is, ← c.frame-places.ensures, count)
+        (ring-parts _ (omega (arith, full)) c.self.invariant.0 c.self.invariant.1 c.min-front.ensures)

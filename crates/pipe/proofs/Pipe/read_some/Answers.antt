@@ -19,14 +19,18 @@ returns-clause-waits c =
       λ e. cc,
       λ p. elim c.else-self-eq0.branch [
         | else-self-eq0-via-then-self-eq0+else-self w ↦ cc
-        | else-self-eq0-via-else-self-eq0 w ↦ absurd (w.if-self-eq0.false (omega (arith, ap length p.0, length-ring 512 (frame_of c.args.ram.now s.frame.0) s.from s.held)))
+        | else-self-eq0-via-else-self-eq0 w ↦ absurd
+            (w.if-self-eq0.false (omega
+            (arith, ap length p.0, length-ring 512 (frame_of c.args.ram.now s.frame.0) s.from s.held)))
       ],
     )
 
 pub returns-clause-taken : goal.returns-clause-taken
 returns-clause-taken c =
-    let len : length (take c.min-count.result c.args.buffer.now) ≡ c.min-count.result = omega (arith, c.min-count.ensures, length-take c.min-count.result c.args.buffer.now) in
-    rw (← c.self.view_is, c.copy_out.ensures, c.frame.ensures, len) (ap (λ l. l ++ drop c.min-count.result c.args.buffer.now) (read-bytes _ _ _ _ c.min-count.ensures))
+    let len : length (take c.min-count.result c.args.buffer.now) ≡ c.min-count.result =
+            omega (arith, c.min-count.ensures, length-take c.min-count.result c.args.buffer.now) in
+    rw (← c.self.view_is, c.copy_out.ensures, c.frame.ensures, len)
+        (ap (λ l. l ++ drop c.min-count.result c.args.buffer.now) (read-bytes _ _ _ _ c.min-count.ensures))
 
 pub returns-clause-count : goal.returns-clause-count
 returns-clause-count c = rw (← c.self.view_is, length-ring) c.min-count.ensures

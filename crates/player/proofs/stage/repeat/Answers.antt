@@ -8,7 +8,8 @@ pub give-requires : goal.give-requires
 give-requires g c = played-up c.loop-made.invariant
 
 pub returns-in_err-give : goal.returns-in_err-give
-returns-in_err-give g c = rw (lost _ c.from_residual.ensures.1) (played-then c.loop-made.invariant c.in_err-give.ensures)
+returns-in_err-give g c =
+    rw (lost _ c.from_residual.ensures.1) (played-then c.loop-made.invariant c.in_err-give.ensures)
 
 pub loop-made-preserved : goal.loop-made-preserved
 loop-made-preserved g c = played-then c.loop-made.invariant c.in_ok-give.ensures

@@ -4,7 +4,9 @@ use Rattle.player.proofs.stage.walk.Given as goal
 
 -- what came so far is played
 abbrev pub invariant-loop-made : goal.invariant-loop-made
-invariant-loop-made g l = PlaysTo g.W.Write.contents g.R.Record.kept l.fn.machine l.machine l.fn.out.out l.out.out l.fn.keeper l.keeper (Ok tt)
+invariant-loop-made g l =
+    PlaysTo g.W.Write.contents g.R.Record.kept l.fn.machine l.machine l.fn.out.out l.out.out l.fn.keeper l.keeper
+    (Ok tt)
 
 abbrev pub decreases-loop-made : goal.decreases-loop-made
 decreases-loop-made g l = l.most - l.made

@@ -7,7 +7,8 @@ loop-place-init c = among-none c.args.places.now
 
 pub loop-place-preserved : goal.loop-place-preserved
 loop-place-preserved c = elim c.match-place.branch [
-  | in-Some w ↦ rw (w.least-is, w.lesser-least.ensures) (among-more _ _ _ c.loop-place-test.true _ c.loop-place.invariant w.in-Some.is)
+  | in-Some w ↦ rw (w.least-is, w.lesser-least.ensures)
+      (among-more _ _ _ c.loop-place-test.true _ c.loop-place.invariant w.in-Some.is)
   | in_default w ↦ rw w.least-is (among-free _ _ _ c.loop-place-test.true _ c.loop-place.invariant w.in_default.is)
 ]
 

@@ -18,7 +18,8 @@ add_pages-requires-2 g c = record {
   space = has-held _ _ _ c.add_pages.ensures c.requires.space;
   paged = paged-held _ _ _ c.add_pages.ensures c.requires.space;
   few = omega arith;
-  room = room-held _ _ _ c.add_pages.ensures (omega (arith, one-longer c.args.spaces.now c.args.at _ c.requires.space c.add_pages.ensures)) c.requires.room;
+  room = room-held _ _ _ c.add_pages.ensures
+      (omega (arith, one-longer c.args.spaces.now c.args.at _ c.requires.space c.add_pages.ensures)) c.requires.room;
 }
 
 pub fill-requires : goal.fill-requires

@@ -23,13 +23,16 @@ loop-done-preserved g c =
     filled-more c.loop-done.invariant c.requires.space
     (size-whole _ _ _ c.min-size.array_long c.min-size.ensures) c.loop-done-test.true
     (size-fits _ _ _ _ c.loop-done-test.true c.min-size.ensures)
-    c.pages_are_whole.ensures.sized c.requires.within c.in_ok-fill_piece.ensures.serves c.in_ok-fill_piece.ensures.filled
+    c.pages_are_whole.ensures.sized c.requires.within c.in_ok-fill_piece.ensures.serves
+        c.in_ok-fill_piece.ensures.filled
 
 pub returns-in_err-fill_piece : goal.returns-in_err-fill_piece
 returns-in_err-fill_piece g c = record {
-  serves = lost c.from_residual.result _ c.from_residual.ensures.1 _ (filled-kept c.loop-done.invariant c.requires.up) c.in_err-fill_piece.ensures.serves;
+  serves = lost c.from_residual.result _ c.from_residual.ensures.1 _ (filled-kept c.loop-done.invariant c.requires.up)
+      c.in_err-fill_piece.ensures.serves;
   filled = err-done c.from_residual.result _ c.from_residual.ensures.1 _;
-  failed = err-left c.from_residual.result _ c.from_residual.ensures.1 _ (_, c.in_err-fill_piece.ensures.failed ∙ c.loop-done.invariant.bytes);
+  failed = err-left c.from_residual.result _ c.from_residual.ensures.1 _
+      (_, c.in_err-fill_piece.ensures.failed ∙ c.loop-done.invariant.bytes);
 }
 
 pub returns-clause-serves : goal.returns-clause-serves

@@ -14,12 +14,14 @@ load_segments-requires g c =
       within = header-still c.requires.file c.in_ok-len.ensures is;
       space = has-held _ _ _ c.clear.ensures c.requires.space;
       empty = is-held _ _ c.clear.ensures c.requires.space;
-      last = last-still c.requires.file c.in_ok-len.ensures is c.args.spaces.now c.args.at c.clear.ensures c.requires.few c.requires.room;
+      last = last-still c.requires.file c.in_ok-len.ensures is c.args.spaces.now c.args.at c.clear.ensures
+          c.requires.few c.requires.room;
     }
 
 pub returns-in_err-load_segments : goal.returns-in_err-load_segments
 returns-in_err-load_segments g c = record {
-  serves = lost c.from_residual-in_err-load_segments.result _ c.from_residual-in_err-load_segments.ensures.1 _ (stat-kept c.requires.file c.in_ok-len.ensures) c.in_err-load_segments.ensures.serves;
+  serves = lost c.from_residual-in_err-load_segments.result _ c.from_residual-in_err-load_segments.ensures.1 _
+      (stat-kept c.requires.file c.in_ok-len.ensures) c.in_err-load_segments.ensures.serves;
   loaded = err-done c.from_residual-in_err-load_segments.result _ c.from_residual-in_err-load_segments.ensures.1 _;
   failed = err-left c.from_residual-in_err-load_segments.result _ c.from_residual-in_err-load_segments.ensures.1 _
       (left-held _ _ _ c.clear.ensures c.in_err-load_segments.ensures.failed);
@@ -27,13 +29,16 @@ returns-in_err-load_segments g c = record {
 
 pub add_stack-requires : goal.add_stack-requires
 add_stack-requires g c =
-    let fits = stack-fits c.requires.file c.in_ok-len.ensures (is-program _ _ c.requires.program) c.args.spaces.now c.args.at c.clear.ensures c.requires.space c.in_ok-load_segments.ensures.loaded c.requires.room in
+    let fits = stack-fits c.requires.file c.in_ok-len.ensures (is-program _ _ c.requires.program) c.args.spaces.now
+            c.args.at c.clear.ensures c.requires.space c.in_ok-load_segments.ensures.loaded c.requires.room in
     record { space = fits.0; paged = fits.1; room = fits.2 }
 
 pub returns : goal.returns
 returns g c = record {
-  serves = kept-leaves (kept-more (stat-kept c.requires.file c.in_ok-len.ensures) c.in_ok-load_segments.ensures.serves.told c.in_ok-load_segments.ensures.serves);
-  loaded = stack-put c.requires.file c.in_ok-len.ensures (is-program _ _ c.requires.program) c.args.spaces.now c.args.at c.clear.ensures c.requires.space c.in_ok-load_segments.ensures.loaded
+  serves = kept-leaves (kept-more (stat-kept c.requires.file c.in_ok-len.ensures)
+      c.in_ok-load_segments.ensures.serves.told c.in_ok-load_segments.ensures.serves);
+  loaded = stack-put c.requires.file c.in_ok-len.ensures (is-program _ _ c.requires.program) c.args.spaces.now
+      c.args.at c.clear.ensures c.requires.space c.in_ok-load_segments.ensures.loaded
       _ c.add_stack.ensures;
   failed = tt;
 }

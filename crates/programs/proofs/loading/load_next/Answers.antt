@@ -1,12 +1,14 @@
 use Rattle.programs.proofs.Loads.{fits-next, is-next, never-refused, nothing-more, segment-next, skipped-next}
 use Rattle.programs.proofs.Places.{held-still}
-use Rattle.programs.proofs.Headings.{err-told, kept-file, kept-is-file, kept-leaves, kept-more, kept-none, kept-one, lost}
+use Rattle.programs.proofs.Headings.{err-told, kept-file, kept-is-file, kept-leaves, kept-more, kept-none, kept-one}
+use Rattle.programs.proofs.Headings.{lost}
 use Rattle.programs.proofs.Common.{ap, arith, length, view_at}
 use Rattle.programs.proofs.loading.load_next.Goals as goal
 
 pub returns-in_err-segment : goal.returns-in_err-segment
 returns-in_err-segment g c = record {
-  serves = lost c.from_residual.result _ c.from_residual.ensures.1 _ (kept-none _ c.requires.up) c.in_err-segment.ensures;
+  serves = lost c.from_residual.result _ c.from_residual.ensures.1 _ (kept-none _ c.requires.up)
+      c.in_err-segment.ensures;
   loaded = err-told c.from_residual.result _ c.from_residual.ensures.1 _;
   failed = held-still _ _ c.from_residual.result c.requires.space;
 }
@@ -14,8 +16,10 @@ returns-in_err-segment g c = record {
 pub load_segment-requires : goal.load_segment-requires
 load_segment-requires g c =
     let kept = kept-one c.in_ok-segment.ensures.told.same c.in_ok-segment.ensures in
-    let is = is-next _ c.args.place _ c.args.end c.in_ok-segment.ensures.told.value c.requires.next.0 c.requires.next.1 c.in-Ok-Some.is c.in-Ok-Some.field-0-is c.requires.whole in
-    let next = fits-next c.args.spaces.now c.args.at c.args.number c.args.place c.args.end kept c.requires.next.0 is c.requires.next.2 c.requires.next.3 in
+    let is = is-next _ c.args.place _ c.args.end c.in_ok-segment.ensures.told.value c.requires.next.0 c.requires.next.1
+            c.in-Ok-Some.is c.in-Ok-Some.field-0-is c.requires.whole in
+    let next = fits-next c.args.spaces.now c.args.at c.args.number c.args.place c.args.end kept c.requires.next.0 is
+            c.requires.next.2 c.requires.next.3 in
     record {
       up = kept.up;
       file = kept-is-file kept c.requires.file;
@@ -28,16 +32,21 @@ load_segment-requires g c =
     }
 
 pub unreachable-requires : goal.unreachable-requires
-unreachable-requires g c = never-refused _ c.args.place (view_at c.args.spaces.now c.args.at) c.args.end c.in_ok-segment.ensures.told.value c.requires.next.0 c.requires.next.1 c.in-Err.is
+unreachable-requires g c =
+    never-refused _ c.args.place (view_at c.args.spaces.now c.args.at) c.args.end c.in_ok-segment.ensures.told.value
+    c.requires.next.0 c.requires.next.1 c.in-Err.is
 
 pub returns-in_ok-load_segment-in-Ok-Some : goal.returns-in_ok-load_segment-in-Ok-Some
 returns-in_ok-load_segment-in-Ok-Some g c =
     let kept = kept-one c.in_ok-segment.ensures.told.same c.in_ok-segment.ensures in
     record {
-      serves = kept-leaves (kept-more kept c.in_ok-load_segment-in-Ok-Some.ensures.serves.told c.in_ok-load_segment-in-Ok-Some.ensures.serves);
+      serves = kept-leaves (kept-more kept c.in_ok-load_segment-in-Ok-Some.ensures.serves.told
+          c.in_ok-load_segment-in-Ok-Some.ensures.serves);
       loaded = λ next some.
-          let is = is-next _ c.args.place _ c.args.end c.in_ok-segment.ensures.told.value next some c.in-Ok-Some.is c.in-Ok-Some.field-0-is c.requires.whole in
-          segment-next c.args.spaces.now c.args.at c.args.number c.args.place c.args.end kept next is c.in_ok-load_segment-in-Ok-Some.ensures.loaded;
+          let is = is-next _ c.args.place _ c.args.end c.in_ok-segment.ensures.told.value next some c.in-Ok-Some.is
+                  c.in-Ok-Some.field-0-is c.requires.whole in
+          segment-next c.args.spaces.now c.args.at c.args.number c.args.place c.args.end kept next is
+              c.in_ok-load_segment-in-Ok-Some.ensures.loaded;
       failed = tt;
     }
 
@@ -47,7 +56,9 @@ returns-in-Ok-None g c =
     record {
       serves = kept-leaves kept;
       loaded = λ next some.
-          nothing-more c.args.spaces.now c.args.at c.args.number c.args.place c.args.end kept next c.requires.space c.requires.paged
-          (skipped-next _ c.args.place (view_at c.args.spaces.now c.args.at) c.args.end c.in_ok-segment.ensures.told.value next some c.in-Ok-None.is c.in-Ok-None.field-0-is);
+          nothing-more c.args.spaces.now c.args.at c.args.number c.args.place c.args.end kept next c.requires.space
+              c.requires.paged
+          (skipped-next _ c.args.place (view_at c.args.spaces.now c.args.at) c.args.end
+              c.in_ok-segment.ensures.told.value next some c.in-Ok-None.is c.in-Ok-None.field-0-is);
       failed = tt;
     }

@@ -1,5 +1,6 @@
 use Rattle.programs.proofs.Common.{ap, rules, sym, ◌*◌, ◌+◌, ◌∙◌, is_within}
-use Rattle.programs.proofs.Loads.{file-long, has-now, loading-all, loading-more, next-now, none-loading, paged-now, whole-now}
+use Rattle.programs.proofs.Loads.{file-long, has-now, loading-all, loading-more, next-now, none-loading, paged-now}
+use Rattle.programs.proofs.Loads.{whole-now}
 use Rattle.programs.proofs.Places.{left-held}
 use Rattle.programs.proofs.Headings.{err-left, kept-is-file}
 use Rattle.programs.proofs.loading.load_segments.Goals as goal
@@ -16,17 +17,24 @@ load_next-requires g c = record {
   space = has-now c.loop-i.invariant c.requires.space;
   paged = paged-now c.loop-i.invariant c.requires.space;
   whole = whole-now c.loop-i.invariant c.requires.space;
-  next = next-now c.loop-i.invariant c.requires.space c.loop-i-test.true (ap (is_within c.args.header.program_headers (56 * c.args.header.count)) (sym c.requires.long) ∙ c.requires.within) c.requires.last
+  next = next-now c.loop-i.invariant c.requires.space c.loop-i-test.true
+      (ap (is_within c.args.header.program_headers (56 * c.args.header.count)) (sym c.requires.long)
+      ∙ c.requires.within) c.requires.last
       (ap (λ i. c.args.header.program_headers + 56 * i) c.from.ensures);
 }
 
 pub returns-in_err-end-clause-failed : goal.returns-in_err-end-clause-failed
-returns-in_err-end-clause-failed g c = err-left c.from_residual.result _ c.from_residual.ensures.1 _ (left-held _ _ _ c.loop-i.invariant.pages c.in_err-end.ensures.failed)
+returns-in_err-end-clause-failed g c =
+    err-left c.from_residual.result _ c.from_residual.ensures.1 _
+    (left-held _ _ _ c.loop-i.invariant.pages c.in_err-end.ensures.failed)
 
 pub loop-i-preserved : goal.loop-i-preserved
 loop-i-preserved g c =
-    loading-more c.loop-i.invariant c.requires.space c.loop-i-test.true (ap (is_within c.args.header.program_headers (56 * c.args.header.count)) (sym c.requires.long) ∙ c.requires.within) c.requires.last
-    (ap (λ i. c.args.header.program_headers + 56 * i) c.from.ensures) c.in_ok-end.ensures.serves c.in_ok-end.ensures.loaded
+    loading-more c.loop-i.invariant c.requires.space c.loop-i-test.true
+        (ap (is_within c.args.header.program_headers (56 * c.args.header.count)) (sym c.requires.long)
+        ∙ c.requires.within) c.requires.last
+    (ap (λ i. c.args.header.program_headers + 56 * i) c.from.ensures) c.in_ok-end.ensures.serves
+        c.in_ok-end.ensures.loaded
 
 pub returns-clause-loaded : goal.returns-clause-loaded
 returns-clause-loaded g c = λ last is. loading-all c.loop-i.invariant c.requires.space c.loop-i-test.false is

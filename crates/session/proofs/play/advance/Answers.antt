@@ -2,7 +2,8 @@ use Rattle.std.specs.Prelude.{OnOk}
 use Rattle.machine.proofs.RunLemmas.{Rises-later, so_far_at_first, ok-of, on-all, on-err}
 use Rattle.std.proofs.Common.{arith, sym, ◌∙◌, ◌≡◌}
 use Rattle.session.proofs.Repeating.{busy-at-first, busy-on, ends, ends-by, steps-on}
-use Rattle.session.proofs.play.advance.Goals.{then-more-eq0-via-else-more-eq0+then-is_err, then-more-eq0-via-then-more-eq0}
+use Rattle.session.proofs.play.advance.Goals.{then-more-eq0-via-else-more-eq0+then-is_err}
+use Rattle.session.proofs.play.advance.Goals.{then-more-eq0-via-then-more-eq0}
 use Rattle.session.proofs.play.advance.Goals as goal
 
 pub loop-steps-init : goal.loop-steps-init
@@ -20,8 +21,11 @@ loop-steps-preserved g c =
     let few = e.piece.within in
     let within = before.within in
     record {
-      so_far = steps-on _ _ _ c.args.most c.loop-steps.steps c.advance-more.result.0 _ _ _ before.so_far _ _ tt c.advance-more.result.1 (ok-of c.advance-more.result.1 (sym c.is_err.ensures.value ∙ c.if-is_err.false)) (λ r. Rises-later _ _ _ before.later r e.later) e.gives;
-      busy = busy-on _ _ c.advance-more.new.self c.args.most c.loop-steps.steps c.advance-more.result.0 _ _ (g.W.Out.contents c.advance-more.new.console) before.so_far before.busy e.piece.busy;
+      so_far = steps-on _ _ _ c.args.most c.loop-steps.steps c.advance-more.result.0 _ _ _ before.so_far _ _ tt
+          c.advance-more.result.1 (ok-of c.advance-more.result.1 (sym c.is_err.ensures.value ∙ c.if-is_err.false))
+          (λ r. Rises-later _ _ _ before.later r e.later) e.gives;
+      busy = busy-on _ _ c.advance-more.new.self c.args.most c.loop-steps.steps c.advance-more.result.0 _ _
+          (g.W.Out.contents c.advance-more.new.console) before.so_far before.busy e.piece.busy;
       within = omega (arith, few, within);
       later = let l = before.later in let m = e.later in omega (arith, l, m);
     }
@@ -35,7 +39,8 @@ returns-then-more-eq0-clause-advances g c =
       | then-more-eq0-via-then-more-eq0 w ↦ on-all _ r w.if-more-eq0.true
       | then-more-eq0-via-else-more-eq0+then-is_err w ↦ on-err _ r (sym w.is_err.ensures.value ∙ w.if-is_err.true)
     ] in
-    ends-by _ _ _ c.args.most c.loop-steps.steps c.advance-more.result.0 _ _ _ before.so_far _ _ r before.busy before.within (λ r. Rises-later _ _ _ before.later r e.later) e.gives e.piece none
+    ends-by _ _ _ c.args.most c.loop-steps.steps c.advance-more.result.0 _ _ _ before.so_far _ _ r before.busy
+        before.within (λ r. Rises-later _ _ _ before.later r e.later) e.gives e.piece none
 
 pub returns-clause-advances : goal.returns-clause-advances
 returns-clause-advances g c =

@@ -6,11 +6,18 @@ use Rattle.spaces.proofs.Traded.{Placed, destroyed, set_in}
 use Rattle.std.proofs.Common.{None, sym, ◌∙◌}
 
 pub destroy-requires : goal.destroy-requires
-destroy-requires g c = c.self.invariant.machine.each c.args.at c.in-Some.space (there c.args.at c.deref_mut.ensures.value (sym c.take.ensures.value ∙ c.in-Some.is))
+destroy-requires g c = c.self.invariant.machine.each c.args.at c.in-Some.space
+    (there c.args.at c.deref_mut.ensures.value (sym c.take.ensures.value ∙ c.in-Some.is))
 
-gone : (g : given.Over) (c : After-destroy g) → Placed g.T.Translate.held c.self.inside (set_in c.self.inside c.destroy.new.ram c.destroy.new.frames c.self.inside.translator c.deref_mut.result.now c.args.at c.take.new.self) c.args.at None
+gone : (g : given.Over) (c : After-destroy g)
+    → Placed g.T.Translate.held c.self.inside
+    (set_in c.self.inside c.destroy.new.ram c.destroy.new.frames c.self.inside.translator c.deref_mut.result.now
+    c.args.at c.take.new.self) c.args.at None
 gone g c =
-    destroyed c.self.invariant c.args.at c.in-Some.space (there c.args.at c.deref_mut.ensures.value (sym c.take.ensures.value ∙ c.in-Some.is)) (rw (← c.self.view_is) at c.requires.idle) c.deref_mut.ensures.value c.take.ensures.after c.destroy.ensures.valid c.destroy.ensures.trades
+    destroyed c.self.invariant c.args.at c.in-Some.space
+        (there c.args.at c.deref_mut.ensures.value (sym c.take.ensures.value ∙ c.in-Some.is))
+        (rw (← c.self.view_is) at c.requires.idle) c.deref_mut.ensures.value c.take.ensures.after
+        c.destroy.ensures.valid c.destroy.ensures.trades
 
 pub invariant_of-self : goal.invariant_of-self
 invariant_of-self g c = (gone g (goal.at.invariant_of-self g c).After-destroy).sound
@@ -19,4 +26,6 @@ pub returns : goal.returns
 returns g c = rw (← c.self.view_is) (gone g (goal.at.returns g c).After-destroy).view
 
 pub unreachable-requires : goal.unreachable-requires
-unreachable-requires g c = missing c.self.inside c.args.at (rw (← c.self.view_is) at c.requires.space) c.deref_mut.ensures.value (sym c.take.ensures.value ∙ c.in-None.is)
+unreachable-requires g c =
+    missing c.self.inside c.args.at (rw (← c.self.view_is) at c.requires.space) c.deref_mut.ensures.value
+    (sym c.take.ensures.value ∙ c.in-None.is)

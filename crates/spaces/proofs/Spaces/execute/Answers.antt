@@ -1,28 +1,38 @@
 use Rattle.spaces.proofs.Spaces.execute.Given as given
 use Rattle.spaces.proofs.Spaces.execute.Goals as goal
 use Rattle.spaces.proofs.Spaces.execute.Goals.{After-fence, After-space_at-space, After-step}
-use Rattle.spaces.proofs.Stepped.{IsRun, Reopened, Steps, reopened, run-at, run-of, second, sound-stepped, step-done, step-trap, trap-space}
+use Rattle.spaces.proofs.Stepped.{IsRun, Reopened, Steps, reopened, run-at, run-of, second, sound-stepped, step-done}
+use Rattle.spaces.proofs.Stepped.{step-trap, trap-space}
 use Rattle.spaces.proofs.Common.{ap, sym, ◌∙◌, marks_at, right_marks}
 
-steps : (g : given.Over) (c : After-step g) → Steps g.T.Translate.held c.self.inside c.step.new.trans c.step.new.self c.step.new.ram c.step.result
-steps g c = let e = c.step.ensures in let whole = c.frames_are_whole.ensures in record { memory = whole.memory; small = whole.small; step = e.step; kept = e.kept; count = e.count }
+steps : (g : given.Over) (c : After-step g)
+    → Steps g.T.Translate.held c.self.inside c.step.new.trans c.step.new.self c.step.new.ram c.step.result
+steps g c = let e = c.step.ensures in let whole =
+    c.frames_are_whole.ensures
+    in record { memory = whole.memory; small = whole.small; step = e.step; kept = e.kept; count = e.count }
 
-run : (g : given.Over) (c : After-space_at-space g) → IsRun g.T.Translate.held c.self.inside c.in-Some.at c.space_at-space.result.now
+run : (g : given.Over) (c : After-space_at-space g)
+    → IsRun g.T.Translate.held c.self.inside c.in-Some.at c.space_at-space.result.now
 run g c = run-at c.space_at-space.result.now c.self.invariant c.in-Some.is c.space_at-space.ensures
 
 -- the fields behind the fence
 reopen : (g : given.Over) (c : After-fence g)
-    → Reopened g.T.Translate.held c.self.inside (record c.self.inside { ram = c.open_page.new.ram; frames = c.open_page.new.frames; translator = c.fence.new.self; hart = c.step.new.self }) c.in-Some.at c.space_at-space.result.now
+    → Reopened g.T.Translate.held c.self.inside
+        (record c.self.inside { ram = c.open_page.new.ram; frames = c.open_page.new.frames;
+        translator = c.fence.new.self; hart = c.step.new.self }) c.in-Some.at c.space_at-space.result.now
 reopen g c =
     let at = goal.at.After-fence g c in
-    reopened (run g at.After-space_at-space) (steps g at.After-step) c.fence.new.self _ _ c.in-Some-step.trap c.in-Some-step.is c.open_page.ensures.same c.fence.ensures
+    reopened (run g at.After-space_at-space) (steps g at.After-step) c.fence.new.self _ _ c.in-Some-step.trap
+        c.in-Some-step.is c.open_page.ensures.same c.fence.ensures
 
 pub invariant_of-self : goal.invariant_of-self
-invariant_of-self g c = sound-stepped (run-of c.self.invariant c.in-Some.is).1 (steps g (goal.at.invariant_of-self g c).After-step)
+invariant_of-self g c = sound-stepped (run-of c.self.invariant c.in-Some.is).1
+    (steps g (goal.at.invariant_of-self g c).After-step)
 
 pub returns-in_default-step-clause-done : goal.returns-in_default-step-clause-done
 returns-in_default-step-clause-done g c =
-    rw (← c.self.view_is) (step-done (run-of c.self.invariant c.in-Some.is).1 (steps g (goal.at.returns-in_default-step-clause-done g c).After-step) c.in_default-step.is)
+    rw (← c.self.view_is) (step-done (run-of c.self.invariant c.in-Some.is).1
+        (steps g (goal.at.returns-in_default-step-clause-done g c).After-step) c.in_default-step.is)
 
 pub closed_page-requires : goal.closed_page-requires
 closed_page-requires g c =
@@ -30,12 +40,15 @@ closed_page-requires g c =
     (trap-space (run g at.After-space_at-space) (steps g at.After-step) c.in-Some-step.trap c.in-Some-step.is).dense
 
 pub invariant_of-self-in_default-closed_page : goal.invariant_of-self-in_default-closed_page
-invariant_of-self-in_default-closed_page g c = sound-stepped (run-of c.self.invariant c.in-Some.is).1 (steps g (goal.at.invariant_of-self-in_default-closed_page g c).After-step)
+invariant_of-self-in_default-closed_page g c =
+    sound-stepped (run-of c.self.invariant c.in-Some.is).1
+    (steps g (goal.at.invariant_of-self-in_default-closed_page g c).After-step)
 
 pub returns-in_default-closed_page-clause-trap : goal.returns-in_default-closed_page-clause-trap
 returns-in_default-closed_page-clause-trap g c =
     let at = goal.at.returns-in_default-closed_page-clause-trap g c in
-    rw (← c.self.view_is) (step-trap (run g at.After-space_at-space) (steps g at.After-step) c.in-Some-step.trap c.in-Some-step.is c.in_default-closed_page.ensures.none)
+    rw (← c.self.view_is) (step-trap (run g at.After-space_at-space) (steps g at.After-step) c.in-Some-step.trap
+        c.in-Some-step.is c.in_default-closed_page.ensures.none)
 
 pub open_page-requires-clause-space : goal.open_page-requires-clause-space
 open_page-requires-clause-space g c =
@@ -46,7 +59,8 @@ pub invariant_of-self-2 : goal.invariant_of-self-2
 invariant_of-self-2 g c =
     let e = c.step_again.ensures in
     let whole = c.frames_are_whole-2.ensures in
-    sound-stepped (reopen g (goal.at.invariant_of-self-2 g c).After-fence).run (record { memory = whole.memory; small = whole.small; step = e.step; kept = e.kept; count = e.count })
+    sound-stepped (reopen g (goal.at.invariant_of-self-2 g c).After-fence).run
+        (record { memory = whole.memory; small = whole.small; step = e.step; kept = e.kept; count = e.count })
 
 pub returns : goal.returns
 returns g c =
@@ -56,6 +70,8 @@ returns g c =
     let made = ap (marks_at c.open_page.new.ram x.root.0) (sym found.1) ∙ c.open_page.ensures.marks in
     let e = c.step_again.ensures in
     let whole = c.frames_are_whole-2.ensures in
-    let both = second c.in-Some-step.trap (right_marks (marks_at c.step.new.ram x.root.0 c.in-Some-closed_page.page)) (run g at.After-space_at-space) (steps g at.After-step) c.in-Some-step.is found.0 (reopen g at.After-fence) made
+    let both = second c.in-Some-step.trap (right_marks (marks_at c.step.new.ram x.root.0 c.in-Some-closed_page.page))
+            (run g at.After-space_at-space) (steps g at.After-step) c.in-Some-step.is found.0 (reopen g at.After-fence)
+            made
     (record { memory = whole.memory; small = whole.small; step = e.step; kept = e.kept; count = e.count }) in
     record { done = rw (← c.self.view_is) both.0; trap = rw (← c.self.view_is) both.1 }

@@ -11,8 +11,13 @@ pages_in-requires g c =
     rw c.size.ensures (omega (arith, space.dense.small))
 
 pub returns-clause-count : goal.returns-clause-count
-returns-clause-count g c = rw (← c.self.view_is, held-is c.self.inside _ c.space_at-space.ensures) (c.pages_in.ensures ∙ ap pages_in c.size.ensures ∙ sym (length-pages_of c.self.inside.ram c.space_at-space.result.now))
+returns-clause-count g c =
+    rw (← c.self.view_is, held-is c.self.inside _ c.space_at-space.ensures)
+    (c.pages_in.ensures ∙ ap pages_in c.size.ensures
+    ∙ sym (length-pages_of c.self.inside.ram c.space_at-space.result.now))
 
 pub returns-clause-few : goal.returns-clause-few
-returns-clause-few g c = rw (← c.self.view_is, held-is c.self.inside _ c.space_at-space.ensures, length-pages_of c.self.inside.ram c.space_at-space.result.now)
+returns-clause-few g c =
+    rw (← c.self.view_is, held-is c.self.inside _ c.space_at-space.ensures,
+    length-pages_of c.self.inside.ram c.space_at-space.result.now)
     ((c.self.invariant.machine.each c.args.at c.space_at-space.result.now c.space_at-space.ensures).dense.small)

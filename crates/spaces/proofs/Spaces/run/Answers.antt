@@ -5,18 +5,23 @@ use Rattle.spaces.proofs.Spaces.run.Given as given
 use Rattle.spaces.proofs.Spaces.run.Goals as goal
 use Rattle.spaces.proofs.Spaces.run.Goals.{After-run}
 
-went : (g : given.Over) (c : After-run g) → RanOn g.T.Translate.held c.self.inside c.run.new.trans c.run.new.self c.run.new.ram (g.S.Stops.addresses c.args.stops.now) c.run.result.0 c.run.result.1
-went g c = let did = c.run.ensures in record { small = c.frames_are_whole.ensures.small; goes = did.goes; whole = did.whole }
+went : (g : given.Over) (c : After-run g)
+    → RanOn g.T.Translate.held c.self.inside c.run.new.trans c.run.new.self c.run.new.ram
+    (g.S.Stops.addresses c.args.stops.now) c.run.result.0 c.run.result.1
+went g c = let did = c.run.ensures
+    in record { small = c.frames_are_whole.ensures.small; goes = did.goes; whole = did.whole }
 
 ran : (g : given.Over) (c : After-run g)
     → IsSpaces g.T.Translate.held (ran_by c.self.inside c.run.new.trans c.run.new.self c.run.new.ram)
-    × AdvancesTo (g.S.Stops.addresses c.args.stops.now) c.run.result.0 c.self.inside.active (spaces_of c.self.inside) (spaces_of (ran_by c.self.inside c.run.new.trans c.run.new.self c.run.new.ram))
+    × AdvancesTo (g.S.Stops.addresses c.args.stops.now) c.run.result.0 c.self.inside.active (spaces_of c.self.inside)
+        (spaces_of (ran_by c.self.inside c.run.new.trans c.run.new.self c.run.new.ram))
 ran g c = ran-sound c.self.inside.active c.self.invariant (went g c) refl (rw (← c.self.view_is) at c.requires)
 
 pub invariant_of-self : goal.invariant_of-self
 invariant_of-self g c =
     let now = (ran g c).0 in
-    record { machine = now.machine; all = now.all; active = now.active; inside = now.inside; pipes = now.pipes; both = now.both }
+    record { machine = now.machine; all = now.all; active = now.active; inside = now.inside; pipes = now.pipes;
+        both = now.both }
 
 pub returns-clause-done : goal.returns-clause-done
 returns-clause-done g c = rw (← c.self.view_is) ((ran g c).1)
@@ -28,4 +33,5 @@ pub returns-clause-behind : goal.returns-clause-behind
 returns-clause-behind g c = rw (← c.self.view_is) c.run.ensures.behind
 
 pub returns-clause-trap : goal.returns-clause-trap
-returns-clause-trap g c = rw (← c.self.view_is) (ran-trap c.run.result.1 c.self.inside.active c.self.invariant (went g c) refl)
+returns-clause-trap g c =
+    rw (← c.self.view_is) (ran-trap c.run.result.1 c.self.inside.active c.self.invariant (went g c) refl)

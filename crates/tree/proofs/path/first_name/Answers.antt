@@ -10,11 +10,13 @@ returns-clause-some c =
     let path = c.args.path.now in
     let i = c.in_ok-from.from in
     let rest = take (length path - i) (drop i path) in
-    cut-parts path rest i _ _ _ (sym c.name_start.ensures ∙ c.in_ok-from.was) (take_rest path i) c.first_slash.ensures c.unwrap_or-end.ensures c.min.ensures
+    cut-parts path rest i _ _ _ (sym c.name_start.ensures ∙ c.in_ok-from.was) (take_rest path i) c.first_slash.ensures
+        c.unwrap_or-end.ensures c.min.ensures
 
 pub returns-clause-shorter : goal.returns-clause-shorter
 returns-clause-shorter c =
     let path = c.args.path.now in
     let i = c.in_ok-from.from in
     let rest = take (length path - i) (drop i path) in
-    cut-shorter path rest i _ _ _ (sym c.name_start.ensures ∙ c.in_ok-from.was) (take_rest path i) c.first_slash.ensures c.unwrap_or-end.ensures c.min.ensures
+    cut-shorter path rest i _ _ _ (sym c.name_start.ensures ∙ c.in_ok-from.was) (take_rest path i)
+        c.first_slash.ensures c.unwrap_or-end.ensures c.min.ensures

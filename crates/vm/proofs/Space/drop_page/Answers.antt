@@ -7,14 +7,18 @@ use Rattle.vm.proofs.Space.drop_page.Goals.{After-unmap-frame}
 some-lookup : (A : Type 0) (o : Option A) (a : A) → o ≡ Some a → o ≢ None
 some-lookup A o a e z = cc
 
-one_more : (c : After-unmap-frame) → OwnsFrames c.args.ram.now c.args.self.now.root.0 c.args.self.now.trap.0 (suc c.args.n) c.args.frames.now
+one_more : (c : After-unmap-frame)
+    → OwnsFrames c.args.ram.now c.args.self.now.root.0 c.args.self.now.trap.0 (suc c.args.n) c.args.frames.now
 one_more c = rw (← add-one c.args.n) c.requires
 
-unmapped : (c : After-unmap-frame) → IsUnmapped c.args.ram.now c.unmap-frame.new.ram c.args.self.now.root.0 c.args.n c.unmap-frame.result.0 c.args.frames.now c.unmap-frame.new.frames
+unmapped : (c : After-unmap-frame)
+    → IsUnmapped c.args.ram.now c.unmap-frame.new.ram c.args.self.now.root.0 c.args.n c.unmap-frame.result.0
+    c.args.frames.now c.unmap-frame.new.frames
 unmapped c =
     let e = c.unmap-frame.ensures in
     let was = unmapped-was _ c.args.self.now.root.0 c.args.n ((one_more c).dense.pages c.args.n (omega arith)) e.was in
-    record { was = was; removes = e.removes; drops = e.drops; tidy = e.tidy; paged = e.paged; keeps = e.keeps; extra = e.extra }
+    record { was = was; removes = e.removes; drops = e.drops; tidy = e.tidy; paged = e.paged; keeps = e.keeps;
+        extra = e.extra }
 
 pub unmap-frame-requires-clause-paged : goal.unmap-frame-requires-clause-paged
 unmap-frame-requires-clause-paged c = OwnsFrames-paged c.requires
@@ -32,5 +36,6 @@ pub returns : goal.returns
 returns c =
     let at = (goal.at.returns c).After-unmap-frame in
     let e = c.give.ensures in
-    let d = dropped (one_more at) (unmapped at) c.give.new.ram c.give.new.self (record { valid = e.valid; holders = e.holders; others = e.others; stays = λ more. (e.stays more).1 }) in
+    let d = dropped (one_more at) (unmapped at) c.give.new.ram c.give.new.self
+            (record { valid = e.valid; holders = e.holders; others = e.others; stays = λ more. (e.stays more).1 }) in
     record { held = d.space; pages = d.pages; mapping = d.mapping; trap = d.trap; trades = d.trades }

@@ -7,5 +7,6 @@ invariant-loop-i l = record {
   pages : first_pages l.ram l.self l.to ≡ first_pages l.initial.ram l.self l.to;
   mapping : SameLeaves l.initial.ram l.ram l.self.root.0 l.to;
   trap : frame_of l.ram l.self.trap.0 ≡ frame_of l.initial.ram l.self.trap.0;
-  trades : Trades l.initial.ram l.ram l.initial.frames l.frames (held_by l.initial.ram l.self l.from) (held_by l.ram l.self (l.from - l.i));
+  trades : Trades l.initial.ram l.ram l.initial.frames l.frames (held_by l.initial.ram l.self l.from)
+      (held_by l.ram l.self (l.from - l.i));
 }

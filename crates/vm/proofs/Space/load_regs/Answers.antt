@@ -19,4 +19,5 @@ load_u64-requires-2-clause-frame c = trap-inside _ c.args.self.now c.requires
 pub returns-clause-registers : goal.returns-clause-registers
 returns-clause-registers c =
     let i = c.loop-register.invariant in
-    sym (saved-is c.args.ram.now c.args.self.now c.loop-register.registers i.count i.first (λ j low high. i.loaded j low (omega arith)))
+    sym (saved-is c.args.ram.now c.args.self.now c.loop-register.registers i.count i.first
+        (λ j low high. i.loaded j low (omega arith)))

@@ -1,6 +1,7 @@
 use Rattle.std.proofs.Common.{arith}
 use Rattle.vm.proofs.DenseLemmas.{frame_at-is, marks_at-is, marks_at-same, OwnsFrames-paged}
-use Rattle.vm.proofs.Remap.{page-inside-is, rearranged, reframed, remap-frames, remap-kept, remap-marks, remap-other, remap-page}
+use Rattle.vm.proofs.Remap.{page-inside-is, rearranged, reframed, remap-frames, remap-kept, remap-marks, remap-other}
+use Rattle.vm.proofs.Remap.{remap-page}
 use Rattle.vm.proofs.Space.set_page.Goals as goal
 
 pub remap-requires-clause-paged : goal.remap-requires-clause-paged
@@ -13,7 +14,8 @@ pub returns : goal.returns
 returns c =
     let now = c.requires in
     let r = c.remap.ensures in
-    let e = remap-marks now.space now.page now.frame now.leaf now.sole r.inserts r.tables (r.tidy now.space.dense.tidy) r.paged r.keeps r.free in
+    let e = remap-marks now.space now.page now.frame now.leaf now.sole r.inserts r.tables (r.tidy now.space.dense.tidy)
+            r.paged r.keeps r.free in
     record {
       stands = reframed _ now.space now.page e;
       same = λ right. rearranged _ now.space now.page e right;

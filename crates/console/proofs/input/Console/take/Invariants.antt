@@ -3,7 +3,8 @@ use Rattle.console.proofs.input.Console.take.Given as goal
 
 abbrev pub invariant-loop-count : goal.invariant-loop-count
 invariant-loop-count l = record {
-  same : behind (take l.count l.buffer) (take_line l.has_some (l.n - l.count) l.self.committed) ≡ take_line l.fn.has_some l.n l.fn.self.committed;
+  same : behind (take l.count l.buffer) (take_line l.has_some (l.n - l.count) l.self.committed)
+      ≡ take_line l.fn.has_some l.n l.fn.self.committed;
   edited : l.self.edited ≡ l.fn.self.edited;
   left : l.count + length l.self.committed ≤ 128;
   within : l.count ≤ l.n;

@@ -39,12 +39,15 @@ returns-in-Sb g c = rw c.in-Sb.is (rw (c.offset-in-Sb.ensures, c.read.ensures) a
 
 pub returns-in-Sh : goal.returns-in-Sh
 unfolding op_by
-returns-in-Sh g c = rw c.in-Sh.is (rw (c.offset-in-Sh.ensures, c.read-in-Sh.ensures) at (c.give-in-Sh.ensures c.args.pc))
+returns-in-Sh g c = rw c.in-Sh.is
+    (rw (c.offset-in-Sh.ensures, c.read-in-Sh.ensures) at (c.give-in-Sh.ensures c.args.pc))
 
 pub returns-in-Sw : goal.returns-in-Sw
 unfolding op_by
-returns-in-Sw g c = rw c.in-Sw.is (rw (c.offset-in-Sw.ensures, c.read-in-Sw.ensures) at (c.give-in-Sw.ensures c.args.pc))
+returns-in-Sw g c = rw c.in-Sw.is
+    (rw (c.offset-in-Sw.ensures, c.read-in-Sw.ensures) at (c.give-in-Sw.ensures c.args.pc))
 
 pub returns-in-Sd : goal.returns-in-Sd
 unfolding op_by
-returns-in-Sd g c = rw c.in-Sd.is (rw (c.offset-in-Sd.ensures, c.read-in-Sd.ensures) at (c.give-in-Sd.ensures c.args.pc))
+returns-in-Sd g c = rw c.in-Sd.is
+    (rw (c.offset-in-Sd.ensures, c.read-in-Sd.ensures) at (c.give-in-Sd.ensures c.args.pc))

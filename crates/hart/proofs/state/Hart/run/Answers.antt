@@ -1,4 +1,5 @@
-use Rattle.hart.proofs.Common.{arith, GoesOn, inl, inr, List, Mapped, None, Option, point_of, refl, Some, subst, sym, Trap, ◌+◌, ◌-◌, ◌≡◌}
+use Rattle.hart.proofs.Common.{arith, GoesOn, inl, inr, List, Mapped, None, Option, point_of, refl, Some, subst, sym}
+use Rattle.hart.proofs.Common.{Trap, ◌+◌, ◌-◌, ◌≡◌}
 use Rattle.hart.proofs.Steps.{inside-kept}
 use Rattle.hart.proofs.Straight.{behind-then, goes-none, run-faults, run-then, whole-then}
 use Rattle.hart.proofs.state.Hart.run.Given as given
@@ -6,13 +7,18 @@ use Rattle.hart.proofs.state.Hart.run.Goals as goal
 use Rattle.hart.proofs.state.Hart.run.Goals.{After-run_page-rest}
 
 -- after the operations of a page
-ran : (g : given.Over) (c : After-run_page-rest g) (stopped : Option Trap) → c.run_page-rest.result.1 ≡ stopped → (mapping : List Mapped)
-    → GoesOn (g.T.Translate.held c.args.trans.now) (g.T.Translate.held c.run_page-rest.new.trans) c.args.self.now.root.0 mapping (g.S.Stops.addresses c.args.stops.now) (point_of c.args.self.now c.args.ram.now)
+ran : (g : given.Over) (c : After-run_page-rest g) (stopped : Option Trap) → c.run_page-rest.result.1 ≡ stopped
+    → (mapping : List Mapped)
+    → GoesOn (g.T.Translate.held c.args.trans.now) (g.T.Translate.held c.run_page-rest.new.trans)
+        c.args.self.now.root.0 mapping (g.S.Stops.addresses c.args.stops.now) (point_of c.args.self.now c.args.ram.now)
     (point_of c.run_page-rest.new.self c.run_page-rest.new.ram) (c.args.count - c.run_page-rest.result.0) stopped
 ran g c stopped is mapping =
     let before = c.loop-left.invariant in
-    run-then (g.T.Translate.held c.args.trans.now) (g.T.Translate.held c.locate.new.trans) (c.args.count - c.loop-left.left) mapping before.whole (before.goes mapping) c.locate.ensures.kept {o = Some c.in-Some.f.0} c.in-Some.ensures.answer
-    c.run_page-rest.new.self c.run_page-rest.new.ram c.args.count c.loop-left.left c.run_page-rest.result.0 c.in-Some.f.0 stopped before.behind refl before.bounded c.run_page-rest.ensures.within refl
+    run-then (g.T.Translate.held c.args.trans.now) (g.T.Translate.held c.locate.new.trans)
+        (c.args.count - c.loop-left.left) mapping before.whole (before.goes mapping) c.locate.ensures.kept
+        {o = Some c.in-Some.f.0} c.in-Some.ensures.answer
+    c.run_page-rest.new.self c.run_page-rest.new.ram c.args.count c.loop-left.left c.run_page-rest.result.0
+        c.in-Some.f.0 stopped before.behind refl before.bounded c.run_page-rest.ensures.within refl
     (λ others at. rw is at (c.run_page-rest.ensures.goes others at))
 
 pub run_page-rest-requires-clause-inside : goal.run_page-rest-requires-clause-inside
@@ -39,7 +45,9 @@ loop-left-preserved g c =
 
 pub returns-in_default-clause-goes : goal.returns-in_default-clause-goes
 returns-in_default-clause-goes g c = λ mapping.
-    run-faults (g.T.Translate.held c.args.trans.now) (g.T.Translate.held c.locate.new.trans) (c.args.count - c.loop-left.left) mapping c.loop-left.invariant.whole (c.loop-left.invariant.goes mapping) c.locate.ensures.kept {o = None} c.in_default.ensures.answer refl
+    run-faults (g.T.Translate.held c.args.trans.now) (g.T.Translate.held c.locate.new.trans)
+        (c.args.count - c.loop-left.left) mapping c.loop-left.invariant.whole (c.loop-left.invariant.goes mapping)
+        c.locate.ensures.kept {o = None} c.in_default.ensures.answer refl
 
 pub returns-in_default-clause-whole : goal.returns-in_default-clause-whole
 returns-in_default-clause-whole g c = record {
@@ -49,16 +57,20 @@ returns-in_default-clause-whole g c = record {
 }
 
 pub returns-in-Some-stopped-clause-goes : goal.returns-in-Some-stopped-clause-goes
-returns-in-Some-stopped-clause-goes g c = ran g (goal.at.returns-in-Some-stopped-clause-goes g c).After-run_page-rest (Some c.in-Some-stopped.trap) c.in-Some-stopped.is
+returns-in-Some-stopped-clause-goes g c =
+    ran g (goal.at.returns-in-Some-stopped-clause-goes g c).After-run_page-rest (Some c.in-Some-stopped.trap)
+    c.in-Some-stopped.is
 
 pub returns-in-Some-stopped-clause-behind : goal.returns-in-Some-stopped-clause-behind
 returns-in-Some-stopped-clause-behind g c =
     let before = c.loop-left.invariant in
-    let sum : c.args.count - c.loop-left.left + (c.loop-left.left - c.run_page-rest.result.0) ≡ c.args.count - c.run_page-rest.result.0 = omega (arith, before.bounded, c.run_page-rest.ensures.within) in
+    let sum : c.args.count - c.loop-left.left + (c.loop-left.left - c.run_page-rest.result.0)
+            ≡ c.args.count - c.run_page-rest.result.0 = omega (arith, before.bounded, c.run_page-rest.ensures.within) in
     rw (← sum) (behind-then _ before.behind (rw c.in-Some-stopped.is at c.run_page-rest.ensures.behind))
 
 pub returns-then-has-clause-goes : goal.returns-then-has-clause-goes
-returns-then-has-clause-goes g c = ran g (goal.at.returns-then-has-clause-goes g c).After-run_page-rest None c.in_default-stopped.is
+returns-then-has-clause-goes g c =
+    ran g (goal.at.returns-then-has-clause-goes g c).After-run_page-rest None c.in_default-stopped.is
 
 pub returns-then-has-clause-ends : goal.returns-then-has-clause-ends
 returns-then-has-clause-ends g c =
@@ -68,4 +80,6 @@ returns-then-has-clause-ends g c =
 pub returns-clause-goes : goal.returns-clause-goes
 returns-clause-goes g c = λ mapping.
     let all : c.args.count - c.loop-left.left ≡ c.args.count = omega (arith, c.loop-left-test.false) in
-    subst (λ x. GoesOn (g.T.Translate.held c.args.trans.now) (g.T.Translate.held c.loop-left.trans) c.args.self.now.root.0 mapping (g.S.Stops.addresses c.args.stops.now) (point_of c.args.self.now c.args.ram.now) (point_of c.loop-left.self c.loop-left.ram) x None) all (c.loop-left.invariant.goes mapping)
+    subst (λ x. GoesOn (g.T.Translate.held c.args.trans.now) (g.T.Translate.held c.loop-left.trans)
+        c.args.self.now.root.0 mapping (g.S.Stops.addresses c.args.stops.now) (point_of c.args.self.now c.args.ram.now)
+        (point_of c.loop-left.self c.loop-left.ram) x None) all (c.loop-left.invariant.goes mapping)

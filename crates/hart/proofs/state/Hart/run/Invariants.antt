@@ -6,7 +6,9 @@ invariant-loop-left g l = record {
   bounded : l.left ≤ l.count;
   whole : StaysWhole (g.T.Translate.held l.trans) l.fn.self l.self l.fn.ram l.ram;
   behind : IsBehind (g.S.Stops.addresses l.stops) (l.count - l.left) l.fn.self.pc l.self.pc;
-  goes : (mapping : List Mapped) → GoesOn (g.T.Translate.held l.fn.trans) (g.T.Translate.held l.trans) l.fn.self.root.0 mapping (g.S.Stops.addresses l.stops) (point_of l.fn.self l.fn.ram) (point_of l.self l.ram) (l.count - l.left) None;
+  goes : (mapping : List Mapped)
+      → GoesOn (g.T.Translate.held l.fn.trans) (g.T.Translate.held l.trans) l.fn.self.root.0 mapping
+      (g.S.Stops.addresses l.stops) (point_of l.fn.self l.fn.ram) (point_of l.self l.ram) (l.count - l.left) None;
 }
 
 abbrev pub decreases-loop-left : goal.decreases-loop-left

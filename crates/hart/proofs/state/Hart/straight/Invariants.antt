@@ -2,4 +2,5 @@ use Rattle.hart.proofs.Straight.{GoesStraight}
 use Rattle.hart.proofs.state.Hart.straight.Given as goal
 
 abbrev pub invariant-loop-k : goal.invariant-loop-k
-invariant-loop-k g l = GoesStraight (g.T.Translate.held l.fn.trans) (g.T.Translate.held l.trans) l.fn.self l.self l.fn.ram l.ram l.base l.from l.k l.f.0
+invariant-loop-k g l = GoesStraight (g.T.Translate.held l.fn.trans) (g.T.Translate.held l.trans) l.fn.self l.self
+    l.fn.ram l.ram l.base l.from l.k l.f.0

@@ -3,4 +3,5 @@ use Rattle.hart.proofs.stops.BreakpointsStops.clear_to.Given as goal
 
 -- up to there no place is at one of those looked at so far
 abbrev pub invariant-loop-address : goal.invariant-loop-address
-invariant-loop-address l = (l.k < l.end) × (l.end ≤ 1024) × IsClear (take l.address-index l.self.addresses.now) l.base l.k l.end
+invariant-loop-address l = (l.k < l.end) × (l.end ≤ 1024)
+    × IsClear (take l.address-index l.self.addresses.now) l.base l.k l.end

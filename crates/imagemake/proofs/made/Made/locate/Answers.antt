@@ -7,7 +7,8 @@ pub returns-in_default-find-clause-none : goal.returns-in_default-find-clause-no
 returns-in_default-find-clause-none c =
     let made = c.args.self.now.items in
     let spot = c.name.spot in
-    let none = reach_none made spot.directory (take c.in-Some.end spot.below.now) (drop (c.in-Some.end + 1) spot.below.now) (sym c.in_default-find.ensures) in (
+    let none = reach_none made spot.directory (take c.in-Some.end spot.below.now)
+            (drop (c.in-Some.end + 1) spot.below.now) (sym c.in_default-find.ensures) in (
       none.0,
       reach-below c.name.invariant.leads _ _ c.name.invariant.joined
           ∙ ap (reach made spot.directory) (pieces_first spot.below.now c.in-Some.end (sym c.in-Some.ensures)) ∙ none.1,
@@ -23,7 +24,8 @@ name-preserved c =
     let above = above-next path _ _ end is slash in
     record {
       joined = joined-next path spot.above.now spot.below.now end is slash above (take_rest spot.below.now (end + 1));
-      leads = leads-next path spot.above.now spot.below.now end is slash above c.name.invariant.leads (sym c.in-Some-find.ensures);
+      leads = leads-next path spot.above.now spot.below.now end is slash above c.name.invariant.leads
+          (sym c.in-Some-find.ensures);
     }
 
 pub returns-clause-found : goal.returns-clause-found

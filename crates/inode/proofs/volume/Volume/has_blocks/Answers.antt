@@ -5,7 +5,9 @@ pub has_blocks-result-requires : goal.has_blocks-result-requires
 has_blocks-result-requires g c = (c.self.invariant (up-inside c.self.view_is c.requires.up)).parts
 
 pub returns : goal.returns
-returns g c = rw (← c.self.view_is) (looks c.has_blocks-result.result c.has_blocks-result.ensures c.is_err-self-inside.ensures.value (λ x told. told))
+returns g c = rw (← c.self.view_is)
+    (looks c.has_blocks-result.result c.has_blocks-result.ensures c.is_err-self-inside.ensures.value (λ x told. told))
 
 pub invariant_of-self : goal.invariant_of-self
-invariant_of-self g c = sound-same c.has_blocks-result.result c.has_blocks-result.ensures c.is_err-self-inside.ensures.value (c.self.invariant (up-inside c.self.view_is c.requires.up))
+invariant_of-self g c = sound-same c.has_blocks-result.result c.has_blocks-result.ensures
+    c.is_err-self-inside.ensures.value (c.self.invariant (up-inside c.self.view_is c.requires.up))

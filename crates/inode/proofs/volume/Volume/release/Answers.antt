@@ -3,7 +3,8 @@ use Rattle.inode.proofs.Calls.{emptied-asked, released, follows-stays, serves-lo
 use Rattle.inode.proofs.volume.Volume.release.Goals as goal
 
 pub returns-in_err-truncate : goal.returns-in_err-truncate
-returns-in_err-truncate g c = serves-lost _ follows-stays c.truncate.ensures c.in_err-truncate.was refl c.from_residual.ensures.1
+returns-in_err-truncate g c =
+    serves-lost _ follows-stays c.truncate.ensures c.in_err-truncate.was refl c.from_residual.ensures.1
 
 pub give-requires : goal.give-requires
 give-requires g c =
@@ -12,4 +13,5 @@ give-requires g c =
     record { up = still-up c.truncate.ensures c.in_ok-truncate.was; node = asked.0; empty = asked.1 }
 
 pub returns : goal.returns
-returns g c = tries-last c.truncate.ensures.follows (λ x given. released c.requires.node c.in_ok-truncate.ensures.done given) c.give.ensures
+returns g c = tries-last c.truncate.ensures.follows
+    (λ x given. released c.requires.node c.in_ok-truncate.ensures.done given) c.give.ensures

@@ -19,7 +19,8 @@ invariant_of-self g c =
     let low : c.args.at < length k.table.places = omega (arith, c.self.invariant.sound.all, c.in-Some.ensures.within) in
     rw (c.halted_after-halted.ensures, c.end-nodes.ensures.table, c.end-nodes.ensures.spaces, c.end-nodes.ensures.files)
     (record {
-      sound = kernel-waking (finish-closes _ c.self.view_is s.sound c.requires c.in-Some.ensures.process s.zero s.aligned c.let_go.new.tree c.let_go.result went.told went.down) _;
+      sound = kernel-waking (finish-closes _ c.self.view_is s.sound c.requires c.in-Some.ensures.process s.zero
+          s.aligned c.let_go.new.tree c.let_go.result went.told went.down) _;
       watched = finish-watched k.table c.self.invariant.watched c.args.at c.in-Some.process _ low _ refl _ refl;
     })
 
@@ -28,4 +29,5 @@ returns g c =
     let s = c.is_sound.ensures in
     rw (c.halted_after-halted.ensures, c.end-nodes.ensures.table, c.end-nodes.ensures.spaces, c.end-nodes.ensures.files)
     (finish-serves _ c.self.view_is s.sound c.requires c.in-Some.ensures.process c.let_go.new.tree c.let_go.result _
-    (rw (c.as_slice.ensures.value, c.end-nodes.ensures.nodes) at c.let_go.ensures) c.args.status (to_z-of_z w32 c.args.status c.ranges.status))
+    (rw (c.as_slice.ensures.value, c.end-nodes.ensures.nodes) at c.let_go.ensures) c.args.status
+        (to_z-of_z w32 c.args.status c.ranges.status))

@@ -10,9 +10,12 @@ leave-requires g c =
     let active = sym c.in-Some.ensures in
     let run = (run-of c.args.self.now c.in-Some.at s.sound active).1 in
     record {
-      sound = left-kernel _ _ _ run.0 run.1 s.sound s.zero s.aligned Ready refl refl (live _ _ _ run.0 run.1 s.sound) tt;
+      sound = left-kernel _ _ _ run.0 run.1 s.sound s.zero s.aligned Ready refl refl (live _ _ _ run.0 run.1 s.sound)
+          tt;
       watched = left-watched s.sound s.watched c.in-Some.at Ready active refl;
     }
 
 pub invariant_of-self : goal.invariant_of-self
-invariant_of-self g c = rw c.wakeup.ensures (record { sound = kernel-waking (typed-kernel c.self-2.invariant.sound _ _) _; watched = watched-ticks c.self-2.invariant.watched _ })
+invariant_of-self g c = rw c.wakeup.ensures
+    (record { sound = kernel-waking (typed-kernel c.self-2.invariant.sound _ _) _;
+    watched = watched-ticks c.self-2.invariant.watched _ })

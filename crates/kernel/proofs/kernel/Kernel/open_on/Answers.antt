@@ -8,9 +8,12 @@ hold-requires g c =
     record { up = may.up; node = open-there may; few = hold-few c.self.invariant.sound may.up c.args.node }
 
 pub invariant_of-self : goal.invariant_of-self
-invariant_of-self g c = rw (c.wakeup.ensures, c.hold.ensures) (open-keeps c.self.invariant (rw (← c.self.view_is) at c.requires) c.is_whole.ensures c.open_as-descriptor.ensures.opens)
+invariant_of-self g c = rw (c.wakeup.ensures, c.hold.ensures)
+    (open-keeps c.self.invariant (rw (← c.self.view_is) at c.requires) c.is_whole.ensures
+    c.open_as-descriptor.ensures.opens)
 
 pub returns : goal.returns
 returns g c =
     let o = c.open_as-descriptor.ensures.opens in
-    rw (c.wakeup.ensures, c.hold.ensures, ← c.self.view_is) (record { place = o.number; first = o.place; free = o.free; same = rw (o.names, o.opens) refl })
+    rw (c.wakeup.ensures, c.hold.ensures, ← c.self.view_is)
+        (record { place = o.number; first = o.place; free = o.free; same = rw (o.names, o.opens) refl })

@@ -11,4 +11,6 @@ pub page-requires : goal.page-requires
 page-requires g c = found-space _ _ _ (sym c.find.ensures.place ∙ c.in_ok-at.was) c.self.invariant.sound
 
 pub returns : goal.returns
-returns g c = rw (← c.self.view_is) (c.page.ensures ∙ sym (page-shown (kernel_of c.self.inside) c.args.pid _ (sym c.find.ensures.place ∙ c.in_ok-at.was) c.args.n))
+returns g c = rw (← c.self.view_is)
+    (c.page.ensures ∙ sym (page-shown (kernel_of c.self.inside) c.args.pid _
+    (sym c.find.ensures.place ∙ c.in_ok-at.was) c.args.n))

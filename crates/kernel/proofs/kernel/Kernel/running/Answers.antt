@@ -4,7 +4,8 @@ use Rattle.kernel.proofs.kernel.Kernel.running.Goals as goal
 use Rattle.unixmodel.specs.Process.{Process}
 
 pub returns-in-None : goal.returns-in-None
-returns-in-None g c = sym (ap (option_map (λ (p : Process). p.pid)) (running-nobody c.is_sound.ensures.sound (sym c.in-None.ensures)))
+returns-in-None g c = sym
+    (ap (option_map (λ (p : Process). p.pid)) (running-nobody c.is_sound.ensures.sound (sym c.in-None.ensures)))
 
 pub returns-in-Some : goal.returns-in-Some
 returns-in-Some g c =

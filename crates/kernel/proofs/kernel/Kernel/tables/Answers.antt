@@ -11,7 +11,11 @@ pub tables-requires : goal.tables-requires
 tables-requires g c = found-space _ _ _ (sym c.find.ensures.place ∙ c.in_ok-at.was) c.self.invariant.sound
 
 pub returns-clause-some : goal.returns-clause-some
-returns-clause-some g c = rw (← c.self.view_is) (sym (some-shown (kernel_of c.self.inside) c.args.pid _ (sym c.find.ensures.place ∙ c.in_ok-at.was)))
+returns-clause-some g c =
+    rw (← c.self.view_is) (sym
+    (some-shown (kernel_of c.self.inside) c.args.pid _ (sym c.find.ensures.place ∙ c.in_ok-at.was)))
 
 pub returns-clause-shows : goal.returns-clause-shows
-returns-clause-shows g c = rw (← c.self.view_is) (tables-shown (kernel_of c.self.inside) c.args.pid c.in_ok-at.at (sym c.find.ensures.place ∙ c.in_ok-at.was) _ _ c.tables.ensures)
+returns-clause-shows g c =
+    rw (← c.self.view_is) (tables-shown (kernel_of c.self.inside) c.args.pid c.in_ok-at.at
+    (sym c.find.ensures.place ∙ c.in_ok-at.was) _ _ c.tables.ensures)

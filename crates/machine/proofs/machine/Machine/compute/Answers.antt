@@ -5,7 +5,8 @@ pub compute-requires : goal.compute-requires
 compute-requires g c = (rw (← c.self.view_is) at (c.is_stopped.ensures.up c.if-is_stopped.false)).goes
 
 pub returns-then-is_stopped-clause-computes : goal.returns-then-is_stopped-clause-computes
-returns-then-is_stopped-clause-computes g c = λ up. absurd (let no = c.is_stopped.ensures.stopped up in let yes = c.if-is_stopped.true in cc)
+returns-then-is_stopped-clause-computes g c =
+    λ up. absurd (let no = c.is_stopped.ensures.stopped up in let yes = c.if-is_stopped.true in cc)
 
 pub returns-clause-computes : goal.returns-clause-computes
 returns-clause-computes g c = λ up. rw (← c.self.view_is) c.compute.ensures.computes

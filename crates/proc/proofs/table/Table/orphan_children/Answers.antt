@@ -7,4 +7,5 @@ pub invariant_of-self : goal.invariant_of-self
 invariant_of-self c =
     let f = option_map (orphaned c.args.pid) in
     let items = c.self.inside.places.items in
-    sound-orphaned c.self.invariant _ (refilled _ (length-map items f) (c.orphan_all.ensures ∙ ap (map f) c.as_mut_slice.ensures.value))
+    sound-orphaned c.self.invariant _
+        (refilled _ (length-map items f) (c.orphan_all.ensures ∙ ap (map f) c.as_mut_slice.ensures.value))

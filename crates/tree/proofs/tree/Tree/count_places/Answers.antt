@@ -10,4 +10,6 @@ pub returns-in_err-node : goal.returns-in_err-node
 returns-in_err-node g c = end-lost now-begin c.node.ensures c.in_err-node.was c.from_residual.ensures.1
 
 pub returns : goal.returns
-returns g c = end-read c.requires.up (now-read now-begin c.node.ensures c.in_ok-node.was) (λ f. let told = c.in_ok-node.ensures.serves.told.1 (Directory f.links f.places) f.here in let size = told.2 in omega arith)
+returns g c = end-read c.requires.up (now-read now-begin c.node.ensures c.in_ok-node.was)
+    (λ f. let told = c.in_ok-node.ensures.serves.told.1 (Directory f.links f.places) f.here in let size = told.2
+    in omega arith)

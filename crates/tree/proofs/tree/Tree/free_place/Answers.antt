@@ -8,7 +8,8 @@ overflow_mul-k g c = let high = place-high c.is_whole.ensures c.requires.place i
 
 pub rewrite-requires : goal.rewrite-requires
 unfolding zeros
-rewrite-requires g c = let b = erased-becomes c.is_whole.ensures c.requires.place in record { up = c.requires.up; able = (b.next, b.able) }
+rewrite-requires g c = let b =
+    erased-becomes c.is_whole.ensures c.requires.place in record { up = c.requires.up; able = (b.next, b.able) }
 
 pub returns : goal.returns
 unfolding zeros

@@ -18,22 +18,29 @@ returns-then-not-is_live g c =
 pub find_name-requires : goal.find_name-requires
 find_name-requires g c =
     let now = now-read now-begin c.node.ensures c.in_ok-node.was in
-    let live = live-told _ _ c.requires.node c.in_ok-node.ensures.serves.told.1 (sym c.is_live.ensures ∙ c.if-not-is_live.false) in
+    let live = live-told _ _ c.requires.node c.in_ok-node.ensures.serves.told.1
+            (sym c.is_live.ensures ∙ c.if-not-is_live.false) in
     record { up = now-up now c.requires.up; directory = folder-now now (live-folder live) }
 
 pub returns-in_err-found : goal.returns-in_err-found
-returns-in_err-found g c = end-lost (now-read now-begin c.node.ensures c.in_ok-node.was) c.find_name.ensures c.in_err-found.was c.from_residual-in_err-found.ensures.1
+returns-in_err-found g c =
+    end-lost (now-read now-begin c.node.ensures c.in_ok-node.was) c.find_name.ensures c.in_err-found.was
+    c.from_residual-in_err-found.ensures.1
 
 pub returns-in_default : goal.returns-in_default
 returns-in_default g c =
     let now = now-read now-begin c.node.ensures c.in_ok-node.was in
-    let live = live-told _ _ c.requires.node c.in_ok-node.ensures.serves.told.1 (sym c.is_live.ensures ∙ c.if-not-is_live.false) in
+    let live = live-told _ _ c.requires.node c.in_ok-node.ensures.serves.told.1
+            (sym c.is_live.ensures ∙ c.if-not-is_live.false) in
     let told = lookup-told live _ _ (c.in_ok-found.ensures.serves.told.1 (folder-now now (live-folder live))) in
-    end-read c.requires.up (now-read now c.find_name.ensures c.in_ok-found.was) (ap (option_map (λ (f : Found). f.number)) (sym c.in_default.is) ∙ told)
+    end-read c.requires.up (now-read now c.find_name.ensures c.in_ok-found.was)
+        (ap (option_map (λ (f : Found). f.number)) (sym c.in_default.is) ∙ told)
 
 pub returns : goal.returns
 returns g c =
     let now = now-read now-begin c.node.ensures c.in_ok-node.was in
-    let live = live-told _ _ c.requires.node c.in_ok-node.ensures.serves.told.1 (sym c.is_live.ensures ∙ c.if-not-is_live.false) in
+    let live = live-told _ _ c.requires.node c.in_ok-node.ensures.serves.told.1
+            (sym c.is_live.ensures ∙ c.if-not-is_live.false) in
     let told = lookup-told live _ _ (c.in_ok-found.ensures.serves.told.1 (folder-now now (live-folder live))) in
-    end-read c.requires.up (now-read now c.find_name.ensures c.in_ok-found.was) (ap (option_map (λ (f : Found). f.number)) (sym c.in-Some.is) ∙ told)
+    end-read c.requires.up (now-read now c.find_name.ensures c.in_ok-found.was)
+        (ap (option_map (λ (f : Found). f.number)) (sym c.in-Some.is) ∙ told)

@@ -1,5 +1,6 @@
 use Rattle.tree.proofs.Common.{[], sym, None, ◌∙◌, ◌≢◌, none-some, HasRoom, entered, dot_dot, slot, Directory}
-use Rattle.tree.proofs.Links.{dot-plain, dots-plain, first-fits, first-room, first-stays, own, second-fits, second-is, second-room}
+use Rattle.tree.proofs.Links.{dot-plain, dots-plain, first-fits, first-room, first-stays, own, second-fits, second-is}
+use Rattle.tree.proofs.Links.{second-room}
 use Rattle.tree.proofs.Following.{at-now, end-changed, end-lost, now-begin, now-changed, now-up}
 use Rattle.tree.specs.Calls.{HasBlocks}
 use Rattle.tree.proofs.tree.Tree.put_dots.Goals as goal
@@ -18,7 +19,8 @@ returns-in_err-put_entry g c = end-lost now-begin c.put_entry.ensures c.in_err-p
 
 pub put_entry-requires-2 : goal.put_entry-requires-2
 put_entry-requires-2 g c =
-    let now = now-changed now-begin (λ fs. entered fs c.args.number 0 (own c.args.number)) c.put_entry.ensures c.in_ok-put_entry.was in
+    let now = now-changed now-begin (λ fs. entered fs c.args.number 0 (own c.args.number)) c.put_entry.ensures
+            c.in_ok-put_entry.was in
     record {
       up = now-up now c.requires.up;
       plain = dots-plain;
@@ -29,5 +31,7 @@ put_entry-requires-2 g c =
 
 pub returns : goal.returns
 returns g c =
-    let now = now-changed now-begin (λ fs. entered fs c.args.number 0 (own c.args.number)) c.put_entry.ensures c.in_ok-put_entry.was in
-    end-changed now (λ fs. entered fs c.args.number 1 (record { name = dot_dot; number = c.args.above })) c.put_entry-2.ensures (second-is _ _ c.requires.bare _)
+    let now = now-changed now-begin (λ fs. entered fs c.args.number 0 (own c.args.number)) c.put_entry.ensures
+            c.in_ok-put_entry.was in
+    end-changed now (λ fs. entered fs c.args.number 1 (record { name = dot_dot; number = c.args.above }))
+        c.put_entry-2.ensures (second-is _ _ c.requires.bare _)

@@ -14,7 +14,8 @@ name-init g c = record {
 }
 
 pub lookup-requires : goal.lookup-requires
-lookup-requires g c = let i = c.name.invariant in record { up = now-up i.now c.requires.up; node = used-now i.now _ i.used }
+lookup-requires g c = let i =
+    c.name.invariant in record { up = now-up i.now c.requires.up; node = used-now i.now _ i.used }
 
 pub returns-in_err-next : goal.returns-in_err-next
 returns-in_err-next g c = end-lost c.name.invariant.now c.lookup.ensures c.in_err-next.was c.from_residual.ensures.1
@@ -41,4 +42,6 @@ returns-in_default-2 g c =
 pub returns : goal.returns
 returns g c =
     let i = c.name.invariant in
-    end-read c.requires.up i.now (sym (ap (λ names. reach c.args.self.now.files c.name.number (c.name.name.now ∷ names)) c.in_default-first_name.ensures.none) ∙ i.rest)
+    end-read c.requires.up i.now
+        (sym (ap (λ names. reach c.args.self.now.files c.name.number (c.name.name.now ∷ names))
+        c.in_default-first_name.ensures.none) ∙ i.rest)

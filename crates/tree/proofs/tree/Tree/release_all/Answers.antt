@@ -14,12 +14,17 @@ pub release_unlinked-requires : goal.release_unlinked-requires
 release_unlinked-requires g c = record { up = now-up c.loop-number.invariant.now c.requires.up }
 
 pub returns-in_err-release_unlinked : goal.returns-in_err-release_unlinked
-returns-in_err-release_unlinked g c = from-bare (lost-served c.loop-number.invariant.now c.release_unlinked.ensures c.in_err-release_unlinked.was c.from_residual.ensures.1)
+returns-in_err-release_unlinked g c =
+    from-bare (lost-served c.loop-number.invariant.now c.release_unlinked.ensures c.in_err-release_unlinked.was
+    c.from_residual.ensures.1)
 
 pub loop-number-preserved : goal.loop-number-preserved
-loop-number-preserved g c = swept-more c.loop-number.invariant (now-served c.loop-number.invariant.now c.release_unlinked.ensures c.in_ok-release_unlinked.was (λ told. told))
+loop-number-preserved g c =
+    swept-more c.loop-number.invariant
+    (now-served c.loop-number.invariant.now c.release_unlinked.ensures c.in_ok-release_unlinked.was (λ told. told))
 
 pub returns : goal.returns
 returns g c =
     let count = ap (λ (t : FileTree). length t.files) c.unhold_all.ensures in
-    from-bare (end-still c.requires.up c.loop-number.invariant.now (swept-all c.loop-number.invariant (omega arith))).serves
+    from-bare (end-still c.requires.up c.loop-number.invariant.now
+        (swept-all c.loop-number.invariant (omega arith))).serves

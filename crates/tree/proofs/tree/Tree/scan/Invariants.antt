@@ -6,7 +6,8 @@ abbrev pub invariant-block : goal.invariant-block
 invariant-block g l = record {
   now : IsNow l.fn.self l.self l.fn.self.files;
   low : l.from ≤ l.k;
-  before : (f : IsFolder l.fn.self.files l.directory) (j : ℕ) → j < l.k → l.from ≤ j → is_sought l.sought (place_in (flat_map place_bytes f.places) j) ≡ false;
+  before : (f : IsFolder l.fn.self.files l.directory) (j : ℕ) → j < l.k → l.from ≤ j
+      → is_sought l.sought (place_in (flat_map place_bytes f.places) j) ≡ false;
 }
 
 abbrev pub decreases-block : goal.decreases-block
