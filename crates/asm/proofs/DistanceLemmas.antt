@@ -15,7 +15,7 @@ pub ahead_in : (a b below above bits : ℕ) → a ≤ b → b - a ≤ above → 
     → Some (b - a) ≡ field_within below above bits (away a b)
 ahead_in a b below above bits h k l =
     ap (λ t. if t then Some (b - a) else None) (sym (le-leb (b - a) above k))
-        ∙ positive_within below above bits (b - a) l
+    ∙ positive_within below above bits (b - a) l
     ∙ ap (λ t. field_within below above bits (if t then pos (b - a) else neg_ℤ (pos (a - b)))) (sym (le-leb a b h))
 
 pub back_in : (a b below above bits : ℕ) → b < a → a - b ≤ below → below < 2 ^ bits
@@ -23,7 +23,7 @@ pub back_in : (a b below above bits : ℕ) → b < a → a - b ≤ below → bel
 back_in a b below above bits h k l =
     ap Some (sym (field_negated bits (a - b) (omega arith) (omega arith)))
     ∙ negative_within below above bits (a - b) (Some (a - b))
-        (ap (λ t. if t then Some (a - b) else None) (sym (le-leb (a - b) below k)))
+    (ap (λ t. if t then Some (a - b) else None) (sym (le-leb (a - b) below k)))
     ∙ ap (λ t. field_within below above bits (if t then pos (b - a) else neg_ℤ (pos (a - b)))) (sym (lt-leb a b h))
 
 -- ---- offsets: whether one is odd shows in its field

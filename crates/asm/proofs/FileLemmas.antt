@@ -60,8 +60,12 @@ all_marks = record { writable = true; executable = true; user = true; shared = f
 follows : (file : List ℕ) (size : ℕ) → size < 2 ^ 64 → 4096 + size ≤ length file
     → may_follow file 0 (read_segment size) ≡ true
 follows file size h room =
-    rw (le-leb size size (omega arith), lt-ltb (0 + size) (2 ^ 64) (omega arith),
-        le-leb (4096 + size) (length file) room, or-true (size == 0)) refl
+    rw (
+      le-leb size size (omega arith),
+      lt-ltb (0 + size) (2 ^ 64) (omega arith),
+      le-leb (4096 + size) (length file) room,
+      or-true (size == 0),
+    ) refl
 
 abbrev program_of : List ℕ → Loaded
 program_of bytes = record { pages = pages_of all_marks (ceil_div (length bytes) 4096) bytes; end = 0 + length bytes }
@@ -88,7 +92,7 @@ loads file bytes h long behind is =
 planned : (file bytes : List ℕ) → length bytes < 2 ^ 64 → length file ≡ 4096 + length bytes → drop 4096 file ≡ bytes
     → segment_at file 64 ≡ read_segment (length bytes)
     → number_at 4 0 file ≡ 0x464C457F → number_at 8 24 file ≡ 0 → number_at 8 32 file ≡ 64 → number_at 2 56 file ≡ 1
-        → plan file [] ≡ plan_flat bytes
+    → plan file [] ≡ plan_flat bytes
 unfolding plan plan_flat
 planned file bytes h long behind is m e at count =
     rw (le-leb 64 (length file) (omega (arith, long)), m, e, at, count, loads file bytes h long behind is) refl
@@ -119,8 +123,8 @@ plan-file bytes h =
     let e = in_front bytes in
     let says = told (length bytes) (zeros 3976 ++ bytes) in
     planned (elf_file bytes) bytes h (length-file bytes) (behind-file bytes)
-        (rw (e, says.segment, number-le 8 (length bytes) h) refl) (rw e says.magic) (rw e says.entry)
-        (rw e says.headers_at) (rw e says.headers)
+    (rw (e, says.segment, number-le 8 (length bytes) h) refl) (rw e says.magic) (rw e says.entry)
+    (rw e says.headers_at) (rw e says.headers)
 
 -- ---- the parts as they are written
 

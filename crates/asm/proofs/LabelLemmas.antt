@@ -61,12 +61,12 @@ pub noted : {S : Type 0} (old new : HashMap (Bor (List ℕ)) ℕ S) (label : Lis
     → UpdatesBy (λ x y. bytes_eq x.now y.now) (λ k. bytes_eq label k.now) old new (Some i)
     → is_some (get_by (λ k. bytes_eq label k.now) old) ≡ false → (name : List ℕ)
     → get_by (λ k. bytes_eq name k.now) new
-        ≡ option_or (get_by (λ k. bytes_eq name k.now) old) (if bytes_eq label name then Some i else None)
+    ≡ option_or (get_by (λ k. bytes_eq name k.now) old) (if bytes_eq label name then Some i else None)
 noted old new label i updates absent name =
     hash_map_updates_str label old new (Some i) updates name
     ∙ noted_at (bytes_eq label name) (get_by (λ k. bytes_eq name k.now) old) i
     (λ t. is_none_of _ (ap (λ other. is_some (get_by (λ k. bytes_eq other k.now) old))
-        (sym ((bytes_eq-Decides label name).0 t)) ∙ absent))
+    (sym ((bytes_eq-Decides label name).0 t)) ∙ absent))
 
 -- what a slice tells of a place, as its items are seen
 pub shown : {X Y : Type 0} (f : X → Y) (xs : List X) (i : ℕ) (r : Option (Bor X))

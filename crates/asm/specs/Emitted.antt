@@ -37,7 +37,7 @@ behind bytes (Err fault) = Err fault
 abbrev pub numbered_bytes : ℕ → Partial → ℤ → Result (List ℕ) AsmKind
 numbered_bytes address partial n =
     if lies_in (below_of partial) (above_of partial) n
-        then the.code address (partial_instr partial (field (bits_of partial) n) ∷ []) else Err kind.Range
+    then the.code address (partial_instr partial (field (bits_of partial) n) ∷ []) else Err kind.Range
 
 -- a number as so many bytes, signed or unsigned
 abbrev pub data_bytes : ℕ → ℤ → Result (List ℕ) AsmKind

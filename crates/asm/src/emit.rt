@@ -68,7 +68,7 @@ fn numbered_code<'a>(
 // An instruction that goes so far.
 fn leap_code<'a>(address: u128, leap: Leap, distance: &Distance) -> Result<Output<'a>, AsmKind>
     ensures { coded_seen result
-            ≡ the.jump_code address (leap_bits leap) (leap_instr leap) (Some (distance_seen distance.now)) }
+        ≡ the.jump_code address (leap_bits leap) (leap_instr leap) (Some (distance_seen distance.now)) }
 {
     match leap {
         Leap::Branch(op, rs1, rs2) => {
@@ -269,7 +269,7 @@ fn put(out: &mut Vec<u8>, output: Output) -> Result<(), AllocError>
 #[tactic(auto, unfolding(unixmodel::specs::Assembly::codes_from))]
 pub fn codes(alloc: Global, placed: &[Placed]) -> Result<Vec<u8>, AsmFault>
     ensures ok { IfOk result
-            (λ out. the.codes_from (map placed_seen placed.now) (map placed_seen placed.now) ≡ Ok out.items) }
+        (λ out. the.codes_from (map placed_seen placed.now) (map placed_seen placed.now) ≡ Ok out.items) }
     ensures err { IfErr result (Tells (the.codes_from (map placed_seen placed.now) (map placed_seen placed.now))) }
 {
     let labels = labels(alloc, placed)?;

@@ -48,7 +48,7 @@ pub fn definition<'p, 'a>(
 ) -> Option<&'p Placed<'a>>
     requires { Finds labels.now (map placed_seen placed.now) }
     ensures { option_map (λ first. placed_seen first.now) result
-            ≡ the.definition (map placed_seen placed.now) name.now }
+        ≡ the.definition (map placed_seen placed.now) name.now }
 {
     let index = labels.get(name)?;
     placed.get(*index)

@@ -13,7 +13,7 @@ pub seen_more : {X Y Z : Type 0} (f : X → Z) (g : Y → Z) (done new : List X)
     → map f new ≡ map g (take (i + 1) ys)
 seen_more f g done new x ys i d before pushed less same =
     ap (map f) pushed ∙ map_push f done x ∙ ap (λ zs. zs ++ f x ∷ []) before
-        ∙ ap (λ z. map g (take i ys) ++ z ∷ []) same ∙ sym (map_more g ys i d less)
+    ∙ ap (λ z. map g (take i ys) ++ z ∷ []) same ∙ sym (map_more g ys i d less)
 
 option_map_twice : {X Y Z : Type 0} (f : X → Y) (g : Y → Z) (o : Option X)
     → option_map g (option_map f o) ≡ option_map (λ x. g (f x)) o
@@ -24,11 +24,11 @@ option_map_twice f g (Some x) = refl
 pub characters_more : {X : Type 0} (seen : X → Symbol) (part : List X) (i : ℕ) (x : X) (c : ℕ) (all : Option (List ℕ))
     (done new : List ℕ) → all ≡ option_map (λ rest. done ++ rest) (the.characters (map seen (drop i part)))
     → new ≡ done ++ c ∷ [] → i < length part → x ≡ get_or part i x → seen x ≡ Plain c
-        → all ≡ option_map (λ rest. new ++ rest) (the.characters (map seen (drop (i + 1) part)))
+    → all ≡ option_map (λ rest. new ++ rest) (the.characters (map seen (drop (i + 1) part)))
 characters_more seen part i x c all done new before pushed less at plain =
     let rest : List Symbol = map seen (drop (i + 1) part) in
     let cut : drop i part ≡ x ∷ drop (i + 1) part = drop-cons part i x less
-            ∙ ap₂ (λ y n. y ∷ drop n part) (sym at) (sym (add-one i)) in
+    ∙ ap₂ (λ y n. y ∷ drop n part) (sym at) (sym (add-one i)) in
     before
     ∙ ap (λ p. option_map (λ r. done ++ r) (the.characters (map seen p))) cut
     ∙ ap (λ s. option_map (λ r. done ++ r) (the.characters (s ∷ rest))) plain

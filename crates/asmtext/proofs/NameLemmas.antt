@@ -10,16 +10,16 @@ pub place_is : (names : List (List ℕ)) (name : List ℕ) (r : ℕ) → r < len
     → bytes_eq (slice_index_or names r []) name ≡ true → place_among names name ≡ Some r
 place_is names name r h before here =
     let e : position_or_len (λ other. bytes_eq other name) names ≡ r =
-            prefix_len_is (λ other. not (bytes_eq other name)) names r [] (omega arith) (λ k b. ap not (before k b))
-            (λ _. ap not here) in
+    prefix_len_is (λ other. not (bytes_eq other name)) names r [] (omega arith) (λ k b. ap not (before k b))
+    (λ _. ap not here) in
     ap (λ n. cond (nat_lt n (length names)) (Some n) None) e ∙ grind (arith, nat_tests)
 
 pub place_none : (names : List (List ℕ)) (name : List ℕ)
     → ((k : ℕ) → k < length names → bytes_eq (slice_index_or names k []) name ≡ false) → place_among names name ≡ None
 place_none names name before =
     let e : position_or_len (λ other. bytes_eq other name) names ≡ length names =
-            prefix_len_is (λ other. not (bytes_eq other name)) names (length names) [] (omega arith)
-            (λ k b. ap not (before k b)) (λ h. absurd (omega arith)) in
+    prefix_len_is (λ other. not (bytes_eq other name)) names (length names) [] (omega arith)
+    (λ k b. ap not (before k b)) (λ h. absurd (omega arith)) in
     ap (λ n. cond (nat_lt n (length names)) (Some n) None) e ∙ grind (arith, nat_tests)
 
 pub lengths : (length register_names ≡ 32) × (length register_numbers ≡ 32)

@@ -24,7 +24,7 @@ pub slice_split-map : {X Y : Type 0} (p : Y → Bool) (f : X → Y) (xs : List X
 slice_split-map p f [] = refl
 slice_split-map p f (x ∷ xs) =
     ap (λ r. cond (p (f x)) ([] ∷ r) (onto_first (f x) r)) (slice_split-map p f xs)
-        ∙ split_step f x (p (f x)) (slice_split (λ y. p (f y)) xs)
+    ∙ split_step f x (p (f x)) (slice_split (λ y. p (f y)) xs)
 
 pub reverse-map : {X Y : Type 0} (f : X → Y) (xs : List X) → reverse (map f xs) ≡ map f (reverse xs)
 reverse-map f [] = refl
@@ -50,10 +50,10 @@ pub trimmed-map : (part : List Symbol)
     (drop (prefix_len is_blank_symbol part) part)) (drop (prefix_len is_blank_symbol part) part))
 trimmed-map part =
     ap (λ n. let front = drop n (map symbol_of part)
-        in take (length front - suffix_len (the.is_plain the.is_blank) front) front)
-        (prefix_len-map (the.is_plain the.is_blank) symbol_of part)
+    in take (length front - suffix_len (the.is_plain the.is_blank) front) front)
+    (prefix_len-map (the.is_plain the.is_blank) symbol_of part)
     ∙ ap (λ front. take (length front - suffix_len (the.is_plain the.is_blank) front) front)
-        (drop-map symbol_of (prefix_len is_blank_symbol part) part)
+    (drop-map symbol_of (prefix_len is_blank_symbol part) part)
     ∙ trimmed_end (the.is_plain the.is_blank) symbol_of (drop (prefix_len is_blank_symbol part) part)
 
 blank_test : (symbols : List Symbol)
@@ -79,7 +79,7 @@ unfolding the.parts_of
 some_parts symbols split some cut =
     sym (map-map the.trimmed part_seen split)
     ∙ ap (map the.trimmed) (sym (map-map (map symbol_of) (λ (part : Bor (List Symbol)). part.now) split)
-        ∙ ap (map (map symbol_of)) cut ∙ sym (slice_split-map (the.is_plain (λ c. c == 0x2c)) symbol_of symbols))
+    ∙ ap (map (map symbol_of)) cut ∙ sym (slice_split-map (the.is_plain (λ c. c == 0x2c)) symbol_of symbols))
     ∙ sym (ap (λ b. if b then []
-        else map the.trimmed (slice_split (the.is_plain (λ c. c == 0x2c)) (map symbol_of symbols)))
+    else map the.trimmed (slice_split (the.is_plain (λ c. c == 0x2c)) (map symbol_of symbols)))
     (blank_test symbols ∙ ne_eqb (prefix_len is_blank_symbol symbols) (length symbols) some))

@@ -32,7 +32,7 @@ fn registers(
     parts: &[&[Symbol]],
 ) -> Result<Option<Statement>, AllocError>
     ensures { IfOk result (λ found. option_map statement_of found
-            ≡ the.registers (register_instr op) (parts_seen parts.now)) }
+        ≡ the.registers (register_instr op) (parts_seen parts.now)) }
 {
     let [rd, rs1, rs2] = parts else {
         return Ok(None);
@@ -75,7 +75,7 @@ fn numbered(
 // op r, n(base)
 fn based(alloc: Global, op: BaseOp, parts: &[&[Symbol]]) -> Result<Option<Statement>, AllocError>
     ensures { IfOk result (λ found. option_map statement_of found
-            ≡ the.memorial (based_instr op) (parts_seen parts.now)) }
+        ≡ the.memorial (based_instr op) (parts_seen parts.now)) }
 {
     let [r, place] = parts else {
         return Ok(None);
@@ -108,7 +108,7 @@ fn upper(alloc: Global, op: UpperOp, parts: &[&[Symbol]]) -> Result<Option<State
 // op rs1, rs2, target
 fn branch(alloc: Global, op: BranchOp, parts: &[&[Symbol]]) -> Result<Option<Statement>, AllocError>
     ensures { IfOk result (λ found. option_map statement_of found
-            ≡ the.branch (instr.Branch op) (parts_seen parts.now)) }
+        ≡ the.branch (instr.Branch op) (parts_seen parts.now)) }
 {
     let [rs1, rs2, to] = parts else {
         return Ok(None);
@@ -240,7 +240,7 @@ fn text(alloc: Global, parts: &[&[Symbol]]) -> Result<Option<Statement>, AllocEr
 // .zero n
 fn zeros(alloc: Global, parts: &[&[Symbol]]) -> Result<Option<Statement>, AllocError>
     ensures { IfOk result (λ found. option_map statement_of found
-            ≡ the.counted the.Statement.Zeros (parts_seen parts.now)) }
+        ≡ the.counted the.Statement.Zeros (parts_seen parts.now)) }
 {
     let [n] = parts else {
         return Ok(None);
@@ -254,7 +254,7 @@ fn zeros(alloc: Global, parts: &[&[Symbol]]) -> Result<Option<Statement>, AllocE
 // .pad n
 fn padding(alloc: Global, parts: &[&[Symbol]]) -> Result<Option<Statement>, AllocError>
     ensures { IfOk result (λ found. option_map statement_of found
-            ≡ the.counted the.Statement.Padding (parts_seen parts.now)) }
+        ≡ the.counted the.Statement.Padding (parts_seen parts.now)) }
 {
     let [n] = parts else {
         return Ok(None);

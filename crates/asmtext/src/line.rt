@@ -23,7 +23,7 @@ fn with_symbols(
     symbols: &[Symbol],
 ) -> Result<Result<Statement, AsmKind>, AllocError>
     ensures { IfOk result (λ says. said_seen says
-            ≡ the.with_form (parts_of (map symbol_of symbols.now)) (the.form_called word.now)) }
+        ≡ the.with_form (parts_of (map symbol_of symbols.now)) (the.form_called word.now)) }
 {
     let Some(word) = word_called(word) else {
         return Ok(Err(AsmKind::Mnemonic));

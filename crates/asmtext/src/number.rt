@@ -65,7 +65,7 @@ fn signed(
     digits: &[u8],
 ) -> Result<Option<Number>, AllocError>
     ensures { IfOk result (λ found. option_map number_of found
-            ≡ option_map (signed_of negative) (numeral_of radix digits.now)) }
+        ≡ option_map (signed_of negative) (numeral_of radix digits.now)) }
 {
     if !is_numeral(radix.base(), digits) {
         return Ok(None);
@@ -107,7 +107,7 @@ fn digit_of(c: u8) -> u32
 fn magnitude(radix: u32, digits: &[u8], most: u64) -> Option<u64>
     requires { (2 ≤ radix) × (radix ≤ 16) }
     ensures { result ≡ (if nat_le (digits_value radix digits.now) most then Some (digits_value radix digits.now)
-            else None) }
+        else None) }
 {
     let mut value = 0u64;
     for digit in digits {

@@ -52,7 +52,7 @@ fn split_at_parenthesis(text: &[u8]) -> (&[u8], &[u8])
 // The register before a closing parenthesis.
 fn closed_register(text: &[u8]) -> Option<Reg>
     ensures { result ≡ (if the.is_closed text.now then the.register_called (take (length text.now - 1) text.now)
-            else None) }
+        else None) }
 {
     match text {
         [name @ .., b')'] => register_called(name),

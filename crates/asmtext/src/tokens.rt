@@ -35,7 +35,7 @@ struct Reader {
 // The byte that stands for an escape.
 fn escaped(c: u8) -> Option<u8>
     ensures { MatchOption result ((bytes : List ℕ) → the.after_escape bytes c ≡ the.Mode.Lost)
-            (λ byte. Escapes c byte) }
+        (λ byte. Escapes c byte) }
 {
     match c {
         b'n' => Some(b'\n'),
@@ -104,7 +104,7 @@ impl Reader {
 #[tactic(auto, unfolding(unixmodel::specs::Tokens::symbols_in))]
 pub fn symbols_in(alloc: Global, line: &[u8]) -> Result<Option<Vec<Symbol>>, AllocError>
     ensures { IfOk result (λ found. option_map (λ symbols. map symbol_of symbols.items) found
-            ≡ the.symbols_in line.now) }
+        ≡ the.symbols_in line.now) }
 {
     let mut reader = Reader::new(alloc);
     for c in line {

@@ -28,8 +28,11 @@ module _ (p : ℕ → Bool) where
       ⊎ ((find p (range_with_len a n) ≡ None) × ((k : ℕ) → a ≤ k → k < a + n → p k ≡ false))
   looked zero a = inr (refl, λ k low high. absurd (omega arith))
   looked (suc n) a = elim (cases_Bool (p a)) [
-    | inl e ↦ inl (a, cond-true (p a) (Some a) (find p (range_with_len (a + 1) n)) e,
-        record { low = omega arith; high = omega arith; here = e; before = λ k l m. absurd (omega arith) })
+    | inl e ↦ inl (
+      a,
+      cond-true (p a) (Some a) (find p (range_with_len (a + 1) n)) e,
+      record { low = omega arith; high = omega arith; here = e; before = λ k l m. absurd (omega arith) },
+    )
     | inr e ↦ (elim (looked n (a + 1)) [
       | inl (i, is, first) ↦ inl (
         i,
@@ -41,8 +44,11 @@ module _ (p : ℕ → Bool) where
           before = λ k l m. elim (cases_eq k a) [ inl s ↦ ap p s ∙ e | inr t ↦ first.before k (omega arith) m ];
         },
       )
-      | inr (is, none) ↦ inr (cond-false (p a) (Some a) (find p (range_with_len (a + 1) n)) e
-          ∙ is, λ k l m. elim (cases_eq k a) [ inl s ↦ ap p s ∙ e | inr t ↦ none k (omega arith) (omega arith) ])
+      | inr (is, none) ↦ inr (
+        cond-false (p a) (Some a) (find p (range_with_len (a + 1) n)) e
+            ∙ is,
+        λ k l m. elim (cases_eq k a) [ inl s ↦ ap p s ∙ e | inr t ↦ none k (omega arith) (omega arith) ],
+      )
     ])
   ]
 
@@ -52,9 +58,11 @@ module _ (p : ℕ → Bool) where
     | inr (is, none) ↦ absurd (both_ways (p i) (none i low high) here)
     | inl (j, is, first) ↦ (elim (cases_order i j) [
       | inl e ↦ is ∙ ap Some (sym e)
-      | inr apart ↦ absurd (elim apart
-          [ inl l ↦ both_ways (p i) (first.before i low l) here | inr l ↦ both_ways (p j) (before j first.low l)
-          first.here ])
+      | inr apart ↦ absurd (elim apart [
+        | inl l ↦ both_ways (p i) (first.before i low l) here
+        | inr l ↦ both_ways (p j) (before j first.low l)
+            first.here
+      ])
     ])
   ]
 
@@ -64,9 +72,11 @@ module _ (p : ℕ → Bool) where
 
   -- and back
   first_found : (n a i : ℕ) → find p (range_with_len a n) ≡ Some i → IsFirst n a i
-  first_found n a i h = elim (looked n a)
-      [ inl (j, is, first) ↦ subst (IsFirst n a) (same_Some j i (sym is ∙ h)) first | inr (is, none) ↦ absurd
-      (none-some i (sym is ∙ h)) ]
+  first_found n a i h = elim (looked n a) [
+    | inl (j, is, first) ↦ subst (IsFirst n a) (same_Some j i (sym is ∙ h)) first
+    | inr (is, none) ↦ absurd
+        (none-some i (sym is ∙ h))
+  ]
 
   none_found : (n a : ℕ) → find p (range_with_len a n) ≡ None → (k : ℕ) → a ≤ k → k < a + n → p k ≡ false
   none_found n a h = elim (looked n a)
@@ -90,7 +100,7 @@ module _ (block : List ℕ) where
         → ((k : ℕ) → from ≤ k → k < i → bit_in block k ≡ 1) → lowest_clear block from to ≡ Some i
     lowest_clear-at i low high clear before =
         find_first (λ k. bit_in block k == 0) (to - from) from i low (omega arith) (eq-eqb (bit_in block i) 0 clear)
-            (λ k l h. set_fails k (before k l h))
+        (λ k l h. set_fails k (before k l h))
 
     pub lowest_clear-none : ((k : ℕ) → from ≤ k → k < to → bit_in block k ≡ 1) → lowest_clear block from to ≡ None
     lowest_clear-none all = find_none (λ k. bit_in block k == 0) (to - from) from
@@ -148,7 +158,7 @@ module _ (bytes : List ℕ) (room : 64 ≤ length bytes) where
   not_full_at some h =
       let first : 0 + run ≡ run = omega arith in
       let other = ap (λ k. is_other (get_or bytes k 0)) (sym first)
-              ∙ run_in_chunk_stops is_other bytes 0 64 (run) 0 room (counted some) h in
+      ∙ run_in_chunk_stops is_other bytes 0 64 (run) 0 room (counted some) h in
       eqb-false (get_or bytes (run) 0) 255 (not-true (eqb (get_or bytes (run) 0) 255) other)
 
 -- so many full bytes stand from byte i / 8 on
@@ -173,7 +183,7 @@ module _ (g : Geometry) {blocks read : Blocks} {block : List ℕ} {start : ℕ} 
       let q : bitmap_start_of g.inodes + (base + i) / 8192 ≡ start + b / 8192 = omega arith in
       let r : (base + i) % 8192 ≡ i = omega arith in
       ap (λ k. bit_in (block_at blocks k) ((base + i) % 8192)) q ∙ ap (bit_in (block_at blocks (start + b / 8192))) r
-          ∙ ap (λ c. bit_in c i) (sym (told ∙ ap (λ d. block_at d (start + b / 8192)) same))
+      ∙ ap (λ c. bit_in c i) (sym (told ∙ ap (λ d. block_at d (start + b / 8192)) same))
 
   module _ (from : ℕ) (before : (c : ℕ) → from ≤ c → c < b → mark g blocks c ≡ 1) where
     set_up_to : (to : ℕ) → to ≤ 8192 → ((k : ℕ) → b % 8192 ≤ k → k < to → bit_in block k ≡ 1) → (c : ℕ) → from ≤ c
@@ -230,12 +240,12 @@ module _ {blocks read : Blocks} {block : List ℕ} (n : ℕ) (told : block ≡ b
     | inr more ↦ λ z.
         let e : start + (m - start) ≡ m = omega arith in
         here (m - start) (omega arith) (omega arith)
-            (sym (kind_here (m - start) (omega arith)) ∙ ap (kind_at blocks) e ∙ z)
+        (sym (kind_here (m - start) (omega arith)) ∙ ap (kind_at blocks) e ∙ z)
   ]
 
   pub lowest_here : (g : Geometry) (i : ℕ) → i < 16 → n % 16 ≤ i → 1 ≤ n → start + i < g.inodes → kind_in block i ≡ 0
       → ((m : ℕ) → 1 ≤ m → m < n → kind_at blocks m ≢ 0) → ((k : ℕ) → n % 16 ≤ k → k < i → kind_in block k ≢ 0)
-          → IsLowestUnused g blocks (start + i)
+      → IsLowestUnused g blocks (start + i)
   lowest_here g i within from low high unused before here = record {
     low = omega arith;
     high = high;
@@ -277,9 +287,9 @@ bit_in-put block i j v e h l apart others = elim (cases_eq (j / 8) (i / 8)) [
 pub SetsBit-byte : {g : Geometry} {old read new : Blocks} {start b : ℕ} {bits : List ℕ} {bit : ℕ} (v : ℕ)
     → HasParts g old → start ≡ bitmap_start_of g.inodes → b < g.size
     → read ≡ old → bits ≡ part (b % 8192 / 8) 1 (block_at old (start + b / 8192)) → bit_at v (b % 8) ≡ bit
-        → ((k : ℕ) → k < 8 → k ≢ b % 8 → bit_at v k ≡ bit_at (get_or bits 0 0) k)
+    → ((k : ℕ) → k < 8 → k ≢ b % 8 → bit_at v k ≡ bit_at (get_or bits 0 0) k)
     → new ≡ set read (start + b / 8192) (splice (b % 8192 / 8) (v ∷ []) (block_at read (start + b / 8192)))
-        → SetsBit g old new b bit
+    → SetsBit g old new b bit
 SetsBit-byte {g} {old} {read} {new} {start} {b} {bits} v parts begins high same bits_are here others e =
     let at = start + b / 8192 in
     let place = b % 8192 / 8 in
@@ -288,10 +298,10 @@ SetsBit-byte {g} {old} {read} {new} {start} {b} {bits} v parts begins high same 
     let within : at < length old = omega (arith, parts.count, parts.size_high, parts.room) in
     let whole = parts.sizes at within in
     let byte : get_or bits 0 0 ≡ get_or block place 0 = ap (λ l. get_or l 0 0) bits_are
-            ∙ get_or-part place 1 block 0 0 (omega arith) ∙ ap (λ j. get_or block j 0) (omega arith) in
+    ∙ get_or-part place 1 block 0 0 (omega arith) ∙ ap (λ j. get_or block j 0) (omega arith) in
     let puts = PutsBlock-write old new
-            at place (v ∷ []) parts.sizes within (omega arith)
-            (e ∙ ap (λ x. set x at (splice place (v ∷ []) (block_at x at))) same) in
+    at place (v ∷ []) parts.sizes within (omega arith)
+    (e ∙ ap (λ x. set x at (splice place (v ∷ []) (block_at x at))) same) in
     record {
       parts = HasParts-kept parts puts.count puts.sizes;
       here =
@@ -303,7 +313,7 @@ SetsBit-byte {g} {old} {read} {new} {start} {b} {bits} v parts begins high same 
             let there : bitmap_start_of g.inodes + c / 8192 ≡ at = omega arith in
             ap (λ x. bit_in (block_at new x) (c % 8192)) there ∙ ap (λ x. bit_in x (c % 8192)) puts.here
             ∙ bit_in-put block (b % 8192) (c % 8192) v whole (omega arith) (omega arith) (omega arith)
-                (λ k l other. others k l (omega arith) ∙ ap (λ x. bit_at x k) byte)
+            (λ k l other. others k l (omega arith) ∙ ap (λ x. bit_at x k) byte)
             ∙ ap (λ x. bit_in (block_at old x) (c % 8192)) (sym there)
         | inr other ↦ ap (λ x. bit_in x (c % 8192)) (puts.rest (bitmap_start_of g.inodes + c / 8192) (omega arith))
       ];

@@ -37,18 +37,18 @@ module _ {g : Geometry} {old new : Blocks} {b : ℕ} where
     data_bits-set : data_bits g new ≡ set (data_bits g old) spot bit
     data_bits-set =
         set_from 0 _ _ _ _ (omega (arith, length-data_bits g old))
-            (length-data_bits g new ∙ sym (length-data_bits g old))
+        (length-data_bits g new ∙ sym (length-data_bits g old))
         (get_or-data_bits g new spot (omega arith) ∙ ap (mark g new) spot_is ∙ sets.here) (λ i l other.
         let within : i < g.size - data_from g = omega (arith, length-data_bits g old) in
         get_or-data_bits g new i within ∙ sets.others (data_from g + i) (omega arith) (omega arith)
-            ∙ sym (get_or-data_bits g old i within))
+        ∙ sym (get_or-data_bits g old i within))
 
     -- the bit that was there and the one that is there balance the counts
     free_blocks-set : free_blocks g new + cond (mark g old b == 0) 1 0 ≡ free_blocks g old + cond (bit == 0) 1 0
     free_blocks-set =
         ap (λ xs. count_by (λ x. x == 0) xs + cond (mark g old b == 0) 1 0) data_bits-set
         ∙ ap (λ x. count_by (λ y. y == 0) (set (data_bits g old) spot bit) + cond (x == 0) 1 0)
-            (sym (get_or-data_bits g old spot (omega arith) ∙ ap (mark g old) spot_is))
+        (sym (get_or-data_bits g old spot (omega arith) ∙ ap (mark g old) spot_is))
         ∙ sum_by-set (λ x. cond (x == 0) 1 0) (data_bits g old) spot bit 0 (omega (arith, length-data_bits g old))
 
   pub free_blocks-take : IsFree g old b → SetsBit g old new b 1 → free_blocks g new + 1 ≡ free_blocks g old
@@ -75,8 +75,11 @@ zeros-skip xs zero zero low high ones = refl
 zeros-skip xs (suc i) zero low high ones = absurd (omega arith)
 zeros-skip [] i (suc j) low high ones = absurd (omega arith)
 zeros-skip (x ∷ xs) zero (suc j) low high ones =
-    omega (arith, zeros-first x 1 xs (ones 0 (omega arith) (omega arith)),
-        zeros-skip xs 0 j (omega arith) (omega arith) (λ k l h. ones (suc k) (omega arith) (omega arith)))
+    omega (
+      arith,
+      zeros-first x 1 xs (ones 0 (omega arith) (omega arith)),
+      zeros-skip xs 0 j (omega arith) (omega arith) (λ k l h. ones (suc k) (omega arith) (omega arith)),
+    )
 zeros-skip (x ∷ xs) (suc i) (suc j) low high ones =
     zeros-skip xs i j (omega arith) (omega arith) (λ k l h. ones (suc k) (omega arith) (omega arith))
 
@@ -90,7 +93,7 @@ free_blocks-none g blocks all =
     zeros-skip (data_bits g blocks) 0 (length (data_bits g blocks)) (omega arith) (omega arith) (λ i _ l.
     let within : i < g.size - data_from g = omega (arith, length-data_bits g blocks) in
     get_or-data_bits g blocks i within ∙ all (data_from g + i) (omega arith) (omega arith))
-        ∙ zeros-past (data_bits g blocks)
+    ∙ zeros-past (data_bits g blocks)
 
 -- the same bits
 pub free_blocks-same : (g : Geometry) (old new : Blocks) → ((b : ℕ) → b < g.size → mark g new b ≡ mark g old b)
@@ -111,8 +114,10 @@ module _ {g : Geometry} {old : Blocks} {start : ℕ} (begins : start ≡ data_fr
   pub found_takes : {mid new : Blocks} {b : ℕ} → IsFirstFree g old start b → mid ≡ old → SetsBit g mid new b 1
       → TakesLowest g old new b
   found_takes {new = new} {b} first same sets = record {
-    lowest = record { free = first.free;
-        lowest = λ c less free. omega (arith, first.before c (omega (arith, free.low)) less, free.clear) };
+    lowest = record {
+      free = first.free;
+      lowest = λ c less free. omega (arith, first.before c (omega (arith, free.low)) less, free.clear);
+    };
     takes = subst (λ x. SetsBit g x new b 1) same sets;
   }
 
@@ -138,7 +143,7 @@ free_from-first {g} {blocks} {from} {b} low first =
     zeros-skip (data_bits g blocks) (from - start) (b - start) (omega arith) (omega (arith, length-data_bits g blocks))
     (λ k l h. get_or-data_bits g blocks k (omega arith) ∙ first.before (start + k) (omega arith) (omega arith))
     ∙ zeros-here (data_bits g blocks) (b - start) (omega (arith, length-data_bits g blocks))
-        (get_or-data_bits g blocks (b - start) (omega arith) ∙ ap (mark g blocks) here ∙ first.free.clear)
+    (get_or-data_bits g blocks (b - start) (omega arith) ∙ ap (mark g blocks) here ∙ first.free.clear)
     ∙ ap (λ k. 1 + zeros_in (drop k (data_bits g blocks))) next
 
 -- none is found
@@ -147,9 +152,9 @@ pub free_from-none : (g : Geometry) (blocks : Blocks) (from : ℕ) → data_from
 free_from-none g blocks from low short full =
     let start = data_from g in
     zeros-skip (data_bits g blocks) (from - start) (length (data_bits g blocks))
-        (omega (arith, length-data_bits g blocks)) (omega arith)
+    (omega (arith, length-data_bits g blocks)) (omega arith)
     (λ k l h. get_or-data_bits g blocks k (omega (arith, length-data_bits g blocks))
-        ∙ full (start + k) (omega arith) (omega (arith, length-data_bits g blocks)))
+    ∙ full (start + k) (omega arith) (omega (arith, length-data_bits g blocks)))
     ∙ zeros-past (data_bits g blocks)
 
 -- ---- the record of an inode without blocks is written
@@ -176,7 +181,7 @@ emptied_fits fits = record {
 module _ {g : Geometry} {old new : Blocks} {n : ℕ} {inode : DiskInode} (sound : IsSound g old) (low : 1 ≤ n)
     (high : n < g.inodes) (unused : (j : ℕ) → IsUsed old g.inodes n j → ⊥)
     (kind : inode.kind ≤ 3) (empty : inode.size ≡ 0) (zero : (k : ℕ) → get_or inode.addresses k 0 ≡ 0)
-        (writes : WritesInode g old new n inode) where
+    (writes : WritesInode g old new n inode) where
   abbrev grows : Grows g old old n inode
   grows = Grows-empty g old n inode sound unused kind empty zero
 
@@ -203,20 +208,20 @@ pub recorded_fresh : {g : Geometry} {old new : Blocks} {n links : ℕ} (kind : K
     → WritesInode g old new n (fresh_inode kind links) → SetsNode g old new n (fresh_node kind links)
 recorded_fresh Free sound unused writes =
     recorded_none sound unused.low unused.high (λ j u. u.inode.kind unused.unused) (omega arith) refl (zero_at 13)
-        writes refl
+    writes refl
 recorded_fresh Directory sound unused writes =
     recorded_some sound unused.low unused.high (λ j u. u.inode.kind unused.unused) (omega arith) refl (zero_at 13)
-        writes (λ z. omega arith)
+    writes (λ z. omega arith)
 recorded_fresh File sound unused writes =
     recorded_some sound unused.low unused.high (λ j u. u.inode.kind unused.unused) (omega arith) refl (zero_at 13)
-        writes (λ z. omega arith)
+    writes (λ z. omega arith)
 recorded_fresh (Device major minor) sound unused writes =
     recorded_some sound unused.low unused.high (λ j u. u.inode.kind unused.unused) (omega arith) refl (zero_at 13)
-        writes (λ z. omega arith)
+    writes (λ z. omega arith)
 
 -- an inode without bytes is given back
 pub recorded_given : {g : Geometry} {old new : Blocks} {n : ℕ} → IsSound g old → IsInode old g.inodes n
     → (inode_at old n).size ≡ 0 → WritesInode g old new n (fresh_inode Free 0) → SetsNode g old new n None
 recorded_given sound inode empty writes =
     recorded_none sound inode.low inode.high (λ j u. asks_none _ j empty u.slot) (omega arith) refl (zero_at 13) writes
-        refl
+    refl

@@ -74,7 +74,7 @@ pub fn has_blocks<D: BlockDev>(
 ) -> Result<bool, DeviceFault>
     requires { HasParts geometry disk.old.blocks }
     ensures { Reads D.identity disk.old disk.new result
-            (λ enough. enough ≡ nat_le wanted (free_blocks geometry disk.old.blocks)) }
+        (λ enough. enough ≡ nat_le wanted (free_blocks geometry disk.old.blocks)) }
 {
     let mut from = geometry.data_start();
     let mut found = 0;

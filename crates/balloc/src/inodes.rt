@@ -41,7 +41,7 @@ pub fn write_inode<D: BlockDev>(
     requires high { number < geometry.inodes }
     requires fits { Fits inode.now }
     ensures { Steps D.identity disk.old disk.new result
-            (λ _. WritesInode geometry disk.old.blocks disk.new.blocks number inode.now) }
+        (λ _. WritesInode geometry disk.old.blocks disk.new.blocks number inode.now) }
 {
     let place = DiskInode::at(number);
     disk.write(place.block, place.offset, &inode.to_bytes())
@@ -57,7 +57,7 @@ pub fn take_inode<D: BlockDev>(
 ) -> Result<Option<usize>, DeviceFault>
     requires sound { IsSound geometry disk.old.blocks }
     ensures { Steps D.identity disk.old disk.new result
-            (TakesInode geometry disk.old.blocks disk.new.blocks kind links) }
+        (TakesInode geometry disk.old.blocks disk.new.blocks kind links) }
 {
     let Some(number) = find_unused(disk, geometry)? else {
         return Ok(None);
@@ -92,7 +92,7 @@ pub fn give_inode<D: BlockDev>(
     requires inode { IsInode disk.old.blocks geometry.inodes number }
     requires empty { (inode_at disk.old.blocks number).size ≡ 0 }
     ensures { Steps D.identity disk.old disk.new result
-            (λ _. SetsNode geometry disk.old.blocks disk.new.blocks number None) }
+        (λ _. SetsNode geometry disk.old.blocks disk.new.blocks number None) }
 {
     write_inode(disk, geometry, number, &DiskInode::new(Kind::Free, 0))
 }
@@ -123,7 +123,7 @@ fn first_unused(block: &Block, from: usize, to: usize) -> Option<usize>
     requires { to ≤ 16 }
     ensures some { IfSome result (λ i. (from ≤ i) × (i < to) × ((inode_of (part (64 * i) 64 block.now)).kind ≡ 0)) }
     ensures lowest { IfSome result
-            (λ i. (k : ℕ) → from ≤ k → k < i → (inode_of (part (64 * k) 64 block.now)).kind ≢ 0) }
+        (λ i. (k : ℕ) → from ≤ k → k < i → (inode_of (part (64 * k) 64 block.now)).kind ≢ 0) }
     ensures none { IfNone result ((k : ℕ) → from ≤ k → k < to → (inode_of (part (64 * k) 64 block.now)).kind ≢ 0) }
 {
     for i in from..to {

@@ -25,15 +25,19 @@ get_or-part p m xs j d h = get_or-take m (drop p xs) j d h ∙ get_or-drop p xs 
 pub length-splice : {X : Type 0} (at : ℕ) (new old : List X) → at + length new ≤ length old
     → length (splice at new old) ≡ length old
 length-splice at new old h =
-    omega (arith, length-append (take at old) (new ++ drop (at + length new) old),
-        length-append new (drop (at + length new) old), length-drop (at + length new) old,
-        length-take-le at old (omega arith))
+    omega (
+      arith,
+      length-append (take at old) (new ++ drop (at + length new) old),
+      length-append new (drop (at + length new) old),
+      length-drop (at + length new) old,
+      length-take-le at old (omega arith),
+    )
 
 pub get_or-splice_before : {X : Type 0} (at : ℕ) (new old : List X) (j : ℕ) (d : X) → at + length new ≤ length old
     → j < at → get_or (splice at new old) j d ≡ get_or old j d
 get_or-splice_before at new old j d h k =
     get_or_append_left (take at old) (new ++ drop (at + length new) old) d j
-        (omega (arith, length-take-le at old (omega arith)))
+    (omega (arith, length-take-le at old (omega arith)))
     ∙ get_or-take at old j d k
 
 pub get_or-splice_inside : {X : Type 0} (at : ℕ) (new old : List X) (j : ℕ) (d : X) → at + length new ≤ length old
@@ -47,7 +51,7 @@ pub get_or-splice_after : {X : Type 0} (at : ℕ) (new old : List X) (j : ℕ) (
 get_or-splice_after at new old j d h k =
     let e : at + length new + (j - at - length new) ≡ j = omega arith in
     get_or-append_right (take at old) (new ++ drop (at + length new) old)
-        at j d (length-take-le at old (omega arith)) (omega arith)
+    at j d (length-take-le at old (omega arith)) (omega arith)
     ∙ get_or-append_right new (drop (at + length new) old) (length new) (j - at) d (omega arith) (omega arith)
     ∙ get_or-drop (at + length new) old (j - at - length new) d
     ∙ ap (λ i. get_or old i d) e
@@ -59,11 +63,14 @@ part-splice_apart p m at new old h k apart =
     let same : length (splice at new old) ≡ length old = length-splice at new old h in
     let long : p + m ≤ length (splice at new old) = omega arith in
     ext_get_or 0 (part p m (splice at new old)) (part p m old)
-        (length-part p m (splice at new old) long ∙ sym (length-part p m old k)) (λ i l.
+    (length-part p m (splice at new old) long ∙ sym (length-part p m old k)) (λ i l.
     let i_in : i < m = omega (arith, length-part p m (splice at new old) long) in
     get_or-part p m (splice at new old) i 0 i_in
-    ∙ (elim apart [ inl before ↦ get_or-splice_before
-        at new old (p + i) 0 h (omega arith) | inr after ↦ get_or-splice_after at new old (p + i) 0 h (omega arith) ])
+    ∙ (elim apart [
+      | inl before ↦ get_or-splice_before
+          at new old (p + i) 0 h (omega arith)
+      | inr after ↦ get_or-splice_after at new old (p + i) 0 h (omega arith)
+    ])
     ∙ sym (get_or-part p m old i 0 i_in))
 
 -- the part that was written
@@ -93,7 +100,7 @@ blocks_of-splice n xs ys e h =
     let fits : 1024 * n + length ys ≤ length xs = omega arith in
     let same : length (splice (1024 * n) ys xs) ≡ length xs = length-splice (1024 * n) ys xs fits in
     let long : length (blocks_of (splice (1024 * n) ys xs)) ≡ length xs / 1024 =
-            length-blocks_of (splice (1024 * n) ys xs) ∙ ap (λ k. k / 1024) same in
+    length-blocks_of (splice (1024 * n) ys xs) ∙ ap (λ k. k / 1024) same in
     ext_get_or [] (blocks_of (splice (1024 * n) ys xs)) (set (blocks_of xs) n ys)
     (long ∙ sym (length-blocks_of xs) ∙ sym (length-set (blocks_of xs) n ys))
     (λ i l.
@@ -102,7 +109,7 @@ blocks_of-splice n xs ys e h =
     ∙ (elim (cases_eq i n) [
       | inl here ↦ ap (block_of (splice (1024 * n) ys xs)) here ∙ part-splice_same (1024 * n) 1024 ys xs (sym e) fits
           ∙ sym (get_or-set_same (blocks_of xs) n ys [] (omega (arith, length-blocks_of xs)))
-              ∙ ap (λ k. get_or (set (blocks_of xs) n ys) k []) (sym here)
+          ∙ ap (λ k. get_or (set (blocks_of xs) n ys) k []) (sym here)
       | inr other ↦ part-splice_apart (1024 * i) 1024 (1024 * n) ys xs fits (omega arith)
           (elim (cases_lt i n) [ inl below ↦ inl (omega arith) | inr above ↦ inr (omega arith) ])
           ∙ sym (get_or-set_other (blocks_of xs) n i ys [] other ∙ block_at-blocks_of xs i i_in)

@@ -44,12 +44,12 @@ module _ {V : Type 0} where
   found (d ∷ es) n e h = elim (cases_eq n d.0) [
     | inl here ↦
         let first : Some d ≡ Some e = sym (ap (λ b. cond b (Some d) (lookup_entry (nat_eq n) es)) (eq-eqb n d.0 here))
-                ∙ h in
+        ∙ h in
         let same : d ≡ e = cc in
         (here ∙ ap (λ (x : ℕ × V). x.0) same, lookup-here d es n here ∙ ap (λ (x : ℕ × V). Some x.1) same)
     | inr other ↦
         let rest = found es n e (sym (ap (λ b. cond b (Some d) (lookup_entry (nat_eq n) es)) (ne_eqb n d.0 other)) ∙ h)
-                in
+        in
         (rest.0, lookup-later d es n other ∙ rest.1)
   ]
 
@@ -109,8 +109,11 @@ module _ {V : Type 0} where
     | inl here ↦ inl (lookup-here e (take n es) q here ∙ sym (lookup-here e es q here))
     | inr other ↦ (elim (lookup-cut n es q (omega arith)) [
       | inl same ↦ inl (lookup-later e (take n es) q other ∙ same ∙ sym (lookup-later e es q other))
-      | inr gone ↦ inr (lookup-later e (take n es) q other
-          ∙ gone.0, (gone.1.0, ap suc gone.1.1, gone.1.2, lookup-later e es q other ∙ gone.1.3))
+      | inr gone ↦ inr (
+        lookup-later e (take n es) q other
+            ∙ gone.0,
+        (gone.1.0, ap suc gone.1.1, gone.1.2, lookup-later e es q other ∙ gone.1.3),
+      )
     ])
   ]
 
@@ -148,7 +151,7 @@ pub overlay-put : (es fs : Entries) (c d : Blocks) (n : ℕ) (b : List ℕ) → 
     → overlay fs d ≡ set (overlay es c) n b
 overlay-put es fs c d n b e m same here =
     ext_get_or [] (overlay fs d) (set (overlay es c) n b)
-        (length-overlay fs d ∙ e ∙ sym (length-overlay es c) ∙ sym (length-set (overlay es c) n b)) (λ k h.
+    (length-overlay fs d ∙ e ∙ sym (length-overlay es c) ∙ sym (length-set (overlay es c) n b)) (λ k h.
     let low : k < length d = omega (arith, length-overlay fs d) in
     let low' : k < length c = omega arith in
     let top : n < length (overlay es c) = omega (arith, length-overlay es c) in
@@ -218,10 +221,10 @@ pub overlay-written : (es : Entries) (c : Blocks) (n : ℕ) (s : Slot) → looku
     → overlay es (set c n s.bytes) ≡ overlay es c
 overlay-written es c n s h =
     overlay-same es es c (set c n s.bytes) (length-set c n s.bytes) (λ k low. elim (cases_eq k n) [
-  | inl is ↦ let found : lookup (nat_eq k) es ≡ Some s = ap (λ i. lookup (nat_eq i) es) is ∙ h in
-      held-some es (set c n s.bytes) k s found ∙ sym (held-some es c k s found)
-  | inr not ↦ ap (λ b. bytes_or (lookup (nat_eq k) es) b) (get_or-set_other c n k s.bytes [] not)
-])
+      | inl is ↦ let found : lookup (nat_eq k) es ≡ Some s = ap (λ i. lookup (nat_eq i) es) is ∙ h in
+          held-some es (set c n s.bytes) k s found ∙ sym (held-some es c k s found)
+      | inr not ↦ ap (λ b. bytes_or (lookup (nat_eq k) es) b) (get_or-set_other c n k s.bytes [] not)
+    ])
 
 -- what is held at n, if anything is, is b
 abbrev pub IsHeldAs : Entries → ℕ → List ℕ → Type 0
@@ -301,7 +304,7 @@ more held copy new rest left n s valid half is put =
     sym (append_assoc left ((n, s) ∷ []) copy.entries) ∙ ap (λ l. l ++ copy.entries) (sym is) ∙ half.joined in
     let apart = absent left copy.entries n s (subst (λ l. IsDistinct nat_eq (keys_of l)) (sym whole) valid.0) in
     let room : length copy.entries ≤ copy.cap - 1 =
-            omega (arith, half.cap, valid.1, ap length whole, length-append left ((n, s) ∷ copy.entries)) in
+    omega (arith, half.cap, valid.1, ap length whole, length-append left ((n, s) ∷ copy.entries)) in
     record {
       joined = ap (λ (c : LruCache ℕ Slot). left ++ c.entries) put
           ∙ ap (λ l. left ++ l) (put-is copy n s apart
@@ -347,9 +350,9 @@ module _ (from : ℕ) (doubt : Bool) where
     | inl is ↦ let one : Some e.1 ≡ Some s = sym (lookup-here e es k is) ∙ h in
         let value : s ≡ e.1 = cc in
         let now : is_due from doubt e ≡ true = ap (λ t. is_due from doubt (e.0, t)) (sym value)
-                ∙ ap (λ i. is_due from doubt (i, s)) (sym is) ∙ due in
+        ∙ ap (λ i. is_due from doubt (i, s)) (sym is) ∙ due in
         scan-keeps (cond (is_due from doubt e) (lower o e.0) o) es k
-            (rw now (subst (IsAtMost (lower o e.0)) (sym is) (lower-at o e.0)))
+        (rw now (subst (IsAtMost (lower o e.0)) (sym is) (lower-at o e.0)))
     | inr not ↦ scan-bounds (cond (is_due from doubt e) (lower o e.0) o) es k s (sym (lookup-later e es k not) ∙ h) due
   ]
 
@@ -375,12 +378,19 @@ module _ (from : ℕ) (doubt : Bool) where
   scan-found o (e ∷ es) n h = elim (scan-found (cond (is_due from doubt e) (lower o e.0) o) es n h) [
     | inl step ↦ (elim (step-found (is_due from doubt e) o e.0 n step) [
       | inl before ↦ inl before
-      | inr now ↦ inr (subst (λ i. from ≤ i) now.1 (due-from (e.1.changed || doubt) true e.0 now.0),
-          (e.1, lookup-here e es n (sym now.1)))
+      | inr now ↦ inr (
+        subst (λ i. from ≤ i) now.1 (due-from (e.1.changed || doubt) true e.0 now.0),
+        (e.1, lookup-here e es n (sym now.1)),
+      )
     ])
-    | inr later ↦ inr (later.0,
-        (elim (cases_eq n e.0) [ inl is ↦ (e.1, lookup-here e es n is) | inr not ↦
-        (later.1.0, lookup-later e es n not ∙ later.1.1) ]))
+    | inr later ↦ inr (
+      later.0,
+      (elim (cases_eq n e.0) [
+        | inl is ↦ (e.1, lookup-here e es n is)
+        | inr not ↦
+            (later.1.0, lookup-later e es n not ∙ later.1.1)
+      ]),
+    )
   ]
 
 pub found-of : (from : ℕ) (doubt : Bool) (es : Entries) (n : ℕ) → next_of from doubt es ≡ Some n
@@ -392,8 +402,8 @@ pub settled : (from : ℕ) (doubt : Bool) (es : Entries) (k : ℕ) (s : Slot) �
     → (IsAtMost (next_of from doubt es) k → ⊥) → (s.changed || doubt) ≡ false
 settled from doubt es k s h late passed =
     false_from_ne_true (s.changed || doubt)
-        (λ due. passed (scan-bounds from doubt None es k s h
-        (and_from (nat_le from k) (s.changed || doubt) (le-leb from k late) due)))
+    (λ due. passed (scan-bounds from doubt None es k s h
+    (and_from (nat_le from k) (s.changed || doubt) (le-leb from k late) due)))
 
 -- ---- the held blocks are written in rising order of number
 
@@ -426,10 +436,10 @@ module _ (es : Entries) (c : Blocks) (b : Bool) (n : ℕ) (s : Slot) (h : lookup
   unfolding AreKept
   wrote-held held = AreKept-set es c' b n s (cleaned s) h (AreKept-written es c b n s.bytes (held-as es n s h) held)
       (record {
-    inside = subst (λ k. n < k) (sym (length-set c n s.bytes)) low;
-    size = (held n s h).size;
-    clean = λ _ _. sym (get_or-set_same c n s.bytes [] low);
-  })
+        inside = subst (λ k. n < k) (sym (length-set c n s.bytes)) low;
+        size = (held n s h).size;
+        clean = λ _ _. sym (get_or-set_same c n s.bytes [] low);
+      })
 
   wrote-shows : overlay es' c' ≡ overlay es c
   wrote-shows = overlay-same es es' c c' (length-set c n s.bytes) (λ k _. elim (cases_eq k n) [
@@ -452,8 +462,8 @@ module _ (es : Entries) (c : Blocks) (b : Bool) (n : ℕ) (s : Slot) (h : lookup
           | inl early ↦ done k t was early
           | inr late ↦
               let still : (t.changed || b) ≡ false =
-                      settled from b es k t was late
-                      (λ most. let m : n ≤ k = subst (λ o. IsAtMost o k) next most in not (omega arith)) in
+              settled from b es k t was late
+              (λ most. let m : n ≤ k = subst (λ o. IsAtMost o k) next most in not (omega arith)) in
               (held k t was).clean (or_parts t.changed b still).1 (or_parts t.changed b still).0
         ])
         ∙ sym (get_or-set_other c n k s.bytes [] not)
@@ -496,7 +506,7 @@ module _ {es : Entries} {c : Blocks} {b : Bool} {blocks stored : Blocks} {from :
       | inl early ↦ f.done k t h early
       | inr late ↦
           let still : (t.changed || b) ≡ false =
-                  settled from b es k t h late (λ most. subst (λ o. IsAtMost o k) next most) in
+          settled from b es k t h late (λ most. subst (λ o. IsAtMost o k) next most) in
           (f.held k t h).clean (or_parts t.changed b still).1 (or_parts t.changed b still).0
     ]
 
@@ -517,7 +527,7 @@ pub flush-fails : (l : LruCache ℕ Slot) {m : LruCache ℕ Slot} (c d : Blocks)
     → length d ≡ length c → AreKept m.entries d e
 flush-fails l c d {b} e f same doubt count =
     subst (λ (x : LruCache ℕ Slot). AreKept x.entries d e) (sym same)
-        (subst (AreKept l.entries d) (sym doubt) (AreKept-doubt l.entries c b d count f.held))
+    (subst (AreKept l.entries d) (sym doubt) (AreKept-doubt l.entries c b d count f.held))
 
 pub up : {a b c : ℕ} → a ≤ b → b ≤ c → a ≤ c
 up h k = omega arith

@@ -86,9 +86,9 @@ module _ (c : LruCache ℕ Slot) (n : ℕ) (v : Slot) (absent : lookup (nat_eq n
             let cut = gone.1 in
             let full : length c.entries ≡ c.cap = omega (arith, safe.fits, cut.1) in
             let place : slice_get c.entries (length c.entries - 1) ≡ Some (k, cut.0) =
-                    ap (λ i. slice_get c.entries (i - 1)) full ∙ cut.2 in
+            ap (λ i. slice_get c.entries (i - 1)) full ∙ cut.2 in
             held-none (take (c.cap - 1) c.entries) d k gone.0 ∙ sym (safe.last k cut.0 full place)
-                ∙ sym (held-some c.entries d k cut.0 cut.3)
+            ∙ sym (held-some c.entries d k cut.0 cut.3)
       ])
 
   pub AreKept-put : (d : Blocks) (b : Bool) → IsLastSafe c d → AreKept c.entries d b → IsKept d b n v
@@ -166,7 +166,7 @@ module _ {X E : Type 0} {l : LruCache ℕ Slot} {c : Blocks} {b : Bool} {blocks 
     held : (r : Result X E) → CameIn l new n s r → AreKept new.entries c b
     held (Ok x) came = subst (λ (m : LruCache ℕ Slot). AreKept m.entries c b) (sym came.0)
         (AreKept-put l n s none c b safe u.held
-            (record { inside = u.low; size = ap length same ∙ sizes n u.low; clean = λ _ _. same }))
+        (record { inside = u.low; size = ap length same ∙ sizes n u.low; clean = λ _ _. same }))
     held (Err x) came = subst (λ (m : LruCache ℕ Slot). AreKept m.entries c b) (sym came.1) u.held
 
   pub read-shows : overlay new.entries c ≡ blocks
@@ -218,7 +218,7 @@ module _ (old : LruCache ℕ Slot) (c : Blocks) (b : Bool) (blocks : Blocks) (n 
   hit-held held shows low is now fits =
       let long : length s.bytes ≡ 1024 = (held n s is).size in
       AreKept-set (promoted (nat_eq n) old.entries) c b n s t (lookup-promoted old.entries n n ∙ is)
-          (AreKept-promoted old.entries c b n held) (record {
+      (AreKept-promoted old.entries c b n held) (record {
         inside = low-shown old.entries c shows low;
         size = ap (λ (x : Slot). length x.bytes) now ∙ length-splice at bytes s.bytes (omega (arith, long, fits))
             ∙ long;
@@ -231,7 +231,7 @@ module _ (old : LruCache ℕ Slot) (c : Blocks) (b : Bool) (blocks : Blocks) (n 
       ≡ set blocks n (splice at bytes (block_at blocks n))
   hit-shows shows low is now =
       overlay-set (promoted (nat_eq n) old.entries) c n s t (lookup-promoted old.entries n n ∙ is)
-          (low-shown old.entries c shows low)
+      (low-shown old.entries c shows low)
       ∙ ap (λ l. set l n t.bytes) (overlay-promoted old.entries c n ∙ shows)
       ∙ ap (set blocks n) (ap (λ (x : Slot). x.bytes) now ∙ ap (splice at bytes) (hit old c blocks n s shows low is))
 
@@ -244,7 +244,7 @@ module _ (l : LruCache ℕ Slot) (c : Blocks) (blocks : Blocks) (n at k : ℕ) (
   refused-shows d (Ok x) read after count written = ap (overlay l.entries) written
       ∙ overlay-other l.entries c n (put_mid at k block new) none (low-shown l.entries c shows low)
       ∙ ap (λ x. set x n (put_mid at k block new)) shows
-          ∙ ap (set blocks n) (put_mid-splice at k block new bytes after count ∙ ap (splice at bytes) read)
+      ∙ ap (set blocks n) (put_mid-splice at k block new bytes after count ∙ ap (splice at bytes) read)
   refused-shows d (Err x) read after count written = written
 
 -- ---- how steps on a disk follow one another, and how a call of several ends
@@ -257,9 +257,11 @@ module _ {D : Type 0} {identity : D → List ℕ} where
   goes-stays = record { count = refl; same_device = refl; later = omega arith }
 
   pub goes-after : {a b c : Disk D} → Goes identity a b → Goes identity b c → Goes identity a c
-  goes-after one two = record
-      { count = two.count ∙ one.count; same_device = two.same_device ∙ one.same_device;
-      later = omega (arith, one.later, two.later) }
+  goes-after one two = record {
+    count = two.count ∙ one.count;
+    same_device = two.same_device ∙ one.same_device;
+    later = omega (arith, one.later, two.later);
+  }
 
   pub goes-twice : {a b c d : Disk D} → Goes identity a b → Goes identity b c → Goes identity c d → Goes identity a d
   goes-twice one two three = goes-after (goes-after one two) three
@@ -318,8 +320,11 @@ module _ {D : Type 0} (content : D → Blocks) (failures : D → ℕ) where
         (same : identity b ≡ identity a) where
       pub goes-seen : failures a ≤ failures b → Goes identity old (seen fs b)
       goes-seen later = subst (λ (d : Disk D). Goes identity d (seen fs b)) is
-          (record { count = length-overlay fs (content b) ∙ count ∙ sym (length-overlay es (content a));
-          same_device = same; later = later })
+          (record {
+            count = length-overlay fs (content b) ∙ count ∙ sym (length-overlay es (content a));
+            same_device = same;
+            later = later;
+          })
 
       -- an access failed
       pub lost-seen : {T U : Type 0} {Done : T → Type 0} {before : ℕ} {r : Result U DeviceFault} {e f : DeviceFault}
@@ -327,7 +332,7 @@ module _ {D : Type 0} (content : D → Blocks) (failures : D → ℕ) where
           → IsErrAnd s (λ x. x ≡ f) → Steps identity old (seen fs b) s Done
       lost-seen later cause was told =
           let rises : Rises old.failures (failures b) =
-                  rises-before failures-seen (rises-before later (cause.failed (ap is_err was))) in
+          rises-before failures-seen (rises-before later (cause.failed (ap is_err was))) in
           step-lost (goes-seen (omega (arith, cause.later))) rises told
 
       -- the last access tells all
@@ -336,5 +341,8 @@ module _ {D : Type 0} (content : D → Blocks) (failures : D → ℕ) where
       last-seen (Ok x) later cause done =
           record { done = done; goes = goes-seen (omega (arith, cause.later)); failed = λ e. cc }
       last-seen (Err x) later cause done =
-          record { done = tt; goes = goes-seen (omega (arith, cause.later));
-          failed = λ e. rises-before failures-seen (rises-before later (cause.failed e)) }
+          record {
+            done = tt;
+            goes = goes-seen (omega (arith, cause.later));
+            failed = λ e. rises-before failures-seen (rises-before later (cause.failed e));
+          }

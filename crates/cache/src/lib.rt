@@ -41,9 +41,11 @@ impl<D: BlockDev, A: Allocator + Clone> Model for Cache<D, A> {
 
     ghost use Rattle.cache.specs.Overlay.{overlay, AreKept};
 
-    ghost view = { λ c. record
-            { blocks = overlay c.held.entries (D.content c.device); device = c.device;
-            failures = D.failures c.device } };
+    ghost view = { λ c. record {
+      blocks = overlay c.held.entries (D.content c.device);
+      device = c.device;
+      failures = D.failures c.device;
+    } };
 
     ghost invariant = { λ c. AreKept c.held.entries (D.content c.device) c.in_doubt };
 }
@@ -52,7 +54,7 @@ impl<D: BlockDev, A: Allocator + Clone> Cache<D, A> {
     /// The blocks of the device. It is the only call that can ask for host memory and be refused.
     pub fn new(alloc: A, device: D) -> Result<Cache<D, A>, AllocError>
         ensures made { IfOk result
-                (λ cache. cache ≡ record { blocks = D.content device; device = device; failures = D.failures device }) }
+            (λ cache. cache ≡ record { blocks = D.content device; device = device; failures = D.failures device }) }
         ensures sizes { AreBlocks (D.content device) }
     {
         let held = LruCache::new(alloc, NonZeroUsize::new(HELD).unwrap())?;
@@ -137,7 +139,7 @@ impl<D: BlockDev, A: Allocator + Clone> Cache<D, A> {
         requires block { n < length self.old.blocks }
         requires fits { at + length out.old ≤ 1024 }
         ensures { Reads D.identity self.old self.new result
-                (λ _. out.new ≡ part at (length out.old) (block_at self.old.blocks n)) }
+            (λ _. out.new ≡ part at (length out.old) (block_at self.old.blocks n)) }
     {
         if let Some(slot) = recent(&self.held, n) {
             out.copy_from_slice(&slot.bytes[at..at + out.len()]);
@@ -153,7 +155,7 @@ impl<D: BlockDev, A: Allocator + Clone> Cache<D, A> {
         requires block { n < length self.old.blocks }
         requires fits { at + length out.old ≤ 1024 }
         ensures { Reads D.identity self.old self.new result
-                (λ _. out.new ≡ part at (length out.old) (block_at self.old.blocks n)) }
+            (λ _. out.new ≡ part at (length out.old) (block_at self.old.blocks n)) }
     {
         let count = out.len();
         if let Some(held) = self.held.get(&n) {
@@ -170,7 +172,7 @@ impl<D: BlockDev, A: Allocator + Clone> Cache<D, A> {
         requires block { n < length self.old.blocks }
         requires fits { at + length out.old ≤ 1024 }
         ensures { Reads D.identity self.old self.new result
-                (λ _. out.new ≡ part at (length out.old) (block_at self.old.blocks n)) }
+            (λ _. out.new ≡ part at (length out.old) (block_at self.old.blocks n)) }
     {
         let block = self.read(n)?;
         out.copy_from_slice(&block[at..at + out.len()]);

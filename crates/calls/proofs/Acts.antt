@@ -29,14 +29,20 @@ same-served same up = rw same (record { up = up; same_device = refl; later = ome
 
 -- what is lost behind a part that served
 pub lost-after : {a b c : FileTree} → IsServed a b → IsLost b c → IsLost a c
-lost-after first lost = record
-    { down = lost.down; same_device = lost.same_device ∙ first.same_device; later = le_trans first.later lost.later;
-    rises = let rises = lost.rises in let later = first.later in omega (arith, rises, later) }
+lost-after first lost = record {
+  down = lost.down;
+  same_device = lost.same_device ∙ first.same_device;
+  later = le_trans first.later lost.later;
+  rises = let rises = lost.rises in let later = first.later in omega (arith, rises, later);
+}
 
 pub served-after : {a b c : FileTree} → IsServed a b → IsServed b c → IsServed a c
 served-after first second =
-    record { up = second.up; same_device = second.same_device ∙ first.same_device;
-    later = le_trans first.later second.later }
+    record {
+      up = second.up;
+      same_device = second.same_device ∙ first.same_device;
+      later = le_trans first.later second.later;
+    }
 
 pub disk-after : (a b c : FileTree) (r : Result (Unit {0}) DeviceFault) → IsServed a b → LeavesDisk b c r
     → LeavesDisk a c r
@@ -86,11 +92,13 @@ aligned-next pc h = omega arith
 module _ {k : Kernel} {i : ℕ} (runs : Runs k i) where
   begins-row : (o : Option Call) → call_of (low (slice_index k.spaces.registers 17)) ≡ o → let x = here-of runs in
       call (state_of k) i (me x)
-          ≡ settle (state_of (entered k)) i (outcome_of (state_of (entered k)) i (self (entered k) x.process x.held) o)
+      ≡ settle (state_of (entered k)) i (outcome_of (state_of (entered k)) i (self (entered k) x.process x.held) o)
   unfolding call
   begins-row o number = let x =
-      here-of runs in rw (number,
-      ← regs-state k i x.process x.held x.run x.sound k.spaces.registers (plus k.spaces.pc 4)) refl
+      here-of runs in rw (
+        number,
+        ← regs-state k i x.process x.held x.run x.sound k.spaces.registers (plus k.spaces.pc 4),
+      ) refl
 
   pub begins : {e : Kernel} → e ≡ entered k → IsBegun k e i
   begins same =
@@ -98,9 +106,14 @@ module _ {k : Kernel} {i : ℕ} (runs : Runs k i) where
       let to = entered k in
       let run = regs-run k i x.process x.held x.run x.sound to.spaces.registers to.spaces.pc in
       rw same (record {
-        runs = record { active = runs.active; up = runs.up;
-            sound = regs-kernel k x.sound to.spaces.registers to.spaces.pc; zero = runs.zero; aligned =
-            aligned-next k.spaces.pc runs.aligned };
+        runs = record {
+          active = runs.active;
+          up = runs.up;
+          sound = regs-kernel k x.sound to.spaces.registers to.spaces.pc;
+          zero = runs.zero;
+          aligned =
+              aligned-next k.spaces.pc runs.aligned;
+        };
         tree = refl;
         row = λ o number. ap (called_by (state_of k) i) (process-here x) ∙ begins-row o number
             ∙ ap (settle (state_of to) i)
@@ -137,23 +150,23 @@ numbers k a n call = sym (call ∙ ap call_of (n ∙ ap low a))
 -- where the device and the console's writer may fail
 module _ {k e : Kernel} {i : ℕ} {call : Option Call} (begun : IsBegun k e i)
     (number : call_of (low (slice_index k.spaces.registers 17)) ≡ call) (new : Kernel) (before after : Option (List ℕ))
-    where
-  pub makes-of : {bytes : List ℕ} {came : Came} → Comes e new i (outcome_at (state_of e) i call) bytes came
-      → Appends before after bytes → (last : Kernel) → state_of last ≡ settled_by (state_of new) i came
-      → IsMade last (called (state_of k) i) before after
-  makes-of {bytes} comes printed last done =
-      rw (begun.row call number ∙ comes.makes
-      ∙ ap (λ (s : State). let a : After = record { state = s; bytes = bytes } in a) (sym done))
-      (record { state = refl; printed = printed })
+  where
+    pub makes-of : {bytes : List ℕ} {came : Came} → Comes e new i (outcome_at (state_of e) i call) bytes came
+        → Appends before after bytes → (last : Kernel) → state_of last ≡ settled_by (state_of new) i came
+        → IsMade last (called (state_of k) i) before after
+    makes-of {bytes} comes printed last done =
+        rw (begun.row call number ∙ comes.makes
+        ∙ ap (λ (s : State). let a : After = record { state = s; bytes = bytes } in a) (sym done))
+        (record { state = refl; printed = printed })
 
-  -- with what that leaves of the files of the disk
-  pub fails-of : (rising : Type 0) (halt : Halt)
-      → Tries e new i (outcome_at (state_of e) i call) before after rising (Err halt)
-      → Dispatches {X = Unit {0}} new (called (state_of k) i) before after rising (Err halt)
-      × LeavesTree {X = Unit {0}} k.tree new.tree (Err halt)
-  fails-of rising Console tried = ((tried.0, rw (begun.row call number) tried.1), tried.2 ∙ begun.tree)
-  fails-of rising Device tried = (tried.1, subst (λ (t : FileTree). IsLost t new.tree) begun.tree tried.0)
-  fails-of rising _ tried = absurd tried
+    -- with what that leaves of the files of the disk
+    pub fails-of : (rising : Type 0) (halt : Halt)
+        → Tries e new i (outcome_at (state_of e) i call) before after rising (Err halt)
+        → Dispatches {X = Unit {0}} new (called (state_of k) i) before after rising (Err halt)
+        × LeavesTree {X = Unit {0}} k.tree new.tree (Err halt)
+    fails-of rising Console tried = ((tried.0, rw (begun.row call number) tried.1), tried.2 ∙ begun.tree)
+    fails-of rising Device tried = (tried.1, subst (λ (t : FileTree). IsLost t new.tree) begun.tree tried.0)
+    fails-of rising _ tried = absurd tried
 
 -- ---- a chain of tests refuses
 
@@ -232,9 +245,14 @@ module _ {k : Kernel} {i : ℕ} (x : Here k i) where
   pub came : (call : Option Call) (c : Came) → CanCome k i c
       → settle (state_of k) i (outcome_of (state_of k) i (me x) call) ≡ quiet (settled_by (state_of k) i c)
       → Acts k k i call c
-  came call c can is = record
-      { makes = ap (settle (state_of k) i) (outcome-here call) ∙ is; active = x.run.active; sound = x.sound; can = can;
-      printed = quietly c; served = same-served refl x.up }
+  came call c can is = record {
+    makes = ap (settle (state_of k) i) (outcome-here call) ∙ is;
+    active = x.run.active;
+    sound = x.sound;
+    can = can;
+    printed = quietly c;
+    served = same-served refl x.up;
+  }
 
   pub refused : (call : Option Call) → outcome_of (state_of k) i (me x) call ≡ Refused → Acts k k i call Refuses
   refused call is = came call Refuses tt (ap (settle (state_of k) i) is)
@@ -285,18 +303,18 @@ module _ {k : Kernel} {i : ℕ} (x : Here k i) where
   pub settles-gone : (ds : List (Option ℕ)) (directory : ℕ) → length ds ≡ length x.process.descriptors → {last : State}
       → let p : unix.Process = record (me x) { descriptors = ds; directory = directory } in
       reap (put_process (state_of (answered k 0)) i (with_answer 0 p)) ≡ last
-          → settle (state_of k) i (limited (Done (put_process (state_of k) i p) 0 [])) ≡ quiet last
+      → settle (state_of k) i (limited (Done (put_process (state_of k) i p) 0 [])) ≡ quiet last
   settles-gone ds directory same reaped =
       let p : unix.Process = record (me x) { descriptors = ds; directory = directory } in
       rw (renamed-within x.runner ds directory same x.up)
       (settle-reaped (state_of k) (put_process (state_of k) i p) i 0 [] (
       change-put i (state_of k) p (with_answer 0) (slot-within (state_of k).places i (me x) (process-here x))
       ∙ ap (λ (ps : List (Option unix.Process)). record (state_of k) { places = ps })
-          (sym (set-set (state_of k).places i (Some (with_answer 0 (me x))) (Some (with_answer 0 p))))
+      (sym (set-set (state_of k).places i (Some (with_answer 0 (me x))) (Some (with_answer 0 p))))
       ∙ ap (λ (s : State). put_process s i (with_answer 0 p))
-          (sym (regs-state k i x.process x.held x.run x.sound (slice_set k.spaces.registers 10 0) k.spaces.pc)))
+      (sym (regs-state k i x.process x.held x.run x.sound (slice_set k.spaces.registers 10 0) k.spaces.pc)))
       (slot-put (state_of (answered k 0)).places i (Some (with_answer 0 p))
-          (slot-within (state_of (answered k 0)).places i _ (process-here (answered-here x 0)))) (free-here x) reaped)
+      (slot-within (state_of (answered k 0)).places i _ (process-here (answered-here x 0)))) (free-here x) reaped)
 
   -- ---- a pending call that goes on
 
@@ -330,10 +348,16 @@ module _ {k : Kernel} {i : ℕ} (x : Here k i) where
     goes-waits {new} v sound new-is active same can state is =
         let y = step-here sound new-is active same in
         let outcome : going_at (state_of k) i w ≡ Waits (state_of new) v =
-                rw (ap state_of new-is ∙ state) (going-here ∙ is) in
+        rw (ap state_of new-is ∙ state) (going-here ∙ is) in
         record {
-          comes = record { makes = ap (settle (state_of k) i) outcome; active = y.0.run.active; sound = sound;
-              can = rw new-is can; printed = refl; served = y.1 };
+          comes = record {
+            makes = ap (settle (state_of k) i) outcome;
+            active = y.0.run.active;
+            sound = sound;
+            can = rw new-is can;
+            printed = refl;
+            served = y.1;
+          };
           within = rw outcome refl;
         }
 

@@ -65,8 +65,18 @@ pub use Rattle.unixmodel.specs.Counts.{is_within, page_frames}
 unfoldable pub use Rattle.unixmodel.specs.Counts.{blocks_of, frames_of}
 pub use Rattle.unixmodel.specs.Failures.{Rises}
 pub use Rattle.unixmodel.specs.FileCalls.{pipe_end, read_pipe, read_taken, with_both, write_pipe}
-unfoldable pub use Rattle.unixmodel.specs.FileCalls.{close_row, dup_row, fstat_row, pipe_row, read_on, read_row,
-    room_for, stat_bytes, write_on, write_row}
+unfoldable pub use Rattle.unixmodel.specs.FileCalls.{
+  close_row,
+  dup_row,
+  fstat_row,
+  pipe_row,
+  read_on,
+  read_row,
+  room_for,
+  stat_bytes,
+  write_on,
+  write_row,
+}
 pub use Rattle.unixmodel.specs.Files.{change_node, clear, Files, free_slot, is_directory, kind_of, links_of, longest}
 pub use Rattle.unixmodel.specs.Files.{Node, node_bytes, put, slot, Spot}
 unfoldable pub use Rattle.unixmodel.specs.Files.{erase, find, lookup, spot_of}
@@ -74,8 +84,18 @@ pub use Rattle.unixmodel.specs.Files.Node.{Directory, File}
 pub use Rattle.unixmodel.specs.Memory.{can_write, Memory, read_bytes}
 unfoldable pub use Rattle.unixmodel.specs.Memory.{path_at, reach, write_bytes, zeros}
 pub use Rattle.unixmodel.specs.NameCalls.{Made}
-unfoldable pub use Rattle.unixmodel.specs.NameCalls.{chdir_row, link_row, linked, made_at, made_directory, mkdir_row,
-    mknod_row, open_row, unlink_row, unlinked}
+unfoldable pub use Rattle.unixmodel.specs.NameCalls.{
+  chdir_row,
+  link_row,
+  linked,
+  made_at,
+  made_directory,
+  mkdir_row,
+  mknod_row,
+  open_row,
+  unlink_row,
+  unlinked,
+}
 pub use Rattle.unixmodel.specs.Next.{execute_at, step, take_turn}
 unfoldable pub use Rattle.unixmodel.specs.Next.{effect_of, execute, next}
 pub use Rattle.unixmodel.specs.Numbers.{has_bit, int_of, le, low, natural, plus}

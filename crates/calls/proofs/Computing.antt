@@ -75,7 +75,7 @@ module _ {k : Kernel} {i : ℕ} (is : IsKernel k) (active : k.spaces.active ≡ 
       → IfNone trap (EndsAt stops most count new.pc) → IfSome trap (λ t. (count < most) × (cycle_at new i ≡ Err t))
       → count < most
       → (computes (state_of (record k { spaces = new })) ≡ false)
-          ⊎ ((0 < count) × (is_at stops (state_of (record k { spaces = new })) ≡ true))
+      ⊎ ((0 < count) × (is_at stops (state_of (record k { spaces = new })) ≡ true))
   ends most count None new x (inl all) traps fewer = absurd (omega (arith, all, fewer))
   ends most count None new x (inr at) traps fewer = inr (at.0, at-now x stops ∙ at.1)
   ends most count (Some t) new x all traps fewer = inl (traps-now x traps.1)

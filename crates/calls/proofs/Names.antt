@@ -68,28 +68,36 @@ module _ {k : Kernel} {i : ℕ} (x : Here k i) where
       let home = x.process.directory in
       let used = x.sound.used x.up in
       let there = folder-there (slot k.tree.files home)
-              (home-folder used i home (ap home_in x.run.process ∙ home-running x.process x.run.runs)) in
+      (home-folder used i home (ap home_in x.run.process ∙ home-running x.process x.run.runs)) in
       some-there (slot k.tree.files n) (find-used used.rules home path n there (found-here path at))
 
 -- ---- once the disk was read
 
 module _ {k e : Kernel} (has : HasRead k e) where
   pub read-served : k.tree.failed ≡ false → IsServed k.tree e.tree
-  read-served up = record { up = ap (λ (y : Kernel). y.tree.failed) has.same ∙ up;
-      same_device = ap (λ (y : Kernel). y.tree.identity) has.same; later = has.later }
+  read-served up = record {
+    up = ap (λ (y : Kernel). y.tree.failed) has.same ∙ up;
+    same_device = ap (λ (y : Kernel). y.tree.identity) has.same;
+    later = has.later;
+  }
 
   pub read-runs : {i : ℕ} → Runs k i → Runs e i
   read-runs {i} runs = subst (λ (y : Kernel). Runs y i) (sym has.same)
-      (record { active = runs.active; up = runs.up; sound = counting-kernel k e.tree.failures runs.sound;
-      zero = runs.zero; aligned = runs.aligned })
+      (record {
+        active = runs.active;
+        up = runs.up;
+        sound = counting-kernel k e.tree.failures runs.sound;
+        zero = runs.zero;
+        aligned = runs.aligned;
+      })
 
   -- a call that is refused then
   pub refused-read : {i : ℕ} (x : Here k i) (call : Call) → outcome_of (state_of k) i (me x) (Some call) ≡ Refused
       → Acts k e i (Some call) Refuses
   refused-read x call is =
       refuses-on (outcome-here x (Some call) ∙ is) (ap state_of has.same)
-          (ap (λ (y : Kernel). y.spaces.active) has.same ∙ x.run.active)
-          (subst IsKernel (sym has.same) (counting-kernel k e.tree.failures x.sound)) (read-served x.up)
+      (ap (λ (y : Kernel). y.spaces.active) has.same ∙ x.run.active)
+      (subst IsKernel (sym has.same) (counting-kernel k e.tree.failures x.sound)) (read-served x.up)
 
   -- and one that goes on
   pub after-look : (new : Kernel) (i : ℕ) → k.tree.failed ≡ false → (call : Call) (r : Result Came DeviceFault)
@@ -109,12 +117,12 @@ module _ {k e : Kernel} (has : HasRead k e) where
 pub lost-path : {k e : Kernel} {i : ℕ} (x : Here k i) {path : List ℕ} (rest : List ℕ → ℕ → Outcome) (call : Call)
     → row_of x call ≡ given (path_arg (me x) 0) (λ path. given (find k.tree.files x.process.directory path) (rest path))
     → Some path ≡ path_argument k i 0 → HasRead k e × (None ≡ find k.tree.files (directory_at k i) path)
-        → Acts k e i (Some call) Refuses
+    → Acts k e i (Some call) Refuses
 lost-path {k} x {path} rest call row is reads =
     refused-read reads.0 x call
-        (ap limited (row ∙ ap (λ (o : Option (List ℕ)). given o
-        (λ path. given (find k.tree.files x.process.directory path) (rest path))) (path-is x 0 is)
-        ∙ ap (λ (o : Option ℕ). given o (rest path)) (found-here x path reads.1)))
+    (ap limited (row ∙ ap (λ (o : Option (List ℕ)). given o
+    (λ path. given (find k.tree.files x.process.directory path) (rest path))) (path-is x 0 is)
+    ∙ ap (λ (o : Option ℕ). given o (rest path)) (found-here x path reads.1)))
 
 -- it reaches a number
 pub reaches : {k e : Kernel} {i n : ℕ} {path : List ℕ} {o : Option ℕ} → Some path ≡ path_argument k i 0
@@ -141,15 +149,15 @@ with_made s made = given made (λ files. answers (with_files s files) 0)
 
 mknod-row : (s : State) (i : ℕ) (p : unix.Process) (path : List ℕ) → path_arg p 0 ≡ Some path
     → mknod_row s i p ≡ with_made s
-        (made_files (made_in s.files p.directory path (Node.Device 1 (arg p 1 % 2 ^ 16) (arg p 2 % 2 ^ 16))))
+    (made_files (made_in s.files p.directory path (Node.Device 1 (arg p 1 % 2 ^ 16) (arg p 2 % 2 ^ 16))))
 unfolding mknod_row made_in
 mknod-row s i p path at =
     rw at (
     given-then (spot_of s.files p.directory path)
-        (λ at. made_at s.files at (λ n. Node.Device 1 (arg p 1 % 2 ^ 16) (arg p 2 % 2 ^ 16)))
-        (λ (made : Made). answers (with_files s made.files) 0)
+    (λ at. made_at s.files at (λ n. Node.Device 1 (arg p 1 % 2 ^ 16) (arg p 2 % 2 ^ 16)))
+    (λ (made : Made). answers (with_files s made.files) 0)
     ∙ given-map (option_and_then (λ at. made_at s.files at (λ n. Node.Device 1 (arg p 1 % 2 ^ 16) (arg p 2 % 2 ^ 16)))
-        (spot_of s.files p.directory path)) (λ (made : Made). made.files) (λ files. answers (with_files s files) 0))
+    (spot_of s.files p.directory path)) (λ (made : Made). made.files) (λ files. answers (with_files s files) 0))
 
 mkdir-row : (s : State) (i : ℕ) (p : unix.Process) (path : List ℕ) → path_arg p 0 ≡ Some path
     → mkdir_row s i p ≡ with_made s (folder_in s.files p.directory path)
@@ -174,7 +182,7 @@ link-row s i p old new from to = rw (from, to) (go (find s.files p.directory old
 pub over-blocks : (s : State) → s.block_limit < blocks_of s.files → is_within s ≡ false
 over-blocks s over =
     and_left (nat_le (frames_of s) s.frame_limit && nat_le (blocks_of s.files) s.block_limit)
-        (nat_le (opens_of s) open_limit)
+    (nat_le (opens_of s) open_limit)
     (and_right (nat_le (frames_of s) s.frame_limit) (nat_le (blocks_of s.files) s.block_limit) (lt-leb _ _ over))
 
 made-over : (s : State) (made : Option Files) → Overflows s.block_limit made → limited (with_made s made) ≡ Refused
@@ -194,47 +202,53 @@ ActsNamed k new i call r = (came : Result Came DeviceFault) → IsNamed r came �
 
 -- new is that, and keeps what a kernel keeps
 module _ {k : Kernel} {i : ℕ} (x : Here k i) {new : Kernel} (rest : new ≡ with_tree k new.tree) (sound : IsKernel new)
-    where
-  pub over-here : new.tree.failed ≡ false → Here new i
-  over-here = here-as x sound rest refl
+  where
+    pub over-here : new.tree.failed ≡ false → Here new i
+    over-here = here-as x sound rest refl
 
-  pub tree-state : new.tree.block_limit ≡ k.tree.block_limit → state_of new ≡ with_files (state_of k) new.tree.files
-  tree-state limit = ap state_of rest ∙ ap (λ b. record (state_of k) { files = new.tree.files; block_limit = b }) limit
+    pub tree-state : new.tree.block_limit ≡ k.tree.block_limit → state_of new ≡ with_files (state_of k) new.tree.files
+    tree-state limit = ap state_of rest
+        ∙ ap (λ b. record (state_of k) { files = new.tree.files; block_limit = b }) limit
 
-  module _ {T : Type 0} {Done' : T → Type 0} {Bad : Type 0} {Why : TreeFault → Type 0} {r : Result T TreeFault}
-      (acts : tree.Acts k.tree new.tree r Done' Bad Why) (call : Call) where
-    -- nothing was made: the call is refused, or an access failed
-    pub refused-acts : (Bad → outcome_of (state_of k) i (me x) (Some call) ≡ Refused) → (fault : TreeFault)
-        → r ≡ Err fault → (came : Result Came DeviceFault) → IsRefused fault came → ActsOnDisk k new i (Some call) came
-    refused-acts bad fault e (Ok c) is =
-        let up : new.tree.failed ≡ false = acts.failed ∙ ap has_failed e ∙ is.1 in
-        let why = (rw e at acts.refused) (device-is fault is.1) in
-        rw is.0 (refuses-on (outcome-here x (Some call) ∙ bad why.refused)
-            (tree-state acts.limit ∙ ap (with_files (state_of k)) why.same) (over-here up).run.active sound
-            (record { up = up; same_device = acts.same_device; later = acts.later }))
-    refused-acts bad fault e (Err f) is =
-        record { down = acts.failed ∙ ap has_failed e ∙ is; same_device = acts.same_device; later = acts.later;
-        rises = acts.cause (e ∙ ap Err (is-device fault is)) }
-
-    pub named-acts : ((v : T) → r ≡ Ok v → Acts k new i (Some call) (Answers 0))
-        → (Bad → outcome_of (state_of k) i (me x) (Some call) ≡ Refused) → ActsNamed k new i call r
-    named-acts done bad = go r refl where
-      go : (s : Result T TreeFault) → r ≡ s → (came : Result Came DeviceFault) → IsNamed s came
+    module _ {T : Type 0} {Done' : T → Type 0} {Bad : Type 0} {Why : TreeFault → Type 0} {r : Result T TreeFault}
+        (acts : tree.Acts k.tree new.tree r Done' Bad Why) (call : Call) where
+      -- nothing was made: the call is refused, or an access failed
+      pub refused-acts : (Bad → outcome_of (state_of k) i (me x) (Some call) ≡ Refused) → (fault : TreeFault)
+          → r ≡ Err fault → (came : Result Came DeviceFault) → IsRefused fault came
           → ActsOnDisk k new i (Some call) came
-      go (Ok v) e came named = rw named (done v e)
-      go (Err fault) e came named = refused-acts bad fault e came named
+      refused-acts bad fault e (Ok c) is =
+          let up : new.tree.failed ≡ false = acts.failed ∙ ap has_failed e ∙ is.1 in
+          let why = (rw e at acts.refused) (device-is fault is.1) in
+          rw is.0 (refuses-on (outcome-here x (Some call) ∙ bad why.refused)
+          (tree-state acts.limit ∙ ap (with_files (state_of k)) why.same) (over-here up).run.active sound
+          (record { up = up; same_device = acts.same_device; later = acts.later }))
+      refused-acts bad fault e (Err f) is =
+          record {
+            down = acts.failed ∙ ap has_failed e ∙ is;
+            same_device = acts.same_device;
+            later = acts.later;
+            rises = acts.cause (e ∙ ap Err (is-device fault is));
+          }
 
-    -- the row makes these files, unless they take too many blocks
-    pub makes-acts : {made : Option Files} → row_of x call ≡ with_made (state_of k) made
-        → ((v : T) → Done' v → made ≡ Some new.tree.files) → (Bad → Overflows k.tree.block_limit made)
-        → ActsNamed k new i call r
-    makes-acts {made} is told bad = named-acts
-        (λ v e.
-        let up : new.tree.failed ≡ false = acts.failed ∙ ap has_failed e in
-        does x call 0 (over-here up) (record { up = up; same_device = acts.same_device; later = acts.later })
-            (is ∙ ap (with_made (state_of k)) (told v (rw e at acts.done))
-            ∙ ap (λ (s : State). Done s 0 []) (sym (tree-state acts.limit))))
-        (λ b. ap limited is ∙ made-over (state_of k) made (bad b))
+      pub named-acts : ((v : T) → r ≡ Ok v → Acts k new i (Some call) (Answers 0))
+          → (Bad → outcome_of (state_of k) i (me x) (Some call) ≡ Refused) → ActsNamed k new i call r
+      named-acts done bad = go r refl where
+        go : (s : Result T TreeFault) → r ≡ s → (came : Result Came DeviceFault) → IsNamed s came
+            → ActsOnDisk k new i (Some call) came
+        go (Ok v) e came named = rw named (done v e)
+        go (Err fault) e came named = refused-acts bad fault e came named
+
+      -- the row makes these files, unless they take too many blocks
+      pub makes-acts : {made : Option Files} → row_of x call ≡ with_made (state_of k) made
+          → ((v : T) → Done' v → made ≡ Some new.tree.files) → (Bad → Overflows k.tree.block_limit made)
+          → ActsNamed k new i call r
+      makes-acts {made} is told bad = named-acts
+          (λ v e.
+          let up : new.tree.failed ≡ false = acts.failed ∙ ap has_failed e in
+          does x call 0 (over-here up) (record { up = up; same_device = acts.same_device; later = acts.later })
+          (is ∙ ap (with_made (state_of k)) (told v (rw e at acts.done))
+          ∙ ap (λ (s : State). Done s 0 []) (sym (tree-state acts.limit))))
+          (λ b. ap limited is ∙ made-over (state_of k) made (bad b))
 
 -- ---- the calls
 
@@ -321,9 +335,11 @@ changed-less : (files : Files) (n : ℕ) (f : Node → Node) → ((x : Node) →
     → IsLess files (change_node files n f)
 unfolding blocks_of
 changed-less files n f sized =
-    record { blocks = sum-altered (λ (x : Node). blocks_for (size_of x)) f (λ x. ap blocks_for (sized x)) files n;
-    none = all-set (λ m o. slot files m ≡ None → o ≡ None) files n (option_map f (slot files n))
-    (λ gone. ap (option_map f) gone) (λ m gone. gone) }
+    record {
+      blocks = sum-altered (λ (x : Node). blocks_for (size_of x)) f (λ x. ap blocks_for (sized x)) files n;
+      none = all-set (λ m o. slot files m ≡ None → o ≡ None) files n (option_map f (slot files n))
+          (λ gone. ap (option_map f) gone) (λ m gone. gone);
+    }
 
 erased-less : (files : Files) (d k : ℕ) → IsLess files (erase files d k)
 unfolding erase
@@ -357,8 +373,8 @@ within-files s files same =
 module _ {k : Kernel} {i : ℕ} (x : Here k i) (d : ℕ) (path : List ℕ) {to : Kernel} (rest : to ≡ with_tree k to.tree)
     (sound : IsKernel to) (made : unlinked_in k.tree.holds k.tree.files d path ≡ Some to.tree.files)
     (limit : to.tree.block_limit ≡ k.tree.block_limit) (holds : to.tree.holds ≡ k.tree.holds)
-        (up : to.tree.failed ≡ false) (device : to.tree.identity ≡ k.tree.identity)
-        (later : k.tree.failures ≤ to.tree.failures) where
+    (up : to.tree.failed ≡ false) (device : to.tree.identity ≡ k.tree.identity)
+    (later : k.tree.failures ≤ to.tree.failures) where
   abbrev g : Reaps k.tree.holds k.tree.files d path to.tree.files
   g = reaps (x.sound.used x.up) to.tree d path made
 
@@ -384,11 +400,11 @@ module _ {k : Kernel} {i : ℕ} (x : Here k i) (d : ℕ) (path : List ℕ) {to :
       let same : j ≡ a = omega (arith, e) in
       let used = x.sound.used x.up in
       let some : j ≢ 0 = λ z. none-some y
-              (sym ((unlinked-less k.tree.files g.at g.less g.made).none 0 used.zero) ∙ ap (slot g.less) (sym z ∙ same)
-              ∙ at) in
+      (sym ((unlinked-less k.tree.files g.at g.less g.made).none 0 used.zero) ∙ ap (slot g.less) (sym z ∙ same)
+      ∙ at) in
       ap (λ b. nat_lt 0 (links_of y) || b)
-          (used-is new.files (loaded new).places new.spaces.places (away-loaded new last.sound) full refl refl j some
-          ∙ ap (nat_lt 0) (sym (now.holds j))))
+      (used-is new.files (loaded new).places new.spaces.places (away-loaded new last.sound) full refl refl j some
+      ∙ ap (nat_lt 0) (sym (now.holds j))))
       ∙ ap (λ hs. kept (is_by hs) 0 g.less) holds
       ∙ sym (kept-is (x.sound.used x.up) to.tree d path made))
 
@@ -398,7 +414,7 @@ module _ {k : Kernel} {i : ℕ} (x : Here k i) (d : ℕ) (path : List ℕ) {to :
       let new = answered to 0 in
       let opened = opened-loaded new last.sound in
       let counts : Counts new.files full.places =
-              counts-joined new.files (loaded new).places new.spaces.places opened.counted in
+      counts-joined new.files (loaded new).places new.spaces.places opened.counted in
       let opens : without_opens full ≡ full = without_opens-same full new.files opened.table counts in
       let pipes : without_pipes full ≡ full = without_pipes-same full opened.piped in
       ap (λ (s : State). without_nodes (without_pipes s)) opens ∙ ap without_nodes pipes ∙ nodes-reaped
@@ -408,18 +424,18 @@ module _ {k : Kernel} {i : ℕ} (x : Here k i) (d : ℕ) (path : List ℕ) {to :
   unlinks makes =
       let answered-is : change_process (with_files (state_of k) g.less) i (with_answer 0) ≡ full =
       ap (λ (s : State). change_process (with_files s g.less) i (with_answer 0)) (sym (tree-state x rest sound limit))
-          ∙ ap (λ (s : State). with_files s g.less) (answer-here here-then 0) in
+      ∙ ap (λ (s : State). with_files s g.less) (answer-here here-then 0) in
       let within : is_within (with_files (state_of k) g.less) ≡ true =
-              within-files (state_of k) g.less (unlinked-less k.tree.files g.at g.less g.made).blocks
-              ∙ within-state k x.sound x.up in
+      within-files (state_of k) g.less (unlinked-less k.tree.files g.at g.less g.made).blocks
+      ∙ within-state k x.sound x.up in
       let settled : settle (state_of k) i (limited (Done (with_files (state_of k) g.less) 0 []))
-              ≡ quiet (state_of (answered to 0)) =
+      ≡ quiet (state_of (answered to 0)) =
       rw within (settle-reaped (state_of k) (with_files (state_of k) g.less) i 0 [] answered-is (process-here last)
-          (free-here here-then) reaped) in
+      (free-here here-then) reaped) in
       settles x Unlink 0 here-then (record { up = up; same_device = device; later = later })
       (ap (λ (o : Outcome). settle (state_of k) i (limited o))
-          (makes ∙ ap (with_made (state_of k)) (ap (option_and_then (unlinked k.tree.files)) g.spot ∙ g.made))
-          ∙ settled)
+      (makes ∙ ap (with_made (state_of k)) (ap (option_and_then (unlinked k.tree.files)) g.spot ∙ g.made))
+      ∙ settled)
 
 -- ---- the process that calls
 
@@ -432,7 +448,7 @@ module _ {k : Kernel} {i : ℕ} (x : Here k i) {path : List ℕ} (is : Some path
       → ActsNamed k new i Unlink r
   unlink-acts acts = named-acts x rest sound acts Unlink
       (λ v e. unlinks x (directory_at k i) path rest sound (rw e at acts.done) acts.limit acts.holds
-          (acts.failed ∙ ap has_failed e) acts.same_device acts.later unlink-makes)
+      (acts.failed ∙ ap has_failed e) acts.same_device acts.later unlink-makes)
       (λ none. ap limited unlink-makes
-          ∙ ap (λ (o : Option Files). limited (with_made (state_of k) o))
-          (nameless-none k.tree.holds k.tree.files (directory_at k i) path none))
+      ∙ ap (λ (o : Option Files). limited (with_made (state_of k) o))
+      (nameless-none k.tree.holds k.tree.files (directory_at k i) path none))

@@ -82,8 +82,13 @@ pub openable-told : (files : Files) (n f : ℕ) (told : InodeStat) → (node : N
     → IsOpenable files n f told
 openable-told files n f told here tells may =
     let t = tells here.0 here.1 in
-    record { node = here.0; here = here.1; kind = t.0; major = t.3;
-        may = sym (may-by f here.0 told.kind told.major t.0 t.3) ∙ may }
+    record {
+      node = here.0;
+      here = here.1;
+      kind = t.0;
+      major = t.3;
+      may = sym (may-by f here.0 told.kind told.major t.0 t.3) ∙ may;
+    }
 
 -- a file that is emptied stays of its type
 emptied-same : (node : Node)
@@ -117,47 +122,57 @@ some-place xs n at = elim (cases_eq (count_by is_none xs) 0) [
 -- ---- the kernel with one open file more
 
 module _ {k : Kernel} {i : ℕ} (runs : Runs k i) {n f : ℕ} {told : InodeStat} (is : IsOpenable k.tree.files n f told)
-    where
-  abbrev g : OpenFile
-  g = file_by f (target_by n told.kind told.major)
+  where
+    abbrev g : OpenFile
+    g = file_by f (target_by n told.kind told.major)
 
-  pub may-be-open : has_seat k i ≡ true → MayOpen k i n g
-  may-be-open seat =
-      let parts = and_parts (nat_lt 0 (free_descriptors k.table i)) (nat_lt 0 (free_count k.files)) seat in
-      record {
-        running = runs.active;
-        descriptor = ltb-true 0 (free_descriptors k.table i) parts.0;
-        place = ltb-true 0 (free_count k.files) parts.1;
-        on = (target-of n told.kind told.major).1;
-        fits = rw is.here (fits-by f n is.node told.kind told.major is.kind is.major is.may);
-        up = runs.up;
-      }
+    pub may-be-open : has_seat k i ≡ true → MayOpen k i n g
+    may-be-open seat =
+        let parts = and_parts (nat_lt 0 (free_descriptors k.table i)) (nat_lt 0 (free_count k.files)) seat in
+        record {
+          running = runs.active;
+          descriptor = ltb-true 0 (free_descriptors k.table i) parts.0;
+          place = ltb-true 0 (free_count k.files) parts.1;
+          on = (target-of n told.kind told.major).1;
+          fits = rw is.here (fits-by f n is.node told.kind told.major is.kind is.major is.may);
+          up = runs.up;
+        }
 
-  pub opens-so : {new : Kernel} {fd : ℕ} → OpensOn k new i n g fd → IsKernel new → Opens k new i (opened f n) fd
-  opens-so {new} {fd} o sound =
-      let x = here-of runs in
-      record {
-        place = o.place;
-        first = o.first;
-        free = o.free;
-        state = λ p at.
-            state-but (opened_on k i n g o.place fd) o.same ∙ open-state x.runner g o.place fd n
-            ∙ ap (λ (y : unix.Process). with_open (state_of k) i y fd o.place (file_of g))
-                (same_Some (me x) p (sym (process-here x) ∙ at))
-                ∙ ap (with_open (state_of k) i p fd o.place) (file-by f n told.kind told.major);
-        runs = subst (λ (y : Kernel). Runs y i) (sym o.same)
-            (record { active = runs.active; up = runs.up; sound = subst IsKernel o.same sound; zero = runs.zero;
-            aligned = runs.aligned });
-        served = rw o.same (record { up = runs.up; same_device = refl; later = omega arith });
-      }
+    pub opens-so : {new : Kernel} {fd : ℕ} → OpensOn k new i n g fd → IsKernel new → Opens k new i (opened f n) fd
+    opens-so {new} {fd} o sound =
+        let x = here-of runs in
+        record {
+          place = o.place;
+          first = o.first;
+          free = o.free;
+          state = λ p at.
+              state-but (opened_on k i n g o.place fd) o.same ∙ open-state x.runner g o.place fd n
+              ∙ ap (λ (y : unix.Process). with_open (state_of k) i y fd o.place (file_of g))
+              (same_Some (me x) p (sym (process-here x) ∙ at))
+              ∙ ap (with_open (state_of k) i p fd o.place) (file-by f n told.kind told.major);
+          runs = subst (λ (y : Kernel). Runs y i) (sym o.same)
+              (record {
+                active = runs.active;
+                up = runs.up;
+                sound = subst IsKernel o.same sound;
+                zero = runs.zero;
+                aligned = runs.aligned;
+              });
+          served = rw o.same (record { up = runs.up; same_device = refl; later = omega arith });
+        }
 
 -- ---- a file that is emptied
 
 pub cut-runs : {old new : Kernel} {f n i : ℕ} → IsCut old new f n → Runs old i → Runs new i
 cut-runs {i = i} cut runs =
     subst (λ (y : Kernel). Runs y i) (sym cut.same)
-    (record { active = runs.active; up = runs.up; sound = subst IsKernel cut.same cut.sound; zero = runs.zero;
-    aligned = runs.aligned })
+    (record {
+      active = runs.active;
+      up = runs.up;
+      sound = subst IsKernel cut.same cut.sound;
+      zero = runs.zero;
+      aligned = runs.aligned;
+    })
 
 -- ---- a new file
 
@@ -168,7 +183,7 @@ made-new files at made h =
     let is = make-parts files at new_file made h in
     let e = enter-parts (put files n (File 1 [])) at n made.files is.entered in
     let self : slot (put files n (File 1 [])) n ≡ Some (File 1 []) =
-            get_or-set_same files n (Some (File 1 [])) None is.free.within in
+    get_or-set_same files n (Some (File 1 [])) None is.free.within in
     elim (cases_eq n at.directory) [
       | inl same ↦ absurd (let bad : 2
           ≡ 1 = ap kind_of (same_Some (File 1 []) (Directory (suc e.links) e.places)
@@ -212,14 +227,14 @@ module _ {k : Kernel} {i : ℕ} (x : Here k i) where
       → limited (given made (opens_got (state_of k) i (me x) f)) ≡ Refused
   full none f made =
       given-refused made _ (λ got e1. given-refused (slot got.files got.number) _
-          (λ node e2. provided-refused (may_open f node) _ (
+      (λ node e2. provided-refused (may_open f node) _ (
       given-refused (free_slot x.process.descriptors) _
-          (λ fd e3. given-refused (free_slot (opens_of k.files)) _ (λ place e4.
+      (λ fd e3. given-refused (free_slot (opens_of k.files)) _ (λ place e4.
       let one : nat_lt 0 (free_descriptors k.table i) ≡ true =
-              some-place (descriptors_in (slot k.table.places i)) fd
-              (ap (λ (o : Option Process). free_slot (descriptors_in o)) x.run.process ∙ e3) in
+      some-place (descriptors_in (slot k.table.places i)) fd
+      (ap (λ (o : Option Process). free_slot (descriptors_in o)) x.run.process ∙ e3) in
       let two : nat_lt 0 (free_count k.files) ≡ true = ap (nat_lt 0) (sym (free-opens k.files))
-              ∙ some-place (opens_of k.files) place e4 in
+      ∙ some-place (opens_of k.files) place e4 in
       absurd (false≢true (sym none ∙ rw (one, two) refl)))))))
 
   -- e is kernel k with that tree, in which it got the node; then it was opened
@@ -227,21 +242,24 @@ module _ {k : Kernel} {i : ℕ} (x : Here k i) where
       → k.tree.failures ≤ tree.failures → {e : Kernel} → e ≡ record k { tree = tree } → (f : ℕ) (got : Made)
       → tree.files ≡ truncated f got
       → row_of x Open ≡ opens_got (state_of k) i (me x) f got → {node : Node} → slot got.files got.number ≡ Some node
-          → may_open f node ≡ true → {new : Kernel} {fd : ℕ} → Opens e new i (opened f got.number) fd
-          → Acts k new i (Some Open) (Answers fd)
+      → may_open f node ≡ true → {new : Kernel} {fd : ℕ} → Opens e new i (opened f got.number) fd
+      → Acts k new i (Some Open) (Answers fd)
   opens-acts tree limit device later is f got cut made here may {new} {fd} opens =
       let one : Opens (record k { tree = tree }) new i (opened f got.number) fd =
-              subst (λ (y : Kernel). Opens y new i (opened f got.number) fd) is opens in
+      subst (λ (y : Kernel). Opens y new i (opened f got.number) fd) is opens in
       let free : free_slot x.process.descriptors ≡ Some fd =
-              ap (λ (o : Option Process). free_slot (descriptors_in o)) (sym x.run.process) ∙ one.free in
+      ap (λ (o : Option Process). free_slot (descriptors_in o)) (sym x.run.process) ∙ one.free in
       let last = with_open (state_of k) i (me x) fd one.place (opened f got.number) in
       let state : state_of new ≡ record last { files = truncated f got } =
       one.state (me x) (process-here x)
       ∙ ap (λ (fs : Files). record last { files = fs; block_limit = tree.block_limit }) cut
       ∙ ap (λ (b : ℕ). record last { files = truncated f got; block_limit = b }) limit in
       does x Open fd (here-of one.runs)
-          (record { up = one.served.up; same_device = one.served.same_device ∙ device;
-          later = le_trans later one.served.later })
+      (record {
+        up = one.served.up;
+        same_device = one.served.same_device ∙ device;
+        later = le_trans later one.served.later;
+      })
       (made
       ∙ ap (λ (o : Option Node). given o (λ m. provided (may_open f m) (opens_seat (state_of k) i (me x) f got))) here
       ∙ ap (λ (b : Bool). provided b (opens_seat (state_of k) i (me x) f got)) may
@@ -266,8 +284,8 @@ module _ {k : Kernel} {i : ℕ} (x : Here k i) where
           refused-read reads.0 x Open (
           ap limited open-got
           ∙ given-refused (slot k.tree.files n) _
-              (λ node here. let t = reads.1 node here
-              in rw (sym (may-by f node told.kind told.major t.0 t.3) ∙ no') refl))
+          (λ node here. let t = reads.1 node here
+          in rw (sym (may-by f node told.kind told.major t.0 t.3) ∙ no') refl))
 
       pub open-full : has_seat k1 i ≡ false → Acts k k1 i (Some Open) Refuses
       open-full none = refused-read reads.0 x Open
@@ -290,9 +308,9 @@ module _ {k : Kernel} {i : ℕ} (x : Here k i) where
             → Acts k new i (Some Open) (Answers fd)
         open-found opens =
             let after = cut.same ∙ ap (λ (y : Kernel). record y { tree = cut_tree y.tree f n k2.tree.failures })
-                    reads.0.same in
+            reads.0.same in
             opens-acts (cut_tree k.tree f n k2.tree.failures) refl refl (le_trans reads.0.later cut.later) after f got
-                refl open-got may-open.here may-open.may opens
+            refl open-got may-open.here may-open.may opens
 
   -- ---- it reaches nothing
 
@@ -333,15 +351,15 @@ module _ {k : Kernel} {i : ℕ} (x : Here k i) where
       new-over over =
           ap limited new-row
           ∙ given-refused made_here _
-              (λ made e1. given-refused (slot made.files made.number) _
-              (λ node e2. provided-refused (may_open f node) _
-              (given-refused (free_slot x.process.descriptors) _
-              (λ fd e3. given-refused (free_slot (opens_of k.files)) _ (λ place e4.
+          (λ made e1. given-refused (slot made.files made.number) _
+          (λ node e2. provided-refused (may_open f node) _
+          (given-refused (free_slot x.process.descriptors) _
+          (λ fd e3. given-refused (free_slot (opens_of k.files)) _ (λ place e4.
           let last : State = record (with_open (state_of k) i (me x) fd place (opened f made.number))
-                  { files = truncated f made } in
+          { files = truncated f made } in
           ap (λ (b : Bool). provided b (Done last fd []))
-              (over-blocks last (subst (λ (fs : Files). k.tree.block_limit < blocks_of fs)
-              (sym (truncated-new f made (made-there e1))) (over made.files (ap made_files (made-from ∙ e1))))))))))
+          (over-blocks last (subst (λ (fs : Files). k.tree.block_limit < blocks_of fs)
+          (sym (truncated-new f made (made-there e1))) (over made.files (ap made_files (made-from ∙ e1))))))))))
 
       module _ {mid : Kernel} (rest : mid ≡ with_tree k mid.tree) (sound : IsKernel mid) {r : Result ℕ TreeFault}
           (acts : MakesNode k.tree mid.tree (directory_at k i) path (leaf_node leaf.File) r) where
@@ -373,8 +391,8 @@ module _ {k : Kernel} {i : ℕ} (x : Here k i) where
               → Acts k new i (Some Open) (Answers fd)
           open-created opens =
               opens-acts mid.tree acts.limit acts.same_device acts.later rest f new_node
-                  (sym (truncated-new f new_node new-there))
-                  (new-row ∙ ap (λ o. given o (opens_got (state_of k) i (me x) f)) made) new-there refl opens
+              (sym (truncated-new f new_node new-there))
+              (new-row ∙ ap (λ o. given o (opens_got (state_of k) i (me x) f)) made) new-there refl opens
 
 -- what is asked for once the path was looked up
 pub asks-of : {k e : Kernel} {i f : ℕ} {path : List ℕ} {o q : Option ℕ} → Some path ≡ path_argument k i 0
@@ -417,9 +435,10 @@ module _ {k : Kernel} {i n : ℕ} (x : Here k i) (r : Reaches k i n) where
         (ap limited (chdir-made {b = false} (rw (← tells.0) (ne_eqb told.kind 1 other))))
 
     pub chdir-goes : told.kind ≡ 1 → Reaches e i n × IsFolder (slot e.tree.files n)
-    chdir-goes kind = subst (λ (y : Kernel). Reaches y i n × IsFolder (slot y.tree.files n)) (sym reads.0.same)
-        (record { path = r.path; named = r.named; found = r.found },
-        subst IsFolder (sym chdir-there.1) (folder-kind chdir-there.0 (sym tells.0 ∙ kind)))
+    chdir-goes kind = subst (λ (y : Kernel). Reaches y i n × IsFolder (slot y.tree.files n)) (sym reads.0.same) (
+      record { path = r.path; named = r.named; found = r.found },
+      subst IsFolder (sym chdir-there.1) (folder-kind chdir-there.0 (sym tells.0 ∙ kind)),
+    )
 
   -- it is a directory, and the process works there now
   pub chdirs : IsFolder (slot k.tree.files n) → IsWhole k.tree → {new : Kernel} → IsKernel new
@@ -427,11 +446,11 @@ module _ {k : Kernel} {i n : ℕ} (x : Here k i) (r : Reaches k i n) where
   chdirs folder whole sound told =
       let made = chdir-made (folder-is chdir-there.0 (rw chdir-there.1 at folder)) in
       let reaped = work-reaps (answered-here x 0).runner n
-              (record { running = x.run.active; folder = folder; up = x.up }) whole
-              ∙ sym (ap state_of (ap (λ (z : Kernel). answered z 0) told.0)) in
+      (record { running = x.run.active; folder = folder; up = x.up }) whole
+      ∙ sym (ap state_of (ap (λ (z : Kernel). answered z 0) told.0)) in
       settles x Chdir 0 (here-as x sound told.0 refl told.1.up) told.1
       (ap (λ (o : Outcome). settle (state_of k) i (limited o)) made
-          ∙ settles-gone x x.process.descriptors n refl reaped)
+      ∙ settles-gone x x.process.descriptors n refl reaped)
 
 -- ---- exec: another program comes in the place of the one that runs
 
@@ -457,8 +476,8 @@ module _ {k : Kernel} {i n : ℕ} (x : Here k i) (r : Reaches k i n) where
       let at = path-is x 0 r.named in
       let found = found-here x r.path r.found in
       rw (at, found, held-here x)
-          (given-plan (file_bytes (slot k.tree.files n)) (args_at x.held.memory (argument k 1))
-          (replaces (state_of k) i (me x)))
+      (given-plan (file_bytes (slot k.tree.files n)) (args_at x.held.memory (argument k 1))
+      (replaces (state_of k) i (me x)))
 
   fits-is : (new : Plan) → fits_beside (state_of k) new ≡ nat_le (frames_beside k.spaces new) k.spaces.frames
   fits-is new = ap (λ m. nat_le (m + 3 + page_frames (length new.memory)) k.spaces.frames) (frames-state k x.sound)
@@ -481,9 +500,9 @@ module _ {k : Kernel} {i n : ℕ} (x : Here k i) (r : Reaches k i n) where
       let up = ap (λ (z : Kernel). z.tree.failed) h.same ∙ x.up in
       rw h.begins (
       does x Exec p.argc (here-as x sound h.same refl up)
-          (record { up = up; same_device = ap (λ (z : Kernel). z.tree.identity) h.same; later = h.later })
+      (record { up = up; same_device = ap (λ (z : Kernel). z.tree.identity) h.same; later = h.later })
       (exec-row
       ∙ ap (λ o. given o (replaces (state_of k) i (me x))) h.is
       ∙ ap (λ b. provided b (answers (put_process (state_of k) i (replaced (me x) p)) p.argc))
-          (fits-is p ∙ le-leb _ _ h.fits)
+      (fits-is p ∙ le-leb _ _ h.fits)
       ∙ ap (λ (s : State). Done s p.argc []) (sym (ap state_of h.same ∙ replaced-state x.runner p))))

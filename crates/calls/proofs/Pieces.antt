@@ -37,7 +37,7 @@ then_after b ys a None =
 first_step : (xs ys : List Event) (a : After) (r : Option ℤ) → a.state.halted ≡ r
     → (a.state.halted ≡ None → run a.state (xs ++ ys) ≡ then_runs ys (run a.state xs) (run a.state xs).state.halted)
     → followed_by a (λ t. run t (xs ++ ys)) r
-        ≡ then_runs ys (followed_by a (λ t. run t xs) r) (followed_by a (λ t. run t xs) r).state.halted
+    ≡ then_runs ys (followed_by a (λ t. run t xs) r) (followed_by a (λ t. run t xs) r).state.halted
 first_step xs ys a (Some status) is rest = rw is refl
 first_step xs ys a None is rest = ap (after_bytes a.bytes) (rest is)
     ∙ then_after a.bytes ys (run a.state xs) (run a.state xs).state.halted
@@ -162,7 +162,7 @@ module _ {old mid : Kernel} {n : ℕ} {before at : Option (List ℕ)} (went : We
     went-trans {new} {m} {after} second =
         let whole : stepped old (n + m) ≡ after_bytes (stepped old n).bytes (stepped mid m) =
         steps-go (state_of old) up n m went.makes.halts
-            ∙ ap (λ s. after_bytes (stepped old n).bytes (run s (replicate m Step))) (sym went.makes.state) in
+        ∙ ap (λ s. after_bytes (stepped old n).bytes (run s (replicate m Step))) (sym went.makes.state) in
         record {
           makes = rw whole (record {
             state = second.makes.state;
@@ -179,7 +179,7 @@ module _ {old mid : Kernel} {n : ℕ} {before at : Option (List ℕ)} (went : We
         steps-go (state_of old) up n 1 went.makes.halts
         ∙ ap (λ s. after_bytes (stepped old n).bytes (run s (Step ∷ []))) (sym went.makes.state)
         ∙ ap (after_bytes (stepped old n).bytes)
-            (run-one Step (state_of mid) (next (state_of mid) Step).state.halted refl)
+        (run-one Step (state_of mid) (next (state_of mid) Step).state.halted refl)
 
     makes-more : {new : Kernel} {after : Option (List ℕ)} {r : Option ℤ}
         → Makes new (next (state_of mid) Step) at after r → Makes new (stepped old (n + 1)) before after r
@@ -194,13 +194,13 @@ module _ {old mid : Kernel} {n : ℕ} {before at : Option (List ℕ)} (went : We
     stops-give : (new : Kernel) (after : Option (List ℕ)) (step_rises rises : Type 0) (halt : Halt) (count : ℕ)
         → n < count → (step_rises → rises)
         → EventGives new (next (state_of mid) Step) at after step_rises (Err halt)
-            → LeavesTree {X = Unit {0}} mid.tree new.tree (Err halt)
+        → LeavesTree {X = Unit {0}} mid.tree new.tree (Err halt)
         → StepsGive old new count before after rises (Err halt)
-            × LeavesFiles {X = Unit {0}} old.tree new.tree (Err halt)
+        × LeavesFiles {X = Unit {0}} old.tree new.tree (Err halt)
     stops-give new after step_rises rises (InitEnded status) count more r gives leaves =
         let made = makes-more gives in
         let whole : stepped old count ≡ stepped old (n + 1) =
-                steps-halt (state_of old) up (n + 1) count (omega (arith, more)) status made.halts in
+        steps-halt (state_of old) up (n + 1) count (omega (arith, more)) status made.halts in
         (rw whole made, served-after went.served leaves)
     stops-give new after step_rises rises Device count more r gives leaves = (
       record {
@@ -215,7 +215,7 @@ module _ {old mid : Kernel} {n : ℕ} {before at : Option (List ℕ)} (went : We
     stops-give new after step_rises rises Console count more r gives leaves =
         let all = steps-begin (state_of old) up (n + 1) count (omega (arith, more)) in
         let parts : (stepped old n).bytes ++ (next (state_of mid) Step).bytes ≡ (stepped old (n + 1)).bytes =
-                sym (ap (λ (a : After). a.bytes) next-steps) in (
+        sym (ap (λ (a : After). a.bytes) next-steps) in (
           record {
             rises = r gives.0;
             printed = begins_more before
@@ -235,12 +235,12 @@ pub stops-rest : {old now new : Kernel} {n : ℕ} (m count : ℕ) {before mid af
     {step_rises rises : Type 0} {halt : Halt} → Went old now n before mid → old.halted ≡ None → n + m ≤ count
     → (step_rises → rises)
     → StopsAt now new m mid after step_rises halt
-        → StepsGive old new count before after rises (Err halt)
-        × LeavesFiles {X = Unit {0}} old.tree new.tree (Err halt)
+    → StepsGive old new count before after rises (Err halt)
+    × LeavesFiles {X = Unit {0}} old.tree new.tree (Err halt)
 stops-rest {new = new} m count {after = after} {step_rises} {rises} {halt} went up within r stop =
     let counts = stop.counts in
     stops-give (went-trans went up stop.went) up new after step_rises rises halt count (omega (arith, counts, within))
-        r stop.last stop.leaves
+    r stop.last stop.leaves
 
 -- ---- instructions
 
@@ -280,9 +280,12 @@ module _ {k : Kernel} {i : ℕ} (is : IsKernel k) (active : k.spaces.active ≡ 
   busy-at stops n new all =
       let on = advances-on stops n k i new is active all in
       let made : (stepped k n).state ≡ state_of (record k { spaces = new }) =
-              ap (λ (a : After). a.state) (run-advances stops n new all) in
-      record { goes = ap (λ (s : State). s.halted) made ∙ goes; busy = ap is_idle made
-          ∙ sym (busy-state (record k { spaces = new }) on.sound i on.active) }
+      ap (λ (a : After). a.state) (run-advances stops n new all) in
+      record {
+        goes = ap (λ (s : State). s.halted) made ∙ goes;
+        busy = ap is_idle made
+            ∙ sym (busy-state (record k { spaces = new }) on.sound i on.active);
+      }
 
   pub busy-advances : (stops : List ℕ) (n : ℕ) (new : Spaces) → Advances stops n k.spaces i new → (done : ℕ) → done ≤ n
       → IsBusy (stepped k done).state
@@ -335,10 +338,11 @@ pub last-goes : {k mid : Kernel} {n : ℕ} {before : Option (List ℕ)} (new : K
     (rising : Type 0) {b : After} (r : Result (Unit {0}) Halt) → Went k mid n before before → k.halted ≡ None
     → next (state_of mid) Step ≡ b
     → EventGives new b before after rising r → LeavesTree {X = Unit {0}} mid.tree new.tree r
-        → PieceGoes k new (n + 1) before after rising r
-last-goes new after rising (Ok u) went up is gives leaves =
-    (record { makes = makes-more went up (rw is gives); served = served-after went.served leaves },
-    λ none. absurd (omega (arith, none)))
+    → PieceGoes k new (n + 1) before after rising r
+last-goes new after rising (Ok u) went up is gives leaves = (
+  record { makes = makes-more went up (rw is gives); served = served-after went.served leaves },
+  λ none. absurd (omega (arith, none)),
+)
 last-goes {mid = mid} {n} {before} new after rising (Err halt) went up is gives leaves = record {
   mid = mid;
   done = n;

@@ -45,7 +45,7 @@ changed-twice t i p f g at =
     ap (λ (u : Places). changed u i g) (changed-one t i p f at)
     ∙ changed-one (with_process t i (f p)) i (f p) g (slot-put t.places i (Some (f p)) (slot-within t.places i p at))
     ∙ ap (λ (os : List (Option Process)). let u : Places = record t { places = os } in u)
-        (set-set t.places i (Some (f p)) (Some (g (f p))))
+    (set-set t.places i (Some (f p)) (Some (g (f p))))
 
 -- ---- the kernel with the pipe
 
@@ -76,51 +76,62 @@ module _ {k : Kernel} {i : ℕ} (y : Here k i) (a : ℕ) (x : Ends) where
     zero = placed.zero;
     aligned = placed.aligned;
     mode = runs-mode q h.memory p.mode y.run.runs
-        (record { descriptors = length-set (put p.descriptors x.read_fd x.reader) x.write_fd (Some x.writer)
-        ∙ length-set p.descriptors x.read_fd (Some x.reader) ∙ l.descriptors }) (free-here y);
+        (record {
+          descriptors = length-set (put p.descriptors x.read_fd x.reader) x.write_fd (Some x.writer)
+              ∙ length-set p.descriptors x.read_fd (Some x.reader) ∙ l.descriptors;
+        }) (free-here y);
   }
 
   abbrev to : Kernel
-  to = record k { table = with_process k.table i q;
-      spaces = record k.spaces { places = slice_set k.spaces.places i (Some h); pipes = put k.spaces.pipes x.pipe [] };
-      files = both }
+  to = record k {
+    table = with_process k.table i q;
+    spaces = record k.spaces { places = slice_set k.spaces.places i (Some h); pipes = put k.spaces.pipes x.pipe [] };
+    files = both;
+  }
 
   piped-is : wrote (piped k i x) i a bytes ≡ to
-  piped-is = rw (changed-twice k.table i p (with_descriptor x.read_fd (Some x.reader))
-      (with_descriptor x.write_fd (Some x.writer)) y.run.process, held-here y) refl
+  piped-is = rw (
+    changed-twice k.table i p (with_descriptor x.read_fd (Some x.reader))
+        (with_descriptor x.write_fd (Some x.writer)) y.run.process,
+    held-here y,
+  ) refl
 
   -- a write takes no frame, and the pipe one
   to-frames : taken_frames to.spaces ≡ taken_frames (with_pipe k.spaces x.pipe (Some []))
   to-frames =
       let s = with_pipe k.spaces x.pipe (Some []) in
       let e : taken_frames to.spaces + frames_in (slot k.spaces.places i) ≡ taken_frames s + frames_in (Some h) =
-              taken-placed s i (Some h) (slot-within k.spaces.places i y.held y.run.space) in
+      taken-placed s i (Some h) (slot-within k.spaces.places i y.held y.run.space) in
       let f : frames_in (slot k.spaces.places i) ≡ frames_in (Some h) = ap frames_in y.run.space
-              ∙ sym (ap (λ n. 4 + page_frames n) (length-write y.held.memory a bytes)) in
+      ∙ sym (ap (λ n. 4 + page_frames n) (length-write y.held.memory a bytes)) in
       omega (arith, e, f)
 
   -- that is what pipe makes of the state
-  to-state : state_of to ≡ record (state_of k)
-      { places = put (state_of k).places i (with_both (me y) a x.read_fd x.reader x.write_fd x.writer);
-      opens = with_ends; pipes = put k.spaces.pipes x.pipe [] }
+  to-state : state_of to ≡ record (state_of k) {
+    places = put (state_of k).places i (with_both (me y) a x.read_fd x.reader x.write_fd x.writer);
+    opens = with_ends;
+    pipes = put k.spaces.pipes x.pipe [];
+  }
   to-state =
       let opens : opens_of both ≡ with_ends =
       opens-opened first x.writer (pipe_file x.pipe end.Write)
-          ∙ ap (λ (os : List (Option OpenFile)). put os x.writer (pipe_end x.pipe WriteEnd))
-          (opens-opened k.files x.reader (pipe_file x.pipe end.Read)) in
+      ∙ ap (λ (os : List (Option OpenFile)). put os x.writer (pipe_end x.pipe WriteEnd))
+      (opens-opened k.files x.reader (pipe_file x.pipe end.Read)) in
       ap (λ (s : State). record s { opens = opens_of both; pipes = put k.spaces.pipes x.pipe [] })
-          (moved-state k i p y.held y.run y.sound q h k.spaces.registers k.spaces.pc placed y.run.runs)
-      ∙ ap (λ (os : List (Option OpenFile)). record (state_of k)
-          { places = put (state_of k).places i (with_both (me y) a x.read_fd x.reader x.write_fd x.writer); opens = os;
-          pipes = put k.spaces.pipes x.pipe [] }) opens
+      (moved-state k i p y.held y.run y.sound q h k.spaces.registers k.spaces.pc placed y.run.runs)
+      ∙ ap (λ (os : List (Option OpenFile)). record (state_of k) {
+        places = put (state_of k).places i (with_both (me y) a x.read_fd x.reader x.write_fd x.writer);
+        opens = os;
+        pipes = put k.spaces.pipes x.pipe [];
+      }) opens
 
   to-full : k.spaces.frames < taken_frames (with_pipe k.spaces x.pipe (Some [])) → is_within (state_of to) ≡ false
   to-full over =
       let stands = stands-set k.table.places k.spaces.places i (Some q) (Some h) (within-run k i p y.held y.run)
-              (within-space k i p y.held y.run y.sound) placed y.sound.stands in
+      (within-space k i p y.held y.run y.sound) placed y.sound.stands in
       over-state to (match-active to to.spaces.active
-          (λ j. match-place (slot to.table.places j) (slot to.spaces.places j) (stands j)))
-          (omega (arith, to-frames, over))
+      (λ j. match-place (slot to.table.places j) (slot to.spaces.places j) (stands j)))
+      (omega (arith, to-frames, over))
 
 -- ---- the row
 
@@ -143,16 +154,16 @@ module _ {k : Kernel} {i : ℕ} (y : Here k i) where
         let a = argument k 0 in
         let one : free_slot y.process.descriptors ≡ Some x.read_fd = rw (← names-here) free.read_fd in
         let two : free_slot (put y.process.descriptors x.read_fd x.reader) ≡ Some x.write_fd =
-                rw (← names-here) free.write_fd in
+        rw (← names-here) free.write_fd in
         let bytes : le 4 r ++ le 4 w ≡ le 4 x.read_fd ++ le 4 x.write_fd =
-                ap (λ (n : ℕ). le 4 n ++ le 4 w) (sym has.is.1)
-                ∙ ap (λ (n : ℕ). le 4 x.read_fd ++ le 4 n) (sym has.is.2) in
+        ap (λ (n : ℕ). le 4 n ++ le 4 w) (sym has.is.1)
+        ∙ ap (λ (n : ℕ). le 4 x.read_fd ++ le 4 n) (sym has.is.2) in
         let last : new ≡ waking (wrote (piped k i x) i a (le 4 x.read_fd ++ le 4 x.write_fd)) mid.table.awake = made
-                ∙ ap (wrote mid i a) bytes
-                ∙ ap (λ (z : Kernel). wrote z i a (le 4 x.read_fd ++ le 4 x.write_fd)) has.same in
+        ∙ ap (wrote mid i a) bytes
+        ∙ ap (λ (z : Kernel). wrote z i a (le 4 x.read_fd ++ le 4 x.write_fd)) has.same in
         makes y Pipe 0 sound last refl refl
         (state-waking (wrote (piped k i x) i a (le 4 x.read_fd ++ le 4 x.write_fd)) mid.table.awake
-            ∙ ap state_of (piped-is y a x) ∙ to-state y a x)
+        ∙ ap state_of (piped-is y a x) ∙ to-state y a x)
         (rw (can-here y a 8 can, free.pipe, free.reader, free.writer, one, two) refl)
 
     -- and those may be
@@ -166,15 +177,15 @@ module _ {k : Kernel} {i : ℕ} (y : Here k i) where
     unfolding pipe_row
     pipe-lacks over = refused y (Some Pipe) (rw (can-here y (argument k 0) 8 can) (
         given-refused _ _ (λ pipe e1. given-refused _ _
-            (λ reader e2. given-refused _ _
-            (λ writer e3. given-refused _ _ (λ read_fd e4. given-refused _ _ (λ write_fd e5.
+        (λ reader e2. given-refused _ _
+        (λ writer e3. given-refused _ _ (λ read_fd e4. given-refused _ _ (λ write_fd e5.
         let x : Ends = record { pipe = pipe; reader = reader; writer = writer; read_fd = read_fd; write_fd = write_fd }
-                in
+        in
         let free : AreFree k i x =
-                record { pipe = e1; reader = e2; writer = e3; read_fd = rw names-here e4; write_fd = rw names-here e5 }
-                in
+        record { pipe = e1; reader = e2; writer = e3; read_fd = rw names-here e4; write_fd = rw names-here e5 }
+        in
         ap (λ (s : State). limited (Done s 0 [])) (sym (to-state y (argument k 0) x))
-            ∙ rw (to-full y (argument k 0) x (over x free)) refl)))))))
+        ∙ rw (to-full y (argument k 0) x (over x free)) refl)))))))
 
     pub lacks-descriptors : {p : Process} → slot k.table.places i ≡ Some p → count_by is_none p.descriptors < 2
         → Acts k k i (Some Pipe) Refuses
@@ -225,10 +236,10 @@ module _ {k : Kernel} {i : ℕ} (x : Here k i) where
   unfolding close_row
   closes {d} {n} is named {new} sound told =
       let reaped = close-reaps (answered-here x 0).runner d n
-              (record { running = x.run.active; named = sym named; up = x.up })
-              ∙ sym (state-but (counting (answered (closed_at k i d n) 0) new.tree.failures)
-              (ap (λ (z : Kernel). answered z 0) told.0)) in
+      (record { running = x.run.active; named = sym named; up = x.up })
+      ∙ sym (state-but (counting (answered (closed_at k i d n) 0) new.tree.failures)
+      (ap (λ (z : Kernel). answered z 0) told.0)) in
       settles x Close 0 (here-as x sound told.0 refl told.1.up) told.1
       (rw (descriptor-is x is named)
-          (settles-gone x (clear x.process.descriptors (low (argument k 0))) x.process.directory
-          (length-set x.process.descriptors (low (argument k 0)) None) (rw (← is) reaped)))
+      (settles-gone x (clear x.process.descriptors (low (argument k 0))) x.process.directory
+      (length-set x.process.descriptors (low (argument k 0)) None) (rw (← is) reaped)))

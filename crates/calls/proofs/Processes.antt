@@ -82,7 +82,7 @@ pub sum-altered : {X : Type 0} (size : X → ℕ) (f : X → X) → ((x : X) →
     → (os : List (Option X)) (i : ℕ) → sum_by size (taken (altered os i f)) ≡ sum_by size (taken os)
 sum-altered size f alike =
     read-altered (sum_by size)
-        (λ x xs ys same. sum_by-cons size x xs ∙ ap (λ n. size x + n) same ∙ sym (sum_by-cons size x ys)) f
+    (λ x xs ys same. sum_by-cons size x xs ∙ ap (λ n. size x + n) same ∙ sym (sum_by-cons size x ys)) f
     (λ x xs. sum_by-cons size (f x) xs ∙ ap (λ n. n + sum_by size xs) (alike x) ∙ sym (sum_by-cons size x xs))
 
 -- ---- a process is marked
@@ -110,13 +110,13 @@ mark-reaps : (s : State) (i : ℕ) → reap (change_process s i rows.marked) ≡
 unfolding reap without_nodes without_pipes without_opens
 mark-reaps s i =
     let opens = kept-cong (λ n f. is_described (change_process s i rows.marked) n) (λ n f. is_described s n) 0 s.opens
-            (λ a n f e at. any-altered (λ (p : unix.Process). list_any (is_same n) p.descriptors) rows.marked
-            (λ p. refl) s.places i) in
+    (λ a n f e at. any-altered (λ (p : unix.Process). list_any (is_same n) p.descriptors) rows.marked
+    (λ p. refl) s.places i) in
     rw opens (ap (λ (files : Files). record (change_process (reap s) i rows.marked) { files = files })
-        (kept-cong _ _ 0 s.files (λ a n node e at.
+    (kept-cong _ _ 0 s.files (λ a n node e at.
     ap (λ b. nat_lt 0 (links_of node)
-        || (list_any (λ (f : OpenFile). is_node n f.target) (taken (without_opens s).opens) || b))
-        (any-altered (λ (p : unix.Process). p.directory == n) rows.marked (λ p. refl) s.places i))))
+    || (list_any (λ (f : OpenFile). is_node n f.target) (taken (without_opens s).opens) || b))
+    (any-altered (λ (p : unix.Process). p.directory == n) rows.marked (λ p. refl) s.places i))))
 
 -- it is marked before it ends, or after that
 mark-ends : (s : State) (i : ℕ) (p : unix.Process) (status : ℤ)
@@ -125,7 +125,7 @@ mark-ends : (s : State) (i : ℕ) (p : unix.Process) (status : ℤ)
 unfolding end_process
 mark-ends s i p status =
     ap (λ (os : List (Option unix.Process)). reap (record s { places = os; halted = halt_status s p status }))
-        (put-altered (option_map (orphaned p.pid)) rows.marked (zombie_of p status) s.places i)
+    (put-altered (option_map (orphaned p.pid)) rows.marked (zombie_of p status) s.places i)
     ∙ mark-reaps (with_zombie s i p status) i
 
 -- ---- the running process marks itself
@@ -138,15 +138,15 @@ module _ {k : Kernel} {i : ℕ} (x : Here k i) where
   self-marked : marked_by (state_of k) i ≡ change_process (state_of (answered k 0)) i rows.marked
   self-marked =
       ap (λ (os : List (Option unix.Process)). record (state_of k) { places = os })
-          (altered-swap rows.marked (with_answer 0) (λ p. refl) (state_of k).places i i)
+      (altered-swap rows.marked (with_answer 0) (λ p. refl) (state_of k).places i i)
       ∙ ap (λ (s : State). change_process s i rows.marked) (answer-here x 0)
 
   self-there : process_at (marked_by (state_of k) i) i ≡ Some (rows.marked (me y))
   self-there =
       ap (λ (s : State). process_at s i)
-          (self-marked ∙ change-run (answered k 0) i y.process y.held y.run y.sound rows.marked)
+      (self-marked ∙ change-run (answered k 0) i y.process y.held y.run y.sound rows.marked)
       ∙ slot-put (state_of (answered k 0)).places i (Some (rows.marked (me y)))
-          (slot-within (state_of (answered k 0)).places i (me y) (process-here y))
+      (slot-within (state_of (answered k 0)).places i (me y) (process-here y))
 
   -- it is answered, ends, and is marked
   pub settles-killed : slice_index k.spaces.registers 0 ≡ 0 → k.spaces.pc % 4 ≡ 0
@@ -154,8 +154,8 @@ module _ {k : Kernel} {i : ℕ} (x : Here k i) where
   settles-killed zero' aligned =
       sym (mark-state (ended (answered k 0) i (negsuc 0)) i)
       ∙ ap (λ (s : State). change_process s i rows.marked)
-          (sym (ends-run (answered k 0) i y.process y.held y.run y.sound
-          (get_or-set_other k.spaces.registers 10 0 0 0 (λ e. absurd (omega arith)) ∙ zero') aligned (negsuc 0) x.up))
+      (sym (ends-run (answered k 0) i y.process y.held y.run y.sound
+      (get_or-set_other k.spaces.registers 10 0 0 0 (λ e. absurd (omega arith)) ∙ zero') aligned (negsuc 0) x.up))
       ∙ sym (mark-ends (state_of (answered k 0)) i (me y) (negsuc 0))
       ∙ sym (ap (λ (s : State). end_process s i (rows.marked (me y)) (negsuc 0)) self-marked)
       ∙ sym (ap (end_at (marked_by (state_of k) i) i (negsuc 0)) self-there)
@@ -191,10 +191,10 @@ module _ {k : Kernel} {i : ℕ} (x : Here k i) where
       → Acts k k i (Some Kill) KillsItself
   kills-self found =
       let settled : settle (state_of k) i (limited (Done (change_process (state_of k) i rows.marked) 0 []))
-              ≡ quiet (settled_by (state_of k) i KillsItself) =
-              rw (mark-within (state_of k) i ∙ within-state k x.sound x.up, self-there) refl in
+      ≡ quiet (settled_by (state_of k) i KillsItself) =
+      rw (mark-within (state_of k) i ∙ within-state k x.sound x.up, self-there) refl in
       came x (Some Kill) KillsItself tt
-          (ap (λ (o : Outcome). settle (state_of k) i (limited o)) (kill-is found) ∙ settled)
+      (ap (λ (o : Outcome). settle (state_of k) i (limited o)) (kill-is found) ∙ settled)
 
 -- a pid that is not 0 is looked for
 pub named-is : (os : List (Option Process)) (n : ℕ) → n ≢ 0 → place_called os (Some n) ≡ place_where os (has_pid n)
@@ -235,9 +235,9 @@ module _ {k : Kernel} {i : ℕ} (runs : Runs k i) where
         let next = next-run x.runner in
         let left : nat_le (state_of k).next_pid last_pid ≡ true = rw next is.left in
         rw (free-run x.runner, is.free, left)
-            (ap (λ (s : State). Done s (state_of k).next_pid [])
-            (sym (fork-state x.runner runs.zero runs.aligned seat is))
-            ∙ ap (λ (n : ℕ). Done (state_of new) n []) (next ∙ sym is.pid))
+        (ap (λ (s : State). Done s (state_of k).next_pid [])
+        (sym (fork-state x.runner runs.zero runs.aligned seat is))
+        ∙ ap (λ (n : ℕ). Done (state_of new) n []) (next ∙ sym is.pid))
 
     pub fork-unfit : k.spaces.frames < taken_frames (copied k.spaces i seat.place) → Acts k k i (Some Fork) Refuses
     fork-unfit over = refused x (Some Fork)
@@ -250,7 +250,7 @@ module _ {k : Kernel} {i : ℕ} (runs : Runs k i) where
     forks {k'} sound made =
         let so = made x.process x.run.process in
         does x Fork seat.pid (here-as x sound so refl (ap (λ (y : Kernel). y.tree.failed) so ∙ runs.up))
-            (rw so (record { up = runs.up; same_device = refl; later = omega arith }))
+        (rw so (record { up = runs.up; same_device = refl; later = omega arith }))
         (forked-row ∙ ap (λ (s : State). Done s seat.pid []) (sym (state-but new so)))
 
 -- ---- sbrk
@@ -287,9 +287,11 @@ status-is : {k : Kernel} {i : ℕ} (x : Here k i) (a : ℕ) (status : ℤ)
     → let to = with_status k i a status
     in (state_of to ≡ put_process (state_of k) i (rows.with_status (me x) a status))
     × ((to.spaces.active ≡ k.spaces.active) × (to.tree ≡ k.tree))
-status-is {k} {i} x zero status =
-    (ap (λ (places : List (Option unix.Process)). record (state_of k) { places = places })
-    (sym (set-slot (state_of k).places i (Some (me x)) (process-here x))), (refl, refl))
+status-is {k} {i} x zero status = (
+  ap (λ (places : List (Option unix.Process)). record (state_of k) { places = places })
+      (sym (set-slot (state_of k).places i (Some (me x)) (process-here x))),
+  (refl, refl),
+)
 status-is x (suc a) status =
     let some : nat_eq (suc a) 0 ≡ false = ne_eqb (suc a) 0 (λ same. absurd (omega (arith, same))) in
     rw some (wrote-state x.run x.sound (suc a) (le 4 (cast_unsigned w32 status)), (refl, refl))
@@ -334,22 +336,30 @@ module _ {k : Kernel} {i : ℕ} (x : Here k i) (parent : ℕ)
       mid-is = left ∙ ap (collected k) has.found
 
       abbrev mid-here : Here mid i
-      mid-here = record { runner = record
-          { process = x.process; held = x.held; run = collected-run x.runner r.place apart;
-          sound = collected-kernel x.sound r.place has.child has.zombie }; up = x.up }
+      mid-here = record {
+        runner = record {
+          process = x.process;
+          held = x.held;
+          run = collected-run x.runner r.place apart;
+          sound = collected-kernel x.sound r.place has.child has.zombie;
+        };
+        up = x.up;
+      }
 
       child-at : process_at (state_of k) r.place ≡ Some (with_space (view_at k.spaces r.place) has.child)
       child-at =
           process-state k r.place
           ∙ ap (option_map (with_space (view_at k.spaces r.place)))
-              (ap (λ (t : Places). slot t.places r.place) (loaded-run k i x.process x.held x.run)
-              ∙ slot-other k.table.places i r.place (Some (on_hart k.spaces x.process)) apart ∙ has.zombie.at)
+          (ap (λ (t : Places). slot t.places r.place) (loaded-run k i x.process x.held x.run)
+          ∙ slot-other k.table.places i r.place (Some (on_hart k.spaces x.process)) apart ∙ has.zombie.at)
 
       pub collects-can : can_answer (memory_at k i) (pending_arg w 0) ≡ true
           → (m.spaces.active ≡ Some i) × (can_answer (memory_at m i) (pending_arg w 0) ≡ true)
-      collects-can can = rw mid-is
-          (x.run.active, ap (λ (o : Option SpaceView). can_answer (unwrap_or o no_pages).memory (pending_arg w 0))
-          (slot-other k.spaces.places r.place i None (λ e. apart (sym e))) ∙ can)
+      collects-can can = rw mid-is (
+        x.run.active,
+        ap (λ (o : Option SpaceView). can_answer (unwrap_or o no_pages).memory (pending_arg w 0))
+            (slot-other k.spaces.places r.place i None (λ e. apart (sym e))) ∙ can,
+      )
 
       pub collects : {new : Kernel} → IsKernel new → new ≡ with_status m i (pending_arg w 0) r.status
           → GoesOn k new i w (Answers r.pid)
@@ -358,28 +368,31 @@ module _ {k : Kernel} {i : ℕ} (x : Here k i) (parent : ℕ)
           let to : new ≡ with_status mid i a r.status = is ∙ ap (λ (y : Kernel). with_status y i a r.status) mid-is in
           let after = status-is mid-here a r.status in
           let state : state_of (with_status mid i a r.status)
-                  ≡ record (state_of k) { places = clear
-                  (put (state_of k).places i (rows.with_status (me x) a r.status)) r.place } =
+          ≡ record (state_of k) {
+            places = clear
+                (put (state_of k).places i (rows.with_status (me x) a r.status)) r.place;
+          } =
           after.0
           ∙ ap (λ (s : State). put_process s i (rows.with_status (me x) a r.status))
-              (collected-state x.runner r.place has.child has.zombie apart)
+          (collected-state x.runner r.place has.child has.zombie apart)
           ∙ ap (λ (places : List (Option unix.Process)). record (state_of k) { places = places })
-              (set_comm (state_of k).places r.place i None (Some (rows.with_status (me x) a r.status)) apart) in
+          (set_comm (state_of k).places r.place i None (Some (rows.with_status (me x) a r.status)) apart) in
           rw has.pid (goes-done x w has.child.pid sound to after.1.0 after.1.1
           (state ∙ ap (λ (z : ℤ). record (state_of k)
-              { places = clear (put (state_of k).places i (rows.with_status (me x) a z)) r.place }) has.status)
+          { places = clear (put (state_of k).places i (rows.with_status (me x) a z)) r.place }) has.status)
           (wait-row ∙ ap (wait_for (state_of k) i (me x) w) has.found
-              ∙ ap (λ (o : Option unix.Process). given o (λ c. rows.collect (state_of k) i (me x) a r.place c))
-              child-at))
+          ∙ ap (λ (o : Option unix.Process). given o (λ c. rows.collect (state_of k) i (me x) a r.place c))
+          child-at))
 
     pub wait-blocks : {m : Kernel} → can_answer (memory_at k i) (pending_arg w 0) ≡ true
         → reaped_at k.table (zombie_place k.table parent) ≡ None → m ≡ collected k (zombie_place k.table parent)
         → GoesOn k m i w (Blocks w)
     wait-blocks can is left =
         let none = unreaped-go k.table parent (zombie_place k.table parent) refl is in
-        rw (left, none) (goes-waits x w w x.sound refl refl refl
-            (subst (IsPending (descriptors_at k i) (memory_at k i) w) (sym number) can,
-            waits-other _ _ w Wait (λ same. absurd (cc)) (λ same. absurd (cc)) number) refl
+        rw (left, none) (goes-waits x w w x.sound refl refl refl (
+          subst (IsPending (descriptors_at k i) (memory_at k i) w) (sym number) can,
+          waits-other _ _ w Wait (λ same. absurd (cc)) (λ same. absurd (cc)) number,
+        ) refl
         (wait-row ∙ ap (wait_for (state_of k) i (me x) w) none))
 
   -- ---- the call begins

@@ -66,6 +66,12 @@ module _ {k : Kernel} {i : ℕ} (x : Here k i) where
   abbrev pub answered-here : (value : ℕ) → Here (answered k value) i
   answered-here value =
       let regs = slice_set k.spaces.registers 10 value in
-      record { runner = record
-          { process = x.process; held = x.held; run = regs-run k i x.process x.held x.run x.sound regs k.spaces.pc;
-          sound = regs-kernel k x.sound regs k.spaces.pc }; up = x.up }
+      record {
+        runner = record {
+          process = x.process;
+          held = x.held;
+          run = regs-run k i x.process x.held x.run x.sound regs k.spaces.pc;
+          sound = regs-kernel k x.sound regs k.spaces.pc;
+        };
+        up = x.up;
+      }

@@ -101,7 +101,7 @@ pub prints-all : (mem : Memory) (address count done : ℕ) → is_some (read_byt
 prints-all mem address count done readable within end before after printed =
     let same : done ≡ count = omega (arith, within, end) in
     rw (readable-count mem address count readable).1
-        (subst (λ (n : ℕ). Appends before after (take n (reach Load mem address))) same printed)
+    (subst (λ (n : ℕ). Appends before after (take n (reach Load mem address))) same printed)
 
 -- ---- to the console
 
@@ -119,9 +119,11 @@ module _ {k : Kernel} {i n : ℕ} {w : Pending} (g : Transfers k i end.Write (ta
   module _ {m : ℕ} (all : m ≡ wanted w) (before now : Option (List ℕ)) where
     pub puts-all : Appends before now (bytes_given k.spaces i (pending_arg w 1) m)
         → (bs : List ℕ) × Comes k k i (limited (going_at (state_of k) i w)) bs (Answers m) × Appends before now bs
-    puts-all printed = rw all
-        (given_bytes g, settles-to (wanted w) (given_bytes g) (here g) (same-served refl (here g).up) settles-puts,
-        rw all at printed)
+    puts-all printed = rw all (
+      given_bytes g,
+      settles-to (wanted w) (given_bytes g) (here g) (same-served refl (here g).up) settles-puts,
+      rw all at printed,
+    )
 
     -- the console failed
     pub puts-beginning : AppendsBeginning before now (bytes_given k.spaces i (pending_arg w 1) m)
@@ -200,7 +202,7 @@ module _ {k : Kernel} {i : ℕ} {w : Pending} {q : ℕ} {d : End} (g : Transfers
         sends-over all =
             let test = tested true (eq-eqb (w.done + c) (wanted w) all) in
             rw count-is (goes-done (here g) w (w.done + length (fitting held left)) sound made-full refl refl
-                (state-waking full to.table.awake) (sends-row ∙ rw (some, test) refl))
+            (state-waking full to.table.awake) (sends-row ∙ rw (some, test) refl))
 
         pub sends-on : w.done + c ≢ wanted w → GoesOn k to i w (Blocks (record w { done = w.done + c }))
         sends-on rests =
@@ -209,14 +211,18 @@ module _ {k : Kernel} {i : ℕ} {w : Pending} {q : ℕ} {d : End} (g : Transfers
             let f = file g in
             let within = sends-within in
             let writing : IsWriting (descriptors_at k i) (memory_at k i) further =
-                    record { named = g.can.named; readable = g.can.readable;
-                    left = omega (arith, rests, within, count-is) } in
+            record {
+              named = g.can.named;
+              readable = g.can.readable;
+              left = omega (arith, rests, within, count-is);
+            } in
             let for : IsForPipe k.files (descriptors_at k i) further = λ write. rw (f.named, f.opened, f.on) refl in
-            let may : CanWait full i further =
-                    (subst (IsPending (descriptors_at k i) (memory_at k i) further) (sym g.number) writing,
-                    waits-writing k.files (descriptors_at k i) further g.number for) in
+            let may : CanWait full i further = (
+              subst (IsPending (descriptors_at k i) (memory_at k i) further) (sym g.number) writing,
+              waits-writing k.files (descriptors_at k i) further g.number for,
+            ) in
             rw count-is (goes-waits (here g) w further sound made-full refl refl may (state-waking full to.table.awake)
-                (sends-row ∙ rw (some, test) refl))
+            (sends-row ∙ rw (some, test) refl))
 
 -- ---- a read from the console or a pipe goes on
 
@@ -257,11 +263,15 @@ pub record Took (k k1 : Kernel) (i : ℕ) (w : Pending) (n : ℕ) (buffer : List
 pub took-of : {k k1 : Kernel} {i : ℕ} {w : Pending} {n : ℕ} {buffer : List ℕ} {over : Bool} → IsSized (memory_at k i)
     → n ≤ 128 → length buffer ≡ 128 → {wide : ℕ} → wide ≡ wanted w
     → take_line (nat_lt 0 w.done) (wide - w.done) k.console.committed
-        ≡ record { bytes = take n buffer; rest = k1.console.committed; over = over }
-        → k1 ≡ typed k (record k.console { committed = k1.console.committed }) → Took k k1 i w n buffer over
+    ≡ record { bytes = take n buffer; rest = k1.console.committed; over = over }
+    → k1 ≡ typed k (record k.console { committed = k1.console.committed }) → Took k k1 i w n buffer over
 took-of {k} {w = w} sized few long all took rest =
-    record { sized = sized; long = omega (arith, few, long);
-    took = ap (λ (m : ℕ). take_line (nat_lt 0 w.done) (m - w.done) k.console.committed) (sym all) ∙ took; rest = rest }
+    record {
+      sized = sized;
+      long = omega (arith, few, long);
+      took = ap (λ (m : ℕ). take_line (nat_lt 0 w.done) (m - w.done) k.console.committed) (sym all) ∙ took;
+      rest = rest;
+    }
 
 -- ---- from the console
 
@@ -298,12 +308,12 @@ module _ {k : Kernel} {i n : ℕ} {w : Pending} (g : Transfers k i end.Read (tar
     pub reads-write : can_write (memory_at k1 i) address (length line) ≡ true
     reads-write =
         let most : length (line_for k w).bytes ≤ wanted w - w.done =
-                (line-fits (nat_lt 0 w.done) (wanted w - w.done) k.console.committed).0 in
+        (line-fits (nat_lt 0 w.done) (wanted w - w.done) k.console.committed).0 in
         let left = g.can.left in
         let all = same in
         ap (λ (y : Kernel). can_write (memory_at y i) address (length line)) f.rest
         ∙ rest-writes (memory_at k i) (pending_arg w 1) w.done (length line) (wanted w) f.sized g.can.buffer
-            (omega (arith, most, all, left))
+        (omega (arith, most, all, left))
 
     -- what was typed goes, and the bytes go to the process
     abbrev made : Kernel
@@ -323,9 +333,9 @@ module _ {k : Kernel} {i n : ℕ} {w : Pending} (g : Transfers k i end.Read (tar
       line-taken b is =
           line-row ∙ ap (read_taken (state_of k) i (me (here g)) w) f.took
           ∙ ap (λ (b : Bool). if b then Done after_line (w.done + length line) []
-              else Waits after_line (record w { done = w.done + length line })) is
+          else Waits after_line (record w { done = w.done + length line })) is
           ∙ ap (λ (m : ℕ). if b then Done after_line (w.done + m) []
-              else Waits after_line (record w { done = w.done + m })) count
+          else Waits after_line (record w { done = w.done + m })) count
 
       pub reads-over : over ≡ true → GoesOn k new i w (Answers (w.done + c))
       reads-over passed = goes-done (here g) w (w.done + c) sound made-is refl refl state (line-taken true passed)
@@ -338,8 +348,8 @@ module _ {k : Kernel} {i n : ℕ} {w : Pending} (g : Transfers k i end.Read (tar
       reading more =
           let mem = memory_at k i in
           let less : length (line_for k w).bytes < wanted w - w.done =
-                  (line-fits (nat_lt 0 w.done) (wanted w - w.done) k.console.committed).1
-                  (ap (λ (t : Taken). t.over) f.took ∙ more) in
+          (line-fits (nat_lt 0 w.done) (wanted w - w.done) k.console.committed).1
+          (ap (λ (t : Taken). t.over) f.took ∙ more) in
           let all = same in
           let some = count in
           let on : IsReading (descriptors_at k i) (write_bytes mem address line) further = record {
@@ -349,8 +359,8 @@ module _ {k : Kernel} {i n : ℕ} {w : Pending} (g : Transfers k i end.Read (tar
             left = omega (arith, less, all, some);
           } in
           subst (λ (h : SpaceView). IsReading (descriptors_at k i) h.memory further)
-              (sym (held-same k.spaces i (written (view_at k.spaces i) address line)
-              (slot-within k.spaces.places i (here g).held (here g).run.space))) on
+          (sym (held-same k.spaces i (written (view_at k.spaces i) address line)
+          (slot-within k.spaces.places i (here g).held (here g).run.space))) on
 
       pub reads-on : over ≡ false → GoesOn k new i w (Blocks further)
       reads-on more =
@@ -358,10 +368,11 @@ module _ {k : Kernel} {i n : ℕ} {w : Pending} (g : Transfers k i end.Read (tar
           let for : IsForBytes k.files (descriptors_at k i) further = λ read. rw (f.named, f.opened, f.on) refl in
           -- a read of the console may have taken some
           let fresh : IsFresh k.files (descriptors_at k i) further =
-                  λ read. rw (f.named, f.opened) (λ on. absurd (false≢true (ap is_on_pipe (sym f.on) ∙ on))) in
-          let may : CanWait made i further =
-                  (subst (IsPending (descriptors_at k i) (memory_at made i) further) (sym g.number) (reading more),
-                  waits-reading k.files (descriptors_at k i) further g.number for fresh) in
+          λ read. rw (f.named, f.opened) (λ on. absurd (false≢true (ap is_on_pipe (sym f.on) ∙ on))) in
+          let may : CanWait made i further = (
+            subst (IsPending (descriptors_at k i) (memory_at made i) further) (sym g.number) (reading more),
+            waits-reading k.files (descriptors_at k i) further g.number for fresh,
+          ) in
           goes-waits (here g) w further sound made-is refl refl may state (line-taken false more)
 
 -- ---- from a pipe
@@ -396,23 +407,23 @@ module _ {k : Kernel} {i : ℕ} {w : Pending} {q : ℕ} {d : End} (g : Transfers
       let x = here g in
       let count = wanted w in
       ap (λ (n : ℕ). answers (put_process (record (state_of k) { pipes = put k.spaces.pipes q (drop count (b ∷ bs)) })
-          i (record (me x) { memory = write_bytes x.held.memory n (take count (b ∷ bs)) }))
-          (min count (length (b ∷ bs)))) (let s = start in omega (arith, s))
+      i (record (me x) { memory = write_bytes x.held.memory n (take count (b ∷ bs)) }))
+      (min count (length (b ∷ bs)))) (let s = start in omega (arith, s))
       ∙ ap (λ (all : List ℕ). answers
-          (put_process (record (state_of k) { pipes = put k.spaces.pipes q (drop count all) }) i
-          (record (me x) { memory = write_bytes x.held.memory (pending_arg w 1) (take count all) }))
-          (min count (length (b ∷ bs)))) (sym same)
+      (put_process (record (state_of k) { pipes = put k.spaces.pipes q (drop count all) }) i
+      (record (me x) { memory = write_bytes x.held.memory (pending_arg w 1) (take count all) }))
+      (min count (length (b ∷ bs)))) (sym same)
       ∙ ap (λ (s : State). Done s (min count (length (b ∷ bs))) [])
-          (sym (drew-state x.run x.sound q (pending_arg w 1) count))
+      (sym (drew-state x.run x.sound q (pending_arg w 1) count))
 
   pub reads-taken : {b : Bool} → b ≡ not (is_empty bytes) → b ≡ true → {m : ℕ} → m ≡ wanted w → {new : Kernel} {n : ℕ}
       → new ≡ waking (drew k i q (pending_arg w 1) m) new.table.awake → IsKernel new → n ≡ min m (length bytes)
       → GoesOn k new i w (Answers n)
   reads-taken told full wide {new} made sound counted =
       let made' : new ≡ waking drawn new.table.awake = made
-              ∙ ap (λ m. waking (drew k i q (pending_arg w 1) m) new.table.awake) wide in
+      ∙ ap (λ m. waking (drew k i q (pending_arg w 1) m) new.table.awake) wide in
       rw (counted, wide) (goes-done (here g) w (min (wanted w) (length bytes)) sound made' refl refl
-          (state-waking drawn new.table.awake)
+      (state-waking drawn new.table.awake)
       (pipe-row ∙ row-taken bytes refl (some-bytes (length bytes) (sym told ∙ full))))
 
   -- it is empty
@@ -433,6 +444,7 @@ module _ {k : Kernel} {i : ℕ} {w : Pending} {q : ℕ} {d : End} (g : Transfers
     reads-waiting is =
         let f = file g in
         let for : IsForBytes k.files (descriptors_at k i) w = λ read. rw (f.named, f.opened, f.on) refl in
-        goes-waits (here g) w w g.runs.sound refl refl refl
-            (subst (IsPending (descriptors_at k i) (memory_at k i) w) (sym g.number) g.can,
-            waits-reading k.files (descriptors_at k i) w g.number for g.fresh) refl (empty true is)
+        goes-waits (here g) w w g.runs.sound refl refl refl (
+          subst (IsPending (descriptors_at k i) (memory_at k i) w) (sym g.number) g.can,
+          waits-reading k.files (descriptors_at k i) w g.number for g.fresh,
+        ) refl (empty true is)

@@ -49,10 +49,13 @@ module _ {k : Kernel} {i : ℕ} {e : End} {number offset : ℕ} {w : Pending}
   moves-may : {m : Kernel} → m.files ≡ k.files → {id l : ℕ} → id ≡ (file g).number → l ≡ low n
       → MayMove m id (offset + l)
   moves-may files named cut =
-      rw (named, cut, same) (record
-      { number = number; old = offset;
-      on = ap (λ t. option_map (λ (f : OpenFile). f.target) (file_at t (file g).number)) files
-      ∙ ap (option_map (λ (f : OpenFile). f.target)) (file g).opened ∙ ap Some (file g).on; within = near })
+      rw (named, cut, same) (record {
+        number = number;
+        old = offset;
+        on = ap (λ t. option_map (λ (f : OpenFile). f.target) (file_at t (file g).number)) files
+            ∙ ap (option_map (λ (f : OpenFile). f.target)) (file g).opened ∙ ap Some (file g).on;
+        within = near;
+      })
 
   moved-opens : opens_of (moved k.files (file g).number (offset + n))
       ≡ put (opens_of k.files) (file g).number (record (file_of (file g).file) { target = OnNode number (offset + n) })
@@ -62,16 +65,16 @@ module _ {k : Kernel} {i : ℕ} {e : End} {number offset : ℕ} {w : Pending}
   moves-done : {m z new : Kernel} → m ≡ z → z.spaces.active ≡ k.spaces.active → {id l : ℕ} → id ≡ (file g).number
       → l ≡ low n → new ≡ advanced m id (offset + l) → IsKernel new → IsServed k.tree m.tree
       → (answer : ℕ) → going (here g) w ≡ Done (state_of (advanced z (file g).number (offset + n))) answer []
-          → GoesOn k new i w (Answers answer)
+      → GoesOn k new i w (Answers answer)
   moves-done {m} {z} {new} left active {l = l} named cut is sound served answer row =
       let at = (file g).number in
       let made : new ≡ advanced z at (offset + n) = is ∙ ap (λ (j : ℕ). advanced m j (offset + l)) named
-              ∙ ap (λ (d : ℕ). advanced m at (offset + d)) (cut ∙ same)
-              ∙ ap (λ (y : Kernel). advanced y at (offset + n)) left in
+      ∙ ap (λ (d : ℕ). advanced m at (offset + d)) (cut ∙ same)
+      ∙ ap (λ (y : Kernel). advanced y at (offset + n)) left in
       let tree : new.tree ≡ m.tree = ap (λ (y : Kernel). y.tree) is in
       goes-serves (here g) w answer
-          (here-as (here g) sound made active (ap (λ (t : FileTree). t.failed) tree ∙ served.up)) (rw tree served)
-          (row ∙ ap (λ (s : State). Done s answer []) (sym (ap state_of made)))
+      (here-as (here g) sound made active (ap (λ (t : FileTree). t.failed) tree ∙ served.up)) (rw tree served)
+      (row ∙ ap (λ (s : State). Done s answer []) (sym (ap state_of made)))
 
 -- ---- a read
 
@@ -99,81 +102,90 @@ unfolding read_on
 reads-file s i p w f is n at on node here = rw (is.named, is.opened, on, here) refl
 
 module _ {k : Kernel} {i : ℕ} {w : Pending} {number offset : ℕ} (u : Uses k i end.Read (target.File number offset) w)
-    where
-  abbrev g : Transfers k i end.Read (target.File number offset) w
-  g = u.goes
+  where
+    abbrev g : Transfers k i end.Read (target.File number offset) w
+    g = u.goes
 
-  abbrev count : ℕ
-  count = wanted w
+    abbrev count : ℕ
+    count = wanted w
 
-  abbrev address : ℕ
-  address = pending_arg w 1
+    abbrev address : ℕ
+    address = pending_arg w 1
 
-  pub content : HasBytes (slot k.tree.files number) offset
-  content = has-bytes (file g).file number offset (slot k.tree.files number) (file-fits g)
+    pub content : HasBytes (slot k.tree.files number) offset
+    content = has-bytes (file g).file number offset (slot k.tree.files number) (file-fits g)
 
-  -- what comes
-  abbrev piece : List ℕ
-  piece = bytes_read k.tree.files number offset count
+    -- what comes
+    abbrev piece : List ℕ
+    piece = bytes_read k.tree.files number offset count
 
-  abbrev bytes : List ℕ
-  bytes = take count (drop offset (node_bytes content.node))
+    abbrev bytes : List ℕ
+    bytes = take count (drop offset (node_bytes content.node))
 
-  piece-is : piece ≡ bytes
-  piece-is = ap (λ (o : Option Node). take count (drop offset (bytes_of o))) content.here
+    piece-is : piece ≡ bytes
+    piece-is = ap (λ (o : Option Node). take count (drop offset (bytes_of o))) content.here
 
-  -- m is what the read left, and new what goes on behind it
-  module _ (whole : IsWhole k.tree) {m : Kernel} {n c : ℕ} (wide : c ≡ count)
-      (fetched : HasFetched k m i number offset address c n) where
-    told : HasFetched k m i number offset address count n
-    told = rw wide at fetched
+    -- m is what the read left, and new what goes on behind it
+    module _ (whole : IsWhole k.tree) {m : Kernel} {n c : ℕ} (wide : c ≡ count)
+        (fetched : HasFetched k m i number offset address c n) where
+      told : HasFetched k m i number offset address count n
+      told = rw wide at fetched
 
-    reads-within : offset + n ≤ longest
-    reads-within =
-        let c = content in
-        let same : length piece ≡ length bytes = ap length piece-is in
-        let size = whole-node c.node (subst FitsPlaces c.here (whole.places number)) in
-        let used = (here g).sound.used (here g).up in
-        let short = subst KeepsSize c.here (used.rules.sizes number) in
-        omega (arith, same, size, short, c.near, length-take count (drop offset (node_bytes c.node)),
-            length-drop offset (node_bytes c.node), told.counted)
+      reads-within : offset + n ≤ longest
+      reads-within =
+          let c = content in
+          let same : length piece ≡ length bytes = ap length piece-is in
+          let size = whole-node c.node (subst FitsPlaces c.here (whole.places number)) in
+          let used = (here g).sound.used (here g).up in
+          let short = subst KeepsSize c.here (used.rules.sizes number) in
+          omega (
+            arith,
+            same,
+            size,
+            short,
+            c.near,
+            length-take count (drop offset (node_bytes c.node)),
+            length-drop offset (node_bytes c.node),
+            told.counted,
+          )
 
-    pub reads-near : offset + low n < 2 ^ 32
-    reads-near = moves-near g n reads-within
+      pub reads-near : offset + low n < 2 ^ 32
+      reads-near = moves-near g n reads-within
 
-    pub reads-may : {id l : ℕ} → id ≡ (file g).number → l ≡ low n → MayMove m id (offset + l)
-    reads-may = moves-may g n reads-within (ap (λ (y : Kernel). y.files) told.same)
+      pub reads-may : {id l : ℕ} → id ≡ (file g).number → l ≡ low n → MayMove m id (offset + l)
+      reads-may = moves-may g n reads-within (ap (λ (y : Kernel). y.files) told.same)
 
-    -- the state with that
-    abbrev left : ℕ → ℕ → List ℕ → State
-    left o at bs = record (put_process (state_of k) i
-        (record (me (here g)) { memory = write_bytes (here g).held.memory at bs }))
-        { opens = put (opens_of k.files) (file g).number
-        (record (file_of (file g).file) { target = OnNode number (offset + o) }) }
+      -- the state with that
+      abbrev left : ℕ → ℕ → List ℕ → State
+      left o at bs = record (put_process (state_of k) i
+          (record (me (here g)) { memory = write_bytes (here g).held.memory at bs })) {
+            opens = put (opens_of k.files) (file g).number
+                (record (file_of (file g).file) { target = OnNode number (offset + o) });
+          }
 
-    left-is : state_of (advanced (counting (wrote k i address piece) m.tree.failures) (file g).number (offset + n))
-        ≡ left n address piece
-    left-is =
-        ap (λ (s : State). record s { opens = opens_of (moved k.files (file g).number (offset + n)) })
-            (wrote-state (here g).run (here g).sound address piece)
-        ∙ ap (λ (os : List (Option unix_files.OpenFile)). record (left n address piece) { opens = os })
-            (moved-opens g n reads-within)
+      left-is : state_of (advanced (counting (wrote k i address piece) m.tree.failures) (file g).number (offset + n))
+          ≡ left n address piece
+      left-is =
+          ap (λ (s : State). record s { opens = opens_of (moved k.files (file g).number (offset + n)) })
+          (wrote-state (here g).run (here g).sound address piece)
+          ∙ ap (λ (os : List (Option unix_files.OpenFile)). record (left n address piece) { opens = os })
+          (moved-opens g n reads-within)
 
-    pub reads-done : {new : Kernel} {id l : ℕ} → id ≡ (file g).number → l ≡ low n → new ≡ advanced m id (offset + l)
-        → IsKernel new → IsServed k.tree m.tree → GoesOn k new i w (Answers n)
-    reads-done named cut is sound served =
-        let c = content in
-        let start = u.start in
-        let from : address + w.done ≡ address = omega (arith, start) in
-        moves-done g n reads-within told.same refl named cut is sound served n (
-        going-is g
-        ∙ reads-file (state_of k) i (me (here g)) w (file_of (file g).file) (file-named g) number offset
-            (ap target_of (file g).on) c.node c.here
-        ∙ c.reads (state_of k) i (me (here g)) w (file g).number (file_of (file g).file) number offset
-        ∙ ap (λ (at : ℕ). Done (left (length bytes) at bytes) (length bytes) []) from
-        ∙ ap (λ (bs : List ℕ). Done (left (length bs) address bs) (length bs) []) (sym piece-is)
-        ∙ ap (λ (o : ℕ). Done (left o address piece) o []) (sym told.counted)
-        ∙ ap (λ (s : State). Done s n []) (sym left-is))
+      pub reads-done : {new : Kernel} {id l : ℕ} → id ≡ (file g).number → l ≡ low n → new ≡ advanced m id (offset + l)
+          → IsKernel new → IsServed k.tree m.tree → GoesOn k new i w (Answers n)
+      reads-done named cut is sound served =
+          let c = content in
+          let start = u.start in
+          let from : address + w.done ≡ address = omega (arith, start) in
+          moves-done g n reads-within told.same refl named cut is sound served n (
+          going-is g
+          ∙ reads-file (state_of k) i (me (here g)) w (file_of (file g).file) (file-named g) number offset
+          (ap target_of (file g).on) c.node c.here
+          ∙ c.reads (state_of k) i (me (here g)) w (file g).number (file_of (file g).file) number offset
+          ∙ ap (λ (at : ℕ). Done (left (length bytes) at bytes) (length bytes) []) from
+          ∙ ap (λ (bs : List ℕ). Done (left (length bs) address bs) (length bs) []) (sym piece-is)
+          ∙ ap (λ (o : ℕ). Done (left o address piece) o []) (sym told.counted)
+          ∙ ap (λ (s : State). Done s n []) (sym left-is))
 
 -- ---- a write: the row
 
@@ -242,86 +254,89 @@ open-file f n offset files _ here writable fits = absurd fits
 -- ---- the write
 
 module _ {k : Kernel} {i : ℕ} {w : Pending} {number offset : ℕ} (u : Uses k i end.Write (target.File number offset) w)
-    where
-  abbrev to : Transfers k i end.Write (target.File number offset) w
-  to = u.goes
+  where
+    abbrev to : Transfers k i end.Write (target.File number offset) w
+    to = u.goes
 
-  pub is-file : IsFile k.tree.files number
-  is-file = open-file (file to).file number offset k.tree.files (slot k.tree.files number) refl
-      (named-file to (λ f. f.writable ≡ true) u.mode) (file-fits to)
+    pub is-file : IsFile k.tree.files number
+    is-file = open-file (file to).file number offset k.tree.files (slot k.tree.files number) refl
+        (named-file to (λ f. f.writable ≡ true) u.mode) (file-fits to)
 
-  abbrev went : Option Written
-  went = written k.tree.block_limit k.tree.files number offset (given_bytes to)
+    abbrev went : Option Written
+    went = written k.tree.block_limit k.tree.files number offset (given_bytes to)
 
-  stores-row : going (here to) w
-      ≡ write_node (state_of k) (file to).number (file_of (file to).file) number offset is-file.links is-file.bytes
-      (given_bytes to)
-  unfolding write_on
-  stores-row = let f = file-named to in going-is to
-      ∙ rw (f.named, f.opened, read-given to, (file to).on, is-file.here) refl
+    stores-row : going (here to) w
+        ≡ write_node (state_of k) (file to).number (file_of (file to).file) number offset is-file.links is-file.bytes
+        (given_bytes to)
+    unfolding write_on
+    stores-row = let f = file-named to in going-is to
+        ∙ rw (f.named, f.opened, read-given to, (file to).on, is-file.here) refl
 
-  -- m is what the write left
-  module _ {m : Kernel} {c : ℕ} {r : Option ℕ} (wide : c ≡ wanted w)
-      (stores : HasStored k m i number offset (pending_arg w 1) c r) where
-    stored : HasStored k m i number offset (pending_arg w 1) (wanted w) r
-    stored = rw wide at stores
+    -- m is what the write left
+    module _ {m : Kernel} {c : ℕ} {r : Option ℕ} (wide : c ≡ wanted w)
+        (stores : HasStored k m i number offset (pending_arg w 1) c r) where
+      stored : HasStored k m i number offset (pending_arg w 1) (wanted w) r
+      stored = rw wide at stores
 
-    -- nothing is written
-    pub writes-refused : r ≡ None → IsKernel m → IsServed k.tree m.tree → GoesOn k m i w Refuses
-    writes-refused none sound served =
-        let gone = none-count went (sym none ∙ stored.counted) in
-        let state : state_of m ≡ state_of k = ap state_of stored.same
-                ∙ ap (λ (v : Option Written). record (state_of k) { files = files_after k.tree.files v }) gone in
-        let refused = going-here (here to) w ∙ stores-row
-                ∙ is-refused (state_of k) (file to).number (file_of (file to).file) number offset is-file.links
-                is-file.bytes (given_bytes to) is-file.here gone in
-        record { comes = refuses-on refused state
-            (ap (λ (y : Kernel). y.spaces.active) stored.same ∙ (here to).run.active) sound served; within =
-            rw refused refl }
+      -- nothing is written
+      pub writes-refused : r ≡ None → IsKernel m → IsServed k.tree m.tree → GoesOn k m i w Refuses
+      writes-refused none sound served =
+          let gone = none-count went (sym none ∙ stored.counted) in
+          let state : state_of m ≡ state_of k = ap state_of stored.same
+          ∙ ap (λ (v : Option Written). record (state_of k) { files = files_after k.tree.files v }) gone in
+          let refused = going-here (here to) w ∙ stores-row
+          ∙ is-refused (state_of k) (file to).number (file_of (file to).file) number offset is-file.links
+          is-file.bytes (given_bytes to) is-file.here gone in
+          record {
+            comes = refuses-on refused state
+                (ap (λ (y : Kernel). y.spaces.active) stored.same ∙ (here to).run.active) sound served;
+            within =
+                rw refused refl;
+          }
 
-    module _ {n : ℕ} (some : r ≡ Some n) where
-      written-so : (v : Written) × (went ≡ Some v) × (v.count ≡ n)
-      written-so = some-count went n (sym some ∙ stored.counted)
+      module _ {n : ℕ} (some : r ≡ Some n) where
+        written-so : (v : Written) × (went ≡ Some v) × (v.count ≡ n)
+        written-so = some-count went n (sym some ∙ stored.counted)
 
-      store-is : IsStored (state_of k) (file to).number (file_of (file to).file) number offset is-file.links
-          is-file.bytes (given_bytes to) written-so.0
-      store-is = is-stored (state_of k) (file to).number (file_of (file to).file) number offset is-file.links
-          is-file.bytes (given_bytes to) is-file.here written-so.0 written-so.1
+        store-is : IsStored (state_of k) (file to).number (file_of (file to).file) number offset is-file.links
+            is-file.bytes (given_bytes to) written-so.0
+        store-is = is-stored (state_of k) (file to).number (file_of (file to).file) number offset is-file.links
+            is-file.bytes (given_bytes to) is-file.here written-so.0 written-so.1
 
-      writes-within : offset + n ≤ longest
-      writes-within = omega (arith, store-is.low, store-is.few, written-so.2)
+        writes-within : offset + n ≤ longest
+        writes-within = omega (arith, store-is.low, store-is.few, written-so.2)
 
-      pub writes-near : offset + low n < 2 ^ 32
-      writes-near = moves-near to n writes-within
+        pub writes-near : offset + low n < 2 ^ 32
+        writes-near = moves-near to n writes-within
 
-      pub writes-may : {id l : ℕ} → id ≡ (file to).number → l ≡ low n → MayMove m id (offset + l)
-      writes-may = moves-may to n writes-within (ap (λ (y : Kernel). y.files) stored.same)
+        pub writes-may : {id l : ℕ} → id ≡ (file to).number → l ≡ low n → MayMove m id (offset + l)
+        writes-may = moves-may to n writes-within (ap (λ (y : Kernel). y.files) stored.same)
 
-      abbrev z : Kernel
-      z = with_tree k (record k.tree { files = files_after k.tree.files went; failures = m.tree.failures })
+        abbrev z : Kernel
+        z = with_tree k (record k.tree { files = files_after k.tree.files went; failures = m.tree.failures })
 
-      abbrev kept : ℕ → State
-      kept o = record (with_offset (state_of k) (file to).number (file_of (file to).file) number (offset + o))
-          { files = written-so.0.files }
+        abbrev kept : ℕ → State
+        kept o = record (with_offset (state_of k) (file to).number (file_of (file to).file) number (offset + o))
+            { files = written-so.0.files }
 
-      kept-is : state_of (advanced z (file to).number (offset + n)) ≡ kept n
-      kept-is =
-          ap (λ (o : Option Written). record (state_of k)
-              { files = files_after k.tree.files o; opens = opens_of (moved k.files (file to).number (offset + n)) })
-              written-so.1
-          ∙ ap (λ (os : List (Option unix_files.OpenFile)). record (kept n) { opens = os })
-              (moved-opens to n writes-within)
+        kept-is : state_of (advanced z (file to).number (offset + n)) ≡ kept n
+        kept-is =
+            ap (λ (o : Option Written). record (state_of k)
+            { files = files_after k.tree.files o; opens = opens_of (moved k.files (file to).number (offset + n)) })
+            written-so.1
+            ∙ ap (λ (os : List (Option unix_files.OpenFile)). record (kept n) { opens = os })
+            (moved-opens to n writes-within)
 
-      pub writes-done : {last : Kernel} {id l : ℕ} → id ≡ (file to).number → l ≡ low n
-          → last ≡ advanced m id (offset + l) → IsKernel last → IsServed k.tree m.tree → {answer : ℕ}
-          → answer ≡ (if n == c then n else minus_one) → GoesOn k last i w (Answers answer)
-      writes-done named cut is sound served {answer} answers =
-          moves-done to n writes-within stored.same refl named cut is sound served answer (
-          stores-row ∙ store-is.row
-          ∙ ap (λ (o : ℕ). Done (kept o) (if o == length (given_bytes to) then o else minus_one) []) written-so.2
-          ∙ ap (λ (s : State). Done s (if n == length (given_bytes to) then n else minus_one) []) (sym kept-is)
-          ∙ ap (λ (o : ℕ). Done (state_of (advanced z (file to).number (offset + n))) o [])
-              (ap (λ (l : ℕ). if n == l then n else minus_one) (length-given to ∙ sym wide) ∙ sym answers))
+        pub writes-done : {last : Kernel} {id l : ℕ} → id ≡ (file to).number → l ≡ low n
+            → last ≡ advanced m id (offset + l) → IsKernel last → IsServed k.tree m.tree → {answer : ℕ}
+            → answer ≡ (if n == c then n else minus_one) → GoesOn k last i w (Answers answer)
+        writes-done named cut is sound served {answer} answers =
+            moves-done to n writes-within stored.same refl named cut is sound served answer (
+            stores-row ∙ store-is.row
+            ∙ ap (λ (o : ℕ). Done (kept o) (if o == length (given_bytes to) then o else minus_one) []) written-so.2
+            ∙ ap (λ (s : State). Done s (if n == length (given_bytes to) then n else minus_one) []) (sym kept-is)
+            ∙ ap (λ (o : ℕ). Done (state_of (advanced z (file to).number (offset + n))) o [])
+            (ap (λ (l : ℕ). if n == l then n else minus_one) (length-given to ∙ sym wide) ∙ sym answers))
 
 -- ---- fstat: a node tells of itself
 
@@ -397,7 +412,7 @@ module _ {k : Kernel} {i : ℕ} (x : Here k i) {d id : ℕ} (is : d ≡ low (arg
         let used = x.sound.used x.up in
         let on = node-on f.target ∙ open-on.2 in
         node-there f f.target n (slot k.tree.files n) on
-            (subst (λ o. FitsNode f f.target (node_of k.tree.files o)) on (fits-at used id f open-on.1))
+        (subst (λ o. FitsNode f f.target (node_of k.tree.files o)) on (fits-at used id f open-on.1))
 
     abbrev told_bytes : List ℕ
     told_bytes = stat_bytes n fstat-there.0
@@ -428,9 +443,9 @@ module _ {k : Kernel} {i : ℕ} (x : Here k i) {d id : ℕ} (is : d ≡ low (arg
           let from = counting k read.tree.failures in
           let made : new ≡ wrote from i (argument k 1) told_bytes =
           is ∙ ap (λ (y : Kernel). wrote y i a bytes) has.same ∙ ap (λ m. wrote from i m bytes) is-a
-              ∙ ap (wrote from i (argument k 1))
-              (numbers ∙ told-is n told fstat-there.0 (tells fstat-there.0 fstat-there.1)) in
+          ∙ ap (wrote from i (argument k 1))
+          (numbers ∙ told-is n told fstat-there.0 (tells fstat-there.0 fstat-there.1)) in
           rw made (does x Fstat 0 (here-in (subst IsKernel made sound) x.run.active x.up)
-              (record { up = x.up; same_device = refl; later = has.later }) (
+          (record { up = x.up; same_device = refl; later = has.later }) (
           fstat-row ∙ ap (λ (b : Bool). provided b writes) (can-here x (argument k 1) 24 can)
-              ∙ ap (λ (s : State). Done s 0 []) (sym (wrote-state x.run x.sound (argument k 1) told_bytes))))
+          ∙ ap (λ (s : State). Done s 0 []) (sym (wrote-state x.run x.sound (argument k 1) told_bytes))))

@@ -50,7 +50,7 @@ pub next-ticks : (k : Kernel) → IsKernel k → slice_index k.spaces.registers 
 unfolding next.next
 next-ticks k is z a =
     ap (λ (o : Option ℕ). quiet (record (next.stopped (state_of k) o) { ticks = (k.ticks + 1) % 2 ^ 32 }))
-        (running-state k is)
+    (running-state k is)
     ∙ ap (λ (s : State). quiet (record s { ticks = (k.ticks + 1) % 2 ^ 32 })) (ticks-go k k.spaces.active is z a refl)
 
 pub next-keys : (k : Kernel) (b : ℕ)
@@ -113,10 +113,10 @@ module _ {k : Kernel} {i : ℕ} (x : Runner k i) where
   step-computes {d} means =
       effect-run means
       ∙ ap quiet (sym (ap state_of (computed-is k i x.process x.held x.run x.sound d)
-          ∙ moved-state k i x.process x.held x.run x.sound x.process
-          (record x.held { memory = memory_after x.held.memory d.change }) d.regs d.pc
-          (placed-with k i x.process x.held x.run x.sound
-          (record x.held { memory = memory_after x.held.memory d.change })) x.run.runs))
+      ∙ moved-state k i x.process x.held x.run x.sound x.process
+      (record x.held { memory = memory_after x.held.memory d.change }) d.regs d.pc
+      (placed-with k i x.process x.held x.run x.sound
+      (record x.held { memory = memory_after x.held.memory d.change })) x.run.runs))
 
   module _ {t : Trap} (means : cycle k.spaces.registers k.spaces.pc (memory_at k i) ≡ Err t) where
     pub step-calls : is_ecall t.cause ≡ true
@@ -162,7 +162,7 @@ module _ (k : Kernel) (i : ℕ) (p : Process) (is : IsKernel k) (none : k.spaces
       let whole = with_space there.0 p in
       taken-is
       ∙ ap (λ (b : Bool). if b then quiet (end_process (state_of k) i whole (negsuc 0))
-          else next.picked_in (state_of k) i whole whole.mode) free
+      else next.picked_in (state_of k) i whole whole.mode) free
       ∙ ap (next.picked_in (state_of k) i whole) waits
       ∙ sym (ap (resumed_in (state_of k) i whole) waits)
       ∙ sym (ap (resumed_by (state_of k) i) (process-idle k i none there.1))
@@ -198,9 +198,20 @@ pub resting-of : (k : Kernel) (i : ℕ) (w : Pending) (o : Option Process) → I
 resting-of k i w None is at waits = absurd waits
 resting-of k i w (Some p) is at waits =
     let t = there-of k i p is at in
-    let m = resting-mode p t.0.memory w p.mode waits.0 t.1.placed.mode in
-    (p, (t.0, record { there = t.1; alive = rw waits.0 refl; live = m.0; free = waits.1; waits = waits.0;
-        pending = m.1 }))
+    let m = resting-mode p t.0.memory w p.mode waits.0 t.1.placed.mode in (
+      p,
+      (
+        t.0,
+        record {
+          there = t.1;
+          alive = rw waits.0 refl;
+          live = m.0;
+          free = waits.1;
+          waits = waits.0;
+          pending = m.1;
+        },
+      ),
+    )
 
 -- the process in place i, which waited with w in kernel k, runs again in kernel s
 pub record Resumes (k s : Kernel) (i : ℕ) (w : Pending) : Type 0 where
@@ -225,16 +236,24 @@ module _ (k : Kernel) (i : ℕ) (p : Process) (h : SpaceView) (w : Pending) (is 
       ap (resumed_by (state_of k) i) (process-idle k i none f.there)
       ∙ ap (resumed_in (state_of k) i (with_space h p)) f.waits
       ∙ ap (λ (s : State). settle s i (goes_on s i (with_space h (record p { mode = Running })) w w.number))
-          (sym (started-state k i p h is none f.there f.alive f.live f.free))
+      (sym (started-state k i p h is none f.there f.alive f.live f.free))
       ∙ sym (ap (λ (o : Option unix.Process). settle (state_of to) i (going_by (state_of to) i w o))
-          (process-run to i (record p { mode = Running }) h runs))
+      (process-run to i (record p { mode = Running }) h runs))
 
   resting : Resumes k to i w
   resting = record {
-    runs = record { active = refl; up = up; sound = started-kernel k i p h is none f.there f.alive f.live f.free;
-        zero = f.there.placed.zero; aligned = f.there.placed.aligned };
-    can = (rw (ap descriptors_in runs.process, ap (λ (o : Option SpaceView). unwrap_or o no_pages) runs.space)
-        f.pending, rw (ap descriptors_in runs.process) awaits);
+    runs = record {
+      active = refl;
+      up = up;
+      sound = started-kernel k i p h is none f.there f.alive f.live f.free;
+      zero = f.there.placed.zero;
+      aligned = f.there.placed.aligned;
+    };
+    can = (
+      rw (ap descriptors_in runs.process, ap (λ (o : Option SpaceView). unwrap_or o no_pages) runs.space)
+          f.pending,
+      rw (ap descriptors_in runs.process) awaits,
+    );
     row = goes;
   }
 
@@ -252,8 +271,13 @@ module _ {k : Kernel} (i : ℕ) (w : Pending) (is : IsKernel k) (none : k.spaces
 
   pub resumes-as : {s : Kernel} → s ≡ waking (started k i) s.table.awake → Resumes k s i w
   resumes-as {s} same = let runs = resumes-started.runs in subst (λ (y : Kernel). Resumes k y i w) (sym same) (record {
-    runs = record { active = runs.active; up = runs.up; sound = kernel-waking runs.sound s.table.awake;
-        zero = runs.zero; aligned = runs.aligned };
+    runs = record {
+      active = runs.active;
+      up = runs.up;
+      sound = kernel-waking runs.sound s.table.awake;
+      zero = runs.zero;
+      aligned = runs.aligned;
+    };
     can = resumes-started.can;
     row = resumes-started.row
         ∙ ap (λ (x : State). settle x i (going_at x i w)) (sym (state-waking (started k i) s.table.awake));

@@ -66,20 +66,20 @@ console-device f n _ fits = absurd fits
 
 -- what an open file is on fits it
 module _ {t : FileTree} {opens : List (Option Counted)} {places : List (Option Process)} (is : IsInUse t opens places)
-    where
-  fits-of : (n : ℕ) → IfSome (file_at opens n) (λ f. FitsFiles t.files f)
-  fits-of n = go (slot opens n) refl where
-    go : (o : Option Counted) → slot opens n ≡ o
-        → IfSome (option_map (λ (c : Counted). c.file) o) (λ f. FitsFiles t.files f)
-    go None at = tt
-    go (Some c) at = is.fits n c at
+  where
+    fits-of : (n : ℕ) → IfSome (file_at opens n) (λ f. FitsFiles t.files f)
+    fits-of n = go (slot opens n) refl where
+      go : (o : Option Counted) → slot opens n ≡ o
+          → IfSome (option_map (λ (c : Counted). c.file) o) (λ f. FitsFiles t.files f)
+      go None at = tt
+      go (Some c) at = is.fits n c at
 
-  pub fits-at : (n : ℕ) (f : OpenFile) → file_at opens n ≡ Some f → FitsFiles t.files f
-  fits-at n f at = subst (λ (o : Option OpenFile). IfSome o (λ f. FitsFiles t.files f)) at (fits-of n)
+    pub fits-at : (n : ℕ) (f : OpenFile) → file_at opens n ≡ Some f → FitsFiles t.files f
+    fits-at n f at = subst (λ (o : Option OpenFile). IfSome o (λ f. FitsFiles t.files f)) at (fits-of n)
 
-  fits-named : (o : Option ℕ) → IfSome (option_and_then (file_at opens) o) (λ f. FitsFiles t.files f)
-  fits-named None = tt
-  fits-named (Some n) = fits-of n
+    fits-named : (o : Option ℕ) → IfSome (option_and_then (file_at opens) o) (λ f. FitsFiles t.files f)
+    fits-named None = tt
+    fits-named (Some n) = fits-of n
 
 -- ---- an open file, for reading or for writing
 
@@ -157,11 +157,11 @@ filed-is : (o : Option OpenFile) (e : End) (s : State) (rest : Outcome) → IfSo
     → filed e s o rest ≡ given (target_for e o) (λ t. rest)
 filed-is (Some f) e s rest fits = ap (λ b. provided (may e f && b) rest) (usable-open s.files f f.target fits)
     ∙ go (may e f) refl (result_ok (usable f.target)) refl where
-  go : (b : Bool) → may e f ≡ b → (u : Option Target) → result_ok (usable f.target) ≡ u
-      → provided (may e f && is_some (result_ok (usable f.target))) rest ≡ given (target_for e (Some f)) (λ t. rest)
-  go false flag u on = rw (flag, may-is e f false flag) refl
-  go true flag (Some t) on = rw (flag, may-is e f true flag, on) refl
-  go true flag None on = rw (flag, may-is e f true flag, on) refl
+      go : (b : Bool) → may e f ≡ b → (u : Option Target) → result_ok (usable f.target) ≡ u
+          → provided (may e f && is_some (result_ok (usable f.target))) rest ≡ given (target_for e (Some f)) (λ t. rest)
+      go false flag u on = rw (flag, may-is e f false flag) refl
+      go true flag (Some t) on = rw (flag, may-is e f true flag, on) refl
+      go true flag None on = rw (flag, may-is e f true flag, on) refl
 filed-is None Read s rest fits = refl
 filed-is None Write s rest fits = refl
 
@@ -179,8 +179,11 @@ pending-can Read k ds mem n named count some can =
     record { named = named; buffer = ap (can_write mem (argument k 1)) same ∙ can; left = omega (arith, same, some) }
 pending-can Write k ds mem n named count some can =
     let same : low (argument k 2) ≡ n = int-low (argument k 2) n count in
-    record { named = named; readable = ap (λ (m : ℕ). is_some (read_bytes mem (argument k 1) m)) same ∙ can;
-        left = omega (arith, same, some) }
+    record {
+      named = named;
+      readable = ap (λ (m : ℕ). is_some (read_bytes mem (argument k 1) m)) same ∙ can;
+      left = omega (arith, same, some);
+    }
 
 fresh-go : (o : Option OpenFile) (P : Type 0) → P → IfSome o (λ f. is_on_pipe f.target ≡ true → P)
 fresh-go None P is = tt
@@ -208,9 +211,9 @@ module _ {k : Kernel} {i : ℕ} (x : Here k i) (e : End) {r : Option Target}
   row-here =
       row-files e k i (me x)
       ∙ ap (λ (o : Option Process). filed e (state_of k) (file_named k.files (descriptors_in o) (low (argument k 0)))
-          rest) (sym x.run.process)
+      rest) (sym x.run.process)
       ∙ filed-is named e (state_of k) rest
-          (fits-named (x.sound.used x.up) (slot (descriptors_at k i) (low (argument k 0))))
+      (fits-named (x.sound.used x.up) (slot (descriptors_at k i) (low (argument k 0))))
       ∙ ap (λ (o : Option Target). given o (λ t. rest)) (sym found)
 
   refuses : row_of x (call_on e) ≡ Refused → Acts k k i (Some (call_on e)) Refuses
@@ -245,9 +248,9 @@ module _ {k : Kernel} {i : ℕ} (x : Here k i) (e : End) {r : Option Target}
         row-tested =
             row-counted
             ∙ rw count (unless-some (state_of k) n
-                (provided (can_transfer e x.held.memory (argument k 1) n) (going x w)) (omega arith))
+            (provided (can_transfer e x.held.memory (argument k 1) n) (going x w)) (omega arith))
             ∙ ap (λ (b : Bool). provided b (going x w))
-                (ap (λ (h : SpaceView). can_transfer e h.memory (argument k 1) n) (sym (held-here x)) ∙ sym can)
+            (ap (λ (h : SpaceView). can_transfer e h.memory (argument k 1) n) (sym (held-here x)) ∙ sym can)
 
         pub begins-unusable : b ≡ false → Acts k k i (Some (call_on e)) Refuses
         begins-unusable failed = refuses (row-tested ∙ ap (λ (b : Bool). provided b (going x w)) failed)
@@ -378,14 +381,14 @@ module _ {k : Kernel} {i : ℕ} {w : Pending} (e : End) (runs : Runs k i) (can :
   target-some none =
       let x = here-of runs in
       let n = some-named (slot (descriptors_at k i) (low (pending_arg w 0)))
-              (pending-named e (descriptors_at k i) (memory_at k i) w pending) in
+      (pending-named e (descriptors_at k i) (memory_at k i) w pending) in
       let there = open-named k.files k.spaces.pipes k.table.places x.sound.opened i x.process (low (pending_arg w 0))
-              n.0 x.run.process (ap (λ (o : Option Process). slot (descriptors_in o) (low (pending_arg w 0)))
-              (sym x.run.process) ∙ n.1) in
+      n.0 x.run.process (ap (λ (o : Option Process). slot (descriptors_in o) (low (pending_arg w 0)))
+      (sym x.run.process) ∙ n.1) in
       let named : file_named k.files (descriptors_at k i) (low (pending_arg w 0)) ≡ file_at k.files n.0 =
-              ap (option_and_then (file_at k.files)) n.1 in
+      ap (option_and_then (file_at k.files)) n.1 in
       some-file (file_at k.files n.0) (ap is_some (sym (file-opens k.files n.0) ∙ there.1.0))
-          (sym (ap (option_map (λ (f : OpenFile). f.target)) named) ∙ open-on None none)
+      (sym (ap (option_map (λ (f : OpenFile). f.target)) named) ∙ open-on None none)
 
   pub goes-transfers : {t : Target} → r ≡ Some t → Transfers k i e t w
   goes-transfers {t = t} is =

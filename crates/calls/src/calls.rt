@@ -112,7 +112,7 @@ pub fn call<D: BlockDev, T: Translate, W: Out>(
     requires running { kernel.old.spaces.active ≡ Some at }
     requires up { kernel.old.tree.failed ≡ false }
     ensures gives { DispatchesTo W.contents W.failures kernel.new console.old console.new
-            (called (state_of kernel.old) at) result }
+        (called (state_of kernel.old) at) result }
     ensures tree { LeavesTree kernel.old.tree kernel.new.tree result }
     ensures later { W.failures console.old ≤ W.failures console.new }
 {

@@ -68,7 +68,7 @@ pub fn key<D: BlockDev, T: Translate, W: Out>(
     console: &mut W,
 ) -> Result<(), Halt>
     ensures gives { DispatchesTo W.contents W.failures kernel.new console.old console.new
-            (next (state_of kernel.old) (Key byte)) result }
+        (next (state_of kernel.old) (Key byte)) result }
     ensures lost { OnErr result (kernel.new ≡ kernel.old) }
     ensures fault { IfErr result (λ halt. halt ≡ Console) }
     ensures tree { kernel.new.tree ≡ kernel.old.tree }
@@ -89,7 +89,7 @@ pub fn step<D: BlockDev, T: Translate, W: Out>(
     requires goes { kernel.old.halted ≡ None }
     requires up { kernel.old.tree.failed ≡ false }
     ensures does { EventGivesTo W.contents W.failures kernel.new console.old console.new
-            (next (state_of kernel.old) Step) result }
+        (next (state_of kernel.old) Step) result }
     ensures tree { LeavesTree kernel.old.tree kernel.new.tree result }
     ensures later { W.failures console.old ≤ W.failures console.new }
 {
@@ -120,7 +120,7 @@ fn instruct<D: BlockDev, T: Translate, W: Out>(
     requires running { kernel.old.spaces.active ≡ Some at }
     requires up { kernel.old.tree.failed ≡ false }
     ensures gives { DispatchesTo W.contents W.failures kernel.new console.old console.new (executed kernel.old at)
-            result }
+        result }
     ensures tree { LeavesTree kernel.old.tree kernel.new.tree result }
     ensures later { W.failures console.old ≤ W.failures console.new }
 {
@@ -141,9 +141,9 @@ pub(crate) fn take_trap<D: BlockDev, T: Translate, W: Out>(
     requires running { kernel.old.spaces.active ≡ Some at }
     requires up { kernel.old.tree.failed ≡ false }
     requires traps { cycle kernel.old.spaces.registers kernel.old.spaces.pc (view_at kernel.old.spaces at).memory
-            ≡ Err trap }
+        ≡ Err trap }
     ensures gives { DispatchesTo W.contents W.failures kernel.new console.old console.new (executed kernel.old at)
-            result }
+        result }
     ensures tree { LeavesTree kernel.old.tree kernel.new.tree result }
     ensures later { W.failures console.old ≤ W.failures console.new }
 {
@@ -160,7 +160,7 @@ fn take_turn<D: BlockDev, T: Translate>(kernel: &mut Kernel<D, T>) -> Result<(),
     requires idle { kernel.old.spaces.active ≡ None }
     requires up { kernel.old.tree.failed ≡ false }
     ensures gives { OnOk result
-            (take_turn (state_of kernel.old) (turn (state_of kernel.old)) ≡ quiet (state_of kernel.new)) }
+        (take_turn (state_of kernel.old) (turn (state_of kernel.old)) ≡ quiet (state_of kernel.new)) }
     ensures tree { LeavesDisk kernel.old.tree kernel.new.tree result }
 {
     kernel.is_sound();

@@ -57,7 +57,7 @@ pub fn advance<D: BlockDev, T: Translate, W: Out>(
     requires up { kernel.old.tree.failed ≡ false }
     requires some { 0 < most }
     ensures does { PieceGivesTo W.contents W.failures kernel.old kernel.new console.old console.new most result.0
-            result.1 }
+        result.1 }
     ensures later { W.failures console.old ≤ W.failures console.new }
 {
     match kernel.active() {
@@ -96,7 +96,7 @@ fn instruct_many<D: BlockDev, T: Translate, W: Out>(
     requires up { kernel.old.tree.failed ≡ false }
     requires some { 0 < most }
     ensures does { PieceGivesTo W.contents W.failures kernel.old kernel.new console.old console.new most result.0
-            result.1 }
+        result.1 }
     ensures later { W.failures console.old ≤ W.failures console.new }
 {
     kernel.is_sound();
@@ -116,9 +116,9 @@ fn trap_once<D: BlockDev, T: Translate, W: Out>(
     requires running { kernel.old.spaces.active ≡ Some at }
     requires up { kernel.old.tree.failed ≡ false }
     requires traps { cycle kernel.old.spaces.registers kernel.old.spaces.pc (view_at kernel.old.spaces at).memory
-            ≡ Err trap }
+        ≡ Err trap }
     ensures does { EventGivesTo W.contents W.failures kernel.new console.old console.new (executed kernel.old at)
-            result }
+        result }
     ensures tree { LeavesTree kernel.old.tree kernel.new.tree result }
     ensures later { W.failures console.old ≤ W.failures console.new }
 {
@@ -133,7 +133,7 @@ fn turn_once<D: BlockDev, T: Translate>(kernel: &mut Kernel<D, T>) -> (u32, Resu
     requires goes { kernel.old.halted ≡ None }
     requires up { kernel.old.tree.failed ≡ false }
     ensures does { (at : Option (List ℕ)) → (most : ℕ) → 0 < most
-            → PieceGives kernel.old kernel.new most at at ⊥ result.0 result.1 }
+        → PieceGives kernel.old kernel.new most at at ⊥ result.0 result.1 }
 {
     kernel.is_sound();
     match kernel.turn() {
@@ -148,7 +148,7 @@ fn take_once<D: BlockDev, T: Translate>(kernel: &mut Kernel<D, T>, at: usize) ->
     requires up { kernel.old.tree.failed ≡ false }
     requires alive { IsAlive (slot kernel.old.table.places at) }
     ensures gives { (bytes : Option (List ℕ))
-            → EventGives kernel.new (taken (state_of kernel.old) at) bytes bytes ⊥ result }
+        → EventGives kernel.new (taken (state_of kernel.old) at) bytes bytes ⊥ result }
     ensures tree { LeavesTree kernel.old.tree kernel.new.tree result }
 {
     take(kernel, at)?;

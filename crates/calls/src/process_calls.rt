@@ -134,7 +134,7 @@ pub(crate) fn getpid<D: BlockDev, T: Translate>(kernel: &Kernel<D, T>, at: usize
 fn grow<D: BlockDev, T: Translate>(kernel: &mut Kernel<D, T>, at: usize, bytes: u64) -> Came
     requires runs { Runs kernel.old at }
     requires asked { asked kernel.old at (int_of (argument kernel.old 0))
-            ≡ Some ((view_at kernel.old.spaces at).size + bytes) }
+        ≡ Some ((view_at kernel.old.spaces at).size + bytes) }
     ensures { Acts kernel.old kernel.new at (Some Call.Sbrk) result }
 {
     let old = kernel.size(at);
@@ -150,7 +150,7 @@ fn shrink<D: BlockDev, T: Translate>(kernel: &mut Kernel<D, T>, at: usize, bytes
     requires runs { Runs kernel.old at }
     requires less { bytes ≤ (view_at kernel.old.spaces at).size }
     requires asked { asked kernel.old at (int_of (argument kernel.old 0))
-            ≡ Some ((view_at kernel.old.spaces at).size - bytes) }
+        ≡ Some ((view_at kernel.old.spaces at).size - bytes) }
     ensures { Acts kernel.old kernel.new at (Some Call.Sbrk) result }
 {
     let old = kernel.size(at);

@@ -297,7 +297,7 @@ fn print<D: BlockDev, T: Translate, W: Out>(
     requires running { kernel.now.spaces.active ≡ Some at }
     requires readable { is_some (read_bytes (view_at kernel.now.spaces at).memory address count) ≡ true }
     ensures ok { OnOk result
-            (Appends (W.contents out.old) (W.contents out.new) (bytes_given kernel.now.spaces at address count)) }
+        (Appends (W.contents out.old) (W.contents out.new) (bytes_given kernel.now.spaces at address count)) }
     ensures err { OnErr result (AppendsBeginning (W.contents out.old) (W.contents out.new)
         (bytes_given kernel.now.spaces at address count)) }
     ensures later { W.failures out.old ≤ W.failures out.new }
@@ -323,7 +323,7 @@ pub(crate) fn write<D: BlockDev, T: Translate, W: Out>(
 ) -> Result<Came, Halt>
     requires { Runs kernel.old at }
     ensures tries { CallTries W.contents W.failures kernel.old kernel.new console.old console.new
-            at (Some Call.Write) result }
+        at (Some Call.Write) result }
     ensures later { W.failures console.old ≤ W.failures console.new }
 {
     match begin_transfer(kernel, at, End::Write) {

@@ -37,7 +37,7 @@ unfolding effect_of cycle
 traps-word p word h = go (page_for Fetch p.memory p.pc) h where
   go : (found : Option Page) → Some word ≡ option_map (λ page. number (bytes_at 4 p.pc page)) found
       → trap_of (act_word (instruction_of word) p.registers p.pc p.memory)
-          ≡ trap_of (fetched found p.registers p.pc p.memory)
+      ≡ trap_of (fetched found p.registers p.pc p.memory)
   go None some = absurd (none-some word (sym some))
   go (Some page) some = ap (λ w. trap_of (act_word (instruction_of w) p.registers p.pc p.memory))
       (same_Some word (number (bytes_at 4 p.pc page)) some)

@@ -63,7 +63,7 @@ fn word_at(page: &[u8; 4096], at: usize) -> u32
 /// The word of the instruction at an address, where it may be fetched.
 pub fn word<D: BlockDev, T: Translate>(machine: &Machine<D, T>, pid: u32, pc: u64) -> Option<u32>
     ensures { result ≡ option_map (λ page. number (bytes_at 4 pc page))
-            (page_for Access.Fetch (memory_shown machine.now.state pid) pc) }
+        (page_for Access.Fetch (memory_shown machine.now.state pid) pc) }
 {
     let (page, marks) = machine.peek(pid, pc / 4096)?;
     if !permits(Access::Fetch, marks) {

@@ -52,7 +52,7 @@ fn load<D: BlockDev, T: Translate>(
     address: u64,
 ) -> Option<Trap>
     ensures { (regs : List ℕ) (pc rd : ℕ)
-            → result ≡ trap_of (load regs pc (memory_shown machine.now.state pid) op rd address) }
+        → result ≡ trap_of (load regs pc (memory_shown machine.now.state pid) op rd address) }
 {
     if address % load_size(op) != 0 {
         return trap(Cause::LoadMisaligned, address);

@@ -31,7 +31,7 @@ adds-rule old new a rule h local is app own = record {
 pub declares-more : (start : App) (words : List Word) (i : ℕ) (d : Word) (old new : Command) (a : Arg)
     → i < length words → DeclaresOwn (fold with_word start (take i words)) old → AddsArg old a new → a.global ≡ false
     → rule_of a ≡ rule_given (get_or words i d).name.now (get_or words i d).given
-        → DeclaresOwn (fold with_word start (take (i + 1) words)) new
+    → DeclaresOwn (fold with_word start (take (i + 1) words)) new
 declares-more start words i d old new a less own adds local is =
     rw (fold_more with_word start words i d less) (adds-rule old new a _ adds local is _ own)
 
@@ -56,9 +56,11 @@ word-found text_of (Some word) first is = sym is
 pub flag-given : (value word : Text) (first : Option Text) (given : Bool) → Some word ≡ first
     → given ≡ bytes_eq word value → IsTrue given ↔ (first ≡ Some value)
 flag-given value word first given is same =
-    let decides = bytes_eq-Decides word value in
-    (λ h. sym is ∙ ap Some (decides.0 (sym same ∙ h)), λ h. same
-        ∙ decides.1 (let e : Some word ≡ Some value = is ∙ h in cc))
+    let decides = bytes_eq-Decides word value in (
+      λ h. sym is ∙ ap Some (decides.0 (sym same ∙ h)),
+      λ h. same
+          ∙ decides.1 (let e : Some word ≡ Some value = is ∙ h in cc),
+    )
 
 pub flag-missing : (value : Text) (first : Option Text) → None ≡ first → IsTrue false ↔ (first ≡ Some value)
 flag-missing value first is = (λ h. absurd (cc), λ h. absurd (let e : None ≡ Some value = is ∙ h in cc))
@@ -77,8 +79,8 @@ pub is-job : (r : Option Job) (m : ArgMatches) (name : Text) (rows : List Row) �
 is-job r m name rows named told job =
     subst (λ found. IfSome r (IsJob found))
     (sym (both (λ b. (out-SubCommand (box_value b)).name.now)
-        (λ b. rows_of (found_of (out-SubCommand (box_value b)).matches)) (out-ArgMatches m).subcommand name rows named
-        told)) job
+    (λ b. rows_of (found_of (out-SubCommand (box_value b)).matches)) (out-ArgMatches m).subcommand name rows named
+    told)) job
 
 -- what is told of the rows of a command is told of the job
 pub told : {name : Text} {rows : List Row} {Is : List Row → Type 0} → Is rows

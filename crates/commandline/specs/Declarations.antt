@@ -98,7 +98,7 @@ abbrev pub telling_options : App → App
 telling_options app =
     with_rule (with_rule (with_rule (with_rule (with_rule (with_rule app
     (flag_rule (codes "report"))) (option_rule (codes "json"))) (count_rule (codes "registers")))
-        (count_rule (codes "memory")))
+    (count_rule (codes "memory")))
     (flag_rule (codes "status"))) (flag_rule (codes "progress"))
 
 -- [--explain]
@@ -148,7 +148,7 @@ abbrev pub line_options : App → App
 line_options app =
     with_rule (with_rule (with_rule (with_rule app
     (number_rule (codes "bytes") (codes "32"))) (flag_rule (codes "each"))) (flag_rule (codes "time")))
-        (flag_rule (codes "turns"))
+    (flag_rule (codes "turns"))
 
 -- trace [..] [--text FILE] [--perfetto FILE] [--commits FILE] [--core-is-pid] [--jsonl FILE] [--play] IMAGE SCRIPT
 abbrev pub declared_trace : App
@@ -156,7 +156,7 @@ declared_trace =
     with_bare (with_bare (with_rule (with_rule (with_rule (with_rule (with_rule (with_rule
     (line_options (part_options (run_options (new_app (codes "trace")))))
     (option_rule (codes "text"))) (option_rule (codes "perfetto"))) (option_rule (codes "commits")))
-        (flag_rule (codes "core-is-pid")))
+    (flag_rule (codes "core-is-pid")))
     (option_rule (codes "jsonl"))) (flag_rule (codes "play"))) (codes "IMAGE")) (codes "SCRIPT")
 
 -- mkfs [--size N] [--inodes N] MANIFEST IMAGE
@@ -198,7 +198,7 @@ abbrev pub declared_as : App
 declared_as =
     with_rule (explained (with_rule (with_rule (with_rule (new_app (codes "as"))
     (short_rule (codes "out") 111)) (flag_rule (codes "expand"))) (letter_rule (codes "verbose") 118)))
-        (each_rule (codes "FILE"))
+    (each_rule (codes "FILE"))
 
 -- dump ELF
 abbrev pub declared_dump : App

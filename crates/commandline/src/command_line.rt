@@ -144,7 +144,7 @@ fn word_found<'a>(found: &ArgMatches<'a>, name: &str) -> Option<&'a str>
 // The two words that were found of these names.
 fn two_words<'a>(found: &ArgMatches<'a>, one: &str, other: &str) -> Option<(&'a str, &'a str)>
     ensures { IfSome result (λ two. (first_of one.now (rows_of (found_of found.now)) ≡ Some two.0.now)
-            × (first_of other.now (rows_of (found_of found.now)) ≡ Some two.1.now)) }
+        × (first_of other.now (rows_of (found_of found.now)) ≡ Some two.1.now)) }
 {
     let Some(one) = word_found(found, one) else {
         return None;

@@ -12,8 +12,8 @@ pub line-push : (xs : List ℕ) {k : ℕ} (c e b : ℕ) → length xs ≡ 128 �
     → line_of (set xs ((k + c + e) % 128) b) k c (e + 1) ≡ with_byte (line_of xs k c e) b
 line-push xs {k} c e b full start fits =
     ap₂ (λ l m. record { committed = l; edited = m })
-        (ring-set_behind _ xs k c _ b (omega arith) (omega arith) (omega arith))
-        (ring-push _ xs _ e _ b (omega arith) refl (omega arith) (omega arith))
+    (ring-set_behind _ xs k c _ b (omega arith) (omega arith) (omega arith))
+    (ring-push _ xs _ e _ b (omega arith) refl (omega arith) (omega arith))
 
 pub line-commit : (xs : List ℕ) (k c e : ℕ) → line_of xs k (c + e) 0 ≡ commit (line_of xs k c e)
 unfolding ring
@@ -22,7 +22,7 @@ line-commit xs k c e = ap (λ l. record { committed = l; edited = [] }) (ring-ap
 pub line-erase : (xs : List ℕ) (k c e n m : ℕ) → m ≡ e - n → line_of xs k c m ≡ without_last n (line_of xs k c e)
 line-erase xs k c e n m h =
     rw (length-ring, ← h) (ap (λ l. record { committed = ring 128 xs k c; edited = l })
-        (sym (take-ring _ xs _ m e (omega arith))))
+    (sym (take-ring _ xs _ m e (omega arith))))
 
 pub line-drop_first : (xs : List ℕ) (k c e : ℕ) → 0 < c
     → line_of xs ((k + 1) % 128) (c - 1) e ≡ record (line_of xs k c e) { committed = drop 1 (ring 128 xs k c) }

@@ -184,7 +184,7 @@ impl Console {
         ensures echo { OnOk result (Appends (W.contents out.old) (W.contents out.new) (key self.old byte).echo) }
         ensures err { OnErr result (self.new ≡ self.old) }
         ensures beginning { OnErr result
-                (AppendsBeginning (W.contents out.old) (W.contents out.new) (key self.old byte).echo) }
+            (AppendsBeginning (W.contents out.old) (W.contents out.new) (key self.old byte).echo) }
         ensures later { W.failures out.old ≤ W.failures out.new }
         ensures cause { OnErr result (Rises (W.failures out.old) (W.failures out.new)) }
     {

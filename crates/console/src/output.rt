@@ -96,7 +96,7 @@ impl<W: Write> Out for Writer<W> {
     fn put(&mut self, bytes: &[u8]) -> Result<(), OutFault>
         ensures ok { OnOk result (Appends (W.contents self.old.inner) (W.contents self.new.inner) bytes.now) }
         ensures err { OnErr result
-                (AppendsBeginning (W.contents self.old.inner) (W.contents self.new.inner) bytes.now) }
+            (AppendsBeginning (W.contents self.old.inner) (W.contents self.new.inner) bytes.now) }
         ensures later { self.old.failed ≤ self.new.failed }
         ensures cause { OnErr result (Rises self.old.failed self.new.failed) }
         ensures sound { OnOk result (self.new.failed ≡ self.old.failed) }

@@ -8,5 +8,12 @@ pub use Rattle.unixmodel.specs.Shown.{bytes_or_none}
 pub use Rattle.unixmodel.specs.State.{process_at}
 pub use Rattle.digests.specs.Digest.{descriptors_mixed, mixed, node_mixed, open_mixed, pipe_mixed, place_mixed, start}
 pub use Rattle.digests.specs.Digest.{word_mixed}
-unfoldable pub use Rattle.digests.specs.Digest.{contents_mixed, each, files_mixed, mix, opens_mixed, pipes_mixed,
-    places_mixed}
+unfoldable pub use Rattle.digests.specs.Digest.{
+  contents_mixed,
+  each,
+  files_mixed,
+  mix,
+  opens_mixed,
+  pipes_mixed,
+  places_mixed,
+}

@@ -57,7 +57,7 @@ pub memory-done : (h : SpaceView) (digest now n pages : ℕ) → pages ≡ lengt
 unfolding memory_mixed
 memory-done h digest now n pages count is all =
     each-all (pages_step h.memory) n (length h.memory) (mix digest pages) now is (all ∙ count)
-        ∙ ap (λ k. each (pages_step h.memory) (length h.memory) (mix digest k)) count
+    ∙ ap (λ k. each (pages_step h.memory) (length h.memory) (mix digest k)) count
 
 place-told : (k : Kernel) (i digest : ℕ) (o : Option Process) → o ≡ slot (loaded k).places i
     → place_mixed digest (option_map (with_space (view_at k.spaces i)) o)
@@ -88,8 +88,8 @@ pub place-done : (k : Kernel) (i digest size bare now : ℕ) (p : Process) → S
 place-done k i digest size bare now p is long told all =
     let h = view_at k.spaces i in
     all ∙ ap (λ d. memory_mixed d h.memory)
-        (told ∙ ap (λ (n : ℕ). bare_mixed digest (with_space (record { memory = []; size = n }) p)) long
-        ∙ bare-same digest h p) ∙ place-told k i digest (Some p) is
+    (told ∙ ap (λ (n : ℕ). bare_mixed digest (with_space (record { memory = []; size = n }) p)) long
+    ∙ bare-same digest h p) ∙ place-told k i digest (Some p) is
 
 -- ---- the console
 
@@ -104,12 +104,12 @@ byte-next xs i digest now next low so_far told = told ∙ ap (λ d. mix d (get_o
 pub console-done : (c : Console) (digest committed edited now n : ℕ) → committed ≡ length c.committed
     → edited ≡ length c.edited
     → now ≡ mixed (mixed digest (committed ∷ edited ∷ [])) (take n (typed c)) → n ≡ committed + edited
-        → now ≡ console_mixed digest c
+    → now ≡ console_mixed digest c
 unfolding console_mixed
 console-done c digest committed edited now n first second is all =
     is
     ∙ ap (λ xs. mixed (mixed digest (committed ∷ edited ∷ [])) xs)
-        (take_all n (typed c) (omega (arith, length-append c.committed c.edited, first, second, all)))
+    (take_all n (typed c) (omega (arith, length-append c.committed c.edited, first, second, all)))
     ∙ ap₂ (λ a b. mixed (mixed digest (a ∷ b ∷ [])) (typed c)) first second
 
 -- ---- the rest
@@ -165,8 +165,12 @@ read-front bytes old new at count long is told =
     let there : count ≤ length (drop at bytes) = omega (arith, length-drop at bytes) in
     let exact : length (take count (drop at bytes)) ≡ count = length-take-le count (drop at bytes) there in
     let count_is : count ≡ min 1024 (length (drop at bytes)) = omega (arith, length-drop at bytes) in
-    rw (told, take-append-le count (take count (drop at bytes)) (drop count old) (omega (arith, exact)),
-        take_all count (take count (drop at bytes)) (omega (arith, exact)), count_is) (take_min 1024 (drop at bytes))
+    rw (
+      told,
+      take-append-le count (take count (drop at bytes)) (drop count old) (omega (arith, exact)),
+      take_all count (take count (drop at bytes)) (omega (arith, exact)),
+      count_is,
+    ) (take_min 1024 (drop at bytes))
 
 pub block-next : {old now new : Kernel} (number k digest : ℕ) (out : List ℕ) {so_far next count : ℕ} {out' : List ℕ}
     → SoFar old now (each (block_step (bytes_or_none (slot old.tree.files number))) k digest) so_far
@@ -177,7 +181,7 @@ pub block-next : {old now new : Kernel} (number k digest : ℕ) (out : List ℕ)
 block-next {old} {now} number k digest out {so_far} {count = count} {out' = out'} before long reads told =
     step-on (block_step (bytes_or_none (slot old.tree.files number))) k digest before reads.0
     (told ∙ ap (bytes_mixed so_far)
-        (read-front (bytes_or_none (slot now.tree.files number)) out out' (1024 * k) count long reads.1.0 reads.1.1
+    (read-front (bytes_or_none (slot now.tree.files number)) out out' (1024 * k) count long reads.1.0 reads.1.1
     ∙ ap (λ (y : Kernel). take 1024 (drop (1024 * k) (bytes_or_none (slot y.tree.files number)))) before.read.same))
 
 -- ---- a node
@@ -215,13 +219,13 @@ none-done {old = old} digest now number reads is mixed_is =
 pub node-done : {old mid : Kernel} (new : Kernel) {told : Option InodeStat} {s : InodeStat} {front : ℕ}
     (digest number : ℕ) (r : Result ℕ DeviceFault)
     → ReadsDisk old mid (λ t. TellsAny t (slot old.tree.files number)) (Ok told) → told ≡ Some s
-        → front ≡ mixed digest (node_numbers s)
+    → front ≡ mixed digest (node_numbers s)
     → ReadsDisk mid new (λ d. d ≡ contents_mixed front s.size (bytes_or_none (slot mid.tree.files number))) r
     → ReadsDisk old new (λ d. d ≡ node_mixed digest (slot old.tree.files number)) r
 node-done new digest number (Err fault) look is front_is lost = lost-then look.0 lost
 node-done {old = old} new {s = s} {front = front} digest number (Ok d) look is front_is reads =
     let tells : TellsAny (Some s) (slot old.tree.files number) =
-            subst (λ (t : Option InodeStat). TellsAny t (slot old.tree.files number)) is look.1 in (
+    subst (λ (t : Option InodeStat). TellsAny t (slot old.tree.files number)) is look.1 in (
       read-then look.0 reads.0,
       reads.1
           ∙ ap (λ (k : Kernel). contents_mixed front s.size (bytes_or_none (slot k.tree.files number))) look.0.same
@@ -237,4 +241,4 @@ pub node-next : {old now new : Kernel} (n digest : ℕ) {so_far next : ℕ}
     → SoFar old new (each (λ d n. node_mixed d (slot old.tree.files n)) (n + 1) digest) next
 node-next {old = old} n digest {so_far = so_far} before reads =
     step-on (λ d n. node_mixed d (slot old.tree.files n)) n digest before reads.0
-        (reads.1 ∙ ap (λ (k : Kernel). node_mixed so_far (slot k.tree.files n)) before.read.same)
+    (reads.1 ∙ ap (λ (k : Kernel). node_mixed so_far (slot k.tree.files n)) before.read.same)

@@ -155,7 +155,7 @@ abbrev pub node_mixed : ℕ → Option Node → ℕ
 node_mixed digest None = mix digest 0
 node_mixed digest (Some node) =
     contents_mixed (mixed digest (kind_of node ∷ links_of node ∷ size_of node ∷ major_of node ∷ [])) (size_of node)
-        (node_bytes node)
+    (node_bytes node)
 
 -- a disk has at most 8192 numbers
 unfoldable pub files_mixed : ℕ → Files → ℕ

@@ -49,7 +49,7 @@ fn mix_contents<D: BlockDev, T: Translate>(
 ) -> Result<u64, DeviceFault>
     requires { kernel.old.tree.failed ≡ false }
     ensures { ReadsDisk kernel.old kernel.new
-            (λ told. told ≡ contents_mixed digest size (bytes_or_none (slot kernel.old.tree.files number))) result }
+        (λ told. told ≡ contents_mixed digest size (bytes_or_none (slot kernel.old.tree.files number))) result }
 {
     let mut block = [0; BLOCK_SIZE];
     let mut digest = digest;
@@ -68,7 +68,7 @@ fn mix_node<D: BlockDev, T: Translate>(
 ) -> Result<u64, DeviceFault>
     requires { kernel.old.tree.failed ≡ false }
     ensures { ReadsDisk kernel.old kernel.new (λ told. told ≡ node_mixed digest (slot kernel.old.tree.files number))
-            result }
+        result }
 {
     let Some(stat) = kernel.look(number)? else {
         return Ok(mix(digest, 0));

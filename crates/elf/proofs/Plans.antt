@@ -38,9 +38,15 @@ unfolding segment_at
 segment_at-part file at =
     let here : at + 0 ≡ at = omega arith in
     let part = λ (k i : ℕ) (h : i + k ≤ 56). number_at-part k i at 56 file h in
-    rw (part 4 0 (omega arith)
-        ∙ ap (λ p. number_at 4 p file) here, part 4 4 (omega arith), part 8 8 (omega arith), part 8 16 (omega arith),
-        part 8 32 (omega arith), part 8 40 (omega arith)) refl
+    rw (
+      part 4 0 (omega arith)
+          ∙ ap (λ p. number_at 4 p file) here,
+      part 4 4 (omega arith),
+      part 8 8 (omega arith),
+      part 8 16 (omega arith),
+      part 8 32 (omega arith),
+      part 8 40 (omega arith),
+    ) refl
 
 -- what loading goes on with after that answer of `segment`
 abbrev pub loaded_by : List ℕ → Loaded → Segment → Result (Option LoadSegment) ElfFault → Option Loaded
@@ -52,8 +58,8 @@ module _ (file : List ℕ) (l : Loaded) (g : Segment) where
   follows : (a b c d past e : Bool) → (c ≡ true → d ≡ not past)
       → (if a && b && c && d && e then Some (with_segment file l g) else None)
       ≡ loaded_by file l g (segment_if (segment_shown g)
-          (if not (a && b) then Some Sizes else if not c then Some Align else if past then Some Overlap else if not e
-          then Some Short else None))
+      (if not (a && b) then Some Sizes else if not c then Some Align else if past then Some Overlap else if not e
+      then Some Short else None))
   follows false b c d past e h = refl
   follows true false c d past e h = refl
   follows true true false d past e h = refl
@@ -68,7 +74,7 @@ module _ (file : List ℕ) (l : Loaded) (g : Segment) where
   by-kind : (b : Bool) → (if b then (if may_follow file l.end g then Some (with_segment file l g) else None)
       else Some l)
       ≡ loaded_by file l g (if b then segment_if (segment_shown g) (wrong (segment_shown g) l.end (length file))
-          else Ok None)
+      else Ok None)
   by-kind true = follows (nat_le g.file_size g.size) (nat_lt (g.address + g.size) (2 ^ 64))
       (nat_eq (g.address % 4096) 0) _ (nat_lt g.address l.end) (has_bytes file g) whole-pages
   by-kind false = refl
@@ -96,7 +102,7 @@ short-headers zero file at l h = let past : nat_le (at + 56) (length file) ≡ f
     grind (arith, nat_tests, h) in rw past refl
 short-headers (suc n) file at l h =
     none-then (nat_le (at + 56) (length file)) (λ next. load_segments file (suc n) (at + 56) next)
-        (λ next. short-headers n file (at + 56) next (omega (arith, h))) (load_segment file l (segment_at file at))
+    (λ next. short-headers n file (at + 56) next (omega (arith, h))) (load_segment file l (segment_at file at))
 
 past-end : (n : ℕ) (file : List ℕ) (at : ℕ) → is_within at (56 * n) (length file) ≡ false
     → load_segments file n at nothing_loaded ≡ None
@@ -130,8 +136,8 @@ module _ (file : List ℕ) where
   loads-header =
       rw (header_in-part, part 4 0 (omega arith), part 8 32 (omega arith), part 2 56 (omega arith))
       (by-tests (nat_le 64 (length file)) (nat_eq (number_at 4 0 file) 0x464C457F)
-          (is_within (number_at 8 32 file) (56 * number_at 2 56 file) (length file))
-          (past-end (number_at 2 56 file) file (number_at 8 32 file)))
+      (is_within (number_at 8 32 file) (56 * number_at 2 56 file) (length file))
+      (past-end (number_at 2 56 file) file (number_at 8 32 file)))
 
 -- ---- numbers that are read from bytes are those that stand there
 
@@ -154,16 +160,22 @@ pub number-from : (n at m : ℕ) (bytes : List ℕ) → length bytes ≤ m
 number-from n at m bytes h =
     let count : n ≡ at + n - at = omega arith in
     ap (little_number n) (between_to_end bytes at m h) ∙ number-take n (drop at bytes)
-        ∙ ap (λ k. number (take k (drop at bytes))) count
+    ∙ ap (λ k. number (take k (drop at bytes))) count
 
 -- ---- what the headers say, of the numbers that were read
 
 pub segment-read : (bytes : List ℕ) (flags offset address file_size size : ℕ)
     → flags ≡ number_at 4 4 bytes → offset ≡ number_at 8 8 bytes → address ≡ number_at 8 16 bytes
-        → file_size ≡ number_at 8 32 bytes → size ≡ number_at 8 40 bytes
+    → file_size ≡ number_at 8 32 bytes → size ≡ number_at 8 40 bytes
     → ◌≡◌ {A = LoadSegment}
-    (record { writable = nat_eq (flags / 2 % 2) 1; executable = nat_eq (flags % 2) 1; offset = offset;
-        address = address; file_size = file_size; size = size })
+    (record {
+      writable = nat_eq (flags / 2 % 2) 1;
+      executable = nat_eq (flags % 2) 1;
+      offset = offset;
+      address = address;
+      file_size = file_size;
+      size = size;
+    })
     (segment_shown (segment_at bytes 0))
 unfolding segment_at
 segment-read bytes flags offset address file_size size f o a n s =
@@ -189,10 +201,10 @@ module _ (bytes : List ℕ) (end len kind : ℕ) (told : kind ≡ number_at 4 0 
 pub header-read : (bytes : List ℕ) (len entry at count : ℕ) → number_at 4 0 bytes ≡ 0x464C457F
     → entry ≡ number_at 8 24 bytes → at ≡ number_at 8 32 bytes → count ≡ number_at 2 56 bytes
     → 64 ≤ len → is_within at (56 * count) len ≡ true
-        → Ok (record { entry = entry / 4 * 4; program_headers = at; count = count }) ≡ header_of bytes len
+    → Ok (record { entry = entry / 4 * 4; program_headers = at; count = count }) ≡ header_of bytes len
 header-read bytes len entry at count magic entry-is at-is count-is enough within =
     let yes : nat_eq (number_at 4 0 bytes) 0x464C457F ≡ true = grind (arith, nat_tests, magic) in
     let long : nat_le 64 len ≡ true = grind (arith, nat_tests, enough) in
     let fits : is_within (number_at 8 32 bytes) (56 * number_at 2 56 bytes) len ≡ true =
-            rw (sym at-is, sym count-is) within in
+    rw (sym at-is, sym count-is) within in
     rw (yes, long, fits, entry-is, at-is, count-is) refl

@@ -26,7 +26,7 @@ abbrev pub header_of : List ℕ → ℕ → Result FileHeader ElfFault
 header_of bytes len =
     if number_at 4 0 bytes == 0x464C457F
     then (if nat_le 64 len && is_within (number_at 8 32 bytes) (56 * number_at 2 56 bytes) len
-        then Ok (header_in bytes) else Err Short)
+    then Ok (header_in bytes) else Err Short)
     else Err Magic
 
 -- ---- a program header

@@ -29,8 +29,11 @@ greatest-stands zero = record
 greatest-stands {test} (suc n) = go (greatest-stands n) (test (suc n)) refl where
   go : IsGreatest test n (greatest test n) → (b : Bool) → test (suc n) ≡ b
       → IsGreatest test (suc n) (elim b [ true ↦ suc n | false ↦ greatest test n ])
-  go rest true e = record { low = omega arith; passes = inr e;
-      above = λ j above low. absurd (omega (arith, above, low)) }
+  go rest true e = record {
+    low = omega arith;
+    passes = inr e;
+    above = λ j above low. absurd (omega (arith, above, low));
+  }
   go rest false e = let within = rest.low in record {
     low = omega (arith, within);
     passes = rest.passes;
@@ -84,8 +87,8 @@ module _ {limit : ℕ} {files : Files} {n at : ℕ} {new : List ℕ} (w : Writes
   written-some =
       ap (write_to limit files n at new) w.file.here
       ∙ cond-true (nat_le at (length w.file.bytes) && nat_le (at + length new) longest)
-          (Some (with_bytes files n at w.file.links w.file.bytes new fits-all)) None
-          (grind (arith, nat_tests, w.start, w.short))
+      (Some (with_bytes files n at w.file.links w.file.bytes new fits-all)) None
+      (grind (arith, nat_tests, w.start, w.short))
 
   length-front : (k : ℕ) → k ≤ length new
       → length (overwrite w.file.bytes at (take k new)) ≡ at + k + (length w.file.bytes - (at + k))
@@ -99,7 +102,7 @@ module _ {limit : ℕ} {files : Files} {n at : ℕ} {new : List ℕ} (w : Writes
       let b = blocks_of-set files n (Some (File w.file.links xs)) inside in
       let c = blocks_of-set files n (Some (File w.file.links ys)) inside in
       let grows = taken-grows (length xs) (length ys)
-              (omega (arith, less, length-front j (omega (arith, less, high)), length-front k high)) in
+      (omega (arith, less, length-front j (omega (arith, less, high)), length-front k high)) in
       omega (arith, b, c, grows)
 
   test-falls : {j : ℕ} (k : ℕ) → j ≤ k → k ≤ length new → test j ≡ false → test k ≡ false
@@ -128,8 +131,13 @@ module _ {limit : ℕ} {files : Files} {n at : ℕ} {new : List ℕ} (w : Writes
 pub serves-told : {T : Type 0} {old now : FileTree} {Told : T → Type 0} (x : T) → Told x → now.failed ≡ false
     → now.identity ≡ old.identity → old.failures ≤ now.failures → Serves old now (Ok x) Told
 serves-told x told up same later =
-    record { told = told; up = up; down = tt; same_device = same;
-    cause = record { later = later; failed = λ e. absurd (false≢true e) } }
+    record {
+      told = told;
+      up = up;
+      down = tt;
+      same_device = same;
+      cause = record { later = later; failed = λ e. absurd (false≢true e) };
+    }
 
 -- the next piece of some bytes
 pub record IsPiece (new : List ℕ) (done : ℕ) (q : List ℕ) : Type 0 where
@@ -140,8 +148,10 @@ pub record IsPiece (new : List ℕ) (done : ℕ) (q : List ℕ) : Type 0 where
 -- what a write tells
 abbrev pub Tells : FileTree → FileTree → ℕ → ℕ → List ℕ → Option ℕ → Type 0
 Tells old now n at new told =
-    (now ≡ record old { files = files_after old.files (written old.block_limit old.files n at new);
-        failures = now.failures }) × (told ≡ count_of (written old.block_limit old.files n at new))
+    (now ≡ record old {
+      files = files_after old.files (written old.block_limit old.files n at new);
+      failures = now.failures;
+    }) × (told ≡ count_of (written old.block_limit old.files n at new))
 
 -- the first bytes are written, and there are blocks for them
 pub record HasWritten (old now : FileTree) (n at : ℕ) (new : List ℕ) (done : ℕ) : Type 0 where
@@ -161,10 +171,12 @@ pub write-refused : (old : FileTree) {now : FileTree} {n at : ℕ} (new : List �
 unfolding written
 write-refused old {now} {n} {at} new file same over =
     let never : (nat_le at (length file.bytes) && nat_le (at + length new) longest) ≡ false =
-            grind (arith, nat_tests, over) in
-    let none : written old.block_limit old.files n at new ≡ None = rw (file.here, never) refl in
-    (same ∙ ap (λ (o : Option Written). record old { files = files_after old.files o; failures = now.failures })
-        (sym none), ap count_of (sym none))
+    grind (arith, nat_tests, over) in
+    let none : written old.block_limit old.files n at new ≡ None = rw (file.here, never) refl in (
+      same ∙ ap (λ (o : Option Written). record old { files = files_after old.files o; failures = now.failures })
+          (sym none),
+      ap count_of (sym none),
+    )
 
 pub write-begun : {old now : FileTree} {n at : ℕ} {new : List ℕ} (file : IsFile old.files n) → at ≤ length file.bytes
     → at + length new ≤ longest → now ≡ record old { failures = now.failures } → old.failures ≤ now.failures
@@ -197,8 +209,11 @@ module _ {old now : FileTree} {n at : ℕ} {new : List ℕ} {done : ℕ} (has : 
   -- all are written
   pub write-all : length new ≤ done → Tells old now n at new (Some done)
   write-all over =
-      tells-first (record { low = has.within; passes = has.fits;
-          above = λ j above high. absurd (omega (arith, above, high, over)) }) has.same
+      tells-first (record {
+        low = has.within;
+        passes = has.fits;
+        above = λ j above high. absurd (omega (arith, above, high, over));
+      }) has.same
 
   abbrev mid : IsFile (first done) n
   mid = record {
@@ -238,10 +253,10 @@ module _ {old now : FileTree} {n at : ℕ} {new : List ℕ} {done : ℕ} (has : 
         (overwrite (overwrite has.file.bytes at (take done new)) (at + done) (take k q)) ≡ first (done + k)
     joins {k} low =
         ap (λ m. with_file (first done) n has.file.links
-            (overwrite (overwrite has.file.bytes at (take done new)) (at + m) (take k q))) (sym done-length)
+        (overwrite (overwrite has.file.bytes at (take done new)) (at + m) (take k q))) (sym done-length)
         ∙ ap (with_file (first done) n has.file.links) (overwrite-twice _ _ _ has.start)
         ∙ set-set old.files n (Some (File has.file.links (overwrite has.file.bytes at (take done new))))
-            (Some (File has.file.links (overwrite has.file.bytes at (take done new ++ take k q))))
+        (Some (File has.file.links (overwrite has.file.bytes at (take done new ++ take k q))))
         ∙ ap (λ bytes. with_file old.files n has.file.links (overwrite has.file.bytes at bytes)) (joined k low)
 
     abbrev piece-writes : Writes old.block_limit (first done) n (at + done) q
@@ -272,11 +287,12 @@ module _ {old now : FileTree} {n at : ℕ} {new : List ℕ} {done : ℕ} (has : 
         next-first : next ≡ record old { files = first (done + k); failures = next.failures }
         next-first =
             tells.0
-            ∙ ap (λ (t : FileTree). record t
-                { files = files_after t.files (written t.block_limit t.files n (at + done) q);
-                failures = next.failures }) has.same
+            ∙ ap (λ (t : FileTree). record t {
+              files = files_after t.files (written t.block_limit t.files n (at + done) q);
+              failures = next.failures;
+            }) has.same
             ∙ ap (λ (f : Files). record old { files = f; failures = next.failures })
-                ((told-written piece-writes went-is).0 ∙ joins went-low)
+            ((told-written piece-writes went-is).0 ∙ joins went-low)
 
         -- where some go, there are blocks for them
         passes : (done + k ≡ 0) ⊎ (nat_le (blocks_of (first (done + k))) old.block_limit ≡ true)
@@ -300,15 +316,15 @@ module _ {old now : FileTree} {n at : ℕ} {new : List ℕ} {done : ℕ} (has : 
         pub write-part : k < length q → Tells old next n at new (Some (done + k))
         write-part less =
             let over : (j : ℕ) → done + k < j → j ≤ done + length q
-                    → nat_le (blocks_of (first j)) old.block_limit ≡ false = λ j above high.
+            → nat_le (blocks_of (first j)) old.block_limit ≡ false = λ j above high.
             let e : done + (j - done) ≡ j = omega (arith, above) in
             let low : j - done ≤ length q = omega (arith, high) in
             ap (λ i. nat_le (blocks_of (first i)) old.block_limit) (sym e)
             ∙ ap (λ (f : Files). nat_le (blocks_of f) old.block_limit) (sym (joins low))
             ∙ stands.above (j - done) (omega (arith, above)) low in
             let past : (j : ℕ) → done + k < j → j ≤ length new
-                    → nat_le (blocks_of (first j)) old.block_limit ≡ false =
-                    λ j above high. elim (cases_lt (done + length q) j) [
+            → nat_le (blocks_of (first j)) old.block_limit ≡ false =
+            λ j above high. elim (cases_lt (done + length q) j) [
               | inr near ↦ over j above near
               | inl far ↦ test-falls has.writes j (omega (arith, far)) high
                   (over (done + length q) (omega (arith, less)) (omega arith))
@@ -358,8 +374,8 @@ module _ (mem : Memory) (address count : ℕ) (readable : is_some (read_bytes me
       is-piece =
           let p = piece_at Load mem (address + done) in
           let begin : (k : ℕ) → k ≤ count
-                  → take k given ≡ take k (reach Load mem address) = λ k low. ap (take k) given-is.1
-                  ∙ take-take k count (reach Load mem address) low in
+          → take k given ≡ take k (reach Load mem address) = λ k low. ap (take k) given-is.1
+          ∙ take-take k count (reach Load mem address) low in
           let same : q ≡ take (length q) p = is ∙ sym (take_min _ p) ∙ ap (λ j. take j p) (sym long) in
           record {
             some = omega (arith, long, less, (reach-page Load mem address done sized near).1);

@@ -26,13 +26,18 @@ pub overwrite-none : {bytes : List ℕ} (at : ℕ) → overwrite bytes at [] ≡
 overwrite-none {bytes} at =
     let e : at + 0 ≡ at = omega arith in
     ap (λ n. (take at bytes ++ []) ++ drop n bytes) e ∙ ap (λ l. l ++ drop at bytes) (append-nil (take at bytes))
-        ∙ take-append-drop at bytes
+    ∙ take-append-drop at bytes
 
 pub length-overwrite : (bytes : List ℕ) (at : ℕ) (new : List ℕ) → at ≤ length bytes
     → length (overwrite bytes at new) ≡ at + length new + (length bytes - (at + length new))
 length-overwrite bytes at new low =
-    omega (arith, length-append (take at bytes ++ new) (drop (at + length new) bytes),
-        length-append (take at bytes) new, length-drop (at + length new) bytes, length-take-le at bytes low)
+    omega (
+      arith,
+      length-append (take at bytes ++ new) (drop (at + length new) bytes),
+      length-append (take at bytes) new,
+      length-drop (at + length new) bytes,
+      length-take-le at bytes low,
+    )
 
 -- bytes that stand behind others
 pub overwrite-twice : (bytes : List ℕ) {at : ℕ} (xs ys : List ℕ) → at ≤ length bytes
@@ -41,13 +46,13 @@ overwrite-twice bytes {at} xs ys low =
     let front = take at bytes ++ xs in
     let rest = drop (at + length xs) bytes in
     let long : length front ≡ at + length xs =
-            omega (arith, length-append (take at bytes) xs, length-take-le at bytes low) in
+    omega (arith, length-append (take at bytes) xs, length-take-le at bytes low) in
     let begin : take (at + length xs) (front ++ rest) ≡ front = take_at front rest (at + length xs) long in
     let after : at + length xs + length ys ≡ length front + length ys = omega (arith, long) in
     let sum : at + length xs + length ys ≡ at + length (xs ++ ys) = omega (arith, length-append xs ys) in
     let end : drop (at + length xs + length ys) (front ++ rest) ≡ drop (at + length (xs ++ ys)) bytes =
     ap (λ n. drop n (front ++ rest)) after ∙ drop-append-add front rest (length ys)
-        ∙ drop-drop (length ys) (at + length xs) bytes ∙ ap (λ n. drop n bytes) sum in
+    ∙ drop-drop (length ys) (at + length xs) bytes ∙ ap (λ n. drop n bytes) sum in
     rw (begin, end) (ap (λ l. l ++ drop (at + length (xs ++ ys)) bytes) (append_assoc (take at bytes) xs ys))
 
 -- ---- bytes that are read
@@ -59,7 +64,7 @@ readable-count mem at n can = go (nat_le n (length (reach Load mem at))) refl ca
   go : (b : Bool) → nat_le n (length (reach Load mem at)) ≡ b
       → is_some (if b then Some (take n (reach Load mem at)) else None) ≡ true
       → (n ≤ length (reach Load mem at))
-          × (unwrap_or (if b then Some (take n (reach Load mem at)) else None) [] ≡ take n (reach Load mem at))
+      × (unwrap_or (if b then Some (take n (reach Load mem at)) else None) [] ≡ take n (reach Load mem at))
   go true fits can = (leb-true n (length (reach Load mem at)) fits, refl)
   go false fits can = absurd (cc)
 
@@ -99,7 +104,7 @@ write-here p ps {at} new here = go new where
       let none : take {A = ℕ} (4096 - at) [] ≡ [] = take_all (4096 - at) [] (omega arith) in
       let rest : drop {A = ℕ} (4096 - at) [] ≡ [] = drop_all _ [] (omega arith) in
       rw (page, none, rest, write-none ps 0)
-          (ap (λ (bytes : List ℕ). record { bytes = bytes; marks = p.marks } ∷ ps) (sym (overwrite-none at)))
+      (ap (λ (bytes : List ℕ). record { bytes = bytes; marks = p.marks } ∷ ps) (sym (overwrite-none at)))
   go (b ∷ bs) = rw (page, place) refl
 
 sized-tail : {p : Page} (ps : List Page) → IsSized (p ∷ ps) → IsSized ps
@@ -119,8 +124,13 @@ written-sized (p ∷ ps) at new sized = elim (cases_lt at 4096) [
       let size : length p.bytes ≡ 4096 = sized 0 p refl in
       rw (write-here p ps new here)
       (sized-more _ _
-      (omega (arith, here, size, length-take (4096 - at) new,
-          length-overwrite p.bytes at (take (4096 - at) new) (omega (arith, here, size))))
+      (omega (
+        arith,
+        here,
+        size,
+        length-take (4096 - at) new,
+        length-overwrite p.bytes at (take (4096 - at) new) (omega (arith, here, size)),
+      ))
       (written-sized ps 0 _ (sized-tail ps sized)))
   | inr later ↦ rw (write-later p ps at new later)
       (sized-more p _ (sized 0 p refl) (written-sized ps _ _ (sized-tail ps sized)))
@@ -134,9 +144,12 @@ written-twice [] at xs ys sized = ap (λ (m : Memory). write_bytes m (at + lengt
 written-twice (p ∷ ps) at xs ys sized = elim (cases_lt at 4096) [
   | inr later ↦
       let n : at + length xs - 4096 ≡ at - 4096 + length xs = omega (arith, later) in
-      rw (write-later p ps at xs later,
-          write-later p (write_bytes ps (at - 4096) xs) (at + length xs) ys (omega (arith, later)), n,
-          write-later p ps at (xs ++ ys) later)
+      rw (
+        write-later p ps at xs later,
+        write-later p (write_bytes ps (at - 4096) xs) (at + length xs) ys (omega (arith, later)),
+        n,
+        write-later p ps at (xs ++ ys) later,
+      )
       (ap (λ (m : Memory). p ∷ m) (written-twice ps _ xs ys (sized-tail ps sized)))
   | inl here ↦ rw (write-here p ps xs here, write-here p ps (xs ++ ys) here) (elim (cases_lt (at + length xs) 4096) [
     | inl short ↦
@@ -145,23 +158,28 @@ written-twice (p ∷ ps) at xs ys sized = elim (cases_lt at 4096) [
         let none : drop (4096 - at) xs ≡ [] = drop_all _ xs (omega (arith, short)) in
         let left : 4096 - at ≡ length xs + (4096 - (at + length xs)) = omega (arith, short) in
         let front : take (4096 - at) (xs ++ ys) ≡ xs ++ take (4096 - (at + length xs)) ys =
-                ap (λ k. take k (xs ++ ys)) left ∙ take-append-add xs ys (4096 - (at + length xs)) in
+        ap (λ k. take k (xs ++ ys)) left ∙ take-append-add xs ys (4096 - (at + length xs)) in
         let back : drop (4096 - at) (xs ++ ys) ≡ drop (4096 - (at + length xs)) ys = ap (λ k. drop k (xs ++ ys)) left
-                ∙ drop-append-add xs ys (4096 - (at + length xs)) in
+        ∙ drop-append-add xs ys (4096 - (at + length xs)) in
         rw (none, write-none ps 0, all, write-here (vm.written p at xs) ps ys short, front, back)
         (ap (λ (l : List ℕ). record { bytes = l; marks = p.marks }
-            ∷ write_bytes ps 0 (drop (4096 - (at + length xs)) ys))
-            (overwrite-twice _ xs _ (omega (arith, here, size))))
+        ∷ write_bytes ps 0 (drop (4096 - (at + length xs)) ys))
+        (overwrite-twice _ xs _ (omega (arith, here, size))))
     | inr long ↦
         let w = vm.written p at (take (4096 - at) xs) in
         let n : at + length xs - 4096 ≡ 0 + length (drop (4096 - at) xs) =
-                omega (arith, long, here, length-drop (4096 - at) xs) in
+        omega (arith, long, here, length-drop (4096 - at) xs) in
         let front : take (4096 - at) (xs ++ ys) ≡ take (4096 - at) xs =
-                take-append-le (4096 - at) xs ys (omega (arith, long, here)) in
+        take-append-le (4096 - at) xs ys (omega (arith, long, here)) in
         let back : drop (4096 - at) (xs ++ ys) ≡ drop (4096 - at) xs ++ ys =
-                drop-append-le (4096 - at) xs ys (omega (arith, long, here)) in
-        rw (write-later w (write_bytes ps 0 (drop (4096 - at) xs)) (at + length xs) ys long, n,
-            written-twice ps 0 (drop (4096 - at) xs) ys (sized-tail ps sized), front, back) refl
+        drop-append-le (4096 - at) xs ys (omega (arith, long, here)) in
+        rw (
+          write-later w (write_bytes ps 0 (drop (4096 - at) xs)) (at + length xs) ys long,
+          n,
+          written-twice ps 0 (drop (4096 - at) xs) ys (sized-tail ps sized),
+          front,
+          back,
+        ) refl
   ])
 ]
 
@@ -212,7 +230,7 @@ pub rest-writes : (mem : Memory) (at d l c : ℕ) → IsSized mem → can_write 
 rest-writes mem at d l c sized can fits =
     let whole : c ≤ length (reach Store mem at) = leb-true c (length (reach Store mem at)) can in
     let rest : length (reach Store mem (at + d)) ≡ length (reach Store mem at) - d =
-            ap length (reach-drop _ _ at d sized (omega (arith, whole, fits))) ∙ length-drop d (reach Store mem at) in
+    ap length (reach-drop _ _ at d sized (omega (arith, whole, fits))) ∙ length-drop d (reach Store mem at) in
     le-leb l (length (reach Store mem (at + d))) (omega (arith, whole, fits, rest))
 
 -- whatever was written before
@@ -233,8 +251,12 @@ module _ (files : Files) (number offset : ℕ) (node : Node) (here : slot files 
   all = drop offset (node_bytes node)
 
   pub piece-fits : k ≤ length new
-  piece-fits = omega (arith, ap length bytes, length-append (take k all) (drop k old),
-      length-take-le k all (omega (arith, count, length-drop offset (node_bytes node))))
+  piece-fits = omega (
+    arith,
+    ap length bytes,
+    length-append (take k all) (drop k old),
+    length-take-le k all (omega (arith, count, length-drop offset (node_bytes node))),
+  )
 
 -- ---- the spaces
 
@@ -268,8 +290,8 @@ module _ (s : Spaces) (at address : ℕ) (has : has_space s at ≡ true) where
     with-more more sized =
         rw (held-with, written-twice (view_at s at).memory address bytes more sized)
         (ap (λ (ps : List (Option SpaceView)). record s { places = ps })
-            (set-set s.places at (Some (written (view_at s at) address bytes))
-            (Some (written (view_at s at) address (bytes ++ more)))))
+        (set-set s.places at (Some (written (view_at s at) address bytes))
+        (Some (written (view_at s at) address (bytes ++ more)))))
 
 -- ---- the pieces of a read
 
@@ -295,7 +317,7 @@ module _ {old now : FileTree} {before after : Spaces} {at number offset address 
       × (after ≡ with_bytes before at address (bytes_read old.files number offset count))
   read-all whole =
       let all : take done rest ≡ take count rest = ap (λ n. take n rest) (whole ∙ length-take count rest)
-              ∙ take_min _ _ in
+      ∙ take_min _ _ in
       (record { same = has.same; count = whole }, has.bytes ∙ ap (with_bytes before at address) all)
 
   pub read-end : count ≤ done → done ≡ length (bytes_read old.files number offset count)
@@ -317,7 +339,7 @@ module _ {old now : FileTree} {before after : Spaces} {at number offset address 
     more-is : take done rest ++ bytes_read now.files number (offset + done) size ≡ take (done + got) rest
     more-is =
         let same : take size left ≡ take got left = sym (take_min _ _)
-                ∙ ap (λ n. take n left) (ap (min size) (length-drop done rest) ∙ sym got-is) in
+        ∙ ap (λ n. take n left) (ap (min size) (length-drop done rest) ∙ sym got-is) in
         ap (λ l. take done rest ++ l) (piece-is ∙ same) ∙ sym (take-add done got rest)
 
     pub read-short : got < size → done + got ≡ length (bytes_read old.files number offset count)
@@ -332,7 +354,7 @@ module _ {old now : FileTree} {before after : Spaces} {at number offset address 
         let was = has.later in
         let same = has.same in
         let behind : address + done ≡ address + length (take done rest) =
-                ap (λ n. address + n) (sym (length-take-le done rest low)) in
+        ap (λ n. address + n) (sym (length-take-le done rest low)) in
         record {
           within = omega (arith, fits, got-is);
           same = read.same ∙ ap (λ (t : FileTree). record t { failures = next.failures }) has.same;
@@ -340,9 +362,9 @@ module _ {old now : FileTree} {before after : Spaces} {at number offset address 
           some = omega (arith, low, fits, got-is, length-take count rest);
           bytes = put
               ∙ ap (λ (s : Spaces). with_bytes s
-                  at (address + done) (bytes_read now.files number (offset + done) size)) has.bytes
+              at (address + done) (bytes_read now.files number (offset + done) size)) has.bytes
               ∙ ap (λ n. with_bytes (with_bytes before at address (take done rest))
-                  at n (bytes_read now.files number (offset + done) size)) behind
+              at n (bytes_read now.files number (offset + done) size)) behind
               ∙ with-more before at address space (take done rest) _ sized
               ∙ ap (with_bytes before at address) more-is;
         }
@@ -394,7 +416,7 @@ pub read-writes : {old now : FileTree} {before after : Spaces} {at number offset
     → HasRead old now before after at number offset address count done → has_space before at ≡ true
     → IsSized (view_at before at).memory
     → can_write (view_at before at).memory address count ≡ true → (l : ℕ) → done + l ≤ count
-        → can_write (view_at after at).memory (address + done) l ≡ true
+    → can_write (view_at after at).memory (address + done) l ≡ true
 read-writes {old} {before = before} {at = at} {number = number} {offset = offset} {address = address} {count = count}
     {done = done} has space sized can l fits =
     let bytes = bytes_read old.files number offset done in

@@ -32,7 +32,7 @@ fn read_piece<D: BlockDev, T: Translate>(
     requires writable { can_write (view_at spaces.old at).memory address (length buffer.old) ≡ true }
     ensures serves { Serves tree.old tree.new result (IsRead tree.old tree.new number offset (length buffer.old)) }
     ensures written { OnOk result
-            (spaces.new ≡ with_read spaces.old at address tree.old.files number offset (length buffer.old)) }
+        (spaces.new ≡ with_read spaces.old at address tree.old.files number offset (length buffer.old)) }
     ensures failed { OnErr result (spaces.new ≡ spaces.old) }
 {
     spaces.pages_are_whole(at);

@@ -64,7 +64,7 @@ pub fn write_node<D: BlockDev, T: Translate>(
     requires space { has_space spaces.now at ≡ true }
     requires readable { is_some (read_bytes (view_at spaces.now at).memory address count) ≡ true }
     ensures { Serves tree.old tree.new result
-            (Writes tree.old tree.new (written_from spaces.now at address count tree.old number offset)) }
+        (Writes tree.old tree.new (written_from spaces.now at address count tree.old number offset)) }
 {
     spaces.pages_are_whole(at);
     let first = piece(spaces, at, address, count);
@@ -89,7 +89,7 @@ fn write_pages<D: BlockDev, T: Translate>(
     requires space { has_space spaces.now at ≡ true }
     requires readable { is_some (read_bytes (view_at spaces.now at).memory address count) ≡ true }
     ensures { Serves tree.old tree.new result
-            (Writes tree.old tree.new (written_from spaces.now at address count tree.old number offset)) }
+        (Writes tree.old tree.new (written_from spaces.now at address count tree.old number offset)) }
 {
     spaces.pages_are_whole(at);
     let size = tree.stat(number)?.size;

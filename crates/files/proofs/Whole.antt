@@ -121,7 +121,7 @@ pub count-opened : (t : Table) (i : ℕ) (f : OpenFile) → i < length t → slo
     → count_at (opened t i f) k ≡ count_at t k + one_at k i
 count-opened t i f h free =
     count-set t _ (λ k n. n ≡ count_at t k + one_at k i) h (rw (free, one_at-self i) refl)
-        (λ k other. rw (one_at-other other) (omega arith))
+    (λ k other. rw (one_at-other other) (omega arith))
 
 within-count : (t : Table) (i : ℕ) → 0 < count_at t i → i < length t
 within-count [] i h = absurd (omega (arith, h))
@@ -137,7 +137,7 @@ pub count-shared : (t : Table) (i : ℕ) → 0 < count_at t i → (k : ℕ)
     → count_at (shared t i) k ≡ count_at t k + one_at k i
 count-shared t i h =
     count-set t _ (λ k n. n ≡ count_at t k + one_at k i) (within-count t i h) (rw (one_at-self i) (count-more _ h))
-        (λ k other. rw (one_at-other other) (omega arith))
+    (λ k other. rw (one_at-other other) (omega arith))
 
 count-fewer : (o : Option Counted) → 0 < count_in o → count_in (option_and_then fewer o) + 1 ≡ count_in o
 count-fewer None h = absurd (omega (arith, h))
@@ -151,7 +151,7 @@ pub count-closed : (t : Table) (i : ℕ) → 0 < count_at t i → (k : ℕ)
     → count_at (closed t i) k + one_at k i ≡ count_at t k
 count-closed t i h =
     count-set t (option_and_then fewer (slot t i)) (λ k n. n + one_at k i ≡ count_at t k) (within-count t i h)
-        (rw (one_at-self i) (count-fewer (slot t i) h)) (λ k other. rw (one_at-other other) (omega arith))
+    (rw (one_at-self i) (count-fewer (slot t i) h)) (λ k other. rw (one_at-other other) (omega arith))
 
 count-in_moved : (offset : ℕ) (o : Option Counted) → count_in (option_map (moved_in offset) o) ≡ count_in o
 count-in_moved offset None = refl
@@ -179,7 +179,7 @@ any-count : {X : Type 0} (test : X → Bool) (xs : List X) → list_any test xs 
 any-count test [] = refl
 any-count test (x ∷ xs) =
     rw (sum_by-cons (λ y. cond (test y) 1 0) x xs, lt-sum (cond (test x) 1 0) (count_by test xs), lt-one (test x))
-        (ap (λ b. test x || b) (any-count _ xs))
+    (ap (λ b. test x || b) (any-count _ xs))
 
 abbrev pub is_named_by : ℕ → Process → Bool
 is_named_by k p = list_any (is_same k) p.descriptors
@@ -189,8 +189,11 @@ any-described : (k : ℕ) (places : List (Option Process))
 any-described k [] = refl
 any-described k (None ∷ ps) = rw (sum_by-cons (names_in k) None ps, lt-sum 0 (count_of ps k)) (any-described k ps)
 any-described k (Some p ∷ ps) =
-    rw (sum_by-cons (names_in k) (Some p) ps, lt-sum (names k p.descriptors) (count_of ps k),
-        ← any-count (is_same k) p.descriptors) (ap (λ b. is_named_by k p || b) (any-described k ps))
+    rw (
+      sum_by-cons (names_in k) (Some p) ps,
+      lt-sum (names k p.descriptors) (count_of ps k),
+      ← any-count (is_same k) p.descriptors,
+    ) (ap (λ b. is_named_by k p || b) (any-described k ps))
 
 pub described-count : (s : State) (k : ℕ) → is_described s k ≡ nat_lt 0 (count_of s.places k)
 described-count s k = any-described k s.places
@@ -250,7 +253,7 @@ opens-closed_last t i h = ap (λ o. opens_of (slice_set t i o)) (gone-fewer (slo
 file_in-moved : (offset number old : ℕ) (o : Option Counted) (f : OpenFile)
     → option_map (λ (c : Counted). c.file) o ≡ Some f → f.target ≡ target.File number old
     → option_map file_in (option_map (moved_in offset) o)
-        ≡ Some (record (file_of f) { target = unix.OnNode number offset })
+    ≡ Some (record (file_of f) { target = unix.OnNode number offset })
 file_in-moved offset number old None f at on = absurd (none-some f at)
 file_in-moved offset number old (Some c) f at on =
     let same : c.file ≡ f = cc in
@@ -261,7 +264,7 @@ pub opens-moved : (t : Table) (i offset number old : ℕ) (f : OpenFile) → fil
     → opens_of (moved t i offset) ≡ put (opens_of t) i (record (file_of f) { target = unix.OnNode number offset })
 opens-moved t i offset number old f at on =
     map-set (option_map file_in) t i (option_map (moved_in offset) (slot t i))
-        ∙ ap (λ o. slice_set (opens_of t) i o) (file_in-moved _ _ _ _ f at on)
+    ∙ ap (λ o. slice_set (opens_of t) i o) (file_in-moved _ _ _ _ f at on)
 
 -- ---- a table stays one
 
@@ -328,7 +331,7 @@ left-closed old new i left = record {
   each = all-set (λ k o. (c : Counted) → o ≡ Some c → slot (opens_of old) k ≡ Some (file_of c.file)) new i
       (option_and_then fewer (slot new i))
       (λ c at. let from = fewer-from (slot new i) c at in left.each i from.0 from.1.0
-          ∙ ap (λ f. Some (file_of f)) from.1.1)
+      ∙ ap (λ f. Some (file_of f)) from.1.1)
       left.each;
 }
 
@@ -346,10 +349,10 @@ kept-each test [] (y ∷ ys) k all each = absurd (omega (arith, all))
 kept-each test (x ∷ xs) [] k all each = absurd (omega (arith, all))
 kept-each test (None ∷ xs) (y ∷ ys) k all each =
     ap₂ ◌∷◌ (each 0 k (omega arith))
-        (kept-each _ xs ys _ (omega (arith, all)) (λ i j e. each (suc i) j (omega (arith, e))))
+    (kept-each _ xs ys _ (omega (arith, all)) (λ i j e. each (suc i) j (omega (arith, e))))
 kept-each test (Some x ∷ xs) (y ∷ ys) k all each =
     ap₂ ◌∷◌ (each 0 k (omega arith))
-        (kept-each _ xs ys _ (omega (arith, all)) (λ i j e. each (suc i) j (omega (arith, e))))
+    (kept-each _ xs ys _ (omega (arith, all)) (λ i j e. each (suc i) j (omega (arith, e))))
 
 kept-none : (test : ℕ → unix.OpenFile → Bool) (k : ℕ) (o : Option unix.OpenFile)
     → ((f : unix.OpenFile) → test k f ≡ false) → kept_in test k o ≡ None

@@ -45,9 +45,9 @@ chain-same m k zero first h = refl
 chain-same m k (suc n) first h =
     let next = word_of m first 0 4 in
     let same : word_of k first 0 4 ≡ next =
-            word_of-frame k m first first 0 4 (h first (among_first first (chain m n next))) in
+    word_of-frame k m first first 0 4 (h first (among_first first (chain m n next))) in
     ap (λ x. first ∷ chain k n x) same
-        ∙ ap (λ l. first ∷ l) (chain-same m k n next (λ g at. h g (among_later g first (chain m n next) at)))
+    ∙ ap (λ l. first ∷ l) (chain-same m k n next (λ g at. h g (among_later g first (chain m n next) at)))
 
 -- the free list outlives a change of other frames
 pub free_of-same : (m k : Ram) (s : Frames) → ((g : ℕ) → among g (free_of m s) ≡ true → frame_of k g ≡ frame_of m g)
@@ -148,8 +148,8 @@ IsFreeList-set : (m k : Ram) (s t : Frames) (f x : ℕ) → IsFreeList m s → l
     → t.holders.items ≡ slice_set s.holders.items f x
     → ((g : ℕ) → g ≢ f → among g (free_of k t) ≡ among g (free_of m s))
     → (among f (free_of k t) ≡ true → x ≡ 0) → (among f (free_of k t) ≡ false → 0 < x)
-        → IsDistinct nat_eq (free_of k t) → t.shared + less_one (counted s f) ≡ s.shared + less_one x
-        → t.shared ≤ length (free_of k t) → IsFreeList k t
+    → IsDistinct nat_eq (free_of k t) → t.shared + less_one (counted s f) ≡ s.shared + less_one x
+    → t.shared ≤ length (free_of k t) → IsFreeList k t
 IsFreeList-set m k s t f x is len inside items others free held distinct shared room =
     let low : f < length s.holders.items = omega arith in
     let here = counted-same s t f x items low in
@@ -158,13 +158,18 @@ IsFreeList-set m k s t f x is len inside items others free held distinct shared 
           [ inl same ↦ omega arith | inr other ↦ omega (arith, is.inside g (sym (others g other) ∙ at)) ];
       distinct = distinct;
       size = size-set s t f x (length k) items (is.size ∙ sym len);
-      none = λ g at. elim (cases_eq g f)
-          [ inl same ↦ rw same (here ∙ free (rw same at at)) | inr other ↦ counted-other s t f g x items other
-          ∙ is.none g (sym (others g other) ∙ at) ];
+      none = λ g at. elim (cases_eq g f) [
+        | inl same ↦ rw same (here ∙ free (rw same at at))
+        | inr other ↦ counted-other s t f g x items other
+            ∙ is.none g (sym (others g other) ∙ at)
+      ];
       some = λ g within out. elim (cases_eq g f) [
         | inl same ↦ rw (same, here) (held (rw same at out))
-        | inr other ↦ omega (arith, counted-other s t f g x items other,
-            is.some g (omega arith) (sym (others g other) ∙ out))
+        | inr other ↦ omega (
+          arith,
+          counted-other s t f g x items other,
+          is.some g (omega arith) (sym (others g other) ∙ out),
+        )
       ];
       sum = omega (arith, sum-set s t f x items low);
       room = room;
@@ -205,14 +210,14 @@ free_of-give m s t f mem inside fits absent first count =
     let k = put m f 0 (word_bytes 4 s.first.0) in
     let next : word_of k f 0 4 ≡ s.first.0 = word_of-put_same m f 0 4 s.first.0 mem inside (omega arith) fits in
     rw (first, count, add-one)
-        (ap (λ l. f ∷ l) (ap (λ x. chain k s.count x) next
-        ∙ chain-same m k s.count s.first.0
-        (λ g at. frame_of-put_other m f 0 (word_bytes 4 s.first.0) g (λ e. cc (rw (← e) at absent)))))
+    (ap (λ l. f ∷ l) (ap (λ x. chain k s.count x) next
+    ∙ chain-same m k s.count s.first.0
+    (λ g at. frame_of-put_other m f 0 (word_bytes 4 s.first.0) g (λ e. cc (rw (← e) at absent)))))
 
 pub IsFreeList-give : (m k : Ram) (s t : Frames) (f : ℕ) → IsFreeList m s → length k ≡ length m → f < length m
     → among f (free_of m s) ≡ false → free_of k t ≡ f ∷ free_of m s
     → t.holders.items ≡ slice_set s.holders.items f 0 → t.shared ≡ s.shared → further_at s f ≡ 0
-        → IsFreeList k t × (extra_of t ≡ extra_of s)
+    → IsFreeList k t × (extra_of t ≡ extra_of s)
 IsFreeList-give m k s t f is len inside absent e items shared last =
     let one_before : less_one (counted s f) ≡ 0 = sym (further-is s f) ∙ last in (
       IsFreeList-set m k s t f 0 is len inside items (λ g ne. ap (among g) e ∙ among-other f g (free_of m s) ne)
@@ -225,11 +230,11 @@ IsFreeList-give m k s t f is len inside absent e items shared last =
 pub IsFreeList-count : (m : Ram) (s t : Frames) (f x : ℕ) → IsFreeList m s → f < length m → 0 < counted s f → 0 < x
     → free_of m t ≡ free_of m s
     → t.holders.items ≡ slice_set s.holders.items f x → t.shared + counted s f ≡ s.shared + x
-        → t.shared ≤ length (free_of m s) → IsFreeList m t
+    → t.shared ≤ length (free_of m s) → IsFreeList m t
 IsFreeList-count m s t f x is inside held new e items shared room =
     IsFreeList-set m m s t f x is refl inside items (λ g _. ap (among g) e)
-        (λ at. absurd (omega (arith, is.none f (rw e at at)))) (λ _. new) (rw e is.distinct) (omega arith)
-        (omega (arith, ap length e))
+    (λ at. absurd (omega (arith, is.none f (rw e at at)))) (λ _. new) (rw e is.distinct) (omega arith)
+    (omega (arith, ap length e))
 
 -- how many further holders frames have then
 pub further-count : (s t : Frames) (f x g : ℕ) → f < length s.holders.items
@@ -237,9 +242,13 @@ pub further-count : (s t : Frames) (f x g : ℕ) → f < length s.holders.items
     → ((g ≡ f) × (further_at t g ≡ x - 1) × (further_at s g ≡ counted s f - 1))
     ⊎ ((g ≢ f) × (further_at t g ≡ further_at s g))
 further-count s t f x g low items = elim (cases_eq g f) [
-  | inl same ↦ inl (same, further-is t g
-      ∙ ap less_one (ap (counted t) same ∙ counted-same s t f x items low), further-is s g
-      ∙ ap (λ h. less_one (counted s h)) same)
+  | inl same ↦ inl (
+    same,
+    further-is t g
+        ∙ ap less_one (ap (counted t) same ∙ counted-same s t f x items low),
+    further-is s g
+        ∙ ap (λ h. less_one (counted s h)) same,
+  )
   | inr other ↦ inr (other, further-is t g ∙ ap less_one (counted-other s t f g x items other) ∙ sym (further-is s g))
 ]
 

@@ -47,8 +47,12 @@ pub distinct-count : (f : ℕ) (xs : List ℕ) → IsDistinct nat_eq xs → coun
 unfolding IsDistinct
 distinct-count f [] h = omega arith
 distinct-count f (x ∷ xs) h = elim (cases_eq f x) [
-  | inl same ↦ omega (arith, count_of-first f x xs same, ap (λ g. count_of g xs) same,
-      none-among x xs (apart-not x xs h.0))
+  | inl same ↦ omega (
+    arith,
+    count_of-first f x xs same,
+    ap (λ g. count_of g xs) same,
+    none-among x xs (apart-not x xs h.0),
+  )
   | inr other ↦ rw (count_of-other f x xs other) (distinct-count f xs h.1)
 ]
 
@@ -90,9 +94,11 @@ pub held-inside : (m : Ram) (s : Frames) (f : ℕ) → IsFreeList m s → 0 < ho
 held-inside m s f is some =
     let sum = holders-free is f in
     let low : f < length m =
-            elim (cases_lt f (length m))
-            [ inl low ↦ low | inr past ↦ absurd
-            (omega (arith, ap one_if (le-ltb f (length m) past), further-past is f past)) ] in
+    elim (cases_lt f (length m)) [
+      | inl low ↦ low
+      | inr past ↦ absurd
+          (omega (arith, ap one_if (le-ltb f (length m) past), further-past is f past))
+    ] in
     (low, not_free is f (omega (arith, holders-counted is f low)))
 
 count_of-range : (f a n : ℕ) → a ≤ f → f < a + n → 1 ≤ count_of f (range_with_len a n)
@@ -131,8 +137,13 @@ module _ {m : Ram} {s : Frames} (is : IsFreeList m s) where
     each = λ f.
         let sum = holders-free is f in
         elim (cases_lt f (length m)) [
-          | inl low ↦ omega (arith, alone f, ap one_if (lt-ltb f (length m) low), ap (count_of f) e,
-              count_of-range f 0 (length m) (omega arith) (omega arith))
+          | inl low ↦ omega (
+            arith,
+            alone f,
+            ap one_if (lt-ltb f (length m) low),
+            ap (count_of f) e,
+            count_of-range f 0 (length m) (omega arith) (omega arith),
+          )
           | inr high ↦ omega (arith, alone f, ap one_if (le-ltb f (length m) high))
         ];
   }
@@ -188,8 +199,11 @@ sum_below-one : (n x : ℕ) (g : ℕ → ℕ) → x < n → sum_below n (λ f. o
 sum_below-one zero x g h = absurd (omega arith)
 sum_below-one (suc n) x g h = elim (cases_eq n x) [
   | inl same ↦ rw (eq-eqb n x same)
-      (omega (arith, sum_below-same n (λ f. one_if (eqb f x) + g f) g
-      (λ f l. let ne : f ≢ x = omega arith in rw (ne_eqb f x ne) (omega arith))))
+      (omega (
+        arith,
+        sum_below-same n (λ f. one_if (eqb f x) + g f) g
+            (λ f l. let ne : f ≢ x = omega arith in rw (ne_eqb f x ne) (omega arith)),
+      ))
   | inr other ↦ rw (ne_eqb n x other) (omega (arith, sum_below-one n x g (omega arith)))
 ]
 
@@ -199,7 +213,7 @@ pub length-counts : (xs : List ℕ) (n : ℕ) → ((f : ℕ) → n ≤ f → cou
 length-counts [] n h = sym (sum_below-zero n (λ f. 0) (λ f l. refl))
 length-counts (x ∷ xs) n h =
     let low : x < n = elim (cases_lt x n)
-            [ inl l ↦ l | inr g ↦ absurd (omega (arith, h x g, count_of-first x x xs refl)) ] in
+    [ inl l ↦ l | inr g ↦ absurd (omega (arith, h x g, count_of-first x x xs refl)) ] in
     rw (sum_below-one n x (λ f. count_of f xs) low) (omega (arith, length-counts xs n (λ f l. omega (arith, h f l))))
 
 sum_below-ones : (n : ℕ) → sum_below n (λ f. 1) ≡ n
@@ -220,16 +234,22 @@ module _ {m : Ram} {s : Frames} (is : IsFreeList m s) where
       → free_count m s + length old + sum_below (length m) rest ≡ length m
   accounted old rest all =
       let both : (f : ℕ) → count_of f (free_of m s ++ old) + rest f ≡ one_if (ltb f (length m)) + further_at s f =
-              λ f. omega (arith, count_of-append f (free_of m s) old, all f, holders-free is f) in
+      λ f. omega (arith, count_of-append f (free_of m s) old, all f, holders-free is f) in
       let sums : sum_below (length m) (λ f. count_of f (free_of m s ++ old) + rest f)
-              ≡ sum_below (length m) (λ f. 1 + further_at s f) =
+      ≡ sum_below (length m) (λ f. 1 + further_at s f) =
       sum_below-same (length m) (λ f. count_of f (free_of m s ++ old) + rest f) (λ f. 1 + further_at s f)
-          (λ f l. omega (arith, both f, ap one_if (lt-ltb f (length m) l))) in
-      omega (arith, sum_below-plus (length m) (λ f. count_of f (free_of m s ++ old)) rest,
-          sum_below-plus (length m) (λ f. 1) (further_at s), sum_below-ones (length m), further-sum,
-          length-counts (free_of m s ++ old) (length m)
-          (λ f l. omega (arith, both f, ap one_if (le-ltb f (length m) l), further-past is f l)),
-          length-append (free_of m s) old, shared-is s)
+      (λ f l. omega (arith, both f, ap one_if (lt-ltb f (length m) l))) in
+      omega (
+        arith,
+        sum_below-plus (length m) (λ f. count_of f (free_of m s ++ old)) rest,
+        sum_below-plus (length m) (λ f. 1) (further_at s),
+        sum_below-ones (length m),
+        further-sum,
+        length-counts (free_of m s ++ old) (length m)
+            (λ f l. omega (arith, both f, ap one_if (le-ltb f (length m) l), further-past is f l)),
+        length-append (free_of m s) old,
+        shared-is s,
+      )
 
   -- what the holders hold, frames that are shared as often as they are, and what is free are all frames of the memory
   pub shared-count : (all : List ℕ) → IsShared m s all → free_count m s + length all ≡ length m
@@ -257,8 +277,12 @@ module _ {m k : Ram} {s n : Frames} {old new : List ℕ} (t : Trades m k s n old
       → free_count k n + length new ≡ free_count m s + length old
   Trades-lengths is_m is_k room =
       let rest = λ (f : ℕ). holders_of m s f - count_of f old in
-      omega (arith, accounted is_m old rest (λ f. omega (arith, room f)),
-          accounted is_k new rest (λ f. omega (arith, room f)), ap (λ l. sum_below l rest) t.count)
+      omega (
+        arith,
+        accounted is_m old rest (λ f. omega (arith, room f)),
+        accounted is_k new rest (λ f. omega (arith, room f)),
+        ap (λ l. sum_below l rest) t.count,
+      )
 
 -- ---- what the calls on frames do, as trades
 
@@ -267,8 +291,13 @@ module _ {m k : Ram} {s n : Frames} (is : IsFreeList m s) (after : IsFreeList k 
   pub holders-table : length k ≡ length m → extra_of n ≡ extra_of s → (f : ℕ)
       → holders_of k n f + count_of f (free_of k n) ≡ holders_of m s f + count_of f (free_of m s)
   holders-table len same f =
-      omega (arith, holders-free is f, holders-free after f, ap (λ l. one_if (ltb f l)) len,
-      ap (λ (t : List ℕ × ℕ). get_or t.0 f 0) same)
+      omega (
+        arith,
+        holders-free is f,
+        holders-free after f,
+        ap (λ l. one_if (ltb f l)) len,
+        ap (λ (t : List ℕ × ℕ). get_or t.0 f 0) same,
+      )
 
   -- a frame comes into the list, from its last holder
   pub holders-list : (f : ℕ) → length k ≡ length m → free_of k n ≡ f ∷ free_of m s → extra_of n ≡ extra_of s
@@ -297,8 +326,12 @@ Trades-give m k s n f is moved same stays held = record {
     | inl here ↦
         let in_memory = held-inside m s f is held in
         let more : 0 < further_at s f =
-                omega (arith, count_of-first g f [] here, ap (holders_of m s) here,
-                not-free-held is f in_memory.0 in_memory.1) in
+        omega (
+          arith,
+          count_of-first g f [] here,
+          ap (holders_of m s) here,
+          not-free-held is f in_memory.0 in_memory.1,
+        ) in
         ap (λ x. frame_of x g) (stays more)
     | inr other ↦ same.others g (rw (ne_eqb g f other) refl)
   ];
@@ -310,20 +343,40 @@ module _ {m : Ram} {s t : Frames} (is : IsFreeList m s) (after : IsFreeList m t)
       → t.holders.items ≡ slice_set s.holders.items f x → x ≡ counted s f + 1 → Gains m m s t (f ∷ [])
   holders-more f x e low some items more g =
       elim (further-count s t f x g (omega arith) items) [
-        | inl here ↦ omega (arith, holders-free is g, holders-free after g, ap (count_of g) e,
-            count_of-first g f [] here.0)
-        | inr other ↦ omega (arith, holders-free is g, holders-free after g, ap (count_of g) e,
-            count_of-other g f [] other.0)
+        | inl here ↦ omega (
+          arith,
+          holders-free is g,
+          holders-free after g,
+          ap (count_of g) e,
+          count_of-first g f [] here.0,
+        )
+        | inr other ↦ omega (
+          arith,
+          holders-free is g,
+          holders-free after g,
+          ap (count_of g) e,
+          count_of-other g f [] other.0,
+        )
       ]
 
   pub holders-fewer : (f x : ℕ) → free_of m t ≡ free_of m s → f < length m
       → t.holders.items ≡ slice_set s.holders.items f x → x + 1 ≡ counted s f → 0 < x → Loses m m s t (f ∷ [])
   holders-fewer f x e low items fewer some g =
       elim (further-count s t f x g (omega arith) items) [
-        | inl here ↦ omega (arith, holders-free is g, holders-free after g, ap (count_of g) e,
-            count_of-first g f [] here.0)
-        | inr other ↦ omega (arith, holders-free is g, holders-free after g, ap (count_of g) e,
-            count_of-other g f [] other.0)
+        | inl here ↦ omega (
+          arith,
+          holders-free is g,
+          holders-free after g,
+          ap (count_of g) e,
+          count_of-first g f [] here.0,
+        )
+        | inr other ↦ omega (
+          arith,
+          holders-free is g,
+          holders-free after g,
+          ap (count_of g) e,
+          count_of-other g f [] other.0,
+        )
       ]
 
 -- ---- a duplicate says of a memory what its source says

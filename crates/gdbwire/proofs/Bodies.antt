@@ -64,7 +64,7 @@ flips-apart b is = let P : ℕ → Type 0 = λ n. (36 < bit_xor n 32) ⊎ (bit_x
 byte-heard : (test : Bool) (total : ℕ) (body : List ℕ) (b : ℕ) (bs : List ℕ) → is_reserved b ≡ test
     → length body < longest →
     hears_all (at Body total body) (sent_byte b ++ bs)
-        ≡ hears_all (at Body ((total + sum (sent_byte b)) % 256) (body ++ b ∷ [])) bs
+    ≡ hears_all (at Body ((total + sum (sent_byte b)) % 256) (body ++ b ∷ [])) bs
 unfolding sent_byte
 byte-heard false total body b bs is lt =
     rw is (rw (zero-add b) (passes (at Body total body) (at Body ((total + b) % 256) (body ++ b ∷ [])) b bs
@@ -76,7 +76,7 @@ byte-heard true total body b bs is lt =
     rw is (
     passes (at Body total body) (at Escaped half body) 125 (c ∷ bs) (escape total body)
     ∙ passes (at Escaped half body) (at Body ((half + c) % 256) (body ++ bit_xor c 32 ∷ [])) c bs
-        (flipped half body c (flips-apart b is) lt)
+    (flipped half body c (flips-apart b is) lt)
     ∙ ap (λ t. hears_all (at Body t (body ++ bit_xor c 32 ∷ [])) bs) sums
     ∙ ap (λ byte. hears_all (at Body ((total + (0 + 125 + c)) % 256) (body ++ byte ∷ [])) bs) (flip-twice b))
 
@@ -86,25 +86,25 @@ sum-append xs ys = grind (arith, common_steps)
 -- a body that is sent is heard as itself
 body-heard : (total : ℕ) (before body rest : List ℕ) → total < 256 → length before + length body ≤ longest →
     hears_all (at Body total before) (sent body ++ rest)
-        ≡ hears_all (at Body ((total + sum (sent body)) % 256) (before ++ body)) rest
+    ≡ hears_all (at Body ((total + sum (sent body)) % 256) (before ++ body)) rest
 body-heard total before [] rest lt le =
     let e : total ≡ (total + 0) % 256 = omega arith in
     ap (λ t. hears_all (at Body t before) rest) e
-        ∙ ap (λ b. hears_all (at Body ((total + 0) % 256) b) rest) (sym (append-nil before))
+    ∙ ap (λ b. hears_all (at Body ((total + 0) % 256) b) rest) (sym (append-nil before))
 body-heard total before (b ∷ bs) rest lt le =
     let room : length before < longest = omega (arith, le) in
     let next = (total + sum (sent_byte b)) % 256 in
     let below : next < 256 = omega arith in
     let more : length (before ++ b ∷ []) + length bs ≤ longest =
-            rw (length-append before (b ∷ [])) (omega (arith, le)) in
+    rw (length-append before (b ∷ [])) (omega (arith, le)) in
     let sums : (next + sum (sent bs)) % 256 ≡ (total + sum (sent_byte b ++ sent bs)) % 256 =
-            rw (sum-append (sent_byte b) (sent bs)) (omega arith) in
+    rw (sum-append (sent_byte b) (sent bs)) (omega arith) in
     ap (λ bytes. hears_all (at Body total before) bytes) (append_assoc (sent_byte b) (sent bs) rest)
     ∙ byte-heard (is_reserved b) total before b (sent bs ++ rest) refl room
     ∙ body-heard next (before ++ b ∷ []) bs rest below more
     ∙ ap (λ t. hears_all (at Body t ((before ++ b ∷ []) ++ bs)) rest) sums
     ∙ ap (λ text. hears_all (at Body ((total + sum (sent_byte b ++ sent bs)) % 256) text) rest)
-        (append_assoc before (b ∷ []) bs)
+    (append_assoc before (b ∷ []) bs)
 
 -- a whole frame with the right digits
 judged-right : (total : ℕ) (body : List ℕ) (high low : Option ℕ) → high ≡ Some (total / 16) → low ≡ Some (total % 16) →
@@ -124,14 +124,14 @@ ends-body total body = refl
 -- the sum behind a body
 sum-heard : (total : ℕ) (body rest : List ℕ) → total < 256 →
     hears_all (at Body total body) (35 ∷ hex_byte total ++ rest) ≡ (Packet, body)
-        ∷ hears_all (at Between total body) rest
+    ∷ hears_all (at Between total body) rest
 unfolding hears_all hex_byte
 sum-heard total body rest lt =
     let high = digit-read (total / 16) (omega (arith, lt)) in
     let low = digit-read (total % 16) (omega arith) in
     passes (at Body total body) (at Sum total body) 35 (hex_byte total ++ rest) (ends-body total body)
     ∙ ap (λ heard. (heard, body) ∷ hears_all (at Between total body) rest)
-        (judged-right total body (value_of (hex_digit (total / 16))) (value_of (hex_digit (total % 16))) high low)
+    (judged-right total body (value_of (hex_digit (total / 16))) (value_of (hex_digit (total % 16))) high low)
 
 pub frame : FramesAreHeard
 unfolding framed
@@ -140,8 +140,8 @@ frame r body rest is le =
     let behind = 35 ∷ hex_byte total ++ rest in
     passes r begun 36 _ (begins r is)
     ∙ ap (λ bytes. hears_all begun bytes)
-        (append_assoc (sent body ++ 35 ∷ []) (hex_byte total) rest
-        ∙ append_assoc (sent body) (35 ∷ []) (hex_byte total ++ rest))
+    (append_assoc (sent body ++ 35 ∷ []) (hex_byte total) rest
+    ∙ append_assoc (sent body) (35 ∷ []) (hex_byte total ++ rest))
     ∙ body-heard 0 [] body behind (lit< tt) (rw (zero-add (length body)) le)
     ∙ ap (λ t. hears_all (at Body (t % 256) body) behind) (zero-add (sum (sent body)))
     ∙ sum-heard total body rest (omega arith)

@@ -83,7 +83,7 @@ two-digits digits at within =
 pub bytes-more : (out digits : List ℕ) (at byte : ℕ) → at + 1 < length digits
     → pair_of (value_of (get_or digits at 0)) (value_of (get_or digits (at + 1) 0)) ≡ Some byte
     → option_map (λ bytes. out ++ bytes) (bytes_of (drop at digits))
-        ≡ option_map (λ bytes. (out ++ byte ∷ []) ++ bytes) (bytes_of (drop (at + 2) digits))
+    ≡ option_map (λ bytes. (out ++ byte ∷ []) ++ bytes) (bytes_of (drop (at + 2) digits))
 bytes-more out digits at byte within is =
     rw (two-digits digits at within, is) (byte-more out byte (bytes_of (drop (at + 2) digits)))
 

@@ -118,8 +118,8 @@ digits-read (suc most) n few small =
       | inl less ↦
           let same : 16 * 0 + n % 16 ≡ n = omega (arith, less) in
           rw (lt-ltb n 16 less) (last-digit (Some 0) [] (hex_digit (n % 16))
-              ∙ ap (λ o. more o (hex_digit (n % 16))) (whole 0) ∙ ap (with_digit 0) digit
-              ∙ with-digit 0 (n % 16) (omega arith) ∙ ap (λ x. Some x) same)
+          ∙ ap (λ o. more o (hex_digit (n % 16))) (whole 0) ∙ ap (with_digit 0) digit
+          ∙ with-digit 0 (n % 16) (omega arith) ∙ ap (λ x. Some x) same)
       | inr least ↦
           let fewer : n / 16 < 16 ^ most = omega (arith, few) in
           let same : 16 * (n / 16) + n % 16 ≡ n = omega arith in
@@ -127,7 +127,7 @@ digits-read (suc most) n few small =
           last-digit (Some 0) (hex_up_to most (n / 16)) (hex_digit (n % 16))
           ∙ ap (λ o. more o (hex_digit (n % 16))) (digits-read most (n / 16) fewer (omega (arith, small)))
           ∙ ap (with_digit (n / 16)) digit ∙ with-digit (n / 16) (n % 16) (omega (arith, small))
-              ∙ ap (λ x. Some x) same)
+          ∙ ap (λ x. Some x) same)
     ]
 
 some-digits : (n : ℕ) → 0 < length (hex_number n)
@@ -145,8 +145,8 @@ bytes-read (b ∷ bs) are =
     let small = are 0 in
     let whole_byte : 16 * (b / 16) + b % 16 ≡ b = omega arith in
     let both : pair_of (value_of (hex_digit (b / 16))) (value_of (hex_digit (b % 16))) ≡ Some b =
-            rw (digit-read (b / 16) (omega (arith, small)), digit-read (b % 16) (omega arith))
-            (ap (λ x. Some x) whole_byte) in
+    rw (digit-read (b / 16) (omega (arith, small)), digit-read (b % 16) (omega arith))
+    (ap (λ x. Some x) whole_byte) in
     rw (both, bytes-read bs (λ i. are (suc i))) refl
 
 -- ---- where a byte stands not
@@ -197,8 +197,13 @@ unfolding cut
 cut-some at xs rest lacks =
     let less : length xs < length (xs ++ at ∷ rest) = rw (length-append xs (at ∷ rest)) (omega arith) in
     let one : length xs + 1 ≡ suc (length xs) = omega arith in
-    rw (lacks-front at xs rest lacks, lt-ltb (length xs) (length (xs ++ at ∷ rest)) less, one,
-        take-front xs (at ∷ rest), drop-front xs rest at) refl
+    rw (
+      lacks-front at xs rest lacks,
+      lt-ltb (length xs) (length (xs ++ at ∷ rest)) less,
+      one,
+      take-front xs (at ∷ rest),
+      drop-front xs rest at,
+    ) refl
 
 -- ---- separators are no digits
 
@@ -240,8 +245,11 @@ id-lacks (One n) = digits-lack dot 16 n
 
 thread-read : (t : Thread) → IsThread t → thread_of (thread_sent t) ≡ Some t
 unfolding thread_of
-thread-read t is = rw (cut-some 46 (id_sent t.process) (id_sent t.thread) (id-lacks t.process),
-    id-read t.process is.process, id-read t.thread is.thread) refl
+thread-read t is = rw (
+  cut-some 46 (id_sent t.process) (id_sent t.thread) (id-lacks t.process),
+  id-read t.process is.process,
+  id-read t.thread is.thread,
+) refl
 
 pair-read : (x y : ℕ) → x < 2 ^ 64 → y < 2 ^ 64
     → part_of (hex_number x ++ (codes "," ++ hex_number y)) ≡ Some (record { from = x; count = y })
@@ -257,8 +265,11 @@ part-lacks p = lacks-more 59 (hex_number p.from) (codes "," ++ hex_number p.coun
 point-read : (p : Part) (text : List ℕ) → IsPart p
     → point_of (part_sent p ++ conditions_sent text) ≡ Some (p, length text)
 unfolding point_of
-point-read p [] is = rw (append-nil (part_sent p), cut-none 59 (part_sent p) (part-lacks p),
-    pair-read p.from p.count is.from is.count) refl
+point-read p [] is = rw (
+  append-nil (part_sent p),
+  cut-none 59 (part_sent p) (part-lacks p),
+  pair-read p.from p.count is.from is.count,
+) refl
 point-read p (b ∷ bs) is =
     rw (cut-some 59 (part_sent p) (b ∷ bs) (part-lacks p), pair-read p.from p.count is.from is.count) refl
 
@@ -266,16 +277,23 @@ program-read : (pid : ℕ) (p : Part) → pid < 2 ^ 64 → IsPart p
     → program_part_of (hex_number pid ++ (codes ":" ++ part_sent p)) ≡ Some (pid, p)
 unfolding program_part_of
 program-read pid p small is =
-    rw (cut-some 58 (hex_number pid) (part_sent p) (digits-lack colon 16 pid), number-read pid small,
-    pair-read p.from p.count is.from is.count) refl
+    rw (
+      cut-some 58 (hex_number pid) (part_sent p) (digits-lack colon 16 pid),
+      number-read pid small,
+      pair-read p.from p.count is.from is.count,
+    ) refl
 
 file-read : (file : ℕ) (p : Part) → file < 2 ^ 64 → IsPart p
     → file_part_of (hex_number file ++ (codes "," ++ (hex_number p.count ++ (codes "," ++ hex_number p.from))))
     ≡ Some (file, p)
 unfolding file_part_of
 file-read file p small is =
-    rw (cut-some 44 (hex_number file) (hex_number p.count ++ (codes "," ++ hex_number p.from))
-        (digits-lack comma 16 file), number-read file small, pair-read p.count p.from is.count is.from) refl
+    rw (
+      cut-some 44 (hex_number file) (hex_number p.count ++ (codes "," ++ hex_number p.from))
+          (digits-lack comma 16 file),
+      number-read file small,
+      pair-read p.count p.from is.count is.from,
+    ) refl
 
 -- ---- packets
 
@@ -320,15 +338,20 @@ unfolding going_of
 going-read Continue is = refl
 going-read Step is = refl
 going-read (Range from end) is =
-    rw (cut-some 44 (hex_number from) (hex_number end) (digits-lack comma 16 from), number-read from is.0,
-    number-read end is.1) refl
+    rw (
+      cut-some 44 (hex_number from) (hex_number end) (digits-lack comma 16 from),
+      number-read from is.0,
+      number-read end is.1,
+    ) refl
 
 going-lacks : (g : Going) → Lacks 58 (going_sent g)
 going-lacks Continue = (refl, tt)
 going-lacks Step = (refl, tt)
-going-lacks (Range from end) =
-    (refl, lacks-more 58 (hex_number from) (codes "," ++ hex_number end) (digits-lack colon 16 from)
-    (refl, digits-lack colon 16 end))
+going-lacks (Range from end) = (
+  refl,
+  lacks-more 58 (hex_number from) (codes "," ++ hex_number end) (digits-lack colon 16 from)
+      (refl, digits-lack colon 16 end),
+)
 
 with-thread : (going : Going) (named_thread : Option Thread) → IsGoing going → IsNamed named_thread
     → action_of (going_sent going ++ named named_thread) ≡ Some (record { going = going; thread = named_thread })
@@ -336,8 +359,11 @@ unfolding action_of
 with-thread going None is whose =
     rw (append-nil (going_sent going), cut-none 58 (going_sent going) (going-lacks going), going-read going is) refl
 with-thread going (Some thread) is whose =
-    rw (cut-some 58 (going_sent going) (thread_sent thread) (going-lacks going), going-read going is,
-    thread-read thread whose) refl
+    rw (
+      cut-some 58 (going_sent going) (thread_sent thread) (going-lacks going),
+      going-read going is,
+      thread-read thread whose,
+    ) refl
 
 pub actions-read : ActionsAreRead
 actions-read a is whose = with-thread a.going a.thread is whose

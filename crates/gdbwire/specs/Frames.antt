@@ -72,8 +72,11 @@ between b = if b == 43 then Some Acknowledged
 -- what a byte makes of a reader, and what is heard with it
 abbrev pub hears_at : Stage → Reading → ℕ → Reading × Option Heard
 hears_at Between r b = ((if b == 36 then begun else r), between b)
-hears_at Body r b = (inside b r
-    (if b == 125 then counting b (record r { stage = Escaped }) else adding b (counting b r)), None)
+hears_at Body r b = (
+  inside b r
+      (if b == 125 then counting b (record r { stage = Escaped }) else adding b (counting b r)),
+  None,
+)
 hears_at Escaped r b = (inside b r (adding (bit_xor b 32) (counting b r)), None)
 hears_at Sum r b = (record r { stage = LastDigit (value_of b) }, None)
 hears_at (LastDigit high) r b = (record r { stage = Between }, Some (judged r high (value_of b)))

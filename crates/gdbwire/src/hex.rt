@@ -111,7 +111,7 @@ fn pair(high: u8, low: u8) -> Option<u8>
 /// they don't, or memory fails, it leaves a beginning of them.
 pub fn push_decoded(digits: &[u8], out: &mut Vec<u8>) -> Result<bool, AllocError>
     ensures { IfOk result (λ known. option_map (λ bytes. out.old.items ++ bytes) (bytes_of digits.now)
-            ≡ (if known then Some out.new.items else None)) }
+        ≡ (if known then Some out.new.items else None)) }
 {
     let mut at = 0;
     while at < digits.len() {

@@ -335,7 +335,7 @@ fn point_in(text: &[u8]) -> Option<(Part, usize)>
 // The first of some heads whose word a body begins with, and what follows the word.
 fn among<'a>(heads: &[(&[u8], Head)], body: &'a [u8]) -> Option<(Head, &'a [u8])>
     ensures { option_map (λ two. (two.0, two.1.now)) result
-            ≡ head_among (map (λ row. (row.0.now, row.1)) heads.now) body.now }
+        ≡ head_among (map (λ row. (row.0.now, row.1)) heads.now) body.now }
 {
     for (word, head) in heads {
         if body.starts_with(*word) {

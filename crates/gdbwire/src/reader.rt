@@ -72,7 +72,7 @@ impl Reader {
     /// A reader between frames, or no memory.
     pub fn new(alloc: Global) -> Result<Self, AllocError>
         ensures { IfOk result (λ reader. reader
-                ≡ record { stage = BetweenFrames; sum = 0; body = []; is_long = false }) }
+            ≡ record { stage = BetweenFrames; sum = 0; body = []; is_long = false }) }
     {
         let body = Vec::with_capacity(alloc, MOST)?;
         Ok(Reader {

@@ -14,7 +14,7 @@ turned-leaves (Err t) answers next pc old new ram h = (h.0, h.1, refl)
 -- whatever is answered
 acts-unanswered : {held : Held} {meaning : Sight → Effect} {next : Next} {pc : ℕ} {old new : Hart} {ram : Ram}
     → ((answers : Answers) → Leaves (meaning (seen ram answers)) answers next pc old new ram ram)
-        → Acts held held meaning next pc old new ram ram
+    → Acts held held meaning next pc old new ram ram
 acts-unanswered {old} {ram} does = record {
   answers = walked ram old.root.0;
   allowed = λ access address. inl refl;
@@ -27,10 +27,10 @@ acts-unanswered {old} {ram} does = record {
 acts-answered : {held held' : Held} {meaning : Sight → Effect} {next : Next} {pc : ℕ} {old new : Hart} {ram ram' : Ram}
     {access : Access} {address : ℕ} (o : Option ℕ)
     → IsAnswer held ram old.root.0 address access (option_map (place_in address) o) → IsKept held held' ram old.root.0
-        → length ram' ≡ length ram
+    → length ram' ≡ length ram
     → ((answers : Answers) → answers access address ≡ o
-        → Leaves (meaning (seen ram answers)) answers next pc old new ram ram')
-        → Acts held held' meaning next pc old new ram ram'
+    → Leaves (meaning (seen ram answers)) answers next pc old new ram ram')
+    → Acts held held' meaning next pc old new ram ram'
 acts-answered {held} {old} {ram} {access} {address} o is kept count does =
     let one = one-answer held ram is in
     record { answers = one.0; allowed = one.1; does = does one.0 one.2; kept = kept; count = count }
@@ -79,24 +79,24 @@ pub op_acts : (held : Held) (o : Op) (next : Next) (pc : ℕ) (old new : Hart) (
 op_acts held o next pc old new ram none h =
     acts-unanswered (λ answers.
     rw (op_by-without o old.registers pc (seen ram answers) none)
-        (turned-leaves (op_by o old.registers pc blind) answers next pc old new ram h))
+    (turned-leaves (op_by o old.registers pc blind) answers next pc old new ram h))
 
 -- ---- loads and stores: at a misaligned address, where nothing is found, and in a frame
 
 pub acts-odd : {held : Held} {ram : Ram} {hart : Hart} {even : Bool} (found : Option Page → Effect) (access : Access)
     {cause : Cause} {address pc : ℕ} → even ≡ false
     → Acts held held (λ see. if even then found (see access address) else trap cause address)
-        (Stop (record { cause = cause; address = address })) pc hart hart ram ram
+    (Stop (record { cause = cause; address = address })) pc hart hart ram ram
 acts-odd {held} {ram} {hart} found access {pc} odd = acts-unanswered (λ answers. rw odd (refl, refl, refl))
 
 pub acts-even : {held held' : Held} {ram ram' : Ram} {old new : Hart} {next : Next} {even : Bool}
     (found : Option Page → Effect) (access : Access) (cause : Cause) {address pc : ℕ} (o : Option ℕ) → even ≡ true
     → IsAnswer held ram old.root.0 address access (option_map (place_in address) o) → IsKept held held' ram old.root.0
-        → length ram' ≡ length ram
+    → length ram' ≡ length ram
     → ((answers : Answers) → answers access address ≡ o
-        → Leaves (found (option_map (given ram) o)) answers next pc old new ram ram')
-        → Acts held held' (λ see. if even then found (see access address) else trap cause address) next pc old new ram
-        ram'
+    → Leaves (found (option_map (given ram) o)) answers next pc old new ram ram')
+    → Acts held held' (λ see. if even then found (see access address) else trap cause address) next pc old new ram
+    ram'
 acts-even {held} {held'} {ram} {ram'} {old} {new} {next} found access cause {address} {pc} o aligned is kept count does
     =
     acts-answered o is kept count (λ answers same. rw (aligned, same) (does answers same))

@@ -84,14 +84,14 @@ act-leaves regs pc mem (instr.Jalr rd rs1 imm) = let target =
 act-leaves regs pc mem (instr.Branch op rs1 rs2 offset) =
     let target = plus pc (extend 13 offset) in
     at_test (Leaves mem) (is_taken op (slice_index regs rs1) (slice_index regs rs2))
-        (λ _. at_test (Leaves mem) (target % 4 == 0) (λ _. tt) tt) tt
+    (λ _. at_test (Leaves mem) (target % 4 == 0) (λ _. tt) tt) tt
 act-leaves regs pc mem (instr.Load op rd rs1 imm) =
     let address = plus (slice_index regs rs1) (extend 12 imm) in
     at_test (Leaves mem) (address % load_size op == 0) (λ _. load-leaves _ pc _ op rd _ _) tt
 act-leaves regs pc mem (instr.Store op rs1 rs2 imm) =
     let address = plus (slice_index regs rs1) (extend 12 imm) in
     at_test (Leaves mem) (address % store_size op == 0)
-        (λ h. store-leaves _ pc _ op _ _ (page_for Store mem address) refl (is_zero h)) tt
+    (λ h. store-leaves _ pc _ op _ _ (page_for Store mem address) refl (is_zero h)) tt
 act-leaves regs pc mem _ = tt
 
 -- what an instruction writes is what a store may write
@@ -133,7 +133,7 @@ pub stored-entry : (ram : Ram) (mapping : List Mapped) {address : ℕ} {bytes : 
     → (e : Mapped) × (slice_get mapping (address / 4096) ≡ Some e) × (permits Store e.marks ≡ true)
 stored-entry ram mapping {address} is =
     allowed-entry _ (slice_get mapping (address / 4096))
-        (ap (permitted Store) (sym (slice_get-map (page_in ram) mapping (address / 4096))) ∙ is.found)
+    (ap (permitted Store) (sym (slice_get-map (page_in ram) mapping (address / 4096))) ∙ is.found)
 
 -- in the memory's own words
 changed-put : (ram : Ram) (mapping : List Mapped) (address : ℕ) (bytes : List ℕ) (e : Mapped)
@@ -191,7 +191,7 @@ shown_at : (ram : Ram) (mapping : List Mapped) {n : ℕ} (e : Mapped) (new : Lis
     → e.frame < length ram → IsAlone mapping n
     → (k : ℕ) {f : Mapped} (d : Page) → slice_get mapping k ≡ Some f → (k ≡ n) ⊎ (k ≡ n → ⊥)
     → get_or (memory_of (set ram e.frame new) mapping) k d
-        ≡ get_or (set (memory_of ram mapping) n (record { bytes = new; marks = e.marks })) k d
+    ≡ get_or (set (memory_of ram mapping) n (record { bytes = new; marks = e.marks })) k d
 shown_at ram mapping {n} e new found within alone k {f} d at (inl same) =
     let entry : Some f ≡ Some e = sym at ∙ ap (slice_get mapping) same ∙ found in
     let is : f ≡ e = cc in
@@ -201,7 +201,7 @@ shown_at ram mapping {n} e new found within alone k {f} d at (inl same) =
     ∙ ap (page_in (set ram e.frame new)) is
     ∙ ap (λ bytes. record { bytes = bytes; marks = e.marks }) written
     ∙ sym (ap (λ j. get_or (set (memory_of ram mapping) n (record { bytes = new; marks = e.marks })) j d) same
-        ∙ rw get_or-set_same)
+    ∙ rw get_or-set_same)
 shown_at ram mapping e new found within alone k {f} d at (inr other) =
     let apart : f.frame ≢ e.frame = λ same. other (alone k e f found at same) in
     let kept : get_or (set ram e.frame new) f.frame [] ≡ get_or ram f.frame [] = rw get_or-set_other in
@@ -238,13 +238,13 @@ write_from-first p {ps} at (b ∷ bs) some fits =
 write_bytes-page : (mem : Memory) (address : ℕ) (new : List ℕ) {p : Page} → slice_get mem (address / 4096) ≡ Some p
     → 0 < length new → address % 4096 + length new ≤ 4096
     → write_bytes mem address new
-        ≡ set mem (address / 4096) (record { bytes = overwrite p.bytes (address % 4096) new; marks = p.marks })
+    ≡ set mem (address / 4096) (record { bytes = overwrite p.bytes (address % 4096) new; marks = p.marks })
 unfolding write_bytes
 write_bytes-page mem address new {p} found some fits =
     let n : ℕ = address / 4096 in
     let there : n < length mem = slice_get_within mem n p found in
     ap (λ pages. take n mem ++ write_from pages (address % 4096) new)
-        (drop-cons mem n p there ∙ ap (λ q. q ∷ drop (suc n) mem) (get_or_from_slice_get _ n p p found))
+    (drop-cons mem n p there ∙ ap (λ q. q ∷ drop (suc n) mem) (get_or_from_slice_get _ n p p found))
     ∙ ap (λ pages. take n mem ++ pages) (write_from-first p _ _ some fits)
     ∙ sym (set_split mem n (record { bytes = overwrite p.bytes (address % 4096) new; marks = p.marks }) there)
 
@@ -260,7 +260,7 @@ memory_of-changed {ram} {mapping} (Bytes address bytes) sound stores =
     let e : Mapped = entry.0 in
     let fits = store-fits stores in
     let shown : slice_get (memory_of ram mapping) n ≡ Some (page_in ram e) = slice_get-map (page_in ram) mapping n
-            ∙ ap (option_map (page_in ram)) entry.1 in
+    ∙ ap (option_map (page_in ram)) entry.1 in
     ap (λ o. memory_of (put_in ram o at bytes) mapping) entry.1
     ∙ memory_of-set _ _ n e _ entry.1 (sound.inside n e entry.1) (sound.alone n e entry.1 entry.2)
     ∙ sym (write_bytes-page _ _ _ shown fits.0 fits.1)
@@ -330,7 +330,7 @@ abbrev pub Retries : (Memory → Effect) → Memory → Memory → Type 0
 Retries e low high = (e low ≡ e high)
     ⊎ ((address : ℕ) × (e low ≡ trap StorePageFault address) × (page_for Store low address ≡ None)
     × ((mid : Memory) → Narrows mid high → Alike (page_for Store mid address) (page_for Store high address)
-        → e mid ≡ e high))
+    → e mid ≡ e high))
 
 pub load-same : (regs : List ℕ) (pc : ℕ) (op : LoadOp) (rd address : ℕ) (p q : Option Page) → Alike p q
     → load_from regs pc op rd address p ≡ load_from regs pc op rd address q
@@ -352,7 +352,7 @@ fetched-same None None regs pc mem h = refl
 fetched-same (Some p) (Some q) regs pc mem h =
     let same : p.bytes ≡ q.bytes = cc in
     ap (λ bytes. act_word (instruction_of (number (bytes_at 4 pc (record { bytes = bytes; marks = q.marks })))) regs pc
-        mem) same
+    mem) same
 fetched-same p q regs pc mem h = absurd cc
 
 cond-same : (b : Bool) {d e : Effect} (f : Effect) → d ≡ e → cond b d f ≡ cond b e f
@@ -389,11 +389,11 @@ unfolding act
 act-sees (instr.Load op rd rs1 imm) regs pc {high} =
     let address = plus (slice_index regs rs1) (extend 12 imm) in
     inl (λ mid h. cond-same (address % load_size op == 0) _
-        (load-same regs pc op rd address (page_for Load mid address) (page_for Load high address) (h.load address)))
+    (load-same regs pc op rd address (page_for Load mid address) (page_for Load high address) (h.load address)))
 act-sees (instr.Store op rs1 rs2 imm) regs pc {high} =
     let address = plus (slice_index regs rs1) (extend 12 imm) in
     store-sees (address % store_size op == 0) regs pc address (le (store_size op) (slice_index regs rs2))
-        (trap StoreMisaligned address)
+    (trap StoreMisaligned address)
 act-sees _ regs pc = inl (λ mid h. refl)
 
 word-sees : (found : Option Instr) (regs : List ℕ) (pc : ℕ) {high : Memory} → Sees (act_word found regs pc) high
@@ -409,8 +409,13 @@ cycle-sees regs pc {high} =
     let o = page_for Fetch high pc in
     elim (fetched-sees o _ pc) [
       | inl same ↦ inl (λ mid h. cycle-at _ pc _ o (h.fetch pc) ∙ same mid h ∙ sym (cycle-at _ pc _ o refl))
-      | inr s ↦ inr (record { regs = s.regs; pc = s.pc; address = s.address; bytes = s.bytes;
-          is = λ mid h. cycle-at _ pc _ o (h.fetch pc) ∙ s.is mid h })
+      | inr s ↦ inr (record {
+        regs = s.regs;
+        pc = s.pc;
+        address = s.address;
+        bytes = s.bytes;
+        is = λ mid h. cycle-at _ pc _ o (h.fetch pc) ∙ s.is mid h;
+      })
     ]
 
 -- it does the same where the page is alike
@@ -424,8 +429,13 @@ pub cycle-retries : (regs : List ℕ) (pc : ℕ) (low high : Memory) → Narrows
 cycle-retries regs pc low high h = elim (cycle-sees _ pc) [
   | inl same ↦ inl (same low h)
   | inr s ↦ elim (h.store s.address) [
-    | inl none ↦ inr (s.address, s.is low h
-        ∙ ap (store_to s.regs s.pc s.address s.bytes) none, none, λ mid nm same. store-alike s nm same)
+    | inl none ↦ inr (
+      s.address,
+      s.is low h
+          ∙ ap (store_to s.regs s.pc s.address s.bytes) none,
+      none,
+      λ mid nm same. store-alike s nm same,
+    )
     | inr same ↦ inl (store-alike s h same)
   ]
 ]

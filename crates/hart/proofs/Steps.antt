@@ -34,8 +34,11 @@ page_for-memory_of ram mapping access address =
 pub inside-kept : {old new : Held} (ram : Ram) {root : ℕ} → HoldsInside old ram → IsKept old new ram root
     → HoldsInside new ram
 inside-kept ram inside kept t h =
-    elim (kept t h) [ inl before ↦ inside t before | inr now ↦ walk_page-inside ram t.root t.page t.access t.frame
-    now.1 ]
+    elim (kept t h) [
+      | inl before ↦ inside t before
+      | inr now ↦ walk_page-inside ram t.root t.page t.access t.frame
+          now.1
+    ]
 
 -- ---- an answer
 
@@ -99,7 +102,7 @@ with_answer-itself access address answers = rw (same-self access, eq-eqb address
 
 chosen : (held : Held) (ram : Ram) (root va : ℕ) (access : Access) (t : Bool) (o p : Option ℕ)
     → (t ≡ true → IsAnswer held ram root va access (option_map (place_in va) o))
-        → IsAnswer held ram root va access (option_map (place_in va) p)
+    → IsAnswer held ram root va access (option_map (place_in va) p)
     → IsAnswer held ram root va access (option_map (place_in va) (if t then o else p))
 chosen held ram root va access true o p f g = f refl
 chosen held ram root va access false o p f g = g
@@ -107,7 +110,7 @@ chosen held ram root va access false o p f g = g
 with_answer-allowed : (held : Held) (ram : Ram) {root : ℕ} {access : Access} (address : ℕ) (o : Option ℕ)
     (answers : Answers) → AreAllowed held ram root answers
     → IsAnswer held ram root address access (option_map (place_in address) o)
-        → AreAllowed held ram root (with_answer access address o answers)
+    → AreAllowed held ram root (with_answer access address o answers)
 with_answer-allowed held ram {root} {access} address o answers allowed is a b =
     chosen held ram root b a (same access a && (address == b)) o (answers a b)
     (λ h.
@@ -121,10 +124,11 @@ with_answer-allowed held ram {root} {access} address o answers allowed is a b =
 pub one-answer : (held : Held) (ram : Ram) {root : ℕ} {access : Access} {address : ℕ} {o : Option ℕ}
     → IsAnswer held ram root address access (option_map (place_in address) o)
     → (answers : Answers) × AreAllowed held ram root answers × (answers access address ≡ o)
-one-answer held ram {root} {access} {address} {o} is =
-    (with_answer access address o (walked ram root),
-        with_answer-allowed held ram address o (walked ram root) (λ a b. inl refl) is,
-        with_answer-itself access address (walked ram root))
+one-answer held ram {root} {access} {address} {o} is = (
+  with_answer access address o (walked ram root),
+  with_answer-allowed held ram address o (walked ram root) (λ a b. inl refl) is,
+  with_answer-itself access address (walked ram root),
+)
 
 -- ---- traps
 
@@ -139,7 +143,7 @@ trap-still (Err t) answers result old new ram ram' h = rw h.0 (h.1, h.2)
 -- nothing was fetched
 pub step-unfetched : {held : Held} {ram : Ram} {hart : Hart} → IsAnswer held ram hart.root.0 hart.pc Fetch None
     → IsStep held (cycle_by hart.registers hart.pc) (Some (record { cause = InstructionPageFault; address = hart.pc }))
-        hart hart ram ram
+    hart hart ram ram
 unfolding cycle_by
 step-unfetched {held} {ram} is =
     let one = one-answer held ram {o = None} is in
@@ -182,15 +186,15 @@ leaves-effect (Err t) at o answers next pc old hart new ram ram' h a = absurd (c
 pub step-done : {held mid held' : Held} {ram ram' : Ram} {old hart new : Hart} (next : Next) (f : ℕ)
     → IsAnswer held ram old.root.0 old.pc Fetch (Some (place_in old.pc f)) → IsKept held mid ram old.root.0
     → Acts mid held' (word_by (instruction_of (word_in ram f old.pc)) old.registers old.pc) next old.pc old hart ram
-        ram' → Arrives next old.pc hart new
-        → IsStep held (cycle_by old.registers old.pc) (trap_of next) old new ram ram'
+    ram' → Arrives next old.pc hart new
+    → IsStep held (cycle_by old.registers old.pc) (trap_of next) old new ram ram'
 unfolding cycle_by
 step-done {held} {ram} {ram'} {old} {hart} {new} next f is kept acts arrives =
     let word : Option Instr = instruction_of (word_in ram f old.pc) in
     let before : AreAllowed held ram old.root.0 acts.answers =
-            λ access address. answered-kept _ _ kept (acts.allowed access address) in
+    λ access address. answered-kept _ _ kept (acts.allowed access address) in
     let itself : with_answer Fetch old.pc (Some f) acts.answers Fetch old.pc ≡ Some f =
-            with_answer-itself Fetch old.pc acts.answers in
+    with_answer-itself Fetch old.pc acts.answers in
     record {
       answers = with_answer Fetch old.pc (Some f) acts.answers;
       allowed = with_answer-allowed held ram old.pc (Some f) acts.answers before is;
@@ -213,7 +217,7 @@ pub shown-answer : (held : Held) (ram : Ram) {root : ℕ} (mapping : List Mapped
     → (access : Access) (address : ℕ) → answers access address ≡ frame_for mapping (address / 4096) access
 shown-answer held ram mapping answers shows allowed access address =
     place-frame _ (answers access address) (frame_for mapping (address / 4096) access)
-        (shows address access _ (allowed access address))
+    (shows address access _ (allowed access address))
 
 given-alike : (ram : Ram) (o : Option Mapped)
     → Alike (option_map (given ram) (option_map (λ (e : Mapped). e.frame) o)) (option_map (page_in ram) o)
@@ -223,11 +227,11 @@ given-alike ram (Some e) = refl
 pub seen-alike : (held : Held) (ram : Ram) {root : ℕ} (mapping : List Mapped) (answers : Answers)
     → Shows held ram root mapping → AreAllowed held ram root answers
     → (access : Access) (address : ℕ)
-        → Alike (seen ram answers access address) (page_for access (memory_of ram mapping) address)
+    → Alike (seen ram answers access address) (page_for access (memory_of ram mapping) address)
 seen-alike held ram {root} mapping answers shows allowed_all access address =
     let o : Option Mapped = allowed access (slice_get mapping (address / 4096)) in
     ap (λ f. option_map (λ (a : Page). a.bytes) (option_map (given ram) f))
-        (shown-answer held ram mapping answers shows allowed_all access address)
+    (shown-answer held ram mapping answers shows allowed_all access address)
     ∙ given-alike _ o
     ∙ ap (option_map (λ (a : Page). a.bytes)) (sym (page_for-memory_of ram mapping access address))
 
@@ -258,7 +262,7 @@ fetched_by-alike None None regs pc see mem same h = refl
 fetched_by-alike (Some o) (Some p) regs pc see mem same h =
     let bytes : o.bytes ≡ p.bytes = cc same in
     ap (λ bs. word_by (instruction_of (number (bytes_at 4 pc (record { bytes = bs; marks = p.marks })))) regs pc see)
-        bytes
+    bytes
     ∙ word_by-alike _ _ pc _ _ h
 fetched_by-alike _ _ regs pc see mem same h = absurd (cc same)
 
@@ -278,9 +282,9 @@ stored-changed ram mapping {answers} (Bytes address bytes) shown stores =
     let entry = stored-entry _ _ stores in
     let e : Mapped = entry.0 in
     let found : allowed Store (slice_get mapping (address / 4096)) ≡ Some e = ap (allowed Store) entry.1
-            ∙ ap (λ t. if t then Some e else None) entry.2 in
+    ∙ ap (λ t. if t then Some e else None) entry.2 in
     let frame : answers Store address ≡ Some e.frame = shown Store address
-            ∙ ap (option_map (λ (d : Mapped). d.frame)) found in
+    ∙ ap (option_map (λ (d : Mapped). d.frame)) found in
     ap (λ o. put_at ram o (address % 4096) bytes) frame
     ∙ sym (ap (λ o. put_in ram o (address % 4096) bytes) entry.1)
 
@@ -297,12 +301,12 @@ does-follows (Err t) mapping result old new ram ram' shown stores h = h
 pub step-follows : {held : Held} (mapping : List Mapped) {result : Option Trap} {old new : Hart} {ram ram' : Ram}
     → Shows held ram old.root.0 mapping
     → IsStep held (cycle_by old.registers old.pc) result old new ram ram'
-        → Follows (cycle old.registers old.pc (memory_of ram mapping)) mapping result old new ram ram'
+    → Follows (cycle old.registers old.pc (memory_of ram mapping)) mapping result old new ram ram'
 step-follows {held} mapping {result} {old} {new} {ram} {ram'} shows step =
     let mem : Memory = memory_of ram mapping in
     let is : cycle_by old.registers old.pc (seen ram step.answers) ≡ cycle old.registers old.pc mem =
-            cycle_by-alike old.registers old.pc (seen ram step.answers) mem
-            (seen-alike held ram mapping step.answers shows step.allowed) in
+    cycle_by-alike old.registers old.pc (seen ram step.answers) mem
+    (seen-alike held ram mapping step.answers shows step.allowed) in
     does-follows (cycle old.registers old.pc mem) _ _ _ _ _ _
     (shown-answer held ram mapping step.answers shows step.allowed)
     (cycle-stores _ _ _)

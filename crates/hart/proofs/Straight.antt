@@ -52,7 +52,7 @@ at-entry ram mem regs pc {f} (Some e) h =
 cycle-worded : (ram : Ram) (mapping : List Mapped) (regs : List ℕ) (pc f : ℕ)
     → frame_for mapping (pc / 4096) Fetch ≡ Some f
     → cycle regs pc (memory_of ram mapping)
-        ≡ act_word (instruction_of (word_in ram f pc)) regs pc (memory_of ram mapping)
+    ≡ act_word (instruction_of (word_in ram f pc)) regs pc (memory_of ram mapping)
 unfolding cycle
 cycle-worded ram mapping regs pc f at = rw (page_for-memory_of ram mapping Fetch pc) (at-entry _ _ _ pc _ at)
 
@@ -74,11 +74,11 @@ IsPoint new point = new ≡ point
 leaves-done : (effect : Effect) (mapping : List Mapped) {answers : Answers} (next : Next) (pc : ℕ) (old new : Hart)
     {ram ram' : Ram}
     → ((access : Access) (address : ℕ) → answers access address ≡ frame_for mapping (address / 4096) access)
-        → ((d : Computed) → effect ≡ Ok d → Stores (memory_of ram mapping) d.change)
+    → ((d : Computed) → effect ≡ Ok d → Stores (memory_of ram mapping) d.change)
     → trap_of next ≡ None → Leaves effect answers next pc old new ram ram'
     → (d : Computed) × (effect ≡ Ok d)
-        × IsPoint (record { registers = new.registers; pc = pc_after next pc; ram = ram' })
-        (record { registers = d.regs; pc = d.pc; ram = changed ram mapping d.change })
+    × IsPoint (record { registers = new.registers; pc = pc_after next pc; ram = ram' })
+    (record { registers = d.regs; pc = d.pc; ram = changed ram mapping d.change })
 leaves-done (Ok d) mapping {answers} next pc old new {ram} {ram'} shown stores none h =
     let memory : ram' ≡ changed ram mapping d.change = h.4 ∙ stored-changed _ _ d.change shown (stores d refl) in
     (d, refl, rw (h.1, h.2, memory) refl)
@@ -96,15 +96,15 @@ leaves-not (Err s) answers next pc old new {t} some h =
 module _ {held held' : Held} {mapping : List Mapped} {stops : List ℕ} {n : ℕ} {first : Point} {next : Next} {pc f : ℕ}
     {old new : Hart} {ram ram' : Ram} (g : Goes held old.root.0 mapping stops n first (point_at old pc ram))
     (at : frame_for mapping (pc / 4096) Fetch ≡ Some f)
-        (acts : Acts held held' (word_by (instruction_of (word_in ram f pc)) old.registers pc) next pc old new ram
-        ram') where
+    (acts : Acts held held' (word_by (instruction_of (word_in ram f pc)) old.registers pc) next pc old new ram
+    ram') where
   -- the instruction does what the word means
   cycle-leaves : Leaves (cycle old.registers pc (memory_of ram mapping)) acts.answers next pc old new ram ram'
   cycle-leaves =
       let means = word_by-alike (instruction_of (word_in ram f pc)) old.registers pc (seen ram acts.answers)
-              (memory_of ram mapping) (seen-alike held ram mapping acts.answers (shows-now g) acts.allowed) in
+      (memory_of ram mapping) (seen-alike held ram mapping acts.answers (shows-now g) acts.allowed) in
       subst (λ (e : Effect). Leaves e acts.answers next pc old new ram ram') (means ∙ sym (cycle-worded _ _ _ pc f at))
-          acts.does
+      acts.does
 
   -- one more is done
   goes-on : IsMemory ram → trap_of next ≡ None → IsPast stops n pc
@@ -114,16 +114,20 @@ module _ {held held' : Held} {mapping : List Mapped} {stops : List ℕ} {n : ℕ
       let mem : Memory = memory_of ram mapping in
       let shown = shown-answer held ram mapping acts.answers (shows-now g) acts.allowed in
       let did = leaves-done (cycle old.registers pc mem) mapping next pc old new shown (cycle-stores _ pc _) none
-              cycle-leaves in
+      cycle-leaves in
       let memory : ram' ≡ changed ram mapping did.0.change = ap (λ (p : Point). p.ram) did.2 in
       let sound = g.steady.sound in
       let only = cycle-only _ pc is
-              (record { inside = λ k e found. rw g.count (sound.inside k e found); alone = sound.alone }) did.1 in
+      (record { inside = λ k e found. rw g.count (sound.inside k e found); alone = sound.alone }) did.1 in
       record {
         steady = g.steady;
         coherent = (goes-kept g held' acts.kept).coherent;
-        runs = (point_at old pc ram, g.runs,
-            record { done = did.0; means = did.1; leaves = did.2; writes = rw memory only }, past);
+        runs = (
+          point_at old pc ram,
+          g.runs,
+          record { done = did.0; means = did.1; leaves = did.2; writes = rw memory only },
+          past,
+        );
         reaches = (ram, g.reaches, rw memory only);
         count = acts.count ∙ g.count;
       }
@@ -134,7 +138,7 @@ module _ {held held' : Held} {mapping : List Mapped} {stops : List ℕ} {n : ℕ
       × (cycle new.registers pc (memory_of ram' mapping) ≡ Err t)
   goes-not t some =
       let not = leaves-not (cycle old.registers pc (memory_of ram mapping)) acts.answers next pc old new some
-              cycle-leaves in
+      cycle-leaves in
       rw (not.1, not.2) (goes-kept g held' acts.kept, not.0)
 
 -- what is held stays inside
@@ -177,19 +181,24 @@ pub word-at : (ram : Ram) (f : ℕ) {base : ℕ} (k : ℕ) → base % 4096 ≡ 0
     → word_of ram f (4 * k) 4 ≡ word_in ram f (pc_at base k)
 word-at ram f {base} k even small within =
     number_of_word _ f _ 4 ∙ ap (λ p. number (slice_range (slice_index_or ram f []) p (p + 4)))
-        (sym (pc-place k even small within))
+    (sym (pc-place k even small within))
 
 -- an operation does what its word means
 pub acts-worded : {held held' : Held} (o : Op) {word : ℕ} (f : ℕ) {next : Next} {pc : ℕ} {old new : Hart}
     {ram ram' : Ram} → IsOp o word → word ≡ word_in ram f pc
     → Acts held held' (op_by o old.registers pc) next pc old new ram ram'
-        → Acts held held' (word_by (instruction_of (word_in ram f pc)) old.registers pc) next pc old new ram ram'
+    → Acts held held' (word_by (instruction_of (word_in ram f pc)) old.registers pc) next pc old new ram ram'
 acts-worded o f {next} {pc} {old} {new} {ram} {ram'} is same acts =
     let P : Effect → Type 0 = λ e. Leaves e acts.answers next pc old new ram ram' in
     let means = is old.registers pc (seen ram acts.answers)
-            ∙ ap (λ w. word_by (instruction_of w) old.registers pc (seen ram acts.answers)) same in
-    record { answers = acts.answers; allowed = acts.allowed; does = subst P means acts.does; kept = acts.kept;
-        count = acts.count }
+    ∙ ap (λ w. word_by (instruction_of w) old.registers pc (seen ram acts.answers)) same in
+    record {
+      answers = acts.answers;
+      allowed = acts.allowed;
+      does = subst P means acts.does;
+      kept = acts.kept;
+      count = acts.count;
+    }
 
 -- ---- stops
 
@@ -205,7 +214,7 @@ pub clear-more : (stops : List ℕ) (i base k end to : ℕ) → i < length stops
 clear-more stops i base k end to within clear before other j more less =
     let first = clear j more (omega (arith, less, before)) in
     let last : (get_or stops i 0 == pc_at base j) ≡ false =
-            ne_eqb (get_or stops i 0) (pc_at base j) (other j more less) in
+    ne_eqb (get_or stops i 0) (pc_at base j) (other j more less) in
     list_any_more (λ s. s == pc_at base j) stops i 0 within ∙ rw (first, last) refl
 
 -- after the first place none is at a stop
@@ -239,7 +248,7 @@ pub record GoesStraight (held held' : Held) (old new : Hart) (ram ram' : Ram) (b
   pub goes : (mapping : List Mapped) (stops : List ℕ) → frame_for mapping (base / 4096) Fetch ≡ Some f
       → IsClear stops base from k
       → GoesOn held held' old.root.0 mapping stops (point_at old (pc_at base from) ram)
-          (point_at new (pc_at base k) ram') (k - from) None
+      (point_at new (pc_at base k) ram') (k - from) None
 
 pub straight-begins : {held : Held} {hart : Hart} {ram : Ram} {base from f : ℕ} → HoldsInside held ram
     → GoesStraight held held hart hart ram ram base from from f
@@ -266,9 +275,9 @@ whole-after {held'} {held''} {meaning} {next} {pc} {old} {new} {ram'} {ram''} wh
 module _ {held held' held'' : Held} {next : Next} {first old new : Hart} {ram ram' ram'' : Ram} {base from k f : ℕ}
     (even : base % 4096 ≡ 0) (small : base < 2 ^ 64) (within : k < 1024)
     (straight : GoesStraight held held' first old ram ram' base from k f)
-        (acts : Acts held' held''
-        (word_by (instruction_of (word_in ram' f (pc_at base k))) old.registers (pc_at base k)) next (pc_at base k) old
-        new ram' ram'')
+    (acts : Acts held' held''
+    (word_by (instruction_of (word_in ram' f (pc_at base k))) old.registers (pc_at base k)) next (pc_at base k) old
+    new ram' ram'')
     (mapping : List Mapped) (stops : List ℕ) (at : frame_for mapping (base / 4096) Fetch ≡ Some f) where
   root-first : old.root.0 ≡ first.root.0
   root-first = ap (λ (r : FrameNo). r.0) straight.whole.root
@@ -279,13 +288,16 @@ module _ {held held' held'' : Held} {next : Next} {first old new : Hart} {ram ra
   -- one more is done, and the program is elsewhere or goes on
   pub straight-on : IsMemory ram' → trap_of next ≡ None → from ≤ k → IsClear stops base from (k + 1)
       → GoesOn held held'' first.root.0 mapping stops (point_at first (pc_at base from) ram)
-          (point_at new (pc_after next (pc_at base k)) ram'') (k - from + 1) None
+      (point_at new (pc_after next (pc_at base k)) ram'') (k - from + 1) None
   straight-on is none since clear n start past g =
       let count : n + (k - from + 1) ≡ suc (n + (k - from)) = omega arith in
-      rw (← root-first, count)
-          (goes-on (rw (← root-first)
-          at (straight.goes mapping stops at (less-clear stops base (omega arith) clear) n start past g).0) place-found
-          acts is none (clear-past stops base n since clear past), tt)
+      rw (← root-first, count) (
+        goes-on (rw (← root-first)
+            at (straight.goes mapping stops at (less-clear stops base (omega arith) clear) n start past g).0)
+            place-found
+            acts is none (clear-past stops base n since clear past),
+        tt,
+      )
 
   -- none is
   pub straight-stops : {t : Trap} → trap_of next ≡ Some t → IsClear stops base from k
@@ -299,8 +311,8 @@ module _ {held held' held'' : Held} {next : Next} {first old new : Hart} {ram ra
 pub straight-more : {held held' held'' : Held} {first old new : Hart} {ram ram' ram'' : Ram} {base from k f : ℕ}
     → IsMemory ram' → base % 4096 ≡ 0 → base < 2 ^ 64 → k < 1024 → from ≤ k
     → GoesStraight held held' first old ram ram' base from k f
-        → Acts held' held'' (word_by (instruction_of (word_in ram' f (pc_at base k))) old.registers (pc_at base k))
-        Behind (pc_at base k) old new ram' ram''
+    → Acts held' held'' (word_by (instruction_of (word_in ram' f (pc_at base k))) old.registers (pc_at base k))
+    Behind (pc_at base k) old new ram' ram''
     → GoesStraight held held'' first new ram ram'' base from (k + 1) f
 straight-more {base} {from} {k} is even small within since straight acts = record {
   whole = whole-after straight.whole acts;
@@ -314,7 +326,7 @@ straight-more {base} {from} {k} is even small within since straight acts = recor
 goes-then : {a b d : Held} {root : ℕ} {mapping : List Mapped} {stops : List ℕ} {old mid new : Point} (x y : ℕ)
     (stopped : Option Trap) → IsBehind stops x old.pc mid.pc
     → GoesOn a b root mapping stops old mid x None → GoesOn b d root mapping stops mid new y stopped
-        → GoesOn a d root mapping stops old new (x + y) stopped
+    → GoesOn a d root mapping stops old new (x + y) stopped
 goes-then {stops = stops} x y stopped behind f h n first past g =
     let both = h (n + x) first (behind-past stops behind n past) (f n first past g).0 in
     let sum : n + x + y ≡ n + (x + y) = omega arith in
@@ -344,10 +356,10 @@ pub page-then : {a b d : Held} {stops : List ℕ} {first mid : Hart} (new : Hart
     → GoesLeft a b stops first mid pc ram ram' count left f
     → base ≡ first.pc / 4096 * 4096 → pc_at base k ≡ pc → done ≤ left
     → ((mapping : List Mapped) → frame_for mapping (base / 4096) Fetch ≡ Some f
-        → GoesOn b d mid.root.0 mapping stops (point_at mid (pc_at base k) ram') (point_at new to ram'') done stopped)
+    → GoesOn b d mid.root.0 mapping stops (point_at mid (pc_at base k) ram') (point_at new to ram'') done stopped)
     → (mapping : List Mapped) → frame_for mapping (first.pc / 4096) Fetch ≡ Some f
-        → GoesOn a d first.root.0 mapping stops (point_of first ram) (point_at new to ram'') (count - (left - done))
-        stopped
+    → GoesOn a d first.root.0 mapping stops (point_of first ram) (point_at new to ram'') (count - (left - done))
+    stopped
 page-then {a} {b} {d} {first} {mid} new {pc} {base} k to {ram} {ram'} ram'' {count} {left} {done} stopped before is
     start within straight mapping at =
     let root : mid.root.0 ≡ first.root.0 = ap (λ (r : FrameNo). r.0) before.whole.root in
@@ -360,11 +372,13 @@ page-then {a} {b} {d} {first} {mid} new {pc} {base} k to {ram} {ram'} ram'' {cou
 pub stop-behind : {held held' : Held} {stops : List ℕ} {old new : Hart} {pc : ℕ} {ram ram' : Ram} {count left f : ℕ}
     (base k end done : ℕ) → GoesLeft held held' stops old new pc ram ram' count left f
     → pc_at base k ≡ pc → done < end - k → done ≤ left → IsClear stops base k end
-        → IsBehind stops (count - (left - done)) old.pc (pc_at base (k + done))
+    → IsBehind stops (count - (left - done)) old.pc (pc_at base (k + done))
 stop-behind {stops} {old} {pc} {count} {left} base k end done before start fewer within clear = elim (cases_lt 0 done) [
   | inl some ↦ let bounded =
-      before.bounded in inl (omega (arith, some, within, bounded),
-      clear (k + done) (omega (arith, some)) (omega (arith, fewer)))
+      before.bounded in inl (
+        omega (arith, some, within, bounded),
+        clear (k + done) (omega (arith, some)) (omega (arith, fewer)),
+      )
   | inr least ↦
       let none : done ≡ 0 = omega (arith, least) in
       let same : k ≡ k + done = omega (arith, none) in
@@ -377,8 +391,8 @@ stop-behind {stops} {old} {pc} {count} {left} base k end done before start fewer
 module _ (a : Held) {b : Held} (d : Held) {stops : List ℕ} {first mid : Hart} {ram ram' : Ram} (done : ℕ)
     (mapping : List Mapped) (whole : StaysWhole b first mid ram ram')
     (before : GoesOn a b first.root.0 mapping stops (point_of first ram) (point_of mid ram') done None)
-        (kept : IsKept b d ram' mid.root.0) {o : Option ℕ}
-        (found : IsAnswer b ram' mid.root.0 mid.pc Fetch (option_map (place_in mid.pc) o)) where
+    (kept : IsKept b d ram' mid.root.0) {o : Option ℕ}
+    (found : IsAnswer b ram' mid.root.0 mid.pc Fetch (option_map (place_in mid.pc) o)) where
   come : {n : ℕ} {start : Point} → IsPast stops n first.pc
       → Goes a first.root.0 mapping stops n start (point_of first ram)
       → Goes d mid.root.0 mapping stops (n + done) start (point_of mid ram')
@@ -398,10 +412,10 @@ module _ (a : Held) {b : Held} (d : Held) {stops : List ℕ} {first mid : Hart} 
   pub run-then : {e : Held} (new : Hart) (ram'' : Ram) (count left rest f : ℕ) (stopped : Option Trap)
       → IsBehind stops done first.pc mid.pc → o ≡ Some f → left ≤ count → rest ≤ left → done ≡ count - left
       → ((mapping : List Mapped) → frame_for mapping (mid.pc / 4096) Fetch ≡ Some f
-          → GoesOn d e mid.root.0 mapping stops (point_of mid ram') (point_of new ram'') (left - rest) stopped)
+      → GoesOn d e mid.root.0 mapping stops (point_of mid ram') (point_of new ram'') (left - rest) stopped)
       → GoesOn a e first.root.0 mapping stops (point_of first ram) (point_of new ram'') (count - rest) stopped
   run-then new ram'' count left rest f stopped behind some bounded fewer is page n start past g =
       let now = come past g in
       let sum : n + (count - rest) ≡ n + done + (left - rest) = omega (arith, bounded, fewer, is) in
       rw (← ap (λ (r : FrameNo). r.0) whole.root, sum)
-          (page mapping (now.1 ∙ some) (n + done) start (behind-past stops behind n past) now.0)
+      (page mapping (now.1 ∙ some) (n + done) start (behind-past stops behind n past) now.0)

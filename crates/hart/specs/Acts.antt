@@ -26,14 +26,14 @@ pc_after (Stop t) pc = pc
 abbrev pub Turns : Effect → Next → ℕ → Hart → Hart → Type 0
 Turns effect next pc old new = MatchResult effect
     (λ d. (trap_of next ≡ None) × (new.registers ≡ d.regs) × (pc_after next pc ≡ d.pc) × (new.root ≡ old.root)
-        × (d.change ≡ Nothing))
+    × (d.change ≡ Nothing))
     (λ t. (trap_of next ≡ Some t) × (new ≡ old))
 
 -- The registers, the pc and the frames are the effect's. A trap changes nothing.
 abbrev pub Leaves : Effect → Answers → Next → ℕ → Hart → Hart → List (List ℕ) → List (List ℕ) → Type 0
 Leaves effect answers next pc old new ram ram' = MatchResult effect
     (λ d. (trap_of next ≡ None) × (new.registers ≡ d.regs) × (pc_after next pc ≡ d.pc) × (new.root ≡ old.root)
-        × (ram' ≡ stored ram answers d.change))
+    × (ram' ≡ stored ram answers d.change))
     (λ t. (trap_of next ≡ Some t) × (new ≡ old) × (ram' ≡ ram))
 
 -- What is meant is done at a pc, with each access answered as the law of translators allows. The hart's own pc is

@@ -28,7 +28,7 @@ Answers = Access → ℕ → Option ℕ
 abbrev pub AreAllowed : Held → List (List ℕ) → ℕ → Answers → Type 0
 AreAllowed held ram root answers =
     (access : Access) (address : ℕ)
-        → IsAnswer held ram root address access (option_map (place_in address) (answers access address))
+    → IsAnswer held ram root address access (option_map (place_in address) (answers access address))
 
 -- what an access to an address finds
 abbrev pub Sight : Type 0
@@ -36,8 +36,10 @@ Sight = Access → ℕ → Option Page
 
 -- a frame that an access was given: its marks have been looked at
 abbrev pub given : List (List ℕ) → ℕ → Page
-given ram f = record { bytes = slice_index_or ram f [];
-    marks = record { writable = true; executable = true; user = true; shared = false } }
+given ram f = record {
+  bytes = slice_index_or ram f [];
+  marks = record { writable = true; executable = true; user = true; shared = false };
+}
 
 abbrev pub seen : List (List ℕ) → Answers → Sight
 seen ram answers access address = option_map (given ram) (answers access address)
@@ -47,12 +49,12 @@ seen ram answers access address = option_map (given ram) (answers access address
 abbrev pub load_by : List ℕ → ℕ → LoadOp → ℕ → ℕ → Sight → Effect
 load_by regs pc op rd address see =
     if address % load_size op == 0 then load_from regs pc op rd address (see Load address)
-        else trap LoadMisaligned address
+    else trap LoadMisaligned address
 
 abbrev pub store_by : List ℕ → ℕ → StoreOp → ℕ → ℕ → Sight → Effect
 store_by regs pc op address value see =
     if address % store_size op == 0 then store_to regs pc address (le (store_size op) value) (see Store address)
-        else trap StoreMisaligned address
+    else trap StoreMisaligned address
 
 -- all but loads and stores access no memory
 unfoldable pub act_by : Instr → List ℕ → ℕ → Sight → Effect
@@ -88,7 +90,7 @@ stored ram answers (Bytes address bytes) = put_at ram (answers Store address) (a
 abbrev pub HasEffect : Effect → Answers → Option Trap → Hart → Hart → List (List ℕ) → List (List ℕ) → Type 0
 HasEffect effect answers result old new ram ram' = MatchResult effect
     (λ d. (result ≡ None) × (new.registers ≡ d.regs) × (new.pc ≡ d.pc) × (new.root ≡ old.root)
-        × (ram' ≡ stored ram answers d.change))
+    × (ram' ≡ stored ram answers d.change))
     (λ t. (result ≡ Some t) × (new ≡ old) × (ram' ≡ ram))
 
 -- A hart does what an instruction means, with each access answered as the law of translators allows. What the law
@@ -103,4 +105,4 @@ pub record IsStep (held : Held) (meaning : Sight → Effect) (result : Option Tr
 abbrev pub IsFetched : Held → List (List ℕ) → Hart → ℕ → Type 0
 IsFetched held ram hart word =
     (f : ℕ) × IsAnswer held ram hart.root.0 hart.pc Fetch (Some (place_in hart.pc f))
-        × (word ≡ number (bytes_at 4 hart.pc (given ram f)))
+    × (word ≡ number (bytes_at 4 hart.pc (given ram f)))

@@ -10,5 +10,5 @@ use Rattle.hart.specs.declared.state.Hart.{Hart}
 abbrev pub Follows : Effect → List Mapped → Option Trap → Hart → Hart → List (List ℕ) → List (List ℕ) → Type 0
 Follows effect mapping result old new ram ram' = MatchResult effect
     (λ d. (result ≡ None) × (new.registers ≡ d.regs) × (new.pc ≡ d.pc) × (new.root ≡ old.root)
-        × (ram' ≡ changed ram mapping d.change))
+    × (ram' ≡ changed ram mapping d.change))
     (λ t. (result ≡ Some t) × (new ≡ old) × (ram' ≡ ram))

@@ -45,12 +45,12 @@ pub record IsSteady (ram : List (List ℕ)) (root : ℕ) (mapping : List Mapped)
 
 -- a program has come so far by a mapping, of which all is that a translator holds under the root
 pub record Goes (held : Held) (root : ℕ) (mapping : List Mapped) (stops : List ℕ) (n : ℕ) (first now : Point) : Type 0
-    where
-  pub steady : IsSteady first.ram root mapping
-  pub coherent : IsCoherent held root mapping
-  pub runs : RunsTo stops n mapping first now
-  pub reaches : Reaches n mapping first.ram now.ram
-  pub count : length now.ram ≡ length first.ram
+  where
+    pub steady : IsSteady first.ram root mapping
+    pub coherent : IsCoherent held root mapping
+    pub runs : RunsTo stops n mapping first now
+    pub reaches : Reaches n mapping first.ram now.ram
+    pub count : length now.ram ≡ length first.ram
 
 -- a hart's own point, and the one at a pc
 abbrev pub point_of : Hart → List (List ℕ) → Point
@@ -64,7 +64,7 @@ abbrev pub GoesOn : Held → Held → ℕ → List Mapped → List ℕ → Point
 GoesOn held held' root mapping stops old new done trap = (n : ℕ) (first : Point) → IsPast stops n old.pc
     → Goes held root mapping stops n first old
     → Goes held' root mapping stops (n + done) first new
-        × IfSome trap (λ t. cycle new.registers new.pc (memory_of new.ram mapping) ≡ Err t)
+    × IfSome trap (λ t. cycle new.registers new.pc (memory_of new.ram mapping) ≡ Err t)
 
 -- what a run keeps: what is held lies in the memory, which has as many frames, and the root is the same
 pub record StaysWhole (held : Held) (old new : Hart) (ram ram' : List (List ℕ)) : Type 0 where

@@ -77,7 +77,7 @@ pub fn locate<T: Translate>(
 ) -> Option<FrameNo>
     requires { HoldsInside (T.held trans.old) ram.now }
     ensures answer { IsAnswer (T.held trans.old) ram.now root.0 address access
-            (option_map (λ f. place_in address f.0) result) }
+        (option_map (λ f. place_in address f.0) result) }
     ensures inside { IfSome result (λ f. f.0 < length ram.now) }
     ensures kept { IsKept (T.held trans.old) (T.held trans.new) ram.now root.0 }
 {
@@ -113,7 +113,7 @@ pub fn store_value(op: StoreOp, ram: &mut Ram, f: FrameNo, at: usize, value: u64
     requires within { f.0 < length ram.old }
     requires inside { at + store_size op ≤ 4096 }
     ensures { ram.new ≡ slice_set ram.old f.0
-            (overwrite (slice_index_or ram.old f.0 []) at (le (store_size op) value)) }
+        (overwrite (slice_index_or ram.old f.0 []) at (le (store_size op) value)) }
 {
     match op {
         StoreOp::Sb => ram.store_u8(f, at, (value % 0x100) as u8),

@@ -117,7 +117,7 @@ fn shift(op: ShiftOp, rd: Reg, rs1: Reg, amount: Amount) -> Op
 #[tactic(auto, unfolding(crate::specs::Operations::op_by))]
 fn shift_word(op: ShiftOp, rd: Reg, rs1: Reg, amount: AmountW) -> Op
     ensures { Means result (λ regs pc see. set_register regs pc rd
-            (shifted_word op (low (slice_index regs rs1)) amount)) }
+        (shifted_word op (low (slice_index regs rs1)) amount)) }
 {
     let Some(rd) = Target::new(rd) else {
         return Op::Nop;
@@ -151,7 +151,7 @@ fn load(op: LoadOp, rd: Reg, rs1: Reg, imm: Imm12) -> Op
 #[tactic(auto, unfolding(crate::specs::Operations::op_by))]
 fn store(op: StoreOp, rs1: Reg, rs2: Reg, imm: Imm12) -> Op
     ensures { Means result (λ regs pc see. store_by regs pc op (plus (slice_index regs rs1) (extend 12 imm))
-            (slice_index regs rs2) see) }
+        (slice_index regs rs2) see) }
 {
     let imm = immediate(imm);
     match op {
@@ -228,7 +228,7 @@ fn auipc(rd: Reg, imm: Imm20) -> Op
 #[tactic(auto, unfolding(crate::specs::Operations::op_by))]
 fn addiw(rd: Reg, rs1: Reg, imm: Imm12) -> Op
     ensures { Means result (λ regs pc see. set_register regs pc rd
-            (word (plus (slice_index regs rs1) (extend 12 imm)))) }
+        (word (plus (slice_index regs rs1) (extend 12 imm)))) }
 {
     match Target::new(rd) {
         Some(rd) => Op::Addiw {
@@ -241,14 +241,7 @@ fn addiw(rd: Reg, rs1: Reg, imm: Imm12) -> Op
 }
 
 // The operation of an instruction.
-#[tactic(
-    auto,
-    unfolding(
-        crate::specs::Operations::op_by,
-        crate::specs::Answered::act_by,
-        unixmodel::specs::Meaning::act
-    )
-)]
+#[tactic(auto, unfolding(crate::specs::Operations::op_by, crate::specs::Answered::act_by, unixmodel::specs::Meaning::act))]
 fn operation(i: Instr) -> Op
     ensures { Means result (act_by i) }
 {

@@ -76,11 +76,11 @@ impl Hart {
         requires places { (from ≤ end) × (end ≤ 1024) }
         requires page { base % 4096 ≡ 0 }
         ensures goes { (mapping : List Mapped) (stops : List ℕ)
-                → frame_for mapping (base / 4096) Access.Fetch ≡ Some f.0 → IsClear stops base from end →
+            → frame_for mapping (base / 4096) Access.Fetch ≡ Some f.0 → IsClear stops base from end →
             GoesOn (T.held trans.old) (T.held trans.new) self.old.root.0 mapping stops
             (point_at self.old (pc_at base from) ram.old)
-                (point_at self.new (goes_to (pc_at base (from + result.0)) result.1) ram.new) result.0
-                (trap_of result.1) }
+            (point_at self.new (goes_to (pc_at base (from + result.0)) result.1) ram.new) result.0
+            (trap_of result.1) }
         ensures whole { StaysWhole (T.held trans.new) self.old self.new ram.old ram.new }
         ensures within { from + result.0 ≤ end }
         ensures moves { MovesOn (end - from) result.0 result.1 }
@@ -120,7 +120,7 @@ impl Hart {
         ensures fewer { IfNone result.1 (result.0 < count) }
         ensures trap { IfSome result.1 (λ t. 0 < result.0) }
         ensures behind { IfSome result.1
-                (λ t. IsBehind (S.addresses stops.now) (count - result.0) self.old.pc self.new.pc) }
+            (λ t. IsBehind (S.addresses stops.now) (count - result.0) self.old.pc self.new.pc) }
     {
         let base = self.pc / 4096 * 4096;
         let mut pc = self.pc;
@@ -165,7 +165,7 @@ impl Hart {
     ) -> (u32, Option<Trap>)
         requires { HoldsInside (T.held trans.old) ram.old }
         ensures goes { (mapping : List Mapped)
-                → GoesOn (T.held trans.old) (T.held trans.new) self.old.root.0 mapping (S.addresses stops.now)
+            → GoesOn (T.held trans.old) (T.held trans.new) self.old.root.0 mapping (S.addresses stops.now)
             (point_of self.old ram.old) (point_of self.new ram.new) result.0 result.1 }
         ensures whole { StaysWhole (T.held trans.new) self.old self.new ram.old ram.new }
         ensures within { result.0 ≤ count }

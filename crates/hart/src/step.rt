@@ -25,7 +25,7 @@ impl Hart {
     fn fetch<T: Translate>(&self, ram: &Ram, trans: &mut T) -> Option<u32>
         requires { HoldsInside (T.held trans.old) ram.now }
         ensures fault { IfNone result
-                (IsAnswer (T.held trans.old) ram.now self.now.root.0 self.now.pc Access.Fetch None) }
+            (IsAnswer (T.held trans.old) ram.now self.now.root.0 self.now.pc Access.Fetch None) }
         ensures word { IfSome result (IsFetched (T.held trans.old) ram.now self.now) }
         ensures kept { IsKept (T.held trans.old) (T.held trans.new) ram.now self.now.root.0 }
     {
@@ -38,7 +38,7 @@ impl Hart {
     fn cycle<T: Translate>(&mut self, ram: &mut Ram, trans: &mut T) -> Option<Trap>
         requires { HoldsInside (T.held trans.old) ram.old }
         ensures step { IsStep (T.held trans.old) (cycle_by self.old.registers self.old.pc) result self.old self.new
-                ram.old ram.new }
+            ram.old ram.new }
         ensures kept { IsKept (T.held trans.old) (T.held trans.new) ram.old self.old.root.0 }
         ensures count { length ram.new ≡ length ram.old }
     {
@@ -71,11 +71,11 @@ impl Hart {
     pub fn step<T: Translate>(&mut self, ram: &mut Ram, trans: &mut T) -> Option<Trap>
         requires { HoldsInside (T.held trans.old) ram.old }
         ensures answered { IsStep (T.held trans.old) (cycle_by self.old.registers self.old.pc) result self.old self.new
-                ram.old ram.new }
+            ram.old ram.new }
         ensures trap { IfSome result (λ t. (self.new ≡ self.old) × (ram.new ≡ ram.old)) }
         ensures step { (mapping : List Mapped) → Shows (T.held trans.old) ram.old self.old.root.0 mapping →
             Follows (cycle self.old.registers self.old.pc (memory_of ram.old mapping)) mapping result self.old self.new
-                ram.old ram.new }
+            ram.old ram.new }
         ensures kept { IsKept (T.held trans.old) (T.held trans.new) ram.old self.old.root.0 }
         ensures count { length ram.new ≡ length ram.old }
     {

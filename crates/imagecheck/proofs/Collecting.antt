@@ -50,8 +50,10 @@ sum-at h d z a (suc n) =
     let first = sum_by-cons h a (range_with_len (a + 1) n) in
     elim (cases_eq a d) [
       | inl here ↦ (λ past. absurd (omega arith), λ low high. omega (arith, first, ap h here, rest.0 (omega arith)))
-      | inr other ↦ (λ past. omega (arith, first, z a other, rest.0 (omega arith)),
-          λ low high. omega (arith, first, z a other, rest.1 (omega arith) (omega arith)))
+      | inr other ↦ (
+        λ past. omega (arith, first, z a other, rest.0 (omega arith)),
+        λ low high. omega (arith, first, z a other, rest.1 (omega arith) (omega arith)),
+      )
     ]
 
 -- ---- directory after directory
@@ -79,7 +81,7 @@ pub entries-other : (image : List ℕ) → BlockRules image → (n : ℕ) → ki
     → entries_of (slot (files_in image) n) ≡ []
 entries-other image rules =
     stands_each image (HasBlocks-of image rules) (λ m o. kind_in image m ≢ 1 → entries_of o ≡ []) (λ m _ k. refl)
-        (λ m low high e k. absurd (k e)) (λ m low high e k. refl) (λ m low high e k. refl)
+    (λ m low high e k. absurd (k e)) (λ m low high e k. refl) (λ m low high e k. refl)
 
 -- ---- each is one of a directory and of a number in use
 
@@ -91,7 +93,7 @@ module _ {image : List ℕ} {g : Geometry} {namings : List Naming} (h : IsListed
       rw h.all (All-map (IsNaming image) naming (all_entries (files_in image)) (all-entries (files_in image) fits
       (stands_each image (HasBlocks-of image h.blocks) (λ n o. All (λ e. fits (n, e)) (entries_of o)) (λ n _. none n)
       (λ n low high e k d l. record { low = low; high = high; number = ((h.names n low high e).good k d l).number })
-          (λ n low high e. none n) (λ n low high e. none n))))
+      (λ n low high e. none n) (λ n low high e. none n))))
 
   -- each number has a row in a table that is as long as there are inodes
   pub numbers-within : (long : ℕ) → long ≡ g.inodes → All (λ (m : Naming). m.number < long) namings
@@ -116,7 +118,7 @@ module _ {image : List ℕ} {g : Geometry} {namings : List Naming} (h : IsListed
         ≡ unwrap_or (option_map (λ (e : ℕ × Entry). e.0) (slice_get (filter (names_number n) xs) 0)) 0
         → directory_or_zero (cond b (Some (naming x)) (find (λ (m : Naming). m.number == n) (map naming xs)))
         ≡ unwrap_or (option_map (λ (e : ℕ × Entry). e.0)
-            (slice_get (cond b (x ∷ filter (names_number n) xs) (filter (names_number n) xs)) 0)) 0
+        (slice_get (cond b (x ∷ filter (names_number n) xs) (filter (names_number n) xs)) 0)) 0
     go true e = refl
     go false e = e
 
@@ -142,12 +144,12 @@ module _ {image : List ℕ} {g : Geometry} {namings : List Naming} (h : IsListed
       let counts_for = λ (x : ℕ × Entry). cond {A = ℕ} ((x.0 == d) && is_folder x.1) 1 0 in
       let at_most : d < 0 + length files = omega (arith, length-files_in image, h.geometry.inodes) in
       told d l ∙ rw h.all (sum_by-map (λ (m : Naming). cond ((m.directory == d) && is_directory_at files m.number) 1 0)
-          naming (all_entries files)
+      naming (all_entries files)
       ∙ sum_by-flat_map counts_for (λ k. map (λ (e : Entry). (k, e)) (entries_of (slot files k))) held
       (λ k. sum_by-map counts_for (λ (e : Entry). (k, e)) (entries_of (slot files k))
-          ∙ count-and (k == d) is_folder (entries_of (slot files k))) (range_with_len 0 (length files))
+      ∙ count-and (k == d) is_folder (entries_of (slot files k))) (range_with_len 0 (length files))
       ∙ (sum-at held d (λ k other. ap (λ b. cond b (count_by is_folder (entries_of (slot files k))) 0)
-          (ne_eqb k d other)) 0 (length files)).1 (omega arith) at_most
+      (ne_eqb k d other)) 0 (length files)).1 (omega arith) at_most
       ∙ ap (λ b. cond b (count_by is_folder (entries_of (slot files d))) 0) (eq-eqb d d refl))
 
 -- ---- tables of what items tell, one item more at a time
@@ -156,7 +158,7 @@ pub counted_more : (counts : List ℕ) (at k : ℕ) → at < length counts
     → get_or (set counts at (get_or counts at 0 + 1)) k 0 ≡ get_or counts k 0 + cond (at == k) 1 0
 counted_more counts at k high =
     at_or (λ j. get_or (set counts at (get_or counts at 0 + 1)) j 0 ≡ get_or counts j 0 + cond (at == j) 1 0)
-        at k (rw (get_or-set_same counts at (get_or counts at 0 + 1) 0 high, eq-eqb at at refl) refl)
+    at k (rw (get_or-set_same counts at (get_or counts at 0 + 1) 0 high, eq-eqb at at refl) refl)
     (λ other. rw (get_or-set_other counts at k _ 0 other, ne_eqb at k (λ e. other (sym e)), add-zero) refl)
 
 pub counts_both : (a b : Bool) → b ≡ true → cond {A = ℕ} (a && b) 1 0 ≡ cond a 1 0
@@ -177,7 +179,7 @@ first_among p (x ∷ xs) h =
 -- behind those that were found before
 first_or : (o : Option Naming) → IfSome o HasDirectory → (m : Naming)
     → (directory_or_zero o ≡ 0 → directory_or_zero (option_or o (Some m)) ≡ m.directory)
-        × (directory_or_zero o ≢ 0 → directory_or_zero (option_or o (Some m)) ≡ directory_or_zero o)
+    × (directory_or_zero o ≢ 0 → directory_or_zero (option_or o (Some m)) ≡ directory_or_zero o)
 first_or None some m = (λ z. refl, λ other. absurd (other refl))
 first_or (Some n) some m = (λ z. absurd (omega arith), λ other. refl)
 
@@ -187,7 +189,7 @@ option_or-none (Some x) = refl
 
 module _ (namings : List Naming) (i : ℕ) (x : Naming) (within : i < length namings) (parents : List ℕ)
     (h : HasFirsts (take i namings) parents) (high : (get_or namings i x).number < length parents)
-        (some : All HasDirectory (take i namings)) where
+    (some : All HasDirectory (take i namings)) where
   abbrev m : Naming
   m = get_or namings i x
 
@@ -205,9 +207,9 @@ module _ (namings : List Naming) (i : ℕ) (x : Naming) (within : i < length nam
       → get_or new m.number 0 ≡ directory_or_zero (option_or first (Some m)) → HasFirsts (take (i + 1) namings) new
   firsts new long away here n l =
       at_or (λ k. get_or new k 0 ≡ first_directory (take (i + 1) namings) k) m.number n
-          (rw (found_more m.number, eq-eqb m.number m.number refl) here)
+      (rw (found_more m.number, eq-eqb m.number m.number refl) here)
       (λ other. rw (found_more n, ne_eqb m.number n (λ e. other (sym e)), option_or-none)
-          (away n other ∙ h n (omega arith)))
+      (away n other ∙ h n (omega arith)))
 
   -- its number has no directory yet, or has one
   pub firsts_more : get_or parents m.number 0 ≡ 0 → HasFirsts (take (i + 1) namings) (set parents m.number m.directory)

@@ -53,12 +53,31 @@ pub use Rattle.unixmodel.specs.Formats.{Format, large, most_bytes, most_data, sm
 pub use Rattle.unixmodel.specs.Image.{count_in, data_start, DenotesIn, entries_of, format_of, HasSuper, inode_at}
 pub use Rattle.unixmodel.specs.Image.{inodes_in, is_data_block, is_directory_at, is_in_use, is_name, kind_in, length_in}
 pub use Rattle.unixmodel.specs.Image.{links_in, major_in, minor_in, names_number, numbers_in_use, size_in}
-unfoldable pub use Rattle.unixmodel.specs.Image.{all_entries, bit_of, contents_in, data_blocks, is_named, named_blocks,
-    named_by, names_of, number_in, parent_of, subdirectories}
+unfoldable pub use Rattle.unixmodel.specs.Image.{
+  all_entries,
+  bit_of,
+  contents_in,
+  data_blocks,
+  is_named,
+  named_blocks,
+  named_by,
+  names_of,
+  number_in,
+  parent_of,
+  subdirectories,
+}
 pub use Rattle.unixmodel.specs.Numbers.{number, number_at}
 pub use Rattle.unixmodel.specs.Slots.{Asks, single, taken_blocks, there}
-unfoldable pub use Rattle.unixmodel.specs.Slots.{address_of, asked_slot, holder_of, in_record, index_end, level_of,
-    place_of, slot_at}
+unfoldable pub use Rattle.unixmodel.specs.Slots.{
+  address_of,
+  asked_slot,
+  holder_of,
+  in_record,
+  index_end,
+  level_of,
+  place_of,
+  slot_at,
+}
 pub use Rattle.imagecheck.specs.Entries.{entries_in, entries_to, FitsFront, GoodPlace, HasNames, IsGood, name_numbers}
 pub use Rattle.imagecheck.specs.Faults.{Begins, Denies, DenotesOwn, Finds, IsOfImage, IsOutside, MarksMore, Tells}
 pub use Rattle.imagecheck.specs.Faults.{TellsGeometry}

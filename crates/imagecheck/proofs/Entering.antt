@@ -75,9 +75,9 @@ behind_dots name (o ∷ []) a b p q h = absurd (none-some (record { name = dot_d
 behind_dots name (o ∷ r ∷ os) a b p q h =
     let no = or_parts (bytes_eq name dot) (bytes_eq name dot_dot) h in
     cond-false _ o _ (ap (has_name name) p
-        ∙ other_name dot name (λ e. false≢true (sym no.0 ∙ (bytes_eq-Decides name dot).1 (sym e))))
+    ∙ other_name dot name (λ e. false≢true (sym no.0 ∙ (bytes_eq-Decides name dot).1 (sym e))))
     ∙ cond-false _ r _ (ap (has_name name) q
-        ∙ other_name dot_dot name (λ e. false≢true (sym no.1 ∙ (bytes_eq-Decides name dot_dot).1 (sym e))))
+    ∙ other_name dot_dot name (λ e. false≢true (sym no.1 ∙ (bytes_eq-Decides name dot_dot).1 (sym e))))
 
 -- ---- numbers in use
 
@@ -138,11 +138,11 @@ module _ (P : Entry → Type 0) where
         → IfTaken P (place_of_bytes (take 16 (drop (16 * k) bytes)))
     entries-holding h k low high =
         let within : k - 2 < length (drop 2 (places_in bytes)) =
-                omega (arith, length-drop 2 (places_in bytes), length-places_in bytes) in
+        omega (arith, length-drop 2 (places_in bytes), length-places_in bytes) in
         let e : 2 + (k - 2) ≡ k = omega arith in
         subst (λ m. IfTaken P (place_of_bytes (take 16 (drop (16 * m) bytes)))) e
-            (subst (IfTaken P) (place-at (k - 2) within None)
-            (holds_taken (IfTaken P) tt (drop 2 (places_in bytes)) h (k - 2) None within))
+        (subst (IfTaken P) (place-at (k - 2) within None)
+        (holds_taken (IfTaken P) tt (drop 2 (places_in bytes)) h (k - 2) None within))
 
 -- ---- what holds of each number of the files of an image, type by type, and so the rules of entries and of links
 
@@ -150,11 +150,11 @@ module _ (P : Entry → Type 0) where
 module _ (image : List ℕ) (b : HasBlocks image) (P : ℕ → Option Node → Type 0)
     (free : (n : ℕ) → (1 ≤ n → n < inodes_in image → kind_in image n ≡ 0) → P n None)
     (directory : (n : ℕ) → 1 ≤ n → n < inodes_in image → kind_in image n ≡ 1
-        → P n (Some (Directory (links_in image n) (places_in (contents_in image n)))))
+    → P n (Some (Directory (links_in image n) (places_in (contents_in image n)))))
     (file : (n : ℕ) → 1 ≤ n → n < inodes_in image → kind_in image n ≡ 2
-        → P n (Some (File (links_in image n) (contents_in image n))))
+    → P n (Some (File (links_in image n) (contents_in image n))))
     (device : (n : ℕ) → 1 ≤ n → n < inodes_in image → kind_in image n ≡ 3
-        → P n (Some (Device (links_in image n) (major_in image n) (minor_in image n)))) where
+    → P n (Some (Device (links_in image n) (major_in image n) (minor_in image n)))) where
   pub stands_each : (n : ℕ) → P n (slot (files_in image) n)
   stands_each n = elim (cases_lt n (inodes_in image)) [
     | inr past ↦ rw (slot-past image n past) (free n (λ low high. absurd (omega arith)))
@@ -164,7 +164,7 @@ module _ (image : List ℕ) (b : HasBlocks image) (P : ℕ → Option Node → T
           let low : 1 ≤ n = omega arith in
           let used = λ (u : kind_in image n ≢ 0). slot-files_in image n high ∙ file_in-used image n low u in
           by_kind (kind_in image n) (b.inodes.kinds.known n low high)
-              (λ e. rw (slot-free image n high e) (free n (λ _ _. e)))
+          (λ e. rw (slot-free image n high e) (free n (λ _ _. e)))
           (λ e. rw (used (λ z. absurd (omega arith)), node_in-directory image n e) (directory n low high e))
           (λ e. rw (used (λ z. absurd (omega arith)), node_in-file image n e) (file n low high e))
           (λ e. rw (used (λ z. absurd (omega arith)), node_in-device image n e) (device n low high e))
@@ -199,7 +199,7 @@ pub HasLinks-from : (image : List ℕ) → HasBlocks image → ((n : ℕ) → 1 
     → HasLinks (files_in image)
 HasLinks-from image b h =
     stands_each image b (LinksAt (files_in image)) (λ n _. tt) (λ n low high e. (h n low high).directory e)
-        (λ n low high e. named n low high (λ z. absurd (omega arith)) (λ z. absurd (omega arith)))
+    (λ n low high e. named n low high (λ z. absurd (omega arith)) (λ z. absurd (omega arith)))
     (λ n low high e. named n low high (λ z. absurd (omega arith)) (λ z. absurd (omega arith)))
   where
     named : (n : ℕ) → 1 ≤ n → n < inodes_in image → kind_in image n ≢ 0 → kind_in image n ≢ 1
@@ -208,21 +208,27 @@ HasLinks-from image b h =
         h n low high in (fits.counted used other, fits.least used other, fits.most used other)
 
 leaf_fits : {k l n s : ℕ} → k ≢ 1 → (k ≢ 0 → (l ≡ n) × (1 ≤ l) × (l ≤ most_links)) → FitsLinks k l n s
-leaf_fits other at = record
-    { directory = λ e. absurd (other e); counted = λ used _. (at used).0; least = λ used _. (at used).1;
-    most = λ used _. (at used).2 }
+leaf_fits other at = record {
+  directory = λ e. absurd (other e);
+  counted = λ used _. (at used).0;
+  least = λ used _. (at used).1;
+  most = λ used _. (at used).2;
+}
 
 pub FitsLinks-at : (image : List ℕ) → HasBlocks image → HasLinks (files_in image) → (n : ℕ) → 1 ≤ n
     → n < inodes_in image → LinksFit image n
 FitsLinks-at image b h n =
     stands_each image b (λ m o. LinksAt (files_in image) m o → 1 ≤ m → m < inodes_in image → LinksFit image m)
     (λ m free at low high. leaf_fits (λ d. absurd (omega (arith, free low high)))
-        (λ used. absurd (used (free low high))))
-    (λ m low high e at _ _. record
-        { directory = λ _. at; counted = λ used other. absurd (other e); least = λ used other. absurd (other e);
-        most = λ used other. absurd (other e) })
+    (λ used. absurd (used (free low high))))
+    (λ m low high e at _ _. record {
+      directory = λ _. at;
+      counted = λ used other. absurd (other e);
+      least = λ used other. absurd (other e);
+      most = λ used other. absurd (other e);
+    })
     (λ m low high e at _ _. leaf_fits (λ d. absurd (omega arith)) (λ _. at))
-        (λ m low high e at _ _. leaf_fits (λ d. absurd (omega arith)) (λ _. at)) n (h n)
+    (λ m low high e at _ _. leaf_fits (λ d. absurd (omega arith)) (λ _. at)) n (h n)
 
 -- ---- numbers in use
 
@@ -300,7 +306,7 @@ pub all-trimmed : (bytes : List ℕ) → ((i : ℕ) → get_or bytes i 0 < 256) 
 all-trimmed bytes fits = entries-hold IsTrimmed bytes (λ k high low.
     let place = take 16 (drop (16 * k) bytes) in
     trimmed-place place (length-take-le 16 (drop (16 * k) bytes) (omega (arith, length-drop (16 * k) bytes)))
-        (chunk-fits bytes k fits))
+    (chunk-fits bytes k fits))
 
 -- names are other where their numbers are, and the other way round
 pub names-from_numbers : (es : List Entry) → AllPairs (λ a b. a ≢ b) (name_numbers es) → AllPairs AreOther es
@@ -325,8 +331,8 @@ pub distinct-moved : (xs ys : List ℕ) → IsPermutation xs ys → AllPairs (λ
 distinct-moved xs ys moved h =
     AllPairs-from_IsDistinct Decides-eqb ys
     (IsDistinct-IsPermutation nat_eq
-        (λ x y. same_from_decides _ _ (Decides-eqb x y) (Decides-like _ (λ e. sym e) (λ e. sym e) (Decides-eqb y x)))
-        xs ys moved
+    (λ x y. same_from_decides _ _ (Decides-eqb x y) (Decides-like _ (λ e. sym e) (λ e. sym e) (Decides-eqb y x)))
+    xs ys moved
     (IsDistinct-from_AllPairs Decides-eqb xs h))
 
 -- what a look at the neighbours of sorted numbers tells
@@ -335,11 +341,11 @@ pub distinct-sorted : (xs ys : List ℕ) (r : Bool) → IsPermutation xs ys → 
     → IsTrue r ↔ AllPairs (λ a b. a ≢ b) xs
 distinct-sorted xs ys true moved sorted h = told (distinct-moved ys xs (IsPermutation-sym xs ys moved) (λ i j d l m e.
     let less = AllPairs-from_increasing ys (λ k n. ltb-true (get_or ys k 0) (get_or ys (k + 1) 0) (sym (h k 0 n))) i j
-            d l m in
+    d l m in
     absurd (omega arith)))
 distinct-sorted xs ys false moved sorted h = never (λ pairs.
     let k = h.0 in
     let most : get_or ys (k + 1) 0 ≤ get_or ys k 0 = ltb-false (get_or ys k 0) (get_or ys (k + 1) 0) (sym (h.2 0)) in
     let least : get_or ys k 0 ≤ get_or ys (k + 1) 0 =
-            IsNonDecreasingBy-from_sort (λ x. x) ys sorted k (k + 1) 0 (omega arith) h.1 in
+    IsNonDecreasingBy-from_sort (λ x. x) ys sorted k (k + 1) 0 (omega arith) h.1 in
     distinct-moved xs ys moved pairs k (k + 1) 0 (omega arith) h.1 (omega arith))

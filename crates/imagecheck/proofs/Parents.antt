@@ -46,7 +46,7 @@ pub least-in : {image : List ℕ} {g : Geometry} → HasGeometry image g → Blo
     → (bytes : List ℕ) → bytes ≡ contents_in image n → 32 ≤ length bytes
 least-in {image = image} h rules n low high directory bytes e =
     subst (λ xs. 32 ≤ length xs) (sym e)
-        (directory-least image n low (omega (arith, h.inodes)) directory (HasBlocks-of image rules))
+    (directory-least image n low (omega (arith, h.inodes)) directory (HasBlocks-of image rules))
 
 -- ---- directories of the image and of its files
 
@@ -66,11 +66,14 @@ pub parent_directory : (image : List ℕ) → HasBlocks image → HasEntries (fi
     → (n : ℕ) → IsDirectoryIn image n → IsDirectoryIn image (parent_of (files_in image) n)
 parent_directory image blocks entries links n h = elim (cases_eq n 1) [
   | inl root ↦ rw (root, parent_root _)
-      (record { low = omega arith; high = let least = blocks.inodes.super.inodes_least in omega arith;
-      kind = blocks.inodes.kinds.root })
+      (record {
+        low = omega arith;
+        high = let least = blocks.inodes.super.inodes_least in omega arith;
+        kind = blocks.inodes.kinds.root;
+      })
   | inr other ↦
       IsDirectoryIn-from image _
-          (parent_leads _ entries links n (ap is_some (slot-directory image n h.low h.high h.kind)) other).2.directory
+      (parent_leads _ entries links n (ap is_some (slot-directory image n h.low h.high h.kind)) other).2.directory
 ]
 
 -- ---- the first two places of a directory, from 32 bytes
@@ -81,16 +84,16 @@ first-place bytes least k l =
     let e : 16 * k + (32 - 16 * k) ≡ 32 = omega arith in
     let cut = drop-take (16 * k) (32 - 16 * k) bytes in
     slot-places_in bytes k (omega arith)
-        ∙ ap place_of_bytes (sym (take-take 16 (32 - 16 * k) (drop (16 * k) bytes) (omega arith))
-        ∙ ap (take 16) (sym cut ∙ ap (λ m. drop (16 * k) (take m bytes)) e))
+    ∙ ap place_of_bytes (sym (take-take 16 (32 - 16 * k) (drop (16 * k) bytes) (omega arith))
+    ∙ ap (take 16) (sym cut ∙ ap (λ m. drop (16 * k) (take m bytes)) e))
 
 pub FitsFront-same : (n parent : ℕ) (xs ys : List ℕ) → 32 ≤ length xs → 32 ≤ length ys → take 32 xs ≡ take 32 ys
     → FitsFront n parent xs → FitsFront n parent ys
 FitsFront-same n parent xs ys long least e f =
     record { own = same 0 (omega arith) ∙ f.own; parent = same 1 (omega arith) ∙ f.parent } where
-  same : (k : ℕ) → k < 2 → slot (places_in ys) k ≡ slot (places_in xs) k
-  same k l = first-place ys least k l ∙ ap (λ bytes. place_of_bytes (take 16 (drop (16 * k) bytes))) (sym e)
-      ∙ sym (first-place xs long k l)
+      same : (k : ℕ) → k < 2 → slot (places_in ys) k ≡ slot (places_in xs) k
+      same k l = first-place ys least k l ∙ ap (λ bytes. place_of_bytes (take 16 (drop (16 * k) bytes))) (sym e)
+          ∙ sym (first-place xs long k l)
 
 taken_number : (t : Bool) (e f : Entry) → cond t None (Some e) ≡ Some f → e.number ≡ f.number
 taken_number true e f h = absurd (none-some f h)
@@ -103,9 +106,12 @@ front_of image [] b some e inside = absurd (omega arith)
 front_of image (x ∷ xs) b some e inside =
     let long : length (block_at image x) ≡ 1024 = length-block image x (omega arith) in
     let cut : 32 ≡ 1024 * b + 32 - 1024 * b = omega arith in
-    rw (take-append-le 32 (block_at image x) (flat_map (block_at image) xs) (omega arith), e,
-        take-take 32 (1024 * b + 1024 - 1024 * b) (drop (1024 * b) image) (omega arith))
-        (ap (λ m. take m (drop (1024 * b) image)) cut)
+    rw (
+      take-append-le 32 (block_at image x) (flat_map (block_at image) xs) (omega arith),
+      e,
+      take-take 32 (1024 * b + 1024 - 1024 * b) (drop (1024 * b) image) (omega arith),
+    )
+    (ap (λ m. take m (drop (1024 * b) image)) cut)
 
 module _ (image : List ℕ) (blocks : HasBlocks image) (n : ℕ) (h : IsDirectoryIn image n) where
   -- its first block lies in the image
@@ -118,11 +124,11 @@ module _ (image : List ℕ) (blocks : HasBlocks image) (n : ℕ) (h : IsDirector
       let few : count_in image n ≤ most_data (format_of image) = let most = sizes.most used in omega arith in
       let long : 1 ≤ length (data_blocks image n) = omega (arith, length-data_blocks image n) in
       let first : get_or (data_blocks image n) 0 0 ≡ first_block image n = data-at image n 0 0 some
-              ∙ number_in-record image n 0 (first-here image)
+      ∙ number_in-record image n 0 (first-here image)
       ∙ ap (λ a. number_at 4 (inode_at n + 12 + 4 * a) image) (first-address image)
-          ∙ ap (λ p. number_at 4 p image) (omega arith) in
+      ∙ ap (λ p. number_at 4 p image) (omega arith) in
       let each = All-data_blocks image n (λ b. IsTrue (is_data_block image b)) few
-              (FitsAddresses-at image blocks.addresses n h.low h.high used).blocks 0 0 long in
+      (FitsAddresses-at image blocks.addresses n h.low h.high used).blocks 0 0 long in
       let whole = blocks.inodes.super.whole in
       (long, first, omega (arith, is_data_block-below image (get_or (data_blocks image n) 0 0) each))
 
@@ -132,7 +138,7 @@ module _ (image : List ℕ) (blocks : HasBlocks image) (n : ℕ) (h : IsDirector
   unfolding contents_in
   contents-front =
       take-take 32 (length_in image n) (flat_map (block_at image) (data_blocks image n))
-          ((blocks.inodes.sizes n h.low h.high).directory_least h.kind)
+      ((blocks.inodes.sizes n h.low h.high).directory_least h.kind)
       ∙ front_of image (data_blocks image n) (first_block image n) first-data.0 first-data.1 first-data.2
 
   -- the number in its second place is its parent
@@ -144,15 +150,15 @@ module _ (image : List ℕ) (blocks : HasBlocks image) (n : ℕ) (h : IsDirector
       let place = take 16 (drop 16 front) in
       let inside = first-data.2 in
       let long : length front ≡ 32 =
-              length-take-le (at + 32 - at) (drop at image) (omega (arith, length-drop at image)) ∙ omega arith in
+      length-take-le (at + 32 - at) (drop at image) (omega (arith, length-drop at image)) ∙ omega arith in
       same_number 2 (at + 16) 0 image place (omega arith)
-          (omega (arith, length-take-le 16 (drop 16 front) (omega (arith, length-drop 16 front)))) (λ i l.
+      (omega (arith, length-take-le 16 (drop 16 front) (omega (arith, length-drop 16 front)))) (λ i l.
       sym (get_or-take 16 (drop 16 front) (0 + i) 0 (omega arith) ∙ get_or-drop 16 front (0 + i) 0
       ∙ get_or-take (at + 32 - at) (drop at image) (16 + (0 + i)) 0 (omega arith)
-          ∙ get_or-drop at image (16 + (0 + i)) 0 ∙ ap (λ p. get_or image p 0) (omega arith)))
+      ∙ get_or-drop at image (16 + (0 + i)) 0 ∙ ap (λ p. get_or image p 0) (omega arith)))
       ∙ taken_number (list_all (λ b. b == 0) place)
-          (record { name = without_zeros (drop 2 place); number = number_at 2 0 place })
-          (record { name = dot_dot; number = parent_of (files_in image) n })
+      (record { name = without_zeros (drop 2 place); number = number_at 2 0 place })
+      (record { name = dot_dot; number = parent_of (files_in image) n })
       (ap (λ bytes. place_of_bytes (take 16 (drop 16 bytes))) (sym contents-front)
       ∙ sym (first-place (contents_in image n) (directory-least image n h.low h.high h.kind blocks) 1 (omega arith))
-          ∙ (entries-at image n h.low h.high h.kind entries).parent)
+      ∙ (entries-at image n h.low h.high h.kind entries).parent)

@@ -34,13 +34,16 @@ entries-all : (files : Files) (P : ℕ × Entry → Type 0) → All P (all_entri
 unfolding all_entries
 entries-all files P h d k x l =
     let within : d < length files =
-            elim (cases_lt d _) [ inl low ↦ low | inr past ↦ absurd
-            (omega (arith, l, ap (λ o. length (entries_of o)) (get_or_past files d None past))) ] in
+    elim (cases_lt d _) [
+      | inl low ↦ low
+      | inr past ↦ absurd
+          (omega (arith, l, ap (λ o. length (entries_of o)) (get_or_past files d None past)))
+    ] in
     let e : get_or (range_with_len 0 (length files)) d 0 ≡ d = get_or-range_with_len 0 _ d 0 within ∙ omega arith in
     let there = All-from_flat_map P (λ d. map (λ e. (d, e)) (entries_of (slot files d)))
-            (range_with_len 0 (length files)) h d 0 (omega (arith, length-range_with_len 0 (length files))) in
+    (range_with_len 0 (length files)) h d 0 (omega (arith, length-range_with_len 0 (length files))) in
     All-from_map P (λ (y : Entry). (d, y)) _
-        (subst (λ m. All P (map (λ e. (m, e)) (entries_of (slot files m)))) {x = get_or _ d 0} e there) k x l
+    (subst (λ m. All P (map (λ e. (m, e)) (entries_of (slot files m)))) {x = get_or _ d 0} e there) k x l
 
 -- the directory of the first of them
 abbrev first_of : List (ℕ × Entry) → ℕ
@@ -59,8 +62,8 @@ unfolding parent_of names_of
 parent-has files P each n other some =
     let all = all_entries files in
     rw (ne_eqb n 1 other) (first_has P n (filter (names_number n) all)
-        (omega (arith, length-filter (names_number n) all)) (All-filter (names_number n) P all each)
-        (filter_passes (names_number n) all))
+    (omega (arith, length-filter (names_number n) all)) (All-filter (names_number n) P all each)
+    (filter_passes (names_number n) all))
 
 all_alone : (xs : List (ℕ × Entry)) → length xs ≡ 1 → All (λ x. first_of xs ≡ x.0) xs
 all_alone (x ∷ []) h = All-cons (λ (y : ℕ × Entry). x.0 ≡ y.0) x [] refl (All-nil (λ (y : ℕ × Entry). x.0 ≡ y.0))
@@ -74,7 +77,7 @@ parent-only files n other once =
     let named = filter (names_number n) (all_entries files) in
     let alone = all_alone named (length-filter (names_number n) (all_entries files) ∙ once) in
     rw (ne_eqb n 1 other) (entries-all files (λ x. names_number n x ≡ true → first_of named ≡ x.0)
-        (All-from_passing (λ x. first_of named ≡ x.0) (names_number n) (all_entries files) alone))
+    (All-from_passing (λ x. first_of named ≡ x.0) (names_number n) (all_entries files) alone))
 
 -- ---- an entry leads from its directory to its number
 
@@ -90,9 +93,13 @@ leads_from files d (Some (Directory zero places)) at e l = absurd (omega arith)
 leads_from files d (Some (Directory (suc links) places)) at e l = λ k x m.
     let entry = get_or (taken (drop 2 places)) k x in
     record {
-      found = rw (at, first_named-is entry.name places,
-          behind_dots entry.name places d (parent_of files d) e.own e.parent
-          (IsGiven-name entry.name (e.names k x m)).no_dots, each_named (drop 2 places) e.once k x m) refl;
+      found = rw (
+        at,
+        first_named-is entry.name places,
+        behind_dots entry.name places d (parent_of files d) e.own e.parent
+            (IsGiven-name entry.name (e.names k x m)).no_dots,
+        each_named (drop 2 places) e.once k x m,
+      ) refl;
       name = e.names k x m;
       directory = rw at refl;
     }
@@ -111,8 +118,8 @@ pub parent_leads : (files : Files) → HasEntries files → HasLinks files → (
     → (e : Entry) × (e.number ≡ n) × Leads files (parent_of files n, e)
 parent_leads files entries links n used other =
     parent-has files (Leads files)
-        (all-entries files (Leads files) (λ d. leads_from files d (slot files d) refl (entries d) (links d))) n other
-        (some_name files n (slot files n) (entries n) (links n) used other)
+    (all-entries files (Leads files) (λ d. leads_from files d (slot files d) refl (entries d) (links d))) n other
+    (some_name files n (slot files n) (entries n) (links n) used other)
 
 -- ---- from a chain of parents to a path
 
@@ -127,9 +134,10 @@ module _ (files : Files) (entries : HasEntries files) (links : HasLinks files) w
     | inl root ↦ ([], find-empty files ∙ ap Some (sym root))
     | inr other ↦
         let lead = parent_leads files entries links n used other in
-        let way = path_to k (parent_of files n) h (used_from (slot files (parent_of files n)) lead.2.directory) in
-        (way.0 ++ 0x2f ∷ lead.0.name,
-            find-slash files way.0 lead.0.name (parent_of files n) n lead.2.name way.1 (lead.2.found ∙ ap Some lead.1))
+        let way = path_to k (parent_of files n) h (used_from (slot files (parent_of files n)) lead.2.directory) in (
+          way.0 ++ 0x2f ∷ lead.0.name,
+          find-slash files way.0 lead.0.name (parent_of files n) n lead.2.name way.1 (lead.2.found ∙ ap Some lead.1),
+        )
   ]
 
   -- where each directory climbs to the root, all is reached from there
@@ -188,16 +196,16 @@ module _ (files : Files) (entries : HasEntries files) where
       absurd (none-some (record { name = dot_dot; number = parent_of files d }) fits.parent)
   places_climb d climbs (o ∷ r ∷ os) fits h =
       All-cons Holds o (r ∷ os) (subst Holds (sym fits.own) (λ _. climbs))
-          (All-cons Holds r os (subst Holds (sym fits.parent) (λ _. Climbs-parent files d climbs))
-          (holds_taken Holds tt os h))
+      (All-cons Holds r os (subst Holds (sym fits.parent) (λ _. Climbs-parent files d climbs))
+      (holds_taken Holds tt os h))
 
   step_climbs : (d : ℕ) (w : List ℕ) (o : Option Node) → slot files d ≡ o → EntriesAt files d o → IsClimber files d
       → IfSome (option_and_then (λ places. entry_number (option_and_then (slot places) (position (has_name w) places)))
-          (live_places o)) (IsClimber files)
+      (live_places o)) (IsClimber files)
   step_climbs d w (Some (Directory (suc links) places)) at e h =
       let climbs = h (rw at refl) in
       rw (first_named-is w places)
-          (holds_named Holds tt w places (places_climb d climbs places e (rw at at (entries_climb d climbs))))
+      (holds_named Holds tt w places (places_climb d climbs places e (rw at at (entries_climb d climbs))))
   step_climbs d w o at e h = tt
 
   follow_climbs : (ws : List (List ℕ)) (d : ℕ) → IsClimber files d → IfSome (follow files d ws) (IsClimber files)
@@ -205,11 +213,11 @@ module _ (files : Files) (entries : HasEntries files) where
   follow_climbs [] d h = h
   follow_climbs (w ∷ ws) d h =
       go (lookup files d w) (step_climbs d w (slot files d) refl (entries d) h) (follow_climbs ws) where
-    go : (o : Option ℕ) → IfSome o (IsClimber files)
-        → ((n : ℕ) → IsClimber files n → IfSome (follow files n ws) (IsClimber files))
-        → IfSome (option_and_then (λ n. follow files n ws) o) (IsClimber files)
-    go None h next = tt
-    go (Some n) h next = next n h
+        go : (o : Option ℕ) → IfSome o (IsClimber files)
+            → ((n : ℕ) → IsClimber files n → IfSome (follow files n ws) (IsClimber files))
+            → IfSome (option_and_then (λ n. follow files n ws) o) (IsClimber files)
+        go None h next = tt
+        go (Some n) h next = next n h
 
   -- a directory that is reached climbs to the root
   pub Climbs-reached : IsReached files → (n : ℕ) → is_directory_at files n ≡ true → Climbs files n
@@ -301,11 +309,11 @@ pub unmarked_less : (marks : List ℕ) (n start : ℕ) → n < length marks → 
     → unmarked (set marks n start) < unmarked marks
 unmarked_less marks n start within free some =
     let was : cond {A = ℕ} (get_or marks n 0 == 0) 1 0 ≡ 1 =
-            cond-true (get_or marks n 0 == 0) 1 0 (eq-eqb (get_or marks n 0) 0 free) in
+    cond-true (get_or marks n 0 == 0) 1 0 (eq-eqb (get_or marks n 0) 0 free) in
     let now : cond {A = ℕ} (start == 0) 1 0 ≡ 0 = cond-false (start == 0) 1 0 (ne_eqb start 0 some) in
     let sums : unmarked (set marks n start) + cond {A = ℕ} (get_or marks n 0 == 0) 1 0
-            ≡ unmarked marks + cond {A = ℕ} (start == 0) 1 0 =
-            sum_by-set (λ m. cond (m == 0) 1 0) marks n start 0 within in
+    ≡ unmarked marks + cond {A = ℕ} (start == 0) 1 0 =
+    sum_by-set (λ m. cond (m == 0) 1 0) marks n start 0 within in
     omega arith
 
 -- ---- the walks one after the other
@@ -314,7 +322,7 @@ unmarked_less marks n start within free some =
 pub HasWalked-first : (files : Files) (count : ℕ) → 1 < count → HasWalked files 2 (set (replicate count 0) 1 1)
 HasWalked-first files count l =
     let root : slice_index (set (replicate count 0) 1 1) 1 ≡ 1 =
-            get_or-set_same (replicate count 0) 1 1 0 (omega (arith, length-replicate {A = ℕ} count 0)) in
+    get_or-set_same (replicate count 0) 1 1 0 (omega (arith, length-replicate {A = ℕ} count 0)) in
     let free = λ (m : ℕ) (other : m ≢ 1). get_or-set_other (replicate count 0) 1 m 1 0 other ∙ zero_at count m in
     record {
       root = root;

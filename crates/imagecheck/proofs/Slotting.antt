@@ -64,8 +64,12 @@ module _ (image : List ℕ) (n : ℕ) (small : count_in image n ≤ single (form
         record {
           asks = record {
             within = places.holder-within f (direct-low image) (direct-high image) (nth k) apart a.within;
-            reached = omega (arith, places.holder-before f (direct-low image) (direct-high image) (nth k) apart
-                a.within, a.reached);
+            reached = omega (
+              arith,
+              places.holder-before f (direct-low image) (direct-high image) (nth k) apart
+                  a.within,
+              a.reached,
+            );
           };
           before = subst (λ s. in_record f s ≡ false → rank (holder_of f s) < k) (sym (at-taken k l))
               (places.rank-holder f (direct-low image) (direct-high image) count k small l) apart;
@@ -78,7 +82,7 @@ module _ (image : List ℕ) (n : ℕ) (small : count_in image n ≤ single (form
   holder-next : (k j : ℕ) → ComesBefore k j → in_record f j ≡ false → ComesBefore k (holder_of f j)
   holder-next k j b apart =
       let up = subst (λ s. in_record f s ≡ false → ComesBefore (rank j) (holder_of f s)) (rank-is j b.asks)
-              (holder-first _ (below-there (rank-low j b.asks))) apart in
+      (holder-first _ (below-there (rank-low j b.asks))) apart in
       record { asks = up.asks; before = omega (arith, up.before, b.before) }
 
   -- ---- where those before it were seen, the index blocks that lead to the k-th lie in the image
@@ -87,7 +91,7 @@ module _ (image : List ℕ) (n : ℕ) (small : count_in image n ≤ single (form
     seen-lies : (j : ℕ) → ComesBefore k j → Lies image n j
     seen-lies j b =
         let named = subst (λ s. IsTrue (is_data_block image (number_in image n s))) (rank-is j b.asks)
-                ((seen (rank j) b.before).asked (rank-low j b.asks)) in
+        ((seen (rank j) b.before).asked (rank-low j b.asks)) in
         let whole = sound.whole in
         omega (arith, is_data_block-below image (number_in image n j) named)
 
@@ -108,12 +112,15 @@ module _ (image : List ℕ) (n : ℕ) (small : count_in image n ≤ single (form
   FitsSlot-is {g} h k =
       let number = number_in image n (nth k) in
       elim (cases_lt k (taken_blocks f count)) [
-        | inl l ↦ rw (cond_yes k (taken_blocks f count) (is_data_in g number) (number == 0) l,
-            is_data_in-is image g h number)
+        | inl l ↦ rw (
+          cond_yes k (taken_blocks f count) (is_data_in g number) (number == 0) l,
+          is_data_in-is image g h number,
+        )
             (λ t. record { asked = λ _. t; spare = λ past. absurd (omega arith) }, λ fits. fits.asked l)
-        | inr past ↦ rw (cond_no k (taken_blocks f count) (is_data_in g number) (number == 0) past)
-            (λ t. record { asked = λ l. absurd (omega arith); spare = λ _. eqb-true number 0 t },
-            λ fits. eq-eqb number 0 (fits.spare past))
+        | inr past ↦ rw (cond_no k (taken_blocks f count) (is_data_in g number) (number == 0) past) (
+          λ t. record { asked = λ l. absurd (omega arith); spare = λ _. eqb-true number 0 t },
+          λ fits. eq-eqb number 0 (fits.spare past),
+        )
       ]
 
   -- ---- its numbers
@@ -163,9 +170,11 @@ module _ (image : List ℕ) (n : ℕ) (small : count_in image n ≤ single (form
     -- those of data
     module _ (k : ℕ) (l : k < count) where
       asks-data : Asks f count k
-      asks-data = record { within = omega arith;
-          reached = subst (λ i. i < count)
-          (sym (places.first-data f (direct-low image) (direct-high image) k (omega arith))) l }
+      asks-data = record {
+        within = omega arith;
+        reached = subst (λ i. i < count)
+            (sym (places.first-data f (direct-low image) (direct-high image) k (omega arith))) l;
+      }
 
       pub found-data : IsFound image n k
       found-data = subst (IsFound image n) (rank-is k asks-data) (found-at (rank k) (rank-low k asks-data))
@@ -218,7 +227,7 @@ module _ (image : List ℕ) (n k : ℕ) {f : Format} (e : f ≡ format_of image)
       pub holder-up : 2 - level_of (format_of image) holder < 2 - level_of (format_of image) k
       holder-up =
           let up = places.level-holder (format_of image) (direct-low image) (direct-high image) k (rw e at apart)
-                  found.within in
+          found.within in
           let most = places.level-most (format_of image) (direct-low image) (direct-high image)
-                  (holder_of (format_of image) k) in
+          (holder_of (format_of image) k) in
           rw (held, e) (omega arith)

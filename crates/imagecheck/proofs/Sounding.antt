@@ -81,12 +81,24 @@ pub record IsJudged (f : Format) (image : List ℕ) (r : Result Summary ImageFau
 pub judged-from : (f : Format) (image : List ℕ) → HasMagic f image → (r : Result Summary ImageFault)
     → MatchResult r (IsSummary image) (Finds image) → IsJudged f image r
 judged-from f image m (Ok summary) h =
-    record { denotes = h.denotes f m; inodes = h.inodes; blocks = h.blocks; fault = tt; refused = tt;
-    device = λ told. cc }
+    record {
+      denotes = h.denotes f m;
+      inodes = h.inodes;
+      blocks = h.blocks;
+      fault = tt;
+      refused = tt;
+      device = λ told. cc;
+    }
 judged-from f image m (Err fault) h =
     let told = Finds-told f image m fault h in
-    record { denotes = tt; inodes = tt; blocks = tt; fault = told; refused = Tells-not f image fault told;
-        device = λ is. subst (λ x. IfErr x (Finds image)) is h }
+    record {
+      denotes = tt;
+      inodes = tt;
+      blocks = tt;
+      fault = told;
+      refused = Tells-not f image fault told;
+      device = λ is. subst (λ x. IfErr x (Finds image)) is h;
+    }
 
 -- a rise from a later count is one from an earlier
 pub Rises-before : (a b c : ℕ) → a ≤ b → Rises b c → Rises a c
@@ -131,8 +143,10 @@ module _ {blocks : List (List ℕ)} {count : ℕ} {block : List ℕ} (front : Is
     }
 
     pub Magic-told : s.magic ≢ (format_named format).magic → Tells (format_named format) (image_of blocks) Magic
-    Magic-told n = (HasLength-from blocks front.sizes two s e (size ∙ front.many),
-        λ m. n (magic-is blocks front.sizes two s e ∙ m))
+    Magic-told n = (
+      HasLength-from blocks front.sizes two s e (size ∙ front.many),
+      λ m. n (magic-is blocks front.sizes two s e ∙ m),
+    )
 
     pub Numbers-told : s.magic ≡ (format_named format).magic → (HasNumbersIn (format_named format) s → ⊥)
         → Tells (format_named format) (image_of blocks) Numbers

@@ -22,7 +22,7 @@ fn copy_blocks<A: Allocator>(
     requires addresses { FitsAddresses image.now n }
     requires rules { SuperRules image.now }
     ensures { OnOk result (bytes.new.items ≡ bytes.old.items
-            ++ flat_map (block_at image.now) (data_blocks image.now n)) }
+        ++ flat_map (block_at image.now) (data_blocks image.now n)) }
 {
     for k in 0..block_count(image, n) {
         let at = 1024 * number(image, n, k);

@@ -90,7 +90,7 @@ fn test_directory<A: Allocator, B: Allocator>(
     requires directory { kind_in image.now n ≡ 1 }
     ensures judged { MatchResult result (λ _. HasNames image.now (contents_in image.now n)) (Finds image.now) }
     ensures namings { OnOk result
-            (namings.new.items ≡ namings.old.items ++ namings_of n (entries_in (contents_in image.now n))) }
+        (namings.new.items ≡ namings.old.items ++ namings_of n (entries_in (contents_in image.now n))) }
 {
     read_directory(image, geometry, n, bytes, names)?;
     test_names(image, geometry, n, bytes, names)?;

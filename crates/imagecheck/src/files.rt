@@ -114,7 +114,7 @@ fn test_namings<A: Allocator>(
 ) -> Result<(), ImageFault>
     requires { IsListed image.now geometry namings.now }
     ensures { MatchResult result (λ _. HasEntries (files_in image.now) × HasLinks (files_in image.now))
-            (Finds image.now) }
+        (Finds image.now) }
 {
     let mut counts = vec![in &alloc; 0; geometry.inodes]?;
     count_names(namings, &mut counts);

@@ -13,7 +13,7 @@ use std::alloc::{AllocError, Allocator};
 fn add_name<A: Allocator>(place: &[u8], names: &mut Vec<u128, A>) -> Result<(), AllocError>
     requires { length place.now ≡ 16 }
     ensures { OnOk result (names.new.items ≡ names.old.items
-            ++ name_numbers (option_to_list (place_of_bytes place.now))) }
+        ++ name_numbers (option_to_list (place_of_bytes place.now))) }
 {
     if is_free(place) {
         return Ok(());

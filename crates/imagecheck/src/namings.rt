@@ -26,7 +26,7 @@ fn add_entry<A: Allocator>(
 ) -> Result<(), AllocError>
     requires { length place.now ≡ 16 }
     ensures { OnOk result (namings.new.items ≡ namings.old.items
-            ++ namings_of directory (option_to_list (place_of_bytes place.now))) }
+        ++ namings_of directory (option_to_list (place_of_bytes place.now))) }
 {
     if is_free(place) {
         return Ok(());

@@ -107,7 +107,7 @@ fn check_in<A: Allocator, D: BlockDev>(
 ) -> Result<Summary, ImageFault>
     ensures denotes { OnOk result (DenotesOwn (format_named format) (image_of (D.content device.old))) }
     ensures inodes { IfOk result
-            (λ summary. summary.inodes ≡ length (numbers_in_use (image_of (D.content device.old)))) }
+        (λ summary. summary.inodes ≡ length (numbers_in_use (image_of (D.content device.old)))) }
     ensures blocks { IfOk result (λ summary. summary.blocks ≡ length (named_blocks (image_of (D.content device.old)))) }
     ensures fault { IfErr result (λ fault. Tells (format_named format) (image_of (D.content device.old)) fault) }
     ensures refused { IfErr result (Denies (DenotesIn (format_named format) (image_of (D.content device.old)))) }
@@ -132,9 +132,9 @@ fn check_in<A: Allocator, D: BlockDev>(
 /// one denotes no files.
 pub fn check<A: Allocator, D: BlockDev>(alloc: A, device: &mut D) -> Result<Summary, ImageFault>
     ensures denotes { OnOk result
-            (Denotes (image_of (D.content device.old)) (files_in (image_of (D.content device.old)))) }
+        (Denotes (image_of (D.content device.old)) (files_in (image_of (D.content device.old)))) }
     ensures inodes { IfOk result
-            (λ summary. summary.inodes ≡ length (numbers_in_use (image_of (D.content device.old)))) }
+        (λ summary. summary.inodes ≡ length (numbers_in_use (image_of (D.content device.old)))) }
     ensures blocks { IfOk result (λ summary. summary.blocks ≡ length (named_blocks (image_of (D.content device.old)))) }
     ensures fault { IfErr result (λ fault. Tells format (image_of (D.content device.old)) fault) }
     ensures refused { IfErr result (Denies (Denotes (image_of (D.content device.old)))) }
@@ -150,9 +150,9 @@ pub fn check<A: Allocator, D: BlockDev>(alloc: A, device: &mut D) -> Result<Summ
 /// image of another format has the fault `Magic`.
 pub fn check1<A: Allocator, D: BlockDev>(alloc: A, device: &mut D) -> Result<Summary, ImageFault>
     ensures denotes { OnOk result
-            (DenotesSmall (image_of (D.content device.old)) (files_in (image_of (D.content device.old)))) }
+        (DenotesSmall (image_of (D.content device.old)) (files_in (image_of (D.content device.old)))) }
     ensures inodes { IfOk result
-            (λ summary. summary.inodes ≡ length (numbers_in_use (image_of (D.content device.old)))) }
+        (λ summary. summary.inodes ≡ length (numbers_in_use (image_of (D.content device.old)))) }
     ensures blocks { IfOk result (λ summary. summary.blocks ≡ length (named_blocks (image_of (D.content device.old)))) }
     ensures fault { IfErr result (λ fault. Tells small (image_of (D.content device.old)) fault) }
     ensures refused { IfErr result (Denies (DenotesSmall (image_of (D.content device.old)))) }

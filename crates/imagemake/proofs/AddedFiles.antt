@@ -60,30 +60,41 @@ module _ (t : FileTree) {d : ℕ} {name : List ℕ} {n : ℕ} (thing : Thing) (c
   has-room : size_of (node_for n d thing) ≤ longest → size_of becomes ≤ longest
       → blocks_of (put one d becomes) ≤ t.block_limit → if_room t.block_limit d n all ≡ Ok all
   has-room short above_short few = room-is
-      ∙ rw (le-leb (size_of (node_for n d thing)) longest short, le-leb (size_of becomes) longest above_short,
-      le-leb (blocks_of (put one d becomes)) t.block_limit few) refl
+      ∙ rw (
+        le-leb (size_of (node_for n d thing)) longest short,
+        le-leb (size_of becomes) longest above_short,
+        le-leb (blocks_of (put one d becomes)) t.block_limit few,
+      ) refl
 
   lacks-room : (longest < size_of (node_for n d thing))
       ⊎ ((longest < size_of becomes) ⊎ (t.block_limit < blocks_of (put one d becomes)))
       → if_room t.block_limit d n all ≡ Err Wrong.Blocks
   lacks-room why = room-is ∙ room-no _ _ _ (Ok all) (Err Wrong.Blocks) (elim why [
     | inl long ↦ inl (lt-leb (size_of (node_for n d thing)) longest long)
-    | inr rest ↦ inr (elim rest
-        [ inl long ↦ inl (lt-leb (size_of becomes) longest long) | inr full ↦ inr
-        (lt-leb (blocks_of (put one d becomes)) t.block_limit full) ])
+    | inr rest ↦ inr (elim rest [
+      | inl long ↦ inl (lt-leb (size_of becomes) longest long)
+      | inr full ↦ inr
+          (lt-leb (blocks_of (put one d becomes)) t.block_limit full)
+    ])
   ])
 
   -- the blocks of the node alone are too many
   more-blocks : blocks_of one ≤ blocks_of (put one d becomes)
   more-blocks =
       let longer : size_of was ≤ size_of becomes =
-              omega (arith, linked-size thing (appended (entry thing can) was),
-              length_push can.places (Some (entry thing can))) in
+      omega (
+        arith,
+        linked-size thing (appended (entry thing can) was),
+        length_push can.places (Some (entry thing can)),
+      ) in
       let used : taken_by (slot one d) ≡ blocks_for (size_of was) = ap taken_by still-there in
       let more : blocks_for (size_of was) ≤ blocks_for (size_of becomes) =
-              taken-grows (size_of was) (size_of becomes) longer in
-      omega (arith, blocks_of-set one d (Some becomes)
-          (omega (arith, slot-within t.files d was can.directory, length-set t.files n (Some (node_for n d thing)))))
+      taken-grows (size_of was) (size_of becomes) longer in
+      omega (
+        arith,
+        blocks_of-set one d (Some becomes)
+            (omega (arith, slot-within t.files d was can.directory, length-set t.files n (Some (node_for n d thing)))),
+      )
 
   -- ---- the node, and then the name
 
@@ -101,9 +112,14 @@ module _ (t : FileTree) {d : ℕ} {name : List ℕ} {n : ℕ} (thing : Thing) (c
     now-one = record { is = puts.done; later = puts.owns.later }
 
     abbrev pub directory-after : HasDirectory mid.files d
-    directory-after = record
-        { links = can.links; places = can.places; here = ap (λ (fs : Files). slot fs d) (now-files now-one)
-        ∙ still-there; few = can.few; packed = can.packed }
+    directory-after = record {
+      links = can.links;
+      places = can.places;
+      here = ap (λ (fs : Files). slot fs d) (now-files now-one)
+          ∙ still-there;
+      few = can.few;
+      packed = can.packed;
+    }
 
     -- its number is in use
     pub number-after : slot mid.files n ≢ None
@@ -120,9 +136,12 @@ module _ (t : FileTree) {d : ℕ} {name : List ℕ} {n : ℕ} (thing : Thing) (c
           rw (told_err s told) (record {
             stored = TellsFull-weaker (λ why. lacks-room (inr (elim why [
               | inl long ↦ inl long
-              | inr full ↦ inr (omega (arith, full,
-                  ap blocks_of (ap (λ (fs : Files). put fs d becomes) (now-files now-one)),
-                  ap (λ (t : FileTree). t.block_limit) now-one.is))
+              | inr full ↦ inr (omega (
+                arith,
+                full,
+                ap blocks_of (ap (λ (fs : Files). put fs d becomes) (now-files now-one)),
+                ap (λ (t : FileTree). t.block_limit) now-one.is,
+              ))
             ]))) fault last.done;
             owns = Owns-after now-one.later last.owns;
           })
@@ -131,10 +150,10 @@ module _ (t : FileTree) {d : ℕ} {name : List ℕ} {n : ℕ} (thing : Thing) (c
         named-is : now ≡ record t { files = all; failures = now.failures }
         named-is =
             (tells directory-after).done
-                ∙ ap (λ (t : FileTree). record t { files = put mid.files d becomes; failures = now.failures })
-                now-one.is
+            ∙ ap (λ (t : FileTree). record t { files = put mid.files d becomes; failures = now.failures })
+            now-one.is
             ∙ ap (λ (fs : Files). record t { files = fs; failures = now.failures })
-                (ap (λ (fs : Files). put fs d becomes) (now-files now-one) ∙ sym added-put)
+            (ap (λ (fs : Files). put fs d becomes) (now-files now-one) ∙ sym added-put)
 
         pub named-up : t.failed ≡ false → now.failed ≡ false
         named-up up = ap (λ (t : FileTree). t.failed) named-is ∙ up
@@ -147,8 +166,12 @@ module _ (t : FileTree) {d : ℕ} {name : List ℕ} {n : ℕ} (thing : Thing) (c
                 named-is,
                 has-room (whole.short n (node_for n d thing) (ap (λ (fs : Files). slot fs n) files ∙ here thing can))
                     (whole.short d becomes (ap (λ (fs : Files). slot fs d) files ∙ added-above))
-                    (omega (arith, whole.within, ap blocks_of (files ∙ added-put),
-                        ap (λ (t : FileTree). t.block_limit) named-is)),
+                    (omega (
+                      arith,
+                      whole.within,
+                      ap blocks_of (files ∙ added-put),
+                      ap (λ (t : FileTree). t.block_limit) named-is,
+                    )),
               );
               owns = Owns-after now-one.later (tells directory-after).owns;
             }

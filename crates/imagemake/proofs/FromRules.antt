@@ -24,8 +24,12 @@ count-cons p x xs = sum_by-cons (λ y. cond (p y) 1 0) x xs
 pub count_by-none : {X : Type 0} (p : X → Bool) (xs : List X) → All (λ x. p x ≡ false) xs → count_by p xs ≡ 0
 count_by-none p [] h = refl
 count_by-none p (x ∷ xs) h =
-    omega (arith, count-cons p x xs, counted-none (All-head (λ y. p y ≡ false) x xs h),
-    count_by-none p xs (All-tail (λ y. p y ≡ false) x xs h))
+    omega (
+      arith,
+      count-cons p x xs,
+      counted-none (All-head (λ y. p y ≡ false) x xs h),
+      count_by-none p xs (All-tail (λ y. p y ≡ false) x xs h),
+    )
 
 -- what is counted stands somewhere
 pub record IsAmong {X : Type 0} (p : X → Bool) (xs : List X) (d : X) : Type 0 where
@@ -47,8 +51,12 @@ pub good-from : (es : List Entry) → count_by (λ (e : Entry). not (is_name e.n
     → All (λ (e : Entry). IsTrue (is_name e.name)) es
 good-from es none k d l = elim (cases_Bool (is_name (get_or es k d).name)) [
   | inl t ↦ t
-  | inr f ↦ absurd (omega (arith, none, count_by-item (λ (e : Entry). not (is_name e.name)) es k d l,
-      counted-one (ap not f)))
+  | inr f ↦ absurd (omega (
+    arith,
+    none,
+    count_by-item (λ (e : Entry). not (is_name e.name)) es k d l,
+    counted-one (ap not f),
+  ))
 ]
 
 -- ---- each name once
@@ -78,12 +86,16 @@ once-count (x ∷ es) h name =
       | inl t ↦
           let is = (bytes_eq-Decides x.name name).0 t in
           let none = count_by-none test es
-                  (λ k d l. false_from_ne_true (bytes_eq (get_or es k d).name name)
-                  (λ s. h 0 (suc k) d (omega arith) (omega arith)
-                  (is ∙ sym ((bytes_eq-Decides (get_or es k d).name name).0 s)))) in
+          (λ k d l. false_from_ne_true (bytes_eq (get_or es k d).name name)
+          (λ s. h 0 (suc k) d (omega arith) (omega arith)
+          (is ∙ sym ((bytes_eq-Decides (get_or es k d).name name).0 s)))) in
           omega (arith, count-cons test x es, none, counted-one t)
-      | inr f ↦ omega (arith, count-cons test x es, counted-none f,
-          once-count es (λ i j d l m. h (suc i) (suc j) d (omega arith) (omega arith)) name)
+      | inr f ↦ omega (
+        arith,
+        count-cons test x es,
+        counted-none f,
+        once-count es (λ i j d l m. h (suc i) (suc j) d (omega arith) (omega arith)) name,
+      )
     ]
 
 -- ---- the directory that names a node
@@ -110,7 +122,7 @@ pub parent-names : (files : Files) (n : ℕ) → n ≢ 1 → 1 ≤ names_of file
     → 1 ≤ names_by (slot files (parent_of files n)) n
 parent-names files n other some =
     let has = reaching.parent-has files (λ x. 1 ≤ names_by (slot files x.0) x.1.number) (each-names files) n other some
-            in
+    in
     subst (λ m. 1 ≤ names_by (slot files (parent_of files n)) m) has.1 has.2
 
 -- ---- files of a running machine whose nodes all have links keep the rules of files at rest
@@ -133,39 +145,42 @@ folders-are files d links places here =
 
 module _ {files : Files} (keeps : KeepsTree files) (linked : HasLinked files) where
   module _ (d links : ℕ) (places : List (Option Entry)) (here : slot files d ≡ Some (Directory (suc links) places))
-      where
-    live : IsLive files d links places
-    live = subst (KeepsLive files d) here (keeps.nodes d)
+    where
+      live : IsLive files d links places
+      live = subst (KeepsLive files d) here (keeps.nodes d)
 
-    named : names_of files d ≡ cond (d == 1) 0 1
-    named = keeps.named d ∙ ap (names_for d) here
+      named : names_of files d ≡ cond (d == 1) 0 1
+      named = keeps.named d ∙ ap (names_for d) here
 
-    parent-is : live.up ≡ parent_of files d
-    parent-is = elim (cases_eq d 1) [
-      | inl e ↦ live.above.root e ∙ sym (ap (parent_of files) e ∙ parent_root files)
-      | inr s ↦ sym (parent-only files d live.up s (named ∙ cond-false (d == 1) 0 1 (ne_eqb d 1 s))
-          (live.above.names s))
-    ]
+      parent-is : live.up ≡ parent_of files d
+      parent-is = elim (cases_eq d 1) [
+        | inl e ↦ live.above.root e ∙ sym (ap (parent_of files) e ∙ parent_root files)
+        | inr s ↦ sym (parent-only files d live.up s (named ∙ cond-false (d == 1) 0 1 (ne_eqb d 1 s))
+            (live.above.names s))
+      ]
 
-    directory-kept : IsDirectory files d (suc links) places
-    directory-kept = record {
-      own = live.own;
-      parent = live.parent ∙ ap (λ (p : ℕ). Some (record { name = dot_dot; number = p })) parent-is;
-      names = good-from (entries places) live.good;
-      once = once-from (entries places) live.once;
-      numbers = λ k e l. named-used keeps (get_or (entries places) k e).number
-          (entry-names files d _ places here k e l);
-      named = named;
-      counted = omega (arith, live.counted, folders-are files d (suc links) places here);
-    }
+      directory-kept : IsDirectory files d (suc links) places
+      directory-kept = record {
+        own = live.own;
+        parent = live.parent ∙ ap (λ (p : ℕ). Some (record { name = dot_dot; number = p })) parent-is;
+        names = good-from (entries places) live.good;
+        once = once-from (entries places) live.once;
+        numbers = λ k e l. named-used keeps (get_or (entries places) k e).number
+            (entry-names files d _ places here k e l);
+        named = named;
+        counted = omega (arith, live.counted, folders-are files d (suc links) places here);
+      }
 
   node-kept : (n : ℕ) (o : Option Node) → slot files n ≡ o → KeepsNode files n o
   node-kept n None here = tt
   node-kept n (Some (Directory zero places)) here = absurd (let some = linked n _ here in omega arith)
   node-kept n (Some (Directory (suc links) places)) here = directory-kept n links places here
   node-kept n (Some node) here =
-      record { counted = sym (keeps.named n ∙ ap (names_for n) here); least = linked n node here;
-      most = subst (KeepsLive files n) here (keeps.nodes n) }
+      record {
+        counted = sym (keeps.named n ∙ ap (names_for n) here);
+        least = linked n node here;
+        most = subst (KeepsLive files n) here (keeps.nodes n);
+      }
 
   nodes-kept : (n : ℕ) → KeepsNode files n (slot files n)
   nodes-kept n = node-kept n (slot files n) refl
@@ -179,7 +194,7 @@ module _ {files : Files} (keeps : KeepsTree files) (linked : HasLinked files) wh
       let up = (live n links places here).up in
       let names = (live n links places here).above.names s in
       Climbs-child files n (subst (Climbs files) (parent-is n links places here)
-          (next up (naming-directory files up n names) (keeps.ranked up n names h)))
+      (next up (naming-directory files up n names) (keeps.ranked up n names h)))
   climbs-above n _ here h s next =
       absurd (false≢true (sym (ap (λ o. unwrap_or (option_map is_directory o) false) here) ∙ h))
 
@@ -248,7 +263,7 @@ module _ {files : Files} (rules : KeepsRules files) where
       (all-entries files (λ e. (e.1.number == n) ≡ false) (λ d k e l.
       let x = get_or (entries_of (slot files d)) k e in
       ne_eqb _ n (λ same. false≢true
-          (sym (ap is_some (ap (slot files) same ∙ free)) ∙ entry-numbers d (slot files d) (rules.nodes d) k e l))))
+      (sym (ap is_some (ap (slot files) same ∙ free)) ∙ entry-numbers d (slot files d) (rules.nodes d) k e l))))
 
   -- ---- directories
 
@@ -306,13 +321,13 @@ module _ {files : Files} (rules : KeepsRules files) where
       let once = directory-once n directory in
       let some : 1 ≤ names_of files n = omega (arith, h, names_by-le files d n) in
       let other : n ≢ 1 = λ e. let none : names_of files n ≡ 0 = once
-              ∙ cond-true (n == 1) 0 1 (eq-eqb n 1 e) in absurd (omega arith) in
+      ∙ cond-true (n == 1) 0 1 (eq-eqb n 1 e) in absurd (omega arith) in
       let parent = parent-only files n d other (once ∙ cond-false (n == 1) 0 1 (ne_eqb n 1 other)) h in
       let above = naming-directory files d n h in
       let way = climbs d above in
       let root : ancestor files (suc way.steps) n ≡ 1 = ap (ancestor files way.steps) parent ∙ way.root in
       let high : rank n ≡ suc (level files way.steps d) = rank-is n directory (suc way.steps) root
-              ∙ level-next files way.steps n other ∙ ap (λ p. suc (level files way.steps p)) parent in
+      ∙ level-next files way.steps n other ∙ ap (λ p. suc (level files way.steps p)) parent in
       omega (arith, high, rank-is d above way.steps way.root)
 
   -- ---- the root

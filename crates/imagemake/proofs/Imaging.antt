@@ -48,7 +48,7 @@ module _ (g : Geometry) (blocks : List (List ℕ)) (sound : IsSound g blocks) wh
   HasSuper-sound : HasSuper image
   HasSuper-sound =
       HasSuper-from blocks sound.parts.sizes two (super_of (device.block_at blocks 1)) refl
-          (sound.head.size ∙ sym sound.parts.count) (ap (λ (f : Format). f.most) same-format) sound.head.numbers
+      (sound.head.size ∙ sym sound.parts.count) (ap (λ (f : Format). f.most) same-format) sound.head.numbers
 
   pub readable : (n : ℕ) → IsInode blocks g.inodes n → IsReadable g blocks n
   readable n i = record {
@@ -73,8 +73,8 @@ module _ (g : Geometry) (blocks : List (List ℕ)) (sound : IsSound g blocks) wh
       let low = r.0 in
       let high = r.1 in
       and_from _ _ (le-leb (data_start (size_in image) (inodes_in image)) (slot_of blocks n k)
-          (omega (arith, legible.size, legible.inodes)))
-          (lt-ltb (slot_of blocks n k) (size_in image) (omega (arith, legible.size)))
+      (omega (arith, legible.size, legible.inodes)))
+      (lt-ltb (slot_of blocks n k) (size_in image) (omega (arith, legible.size)))
 
   HasAddresses-sound : HasAddresses image
   HasAddresses-sound =
@@ -99,7 +99,7 @@ module _ (g : Geometry) (blocks : List (List ℕ)) (sound : IsSound g blocks) wh
       → p < length (blocks_in image m) → q < length (blocks_in image n)
       → get_or (blocks_in image m) p d ≡ get_or (blocks_in image n) q e
       → (m ≡ n) × (asked_slot (disk.blocks_for (disk.inode_at blocks m).size) p
-          ≡ asked_slot (disk.blocks_for (disk.inode_at blocks n).size) q)
+      ≡ asked_slot (disk.blocks_for (disk.inode_at blocks n).size) q)
   same-slot m n p q d e i j l k same =
       sound.once m _ n _
       (record { inode = i; slot = listed-asks g blocks m (readable m i).has p l })
@@ -113,7 +113,7 @@ module _ (g : Geometry) (blocks : List (List ℕ)) (sound : IsSound g blocks) wh
       (λ n low high p q d l m e.
       let i = lists n q low (omega arith) m in
       let same = listed-once g blocks n (readable n i).has p q (omega arith) m
-              (same-slot n n p q d d i i (omega arith) m e).1 in
+      (same-slot n n p q d d i i (omega arith) m e).1 in
       absurd (omega arith))
       (λ m n low l high p d p_in q e q_in same.
       let i = lists m p low (omega arith) p_in in
@@ -125,7 +125,7 @@ module _ (g : Geometry) (blocks : List (List ℕ)) (sound : IsSound g blocks) wh
   HasBitmap-sound b h =
       let within : b < g.size = omega (arith, legible.size) in
       let one = subst (λ t. Decides t (disk.bit_of blocks (bitmap_start_of g.inodes) b ≡ 1))
-              (sym (bit-held g blocks legible b within)) (Decides-eqb _ 1) in
+      (sym (bit-held g blocks legible b within)) (Decides-eqb _ 1) in
       same_from_decides _ _
       (Decides-like _ (sound.marked b within).0 (sound.marked b within).1 one) (named-decides g blocks legible b)
 
@@ -171,7 +171,7 @@ module _ {size : ℕ} {blocks : List (List ℕ)} {files : Files} (stored : IsSto
     stands-node node raw fits =
         let known = stored.sound.kinds n i.low i.high in
         let told = node-kind (image_of blocks) n node (omega (arith, known, kind-located g blocks parts n i.high))
-                (sym (kind-told g blocks parts n i.high) ∙ raw.kind) in
+        (sym (kind-told g blocks parts n i.high) ∙ raw.kind) in
         record {
           kind = told.0;
           links = sym (links-located g blocks parts n i.high) ∙ raw.links;
@@ -190,8 +190,8 @@ module _ {size : ℕ} {blocks : List (List ℕ)} {files : Files} (stored : IsSto
   stands n low high = elim (cases_eq (disk.inode_at blocks n).kind 0) [
     | inl free ↦
         subst (Stands (image_of blocks) n)
-            (sym (free-held (slot files n)
-            (subst (λ raw. Agrees raw (slot files n)) (node_at-none blocks n (inr free)) (agrees n high))))
+        (sym (free-held (slot files n)
+        (subst (λ raw. Agrees raw (slot files n)) (node_at-none blocks n (inr free)) (agrees n high))))
         (sym (kind-located g blocks parts n high) ∙ free)
     | inr used ↦
         stands-used n (record { low = low; high = high; kind = used }) _
@@ -218,9 +218,11 @@ blank-made {g = g} new is =
     subst (IsBlank g) (sym is) (record { numbers = refl; nodes = new.nodes; free = new.free; up = refl })
 
 slot-none : (n m : ℕ) → get_or (replicate {A = Option RawNode} n None) m None ≡ None
-slot-none n m = elim (cases_lt m n)
-    [ inl l ↦ get_or-replicate n m None None l | inr r ↦ get_or_past _ m None
-    (omega (arith, length-replicate {A = Option RawNode} n None)) ]
+slot-none n m = elim (cases_lt m n) [
+  | inl l ↦ get_or-replicate n m None None l
+  | inr r ↦ get_or_past _ m None
+      (omega (arith, length-replicate {A = Option RawNode} n None))
+]
 
 -- its tree has no file
 pub record IsBareTree (g : Geometry) (tree : FileTree) : Type 0 where
@@ -231,44 +233,44 @@ pub record IsBareTree (g : Geometry) (tree : FileTree) : Type 0 where
   pub size : tree.size ≡ g.size
 
 module _ {D : Type 0} {g : Geometry} {s : Store D} (possible : IsPossible g) (blank : IsBlank g s) (whole : IsWhole s)
-    where
-  pub blank-stores : Stores s (free_slots g.inodes)
-  blank-stores =
-      let free = blank.free in
-      let room = possible.room in
-      let all : s.free + blocks_of (free_slots g.inodes) ≡ data_blocks_of g.size g.inodes =
-              omega (arith, no-files g.inodes) in
-      record {
-        whole = whole;
-        nodes = record {
-          count = ap length blank.nodes ∙ length-replicate {A = Option RawNode} g.inodes None
-              ∙ sym (length-free g.inodes);
-          each = λ n l. rw (blank.nodes, slot-none g.inodes n, slot-free g.inodes n) tt;
-        };
-        free = all ∙ ap (λ (g : Geometry). data_blocks_of g.size g.inodes) (sym blank.numbers);
-        places = λ n. subst FitsPlaces (sym (slot-free g.inodes n)) tt;
-      }
+  where
+    pub blank-stores : Stores s (free_slots g.inodes)
+    blank-stores =
+        let free = blank.free in
+        let room = possible.room in
+        let all : s.free + blocks_of (free_slots g.inodes) ≡ data_blocks_of g.size g.inodes =
+        omega (arith, no-files g.inodes) in
+        record {
+          whole = whole;
+          nodes = record {
+            count = ap length blank.nodes ∙ length-replicate {A = Option RawNode} g.inodes None
+                ∙ sym (length-free g.inodes);
+            each = λ n l. rw (blank.nodes, slot-none g.inodes n, slot-free g.inodes n) tt;
+          };
+          free = all ∙ ap (λ (g : Geometry). data_blocks_of g.size g.inodes) (sym blank.numbers);
+          places = λ n. subst FitsPlaces (sym (slot-free g.inodes n)) tt;
+        }
 
-  pub bare-tree : {tree : FileTree} {identity : List ℕ} → tree ≡ tree_with identity s (replicate s.geometry.inodes 0)
-      → IsBareTree g tree
-  bare-tree {tree} is =
-      let files : tree.files ≡ free_slots g.inodes = ap (λ (t : FileTree). t.files) is ∙ files-are blank-stores in
-      let long = ap length files ∙ length-free _ in
-      record {
-        up = ap (λ (t : FileTree). t.failed) is ∙ blank.up;
-        long = long;
-        none = files ∙ ap free_slots (sym long);
-        limit = ap (λ (t : FileTree). t.block_limit) is
-            ∙ ap (λ (g : Geometry). data_blocks_of g.size g.inodes) blank.numbers;
-        size = ap (λ (t : FileTree). t.size) is ∙ ap (λ (g : Geometry). g.size) blank.numbers;
-      }
+    pub bare-tree : {tree : FileTree} {identity : List ℕ} → tree ≡ tree_with identity s (replicate s.geometry.inodes 0)
+        → IsBareTree g tree
+    bare-tree {tree} is =
+        let files : tree.files ≡ free_slots g.inodes = ap (λ (t : FileTree). t.files) is ∙ files-are blank-stores in
+        let long = ap length files ∙ length-free _ in
+        record {
+          up = ap (λ (t : FileTree). t.failed) is ∙ blank.up;
+          long = long;
+          none = files ∙ ap free_slots (sym long);
+          limit = ap (λ (t : FileTree). t.block_limit) is
+              ∙ ap (λ (g : Geometry). data_blocks_of g.size g.inodes) blank.numbers;
+          size = ap (λ (t : FileTree). t.size) is ∙ ap (λ (g : Geometry). g.size) blank.numbers;
+        }
 
 -- ---- numbers that an image can have
 
 pub possible : {size inodes : ℕ} → true ≡ has_numbers size inodes → IsPossible (record { size = size; inodes = inodes })
 possible {size} {inodes} told =
     let a = and_parts (nat_le 32 size && nat_le size format.most && nat_le 16 inodes && nat_le inodes 8192)
-            (nat_lt (data_start size inodes) size) (sym told) in
+    (nat_lt (data_start size inodes) size) (sym told) in
     let b = and_parts (nat_le 32 size && nat_le size format.most && nat_le 16 inodes) (nat_le inodes 8192) a.0 in
     let c = and_parts (nat_le 32 size && nat_le size format.most) (nat_le 16 inodes) b.0 in
     let d = and_parts (nat_le 32 size) (nat_le size format.most) c.0 in
@@ -332,8 +334,12 @@ module _ {old mid : FileTree} {files : Files} (now : IsNow old mid files) (long 
       → OnOk r (MakesEntries old new entries)
   makes-all new (Err fault) makes = tt
   makes-all new (Ok u) makes =
-      record { is = made-same ∙ makes.is; rest = makes.rest
-      ∙ ap (λ (t : FileTree). record t { files = new.files; failures = new.failures }) now.is; rules = makes.rules }
+      record {
+        is = made-same ∙ makes.is;
+        rest = makes.rest
+            ∙ ap (λ (t : FileTree). record t { files = new.files; failures = new.failures }) now.is;
+        rules = makes.rules;
+      }
 
   pub refuses-all : (r : Result (Unit {0}) MakeFault) → IfErr r (λ fault. Refuses (made_by mid entries) fault)
       → IfErr r (λ fault. Refuses (made_by old entries) fault)

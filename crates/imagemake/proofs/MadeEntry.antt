@@ -61,9 +61,9 @@ module _ {files : Files} {d : ℕ} {name : List ℕ} {n : ℕ} (thing : Thing) (
   unfolding added
   added-is =
       ap (λ o. put (set files d (option_map (λ node. linked thing (appended entry node)) o)) n (node_for n d thing))
-          can.directory
+      can.directory
       ∙ ap (λ node. put (put files d node) n (node_for n d thing)) (linked-directory thing can.links places_more)
-          ∙ set_comm files d n (Some named) (Some (node_for n d thing)) apart
+      ∙ set_comm files d n (Some named) (Some (node_for n d thing)) apart
 
   pub here : slot (added files d name n thing) n ≡ Some (node_for n d thing)
   here = ap (λ fs. slot fs n) added-is
@@ -74,8 +74,11 @@ module _ {files : Files} {d : ℕ} {name : List ℕ} {n : ℕ} (thing : Thing) (
   above =
       ap (λ fs. slot fs d) added-is
       ∙ get_or-set_same _ d _ None
-          (omega (arith, slot-within files d (Directory can.links can.places) can.directory,
-          length-set files n (Some (node_for n d thing))))
+      (omega (
+        arith,
+        slot-within files d (Directory can.links can.places) can.directory,
+        length-set files n (Some (node_for n d thing)),
+      ))
 
   pub long : length (added files d name n thing) ≡ length files
   long = ap length added-is ∙ length-set _ d _ ∙ length-set files n _
@@ -85,10 +88,10 @@ module _ {files : Files} {d : ℕ} {name : List ℕ} {n : ℕ} (thing : Thing) (
       → ((m : ℕ) → m ≢ n → m ≢ d → P m (slot files m)) → (m : ℕ) → P m (slot (added files d name n thing) m)
   each-more P new grown rest m =
       at_or (λ k. P k (slot (added files d name n thing) k)) n m (subst (P n) (sym here) new)
-          (λ s. at_or (λ k. P k (slot (added files d name n thing) k)) d m (subst (P d) (sym above) grown) (λ t.
+      (λ s. at_or (λ k. P k (slot (added files d name n thing) k)) d m (subst (P d) (sym above) grown) (λ t.
       subst (P m)
       (sym (ap (λ fs. slot fs m) added-is ∙ get_or-set_other (put files n (node_for n d thing)) d m (Some named) None t
-          ∙ get_or-set_other files n m (Some (node_for n d thing)) None s)) (rest m s t)))
+      ∙ get_or-set_other files n m (Some (node_for n d thing)) None s)) (rest m s t)))
 
 -- ---- files with an entry more keep the rules of files at rest: a call on names makes them, which keeps those of a
 -- running machine
@@ -138,12 +141,17 @@ module _ {files : Files} (rules : KeepsRules files) {d : ℕ} {name : List ℕ} 
       enters : enter (put files n node) at n ≡ Some (longer (suc links))
       enters =
           let held : HasDirectory files d =
-                  record { links = can.links; places = can.places; here = can.directory; few = can.few;
-                  packed = can.packed } in
+          record {
+            links = can.links;
+            places = can.places;
+            here = can.directory;
+            few = can.few;
+            packed = can.packed;
+          } in
           let stays = get_or-set_other files n d (Some node) None (apart thing can) ∙ before in
           enter-room _ at n links _ stays _ (sym (room-end-at held refl few))
           ∙ ap Some (entered-is _ d _ _ stays _ _)
-              ∙ ap (λ ps. Some (put (put files n node) d (Directory (suc links) ps))) (placed-end _ _)
+          ∙ ap (λ ps. Some (put (put files n node) d (Directory (suc links) ps))) (placed-end _ _)
 
       abbrev made : Made
       made = record { files = longer (suc links); number = n }
@@ -153,8 +161,8 @@ module _ {files : Files} (rules : KeepsRules files) {d : ℕ} {name : List ℕ} 
       unfolding make_at
       makes nodes is =
           let free : free_number files ≡ Some n =
-                  number-lowest files n can.number.low can.number.high (λ m l u. none-not (slot files m) (used m l u))
-                  can.number.unused in
+          number-lowest files n can.number.low can.number.high (λ m l u. none-not (slot files m) (used m l u))
+          can.number.unused in
           rw (free, is, enters) refl
 
     changed : (thing : Thing) → KeepsSize (slot (added files d name n thing) n)
@@ -163,20 +171,23 @@ module _ {files : Files} (rules : KeepsRules files) {d : ℕ} {name : List ℕ} 
         let was = Directory (suc links) (places_more Folder can) in
         let one = put files n (node_for n d Folder) in
         let within : d < length one =
-                omega (arith, slot-within files d (Directory can.links can.places) can.directory,
-                length-set files n (Some (node_for n d Folder))) in
+        omega (
+          arith,
+          slot-within files d (Directory can.links can.places) can.directory,
+          length-set files n (Some (node_for n d Folder)),
+        ) in
         subst (Changed files) (change-is (put one d was) d more_links was
-            (get_or-set_same one d (Some was) None within) ∙ set-set one d (Some was) (Some (more_links was))
+        (get_or-set_same one d (Some was) None within) ∙ set-set one d (Some was) (Some (more_links was))
         ∙ ap (λ k. put one d (Directory (k + 1) (places_more Folder can))) links-are ∙ sym (added-is Folder can))
         (makes-directory (KeepsTree-rules rules)
-            at gap (made Folder short short_above) (makes Folder short short_above (new_directory d) refl))
+        at gap (made Folder short short_above) (makes Folder short short_above (new_directory d) refl))
     changed thing short short_above =
         subst (Changed files) (ap (λ k. put (put files n (node_for n d thing)) d (Directory k (places_more thing can)))
-            links-are ∙ sym (added-is thing can))
+        links-are ∙ sym (added-is thing can))
         (makes-file (KeepsTree-rules rules)
-            at gap (λ m. node_for m d thing)
-            (λ m. record { kind = refl; links = refl; size = subst KeepsSize (here thing can) short })
-            (made thing short short_above)
+        at gap (λ m. node_for m d thing)
+        (λ m. record { kind = refl; links = refl; size = subst KeepsSize (here thing can) short })
+        (made thing short short_above)
         (makes thing short short_above (λ m. node_for m d thing) refl))
 
     pub KeepsRules-more : (thing : Thing) → KeepsSize (slot (added files d name n thing) n)
@@ -199,16 +210,16 @@ keeps_size (Some node) h = leb-true _ longest h
 pub IsBegun-more : {blocks inodes : ℕ} {files : Files} {n : ℕ} → IsBegun blocks inodes files n
     → {d : ℕ} {name : List ℕ} (thing : Thing) (can : CanAdd files d name n) → lookup files d name ≡ None
     → if_room blocks d n (added files d name n thing) ≡ Ok (added files d name n thing)
-        → IsBegun blocks inodes (added files d name n thing) (n + 1)
+    → IsBegun blocks inodes (added files d name n thing) (n + 1)
 IsBegun-more {blocks} {inodes} {files} {n} b {d} {name} thing can absent fits =
     let more = added files d name n thing in
     let next : 2 ≤ n = b.next in
     let s = and_parts (is_short more n && is_short more d) (nat_le (blocks_of more) blocks)
-            (passes (is_short more n && is_short more d && nat_le (blocks_of more) blocks) more fits) in
+    (passes (is_short more n && is_short more d && nat_le (blocks_of more) blocks) more fits) in
     let t = and_parts (is_short more n) (is_short more d) s.0 in
     let kept_free = each-more thing can (λ m o. m ≢ n → slot files m ≡ None → o ≡ None) (λ s _. absurd (s refl))
-            (λ _ free. absurd (none-some (Directory can.links can.places) (sym free ∙ can.directory)))
-            (λ m s t _ free. free) in
+    (λ _ free. absurd (none-some (Directory can.links can.places) (sym free ∙ can.directory)))
+    (λ m s t _ free. free) in
     record {
       rules = KeepsRules-more b.rules can b.used absent thing (keeps_size (slot more n) t.0)
           (keeps_size (slot more d) t.1);
@@ -248,11 +259,15 @@ module _ {files : Files} (rules : KeepsRules files) (d : ℕ) where
   differ i j l h same =
       let n = number i in
       let both = twice (λ (e : Entry). e.number == n) _ i j (record { name = []; number = 0 }) l h (eq-eqb n n refl)
-              (eq-eqb _ n (sym same)) in
+      (eq-eqb _ n (sym same)) in
       let once = directory-once rules n (directory i (omega arith)) in
-      omega (arith, names_by-le files d n, most-one (n == 1),
-          sum_by-filter_both leads_in (λ e. not (leads_in e)) (λ e. refl) (λ (e : Entry). cond (e.number == n) 1 0)
-          entries)
+      omega (
+        arith,
+        names_by-le files d n,
+        most-one (n == 1),
+        sum_by-filter_both leads_in (λ e. not (leads_in e)) (λ e. refl) (λ (e : Entry). cond (e.number == n) 1 0)
+            entries,
+      )
 
   pub few-directories : subdirectories files d ≤ length files
   unfolding subdirectories
@@ -261,7 +276,7 @@ module _ {files : Files} (rules : KeepsRules files) (d : ℕ) where
     length-filter leads_in entries,
     pigeonhole _ _ number
         (λ k l. let at = directory-at (slot files (number k)) (directory k l)
-            in below-slot files (number k) (ap is_some at.2)) (λ i j l h same. elim (cases_lt i j) [
+        in below-slot files (number k) (ap is_some at.2)) (λ i j l h same. elim (cases_lt i j) [
           | inl low ↦ absurd (differ i j low h same)
           | inr high ↦ elim (cases_lt j i) [ inl low ↦ absurd (differ j i low l (sym same)) | inr k ↦ omega arith ]
         ]),

@@ -62,7 +62,7 @@ position-push : {X : Type 0} (p : X → Bool) (xs : List X) (x : X)
     → position p (xs ++ x ∷ []) ≡ option_or (position p xs) (cond (p x) (Some (length xs)) None)
 position-push p xs x =
     ap (λ k. cond (nat_lt (position_or_len p (xs ++ x ∷ [])) k) (Some (position_or_len p (xs ++ x ∷ []))) None)
-        (length_push xs x)
+    (length_push xs x)
     ∙ push_step _ _ _ _ (prefix_len-le-length (λ y. not (p y)) xs) (position_or_len_push p xs x)
 
 slice_get-other : {X : Type 0} (xs : List X) (x : X) (k : ℕ) → k ≢ length xs
@@ -90,8 +90,11 @@ module _ (made : List MadeName) (x : MadeName) where
   folder-new =
       let at : length made + 2 - 2 ≡ length made = omega arith in
       is_folder-high _ _ (omega arith)
-      ∙ rw (at, slice_get_read (made ++ x ∷ []) _ (length made) x refl (omega (arith, length_push made x))
-          (sym (get_or-append_seam made x [] x))) refl
+      ∙ rw (
+        at,
+        slice_get_read (made ++ x ∷ []) _ (length made) x refl (omega (arith, length_push made x))
+            (sym (get_or-append_seam made x [] x)),
+      ) refl
 
   folder-other : (m : ℕ) → m ≢ length made + 2 → is_folder (made ++ x ∷ []) m ≡ is_folder made m
   folder-other m s = elim (cases_lt m 2) [
@@ -112,9 +115,9 @@ nothing-found : (n d : ℕ) (thing : Thing) (w : List ℕ) → is_name w ≡ tru
 nothing-found n d Folder w good =
     let dots = or_parts (bytes_eq w dot) (bytes_eq w dot_dot) (IsGiven-name w good).no_dots in
     ap₂ (λ s t. entry_number
-        (cond s (Some (record { name = dot; number = n }))
-        (cond t (Some (record { name = dot_dot; number = d })) None))) (other_bytes dot w dots.0)
-        (other_bytes dot_dot w dots.1)
+    (cond s (Some (record { name = dot; number = n }))
+    (cond t (Some (record { name = dot_dot; number = d })) None))) (other_bytes dot w dots.0)
+    (other_bytes dot_dot w dots.1)
 nothing-found n d thing w good = refl
 
 option_or-none : {X : Type 0} (o : Option X) → option_or o None ≡ o
@@ -130,12 +133,12 @@ module _ {files : Files} (rules : KeepsRules files) {d : ℕ} {name : List ℕ} 
   lookup-more w good k =
       let some : 1 ≤ can.links = let c = (directory-kept rules can).counted in omega arith in
       lookup-finds (added files d name n thing) k w
-          ∙ each-more thing can (λ k o. finds w o
-          ≡ option_or (lookup files k w) (cond ((d == k) && bytes_eq name w) (Some n) None))
+      ∙ each-more thing can (λ k o. finds w o
+      ≡ option_or (lookup files k w) (cond ((d == k) && bytes_eq name w) (Some n) None))
       (nothing-found n d thing w good
-          ∙ sym (rw (lookup-finds files n w, can.number.unused, ne_eqb d n (apart thing can)) refl))
+      ∙ sym (rw (lookup-finds files n w, can.number.unused, ne_eqb d n (apart thing can)) refl))
       (finds-live (links_with thing can.links) (places_more thing can) w
-          (omega (arith, links-with thing n d can.links)) ∙ number-push w can.places (entry thing can)
+      (omega (arith, links-with thing n d can.links)) ∙ number-push w can.places (entry thing can)
       ∙ sym (rw (lookup-finds files d w, can.directory, finds-live can.links can.places w some, eq-eqb d d refl) refl))
       (λ m s t. rw (lookup-finds files m w, ne_eqb d m (λ e. t (sym e))) (sym (option_or-none _)))
       k
@@ -153,7 +156,7 @@ module _ {files : Files} (rules : KeepsRules files) {d : ℕ} {name : List ℕ} 
             (λ m o. unwrap_or (option_map is_directory o) false ≡ is_folder (made ++ x ∷ []) m)
             (sym kind ∙ sym (folder-new made x) ∙ ap (is_folder (made ++ x ∷ [])) long)
             (ap (λ o. unwrap_or (option_map is_directory o) false) (sym can.directory) ∙ listed.folders d
-                ∙ sym (folder-other made x d (λ e. apart thing can (e ∙ long))))
+            ∙ sym (folder-other made x d (λ e. apart thing can (e ∙ long))))
             (λ m s t. listed.folders m ∙ sym (folder-other made x m (λ e. s (e ∙ long))));
       }
 
@@ -242,9 +245,12 @@ reach-below {made} leads path rest joined = ap (λ t. reach made 1 (pieces (drop
 pub leads-push : {made : List MadeName} {above : List ℕ} {d : ℕ} → LeadsTo made above d → (x : MadeName)
     → LeadsTo (made ++ x ∷ []) above d
 leads-push {made} leads x =
-    record { below = λ more kept bs. leads.below more
-    (λ d w n told. kept d w n
-    (found-push made x d w ∙ ap (λ o. option_or o (cond (stands_at d w x) (Some (length made + 2)) None)) told)) bs }
+    record {
+      below = λ more kept bs. leads.below more
+          (λ d w n told. kept d w n
+          (found-push made x d w ∙ ap (λ o. option_or o (cond (stands_at d w x) (Some (length made + 2)) None)) told))
+          bs;
+    }
 
 -- ---- the entries of a manifest, one after the other
 
@@ -327,8 +333,11 @@ path-is (b ∷ rest) h = go _ refl h where
       → is_some (cond t (Some (pieces rest)) None) ≡ true → IsPath (b ∷ rest)
   go true e h =
       let both = and_parts (b == 0x2f) (list_all is_name (pieces rest)) e in
-      record { slash = ap (λ c. c ∷ rest) (eqb-true b 0x2f both.0);
-          named = ap (λ t. cond t (Some (pieces rest)) None) e; good = both.1 }
+      record {
+        slash = ap (λ c. c ∷ rest) (eqb-true b 0x2f both.0);
+        named = ap (λ t. cond t (Some (pieces rest)) None) e;
+        good = both.1;
+      }
   go false e h = absurd (false≢true h)
 
 is-none : {X : Type 0} (o : Option X) → is_some o ≡ false → o ≡ None
@@ -346,7 +355,7 @@ split-good [] above last split good = absurd (none-some _ split)
 split-good (w ∷ ws) above last split good =
     let is = split_names w ws ∙ ap (λ (p : List (List ℕ) × List ℕ). p.0 ++ p.1 ∷ []) (same_Some _ _ split) in
     let p = and_parts (list_all is_name above) (list_all is_name (last ∷ []))
-            (sym (list_all-append is_name above (last ∷ [])) ∙ ap (list_all is_name) (sym is) ∙ good) in
+    (sym (list_all-append is_name above (last ∷ [])) ∙ ap (list_all is_name) (sym is) ∙ good) in
     (p.0, (and_parts _ true p.1).0)
 
 -- ---- an entry
@@ -376,9 +385,12 @@ pub spot-reaches : {made : List MadeName} {path : List ℕ} {d : ℕ} {name : Li
     → Reaches made path (Some d) name
 spot-reaches {path = path} spot =
     let is = path-is path (ap is_some spot.named) in
-    record { is = is; above = spot.above;
-        split = ap split_last (same_Some (pieces (drop 1 path)) spot.names (sym is.named ∙ spot.named)) ∙ spot.split;
-        seeks = spot.reached }
+    record {
+      is = is;
+      above = spot.above;
+      split = ap split_last (same_Some (pieces (drop 1 path)) spot.names (sym is.named ∙ spot.named)) ∙ spot.split;
+      seeks = spot.reached;
+    }
 
 module _ {made : List MadeName} {path : List ℕ} {o : Option ℕ} {last : List ℕ} (r : Reaches made path o last) where
   goods : (list_all is_name r.above ≡ true) × (is_name last ≡ true)
@@ -400,8 +412,15 @@ module _ {made : List MadeName} {path : List ℕ} {o : Option ℕ} {last : List 
 module _ {made : List MadeName} {path : List ℕ} {d : ℕ} {last : List ℕ} (r : Reaches made path (Some d) last)
     (folder : is_folder made d ≡ true) where
   pub spot-at : is_some (found made d last) ≡ false → IsSpot made path d last
-  spot-at absent = record { names = pieces (drop 1 path); above = r.above; named = r.is.named; split = r.split;
-      reached = r.seeks; folder = folder; absent = is-none _ absent }
+  spot-at absent = record {
+    names = pieces (drop 1 path);
+    above = r.above;
+    named = r.is.named;
+    split = r.split;
+    reached = r.seeks;
+    folder = folder;
+    absent = is-none _ absent;
+  }
 
   module _ (blocks inodes : ℕ) (files : Files) (n : ℕ) (thing : Thing) (listed : IsListed files made) where
     pub entry-at : with_manifest_entry blocks inodes files n (record { path = path; thing = thing })
@@ -428,7 +447,7 @@ module _ {t : FileTree} {made : List MadeName} (whole : IsWhole t) (is : IsMade 
   pub made-inodes : length made + 2 ≤ length t.files
   made-inodes =
       let last : length made + 1 < length t.files =
-              below-slot t.files _ (is.begun.used _ (omega arith) (omega arith)) in
+      below-slot t.files _ (is.begun.used _ (omega arith) (omega arith)) in
       omega arith
 
   pub made-few : length made < 65536
@@ -468,7 +487,7 @@ module _ {t : FileTree} {made : List MadeName} (whole : IsWhole t) (is : IsMade 
         passed =
             ap (λ p. adding t made (record { path = p; thing = thing })) (sym given_is)
             ∙ entry-spot spot t.block_limit (length t.files) t.files (length made + 2) thing is.listed
-                ∙ rw (lt-leb (length t.files) (length made + 2) room) refl
+            ∙ rw (lt-leb (length t.files) (length made + 2) room) refl
 
         pub AddsEntry-stored : r ≡ Ok tt → {folder : Bool} {now : List MadeName}
             → now ≡ made ++ made_name d name folder ∷ [] → folder ≡ is_directory (node_for (length made + 2) d thing)
@@ -482,7 +501,7 @@ module _ {t : FileTree} {made : List MadeName} (whole : IsWhole t) (is : IsMade 
             let files : new.files ≡ more = ap (λ (t : FileTree). t.files) becomes in
             let next : n + 1 ≡ length (made ++ one ∷ []) + 2 = omega (arith, length_push made one) in
             let begun = IsBegun-more is.begun thing can-add
-                    (is.listed.names d name (last-good (spot-reaches spot)) ∙ spot.absent) kept.stored.1 in
+            (is.listed.names d name (last-good (spot-reaches spot)) ∙ spot.absent) kept.stored.1 in
             record {
               is = passed ∙ kept.stored.1 ∙ ap Ok (sym files);
               rest = becomes ∙ ap (λ (fs : Files). record t { files = fs; failures = new.failures }) (sym files);
@@ -490,11 +509,11 @@ module _ {t : FileTree} {made : List MadeName} (whole : IsWhole t) (is : IsMade 
               longer = ap length pushed ∙ length_push made one;
               made_more = subst (IsMade new) (sym pushed)
                   (subst (λ (x : FileTree). IsMade x (made ++ one ∷ [])) (sym becomes) (record {
-                up = is.up;
-                begun = subst (λ c. IsBegun t.block_limit c more (length (made ++ one ∷ []) + 2)) (sym begun.count)
-                    (subst (IsBegun t.block_limit (length t.files) more) next begun);
-                listed = IsListed-more is.begun.rules thing can-add made refl is.listed is_folder;
-              }));
+                    up = is.up;
+                    begun = subst (λ c. IsBegun t.block_limit c more (length (made ++ one ∷ []) + 2)) (sym begun.count)
+                        (subst (IsBegun t.block_limit (length t.files) more) next begun);
+                    listed = IsListed-more is.begun.rules thing can-add made refl is.listed is_folder;
+                  }));
             }
 
         pub refused-stored : (fault : StoreFault) → r ≡ Err fault → Refuses (adding t made item) (make_fault fault)

@@ -46,9 +46,9 @@ module _ (path : List ℕ) (at i : ℕ)
   all_next good is =
       let e : at + i - at ≡ i = omega arith in
       ap (list_all is_name) (pieces_first (drop at path) i slash
-          ∙ ap (λ bs. take i (drop at path) ∷ pieces bs) (drop-drop (i + 1) at path))
+      ∙ ap (λ bs. take i (drop at path) ∷ pieces bs) (drop-drop (i + 1) at path))
       ∙ ap (λ b. b && list_all is_name (pieces (drop (at + (i + 1)) path)))
-          (ap (λ n. is_name (take n (drop at path))) (sym e) ∙ is)
+      (ap (λ n. is_name (take n (drop at path))) (sym e) ∙ is)
 
 pub good_last : (bs : List ℕ) → position (λ b. b == 0x2f) bs ≡ None → list_all is_name (pieces bs) ≡ is_name bs
 good_last bs none = ap (list_all is_name) (pieces_last bs none) ∙ and-true (is_name bs)
@@ -136,7 +136,7 @@ module _ (k : ℕ × Bor (List ℕ)) where
       let o = position (is_key k) (keys_of es) in
       let missing = Missing-position _ es (no_index es o refl (found-index es o refl ∙ absent)) in
       ap (map name_of) (insert_entry-absent is_key k folder es missing.absent)
-          ∙ map-append name_of es ((k, folder) ∷ [])
+      ∙ map-append name_of es ((k, folder) ∷ [])
 
 -- ---- directories
 

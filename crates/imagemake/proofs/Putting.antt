@@ -88,7 +88,7 @@ module _ (inodes : ℕ) (some : 2 ≤ inodes) where
       → (m : ℕ) → P m (slot (bare_files inodes) m)
   bare-each P root none m =
       at_or (λ k. P k (slot (bare_files inodes) k)) 1 m (subst (P 1) (sym slot-root) root)
-          (λ s. subst (P m) (sym (slot-bare m s)) (none m s))
+      (λ s. subst (P m) (sym (slot-bare m s)) (none m s))
 
   no_entries : all_entries (bare_files inodes) ≡ []
   unfolding all_entries
@@ -108,8 +108,15 @@ module _ (inodes : ℕ) (some : 2 ≤ inodes) where
     named = bare-each (λ m o. names_of (bare_files inodes) m ≡ names_for m o) (nothing-named 1)
         (λ m s. nothing-named m);
     nodes = bare-each (KeepsLive (bare_files inodes))
-        (record { own = refl; up = 1; parent = refl; above = record { root = λ e. refl; names = λ s. absurd (s refl) };
-            good = refl; once = λ name. omega arith; counted = refl }) (λ m s. tt);
+        (record {
+          own = refl;
+          up = 1;
+          parent = refl;
+          above = record { root = λ e. refl; names = λ s. absurd (s refl) };
+          good = refl;
+          once = λ name. omega arith;
+          counted = refl;
+        }) (λ m s. tt);
     depth = λ m. 0;
     ranked = λ d n h directory. absurd (omega (arith, h, names_by-le (bare_files inodes) d n, nothing-named n));
   }
@@ -117,7 +124,7 @@ module _ (inodes : ℕ) (some : 2 ≤ inodes) where
   pub KeepsRules-bare : KeepsRules (bare_files inodes)
   KeepsRules-bare = KeepsRules-live KeepsTree-bare (bare-each (λ m o. (node : Node) → o ≡ Some node → 1 ≤ links_of node)
       (λ node e. subst (λ x. 1 ≤ links_of x) (same_Some (bare_directory 1 1) node e) (omega arith))
-          (λ m s node e. absurd (none-some node e)))
+      (λ m s node e. absurd (none-some node e)))
 
   room_bare : blocks_of (bare_files inodes) ≡ 1
   room_bare =
@@ -156,8 +163,10 @@ module _ {F : Type 0} {fault : F} where
   pub Owns-failed : {T E : Type 0} {a b c : ℕ} {access : Result T E} {e : E} {r : Result (Unit {0}) F} → a ≤ b
       → HasCause b c access → access ≡ Err e → Owns fault a c r
   Owns-failed h cause was =
-      record { later = let l = cause.later in omega arith;
-      failed = λ _. let rises = cause.failed (ap is_err was) in omega arith }
+      record {
+        later = let l = cause.later in omega arith;
+        failed = λ _. let rises = cause.failed (ap is_err was) in omega arith;
+      }
 
   -- the last step tells
   pub Owns-after : {a b c : ℕ} {r : Result (Unit {0}) F} → a ≤ b → Owns fault b c r → Owns fault a c r
@@ -207,10 +216,13 @@ module _ {old mid now : FileTree} {files : Files} (is : IsNow old mid files) {n 
   pub puts-lost : {U E : Type 0} {r : Result U E} {e : E} → HasCause mid.failures now.failures r → r ≡ Err e
       → IsErrAnd s (λ f. f ≡ Device) → Puts old now n node s
   puts-lost cause was told =
-      rw (told_err s told) (record
-      { done = tt; owns = record
-      { later = let l = is.later in let m = cause.later in omega arith;
-      failed = λ _. rises-before is.later (cause.failed (ap is_err was)) } })
+      rw (told_err s told) (record {
+        done = tt;
+        owns = record {
+          later = let l = is.later in let m = cause.later in omega arith;
+          failed = λ _. rises-before is.later (cause.failed (ap is_err was));
+        };
+      })
 
 -- ---- a node is put twice
 
@@ -223,9 +235,16 @@ module _ {old mid : FileTree} (n : ℕ) (a b : Node) (is : IsNow old mid (put ol
 
   pub puts-last : {new : FileTree} (r : Result (Unit {0}) StoreFault) → Puts mid new n b r → Puts old new n b r
   puts-last (Err fault) puts =
-      record { done = TellsFull-weaker
-      (λ lacks. elim lacks [ inl long ↦ inl long | inr full ↦ inr (omega (arith, full, ap blocks_of twice, limit)) ])
-      fault puts.done; owns = Owns-after is.later puts.owns }
+      record {
+        done = TellsFull-weaker
+            (λ lacks. elim lacks [
+              | inl long ↦ inl long
+              | inr full ↦ inr
+                  (omega (arith, full, ap blocks_of twice, limit))
+            ])
+            fault puts.done;
+        owns = Owns-after is.later puts.owns;
+      }
   puts-last {new} (Ok u) puts = record {
     done = puts.done ∙ ap (λ (t : FileTree). record t { files = put mid.files n b; failures = new.failures }) is.is
         ∙ ap (λ (fs : Files). record old { files = fs; failures = new.failures }) twice;
@@ -247,7 +266,7 @@ module _ {old mid : FileTree} {number : ℕ} (node : Node) (free : IsUnnamed old
   pub still-used : (d : ℕ) → slot old.files d ≢ None → slot mid.files d ≢ None
   still-used d some none =
       some (sym (get_or-set_other _ number d _ None (λ e. some (ap (slot old.files) e ∙ free.unused)))
-          ∙ sym (ap (λ (fs : Files). slot fs d) (now-files is)) ∙ none)
+      ∙ sym (ap (λ (fs : Files). slot fs d) (now-files is)) ∙ none)
 
 -- ---- the first two places of a directory
 
@@ -263,8 +282,12 @@ lacks-dots limit files n d here few =
 
 module _ (t : FileTree) (none : t.files ≡ free_slots (length t.files)) (some : 2 ≤ length t.files) where
   pub root-free : IsUnnamed t.files 1
-  root-free = record { low = omega arith; high = omega arith; unused = ap (λ (fs : Files). slot fs 1) none
-      ∙ slot-free _ 1 }
+  root-free = record {
+    low = omega arith;
+    high = omega arith;
+    unused = ap (λ (fs : Files). slot fs 1) none
+        ∙ slot-free _ 1;
+  }
 
   module _ {mid : FileTree} (is : IsNow t mid (put t.files 1 (Directory 1 []))) where
     pub root-bare : slot mid.files 1 ≡ Some (Directory 1 [])
@@ -273,9 +296,14 @@ module _ (t : FileTree) (none : t.files ≡ free_slots (length t.files)) (some :
     -- no block is taken
     pub root-block : 1 ≤ t.block_limit → blocks_of mid.files + 1 ≤ mid.block_limit
     root-block room =
-        omega (arith, ap blocks_of (now-files is),
-            fresh-blocks t.files 1 (Directory 1 []) (record { free = root-free.unused; within = root-free.high }) refl,
-            ap blocks_of none, no-files (length t.files), now-limit is)
+        omega (
+          arith,
+          ap blocks_of (now-files is),
+          fresh-blocks t.files 1 (Directory 1 []) (record { free = root-free.unused; within = root-free.high }) refl,
+          ap blocks_of none,
+          no-files (length t.files),
+          now-limit is,
+        )
 
     pub root-made : put mid.files 1 (bare_directory 1 1) ≡ bare_files (length t.files)
     unfolding bare_files
@@ -326,8 +354,11 @@ lacks-linked limit files d t node h lacks =
     let blocks : blocks_for (size_of (linked t node)) ≡ blocks_for (size_of node) = ap blocks_for size in
     elim lacks [
       | inl long ↦ inl (omega arith)
-      | inr full ↦ inr (omega (arith, blocks_of-set files d (Some node) h,
-          blocks_of-set files d (Some (linked t node)) h))
+      | inr full ↦ inr (omega (
+        arith,
+        blocks_of-set files d (Some node) h,
+        blocks_of-set files d (Some (linked t node)) h,
+      ))
     ]
 
 module _ {files : Files} {d : ℕ} (h : HasDirectory files d) (e : Entry) where
@@ -342,13 +373,13 @@ module _ {files : Files} {d : ℕ} (h : HasDirectory files d) (e : Entry) where
   named-is k room =
       let end = room-some h.places h.packed k room in
       entered-is files d h.links _ h.here k e ∙ ap (λ k. put files d (Directory h.links (placed h.places k e))) end
-          ∙ ap (λ ps. put files d (Directory h.links ps)) (placed-end _ e)
+      ∙ ap (λ ps. put files d (Directory h.links ps)) (placed-end _ e)
 
   module _ (limit : ℕ) (t : Thing) where
     pub lacks-place : None ≡ room_in h.places → LacksRoomFor limit files d (linked t named)
     lacks-place none =
         let many : most_places ≤ length h.places =
-                elim (room-is h.places h.packed) [ inl e ↦ absurd (none-some _ (none ∙ e.1)) | inr e ↦ e.0 ] in
+        elim (room-is h.places h.packed) [ inl e ↦ absurd (none-some _ (none ∙ e.1)) | inr e ↦ e.0 ] in
         lacks-linked limit files d t named within (inl (omega (arith, length_push h.places (Some e))))
 
     pub lacks-growth : (k : ℕ) → room_in h.places ≡ Some k → limit < blocks_of files + (growth h.places k + 0)
@@ -365,12 +396,22 @@ module _ {files : Files} {d : ℕ} (h : HasDirectory files d) (e : Entry) where
 
 module _ {old mid : FileTree} (now : IsNow old mid old.files) {d : ℕ} where
   abbrev pub room-now : {k : ℕ} → HasRoom old.files d k → HasRoom mid.files d k
-  room-now r = record { links = r.links; places = r.places; here = ap (λ (fs : Files). slot fs d) (now-files now)
-      ∙ r.here; room = r.room }
+  room-now r = record {
+    links = r.links;
+    places = r.places;
+    here = ap (λ (fs : Files). slot fs d) (now-files now)
+        ∙ r.here;
+    room = r.room;
+  }
 
   abbrev pub room-was : {k : ℕ} → HasRoom mid.files d k → HasRoom old.files d k
-  room-was r = record { links = r.links; places = r.places; here = ap (λ (fs : Files). slot fs d) (sym (now-files now))
-      ∙ r.here; room = r.room }
+  room-was r = record {
+    links = r.links;
+    places = r.places;
+    here = ap (λ (fs : Files). slot fs d) (sym (now-files now))
+        ∙ r.here;
+    room = r.room;
+  }
 
 abbrev pub room-at : {files : Files} {d k : ℕ} (h : HasDirectory files d) → room_in h.places ≡ Some k
     → HasRoom files d k
@@ -400,8 +441,10 @@ looks-done {old} {now} {T} {Was = Was} {r = r} looks was told = record {
 pub now-looked : {old now : FileTree} {T : Type 0} {Was : T → Type 0} {r : Result T DeviceFault} {x : T}
     → Looks old now r Was → r ≡ Ok x → IsNow old now old.files
 now-looked {old} {now} {Was = Was} looks was =
-    record { is = (IfOk-at_ok (λ x. (now ≡ record old { failures = now.failures }) × Was x) was looks.told).0;
-    later = looks.cause.later }
+    record {
+      is = (IfOk-at_ok (λ x. (now ≡ record old { failures = now.failures }) × Was x) was looks.told).0;
+      later = looks.cause.later;
+    }
 
 -- ---- a file without bytes gets some, where there is room for all of them
 
@@ -455,16 +498,16 @@ module _ (limit : ℕ) (files : Files) (n : ℕ) (bytes : List ℕ) (here : slot
     unfolding fitting
     fill-less less =
         let no = (greatest-tells (λ k. nat_le (blocks_of (with_file files n 1 (overwrite [] 0 (take k bytes)))) limit)
-                (length bytes)).1 (omega (arith, counted)) in
+        (length bytes)).1 (omega (arith, counted)) in
         leb-false (blocks_of (put files n (File 1 bytes))) limit
-            (ap (λ bs. nat_le (blocks_of (put files n (File 1 bs))) limit)
-            (sym (over-none bytes (length bytes) (omega arith))) ∙ no)
+        (ap (λ bs. nat_le (blocks_of (put files n (File 1 bs))) limit)
+        (sym (over-none bytes (length bytes) (omega arith))) ∙ no)
 
     pub fill-whole : length bytes ≤ count → files_after files w ≡ put files n (File 1 bytes)
     unfolding fitting
     fill-whole whole =
         let most = (greatest-tells
-                (λ k. nat_le (blocks_of (with_file files n 1 (overwrite [] 0 (take k bytes)))) limit) (length bytes)).0
-                in
+        (λ k. nat_le (blocks_of (with_file files n 1 (overwrite [] 0 (take k bytes)))) limit) (length bytes)).0
+        in
         let many : length bytes ≤ fit = omega (arith, counted) in
         ap (files_after files) (short fits) ∙ ap (λ bs. put files n (File 1 bs)) (over-none bytes fit many)

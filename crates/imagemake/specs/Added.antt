@@ -78,7 +78,7 @@ pub record Stores (old new : FileTree) (d : ℕ) (name : List ℕ) (n : ℕ) (th
     (result : Result (Unit {0}) StoreFault) : Type 0 where
   pub stored : MatchResult result
       (λ _. HasFiles old new (added old.files d name n thing)
-          × (if_room old.block_limit d n (added old.files d name n thing) ≡ Ok (added old.files d name n thing)))
+      × (if_room old.block_limit d n (added old.files d name n thing) ≡ Ok (added old.files d name n thing)))
       (TellsFull (if_room old.block_limit d n (added old.files d name n thing) ≡ Err Wrong.Blocks))
   pub owns : Owns Device old.failures new.failures result
 

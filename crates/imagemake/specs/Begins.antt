@@ -37,7 +37,7 @@ pub record IsSpot (made : List MadeName) (path : List ℕ) (d : ℕ) (name : Lis
 abbrev pub RefusesPath : List MadeName → List ℕ → MakeFault → Type 0
 RefusesPath made path fault =
     (blocks inodes : ℕ) (files : Files) (n : ℕ) (thing : Thing) → IsListed files made
-        → Refuses (with_manifest_entry blocks inodes files n (record { path = path; thing = thing })) fault
+    → Refuses (with_manifest_entry blocks inodes files n (record { path = path; thing = thing })) fault
 
 -- the files are those of as many entries, which are those of the list
 pub record IsMade (t : FileTree) (made : List MadeName) : Type 0 where

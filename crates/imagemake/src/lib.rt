@@ -38,7 +38,7 @@ pub fn make(
 ) -> Result<Vec<u8>, MakeFault>
     ensures made { IfOk result (λ image. MakesImage (meaning manifest.now.entries.items) size inodes image.items) }
     ensures refused { IfErr result
-            (λ fault. Refuses (files_made (meaning manifest.now.entries.items) size inodes) fault) }
+        (λ fault. Refuses (files_made (meaning manifest.now.entries.items) size inodes) fault) }
 {
     let geometry = Geometry {
         size: size as usize,

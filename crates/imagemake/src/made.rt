@@ -116,7 +116,7 @@ impl<'a> Made<'a> {
         ensures found { IfSome result (ReachesSpot self.now.items path.now) }
         ensures leads { IfSome result (λ spot. LeadsTo self.now.items spot.above.now spot.directory) }
         ensures none { IfNone result
-                ((last : List ℕ) × (reach self.now.items 1 (pieces (drop 1 path.now)) ≡ Some (None, last))) }
+            ((last : List ℕ) × (reach self.now.items 1 (pieces (drop 1 path.now)) ≡ Some (None, last))) }
     {
         let mut spot = self.start(path);
         'name: while let Some(end) = first_slash(spot.below) {
@@ -138,7 +138,7 @@ impl<'a> Made<'a> {
         requires leads { LeadsTo self.old.items spot.above.now spot.directory }
         requires room { 0 < self.old.spare }
         ensures items { self.new.items ≡ self.old.items
-                ++ made_name spot.entry.directory spot.entry.below.now is_directory ∷ [] }
+            ++ made_name spot.entry.directory spot.entry.below.now is_directory ∷ [] }
         ensures room { self.old.spare ≤ self.new.spare + 1 }
     {
         let Ok(_) = self

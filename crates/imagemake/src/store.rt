@@ -131,7 +131,7 @@ fn last_place<D: BlockDev>(
     requires up { tree.old.failed ≡ false }
     requires able { HasDirectory tree.old.files directory }
     ensures { Looks tree.old tree.new result
-            (λ place. (h : HasDirectory tree.old.files directory) → place ≡ room_in h.places) }
+        (λ place. (h : HasDirectory tree.old.files directory) → place ≡ room_in h.places) }
 {
     let node = tree.stat(directory)?;
     let place = node.size as usize / 16;
@@ -154,7 +154,7 @@ fn store_name<D: BlockDev>(
     requires name { IsTrue (is_name name.now) }
     requires number { slot tree.old.files number ≢ None }
     ensures { PutsName tree.old tree.new directory (record { name = name.now; number = number }) (thing_of thing.now)
-            result }
+        result }
 {
     let Some(place) = last_place(tree, directory)? else {
         return Err(StoreFault::Blocks);

@@ -33,8 +33,17 @@ pub use Rattle.unixmodel.specs.Image.{bitmap_start, count_in, data_start, Denote
 pub use Rattle.unixmodel.specs.Image.{HasSpares, HasSuper, inode_at, inodes_in, is_data_block, is_in_use, is_name}
 pub use Rattle.unixmodel.specs.Image.{IsNode, KeepsNode, kind_in, length_in, links_in, major_in, minor_in, names_number}
 pub use Rattle.unixmodel.specs.Image.{number_from, numbers_in_use, size_in, Stands, super_number}
-unfoldable pub use Rattle.unixmodel.specs.Image.{all_entries, bit_of, contents_in, data_blocks, is_named, named_blocks,
-    named_by, number_in, parent_of}
+unfoldable pub use Rattle.unixmodel.specs.Image.{
+  all_entries,
+  bit_of,
+  contents_in,
+  data_blocks,
+  is_named,
+  named_blocks,
+  named_by,
+  number_in,
+  parent_of,
+}
 pub use Rattle.unixmodel.specs.Numbers.{has_bit, le, number, number_at}
 pub use Rattle.unixmodel.specs.Slots.{slots, taken_blocks}
 unfoldable pub use Rattle.unixmodel.specs.Slots.{address_of, asked_slot, holder_of, in_record, place_of}

@@ -37,7 +37,7 @@ module _ (blocks : Blocks) (inodes n : ℕ) where
   inode-cases = elim (cases_lt n inodes) [
     | inl high ↦
         let none = λ (why : (n ≡ 0) ⊎ ((inode_at blocks n).kind ≡ 0)). get_or-nodes_of blocks inodes n high
-                ∙ node_at-none blocks n why in
+        ∙ node_at-none blocks n why in
         elim (cases_eq n 0) [
           | inl e ↦ inr (none (inl e))
           | inr low ↦ elim (cases_eq (inode_at blocks n).kind 0)
@@ -61,9 +61,11 @@ module _ (blocks : Blocks) (inodes n : ℕ) where
   unused-free e low high free = record {
     low = low;
     high = omega arith;
-    unused = elim (cases_eq (inode_at blocks n).kind 0)
-        [ inl z ↦ z | inr kind ↦ absurd
-        (none-some _ (sym free ∙ slot-inode (record { low = low; high = high; kind = kind }))) ];
+    unused = elim (cases_eq (inode_at blocks n).kind 0) [
+      | inl z ↦ z
+      | inr kind ↦ absurd
+          (none-some _ (sym free ∙ slot-inode (record { low = low; high = high; kind = kind })))
+    ];
   }
 
 -- of one in use
@@ -129,8 +131,10 @@ pub asked : {D : Type 0} {g : Geometry} {d : Disk D} {f : Bool} {seen : Store D}
     → (f ≡ false → IsSound g d.blocks) → seen.failed ≡ false → (n : ℕ) → IsSome (slot seen.nodes n)
     → record { sound : IsSound g d.blocks; inode : IsInode d.blocks g.inodes n }
 asked {g = g} {d} is sound up n some =
-    record { sound = sound (up-inside is up);
-    inode = inode-some d.blocks g.inodes n (at-inside is (λ s. IsSome (slot s.nodes n)) some) }
+    record {
+      sound = sound (up-inside is up);
+      inode = inode-some d.blocks g.inodes n (at-inside is (λ s. IsSome (slot s.nodes n)) some);
+    }
 
 -- ---- changes
 
@@ -192,14 +196,14 @@ module _ {D : Type 0} {g : Geometry} {d d' : Disk D} {f b : Bool} {n : ℕ} wher
         → Names g d d' f b n (Some (with_links (raw_at (nodes_of d.blocks g.inodes) n) links))
     changes-links {links} sets =
         changes-sets sets (ap (λ raw. Some (with_links raw links)) (sym (raw-inode inode)))
-            (ap (λ (raw : RawNode). taken_for (length raw.bytes)) (raw-inode inode) ∙ sym (used-inode inode))
+        (ap (λ (raw : RawNode). taken_for (length raw.bytes)) (raw-inode inode) ∙ sym (used-inode inode))
 
     -- none any more
     pub changes-given : length (raw_at (nodes_of d.blocks g.inodes) n).bytes ≡ 0 → SetsNode g d.blocks d'.blocks n None
         → Names g d d' f b n None
     changes-given empty sets =
         changes-sets sets refl (ap taken_for (sym empty)
-            ∙ ap (λ (raw : RawNode). taken_for (length raw.bytes)) (raw-inode inode) ∙ sym (used-inode inode))
+        ∙ ap (λ (raw : RawNode). taken_for (length raw.bytes)) (raw-inode inode) ∙ sym (used-inode inode))
 
   -- a node more
   pub changes-taken : (kind : Kind) {links : ℕ} → slot (nodes_of d.blocks g.inodes) n ≡ None
@@ -256,8 +260,8 @@ some-within : (nodes : List (Option RawNode)) (n : ℕ) → IsSome (slot nodes n
 some-within nodes n some =
     elim (cases_lt n (length nodes))
     [ inl high ↦ high | inr past ↦ absurd (none (get_or_past nodes n None (omega arith)) some) ] where
-  none : {o : Option RawNode} → o ≡ None → IsSome o → ⊥
-  none e some = cc
+      none : {o : Option RawNode} → o ≡ None → IsSome o → ⊥
+      none e some = cc
 
 abbrev raw_of : Option RawNode → RawNode
 raw_of o = unwrap_or o no_node
@@ -305,42 +309,52 @@ module _ {D : Type 0} {old new : Store D} {n at : ℕ} {bytes : List ℕ} (k : �
 -- ---- a step of the disk, of a volume that is up
 
 module _ {D : Type 0} {identity : D → List ℕ} {g : Geometry} {d d' : Disk D} {b : Bool} {T : Type 0} {Was : T → Type 0}
-    where
-  pub tries : {f : Bool} {Done : T → Type 0} (r : Result T DeviceFault) → Steps identity d d' r Was → b ≡ is_err r
-      → ((x : T) → Was x → Done x) → Tries identity (store_over g d f) (store_over g d' b) r Done
-  tries (Ok x) step e so =
-      record { done = so x step.done; refused = tt;
-      follows = record { geometry = refl; same_device = step.goes.same_device; later = step.goes.later }; failed = e;
-      cause = λ q. absurd (false≢true q) }
-  tries (Err fault) step e so =
-      record { done = tt; refused = λ q. tt;
-      follows = record { geometry = refl; same_device = step.goes.same_device; later = step.goes.later }; failed = e;
-      cause = λ _. step.failed refl }
+  where
+    pub tries : {f : Bool} {Done : T → Type 0} (r : Result T DeviceFault) → Steps identity d d' r Was → b ≡ is_err r
+        → ((x : T) → Was x → Done x) → Tries identity (store_over g d f) (store_over g d' b) r Done
+    tries (Ok x) step e so =
+        record {
+          done = so x step.done;
+          refused = tt;
+          follows = record { geometry = refl; same_device = step.goes.same_device; later = step.goes.later };
+          failed = e;
+          cause = λ q. absurd (false≢true q);
+        }
+    tries (Err fault) step e so =
+        record {
+          done = tt;
+          refused = λ q. tt;
+          follows = record { geometry = refl; same_device = step.goes.same_device; later = step.goes.later };
+          failed = e;
+          cause = λ _. step.failed refl;
+        }
 
-  -- the disk stays sound
-  pub sound-after : (r : Result T DeviceFault) → Steps identity d d' r Was → b ≡ is_err r
-      → ((x : T) → Was x → IsSound g d'.blocks) → b ≡ false → IsSound g d'.blocks
-  sound-after (Ok x) step e so up = so x step.done
-  sound-after (Err fault) step e so up = absurd (false≢true (sym up ∙ e))
+    -- the disk stays sound
+    pub sound-after : (r : Result T DeviceFault) → Steps identity d d' r Was → b ≡ is_err r
+        → ((x : T) → Was x → IsSound g d'.blocks) → b ≡ false → IsSound g d'.blocks
+    sound-after (Ok x) step e so up = so x step.done
+    sound-after (Err fault) step e so up = absurd (false≢true (sym up ∙ e))
 
 -- a step that only reads
 module _ {D : Type 0} {identity : D → List ℕ} {g : Geometry} {d d' : Disk D} {b : Bool} {T : Type 0} {Was : T → Type 0}
-    where
-  pub looks : {f : Bool} {Told : T → Type 0} (r : Result T DeviceFault) → Reads identity d d' r Was → b ≡ is_err r
-      → ((x : T) → Was x → Told x) → Looks identity (store_over g d f) (store_over g d' b) r Told
-  looks r step e so = tries r step e (λ x was. (kept was.same, so x was.told))
+  where
+    pub looks : {f : Bool} {Told : T → Type 0} (r : Result T DeviceFault) → Reads identity d d' r Was → b ≡ is_err r
+        → ((x : T) → Was x → Told x) → Looks identity (store_over g d f) (store_over g d' b) r Told
+    looks r step e so = tries r step e (λ x was. (kept was.same, so x was.told))
 
-  pub sound-same : (r : Result T DeviceFault) → Reads identity d d' r Was → b ≡ is_err r → IsSound g d.blocks
-      → b ≡ false → IsSound g d'.blocks
-  sound-same r step e sound up = sound-after r step e (λ x was. subst (IsSound g) (sym was.same) sound) up
+    pub sound-same : (r : Result T DeviceFault) → Reads identity d d' r Was → b ≡ is_err r → IsSound g d.blocks
+        → b ≡ false → IsSound g d'.blocks
+    sound-same r step e sound up = sound-after r step e (λ x was. subst (IsSound g) (sym was.same) sound) up
 
 -- ---- calls on a volume, one after the other
 
 module _ {D : Type 0} {identity : D → List ℕ} where
   pub follows-after : {a b c : Store D} → Follows identity a b → Follows identity b c → Follows identity a c
-  follows-after one two = record
-      { geometry = two.geometry ∙ one.geometry; same_device = two.same_device ∙ one.same_device;
-      later = omega (arith, one.later, two.later) }
+  follows-after one two = record {
+    geometry = two.geometry ∙ one.geometry;
+    same_device = two.same_device ∙ one.same_device;
+    later = omega (arith, one.later, two.later);
+  }
 
   pub follows-stays : {a : Store D} → Follows identity a a
   follows-stays = record { geometry = refl; same_device = refl; later = omega arith }
@@ -361,8 +375,13 @@ module _ {D : Type 0} {identity : D → List ℕ} where
     pub serves-not : {fault : E} → Follows identity old new → new.failed ≡ false → is_lost fault ≡ false → Why fault
         → Serves identity is_lost old new (Err fault) Done Why
     serves-not follows up known why =
-        record { done = tt; refused = λ _. why; follows = follows; failed = up ∙ sym known;
-        cause = λ q. absurd (false≢true (sym known ∙ q)) }
+        record {
+          done = tt;
+          refused = λ _. why;
+          follows = follows;
+          failed = up ∙ sym known;
+          cause = λ q. absurd (false≢true (sym known ∙ q));
+        }
 
     -- a call behind others failed
     pub serves-lost : {mid : Store D} {U : Type 0} {Was : U → Type 0} {r : Result U DeviceFault} {e : DeviceFault}
@@ -386,8 +405,13 @@ module _ {D : Type 0} {identity : D → List ℕ} where
       → Tries identity old new r Done
   tries-last {r = Ok x} follows so step = serves-done (follows-after follows step.follows) step.failed (so x step.done)
   tries-last {r = Err e} follows so step =
-      record { done = tt; refused = λ q. tt; follows = follows-after follows step.follows; failed = step.failed;
-      cause = λ q. rises-before follows.later (step.cause q) }
+      record {
+        done = tt;
+        refused = λ q. tt;
+        follows = follows-after follows step.follows;
+        failed = step.failed;
+        cause = λ q. rises-before follows.later (step.cause q);
+      }
 
 -- ---- the disk is given up
 
@@ -395,7 +419,7 @@ pub flushed : {D : Type 0} {g : Geometry} {d d' : Disk D} {f : Bool} {left : D} 
     (failures : D → ℕ) {identity : D → List ℕ} (r : Result Unit DeviceFault)
     → Reads identity d d' r (λ _. content d'.device ≡ d.blocks)
     → left ≡ d'.device → failures left ≡ d'.failures → IsSound g d.blocks
-        → Flushed content failures identity (store_over g d f) left r
+    → Flushed content failures identity (store_over g d f) left r
 flushed {g = g} {d} {d'} {left = left} content failures {identity} r step is count sound = record {
   stored = laid r step.done;
   same_device = ap identity is ∙ step.goes.same_device;
@@ -406,5 +430,5 @@ flushed {g = g} {d} {d'} {left = left} content failures {identity} r step is cou
   laid (Ok x) before =
       let e : content left ≡ d.blocks = ap content is ∙ before.told in
       subst (λ bs. IsLaidOut g bs (nodes_of d.blocks g.inodes) (free_blocks g d.blocks)) (sym e)
-          (record { sound = sound; nodes = refl; free = refl })
+      (record { sound = sound; nodes = refl; free = refl })
   laid (Err fault) before = tt

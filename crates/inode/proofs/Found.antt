@@ -55,7 +55,7 @@ address-in : (bytes : List ℕ) (k : ℕ) → k < 13 → number_at bytes (3 + k)
 address-in bytes k low =
     let place : 4 * (3 + k) ≡ 12 + 4 * k = omega arith in
     ap (λ n. little_number 4 (drop n bytes)) place ∙ ap (little_number 4) (sym (drop-drop (4 * k) 12 bytes))
-        ∙ sym (get_or-numbers_in 13 (drop 12 bytes) k low)
+    ∙ sym (get_or-numbers_in 13 (drop 12 bytes) k low)
 
 module _ (blocks : Blocks) (bytes : List ℕ) (slot : ℕ) where
   -- the number of one of the first blocks
@@ -68,7 +68,7 @@ module _ (blocks : Blocks) (bytes : List ℕ) (slot : ℕ) where
     holder-number : index ≡ slot_in blocks (inode_of bytes) (holder_of slot)
     holder-number =
         index_is ∙ address-in bytes 11 (omega arith)
-            ∙ found_own blocks (inode_of bytes) single single_own (sym single_at)
+        ∙ found_own blocks (inode_of bytes) single single_own (sym single_at)
         ∙ ap (slot_in blocks (inode_of bytes)) (sym (listed_in slot high))
 
     pub index-lies : Asks (inode_of bytes).size slot → HasIndex blocks (inode_of bytes) → index < length blocks
@@ -152,9 +152,9 @@ module _ {g : Geometry} {old : Blocks} {n at : ℕ} {found : Found} (sound : IsS
           → Wrote g old new n (splice at bytes (bytes_of old n))
       found-longer {new} writes =
           let same : inode_at mid n ≡ inode_at old n =
-                  ap (record_in n) (prepared.grows.front (2 + n / 16) (omega (arith, used.high))) in
+          ap (record_in n) (prepared.grows.front (2 + n / 16) (omega (arith, used.high))) in
           (Puts-record found-held prepared
-              (subst (λ i. WritesInode g mid new n (record i { size = at + length bytes })) same writes)).wrote
+          (subst (λ i. WritesInode g mid new n (record i { size = at + length bytes })) same writes)).wrote
 
   pub found-writes : {new : Blocks} (bytes : List ℕ) → at ≤ found.size → at % 1024 + length bytes ≤ 1024
       → Wrote g old new n (splice at bytes (bytes_of old n)) → WritesAt g old new n at bytes (Written (length bytes))
@@ -193,7 +193,7 @@ module _ (at s : ℕ) (block : List ℕ) (room : at + 64 ≤ length block) where
   number-beside w k apart fits =
       number-placed w k at (splice (at + 8) (little_bytes 4 s) block) fits
       ∙ ap (little_number w) (part-splice_apart (at + k) w (at + 8) (little_bytes 4 s) block (omega arith)
-          (omega arith) (elim apart [ inl low ↦ inl (omega arith) | inr high ↦ inr (omega arith) ]))
+      (omega arith) (elim apart [ inl low ↦ inl (omega arith) | inr high ↦ inr (omega arith) ]))
       ∙ sym (number-placed w k at block fits)
 
   pub inode_of-resized : s < 2 ^ 32
@@ -209,7 +209,7 @@ module _ (at s : ℕ) (block : List ℕ) (room : at + 64 ≤ length block) where
         links = number-beside 2 6 (inl (omega arith)) (omega arith) i;
         size = (number-placed 4 8 at (splice (at + 8) (little_bytes 4 s) block) (omega arith)
             ∙ ap (little_number 4) (part-splice_same (at + 8) 4 (little_bytes 4 s) block refl (omega arith)
-                ∙ sym (append-nil (little_bytes 4 s)))
+            ∙ sym (append-nil (little_bytes 4 s)))
             ∙ little_number-reads_back 4 s [] small) i;
         addresses = ext_get_or 0 (numbers_in 13 (drop 12 next)) (numbers_in 13 (drop 12 was))
             (length-numbers_in 13 (drop 12 next) ∙ sym (length-numbers_in 13 (drop 12 was))) (λ k l.
@@ -223,8 +223,8 @@ module _ (at s : ℕ) (block : List ℕ) (room : at + 64 ≤ length block) where
 
 pub WritesInode-size : (g : Geometry) (old new : Blocks) (n s : ℕ) → HasParts g old → n < g.inodes → s < 2 ^ 32
     → new ≡ set old (2 + n / 16) (splice (64 * (n % 16) + 8) (little_bytes 4 s) (block_at old (2 + n / 16)))
-        → WritesInode g old new n (record (inode_at old n) { size = s })
+    → WritesInode g old new n (record (inode_at old n) { size = s })
 WritesInode-size g old new n s parts high small e =
     let size = parts.sizes (2 + n / 16) (omega (arith, parts.count, parts.room)) in
     WritesInode-part g old new n _ (little_bytes 4 s) parts high (64 * (n % 16) + 8) (omega arith) (omega arith)
-        (inode_of-resized (64 * (n % 16)) s (block_at old (2 + n / 16)) (omega (arith, size)) small) e
+    (inode_of-resized (64 * (n % 16)) s (block_at old (2 + n / 16)) (omega (arith, size)) small) e

@@ -7,8 +7,12 @@ use Rattle.layout.specs.Kinds.{kind_major, kind_number}
 use Rattle.layout.specs.Image.{IsInode, RawNode, bytes_of, inode_at, node_with}
 
 abbrev pub told : DiskInode → InodeStat
-told inode = record { kind = kind_number (inode_kind inode); major = kind_major (inode_kind inode);
-    links = inode.links; size = inode.size }
+told inode = record {
+  kind = kind_number (inode_kind inode);
+  major = kind_major (inode_kind inode);
+  links = inode.links;
+  size = inode.size;
+}
 
 -- this is told of a node
 pub record IsTold (node : RawNode) (s : InodeStat) : Type 0 where

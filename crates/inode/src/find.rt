@@ -27,7 +27,7 @@ fn record_bytes<D: BlockDev>(disk: &Cache<D>, geometry: Geometry, number: usize)
     requires parts { HasParts geometry disk.now.blocks }
     requires high { number < geometry.inodes }
     ensures bytes { IfSome result
-            (λ bytes. bytes.now ≡ part (64 * (number % 16)) 64 (block_at disk.now.blocks (2 + number / 16))) }
+        (λ bytes. bytes.now ≡ part (64 * (number % 16)) 64 (block_at disk.now.blocks (2 + number / 16))) }
     ensures size { IfSome result (λ bytes. length bytes.now ≡ 64) }
 {
     let place = DiskInode::at(number);

@@ -120,7 +120,7 @@ impl<D: BlockDev> Volume<D> {
         requires up { self.old.failed ≡ false }
         requires node { IsSome (slot self.old.nodes number) }
         ensures { Looks D.identity self.old self.new result
-                (IsReadInto (raw_at self.old.nodes number).bytes at out.old out.new) }
+            (IsReadInto (raw_at self.old.nodes number).bytes at out.old out.new) }
     {
         let result = read_at(&mut self.disk, self.geometry, number, at, out);
         self.failed = result.is_err();
@@ -213,7 +213,7 @@ impl<D: BlockDev> Volume<D> {
         requires high { number < self.old.geometry.inodes }
         requires free { slot self.old.nodes number ≡ None }
         ensures { Tries D.identity self.old self.new result
-                (λ _. Changes self.old self.new number (fresh_node kind links)) }
+            (λ _. Changes self.old self.new number (fresh_node kind links)) }
     {
         let result = take_inode_at(&mut self.disk, self.geometry, number, kind, links);
         self.failed = result.is_err();

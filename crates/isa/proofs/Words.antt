@@ -124,16 +124,29 @@ module _ (w : ℕ) where
   all_fit =
       let upper : (rd < 32) × (part w 12 20 < 2 ^ 20) = (omega arith, omega arith) in
       let jump : (rd < 32) × (jump_offset w < 2 ^ 21) × (jump_offset w % 2 ≡ 0) =
-              (omega arith, omega arith, omega arith) in
+      (omega arith, omega arith, omega arith) in
       let immediate : (rd < 32) × (rs1 < 32) × (imm < 2 ^ 12) = (omega arith, omega arith, omega arith) in
       let registers : (rd < 32) × (rs1 < 32) × (rs2 < 32) = (omega arith, omega arith, omega arith) in
       let branch : (rs1 < 32) × (rs2 < 32) × (branch_offset w < 2 ^ 13) × (branch_offset w % 2 ≡ 0) =
-              (omega arith, omega arith, omega arith, omega arith) in
+      (omega arith, omega arith, omega arith, omega arith) in
       let store : (rs1 < 32) × (rs2 < 32) × (stored < 2 ^ 12) = (omega arith, omega arith, omega arith) in
-      let shift : (rd < 32) × (rs1 < 32) × (part w 20 6 < 64) = (omega arith, omega arith, omega arith) in
-      (upper, (upper, (jump, times 3 immediate
-          (tt, (tt, times 6 branch
-          (times 7 immediate (times 4 store (times 6 immediate (times 3 shift (times 31 registers tt))))))))))
+      let shift : (rd < 32) × (rs1 < 32) × (part w 20 6 < 64) = (omega arith, omega arith, omega arith) in (
+        upper,
+        (
+          upper,
+          (
+            jump,
+            times 3 immediate (
+              tt,
+              (
+                tt,
+                times 6 branch
+                    (times 7 immediate (times 4 store (times 6 immediate (times 3 shift (times 31 registers tt))))),
+              ),
+            ),
+          ),
+        ),
+      )
 
   -- an instruction that is listed with the parts of a word is listed with what equals them
   two : (make : ℕ → ℕ → Instr) {a b x y : ℕ} → Has (make a b) → a ≡ x → b ≡ y → Has (make x y)
@@ -180,7 +193,7 @@ first_fits : (p : Instr → Bool) (xs : List Instr) → AllByRecursion Fits xs
 first_fits p [] fits = tt
 first_fits p (x ∷ xs) fits =
     elim (p x) as (λ b. p x ≡ b → IfSome (cond b (Some x) (find p xs)) (λ j. (p j ≡ true) × Fits j))
-        [ true ↦ λ is. (is, fits.0) | false ↦ λ is. first_fits p xs fits.1 ] refl
+    [ true ↦ λ is. (is, fits.0) | false ↦ λ is. first_fits p xs fits.1 ] refl
 
 none_later : (b : Bool) (x : Instr) (later : Option Instr) → cond b (Some x) later ≡ None → later ≡ None
 none_later true x later e = absurd (none-some x (sym e))

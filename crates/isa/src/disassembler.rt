@@ -83,7 +83,7 @@ fn write_number<W: fmt::Write>(
     number: i32,
 ) -> fmt::Result
     ensures { DisplaysOnOk W.write_str_gives f.old result
-            (Some (the.immediate_text name.now a b (signed_decimal number))) f.new }
+        (Some (the.immediate_text name.now a b (signed_decimal number))) f.new }
 {
     let (a, b) = (names::register_name(a), names::register_name(b));
     write!(f, "{name} {a}, {b}, {number}")

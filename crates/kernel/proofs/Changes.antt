@@ -61,11 +61,12 @@ pub slot-active : (k : Kernel) (at : ℕ)
     → k.spaces.active ≡ Some at → option_map (on_hart k.spaces) (slot k.table.places at) ≡ slot (loaded k).places at
 slot-active k at active =
     sym (ap (λ (o : Option ℕ). slot (changed_at k.table (on_hart k.spaces) o).places at) active ∙ go _ at) where
-  go : (os : Processes) (i : ℕ)
-      → slot (slice_set os i (option_map (on_hart k.spaces) (slot os i))) i ≡ option_map (on_hart k.spaces) (slot os i)
-  go [] i = refl
-  go (o ∷ os) zero = refl
-  go (o ∷ os) (suc i) = go os i
+      go : (os : Processes) (i : ℕ)
+          → slot (slice_set os i (option_map (on_hart k.spaces) (slot os i))) i
+          ≡ option_map (on_hart k.spaces) (slot os i)
+      go [] i = refl
+      go (o ∷ os) zero = refl
+      go (o ∷ os) (suc i) = go os i
 
 pub is-active : (o : Option ℕ) (at : ℕ) → option_eq nat_eq o (Some at) ≡ true → o ≡ Some at
 is-active None at h = absurd (let bad : false ≡ true = h in cc)
@@ -186,19 +187,25 @@ module _ (k : Kernel) (is : IsKernel k) (z : slice_index k.spaces.registers 0 �
   nodes-counted m =
       let sums = sum_by-set (λ o. one_in m (home_in o)) _ i (Some gone) None short in
       let was : one_in m (home_in (slot orphans i)) ≡ one_in m (Some q.directory) =
-              ap (one_in m) (ap home_in (slot-map (orphaned q.pid) _ i) ∙ orphan-home _ ∙ ap home_in l.there
-              ∙ home-living q l.alive) in
+      ap (one_in m) (ap home_in (slot-map (orphaned q.pid) _ i) ∙ orphan-home _ ∙ ap home_in l.there
+      ∙ home-living q l.alive) in
       let last : named_in (q.directory ∷ []) m ≡ one_in m (Some q.directory) = sum_by-cons (one_at m) _ []
-              ∙ omega arith in
-      omega (arith, files_on-all_closed k.files q.descriptors m,
-          named_in-append (gone_nodes k.files q.descriptors) (q.directory ∷ []) m, sums, was, last,
-          same-map (λ o. one_in m (home_in o)) (orphaned q.pid) (λ o. ap (one_in m) (orphan-home o)) (loaded k).places)
+      ∙ omega arith in
+      omega (
+        arith,
+        files_on-all_closed k.files q.descriptors m,
+        named_in-append (gone_nodes k.files q.descriptors) (q.directory ∷ []) m,
+        sums,
+        was,
+        last,
+        same-map (λ o. one_in m (home_in o)) (orphaned q.pid) (λ o. ap (one_in m) (orphan-home o)) (loaded k).places,
+      )
 
   old-homes : AreOldHomes (loaded k).places (put orphans i gone)
   old-homes = all-set (λ j o. (d : ℕ) → home_in o ≡ Some d → home_in (slot (loaded k).places j) ≡ Some d) _ i _
       (λ d at. absurd (none-some d at))
       (λ j. rw (slot-map (orphaned q.pid) (loaded k).places j)
-          (λ d at. sym (orphan-home (slot (loaded k).places j)) ∙ at))
+      (λ d at. sym (orphan-home (slot (loaded k).places j)) ∙ at))
 
   lets-go : LetsGo k.files (loaded k).places left (put orphans i gone) nodes
   lets-go = record { counts = nodes-counted; files = old-all_closed k.files q.descriptors; homes = old-homes }
@@ -213,22 +220,25 @@ module _ (k : Kernel) (is : IsKernel k) (z : slice_index k.spaces.registers 0 �
         ∙ length-active k k.spaces.active ∙ is.all;
     spaces = is.spaces;
     stands = all-set (λ j x. IsPlace x (slot k.spaces.places j)) orphans i (Some gone)
-        (rw l.space (record { zero = placed-q.zero; aligned = placed-q.aligned;
-        mode = record { descriptors = refl; directory = refl } }))
+        (rw l.space (record {
+          zero = placed-q.zero;
+          aligned = placed-q.aligned;
+          mode = record { descriptors = refl; directory = refl };
+        }))
         (λ j. rw (slot-map (orphaned q.pid) (loaded k).places j)
-            (orphan-placed q.pid (slot (loaded k).places j) (slot k.spaces.places j) (loaded-placed k is z a j)));
+        (orphan-placed q.pid (slot (loaded k).places j) (slot k.spaces.places j) (loaded-placed k is z a j)));
     runs = runs-set orphans i (Some gone) k.spaces.active None short refl (λ j other. sym (l.alone j other))
         (λ j. rw (slot-map (orphaned q.pid) (loaded k).places j)
-            (orphan-same (holds table.is_running) q.pid (λ p parent. refl) (slot (loaded k).places j)
-            ∙ running-active k k.spaces.active j ∙ is.runs j));
+        (orphan-same (holds table.is_running) q.pid (λ p parent. refl) (slot (loaded k).places j)
+        ∙ running-active k k.spaces.active j ∙ is.runs j));
     used = λ up. fewer-used (used-loaded k is (sym (all-failed k.tree nodes) ∙ up)) lets-go;
     fits = omega (arith, is.fits, fewer-standing k.files k.spaces.pipes q.descriptors is.opened.piped);
     opened = let was = opened-loaded k is
         in opened-closed was q.descriptors (put orphans i gone)
         (counted-ended k.files (loaded k).places i q status was.counted l.there)
         (all-set (λ j. WaitsWell k.files) orphans i (Some gone) tt
-            (λ j. rw (slot-map (orphaned q.pid) (loaded k).places j)
-            (orphan-waits k.files q.pid (slot (loaded k).places j) (was.waits j))));
+        (λ j. rw (slot-map (orphaned q.pid) (loaded k).places j)
+        (orphan-waits k.files q.pid (slot (loaded k).places j) (was.waits j))));
   }
 
   pub ended-state : k.tree.failed ≡ false → end_process (state_of k) i (with_space h q) status ≡ state_of ended_to
@@ -238,18 +248,18 @@ module _ (k : Kernel) (is : IsKernel k) (z : slice_index k.spaces.registers 0 �
       let middle = record ended_to { tree = k.tree } in
       let old = record (state_of middle) { opens = opens_of k.files; pipes = k.spaces.pipes } in
       let counts : Counts left old.places =
-              counts-joined left ended_to.table.places k.spaces.places ended-kernel.opened.counted in
+      counts-joined left ended_to.table.places k.spaces.places ended-kernel.opened.counted in
       let used = used-loaded k is up in
       let gives = fewer-nodes used lets-go (state_of middle) k.spaces.places
-              (are-away (put orphans i gone) k.spaces.places ended-kernel.stands) refl refl refl in
+      (are-away (put orphans i gone) k.spaces.places ended-kernel.stands) refl refl refl in
       ap (λ (o : Option SpaceView). reap
-          (ends.with_zombie (with_table rest (loaded k) k.spaces.places) i (with_space (unwrap_or o no_pages) q)
-          status)) (sym l.space)
+      (ends.with_zombie (with_table rest (loaded k) k.spaces.places) i (with_space (unwrap_or o no_pages) q)
+      status)) (sym l.space)
       ∙ ap reap (with_zombie-with_table rest (loaded k) k.spaces.places i q status)
       ∙ reap-closed old k.files k.spaces.pipes q.descriptors ended_to.tree.files is.opened.table is.opened.piped counts
-          gives
+      gives
       ∙ ap (λ b. record (state_of middle) { files = ended_to.tree.files; block_limit = b })
-          (sym (fewer-leaves used lets-go).limit)
+      (sym (fewer-leaves used lets-go).limit)
 
 -- ---- a process that doesn't run is marked
 
@@ -311,20 +321,30 @@ module _ (k : Kernel) (i : ℕ) (p : Process) (h : SpaceView) (is : IsKernel k) 
   q = record p { mode = Running }
 
   abbrev pub started_to : Kernel
-  started_to = record k { table = with_process k.table i q;
-      spaces = record k.spaces { active = Some i; registers = p.registers; pc = p.pc } }
+  started_to = record k {
+    table = with_process k.table i q;
+    spaces = record k.spaces { active = Some i; registers = p.registers; pc = p.pc };
+  }
 
   pub started-is : started k i ≡ started_to
   started-is = ap (started_as k i) t.process ∙ rw t.process refl
 
   module _ (l : IsLive p) (n : p.killed ≡ false) where
     q-placed : IsPlaced q h
-    q-placed = record { zero = t.placed.zero; aligned = t.placed.aligned;
-        mode = (record { descriptors = l.descriptors }, n) }
+    q-placed = record {
+      zero = t.placed.zero;
+      aligned = t.placed.aligned;
+      mode = (record { descriptors = l.descriptors }, n);
+    }
 
     pub started-run : IsRun started_to i q h
-    started-run = record { active = refl; process = slot-put _ i (Some q) in-table; space = t.space; placed = q-placed;
-        runs = refl }
+    started-run = record {
+      active = refl;
+      process = slot-put _ i (Some q) in-table;
+      space = t.space;
+      placed = q-placed;
+      runs = refl;
+    }
 
     pub started-kernel : IsKernel started_to
     started-kernel = record {
@@ -342,7 +362,7 @@ module _ (k : Kernel) (i : ℕ) (p : Process) (h : SpaceView) (is : IsKernel k) 
     started-state =
         state-run _ i q h started-run
         ∙ ap (λ (places : Processes). with_table (base (rest_of k)) (record k.table { places = places })
-            k.spaces.places) (set-set k.table.places i (Some q) (Some q))
+        k.spaces.places) (set-set k.table.places i (Some q) (Some q))
         ∙ put-same (base (rest_of k)) k.table _ i q t.space
         ∙ sym (ap (λ (s : State). put_process s i (with_space h q)) (state-idle k idle))
 
@@ -351,7 +371,7 @@ module _ (k : Kernel) (i : ℕ) (p : Process) (h : SpaceView) (is : IsKernel k) 
     picks-ready ready =
         let self = with_space h p in
         ap (λ (b : Bool). if b then quiet (end_process (state_of k) i self (negsuc 0))
-            else next.picked_in (state_of k) i self self.mode) n
+        else next.picked_in (state_of k) i self self.mode) n
         ∙ ap (λ (m : Mode). next.picked_in (state_of k) i self m) ready
         ∙ ap quiet (sym (ap state_of started-is ∙ started-state))
 
@@ -362,17 +382,20 @@ module _ (k : Kernel) (i : ℕ) (p : Process) (h : SpaceView) (is : IsKernel k) 
       let self = with_space h p in
       let last = last-idle k i p h idle t alive in
       ap (λ (b : Bool). if b then quiet (end_process (state_of k) i self (negsuc 0))
-          else next.picked_in (state_of k) i self self.mode) killed
+      else next.picked_in (state_of k) i self self.mode) killed
       ∙ ap quiet (ended-state k is z a i p h last (negsuc 0) up
-          ∙ sym (ap state_of (ended-is k is z a i p h last (negsuc 0))))
+      ∙ sym (ap state_of (ended-is k is z a i p h last (negsuc 0))))
 
 -- what the hart takes over; over the fields: k is what they show, and now is the kernel's value
 pub record Takes (k now : Kernel) (i : ℕ) (x : Process) : Type 0 where
-  pub starts : record k { table = changed k.table i (with_mode Running);
-      spaces = record k.spaces { active = Some i; registers = x.registers; pc = x.pc } } ≡ started now i
-  pub keeps : IsKernel (record k
-      { table = changed k.table i (with_mode Running);
-      spaces = record k.spaces { active = Some i; registers = x.registers; pc = x.pc } })
+  pub starts : record k {
+    table = changed k.table i (with_mode Running);
+    spaces = record k.spaces { active = Some i; registers = x.registers; pc = x.pc };
+  } ≡ started now i
+  pub keeps : IsKernel (record k {
+    table = changed k.table i (with_mode Running);
+    spaces = record k.spaces { active = Some i; registers = x.registers; pc = x.pc };
+  })
 
 pub takes : {k now : Kernel} {i : ℕ} {x : Process} → k ≡ now → IsKernel k → now.spaces.active ≡ None
     → CanRun (slot now.table.places i) → slot k.table.places i ≡ Some x → Takes k now i x

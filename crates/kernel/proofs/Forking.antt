@@ -56,8 +56,11 @@ seat-go t (Some i) true seat free left is =
     let e = rw left at is in
     let made : Seat = record { place = i; pid = t.next_pid } in
     let same : made ≡ seat = cc in
-    record { free = free ∙ ap (λ (s : Seat). Some s.place) same; pid = sym (ap (λ (s : Seat). s.pid) same);
-        left = left }
+    record {
+      free = free ∙ ap (λ (s : Seat). Some s.place) same;
+      pid = sym (ap (λ (s : Seat). s.pid) same);
+      left = left;
+    }
 
 pub seat-is : (t : Places) (seat : Seat) → seat_of t ≡ Ok seat → IsSeat t seat
 seat-is t seat is = seat-go t _ _ seat refl refl is
@@ -86,9 +89,13 @@ module _ {k : Kernel} {i : ℕ} (x : Runner k i) (z : slice_index k.spaces.regis
   child = record (child_of parent) { pid = seat.pid }
 
   abbrev pub forked_to : Kernel
-  forked_to = record k { tree = record k.tree { holds = with_hold k.tree.holds x.process.directory };
-      table = seated k.table (child_of parent) seat; spaces = with_view k.spaces j x.held; files =
-      all_shared k.files x.process.descriptors }
+  forked_to = record k {
+    tree = record k.tree { holds = with_hold k.tree.holds x.process.directory };
+    table = seated k.table (child_of parent) seat;
+    spaces = with_view k.spaces j x.held;
+    files =
+        all_shared k.files x.process.descriptors;
+  }
 
   free-table : (j < length k.table.places) × (slot k.table.places j ≡ None)
   free-table = let f = position-Some is_none _ j None seats.free in (f.0, none-is _ f.1)
@@ -146,35 +153,38 @@ module _ {k : Kernel} {i : ℕ} (x : Runner k i) (z : slice_index k.spaces.regis
     used = λ up. kept-all_shared (λ u. IsInUse forked_to.tree u forked_to.table.places) (λ u n is. used-shared is n)
         k.files x.process.descriptors
         (used-child (x.sound.used up) i x.process.directory j child
-            (ap home_in x.run.process ∙ home-running x.process x.run.runs) refl free-table.0 free-table.1);
+        (ap home_in x.run.process ∙ home-running x.process x.run.runs) refl free-table.0 free-table.1);
     fits = fits;
     opened = forked-opened;
   }
 
   -- that is what fork makes
-  forked-state : record (state_of k)
-      { places = put (state_of k).places j (rows.child_of (me_of x) (state_of k).next_pid);
-      next_pid = (state_of k).next_pid + 1 } ≡ state_of forked_to
+  forked-state : record (state_of k) {
+    places = put (state_of k).places j (rows.child_of (me_of x) (state_of k).next_pid);
+    next_pid = (state_of k).next_pid + 1;
+  } ≡ state_of forked_to
   forked-state =
       let rest = base (rest_of k) in
       let old = with_process k.table i parent in
       let whole : State → State =
-              λ s. record s { places = put s.places j (rows.child_of (me_of x) s.next_pid); next_pid = s.next_pid + 1 }
-              in
+      λ s. record s { places = put s.places j (rows.child_of (me_of x) s.next_pid); next_pid = s.next_pid + 1 }
+      in
       let swap : put (put k.table.places j child) i parent ≡ put (put k.table.places i parent) j child =
-              set_comm k.table.places j i (Some child) (Some parent) apart in
+      set_comm k.table.places j i (Some child) (Some parent) apart in
       ap whole (state-run k i x.process x.held x.run)
-      ∙ ap (λ (n : ℕ). record (with_table rest old k.spaces.places)
-          { places = put (joined old.places k.spaces.places) j
-          (with_space x.held (record (child_of parent) { pid = n })); next_pid = k.table.next_pid + 1 }) (sym seats.pid)
+      ∙ ap (λ (n : ℕ). record (with_table rest old k.spaces.places) {
+        places = put (joined old.places k.spaces.places) j
+            (with_space x.held (record (child_of parent) { pid = n }));
+        next_pid = k.table.next_pid + 1;
+      }) (sym seats.pid)
       ∙ ap (λ places. record (with_table rest old k.spaces.places)
-          { places = places; next_pid = k.table.next_pid + 1 })
-          (put-joined old.places k.spaces.places j (Some child) (Some x.held) free-space)
+      { places = places; next_pid = k.table.next_pid + 1 })
+      (put-joined old.places k.spaces.places j (Some child) (Some x.held) free-space)
       ∙ sym (state-run forked_to i x.process x.held forked-run
       ∙ ap (λ (os : List (Option OpenFile)). with_table (base (record (rest_of k) { opens = os }))
-          (with_process forked_to.table i parent) forked_to.spaces.places) shared-opens
+      (with_process forked_to.table i parent) forked_to.spaces.places) shared-opens
       ∙ ap (λ (places : Processes). with_table rest
-          (record k.table { places = places; next_pid = k.table.next_pid + 1 }) forked_to.spaces.places) swap)
+      (record k.table { places = places; next_pid = k.table.next_pid + 1 }) forked_to.spaces.places) swap)
 
 -- ---- the pages are marked in both
 
@@ -183,15 +193,24 @@ abbrev sharing : {k : Kernel} {i : ℕ} (x : Runner k i) → Runner (reheld k i 
 sharing {k} {i} x = record {
   process = x.process;
   held = forked x.held;
-  run = record { active = x.run.active; process = x.run.process;
-      space = slot-put _ i _ (within-space k i _ _ x.run x.sound); placed = placed-with k i _ _ x.run x.sound _; runs =
-      x.run.runs };
+  run = record {
+    active = x.run.active;
+    process = x.run.process;
+    space = slot-put _ i _ (within-space k i _ _ x.run x.sound);
+    placed = placed-with k i _ _ x.run x.sound _;
+    runs =
+        x.run.runs;
+  };
   sound = reheld-kernel x.run x.sound _ (
       let same : frames_in (Some (forked x.held)) ≡ frames_in (Some x.held) =
-              ap (λ n. 4 + page_frames n) (length-map x.held.memory shared_page) in
-      omega (arith, same, x.sound.fits,
-          taken-placed k.spaces i (Some (forked x.held)) (within-space k i _ _ x.run x.sound),
-          ap frames_in x.run.space));
+      ap (λ n. 4 + page_frames n) (length-map x.held.memory shared_page) in
+      omega (
+        arith,
+        same,
+        x.sound.fits,
+        taken-placed k.spaces i (Some (forked x.held)) (within-space k i _ _ x.run x.sound),
+        ap frames_in x.run.space,
+      ));
 }
 
 module _ {k : Kernel} {i : ℕ} (x : Runner k i) (z : slice_index k.spaces.registers 0 ≡ 0) (a : k.spaces.pc % 4 ≡ 0)
@@ -205,14 +224,18 @@ module _ {k : Kernel} {i : ℕ} (x : Runner k i) (z : slice_index k.spaces.regis
   -- that is what fork makes
   pub fork-state : state_of (forked_as k i seat (on_hart k.spaces x.process))
       ≡ (let s = put_process (state_of k) i (rows.sharing (me_of x))
-      in record s { places = put s.places seat.place (rows.child_of (rows.sharing (me_of x)) s.next_pid);
-      next_pid = s.next_pid + 1 })
+      in record s {
+        places = put s.places seat.place (rows.child_of (rows.sharing (me_of x)) s.next_pid);
+        next_pid = s.next_pid + 1;
+      })
   fork-state =
       let whole : State → State =
-              λ s. record s { places = put s.places seat.place (rows.child_of (rows.sharing (me_of x)) s.next_pid);
-              next_pid = s.next_pid + 1 } in
+      λ s. record s {
+        places = put s.places seat.place (rows.child_of (rows.sharing (me_of x)) s.next_pid);
+        next_pid = s.next_pid + 1;
+      } in
       ap state_of (sym forked-is)
-          ∙ sym (ap whole (sym (reheld-state x.run x.sound (forked x.held))) ∙ forked-state (sharing x) z a seat seats)
+      ∙ sym (ap whole (sym (reheld-state x.run x.sound (forked x.held))) ∙ forked-state (sharing x) z a seat seats)
 
   fork-kernel : taken_frames (copied k.spaces i seat.place) ≤ k.spaces.frames
       → IsKernel (forked_as k i seat (on_hart k.spaces x.process))
@@ -236,7 +259,7 @@ seat-free k is seat seats =
     let s = seat-is k.table seat seats in
     let f = position-Some is_none _ _ None s.free in
     none-space _ (subst (λ (o : Option Process). IsPlace o (slot k.spaces.places seat.place)) (none-is _ f.1)
-        (is.stands seat.place))
+    (is.stands seat.place))
 
 -- ---- the step
 
@@ -258,24 +281,24 @@ fork-home {k} {i} x {q} up said =
     let at = ap (option_map (on_hart k.spaces)) x.run.process in
     let same : q ≡ on_hart k.spaces x.process = cc in
     folder-there (home-folder (x.sound.used up) i _
-        (ap home_in x.run.process ∙ home-running x.process x.run.runs
-        ∙ ap (λ (y : Process). Some y.directory) (sym same)))
+    (ap home_in x.run.process ∙ home-running x.process x.run.runs
+    ∙ ap (λ (y : Process). Some y.directory) (sym same)))
 
 -- who comes is awake
 watched-forked : (k : Kernel) → Watches k → (j : ℕ) (child : Process) → is_zombie_mode child.mode ≡ false → (ds : Fds)
     → IsWatched (awaited_in (opens_of (all_shared k.files ds)) k.spaces.pipes k.console k.ticks)
-        (put k.table.places j child) (slice_set k.table.awake j true)
+    (put k.table.places j child) (slice_set k.table.awake j true)
 watched-forked k watched j child lives ds =
     subst (λ os. IsWatched (awaited_in os k.spaces.pipes k.console k.ticks) (put k.table.places j child)
-        (slice_set k.table.awake j true)) (sym (opens-all_shared k.files ds))
+    (slice_set k.table.awake j true)) (sym (opens-all_shared k.files ds))
     (watched-roused watched j (Some child)
-        (λ pid is. absurd (true≢false
-        (sym (and_parts (table.is_child_of pid child) (is_zombie_mode child.mode) is).1 ∙ lives))))
+    (λ pid is. absurd (true≢false
+    (sym (and_parts (table.is_child_of pid child) (is_zombie_mode child.mode) is).1 ∙ lives))))
 
 pub fork-keeps : {k : Kernel} {i : ℕ} {seat : Seat} → Keeps k → MayFork k i seat → slice_index k.spaces.registers 0 ≡ 0
     → k.spaces.pc % 4 ≡ 0 → {q : Process} → Some q ≡ option_map (on_hart k.spaces) (slot k.table.places i)
     → taken_frames (copied k.spaces i seat.place) ≤ k.spaces.frames
-        → Keeps (record (forked_as k i seat q) { table = woken (forked_as k i seat q).table seat.place })
+    → Keeps (record (forked_as k i seat q) { table = woken (forked_as k i seat q).table seat.place })
 fork-keeps {k} {i} {seat} keeps may z a {q} said fits =
     let x = runner-of keeps.sound may.running in
     record {
@@ -309,7 +332,7 @@ plan-aligned files n mem argv q is =
     let rounded = λ (n : ℕ). (let low : round_down n 4 % 4 ≡ 0 = omega arith in low) in
     option_and_then_some (λ file. option_and_then (plan file) (args_at mem argv)) _ q is (λ file some has.
     option_and_then_some (plan file) _ q has
-        (λ args read made. ap (λ m. m % 4) (plan-pc file args q made) ∙ rounded (number_at 8 24 file)))
+    (λ args read made. ap (λ m. m % 4) (plan-pc file args q made) ∙ rounded (number_at 8 24 file)))
 
 -- ---- a program is in the place of the old one
 

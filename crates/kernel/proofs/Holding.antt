@@ -99,8 +99,12 @@ module _ {X : Type 0} (h : Option X → Option ℕ) where
   held-none : (xs : List (Option X)) (n : ℕ) → ((j : ℕ) → h (slot xs j) ≢ Some n) → sum_by (λ o. one_in n (h o)) xs ≡ 0
   held-none [] n none = refl
   held-none (o ∷ os) n none =
-      omega (arith, sum_by-cons (λ x. one_in n (h x)) o os, one-none n (h o) (none 0),
-      held-none os n (λ j. none (suc j)))
+      omega (
+        arith,
+        sum_by-cons (λ x. one_in n (h x)) o os,
+        one-none n (h o) (none 0),
+        held-none os n (λ j. none (suc j)),
+      )
 
 -- an open file fits only a node that is there
 pub fits-there : (n : ℕ) (f : OpenFile) (t : Target) (o : Option Node) → node_on t ≡ Some n → FitsNode f t o → o ≢ None
@@ -139,8 +143,8 @@ module _ {t : FileTree} {opens : Opens} {os : Processes} (is : IsInUse t opens o
   pub used-put : (i : ℕ) (o : Option Process) → home_in o ≡ home_in (slot os i) → IsInUse t opens (slice_set os i o)
   used-put i o same =
       used-by opens (slice_set os i o)
-          (λ n. ap (λ m. files_on opens n + m)
-          (sym (same-set (λ x. one_in n (home_in x)) os i o (ap (one_in n) same)))) is.fits
+      (λ n. ap (λ m. files_on opens n + m)
+      (sym (same-set (λ x. one_in n (home_in x)) os i o (ap (one_in n) same)))) is.fits
       (all-set (λ j x. IsHome t (home_in x)) os i o (subst (IsHome t) (sym same) (is.homes i)) is.homes)
 
   pub home-folder : (i d : ℕ) → home_in (slot os i) ≡ Some d → IsFolder (slot t.files d)
@@ -156,8 +160,13 @@ module _ {t : FileTree} {opens : Opens} {os : Processes} (is : IsInUse t opens o
 
   pub held-there : (n : ℕ) → 1 ≤ holders t.holds n → slot t.files n ≢ None
   held-there n some gone =
-      absurd (omega (arith, is.holds n, none-on n gone,
-      held-none home_in os n (λ j at. subst IsFolder gone (home-folder j n at)), some))
+      absurd (omega (
+        arith,
+        is.holds n,
+        none-on n gone,
+        held-none home_in os n (λ j at. subst IsFolder gone (home-folder j n at)),
+        some,
+      ))
 
 -- ---- open files that come, and whose nodes stay
 
@@ -171,7 +180,7 @@ module _ {t : FileTree} {opens : Opens} {os : Processes} (is : IsInUse t opens o
   pub used-shared : (i : ℕ) → IsInUse t (shared opens i) os
   used-shared i =
       used-files (shared opens i)
-          (λ n. same-set (λ o. one_in n (node_in o)) opens i _ (ap (one_in n) (map-same node_in more (λ c. refl) _)))
+      (λ n. same-set (λ o. one_in n (node_in o)) opens i _ (ap (one_in n) (map-same node_in more (λ c. refl) _)))
       (all-set (λ k. FitsIn t) opens i _ (go _ (is.fits i)) is.fits)
     where
       go : (o : Option Counted) → FitsIn t o → FitsIn t (option_map more o)
@@ -184,9 +193,9 @@ module _ {t : FileTree} {opens : Opens} {os : Processes} (is : IsInUse t opens o
   used-opened i f inside free none fitting =
       let one : Counted = record { file = f; count = 1 } in
       used-files (opened opens i f)
-          (λ n. same-set (λ o. one_in n (node_in o)) opens i _ (ap (one_in n) (none ∙ sym (ap node_in free))))
+      (λ n. same-set (λ o. one_in n (node_in o)) opens i _ (ap (one_in n) (none ∙ sym (ap node_in free))))
       (all-set (λ k. FitsIn t) opens i _
-          (fits-some t one (subst (λ o. FitsNode f f.target (node_of t.files o)) (sym none) fitting)) is.fits)
+      (fits-some t one (subst (λ o. FitsNode f f.target (node_of t.files o)) (sym none) fitting)) is.fits)
 
 -- ---- what the abstract Unix says is used
 
@@ -201,7 +210,7 @@ any-files n (None ∷ os) =
     rw (sum_by-cons (λ o. one_in n (node_in o)) None os, lt-sum 0 (files_on os n)) (any-files n os)
 any-files n (Some c ∷ os) =
     rw (sum_by-cons (λ o. one_in n (node_in o)) (Some c) os, lt-sum (one_in n (node_on c.file.target)) (files_on os n))
-        (ap₂ ◌||◌ (node-same n c.file.target) (any-files n os))
+    (ap₂ ◌||◌ (node-same n c.file.target) (any-files n os))
 
 -- a zombie works nowhere
 abbrev pub IsAway : Option Process → Type 0
@@ -228,14 +237,14 @@ any-homes n some (None ∷ os) hs away =
     (any-homes n some os (drop 1 hs) (λ j. away (suc j)))
 any-homes n some (Some p ∷ os) hs away =
     rw (sum_by-cons (λ o. one_in n (home_in o)) (Some p) os, lt-sum (one_in n (home_in (Some p))) (homes_at os n))
-        (ap₂ ◌||◌ (home-same n some p (away 0)) (any-homes n some os (drop 1 hs) (λ j. away (suc j))))
+    (ap₂ ◌||◌ (home-same n some p (away 0)) (any-homes n some os (drop 1 hs) (λ j. away (suc j))))
 
 pub used-is : (opens : Opens) (os : Processes) (hs : Views) → AreAway os → (s : State) → s.opens ≡ opens_of opens
     → s.places ≡ joined os hs
     → (n : ℕ) → n ≢ 0 → is_used s n ≡ nat_lt 0 (files_on opens n + homes_at os n)
 used-is opens os hs away s files places n some =
     ap₂ (λ fs ps. list_any (λ (f : unix_files.OpenFile). is_node n f.target) (taken fs)
-        || list_any (λ (p : unix.Process). p.directory == n) (taken ps)) files places
+    || list_any (λ (p : unix.Process). p.directory == n) (taken ps)) files places
     ∙ ap₂ ◌||◌ (any-files n opens) (any-homes n some os hs away)
     ∙ sym (lt-sum _ _)
 
@@ -249,7 +258,7 @@ module _ {X : Type 0} (test other : ℕ → X → Bool) where
       ap (λ ys. None ∷ ys) (kept-cong (k + 1) xs (λ i j x e at. same (suc i) j x (omega (arith, e)) at))
   kept-cong k (Some x ∷ xs) same =
       ap₂ (λ b ys. cond b (Some x) None ∷ ys) (same 0 k x (omega arith) refl)
-          (kept-cong (k + 1) xs (λ i j y e at. same (suc i) j y (omega (arith, e)) at))
+      (kept-cong (k + 1) xs (λ i j y e at. same (suc i) j y (omega (arith, e)) at))
 
   twice : (k : ℕ) (x : X) (xs : List (Option X)) → (other k x ≡ true → test k x ≡ true)
       → kept other (k + 1) (kept test (k + 1) xs) ≡ kept other (k + 1) xs → (b : Bool) → test k x ≡ b → (c : Bool)
@@ -328,10 +337,10 @@ module _ (t : FileTree) (n : ℕ) (some : 1 ≤ holders t.holds n) where
     drop-stays : (m : ℕ) → 1 ≤ holders (without_hold t.holds n) m → slot (dropped t n).files m ≡ slot t.files m
     drop-stays m more = drop-cases (λ files. slot files m ≡ slot t.files m) (λ why. refl)
         (λ none bare. elim (cases_eq m n) [
-      | inl same ↦ absurd (let bad : holders (without_hold t.holds n) m
-          ≡ 0 = ap (holders (without_hold t.holds n)) same ∙ none in omega (arith, bad, more))
-      | inr other ↦ get_or-set_other t.files n m None None other
-    ])
+          | inl same ↦ absurd (let bad : holders (without_hold t.holds n) m
+              ≡ 0 = ap (holders (without_hold t.holds n)) same ∙ none in omega (arith, bad, more))
+          | inr other ↦ get_or-set_other t.files n m None None other
+        ])
 
     drop-there : AreThere t.holds t.files → AreThere (dropped t n).holds (dropped t n).files
     drop-there there m more gone = there m (omega (arith, count-after m, more)) (sym (drop-stays m more) ∙ gone)
@@ -348,7 +357,7 @@ module _ (t : FileTree) (n : ℕ) (some : 1 ≤ holders t.holds n) where
     drop-reaps : IsHeldAt t.holds t.files → (dropped t n).files ≡ kept (is_by (dropped t n).holds) 0 t.files
     drop-reaps held = let-go-reaps _ _ n node at (λ m x other here.
         let same : nat_lt 0 (holders (without_hold t.holds n) m) ≡ nat_lt 0 (holders t.holds m) =
-                ap (nat_lt 0) (other-after m other) in
+        ap (nat_lt 0) (other-after m other) in
         ap (λ b. nat_lt 0 (links_of x) || b) same ∙ settled-by _ _ held m x here)
 
     drop-held : IsHeldAt t.holds t.files → IsHeldAt (dropped t n).holds (dropped t n).files
@@ -364,8 +373,11 @@ module _ (t : FileTree) (n : ℕ) (some : 1 ≤ holders t.holds n) where
           | inl same ↦ absurd (none-some x
               (sym (get_or-set_same t.files n None None (slot-within _ n node at))
               ∙ ap (slot (clear t.files n)) (sym same) ∙ here))
-          | inr other ↦ omega (arith, other-after m other,
-              held m x (sym (get_or-set_other t.files n m None None other) ∙ here) bare)
+          | inr other ↦ omega (
+            arith,
+            other-after m other,
+            held m x (sym (get_or-set_other t.files n m None None other) ∙ here) bare,
+          )
         ])
 
 -- ---- all of some let go
@@ -435,16 +447,16 @@ leaves-all t (n ∷ ns) rules there few held zero' =
     let some = first-few _ n ns few in
     let node = some-node _ (there n some) in
     let rest = leaves-all (dropped t n) ns (let-go-keeps rules (without_hold t.holds n) n)
-            (drop-there t n some _ node.1 there)
+    (drop-there t n some _ node.1 there)
     (λ m. omega (arith, few m, sum_by-cons (one_at m) n ns, count-after t n some m)) (drop-held t n some _ node.1 held)
-        (drop-zero t n some _ node.1 zero') in
+    (drop-zero t n some _ node.1 zero') in
     record {
       counts = λ m. omega (arith, rest.counts m, sum_by-cons (one_at m) n ns, count-after t n some m);
       reaps =
           rest.reaps
           ∙ ap (kept (is_by (all_dropped t (n ∷ ns)).holds) 0) (drop-reaps t n some _ node.1 held)
           ∙ kept-twice (is_by (dropped t n).holds) (is_by (all_dropped t (n ∷ ns)).holds) 0 t.files
-              (is_by-fewer (all_dropped t (n ∷ ns)).holds (dropped t n).holds (λ m. omega (arith, rest.counts m)));
+          (is_by-fewer (all_dropped t (n ∷ ns)).holds (dropped t n).holds (λ m. omega (arith, rest.counts m)));
       stays = λ m more. rest.stays m more ∙ drop-stays t n some _ node.1 m (omega (arith, more, rest.counts m));
       held = rest.held;
       zero = rest.zero;
@@ -492,8 +504,8 @@ module _ {t : FileTree} {opens : Opens} {os : Processes} (is : IsInUse t opens o
   home-stays j None at = tt
   home-stays j (Some d) at =
       subst IsFolder (sym (fewer-leaves.stays d
-          (omega (arith, held-counts home_in refl after j d at, fewer-leaves.counts d, go.counts d, is.holds d))))
-          (home-folder is j d (go.homes j d at))
+      (omega (arith, held-counts home_in refl after j d at, fewer-leaves.counts d, go.counts d, is.holds d))))
+      (home-folder is j d (go.homes j d at))
 
   pub fewer-used : IsInUse now left after
   fewer-used = record {
@@ -505,9 +517,14 @@ module _ {t : FileTree} {opens : Opens} {os : Processes} (is : IsInUse t opens o
     fits = λ k c at.
         let old = go.files k c at in
         node-stays c.file c.file.target
-            (λ n on. fewer-leaves.stays n
-            (omega (arith, held-counts node_in refl left k n (ap node_in at ∙ on), fewer-leaves.counts n, go.counts n,
-            is.holds n)))
+        (λ n on. fewer-leaves.stays n
+        (omega (
+          arith,
+          held-counts node_in refl left k n (ap node_in at ∙ on),
+          fewer-leaves.counts n,
+          go.counts n,
+          is.holds n,
+        )))
         (subst (FitsFiles t.files) old.1.1 (is.fits k old.0 old.1.0));
     homes = λ j. home-stays j (home_in (slot after j)) refl;
   }
@@ -523,8 +540,8 @@ module _ {t : FileTree} {opens : Opens} {os : Processes} (is : IsInUse t opens o
       let same_at : j ≡ i = omega (arith, e) in
       let some : j ≢ 0 = λ z. none-some x (sym is.zero ∙ ap (slot t.files) (sym z ∙ same_at) ∙ at) in
       ap (λ b. nat_lt 0 (links_of x) || b)
-          (used-is left after hs away s opened placed j some
-          ∙ ap (nat_lt 0) (omega (arith, fewer-leaves.counts j, go.counts j, is.holds j))))
+      (used-is left after hs away s opened placed j some
+      ∙ ap (nat_lt 0) (omega (arith, fewer-leaves.counts j, go.counts j, is.holds j))))
       ∙ sym fewer-leaves.reaps)
 
 -- ---- one more holds a node
@@ -543,7 +560,7 @@ module _ {t : FileTree} {opens : Opens} {os : Processes} (is : IsInUse t opens o
   pub used-more : (d : ℕ) → d < length t.holds → (new : Opens) (after : Processes)
       → ((n : ℕ) → files_on new n + homes_at after n ≡ files_on opens n + homes_at os n + one_in n (Some d))
       → ((k : ℕ) → FitsIn t (slot new k)) → ((j : ℕ) → IsHome t (home_in (slot after j)))
-          → IsInUse (record t { holds = with_hold t.holds d }) new after
+      → IsInUse (record t { holds = with_hold t.holds d }) new after
   used-more d short new after counts fits homes = record {
     rules = is.rules;
     zero = is.zero;
@@ -568,4 +585,4 @@ module _ {t : FileTree} {opens : Opens} {os : Processes} (is : IsInUse t opens o
       let one : one_in n (home_in (Some child)) ≡ one_in n (Some d) = ap (one_in n) home in
       omega (arith, sum-put (λ o. one_in n (home_in o)) os j child short free refl, one))
       is.fits (all-set (λ j x. IsHome t (home_in x)) os j _ (subst (IsHome t) (sym home) (home-folder is i d parent))
-          is.homes)
+      is.homes)

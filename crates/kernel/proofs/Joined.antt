@@ -39,7 +39,7 @@ slot-joined (o ∷ os) (h ∷ hs) (suc i) = slot-joined os hs i
 -- a place has another process and another space, or none
 pub put-joined : (os : Processes) (hs : Views) (i : ℕ) (o : Option Process) (q : Option SpaceView) → i < length hs
     → slice_set (joined os hs) i (option_map (with_space (unwrap_or q no_pages)) o)
-        ≡ joined (slice_set os i o) (slice_set hs i q)
+    ≡ joined (slice_set os i o) (slice_set hs i q)
 unfolding joined
 put-joined [] hs i o q low = refl
 put-joined (x ∷ os) [] i o q low = absurd (omega arith)
@@ -309,8 +309,12 @@ pub count-joined : (os : Processes) (hs : Views) (n : ℕ) → count_of (joined 
 unfolding joined
 count-joined [] hs n = refl
 count-joined (None ∷ os) hs n =
-    omega (arith, sum_by-cons (counts.names_in n) None (joined os (drop 1 hs)), count-joined os (drop 1 hs) n,
-    sum_by-cons (names_in n) None os)
+    omega (
+      arith,
+      sum_by-cons (counts.names_in n) None (joined os (drop 1 hs)),
+      count-joined os (drop 1 hs) n,
+      sum_by-cons (names_in n) None os,
+    )
 count-joined (Some p ∷ os) hs n =
     sum_by-cons (counts.names_in n) (Some (with_space (space_in hs 0) p)) (joined os (drop 1 hs))
     ∙ ap (λ (m : ℕ). names n p.descriptors + m) (count-joined os (drop 1 hs) n)
@@ -335,8 +339,13 @@ pub place-counts : (files : Opens) (os : Processes) → IsCounted files os → (
     → (d n : ℕ) → slot (descriptors_in o) d ≡ Some n → 0 < count_at files n
 place-counts files os counted i None at d n named = absurd (cc)
 place-counts files os counted i (Some p) at d n named =
-    omega (arith, counted n, least (names_in n) os i p at, names-clear n _ d n (slot-within _ d n named) named,
-    one_at-self n)
+    omega (
+      arith,
+      counted n,
+      least (names_in n) os i p at,
+      names-clear n _ d n (slot-within _ d n named) named,
+      one_at-self n,
+    )
 
 module _ (files : Opens) (pipes : Pipes) (os : Processes) (is : IsOpened files pipes os) where
   open-go : (n : ℕ) (o : Option Counted) → slot files n ≡ o → 0 < count_in o
@@ -344,7 +353,7 @@ module _ (files : Opens) (pipes : Pipes) (os : Processes) (is : IsOpened files p
   open-go n None at some = absurd (omega (arith, some))
   open-go n (Some c) at some =
       let there : slot (opens_of files) n ≡ Some (file_of c.file) = slot-opens files n
-              ∙ ap (option_map (λ (x : Counted). file_of x.file)) at in
+      ∙ ap (option_map (λ (x : Counted). file_of x.file)) at in
       (file_of c.file, (there, is.each n (file_of c.file) there))
 
   -- what a descriptor of a process names is open

@@ -61,7 +61,7 @@ module _ {k : Kernel} {i : ℕ} {p : Process} {old : SpaceView} (r : IsRun k i p
     reheld-full over =
         let to = moved k i p h k.spaces.registers k.spaces.pc in
         let stands = stands-set _ _ i _ _ (within-run k i p old r) (within-space k i p old r is)
-                (placed-with k i p old r is h) is.stands in
+        (placed-with k i p old r is h) is.stands in
         subst (λ (y : Kernel). is_within (state_of y) ≡ false) (sym reheld-is) (over-stands to stands over)
 
   -- bytes are written
@@ -99,7 +99,7 @@ pub written-all : {at k : Kernel} → at ≡ k → (i address : ℕ) (bytes : Li
     → OnTrue b (new ≡ (wrote at i address bytes).spaces) → new ≡ (wrote at i address bytes).spaces
 written-all {at} same i address bytes {b} {new} can told done =
     subst (λ (c : Bool). OnTrue c (new ≡ (wrote at i address bytes).spaces))
-        (told ∙ ap (λ (y : Kernel). can_write (view_at y.spaces i).memory address (length bytes)) same ∙ can) done
+    (told ∙ ap (λ (y : Kernel). can_write (view_at y.spaces i).memory address (length bytes)) same ∙ can) done
 
 -- ---- sizes
 
@@ -127,19 +127,19 @@ module _ {k now : Kernel} (keeps : Keeps k) (at : k ≡ now) {i : ℕ} (active :
   grown-keeps false done lacks = rw lacks.1 keeps
 
 module _ (k : Kernel) (i : ℕ) {size : ℕ} {h : SpaceView} (held : h ≡ sized (view_at k.spaces i) size) (new : Spaces)
-    where
-  pub resized-made : new ≡ with_view k.spaces i h → record k { spaces = new } ≡ resized k i size
-  resized-made is = rw (is, held) refl
+  where
+    pub resized-made : new ≡ with_view k.spaces i h → record k { spaces = new } ≡ resized k i size
+    resized-made is = rw (is, held) refl
 
-  pub grown-done : (b : Bool) → OnTrue b (Fits k.spaces new (with_view k.spaces i h))
-      → OnTrue b (record k { spaces = new } ≡ resized k i size)
-  grown-done true done = resized-made done.1
-  grown-done false done = tt
+    pub grown-done : (b : Bool) → OnTrue b (Fits k.spaces new (with_view k.spaces i h))
+        → OnTrue b (record k { spaces = new } ≡ resized k i size)
+    grown-done true done = resized-made done.1
+    grown-done false done = tt
 
-  pub grown-over : (b : Bool) → OnFalse b (Lacks k.spaces new (with_view k.spaces i h))
-      → OnFalse b (k.spaces.frames < taken_frames (resized k i size).spaces)
-  grown-over true lacks = tt
-  grown-over false lacks = rw (← held) lacks.0
+    pub grown-over : (b : Bool) → OnFalse b (Lacks k.spaces new (with_view k.spaces i h))
+        → OnFalse b (k.spaces.frames < taken_frames (resized k i size).spaces)
+    grown-over true lacks = tt
+    grown-over false lacks = rw (← held) lacks.0
 
 -- ---- what was typed
 
@@ -168,22 +168,25 @@ piped-kernel : {k : Kernel} → IsKernel k → (q : ℕ) (old new : List ℕ) �
     → IsKernel (record k { spaces = with_pipe k.spaces q (Some new) })
 piped-kernel {k} is q old new at = let stays =
     all-set (λ r o. is_some o ≡ is_some (slot k.spaces.pipes r)) _ q _ (sym (ap is_some at)) (λ r. refl) in record {
-  all = is.all;
-  spaces = is.spaces;
-  stands = is.stands;
-  runs = is.runs;
-  used = is.used;
-  fits = omega (arith, is.fits,
-      fewer-pipes _ _ (length-set k.spaces.pipes q (Some new)) (λ r bytes there. sym (stays r) ∙ ap is_some there));
-  opened = record {
-    table = is.opened.table;
-    counted = is.opened.counted;
-    each = is.opened.each;
-    all = length-set k.spaces.pipes q (Some new) ∙ is.opened.all;
-    piped = λ r. stays r ∙ is.opened.piped r;
-    waits = is.opened.waits;
-  };
-}
+      all = is.all;
+      spaces = is.spaces;
+      stands = is.stands;
+      runs = is.runs;
+      used = is.used;
+      fits = omega (
+        arith,
+        is.fits,
+        fewer-pipes _ _ (length-set k.spaces.pipes q (Some new)) (λ r bytes there. sym (stays r) ∙ ap is_some there),
+      );
+      opened = record {
+        table = is.opened.table;
+        counted = is.opened.counted;
+        each = is.opened.each;
+        all = length-set k.spaces.pipes q (Some new) ∙ is.opened.all;
+        piped = λ r. stays r ∙ is.opened.piped r;
+        waits = is.opened.waits;
+      };
+    }
 
 -- and who waits for bytes is woken
 pub pipe-keeps : {k now : Kernel} → Keeps k → k ≡ now → (q : ℕ) → has_pipe now.spaces q ≡ true → (new : List ℕ)
@@ -239,7 +242,7 @@ module _ {t : FileTree} {opens : Opens} {os : Processes} (is : IsInUse t opens o
     pub used-shaped : KeepsTree now.files → now.holds ≡ t.holds → slot now.files 0 ≡ None
         → blocks_of now.files ≤ now.block_limit
         → ((n : ℕ) (node : Node) → slot now.files n ≡ Some node → links_of node ≡ 0 → 1 ≤ holders t.holds n)
-            → IsInUse now opens os
+        → IsInUse now opens os
     used-shaped rules same none few held = record {
       rules = rules;
       zero = none;
@@ -256,7 +259,7 @@ module _ {t : FileTree} {opens : Opens} {os : Processes} (is : IsInUse t opens o
       → blocks_of now.files ≤ now.block_limit → IsInUse now opens os
   used-changed now changed same none few = used-shaped now (λ n some. changed.stays n (there _ (held-there is n some)))
       changed.tree same none few
-          (λ n node at bare. let was = changed.idle n node at bare in is.held n was.was was.here was.none)
+      (λ n node at bare. let was = changed.idle n node at bare in is.held n was.was was.here was.none)
 
 -- ---- who holds nodes, where a name is taken away: nodes that nothing keeps any more go
 
@@ -317,19 +320,19 @@ module _ {k : Kernel} (keeps : Keeps k) {now : Kernel} (same : k ≡ now) (up : 
     unchanged : t.files ≡ k.tree.files → IsInUse t k.files k.table.places
     unchanged alike =
         used-shaped in-use t (λ n some. ap (λ (fs : Files). option_map shape (slot fs n)) alike)
-            (subst KeepsTree (sym alike) in-use.rules) acts.holds (ap (λ (fs : Files). slot fs 0) alike ∙ in-use.zero)
+        (subst KeepsTree (sym alike) in-use.rules) acts.holds (ap (λ (fs : Files). slot fs 0) alike ∙ in-use.zero)
         (omega (arith, in-use.within, acts.limit, ap blocks_of alike))
-            (λ n node at bare. in-use.held n node (ap (λ (fs : Files). slot fs n) (sym alike) ∙ at) bare)
+        (λ n node at bare. in-use.held n node (ap (λ (fs : Files). slot fs n) (sym alike) ∙ at) bare)
 
     names-keep : ((v : X) → Done v → IsWhole t → IsInUse t k.files k.table.places) → Keeps (with_tree k t)
     names-keep done = record
         { sound = with-tree keeps.sound t (go r acts.done acts.refused whole acts.failed); watched = keeps.watched }
-        where
-      go : (s : Result X TreeFault) → IfOk s Done
-          → IfErr s (λ fault. fault ≢ Device → tree.IsRefusal k.tree t Bad (Why fault)) → OnOk s (IsWhole t)
-          → t.failed ≡ has_failed s → t.failed ≡ false → IsInUse t k.files k.table.places
-      go (Ok v) told refused full failed good = done v told full
-      go (Err fault) told refused full failed good = unchanged (refused (device-is fault (sym failed ∙ good))).same
+      where
+        go : (s : Result X TreeFault) → IfOk s Done
+            → IfErr s (λ fault. fault ≢ Device → tree.IsRefusal k.tree t Bad (Why fault)) → OnOk s (IsWhole t)
+            → t.failed ≡ has_failed s → t.failed ≡ false → IsInUse t k.files k.table.places
+        go (Ok v) told refused full failed good = done v told full
+        go (Err fault) told refused full failed good = unchanged (refused (device-is fault (sym failed ∙ good))).same
 
     -- a node or a name more
     made-keeps : ((v : X) → Done v → Changed k.tree.files t.files) → Keeps (with_tree k t)
@@ -365,10 +368,12 @@ module _ {k : Kernel} (keeps : Keeps k) {now : Kernel} (same : k ≡ now) (up : 
         → OnOk s (IsWhole t) → OnErr s (t.failed ≡ true) → Keeps (with_tree k t)
     go (Ok done) told full down =
         let changed = subst (λ (u : FileTree). Changed k.tree.files u.files) (sym told)
-                (quiet.truncates in-use.rules n) in
-        record { sound = with-tree keeps.sound t
-            (λ good. used-changed in-use t changed (ap (λ (u : FileTree). u.holds) told) full.zero full.within);
-            watched = keeps.watched }
+        (quiet.truncates in-use.rules n) in
+        record {
+          sound = with-tree keeps.sound t
+              (λ good. used-changed in-use t changed (ap (λ (u : FileTree). u.holds) told) full.zero full.within);
+          watched = keeps.watched;
+        }
     go (Err fault) told full down = fail-keeps keeps t down
 
 -- ---- a read into the memory of the running process
@@ -389,9 +394,12 @@ module _ (k : Kernel) (i n offset address count : ℕ) (t : FileTree) (s : Space
       → OnOk r (s ≡ with_read k.spaces i address k.tree.files n offset count)
       → IfOk r (HasFetched k (record k { tree = t; spaces = s }) i n offset address count)
   fetch-told (Ok v) told come =
-      record { same = rw come (ap
-      (λ (u : FileTree). record k { tree = u; spaces = with_read k.spaces i address k.tree.files n offset count })
-      told.same); counted = told.count }
+      record {
+        same = rw come (ap
+            (λ (u : FileTree). record k { tree = u; spaces = with_read k.spaces i address k.tree.files n offset count })
+            told.same);
+        counted = told.count;
+      }
   fetch-told (Err fault) told come = tt
 
 -- ---- a write from it
@@ -403,10 +411,12 @@ module _ (k : Kernel) (i n offset address count : ℕ) (t : FileTree) where
   store-keeps keeps up file (Ok v) told down whole =
       let used = keeps.sound.used up in
       let changed = subst (λ (u : FileTree). Changed k.tree.files u.files) (sym told.0)
-              (written-changed used.rules k.tree.block_limit n offset _ file) in
-      record { sound = with-tree keeps.sound t
-          (λ good. used-changed used t changed (ap (λ (u : FileTree). u.holds) told.0) whole.zero whole.within);
-          watched = keeps.watched }
+      (written-changed used.rules k.tree.block_limit n offset _ file) in
+      record {
+        sound = with-tree keeps.sound t
+            (λ good. used-changed used t changed (ap (λ (u : FileTree). u.holds) told.0) whole.zero whole.within);
+        watched = keeps.watched;
+      }
   store-keeps keeps up file (Err fault) told down whole = fail-keeps keeps t down
 
   pub store-told : (r : Result (Option ℕ) DeviceFault)

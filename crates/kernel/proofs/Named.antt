@@ -58,7 +58,7 @@ pub count-all_shared : (t : Opens) (ds : Fds) → AreNamed t ds → (n : ℕ)
 count-all_shared t [] are n = omega arith
 count-all_shared t (d ∷ ds) are n =
     let rest = count-all_shared (shared_in t d) ds
-            (λ m. omega (arith, are m, names-cons m d ds, count-share t d ds are m)) n in
+    (λ m. omega (arith, are m, names-cons m d ds, count-share t d ds are m)) n in
     omega (arith, rest, names-cons n d ds, count-share t d ds are n)
 
 pub kept-all_shared : (P : Opens → Type 0) → ((t : Opens) (n : ℕ) → P t → P (shared t n)) → (t : Opens) (ds : Fds)
@@ -92,7 +92,7 @@ pub count-all_closed : (t : Opens) (ds : Fds) → AreNamed t ds → (n : ℕ)
 count-all_closed t [] are n = omega arith
 count-all_closed t (d ∷ ds) are n =
     let rest = count-all_closed (closed_in t d) ds
-            (λ m. omega (arith, are m, names-cons m d ds, count-close t d ds are m)) n in
+    (λ m. omega (arith, are m, names-cons m d ds, count-close t d ds are m)) n in
     omega (arith, rest, names-cons n d ds, count-close t d ds are n)
 
 kept-all_closed : (P : Opens → Type 0) → ((t : Opens) (n : ℕ) → P t → P (closed t n)) → (t : Opens) (ds : Fds) → P t
@@ -107,7 +107,7 @@ table-all_closed t ds is = kept-all_closed IsTable table-closed t ds is
 old-closed : (t : Opens) (n : ℕ) → AreOld t (closed t n)
 old-closed t n =
     all-set (λ k o. (c : Counted) → o ≡ Some c → (d : Counted) × ((slot t k ≡ Some d) × (d.file ≡ c.file))) t n _
-        (fewer-from _) (λ k c at. (c, (at, refl)))
+    (fewer-from _) (λ k c at. (c, (at, refl)))
 
 pub old-all_closed : (t : Opens) (ds : Fds) → AreOld t (all_closed t ds)
 old-all_closed t ds = kept-all_closed (AreOld t)
@@ -152,11 +152,18 @@ counted-ended t places i p status counted at n =
     let short : i < length orphans = rw (length-map places (option_map (orphaned p.pid))) (slot-within places i p at) in
     let sums = sum_by-set (names_in n) orphans i (Some (zombie_of p status)) None short in
     let there : names_in n (slot orphans i) ≡ names n p.descriptors =
-            ap (names_in n) (slot-map (orphaned p.pid) places i) ∙ orphaned-names p.pid n (slot places i)
-            ∙ ap (names_in n) at in
+    ap (names_in n) (slot-map (orphaned p.pid) places i) ∙ orphaned-names p.pid n (slot places i)
+    ∙ ap (names_in n) at in
     let closed_all = count-all_closed t p.descriptors (names-counted t places i p counted at) n in
-    omega (arith, closed_all, counted n, sums, there,
-        same-map (names_in n) (orphaned p.pid) (orphaned-names p.pid n) places, names-none n)
+    omega (
+      arith,
+      closed_all,
+      counted n,
+      sums,
+      there,
+      same-map (names_in n) (orphaned p.pid) (orphaned-names p.pid n) places,
+      names-none n,
+    )
 
 -- ---- pipes
 
@@ -187,9 +194,9 @@ module _ (pipes : Pipes) (t : Opens) (n : ℕ) (is : IsPiped pipes (opens_of t))
     | inr last ↦
         let one : count_at t n ≤ 1 = rw at last in
         rw (le-ltb 1 c.count last)
-            (subst (λ (os : List (Option unix.OpenFile)). IsPiped (after_close pipes os (Some c.file.target)) os)
-            (sym (opens-closed_last t n one))
-            (goes c.file c.file.target (slot-opens t n ∙ ap (option_map (λ (d : Counted). file_of d.file)) at) refl))
+        (subst (λ (os : List (Option unix.OpenFile)). IsPiped (after_close pipes os (Some c.file.target)) os)
+        (sym (opens-closed_last t n one))
+        (goes c.file c.file.target (slot-opens t n ∙ ap (option_map (λ (d : Counted). file_of d.file)) at) refl))
   ]
 
 pub left-close_pipe : (old pipes : Pipes) (opens : List (Option unix.OpenFile)) (o : Option Target)
@@ -213,7 +220,7 @@ pub stands-last : (t : Opens) (pipes : Pipes) (n q : ℕ) (e : files_end.End) �
 stands-last t pipes n q e is last =
     let c = last-is _ _ last in
     let at : slot (opens_of t) n ≡ Some (file_of c.0.file) = slot-opens t n
-            ∙ ap (option_map (λ (d : Counted). file_of d.file)) c.1.0 in
+    ∙ ap (option_map (λ (d : Counted). file_of d.file)) c.1.0 in
     is q ∙ has_pipe-clear _ n _ q at ∙ rw (c.1.1, eq-eqb q q refl) refl
 
 -- ---- what is left as a whole
@@ -231,7 +238,7 @@ pub leaves-standing : (t : Opens) (pipes : Pipes) (ds : Fds) → IsPiped pipes (
     → Leaves (all_closed t ds) pipes (standing pipes (opens_of (all_closed t ds)))
 leaves-standing t pipes ds is =
     let all = kept-all_closed (λ u. (after : Pipes) × Leaves u pipes after)
-            (λ u n h. (_, leaves-one u pipes h.0 n h.1)) t ds (pipes, (is, pipes-same pipes)) in
+    (λ u n h. (_, leaves-one u pipes h.0 n h.1)) t ds (pipes, (is, pipes-same pipes)) in
     rw (pipes-left (opens_of (all_closed t ds)) pipes all.0 all.1.0 all.1.1) all.1
 
 -- what is known of the open files is known then
@@ -274,13 +281,13 @@ counts-joined t os hs counted n = counted n ∙ sym (count-joined os hs n)
 pub reap-left : (s : State) (old new : Opens) (before pipes : Pipes) (files : Files) → IsTable new → IsLeft old new
     → Counts new s.places → Leaves new before pipes
     → without_nodes (record s { opens = opens_of new; pipes = pipes })
-        ≡ record s { files = files; opens = opens_of new; pipes = pipes }
+    ≡ record s { files = files; opens = opens_of new; pipes = pipes }
     → reap (record s { opens = opens_of old; pipes = before })
-        ≡ record s { files = files; opens = opens_of new; pipes = pipes }
+    ≡ record s { files = files; opens = opens_of new; pipes = pipes }
 unfolding reap
 reap-left s old new before pipes files is left counts leaves nodes =
     ap (λ (x : State). without_nodes (without_pipes x))
-        (without_opens-left (record s { pipes = before }) old new is left counts)
+    (without_opens-left (record s { pipes = before }) old new is left counts)
     ∙ ap without_nodes (without_pipes-left (record s { opens = opens_of new }) _ pipes leaves.0 leaves.1)
     ∙ nodes
 
@@ -288,15 +295,21 @@ reap-left s old new before pipes files is left counts leaves nodes =
 pub reap-closed : (s : State) (t : Opens) (pipes : Pipes) (ds : Fds) (files : Files) → IsTable t
     → IsPiped pipes (opens_of t) → Counts (all_closed t ds) s.places
     → without_nodes (record s
-        { opens = opens_of (all_closed t ds); pipes = standing pipes (opens_of (all_closed t ds)) })
-        ≡ record s { files = files; opens = opens_of (all_closed t ds);
-        pipes = standing pipes (opens_of (all_closed t ds)) }
+    { opens = opens_of (all_closed t ds); pipes = standing pipes (opens_of (all_closed t ds)) })
+    ≡ record s {
+      files = files;
+      opens = opens_of (all_closed t ds);
+      pipes = standing pipes (opens_of (all_closed t ds));
+    }
     → reap (record s { opens = opens_of t; pipes = pipes })
-        ≡ record s { files = files; opens = opens_of (all_closed t ds);
-        pipes = standing pipes (opens_of (all_closed t ds)) }
+    ≡ record s {
+      files = files;
+      opens = opens_of (all_closed t ds);
+      pipes = standing pipes (opens_of (all_closed t ds));
+    }
 reap-closed s t pipes ds files is piped counts nodes =
     reap-left s t _ pipes _ files (table-all_closed t ds is)
-        (kept-all_closed (IsLeft t) (left-closed t) t ds (left-same t)) counts (leaves-standing t pipes ds piped) nodes
+    (kept-all_closed (IsLeft t) (left-closed t) t ds (left-same t)) counts (leaves-standing t pipes ds piped) nodes
 
 -- ---- the nodes of open files that go
 
@@ -333,8 +346,12 @@ pub files_on-all_closed : (t : Opens) (ds : Fds) (m : ℕ)
 files_on-all_closed t [] m = omega arith
 files_on-all_closed t (None ∷ ds) m = files_on-all_closed t ds m
 files_on-all_closed t (Some n ∷ ds) m =
-    omega (arith, files_on-all_closed (closed t n) ds m, files_on-closed t n m,
-    named_in-append (listed (last_node t n)) (gone_nodes (closed t n) ds) m)
+    omega (
+      arith,
+      files_on-all_closed (closed t n) ds m,
+      files_on-closed t n m,
+      named_in-append (listed (last_node t n)) (gone_nodes (closed t n) ds) m,
+    )
 
 -- ---- one descriptor after the other
 
@@ -381,8 +398,13 @@ module _ {old : Opens} {before : Spaces} {ds : Fds} {t : Opens} {s : Spaces} {go
         ∙ append_assoc gone (listed (last_node t n)) (gone_nodes (closed t n) (drop (i + 1) ds))
         ∙ ap (λ rest. gone ++ gone_nodes t rest) (next h _ at)
         ∙ is.nodes;
-    few = omega (arith, is.few, ap length e, length-append gone (listed (last_node t n)),
-        length-listed (last_node t n));
+    few = omega (
+      arith,
+      is.few,
+      ap length e,
+      length-append gone (listed (last_node t n)),
+      length-listed (last_node t n),
+    );
   }
 
   -- all were

@@ -74,7 +74,7 @@ module _ (rest : Rest) (t : Places) (hs : Views) where
       ap is_some
       (zombie_child-with_table (base rest) t hs p.pid
       ∙ sym (zombie_child-with_table (awaited_in rest.opens rest.pipes rest.console rest.ticks)
-          (record { places = t.places; last = 0; next_pid = 0; awake = [] }) [] p.pid))
+      (record { places = t.places; last = 0; next_pid = 0; awake = [] }) [] p.pid))
   goes-same p h w Read = held-same (turn.can_read_from s) (turn.can_read_from a) reads-same _
   goes-same p h w Write = held-same (turn.can_write_to s) (turn.can_write_to a) writes-same _
   goes-same p h w _ = refl
@@ -143,9 +143,9 @@ module _ (k : Kernel) (idle : k.spaces.active ≡ None) where
       let s = with_table (base (rest_of k)) k.table k.spaces.places in
       let passes : turn.ready (state_of k) i ≡ true = find-true (turn.ready (state_of k)) _ i found in
       let here : holds (turn.is_ready s) (option_map (with_space (space_in k.spaces.places i)) (slot k.table.places i))
-              ≡ true =
+      ≡ true =
       sym (ap (holds (turn.is_ready s)) (slot-joined _ _ i))
-          ∙ ap (λ (x : State). turn.ready x i) (sym (state-idle k idle)) ∙ passes in
+      ∙ ap (λ (x : State). turn.ready x i) (sym (state-idle k idle)) ∙ passes in
       alive-go s _ _ here
 
 -- ---- a pick by a test is the search that a turn makes
@@ -178,14 +178,14 @@ find-from_answers : (says : ℕ → Bool → Type 0) (test : ℕ → Bool) (last
 unfolding round_from
 find-from_answers says test last None picks same =
     sym (find_none test (place_in_round last) place_limit 1
-        (λ j low high. sym (same (place_in_round last j) false (picks j low (omega arith)))))
+    (λ j low high. sym (same (place_in_round last j) false (picks j low (omega arith)))))
 find-from_answers says test last (Some i) picks same =
     let turn_in : (1 ≤ picks.turn) × (picks.turn ≤ 64) = picks.in_round in
     let yes : test (place_in_round last picks.turn) ≡ true =
-            sym (same (place_in_round last picks.turn) true (subst (λ k. says k true) picks.there picks.yes)) in
+    sym (same (place_in_round last picks.turn) true (subst (λ k. says k true) picks.there picks.yes)) in
     ap Some picks.there
     ∙ sym (find_first test (place_in_round last) place_limit 1 picks.turn (omega arith) (omega arith) yes
-        (λ j low high. sym (same (place_in_round last j) false (picks.before j low high))))
+    (λ j low high. sym (same (place_in_round last j) false (picks.before j low high))))
 
 -- who is ready in the state with these places
 abbrev pub ready_with : State → Places → Views → Processes → ℕ → Bool
@@ -202,7 +202,7 @@ module _ {F : Type 0} (g : Shared F (Bor Processes × (ℕ × Unit {0})) Bool) (
   unfolding turn
   turn-from_pick s t hs result picks is =
       find-from_answers (Answers g f t.places) (ready_with s t hs t.places) _ _ picks
-          (λ i b h. is h.shown i b h.says ∙ ap (λ os. ready_with s t hs os i) h.shows)
+      (λ i b h. is h.shown i b h.says ∙ ap (λ os. ready_with s t hs os i) h.shows)
 
 -- ---- what a kernel shows of its processes, in the words of its state
 
@@ -215,8 +215,11 @@ pub place-changed : (test : Process → Bool) → ((s : Spaces) (p : Process) �
 place-changed test same t s None = refl
 place-changed test same t s (Some i) =
     let o = option_map (on_hart s) (slot t.places i) in
-    rw (position_or_len-set (holds test) t.places i o None
-        (map-same (holds test) (on_hart s) (same s) (slot t.places i)), length-set t.places i o) refl
+    rw (
+      position_or_len-set (holds test) t.places i o None
+          (map-same (holds test) (on_hart s) (same s) (slot t.places i)),
+      length-set t.places i o,
+    ) refl
 
 -- ---- the process with a pid
 
@@ -265,8 +268,8 @@ loaded-some : (k : Kernel) (i : ℕ) (p : Process) (o : Option ℕ) → slot k.t
     → (q : Process) × (slot (changed_at k.table (on_hart k.spaces) o).places i ≡ Some q)
 loaded-some k i p a is =
     active-by (λ j o. j ≡ i → (q : Process) × (o ≡ Some q)) k
-        (λ j o was e. let q = was e in (on_hart k.spaces q.0, ap (option_map (on_hart k.spaces)) q.1)) a
-        (λ j e. (p, ap (slot k.table.places) e ∙ is)) i refl
+    (λ j o was e. let q = was e in (on_hart k.spaces q.0, ap (option_map (on_hart k.spaces)) q.1)) a
+    (λ j e. (p, ap (slot k.table.places) e ∙ is)) i refl
 
 module _ (k : Kernel) (pid i : ℕ) (found : place_where k.table.places (has_pid pid) ≡ Some i) where
   -- the place that is found has a space
@@ -327,15 +330,15 @@ runs-position : (os : Processes) (o : Option ℕ) → ((j : ℕ) → holds table
     → ((i : ℕ) → o ≡ Some i → i < length os) → place_where os table.is_running ≡ o
 runs-position os None runs within =
     let e : position_or_len (holds table.is_running) os ≡ length os =
-            position_or_len_is (holds table.is_running) os _ None (omega arith) (λ j h. runs j)
-            (λ h. absurd (omega arith)) in
+    position_or_len_is (holds table.is_running) os _ None (omega arith) (λ j h. runs j)
+    (λ h. absurd (omega arith)) in
     let none : nat_lt (length os) (length os) ≡ false = le-ltb _ _ (omega arith) in
     rw (e, none) refl
 runs-position os (Some i) runs within =
     let low : i < length os = within i refl in
     let e : position_or_len (holds table.is_running) os ≡ i =
     position_or_len_is (holds table.is_running) os i None (omega arith)
-        (λ j h. runs j ∙ other-at i j (λ same. absurd (omega arith))) (λ h. runs i ∙ eq-eqb i i refl) in
+    (λ j h. runs j ∙ other-at i j (λ same. absurd (omega arith))) (λ h. runs i ∙ eq-eqb i i refl) in
     let some : nat_lt i (length os) ≡ true = lt-ltb _ _ low in
     rw (e, some) refl
 
@@ -344,7 +347,7 @@ running-state k is =
     place_where-joined unix.is_running table.is_running (λ h p. refl) _ _
     ∙ runs-position _ _ (λ j. running-active k _ j ∙ is.runs j)
     (λ i active. let run = run-of k i is active in let h = slot-within _ i run.0 run.1.1.process
-        in omega (arith, length-active k k.spaces.active, h))
+    in omega (arith, length-active k k.spaces.active, h))
 
 -- ---- who is ready
 

@@ -158,7 +158,7 @@ moved k i p h registers pc = record k {
 pub stands-set : (os : Processes) (hs : Views) (i : ℕ) (o : Option Process) (q : Option SpaceView) → i < length os
     → i < length hs → IsPlace o q
     → ((j : ℕ) → IsPlace (slot os j) (slot hs j)) → (j : ℕ)
-        → IsPlace (slot (slice_set os i o) j) (slot (slice_set hs i q) j)
+    → IsPlace (slot (slice_set os i o) j) (slot (slice_set hs i q) j)
 stands-set os hs i o q short low is stands j = elim (cases_eq j i) [
   | inl same ↦ rw (same, slot-put os i o short, slot-put hs i q low) is
   | inr other ↦ rw (slot-other os i j o other, slot-other hs i j q other) (stands j)
@@ -169,7 +169,7 @@ pub runs-set : (os : Processes) (i : ℕ) (o : Option Process) (before after : O
     → holds table.is_running o ≡ is_at i after
     → ((j : ℕ) → j ≢ i → is_at j after ≡ is_at j before)
     → ((j : ℕ) → holds table.is_running (slot os j) ≡ is_at j before) → (j : ℕ)
-        → holds table.is_running (slot (slice_set os i o) j) ≡ is_at j after
+    → holds table.is_running (slot (slice_set os i o) j) ≡ is_at j after
 runs-set os i o before after short here others runs j = elim (cases_eq j i) [
   | inl same ↦ rw (same, slot-put os i o short) here
   | inr other ↦ rw (slot-other os i j o other, others j other) (runs j)
@@ -212,13 +212,13 @@ module _ (k : Kernel) (i : ℕ) (p : Process) (h : SpaceView) (r : IsRun k i p h
         let q = record p' { registers = registers; pc = pc } in
         let twice : put (put k.table.places i p') i q ≡ put (put k.table.places i (on_hart k.spaces p)) i q =
         set-set k.table.places i (Some p') (Some q)
-            ∙ sym (set-set k.table.places i (Some (on_hart k.spaces p)) (Some q)) in
+        ∙ sym (set-set k.table.places i (Some (on_hart k.spaces p)) (Some q)) in
         let hs = slice_set k.spaces.places i (Some h') in
         state-run _ i p' h' moved-run
         ∙ ap (λ (places : Processes). with_table (base (rest_of k)) (record k.table { places = places }) hs) twice
         ∙ sym (ap (λ places. record (base (rest_of k))
-            { places = places; last = k.table.last; next_pid = k.table.next_pid })
-            (put-joined _ _ i (Some q) (Some h') within-space))
+        { places = places; last = k.table.last; next_pid = k.table.next_pid })
+        (put-joined _ _ i (Some q) (Some h') within-space))
         ∙ sym (ap (λ (s : State). put_process s i (with_space h' q)) (state-run k i p h r))
 
 -- ---- the hart alone changes
@@ -236,14 +236,21 @@ pub change-put : (i : ℕ) (s : State) (p : unix.Process) (change : unix.Process
     → change_process (put_process s i p) i change ≡ put_process s i (change p)
 change-put i s p change short =
     ap (λ (o : Option unix.Process). record s { places = slice_set (put s.places i p) i (option_map change o) })
-        (slot-put _ i (Some p) short)
+    (slot-put _ i (Some p) short)
     ∙ ap (λ (places : List (Option unix.Process)). record s { places = places })
-        (set-set s.places i (Some p) (Some (change p)))
+    (set-set s.places i (Some p) (Some (change p)))
 
 pub regs-kernel : (k : Kernel) → IsKernel k → (registers : List ℕ) (pc : ℕ) → IsKernel (on_regs k registers pc)
 regs-kernel k is registers pc =
-    record { all = is.all; spaces = is.spaces; stands = is.stands; runs = is.runs; fits = is.fits; opened = is.opened;
-    used = is.used }
+    record {
+      all = is.all;
+      spaces = is.spaces;
+      stands = is.stands;
+      runs = is.runs;
+      fits = is.fits;
+      opened = is.opened;
+      used = is.used;
+    }
 
 run-mode : (p : Process) (memory : Memory) (mode : Mode) → mode ≡ Running → IsMode p memory mode
     → IsLive p × (p.killed ≡ false)
@@ -324,10 +331,10 @@ reap-with k t hs is used away =
     let counts : Counts k.files s.places = λ n. is.counted n ∙ sym (count-joined t.places hs n) in
     let opens : without_opens s ≡ s = without_opens-same s _ is.table counts in
     let none : LetsGo k.files t.places k.files t.places [] =
-            record { counts = λ m. omega arith; files = λ k c at. (c, (at, refl)); homes = λ j d at. at } in
+    record { counts = λ m. omega arith; files = λ k c at. (c, (at, refl)); homes = λ j d at. at } in
     let pipes : without_pipes s ≡ s = without_pipes-same s is.piped in
     ap (λ (x : State). without_nodes (without_pipes x)) opens ∙ ap without_nodes pipes
-        ∙ fewer-nodes used none s hs away refl refl refl
+    ∙ fewer-nodes used none s hs away refl refl refl
 
 -- ---- frames
 
@@ -340,8 +347,12 @@ sum-joined (None ∷ os) [] stands = sum-joined os [] (λ i. stands (suc i))
 sum-joined (None ∷ os) (None ∷ hs) stands =
     omega (arith, sum_by-cons frames_in None hs, sum-joined os hs (λ i. stands (suc i)))
 sum-joined (Some p ∷ os) (Some h ∷ hs) stands =
-    omega (arith, sum_by-cons frames_in (Some h) hs,
-        sum_by-cons process_frames (with_space h p) (taken (joined os hs)), sum-joined os hs (λ i. stands (suc i)))
+    omega (
+      arith,
+      sum_by-cons frames_in (Some h) hs,
+      sum_by-cons process_frames (with_space h p) (taken (joined os hs)),
+      sum-joined os hs (λ i. stands (suc i)),
+    )
 sum-joined _ _ stands = absurd (let bad = stands 0 in cc)
 
 pub frames-with : (k : Kernel) (t : Places) → ((i : ℕ) → IsMatch (slot t.places i) (slot k.spaces.places i))
@@ -359,7 +370,7 @@ pub within-state_with : (k : Kernel) (t : Places) → blocks_of k.tree.files ≤
     → is_within (state_with t k.spaces.places (rest_of k)) ≡ nat_le (taken_frames k.spaces) k.spaces.frames
 within-state_with k t fits is stands =
     let few : length (taken (opens_of k.files)) ≤ 100 =
-            omega (arith, few-taken (opens_of k.files), length-opens k.files, is.all) in
+    omega (arith, few-taken (opens_of k.files), length-opens k.files, is.all) in
     let opens : nat_le (length (taken (opens_of k.files))) 100 ≡ true = le-leb _ _ few in
     let blocks : nat_le (blocks_of k.tree.files) k.tree.block_limit ≡ true = le-leb _ _ fits in
     rw (frames-with k t stands, opens, blocks) (and-trues (nat_le (taken_frames k.spaces) k.spaces.frames))

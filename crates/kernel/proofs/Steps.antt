@@ -75,11 +75,11 @@ module _ (k : Kernel) (i : ℕ) (p : Process) (h : SpaceView) (r : IsRun k i p h
       left-state =
           let held = on_hart k.spaces p in
           let twice : put k.table.places i q ≡ put (put k.table.places i held) i q =
-                  sym (set-set k.table.places i (Some held) (Some q)) in
+          sym (set-set k.table.places i (Some held) (Some q)) in
           change-run k i p h r is (unix.with_mode mode)
           ∙ sym (ap state_of left-is
           ∙ ap (λ (places : Processes). with_table (base (rest_of k)) (record k.table { places = places })
-              k.spaces.places) twice
+          k.spaces.places) twice
           ∙ put-same (base (rest_of k)) (with_process k.table i held) _ i q r.space
           ∙ sym (ap (λ (s : State). put_process s i (with_space h q)) (state-run k i p h r)))
 
@@ -96,20 +96,26 @@ module _ (k : Kernel) (i : ℕ) (p : Process) (h : SpaceView) (r : IsRun k i p h
 pub block-keeps : {k : Kernel} {i : ℕ} {w : Pending} → IsKernel k → k.spaces.active ≡ Some i
     → slice_index k.spaces.registers 0 ≡ 0 → k.spaces.pc % 4 ≡ 0
     → IsPending (descriptors_at k i) (view_at k.spaces i).memory w w.number → IsAwaiting k.files (descriptors_at k i) w
-        → IsKernel (blocked k i w)
+    → IsKernel (blocked k i w)
 block-keeps {k} {i} {w} is active z a pending for =
     let run = run-of k i is active in
     let held : view_at k.spaces i ≡ run.1.0 = ap (λ o. unwrap_or o no_pages) run.1.1.space in
     left-kernel k i run.0 _ run.1.1 is z a _ refl refl
-        (live k i run.0 _ run.1.1 is, rw (held, ap descriptors_in run.1.1.process) at pending)
-        (rw (ap descriptors_in run.1.1.process) at for)
+    (live k i run.0 _ run.1.1 is, rw (held, ap descriptors_in run.1.1.process) at pending)
+    (rw (ap descriptors_in run.1.1.process) at for)
 
 -- other files, which are in use while no access of the device has failed
 pub with-tree : {k : Kernel} → IsKernel k → (t : FileTree) → (t.failed ≡ false → IsInUse t k.files k.table.places)
     → IsKernel (record k { tree = t })
-with-tree is t used = record
-    { all = is.all; spaces = is.spaces; stands = is.stands; runs = is.runs; fits = is.fits; opened = is.opened;
-    used = used }
+with-tree is t used = record {
+  all = is.all;
+  spaces = is.spaces;
+  stands = is.stands;
+  runs = is.runs;
+  fits = is.fits;
+  opened = is.opened;
+  used = used;
+}
 
 -- an access has failed
 pub fail-kernel : {k : Kernel} → IsKernel k → (t : FileTree) → t.failed ≡ true → IsKernel (record k { tree = t })
@@ -139,7 +145,7 @@ module _ (k : Kernel) (i : ℕ) (p : Process) (h : SpaceView) (r : IsRun k i p h
     pub computed-kernel : taken_frames (computed k i d).spaces ≤ k.spaces.frames → IsKernel (computed k i d)
     computed-kernel fits =
         rw computed-is (moved-kernel k i p h r is p _ _ d.pc (placed-with _) r.runs refl refl
-            (subst (λ (x : Kernel). taken_frames x.spaces ≤ k.spaces.frames) computed-is fits))
+        (subst (λ (x : Kernel). taken_frames x.spaces ≤ k.spaces.frames) computed-is fits))
 
 -- a kernel with other spaces, in which a process runs
 pub record GoesOn (k : Kernel) (i : ℕ) (new : Spaces) : Type 0 where
@@ -152,7 +158,7 @@ does-on k i mid new before does =
     let m : Kernel = record k { spaces = mid } in
     let run = run-of m i before.sound before.active in
     let frames : taken_frames (computed m i does.done).spaces ≡ taken_frames mid =
-            computed-frames mid i does.done _ run.1.1.space in
+    computed-frames mid i does.done _ run.1.1.space in
     rw does.leaves (record {
       sound = computed-kernel m i run.0 _ run.1.1 before.sound _ (rw frames before.sound.fits);
       active = before.active;
@@ -172,26 +178,28 @@ advances-on stops (suc n) k i new is active all =
 pub execute-on : (k : Kernel) (i : ℕ) (new : Spaces) (o : Option ℕ) (result : Option Trap) → IsKernel k
     → k.spaces.active ≡ Some i → o ≡ Some i → taken_frames new ≤ new.frames
     → IfNone result (IfSome o
-        (λ at. (d : Computed) × (cycle k.spaces.registers k.spaces.pc (view_at k.spaces at).memory ≡ Ok d)
-        × (new ≡ spaces.computed k.spaces at d)))
+    (λ at. (d : Computed) × (cycle k.spaces.registers k.spaces.pc (view_at k.spaces at).memory ≡ Ok d)
+    × (new ≡ spaces.computed k.spaces at d)))
     → IfSome result (λ t. IfSome o
-        (λ at. (cycle k.spaces.registers k.spaces.pc (view_at k.spaces at).memory ≡ Err t) × (new ≡ k.spaces)))
-        → GoesOn k i new
+    (λ at. (cycle k.spaces.registers k.spaces.pc (view_at k.spaces at).memory ≡ Err t) × (new ≡ k.spaces)))
+    → GoesOn k i new
 execute-on k i new None result is active here fits done trap = absurd (cc)
 execute-on k i new (Some at) None is active here fits done trap =
     let run = run-of k i is active in
     let e : new ≡ spaces.computed k.spaces i done.0 = done.2
-            ∙ ap (λ n. spaces.computed k.spaces n done.0) (same_Some at i here) in
+    ∙ ap (λ n. spaces.computed k.spaces n done.0) (same_Some at i here) in
     let few : taken_frames (computed k i done.0).spaces ≤ k.spaces.frames = rw e at fits in
     rw e (record { sound = computed-kernel k i run.0 _ run.1.1 is _ few; active = active; pipes = refl })
 execute-on k i new (Some at) (Some t) is active here fits done trap =
     rw trap.1 (record { sound = is; active = active; pipes = refl })
 
 pub on-keeps : {k : Kernel} {i : ℕ} {new : Spaces} → Keeps k → GoesOn k i new → Keeps (record k { spaces = new })
-on-keeps {k} keeps on = record
-    { sound = on.sound; watched = subst
-    (λ (ps : Pipes). IsWatched (awaited_in (opens_of k.files) ps k.console k.ticks) k.table.places k.table.awake)
-    (sym on.pipes) keeps.watched }
+on-keeps {k} keeps on = record {
+  sound = on.sound;
+  watched = subst
+      (λ (ps : Pipes). IsWatched (awaited_in (opens_of k.files) ps k.console k.ticks) k.table.places k.table.awake)
+      (sym on.pipes) keeps.watched;
+}
 
 -- ---- what steps that reach the disk come to, one after the other
 
@@ -209,14 +217,19 @@ serves-disk {T} {old} {new} {r} {Told} serves = go r serves.up serves.down serve
 
 pub read-then : {a b c : Kernel} → HasRead a b → HasRead b c → HasRead a c
 read-then {c = c} first next =
-    record { same = next.same ∙ ap (λ (k : Kernel). counting k c.tree.failures) first.same;
-    later = le_trans first.later next.later }
+    record {
+      same = next.same ∙ ap (λ (k : Kernel). counting k c.tree.failures) first.same;
+      later = le_trans first.later next.later;
+    }
 
 pub lost-then : {a b : Kernel} {t : FileTree} → HasRead a b → IsLost b.tree t → IsLost a.tree t
-lost-then first lost = record
-    { down = lost.down; same_device = lost.same_device ∙ ap (λ (k : Kernel). k.tree.identity) first.same;
-    later = le_trans first.later lost.later; rises = let rises = lost.rises in let later =
-    first.later in omega (arith, rises, later) }
+lost-then first lost = record {
+  down = lost.down;
+  same_device = lost.same_device ∙ ap (λ (k : Kernel). k.tree.identity) first.same;
+  later = le_trans first.later lost.later;
+  rises = let rises = lost.rises in let later =
+      first.later in omega (arith, rises, later);
+}
 
 -- more is told
 pub reads-as : {X : Type 0} (old new : Kernel) {Told Says : X → Type 0} → ((x : X) → Told x → Says x)
@@ -301,7 +314,7 @@ module _ {old now : FileTree} {nodes : List ℕ} {i : ℕ} (is : IsLetting old n
 pub lets-more : {old now : FileTree} {nodes : List ℕ} {i : ℕ} (is : IsLetting old nodes now i) (h : i < length nodes)
     (t : FileTree) (r : Result (Unit {0}) DeviceFault)
     → Serves now t r (λ done. t ≡ counted (dropped now (slice_index nodes i)) t.failures) → (done : Unit {0})
-        → r ≡ Ok done → IsLetting old nodes t (i + 1)
+    → r ≡ Ok done → IsLetting old nodes t (i + 1)
 lets-more is h t (Ok done) serves x e = lets-next is h t serves.told serves.up serves.cause.later
 lets-more is h t (Err fault) serves x e = absurd (let bad : Err fault ≡ Ok x = e in cc)
 
@@ -314,8 +327,10 @@ lets-fails {old} {now} {nodes} {i} {P} {Q} is t (Err _) (Err _) serves fault bad
   up = tt;
   down = serves.down;
   same_device = serves.same_device ∙ is.same_device;
-  cause = record { later = le_trans is.later serves.cause.later;
-      failed = λ e. let rises = serves.cause.failed refl in omega (arith, rises, is.later) };
+  cause = record {
+    later = le_trans is.later serves.cause.later;
+    failed = λ e. let rises = serves.cause.failed refl in omega (arith, rises, is.later);
+  };
 }
 lets-fails is t (Ok done) s serves fault bad worse = absurd (cc)
 lets-fails is t (Err _) (Ok done) serves fault bad worse = absurd (let none : false ≡ true = worse in cc)
@@ -341,8 +356,15 @@ finished k i q status = record (ended_of k i status q) { table = exited (with_pr
 pub counting-kernel : (k : Kernel) (failures : ℕ) → IsKernel k → IsKernel (counting k failures)
 counting-kernel k failures is = with-tree is _ (λ up.
     let used = is.used up in
-    record { rules = used.rules; zero = used.zero; within = used.within; holds = used.holds; held = used.held;
-        fits = used.fits; homes = used.homes })
+    record {
+      rules = used.rules;
+      zero = used.zero;
+      within = used.within;
+      holds = used.holds;
+      held = used.held;
+      fits = used.fits;
+      homes = used.homes;
+    })
 
 -- a step of the disk that tells this tree, or fails
 pub told-kernel : {k : Kernel} → IsKernel k → (t : FileTree) (r : Result (Unit {0}) DeviceFault)
@@ -368,7 +390,7 @@ module _ {k now : Kernel} {i : ℕ} {q : Process} (status : ℤ) (same : k ≡ n
         → IsKernel (record (finished k i q status) { tree = t })
     finish-closes = told-kernel {k = finished k i q status} (
         let ends : IsKernel (ended now i status) =
-                rw (ended-is now is z a i q _ last.1 status) (ended-kernel now is z a i q _ last.1 status) in
+        rw (ended-is now is z a i q _ last.1 status) (ended-kernel now is z a i q _ last.1 status) in
         let keeps : IsKernel (finished now i q status) = rw finish-is ends in
         rw same keeps)
 
@@ -379,7 +401,7 @@ module _ {k now : Kernel} {i : ℕ} {q : Process} (status : ℤ) (same : k ≡ n
   pub finish-serves : (t : FileTree) (r : Result (Unit {0}) DeviceFault) (awake : List Bool)
       → Serves k.tree t r (λ done. t ≡ counted (finished k i q status).tree t.failures) → (meant : ℤ) → status ≡ meant
       → Serves now.tree t r (λ done. waking (record (finished k i q status) { tree = t }) awake
-          ≡ waking (counting (ended now i meant) t.failures) awake)
+      ≡ waking (counting (ended now i meant) t.failures) awake)
   finish-serves t r awake serves meant e =
       serves-as (ap (λ (x : Kernel). x.tree.identity) same) (ap (λ (x : Kernel). x.tree.failures) same)
       (λ done told. ap (λ x. waking (record (finished k i q status) { tree = x }) awake) told

@@ -73,8 +73,12 @@ module _ {k : Kernel} {i : ℕ} (x : Runner k i) (ds : Fds) (directory : ℕ) wh
   -- files, open files and pipes may be others, too
   abbrev pub renamed_to : FileTree → Opens → Pipes → Kernel
   renamed_to tree files pipes =
-      record k { tree = tree; table = with_process k.table i renamed; spaces = record k.spaces { pipes = pipes };
-      files = files }
+      record k {
+        tree = tree;
+        table = with_process k.table i renamed;
+        spaces = record k.spaces { pipes = pipes };
+        files = files;
+      }
 
 module _ {k : Kernel} {i : ℕ} (x : Runner k i) (ds : Fds) (directory : ℕ)
     (same : length ds ≡ length x.process.descriptors) where
@@ -112,18 +116,23 @@ module _ {k : Kernel} {i : ℕ} (x : Runner k i) (ds : Fds) (directory : ℕ)
     }
 
     pub renamed-run : IsRun to i q x.held
-    renamed-run = record { active = x.run.active; process = slot-put _ i (Some q) (within-run k i _ _ x.run);
-        space = x.run.space; placed = named-placed; runs = x.run.runs }
+    renamed-run = record {
+      active = x.run.active;
+      process = slot-put _ i (Some q) (within-run k i _ _ x.run);
+      space = x.run.space;
+      placed = named-placed;
+      runs = x.run.runs;
+    }
 
     pub renamed-state : state_of to
         ≡ record (put_process (state_of k) i (record (me_of x) { descriptors = ds; directory = directory }))
         { files = tree.files; block_limit = tree.block_limit; opens = opens_of files; pipes = pipes }
     renamed-state =
         ap (λ (hs : Views). state_of (record to { spaces = record k.spaces { places = hs; pipes = pipes } }))
-            (sym (set-slot _ i _ x.run.space))
+        (sym (set-slot _ i _ x.run.space))
         ∙ ap (λ (s : State). record s
-            { files = tree.files; block_limit = tree.block_limit; opens = opens_of files; pipes = pipes })
-            (moved-state k i _ _ x.run x.sound q _ _ _ named-placed x.run.runs)
+        { files = tree.files; block_limit = tree.block_limit; opens = opens_of files; pipes = pipes })
+        (moved-state k i _ _ x.run x.sound q _ _ _ named-placed x.run.runs)
 
 -- ---- a descriptor more of the running process names an open file
 
@@ -142,7 +151,7 @@ module _ {k : Kernel} {i : ℕ} (x : Runner k i) where
   named-put q m =
       let was : names_in m (slot k.table.places i) ≡ names m x.process.descriptors = ap (names_in m) x.run.process in
       ap (λ n. named_by (put k.table.places i q) m + n) (sym was)
-          ∙ sum_by-set (names_in m) _ i (Some q) None (within-run k i _ _ x.run)
+      ∙ sum_by-set (names_in m) _ i (Some q) None (within-run k i _ _ x.run)
 
 module _ {k : Kernel} {i : ℕ} (x : Runner k i) (fd place : ℕ) where
   abbrev named_ds : Fds
@@ -158,14 +167,19 @@ module _ {k : Kernel} {i : ℕ} (x : Runner k i) (fd place : ℕ) where
   named-opened : (files : Opens) (pipes : Pipes) → free_slot (descriptors_at k i) ≡ Some fd
       → ((m : ℕ) → count_at files m ≡ count_at k.files m + one_at m place) → IsTable files
       → ((m : ℕ) (f : unix_files.OpenFile) → slot (opens_of files) m ≡ Some f → IsOpenFile f) → length pipes ≡ 100
-          → IsPiped pipes (opens_of files) → ((j : ℕ) → WaitsWell files (slot k.table.places j))
-          → IsOpened files pipes (put k.table.places i namer)
+      → IsPiped pipes (opens_of files) → ((j : ℕ) → WaitsWell files (slot k.table.places j))
+      → IsOpened files pipes (put k.table.places i namer)
   named-opened files pipes free more table each all piped waits = record {
     table = table;
     counted = λ m.
         let first = free-place _ fd (rw (← descriptors-run x) free) in
-        omega (arith, more m, named-put x namer m, names-put m x.process.descriptors fd place first.0 first.1,
-            x.sound.opened.counted m);
+        omega (
+          arith,
+          more m,
+          named-put x namer m,
+          names-put m x.process.descriptors fd place first.0 first.1,
+          x.sound.opened.counted m,
+        );
     each = each;
     all = all;
     piped = piped;
@@ -181,22 +195,22 @@ module _ {k : Kernel} {i : ℕ} (x : Runner k i) (fd place : ℕ) where
   dup-state =
       ap state_of (sym dup-is) ∙ renamed-state x _ _ named-length k.tree _ _
       ∙ ap (λ (os : List (Option unix_files.OpenFile)). record
-          (put_process (state_of k) i (row.with_descriptor (me_of x) fd place)) { opens = os })
-          (opens-shared k.files place)
+      (put_process (state_of k) i (row.with_descriptor (me_of x) fd place)) { opens = os })
+      (opens-shared k.files place)
 
   dup-kernel : MayShare k i fd place → IsKernel (duplicated k i fd place)
   dup-kernel may =
       let was = x.sound.opened in
       let same = sym (opens-shared k.files place) in
       let opened = named-opened (shared k.files place) k.spaces.pipes may.free
-              (count-shared k.files place (named-counts x may.named.0 place (rw (← descriptors-run x) may.named.1)))
-              (table-shared k.files place was.table)
+      (count-shared k.files place (named-counts x may.named.0 place (rw (← descriptors-run x) may.named.1)))
+      (table-shared k.files place was.table)
       (λ m f at. was.each m f (ap (λ (os : List (Option unix_files.OpenFile)). slot os m) same ∙ at)) was.all
-          (subst (IsPiped k.spaces.pipes) same was.piped)
+      (subst (IsPiped k.spaces.pipes) same was.piped)
       (λ j. waits-fewer k.files (shared k.files place) (λ m f at. sym (file-shared k.files place m) ∙ at)
-          (slot k.table.places j) (was.waits j)) in
+      (slot k.table.places j) (was.waits j)) in
       rw (← dup-is) (renamed-kernel x named_ds x.process.directory named-length k.tree (shared k.files place)
-          k.spaces.pipes (λ up. used-shared (used-turned x namer x.run.runs refl up) place) opened x.sound.fits)
+      k.spaces.pipes (λ up. used-shared (used-turned x namer x.run.runs refl up) place) opened x.sound.fits)
 
 -- with other descriptors and another directory it is within the limits
 pub renamed-within : {k : Kernel} {i : ℕ} (x : Runner k i) (ds : Fds) (directory : ℕ)
@@ -206,7 +220,7 @@ renamed-within {k} {i} x ds directory same up =
     let to = renamed_to x ds directory k.tree k.files k.spaces.pipes in
     ap is_within (sym (renamed-state x ds directory same k.tree k.files _))
     ∙ within-state_with to (loaded to) (x.sound.used up).within x.sound.opened.table
-        (match-active to _ (λ j. match-place _ _ (renamed-stands x ds directory same j))) ∙ le-leb _ _ x.sound.fits
+    (match-active to _ (λ j. match-place _ _ (renamed-stands x ds directory same j))) ∙ le-leb _ _ x.sound.fits
 
 pub dup-keeps : {k : Kernel} {i fd n : ℕ} → Keeps k → MayShare k i fd n → Keeps (duplicated k i fd n)
 dup-keeps {k} {i} {fd} {n} keeps may = record {
@@ -214,7 +228,7 @@ dup-keeps {k} {i} {fd} {n} keeps may = record {
   watched = subst (λ xs. IsWatched (awaited_in xs k.spaces.pipes k.console k.ticks) (duplicated k i fd n).table.places
       k.table.awake) (sym (opens-shared k.files n))
       (watched-running keeps.watched i (with_descriptor fd (Some n)) (running-at keeps.sound i may.running)
-          (λ p pid is. is));
+      (λ p pid is. is));
 }
 
 -- ---- the running process has a new open file
@@ -263,7 +277,7 @@ module _ {k : Kernel} {i : ℕ} (x : Runner k i) (f : OpenFile) (place fd : ℕ)
       ap state_of (sym (opens-made held _))
       ∙ renamed-state x _ _ (named-length x fd place) held files _
       ∙ ap (λ (os : List (Option unix_files.OpenFile)). record
-          (put_process (state_of k) i (row.with_descriptor (me_of x) fd place)) { opens = os }) opens-is
+      (put_process (state_of k) i (row.with_descriptor (me_of x) fd place)) { opens = os }) opens-is
 
   pub opens-run : (pipes : Pipes)
       → IsRun (record (opened_at k i f place fd) { spaces = record k.spaces { pipes = pipes } }) i (namer x fd place)
@@ -279,23 +293,23 @@ module _ {k : Kernel} {i : ℕ} (x : Runner k i) (f : OpenFile) (place fd : ℕ)
     each : IsOpenFile (file_of f) → (m : ℕ) (g : unix_files.OpenFile) → slot (opens_of files) m ≡ Some g → IsOpenFile g
     each means = subst (λ os. (m : ℕ) (g : unix_files.OpenFile) → slot os m ≡ Some g → IsOpenFile g) (sym opens-is)
         (all-set (λ m o. (g : unix_files.OpenFile) → o ≡ Some g → IsOpenFile g) _ place _
-            (λ g at. subst IsOpenFile (same_Some _ g at) means) x.sound.opened.each)
+        (λ g at. subst IsOpenFile (same_Some _ g at) means) x.sound.opened.each)
 
     was-there : (m : ℕ) (g : OpenFile) → 0 < count_at k.files m → file_at files m ≡ Some g → file_at k.files m ≡ Some g
     was-there m g some at =
         let apart : m ≢ place = λ same. (let none : count_at k.files m ≡ 0 = ap (count_at k.files) same
-                ∙ ap count_in place-free.1 in omega (arith, some, none)) in
+        ∙ ap count_in place-free.1 in omega (arith, some, none)) in
         sym (ap (option_map (λ (c : Counted). c.file))
-            (get_or-set_other k.files place m (Some (record { file = f; count = 1 })) None apart)) ∙ at
+        (get_or-set_other k.files place m (Some (record { file = f; count = 1 })) None apart)) ∙ at
 
     has-opened : IsOpenFile (file_of f) → (pipes : Pipes) → length pipes ≡ 100 → IsPiped pipes (opens_of files)
         → IsOpened files pipes (put k.table.places i (namer x fd place))
     has-opened means pipes all piped = let was = x.sound.opened in
         named-opened x fd place files pipes free (count-opened _ place f place-free.0 place-free.1)
-            (table-opened _ place f was.table) (each means) all piped
+        (table-opened _ place f was.table) (each means) all piped
         (λ j. waits-kept _ files _
-            (λ d m g named at. (g, (was-there m g (place-counts _ _ was.counted j _ refl d m named) at, alike-same g)))
-            (was.waits j))
+        (λ d m g named at. (g, (was-there m g (place-counts _ _ was.counted j _ refl d m named) at, alike-same g)))
+        (was.waits j))
 
     -- it is on no node
     pub opens-kernel : IsOpenFile (file_of f) → node_on f.target ≡ None → FitsNode f f.target None → (pipes : Pipes)
@@ -305,8 +319,8 @@ module _ {k : Kernel} {i : ℕ} (x : Runner k i) (f : OpenFile) (place fd : ℕ)
     opens-kernel means on fits pipes all piped low =
         rw (← opens-made k.tree pipes)
         (renamed-kernel x _ x.process.directory (named-length x fd place) _ files pipes
-            (λ up. used-opened (used-turned x (namer x fd place) x.run.runs refl up) place f place-free.0 place-free.1
-            on fits)
+        (λ up. used-opened (used-turned x (namer x fd place) x.run.runs refl up) place f place-free.0 place-free.1
+        on fits)
         (has-opened means pipes all (subst (IsPiped pipes) (sym opens-is) piped)) low)
 
     -- ---- it is on node n
@@ -326,26 +340,29 @@ module _ {k : Kernel} {i : ℕ} (x : Runner k i) (f : OpenFile) (place fd : ℕ)
           let new : one_in m (node_in (Some one)) ≡ one_in m (Some n) = ap (one_in m) may.on in
           omega (arith, new, sum-put (λ o. one_in m (node_in o)) _ place one place-free.0 place-free.1 refl))
           (all-set (λ j. FitsIn k.tree) _ place _
-              (fits-some k.tree one (subst (λ o. FitsNode f f.target (node_of k.tree.files o)) (sym may.on) may.fits))
-              before.fits)
+          (fits-some k.tree one (subst (λ o. FitsNode f f.target (node_of k.tree.files o)) (sym may.on) may.fits))
+          before.fits)
           before.homes
 
       pub open-kernel : IsKernel (opened_on k i n f place fd)
       open-kernel =
           let at = free-place _ place first in
           let piped : IsPiped k.spaces.pipes (opens_of files) =
-                  subst (IsPiped k.spaces.pipes) (sym opens-is)
-                  (λ r. x.sound.opened.piped r
-                  ∙ sym (has_pipe-put _ place _ r at.0 at.1
-                  ∙ ap (λ b. b || has_pipe (opens_of k.files) r) (on-no-pipe n r _ may.on))) in
+          subst (IsPiped k.spaces.pipes) (sym opens-is)
+          (λ r. x.sound.opened.piped r
+          ∙ sym (has_pipe-put _ place _ r at.0 at.1
+          ∙ ap (λ b. b || has_pipe (opens_of k.files) r) (on-no-pipe n r _ may.on))) in
           rw (← opens-made tree k.spaces.pipes)
           (renamed-kernel x _ x.process.directory (named-length x fd place) tree files _ (λ up. used)
-              (has-opened (on-open n _ _ may.on) _ x.sound.opened.all piped) x.sound.fits)
+          (has-opened (on-open n _ _ may.on) _ x.sound.opened.all piped) x.sound.fits)
 
 pub open-keeps : {k : Kernel} {i n fd : ℕ} {f : OpenFile} {t : Places} {files : Opens} → Keeps k → MayOpen k i n f
     → IsWhole k.tree → OpensAs k.table t k.files files i f fd
-    → Keeps (record k { tree = record k.tree { holds = with_hold k.tree.holds n }; table = woken_by Bytes t;
-        files = files })
+    → Keeps (record k {
+      tree = record k.tree { holds = with_hold k.tree.holds n };
+      table = woken_by Bytes t;
+      files = files;
+    })
 open-keeps {k} {i} {n} {fd} {f} keeps may whole opens = rw (opens.names, opens.opens) (record {
   sound = kernel-waking (open-kernel (runner-of keeps.sound may.running) f _ fd opens.place opens.free n may
       (whole.numbers n (open-there may)).0) _;
@@ -360,16 +377,30 @@ end-comes : (pipes : Pipes) (opens : List (Option unix_files.OpenFile)) (q k : �
     → IsPiped pipes opens → q < length pipes → k < length opens → slot opens k ≡ None
     → IsPiped (put pipes q bytes) (put opens k (pipe_end q e))
 end-comes pipes opens q k ReadEnd bytes is inside low free r = elim (cases_eq r q) [
-  | inl same ↦ rw (same, has_pipe-put opens k (pipe_end q ReadEnd) q low free,
-      get_or-set_same pipes q (Some bytes) None inside, eq-eqb q q refl) refl
-  | inr other ↦ rw (has_pipe-put opens k (pipe_end q ReadEnd) r low free,
-      get_or-set_other pipes q r (Some bytes) None other, ne_eqb q r (λ same. other (sym same))) (is r)
+  | inl same ↦ rw (
+    same,
+    has_pipe-put opens k (pipe_end q ReadEnd) q low free,
+    get_or-set_same pipes q (Some bytes) None inside,
+    eq-eqb q q refl,
+  ) refl
+  | inr other ↦ rw (
+    has_pipe-put opens k (pipe_end q ReadEnd) r low free,
+    get_or-set_other pipes q r (Some bytes) None other,
+    ne_eqb q r (λ same. other (sym same)),
+  ) (is r)
 ]
 end-comes pipes opens q k WriteEnd bytes is inside low free r = elim (cases_eq r q) [
-  | inl same ↦ rw (same, has_pipe-put opens k (pipe_end q WriteEnd) q low free,
-      get_or-set_same pipes q (Some bytes) None inside, eq-eqb q q refl) refl
-  | inr other ↦ rw (has_pipe-put opens k (pipe_end q WriteEnd) r low free,
-      get_or-set_other pipes q r (Some bytes) None other, ne_eqb q r (λ same. other (sym same))) (is r)
+  | inl same ↦ rw (
+    same,
+    has_pipe-put opens k (pipe_end q WriteEnd) q low free,
+    get_or-set_same pipes q (Some bytes) None inside,
+    eq-eqb q q refl,
+  ) refl
+  | inr other ↦ rw (
+    has_pipe-put opens k (pipe_end q WriteEnd) r low free,
+    get_or-set_other pipes q r (Some bytes) None other,
+    ne_eqb q r (λ same. other (sym same)),
+  ) (is r)
 ]
 
 module _ {k : Kernel} {i : ℕ} (x : Runner k i) (e : Ends) (free : AreFree k i e)
@@ -387,7 +418,7 @@ module _ {k : Kernel} {i : ℕ} (x : Runner k i) (e : Ends) (free : AreFree k i 
     run = opens-run x _ e.reader e.read_fd pipes;
     sound = (let at = free-place _ _ free.reader in
         opens-kernel x _ _ _ free.reader free.read_fd refl refl tt pipes
-            (length-set k.spaces.pipes e.pipe (Some []) ∙ x.sound.opened.all)
+        (length-set k.spaces.pipes e.pipe (Some []) ∙ x.sound.opened.all)
         (end-comes _ _ _ _ ReadEnd [] x.sound.opened.piped room at.0 at.1) fits);
   }
 
@@ -401,13 +432,13 @@ module _ {k : Kernel} {i : ℕ} (x : Runner k i) (e : Ends) (free : AreFree k i 
   piped-kernel =
       let at = free-place _ _ writer-first in
       let comes = end-comes pipes _ _ _ WriteEnd [] half.sound.opened.piped
-              (omega (arith, room, length-set k.spaces.pipes e.pipe (Some []))) at.0 at.1 in
+      (omega (arith, room, length-set k.spaces.pipes e.pipe (Some []))) at.0 at.1 in
       opens-kernel half _ _ _ writer-first
-          (ap free_slot (descriptors-run half)
-          ∙ ap (λ (ds : Fds). free_slot (put ds e.read_fd e.reader)) (sym (descriptors-run x)) ∙ free.write_fd) refl
-          refl tt pipes half.sound.opened.all
+      (ap free_slot (descriptors-run half)
+      ∙ ap (λ (ds : Fds). free_slot (put ds e.read_fd e.reader)) (sym (descriptors-run x)) ∙ free.write_fd) refl
+      refl tt pipes half.sound.opened.all
       (subst (λ ps. IsPiped ps (put (opens_of reader_files) e.writer (pipe_end e.pipe WriteEnd)))
-          (set-set k.spaces.pipes e.pipe (Some []) (Some [])) comes) fits
+      (set-set k.spaces.pipes e.pipe (Some []) (Some [])) comes) fits
 
   piped-watched : Keeps k → Keeps (record (piped k i e) { table = woken_by Bytes (piped k i e).table })
   piped-watched keeps = record {
@@ -426,8 +457,8 @@ module _ {t t1 : Places} {opens opens1 : Opens} {i : ℕ} {f : OpenFile} {fd : �
   names-one =
       let name = with_descriptor fd (Some one.number) in
       ap (λ (u : Places). descriptors_in (slot u.places i))
-          (one.names ∙ ap (λ (o : Option Process).
-          let u : Places = record t { places = slice_set t.places i (option_map name o) } in u) at)
+      (one.names ∙ ap (λ (o : Option Process).
+      let u : Places = record t { places = slice_set t.places i (option_map name o) } in u) at)
       ∙ ap descriptors_in (slot-put _ i _ (slot-within _ i p at))
 
   opens-one : opens_of opens1 ≡ put (opens_of opens) one.number (file_of f)
@@ -439,18 +470,18 @@ module _ {t t1 : Places} {opens opens1 : Opens} {i : ℕ} {f : OpenFile} {fd : �
       let there = free-place (opens_of opens) one.number one.place in
       let left = free-put (opens_of opens) one.number (file_of f) there.0 there.1 in
       let now : count_by is_none (opens_of opens1) ≡ count_by is_none (put (opens_of opens) one.number (file_of f)) =
-              ap (count_by is_none) opens-one in
+      ap (count_by is_none) opens-one in
       omega (arith, left, now, two, free-opens opens, free-opens opens1)
 
   pub descriptor-left : 2 ≤ free_descriptors t i → 0 < free_descriptors t1 i
   descriptor-left two =
       let was : free_descriptors t i ≡ count_by is_none p.descriptors =
-              ap (λ (o : Option Process). count_by is_none (descriptors_in o)) at in
+      ap (λ (o : Option Process). count_by is_none (descriptors_in o)) at in
       let there = free-place p.descriptors fd
-              (ap (λ (o : Option Process). free_slot (descriptors_in o)) (sym at) ∙ one.free) in
+      (ap (λ (o : Option Process). free_slot (descriptors_in o)) (sym at) ∙ one.free) in
       let left = free-put p.descriptors fd one.number there.0 there.1 in
       let now : free_descriptors t1 i ≡ count_by is_none (put p.descriptors fd one.number) =
-              ap (count_by is_none) names-one in
+      ap (count_by is_none) names-one in
       omega (arith, left, now, two, was)
 
 -- both are
@@ -478,5 +509,10 @@ module _ {k : Kernel} {i q r w : ℕ} {t1 t2 : Places} {files1 files2 : Opens} (
     pipe-keeps keeps = rw (two.names, one.names, two.opens, one.opens) (piped-watched x ends ends-free fits keeps)
 
     pub pipe-made : HasPiped k made i q r w
-    pipe-made = record { ends = ends; free = ends-free; is = (refl, refl, refl); fits = fits;
-        same = rw (two.names, one.names, two.opens, one.opens) refl }
+    pipe-made = record {
+      ends = ends;
+      free = ends-free;
+      is = (refl, refl, refl);
+      fits = fits;
+      same = rw (two.names, one.names, two.opens, one.opens) refl;
+    }

@@ -138,8 +138,8 @@ IsOfKind test = (offset : ℕ) (t : file.Target) → test (target_of (moved_to o
 module _ (s r : State) (pipes : s.pipes ≡ r.pipes) (console : s.console ≡ r.console)
     (ends : (q : ℕ) (end : End) → has_end s q end ≡ has_end r q end)
     (files : (test : Target → Bool) → IsOfKind test → (o : Option ℕ)
-        → turn.holds_of test (option_and_then (slot s.opens) o)
-        ≡ turn.holds_of test (option_and_then (slot r.opens) o)) where
+    → turn.holds_of test (option_and_then (slot s.opens) o)
+    ≡ turn.holds_of test (option_and_then (slot r.opens) o)) where
   reads-as : (x : Target) → turn.can_read_from s x ≡ turn.can_read_from r x
   reads-as (OnNode n offset) = ap (λ c. not (turn.is_empty c.committed)) console
   reads-as (OnPipe q end) = rw (pipes, ends q WriteEnd) refl
@@ -232,9 +232,9 @@ module _ {a : State} {os : Processes} {awake : List Bool} (watched : IsWatched a
   watched-put i o zombies here = record {
     asleep = all-set (λ j x. is_in awake j ≡ false → IsAsleep a (slice_set os i o) x) os i o here
         (λ j out. put-still a os (slice_set os i o)
-            (λ pid none. found-any (holds (is_zombie_child_of pid)) (slice_set os i o)
-            ∙ any-put (is_zombie_child_of pid) os i o (zombies pid)
-            (sym (found-any (holds (is_zombie_child_of pid)) os) ∙ none)) (slot os j) (watched.asleep j out));
+        (λ pid none. found-any (holds (is_zombie_child_of pid)) (slice_set os i o)
+        ∙ any-put (is_zombie_child_of pid) os i o (zombies pid)
+        (sym (found-any (holds (is_zombie_child_of pid)) os) ∙ none)) (slot os j) (watched.asleep j out));
   }
 
   -- a process that runs is awake, and may become any other one but a zombie
@@ -256,9 +256,9 @@ module _ {a : State} {os : Processes} {awake : List Bool} (watched : IsWatched a
   watched-but : (c : Channel) (a' : State) → AreOutBut c a a' os → IsWatched a' os (roused (waits_on c) os awake)
   watched-but c a' goes = record
       { asleep = λ j out. let o = roused-out (waits_on c) os awake j out in go _ o.0 (watched.asleep j o.1) } where
-    go : (o : Option Process) → holds (waits_on c) o ≡ false → IsAsleep a os o → IsAsleep a' os o
-    go None out is = tt
-    go (Some p) out is = as-still a a' os os p p refl _ (λ w at. goes p w _ (sym (ap (waits_as c) at) ∙ out)) is
+        go : (o : Option Process) → holds (waits_on c) o ≡ false → IsAsleep a os o → IsAsleep a' os o
+        go None out is = tt
+        go (Some p) out is = as-still a a' os os p p refl _ (λ w at. goes p w _ (sym (ap (waits_as c) at) ∙ out)) is
 
   -- open files, pipes and the console may be others
   pub watched-bytes : (a' : State) → a'.ticks ≡ a.ticks → IsWatched a' os (roused (waits_on Bytes) os awake)
@@ -371,8 +371,8 @@ ended-still : (a : State) (os os' : Processes) (pid : ℕ) (o : Option Process)
 ended-still a os os' pid None out is = tt
 ended-still a os os' pid (Some p) out is =
     orphan-by (λ q. waits_on Children q ≡ false → IsAsleep a os' (Some q)) pid p
-        (λ parent out. as-still a a os os' p (record p { parent = parent }) refl p.mode
-        (λ w at. goes parent w w.number (sym (ap (waits_as Children) at) ∙ out)) is) out
+    (λ parent out. as-still a a os os' p (record p { parent = parent }) refl p.mode
+    (λ w at. goes parent w w.number (sym (ap (waits_as Children) at) ∙ out)) is) out
   where
     goes : (parent : ℕ) (w : Pending) (number : Call) → waits_in Children w number ≡ false
         → StillOut a a os os' p (record p { parent = parent }) w number
@@ -406,7 +406,7 @@ module _ {a : State} {os : Processes} {awake : List Bool} (watched : IsWatched a
   each = all-set (λ j o. is_in awake j ≡ false → holds (waits_on Children) o ≡ false → IsAsleep a left o)
       (map (option_map (orphaned q.pid)) os) i (Some (zombie_of q status)) (λ out woken. tt)
       (λ j out. rw (slot-map (orphaned q.pid) os j)
-          (λ woken. ended-still a os left q.pid (slot os j) woken (watched.asleep j out)))
+      (λ woken. ended-still a os left q.pid (slot os j) woken (watched.asleep j out)))
 
   pub watched-ended : IsWatched a (left_by os i q status) (roused (waits_on Children) (left_by os i q status) awake)
   watched-ended = rw (left-is os i q status)
@@ -445,7 +445,7 @@ roused-up test os bs zero from to e low none = let same : from ≡ to =
     omega (arith, e) in ap (λ k. roused test (take k os) bs) same
 roused-up test os bs (suc d) from to e low none =
     roused-same test os bs from (omega (arith, e)) (none from (omega arith) (omega (arith, e)))
-        ∙ roused-up test os bs d (from + 1) to (omega (arith, e)) low (λ j more less. none j (omega arith) less)
+    ∙ roused-up test os bs d (from + 1) to (omega (arith, e)) low (λ j more less. none j (omega arith) less)
 
 -- ---- a table in which who waits on a channel is woken
 
@@ -477,9 +477,9 @@ module _ (channel : Channel) (t : Places) where
       let same : length now.places ≡ length t.places = ap length (places-of from now is) in
       is ∙ ap with_awake (roused-up (waits_on channel) t.places t.awake (at - from) from at (omega arith) (omega arith)
       (λ j more less. silent _ _
-          (ap (λ k. holds (waits_so k) (slot t.places j)) (sym kinds)
-          ∙ ap (λ (os : Processes). holds (waits_so kind) (slot os j)) (sym (places-of from now is))
-          ∙ none j more less)))
+      (ap (λ k. holds (waits_so k) (slot t.places j)) (sym kinds)
+      ∙ ap (λ (os : Processes). holds (waits_so kind) (slot os j)) (sym (places-of from now is))
+      ∙ none j more less)))
 
   pub roused-to : (kind : WaitKind) (from at : ℕ) (now : Places) → kind ≡ kind_of channel → Roused from now
       → length now.places ≡ 64 → IsFirstWaiting now.places kind from at → Roused at now
@@ -491,8 +491,8 @@ module _ (channel : Channel) (t : Places) where
   roused-rest kind from now kinds low is all rest =
       let same : length now.places ≡ length t.places = ap length (places-of from now is) in
       roused-over kind from 64 now kinds is all low (omega arith) rest
-          ∙ ap (λ (os : Processes). with_awake (roused (waits_on channel) os t.awake))
-          (take_all 64 t.places (omega arith))
+      ∙ ap (λ (os : Processes). with_awake (roused (waits_on channel) os t.awake))
+      (take_all 64 t.places (omega arith))
 
 -- ---- the mask says nothing of the rest
 
@@ -505,8 +505,15 @@ state-waking k awake = go _ where
 
 pub kernel-waking : {k : Kernel} → IsKernel k → (awake : List Bool) → IsKernel (waking k awake)
 kernel-waking is awake =
-    record { all = is.all; spaces = is.spaces; stands = is.stands; runs = is.runs; fits = is.fits; opened = is.opened;
-    used = is.used }
+    record {
+      all = is.all;
+      spaces = is.spaces;
+      stands = is.stands;
+      runs = is.runs;
+      fits = is.fits;
+      opened = is.opened;
+      used = is.used;
+    }
 
 -- a kernel that is one but for its mask
 pub state-but : {new : Kernel} (k : Kernel) → new ≡ waking k new.table.awake → state_of new ≡ state_of k
@@ -517,8 +524,15 @@ state-but {new} k same = ap state_of same ∙ state-waking k _
 pub typed-kernel : {k : Kernel} → IsKernel k → (console : Console) (ticks : ℕ)
     → IsKernel (record k { console = console; ticks = ticks })
 typed-kernel is console ticks =
-    record { all = is.all; spaces = is.spaces; stands = is.stands; runs = is.runs; fits = is.fits; opened = is.opened;
-    used = is.used }
+    record {
+      all = is.all;
+      spaces = is.spaces;
+      stands = is.stands;
+      runs = is.runs;
+      fits = is.fits;
+      opened = is.opened;
+      used = is.used;
+    }
 
 -- ---- the running process
 
@@ -555,23 +569,30 @@ picked-places old new (Some i) picked none = ap (λ (t : Places). t.places) pick
 module _ {F : Type 0} (g : Shared F (Bor Processes × (ℕ × Unit {0})) Bool) (f : F) {k : Kernel} (is : IsKernel k)
     (idle : k.spaces.active ≡ None)
     (tells : (shown : Bor Processes) (i : ℕ) (b : Bool) → FnReturns g f (shown, (i, tt)) b
-        → b ≡ ready (seen (awaited_of k) shown.now) i) where
+    → b ≡ ready (seen (awaited_of k) shown.now) i) where
   -- a pick leaves those awake who are ready
   pub watched-picked : (t : Places) → t.places ≡ k.table.places
       → ((i : ℕ) → is_in t.awake i ≡ false → Answers g f k.table.places i false) → Keeps (record k { table = t })
   watched-picked t same no' = record {
     sound = (let s = subst (λ (os : Processes). IsKernel (record k { table = record k.table { places = os } }))
         (sym same) is in
-        record { all = s.all; spaces = s.spaces; stands = s.stands; runs = s.runs; fits = s.fits; opened = s.opened;
-            used = s.used });
+        record {
+          all = s.all;
+          spaces = s.spaces;
+          stands = s.stands;
+          runs = s.runs;
+          fits = s.fits;
+          opened = s.opened;
+          used = s.used;
+        });
     watched = record {
       asleep = λ j out.
           let answer = no' j out in
           let unready : ready (seen (awaited_of k) k.table.places) j ≡ false =
-                  sym (tells answer.shown j false answer.says
-                  ∙ ap (λ os. ready (seen (awaited_of k) os) j) answer.shows) in
+          sym (tells answer.shown j false answer.says
+          ∙ ap (λ os. ready (seen (awaited_of k) os) j) answer.shows) in
           subst (λ os. IsAsleep (awaited_of k) os (slot os j)) (sym same)
-              (unready-asleep (awaited_of k) k.table.places j (is.runs j ∙ ap (is_at j) idle) unready);
+          (unready-asleep (awaited_of k) k.table.places j (is.runs j ∙ ap (is_at j) idle) unready);
     };
   }
 
@@ -581,10 +602,10 @@ module _ {F : Type 0} (g : Shared F (Bor Processes × (ℕ × Unit {0})) Bool) (
 pub finish-watched : {a : State} (t : Places) → IsWatched a t.places t.awake → (i : ℕ) (q : Process) (status : ℤ)
     → i < length t.places → (a' : State) → a'.ticks ≡ a.ticks
     → (new : Places) → new ≡ exited (record t { places = put t.places i q }) i status
-        → IsWatched a' new.places (roused (waits_on Bytes) new.places (roused (waits_on Children) new.places new.awake))
+    → IsWatched a' new.places (roused (waits_on Bytes) new.places (roused (waits_on Children) new.places new.awake))
 finish-watched {a} t watched i q status low a' ticks new is =
     subst (λ (x : Places). IsWatched a' x.places
-        (roused (waits_on Bytes) x.places (roused (waits_on Children) x.places x.awake)))
-        (sym (is ∙ ap (table.ended (record t { places = put t.places i q }) i status)
-        (slot-put t.places i (Some q) low)))
+    (roused (waits_on Bytes) x.places (roused (waits_on Children) x.places x.awake)))
+    (sym (is ∙ ap (table.ended (record t { places = put t.places i q }) i status)
+    (slot-put t.places i (Some q) low)))
     (watched-bytes (watched-ended watched i q status) a' ticks)

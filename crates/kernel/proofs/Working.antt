@@ -63,7 +63,7 @@ homes-front (x ∷ os) o (suc j) d at = homes-front os o j d at
 -- process p, in place i, works in directory new now, and is q
 module _ {t : FileTree} {opens : Opens} {os : Processes} (is : IsInUse t opens os) (i : ℕ) (p q : Process) (old new : ℕ)
     (at : slot os i ≡ Some p) (home : home_in (Some p) ≡ Some old) (goes : home_in (Some q) ≡ Some new)
-        (short : new < length t.holds) (folder : IsFolder (slot t.files new)) where
+    (short : new < length t.holds) (folder : IsFolder (slot t.files new)) where
   abbrev held : FileTree
   held = record t { holds = with_hold t.holds new }
 
@@ -81,7 +81,7 @@ module _ {t : FileTree} {opens : Opens} {os : Processes} (is : IsInUse t opens o
       omega (arith, sums, was, now, homes-more moves (Some p) n))
       is.fits
       (homes-append t moves _ (subst (IsHome t) (ap home_in at) (is.homes i))
-          (all-set (λ j x. IsHome t (home_in x)) os i _ (subst (IsHome t) (sym goes) folder) is.homes))
+      (all-set (λ j x. IsHome t (home_in x)) os i _ (subst (IsHome t) (sym goes) folder) is.homes))
 
   -- what it leaves may go then
   leaves-home : LetsGo opens (moves ++ Some p ∷ []) opens moves (old ∷ [])
@@ -150,21 +150,21 @@ module _ {k : Kernel} {i : ℕ} (x : Runner k i) (n : ℕ) (may : MayWorkIn k i 
       let opened = opened-loaded to to-kernel in
       let q' = on_hart to.spaces q in
       let shown : (loaded to).places ≡ put k.table.places i q' =
-              ap (λ t. t.places) (loaded-run to i q _ (renamed-run x _ n refl (dropped _ _) k.files k.spaces.pipes))
-              ∙ set-set k.table.places i (Some q) (Some q') in
+      ap (λ t. t.places) (loaded-run to i q _ (renamed-run x _ n refl (dropped _ _) k.files k.spaces.pipes))
+      ∙ set-set k.table.places i (Some q) (Some q') in
       let nodes = leaves-nodes (x.sound.used may.up) i _ q' _ n x.run.process home-was (home-running q' x.run.runs)
-              work-fits.0 may.folder s _ (subst AreAway shown (away-loaded to to-kernel)) refl refl
-              (ap (λ os. joined os to.spaces.places) shown) in
+      work-fits.0 may.folder s _ (subst AreAway shown (away-loaded to to-kernel)) refl refl
+      (ap (λ os. joined os to.spaces.places) shown) in
       ap reap (sym (renamed-state x _ n refl k.tree k.files _))
       ∙ ap (λ (y : State). without_nodes (without_pipes y))
-          (without_opens-same s _ opened.table (counts-joined _ _ _ opened.counted))
+      (without_opens-same s _ opened.table (counts-joined _ _ _ opened.counted))
       ∙ ap without_nodes (without_pipes-same s opened.piped) ∙ nodes ∙ ap state_of work-is
 
 pub work-keeps : {k : Kernel} {i n : ℕ} → Keeps k → MayWorkIn k i n → IsWhole k.tree
     → (t : FileTree) (r : Result (Unit {0}) DeviceFault)
     → Serves (record k.tree { holds = with_hold k.tree.holds n }) t r
-        (λ done. t ≡ counted (all_dropped (record k.tree { holds = with_hold k.tree.holds n }) (listed (home_at k i)))
-        t.failures)
+    (λ done. t ≡ counted (all_dropped (record k.tree { holds = with_hold k.tree.holds n }) (listed (home_at k i)))
+    t.failures)
     → Keeps (record (working_in k i n) { tree = t })
 work-keeps {k} {i} {n} keeps may whole t r serves = record {
   sound = told-kernel {k = working_in k i n}
@@ -175,8 +175,8 @@ work-keeps {k} {i} {n} keeps may whole t r serves = record {
 
 pub work-serves : (k : Kernel) (i n : ℕ) {t : FileTree} {r : Result (Unit {0}) DeviceFault}
     → Serves (record k.tree { holds = with_hold k.tree.holds n }) t r
-        (λ done. t ≡ counted (all_dropped (record k.tree { holds = with_hold k.tree.holds n }) (listed (home_at k i)))
-        t.failures) → Serves k.tree t r (λ done. WorksIn k (record (working_in k i n) { tree = t }) i n)
+    (λ done. t ≡ counted (all_dropped (record k.tree { holds = with_hold k.tree.holds n }) (listed (home_at k i)))
+    t.failures) → Serves k.tree t r (λ done. WorksIn k (record (working_in k i n) { tree = t }) i n)
 work-serves k i n = serves-as refl refl
     (λ done told. ap (λ (u : FileTree). record (working_in k i n) { tree = u }) told)
 
@@ -223,9 +223,11 @@ module _ {k : Kernel} {i : ℕ} (x : Runner k i) (fd n : ℕ) (may : MayClose k 
   tree = all_dropped k.tree gone
 
   close-goes : (places : Processes) → LetsGo k.files places left places gone
-  close-goes places = record
-      { counts = λ m. omega (arith, files_on-closed k.files n m); files = old-all_closed k.files (Some n ∷ []);
-      homes = λ j d at. at }
+  close-goes places = record {
+    counts = λ m. omega (arith, files_on-closed k.files n m);
+    files = old-all_closed k.files (Some n ∷ []);
+    homes = λ j d at. at;
+  }
 
   before : IsInUse k.tree k.files (put k.table.places i closer)
   before = used-turned x closer x.run.runs refl may.up
@@ -243,10 +245,10 @@ module _ {k : Kernel} {i : ℕ} (x : Runner k i) (fd n : ℕ) (may : MayClose k 
   close-kernel = renamed-kernel x ds x.process.directory same tree left pipes
       (λ up. fewer-used before (close-goes (put k.table.places i closer)))
       (opened-closed x.sound.opened (Some n ∷ []) (put k.table.places i closer) close-counted
-          (all-set (λ j. WaitsWell k.files) k.table.places i (Some closer) (waits-running k.files closer x.run.runs)
-          x.sound.opened.waits))
+      (all-set (λ j. WaitsWell k.files) k.table.places i (Some closer) (waits-running k.files closer x.run.runs)
+      x.sound.opened.waits))
       (let fits = x.sound.fits
-          in omega (arith, fits, fewer-standing k.files k.spaces.pipes (Some n ∷ []) x.sound.opened.piped))
+      in omega (arith, fits, fewer-standing k.files k.spaces.pipes (Some n ∷ []) x.sound.opened.piped))
 
   -- what nothing names any more goes
   pub close-reaps : reap (put_process (state_of k) i (record (me_of x) { descriptors = ds }))
@@ -258,18 +260,18 @@ module _ {k : Kernel} {i : ℕ} (x : Runner k i) (fd n : ℕ) (may : MayClose k 
       let shown = record middle { files = k.files } in
       let all : IsInUse k.tree k.files places = used-active shown shown.spaces.active before in
       let gives = fewer-nodes all (close-goes places) (state_of middle) closed_to.spaces.places
-              (away-loaded closed_to close-kernel) refl refl refl in
+      (away-loaded closed_to close-kernel) refl refl refl in
       ap reap (sym (renamed-state x ds x.process.directory same k.tree k.files k.spaces.pipes))
       ∙ reap-closed old k.files k.spaces.pipes (Some n ∷ []) tree.files x.sound.opened.table x.sound.opened.piped
-          (counts-joined left places closed_to.spaces.places (opened-loaded closed_to close-kernel).counted) gives
+      (counts-joined left places closed_to.spaces.places (opened-loaded closed_to close-kernel).counted) gives
       ∙ ap (λ b. record (state_of middle) { files = tree.files; block_limit = b })
-          (sym (fewer-leaves all (close-goes places)).limit)
+      (sym (fewer-leaves all (close-goes places)).limit)
       ∙ ap state_of close-is
 
 pub close-serves : (k : Kernel) (i fd n : ℕ) {t : FileTree} {r : Result (Unit {0}) DeviceFault}
     → Serves k.tree t r (λ done. t ≡ counted (all_dropped k.tree (listed (last_node k.files n))) t.failures)
     → Serves k.tree t r (λ done. HasClosed k
-        (record (closed_at k i fd n) { tree = t; table = woken_by Bytes (closed_at k i fd n).table }) i fd n)
+    (record (closed_at k i fd n) { tree = t; table = woken_by Bytes (closed_at k i fd n).table }) i fd n)
 close-serves k i fd n = serves-as refl refl
     (λ done told. ap (λ (u : FileTree). record (closed_at k i fd n)
     { tree = u; table = woken_by Bytes (closed_at k i fd n).table }) told)
@@ -345,8 +347,13 @@ pub collected-run : {k : Kernel} {i : ℕ} (x : Runner k i) (j : ℕ) → j ≢ 
     → IsRun (collected k (Some j)) i x.process x.held
 collected-run {k} {i} x j apart =
     let back : i ≢ j = λ e. apart (sym e) in
-    record { active = x.run.active; process = slot-other _ j i None back ∙ x.run.process;
-        space = slot-other _ j i None back ∙ x.run.space; placed = x.run.placed; runs = x.run.runs }
+    record {
+      active = x.run.active;
+      process = slot-other _ j i None back ∙ x.run.process;
+      space = slot-other _ j i None back ∙ x.run.space;
+      placed = x.run.placed;
+      runs = x.run.runs;
+    }
 
 pub collected-state : {k : Kernel} {i : ℕ} (x : Runner k i) (j : ℕ) (child : Process) → IsZombie k j child → j ≢ i
     → state_of (collected k (Some j)) ≡ record (state_of k) { places = clear (state_of k).places j }
@@ -355,14 +362,14 @@ collected-state {k} {i} x j child z apart =
     let rest = base (rest_of k) in
     let old = with_process k.table i q in
     let in-spaces : j < length k.spaces.places =
-            omega (arith, slot-within _ j child z.at, x.sound.all, x.sound.spaces) in
+    omega (arith, slot-within _ j child z.at, x.sound.all, x.sound.spaces) in
     let swap : put (clear k.table.places j) i q ≡ clear (put k.table.places i q) j =
-            set_comm k.table.places j i None (Some q) apart in
+    set_comm k.table.places j i None (Some q) apart in
     state-run _ i _ _ (collected-run x j apart)
     ∙ ap (λ (places : Processes). with_table rest (record k.table { places = places })
-        (slice_set k.spaces.places j None)) swap
+    (slice_set k.spaces.places j None)) swap
     ∙ sym (ap (λ places. record (with_table rest old k.spaces.places) { places = places })
-        (put-joined _ _ j None None in-spaces))
+    (put-joined _ _ j None None in-spaces))
     ∙ sym (ap (λ (s : State). record s { places = clear s.places j }) (state-run k i _ _ x.run))
 
 -- ---- the step
@@ -400,8 +407,10 @@ has-go k parent r (Some j) found is =
     record {
       child = f.0;
       found = found ∙ ap Some place;
-      zombie = record { at = ap (slot k.table.places) (sym place) ∙ f.1.0;
-          ended = (and_parts _ (is_zombie_mode f.0.mode) f.1.1).1 };
+      zombie = record {
+        at = ap (slot k.table.places) (sym place) ∙ f.1.0;
+        ended = (and_parts _ (is_zombie_mode f.0.mode) f.1.1).1;
+      };
       pid = sym (ap (λ (y : Reaped). y.pid) g);
       status = sym (ap (λ (y : Reaped). y.status) g);
     }
@@ -434,13 +443,17 @@ module _ (files : Opens) (n offset : ℕ) where
   file-was : (m : ℕ) (f : OpenFile) → file_at (moved files n offset) m ≡ Some f → WasAlike files m f
   file-was = all-set (λ m o. (f : OpenFile) → option_map (λ (c : Counted). c.file) o ≡ Some f → WasAlike files m f)
       files n _ (go _ refl) (λ m f at. (f, (at, alike-same f))) where
-    go : (o : Option Counted) → slot files n ≡ o → (f : OpenFile)
-        → option_map (λ (c : Counted). c.file) (option_map (moved_in offset) o) ≡ Some f → WasAlike files n f
-    go None there f at = absurd (none-some f at)
-    go (Some c) there f at =
-        let alike = moved-alike offset c.file.target in
-        (c.file, (ap (option_map (λ (x : Counted). x.file)) there,
-            subst (IsAlike c.file) (same_Some _ f at) (record { pipe = alike.0; awaited = alike.1 })))
+        go : (o : Option Counted) → slot files n ≡ o → (f : OpenFile)
+            → option_map (λ (c : Counted). c.file) (option_map (moved_in offset) o) ≡ Some f → WasAlike files n f
+        go None there f at = absurd (none-some f at)
+        go (Some c) there f at =
+            let alike = moved-alike offset c.file.target in (
+              c.file,
+              (
+                ap (option_map (λ (x : Counted). x.file)) there,
+                subst (IsAlike c.file) (same_Some _ f at) (record { pipe = alike.0; awaited = alike.1 }),
+              ),
+            )
 
   pub opened-moved : (pipes : Pipes) (os : Processes) → IsOpened files pipes os
       → IsOpened (moved files n offset) pipes os
@@ -472,20 +485,20 @@ pub used-moved : {t : FileTree} {opens : Opens} {os : Processes} → IsInUse t o
     → offset ≤ longest → IsInUse t (moved opens n offset) os
 used-moved {t} {opens} {os} is n offset number old f at on low =
     used-files is (moved opens n offset)
-        (λ m. same-set (λ o. one_in m (node_in o)) opens n _
-        (ap (one_in m) (map-same node_in (moved_in offset) (λ c. (moved-alike offset c.file.target).2) (slot opens n))))
+    (λ m. same-set (λ o. one_in m (node_in o)) opens n _
+    (ap (one_in m) (map-same node_in (moved_in offset) (λ c. (moved-alike offset c.file.target).2) (slot opens n))))
     (all-set (λ m. FitsIn t) opens n _ (go _ refl at) is.fits) where
       go : (o : Option Counted) → slot opens n ≡ o → option_map (λ (x : Counted). x.file) o ≡ Some f
           → FitsIn t (option_map (moved_in offset) o)
       go None there was c now = absurd (none-some c now)
       go (Some d) there was c at =
           let file : d.file.target ≡ target.File number old = ap (λ (g : OpenFile). g.target) (same_Some _ f was)
-                  ∙ on in
+          ∙ on in
           fits-some t (moved_in offset d)
-              (subst (λ (x : Target). FitsNode (record d.file { target = moved_to offset x }) (moved_to offset x)
-              (node_of t.files (node_on (moved_to offset x)))) (sym file)
+          (subst (λ (x : Target). FitsNode (record d.file { target = moved_to offset x }) (moved_to offset x)
+          (node_of t.files (node_on (moved_to offset x)))) (sym file)
           (fits-further d.file number old _ _ low
-              (subst (λ (x : Target). FitsNode d.file x (node_of t.files (node_on x))) file (is.fits n d there)))) c at
+          (subst (λ (x : Target). FitsNode d.file x (node_of t.files (node_on x))) file (is.fits n d there)))) c at
 
 -- ---- the step
 
@@ -499,8 +512,15 @@ advance-keeps {k} keeps n offset may =
     let is = keeps.sound in
     let f = target-at _ _ may.on in
     record {
-      sound = record { all = is.all; spaces = is.spaces; stands = is.stands; runs = is.runs; fits = is.fits;
-          opened = opened-moved _ n offset _ _ is.opened; used =
-          λ up. used-moved (is.used up) n offset may.number may.old f.0 f.1.0 f.1.1 may.within };
+      sound = record {
+        all = is.all;
+        spaces = is.spaces;
+        stands = is.stands;
+        runs = is.runs;
+        fits = is.fits;
+        opened = opened-moved _ n offset _ _ is.opened;
+        used =
+            λ up. used-moved (is.used up) n offset may.number may.old f.0 f.1.0 f.1.1 may.within;
+      };
       watched = watched-moved _ _ _ _ _ n offset keeps.watched;
     }

@@ -44,9 +44,15 @@ waking k awake = record k { table = record k.table { awake = awake } }
 
 -- a kernel over processes, their spaces and their open files, as it begins
 abbrev pub begun : FileTree → Places → Spaces → List (Option Counted) → Kernel
-begun tree t s files = record
-    { tree = tree; table = t; spaces = s; files = files; console = record { committed = []; edited = [] }; ticks = 0;
-    halted = None }
+begun tree t s files = record {
+  tree = tree;
+  table = t;
+  spaces = s;
+  files = files;
+  console = record { committed = []; edited = [] };
+  ticks = 0;
+  halted = None;
+}
 
 -- ---- the state
 
@@ -74,8 +80,16 @@ pub record Rest : Type 0 where
   pub halted : Option ℤ
 
 abbrev pub rest_of : Kernel → Rest
-rest_of k = record { files = k.tree.files; block_limit = k.tree.block_limit; opens = opens_of k.files;
-    pipes = k.spaces.pipes; console = k.console; ticks = k.ticks; frames = k.spaces.frames; halted = k.halted }
+rest_of k = record {
+  files = k.tree.files;
+  block_limit = k.tree.block_limit;
+  opens = opens_of k.files;
+  pipes = k.spaces.pipes;
+  console = k.console;
+  ticks = k.ticks;
+  frames = k.spaces.frames;
+  halted = k.halted;
+}
 
 -- the state but for the table
 abbrev pub base : Rest → State

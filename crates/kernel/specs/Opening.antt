@@ -164,6 +164,9 @@ pub record HasFetched (old new : Kernel) (i n offset address count told : ℕ) :
 -- bytes from an address of process i on went into file n, as many as there are blocks for, and so many are told
 pub record HasStored (old new : Kernel) (i n offset address count : ℕ) (told : Option ℕ) : Type 0 where
   pub same : new ≡ with_tree old
-      (record old.tree { files = files_after old.tree.files
-      (written_from old.spaces i address count old.tree n offset); failures = new.tree.failures })
+      (record old.tree {
+        files = files_after old.tree.files
+            (written_from old.spaces i address count old.tree n offset);
+        failures = new.tree.failures;
+      })
   pub counted : told ≡ count_of (written_from old.spaces i address count old.tree n offset)

@@ -24,8 +24,16 @@ has_slept ticks w = nat_le (sleep_time w) ((ticks + (2 ^ 32 - w.since)) % 2 ^ 32
 -- the state as far as pending calls look at it beside the processes
 abbrev pub awaited_in : List (Option OpenFile) → List (Option (List ℕ)) → Console → ℕ → State
 awaited_in opens pipes console ticks =
-    base (record { files = []; block_limit = 0; opens = opens; pipes = pipes; console = console; ticks = ticks;
-        frames = 0; halted = None })
+    base (record {
+      files = [];
+      block_limit = 0;
+      opens = opens;
+      pipes = pipes;
+      console = console;
+      ticks = ticks;
+      frames = 0;
+      halted = None;
+    })
 
 abbrev pub awaited : {T : Type 0} → Awaited T → State
 awaited a = awaited_in (opens_of a.files.now) a.spaces.now.pipes a.console.now a.ticks

@@ -125,7 +125,7 @@ IsForBytes opens descriptors w =
 abbrev pub IsFresh : List (Option Counted) → List (Option ℕ) → Pending → Type 0
 IsFresh opens descriptors w =
     w.number ≡ Read → IfSome (file_named opens descriptors (low (pending_arg w 0)))
-        (λ f. is_on_pipe f.target ≡ true → w.done ≡ 0)
+    (λ f. is_on_pipe f.target ≡ true → w.done ≡ 0)
 
 pub record IsAwaiting (opens : List (Option Counted)) (descriptors : List (Option ℕ)) (w : Pending) : Type 0 where
   pub write : IsForPipe opens descriptors w

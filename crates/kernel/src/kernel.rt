@@ -283,7 +283,7 @@ impl<D: BlockDev, T: Translate> Kernel<D, T> {
     pub fn block(&mut self, at: usize, pending: Pending)
         requires running { self.old.spaces.active ≡ Some at }
         requires pending { IsPending (descriptors_at self.old at) (view_at self.old.spaces at).memory pending
-                pending.number }
+            pending.number }
         requires awaits { IsAwaiting self.old.files (descriptors_at self.old at) pending }
         ensures { self.new ≡ blocked self.old at pending }
     {
@@ -398,12 +398,12 @@ impl<D: BlockDev, T: Translate> Kernel<D, T> {
     /// A key was typed. Where `out` fails nothing changes, and a beginning of what shows the key was put out.
     pub fn type_key<W: Out>(&mut self, byte: u8, out: &mut W) -> Result<(), OutFault>
         ensures ok { OnOk result
-                (self.new ≡ waking (typed self.old (key self.old.console byte).console) self.new.table.awake) }
+            (self.new ≡ waking (typed self.old (key self.old.console byte).console) self.new.table.awake) }
         ensures echo { OnOk result
-                (Appends (W.contents out.old) (W.contents out.new) (key self.old.console byte).echo) }
+            (Appends (W.contents out.old) (W.contents out.new) (key self.old.console byte).echo) }
         ensures err { OnErr result (self.new ≡ self.old) }
         ensures beginning { OnErr result
-                (AppendsBeginning (W.contents out.old) (W.contents out.new) (key self.old.console byte).echo) }
+            (AppendsBeginning (W.contents out.old) (W.contents out.new) (key self.old.console byte).echo) }
         ensures later { W.failures out.old ≤ W.failures out.new }
         ensures cause { OnErr result (Rises (W.failures out.old) (W.failures out.new)) }
     {

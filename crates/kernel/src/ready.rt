@@ -83,7 +83,7 @@ impl<T: Translate> Awaited<'_, T> {
     fn can_go_on(&self, places: &[Place], process: &Process, pending: &Pending) -> bool
         requires { IsPiped self.now.spaces.now.pipes (opens_of self.now.files.now) }
         ensures { result ≡ can_go_on (seen (awaited self.now) places.now) (with_space no_pages process.now) pending.now
-                pending.now.number }
+            pending.now.number }
     {
         match pending.number {
             Call::Wait => zombie_child(places, process.pid).is_some(),

@@ -31,7 +31,7 @@ impl Model for Mapping {
     ghost view = { λ m. m.ram };
 
     ghost invariant = { λ m. (IsPaged m.ram m.table.root.0 m.frames) × (IsTidy m.ram m.table.root.0)
-            × (m.frame.0 < length m.ram) };
+        × (m.frame.0 < length m.ram) };
 }
 
 impl Mapping {

@@ -6,8 +6,11 @@ use Rattle.unixmodel.specs.Files.{Node, kind_of}
 
 read-other : (number major minor : ℕ) → 3 ≤ number → kind_read number major minor ≡ Device major minor
 read-other number major minor h =
-    rw (ne_eqb number 0 (λ e. absurd (omega arith)), ne_eqb number 1 (λ e. absurd (omega arith)),
-    ne_eqb number 2 (λ e. absurd (omega arith))) refl
+    rw (
+      ne_eqb number 0 (λ e. absurd (omega arith)),
+      ne_eqb number 1 (λ e. absurd (omega arith)),
+      ne_eqb number 2 (λ e. absurd (omega arith)),
+    ) refl
 
 pub read-free : (number major minor : ℕ) → (kind_read number major minor ≡ Free) ↔ (number ≡ 0)
 read-free zero major minor = (λ _. refl, λ _. refl)

@@ -33,7 +33,7 @@ numbers_in-take m n bytes h =
     ext_get_or 0 _ _ (length-numbers_in n (take m bytes) ∙ sym (length-numbers_in n bytes)) (λ i l.
     let i_in : i < n = omega (arith, length-numbers_in n (take m bytes)) in
     get_or-numbers_in n (take m bytes) i i_in ∙ number_at-take m i bytes (omega arith)
-        ∙ sym (get_or-numbers_in n bytes i i_in))
+    ∙ sym (get_or-numbers_in n bytes i i_in))
 
 -- a number of four bytes has 32 bits
 pub number_at-fits : (bytes : List ℕ) (at k : ℕ) → ((i : ℕ) → get_or bytes i 0 < 2 ^ 8)
@@ -41,7 +41,7 @@ pub number_at-fits : (bytes : List ℕ) (at k : ℕ) → ((i : ℕ) → get_or b
 number_at-fits bytes at k fits =
     little_from-lt 0 4 (drop (4 * k) (drop at bytes)) (λ i.
     let e : get_or (drop (4 * k) (drop at bytes)) i 0 ≡ get_or bytes (at + (4 * k + i)) 0 =
-            get_or-drop (4 * k) (drop at bytes) i 0 ∙ get_or-drop at bytes (4 * k + i) 0 in
+    get_or-drop (4 * k) (drop at bytes) i 0 ∙ get_or-drop at bytes (4 * k + i) 0 in
     let b = fits (at + (4 * k + i)) in
     omega arith)
 
@@ -145,7 +145,7 @@ spelled-range (suc n) i bytes h are =
     let next : 4 * (i + 1) ≡ 4 * i + 4 = omega arith in
     let whole : 4 + 4 * n ≡ 4 * suc n = omega arith in
     ap (λ rest. little_bytes 4 (number_at bytes i) ++ rest)
-        (spelled-range n (i + 1) bytes (omega arith) are ∙ ap (λ k. take (4 * n) (drop k bytes)) next)
+    (spelled-range n (i + 1) bytes (omega arith) are ∙ ap (λ k. take (4 * n) (drop k bytes)) next)
     ∙ in_front (4 * i) 4 (4 * n) bytes (omega arith) are
     ∙ ap (λ k. take k (drop (4 * i) bytes)) whole
 
@@ -156,7 +156,12 @@ pub inode_bytes-inode_of : (bytes : List ℕ) → 64 ≤ length bytes → AreByt
 unfolding numbers_in
 inode_bytes-inode_of bytes h are =
     let addresses = spelled-range 13 0 (drop 12 bytes) (omega (arith, length-drop 12 bytes)) (bytes-drop 12 bytes are)
-            in
-    rw (addresses, in_front 8 4 52 bytes (omega arith) are, in_front 6 2 56 bytes (omega arith) are,
-        in_front 4 2 58 bytes (omega arith) are, in_front 2 2 60 bytes (omega arith) are)
-        (in_front 0 2 62 bytes (omega arith) are)
+    in
+    rw (
+      addresses,
+      in_front 8 4 52 bytes (omega arith) are,
+      in_front 6 2 56 bytes (omega arith) are,
+      in_front 4 2 58 bytes (omega arith) are,
+      in_front 2 2 60 bytes (omega arith) are,
+    )
+    (in_front 0 2 62 bytes (omega arith) are)

@@ -36,7 +36,7 @@ fresh_inode kind links = record {
 abbrev pub inode_bytes : DiskInode → List ℕ
 inode_bytes inode =
     little_bytes 2 inode.kind
-        ++ (little_bytes 2 inode.major ++ (little_bytes 2 inode.minor ++ (little_bytes 2 inode.links
+    ++ (little_bytes 2 inode.major ++ (little_bytes 2 inode.minor ++ (little_bytes 2 inode.links
     ++ (little_bytes 4 inode.size ++ spelled inode.addresses))))
 
 -- what has a spelling

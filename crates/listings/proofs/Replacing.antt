@@ -49,7 +49,7 @@ pub whole-read : (bytes old new : List ℕ) (count : ℕ) → length old ≡ len
 whole-read bytes old new count long counted is =
     let whole : count ≡ length bytes = omega arith in
     is ∙ ap (λ xs. take count bytes ++ xs) (drop_all count old (omega arith)) ∙ append-nil (take count bytes)
-        ∙ take_all count bytes (omega arith)
+    ∙ take_all count bytes (omega arith)
 
 -- ---- a path without zeros
 
@@ -103,7 +103,7 @@ module _ {old : FileTree} (rest : IsAtRest old) (n : ℕ) (file : IsFile old.fil
     over : (k : ℕ) → k ≡ length bytes → overwrite [] 0 (take k bytes) ≡ bytes
     over k whole =
         ap (λ xs. take k bytes ++ xs) (drop_all (0 + length (take k bytes)) [] (omega arith))
-            ∙ append-nil (take k bytes) ∙ take_all k bytes (omega arith)
+        ∙ append-nil (take k bytes) ∙ take_all k bytes (omega arith)
 
     put-is : (k : ℕ) → k ≡ length bytes
         → with_file mid.files n file.links (overwrite [] 0 (take k bytes)) ≡ with_file old.files n file.links bytes
@@ -121,9 +121,9 @@ module _ {old : FileTree} (rest : IsAtRest old) (n : ℕ) (file : IsFile old.fil
           let parts = cond_some (nat_le (0 + length bytes) longest) made w (sym written-is ∙ is) in
           let room : 0 + length bytes ≤ longest = leb-true (0 + length bytes) longest parts.0 in
           let fits : fit ≡ length bytes = ap (λ (v : Written). v.count) parts.1 ∙ sym (same_Some count w.count told)
-                  ∙ whole in
+          ∙ whole in
           let after : new.files ≡ made.files = ap (λ (t : FileTree). t.files) writes ∙ ap (files_after mid.files) is
-                  ∙ ap (λ (v : Written). v.files) (sym parts.1) in (
+          ∙ ap (λ (v : Written). v.files) (sym parts.1) in (
             record { links = file.links; old = file.bytes; here = file.here; put = after ∙ put-is fit fits },
             rests-changed rests-mid (subst (Changed mid.files) (sym after)
                 (writes-over rests-mid.rules n file.links [] bytes 0 fit here-mid (omega (arith, room))))

@@ -16,21 +16,21 @@ pub script-next : (script : List Command) (i : ℕ) (c : Command) → i < length
 script-next script i c within is =
     ap script_events (take_more script i c within) ∙ script_events-append (take i script) (get_or script i c ∷ [])
     ∙ ap (λ es. script_events (take i script) ++ es)
-        (append-nil (events_of (get_or script i c)) ∙ ap events_of (sym is))
+    (append-nil (events_of (get_or script i c)) ∙ ap events_of (sym is))
 
 -- all events are those up to a command, and the rest
 pub script-whole : (script : List Command) (i : ℕ) (c : Command) → i < length script → c ≡ get_or script i c
     → script_events script ≡ (script_events (take i script) ++ events_of c) ++ script_events (drop (i + 1) script)
 script-whole script i c within is =
     ap script_events (sym (take-append-drop (i + 1) script))
-        ∙ script_events-append (take (i + 1) script) (drop (i + 1) script)
+    ∙ script_events-append (take (i + 1) script) (drop (i + 1) script)
     ∙ ap (λ es. es ++ script_events (drop (i + 1) script)) (script-next script i c within is)
 
 -- one event more of those that repeat
 pub repeat-next : (n i : ℕ) (e : Event) → i < n → take (i + 1) (replicate n e) ≡ take i (replicate n e) ++ e ∷ []
 repeat-next n i e within =
     take_more (replicate n e) i e (rw (length-replicate n e) within)
-        ∙ ap (λ x. take i (replicate n e) ++ x ∷ []) (get_or-replicate n i e e within)
+    ∙ ap (λ x. take i (replicate n e) ++ x ∷ []) (get_or-replicate n i e e within)
 
 -- all of them are those before a batch, the batch and the rest
 pub batch-whole : (all n count : ℕ) (e : Event) → n + count ≤ all
@@ -45,4 +45,4 @@ pub press-next : (keys : List ℕ) (i : ℕ) → i < length keys
     → take (i + 1) (map Key keys) ≡ take i (map Key keys) ++ Key (get_or keys i 0) ∷ []
 press-next keys i within =
     take_more (map Key keys) i (Key 0) (rw (length-map keys Key) within)
-        ∙ ap (λ x. take i (map Key keys) ++ x ∷ []) (get_or-map Key keys i 0 (Key 0) within)
+    ∙ ap (λ x. take i (map Key keys) ++ x ∷ []) (get_or-map Key keys i 0 (Key 0) within)

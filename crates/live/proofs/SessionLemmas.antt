@@ -58,57 +58,72 @@ pub follows-ends : (a b ea : List Event) (why : Halt) → Follows a ea (Err why)
 follows-ends a b ea why f = (f.0 ++ b, sym (append_assoc ea f.0 b) ∙ ap (λ xs. xs ++ b) f.1)
 
 module _ {first now : View} {before mid : Option (List ℕ)} {f0 f1 : ℕ} {k0 k1 : Option (List Event)} {all : List Event}
-    where
-  -- the machine takes more
-  pub given-so-far : {u : Unit {0}} → IsGiven all first now before mid f0 f1 k0 k1 (Ok u)
-      → SoFar first now all before mid
-  given-so-far h = subst (λ (es : List Event). SoFar first now es before mid) h.follows
-      (record { began = h.runs.0; done = h.runs.1 })
-
-  pub given-up : {u : Unit {0}} → IsGiven all first now before mid f0 f1 k0 k1 (Ok u) → IsUp now
-  given-up h = up_now first now all before mid (given-so-far h)
-
-  -- a state after it
-  pub given-state : {u : Unit {0}} → IsGiven all first now before mid f0 f1 k0 k1 (Ok u)
-      → now.state ≡ (run first.state all).state
-  given-state h = (given-so-far h).done.state
-
-  -- what is given next
-  pub given-then : {u : Unit {0}} {more : List Event} {new : View} {after : Option (List ℕ)} {f2 : ℕ}
-      {k2 : Option (List Event)} {r : Result (Unit {0}) Halt}
-      → IsGiven all first now before mid f0 f1 k0 k1 (Ok u) → IsGiven more now new mid after f1 f2 k1 k2 r
-          → IsGiven (all ++ more) first new before after f0 f2 k0 k2 r
-  given-then {u} {more} {new} {after} {f2} {k2} {r} h k = record {
-    events = h.events ++ k.events;
-    follows = follows-then all more h.events k.events r h.follows k.follows;
-    records = kept-then h.events k.events k0 k1 k2 h.records k.records;
-    runs = runs_on first now new h.events k.events before mid after (Rises f1 f2) (Rises f0 f2) r
+  where
+    -- the machine takes more
+    pub given-so-far : {u : Unit {0}} → IsGiven all first now before mid f0 f1 k0 k1 (Ok u)
+        → SoFar first now all before mid
+    given-so-far h = subst (λ (es : List Event). SoFar first now es before mid) h.follows
         (record { began = h.runs.0; done = h.runs.1 })
-        (λ rises. Rises-later f0 f1 f2 h.later rises k.later) k.runs;
-    later = le_trans h.later k.later;
-  }
 
-  -- after a halt nothing more is
-  pub given-ends : (more : List Event) {why : Halt} → IsGiven all first now before mid f0 f1 k0 k1 (Err why)
-      → IsGiven (all ++ more) first now before mid f0 f1 k0 k1 (Err why)
-  given-ends more {why} h =
-      record { events = h.events; follows = follows-ends all more h.events why h.follows; records = h.records;
-      runs = h.runs; later = h.later }
+    pub given-up : {u : Unit {0}} → IsGiven all first now before mid f0 f1 k0 k1 (Ok u) → IsUp now
+    given-up h = up_now first now all before mid (given-so-far h)
 
-  -- the bytes are written out
-  pub given-flushed : {u : Unit {0}} {after : Option (List ℕ)} {f2 : ℕ}
-      → IsGiven all first now before mid f0 f1 k0 k1 (Ok u) → Keeps mid after → f1 ≤ f2
-      → IsGiven all first now before after f0 f2 k0 k1 (Ok u)
-  given-flushed h keeps later =
-      record { events = h.events; follows = h.follows; records = h.records;
-      runs = (h.runs.0, done-kept h.runs.1 keeps); later = le_trans h.later later }
+    -- a state after it
+    pub given-state : {u : Unit {0}} → IsGiven all first now before mid f0 f1 k0 k1 (Ok u)
+        → now.state ≡ (run first.state all).state
+    given-state h = (given-so-far h).done.state
+
+    -- what is given next
+    pub given-then : {u : Unit {0}} {more : List Event} {new : View} {after : Option (List ℕ)} {f2 : ℕ}
+        {k2 : Option (List Event)} {r : Result (Unit {0}) Halt}
+        → IsGiven all first now before mid f0 f1 k0 k1 (Ok u) → IsGiven more now new mid after f1 f2 k1 k2 r
+        → IsGiven (all ++ more) first new before after f0 f2 k0 k2 r
+    given-then {u} {more} {new} {after} {f2} {k2} {r} h k = record {
+      events = h.events ++ k.events;
+      follows = follows-then all more h.events k.events r h.follows k.follows;
+      records = kept-then h.events k.events k0 k1 k2 h.records k.records;
+      runs = runs_on first now new h.events k.events before mid after (Rises f1 f2) (Rises f0 f2) r
+          (record { began = h.runs.0; done = h.runs.1 })
+          (λ rises. Rises-later f0 f1 f2 h.later rises k.later) k.runs;
+      later = le_trans h.later k.later;
+    }
+
+    -- after a halt nothing more is
+    pub given-ends : (more : List Event) {why : Halt} → IsGiven all first now before mid f0 f1 k0 k1 (Err why)
+        → IsGiven (all ++ more) first now before mid f0 f1 k0 k1 (Err why)
+    given-ends more {why} h =
+        record {
+          events = h.events;
+          follows = follows-ends all more h.events why h.follows;
+          records = h.records;
+          runs = h.runs;
+          later = h.later;
+        }
+
+    -- the bytes are written out
+    pub given-flushed : {u : Unit {0}} {after : Option (List ℕ)} {f2 : ℕ}
+        → IsGiven all first now before mid f0 f1 k0 k1 (Ok u) → Keeps mid after → f1 ≤ f2
+        → IsGiven all first now before after f0 f2 k0 k1 (Ok u)
+    given-flushed h keeps later =
+        record {
+          events = h.events;
+          follows = h.follows;
+          records = h.records;
+          runs = (h.runs.0, done-kept h.runs.1 keeps);
+          later = le_trans h.later later;
+        }
 
 -- nothing is given
 pub given-none : (old : View) (at : Option (List ℕ)) (f : ℕ) (k : Option (List Event)) (u : Unit {0}) → IsUp old
     → IsGiven [] old old at at f f k k (Ok u)
 given-none old at f k u up =
-    record { events = []; follows = refl; records = kept-none k; runs = (up, (so_far_at_first old at up).done);
-    later = omega arith }
+    record {
+      events = [];
+      follows = refl;
+      records = kept-none k;
+      runs = (up, (so_far_at_first old at up).done);
+      later = omega arith;
+    }
 
 -- what was kept before is known by another name
 pub given-from : {all : List Event} {old new : View} {before after : Option (List ℕ)} {f0 f1 : ℕ}
@@ -143,8 +158,8 @@ worked n (suc count) s busy within =
     let more = ap (λ k. work k t) one ∙ work-more (n - suc count) t (next t Step).state last.busy refl in
     let next_one : suc count ≡ count + 1 = omega arith in
     let on : run s (replicate (suc count) Step) ≡ after_bytes (run s (replicate count Step)).bytes (next t Step) =
-            ap (λ k. run s (replicate k Step)) next_one ∙ ap (run s) (sym (replicate_more count Step))
-            ∙ run-more (replicate count Step) Step s first.goes last.goes in
+    ap (λ k. run s (replicate k Step)) next_one ∙ ap (run s) (sym (replicate_more count Step))
+    ∙ run-more (replicate count Step) Step s first.goes last.goes in
     let e = ap (λ (a : After). work (n - suc count) a.state) on in
     omega (arith, w, more, e)
 
@@ -160,8 +175,12 @@ pub working-begins : (most : ℕ) (first : View) (at : Option (List ℕ)) (f : �
     → IsWorking most first first 0 at at f f
 working-begins most first at f up =
     let e : most - 0 ≡ most =
-            omega arith in record { so_far = so_far_at_first first at up; within = omega arith;
-            left = rw e (sym (zero-add (work most first.state))); later = omega arith }
+    omega arith in record {
+      so_far = so_far_at_first first at up;
+      within = omega arith;
+      left = rw e (sym (zero-add (work most first.state)));
+      later = omega arith;
+    }
 
 -- what a quantum answers
 pub record IsWorked (most : ℕ) (first new : View) (before after : Option (List ℕ)) (failed fails : ℕ) (count : ℕ)
@@ -202,7 +221,7 @@ module _ {most : ℕ} {first now : View} {done : ℕ} {before mid : Option (List
       runs-behind = subst (λ (es : List Event). RunGives first new es before after (Rises f0 f2) r)
           (replicate-append-replicate done more Step)
           (runs_on first now new (replicate done Step) (replicate more Step) before mid after (Rises f1 f2)
-              (Rises f0 f2) r h.so_far (λ rises. Rises-later f0 f1 f2 h.later rises le) gives)
+          (Rises f0 f2) r h.so_far (λ rises. Rises-later f0 f1 f2 h.later rises le) gives)
 
       told : (u : Unit {0}) → r ≡ Ok u → RunGives now new (replicate more Step) mid after (Rises f1 f2) (Ok u)
       told u ok = subst (λ (x : Result (Unit {0}) Halt). RunGives now new (replicate more Step) mid after (Rises f1 f2)
@@ -211,7 +230,7 @@ module _ {most : ℕ} {first now : View} {done : ℕ} {before mid : Option (List
       pub works-on : (u : Unit {0}) → r ≡ Ok u → IsWorking most first new (done + more) before after f0 f2
       works-on u ok =
           let all = subst (λ (x : Result (Unit {0}) Halt). RunGives first new (replicate (done + more) Step) before
-                  after (Rises f0 f2) x) ok runs-behind in
+          after (Rises f0 f2) x) ok runs-behind in
           record {
             so_far = record { began = all.0; done = all.1 };
             within = let p = piece.within in let w = h.within in omega (arith, p, w);
@@ -223,33 +242,43 @@ module _ {most : ℕ} {first now : View} {done : ℕ} {before mid : Option (List
       whole (Err why) err none = tt
       whole (Ok u) ok none =
           let idle = subst (λ (x : Result (Unit {0}) Halt). OnOk x (more ≡ 0 → is_idle new.state ≡ true)) ok piece.idle
-                  none in
+          none in
           let rest : work (most - (done + more)) (run now.state (replicate more Step)).state ≡ 0 =
-                  ap (work (most - (done + more))) (sym (told u ok).1.state) ∙ work-none _ new.state idle in
+          ap (work (most - (done + more))) (sym (told u ok).1.state) ∙ work-none _ new.state idle in
           omega (arith, left-behind, rest)
 
       pub ends-by : OnOk r (more ≡ 0) → IsWorked most first new before after f0 f2 (done + more) r
-      ends-by none = record { gives = runs-behind; within = omega (arith, left-behind); all = whole r refl none;
-          later = le_trans h.later le }
+      ends-by none = record {
+        gives = runs-behind;
+        within = omega (arith, left-behind);
+        all = whole r refl none;
+        later = le_trans h.later le;
+      }
 
 -- so many steps are a beginning of those that there are
 follows-steps : (count n : ℕ) (r : Result (Unit {0}) Halt) → count ≤ n → OnOk r (count ≡ n)
     → Follows (replicate n Step) (replicate count Step) r
 follows-steps count n (Ok u) within all = ap (λ k. replicate k Step) all
-follows-steps count n (Err why) within all =
-    (drop count (replicate n Step),
-    ap (λ xs. xs ++ drop count (replicate n Step)) (sym (take-replicate count n Step within))
-    ∙ take-append-drop count (replicate n Step))
+follows-steps count n (Err why) within all = (
+  drop count (replicate n Step),
+  ap (λ xs. xs ++ drop count (replicate n Step)) (sym (take-replicate count n Step within))
+      ∙ take-append-drop count (replicate n Step),
+)
 
 pub given-steps : (quantum count : ℕ) (old new : View) (before after : Option (List ℕ)) (f0 f1 : ℕ)
     (k0 k1 : Option (List Event)) (r : Result (Unit {0}) Halt)
     → RunGives old new (replicate count Step) before after (Rises f0 f1) r → count ≤ work quantum old.state
-        → OnOk r (count ≡ work quantum old.state) → f0 ≤ f1
+    → OnOk r (count ≡ work quantum old.state) → f0 ≤ f1
     → k1 ≡ option_map (λ es. es ++ replicate count Step) k0
-        → IsGiven (steps quantum old.state) old new before after f0 f1 k0 k1 r
+    → IsGiven (steps quantum old.state) old new before after f0 f1 k0 k1 r
 given-steps quantum count old new before after f0 f1 k0 k1 r runs within all later kept =
-    record { events = replicate count Step; follows = follows-steps count (work quantum old.state) r within all;
-        records = kept; runs = runs; later = later }
+    record {
+      events = replicate count Step;
+      follows = follows-steps count (work quantum old.state) r within all;
+      records = kept;
+      runs = runs;
+      later = later;
+    }
 
 -- events that are all given
 follows-all : (es : List Event) (r : Result (Unit {0}) Halt) → Follows es es r
@@ -259,7 +288,7 @@ follows-all es (Err why) = ([], append-nil es)
 pub given-all : (es : List Event) (old new : View) (before after : Option (List ℕ)) (f0 f1 : ℕ)
     (k0 k1 : Option (List Event)) (r : Result (Unit {0}) Halt)
     → RunGives old new es before after (Rises f0 f1) r → f0 ≤ f1 → k1 ≡ option_map (λ xs. xs ++ es) k0
-        → IsGiven es old new before after f0 f1 k0 k1 r
+    → IsGiven es old new before after f0 f1 k0 k1 r
 given-all es old new before after f0 f1 k0 k1 r runs later kept =
     record { events = es; follows = follows-all es r; records = kept; runs = runs; later = later }
 
@@ -269,14 +298,14 @@ module _ (quantum : ℕ) (g : Given) {first now : View} {before mid : Option (Li
   pub given-moved : {new : View} {after : Option (List ℕ)} {f2 : ℕ} {k2 : Option (List Event)} {u : Unit {0}}
       {r : Result (Unit {0}) Halt} → is_end g ≡ false
       → IsGiven (answered (mood_of first.state) g) first now before mid f0 f1 k0 k1 (Ok u)
-          → IsGiven (steps quantum now.state) now new mid after f1 f2 k1 k2 r
+      → IsGiven (steps quantum now.state) now new mid after f1 f2 k1 k2 r
       → IsGiven (moved quantum first.state g) first new before after f0 f2 k0 k2 r
   given-moved {new} {after} {f2} {k2} {u} {r} more h k =
       let e : steps quantum now.state
-              ≡ steps_after quantum g (run first.state (answered (mood_of first.state) g)).state =
-              rw more (ap (steps quantum) (given-state h)) in
+      ≡ steps_after quantum g (run first.state (answered (mood_of first.state) g)).state =
+      rw more (ap (steps quantum) (given-state h)) in
       subst (λ (es : List Event). IsGiven (answered (mood_of first.state) g ++ es) first new before after f0 f2 k0 k2
-          r) e (given-then h k)
+      r) e (given-then h k)
 
   -- the machine halts at an answer
   pub moved-ends : {why : Halt} → IsGiven (answered (mood_of first.state) g) first now before mid f0 f1 k0 k1 (Err why)
@@ -349,15 +378,23 @@ module _ {quantum : ℕ} {first now : View} {before mid : Option (List ℕ)} {f0
         → (flushed : Result (Unit {0}) E) → OnErr flushed (Rises f1 f2) → is_err flushed ≡ true
         → IsSession quantum gives later first now before after f0 f2 k0 k1 (Ok tt)
     session-lost {E} {after} {f2} keeps le flushed cause fails =
-        record { gave = h.gave; first = h.first; given = given-flushed h.given keeps le;
-            ends = inr (inl (Rises-later f0 f1 f2 h.given.later (rises-where flushed cause fails) le)) }
+        record {
+          gave = h.gave;
+          first = h.first;
+          given = given-flushed h.given keeps le;
+          ends = inr (inl (Rises-later f0 f1 f2 h.given.later (rises-where flushed cause fails) le));
+        }
 
     -- it was asked as often as can be
     pub session-tires : 0xffff_ffff_ffff_ffff ≤ moves → moves ≤ 0xffff_ffff_ffff_ffff
         → IsSession quantum gives later first now before mid f0 f1 k0 k1 (Ok tt)
     session-tires low high =
-        record { gave = h.gave; first = h.first; given = h.given;
-        ends = inr (inr (let c = h.count in omega (arith, c, low, high))) }
+        record {
+          gave = h.gave;
+          first = h.first;
+          given = h.given;
+          ends = inr (inr (let c = h.count in omega (arith, c, low, high)));
+        }
 
     goes-on : (g : Given) {new : View} {after : Option (List ℕ)} {f2 : ℕ} {from k2 : Option (List Event)}
         {r : Result (Unit {0}) Halt} → from ≡ k1
@@ -366,7 +403,7 @@ module _ {quantum : ℕ} {first now : View} {before mid : Option (List ℕ)} {f0
     goes-on g {new} {after} {f2} {from} {k2} {r} same k =
         subst (λ (es : List Event). IsGiven es first new before after f0 f2 k0 k2 r)
         (ap (λ s. session quantum first.state h.gave ++ moved quantum s g) (given-state h.given)
-            ∙ sym (session-more quantum first.state h.gave g))
+        ∙ sym (session-more quantum first.state h.gave g))
         (given-then h.given (given-from {all = moved quantum now.state g} same k))
 
     module _ {last : Option (List Given)} (g : Given) (asked : later ≡ option_map (λ rest. g ∷ rest) last) where
@@ -377,8 +414,8 @@ module _ {quantum : ℕ} {first now : View} {before mid : Option (List ℕ)} {f0
         first = gave-more gives later last h.gave g h.first asked;
         given = subst (λ (es : List Event). IsGiven es first now before mid f0 f1 k0 k1 (Ok tt))
             (sym (session-more quantum first.state h.gave g
-                ∙ ap (λ es. session quantum first.state h.gave ++ es) (moved-end quantum _ g e) ∙ append-nil _))
-                h.given;
+            ∙ ap (λ es. session quantum first.state h.gave ++ es) (moved-end quantum _ g e) ∙ append-nil _))
+            h.given;
         ends = inl (h.gave, ap (λ g. h.gave ++ g ∷ []) (only-end g e));
       }
 
@@ -387,13 +424,20 @@ module _ {quantum : ℕ} {first now : View} {before mid : Option (List ℕ)} {f0
         pub session-halts : {why : Halt}
             → IsGiven (moved quantum now.state g) now new mid after f1 f2 from k2 (Err why)
             → IsSession quantum gives last first new before after f0 f2 k0 k2 (Err why)
-        session-halts k = record
-            { gave = h.gave ++ g ∷ []; first = gave-more gives later last h.gave g h.first asked;
-            given = goes-on g same k; ends = tt }
+        session-halts k = record {
+          gave = h.gave ++ g ∷ [];
+          first = gave-more gives later last h.gave g h.first asked;
+          given = goes-on g same k;
+          ends = tt;
+        }
 
         -- the keyboard gave something else
         pub session-goes-on : IsGiven (moved quantum now.state g) now new mid after f1 f2 from k2 (Ok tt)
             → Sits quantum gives last first new before after f0 f2 k0 k2 (moves + 1)
         session-goes-on k =
-            record { gave = h.gave ++ g ∷ []; first = gave-more gives later last h.gave g h.first asked;
-                given = goes-on g same k; count = length-append h.gave (g ∷ []) ∙ ap (λ n. n + 1) h.count }
+            record {
+              gave = h.gave ++ g ∷ [];
+              first = gave-more gives later last h.gave g h.first asked;
+              given = goes-on g same k;
+              count = length-append h.gave (g ∷ []) ∙ ap (λ n. n + 1) h.count;
+            }

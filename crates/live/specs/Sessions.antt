@@ -118,4 +118,4 @@ abbrev pub SessionGives : {W S : Type 0} → (W → Option (List ℕ)) → (S �
     → (S → Option (List Event)) → ℕ → View → View → Writer W → Writer W → S → S → Result (Unit {0}) Halt → Type 0
 SessionGives contents gives kept quantum old new from to before after result =
     IsSession quantum (gives before) (gives after) old new (contents from.inner) (contents to.inner) from.failed
-        to.failed (kept before) (kept after) result
+    to.failed (kept before) (kept after) result

@@ -35,7 +35,7 @@ fn step<D: BlockDev, T: Translate, V: Watch, W: Out>(
     out: &mut W,
 ) -> Result<(), Halt>
     ensures gives { StepGivesTo W.contents W.failures machine.old machine.new out.old out.new
-            (next machine.old.state event) result }
+        (next machine.old.state event) result }
     ensures later { W.failures out.old ≤ W.failures out.new }
 {
     watch.before(machine, event);
@@ -54,7 +54,7 @@ fn each<D: BlockDev, T: Translate, V: Watch, W: Out>(
 ) -> Result<(), Halt>
     requires { IsUp machine.old }
     ensures gives { RunGivesTo W.contents W.failures machine.old machine.new out.old out.new (replicate times event)
-            result }
+        result }
     ensures later { W.failures out.old ≤ W.failures out.new }
 {
     let mut left = times;
@@ -75,7 +75,7 @@ fn batch<D: BlockDev, T: Translate, V: Watch, W: Out>(
 ) -> Result<(), Halt>
     requires { IsUp machine.old }
     ensures gives { RunGivesTo W.contents W.failures machine.old machine.new out.old out.new (replicate times event)
-            result }
+        result }
     ensures later { W.failures out.old ≤ W.failures out.new }
 {
     match event {

@@ -66,7 +66,7 @@ fn work<D: BlockDev, T: Translate, W: Out>(
 ) -> (u32, Result<(), Halt>)
     requires { IsUp machine.old }
     ensures gives { RunGivesTo W.contents W.failures machine.old machine.new out.old out.new (replicate result.0 Step)
-            result.1 }
+        result.1 }
     ensures count { result.0 ≤ work most machine.old.state }
     ensures all { OnOk result.1 (result.0 ≡ work most machine.old.state) }
     ensures later { W.failures out.old ≤ W.failures out.new }
@@ -91,7 +91,7 @@ fn advance<D: BlockDev, T: Translate, S: Terminal, W: Out>(
 ) -> Result<(), Halt>
     requires { IsUp machine.old }
     ensures given { GivesTo W.contents W.failures S.kept machine.old machine.new out.old out.new terminal.old
-            terminal.new
+        terminal.new
         (steps quantum machine.old.state) result }
     ensures gives { S.gives terminal.new ≡ S.gives terminal.old }
 {
@@ -109,7 +109,7 @@ fn type_keys<D: BlockDev, T: Translate, S: Terminal, W: Out>(
 ) -> Result<(), Halt>
     requires { IsUp machine.old }
     ensures given { GivesTo W.contents W.failures S.kept machine.old machine.new out.old out.new terminal.old
-            terminal.new
+        terminal.new
         (map event.Key keys.now) result }
     ensures gives { S.gives terminal.new ≡ S.gives terminal.old }
 {
@@ -126,7 +126,7 @@ fn tick_if<D: BlockDev, T: Translate, S: Terminal, W: Out>(
 ) -> Result<(), Halt>
     requires { IsUp machine.old }
     ensures given { GivesTo W.contents W.failures S.kept machine.old machine.new out.old out.new terminal.old
-            terminal.new
+        terminal.new
         (ticks_of is_due) result }
     ensures gives { S.gives terminal.new ≡ S.gives terminal.old }
 {
@@ -148,7 +148,7 @@ fn answer<D: BlockDev, T: Translate, S: Terminal, W: Out>(
 ) -> Result<(), Halt>
     requires { IsUp machine.old }
     ensures given { GivesTo W.contents W.failures S.kept machine.old machine.new out.old out.new terminal.old
-            terminal.new
+        terminal.new
         (answered mood given.now) result }
     ensures gives { S.gives terminal.new ≡ S.gives terminal.old }
 {
@@ -181,7 +181,7 @@ fn go_on<D: BlockDev, T: Translate, S: Terminal, W: Out>(
     requires up { IsUp machine.old }
     requires more { is_end given.now ≡ false }
     ensures given { GivesTo W.contents W.failures S.kept machine.old machine.new out.old out.new terminal.old
-            terminal.new
+        terminal.new
         (moved quantum machine.old.state given.now) result }
     ensures gives { S.gives terminal.new ≡ S.gives terminal.old }
 {
@@ -201,7 +201,7 @@ pub fn session<D: BlockDev, T: Translate, S: Terminal, W: Write>(
 ) -> Result<(), Halt>
     requires { IsUp machine.old }
     ensures { SessionGives W.contents S.gives S.kept quantum machine.old machine.new out.old out.new terminal.old
-            terminal.new result }
+        terminal.new result }
 {
     advance(machine, quantum, terminal, out)?;
     for _moves in 0..u64::MAX {

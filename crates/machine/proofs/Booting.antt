@@ -51,7 +51,7 @@ pub state-init : (tree : FileTree) (frames : ℕ) (new : Plan)
 unfolding joined free_slots
 state-init tree frames new =
     ap (λ (places : List (Option unix.Process)). record (begun_with tree.files tree.block_limit frames new)
-        { places = Some (first_process new no_descriptors) ∷ places })
+    { places = Some (first_process new no_descriptors) ∷ places })
     (joined-free_slots 63 (replicate 63 None))
 
 starts-with : (files : Files) (limit frames : ℕ) (new : Plan) → init_plan files ≡ Some new
@@ -64,8 +64,8 @@ pub start-init : (tree : FileTree) (frames : ℕ) (new : Plan) → init_plan tre
     → start tree.files tree.block_limit frames ≡ Some (state_of (init_kernel tree frames new))
 start-init tree frames new is fits =
     starts-with tree.files tree.block_limit frames new is
-        ∙ fresh-fits tree.files tree.block_limit frames (free_slots open_limit) new no_descriptors fits
-        ∙ ap Some (sym (state-init tree frames new))
+    ∙ fresh-fits tree.files tree.block_limit frames (free_slots open_limit) new no_descriptors fits
+    ∙ ap Some (sym (state-init tree frames new))
 
 start-planless : (files : Files) (limit frames : ℕ) → init_plan files ≡ None → start files limit frames ≡ None
 unfolding start
@@ -96,19 +96,26 @@ init-counted : (new : Plan) → IsCounted no_files (first_places new).places
 unfolding free_slots
 init-counted new n =
     let none : count_at no_files n ≡ 0 = ap count_in (same-past (Option Counted) None 100 n) in
-    omega (arith, none, sum_by-cons (names_in n) (Some (first_of new)) (replicate 63 None),
-        sum_by-replicate (names_in n) 63 None, names-none n)
+    omega (
+      arith,
+      none,
+      sum_by-cons (names_in n) (Some (first_of new)) (replicate 63 None),
+      sum_by-replicate (names_in n) 63 None,
+      names-none n,
+    )
 
 init-each : (n : ℕ) (f : unix_files.OpenFile) → slot (opens_of no_files) n ≡ Some f → IsOpenFile f
 init-each n f at =
     absurd (none-some f (sym
-        (slot-opens no_files n ∙ ap (option_map (λ (c : Counted). file_of c.file))
-        (same-past (Option Counted) None 100 n)) ∙ at))
+    (slot-opens no_files n ∙ ap (option_map (λ (c : Counted). file_of c.file))
+    (same-past (Option Counted) None 100 n)) ∙ at))
 
 init-opened : (new : Plan) → IsOpened no_files (replicate 100 None) (first_places new).places
 init-opened new = record {
-  table = record { all = length-replicate {A = Option Counted} 100 None;
-      named = λ i c at. absurd (none-some c (sym (same-past (Option Counted) None 100 i) ∙ at)) };
+  table = record {
+    all = length-replicate {A = Option Counted} 100 None;
+    named = λ i c at. absurd (none-some c (sym (same-past (Option Counted) None 100 i) ∙ at));
+  };
   counted = init-counted new;
   each = init-each;
   all = length-replicate {A = Option (List ℕ)} 100 None;
@@ -180,7 +187,7 @@ module _ {old tree : FileTree} (unheld : IsUnheld old) (same : tree ≡ record o
   unfolding free_slots
   init-sound frames new fits aligned =
       one-sound (record tree { holds = with_hold tree.holds 1 }) (first_of new) (view_by new) frames no_files
-          (init-placed new aligned) refl fits (init-opened new) (init-used new)
+      (init-placed new aligned) refl fits (init-opened new) (init-used new)
 
 -- ---- the kernel as it is made
 
@@ -195,43 +202,43 @@ module _ {old mid : FileTree} (unheld : IsUnheld old) (same : mid ≡ record old
     (whole : IsWhole mid) {frames : ℕ} (s put : Spaces) (count : s.frames ≡ frames) {init : Init}
     {told_init : Option Init} (is_init : told_init ≡ Some init)
     (puts : PutsInit old.files s.frames put told_init) {held : FileTree}
-        (holds_root : held ≡ record mid { holds = with_hold mid.holds 1 }) {table : Places}
-        (first : table ≡ first_places (bare_of init)) {opens : List (Option Counted)} (none : opens ≡ free_slots 100)
-        where
-  placed : IsInPlace old.files s.frames put init
-  placed = subst (PutsInit old.files s.frames put) is_init puts
+    (holds_root : held ≡ record mid { holds = with_hold mid.holds 1 }) {table : Places}
+    (first : table ≡ first_places (bare_of init)) {opens : List (Option Counted)} (none : opens ≡ free_slots 100)
+  where
+    placed : IsInPlace old.files s.frames put init
+    placed = subst (PutsInit old.files s.frames put) is_init puts
 
-  spaces-are : put ≡ alone frames (view_by placed.plan)
-  spaces-are = placed.spaces ∙ ap (λ (n : ℕ). alone n (view_by placed.plan)) count
+    spaces-are : put ≡ alone frames (view_by placed.plan)
+    spaces-are = placed.spaces ∙ ap (λ (n : ℕ). alone n (view_by placed.plan)) count
 
-  table-is : table ≡ first_places placed.plan
-  table-is = first ∙ ap (λ (p : Process).
-      let t : Places = record { places = Some p ∷ free_slots 63; last = 63; next_pid = 2; awake = all_in 64 } in t)
-      placed.bare
+    table-is : table ≡ first_places placed.plan
+    table-is = first ∙ ap (λ (p : Process).
+        let t : Places = record { places = Some p ∷ free_slots 63; last = 63; next_pid = 2; awake = all_in 64 } in t)
+        placed.bare
 
-  kernel-is : begun held table put opens ≡ init_kernel mid frames placed.plan
-  kernel-is = λ i. begun (holds_root i) (table-is i) (spaces-are i) (none i)
+    kernel-is : begun held table put opens ≡ init_kernel mid frames placed.plan
+    kernel-is = λ i. begun (holds_root i) (table-is i) (spaces-are i) (none i)
 
-  pub kernel-sound : IsKernel (begun held table put opens)
-  kernel-sound = subst IsKernel (sym kernel-is)
-      (init-sound unheld same whole frames placed.plan (let fits = placed.fits in omega (arith, fits, count))
-      placed.aligned)
+    pub kernel-sound : IsKernel (begun held table put opens)
+    kernel-sound = subst IsKernel (sym kernel-is)
+        (init-sound unheld same whole frames placed.plan (let fits = placed.fits in omega (arith, fits, count))
+        placed.aligned)
 
-  pub begun-init : {kernel : Kernel} → kernel ≡ begun held table put opens → {m : View}
-      → m ≡ sound_view (state_of kernel) kernel.tree.failures kernel.tree.identity → old.failures ≤ mid.failures
-      → IsBegun old frames m
-  begun-init {kernel} made machine later =
-      let fits = placed.fits in
-      let planned : init_plan mid.files ≡ Some placed.plan = ap (λ (t : FileTree). init_plan t.files) same
-              ∙ placed.is in
-      let is : kernel ≡ init_kernel mid frames placed.plan = made ∙ kernel-is in
-      rw (machine, is) (record {
-        starts = sym (ap (λ (t : FileTree). start t.files t.block_limit frames) same)
-            ∙ start-init mid frames placed.plan planned (omega (arith, fits, count));
-        up = record { sound = refl; goes = refl };
-        same_device = ap (λ (t : FileTree). t.identity) same;
-        later = later;
-      })
+    pub begun-init : {kernel : Kernel} → kernel ≡ begun held table put opens → {m : View}
+        → m ≡ sound_view (state_of kernel) kernel.tree.failures kernel.tree.identity → old.failures ≤ mid.failures
+        → IsBegun old frames m
+    begun-init {kernel} made machine later =
+        let fits = placed.fits in
+        let planned : init_plan mid.files ≡ Some placed.plan = ap (λ (t : FileTree). init_plan t.files) same
+        ∙ placed.is in
+        let is : kernel ≡ init_kernel mid frames placed.plan = made ∙ kernel-is in
+        rw (machine, is) (record {
+          starts = sym (ap (λ (t : FileTree). start t.files t.block_limit frames) same)
+              ∙ start-init mid frames placed.plan planned (omega (arith, fits, count));
+          up = record { sound = refl; goes = refl };
+          same_device = ap (λ (t : FileTree). t.identity) same;
+          later = later;
+        })
 
 -- ---- what /init has process 1 execute, and how it comes into the first place
 
@@ -274,14 +281,14 @@ module _ (files : Files) (n : ℕ) (program : Program) (found : find files 1 ini
       planned
       ∙ passes init_path refl is.loaded.pages program.header.entry is.pages
       ∙ ap (λ (x : Loaded). option_map (plan_with x.pages program.header.entry) told)
-          (same_Some is.loaded l (sym is.is ∙ loaded))
+      (same_Some is.loaded l (sym is.is ∙ loaded))
 
   -- the frames don't suffice for its pages
   too-long : (frames : ℕ) → frames < 4 + page_frames (program.pages + 2) → LacksInit files frames
   too-long frames over p planned-as =
       let long : length p.memory ≡ program.pages + 2 =
-              args-long is.loaded.pages program.header.entry (init_path ∷ []) p (sym planned ∙ planned-as)
-              ∙ ap (λ n. n + 2) is.pages in
+      args-long is.loaded.pages program.header.entry (init_path ∷ []) p (sym planned ∙ planned-as)
+      ∙ ap (λ n. n + 2) is.pages in
       rw long over
 
 -- ---- reading it
@@ -363,8 +370,12 @@ module _ {old mid : FileTree} {number : Option ℕ} (serves : Serves old mid (Ok
             → Answered old new frames (Some (record { number = n; program = program; arguments = a }))
         init-found less a passes =
             tells frames (Some (record { number = n; program = program; arguments = a }))
-            (record { file = has.file; program = has.program_is; fits = omega (arith, less, count);
-                plan = plan-passed old.files n program found has (Some a) passes })
+            (record {
+              file = has.file;
+              program = has.program_is;
+              fits = omega (arith, less, count);
+              plan = plan-passed old.files n program found has (Some a) passes;
+            })
 
 -- ---- putting it in its place
 
@@ -384,7 +395,7 @@ module _ (files : Files) (frames : ℕ) (init : Init) (is : IsInit files frames 
 
   pub init-put : (made new : Spaces) → made ≡ alone frames no_pages
       → ((l : Loaded) → loaded_of (file_at files init.number) ≡ Some l
-          → new ≡ with_view made 0 (paged (stacked l.pages init.arguments.page))) → IsInPlace files frames new init
+      → new ≡ with_view made 0 (paged (stacked l.pages init.arguments.page))) → IsInPlace files frames new init
   init-put made new is-made done =
       let pages = program-of.pages in
       let fits = is.fits in
@@ -416,7 +427,7 @@ pub record IsReady (tree : FileTree) (made : Spaces) (init : Init) : Type 0 wher
 module _ {old mid : FileTree} {told : Option Init} {frames : ℕ} (serves : Answered old mid frames told) {init : Init}
     (some : told ≡ Some init)
     (s made : Spaces) (none : s ≡ no_spaces s.frames) (done : made ≡ with_view s 0 no_pages)
-        (all : frames + taken_frames s ≡ s.frames) where
+    (all : frames + taken_frames s ≡ s.frames) where
   every : frames ≡ s.frames
   every = omega (arith, all, ap taken_frames none ∙ taken-none s.frames)
 
@@ -433,7 +444,7 @@ module _ {old mid : FileTree} {told : Option Init} {frames : ℕ} (serves : Answ
   ready small =
       let fits = finds.fits in
       let none_there : taken_frames (with_place made 0 None) ≡ 0 =
-              ap (λ (x : Spaces). taken_frames (with_place x 0 None)) alone-now ∙ taken-none s.frames in
+      ap (λ (x : Spaces). taken_frames (with_place x 0 None)) alone-now ∙ taken-none s.frames in
       record {
         file = subst (λ (files : Files). IsFile files init.number) (sym same) finds.file;
         program_is = ap (λ (files : Files). program_in (file_at files init.number)) same ∙ finds.program;
@@ -475,10 +486,15 @@ module _ {D : Type 0} (identity : D → List ℕ) (count : D → ℕ) (disk : D)
   unbooted FrameCount why = absurd why
   unbooted Device why =
       let rises = why.rises in
-      let later = mounted.later in
-      (why.disk, record { reaches = record
-          { same_device = why.same_device ∙ mounted.same_device; later = le_trans mounted.later why.later }; rises =
-          omega (arith, rises, later) })
+      let later = mounted.later in (
+        why.disk,
+        record {
+          reaches = record
+              { same_device = why.same_device ∙ mounted.same_device; later = le_trans mounted.later why.later };
+          rises =
+              omega (arith, rises, later);
+        },
+      )
   unbooted NoMemory why = tt
   unbooted NoInit why = record {
     files = tree.files;
@@ -495,9 +511,10 @@ module _ {D : Type 0} (identity : D → List ℕ) (count : D → ℕ) (disk : D)
 pub counted-from : {D : Type 0} (identity : D → List ℕ) (count : D → ℕ) (tree : FileTree) (frames : ℕ) → 64 ≤ frames
     → frames ≤ 32768 → (r : Result View BootFault) → IfErr r (IsNotBegun identity count tree frames)
     → IsErrOf r FrameCount ↔ ((frames < 64) ⊎ (32768 < frames))
-counted-from identity count tree frames least most r why =
-    (λ e. absurd (subst (λ x. IfErr x (IsNotBegun identity count tree frames)) e why),
-    λ out. absurd (outside frames least most out))
+counted-from identity count tree frames least most r why = (
+  λ e. absurd (subst (λ x. IfErr x (IsNotBegun identity count tree frames)) e why),
+  λ out. absurd (outside frames least most out),
+)
 
 -- why there are no files
 pub unmounted-why : {D : Type 0} (identity : D → List ℕ) (count : D → ℕ) (disk : D) (image : List ℕ) (frames : ℕ)

@@ -44,7 +44,7 @@ unfolding with_stack
 bare-stack pages =
     let at : 4096 * (length pages + 2) - 16 ≡ 4096 * (length pages + 1) + 4080 = omega arith in
     ap (λ a. write_bytes (stacked pages (zeros 4096)) a (le 8 0))
-        at ∙ write-stack pages (zeros 4096) 4080 (le 8 0) (omega arith) (omega arith) ∙ ap (stacked pages) zero-word
+    at ∙ write-stack pages (zeros 4096) 4080 (le 8 0) (omega arith) (omega arith) ∙ ap (stacked pages) zero-word
 
 above : (size n : ℕ) → size ≡ 4096 * (n + 2) → nat_le (size - 4096) (size - 16) ≡ true
 above size n is = le-leb (size - 4096) (size - 16) (omega (arith, is))
@@ -131,8 +131,8 @@ module _ {tree : FileTree} (flat : IsFlat tree) where
   state-first frames h =
       rw (flat.files, flat.limit)
       (ap (λ (places : List (Option unix.Process)). record (begun frames h)
-          { places = Some (first_process (bare_plan h.memory h.size) flat_descriptors) ∷ places })
-          (joined-free_slots 63 (replicate 63 None)))
+      { places = Some (first_process (bare_plan h.memory h.size) flat_descriptors) ∷ places })
+      (joined-free_slots 63 (replicate 63 None)))
 
   pub start-fits : (bytes : List ℕ) (frames : ℕ) → 4 + page_frames (length (flat_memory bytes)) ≤ frames
       → start_flat bytes frames ≡ Some (state_of (first_kernel tree frames (flat_space bytes)))
@@ -162,8 +162,8 @@ first-alone P p here free (suc i) = subst P (sym (same-past (Option Process) Non
 pub one-sound : (tree : FileTree) (p : Process) (h : SpaceView) (frames : ℕ) (opens : List (Option Counted))
     → IsPlaced p h → is_running p ≡ false → 4 + page_frames (length h.memory) ≤ frames
     → IsOpened opens (replicate 100 None) (Some p ∷ free_slots 63) → IsInUse tree opens (Some p ∷ free_slots 63)
-        → IsKernel (begun_by tree
-        (record { places = Some p ∷ free_slots 63; last = 63; next_pid = 2; awake = all_in 64 }) (alone frames h) opens)
+    → IsKernel (begun_by tree
+    (record { places = Some p ∷ free_slots 63; last = 63; next_pid = 2; awake = all_in 64 }) (alone frames h) opens)
 unfolding free_slots
 one-sound tree p h frames opens placed rests fits opened used = record {
   all = ap suc (length-replicate {A = Option Process} 63 None);
@@ -201,15 +201,22 @@ open-first t new r f is place ok =
 names-first : (n : ℕ) → names n flat_descriptors ≡ 3 * one_in n (Some 0)
 unfolding flat_descriptors
 names-first n =
-    omega (arith, sum_by-cons (one_in n) (Some 0) (Some 0 ∷ Some 0 ∷ free_slots 13),
-        sum_by-cons (one_in n) (Some 0) (Some 0 ∷ free_slots 13), sum_by-cons (one_in n) (Some 0) (free_slots 13),
-        names-free n 13)
+    omega (
+      arith,
+      sum_by-cons (one_in n) (Some 0) (Some 0 ∷ Some 0 ∷ free_slots 13),
+      sum_by-cons (one_in n) (Some 0) (Some 0 ∷ free_slots 13),
+      sum_by-cons (one_in n) (Some 0) (free_slots 13),
+      names-free n 13,
+    )
 
 named-first : (size n : ℕ) → named_by (first_table size).places n ≡ 3 * one_in n (Some 0)
 unfolding free_slots
-named-first size n = omega
-    (arith, sum_by-cons (names_in n) (Some (first size)) (replicate 63 None), sum_by-replicate (names_in n) 63 None,
-    names-first n)
+named-first size n = omega (
+  arith,
+  sum_by-cons (names_in n) (Some (first size)) (replicate 63 None),
+  sum_by-replicate (names_in n) 63 None,
+  names-first n,
+)
 
 other-file : (n : ℕ) → one_in (suc n) (Some 0) ≡ 0
 other-file n = let other : (0 == suc n) ≡ false = grind (arith, nat_tests) in rw other refl
@@ -227,8 +234,8 @@ first-each : (n : ℕ) (f : unix_files.OpenFile) → slot (opens_of first_files)
 first-each zero f at = let e : file_of console_file ≡ f = cc in subst IsOpenFile e tt
 first-each (suc n) f at =
     absurd (let bad : None ≡ Some f = sym
-        (slot-opens first_files (suc n)
-        ∙ ap (option_map (λ (c : Counted). file_of c.file)) (same-past (Option Counted) None 99 n)) ∙ at in cc)
+    (slot-opens first_files (suc n)
+    ∙ ap (option_map (λ (c : Counted). file_of c.file)) (same-past (Option Counted) None 99 n)) ∙ at in cc)
 
 first-opened : (size : ℕ) → IsOpened first_files (replicate 100 None) (first_table size).places
 first-opened size = record {
@@ -245,8 +252,12 @@ first-opened size = record {
 console-on : (n : ℕ) → files_on first_files n ≡ one_in n (Some 2)
 console-on n = let rest =
     none-free Counted (λ o. one_in n (node_in o)) refl 99
-    in omega (arith, sum_by-cons (λ o. one_in n (node_in o)) (Some (record { file = console_file; count = 3 }))
-    (replicate 99 None), rest)
+    in omega (
+      arith,
+      sum_by-cons (λ o. one_in n (node_in o)) (Some (record { file = console_file; count = 3 }))
+          (replicate 99 None),
+      rest,
+    )
 
 first-holders : (n : ℕ) → holders (with_hold (with_hold (replicate 16 0) 1) 2) n ≡ one_in n (Some 2) + one_in n (Some 1)
 first-holders zero = refl
@@ -325,8 +336,10 @@ one-seated p = refl
 -- ---- the space as it is made: the pages of the program, its bytes in them, the guard page, the stack
 
 abbrev pub segment : List ℕ → SpaceView
-segment bytes = record { memory = replicate (program_pages bytes) (zero_page all_marks);
-    size = program_pages bytes * 4096 }
+segment bytes = record {
+  memory = replicate (program_pages bytes) (zero_page all_marks);
+  size = program_pages bytes * 4096;
+}
 
 abbrev pub filled_segment : List ℕ → SpaceView
 filled_segment bytes = record { memory = flat_pages bytes; size = program_pages bytes * 4096 }
@@ -351,20 +364,20 @@ filled-is bytes = ap (λ (memory : Memory).
 guarded-is : (bytes : List ℕ) → grown (filled_segment bytes) 4096 (stack_marks false) ≡ guarded bytes
 guarded-is bytes =
     let one : ceil_div (program_pages bytes * 4096 + 4096) 4096 - ceil_div (program_pages bytes * 4096) 4096 ≡ 1 =
-            omega arith in
+    omega arith in
     rw one refl
 
 stacked-is : (bytes : List ℕ) → grown (guarded bytes) 4096 (stack_marks true) ≡ flat_space bytes
 unfolding with_stack
 stacked-is bytes =
     let one : ceil_div (program_pages bytes * 4096 + 4096 + 4096) 4096 - ceil_div (program_pages bytes * 4096 + 4096)
-            4096 ≡ 1 = omega arith in
+    4096 ≡ 1 = omega arith in
     let size : program_pages bytes * 4096 + 4096 + 4096 ≡ 4096 * length (flat_memory bytes) =
-            omega (arith, length-flat bytes) in
+    omega (arith, length-flat bytes) in
     let memory = append_assoc (flat_pages bytes) (zero_page (stack_marks false) ∷ [])
-            (zero_page (stack_marks true) ∷ []) in
+    (zero_page (stack_marks true) ∷ []) in
     rw (one, size) (ap (λ (memory : Memory).
-        let h : SpaceView = record { memory = memory; size = 4096 * length (flat_memory bytes) } in h) memory)
+    let h : SpaceView = record { memory = memory; size = 4096 * length (flat_memory bytes) } in h) memory)
 
 -- the space in place 0 changes
 abbrev pub changed : Spaces → (SpaceView → SpaceView) → Spaces
@@ -384,9 +397,13 @@ module _ {frames : ℕ} {s : Spaces} {h new : SpaceView} (change : SpaceView →
 
   over : (bytes : List ℕ) → length new.memory ≤ length (flat_memory bytes) → s.frames < taken_frames (changed s change)
       → frames < 4 + page_frames (length (flat_memory bytes))
-  over bytes less full = omega
-      (arith, full, takes, ap (λ (x : Spaces). x.frames) is,
-      page_frames-more (length new.memory) (length (flat_memory bytes)) less)
+  over bytes less full = omega (
+    arith,
+    full,
+    takes,
+    ap (λ (x : Spaces). x.frames) is,
+    page_frames-more (length new.memory) (length (flat_memory bytes)) less,
+  )
 
 -- the first place of no spaces is free, and it has the space that stands alone
 pub first-free : {frames : ℕ} {s : Spaces} → s ≡ no_spaces frames → has_space s 0 ≡ false
@@ -416,7 +433,7 @@ module _ (bytes : List ℕ) {frames : ℕ} {s : Spaces} where
       → frames < 4 + page_frames (length (flat_memory bytes))
   segment-over b size is done full =
       over (λ h. grown h b all_marks) (created is done) (segment-is bytes b size) bytes
-          (rw (length-flat bytes, length-replicate (program_pages bytes) (zero_page all_marks)) (omega arith)) full
+      (rw (length-flat bytes, length-replicate (program_pages bytes) (zero_page all_marks)) (omega arith)) full
 
   pub segment-made : (b : ℕ) {none t : Spaces} → b ≡ program_pages bytes * 4096 → none ≡ no_spaces frames
       → s ≡ with_view none 0 no_pages → t ≡ with_view s 0 (grown (view_at s 0) b all_marks)
@@ -436,8 +453,11 @@ module _ (bytes : List ℕ) {frames : ℕ} {s : Spaces} where
       → frames < 4 + page_frames (length (flat_memory bytes))
   guard-over is full =
       over (λ h. grown h 4096 (stack_marks false)) is (guarded-is bytes) bytes
-      (rw (length-flat bytes, length-append (flat_pages bytes) (zero_page (stack_marks false) ∷ []),
-          length-pages all_marks (program_pages bytes) bytes) (omega arith)) full
+      (rw (
+        length-flat bytes,
+        length-append (flat_pages bytes) (zero_page (stack_marks false) ∷ []),
+        length-pages all_marks (program_pages bytes) bytes,
+      ) (omega arith)) full
 
   -- the bytes are within the pages
   pub fill-inside : s ≡ alone frames (segment bytes) → (i : ℕ) → i < length bytes
@@ -449,9 +469,10 @@ pub flat-loaded : (bytes : List ℕ) (old s t : Spaces) → s ≡ alone old.fram
     → OnTrue r ((taken_frames (with_stack_page s) ≤ s.frames) × (t ≡ with_stack_page s))
     → OnFalse r ((s.frames < taken_frames (with_stack_page s)) × (t ≡ s)) → LoadsFlat bytes old t r
 flat-loaded bytes old s t is true done full =
-    let fits = takes (λ h. grown h 4096 (stack_marks true)) is (stacked-is bytes) in
-    (placed (λ h. grown h 4096 (stack_marks true)) is (stacked-is bytes) done.1,
-        omega (arith, done.0, fits, ap (λ (x : Spaces). x.frames) is))
+    let fits = takes (λ h. grown h 4096 (stack_marks true)) is (stacked-is bytes) in (
+      placed (λ h. grown h 4096 (stack_marks true)) is (stacked-is bytes) done.1,
+      omega (arith, done.0, fits, ap (λ (x : Spaces). x.frames) is),
+    )
 flat-loaded bytes old s t is false done full =
     over (λ h. grown h 4096 (stack_marks true)) is (stacked-is bytes) bytes (omega arith) full.0
 
@@ -462,9 +483,11 @@ outside frames least most (inr high) = omega (arith, high, most)
 -- where the count is in range the fault isn't that
 pub counted-flat : {M : Type 0} (frames : ℕ) → 64 ≤ frames → frames ≤ 32768 → (r : Result M BootFault)
     → OnErr r (IsErrOf r NoInit ⊎ IsErrOf r NoMemory) → IsErrOf r FrameCount ↔ ((frames < 64) ⊎ (32768 < frames))
-counted-flat {M} frames least most r only =
-    (λ e. absurd (other e (subst (λ (x : Result M BootFault). OnErr x (IsErrOf r NoInit ⊎ IsErrOf r NoMemory)) e
-    only)), λ out. absurd (outside frames least most out)) where
+counted-flat {M} frames least most r only = (
+  λ e. absurd (other e (subst (λ (x : Result M BootFault). OnErr x (IsErrOf r NoInit ⊎ IsErrOf r NoMemory)) e
+      only)),
+  λ out. absurd (outside frames least most out),
+) where
   other : IsErrOf r FrameCount → (IsErrOf r NoInit ⊎ IsErrOf r NoMemory) → ⊥
   other e (inl i) = cc
   other e (inr i) = cc

@@ -26,9 +26,17 @@ up_now first now events before after h = record { sound = h.done.sound; goes = r
 pub so_far_at_first : (first : View) (at : Option (List ℕ)) → IsUp first → SoFar first first [] at at
 unfolding run
 so_far_at_first first at up =
-    record { began = up; done = record
-    { state = refl; halts = up.goes; sound = up.sound; printed = Appends-nil at; same_device = refl;
-    later = omega arith } }
+    record {
+      began = up;
+      done = record {
+        state = refl;
+        halts = up.goes;
+        sound = up.sound;
+        printed = Appends-nil at;
+        same_device = refl;
+        later = omega arith;
+      };
+    }
 
 -- ---- a run over two lists of events
 
@@ -38,9 +46,9 @@ pub both : (first now : View) (xs ys : List Event) (before mid : Option (List �
 unfolding run
 both first now xs ys before mid h =
     let goes : then_runs ys (run first.state xs) (run first.state xs).state.halted
-            ≡ after_bytes (run first.state xs).bytes (run (run first.state xs).state ys) = rw h.done.halts refl in
+    ≡ after_bytes (run first.state xs).bytes (run (run first.state xs).state ys) = rw h.done.halts refl in
     run-append xs ys first.state h.began.goes ∙ goes
-        ∙ ap (λ s. after_bytes (run first.state xs).bytes (run s ys)) (sym h.done.state)
+    ∙ ap (λ s. after_bytes (run first.state xs).bytes (run s ys)) (sym h.done.state)
 
 -- what the first events print is a beginning of what all print
 pub begins_both : (xs ys : List Event) (s : State) → s.halted ≡ None
@@ -114,12 +122,18 @@ stops_before old new ys zs before after rises (InitEnded status) k =
     (k.0, rw whole k.1)
 stops_before old new ys zs before after rises Device k =
     let front : take k.1.done (ys ++ zs) ≡ take k.1.done ys =
-            take-append-le k.1.done ys zs (let m = k.1.more in omega arith) in
-    (k.0, record { done = k.1.done; more = rw (length-append ys zs) (let m = k.1.more in omega arith);
-        goes = rw front k.1.goes; fails = rw front k.1.fails })
+    take-append-le k.1.done ys zs (let m = k.1.more in omega arith) in (
+      k.0,
+      record {
+        done = k.1.done;
+        more = rw (length-append ys zs) (let m = k.1.more in omega arith);
+        goes = rw front k.1.goes;
+        fails = rw front k.1.fails;
+      },
+    )
 stops_before old new ys zs before after rises Console k =
     let front : take k.1.done (ys ++ zs) ≡ take k.1.done ys =
-            take-append-le k.1.done ys zs (let m = k.1.more in omega arith) in
+    take-append-le k.1.done ys zs (let m = k.1.more in omega arith) in
     let more = begins_both ys zs old.state k.0.goes in (
       k.0,
       record {
@@ -150,10 +164,21 @@ step-runs old new e before after rises (Ok u) k = (k.0, rw (run-one old.state e 
 step-runs old new e before after rises (Err (InitEnded status)) k = (k.0, rw (run-one old.state e k.0.goes) k.1)
 step-runs old new e before after rises (Err Device) k =
     (k.0, record { done = 0; more = omega arith; goes = k.0.goes; fails = k.1 })
-step-runs old new e before after rises (Err Console) k =
-    (k.0, record { rises = k.1.rises; failed = k.1.failed; printed = rw (run-one old.state e k.0.goes) k.1.printed;
-        done = 0; more = omega arith; goes = k.0.goes; files = k.1.files; same_device = k.1.same_device; later =
-        rw k.1.same (omega arith) })
+step-runs old new e before after rises (Err Console) k = (
+  k.0,
+  record {
+    rises = k.1.rises;
+    failed = k.1.failed;
+    printed = rw (run-one old.state e k.0.goes) k.1.printed;
+    done = 0;
+    more = omega arith;
+    goes = k.0.goes;
+    files = k.1.files;
+    same_device = k.1.same_device;
+    later =
+        rw k.1.same (omega arith);
+  },
+)
 step-runs old new e before after rises (Err Halted) k = k
 
 -- a step that is done
@@ -182,20 +207,25 @@ pub stops : (first now new : View) (i : ℕ) (es : List Event) (e : Event) (befo
     → RunGives first new es before after rises (Err halt)
 stops first now new i es e before mid after step_rises rises halt more is h r k =
     let whole : (take i es ++ e ∷ []) ++ drop (i + 1) es ≡ es = ap (λ xs. xs ++ drop (i + 1) es) (sym is)
-            ∙ take-append-drop (i + 1) es in
+    ∙ take-append-drop (i + 1) es in
     subst (λ xs. RunGives first new xs before after rises (Err halt)) whole
     (stops_before first new (take i es ++ e ∷ []) (drop (i + 1) es) before after rises halt
     (stops_in first now new (take i es) (e ∷ []) before mid after step_rises rises halt h r
-        (step-runs now new e mid after step_rises (Err halt) k)))
+    (step-runs now new e mid after step_rises (Err halt) k)))
 
 -- ---- how a run over some events goes on over others
 
 -- the bytes are written out
 pub done-kept : {first now : View} {all : After} {before mid after : Option (List ℕ)} {r : Option ℤ}
     → IsDone first now all before mid r → Keeps mid after → IsDone first now all before after r
-done-kept h keeps = record
-    { state = h.state; halts = h.halts; sound = h.sound; printed = Appends-kept _ _ _ _ h.printed keeps;
-    same_device = h.same_device; later = h.later }
+done-kept h keeps = record {
+  state = h.state;
+  halts = h.halts;
+  sound = h.sound;
+  printed = Appends-kept _ _ _ _ h.printed keeps;
+  same_device = h.same_device;
+  later = h.later;
+}
 
 pub so-far-kept : {first now : View} {es : List Event} {before mid after : Option (List ℕ)}
     → SoFar first now es before mid → Keeps mid after → SoFar first now es before after

@@ -36,8 +36,14 @@ module _ (old new : Kernel) (before after : Option (List ℕ)) (goes : old.halte
   done-gives : {a : After} {r : Option ℤ} → Makes new a before after r → new.tree.identity ≡ old.tree.identity
       → old.tree.failures ≤ new.tree.failures → IsDone (told old false) (told new false) a before after r
   done-gives made device later =
-      record { state = made.state; halts = made.halts; sound = refl; printed = made.printed; same_device = device;
-      later = later }
+      record {
+        state = made.state;
+        halts = made.halts;
+        sound = refl;
+        printed = made.printed;
+        same_device = device;
+        later = later;
+      }
 
   module _ (failed : Bool) (rising : Type 0) where
     -- the writer failed, and the disk is as it was
@@ -61,8 +67,16 @@ module _ (old new : Kernel) (before after : Option (List ℕ)) (goes : old.halte
         rw flag (up, done-gives made leaves.same_device leaves.later)
     does-gives a (Err Console) flag made leaves = rw flag (up, console-gives a.bytes made.0 made.1 leaves)
     does-gives a (Err Device) flag made leaves =
-        rw flag (up, record { rises = leaves.rises; later = leaves.later; failed = refl; printed = made;
-        same_device = leaves.same_device })
+        rw flag (
+          up,
+          record {
+            rises = leaves.rises;
+            later = leaves.later;
+            failed = refl;
+            printed = made;
+            same_device = leaves.same_device;
+          },
+        )
     does-gives a (Err Halted) flag made leaves = absurd made
 
     -- an event that halts nothing and leaves the disk as it is: it is done, or the console failed
@@ -70,8 +84,11 @@ module _ (old new : Kernel) (before after : Option (List ℕ)) (goes : old.halte
         → Dispatches new a before after rising result → IfErr result (λ halt. halt ≡ Console) → new.tree ≡ old.tree
         → StepGives (told old false) (told new failed) a before after rising result
     goes-gives a (Ok u) on flag made only same =
-        rw flag (up, done-gives (record { state = made.state; halts = on; printed = made.printed })
-        (ap (λ (t : FileTree). t.identity) same) (rw same (omega arith)))
+        rw flag (
+          up,
+          done-gives (record { state = made.state; halts = on; printed = made.printed })
+              (ap (λ (t : FileTree). t.identity) same) (rw same (omega arith)),
+        )
     goes-gives a (Err Console) on flag made only same = rw flag (up, console-gives a.bytes made.0 made.1 same)
     goes-gives a (Err Device) on flag made only same = absurd (let bad : Device ≡ Console = only in cc)
     goes-gives a (Err _) on flag made only same = absurd made
@@ -85,7 +102,7 @@ module _ (old new : Kernel) (before after : Option (List ℕ)) (goes : old.halte
         rw flag (up, done-gives made leaves.same_device leaves.later)
     steps-give count (Err Console) flag made leaves =
         let front : take made.done (replicate count Step) ≡ replicate made.done Step = let more =
-                made.more in take-replicate made.done count Step (omega (arith, more)) in
+        made.more in take-replicate made.done count Step (omega (arith, more)) in
         rw flag (
           up,
           record {
@@ -102,15 +119,20 @@ module _ (old new : Kernel) (before after : Option (List ℕ)) (goes : old.halte
         )
     steps-give count (Err Device) flag made leaves =
         let front : take made.done (replicate count Step) ≡ replicate made.done Step = let more =
-                made.more in take-replicate made.done count Step (omega (arith, more)) in
+        made.more in take-replicate made.done count Step (omega (arith, more)) in
         rw flag (
           up,
           record {
             done = made.done;
             more = rw (length-replicate count Step) made.more;
             goes = rw front made.goes;
-            fails = record { rises = leaves.rises; later = leaves.later; failed = refl;
-                printed = rw front made.printed; same_device = leaves.same_device };
+            fails = record {
+              rises = leaves.rises;
+              later = leaves.later;
+              failed = refl;
+              printed = rw front made.printed;
+              same_device = leaves.same_device;
+            };
           },
         )
     steps-give count (Err Halted) flag made leaves = absurd made
@@ -146,27 +168,37 @@ module _ (old new : Kernel) (before after : Option (List ℕ)) (goes : old.halte
     pub advance-gives : (most count : ℕ) (result : Result (Unit {0}) Halt) → old.tree.failed ≡ false
         → failed ≡ fails result → PieceGives old new most before after rising count result
         → RunGives (told old false) (told new failed) (replicate count Step) before after rising result
-            × IsPiece (told old false) (told new failed) most count result
+        × IsPiece (told old false) (told new failed) most count result
     advance-gives most count (Ok u) sound flag piece = (
       steps-give count (Ok u) flag (went-all piece.goes.0 count (le_refl count) (le_refl count)) piece.goes.0.served,
-      record { within = piece.within; busy = piece.busy; idle = piece.goes.1;
-          none = λ is. absurd (goes-unhalted count (Ok u) piece.goes is) },
+      record {
+        within = piece.within;
+        busy = piece.busy;
+        idle = piece.goes.1;
+        none = λ is. absurd (goes-unhalted count (Ok u) piece.goes is);
+      },
     )
     advance-gives most count (Err halt) sound flag piece =
         let all = stops-rest count count (went-none before goes sound) goes (omega arith) (λ r. r) piece.goes in (
           steps-give count (Err halt) flag all.0 all.1,
-          record { within = piece.within; busy = piece.busy; idle = tt;
-              none = λ is. absurd (goes-unhalted count (Err halt) piece.goes is) },
+          record {
+            within = piece.within;
+            busy = piece.busy;
+            idle = tt;
+            none = λ is. absurd (goes-unhalted count (Err halt) piece.goes is);
+          },
         )
 
 -- an event that halts nothing, prints nothing, and leaves the disk as it is
 pub quiet-gives : (old new : Kernel) (a : After) (at : Option (List ℕ)) → old.halted ≡ None → a.state.halted ≡ None
     → a ≡ quiet (state_of new) → new.tree ≡ old.tree
     → IsUp (told old false) × IsDone (told old false) (told new false) a at at None
-quiet-gives old new a at goes on made same =
-    (up old new at at goes, done-gives old new
-        at at goes (record { state = rw made refl; halts = on; printed = rw made (Appends-nil at) })
-        (ap (λ (t : FileTree). t.identity) same) (rw same (omega arith)))
+quiet-gives old new a at goes on made same = (
+  up old new at at goes,
+  done-gives old new
+      at at goes (record { state = rw made refl; halts = on; printed = rw made (Appends-nil at) })
+      (ap (λ (t : FileTree). t.identity) same) (rw same (omega arith)),
+)
 
 stopped-halts : (s : State) (o : Option ℕ) → (stopped s o).halted ≡ s.halted
 stopped-halts s None = refl
@@ -244,7 +276,7 @@ pub read-shown : (bytes old new : List ℕ) (at k : ℕ) → k ≡ min (length o
     → new ≡ part at k bytes ++ drop k old → IsRead (take (length old) (drop at bytes)) old new k
 read-shown bytes old new at k count front =
     let k_is : k ≡ min (length old) (length (drop at bytes)) = count
-            ∙ ap (min (length old)) (sym (length-drop at bytes)) in
+    ∙ ap (min (length old)) (sym (length-drop at bytes)) in
     record {
       count = k_is ∙ sym (length-take (length old) (drop at bytes));
       front = front ∙ ap (λ xs. xs ++ drop k old)

@@ -122,8 +122,13 @@ view_by new = record { memory = new.memory; size = new.size }
 
 -- the plan but for its pages
 abbrev pub bare_of : Init → Plan
-bare_of init = record { memory = []; size = 4096 * (init.program.pages + 2); pc = init.program.header.entry;
-    argc = init.arguments.count; sp = init.arguments.sp }
+bare_of init = record {
+  memory = [];
+  size = 4096 * (init.program.pages + 2);
+  pc = init.program.header.entry;
+  argc = init.arguments.count;
+  sp = init.arguments.sp;
+}
 
 -- process 1 with a plan, but for its pages
 abbrev pub first_of : Plan → Process

@@ -26,7 +26,7 @@ use Rattle.machine.specs.declared.fault.BootFault.TheVariants.{FrameCount, NoIni
 abbrev pub flat_memory : List ℕ → Memory
 flat_memory bytes =
     with_stack (pages_of (record { writable = true; executable = true; user = true; shared = false })
-        (ceil_div (length bytes) 4096) bytes)
+    (ceil_div (length bytes) 4096) bytes)
 
 -- the space that shows them
 abbrev pub flat_space : List ℕ → SpaceView

@@ -31,13 +31,13 @@ pub record DeviceFails (old new : View) (before after : Option (List ℕ)) (byte
 -- the console's count of failures rose, and a beginning of these bytes was printed; the files are as they were, and the
 -- device didn't fail
 pub record ConsoleFails (old new : View) (before after : Option (List ℕ)) (rising : Type 0) (bytes : List ℕ) : Type 0
-    where
-  pub rises : rising
-  pub failed : new.failed ≡ true
-  pub printed : AppendsBeginning before after bytes
-  pub files : new.state.files ≡ old.state.files
-  pub same : new.failures ≡ old.failures
-  pub same_device : new.identity ≡ old.identity
+  where
+    pub rises : rising
+    pub failed : new.failed ≡ true
+    pub printed : AppendsBeginning before after bytes
+    pub files : new.state.files ≡ old.state.files
+    pub same : new.failures ≡ old.failures
+    pub same_device : new.identity ≡ old.identity
 
 -- it takes no events, and nothing changed
 pub record IsRefused (old new : View) (before after : Option (List ℕ)) : Type 0 where

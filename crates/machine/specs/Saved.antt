@@ -11,10 +11,10 @@ use Rattle.unixmodel.specs.Shown.{left}
 
 -- the disk is the machine's, and its bytes denote the files that are left without the processes
 pub record IsSaved {D : Type 0} (content : D → List (List ℕ)) (identity : D → List ℕ) (m : View) (disk : D) : Type 0
-    where
-  pub sound : m.failed ≡ false
-  pub same_device : identity disk ≡ m.identity
-  pub denotes : Denotes (image_of (content disk)) (left m.state)
+  where
+    pub sound : m.failed ≡ false
+    pub same_device : identity disk ≡ m.identity
+    pub denotes : Denotes (image_of (content disk)) (left m.state)
 
 -- an access of the device failed, which counts it
 pub record IsLost {D : Type 0} (identity : D → List ℕ) (count : D → ℕ) (m : View) : Type 0 where

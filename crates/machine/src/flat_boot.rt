@@ -84,14 +84,7 @@ fn load<T: Translate>(spaces: &mut Spaces<T>, bytes: &[u8]) -> bool
 
 // Process 1 over so many bytes, about to execute its first instruction with no arguments: sp and a1 hold the address of
 // the 0 word on its stack.
-#[tactic(
-    auto,
-    unfolding(
-        unixmodel::specs::Memory::zeros,
-        unixmodel::specs::Start::flat_descriptors,
-        unixmodel::specs::Files::free_slots
-    )
-)]
+#[tactic(auto, unfolding(unixmodel::specs::Memory::zeros, unixmodel::specs::Start::flat_descriptors, unixmodel::specs::Files::free_slots))]
 fn first(size: u64) -> Process
     requires { 16 ≤ size }
     ensures { result ≡ first size }

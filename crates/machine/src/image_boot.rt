@@ -53,7 +53,7 @@ fn read_init<D: BlockDev>(tree: &mut Tree<D>, frames: u32) -> Result<Option<Init
     requires up { tree.old.failed ≡ false }
     requires rules { KeepsTree tree.old.files }
     ensures { Serves tree.old tree.new result
-            (λ told. Leaves tree.old tree.new told × FindsInit tree.old.files frames told) }
+        (λ told. Leaves tree.old tree.new told × FindsInit tree.old.files frames told) }
 {
     let Some(number) = tree.resolve(ROOT, b"/init")? else {
         return Ok(None);
@@ -106,14 +106,7 @@ fn put_init<D: BlockDev, T: Translate>(
 }
 
 // Process 1, about to execute its first instruction with its arguments.
-#[tactic(
-    auto,
-    unfolding(
-        unixmodel::specs::Memory::zeros,
-        unixmodel::specs::Outcome::no_descriptors,
-        unixmodel::specs::Files::free_slots
-    )
-)]
+#[tactic(auto, unfolding(unixmodel::specs::Memory::zeros, unixmodel::specs::Outcome::no_descriptors, unixmodel::specs::Files::free_slots))]
 fn first(init: &Init) -> Process
     ensures { result ≡ first_of (bare_of init.now) }
 {

@@ -42,7 +42,7 @@ pub fn look<D: BlockDev, T: Translate>(
 ) -> Result<Option<Stat>, DeviceFault>
     requires { kernel.old.tree.failed ≡ false }
     ensures { ReadsDisk kernel.old kernel.new
-            (λ stat. stat ≡ option_map stat_seen (shown_stat (state_of kernel.old) number)) result }
+        (λ stat. stat ≡ option_map stat_seen (shown_stat (state_of kernel.old) number)) result }
 {
     let seen = kernel.look(number)?;
     Ok(told(seen))

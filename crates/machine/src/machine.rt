@@ -83,7 +83,7 @@ impl<D: BlockDev, T: Translate> Machine<D, T> {
     /// later call answers `Halted`.
     pub fn step<W: Out>(&mut self, event: Event, console: &mut W) -> Result<(), Halt>
         ensures gives { StepGivesTo W.contents W.failures self.old self.new console.old console.new
-                (next self.old.state event) result }
+            (next self.old.state event) result }
         ensures later { W.failures console.old ≤ W.failures console.new }
     {
         if self.is_stopped() {
@@ -125,7 +125,7 @@ impl<D: BlockDev, T: Translate> Machine<D, T> {
     /// device failed, as at a step.
     pub fn stat_inode(&mut self, number: usize) -> Result<Option<Stat>, Halt>
         ensures { LookGives self.old self.new (λ stat. stat ≡ option_map stat_seen (shown_stat self.old.state number))
-                result }
+            result }
     {
         if self.failed {
             return Err(Halt::Halted);
@@ -186,7 +186,7 @@ impl<D: BlockDev, T: Translate> Machine<D, T> {
     pub fn tables(&self, pid: u32) -> Option<(&Ram, FrameNo)>
         ensures some { is_some result ≡ is_some (shown_process self.now.state pid) }
         ensures shows { IfSome result
-                (λ r. IfSome (shown_process self.now.state pid) (λ p. ShowsMemory r.0.now r.1.0 p.memory)) }
+            (λ r. IfSome (shown_process self.now.state pid) (λ p. ShowsMemory r.0.now r.1.0 p.memory)) }
     {
         self.kernel.tables(pid)
     }

@@ -48,7 +48,7 @@ pub IsPart-put : {n : ℕ} {now files : Files} {node : Node} → IsPart n now fi
     → slot files n ≡ Some node → IsPart (n + 1) (put now n node) files
 IsPart-put {n} {now} {files} {node} part high here =
     IsPart-next part (put now n node) (length-set now n _) (λ k away. get_or-set_other now n k _ None away)
-        (get_or-set_same now n _ None (let c = part.count in omega arith) ∙ sym here)
+    (get_or-set_same now n _ None (let c = part.count in omega arith) ∙ sym here)
 
 -- all of them
 pub IsPart-all : {now files : Files} → IsPart (length files) now files → now ≡ files
@@ -61,12 +61,18 @@ unfolding blocks_of
 IsPart-blocks {n} {now} {files} part =
     let by_number = λ (fs : Files) (k : ℕ). taken_by (slot fs k) in
     let below = sum_by-le-sum_by (by_number now) (by_number files) (range_with_len 0 (length now))
-            (λ k. elim (cases_lt k n) [
+    (λ k. elim (cases_lt k n) [
       | inl low ↦ omega (arith, ap taken_by (part.before k low))
       | inr past ↦ omega (arith, ap taken_by (part.after k past))
     ]) in
-    omega (arith, sum-taken now, sum-taken files, sum_by-places taken_by None now, sum_by-places taken_by None files,
-        ap (λ m. sum_by (by_number files) (range_with_len 0 m)) part.count)
+    omega (
+      arith,
+      sum-taken now,
+      sum-taken files,
+      sum_by-places taken_by None now,
+      sum_by-places taken_by None files,
+      ap (λ m. sum_by (by_number files) (range_with_len 0 m)) part.count,
+    )
 
 -- the disk stores the nodes below n
 pub record HasCopied {D : Type 0} (g : Geometry) (s : Store D) (n : ℕ) (files : Files) : Type 0 where
@@ -113,9 +119,13 @@ module _ (old : List ℕ) (d : DenotesSmall old (files_in old)) where
   pub rules-more : KeepsRules all
   rules-more =
       let rules : KeepsRulesTo (most_bytes small) all =
-              subst (λ f. KeepsRulesTo (most_bytes f) all) small-format d.rules in
-      record { root = rules.root; sizes = λ n. fits-more (slot all n) (rules.sizes n); nodes = rules.nodes;
-          reached = rules.reached }
+      subst (λ f. KeepsRulesTo (most_bytes f) all) small-format d.rules in
+      record {
+        root = rules.root;
+        sizes = λ n. fits-more (slot all n) (rules.sizes n);
+        nodes = rules.nodes;
+        reached = rules.reached;
+      }
 
   module _ (g : Geometry) (has : HasGeometry old g) where
     pub count-files : length all ≡ g.inodes
@@ -136,8 +146,11 @@ module _ (old : List ℕ) (d : DenotesSmall old (files_in old)) where
     pub copied-free : {D : Type 0} {s : Store D} (n : ℕ) → n < g.inodes → kind_in old n ≡ 0 → HasCopied g s n all
         → HasCopied g s (n + 1) all
     copied-free n high free copied =
-        record { now = copied.now; copies = copied.copies;
-        part = IsPart-free copied.part (slot-files_in old n (omega (arith, has.inodes)) ∙ file_in-free old n free) }
+        record {
+          now = copied.now;
+          copies = copied.copies;
+          part = IsPart-free copied.part (slot-files_in old n (omega (arith, has.inodes)) ∙ file_in-free old n free);
+        }
 
     module _ (n : ℕ) (low : 1 ≤ n) (high : n < g.inodes) (used : kind_in old n ≢ 0) where
       pub node-here : slot all n ≡ Some (node_in old n)
@@ -174,8 +187,8 @@ pub left-stored : {D : Type 0} {g : Geometry} {s : Store D} {files : Files} (lef
 left-stored left copies (Err fault) ok laid = absurd (false≢true ok)
 left-stored {g = g} {s} {files} left copies (Ok u) ok laid =
     subst (λ fs. IsStored g.size left fs) (files-are copies.stores)
-        (subst (λ (h : Geometry). IsStored h.size left (files_of s.nodes)) copies.numbers
-        (stored-after left (Ok u) (held-again copies.stores) laid))
+    (subst (λ (h : Geometry). IsStored h.size left (files_of s.nodes)) copies.numbers
+    (stored-after left (Ok u) (held-again copies.stores) laid))
 
 module _ (old : List ℕ) (d : DenotesSmall old (files_in old)) (g : Geometry) (has : HasGeometry old g) where
   pub possible : IsPossible g

@@ -71,8 +71,8 @@ module _ {D : Type 0} {g : Geometry} {s : Store D} {now : Files} (copies : Copie
       → Changes s mid n (fresh_node kind links) → IsSome (slot mid.nodes n)
   taken-some n high kind links some changes =
       ap (λ ns. is_some (slot ns n)) changes.nodes
-          ∙ ap is_some (get_or-set_same _ n _ None (omega (arith, copies.stores.nodes.count)))
-          ∙ fresh-some kind links some
+      ∙ ap is_some (get_or-set_same _ n _ None (omega (arith, copies.stores.nodes.count)))
+      ∙ fresh-some kind links some
 
 module _ {D : Type 0} {g : Geometry} {old : Store D} {now : Files} (copies : Copies g old now) (n : ℕ)
     (high : n < length now) (none : slot now n ≡ None) (node : Node) where
@@ -97,15 +97,15 @@ module _ {D : Type 0} {g : Geometry} {old : Store D} {now : Files} (copies : Cop
       written-copies {new = new} written =
           let still = written.follows.geometry in
           let all : with_bytes (raw_at mid.nodes n) (splice 0 bytes (raw_at mid.nodes n).bytes)
-                  ≡ with_bytes raw (node_bytes node) =
+          ≡ with_bytes raw (node_bytes node) =
           ap (λ r. with_bytes r (splice 0 bytes r.bytes)) raw-is ∙ ap (with_bytes raw) (splice-none _ ∙ are) in
           record {
             numbers = still ∙ same ∙ copies.numbers;
             up = written.failed;
             stores = subst (Stores new) (set-set now n _ _)
                 (Stores-set taken-stores n _ _ (omega (arith, length-set now n (Some (emptied node))))
-                    (subst (λ r. Changes mid new n (Some r)) all written.done.changes) still (raw-whole node)
-                    stands.fits);
+                (subst (λ r. Changes mid new n (Some r)) all written.done.changes) still (raw-whole node)
+                stands.fits);
           }
 
       -- or need more blocks than there are
@@ -114,7 +114,7 @@ module _ {D : Type 0} {g : Geometry} {old : Store D} {now : Files} (copies : Cop
       full-lacks k full =
           let left = full.some_left in
           let few : mid.free + taken_for 0 < taken_for (0 + k + 1) =
-                  subst (λ r. mid.free + taken_for (length r.bytes) < taken_for (0 + k + 1)) raw-is full.few in
+          subst (λ r. mid.free + taken_for (length r.bytes) < taken_for (0 + k + 1)) raw-is full.few in
           let size = ap length are ∙ whole-node node stands.fits in
           let grows = taken-grows (0 + k + 1) (size_of node) (omega arith) in
           let b = blocks_of-set now n (Some node) high in
@@ -124,7 +124,7 @@ module _ {D : Type 0} {g : Geometry} {old : Store D} {now : Files} (copies : Cop
           let zero : taken_for 0 ≡ 0 = refl in
           let all = taken-stores.free in
           subst (λ (g : Geometry). data_blocks_of g.size g.inodes < blocks_of (put now n node)) (same ∙ copies.numbers)
-              (omega arith)
+          (omega arith)
 
       lacks : (new : Store D) (fault : InodeFault) → (is_device fault ≡ false → LacksWriting mid new n 0 bytes fault)
           → Lacks g (put now n node) (write_fault fault)

@@ -53,7 +53,7 @@ abbrev pub CopiesNode : {D : Type 0} → Geometry → List ℕ → Store D → S
     → Type 0
 CopiesNode g old before after n result =
     (now : Files) (node : Node) → Copies g before now → slot now n ≡ None → CanStand old n node
-        → IsCopied g after (put now n node) result
+    → IsCopied g after (put now n node) result
 
 -- the old image denotes no files: it has this fault
 abbrev pub IsBroken : List ℕ → ImageFault → Type 0

@@ -42,8 +42,14 @@ descriptors : record {
   two_pipes : on_flat 64 (replicate 6 fork ++ pipe 8200 ∷ pipe 8200 ∷ []) ≡ range_with_len 2 6 ++ 0 ∷ minus_one ∷ [];
 }
 unfolding all_opened
-descriptors = record { dups = refl; last_pipe = refl; last_ends = refl; no_pipe = refl; pipe_frames = refl;
-    two_pipes = refl }
+descriptors = record {
+  dups = refl;
+  last_pipe = refl;
+  last_ends = refl;
+  no_pipe = refl;
+  pipe_frames = refl;
+  two_pipes = refl;
+}
 
 -- ---- a writer that waits, two readers and one byte
 
@@ -90,8 +96,16 @@ waits : record {
   reads_nothing : runs_with (turned left_alone) ≡ Some 0;
 }
 unfolding all_opened
-waits = record { writer_waits = refl; reader_gets = refl; writer_ends = refl; one_is_put = refl; writer_broken = refl;
-    one_is_picked = refl; its_answer = refl; reads_nothing = refl }
+waits = record {
+  writer_waits = refl;
+  reader_gets = refl;
+  writer_ends = refl;
+  one_is_put = refl;
+  writer_broken = refl;
+  one_is_picked = refl;
+  its_answer = refl;
+  reads_nothing = refl;
+}
 
 -- ---- small cases of the console
 
@@ -124,8 +138,16 @@ console : record {
   at_its_turn : answer_at (run reading (keys (0x61 ∷ 0x0a ∷ []) ++ Step ∷ [])).state 0 ≡ 2;
 }
 unfolding all_opened
-console = record { edited_line = refl; line_is_read = refl; many_echoed = refl; many_wait = refl; end_of_input = refl;
-    end_echoed = refl; not_at_once = refl; at_its_turn = refl }
+console = record {
+  edited_line = refl;
+  line_is_read = refl;
+  many_echoed = refl;
+  many_wait = refl;
+  end_of_input = refl;
+  end_echoed = refl;
+  not_at_once = refl;
+  at_its_turn = refl;
+}
 
 -- ---- small cases of processes, memory and frames
 
@@ -148,7 +170,7 @@ sizes : record {
   small : told_by_each (flat_state 64)
       (sbrk 1 ∷ sbrk 4095 ∷ sbrk (below_zero 4097) ∷ sbrk 1 ∷ sbrk (below_zero 12289) ∷ sbrk (below_zero 12288) ∷ [])
       ≡ (12288, 54, 12289, 4) ∷ (12289, 54, 16384, 4) ∷ (16384, 55, 12287, 3) ∷ (12287, 55, 12288, 3)
-          ∷ (minus_one, 55, 12288, 3) ∷ (12288, 60, 0, 0) ∷ [];
+      ∷ (minus_one, 55, 12288, 3) ∷ (12288, 60, 0, 0) ∷ [];
   large : map (λ bytes. told_by_each (flat_state 64) (sbrk bytes ∷ [])) (225280 ∷ 229376 ∷ [])
       ≡ ((12288, 0, 237568, 58) ∷ []) ∷ ((minus_one, 55, 12288, 3) ∷ []) ∷ [];
   -- 512 pages take one table, 513 two
@@ -162,8 +184,15 @@ sizes : record {
       ≡ Some (negsuc 0);
 }
 unfolding all_opened
-sizes = record { frames_before = refl; small = refl; large = refl; second_table = refl; kept_bytes = refl;
-    fresh_bytes = refl; nothing_left = refl }
+sizes = record {
+  frames_before = refl;
+  small = refl;
+  large = refl;
+  second_table = refl;
+  kept_bytes = refl;
+  fresh_bytes = refl;
+  nothing_left = refl;
+}
 
 -- ---- exit, getpid and uptime, and numbers
 
@@ -248,8 +277,16 @@ children : record {
   illegal_child_status : bytes_in (run waiting (Step ∷ Step ∷ Step ∷ [])).state 0 8200 4 ≡ 255 ∷ 255 ∷ 255 ∷ 255 ∷ [];
 }
 unfolding all_opened
-children = record { fork_frames = refl; bad_wait = refl; wait_status = refl; its_parent = refl; two_waits = refl;
-    illegal_child = refl; illegal_child_ends = refl; illegal_child_status = refl }
+children = record {
+  fork_frames = refl;
+  bad_wait = refl;
+  wait_status = refl;
+  its_parent = refl;
+  two_waits = refl;
+  illegal_child = refl;
+  illegal_child_ends = refl;
+  illegal_child_status = refl;
+}
 
 -- ---- kill, sleep and the turn
 
@@ -280,9 +317,15 @@ kill_sleep_and_turn : record {
   in_turn : turns three (Tick ∷ Step ∷ Tick ∷ Step ∷ Tick ∷ Step ∷ Tick ∷ Step ∷ []) ≡ 1 ∷ 2 ∷ 0 ∷ 1 ∷ [];
 }
 unfolding all_opened
-kill_sleep_and_turn = record
-    { kills = refl; kills_first = refl; killed_ends = refl; still_asleep = refl; awake = refl; no_sleep = refl;
-    in_turn = refl }
+kill_sleep_and_turn = record {
+  kills = refl;
+  kills_first = refl;
+  killed_ends = refl;
+  still_asleep = refl;
+  awake = refl;
+  no_sleep = refl;
+  in_turn = refl;
+}
 
 -- ---- small cases of writes to the console and to files
 
@@ -338,5 +381,13 @@ writes : record {
       ≡ (1, 0 ∷ []) ∷ (minus_one, []) ∷ (minus_one, []) ∷ (1, 0 ∷ []) ∷ (minus_one, []) ∷ (minus_one, []) ∷ [];
 }
 unfolding all_opened
-writes = record { file_blocks = refl; blocks_free = refl; one_block_stays = refl; each_descriptor = refl;
-    no_bytes = refl; not_open = refl; below_zero_bytes = refl; outside = refl }
+writes = record {
+  file_blocks = refl;
+  blocks_free = refl;
+  one_block_stays = refl;
+  each_descriptor = refl;
+  no_bytes = refl;
+  not_open = refl;
+  below_zero_bytes = refl;
+  outside = refl;
+}

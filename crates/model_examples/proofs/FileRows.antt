@@ -129,8 +129,19 @@ opening : record {
       ∷ minus_one ∷ [];
 }
 unfolding all_opened names_opened
-opening = record { console_stat = refl; root_stat = refl; flags = refl; long_name = refl; short_name = refl;
-    slashes = refl; numbers = refl; lowest_number = refl; thirteen = refl; last_number = refl; no_number = refl }
+opening = record {
+  console_stat = refl;
+  root_stat = refl;
+  flags = refl;
+  long_name = refl;
+  short_name = refl;
+  slashes = refl;
+  numbers = refl;
+  lowest_number = refl;
+  thirteen = refl;
+  last_number = refl;
+  no_number = refl;
+}
 
 -- ---- devices, directories and links
 
@@ -193,8 +204,17 @@ of_bytes : record {
       ≡ 12288 ∷ 3 ∷ minus_one ∷ 0 ∷ minus_one ∷ 4 ∷ minus_one ∷ 0 ∷ minus_one ∷ [];
 }
 unfolding all_opened names_opened
-of_bytes = record { nameless_bytes = refl; nameless_read = refl; nameless_goes = refl; its_number = refl;
-    last_block = refl; what_fits = refl; emptied_file = refl; long_file = refl; no_block = refl }
+of_bytes = record {
+  nameless_bytes = refl;
+  nameless_read = refl;
+  nameless_goes = refl;
+  its_number = refl;
+  last_block = refl;
+  what_fits = refl;
+  emptied_file = refl;
+  long_file = refl;
+  no_block = refl;
+}
 
 -- ---- what is shown of files, by their numbers
 
@@ -206,7 +226,7 @@ told kind links size = Some (record { kind = kind; links = links; size = size })
 abbrev root_bytes : List ℕ
 root_bytes =
     (1 ∷ 0 ∷ codes "." ++ replicate 13 0) ++ (1 ∷ 0 ∷ codes ".." ++ replicate 12 0)
-        ++ (2 ∷ 0 ∷ codes "console" ++ replicate 7 0)
+    ++ (2 ∷ 0 ∷ codes "console" ++ replicate 7 0)
 
 -- a file of two bytes, which is still shown while it is open and has no name any more
 abbrev with_file : State
@@ -231,8 +251,16 @@ shown : record {
   a_directory : map (shown_stat (does at_first (mkdir "d"))) (1 ∷ 3 ∷ []) ≡ told 1 2 64 ∷ told 1 1 32 ∷ [];
 }
 unfolding all_opened names_opened
-shown = record { at_boot = refl; whole_root = refl; parts_of_root = refl; no_bytes = refl; file_told = refl;
-    file_bytes = refl; without_name = refl; a_directory = refl }
+shown = record {
+  at_boot = refl;
+  whole_root = refl;
+  parts_of_root = refl;
+  no_bytes = refl;
+  file_told = refl;
+  file_bytes = refl;
+  without_name = refl;
+  a_directory = refl;
+}
 
 -- ---- small manifests: what they make, and what is wrong with others
 
@@ -271,7 +299,7 @@ numbers_and_names : record {
   many : map (λ n. small (letters n)) (14 ∷ 15 ∷ []) ≡ Ok (15, 15) ∷ Err Inodes ∷ [];
   names : map (λ path. small (dir_at path ∷ []))
       (map codes ("/abcdefghijklmn" ∷ "/abcdefghijklmno" ∷ "a" ∷ "/" ∷ "/a/" ∷ "//a" ∷ "/." ∷ "/.." ∷ "" ∷ [])
-          ++ (0x2f ∷ 0 ∷ []) ∷ [])
+      ++ (0x2f ∷ 0 ∷ []) ∷ [])
       ≡ Ok (2, 2) ∷ replicate 9 (Err Name);
   -- no parent, one that is a file, and a name twice
   faults : map small ((dir "/a/b" ∷ []) ∷ (file "/a" 1 ∷ dir "/a/b" ∷ []) ∷ (dir "/a" ∷ file "/a" 0 ∷ []) ∷ [])
@@ -281,9 +309,16 @@ numbers_and_names : record {
       ∷ Err Twice ∷ [];
 }
 unfolding all_opened
-numbers_and_names = record
-    { empty = refl; default_blocks = refl; made_numbers = refl; one_file = refl; many = refl; names = refl;
-    faults = refl; order = refl }
+numbers_and_names = record {
+  empty = refl;
+  default_blocks = refl;
+  made_numbers = refl;
+  one_file = refl;
+  many = refl;
+  names = refl;
+  faults = refl;
+  order = refl;
+}
 
 -- ---- the files
 
@@ -332,7 +367,7 @@ image : record {
   image_spares : (map (number_in console_image 1) (range_with_len 1 10)
       ++ map (number_in console_image 2) (range_with_len 0 11))
       ++ map (number_in console_image 1) (65803 ∷ 65804 ∷ [])
-          ++ map (number_in console_image 2) (65803 ∷ 65804 ∷ []) ≡ zeros 25;
+      ++ map (number_in console_image 2) (65803 ∷ 65804 ∷ []) ≡ zeros 25;
   image_root : contents_in console_image 1 ≡ node_bytes console_root;
   image_bits : map (bit_of console_image) (range_with_len 0 8) ≡ true ∷ true ∷ true ∷ true ∷ true ∷ true ∷ false
       ∷ false ∷ [];
@@ -341,8 +376,15 @@ image : record {
       ∷ []) ≡ 0 ∷ 1 ∷ 0 ∷ 1 ∷ [];
 }
 unfolding all_opened
-image = record { image_numbers = refl; image_nodes = refl; image_blocks = refl; image_spares = refl; image_root = refl;
-    image_bits = refl; root_links = refl }
+image = record {
+  image_numbers = refl;
+  image_nodes = refl;
+  image_blocks = refl;
+  image_spares = refl;
+  image_root = refl;
+  image_bits = refl;
+  root_links = refl;
+}
 
 -- ---- the image denotes these files
 
@@ -377,7 +419,7 @@ same-at : {A : Type 0} (f g : ℕ → A) (from n k : ℕ) → map f (range_with_
     → from ≤ k → k < from + n → f k ≡ g k
 same-at f g from n k all low high =
     sym (get_or-map-range_with_len f from n (k - from) k (f k) (omega arith) (omega arith))
-        ∙ ap (λ xs. get_or xs (k - from) (f k)) all
+    ∙ ap (λ xs. get_or xs (k - from) (f k)) all
     ∙ get_or-map-range_with_len g from n (k - from) k (f k) (omega arith) (omega arith)
 
 console_bits : (b : ℕ) → b < 32 → bit_of console_image b ≡ (nat_lt b 5 || is_named console_image b)
@@ -408,9 +450,11 @@ at_places : (count : ℕ) (number : ℕ → ℕ) → count ≤ 11 → number 658
     → ((k : ℕ) → count ≤ k → k < 11 → number k ≡ 0) → (k : ℕ) → IsSpare large count k → number k ≡ 0
 at_places count number few single double direct k s = elim (cases_eq k 65803) [
   | inl here ↦ ap number here ∙ single
-  | inr one ↦ elim (cases_eq k 65804)
-      [ inl here ↦ ap number here
-      ∙ double | inr two ↦ let at = spare_direct count k few s one two in direct k at.0 at.1 ]
+  | inr one ↦ elim (cases_eq k 65804) [
+    | inl here ↦ ap number here
+        ∙ double
+    | inr two ↦ let at = spare_direct count k few s one two in direct k at.0 at.1
+  ]
 ]
 
 root_spares : HasSpares console_image 1

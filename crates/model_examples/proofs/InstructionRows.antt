@@ -99,42 +99,42 @@ register_cases And = (0, 0x4259405278e4b98d, 0) ∷ (highest, 0xcefe2a1f727d8349
 register_cases Mul = (lowest, minus_one, lowest) ∷ (0x123456789abcdef0, 0, 0)
     ∷ (0xfffffffffffffff9, 2, 0xfffffffffffffff2) ∷ (minus_one, minus_one, 1)
     ∷ (0xa15609271ff63c01, 0x89419f936769fc6f, 0x3322bd23423e006f)
-        ∷ (0x100000000, 0xe9a60be9b440d80f, 0xb440d80f00000000) ∷ (0x80000000, 0xd1c5554eb2db3722, 0x596d9b9100000000)
-        ∷ (2, 0x80000000, 0x100000000) ∷ []
+    ∷ (0x100000000, 0xe9a60be9b440d80f, 0xb440d80f00000000) ∷ (0x80000000, 0xd1c5554eb2db3722, 0x596d9b9100000000)
+    ∷ (2, 0x80000000, 0x100000000) ∷ []
 register_cases Mulh = (lowest, minus_one, 0) ∷ (0, 0, 0) ∷ (0xfffffffffffffff9, 2, minus_one)
     ∷ (minus_one, minus_one, 0) ∷ (0x6726c87d156b2102, 2, 0)
     ∷ (0x1afc52d22cb0327c, 0x100000000, 0x1afc52d2) ∷ (0x80000000, 0x7902, 0)
-        ∷ (0x80000000, 0xbe0d6c874bbdcdb5, 0xffffffffdf06b643) ∷ []
+    ∷ (0x80000000, 0xbe0d6c874bbdcdb5, 0xffffffffdf06b643) ∷ []
 register_cases Mulhsu = (lowest, minus_one, lowest) ∷ (0xfffffffffffffff9, 0, 0) ∷ (0xfffffffffffffff9, 2, minus_one)
     ∷ (minus_one, minus_one, minus_one)
     ∷ (highest, 0x123456789abcdef0, 0x91a2b3c4d5e6f77) ∷ (1, 0x7fffffff, 0) ∷ (1, 0x47dfe420a433b9df, 0)
-        ∷ (0, highest, 0) ∷ []
+    ∷ (0, highest, 0) ∷ []
 register_cases Mulhu = (lowest, minus_one, highest) ∷ (7, 0, 0) ∷ (0xfffffffffffffff9, 2, 1)
     ∷ (minus_one, minus_one, 0xfffffffffffffffe)
     ∷ (highest, 0xa453169f3907d9e2, 0x52298b4f9c83ecf0) ∷ (0x3cbc70f3ad391969, 0x3f, 0xe)
-        ∷ (0xfffffffffffffff9, 0x4cf20, 0x4cf1f) ∷ (0x100000000, highest, 0x7fffffff) ∷ []
+    ∷ (0xfffffffffffffff9, 0x4cf20, 0x4cf1f) ∷ (0x100000000, highest, 0x7fffffff) ∷ []
 register_cases Div = (7, 0, minus_one) ∷ (lowest, minus_one, lowest) ∷ (1, 0, minus_one)
     ∷ (0xfffffffffffffff9, 2, 0xfffffffffffffffd) ∷ (minus_one, minus_one, 1) ∷ (7, 1, 7)
     ∷ (lowest, 0xfffffffffffffff9, 0x1249249249249249) ∷ (0x123456789abcdef0, lowest, 0)
-        ∷ (0x83daa9f9b0d43153, 0xbf2a3, 0xfffff59bfbf3f7ac) ∷ []
+    ∷ (0x83daa9f9b0d43153, 0xbf2a3, 0xfffff59bfbf3f7ac) ∷ []
 register_cases Divu = (lowest, minus_one, 0) ∷ (lowest, 0, minus_one) ∷ (0xfffffffffffffff9, 2, 0x7ffffffffffffffc)
     ∷ (minus_one, minus_one, 1) ∷ (0x3f, 0xfb403, 0)
     ∷ (7, 0x540354e2804faeab, 0) ∷ (0xffffffff80000000, 0x3f, 0x41041040e38e38e) ∷ (0, highest, 0) ∷ []
 register_cases Rem = (7, 0, 7) ∷ (lowest, minus_one, 0) ∷ (0x7fffffff, 0, 0x7fffffff)
     ∷ (0xfffffffffffffff9, 2, minus_one) ∷ (minus_one, minus_one, 0) ∷ (0x7fffffff, 0xffffffff, 0x7fffffff)
     ∷ (0x47640ccd79f92b5f, highest, 0x47640ccd79f92b5f) ∷ (0xfffffffffffffff9, 0x5c958, 0xfffffffffffffff9)
-        ∷ (7, minus_one, 0) ∷ []
+    ∷ (7, minus_one, 0) ∷ []
 register_cases Remu = (lowest, minus_one, lowest) ∷ (0x123456789abcdef0, 0, 0x123456789abcdef0)
     ∷ (0xfffffffffffffff9, 2, 1) ∷ (minus_one, minus_one, 0)
     ∷ (0xbb0ab3c18bc986a, 2, 0) ∷ (0xe2cbeff405b1afe1, 0x9ae9c00be5f8844c, 0x47e22fe81fb92b95)
-        ∷ (0xfffffffffffffff9, 0x7fffffff, 0x7ffffffc) ∷ (0x3f, 0x4b4ba733d5534dd9, 0x3f) ∷ []
+    ∷ (0xfffffffffffffff9, 0x7fffffff, 0x7ffffffc) ∷ (0x3f, 0x4b4ba733d5534dd9, 0x3f) ∷ []
 
 -- on the words of two registers
 abbrev word_cases : Cases RegOpW
 word_cases Addw = (lowest, 0x80000000, 0xffffffff80000000) ∷ (0x330698a1c0093492, 2, 0xffffffffc0093494)
     ∷ (lowest, 0xdeadbeefcafebabe, 0xffffffffcafebabe)
     ∷ (0x6555abfeb8c9817a, minus_one, 0xffffffffb8c98179) ∷ (0x28aaca51b98c67c2, 2, 0xffffffffb98c67c4)
-        ∷ (highest, 0xa7e6529bce76e9f4, 0xffffffffce76e9f3) ∷ []
+    ∷ (highest, 0xa7e6529bce76e9f4, 0xffffffffce76e9f3) ∷ []
 word_cases Subw = (0x123456789abcdef0, 0xffffffff, 0xffffffff9abcdef1) ∷ (0x7fffffff, 0x100000000, 0x7fffffff)
     ∷ (0, 0xa6511445b9f3635c, 0x460c9ca4) ∷ (minus_one, 0xfc8e80b36f0e2289, 0xffffffff90f1dd76)
     ∷ (0xdfb85c0dd37ee915, 0x40, 0xffffffffd37ee8d5) ∷ (0x100000000, highest, 1) ∷ []
@@ -151,24 +151,24 @@ word_cases Sraw = (0xffffffff, 0xdeadbeefcafebabe, minus_one) ∷ (0x3f, 0x40, 0
 word_cases Mulw = (0xffffffff80000000, minus_one, 0xffffffff80000000) ∷ (7, 0, 0)
     ∷ (0xfffffffffffffff9, 2, 0xfffffffffffffff2) ∷ (minus_one, minus_one, 1) ∷ (0, 0x3f, 0)
     ∷ (0xffffffff80000000, 0xf7a626d615ed440c, 0) ∷ (0, 0xfffffffffffffff9, 0)
-        ∷ (0x123456789abcdef0, 0xe9bac01006972328, 0x1f8da580) ∷ []
+    ∷ (0x123456789abcdef0, 0xe9bac01006972328, 0x1f8da580) ∷ []
 word_cases Divw = (0xffffffff80000000, minus_one, 0xffffffff80000000) ∷ (0x100000000, 0, minus_one)
     ∷ (0xfffffffffffffff9, 2, 0xfffffffffffffffd) ∷ (minus_one, minus_one, 1)
     ∷ (0xe54d637b6cae2e58, lowest, minus_one) ∷ (0x3461bd51234d5045, 0x427a1, 0x87f)
-        ∷ (0xd011d0a4dadff49a, 0x7fffffff, 0) ∷ (lowest, 0xae95b5c0977bbc45, 0) ∷ []
+    ∷ (0xd011d0a4dadff49a, 0x7fffffff, 0) ∷ (lowest, 0xae95b5c0977bbc45, 0) ∷ []
 word_cases Divuw = (0x80000000, 1, 0xffffffff80000000) ∷ (0x80000000, 0, minus_one)
     ∷ (0xffffffff80000000, minus_one, 0) ∷ (0x7fffffff, 0, minus_one) ∷ (0xfffffffffffffff9, 2, 0x7ffffffc)
     ∷ (minus_one, minus_one, 1)
     ∷ (0xa7ca3999342c2d6e, 0xffffffff80000000, 0) ∷ (highest, 0x3fb46e4fb64e82e, 1)
-        ∷ (0xdeadbeefcafebabe, 0, minus_one) ∷ (minus_one, 0, minus_one) ∷ []
+    ∷ (0xdeadbeefcafebabe, 0, minus_one) ∷ (minus_one, 0, minus_one) ∷ []
 word_cases Remw = (0xffffffff80000000, minus_one, 0) ∷ (0x7fffffff, 0, 0x7fffffff) ∷ (0xfffffffffffffff9, 2, minus_one)
     ∷ (minus_one, minus_one, 0) ∷ (2, 1, 0)
     ∷ (0x828f855c8dfa0d81, 0xdeadbeefcafebabe, 0xfffffffff7fc9805)
-        ∷ (0xdeadbeefcafebabe, 0xffffffff80000000, 0xffffffffcafebabe) ∷ (0x100000000, 0x3f, 0) ∷ []
+    ∷ (0xdeadbeefcafebabe, 0xffffffff80000000, 0xffffffffcafebabe) ∷ (0x100000000, 0x3f, 0) ∷ []
 word_cases Remuw = (0x80000000, 1, 0) ∷ (0xffffffff80000000, minus_one, 0xffffffff80000000)
     ∷ (0x80000000, 0, 0xffffffff80000000) ∷ (0xfffffffffffffff9, 2, 1) ∷ (minus_one, minus_one, 0)
     ∷ (0xfffffffffffffff9, 0xb785468806343a87, 0x1a2a05a) ∷ (0xdeadbeefcafebabe, lowest, 0xffffffffcafebabe)
-        ∷ (0x3f, 0xe6d8ff05fa8a599a, 0x3f) ∷ (0xffffffff, 0xffffffff, 0) ∷ []
+    ∷ (0x3f, 0xe6d8ff05fa8a599a, 0x3f) ∷ (0xffffffff, 0xffffffff, 0) ∷ []
 
 -- on a register and an immediate
 abbrev immediate_cases : Cases ImmOp
@@ -234,14 +234,22 @@ operations : record {
   upper : flat_map (λ n. value 0 0 (instr.Lui 5 n) ∷ value 0 0 (instr.Auipc 5 n) ∷ [])
       (0 ∷ 1 ∷ 0x7ffff ∷ 0x80000 ∷ 0xfffff ∷ [])
       ≡ 0 ∷ 0x1000 ∷ 0x1000 ∷ 0x2000 ∷ 0x7ffff000 ∷ 0x80000000 ∷ 0xffffffff80000000 ∷ 0xffffffff80001000
-          ∷ 0xfffffffffffff000 ∷ 0 ∷ [];
+      ∷ 0xfffffffffffff000 ∷ 0 ∷ [];
   branches : map (λ op. map (λ (c : ℕ × ℕ × ℕ × ℕ). target c.0 c.1 (instr.Branch op 6 7 c.2)) (branch_cases op))
       (Beq ∷ Bne ∷ Blt ∷ Bge ∷ Bltu ∷ Bgeu ∷ [])
       ≡ map (λ op. map (λ (c : ℕ × ℕ × ℕ × ℕ). c.3) (branch_cases op)) (Beq ∷ Bne ∷ Blt ∷ Bge ∷ Bltu ∷ Bgeu ∷ []);
 }
 unfolding all_opened
-operations = record { registers = refl; words = refl; immediates = refl; shifts = refl; word_shifts = refl;
-    addiw = refl; upper = refl; branches = refl }
+operations = record {
+  registers = refl;
+  words = refl;
+  immediates = refl;
+  shifts = refl;
+  word_shifts = refl;
+  addiw = refl;
+  upper = refl;
+  branches = refl;
+}
 
 -- ---- jumps and traps
 
@@ -257,9 +265,9 @@ trap cause address = Some (record { cause = cause; address = address })
 abbrev three_pages : Memory
 three_pages =
     pages_of (record { writable = false; executable = true; user = true; shared = false }) 1
-        (0x80 ∷ 0xff ∷ 0x34 ∷ 0x12 ∷ 0x78 ∷ 0x56 ∷ 0x34 ∷ 0x92 ∷ [])
+    (0x80 ∷ 0xff ∷ 0x34 ∷ 0x12 ∷ 0x78 ∷ 0x56 ∷ 0x34 ∷ 0x92 ∷ [])
     ++ zero_page (record { writable = true; executable = false; user = true; shared = false })
-        ∷ zero_page (record { writable = true; executable = true; user = false; shared = false }) ∷ []
+    ∷ zero_page (record { writable = true; executable = true; user = false; shared = false }) ∷ []
 
 abbrev from_memory : LoadOp → ℕ → Effect
 from_memory op at = act (instr.Load op 5 6 0) (two_registers at 0) 0x1000 three_pages
@@ -283,7 +291,7 @@ jumps_and_accesses : record {
       (from_memory Lb 0 ∷ from_memory Lbu 0 ∷ from_memory Lh 0 ∷ from_memory Lhu 0 ∷ from_memory Lw 4
       ∷ from_memory Lwu 4 ∷ from_memory Ld 0 ∷ from_memory Lb 3 ∷ [])
       ≡ 0xffffffffffffff80 ∷ 0x80 ∷ 0xffffffffffffff80 ∷ 0xff80 ∷ 0xffffffff92345678 ∷ 0x92345678 ∷ 0x923456781234ff80
-          ∷ 0x12 ∷ [];
+      ∷ 0x12 ∷ [];
   load_traps : map trap_of
       (from_memory Lh 1 ∷ from_memory Lb 8192 ∷ from_memory Lb 12288 ∷ from_memory Ld 0x4000000000
       ∷ from_memory Lw 4098 ∷ [])
@@ -298,9 +306,14 @@ jumps_and_accesses : record {
       ∷ [];
 }
 unfolding all_opened
-jumps_and_accesses = record
-    { link_and_target = refl; misaligned = refl; loaded_values = refl; load_traps = refl; store_traps = refl;
-    stored_bytes = refl }
+jumps_and_accesses = record {
+  link_and_target = refl;
+  misaligned = refl;
+  loaded_values = refl;
+  load_traps = refl;
+  store_traps = refl;
+  stored_bytes = refl;
+}
 
 -- ---- what assembly texts mean, or what is wrong with them, and the texts of words
 
@@ -351,13 +364,13 @@ instructions : record {
       ∷ "text: .ascii \"hi\\n\""
       ∷ []))
       ≡ Ok (bytes_of (0x00100513 ∷ 0x02000593 ∷ 0x00300613 ∷ 0x01000893 ∷ 0x00000073 ∷ 0x00000513 ∷ 0x00200893
-          ∷ 0x00000073 ∷ []) ++ codes "hi\n");
+      ∷ 0x00000073 ∷ []) ++ codes "hi\n");
   one_of_each_form : object (text (
       "sub a0, a1, x31" ∷ "sraw t0, t1, t2" ∷ "sltiu s0, s1, -2048" ∷ "srai a0, a0, 63" ∷ "sraiw ra, ra, 1"
       ∷ "lbu a0, -1(sp)" ∷ "jalr ra, 4(a0)" ∷ "sd ra, 8(sp)" ∷ "beq a0, a1, 8" ∷ "jal ra, -4" ∷ "lui a0, 0xfffff"
       ∷ "auipc a0, 0" ∷ "addiw a0, a0, 0" ∷ "fence" ∷ "ebreak" ∷ "mv a0, a1" ∷ "j 8" ∷ "ret" ∷ []))
       ≡ Ok (bytes_of (0x41f58533 ∷ 0x407352bb ∷ 0x8004b413 ∷ 0x43f55513 ∷ 0x4010d09b ∷ 0xfff14503 ∷ 0x004500e7
-          ∷ 0x00113423 ∷ 0x00b50463 ∷ 0xffdff0ef
+      ∷ 0x00113423 ∷ 0x00b50463 ∷ 0xffdff0ef
       ∷ 0xfffff537 ∷ 0x00000517 ∷ 0x0005051b ∷ 0x0ff0000f ∷ 0x00100073 ∷ 0x00058513 ∷ 0x0080006f ∷ 0x00008067 ∷ []));
   -- labels are positions, also of lines before and of what follows
   labels : object_of "start:\n  beq a0, zero, end\n  la a1, word # loads 16\nend: j start\nword: .word 0x01020304\n"
@@ -370,7 +383,7 @@ of_data : record {
   numbers : map object_of (".byte 255" ∷ ".byte -128" ∷ ".word -1" ∷ ".dword 18446744073709551615"
       ∷ ".dword -9223372036854775808" ∷ [])
       ≡ Ok (0xff ∷ []) ∷ Ok (0x80 ∷ []) ∷ Ok (replicate 4 0xff) ∷ Ok (replicate 8 0xff)
-          ∷ Ok (replicate 7 0 ++ 0x80 ∷ []) ∷ [];
+      ∷ Ok (replicate 7 0 ++ 0x80 ∷ []) ∷ [];
   past_numbers : map object_of
       (".byte 256" ∷ ".byte -129" ∷ ".word 4294967296" ∷ ".dword 18446744073709551616" ∷ ".dword -9223372036854775809"
       ∷ ".byte 0xFF" ∷ [])
@@ -378,7 +391,7 @@ of_data : record {
   strings : map object_of (".ascii \"a, # \\\\\\\"\\0\\n\" # all" ∷ ".ascii \"\"" ∷ ".ascii \"a" ∷ ".ascii \"\\t\""
       ∷ ".ascii a" ∷ ".ascii \"a\" \"b\"" ∷ "j \"" ∷ "j \"x\"" ∷ [])
       ≡ Ok (0x61 ∷ 0x2c ∷ 0x20 ∷ 0x23 ∷ 0x20 ∷ 0x5c ∷ 0x22 ∷ 0 ∷ 0x0a ∷ []) ∷ Ok [] ∷ refused Syntax ∷ refused Syntax
-          ∷ refused Operand ∷ refused Operand ∷ refused Syntax ∷ refused Operand ∷ [];
+      ∷ refused Operand ∷ refused Operand ∷ refused Syntax ∷ refused Operand ∷ [];
   padded : map object_of (".byte 1\n.pad 4\n.pad 2\necall\n" ∷ ".pad 3" ∷ ".zero -1" ∷ ".zero 3" ∷ [])
       ≡ Ok (1 ∷ 0 ∷ 0 ∷ 0 ∷ 0x73 ∷ 0 ∷ 0 ∷ 0 ∷ []) ∷ refused Range ∷ refused Range ∷ Ok (0 ∷ 0 ∷ 0 ∷ []) ∷ [];
   -- at most 270336 bytes
@@ -395,15 +408,15 @@ of_data = record { numbers = refl; past_numbers = refl; strings = refl; padded =
 abbrev back : List ℕ
 back =
     0xfffff537 ∷ 0x00000517 ∷ 0xffdff0ef ∷ 0x004500e7 ∷ 0x00b50463 ∷ 0xfeb51ee3 ∷ 0x00b54463 ∷ 0x00b55463 ∷ 0x00b56463
-        ∷ 0x00b57463
+    ∷ 0x00b57463
     ∷ 0xfff10503 ∷ 0xfff11503 ∷ 0xfff12503 ∷ 0xfff13503 ∷ 0xfff14503 ∷ 0xfff15503 ∷ 0xfff16503 ∷ 0x00110423
-        ∷ 0x00111423 ∷ 0x00112423
+    ∷ 0x00111423 ∷ 0x00112423
     ∷ 0x00113423 ∷ 0x80050513 ∷ 0x7ff52513 ∷ 0x7ff53513 ∷ 0x7ff54513 ∷ 0x7ff56513 ∷ 0x7ff57513 ∷ 0x03f51513
-        ∷ 0x03f55513 ∷ 0x43f55513
+    ∷ 0x03f55513 ∷ 0x43f55513
     ∷ 0x00c58533 ∷ 0x40c58533 ∷ 0x00c59533 ∷ 0x00c5a533 ∷ 0x00c5b533 ∷ 0x00c5c533 ∷ 0x00c5d533 ∷ 0x40c5d533
-        ∷ 0x00c5e533 ∷ 0x00c5f533
+    ∷ 0x00c5e533 ∷ 0x00c5f533
     ∷ 0x8005051b ∷ 0x01f5151b ∷ 0x01f5551b ∷ 0x41f5551b ∷ 0x00c5853b ∷ 0x40c5853b ∷ 0x00c5953b ∷ 0x00c5d53b
-        ∷ 0x40c5d53b ∷ 0x0ff0000f
+    ∷ 0x40c5d53b ∷ 0x0ff0000f
     ∷ 0x00000073 ∷ 0x00100073 ∷ []
 
 faults_and_texts : record {
@@ -411,21 +424,21 @@ faults_and_texts : record {
   kinds : map object_of (
       "li a0, 2147481600" ∷ "foo" ∷ "j x" ∷ "_x" ∷ "add a0, a1" ∷ "add a0, a1, 5"
       ∷ "beq a0, a1, 4095" ∷ "beq a0, a1, 4096" ∷ "jal ra, -3" ∷ "slli a0, a0, 64" ∷ "slliw a0, a0, 32" ∷ [])
-          ++ object (codes "# " ++ 0xc3 ∷ 0xa9 ∷ []) ∷ []
+      ++ object (codes "# " ++ 0xc3 ∷ 0xa9 ∷ []) ∷ []
       ≡ map refused (Range ∷ Mnemonic ∷ Label ∷ Syntax ∷ Operand ∷ Operand ∷ Align ∷ Range ∷ Align ∷ Range ∷ Range
-          ∷ Syntax ∷ []);
+      ∷ Syntax ∷ []);
   -- an instruction behind one byte; a label twice, of which the first counts; a label whose line can't be read is
   -- defined
   lines : map object_of (".byte 1\necall\n" ∷ "j x\nx: ecall\nx: ebreak\n" ∷ "j x\nx: foo\n" ∷ "x:\nx: foo\nbar\n"
       ∷ "x:\n.byte 1\nx: ecall\n" ∷ "a: b: ret\n" ∷ "a :\n" ∷ [])
       ≡ Err (2, Align) ∷ Err (3, Twice) ∷ Err (2, Mnemonic) ∷ Err (2, Mnemonic) ∷ Err (3, Twice) ∷ refused Mnemonic
-          ∷ refused Mnemonic ∷ [];
+      ∷ refused Mnemonic ∷ [];
   nothing : map object_of ("" ∷ "# all" ∷ " \t# x" ∷ "a:b:#c" ∷ []) ≡ Ok [] ∷ Ok [] ∷ Ok [] ∷ refused Mnemonic ∷ [];
   file : assembled (codes "li a7, 11\necall\n") ≡ Ok (elf_file (bytes_of (0x000008b7 ∷ 0x00b88893 ∷ 0x00000073 ∷ [])));
   texts : map word_text (0x000008b7 ∷ 0x00b88893 ∷ 0x00000073 ∷ 0x4010d09b ∷ 0x0ff0000f ∷ 0x0000000f ∷ 0x4210d09b ∷ 0
       ∷ [])
       ≡ map codes ("lui a7, 0x0" ∷ "addi a7, a7, 11" ∷ "ecall" ∷ "sraiw ra, ra, 1" ∷ "fence" ∷ ".word 0x0000000f"
-          ∷ ".word 0x4210d09b" ∷ ".word 0x00000000" ∷ []);
+      ∷ ".word 0x4210d09b" ∷ ".word 0x00000000" ∷ []);
   there_and_back : map (λ w. object (word_text w)) back ≡ map (λ w. Ok (bytes_of (w ∷ []))) back;
 }
 unfolding all_opened

@@ -41,7 +41,7 @@ hi_and_empty : record {
   hi_turn : option_map (λ s. turn s) (start_flat hi_program 256) ≡ Some (Some 0);
   hi_steps : map (λ n. told_after hi_program (replicate n Step)) (0 ∷ 2 ∷ 5 ∷ 6 ∷ 8 ∷ 9 ∷ [])
       ≡ Some ([], None) ∷ Some ([], None) ∷ Some ([], None) ∷ Some (hi, None) ∷ Some (hi, None)
-          ∷ Some (hi, Some (pos 0)) ∷ [];
+      ∷ Some (hi, Some (pos 0)) ∷ [];
   -- with a tick after three steps hi comes in the seventh step, and the end in the tenth
   hi_tick : map (λ n. told_after hi_program (replicate 3 Step ++ Tick ∷ replicate n Step)) (3 ∷ 4 ∷ 6 ∷ 7 ∷ [])
       ≡ Some ([], None) ∷ Some (hi, None) ∷ Some (hi, None) ∷ Some (hi, Some (pos 0)) ∷ [];
@@ -81,7 +81,7 @@ refusals : record {
   -- words that are no instruction (of zeros, of ones, fence.i), and ebreak
   illegal : map (λ word. meets (le 4 word) 1) (0x00000000 ∷ 0xffffffff ∷ 0x0000100f ∷ 0x00100073 ∷ [])
       ≡ refused IllegalInstruction 0 ∷ refused IllegalInstruction 0 ∷ refused IllegalInstruction 0
-          ∷ refused Breakpoint 0 ∷ [];
+      ∷ refused Breakpoint 0 ∷ [];
   -- lui a0, 1; sb x0, 0(a0): the guard page of a program of one page
   guard_store : meets (le 4 0x00001537 ++ le 4 0x00050023) 2 ≡ refused StorePageFault 0x1000;
   -- addi a0, x0, 1; slli a0, a0, 38; lui a1, 2; sub a0, a0, a1; sb x0, 0(a0): the page of the trap frame
@@ -98,8 +98,15 @@ refusals : record {
       ∷ [];
 }
 unfolding all_opened
-refusals = record { illegal = refl; guard_store = refl; trap_frame_store = refl; far_load = refl;
-    written_is_done = refl; then_illegal = refl; longest_program = refl }
+refusals = record {
+  illegal = refl;
+  guard_store = refl;
+  trap_frame_store = refl;
+  far_load = refl;
+  written_is_done = refl;
+  then_illegal = refl;
+  longest_program = refl;
+}
 
 -- ---- small cases of programs
 
@@ -130,7 +137,7 @@ plans : record {
   -- no program header; too many, or one too far; one byte of the file over no memory
   odd_headers : map (λ file. option_map numbers_of (plan file []))
       (header_with 64 0 ∷ (header_with 64 65535 ++ program_header 0)
-          ∷ (header_with 0xfffffffffffffff0 1 ++ program_header 0)
+      ∷ (header_with 0xfffffffffffffff0 1 ++ program_header 0)
       ∷ (header_with 64 1 ++ overwrite (program_header 1) 40 (le 8 0) ++ zeros 4000) ∷ [])
       ≡ Some (2 ∷ 8192 ∷ 0 ∷ 0 ∷ 8176 ∷ []) ∷ None ∷ None ∷ None ∷ [];
   init_run : option_map (λ s. bytes_and_end (run s (replicate 9 Step))) (start init_files 27 256)
@@ -138,8 +145,15 @@ plans : record {
   no_init : is_some (start flat_files 27 256) ≡ false;
 }
 unfolding all_opened
-plans = record { init_numbers = refl; init_stack = refl; same_plan = refl; longest_argument = refl; odd_headers = refl;
-    init_run = refl; no_init = refl }
+plans = record {
+  init_numbers = refl;
+  init_stack = refl;
+  same_plan = refl;
+  longest_argument = refl;
+  odd_headers = refl;
+  init_run = refl;
+  no_init = refl;
+}
 
 -- ---- small cases of the page-table walk
 
@@ -193,5 +207,12 @@ walking : record {
       ∷ []) ≡ Some 0x80002005 ∷ None ∷ None ∷ [];
 }
 unfolding all_opened
-walking = record { walks = refl; giant_walks = refl; all_bits = refl; some_bits = refl; used_bits = refl;
-    refused_bits = refl; large_page = refl }
+walking = record {
+  walks = refl;
+  giant_walks = refl;
+  all_bits = refl;
+  some_bits = refl;
+  used_bits = refl;
+  refused_bits = refl;
+  large_page = refl;
+}

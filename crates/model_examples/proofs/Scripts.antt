@@ -90,35 +90,35 @@ unfoldable pub all_opened : Unit {0}
 unfolding m.Calls.call m.Calls.resume m.Console.key m.Console.take_line m.Counts.frames_of m.Counts.blocks_of
     m.ElfFile.elf_header m.ElfFile.program_header
     m.ElfFile.elf_file m.FileCalls.dup_row m.FileCalls.close_row m.FileCalls.pipe_row m.FileCalls.stat_bytes
-        m.FileCalls.fstat_row m.FileCalls.read_on
+    m.FileCalls.fstat_row m.FileCalls.read_on
     m.FileCalls.read_row m.FileCalls.room_for m.FileCalls.write_on m.FileCalls.write_row m.Files.free_slots
-        m.Files.parts m.Files.place_of m.Files.lookup
+    m.Files.parts m.Files.place_of m.Files.lookup
     m.Files.find m.Files.spot_of m.Files.free_number m.Files.with_entry m.Files.enter m.Files.erase m.Slots.in_record
-        m.Slots.address_of m.Slots.holder_of
+    m.Slots.address_of m.Slots.holder_of
     m.Slots.place_of m.Slots.first_of m.Slots.asked_slot m.Image.number_in m.Image.data_blocks m.Image.named_by
-        m.Image.named_blocks m.Image.contents_in
+    m.Image.named_blocks m.Image.contents_in
     m.Image.bit_of m.Image.is_named m.Image.all_entries m.Image.names_of m.Image.subdirectories m.Image.parent_of
-        m.Meaning.act m.Memory.reach
+    m.Meaning.act m.Memory.reach
     m.Memory.write_bytes m.Memory.string_at m.Memory.path_at m.Memory.zeros m.Memory.pages_of m.Cycle.cycle
-        m.Next.effect_of m.Next.execute m.Next.next
+    m.Next.effect_of m.Next.execute m.Next.next
     m.Outcome.no_descriptors m.Outcome.end_process m.Plan.segment_at m.Plan.segment_pages m.Plan.load_segments
-        m.Plan.push m.Plan.push_strings
+    m.Plan.push m.Plan.push_strings
     m.Plan.push_pointers m.Plan.with_stack m.Plan.with_args m.Plan.plan m.Plan.plan_flat m.ProcessCalls.fork_row
-        m.ProcessCalls.wait_on
+    m.ProcessCalls.wait_on
     m.ProcessCalls.wait_row m.ProcessCalls.kill_row m.ProcessCalls.words_before_zero m.ProcessCalls.args_at
-        m.ProcessCalls.exec_row
+    m.ProcessCalls.exec_row
     m.ProcessCalls.with_pages m.ProcessCalls.sbrk_row m.ProcessCalls.sleep_on m.Reap.without_opens m.Reap.without_pipes
-        m.Reap.without_nodes m.Reap.reap
+    m.Reap.without_nodes m.Reap.reap
     m.Run.run m.Run.turns m.Start.init_plan m.Start.start m.Start.flat_files m.Start.flat_opens
-        m.Start.flat_descriptors m.Start.start_flat
+    m.Start.flat_descriptors m.Start.start_flat
     m.Translation.walk_from m.Turn.is_ready m.Turn.round_from m.Turn.turn m.Words.instruction_of m.Manifest.added
-        m.Manifest.bare_files
+    m.Manifest.bare_files
     m.Manifest.files_made m.Manifest.with_entries m.Manifest.with_manifest_entry m.Assembly.codes_from
-        m.Assembly.definition m.Assembly.line_code
+    m.Assembly.definition m.Assembly.line_code
     m.Assembly.object m.Assembly.placed m.Assembly.placed_from m.Assembly.statement_code m.Disassembly.instruction_text
-        m.Disassembly.word_text
+    m.Disassembly.word_text
     m.Names.register_names m.Names.register_numbers m.Operands.memory_called m.Operands.number_called
-        m.Operands.register_called m.Operands.target_called
+    m.Operands.register_called m.Operands.target_called
     m.Statements.form_called m.Statements.line_of m.Statements.statement_in m.Tokens.parts_of m.Tokens.symbols_in digits
 all_opened = tt
 

@@ -28,13 +28,13 @@ use Rattle.imagerules.specs.Pieces.{FitsAddresses}
 IsOnce-right : (xs ys : List ℕ) → IsOnce (xs ++ ys) → IsOnce ys
 IsOnce-right xs ys h i j d l m e =
     h (length xs + i) (length xs + j) d (omega arith) (omega (arith, length-append xs ys))
-        (get_or-append-add xs ys i d ∙ e ∙ sym (get_or-append-add xs ys j d))
+    (get_or-append-add xs ys i d ∙ e ∙ sym (get_or-append-add xs ys j d))
 
 IsOnce-apart : (xs ys : List ℕ) → IsOnce (xs ++ ys) → (i j d : ℕ) → i < length xs → j < length ys
     → get_or xs i d ≢ get_or ys j d
 IsOnce-apart xs ys h i j d l m e =
     h i (length xs + j) d (omega arith) (omega (arith, length-append xs ys))
-        (get_or_append_left xs ys d i l ∙ e ∙ sym (get_or-append-add xs ys j d))
+    (get_or_append_left xs ys d i l ∙ e ∙ sym (get_or-append-add xs ys j d))
 
 once-same : (xs : List ℕ) → IsOnce xs → (p q d : ℕ) → p < length xs → q < length xs → get_or xs p d ≡ get_or xs q d
     → p ≡ q
@@ -48,9 +48,9 @@ All-one : (P : ℕ → Type 0) (f : ℕ → List ℕ) (a m : ℕ) → All P (fla
     → n < a + m → All P (f n)
 All-one P f a m h n low high =
     let e : get_or (range_with_len a m) (n - a) 0 ≡ n = get_or-range_with_len a m (n - a) 0 (omega arith)
-            ∙ omega arith in
+    ∙ omega arith in
     subst (λ k. All P (f k)) e
-        (All-from_flat_map P f (range_with_len a m) h (n - a) 0 (omega (arith, length-range_with_len a m)))
+    (All-from_flat_map P f (range_with_len a m) h (n - a) 0 (omega (arith, length-range_with_len a m)))
 
 -- the first of the lists, and another
 once-first : (f : ℕ → List ℕ) (a m : ℕ) → IsOnce (f a ++ flat_map f (range_with_len (a + 1) m)) → (j : ℕ) → a < j
@@ -58,8 +58,8 @@ once-first : (f : ℕ → List ℕ) (a m : ℕ) → IsOnce (f a ++ flat_map f (r
 once-first f a m h j low high p q d p_in =
     let rest = flat_map f (range_with_len (a + 1) m) in
     let apart : All (λ y. get_or (f a) p d ≢ y) rest =
-            λ k c k_in. subst (λ y. get_or (f a) p d ≢ y) (get_or_default rest k d c k_in)
-            (IsOnce-apart (f a) rest h p k d p_in k_in) in
+    λ k c k_in. subst (λ y. get_or (f a) p d ≢ y) (get_or_default rest k d c k_in)
+    (IsOnce-apart (f a) rest h p k d p_in k_in) in
     All-one (λ y. get_or (f a) p d ≢ y) f (a + 1) m apart j (omega arith) high q d
 
 -- so what stands at two places is the same only where these are
@@ -74,9 +74,11 @@ once-places f a (suc m) h i j i_low i_high j_low j_high p q d p_in q_in e =
       | inl i_here ↦ elim (cases_eq j a) [
         | inl j_here ↦
             let p_at = subst (λ k. p < length (f k)) i_here p_in in
-            let q_at = subst (λ k. q < length (f k)) j_here q_in in
-            (i_here ∙ sym j_here, once-same (f a) (IsOnce-left (f a) rest h) p q d p_at q_at
-                (i_at i_here ∙ ap (λ k. get_or (f k) q d) j_here))
+            let q_at = subst (λ k. q < length (f k)) j_here q_in in (
+              i_here ∙ sym j_here,
+              once-same (f a) (IsOnce-left (f a) rest h) p q d p_at q_at
+                  (i_at i_here ∙ ap (λ k. get_or (f k) q d) j_here),
+            )
         | inr away ↦ absurd (once-first f a m h j (omega arith) (omega arith) p q d
             (subst (λ k. p < length (f k)) i_here p_in) q_in (i_at i_here))
       ]
@@ -96,9 +98,9 @@ pub sum-same : (f g : ℕ → ℕ) (a m : ℕ) → ((n : ℕ) → a ≤ n → n 
 sum-same f g a zero h = refl
 sum-same f g a (suc m) h =
     sum_by-cons f a (range_with_len (a + 1) m)
-        ∙ ap₂ (λ x y. x + y) (h a (omega arith) (omega arith))
-        (sum-same f g (a + 1) m (λ n low high. h n (omega arith) (omega arith)))
-        ∙ sym (sum_by-cons g a (range_with_len (a + 1) m))
+    ∙ ap₂ (λ x y. x + y) (h a (omega arith) (omega arith))
+    (sum-same f g (a + 1) m (λ n low high. h n (omega arith) (omega arith)))
+    ∙ sym (sum_by-cons g a (range_with_len (a + 1) m))
 
 -- and but for one number, which only the first passes
 count-but : (p q : ℕ → Bool) (x a m : ℕ) → a ≤ x → x < a + m → p x ≡ true → q x ≡ false → ((n : ℕ) → n ≢ x → p n ≡ q n)
@@ -112,14 +114,14 @@ count-but p q x a (suc m) low high passes fails h =
           let one : ◌≡◌ {A = ℕ} (cond (p a) 1 0) 1 = ap (λ b. cond {A = ℕ} b 1 0) (subst (λ k. p k ≡ true) e passes) in
           let none : ◌≡◌ {A = ℕ} (cond (q a) 1 0) 0 = ap (λ b. cond {A = ℕ} b 1 0) (subst (λ k. q k ≡ false) e fails) in
           let rest : count_by p (range_with_len (a + 1) m) ≡ count_by q (range_with_len (a + 1) m) =
-                  sum-same (λ n. cond (p n) 1 0) (λ n. cond (q n) 1 0) (a + 1) m
-                  (λ n l m. ap (λ b. cond {A = ℕ} b 1 0) (h n (omega arith))) in
+          sum-same (λ n. cond (p n) 1 0) (λ n. cond (q n) 1 0) (a + 1) m
+          (λ n l m. ap (λ b. cond {A = ℕ} b 1 0) (h n (omega arith))) in
           omega (arith, all, but)
       | inr other ↦
           let one : ◌≡◌ {A = ℕ} (cond (p a) 1 0) (cond (q a) 1 0) =
-                  ap (λ b. cond {A = ℕ} b 1 0) (h a (λ e. other (sym e))) in
+          ap (λ b. cond {A = ℕ} b 1 0) (h a (λ e. other (sym e))) in
           let rest : count_by p (range_with_len (a + 1) m) ≡ count_by q (range_with_len (a + 1) m) + 1 =
-                  count-but p q x (a + 1) m (omega arith) (omega arith) passes fails h in
+          count-but p q x (a + 1) m (omega arith) (omega arith) passes fails h in
           omega (arith, all, but)
     ]
 
@@ -135,13 +137,13 @@ count-named [] a m once within = omega (arith, count-all a m)
 count-named (x ∷ xs) a m once within =
     let here = All-head (λ y. (a ≤ y) × (y < a + m)) x xs within in
     let fresh : list_any (nat_eq x) xs ≡ false =
-            list_any_none (nat_eq x) xs
-            (λ k d l. ne_eqb x (get_or xs k d) (once 0 (suc k) d (omega arith) (omega arith))) in
+    list_any_none (nat_eq x) xs
+    (λ k d l. ne_eqb x (get_or xs k d) (once 0 (suc k) d (omega arith) (omega arith))) in
     let rest = count-named xs a m (IsOnce-right (x ∷ []) xs once) (All-tail (λ y. (a ≤ y) × (y < a + m)) x xs within) in
     let but = count-but (λ n. not (list_any (nat_eq n) xs)) (λ n. not (list_any (nat_eq n) (x ∷ xs))) x a m here.0
-            here.1 (ap not fresh)
+    here.1 (ap not fresh)
     (ap (λ b. not (b || list_any (nat_eq x) xs)) (eq-eqb x x refl))
-        (λ n other. ap (λ b. not (b || list_any (nat_eq n) xs)) (sym (ne_eqb n x other))) in
+    (λ n other. ap (λ b. not (b || list_any (nat_eq n) xs)) (sym (ne_eqb n x other))) in
     omega (arith, rest, but)
 
 -- the blocks of a device whose image denotes these files, and the numbers that its super block tells
@@ -223,7 +225,7 @@ module _ {g : Geometry} {blocks : List (List ℕ)} {files : Files} (h : IsDenote
     readable =
         IsReadable-listed g blocks n has-slots
         (All-weaker (λ b. IsTrue (is_data_block image b)) (λ b. b < length blocks)
-            (λ b t. omega (arith, is_data_block-below image b t, count-held, h.size)) (blocks_of image n) data-listed)
+        (λ b t. omega (arith, is_data_block-below image b t, count-held, h.size)) (blocks_of image n) data-listed)
 
   pub legible : IsLegible g blocks
   legible = record { parts = parts-held; size = h.size; inodes = h.inodes; readable = readable }
@@ -260,7 +262,7 @@ module _ {g : Geometry} {blocks : List (List ℕ)} {files : Files} (h : IsDenote
       let m_high = within-inode m u.inode in
       let n_high = within-inode n v.inode in
       let same = once-places (blocks_of image) 1 (inodes_in image - 1) once-all m n u.inode.low (omega arith)
-              v.inode.low (omega arith) a.0 b.0 0 a.1 b.1 (a.2 ∙ e ∙ sym b.2) in
+      v.inode.low (omega arith) a.0 b.0 0 a.1 b.1 (a.2 ∙ e ∙ sym b.2) in
       (same.0, sym a.3 ∙ ap₂ (λ i p. asked_slot (disk.blocks_for (disk.inode_at blocks i).size) p) same.0 same.1 ∙ b.3)
 
   -- a block before the data has its bit set, and one that is named, and no others

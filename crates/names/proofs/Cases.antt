@@ -88,9 +88,9 @@ file-keeps : KeepsTree made_file
 unfolding made_at make_at free_number enter with_entry lookup
 file-keeps =
     (keeps-made folder-keeps (spot 2 f_name)
-        (record { links = 0; places = e dot 2 ∷ e dot_dot 1 ∷ []; here = refl; name = refl })
+    (record { links = 0; places = e dot 2 ∷ e dot_dot 1 ∷ []; here = refl; name = refl })
     (λ n. File 1 []) (λ n. record { kind = refl; links = refl; size = omega arith })
-        (record { files = made_file; number = 3 }) refl).tree
+    (record { files = made_file; number = 3 }) refl).tree
 
 abbrev linked_file : Files
 linked_file = with_nodes (folder 2 1 1 (e d_name 2 ∷ e g_name 3 ∷ [])) (folder 1 2 1 (e f_name 3 ∷ []))
@@ -100,8 +100,8 @@ linked-keeps : KeepsTree linked_file
 unfolding linked enter with_entry lookup
 linked-keeps =
     (keeps-linked file-keeps (spot 1 g_name)
-        (record { links = 1; places = e dot 1 ∷ e dot_dot 1 ∷ e d_name 2 ∷ []; here = refl; name = refl }) 3
-        linked_file refl).tree
+    (record { links = 1; places = e dot 1 ∷ e dot_dot 1 ∷ e d_name 2 ∷ []; here = refl; name = refl }) 3
+    linked_file refl).tree
 
 written-keeps : KeepsTree
     (with_nodes (folder 2 1 1 (e d_name 2 ∷ e g_name 3 ∷ [])) (folder 1 2 1 (e f_name 3 ∷ [])) (Some (File 2 (7 ∷ []))))

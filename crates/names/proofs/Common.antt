@@ -20,8 +20,17 @@ pub use Rattle.std.specs.Prelude.{nat_lt, option_map, sum_by, unwrap_or, â—Œ||â—
 pub use Rattle.unixmodel.specs.Files.{change_node, clear, dot, dot_dot, Entry, Files, free_slot, is_directory}
 pub use Rattle.unixmodel.specs.Files.{is_dot_name, links_of, longest, most_links, Node, put, slot, Spot, taken}
 pub use Rattle.unixmodel.specs.Files.{with_entry_at, with_links}
-unfoldable pub use Rattle.unixmodel.specs.Files.{enter, erase, find, free_number, lookup, parts, place_of, spot_of,
-    with_entry}
+unfoldable pub use Rattle.unixmodel.specs.Files.{
+  enter,
+  erase,
+  find,
+  free_number,
+  lookup,
+  parts,
+  place_of,
+  spot_of,
+  with_entry,
+}
 pub use Rattle.unixmodel.specs.Files.Node.{Directory, File}
 pub use Rattle.unixmodel.specs.Image.{entries_of, is_directory_at, is_name, KeepsSize}
 unfoldable pub use Rattle.unixmodel.specs.Image.{all_entries, names_of}

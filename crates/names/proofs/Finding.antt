@@ -63,8 +63,11 @@ free-number files n h =
     let k = mapped suc _ n h in
     let is = position-Some is_none _ k.0 None k.1 in
     let e : 1 + k.0 ≡ n = omega (arith, k.2) in
-    record { free = ap (slot files) (sym e) ∙ sym (get_or-drop 1 files k.0 None)
-        ∙ none-is (slot (drop 1 files) k.0) is.1; within = omega (arith, e, is.0, length-drop 1 files) }
+    record {
+      free = ap (slot files) (sym e) ∙ sym (get_or-drop 1 files k.0 None)
+          ∙ none-is (slot (drop 1 files) k.0) is.1;
+      within = omega (arith, e, is.0, length-drop 1 files);
+    }
 
 -- ---- a name more
 
@@ -92,7 +95,7 @@ pub enter-parts : (files : Files) (at : Spot) (n : ℕ) (more : Files) → enter
 unfolding enter
 enter-parts files at n more h =
     let new = mapped (λ places. change_node files at.directory (λ node. with_places node places))
-            (option_and_then (λ places. with_entry places (entry_at at n)) _) more h in
+    (option_and_then (λ places. with_entry places (entry_at at n)) _) more h in
     option_and_then_some (λ places. with_entry places (entry_at at n)) _ new.0 new.1 (λ places some placed.
     let is = living _ places some in
     record {
@@ -151,8 +154,8 @@ no-place name {places} {a} {b} two h =
     (λ none.
     let f = weight (λ (x : Entry). bytes_eq x.name name) in
     let all = sum_by-le f 0 _
-            (λ k o l. weightless name (get_or _ k o)
-            (position-None (has_name name) (Some a ∷ Some b ∷ two.rest) o none (suc (suc k)) (omega arith))) in
+    (λ k o l. weightless name (get_or _ k o)
+    (position-None (has_name name) (Some a ∷ Some b ∷ two.rest) o none (suc (suc k)) (omega arith))) in
     omega (arith, all, count-taken (λ (x : Entry). bytes_eq x.name name) two.rest))
     h
 
@@ -176,7 +179,7 @@ module _ (files : Files) (d links : ℕ) (places : List (Option Entry)) (name : 
         let is = position-Some _ places k None f in
         let e = some_entry name _ is.1 in
         absurd (none-some _ (sym absent ∙ lookup-is ∙ ap (λ o. entry_number (option_and_then (slot places) o)) f
-            ∙ ap entry_number e.1))
+        ∙ ap entry_number e.1))
 
   pub absent-none : (live : IsLive files d links places) → lookup files d name ≡ None → called name places ≡ 0
   absent-none live absent = no-place name (two-places live.own live.parent) (nowhere absent)
@@ -185,9 +188,9 @@ module _ (files : Files) (d links : ℕ) (places : List (Option Entry)) (name : 
   not-place : (k : ℕ) (e : Entry) → lookup files d name ≡ None → slot places k ≡ Some e → bytes_eq name e.name ≡ false
   not-place k e absent at =
       let away = ap (has_name name) (sym at)
-              ∙ position-None (has_name name) places None (nowhere absent) k (slot-within places k e at) in
+      ∙ position-None (has_name name) places None (nowhere absent) k (slot-within places k e at) in
       false_from_ne_true _ (λ t. false≢true
-          (sym away ∙ (bytes_eq-Decides e.name name).1 (sym ((bytes_eq-Decides name e.name).0 t))))
+      (sym away ∙ (bytes_eq-Decides e.name name).1 (sym ((bytes_eq-Decides name e.name).0 t))))
 
   pub absent-plain : (live : IsLive files d links places) → lookup files d name ≡ None → is_dot_name name ≡ false
   absent-plain live absent = or_from _ _ (not-place 0 _ absent live.own) (not-place 1 _ absent live.parent)
@@ -213,7 +216,7 @@ named-parts files at k n h look = option_and_then_some _ _ k h (λ places some f
     let e = some_entry at.name _ is.1 in
     let number : e.0.number ≡ n =
     same_Some _ n (sym (lookup-is files _ dir.0 places at.name dir.1
-        ∙ ap (λ o. entry_number (option_and_then (slot places) o)) first ∙ ap entry_number e.1) ∙ look) in
+    ∙ ap (λ o. entry_number (option_and_then (slot places) o)) first ∙ ap entry_number e.1) ∙ look) in
     record {
       links = dir.0;
       places = places;
@@ -240,11 +243,11 @@ unfolding unlinked
 unlink-parts files at more h =
     let removed : ℕ → ℕ → Option Files = λ k n. removed_node files _ k n (slot files n) in
     let plain = refused _ (option_and_then (λ k. option_and_then (removed k) (lookup files at.directory at.name)) _)
-            more h in
+    more h in
     option_and_then_some (λ k. option_and_then (removed k) (lookup files at.directory at.name)) _ more plain.1
-        (λ k place rest.
+    (λ k place rest.
     option_and_then_some _ _ more rest
-        (λ n look last. found k n (named-parts files at k n place look) look plain.0 _ refl last))
+    (λ n look last. found k n (named-parts files at k n place look) look plain.0 _ refl last))
   where
     refused : (b : Bool) (o : Option Files) (more : Files) → cond b None o ≡ Some more → (b ≡ false) × (o ≡ Some more)
     refused true o more h = absurd (none-some more h)
@@ -256,8 +259,17 @@ unlink-parts files at more h =
     found k n named look p None f h = absurd (none-some more h)
     found k n named look p (Some node) f h =
         let is = cond_some _ _ more h in
-        record { plain = p; place = k; number = n; node = node; named = named; found = look; here = f; may = is.0;
-            is = sym is.1 }
+        record {
+          plain = p;
+          place = k;
+          number = n;
+          node = node;
+          named = named;
+          found = look;
+          here = f;
+          may = is.0;
+          is = sym is.1;
+        }
 
 -- ---- where the last name of a path is to stand
 
@@ -300,7 +312,7 @@ part-from w plain some =
     let long = length-take 14 w in
     and_from _ _
     (and_from (nat_le 1 (length (take 14 w))) (nat_le (length (take 14 w)) 14)
-        (le-leb 1 (length (take 14 w)) (omega arith)) (le-leb (length (take 14 w)) 14 (omega arith)))
+    (le-leb 1 (length (take 14 w)) (omega arith)) (le-leb (length (take 14 w)) 14 (omega arith)))
     (plain-take 14 w plain)
 
 each-part : (path : List ℕ) → All (λ b. b ≢ 0) path → All (λ w. is_part w ≡ true) (parts path)
@@ -309,7 +321,7 @@ each-part path h =
     let some = λ (w : List ℕ). nat_lt 0 _ in
     All-map (λ w. is_part w ≡ true) _ _ (λ k d l.
     part-from (get_or (filter some (pieces path)) k d) (All-filter some AllPlain _ (plain-pieces path h) k d l)
-        (filter_passes some (pieces path) k d l))
+    (filter_passes some (pieces path) k d l))
 
 -- ---- the last of them
 
@@ -330,19 +342,19 @@ follow-last files w [] d = itself _ where
   itself (Some n) = refl
 follow-last files w (x ∷ xs) d = (λ j. option_and_then (λ n. follow-last files x xs n j) (lookup files d w))
     ∙ chain (lookup files d w) where
-  chain : (o : Option ℕ) → (let s = with_last x (split_last xs)
-      in option_and_then (λ n. option_and_then (λ k. lookup files k s.1) (follow files n s.0)) o
-      ≡ option_and_then (λ k. lookup files k s.1) (option_and_then (λ n. follow files n s.0) o))
-  chain None = refl
-  chain (Some n) = refl
+      chain : (o : Option ℕ) → (let s = with_last x (split_last xs)
+          in option_and_then (λ n. option_and_then (λ k. lookup files k s.1) (follow files n s.0)) o
+          ≡ option_and_then (λ k. lookup files k s.1) (option_and_then (λ n. follow files n s.0) o))
+      chain None = refl
+      chain (Some n) = refl
 
 split-follow : (files : Files) (ws : List (List ℕ)) (split : List (List ℕ) × List ℕ) → split_last ws ≡ Some split
     → (d : ℕ) → follow files d ws ≡ option_and_then (λ k. lookup files k split.1) (follow files d split.0)
 split-follow files [] split h d = absurd (none-some split h)
 split-follow files (w ∷ ws) split h d =
     follow-last files w ws d
-        ∙ ap (λ (s : List (List ℕ) × List ℕ). option_and_then (λ k. lookup files k s.1) (follow files d s.0))
-        (same_Some _ split h)
+    ∙ ap (λ (s : List (List ℕ) × List ℕ). option_and_then (λ k. lookup files k s.1) (follow files d s.0))
+    (same_Some _ split h)
 
 -- ---- a spot
 
@@ -358,16 +370,16 @@ pub spot-parts : (files : Files) (d : ℕ) (path : List ℕ) (at : Spot) → All
 unfolding spot_of
 spot-parts files d path at plain h =
     option_and_then_some (λ (split : List (List ℕ) × List ℕ). option_and_then (live_spot files split.1)
-        (follow files (start_of d path) split.0)) _ at h (λ split e rest.
+    (follow files (start_of d path) split.0)) _ at h (λ split e rest.
     option_and_then_some _ _
-        at rest (λ k _ last. at_node split.1 (rw e at (last-holds (λ w. is_part w ≡ true) _ (each-part path plain))) k
-        _ refl last))
+    at rest (λ k _ last. at_node split.1 (rw e at (last-holds (λ w. is_part w ≡ true) _ (each-part path plain))) k
+    _ refl last))
   where
     at_node : (name : List ℕ) → is_part name ≡ true → (k : ℕ) (o : Option Node) → slot files k ≡ o
         → cond (is_some (live_places o)) (Some (record { directory = k; name = name })) None ≡ Some at → IsSpot files at
     at_node name good k (Some (Directory (suc links) places)) here h =
         subst (IsSpot files) (same_Some (let s : Spot = record { directory = k; name = name } in s) at h)
-            (record { links = links; places = places; here = here; name = good })
+        (record { links = links; places = places; here = here; name = good })
     at_node name good k _ here h = absurd (none-some at h)
 
 -- a path that finds nothing has a free name
@@ -376,7 +388,7 @@ pub spot-absent : (files : Files) (d : ℕ) (path : List ℕ) (at : Spot)
 unfolding spot_of find
 spot-absent files d path at h none =
     option_and_then_some (λ (split : List (List ℕ) × List ℕ). option_and_then (live_spot files split.1)
-        (follow files (start_of d path) split.0)) _ at h (λ split e rest.
+    (follow files (start_of d path) split.0)) _ at h (λ split e rest.
     option_and_then_some _ _ at rest (λ k f last.
     let s : Spot = record { directory = k; name = split.1 } in
     ap (λ (x : Spot). lookup files x.directory x.name) (sym (cond_some _ s at last).1)
@@ -392,7 +404,7 @@ gap-from {files} keeps at spot absent = record {
   here = spot.here;
   name = and_from _ _ spot.name
       (ap not (absent-plain files at.directory spot.links spot.places at.name spot.here
-          (subst (KeepsLive files at.directory) spot.here (keeps.nodes at.directory)) absent));
+      (subst (KeepsLive files at.directory) spot.here (keeps.nodes at.directory)) absent));
   absent = absent;
 }
 
@@ -429,9 +441,9 @@ module _ {files : Files} (keeps : KeepsTree files) (d links : ℕ) (places : Lis
       let one = counted-one (eq-eqb e.number e.number refl) in
       let item = get_or-le-sum_by (weight p) two.rest k None (slot-within two.rest k e h) in
       let count : names_by (slot files d) e.number ≡ count_by p (entries (Some a ∷ Some b ∷ two.rest)) =
-              ap (λ o. names_by o e.number) here ∙ ap (λ ps. count_by p (entries ps)) two.is in
+      ap (λ o. names_by o e.number) here ∙ ap (λ ps. count_by p (entries ps)) two.is in
       named-used keeps e.number
-          (omega (arith, one, item, ap (weight p) h, count, count-taken p two.rest, names_by-le files d e.number))
+      (omega (arith, one, item, ap (weight p) h, count, count-taken p two.rest, names_by-le files d e.number))
 
   -- what unlink and the search along a path need
   pub numbers-used : (k : ℕ) (e : Entry) → slot places k ≡ Some e → IsSome (slot files e.number)
@@ -454,7 +466,7 @@ module _ {files : Files} (keeps : KeepsTree files) where
       let dir = living _ places some in
       let e = mapped (λ (x : Entry). x.number) _ n rest in
       option_and_then_some _ _ e.0 e.1
-          (λ k _ at. subst (λ m. IsSome (slot files m)) e.2 (numbers-used keeps d dir.0 places dir.1 k e.0 at)))
+      (λ k _ at. subst (λ m. IsSome (slot files m)) e.2 (numbers-used keeps d dir.0 places dir.1 k e.0 at)))
 
   pub follow-used : (names : List (List ℕ)) (d n : ℕ) → IsSome (slot files d) → follow files d names ≡ Some n
       → IsSome (slot files n)

@@ -57,10 +57,14 @@ keeps-put : {files : Files} → KeepsTree files → (n : ℕ) (node : Node) (q :
     → 1 ≢ n → IsAlike n (Some node) q → KeepsTree (set files n q)
 keeps-put {files} keeps n node q here away alike =
     keeps-alike keeps _ (length-set files n q)
-        (λ m. slot-set (λ o. IsAlike m (slot files m) o) files n q (slot-within files n node here) m
-        (λ e. rw (e, here) alike) (λ s. alike-same m _))
-    (record { links = keeps.root.links; places = keeps.root.places; here = get_or-set_other files n 1 q None away
-        ∙ keeps.root.here })
+    (λ m. slot-set (λ o. IsAlike m (slot files m) o) files n q (slot-within files n node here) m
+    (λ e. rw (e, here) alike) (λ s. alike-same m _))
+    (record {
+      links = keeps.root.links;
+      places = keeps.root.places;
+      here = get_or-set_other files n 1 q None away
+          ∙ keeps.root.here;
+    })
 
 -- ---- a node without links
 
@@ -69,20 +73,30 @@ pub alike-gone : (files : Files) (n : ℕ) (node : Node) → KeepsLive files n (
     → IsAlike n (Some node) None
 unfolding names_by
 alike-gone files n (Directory zero places) k h =
-    record { names = λ m. rw k refl; wanted = refl; kind = λ l. absurd (omega arith); size = λ s. tt;
-    live = inr (λ fs l. tt) }
+    record {
+      names = λ m. rw k refl;
+      wanted = refl;
+      kind = λ l. absurd (omega arith);
+      size = λ s. tt;
+      live = inr (λ fs l. tt);
+    }
 alike-gone files n (Directory (suc links) places) k h = absurd (omega arith)
 alike-gone files n _ k h =
-    record { names = λ m. refl; wanted = sym h; kind = λ l. absurd (omega arith); size = λ s. tt;
-    live = inr (λ fs l. tt) }
+    record {
+      names = λ m. refl;
+      wanted = sym h;
+      kind = λ l. absurd (omega arith);
+      size = λ s. tt;
+      live = inr (λ fs l. tt);
+    }
 
 pub releases : {files : Files} → KeepsTree files → (n : ℕ) (node : Node) → slot files n ≡ Some node → links_of node ≡ 0
     → KeepsTree (clear files n)
 releases {files} keeps n node here none =
     keeps-put keeps n node None here
     (λ e. let links = ap links_of
-        (same_Some (Directory (suc keeps.root.links) keeps.root.places) node
-        (sym keeps.root.here ∙ ap (slot files) e ∙ here)) in omega arith)
+    (same_Some (Directory (suc keeps.root.links) keeps.root.places) node
+    (sym keeps.root.here ∙ ap (slot files) e ∙ here)) in omega arith)
     (alike-gone files n node (subst (KeepsLive files n) here (keeps.nodes n)) none)
 
 -- ---- other bytes
@@ -95,8 +109,11 @@ emptied-is files n node here same = ap (λ o. set files n (option_map emptied o)
 module _ {files : Files} (keeps : KeepsTree files) where
   -- where nothing changes
   pub changed-same : Changed files files
-  changed-same = record { tree = keeps; stays = λ m used. refl;
-      idle = λ m node here none. record { was = node; here = here; none = none } }
+  changed-same = record {
+    tree = keeps;
+    stays = λ m used. refl;
+    idle = λ m node here none. record { was = node; here = here; none = none };
+  }
 
   pub writes-bytes : (n links : ℕ) (old new : List ℕ) → slot files n ≡ Some (File links old) → length new ≤ longest
       → Changed files (put files n (File links new))
@@ -107,23 +124,26 @@ module _ {files : Files} (keeps : KeepsTree files) where
       record {
         tree = keeps-put keeps n (File links old) new_node here
             (λ e. false≢true (ap (λ o. unwrap_or (option_map is_directory o) false)
-                (sym here ∙ ap (slot files) (sym e) ∙ keeps.root.here)))
+            (sym here ∙ ap (slot files) (sym e) ∙ keeps.root.here)))
             (record { names = λ m. refl; wanted = refl; kind = λ l. refl; size = λ s. size; live = inr (λ fs l. l) });
         stays = λ m used. slot-set (λ o. option_map shape o ≡ option_map shape (slot files m)) files n new_node within
             m (λ e. sym (ap (option_map shape) (ap (slot files) e ∙ here))) (λ s. refl);
         idle = λ m node at none. slot-set (λ o. o ≡ Some node → WasIdle files m) files n new_node within m
-            (λ e is. record { was = File links old; here = ap (slot files) e ∙ here;
-                none = ap links_of (same_Some (File links new) node is) ∙ none })
-                (λ s is. record { was = node; here = is; none = none }) at;
+            (λ e is. record {
+              was = File links old;
+              here = ap (slot files) e ∙ here;
+              none = ap links_of (same_Some (File links new) node is) ∙ none;
+            })
+            (λ s is. record { was = node; here = is; none = none }) at;
       }
 
   length-over : (old new : List ℕ) (offset : ℕ) → length old ≤ longest → offset + length new ≤ longest
       → length (overwrite old offset new) ≤ longest
   length-over old new offset fits room =
       let whole : length (overwrite old offset new)
-              ≡ length (take offset old) + length new + length (drop (offset + length new) old) =
+      ≡ length (take offset old) + length new + length (drop (offset + length new) old) =
       length-append (take offset old ++ new) (drop (offset + length new) old)
-          ∙ ap (λ c. c + length (drop (offset + length new) old)) (length-append (take offset old) new) in
+      ∙ ap (λ c. c + length (drop (offset + length new) old)) (length-append (take offset old) new) in
       omega (arith, whole, length-take offset old, length-drop (offset + length new) old)
 
   -- some of the bytes of a write, from its offset on
@@ -195,15 +215,15 @@ module _ (test : ℕ → Node → Bool) where
     alike-kept files n (Some node) k =
         cond_both (test n node) (Some node) None (IsAlike n (Some node)) (λ t. alike-same n (Some node)) (λ f.
         alike-gone files n node k
-            (elim (cases_eq _ 0) [ inl z ↦ z | inr s ↦ absurd (false≢true (sym f ∙ stays n node (omega arith))) ]))
+        (elim (cases_eq _ 0) [ inl z ↦ z | inr s ↦ absurd (false≢true (sym f ∙ stays n node (omega arith))) ]))
 
     -- some nodes without links go
     pub keeps-kept : {files : Files} → KeepsTree files → KeepsTree (kept test 0 files)
     unfolding one_kept
     keeps-kept {files} keeps =
         keeps-alike keeps _ (length-kept 0 files)
-            (λ n. subst (λ q. IsAlike n (slot files n) q) (sym (slot-here files n))
-            (alike-kept files n _ (keeps.nodes n)))
+        (λ n. subst (λ q. IsAlike n (slot files n) q) (sym (slot-here files n))
+        (alike-kept files n _ (keeps.nodes n)))
         (record {
           links = keeps.root.links;
           places = keeps.root.places;
@@ -257,9 +277,9 @@ module _ (test : ℕ → Node → Bool) where
         | inr s ↦ others m x s at
       ]))
       (λ f. ext_get_or None _ _ (length-kept test 0 files ∙ sym (length-set files n None))
-          (λ m l. slot-set (λ q. slot (kept test 0 files) m ≡ q) files n None (slot-within files n node here) m
+      (λ m l. slot-set (λ q. slot (kept test 0 files) m ≡ q) files n None (slot-within files n node here) m
       (λ e. ap (slot (kept test 0 files)) e ∙ kept-gone test files n node here f)
-          (λ s. slot-same files m _ refl (λ x at. others m x s at))))
+      (λ s. slot-same files m _ refl (λ x at. others m x s at))))
 
 -- ---- nodes that have links or are used stay
 

@@ -94,7 +94,7 @@ pub known-given-up : (begun path : List ℕ) (fault : PutFault) → begun ≢ pa
     → Known (Begins begun) x y → Known Spoils y z → Known (GivesUp begun fault) z w → Known (Keeps path fault) x w
 known-given-up begun path fault apart x y z w p q r =
     let both : Known (λ a c. (b : Held) × Begins begun a b × Spoils b c) x z =
-            known-then (λ a b c begins spoils. (b, begins, spoils)) x y z p q in
+    known-then (λ a b c begins spoils. (b, begins, spoils)) x y z p q in
     known-then (λ a c d both gone. given-up begun path fault apart a both.0 c d both.1 both.2 gone) x z w both r
 
 -- ---- files that programs left are removed

@@ -57,7 +57,7 @@ fn put_by<F: Folder>(
     bytes: &[u8],
 ) -> Result<Attempt, PutFault>
     ensures ok { IfOk result
-            (λ attempt. Known (Tries begun.now path.now bytes.now attempt) (F.held folder.old) (F.held folder.new)) }
+        (λ attempt. Known (Tries begun.now path.now bytes.now attempt) (F.held folder.old) (F.held folder.new)) }
     ensures err { IfErr result (λ fault. Known (Keeps path.now fault) (F.held folder.old) (F.held folder.new)) }
 {
     if begun == path {

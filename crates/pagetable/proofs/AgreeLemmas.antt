@@ -44,14 +44,17 @@ turn_of-table : (t n span : ℕ) (a : Access) → t < n → n ≤ 32768
     → turn_of (table_entry t) span a ≡ turn_by true true true true (base + t)
 unfolding is_sound is_table
 turn_of-table t n span a h small =
-    rw (number_of-entry (base + t) 1 (omega arith) (omega arith), marks_of-entry (base + t) 1 (omega arith),
-        high-entry (base + t) 1 (omega arith) (omega arith)) refl
+    rw (
+      number_of-entry (base + t) 1 (omega arith) (omega arith),
+      marks_of-entry (base + t) 1 (omega arith),
+      high-entry (base + t) 1 (omega arith) (omega arith),
+    ) refl
 
 part_of : (marks bits : ℕ) → has marks 3 ≡ true → bit_and 3 bits ≡ bits → has marks bits ≡ true
 part_of marks bits h low =
     let whole : bit_and marks 3 ≡ 3 = eqb-true (bit_and marks 3) 3 h in
     eq-eqb (bit_and marks bits) bits
-        (ap (bit_and marks) (sym low) ∙ sym (and_assoc bits marks 3) ∙ ap (λ x. bit_and x bits) whole ∙ low)
+    (ap (bit_and marks) (sym low) ∙ sym (and_assoc bits marks 3) ∙ ap (λ x. bit_and x bits) whole ∙ low)
 
 turn_of-leaf : (f n marks : ℕ) (a : Access) → f < n → n ≤ 32768 → IsLeafMarks marks
     → turn_of (leaf_entry f marks) 1 a ≡ turn_by true false (allows marks a) true (base + f)
@@ -60,8 +63,15 @@ turn_of-leaf f n marks a h small good =
     let valid : has marks 1 ≡ true = part_of marks 1 good.1 refl in
     let readable : has marks 2 ≡ true = part_of marks 2 good.1 refl in
     let whole : (base + f) % 1 ≡ 0 = omega arith in
-    rw (number_of-entry (base + f) marks good.0 (omega arith), marks_of-entry (base + f) marks good.0,
-        high-entry (base + f) marks good.0 (omega arith), valid, readable, whole, or-true) refl
+    rw (
+      number_of-entry (base + f) marks good.0 (omega arith),
+      marks_of-entry (base + f) marks good.0,
+      high-entry (base + f) marks good.0 (omega arith),
+      valid,
+      readable,
+      whole,
+      or-true,
+    ) refl
 
 frame_at-base : (n t : ℕ) → t < n → frame_at n (base + t) ≡ Some t
 frame_at-base n t h =
@@ -83,7 +93,7 @@ agree-leaf : (m : Ram) (page e : ℕ) (a : Access) → length m ≤ 32768 → Is
 agree-leaf m page e a small (no_leaf z) = rw (z, turn_of-zero 1 a, leaf_of-zero) refl
 agree-leaf m page e a small (a_leaf f marks h good is) =
     rw (is, turn_of-leaf f (length m) marks a h small good, leaf_of-leaf f marks good.0)
-        (leaf_turn m page f (allows marks a) h ∙ ap (λ b. if b then Some f else None) (allows-marks marks a good.0))
+    (leaf_turn m page f (allows marks a) h ∙ ap (λ b. if b then Some f else None) (allows-marks marks a good.0))
 
 -- a step before it
 agree-table : (m : Ram) (span page e : ℕ) (a : Access) (next : ℕ → Option ℕ) → length m ≤ 32768
@@ -91,7 +101,7 @@ agree-table : (m : Ram) (span page e : ℕ) (a : Access) (next : ℕ → Option 
 agree-table m span page e a next small (no_table z) = rw (z, turn_of-zero span a, child_of-zero) refl
 agree-table m span page e a next small (a_table t h is) =
     rw (is, turn_of-table t (length m) span a h small, child_of-table t)
-        (ap (λ o. then_at o next) (frame_at-base (length m) t h))
+    (ap (λ o. then_at o next) (frame_at-base (length m) t h))
 
 -- and gives nothing at another
 walk_of-beyond : (m : Ram) (r page : ℕ) (a : Access) → is_canonical page ≡ false → walk_of m r page a ≡ None
@@ -117,7 +127,7 @@ module _ {m : Ram} {r : ℕ} (page : ℕ) (a : Access) (small : length m ≤ 327
   below_root None at = refl
   below_root (Some t) at =
       agree-table m 512 page (entry_of m t (page / 512 % 512)) a (walk_low m page a) small
-          (is.sound (mid_node page) t (page / 512 % 512) (mid_is_node page) (sym at) (omega arith))
+      (is.sound (mid_node page) t (page / 512 % 512) (mid_is_node page) (sym at) (omega arith))
       ∙ below_mid (child_of (entry_of m t (page / 512 % 512))) (sym (table_at-low m r page at))
 
   -- the walk goes by the map at a canonical page
@@ -128,7 +138,7 @@ module _ {m : Ram} {r : ℕ} (page : ℕ) (a : Access) (small : length m ≤ 327
       let mid = table_at-mid m r page in
       rw (canonical, inside)
       (agree-table m 262144 page (entry_of m r (page / 262144 % 512)) a (walk_mid m page a) small
-          (is.sound Root r (page / 262144 % 512) tt (root_at m r) (omega arith))
+      (is.sound Root r (page / 262144 % 512) tt (root_at m r) (omega arith))
       ∙ below_root (child_of (entry_of m r (page / 262144 % 512))) (sym mid)
       ∙ ap (translation a) (sym (lookup_of-low m r page (sym (table_at-low m r page (sym mid))))))
 
@@ -154,7 +164,7 @@ pub leaf_of-sound : (n e : ℕ) {f a : ℕ} → IsLeafEntry n e → leaf_of e �
 leaf_of-sound n e (no_leaf z) h = absurd (let none : leaf_of e ≡ None = ap leaf_of z ∙ leaf_of-zero in cc)
 leaf_of-sound n e {f} {a} (a_leaf g marks inside good is) h =
     let both : ◌≡◌ {A = Option (ℕ × ℕ)} (Some (g, marks)) (Some (f, a)) = sym (leaf_of-leaf g marks good.0)
-            ∙ ap leaf_of (sym is) ∙ h in
+    ∙ ap leaf_of (sym is) ∙ h in
     let frame : g ≡ f = first-same g marks f a both in
     let mark : marks ≡ a = second-same g marks f a both in
     (rw (← frame) inside, rw (← mark) good)

@@ -39,8 +39,8 @@ length-made m k r page =
 pub Adds-by : (m l : Ram) (r page : ℕ) (s n : Frames) {t u : ℕ} {o q : Option ℕ} → o ≡ table_at m r (mid_node page)
     → q ≡ table_at m r (low_node page) → unwrap_or o t ≡ t → unwrap_or q u ≡ u → table_at l r (mid_node page) ≡ Some t
     → table_at l r (low_node page) ≡ Some u
-        → ((x : Node) → IsNode x → x ≢ mid_node page → x ≢ low_node page → table_at l r x ≡ table_at m r x)
-        → free_of m s ≡ made_by o q t u ++ free_of l n → Adds m l r page s n
+    → ((x : Node) → IsNode x → x ≢ mid_node page → x ≢ low_node page → table_at l r x ≡ table_at m r x)
+    → free_of m s ≡ made_by o q t u ++ free_of l n → Adds m l r page s n
 Adds-by m l r page s n {t} {u} a b old older mid low beside taken = record {
   mid = some-table_of l r (mid_node page) t mid;
   low = some-table_of l r (low_node page) u low;
@@ -64,8 +64,8 @@ pub IsTidy-insert : {m : Ram} (k : Ram) {r page : ℕ} {value : ℕ × ℕ} → 
 IsTidy-insert {m} k {r} {page} {value} is small ins beside = record {
   used = λ x t nx nr h.
       let here : (x ≡ mid_node page) ⊎ (x ≡ low_node page)
-              → IsUsed k r x = λ o. record
-              { page = page; value = value; inside = small; over = o; mapped = ins.changed } in
+      → IsUsed k r x = λ o. record
+      { page = page; value = value; inside = small; over = o; mapped = ins.changed } in
       elim (cases_node x (mid_node page)) [
         | inl e ↦ here (inl e)
         | inr nm ↦ elim (cases_node x (low_node page)) [
@@ -74,8 +74,13 @@ IsTidy-insert {m} k {r} {page} {value} is small ins beside = record {
               let u : IsUsed m r x = is.used x t nx nr (sym (beside x nx nm nl) ∙ h) in
               elim (cases_eq u.page page) [
                 | inl same ↦ here (rw (← same) u.over)
-                | inr other ↦ record { page = u.page; value = u.value; inside = u.inside; over = u.over;
-                    mapped = ins.others u.page u.inside other ∙ u.mapped }
+                | inr other ↦ record {
+                  page = u.page;
+                  value = u.value;
+                  inside = u.inside;
+                  over = u.over;
+                  mapped = ins.others u.page u.inside other ∙ u.mapped;
+                }
               ]
         ]
       ];
@@ -98,9 +103,13 @@ pub mapped-by : {m k : Ram} {r page : ℕ} {s n : Frames} {value : ℕ × ℕ}
     → Adds m k r page s n → IsMapped m k r page s n
 mapped-by {m} {k} {r} {page} {s} {n} ins small is table adds =
     let taken = free_count-taken m k s n (missing m r page)
-            (rw (adds.taken, length-append, length-made m k r page) refl) table is.free in
-    record { adds = adds; taken = taken; not_refused = λ less. absurd (omega arith);
-        tidy = λ tidy. IsTidy-insert k tidy small ins adds.beside }
+    (rw (adds.taken, length-append, length-made m k r page) refl) table is.free in
+    record {
+      adds = adds;
+      taken = taken;
+      not_refused = λ less. absurd (omega arith);
+      tidy = λ tidy. IsTidy-insert k tidy small ins adds.beside;
+    }
 
 -- ---- a page that goes
 
@@ -144,8 +153,13 @@ module _ {m k : Ram} {r page : ℕ} {s n : Frames} (is : IsTidy m r) (rem : Remo
             | inl e ↦ let at : x ≡ mid_node page = e ∙ ap mid_node same in rw at (mid t (rw at at h))
             | inr e ↦ let at : x ≡ low_node page = e ∙ ap low_node same in rw at (low t (rw at at h))
           ]
-          | inr ne ↦ record { page = u.page; value = u.value; inside = u.inside; over = u.over;
-              mapped = rem.others u.page u.inside ne ∙ u.mapped }
+          | inr ne ↦ record {
+            page = u.page;
+            value = u.value;
+            inside = u.inside;
+            over = u.over;
+            mapped = rem.others u.page u.inside ne ∙ u.mapped;
+          }
         ];
   }
 
@@ -162,8 +176,13 @@ module _ {m k : Ram} {r page : ℕ} {s n : Frames} (is : IsTidy m r) (rem : Remo
         | inr e ↦
             let other : u.page ≢ page = λ f. some-none (sym there ∙ ap (table_at k r) (e ∙ ap low_node f) ∙ none) in
             let first : a ≡ u.page / 262144 % 512 = low-first-same a j (u.page / 262144 % 512) (u.page / 512 % 512) e in
-            record { page = u.page; value = u.value; inside = u.inside; over = inl (ap Mid first);
-                mapped = rem.others u.page u.inside other ∙ u.mapped }
+            record {
+              page = u.page;
+              value = u.value;
+              inside = u.inside;
+              over = inl (ap Mid first);
+              mapped = rem.others u.page u.inside other ∙ u.mapped;
+            }
       ]
 
 pub Removes-after : (m k l : Ram) (r page : ℕ) → SameMap k l r → Removes (lookup_of m r) (lookup_of k r) page
@@ -207,10 +226,10 @@ IsPaged-new m r s n is taken after k e table =
     let first = free-first is r (free_of m n) taken in
     let len : length k ≡ length m = rw e (length-set m r (replicate {A = ℕ} 4096 0)) in
     let others : (g : ℕ) → g ≢ r
-            → frame_of k g ≡ frame_of m g = λ g ne. rw e (get_or-set_other m r g (replicate {A = ℕ} 4096 0) [] ne) in
+    → frame_of k g ≡ frame_of m g = λ g ne. rw e (get_or-set_other m r g (replicate {A = ℕ} 4096 0) [] ne) in
     let same : (g : ℕ) → among g (free_of m n) ≡ true
-            → frame_of k g ≡ frame_of m g =
-            λ g at. others g (λ f. cc (ap (λ x. among x (free_of m n)) f, at, first.1)) in
+    → frame_of k g ≡ frame_of m g =
+    λ g at. others g (λ f. cc (ap (λ x. among x (free_of m n)) f, at, first.1)) in
     let free : free_of k n ≡ free_of m n = free_of-same m k n same in
     let zero : (i : ℕ) → i < 512 → entry_of k r i ≡ 0 = λ i l. rw e (entry_of-zeros m r i first.0 l) in
     let empty = IsEmpty-zeros k r zero in

@@ -82,7 +82,7 @@ Links-put m t c u mem ht hu ne small fits =
     let len : length z ≡ length m = length-set m u zeros in
     let rest : (v : ℕ) → v ≢ u → frame_of z v ≡ frame_of m v = λ v h. get_or-set_other m u v zeros [] h in
     let w = Writes-put z t c (table_entry u) (IsMemory-set m u zeros mem (length-replicate {A = ℕ} 4096 0))
-            (omega arith) small (omega arith) in
+    (omega arith) small (omega arith) in
     record {
       count = w.count ∙ len;
       here = w.here;
@@ -183,7 +183,7 @@ leaf_at-same m k (Some v) i h = ap leaf_of (h v refl)
 pub kept-tree : {m k : Ram} {r : ℕ} → IsTree m r → length k ≡ length m
     → ((y : Node) (v : ℕ) → IsNode y → table_at k r y ≡ Some v → table_at m r y ≡ Some v)
     → ((y : Node) (v i : ℕ) → IsNode y → table_at k r y ≡ Some v → i < 512 → IsEntry (length k) y (entry_of k v i))
-        → IsTree k r
+    → IsTree k r
 kept-tree is count old sound = record {
   inside = λ y v ny h. rw count (is.inside y v ny (old y v ny h));
   once = λ y z v ny nz hy hz. is.once y z v ny nz (old y v ny hy) (old z v nz hz);
@@ -210,7 +210,7 @@ record Changes (m k : Ram) (r : ℕ) (x : Node) (t c : ℕ) : Type 0 where
 entry-kept : {m : Ram} {r t : ℕ} (k : Ram) (c : ℕ) → IsTree m r → (x : Node) → IsNode x → table_at m r x ≡ Some t
     → (y : Node) (v i : ℕ) → IsNode y → table_at m r y ≡ Some v → (y ≡ x → i ≢ c)
     → (i ≢ c → entry_of k t i ≡ entry_of m t i) → (v ≢ t → frame_of k v ≡ frame_of m v)
-        → entry_of k v i ≡ entry_of m v i
+    → entry_of k v i ≡ entry_of m v i
 entry-kept {m} {r} {t} k c is x nx at y v i ny h apart here others = elim (cases_eq v t) [
   | inl same ↦ rw same (here (apart (is.once y x t ny nx (rw (← same) h) at)))
   | inr other ↦ entry_of-frame m k v i (others other)
@@ -229,18 +229,18 @@ module _ {m k : Ram} {r t c : ℕ} where
         | inr other ↦
             ap (λ o. child_at k (child_of o) b) (ch.entries Root r a tt refl (λ _ e. cc) ny.0 (λ _. other))
             ∙ child_at-same m k (child_of (entry_of m r a)) b
-                (λ v g. ch.entries (Mid a) v b ny.0 g (λ _ e. other cc) ny.1 (λ e f. cc))
+            (λ v g. ch.entries (Mid a) v b ny.0 g (λ _ e. other cc) ny.1 (λ e f. cc))
       ]
   stays (Mid d) ch (Mid a) ny ne = ap child_of (ch.entries Root r a tt refl (λ _ e. cc) ny (λ e f. cc))
   stays (Mid d) ch (Low a b) ny ne =
       ap (λ o. child_at k (child_of o) b) (ch.entries Root r a tt refl (λ _ e. cc) ny.0 (λ e f. cc))
       ∙ child_at-same m k (child_of (entry_of m r a)) b
-          (λ v g. ch.entries (Mid a) v b ny.0 g (λ _ e. cc) ny.1 (λ e f. ne tt cc))
+      (λ v g. ch.entries (Mid a) v b ny.0 g (λ _ e. cc) ny.1 (λ e f. ne tt cc))
   stays (Low d e) ch (Mid a) ny ne = ap child_of (ch.entries Root r a tt refl (λ up. absurd up) ny (λ e f. cc))
   stays (Low d e) ch (Low a b) ny ne =
       ap (λ o. child_at k (child_of o) b) (ch.entries Root r a tt refl (λ up. absurd up) ny.0 (λ e f. cc))
       ∙ child_at-same m k (child_of (entry_of m r a)) b
-          (λ v g. ch.entries (Mid a) v b ny.0 g (λ up. absurd up) ny.1 (λ e f. cc))
+      (λ v g. ch.entries (Mid a) v b ny.0 g (λ up. absurd up) ny.1 (λ e f. cc))
 
   next : (x : Node) → Changes m k r x t c → IsUpper x → table_at k r (next_node x c) ≡ child_of (entry_of k t c)
   next x ch up = table_at-next k r x t c up (stays x ch x ch.node (λ _. next_other x c up) ∙ ch.at)
@@ -252,7 +252,7 @@ module _ {m k : Ram} {r t c : ℕ} where
   looks x ch p other apart =
       ap (λ o. leaf_at k o (p % 512)) (stays x ch (low_node p) (low_is_node p) other)
       ∙ leaf_at-same m k (table_at m r (low_node p)) (p % 512)
-          (λ v g. ch.entries (low_node p) v (p % 512) (low_is_node p) g other (omega arith) apart)
+      (λ v g. ch.entries (low_node p) v (p % 512) (low_is_node p) g other (omega arith) apart)
 
   -- so does what all map, if what the one after x maps does
   maps-same : (x : Node) → Changes m k r x t c → IsUpper x
@@ -294,22 +294,22 @@ not_among : (f g : ℕ) (fs : List ℕ) → among f fs ≡ true → among g fs �
 not_among f g fs held out e = cc (rw e at held)
 
 module _ {m k : Ram} {s n : Frames} {t c u : ℕ} (is : IsFreeList m s) (after : IsFreeList m n) (w : Links m k t c u)
-    where
-  pub free-link : free_of m s ≡ u ∷ free_of m n → among t (free_of m s) ≡ false
-      → (free_of k n ≡ free_of m n) × IsFreeList k n
-  free-link e out =
-      let rest = free_of m n in
-      let stays : (v : ℕ) → among v rest ≡ true → frame_of k v ≡ frame_of m v = λ v held.
-      w.others v (not_among v t rest held (among_first_not t u rest (rw e at out)).1)
-          (not_among v u rest held (free-first is u rest e).1) in
-      (free_of-same m k n stays, IsFreeList-same m k n after w.count stays)
+  where
+    pub free-link : free_of m s ≡ u ∷ free_of m n → among t (free_of m s) ≡ false
+        → (free_of k n ≡ free_of m n) × IsFreeList k n
+    free-link e out =
+        let rest = free_of m n in
+        let stays : (v : ℕ) → among v rest ≡ true → frame_of k v ≡ frame_of m v = λ v held.
+        w.others v (not_among v t rest held (among_first_not t u rest (rw e at out)).1)
+        (not_among v u rest held (free-first is u rest e).1) in
+        (free_of-same m k n stays, IsFreeList-same m k n after w.count stays)
 
 module _ {m k : Ram} {r : ℕ} {s : Frames} {t c e : ℕ} (is : IsPaged m r s) (w : Writes m k t c e) where
   pub free-write : (x : Node) → IsNode x → table_at m r x ≡ Some t → (free_of k s ≡ free_of m s) × IsFreeList k s
   free-write x nx at =
       let stays : (v : ℕ) → among v (free_of m s) ≡ true
-              → frame_of k v ≡ frame_of m v =
-              λ v held. w.others v (not_among v t (free_of m s) held (is.apart x t nx at)) in
+      → frame_of k v ≡ frame_of m v =
+      λ v held. w.others v (not_among v t (free_of m s) held (is.apart x t nx at)) in
       (free_of-same m k s stays, IsFreeList-same m k s is.free w.count stays)
 
 -- so many free frames are taken
@@ -348,7 +348,7 @@ module _ {m k : Ram} {r page t e : ℕ} {s : Frames} (w : IsWritten m k r s page
   pub write-paged : IsLeafEntry (length m) e → IsPaged k r s
   write-paged leaf =
       let old : (x : Node) (v : ℕ) → IsNode x → table_at k r x ≡ Some v
-              → table_at m r x ≡ Some v = λ x v nx h. sym (write-tables x nx) ∙ h in
+      → table_at m r x ≡ Some v = λ x v nx h. sym (write-tables x nx) ∙ h in
       record {
         tree = kept-tree w.paged.tree w.write.count old
             (λ x v i nx h. sound-kept (low_node page) written (rw w.write.here leaf) x v i nx (old x v nx h)
@@ -362,9 +362,16 @@ module _ {m k : Ram} {r page t e : ℕ} {s : Frames} (w : IsWritten m k r s page
   write-keeps = record {
     count = w.write.count;
     others = λ v out free. w.write.others v (not_held out (low_node page) (low_is_node page) w.low);
-    outside = λ v out free. (λ h. out
-        (record { place = h.place; is_node = h.is_node; at_place = sym (write-tables h.place h.is_node)
-        ∙ h.at_place }), rw write-free free);
+    outside = λ v out free. (
+      λ h. out
+          (record {
+            place = h.place;
+            is_node = h.is_node;
+            at_place = sym (write-tables h.place h.is_node)
+                ∙ h.at_place;
+          }),
+      rw write-free free,
+    );
   }
 
   pub write-changed : lookup_of k r page ≡ leaf_of e
@@ -443,8 +450,8 @@ module _ {m k : Ram} {r t c u : ℕ} {s n : Frames} {x : Node} (w : Attaches m k
   attached =
       let first = free-first w.paged.free u (free_of k n) w.taken in
       let split : (v : ℕ) → among v (free_of m s) ≡ false
-              → (v ≢ u) × (among v (free_of k n) ≡ false) =
-              λ v h. among_first_not v u (free_of k n) (rw w.taken at h) in
+      → (v ≢ u) × (among v (free_of k n) ≡ false) =
+      λ v h. among_first_not v u (free_of k n) (rw w.taken at h) in
       record {
         paged = record {
           tree = record {
@@ -453,9 +460,11 @@ module _ {m k : Ram} {r t c u : ℕ} {s n : Frames} {x : Node} (w : Attaches m k
             once = λ y z v ny nz hy hz. elim (link-cases y v ny hy) [
               | inl fresh ↦ elim (link-cases z v nz hz)
                   [ inl again ↦ fresh.0 ∙ sym again.0 | inr old ↦ absurd (new z v nz old.1 fresh.1) ]
-              | inr old ↦ elim (link-cases z v nz hz)
-                  [ inl fresh ↦ absurd (new y v ny old.1 fresh.1) | inr older ↦ w.paged.tree.once y z v ny nz old.1
-                  older.1 ]
+              | inr old ↦ elim (link-cases z v nz hz) [
+                | inl fresh ↦ absurd (new y v ny old.1 fresh.1)
+                | inr older ↦ w.paged.tree.once y z v ny nz old.1
+                    older.1
+              ]
             ];
             sound = λ y v i ny h small. elim (link-cases y v ny h) [
               | inl fresh ↦ rw (fresh.1, w.links.fresh i small) (entry_zero (length k) y)
@@ -522,7 +531,7 @@ module _ {m k l : Ram} {r t c u : ℕ} {s n : Frames} {x : Node} (w : Detaches m
         count = w.gives.count ∙ w.clears.count;
         entries = λ y v i ny h other small apart. entry-kept l c w.paged.tree x w.node w.at y v i ny h apart
             (λ ne. table-kept i ∙ w.clears.beside i small ne)
-                (λ ne. given-kept v (away y v ny h (other w.upper)) ∙ w.clears.others v ne);
+            (λ ne. given-kept v (away y v ny h (other w.upper)) ∙ w.clears.others v ne);
         below = λ _ b small. rw (cleared, child_of-zero, before, w.empty b small) (sym child_of-zero);
       }
 
@@ -541,7 +550,7 @@ module _ {m k l : Ram} {r t c u : ℕ} {s n : Frames} {x : Node} (w : Detaches m
     paged = record {
       tree = kept-tree w.paged.tree unlinked.count (λ y v ny h. (stood y v ny h).1)
           (λ y v i ny h. let old = stood y v ny h
-              in sound-kept x unlinked (rw cleared (entry_zero (length m) x)) y v i ny old.1 (λ _. old.0));
+          in sound-kept x unlinked (rw cleared (entry_zero (length m) x)) y v i ny old.1 (λ _. old.0));
       free = w.valid;
       apart = λ y v ny h. let old =
           stood y v ny h in rw (w.given, ne_eqb v u (away y v ny old.1 old.0)) (w.paged.apart y v ny old.1);
@@ -578,19 +587,19 @@ module _ (m k : Ram) (r : ℕ) (same : KeepsTables m k r) where
   table_at-same (Low a b) nx =
       ap (λ o. child_at k (child_of o) b) (entry_of-frame m k r a (same r (held_at m r Root r tt refl)))
       ∙ child_at-same m k (child_of (entry_of m r a)) b
-          (λ v g. entry_of-frame m k v b (same v (held_at m r (Mid a) v nx.0 g)))
+      (λ v g. entry_of-frame m k v b (same v (held_at m r (Mid a) v nx.0 g)))
 
   pub IsTree-same : IsTree m r → length k ≡ length m → IsTree k r
   IsTree-same is len =
       let old : (x : Node) (t : ℕ) → IsNode x → table_at k r x ≡ Some t
-              → table_at m r x ≡ Some t = λ x t nx h. sym (table_at-same x nx) ∙ h in
+      → table_at m r x ≡ Some t = λ x t nx h. sym (table_at-same x nx) ∙ h in
       kept-tree is len old (λ x t i nx h small. rw
-          (len, entry_of-frame m k t i (same t (held_at m r x t nx (old x t nx h))))
-          (is.sound x t i nx (old x t nx h) small))
+      (len, entry_of-frame m k t i (same t (held_at m r x t nx (old x t nx h))))
+      (is.sound x t i nx (old x t nx h) small))
 
   pub lookup_of-same : (page : ℕ) → lookup_of k r page ≡ lookup_of m r page
   unfolding lookup_of
   lookup_of-same page =
       ap (λ o. leaf_at k o (page % 512)) (table_at-same (low_node page) (low_is_node page))
       ∙ leaf_at-same m k (table_at m r (low_node page)) (page % 512)
-          (λ v g. entry_of-frame m k v (page % 512) (same v (held_at m r (low_node page) v (low_is_node page) g)))
+      (λ v g. entry_of-frame m k v (page % 512) (same v (held_at m r (low_node page) v (low_is_node page) g)))

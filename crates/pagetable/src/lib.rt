@@ -63,7 +63,7 @@ fn bits_if(set: bool, mark: EntryBits) -> u16
 #[tactic(auto, unfolding(crate::specs::Marks::leaf_marks))]
 pub fn leaf_marks(writable: bool, executable: bool, user: bool) -> EntryBits
     ensures marks { result.0
-            ≡ leaf_marks (record { writable = writable; executable = executable; user = user; shared = false }) }
+        ≡ leaf_marks (record { writable = writable; executable = executable; user = user; shared = false }) }
     ensures leaf { IsLeafMarks result.0 }
 {
     let always = EntryBits::VALID.0
@@ -190,7 +190,7 @@ impl PageTable {
         ensures taken { IfSome result (λ t. free_of ram.old frames.old ≡ t.root.0 ∷ free_of ram.new frames.new) }
         ensures bytes { IfSome result (λ t. ram.new ≡ slice_set ram.old t.root.0 (replicate 4096 0)) }
         ensures none { IfNone result
-                ((free_count ram.old frames.old ≡ 0) × (ram.new ≡ ram.old) × (frames.new ≡ frames.old)) }
+            ((free_count ram.old frames.old ≡ 0) × (ram.new ≡ ram.old) × (frames.new ≡ frames.old)) }
         ensures extra { extra_of frames.new ≡ extra_of frames.old }
     {
         ram.frames_are_whole();

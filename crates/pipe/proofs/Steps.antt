@@ -14,8 +14,14 @@ pub append-more : (ys xs bs : List ℕ) {k : ℕ} (n : ℕ) {i : ℕ} (b : ℕ) 
     → ring 512 (set ys ((k + n + i) % 512) b) k (n + (i + 1)) ≡ ring 512 xs k n ++ take (i + 1) bs
 append-more ys xs bs {k} n {i} b full start fits low is h =
     let a : n + (i + 1) ≡ n + i + 1 = omega arith in
-    rw (a, ring-push 512 ys k (n + i) (k + n + i) b full (omega arith) (omega arith) (omega arith), h, append_assoc,
-        take_more bs i 0 low, is) refl
+    rw (
+      a,
+      ring-push 512 ys k (n + i) (k + n + i) b full (omega arith) (omega arith) (omega arith),
+      h,
+      append_assoc,
+      take_more bs i 0 low,
+      is,
+    ) refl
 
 -- a frame that was lent has what was left there
 pub frame-put : (m : List (List ℕ)) {f : ℕ} {ys : List ℕ} → f < length m → length ys ≡ 4096
@@ -78,13 +84,13 @@ ring-parts x {k} {n} {t} full start held front = elim (cases_lt (512 - k) n) [
       let a : t ≡ 512 - k = omega arith in
       let b : (k + t) % 512 ≡ 0 = rw (let c : k + t ≡ 512 = omega arith in c) refl in
       ap₂ ◌++◌ (sym (ring-straight x k t full (omega arith)))
-          (sym (ring-straight x 0 (n - t) full (omega arith)) ∙ rw b at (ring-wrap x (k + t) (n - t)))
-          ∙ sym (ring-append 512 x k t (n - t) n (omega arith))
+      (sym (ring-straight x 0 (n - t) full (omega arith)) ∙ rw b at (ring-wrap x (k + t) (n - t)))
+      ∙ sym (ring-append 512 x k t (n - t) n (omega arith))
   | inr fits ↦
       let a : t ≡ n = omega arith in
       let b : n - t ≡ 0 = omega arith in
       ap₂ ◌++◌ (sym (ring-straight x k t full (omega arith))) (ap (λ i. take i x) b) ∙ append-nil (ring 512 x k t)
-          ∙ ap (ring 512 x k) a
+      ∙ ap (ring 512 x k) a
 ]
 
 -- ---- what changes the bytes of a pipe, and what doesn't

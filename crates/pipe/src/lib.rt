@@ -33,13 +33,17 @@ impl Model for Pipe {
     ghost Value = { State };
 
     ghost view = { λ p. record
-            { frame = p.frame.0; from = p.from; held = p.held; read_open = p.read_open; write_open = p.write_open } };
+        { frame = p.frame.0; from = p.from; held = p.held; read_open = p.read_open; write_open = p.write_open } };
 
     ghost invariant = { λ p. (p.from < 512) × (p.held ≤ 512) };
 
-    ghost inverse = { λ v. record
-            { frame = record { 0 = v.frame }; from = v.from; held = v.held; read_open = v.read_open;
-            write_open = v.write_open } };
+    ghost inverse = { λ v. record {
+      frame = record { 0 = v.frame };
+      from = v.from;
+      held = v.held;
+      read_open = v.read_open;
+      write_open = v.write_open;
+    } };
 }
 
 // Puts bytes behind those that a ring holds.
@@ -60,7 +64,7 @@ fn append_in(ram: &mut Ram, frame: FrameNo, from: usize, held: usize, bytes: &[u
     requires from { from < 512 }
     requires room { held + length bytes.now ≤ 512 }
     ensures bytes { ring_in ram.new frame.0 from (held + length bytes.now) ≡ ring_in ram.old frame.0 from held
-            ++ bytes.now }
+        ++ bytes.now }
     ensures memory { ram.new ≡ slice_set ram.old frame.0 (frame_of ram.new frame.0) }
 {
     append(ram.frame_mut(frame), from, held, bytes);
@@ -137,7 +141,7 @@ impl Pipe {
     /// Whether a write can go on: there is room, or nobody can read.
     pub fn can_write(&self) -> bool
         ensures can { (m : List (List ℕ))
-                → result ≡ (nat_lt (length (bytes_of m self.now)) pipe_room || not self.now.read_open) }
+            → result ≡ (nat_lt (length (bytes_of m self.now)) pipe_room || not self.now.read_open) }
         ensures within { (m : List (List ℕ)) → length (bytes_of m self.now) ≤ pipe_room }
     {
         self.held < ROOM || !self.read_open
@@ -170,7 +174,7 @@ impl Pipe {
         ensures waits { IsNone result ↔ ((bytes_of ram.now self.old ≡ []) × (self.old.write_open ≡ true)) }
         ensures unchanged { IfNone result ((buffer.new ≡ buffer.old) × (self.new ≡ self.old)) }
         ensures taken { IfSome result
-                (λ n. buffer.new ≡ take (length buffer.old) (bytes_of ram.now self.old) ++ drop n buffer.old) }
+            (λ n. buffer.new ≡ take (length buffer.old) (bytes_of ram.now self.old) ++ drop n buffer.old) }
         ensures count { IfSome result (λ n. n ≡ min (length buffer.old) (length (bytes_of ram.now self.old))) }
         ensures rest { bytes_of ram.now self.new ≡ drop (length buffer.old) (bytes_of ram.now self.old) }
         ensures stays { Stays self.old self.new }

@@ -33,8 +33,12 @@ module _ {old new : View} {before after : Option (List ℕ)} {f0 f1 : ℕ} {k0 k
   pub played-one : (e : Event) → IsUp old → StepGives old new (next old.state e) before after (Rises f0 f1) r → f0 ≤ f1
       → k1 ≡ option_map (λ es. es ++ e ∷ []) k0 → IsPlayed old new before after f0 f1 k0 k1 r
   played-one e up gives later kept =
-      record { events = e ∷ []; records = kept; runs = one-gives old new e before after (Rises f0 f1) r up gives;
-      later = later }
+      record {
+        events = e ∷ [];
+        records = kept;
+        runs = one-gives old new e before after (Rises f0 f1) r up gives;
+        later = later;
+      }
 
   -- so many steps
   pub played-steps : (count : ℕ) → RunGives old new (replicate count Step) before after (Rises f0 f1) r → f0 ≤ f1

@@ -169,7 +169,7 @@ fn stride<D: BlockDev, T: Translate, R: Record, W: Write>(
     requires up { IsUp machine.old }
     requires some { 0 < most }
     ensures plays { PlaysTo W.contents R.kept machine.old machine.new out.old.out out.new.out keeper.old keeper.new
-            (halts result) }
+        (halts result) }
     ensures within { IfOk result (λ made. (0 < made) × (made ≤ most)) }
 {
     let (made, ended) = machine.advance(most, out);
@@ -201,7 +201,7 @@ fn go_on<D: BlockDev, T: Translate, R: Record, V: Watch, W: Write>(
     requires up { IsUp machine.old }
     requires some { 0 < most }
     ensures plays { PlaysTo W.contents R.kept machine.old machine.new out.old.out out.new.out keeper.old keeper.new
-            (halts result) }
+        (halts result) }
     ensures within { IfOk result (λ made. (0 < made) × (made ≤ most)) }
 {
     let quiet = clock.quiet_steps().min(most);
@@ -266,7 +266,7 @@ fn walk<D: BlockDev, T: Translate, R: Record, V: Watch, W: Write>(
 ) -> Result<Walked, Halt>
     requires { IsUp machine.old }
     ensures { PlaysTo W.contents R.kept machine.old machine.new out.old.out out.new.out keeper.old keeper.new
-            (halts result) }
+        (halts result) }
 {
     let mut made = 0;
     while made < most {
@@ -342,7 +342,7 @@ fn act<D: BlockDev, T: Translate, R: Record, V: Watch, W: Write>(
 ) -> Result<Done, Halt>
     requires { IsUp machine.old }
     ensures { PlaysTo W.contents R.kept machine.old machine.new out.old.out out.new.out keeper.old keeper.new
-            (halts result) }
+        (halts result) }
 {
     match &act.deed {
         Deed::Give(said) => {
@@ -383,7 +383,7 @@ pub fn perform<D: BlockDev, T: Translate, R: Record, V: Watch, W: Write>(
 ) -> Result<Option<Unreached>, Halt>
     requires { IsUp machine.old }
     ensures { PlaysTo W.contents R.kept machine.old machine.new out.old.out out.new.out keeper.old keeper.new
-            (halts result) }
+        (halts result) }
 {
     let mut place = Place::new();
     let mut clock = Clock::Off;

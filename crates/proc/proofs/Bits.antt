@@ -85,8 +85,13 @@ turned-bit n r {s} j fits short low is = elim (cases_lt (j + r) 64) [
         | inr some ↦ rw (bit_at_or, right-bit, shifted-low n s j short (omega arith), at) (omega arith)
       ]
   | inr past ↦ (let at : j - s ≡ (j + r) % 64 = omega arith
-      in rw (bit_at_or, right-bit, bit_at_above n 64 (r + j) fits (omega arith),
-      shifted-high n s j short (omega arith), at) (omega arith))
+      in rw (
+        bit_at_or,
+        right-bit,
+        bit_at_above n 64 (r + j) fits (omega arith),
+        shifted-high n s j short (omega arith),
+        at,
+      ) (omega arith))
 ]
 
 rotated-bit : (n r j : ℕ) → n < 2 ^ 64 → j < 64 → r < 64 → bit_at (rotate_right w64 n r) j ≡ bit_at n ((j + r) % 64)
@@ -111,8 +116,10 @@ lowest {n} fits = elim (cases_lt 0 n) [
   | inr none ↦
       let zero' : n ≡ 0 = omega arith in
       let all : trailing_zeros w64 n ≡ 64 = ap (trailing_zeros w64) zero' in
-      record { below = λ i less short. ap (λ x. bit_at x i) zero' ∙ bit_at-zero i;
-          there = λ short. absurd (omega arith) }
+      record {
+        below = λ i less short. ap (λ x. bit_at x i) zero' ∙ bit_at-zero i;
+        there = λ short. absurd (omega arith);
+      }
 ]
 
 -- ---- the next place that is in
@@ -127,8 +134,13 @@ module _ {n last turn ahead : ℕ} {places : List Bool} (shows : bits_of 64 n �
   place-bit : {k : ℕ} → turn ≤ k → k ≤ 64 → is_in places (place_in_round last k) ≡ (bit_at ahead (k - turn) == 1)
   place-bit {k} low high =
       let same : place_in_round last k ≡ ((k - turn) + (last + turn) % 64) % 64 = omega arith in
-      rw (← shows, bit-in 64 n (place_in_round last k) (omega arith), turns,
-          rotated-bit n ((last + turn) % 64) (k - turn) fits (omega arith) (omega arith), same) refl
+      rw (
+        ← shows,
+        bit-in 64 n (place_in_round last k) (omega arith),
+        turns,
+        rotated-bit n ((last + turn) % 64) (k - turn) fits (omega arith) (omega arith),
+        same,
+      ) refl
 
   passed : {k : ℕ} → turn ≤ k → k ≤ 64 → k < turn + trailing_zeros w64 ahead
       → is_in places (place_in_round last k) ≡ false

@@ -107,8 +107,10 @@ module _ {says : ℕ → Bool → Type 0} {last : ℕ} {awake : List Bool} {turn
     {next : ℕ} (is : IsNext awake last turn next) where
   pub first-says : says (place_in_round last next) true → IsFirst says last (place_in_round last next)
   first-says = looked-first
-      (record { in_round = looks.passed.in_round;
-      before = λ k low high. looks.asleep (place_in_round last k) (looks.passed.before k low high) }) awake
+      (record {
+        in_round = looks.passed.in_round;
+        before = λ k low high. looks.asleep (place_in_round last k) (looks.passed.before k low high);
+      }) awake
       looks.asleep is
 
   -- one that isn't ready is no more awake
@@ -194,8 +196,10 @@ module _ {kind : WaitKind} {places : Processes} {from next : ℕ} {may : List Bo
         → IsSearching kind places from (at + 1) (slice_set may at false)
     search-goes all no' = let inside = is.in_places in let begun = search'.in_places in record {
       in_places = (omega arith, omega arith);
-      within = record { out = set-all (λ j b. b ≡ false → holds (waits_so kind) (slot places j) ≡ false) may
-          at true (λ _. no') search'.within.out };
+      within = record {
+        out = set-all (λ j b. b ≡ false → holds (waits_so kind) (slot places j) ≡ false) may
+            at true (λ _. no') search'.within.out;
+      };
       before = up_to-more {P = λ j. holds (waits_so kind) (slot places j) ≡ false} (passed-to is.before) no';
     }
 
@@ -210,8 +214,10 @@ module _ {kind : WaitKind} {places : Processes} {may : List Bool} (within : IsWi
   }
 
   one-freed : (i : ℕ) → IsWithin kind (slice_set places i None) may
-  one-freed i = record { out = set-all (λ j x. is_in may j ≡ false → holds (waits_so kind) x ≡ false) places i None
-      (λ _. refl) within.out }
+  one-freed i = record {
+    out = set-all (λ j x. is_in may j ≡ false → holds (waits_so kind) x ≡ false) places i None
+        (λ _. refl) within.out;
+  }
 
 -- who goes to process 1 waits as before
 orphan-waits : (kind : WaitKind) (pid : ℕ) (p : Process) → waits_so kind (orphaned pid p) ≡ waits_so kind p
@@ -237,12 +243,18 @@ within-all {places} = record { sleeps = one-all; transfers = one-all; children =
 module _ {places : Processes} {may : WaitPlaces} (are : AreWithin places may) where
   -- a place in which a process may wait has another
   pub within-put : (i : ℕ) (o : Option Process) → AreWithin (slice_set places i o) (with_place may i)
-  within-put i o = record { sleeps = one-put are.sleeps i o; transfers = one-put are.transfers i o;
-      children = one-put are.children i o }
+  within-put i o = record {
+    sleeps = one-put are.sleeps i o;
+    transfers = one-put are.transfers i o;
+    children = one-put are.children i o;
+  }
 
   pub within-freed : (i : ℕ) → AreWithin (slice_set places i None) may
-  within-freed i = record { sleeps = one-freed are.sleeps i; transfers = one-freed are.transfers i;
-      children = one-freed are.children i }
+  within-freed i = record {
+    sleeps = one-freed are.sleeps i;
+    transfers = one-freed are.transfers i;
+    children = one-freed are.children i;
+  }
 
   pub within-orphaned : (pid : ℕ) → AreWithin (map (option_map (orphaned pid)) places) may
   within-orphaned pid = record {
@@ -265,15 +277,25 @@ module _ {t : Inside} (is : IsSound t) where
   -- as many places, and each of those who wait stands where one may
   sound-as : {items new : Processes} {next_pid : ℕ} {waiting may : WaitPlaces} → items ≡ new
       → length new ≡ length t.places.items → next_pid ≤ 2147483648 → waiting ≡ may → AreWithin new may
-      → IsSound (record { places = record { items = items }; last = t.last; next_pid = next_pid; awake = t.awake;
-          waiting = waiting })
+      → IsSound (record {
+        places = record { items = items };
+        last = t.last;
+        next_pid = next_pid;
+        awake = t.awake;
+        waiting = waiting;
+      })
   sound-as now all fits set' within =
       record { all = ap length now ∙ all ∙ is.all; last = is.last; pids = fits; waiting = rw (now, set') within }
 
   pub sound-put : (i : ℕ) (o : Option Process) {items : Processes} {next_pid : ℕ} {waiting : WaitPlaces}
       → items ≡ slice_set t.places.items i o → next_pid ≤ 2147483648 → waiting ≡ with_place t.waiting i
-      → IsSound (record { places = record { items = items }; last = t.last; next_pid = next_pid; awake = t.awake;
-          waiting = waiting })
+      → IsSound (record {
+        places = record { items = items };
+        last = t.last;
+        next_pid = next_pid;
+        awake = t.awake;
+        waiting = waiting;
+      })
   sound-put i o {next_pid} put fits set' =
       sound-as put (length-set t.places.items i o) fits set' (within-put is.waiting i o)
 
@@ -308,8 +330,12 @@ pub next-same : (there others : ℕ → Bool) (after : ℕ) (result : Option ℕ
     → IsNextOf there after result → IsNextOf others after result
 next-same there others after None same is = λ q high. sym (same q) ∙ is q high
 next-same there others after (Some pid) same is =
-    record { above = is.above; stands = sym (same pid) ∙ is.stands; between = λ q high low. sym (same q)
-    ∙ is.between q high low }
+    record {
+      above = is.above;
+      stands = sym (same pid) ∙ is.stands;
+      between = λ q high low. sym (same q)
+          ∙ is.between q high low;
+    }
 
 -- with one pid more
 module _ (there more : ℕ → Bool) (after pid : ℕ) (one : (q : ℕ) → more q ≡ (there q || (pid == q))) where
@@ -325,21 +351,33 @@ module _ (there more : ℕ → Bool) (after pid : ℕ) (one : (q : ℕ) → more
   pub next-more : (found : Option ℕ) → IsNextOf there after found → IsNextOf more after (lesser found after pid)
   next-more None is = elim (cases_lt after pid) [
     | inl above ↦ rw (lt-ltb after pid above)
-        (record { above = above; stands = now-there;
-        between = λ q high low. still-none (is q high) (λ e. omega arith) })
+        (record {
+          above = above;
+          stands = now-there;
+          between = λ q high low. still-none (is q high) (λ e. omega arith);
+        })
     | inr below ↦ rw (le-ltb after pid below) (λ q high. still-none (is q high) (λ e. omega arith))
   ]
   next-more (Some least) is = elim (cases_lt least pid) [
     | inl less ↦ rw (lt-ltb least pid less)
-        (record { above = is.above; stands = still-there _ is.stands;
-        between = λ q high low. still-none (is.between q high low) (λ e. omega arith) })
+        (record {
+          above = is.above;
+          stands = still-there _ is.stands;
+          between = λ q high low. still-none (is.between q high low) (λ e. omega arith);
+        })
     | inr more' ↦ elim (cases_lt after pid) [
       | inl above ↦ rw (le-ltb least pid more', lt-ltb after pid above)
-          (record { above = above; stands = now-there;
-          between = λ q high low. still-none (is.between q high (omega arith)) (λ e. omega arith) })
+          (record {
+            above = above;
+            stands = now-there;
+            between = λ q high low. still-none (is.between q high (omega arith)) (λ e. omega arith);
+          })
       | inr below ↦ rw (le-ltb least pid more', le-ltb after pid below)
-          (record { above = is.above; stands = still-there _ is.stands;
-          between = λ q high low. still-none (is.between q high low) (λ e. omega arith) })
+          (record {
+            above = is.above;
+            stands = still-there _ is.stands;
+            between = λ q high low. still-none (is.between q high low) (λ e. omega arith);
+          })
     ]
   ]
 
@@ -382,4 +420,4 @@ pub among-all : (places : Processes) (after : ℕ) {i : ℕ} (found : Option ℕ
     → IsNextOf (λ pid. is_some (place_where places (has_pid pid))) after found
 among-all places after {i} found all is =
     next-same (is_among places i) _ after found
-        (λ q. ap (list_any (holds (has_pid q))) (take_all i places all) ∙ sym (found-any (holds (has_pid q)) places)) is
+    (λ q. ap (list_any (holds (has_pid q))) (take_all i places all) ∙ sym (found-any (holds (has_pid q)) places)) is

@@ -57,6 +57,8 @@ pub record AreWithin (places : List (Option Process)) (may : WaitPlaces) : Type 
 
 -- in place i a process may wait, whatever for
 abbrev pub with_place : WaitPlaces → ℕ → WaitPlaces
-with_place may i = record
-    { sleeps = slice_set may.sleeps i true; transfers = slice_set may.transfers i true;
-    children = slice_set may.children i true }
+with_place may i = record {
+  sleeps = slice_set may.sleeps i true;
+  transfers = slice_set may.transfers i true;
+  children = slice_set may.children i true;
+}

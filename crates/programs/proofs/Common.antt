@@ -35,8 +35,17 @@ unfoldable pub use Rattle.unixmodel.specs.Memory.{pages_of, reach, string_at, wr
 pub use Rattle.unixmodel.specs.Numbers.{ceil_div, le, number_at, round_down}
 pub use Rattle.unixmodel.specs.Plan.{finished, load_segment, Loaded, loaded_of, may_follow, nothing_loaded, Plan}
 pub use Rattle.unixmodel.specs.Plan.{Segment, segment_marks, Stack, stack_marks, with_segment}
-unfoldable pub use Rattle.unixmodel.specs.Plan.{load_segments, plan, push, push_pointers, push_strings, segment_at,
-    segment_pages, with_args, with_stack}
+unfoldable pub use Rattle.unixmodel.specs.Plan.{
+  load_segments,
+  plan,
+  push,
+  push_pointers,
+  push_strings,
+  segment_at,
+  segment_pages,
+  with_args,
+  with_stack,
+}
 pub use Rattle.unixmodel.specs.ProcessCalls.{and_then_strings, file_bytes, strings_at}
 unfoldable pub use Rattle.unixmodel.specs.ProcessCalls.{args_at, words_before_zero}
 pub use Rattle.unixmodel.specs.Shown.{bytes_or_none}

@@ -24,7 +24,7 @@ abbrev pub HasRead : FileTree → FileTree → ℕ → ℕ → List ℕ → List
 HasRead old new n at out out' k =
     (new ≡ record old { failures = new.failures })
     × ((node : Node) → slot old.files n ≡ Some node
-        → (k ≡ min (length out) (length (node_bytes node) - at)) × (out' ≡ part at k (node_bytes node) ++ drop k out))
+    → (k ≡ min (length out) (length (node_bytes node) - at)) × (out' ≡ part at k (node_bytes node) ++ drop k out))
 
 -- what a look at a node tells
 abbrev pub HasSeen : FileTree → FileTree → ℕ → InodeStat → Type 0
@@ -49,8 +49,11 @@ kept-one same serves = record { same = same; up = serves.up; later = serves.caus
 pub kept-more : {A : Type 0} {old mid new : FileTree} {x : A} {Told : A → Type 0} → IsKept old mid
     → new ≡ record mid { failures = new.failures } → Serves mid new (Ok x) Told → IsKept old new
 kept-more {new = new} kept same serves =
-    record { same = same ∙ ap (λ (t : FileTree). record t { failures = new.failures }) kept.same; up = serves.up;
-    later = le_trans kept.later serves.cause.later }
+    record {
+      same = same ∙ ap (λ (t : FileTree). record t { failures = new.failures }) kept.same;
+      up = serves.up;
+      later = le_trans kept.later serves.cause.later;
+    }
 
 module _ {old now : FileTree} (kept : IsKept old now) where
   pub kept-file : (number : ℕ) → file_at now.files number ≡ file_at old.files number
@@ -78,8 +81,10 @@ module _ {old now : FileTree} (kept : IsKept old now) where
         up = tt;
         down = serves.down;
         same_device = serves.same_device ∙ ap (λ (t : FileTree). t.identity) kept.same;
-        cause = record { later = le_trans first after;
-            failed = λ e. let rises = serves.cause.failed e in omega (arith, rises, first) };
+        cause = record {
+          later = le_trans first after;
+          failed = λ e. let rises = serves.cause.failed e in omega (arith, rises, first);
+        };
       }
 
 -- ---- the exit of a `?`
@@ -118,14 +123,14 @@ pub whole-read : {old new : FileTree} {number : ℕ} (at : ℕ) {out out' : List
     → at + length out ≤ length (file_at old.files number)
     → Serves old new (Ok k) (HasRead old new number at out out')
     → Serves {T = Unit {0}} old new (Ok tt)
-        (λ done. IsRead old new out' (part at (length out) (file_at old.files number)))
+    (λ done. IsRead old new out' (part at (length out) (file_at old.files number)))
 whole-read {old} {number} at {out} {out'} {k} file within serves =
     let bytes : file_at old.files number ≡ file.bytes = ap bytes_or_none file.here in
     let told = serves.told.1 (File file.links file.bytes) file.here in
     let count : k ≡ length out = omega (arith, told.0, within, ap length bytes) in
     let value : out' ≡ part at (length out) (file_at old.files number) = told.1
-            ∙ rw (count, drop_all (length out) out (omega arith), bytes) (append-nil (part at (length out) file.bytes))
-            in
+    ∙ rw (count, drop_all (length out) out (omega arith), bytes) (append-nil (part at (length out) file.bytes))
+    in
     kept-told (kept-one serves.told.0 serves) (record { same = serves.told.0; value = value })
 
 -- where what is loaded ends, by what a program header asks for
@@ -156,7 +161,7 @@ is-headed file header e =
     let front = take 64 file in
     let ok = ok-of (header_of front (length file)) e in
     let parts = accepted (number_at 4 0 front == 0x464C457F) (nat_le 64 (length file))
-            (is_within (number_at 8 32 front) (56 * number_at 2 56 front) (length file)) ok in
+    (is_within (number_at 8 32 front) (56 * number_at 2 56 front) (length file)) ok in
     record {
       is = ok;
       read = sym parts.0 ∙ header_in-part file;
@@ -180,7 +185,7 @@ program_by file o = option_map (λ (l : Loaded). record { header = header_in fil
 
 by-kind : (file : List ℕ) (l : Loaded) (g : Segment) (b : Bool) (o : Option ElfFault)
     → end_in (loaded_by file l g (if b then segment_if (segment_shown g) o else Ok None))
-        ≡ end_by l.end (if b then segment_if (segment_shown g) o else Ok None)
+    ≡ end_by l.end (if b then segment_if (segment_shown g) o else Ok None)
 by-kind file l g true None = refl
 by-kind file l g b o = refl
 
@@ -210,11 +215,11 @@ pub has-next : {file : List ℕ} {n at : ℕ} {l last : Loaded} → load_segment
 unfolding load_segments
 has-next {file} {n} {at} {l} {last} all =
     go (nat_le (at + 56) (length file)) (load_segment file l (segment_at file at)) refl all where
-  go : (b : Bool) (o : Option Loaded) → load_segment file l (segment_at file at) ≡ o
-      → (if b then option_and_then (λ next. load_segments file n (at + 56) next) o else None) ≡ Some last
-      → HasNext file n at l last
-  go true (Some next) loads rest = record { next = next; loads = loads; rest = rest }
-  go b o loads rest = absurd (none-some last rest)
+      go : (b : Bool) (o : Option Loaded) → load_segment file l (segment_at file at) ≡ o
+          → (if b then option_and_then (λ next. load_segments file n (at + 56) next) o else None) ≡ Some last
+          → HasNext file n at l last
+      go true (Some next) loads rest = record { next = next; loads = loads; rest = rest }
+      go b o loads rest = absurd (none-some last rest)
 
 -- a program header that is within the file with all others
 header-within : (at : ℕ) {count i len : ℕ} → is_within at (56 * count) len ≡ true → i < count → at + 56 * i + 56 ≤ len
@@ -230,8 +235,12 @@ pub record HasLoaded (old now : FileTree) (file : List ℕ) (count at i end : �
 abbrev pub none-loaded : (tree : FileTree) (file : List ℕ) (count at : ℕ) → tree.failed ≡ false
     → HasLoaded tree tree file count at 0 0
 none-loaded tree file count at up =
-    record { kept = kept-none tree up; loaded = nothing_loaded; ends = refl;
-    rest = let n : count - 0 ≡ count = omega arith in let a : at + 56 * 0 ≡ at = omega arith in rw (n, a) refl }
+    record {
+      kept = kept-none tree up;
+      loaded = nothing_loaded;
+      ends = refl;
+      rest = let n : count - 0 ≡ count = omega arith in let a : at + 56 * 0 ≡ at = omega arith in rw (n, a) refl;
+    }
 
 module _ {old now : FileTree} {file : List ℕ} {count at i end : ℕ} (has : HasLoaded old now file count at i end)
     (more : i < count) where
@@ -243,11 +252,11 @@ module _ {old now : FileTree} {file : List ℕ} {count at i end : ℕ} (has : Ha
   module _ (fits : is_within at (56 * count) (length file) ≡ true) where
     pub rest-is : (o : Option Loaded) → load_segment file has.loaded (segment_at file (at + 56 * i)) ≡ o
         → load_segments file count at nothing_loaded
-            ≡ option_and_then (λ next. load_segments file (count - (i + 1)) (at + 56 * (i + 1)) next) o
+        ≡ option_and_then (λ next. load_segments file (count - (i + 1)) (at + 56 * (i + 1)) next) o
     unfolding load_segments
     rest-is o e =
         let yes : nat_le (at + 56 * i + 56) (length file) ≡ true =
-                le-leb (at + 56 * i + 56) (length file) (header-within at fits more) in
+        le-leb (at + 56 * i + 56) (length file) (header-within at fits more) in
         let behind : at + 56 * i + 56 ≡ at + 56 * (i + 1) = omega arith in
         rest-next ∙ rw (yes, e, behind) refl
 
@@ -260,7 +269,7 @@ module _ {old now : FileTree} {file : List ℕ} {count at i end : ℕ} (has : Ha
 module _ {old now next : FileTree} {count at i end place : ℕ} {told : Option ℕ} (number : ℕ)
     (has : HasLoaded old now (file_at old.files number) count at i end) (more : i < count) (is : place ≡ at + 56 * i)
     (fits : is_within at (56 * count) (length (file_at old.files number)) ≡ true)
-        (serves : Serves now next (Ok told) (Tells now next (end_behind (file_at now.files number) place end))) where
+    (serves : Serves now next (Ok told) (Tells now next (end_behind (file_at now.files number) place end))) where
   abbrev bytes : List ℕ
   bytes = file_at old.files number
 
@@ -304,9 +313,12 @@ length-segment : (file : List ℕ) (count : ℕ) (g : Segment)
 unfolding segment_pages
 length-segment file count g =
     length-append (replicate (g.address / 4096 - count) (zero_page (segment_marks g)))
-        (pages_of (segment_marks g) (ceil_div g.size 4096) (slice_range file g.offset (g.offset + g.file_size)))
-    ∙ omega (arith, length-replicate (g.address / 4096 - count) (zero_page (segment_marks g)),
-        length-pages (segment_marks g) (ceil_div g.size 4096) (slice_range file g.offset (g.offset + g.file_size)))
+    (pages_of (segment_marks g) (ceil_div g.size 4096) (slice_range file g.offset (g.offset + g.file_size)))
+    ∙ omega (
+      arith,
+      length-replicate (g.address / 4096 - count) (zero_page (segment_marks g)),
+      length-pages (segment_marks g) (ceil_div g.size 4096) (slice_range file g.offset (g.offset + g.file_size)),
+    )
 
 pub whole-more : (file : List ℕ) (l : Loaded) (g : Segment) → IsWhole l → g.address % 4096 ≡ 0
     → 4096 * ceil_div l.end 4096 ≤ g.address → IsWhole (with_segment file l g)
@@ -324,9 +336,10 @@ grows-one file l {next} g loads = go (g.kind == 1) (may_follow file l.end g) ref
   go : (kind may : Bool) → may_follow file l.end g ≡ may
       → (if kind then (if may then Some (with_segment file l g) else None) else Some l) ≡ Some next → Grows l next
   go true true may is =
-      subst (Grows l) (same_Some (with_segment file l g) next is)
-      (λ whole. whole-more _ l g whole (grind (arith, nat_tests, may)) (grind (arith, nat_tests, may)),
-          omega (arith, length-append l.pages (segment_pages file (length l.pages) g)))
+      subst (Grows l) (same_Some (with_segment file l g) next is) (
+        λ whole. whole-more _ l g whole (grind (arith, nat_tests, may)) (grind (arith, nat_tests, may)),
+        omega (arith, length-append l.pages (segment_pages file (length l.pages) g)),
+      )
   go true false may is = absurd (none-some next is)
   go false b may is = subst (Grows l) (same_Some l next is) (λ whole. whole, omega arith)
 
@@ -363,7 +376,7 @@ module _ (file : List ℕ) (header : FileHeader) (head : headed file ≡ Some he
       let same : pages ≡ length last.0.pages = count ∙ ap (λ n. ceil_div n 4096) (sym last.2) ∙ sym whole in
       ap (λ n. Some (let p : Program = record { header = header; pages = n } in p)) same
       ∙ ap (λ h. Some (let p : Program = record { header = h; pages = length last.0.pages } in p))
-          ((is-headed file header head).read)
+      ((is-headed file header head).read)
       ∙ sym (ap (program_by file) (loads-is ∙ last.1))
 
 -- ---- the steps of `read_headers`
@@ -421,10 +434,13 @@ no-file s node here tells other = ap file_bytes here
 is-file : (s : InodeStat) {files : Files} {n : ℕ} (node : Node) → slot files n ≡ Some node → telling.Tells s node
     → s.kind ≡ 2 → IsFile files n × (s.size ≡ length (file_at files n))
     × (file_bytes (slot files n) ≡ Some (file_at files n))
-is-file s (File links held) here tells kind =
-    (record { links = links; bytes = held; here = here }, tells.2
-        ∙ ap (λ o. length (bytes_or_none o)) (sym here), ap file_bytes here
-        ∙ ap (λ o. Some (bytes_or_none o)) (sym here))
+is-file s (File links held) here tells kind = (
+  record { links = links; bytes = held; here = here },
+  tells.2
+      ∙ ap (λ o. length (bytes_or_none o)) (sym here),
+  ap file_bytes here
+      ∙ ap (λ o. Some (bytes_or_none o)) (sym here),
+)
 is-file s node here tells kind = absurd (omega (arith, tells.0, kind))
 
 module _ {old mid : FileTree} (number : ℕ) {s : InodeStat} (node : (n : Node) × (slot old.files number ≡ Some n))
@@ -454,6 +470,6 @@ module _ {old mid : FileTree} (number : ℕ) {s : InodeStat} (node : (n : Node) 
         → Serves old new r (TellsProgram old new (option_and_then program_in (file_bytes (slot old.files number))))
     program-served (Ok told) second =
         program-serves (kept-more seen-kept second.told.0.same second)
-            (second.told.0.value ∙ ap program_in (kept-file seen-kept _) ∙ sym (ap (option_and_then program_in) was.2))
-            second.told.1
+        (second.told.0.value ∙ ap program_in (kept-file seen-kept _) ∙ sym (ap (option_and_then program_in) was.2))
+        second.told.1
     program-served (Err fault) second = lost-then seen-kept second

@@ -32,7 +32,7 @@ follows-right : (g : LoadSegment) (end len count : ℕ) → wrong g end len ≡ 
     → Follows len count g
 follows-right g end len count right is =
     let tests = all-right (nat_le g.file_size g.size) (nat_lt (g.address + g.size) (2 ^ 64)) (g.address % 4096 == 0)
-            (nat_lt g.address end) (is_within g.offset g.file_size len) right in
+    (nat_lt g.address end) (is_within g.offset g.file_size len) right in
     let aligned : g.address % 4096 ≡ 0 = grind (arith, nat_tests, tests.2) in
     let over : end ≤ g.address = grind (arith, nat_tests, tests.3) in
     record {
@@ -77,22 +77,22 @@ module _ (file : List ℕ) (place : ℕ) (h : SpaceView) (end : ℕ) {told : Res
       let is : told ≡ Ok (Some g) = ok ∙ ap Ok there in
       let part = take 56 (drop place file) in
       let parts = taken-of ((segment_at part 0).kind == 1) {shown = segment_shown (segment_at part 0)} g
-              (wrong (segment_shown (segment_at part 0)) end (length file)) (sym read ∙ is) in
+      (wrong (segment_shown (segment_at part 0)) end (length file)) (sym read ∙ is) in
       let shown : g ≡ segment_shown (segment_at file place) = sym parts.0
-              ∙ ap segment_shown (segment_at-part file place) in
+      ∙ ap segment_shown (segment_at-part file place) in
       let follows = follows-right g end (length file) (length h.memory)
-              (ap (λ (x : LoadSegment). wrong x end (length file)) (sym parts.0) ∙ parts.1) whole in
+      (ap (λ (x : LoadSegment). wrong x end (length file)) (sym parts.0) ∙ parts.1) whole in
       let made : next ≡ with_segment file here (segment_at file place) =
-              sym (same_Some (with_segment file here (segment_at file place)) next (next-by {r = Ok (Some g)} is)) in
+      sym (same_Some (with_segment file here (segment_at file place)) next (next-by {r = Ok (Some g)} is)) in
       let stands : Follows (length file) (length h.memory) (segment_shown (segment_at file place)) =
-              subst (Follows (length file) (length h.memory)) shown follows in
+      subst (Follows (length file) (length h.memory)) shown follows in
       record {
         shown = shown;
         is = made;
         follows = follows;
         count = ap (λ (l : Loaded). length l.pages) made
             ∙ whole-more file here (segment_at file place) whole stands.aligned
-                (subst (λ n. 4096 * n ≤ (segment_at file place).address) whole stands.after)
+            (subst (λ n. 4096 * n ≤ (segment_at file place).address) whole stands.after)
             ∙ ap (λ (x : LoadSegment). ceil_div (x.address + x.size) 4096) (sym shown);
       }
 
@@ -107,7 +107,7 @@ module _ {old mid : FileTree} (s : Spaces) (at number place end : ℕ) (kept : I
     ap (λ (l : Loaded). l.end) is,
     self-held s at has
         ∙ ap (λ n. with_view s at (let h : SpaceView = record { memory = (view_at s at).memory; size = n } in h))
-            paged-so
+        paged-so
         ∙ ap (λ (l : Loaded). with_view s at (paged l.pages)) is,
   )
 
@@ -115,7 +115,7 @@ module _ {old mid : FileTree} (s : Spaces) (at number place end : ℕ) (kept : I
     -- it may be loaded
     pub fits-next : length next.pages < 2 ^ 32 → HasRoom s at (length next.pages)
         → Follows (length (file_at mid.files number)) (length (view_at s at).memory) g
-            × (ceil_div (g.address + g.size) 4096 < 2 ^ 32) × HasRoom s at (ceil_div (g.address + g.size) 4096)
+        × (ceil_div (g.address + g.size) 4096 < 2 ^ 32) × HasRoom s at (ceil_div (g.address + g.size) 4096)
     fits-next few room = rw (kept-file kept number, sym is.count) (is.follows, few, room)
 
     pub segment-next : {new : Spaces} → LoadsSegment (file_at mid.files number) s new at g
@@ -124,9 +124,9 @@ module _ {old mid : FileTree} (s : Spaces) (at number place end : ℕ) (kept : I
       ap (λ (x : LoadSegment). x.address + x.size) is.shown ∙ ap (λ (l : Loaded). l.end) (sym is.is),
       put (segment_at (file_at old.files number) place) is.shown
           ∙ ap (λ file. with_view s
-              at (paged ((view_at s at).memory
-              ++ segment_pages file (length (view_at s at).memory) (segment_at (file_at old.files number) place))))
-              (kept-file kept _)
+          at (paged ((view_at s at).memory
+          ++ segment_pages file (length (view_at s at).memory) (segment_at (file_at old.files number) place))))
+          (kept-file kept _)
           ∙ ap (λ (l : Loaded). with_view s at (paged l.pages)) (sym is.is),
     )
 
@@ -191,7 +191,7 @@ module _ {old now : FileTree} {before after : Spaces} {at number count place i e
     next-is is =
         let here = same-loaded (ap (λ (h : SpaceView). h.memory) held-now) (sym has.loads.ends) in
         rw (kept-file has.loads.kept number, is)
-            (ap (λ l. load_segment file l (segment_at file (place + 56 * i))) here ∙ then-next.loads)
+        (ap (λ l. load_segment file l (segment_at file (place + 56 * i))) here ∙ then-next.loads)
 
     pub next-now : {p : ℕ} → p ≡ place + 56 * i
         → (next : Loaded) × (next_in (file_at now.files number) p (view_at after at) end ≡ Some next)
@@ -203,13 +203,13 @@ module _ {old now : FileTree} {before after : Spaces} {at number count place i e
     pub loading-more : {next : FileTree} {put : Spaces} {told p : ℕ} → p ≡ place + 56 * i
         → Serves now next (Ok told) (Leaves now next)
         → ((l : Loaded) → next_in (file_at now.files number) p (view_at after at) end ≡ Some l
-            → (told ≡ l.end) × (put ≡ with_view after at (paged l.pages)))
-            → IsLoading old next before put at number count place (i + 1) told
+        → (told ≡ l.end) × (put ≡ with_view after at (paged l.pages)))
+        → IsLoading old next before put at number count place (i + 1) told
     loading-more is serves loaded =
         let next = then-next.next in
         let done = loaded next (next-is is) in
         let whole = (grows-one file has.loads.loaded (segment_at file (place + 56 * i)) then-next.loads).0
-                (has.whole ∙ ap (λ n. ceil_div n 4096) (sym has.loads.ends)) in
+        (has.whole ∙ ap (λ n. ceil_div n 4096) (sym has.loads.ends)) in
         record {
           loads = loaded-next has.loads more fits next (kept-more has.loads.kept serves.told serves) then-next.loads
               (sym done.0);
@@ -233,7 +233,7 @@ is-program file program some = go (loaded_of file) (header_of (take 64 file) (le
   go : (o : Option Loaded) (r : Result FileHeader ElfFault) → loaded_of file ≡ o
       → header_of (take 64 file) (length file) ≡ r
       → option_map (λ (l : Loaded). let p : Program = record { header = header_in file; pages = length l.pages } in p)
-          o ≡ Some program → IsProgram file program
+      o ≡ Some program → IsProgram file program
   go None r is head made = absurd (none-some program made)
   go (Some l) (Err fault) is head made = absurd (none-some l (sym (loads-header file ∙ ap (headers_by file) head) ∙ is))
   go (Some l) (Ok h) is head made =
@@ -241,8 +241,14 @@ is-program file program some = go (loaded_of file) (header_of (take 64 file) (le
       let headed-by = is-headed file h (ap unless_refused head) in
       let read : header_in file ≡ program.header = ap (λ (p : Program). p.header) same in
       let by : IsHeaded file program.header = subst (IsHeaded file) (headed-by.read ∙ read) headed-by in
-      record { loaded = l; is = is; read = sym read; pages = ap (λ (p : Program). p.pages) same;
-          loads = sym (loads-header file ∙ ap (headers_by file) by.is) ∙ is; within = by.within }
+      record {
+        loaded = l;
+        is = is;
+        read = sym read;
+        pages = ap (λ (p : Program). p.pages) same;
+        loads = sym (loads-header file ∙ ap (headers_by file) by.is) ∙ is;
+        within = by.within;
+      }
 
 module _ {old mid : FileTree} {number : ℕ} {stat : InodeStat} (file : IsFile old.files number)
     (serves : Serves old mid (Ok stat) (HasSeen old mid number)) where
@@ -264,8 +270,12 @@ module _ {old mid : FileTree} {number : ℕ} {stat : InodeStat} (file : IsFile o
     module _ (s : Spaces) {s1 : Spaces} (at : ℕ) (cleared : s1 ≡ with_view s at no_pages) where
       pub last-still : program.pages < 2 ^ 32 → HasRoom s at (program.pages + 2)
           → Last s1 at (file_at mid.files number) program.header.count program.header.program_headers
-      last-still few room = (is.loaded, loads-still, omega (arith, few, is.pages),
-          room-held s at _ cleared (omega (arith, is.pages)) room)
+      last-still few room = (
+        is.loaded,
+        loads-still,
+        omega (arith, few, is.pages),
+        room-held s at _ cleared (omega (arith, is.pages)) room,
+      )
 
       module _ (has : has_space s at ≡ true) {s2 : Spaces}
           (put : (l : Loaded) → load_segments (file_at mid.files number) program.header.count
@@ -282,9 +292,11 @@ module _ {old mid : FileTree} {number : ℕ} {stat : InodeStat} (file : IsFile o
             → (has_space s2 at ≡ true) × IsPaged (view_at s2 at) × HasRoom s2 at (length (view_at s2 at).memory + 2)
         stack-fits room =
             let long : length (view_at s2 at).memory ≡ program.pages = ap (λ (h : SpaceView). length h.memory) held-put
-                    ∙ is.pages in
-            (has-held s at _ all-put has, paged-held s at _ all-put has,
-                room-held s at _ all-put (omega (arith, long)) room)
+            ∙ is.pages in (
+              has-held s at _ all-put has,
+              paged-held s at _ all-put has,
+              room-held s at _ all-put (omega (arith, long)) room,
+            )
 
         pub stack-put : {s3 : Spaces} (page : List ℕ)
             → s3 ≡ with_view s2 at (paged (stacked (view_at s2 at).memory page)) → (l : Loaded)
@@ -366,8 +378,12 @@ has-program files n program some = go (slot files n) refl some where
       → HasProgram files n program
   go (Some (File links bytes)) here is =
       let made : program_in (file_at files n) ≡ Some program = rw here is in
-      record { file = record { links = links; bytes = bytes; here = here }; bytes = rw here refl; program_is = made;
-          is = is-program _ _ made }
+      record {
+        file = record { links = links; bytes = bytes; here = here };
+        bytes = rw here refl;
+        program_is = made;
+        is = is-program _ _ made;
+      }
   go o here is = absurd (none-some program is)
 
 module _ {old mid : FileTree} (number : ℕ) {told : Option Program}
@@ -411,7 +427,7 @@ module _ {files : Files} {n : ℕ} {program : Program} (of : HasProgram files n 
       → free < frames → (p : Plan) → plan_at files n mem argv ≡ Some p → s.frames < frames_beside s p
   over-frames are left over p is =
       let long : length p.memory ≡ program.pages + 2 =
-              plan-long (file_at files n) program of.is _ p (sym planned ∙ is) in
+      plan-long (file_at files n) program of.is _ p (sym planned ∙ is) in
       subst (λ k. s.frames < taken_frames s + 3 + page_frames k) (sym long) (omega (arith, are, left, over))
 
   -- the arguments can't be given
@@ -424,12 +440,12 @@ module _ {files : Files} {n : ℕ} {program : Program} (of : HasProgram files n 
       → frames ≡ 3 + page_frames (program.pages + 2) → free + taken_frames s ≡ s.frames → frames ≤ free
       → new ≡ with_view s at (paged (stacked of.is.loaded.pages a.page))
       → IsExecuted (plan_at files n mem argv) s new
-          at (record { pc = program.header.entry; count = a.count; sp = a.sp })
+      at (record { pc = program.header.entry; count = a.count; sp = a.sp })
   is-executed {a} passes are left enough put =
       let pages = of.is.loaded.pages in
       let long : length (stacked pages a.page) ≡ program.pages + 2 = length-stacked _ _ ∙ ap (λ k. k + 2) of.is.pages in
       let whole : 4096 * length (stacked pages a.page) ≡ 4096 * (length pages + 2) =
-              ap (λ k. 4096 * k) (length-stacked _ _) in
+      ap (λ k. 4096 * k) (length-stacked _ _) in
       record {
         plan = plan_with pages program.header.entry a;
         is = passed (Some a) passes;

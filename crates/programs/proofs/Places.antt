@@ -38,7 +38,7 @@ pub room-held : {new : Spaces} (s : Spaces) (at : ℕ) (h : SpaceView) {a b : �
 room-held s at h {a} {b} put less room =
     subst (λ (k : Spaces). HasRoom k at a) (sym put)
     (subst (λ (ps : List (Option SpaceView)). taken_frames (record s { places = ps }) + 4 + page_frames a ≤ s.frames)
-        (sym (set-set s.places at (Some h) None)) (room-less s at less room))
+    (sym (set-set s.places at (Some h) None)) (room-less s at less room))
 
 -- ---- a place
 
@@ -66,7 +66,7 @@ pub room-beside : (s : Spaces) (at n : ℕ) → has_space s at ≡ true → take
 room-beside s at n has enough =
     let placed = taken-placed s at None (space-within s at has) in
     let four : frames_in (slot s.places at) ≡ 4 + page_frames (length (view_at s at).memory) =
-            ap frames_in (sym (held-there s at has)) in
+    ap frames_in (sym (held-there s at has)) in
     omega (arith, enough, placed, four)
 
 -- ---- bytes of a file
@@ -108,18 +108,21 @@ module _ {old now : FileTree} {before after : Spaces} {at number offset address 
     pub filled-more : {next : FileTree} {more : Spaces} {l size : ℕ} → l ≡ size → done < count → done + l ≤ count
         → IsSized (view_at before at).memory → is_within offset count (length (file_at old.files number)) ≡ true
         → Serves {T = Unit {0}} now next (Ok tt) (Leaves now next)
-            → more ≡ with_bytes after at (address + done) (part (offset + done) l (file_at now.files number))
-            → HasRead old next before more at number offset address count (done + size)
+        → more ≡ with_bytes after at (address + done) (part (offset + done) l (file_at now.files number))
+        → HasRead old next before more at number offset address count (done + size)
     filled-more {next} {more} {l} is less fits sized within serves put =
         let here = file-read now.files number (offset + done) l in
         let long : l ≡ length (part (offset + done) l (file_at now.files number)) =
         sym (length-take-le l (drop (offset + done) (file_at now.files number))
-            (omega (arith, piece-within offset l within less fits,
-            length-drop (offset + done) (file_at now.files number),
-            ap (λ (t : FileTree). length (file_at t.files number)) has.same))) in
+        (omega (
+          arith,
+          piece-within offset l within less fits,
+          length-drop (offset + done) (file_at now.files number),
+          ap (λ (t : FileTree). length (file_at t.files number)) has.same,
+        ))) in
         subst (λ n. HasRead old next before more at number offset address count (done + n)) is
         (read-more has fits (record { same = serves.told; count = long ∙ ap length (sym here) }) space sized
-            serves.cause.later (put ∙ ap (with_bytes after at (address + done)) (sym here)))
+        serves.cause.later (put ∙ ap (with_bytes after at (address + done)) (sym here)))
 
 -- ---- a segment
 
@@ -155,7 +158,7 @@ filled-from marks (suc n) [] = empty-pages marks (suc n)
 filled-from marks (suc n) (b ∷ bs) =
     let page : Page = record { bytes = take 4096 (b ∷ bs) ++ zeros (4096 - length (b ∷ bs)); marks = marks } in
     ap (λ front. let p : Page = record { bytes = front; marks = marks } in p
-        ∷ write_from (replicate n (zero_page marks)) 0 (drop 4096 (b ∷ bs))) (first-page (b ∷ bs))
+    ∷ write_from (replicate n (zero_page marks)) 0 (drop 4096 (b ∷ bs))) (first-page (b ∷ bs))
     ∙ ap (λ ps. page ∷ ps) (filled-from _ n _)
 
 pub filled : (marks : Perm) (n : ℕ) (bytes : List ℕ)
@@ -165,7 +168,7 @@ filled marks n bytes = filled-from _ n _
 
 segment-filled : (file : List ℕ) (mem : Memory) (g : Segment) → g.address % 4096 ≡ 0 → 4096 * length mem ≤ g.address
     → write_bytes (mem ++ replicate (ceil_div (g.address + g.size) 4096 - length mem) (zero_page (segment_marks g)))
-        g.address (part g.offset g.file_size file) ≡ mem ++ segment_pages file (length mem) g
+    g.address (part g.offset g.file_size file) ≡ mem ++ segment_pages file (length mem) g
 unfolding segment_pages
 segment-filled file mem g aligned after =
     let z = zero_page (segment_marks g) in
@@ -174,7 +177,7 @@ segment-filled file mem g aligned after =
     let bytes = part g.offset g.file_size file in
     let all : ceil_div (g.address + g.size) 4096 - length mem ≡ gap + count = omega (arith, aligned, after) in
     let front : length (mem ++ replicate gap z) ≡ g.address / 4096 =
-            omega (arith, length-append mem (replicate gap z), length-replicate gap z, aligned, after) in
+    omega (arith, length-append mem (replicate gap z), length-replicate gap z, aligned, after) in
     let place : g.address ≡ 4096 * length (mem ++ replicate gap z) = omega (arith, front, aligned) in
     let taken : g.file_size ≡ g.offset + g.file_size - g.offset = omega arith in
     ap (λ n. write_bytes (mem ++ replicate n z) g.address bytes) all
@@ -193,7 +196,7 @@ with-written s at m address bytes has =
     ap (λ (h : SpaceView). with_view (with_view s at (paged m)) at (written h address bytes)) (is-held s at refl has)
     ∙ held-twice s at _ _
     ∙ ap (λ n. with_view s at (let h : SpaceView = record { memory = write_bytes m address bytes; size = 4096 * n }
-        in h)) (sym (length-write m _ _))
+    in h)) (sym (length-write m _ _))
 
 -- some space is left, in two steps
 pub left-held : {s1 s2 : Spaces} (s : Spaces) (at : ℕ) (h : SpaceView) → s1 ≡ with_view s at h
@@ -222,12 +225,12 @@ segment-in : (s : Spaces) {s1 s2 : Spaces} (at : ℕ) (file : List ℕ) (mem : M
     → has_space s at ≡ true → Follows (length file) (length mem) (segment_shown g)
     → count ≡ ceil_div (g.address + g.size) 4096 - length mem
     → s1 ≡ with_view s at (paged (mem ++ replicate count (zero_page (segment_marks g))))
-        → s2 ≡ with_bytes s1 at g.address (part g.offset g.file_size file)
-        → s2 ≡ with_view s at (paged (mem ++ segment_pages file (length mem) g))
+    → s2 ≡ with_bytes s1 at g.address (part g.offset g.file_size file)
+    → s2 ≡ with_view s at (paged (mem ++ segment_pages file (length mem) g))
 segment-in s at file mem g has follows is added put =
     put
     ∙ ap (λ (k : Spaces). with_bytes k at g.address (part g.offset g.file_size file))
-        (added ∙ ap (λ n. with_view s at (paged (mem ++ replicate n (zero_page (segment_marks g))))) is)
+    (added ∙ ap (λ n. with_view s at (paged (mem ++ replicate n (zero_page (segment_marks g))))) is)
     ∙ with-written s at _ _ _ has
     ∙ ap (λ (m : Memory). with_view s at (paged m)) (segment-filled _ _ g follows.aligned follows.after)
 
@@ -235,10 +238,10 @@ pub segment-loaded : (s : Spaces) {s1 : Spaces} (s2 : Spaces) (at : ℕ) (file :
     {shown : LoadSegment} → has_space s at ≡ true → Follows (length file) (length mem) shown
     → count ≡ ceil_div (shown.address + shown.size) 4096 - length mem
     → s1 ≡ with_view s at (paged (mem ++ replicate count (zero_page (marks_of shown))))
-        → (r : Result (Unit {0}) DeviceFault)
-        → OnOk r (s2 ≡ with_bytes s1 at shown.address (part shown.offset shown.file_size file))
+    → (r : Result (Unit {0}) DeviceFault)
+    → OnOk r (s2 ≡ with_bytes s1 at shown.address (part shown.offset shown.file_size file))
     → OnOk r ((g : Segment) → shown ≡ segment_shown g
-        → s2 ≡ with_view s at (paged (mem ++ segment_pages file (length mem) g)))
+    → s2 ≡ with_view s at (paged (mem ++ segment_pages file (length mem) g)))
 segment-loaded s s2 at file mem has follows is added (Err fault) put = tt
 segment-loaded s {s1} s2 at file mem {count} has follows is added (Ok done) put =
     λ g same. segment-in s at _ _ g has (rw same at follows) (rw same at is) (rw same at added) (rw same at put)
@@ -251,8 +254,8 @@ unfolding zeros
 page-over {page} whole =
     let all : 0 + length page ≡ 4096 = omega (arith, whole) in
     ap (λ n. page ++ drop n (zeros 4096)) all
-        ∙ ap (λ l. page ++ l) (drop_all 4096 (zeros 4096) (omega (arith, length-replicate {A = ℕ} 4096 0)))
-        ∙ append-nil page
+    ∙ ap (λ l. page ++ l) (drop_all 4096 (zeros 4096) (omega (arith, length-replicate {A = ℕ} 4096 0)))
+    ∙ append-nil page
 
 -- the guard page is there, and then the page of the stack
 pub one-longer : {s1 : Spaces} (s : Spaces) (at : ℕ) (z : Page) → has_space s at ≡ true
@@ -274,7 +277,7 @@ stack-added s {s2} at page address has is whole guard stack put =
     stack
     ∙ ap (λ (k : Spaces). with_view k at (paged ((view_at k at).memory ++ z ∷ []))) guard
     ∙ ap (λ (h : SpaceView). with_view (with_view s at (paged (mem ++ g ∷ []))) at (paged (h.memory ++ z ∷ [])))
-        (held-same s at _ (space-within s at has))
+    (held-same s at _ (space-within s at has))
     ∙ held-twice s at _ _
     ∙ ap (λ (m : Memory). with_view s at (paged m)) (append_assoc mem (g ∷ []) (z ∷ [])) in
     let place : address ≡ 4096 * (length mem + 1) + 0 = omega (arith, is) in

@@ -39,11 +39,11 @@ write-stack pages page at bytes some fits =
     let from : (4096 * (length pages + 1) + at) % 4096 ≡ at = omega (arith, some, fits) in
     let g = zero_page (stack_marks false) in
     let front : take (length pages + 1) (pages ++ g ∷ bottom page ∷ []) ≡ pages ++ g ∷ [] =
-            take-append-add pages (g ∷ bottom page ∷ []) 1 in
+    take-append-add pages (g ∷ bottom page ∷ []) 1 in
     let back : drop (length pages + 1) (pages ++ g ∷ bottom page ∷ []) ≡ bottom page ∷ [] =
-            drop-append-add pages (g ∷ bottom page ∷ []) 1 in
+    drop-append-add pages (g ∷ bottom page ∷ []) 1 in
     rw (in_page, from, front, back, write-one page at bytes some fits)
-        (append_assoc pages (g ∷ []) (bottom (overwrite page at bytes) ∷ []))
+    (append_assoc pages (g ∷ []) (bottom (overwrite page at bytes) ∷ []))
 
 -- ---- pushing
 
@@ -55,13 +55,13 @@ stack_with pages page top pointers =
 pushed : (pages : Memory) {old new : List ℕ} {top : ℕ} (pointers : List ℕ) {bytes : List ℕ} {place : ℕ} → top ≤ 4096
     → 0 < length bytes → HasPushed old new top bytes place
     → push (stack_with pages old top pointers) bytes
-        ≡ stack_with pages new place (pointers ++ (4096 * (length pages + 1) + place) ∷ [])
+    ≡ stack_with pages new place (pointers ++ (4096 * (length pages + 1) + place) ∷ [])
 unfolding push
 pushed pages {old} {top} pointers {bytes} {place} inside some has =
     let room = has.fits in
     let stands = has.stands in
     let sp : round_down (4096 * (length pages + 1) + top - length bytes) 16 ≡ 4096 * (length pages + 1) + place =
-            omega (arith, room, stands) in
+    omega (arith, room, stands) in
     rw (sp, write-stack pages old place bytes some (omega (arith, room, stands, inside)), ← has.page) refl
 
 -- what is pushed comes lower
@@ -95,15 +95,15 @@ refused-under pages pc argc s under =
 finishes : (pages : Memory) (pc : ℕ) (page : List ℕ) (top : ℕ) (pointers : List ℕ) {bytes : List ℕ} {spelled : List ℕ}
     {n count base : ℕ} → top ≤ 4096 → 0 < length bytes → spelled ≡ bytes → n ≡ count → base ≡ 4096 * (length pages + 1)
     → (r : Option Arguments) → Finishes page top spelled count base r
-        → finished (4096 * (length pages + 2)) pc n (push (stack_with pages page top pointers) bytes)
-        ≡ option_map (plan_with pages pc) r
+    → finished (4096 * (length pages + 2)) pc n (push (stack_with pages page top pointers) bytes)
+    ≡ option_map (plan_with pages pc) r
 finishes pages pc page top pointers {bytes} {n = n} inside some same number is None over =
     refused-under pages pc n (push (stack_with pages page top pointers) bytes)
-        (push-under pages page pointers bytes (omega (arith, over, ap length same)))
+    (push-under pages page pointers bytes (omega (arith, over, ap length same)))
 finishes pages pc page top pointers {bytes} {n = n} inside some same number is (Some a) made =
     let put : HasPushed page a.page top bytes made.0 = subst (λ l. HasPushed page a.page top l made.0) same made.1 in
     let yes : nat_le (4096 * (length pages + 2) - 4096) (4096 * (length pages + 1) + made.0) ≡ true =
-            le-leb _ _ (omega arith) in
+    le-leb _ _ (omega arith) in
     let sp : 4096 * (length pages + 1) + made.0 ≡ a.sp = omega (arith, made.2, is) in
     let argc : n ≡ a.count = omega (arith, made.3, number) in
     rw (pushed pages pointers inside some put, yes, argc, sp) refl
@@ -122,7 +122,7 @@ none-under : (pages : Memory) (pc i : ℕ) (s : Stack) → s.sp < 4096 * (length
 none-under pages pc i s under None = refl
 none-under pages pc i s under (Some args) =
     refused-under pages pc (i + length args) (push_pointers (push_strings s args))
-        (omega (arith, under, strings-low s args, pointers-low (push_strings s args)))
+    (omega (arith, under, strings-low s args, pointers-low (push_strings s args)))
 
 one-more : (pages : Memory) (pc i : ℕ) (s : Stack) (string : List ℕ) (args : List (List ℕ))
     → ends pages pc i s (string ∷ args) ≡ ends pages pc (i + 1) (push s (string ++ 0 ∷ [])) args
@@ -130,7 +130,7 @@ unfolding push_strings
 one-more pages pc i s string args =
     let n : i + length (string ∷ args) ≡ i + 1 + length args = omega arith in
     ap (λ k. finished (4096 * (length pages + 2)) pc k (push_pointers (push_strings (push s (string ++ 0 ∷ [])) args)))
-        n
+    n
 
 string-more : (pages : Memory) (pc i : ℕ) (s : Stack) (string : List ℕ) (rest : Option (List (List ℕ)))
     → option_and_then (ends pages pc i s) (and_then_strings (Some string) rest)
@@ -182,8 +182,8 @@ pub record IsPushing (mem : Memory) (argv count i top : ℕ) (page spelled : Lis
   pub spells : spelled ≡ flat_map (le 8) pointers ++ zeros (256 - 8 * i)
   pub rest : (pages : Memory) (pc : ℕ) → length pages ≡ count
       → option_and_then (with_args pages pc) (args_at mem argv)
-          ≡ option_and_then (ends pages pc i (stack_with pages page top pointers))
-          (args_from mem (32 - i) (drop (8 * i) (reach Load mem argv)))
+      ≡ option_and_then (ends pages pc i (stack_with pages page top pointers))
+      (args_from mem (32 - i) (drop (8 * i) (reach Load mem argv)))
 
 begins-some : (pages : Memory) (pc : ℕ) (args : List (List ℕ))
     → with_args pages pc args ≡ ends pages pc 0 (stack_with pages (zeros 4096) 4096 []) args
@@ -192,10 +192,10 @@ begins-some pages pc args =
     let n : length args ≡ 0 + length args = omega arith in
     let sp : 4096 * (length pages + 2) ≡ 4096 * (length pages + 1) + 4096 = omega arith in
     ap (λ k. finished (4096 * (length pages + 2)) pc k
-        (push_pointers (push_strings
-        (record { memory = with_stack pages; sp = 4096 * (length pages + 2); pointers = [] }) args))) n
+    (push_pointers (push_strings
+    (record { memory = with_stack pages; sp = 4096 * (length pages + 2); pointers = [] }) args))) n
     ∙ ap (λ a. finished (4096 * (length pages + 2)) pc (0 + length args)
-        (push_pointers (push_strings (record { memory = with_stack pages; sp = a; pointers = [] }) args))) sp
+    (push_pointers (push_strings (record { memory = with_stack pages; sp = a; pointers = [] }) args))) sp
 
 begins : (pages : Memory) (pc : ℕ) (o : Option (List (List ℕ)))
     → option_and_then (with_args pages pc) o
@@ -239,8 +239,12 @@ spelled-more ps {i} p count more =
     let long : length (flat_map (le 8) ps) ≡ 8 * i = omega (arith, length-pointers ps, count) in
     let behind : 8 * i + length (le 8 p) ≡ length (flat_map (le 8) ps) + 8 = omega (arith, long) in
     let left : 256 - 8 * i - 8 ≡ 256 - 8 * (i + 1) = omega arith in
-    rw (take_at (flat_map (le 8) ps) (zeros (256 - 8 * i)) (8 * i) long, behind,
-        drop-append-add (flat_map (le 8) ps) (zeros (256 - 8 * i)) 8, flat-more ps p)
+    rw (
+      take_at (flat_map (le 8) ps) (zeros (256 - 8 * i)) (8 * i) long,
+      behind,
+      drop-append-add (flat_map (le 8) ps) (zeros (256 - 8 * i)) 8,
+      flat-more ps p,
+    )
     (ap (λ l. (flat_map (le 8) ps ++ le 8 p) ++ l) (drop-replicate 8 _ 0 ∙ ap zeros left))
 
 -- the pointers and the 0 word
@@ -250,18 +254,18 @@ unfolding zeros
 spelled-all ps i count more =
     let long : 8 * i + 8 ≡ length (flat_map (le 8) ps) + 8 = omega (arith, length-pointers ps, count) in
     rw (long, take-append-add (flat_map (le 8) ps) (zeros (256 - 8 * i)) 8)
-        (ap (λ l. flat_map (le 8) ps ++ l) (take-replicate 8 _ 0 (omega (arith, more))))
+    (ap (λ l. flat_map (le 8) ps ++ l) (take-replicate 8 _ 0 (omega (arith, more))))
 
 -- the pointers behind all strings
 ends-all : (pages : Memory) (pc : ℕ) (page : List ℕ) (pointers : List ℕ) {spelled : List ℕ} {i top base : ℕ}
     → top ≤ 4096 → length pointers ≡ i → i < 32 → spelled ≡ flat_map (le 8) pointers ++ zeros (256 - 8 * i)
     → base ≡ 4096 * (length pages + 1)
     → (r : Option Arguments) → Finishes page top (take (8 * i + 8) spelled) i base r
-        → ends pages pc i (stack_with pages page top pointers) [] ≡ option_map (plan_with pages pc) r
+    → ends pages pc i (stack_with pages page top pointers) [] ≡ option_map (plan_with pages pc) r
 unfolding push_strings push_pointers
 ends-all pages pc page pointers {i = i} {top = top} inside few more spells is r made =
     finishes _ pc _ top _ inside (omega (arith, length-append (flat_map (le 8) pointers) (le 8 0)))
-        (ap (take (8 * i + 8)) spells ∙ spelled-all _ i few more) (omega arith) is r made
+    (ap (take (8 * i + 8)) spells ∙ spelled-all _ i few more) (omega arith) is r made
 
 -- ---- a step
 
@@ -305,7 +309,7 @@ module _ {mem : Memory} {argv count i top : ℕ} {page spelled : List ℕ} (size
     string-is pages pc e {o} is =
         let no : (w == 0) ≡ false = grind (arith, nat_tests, other) in
         let made : by_word mem (32 - (i + 1)) rest (Some w) ≡ and_then_strings o others =
-                rw (no, ← is) (words-more _ w _) in
+        rw (no, ← is) (words-more _ w _) in
         rw (rest-is pages pc e some, made) refl
 
     -- a string that can't be read, or isn't room for
@@ -326,18 +330,27 @@ module _ {mem : Memory} {argv count i top : ℕ} {page spelled : List ℕ} (size
         let was = has.inside in
         let long : 0 < length (made.0 ++ 0 ∷ []) = omega (arith, length-append made.0 (0 ∷ [])) in
         let next : drop 8 rest ≡ drop (8 * (i + 1)) (reach Load mem argv) = drop-drop 8 (8 * i) (reach Load mem argv)
-                ∙ ap (λ n. drop n (reach Load mem argv)) (omega arith) in
+        ∙ ap (λ n. drop n (reach Load mem argv)) (omega arith) in
         record {
           inside = omega (arith, was, stands);
-          reached = omega (arith, word-long rest w (word-is ∙ some), length-take 8 rest,
-              length-drop (8 * i) (reach Load mem argv));
+          reached = omega (
+            arith,
+            word-long rest w (word-is ∙ some),
+            length-take 8 rest,
+            length-drop (8 * i) (reach Load mem argv),
+          );
           pointers = has.pointers ++ (base + place) ∷ [];
           few = length-append has.pointers ((base + place) ∷ []) ∙ ap (λ n. n + 1) has.few;
           spells = put ∙ ap (λ l. overwrite l (8 * i) (le 8 (base + place))) has.spells ∙ spelled-more _ _ has.few more;
           rest = λ pages pc e.
               let same : 4096 * (length pages + 1) + place ≡ base + place = omega (arith, e, is) in
-              rw (string-is pages pc e made.1, string-more pages pc i (stack pages) made.0 others,
-                  pushed pages has.pointers was long made.2, same, next) refl;
+              rw (
+                string-is pages pc e made.1,
+                string-more pages pc i (stack pages) made.0 others,
+                pushed pages has.pointers was long made.2,
+                same,
+                next,
+              ) refl;
         }
 
 -- there are too many
@@ -359,7 +372,7 @@ single pages pc string = begins-some _ pc _ ∙ one-more _ pc 0 _ _ []
 pub one-refused : {bytes : List ℕ} {count : ℕ} → 4096 < length bytes → PassesOne bytes count None
 one-refused over string is pages pc e =
     single pages pc string ∙ none-under pages pc 1 (push (stack_with pages (zeros 4096) 4096 []) (string ++ 0 ∷ []))
-        (push-under pages (zeros 4096) [] (string ++ 0 ∷ []) (omega (arith, over, ap length is))) (Some [])
+    (push-under pages (zeros 4096) [] (string ++ 0 ∷ []) (omega (arith, over, ap length is))) (Some [])
 
 -- bytes that stand on the page, and their pointer
 pub one-passed : {bytes : List ℕ} (page spelled clear : List ℕ) {none : List ℕ} (top : ℕ) {count : ℕ} (base : ℕ)
@@ -368,14 +381,16 @@ pub one-passed : {bytes : List ℕ} (page spelled clear : List ℕ) {none : List
     → Finishes page top (take 16 spelled) 1 base r → PassesOne bytes count r
 one-passed page spelled clear top base r whole empty has put at made string is pages pc e =
     let pushed-here : HasPushed (zeros 4096) page 4096 (string ++ 0 ∷ []) top =
-            subst (λ l. HasPushed l page 4096 (string ++ 0 ∷ []) top) whole
-            (subst (λ l. HasPushed clear page 4096 l top) is has) in
+    subst (λ l. HasPushed l page 4096 (string ++ 0 ∷ []) top) whole
+    (subst (λ l. HasPushed clear page 4096 l top) is has) in
     let pointer = 4096 * (length pages + 1) + top in
     let stands = pushed-here.stands in
     let same : base + top ≡ pointer = omega (arith, at, e) in
     let spells : spelled ≡ flat_map (le 8) (pointer ∷ []) ++ zeros (256 - 8) = put
-            ∙ ap (λ l. overwrite l 0 (le 8 (base + top))) empty ∙ ap (λ p. overwrite (zeros 256) 0 (le 8 p)) same
-            ∙ spelled-more [] _ refl (omega arith) in
-    rw (single pages pc string,
-        pushed pages [] (omega arith) (omega (arith, length-append string (0 ∷ []))) pushed-here)
+    ∙ ap (λ l. overwrite l 0 (le 8 (base + top))) empty ∙ ap (λ p. overwrite (zeros 256) 0 (le 8 p)) same
+    ∙ spelled-more [] _ refl (omega arith) in
+    rw (
+      single pages pc string,
+      pushed pages [] (omega arith) (omega (arith, length-append string (0 ∷ []))) pushed-here,
+    )
     (ends-all _ pc _ _ (omega (arith, stands)) refl (omega arith) spells (omega (arith, at, e)) r made)

@@ -45,7 +45,7 @@ pub(crate) fn read_part<D: BlockDev>(
     requires file { IsFile tree.old.files number }
     requires within { at + length out.old ≤ length (file_of tree.old number) }
     ensures { Serves tree.old tree.new result
-            (λ done. IsRead tree.old tree.new out.new (part_of tree.old number at (length out.old))) }
+        (λ done. IsRead tree.old tree.new out.new (part_of tree.old number at (length out.old))) }
 {
     let _all = tree.read(number, at, out)?;
     Ok(())
@@ -83,7 +83,7 @@ pub(crate) fn read_segment<D: BlockDev>(
     requires long { len ≡ length (file_of tree.old number) }
     requires within { at + 56 ≤ len }
     ensures { Serves tree.old tree.new result
-            (Tells tree.old tree.new (segment_behind (file_of tree.old number) at end)) }
+        (Tells tree.old tree.new (segment_behind (file_of tree.old number) at end)) }
 {
     let mut bytes = [0; PROGRAM_HEADER_SIZE];
     read_part(tree, number, at, &mut bytes)?;

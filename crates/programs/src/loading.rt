@@ -79,7 +79,7 @@ fn fill_piece<D: BlockDev, T: Translate>(
     requires inside { address + length buffer.old ≤ 4096 * length (view_at spaces.old at).memory }
     ensures serves { Serves tree.old tree.new result (Leaves tree.old tree.new) }
     ensures filled { OnOk result
-            (spaces.new ≡ with_bytes spaces.old at address (part_of tree.old number offset (length buffer.old))) }
+        (spaces.new ≡ with_bytes spaces.old at address (part_of tree.old number offset (length buffer.old))) }
     ensures failed { OnErr result (spaces.new ≡ spaces.old) }
 {
     read_part(tree, number, offset, buffer)?;
@@ -105,7 +105,7 @@ fn fill_node<D: BlockDev, T: Translate>(
     requires inside { address + count ≤ 4096 * length (view_at spaces.old at).memory }
     ensures serves { Serves tree.old tree.new result (Leaves tree.old tree.new) }
     ensures filled { OnOk result
-            (spaces.new ≡ with_bytes spaces.old at address (part_of tree.old number offset count)) }
+        (spaces.new ≡ with_bytes spaces.old at address (part_of tree.old number offset count)) }
     ensures failed { OnErr result ((held : SpaceView) × (spaces.new ≡ with_view spaces.old at held)) }
 {
     spaces.pages_are_whole(at);
@@ -179,7 +179,7 @@ fn load_next<D: BlockDev, T: Translate>(
     requires next { MayLoad spaces.old at (next_in (file_of tree.old number) place (view_at spaces.old at) end) }
     ensures serves { Serves tree.old tree.new result (Leaves tree.old tree.new) }
     ensures loaded { IfOk result
-            (LoadsTo spaces.old spaces.new at (next_in (file_of tree.old number) place (view_at spaces.old at) end)) }
+        (LoadsTo spaces.old spaces.new at (next_in (file_of tree.old number) place (view_at spaces.old at) end)) }
     ensures failed { OnErr result ((held : SpaceView) × (spaces.new ≡ with_view spaces.old at held)) }
 {
     match read_segment(tree, number, place, end, len)? {
@@ -251,7 +251,7 @@ pub fn load<D: BlockDev, T: Translate>(
     requires room { HasRoom spaces.old at (program.now.pages + 2) }
     ensures serves { Serves tree.old tree.new result (Leaves tree.old tree.new) }
     ensures loaded { OnOk result
-            (LoadsWithStack spaces.old spaces.new at (loaded_of (file_of tree.old number)) arguments.now.page) }
+        (LoadsWithStack spaces.old spaces.new at (loaded_of (file_of tree.old number)) arguments.now.page) }
     ensures failed { OnErr result ((held : SpaceView) × (spaces.new ≡ with_view spaces.old at held)) }
 {
     clear(spaces, at);

@@ -28,22 +28,27 @@ pub length-put_bytes : (xs : List ℕ) (o : ℕ) (bs : List ℕ) → o + length 
     → length (put_bytes xs o bs) ≡ length xs
 unfolding put_bytes
 length-put_bytes xs o bs h =
-    omega (arith, length-append (take o xs) (bs ++ drop (o + length bs) xs),
-        length-append bs (drop (o + length bs) xs), length-take-le o xs (omega arith), length-drop (o + length bs) xs)
+    omega (
+      arith,
+      length-append (take o xs) (bs ++ drop (o + length bs) xs),
+      length-append bs (drop (o + length bs) xs),
+      length-take-le o xs (omega arith),
+      length-drop (o + length bs) xs,
+    )
 
 pub get_or-put_bytes_below : (xs : List ℕ) (o : ℕ) (bs : List ℕ) (k d : ℕ) → o + length bs ≤ length xs → k < o
     → get_or (put_bytes xs o bs) k d ≡ get_or xs k d
 unfolding put_bytes
 get_or-put_bytes_below xs o bs k d h lt =
     get_or_append_left (take o xs) (bs ++ drop (o + length bs) xs) d k
-        (omega (arith, length-take-le o xs (omega arith))) ∙ get_or-take o xs k d lt
+    (omega (arith, length-take-le o xs (omega arith))) ∙ get_or-take o xs k d lt
 
 pub get_or-put_bytes_above : (xs : List ℕ) (o : ℕ) (bs : List ℕ) (k d : ℕ) → o + length bs ≤ length xs
     → o + length bs ≤ k → get_or (put_bytes xs o bs) k d ≡ get_or xs k d
 unfolding put_bytes
 get_or-put_bytes_above xs o bs k d h le =
     get_or-append_right (take o xs) (bs ++ drop (o + length bs) xs) o k d (length-take-le o xs (omega arith))
-        (omega arith)
+    (omega arith)
     ∙ get_or-append_right bs (drop (o + length bs) xs) (length bs) (k - o) d refl (omega arith)
     ∙ get_or-drop (o + length bs) xs (k - o - length bs) d
     ∙ ap (λ j. get_or xs j d) (let e : o + length bs + (k - o - length bs) ≡ k = omega arith in e)
@@ -59,7 +64,7 @@ number-same : (n o : ℕ) (xs ys : List ℕ) → ((k : ℕ) → o ≤ k → k < 
     → little_number n (drop o xs) ≡ little_number n (drop o ys)
 number-same n o xs ys h =
     go-same 0 n (drop o xs) (drop o ys)
-        (λ k a b. get_or-drop o xs k 0 ∙ h (o + k) (omega arith) (omega arith) ∙ sym (get_or-drop o ys k 0))
+    (λ k a b. get_or-drop o xs k 0 ∙ h (o + k) (omega arith) (omega arith) ∙ sym (get_or-drop o ys k 0))
 
 pub word_of-frame : (m n : Ram) (f g o k : ℕ) → frame_of m f ≡ frame_of n g → word_of m f o k ≡ word_of n g o k
 unfolding word_of
@@ -103,8 +108,8 @@ word_of-put_same m f o n x is h fits small =
     let full : length (frame_of m f) ≡ 4096 = is.sized f h in
     ap (λ y. little_number n (drop o y)) (frame_of-put_same m f o bs h)
     ∙ ap (λ y. little_number n y)
-        (drop_at (take o (frame_of m f)) (bs ++ drop (o + length bs) (frame_of m f)) o
-        (length-take-le o (frame_of m f) (omega arith)))
+    (drop_at (take o (frame_of m f)) (bs ++ drop (o + length bs) (frame_of m f)) o
+    (length-take-le o (frame_of m f) (omega arith)))
     ∙ little_number-reads_back n x (drop (o + length bs) (frame_of m f)) small
 
 pub IsMemory-set : (m : Ram) (f : ℕ) (w : List ℕ) → IsMemory m → length w ≡ 4096 → IsMemory (set m f w)
@@ -193,19 +198,25 @@ length-zeros = length-replicate {A = ℕ} 4096 0
 pub put-view : (m v : Ram) (f a : ℕ) (q r part bs : List ℕ) → map sized m ≡ v → f < length v → q ≡ get_or m f q
     → r ≡ get_or m f r → length q ≡ 4096 → a + length bs ≤ 4096
     → part ≡ bs ++ drop (length bs) (take (4096 - a) (drop a r))
-        → map sized (set m f (take a r ++ (part ++ post_of a (4096 - a) r))) ≡ put v f a bs
+    → map sized (set m f (take a r ++ (part ++ post_of a (4096 - a) r))) ≡ put v f a bs
 unfolding put put_bytes
 put-view m v f a q r part bs is h once again size fits given =
     let both = frame-read m is f q r h once again size in
     let full = both.0 in
     let read = both.1 in
     let e : part ≡ bs ++ drop (length bs) (drop a r) = given
-            ∙ ap (λ x. bs ++ drop (length bs) x) (take_all (4096 - a) (drop a r) (omega (arith, length-drop a r))) in
+    ∙ ap (λ x. bs ++ drop (length bs) x) (take_all (4096 - a) (drop a r) (omega (arith, length-drop a r))) in
     let rest : post_of a (4096 - a) r ≡ [] = drop_all (4096 - a) (drop a r) (omega (arith, length-drop a r)) in
     let whole : length (take a r ++ (part ++ post_of a (4096 - a) r)) ≡ 4096 =
-    rw (rest, e) (omega (arith, length-append (take a r) ((bs ++ drop (length bs) (drop a r)) ++ []),
-        length-append (bs ++ drop (length bs) (drop a r)) [], length-append bs (drop (length bs) (drop a r)),
-        length-take-le a r (omega arith), length-drop (length bs) (drop a r), length-drop a r)) in
+    rw (rest, e) (omega (
+      arith,
+      length-append (take a r) ((bs ++ drop (length bs) (drop a r)) ++ []),
+      length-append (bs ++ drop (length bs) (drop a r)) [],
+      length-append bs (drop (length bs) (drop a r)),
+      length-take-le a r (omega arith),
+      length-drop (length bs) (drop a r),
+      length-drop a r,
+    )) in
     let new : take a r ++ (part ++ post_of a (4096 - a) r) ≡ put_bytes (frame_of v f) a bs =
     rw (rest, append-nil, e, drop-drop, ← read) refl in
     set-view_full m is f (take a r ++ (part ++ post_of a (4096 - a) r)) whole ∙ ap (λ w. set v f w) new
@@ -260,8 +271,8 @@ module _ (m : Ram) {v : Ram} (is : map sized m ≡ v) where
   copied-view n from i to j len h g fit room e whole full =
       let part = λ (x : List ℕ). slice_range x i (i + len) in
       let size : length (part (frame_of m from)) ≡ i + len - i =
-              length-take-le (i + len - i) (drop i (frame_of m from)) (omega (arith, length-drop i (frame_of m from)))
-              in
+      length-take-le (i + len - i) (drop i (frame_of m from)) (omega (arith, length-drop i (frame_of m from)))
+      in
       let new : length (put_bytes (frame_of m to) j (part (frame_of m from))) ≡ 4096 =
       length-put_bytes (frame_of m to) j (part (frame_of m from)) (omega arith) ∙ full in
       ap (map sized) e
@@ -296,7 +307,7 @@ part-stored : (a k m : ℕ) (xs ys : List ℕ) → length ys ≡ k → a + k ≤
     → take m (put_mid a k xs (put_chunk 0 (mid_of a k xs) ys)) ≡ take a xs ++ ys
 part-stored a k m xs ys size fits end =
     let whole : put_chunk 0 (mid_of a k xs) ys ≡ ys =
-            put_chunk_whole (mid_of a k xs) ys (length-chunk a k xs fits ∙ sym size) in
+    put_chunk_whole (mid_of a k xs) ys (length-chunk a k xs fits ∙ sym size) in
     let before : length (take a xs) ≡ a = length-take-le a xs (omega arith) in
     ap (λ (w : List ℕ). take m (take a xs ++ (w ++ post_of a k xs))) whole
     ∙ ap (take m) (sym (append_assoc (take a xs) ys (post_of a k xs)))

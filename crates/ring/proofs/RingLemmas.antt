@@ -30,7 +30,7 @@ ring-append room xs k (suc n) m zero h = absurd (omega arith)
 ring-append room xs k (suc n) m (suc t) h =
     let a : k + 1 + n ≡ k + suc n = omega arith in
     ap (λ l. get_or xs (k % room) 0 ∷ l)
-        (ring-append room xs (k + 1) n m t (omega arith) ∙ ap (λ j. ring room xs (k + 1) n ++ ring room xs j m) a)
+    (ring-append room xs (k + 1) n m t (omega arith) ∙ ap (λ j. ring room xs (k + 1) n ++ ring room xs j m) a)
 
 -- parts are the same where their places hold the same
 pub ring-same : (room : ℕ) (xs ys : List ℕ) (k j n : ℕ)
@@ -55,7 +55,7 @@ ring-around room xs k m n =
     let a : k % room + m + i ≡ k % room + (m + i) = omega arith in
     let b : k + (m + i) ≡ k + m + i = omega arith in
     ap (λ i. get_or xs (i % room) 0) (a) ∙ ap (λ i. get_or xs i 0) (mod-add-mod k room (m + i))
-        ∙ ap (λ i. get_or xs (i % room) 0) b)
+    ∙ ap (λ i. get_or xs (i % room) 0) b)
 
 -- a place below twice the room wraps once at most
 wraps_once : (room j : ℕ) → j < room + room → ((j < room) × (j % room ≡ j)) ⊎ ((room ≤ j) × (j % room ≡ j - room))
@@ -78,8 +78,8 @@ pub ring-set_behind : (room : ℕ) (xs : List ℕ) (k n at b : ℕ) → k + n �
     → ring room (set xs (at % room) b) k n ≡ ring room xs k n
 ring-set_behind room xs k n at b low near h =
     ring-same room (set xs (at % room) b) xs k k n
-        (λ i l. get_or-set_other xs (at % room) ((k + i) % room) b 0
-        (places-apart room (k + i) at (omega arith) (omega arith) h))
+    (λ i l. get_or-set_other xs (at % room) ((k + i) % room) b 0
+    (places-apart room (k + i) at (omega arith) (omega arith) h))
 
 -- a byte that is written right behind a part makes it longer
 pub ring-push : (room : ℕ) (xs : List ℕ) (k n at b : ℕ) → room ≤ length xs → at ≡ k + n → n < room → at < room + room
@@ -91,7 +91,7 @@ ring-push room xs k n at b full e fits h =
     ∙ ap₂ ◌++◌
     (ring-set_behind room xs k n at b (omega arith) (omega arith) h)
     (ap (λ i. get_or (set xs (at % room) b) (i % room) 0 ∷ []) (sym e)
-        ∙ ap (λ x. x ∷ []) (get_or-set_same xs (at % room) b 0 inside))
+    ∙ ap (λ x. x ∷ []) (get_or-set_same xs (at % room) b 0 inside))
 
 pub none-ring : (room : ℕ) (xs : List ℕ) (k n : ℕ) → n ≡ 0 → slice_get (ring room xs k n) 0 ≡ None
 unfolding ring

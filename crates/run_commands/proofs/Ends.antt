@@ -109,7 +109,7 @@ pub plays-through : (old new : View) (from before to mid after : Option (List �
 plays-through old new from before to mid after e f keeps events rising ended written up k =
     plays-out old new before mid after keeps events rising ended written up
     (subst (λ b. RunGives old new events b mid rising ended) e
-        (subst (λ t. RunGives old new events from t rising ended) f k))
+    (subst (λ t. RunGives old new events from t rising ended) f k))
 
 -- ---- what is left
 
@@ -124,7 +124,7 @@ module _ {D : Type 0} (content : D → List (List ℕ)) (identity : D → List �
   pub leaves-saved : (end : End) (disk : D) → saves ≡ true → status_of end ≡ 0
       → PlaysOut first last events before after end
       → SaveGives content identity count last (Ok disk)
-          → Leaves content identity count first events before after saves end (Some disk)
+      → Leaves content identity count first events before after saves end (Some disk)
   leaves-saved Running disk is zero k s = played None (Some disk) k (rw is s)
   leaves-saved (Halted (halt.InitEnded status)) disk is zero k s = played (Some status) (Some disk) k (rw is s)
   leaves-saved _ disk is zero k s = absurd (cc)
@@ -140,7 +140,7 @@ module _ {D : Type 0} (content : D → List (List ℕ)) (identity : D → List �
   pub leaves-unsaved : (end : End) (why : Halt) → saves ≡ true → status_of end ≡ 0
       → PlaysOut first last events before after end
       → SaveGives content identity count last (Err why)
-          → Leaves content identity count first events before after saves (Halted why) None
+      → Leaves content identity count first events before after saves (Halted why) None
   leaves-unsaved end halt.Device is zero k s =
       let done = all-done end zero k in
       (refl, (last, inr (record { wanted = is; halted = done.0; done = done.1; lost = s })))
@@ -158,8 +158,8 @@ module _ {D : Type 0} (identity : D → List ℕ) (count : D → ℕ) (fail : Op
       (saves : Bool) (end : End) (kept : Option (Failing D)) (disk' : Option D)
       → option_map (λ (d : Failing D). d.device) kept ≡ disk'
       → IsImageRun (λ (d : Failing D). content d.device) (failing_identity identity) (failing_count count) failing
-          frames events before after saves end kept
-          → IsRunWith content identity count fail disk frames events before after saves end disk'
+      frames events before after saves end kept
+      → IsRunWith content identity count fail disk frames events before after saves end disk'
   runs-failing content frames events before after saves end kept disk' inner runs = rw is (record {
     failing = kept;
     inner = inner;

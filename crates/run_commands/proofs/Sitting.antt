@@ -48,7 +48,7 @@ ended-as {fails} {end} ended P written has sound fault = by-count fails refl
 module _ {quantum : ℕ} {gives later : Option (List Given)} {kept keeps : Option (List Event)} {old new : View}
     {from before to mid after : Option (List ℕ)} {failed fails : ℕ} {ended : Result (Unit {0}) Halt}
     (e : from ≡ before) (f : to ≡ mid) (same : Keeps mid after) (none : failed ≡ 0) (up : IsUp old)
-        (h : IsSession quantum gives later old new from to failed fails kept keeps ended) where
+    (h : IsSession quantum gives later old new from to failed fails kept keeps ended) where
   sits-with : (written : Bool) → (written ≡ true → fails ≡ 0)
       → SitsOut quantum gives later kept keeps old new before after (end_of ended written)
   sits-with written sound = record {
@@ -69,7 +69,7 @@ module _ {quantum : ℕ} {gives later : Option (List Given)} {kept keeps : Optio
 module _ {kept keeps : Option (List Event)} {old new : View} {from before to mid after : Option (List ℕ)}
     {failed fails : ℕ} {ended : Result (Unit {0}) Halt}
     (e : from ≡ before) (f : to ≡ mid) (same : Keeps mid after) (up : IsUp old)
-        (h : IsPlayed old new from to failed fails kept keeps ended) where
+    (h : IsPlayed old new from to failed fails kept keeps ended) where
   played-with : (written : Bool) → (written ≡ true → fails ≡ 0)
       → PlayedOut kept keeps old new before after (end_of ended written)
   played-with written sound = record {

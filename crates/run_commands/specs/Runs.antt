@@ -71,8 +71,8 @@ abbrev pub LeavesOf : {D : Type 0} → (D → List (List ℕ)) → (D → List �
     → Type 0
 LeavesOf content identity count last saves ended end disk =
     (first : View) (events : List Event) (before after : Option (List ℕ))
-        → PlaysOut first last events before after ended
-        → Leaves content identity count first events before after saves end disk
+    → PlaysOut first last events before after ended
+    → Leaves content identity count first events before after saves end disk
 
 -- a machine boots from the disk, and the events leave this
 pub record IsImageRun {D : Type 0} (content : D → List (List ℕ)) (identity : D → List ℕ) (count : D → ℕ) (disk : D)
@@ -113,7 +113,7 @@ abbrev pub IsUnbootedWith : {D : Type 0} → (D → List ℕ) → (D → ℕ) �
 IsUnbootedWith identity count None disk image frames fault = IsUnbooted identity count disk image frames fault
 IsUnbootedWith identity count (Some n) disk image frames fault =
     IsUnbooted (failing_identity identity) (failing_count count) (record { device = disk; left = non_zero_u64_get n })
-        image frames fault
+    image frames fault
 
 -- a machine boots a flat program, and the events end so
 pub record IsFlatRun (program : List ℕ) (frames : ℕ) (events : List Event) (before after : Option (List ℕ)) (end : End)
@@ -137,13 +137,13 @@ abbrev pub ImageRuns : {D W : Type 0} → (D → List (List ℕ)) → (D → Lis
     → List Event → W → Ran D W → Type 0
 ImageRuns content identity count contents disk words events out ran =
     IsImageRun content identity count disk words.frames events (contents out) (contents ran.stdout)
-        (is_some words.save) ran.end ran.disk
+    (is_some words.save) ran.end ran.disk
 
 abbrev pub RunsWith : {D W : Type 0} → (D → List (List ℕ)) → (D → List ℕ) → (D → ℕ) → (W → Option (List ℕ)) → D → Run
     → List Event → W → Ran D W → Type 0
 RunsWith content identity count contents disk words events out ran =
     IsRunWith content identity count words.fail disk words.frames events (contents out) (contents ran.stdout)
-        (is_some words.save) ran.end ran.disk
+    (is_some words.save) ran.end ran.disk
 
 abbrev pub RefusesWith : {D : Type 0} → (D → List (List ℕ)) → (D → List ℕ) → (D → ℕ) → D → Run → BootFault → Type 0
 RefusesWith content identity count disk words fault =

@@ -54,13 +54,13 @@ abbrev pub SitsOutTo : {W S : Type 0} → (W → Option (List ℕ)) → (S → O
     → ℕ → S → S → View → View → W → End × W → Type 0
 SitsOutTo contents gives kept quantum before after old new out told =
     SitsOut quantum (gives before) (gives after) (kept before) (kept after) old new (contents out) (contents told.1)
-        told.0
+    told.0
 
 abbrev pub SatTo : {D W S : Type 0} → (D → List (List ℕ)) → (D → List ℕ) → (D → ℕ) → (W → Option (List ℕ))
     → (S → Option (List Given)) → (S → Option (List Event)) → ℕ → S → S → View → W → Bool → Ran D W → Type 0
 SatTo content identity count contents gives kept quantum before after old out saves ran =
     IsSat content identity count quantum (gives before) (gives after) (kept before) (kept after) old (contents out)
-        (contents ran.stdout) saves ran.end ran.disk
+    (contents ran.stdout) saves ran.end ran.disk
 
 abbrev pub PlaysOutTo : {W R : Type 0} → (W → Option (List ℕ)) → (R → Option (List Event)) → R → R → View → View → W
     → W → End → Type 0

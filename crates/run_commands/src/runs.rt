@@ -71,7 +71,7 @@ fn play_out<D: BlockDev, T: Translate, V: Watch, W: Write>(
 ) -> (End, W)
     requires { IsUp machine.old }
     ensures { PlaysOut machine.old machine.new (script_events script.now) (W.contents stdout) (W.contents result.1)
-            result.0 }
+        result.0 }
 {
     let mut out = Writer::new(stdout);
     let ended = play(machine, script, watch, &mut out);
@@ -109,7 +109,7 @@ fn run_machine<D: BlockDev, T: Translate, V: Watch, W: Write>(
 ) -> Ran<D, W>
     requires { IsUp machine }
     ensures { RunLeaves D.content D.identity D.failures W.contents machine (script_events script.now) stdout saves
-            result }
+        result }
 {
     let (end, stdout) = play_out(&mut machine, script, watch, stdout);
     let (end, disk) = leave(machine, saves, end);
@@ -146,9 +146,9 @@ fn run_disk<D: BlockDev, T: Translate, V: Watch, W: Write + Drop>(
     stdout: W,
 ) -> Result<Ran<D, W>, BootFault>
     ensures ran { IfOk result
-            (ImageRuns D.content D.identity D.failures W.contents disk words.now (script_events script.now) stdout) }
+        (ImageRuns D.content D.identity D.failures W.contents disk words.now (script_events script.now) stdout) }
     ensures refused { IfErr result
-            (IsUnbooted D.identity D.failures disk (image_of (D.content disk)) words.now.frames) }
+        (IsUnbooted D.identity D.failures disk (image_of (D.content disk)) words.now.frames) }
 {
     let machine = boot(alloc, disk, translator, words.frames)?;
     Ok(run_machine(machine, script, words.save.is_some(), watch, stdout))
@@ -172,7 +172,7 @@ fn run_with<D: BlockDev, T: Translate, V: Watch, W: Write + Drop>(
     stdout: W,
 ) -> Result<Ran<D, W>, BootFault>
     ensures ran { IfOk result
-            (RunsWith D.content D.identity D.failures W.contents disk words.now (script_events script.now) stdout) }
+        (RunsWith D.content D.identity D.failures W.contents disk words.now (script_events script.now) stdout) }
     ensures refused { IfErr result (RefusesWith D.content D.identity D.failures disk words.now) }
 {
     let Some(n) = words.fail else {

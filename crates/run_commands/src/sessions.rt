@@ -53,7 +53,7 @@ fn sit_out<D: BlockDev, T: Translate, S: Terminal, W: Write>(
 ) -> (End, W)
     requires { IsUp machine.old }
     ensures { SitsOutTo W.contents S.gives S.kept quantum terminal.old terminal.new machine.old machine.new stdout
-            result }
+        result }
 {
     let mut out = Writer::new(stdout);
     let ended = session(machine, quantum, terminal, &mut out);

@@ -39,8 +39,13 @@ record Found (test : ℕ → Bool) (at : ℕ → ℕ) (a j : ℕ) : Type 0 where
 found-here : {test : ℕ → Bool} {at : ℕ → ℕ} {j : ℕ} (a : ℕ) (b : Bool) (rest : Option ℕ) → test (at a) ≡ b
     → (if b then Some (at a) else rest) ≡ Some j → (rest ≡ Some j → Found test at (a + 1) j) → Found test at a j
 found-here {at} {j} a true rest e is later =
-    record { number = a; from = omega arith; is = same_Some (at a) j is; passes = e;
-    first = λ k low less. absurd (omega (arith, low, less)) }
+    record {
+      number = a;
+      from = omega arith;
+      is = same_Some (at a) j is;
+      passes = e;
+      first = λ k low less. absurd (omega (arith, low, less));
+    }
 found-here {test} {at} a false rest e is later =
     let next = later is in
     let from : a + 1 ≤ next.number = next.from in
@@ -74,9 +79,11 @@ picked-nearer s i j last place picked is other =
     let m : ℕ = first.number in
     let at : (s.last + m) % 64 ≡ j = first.is in
     let low : 1 ≤ m = first.from in
-    let high : m ≤ k = elim (cases_lt k m)
-            [ inl less ↦ absurd (let bad : false ≡ true = sym (first.first k (omega arith) less) ∙ ap (ready s) here
-            ∙ is in cc) | inr le ↦ le ] in
+    let high : m ≤ k = elim (cases_lt k m) [
+      | inl less ↦ absurd (let bad : false ≡ true = sym (first.first k (omega arith) less) ∙ ap (ready s) here
+          ∙ is in cc)
+      | inr le ↦ le
+    ] in
     let apart : m ≢ k = λ e. other (sym at ∙ ap (λ x. (s.last + x) % 64) e ∙ here) in
     nearer s.last i m j last place low high apart at
   where
@@ -116,7 +123,7 @@ settle-passes r s Refused yields = spares-passes (changed-spares r s _)
 settle-passes r s (Done new answer bytes) yields =
     let done = change_process new r (with_answer answer) in
     leaves-then passed-same (leaves-then passed-same yields (changed-spares r new (with_answer answer)))
-        (end_if_killed-spares r done (process_at done r))
+    (end_if_killed-spares r done (process_at done r))
 settle-passes r s (Waits new w) yields =
     leaves-then passed-same yields (reap-spares (changed-spares r new (with_mode (Waiting w))))
 settle-passes r s (Ends new status) yields =
@@ -169,7 +176,7 @@ module _ (s : State) (r : ℕ) (p : Process) where
   picked-passes : Passes r s (picked s r p).state
   picked-passes =
       by-test (λ (a : After). Passes r s a.state) p.killed (quiet (end_process s r p (negsuc 0)))
-          (picked_in s r p p.mode) (end-passes (negsuc 0)) (picked-in-passes p.mode)
+      (picked_in s r p p.mode) (end-passes (negsuc 0)) (picked-in-passes p.mode)
 
 -- An event that picks this place, or none: that is the place picked last then, and processes that don't run and aren't
 -- picked are left.
@@ -185,7 +192,7 @@ takes-none {s} {r} runs passes = record {
   last = passes.last;
   left = λ i p here still other.
       let apart : i ≢ r = λ e. let both : true ≡ false = sym (runs p (ap (process_at s) (sym e) ∙ here))
-              ∙ still in absurd (cc) in
+      ∙ still in absurd (cc) in
       rw here at (passes.others i apart);
 }
 

@@ -116,7 +116,7 @@ end-spares s r p status = reap-spares (record {
   others = λ i apart.
       subst (IsSame (process_at s i))
       (sym (get_or-set_other (map (option_map (orphaned p.pid)) s.places) r i (Some (zombie_of p status)) None apart
-          ∙ get_or-map (option_map (orphaned p.pid)) s.places i None))
+      ∙ get_or-map (option_map (orphaned p.pid)) s.places i None))
       (orphaned-same p.pid (process_at s i));
 })
 
@@ -159,8 +159,18 @@ passes-refl r s = passes-all r s s refl refl
 pub passes-put : (r : ℕ) (s : State) (o : Option Process) (files : Files) (opens : List (Option OpenFile))
     (pipes : List (Option (List ℕ))) (console : Console)
     (ticks next_pid frame_limit block_limit : ℕ) (halted : Option ℤ)
-    → Passes r s (record s { places = set s.places r o; files = files; opens = opens; pipes = pipes; console = console;
-        ticks = ticks; next_pid = next_pid; frame_limit = frame_limit; block_limit = block_limit; halted = halted })
+    → Passes r s (record s {
+      places = set s.places r o;
+      files = files;
+      opens = opens;
+      pipes = pipes;
+      console = console;
+      ticks = ticks;
+      next_pid = next_pid;
+      frame_limit = frame_limit;
+      block_limit = block_limit;
+      halted = halted;
+    })
 passes-put r s o files opens pipes console ticks next_pid frame_limit block_limit halted =
     spares-passes (spares-own o refl refl)
 

@@ -37,9 +37,9 @@ picked-turn s (Key k) j is = absurd cc
 event-nears : (i : ℕ) (s t : State) (o : Option ℕ) (halted : Option ℤ) (rest : State → List ℕ) (Over : State → Type 0)
     → t.last ≡ unwrap_or o s.last
     → s.last < place_limit → i < place_limit → ((j : ℕ) → o ≡ Some j → turn s ≡ Some j) → PassesOver i s o
-        → UnlessHalted t Over halted
+    → UnlessHalted t Over halted
     → (t.last < place_limit → Over t → Nears i (distance i t.last) (rest t))
-        → Nears i (distance i s.last) (option_to_list o ++ unless_halted t rest halted)
+    → Nears i (distance i s.last) (option_to_list o ++ unless_halted t rest halted)
 unfolding Nears
 event-nears i s t None (Some status) rest Over is last place picked over later more = tt
 event-nears i s t None None rest Over is last place picked over later more =
@@ -59,7 +59,7 @@ nears-run i s [] last place over = tt
 nears-run i s (e ∷ events) last place over =
     let t = (next s e).state in
     event-nears i s t (picked_by s e) t.halted (λ u. turns u events) (λ u. IsPassedOver i u events)
-        (next-takes s e).last last place (picked-turn s e) over.0 over.1
+    (next-takes s e).last last place (picked-turn s e) over.0 over.1
     (λ inside later. nears-run i t events inside place later)
 
 -- ---- places that come nearer are different, and few
@@ -71,7 +71,7 @@ nearer-all i n (j ∷ js) nears =
     let near : distance i j < n = nears.0 in
     let rest = nearer-all i (distance i j) js nears.1 in
     All-cons (λ y. distance i y < n) j js near
-        (λ k d h. let closer : distance i (get_or js k d) < distance i j = rest k d h in omega (arith, near, closer))
+    (λ k d h. let closer : distance i (get_or js k d) < distance i j = rest k d h in omega (arith, near, closer))
 
 nears-distinct : (i n : ℕ) (js : List ℕ) → Nears i n js → NoneTwice js
 unfolding Nears
@@ -96,7 +96,7 @@ pub waits-bounded : (s : State) (i : ℕ) (events : List Event) → s.last < pla
 waits-bounded s i events last place over =
     let nears = nears-run i s events last place over in
     let few : length (turns s events) < distance i s.last =
-            nears-few i (distance i s.last) (turns s events) nears (omega arith) in
+    nears-few i (distance i s.last) (turns s events) nears (omega arith) in
     record { none_twice = nears-distinct i (distance i s.last) (turns s events) nears; few = omega (arith, few) }
 
 -- ---- the place that was picked last is one of the 64, and a process that is let be stays
@@ -108,8 +108,8 @@ started : (make : Plan → State) (o : Option Plan) (s : State) → ((new : Plan
 started make None s last is = absurd cc
 started make (Some new) s last is =
     let e : s.last ≡ 63 = ap (λ (u : State). u.last)
-            (sym (cond_some (nat_le (frames_of (make new)) (make new).frame_limit) (make new) s is).1)
-            ∙ last new in omega arith
+    (sym (cond_some (nat_le (frames_of (make new)) (make new).frame_limit) (make new) s is).1)
+    ∙ last new in omega arith
 
 pub start-last : (files : Files) (blocks frames : ℕ) (s : State) → start files blocks frames ≡ Some s
     → s.last < place_limit
@@ -141,7 +141,7 @@ unfolding run
 run-last s [] last = last
 run-last s (e ∷ events) last =
     followed-last (next s e) (λ t. run t events) (next s e).state.halted (next-last s e last)
-        (run-last (next s e).state events (next-last s e last))
+    (run-last (next s e).state events (next-last s e last))
 
 -- ---- a process that is let be
 
@@ -157,7 +157,7 @@ left-stays p t i (Some q) at left some = (q, at, left)
 followed-stays : (p q : Process) (i : ℕ) (first : After) (rest : State → After) (Be : State → Type 0)
     (halted : Option ℤ) → process_at first.state i ≡ Some q → Rests p q
     → UnlessHalted first.state Be halted → (Be first.state → Stays q (rest first.state).state i)
-        → Stays p (followed_by first rest halted).state i
+    → Stays p (followed_by first rest halted).state i
 followed-stays p q i first rest Be (Some status) at rests later more = (q, at, rests)
 followed-stays p q i first rest Be None at rests later more =
     let found = more later in (found.0, found.1, rests-then p q found.0 rests found.2)

@@ -39,8 +39,10 @@ fork-passed places r j q p free i apart = elim (cases_eq i j) [
     none (Some p) is = absurd cc
 
 pub fork-passes : (s : State) (r : ℕ) (p : Process) (j : ℕ) → free_slot s.places ≡ Some j
-    → Passes r s (record s { places = put (put s.places r (sharing p)) j (child_of (sharing p) s.next_pid);
-        next_pid = s.next_pid + 1 })
+    → Passes r s (record s {
+      places = put (put s.places r (sharing p)) j (child_of (sharing p) s.next_pid);
+      next_pid = s.next_pid + 1;
+    })
 fork-passes s r p j free = record {
   last = refl;
   others = λ i apart. fork-passed s.places r j (sharing p) (child_of (sharing p) s.next_pid) free i apart;
@@ -53,7 +55,7 @@ zombie-found : (s : State) (pid j : ℕ) (child : Process) → zombie_child s pi
 zombie-found s pid j child found here =
     let test = λ (q : Process). is_child_of pid q && is_zombie q in
     (and_parts (is_child_of pid child) (is_zombie child)
-        (sym (ap (holds test) here) ∙ (position-Some (holds test) s.places j None found).1)).1
+    (sym (ap (holds test) here) ∙ (position-Some (holds test) s.places j None found).1)).1
 
 passed-gone : (o u : Option Process) (child : Process) → o ≡ Some child → u ≡ None → is_zombie child ≡ true
     → IsPassed o u

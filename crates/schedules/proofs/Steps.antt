@@ -26,7 +26,7 @@ unfolding execute computed
 done-private s i p (Ok c) is at done =
     ap (acted s i p) is
     ∙ ap (λ (o : Option Process). quiet (record s { places = slice_set s.places i o }))
-        (sym (ap (option_map computed) at ∙ ap (λ (d : Effect). Some (done_by p d)) is))
+    (sym (ap (option_map computed) at ∙ ap (λ (d : Effect). Some (done_by p d)) is))
 done-private s i p (Err t) is at done = absurd cc
 
 at-private : (s : State) (i : ℕ) (o : Option Process) → process_at s i ≡ o → computes_as o ≡ true
@@ -97,7 +97,7 @@ tick-passes s i runs done =
     ap (λ (a : After). quiet (tick a.state)) (step-private s i runs done)
     ∙ ap quiet (tick-at (change_process s i computed) i (running-stays s i ∙ runs))
     ∙ ap (λ (ps : List (Option Process)). quiet (record s { places = ps; ticks = (s.ticks + 1) % 2 ^ 32 }))
-        (changed-both computed (with_mode Ready) (local-mode Ready) i s.places)
+    (changed-both computed (with_mode Ready) (local-mode Ready) i s.places)
     ∙ ap (λ (t : State). quiet (change_process t i computed)) (sym (tick-at s i runs))
 
 -- ---- an interrupt after many steps
@@ -134,6 +134,6 @@ tick-passes-all (suc n) s i runs all =
     let still : running (next s Step).state ≡ Some i = ap (λ (t : State). running t) one ∙ running-stays s i ∙ runs in
     tick-passes-all n (next s Step).state i still (λ k lt. all (suc k) (omega (arith, lt)))
     ∙ ap (λ (a : After). quiet (change_process a.state i (computed_for n)))
-        (tick-passes s i runs (all zero (omega arith)))
+    (tick-passes s i runs (all zero (omega arith)))
     ∙ ap (λ (ps : List (Option Process)). quiet (record (next s Tick).state { places = ps }))
-        (changed-again n (next s Tick).state.places i)
+    (changed-again n (next s Tick).state.places i)

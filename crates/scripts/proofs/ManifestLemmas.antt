@@ -52,7 +52,7 @@ module _ (rest path numbers : List ℕ) (here : split_field rest ≡ Some (path,
       → IsDevice rest p first second → IsMajor one first × IsMajor other second
   device-majors one other there p first second h =
       let fields : split_field numbers ≡ Some (h.1, h.2) =
-              subst (λ x. split_field x ≡ Some (h.1, h.2)) (ap behind (sym h.3 ∙ here)) h.4 in (
+      subst (λ x. split_field x ≡ Some (h.1, h.2)) (ap behind (sym h.3 ∙ here)) h.4 in (
         subst (λ x. IsMajor x first) (ap front (sym fields ∙ there)) h.5,
         subst (λ x. IsMajor x second) (ap behind (sym fields ∙ there)) h.6,
       )

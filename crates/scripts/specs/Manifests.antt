@@ -27,13 +27,13 @@ abbrev pub IsDevice : List ℕ → List ℕ → ℕ → ℕ → Type 0
 IsDevice rest path major minor =
     (numbers : List ℕ) × (first : List ℕ) × (second : List ℕ)
     × (split_field rest ≡ Some (path, numbers)) × (split_field numbers ≡ Some (first, second)) × IsMajor first major
-        × IsMajor second minor
+    × IsMajor second minor
 
 -- the path and the numbers of a device are found, or there are none
 abbrev pub FindsDevice : List ℕ → Option (Bor (List ℕ) × ℕ × ℕ) → Type 0
 FindsDevice rest found =
     MatchOption found ((path : List ℕ) (first second : ℕ) → ¬ IsDevice rest path first second)
-        (λ three. IsDevice rest three.0.now three.1 three.2)
+    (λ three. IsDevice rest three.0.now three.1 three.2)
 
 -- what a line says
 abbrev pub IsLine : List ℕ → Line → Type 0

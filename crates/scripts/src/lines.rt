@@ -53,7 +53,7 @@ fn split_lines<'a>(alloc: Global, text: &'a [u8]) -> Result<Vec<&'a [u8]>, Alloc
 /// What follows a word that the line begins with.
 pub fn after<'a>(line: &'a [u8], word: &[u8]) -> Option<&'a [u8]>
     ensures { MatchOption result ((rest : List ℕ) → ¬ (line.now ≡ word.now ++ rest))
-            (λ rest. line.now ≡ word.now ++ rest.now) }
+        (λ rest. line.now ≡ word.now ++ rest.now) }
 {
     line.strip_prefix(word)
 }

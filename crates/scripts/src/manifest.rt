@@ -51,7 +51,7 @@ fn major(digits: &[u8]) -> Option<u16>
 // The path of a line `dir PATH`.
 fn directory<'a>(rest: &'a [u8]) -> Option<&'a [u8]>
     ensures { MatchOption result ((path : List ℕ) → ¬ (IsDirectory rest.now path))
-            (λ path. IsDirectory rest.now path.now) }
+        (λ path. IsDirectory rest.now path.now) }
 {
     match split_field(rest) {
         None => Some(rest),
@@ -62,7 +62,7 @@ fn directory<'a>(rest: &'a [u8]) -> Option<&'a [u8]>
 // The path and the host's file of a line `file PATH HOSTFILE`.
 fn file<'a>(rest: &'a [u8]) -> Option<(&'a [u8], &'a [u8])>
     ensures { MatchOption result ((path host : List ℕ) → ¬ (IsFile rest.now path host))
-            (λ two. IsFile rest.now two.0.now two.1.now) }
+        (λ two. IsFile rest.now two.0.now two.1.now) }
 {
     let (path, host) = split_field(rest)?;
     match split_field(host) {

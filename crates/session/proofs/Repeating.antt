@@ -53,7 +53,7 @@ module _ (first now new : View) (most n more : ℕ) (before mid after : Option (
     | inr least ↦
         let behind : k ≡ n + (k - n) = omega (arith, least) in
         subst IsBusy (sym (ap (λ j. (run first.state (replicate j Step)).state) behind ∙ busy-behind (k - n)))
-            (busy (k - n) (omega (arith, within, least)))
+        (busy (k - n) (omega (arith, within, least)))
   ]
 
   runs-behind : (step_rises rises : Type 0) (r : Result (Unit {0}) Halt) → (step_rises → rises)
@@ -69,7 +69,7 @@ module _ (first now new : View) (most n more : ℕ) (before mid after : Option (
       → SoManySteps first new (n + more) before after
   steps-on step_rises rises u r ok rise k =
       let all = subst (λ (x : Result (Unit {0}) Halt). RunGives first new (replicate (n + more) Step) before after
-              rises x) ok (runs-behind step_rises rises r rise k) in
+      rises x) ok (runs-behind step_rises rises r rise k) in
       record { began = all.0; done = all.1 }
 
   -- they are the last
@@ -79,8 +79,11 @@ module _ (first now new : View) (most n more : ℕ) (before mid after : Option (
       → OnOk r (more ≡ 0) → Advances first new most before after rises (ran_of (n + more) r)
   ends-by step_rises rises r busy within rise k piece none = record {
     gives = runs-behind step_rises rises r rise k;
-    far = record { within = let p = piece.within in omega (arith, p, within); busy = busy-on busy piece.busy;
-        idle = idle r piece.idle none };
+    far = record {
+      within = let p = piece.within in omega (arith, p, within);
+      busy = busy-on busy piece.busy;
+      idle = idle r piece.idle none;
+    };
   } where
     idle : (x : Result (Unit {0}) Halt) → OnOk x (more ≡ 0 → is_idle new.state ≡ true) → OnOk x (more ≡ 0)
         → OnOk x (n + more < most → is_idle new.state ≡ true)
@@ -92,8 +95,10 @@ pub ends : (first now : View) (most n : ℕ) (before after : Option (List ℕ)) 
     → SoManySteps first now n before after → IsBusyFor first.state n → n ≤ most → most ≤ n
     → Advances first now most before after rising (ran_of n (Ok tt))
 ends first now most n before after rising h busy within all =
-    record { gives = (h.began, h.done);
-    far = record { within = within; busy = busy; idle = λ less. absurd (omega (arith, less, all)) } }
+    record {
+      gives = (h.began, h.done);
+      far = record { within = within; busy = busy; idle = λ less. absurd (omega (arith, less, all)) };
+    }
 
 -- ---- a machine that is given no event: whether it takes any
 
@@ -106,9 +111,12 @@ pub stands : (old new : View) (xs ys : List ℕ) (rising : Type 0) (r : Result (
     → RunGives old new [] (Some xs) (Some ys) rising r
     → old.failures ≡ 0 → new.failures ≡ 0 → (new ≡ old) × (ys ≡ xs) × (IsUp old ↔ (is_ok r ≡ true))
 unfolding run
-stands old new xs ys rising (Ok u) h first now =
-    (same-view new old h.1.state (now ∙ sym first) (h.1.sound ∙ sym h.0.sound) h.1.same_device, h.1.printed
-    ∙ append-nil xs, (λ up. refl, λ ok. h.0))
+stands old new xs ys rising (Ok u) h first now = (
+  same-view new old h.1.state (now ∙ sym first) (h.1.sound ∙ sym h.0.sound) h.1.same_device,
+  h.1.printed
+      ∙ append-nil xs,
+  (λ up. refl, λ ok. h.0),
+)
 stands old new xs ys rising (Err (InitEnded status)) h first now = absurd (let e = sym h.0.goes ∙ h.1.halts in cc)
 stands old new xs ys rising (Err Device) h first now = absurd (let more = h.1.more in omega (arith, more))
 stands old new xs ys rising (Err Console) h first now = absurd (let more = h.1.more in omega (arith, more))
@@ -124,8 +132,17 @@ rises-sooner old new events before after step_rises rises (Err (InitEnded status
 rises-sooner old new events before after step_rises rises (Err Device) rise k = k
 rises-sooner old new events before after step_rises rises (Err Console) rise k = (
   k.0,
-  record { rises = rise k.1.rises; failed = k.1.failed; printed = k.1.printed; done = k.1.done; more = k.1.more;
-      goes = k.1.goes; files = k.1.files; same_device = k.1.same_device; later = k.1.later },
+  record {
+    rises = rise k.1.rises;
+    failed = k.1.failed;
+    printed = k.1.printed;
+    done = k.1.done;
+    more = k.1.more;
+    goes = k.1.goes;
+    files = k.1.files;
+    same_device = k.1.same_device;
+    later = k.1.later;
+  },
 )
 rises-sooner old new events before after step_rises rises (Err Halted) rise k = k
 
@@ -152,8 +169,8 @@ never old new events before after rising n (Err Halted) up k is = absurd (k.stop
 pub runs-on : {old new : Session} {most : ℕ} {ran : Ran} (mid : View) (bytes : List ℕ) (failed : ℕ) → mid ≡ old.machine
     → bytes ≡ console_of old → console_failures old ≤ failed → failed ≤ console_failures new → IsUp old.machine
     → new.machine.failures ≡ 0
-        → Advances mid new.machine most (Some bytes) (Some (console_of new)) (Rises failed (console_failures new)) ran
-        → Runs old new most ran
+    → Advances mid new.machine most (Some bytes) (Some (console_of new)) (Rises failed (console_failures new)) ran
+    → Runs old new most ran
 runs-on {old} {new} {most} {ran} mid bytes failed same kept later rose up zero a =
     let steps : List Event = replicate ran.steps Step in
     let rises : Type 0 = Rises (console_failures old) (console_failures new) in
@@ -163,8 +180,8 @@ runs-on {old} {new} {most} {ran} mid bytes failed same kept later rose up zero a
           (subst (λ (b : List ℕ). Tells mid new.machine steps b (console_of new) rises ran.answer) kept
           (tells-of mid new.machine steps bytes (console_of new) rises ran.answer zero
           (rises-sooner mid new.machine steps (Some bytes) (Some (console_of new))
-              (Rises failed (console_failures new)) rises ran.answer
-              (λ r. Rises-later (console_failures old) failed (console_failures new) later r rose) a.gives)));
+          (Rises failed (console_failures new)) rises ran.answer
+          (λ r. Rises-later (console_failures old) failed (console_failures new) later r rose) a.gives)));
       far = subst (λ (m : View). IsAsFar m new.machine most ran) same a.far;
       none = never mid new.machine steps (Some bytes) (Some (console_of new)) (Rises failed (console_failures new))
           ran.steps ran.answer (subst IsUp (sym same) up) a.gives;
@@ -195,8 +212,8 @@ pub refused-on : {T D : Type 0} (identity : D → List ℕ) (at : D) (image disk
 refused-on identity at image disk frames (Ok x) f is same why = tt
 refused-on identity at image disk frames (Err e) f is same why =
     subst (Refuses image frames) (sym is)
-        (fault-refused identity at image frames f
-        (subst (λ (bs : List ℕ). IsUnbooted identity (λ d. 0) at bs frames f) same why))
+    (fault-refused identity at image frames f
+    (subst (λ (bs : List ℕ). IsUnbooted identity (λ d. 0) at bs frames f) same why))
 
 -- where a machine booted the count of frames was in range
 pub counted : {T : Type 0} (x : T) (frames : ℕ) → 64 ≤ frames → frames ≤ 32768

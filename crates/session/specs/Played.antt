@@ -67,9 +67,9 @@ pub record IsAsFar (old new : View) (most : ℕ) (ran : Ran) : Type 0 where
 
 -- what the run of a machine that takes events is answered with
 pub record Advances (old new : View) (most : ℕ) (before after : Option (List ℕ)) (rising : Type 0) (ran : Ran) : Type 0
-    where
-  pub gives : RunGives old new (replicate ran.steps Step) before after rising ran.answer
-  pub far : IsAsFar old new most ran
+  where
+    pub gives : RunGives old new (replicate ran.steps Step) before after rising ran.answer
+    pub far : IsAsFar old new most ran
 
 -- the same where the bytes go to an output
 abbrev pub AdvancesTo : {W : Type 0} → (W → Option (List ℕ)) → (W → ℕ) → View → View → W → W → ℕ → Ran → Type 0

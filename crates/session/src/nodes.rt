@@ -13,7 +13,7 @@ impl Session {
     /// What is told of the node of the disk with this number; `None` where there is none.
     pub fn stat(&mut self, number: usize) -> Result<Option<Stat>, Halt>
         ensures { Looks self.old self.new
-                (λ stat. stat ≡ option_map stat_seen (shown_stat self.old.machine.state number)) result }
+            (λ stat. stat ≡ option_map stat_seen (shown_stat self.old.machine.state number)) result }
     {
         let told = self.machine.stat_inode(number);
         self.never_fails();

@@ -38,8 +38,8 @@ pub pipe-found : {T : Type 0} (i : Inside T) (q : ℕ) {xs : Pipes} {y : Option 
     → has_pipe (spaces_of i) q ≡ true → xs ≡ i.pipes.items → get_or xs q o ≡ y → slot i.pipes.items q ≡ y
 pipe-found i q o has same is =
     let hi : q < length i.pipes.items =
-            rw (← pipes-count i) (within (spaces_of i).pipes q (bytes_in (spaces_of i) q)
-            (some-pipe (slot (spaces_of i).pipes q) has)) in
+    rw (← pipes-count i) (within (spaces_of i).pipes q (bytes_in (spaces_of i) q)
+    (some-pipe (slot (spaces_of i).pipes q) has)) in
     get_or_default i.pipes.items q None o hi ∙ ap (λ l. get_or l q o) (sym same) ∙ is
 
 pub pipe-missing : {T : Type 0} (i : Inside T) (q : ℕ) {xs : Pipes} (o : Option Pipe) → has_pipe (spaces_of i) q ≡ true
@@ -83,20 +83,24 @@ module _ {T : Type 0} {held : T → Held} {i : Inside T} (is : IsSpaces held i) 
   piped : {k : Ram} {n : Frames} {xs : Pipes} {z : Option Pipe} (q : ℕ) (y : Option Pipe) → q < length i.pipes.items
       → xs ≡ i.pipes.items → z ≡ y → IsFreeList k n
       → Trades i.ram k i.frames n (frames_at (slot i.pipes.items q)) (frames_at y)
-          → ((p : Pipe) → y ≡ Some p → IsOpen p) → Piped held i (set_pipe i k n xs q z) q (pipe_shown k y)
+      → ((p : Pipe) → y ≡ Some p → IsOpen p) → Piped held i (set_pipe i k n xs q z) q (pipe_shown k y)
   piped {k} {n} {xs} {z} q y hi same new free trades here =
       let ps = i.pipes.items in
       let e : refill (length ps) ps (slice_set xs q z) ≡ slice_set ps q y = refilled q same new in
       let all = rest-untouched i.ram k i.frames n i.places.items (pipe_frames ps) (frames_at (slot ps q)) (frames_at y)
-              is.machine (λ f. one-place frames_at f ps q refl) trades in
+      is.machine (λ f. one-place frames_at f ps q refl) trades in
       let kept : (r : ℕ) (p : Pipe) → r ≢ q → slot ps r ≡ Some p
-              → frame_of k p.frame ≡ frame_of i.ram p.frame = λ r p ne at. (
+      → frame_of k p.frame ≡ frame_of i.ram p.frame = λ r p ne at. (
       let one : count_of p.frame (frames_at (slot ps r)) ≡ 1 + count_of p.frame [] =
-              rw at (count_of-first p.frame p.frame [] refl) in
+      rw at (count_of-first p.frame p.frame [] refl) in
       let machine = is.machine in
-      trades.others p.frame (omega
-          (arith, one, two-places frames_at p.frame ps q r refl ne, machine.shared.each p.frame,
-          count_of-append p.frame (flat_map (shares.held_at i.ram) i.places.items) (pipe_frames ps)))) in
+      trades.others p.frame (omega (
+        arith,
+        one,
+        two-places frames_at p.frame ps q r refl ne,
+        machine.shared.each p.frame,
+        count_of-append p.frame (flat_map (shares.held_at i.ram) i.places.items) (pipe_frames ps),
+      ))) in
       let sound : IsSpaces held (set_pipe i k n xs q z) = record {
         machine = rw e (rest-machine i.ram k i.frames n i.places.items (pipe_frames ps)
             (pipe_frames (slice_set ps q y)) (frames_at (slot ps q)) (frames_at y) is.machine free
@@ -111,23 +115,26 @@ module _ {T : Type 0} {held : T → Held} {i : Inside T} (is : IsSpaces held i) 
         both = rw e (each-set IsOpen ps q y hi here (λ r p ne at. is.both r p at));
       } in
       let shows : map (shown k) i.places.items ≡ map (shown i.ram) i.places.items =
-              map-same (shown i.ram) (shown k) i.places.items (λ j. same-shown i.ram k (slot i.places.items j) (all j))
-              in
+      map-same (shown i.ram) (shown k) i.places.items (λ j. same-shown i.ram k (slot i.places.items j) (all j))
+      in
       let view : spaces_of (set_pipe i k n xs q z) ≡ with_pipe (spaces_of i) q (pipe_shown k y) =
-              rw (e, shows, pipes-placed i.ram k ps q y kept, trades.count) refl in
-      record { sound = sound; view = view;
-          fits = omega (arith, ap taken_frames view, taken-fits held (set_pipe i k n xs q z) sound, trades.count) }
+      rw (e, shows, pipes-placed i.ram k ps q y kept, trades.count) refl in
+      record {
+        sound = sound;
+        view = view;
+        fits = omega (arith, ap taken_frames view, taken-fits held (set_pipe i k n xs q z) sound, trades.count);
+      }
 
   -- a pipe goes
   pub piped-gone : {k : Ram} {n : Frames} {xs : Pipes} {z : Option Pipe} (q : ℕ) (p : Pipe)
       → slot i.pipes.items q ≡ Some p → xs ≡ i.pipes.items → z ≡ None
       → IsFreeList k n → ((f : ℕ) → holders_of k n f + count_of f (p.frame ∷ []) ≡ holders_of i.ram i.frames f)
-          → SameBut (p.frame ∷ []) i.ram k → (0 < further_at i.frames p.frame → k ≡ i.ram)
-          → Piped held i (set_pipe i k n xs q z) q None
+      → SameBut (p.frame ∷ []) i.ram k → (0 < further_at i.frames p.frame → k ≡ i.ram)
+      → Piped held i (set_pipe i k n xs q z) q None
   piped-gone {k} {n} q p at same gone free given others stays =
       piped q None (within i.pipes.items q p at) same gone free
-          (rw at (Trades-give i.ram k i.frames n p.frame is.machine.free given others stays (pipe-holds q p at)))
-          (λ z bad. absurd (let no : None ≡ Some z = bad in cc))
+      (rw at (Trades-give i.ram k i.frames n p.frame is.machine.free given others stays (pipe-holds q p at)))
+      (λ z bad. absurd (let no : None ≡ Some z = bad in cc))
 
   -- a pipe changes, and keeps its frame and its ends
   pub piped-written : {k : Ram} {xs : Pipes} (q : ℕ) (p z : Pipe) (w : List ℕ) → slot i.pipes.items q ≡ Some p
@@ -135,10 +142,10 @@ module _ {T : Type 0} {held : T → Held} {i : Inside T} (is : IsSpaces held i) 
       → Piped held i (set_pipe i k i.frames xs q (Some z)) q (Some (bytes_of k z))
   piped-written {k} q p z w at same stays wrote =
       let both = Trades-write i.ram k i.frames p.frame w is.machine.free (pipe-holds q p at)
-              (is.machine.alone p.frame (pipe-held i.pipes.items q p at)) wrote in
+      (is.machine.alone p.frame (pipe-held i.pipes.items q p at)) wrote in
       let opens = is.both q p at in
       piped q (Some z) (within i.pipes.items q p at) same refl both.1 (rw (at, stays.frame) both.0)
-          (open-is z (record { read = stays.read_open ∙ opens.read; write = stays.write_open ∙ opens.write }))
+      (open-is z (record { read = stays.read_open ∙ opens.read; write = stays.write_open ∙ opens.write }))
 
   free-place : (q : ℕ) → q < 100 → has_pipe (spaces_of i) q ≡ false
       → (q < length i.pipes.items) × (slot (spaces_of i).pipes q ≡ None)
@@ -148,12 +155,12 @@ module _ {T : Type 0} {held : T → Held} {i : Inside T} (is : IsSpaces held i) 
   pub piped-there : {n : Frames} {xs : Pipes} (q : ℕ) (p : Pipe) → q < 100 → has_pipe (spaces_of i) q ≡ false
       → xs ≡ i.pipes.items
       → IsFreeList i.ram n → free_of i.ram i.frames ≡ p.frame ∷ free_of i.ram n → extra_of n ≡ extra_of i.frames
-          → IsOpen p → Piped held i (set_pipe i i.ram n xs q (Some p)) q (Some (bytes_of i.ram p))
+      → IsOpen p → Piped held i (set_pipe i i.ram n xs q (Some p)) q (Some (bytes_of i.ram p))
   piped-there {n} q p low free same valid taken extra opens =
       let place = free-place q low free in
       let none = pipe-free i.ram (slot i.pipes.items q) (sym (pipe-slot i.ram i.pipes.items q) ∙ place.1) in
       piped q (Some p) place.0 same refl valid
-          (rw none (Trades-take i.ram i.frames n p.frame is.machine.free valid taken extra)) (open-is p opens)
+      (rw none (Trades-take i.ram i.frames n p.frame is.machine.free valid taken extra)) (open-is p opens)
 
   -- or no frame is left for it
   pub over-free : (q : ℕ) → q < 100 → has_pipe (spaces_of i) q ≡ false → free_count i.ram i.frames ≡ 0

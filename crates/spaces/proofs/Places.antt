@@ -46,7 +46,7 @@ pipes-taken m (Some p ∷ ps) = ap suc (pipes-taken m ps)
 pub pipe-held : (ps : Pipes) (q : ℕ) (p : Pipe) → slot ps q ≡ Some p → 0 < count_of p.frame (pipe_frames ps)
 pipe-held ps q p e =
     let here : count_of p.frame (frames_at (slot ps q)) ≡ 1 + count_of p.frame [] =
-            rw e (count_of-first p.frame p.frame [] refl) in
+    rw e (count_of-first p.frame p.frame [] refl) in
     omega (arith, here, one-place frames_at p.frame ps q refl)
 
 -- ---- pipes whose frames keep their bytes
@@ -68,8 +68,8 @@ pub pipes-beside : (m k : Ram) (s n : Frames) (places : Places) (ps : Pipes) (ne
     → map (pipe_shown k) ps ≡ map (pipe_shown m) ps
 pipes-beside m k s n places ps new at is trades =
     map-same (pipe_shown m) (pipe_shown k) ps
-        (λ q. pipe-kept m k (slot ps q)
-        (λ p e. trade-rest m k s n places (pipe_frames ps) new at p.frame is trades (pipe-held ps q p e)))
+    (λ q. pipe-kept m k (slot ps q)
+    (λ p e. trade-rest m k s n places (pipe_frames ps) new at p.frame is trades (pipe-held ps q p e)))
 
 -- a place of the fields, by the slice that a borrow of them shows
 pub there : {xs ys : Places} {x : Space} (at : ℕ) → xs ≡ ys → get_or xs at None ≡ Some x → slot ys at ≡ Some x
@@ -136,15 +136,24 @@ used-shown m (Some x) = frames-shown m x
 sum-shown : (m : Ram) (places : Places) → sum_by frames_in (map (shown m) places) ≡ sum_by frames_used places
 sum-shown m [] = refl
 sum-shown m (x ∷ xs) =
-    omega (arith, sum_by-cons frames_in (shown m x) (map (shown m) xs), sum_by-cons frames_used x xs, used-shown m x,
-        sum-shown m xs)
+    omega (
+      arith,
+      sum_by-cons frames_in (shown m x) (map (shown m) xs),
+      sum_by-cons frames_used x xs,
+      used-shown m x,
+      sum-shown m xs,
+    )
 
 -- the free frames are all but those that the places take
 pub free-taken : {T : Type 0} (held : T → Held) (i : Inside T) → IsSpaces held i
     → free_count i.ram i.frames + taken_frames (spaces_of i) ≡ length i.ram
 free-taken held i is =
-    omega (arith, free-left i.ram i.frames i.places.items (pipe_frames i.pipes.items) is.machine,
-        sum-shown i.ram i.places.items, pipes-taken i.ram i.pipes.items)
+    omega (
+      arith,
+      free-left i.ram i.frames i.places.items (pipe_frames i.pipes.items) is.machine,
+      sum-shown i.ram i.places.items,
+      pipes-taken i.ram i.pipes.items,
+    )
 
 pub taken-fits : {T : Type 0} (held : T → Held) (i : Inside T) → IsSpaces held i
     → taken_frames (spaces_of i) ≤ length i.ram
@@ -165,5 +174,8 @@ are-whole held i is at None there has framed = absurd (cc)
 are-whole held i is at (Some x) there has framed =
     let space = is.machine.each at x there in
     rw (held-is i _ there)
-    (record { few = rw (length-pages_of i.ram x) space.dense.small; whole = length-pages_of i.ram x;
-        sized = pages-sized i.ram x.root.0 x.trap.0 (pages_in x.size) framed space.dense })
+    (record {
+      few = rw (length-pages_of i.ram x) space.dense.small;
+      whole = length-pages_of i.ram x;
+      sized = pages-sized i.ram x.root.0 x.trap.0 (pages_in x.size) framed space.dense;
+    })

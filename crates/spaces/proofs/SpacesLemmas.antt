@@ -65,8 +65,12 @@ sum-placed : (xs : List (Option SpaceView)) (i : ℕ) (y : Option SpaceView) →
 sum-placed [] i y h = absurd (omega (arith, h))
 sum-placed (x ∷ xs) zero y h = omega (arith, sum_by-cons frames_in y xs, sum_by-cons frames_in x xs)
 sum-placed (x ∷ xs) (suc i) y h =
-    omega (arith, sum_by-cons frames_in x (slice_set xs i y), sum_by-cons frames_in x xs,
-        sum-placed xs i y (omega (arith, h)))
+    omega (
+      arith,
+      sum_by-cons frames_in x (slice_set xs i y),
+      sum_by-cons frames_in x xs,
+      sum-placed xs i y (omega (arith, h)),
+    )
 
 -- the places take more by what one of them takes more
 pub taken-placed : (s : Spaces) (at : ℕ) (y : Option SpaceView) → at < length s.places
@@ -81,7 +85,7 @@ taken-forked s from to h at free low =
     let none = place-free s to free in
     let apart : to ≢ from = λ (e : to ≡ from). let bad : None ≡ Some h = sym none ∙ ap (slot s.places) e ∙ at in cc in
     let same : frames_in (Some (forked h)) ≡ frames_in (Some h) =
-            ap (λ n. 4 + page_frames n) (length-map h.memory shared_page) in
+    ap (λ n. 4 + page_frames n) (length-map h.memory shared_page) in
     let middle = with_view s from (forked h) in
     omega (
       arith,
@@ -178,7 +182,7 @@ goes-on stops n old mid new (Some at) None some active first past none done =
     let one : suc n ≡ n + 1 = omega arith in
     let does = subst (λ (a : Option ℕ). IfSome a (Executes mid new)) active done in
     let all = advances-more stops n old mid new
-            at first (record { done = does.0; means = does.1; leaves = does.2 }) past in
+    at first (record { done = does.0; means = does.1; leaves = does.2 }) past in
     (ap (λ (s : Spaces). s.active) does.2 ∙ active, subst (λ (k : ℕ). Advances stops k old at new) one all)
 
 -- ---- the frames
@@ -209,9 +213,12 @@ computed-frames s at d h there =
     let seen : view_at s at ≡ h = ap (λ o. unwrap_or o no_pages) there in
     let same : frames_in (slot s.places at) ≡ frames_in (Some new) =
     ap frames_in there ∙ ap (λ (x : SpaceView). 4 + page_frames (length x.memory)) (sym seen)
-        ∙ sym (ap (λ (n : ℕ). 4 + page_frames n) (length-after (view_at s at).memory d.change)) in
-    omega (arith, taken-placed (record s { registers = d.regs; pc = d.pc }) at (Some new) (within s.places at h there),
-        same)
+    ∙ sym (ap (λ (n : ℕ). 4 + page_frames n) (length-after (view_at s at).memory d.change)) in
+    omega (
+      arith,
+      taken-placed (record s { registers = d.regs; pc = d.pc }) at (Some new) (within s.places at h there),
+      same,
+    )
 
 -- ---- many behind many
 
@@ -234,8 +241,12 @@ advances-sum stops a zero c old mid new at sum past first same =
     rw (same, ← all) first
 advances-sum stops a (suc b) c old mid new at sum past first (last, before, does, behind) =
     let all : suc (a + b) ≡ c = omega (arith, sum) in
-    rw (← all) (last, advances-sum stops a b (a + b) old mid last at refl past first before, does,
-        past-sum stops a b mid last at before past behind)
+    rw (← all) (
+      last,
+      advances-sum stops a b (a + b) old mid last at refl past first before,
+      does,
+      past-sum stops a b mid last at before past behind,
+    )
 
 -- after a run it is at no stop
 pub behind-past : (stops : List ℕ) {done old new : ℕ} → IsBehind stops done old new → IsPast stops done new

@@ -52,11 +52,11 @@ alike-by a o w p q here there same bytes =
 alike-at : (a : Access) (m : Ram) (r n p : ℕ)
     → (p < n → permits a (entry_marks (marks_at m r p)) ≡ permits a (right_marks (marks_at m r p)))
     → Alike (permitted a (slice_get (memory_of m (entries_below m r n)) p))
-        (permitted a (slice_get (pages_below m r n) p))
+    (permitted a (slice_get (pages_below m r n) p))
 alike-at a m r n p same = elim (cases_lt p n) [
   | inl low ↦
       alike-by a (slice_get (memory_of m (entries_below m r n)) p) (slice_get (pages_below m r n) p)
-          (page_in m (read_at entry_marks m r p)) (page_in m (read_at right_marks m r p))
+      (page_in m (read_at entry_marks m r p)) (page_in m (read_at right_marks m r p))
       (page-here entry_marks m r n p low) (page-here right_marks m r n p low) (same low) refl
   | inr high ↦ ap (λ (o : Option Page). option_map (λ (x : Page). x.bytes) (permitted a o))
       (page-past entry_marks m r n p high ∙ sym (page-past right_marks m r n p high))
@@ -70,8 +70,8 @@ closed-none false u p e = refl
 
 store-at : (m : Ram) (r n p : ℕ) → ((q : ℕ) → q < n → IsUserLeaf (marks_at m r q))
     → (permitted Store (slice_get (memory_of m (entries_below m r n)) p) ≡ None)
-        ⊎ Alike (permitted Store (slice_get (memory_of m (entries_below m r n)) p))
-        (permitted Store (slice_get (pages_below m r n) p))
+    ⊎ Alike (permitted Store (slice_get (memory_of m (entries_below m r n)) p))
+    (permitted Store (slice_get (pages_below m r n) p))
 store-at m r n p leaves = elim (cases_lt p n) [
   | inl low ↦ elim (cases_Bool (is_open (marks_at m r p))) [
     | inl wide ↦ inr (alike-at Store m r n p
@@ -100,7 +100,7 @@ opened-alike m r n address g made =
     let leaf = marks_at m r (address / 4096) in
     let wide : is_open leaf ≡ g.writable = ap is_open made ∙ leaf-open g in
     let right : (right_marks leaf).writable ≡ g.writable = ap (λ (l : ℕ). (right_marks l).writable) made
-            ∙ ap (λ (a : Perm). a.writable) (right-leaf g true) in
+    ∙ ap (λ (a : Perm). a.writable) (right-leaf g true) in
     alike-at Store m r n (address / 4096) (λ h. ap (λ (b : Bool). b && (right_marks leaf).user) (wide ∙ sym right))
 
 -- ---- stores go by frames alone
@@ -110,7 +110,7 @@ changed-right m r n Nothing = refl
 changed-right m r n (Bytes address bytes) =
     let p = address / 4096 in
     let same : put_in m (slice_get (entries_below m r n) p) (address % 4096) bytes
-            ≡ put_in m (slice_get (mapping_below m r n) p) (address % 4096) bytes = elim (cases_lt p n) [
+    ≡ put_in m (slice_get (mapping_below m r n) p) (address % 4096) bytes = elim (cases_lt p n) [
       | inl low ↦ rw (get-mapping entry_marks m r n p low, get-mapping right_marks m r n p low) refl
       | inr high ↦ rw (mapping-past entry_marks m r n p high, mapping-past right_marks m r n p high) refl
     ] in
@@ -131,7 +131,7 @@ byte-alike va _ _ h = absurd cc
 unshared-alike : (m : Ram) (r n p : ℕ) → ((q : ℕ) → q < n → IsUserLeaf (marks_at m r q))
     → is_shared (slice_get (pages_below m r n) p) ≡ false
     → Alike (permitted Store (slice_get (memory_of m (entries_below m r n)) p))
-        (permitted Store (slice_get (pages_below m r n) p))
+    (permitted Store (slice_get (pages_below m r n) p))
 unshared-alike m r n p leaves none = alike-at Store m r n p (λ low.
     let leaf = marks_at m r p in
     let alone : (right_marks leaf).shared ≡ false = ap is_shared (sym (page-here right_marks m r n p low)) ∙ none in
@@ -188,18 +188,19 @@ stands-only m k x is once (inr wrote) =
     let at = mapping-is entry_marks m x.root.0 n wrote.page wrote.entry wrote.mapped in
     let frame : frame_at m x.root.0 wrote.page ≡ wrote.entry.frame = ap (λ (e : Mapped). e.frame) at in
     let wide : is_open (marks_at m x.root.0 wrote.page) ≡ true =
-            ap (λ (e : Mapped). e.marks.writable)
-            at ∙ (and_parts wrote.entry.marks.writable wrote.entry.marks.user wrote.permitted).0 in
+    ap (λ (e : Mapped). e.marks.writable)
+    at ∙ (and_parts wrote.entry.marks.writable wrote.entry.marks.user wrote.permitted).0 in
     space-stored m k x wrote.page wrote.bytes is once
-        (mapping-within entry_marks m x.root.0 n wrote.page wrote.entry wrote.mapped) wide (rw frame wrote.is)
+    (mapping-within entry_marks m x.root.0 n wrote.page wrote.entry wrote.mapped) wide (rw frame wrote.is)
 
 -- the hart may be run on the pages of a space, by what the walk lets through or by right
 read-frame : (read : ℕ → Perm) (m : Ram) (x : Space) (p : ℕ) (e : Mapped)
     → slice_get (read_below read m x.root.0 (pages_in x.size)) p ≡ Some e
     → (p < pages_in x.size) × (frame_at m x.root.0 p ≡ e.frame)
-read-frame read m x p e at =
-    (mapping-within read m x.root.0 (pages_in x.size) p e at,
-        ap (λ (e : Mapped). e.frame) (mapping-is read m x.root.0 (pages_in x.size) p e at))
+read-frame read m x p e at = (
+  mapping-within read m x.root.0 (pages_in x.size) p e at,
+  ap (λ (e : Mapped). e.frame) (mapping-is read m x.root.0 (pages_in x.size) p e at),
+)
 
 sound : (read : ℕ → Perm) (m : Ram) (x : Space) → IsMapped m x → IsOnce m x
     → IsSound m (read_below read m x.root.0 (pages_in x.size))
@@ -338,26 +339,26 @@ module _ {T : Type 0} {held : T → Held} {i : Inside T} {at : ℕ} {x : Space} 
       let by_right = done-right m x old.registers old.pc space.dense d (rw here.entries one.means) in
       let s = stands-here here one.writes in
       let memory : k ≡ changed m (entries_of m x) d.change = ap (λ (p : Point). p.ram) one.leaves
-              ∙ ap (λ (e : List Mapped). changed m e d.change) (sym here.entries) in
+      ∙ ap (λ (e : List Mapped). changed m e d.change) (sym here.entries) in
       let after : pages_of k x ≡ memory_after (pages_of m x) d.change =
       ap (memory_of k) s.mapping
-          ∙ ap (λ r. memory_of r (mapping_of m x)) (memory ∙ changed-right m x.root.0 (pages_in x.size) d.change)
+      ∙ ap (λ r. memory_of r (mapping_of m x)) (memory ∙ changed-right m x.root.0 (pages_in x.size) d.change)
       ∙ memory_of-cycle m (mapping_of m x) old.registers old.pc d (sound right_marks m x space.dense space.once)
-          by_right in
+      by_right in
       let others : OthersUntouched m k i.places.items at =
-              trade-others m k i.frames i.frames i.places.items (pipe_frames i.pipes.items) (holds k x)
-              at here.machine (rw r.stands (s.trades i.frames space)) in
+      trade-others m k i.frames i.frames i.places.items (pipe_frames i.pipes.items) (holds k x)
+      at here.machine (rw r.stands (s.trades i.frames space)) in
       let pipes = pipes-beside m k i.frames i.frames i.places.items i.pipes.items (holds k x)
-              at here.machine (rw r.stands (s.trades i.frames space)) in
+      at here.machine (rw r.stands (s.trades i.frames space)) in
       let places : map (shown k) i.places.items
-              ≡ slice_set (map (shown m) i.places.items)
-              at (Some (view_with (memory_after (pages_of m x) d.change) x.size)) =
+      ≡ slice_set (map (shown m) i.places.items)
+      at (Some (view_with (memory_after (pages_of m x) d.change) x.size)) =
       ap (map (shown k)) (same-place i.places.items at x r.stands)
       ∙ shown-placed m k i.places.items at (Some x) others
       ∙ ap (slice_set (map (shown m) i.places.items) at)
-          (shown-as k x (memory_after (pages_of m x) d.change) x.size after refl) in
+      (shown-as k x (memory_after (pages_of m x) d.change) x.size after refl) in
       let seen : view_at (spaces_at i old) at ≡ view_with (pages_of m x) x.size =
-              held-is (record i { ram = m }) _ r.stands in
+      held-is (record i { ram = m }) _ r.stands in
       let registers : new.registers ≡ d.regs = ap (λ (p : Point). p.registers) one.leaves in
       let pc : new.pc ≡ d.pc = ap (λ (p : Point). p.pc) one.leaves in
       record { done = d; means = rw seen by_right; leaves = rw (seen, registers, pc, places, pipes, s.count) refl }
@@ -367,10 +368,20 @@ module _ {T : Type 0} {held : T → Held} {i : Inside T} {at : ℕ} {x : Space} 
       → IsCoherent (held t) x.root.0 (entries_of i.ram x) → HoldsInside (held t) k → IsSpaces held (ran_by i t h k)
   sound-run t h k here root coherent inside =
       let now : Runs (held t) k h.root.0 i.places.items at =
-              record { space = x; stands = r.stands; same = ap (λ (f : FrameNo). f.0) root ∙ r.same;
-              coherent = rw here.entries coherent } in
-      record { machine = here.machine; all = r.is.all; active = rw r.active now; inside = inside; pipes = r.is.pipes;
-          both = r.is.both }
+      record {
+        space = x;
+        stands = r.stands;
+        same = ap (λ (f : FrameNo). f.0) root ∙ r.same;
+        coherent = rw here.entries coherent;
+      } in
+      record {
+        machine = here.machine;
+        all = r.is.all;
+        active = rw r.active now;
+        inside = inside;
+        pipes = r.is.pipes;
+        both = r.is.both;
+      }
 
 -- ---- a step
 
@@ -429,7 +440,7 @@ module _ {T : Type 0} {held : T → Held} {i : Inside T} {t : T} {h : Hart} {k :
   wrote =
       let space = r.is.machine.each at x r.stands in
       follows-only i.hart.registers i.hart.pc (entries_of i.ram x) result i.hart h i.ram k s.memory
-          (sound entry_marks i.ram x space.dense space.once) follows
+      (sound entry_marks i.ram x space.dense space.once) follows
 
   same-root : h.root ≡ i.hart.root
   same-root = elim came [ inl done ↦ done.root | inr trapped ↦ ap (λ (x : Hart). x.root) trapped.hart ]
@@ -439,16 +450,20 @@ module _ {T : Type 0} {held : T → Held} {i : Inside T} {t : T} {h : Hart} {k :
   sound-stepped =
       let kept : IsKept (held i.translator) (held t) i.ram x.root.0 = rw r.same at s.kept in
       sound-run r t h k (here-more r (here r) wrote) same-root
-          (coherent-kept (held i.translator) (held t) i.ram x.root.0 (entries_of i.ram x) walks r.coherent kept)
-          (kept-inside (held i.translator) (held t) i.ram k i.hart.root.0 s.count r.is.inside s.kept)
+      (coherent-kept (held i.translator) (held t) i.ram x.root.0 (entries_of i.ram x) walks r.coherent kept)
+      (kept-inside (held i.translator) (held t) i.ram k i.hart.root.0 s.count r.is.inside s.kept)
 
   -- an instruction was done
   pub step-done : result ≡ None → IfSome i.active (Executes (spaces_of i) (spaces_of (ran_by i t h k)))
   step-done none = elim came [
     | inl done ↦
         let one : DoesOne (entries_of i.ram x) (point_of i.hart i.ram) (point_of h k) =
-                record { done = done.done; means = done.is; leaves = rw (done.registers, done.pc, done.memory) refl;
-                writes = wrote } in
+        record {
+          done = done.done;
+          means = done.is;
+          leaves = rw (done.registers, done.pc, done.memory) refl;
+          writes = wrote;
+        } in
         let does = point-does r (point_of i.hart i.ram) (point_of h k) (here r) one in
         for-active (Executes (spaces_of i) (spaces_of (ran_by i t h k))) r.active (does.done, does.means, does.leaves)
     | inr trapped ↦ absurd (let bad = sym none ∙ trapped.result_is in cc)
@@ -469,7 +484,7 @@ module _ {T : Type 0} {held : T → Held} {i : Inside T} {t : T} {h : Hart} {k :
   trap-at c e right =
       let left = trapped c e in
       let both : Traps (spaces_of i) (spaces_of (ran_by i t h k)) at c =
-              rw (held-is i _ r.stands) (right, rw (left.hart, left.memory) refl) in
+      rw (held-is i _ r.stands) (right, rw (left.hart, left.memory) refl) in
       for-active (λ at. Traps (spaces_of i) (spaces_of (ran_by i t h k)) at c) r.active both
 
   pub step-trap : (c : Trap) → result ≡ Some c
@@ -478,11 +493,11 @@ module _ {T : Type 0} {held : T → Held} {i : Inside T} {t : T} {h : Hart} {k :
   step-trap c e closed =
       let left = trapped c e in
       let none : c.cause ≡ StorePageFault
-              → page_for Store (pages_of i.ram x) c.address ≡ None =
-              subst (λ (m : Ram). c.cause ≡ StorePageFault → page_for Store (pages_of m x) c.address ≡ None)
-              left.memory closed in
+      → page_for Store (pages_of i.ram x) c.address ≡ None =
+      subst (λ (m : Ram). c.cause ≡ StorePageFault → page_for Store (pages_of m x) c.address ≡ None)
+      left.memory closed in
       trap-at c e (trap-right i.ram x i.hart.registers i.hart.pc (r.is.machine.each at x r.stands).dense c left.low
-          none)
+      none)
 
   -- so the space stands
   pub trap-space : (c : Trap) → result ≡ Some c → IsSpace k x i.frames
@@ -494,10 +509,10 @@ module _ {T : Type 0} {held : T → Held} {i : Inside T} {t : T} {h : Hart} {k :
   reopened u l n c e re fenced =
       let left = trapped c e in
       let arranged : IsRearranged i.ram l x i.frames n =
-              subst (λ (m : Ram). IsRearranged m l x i.frames n) left.memory re in
+      subst (λ (m : Ram). IsRearranged m l x i.frames n) left.memory re in
       let placed = reframed-showing r.is
-              at x l n u (pages_of i.ram x) r.stands arranged.frames (λ v has. absurd (fenced v has)) (λ a. fenced)
-              arranged.pages in
+      at x l n u (pages_of i.ram x) r.stands arranged.frames (λ v has. absurd (fenced v has)) (λ a. fenced)
+      arranged.pages in
       rw left.hart (record {
         run = run-at x placed.sound r.active r.stands;
         view = placed.view ∙ same-value (spaces_of i)
@@ -514,8 +529,8 @@ module _ {T : Type 0} {held : T → Held} {i : Inside T} {t : T} {h : Hart} {k :
       let down = narrows i.ram x (r.is.machine.each at x r.stands).dense in
       let fault = (trapped c e).low ∙ ap (λ (u : Cause). trap u c.address) store in
       cycle-again i.hart.registers i.hart.pc c.address (let_through i.ram x) (let_through m x) (pages_of m x)
-          (subst (Narrows (let_through i.ram x)) (sym pages) down) (narrows m x mapped)
-          (opened-alike m x.root.0 (pages_in x.size) c.address g made) fault
+      (subst (Narrows (let_through i.ram x)) (sym pages) down) (narrows m x mapped)
+      (opened-alike m x.root.0 (pages_in x.size) c.address g made) fault
 
 -- either of the two
 outcome : {T : Type 0} {held : T → Held} {i : Inside T} {t : T} {h : Hart} {k : Ram} {at : ℕ} {x : Space}
@@ -534,7 +549,7 @@ pub second : {T : Type 0} {held : T → Held} {i j : Inside T} {t u : T} {h o : 
 second {j} {u} {o} {l} {again} {at} {x} c g r s e store re made next =
     let right = same-again r s j.ram c g e store (re.run.is.machine.each at x re.run.stands).dense re.pages made in
     subst (λ (v : Spaces). Comes j.active v (spaces_of (ran_by j u o l)) again) re.view
-        (outcome again re.run next (rw re.hart right))
+    (outcome again re.run next (rw re.hart right))
 
 -- ---- instructions of the process of a place, as the hart ran them
 
@@ -551,9 +566,11 @@ module _ {T : Type 0} {held : T → Held} {i : Inside T} {at : ℕ} {x : Space} 
   unfolding RunsTo
   ran stops zero first new here same = rw same (advances-none stops (spaces_at i first) at, here)
   ran stops (suc n) first new here (mid, runs, one, past) =
-      let before = ran stops n first mid here runs in
-      (advances-more stops n (spaces_at i first) (spaces_at i mid) (spaces_at i new)
-          at before.0 (point-does r mid new before.1 one) past, here-more r before.1 one.writes)
+      let before = ran stops n first mid here runs in (
+        advances-more stops n (spaces_at i first) (spaces_at i mid) (spaces_at i new)
+            at before.0 (point-does r mid new before.1 one) past,
+        here-more r before.1 one.writes,
+      )
 
   begun : {stops : List ℕ} → length i.ram ≤ 32768
       → Goes (held i.translator) i.hart.root.0 (entries_of i.ram x) stops 0 (point_of i.hart i.ram)
@@ -562,12 +579,12 @@ module _ {T : Type 0} {held : T → Held} {i : Inside T} {at : ℕ} {x : Space} 
   begun small =
       let space = r.is.machine.each at x r.stands in
       let walks : (n : ℕ) (m : Ram) → Reaches n (entries_of i.ram x) i.ram m
-              → WalksTo m i.hart.root.0 (entries_of i.ram x) =
+      → WalksTo m i.hart.root.0 (entries_of i.ram x) =
       λ n m reaches. (
       let now = here-reached n m reaches in
       rw (r.same, ← now.entries)
-          (walks-entries m x.root.0 x.trap.0 (pages_in x.size) (rw now.count small)
-          (now.machine.each at x r.stands).dense)) in
+      (walks-entries m x.root.0 x.trap.0 (pages_in x.size) (rw now.count small)
+      (now.machine.each at x r.stands).dense)) in
       record {
         steady = record { sound = sound entry_marks i.ram x space.dense space.once; walks = walks };
         coherent = rw r.same r.coherent;
@@ -589,22 +606,26 @@ module _ {T : Type 0} {held : T → Held} {i : Inside T} {t : T} {h : Hart} {k :
     {at : ℕ} {x : Space} (r : IsRun held i at x) where
   went-on : (stopped : Option Trap) → RanOn held i t h k stops done stopped
       → Goes (held t) i.hart.root.0 (entries_of i.ram x) stops done (point_of i.hart i.ram) (point_of h k)
-          × IfSome stopped (λ c. cycle h.registers h.pc (memory_of k (entries_of i.ram x)) ≡ Err c)
+      × IfSome stopped (λ c. cycle h.registers h.pc (memory_of k (entries_of i.ram x)) ≡ Err c)
   went-on stopped o =
       let none : 0 + done ≡ done = omega arith in
       let all = o.goes (entries_of i.ram x) 0 (point_of i.hart i.ram) (λ more. absurd (omega (arith, more)))
-              (begun r o.small) in
-      (subst (λ (n : ℕ). Goes (held t) i.hart.root.0 (entries_of i.ram x) stops n (point_of i.hart i.ram)
-          (point_of h k)) none all.0, all.1)
+      (begun r o.small) in (
+        subst (λ (n : ℕ). Goes (held t) i.hart.root.0 (entries_of i.ram x) stops n (point_of i.hart i.ram)
+            (point_of h k)) none all.0,
+        all.1,
+      )
 
   -- the spaces behind it
   ran-at : (stopped : Option Trap) → RanOn held i t h k stops done stopped
       → IsSpaces held (ran_by i t h k) × Advances stops done (spaces_of i) at (spaces_of (ran_by i t h k))
   ran-at stopped o =
       let went = (went-on stopped o).0 in
-      let all = ran r stops done (point_of i.hart i.ram) (point_of h k) (here r) went.runs in
-      (sound-run r t h k all.1 o.whole.root
-          (subst (λ n. IsCoherent (held t) n (entries_of i.ram x)) r.same went.coherent) o.whole.inside, all.0)
+      let all = ran r stops done (point_of i.hart i.ram) (point_of h k) (here r) went.runs in (
+        sound-run r t h k all.1 o.whole.root
+            (subst (λ n. IsCoherent (held t) n (entries_of i.ram x)) r.same went.coherent) o.whole.inside,
+        all.0,
+      )
 
   -- the trap behind it, but for a store, is one by right, too
   stops-right : (c : Trap) → RanOn held i t h k stops done (Some c) → (c.cause ≡ StorePageFault → ⊥)
@@ -614,9 +635,9 @@ module _ {T : Type 0} {held : T → Held} {i : Inside T} {t : T} {h : Hart} {k :
       let now = (ran r stops done (point_of i.hart i.ram) (point_of h k) (here r) all.0.runs).1 in
       let low : cycle h.registers h.pc (let_through k x) ≡ Err c = rw now.entries all.1 in
       let seen : view_at (spaces_of (ran_by i t h k)) at ≡ view_with (pages_of k x) x.size =
-              held-is (ran_by i t h k) _ r.stands in
+      held-is (ran_by i t h k) _ r.stands in
       rw seen (trap-right k x h.registers h.pc (now.machine.each at x r.stands).dense c low
-          (λ store. absurd (other store)))
+      (λ store. absurd (other store)))
 
 pub ran-sound : {T : Type 0} {held : T → Held} {i : Inside T} {t : T} {h : Hart} {k : Ram} {stops : List ℕ} {done : ℕ}
     {stopped : Option Trap} (a : Option ℕ) → IsSpaces held i → RanOn held i t h k stops done stopped → i.active ≡ a
@@ -629,7 +650,7 @@ ran-sound (Some at) is o e some = ran-at (run-of is e).1 _ o
 pub ran-trap : {T : Type 0} {held : T → Held} {i : Inside T} {t : T} {h : Hart} {k : Ram} {stops : List ℕ} {done : ℕ}
     (stopped : Option Trap) (a : Option ℕ) → IsSpaces held i → RanOn held i t h k stops done stopped → i.active ≡ a
     → IfSome stopped (λ c. (c.cause ≡ StorePageFault → ⊥)
-        → IfSome a (λ at. cycle h.registers h.pc (view_at (spaces_of (ran_by i t h k)) at).memory ≡ Err c))
+    → IfSome a (λ at. cycle h.registers h.pc (view_at (spaces_of (ran_by i t h k)) at).memory ≡ Err c))
 ran-trap None a is o e = tt
 ran-trap (Some c) None is o e = λ other. tt
 ran-trap (Some c) (Some at) is o e = λ other. stops-right (run-of is e).1 c o other

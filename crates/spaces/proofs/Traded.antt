@@ -46,23 +46,32 @@ still-active old new m k root places q (Some j) each run = each j refl run
 pub runs-on : {old new : Held} {m k : Ram} {root j : ℕ} {places q : Places} (run : Runs old m root places j)
     → slot q j ≡ Some run.space → IsUntouched m k run.space → ((t : Translation) → new t → old t) → Runs new k root q j
 runs-on run stands stays fewer =
-    record { space = run.space; stands = stands; same = run.same;
-        coherent = rw stays.entries (record { walks = λ t h root. run.coherent.walks t (fewer t h) root }) }
+    record {
+      space = run.space;
+      stands = stands;
+      same = run.same;
+      coherent = rw stays.entries (record { walks = λ t h root. run.coherent.walks t (fewer t h) root });
+    }
 
 -- the space of the active place changes, and keeps its root
 runs-changed : (old new : Held) (m k : Ram) (root : ℕ) (places : Places) (at : ℕ) (x z : Space) → at < length places
     → slot places at ≡ Some x → z.root ≡ x.root
     → (IsCoherent old x.root.0 (entries_of m x) → IsCoherent new x.root.0 (entries_of k z))
-        → Runs old m root places at → Runs new k root (slice_set places at (Some z)) at
+    → Runs old m root places at → Runs new k root (slice_set places at (Some z)) at
 runs-changed old new m k root places at x z hi e same coherent run =
     let both : Some run.space ≡ Some x = sym run.stands ∙ e in
     let is : run.space ≡ x = cc in
     let root_is : z.root.0 ≡ x.root.0 = ap (λ (r : FrameNo). r.0) same in
     let was = subst (λ (d : Space). IsCoherent old d.root.0 (entries_of m d)) is run.coherent in
     let now : IsCoherent new z.root.0 (entries_of k z) =
-            subst (λ (r : ℕ). IsCoherent new r (entries_of k z)) (sym root_is) (coherent was) in
-    record { space = z; stands = get_or-set_same places at (Some z) None hi; same = run.same
-        ∙ ap (λ (d : Space). d.root.0) is ∙ sym root_is; coherent = now }
+    subst (λ (r : ℕ). IsCoherent new r (entries_of k z)) (sym root_is) (coherent was) in
+    record {
+      space = z;
+      stands = get_or-set_same places at (Some z) None hi;
+      same = run.same
+          ∙ ap (λ (d : Space). d.root.0) is ∙ sym root_is;
+      coherent = now;
+    }
 
 -- ---- all of it
 
@@ -88,19 +97,23 @@ placed-as {held} {i} {j} at p e = subst (λ (o : Option SpaceView). Placed held 
 -- one place is written, through the slice of all
 abbrev pub set_in : {T : Type 0} → Inside T → Ram → Frames → T → Places → ℕ → Option Space → Inside T
 set_in i k n t xs at y =
-    record i { ram = k; frames = n; translator = t;
-    places = record { items = refill (length i.places.items) i.places.items (slice_set xs at y) } }
+    record i {
+      ram = k;
+      frames = n;
+      translator = t;
+      places = record { items = refill (length i.places.items) i.places.items (slice_set xs at y) };
+    }
 
 module _ {T : Type 0} {held : T → Held} {i : Inside T} (is : IsSpaces held i) where
   -- one place has another space, where a place traded with the free frames
   placed : (at from : ℕ) (y : Option Space) (k : Ram) (n : Frames) (t : T) (q : Places) (new : List ℕ)
       (places : List (Option SpaceView))
       → q ≡ slice_set i.places.items at y → IsMachine k n (slice_set i.places.items at y) (pipe_frames i.pipes.items)
-          → IsActive (held t) k i.hart.root.0 (slice_set i.places.items at y) i.active
+      → IsActive (held t) k i.hart.root.0 (slice_set i.places.items at y) i.active
       → ((x : Translation) → held t x → held i.translator x) → map (shown k) (slice_set i.places.items at y) ≡ places
-          → Trades i.ram k i.frames n (shares.held_at i.ram (slot i.places.items from)) new
+      → Trades i.ram k i.frames n (shares.held_at i.ram (slot i.places.items from)) new
       → Shows held i (record i { ram = k; frames = n; translator = t; places = record { items = q } })
-          (record (spaces_of i) { places = places })
+      (record (spaces_of i) { places = places })
   placed at from y k n t q new places e machine active fewer shows trades =
       let j : Inside _ = record i { ram = k; frames = n; translator = t; places = record { items = q } } in
       let sound : IsSpaces held j = record {
@@ -112,24 +125,31 @@ module _ {T : Type 0} {held : T → Held} {i : Inside T} (is : IsSpaces held i) 
         both = is.both;
       } in
       let view : spaces_of j ≡ record (spaces_of i) { places = places } =
-              rw (e, shows, pipes-beside i.ram k i.frames n i.places.items i.pipes.items new from is.machine trades,
-              trades.count) refl in
-      record { sound = sound; view = view;
-          fits = omega (arith, ap taken_frames view, taken-fits held j sound, trades.count) }
+      rw (
+        e,
+        shows,
+        pipes-beside i.ram k i.frames n i.places.items i.pipes.items new from is.machine trades,
+        trades.count,
+      ) refl in
+      record {
+        sound = sound;
+        view = view;
+        fits = omega (arith, ap taken_frames view, taken-fits held j sound, trades.count);
+      }
 
   traded : (at : ℕ) (y : Option Space) (k : Ram) (n : Frames) (t : T) (q : Places) → at < length i.places.items
       → q ≡ slice_set i.places.items at y → IsPlace k y n
       → Trades i.ram k i.frames n (shares.held_at i.ram (slot i.places.items at)) (shares.held_at k y)
-          → ((x : Translation) → held t x → held i.translator x)
+      → ((x : Translation) → held t x → held i.translator x)
       → (i.active ≡ Some at → Runs (held i.translator) i.ram i.hart.root.0 i.places.items
-          at → Runs (held t) k i.hart.root.0 (slice_set i.places.items at y) at)
+      at → Runs (held t) k i.hart.root.0 (slice_set i.places.items at y) at)
       → Placed held i (record i { ram = k; frames = n; translator = t; places = record { items = q } }) at (shown k y)
   traded at y k n t q hi e place trades fewer here =
       let others = trade-others i.ram k i.frames n i.places.items (pipe_frames i.pipes.items) (shares.held_at k y)
-              at is.machine trades in
+      at is.machine trades in
       let P : ℕ → Type 0 = λ j. Runs (held t) k i.hart.root.0 (slice_set i.places.items at y) j in
       let active = still-active (held i.translator) (held t) i.ram k i.hart.root.0 i.places.items
-              (slice_set i.places.items at y) i.active (λ j a run. elim (cases_eq j at) [
+      (slice_set i.places.items at y) i.active (λ j a run. elim (cases_eq j at) [
         | inl same ↦ subst P (sym same)
             (here (a ∙ ap Some same)
             (subst (λ (j : ℕ). Runs (held i.translator) i.ram i.hart.root.0 i.places.items j) same run))
@@ -137,7 +157,7 @@ module _ {T : Type 0} {held : T → Held} {i : Inside T} (is : IsSpaces held i) 
             (others j run.space ne run.stands) fewer
       ]) is.active in
       placed at at y k n t q (shares.held_at k y) (slice_set (map (shown i.ram) i.places.items) at (shown k y)) e
-          (trade-machine i.ram k i.frames n i.places.items (pipe_frames i.pipes.items) at y is.machine hi place trades)
+      (trade-machine i.ram k i.frames n i.places.items (pipe_frames i.pipes.items) at y is.machine hi place trades)
       active fewer (shown-placed i.ram k i.places.items at y others) trades
 
   free-place : (at : ℕ) → at < 64 → has_space (spaces_of i) at ≡ false
@@ -154,45 +174,49 @@ module _ {T : Type 0} {held : T → Held} {i : Inside T} (is : IsSpaces held i) 
       let place = free-place at low free in
       let none = nil_from_length (pages_of k z) (length-pages_of k z ∙ ap pages_in bare) in
       placed-as at (traded at (Some z) k n i.translator _ place.0 (refilled at same refl) space (rw place.1 trades)
-          (λ x h. h) (λ a run. absurd (let bad : None ≡ Some run.space = sym place.1 ∙ run.stands in cc)))
+      (λ x h. h) (λ a run. absurd (let bad : None ≡ Some run.space = sym place.1 ∙ run.stands in cc)))
       (shown-as k z [] 0 none bare)
 
   -- or one that shares the frames of another one's
   pub shared-there : {k : Ram} {n : Frames} {xs : Places} (from to : ℕ) (x z : Space) (t : T) → to < 64
       → has_space (spaces_of i) to ≡ false → xs ≡ i.places.items → slot i.places.items from ≡ Some x
       → IsSpace k x n → IsSpace k z n → Trades i.ram k i.frames n (holds i.ram x) (holds k x ++ holds k z)
-          → ((u : Translation) → held t u → held i.translator u) → (i.active ≡ Some from → HoldsNothing (held t))
+      → ((u : Translation) → held t u → held i.translator u) → (i.active ≡ Some from → HoldsNothing (held t))
       → pages_of k x ≡ shared_memory (pages_of i.ram x) → pages_of k z ≡ shared_memory (pages_of i.ram x)
-          → z.size ≡ x.size → Shows held i (set_in i k n t xs to (Some z)) (copied (spaces_of i) from to)
+      → z.size ≡ x.size → Shows held i (set_in i k n t xs to (Some z)) (copied (spaces_of i) from to)
   shared-there {k} {n} from to x z t low free same stands parent child trades fewer fenced marked pages size =
       let place = free-place to low free in
       let all = i.places.items in
       let now = Some (forked (view_with (pages_of i.ram x) x.size)) in
       let first : Trades i.ram k i.frames n (shares.held_at i.ram (slot all from)) (holds k x ++ holds k z) =
-              rw stands trades in
+      rw stands trades in
       let others = trade-others i.ram k i.frames n all (pipe_frames i.pipes.items) (holds k x ++ holds k z) from
-              is.machine first in
+      is.machine first in
       let active = still-active (held i.translator) (held t) i.ram k i.hart.root.0 all (slice_set all to (Some z))
-              i.active (λ j a run. (
+      i.active (λ j a run. (
       let apart : j ≢ to = λ (e : j ≡ to). let bad : None ≡ Some run.space = sym place.1 ∙ ap (slot all) (sym e)
-              ∙ run.stands in cc in
+      ∙ run.stands in cc in
       let there = get_or-set_other all to j (Some z) None apart ∙ run.stands in
       elim (cases_eq j from) [
-        | inl same ↦ record { space = run.space; stands = there; same = run.same;
-            coherent = coherent-nothing (held t) run.space.root.0 (entries_of k run.space) (fenced (a ∙ ap Some same)) }
+        | inl same ↦ record {
+          space = run.space;
+          stands = there;
+          same = run.same;
+          coherent = coherent-nothing (held t) run.space.root.0 (entries_of k run.space) (fenced (a ∙ ap Some same));
+        }
         | inr ne ↦ runs-on run there (others j run.space ne run.stands) fewer
       ])) is.active in
       let shows = map-placed (shown k) (shown k) all to (Some z) (λ j ne. refl)
       ∙ ap (λ (l : List (Option SpaceView)). slice_set l to (shown k (Some z)))
-          (ap (map (shown k)) (same-place all from x stands) ∙ shown-placed i.ram k all from (Some x) others)
+      (ap (map (shown k)) (same-place all from x stands) ∙ shown-placed i.ram k all from (Some x) others)
       ∙ ap (λ (o : Option SpaceView). slice_set (slice_set (spaces_of i).places from o) to (shown k (Some z)))
-          (shown-as k x (shared_memory (pages_of i.ram x)) x.size marked refl)
+      (shown-as k x (shared_memory (pages_of i.ram x)) x.size marked refl)
       ∙ ap (slice_set (slice_set (spaces_of i).places from now) to)
-          (shown-as k z (shared_memory (pages_of i.ram x)) x.size pages size) in
+      (shown-as k z (shared_memory (pages_of i.ram x)) x.size pages size) in
       rw (held-is i _ stands) (placed to from (Some z) k n t _ (holds k x ++ holds k z)
-          (slice_set (slice_set (spaces_of i).places from now) to now) (refilled to same refl)
+      (slice_set (slice_set (spaces_of i).places from now) to now) (refilled to same refl)
       (fork-machine i.ram k i.frames n all (pipe_frames i.pipes.items) from to x z is.machine stands place.0 place.1
-          parent child trades) active fewer shows first)
+      parent child trades) active fewer shows first)
 
   -- a place that isn't the active one loses its space
   pub destroyed : {k : Ram} {n : Frames} {xs : Places} {y : Option Space} (at : ℕ) (x : Space)
@@ -201,21 +225,21 @@ module _ {T : Type 0} {held : T → Held} {i : Inside T} (is : IsSpaces held i) 
       → Placed held i (set_in i k n i.translator xs at y) at None
   destroyed {k} {n} at x stands idle same gone free trades =
       traded at None k n i.translator _ (within i.places.items at x stands) (refilled at same gone) free
-          (rw stands trades) (λ t h. h) (λ a run. absurd (idle a))
+      (rw stands trades) (λ t h. h) (λ a run. absurd (idle a))
 
   -- the space of a place changes, and keeps its root
   pub changed : {k : Ram} {n : Frames} {q : Places} (at : ℕ) (x z : Space) (t : T) → slot i.places.items at ≡ Some x
       → q ≡ slice_set i.places.items at (Some z) → IsSpace k z n → Trades i.ram k i.frames n (holds i.ram x) (holds k z)
       → z.root ≡ x.root → ((u : Translation) → held t u → held i.translator u)
-          → (i.active ≡ Some at → IsCoherent (held i.translator) x.root.0 (entries_of i.ram x)
-          → IsCoherent (held t) x.root.0 (entries_of k z))
+      → (i.active ≡ Some at → IsCoherent (held i.translator) x.root.0 (entries_of i.ram x)
+      → IsCoherent (held t) x.root.0 (entries_of k z))
       → Placed held i (record i { ram = k; frames = n; translator = t; places = record { items = q } })
-          at (shown k (Some z))
+      at (shown k (Some z))
   changed {k} {n} {q} at x z t stands e space trades root fewer coherent =
       let hi = within i.places.items at x stands in
       traded at (Some z) k n t q hi e space (rw stands trades) fewer
-          (λ a run. runs-changed (held i.translator) (held t) i.ram k i.hart.root.0 i.places.items
-          at x z hi stands root (coherent a) run)
+      (λ a run. runs-changed (held i.translator) (held t) i.ram k i.hart.root.0 i.places.items
+      at x z hi stands root (coherent a) run)
 
   -- pages of a space are written, and may have other frames: then nothing is held for the active place. It shows this
   -- memory then
@@ -223,11 +247,11 @@ module _ {T : Type 0} {held : T → Held} {i : Inside T} (is : IsSpaces held i) 
       → slot i.places.items at ≡ Some x → Reframes i.ram k x i.frames n
       → ((u : Translation) → held t u → held i.translator u)
       → (i.active ≡ Some at → HoldsNothing (held t)) → pages_of k x ≡ memory
-          → Placed held i (record i { ram = k; frames = n; translator = t }) at (Some (view_with memory x.size))
+      → Placed held i (record i { ram = k; frames = n; translator = t }) at (Some (view_with memory x.size))
   reframed-showing at x k n t memory e r fewer fenced pages =
       placed-as at (changed at x x t e (same-place i.places.items at x e) r.space r.trades refl fewer
-          (λ a was. coherent-nothing (held t) x.root.0 (entries_of k x) (fenced a)))
-          (shown-as k x memory x.size pages refl)
+      (λ a was. coherent-nothing (held t) x.root.0 (entries_of k x) (fenced a)))
+      (shown-as k x memory x.size pages refl)
 
   -- a page of a space is written where it stands, so what is held stays: it shows this memory then
   stood-showing : (at : ℕ) (x : Space) (k : Ram) (memory : Memory) → slot i.places.items at ≡ Some x → Stands i.ram k x
@@ -235,7 +259,7 @@ module _ {T : Type 0} {held : T → Held} {i : Inside T} (is : IsSpaces held i) 
   stood-showing at x k memory e s pages =
       let space = is.machine.each at x e in
       placed-as at (changed at x x i.translator e (same-place i.places.items at x e) (s.space i.frames space)
-          (s.trades i.frames space) refl (λ u h. h) (λ a was. rw s.entries was)) (shown-as k x memory x.size pages refl)
+      (s.trades i.frames space) refl (λ u h. h) (λ a was. rw s.entries was)) (shown-as k x memory x.size pages refl)
 
   -- or it isn't written, and nothing changed
   pub stored-sound : (at : ℕ) (x : Space) (k : Ram) (b : Bool) → slot i.places.items at ≡ Some x
@@ -246,7 +270,7 @@ module _ {T : Type 0} {held : T → Held} {i : Inside T} (is : IsSpaces held i) 
   pub stored-showing : (at : ℕ) (x : Space) (k : Ram) (memory : Memory) (b : Bool) → slot i.places.items at ≡ Some x
       → OnTrue b (Stands i.ram k x) → OnTrue b (pages_of k x ≡ memory)
       → OnTrue b (spaces_of (record i { ram = k })
-          ≡ record (spaces_of i) { places = slice_set (spaces_of i).places at (Some (view_with memory x.size)) })
+      ≡ record (spaces_of i) { places = slice_set (spaces_of i).places at (Some (view_with memory x.size)) })
   stored-showing at x k memory true e stands pages = (stood-showing at x k memory e stands pages).view
   stored-showing at x k memory false e stands pages = tt
 
@@ -259,10 +283,10 @@ stored-same i k false same = rw same refl
 pub view-same : {T : Type 0} (i : Inside T) (at : ℕ) (x : Space) (k : Ram) (n : Frames) (z : Space) (q : Places)
     → (k ≡ i.ram) × (n ≡ i.frames) × (z ≡ x) → slot i.places.items at ≡ Some x
     → q ≡ slice_set i.places.items at (Some z)
-        → spaces_of (record i { ram = k; frames = n; places = record { items = q } }) ≡ spaces_of i
+    → spaces_of (record i { ram = k; frames = n; places = record { items = q } }) ≡ spaces_of i
 view-same i at x k n z q u e same =
     let stays : q ≡ i.places.items = same ∙ ap (λ y. slice_set i.places.items at (Some y)) u.2
-            ∙ sym (same-place i.places.items at x e) in
+    ∙ sym (same-place i.places.items at x e) in
     rw (u.0, stays) refl
 
 -- ---- what spaces show
@@ -270,7 +294,7 @@ view-same i at x k n z q u e same =
 -- the first pages of a space that grew, or didn't, are mapped as they were
 pub grown-front : (m k : Ram) (s n : Frames) (x z : Space) (r : Result (Unit {0}) VmFault)
     → OnOk r (take (pages_in x.size) (entries_of k z) ≡ entries_of m x) → OnErr r ((k ≡ m) × (n ≡ s) × (z ≡ x))
-        → take (length (entries_of m x)) (entries_of k z) ≡ entries_of m x
+    → take (length (entries_of m x)) (entries_of k z) ≡ entries_of m x
 grown-front m k s n x z (Ok u) front same = rw (length-mapping entry_marks m x.root.0 (pages_in x.size)) front
 grown-front m k s n x z (Err f) front same =
     rw (same.0, same.2) (take_all (length (entries_of m x)) (entries_of m x) (omega arith))
@@ -300,7 +324,7 @@ module _ {T : Type 0} {held : T → Held} {i : Inside T} (is : IsSpaces held i) 
       let y = view_with (pages_of i.ram x) x.size in
       let less = over-free to (Some y) low free (rw (frames-shown i.ram x) more) in
       let same = taken-forked (spaces_of i) from to y (slot-is i from (Some x) stands) free
-              (rw (places-count i) (free-place is to low free).0) in
+      (rw (places-count i) (free-place is to low free).0) in
       rw (held-is i _ stands) (omega (arith, less, same))
 
   -- nor for a space of more bytes, which is refused where it would pass the greatest size or takes more frames than are
@@ -309,7 +333,7 @@ module _ {T : Type 0} {held : T → Held} {i : Inside T} (is : IsSpaces held i) 
       → length i.ram ≤ 32768 → (274877898752 < x.size + bytes)
       ⊎ (frames_for (pages_in x.size) + free_count i.ram i.frames < frames_for (pages_in (x.size + bytes)))
       → length i.ram < taken_frames
-          (with_place (spaces_of i) at (Some (grown (view_with (pages_of i.ram x) x.size) bytes marks)))
+      (with_place (spaces_of i) at (Some (grown (view_with (pages_of i.ram x) x.size) bytes marks)))
   over-grown at x bytes marks e small why =
       let all = free-taken held i is in
       let now = frames-shown i.ram x in
@@ -317,9 +341,9 @@ module _ {T : Type 0} {held : T → Held} {i : Inside T} (is : IsSpaces held i) 
       let old = length-pages_of i.ram x in
       let new : length (grown (view_with (pages_of i.ram x) x.size) bytes marks).memory ≡ pages_in (x.size + bytes) =
       length-append (pages_of i.ram x) (replicate (pages_in (x.size + bytes) - pages_in x.size) (zero_page marks))
-          ∙ omega (arith, old, length-replicate (pages_in (x.size + bytes) - pages_in x.size) (zero_page marks)) in
+      ∙ omega (arith, old, length-replicate (pages_in (x.size + bytes) - pages_in x.size) (zero_page marks)) in
       let takes : frames_in (Some (grown (view_with (pages_of i.ram x) x.size) bytes marks))
-              ≡ 4 + page_frames (pages_in (x.size + bytes)) = ap (λ n. 4 + page_frames n) new in
+      ≡ 4 + page_frames (pages_in (x.size + bytes)) = ap (λ n. 4 + page_frames n) new in
       let hi = within i.places.items at x e in
       let rest = taken-placed (spaces_of i) at None (rw (places-count i) hi) in
       let here = ap frames_in (slot-is i at (Some x) e) in
@@ -349,9 +373,13 @@ parts-sound old new i j is spaces = record {
   active = rw (is.ram, is.places, is.hart, is.active)
       (still-active (old i.translator) (new j.translator) i.ram i.ram i.hart.root.0 i.places.items i.places.items
       i.active
-      (λ k a run. record { space = run.space; stands = run.stands; same = run.same;
-          coherent = coherent-nothing (new j.translator) run.space.root.0 (entries_of i.ram run.space) is.fenced })
-          spaces.active);
+      (λ k a run. record {
+        space = run.space;
+        stands = run.stands;
+        same = run.same;
+        coherent = coherent-nothing (new j.translator) run.space.root.0 (entries_of i.ram run.space) is.fenced;
+      })
+      spaces.active);
   inside = λ t held. absurd (is.fenced t held);
   pipes = rw is.pipes spaces.pipes;
   both = rw is.pipes spaces.both;

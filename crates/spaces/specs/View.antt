@@ -74,7 +74,7 @@ pub record IsSpaces {T : Type 0} (held : T → translation.Held) (k : Inside T) 
 abbrev pub WalksReach : List (List ℕ) → ℕ → Space → Type 0
 WalksReach m root x =
     (va : ℕ) (access : Access) → va < 2 ^ 64
-        → option_and_then (byte_at m) (walk m root va access) ≡ page_byte (memory_of m (entries_of m x)) va access
+    → option_and_then (byte_at m) (walk m root va access) ≡ page_byte (memory_of m (entries_of m x)) va access
 
 -- a store trapped in this page of a space
 abbrev pub IsStoreIn : Trap → Space → ℕ → Type 0

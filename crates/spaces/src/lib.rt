@@ -119,7 +119,7 @@ fn step_again<T: Translate>(hart: &mut Hart, ram: &mut Ram, translator: &mut T) 
     requires { HoldsInside (T.held translator.old) ram.old }
     ensures step { (mapping : List Mapped) → Shows (T.held translator.old) ram.old hart.old.root.0 mapping →
         Follows (cycle hart.old.registers hart.old.pc (memory_of ram.old mapping)) mapping result hart.old hart.new
-            ram.old ram.new }
+        ram.old ram.new }
     ensures kept { IsKept (T.held translator.old) (T.held translator.new) ram.old hart.old.root.0 }
     ensures count { length ram.new ≡ length ram.old }
 {
@@ -132,7 +132,7 @@ fn closed_page(space: &Space, ram: &Ram, trap: Trap) -> Option<u64>
     requires { IsMapped ram.now space.now }
     ensures some { IfSome result (IsStoreIn trap space.now) }
     ensures none { IfNone result
-            (trap.cause ≡ StorePageFault → page_for Store (pages_of ram.now space.now) trap.address ≡ None) }
+        (trap.cause ≡ StorePageFault → page_for Store (pages_of ram.now space.now) trap.address ≡ None) }
 {
     let Cause::StorePageFault = trap.cause else {
         return None;
@@ -523,7 +523,7 @@ impl<T: Translate> Spaces<T> {
     fn store(&mut self, at: usize, address: u64, bytes: &[u8]) -> bool
         requires { has_space self.old at ≡ true }
         ensures done { OnTrue result
-                (self.new ≡ with_view self.old at (written (view_at self.old at) address bytes.now)) }
+            (self.new ≡ with_view self.old at (written (view_at self.old at) address bytes.now)) }
         ensures refused { OnFalse result (self.new ≡ self.old) }
     {
         let space = space_at(&self.places, at);
@@ -547,7 +547,7 @@ impl<T: Translate> Spaces<T> {
         requires { has_space self.old at ≡ true }
         ensures can { result ≡ can_write (view_at self.old at).memory address (length bytes.now) }
         ensures done { OnTrue result
-                (self.new ≡ with_view self.old at (written (view_at self.old at) address bytes.now)) }
+            (self.new ≡ with_view self.old at (written (view_at self.old at) address bytes.now)) }
         ensures refused { OnFalse result (self.new ≡ self.old) }
     {
         self.pages_are_whole(at);
@@ -563,7 +563,7 @@ impl<T: Translate> Spaces<T> {
         requires { has_space self.now at ≡ true }
         ensures can { result ≡ is_some (read_bytes (view_at self.now at).memory address (length buffer.old)) }
         ensures done { OnTrue result
-                (read_bytes (view_at self.now at).memory address (length buffer.old) ≡ Some buffer.new) }
+            (read_bytes (view_at self.now at).memory address (length buffer.old) ≡ Some buffer.new) }
         ensures refused { OnFalse result (buffer.new ≡ buffer.old) }
     {
         let space = space_at(&self.places, at);
@@ -576,7 +576,7 @@ impl<T: Translate> Spaces<T> {
     pub fn copy_string(&self, at: usize, address: u64, buffer: &mut [u8]) -> Option<usize>
         requires { has_space self.now at ≡ true }
         ensures string { string_in buffer.new result
-                ≡ short_string (length buffer.old) (string_at (view_at self.now at).memory address) }
+            ≡ short_string (length buffer.old) (string_at (view_at self.now at).memory address) }
         ensures within { IfSome result (λ n. n ≤ length buffer.old) }
         ensures bytes { IfSome result (λ n. All (λ b. b ≢ 0) (take n buffer.new)) }
     {
@@ -781,7 +781,7 @@ impl<T: Translate> Spaces<T> {
         requires readable { length buffer.old ≤ length (reach Load (view_at self.old at).memory address) }
         ensures bytes { self.new ≡ put_behind self.old q (read_at (view_at self.old at) address (length buffer.old)) }
         ensures count { result ≡ length
-                (fitting (bytes_in self.old q) (read_at (view_at self.old at) address (length buffer.old))) }
+            (fitting (bytes_in self.old q) (read_at (view_at self.old at) address (length buffer.old))) }
     {
         let _read = self.read(at, address, buffer);
         self.put_bytes(q, buffer)

@@ -75,10 +75,10 @@ impl<const N: usize> Tlb<N> {
         ensures inside { HoldsInside (Keeps N self.old.kept) ram.now → IfSome result (λ f. f.0 < length ram.now) }
         ensures kept { IsKept (Keeps N self.old.kept) (Keeps N self.new.kept) ram.now root.0 }
         ensures hit { Hits (Keeps N self.old.kept) root.0 va access
-                (λ f. (numbered result ≡ Some f) × (self.new ≡ self.old)) }
+            (λ f. (numbered result ≡ Some f) × (self.new ≡ self.old)) }
         ensures walks { Misses (Keeps N self.old.kept) root.0 va access →
             (numbered result ≡ (walk_page ram.now root.0 (va / 4096) access).frame)
-                × (self.new.reads ≡ (self.old.reads + walk_count ram.now root.0 va access) % 2 ^ 64) }
+            × (self.new.reads ≡ (self.old.reads + walk_count ram.now root.0 va access) % 2 ^ 64) }
         ensures joins { IfSome result (λ f. Keeps N self.new.kept (asked root.0 va access f.0)) }
         ensures stays { KeepsOthers N (va / 4096) (Keeps N self.old.kept) (Keeps N self.new.kept) }
     {
@@ -99,10 +99,10 @@ impl<const N: usize> Translate for Tlb<N> {
         ensures inside { HoldsInside (Keeps N self.old.kept) ram.now → IfOk result (LiesInside ram.now) }
         ensures kept { IsKept (Keeps N self.old.kept) (Keeps N self.new.kept) ram.now root.0 }
         ensures hit { Hits (Keeps N self.old.kept) root.0 va access
-                (λ f. (result ≡ Ok (place_in va f)) × (self.new ≡ self.old)) }
+            (λ f. (result ≡ Ok (place_in va f)) × (self.new ≡ self.old)) }
         ensures walks { Misses (Keeps N self.old.kept) root.0 va access →
             (result_ok result ≡ walk ram.now root.0 va access)
-                × (self.new.reads ≡ (self.old.reads + walk_count ram.now root.0 va access) % 2 ^ 64) }
+            × (self.new.reads ≡ (self.old.reads + walk_count ram.now root.0 va access) % 2 ^ 64) }
         ensures joins { IfOk result (Reaches (Keeps N self.new.kept) root.0 va access) }
         ensures stays { KeepsOthers N (va / 4096) (Keeps N self.old.kept) (Keeps N self.new.kept) }
     {

@@ -64,7 +64,7 @@ impl<T: Translate> Recent<T> {
         ensures found { IsFound (T.held self.old.below) ram.now root.0 va access (numbered result) }
         ensures inside { IfSome result (λ f. f.0 < length ram.now) }
         ensures kept { IsKept (Knows T.held self.old.below self.old.places)
-                (Knows T.held self.new.below self.new.places) ram.now root.0 }
+            (Knows T.held self.new.below self.new.places) ram.now root.0 }
         ensures below { IsKept (T.held self.old.below) (T.held self.new.below) ram.now root.0 }
         ensures joins { IfSome result (λ f. Remembers self.new.places (asked root.0 va access f.0)) }
         ensures stays { KeepsOthers 64 (va / 4096) (Remembers self.old.places) (Remembers self.new.places) }
@@ -80,15 +80,15 @@ impl<T: Translate> Recent<T> {
     fn frame(&mut self, ram: &Ram, root: FrameNo, va: u64, access: Access) -> Option<FrameNo>
         requires { HoldsInside (Knows T.held self.old.below self.old.places) ram.now }
         ensures found { IsFound (Knows T.held self.old.below self.old.places) ram.now root.0 va access
-                (numbered result) }
+            (numbered result) }
         ensures inside { IfSome result (λ f. f.0 < length ram.now) }
         ensures kept { IsKept (Knows T.held self.old.below self.old.places)
-                (Knows T.held self.new.below self.new.places) ram.now root.0 }
+            (Knows T.held self.new.below self.new.places) ram.now root.0 }
         ensures hit { Hits (Remembers self.old.places) root.0 va access
-                (λ f. (numbered result ≡ Some f) × (self.new ≡ self.old)) }
+            (λ f. (numbered result ≡ Some f) × (self.new ≡ self.old)) }
         ensures miss { Misses (Remembers self.old.places) root.0 va access →
             IsFound (T.held self.old.below) ram.now root.0 va access (numbered result)
-                × IsKept (T.held self.old.below) (T.held self.new.below) ram.now root.0 }
+            × IsKept (T.held self.old.below) (T.held self.new.below) ram.now root.0 }
         ensures joins { IfSome result (λ f. Remembers self.new.places (asked root.0 va access f.0)) }
         ensures stays { KeepsOthers 64 (va / 4096) (Remembers self.old.places) (Remembers self.new.places) }
     {
@@ -106,15 +106,15 @@ impl<T: Translate> Translate for Recent<T> {
     fn translate(&mut self, ram: &Ram, root: FrameNo, va: u64, access: Access) -> Result<Pa, Fault>
         requires { HoldsInside (Knows T.held self.old.below self.old.places) ram.now }
         ensures answer { IsAnswer (Knows T.held self.old.below self.old.places) ram.now root.0 va access
-                (result_ok result) }
+            (result_ok result) }
         ensures inside { IfOk result (LiesInside ram.now) }
         ensures kept { IsKept (Knows T.held self.old.below self.old.places)
-                (Knows T.held self.new.below self.new.places) ram.now root.0 }
+            (Knows T.held self.new.below self.new.places) ram.now root.0 }
         ensures hit { Hits (Remembers self.old.places) root.0 va access
-                (λ f. (result ≡ Ok (place_in va f)) × (self.new ≡ self.old)) }
+            (λ f. (result ≡ Ok (place_in va f)) × (self.new ≡ self.old)) }
         ensures miss { Misses (Remembers self.old.places) root.0 va access →
             IsAnswer (T.held self.old.below) ram.now root.0 va access (result_ok result)
-                × IsKept (T.held self.old.below) (T.held self.new.below) ram.now root.0 }
+            × IsKept (T.held self.old.below) (T.held self.new.below) ram.now root.0 }
         ensures joins { IfOk result (Reaches (Remembers self.new.places) root.0 va access) }
         ensures stays { KeepsOthers 64 (va / 4096) (Remembers self.old.places) (Remembers self.new.places) }
     {

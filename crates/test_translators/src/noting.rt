@@ -91,7 +91,7 @@ impl Noting {
     // The frame of the oldest note.
     fn find(&self, root: FrameNo, page: u64, access: Access) -> Option<FrameNo>
         ensures { IfSome result (λ f. IsNoted self.now.notes.items
-                (record { root = root.0; page = page; access = access; frame = f.0 })) }
+            (record { root = root.0; page = page; access = access; frame = f.0 })) }
     {
         let number = *self.index.as_slice().get(place(page, access)?)?;
         let note = self

@@ -90,10 +90,10 @@ impl CallText {
     /// Puts bytes behind those of the buffer, as far as so many are shown.
     pub fn add_data(&mut self, bytes: &[u8], most: usize) -> Result<(), AllocError>
         ensures added { OnOk result
-                (self.new.«data».items ≡ self.old.«data».items
-                ++ take (most - length self.old.«data».items) bytes.now) }
+            (self.new.«data».items ≡ self.old.«data».items
+            ++ take (most - length self.old.«data».items) bytes.now) }
         ensures shown { OnOk result
-                (self.new.shown ≡ shown_after (most - length self.old.«data».items) (length bytes.now) self.old.shown) }
+            (self.new.shown ≡ shown_after (most - length self.old.«data».items) (length bytes.now) self.old.shown) }
         ensures front { string_bytes self.new.front ≡ string_bytes self.old.front }
         ensures back { string_bytes self.new.back ≡ string_bytes self.old.back }
     {

@@ -78,8 +78,8 @@ impl Row {
     pub fn go_on(&mut self, text: &CallText, most: usize) -> Result<(), AllocError>
         ensures counts { Counts self.old self.new }
         ensures shows { self.old.answer ≡ pos 1
-                → OnOk result (self.new.text.«data».items ≡ self.old.text.«data».items
-                ++ take (most - length self.old.text.«data».items) text.now.«data».items) }
+            → OnOk result (self.new.text.«data».items ≡ self.old.text.«data».items
+            ++ take (most - length self.old.text.«data».items) text.now.«data».items) }
         ensures same { self.old.answer ≢ pos 1 → self.new.text ≡ self.old.text }
     {
         self.times = self.times.saturating_add(1);

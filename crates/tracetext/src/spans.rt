@@ -310,7 +310,7 @@ impl<'a> Span<'a> {
     /// A call of a process.
     pub fn call(pid: u32, done: Done<'a>) -> Self
         ensures stands { Stands result (Some done.entry.period.since)
-                (Some (done.entry.period.until - done.entry.period.since)) pid (Some CALLS) None }
+            (Some (done.entry.period.until - done.entry.period.since)) pid (Some CALLS) None }
         ensures call { IsCall result.details done.entry.number done.entry.text.now done.entry.answer }
     {
         let name = CallName(done.number);

@@ -38,8 +38,17 @@ pub use Rattle.unixmodel.specs.Files.{free_slot, has_name, is_directory, is_dot_
 pub use Rattle.unixmodel.specs.Files.{live_spot, longest, most_links, Entry, most_places, Node, node_bytes, onto_first}
 pub use Rattle.unixmodel.specs.Files.{pieces, place_bytes, put, size_of, slot, split_last, Spot, start_of, taken}
 pub use Rattle.unixmodel.specs.Files.{with_entry_at, with_last, with_links, with_places, without_place}
-unfoldable pub use Rattle.unixmodel.specs.Files.{enter, erase, find, free_number, lookup, parts, place_of, spot_of,
-    with_entry}
+unfoldable pub use Rattle.unixmodel.specs.Files.{
+  enter,
+  erase,
+  find,
+  free_number,
+  lookup,
+  parts,
+  place_of,
+  spot_of,
+  with_entry,
+}
 pub use Rattle.unixmodel.specs.Files.Node.{Directory, File}
 pub use Rattle.unixmodel.specs.Manifest.{data_blocks_of}
 unfoldable pub use Rattle.unixmodel.specs.Memory.{zeros}

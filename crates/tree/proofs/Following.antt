@@ -21,15 +21,24 @@ pub record Beside (old new : FileTree) : Type 0 where
   pub later : old.failures ≤ new.failures
 
 beside-then : {old mid new : FileTree} → Beside old mid → Beside mid new → Beside old new
-beside-then one two = record
-    { size = two.size ∙ one.size; limit = two.limit ∙ one.limit; holds = two.holds ∙ one.holds; device = two.device
-    ∙ one.device; later = let l = one.later in let m = two.later in omega arith }
+beside-then one two = record {
+  size = two.size ∙ one.size;
+  limit = two.limit ∙ one.limit;
+  holds = two.holds ∙ one.holds;
+  device = two.device
+      ∙ one.device;
+  later = let l = one.later in let m = two.later in omega arith;
+}
 
 beside-tried : {old new : FileTree} {T : Type 0} {r : Result T DeviceFault} {Told : T → Type 0} → Tries old new r Told
     → Beside old new
-beside-tried tries = record
-    { size = tries.size; limit = tries.limit; holds = tries.holds; device = tries.serves.same_device;
-    later = tries.serves.cause.later }
+beside-tried tries = record {
+  size = tries.size;
+  limit = tries.limit;
+  holds = tries.holds;
+  device = tries.serves.same_device;
+  later = tries.serves.cause.later;
+}
 
 beside-acted : {old new : FileTree} {T : Type 0} {r : Result T TreeFault} {Done : T → Type 0} {Refused : Type 0}
     {Why : TreeFault → Type 0} → Acts old new r Done Refused Why → Beside old new
@@ -41,8 +50,13 @@ beside-acted acts = record
 module _ {old new : FileTree} {T : Type 0} {Told : T → Type 0} (beside : Beside old new) where
   pub tried : {x : T} → new.failed ≡ false → Told x → Tries old new (Ok x) Told
   tried up told = record {
-    serves = record { told = told; up = up; down = tt; same_device = beside.device;
-        cause = record { later = beside.later; failed = λ e. absurd (false≢true e) } };
+    serves = record {
+      told = told;
+      up = up;
+      down = tt;
+      same_device = beside.device;
+      cause = record { later = beside.later; failed = λ e. absurd (false≢true e) };
+    };
     size = beside.size;
     limit = beside.limit;
     holds = beside.holds;
@@ -50,8 +64,13 @@ module _ {old new : FileTree} {T : Type 0} {Told : T → Type 0} (beside : Besid
 
   pub failed : {e : DeviceFault} → new.failed ≡ true → Rises old.failures new.failures → Tries old new (Err e) Told
   failed down rises = record {
-    serves = record { told = tt; up = tt; down = down; same_device = beside.device;
-        cause = record { later = beside.later; failed = λ _. rises } };
+    serves = record {
+      told = tt;
+      up = tt;
+      down = down;
+      same_device = beside.device;
+      cause = record { later = beside.later; failed = λ _. rises };
+    };
     size = beside.size;
     limit = beside.limit;
     holds = beside.holds;
@@ -133,8 +152,8 @@ module _ {old mid : FileTree} {files : Files} (now : IsNow old mid files) where
         → Reads mid new r (λ n. n ≡ lookup mid.files d name) → r ≡ Ok o → o ≡ x → lookup files d name ≡ x
     looked d name reads was is =
         let told = subst (λ (q : Result (Option ℕ) DeviceFault). IfOk q
-                (λ o. (new ≡ record mid { failures = new.failures }) × (o ≡ lookup mid.files d name))) was
-                reads.serves.told in
+        (λ o. (new ≡ record mid { failures = new.failures }) × (o ≡ lookup mid.files d name))) was
+        reads.serves.told in
         sym (told.1 ∙ ap (λ (fs : Files). lookup fs d name) now-files) ∙ is
 
     -- a step failed
@@ -143,8 +162,8 @@ module _ {old mid : FileTree} {files : Files} (now : IsNow old mid files) where
     end-lost {U = U} {s = s} tries was told =
         let down = subst (λ (q : Result U DeviceFault). OnErr q (new.failed ≡ true)) was tries.serves.down in
         rw (err_from_is_err_and s told).1
-            (failed (beside-then (beside-now now) (beside-tried tries)) down
-            (rises-before now.later (tries.serves.cause.failed (ap is_err was))))
+        (failed (beside-then (beside-now now) (beside-tried tries)) down
+        (rises-before now.later (tries.serves.cause.failed (ap is_err was))))
 
 -- ---- the answer of the last step
 
@@ -157,8 +176,8 @@ pub end-last : {old mid new : FileTree} (now : IsNow old mid old.files) {T : Typ
     (r : Result T DeviceFault) → Reads mid new r Was → ((x : T) → Was x → Told x) → Reads old new r Told
 end-last {old} {mid} {new} now {T} {Was} {Told} r reads so = last-is now r reads (λ x is.
     let told : (new ≡ record mid { failures = new.failures }) × Was x =
-            subst (λ (q : Result T DeviceFault). IfOk q (λ x. (new ≡ record mid { failures = new.failures }) × Was x))
-            is reads.serves.told in
+    subst (λ (q : Result T DeviceFault). IfOk q (λ x. (new ≡ record mid { failures = new.failures }) × Was x))
+    is reads.serves.told in
     ((now-read now reads is).is, so x told.1))
 
 pub turned-last : {old mid new : FileTree} {files : Files} (now : IsNow old mid files) {T : Type 0}
@@ -193,8 +212,17 @@ err-is e f h = ap (λ r. fault_or r e) h
 module _ {old now : FileTree} {T : Type 0} {Done : T → Type 0} {Refused : Type 0} {Why : TreeFault → Type 0} where
   acted : {x : T} → Beside old now → now.failed ≡ false → Done x → Acts old now (Ok x) Done Refused Why
   acted beside up done =
-      record { done = done; refused = tt; failed = up; size = beside.size; limit = beside.limit; holds = beside.holds;
-          same_device = beside.device; later = beside.later; cause = λ e. cc }
+      record {
+        done = done;
+        refused = tt;
+        failed = up;
+        size = beside.size;
+        limit = beside.limit;
+        holds = beside.holds;
+        same_device = beside.device;
+        later = beside.later;
+        cause = λ e. cc;
+      }
 
   refused : {fault : TreeFault} → Beside old now → now.failed ≡ is_device fault
       → (fault ≢ Device → IsRefusal old now Refused (Why fault)) → (fault ≡ Device → Rises old.failures now.failures)
@@ -219,8 +247,8 @@ module _ {old now : FileTree} {T : Type 0} {Done : T → Type 0} {Refused : Type
       → Why fault → Acts old now (Err fault) Done Refused Why
   acts-not {fault} up is known less why =
       refused (beside-now is) (now-up is up ∙ sym known)
-          (λ _. record { refused = less; why = why; same = now-files is })
-          (λ e. absurd (false≢true (sym known ∙ ap is_device e)))
+      (λ _. record { refused = less; why = why; same = now-files is })
+      (λ e. absurd (false≢true (sym known ∙ ap is_device e)))
 
   -- an access failed
   pub acts-lost : {mid : FileTree} {files : Files} (is : IsNow old mid files) {U : Type 0} {Was : U → Type 0}
@@ -232,14 +260,14 @@ module _ {old now : FileTree} {T : Type 0} {Done : T → Type 0} {Refused : Type
       let down = subst (λ (q : Result U DeviceFault). OnErr q (now.failed ≡ true)) was tries.serves.down in
       let rises = rises-before is.later (tries.serves.cause.failed (ap is_err was)) in
       rw (err.1 ∙ ap Err err.2)
-          (refused (beside-then (beside-now is) (beside-tried tries)) down (λ known. absurd (known refl)) (λ _. rises))
+      (refused (beside-then (beside-now is) (beside-tried tries)) down (λ known. absurd (known refl)) (λ _. rises))
 
   -- a part was refused, and so is all
   pub acts-refused : {mid : FileTree} → IsNow old mid old.files
       → {U : Type 0} {Part : U → Type 0} {Less : Type 0} {Cause : TreeFault → Type 0} {r : Result U TreeFault}
       {s : Result T TreeFault} {fault : TreeFault} → Acts mid now r Part Less Cause → r ≡ Err fault
       → (fault ≢ Device → Less → Cause fault → Refused × Why fault) → IsErrAnd s (λ f. f ≡ fault)
-          → Acts old now s Done Refused Why
+      → Acts old now s Done Refused Why
   acts-refused {mid} is {Part = Part} {Less = Less} {Cause = Cause} {s = s} acts was so told =
       let part = subst (λ q. Acts mid now q Part Less Cause) was acts in
       let err = err_from_is_err_and s told in
@@ -277,15 +305,20 @@ module _ {old mid : FileTree} {files : Files} (now : IsNow old mid files) where
 
     pub now-took : {n : ℕ} → o ≡ Some n → (free_number files ≡ Some n) × IsNow old new (set files n (fresh kind))
     now-took {n} some =
-        let t = subst (TakesNode mid new kind) some told in
-        (ap free_number (sym (now-files now))
-            ∙ t.0, now-wanted (now-served now takes.serves is (λ _. t.1))
-            (ap (λ fs. set fs n (fresh kind)) (now-files now)))
+        let t = subst (TakesNode mid new kind) some told in (
+          ap free_number (sym (now-files now))
+              ∙ t.0,
+          now-wanted (now-served now takes.serves is (λ _. t.1))
+              (ap (λ fs. set fs n (fresh kind)) (now-files now)),
+        )
 
     pub now-none : o ≡ None → (free_number files ≡ None) × IsNow old new files
     now-none none = let t = subst (TakesNode mid new kind) none told
-        in (ap free_number (sym (now-files now))
-        ∙ t.0, now-wanted (now-served now takes.serves is (λ _. t.1)) (now-files now))
+        in (
+          ap free_number (sym (now-files now))
+              ∙ t.0,
+          now-wanted (now-served now takes.serves is (λ _. t.1)) (now-files now),
+        )
 
   -- behind a call on names
   module _ {new : FileTree} {T : Type 0} {r : Result T TreeFault} {Done : T → Type 0} {Refused : Type 0}
@@ -294,9 +327,18 @@ module _ {old mid : FileTree} {files : Files} (now : IsNow old mid files) where
     now-passed up is {next} same =
         let all = beside-then (beside-now now) (beside-acted acts) in
         let up : new.failed ≡ old.failed = acts.failed ∙ ap has_failed is ∙ sym up in
-        record { is = λ i. record
-            { files = same i; size = all.size i; block_limit = all.limit i; holds = all.holds i; failed = up i;
-            failures = new.failures; identity = all.device i }; later = all.later }
+        record {
+          is = λ i. record {
+            files = same i;
+            size = all.size i;
+            block_limit = all.limit i;
+            holds = all.holds i;
+            failed = up i;
+            failures = new.failures;
+            identity = all.device i;
+          };
+          later = all.later;
+        }
 
   -- that left the files as they were
   pub now-kept : {new : FileTree} {T : Type 0} {r : Result T TreeFault} {Done : T → Type 0} {Refused : Type 0}
@@ -334,8 +376,13 @@ told-done (Err e) so was = tt
 pub tells-more : {old new : FileTree} {T : Type 0} {Was Told : T → Type 0} {r : Result T DeviceFault}
     → ((x : T) → Was x → Told x) → Tries old new r Was → Tries old new r Told
 tells-more {r = r} so tries = record {
-  serves = record { told = told-done r so tries.serves.told; up = tries.serves.up; down = tries.serves.down;
-      same_device = tries.serves.same_device; cause = tries.serves.cause };
+  serves = record {
+    told = told-done r so tries.serves.told;
+    up = tries.serves.up;
+    down = tries.serves.down;
+    same_device = tries.serves.same_device;
+    cause = tries.serves.cause;
+  };
   size = tries.size;
   limit = tries.limit;
   holds = tries.holds;
@@ -344,8 +391,8 @@ tells-more {r = r} so tries = record {
 pub turns-become : {t new : FileTree} {d at : ℕ} {bytes : List ℕ} {goal : Files} {T : Type 0}
     {r : Result T DeviceFault} (b : Becomes t d at bytes goal)
     → Tries t new r (λ _. (next : List (Option Entry)) → (r : Rewrites t d at bytes next)
-        → new ≡ record t { files = put t.files d (Directory r.links next); failures = new.failures })
-        → Turns t new r goal
+    → new ≡ record t { files = put t.files d (Directory r.links next); failures = new.failures })
+    → Turns t new r goal
 turns-become {t} {new} b =
     tells-more (λ x is. is b.next b.able ∙ ap (λ (fs : Files). record t { files = fs; failures = new.failures }) b.is)
 
@@ -358,7 +405,15 @@ module _ {old mid new : FileTree} {files : Files} (now : IsNow old mid files) {T
   lost-served {s = s} was told =
       let err = (err_from_is_err_and s told).1 in
       let failed = subst (λ (q : Result T DeviceFault). OnErr q (new.failed ≡ true)) was serves.down in
-      record { told = rw err tt; up = rw err tt; down = rw err failed; same_device = serves.same_device
-          ∙ (beside-now now).device; cause =
-          record { later = let l = now.later in let m = serves.cause.later in omega arith;
-          failed = λ _. rises-before now.later (serves.cause.failed (ap is_err was)) } }
+      record {
+        told = rw err tt;
+        up = rw err tt;
+        down = rw err failed;
+        same_device = serves.same_device
+            ∙ (beside-now now).device;
+        cause =
+            record {
+              later = let l = now.later in let m = serves.cause.later in omega arith;
+              failed = λ _. rises-before now.later (serves.cause.failed (ap is_err was));
+            };
+      }

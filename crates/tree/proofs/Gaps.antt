@@ -51,8 +51,10 @@ module _ (files : Files) (at : Spot) (node : ℕ → Node) where
 
     pub make-done : {k n : ℕ} → room_in places ≡ Some k → free_number files ≡ Some n
         → make_at files at node ≡ Some
-        (record { files = entered (put files n (node n)) at.directory k (record { name = at.name; number = n });
-        number = n })
+        (record {
+          files = entered (put files n (node n)) at.directory k (record { name = at.name; number = n });
+          number = n;
+        })
     unfolding make_at
     make-done {k} {n} room is =
         ap (option_and_then (λ m. numbered m (enter (put files m (node m)) at m))) is
@@ -87,7 +89,7 @@ at-node : (files : Files) (at : Spot) (name : List ℕ) (k : ℕ) (o : Option No
     → cond (is_some (live_places o)) (Some (spot_at k name)) None ≡ Some at → IsLiveAt files at.directory
 at-node files at name k (Some (Directory (suc links) places)) here h =
     subst (λ (s : Spot). IsLiveAt files s.directory) (same_Some _ at h)
-        (record { links = links; places = places; here = here })
+    (record { links = links; places = places; here = here })
 at-node files at name k _ here h = absurd (none-some at h)
 
 pub spot-directory : (files : Files) (d : ℕ) (path : List ℕ) (at : Spot)
@@ -111,8 +113,12 @@ module _ (files : Files) (d : ℕ) (path : List ℕ) {at : Spot} (spot : spot_of
   gap-folder = record { links = suc live.links; places = live.places; here = live.here }
 
   pub gap-full : room_in live.places ≡ None → IsFullAt files d path
-  gap-full none = record { at = at; spot = spot; none = ap (λ o. option_and_then room_in (live_places o)) live.here
-      ∙ none }
+  gap-full none = record {
+    at = at;
+    spot = spot;
+    none = ap (λ o. option_and_then room_in (live_places o)) live.here
+        ∙ none;
+  }
 
   module _ {k : ℕ} (room : room_in live.places ≡ Some k) where
     abbrev pub gap-room : HasRoom files at.directory k
@@ -123,8 +129,15 @@ module _ (files : Files) (d : ℕ) (path : List ℕ) {at : Spot} (spot : spot_of
       pub gap-lacks : enough ≡ false → LacksBlocks limit files d path more
       gap-lacks fewer =
           let few = leb-false _ _ (sym told ∙ fewer) in
-          record { at = at; spot = spot; places = live.places; here = ap live_places live.here; place = k; room = room;
-              few = omega arith }
+          record {
+            at = at;
+            spot = spot;
+            places = live.places;
+            here = ap live_places live.here;
+            place = k;
+            room = room;
+            few = omega arith;
+          }
 
       pub gap-has : enough ≡ true → lookup files at.directory at.name ≡ None → HasGap limit files d path more at k
       gap-has plenty free = record {
@@ -189,9 +202,9 @@ module _ {files : Files} {d : ℕ} {path : List ℕ} {more : ℕ} {made : Option
   too-many lacks fs is =
       let live = spot-directory files d path lacks.at lacks.spot in
       let same : live.places ≡ lacks.places =
-              same_Some live.places lacks.places (sym (ap live_places live.here) ∙ lacks.here) in
+      same_Some live.places lacks.places (sym (ap live_places live.here) ∙ lacks.here) in
       let grown : growth live.places lacks.place ≡ growth lacks.places lacks.place =
-              ap (λ ps. growth ps lacks.place) same in
+      ap (λ ps. growth ps lacks.place) same in
       let few = lacks.few in
       let blocks = (makes.fills lacks.at lacks.spot).grows live lacks.place (ap room_in same ∙ lacks.room) fs is in
       omega arith
@@ -206,7 +219,7 @@ module _ {files : Files} {d : ℕ} {path : List ℕ} {more : ℕ} {made : Option
   overflows Full known why =
       let live = spot-directory _ d path _ why.spot in
       overflow-none _ ((makes.fills why.at why.spot).full live
-          (sym (ap (λ o. option_and_then room_in (live_places o)) live.here) ∙ why.none))
+      (sym (ap (λ o. option_and_then room_in (live_places o)) live.here) ∙ why.none))
   overflows Blocks known why = too-many why
   overflows fault.Device known why = absurd (known refl)
   overflows _ known why = absurd why
@@ -214,10 +227,10 @@ module _ {files : Files} {d : ℕ} {path : List ℕ} {more : ℕ} {made : Option
 -- a node that comes with an entry fills so
 pub make-fills : (files : Files) (at : Spot) (node : ℕ → Node) (after : Made → Files) {more : ℕ}
     → ((n : ℕ) → free_number files ≡ Some n → (live : IsLiveAt files at.directory) (k : ℕ)
-        → room_in live.places ≡ Some k
+    → room_in live.places ≡ Some k
     → blocks_of (after (record
-        { files = entered (put files n (node n)) at.directory k (record { name = at.name; number = n }); number = n }))
-        ≡ blocks_of files + growth live.places k + more)
+    { files = entered (put files n (node n)) at.directory k (record { name = at.name; number = n }); number = n }))
+    ≡ blocks_of files + growth live.places k + more)
     → Fills files at more (option_map after (make_at files at node))
 make-fills files at node after {more} blocks = go (free_number files) refl where
   go : (o : Option ℕ) → free_number files ≡ o → Fills files at more (option_map after (make_at files at node))
@@ -248,8 +261,10 @@ module _ (files : Files) (d : ℕ) (path : List ℕ) (node : Node) where
 
   pub made-done : {limit more k n : ℕ} {at : Spot} → HasGap limit files d path more at k → free_number files ≡ Some n
       → made_in files d path node
-          ≡ Some (record { files = entered (put files n node) at.directory k (record { name = at.name; number = n });
-          number = n })
+      ≡ Some (record {
+        files = entered (put files n node) at.directory k (record { name = at.name; number = n });
+        number = n;
+      })
   made-done {at = at} gap is = made-is gap.spot
       ∙ ap (λ o. cond (is_none o) (make_at files at (λ n. node)) None) gap.free
       ∙ make-done _ at (λ n. node) gap.here gap.room is
@@ -257,11 +272,11 @@ module _ (files : Files) (d : ℕ) (path : List ℕ) (node : Node) where
   module _ (empty : size_of node ≡ 0) where
     made-blocks : (at : Spot) (n : ℕ) → free_number files ≡ Some n → (live : IsLiveAt files at.directory) (k : ℕ)
         → blocks_of (entered (put files n node) at.directory k (record { name = at.name; number = n }))
-            ≡ blocks_of files + growth live.places k + 0
+        ≡ blocks_of files + growth live.places k + 0
     made-blocks at n is live k =
         let number = free-number files n is in
         let entry = blocks_of-entered (put files n node) at.directory (suc live.links) live.places
-                (still-here number node at.directory live.here) k (record { name = at.name; number = n }) in
+        (still-here number node at.directory live.here) k (record { name = at.name; number = n }) in
         let none = fresh-blocks files n node number empty in
         omega arith
 
@@ -273,7 +288,7 @@ module _ (files : Files) (d : ℕ) (path : List ℕ) (node : Node) where
       fills = λ at spot. subst (Fills files at 0) (sym (ap made_files (made-is spot)))
           (tested (λ b. made_files (cond b (make_at files at (λ n. node)) None)) refl
           (make-fills _ at (λ n. node) (λ (made : Made). made.files) (λ n is live k room. made-blocks at n is live k))
-              (is_none (lookup files at.directory at.name)));
+          (is_none (lookup files at.directory at.name)));
     }
 
     -- a name that has no room makes nothing
@@ -322,18 +337,18 @@ pub record AsksEntry (t : FileTree) (at : Spot) (k n : ℕ) : Type 0 where
 pub entry-asked : {old mid : FileTree} {files next : Files} (now : IsNow old mid next) {d : ℕ} {path : List ℕ}
     {at : Spot} {k more : ℕ} (gap : HasGap old.block_limit files d path more at k)
     → blocks_of next ≡ blocks_of files + more → slot next at.directory ≡ Some (Directory (suc gap.links) gap.places)
-        → (n : ℕ) → slot next n ≢ None → All (λ b. b ≢ 0) path → AsksEntry mid at k n
+    → (n : ℕ) → slot next n ≢ None → All (λ b. b ≢ 0) path → AsksEntry mid at k n
 entry-asked {old} {mid} {files} {next} now {d} {path} {at} {k} gap blocks here n some plain =
     at-now now (λ t. AsksEntry t at k n) (record {
-  plain = plain-name _ (spot-parts _ d path at plain gap.spot).name;
-  node = some;
-  room = record { links = suc gap.links; places = gap.places; here = here; room = gap.room };
-  fits = λ r.
-      let same : r.places ≡ gap.places = ap places-of (same_Some _ _ (sym r.here ∙ here)) in
-      let grown : growth r.places k ≡ growth gap.places k = ap (λ ps. growth ps k) same in
-      let fits = gap.fits in
-      omega arith;
-})
+      plain = plain-name _ (spot-parts _ d path at plain gap.spot).name;
+      node = some;
+      room = record { links = suc gap.links; places = gap.places; here = here; room = gap.room };
+      fits = λ r.
+          let same : r.places ≡ gap.places = ap places-of (same_Some _ _ (sym r.here ∙ here)) in
+          let grown : growth r.places k ≡ growth gap.places k = ap (λ ps. growth ps k) same in
+          let fits = gap.fits in
+          omega arith;
+    })
 
 -- what came is this node
 pub fresh-now : {old now : FileTree} (files : Files) (n : ℕ) {came : Option Node} {node : Node} → came ≡ Some node
@@ -393,8 +408,12 @@ module _ (holds : List ℕ) (files : Files) (d : ℕ) (path : List ℕ) where
   pub spot-naming : KeepsTree files → (at : Spot) → spot_of files d path ≡ Some at → IsNaming files at.directory
   spot-naming keeps at spot =
       let live = spot-directory _ d path at spot in
-      record { links = live.links; places = live.places; here = live.here;
-          numbers = numbers-used keeps _ _ _ live.here }
+      record {
+        links = live.links;
+        places = live.places;
+        here = live.here;
+        numbers = numbers-used keeps _ _ _ live.here;
+      }
 
   -- why no name goes at the spot of a path
   pub refused-at : (at : Spot) → spot_of files d path ≡ Some at → (told : TreeFault) → told ≢ fault.Device

@@ -36,8 +36,8 @@ module _ {files : Files} (keeps : KeepsTree files) (d : ℕ) (path : List ℕ) (
   unfolding made_in
   created-changed l made h =
       option_and_then_some (λ at. made_at files at (λ n. leaf_node l)) (spot_of files d path) made h
-          (λ at spot is. keeps-made keeps
-          at (spot-parts _ d path at plain spot) (λ n. leaf_node l) (λ n. leaf-new l) made is)
+      (λ at spot is. keeps-made keeps
+      at (spot-parts _ d path at plain spot) (λ n. leaf_node l) (λ n. leaf-new l) made is)
 
   -- a directory is made
   pub folder-changed : (more : Files) → folder_in files d path ≡ Some more → Changed files more
@@ -50,9 +50,9 @@ module _ {files : Files} (keeps : KeepsTree files) (d : ℕ) (path : List ℕ) (
   unfolding linked_in
   linked-changed old more h =
       option_and_then_some (λ n. option_and_then (λ at. linked files at n) (spot_of files d path)) (find files d old)
-          more h (λ n found rest.
+      more h (λ n found rest.
       option_and_then_some (λ at. linked files at n) (spot_of files d path) more rest
-          (λ at spot is. keeps-linked keeps at (spot-parts _ d path at plain spot) n more is))
+      (λ at spot is. keeps-linked keeps at (spot-parts _ d path at plain spot) n more is))
 
 -- ---- a node goes
 
@@ -105,7 +105,7 @@ module _ {files : Files} (keeps : KeepsTree files) (holds : List ℕ) (d : ℕ) 
   reaps at less loses settled =
       let node = still at less loses in
       ap (λ o. cond (stays holds loses.number o) less (clear less loses.number)) node.1
-          ∙ sym (loses-reaped (used holds) _ less settled loses node.0 node.1)
+      ∙ sym (loses-reaped (used holds) _ less settled loses node.0 node.1)
 
   unlinked-at : (at : Spot) → spot_of files d path ≡ Some at → (n : ℕ) → lookup files at.directory at.name ≡ Some n
       → (o : Option Files) → unlinked files at ≡ o → (more : Files)
@@ -128,10 +128,10 @@ module _ {files : Files} (keeps : KeepsTree files) (holds : List ℕ) (d : ℕ) 
   unfolding unlinked_in
   unlinked-reaps more h =
       option_and_then_some (λ at. option_and_then
-          (λ n. option_map (λ (less : Files). let_go holds less n) (unlinked files at))
-          (lookup files at.directory at.name)) (spot_of files d path) more h (λ at spot rest.
+      (λ n. option_map (λ (less : Files). let_go holds less n) (unlinked files at))
+      (lookup files at.directory at.name)) (spot_of files d path) more h (λ at spot rest.
       option_and_then_some (λ n. option_map (λ (less : Files). let_go holds less n) (unlinked files at))
-          (lookup files at.directory at.name) more rest (λ n named last. unlinked-at at spot n named _ refl more last))
+      (lookup files at.directory at.name) more rest (λ n named last. unlinked-at at spot n named _ refl more last))
 
 -- ---- bytes are written
 
@@ -140,7 +140,7 @@ pub written-changed : {files : Files} → KeepsTree files → (limit n at : ℕ)
 unfolding written
 written-changed {files} keeps limit n at new file =
     subst (λ o. Changed files (files_after files (write_to limit files n at new o))) (sym file.here)
-        (go (nat_le at (length file.bytes) && nat_le (at + length new) longest) refl)
+    (go (nat_le at (length file.bytes) && nat_le (at + length new) longest) refl)
   where
     go : (b : Bool) → (nat_le at (length file.bytes) && nat_le (at + length new) longest) ≡ b
         → Changed files (files_after files
@@ -176,7 +176,7 @@ let-go-serves {old} {mid} {new} {hs} n {T} {r} is =
     → Serves old new r (λ _. new ≡ record old { files = let_go hs old.files n; holds = hs; failures = new.failures }))
     (sym is) (λ turns.
     let s = turns.serves in record
-            { told = s.told; up = s.up; down = s.down; same_device = s.same_device; cause = s.cause })
+    { told = s.told; up = s.up; down = s.down; same_device = s.same_device; cause = s.cause })
 
 module _ (holds : List ℕ) (files : Files) (n : ℕ) where
   pub let-go-held : 1 ≤ get_or holds n 0 → let_go holds files n ≡ files
@@ -307,4 +307,4 @@ swept-more {old} {now} {new} {i} is next =
 pub swept-all : {old now : FileTree} {i : ℕ} → IsSwept old now i → length old.files ≤ i → now.files ≡ unheld old.files
 swept-all {old} {now} is all =
     ext_get_or None now.files (unheld old.files) (is.long ∙ sym (length-kept is_linked 0 _))
-        (λ n l. is.below n (omega (arith, l, all, is.long)))
+    (λ n l. is.below n (omega (arith, l, all, is.long)))

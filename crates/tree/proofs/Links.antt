@@ -46,18 +46,18 @@ module _ (files : Files) (n : ℕ) (node : Node) (here : slot files n ≡ Some n
 -- ---- a file loses its bytes
 
 module _ (files : Files) (n : ℕ) (node : Node) (here : slot files n ≡ Some node) (s : InodeStat) (told : Tells s node)
-    where
-  pub emptied-other : s.kind ≢ 2 → files ≡ change_node files n emptied
-  emptied-other other = go node here told where
-    go : (node : Node) → slot files n ≡ Some node → Tells s node → files ≡ change_node files n emptied
-    go (File links bytes) here told = absurd (other told.0)
-    go node here told = sym (emptied-is _ n node here refl)
+  where
+    pub emptied-other : s.kind ≢ 2 → files ≡ change_node files n emptied
+    emptied-other other = go node here told where
+      go : (node : Node) → slot files n ≡ Some node → Tells s node → files ≡ change_node files n emptied
+      go (File links bytes) here told = absurd (other told.0)
+      go node here told = sym (emptied-is _ n node here refl)
 
-  pub emptied-file : s.kind ≡ 2 → IsFile files n
-  emptied-file two = go node here told where
-    go : (node : Node) → slot files n ≡ Some node → Tells s node → IsFile files n
-    go (File links bytes) here told = record { links = links; bytes = bytes; here = here }
-    go node here told = let e = told.0 in absurd (omega arith)
+    pub emptied-file : s.kind ≡ 2 → IsFile files n
+    emptied-file two = go node here told where
+      go : (node : Node) → slot files n ≡ Some node → Tells s node → IsFile files n
+      go (File links bytes) here told = record { links = links; bytes = bytes; here = here }
+      go node here told = let e = told.0 in absurd (omega arith)
 
 module _ (files : Files) (d : ℕ) (old new : List ℕ) where
   pub linked-nothing : find files d old ≡ None → linked_in files d old new ≡ None
@@ -77,7 +77,7 @@ module _ (files : Files) (d : ℕ) (old new : List ℕ) where
     unfolding linked_in linked
     linked-is =
         ap (option_and_then (λ m. option_and_then (λ at. linked_node files at m (slot files m)) (spot_of files d new)))
-            found
+        found
         ∙ ap (λ o. option_and_then (λ at. linked_node files at n o) (spot_of files d new)) here
 
     never : ((at : Spot) → linked_node files at n (Some node) ≡ None) → linked_in files d old new ≡ None
@@ -109,8 +109,8 @@ module _ (files : Files) (d : ℕ) (old new : List ℕ) where
       still-there k links places at =
           ap (λ (fs : Files). slot fs k) more
           ∙ get_or-set_other _ n k _ None
-              (λ e. false≢true (sym other
-              ∙ ap is_directory (same_Some node _ (sym here ∙ ap (slot files) (sym e) ∙ at)))) ∙ at
+          (λ e. false≢true (sym other
+          ∙ ap is_directory (same_Some node _ (sym here ∙ ap (slot files) (sym e) ∙ at)))) ∙ at
 
       module _ (few : has_room_for_link node ≡ true) where
         linked-at : {at : Spot} → spot_of files d new ≡ Some at → linked_in files d old new
@@ -132,9 +132,9 @@ module _ (files : Files) (d : ℕ) (old new : List ℕ) where
           grows = λ live k room fs is.
               let stands = still-there _ _ _ live.here in
               let count = ap blocks_of (same_Some _ fs (sym (enter-room counted at n live.links _ stands k room) ∙ is))
-                      in
+              in
               let entry = blocks_of-entered counted at.directory (suc live.links) _ stands k
-                      (record { name = at.name; number = n }) in
+              (record { name = at.name; number = n }) in
               let same = more-blocks files n node here in
               omega arith;
         }
@@ -183,9 +183,10 @@ module _ (old : FileTree) {d : ℕ} {path : List ℕ} {n : ℕ} {t : InodeStat} 
   pub seen-directory : t.kind ≡ 1
       → Overflows limit (linked_in files d path new) × Reaches files d path (λ node. is_directory node ≡ true)
   seen-directory e =
-      let is = eq-eqb _ 1 (sym s.told.0 ∙ e) in
-      (overflow-none _ (linked-directory _ d path new n _ s.found s.here is),
-          record { number = n; node = s.node; found = s.found; here = s.here; is = is })
+      let is = eq-eqb _ 1 (sym s.told.0 ∙ e) in (
+        overflow-none _ (linked-directory _ d path new n _ s.found s.here is),
+        record { number = n; node = s.node; found = s.found; here = s.here; is = is },
+      )
 
   module _ (other : t.kind ≢ 1) where
     file : is_directory s.node ≡ false
@@ -194,9 +195,10 @@ module _ (old : FileTree) {d : ℕ} {path : List ℕ} {n : ℕ} {t : InodeStat} 
     pub seen-many : 32767 ≤ t.links
         → Overflows limit (linked_in files d path new) × Reaches files d path (λ node. most_links ≤ links_of node)
     seen-many many =
-        let is : most_links ≤ links_of s.node = let e = s.told.1 in omega arith in
-        (overflow-none _ (linked-many _ d path new n _ s.found s.here file is),
-            record { number = n; node = s.node; found = s.found; here = s.here; is = is })
+        let is : most_links ≤ links_of s.node = let e = s.told.1 in omega arith in (
+          overflow-none _ (linked-many _ d path new n _ s.found s.here file is),
+          record { number = n; node = s.node; found = s.found; here = s.here; is = is },
+        )
 
     module _ (few : t.links < 32767) where
       room : has_room_for_link s.node ≡ true
@@ -374,15 +376,15 @@ module _ (files : Files) (d : ℕ) (path : List ℕ) where
         let live = spot-directory _ d path at spot in
         folder-at at spot _ live.here
         ∙ ap (λ b. cond (b && has_room_for_link (Directory (suc live.links) live.places))
-            (with-link at spot (come at spot)) None) (none-not _ some);
+        (with-link at spot (come at spot)) None) (none-not _ some);
     fills = λ at spot.
         let live = spot-directory _ d path at spot in
         let parent = Directory (suc live.links) live.places in
         subst (Fills files at 1) (sym (folder-at at spot parent live.here))
-            (tested (λ b. cond b (with-link at spot (come at spot)) None) refl
+        (tested (λ b. cond b (with-link at spot (come at spot)) None) refl
         (make-fills _ at _ (λ (made : Made). change_node made.files at.directory more_links) (λ n is live k room.
         let blocks = folder-blocks at spot live.here room is in omega arith))
-                (is_free_name files at && has_room_for_link parent));
+        (is_free_name files at && has_room_for_link parent));
   }
 
   -- a name that has no room makes no directory
@@ -390,9 +392,9 @@ module _ (files : Files) (d : ℕ) (path : List ℕ) where
       → Overflows limit (folder_in files d path) × LacksFolder limit files d path told
   weaker-folder limit told known why =
       (overflows folder-makes _ told known why, making-folder told (gap-making _ _ d path 1 told why)) where
-    making-folder : (told : TreeFault) → LacksMaking limit files d path 1 told → LacksFolder limit files d path told
-    making-folder fault.Links why = absurd why
-    making-folder _ why = why
+        making-folder : (told : TreeFault) → LacksMaking limit files d path 1 told → LacksFolder limit files d path told
+        making-folder fault.Links why = absurd why
+        making-folder _ why = why
 
 -- ---- the steps
 
@@ -433,14 +435,17 @@ module _ (old : FileTree) {d : ℕ} {path : List ℕ} {at : Spot} {k : ℕ}
   pub name-asked : {mid : FileTree} → IsNow old mid next → All (λ b. b ≢ 0) path → AsksEntry mid at k n
   name-asked now =
       entry-asked now gap (second-blocks _ d path at gap.spot gap.here gap.room is)
-          (second-here _ d path at gap.spot gap.here gap.room is) n
+      (second-here _ d path at gap.spot gap.here gap.room is) n
       (comes-some _ n _ free-n.within)
 
   -- the directory above gets a link
   module _ (few : suc gap.links < most_links) where
     pub above-asked : (node : Node) × (slot last at.directory ≡ Some node) × (links_of node < 65535)
-    above-asked = (Directory (suc gap.links) (placed gap.places k name),
-        third-here _ d path at gap.spot gap.here gap.room is, omega arith)
+    above-asked = (
+      Directory (suc gap.links) (placed gap.places k name),
+      third-here _ d path at gap.spot gap.here gap.room is,
+      omega arith,
+    )
 
     pub folder-is : folder_in old.files d path ≡ Some (change_node last at.directory more_links)
     folder-is = folder-done _ d path at gap.spot gap.here gap.room is few gap.free

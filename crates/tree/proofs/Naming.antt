@@ -62,7 +62,7 @@ unfolding parts
 parts-piece bs w ws rest e some same =
     ap (λ xs. map (take 14) (filter (λ w. nat_lt 0 (length w)) xs)) e
     ∙ ap (map (take 14)) (cond-true _ (w ∷ filter (λ w. nat_lt 0 (length w)) ws) (filter (λ w. nat_lt 0 (length w)) ws)
-        (lt-ltb 0 _ some))
+    (lt-ltb 0 _ some))
     ∙ ap (λ r. take 14 w ∷ r) same
 
 parts-nothing : parts [] ≡ []
@@ -75,8 +75,8 @@ parts-behind : (bs : List ℕ) (i : ℕ) → i < length bs → is_slash (get_or 
 parts-behind bs i h slash =
     let next : i + 1 ≡ suc i = omega arith in
     parts-skip (drop i bs) 1 (omega (arith, length-drop i bs))
-        (λ k l. (let z : i + k ≡ i = omega arith in ap is_slash (get_or-drop i bs k 0 ∙ ap (λ j. get_or bs j 0) z)
-        ∙ slash)) ∙ ap parts (drop-drop 1 i bs ∙ ap (λ k. drop k bs) next)
+    (λ k l. (let z : i + k ≡ i = omega arith in ap is_slash (get_or-drop i bs k 0 ∙ ap (λ j. get_or bs j 0) z)
+    ∙ slash)) ∙ ap parts (drop-drop 1 i bs ∙ ap (λ k. drop k bs) next)
 
 -- the name at the front
 pub record IsFront (bs : List ℕ) (end : ℕ) : Type 0 where
@@ -89,9 +89,11 @@ module _ (bs : List ℕ) (some : 1 ≤ length bs) (first : is_slash (get_or bs 0
   unfolding parts
   front-split i at =
       let s = position-Some (λ b. b == 0x2f) bs i 0 at in
-      let positive : 1 ≤ i = elim (cases_lt 0 i)
-              [ inl l ↦ l | inr m ↦ let z : i ≡ 0 = omega arith
-              in absurd (false≢true (sym first ∙ ap (λ k. is_slash (get_or bs k 0)) (sym z) ∙ s.1)) ] in
+      let positive : 1 ≤ i = elim (cases_lt 0 i) [
+        | inl l ↦ l
+        | inr m ↦ let z : i ≡ 0 = omega arith
+            in absurd (false≢true (sym first ∙ ap (λ k. is_slash (get_or bs k 0)) (sym z) ∙ s.1))
+      ] in
       record {
         some = positive;
         within = let h = s.0 in omega arith;
@@ -106,8 +108,8 @@ module _ (bs : List ℕ) (some : 1 ≤ length bs) (first : is_slash (get_or bs 0
     within = omega arith;
     parts = parts-piece bs bs [] [] (pieces-whole bs (position-None (λ b. b == 0x2f) bs 0 none)) some refl
         ∙ ap (λ w. take 14 w ∷ []) (sym (take_all (length bs) bs (omega arith)))
-            ∙ ap (λ r. take 14 (take (length bs) bs) ∷ r)
-            (sym (ap parts (drop_all (length bs) bs (omega arith)) ∙ parts-nothing));
+        ∙ ap (λ r. take 14 (take (length bs) bs) ∷ r)
+        (sym (ap parts (drop_all (length bs) bs (omega arith)) ∙ parts-nothing));
   }
 
   front-of : (o : Option ℕ) → position (λ b. b == 0x2f) bs ≡ o → IsFront bs (unwrap_or o (length bs))
@@ -119,7 +121,7 @@ module _ (bs : List ℕ) (some : 1 ≤ length bs) (first : is_slash (get_or bs 0
 pub no-name : (path : List ℕ) → position (λ b. not (b == 0x2f)) path ≡ None → parts path ≡ []
 no-name path none =
     parts-skip path (length path) (omega arith)
-        (λ k h. not-false _ (position-None (λ b. not (b == 0x2f)) path 0 none k h))
+    (λ k h. not-false _ (position-None (λ b. not (b == 0x2f)) path 0 none k h))
     ∙ ap parts (drop_all (length path) path (omega arith)) ∙ parts-nothing
 
 pub record IsFirst (path : List ℕ) (i end : ℕ) : Type 0 where
@@ -134,15 +136,15 @@ first-name path i end at is =
     let high = s.0 in
     let z : i + 0 ≡ i = omega arith in
     let front = front-of (drop i path) (omega (arith, length-drop i path))
-            (ap is_slash (get_or-drop i path 0 0 ∙ ap (λ k. get_or path k 0) z) ∙ not-true _ s.1)
-            (position (λ b. b == 0x2f) (drop i path)) refl in
+    (ap is_slash (get_or-drop i path 0 0 ∙ ap (λ k. get_or path k 0) z) ∙ not-true _ s.1)
+    (position (λ b. b == 0x2f) (drop i path)) refl in
     let e = sym is in
     let some : 1 ≤ end = subst (λ k. 1 ≤ k) e front.some in
     let within : end ≤ length (drop i path) = subst (λ k. k ≤ length (drop i path)) e front.within in
     record {
       parts = parts-skip path i (omega arith) (λ k h. not-false _ (s.2 k h))
           ∙ subst (λ k. parts (drop i path) ≡ take 14 (take k (drop i path)) ∷ parts (drop k (drop i path))) e
-              front.parts
+          front.parts
           ∙ ap (λ w. w ∷ parts (drop end (drop i path))) (take-min end _);
       shorter = omega (arith, length-drop end (drop i path), length-drop i path);
       within = within;
@@ -189,7 +191,7 @@ module _ (path rest : List ℕ) (i end cut : ℕ) (o : Option ℕ) (at : positio
   cut-shorter =
       let s = first.shorter in
       let e : length (take (length rest - end) (drop end rest)) ≡ length (drop end (drop i path)) =
-              ap length (take_rest rest end) ∙ ap (λ r. length (drop end r)) from in
+      ap length (take_rest rest end) ∙ ap (λ r. length (drop end r)) from in
       omega arith
 
 -- ---- where a path starts
@@ -248,7 +250,7 @@ spot-above files d path = go (split_last (parts path)) where
   go : (o : Option (List (List ℕ) × List ℕ))
       → option_and_then (λ split. option_and_then (live_spot files split.1) (follow files (start_of d path) split.0)) o
       ≡ live_at files (option_and_then
-          (λ split. option_map (λ k. (k, split.1)) (follow files (start_of d path) split.0)) o)
+      (λ split. option_map (λ k. (k, split.1)) (follow files (start_of d path) split.0)) o)
   go None = refl
   go (Some split) = at split.1 (follow files (start_of d path) split.0)
 
@@ -261,14 +263,14 @@ abbrev pub spot_at : ℕ → List ℕ → Spot
 spot_at k name = record { directory = k; name = name }
 
 module _ (files : Files) (d : ℕ) (path : List ℕ) {k : ℕ} {name : List ℕ} (is : above files d path ≡ Some (k, name))
-    where
-  spot-is : {o : Option Node} → slot files k ≡ o
-      → spot_of files d path ≡ cond (is_some (live_places o)) (Some (spot_at k name)) None
-  spot-is here = spot-above _ d path ∙ ap (live_at files) is
-      ∙ ap (λ o. cond (is_some (live_places o)) (Some (spot_at k name)) None) here
+  where
+    spot-is : {o : Option Node} → slot files k ≡ o
+        → spot_of files d path ≡ cond (is_some (live_places o)) (Some (spot_at k name)) None
+    spot-is here = spot-above _ d path ∙ ap (live_at files) is
+        ∙ ap (λ o. cond (is_some (live_places o)) (Some (spot_at k name)) None) here
 
-  pub no-spot : live_places (slot files k) ≡ None → spot_of files d path ≡ None
-  no-spot dead = spot-is refl ∙ ap (λ o. cond (is_some o) (Some (spot_at k name)) None) dead
+    pub no-spot : live_places (slot files k) ≡ None → spot_of files d path ≡ None
+    no-spot dead = spot-is refl ∙ ap (λ o. cond (is_some o) (Some (spot_at k name)) None) dead
 
 module _ {files : Files} (keeps : KeepsTree files) (d : ℕ) (path : List ℕ) (used : IsSome (slot files d)) (k : ℕ)
     (name : List ℕ) (is : above files d path ≡ Some (k, name)) where
@@ -281,15 +283,18 @@ module _ {files : Files} (keeps : KeepsTree files) (d : ℕ) (path : List ℕ) (
     spot-other h = go above-node.0 above-node.1 where
       go : (x : Node) → slot files k ≡ Some x → (spot_of files d path ≡ None) × IsNoDirectory files d path
       go (Directory l places) here = absurd (h (told (Directory l places) here).0)
-      go x here = (no-spot _ d path is (ap live_places here),
-          record { number = k; name = name; node = x; above = is; here = here; other = refl })
+      go x here = (
+        no-spot _ d path is (ap live_places here),
+        record { number = k; name = name; node = x; above = is; here = here; other = refl },
+      )
 
     pub spot-bare : s.kind ≡ 1 → s.links ≡ 0 → (spot_of files d path ≡ None) × IsDead files d path
     spot-bare one none = go above-node.0 above-node.1 where
       go : (x : Node) → slot files k ≡ Some x → (spot_of files d path ≡ None) × IsDead files d path
-      go (Directory zero places) here =
-          (no-spot _ d path is (ap live_places here),
-          record { number = k; name = name; places = places; above = is; here = here })
+      go (Directory zero places) here = (
+        no-spot _ d path is (ap live_places here),
+        record { number = k; name = name; places = places; above = is; here = here },
+      )
       go (Directory (suc l) places) here = let e = (told (Directory (suc l) places) here).1 in absurd (omega arith)
       go x here = let e = (told x here).0 in absurd (omega arith)
 
@@ -331,8 +336,13 @@ found-parts places name f e = go (position (has_name name) places) refl e where
   at k p (Some entry) q h =
       let same = same_Some (let m : Found = record { place = k; number = entry.number } in m) f h in
       let place : k ≡ f.place = ap (λ (x : Found). x.place) same in
-      record { is = e; entry = entry; first = p ∙ ap Some place; here = ap (slot places) (sym place) ∙ q;
-          number = ap (λ (x : Found). x.number) same }
+      record {
+        is = e;
+        entry = entry;
+        first = p ∙ ap Some place;
+        here = ap (slot places) (sym place) ∙ q;
+        number = ap (λ (x : Found). x.number) same;
+      }
 
   go : (o : Option ℕ) → position (has_name name) places ≡ o
       → option_and_then (λ k. found_at k (slot places k)) o ≡ Some f → IsFound places name f
@@ -345,14 +355,14 @@ module _ (files : Files) (d links : ℕ) (places : List (Option Entry))
   unfolding lookup found_in
   lookup-in = ap (λ o. option_and_then (λ ps. entry_number (option_and_then (slot ps) (position (has_name name) ps)))
       (live_places o)) here ∙ go (position (has_name name) places) where
-    at : (k : ℕ) (o : Option Entry) → entry_number o ≡ option_map (λ (f : Found). f.number) (found_at k o)
-    at k None = refl
-    at k (Some e) = refl
+        at : (k : ℕ) (o : Option Entry) → entry_number o ≡ option_map (λ (f : Found). f.number) (found_at k o)
+        at k None = refl
+        at k (Some e) = refl
 
-    go : (o : Option ℕ) → entry_number (option_and_then (slot places) o)
-        ≡ option_map (λ (f : Found). f.number) (option_and_then (λ k. found_at k (slot places k)) o)
-    go None = refl
-    go (Some k) = at k (slot places k)
+        go : (o : Option ℕ) → entry_number (option_and_then (slot places) o)
+            ≡ option_map (λ (f : Found). f.number) (option_and_then (λ k. found_at k (slot places k)) o)
+        go None = refl
+        go (Some k) = at k (slot places k)
 
 -- ---- the definitions
 
@@ -398,8 +408,12 @@ module _ {files : Files} {d : ℕ} (naming : IsNaming files d) (name : List ℕ)
     lookup-found = lookup-in _ d _ _ naming.here name ∙ ap (option_map (λ (f : Found). f.number)) found.is
 
     pub found-place : HasPlace files d f.place
-    found-place = record { links = suc naming.links; places = naming.places; here = naming.here;
-        within = slot-within _ _ found.entry found.here }
+    found-place = record {
+      links = suc naming.links;
+      places = naming.places;
+      here = naming.here;
+      within = slot-within _ _ found.entry found.here;
+    }
 
     pub found-node : (node : Node) × (slot files f.number ≡ Some node)
     found-node = node-of _ (subst (λ n. IsSome (slot files n)) found.number
@@ -421,9 +435,9 @@ module _ {files : Files} {d : ℕ} (naming : IsNaming files d) (name : List ℕ)
       taken-node goes false e h = absurd (none-some goes (sym (ap (λ b. cond b (Some (is_directory node)) None) e) ∙ h))
       taken-node goes true e h =
           let is : is_directory node ≡ goes =
-                  same_Some _ goes (sym (ap (λ b. cond b (Some (is_directory node)) None) e) ∙ h) in
+          same_Some _ goes (sym (ap (λ b. cond b (Some (is_directory node)) None) e) ∙ h) in
           ap (λ b. cond b (Some (without_name files d f.place f.number node)) None) e
-              ∙ ap (λ b. Some (dropped (erase files d f.place) f.number d b)) is
+          ∙ ap (λ b. Some (dropped (erase files d f.place) f.number d b)) is
 
       pub unlinked-full : removal node ≡ None → unlinked files spot ≡ None
       unlinked-full h = unlinked-not _ refl _ refl

@@ -69,8 +69,8 @@ module _ (places : List (Option Entry)) where
   bare-yes : (n : ℕ) → length places ≤ n → ((k : ℕ) → k < n → 2 ≤ k → slot places k ≡ None) → is_bare places ≡ true
   bare-yes n past none =
       ap (λ (es : List Entry). length es == 0)
-          (none-taken (drop 2 places)
-          (λ k l. slot-drop _ k ∙ none (2 + k) (omega (arith, length-drop 2 places)) (omega arith)))
+      (none-taken (drop 2 places)
+      (λ k l. slot-drop _ k ∙ none (2 + k) (omega (arith, length-drop 2 places)) (omega arith)))
 
   bare-no : (k : ℕ) (e : Entry) → 2 ≤ k → slot places k ≡ Some e → is_bare places ≡ false
   bare-no k e low here =
@@ -122,7 +122,7 @@ module _ (places : List (Option Entry)) where
     go (Some j) at q =
         let s = (position-Some is_none _ j None at).0 in
         ap (λ i. Some (put places i e)) (same_Some j k q)
-            ∙ ap Some (sym (placed-inside k e (let same = same_Some j k q in omega arith)))
+        ∙ ap Some (sym (placed-inside k e (let same = same_Some j k q in omega arith)))
     go None at q =
         let b = behind-is k q in
         cond-true _ _ None (lt-ltb _ most_places b.0) ∙ ap Some (sym (placed-behind k e (omega arith)))
@@ -148,9 +148,13 @@ module _ (places : List (Option Entry)) where
         let grown : growth places k ≡ taken_for (16 * length places + 16) - taken_for (16 * length places) =
         cond-false _ 0 _ (le-ltb k _ m) in
         let more : 16 * (length places + 1) ≡ 16 * length places + 16 = omega arith in
-        omega (arith, ap (λ n. taken_for (16 * n))
-            (ap length (placed-behind k e m) ∙ length-append places (Some e ∷ [])), ap taken_for more,
-            taken-grows (16 * length places) (16 * length places + 16) (omega arith))
+        omega (
+          arith,
+          ap (λ n. taken_for (16 * n))
+              (ap length (placed-behind k e m) ∙ length-append places (Some e ∷ [])),
+          ap taken_for more,
+          taken-grows (16 * length places) (16 * length places + 16) (omega arith),
+        )
   ]
 
 -- ---- an entry
@@ -164,11 +168,11 @@ module _ (files : Files) (d links : ℕ) (places : List (Option Entry))
 enter-at : (files : Files) (at : Spot) (n links : ℕ) (places : List (Option Entry))
     → slot files at.directory ≡ Some (Directory (suc links) places)
     → enter files at n ≡ option_map (λ ps. change_node files at.directory (λ node. with_places node ps))
-        (with_entry places (record { name = at.name; number = n }))
+    (with_entry places (record { name = at.name; number = n }))
 unfolding enter
 enter-at files at n links places here =
     ap (λ o. option_map (λ ps. change_node files at.directory (λ node. with_places node ps))
-        (option_and_then (λ ps. with_entry ps (record { name = at.name; number = n })) (live_places o))) here
+    (option_and_then (λ ps. with_entry ps (record { name = at.name; number = n })) (live_places o))) here
 
 module _ (files : Files) (at : Spot) (n links : ℕ) (places : List (Option Entry))
     (here : slot files at.directory ≡ Some (Directory (suc links) places)) where
@@ -179,13 +183,13 @@ module _ (files : Files) (at : Spot) (n links : ℕ) (places : List (Option Entr
       enter-at _ at n _ _ here
       ∙ ap (option_map (λ ps. change_node files at.directory (λ node. with_places node ps))) (with-room _ k e room)
       ∙ ap Some (change-is _ _ (λ node. with_places node (placed places k e)) _ here
-          ∙ sym (entered-is _ _ _ _ here k e))
+      ∙ sym (entered-is _ _ _ _ here k e))
 
   pub enter-full : room_in places ≡ None → enter files at n ≡ None
   enter-full none =
       let e : Entry = record { name = at.name; number = n } in
       enter-at _ at n _ _ here
-          ∙ ap (option_map (λ ps. change_node files at.directory (λ node. with_places node ps))) (without-room _ e none)
+      ∙ ap (option_map (λ ps. change_node files at.directory (λ node. with_places node ps))) (without-room _ e none)
 
 pub blocks_of-entered : (files : Files) (d links : ℕ) (places : List (Option Entry))
     → slot files d ≡ Some (Directory links places) → (k : ℕ) (e : Entry)
@@ -206,7 +210,7 @@ pub read-whole : (at count : ℕ) (bytes old new : List ℕ) → count ≡ min (
 read-whole at count bytes old new is fits read =
     let whole : count ≡ length old = omega arith in
     read ∙ ap (λ n. part at n bytes ++ drop n old) whole
-        ∙ ap (λ r. part at (length old) bytes ++ r) (drop_all (length old) old (omega arith)) ∙ append-nil _
+    ∙ ap (λ r. part at (length old) bytes ++ r) (drop_all (length old) old (omega arith)) ∙ append-nil _
 
 -- the places that are read next: no more than there are, nor than a block has
 pub record IsNext (size k m : ℕ) : Type 0 where
@@ -260,7 +264,7 @@ module _ (bytes : List ℕ) (k m : ℕ) (fits : 16 * (k + m) ≤ length bytes) w
           let i : k + (j - k) ≡ j = omega arith in
           ap (λ x. is_sought sought (place_in bytes x)) (sym i)
           ∙ ap (λ b. is_sought sought (place_of_bytes b)) (sym (part-some (j - k) (omega arith)))
-              ∙ none (j - k) (omega arith) (omega arith)
+          ∙ none (j - k) (omega arith) (omega arith)
     ]
 
     pub all-passed : Scans sought some 0 None → (j : ℕ) → j < k + m → from ≤ j
@@ -321,9 +325,9 @@ module _ (places : List (Option Entry)) (fits : All PlaceFits places) where
   name-told name (Some found) is =
       let here = place-is _ is.within in
       let before = λ (k : ℕ) (l : k < found.place). let w = is.within in let low : k < length bytes / 16 =
-              omega arith in ap (has_name name.now) (place-is k low) ∙ is.before k l (omega arith) in
+      omega arith in ap (has_name name.now) (place-is k low) ∙ is.before k l (omega arith) in
       sym (found-at places name.now found.place (let w = is.within in omega (arith, long)) before
-          (ap (has_name name.now) here ∙ is.here)
+      (ap (has_name name.now) here ∙ is.here)
       ∙ ap (found_at found.place) here ∙ named-place (part (16 * found.place) 16 bytes) name.now _ _ is.here is.number)
 
   -- a free place
@@ -332,14 +336,14 @@ module _ (places : List (Option Entry)) (fits : All PlaceFits places) where
       let w = is.within in
       sym (room-free places found.place (omega (arith, long))
       (λ j l. let low : j < length bytes / 16 = omega arith in ap is_some (place-is j low)
-          ∙ some-not _ (is.before j l (omega arith)))
+      ∙ some-not _ (is.before j l (omega arith)))
       (place-is _ w ∙ none-there _ is.here))
 
   pub full-told : Scans Free bytes 0 None → (count : ℕ) → count ≡ length places → room_behind count ≡ room_in places
   full-told none count is =
       sym (room-end places count count (omega arith) (omega arith)
-          (λ j l. let low : j < length bytes / 16 = omega (arith, long) in ap is_some (place-is j low)
-          ∙ some-not _ (none j low (omega arith))))
+      (λ j l. let low : j < length bytes / 16 = omega (arith, long) in ap is_some (place-is j low)
+      ∙ some-not _ (none j low (omega arith))))
 
   -- a place in use, behind the first two
   bare-is : (o : Option Found) → Scans Taken bytes 2 o → is_none o ≡ is_bare places

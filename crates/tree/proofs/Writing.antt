@@ -45,9 +45,9 @@ spelling-set [] k o fits fit h = absurd (omega arith)
 spelling-set (p ∷ os) zero o fits fit h =
     let z : 16 * zero ≡ 0 = omega arith in
     let e : 16 * zero + length (place_bytes o) ≡ length (place_bytes p) =
-            omega (arith, length-place_bytes o fit, length-place_bytes p (All-head PlaceFits p os fits)) in
+    omega (arith, length-place_bytes o fit, length-place_bytes p (All-head PlaceFits p os fits)) in
     ap (λ n. take n (place_bytes p ++ flat_map place_bytes os)
-        ++ (place_bytes o ++ drop (16 * zero + length (place_bytes o)) (place_bytes p ++ flat_map place_bytes os))) z
+    ++ (place_bytes o ++ drop (16 * zero + length (place_bytes o)) (place_bytes p ++ flat_map place_bytes os))) z
     ∙ ap (λ n. place_bytes o ++ drop n (place_bytes p ++ flat_map place_bytes os)) e
     ∙ ap (λ r. place_bytes o ++ r) (drop-append_seam (place_bytes p) _)
 spelling-set (p ∷ os) (suc k) o fits fit h =
@@ -69,10 +69,10 @@ module _ {t : FileTree} (whole : IsWhole t) {d k : ℕ} (at : HasPlace t.files d
       let fits : All PlaceFits at.places = subst FitsPlaces at.here (whole.places d) in
       let next = set at.places k None in
       let b = blocks_of-set t.files d (Some (Directory at.links next))
-              (slot-within t.files d (Directory at.links at.places) at.here) in
+      (slot-within t.files d (Directory at.links at.places) at.here) in
       let was : taken_by (slot t.files d) ≡ taken_by (Some (Directory at.links at.places)) = ap taken_by at.here in
       let same : taken_by (Some (Directory at.links next)) ≡ taken_by (Some (Directory at.links at.places)) =
-              ap (λ k. blocks_for (16 * k)) (length-set at.places k None) in
+      ap (λ k. blocks_for (16 * k)) (length-set at.places k None) in
       let all = whole.within in
       let size = length-spelling at.places fits in
       let within = at.within in
@@ -237,9 +237,9 @@ module _ {D : Type 0} {v : Store D} {files : Files} {limit : ℕ} (holds : Store
   too-many k low some few j above high =
       let bytes = overwrite file.bytes at (take j new) in
       let b = blocks_of-set files n (Some (File file.links bytes))
-              (slot-within files n (File file.links file.bytes) file.here) in
+      (slot-within files n (File file.links file.bytes) file.here) in
       let used : taken_by (slot files n) ≡ taken_by (Some (File file.links old)) = ap taken_by file.here
-              ∙ ap (λ b. taken_by (Some (File file.links b))) (sym file-bytes) in
+      ∙ ap (λ b. taken_by (Some (File file.links b))) (sym file-bytes) in
       let long = long-enough j low high in
       let grows = taken-grows (at + k + 1) (length bytes) (omega arith) in
       lt-leb (blocks_of (more j)) limit (omega (arith, room))
@@ -247,8 +247,8 @@ module _ {D : Type 0} {v : Store D} {files : Files} {limit : ℕ} (holds : Store
   -- a write that begins within the file and isn't too long, or another
   written-is : (within : Bool) → (nat_le at (length file.bytes) && nat_le (at + length new) longest) ≡ within
       → written limit files n at new
-          ≡ cond within (Some (tree.with_bytes files n
-          at file.links file.bytes new (fitting limit files n at file.links file.bytes new))) None
+      ≡ cond within (Some (tree.with_bytes files n
+      at file.links file.bytes new (fitting limit files n at file.links file.bytes new))) None
   unfolding written
   written-is within h = rw (file.here, h) refl
 
@@ -267,37 +267,39 @@ module _ {D : Type 0} {v : Store D} {files : Files} {limit : ℕ} (holds : Store
     unfolding fitting
     write-some k high low short changes above =
         let bytes : splice at (take k new) old ≡ overwrite file.bytes at (take k new) =
-                ap (splice at (take k new)) file-bytes ∙ sym (append_assoc (take at file.bytes) _ _) in
+        ap (splice at (take k new)) file-bytes ∙ sym (append_assoc (take at file.bytes) _ _) in
         let held = file-stores holds same n file
-                (subst (λ b. Changes v v' n (Some (with_bytes (raw_at v.nodes n) b))) bytes changes) in
+        (subst (λ b. Changes v v' n (Some (with_bytes (raw_at v.nodes n) b))) bytes changes) in
         let balance = held.free ∙ ap (λ (g : Geometry). data_blocks_of g.size g.inodes) same in
         let fits : nat_le (blocks_of (more k)) limit ≡ true =
-                le-leb (blocks_of (more k)) limit (omega (arith, holds.free, room)) in
+        le-leb (blocks_of (more k)) limit (omega (arith, holds.free, room)) in
         let most : fitting limit files n at file.links file.bytes new ≡ k =
-                greatest-is (λ j. nat_le (blocks_of (more j)) limit) _ k high fits above in
+        greatest-is (λ j. nat_le (blocks_of (more j)) limit) _ k high fits above in
         let begins = le-leb at (length file.bytes) (subst (λ b. at ≤ length b) file-bytes low) in
         let is : w ≡ Some (tree.with_bytes files n at file.links file.bytes new k) =
         written-is true (and_from _ _ begins (le-leb (at + length new) longest short))
-            ∙ ap (λ j. Some (tree.with_bytes files n at file.links file.bytes new j)) most in
+        ∙ ap (λ j. Some (tree.with_bytes files n at file.links file.bytes new j)) most in
         (ap count_of (sym is), subst (λ o. Stores v' (files_after files o)) (sym is) held)
 
     write-none : (nat_le at (length file.bytes) && nat_le (at + length new) longest) ≡ false → Keeps v v' → Told v' None
     write-none h keeps = let none =
-        written-is false h in (ap count_of (sym none),
-        subst (λ o. Stores v' (files_after files o)) (sym none) (kept-stores same keeps holds))
+        written-is false h in (
+          ap count_of (sym none),
+          subst (λ o. Stores v' (files_after files o)) (sym none) (kept-stores same keeps holds),
+        )
 
     write-told : {identity : D → List ℕ} (r : Result (Unit {0}) InodeFault) → Wrote identity v v' n at new r
         → v'.failed ≡ false → Told v' (count_after new r)
     write-told (Ok u) wrote up =
         let done = wrote.done in
         write-some (length new) (omega arith) done.within done.short
-            (subst (λ b. Changes v v' n (Some (with_bytes (raw_at v.nodes n) (splice at b old))))
-            (sym (take_all (length new) new (omega arith))) done.changes) (λ j l m. absurd (omega arith))
+        (subst (λ b. Changes v v' n (Some (with_bytes (raw_at v.nodes n) (splice at b old))))
+        (sym (take_all (length new) new (omega arith))) done.changes) (λ j l m. absurd (omega arith))
     write-told (Err (Blocks k)) wrote up =
         let full = wrote.refused refl in
         let some = full.some_left in
         write-some k (omega arith) full.within full.short full.changes
-            (too-many k (subst (λ b. at ≤ length b) file-bytes full.within) some full.few)
+        (too-many k (subst (λ b. at ≤ length b) file-bytes full.within) some full.few)
     write-told (Err PastEnd) wrote up =
         let past = wrote.refused refl in
         write-none (and_left _ _ (lt-leb at _ (subst (λ b. length b < at) file-bytes past.1))) past.0

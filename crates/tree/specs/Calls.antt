@@ -56,8 +56,11 @@ HasNoBytes old new number = (f : IsFile old.files number) → HasFiles old new (
 -- a node is held once less, and goes where nothing keeps it
 abbrev pub LetsGo : FileTree → FileTree → ℕ → Type 0
 LetsGo old new number =
-    new ≡ record old { files = let_go (without_hold old.holds number) old.files number;
-        holds = without_hold old.holds number; failures = new.failures }
+    new ≡ record old {
+      files = let_go (without_hold old.holds number) old.files number;
+      holds = without_hold old.holds number;
+      failures = new.failures;
+    }
 
 -- nobody holds any node, and those without links have gone
 abbrev pub IsSwept : FileTree → FileTree → Type 0
@@ -106,14 +109,14 @@ IsSpot files d path told = spot_of files d path ≡ Some (record { directory = t
 abbrev pub FindsSpot : FileTree → FileTree → ℕ → List ℕ → Result (ℕ × Bor (List ℕ)) TreeFault → Type 0
 FindsSpot old new d path result =
     Acts old new result (λ told. IsSpot old.files d path told × (new.files ≡ old.files))
-        (spot_of old.files d path ≡ None) (LacksSpot old.files d path)
+    (spot_of old.files d path ≡ None) (LacksSpot old.files d path)
 
 -- the spot of a path whose name is free, and the place of an entry there; there are `more` blocks beside those that it
 -- takes
 abbrev pub FindsGap : FileTree → FileTree → ℕ → List ℕ → ℕ → Result Gap TreeFault → Type 0
 FindsGap old new d path more result =
     Acts old new result (λ gap. HasGap old.block_limit old.files d path more (spot_in gap) gap.place
-        × (new.files ≡ old.files)) (Unit {0}) (LacksGap old.block_limit old.files d path more)
+    × (new.files ≡ old.files)) (Unit {0}) (LacksGap old.block_limit old.files d path more)
 
 -- ---- calls on names
 
@@ -122,19 +125,19 @@ abbrev pub MakesNode : FileTree → FileTree → ℕ → List ℕ → Node → R
 MakesNode old new d path node result =
     let made = made_in old.files d path node in
     Acts old new result (λ n. made ≡ Some (record { files = new.files; number = n }))
-        (Overflows old.block_limit (made_files made)) (LacksMaking old.block_limit old.files d path 0)
+    (Overflows old.block_limit (made_files made)) (LacksMaking old.block_limit old.files d path 0)
 
 abbrev pub MakesLink : FileTree → FileTree → ℕ → List ℕ → List ℕ → Result (Unit {0}) TreeFault → Type 0
 MakesLink old new d from to result =
     let made = linked_in old.files d from to in
     Acts old new result (λ _. made ≡ Some new.files) (Overflows old.block_limit made)
-        (LacksLinking old.block_limit old.files d from to)
+    (LacksLinking old.block_limit old.files d from to)
 
 abbrev pub MakesDirectory : FileTree → FileTree → ℕ → List ℕ → Result (Unit {0}) TreeFault → Type 0
 MakesDirectory old new d path result =
     let made = folder_in old.files d path in
     Acts old new result (λ _. made ≡ Some new.files) (Overflows old.block_limit made)
-        (LacksFolder old.block_limit old.files d path)
+    (LacksFolder old.block_limit old.files d path)
 
 abbrev pub TakesName : FileTree → FileTree → ℕ → List ℕ → Result (Unit {0}) TreeFault → Type 0
 TakesName old new d path result =

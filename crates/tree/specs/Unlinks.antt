@@ -43,4 +43,4 @@ LacksName files at _ = ⊥
 unfoldable pub unlinked_in : List ℕ → Files → ℕ → List ℕ → Option Files
 unlinked_in holds files d path =
     option_and_then (λ at. option_and_then (λ n. option_map (λ less. let_go holds less n) (unlinked files at))
-        (lookup files at.directory at.name)) (spot_of files d path)
+    (lookup files at.directory at.name)) (spot_of files d path)

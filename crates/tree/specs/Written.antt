@@ -33,7 +33,7 @@ abbrev pub write_to : ℕ → Files → ℕ → ℕ → List ℕ → Option Node
 write_to limit files n at new None = None
 write_to limit files n at new (Some (File links old)) =
     if nat_le at (length old) && nat_le (at + length new) longest
-        then Some (with_bytes files n at links old new (fitting limit files n at links old new)) else None
+    then Some (with_bytes files n at links old new (fitting limit files n at links old new)) else None
 write_to limit files n at new (Some (Device links major minor)) = None
 write_to limit files n at new (Some (Directory links places)) = None
 

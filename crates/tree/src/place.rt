@@ -115,7 +115,7 @@ impl<D: BlockDev> Tree<D> {
         requires up { self.old.failed ≡ false }
         requires directory { IsFolder self.old.files directory }
         ensures { Reads self.old self.new result
-                (λ count. (f : IsFolder self.old.files directory) → count ≡ length f.places) }
+            (λ count. (f : IsFolder self.old.files directory) → count ≡ length f.places) }
     {
         let node = self.node(directory)?;
         Ok(node.size as usize / PLACE_SIZE)
@@ -205,7 +205,7 @@ impl<D: BlockDev> Tree<D> {
         requires up { self.old.failed ≡ false }
         requires directory { IsFolder self.old.files directory }
         ensures { Reads self.old self.new result
-                (λ place. (f : IsFolder self.old.files directory) → place ≡ room_in f.places) }
+            (λ place. (f : IsFolder self.old.files directory) → place ≡ room_in f.places) }
     {
         self.is_whole();
         let count = self.count_places(directory)?;
@@ -220,7 +220,7 @@ impl<D: BlockDev> Tree<D> {
         requires up { self.old.failed ≡ false }
         requires directory { IsFolder self.old.files directory }
         ensures { Reads self.old self.new result
-                (λ bare. (f : IsFolder self.old.files directory) → bare ≡ is_bare f.places) }
+            (λ bare. (f : IsFolder self.old.files directory) → bare ≡ is_bare f.places) }
     {
         self.is_whole();
         let count = self.count_places(directory)?;

@@ -30,7 +30,7 @@ impl<D: BlockDev> Tree<D> {
         requires up { self.old.failed ≡ false }
         requires node { slot self.old.files number ≢ None }
         ensures { Serves self.old self.new result
-                (λ done. HasFiles self.old self.new (change_node self.old.files number emptied)) }
+            (λ done. HasFiles self.old self.new (change_node self.old.files number emptied)) }
     {
         let node = self.node(number)?;
         if node.kind != FILE {

@@ -25,7 +25,7 @@ impl<D: BlockDev> Tree<D> {
     fn release_unlinked(&mut self, number: usize) -> Result<(), DeviceFault>
         requires up { self.old.failed ≡ false }
         ensures { Serves self.old self.new result
-                (λ done. HasFiles self.old self.new (let_go [] self.old.files number)) }
+            (λ done. HasFiles self.old self.new (let_go [] self.old.files number)) }
     {
         let Some(node) = self.look(number)? else {
             return Ok(());

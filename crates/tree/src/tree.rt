@@ -104,7 +104,7 @@ impl<D: BlockDev> Tree<D> {
     ) -> Result<usize, DeviceFault>
         requires up { self.old.failed ≡ false }
         ensures { Looks self.old self.new result
-                (IsPart (bytes_or_none (slot self.old.files number)) at out.old out.new) }
+            (IsPart (bytes_or_none (slot self.old.files number)) at out.old out.new) }
     {
         if self.look(number)?.is_none() {
             return Ok(0);
@@ -147,7 +147,7 @@ impl<D: BlockDev> Tree<D> {
         requires up { self.old.failed ≡ false }
         requires node { (node : Node) × (slot self.old.files number ≡ Some node) }
         ensures { Looks self.old self.new result
-                (λ s. (node : Node) → slot self.old.files number ≡ Some node → Tells s node) }
+            (λ s. (node : Node) → slot self.old.files number ≡ Some node → Tells s node) }
     {
         self.node(number)
     }
@@ -170,7 +170,7 @@ impl<D: BlockDev> Tree<D> {
         requires up { self.old.failed ≡ false }
         requires node { (node : Node) × (slot self.old.files number ≡ Some node) }
         ensures { Reads self.old self.new result
-                (λ s. (node : Node) → slot self.old.files number ≡ Some node → Tells s node) }
+            (λ s. (node : Node) → slot self.old.files number ≡ Some node → Tells s node) }
     {
         self.volume.stat(number)
     }
@@ -193,7 +193,7 @@ impl<D: BlockDev> Tree<D> {
     pub fn has_blocks(&mut self, wanted: usize) -> Result<bool, DeviceFault>
         requires up { self.old.failed ≡ false }
         ensures { Reads self.old self.new result
-                (λ enough. enough ≡ nat_le (blocks_of self.old.files + wanted) self.old.block_limit) }
+            (λ enough. enough ≡ nat_le (blocks_of self.old.files + wanted) self.old.block_limit) }
     {
         self.volume.has_blocks(wanted)
     }

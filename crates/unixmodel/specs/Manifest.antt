@@ -42,7 +42,7 @@ data_blocks_of size inodes = size - data_start size inodes
 abbrev pub has_numbers : ℕ → ℕ → Bool
 has_numbers size inodes =
     nat_le 32 size && nat_le size format.most && nat_le 16 inodes && nat_le inodes 8192
-        && nat_lt (data_start size inodes) size
+    && nat_lt (data_start size inodes) size
 
 -- ---- an entry
 
@@ -77,7 +77,7 @@ linked (Special major minor) node = node
 unfoldable pub added : Files → ℕ → List ℕ → ℕ → Thing → Files
 added files d name n thing =
     put (change_node files d (λ node. linked thing (appended (record { name = name; number = n }) node))) n
-        (node_for n d thing)
+    (node_for n d thing)
 
 abbrev pub is_short : Files → ℕ → Bool
 is_short files n = unwrap_or (option_map (λ (node : Node). nat_le (size_of node) longest) (slot files n)) true
@@ -126,4 +126,4 @@ bare_files inodes = put (free_slots inodes) 1 (bare_directory 1 1)
 unfoldable pub files_made : List ManifestEntry → ℕ → ℕ → Result Files Wrong
 files_made entries size inodes =
     if has_numbers size inodes then with_entries (data_blocks_of size inodes) inodes (bare_files inodes) 2 entries
-        else Err Numbers
+    else Err Numbers

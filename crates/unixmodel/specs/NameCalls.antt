@@ -38,7 +38,7 @@ pub record Made : Type 0 where
 unfoldable pub make_at : Files → Spot → (ℕ → Node) → Option Made
 make_at files at node =
     option_and_then (λ n. option_map (λ (new : Files). record { files = new; number = n })
-        (enter (put files n (node n)) at n))
+    (enter (put files n (node n)) at n))
     (free_number files)
 
 -- a file or a device, where the name is free
@@ -61,7 +61,7 @@ made_below files at None = None
 made_below files at (Some parent) =
     if is_free_name files at && has_room_for_link parent
     then option_map (λ (made : Made). change_node made.files at.directory more_links)
-        (make_at files at (new_directory at.directory))
+    (make_at files at (new_directory at.directory))
     else None
 
 unfoldable pub made_directory : Files → Spot → Option Files
@@ -73,7 +73,7 @@ abbrev pub linked_node : Files → Spot → ℕ → Option Node → Option Files
 linked_node files at n None = None
 linked_node files at n (Some node) =
     if not (is_directory node) && has_room_for_link node
-        && is_free_name files at then enter (change_node files n more_links) at n else None
+    && is_free_name files at then enter (change_node files n more_links) at n else None
 
 unfoldable pub linked : Files → Spot → ℕ → Option Files
 linked files at n = linked_node files at n (slot files n)
@@ -98,7 +98,7 @@ unfoldable pub unlinked : Files → Spot → Option Files
 unlinked files at =
     if is_dot_name at.name then None
     else option_and_then (λ k. option_and_then (λ n. removed_node files at.directory k n (slot files n))
-        (lookup files at.directory at.name))
+    (lookup files at.directory at.name))
     (place_of files at.directory at.name)
 
 -- ---- the rows; process p in place i makes the call, and its pc has moved already

@@ -51,14 +51,14 @@ module _ {z k : Ram} {r t n f : ℕ} {q w : Frames} (e : IsAdded z k r t n f q w
       let both = added-same in
       let taken : count_of v (free_of z q) ≡ count_of v (tables_for k r n) + count_of v (free_of k w) =
       ap (count_of v) (e.adds.taken ∙ ap (λ l. l ++ free_of k w) (made-tables e.dense k e.small))
-          ∙ count_of-append v (tables_for k r n) (free_of k w) in
+      ∙ count_of-append v (tables_for k r n) (free_of k w) in
       let frames : count_of v (frames_below k r (suc n)) ≡ one_if (nat_eq v f) + count_of v (frames_below z r n) =
-              ap (λ x. one_if (nat_eq v x) + count_of v (frames_below k r n)) e.frame
-              ∙ ap (λ l. one_if (nat_eq v f) + count_of v l) both.1 in
+      ap (λ x. one_if (nat_eq v x) + count_of v (frames_below k r n)) e.frame
+      ∙ ap (λ l. one_if (nat_eq v f) + count_of v l) both.1 in
       let tables : count_of v (tables_below k r (suc n))
-              ≡ count_of v (tables_for k r n) + count_of v (tables_below z r n) =
-              count_of-append v (tables_for k r n) (tables_below k r n)
-              ∙ ap (λ l. count_of v (tables_for k r n) + count_of v l) both.0 in
+      ≡ count_of v (tables_for k r n) + count_of v (tables_below z r n) =
+      count_of-append v (tables_for k r n) (tables_below k r n)
+      ∙ ap (λ l. count_of v (tables_for k r n) + count_of v l) both.0 in
       record { held = omega (arith, count-held); free = taken; tables = tables }
 
 -- a frame of the list has no holder and no further one
@@ -76,8 +76,13 @@ module _ {z k : Ram} {r t n f marks : ℕ} {q w : Frames} (b : IsBefore z r t n 
 
   pub next-count : (v : ℕ) → IsCounted z k r t n f q w v
   next-count = added-count
-      (record { dense = b.space.dense; small = b.small; frame = frame_at-is k r n e.inserts.changed;
-      looks = λ p h. next-looks p (omega arith) (omega arith); adds = e.adds })
+      (record {
+        dense = b.space.dense;
+        small = b.small;
+        frame = frame_at-is k r n e.inserts.changed;
+        looks = λ p h. next-looks p (omega arith) (omega arith);
+        adds = e.adds;
+      })
 
   next-holders : (v : ℕ) → holders_of k w v + count_of v (free_of k w) ≡ holders_of z q v + count_of v (free_of z q)
   next-holders v = holders-table b.space.free e.paged.free e.keeps.count e.extra v
@@ -91,12 +96,20 @@ module _ {z k : Ram} {r t n f marks : ℕ} {q w : Frames} (b : IsBefore z r t n 
             e.inserts.changed e.leaf e.inserts.others (omega arith) (λ p h ne. omega arith);
         once = λ v. elim (cases_eq (count_of v (free_of z q)) 0) [
           | inl none ↦ elim (cases_eq v f) [
-            | inl same ↦ omega (arith, next-count v, count_of-first v f [] same,
-                ap (λ x. count_of x (held z r t n)) same)
+            | inl same ↦ omega (
+              arith,
+              next-count v,
+              count_of-first v f [] same,
+              ap (λ x. count_of x (held z r t n)) same,
+            )
             | inr other ↦ omega (arith, next-count v, count_of-other v f [] other)
           ]
-          | inr some ↦ omega (arith, next-count v, distinct-count v (free_of z q) is.free.distinct,
-              (free-none z q v is.free (omega arith)).0)
+          | inr some ↦ omega (
+            arith,
+            next-count v,
+            distinct-count v (free_of z q) is.free.distinct,
+            (free-none z q v is.free (omega arith)).0,
+          )
         ];
         free = e.paged.free;
         held = λ v. omega (arith, next-count v, next-holders v);
@@ -125,17 +138,17 @@ module _ {z k : Ram} {r t n f marks : ℕ} {q w : Frames} (b : IsBefore z r t n 
   pub next-pages : pages_below k r (suc n) ≡ pages_below z r n ++ (page_with (frame_of z f) marks ∷ [])
   next-pages =
       let old : pages_below k r n ≡ pages_below z r n =
-              pages_below-same z k r n (λ p h. next-looks p (omega arith) (omega arith))
+      pages_below-same z k r n (λ p h. next-looks p (omega arith) (omega arith))
       (λ p h. let g = frame_at z r p in let at = page-held z r n p h
-          in next-bytes g (omega (arith, count-held z r t n g)) (omega (arith, count-held z r t n g))) in
+      in next-bytes g (omega (arith, count-held z r t n g)) (omega (arith, count-held z r t n g))) in
       let here : frame_at k r n ≡ f = frame_at-is k r n e.inserts.changed in
       let bytes : frame_of k f ≡ frame_of z f =
-              next-bytes f (omega (arith, count_of-first f f [] refl)) (omega (arith, count-held z r t n f)) in
+      next-bytes f (omega (arith, count_of-first f f [] refl)) (omega (arith, count-held z r t n f)) in
       let page : page_at k r n ≡ page_with (frame_of z f) marks =
-              ap (λ x. page_with x (marks_at k r n)) (ap (frame_of k) here ∙ bytes)
-              ∙ ap (page_with (frame_of z f)) (marks_at-is k r n e.inserts.changed) in
+      ap (λ x. page_with x (marks_at k r n)) (ap (frame_of k) here ∙ bytes)
+      ∙ ap (page_with (frame_of z f)) (marks_at-is k r n e.inserts.changed) in
       pages_below-more k r n ∙ ap (λ x. pages_below k r n ++ (x ∷ [])) page
-          ∙ ap (λ l. l ++ (page_with (frame_of z f) marks ∷ [])) old
+      ∙ ap (λ l. l ++ (page_with (frame_of z f) marks ∷ [])) old
 
   pub next-trap : frame_of k t ≡ frame_of z t
   next-trap =
@@ -158,9 +171,15 @@ module _ {m : Ram} {r t n : ℕ} {s : Frames} (is : OwnsFrames m r t n s) where
       → ((p : ℕ) → p < n → frame_at m r p ≡ f → is_open (marks_at m r p) ≡ false) → OwnsFrames m r t n q
   share-stands f {q} after more list no_table closed =
       let further : (v : ℕ) → v ≢ f
-              → further_at q v ≡ further_at s v =
-              λ v ne. omega (arith, more v, count_of-other v f [] ne, holders-free is.free v, holders-free after v,
-              ap (count_of v) list) in
+      → further_at q v ≡ further_at s v =
+      λ v ne. omega (
+        arith,
+        more v,
+        count_of-other v f [] ne,
+        holders-free is.free v,
+        holders-free after v,
+        ap (count_of v) list,
+      ) in
       record {
         dense = is.dense;
         once = is.once;
@@ -193,8 +212,12 @@ module _ {m z : Ram} {s q : Frames} {f : ℕ} (is : IsFreeList m s) (took : IsTa
       let none = free-holders is f (taken-free) in
       record {
         count = took.count;
-        moved = λ v. omega (arith, holders-table is after.1 took.count took.extra v, ap (count_of v) took.taken,
-            ap (count_of v) after.0);
+        moved = λ v. omega (
+          arith,
+          holders-table is after.1 took.count took.extra v,
+          ap (count_of v) took.taken,
+          ap (count_of v) after.0,
+        );
         others = λ v some. took.others v (λ e. omega (arith, ap (holders_of m s) e));
         fresh = λ v absent some. elim (cases_eq v f)
             [ inl e ↦ ap (holders_of m s) e ∙ none | inr ne ↦ absurd (omega (arith, count_of-other v f [] ne)) ];
@@ -231,7 +254,7 @@ module _ {m z : Ram} {r t n f : ℕ} {s q : Frames} (is : OwnsFrames m r t n s) 
   taken-fits small room =
       let beside = taken-beside in
       next-fits beside.space small
-          (omega (arith, Trades-lengths (taken-trades is.free took) is.free beside.space.free (λ v. omega arith)))
+      (omega (arith, Trades-lengths (taken-trades is.free took) is.free beside.space.free (λ v. omega arith)))
 
   pub taken-grown : (k : Ram) {marks : ℕ} {bytes : List ℕ} {w : Frames} → n < 32768 → frame_of z f ≡ bytes
       → IsNext z k r n f marks q w → IsGrown m k r t n marks bytes s w
@@ -242,7 +265,7 @@ module _ {m z : Ram} {r t n f : ℕ} {s q : Frames} (is : OwnsFrames m r t n s) 
       let space = next-held b next in
       let first : Trades m z s q (held m r t n) (f ∷ held z r t n) =
       Trades-with (taken-trades is.free took) (held m r t n) (held m r t n) (f ∷ held z r t n) (λ v. omega arith)
-          (λ v. omega (arith, ap (count_of v) beside.same)) in
+      (λ v. omega (arith, ap (count_of v) beside.same)) in
       let trades = Trades-twice first (next-trades b next) in
       record {
         space = rw add-one space;
@@ -344,7 +367,7 @@ module _ {m j : Ram} {r t n f : ℕ} {s a : Frames} (is : OwnsFrames m r t (suc 
     alone = λ p h wide.
         let looks = u.removes.others p (omega arith) (omega arith) in
         ap (further_at a) (frame_at-same m j r p looks) ∙ further-same s a (frame_at m r p) u.extra
-            ∙ is.alone p (omega arith) (ap is_open (sym (marks_at-same m j r p looks)) ∙ wide);
+        ∙ is.alone p (omega arith) (ap is_open (sym (marks_at-same m j r p looks)) ∙ wide);
     held = λ v. omega (arith, count-unmapped v, holders-unmapped v);
   }
 
@@ -366,19 +389,19 @@ module _ {m j : Ram} {r t n f : ℕ} {s a : Frames} (is : OwnsFrames m r t (suc 
       let counts = count-unmapped in
       let holders = holders-unmapped in
       let give : Trades j k a w (f ∷ []) [] =
-              Trades-give j k a w f u.paged.free g.holders g.others g.stays
-              (omega (arith, counts f, holders f, count_of-first f f [] refl)) in
+      Trades-give j k a w f u.paged.free g.holders g.others g.stays
+      (omega (arith, counts f, holders f, count_of-first f f [] refl)) in
       let beside = Trades-held give (OwnsFrames-unmapped) (λ v. omega (arith, counts v, holders v)) g.valid in
       let stays = beside.stays in
       let looks : (p : ℕ) → p < n
-              → lookup_of j r p ≡ lookup_of m r p = λ p h. u.removes.others p (omega arith) (omega arith) in
+      → lookup_of j r p ≡ lookup_of m r p = λ p h. u.removes.others p (omega arith) (omega arith) in
       record {
         space = beside.space;
         pages = λ b le. pages_below-same j k r b (λ p h. stays.put.looks p)
             (λ p h. let v = frame_at j r p
-                in give.others v (omega (arith, counts v, holders v, count-held, page-held j r n p (omega arith))))
+            in give.others v (omega (arith, counts v, holders v, count-held, page-held j r n p (omega arith))))
             ∙ pages_below-same m j r b (λ p h. looks p (omega arith))
-                (λ p h. stays-unmapped (frame_at m r p) (omega (arith, page-held m r n p (omega arith))));
+            (λ p h. stays-unmapped (frame_at m r p) (omega (arith, page-held m r n p (omega arith))));
         mapping = λ read b le. read_below-same read m k r b (λ p h. stays.put.looks p ∙ looks p (omega arith));
         trap = stays.trap ∙ stays-unmapped t (omega (arith, count_of-first t t [] refl));
         trades = rw add-one (record {
@@ -386,7 +409,7 @@ module _ {m j : Ram} {r t n f : ℕ} {s a : Frames} (is : OwnsFrames m r t (suc 
           moved = λ v. omega (arith, counts v, holders v, ap (count_of v) beside.same);
           others = λ v more.
               give.others v (omega (arith, counts v, holders v))
-                  ∙ bytes-unmapped v (omega arith) (omega (arith, (beyond-held is v more).0));
+              ∙ bytes-unmapped v (omega arith) (omega (arith, (beyond-held is v more).0));
           fresh = λ v none some. absurd (omega (arith, ap (count_of v) beside.same, counts v));
         });
       }
@@ -422,8 +445,10 @@ module _ {m j z : Ram} {s a q : Frames} {r t : ℕ} (is : IsStart m j z s a q r 
   pub start-empty : IsEmpty z r
   start-empty =
       let same = start-same in
-      record { tables = λ x nx nr. table_at-same j z r same x nx ∙ is.empty.tables x nx nr;
-          pages = λ p. lookup_of-same j z r same p ∙ is.empty.pages p }
+      record {
+        tables = λ x nx nr. table_at-same j z r same x nx ∙ is.empty.tables x nx nr;
+        pages = λ p. lookup_of-same j z r same p ∙ is.empty.pages p;
+      }
 
   pub start-paged : IsPaged z r q
   start-paged =
@@ -458,9 +483,9 @@ module _ {m j z k : Ram} {s a q w : Frames} {r t : ℕ} (is : IsStart m j z s a 
   count-start g =
       let none = (start-empty is).tables (mid_node trap_page) (mid_is_node trap_page) (λ e. cc) in
       let all : free_of m s ≡ r ∷ t ∷ table_of k r (mid_node trap_page) ∷ table_of k r (low_node trap_page)
-              ∷ free_of k w =
+      ∷ free_of k w =
       start-free is ∙ ap (λ l. r ∷ t ∷ l)
-          (next.adds.taken ∙ ap (λ l. l ++ free_of k w) (made-is z k r trap_page (sym none) refl)) in
+      (next.adds.taken ∙ ap (λ l. l ++ free_of k w) (made-is z k r trap_page (sym none) refl)) in
       omega (arith, ap (count_of g) all)
 
   pub start-made : IsMade m z k r t s w
@@ -474,7 +499,7 @@ module _ {m j z k : Ram} {s a q w : Frames} {r t : ℕ} (is : IsStart m j z s a 
       elim (count-cases g (free_of m s)) [ inl at ↦ at | inr none ↦ absurd (omega (arith, counts g)) ] in
       let stays : (g : ℕ) → g ≢ r → count_of g (free_of z q) ≡ 0 → frame_of k g ≡ frame_of z g = λ g ne none.
       next.keeps.others g (λ h. ne (only-root (start-empty is) h.place g h.is_node h.at_place).1)
-          (among-none g (free_of z q) none) in
+      (among-none g (free_of z q) none) in
       record {
         space = record {
           dense = record {
@@ -494,19 +519,19 @@ module _ {m j z k : Ram} {s a q w : Frames} {r t : ℕ} (is : IsStart m j z s a 
         };
         registers =
             stays t (start-apart is)
-                (none-among t (free_of z q)
-                (ap (among t) ((free-after is.paged.free is.taken).0)
-                ∙ (free-first is.paged.free t (free_of j q) is.taken.taken).1));
+            (none-among t (free_of z q)
+            (ap (among t) ((free-after is.paged.free is.taken).0)
+            ∙ (free-first is.paged.free t (free_of j q) is.taken.taken).1));
         trades = record {
           count = len;
           moved = λ g. omega (arith, counts g, holders g);
           others = λ g h.
               let none : count_of g (r ∷ t ∷ free_of z q) ≡ 0 = ap (count_of g) (sym (start-free is))
-                      ∙ none-among g (free_of m s) (held-inside m s g is.free (omega arith)).1 in
+              ∙ none-among g (free_of m s) (held-inside m s g is.free (omega arith)).1 in
               let not_r : g ≢ r = λ e. omega (arith, count_of-first g r (t ∷ free_of z q) e) in
               let not_t : g ≢ t = λ e. omega (arith, count_of-first g t (free_of z q) e) in
               stays g not_r (omega arith) ∙ is.taken.others g not_t
-                  ∙ rw is.start (get_or-set_other m r g zeros [] not_r);
+              ∙ rw is.start (get_or-set_other m r g zeros [] not_r);
           fresh = λ g none some. free-holders is.free g (free g some);
         };
       }
@@ -544,9 +569,9 @@ module _ {m j : Ram} {r t f : ℕ} {s a : Frames} (is : OwnsFrames m r t 0 s) (u
   unfolding tables_below frames_below
   count-ended g =
       let none = none-of (table_at j r (mid_node trap_page))
-              (λ v h. end-tables (mid_node trap_page) v (mid_is_node trap_page) (λ e. cc) h) in
+      (λ v h. end-tables (mid_node trap_page) v (mid_is_node trap_page) (λ e. cc) h) in
       let all : free_of j a ≡ table_of m r (mid_node trap_page) ∷ table_of m r (low_node trap_page) ∷ free_of m s =
-              u.drops.taken ∙ ap (λ l. l ++ free_of m s) (made-is j m r trap_page (sym none) refl) in
+      u.drops.taken ∙ ap (λ l. l ++ free_of m s) (made-is j m r trap_page (sym none) refl) in
       omega (arith, ap (count_of g) all)
 
   pub end-trap : f ≡ t
@@ -581,7 +606,7 @@ module _ {m j k : Ram} {r t f : ℕ} {s a w : Frames} (is : OwnsFrames m r t 0 s
   end-free : (free_of k w ≡ f ∷ free_of j a) × (extra_of w ≡ extra_of a)
   end-free =
       g.last (further-same s a f u.extra
-          ∙ is.own f (omega (arith, first-one t, ap (λ x. count_of x (t ∷ [])) (end-trap is u))))
+      ∙ is.own f (omega (arith, first-one t, ap (λ x. count_of x (t ∷ [])) (end-trap is u))))
 
   pub end-paged : IsPaged k r w
   end-paged =
@@ -589,9 +614,12 @@ module _ {m j k : Ram} {r t f : ℕ} {s a w : Frames} (is : OwnsFrames m r t 0 s
       paged-same u.paged.tree g.others.count end-same g.valid (λ v h.
       let other : v ≢ f = λ z. end-apart is u (sym (end-root is u v h) ∙ z) in (
         among-none v (free_of k w)
-            (omega (arith, ap (count_of v) free.0,
-            none-among v (free_of j a) (u.paged.apart h.place v h.is_node h.at_place),
-            count_of-other v f (free_of j a) other)),
+            (omega (
+              arith,
+              ap (count_of v) free.0,
+              none-among v (free_of j a) (u.paged.apart h.place v h.is_node h.at_place),
+              count_of-other v f (free_of j a) other,
+            )),
         further-same a w v free.1 ∙ u.paged.own h.place v h.is_node h.at_place,
       ))
 
@@ -602,12 +630,20 @@ module _ {m j k : Ram} {r t f : ℕ} {s a w : Frames} (is : OwnsFrames m r t 0 s
       let trap = end-trap is u in
       let given = end-free in
       let root = e.last (further-same s w r (given.1 ∙ u.extra)
-              ∙ (is.own r (omega (arith,
-              table-held is.dense (record { place = Root; is_node = tt; at_place = root_at m r }))))) in
+      ∙ (is.own r (omega (
+        arith,
+        table-held is.dense (record { place = Root; is_node = tt; at_place = root_at m r }),
+      )))) in
       record {
         count = len;
-        moved = λ v. omega (arith, count-ended is u v, ap (count_of v) given.0, ap (count_of v) root.0,
-            ap (λ x. one_if (eqb v x)) trap, holders-table is.free e.valid len (root.1 ∙ given.1 ∙ u.extra) v);
+        moved = λ v. omega (
+          arith,
+          count-ended is u v,
+          ap (count_of v) given.0,
+          ap (count_of v) root.0,
+          ap (λ x. one_if (eqb v x)) trap,
+          holders-table is.free e.valid len (root.1 ∙ given.1 ∙ u.extra) v,
+        );
         others = λ v h.
             let beyond = beyond-held is v h in
             let none : count_of v (held m r t 0) ≡ 0 = omega (arith, count-held) in
@@ -616,6 +652,6 @@ module _ {m j k : Ram} {r t f : ℕ} {s a w : Frames} (is : OwnsFrames m r t 0 s
             given-other e v (λ z. omega (arith, ap (λ x. one_if (eqb v x)) (sym z), first-one v))
             ∙ given-other g v (λ z. omega (arith, ap (λ x. one_if (eqb v x)) (sym (z ∙ trap)), first-one v))
             ∙ u.keeps.others v (λ y. omega (arith, count-held, table-held is.dense y))
-                (among-none v (free_of m s) free);
+            (among-none v (free_of m s) free);
         fresh = λ v none some. absurd (omega arith);
       }

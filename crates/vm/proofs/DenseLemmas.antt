@@ -40,9 +40,9 @@ module _ (m : Ram) (r : ℕ) where
   pub length-tables_for : (n : ℕ) → length (tables_for m r n) ≡ one_if (eqb n 0) + one_if (eqb (n % 512) 0)
   length-tables_for n =
       length-append (if eqb n 0 then table_of m r (mid_node n) ∷ [] else [])
-          (if eqb (n % 512) 0 then table_of m r (low_node n) ∷ [] else [])
+      (if eqb (n % 512) 0 then table_of m r (low_node n) ∷ [] else [])
       ∙ rw (length_if (eqb n 0) (table_of m r (mid_node n)), length_if (eqb (n % 512) 0) (table_of m r (low_node n)))
-          refl
+      refl
 
   pub length-frames_below : (n : ℕ) → length (frames_below m r n) ≡ n
   unfolding frames_below
@@ -53,13 +53,22 @@ module _ (m : Ram) (r : ℕ) where
   unfolding tables_below
   length-tables_below zero = refl
   length-tables_below (suc n) =
-      omega (arith, length-append (tables_for m r n) (tables_below m r n), length-tables_for n, length-tables_below n,
-          frames_for-more n)
+      omega (
+        arith,
+        length-append (tables_for m r n) (tables_below m r n),
+        length-tables_for n,
+        length-tables_below n,
+        frames_for-more n,
+      )
 
   -- a space of n pages holds as many frames
   pub length-held : (t n : ℕ) → length (held m r t n) ≡ frames_for n
-  length-held t n = omega (arith, length-append (tables_below m r n) (t ∷ frames_below m r n), length-tables_below n,
-      length-frames_below n)
+  length-held t n = omega (
+    arith,
+    length-append (tables_below m r n) (t ∷ frames_below m r n),
+    length-tables_below n,
+    length-frames_below n,
+  )
 
   pub count-held : (t n f : ℕ)
       → count_of f (held m r t n)
@@ -80,9 +89,12 @@ module _ (m : Ram) (r : ℕ) where
   unfolding frames_below
   pages-apart zero p q one low high e = omega arith
   pages-apart (suc n) p q one low high e = elim (cases_eq q n) [
-    | inl last ↦ omega (arith, one (frame_at m r p),
-        count_of-first (frame_at m r p) (frame_at m r n) (frames_below m r n) (e ∙ ap (frame_at m r) last),
-        page-held n p (omega arith))
+    | inl last ↦ omega (
+      arith,
+      one (frame_at m r p),
+      count_of-first (frame_at m r p) (frame_at m r n) (frames_below m r n) (e ∙ ap (frame_at m r) last),
+      page-held n p (omega arith),
+    )
     | inr ne ↦ pages-apart n p q (λ f. omega (arith, one f)) low (omega arith) e
   ]
 
@@ -97,9 +109,11 @@ module _ (m : Ram) (r : ℕ) where
 
   mid-first : 0 < count_of (table_of m r (mid_node 0)) (tables_below m r 1)
   unfolding tables_below
-  mid-first = omega (arith,
-      count_of-first (table_of m r (mid_node 0)) (table_of m r (mid_node 0))
-      (table_of m r (low_node 0) ∷ tables_below m r 0) refl)
+  mid-first = omega (
+    arith,
+    count_of-first (table_of m r (mid_node 0)) (table_of m r (mid_node 0))
+        (table_of m r (low_node 0) ∷ tables_below m r 0) refl,
+  )
 
   low-first : (p : ℕ) → p % 512 ≡ 0 → 0 < count_of (table_of m r (low_node p)) (tables_below m r (suc p))
   unfolding tables_below
@@ -114,9 +128,11 @@ module _ (m : Ram) (r : ℕ) where
   unfolding tables_below
   base =
       let mid = table_of m r (mid_node trap_page) in
-      let low = table_of m r (low_node trap_page) in
-      (omega (arith, count_of-first r r (mid ∷ low ∷ []) refl), omega (arith, count_of-first mid mid (low ∷ []) refl),
-          omega (arith, count_of-first low low [] refl))
+      let low = table_of m r (low_node trap_page) in (
+        omega (arith, count_of-first r r (mid ∷ low ∷ []) refl),
+        omega (arith, count_of-first mid mid (low ∷ []) refl),
+        omega (arith, count_of-first low low [] refl),
+      )
 
 pub low-0 : (p : ℕ) → p < 32768 → low_node p ≡ Low 0 (p / 512)
 low-0 p h = let a : p / 262144 % 512 ≡ 0 = omega arith in let b : p / 512 % 512 ≡ p / 512 =
@@ -197,8 +213,13 @@ pub IsTidy-same : (m k : Ram) (r : ℕ) → IsTidy m r → KeepsTables m k r →
 IsTidy-same m k r is same = record {
   used = λ x t nx nr h.
       let u = is.used x t nx nr (sym (table_at-same m k r same x nx) ∙ h) in
-      record { page = u.page; value = u.value; inside = u.inside; over = u.over;
-          mapped = lookup_of-same m k r same u.page ∙ u.mapped };
+      record {
+        page = u.page;
+        value = u.value;
+        inside = u.inside;
+        over = u.over;
+        mapped = lookup_of-same m k r same u.page ∙ u.mapped;
+      };
 }
 
 module _ (m : Ram) (r p : ℕ) where
@@ -222,15 +243,15 @@ marks_at-same m k r p e = ap (λ (o : Option (ℕ × ℕ)). (unwrap_or o (0, 0))
 pub alone-set : (m k : Ram) (r n w p f marks : ℕ) (s q : Frames) → ((v : ℕ) → further_at q v ≤ further_at s v)
     → lookup_of k r p ≡ Some (f, marks) → ((j : ℕ) → j < w → j ≢ p → (j < n) × (lookup_of k r j ≡ lookup_of m r j))
     → (is_open marks ≡ true → further_at q f ≡ 0)
-        → ((j : ℕ) → j < n → is_open (marks_at m r j) ≡ true → further_at s (frame_at m r j) ≡ 0) → (j : ℕ) → j < w
-        → is_open (marks_at k r j) ≡ true → further_at q (frame_at k r j) ≡ 0
+    → ((j : ℕ) → j < n → is_open (marks_at m r j) ≡ true → further_at s (frame_at m r j) ≡ 0) → (j : ℕ) → j < w
+    → is_open (marks_at k r j) ≡ true → further_at q (frame_at k r j) ≡ 0
 alone-set m k r n w p f marks s q fewer changed others sole alone j h wide = elim (cases_eq j p) [
   | inl same ↦ rw (same, frame_at-is k r p changed)
       (sole (ap is_open (sym (ap (marks_at k r) same ∙ marks_at-is k r p changed)) ∙ wide))
   | inr ne ↦
       let o = others j h ne in
       rw (frame_at-same m k r j o.1)
-          (omega (arith, fewer (frame_at m r j), alone j o.0 (ap is_open (sym (marks_at-same m k r j o.1)) ∙ wide)))
+      (omega (arith, fewer (frame_at m r j), alone j o.0 (ap is_open (sym (marks_at-same m k r j o.1)) ∙ wide)))
 ]
 
 -- a mapped page has its tables
@@ -274,7 +295,7 @@ module _ (m k : Ram) (r : ℕ) where
   tables_below-same (suc n) same =
       let here = same n (inl (omega arith)) in
       let rest : tables_below k r n ≡ tables_below m r n =
-              tables_below-same n (λ p o. same p (elim o [ inl low ↦ inl (omega arith) | inr e ↦ inr e ])) in
+      tables_below-same n (λ p o. same p (elim o [ inl low ↦ inl (omega arith) | inr e ↦ inr e ])) in
       rw (here.0, here.1, rest) refl
 
 -- ---- which tables the next page needs
@@ -335,8 +356,8 @@ module _ {m : Ram} {r t n : ℕ} (is : IsDense m r t n) where
       → (tables_below k r n ≡ tables_below m r n) × (frames_below k r n ≡ frames_below m r n)
   held-same k looks stand =
       let both : (p : ℕ) (v : ℕ × ℕ) → lookup_of m r p ≡ Some v
-              → (table_of k r (mid_node p) ≡ table_of m r (mid_node p))
-              × (table_of k r (low_node p) ≡ table_of m r (low_node p)) = λ p v h. (
+      → (table_of k r (mid_node p) ≡ table_of m r (mid_node p))
+      × (table_of k r (low_node p) ≡ table_of m r (low_node p)) = λ p v h. (
         table_of-some k r (mid_node p) (table_of m r (mid_node p))
             (stand (mid_node p) (table_of m r (mid_node p)) (mid_is_node p) (mapped-mid m r p h)),
         table_of-some k r (low_node p) (table_of m r (low_node p))
@@ -359,7 +380,7 @@ module _ {m : Ram} {r t n : ℕ} (is : IsDense m r t n) where
           | inr same ↦ elim (mapped-cases is u.page u.inside u.mapped) [
             | inl low ↦
                 let g : Low 0 (n / 512) ≡ Low 0 (u.page / 512) = sym (low-0 n small) ∙ same
-                        ∙ low-0 u.page (omega arith) in
+                ∙ low-0 u.page (omega arith) in
                 let z : n / 512 ≡ u.page / 512 = cc in
                 omega arith
             | inr trap ↦
@@ -412,8 +433,8 @@ pub list-after : (m z : Ram) (s q : Frames) (f : ℕ) → IsFreeList m s → fre
 list-after m z s q f is taken after count others =
     let first = free-first is f (free_of m q) taken in
     let same : (g : ℕ) → among g (free_of m q) ≡ true
-            → frame_of z g ≡ frame_of m g =
-            λ g at. others g (λ e. cc (ap (λ x. among x (free_of m q)) e, at, first.1)) in
+    → frame_of z g ≡ frame_of m g =
+    λ g at. others g (λ e. cc (ap (λ x. among x (free_of m q)) e, at, first.1)) in
     (free_of-same m z q same, IsFreeList-same m z q after count same)
 
 -- the page has come
@@ -433,7 +454,7 @@ unfolding read_below
 read_below-same read m k r zero looks = refl
 read_below-same read m k r (suc n) looks =
     let here : read_at read k r n ≡ read_at read m r n =
-            ap (λ (o : Option (ℕ × ℕ)). read_by read (unwrap_or o (0, 0))) (looks n (omega arith)) in
+    ap (λ (o : Option (ℕ × ℕ)). read_by read (unwrap_or o (0, 0))) (looks n (omega arith)) in
     rw (read_below-same read m k r n (λ p h. looks p (omega arith))) (ap (λ x. read_below read m r n ++ (x ∷ [])) here)
 
 module _ (m k : Ram) (r : ℕ) where
@@ -442,14 +463,14 @@ module _ (m k : Ram) (r : ℕ) where
       → frame_of k (frame_at m r p) ≡ frame_of m (frame_at m r p) → page_at k r p ≡ page_at m r p
   page-kept p looks same =
       ap (λ x. page_with (frame_of k x) (marks_at k r p)) (frame_at-same m k r p looks)
-          ∙ ap (page_with (frame_of k (frame_at m r p))) (marks_at-same m k r p looks)
-          ∙ ap (λ b. page_with b (marks_at m r p)) same
+      ∙ ap (page_with (frame_of k (frame_at m r p))) (marks_at-same m k r p looks)
+      ∙ ap (λ b. page_with b (marks_at m r p)) same
 
   pub pages-each : (n : ℕ) → ((p : ℕ) → p < n → page_at k r p ≡ page_at m r p) → pages_below k r n ≡ pages_below m r n
   pages-each zero same = pages_below-zero k r ∙ sym (pages_below-zero m r)
   pages-each (suc n) same =
       pages_below-more k r n ∙ rw (same n (omega arith), pages-each n (λ p h. same p (omega arith)))
-          (sym (pages_below-more m r n))
+      (sym (pages_below-more m r n))
 
   pub pages_below-same : (n : ℕ) → ((p : ℕ) → p < n → lookup_of k r p ≡ lookup_of m r p)
       → ((p : ℕ) → p < n → frame_of k (frame_at m r p) ≡ frame_of m (frame_at m r p))
@@ -472,10 +493,14 @@ pub paged-same : {m k : Ram} {r : ℕ} {q : Frames} → IsTree m r → length k 
     → ((v : ℕ) → HasTable m r v → (among v (free_of k q) ≡ false) × (further_at q v ≡ 0)) → IsPaged k r q
 paged-same {m} {k} {r} is len same free out =
     let old : (x : Node) (v : ℕ) → IsNode x → table_at k r x ≡ Some v
-            → HasTable m r v = λ x v nx h. record
-            { place = x; is_node = nx; at_place = sym (table_at-same m k r same x nx) ∙ h } in
-    record { tree = IsTree-same m k r same is len; free = free; apart = λ x v nx h. (out v (old x v nx h)).0;
-        own = λ x v nx h. (out v (old x v nx h)).1 }
+    → HasTable m r v = λ x v nx h. record
+    { place = x; is_node = nx; at_place = sym (table_at-same m k r same x nx) ∙ h } in
+    record {
+      tree = IsTree-same m k r same is len;
+      free = free;
+      apart = λ x v nx h. (out v (old x v nx h)).0;
+      own = λ x v nx h. (out v (old x v nx h)).1;
+    }
 
 -- ---- a space outlives what is done beside it, also where it shares frames
 
@@ -497,8 +522,12 @@ module _ {m : Ram} {r t n : ℕ} (is : IsDense m r t n) where
   stays-put k same =
       let looks = lookup_of-same m k r same in
       let both = held-same is k (λ p h. looks p) (λ x u nx h. table_at-same m k r same x nx ∙ h) in
-      record { tables = both.0; held = rw (both.0, both.1) refl;
-          reads = λ read. read_below-same read m k r n (λ p h. looks p); looks = looks }
+      record {
+        tables = both.0;
+        held = rw (both.0, both.1) refl;
+        reads = λ read. read_below-same read m k r n (λ p h. looks p);
+        looks = looks;
+      }
 
   held-tables : (k : Ram) → ((f : ℕ) → 0 < count_of f (held m r t n) → frame_of k f ≡ frame_of m f) → (v : ℕ)
       → HasTable m r v → frame_of k v ≡ frame_of m v
@@ -549,13 +578,13 @@ module _ {m : Ram} {r t n : ℕ} {s : Frames} (is : OwnsFrames m r t n s) where
         free = free;
         own = λ v some.
             let here : 0 < count_of v (tables_below m r n) + count_of v (t ∷ []) =
-                    omega (arith, ap (count_of v) put.tables) in
+            omega (arith, ap (count_of v) put.tables) in
             alone v (omega (arith, count-held)) (is.own v here);
         alone = λ p h wide.
             let v = frame_at m r p in
             ap (further_at q) (frame_at-same m k r p (put.looks p))
-                ∙ alone v (omega (arith, count-held, page-held m r n p h))
-                (is.alone p h (ap is_open (sym (marks_at-same m k r p (put.looks p))) ∙ wide));
+            ∙ alone v (omega (arith, count-held, page-held m r n p h))
+            (is.alone p h (ap is_open (sym (marks_at-same m k r p (put.looks p))) ∙ wide));
         held = λ v. omega (arith, ap (count_of v) put.held, holders v);
       }
 
@@ -583,8 +612,13 @@ module _ {m k : Ram} {s n : Frames} {old new : List ℕ} (t : Trades m k s n old
       → ((f : ℕ) → count_of f old + count_of f (holds m b) ≤ holders_of m s f) → IsUntouched m k b
   Trades-untouched b is room =
       let stays = held-stays is.dense k (Trades-beside t (holds m b) room) in
-      record { mapping = stays.put.reads right_marks; entries = stays.put.reads entry_marks; pages = stays.pages;
-          registers = stays.trap; frames = stays.put.held }
+      record {
+        mapping = stays.put.reads right_marks;
+        entries = stays.put.reads entry_marks;
+        pages = stays.pages;
+        registers = stays.trap;
+        frames = stays.put.held;
+      }
 
   pub Trades-held : {r q c : ℕ} → OwnsFrames m r q c s
       → ((f : ℕ) → count_of f old + count_of f (held m r q c) ≤ holders_of m s f) → IsFreeList k n → Besides m k n r q c

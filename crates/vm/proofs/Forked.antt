@@ -37,7 +37,7 @@ module _ {m : Ram} {r t n : ℕ} {s : Frames} (is : OwnsFrames m r t n s) where
       × (count_of f (held m r t n) ≡ 1)
   page-once p {f} low was =
       let at : 0 < count_of f (frames_below m r n) =
-              omega (arith, page-held m r n p low, ap (λ x. count_of x (frames_below m r n)) was) in
+      omega (arith, page-held m r n p low, ap (λ x. count_of x (frames_below m r n)) was) in
       (omega (arith, count-held m r t n f), omega (arith, count-held m r t n f), omega (arith, count-held m r t n f))
 
 -- a frame that no page of a list of pages has
@@ -45,8 +45,11 @@ frames-absent : (m : Ram) (r n f : ℕ) → ((p : ℕ) → p < n → frame_at m 
 unfolding frames_below
 frames-absent m r zero f other = refl
 frames-absent m r (suc n) f other =
-    omega (arith, count_of-other f (frame_at m r n) (frames_below m r n) (λ e. other n (omega arith) (sym e)),
-    frames-absent m r n f (λ p h. other p (omega arith)))
+    omega (
+      arith,
+      count_of-other f (frame_at m r n) (frames_below m r n) (λ e. other n (omega arith) (sym e)),
+      frames-absent m r n f (λ p h. other p (omega arith)),
+    )
 
 -- ---- the steps: the page is closed, its frame gets a holder, the other tables get the page
 
@@ -67,7 +70,7 @@ page-of : (m k : Ram) (x : Space) (n : ℕ) → n < pages_in x.size → pages_of
 page-of m k x n low same =
     let d = page_at m x.root.0 n in
     sym (get_or-pages k x.root.0 (pages_in x.size) n d low) ∙ ap (λ (l : List Page). get_or l n d) same
-        ∙ get_or-pages m x.root.0 (pages_in x.size) n d low
+    ∙ get_or-pages m x.root.0 (pages_in x.size) n d low
 
 module _ {m : Ram} {x c : Space} {n : ℕ} {s : Frames} (is : IsPart m x c n s) (low : n < pages_in x.size) where
   -- the space that is made doesn't hold the frame of the next page yet
@@ -75,15 +78,21 @@ module _ {m : Ram} {x c : Space} {n : ℕ} {s : Frames} (is : IsPart m x c n s) 
   part-absent {f} was =
       let one = page-once is.parent n low was in
       let pages : count_of f (frames_below m c.root.0 n) ≡ 0 = frames-absent m c.root.0 n f (λ p h e.
-      omega (arith, pages-same m x.root.0 x.trap.0 (pages_in x.size) p n is.parent.once (omega arith) low
-          (sym (is.shared p h) ∙ e ∙ sym was))) in
+      omega (
+        arith,
+        pages-same m x.root.0 x.trap.0 (pages_in x.size) p n is.parent.once (omega arith) low
+            (sym (is.shared p h) ∙ e ∙ sym was),
+      )) in
       let room = is.room f in
       let at = held-inside m s f is.parent.free (omega arith) in
       elim (cases_eq (count_of f (tables_below m c.root.0 n) + count_of f (c.trap.0 ∷ [])) 0) [
         | inl none ↦ omega (arith, count-held m c.root.0 c.trap.0 n f)
-        | inr some ↦ absurd (omega
-            (arith, count-held m c.root.0 c.trap.0 n f, is.child.own f (omega arith),
-            not-free-held is.parent.free f at.0 at.1))
+        | inr some ↦ absurd (omega (
+          arith,
+          count-held m c.root.0 c.trap.0 n f,
+          is.child.own f (omega arith),
+          not-free-held is.parent.free f at.0 at.1,
+        ))
       ]
 
   -- and where its frame gets a holder: the space that is made can take it
@@ -96,12 +105,16 @@ module _ {m : Ram} {x c : Space} {n : ℕ} {s : Frames} (is : IsPart m x c n s) 
       let small = is.parent.dense.small in (
         share-stands is.parent f after more list (page-once is.parent n low was).0
             (λ p h e. let same : p ≡ n = pages-same m x.root.0 x.trap.0 (pages_in x.size) p n is.parent.once h low
-                (e ∙ sym was) in ap is_open (ap (marks_at m x.root.0) same ∙ marks) ∙ closed),
+            (e ∙ sym was) in ap is_open (ap (marks_at m x.root.0) same ∙ marks) ∙ closed),
         record {
           space = share-stands is.child f after more list
               (omega (arith, count-held m c.root.0 c.trap.0 n f))
-              (λ p h e. absurd (omega (arith, count-held m c.root.0 c.trap.0 n f, page-held m c.root.0 n p h,
-                  ap (λ v. count_of v (frames_below m c.root.0 n)) e)));
+              (λ p h e. absurd (omega (
+                arith,
+                count-held m c.root.0 c.trap.0 n f,
+                page-held m c.root.0 n p h,
+                ap (λ v. count_of v (frames_below m c.root.0 n)) e,
+              )));
           small = omega arith;
           room = λ v. omega (arith, more v);
           absent = absent;
@@ -161,35 +174,38 @@ module _ {m k : Ram} {x c : Space} {n f leaf : ℕ} {s : Frames} (is : IsPart m 
       let b = before.1 in
       let trades = next-trades b next in
       let room : (v : ℕ) → count_of v (f ∷ held k r t n) + count_of v (holds k x) ≤ holders_of k q v =
-              λ v. omega (arith, more v) in
+      λ v. omega (arith, more v) in
       let parent = Trades-held trades before.0 room next.paged.free in
       let stays = parent.stays in
       let child = next-held b next in
       let here = page-once part.0.parent n low e.frame in
       let first : Trades m k s q (holds m x ++ held m r t n) (f ∷ (held k r t n ++ holds k x)) =
       Trades-with (Trades-twice e.stands.trades (Trades-more k s q f (holds k x) more (omega arith))) (held m r t n)
-          (holds m x ++ held m r t n) (f ∷ (held k r t n ++ holds k x))
+      (holds m x ++ held m r t n) (f ∷ (held k r t n ++ holds k x))
       (λ v. omega (arith, count_of-append v (holds m x) (held m r t n)))
-          (λ v. omega (arith, count_of-append v (held k r t n) (holds k x))) in
+      (λ v. omega (arith, count_of-append v (held k r t n) (holds k x))) in
       let second : Trades k l q w (f ∷ (held k r t n ++ holds k x)) (holds l x ++ held l r t (suc n)) =
       Trades-with trades (holds k x) (f ∷ (held k r t n ++ holds k x)) (holds l x ++ held l r t (suc n))
       (λ v. omega (arith, count_of-append v (held k r t n) (holds k x)))
-          (λ v. omega (arith, count_of-append v (holds l x) (held l r t (suc n)), ap (count_of v) parent.same)) in
+      (λ v. omega (arith, count_of-append v (holds l x) (held l r t (suc n)), ap (count_of v) parent.same)) in
       let all = Trades-twice first second in
       let lengths = Trades-lengths all is.parent.free child.free
-              (λ v. omega (arith, count_of-append v (holds m x) (held m r t n))) in
+      (λ v. omega (arith, count_of-append v (holds m x) (held m r t n))) in
       record {
         part = record {
           parent = parent.space;
           child = child;
-          room = λ v. omega (arith, count_of-append v (holds m x) (held m r t n),
-              count_of-append v (holds l x) (held l r t (suc n)));
+          room = λ v. omega (
+            arith,
+            count_of-append v (holds m x) (held m r t n),
+            count_of-append v (holds l x) (held l r t (suc n)),
+          );
           shared = λ p h. elim (cases_eq p n) [
             | inl same ↦ ap (frame_at l r) same ∙ frame_at-is l r n next.inserts.changed
                 ∙ sym (ap (frame_at l x.root.0) same ∙ frame_at-same k l x.root.0 n (stays.put.looks n) ∙ e.frame)
             | inr ne ↦
                 frame_at-same k l r p (next.inserts.others p (omega arith) ne) ∙ part.0.shared p (omega arith)
-                    ∙ sym (frame_at-same k l x.root.0 p (stays.put.looks p))
+                ∙ sym (frame_at-same k l x.root.0 p (stays.put.looks p))
           ];
         };
         marked = page-of k l x n low stays.pages ∙ e.page ∙ closed-page e (ap (frame_of m) (sym was));
@@ -198,14 +214,20 @@ module _ {m k : Ram} {x c : Space} {n f leaf : ℕ} {s : Frames} (is : IsPart m 
         frames = λ p h. frame_at-same k l x.root.0 p (stays.put.looks p) ∙ e.frames p h;
         child = next-pages b next
             ∙ ap (λ (y : Page). pages_below k r n ++ (y ∷ []))
-                (closed-page e (ap (frame_of k) (sym e.frame) ∙ ap (λ (y : Page). y.bytes) e.page
-                ∙ ap (frame_of m) (sym was)))
+            (closed-page e (ap (frame_of k) (sym e.frame) ∙ ap (λ (y : Page). y.bytes) e.page
+            ∙ ap (frame_of m) (sym was)))
             ∙ ap (λ (l : List Page). l ++ (shared_page (page_at m x.root.0 n) ∷ [])) part.2;
         trap = next-trap b next ∙ part.3;
         trades = all;
-        free = omega (arith, length-append (holds m x) (held m r t n), length-append (holds l x) (held l r t (suc n)),
-            length-held m x.root.0 x.trap.0 (pages_in x.size), length-held l x.root.0 x.trap.0 (pages_in x.size),
-            length-held m r t n, length-held l r t (suc n));
+        free = omega (
+          arith,
+          length-append (holds m x) (held m r t n),
+          length-append (holds l x) (held l r t (suc n)),
+          length-held m x.root.0 x.trap.0 (pages_in x.size),
+          length-held l x.root.0 x.trap.0 (pages_in x.size),
+          length-held m r t n,
+          length-held l r t (suc n),
+        );
       }
 
 -- ---- what the steps ask for
@@ -216,9 +238,13 @@ pages-marked : (m k : Ram) (r n : ℕ) → ((p : ℕ) → p < n → page_at k r 
     → pages_below k r n ≡ shared_memory (pages_below m r n)
 pages-marked m k r zero each = pages_below-zero k r ∙ sym (ap shared_memory (pages_below-zero m r))
 pages-marked m k r (suc n) each =
-    rw (pages_below-more k r n, pages_below-more m r n, each n (omega arith),
-        pages-marked m k r n (λ p h. each p (omega arith)))
-        (sym (map-append shared_page (pages_below m r n) (page_at m r n ∷ [])))
+    rw (
+      pages_below-more k r n,
+      pages_below-more m r n,
+      each n (omega arith),
+      pages-marked m k r n (λ p h. each p (omega arith)),
+    )
+    (sym (map-append shared_page (pages_below m r n) (page_at m r n ∷ [])))
 
 pub so-far-start : {m : Ram} {x c : Space} {s : Frames} → IsPart m x c 0 s → IsSoFar m m x c 0 s s
 so-far-start {m} {x} {c} {s} is = record {
@@ -251,7 +277,7 @@ module _ {m k l : Ram} {x c : Space} {n : ℕ} {s q w : Frames} (so : IsSoFar m 
             ∙ ap (λ (y : Page). pages_below k c.root.0 n ++ (shared_page y ∷ [])) (so.pages n (omega arith) low)
             ∙ ap (λ (l : List Page). l ++ (shared_page (page_at m x.root.0 n) ∷ [])) so.child
             ∙ sym (ap shared_memory (pages_below-more m x.root.0 n)
-                ∙ map-append shared_page (pages_below m x.root.0 n) (page_at m x.root.0 n ∷ []));
+            ∙ map-append shared_page (pages_below m x.root.0 n) (page_at m x.root.0 n ∷ []));
         trap = more.trap ∙ so.trap;
         trades = Trades-twice so.trades more.trades;
         free = omega arith;
@@ -272,31 +298,37 @@ module _ {m k : Ram} {x c : Space} {n : ℕ} {s w : Frames} (so : IsSoFar m k x 
       omega (arith, frames_for-grows (n + 1) d, ap frames_for e)
 
 module _ {m k : Ram} {x c : Space} {s w : Frames} (is : IsPart m x c 0 s) (so : IsSoFar m k x c (pages_in x.size) s w)
-    where
-  -- the frames of the pages are the same, and have one holder more
-  pub shared-frames : (p : ℕ) → p < pages_in x.size
-      → (frame_at k c.root.0 p ≡ frame_at m x.root.0 p)
-      × (holders_of k w (frame_at m x.root.0 p) ≡ holders_of m s (frame_at m x.root.0 p) + 1)
-  unfolding frames_below
-  shared-frames p low =
-      let same = so.frames p low in
-      let n = pages_in x.size in
-      let f = frame_at m x.root.0 p in
-      let before = page-once is.parent p low refl in
-      let now = page-once so.part.parent p low same in
-      let in_child = page-once so.part.child p low (so.part.shared p low ∙ same) in
-      let none : count_of f (held m c.root.0 c.trap.0 0) ≡ 0 =
-              elim (cases_eq (count_of f (held m c.root.0 c.trap.0 0)) 0) [
-        | inl gone ↦ gone
-        | inr some ↦
-            let at = held-inside m s f is.parent.free (omega arith) in
-            absurd (omega (arith, is.child.own f (omega (arith, count-held m c.root.0 c.trap.0 0 f)),
-                not-free-held is.parent.free f at.0 at.1))
-      ] in (
-        so.part.shared p low ∙ same,
-        omega (arith, count_of-append f (holds m x) (held m c.root.0 c.trap.0 0),
-            count_of-append f (holds k x) (held k c.root.0 c.trap.0 n)),
-      )
+  where
+    -- the frames of the pages are the same, and have one holder more
+    pub shared-frames : (p : ℕ) → p < pages_in x.size
+        → (frame_at k c.root.0 p ≡ frame_at m x.root.0 p)
+        × (holders_of k w (frame_at m x.root.0 p) ≡ holders_of m s (frame_at m x.root.0 p) + 1)
+    unfolding frames_below
+    shared-frames p low =
+        let same = so.frames p low in
+        let n = pages_in x.size in
+        let f = frame_at m x.root.0 p in
+        let before = page-once is.parent p low refl in
+        let now = page-once so.part.parent p low same in
+        let in_child = page-once so.part.child p low (so.part.shared p low ∙ same) in
+        let none : count_of f (held m c.root.0 c.trap.0 0) ≡ 0 =
+        elim (cases_eq (count_of f (held m c.root.0 c.trap.0 0)) 0) [
+          | inl gone ↦ gone
+          | inr some ↦
+              let at = held-inside m s f is.parent.free (omega arith) in
+              absurd (omega (
+                arith,
+                is.child.own f (omega (arith, count-held m c.root.0 c.trap.0 0 f)),
+                not-free-held is.parent.free f at.0 at.1,
+              ))
+        ] in (
+          so.part.shared p low ∙ same,
+          omega (
+            arith,
+            count_of-append f (holds m x) (held m c.root.0 c.trap.0 0),
+            count_of-append f (holds k x) (held k c.root.0 c.trap.0 n),
+          ),
+        )
 
 -- ---- a space that is made, and all pages
 
@@ -317,8 +349,12 @@ module _ {m k : Ram} (x c : Space) {s q : Frames} (is : IsSpace m x s) (new : Ow
   pub part-start : IsPart k x c 0 q
   part-start =
       let beside = Trades-held t is (λ v. omega arith) new.free in
-      record { parent = beside.space; child = new; room = λ v. omega (arith, ap (count_of v) beside.same);
-          shared = λ p h. absurd (omega arith) }
+      record {
+        parent = beside.space;
+        child = new;
+        room = λ v. omega (arith, ap (count_of v) beside.same);
+        shared = λ p h. absurd (omega arith);
+      }
 
   -- the pages fit, where the count of the whole space does
   pub part-room : frames_for (pages_in x.size) ≤ free_count m s
@@ -340,15 +376,15 @@ module _ {m k : Ram} (x c : Space) {s q : Frames} (is : IsSpace m x s) (new : Ow
       let beside = Trades-held t is (λ v. omega arith) new.free in
       let part = part-start in
       let same : (p : ℕ) → frame_at k x.root.0 p ≡ frame_at m x.root.0 p =
-              λ p. frame_at-same m k x.root.0 p (beside.stays.put.looks p) in
+      λ p. frame_at-same m k x.root.0 p (beside.stays.put.looks p) in
       let first : Trades m k s q (holds m x) (holds k x ++ held k c.root.0 c.trap.0 0) =
       Trades-with t (holds m x) (holds m x) (holds k x ++ held k c.root.0 c.trap.0 0)
       (λ v. omega arith) (λ v. omega
-          (arith, count_of-append v (holds k x) (held k c.root.0 c.trap.0 0), ap (count_of v) beside.same)) in
+      (arith, count_of-append v (holds k x) (held k c.root.0 c.trap.0 0), ap (count_of v) beside.same)) in
       let both : (p : ℕ) → p < pages_in x.size
-              → (frame_at l c.root.0 p ≡ frame_at k x.root.0 p)
-              × (holders_of l w (frame_at k x.root.0 p) ≡ holders_of k q (frame_at k x.root.0 p) + 1) =
-              λ p h. shared-frames part so p h in
+      → (frame_at l c.root.0 p ≡ frame_at k x.root.0 p)
+      × (holders_of l w (frame_at k x.root.0 p) ≡ holders_of k q (frame_at k x.root.0 p) + 1) =
+      λ p h. shared-frames part so p h in
       record {
         child = so.part.child;
         parent = so.part.parent;

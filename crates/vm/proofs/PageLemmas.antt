@@ -166,9 +166,9 @@ pub pages-sized : (m : Ram) (r t n : ℕ) → IsMemory m → IsDense m r t n →
 pages-sized m r t n memory is i p at =
     let low : i < n = omega (arith, slice_get_within (pages_below m r n) i p at, length-pages m r n) in
     let same : page_at m r i ≡ p = sym (get_or-pages m r n i p low)
-            ∙ get_or_from_slice_get (pages_below m r n) i p p at in
+    ∙ get_or_from_slice_get (pages_below m r n) i p p at in
     ap (λ (x : Page). length x.bytes) (sym same)
-        ∙ memory.sized (frame_at m r i) (lookup-sound is.tree i (is.pages i low)).0
+    ∙ memory.sized (frame_at m r i) (lookup-sound is.tree i (is.pages i low)).0
 
 -- ---- pages that are open stay so
 
@@ -177,12 +177,12 @@ pub open-read : (m k : Ram) (r n first : ℕ) → SameLeaves m k r n → IsOpenF
 open-read m k r n first same is p high low =
     let d : Mapped = read_at right_marks m r p in
     let marks : (read : ℕ → Perm)
-            → read (marks_at k r p) ≡ read (marks_at m r p) =
-            λ read. ap (λ (e : Mapped). e.marks)
-            (sym (get_or-mapping read k r n p d low) ∙ ap (λ (l : List Mapped). get_or l p d) (same read)
-            ∙ get_or-mapping read m r n p d low) in
+    → read (marks_at k r p) ≡ read (marks_at m r p) =
+    λ read. ap (λ (e : Mapped). e.marks)
+    (sym (get_or-mapping read k r n p d low) ∙ ap (λ (l : List Mapped). get_or l p d) (same read)
+    ∙ get_or-mapping read m r n p d low) in
     ap (λ (a : Perm). a.writable) (marks entry_marks) ∙ is p high low
-        ∙ sym (ap (λ (a : Perm). a.writable) (marks right_marks))
+    ∙ sym (ap (λ (a : Perm). a.writable) (marks right_marks))
 
 -- a leaf that is made open is so where the page is writable by right
 made-open : (leaf : ℕ) (g : Perm) → leaf ≡ user_leaf g true → is_open leaf ≡ (right_marks leaf).writable
@@ -222,7 +222,7 @@ module _ (read : ℕ → Perm) (m : Ram) (r n p : ℕ) where
   pub get-mapping : p < n → slice_get (read_below read m r n) p ≡ Some (read_at read m r p)
   get-mapping h =
       slice_get-get_or (read_below read m r n) p (read_at read m r p) (omega (arith, length-mapping read m r n))
-          ∙ ap Some (get_or-mapping read m r n p (read_at read m r p) h)
+      ∙ ap Some (get_or-mapping read m r n p (read_at read m r p) h)
 
   pub mapping-past : n ≤ p → slice_get (read_below read m r n) p ≡ None
   mapping-past h = slice_get_past (read_below read m r n) p (omega (arith, length-mapping read m r n))
@@ -295,15 +295,15 @@ module _ {m : Ram} {r t n : ℕ} (is : IsDense m r t n) where
   given-past p a false high e = refl
   given-past p a true high e =
       ap (translation a) (lookup-low m r p)
-          ∙ closed (p % 2 ^ 27) a (elim (canonical-low p e) [ inl low ↦ omega arith | inr top ↦ omega arith ])
-          (omega arith)
+      ∙ closed (p % 2 ^ 27) a (elim (canonical-low p e) [ inl low ↦ omega arith | inr top ↦ omega arith ])
+      (omega arith)
 
   given-mapped : (p : ℕ) (a : Access) → p < n
       → given_frame m r p a ≡ (if permits a (entry_marks (marks_at m r p)) then Some (frame_at m r p) else None)
   given-mapped p a h =
       let low : p / 2 ^ 26 ≡ 0 = omega arith in
       rw low (ap (translation a) (is.pages p h)
-          ∙ ap (λ b. if b then Some (frame_at m r p) else None) (leaf-allows a (marks_at m r p) (is.leaves p h)))
+      ∙ ap (λ b. if b then Some (frame_at m r p) else None) (leaf-allows a (marks_at m r p) (is.leaves p h)))
 
 pub walks-entries : (m : Ram) (r t n : ℕ) → length m ≤ 32768 → IsDense m r t n → WalksTo m r (entries_below m r n)
 walks-entries m r t n small is = record {
@@ -325,7 +325,7 @@ coherent-grown held root old new front is = record {
         (sym (get-take new (length old) t.page low) ∙ ap (λ l. slice_get l t.page) front) ∙ is.walks t h same
     | inr high ↦
         let none : frame_for old t.page t.access ≡ None =
-                ap (λ o. option_map (λ x. x.frame) (allowed t.access o)) (slice_get_past old t.page high) in
+        ap (λ o. option_map (λ x. x.frame) (allowed t.access o)) (slice_get_past old t.page high) in
         let some = is.walks t h same in
         absurd cc
   ];

@@ -44,8 +44,11 @@ run access xs = prefix_len (λ p. permits access p.marks) xs
 -- a page that allows the access goes before the run of the others, and one that doesn't ends it
 flat-yes : (a : Access) (x : Page) (xs : List Page) → permits a x.marks ≡ true
     → (flat a (x ∷ xs) ≡ x.bytes ++ flat a xs) × (run a (x ∷ xs) ≡ 1 + run a xs)
-flat-yes a x xs e = (rw (take_while-cons (λ (p : Page). permits a p.marks) x xs, e)
-    (flat_map-cons (λ (p : Page). p.bytes) x (take_while (λ p. permits a p.marks) xs)), rw e refl)
+flat-yes a x xs e = (
+  rw (take_while-cons (λ (p : Page). permits a p.marks) x xs, e)
+      (flat_map-cons (λ (p : Page). p.bytes) x (take_while (λ p. permits a p.marks) xs)),
+  rw e refl,
+)
 
 flat-no : (a : Access) (x : Page) (xs : List Page) → permits a x.marks ≡ false
     → (flat a (x ∷ xs) ≡ []) × (run a (x ∷ xs) ≡ 0)
@@ -59,8 +62,14 @@ sized-drop (x ∷ xs) (suc q) h = sized-drop xs q (λ i p e. h (suc i) p e)
 length-flat : (a : Access) (xs : List Page) → IsSized xs → length (flat a xs) ≡ 4096 * run a xs
 length-flat a [] h = refl
 length-flat a (x ∷ xs) h = elim (cases_Bool (permits a x.marks)) [
-  | inl is ↦ omega (arith, ap length (flat-yes a x xs is).0, length-append x.bytes (flat a xs), h 0 x refl,
-      length-flat a xs (λ i p e. h (suc i) p e), (flat-yes a x xs is).1)
+  | inl is ↦ omega (
+    arith,
+    ap length (flat-yes a x xs is).0,
+    length-append x.bytes (flat a xs),
+    h 0 x refl,
+    length-flat a xs (λ i p e. h (suc i) p e),
+    (flat-yes a x xs is).1,
+  )
   | inr isnt ↦ omega (arith, ap length (flat-no a x xs isnt).0, (flat-no a x xs isnt).1)
 ]
 
@@ -77,7 +86,7 @@ flat-drop a (x ∷ xs) (suc i) h le = elim (cases_Bool (permits a x.marks)) [
       let more : 4096 * suc i ≡ 4096 + 4096 * i = omega arith in
       let front : drop 4096 (x.bytes ++ flat a xs) ≡ flat a xs = drop_at x.bytes (flat a xs) 4096 size in
       rw (more, ← drop-drop (4096 * i) 4096 (flat a (x ∷ xs)), (flat-yes a x xs is).0, front)
-          (flat-drop a xs i (λ k p e. h (suc k) p e) low)
+      (flat-drop a xs i (λ k p e. h (suc k) p e) low)
   | inr isnt ↦ absurd (omega (arith, (flat-no a x xs isnt).1))
 ]
 
@@ -96,7 +105,7 @@ flat-front a (x ∷ xs) o l h le = elim (cases_Bool (permits a x.marks)) [
       let size : length x.bytes ≡ 4096 = h 0 x refl in
       let long : l ≤ length (drop o x.bytes) = omega (arith, length-drop o x.bytes) in
       rw ((flat-yes a x xs is).0, is, drop-append-le o x.bytes (flat a xs) (omega arith))
-          (take-append-le l (drop o x.bytes) (flat a xs) long)
+      (take-append-le l (drop o x.bytes) (flat a xs) long)
   | inr isnt ↦ rw ((flat-no a x xs isnt).0, isnt) (ap (take l) (drop_all o [] (omega arith)))
 ]
 
@@ -123,15 +132,18 @@ module _ (a : Access) (mem : Memory) where
         | inr high ↦
             let same : run a xs ≡ i = omega arith in
             here ∙ ap (λ j. test (get_or xs j p)) (sym same)
-                ∙ prefix_len_stops test xs p (omega (arith, length-drop first mem))
-                ∙ sym (lt-leb (suc i) (run a xs) (omega arith))
+            ∙ prefix_len_stops test xs p (omega (arith, length-drop first mem))
+            ∙ sym (lt-leb (suc i) (run a xs) (omega arith))
       ]
 
   -- it is no longer than the pages from there on
   run-le : (first : ℕ) → run_of a mem first ≤ length mem - first
   unfolding run_of
-  run-le first = omega (arith, prefix_len-le-length (λ (p : Page). permits a p.marks) (drop first mem),
-      length-drop first mem)
+  run-le first = omega (
+    arith,
+    prefix_len-le-length (λ (p : Page). permits a p.marks) (drop first mem),
+    length-drop first mem,
+  )
 
   -- one more page of it, and where it ends
   pub run-more : (first i : ℕ) (p : Page) → i ≤ run_of a mem first → slice_get mem (first + i) ≡ Some p
@@ -154,14 +166,16 @@ module _ (a : Access) (mem : Memory) where
   pub no-page-allows : (page : ℕ) → slice_get mem page ≡ None → false ≡ leb 1 (run_of a mem page)
   no-page-allows page at =
       sym (lt-leb 1 (run_of a mem page)
-          (omega (arith, run-end page 0 (omega arith) (ap (slice_get mem) (omega arith) ∙ at))))
+      (omega (arith, run-end page 0 (omega arith) (ap (slice_get mem) (omega arith) ∙ at))))
 
   -- how many bytes can be reached
   pub length-reach : (at : ℕ) → IsSized mem → length (reach a mem at) ≡ 4096 * run_of a mem (at / 4096) - at % 4096
   unfolding reach run_of
-  length-reach at h = omega
-      (arith, length-drop (at % 4096) (flat a (drop (at / 4096) mem)),
-      length-flat a (drop (at / 4096) mem) (sized-drop mem (at / 4096) h))
+  length-reach at h = omega (
+    arith,
+    length-drop (at % 4096) (flat a (drop (at / 4096) mem)),
+    length-flat a (drop (at / 4096) mem) (sized-drop mem (at / 4096) h),
+  )
 
   -- the test whether so many bytes can be reached
   pub test-long : (at len : ℕ) → IsSized mem → 4096 * length mem < len → false ≡ leb len (length (reach a mem at))
@@ -193,13 +207,19 @@ module _ (a : Access) (mem : Memory) where
       let j = (o + d) % 4096 in
       let xs = drop q mem in
       let size : length (drop o (flat a xs)) ≡ 4096 * run a xs - o =
-              omega (arith, length-drop o (flat a xs), length-flat a xs (sized-drop mem q h)) in
+      omega (arith, length-drop o (flat a xs), length-flat a xs (sized-drop mem q h)) in
       let low : i ≤ run a xs = omega arith in
       let page : (at + d) / 4096 ≡ q + i = omega arith in
       let place : (at + d) % 4096 ≡ j = omega arith in
       let whole : 4096 * i + j ≡ o + d = omega arith in
-      rw (page, place, ← drop-drop i q mem, flat-drop a xs i (sized-drop mem q h) low,
-          drop-drop j (4096 * i) (flat a xs), whole) (sym (drop-drop d o (flat a xs)))
+      rw (
+        page,
+        place,
+        ← drop-drop i q mem,
+        flat-drop a xs i (sized-drop mem q h) low,
+        drop-drop j (4096 * i) (flat a xs),
+        whole,
+      ) (sym (drop-drop d o (flat a xs)))
 
   -- what is reached begins with the rest of the page
   pub reach-front : (at l : ℕ) → IsSized mem → at % 4096 + l ≤ 4096
@@ -216,16 +236,20 @@ module _ (a : Access) (mem : Memory) where
   -- while bytes are left to reach, the rest of the page has some
   pub piece-some : (at : ℕ) → IsSized mem → 0 < length (reach a mem at) → 0 < length (piece_at a mem at)
   piece-some at h some =
-      omega (arith, ap length (reach-front at 1 h (omega arith)), length-take 1 (reach a mem at),
-          length-take 1 (piece_at a mem at))
+      omega (
+        arith,
+        ap length (reach-front at 1 h (omega arith)),
+        length-take 1 (reach a mem at),
+        length-take 1 (piece_at a mem at),
+      )
 
   -- what was reached so far, and the next piece
   pub reach-next : (at d l : ℕ) → IsSized mem → d ≤ length (reach a mem at) → l ≤ length (piece_at a mem (at + d))
       → take d (reach a mem at) ++ take l (piece_at a mem (at + d)) ≡ take (d + l) (reach a mem at)
   reach-next at d l h low le =
       ap (λ x. take d (reach a mem at) ++ x)
-          (sym (reach-front (at + d) l h (omega (arith, length-piece (at + d) h)))
-          ∙ ap (take l) (reach-drop at d h low))
+      (sym (reach-front (at + d) l h (omega (arith, length-piece (at + d) h)))
+      ∙ ap (take l) (reach-drop at d h low))
       ∙ sym (take-add d l (reach a mem at))
 
   -- while bytes are left to reach, the next lies in a page, and the rest of its page has some
@@ -233,7 +257,7 @@ module _ (a : Access) (mem : Memory) where
       → ((at + d) / 4096 < length mem) × (0 < length (piece_at a mem (at + d)))
   reach-page at d h low =
       let left : 0 < length (reach a mem (at + d)) =
-              omega (arith, ap length (reach-drop at d h (omega arith)), length-drop d (reach a mem at)) in
+      omega (arith, ap length (reach-drop at d h (omega arith)), length-drop d (reach a mem at)) in
       (omega (arith, length-reach (at + d) h, run-le ((at + d) / 4096)), piece-some (at + d) h left)
 
 -- bytes that a program may write lie in pages that there are
@@ -288,7 +312,7 @@ long-string : (front : List ℕ) (x most : ℕ) (o : Option (List ℕ)) → most
 long-string front x most None h = refl
 long-string front x most (Some r) h =
     ap (λ b. if b then Some (front ++ (x ∷ r)) else None)
-        (lt-leb (length (front ++ (x ∷ r))) most (omega (arith, length-append front (x ∷ r))))
+    (lt-leb (length (front ++ (x ∷ r))) most (omega (arith, length-append front (x ∷ r))))
 
 module _ {bytes buffer : List ℕ} {i : ℕ} (was : Strings bytes buffer i) where
   -- one more byte
@@ -315,10 +339,10 @@ module _ {bytes buffer : List ℕ} {i : ℕ} (was : Strings bytes buffer i) wher
   string-ends most fits e =
       let s = split bytes i 0 e in
       let found : before_nul bytes ≡ Some (take i buffer) = was.rest
-              ∙ ap (λ l. option_map (λ r. take i bytes ++ r) (before_nul l)) s.0
-              ∙ ap Some (append-nil (take i bytes) ∙ sym was.same) in
+      ∙ ap (λ l. option_map (λ r. take i bytes ++ r) (before_nul l)) s.0
+      ∙ ap Some (append-nil (take i bytes) ∙ sym was.same) in
       let short : leb (length (take i buffer)) most ≡ true =
-              le-leb (length (take i buffer)) most (omega (arith, length-take i buffer)) in
+      le-leb (length (take i buffer)) most (omega (arith, length-take i buffer)) in
       ap (short_string most) found ∙ ap (λ b. if b then Some (take i buffer) else None) short
 
   -- it is not there in time
@@ -326,7 +350,7 @@ module _ {bytes buffer : List ℕ} {i : ℕ} (was : Strings bytes buffer i) wher
   string-long {x} e ne =
       let s = split bytes i x e in
       ap (short_string i) (was.rest ∙ ap (λ l. option_map (λ r. take i bytes ++ r) (before_nul l)) s.0
-          ∙ ap (option_map (λ r. take i bytes ++ r)) (before-more x (drop (suc i) bytes) ne))
+      ∙ ap (option_map (λ r. take i bytes ++ r)) (before-more x (drop (suc i) bytes) ne))
       ∙ long-string (take i bytes) x i (before_nul (drop (suc i) bytes)) (omega (arith, length-take i bytes))
 
 -- the next address is one of 64 bits

@@ -42,15 +42,19 @@ held-some is v some = omega arith
 count-frames : (m k : Ram) (r n p f g : ℕ) → ((j : ℕ) → j < n → j ≢ p → lookup_of k r j ≡ lookup_of m r j)
     → frame_at k r p ≡ g → frame_at m r p ≡ f → p < n
     → (v : ℕ) → count_of v (frames_below k r n) + count_of v (f ∷ [])
-        ≡ count_of v (frames_below m r n) + count_of v (g ∷ [])
+    ≡ count_of v (frames_below m r n) + count_of v (g ∷ [])
 unfolding frames_below
 count-frames m k r zero p f g looks new old low v = absurd (omega arith)
 count-frames m k r (suc n) p f g looks new old low v = elim (cases_eq n p) [
   | inl here ↦
       let rest : frames_below k r n ≡ frames_below m r n =
-              frames_below-same m k r n (λ j h. looks j (omega arith) (omega arith)) in
-      omega (arith, ap (count_of v) rest, ap (λ x. one_if (nat_eq v x)) (ap (frame_at k r) here ∙ new),
-          ap (λ x. one_if (nat_eq v x)) (ap (frame_at m r) here ∙ old))
+      frames_below-same m k r n (λ j h. looks j (omega arith) (omega arith)) in
+      omega (
+        arith,
+        ap (count_of v) rest,
+        ap (λ x. one_if (nat_eq v x)) (ap (frame_at k r) here ∙ new),
+        ap (λ x. one_if (nat_eq v x)) (ap (frame_at m r) here ∙ old),
+      )
   | inr ne ↦
       let rest = count-frames m k r n p f g (λ j h other. looks j (omega arith) other) new old (omega arith) v in
       omega (arith, ap (λ x. one_if (nat_eq v x)) (frame_at-same m k r n (looks n (omega arith) ne)))
@@ -67,8 +71,11 @@ module _ {m z k : Ram} {r t n p f g marks : ℕ} {s q : Frames} (is : OwnsFrames
 
   table-was : (v : ℕ) → HasTable z r v → 0 < count_of v (tables_below m r n)
   table-was v h = table-held is.dense
-      (record { place = h.place; is_node = h.is_node;
-      at_place = sym (table_at-same m z r table-stays h.place h.is_node) ∙ h.at_place })
+      (record {
+        place = h.place;
+        is_node = h.is_node;
+        at_place = sym (table_at-same m z r table-stays h.place h.is_node) ∙ h.at_place;
+      })
 
   -- what is mapped at other pages
   remap-others : (j : ℕ) → j < 2 ^ 27 → j ≢ p → lookup_of k r j ≡ lookup_of m r j
@@ -81,16 +88,21 @@ module _ {m z k : Ram} {r t n p f g marks : ℕ} {s q : Frames} (is : OwnsFrames
   tables-same =
       let same : SameTables m k r = λ x nx. e.tables x nx ∙ table_at-same m z r table-stays x nx in
       tables_below-same m k r n
-          (λ j h. (ap (λ o. unwrap_or o 0) (same (mid_node j) (mid_is_node j)),
-          ap (λ o. unwrap_or o 0) (same (low_node j) (low_is_node j))))
+      (λ j h. (
+        ap (λ o. unwrap_or o 0) (same (mid_node j) (mid_is_node j)),
+        ap (λ o. unwrap_or o 0) (same (low_node j) (low_is_node j)),
+      ))
 
   -- what is held: one frame for another
   remap-held : (v : ℕ) → count_of v (held k r t n) + count_of v (f ∷ [])
       ≡ count_of v (held m r t n) + count_of v (g ∷ [])
   remap-held v =
-      omega (arith, count-held,
-          count-frames m k r n p f g remap-looks (frame_at-is k r p e.inserts.changed) e.was low v,
-          ap (count_of v) tables-same)
+      omega (
+        arith,
+        count-held,
+        count-frames m k r n p f g remap-looks (frame_at-is k r p e.inserts.changed) e.was low v,
+        ap (count_of v) tables-same,
+      )
 
   -- the space stands
   remap-space : OwnsFrames k r t n q
@@ -136,14 +148,19 @@ module _ {m z k : Ram} {r t n p f g marks : ℕ} {s q : Frames} (is : OwnsFrames
   pub remap-page : page_at k r p ≡ page_with (frame_of m f) marks
   remap-page =
       let no_table : count_of g (tables_below m r n) ≡ 0 = elim e.new [
-        | inl old ↦ omega (arith, ap (λ x. count_of x (tables_below m r n)) old, count-held m r t n f,
-            page-held m r n p low, ap (λ x. count_of x (frames_below m r n)) e.was)
+        | inl old ↦ omega (
+          arith,
+          ap (λ x. count_of x (tables_below m r n)) old,
+          count-held m r t n f,
+          page-held m r n p low,
+          ap (λ x. count_of x (frames_below m r n)) e.was,
+        )
         | inr free ↦ omega (arith, count-held m r t n g)
       ] in
       let bytes : frame_of k g ≡ frame_of m f = e.keeps.others g (λ h. omega (arith, table-was g h)) e.taken
-              ∙ e.bytes in
+      ∙ e.bytes in
       ap (λ x. page_with (frame_of k x) (marks_at k r p)) (frame_at-is k r p e.inserts.changed)
-          ∙ ap (page_with (frame_of k g)) (marks_at-is k r p e.inserts.changed) ∙ ap (λ b. page_with b marks) bytes
+      ∙ ap (page_with (frame_of k g)) (marks_at-is k r p e.inserts.changed) ∙ ap (λ b. page_with b marks) bytes
 
   -- and the others are as they were
   pub remap-other : (j : ℕ) → j < n → j ≢ p → page_at k r j ≡ page_at m r j
@@ -151,7 +168,7 @@ module _ {m z k : Ram} {r t n p f g marks : ℕ} {s q : Frames} (is : OwnsFrames
       let v = frame_at m r j in
       let some = page-held m r n j h in
       page-kept m k r j (remap-looks j h ne)
-          (remap-bytes v (held-some is v (omega (arith, count-held m r t n v))) (omega (arith, count-held m r t n v)))
+      (remap-bytes v (held-some is v (omega (arith, count-held m r t n v))) (omega (arith, count-held m r t n v)))
 
   -- the program's memory is the same, where the rights are
   remap-pages : right_marks marks ≡ right_marks (marks_at m r p) → pages_below k r n ≡ pages_below m r n
@@ -203,7 +220,7 @@ reframes-twice a b = record
 pub remap-marks : {m k : Ram} {r t n p f marks : ℕ} {s : Frames} → OwnsFrames m r t n s → p < n → frame_at m r p ≡ f
     → IsUserLeaf marks → (is_open marks ≡ true → further_at s f ≡ 0)
     → Maps m k r p f marks → SameTables m k r → IsTidy k r → IsPaged k r s → Keeps m k r s s
-        → free_of k s ≡ free_of m s → IsRemap m m k r p f f marks s s
+    → free_of k s ≡ free_of m s → IsRemap m m k r p f f marks s s
 remap-marks {m} {k} {r} {t} {n} {p} {f} {s = s} is low was leaf sole inserts tables tidy paged keeps free = record {
   was = was;
   count = refl;
@@ -265,11 +282,13 @@ module _ {m z : Ram} {r t n : ℕ} {s q : Frames} {f g : ℕ} (is : OwnsFrames m
   split-paged =
       let some : (v : ℕ) → HasTable m r v → 0 < count_of v (tables_below m r n) = λ v h. table-held is.dense h in
       let same : (v : ℕ) → HasTable m r v
-              → frame_of z v ≡ frame_of m v =
-              λ v h. split-rest is.free e v (held-some is v (omega (arith, some v h, count-held))) in (
+      → frame_of z v ≡ frame_of m v =
+      λ v h. split-rest is.free e v (held-some is v (omega (arith, some v h, count-held))) in (
         paged-same is.dense.tree (split-count is.free e) same (split-free is.free e).1
-            (λ v h. (split-apart is.free e v (held-some is v (omega (arith, some v h, count-held))),
-                omega (arith, split-fewer is.free e v, is.own v (omega (arith, some v h))))),
+            (λ v h. (
+              split-apart is.free e v (held-some is v (omega (arith, some v h, count-held))),
+              omega (arith, split-fewer is.free e v, is.own v (omega (arith, some v h))),
+            )),
         IsTidy-same m z r is.dense.tidy same,
         λ p. lookup_of-same m z r same p,
       )
@@ -290,8 +309,11 @@ module _ {m z : Ram} {r t n : ℕ} {s q : Frames} {f g : ℕ} (is : OwnsFrames m
         new = inr (free-holders is.free g (split-first is.free e));
         apart = split-apart is.free e;
         taken = ap (among g) (split-free is.free e).0 ∙ first.1;
-        moved = λ v. omega (arith, holders-table e.after paged.free (keeps.count ∙ split-count is.free e) refl v,
-            ap (count_of v) (free ∙ (split-free is.free e).0));
+        moved = λ v. omega (
+          arith,
+          holders-table e.after paged.free (keeps.count ∙ split-count is.free e) refl v,
+          ap (count_of v) (free ∙ (split-free is.free e).0),
+        );
         fewer = split-fewer is.free e;
         leaf = leaf;
         sole = λ wide. split-sole is.free e;
@@ -331,7 +353,7 @@ pub made-leaf : (m : Ram) (r p f a b : ℕ) (change : Perm → Perm) (wide : Boo
 made-leaf m r p f a b change wide found is =
     let rights = change (right_marks (marks_at m r p)) in
     let made : b ≡ user_leaf rights wide = is
-            ∙ ap (λ (l : ℕ). user_leaf (change (right_marks l)) wide) (sym (marks_at-is m r p (sym found))) in
+    ∙ ap (λ (l : ℕ). user_leaf (change (right_marks l)) wide) (sym (marks_at-is m r p (sym found))) in
     record {
       frame = frame_at-is m r p (sym found);
       leaf = subst IsUserLeaf (sym made) (leaf-user rights wide);

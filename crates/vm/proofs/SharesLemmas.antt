@@ -40,14 +40,18 @@ same-places g h (x ∷ xs) same = ap (λ l. l ++ flat_map h xs) (same 0)
 pub set-place : {X : Type 0} (g h : Option X → List ℕ) (f : ℕ) (xs : List (Option X)) (i : ℕ) (y : Option X)
     → i < length xs → ((j : ℕ) → j ≢ i → h (get_or xs j None) ≡ g (get_or xs j None))
     → count_of f (flat_map h (slice_set xs i y)) + count_of f (g (get_or xs i None))
-        ≡ count_of f (flat_map g xs) + count_of f (h y)
+    ≡ count_of f (flat_map g xs) + count_of f (h y)
 set-place g h f [] i y hi same = absurd (omega arith)
 set-place g h f (x ∷ xs) zero y hi same =
     let rest : flat_map h xs ≡ flat_map g xs = same-places g h xs (λ j. same (suc j) (omega arith)) in
     omega (arith, count_of-append, ap (count_of f) rest)
 set-place g h f (x ∷ xs) (suc i) y hi same =
-    omega (arith, count_of-append, ap (count_of f) (same 0 (omega arith)),
-        set-place g h f xs i y (omega arith) (λ j ne. same (suc j) (λ e. ne (omega arith))))
+    omega (
+      arith,
+      count_of-append,
+      ap (count_of f) (same 0 (omega arith)),
+      set-place g h f xs i y (omega arith) (λ j ne. same (suc j) (λ e. ne (omega arith))),
+    )
 
 -- what holds of the one that comes and of the others holds of each
 pub each-set : {X : Type 0} (P : X → Type 0) (xs : List (Option X)) (i : ℕ) (y : Option X) → i < length xs
@@ -70,18 +74,27 @@ all-count : (m : Ram) (places : List (Option Space)) (others : List ℕ) (f : �
 all-count m places others f = count_of-append f (flat_map (held_at m) places) others
 
 module _ {m : Ram} {s : Frames} {places : List (Option Space)} {others : List ℕ} (is : IsMachine m s places others)
-    where
-  room-of : (i j : ℕ) {x : Space} → j ≢ i → get_or places j None ≡ Some x → (f : ℕ)
-      → count_of f (held_at m (get_or places i None)) + count_of f (holds m x) ≤ holders_of m s f
-  room-of i j ne e f =
-      omega (arith, all-count m places others f, two-places (held_at m) f places i j refl ne,
-          ap (λ o. count_of f (held_at m o)) e)
+  where
+    room-of : (i j : ℕ) {x : Space} → j ≢ i → get_or places j None ≡ Some x → (f : ℕ)
+        → count_of f (held_at m (get_or places i None)) + count_of f (holds m x) ≤ holders_of m s f
+    room-of i j ne e f =
+        omega (
+          arith,
+          all-count m places others f,
+          two-places (held_at m) f places i j refl ne,
+          ap (λ o. count_of f (held_at m o)) e,
+        )
 
-  beside-rest : (old : List ℕ) (j : ℕ) {x : Space} → ((f : ℕ) → count_of f old ≤ count_of f others)
-      → get_or places j None ≡ Some x → (f : ℕ) → count_of f old + count_of f (holds m x) ≤ holders_of m s f
-  beside-rest old j low e f =
-      omega (arith, low f, all-count m places others f, one-place (held_at m) f places j refl,
-          ap (λ o. count_of f (held_at m o)) e)
+    beside-rest : (old : List ℕ) (j : ℕ) {x : Space} → ((f : ℕ) → count_of f old ≤ count_of f others)
+        → get_or places j None ≡ Some x → (f : ℕ) → count_of f old + count_of f (holds m x) ≤ holders_of m s f
+    beside-rest old j low e f =
+        omega (
+          arith,
+          low f,
+          all-count m places others f,
+          one-place (held_at m) f places j refl,
+          ap (λ o. count_of f (held_at m o)) e,
+        )
 
 -- what one place trades leaves the others as they were
 pub trade-others : OnePlaceSpares
@@ -108,9 +121,13 @@ trade-machine m k s n places others i y is hi new t =
       each = each-set (λ x. IsSpace k x n) places i y hi (λ x e. place-space k y n x new e)
           (λ j x ne e. Trades-space t x (is.each j x e) (room-of is i j ne e) (place-free k y n new));
       shared = IsShared-trade t (all_held m places others) (all_held k (slice_set places i y) others) is.shared
-          (λ f. omega (arith, all-count m places others f, all-count k (slice_set places i y) others f,
-              set-place (held_at m) (held_at k) f places i y hi
-              (λ j ne. same-held m k (get_or places j None) (λ x e. stay j x ne e))));
+          (λ f. omega (
+            arith,
+            all-count m places others f,
+            all-count k (slice_set places i y) others f,
+            set-place (held_at m) (held_at k) f places i y hi
+                (λ j ne. same-held m k (get_or places j None) (λ x e. stay j x ne e)),
+          ));
       alone = λ f some.
           let room : count_of f (held_at m (get_or places i None)) + count_of f others ≤ holders_of m s f =
           omega (arith, all-count m places others f, one-place (held_at m) f places i refl) in
@@ -125,26 +142,38 @@ fork-machine m k s n places others i j x c is at hi none parent child t =
     let low : i < length places = within-places places i x at in
     let same : slice_set places i (Some x) ≡ places = ap (slice_set places i) (sym at) ∙ set-get_or places i None in
     let one : (f : ℕ) → count_of f (flat_map (held_at k) places) + count_of f (holds m x)
-            ≡ count_of f (flat_map (held_at m) places) + count_of f (holds k x) = λ f.
-    omega (arith, set-place (held_at m) (held_at k) f places i (Some x) low
-        (λ p ne. same-held m k (get_or places p None) (λ y e. stay p y ne e)),
-        ap (λ (l : List (Option Space)). count_of f (flat_map (held_at k) l)) same,
-        ap (λ o. count_of f (held_at m o)) at) in
+    ≡ count_of f (flat_map (held_at m) places) + count_of f (holds k x) = λ f.
+    omega (
+      arith,
+      set-place (held_at m) (held_at k) f places i (Some x) low
+          (λ p ne. same-held m k (get_or places p None) (λ y e. stay p y ne e)),
+      ap (λ (l : List (Option Space)). count_of f (flat_map (held_at k) l)) same,
+      ap (λ o. count_of f (held_at m o)) at,
+    ) in
     let room : (f : ℕ) → count_of f (holds m x) + count_of f others ≤ holders_of m s f = λ f.
-    omega (arith, all-count m places others f, one-place (held_at m) f places i refl,
-        ap (λ o. count_of f (held_at m o)) at) in
+    omega (
+      arith,
+      all-count m places others f,
+      one-place (held_at m) f places i refl,
+      ap (λ o. count_of f (held_at m o)) at,
+    ) in
     record {
       free = child.free;
       each = each-set (λ y. IsSpace k y n) places j (Some c) hi (λ y e. place-space k (Some c) n y child e)
           (λ p y ne e. elim (cases_eq p i) [
-        | inl is_i ↦ place-space k (Some x) n y parent (sym at ∙ ap (λ q. get_or places q None) (sym is_i) ∙ e)
-        | inr other ↦ Trades-space first y (is.each p y e) (room-of is i p other e) child.free
-      ]);
+            | inl is_i ↦ place-space k (Some x) n y parent (sym at ∙ ap (λ q. get_or places q None) (sym is_i) ∙ e)
+            | inr other ↦ Trades-space first y (is.each p y e) (room-of is i p other e) child.free
+          ]);
       shared = IsShared-trade t (all_held m places others) (all_held k (slice_set places j (Some c)) others) is.shared
-          (λ f. omega (arith, all-count m places others f, all-count k (slice_set places j (Some c)) others f,
-              count_of-append f (holds k x) (holds k c), one f,
-              set-place (held_at k) (held_at k) f places j (Some c) hi (λ p ne. refl),
-              ap (λ o. count_of f (held_at k o)) none));
+          (λ f. omega (
+            arith,
+            all-count m places others f,
+            all-count k (slice_set places j (Some c)) others f,
+            count_of-append f (holds k x) (holds k c),
+            one f,
+            set-place (held_at k) (held_at k) f places j (Some c) hi (λ p ne. refl),
+            ap (λ o. count_of f (held_at k o)) none,
+          ));
       alone = λ f some. alone-stays t f is.free child.free (omega (arith, room f)) (is.alone f some);
     }
 
@@ -168,9 +197,14 @@ rest-machine m k s n places others after old new is free low t once moved =
       free = free;
       each = λ j x e. Trades-space t x (is.each j x e) (beside-rest is old j low e) free;
       shared = IsShared-trade t (all_held m places others) (all_held k places after) is.shared
-          (λ f. omega (arith, moved f, all-count m places others f, all-count k places after f,
-              ap (count_of f) (same-places (held_at m) (held_at k) places
-              (λ j. same-held m k (get_or places j None) (λ x e. stay j x e)))));
+          (λ f. omega (
+            arith,
+            moved f,
+            all-count m places others f,
+            all-count k places after f,
+            ap (count_of f) (same-places (held_at m) (held_at k) places
+                (λ j. same-held m k (get_or places j None) (λ x e. stay j x e))),
+          ));
       alone = λ f some.
           let held : count_of f others ≤ holders_of m s f = omega (arith, all-count m places others f) in
           single free f (elim (cases_eq (count_of f others) 0) [
@@ -198,8 +232,13 @@ Trades-write m k s f w is some alone e =
     let free : IsFreeList k s = IsFreeList-same m k s is len stays in (
       record {
         count = len;
-        moved = λ g. omega (arith, holders-free is g, holders-free free g, ap (count_of g) (free_of-same m k s stays),
-            ap (λ l. one_if (ltb g l)) len);
+        moved = λ g. omega (
+          arith,
+          holders-free is g,
+          holders-free free g,
+          ap (count_of g) (free_of-same m k s stays),
+          ap (λ l. one_if (ltb g l)) len,
+        );
         others = λ g h. other g (λ z. omega
             (arith, count_of-first g f [] z, ap (holders_of m s) z, one-holder is f alone));
         fresh = λ g none has. absurd (omega arith);
@@ -221,10 +260,14 @@ settle-machine m s places others i y is hi none new = record {
   each = each-set (λ x. IsSpace m x s) places i (Some y) hi (λ x e. place-space m (Some y) s x new e)
       (λ j x ne e. is.each j x e);
   shared = record {
-    each = λ f. omega (arith, all-count m places (others ++ holds m y) f, count_of-append f others (holds m y),
-        all-count m (slice_set places i (Some y)) others f,
-        set-place (held_at m) (held_at m) f places i (Some y) hi (λ j ne. refl),
-        ap (λ o. count_of f (held_at m o)) none);
+    each = λ f. omega (
+      arith,
+      all-count m places (others ++ holds m y) f,
+      count_of-append f others (holds m y),
+      all-count m (slice_set places i (Some y)) others f,
+      set-place (held_at m) (held_at m) f places i (Some y) hi (λ j ne. refl),
+      ap (λ o. count_of f (held_at m o)) none,
+    );
   };
   alone = λ f some. is.alone f (omega (arith, count_of-append f others (holds m y)));
 }
@@ -235,14 +278,23 @@ length-all : (m : Ram) (places : List (Option Space)) → length (flat_map (held
 length-all m [] = refl
 length-all m (None ∷ xs) = length-all m xs ∙ (omega (arith, sum_by-cons frames_used None xs))
 length-all m (Some x ∷ xs) =
-    omega (arith, length-append (holds m x) (flat_map (held_at m) xs), length-held, length-all m xs,
-    sum_by-cons frames_used (Some x) xs)
+    omega (
+      arith,
+      length-append (holds m x) (flat_map (held_at m) xs),
+      length-held,
+      length-all m xs,
+      sum_by-cons frames_used (Some x) xs,
+    )
 
 -- what is free is what the counts leave
 pub free-left : FreeAreTheRest
 free-left m s places others is =
-    omega (arith, shared-count is.free (all_held m places others) is.shared,
-        length-append (flat_map (held_at m) places) others, length-all m places)
+    omega (
+      arith,
+      shared-count is.free (all_held m places others) is.shared,
+      length-append (flat_map (held_at m) places) others,
+      length-all m places,
+    )
 
 -- ---- the start
 

@@ -48,8 +48,13 @@ module _ {m k : Ram} {r t n : ℕ} {s : Frames} (is : OwnsFrames m r t n s) (w :
       let stays = free-stays in
       let free : IsFreeList k s = IsFreeList-same m k s is.free w.count stays in
       let holders : (v : ℕ) → holders_of k s v ≡ holders_of m s v =
-              λ v. omega (arith, holders-free is.free v, holders-free free v,
-              ap (count_of v) (free_of-same m k s stays), ap (λ l. one_if (ltb v l)) w.count) in (
+      λ v. omega (
+        arith,
+        holders-free is.free v,
+        holders-free free v,
+        ap (count_of v) (free_of-same m k s stays),
+        ap (λ l. one_if (ltb v l)) w.count,
+      ) in (
         owns-as is w.count (tables-stay is.dense is.once w) free (λ v some alone. alone)
             (λ v. omega (arith, holders v)),
         record {
@@ -100,8 +105,14 @@ pages-same m r t n p q once low high same =
 
 pub trap-apart : (m : Ram) (r t n p : ℕ) → ((f : ℕ) → count_of f (held m r t n) ≤ 1) → p < n → t ≢ frame_at m r p
 trap-apart m r t n p once low e =
-    omega (arith, once t, count-held, count_of-first t t [] refl, page-held m r n p low,
-        ap (λ x. count_of x (frames_below m r n)) e)
+    omega (
+      arith,
+      once t,
+      count-held,
+      count_of-first t t [] refl,
+      page-held m r n p low,
+      ap (λ x. count_of x (frames_below m r n)) e,
+    )
 
 pub Writes-page : (m k : Ram) (r t n p : ℕ) (w : List ℕ) → p < n → k ≡ slice_set m (frame_at m r p) w → Writes m k r t n
 Writes-page m k r t n p w low e =
@@ -128,7 +139,7 @@ pub space-stored : (m k : Ram) (s : Space) (p : ℕ) (w : List ℕ) → IsMapped
     → is_open (marks_at m s.root.0 p) ≡ true → k ≡ slice_set m (frame_at m s.root.0 p) w → Stands m k s
 space-stored m k s p w is once low wide e =
     stands m k s is once (Writes-page m k s.root.0 s.trap.0 (pages_in s.size) p w low e)
-        (λ free h. private-set m k free (frame_at m s.root.0 p) w (h.alone p low wide) e)
+    (λ free h. private-set m k free (frame_at m s.root.0 p) w (h.alone p low wide) e)
 
 -- and sets that page's bytes
 pub pages-stored : (m k : Ram) (s : Space) (p : ℕ) (w : List ℕ) → IsMapped m s → IsOnce m s → p < pages_in s.size
@@ -143,18 +154,18 @@ pages-stored m k s p w is once low e =
     let old = pages_below m r n in
     let looks = (writes-put is once (Writes-page m k r t n p w low e)).looks in
     let page : (q : ℕ) → page_at k r q ≡ page_with (frame_of k (frame_at m r q)) (marks_at m r q) =
-            λ q. ap (λ x. page_with (frame_of k x) (marks_at k r q)) (frame_at-same m k r q (looks q))
-            ∙ ap (page_with (frame_of k (frame_at m r q))) (marks_at-same m k r q (looks q)) in
+    λ q. ap (λ x. page_with (frame_of k x) (marks_at k r q)) (frame_at-same m k r q (looks q))
+    ∙ ap (page_with (frame_of k (frame_at m r q))) (marks_at-same m k r q (looks q)) in
     let here : page_at k r p ≡ d = page p
-            ∙ ap (λ b. page_with b (marks_at m r p))
-            (ap (λ x. frame_of x f) e ∙ get_or-set_same m f w [] (page-inside m r t n p is low)) in
+    ∙ ap (λ b. page_with b (marks_at m r p))
+    (ap (λ x. frame_of x f) e ∙ get_or-set_same m f w [] (page-inside m r t n p is low)) in
     let others : (q : ℕ) → q < n → q ≢ p
-            → page_at k r q ≡ page_at m r q = λ q h ne. page q
-            ∙ ap (λ b. page_with b (marks_at m r q))
-            (ap (λ x. frame_of x (frame_at m r q)) e
-            ∙ get_or-set_other m f (frame_at m r q) w [] (page-apart m r t n p q once low h ne)) in
+    → page_at k r q ≡ page_at m r q = λ q h ne. page q
+    ∙ ap (λ b. page_with b (marks_at m r q))
+    (ap (λ x. frame_of x (frame_at m r q)) e
+    ∙ get_or-set_other m f (frame_at m r q) w [] (page-apart m r t n p q once low h ne)) in
     ext_get_or d (pages_below k r n) (slice_set old p d)
-        (length-pages k r n ∙ sym (length-set old p d ∙ length-pages m r n)) (λ q h.
+    (length-pages k r n ∙ sym (length-set old p d ∙ length-pages m r n)) (λ q h.
     let inside : q < n = omega (arith, length-pages k r n) in
     get_or-pages k r n q d inside ∙ (elim (cases_eq q p) [
       | inl z ↦ ap (page_at k r) z ∙ here
@@ -170,12 +181,20 @@ pages-kept m k s w is once e =
     pages_below-same m k s.root.0 (pages_in s.size)
     (λ p h. (writes-put is once (Writes-trap m k s.root.0 s.trap.0 (pages_in s.size) w e)).looks p)
     (λ p h. rw e (get_or-set_other m s.trap.0 (frame_at m s.root.0 p) w []
-        (λ z. trap-apart m s.root.0 s.trap.0 (pages_in s.size) p once h (sym z))))
+    (λ z. trap-apart m s.root.0 s.trap.0 (pages_in s.size) p once h (sym z))))
 
 pub Stands-none : (m : Ram) (s : Space) → IsMapped m s → IsOnce m s → Stands m m s
 Stands-none m s is once =
-    record { count = refl; mapped = is; once = once; mapping = refl; entries = refl; frames = refl;
-    space = λ free h. h; trades = λ free h. Trades-none m free (holds m s) }
+    record {
+      count = refl;
+      mapped = is;
+      once = once;
+      mapping = refl;
+      entries = refl;
+      frames = refl;
+      space = λ free h. h;
+      trades = λ free h. Trades-none m free (holds m s);
+    }
 
 pub Stands-twice : (m k l : Ram) (s : Space) → Stands m k s → Stands k l s → Stands m l s
 Stands-twice m k l s a b = record {
@@ -214,10 +233,12 @@ pub trap-stored : (m k : Ram) (s : Space) (o x : ℕ) → IsMapped m s → IsOnc
 unfolding put
 trap-stored m k s o x is once e =
     let w = put_bytes (frame_of m s.trap.0) o (word_bytes 8 x) in
-    let writes = Writes-trap m k s.root.0 s.trap.0 (pages_in s.size) w e in
-    (stands m k s is once writes
-        (λ free h. private-set m k free s.trap.0 w
-        (h.own s.trap.0 (omega (arith, count_of-first s.trap.0 s.trap.0 [] refl))) e), pages-kept m k s w is once e)
+    let writes = Writes-trap m k s.root.0 s.trap.0 (pages_in s.size) w e in (
+      stands m k s is once writes
+          (λ free h. private-set m k free s.trap.0 w
+          (h.own s.trap.0 (omega (arith, count_of-first s.trap.0 s.trap.0 [] refl))) e),
+      pages-kept m k s w is once e,
+    )
 
 -- and the bytes beside it
 pub beside-stored : (m k : Ram) (s : Space) (o x at : ℕ) → s.trap.0 < length m → length (frame_of m s.trap.0) ≡ 4096
@@ -225,12 +246,12 @@ pub beside-stored : (m k : Ram) (s : Space) (o x at : ℕ) → s.trap.0 < length
     → get_or (registers_of k s) at 0 ≡ get_or (registers_of m s) at 0
 beside-stored m k s o x at inside whole fits (inl low) e =
     rw (e, frame_of-put_same m s.trap.0 o (word_bytes 8 x) inside)
-        (get_or-put_bytes_below (frame_of m s.trap.0) o (word_bytes 8 x)
-        at 0 (omega (arith, length-word_bytes 8 x)) low)
+    (get_or-put_bytes_below (frame_of m s.trap.0) o (word_bytes 8 x)
+    at 0 (omega (arith, length-word_bytes 8 x)) low)
 beside-stored m k s o x at inside whole fits (inr high) e =
     rw (e, frame_of-put_same m s.trap.0 o (word_bytes 8 x) inside)
-        (get_or-put_bytes_above (frame_of m s.trap.0) o (word_bytes 8 x)
-        at 0 (omega (arith, length-word_bytes 8 x)) (omega (arith, length-word_bytes 8 x)))
+    (get_or-put_bytes_above (frame_of m s.trap.0) o (word_bytes 8 x)
+    at 0 (omega (arith, length-word_bytes 8 x)) (omega (arith, length-word_bytes 8 x)))
 
 pub trap-inside : (m : Ram) (s : Space) → IsMapped m s → s.trap.0 < length m
 trap-inside m s is = (lookup-sound is.tree trap_page is.trap).0
@@ -283,8 +304,11 @@ module _ {m k : Ram} {s : Space} {xs : List ℕ} {pc i : ℕ} (memory : IsMemory
         ];
         spare = λ at free. beside-stored k l s o x
             at inside (memory.sized t inside) (omega arith)
-            (elim free [ inl a ↦ inl (omega arith) | inr b ↦ elim b
-            [ inl x ↦ inl (omega arith) | inr y ↦ inr (omega arith) ] ]) e ∙ was.spare at free;
+            (elim free [
+              | inl a ↦ inl (omega arith)
+              | inr b ↦ elim b
+                  [ inl x ↦ inl (omega arith) | inr y ↦ inr (omega arith) ]
+            ]) e ∙ was.spare at free;
       }
 
 -- the registers below i of a list are those of the trap frame
@@ -295,8 +319,11 @@ pub record Loads (m : Ram) (s : Space) (xs : List ℕ) (i : ℕ) : Type 0 where
 
 pub loads-start : (m : Ram) (s : Space) (xs : List ℕ) → length xs ≡ 32 → Loads m s (slice_set xs 0 0) 1
 loads-start m s xs len =
-    record { count = length-set xs 0 0 ∙ len; first = get_or-set_same xs 0 0 0 (omega arith);
-    loaded = λ j low high. absurd (omega arith) }
+    record {
+      count = length-set xs 0 0 ∙ len;
+      first = get_or-set_same xs 0 0 0 (omega arith);
+      loaded = λ j low high. absurd (omega arith);
+    }
 
 pub loads-next : {m : Ram} {s : Space} {xs : List ℕ} {i x : ℕ} → Loads m s xs i → 0 < i → i < 32
     → x ≡ saved_register m s i → Loads m s (slice_set xs i x) (i + 1)
@@ -330,7 +357,7 @@ write_from-first p ps at (b ∷ bs) h = refl
 -- the part that lies in the first page is written, and then the rest
 whole-page : (mem : Memory) (at : ℕ) (p : Page) (bs : List ℕ) → 0 < length bs → slice_get mem (at / 4096) ≡ Some p
     → write_bytes (slice_set mem (at / 4096) (written p (at % 4096) (take (4096 - at % 4096) bs)))
-        (at + (4096 - at % 4096)) (drop (4096 - at % 4096) bs) ≡ write_bytes mem at bs
+    (at + (4096 - at % 4096)) (drop (4096 - at % 4096) bs) ≡ write_bytes mem at bs
 unfolding write_bytes
 whole-page mem at p bs some here =
     let q = at / 4096 in
@@ -340,18 +367,18 @@ whole-page mem at p bs some here =
     let page : (at + (4096 - o)) / 4096 ≡ suc q = omega arith in
     let start : (at + (4096 - o)) % 4096 ≡ 0 = omega arith in
     let front : take (suc q) (slice_set mem q w) ≡ take q mem ++ (w ∷ []) =
-            take-suc-set mem q w (item-at mem q p here).1 in
+    take-suc-set mem q w (item-at mem q p here).1 in
     let back : drop (suc q) (slice_set mem q w) ≡ drop (suc q) mem = drop-set-lt (suc q) mem q w (omega arith) in
     let first : write_from (drop q mem) o bs ≡ w ∷ write_from (drop (suc q) mem) 0 rest =
-            ap (λ l. write_from l o bs) ((item-at mem q p here).0) ∙ write_from-first p (drop (suc q) mem) o bs some in
+    ap (λ l. write_from l o bs) ((item-at mem q p here).0) ∙ write_from-first p (drop (suc q) mem) o bs some in
     rw (page, start, front, back)
-        (append_assoc (take q mem) (w ∷ []) (write_from (drop (suc q) mem) 0 rest)
-        ∙ sym (ap (λ l. take q mem ++ l) first))
+    (append_assoc (take q mem) (w ∷ []) (write_from (drop (suc q) mem) 0 rest)
+    ∙ sym (ap (λ l. take q mem ++ l) first))
 
 pub write-page : (mem : Memory) (at n : ℕ) (p : Page) (bs : List ℕ) → 0 < length bs
     → slice_get mem (at / 4096) ≡ Some p → n ≡ min (4096 - at % 4096) (length bs)
     → write_bytes (slice_set mem (at / 4096) (written p (at % 4096) (take n bs))) (at + n) (drop n bs)
-        ≡ write_bytes mem at bs
+    ≡ write_bytes mem at bs
 write-page mem at n p bs some here is = elim (cases_lt (length bs) (4096 - at % 4096)) [
   | inl short ↦
       let l = 4096 - at % 4096 in
@@ -361,8 +388,8 @@ write-page mem at n p bs some here is = elim (cases_lt (length bs) (4096 - at % 
       let same : take n bs ≡ take l bs = take_all n bs (omega arith) ∙ sym (take_all l bs (omega arith)) in
       let k = slice_set mem (at / 4096) (written p (at % 4096) (take n bs)) in
       rw (none, write-none k (at + n), same)
-          (rw (none_l, write-none (slice_set mem (at / 4096) (written p (at % 4096) (take l bs))) (at + l))
-          at (whole-page mem at p bs some here))
+      (rw (none_l, write-none (slice_set mem (at / 4096) (written p (at % 4096) (take l bs))) (at + l))
+      at (whole-page mem at p bs some here))
   | inr long ↦
       let e : n ≡ 4096 - at % 4096 = omega arith in
       rw e (whole-page mem at p bs some here)
@@ -380,9 +407,12 @@ put-reframes m k s q p at bs is low sole e =
     let f = frame_at m r p in
     let w = put_bytes (frame_of m f) at bs in
     let both = space-stays is (Writes-page m k r s.trap.0 n p w low e) (private-set m k q f w sole e) in
-    record { space = both.0;
-        registers = rw e (get_or-set_other m f s.trap.0 w [] (trap-apart m r s.trap.0 n p is.once low)); trades =
-        both.1 }
+    record {
+      space = both.0;
+      registers = rw e (get_or-set_other m f s.trap.0 w [] (trap-apart m r s.trap.0 n p is.once low));
+      trades =
+          both.1;
+    }
 
 module _ (m k : Ram) (s : Space) (p at : ℕ) (bs : List ℕ) (is : IsMapped m s) (once : IsOnce m s)
     (low : p < pages_in s.size) (e : k ≡ put m (frame_at m s.root.0 p) at bs) where
@@ -398,7 +428,7 @@ module _ (m k : Ram) (s : Space) (p at : ℕ) (bs : List ℕ) (is : IsMapped m s
   put-written =
       let bytes = frame_of m (frame_at m s.root.0 p) in
       let same : put_bytes bytes at bs ≡ overwrite bytes at bs =
-              sym (append_assoc (take at bytes) bs (drop (at + length bs) bytes)) in
+      sym (append_assoc (take at bytes) bs (drop (at + length bs) bytes)) in
       pages-stored m k s p (put_bytes bytes at bs) is once low e
       ∙ ap (λ b. slice_set (pages_of m s) p (page_with b (marks_at m s.root.0 p))) same
 
@@ -406,31 +436,31 @@ module _ (m k : Ram) (s : Space) (p at : ℕ) (bs : List ℕ) (is : IsMapped m s
 
 module _ (m k : Ram) (s : Space) (address : ℕ) (bs : List ℕ) (is : IsMapped m s) (once : IsOnce m s)
     (low : address / 4096 < pages_in s.size) (e : k ≡ put m (frame_at m s.root.0 (address / 4096)) (address % 4096) bs)
-    where
-  abbrev page : ℕ
-  page = address / 4096
+  where
+    abbrev page : ℕ
+    page = address / 4096
 
-  abbrev after : List ℕ → Memory
-  after new = slice_set (pages_of m s) page (written (page_at m s.root.0 page) (address % 4096) new)
+    abbrev after : List ℕ → Memory
+    after new = slice_set (pages_of m s) page (written (page_at m s.root.0 page) (address % 4096) new)
 
-  -- all of them are written
-  pub put-stored : 0 < length bs → length bs ≤ 4096 - address % 4096
-      → pages_of k s ≡ write_bytes (pages_of m s) address bs
-  put-stored some fits =
-      let n = length bs in
-      let here = mapped-page m (mapping_of m s) page (read_at right_marks m s.root.0 page)
-              (sym (get-mapping right_marks m s.root.0 (pages_in s.size) page low)) in
-      put-written m k s page (address % 4096) bs is once low e
-      ∙ sym (write-none (after bs) (address + n))
-      ∙ ap (write_bytes (after bs) (address + n)) (sym (drop_all n bs (omega arith)))
-      ∙ ap (λ new. write_bytes (after new) (address + n) (drop n bs)) (sym (take_all n bs (omega arith)))
-      ∙ write-page (pages_of m s) address n (page_at m s.root.0 page) bs some here (omega arith)
+    -- all of them are written
+    pub put-stored : 0 < length bs → length bs ≤ 4096 - address % 4096
+        → pages_of k s ≡ write_bytes (pages_of m s) address bs
+    put-stored some fits =
+        let n = length bs in
+        let here = mapped-page m (mapping_of m s) page (read_at right_marks m s.root.0 page)
+        (sym (get-mapping right_marks m s.root.0 (pages_in s.size) page low)) in
+        put-written m k s page (address % 4096) bs is once low e
+        ∙ sym (write-none (after bs) (address + n))
+        ∙ ap (write_bytes (after bs) (address + n)) (sym (drop_all n bs (omega arith)))
+        ∙ ap (λ new. write_bytes (after new) (address + n) (drop n bs)) (sym (take_all n bs (omega arith)))
+        ∙ write-page (pages_of m s) address n (page_at m s.root.0 page) bs some here (omega arith)
 
-  -- and the space stands where the page is open
-  pub put-stands : is_open (marks_at m s.root.0 page) ≡ true → Stands m k s
-  unfolding put
-  put-stands wide = space-stored m k s page (put_bytes (frame_of m (frame_at m s.root.0 page)) (address % 4096) bs) is
-      once low wide e
+    -- and the space stands where the page is open
+    pub put-stands : is_open (marks_at m s.root.0 page) ≡ true → Stands m k s
+    unfolding put
+    put-stands wide = space-stored m k s page (put_bytes (frame_of m (frame_at m s.root.0 page)) (address % 4096) bs) is
+        once low wide e
 
 -- ---- a part of a frame is written
 
@@ -441,10 +471,14 @@ pub part-put : (m : Ram) (f at : ℕ) (bs page new : List ℕ) (n : ℕ) → n �
 unfolding put put_bytes
 part-put m f at bs page new n is fits whole same e =
     let parts : take at page ++ (new ++ drop n (drop at page)) ≡ take at (frame_of m f)
-            ++ (bs ++ drop (at + length bs) (frame_of m f)) =
+    ++ (bs ++ drop (at + length bs) (frame_of m f)) =
     rw (same, e, is, drop-drop (length bs) at (frame_of m f)) refl in
     let full : length (take at (frame_of m f) ++ (bs ++ drop (at + length bs) (frame_of m f))) ≡ 4096 =
-    omega (arith, length-append (take at (frame_of m f)) (bs ++ drop (at + length bs) (frame_of m f)),
-        length-append bs (drop (at + length bs) (frame_of m f)), length-take at (frame_of m f),
-        length-drop (at + length bs) (frame_of m f)) in
+    omega (
+      arith,
+      length-append (take at (frame_of m f)) (bs ++ drop (at + length bs) (frame_of m f)),
+      length-append bs (drop (at + length bs) (frame_of m f)),
+      length-take at (frame_of m f),
+      length-drop (at + length bs) (frame_of m f),
+    ) in
     ap (λ b. slice_set m f (sized b)) parts ∙ ap (slice_set m f) (sized-full _ full)

@@ -28,7 +28,7 @@ entry_marks leaf = record
 abbrev pub user_leaf : Rights → Bool → ℕ
 user_leaf m wide =
     1 + 2 + 4 * one_if (m.writable && (wide || not m.shared)) + 8 * one_if m.executable + 16 * one_if m.user + 64 + 128
-        + 256 * one_if m.writable + 512 * one_if m.shared
+    + 256 * one_if m.writable + 512 * one_if m.shared
 
 -- these are the marks of the leaf of a page: it is open only where it is writable by right, and is so where no fork had
 -- it

@@ -54,7 +54,7 @@ AllUntouched m k places = (j : ℕ) (x : Space) → slice_index_or places j None
 abbrev pub OnePlaceTrades : Type 0
 OnePlaceTrades =
     (m k : List (List ℕ)) (s n : Frames) (places : List (Option Space)) (others : List ℕ) (i : ℕ) (y : Option Space)
-        → IsMachine m s places others
+    → IsMachine m s places others
     → i < length places → IsPlace k y n → Trades m k s n (held_at m (slice_index_or places i None)) (held_at k y)
     → IsMachine k n (slice_set places i y) others
 
@@ -62,31 +62,31 @@ OnePlaceTrades =
 abbrev pub OnePlaceSpares : Type 0
 OnePlaceSpares =
     (m k : List (List ℕ)) (s n : Frames) (places : List (Option Space)) (others new : List ℕ) (i : ℕ)
-        → IsMachine m s places others
+    → IsMachine m s places others
     → Trades m k s n (held_at m (slice_index_or places i None)) new → OthersUntouched m k places i
 
 -- And the frames of the others have the bytes that they had.
 abbrev pub OnePlaceSparesOthers : Type 0
 OnePlaceSparesOthers =
     (m k : List (List ℕ)) (s n : Frames) (places : List (Option Space)) (others new : List ℕ) (i f : ℕ)
-        → IsMachine m s places others
+    → IsMachine m s places others
     → Trades m k s n (held_at m (slice_index_or places i None)) new → 0 < count_of f others
-        → frame_of k f ≡ frame_of m f
+    → frame_of k f ≡ frame_of m f
 
 -- A machine of which a space shares its frames with a new one, which gets a place that has none, is a machine.
 abbrev pub OnePlaceForks : Type 0
 OnePlaceForks =
     (m k : List (List ℕ)) (s n : Frames) (places : List (Option Space)) (others : List ℕ) (i j : ℕ) (x c : Space)
-        → IsMachine m s places others
+    → IsMachine m s places others
     → slice_index_or places i None ≡ Some x → j < length places → slice_index_or places j None ≡ None → IsSpace k x n
-        → IsSpace k c n
+    → IsSpace k c n
     → SharesWith m k x c s n → IsMachine k n (slice_set places j (Some c)) others
 
 -- A machine of which the others trade what they hold, each frame that comes once, is a machine.
 abbrev pub OthersTrade : Type 0
 OthersTrade =
     (m k : List (List ℕ)) (s n : Frames) (places : List (Option Space)) (others after old new : List ℕ)
-        → IsMachine m s places others → IsFreeList k n
+    → IsMachine m s places others → IsFreeList k n
     → ((f : ℕ) → count_of f old ≤ count_of f others) → Trades m k s n old new → ((f : ℕ) → count_of f new ≤ 1)
     → ((f : ℕ) → count_of f after + count_of f old ≡ count_of f others + count_of f new) → IsMachine k n places after
 
@@ -94,16 +94,16 @@ OthersTrade =
 abbrev pub OthersSpare : Type 0
 OthersSpare =
     (m k : List (List ℕ)) (s n : Frames) (places : List (Option Space)) (others old new : List ℕ)
-        → IsMachine m s places others
+    → IsMachine m s places others
     → ((f : ℕ) → count_of f old ≤ count_of f others) → Trades m k s n old new → AllUntouched m k places
 
 -- A machine of which a space stands among the others, and then gets a place that has none, is a machine.
 abbrev pub NewSpaceSettles : Type 0
 NewSpaceSettles =
     (m : List (List ℕ)) (s : Frames) (places : List (Option Space)) (others : List ℕ) (i : ℕ) (y : Space)
-        → IsMachine m s places (others ++ holds m y)
+    → IsMachine m s places (others ++ holds m y)
     → i < length places → slice_index_or places i None ≡ None → IsSpace m y s
-        → IsMachine m s (slice_set places i (Some y)) others
+    → IsMachine m s (slice_set places i (Some y)) others
 
 -- The free frames are all frames but those that the spaces and the others need.
 abbrev pub FreeAreTheRest : Type 0

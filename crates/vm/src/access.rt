@@ -196,9 +196,9 @@ impl Space {
     pub fn copy_in(&self, ram: &Ram, address: u64, buffer: &mut [u8]) -> Result<(), VmFault>
         requires { IsMapped ram.now self.now }
         ensures read { OnOk result
-                (read_bytes (pages_of ram.now self.now) address (length buffer.old) ≡ Some buffer.new) }
+            (read_bytes (pages_of ram.now self.now) address (length buffer.old) ≡ Some buffer.new) }
         ensures bad { IsErrOf result VmFault.BadAddress ↔ read_bytes (pages_of ram.now self.now) address
-                (length buffer.old) ≡ None }
+            (length buffer.old) ≡ None }
         ensures only { OnErr result (IsErrOf result VmFault.BadAddress) }
         ensures unchanged { OnErr result (buffer.new ≡ buffer.old) }
     {
@@ -229,7 +229,7 @@ impl Space {
     pub fn copy_string(&self, ram: &Ram, address: u64, buffer: &mut [u8]) -> Option<usize>
         requires { IsMapped ram.now self.now }
         ensures string { string_in buffer.new result
-                ≡ short_string (length buffer.old) (string_at (pages_of ram.now self.now) address) }
+            ≡ short_string (length buffer.old) (string_at (pages_of ram.now self.now) address) }
         ensures within { IfSome result (λ n. n ≤ length buffer.old) }
     {
         ram.frames_are_whole();
@@ -295,7 +295,7 @@ impl Space {
         requires some { 0 < length bytes.now }
         ensures count { result ≡ min (4096 - address % 4096) (length bytes.now) }
         ensures rest { stored ram.new self.now (address + result) (drop result bytes.now)
-                ≡ stored ram.old self.now address bytes.now }
+            ≡ stored ram.old self.now address bytes.now }
         ensures frames { Reframes ram.old ram.new self.now frames.old frames.new }
         ensures opens { StaysOpen ram.old ram.new self.now self.now }
     {
@@ -335,7 +335,7 @@ impl Space {
         requires { IsSpace ram.old self.now frames.old }
         ensures written { OnOk result (pages_of ram.new self.now ≡ stored ram.old self.now address bytes.now) }
         ensures bad { IsErrOf result VmFault.BadAddress ↔ can_write (pages_of ram.old self.now) address
-                (length bytes.now) ≡ false }
+            (length bytes.now) ≡ false }
         ensures only { OnErr result (IsErrOf result VmFault.BadAddress) }
         ensures unchanged { OnErr result ((ram.new ≡ ram.old) × (frames.new ≡ frames.old)) }
         ensures frames { Reframes ram.old ram.new self.now frames.old frames.new }

@@ -215,14 +215,14 @@ impl Space {
         requires user { IsUserLeaf marks.0 }
         ensures held { OwnsFrames ram.new self.now.root.0 self.now.trap.0 (n + 1) frames.new }
         ensures pages { first_pages ram.new self.now (n + 1) ≡ first_pages ram.old self.now n
-                ++ (blank_page marks.0 ∷ []) }
+            ++ (blank_page marks.0 ∷ []) }
         ensures mapping { SameLeavesUpTo ram.old ram.new self.now.root.0 n }
         ensures marks { marks_at ram.new self.now.root.0 n ≡ marks.0 }
         ensures trap { frame_of ram.new self.now.trap.0 ≡ frame_of ram.old self.now.trap.0 }
         ensures trades { Trades ram.old ram.new frames.old frames.new (held_by ram.old self.now n)
-                (held_by ram.new self.now (n + 1)) }
+            (held_by ram.new self.now (n + 1)) }
         ensures room { frames_for (n + 1) + free_count ram.new frames.new
-                ≡ frames_for n + free_count ram.old frames.old }
+            ≡ frames_for n + free_count ram.old frames.old }
     {
         ram.frames_are_whole();
         let table = PageTable { root: self.root };
@@ -256,7 +256,7 @@ impl Space {
         ensures shared { IfOk result (HasFramesOf ram.old ram.new self.now) }
         ensures holders { OnOk result (GainsHolders ram.old ram.new self.now frames.old frames.new) }
         ensures full { IsErrOf result VmFault.Frames ↔ free_count ram.old frames.old
-                < frames_for (pages_in self.now.size) }
+            < frames_for (pages_in self.now.size) }
         ensures only { OnErr result (IsErrOf result VmFault.Frames) }
         ensures unchanged { OnErr result ((ram.new ≡ ram.old) × (frames.new ≡ frames.old)) }
         ensures trades { IfOk result (λ c. SharesWith ram.old ram.new self.now c frames.old frames.new) }
@@ -291,11 +291,11 @@ impl Space {
         ensures space { IsSpace ram.new self.new frames.new }
         ensures size { OnOk result (self.new.size ≡ self.old.size + bytes) }
         ensures pages { OnOk result
-                (pages_of ram.new self.new ≡ pages_of ram.old self.old ++ new_pages self.old.size bytes perm) }
+            (pages_of ram.new self.new ≡ pages_of ram.old self.old ++ new_pages self.old.size bytes perm) }
         ensures mapping { OnOk result
-                (take (pages_in self.old.size) (mapping_of ram.new self.new) ≡ mapping_of ram.old self.old) }
+            (take (pages_in self.old.size) (mapping_of ram.new self.new) ≡ mapping_of ram.old self.old) }
         ensures entries { OnOk result
-                (take (pages_in self.old.size) (entries_of ram.new self.new) ≡ entries_of ram.old self.old) }
+            (take (pages_in self.old.size) (entries_of ram.new self.new) ≡ entries_of ram.old self.old) }
         ensures opens { StaysOpen ram.old ram.new self.old self.new }
         ensures root { self.new.root ≡ self.old.root }
         ensures registers { registers_of ram.new self.new ≡ registers_of ram.old self.old }
@@ -304,7 +304,7 @@ impl Space {
         ensures only { OnErr result (IsErrOf result VmFault.TooLarge ⊎ IsErrOf result VmFault.Frames) }
         ensures unchanged { OnErr result ((ram.new ≡ ram.old) × (frames.new ≡ frames.old) × (self.new ≡ self.old)) }
         ensures trades { Trades ram.old ram.new frames.old frames.new (holds ram.old self.old)
-                (holds ram.new self.new) }
+            (holds ram.new self.new) }
     {
         ram.frames_are_whole();
         if bytes > MAX_SIZE - self.size {
@@ -332,7 +332,7 @@ impl Space {
         ensures mapping { SameLeavesUpTo ram.old ram.new self.now.root.0 n }
         ensures trap { frame_of ram.new self.now.trap.0 ≡ frame_of ram.old self.now.trap.0 }
         ensures trades { Trades ram.old ram.new frames.old frames.new (held_by ram.old self.now (n + 1))
-                (held_by ram.new self.now n) }
+            (held_by ram.new self.now n) }
     {
         ram.frames_are_whole();
         let table = PageTable { root: self.root };
@@ -349,7 +349,7 @@ impl Space {
         ensures mapping { SameLeaves ram.old ram.new self.now.root.0 to }
         ensures trap { frame_of ram.new self.now.trap.0 ≡ frame_of ram.old self.now.trap.0 }
         ensures trades { Trades ram.old ram.new frames.old frames.new (held_by ram.old self.now from)
-                (held_by ram.new self.now to) }
+            (held_by ram.new self.now to) }
     {
         for i in 0..from - to {
             self.drop_page(ram, frames, from - 1 - i);
@@ -363,16 +363,16 @@ impl Space {
         ensures space { IsSpace ram.new self.new frames.new }
         ensures size { self.new.size + bytes ≡ self.old.size }
         ensures pages { pages_of ram.new self.new
-                ≡ take (pages_in (self.old.size - bytes)) (pages_of ram.old self.old) }
+            ≡ take (pages_in (self.old.size - bytes)) (pages_of ram.old self.old) }
         ensures mapping { mapping_of ram.new self.new
-                ≡ take (pages_in (self.old.size - bytes)) (mapping_of ram.old self.old) }
+            ≡ take (pages_in (self.old.size - bytes)) (mapping_of ram.old self.old) }
         ensures entries { entries_of ram.new self.new
-                ≡ take (pages_in (self.old.size - bytes)) (entries_of ram.old self.old) }
+            ≡ take (pages_in (self.old.size - bytes)) (entries_of ram.old self.old) }
         ensures opens { StaysOpen ram.old ram.new self.old self.new }
         ensures root { self.new.root ≡ self.old.root }
         ensures registers { registers_of ram.new self.new ≡ registers_of ram.old self.old }
         ensures trades { Trades ram.old ram.new frames.old frames.new (holds ram.old self.old)
-                (holds ram.new self.new) }
+            (holds ram.new self.new) }
     {
         let size = self.size - bytes;
         self.drop_pages(ram, frames, pages_in(self.size), pages_in(size));

@@ -64,7 +64,7 @@ impl Space {
         requires sole { is_open leaf.0 ≡ true → further_at frames.now frame.0 ≡ 0 }
         ensures stands { Reframes ram.old ram.new self.now frames.now frames.now }
         ensures same { HasRights ram.old self.now page leaf.0
-                → IsRearranged ram.old ram.new self.now frames.now frames.now }
+            → IsRearranged ram.old ram.new self.now frames.now frames.now }
         ensures page { page_at ram.new self.now.root.0 page ≡ page_with (frame_of ram.old frame.0) leaf.0 }
         ensures pages { SameOtherPages ram.old ram.new self.now page }
         ensures frame { page_frame ram.new self.now page ≡ frame.0 }
@@ -88,7 +88,7 @@ impl Space {
         ensures marks { marks_at ram.new self.now.root.0 page ≡ user_leaf (page_rights ram.old self.now page) true }
         ensures opens { StaysOpen ram.old ram.new self.now self.now }
         ensures kept { further_at frames.old (page_frame ram.old self.now page) ≡ 0
-                → result.0 ≡ page_frame ram.old self.now page }
+            → result.0 ≡ page_frame ram.old self.now page }
     {
         ram.frames_are_whole();
         let table = PageTable { root: self.root };

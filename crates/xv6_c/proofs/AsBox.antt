@@ -11,8 +11,11 @@ use Rattle.session.proofs.session.Session.TheLaws as thing
 use Rattle.xv6_c.specs.contracts.sealed.Sealed as Sealed
 
 abbrev pub E : Bx
-E = record { row = Thing.the_row; laws = thing.the_row_laws;
-    al = record { row = Heap.the_row; laws = heap.the_row_laws; g = ghosts; d = dict; drops = impl [] tnil dnil } }
+E = record {
+  row = Thing.the_row;
+  laws = thing.the_row_laws;
+  al = record { row = Heap.the_row; laws = heap.the_row_laws; g = ghosts; d = dict; drops = impl [] tnil dnil };
+}
 
 abbrev pub FromSeal : Slot 0
 FromSeal = plain (λ _. Sealed.the_row)

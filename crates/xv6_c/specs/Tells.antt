@@ -67,7 +67,7 @@ DigestTells old new before after answer =
 abbrev pub StatTells : Session → Session → ℕ → StatTold → StatTold → Result (Option Stat) Halt → Type 0
 StatTells old new number before after answer =
     (after ≡ stat_put answer before)
-        × Looks old new (λ told. told ≡ option_map stat_seen (shown_stat old.machine.state number)) answer
+    × Looks old new (λ told. told ≡ option_map stat_seen (shown_stat old.machine.state number)) answer
 
 -- bytes of a node are copied, and how many stands at a place
 abbrev pub ReadTells : Session → Session → ℕ → ℕ → List ℕ → List ℕ → ℕ → ℕ → Result ℕ Halt → Type 0

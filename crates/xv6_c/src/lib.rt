@@ -125,7 +125,7 @@ pub extern "C" fn xv6_raw_compute(machine: &mut Sealed, most: u32, stops: &[u64]
 #[unsafe(no_mangle)]
 pub extern "C" fn xv6_raw_tick(machine: &mut Sealed) -> u32
     ensures { Numbers (StepAnswers machine.old.session machine.new.session
-            (next machine.old.session.machine.state Tick)) result }
+        (next machine.old.session.machine.state Tick)) result }
 {
     of_answer(get_mut(machine).tick())
 }
@@ -134,7 +134,7 @@ pub extern "C" fn xv6_raw_tick(machine: &mut Sealed) -> u32
 #[unsafe(no_mangle)]
 pub extern "C" fn xv6_raw_key(machine: &mut Sealed, byte: u8) -> u32
     ensures { Numbers (StepAnswers machine.old.session machine.new.session
-            (next machine.old.session.machine.state (Key byte))) result }
+        (next machine.old.session.machine.state (Key byte))) result }
 {
     of_answer(get_mut(machine).key(byte))
 }
@@ -268,7 +268,7 @@ pub extern "C" fn xv6_raw_page(machine: &mut Sealed, pid: u32, page: u64, out: &
 #[unsafe(no_mangle)]
 pub extern "C" fn xv6_raw_free_frames(machine: &mut Sealed) -> u32
     ensures count { result + frames_of machine.old.session.machine.state
-            ≡ machine.old.session.machine.state.frame_limit }
+        ≡ machine.old.session.machine.state.frame_limit }
     ensures same { machine.new.session ≡ machine.old.session }
 {
     get_mut(machine).machine().free_frames()
@@ -300,7 +300,7 @@ pub extern "C" fn xv6_raw_read(
     count: &mut usize,
 ) -> u32
     ensures { Numbers (ReadTells machine.old.session machine.new.session number at out.old out.new count.old count.new)
-            result }
+        result }
 {
     put_number(get_mut(machine).read(number, at, out), count)
 }

@@ -9,7 +9,7 @@ returns c =
     let whole : length bytes ≤ 64 = omega arith in
     header-read bytes c.args.len _ _ _ (sym (c.read_u32.ensures ∙ number-first 4 bytes) ∙ c.if-read_u32-ne-MAGIC.false)
     (c.read_u64.ensures ∙ number-from 8 24 64 bytes whole) (c.read_u64-2.ensures ∙ number-from 8 32 64 bytes whole)
-        (c.read_u16.ensures ∙ number-from 2 56 64 bytes whole)
+    (c.read_u16.ensures ∙ number-from 2 56 64 bytes whole)
     (omega (arith, c.if-len.false))
-        (ap (λ count. is_within c.read_u64-2.result (56 * count) c.args.len) (sym c.from.ensures)
-        ∙ sym c.is_within.ensures ∙ c.if-not-is_within.false)
+    (ap (λ count. is_within c.read_u64-2.result (56 * count) c.args.len) (sym c.from.ensures)
+    ∙ sym c.is_within.ensures ∙ c.if-not-is_within.false)

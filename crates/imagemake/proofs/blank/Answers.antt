@@ -7,7 +7,7 @@ use Rattle.imagemake.proofs.blank.Goals as goal
 pub format-requires : goal.format-requires
 format-requires c =
     let long : length c.in-Ok.device.bytes ≡ 1024 * c.args.geometry.size =
-            omega (arith, ap length c.in-Ok.ensures.bytes, c.in_ok-bytes.ensures.len, c.in_ok-bytes.bytes.ok.0) in
+    omega (arith, ap length c.in-Ok.ensures.bytes, c.in_ok-bytes.ensures.len, c.in_ok-bytes.bytes.ok.0) in
     let whole : length c.in-Ok.device.bytes / 1024 ≡ c.args.geometry.size = omega arith in
     let blocks : c.in_ok-disk.disk.blocks ≡ blocks_of c.in-Ok.device.bytes = rw c.in_ok-disk.ensures.made refl in
     let p = c.requires in

@@ -45,27 +45,27 @@ pub returns-in_err-put_files-clause-refused : goal.returns-in_err-put_files-clau
 returns-in_err-put_files-clause-refused c =
     let told = err_from_is_err_and c.from_residual-in_err-put_files.result c.from_residual-in_err-put_files.ensures.1 in
     let bare = bare-tree (possible c.if-not-is_possible.ensures) c.in_ok-volume.ensures.blank c.is_whole.ensures
-            c.in_ok-tree.ensures in
+    c.in_ok-tree.ensures in
     let fault = c.in_err-put_files.field-0.0 in
     rw (told.1, told.2)
     (refused-entries _ _ _ (sym c.if-not-is_possible.ensures) bare fault
     (subst (λ entries. Refuses (made_by c.in_ok-tree.tree (meaning entries)) fault) c.deref.ensures.value
-        c.in_err-put_files.ensures.refused))
+    c.in_err-put_files.ensures.refused))
 
 pub into_device-device-requires : goal.into_device-device-requires
 into_device-device-requires c =
     let bare = bare-tree (possible c.if-not-is_possible.ensures) c.in_ok-volume.ensures.blank c.is_whole.ensures
-            c.in_ok-tree.ensures in
+    c.in_ok-tree.ensures in
     record { up = ap (λ (t : FileTree). t.failed) c.in_ok-put_files.ensures.made.rest ∙ bare.up }
 
 pub returns-clause-made : goal.returns-clause-made
 returns-clause-made c =
     let bare = bare-tree (possible c.if-not-is_possible.ensures) c.in_ok-volume.ensures.blank c.is_whole.ensures
-            c.in_ok-tree.ensures in
+    c.in_ok-tree.ensures in
     let makes = subst (λ es. MakesEntries c.in_ok-tree.tree c.put_files.new.tree (meaning es)) c.deref.ensures.value
-            c.in_ok-put_files.ensures.made in
+    c.in_ok-put_files.ensures.made in
     when-ok c.into_device-device.result.1 _ c.into_device-device.ensures.stored c.bytes_left.ensures.flushed
-        c.bytes_left.ensures.bytes
+    c.bytes_left.ensures.bytes
     (λ image stored bytes. makes-image _ _ _ (sym c.if-not-is_possible.ensures) bare makes stored bytes)
 
 pub returns-clause-refused : goal.returns-clause-refused

@@ -6,8 +6,12 @@ use Rattle.imagemake.proofs.put_files.Goals as goal
 
 pub store_root-requires : goal.store_root-requires
 store_root-requires g c =
-    record { up = c.requires.up; none = c.requires.none; some = omega (arith, c.requires.some);
-    block = c.requires.block }
+    record {
+      up = c.requires.up;
+      none = c.requires.none;
+      some = omega (arith, c.requires.some);
+      block = c.requires.block;
+    }
 
 pub returns-in_default-clause-cause : goal.returns-in_default-clause-cause
 returns-in_default-clause-cause g c = Owns-failed (omega arith) c.store_root.ensures.serves.cause c.in_default.is

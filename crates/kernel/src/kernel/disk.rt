@@ -50,7 +50,7 @@ impl<D: BlockDev, T: Translate> Kernel<D, T> {
         requires running { self.old.spaces.active ≡ Some at }
         requires up { self.old.tree.failed ≡ false }
         ensures { ReadsDisk self.old self.new
-                (λ number. number ≡ find self.old.tree.files (directory_at self.old at) path.now) result }
+            (λ number. number ≡ find self.old.tree.files (directory_at self.old at) path.now) result }
     {
         let directory = self.home(at);
         self.tree.resolve(directory, path)
@@ -62,7 +62,7 @@ impl<D: BlockDev, T: Translate> Kernel<D, T> {
         requires up { self.old.tree.failed ≡ false }
         requires node { (node : Node) × (slot self.old.tree.files number ≡ Some node) }
         ensures { ReadsDisk self.old self.new
-                (λ told. (node : Node) → slot self.old.tree.files number ≡ Some node → Tells told node) result }
+            (λ told. (node : Node) → slot self.old.tree.files number ≡ Some node → Tells told node) result }
     {
         self.tree.stat(number)
     }
@@ -87,7 +87,7 @@ impl<D: BlockDev, T: Translate> Kernel<D, T> {
     ) -> Result<usize, DeviceFault>
         requires { self.old.tree.failed ≡ false }
         ensures { ReadsDisk self.old self.new
-                (IsPart (bytes_or_none (slot self.old.tree.files number)) from out.old out.new) result }
+            (IsPart (bytes_or_none (slot self.old.tree.files number)) from out.old out.new) result }
     {
         self.tree.read_any(number, from, out)
     }
@@ -99,7 +99,7 @@ impl<D: BlockDev, T: Translate> Kernel<D, T> {
         requires up { self.old.tree.failed ≡ false }
         requires path { All (λ b. b ≢ 0) path.now }
         ensures made { MakesNode self.old.tree self.new.tree (directory_at self.old at) path.now (leaf_node leaf)
-                result }
+            result }
         ensures rest { self.new ≡ with_tree self.old self.new.tree }
     {
         let directory = self.home(at);

@@ -21,7 +21,7 @@ impl<D: BlockDev, T: Translate> Kernel<D, T> {
     ) -> (u32, Option<Trap>)
         requires { self.old.spaces.active ≡ Some at }
         ensures done { Advances (S.addresses stops.now) result.0 self.old.spaces at self.new.spaces
-                × (self.new ≡ record self.old { spaces = self.new.spaces }) }
+            × (self.new ≡ record self.old { spaces = self.new.spaces }) }
         ensures within { result.0 ≤ count }
         ensures ends { IfNone result.1 (EndsAt (S.addresses stops.now) count result.0 self.new.spaces.pc) }
         ensures trap { IfSome result.1 (λ t. (result.0 < count) × (cycle_at self.new.spaces at ≡ Err t)) }

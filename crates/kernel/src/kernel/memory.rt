@@ -83,7 +83,7 @@ impl<D: BlockDev, T: Translate> Kernel<D, T> {
         requires pipe { has_pipe self.old.spaces pipe ≡ true }
         requires readable { count ≤ length (reach Load (view_at self.old.spaces at).memory address) }
         ensures count { result ≡ length
-                (fitting (bytes_in self.old.spaces pipe) (read_at (view_at self.old.spaces at) address count)) }
+            (fitting (bytes_in self.old.spaces pipe) (read_at (view_at self.old.spaces at) address count)) }
         ensures sent { self.new ≡ waking (sent self.old at pipe address count) self.new.table.awake }
     {
         let put = self.spaces.write_pipe(pipe, at, address, count);
@@ -97,8 +97,8 @@ impl<D: BlockDev, T: Translate> Kernel<D, T> {
         requires { self.old.spaces.active ≡ Some at }
         ensures done { OnTrue result (self.new ≡ resized self.old at ((view_at self.old.spaces at).size + bytes)) }
         ensures over { OnFalse result
-                (self.old.spaces.frames < taken_frames
-                (resized self.old at ((view_at self.old.spaces at).size + bytes)).spaces) }
+            (self.old.spaces.frames < taken_frames
+            (resized self.old at ((view_at self.old.spaces at).size + bytes)).spaces) }
         ensures refused { OnFalse result (self.new ≡ self.old) }
     {
         self.spaces.pages_are_whole(at);

@@ -121,7 +121,7 @@ impl<D: BlockDev, T: Translate> Kernel<D, T> {
         requires node { (node : Node) × (slot self.old.tree.files number ≡ Some node) }
         requires writable { can_write (view_at self.old.spaces at).memory address count ≡ true }
         ensures { Serves self.old.tree self.new.tree result
-                (HasFetched self.old self.new at number offset address count) }
+            (HasFetched self.old self.new at number offset address count) }
     {
         let read = read_node(
             &mut self.tree,
@@ -153,7 +153,7 @@ impl<D: BlockDev, T: Translate> Kernel<D, T> {
         requires file { IsFile self.old.tree.files number }
         requires readable { is_some (read_bytes (view_at self.old.spaces at).memory address count) ≡ true }
         ensures { Serves self.old.tree self.new.tree result
-                (HasStored self.old self.new at number offset address count) }
+            (HasStored self.old self.new at number offset address count) }
     {
         let wrote = write_node(
             &mut self.tree,

@@ -58,7 +58,7 @@ impl<D: BlockDev, T: Translate> Kernel<D, T> {
     pub fn tables(&self, pid: u32) -> Option<(&Ram, FrameNo)>
         ensures some { is_some result ≡ is_some (shown_process (state_of self.now) pid) }
         ensures shows { IfSome result
-                (λ r. IfSome (shown_process (state_of self.now) pid) (λ p. ShowsMemory r.0.now r.1.0 p.memory)) }
+            (λ r. IfSome (shown_process (state_of self.now) pid) (λ p. ShowsMemory r.0.now r.1.0 p.memory)) }
     {
         let at = self.table.find(pid)?;
         Some(self.spaces.tables(at))

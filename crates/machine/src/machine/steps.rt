@@ -17,7 +17,7 @@ impl<D: BlockDev, T: Translate> Machine<D, T> {
     /// time.
     pub fn steps<W: Out>(&mut self, count: u32, console: &mut W) -> Result<(), Halt>
         ensures gives { RunGivesTo W.contents W.failures self.old self.new console.old console.new
-                (replicate count Step) result }
+            (replicate count Step) result }
         ensures later { W.failures console.old ≤ W.failures console.new }
     {
         if self.is_stopped() {
@@ -34,7 +34,7 @@ impl<D: BlockDev, T: Translate> Machine<D, T> {
     pub fn advance<W: Out>(&mut self, most: u32, console: &mut W) -> (u32, Result<(), Halt>)
         requires { 0 < most }
         ensures gives { RunGivesTo W.contents W.failures self.old self.new console.old console.new
-                (replicate result.0 Step) result.1 }
+            (replicate result.0 Step) result.1 }
         ensures piece { IsPiece self.old self.new most result.0 result.1 }
         ensures last { HaltsLast self.old self.new (W.contents console.old) (W.contents console.new) result.0 result.1 }
         ensures later { W.failures console.old ≤ W.failures console.new }

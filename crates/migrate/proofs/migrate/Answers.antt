@@ -41,15 +41,18 @@ returns-in_err-copy_nodes c =
     let geometry = c.in_ok-geometry.geometry in
     let has = c.in_ok-geometry.ensures.geometry in
     let lacks = λ (fault : MigrateFault) (is : c.in_err-copy_nodes.field-0.0 ≡ fault). subst
-            (Lacks geometry (files_in c.args.old.now)) is c.in_err-copy_nodes.ensures in
+    (Lacks geometry (files_in c.args.old.now)) is c.in_err-copy_nodes.ensures in
     rw (told_err c.from_residual-in_err-copy_nodes.result c.from_residual-in_err-copy_nodes.ensures.1) (record {
       migrated = tt;
       source = tt;
       size = tt;
       inodes = tt;
       image = λ fault is. absurd (lacks (Image fault) (one-fault refl is));
-      blocks = λ is. (files_in c.args.old.now, c.in_ok-geometry.ensures.denotes,
-          rw (has.size, has.inodes) at (lacks Blocks (one-fault refl is)));
+      blocks = λ is. (
+        files_in c.args.old.now,
+        c.in_ok-geometry.ensures.denotes,
+        rw (has.size, has.inodes) at (lacks Blocks (one-fault refl is)),
+      );
     })
 
 pub returns : goal.returns
@@ -61,7 +64,7 @@ returns c =
     let new = c.in-Ok-bytes_left.new in
     let bytes = c.in-Ok-bytes_left.ensures.bytes in
     let stored = left-stored _ c.in_ok-copy_nodes.ensures _ c.in-Ok-bytes_left.ensures.flushed
-            c.into_device-device.ensures.stored in
+    c.into_device-device.ensures.stored in
     record {
       migrated = λ files e. subst (λ b. Denotes b files) (sym bytes)
           (denotes-migrated old denotes geometry has _ stored files e);

@@ -17,6 +17,6 @@ returns c =
     let links : Links m c.store_u64.new.self t c.args.index u =
     rw (c.store_u64.ensures, c.zero.ensures, c.from.ensures, c.from-2.ensures)
     (Links-put m t c.args.index u c.frames_are_whole.ensures.memory c.requires.table inside
-        (among_first_not t u rest (rw some.some at c.requires.apart)).0 c.requires.index (omega (arith, inside))) in
+    (among_first_not t u rest (rw some.some at c.requires.apart)).0 c.requires.index (omega (arith, inside))) in
     let free = free-link c.requires.valid some.valid links some.some c.requires.apart in
     record { taken = some.some ∙ ap (λ l. u ∷ l) (sym free.0); valid = free.1; links = links; extra = some.extra }

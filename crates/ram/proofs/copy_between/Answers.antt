@@ -11,7 +11,7 @@ returns-then-from-to-clause-value c =
     let here : c.args.to + 0 ≡ c.args.to = omega arith in
     set-parts_back m low high c.args.to c.copy_bytes.new.to parts.value parts.front_len
     ∙ rw (c.copy_bytes.ensures.value, parts.by_index.1 0 [], here, parts.by_index.0 c.args.from [] c.if-from-to.true)
-        refl
+    refl
 
 pub returns-else-from-to-clause-value : goal.returns-else-from-to-clause-value
 returns-else-from-to-clause-value c =
@@ -23,4 +23,4 @@ returns-else-from-to-clause-value c =
     let here : c.args.from + 0 ≡ c.args.from = omega arith in
     set-parts_front m low high c.args.to c.copy_bytes-else-from-to.new.to parts.value (omega (arith, parts.front_len))
     ∙ rw (c.copy_bytes-else-from-to.ensures.value, parts.by_index.0 c.args.to [] below, parts.by_index.1 0 [], here)
-        refl
+    refl

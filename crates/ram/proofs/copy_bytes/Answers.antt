@@ -9,6 +9,6 @@ returns-clause-value c =
     let k = c.args.j + c.args.len - c.args.j in
     let bs = c.copy_from_slice.new.self in
     let size : length bs ≡ k =
-            omega (arith, c.copy_from_slice.ensures.len, length-take-le k (drop c.args.j c.args.to.now)) in
+    omega (arith, c.copy_from_slice.ensures.len, length-take-le k (drop c.args.j c.args.to.now)) in
     put_mid-bytes c.args.j k c.args.to.now bs size
-        ∙ ap (put_bytes c.args.to.now c.args.j) c.copy_from_slice.ensures.after
+    ∙ ap (put_bytes c.args.to.now c.args.j) c.copy_from_slice.ensures.after

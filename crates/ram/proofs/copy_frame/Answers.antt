@@ -20,5 +20,5 @@ returns-else-from-to-clause-value c =
     let high = c.split_at_mut-low-else-from-to.result.1.now in
     let here : c.args.from + 0 ≡ c.args.from = omega arith in
     set-parts_front m low high c.args.to c.copy-else-from-to.new.to parts.value
-        (omega (arith, parts.front_len, c.requires.apart))
+    (omega (arith, parts.front_len, c.requires.apart))
     ∙ ap (set m c.args.to) (c.copy-else-from-to.ensures ∙ parts.by_index.1 0 [] ∙ ap (frame_of m) here)

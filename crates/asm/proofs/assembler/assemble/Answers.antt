@@ -7,7 +7,7 @@ returns-clause-made c =
     let lines = map line_seen c.in_ok-lines.lines.items in
     let all = map placed_seen c.in_ok-placed.placed.items in
     made c.args.text.now lines all c.in_ok-program.program.items _
-        (rw c.as_bytes.ensures.value at c.in_ok-lines.ensures) (rw c.deref.ensures.value at c.in_ok-placed.ensures)
+    (rw c.as_bytes.ensures.value at c.in_ok-lines.ensures) (rw c.deref.ensures.value at c.in_ok-placed.ensures)
     (rw c.deref-2.ensures.value at c.in_ok-program.ensures.ok) (rw c.deref-3.ensures.value at c.in_ok-write_elf.ensures)
 
 pub returns-in_err-program-clause-fault : goal.returns-in_err-program-clause-fault
@@ -16,6 +16,6 @@ returns-in_err-program-clause-fault c =
     let all = map placed_seen c.in_ok-placed.placed.items in
     let tells : Tells (assembled c.args.text.now) c.in_err-program.field-0.0 =
     told c.args.text.now lines all _ (rw c.as_bytes.ensures.value at c.in_ok-lines.ensures)
-        (rw c.deref.ensures.value at c.in_ok-placed.ensures)
+    (rw c.deref.ensures.value at c.in_ok-placed.ensures)
     (rw c.deref-2.ensures.value at c.in_err-program.ensures.err) in
     search (rules, tells)

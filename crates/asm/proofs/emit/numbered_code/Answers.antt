@@ -8,4 +8,4 @@ returns-in-Some c =
     let n = number_of c.args.number.now in
     let p = c.args.partial in
     c.code.ensures ∙ code_in_range c.args.address c.in-Some.instr (partial_instr p)
-        (lies_in (below_of p) (above_of p) n) (field (bits_of p) n) c.in-Some.ensures
+    (lies_in (below_of p) (above_of p) n) (field (bits_of p) n) c.in-Some.ensures

@@ -3,10 +3,15 @@ use Rattle.asmtext.proofs.NameLemmas.{lengths, place_is, place_none}
 use Rattle.asmtext.proofs.names.register_named.Goals as goal
 
 pub returns-then-is : goal.returns-then-is
-returns-then-is c = record
-    { is = sym (place_is register_names c.args.name.now c.loop-r.r (omega (arith, lengths.0)) c.loop-r.invariant
-    (search rules)); within = omega arith }
+returns-then-is c = record {
+  is = sym (place_is register_names c.args.name.now c.loop-r.r (omega (arith, lengths.0)) c.loop-r.invariant
+      (search rules));
+  within = omega arith;
+}
 
 pub returns : goal.returns
-returns c = record { is = sym
-    (place_none register_names c.args.name.now (λ k h. c.loop-r.invariant k (omega (arith, lengths.0)))); within = tt }
+returns c = record {
+  is = sym
+      (place_none register_names c.args.name.now (λ k h. c.loop-r.invariant k (omega (arith, lengths.0))));
+  within = tt;
+}

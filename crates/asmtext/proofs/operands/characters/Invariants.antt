@@ -5,4 +5,4 @@ use Rattle.asmtext.proofs.operands.characters.Given as goal
 abbrev pub invariant-loop-symbol : goal.invariant-loop-symbol
 invariant-loop-symbol l =
     the.characters (map symbol_of l.part)
-        ≡ option_map (λ rest. l.text.items ++ rest) (the.characters (map symbol_of (drop l.symbol-index l.part)))
+    ≡ option_map (λ rest. l.text.items ++ rest) (the.characters (map symbol_of (drop l.symbol-index l.part)))

@@ -4,8 +4,10 @@ use Rattle.asmtext.proofs.parts.parts.Goals as goal
 
 pub returns-then-blanks_before-symbols : goal.returns-then-blanks_before-symbols
 returns-then-blanks_before-symbols c =
-    rw (c.new.ensures.items,
-        no_parts c.args.symbols.now (sym c.blanks_before.ensures.is ∙ c.if-blanks_before-symbols.true)) (search rules)
+    rw (
+      c.new.ensures.items,
+      no_parts c.args.symbols.now (sym c.blanks_before.ensures.is ∙ c.if-blanks_before-symbols.true),
+    ) (search rules)
 
 pub returns : goal.returns
 returns c =

@@ -6,4 +6,4 @@ returns c =
     let split = c.split.ensures in
     map_from_collect _ c.collect.ensures.ran
     (YieldsList-from_slice_split _ is_comma c.args.symbols.now split.rest split.done split.closure
-        (λ x b q k. search (rules, tests)))
+    (λ x b q k. search (rules, tests)))

@@ -10,7 +10,7 @@ returns-in_err-read_part g c =
 pub returns : goal.returns
 returns g c = step-last c.read_part.ensures.goes (λ _ written.
     let sets = SetsBit-byte c.without_bit-byte.result c.requires.parts c.bitmap_start.ensures c.requires.high
-            c.in_ok-read_part.ensures.done.same c.in_ok-read_part.ensures.done.told
+    c.in_ok-read_part.ensures.done.same c.in_ok-read_part.ensures.done.told
     c.without_bit-byte.ensures.here c.without_bit-byte.ensures.others written in
     record { sets = sets; free = free_blocks-give c.requires.low c.requires.high c.requires.taken sets })
-        c.write.ensures
+    c.write.ensures

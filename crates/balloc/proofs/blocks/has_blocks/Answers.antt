@@ -11,18 +11,22 @@ returns-in_default g c =
     let blocks = c.args.disk.now.blocks in
     let i = c.search.invariant in
     let full = subst (λ b. IsFullFrom c.args.geometry b c.search.from) i.same
-            (subst (Finds _ _ _) c.in_default.is c.in_ok-b.ensures.done.told) in
+    (subst (Finds _ _ _) c.in_default.is c.in_ok-b.ensures.done.told) in
     read-done (goes-after i.goes c.find_free.ensures.goes) (c.in_ok-b.ensures.done.same ∙ i.same)
     (sym (lt-leb c.args.wanted (free_blocks c.args.geometry blocks)
-        (omega (arith, i.counted, free_from-none c.args.geometry blocks c.search.from i.low i.high full,
-        c.search-test.true))))
+    (omega (
+      arith,
+      i.counted,
+      free_from-none c.args.geometry blocks c.search.from i.low i.high full,
+      c.search-test.true,
+    ))))
 
 pub search-preserved : goal.search-preserved
 search-preserved g c =
     let blocks = c.args.disk.now.blocks in
     let i = c.search.invariant in
     let first = subst (λ b. IsFirstFree c.args.geometry b c.search.from c.in-Some.b) i.same
-            (subst (Finds _ _ _) c.in-Some.is c.in_ok-b.ensures.done.told) in
+    (subst (Finds _ _ _) c.in-Some.is c.in_ok-b.ensures.done.told) in
     let counted = i.counted in
     record {
       same = c.in_ok-b.ensures.done.same ∙ i.same;
@@ -39,4 +43,4 @@ returns g c =
     let counted = i.counted in
     let all = c.search-test.false in
     read-done i.goes i.same (sym
-        (le-leb c.args.wanted (free_blocks c.args.geometry c.args.disk.now.blocks) (omega arith)))
+    (le-leb c.args.wanted (free_blocks c.args.geometry c.args.disk.now.blocks) (omega arith)))

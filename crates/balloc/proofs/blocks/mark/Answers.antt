@@ -9,5 +9,5 @@ returns-in_err-read_part g c =
 pub returns : goal.returns
 returns g c = step-last c.read_part.ensures.goes (λ _ written.
     SetsBit-byte c.with_bit-byte.result c.requires.parts c.bitmap_start.ensures c.requires.high
-        c.in_ok-read_part.ensures.done.same c.in_ok-read_part.ensures.done.told
+    c.in_ok-read_part.ensures.done.same c.in_ok-read_part.ensures.done.told
     c.with_bit-byte.ensures.here c.with_bit-byte.ensures.others written) c.write.ensures

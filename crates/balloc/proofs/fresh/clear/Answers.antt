@@ -3,13 +3,17 @@ use Rattle.balloc.proofs.Formatting.{Cleared-more, HasParts-write}
 use Rattle.balloc.proofs.fresh.clear.Goals as goal
 
 pub block-init : goal.block-init
-block-init g c = record { parts = c.requires; cleared = λ k h. absurd (omega (arith, h)); goes = goes-stays;
-    within = omega arith }
+block-init g c = record {
+  parts = c.requires;
+  cleared = λ k h. absurd (omega (arith, h));
+  goes = goes-stays;
+  within = omega arith;
+}
 
 pub block-preserved : goal.block-preserved
 block-preserved g c =
     let high : c.block.k < c.args.geometry.size =
-            omega (arith, c.block-test.true, c.data_start-end.ensures, c.requires.room) in
+    omega (arith, c.block-test.true, c.data_start-end.ensures, c.requires.room) in
     record {
       parts = HasParts-write c.block.k (replicate 1024 0) c.block.invariant.parts high (omega arith)
           c.in_ok-write.ensures.done;

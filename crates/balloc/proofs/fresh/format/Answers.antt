@@ -22,4 +22,4 @@ pub returns : goal.returns
 returns g c = step-last (goes-after c.clear.ensures.goes c.write.ensures.goes) (λ _ front.
     new_system c.in_ok-clear.ensures.done.0 c.requires.size c.in_ok-clear.ensures.done.1
     (c.to_bytes-head.ensures.bytes ∙ ap super_bytes c.super_block.ensures) c.in_ok-write.ensures.done front)
-        c.mark_front.ensures
+    c.mark_front.ensures

@@ -4,8 +4,12 @@ use Rattle.balloc.proofs.fresh.mark_front.Goals as goal
 
 pub block-init : goal.block-init
 block-init g c = record {
-  front = record { parts = c.requires.parts; before = λ k h. refl; marked = λ b low high. absurd (omega (arith, low));
-      unmarked = λ b low high. c.requires.clear b high };
+  front = record {
+    parts = c.requires.parts;
+    before = λ k h. refl;
+    marked = λ b low high. absurd (omega (arith, low));
+    unmarked = λ b low high. c.requires.clear b high;
+  };
   goes = goes-stays;
   within = omega arith;
 }
@@ -24,4 +28,4 @@ pub returns : goal.returns
 returns g c =
     let i = c.block.invariant in
     step-done i.goes (subst (HasFront c.args.geometry c.args.disk.now.blocks c.block.disk.blocks)
-        (omega (arith, c.block-test.false, i.within, c.data_start-end.ensures)) i.front)
+    (omega (arith, c.block-test.false, i.within, c.data_start-end.ensures)) i.front)

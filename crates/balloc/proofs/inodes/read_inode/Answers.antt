@@ -8,6 +8,9 @@ returns-in_err-read_part g c =
 pub returns : goal.returns
 returns g c =
     read-done c.read_part.ensures.goes c.in_ok-read_part.ensures.done.same
-        (record { is = c.from_front.ensures.inode
-        ∙ ap inode_of (rw (c.at-place.ensures.block, c.at-place.ensures.offset)
-        at c.in_ok-read_part.ensures.done.told); fits = c.from_front.ensures.fits })
+    (record {
+      is = c.from_front.ensures.inode
+          ∙ ap inode_of (rw (c.at-place.ensures.block, c.at-place.ensures.offset)
+          at c.in_ok-read_part.ensures.done.told);
+      fits = c.from_front.ensures.fits;
+    })

@@ -7,7 +7,7 @@ returns-in_err-number g c = step-failed goes-stays c.find_unused.ensures c.in_er
 pub returns-in_default : goal.returns-in_default
 returns-in_default g c =
     step-done c.find_unused.ensures.goes
-        (subst (FindsInode _ _) c.in_default.is c.in_ok-number.ensures.done.told, c.in_ok-number.ensures.done.same)
+    (subst (FindsInode _ _) c.in_default.is c.in_ok-number.ensures.done.told, c.in_ok-number.ensures.done.same)
 
 pub take_inode_at-requires : goal.take_inode_at-requires
 take_inode_at-requires g c =
@@ -26,6 +26,8 @@ returns-in_err-take_inode_at g c =
 pub returns : goal.returns
 returns g c =
     let found = subst (FindsInode _ _) c.in-Some.is c.in_ok-number.ensures.done.told in
-    step-done (goes-after c.find_unused.ensures.goes c.take_inode_at.ensures.goes)
-    (found, subst (λ b. TakesNode c.args.geometry b c.take_inode_at.new.disk.blocks c.in-Some.number c.args.kind
-        c.args.links) c.in_ok-number.ensures.done.same c.in_ok-take_inode_at.ensures.done)
+    step-done (goes-after c.find_unused.ensures.goes c.take_inode_at.ensures.goes) (
+      found,
+      subst (λ b. TakesNode c.args.geometry b c.take_inode_at.new.disk.blocks c.in-Some.number c.args.kind
+          c.args.links) c.in_ok-number.ensures.done.same c.in_ok-take_inode_at.ensures.done,
+    )

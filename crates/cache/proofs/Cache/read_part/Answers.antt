@@ -6,4 +6,4 @@ pub returns-in-Some : goal.returns-in-Some
 returns-in-Some g c =
     read-done goes-stays refl
     (parted c.args.at (length c.args.out.now) _ _ _ c.copy_from_slice.ensures.after
-        (hit c.self.inside.held _ _ _ _ (blocks-are c.self.view_is) c.requires.block c.in-Some.ensures))
+    (hit c.self.inside.held _ _ _ _ (blocks-are c.self.view_is) c.requires.block c.in-Some.ensures))

@@ -12,4 +12,4 @@ returns-in_default g c =
 pub returns : goal.returns
 returns g c =
     closes (here-of c.requires) (c.low-descriptor.ensures ∙ ap low c.argument.ensures) c.in-Some.ensures.named
-        c.is_sound.ensures.sound (c.in_ok-close.ensures.told, serves-disk c.in_ok-close.ensures)
+    c.is_sound.ensures.sound (c.in_ok-close.ensures.told, serves-disk c.in_ok-close.ensures)

@@ -28,19 +28,23 @@ returns-in_default-free_pipe g c =
 pub open_pipe-requires-clause-may : goal.open_pipe-requires-clause-may
 open_pipe-requires-clause-may g c =
     let two = ap (λ o. count_by is_none (descriptors_in o)) (sym c.process.ensures ∙ ap option_copied c.in-Some.is) in
-    (record { running = c.requires.active; descriptors = omega (arith, two); places = omega arith;
-        room = sym c.in-Some-free_pipe.ensures.place })
+    (record {
+      running = c.requires.active;
+      descriptors = omega (arith, two);
+      places = omega arith;
+      room = sym c.in-Some-free_pipe.ensures.place;
+    })
 
 pub returns-in_default-open_pipe : goal.returns-in_default-open_pipe
 returns-in_default-open_pipe g c =
     let d = c.in_default-open_pipe.ensures.pipes in
     rw d.1 (lacks-frames (here-of c.requires) (rw c.argument-address.ensures at c.if-not-can_write.ensures)
-        c.in-Some-free_pipe.ensures.place d.0)
+    c.in-Some-free_pipe.ensures.place d.0)
 
 pub write-requires : goal.write-requires
 write-requires g c =
     let can = pipe-can (here-of c.requires) (rw c.argument-address.ensures at c.if-not-can_write.ensures)
-            c.in-Some-open_pipe.ensures.pipes in
+    c.in-Some-open_pipe.ensures.pipes in
     rw (c.argument-address.ensures, c.ints.ensures) (record { running = can.0; can = can.1 })
 
 pub returns : goal.returns

@@ -7,8 +7,8 @@ pub returns-in-None-clause-gives : goal.returns-in-None-clause-gives
 returns-in-None-clause-gives g c =
     let d = c.in-None.ensures.done in
     made-quiet c.execute.new.self _ (g.W.Out.contents c.args.console.now)
-        (step-computes (runner-of c.is_sound.ensures.sound c.requires.running) d.1
-        ∙ ap (λ (k : Kernel). quiet (state_of k)) (sym d.2))
+    (step-computes (runner-of c.is_sound.ensures.sound c.requires.running) d.1
+    ∙ ap (λ (k : Kernel). quiet (state_of k)) (sym d.2))
 
 pub returns-in-None-clause-tree : goal.returns-in-None-clause-tree
 returns-in-None-clause-tree g c = same-served (ap (λ (k : Kernel). k.tree) c.in-None.ensures.done.2) c.requires.up

@@ -19,10 +19,13 @@ returns-clause-does g c =
     let s = c.is_sound.ensures in
     rw c.goes.ensures (does-made _ _ _ _ _ _ refl (elim c.match-active.branch [
       | in-Some+in_ok-instruct-in-Some w ↦
-          rw (w.kernel-is, w.console-is,
-              next-executes c.args.kernel.now w.in-Some.at s.sound (sym c.active.ensures ∙ w.in-Some.is))
-              w.in_ok-instruct-in-Some.ensures.gives
+          rw (
+            w.kernel-is,
+            w.console-is,
+            next-executes c.args.kernel.now w.in-Some.at s.sound (sym c.active.ensures ∙ w.in-Some.is),
+          )
+          w.in_ok-instruct-in-Some.ensures.gives
       | in-None+in_ok-take_turn-in-None w ↦
           rw (w.kernel-is, w.console-is, next-turns c.args.kernel.now s.sound (sym c.active.ensures ∙ w.in-None.is))
-              (made-quiet _ _ _ w.in_ok-take_turn-in-None.ensures.gives)
+          (made-quiet _ _ _ w.in_ok-take_turn-in-None.ensures.gives)
     ]))

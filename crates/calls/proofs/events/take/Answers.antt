@@ -8,22 +8,22 @@ returns-then-process-clause-gives g c =
     let s = c.is_sound.ensures in
     let there = sym c.process.ensures ∙ sym c.in-Some.ensures in
     ends-if c.finish.new.self (ended c.args.kernel.now c.args.at (negsuc 0)) _ c.finish.result c.finish.ensures.told
-        (takes-killed c.args.kernel.now c.args.at c.in-Some.process s.sound c.requires.idle there c.requires.up s.zero
-        s.aligned c.requires.alive c.if-process.true)
+    (takes-killed c.args.kernel.now c.args.at c.in-Some.process s.sound c.requires.idle there c.requires.up s.zero
+    s.aligned c.requires.alive c.if-process.true)
 
 pub returns-in-Ready-clause-gives : goal.returns-in-Ready-clause-gives
 returns-in-Ready-clause-gives g c =
     let there = sym c.process.ensures ∙ sym c.in-Some.ensures in
     takes-ready c.args.kernel.now c.args.at c.in-Some.process c.is_sound.ensures.sound c.requires.idle there
-        c.requires.up c.if-process.false c.in-Ready.is
-        ∙ ap quiet (sym (state-but (started c.args.kernel.now c.args.at) c.start.ensures))
+    c.requires.up c.if-process.false c.in-Ready.is
+    ∙ ap quiet (sym (state-but (started c.args.kernel.now c.args.at) c.start.ensures))
 
 pub returns-in-Waiting-clause-gives : goal.returns-in-Waiting-clause-gives
 returns-in-Waiting-clause-gives g c =
     let there = sym c.process.ensures ∙ sym c.in-Some.ensures in
     on-after _ _ _ c.go_on.result
-        (takes-waiting c.args.kernel.now c.args.at c.in-Some.process c.is_sound.ensures.sound c.requires.idle there
-        c.requires.up c.if-process.false c.in-Waiting.is) c.go_on.ensures.gives
+    (takes-waiting c.args.kernel.now c.args.at c.in-Some.process c.is_sound.ensures.sound c.requires.idle there
+    c.requires.up c.if-process.false c.in-Waiting.is) c.go_on.ensures.gives
 
 pub returns-in-Ready-clause-tree : goal.returns-in-Ready-clause-tree
 returns-in-Ready-clause-tree g c =

@@ -14,10 +14,10 @@ returns-clause-gives g c =
     let s = c.is_sound.ensures in
     let new = c.finish.new.self in
     let e = step-faults (runner-of s.sound c.requires.running) c.requires.traps c.requires.up s.zero s.aligned
-            (sym c.if-is_call.ensures) in
+    (sym c.if-is_call.ensures) in
     made-quiet new _ (g.W.Out.contents c.args.console.now)
-        (e ∙ ap quiet (sym (state-but (counting (ended k c.args.at (negsuc 0)) new.tree.failures)
-        c.in_ok-finish.ensures.told)))
+    (e ∙ ap quiet (sym (state-but (counting (ended k c.args.at (negsuc 0)) new.tree.failures)
+    c.in_ok-finish.ensures.told)))
 
 pub returns-in_err-finish : goal.returns-in_err-finish
 returns-in_err-finish g c =

@@ -14,5 +14,5 @@ returns-in-Some-clause-gives g c =
     let found = sym c.in-Some.ensures.turn in
     let same = state-but (picked c.args.kernel.now c.in-Some.at) c.in-Some.ensures.picked in
     on-after _ _ _ c.take.result
-        (turn-takes c.args.kernel.now c.in-Some.at c.is_sound.ensures.sound c.requires.idle found
-        ∙ ap (λ (s : State). taken s c.in-Some.at) (sym same)) c.take.ensures.gives
+    (turn-takes c.args.kernel.now c.in-Some.at c.is_sound.ensures.sound c.requires.idle found
+    ∙ ap (λ (s : State). taken s c.in-Some.at) (sym same)) c.take.ensures.gives

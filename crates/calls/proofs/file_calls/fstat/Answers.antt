@@ -29,12 +29,12 @@ write-requires-clause-can g c =
     let on = rw c.from.ensures at c.in-Ok.ensures in
     let can = rw c.argument-address.ensures at c.if-not-can_write.ensures in
     fstat-can (here-of c.requires) (c.low.ensures ∙ ap low c.argument.ensures) c.in-Some.ensures.named on can
-        c.in_ok-told.ensures.0 c.argument-address.ensures _ c.stat_bytes.ensures
+    c.in_ok-told.ensures.0 c.argument-address.ensures _ c.stat_bytes.ensures
 
 pub returns : goal.returns
 returns g c =
     let on = rw c.from.ensures at c.in-Ok.ensures in
     let can = rw c.argument-address.ensures at c.if-not-can_write.ensures in
     fstat-acts (here-of c.requires) (c.low.ensures ∙ ap low c.argument.ensures) c.in-Some.ensures.named on can
-        c.in_ok-told.ensures.0 c.argument-address.ensures _ c.stat_bytes.ensures c.in_ok-told.ensures.1 c.write.ensures
-        c.is_sound.ensures.sound
+    c.in_ok-told.ensures.0 c.argument-address.ensures _ c.stat_bytes.ensures c.in_ok-told.ensures.1 c.write.ensures
+    c.is_sound.ensures.sound

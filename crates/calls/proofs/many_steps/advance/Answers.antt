@@ -7,4 +7,4 @@ returns-in-None-clause-does g c =
     let at = g.W.Out.contents c.args.console.now in
     let failures = g.W.Out.failures c.args.console.now in
     silent c.args.kernel.now c.turn_once.new.kernel
-        at at (Rises failures failures) (c.turn_once.ensures.does at c.args.most c.requires.some)
+    at at (Rises failures failures) (c.turn_once.ensures.does at c.args.most c.requires.some)

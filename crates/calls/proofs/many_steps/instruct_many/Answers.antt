@@ -5,13 +5,13 @@ use Rattle.calls.proofs.many_steps.instruct_many.Goals as goal
 pub trap_once-requires-clause-running : goal.trap_once-requires-clause-running
 trap_once-requires-clause-running g c =
     (begun c.is_sound.ensures.sound c.requires.running c.requires.goes [] c.execute_many.result.0
-        c.execute_many.new.self (g.W.Out.contents c.args.console.now) c.requires.up c.execute_many.ensures.done).active
+    c.execute_many.new.self (g.W.Out.contents c.args.console.now) c.requires.up c.execute_many.ensures.done).active
 
 pub trap_once-requires-clause-up : goal.trap_once-requires-clause-up
 trap_once-requires-clause-up g c =
     (begun c.is_sound.ensures.sound c.requires.running c.requires.goes [] c.execute_many.result.0
-        c.execute_many.new.self (g.W.Out.contents c.args.console.now) c.requires.up
-        c.execute_many.ensures.done).went.served.up
+    c.execute_many.new.self (g.W.Out.contents c.args.console.now) c.requires.up
+    c.execute_many.ensures.done).went.served.up
 
 pub returns-in_default-None-clause-does : goal.returns-in_default-None-clause-does
 returns-in_default-None-clause-does g c =
@@ -23,9 +23,11 @@ returns-in_default-None-clause-does g c =
       within = e.within;
       busy = λ n less. busy-advances c.is_sound.ensures.sound c.requires.running c.requires.goes [] done
           c.execute_many.new.self.spaces e.done.0 n (omega (arith, less));
-      goes = ((begun c.is_sound.ensures.sound c.requires.running c.requires.goes [] done c.execute_many.new.self
-          (g.W.Out.contents c.args.console.now) c.requires.up e.done).went,
-          λ none. absurd (omega (arith, all, some, none)));
+      goes = (
+        (begun c.is_sound.ensures.sound c.requires.running c.requires.goes [] done c.execute_many.new.self
+            (g.W.Out.contents c.args.console.now) c.requires.up e.done).went,
+        λ none. absurd (omega (arith, all, some, none)),
+      );
     }
 
 pub returns-in_default-Some-clause-does : goal.returns-in_default-Some-clause-does
@@ -34,7 +36,7 @@ returns-in_default-Some-clause-does g c =
     let done = c.execute_many.result.0 in
     let e = c.execute_many.ensures in
     let b = begun c.is_sound.ensures.sound c.requires.running c.requires.goes [] done mid
-            (g.W.Out.contents c.args.console.now) c.requires.up e.done in
+    (g.W.Out.contents c.args.console.now) c.requires.up e.done in
     let more = (rw c.in_default-Some.is-1 at e.trap).0 in
     let told = c.trap_once.ensures in
     record {

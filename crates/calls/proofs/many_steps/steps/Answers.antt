@@ -19,7 +19,7 @@ returns-in_err-ended g c =
     let within = before.within in
     let later = c.advance-more.ensures.later in
     let all = stops-rest c.advance-more.result.0 c.args.count before.went c.requires.goes (omega (arith, within, few))
-            (λ r. Rises-later _ _ _ before.later r later) (rw c.in_err-ended.was at c.advance-more.ensures.does.goes) in
+    (λ r. Rises-later _ _ _ before.later r later) (rw c.in_err-ended.was at c.advance-more.ensures.does.goes) in
     rw (p.1, p.2) (record { does = all.0; tree = all.1; later = let l = before.later in omega (arith, l, later) })
 
 pub returns-then-more-eq0 : goal.returns-then-more-eq0
@@ -31,7 +31,7 @@ returns-then-more-eq0 g c =
     let goes = rw c.in_ok-ended.was at c.advance-more.ensures.does.goes in
     let went = went-trans before.went c.requires.goes goes.0 in
     let all = went-trans went c.requires.goes
-            (went-idle _ (went-up went) went.served.up rest (goes.1 c.if-more-eq0.true)) in
+    (went-idle _ (went-up went) went.served.up rest (goes.1 c.if-more-eq0.true)) in
     record {
       does = went-all all c.args.count (omega (arith, within, few)) (omega arith);
       tree = went.served;
@@ -53,5 +53,8 @@ pub returns : goal.returns
 returns g c =
     let before = c.loop-done.invariant in
     let end = c.loop-done-test.false in
-    record { does = went-all before.went c.args.count before.within (omega (arith, end)); tree = before.went.served;
-        later = before.later }
+    record {
+      does = went-all before.went c.args.count before.within (omega (arith, end));
+      tree = before.went.served;
+      later = before.later;
+    }

@@ -16,9 +16,11 @@ returns-in-None g c =
       does = λ at most some. record {
         within = omega arith;
         busy = λ done less. absurd (omega (arith, less));
-        goes = (went-still at c.requires.goes c.requires.up same (ap (λ (x : Kernel). x.tree) none),
-            λ zero. idle-now c.is_sound.ensures.sound c.requires.idle c.turn.new.self (sym c.in-None.ensures.turn)
-            same);
+        goes = (
+          went-still at c.requires.goes c.requires.up same (ap (λ (x : Kernel). x.tree) none),
+          λ zero. idle-now c.is_sound.ensures.sound c.requires.idle c.turn.new.self (sym c.in-None.ensures.turn)
+              same,
+        );
       };
     }
 
@@ -39,7 +41,7 @@ returns-in-Some g c =
             at ⊥ r (went-none at c.requires.goes c.requires.up) c.requires.goes
             (turn-is is c.requires.idle found mid picked)
             (c.take_once.ensures.gives at)
-                (subst (λ (t : FileTree). LeavesTree {X = Unit {0}} t c.take_once.new.kernel.tree r) tree
-                c.take_once.ensures.tree);
+            (subst (λ (t : FileTree). LeavesTree {X = Unit {0}} t c.take_once.new.kernel.tree r) tree
+            c.take_once.ensures.tree);
       };
     }

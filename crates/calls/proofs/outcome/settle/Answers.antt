@@ -57,11 +57,11 @@ returns-in_ok-finish-in-KillsItself-clause-gives g c =
     let k = c.args.kernel.now in
     let last = c.finish-in-KillsItself.new.self in
     let made = c.in_ok-finish-in-KillsItself.ensures.told
-            ∙ ap (λ (x : Kernel). waking (counting (ended x c.args.at (negsuc 0)) last.tree.failures) last.table.awake)
-            c.answer-in-KillsItself.ensures in
+    ∙ ap (λ (x : Kernel). waking (counting (ended x c.args.at (negsuc 0)) last.tree.failures) last.table.awake)
+    c.answer-in-KillsItself.ensures in
     rw c.in-KillsItself.is (
     state-but (marked last c.args.at) c.mark.ensures
     ∙ ap (λ (x : Kernel). state_of (marked x c.args.at)) made
     ∙ state-waking (marked (counting (ended (answered k 0) c.args.at (negsuc 0)) last.tree.failures) c.args.at)
-        last.table.awake
+    last.table.awake
     ∙ settles-killed (here-in s.sound c.requires.running c.requires.up) s.zero s.aligned)

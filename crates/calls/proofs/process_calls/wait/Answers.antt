@@ -16,4 +16,4 @@ returns-then-not-has_child g c = elim c.then-not-has_child.branch [
 pub returns : goal.returns
 returns g c =
     wait-begins (here-of c.requires) c.pid-parent.result c.pid-parent.ensures (sym c.if-not-has_child.ensures)
-        (rw c.argument.ensures at (sym c.if-not-can_answer.ensures)) (rw c.pending-pending.ensures at c.wait_on.ensures)
+    (rw c.argument.ensures at (sym c.if-not-can_answer.ensures)) (rw c.pending-pending.ensures at c.wait_on.ensures)

@@ -12,12 +12,12 @@ returns-in_default g c =
 pub write_status-requires : goal.write_status-requires
 write_status-requires g c =
     let can = collects-can (here-of c.requires.runs) c.pid-parent.result c.pid-parent.ensures c.args.pending
-            c.requires.number c.in-Some.ensures.reaped c.in-Some.ensures.collected c.requires.can in
+    c.requires.number c.in-Some.ensures.reaped c.in-Some.ensures.collected c.requires.can in
     record { running = can.0; can = can.1 }
 
 pub returns : goal.returns
 returns g c =
     let fits : SFits w32 c.in-Some.reaped.status = search rules in
     rw c.from.ensures (collects (here-of c.requires.runs) c.pid-parent.result c.pid-parent.ensures c.args.pending
-        c.requires.number c.in-Some.ensures.reaped c.in-Some.ensures.collected c.is_sound.ensures.sound
-        (rw (to_z-of_z w32 c.in-Some.reaped.status fits) at c.write_status.ensures))
+    c.requires.number c.in-Some.ensures.reaped c.in-Some.ensures.collected c.is_sound.ensures.sound
+    (rw (to_z-of_z w32 c.in-Some.reaped.status fits) at c.write_status.ensures))

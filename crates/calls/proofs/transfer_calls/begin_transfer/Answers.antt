@@ -16,20 +16,20 @@ returns-in_default-natural-clause-answered g c =
 pub returns-then-count-eq0-clause-answered : goal.returns-then-count-eq0-clause-answered
 returns-then-count-eq0-clause-answered g c =
     begins-nothing (here-of c.requires) c.args.end
-        (rw (c.low.ensures, c.pending-pending.ensures) at c.target_for.ensures) c.in-Some.is
-        (rw c.pending-pending.ensures at c.natural.ensures) c.in-Some-natural.is c.if-count-eq0.true
+    (rw (c.low.ensures, c.pending-pending.ensures) at c.target_for.ensures) c.in-Some.is
+    (rw c.pending-pending.ensures at c.natural.ensures) c.in-Some-natural.is c.if-count-eq0.true
 
 pub returns-then-not-can_transfer-clause-answered : goal.returns-then-not-can_transfer-clause-answered
 returns-then-not-can_transfer-clause-answered g c =
     begins-unusable (here-of c.requires) c.args.end
-        (rw (c.low.ensures, c.pending-pending.ensures) at c.target_for.ensures) c.in-Some.is
-        (rw c.pending-pending.ensures at c.natural.ensures) c.in-Some-natural.is c.if-count-eq0.false
+    (rw (c.low.ensures, c.pending-pending.ensures) at c.target_for.ensures) c.in-Some.is
+    (rw c.pending-pending.ensures at c.natural.ensures) c.in-Some-natural.is c.if-count-eq0.false
     (rw (c.from.ensures, c.pending-pending.ensures) at c.can_transfer.ensures) c.if-not-can_transfer.true
 
 pub returns-clause-begins : goal.returns-clause-begins
 returns-clause-begins g c =
     begins-on-it (here-of c.requires) c.args.end
-        (rw (c.low.ensures, c.pending-pending.ensures) at c.target_for.ensures) c.in-Some.is
-        (rw c.pending-pending.ensures at c.natural.ensures) c.in-Some-natural.is c.if-count-eq0.false
+    (rw (c.low.ensures, c.pending-pending.ensures) at c.target_for.ensures) c.in-Some.is
+    (rw c.pending-pending.ensures at c.natural.ensures) c.in-Some-natural.is c.if-count-eq0.false
     (rw (c.from.ensures, c.pending-pending.ensures) at c.can_transfer.ensures) c.requires c.if-not-can_transfer.false
-        (c.pending-pending.ensures ∙ ap (pending_for c.args.kernel.now) c.call_on.ensures)
+    (c.pending-pending.ensures ∙ ap (pending_for c.args.kernel.now) c.call_on.ensures)

@@ -7,5 +7,5 @@ returns-else-piece-most-clause-some g c =
     let k = c.args.kernel.now in
     let some : 0 < length (piece_at Load (view_at k.spaces c.args.at).memory c.args.address) =
     piece-some Load (view_at k.spaces c.args.at).memory c.args.address c.pages_are_whole.ensures.sized
-        c.requires.readable in
+    c.requires.readable in
     rw c.readable-piece.ensures some

@@ -9,7 +9,7 @@ read_node-requires-clause-node g c = let b = content c.requires in (b.node, b.he
 pub overflow_add-offset : goal.overflow_add-offset
 overflow_add-offset g c =
     let near = reads-near c.requires c.files_are_whole.ensures (c.from-count.ensures ∙ c.low-2.ensures)
-            c.in-Ok.ensures.told in
+    c.in-Ok.ensures.told in
     let low = c.low-in-Ok.ensures in
     omega (arith, near, low)
 
@@ -17,11 +17,11 @@ pub set_offset-requires : goal.set_offset-requires
 set_offset-requires g c =
     let at = named-number c.requires.goes c.low.ensures _ c.open_id.ensures.named _ c.in-Some.is in
     reads-may c.requires c.files_are_whole.ensures (c.from-count.ensures ∙ c.low-2.ensures) c.in-Ok.ensures.told
-        (c.from.ensures ∙ at) c.low-in-Ok.ensures
+    (c.from.ensures ∙ at) c.low-in-Ok.ensures
 
 pub returns-in-Ok : goal.returns-in-Ok
 returns-in-Ok g c =
     let at = named-number c.requires.goes c.low.ensures _ c.open_id.ensures.named _ c.in-Some.is in
     reads-done c.requires c.files_are_whole.ensures (c.from-count.ensures ∙ c.low-2.ensures) c.in-Ok.ensures.told
-        (c.from.ensures ∙ at) c.low-in-Ok.ensures c.set_offset.ensures c.is_sound.ensures.sound
-        (serves-disk c.in-Ok.ensures)
+    (c.from.ensures ∙ at) c.low-in-Ok.ensures c.set_offset.ensures c.is_sound.ensures.sound
+    (serves-disk c.in-Ok.ensures)

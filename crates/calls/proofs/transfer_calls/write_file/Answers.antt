@@ -14,7 +14,7 @@ returns-in_default-wrote g c =
 pub overflow_add-offset : goal.overflow_add-offset
 overflow_add-offset g c =
     let near = writes-near c.requires (c.from-count.ensures ∙ c.low-2.ensures) c.in-Ok.ensures.told c.in-Some-wrote.is
-            in
+    in
     let low = c.low-in-Ok.ensures in
     omega (arith, near, low)
 
@@ -22,11 +22,11 @@ pub set_offset-requires : goal.set_offset-requires
 set_offset-requires g c =
     let at = named-number c.requires.goes c.low.ensures _ c.open_id.ensures.named _ c.in-Some.is in
     writes-may c.requires (c.from-count.ensures ∙ c.low-2.ensures) c.in-Ok.ensures.told c.in-Some-wrote.is
-        (c.from.ensures ∙ at) c.low-in-Ok.ensures
+    (c.from.ensures ∙ at) c.low-in-Ok.ensures
 
 pub returns-in-Some-wrote : goal.returns-in-Some-wrote
 returns-in-Some-wrote g c =
     let at = named-number c.requires.goes c.low.ensures _ c.open_id.ensures.named _ c.in-Some.is in
     writes-done c.requires (c.from-count.ensures ∙ c.low-2.ensures) c.in-Ok.ensures.told c.in-Some-wrote.is
-        (c.from.ensures ∙ at) c.low-in-Ok.ensures c.set_offset.ensures c.is_sound-in-Ok.ensures.sound
-        (serves-disk c.in-Ok.ensures) c.write_answer.ensures
+    (c.from.ensures ∙ at) c.low-in-Ok.ensures c.set_offset.ensures c.is_sound-in-Ok.ensures.sound
+    (serves-disk c.in-Ok.ensures) c.write_answer.ensures

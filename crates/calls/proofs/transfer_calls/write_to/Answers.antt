@@ -13,7 +13,9 @@ returns-in-Ok-clause-tries g c =
     puts-all (rw c.in-Console.is at c.requires.goes) (c.from-count.ensures ∙ c.low.ensures) _ _ c.in-Ok.ensures.ok
 
 pub returns-in-Err-Writer-clause-tries : goal.returns-in-Err-Writer-clause-tries
-returns-in-Err-Writer-clause-tries g c =
-    (c.in-Err-Writer.ensures.cause,
-    puts-beginning (rw c.in-Console.is at c.requires.goes) (c.from-count.ensures ∙ c.low.ensures) _ _
-    c.in-Err-Writer.ensures.err, refl)
+returns-in-Err-Writer-clause-tries g c = (
+  c.in-Err-Writer.ensures.cause,
+  puts-beginning (rw c.in-Console.is at c.requires.goes) (c.from-count.ensures ∙ c.low.ensures) _ _
+      c.in-Err-Writer.ensures.err,
+  refl,
+)

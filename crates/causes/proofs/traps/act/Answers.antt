@@ -12,7 +12,7 @@ returns-in-Load g c =
     rw c.in-Load.is
     (c.load.ensures c.args.seen.now.registers c.args.seen.now.pc c.in-Load.rd
     ∙ ap (λ (a : ℕ). trap_of (load c.args.seen.now.registers c.args.seen.now.pc mem c.in-Load.op c.in-Load.rd a))
-        c.sum-in-Load.ensures)
+    c.sum-in-Load.ensures)
 
 pub returns-in-Store : goal.returns-in-Store
 unfolding act
@@ -22,4 +22,4 @@ returns-in-Store g c =
     rw c.in-Store.is
     (c.store.ensures c.args.seen.now.registers c.args.seen.now.pc value
     ∙ ap (λ (a : ℕ). trap_of (store c.args.seen.now.registers c.args.seen.now.pc mem c.in-Store.op a value))
-        c.sum-in-Store.ensures)
+    c.sum-in-Store.ensures)

@@ -10,14 +10,15 @@ pub loop-word-preserved : goal.loop-word-preserved
 loop-word-preserved c =
     let no : Bor (List ℕ) = record { ref_ptr = (0, 0); now = [] } in
     declares-more (new_app c.args.row.now.name.now) c.args.row.now.words.now c.loop-word.word-index
-        (record { name = no; given = given.Bare; help = no }) c.loop-word.command _ _ c.loop-word-test.true
-        c.loop-word.invariant
+    (record { name = no; given = given.Bare; help = no }) c.loop-word.command _ _ c.loop-word-test.true
+    c.loop-word.invariant
     c.in_ok-command.ensures c.arg.ensures.local c.arg.ensures.rule
 
 pub loop-word-init : goal.loop-word-init
-loop-word-init c = record
-    { shape = rw (c.after_help-command.ensures, c.about.ensures) c.new.ensures.app;
-    local = rw (c.after_help-command.ensures, c.about.ensures) c.new.ensures.local }
+loop-word-init c = record {
+  shape = rw (c.after_help-command.ensures, c.about.ensures) c.new.ensures.app;
+  local = rw (c.after_help-command.ensures, c.about.ensures) c.new.ensures.local;
+}
 
 pub returns : goal.returns
 returns c =

@@ -7,7 +7,7 @@ use Rattle.commandline.proofs.command_line.flag_found.Goals as goal
 pub returns-in-Some : goal.returns-in-Some
 returns-in-Some c =
     flag-given (codes "true") c.in-Some.word.now _ c.eq.result
-        (c.in-Some.ensures ∙ first_value-rows (found_of c.args.found.now) c.args.name.now) c.eq.ensures
+    (c.in-Some.ensures ∙ first_value-rows (found_of c.args.found.now) c.args.name.now) c.eq.ensures
 
 pub returns-in-None : goal.returns-in-None
 returns-in-None c = flag-missing (codes "true") _

@@ -10,4 +10,4 @@ returns-in-Some c =
     let simple : is_simple (app_of c.args.command.now) ≡ true = ap is_simple same ∙ refl in
     let found : HasMatchesOf (app_of c.args.command.now) words c.in_ok-matches.matches = c.in_ok-matches.ensures.ok.2 in
     subst (λ found. IsJob found c.in-Some.job) ((found simple).1 ∙ ap (λ app. subcommand_of app words) same)
-        c.in-Some.ensures
+    c.in-Some.ensures

@@ -8,8 +8,8 @@ pub loop-row-preserved : goal.loop-row-preserved
 loop-row-preserved c =
     let no : Bor (List ℕ) = record { ref_ptr = (0, 0); now = [] } in
     commands-more declared_top c.args.rows.now c.loop-row.row-index
-        (record { name = no; about = no; example = no; words = record { ref_ptr = (0, 0); now = [] } })
-        c.loop-row.command _ _ c.loop-row-test.true c.loop-row.invariant c.in-Ok.ensures
+    (record { name = no; about = no; example = no; words = record { ref_ptr = (0, 0); now = [] } })
+    c.loop-row.command _ _ c.loop-row-test.true c.loop-row.invariant c.in-Ok.ensures
     c.in-Ok-subcommand.ensures
 
 pub returns : goal.returns

@@ -12,9 +12,9 @@ pub returns-in_err-put-clause-err : goal.returns-in_err-put-clause-err
 returns-in_err-put-clause-err g c =
     let p = err_from_is_err_and c.from_residual.result c.from_residual.ensures.1 in
     rw (p.1) (begins_more _ _ _ _ _ (rub_outs (c.args.count - suc c.loop-done._done)) _ c.loop-done.invariant.printed
-        c.in_err-put.ensures.err
+    c.in_err-put.ensures.err
     (append_assoc (rub_outs c.loop-done._done) rub_out _
-        ∙ sym (rub_outs-split c.loop-done._done (c.args.count - suc c.loop-done._done) c.args.count (omega arith))))
+    ∙ sym (rub_outs-split c.loop-done._done (c.args.count - suc c.loop-done._done) c.args.count (omega arith))))
 
 pub loop-done-preserved : goal.loop-done-preserved
 loop-done-preserved g c = record {

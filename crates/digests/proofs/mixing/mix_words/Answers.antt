@@ -8,4 +8,4 @@ loop-k-init c = each-none (word_mixed c.args.bytes.now) c.args.digest
 pub loop-k-preserved : goal.loop-k-preserved
 loop-k-preserved c =
     each-next (word_mixed c.args.bytes.now) c.loop-k.k c.args.digest c.loop-k.digest c.mix-digest.result
-        c.loop-k.invariant (c.mix-digest.ensures ∙ ap (mix c.loop-k.digest) c.word.ensures)
+    c.loop-k.invariant (c.mix-digest.ensures ∙ ap (mix c.loop-k.digest) c.word.ensures)

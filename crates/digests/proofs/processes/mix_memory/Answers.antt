@@ -11,4 +11,4 @@ loop-n-preserved g c = each-next _ _ _ _ _ c.loop-n.invariant c.mix_page-digest.
 pub returns : goal.returns
 returns g c =
     memory-done (view_at c.args.spaces.now c.args.at) c.args.digest c.loop-n.digest c.loop-n.n c.pages-pages.result
-        c.pages-pages.ensures.count c.loop-n.invariant (omega (arith, c.loop-n-test.false, c.loop-n.auto.n-end))
+    c.pages-pages.ensures.count c.loop-n.invariant (omega (arith, c.loop-n-test.false, c.loop-n.auto.n-end))

@@ -14,6 +14,6 @@ size-requires g c = rw c.spaces-spaces.ensures
 pub returns-in-Some : goal.returns-in-Some
 returns-in-Some g c =
     place-done c.args.kernel.now c.args.at c.args.digest c.size.result c.mix_process.result c.mix_memory.result
-        c.in-Some.process
+    c.in-Some.process
     (sym c.in-Some.is ∙ c.whole.ensures.process) (rw c.spaces-spaces.ensures at c.size.ensures) c.mix_process.ensures
-        (rw c.spaces-spaces.ensures at c.mix_memory.ensures)
+    (rw c.spaces-spaces.ensures at c.mix_memory.ensures)

@@ -11,7 +11,9 @@ create-told-requires-clause-directory c = ap is_some c.requires.rules.root.here
 pub returns : goal.returns
 returns c =
     let up = sym c.is_lost.ensures ∙ c.if-is_lost.false in
-    let plain = subst (λ b. OnTrue b (All (λ b. b ≢ 0) c.args.path.now)) c.if-not-is_plain.false c.is_plain.ensures in
-    (c.create-told.ensures.failed
-        ∙ up, acts-keeps c.create-told.ensures up c.requires.rules
-        (λ x done. (created-changed c.requires.rules 1 c.args.path.now plain leaf.File _ done).tree))
+    let plain = subst (λ b. OnTrue b (All (λ b. b ≢ 0) c.args.path.now)) c.if-not-is_plain.false c.is_plain.ensures in (
+      c.create-told.ensures.failed
+          ∙ up,
+      acts-keeps c.create-told.ensures up c.requires.rules
+          (λ x done. (created-changed c.requires.rules 1 c.args.path.now plain leaf.File _ done).tree),
+    )

@@ -10,7 +10,9 @@ link-told-requires-clause-directory c = ap is_some c.requires.rules.root.here
 pub returns : goal.returns
 returns c =
     let up = sym c.is_lost.ensures ∙ c.if-is_lost.false in
-    let plain = subst (λ b. OnTrue b (All (λ b. b ≢ 0) c.args.new.now)) c.if-not-is_plain.false c.is_plain.ensures in
-    (c.link-told.ensures.failed
-        ∙ up, acts-keeps c.link-told.ensures up c.requires.rules
-        (λ x done. (linked-changed c.requires.rules 1 c.args.new.now plain c.args.old.now _ done).tree))
+    let plain = subst (λ b. OnTrue b (All (λ b. b ≢ 0) c.args.new.now)) c.if-not-is_plain.false c.is_plain.ensures in (
+      c.link-told.ensures.failed
+          ∙ up,
+      acts-keeps c.link-told.ensures up c.requires.rules
+          (λ x done. (linked-changed c.requires.rules 1 c.args.new.now plain c.args.old.now _ done).tree),
+    )

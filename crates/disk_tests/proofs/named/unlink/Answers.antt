@@ -8,7 +8,9 @@ unlink-told-requires-clause-directory c = ap is_some c.requires.rules.root.here
 
 pub returns : goal.returns
 returns c =
-    let up = sym c.is_lost.ensures ∙ c.if-is_lost.false in
-    (c.unlink-told.ensures.failed
-        ∙ up, acts-keeps c.unlink-told.ensures up c.requires.rules
-        (λ x done. (unlinked-reaps c.requires.rules _ 1 c.args.path.now _ done).tree))
+    let up = sym c.is_lost.ensures ∙ c.if-is_lost.false in (
+      c.unlink-told.ensures.failed
+          ∙ up,
+      acts-keeps c.unlink-told.ensures up c.requires.rules
+          (λ x done. (unlinked-reaps c.requires.rules _ 1 c.args.path.now _ done).tree),
+    )

@@ -9,6 +9,6 @@ pub returns : goal.returns
 returns g c =
     let disk = c.fail_after.result in
     let mounted = subst (λ r. IfOk r
-            (IsMounted (flat_map (λ b. b) (blocks_of disk.device.bytes)) (length disk.device.bytes ∷ [])
-            (count_of disk.left 0))) c.expect.ensures c.mount.ensures.mounted in
+    (IsMounted (flat_map (λ b. b) (blocks_of disk.device.bytes)) (length disk.device.bytes ∷ [])
+    (count_of disk.left 0))) c.expect.ensures c.mount.ensures.mounted in
     record { up = mounted.up; rules = mounted.rules }

@@ -15,11 +15,11 @@ returns-in_err-got-clause-failed g c =
 pub returns-clause-serves : goal.returns-clause-serves
 returns-clause-serves g c =
     subst (λ n. Serves c.args.tree.now c.read_piece.new.tree (Ok c.in_ok-got.got)
-        (IsRead c.args.tree.now c.read_piece.new.tree c.args.number c.args.offset n)) (front-long c.if-count.false)
-        c.in_ok-got.ensures.serves
+    (IsRead c.args.tree.now c.read_piece.new.tree c.args.number c.args.offset n)) (front-long c.if-count.false)
+    c.in_ok-got.ensures.serves
 
 pub returns-clause-written : goal.returns-clause-written
 returns-clause-written g c =
     subst (λ n. c.read_piece.new.spaces
-        ≡ with_read c.args.spaces.now c.args.at c.args.address c.args.tree.now.files c.args.number c.args.offset n)
-        (front-long c.if-count.false) c.in_ok-got.ensures.written
+    ≡ with_read c.args.spaces.now c.args.at c.args.address c.args.tree.now.files c.args.number c.args.offset n)
+    (front-long c.if-count.false) c.in_ok-got.ensures.written

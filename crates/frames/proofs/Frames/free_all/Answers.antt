@@ -7,22 +7,26 @@ use Rattle.frames.proofs.Frames.free_all.Goals as goal
 pub loop-i-init : goal.loop-i-init
 loop-i-init c =
     let none = free_of-none c.args.ram.now
-            (record { first = record { 0 = 0 }; count = 0; holders = c.args.holders; shared = 0 }) refl in
-    record { count = refl; valid = IsFreeList-none c.args.ram.now _ none c.requires refl; all = none;
-        alone = λ f. further-none _ (length c.args.ram.now) f c.requires }
+    (record { first = record { 0 = 0 }; count = 0; holders = c.args.holders; shared = 0 }) refl in
+    record {
+      count = refl;
+      valid = IsFreeList-none c.args.ram.now _ none c.requires refl;
+      all = none;
+      alone = λ f. further-none _ (length c.args.ram.now) f c.requires;
+    }
 
 pub give-requires-clause-held : goal.give-requires-clause-held
 give-requires-clause-held c =
     rw c.loop-i.invariant.all
     (among-range_below (c.frame_count-count.result - 1 - c.loop-i.i) (length c.args.ram.now - c.loop-i.i) c.loop-i.i
-        (omega (arith, c.frame_count-count.ensures.count)))
+    (omega (arith, c.frame_count-count.ensures.count)))
 
 pub loop-i-preserved : goal.loop-i-preserved
 loop-i-preserved c =
     let first : c.frame_count-count.result - 1 - c.loop-i.i ≡ length c.args.ram.now - (c.loop-i.i + 1) =
-            omega (arith, c.frame_count-count.ensures.count) in
+    omega (arith, c.frame_count-count.ensures.count) in
     let rest : length c.args.ram.now - (c.loop-i.i + 1) + 1 ≡ length c.args.ram.now - c.loop-i.i =
-            omega (arith, c.frame_count-count.ensures.count) in
+    omega (arith, c.frame_count-count.ensures.count) in
     let last = c.give.ensures.last (c.loop-i.invariant.alone (c.frame_count-count.result - 1 - c.loop-i.i)) in
     record {
       count = c.give.ensures.others.count ∙ c.loop-i.invariant.count;

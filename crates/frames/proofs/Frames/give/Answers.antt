@@ -6,8 +6,11 @@ use Rattle.frames.proofs.Frames.give.Goals as goal
 use Rattle.frames.proofs.Frames.give.Goals.{After-index}
 
 further : (c : After-index) → further_at c.args.self.now c.args.frame.0 ≡ c.index.result.now - 1
-further c = omega (arith, further-is c.args.self.now c.args.frame.0,
-    count-read c.requires.valid c.args.frame.0 c.index.result.now c.requires.inside c.index.ensures)
+further c = omega (
+  arith,
+  further-is c.args.self.now c.args.frame.0,
+  count-read c.requires.valid c.args.frame.0 c.index.result.now c.requires.inside c.index.ensures,
+)
 
 pub unshare-requires-clause-shared : goal.unshare-requires-clause-shared
 unshare-requires-clause-shared c =
@@ -19,8 +22,12 @@ push-requires-clause-last c =
 
 pub returns-then-index-gt1-clause-last : goal.returns-then-index-gt1-clause-last
 returns-then-index-gt1-clause-last c =
-    λ z. absurd (omega (arith, z, further (goal.at.returns-then-index-gt1-clause-last c).After-index,
-    c.if-index-gt1.true))
+    λ z. absurd (omega (
+      arith,
+      z,
+      further (goal.at.returns-then-index-gt1-clause-last c).After-index,
+      c.if-index-gt1.true,
+    ))
 
 pub returns-else-index-gt1 : goal.returns-else-index-gt1
 returns-else-index-gt1 c =

@@ -7,9 +7,11 @@ use Rattle.frames.proofs.Frames.share.Goals as goal
 use Rattle.frames.proofs.Frames.share.Goals.{After-index_mut}
 
 pub index_mut-requires : goal.index_mut-requires
-index_mut-requires c = omega
-    (arith, c.requires.valid.size,
-    (held-inside c.args.ram.now c.args.self.now c.args.frame.0 c.requires.valid c.requires.held).0)
+index_mut-requires c = omega (
+  arith,
+  c.requires.valid.size,
+  (held-inside c.args.ram.now c.args.self.now c.args.frame.0 c.requires.valid c.requires.held).0,
+)
 
 -- the count that was read
 read : (c : After-index_mut)
@@ -24,8 +26,15 @@ overflow_add-index_mut c =
     let s = c.args.self.now in
     let is = c.requires.valid in
     let was = read (goal.at.overflow_add-index_mut c).After-index_mut in
-    omega (arith, was.1, further-le is c.args.frame.0 was.0, is.room, length-free_of m s, count-le is,
-        c.frames_are_whole.ensures.small)
+    omega (
+      arith,
+      was.1,
+      further-le is c.args.frame.0 was.0,
+      is.room,
+      length-free_of m s,
+      count-le is,
+      c.frames_are_whole.ensures.small,
+    )
 
 pub overflow_add-self : goal.overflow_add-self
 overflow_add-self c =
@@ -52,8 +61,8 @@ returns-clause-valid c =
     let was = read (goal.at.returns-clause-valid c).After-index_mut in
     let room = none-free is (λ e. c.if-free-eq0.false (sym (c.free.ensures m) ∙ e)) in
     IsFreeList-count m s _ f (c.index_mut.result.now + 1) is was.0
-        (omega (arith, holders-counted is f was.0, c.requires.held)) (omega arith) (returns-clause-list c) refl
-        (omega (arith, was.1)) (omega (arith, room))
+    (omega (arith, holders-counted is f was.0, c.requires.held)) (omega arith) (returns-clause-list c) refl
+    (omega (arith, was.1)) (omega (arith, room))
 
 pub returns-clause-done : goal.returns-clause-done
 returns-clause-done c =
@@ -63,4 +72,4 @@ returns-clause-done c =
     let is = c.requires.valid in
     let was = read (goal.at.returns-clause-done c).After-index_mut in
     holders-more is (returns-clause-valid c) f (c.index_mut.result.now + 1) (returns-clause-list c) was.0
-        (omega (arith, holders-counted is f was.0, c.requires.held)) refl (omega (arith, was.1))
+    (omega (arith, holders-counted is f was.0, c.requires.held)) refl (omega (arith, was.1))

@@ -12,6 +12,9 @@ unshare-requires-clause-shared c =
 
 pub returns-clause-holders : goal.returns-clause-holders
 returns-clause-holders c = λ f.
-    omega (arith, c.unshare.ensures.holders f,
-        holders-table c.unshare.ensures.valid c.pop.ensures.valid refl c.pop.ensures.extra f,
-        ap (count_of f) c.pop.ensures.some)
+    omega (
+      arith,
+      c.unshare.ensures.holders f,
+      holders-table c.unshare.ensures.valid c.pop.ensures.valid refl c.pop.ensures.extra f,
+      ap (count_of f) c.pop.ensures.some,
+    )

@@ -16,9 +16,12 @@ read : (c : After-index_mut)
     × (1 < c.index_mut.result.now) × (0 < c.args.self.now.shared)
 read c =
     let inside = (further-held c.requires.valid c.args.frame.0 c.requires.shared).1 in
-    let same = count-read c.requires.valid c.args.frame.0 c.index_mut.result.now inside c.index_mut.ensures.value in
-    (inside, same, omega (arith, same, further-is c.args.self.now c.args.frame.0, c.requires.shared),
-        shared-some c.requires.valid c.args.frame.0 c.requires.shared)
+    let same = count-read c.requires.valid c.args.frame.0 c.index_mut.result.now inside c.index_mut.ensures.value in (
+      inside,
+      same,
+      omega (arith, same, further-is c.args.self.now c.args.frame.0, c.requires.shared),
+      shared-some c.requires.valid c.args.frame.0 c.requires.shared,
+    )
 
 pub overflow_sub-index_mut : goal.overflow_sub-index_mut
 overflow_sub-index_mut c = omega (arith, (read (goal.at.overflow_sub-index_mut c).After-index_mut).2)
@@ -34,7 +37,7 @@ pub returns-clause-valid : goal.returns-clause-valid
 returns-clause-valid c =
     let was = read (goal.at.returns-clause-valid c).After-index_mut in
     IsFreeList-count c.args.ram.now c.args.self.now _ c.args.frame.0 (c.index_mut.result.now - 1) c.requires.valid
-        was.0 (omega (arith, was.1, was.2)) (omega (arith, was.2)) (returns-clause-list c) refl
+    was.0 (omega (arith, was.1, was.2)) (omega (arith, was.2)) (returns-clause-list c) refl
     (omega (arith, was.1, was.2, was.3)) (omega (arith, c.requires.valid.room))
 
 pub returns-clause-more : goal.returns-clause-more
@@ -45,4 +48,4 @@ pub returns-clause-holders : goal.returns-clause-holders
 returns-clause-holders c =
     let was = read (goal.at.returns-clause-holders c).After-index_mut in
     holders-fewer c.requires.valid (returns-clause-valid c) c.args.frame.0 (c.index_mut.result.now - 1)
-        (returns-clause-list c) was.0 refl (omega (arith, was.1, was.2)) (omega (arith, was.2))
+    (returns-clause-list c) was.0 refl (omega (arith, was.1, was.2)) (omega (arith, was.2))

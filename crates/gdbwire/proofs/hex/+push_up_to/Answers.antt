@@ -15,6 +15,10 @@ returns-then-number-lt16 t c =
 pub returns : goal.returns
 returns t c =
     let all = append_assoc c.args.out.now.items (hex_up_to (c.args.most - 1) (c.args.number / 16))
-            (hex_digit (c.args.number % 16) ∷ []) in
-    rw (long c.args.most c.args.number c.if-most-eq0.false c.if-number-lt16.false, ← all, ← c.in_ok-push_up_to.ensures,
-        ← c.digit-2.ensures) (when-ok c.extend_from_slice-2.result _ _ c.extend_from_slice-2.ensures.items)
+    (hex_digit (c.args.number % 16) ∷ []) in
+    rw (
+      long c.args.most c.args.number c.if-most-eq0.false c.if-number-lt16.false,
+      ← all,
+      ← c.in_ok-push_up_to.ensures,
+      ← c.digit-2.ensures,
+    ) (when-ok c.extend_from_slice-2.result _ _ c.extend_from_slice-2.ensures.items)

@@ -13,8 +13,8 @@ returns-in_default c =
     let less = c.loop-at-test.true in
     let other = c.if-at-digits.false in
     c.loop-at.invariant.rest
-        ∙ ap (option_map (λ bytes. c.loop-at.out.items ++ bytes))
-        (bytes-none c.args.digits.now c.loop-at.at (omega (arith, less, other)) (sym c.in_default.ensures))
+    ∙ ap (option_map (λ bytes. c.loop-at.out.items ++ bytes))
+    (bytes-none c.args.digits.now c.loop-at.at (omega (arith, less, other)) (sym c.in_default.ensures))
 
 pub loop-at-preserved : goal.loop-at-preserved
 loop-at-preserved c =
@@ -24,10 +24,10 @@ loop-at-preserved c =
       within = omega (arith, less, other);
       rest =
           c.loop-at.invariant.rest
-              ∙ bytes-more c.loop-at.out.items c.args.digits.now c.loop-at.at c.in-Some.byte
-              (omega (arith, less, other)) (sym c.in-Some.ensures)
+          ∙ bytes-more c.loop-at.out.items c.args.digits.now c.loop-at.at c.in-Some.byte
+          (omega (arith, less, other)) (sym c.in-Some.ensures)
           ∙ ap (λ items. option_map (λ bytes. items ++ bytes) (bytes_of (drop (c.loop-at.at + 2) c.args.digits.now)))
-              (sym c.in_ok-extend_from_slice.ensures.items);
+          (sym c.in_ok-extend_from_slice.ensures.items);
     }
 
 pub returns : goal.returns

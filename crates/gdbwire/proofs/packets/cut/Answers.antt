@@ -11,9 +11,11 @@ loop-index-preserved c = let next =
 
 pub returns-then-byte-at : goal.returns-then-byte-at
 returns-then-byte-at c =
-    rw (take_rest c.args.text.now (c.loop-index.index + 1),
-        found c.args.at c.args.text.now c.loop-index.index c.loop-index-test.true (eq-eqb _ _ c.if-byte-at.true)
-        c.loop-index.invariant) refl
+    rw (
+      take_rest c.args.text.now (c.loop-index.index + 1),
+      found c.args.at c.args.text.now c.loop-index.index c.loop-index-test.true (eq-eqb _ _ c.if-byte-at.true)
+          c.loop-index.invariant,
+    ) refl
 
 pub returns : goal.returns
 returns c = rw (missing c.args.at c.args.text.now c.loop-index.index c.loop-index-test.false c.loop-index.invariant)

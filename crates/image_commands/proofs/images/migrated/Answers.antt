@@ -36,10 +36,10 @@ returns-in_err-summary c =
     let r = c.from_residual-in_err-summary.result in
     let fault = c.in_err-summary.field-0.0 in
     let only = only-memory fault
-            (λ own. c.in_err-summary.ensures.refused own source.0 (subst (λ b. Denotes b source.0) (sym same) denotes))
+    (λ own. c.in_err-summary.ensures.refused own source.0 (subst (λ b. Denotes b source.0) (sym same) denotes))
     (λ device. let rises = c.in_err-summary.ensures.failed (ap Err device) in absurd (omega arith)) in
     let told = told_fault r (image_fault fault) c.from_residual-in_err-summary.ensures.1
-            ∙ ap (λ f. Err (image_fault f)) only in
+    ∙ ap (λ f. Err (image_fault f)) only in
     record {
       image = IfOk-from_err r _ c.from_residual-in_err-summary.ensures.0;
       source = IfOk-from_err r _ c.from_residual-in_err-summary.ensures.0;
@@ -58,7 +58,7 @@ returns c =
     let whole : length new % 1024 ≡ 0 = omega arith in
     let same = disk-bytes new c.in-Ok.disk.bytes whole c.in-Ok.ensures.bytes in
     let kept = kept-bytes c.in-Ok.disk.bytes c.check.new.device.bytes made c.in_ok-summary.ensures.same
-            c.into_bytes.ensures.bytes (omega (arith, c.into_bytes.ensures.whole, c.into_bytes.result.ok.0)) in
+    c.into_bytes.ensures.bytes (omega (arith, c.into_bytes.ensures.whole, c.into_bytes.result.ok.0)) in
     record {
       image = λ files e. subst (λ b. Denotes b files) (sym (kept ∙ same)) (c.in_ok-new.ensures.migrated files e);
       source = source;

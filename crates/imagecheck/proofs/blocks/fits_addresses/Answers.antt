@@ -17,8 +17,14 @@ within c = rw (c.there-k-end.ensures, c.format_of-format.ensures, c.block_count-
 -- what the test tells of it
 fits-is : (c : After-fits) → IsTrue c.fits.result ↔ FitsSlot c.args.image.now c.args.n c.loop-k.k
 fits-is c =
-    rw (c.fits.ensures, c.number-block.ensures, c.slot_at.ensures, c.index_blocks.ensures.told,
-        c.format_of-format.ensures, c.block_count-count.ensures.count)
+    rw (
+      c.fits.ensures,
+      c.number-block.ensures,
+      c.slot_at.ensures,
+      c.index_blocks.ensures.told,
+      c.format_of-format.ensures,
+      c.block_count-count.ensures.count,
+    )
     (FitsSlot-is c.args.image.now c.args.n (small ((goal.at.After-fits c).At-loop-k)) c.requires.geometry c.loop-k.k)
 
 pub number-block-requires-clause-found : goal.number-block-requires-clause-found
@@ -26,7 +32,7 @@ number-block-requires-clause-found c =
     let at = goal.at.number-block-requires-clause-found c in
     rw (c.slot_at.ensures, c.format_of-format.ensures, c.block_count-count.ensures.count)
     (IsFound-next c.args.image.now c.args.n (small at.At-loop-k) (super-is c.requires.geometry) c.loop-k.k
-        c.loop-k.invariant (within at.After-slot_at))
+    c.loop-k.invariant (within at.After-slot_at))
 
 pub fits-requires : goal.fits-requires
 fits-requires c = record { inodes = inodes-most c.requires.geometry; size = size-most c.requires.geometry }
@@ -35,7 +41,7 @@ pub returns-then-not-fits : goal.returns-then-not-fits
 returns-then-not-fits c =
     let at = goal.at.returns-then-not-fits c in
     refused c.if-not-fits.true (fits-is at.After-fits)
-        (λ h. FitsSlot-at c.args.image.now c.args.n (small at.At-loop-k) h c.loop-k.k (within at.After-slot_at))
+    (λ h. FitsSlot-at c.args.image.now c.args.n (small at.At-loop-k) h c.loop-k.k (within at.After-slot_at))
 
 pub loop-k-preserved : goal.loop-k-preserved
 loop-k-preserved c = below_more (FitsSlot c.args.image.now c.args.n) c.loop-k.k c.loop-k.invariant
@@ -44,6 +50,6 @@ loop-k-preserved c = below_more (FitsSlot c.args.image.now c.args.n) c.loop-k.k 
 pub returns : goal.returns
 returns c =
     let past = rw (c.there-k-end.ensures, c.format_of-format.ensures, c.block_count-count.ensures.count)
-            at c.loop-k-test.false in
+    at c.loop-k-test.false in
     told (FitsAddresses-from c.args.image.now c.args.n (small (goal.at.returns c).At-loop-k)
-        (λ k l. c.loop-k.invariant k (omega arith)))
+    (λ k l. c.loop-k.invariant k (omega arith)))

@@ -9,8 +9,11 @@ inode_place-requires c = let h =
 pub number32-requires : goal.number32-requires
 number32-requires c =
     let h = c.requires.directory.high in
-    omega (arith, (HasPlace-at c.requires.geometry c.args.n (omega (arith, c.requires.geometry.inodes))).inside,
-        c.inode_place.ensures)
+    omega (
+      arith,
+      (HasPlace-at c.requires.geometry c.args.n (omega (arith, c.requires.geometry.inodes))).inside,
+      c.inode_place.ensures,
+    )
 
 pub returns-clause-place : goal.returns-clause-place
 returns-clause-place c = rw (c.number32.ensures, c.inode_place.ensures) refl

@@ -24,5 +24,5 @@ returns g c =
     ∙ ap (λ m. take m c.copy_blocks.new.bytes.items) c.size.ensures
     ∙ ap (take (length_in c.args.image.now c.args.n))
     (c.in_ok-copy_blocks.ensures
-        ∙ ap (λ xs. xs ++ flat_map (block_at c.args.image.now) (data_blocks c.args.image.now c.args.n))
-        c.clear.ensures.items)
+    ∙ ap (λ xs. xs ++ flat_map (block_at c.args.image.now) (data_blocks c.args.image.now c.args.n))
+    c.clear.ensures.items)

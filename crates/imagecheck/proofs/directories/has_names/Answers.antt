@@ -14,5 +14,5 @@ returns c =
       good = c.are_good.ensures.0 c.if-not-are_good.false;
       once = names-from_numbers _ (subst (AllPairs (λ a b. a ≢ b)) c.requires.names pairs);
     }) (λ h. subst (AllPairs (λ a b. a ≢ b)) (sym c.requires.names)
-        (numbers-from_names _ (all-trimmed bytes fits) h.once))
+    (numbers-from_names _ (all-trimmed bytes fits) h.once))
     c.are_distinct.ensures

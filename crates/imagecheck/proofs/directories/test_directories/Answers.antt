@@ -14,8 +14,11 @@ is_directory-requires g c = HasPlace-at c.requires.geometry c.loop-n.n c.loop-n-
 pub loop-n-init : goal.loop-n-init
 loop-n-init g c =
     let least = inodes-least c.requires.geometry in
-    record { named = λ m low high. absurd (omega arith); collected = c.requires.fresh
-        ∙ sym (namings_to-first c.args.image.now (omega (arith, c.requires.geometry.inodes))) }
+    record {
+      named = λ m low high. absurd (omega arith);
+      collected = c.requires.fresh
+          ∙ sym (namings_to-first c.args.image.now (omega (arith, c.requires.geometry.inodes)));
+    }
 
 pub loop-n-preserved : goal.loop-n-preserved
 loop-n-preserved g c =
@@ -23,20 +26,28 @@ loop-n-preserved g c =
     let n = c.loop-n.n in
     let inv = c.loop-n.invariant in
     let named = λ (here : kind_in image n ≡ 1 → HasNames image (contents_in image n)). up_to_more
-            (λ m. kind_in image m ≡ 1 → HasNames image (contents_in image m)) n inv.named here in
+    (λ m. kind_in image m ≡ 1 → HasNames image (contents_in image m)) n inv.named here in
     elim c.if-is_directory.branch [
       | then-is_directory+in_ok-test_directory w ↦
           let directory = slot-directory image n (omega arith)
-                  (omega (arith, c.requires.geometry.inodes, c.loop-n-test.true))
-                  (c.is_directory.ensures.0 w.if-is_directory.true) in
-          record { named = named (λ e. w.in_ok-test_directory.ensures.judged);
-              collected = rw (w.namings-is, namings_to-more image n, directory, ← inv.collected)
-              w.in_ok-test_directory.ensures.namings }
+          (omega (arith, c.requires.geometry.inodes, c.loop-n-test.true))
+          (c.is_directory.ensures.0 w.if-is_directory.true) in
+          record {
+            named = named (λ e. w.in_ok-test_directory.ensures.judged);
+            collected = rw (w.namings-is, namings_to-more image n, directory, ← inv.collected)
+                w.in_ok-test_directory.ensures.namings;
+          }
       | else-is_directory w ↦
           let other = iff_false c.is_directory.ensures w.if-is_directory.false in
-          record { named = named (λ e. absurd (other e));
-              collected = rw (w.namings-is, namings_to-more image n, entries-other image c.requires.blocks n other,
-              append-nil) inv.collected }
+          record {
+            named = named (λ e. absurd (other e));
+            collected = rw (
+              w.namings-is,
+              namings_to-more image n,
+              entries-other image c.requires.blocks n other,
+              append-nil,
+            ) inv.collected;
+          }
     ]
 
 pub returns-clause-judged : goal.returns-clause-judged
@@ -47,6 +58,10 @@ returns-clause-judged g c =
 pub returns-clause-namings : goal.returns-clause-namings
 returns-clause-namings g c =
     let end : c.loop-n.n ≡ inodes_in c.args.image.now =
-            omega (arith, c.requires.geometry.inodes,
-            c.loop-n.auto.n-end (omega (arith, inodes-least c.requires.geometry)), c.loop-n-test.false) in
+    omega (
+      arith,
+      c.requires.geometry.inodes,
+      c.loop-n.auto.n-end (omega (arith, inodes-least c.requires.geometry)),
+      c.loop-n-test.false,
+    ) in
     c.loop-n.invariant.collected ∙ ap (namings_to c.args.image.now) end ∙ namings_to-all c.args.image.now

@@ -8,7 +8,7 @@ test_names-requires-clause-bytes g c = c.deref.ensures.value ∙ c.in_ok-read_di
 pub test_names-requires-clause-names : goal.test_names-requires-clause-names
 test_names-requires-clause-names g c =
     c.deref_mut.ensures.value ∙ c.in_ok-read_directory.ensures.names
-        ∙ ap (λ bs. name_numbers (entries_in bs)) (sym (c.deref.ensures.value ∙ c.in_ok-read_directory.ensures.bytes))
+    ∙ ap (λ bs. name_numbers (entries_in bs)) (sym (c.deref.ensures.value ∙ c.in_ok-read_directory.ensures.bytes))
 
 pub overflow_cast-n : goal.overflow_cast-n
 overflow_cast-n g c = omega (arith, inodes-most c.requires.geometry, c.requires.high)
@@ -16,4 +16,4 @@ overflow_cast-n g c = omega (arith, inodes-most c.requires.geometry, c.requires.
 pub add_entries-requires : goal.add_entries-requires
 add_entries-requires g c =
     least-in c.requires.geometry c.requires.blocks _ c.requires.low c.requires.high c.requires.directory
-        c.deref-2.result.now (c.deref-2.ensures.value ∙ c.in_ok-read_directory.ensures.bytes)
+    c.deref-2.result.now (c.deref-2.ensures.value ∙ c.in_ok-read_directory.ensures.bytes)

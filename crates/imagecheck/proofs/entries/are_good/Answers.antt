@@ -10,7 +10,7 @@ returns-then-not-is_good c = refused c.if-not-is_good.true c.is_good.ensures (λ
 pub loop-k-preserved : goal.loop-k-preserved
 loop-k-preserved c =
     below_more (λ k. 2 ≤ k → GoodPlace c.args.image.now (place_of_bytes (take 16 (drop (16 * k) c.args.bytes.now))))
-        c.loop-k.k c.loop-k.invariant
+    c.loop-k.k c.loop-k.invariant
     (λ low. rw c.place_at.ensures.place at (c.is_good.ensures.0 c.if-not-is_good.false))
 
 pub returns : goal.returns

@@ -13,7 +13,7 @@ returns-then-not-is_used c =
     let image = c.args.image.now in
     let taken = place-taken c.args.place.now (sym c.is_free.ensures ∙ c.if-is_free.false) in
     never (λ h. false≢true (sym c.if-not-is_used.true ∙ c.is_used.ensures
-        ∙ ap (λ n. is_some (slot (files_in image) n)) c.number_in.ensures ∙ (subst (GoodPlace image) taken h).number))
+    ∙ ap (λ n. is_some (slot (files_in image) n)) c.number_in.ensures ∙ (subst (GoodPlace image) taken h).number))
 
 pub returns : goal.returns
 returns c =

@@ -4,5 +4,5 @@ use Rattle.imagecheck.proofs.fields.number16.Goals as goal
 pub returns : goal.returns
 returns c =
     c.read_u16.ensures ∙ ap (little_number 2)
-        (between_to_end c.args.image.now c.args.at (length c.args.image.now) (omega arith))
+    (between_to_end c.args.image.now c.args.at (length c.args.image.now) (omega arith))
     ∙ number_at-drop 2 c.args.at c.args.image.now c.requires

@@ -9,7 +9,7 @@ returns-in_err-parents g c = rw (err-told c.from_residual.ensures.1) tt
 pub find_parents-requires : goal.find_parents-requires
 find_parents-requires g c =
     let long : length c.deref_mut.result.now ≡ c.args.geometry.inodes = c.deref_mut.ensures.len
-            ∙ c.in_ok-parents.ensures.len in
+    ∙ c.in_ok-parents.ensures.len in
     let least = inodes-least c.requires.listed.geometry in
     record {
       root = omega arith;
@@ -22,6 +22,8 @@ find_parents-requires g c =
 pub test_entries-requires-clause-parents : goal.test_entries-requires-clause-parents
 test_entries-requires-clause-parents g c =
     let parents = c.find_parents.new.parents in
-    rw (c.deref.ensures.value,
-        take_at parents _ c.in_ok-parents.parents.len (c.find_parents.ensures.long ∙ c.deref_mut.ensures.len))
-        (HasParents-from c.requires.listed parents c.find_parents.ensures.found)
+    rw (
+      c.deref.ensures.value,
+      take_at parents _ c.in_ok-parents.parents.len (c.find_parents.ensures.long ∙ c.deref_mut.ensures.len),
+    )
+    (HasParents-from c.requires.listed parents c.find_parents.ensures.found)

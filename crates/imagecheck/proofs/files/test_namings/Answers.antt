@@ -12,13 +12,17 @@ count_names-requires g c = record {
 pub test_fronts-requires-clause-counts : goal.test_fronts-requires-clause-counts
 test_fronts-requires-clause-counts g c =
     let counts = c.count_names.new.counts in
-    rw (c.deref.ensures.value,
-        take_at counts _ c.in_ok-counts.counts.len (c.count_names.ensures.long ∙ c.deref_mut.ensures.len))
-        (TellsNames-from c.requires counts c.count_names.ensures.counted)
+    rw (
+      c.deref.ensures.value,
+      take_at counts _ c.in_ok-counts.counts.len (c.count_names.ensures.long ∙ c.deref_mut.ensures.len),
+    )
+    (TellsNames-from c.requires counts c.count_names.ensures.counted)
 
 pub test_subdirectories-requires-clause-counts : goal.test_subdirectories-requires-clause-counts
 test_subdirectories-requires-clause-counts g c =
     let counts = c.count_names.new.counts in
-    rw (c.deref-2.ensures.value,
-        take_at counts _ c.in_ok-counts.counts.len (c.count_names.ensures.long ∙ c.deref_mut.ensures.len))
-        (TellsNames-from c.requires counts c.count_names.ensures.counted)
+    rw (
+      c.deref-2.ensures.value,
+      take_at counts _ c.in_ok-counts.counts.len (c.count_names.ensures.long ∙ c.deref_mut.ensures.len),
+    )
+    (TellsNames-from c.requires counts c.count_names.ensures.counted)

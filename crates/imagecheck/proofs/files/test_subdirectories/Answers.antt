@@ -18,8 +18,10 @@ count_subdirectories-requires g c = record {
 pub test_links-requires-clause-subdirectories : goal.test_links-requires-clause-subdirectories
 test_links-requires-clause-subdirectories g c =
     let counts = c.count_subdirectories.new.counts in
-    rw (c.deref.ensures.value,
-        take_at counts _ c.in_ok-subdirectories.subdirectories.len
-        (c.count_subdirectories.ensures.long ∙ sym c.in_ok-subdirectories.ensures.len))
+    rw (
+      c.deref.ensures.value,
+      take_at counts _ c.in_ok-subdirectories.subdirectories.len
+          (c.count_subdirectories.ensures.long ∙ sym c.in_ok-subdirectories.ensures.len),
+    )
     (TellsSubdirectories-from c.requires.listed counts c.count_subdirectories.ensures.long
-        c.count_subdirectories.ensures.counted)
+    c.count_subdirectories.ensures.counted)

@@ -13,9 +13,9 @@ pub returns-then-not-fits_names : goal.returns-then-not-fits_names
 returns-then-not-fits_names c =
     let within : c.loop-n.n < length c.args.counts.now = omega (arith, c.requires.long, c.loop-n-test.true) in
     refused c.if-not-fits_names.true c.fits_names.ensures
-        (λ h. rw (c.requires.counts c.loop-n.n within)
-        (h c.loop-n.n (omega arith) (omega (arith, c.requires.geometry.inodes, c.loop-n-test.true))
-        (c.is_directory.ensures.0 c.if-is_directory.true)))
+    (λ h. rw (c.requires.counts c.loop-n.n within)
+    (h c.loop-n.n (omega arith) (omega (arith, c.requires.geometry.inodes, c.loop-n-test.true))
+    (c.is_directory.ensures.0 c.if-is_directory.true)))
 
 pub loop-n-preserved : goal.loop-n-preserved
 loop-n-preserved c =

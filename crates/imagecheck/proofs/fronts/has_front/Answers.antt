@@ -15,9 +15,9 @@ returns c =
     let least = directory-least image _ d.low d.high d.kind blocks in
     let inside = c.front_place-at.ensures.inside in
     let long : length front ≡ 32 = length-take-le (at + 32 - at) (drop at image) (omega (arith, length-drop at image))
-            ∙ omega arith in
+    ∙ omega arith in
     let same : take 32 front ≡ take 32 contents =
-            rw (contents-front image blocks c.args.n d, ← c.front_place-at.ensures.place)
-            (take_all 32 front (omega arith)) in
+    rw (contents-front image blocks c.args.n d, ← c.front_place-at.ensures.place)
+    (take_all 32 front (omega arith)) in
     Decides-like _ (FitsFront-same _ _ front _ (omega arith) least same)
-        (FitsFront-same _ _ _ front least (omega arith) (sym same)) c.fits_front.ensures
+    (FitsFront-same _ _ _ front least (omega arith) (sym same)) c.fits_front.ensures

@@ -19,5 +19,8 @@ loop-n-preserved c = up_to_more (λ m. kind_in c.args.image.now m ≤ 3) c.loop-
 
 pub returns : goal.returns
 returns c = Decides-like _
-    (λ root. record { known = λ n low high. c.loop-n.invariant n low
-    (omega (arith, c.requires.inodes, c.loop-n-test.false)); root = root }) (λ h. h.root) c.is_directory.ensures
+    (λ root. record {
+      known = λ n low high. c.loop-n.invariant n low
+          (omega (arith, c.requires.inodes, c.loop-n-test.false));
+      root = root;
+    }) (λ h. h.root) c.is_directory.ensures

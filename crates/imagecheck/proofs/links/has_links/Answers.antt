@@ -11,13 +11,18 @@ fits-is : (c : After-fits_links) → IsTrue c.fits_links.result ↔ LinksFit c.a
 fits-is c =
     let in_names : c.loop-n.n < length c.args.names.now = omega (arith, c.requires.names_long, c.loop-n-test.true) in
     let in_subdirectories : c.loop-n.n < length c.args.subdirectories.now =
-            omega (arith, c.requires.subdirectories_long, c.loop-n-test.true) in
+    omega (arith, c.requires.subdirectories_long, c.loop-n-test.true) in
     let known = number-read (kind_in c.args.image.now c.loop-n.n) (major_in c.args.image.now c.loop-n.n)
-            (minor_in c.args.image.now c.loop-n.n)
-            ((HasBlocks-of c.args.image.now c.requires.blocks).inodes.kinds.known c.loop-n.n (omega arith)
-            (omega (arith, c.requires.geometry.inodes, c.loop-n-test.true))) in
-    rw (c.kind.ensures, known, c.links-told.ensures, c.requires.names c.loop-n.n in_names,
-        c.requires.subdirectories c.loop-n.n in_subdirectories) at c.fits_links.ensures
+    (minor_in c.args.image.now c.loop-n.n)
+    ((HasBlocks-of c.args.image.now c.requires.blocks).inodes.kinds.known c.loop-n.n (omega arith)
+    (omega (arith, c.requires.geometry.inodes, c.loop-n-test.true))) in
+    rw (
+      c.kind.ensures,
+      known,
+      c.links-told.ensures,
+      c.requires.names c.loop-n.n in_names,
+      c.requires.subdirectories c.loop-n.n in_subdirectories,
+    ) at c.fits_links.ensures
 
 pub links-told-requires : goal.links-told-requires
 links-told-requires c = HasPlace-at c.requires.geometry c.loop-n.n c.loop-n-test.true
@@ -29,7 +34,7 @@ pub returns-then-not-fits_links : goal.returns-then-not-fits_links
 returns-then-not-fits_links c =
     refused c.if-not-fits_links.true (fits-is (goal.at.returns-then-not-fits_links c).After-fits_links)
     (λ h. FitsLinks-at c.args.image.now (HasBlocks-of c.args.image.now c.requires.blocks) h c.loop-n.n (omega arith)
-        (omega (arith, c.requires.geometry.inodes, c.loop-n-test.true)))
+    (omega (arith, c.requires.geometry.inodes, c.loop-n-test.true)))
 
 pub loop-n-preserved : goal.loop-n-preserved
 loop-n-preserved c = up_to_more (LinksFit c.args.image.now) c.loop-n.n c.loop-n.invariant
@@ -38,4 +43,4 @@ loop-n-preserved c = up_to_more (LinksFit c.args.image.now) c.loop-n.n c.loop-n.
 pub returns : goal.returns
 returns c =
     told (HasLinks-from _ (HasBlocks-of c.args.image.now c.requires.blocks)
-        (λ n low high. c.loop-n.invariant n low (omega (arith, c.requires.geometry.inodes, c.loop-n-test.false))))
+    (λ n low high. c.loop-n.invariant n low (omega (arith, c.requires.geometry.inodes, c.loop-n-test.false))))

@@ -21,7 +21,7 @@ pub returns-in-Err-Numbers-clause-judged : goal.returns-in-Err-Numbers-clause-ju
 returns-in-Err-Numbers-clause-judged c =
     let wrong = (rw c.in-Err-Numbers.field-0-is at c.in-Err-Numbers.ensures.numbers).0 refl in
     λ blocks front. Numbers-told front c.requires c.from_front-numbers.ensures _ c.if-numbers-count.false wrong.0
-        wrong.1
+    wrong.1
 
 pub returns-in-Err-Short-clause-judged : goal.returns-in-Err-Short-clause-judged
 returns-in-Err-Short-clause-judged c = absurd ((rw c.in-Err-Short.field-0-is at c.in-Err-Short.ensures.long) refl)

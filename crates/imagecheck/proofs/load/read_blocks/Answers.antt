@@ -7,8 +7,14 @@ use Rattle.imagecheck.proofs.load.read_blocks.Goals as goal
 pub returns-in_err-image : goal.returns-in_err-image
 returns-in_err-image g c =
     let e = err-told c.from_residual.ensures.1 in
-    record { bytes = rw e tt; only = rw e tt; same = refl; identity = refl; later = omega arith;
-        failed = λ is. absurd (not_device (one-fault e is)) }
+    record {
+      bytes = rw e tt;
+      only = rw e tt;
+      same = refl;
+      identity = refl;
+      later = omega arith;
+      failed = λ is. absurd (not_device (one-fault e is));
+    }
 
 pub returns-in_err-block : goal.returns-in_err-block
 returns-in_err-block g c =

@@ -4,14 +4,17 @@ use Rattle.imagecheck.proofs.load.read_geometry.Goals as goal
 pub returns-then-count-lt2-clause-judged : goal.returns-then-count-lt2-clause-judged
 returns-then-count-lt2-clause-judged g c =
     HasLength-not_few (g.D.BlockDev.content c.args.device.now) (g.met.D.BlockDev.sizes c.args.device.now)
-        (omega (arith, c.blocks-count.ensures, c.if-count-lt2.true))
+    (omega (arith, c.blocks-count.ensures, c.if-count-lt2.true))
 
 pub returns : goal.returns
 returns g c =
     let blocks = g.D.BlockDev.content c.args.device.now in
     let front : IsFront blocks c.blocks-count.result c.in_ok-block.block =
-            record { sizes = g.met.D.BlockDev.sizes _; many = c.blocks-count.ensures;
-            front = c.in_ok-block.ensures.bytes } in
+    record {
+      sizes = g.met.D.BlockDev.sizes _;
+      many = c.blocks-count.ensures;
+      front = c.in_ok-block.ensures.bytes;
+    } in
     record {
       judged = c.geometry_in.ensures.judged blocks front;
       memory = λ told. subst (λ r. IfErr r IsOfImage) told c.geometry_in.ensures.own;

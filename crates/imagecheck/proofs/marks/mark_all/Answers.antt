@@ -23,23 +23,26 @@ named : (c : After-number) → IsNamed c.args.image.now c.args.n c.loop-k.k c.nu
 named c =
     rw (c.number.ensures, c.slot_at.ensures, c.format_of-format.ensures, c.block_count-count.ensures.count)
     (IsNamed-at c.args.image.now c.args.n (small ((goal.at.After-number c).At-loop-k))
-        (HasSuper-of c.args.image.now c.requires.rules) c.requires.addresses c.loop-k.k
-        (within ((goal.at.After-number c).After-slot_at)))
+    (HasSuper-of c.args.image.now c.requires.rules) c.requires.addresses c.loop-k.k
+    (within ((goal.at.After-number c).After-slot_at)))
 
 pub slot_at-requires-clause-within : goal.slot_at-requires-clause-within
 slot_at-requires-clause-within c =
     let image = c.args.image.now in
     let low = rw (c.index_blocks.ensures.told, c.format_of-format.ensures) at c.loop-k-test.true in
     rw c.format_of-format.ensures
-        (omega (arith, taken-there (format_of image) (direct-low image) (direct-high image) c.block_count-count.result
-        c.block_count-count.ensures.most))
+    (omega (
+      arith,
+      taken-there (format_of image) (direct-low image) (direct-high image) c.block_count-count.result
+          c.block_count-count.ensures.most,
+    ))
 
 pub number-requires-clause-found : goal.number-requires-clause-found
 number-requires-clause-found c =
     let at = goal.at.number-requires-clause-found c in
     rw (c.slot_at.ensures, c.format_of-format.ensures, c.block_count-count.ensures.count)
     (found-at c.args.image.now c.args.n (small at.At-loop-k) (HasSuper-of c.args.image.now c.requires.rules)
-        c.requires.addresses c.loop-k.k (within at.After-slot_at))
+    c.requires.addresses c.loop-k.k (within at.After-slot_at))
 
 pub mark-requires : goal.mark-requires
 mark-requires c = omega (arith, (named c).inside, c.requires.long, c.loop-k.auto.marks)
@@ -50,8 +53,8 @@ returns-then-not-mark c = λ before h once.
     let k = c.loop-k.k in
     let is = named ((goal.at.returns-then-not-mark c).After-number) in
     mark_shared (before ++ take k xs) c.number.result c.loop-k.marks c.mark.new.marks c.mark.result
-        (omega (arith, is.inside, c.requires.long, c.loop-k.auto.marks)) c.mark.ensures.free
-        (c.loop-k.invariant before h) c.if-not-mark.true
+    (omega (arith, is.inside, c.requires.long, c.loop-k.auto.marks)) c.mark.ensures.free
+    (c.loop-k.invariant before h) c.if-not-mark.true
     (drop (k + 1) xs) (rw is.is (subst IsOnce (list_split before xs k is.within) once))
 
 pub loop-k-preserved : goal.loop-k-preserved
@@ -60,16 +63,16 @@ loop-k-preserved c = λ before h.
     let k = c.loop-k.k in
     let is = named ((goal.at.loop-k-preserved c).After-number) in
     subst (λ ys. HasMarks ys c.mark.new.marks)
-        (ap (λ b. (before ++ take k xs) ++ (b ∷ [])) is.is ∙ list_more before xs k is.within)
+    (ap (λ b. (before ++ take k xs) ++ (b ∷ [])) is.is ∙ list_more before xs k is.within)
     (mark_more (before ++ take k xs) c.number.result c.loop-k.marks c.mark.new.marks c.mark.result
-        (omega (arith, is.inside, c.requires.long, c.loop-k.auto.marks)) c.mark.ensures.free
+    (omega (arith, is.inside, c.requires.long, c.loop-k.auto.marks)) c.mark.ensures.free
     (c.loop-k.invariant before h) c.mark.ensures.marks c.if-not-mark.false)
 
 pub returns : goal.returns
 returns c = λ before h.
     let past = rw (c.index_blocks.ensures.told, c.format_of-format.ensures, c.block_count-count.ensures.count)
-            at c.loop-k-test.false in
+    at c.loop-k-test.false in
     subst (λ ys. HasMarks (before ++ ys) c.loop-k.marks)
     (take_all c.loop-k.k (named_by c.args.image.now c.args.n)
-        (omega (arith, named-long c.args.image.now c.args.n (small (goal.at.returns c).At-loop-k))))
-        (c.loop-k.invariant before h)
+    (omega (arith, named-long c.args.image.now c.args.n (small (goal.at.returns c).At-loop-k))))
+    (c.loop-k.invariant before h)

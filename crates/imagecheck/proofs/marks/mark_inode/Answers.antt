@@ -10,7 +10,7 @@ is_free-requires c = HasPlace-at c.requires.geometry _ c.requires.high
 pub returns-then-is_free : goal.returns-then-is_free
 returns-then-is_free c = λ before h.
     subst (λ xs. HasMarks (before ++ xs) c.args.marks.now)
-        (sym (blocks_of-free c.args.image.now c.args.n (c.is_free.ensures.0 c.if-is_free.true)))
+    (sym (blocks_of-free c.args.image.now c.args.n (c.is_free.ensures.0 c.if-is_free.true)))
     (subst (λ xs. HasMarks xs c.args.marks.now) (sym (append-nil before)) h)
 
 pub mark_all-requires : goal.mark_all-requires

@@ -9,7 +9,7 @@ returns-then-not-mark_inode c = λ once.
     let n = c.loop-n.n in
     MatchBool-at_false _ _ c.if-not-mark_inode.true (c.mark_inode.ensures _ c.loop-n.invariant)
     (subst IsOnce (named_before-more image n (omega arith))
-        (named_before-front image _ (omega arith) (omega (arith, c.requires.geometry.inodes)) once))
+    (named_before-front image _ (omega arith) (omega (arith, c.requires.geometry.inodes)) once))
 
 pub loop-n-preserved : goal.loop-n-preserved
 loop-n-preserved c =
@@ -21,7 +21,11 @@ loop-n-preserved c =
 pub returns : goal.returns
 returns c =
     let end : c.loop-n.n ≡ inodes_in c.args.image.now =
-            omega (arith, c.requires.geometry.inodes,
-            c.loop-n.auto.n-end (omega (arith, inodes-least c.requires.geometry)), c.loop-n-test.false) in
+    omega (
+      arith,
+      c.requires.geometry.inodes,
+      c.loop-n.auto.n-end (omega (arith, inodes-least c.requires.geometry)),
+      c.loop-n-test.false,
+    ) in
     subst (λ xs. HasMarks xs c.loop-n.marks)
-        (ap (named_before c.args.image.now) end ∙ named_before-all c.args.image.now) c.loop-n.invariant
+    (ap (named_before c.args.image.now) end ∙ named_before-all c.args.image.now) c.loop-n.invariant

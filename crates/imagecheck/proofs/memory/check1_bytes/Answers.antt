@@ -9,11 +9,11 @@ returns-in_err-geometry-clause-refused g c =
 pub returns-in_err-summary_of-clause-fault : goal.returns-in_err-summary_of-clause-fault
 returns-in_err-summary_of-clause-fault g c =
     rw (err-told c.from_residual-in_err-summary_of.ensures.1)
-        (Finds-told small _ c.in_ok-geometry.ensures.judged.magic c.in_err-summary_of.field-0.0
-        c.in_err-summary_of.ensures)
+    (Finds-told small _ c.in_ok-geometry.ensures.judged.magic c.in_err-summary_of.field-0.0
+    c.in_err-summary_of.ensures)
 
 pub returns-in_err-summary_of-clause-refused : goal.returns-in_err-summary_of-clause-refused
 returns-in_err-summary_of-clause-refused g c =
     rw (err-told c.from_residual-in_err-summary_of.ensures.1)
     (Tells-not small _ _ (Finds-told small _ c.in_ok-geometry.ensures.judged.magic c.in_err-summary_of.field-0.0
-        c.in_err-summary_of.ensures))
+    c.in_err-summary_of.ensures))

@@ -8,5 +8,11 @@ returns-in_err-geometry-clause-refused g c =
 pub returns : goal.returns
 returns g c =
     let judged = judged-from _ _ c.in_ok-geometry.ensures.judged.magic _ c.summary_of.ensures in
-    record { denotes = judged.denotes; inodes = judged.inodes; blocks = judged.blocks; fault = judged.fault;
-        refused = judged.refused; device = judged.device }
+    record {
+      denotes = judged.denotes;
+      inodes = judged.inodes;
+      blocks = judged.blocks;
+      fault = judged.fault;
+      refused = judged.refused;
+      device = judged.device;
+    }

@@ -6,6 +6,6 @@ pub returns-clause-judged : goal.returns-clause-judged
 returns-clause-judged c =
     let image = c.args.image.now in
     subst (λ x. TellsGeometry (format_named c.args.format) x c.geometry_in.result)
-        (image_of-blocks image (omega (arith, c.if-image-ne0.false)))
+    (image_of-blocks image (omega (arith, c.if-image-ne0.false)))
     (c.geometry_in.ensures.judged _
-        (IsFront-memory image _ (omega (arith, c.if-count-lt2.false)) c.copy_from_slice.ensures.after))
+    (IsFront-memory image _ (omega (arith, c.if-count-lt2.false)) c.copy_from_slice.ensures.after))

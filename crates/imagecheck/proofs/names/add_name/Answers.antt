@@ -10,6 +10,9 @@ returns g c =
     let long = length-drop 2 place in
     let read : c.read_uint128.result ≡ number (drop 2 place) =
     c.read_uint128.ensures ∙ ap (little_number 14) (between_to_end place 2 (length place) (omega arith))
-        ∙ number_at-drop 14 2 place (omega arith) ∙ ap number (take_all 14 (drop 2 place) (omega arith)) in
-    rw (place-taken place (sym c.is_free.ensures ∙ c.if-is_free.false),
-        name_bytes-spelled (drop 2 place) (omega arith), ← read) c.in_ok-push.ensures.items
+    ∙ number_at-drop 14 2 place (omega arith) ∙ ap number (take_all 14 (drop 2 place) (omega arith)) in
+    rw (
+      place-taken place (sym c.is_free.ensures ∙ c.if-is_free.false),
+      name_bytes-spelled (drop 2 place) (omega arith),
+      ← read,
+    ) c.in_ok-push.ensures.items

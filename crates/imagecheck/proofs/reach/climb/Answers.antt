@@ -19,8 +19,8 @@ pub loop-marks-smaller : goal.loop-marks-smaller
 loop-marks-smaller c =
     let h = c.loop-marks.invariant.directory.high in
     unmarked_less c.loop-marks.marks c.loop-marks.n c.args.start
-        (omega (arith, c.loop-marks.auto.marks, c.requires.long, c.requires.geometry.inodes)) c.loop-marks-test.true
-        (λ z. let a = c.requires.above in absurd (omega arith))
+    (omega (arith, c.loop-marks.auto.marks, c.requires.long, c.requires.geometry.inodes)) c.loop-marks-test.true
+    (λ z. let a = c.requires.above in absurd (omega arith))
 
 pub loop-marks-preserved : goal.loop-marks-preserved
 loop-marks-preserved c =
@@ -42,8 +42,10 @@ returns c =
     let marks = c.loop-marks.marks in
     let walk = c.loop-marks.invariant.walk in
     by_same (get_or marks n 0) c.args.start
-    (λ other. (walk.first (walk.before n c.loop-marks-test.false other),
-        HasWalked-more files c.args.start n marks walk c.requires.above c.loop-marks-test.false other))
+    (λ other. (
+      walk.first (walk.before n c.loop-marks-test.false other),
+      HasWalked-more files c.args.start n marks walk c.requires.above c.loop-marks-test.false other,
+    ))
     (λ same reached.
     round_not files c.args.start n marks walk c.requires.above same
-        (Climbs-reached files c.requires.entries reached n (is_directory-at image n c.loop-marks.invariant.directory)))
+    (Climbs-reached files c.requires.entries reached n (is_directory-at image n c.loop-marks.invariant.directory)))

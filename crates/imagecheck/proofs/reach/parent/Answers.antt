@@ -8,7 +8,7 @@ returns c =
     let blocks = HasBlocks-of image c.requires.blocks in
     let is : c.number16.result ≡ parent_of _ _ =
     c.number16.ensures ∙ ap (λ at. number_at 2 (at + 16) image) c.front_place.ensures.place
-        ∙ parent-read image blocks _ c.requires.directory c.requires.entries in
+    ∙ parent-read image blocks _ c.requires.directory c.requires.entries in
     record {
       parent = is;
       directory = subst (IsDirectoryIn image) (sym is)

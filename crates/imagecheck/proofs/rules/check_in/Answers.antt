@@ -7,11 +7,17 @@ use Rattle.imagecheck.proofs.rules.check_in.Goals as goal
 pub returns-in-Some : goal.returns-in-Some
 returns-in-Some g c =
     let is : c.in-Some.image.now ≡ image_of (g.D.BlockDev.content c.args.device.now) =
-            sym (image_of-blocks c.in-Some.image.now c.in-Some.ensures.whole) ∙ ap image_of c.in-Some.ensures.blocks in
+    sym (image_of-blocks c.in-Some.image.now c.in-Some.ensures.whole) ∙ ap image_of c.in-Some.ensures.blocks in
     let told = c.check_bytes.ensures in
     let judged = subst (λ x. IsJudged (format_named c.args.format) x c.check_bytes.result) is
-    (record { denotes = told.denotes; inodes = told.inodes; blocks = told.blocks; fault = told.fault;
-        refused = told.refused; device = told.device }) in
+    (record {
+      denotes = told.denotes;
+      inodes = told.inodes;
+      blocks = told.blocks;
+      fault = told.fault;
+      refused = told.refused;
+      device = told.device;
+    }) in
     record {
       denotes = judged.denotes;
       inodes = judged.inodes;
@@ -41,7 +47,7 @@ returns-in_err-image g c =
     let image = image_of (g.D.BlockDev.content device) in
     let fault = c.in_err-image.field-0.0 in
     let told : Tells (format_named c.args.format) image fault =
-            outside-told (format_named c.args.format) image fault c.in_err-image.ensures.only in
+    outside-told (format_named c.args.format) image fault c.in_err-image.ensures.only in
     let is = err-told c.from_residual-in_err-image.ensures.1 in
     record {
       denotes = rw is tt;
@@ -68,8 +74,8 @@ returns g c =
     let image = image_of (g.D.BlockDev.content c.args.device.now) in
     let r = c.summary_of.result in
     let found : MatchResult r (IsSummary image) (Finds image) =
-            rw (c.deref.ensures.value, c.in_ok-image.ensures.bytes, c.read_geometry.ensures.same)
-            at c.summary_of.ensures in
+    rw (c.deref.ensures.value, c.in_ok-image.ensures.bytes, c.read_geometry.ensures.same)
+    at c.summary_of.ensures in
     let judged = judged-from _ image c.in_ok-geometry.ensures.judged.magic r found in
     record {
       denotes = judged.denotes;

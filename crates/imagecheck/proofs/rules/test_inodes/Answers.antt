@@ -6,21 +6,29 @@ returns-then-not-has_kinds-clause-judged c =
     (super-is c.requires, iff_false c.has_kinds.ensures c.if-not-has_kinds.true)
 
 pub returns-then-not-has_sizes-clause-judged : goal.returns-then-not-has_sizes-clause-judged
-returns-then-not-has_sizes-clause-judged c =
-    (super-is c.requires, c.has_kinds.ensures.0 c.if-not-has_kinds.false,
-    iff_false c.has_sizes.ensures c.if-not-has_sizes.true)
+returns-then-not-has_sizes-clause-judged c = (
+  super-is c.requires,
+  c.has_kinds.ensures.0 c.if-not-has_kinds.false,
+  iff_false c.has_sizes.ensures c.if-not-has_sizes.true,
+)
 
 pub returns-then-not-has_addresses-clause-judged : goal.returns-then-not-has_addresses-clause-judged
 returns-then-not-has_addresses-clause-judged c = (
-  record { super = super-is c.requires; kinds = c.has_kinds.ensures.0 c.if-not-has_kinds.false;
-      sizes = c.has_sizes.ensures.0 c.if-not-has_sizes.false },
+  record {
+    super = super-is c.requires;
+    kinds = c.has_kinds.ensures.0 c.if-not-has_kinds.false;
+    sizes = c.has_sizes.ensures.0 c.if-not-has_sizes.false;
+  },
   iff_false c.has_addresses.ensures c.if-not-has_addresses.true,
 )
 
 pub returns-clause-judged : goal.returns-clause-judged
 returns-clause-judged c = (
-  record { super = super-is c.requires; kinds = c.has_kinds.ensures.0 c.if-not-has_kinds.false;
-      sizes = c.has_sizes.ensures.0 c.if-not-has_sizes.false },
+  record {
+    super = super-is c.requires;
+    kinds = c.has_kinds.ensures.0 c.if-not-has_kinds.false;
+    sizes = c.has_sizes.ensures.0 c.if-not-has_sizes.false;
+  },
   c.has_addresses.ensures.0 c.if-not-has_addresses.false,
 )
 

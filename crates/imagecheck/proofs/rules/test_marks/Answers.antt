@@ -12,21 +12,29 @@ names_once-requires c = record {
 
 pub returns-then-not-names_once : goal.returns-then-not-names_once
 returns-then-not-names_once c = record {
-  judged = (c.requires.inodes, c.requires.addresses,
-      MatchBool-at_false _ _ c.if-not-names_once.true c.names_once.ensures);
+  judged = (
+    c.requires.inodes,
+    c.requires.addresses,
+    MatchBool-at_false _ _ c.if-not-names_once.true c.names_once.ensures,
+  );
   own = tt;
 }
 
 pub has_bitmap-requires : goal.has_bitmap-requires
-has_bitmap-requires c = record
-    { geometry = c.requires.geometry; long = c.names_once.auto.marks ∙ c.requires.long;
-    marks = MatchBool-at_true _ _ c.if-not-names_once.false c.names_once.ensures }
+has_bitmap-requires c = record {
+  geometry = c.requires.geometry;
+  long = c.names_once.auto.marks ∙ c.requires.long;
+  marks = MatchBool-at_true _ _ c.if-not-names_once.false c.names_once.ensures;
+}
 
 pub returns-then-not-has_bitmap : goal.returns-then-not-has_bitmap
 returns-then-not-has_bitmap c = record {
-  judged = (c.requires.inodes, c.requires.addresses,
-      (MatchBool-at_true _ _ c.if-not-names_once.false c.names_once.ensures).once,
-      iff_false c.has_bitmap.ensures c.if-not-has_bitmap.true);
+  judged = (
+    c.requires.inodes,
+    c.requires.addresses,
+    (MatchBool-at_true _ _ c.if-not-names_once.false c.names_once.ensures).once,
+    iff_false c.has_bitmap.ensures c.if-not-has_bitmap.true,
+  );
   own = tt;
 }
 

@@ -14,4 +14,4 @@ block_count-count-requires c =
 pub returns-clause-total : goal.returns-clause-total
 returns-clause-total c =
     rw (c.index_blocks.ensures.told, c.format_of.ensures, c.block_count-count.ensures.count)
-        (sym (length-blocks_of c.args.image.now c.args.n (iff_false c.is_free.ensures c.if-is_free.false)))
+    (sym (length-blocks_of c.args.image.now c.args.n (iff_false c.is_free.ensures c.if-is_free.false)))

@@ -22,6 +22,10 @@ loop-n-preserved c =
 pub returns : goal.returns
 returns c =
     let end : c.loop-n.n ≡ inodes_in c.args.image.now =
-            omega (arith, c.requires.geometry.inodes,
-            c.loop-n.auto.n-end (omega (arith, inodes-least c.requires.geometry)), c.loop-n-test.false) in
+    omega (
+      arith,
+      c.requires.geometry.inodes,
+      c.loop-n.auto.n-end (omega (arith, inodes-least c.requires.geometry)),
+      c.loop-n-test.false,
+    ) in
     c.loop-n.invariant.total ∙ ap length (ap (named_before c.args.image.now) end ∙ named_before-all c.args.image.now)

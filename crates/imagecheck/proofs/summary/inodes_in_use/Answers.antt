@@ -14,16 +14,24 @@ loop-n-preserved c =
     let i = c.loop-n.invariant in
     elim c.if-not-is_free.branch [
       | then-not-is_free w ↦ rw w.total-is
-          (record { total = rw (i.total, more (iff_false c.is_free.ensures w.if-not-is_free.true)) refl;
-          most = omega (arith, i.most) })
+          (record {
+            total = rw (i.total, more (iff_false c.is_free.ensures w.if-not-is_free.true)) refl;
+            most = omega (arith, i.most);
+          })
       | else-not-is_free w ↦ rw w.total-is
-          (record { total = rw (i.total, same (c.is_free.ensures.0 w.if-not-is_free.false)) refl;
-          most = omega (arith, i.most) })
+          (record {
+            total = rw (i.total, same (c.is_free.ensures.0 w.if-not-is_free.false)) refl;
+            most = omega (arith, i.most);
+          })
     ]
 
 pub returns : goal.returns
 returns c =
     let end : c.loop-n.n ≡ inodes_in c.args.image.now =
-            omega (arith, c.requires.inodes, c.loop-n.auto.n-end (omega (arith, inodes-least c.requires)),
-            c.loop-n-test.false) in
+    omega (
+      arith,
+      c.requires.inodes,
+      c.loop-n.auto.n-end (omega (arith, inodes-least c.requires)),
+      c.loop-n-test.false,
+    ) in
     c.loop-n.invariant.total ∙ ap (λ m. length (filter (is_in_use c.args.image.now) (range_with_len 1 (m - 1)))) end

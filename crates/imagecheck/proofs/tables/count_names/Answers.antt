@@ -15,6 +15,9 @@ loop-naming-preserved c =
     let long = length-set counts _ _ in
     record {
       long = long ∙ inv.long;
-      counted = λ k l. rw (counted_more counts m.number k high, inv.counted k (omega arith),
-          sum_by_more (λ (y : Naming). cond (y.number == k) 1 0) namings i none c.loop-naming-test.true) refl;
+      counted = λ k l. rw (
+        counted_more counts m.number k high,
+        inv.counted k (omega arith),
+        sum_by_more (λ (y : Naming). cond (y.number == k) 1 0) namings i none c.loop-naming-test.true,
+      ) refl;
     }

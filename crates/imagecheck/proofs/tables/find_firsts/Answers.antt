@@ -17,9 +17,13 @@ loop-naming-preserved c =
     let some = All-take (λ (y : Naming). 1 ≤ y.directory) i namings c.requires.some in
     elim c.if-parents-number-eq0.branch [
       | then-parents-number-eq0 w ↦ rw w.parents-is
-          (record { long = length-set parents m.number m.directory ∙ inv.long;
-          found = firsts_more namings i none within parents inv.found high some w.if-parents-number-eq0.true })
+          (record {
+            long = length-set parents m.number m.directory ∙ inv.long;
+            found = firsts_more namings i none within parents inv.found high some w.if-parents-number-eq0.true;
+          })
       | else-parents-number-eq0 w ↦ rw w.parents-is
-          (record { long = inv.long;
-          found = firsts_kept namings i none within parents inv.found high some w.if-parents-number-eq0.false })
+          (record {
+            long = inv.long;
+            found = firsts_kept namings i none within parents inv.found high some w.if-parents-number-eq0.false;
+          })
     ]

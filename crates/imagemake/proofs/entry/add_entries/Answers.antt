@@ -22,9 +22,9 @@ returns-in_err-add_entry-clause-refused g c =
     let fault = c.in_err-add_entry.field-0.0 in
     rw (told.1, told.2)
     (refused-going _ c.loop-entry.entry-index c.entry-item.result c.loop-entry-test.true c.loop-entry.invariant.going
-        fault
+    fault
     (subst (λ e. Refuses (with_manifest_entry tree.block_limit (length tree.files) tree.files (length made + 2)
-        (entry_of e)) fault) c.entry-item.is c.in_err-add_entry.ensures.refused))
+    (entry_of e)) fault) c.entry-item.is c.in_err-add_entry.ensures.refused))
 
 pub returns-in_err-add_entry-clause-cause : goal.returns-in_err-add_entry-clause-cause
 returns-in_err-add_entry-clause-cause g c =
@@ -34,7 +34,7 @@ pub loop-entry-preserved : goal.loop-entry-preserved
 loop-entry-preserved g c = record {
   going = going-more _ c.loop-entry.entry-index c.entry-item.result c.loop-entry-test.true c.loop-entry.invariant.going
       (subst (λ e. AddsEntry c.loop-entry.tree c.add_entry.new.tree c.loop-entry.made.items c.add_entry.new.made.items
-          (entry_of e)) c.entry-item.is c.in_ok-add_entry.ensures.added);
+      (entry_of e)) c.entry-item.is c.in_ok-add_entry.ensures.added);
   room = c.in_ok-add_entry.ensures.room;
   failures = omega (arith, c.loop-entry.invariant.failures, c.add_entry.ensures.cause.later);
 }

@@ -29,10 +29,10 @@ returns-in_err-spot g c =
       room = none-done _ told;
       refused = rw (err.1, err.2)
           (subst (λ path. Refuses (with_manifest_entry t.block_limit (length t.files) t.files (length made + 2)
-              (record { path = path; thing = thing_of c.args.entry.now.thing })) c.in_err-spot.field-0.0)
+          (record { path = path; thing = thing_of c.args.entry.now.thing })) c.in_err-spot.field-0.0)
           c.as_slice-path.ensures.value
           (c.in_err-spot.ensures.refused t.block_limit (length t.files) t.files (length made + 2)
-              (thing_of c.args.entry.now.thing) c.requires.made.listed));
+          (thing_of c.args.entry.now.thing) c.requires.made.listed));
       cause = Owns-other (omega arith) c.in_err-spot.ensures.memory told;
     }
 
@@ -42,11 +42,11 @@ returns-then-number-numbers-clause-refused g c =
     let made = c.args.made.now.items in
     let thing = thing_of c.args.entry.now.thing in
     ap (λ path. with_manifest_entry t.block_limit (length t.files) t.files (length made + 2)
-        (record { path = path; thing = thing })) (sym c.as_slice-path.ensures.value)
+    (record { path = path; thing = thing })) (sym c.as_slice-path.ensures.value)
     ∙ entry-spot c.in_ok-spot.ensures.spot t.block_limit (length t.files) t.files (length made + 2) thing
-        c.requires.made.listed
+    c.requires.made.listed
     ∙ rw (le-leb (length t.files) (length made + 2)
-        (omega (arith, c.if-number-numbers.true, c.len-number.ensures, c.numbers.ensures))) refl
+    (omega (arith, c.if-number-numbers.true, c.len-number.ensures, c.numbers.ensures))) refl
 
 pub returns-then-number-numbers-clause-cause : goal.returns-then-number-numbers-clause-cause
 returns-then-number-numbers-clause-cause g c = Owns-other (omega arith) (λ e. cc) refl
@@ -62,17 +62,17 @@ store_entry-requires g c = record {
 pub returns-in_err-store_entry : goal.returns-in_err-store_entry
 returns-in_err-store_entry g c =
     let err = err_from_is_err_and c.from_residual-in_err-store_entry.result
-            c.from_residual-in_err-store_entry.ensures.1 in
+    c.from_residual-in_err-store_entry.ensures.1 in
     let told = told_err c.from_residual-in_err-store_entry.result c.from_residual-in_err-store_entry.ensures.1 in
     record {
       added = none-done _ told;
       room = none-done _ told;
       refused = rw (err.1, err.2)
           (refused-stored c.is_whole.ensures c.requires.made c.in_ok-spot.ensures.spot
-              (omega (arith, c.if-number-numbers.false, c.len-number.ensures, c.numbers.ensures))
-              (ap (λ k. k + 2) c.len-number.ensures)
+          (omega (arith, c.if-number-numbers.false, c.len-number.ensures, c.numbers.ensures))
+          (ap (λ k. k + 2) c.len-number.ensures)
           (thing_of c.args.entry.now.thing) c.in_err-store_entry.ensures c.as_slice-path.ensures.value
-              c.in_err-store_entry.field-0.0 refl);
+          c.in_err-store_entry.field-0.0 refl);
       cause = Blames-stored c.in_err-store_entry.field-0.0 (omega arith) c.in_err-store_entry.ensures.owns told;
     }
 
@@ -86,10 +86,10 @@ push-requires g c = record {
 pub returns : goal.returns
 returns g c =
     let longer : length c.push.new.self.items ≡ length c.args.made.now.items + 1 = ap length c.push.ensures.items
-            ∙ length_push _ _ in
+    ∙ length_push _ _ in
     let adds = AddsEntry-stored c.is_whole.ensures c.requires.made c.in_ok-spot.ensures.spot
-            (omega (arith, c.if-number-numbers.false, c.len-number.ensures, c.numbers.ensures))
-            (ap (λ k. k + 2) c.len-number.ensures)
+    (omega (arith, c.if-number-numbers.false, c.len-number.ensures, c.numbers.ensures))
+    (ap (λ k. k + 2) c.len-number.ensures)
     (thing_of _) c.in_ok-store_entry.ensures c.as_slice-path.ensures.value refl c.push.ensures.items
     (c.is_directory.ensures ∙ folder-thing _ c.in_ok-spot.spot.directory _) in
     record {

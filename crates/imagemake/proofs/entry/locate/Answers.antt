@@ -22,7 +22,7 @@ returns-then-not-is_directory-clause-refused c = λ blocks inodes files n thing 
 pub returns-then-is_some-clause-refused : goal.returns-then-is_some-clause-refused
 returns-then-is_some-clause-refused c = λ blocks inodes files n thing listed.
     entry-at (reaches (sym c.if-not-is_path.ensures) c.in-Some.ensures.found) (sym c.if-not-is_directory.ensures)
-        blocks inodes files n thing listed
+    blocks inodes files n thing listed
     ∙ rw (ap is_some (sym c.find.ensures) ∙ sym c.if-is_some.ensures) refl
 
 pub returns-clause-spot : goal.returns-clause-spot

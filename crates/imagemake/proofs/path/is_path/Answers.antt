@@ -17,4 +17,4 @@ pub returns : goal.returns
 returns c =
     c.is_good_name-2.ensures ∙ ap is_name (take_rest c.args.path.now c.name.at)
     ∙ sym (good_last (drop c.name.at c.args.path.now) (first-in c.args.path.now c.name.at None c.in_default.ensures))
-        ∙ c.name.invariant.rest
+    ∙ c.name.invariant.rest

@@ -13,19 +13,19 @@ returns-in_default g c =
     let t = c.args.tree.now in
     let told = c.in_ok-count.ensures.told in
     puts-full (record { is = told.0; later = c.write.ensures.cause.later })
-        (inl (fill-long _ t.files _ _ c.requires.bare (sym c.in_default.is ∙ told.1)))
+    (inl (fill-long _ t.files _ _ c.requires.bare (sym c.in_default.is ∙ told.1)))
 
 pub returns-then-count-bytes : goal.returns-then-count-bytes
 returns-then-count-bytes g c =
     let t = c.args.tree.now in
     let told = c.in_ok-count.ensures.told in
     puts-full (record { is = told.0; later = c.write.ensures.cause.later })
-        (inr (fill-less _ t.files _ _ c.requires.bare (sym c.in-Some.is ∙ told.1) c.if-count-bytes.true))
+    (inr (fill-less _ t.files _ _ c.requires.bare (sym c.in-Some.is ∙ told.1) c.if-count-bytes.true))
 
 pub returns : goal.returns
 returns g c =
     let t = c.args.tree.now in
     let told = c.in_ok-count.ensures.told in
     puts-done (subst (IsNow t c.write.new.self)
-        (fill-whole t.block_limit t.files c.args.number c.args.bytes.now c.requires.bare (sym c.in-Some.is ∙ told.1)
-        c.if-count-bytes.false) (record { is = told.0; later = c.write.ensures.cause.later }))
+    (fill-whole t.block_limit t.files c.args.number c.args.bytes.now c.requires.bare (sym c.in-Some.is ∙ told.1)
+    c.if-count-bytes.false) (record { is = told.0; later = c.write.ensures.cause.later }))

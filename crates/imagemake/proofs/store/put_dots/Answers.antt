@@ -12,14 +12,14 @@ returns-then-not-branch g c =
     let t = c.args.tree.now in
     puts-full (now-read now-begin c.has_blocks.ensures c.in_ok-has_blocks.was)
     (lacks-dots _ t.files _ _ c.requires.bare
-        (leb-false _ _ (sym c.in_ok-has_blocks.ensures.serves.told.1 ∙ c.if-not-branch.true)))
+    (leb-false _ _ (sym c.in_ok-has_blocks.ensures.serves.told.1 ∙ c.if-not-branch.true)))
 
 pub put_dots-requires : goal.put_dots-requires
 put_dots-requires g c =
     let t = c.args.tree.now in
     let now = now-read now-begin c.has_blocks.ensures c.in_ok-has_blocks.was in
     let enough = leb-true (blocks_of t.files + 1) t.block_limit
-            (sym c.in_ok-has_blocks.ensures.serves.told.1 ∙ c.if-not-branch.false) in
+    (sym c.in_ok-has_blocks.ensures.serves.told.1 ∙ c.if-not-branch.false) in
     record {
       up = now-up now c.requires.up;
       bare = ap (λ (fs : Files). slot fs c.args.number) (now-files now) ∙ c.requires.bare;
@@ -35,5 +35,5 @@ returns-in_err-put_dots g c =
 pub returns : goal.returns
 returns g c =
     puts-done (now-changed (now-read now-begin c.has_blocks.ensures c.in_ok-has_blocks.was)
-        (λ (fs : Files). put fs c.args.number (new_directory c.args.directory c.args.number)) c.put_dots.ensures
-        c.in_ok-put_dots.was)
+    (λ (fs : Files). put fs c.args.number (new_directory c.args.directory c.args.number)) c.put_dots.ensures
+    c.in_ok-put_dots.was)

@@ -6,8 +6,11 @@ use Rattle.imagemake.proofs.store.store_entry.Goals as goal
 pub store_node-requires : goal.store_node-requires
 store_node-requires g c =
     let can = c.requires.able in
-    record { up = c.requires.up; number = can.number;
-        directory = λ none. none-some (Directory can.links can.places) (sym none ∙ can.directory) }
+    record {
+      up = c.requires.up;
+      number = can.number;
+      directory = λ none. none-some (Directory can.links can.places) (sym none ∙ can.directory);
+    }
 
 pub returns-in_err-store_node : goal.returns-in_err-store_node
 returns-in_err-store_node g c = node-refused _ _ c.requires.able c.in_err-store_node.ensures c.from_residual.ensures.1

@@ -10,36 +10,43 @@ returns-in_err-take_node_at g c =
 pub put_dots-requires : goal.put_dots-requires
 put_dots-requires g c =
     let took = took-thing _ c.kind.ensures (now-turned now-begin c.take_node_at.ensures c.in_ok-take_node_at.was) in
-    record { up = now-up took c.requires.up; bare = here-now (bare (thing_of c.args.thing.now)) c.requires.number took
-        ∙ ap (λ t. Some (bare (thing_of t))) c.in-Directory.is; directory =
-        still-used (bare (thing_of c.args.thing.now)) c.requires.number took c.args.directory c.requires.directory }
+    record {
+      up = now-up took c.requires.up;
+      bare = here-now (bare (thing_of c.args.thing.now)) c.requires.number took
+          ∙ ap (λ t. Some (bare (thing_of t))) c.in-Directory.is;
+      directory =
+          still-used (bare (thing_of c.args.thing.now)) c.requires.number took c.args.directory c.requires.directory;
+    }
 
 pub returns-in-Directory : goal.returns-in-Directory
 returns-in-Directory g c =
     let took = took-thing _ c.kind.ensures (now-turned now-begin c.take_node_at.ensures c.in_ok-take_node_at.was) in
     subst (λ t. Puts c.args.tree.now c.put_dots.new.tree c.args.number (node_for c.args.number c.args.directory t)
-        c.put_dots.result) (sym (ap thing_of c.in-Directory.is))
-        (puts-last c.args.number (bare (thing_of c.args.thing.now)) (bare_directory c.args.number c.args.directory)
-        took c.put_dots.result c.put_dots.ensures)
+    c.put_dots.result) (sym (ap thing_of c.in-Directory.is))
+    (puts-last c.args.number (bare (thing_of c.args.thing.now)) (bare_directory c.args.number c.args.directory)
+    took c.put_dots.result c.put_dots.ensures)
 
 pub put_bytes-requires : goal.put_bytes-requires
 put_bytes-requires g c =
     let took = took-thing _ c.kind.ensures (now-turned now-begin c.take_node_at.ensures c.in_ok-take_node_at.was) in
-    record { up = now-up took c.requires.up; bare = here-now (bare (thing_of c.args.thing.now)) c.requires.number took
-        ∙ ap (λ t. Some (bare (thing_of t))) c.in-File.is }
+    record {
+      up = now-up took c.requires.up;
+      bare = here-now (bare (thing_of c.args.thing.now)) c.requires.number took
+          ∙ ap (λ t. Some (bare (thing_of t))) c.in-File.is;
+    }
 
 pub returns-in-File : goal.returns-in-File
 returns-in-File g c =
     let took = took-thing _ c.kind.ensures (now-turned now-begin c.take_node_at.ensures c.in_ok-take_node_at.was) in
     let is = ap thing_of c.in-File.is ∙ ap Bytes (sym c.deref.ensures.value) in
     subst (λ t. Puts c.args.tree.now c.put_bytes.new.tree c.args.number (node_for c.args.number c.args.directory t)
-        c.put_bytes.result) (sym is) (puts-last _ _ _ took _ c.put_bytes.ensures)
+    c.put_bytes.result) (sym is) (puts-last _ _ _ took _ c.put_bytes.ensures)
 
 pub returns-in-Device : goal.returns-in-Device
 returns-in-Device g c =
     let took = took-thing _ c.kind.ensures (now-turned now-begin c.take_node_at.ensures c.in_ok-take_node_at.was) in
     let is = ap thing_of c.in-Device.is in
     subst (λ t. Puts c.args.tree.now c.take_node_at.new.self c.args.number (node_for c.args.number c.args.directory t)
-        (Ok tt)) (sym is)
+    (Ok tt)) (sym is)
     (puts-done (subst (λ t. IsNow c.args.tree.now c.take_node_at.new.self
-        (put c.args.tree.now.files c.args.number (bare t))) is took))
+    (put c.args.tree.now.files c.args.number (bare t))) is took))

@@ -14,8 +14,12 @@ pub put_dots-requires : goal.put_dots-requires
 put_dots-requires g c =
     let now = now-turned now-begin c.take_node_at.ensures c.in_ok-take_node_at.was in
     let bare = root-bare _ c.requires.none c.requires.some now in
-    record { up = now-up now c.requires.up; bare = bare; above = λ none. none-some (Directory 1 []) (sym none ∙ bare);
-        block = root-block c.args.tree.now c.requires.none c.requires.some now c.requires.block }
+    record {
+      up = now-up now c.requires.up;
+      bare = bare;
+      above = λ none. none-some (Directory 1 []) (sym none ∙ bare);
+      block = root-block c.args.tree.now c.requires.none c.requires.some now c.requires.block;
+    }
 
 pub returns : goal.returns
 returns g c =

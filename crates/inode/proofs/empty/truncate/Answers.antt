@@ -22,12 +22,15 @@ returns-in_err-give_blocks g c =
 
 pub write_inode-requires : goal.write_inode-requires
 write_inode-requires g c =
-    record { parts = c.in_ok-give_blocks.ensures.done.parts; high = c.requires.inode.high;
-        fits = emptied_fits c.in_ok-inode.ensures.done.told.fits }
+    record {
+      parts = c.in_ok-give_blocks.ensures.done.parts;
+      high = c.requires.inode.high;
+      fits = emptied_fits c.in_ok-inode.ensures.done.told.fits;
+    }
 
 pub returns : goal.returns
 returns g c =
     let held = HasInode-read c.requires.sound c.requires.inode c.in_ok-inode.ensures.done.told.is in
     step-last (goes-after c.read_inode.ensures.goes c.give_blocks.ensures.goes)
-        (λ _ writes. Wrote-empty held (rw (← c.in_ok-inode.ensures.done.same) c.in_ok-give_blocks.ensures.done) writes)
-        c.write_inode.ensures
+    (λ _ writes. Wrote-empty held (rw (← c.in_ok-inode.ensures.done.same) c.in_ok-give_blocks.ensures.done) writes)
+    c.write_inode.ensures

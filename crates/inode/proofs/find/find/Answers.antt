@@ -5,7 +5,7 @@ use Rattle.inode.proofs.find.find.Goals as goal
 pub number_of-requires-clause-asked : goal.number_of-requires-clause-asked
 number_of-requires-clause-asked g c =
     slot_asked (HasInode-read c.requires.sound c.requires.inode (ap inode_of c.in-Some.ensures.bytes)) refl
-        (c.args.at / 1024) (omega (arith, c.if-slot-div_ceil.false, c.div_ceil.ensures, c.read_number-size.ensures))
+    (c.args.at / 1024) (omega (arith, c.if-slot-div_ceil.false, c.div_ceil.ensures, c.read_number-size.ensures))
 
 pub number_of-requires-clause-index : goal.number_of-requires-clause-index
 number_of-requires-clause-index g c =

@@ -9,13 +9,13 @@ returns-then-slot-lt-DIRECT-clause-number g c = c.read_number.ensures
 pub recent-requires : goal.recent-requires
 recent-requires g c =
     index-lies c.args.disk.now.blocks c.args.bytes.now c.args.slot (omega (arith, c.if-slot-lt-DIRECT.false))
-        (omega arith) c.read_number-single.ensures c.requires.asked c.requires.index
+    (omega arith) c.read_number-single.ensures c.requires.asked c.requires.index
 
 pub returns-clause-number : goal.returns-clause-number
 returns-clause-number g c =
     c.read_number-2.ensures ∙ ap (λ b. number_at b (c.args.slot - 11)) c.in-Some.ensures
     ∙ listed-number c.args.disk.now.blocks c.args.bytes.now c.args.slot (omega (arith, c.if-slot-lt-DIRECT.false))
-        (omega arith) c.read_number-single.ensures
+    (omega arith) c.read_number-single.ensures
 
 pub returns-then-slot-lt-DIRECT-clause-fits : goal.returns-then-slot-lt-DIRECT-clause-fits
 returns-then-slot-lt-DIRECT-clause-fits g c = fits-of c.args.bytes.now (λ i. (omega (arith, c.type_inv.bytes i)))

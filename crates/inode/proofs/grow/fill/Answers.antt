@@ -11,8 +11,10 @@ returns-in_default g c =
 pub write-requires : goal.write-requires
 write-requires g c =
     let takes = (subst (Takes _ _ _) c.in-Some.is c.in_ok-b.ensures.done).0 in
-    record { block = omega (arith, takes.takes.parts.count, takes.lowest.free.high);
-        fits = omega (arith, c.requires.room) }
+    record {
+      block = omega (arith, takes.takes.parts.count, takes.lowest.free.high);
+      fits = omega (arith, c.requires.room);
+    }
 
 pub returns-in_err-write : goal.returns-in_err-write
 returns-in_err-write g c =
@@ -22,4 +24,4 @@ pub returns : goal.returns
 returns g c =
     let takes = (subst (Takes _ _ _) c.in-Some.is c.in_ok-b.ensures.done).0 in
     step-done (goes-after c.take_block.ensures.goes c.write.ensures.goes)
-        (record { mid = c.take_block.new.disk.blocks; takes = takes; written = c.in_ok-write.ensures.done })
+    (record { mid = c.take_block.new.disk.blocks; takes = takes; written = c.in_ok-write.ensures.done })

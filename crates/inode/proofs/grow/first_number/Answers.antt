@@ -15,4 +15,4 @@ behind front block i e h zero = get_or-append_right front (drop 4 block) 4 i 0 e
 pub returns-clause-others : goal.returns-clause-others
 returns-clause-others c = λ k h. number_zero (c.copy_from_slice.new.self ++ drop 4 c.zeros-block.result) k h
     (λ i l. behind c.copy_from_slice.new.self c.zeros-block.result i
-        (ap length c.copy_from_slice.ensures.after ∙ ap length c.number_bytes.ensures) l c.zeros-block.ensures)
+    (ap length c.copy_from_slice.ensures.after ∙ ap length c.number_bytes.ensures) l c.zeros-block.ensures)

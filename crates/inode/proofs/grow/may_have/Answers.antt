@@ -10,5 +10,8 @@ has_blocks-requires g c = c.requires.parts
 
 pub returns : goal.returns
 returns g c = step-last goes-stays
-    (λ told was. record { told = may-have (free_blocks c.args.geometry c.args.disk.now.blocks) c.args.more told
-    was.told; same = was.same }) c.has_blocks.ensures
+    (λ told was. record {
+      told = may-have (free_blocks c.args.geometry c.args.disk.now.blocks) c.args.more told
+          was.told;
+      same = was.same;
+    }) c.has_blocks.ensures

@@ -11,17 +11,17 @@ returns-in_err-write g c = step-failed goes-stays c.write.ensures c.in_err-write
 pub returns-then-end-found : goal.returns-then-end-found
 returns-then-end-found g c =
     step-done c.write.ensures.goes
-        (found-kept c.requires.sound c.requires.inode c.requires.found c.args.bytes.now c.requires.within
-        c.requires.room c.in_ok-write.ensures.done c.if-end-found.true)
+    (found-kept c.requires.sound c.requires.inode c.requires.found c.args.bytes.now c.requires.within
+    c.requires.room c.in_ok-write.ensures.done c.if-end-found.true)
 
 pub write_size-requires-clause-parts : goal.write_size-requires-clause-parts
 write_size-requires-clause-parts g c =
     found-parts c.requires.sound c.requires.inode c.requires.found c.args.bytes.now c.requires.within c.requires.room
-        c.in_ok-write.ensures.done c.if-end-found.false
+    c.in_ok-write.ensures.done c.if-end-found.false
 
 pub returns : goal.returns
 returns g c =
     step-last c.write.ensures.goes
     (λ _ writes. found-longer c.requires.sound c.requires.inode c.requires.found c.args.bytes.now c.requires.within
-        c.requires.room c.in_ok-write.ensures.done c.if-end-found.false writes)
+    c.requires.room c.in_ok-write.ensures.done c.if-end-found.false writes)
     c.write_size.ensures

@@ -29,6 +29,6 @@ returns g c =
       told = read.told ∙ ap (λ bs. number_at (block_at bs c.in_ok-block.block) c.place_of.result) same
           ∙ found_in c.args.disk.now.blocks c.args.inode.now c.args.slot apart
           (c.in_ok-block.ensures.done.told ∙ ap (slot_in c.args.disk.now.blocks c.args.inode.now) c.holder_of.ensures)
-              c.place_of.ensures.place;
+          c.place_of.ensures.place;
       same = read.same ∙ same;
     }) c.number_in.ensures

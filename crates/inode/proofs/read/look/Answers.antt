@@ -21,12 +21,12 @@ pub returns-then-is_free : goal.returns-then-is_free
 returns-then-is_free g c =
     let free = (read-free _ _ _).0 (sym c.kind.ensures ∙ c.is_free.ensures.0 c.if-is_free.true) in
     read-done c.read_inode.ensures.goes c.in_ok-inode.ensures.done.same
-        (λ used. used.kind (ap (λ (i : DiskInode). i.kind) (sym c.in_ok-inode.ensures.done.told.is) ∙ free))
+    (λ used. used.kind (ap (λ (i : DiskInode). i.kind) (sym c.in_ok-inode.ensures.done.told.is) ∙ free))
 
 pub returns : goal.returns
 returns g c =
     let is = c.in_ok-inode.ensures.done.told.is in
     let used = used-inode c.if-number-eq0.false c.if-number-geometry.false is
-            (λ z. iff_false c.is_free.ensures c.if-is_free.false (c.kind.ensures ∙ (read-free _ _ _).1 z)) in
+    (λ z. iff_false c.is_free.ensures c.if-is_free.false (c.kind.ensures ∙ (read-free _ _ _).1 z)) in
     read-done c.read_inode.ensures.goes c.in_ok-inode.ensures.done.same
-        (used, told-inode c.args.disk.now.blocks c.args.number is c.told.ensures)
+    (used, told-inode c.args.disk.now.blocks c.args.number is c.told.ensures)

@@ -24,7 +24,7 @@ pub block_number-requires : goal.block_number-requires
 block_number-requires g c =
     let held = HasInode-read c.requires.sound c.requires.inode c.in_ok-inode.ensures.done.told.is in
     let below = chunk_below held c.args.at (length c.args.out.now) c.min-count.ensures c.saturating_sub.ensures
-            c.chunk-test.true c.min-len.ensures in
+    c.chunk-test.true c.min-len.ensures in
     record {
       asked = slot_asked held c.chunk.invariant.disk ((c.args.at + c.chunk.done) / 1024) below;
       sizes = rw c.chunk.invariant.disk c.requires.sound.parts.sizes;
@@ -40,9 +40,13 @@ pub read_part-requires : goal.read_part-requires
 read_part-requires g c =
     let held = HasInode-read c.requires.sound c.requires.inode c.in_ok-inode.ensures.done.told.is in
     let below = chunk_below held c.args.at (length c.args.out.now) c.min-count.ensures c.saturating_sub.ensures
-            c.chunk-test.true c.min-len.ensures in
-    omega (arith, slot_in_disk held c.chunk.invariant.disk ((c.args.at + c.chunk.done) / 1024) below,
-        c.in_ok-source.ensures.done.told, c.block_number.ensures.goes.count)
+    c.chunk-test.true c.min-len.ensures in
+    omega (
+      arith,
+      slot_in_disk held c.chunk.invariant.disk ((c.args.at + c.chunk.done) / 1024) below,
+      c.in_ok-source.ensures.done.told,
+      c.block_number.ensures.goes.count,
+    )
 
 pub returns-in_err-read_part : goal.returns-in_err-read_part
 returns-in_err-read_part g c =
@@ -53,10 +57,10 @@ pub chunk-preserved : goal.chunk-preserved
 chunk-preserved g c =
     let held = HasInode-read c.requires.sound c.requires.inode c.in_ok-inode.ensures.done.told.is in
     let below = chunk_below held c.args.at (length c.args.out.now) c.min-count.ensures c.saturating_sub.ensures
-            c.chunk-test.true c.min-len.ensures in
+    c.chunk-test.true c.min-len.ensures in
     let block = slot_block held c.chunk.invariant.disk ((c.args.at + c.chunk.done) / 1024) below
-            c.in_ok-source.ensures.done.told
-            (ap (λ b. block_at b c.in_ok-source.source) c.in_ok-source.ensures.done.same) in
+    c.in_ok-source.ensures.done.told
+    (ap (λ b. block_at b c.in_ok-source.source) c.in_ok-source.ensures.done.same) in
     record {
       disk = c.in_ok-read_part.ensures.done.same ∙ c.in_ok-source.ensures.done.same ∙ c.chunk.invariant.disk;
       goes = goes-twice c.chunk.invariant.goes c.block_number.ensures.goes c.read_part.ensures.goes;
@@ -65,7 +69,7 @@ chunk-preserved g c =
       has_read = read-chunk held c.args.at (length c.args.out.now) c.min-count.ensures c.saturating_sub.ensures
           c.chunk-test.true c.min-len.ensures
           c.args.out.now c.chunk.out _ c.read_part.new.out refl c.chunk.invariant.has_read block
-              c.in_ok-read_part.ensures.done.told;
+          c.in_ok-read_part.ensures.done.told;
     }
 
 -- ---- the end

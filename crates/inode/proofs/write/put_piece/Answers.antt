@@ -9,8 +9,11 @@ pub write_inside-requires : goal.write_inside-requires
 write_inside-requires g c = record {
   held = c.requires.held;
   fits = c.requires.fits;
-  lies = record { there = omega (arith, c.if-index-held.true, c.div_ceil-held.ensures);
-      within = within_size (HasInode-of c.requires.held) c.requires.within; room = c.requires.room };
+  lies = record {
+    there = omega (arith, c.if-index-held.true, c.div_ceil-held.ensures);
+    within = within_size (HasInode-of c.requires.held) c.requires.within;
+    room = c.requires.room;
+  };
 }
 
 pub returns-in_err-write_inside : goal.returns-in_err-write_inside
@@ -37,7 +40,7 @@ returns-in_err-next g c = step-failed goes-stays c.grow.ensures c.in_err-next.wa
 pub returns-in_default : goal.returns-in_default
 returns-in_default g c =
     let end = at_end (HasInode-of c.requires.held) c.requires.within
-            (omega (arith, c.if-index-held.false, c.div_ceil-held.ensures)) in
+    (omega (arith, c.if-index-held.false, c.div_ceil-held.ensures)) in
     let lacks = subst (PutsBehind _ _ _ _ c.args.inode.now _) c.in_default.is c.in_ok-next.ensures.done in
     step-done c.grow.ensures.goes (rw end lacks.0, lacks.1)
 
@@ -45,8 +48,11 @@ pub write_inode-requires : goal.write_inode-requires
 write_inode-requires g c =
     let puts = subst (PutsBehind _ _ _ _ c.args.inode.now _) c.in-Some.is c.in_ok-next.ensures.done in
     let held = HasInode-of c.requires.held in
-    record { parts = HasParts-kept held.sound.parts puts.grows.count puts.grows.sizes; high = held.used.high;
-        fits = puts.fits }
+    record {
+      parts = HasParts-kept held.sound.parts puts.grows.count puts.grows.sizes;
+      high = held.used.high;
+      fits = puts.fits;
+    }
 
 pub returns-in_err-write_inode : goal.returns-in_err-write_inode
 returns-in_err-write_inode g c =
@@ -58,5 +64,5 @@ returns g c =
     let puts = subst (PutsBehind _ _ _ _ c.args.inode.now _) c.in-Some.is c.in_ok-next.ensures.done in
     step-done (goes-after c.grow.ensures.goes c.write_inode.ensures.goes)
     (Puts-grown (HasInode-of c.requires.held) c.requires.within
-        (omega (arith, c.if-index-held.false, c.div_ceil-held.ensures)) c.args.bytes.now puts
-        c.in_ok-write_inode.ensures.done)
+    (omega (arith, c.if-index-held.false, c.div_ceil-held.ensures)) c.args.bytes.now puts
+    c.in_ok-write_inode.ensures.done)

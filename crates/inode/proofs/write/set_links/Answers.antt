@@ -19,4 +19,4 @@ pub returns : goal.returns
 returns g c =
     let held = HasInode-read c.requires.sound c.requires.inode c.in_ok-inode.ensures.done.told.is in
     step-last c.read_inode.ensures.goes (λ _ writes. linked c.args.links held c.in_ok-inode.ensures.done.same writes)
-        c.write_inode.ensures
+    c.write_inode.ensures

@@ -22,7 +22,7 @@ pub returns-then-bytes-at : goal.returns-then-bytes-at
 returns-then-bytes-at g c =
     let long = own_length (HasInode-read c.requires.sound c.requires.inode c.in_ok-inode.ensures.done.told.is) in
     step-done c.read_inode.ensures.goes
-        (c.in_ok-inode.ensures.done.same, omega (arith, c.if-at-inode.false, long), omega (arith, c.if-bytes-at.true))
+    (c.in_ok-inode.ensures.done.same, omega (arith, c.if-at-inode.false, long), omega (arith, c.if-bytes-at.true))
 
 pub write_front-requires : goal.write_front-requires
 write_front-requires g c =
@@ -46,6 +46,8 @@ returns g c =
     let held = HasInode-read c.requires.sound c.requires.inode c.in_ok-inode.ensures.done.told.is in
     let long = own_length held in
     let fits = own_fits held in
-    step-done (goes-after c.read_inode.ensures.goes c.write_front.ensures.goes)
-    (omega (arith, c.if-at-inode.false, long), omega (arith, c.if-at-inode.false, fits, c.if-bytes-at.false),
-        rw (sym c.in_ok-inode.ensures.done.same) c.in_ok-written.ensures.done)
+    step-done (goes-after c.read_inode.ensures.goes c.write_front.ensures.goes) (
+      omega (arith, c.if-at-inode.false, long),
+      omega (arith, c.if-at-inode.false, fits, c.if-bytes-at.false),
+      rw (sym c.in_ok-inode.ensures.done.same) c.in_ok-written.ensures.done,
+    )

@@ -38,7 +38,7 @@ returns-then-not-branch g c =
     let lacks = subst (PutsPiece _ _ _ _ _ _ _) c.if-not-branch.true c.in_ok-put_piece.ensures.done in
     step-done (goes-after c.piece.invariant.goes c.put_piece.ensures.goes)
     (front-ends c.piece.done c.args.bytes.now c.requires.within c.piece.invariant.wrote c.piece.invariant.within
-        lacks.1 (λ _. lacks.0))
+    lacks.1 (λ _. lacks.0))
 
 pub piece-preserved : goal.piece-preserved
 piece-preserved g c =

@@ -11,7 +11,7 @@ returns-clause-is c = agrees c.args.word c.spelled_by.result c.spelled_by.ensure
 pub returns-clause-law : goal.returns-clause-law
 returns-clause-law c = λ instr fits.
     let is : c.spelled_by.result ≡ instruction_of c.args.word =
-            agrees c.args.word c.spelled_by.result c.spelled_by.ensures.found c.spelled_by.ensures.only in (
+    agrees c.args.word c.spelled_by.result c.spelled_by.ensures.found c.spelled_by.ensures.only in (
       (λ e. (subst (λ (r : Option Instr). IfSome r (λ j. Fits j × (spell j ≡ c.args.word))) (is ∙ e)
           c.spelled_by.ensures.found).1),
       (λ e. sym is ∙ c.spelled_by.ensures.only instr fits e),

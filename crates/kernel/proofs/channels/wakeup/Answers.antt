@@ -14,7 +14,7 @@ places-preserved c =
     let l = c.places in
     let told = c.in-Some.ensures in
     let now : Roused channel t at c.next_waiting.new.self = told.same
-            ∙ roused-to _ t _ _ at _ c.kind_of-kind.ensures l.invariant.1 told.all told.finds in
+    ∙ roused-to _ t _ _ at _ c.kind_of-kind.ensures l.invariant.1 told.all told.finds in
     let here = c.process.ensures.process ∙ ap (λ (x : Places). slot x.places at) now in
     let is : c.match-process.waits ≡ holds (waits_on channel) (slot t.places at) = elim c.match-process.branch [
       | in-Some-process w ↦ w.waits-is ∙ w.waits_on-waits.ensures

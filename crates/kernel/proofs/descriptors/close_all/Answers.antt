@@ -10,14 +10,14 @@ loop-descriptor-preserved g c =
       | in-Some+in-Some-close w ↦ rw
           (w.files-is, w.spaces-is, w.gone-is, w.close.ensures.files, w.close.ensures.pipes, w.from.ensures)
           (closes-some l.invariant (omega arith) _ w.in-Some.is _
-              (w.push.ensures.items ∙ ap (λ o. l.gone.items ++ listed o)
-              (sym w.in-Some-close.is ∙ w.close.ensures.node ∙ ap (last_node l.files) w.from.ensures)))
+          (w.push.ensures.items ∙ ap (λ o. l.gone.items ++ listed o)
+          (sym w.in-Some-close.is ∙ w.close.ensures.node ∙ ap (last_node l.files) w.from.ensures)))
       | in-Some+in_default-close w ↦ rw
           (w.files-is, w.spaces-is, w.gone-is, w.close.ensures.files, w.close.ensures.pipes, w.from.ensures)
           (closes-some l.invariant (omega arith) _ w.in-Some.is _
-              (sym (append-nil l.gone.items)
-              ∙ ap (λ o. l.gone.items ++ listed o)
-              (sym w.in_default-close.is ∙ w.close.ensures.node ∙ ap (last_node l.files) w.from.ensures)))
+          (sym (append-nil l.gone.items)
+          ∙ ap (λ o. l.gone.items ++ listed o)
+          (sym w.in_default-close.is ∙ w.close.ensures.node ∙ ap (last_node l.files) w.from.ensures)))
       | in_default w ↦ rw (w.files-is, w.spaces-is, w.gone-is) (closes-none l.invariant (omega arith) w.in_default.is)
     ]
 

@@ -26,5 +26,8 @@ pick-requires-clause-awake g c i out =
 pub pick-requires-2-clause-awake : goal.pick-requires-2-clause-awake
 pick-requires-2-clause-awake g c i out =
     let other = asleep-other c.pick.new.self.awake i (rw c.wake.ensures at out) in
-    record { shown = record { ref_ptr = (0, 0); now = c.wake.new.self.places }; shows = refl;
-        says = (search (rules, other)) }
+    record {
+      shown = record { ref_ptr = (0, 0); now = c.wake.new.self.places };
+      shows = refl;
+      says = (search (rules, other));
+    }

@@ -8,5 +8,5 @@ use Rattle.kernel_tests.proofs.processes.picks_in_turn.Goals as goal
 pub pick-requires-clause-awake : goal.pick-requires-clause-awake
 pick-requires-clause-awake g c i out =
     let all : c.put-3.new.self.awake ≡ all_in 64 =
-            rw (c.put-3.ensures, c.put-2.ensures, c.put.ensures, c.starting_at-table.ensures) refl in
+    rw (c.put-3.ensures, c.put-2.ensures, c.put.ensures, c.starting_at-table.ensures) refl in
     absurd (true≢false (sym (rw all (all-in 64 i)) ∙ out))

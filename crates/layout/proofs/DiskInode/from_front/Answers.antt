@@ -12,7 +12,7 @@ pub returns : goal.returns
 returns c =
     let bytes = c.args.bytes.now in
     let addresses : c.read_numbers.new.numbers ≡ numbers_in 13 (drop 12 bytes) = c.read_numbers.ensures
-            ∙ numbers_in-take 52 13 (drop 12 bytes) (omega arith) in
+    ∙ numbers_in-take 52 13 (drop 12 bytes) (omega arith) in
     record {
       inode = λ i. record {
         kind = c.read_u16.ensures i;
@@ -31,9 +31,9 @@ returns c =
         addresses = λ i h.
             let within : i < 13 = omega (arith, ap length addresses, length-numbers_in 13 (drop 12 bytes)) in
             let e : get_or c.read_numbers.new.numbers i 0 ≡ number_at (drop 12 bytes) i =
-                    ap (λ l. get_or l i 0) addresses ∙ get_or-numbers_in 13 (drop 12 bytes) i within in
+            ap (λ l. get_or l i 0) addresses ∙ get_or-numbers_in 13 (drop 12 bytes) i within in
             let f : number_at (drop 12 bytes) i < 2 ^ 32 =
-                    number_at-fits bytes 12 i (λ j. omega (arith, c.type_inv.bytes j)) in
+            number_at-fits bytes 12 i (λ j. omega (arith, c.type_inv.bytes j)) in
             omega arith;
         places = omega (arith, ap length addresses, length-numbers_in 13 (drop 12 bytes));
       };

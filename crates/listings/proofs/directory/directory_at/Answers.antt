@@ -17,4 +17,4 @@ returns-clause-folder g c =
     let seen = c.in_ok-node.ensures.told.1 at.0 at.1 in
     let kind : c.in_ok-node.node.kind ≡ 1 = search rules in
     folder-kept c.in_ok-node.ensures.told.0 c.in-Some.number
-        (folder-of (rests-kept told.0 c.requires) c.in-Some.number at.0 at.1 (sym seen.0 ∙ kind))
+    (folder-of (rests-kept told.0 c.requires) c.in-Some.number at.0 at.1 (sym seen.0 ∙ kind))

@@ -21,7 +21,7 @@ returns-clause-file g c =
     let seen = c.in_ok-node.ensures.told.1 at.0 at.1 in
     let kind : c.in_ok-node.node.kind ≡ 2 = search rules in
     subst (λ (files : Files). IsFile files c.in-Some.number) (ap (λ (t : FileTree). t.files) told.0)
-        (file-of c.in-Some.number at.0 at.1 (sym seen.0 ∙ kind))
+    (file-of c.in-Some.number at.0 at.1 (sym seen.0 ∙ kind))
 
 pub returns-clause-same : goal.returns-clause-same
 returns-clause-same g c = ap (λ (t : FileTree). t.files) c.in_ok-node.ensures.told.0

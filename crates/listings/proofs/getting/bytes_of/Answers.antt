@@ -22,10 +22,13 @@ returns g c =
     let mid = ap (λ (t : FileTree). slot t.files c.args.number) c.in_ok-size.ensures.told.0 ∙ file.here in
     let told = c.in_ok-_count.ensures.told.1 (File file.links file.bytes) mid in
     let long : length c.as_mut_slice.result.now ≡ length file.bytes =
-            omega (arith, size, c.as_mut_slice.ensures.len, c.in_ok-bytes.ensures.len) in
+    omega (arith, size, c.as_mut_slice.ensures.len, c.in_ok-bytes.ensures.len) in
     let whole : c.read.new.out ≡ file.bytes = whole-read file.bytes _ _ _ long told.0 told.1 in
     let all : length c.read.new.out ≡ c.in_ok-bytes.bytes.len =
-            omega (arith, ap length whole, size, c.in_ok-bytes.ensures.len) in
-    record { links = file.links; here = file.here
-        ∙ ap (λ bytes. Some (File file.links bytes))
-        (sym (take_at c.read.new.out _ c.in_ok-bytes.bytes.len all ∙ whole)) }
+    omega (arith, ap length whole, size, c.in_ok-bytes.ensures.len) in
+    record {
+      links = file.links;
+      here = file.here
+          ∙ ap (λ bytes. Some (File file.links bytes))
+          (sym (take_at c.read.new.out _ c.in_ok-bytes.bytes.len all ∙ whole));
+    }

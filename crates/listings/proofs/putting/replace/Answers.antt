@@ -10,5 +10,5 @@ returns-in-Some g c =
     let whole : c.in-Some.count ≡ length c.args.bytes.now = search (rules, tests) in
     let told = c.in_ok-count.ensures.told in
     let both = puts c.requires.rests c.args.number c.requires.file c.in_ok-truncate.ensures.told c.args.bytes.now
-            told.0 c.in_ok-count.field-0 told.1 c.in-Some.count c.in-Some.is whole in
+    told.0 c.in_ok-count.field-0 told.1 c.in-Some.count c.in-Some.is whole in
     record { put = both.0; rests = both.1 }

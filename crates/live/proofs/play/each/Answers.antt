@@ -14,16 +14,16 @@ returns-in_err-step-clause-gives g c =
     let before = c.loop-left.invariant in
     let more : c.args.times - c.loop-left.left < c.args.times = omega (arith, before.within, c.loop-left-test.true) in
     rw (p.1, p.2) (stops _ _ _ (c.args.times - c.loop-left.left) (replicate c.args.times c.args.event) _ _ _ _ _ _ _
-        (rw (length-replicate c.args.times c.args.event) more)
+    (rw (length-replicate c.args.times c.args.event) more)
     (repeat-next _ _ _ more) before.so_far (λ r. Rises-later _ _ _ before.later r c.step.ensures.later)
-        c.in_err-step.ensures.gives)
+    c.in_err-step.ensures.gives)
 
 pub loop-left-preserved : goal.loop-left-preserved
 loop-left-preserved g c =
     let before = c.loop-left.invariant in
     let more : c.args.times - c.loop-left.left < c.args.times = omega (arith, before.within, c.loop-left-test.true) in
     let next : c.args.times - (c.loop-left.left - 1) ≡ c.args.times - c.loop-left.left + 1 =
-            omega (arith, before.within, c.loop-left-test.true) in
+    omega (arith, before.within, c.loop-left-test.true) in
     record {
       so_far = rw next (goes_on _ _ _ (c.args.times - c.loop-left.left) (replicate c.args.times c.args.event) _ _ _ _
           (rw (length-replicate c.args.times c.args.event) more)

@@ -14,10 +14,10 @@ returns-in_err-obey-clause-gives g c =
     let p = err_from_is_err_and c.from_residual.result c.from_residual.ensures.1 in
     let before = c.loop-command.invariant in
     let whole = script-whole c.args.script.now c.loop-command.command-index c.command-item.result
-            c.loop-command-test.true c.command-item.is in
+    c.loop-command-test.true c.command-item.is in
     ends_with _ _ _ _ _ _ _ _ _ _ _ whole p.1 p.2
     (stops_in _ _ _ _ _ _ _ _ _ _ _ before.so_far (λ r. Rises-later _ _ _ before.later r c.obey.ensures.later)
-        c.in_err-obey.ensures.gives)
+    c.in_err-obey.ensures.gives)
 
 pub loop-command-preserved : goal.loop-command-preserved
 loop-command-preserved g c =

@@ -11,16 +11,16 @@ returns-in_err-step-clause-gives g c =
     let p = err_from_is_err_and c.from_residual.result c.from_residual.ensures.1 in
     let before = c.loop-key.invariant in
     let more : c.loop-key.key-index < length (map Key c.args.keys.now) =
-            rw (length-map c.args.keys.now Key) c.loop-key-test.true in
+    rw (length-map c.args.keys.now Key) c.loop-key-test.true in
     rw (p.1, p.2) (stops _ _ _ c.loop-key.key-index (map Key c.args.keys.now) _ _ _ _ _ _ _ more
-        (press-next _ _ c.loop-key-test.true) before.so_far
+    (press-next _ _ c.loop-key-test.true) before.so_far
     (λ r. Rises-later _ _ _ before.later r c.step.ensures.later) c.in_err-step.ensures.gives)
 
 pub loop-key-preserved : goal.loop-key-preserved
 loop-key-preserved g c =
     let before = c.loop-key.invariant in
     let more : c.loop-key.key-index < length (map Key c.args.keys.now) =
-            rw (length-map c.args.keys.now Key) c.loop-key-test.true in
+    rw (length-map c.args.keys.now Key) c.loop-key-test.true in
     record {
       so_far = goes_on _ _ _ c.loop-key.key-index (map Key c.args.keys.now) _ _ _ _ more
           (press-next _ _ c.loop-key-test.true) before.so_far c.in_ok-step.ensures.gives.1;

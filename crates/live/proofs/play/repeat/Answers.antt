@@ -14,10 +14,10 @@ returns-in_err-batch-clause-gives g c =
     let p = err_from_is_err_and c.from_residual.result c.from_residual.ensures.1 in
     let before = c.loop-made.invariant in
     ends_with _ _ _ _ _ _ _ _ _ _ _
-        (batch-whole c.args.times c.loop-made.made c.min-count.result c.args.event (omega arith)) p.1 p.2
+    (batch-whole c.args.times c.loop-made.made c.min-count.result c.args.event (omega arith)) p.1 p.2
     (stops_in _ _ _ _ _ _ _ _ _ _ _ (so-far-kept before.so_far c.write_out.ensures.kept)
     (λ r. Rises-later _ _ _ (let l = before.later in let k = c.write_out.ensures.later in omega arith) r
-        c.batch.ensures.later) c.in_err-batch.ensures.gives)
+    c.batch.ensures.later) c.in_err-batch.ensures.gives)
 
 pub loop-made-preserved : goal.loop-made-preserved
 loop-made-preserved g c =
@@ -25,7 +25,7 @@ loop-made-preserved g c =
     record {
       so_far = rw (← replicate-append-replicate c.loop-made.made c.min-count.result c.args.event)
           (goes_on_by _ _ _ _ _ _ _ _ (so-far-kept before.so_far c.write_out.ensures.kept)
-              c.in_ok-batch.ensures.gives.1);
+          c.in_ok-batch.ensures.gives.1);
       later = let l = before.later in let k = c.write_out.ensures.later in let m = c.batch.ensures.later in omega arith;
       within = omega arith;
     }

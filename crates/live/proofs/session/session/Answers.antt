@@ -25,20 +25,20 @@ returns-then-is_err g c =
 pub returns-then-is_end : goal.returns-then-is_end
 returns-then-is_end g c =
     rw c.ask-given.ensures.kept
-        (session-ends (session-flushed c.loop-moves.invariant c.flush.ensures.kept c.flush.ensures.later)
+    (session-ends (session-flushed c.loop-moves.invariant c.flush.ensures.kept c.flush.ensures.later)
     c.ask-given.result c.ask-given.ensures.gives (sym c.is_end.ensures ∙ c.if-is_end.true))
 
 pub returns-in_err-go_on : goal.returns-in_err-go_on
 returns-in_err-go_on g c =
     let p = err_from_is_err_and c.from_residual-in_err-go_on.result c.from_residual-in_err-go_on.ensures.1 in
     rw (p.1, p.2, c.go_on.ensures.gives)
-        (session-halts (session-flushed c.loop-moves.invariant c.flush.ensures.kept c.flush.ensures.later)
+    (session-halts (session-flushed c.loop-moves.invariant c.flush.ensures.kept c.flush.ensures.later)
     c.ask-given.result c.ask-given.ensures.gives c.ask-given.ensures.kept c.in_err-go_on.ensures.given)
 
 pub loop-moves-preserved : goal.loop-moves-preserved
 loop-moves-preserved g c =
     rw c.go_on.ensures.gives
-        (session-goes-on (session-flushed c.loop-moves.invariant c.flush.ensures.kept c.flush.ensures.later)
+    (session-goes-on (session-flushed c.loop-moves.invariant c.flush.ensures.kept c.flush.ensures.later)
     c.ask-given.result c.ask-given.ensures.gives c.ask-given.ensures.kept c.in_ok-go_on.ensures.given)
 
 pub returns : goal.returns

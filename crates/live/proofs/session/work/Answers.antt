@@ -19,7 +19,7 @@ returns-then-more-eq0 g c =
       | then-more-eq0-via-else-more-eq0+then-is_err w ↦ on-err _ r (sym w.is_err.ensures.value ∙ w.if-is_err.true)
     ] in
     let w = ends-by c.loop-done.invariant c.advance-more.ensures.piece _ _ c.advance-more.ensures.later
-            c.advance-more.ensures.gives none in
+    c.advance-more.ensures.gives none in
     record { gives = w.gives; count = w.within; all = w.all; later = w.later }
 
 pub returns : goal.returns

@@ -17,10 +17,18 @@ first_table-table-requires g c =
 
 pub new-kernel-requires : goal.new-kernel-requires
 new-kernel-requires g c =
-    rw (c.first_table-table.ensures, c.first_files.ensures, c.hold-2.ensures, c.hold.ensures,
-        flat-size c.args.bytes.now c.size.ensures c.if-not-load.ensures.0, c.if-not-load.ensures.0)
-    (record { sound = first-sound c.requires.flat _ (flat_space c.args.bytes.now) c.if-not-load.ensures.1;
-        watched = watched-all 64 })
+    rw (
+      c.first_table-table.ensures,
+      c.first_files.ensures,
+      c.hold-2.ensures,
+      c.hold.ensures,
+      flat-size c.args.bytes.now c.size.ensures c.if-not-load.ensures.0,
+      c.if-not-load.ensures.0,
+    )
+    (record {
+      sound = first-sound c.requires.flat _ (flat_space c.args.bytes.now) c.if-not-load.ensures.1;
+      watched = watched-all 64;
+    })
 
 pub returns-clause-booted : goal.returns-clause-booted
 returns-clause-booted g c =
@@ -28,19 +36,29 @@ returns-clause-booted g c =
     let frames = frames-of c.in-Ok.ensures in
     let size = flat-size bytes c.size.ensures c.if-not-load.ensures.0 in
     let kernel : c.new-kernel.result ≡ first_kernel c.args.tree c.args.frames (flat_space bytes) = c.new-kernel.ensures
-            ∙ rw (c.first_table-table.ensures, c.first_files.ensures, c.hold-2.ensures, c.hold.ensures, size,
-            c.if-not-load.ensures.0, frames) refl in
+    ∙ rw (
+      c.first_table-table.ensures,
+      c.first_files.ensures,
+      c.hold-2.ensures,
+      c.hold.ensures,
+      size,
+      c.if-not-load.ensures.0,
+      frames,
+    ) refl in
     rw c.new-machine.ensures
-        (start-fits c.requires.flat bytes c.args.frames (rw frames at c.if-not-load.ensures.1)
-        ∙ ap (λ (k : Kernel). Some (state_of k)) (sym kernel))
+    (start-fits c.requires.flat bytes c.args.frames (rw frames at c.if-not-load.ensures.1)
+    ∙ ap (λ (k : Kernel). Some (state_of k)) (sym kernel))
 
 pub hold-requires : goal.hold-requires
 hold-requires g c = record { up = c.requires.flat.up; node = hold-root c.requires.flat; few = few-root c.requires.flat }
 
 pub hold-requires-2 : goal.hold-requires-2
 hold-requires-2 g c =
-    record { up = rw c.hold.ensures c.requires.flat.up; node = rw c.hold.ensures (hold-console c.requires.flat);
-        few = rw c.hold.ensures (few-console c.requires.flat) }
+    record {
+      up = rw c.hold.ensures c.requires.flat.up;
+      node = rw c.hold.ensures (hold-console c.requires.flat);
+      few = rw c.hold.ensures (few-console c.requires.flat);
+    }
 
 pub returns-clause-identity : goal.returns-clause-identity
 returns-clause-identity g c =

@@ -27,7 +27,7 @@ returns-then-not-grow g c =
 pub fill-requires : goal.fill-requires
 fill-requires g c =
     let segment = segment-made c.args.bytes.now _ (omega (arith, c.pages_in-pages.ensures)) c.requires
-            c.if-not-create.ensures.done.1 c.if-not-grow.ensures.done.1 in
+    c.if-not-create.ensures.done.1 c.if-not-grow.ensures.done.1 in
     record { space = alone-space segment; inside = fill-inside c.args.bytes.now segment }
 
 pub grow-requires-2 : goal.grow-requires-2
@@ -45,6 +45,6 @@ grow-requires-3 g c = alone-space
 pub returns : goal.returns
 returns g c =
     let guard = guard-made c.args.bytes.now (filled g (goal.at.returns g c).After-fill) c.if-not-grow-2.ensures.done.1
-            in
+    in
     flat-loaded c.args.bytes.now c.args.spaces.now c.grow-2.new.self c.grow-3.new.self guard c.grow-3.result
-        c.grow-3.ensures.done c.grow-3.ensures.refused
+    c.grow-3.ensures.done c.grow-3.ensures.refused

@@ -14,8 +14,8 @@ new-kernel-requires g c = record {
 pub returns-in-Ok-Some-clause-begun : goal.returns-in-Ok-Some-clause-begun
 returns-in-Ok-Some-clause-begun g c =
     begun-init c.requires.unheld c.in-Ok-Some.ensures.serves.told c.is_whole.ensures c.in-Ok.spaces
-        c.put_init.new.spaces (frames-of c.in-Ok.ensures) c.in-Ok-Some.field-0-is c.in-Ok-Some.ensures.put
-        c.hold.ensures c.first_table-table.ensures c.new-files.ensures
+    c.put_init.new.spaces (frames-of c.in-Ok.ensures) c.in-Ok-Some.field-0-is c.in-Ok-Some.ensures.put
+    c.hold.ensures c.first_table-table.ensures c.new-files.ensures
     c.new-kernel.ensures c.new-machine.ensures c.in-Ok-Some.ensures.serves.cause.later
 
 pub returns-in-Ok-None-clause-refused : goal.returns-in-Ok-None-clause-refused

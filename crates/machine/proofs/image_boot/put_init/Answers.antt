@@ -5,12 +5,12 @@ use Rattle.machine.proofs.Booting.{in-place, ready}
 pub returns-clause-put : goal.returns-clause-put
 returns-clause-put g c =
     in-place c.in_ok-init.ensures c.in-Some.is c.args.spaces.now c.create.new.self c.requires.none
-        c.if-not-create.ensures.done.1 c.free.ensures c.load.new.spaces c.in_ok-load.ensures.loaded
+    c.if-not-create.ensures.done.1 c.free.ensures c.load.new.spaces c.in_ok-load.ensures.loaded
 
 pub load-requires : goal.load-requires
 load-requires g c =
     let asks = ready c.in_ok-init.ensures c.in-Some.is c.args.spaces.now c.create.new.self c.requires.none
-            c.if-not-create.ensures.done.1 c.free.ensures c.requires.few in
+    c.if-not-create.ensures.done.1 c.free.ensures c.requires.few in
     record {
       up = c.in_ok-init.ensures.up;
       file = asks.file;

@@ -19,8 +19,11 @@ returns-then-frames-from g c =
 
 pub one_argument-requires : goal.one_argument-requires
 one_argument-requires g c =
-    record { fits = few-pages c.in_ok-number.ensures c.in-Some.is c.in_ok-program.ensures c.in-Some-2.is c.args.frames
-    c.frames.ensures (omega (arith, c.from.ensures, c.if-frames-from.false)) (omega (arith, c.ranges.frames.fits)) }
+    record {
+      fits = few-pages c.in_ok-number.ensures c.in-Some.is c.in_ok-program.ensures c.in-Some-2.is c.args.frames
+          c.frames.ensures (omega (arith, c.from.ensures, c.if-frames-from.false))
+          (omega (arith, c.ranges.frames.fits));
+    }
 
 pub returns-in_default-one_argument : goal.returns-in_default-one_argument
 returns-in_default-one_argument g c =

@@ -8,4 +8,4 @@ returns-in-Ok-mount c =
     let failing = c.new-2.result in
     IsFlat-mounted failing.device.bytes c.in-Ok.image.items (count_of failing.left 0) c.in-Ok-mount.tree
     (ap (λ (disk : Disk). disk.bytes) c.new-2.ensures.device ∙ c.in-Ok-new.ensures.bytes) c.in-Ok.ensures
-        c.in-Ok-mount.ensures.mounted
+    c.in-Ok-mount.ensures.mounted

@@ -33,23 +33,25 @@ returns-in_err-read_contents g c =
 pub write_at-requires : goal.write_at-requires
 write_at-requires g c =
     let able = c.requires.able in
-    record { up = c.in_ok-take_at.ensures.failed;
-        node = taken-some able.1 _ (in-files able.1 _ c.requires.high) c.kind.result c.links.result
-        (λ free. c.requires.used ((read-free _ _ _).0 (sym c.kind.ensures ∙ free))) c.in_ok-take_at.ensures.done }
+    record {
+      up = c.in_ok-take_at.ensures.failed;
+      node = taken-some able.1 _ (in-files able.1 _ c.requires.high) c.kind.result c.links.result
+          (λ free. c.requires.used ((read-free _ _ _).0 (sym c.kind.ensures ∙ free))) c.in_ok-take_at.ensures.done;
+    }
 
 pub returns-in_err-write_at : goal.returns-in_err-write_at
 returns-in_err-write_at g c = λ now node copies none stands.
     let taken = fresh-as node (c.kind.ensures ∙ kind-node node stands.is) (c.links.ensures ∙ stands.is.links)
-            c.in_ok-take_at.ensures.done in
+    c.in_ok-take_at.ensures.done in
     let bytes = c.deref.ensures.value ∙ c.in_ok-read_contents.ensures ∙ stands.is.contents in
     rw (told_err c.from_residual-in_err-write_at.result c.from_residual-in_err-write_at.ensures.1)
     (refused-lacks copies _ (in-files copies _ c.requires.high) none node c.in_ok-take_at.ensures.follows.geometry
-        taken stands bytes c.in_err-write_at.ensures)
+    taken stands bytes c.in_err-write_at.ensures)
 
 pub returns : goal.returns
 returns g c = λ now node copies none stands.
     let taken = fresh-as node (c.kind.ensures ∙ kind-node node stands.is) (c.links.ensures ∙ stands.is.links)
-            c.in_ok-take_at.ensures.done in
+    c.in_ok-take_at.ensures.done in
     let bytes = c.deref.ensures.value ∙ c.in_ok-read_contents.ensures ∙ stands.is.contents in
     written-copies copies _ (in-files copies _ c.requires.high) none node c.in_ok-take_at.ensures.follows.geometry
-        taken stands bytes c.in_ok-write_at.ensures
+    taken stands bytes c.in_ok-write_at.ensures

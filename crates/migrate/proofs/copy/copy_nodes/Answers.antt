@@ -32,11 +32,11 @@ returns-in_err-copy_node g c =
     let copied = c.loop-n.invariant in
     let high = c.loop-n-test.true in
     let used : kind_in old n ≢ 0 =
-            λ z. iff_false c.is_free.ensures c.if-not-is_free.true (c.kind.ensures ∙ (read-free _ _ _).1 z) in
+    λ z. iff_false c.is_free.ensures c.if-not-is_free.true (c.kind.ensures ∙ (read-free _ _ _).1 z) in
     rw (told_err c.from_residual.result c.from_residual.ensures.1)
     (lacks-more old c.requires.source _ c.requires.geometry n c.loop-n.auto.n high used copied _
     (c.in_err-copy_node.ensures copied.now (node_in old n) copied.copies (copied.part.after n (omega arith))
-        (node-stands old c.requires.source _ c.requires.geometry n c.loop-n.auto.n high used)))
+    (node-stands old c.requires.source _ c.requires.geometry n c.loop-n.auto.n high used)))
 
 pub loop-n-preserved : goal.loop-n-preserved
 loop-n-preserved g c =
@@ -51,11 +51,11 @@ loop-n-preserved g c =
     elim c.if-not-is_free.branch [
       | then-not-is_free+in_ok-copy_node w ↦
           let used : kind_in old n ≢ 0 =
-                  λ z. iff_false c.is_free.ensures w.if-not-is_free.true (c.kind.ensures ∙ (read-free _ _ _).1 z) in
+          λ z. iff_false c.is_free.ensures w.if-not-is_free.true (c.kind.ensures ∙ (read-free _ _ _).1 z) in
           subst (λ s. HasCopied geometry s (n + 1) (files_in old)) (sym w.volume-is)
           (copied-more old source geometry has n low high used copied
-              (w.in_ok-copy_node.ensures copied.now (node_in old n) copied.copies (copied.part.after n (omega arith))
-              (node-stands old source geometry has n low high used)))
+          (w.in_ok-copy_node.ensures copied.now (node_in old n) copied.copies (copied.part.after n (omega arith))
+          (node-stands old source geometry has n low high used)))
       | else-not-is_free w ↦ subst (λ s. HasCopied geometry s (n + 1) (files_in old)) (sym w.volume-is)
           (copied-free old source geometry has n high
           ((read-free _ _ _).0 (sym c.kind.ensures ∙ c.is_free.ensures.0 w.if-not-is_free.false)) copied)
@@ -65,5 +65,9 @@ pub returns : goal.returns
 returns g c =
     let end = c.loop-n.auto.n-end (omega (arith, inodes-least c.requires.geometry)) in
     copied-all c.loop-n.invariant
-        (omega (arith, count-files c.args.old.now c.requires.source c.args.geometry c.requires.geometry, end,
-        c.loop-n-test.false))
+    (omega (
+      arith,
+      count-files c.args.old.now c.requires.source c.args.geometry c.requires.geometry,
+      end,
+      c.loop-n-test.false,
+    ))

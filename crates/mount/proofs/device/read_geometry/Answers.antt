@@ -6,5 +6,7 @@ returns-clause-numbers g c =
     let blocks = g.D.BlockDev.content c.args.device.now in
     let sizes = g.met.D.BlockDev.sizes c.args.device.now in
     let numbers = c.from_front-numbers.ensures ∙ ap super_of c.in_ok-block.ensures.bytes in
-    record { size = size-is blocks sizes c.requires c.from_front-numbers.result numbers;
-        inodes = inodes-is blocks sizes c.requires c.from_front-numbers.result numbers }
+    record {
+      size = size-is blocks sizes c.requires c.from_front-numbers.result numbers;
+      inodes = inodes-is blocks sizes c.requires c.from_front-numbers.result numbers;
+    }

@@ -14,8 +14,8 @@ pub unreachable-requires-in_default-fault : goal.unreachable-requires-in_default
 unreachable-requires-in_default-fault c =
     let bytes = c.in-Ok.device.bytes in
     not-unmounted (image_of (blocks_of bytes)) flat_files _
-        (Denotes-disk bytes _ c.in-Ok.ensures.bytes c.in_ok-image.ensures) c.in-Err.ensures.unmounted
-        c.in_default-fault.not-NoMemory
+    (Denotes-disk bytes _ c.in-Ok.ensures.bytes c.in_ok-image.ensures) c.in-Err.ensures.unmounted
+    c.in_default-fault.not-NoMemory
 
 pub returns-in-Ok-mount : goal.returns-in-Ok-mount
 returns-in-Ok-mount c =

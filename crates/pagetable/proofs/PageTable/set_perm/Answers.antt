@@ -22,7 +22,7 @@ unreachable-requires c = c.requires.mapped (lookup_of-low _ _ c.args.page c.in_d
 pub returns-clause-inserts : goal.returns-clause-inserts
 returns-clause-inserts c = λ f old h.
     let e : ◌≡◌ {A = Option (ℕ × ℕ)} (Some (c.in-Some-leaf.frame.0, _)) (Some (f, old)) = c.in-Some-leaf.ensures
-            ∙ sym (lookup_of-low _ _ c.args.page c.in-Some.ensures) ∙ h in
+    ∙ sym (lookup_of-low _ _ c.args.page c.in-Some.ensures) ∙ h in
     let same : c.in-Some-leaf.frame.0 ≡ f = first-same _ _ f old e in
     rw (← same) c.set_leaf.ensures.inserts
 

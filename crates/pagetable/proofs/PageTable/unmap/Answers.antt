@@ -36,7 +36,7 @@ returns-then-is_used c =
     let used = c.is_used.ensures.used c.if-is_used.true in
     let after = clear.tables (low_node page) (low_is_node page) ∙ sym low in
     let drops = Adds-by c.clear_leaf.new.ram c.args.ram.now c.args.self.now.root.0 page c.args.frames.now
-            c.args.frames.now (mid ∙ sym (clear.tables (mid_node page) (mid_is_node page))) (sym after) refl refl
+    c.args.frames.now (mid ∙ sym (clear.tables (mid_node page) (mid_is_node page))) (sym after) refl refl
     (sym mid) (sym low) (λ x nx _ _. sym (clear.tables x nx)) clear.free in
     let in_use = used-low _ _ page used.0 c.requires.page after used.1 used.2 in
     record {
@@ -61,10 +61,10 @@ returns-then-is_used-2 c =
     let mid = c.in-Some.ensures in
     let used = c.is_used-2.ensures.used c.if-is_used-2.true in
     let after = drop.beside (mid_node page) (mid_is_node page) (λ e. cc)
-            ∙ clear.tables (mid_node page) (mid_is_node page) ∙ sym mid in
+    ∙ clear.tables (mid_node page) (mid_is_node page) ∙ sym mid in
     let removes = Removes-after _ _ _ _ _ drop.same clear.removes in
     let drops = Adds-by k m r page c.drop_low.new.frames c.args.frames.now (sym after) (sym drop.gone) refl refl
-            (sym mid) (sym c.in-Some-low_table.ensures)
+    (sym mid) (sym c.in-Some-low_table.ensures)
     (λ x nx _ nl. sym (drop.beside x nx nl ∙ clear.tables x nx)) (rw clear.free at drop.given) in
     record {
       was = was (goal.at.returns-then-is_used-2 c).After-clear_leaf;
@@ -90,9 +90,9 @@ returns c =
     let gone = drop.beside (low_node page) (low_is_node page) (λ e. cc) ∙ low.gone in
     let removes = Removes-after _ _ _ _ _ (λ p. drop.same p ∙ low.same p) clear.removes in
     let drops = Adds-by k m r page c.drop_mid.new.frames c.args.frames.now (sym drop.gone) (sym gone) refl refl
-            (sym c.in-Some.ensures) (sym c.in-Some-low_table.ensures)
+    (sym c.in-Some.ensures) (sym c.in-Some-low_table.ensures)
     (λ x nx nm nl. sym (drop.beside x nx nm ∙ low.beside x nx nl ∙ clear.tables x nx))
-        (drop.given ∙ ap (λ l. c.in-Some.mid.0 ∷ l) (rw clear.free at low.given)) in
+    (drop.given ∙ ap (λ l. c.in-Some.mid.0 ∷ l) (rw clear.free at low.given)) in
     record {
       was = was (goal.at.returns c).After-clear_leaf;
       removes = removes;

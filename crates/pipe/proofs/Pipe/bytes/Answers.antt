@@ -10,4 +10,4 @@ returns c =
     let front = c.min-front.result in
     let count : s.from + front - s.from ≡ front = omega arith in
     rw (← c.self.view_is, ← c.frame-places.ensures, count)
-        (ring-parts _ (omega (arith, full)) c.self.invariant.0 c.self.invariant.1 c.min-front.ensures)
+    (ring-parts _ (omega (arith, full)) c.self.invariant.0 c.self.invariant.1 c.min-front.ensures)

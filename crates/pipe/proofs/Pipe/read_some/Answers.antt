@@ -28,9 +28,9 @@ returns-clause-waits c =
 pub returns-clause-taken : goal.returns-clause-taken
 returns-clause-taken c =
     let len : length (take c.min-count.result c.args.buffer.now) ≡ c.min-count.result =
-            omega (arith, c.min-count.ensures, length-take c.min-count.result c.args.buffer.now) in
+    omega (arith, c.min-count.ensures, length-take c.min-count.result c.args.buffer.now) in
     rw (← c.self.view_is, c.copy_out.ensures, c.frame.ensures, len)
-        (ap (λ l. l ++ drop c.min-count.result c.args.buffer.now) (read-bytes _ _ _ _ c.min-count.ensures))
+    (ap (λ l. l ++ drop c.min-count.result c.args.buffer.now) (read-bytes _ _ _ _ c.min-count.ensures))
 
 pub returns-clause-count : goal.returns-clause-count
 returns-clause-count c = rw (← c.self.view_is, length-ring) c.min-count.ensures

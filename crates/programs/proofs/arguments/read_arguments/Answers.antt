@@ -10,7 +10,7 @@ loop-i-init g c = none-pushed _ _ refl refl refl
 pub overflow_add-argv : goal.overflow_add-argv
 overflow_add-argv g c =
     let low = string-fits _ _ _ _ c.pages_are_whole.ensures.sized c.pages_are_whole.ensures.few c.ranges.argv.fits
-            c.loop-i.invariant.reached in
+    c.loop-i.invariant.reached in
     omega (arith, low)
 
 pub returns-in_default : goal.returns-in_default
@@ -30,7 +30,7 @@ returns-in_default-push_string g c =
 pub loop-i-preserved : goal.loop-i-preserved
 loop-i-preserved g c =
     string-pushed c.pages_are_whole.ensures.sized c.loop-i.invariant c.loop-i-test.true c.in-Some.ensures refl
-        c.if-word-eq0.false c.in-Some-push_string.ensures refl c.put_pointer.ensures
+    c.if-word-eq0.false c.in-Some-push_string.ensures refl c.put_pointer.ensures
 
 pub returns : goal.returns
 returns g c = all-pushed c.loop-i.invariant c.loop-i-test.false

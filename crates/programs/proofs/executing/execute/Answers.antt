@@ -14,9 +14,11 @@ returns-in_err-program g c = record {
 }
 
 pub returns-in_default-clause-executed : goal.returns-in_default-clause-executed
-returns-in_default-clause-executed g c =
-    (refl, λ p is. absurd (none-some p
-    (sym (program-none c.args.number c.in_ok-program.ensures c.in_default.is _ _) ∙ is)))
+returns-in_default-clause-executed g c = (
+  refl,
+  λ p is. absurd (none-some p
+      (sym (program-none c.args.number c.in_ok-program.ensures c.in_default.is _ _) ∙ is)),
+)
 
 pub returns-then-frames-from-clause-executed : goal.returns-then-frames-from-clause-executed
 returns-then-frames-from-clause-executed g c = (
@@ -50,7 +52,7 @@ returns-clause-executed g c =
     let of = program-of c.args.number c.in_ok-program.ensures c.in-Some.is in
     is-executed of c.args.spaces.now c.args.at c.args.argv c.in-Some-read_arguments.ensures
     c.frames.ensures c.free.ensures (omega (arith, c.if-frames-from.false, c.from.ensures))
-        (c.in_ok-load.ensures.loaded of.is.loaded (loaded-there c.args.number c.in_ok-program.ensures of))
+    (c.in_ok-load.ensures.loaded of.is.loaded (loaded-there c.args.number c.in_ok-program.ensures of))
 
 pub frames-requires : goal.frames-requires
 frames-requires g c =

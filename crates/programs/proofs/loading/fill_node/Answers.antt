@@ -24,7 +24,7 @@ loop-done-preserved g c =
     (size-whole _ _ _ c.min-size.array_long c.min-size.ensures) c.loop-done-test.true
     (size-fits _ _ _ _ c.loop-done-test.true c.min-size.ensures)
     c.pages_are_whole.ensures.sized c.requires.within c.in_ok-fill_piece.ensures.serves
-        c.in_ok-fill_piece.ensures.filled
+    c.in_ok-fill_piece.ensures.filled
 
 pub returns-in_err-fill_piece : goal.returns-in_err-fill_piece
 returns-in_err-fill_piece g c = record {

@@ -30,7 +30,7 @@ returns-in_err-load_segments g c = record {
 pub add_stack-requires : goal.add_stack-requires
 add_stack-requires g c =
     let fits = stack-fits c.requires.file c.in_ok-len.ensures (is-program _ _ c.requires.program) c.args.spaces.now
-            c.args.at c.clear.ensures c.requires.space c.in_ok-load_segments.ensures.loaded c.requires.room in
+    c.args.at c.clear.ensures c.requires.space c.in_ok-load_segments.ensures.loaded c.requires.room in
     record { space = fits.0; paged = fits.1; room = fits.2 }
 
 pub returns : goal.returns

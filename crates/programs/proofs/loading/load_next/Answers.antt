@@ -17,9 +17,9 @@ pub load_segment-requires : goal.load_segment-requires
 load_segment-requires g c =
     let kept = kept-one c.in_ok-segment.ensures.told.same c.in_ok-segment.ensures in
     let is = is-next _ c.args.place _ c.args.end c.in_ok-segment.ensures.told.value c.requires.next.0 c.requires.next.1
-            c.in-Ok-Some.is c.in-Ok-Some.field-0-is c.requires.whole in
+    c.in-Ok-Some.is c.in-Ok-Some.field-0-is c.requires.whole in
     let next = fits-next c.args.spaces.now c.args.at c.args.number c.args.place c.args.end kept c.requires.next.0 is
-            c.requires.next.2 c.requires.next.3 in
+    c.requires.next.2 c.requires.next.3 in
     record {
       up = kept.up;
       file = kept-is-file kept c.requires.file;
@@ -44,9 +44,9 @@ returns-in_ok-load_segment-in-Ok-Some g c =
           c.in_ok-load_segment-in-Ok-Some.ensures.serves);
       loaded = λ next some.
           let is = is-next _ c.args.place _ c.args.end c.in_ok-segment.ensures.told.value next some c.in-Ok-Some.is
-                  c.in-Ok-Some.field-0-is c.requires.whole in
+          c.in-Ok-Some.field-0-is c.requires.whole in
           segment-next c.args.spaces.now c.args.at c.args.number c.args.place c.args.end kept next is
-              c.in_ok-load_segment-in-Ok-Some.ensures.loaded;
+          c.in_ok-load_segment-in-Ok-Some.ensures.loaded;
       failed = tt;
     }
 
@@ -57,8 +57,8 @@ returns-in-Ok-None g c =
       serves = kept-leaves kept;
       loaded = λ next some.
           nothing-more c.args.spaces.now c.args.at c.args.number c.args.place c.args.end kept next c.requires.space
-              c.requires.paged
+          c.requires.paged
           (skipped-next _ c.args.place (view_at c.args.spaces.now c.args.at) c.args.end
-              c.in_ok-segment.ensures.told.value next some c.in-Ok-None.is c.in-Ok-None.field-0-is);
+          c.in_ok-segment.ensures.told.value next some c.in-Ok-None.is c.in-Ok-None.field-0-is);
       failed = tt;
     }

@@ -31,10 +31,10 @@ returns-in_err-end-clause-failed g c =
 pub loop-i-preserved : goal.loop-i-preserved
 loop-i-preserved g c =
     loading-more c.loop-i.invariant c.requires.space c.loop-i-test.true
-        (ap (is_within c.args.header.program_headers (56 * c.args.header.count)) (sym c.requires.long)
-        ∙ c.requires.within) c.requires.last
+    (ap (is_within c.args.header.program_headers (56 * c.args.header.count)) (sym c.requires.long)
+    ∙ c.requires.within) c.requires.last
     (ap (λ i. c.args.header.program_headers + 56 * i) c.from.ensures) c.in_ok-end.ensures.serves
-        c.in_ok-end.ensures.loaded
+    c.in_ok-end.ensures.loaded
 
 pub returns-clause-loaded : goal.returns-clause-loaded
 returns-clause-loaded g c = λ last is. loading-all c.loop-i.invariant c.requires.space c.loop-i-test.false is

@@ -6,6 +6,6 @@ pub returns : goal.returns
 unfolding word_bytes
 returns c =
     put-view c.self.inside.frames.items c.args.self.now c.args.f.0 c.args.at c.index.result.now
-        c.index_mut-frame.result.now c.write_u16.new.buf (word_bytes 2 c.args.x)
+    c.index_mut-frame.result.now c.write_u16.new.buf (word_bytes 2 c.args.x)
     c.self.view_is c.requires.frame c.index.ensures c.index_mut-frame.ensures.value c.whole.ensures c.requires.place
-        c.write_u16.ensures
+    c.write_u16.ensures

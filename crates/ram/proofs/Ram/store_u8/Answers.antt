@@ -8,5 +8,5 @@ returns c =
     let v = c.args.self.now in
     let r = c.index_mut-frame.result.now in
     let is = frame-read m c.self.view_is c.args.f.0 c.index.result.now r c.requires.frame c.index.ensures
-            c.index_mut-frame.ensures.value c.whole.ensures in
+    c.index_mut-frame.ensures.value c.whole.ensures in
     byte-view m c.self.view_is c.args.f.0 c.args.at c.args.x r is.0 is.1 (omega arith) (omega arith)

@@ -7,4 +7,4 @@ pub returns : goal.returns
 returns c =
     let m = c.self.inside.frames.items in
     ap (λ (w : List ℕ). map sized (set m c.args.f.0 w)) c.clear.ensures
-        ∙ set-view_full m c.self.view_is c.args.f.0 (replicate 4096 0) length-zeros
+    ∙ set-view_full m c.self.view_is c.args.f.0 (replicate 4096 0) length-zeros

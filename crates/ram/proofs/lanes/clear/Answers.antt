@@ -10,7 +10,7 @@ pub loop-part-preserved : goal.loop-part-preserved
 loop-part-preserved c =
     let n : ℕ = c.loop-part.part in
     IsWritten-more (n * 64 + 64 - n * 64) (replicate 64 0) c.loop-part.invariant c.loop-part-test.true (omega arith)
-        (length-replicate {A = ℕ} 4096 0)
+    (length-replicate {A = ℕ} 4096 0)
     (zeros-part (n * 64) 64 4096 (let h : n < 64 = c.loop-part-test.true in omega arith))
 
 pub returns : goal.returns

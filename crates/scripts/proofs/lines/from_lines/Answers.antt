@@ -6,19 +6,19 @@ use Rattle.scripts.proofs.lines.from_lines.Goals as goal
 pub loop-index-preserved-then-is_empty : goal.loop-index-preserved-then-is_empty
 loop-index-preserved-then-is_empty g c =
     said-next g.L.FromLine.says (λ line. line.now) c.args.lines.now c.loop-index.index _ c.loop-index.said.items
-        c.loop-index-test.true c.loop-index.invariant (sym c.if-is_empty.true ∙ c.is_empty.ensures)
+    c.loop-index-test.true c.loop-index.invariant (sym c.if-is_empty.true ∙ c.is_empty.ensures)
 
 pub loop-index-preserved : goal.loop-index-preserved
 loop-index-preserved g c =
     rw c.in_ok-push.ensures.items
     (said-item g.L.FromLine.says (λ line. line.now) c.args.lines.now c.loop-index.index _ c.loop-index.said.items
-        c.loop-index-test.true c.loop-index.invariant c.in-Some.one
+    c.loop-index-test.true c.loop-index.invariant c.in-Some.one
     (sym c.if-is_empty.false ∙ c.is_empty.ensures) (rw c.in-Some.is at c.in_ok-one.ensures))
 
 pub returns-in_default-clause-err : goal.returns-in_default-clause-err
 returns-in_default-clause-err g c =
     first-fault g.L.FromLine.says (λ line. line.now) c.args.lines.now c.loop-index.index _ c.loop-index.said.items
-        c.loop-index-test.true c.loop-index.invariant
+    c.loop-index-test.true c.loop-index.invariant
     (sym c.if-is_empty.false ∙ c.is_empty.ensures) (rw c.in_default.is at c.in_ok-one.ensures)
 
 pub returns-in_err-one : goal.returns-in_err-one

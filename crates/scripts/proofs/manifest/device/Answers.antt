@@ -10,7 +10,7 @@ pub returns-in_err-first : goal.returns-in_err-first
 returns-in_err-first c =
     rw c.from_residual-in_err-first.ensures
     (no-second c.args.rest.now c.in_ok-path.path.now c.in_ok-path.numbers.now
-        (sym (rw c.in_ok-path.was at c.split_field.ensures)) (sym (rw c.in_err-first.was at c.split_field-2.ensures)))
+    (sym (rw c.in_ok-path.was at c.split_field.ensures)) (sym (rw c.in_err-first.was at c.split_field-2.ensures)))
 
 pub returns-in_err-major : goal.returns-in_err-major
 returns-in_err-major c =
@@ -18,8 +18,8 @@ returns-in_err-major c =
     let there = sym (rw c.in_ok-first.was at c.split_field-2.ensures) in
     rw c.from_residual-in_err-major.ensures (λ p first second h.
     c.in_err-major.ensures first
-        (device-majors c.args.rest.now c.in_ok-path.path.now c.in_ok-path.numbers.now here c.in_ok-first.first.now
-        c.in_ok-first.second.now there p first second h).0)
+    (device-majors c.args.rest.now c.in_ok-path.path.now c.in_ok-path.numbers.now here c.in_ok-first.first.now
+    c.in_ok-first.second.now there p first second h).0)
 
 pub returns-in_err-major-2 : goal.returns-in_err-major-2
 returns-in_err-major-2 c =
@@ -27,8 +27,8 @@ returns-in_err-major-2 c =
     let there = sym (rw c.in_ok-first.was at c.split_field-2.ensures) in
     rw c.from_residual-in_err-major-2.ensures (λ p first second h.
     c.in_err-major-2.ensures second
-        (device-majors c.args.rest.now c.in_ok-path.path.now c.in_ok-path.numbers.now here c.in_ok-first.first.now
-        c.in_ok-first.second.now there p first second h).1)
+    (device-majors c.args.rest.now c.in_ok-path.path.now c.in_ok-path.numbers.now here c.in_ok-first.first.now
+    c.in_ok-first.second.now there p first second h).1)
 
 pub returns : goal.returns
 returns c = (

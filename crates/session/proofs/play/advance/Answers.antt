@@ -40,7 +40,7 @@ returns-then-more-eq0-clause-advances g c =
       | then-more-eq0-via-else-more-eq0+then-is_err w ↦ on-err _ r (sym w.is_err.ensures.value ∙ w.if-is_err.true)
     ] in
     ends-by _ _ _ c.args.most c.loop-steps.steps c.advance-more.result.0 _ _ _ before.so_far _ _ r before.busy
-        before.within (λ r. Rises-later _ _ _ before.later r e.later) e.gives e.piece none
+    before.within (λ r. Rises-later _ _ _ before.later r e.later) e.gives e.piece none
 
 pub returns-clause-advances : goal.returns-clause-advances
 returns-clause-advances g c =

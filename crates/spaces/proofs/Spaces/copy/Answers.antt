@@ -13,15 +13,15 @@ copy-requires g c = c.self.invariant.machine.each c.args.from c.space_at-space.r
 
 made : (g : given.Over) (c : After-fence_active g)
     → Shows g.T.Translate.held c.self.inside
-        (set_in c.self.inside c.copy.new.ram c.copy.new.frames c.fence_active.new.translator c.deref_mut.result.now
-        c.args.to (Some c.in-Ok.space)) (copied (spaces_of c.self.inside) c.args.from c.args.to)
+    (set_in c.self.inside c.copy.new.ram c.copy.new.frames c.fence_active.new.translator c.deref_mut.result.now
+    c.args.to (Some c.in-Ok.space)) (copied (spaces_of c.self.inside) c.args.from c.args.to)
 made g c =
     let there = c.in-Ok.ensures in
     shared-there c.self.invariant c.args.from c.args.to c.space_at-space.result.now c.in-Ok.space
-        c.fence_active.new.translator c.requires.inside (rw (← c.self.view_is) at c.requires.free)
-        c.deref_mut.ensures.value c.space_at-space.ensures
+    c.fence_active.new.translator c.requires.inside (rw (← c.self.view_is) at c.requires.free)
+    c.deref_mut.ensures.value c.space_at-space.ensures
     there.source there.space there.trades c.fence_active.ensures.fewer c.fence_active.ensures.fenced there.marked
-        there.pages there.size
+    there.pages there.size
 
 pub invariant_of-self : goal.invariant_of-self
 invariant_of-self g c = (made g (goal.at.invariant_of-self g c).After-fence_active).sound
@@ -34,7 +34,8 @@ returns-in-Ok-clause-done g c =
 pub returns-in-Err-clause-refused : goal.returns-in-Err-clause-refused
 returns-in-Err-clause-refused g c =
     let i = c.self.inside in
-    rw (← c.self.view_is)
-    (over-forked c.self.invariant c.args.from c.args.to c.space_at-space.result.now c.space_at-space.ensures
-        c.requires.inside (rw (← c.self.view_is) at c.requires.free) (c.in-Err.ensures.full.0 c.in-Err.ensures.only),
-        ap (λ m. spaces_of (record i { ram = m })) c.in-Err.ensures.unchanged.0)
+    rw (← c.self.view_is) (
+      over-forked c.self.invariant c.args.from c.args.to c.space_at-space.result.now c.space_at-space.ensures
+          c.requires.inside (rw (← c.self.view_is) at c.requires.free) (c.in-Err.ensures.full.0 c.in-Err.ensures.only),
+      ap (λ m. spaces_of (record i { ram = m })) c.in-Err.ensures.unchanged.0,
+    )

@@ -23,5 +23,5 @@ returns-in-Ok-clause-done g c =
 pub returns-in-Err-clause-refused : goal.returns-in-Err-clause-refused
 returns-in-Err-clause-refused g c =
     let less = over-free c.self.invariant c.args.at (Some no_pages) c.requires.inside
-            (rw (← c.self.view_is) at c.requires.free) (c.in-Err.ensures.full.0 c.in-Err.ensures.only) in
+    (rw (← c.self.view_is) at c.requires.free) (c.in-Err.ensures.full.0 c.in-Err.ensures.only) in
     rw (← c.self.view_is) (less, ap (λ m. spaces_of (record c.self.inside { ram = m })) c.in-Err.ensures.unchanged.0)

@@ -11,9 +11,9 @@ made : (g : given.Over) (c : After-deref_mut g)
 made g c =
     let made = c.new.ensures in
     piped-as _ (piped-there c.self.invariant c.args.q c.new.result c.requires.inside
-        (rw (← c.self.view_is) at c.requires.free) c.deref_mut.ensures.value c.in-Some.ensures.valid
-        (rw made.frame c.in-Some.ensures.some) c.in-Some.ensures.extra
-        (record { read = made.read; write = made.write }))
+    (rw (← c.self.view_is) at c.requires.free) c.deref_mut.ensures.value c.in-Some.ensures.valid
+    (rw made.frame c.in-Some.ensures.some) c.in-Some.ensures.extra
+    (record { read = made.read; write = made.write }))
     (ap Some (made.empty c.self.inside.ram))
 
 pub invariant_of-self : goal.invariant_of-self
@@ -27,6 +27,8 @@ returns-in-Some-clause-done g c =
 pub returns-in-None-clause-refused : goal.returns-in-None-clause-refused
 returns-in-None-clause-refused g c =
     let full = c.in-None.ensures in
-    rw (← c.self.view_is) (over-free c.self.invariant c.args.q c.requires.inside
-        (rw (← c.self.view_is) at c.requires.free) (full.none.0 refl),
-        ap (λ n. spaces_of (record c.self.inside { frames = n })) full.unchanged)
+    rw (← c.self.view_is) (
+      over-free c.self.invariant c.args.q c.requires.inside
+          (rw (← c.self.view_is) at c.requires.free) (full.none.0 refl),
+      ap (λ n. spaces_of (record c.self.inside { frames = n })) full.unchanged,
+    )

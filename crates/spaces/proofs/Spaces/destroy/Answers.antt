@@ -15,9 +15,9 @@ gone : (g : given.Over) (c : After-destroy g)
     c.args.at c.take.new.self) c.args.at None
 gone g c =
     destroyed c.self.invariant c.args.at c.in-Some.space
-        (there c.args.at c.deref_mut.ensures.value (sym c.take.ensures.value ∙ c.in-Some.is))
-        (rw (← c.self.view_is) at c.requires.idle) c.deref_mut.ensures.value c.take.ensures.after
-        c.destroy.ensures.valid c.destroy.ensures.trades
+    (there c.args.at c.deref_mut.ensures.value (sym c.take.ensures.value ∙ c.in-Some.is))
+    (rw (← c.self.view_is) at c.requires.idle) c.deref_mut.ensures.value c.take.ensures.after
+    c.destroy.ensures.valid c.destroy.ensures.trades
 
 pub invariant_of-self : goal.invariant_of-self
 invariant_of-self g c = (gone g (goal.at.invariant_of-self g c).After-destroy).sound

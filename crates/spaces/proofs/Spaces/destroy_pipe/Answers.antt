@@ -7,10 +7,13 @@ use Rattle.std.proofs.Common.{None, sym, ◌∙◌}
 pub give-requires : goal.give-requires
 give-requires g c =
     let e = pipe-found c.self.inside c.args.q _ (rw (← c.self.view_is) at c.requires) c.deref_mut.ensures.value
-            (sym c.take.ensures.value ∙ c.in-Some.is) in
+    (sym c.take.ensures.value ∙ c.in-Some.is) in
     let frame = pipe-frame c.self.invariant c.args.q c.in-Some.pipe e in
-    record { valid = c.self.invariant.machine.free; inside = rw c.frame.ensures.frame frame.0;
-        held = rw c.frame.ensures.frame frame.1 }
+    record {
+      valid = c.self.invariant.machine.free;
+      inside = rw c.frame.ensures.frame frame.0;
+      held = rw c.frame.ensures.frame frame.1;
+    }
 
 gone : (g : given.Over) (c : After-give g)
     → Piped g.T.Translate.held c.self.inside
@@ -18,11 +21,11 @@ gone : (g : given.Over) (c : After-give g)
     None
 gone g c =
     let e = pipe-found c.self.inside c.args.q _ (rw (← c.self.view_is) at c.requires) c.deref_mut.ensures.value
-            (sym c.take.ensures.value ∙ c.in-Some.is) in
+    (sym c.take.ensures.value ∙ c.in-Some.is) in
     let frame = c.frame.ensures.frame in
     piped-gone c.self.invariant c.args.q c.in-Some.pipe e c.deref_mut.ensures.value c.take.ensures.after
-        c.give.ensures.valid (rw frame at c.give.ensures.holders) (rw frame at c.give.ensures.others)
-        (λ more. (c.give.ensures.stays (rw frame more)).1)
+    c.give.ensures.valid (rw frame at c.give.ensures.holders) (rw frame at c.give.ensures.others)
+    (λ more. (c.give.ensures.stays (rw frame more)).1)
 
 pub invariant_of-self : goal.invariant_of-self
 invariant_of-self g c = (gone g (goal.at.invariant_of-self g c).After-give).sound

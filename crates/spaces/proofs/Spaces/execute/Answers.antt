@@ -18,12 +18,16 @@ run g c = run-at c.space_at-space.result.now c.self.invariant c.in-Some.is c.spa
 -- the fields behind the fence
 reopen : (g : given.Over) (c : After-fence g)
     → Reopened g.T.Translate.held c.self.inside
-        (record c.self.inside { ram = c.open_page.new.ram; frames = c.open_page.new.frames;
-        translator = c.fence.new.self; hart = c.step.new.self }) c.in-Some.at c.space_at-space.result.now
+    (record c.self.inside {
+      ram = c.open_page.new.ram;
+      frames = c.open_page.new.frames;
+      translator = c.fence.new.self;
+      hart = c.step.new.self;
+    }) c.in-Some.at c.space_at-space.result.now
 reopen g c =
     let at = goal.at.After-fence g c in
     reopened (run g at.After-space_at-space) (steps g at.After-step) c.fence.new.self _ _ c.in-Some-step.trap
-        c.in-Some-step.is c.open_page.ensures.same c.fence.ensures
+    c.in-Some-step.is c.open_page.ensures.same c.fence.ensures
 
 pub invariant_of-self : goal.invariant_of-self
 invariant_of-self g c = sound-stepped (run-of c.self.invariant c.in-Some.is).1
@@ -32,7 +36,7 @@ invariant_of-self g c = sound-stepped (run-of c.self.invariant c.in-Some.is).1
 pub returns-in_default-step-clause-done : goal.returns-in_default-step-clause-done
 returns-in_default-step-clause-done g c =
     rw (← c.self.view_is) (step-done (run-of c.self.invariant c.in-Some.is).1
-        (steps g (goal.at.returns-in_default-step-clause-done g c).After-step) c.in_default-step.is)
+    (steps g (goal.at.returns-in_default-step-clause-done g c).After-step) c.in_default-step.is)
 
 pub closed_page-requires : goal.closed_page-requires
 closed_page-requires g c =
@@ -48,7 +52,7 @@ pub returns-in_default-closed_page-clause-trap : goal.returns-in_default-closed_
 returns-in_default-closed_page-clause-trap g c =
     let at = goal.at.returns-in_default-closed_page-clause-trap g c in
     rw (← c.self.view_is) (step-trap (run g at.After-space_at-space) (steps g at.After-step) c.in-Some-step.trap
-        c.in-Some-step.is c.in_default-closed_page.ensures.none)
+    c.in-Some-step.is c.in_default-closed_page.ensures.none)
 
 pub open_page-requires-clause-space : goal.open_page-requires-clause-space
 open_page-requires-clause-space g c =
@@ -60,7 +64,7 @@ invariant_of-self-2 g c =
     let e = c.step_again.ensures in
     let whole = c.frames_are_whole-2.ensures in
     sound-stepped (reopen g (goal.at.invariant_of-self-2 g c).After-fence).run
-        (record { memory = whole.memory; small = whole.small; step = e.step; kept = e.kept; count = e.count })
+    (record { memory = whole.memory; small = whole.small; step = e.step; kept = e.kept; count = e.count })
 
 pub returns : goal.returns
 returns g c =
@@ -71,7 +75,7 @@ returns g c =
     let e = c.step_again.ensures in
     let whole = c.frames_are_whole-2.ensures in
     let both = second c.in-Some-step.trap (right_marks (marks_at c.step.new.ram x.root.0 c.in-Some-closed_page.page))
-            (run g at.After-space_at-space) (steps g at.After-step) c.in-Some-step.is found.0 (reopen g at.After-fence)
-            made
+    (run g at.After-space_at-space) (steps g at.After-step) c.in-Some-step.is found.0 (reopen g at.After-fence)
+    made
     (record { memory = whole.memory; small = whole.small; step = e.step; kept = e.kept; count = e.count }) in
     record { done = rw (← c.self.view_is) both.0; trap = rw (← c.self.view_is) both.1 }

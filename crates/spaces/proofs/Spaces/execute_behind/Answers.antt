@@ -8,22 +8,22 @@ use Rattle.spaces.proofs.Spaces.execute_behind.Goals.{After-is_at, After-run-don
 -- behind the first one
 one : (g : given.Over) (c : After-is_at g) → (c.execute_one.new.self.active ≡ c.args.self.now.active)
     × AdvancesTo (g.S.Stops.addresses c.args.stops.now) (c.args.count - c.loop-left.left + 1) c.args.self.now.active
-        c.args.self.now c.execute_one.new.self
+    c.args.self.now c.execute_one.new.self
 one g c =
     let before = c.loop-left.invariant in
     goes-on _ (c.args.count - c.loop-left.left) c.args.self.now c.loop-left.self c.execute_one.new.self
-        c.args.self.now.active c.execute_one.result c.requires before.active before.advances before.past
-        c.in_default.is c.execute_one.ensures.done
+    c.args.self.now.active c.execute_one.result c.requires before.active before.advances before.past
+    c.in_default.is c.execute_one.ensures.done
 
 -- behind a run
 ran : (g : given.Over) (c : After-run-done g) → (c.run-done.new.self.active ≡ c.args.self.now.active)
     × AdvancesTo (g.S.Stops.addresses c.args.stops.now) (c.args.count - (c.loop-left.left - 1 - c.run-done.result.0))
-        c.args.self.now.active c.args.self.now c.run-done.new.self
+    c.args.self.now.active c.args.self.now c.run-done.new.self
 ran g c =
     let now = one g (goal.at.After-run-done g c).After-is_at in
     let sum : c.args.count - c.loop-left.left + 1 + c.run-done.result.0
-            ≡ c.args.count - (c.loop-left.left - 1 - c.run-done.result.0) =
-            omega (arith, c.loop-left.invariant.bounded, c.loop-left-test.true, c.run-done.ensures.within) in (
+    ≡ c.args.count - (c.loop-left.left - 1 - c.run-done.result.0) =
+    omega (arith, c.loop-left.invariant.bounded, c.loop-left-test.true, c.run-done.ensures.within) in (
       c.run-done.ensures.active ∙ now.0,
       advances-on _ (c.args.count - c.loop-left.left + 1) c.run-done.result.0
           (c.args.count - (c.loop-left.left - 1 - c.run-done.result.0)) c.args.self.now.active c.args.self.now
@@ -54,8 +54,8 @@ loop-left-preserved g c =
 pub returns-in-Some-clause-done : goal.returns-in-Some-clause-done
 returns-in-Some-clause-done g c =
     (stops-at _ (c.args.count - c.loop-left.left) c.args.self.now.active c.args.self.now c.loop-left.self
-        c.execute_one.new.self c.in-Some.trap c.requires c.loop-left.invariant.active c.loop-left.invariant.advances
-        c.in-Some.ensures.trap).0
+    c.execute_one.new.self c.in-Some.trap c.requires c.loop-left.invariant.active c.loop-left.invariant.advances
+    c.in-Some.ensures.trap).0
 
 pub returns-in-Some-clause-trap : goal.returns-in-Some-clause-trap
 returns-in-Some-clause-trap g c = (
@@ -69,9 +69,9 @@ returns-in-Some-clause-trap g c = (
 pub returns-then-is_at-clause-done : goal.returns-then-is_at-clause-done
 returns-then-is_at-clause-done g c =
     let sum : c.args.count - c.loop-left.left + 1 ≡ c.args.count - (c.loop-left.left - 1) =
-            omega (arith, c.loop-left.invariant.bounded, c.loop-left-test.true) in
+    omega (arith, c.loop-left.invariant.bounded, c.loop-left-test.true) in
     subst (λ n. AdvancesTo (g.S.Stops.addresses c.args.stops.now) n c.args.self.now.active c.args.self.now
-        c.execute_one.new.self) sum (one g (goal.at.returns-then-is_at-clause-done g c).After-is_at).1
+    c.execute_one.new.self) sum (one g (goal.at.returns-then-is_at-clause-done g c).After-is_at).1
 
 pub returns-then-is_at-clause-ends : goal.returns-then-is_at-clause-ends
 returns-then-is_at-clause-ends g c =
@@ -90,7 +90,7 @@ ends stops count left done pc bounded some within (inr at) = inr (omega (arith, 
 pub returns-in_default-stopped-clause-ends : goal.returns-in_default-stopped-clause-ends
 returns-in_default-stopped-clause-ends g c =
     ends _ c.args.count c.loop-left.left c.run-done.result.0 c.run-done.new.self.pc c.loop-left.invariant.bounded
-        c.loop-left-test.true c.run-done.ensures.within (rw c.in_default-stopped.is at c.run-done.ensures.ends)
+    c.loop-left-test.true c.run-done.ensures.within (rw c.in_default-stopped.is at c.run-done.ensures.ends)
 
 -- the next one traps
 pub returns-then-not-is_store_fault-clause-done : goal.returns-then-not-is_store_fault-clause-done
@@ -111,4 +111,4 @@ pub returns-clause-done : goal.returns-clause-done
 returns-clause-done g c =
     let all : c.args.count - c.loop-left.left ≡ c.args.count = omega (arith, c.loop-left-test.false) in
     subst (λ n. AdvancesTo (g.S.Stops.addresses c.args.stops.now) n c.args.self.now.active c.args.self.now
-        c.loop-left.self) all c.loop-left.invariant.advances
+    c.loop-left.self) all c.loop-left.invariant.advances

@@ -13,18 +13,18 @@ grow-requires g c = c.self.invariant.machine.each c.args.at c.in-Some.space
 
 more : (g : given.Over) (c : After-grow g)
     → Placed g.T.Translate.held c.self.inside
-        (set_in c.self.inside c.grow.new.ram c.grow.new.frames c.self.inside.translator c.deref_mut.result.now
-        c.args.at (Some c.grow.new.self)) c.args.at (shown c.grow.new.ram (Some c.grow.new.self))
+    (set_in c.self.inside c.grow.new.ram c.grow.new.frames c.self.inside.translator c.deref_mut.result.now
+    c.args.at (Some c.grow.new.self)) c.args.at (shown c.grow.new.ram (Some c.grow.new.self))
 more g c =
     let i = c.self.inside in
     let x = c.in-Some.space in
     let front = grown-front i.ram c.grow.new.ram i.frames c.grow.new.frames x c.grow.new.self c.grow.result
-            c.grow.ensures.entries c.grow.ensures.unchanged in
+    c.grow.ensures.entries c.grow.ensures.unchanged in
     changed c.self.invariant c.args.at x c.grow.new.self i.translator
-        (there c.args.at c.deref_mut.ensures.value c.in-Some.is) (refilled c.args.at c.deref_mut.ensures.value refl)
-        c.grow.ensures.space c.grow.ensures.trades c.grow.ensures.root (λ t h. h)
+    (there c.args.at c.deref_mut.ensures.value c.in-Some.is) (refilled c.args.at c.deref_mut.ensures.value refl)
+    c.grow.ensures.space c.grow.ensures.trades c.grow.ensures.root (λ t h. h)
     (λ a was. coherent-grown (g.T.Translate.held i.translator) x.root.0 (entries_of i.ram x)
-        (entries_of c.grow.new.ram c.grow.new.self) front was)
+    (entries_of c.grow.new.ram c.grow.new.self) front was)
 
 pub invariant_of-self : goal.invariant_of-self
 invariant_of-self g c = (more g (goal.at.invariant_of-self g c).After-grow).sound
@@ -33,12 +33,12 @@ pub returns-clause-done : goal.returns-clause-done
 returns-clause-done g c =
     let x = c.in-Some.space in
     let memory = pages_of c.self.inside.ram x
-            ++ replicate (pages_in (x.size + c.args.bytes) - pages_in x.size) (zero_page (marks_from c.args.perm)) in
+    ++ replicate (pages_in (x.size + c.args.bytes) - pages_in x.size) (zero_page (marks_from c.args.perm)) in
     rw (← c.self.view_is, held-is c.self.inside _ (there c.args.at c.deref_mut.ensures.value c.in-Some.is))
-        (ok-true c.grow.result c.is_ok.result _ _ _ c.is_ok.ensures.value c.grow.ensures.pages c.grow.ensures.size
-        (λ pages grew.
+    (ok-true c.grow.result c.is_ok.result _ _ _ c.is_ok.ensures.value c.grow.ensures.pages c.grow.ensures.size
+    (λ pages grew.
     let all = placed-as c.args.at (more g (goal.at.returns-clause-done g c).After-grow)
-            (shown-as c.grow.new.ram c.grow.new.self memory (x.size + c.args.bytes) pages grew) in
+    (shown-as c.grow.new.ram c.grow.new.self memory (x.size + c.args.bytes) pages grew) in
     (all.fits, all.view)))
 
 pub returns-clause-refused : goal.returns-clause-refused
@@ -47,11 +47,11 @@ returns-clause-refused g c =
     let x = c.in-Some.space in
     let e = there c.args.at c.deref_mut.ensures.value c.in-Some.is in
     rw (← c.self.view_is, held-is i _ e)
-        (err-false c.grow.result c.is_ok.result _ _ _ c.is_ok.ensures.value c.grow.ensures.only
-        c.grow.ensures.unchanged (λ why u.
+    (err-false c.grow.result c.is_ok.result _ _ _ c.is_ok.ensures.value c.grow.ensures.only
+    c.grow.ensures.unchanged (λ why u.
     let more : (274877898752 < x.size + c.args.bytes)
-            ⊎ (frames_for (pages_in x.size) + free_count i.ram i.frames
-            < frames_for (pages_in (x.size + c.args.bytes))) =
+    ⊎ (frames_for (pages_in x.size) + free_count i.ram i.frames
+    < frames_for (pages_in (x.size + c.args.bytes))) =
     elim why [ inl large ↦ inl (c.grow.ensures.large.0 large) | inr full ↦ inr (c.grow.ensures.full.0 full).1 ] in (
       over-grown c.self.invariant c.args.at x c.args.bytes (marks_from c.args.perm) e c.frames_are_whole.ensures.small
           more,

@@ -10,8 +10,8 @@ returns-clause-room g c =
     let p = c.pipe_at-pipe.result.now in
     rw (← c.self.view_is, pipe-is c.self.inside _ c.pipe_at-pipe.ensures)
     (c.can_write.ensures.can c.self.inside.ram
-        ∙ or-open (nat_lt (length (bytes_of c.self.inside.ram p)) 512) p.read_open
-        (c.self.invariant.both c.args.q p c.pipe_at-pipe.ensures).read)
+    ∙ or-open (nat_lt (length (bytes_of c.self.inside.ram p)) 512) p.read_open
+    (c.self.invariant.both c.args.q p c.pipe_at-pipe.ensures).read)
 
 pub returns-clause-few : goal.returns-clause-few
 returns-clause-few g c =

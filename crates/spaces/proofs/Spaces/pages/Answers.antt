@@ -18,6 +18,9 @@ returns-clause-count g c =
 
 pub returns-clause-few : goal.returns-clause-few
 returns-clause-few g c =
-    rw (← c.self.view_is, held-is c.self.inside _ c.space_at-space.ensures,
-    length-pages_of c.self.inside.ram c.space_at-space.result.now)
+    rw (
+      ← c.self.view_is,
+      held-is c.self.inside _ c.space_at-space.ensures,
+      length-pages_of c.self.inside.ram c.space_at-space.result.now,
+    )
     ((c.self.invariant.machine.each c.args.at c.space_at-space.result.now c.space_at-space.ensures).dense.small)

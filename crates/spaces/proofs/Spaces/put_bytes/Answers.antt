@@ -7,19 +7,21 @@ use Rattle.spaces.proofs.Piped.{Piped, pipe-found, pipe-frame, pipe-is, pipe-mis
 pub put_in-requires : goal.put_in-requires
 put_in-requires g c =
     let e = pipe-found c.self.inside c.args.q _ (rw (← c.self.view_is) at c.requires) c.deref_mut.ensures.value
-            c.in-Some.is in
-    record { frame = (pipe-frame c.self.invariant c.args.q c.in-Some.pipe e).0;
-        «open» = c.self.invariant.both c.args.q c.in-Some.pipe e }
+    c.in-Some.is in
+    record {
+      frame = (pipe-frame c.self.invariant c.args.q c.in-Some.pipe e).0;
+      «open» = c.self.invariant.both c.args.q c.in-Some.pipe e;
+    }
 
 wrote : (g : given.Over) (c : After-put_in g)
     → Piped g.T.Translate.held c.self.inside
-        (set_pipe c.self.inside c.put_in.new.ram c.self.inside.frames c.deref_mut.result.now c.args.q
-        (Some c.put_in.new.pipe)) c.args.q (Some (bytes_of c.put_in.new.ram c.put_in.new.pipe))
+    (set_pipe c.self.inside c.put_in.new.ram c.self.inside.frames c.deref_mut.result.now c.args.q
+    (Some c.put_in.new.pipe)) c.args.q (Some (bytes_of c.put_in.new.ram c.put_in.new.pipe))
 wrote g c =
     let e = pipe-found c.self.inside c.args.q _ (rw (← c.self.view_is) at c.requires) c.deref_mut.ensures.value
-            c.in-Some.is in
+    c.in-Some.is in
     piped-written c.self.invariant c.args.q c.in-Some.pipe c.put_in.new.pipe _ e c.deref_mut.ensures.value
-        c.put_in.ensures.stays c.put_in.ensures.memory
+    c.put_in.ensures.stays c.put_in.ensures.memory
 
 pub invariant_of-self : goal.invariant_of-self
 invariant_of-self g c = (wrote g (goal.at.invariant_of-self g c).After-put_in).sound
@@ -27,11 +29,14 @@ invariant_of-self g c = (wrote g (goal.at.invariant_of-self g c).After-put_in).s
 pub returns : goal.returns
 returns g c =
     let held = pipe-is c.self.inside _
-            (pipe-found c.self.inside c.args.q _ (rw (← c.self.view_is) at c.requires) c.deref_mut.ensures.value
-            c.in-Some.is) in
-    record { bytes = rw (← c.self.view_is, held)
-        (piped-as _ (wrote g (goal.at.returns g c).After-put_in) (ap Some c.put_in.ensures.bytes)).view; count =
-        rw (← c.self.view_is, held) c.put_in.ensures.count }
+    (pipe-found c.self.inside c.args.q _ (rw (← c.self.view_is) at c.requires) c.deref_mut.ensures.value
+    c.in-Some.is) in
+    record {
+      bytes = rw (← c.self.view_is, held)
+          (piped-as _ (wrote g (goal.at.returns g c).After-put_in) (ap Some c.put_in.ensures.bytes)).view;
+      count =
+          rw (← c.self.view_is, held) c.put_in.ensures.count;
+    }
 
 pub unreachable-requires : goal.unreachable-requires
 unreachable-requires g c =

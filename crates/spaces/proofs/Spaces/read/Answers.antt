@@ -12,9 +12,9 @@ copy_in-requires g c = (c.self.invariant.machine.each c.args.at c.space_at-space
 pub returns-clause-can : goal.returns-clause-can
 returns-clause-can g c = rw (← c.self.view_is, held-is c.self.inside _ c.space_at-space.ensures)
     (read-can c.copy_in.result _ c.copy_in.new.buffer c.is_ok.result c.is_ok.ensures.value c.copy_in.ensures.read
-        c.copy_in.ensures.bad c.copy_in.ensures.only)
+    c.copy_in.ensures.bad c.copy_in.ensures.only)
 
 pub returns-clause-done : goal.returns-clause-done
 returns-clause-done g c = rw (← c.self.view_is, held-is c.self.inside _ c.space_at-space.ensures)
     (ok-true c.copy_in.result c.is_ok.result _ _ _ c.is_ok.ensures.value c.copy_in.ensures.read c.copy_in.ensures.read
-        (λ one two. one))
+    (λ one two. one))

@@ -5,6 +5,10 @@ pub fill-requires-clause-inside : goal.fill-requires-clause-inside
 fill-requires-clause-inside g c = λ i low.
     let same = ap (λ s. view_at s c.args.at) c.take_bytes-taken.ensures.rest in
     page-there _ c.args.address (length c.args.buffer.now) i c.pages_are_whole.ensures.sized
-        (rw same c.requires.writable)
-        (omega (arith, low, length-take c.take_bytes-taken.result c.take_bytes-taken.new.buffer,
-        c.take_bytes-taken.ensures.count))
+    (rw same c.requires.writable)
+    (omega (
+      arith,
+      low,
+      length-take c.take_bytes-taken.result c.take_bytes-taken.new.buffer,
+      c.take_bytes-taken.ensures.count,
+    ))

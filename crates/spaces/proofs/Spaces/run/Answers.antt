@@ -14,14 +14,20 @@ went g c = let did = c.run.ensures
 ran : (g : given.Over) (c : After-run g)
     → IsSpaces g.T.Translate.held (ran_by c.self.inside c.run.new.trans c.run.new.self c.run.new.ram)
     × AdvancesTo (g.S.Stops.addresses c.args.stops.now) c.run.result.0 c.self.inside.active (spaces_of c.self.inside)
-        (spaces_of (ran_by c.self.inside c.run.new.trans c.run.new.self c.run.new.ram))
+    (spaces_of (ran_by c.self.inside c.run.new.trans c.run.new.self c.run.new.ram))
 ran g c = ran-sound c.self.inside.active c.self.invariant (went g c) refl (rw (← c.self.view_is) at c.requires)
 
 pub invariant_of-self : goal.invariant_of-self
 invariant_of-self g c =
     let now = (ran g c).0 in
-    record { machine = now.machine; all = now.all; active = now.active; inside = now.inside; pipes = now.pipes;
-        both = now.both }
+    record {
+      machine = now.machine;
+      all = now.all;
+      active = now.active;
+      inside = now.inside;
+      pipes = now.pipes;
+      both = now.both;
+    }
 
 pub returns-clause-done : goal.returns-clause-done
 returns-clause-done g c = rw (← c.self.view_is) ((ran g c).1)

@@ -13,20 +13,20 @@ shrink-requires-clause-space g c =
 
 less : (g : given.Over) (c : After-fence_active g)
     → Placed g.T.Translate.held c.self.inside
-        (set_in c.self.inside c.shrink.new.ram c.shrink.new.frames c.fence_active.new.translator c.deref_mut.result.now
-        c.args.at (Some c.shrink.new.self)) c.args.at
+    (set_in c.self.inside c.shrink.new.ram c.shrink.new.frames c.fence_active.new.translator c.deref_mut.result.now
+    c.args.at (Some c.shrink.new.self)) c.args.at
     (Some (shrunk (view_with (pages_of c.self.inside.ram c.in-Some.space) c.in-Some.space.size) c.args.bytes))
 less g c =
     let x = c.in-Some.space in
     let z = c.shrink.new.self in
     let size : z.size ≡ x.size - c.args.bytes = let h = c.shrink.ensures.size in omega (arith, h) in
     placed-as c.args.at (changed c.self.invariant c.args.at x z c.fence_active.new.translator
-        (there c.args.at c.deref_mut.ensures.value c.in-Some.is) (refilled c.args.at c.deref_mut.ensures.value refl)
-        c.shrink.ensures.space c.shrink.ensures.trades c.shrink.ensures.root c.fence_active.ensures.fewer
+    (there c.args.at c.deref_mut.ensures.value c.in-Some.is) (refilled c.args.at c.deref_mut.ensures.value refl)
+    c.shrink.ensures.space c.shrink.ensures.trades c.shrink.ensures.root c.fence_active.ensures.fewer
     (λ a was. coherent-nothing (g.T.Translate.held c.fence_active.new.translator) x.root.0
-        (entries_of c.shrink.new.ram z) (c.fence_active.ensures.fenced a)))
+    (entries_of c.shrink.new.ram z) (c.fence_active.ensures.fenced a)))
     (shown-as c.shrink.new.ram z (take (pages_in (x.size - c.args.bytes)) (pages_of c.self.inside.ram x))
-        (x.size - c.args.bytes) c.shrink.ensures.pages size)
+    (x.size - c.args.bytes) c.shrink.ensures.pages size)
 
 pub invariant_of-self : goal.invariant_of-self
 invariant_of-self g c = (less g (goal.at.invariant_of-self g c).After-fence_active).sound

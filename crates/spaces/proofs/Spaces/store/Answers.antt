@@ -21,7 +21,7 @@ pub returns-clause-done : goal.returns-clause-done
 returns-clause-done g c =
     rw (← c.self.view_is, held-is c.self.inside _ c.space_at-space.ensures)
     (stored-showing c.self.invariant c.args.at c.space_at-space.result.now c.store.new.ram _ c.store.result
-        c.space_at-space.ensures c.store.ensures.stands c.store.ensures.written)
+    c.space_at-space.ensures c.store.ensures.stands c.store.ensures.written)
 
 pub returns-clause-refused : goal.returns-clause-refused
 returns-clause-refused g c =

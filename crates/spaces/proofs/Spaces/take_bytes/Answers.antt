@@ -7,19 +7,21 @@ use Rattle.spaces.proofs.Common.{bytes_of, Some, [], ap, sym, set-get_or}
 pub take_out-requires : goal.take_out-requires
 take_out-requires g c =
     let e = pipe-found c.self.inside c.args.q _ (rw (← c.self.view_is) at c.requires) c.deref_mut.ensures.value
-            c.in-Some.is in
-    record { frame = (pipe-frame c.self.invariant c.args.q c.in-Some.pipe e).0;
-        «open» = c.self.invariant.both c.args.q c.in-Some.pipe e }
+    c.in-Some.is in
+    record {
+      frame = (pipe-frame c.self.invariant c.args.q c.in-Some.pipe e).0;
+      «open» = c.self.invariant.both c.args.q c.in-Some.pipe e;
+    }
 
 left : (g : given.Over) (c : After-take_out g)
     → Piped g.T.Translate.held c.self.inside
-        (set_pipe c.self.inside c.self.inside.ram c.self.inside.frames c.deref_mut.result.now c.args.q
-        (Some c.take_out.new.pipe)) c.args.q (Some (bytes_of c.self.inside.ram c.take_out.new.pipe))
+    (set_pipe c.self.inside c.self.inside.ram c.self.inside.frames c.deref_mut.result.now c.args.q
+    (Some c.take_out.new.pipe)) c.args.q (Some (bytes_of c.self.inside.ram c.take_out.new.pipe))
 left g c =
     let e = pipe-found c.self.inside c.args.q _ (rw (← c.self.view_is) at c.requires) c.deref_mut.ensures.value
-            c.in-Some.is in
+    c.in-Some.is in
     piped-written c.self.invariant c.args.q c.in-Some.pipe c.take_out.new.pipe _ e c.deref_mut.ensures.value
-        c.take_out.ensures.stays (sym (set-get_or c.self.inside.ram c.in-Some.pipe.frame []))
+    c.take_out.ensures.stays (sym (set-get_or c.self.inside.ram c.in-Some.pipe.frame []))
 
 pub invariant_of-self : goal.invariant_of-self
 invariant_of-self g c = (left g (goal.at.invariant_of-self g c).After-take_out).sound
@@ -27,8 +29,8 @@ invariant_of-self g c = (left g (goal.at.invariant_of-self g c).After-take_out).
 pub returns : goal.returns
 returns g c =
     let held = pipe-is c.self.inside _
-            (pipe-found c.self.inside c.args.q _ (rw (← c.self.view_is) at c.requires) c.deref_mut.ensures.value
-            c.in-Some.is) in
+    (pipe-found c.self.inside c.args.q _ (rw (← c.self.view_is) at c.requires) c.deref_mut.ensures.value
+    c.in-Some.is) in
     record {
       rest = rw (← c.self.view_is, held)
           (piped-as _ (left g (goal.at.returns g c).After-take_out) (ap Some c.take_out.ensures.rest)).view;

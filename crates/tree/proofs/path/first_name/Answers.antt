@@ -11,7 +11,7 @@ returns-clause-some c =
     let i = c.in_ok-from.from in
     let rest = take (length path - i) (drop i path) in
     cut-parts path rest i _ _ _ (sym c.name_start.ensures ∙ c.in_ok-from.was) (take_rest path i) c.first_slash.ensures
-        c.unwrap_or-end.ensures c.min.ensures
+    c.unwrap_or-end.ensures c.min.ensures
 
 pub returns-clause-shorter : goal.returns-clause-shorter
 returns-clause-shorter c =
@@ -19,4 +19,4 @@ returns-clause-shorter c =
     let i = c.in_ok-from.from in
     let rest = take (length path - i) (drop i path) in
     cut-shorter path rest i _ _ _ (sym c.name_start.ensures ∙ c.in_ok-from.was) (take_rest path i)
-        c.first_slash.ensures c.unwrap_or-end.ensures c.min.ensures
+    c.first_slash.ensures c.unwrap_or-end.ensures c.min.ensures

@@ -5,9 +5,9 @@ use Rattle.tree.proofs.place.first.Goals as goal
 pub loop-k-preserved : goal.loop-k-preserved
 loop-k-preserved c =
     below_more (λ j. 0 ≤ j → is_sought c.args.sought.now (place_in c.args.places.now j) ≡ false) c.loop-k.k
-        c.loop-k.invariant
+    c.loop-k.invariant
     (λ _. ap (λ b. is_sought c.args.sought.now (place_of_bytes b)) (sym c.place_at-place.ensures.place)
-        ∙ sym c.is_sought.ensures ∙ c.if-is_sought.false)
+    ∙ sym c.is_sought.ensures ∙ c.if-is_sought.false)
 
 pub returns-then-is_sought : goal.returns-then-is_sought
 returns-then-is_sought c =

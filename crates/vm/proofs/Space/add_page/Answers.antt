@@ -21,13 +21,19 @@ map-requires-clause-paged c = OwnsFrames-paged (before (goal.at.map-requires-cla
 
 pub map-requires-clause-frame : goal.map-requires-clause-frame
 map-requires-clause-frame c =
-    omega (arith, (taken (goal.at.map-requires-clause-frame c).After-zero).count,
-    (free-first c.requires.held.free c.in-Some.frame.0 _ c.in-Some.ensures.some).0)
+    omega (
+      arith,
+      (taken (goal.at.map-requires-clause-frame c).After-zero).count,
+      (free-first c.requires.held.free c.in-Some.frame.0 _ c.in-Some.ensures.some).0,
+    )
 
 pub unreachable-requires : goal.unreachable-requires
 unreachable-requires c =
-    omega (arith, c.in-Err.ensures.full,
-    taken-fits c.requires.held (taken (goal.at.unreachable-requires c).After-zero) c.requires.small c.requires.room)
+    omega (
+      arith,
+      c.in-Err.ensures.full,
+      taken-fits c.requires.held (taken (goal.at.unreachable-requires c).After-zero) c.requires.small c.requires.room,
+    )
 
 pub returns : goal.returns
 returns c =
@@ -35,10 +41,24 @@ returns c =
     let inside = (free-first c.requires.held.free c.in-Some.frame.0 _ c.in-Some.ensures.some).0 in
     let g = taken-grown c.requires.held (taken z) c.map.new.ram c.requires.small
     (ap (λ m. frame_of m c.in-Some.frame.0) c.zero.ensures
-        ∙ get_or-set_same c.args.ram.now c.in-Some.frame.0 (replicate 4096 0) _ inside)
-    (record { leaf = c.requires.user; inserts = c.in-Ok.ensures.mapped; adds = c.in-Ok.ensures.adds;
-        tidy = c.in-Ok.ensures.tidy (before z).space.dense.tidy; paged = c.in-Ok.ensures.paged; keeps =
-        c.in-Ok.ensures.keeps; extra = c.in-Ok.ensures.extra }) in
-    record { held = g.space; pages = g.pages; mapping = g.mapping;
-        marks = marks_at-is c.map.new.ram _ _ c.in-Ok.ensures.mapped.changed; trap = g.trap; trades = g.trades; room =
-        g.room }
+    ∙ get_or-set_same c.args.ram.now c.in-Some.frame.0 (replicate 4096 0) _ inside)
+    (record {
+      leaf = c.requires.user;
+      inserts = c.in-Ok.ensures.mapped;
+      adds = c.in-Ok.ensures.adds;
+      tidy = c.in-Ok.ensures.tidy (before z).space.dense.tidy;
+      paged = c.in-Ok.ensures.paged;
+      keeps =
+          c.in-Ok.ensures.keeps;
+      extra = c.in-Ok.ensures.extra;
+    }) in
+    record {
+      held = g.space;
+      pages = g.pages;
+      mapping = g.mapping;
+      marks = marks_at-is c.map.new.ram _ _ c.in-Ok.ensures.mapped.changed;
+      trap = g.trap;
+      trades = g.trades;
+      room =
+          g.room;
+    }

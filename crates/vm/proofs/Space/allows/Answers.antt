@@ -8,8 +8,8 @@ returns-in-Some c =
     let m = c.args.ram.now in
     let mapping = mapping_of m c.args.self.now in
     page-allows c.args.access (pages_of m c.args.self.now) c.args.page _ _
-        (mapped-page m mapping c.args.page (mapped_as c.in-Some.field-0-0.0 c.in-Some.marks) c.in-Some.ensures.found)
-        (sym c.permits.ensures)
+    (mapped-page m mapping c.args.page (mapped_as c.in-Some.field-0-0.0 c.in-Some.marks) c.in-Some.ensures.found)
+    (sym c.permits.ensures)
 
 pub returns-in-None : goal.returns-in-None
 returns-in-None c = no-page-allows c.args.access (pages_of c.args.ram.now c.args.self.now) c.args.page

@@ -16,7 +16,7 @@ share_pages-requires c =
 pub returns : goal.returns
 returns c =
     let f = forked c.args.self.now c.in-Ok.child c.requires (rw c.in-Ok.ensures.size at c.in-Ok.ensures.space)
-            (rw c.in-Ok.ensures.size at c.in-Ok.ensures.trades) c.share_pages.new.ram _ c.share_pages.ensures.all in
+    (rw c.in-Ok.ensures.size at c.in-Ok.ensures.trades) c.share_pages.new.ram _ c.share_pages.ensures.all in
     record {
       space = f.child;
       size = refl;
@@ -28,8 +28,17 @@ returns c =
       frames = λ p h. sym (c.share_pages.ensures.all.part.shared p h) ∙ f.shared p h;
       shared = f.shared;
       holders = f.holders;
-      full = (search rules, λ less. absurd
-          (omega (arith, less, c.free.ensures c.args.ram.now, c.frames_for.ensures, ap frames_for c.pages_in.ensures)));
+      full = (
+        search rules,
+        λ less. absurd
+            (omega (
+              arith,
+              less,
+              c.free.ensures c.args.ram.now,
+              c.frames_for.ensures,
+              ap frames_for c.pages_in.ensures,
+            )),
+      );
       only = tt;
       unchanged = tt;
       trades = f.trades;

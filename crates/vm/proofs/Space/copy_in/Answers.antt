@@ -22,8 +22,11 @@ overflow_add-address c =
 pub loop-done-smaller : goal.loop-done-smaller
 loop-done-smaller c =
     let at = (goal.at.loop-done-smaller c).In-loop-done in
-    omega (arith, (reach-page Load _ c.args.address c.loop-done.done (sized at) (omega (arith, long at))).1,
-        ap length c.readable-piece.ensures)
+    omega (
+      arith,
+      (reach-page Load _ c.args.address c.loop-done.done (sized at) (omega (arith, long at))).1,
+      ap length c.readable-piece.ensures,
+    )
 
 pub loop-done-preserved : goal.loop-done-preserved
 loop-done-preserved c =
@@ -37,9 +40,9 @@ loop-done-preserved c =
           (omega (arith, c.copy_from_slice.ensures.len)) (omega arith)
           ∙ ap (λ l. l ++ c.copy_from_slice.new.self) c.loop-done.invariant.same
           ∙ ap (λ l. take d (reach Load mem c.args.address) ++ l)
-              (c.copy_from_slice.ensures.after ∙ ap (take n) c.readable-piece.ensures)
+          (c.copy_from_slice.ensures.after ∙ ap (take n) c.readable-piece.ensures)
           ∙ reach-next Load mem c.args.address d n (sized at) (omega (arith, long at))
-              (omega (arith, ap length c.readable-piece.ensures));
+          (omega (arith, ap length c.readable-piece.ensures));
     }
 
 pub returns-clause-read : goal.returns-clause-read
@@ -49,7 +52,7 @@ returns-clause-read c =
     let i = c.loop-done.invariant in
     let all : c.loop-done.done ≡ n = omega arith in
     let same : c.loop-done.buffer ≡ take n (reach Load mem c.args.address) =
-            sym (take_all n c.loop-done.buffer (omega arith)) ∙ ap (λ k. take k c.loop-done.buffer) (sym all) ∙ i.same
-            ∙ ap (λ k. take k (reach Load mem c.args.address)) all in
+    sym (take_all n c.loop-done.buffer (omega arith)) ∙ ap (λ k. take k c.loop-done.buffer) (sym all) ∙ i.same
+    ∙ ap (λ k. take k (reach Load mem c.args.address)) all in
     ap (λ b. if b then Some (take n (reach Load mem c.args.address)) else None) (sym c.if-not-can_read.ensures.reach)
-        ∙ ap Some (sym same)
+    ∙ ap Some (sym same)

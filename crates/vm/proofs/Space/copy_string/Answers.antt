@@ -19,7 +19,7 @@ fits c n low = string-fits Load _ c.args.address n (sized c) (omega (arith, leng
 next : (c : After-frames_are_whole) (n : ℕ) (o : Option ℕ)
     → n ≤ length (reach Load (pages_of c.args.ram.now c.args.self.now) c.args.address)
     → o ≡ slice_get (piece_at Load (pages_of c.args.ram.now c.args.self.now) (c.args.address + n)) 0
-        → slice_get (reach Load (pages_of c.args.ram.now c.args.self.now) c.args.address) n ≡ o
+    → slice_get (reach Load (pages_of c.args.ram.now c.args.self.now) c.args.address) n ≡ o
 next c n o low e = sym (e ∙ piece-first Load _ c.args.address n (sized c) low)
 
 pub loop-i-init : goal.loop-i-init
@@ -35,27 +35,30 @@ returns-in-Some-eq0-clause-string c =
     let at = (goal.at.returns-in-Some-eq0-clause-string c).After-frames_are_whole in
     let i = c.loop-i.invariant in
     sym (string-ends i (length c.args.buffer.now) (omega arith)
-        (next at c.loop-i.i _ i.within c.in-Some-eq0.ensures ∙ ap Some c.in-Some-eq0.field-0-test))
+    (next at c.loop-i.i _ i.within c.in-Some-eq0.ensures ∙ ap Some c.in-Some-eq0.field-0-test))
 
 pub returns-in-None-clause-string : goal.returns-in-None-clause-string
 unfolding string_at
 returns-in-None-clause-string c =
     let i = c.loop-i.invariant in
     sym (string-open i (length c.args.buffer.now)
-        (next (goal.at.returns-in-None-clause-string c).After-frames_are_whole c.loop-i.i _ i.within c.in-None.ensures))
+    (next (goal.at.returns-in-None-clause-string c).After-frames_are_whole c.loop-i.i _ i.within c.in-None.ensures))
 
 pub loop-i-preserved : goal.loop-i-preserved
 loop-i-preserved c =
     let i = c.loop-i.invariant in
     strings-next i (omega arith)
-        (next (goal.at.loop-i-preserved c).After-frames_are_whole c.loop-i.i _ i.within c.in-Some.ensures)
-        c.in-Some.byte-test.1
+    (next (goal.at.loop-i-preserved c).After-frames_are_whole c.loop-i.i _ i.within c.in-Some.ensures)
+    c.in-Some.byte-test.1
 
 pub overflow_add-address-2 : goal.overflow_add-address-2
 overflow_add-address-2 c =
     let all : length c.loop-i.buffer ≡ c.loop-i.i = omega arith in
-    omega (arith, fits (goal.at.overflow_add-address-2 c).After-frames_are_whole (length c.loop-i.buffer)
-        (omega (arith, all, c.loop-i.invariant.within)))
+    omega (
+      arith,
+      fits (goal.at.overflow_add-address-2 c).After-frames_are_whole (length c.loop-i.buffer)
+          (omega (arith, all, c.loop-i.invariant.within)),
+    )
 
 pub returns-in-Some-eq0-byte_at-clause-string : goal.returns-in-Some-eq0-byte_at-clause-string
 unfolding string_at
@@ -65,8 +68,8 @@ returns-in-Some-eq0-byte_at-clause-string c =
     let all : length c.loop-i.buffer ≡ c.loop-i.i = omega arith in
     ap (λ n. Some (take n c.loop-i.buffer)) all
     ∙ sym (string-ends i (length c.args.buffer.now) (omega arith)
-        (next at c.loop-i.i _ i.within (rw all at c.in-Some-eq0-byte_at.ensures)
-        ∙ ap Some c.in-Some-eq0-byte_at.field-0-test))
+    (next at c.loop-i.i _ i.within (rw all at c.in-Some-eq0-byte_at.ensures)
+    ∙ ap Some c.in-Some-eq0-byte_at.field-0-test))
 
 pub returns-in_default-clause-string : goal.returns-in_default-clause-string
 unfolding string_at
@@ -75,7 +78,7 @@ returns-in_default-clause-string c =
     let all : length c.loop-i.buffer ≡ c.loop-i.i = omega arith in
     let most : c.loop-i.i ≡ length c.args.buffer.now = omega arith in
     let here = next (goal.at.returns-in_default-clause-string c).After-frames_are_whole c.loop-i.i _ i.within
-            (rw all at c.byte_at-2.ensures) ∙ c.in_default.is in
+    (rw all at c.byte_at-2.ensures) ∙ c.in_default.is in
     let long = string-long i here (λ z. c.in_default.field-0-test.1 (cc (z, c.in_default.field-0-is))) in
     sym (rw most at long)
 
@@ -85,5 +88,5 @@ returns-in_default-2-clause-string c =
     let i = c.loop-i.invariant in
     let all : length c.loop-i.buffer ≡ c.loop-i.i = omega arith in
     sym (string-open i (length c.args.buffer.now)
-        (next (goal.at.returns-in_default-2-clause-string c).After-frames_are_whole c.loop-i.i _ i.within
-        (rw all at c.byte_at-2.ensures) ∙ c.in_default.is))
+    (next (goal.at.returns-in_default-2-clause-string c).After-frames_are_whole c.loop-i.i _ i.within
+    (rw all at c.byte_at-2.ensures) ∙ c.in_default.is))

@@ -17,8 +17,15 @@ unmapped : (c : After-unmap-frame)
 unmapped c =
     let e = c.unmap-frame.ensures in
     let was = unmapped-was _ c.args.self.now.root.0 c.args.n ((one_more c).dense.pages c.args.n (omega arith)) e.was in
-    record { was = was; removes = e.removes; drops = e.drops; tidy = e.tidy; paged = e.paged; keeps = e.keeps;
-        extra = e.extra }
+    record {
+      was = was;
+      removes = e.removes;
+      drops = e.drops;
+      tidy = e.tidy;
+      paged = e.paged;
+      keeps = e.keeps;
+      extra = e.extra;
+    }
 
 pub unmap-frame-requires-clause-paged : goal.unmap-frame-requires-clause-paged
 unmap-frame-requires-clause-paged c = OwnsFrames-paged c.requires
@@ -37,5 +44,5 @@ returns c =
     let at = (goal.at.returns c).After-unmap-frame in
     let e = c.give.ensures in
     let d = dropped (one_more at) (unmapped at) c.give.new.ram c.give.new.self
-            (record { valid = e.valid; holders = e.holders; others = e.others; stays = λ more. (e.stays more).1 }) in
+    (record { valid = e.valid; holders = e.holders; others = e.others; stays = λ more. (e.stays more).1 }) in
     record { held = d.space; pages = d.pages; mapping = d.mapping; trap = d.trap; trades = d.trades }

@@ -10,8 +10,11 @@ loop-done-init c =
     record {
       within = omega arith;
       rest = ap (λ at. write_bytes (pages_of c.args.ram.now c.args.self.now) at c.args.bytes.now) start;
-      frames = record { space = c.requires.space; registers = refl;
-          trades = Trades-none c.args.ram.now c.args.frames.now (holds c.args.ram.now c.args.self.now) };
+      frames = record {
+        space = c.requires.space;
+        registers = refl;
+        trades = Trades-none c.args.ram.now c.args.frames.now (holds c.args.ram.now c.args.self.now);
+      };
       opens = λ first h. h;
     }
 
@@ -33,14 +36,14 @@ loop-done-preserved c =
     let bs = c.args.bytes.now in
     let e = c.write_page-done.ensures in
     let left : take (length bs - d) (drop d bs) ≡ drop d bs =
-            take_all (length bs - d) (drop d bs) (omega (arith, length-drop d bs)) in
+    take_all (length bs - d) (drop d bs) (omega (arith, length-drop d bs)) in
     let count : n ≡ min (4096 - (c.args.address + d) % 4096) (length (drop d bs)) = rw left at e.count in
     let place : c.args.address + (d + n) ≡ c.args.address + d + n = omega arith in
     record {
       within = omega (arith, count, length-drop d bs);
       rest = ap (λ at. write_bytes (pages_of c.write_page-done.new.ram c.args.self.now) at (drop (d + n) bs)) place
           ∙ ap (write_bytes (pages_of c.write_page-done.new.ram c.args.self.now) (c.args.address + d + n))
-              (sym (drop-drop n d bs))
+          (sym (drop-drop n d bs))
           ∙ (rw left at e.rest) ∙ i.rest;
       frames = reframes-twice i.frames e.frames;
       opens = λ first h. e.opens first (i.opens first h);
@@ -51,5 +54,9 @@ returns c =
     let i = c.loop-done.invariant in
     let none : drop c.loop-done.done c.args.bytes.now ≡ [] = drop_all c.loop-done.done c.args.bytes.now (omega arith) in
     let write = write_bytes (pages_of c.loop-done.ram c.args.self.now) (c.args.address + c.loop-done.done) in
-    record { written = sym (write-none (pages_of c.loop-done.ram c.args.self.now) (c.args.address + c.loop-done.done))
-        ∙ ap write (sym none) ∙ i.rest; frames = i.frames; opens = i.opens }
+    record {
+      written = sym (write-none (pages_of c.loop-done.ram c.args.self.now) (c.args.address + c.loop-done.done))
+          ∙ ap write (sym none) ∙ i.rest;
+      frames = i.frames;
+      opens = i.opens;
+    }

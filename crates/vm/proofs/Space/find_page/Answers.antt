@@ -14,9 +14,9 @@ returns-clause-found c =
     let r = c.args.self.now.root.0 in
     let found = sym c.in-Some.ensures in
     ap Some (mapped-parts (sym (frame_at-is m r c.args.page found))
-        (c.marks_of.ensures ∙ ap right_marks (sym (marks_at-is m r c.args.page found))))
+    (c.marks_of.ensures ∙ ap right_marks (sym (marks_at-is m r c.args.page found))))
     ∙ sym (get-mapping right_marks m r (pages_in c.args.self.now.size) c.args.page
-        (omega (arith, c.pages_in.ensures, c.if-page-pages_in.false)))
+    (omega (arith, c.pages_in.ensures, c.if-page-pages_in.false)))
 
 pub returns-clause-inside : goal.returns-clause-inside
 returns-clause-inside c = (lookup-sound c.requires.tree c.args.page (sym c.in-Some.ensures)).0

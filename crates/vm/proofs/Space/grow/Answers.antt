@@ -20,14 +20,26 @@ loop-page-init c =
       trap = refl;
       trades = Trades-none c.args.ram.now c.args.frames.now
           (held c.args.ram.now c.args.self.now.root.0 c.args.self.now.trap.0 n);
-      room = omega (arith, c.frames_for.ensures, c.frames_for-2.ensures, c.if-frames_for-from.false,
-          c.free.ensures c.args.ram.now);
-      small = omega (arith, ap frames_for c.pages_in-from.ensures, c.frames_for.ensures, c.frames_for-2.ensures,
-          c.if-frames_for-from.false, c.free.ensures c.args.ram.now,
-          held-count c.requires.free
-          (held c.args.ram.now c.args.self.now.root.0 c.args.self.now.trap.0 (pages_in c.args.self.now.size))
-          c.requires.held, length-held c.args.ram.now c.args.self.now.root.0 c.args.self.now.trap.0
-          (pages_in c.args.self.now.size));
+      room = omega (
+        arith,
+        c.frames_for.ensures,
+        c.frames_for-2.ensures,
+        c.if-frames_for-from.false,
+        c.free.ensures c.args.ram.now,
+      );
+      small = omega (
+        arith,
+        ap frames_for c.pages_in-from.ensures,
+        c.frames_for.ensures,
+        c.frames_for-2.ensures,
+        c.if-frames_for-from.false,
+        c.free.ensures c.args.ram.now,
+        held-count c.requires.free
+            (held c.args.ram.now c.args.self.now.root.0 c.args.self.now.trap.0 (pages_in c.args.self.now.size))
+            c.requires.held,
+        length-held c.args.ram.now c.args.self.now.root.0 c.args.self.now.trap.0
+            (pages_in c.args.self.now.size),
+      );
     }
 
 pub add_page-requires-clause-marks : goal.add_page-requires-clause-marks
@@ -47,8 +59,8 @@ loop-page-preserved c =
     let p = c.loop-page.page in
     let zero = zero_page (marks_from c.args.perm) in
     let made : page_with (replicate 4096 0) c.leaf-leaf.result.0 ≡ zero =
-            ap (page_with (replicate 4096 0)) (c.leaf-leaf.ensures ∙ ap (λ (a : Perm). user_leaf a true) c.new.ensures)
-            ∙ page-zero (marks_from c.args.perm) in
+    ap (page_with (replicate 4096 0)) (c.leaf-leaf.ensures ∙ ap (λ (a : Perm). user_leaf a true) c.new.ensures)
+    ∙ page-zero (marks_from c.args.perm) in
     let count : p + 1 - from ≡ p - from + 1 = omega arith in
     record {
       space = c.add_page.ensures.held;
@@ -58,7 +70,7 @@ loop-page-preserved c =
           ∙ append_assoc (pages_below c.args.ram.now c.args.self.now.root.0 from) (replicate (p - from) zero)
           (zero ∷ [])
           ∙ ap (λ l. pages_below c.args.ram.now c.args.self.now.root.0 from ++ l)
-              (rw count (replicate_more (p - from) zero));
+          (rw count (replicate_more (p - from) zero));
       mapping = λ read. c.add_page.ensures.mapping read from (omega arith) ∙ i.mapping read;
       opens = λ first h. open-more c.loop-page.ram c.add_page.new.ram c.args.self.now.root.0 p first
           (marks_from c.args.perm) (λ read. c.add_page.ensures.mapping read p (omega arith))
@@ -73,8 +85,8 @@ loop-page-preserved c =
 -- the pages that were are mapped as they were
 front : (c : After-loop-page) (read : ℕ → Perm)
     → take (pages_in c.args.self.now.size)
-        (read_below read c.loop-page.ram c.args.self.now.root.0 (pages_in (c.args.self.now.size + c.args.bytes)))
-        ≡ read_below read c.args.ram.now c.args.self.now.root.0 (pages_in c.args.self.now.size)
+    (read_below read c.loop-page.ram c.args.self.now.root.0 (pages_in (c.args.self.now.size + c.args.bytes)))
+    ≡ read_below read c.args.ram.now c.args.self.now.root.0 (pages_in c.args.self.now.size)
 front c read = take-mapping read c.loop-page.ram c.args.self.now.root.0 _ _ (omega arith)
     ∙ (rw c.pages_in-from.ensures at c.loop-page.invariant.mapping read)
 
@@ -88,6 +100,6 @@ pub returns-clause-opens : goal.returns-clause-opens
 returns-clause-opens c = λ first h.
     let r = c.args.self.now.root.0 in
     let was = open-fewer c.args.ram.now r (pages_in c.args.self.now.size) c.pages_in-from.result first
-            (omega (arith, c.pages_in-from.ensures)) h in
+    (omega (arith, c.pages_in-from.ensures)) h in
     open-fewer c.loop-page.ram r c.loop-page.page (pages_in (c.args.self.now.size + c.args.bytes)) first
-        (omega (arith, c.pages_in-to.ensures)) (c.loop-page.invariant.opens first was)
+    (omega (arith, c.pages_in-to.ensures)) (c.loop-page.invariant.opens first was)

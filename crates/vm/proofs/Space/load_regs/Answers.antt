@@ -20,4 +20,4 @@ pub returns-clause-registers : goal.returns-clause-registers
 returns-clause-registers c =
     let i = c.loop-register.invariant in
     sym (saved-is c.args.ram.now c.args.self.now c.loop-register.registers i.count i.first
-        (λ j low high. i.loaded j low (omega arith)))
+    (λ j low high. i.loaded j low (omega arith)))

@@ -10,8 +10,15 @@ start : (c : After-zero)
 start c =
     let e = c.in-Some.ensures in
     let t = c.in-Some-take.ensures in
-    record { free = c.requires; extra = e.extra; first = e.taken; start = e.bytes; paged = e.paged; empty = e.empty;
-        taken = IsTaken-set _ _ _ _ _ (replicate 4096 0) t.some t.valid c.zero.ensures t.extra }
+    record {
+      free = c.requires;
+      extra = e.extra;
+      first = e.taken;
+      start = e.bytes;
+      paged = e.paged;
+      empty = e.empty;
+      taken = IsTaken-set _ _ _ _ _ (replicate 4096 0) t.some t.valid c.zero.ensures t.extra;
+    }
 
 made : (c : In-Ok) → IsMade c.args.ram.now c.zero.new.self c.map.new.ram c.in-Some.table.root.0 c.in-Some-take.trap.0
     c.args.frames.now c.map.new.frames
@@ -19,8 +26,15 @@ made c =
     let is = start (goal.at.In-Ok c).After-zero in
     let e = c.in-Ok.ensures in
     let tidy = e.tidy (IsTidy-empty (start-empty is)) in
-    start-made is (record { leaf = refl; inserts = e.mapped; adds = e.adds; tidy = tidy; paged = e.paged;
-        keeps = e.keeps; extra = e.extra })
+    start-made is (record {
+      leaf = refl;
+      inserts = e.mapped;
+      adds = e.adds;
+      tidy = tidy;
+      paged = e.paged;
+      keeps = e.keeps;
+      extra = e.extra;
+    })
 
 pub zero-requires : goal.zero-requires
 zero-requires c = (free-first c.in-Some.ensures.paged.free c.in-Some-take.trap.0 _ c.in-Some-take.ensures.some).0
@@ -30,8 +44,11 @@ map-requires-clause-paged c = start-paged (start (goal.at.map-requires-clause-pa
 
 pub map-requires-clause-frame : goal.map-requires-clause-frame
 map-requires-clause-frame c =
-    omega (arith, (start (goal.at.map-requires-clause-frame c).After-zero).taken.count,
-    (free-first c.in-Some.ensures.paged.free c.in-Some-take.trap.0 _ c.in-Some-take.ensures.some).0)
+    omega (
+      arith,
+      (start (goal.at.map-requires-clause-frame c).After-zero).taken.count,
+      (free-first c.in-Some.ensures.paged.free c.in-Some-take.trap.0 _ c.in-Some-take.ensures.some).0,
+    )
 
 pub unreachable-requires : goal.unreachable-requires
 unreachable-requires c =
@@ -45,8 +62,8 @@ pub returns-clause-registers : goal.returns-clause-registers
 returns-clause-registers c =
     let inside = (free-first c.in-Some.ensures.paged.free c.in-Some-take.trap.0 _ c.in-Some-take.ensures.some).0 in
     (made (goal.at.returns-clause-registers c).In-Ok).registers
-        ∙ ap (λ m. frame_of m c.in-Some-take.trap.0) c.zero.ensures
-        ∙ get_or-set_same c.new.new.ram c.in-Some-take.trap.0 (replicate 4096 0) _ inside
+    ∙ ap (λ m. frame_of m c.in-Some-take.trap.0) c.zero.ensures
+    ∙ get_or-set_same c.new.new.ram c.in-Some-take.trap.0 (replicate 4096 0) _ inside
 
 pub returns-clause-trades : goal.returns-clause-trades
 returns-clause-trades c = (made (goal.at.returns-clause-trades c).In-Ok).trades

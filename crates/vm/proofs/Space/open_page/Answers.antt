@@ -18,17 +18,30 @@ holders-requires-clause-inside c =
 pub split_page-requires : goal.split_page-requires
 split_page-requires c =
     let m = made (goal.at.split_page-requires c).After-leaf-open in
-    record { space = c.requires.space; page = c.requires.page; frame = m.frame;
-        shared = omega (arith, c.holders.ensures, c.if-holders-gt1.true); marks = m.marks; leaf = m.leaf; right =
-        m.right }
+    record {
+      space = c.requires.space;
+      page = c.requires.page;
+      frame = m.frame;
+      shared = omega (arith, c.holders.ensures, c.if-holders-gt1.true);
+      marks = m.marks;
+      leaf = m.leaf;
+      right =
+          m.right;
+    }
 
 pub set_page-requires : goal.set_page-requires
 set_page-requires c =
     let m = made (goal.at.set_page-requires c).After-leaf-open in
     let sole = page-single c.requires.space _ _ c.requires.page m.frame
-            (omega (arith, c.holders.ensures, c.if-holders-gt1.false)) in
-    record { space = c.requires.space; page = c.requires.page; frame = m.frame; marks = m.marks; leaf = m.leaf;
-        sole = λ wide. sole }
+    (omega (arith, c.holders.ensures, c.if-holders-gt1.false)) in
+    record {
+      space = c.requires.space;
+      page = c.requires.page;
+      frame = m.frame;
+      marks = m.marks;
+      leaf = m.leaf;
+      sole = λ wide. sole;
+    }
 
 pub returns-else-holders-gt1-clause-same : goal.returns-else-holders-gt1-clause-same
 returns-else-holders-gt1-clause-same c =
@@ -52,11 +65,11 @@ returns-then-holders-gt1-clause-opens c = λ first h.
     let r = c.args.self.now.root.0 in
     let m = made (goal.at.returns-then-holders-gt1-clause-opens c).After-leaf-open in
     open-one c.args.ram.now c.split_page.new.ram r (pages_in c.args.self.now.size) c.args.page first _
-        (c.split_page.ensures.marks ∙ m.made) c.split_page.ensures.others h
+    (c.split_page.ensures.marks ∙ m.made) c.split_page.ensures.others h
 
 pub returns-else-holders-gt1-clause-opens : goal.returns-else-holders-gt1-clause-opens
 returns-else-holders-gt1-clause-opens c = λ first h.
     let r = c.args.self.now.root.0 in
     let m = made (goal.at.returns-else-holders-gt1-clause-opens c).After-leaf-open in
     open-one c.args.ram.now c.set_page.new.ram r (pages_in c.args.self.now.size) c.args.page first _
-        (c.set_page.ensures.marks ∙ m.made) c.set_page.ensures.others h
+    (c.set_page.ensures.marks ∙ m.made) c.set_page.ensures.others h

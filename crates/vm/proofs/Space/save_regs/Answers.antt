@@ -17,15 +17,15 @@ store_u64-requires-in-loop-register-clause-frame c =
 pub loop-register-preserved : goal.loop-register-preserved
 loop-register-preserved c =
     saves-next c.frames_are_whole-in-loop-register.ensures.memory c.loop-register.invariant (omega arith)
-        c.loop-register-test.true (c.fits-registers c.loop-register.register) refl
+    c.loop-register-test.true (c.fits-registers c.loop-register.register) refl
     (c.store_u64-in-loop-register.ensures
-        ∙ ap (λ o. put c.loop-register.ram c.args.self.now.trap.0 o
-        (word_bytes 8 (get_or c.args.registers.now c.loop-register.register 0))) c.place_of.ensures)
+    ∙ ap (λ o. put c.loop-register.ram c.args.self.now.trap.0 o
+    (word_bytes 8 (get_or c.args.registers.now c.loop-register.register 0))) c.place_of.ensures)
 
 pub returns : goal.returns
 returns c =
     let all : c.loop-register.register ≡ 32 = omega arith in
     let i = c.loop-register.invariant in
     let registers = saved-is c.loop-register.ram c.args.self.now c.args.registers.now c.told-registers c.requires.zero
-            (λ j low high. i.saved j low (omega (arith, all))) in
+    (λ j low high. i.saved j low (omega (arith, all))) in
     record { registers = registers; pc = i.counter; spare = i.spare; pages = i.pages; stands = i.stands }

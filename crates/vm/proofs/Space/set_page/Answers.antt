@@ -15,7 +15,7 @@ returns c =
     let now = c.requires in
     let r = c.remap.ensures in
     let e = remap-marks now.space now.page now.frame now.leaf now.sole r.inserts r.tables (r.tidy now.space.dense.tidy)
-            r.paged r.keeps r.free in
+    r.paged r.keeps r.free in
     record {
       stands = reframed _ now.space now.page e;
       same = λ right. rearranged _ now.space now.page e right;

@@ -24,8 +24,17 @@ closed : (c : After-set_page)
 closed c =
     let leaf = (goal.at.After-set_page c).After-closed_leaf-closed in
     let e = c.set_page.ensures in
-    record { stands = e.stands; page = e.page; pages = e.pages; held = e.held; frames = e.frames; frame = e.frame;
-        marks = e.marks; right = (made leaf).right; closed = shut leaf }
+    record {
+      stands = e.stands;
+      page = e.page;
+      pages = e.pages;
+      held = e.held;
+      frames = e.frames;
+      frame = e.frame;
+      marks = e.marks;
+      right = (made leaf).right;
+      closed = shut leaf;
+    }
 
 part : (c : After-set_page) → IsPart c.set_page.new.ram c.args.self.now c.args.child.now c.args.page c.args.frames.now
 part c = (part-closed c.requires.part c.requires.page (closed c)).0
@@ -34,19 +43,25 @@ pub set_page-requires : goal.set_page-requires
 set_page-requires c =
     let leaf = (goal.at.set_page-requires c).After-closed_leaf-closed in
     let m = made leaf in
-    record { space = c.requires.part.parent; page = c.requires.page; frame = m.frame; marks = m.marks; leaf = m.leaf;
-        sole = λ wide. absurd (let e = shut leaf in cc) }
+    record {
+      space = c.requires.part.parent;
+      page = c.requires.page;
+      frame = m.frame;
+      marks = m.marks;
+      leaf = m.leaf;
+      sole = λ wide. absurd (let e = shut leaf in cc);
+    }
 
 -- the frame gets a holder then
 both : (c : After-share) → c.share.result ≡ true
     → IsSpace c.set_page.new.ram c.args.self.now c.share.new.self
-        × IsBefore c.set_page.new.ram c.args.child.now.root.0 c.args.child.now.trap.0 c.args.page c.in-Some.frame.0
-        c.closed_leaf-closed.result.0 c.share.new.self
+    × IsBefore c.set_page.new.ram c.args.child.now.root.0 c.args.child.now.trap.0 c.args.page c.in-Some.frame.0
+    c.closed_leaf-closed.result.0 c.share.new.self
 both c done =
     let set = (goal.at.After-share c).After-set_page in
     let e = closed set in
     part-before (part set) c.requires.page e.frame e.marks e.closed c.share.ensures.valid
-        (rw done at c.share.ensures.done) c.share.ensures.list
+    (rw done at c.share.ensures.done) c.share.ensures.list
 
 pub share-requires-clause-held : goal.share-requires-clause-held
 share-requires-clause-held c =
@@ -56,24 +71,34 @@ pub unreachable-requires-then-not-share : goal.unreachable-requires-then-not-sha
 unreachable-requires-then-not-share c =
     let set = (goal.at.unreachable-requires-then-not-share c).After-set_page in
     let free = closed-free (closed set) c.requires.part.parent in
-    omega (arith, c.if-not-share.ensures.refused.0,
-        more-some (part set) c.requires.page (omega (arith, c.requires.room, free)))
+    omega (
+      arith,
+      c.if-not-share.ensures.refused.0,
+      more-some (part set) c.requires.page (omega (arith, c.requires.room, free)),
+    )
 
 pub map-requires : goal.map-requires
 map-requires c =
     let at = goal.at.map-requires c in
     let before = (both at.After-share c.if-not-share.false).1 in
     let inside = page-inside-is c.set_page.ensures.stands.space _ _ c.requires.page c.set_page.ensures.frame in
-    record { paged = OwnsFrames-paged before.space; page = omega (arith, before.small); frame = inside;
-        marks = (made at.After-closed_leaf-closed).marks }
+    record {
+      paged = OwnsFrames-paged before.space;
+      page = omega (arith, before.small);
+      frame = inside;
+      marks = (made at.After-closed_leaf-closed).marks;
+    }
 
 pub unreachable-requires-in-Err : goal.unreachable-requires-in-Err
 unreachable-requires-in-Err c =
     let at = goal.at.unreachable-requires-in-Err c in
     let before = (both at.After-share c.if-not-share.false).1 in
     let free = closed-free (closed at.After-set_page) c.requires.part.parent in
-    omega (arith, c.in-Err.ensures.full,
-        next-fits before.space before.small (omega (arith, c.requires.room, free, c.if-not-share.ensures.fewer)))
+    omega (
+      arith,
+      c.in-Err.ensures.full,
+      next-fits before.space before.small (omega (arith, c.requires.room, free, c.if-not-share.ensures.fewer)),
+    )
 
 pub returns : goal.returns
 returns c =
@@ -82,6 +107,13 @@ returns c =
     let m = c.in-Ok.ensures in
     let before = (both at.After-share c.if-not-share.false).1 in
     part-more c.requires.part c.requires.page (closed at.After-set_page) (made leaf).frame c.share.ensures.valid
-        c.if-not-share.ensures.done c.share.ensures.list
-    (record { leaf = (made leaf).leaf; inserts = m.mapped; adds = m.adds; tidy = m.tidy before.space.dense.tidy;
-        paged = m.paged; keeps = m.keeps; extra = m.extra })
+    c.if-not-share.ensures.done c.share.ensures.list
+    (record {
+      leaf = (made leaf).leaf;
+      inserts = m.mapped;
+      adds = m.adds;
+      tidy = m.tidy before.space.dense.tidy;
+      paged = m.paged;
+      keeps = m.keeps;
+      extra = m.extra;
+    })

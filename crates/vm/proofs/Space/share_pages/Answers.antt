@@ -12,14 +12,14 @@ share_page-requires-clause-room c =
 pub loop-page-preserved : goal.loop-page-preserved
 loop-page-preserved c =
     so-far-more c.loop-page.invariant c.share_page.ensures
-        (omega (arith, c.pages_in-page-end.ensures, c.loop-page-test.true))
+    (omega (arith, c.pages_in-page-end.ensures, c.loop-page-test.true))
 
 all : goal.returns-clause-all
 all c =
     let end : c.loop-page.page ≡ pages_in c.args.self.now.size =
-            omega (arith, c.pages_in-page-end.ensures, c.loop-page-test.false) in
+    omega (arith, c.pages_in-page-end.ensures, c.loop-page-test.false) in
     subst (λ n. IsSoFar c.args.ram.now c.loop-page.ram c.args.self.now c.args.child.now n c.args.frames.now
-        c.loop-page.frames) end c.loop-page.invariant
+    c.loop-page.frames) end c.loop-page.invariant
 
 pub returns-clause-all : goal.returns-clause-all
 returns-clause-all c = all c

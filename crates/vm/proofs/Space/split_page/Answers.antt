@@ -7,8 +7,12 @@ use Rattle.vm.proofs.Space.split_page.Goals.{After-copy}
 
 split : (c : After-copy)
     → IsSplit c.args.ram.now c.copy.new.self c.args.frames.now c.split-own.new.self c.args.frame.0 c.split-own.result.0
-split c = record { taken = c.split-own.ensures.taken; after = c.split-own.ensures.valid;
-    holders = c.split-own.ensures.holders; is = c.copy.ensures }
+split c = record {
+  taken = c.split-own.ensures.taken;
+  after = c.split-own.ensures.valid;
+  holders = c.split-own.ensures.holders;
+  is = c.copy.ensures;
+}
 
 pub copy-requires : goal.copy-requires
 copy-requires c = record {
@@ -23,8 +27,11 @@ remap-requires c =
       paged = (split-paged c.requires.space e).0;
       page = omega (arith, c.requires.space.dense.small);
       mapped = split-mapped c.requires.space e _ c.requires.page;
-      frame = omega (arith, (free-first c.requires.space.free _ _ c.split-own.ensures.taken).0,
-          split-count c.requires.space.free e);
+      frame = omega (
+        arith,
+        (free-first c.requires.space.free _ _ c.split-own.ensures.taken).0,
+        split-count c.requires.space.free e,
+      );
       marks = c.requires.marks;
     }
 
@@ -36,7 +43,7 @@ returns c =
     record {
       same = rearranged _ c.requires.space c.requires.page
           (remap-split c.requires.space e c.requires.page c.requires.frame c.requires.leaf r.inserts r.tables
-              (r.tidy paged.1) r.paged r.keeps r.free) c.requires.right;
+          (r.tidy paged.1) r.paged r.keeps r.free) c.requires.right;
       sole = split-sole c.requires.space.free e;
       frame = frame_at-is _ _ _ r.inserts.changed;
       marks = marks_at-is _ _ _ r.inserts.changed;

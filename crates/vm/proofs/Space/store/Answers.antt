@@ -8,8 +8,8 @@ write_part-requires-clause-frame c =
     let s = c.args.self.now in
     let m = c.args.ram.now in
     subst (λ f. f < length m) c.in-Some.ensures.frame
-        (page-inside m s.root.0 s.trap.0 (pages_in s.size) (c.args.address / 4096) c.requires.mapped
-        c.in-Some.ensures.page)
+    (page-inside m s.root.0 s.trap.0 (pages_in s.size) (c.args.address / 4096) c.requires.mapped
+    c.in-Some.ensures.page)
 
 put-there : (c : After-write_part)
     → c.write_part.new.ram ≡ put c.args.ram.now (page_frame c.args.ram.now c.args.self.now (c.args.address / 4096))

@@ -16,7 +16,7 @@ returns-clause-inside c = λ page e at.
     let n = pages_in c.args.self.now.size in
     rw (← ap (λ (x : Mapped). x.frame) (mapping-is _ _ _ _ page e at))
     (page-inside c.args.ram.now c.args.self.now.root.0 c.args.self.now.trap.0 n page c.requires
-        (mapping-within _ _ _ _ page e at))
+    (mapping-within _ _ _ _ page e at))
 
 pub returns-clause-apart : goal.returns-clause-apart
 returns-clause-apart c = λ once p q e d at to same.
@@ -25,4 +25,4 @@ returns-clause-apart c = λ once p q e d at to same.
     let n = pages_in c.args.self.now.size in
     pages-same m r c.args.self.now.trap.0 n p q once (mapping-within _ _ _ _ p e at) (mapping-within _ _ _ _ q d to)
     (ap (λ (x : Mapped). x.frame) (mapping-is _ _ _ _ p e at) ∙ same
-        ∙ sym (ap (λ (x : Mapped). x.frame) (mapping-is _ _ _ _ q d to)))
+    ∙ sym (ap (λ (x : Mapped). x.frame) (mapping-is _ _ _ _ q d to)))

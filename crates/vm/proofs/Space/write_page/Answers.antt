@@ -28,12 +28,12 @@ returns-clause-rest c =
     let same = c.open_page-frame.ensures.same in
     let is = same.frames.space in
     let here = mapped-page z (mapping_of z s) p (read_at right_marks z s.root.0 p)
-            (sym (get-mapping right_marks z s.root.0 (pages_in s.size) p c.requires.page)) in
+    (sym (get-mapping right_marks z s.root.0 (pages_in s.size) p c.requires.page)) in
     ap (λ (k : Memory). write_bytes k (c.args.address + c.min-len.result) (drop c.min-len.result bs))
     (put-written z c.write_part.new.ram s p (c.args.address % 4096) (take c.min-len.result bs) is.dense is.once
-        c.requires.page (put-there (goal.at.returns-clause-rest c).After-write_part))
+    c.requires.page (put-there (goal.at.returns-clause-rest c).After-write_part))
     ∙ write-page (pages_of z s) c.args.address c.min-len.result (page_at z s.root.0 p) bs c.requires.some here
-        c.min-len.ensures
+    c.min-len.ensures
     ∙ ap (λ (k : Memory). write_bytes k c.args.address bs) same.pages
 
 pub returns-clause-frames : goal.returns-clause-frames
@@ -41,16 +41,16 @@ returns-clause-frames c =
     let e = c.open_page-frame.ensures in
     reframes-twice e.same.frames
     (put-reframes _ _ c.args.self.now _ (c.args.address / 4096) (c.args.address % 4096)
-        (take c.min-len.result c.args.bytes.now) e.same.frames.space c.requires.page
+    (take c.min-len.result c.args.bytes.now) e.same.frames.space c.requires.page
     (ap (further_at c.open_page-frame.new.frames) e.frame ∙ e.sole)
-        (put-there (goal.at.returns-clause-frames c).After-write_part))
+    (put-there (goal.at.returns-clause-frames c).After-write_part))
 
 pub returns-clause-opens : goal.returns-clause-opens
 returns-clause-opens c = λ first h.
     let e = c.open_page-frame.ensures in
     open-read c.open_page-frame.new.ram c.write_part.new.ram c.args.self.now.root.0 (pages_in c.args.self.now.size)
-        first
+    first
     (put-reads _ _ c.args.self.now (c.args.address / 4096) (c.args.address % 4096)
-        (take c.min-len.result c.args.bytes.now) e.same.frames.space.dense e.same.frames.space.once c.requires.page
+    (take c.min-len.result c.args.bytes.now) e.same.frames.space.dense e.same.frames.space.once c.requires.page
     (put-there (goal.at.returns-clause-opens c).After-write_part))
     (e.opens first h)

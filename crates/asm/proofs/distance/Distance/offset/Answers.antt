@@ -11,10 +11,10 @@ field_in-requires c =
 pub returns-then-offset-eq1-clause-is : goal.returns-then-offset-eq1-clause-is
 returns-then-offset-eq1-clause-is c =
     rw c.if-offset-eq1.true at (offset_is c.args.bits (distance_seen c.args.self.now) c.in-Some.offset c.requires.0
-        (rw c.pow-half.ensures at c.in-Some.ensures))
+    (rw c.pow-half.ensures at c.in-Some.ensures))
 
 pub returns-clause-is : goal.returns-clause-is
 returns-clause-is c =
     rw (ne_eqb _ _ c.if-offset-eq1.false)
-        at (offset_is c.args.bits (distance_seen c.args.self.now) c.in-Some.offset c.requires.0
-        (rw c.pow-half.ensures at c.in-Some.ensures))
+    at (offset_is c.args.bits (distance_seen c.args.self.now) c.in-Some.offset c.requires.0
+    (rw c.pow-half.ensures at c.in-Some.ensures))

@@ -7,7 +7,7 @@ returns-then-self c =
     let size = digits_value (base_of c.args.self.now.radix) c.args.self.now.digits.items in
     rw (c.negated.ensures, c.if-self.true)
     (negative_within c.args.below c.args.above c.args.bits size (Some c.in_ok-size.size)
-        (rw (c.base.ensures.is, c.deref.ensures.value) at c.in_ok-size.ensures))
+    (rw (c.base.ensures.is, c.deref.ensures.value) at c.in_ok-size.ensures))
 
 pub returns : goal.returns
 returns c =

@@ -13,4 +13,4 @@ returns c =
     let s = c.self.inside in
     let h = rw (← c.self.view_is) at c.requires in
     rw (← c.self.view_is) (line-drop_first _ _ s.committed _
-        (omega (arith, h, length-ring 128 s.places s.from s.committed)))
+    (omega (arith, h, length-ring 128 s.places s.from s.committed)))

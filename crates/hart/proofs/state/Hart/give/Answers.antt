@@ -6,18 +6,18 @@ pub returns-then-not-is_aligned : goal.returns-then-not-is_aligned
 returns-then-not-is_aligned g c = λ pc.
     let aligned : (c.args.address % store_size c.args.op == 0) ≡ false = search rules in
     rw c.stop.ensures (acts-odd
-        (store_to c.args.self.now.registers pc c.args.address (le (store_size c.args.op) c.args.value)) Store aligned)
+    (store_to c.args.self.now.registers pc c.args.address (le (store_size c.args.op) c.args.value)) Store aligned)
 
 pub returns-in-None : goal.returns-in-None
 returns-in-None g c = λ pc.
     let aligned : (c.args.address % store_size c.args.op == 0) ≡ true = search rules in
     rw c.stop-in-None.ensures
-        (acts-even (store_to c.args.self.now.registers pc c.args.address (le (store_size c.args.op) c.args.value))
-        Store _ None aligned c.in-None.ensures.answer c.locate.ensures.kept refl (λ answers _. (refl, refl, refl)))
+    (acts-even (store_to c.args.self.now.registers pc c.args.address (le (store_size c.args.op) c.args.value))
+    Store _ None aligned c.in-None.ensures.answer c.locate.ensures.kept refl (λ answers _. (refl, refl, refl)))
 
 pub returns-in-Some : goal.returns-in-Some
 returns-in-Some g c = λ pc.
     let aligned : (c.args.address % store_size c.args.op == 0) ≡ true = search rules in
     acts-even (store_to c.args.self.now.registers pc c.args.address (le (store_size c.args.op) c.args.value)) Store _
-        (Some c.in-Some.f.0) aligned c.in-Some.ensures.answer c.locate.ensures.kept (search rules)
+    (Some c.in-Some.f.0) aligned c.in-Some.ensures.answer c.locate.ensures.kept (search rules)
     (λ answers same. (refl, refl, refl, refl, rw (same, ← c.place.ensures) c.store_value.ensures))

@@ -7,6 +7,6 @@ returns g c =
     let base = c.args.base in
     let k = c.args.k in
     let word : c.load_u32.result ≡ word_in c.args.ram.now c.args.f.0 (pc_at base k) = c.load_u32.ensures
-            ∙ word-at _ _ k c.requires.page (omega (arith, c.ranges.base.fits)) c.requires.place in
+    ∙ word-at _ _ k c.requires.page (omega (arith, c.ranges.base.fits)) c.requires.place in
     acts-worded _ _
     c.op.ensures (c.read.ensures ∙ word) c.act.ensures

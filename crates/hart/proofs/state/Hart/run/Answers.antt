@@ -10,15 +10,15 @@ use Rattle.hart.proofs.state.Hart.run.Goals.{After-run_page-rest}
 ran : (g : given.Over) (c : After-run_page-rest g) (stopped : Option Trap) → c.run_page-rest.result.1 ≡ stopped
     → (mapping : List Mapped)
     → GoesOn (g.T.Translate.held c.args.trans.now) (g.T.Translate.held c.run_page-rest.new.trans)
-        c.args.self.now.root.0 mapping (g.S.Stops.addresses c.args.stops.now) (point_of c.args.self.now c.args.ram.now)
+    c.args.self.now.root.0 mapping (g.S.Stops.addresses c.args.stops.now) (point_of c.args.self.now c.args.ram.now)
     (point_of c.run_page-rest.new.self c.run_page-rest.new.ram) (c.args.count - c.run_page-rest.result.0) stopped
 ran g c stopped is mapping =
     let before = c.loop-left.invariant in
     run-then (g.T.Translate.held c.args.trans.now) (g.T.Translate.held c.locate.new.trans)
-        (c.args.count - c.loop-left.left) mapping before.whole (before.goes mapping) c.locate.ensures.kept
-        {o = Some c.in-Some.f.0} c.in-Some.ensures.answer
+    (c.args.count - c.loop-left.left) mapping before.whole (before.goes mapping) c.locate.ensures.kept
+    {o = Some c.in-Some.f.0} c.in-Some.ensures.answer
     c.run_page-rest.new.self c.run_page-rest.new.ram c.args.count c.loop-left.left c.run_page-rest.result.0
-        c.in-Some.f.0 stopped before.behind refl before.bounded c.run_page-rest.ensures.within refl
+    c.in-Some.f.0 stopped before.behind refl before.bounded c.run_page-rest.ensures.within refl
     (λ others at. rw is at (c.run_page-rest.ensures.goes others at))
 
 pub run_page-rest-requires-clause-inside : goal.run_page-rest-requires-clause-inside
@@ -46,8 +46,8 @@ loop-left-preserved g c =
 pub returns-in_default-clause-goes : goal.returns-in_default-clause-goes
 returns-in_default-clause-goes g c = λ mapping.
     run-faults (g.T.Translate.held c.args.trans.now) (g.T.Translate.held c.locate.new.trans)
-        (c.args.count - c.loop-left.left) mapping c.loop-left.invariant.whole (c.loop-left.invariant.goes mapping)
-        c.locate.ensures.kept {o = None} c.in_default.ensures.answer refl
+    (c.args.count - c.loop-left.left) mapping c.loop-left.invariant.whole (c.loop-left.invariant.goes mapping)
+    c.locate.ensures.kept {o = None} c.in_default.ensures.answer refl
 
 pub returns-in_default-clause-whole : goal.returns-in_default-clause-whole
 returns-in_default-clause-whole g c = record {
@@ -65,7 +65,7 @@ pub returns-in-Some-stopped-clause-behind : goal.returns-in-Some-stopped-clause-
 returns-in-Some-stopped-clause-behind g c =
     let before = c.loop-left.invariant in
     let sum : c.args.count - c.loop-left.left + (c.loop-left.left - c.run_page-rest.result.0)
-            ≡ c.args.count - c.run_page-rest.result.0 = omega (arith, before.bounded, c.run_page-rest.ensures.within) in
+    ≡ c.args.count - c.run_page-rest.result.0 = omega (arith, before.bounded, c.run_page-rest.ensures.within) in
     rw (← sum) (behind-then _ before.behind (rw c.in-Some-stopped.is at c.run_page-rest.ensures.behind))
 
 pub returns-then-has-clause-goes : goal.returns-then-has-clause-goes
@@ -81,5 +81,5 @@ pub returns-clause-goes : goal.returns-clause-goes
 returns-clause-goes g c = λ mapping.
     let all : c.args.count - c.loop-left.left ≡ c.args.count = omega (arith, c.loop-left-test.false) in
     subst (λ x. GoesOn (g.T.Translate.held c.args.trans.now) (g.T.Translate.held c.loop-left.trans)
-        c.args.self.now.root.0 mapping (g.S.Stops.addresses c.args.stops.now) (point_of c.args.self.now c.args.ram.now)
-        (point_of c.loop-left.self c.loop-left.ram) x None) all (c.loop-left.invariant.goes mapping)
+    c.args.self.now.root.0 mapping (g.S.Stops.addresses c.args.stops.now) (point_of c.args.self.now c.args.ram.now)
+    (point_of c.loop-left.self c.loop-left.ram) x None) all (c.loop-left.invariant.goes mapping)

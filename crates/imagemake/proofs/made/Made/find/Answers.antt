@@ -5,7 +5,7 @@ use Rattle.imagemake.proofs.made.Made.find.Goals as goal
 pub returns-in_err-i : goal.returns-in_err-i
 returns-in_err-i c =
     c.from_residual.ensures ∙ found-index (c.args.directory, c.args.name) c.self.inside.names.entries None
-        c.in_err-i.ensures.index
+    c.in_err-i.ensures.index
     ∙ ap (λ (m : Names). found m.items c.args.directory c.args.name.now) c.self.view_is
 
 pub returns : goal.returns

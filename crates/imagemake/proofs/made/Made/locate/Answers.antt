@@ -8,7 +8,7 @@ returns-in_default-find-clause-none c =
     let made = c.args.self.now.items in
     let spot = c.name.spot in
     let none = reach_none made spot.directory (take c.in-Some.end spot.below.now)
-            (drop (c.in-Some.end + 1) spot.below.now) (sym c.in_default-find.ensures) in (
+    (drop (c.in-Some.end + 1) spot.below.now) (sym c.in_default-find.ensures) in (
       none.0,
       reach-below c.name.invariant.leads _ _ c.name.invariant.joined
           ∙ ap (reach made spot.directory) (pieces_first spot.below.now c.in-Some.end (sym c.in-Some.ensures)) ∙ none.1,

@@ -9,7 +9,7 @@ returns-clause-items c =
     let one = made_name spot.directory spot.below.now c.args.is_directory in
     ap (map name_of) c.in-Ok.ensures.entries
     ∙ names-insert (spot.directory, spot.below) c.self.inside.names.entries c.args.is_directory
-        (ap (λ (m : Names). found m.items spot.directory spot.below.now) c.self.view_is ∙ c.requires.absent)
+    (ap (λ (m : Names). found m.items spot.directory spot.below.now) c.self.view_is ∙ c.requires.absent)
     ∙ ap (λ (m : Names). m.items ++ one ∷ []) c.self.view_is
 
 pub invariant_of-self : goal.invariant_of-self

@@ -6,4 +6,4 @@ returns-in-Some-strip_prefix-clause-joined c =
     let above = c.self.inside.above.now in
     strip_prefix_is Decides-eqb c.args.path.now above (Some c.in-Some.behind) c.in-Some.ensures.cases
     ∙ ap (λ t. above ++ t) (strip_prefix_is Decides-eqb c.in-Some.behind.now (0x2f ∷ [])
-        (Some c.in-Some-strip_prefix.below) c.in-Some-strip_prefix.ensures.cases)
+    (Some c.in-Some-strip_prefix.below) c.in-Some-strip_prefix.ensures.cases)

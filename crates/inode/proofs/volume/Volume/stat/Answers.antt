@@ -8,7 +8,7 @@ pub returns : goal.returns
 returns g c =
     let a = asked c.self.view_is c.self.invariant c.requires.up c.args.number c.requires.node in
     rw (← c.self.view_is) (looks c.stat-result.result c.stat-result.ensures c.is_err-self-inside.ensures.value
-        (told-raw a.inode))
+    (told-raw a.inode))
 
 pub invariant_of-self : goal.invariant_of-self
 invariant_of-self g c = sound-same c.stat-result.result c.stat-result.ensures c.is_err-self-inside.ensures.value

@@ -14,7 +14,7 @@ pub returns : goal.returns
 returns g c =
     let free = at-inside c.self.view_is (λ s. slot s.nodes c.args.number ≡ None) c.requires.free in
     rw (← c.self.view_is) (tries c.take_inode_at-result.result c.take_inode_at-result.ensures
-        c.is_err-self-inside.ensures.value (λ x was. changes-taken c.args.kind free was))
+    c.is_err-self-inside.ensures.value (λ x was. changes-taken c.args.kind free was))
 
 pub invariant_of-self : goal.invariant_of-self
 invariant_of-self g c = sound-after c.take_inode_at-result.result c.take_inode_at-result.ensures

@@ -8,7 +8,7 @@ pub returns : goal.returns
 returns g c =
     let a = asked c.self.view_is c.self.invariant c.requires.up c.args.number c.requires.node in
     rw (← c.self.view_is) (tries c.truncate-result.result c.truncate-result.ensures c.is_err-self-inside.ensures.value
-        (λ x was. changes-wrote a.inode was))
+    (λ x was. changes-wrote a.inode was))
 
 pub invariant_of-self : goal.invariant_of-self
 invariant_of-self g c = sound-after c.truncate-result.result c.truncate-result.ensures

@@ -20,10 +20,10 @@ pub returns-then-written-bytes : goal.returns-then-written-bytes
 returns-then-written-bytes g c =
     let wrote = subst (WritesFrom _ _ _ _ _) c.in-Written.is c.in_ok-try_writing.ensures.done in
     serves-not c.try_writing.ensures.follows (still-up c.try_writing.ensures c.in_ok-try_writing.was) refl
-        (writes-part c.in-Written.written wrote.2 wrote.0 wrote.1 c.if-written-bytes.true)
+    (writes-part c.in-Written.written wrote.2 wrote.0 wrote.1 c.if-written-bytes.true)
 
 pub returns : goal.returns
 returns g c =
     let wrote = subst (WritesFrom _ _ _ _ _) c.in-Written.is c.in_ok-try_writing.ensures.done in
     serves-done c.try_writing.ensures.follows (still-up c.try_writing.ensures c.in_ok-try_writing.was)
-        (writes-all c.in-Written.written wrote.2 wrote.0 wrote.1 (omega (arith, c.if-written-bytes.false)))
+    (writes-all c.in-Written.written wrote.2 wrote.0 wrote.1 (omega (arith, c.if-written-bytes.false)))

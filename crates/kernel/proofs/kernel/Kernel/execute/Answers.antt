@@ -8,4 +8,4 @@ invariant_of-self g c =
     let e = c.execute-trap.ensures in
     let k = kernel_of c.self.inside in
     on-keeps c.self.invariant
-        (execute-on k _ _ _ _ c.self.invariant.sound active active c.frames_suffice.ensures e.done e.trap)
+    (execute-on k _ _ _ _ c.self.invariant.sound active active c.frames_suffice.ensures e.done e.trap)

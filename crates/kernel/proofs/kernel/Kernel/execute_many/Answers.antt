@@ -9,8 +9,8 @@ invariant_of-self g c =
     let n = c.execute_many.result.0 in
     let new = c.execute_many.new.self in
     on-keeps c.self.invariant
-        (advances-on _ n k c.args.at new c.self.invariant.sound active
-        (advances-at _ k.spaces.active c.args.at n k.spaces new active c.execute_many.ensures.done))
+    (advances-on _ n k c.args.at new c.self.invariant.sound active
+    (advances-at _ k.spaces.active c.args.at n k.spaces new active c.execute_many.ensures.done))
 
 pub returns : goal.returns
 returns g c =
@@ -18,8 +18,11 @@ returns g c =
     let active = rw (← c.self.view_is) at c.requires in
     let e = c.execute_many.ensures in
     rw (← c.self.view_is) (record {
-      done = (advances-at _ k.spaces.active c.args.at c.execute_many.result.0 k.spaces c.execute_many.new.self active
-          e.done, refl);
+      done = (
+        advances-at _ k.spaces.active c.args.at c.execute_many.result.0 k.spaces c.execute_many.new.self active
+            e.done,
+        refl,
+      );
       within = e.within;
       ends = e.ends;
       trap = trap-at k.spaces.active c.args.at c.execute_many.result.0 c.args.count c.execute_many.new.self

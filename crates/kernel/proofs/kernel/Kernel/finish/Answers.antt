@@ -30,4 +30,4 @@ returns g c =
     rw (c.halted_after-halted.ensures, c.end-nodes.ensures.table, c.end-nodes.ensures.spaces, c.end-nodes.ensures.files)
     (finish-serves _ c.self.view_is s.sound c.requires c.in-Some.ensures.process c.let_go.new.tree c.let_go.result _
     (rw (c.as_slice.ensures.value, c.end-nodes.ensures.nodes) at c.let_go.ensures) c.args.status
-        (to_z-of_z w32 c.args.status c.ranges.status))
+    (to_z-of_z w32 c.args.status c.ranges.status))

@@ -23,27 +23,33 @@ share_all-requires g c = record { few = counts-few (kernel_of c.self.inside) c.s
 pub hold-requires : goal.hold-requires
 hold-requires g c =
     let may = rw (← c.self.view_is) at c.requires.may in
-    record { up = may.up; node = fork-home (runner-of c.self.invariant.sound may.running) may.up
-        (rw (← c.self.view_is) at c.in-Some.ensures.process); few =
-        hold-few c.self.invariant.sound may.up c.in-Some.process.directory }
+    record {
+      up = may.up;
+      node = fork-home (runner-of c.self.invariant.sound may.running) may.up
+          (rw (← c.self.view_is) at c.in-Some.ensures.process);
+      few =
+          hold-few c.self.invariant.sound may.up c.in-Some.process.directory;
+    }
 
 pub invariant_of-self-2 : goal.invariant_of-self-2
 invariant_of-self-2 g c =
     let may = rw (← c.self.view_is) at c.requires.may in
     let table : c.alloc-seat.new.self ≡ seated c.self.inside.table (child_of c.in-Some.process) c.args.seat =
-            rw (c.alloc-seat.ensures.seat, may.next) at c.alloc-seat.ensures.ok in
+    rw (c.alloc-seat.ensures.seat, may.next) at c.alloc-seat.ensures.ok in
     rw (c.wake.ensures, table, c.if-not-copy.ensures.done.1, c.share_all.ensures, c.hold.ensures)
     (fork-keeps c.self.invariant may (rw (← c.self.view_is) at c.is_sound.ensures.zero)
-        (rw (← c.self.view_is) at c.is_sound.ensures.aligned) (rw (← c.self.view_is) at c.in-Some.ensures.process)
-        c.if-not-copy.ensures.done.0)
+    (rw (← c.self.view_is) at c.is_sound.ensures.aligned) (rw (← c.self.view_is) at c.in-Some.ensures.process)
+    c.if-not-copy.ensures.done.0)
 
 pub returns : goal.returns
 returns g c =
     let may = rw (← c.self.view_is) at c.requires.may in
     let said = rw (← c.self.view_is) at c.in-Some.ensures.process in
     let table : c.alloc-seat.new.self ≡ seated c.self.inside.table (child_of c.in-Some.process) c.args.seat =
-            rw (c.alloc-seat.ensures.seat, may.next) at c.alloc-seat.ensures.ok in
+    rw (c.alloc-seat.ensures.seat, may.next) at c.alloc-seat.ensures.ok in
     let d = c.if-not-copy.ensures.done in
-    rw (c.wake.ensures, table, d.1, c.share_all.ensures, c.hold.ensures, ← c.self.view_is)
-        (d.0, λ p at. ap (λ (k : Kernel). waking k (slice_set c.self.inside.table.awake c.args.seat.place true))
-        (fork-by (kernel_of c.self.inside) c.args.at c.args.seat said at))
+    rw (c.wake.ensures, table, d.1, c.share_all.ensures, c.hold.ensures, ← c.self.view_is) (
+      d.0,
+      λ p at. ap (λ (k : Kernel). waking k (slice_set c.self.inside.table.awake c.args.seat.place true))
+          (fork-by (kernel_of c.self.inside) c.args.at c.args.seat said at),
+    )

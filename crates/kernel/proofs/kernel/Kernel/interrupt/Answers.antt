@@ -17,5 +17,7 @@ leave-requires g c =
 
 pub invariant_of-self : goal.invariant_of-self
 invariant_of-self g c = rw c.wakeup.ensures
-    (record { sound = kernel-waking (typed-kernel c.self-2.invariant.sound _ _) _;
-    watched = watched-ticks c.self-2.invariant.watched _ })
+    (record {
+      sound = kernel-waking (typed-kernel c.self-2.invariant.sound _ _) _;
+      watched = watched-ticks c.self-2.invariant.watched _;
+    })

@@ -8,5 +8,5 @@ returns g c =
     rw (← c.self.view_is)
     (c.any_sleeping.ensures
     ∙ ap (λ (places : List (Option Process)). list_any (holds (λ (p : Process). is_sleeping_mode p.mode)) places)
-        c.places.ensures.places
+    c.places.ensures.places
     ∙ asleep-state (kernel_of c.self.inside))

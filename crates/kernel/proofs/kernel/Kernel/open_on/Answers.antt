@@ -16,4 +16,4 @@ pub returns : goal.returns
 returns g c =
     let o = c.open_as-descriptor.ensures.opens in
     rw (c.wakeup.ensures, c.hold.ensures, ← c.self.view_is)
-        (record { place = o.number; first = o.place; free = o.free; same = rw (o.names, o.opens) refl })
+    (record { place = o.number; first = o.place; free = o.free; same = rw (o.names, o.opens) refl })

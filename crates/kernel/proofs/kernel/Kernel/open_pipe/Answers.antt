@@ -18,15 +18,15 @@ invariant_of-self-2 g c =
     let may = rw (← c.self.view_is) at c.requires.may in
     let d = c.if-not-create_pipe.ensures.done in
     rw (c.wakeup.ensures, d.1)
-        (pipe-keeps (runner-of c.self.invariant.sound may.running) may.room
-        (rw c.pipe_end.ensures at c.open_as-reader.ensures.opens)
-        (rw c.pipe_end-2.ensures at c.open_as-writer.ensures.opens) d.0 c.self.invariant)
+    (pipe-keeps (runner-of c.self.invariant.sound may.running) may.room
+    (rw c.pipe_end.ensures at c.open_as-reader.ensures.opens)
+    (rw c.pipe_end-2.ensures at c.open_as-writer.ensures.opens) d.0 c.self.invariant)
 
 pub returns-clause-pipes : goal.returns-clause-pipes
 returns-clause-pipes g c =
     let may = rw (← c.self.view_is) at c.requires.may in
     let d = c.if-not-create_pipe.ensures.done in
     rw (c.wakeup.ensures, d.1, ← c.self.view_is)
-        (pipe-made (runner-of c.self.invariant.sound may.running) may.room
-        (rw c.pipe_end.ensures at c.open_as-reader.ensures.opens)
-        (rw c.pipe_end-2.ensures at c.open_as-writer.ensures.opens) d.0)
+    (pipe-made (runner-of c.self.invariant.sound may.running) may.room
+    (rw c.pipe_end.ensures at c.open_as-reader.ensures.opens)
+    (rw c.pipe_end-2.ensures at c.open_as-writer.ensures.opens) d.0)

@@ -14,11 +14,15 @@ pub invariant_of-self : goal.invariant_of-self
 invariant_of-self g c =
     let e = c.read_node-read.ensures in
     fetch-keeps _ _ _ _ _ _ _ _ c.self.invariant (rw (← c.self.view_is) at c.requires.running) _ e.serves.told
-        e.serves.down e.written e.failed c.frames_suffice.ensures
+    e.serves.down e.written e.failed c.frames_suffice.ensures
 
 pub returns : goal.returns
 returns g c =
     let e = c.read_node-read.ensures in
-    rw (← c.self.view_is) (record
-        { told = fetch-told _ _ _ _ _ _ _ _ _ e.serves.told e.written; up = e.serves.up; down = e.serves.down;
-        same_device = e.serves.same_device; cause = e.serves.cause })
+    rw (← c.self.view_is) (record {
+      told = fetch-told _ _ _ _ _ _ _ _ _ e.serves.told e.written;
+      up = e.serves.up;
+      down = e.serves.down;
+      same_device = e.serves.same_device;
+      cause = e.serves.cause;
+    })

@@ -5,5 +5,5 @@ pub invariant_of-self : goal.invariant_of-self
 invariant_of-self g c =
     let bytes = c.read_pipe-taken.ensures.bytes in
     rw (c.wakeup.ensures, bytes)
-        (drew-keeps c.self.invariant c.self.view_is c.requires.running _ c.requires.pipe _ _
-        (rw bytes at c.frames_suffice.ensures))
+    (drew-keeps c.self.invariant c.self.view_is c.requires.running _ c.requires.pipe _ _
+    (rw bytes at c.frames_suffice.ensures))

@@ -12,17 +12,17 @@ pub invariant_of-self : goal.invariant_of-self
 invariant_of-self g c =
     let e = c.in-Ok-Some.ensures in
     rw c.begin.ensures (replaced-keeps _ _ _ _ _ _ _ e.executed _ c.in-Ok-Some.field-0-is e.serves.told
-        c.self.invariant (rw (← c.self.view_is) at c.requires.running) c.frames_suffice.ensures)
+    c.self.invariant (rw (← c.self.view_is) at c.requires.running) c.frames_suffice.ensures)
 
 pub returns-in-Ok-Some : goal.returns-in-Ok-Some
 returns-in-Ok-Some g c =
     let e = c.in-Ok-Some.ensures in
     rw (← c.self.view_is, c.begin.ensures)
-        (replaced-done _ _ _ _ _ _ _ e.executed _ c.in-Ok-Some.field-0-is e.serves.told e.serves.cause.later)
+    (replaced-done _ _ _ _ _ _ _ e.executed _ c.in-Ok-Some.field-0-is e.serves.told e.serves.cause.later)
 
 pub invariant_of-self-in-Err : goal.invariant_of-self-in-Err
 invariant_of-self-in-Err g c =
     let e = c.in-Err.ensures in
     rw e.failed.1 (fail-keeps
-        (reheld-keeps c.self.invariant (rw (← c.self.view_is) at c.requires.running) _
-        (rw e.failed.1 at c.frames_suffice-in-Err.ensures)) _ e.serves.down)
+    (reheld-keeps c.self.invariant (rw (← c.self.view_is) at c.requires.running) _
+    (rw e.failed.1 at c.frames_suffice-in-Err.ensures)) _ e.serves.down)

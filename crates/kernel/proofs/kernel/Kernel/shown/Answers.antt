@@ -13,10 +13,10 @@ size-size-requires g c = found-space _ _ _ (sym c.find.ensures.place ∙ c.in_ok
 pub returns-in_err-process : goal.returns-in_err-process
 returns-in_err-process g c =
     rw c.from_residual-in_err-process.ensures
-        (whole-shown _ c.self.view_is c.find.ensures.place c.in_ok-at.was
-        (sym c.in_err-process.was ∙ c.whole.ensures.process))
+    (whole-shown _ c.self.view_is c.find.ensures.place c.in_ok-at.was
+    (sym c.in_err-process.was ∙ c.whole.ensures.process))
 
 pub returns : goal.returns
 returns g c =
     rw c.size-size.ensures (whole-shown _ c.self.view_is c.find.ensures.place c.in_ok-at.was
-        (sym c.in_ok-process.was ∙ c.whole.ensures.process))
+    (sym c.in_ok-process.was ∙ c.whole.ensures.process))

@@ -8,7 +8,7 @@ pub pick-requires-clause-awake : goal.pick-requires-clause-awake
 pick-requires-clause-awake g c i out =
     let k = kernel_of c.self.inside in
     let unready : false ≡ ready (seen (awaited_of k) _) i =
-            sym (asleep-unready (awaited_of k) _ i (c.self.invariant.watched.asleep i out)) in
+    sym (asleep-unready (awaited_of k) _ i (c.self.invariant.watched.asleep i out)) in
     record { shown = record { ref_ptr = (0, 0); now = k.table.places }; shows = refl; says = record { met = unready } }
 
 pub invariant_of-self : goal.invariant_of-self
@@ -16,13 +16,13 @@ invariant_of-self g c =
     let k = kernel_of c.self.inside in
     let idle = rw (← c.self.view_is) at c.requires in
     watched-picked _ _ c.self.invariant.sound idle (λ shown i b r. (search rules)) _
-        (picked-places k.table _ _ c.pick.ensures.picked c.pick.ensures.none) c.pick.ensures.awake
+    (picked-places k.table _ _ c.pick.ensures.picked c.pick.ensures.none) c.pick.ensures.awake
 
 pub returns-clause-turn : goal.returns-clause-turn
 returns-clause-turn g c =
     let k = kernel_of c.self.inside in
     turn-from_pick _ _ (base (rest_of k)) k.table _ _ c.pick.ensures.first
     (λ shown i b r. (search rules)
-        ∙ sym (ready-same (rest_of k) (record k.table { places = shown.now }) k.spaces.places i))
+    ∙ sym (ready-same (rest_of k) (record k.table { places = shown.now }) k.spaces.places i))
     ∙ ap (λ (x : Kernel). turn (with_table (base (rest_of x)) x.table x.spaces.places)) c.self.view_is
     ∙ turn-idle c.args.self.now c.requires

@@ -4,5 +4,7 @@ use Rattle.kernel.proofs.kernel.Kernel.type_key.Goals as goal
 
 pub invariant_of-self : goal.invariant_of-self
 invariant_of-self g c = rw c.wakeup.ensures
-    (record { sound = kernel-waking (typed-kernel c.self.invariant.sound c.key.new.self _) _;
-    watched = watched-bytes c.self.invariant.watched _ refl })
+    (record {
+      sound = kernel-waking (typed-kernel c.self.invariant.sound c.key.new.self _) _;
+      watched = watched-bytes c.self.invariant.watched _ refl;
+    })

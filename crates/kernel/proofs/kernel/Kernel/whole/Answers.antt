@@ -7,13 +7,13 @@ returns-else-eq-clause-process g c =
     c.copied.ensures
     ∙ c.process.ensures.process
     ∙ sym (slot-idle (kernel_of c.self.inside) _ _
-        (ap (λ o. option_eq nat_eq o (Some c.args.at)) (sym c.active.ensures.active) ∙ sym c.if-eq.ensures))
+    (ap (λ o. option_eq nat_eq o (Some c.args.at)) (sym c.active.ensures.active) ∙ sym c.if-eq.ensures))
     ∙ ap (λ (k : Kernel). slot (loaded k).places c.args.at) c.self.view_is
 
 pub returns-then-eq-clause-process : goal.returns-then-eq-clause-process
 returns-then-eq-clause-process g c =
     c.on_hart.ensures.process
     ∙ slot-active c.args.self.now _
-        (ap (λ (k : Kernel). k.spaces.active) (sym c.self.view_is)
-        ∙ is-active _ _ (ap (λ o. option_eq nat_eq o (Some c.args.at)) (sym c.active.ensures.active)
-        ∙ sym c.if-eq.ensures))
+    (ap (λ (k : Kernel). k.spaces.active) (sym c.self.view_is)
+    ∙ is-active _ _ (ap (λ o. option_eq nat_eq o (Some c.args.at)) (sym c.active.ensures.active)
+    ∙ sym c.if-eq.ensures))

@@ -18,14 +18,17 @@ pub let_one_go-requires : goal.let_one_go-requires
 let_one_go-requires g c =
     let may = rw (← c.self.view_is) at c.requires in
     rw (c.hold.ensures, c.directory-left.ensures, ← c.self.view_is)
-        (record { up = may.up; held = work-held (runner-of c.self.invariant.sound may.running) c.args.number may
-        c.is_whole.ensures })
+    (record {
+      up = may.up;
+      held = work-held (runner-of c.self.invariant.sound may.running) c.args.number may
+          c.is_whole.ensures;
+    })
 
 pub invariant_of-self : goal.invariant_of-self
 invariant_of-self g c =
     rw c.set_directory.ensures
-        (work-keeps c.self.invariant (rw (← c.self.view_is) at c.requires) c.is_whole.ensures c.let_one_go.new.tree
-        c.let_one_go.result (rw (c.hold.ensures, c.directory-left.ensures, ← c.self.view_is) at c.let_one_go.ensures))
+    (work-keeps c.self.invariant (rw (← c.self.view_is) at c.requires) c.is_whole.ensures c.let_one_go.new.tree
+    c.let_one_go.result (rw (c.hold.ensures, c.directory-left.ensures, ← c.self.view_is) at c.let_one_go.ensures))
 
 pub returns : goal.returns
 returns g c = rw (c.set_directory.ensures, ← c.self.view_is)

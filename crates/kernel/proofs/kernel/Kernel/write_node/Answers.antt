@@ -14,11 +14,15 @@ pub invariant_of-self : goal.invariant_of-self
 invariant_of-self g c =
     let e = c.write_node-wrote.ensures in
     store-keeps _ _ _ _ _ _ _ c.self.invariant (rw (← c.self.view_is) at c.requires.up)
-        (rw (← c.self.view_is) at c.requires.file) _ e.told e.down c.is_done.ensures
+    (rw (← c.self.view_is) at c.requires.file) _ e.told e.down c.is_done.ensures
 
 pub returns : goal.returns
 returns g c =
     let e = c.write_node-wrote.ensures in
-    rw (← c.self.view_is) (record
-        { told = store-told _ _ _ _ _ _ _ _ e.told; up = e.up; down = e.down; same_device = e.same_device;
-        cause = e.cause })
+    rw (← c.self.view_is) (record {
+      told = store-told _ _ _ _ _ _ _ _ e.told;
+      up = e.up;
+      down = e.down;
+      same_device = e.same_device;
+      cause = e.cause;
+    })

@@ -6,7 +6,7 @@ pub returns-in-Some-Some : goal.returns-in-Some-Some
 returns-in-Some-Some g c =
     let at = c.in-Some-Some.ensures.lookup in
     c.is_process_ready.ensures
-        ∙ sym (ready-seen (awaited c.args.self.now) _ _ _ (sym (at.3.1 None) ∙ c.in-Some-Some.field-0-is))
+    ∙ sym (ready-seen (awaited c.args.self.now) _ _ _ (sym (at.3.1 None) ∙ c.in-Some-Some.field-0-is))
 
 pub returns-in_default : goal.returns-in_default
 returns-in_default g c = sym (ready-seen (awaited c.args.self.now) _ _ None (search rules))

@@ -11,7 +11,7 @@ returns-in_err-step-clause-gives g c =
     let p = err_from_is_err_and c.from_residual.result c.from_residual.ensures.1 in
     let more : c.loop-event.event-index < length c.args.events.now = omega arith in
     rw (p.1, p.2) (stops _ _ _ c.loop-event.event-index c.args.events.now _ _ _ _ _ _ _ more (take_more _ _ _ more)
-        c.loop-event.invariant.so_far
+    c.loop-event.invariant.so_far
     (λ r. Rises-later _ _ _ c.loop-event.invariant.later r c.step.ensures.later) c.in_err-step.ensures.gives)
 
 pub loop-event-preserved : goal.loop-event-preserved

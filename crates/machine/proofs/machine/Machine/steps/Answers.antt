@@ -11,5 +11,5 @@ returns-clause-gives g c =
     let k = c.self.inside.kernel in
     let up = rw (← c.self.view_is) at (c.is_stopped.ensures.up c.if-is_stopped.false) in
     rw (← c.self.view_is, up.sound)
-        (steps-give k c.steps-done.new.kernel _ _ up.goes _ _ c.args.count c.steps-done.result
-        c.is_failure-self-inside.ensures c.steps-done.ensures.does c.steps-done.ensures.tree)
+    (steps-give k c.steps-done.new.kernel _ _ up.goes _ _ c.args.count c.steps-done.result
+    c.is_failure-self-inside.ensures c.steps-done.ensures.does c.steps-done.ensures.tree)

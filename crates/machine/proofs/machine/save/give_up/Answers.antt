@@ -17,7 +17,7 @@ returns-clause-denotes g c =
     let bytes = image_of (g.D.BlockDev.content c.unmount-disk.result.0) in
     subst (Denotes bytes) (ap (λ (t : FileTree). t.files) c.in_ok-released.ensures.told)
     (subst (λ r. OnOk r (Denotes bytes c.release_all-released.new.self.files)) c.in_ok-flushed.was
-        c.unmount-disk.ensures.denotes)
+    c.unmount-disk.ensures.denotes)
 
 pub returns-in_err-released-clause-cause : goal.returns-in_err-released-clause-cause
 returns-in_err-released-clause-cause g c =

@@ -8,4 +8,4 @@ invariant_of-self c =
     let f = option_map (orphaned c.args.pid) in
     let items = c.self.inside.places.items in
     sound-orphaned c.self.invariant _
-        (refilled _ (length-map items f) (c.orphan_all.ensures ∙ ap (map f) c.as_mut_slice.ensures.value))
+    (refilled _ (length-map items f) (c.orphan_all.ensures ∙ ap (map f) c.as_mut_slice.ensures.value))

@@ -13,17 +13,23 @@ pub round-preserved : goal.round-preserved
 round-preserved g c = (
   ap (λ (x : Inside). record x { awake = c.clear.new.self }) c.round.invariant.0,
   rw c.clear.ensures (looks-on c.round.invariant.1 c.in-Some.ensures.finds c.next.ensures.all
-      (record { shown = _; shows = c.as_slice.ensures.value;
-          says = record { met = rw c.if-ready.false at c.ready.ensures } })),
+      (record {
+        shown = _;
+        shows = c.as_slice.ensures.value;
+        says = record { met = rw c.if-ready.false at c.ready.ensures };
+      })),
 )
 
 pub returns-then-ready-clause-first : goal.returns-then-ready-clause-first
 returns-then-ready-clause-first g c =
     let t = c.round.self-inside in
     let same : kept_of t ≡ record c.args.self.now { awake = [] } = ap kept_of c.round.invariant.0
-            ∙ ap (λ (x : Places). record x { awake = [] }) c.self.view_is in
+    ∙ ap (λ (x : Places). record x { awake = [] }) c.self.view_is in
     subst (λ (x : Places). IsFirst (Answers g.F.Fn c.args.ready x.places) x.last
-        (place_in_round t.last c.in-Some.next)) same
+    (place_in_round t.last c.in-Some.next)) same
     (first-says c.round.invariant.1 c.in-Some.ensures.finds
-        (record { shown = _; shows = c.as_slice.ensures.value;
-        says = record { met = rw c.if-ready.true at c.ready.ensures } }))
+    (record {
+      shown = _;
+      shows = c.as_slice.ensures.value;
+      says = record { met = rw c.if-ready.true at c.ready.ensures };
+    }))

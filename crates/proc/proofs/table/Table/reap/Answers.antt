@@ -7,4 +7,4 @@ invariant_of-self-2 c =
     let items = c.self.inside.places.items in
     let at = c.in_ok-at.at in
     sound-freed c.self.invariant
-        at (refilled-set at _ c.deref_mut.ensures.value ∙ ap (slice_set items at) c.take.ensures.after)
+    at (refilled-set at _ c.deref_mut.ensures.value ∙ ap (slice_set items at) c.take.ensures.after)

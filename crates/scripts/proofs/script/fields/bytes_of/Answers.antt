@@ -9,10 +9,10 @@ use Rattle.scripts.proofs.script.fields.bytes_of.Goals as goal
 -- the digits write one byte more
 hex-more : (digits bytes : List ℕ) (i byte : ℕ) → length bytes ≡ i
     → ((k : ℕ) → k < i → hex_pair (slice_index digits (2 * k)) (slice_index digits (2 * k + 1))
-        ≡ Some (slice_index bytes k))
+    ≡ Some (slice_index bytes k))
     → hex_pair (slice_index digits (2 * i)) (slice_index digits (2 * i + 1)) ≡ Some byte
     → (k : ℕ) → k < i + 1 → hex_pair (slice_index digits (2 * k)) (slice_index digits (2 * k + 1))
-        ≡ Some (slice_index (bytes ++ byte ∷ []) k)
+    ≡ Some (slice_index (bytes ++ byte ∷ []) k)
 hex-more digits bytes i byte n each last k below = elim (cases_lt k i) [
   | inl h ↦ rw (get_or_append_left bytes (byte ∷ []) 0 k (omega (arith, n))) (each k h)
   | inr h ↦

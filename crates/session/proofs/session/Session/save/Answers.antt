@@ -13,6 +13,6 @@ returns c =
           c.in_ok-disk.ensures.same_device,
       subst (λ (bs : List ℕ). Denotes bs (left c.args.self.machine.state))
           (disk-image bytes.items bytes.items c.in_ok-disk.disk.bytes (vec_len bytes) refl
-              (sym c.into_bytes.ensures.bytes) (omega (arith, bytes.ok.0)) c.into_bytes.ensures.whole)
+          (sym c.into_bytes.ensures.bytes) (omega (arith, bytes.ok.0)) c.into_bytes.ensures.whole)
           c.in_ok-disk.ensures.denotes,
     )

@@ -20,5 +20,5 @@ returns g c =
     let at = some-node _ c.requires.node in
     let links = (c.in_ok-before.ensures.serves.told.1 at.0 at.1).1 in
     end-changed (now-read now-begin c.node.ensures c.in_ok-before.was)
-        (λ fs. change_node fs c.args.number (λ node. with_links node c.saturating_sub.result)) c.set_links.ensures
+    (λ fs. change_node fs c.args.number (λ node. with_links node c.saturating_sub.result)) c.set_links.ensures
     (relinked _ _ at.0 at.1 _ fewer_links (ap (with_links at.0) (c.saturating_sub.ensures ∙ ap (λ k. k - 1) links)))

@@ -38,4 +38,4 @@ pub returns : goal.returns
 returns g c =
     let i = c.name.invariant in
     end-read c.requires.up i.now
-        (sym (ap (follow c.args.self.now.files c.name.number) c.in_default.ensures.none) ∙ i.rest)
+    (sym (ap (follow c.args.self.now.files c.name.number) c.in_default.ensures.none) ∙ i.rest)

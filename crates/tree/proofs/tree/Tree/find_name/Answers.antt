@@ -8,11 +8,14 @@ returns-in_err-count g c = end-lost now-begin c.count_places.ensures c.in_err-co
 pub scan-requires : goal.scan-requires
 scan-requires g c =
     let now = now-read now-begin c.count_places.ensures c.in_ok-count.was in
-    record { up = now-up now c.requires.up; directory = folder-now now c.requires.directory;
-        count = λ f. c.in_ok-count.ensures.serves.told.1 (folder-was now f) }
+    record {
+      up = now-up now c.requires.up;
+      directory = folder-now now c.requires.directory;
+      count = λ f. c.in_ok-count.ensures.serves.told.1 (folder-was now f);
+    }
 
 pub returns : goal.returns
 returns g c =
     let now = now-read now-begin c.count_places.ensures c.in_ok-count.was in
     end-last now _ c.scan.ensures
-        (λ found told f. name-told f.places (folder-fits c.is_whole.ensures f) _ found (told (folder-now now f)))
+    (λ found told f. name-told f.places (folder-fits c.is_whole.ensures f) _ found (told (folder-now now f)))

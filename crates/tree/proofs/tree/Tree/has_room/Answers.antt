@@ -23,4 +23,4 @@ returns g c =
     let size = (c.in_ok-node.ensures.serves.told.1 (Directory r.links r.places) r.here).2 in
     told ∙ ap (λ t. nat_le (blocks_of t.files + (c.growth.result + c.args.more)) t.block_limit) now.is
     ∙ ap (λ n. nat_le (blocks_of c.args.self.now.files + (n + c.args.more)) c.args.self.now.block_limit)
-        (growth-size r.places _ _ _ size c.growth.ensures))
+    (growth-size r.places _ _ _ size c.growth.ensures))

@@ -8,8 +8,11 @@ returns-in_err-count g c = end-lost now-begin c.count_places.ensures c.in_err-co
 pub scan-requires : goal.scan-requires
 scan-requires g c =
     let now = now-read now-begin c.count_places.ensures c.in_ok-count.was in
-    record { up = now-up now c.requires.up; directory = folder-now now c.requires.directory;
-        count = λ f. c.in_ok-count.ensures.serves.told.1 (folder-was now f) }
+    record {
+      up = now-up now c.requires.up;
+      directory = folder-now now c.requires.directory;
+      count = λ f. c.in_ok-count.ensures.serves.told.1 (folder-was now f);
+    }
 
 pub returns-in_err-taken : goal.returns-in_err-taken
 returns-in_err-taken g c =
@@ -20,5 +23,5 @@ pub returns : goal.returns
 returns g c =
     let now = now-read now-begin c.count_places.ensures c.in_ok-count.was in
     end-read c.requires.up (now-read now c.scan.ensures c.in_ok-taken.was)
-        (λ f. bare-told f.places (folder-fits c.is_whole.ensures f) _
-        (c.in_ok-taken.ensures.serves.told.1 (folder-now now f)) _ c.is_none.ensures)
+    (λ f. bare-told f.places (folder-fits c.is_whole.ensures f) _
+    (c.in_ok-taken.ensures.serves.told.1 (folder-now now f)) _ c.is_none.ensures)

@@ -19,7 +19,7 @@ pub find_name-requires : goal.find_name-requires
 find_name-requires g c =
     let now = now-read now-begin c.node.ensures c.in_ok-node.was in
     let live = live-told _ _ c.requires.node c.in_ok-node.ensures.serves.told.1
-            (sym c.is_live.ensures ∙ c.if-not-is_live.false) in
+    (sym c.is_live.ensures ∙ c.if-not-is_live.false) in
     record { up = now-up now c.requires.up; directory = folder-now now (live-folder live) }
 
 pub returns-in_err-found : goal.returns-in_err-found
@@ -31,16 +31,16 @@ pub returns-in_default : goal.returns-in_default
 returns-in_default g c =
     let now = now-read now-begin c.node.ensures c.in_ok-node.was in
     let live = live-told _ _ c.requires.node c.in_ok-node.ensures.serves.told.1
-            (sym c.is_live.ensures ∙ c.if-not-is_live.false) in
+    (sym c.is_live.ensures ∙ c.if-not-is_live.false) in
     let told = lookup-told live _ _ (c.in_ok-found.ensures.serves.told.1 (folder-now now (live-folder live))) in
     end-read c.requires.up (now-read now c.find_name.ensures c.in_ok-found.was)
-        (ap (option_map (λ (f : Found). f.number)) (sym c.in_default.is) ∙ told)
+    (ap (option_map (λ (f : Found). f.number)) (sym c.in_default.is) ∙ told)
 
 pub returns : goal.returns
 returns g c =
     let now = now-read now-begin c.node.ensures c.in_ok-node.was in
     let live = live-told _ _ c.requires.node c.in_ok-node.ensures.serves.told.1
-            (sym c.is_live.ensures ∙ c.if-not-is_live.false) in
+    (sym c.is_live.ensures ∙ c.if-not-is_live.false) in
     let told = lookup-told live _ _ (c.in_ok-found.ensures.serves.told.1 (folder-now now (live-folder live))) in
     end-read c.requires.up (now-read now c.find_name.ensures c.in_ok-found.was)
-        (ap (option_map (λ (f : Found). f.number)) (sym c.in-Some.is) ∙ told)
+    (ap (option_map (λ (f : Found). f.number)) (sym c.in-Some.is) ∙ told)

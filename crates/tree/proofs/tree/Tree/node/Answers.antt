@@ -2,10 +2,11 @@ use Rattle.tree.proofs.Storing.{held-some, inside-holds, reads, tells, up-inside
 use Rattle.tree.proofs.tree.Tree.node.Goals as goal
 
 pub stat-requires : goal.stat-requires
-stat-requires g c = record
-    { up = up-inside c.self.view_is c.requires.up;
-    node = held-some (inside-holds c.self.invariant c.self.view_is c.requires.up) _ c.requires.node.0
-    c.requires.node.1 }
+stat-requires g c = record {
+  up = up-inside c.self.view_is c.requires.up;
+  node = held-some (inside-holds c.self.invariant c.self.view_is c.requires.up) _ c.requires.node.0
+      c.requires.node.1;
+}
 
 pub returns : goal.returns
 returns g c = (reads c.self.invariant c.self.view_is c.requires.up c.stat.ensures

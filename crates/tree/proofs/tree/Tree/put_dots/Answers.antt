@@ -20,7 +20,7 @@ returns-in_err-put_entry g c = end-lost now-begin c.put_entry.ensures c.in_err-p
 pub put_entry-requires-2 : goal.put_entry-requires-2
 put_entry-requires-2 g c =
     let now = now-changed now-begin (λ fs. entered fs c.args.number 0 (own c.args.number)) c.put_entry.ensures
-            c.in_ok-put_entry.was in
+    c.in_ok-put_entry.was in
     record {
       up = now-up now c.requires.up;
       plain = dots-plain;
@@ -32,6 +32,6 @@ put_entry-requires-2 g c =
 pub returns : goal.returns
 returns g c =
     let now = now-changed now-begin (λ fs. entered fs c.args.number 0 (own c.args.number)) c.put_entry.ensures
-            c.in_ok-put_entry.was in
+    c.in_ok-put_entry.was in
     end-changed now (λ fs. entered fs c.args.number 1 (record { name = dot_dot; number = c.args.above }))
-        c.put_entry-2.ensures (second-is _ _ c.requires.bare _)
+    c.put_entry-2.ensures (second-is _ _ c.requires.bare _)

@@ -14,7 +14,7 @@ overflow_mul-gap g c = let high = entry-high c.is_whole.ensures c.requires.room 
 pub rewrite-requires : goal.rewrite-requires
 rewrite-requires g c =
     let b = entry-becomes c.is_whole.ensures c.requires.room _ _ c.requires.plain c.requires.number c.requires.fits
-            c.place_bytes-entry.ensures in
+    c.place_bytes-entry.ensures in
     record { up = c.requires.up; able = (b.next, b.able) }
 
 pub returns : goal.returns

@@ -43,5 +43,5 @@ pub returns : goal.returns
 returns g c =
     let i = c.name.invariant in
     end-read c.requires.up i.now
-        (sym (ap (λ names. reach c.args.self.now.files c.name.number (c.name.name.now ∷ names))
-        c.in_default-first_name.ensures.none) ∙ i.rest)
+    (sym (ap (λ names. reach c.args.self.now.files c.name.number (c.name.name.now ∷ names))
+    c.in_default-first_name.ensures.none) ∙ i.rest)

@@ -21,4 +21,4 @@ returns g c = end-read c.requires.up (now-read now-begin c.bytes.ensures c.in_ok
     let told = c.in_ok-_count.ensures.serves.told.1 (Directory f.links f.places) f.here in
     let within = c.requires.within f in
     read-whole (16 * c.args.k) c.in_ok-_count._count (flat_map place_bytes f.places) c.args.out.now c.bytes.new.out
-        told.0 (omega (arith, length-spelling f.places (folder-fits c.is_whole.ensures f))) told.1)
+    told.0 (omega (arith, length-spelling f.places (folder-fits c.is_whole.ensures f))) told.1)

@@ -2,9 +2,10 @@ use Rattle.tree.proofs.Storing.{cleared-stores, held-there, inside-holds, turns,
 use Rattle.tree.proofs.tree.Tree.release.Goals as goal
 
 pub release-requires : goal.release-requires
-release-requires g c = record
-    { up = up-inside c.self.view_is c.requires.up;
-    node = held-there (inside-holds c.self.invariant c.self.view_is c.requires.up) _ c.requires.node }
+release-requires g c = record {
+  up = up-inside c.self.view_is c.requires.up;
+  node = held-there (inside-holds c.self.invariant c.self.view_is c.requires.up) _ c.requires.node;
+}
 
 pub returns : goal.returns
 returns g c = (turns c.self.invariant c.self.view_is c.requires.up c.release.ensures

@@ -27,4 +27,4 @@ pub returns : goal.returns
 returns g c =
     let count = ap (λ (t : FileTree). length t.files) c.unhold_all.ensures in
     from-bare (end-still c.requires.up c.loop-number.invariant.now
-        (swept-all c.loop-number.invariant (omega arith))).serves
+    (swept-all c.loop-number.invariant (omega arith))).serves

@@ -10,16 +10,16 @@ pub returns-in_default : goal.returns-in_default
 returns-in_default g c =
     let now = now-served now-begin c.look.ensures c.in_ok-node.was (λ told. told.0) in
     (end-still c.requires.up now
-        (sym (let-go-free [] c.args.self.now.files c.args.number
-        (told-free _ c.in_default.is c.in_ok-node.ensures.told.1)))).serves
+    (sym (let-go-free [] c.args.self.now.files c.args.number
+    (told-free _ c.in_default.is c.in_ok-node.ensures.told.1)))).serves
 
 pub returns-then-node-gt0 : goal.returns-then-node-gt0
 returns-then-node-gt0 g c =
     let now = now-served now-begin c.look.ensures c.in_ok-node.was (λ told. told.0) in
     let at = told-node _ _ c.in-Some.is c.in_ok-node.ensures.told.1 in
     (end-still c.requires.up now
-        (sym (let-go-linked [] c.args.self.now.files c.args.number at.0 at.1
-        (omega (arith, at.2, c.if-node-gt0.true))))).serves
+    (sym (let-go-linked [] c.args.self.now.files c.args.number at.0 at.1
+    (omega (arith, at.2, c.if-node-gt0.true))))).serves
 
 pub release-requires : goal.release-requires
 release-requires g c =
@@ -32,5 +32,5 @@ returns g c =
     let now = now-served now-begin c.look.ensures c.in_ok-node.was (λ told. told.0) in
     let at = told-node _ _ c.in-Some.is c.in_ok-node.ensures.told.1 in
     (end-changed now (λ fs. clear fs c.args.number) c.release.ensures
-        (sym (let-go-clear [] c.args.self.now.files c.args.number at.0 at.1 refl
-        (omega (arith, at.2, c.if-node-gt0.false))))).serves
+    (sym (let-go-clear [] c.args.self.now.files c.args.number at.0 at.1 refl
+    (omega (arith, at.2, c.if-node-gt0.false))))).serves

@@ -15,9 +15,11 @@ pub is_empty-requires : goal.is_empty-requires
 is_empty-requires g c =
     let now = now-read now-begin c.node.ensures c.in_ok-node.was in
     let at = c.requires.node in
-    record { up = now-up now c.requires.up;
-        directory = folder-now now
-        (removal-folder at.0 _ (c.in_ok-node.ensures.serves.told.1 at.0 at.1) at.1 c.if-node-ne-DIRECTORY.false) }
+    record {
+      up = now-up now c.requires.up;
+      directory = folder-now now
+          (removal-folder at.0 _ (c.in_ok-node.ensures.serves.told.1 at.0 at.1) at.1 c.if-node-ne-DIRECTORY.false);
+    }
 
 pub returns-in_err-empty : goal.returns-in_err-empty
 returns-in_err-empty g c =
@@ -30,7 +32,7 @@ returns-then-empty g c =
     end-read c.requires.up (now-read now c.is_empty.ensures c.in_ok-empty.was) (λ node here.
     let f = removal-folder node _ (c.in_ok-node.ensures.serves.told.1 node here) here c.if-node-ne-DIRECTORY.false in
     sym (ap (λ b. cond b (Some true) None) c.if-empty.true)
-        ∙ removal-directory here f (c.in_ok-empty.ensures.serves.told.1 (folder-now now f)))
+    ∙ removal-directory here f (c.in_ok-empty.ensures.serves.told.1 (folder-now now f)))
 
 pub returns-else-empty : goal.returns-else-empty
 returns-else-empty g c =
@@ -38,4 +40,4 @@ returns-else-empty g c =
     end-read c.requires.up (now-read now c.is_empty.ensures c.in_ok-empty.was) (λ node here.
     let f = removal-folder node _ (c.in_ok-node.ensures.serves.told.1 node here) here c.if-node-ne-DIRECTORY.false in
     sym (ap (λ b. cond b (Some true) None) c.if-empty.false)
-        ∙ removal-directory here f (c.in_ok-empty.ensures.serves.told.1 (folder-now now f)))
+    ∙ removal-directory here f (c.in_ok-empty.ensures.serves.told.1 (folder-now now f)))

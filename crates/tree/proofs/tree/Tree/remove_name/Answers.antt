@@ -21,13 +21,13 @@ pub returns-in_default : goal.returns-in_default
 returns-in_default g c =
     let missing = sym (c.in_ok-found.ensures.serves.told.1 (naming-folder c.requires.naming)) ∙ c.in_default.is in
     acts-not c.requires.up (now-read now-begin c.find_name.ensures c.in_ok-found.was) refl
-        (unlinked-missing c.requires.naming _ missing) (lookup-missing c.requires.naming _ missing)
+    (unlinked-missing c.requires.naming _ missing) (lookup-missing c.requires.naming _ missing)
 
 -- behind the look for the name
 pub removal-requires : goal.removal-requires
 removal-requires g c =
     let found = found-parts c.requires.naming.places _ _
-            (sym (c.in_ok-found.ensures.serves.told.1 (naming-folder c.requires.naming)) ∙ c.in-Some.is) in
+    (sym (c.in_ok-found.ensures.serves.told.1 (naming-folder c.requires.naming)) ∙ c.in-Some.is) in
     let now = now-read now-begin c.find_name.ensures c.in_ok-found.was in
     record { up = now-up now c.requires.up; node = now-node now _ (found-node c.requires.naming _ found) }
 
@@ -39,42 +39,49 @@ returns-in_err-is_directory g c =
 pub returns-in_default-2 : goal.returns-in_default-2
 returns-in_default-2 g c =
     let found = found-parts c.requires.naming.places _ _
-            (sym (c.in_ok-found.ensures.serves.told.1 (naming-folder c.requires.naming)) ∙ c.in-Some.is) in
+    (sym (c.in_ok-found.ensures.serves.told.1 (naming-folder c.requires.naming)) ∙ c.in-Some.is) in
     let node = found-node c.requires.naming _ found in
     let now = now-read now-begin c.find_name.ensures c.in_ok-found.was in
     let none = sym (told-now now _ c.in_ok-is_directory.ensures.serves.told.1 node.0 node.1) ∙ c.in_default-2.is in
     acts-not c.requires.up (now-read now c.removal.ensures c.in_ok-is_directory.was) refl
-        (unlinked-full c.requires.naming _ found node.1 none)
-    (record { number = c.in-Some.found.number; node = node.0; named = lookup-found c.requires.naming _ found;
-        here = node.1; busy = stays-busy node.0 none })
+    (unlinked-full c.requires.naming _ found node.1 none)
+    (record {
+      number = c.in-Some.found.number;
+      node = node.0;
+      named = lookup-found c.requires.naming _ found;
+      here = node.1;
+      busy = stays-busy node.0 none;
+    })
 
 -- behind the look at its node
 pub free_place-requires : goal.free_place-requires
 free_place-requires g c =
     let found = found-parts c.requires.naming.places _ _
-            (sym (c.in_ok-found.ensures.serves.told.1 (naming-folder c.requires.naming)) ∙ c.in-Some.is) in
+    (sym (c.in_ok-found.ensures.serves.told.1 (naming-folder c.requires.naming)) ∙ c.in-Some.is) in
     let now = now-read (now-read now-begin c.find_name.ensures c.in_ok-found.was) c.removal.ensures
-            c.in_ok-is_directory.was in
-    record { up = now-up now c.requires.up;
-        place = at-now now (λ t. HasPlace t.files c.args.directory c.in-Some.found.place)
-        (found-place c.requires.naming _ found) }
+    c.in_ok-is_directory.was in
+    record {
+      up = now-up now c.requires.up;
+      place = at-now now (λ t. HasPlace t.files c.args.directory c.in-Some.found.place)
+          (found-place c.requires.naming _ found);
+    }
 
 pub returns-in_err-free_place : goal.returns-in_err-free_place
 returns-in_err-free_place g c =
     acts-lost (now-read (now-read now-begin c.find_name.ensures c.in_ok-found.was) c.removal.ensures
-        c.in_ok-is_directory.was) c.free_place.ensures c.in_err-free_place.was
-        c.from_residual-in_err-free_place.ensures.1
+    c.in_ok-is_directory.was) c.free_place.ensures c.in_err-free_place.was
+    c.from_residual-in_err-free_place.ensures.1
 
 -- behind the place that became free
 pub drop_links-requires : goal.drop_links-requires
 drop_links-requires g c =
     let files = c.args.self.now.files in
     let found = found-parts c.requires.naming.places _ _
-            (sym (c.in_ok-found.ensures.serves.told.1 (naming-folder c.requires.naming)) ∙ c.in-Some.is) in
+    (sym (c.in_ok-found.ensures.serves.told.1 (naming-folder c.requires.naming)) ∙ c.in-Some.is) in
     let node = found-node c.requires.naming _ found in
     let now = now-changed (now-read (now-read now-begin c.find_name.ensures c.in_ok-found.was) c.removal.ensures
-            c.in_ok-is_directory.was) (λ fs. erase fs c.args.directory c.in-Some.found.place) c.free_place.ensures
-            c.in_ok-free_place.was in
+    c.in_ok-is_directory.was) (λ fs. erase fs c.args.directory c.in-Some.found.place) c.free_place.ensures
+    c.in_ok-free_place.was in
     record {
       up = now-up now c.requires.up;
       node = some-now now _ (stays-erased files _ _ _ (λ e. none-some node.0 (sym e ∙ node.1)));
@@ -84,23 +91,23 @@ drop_links-requires g c =
 pub returns-in_err-drop_links : goal.returns-in_err-drop_links
 returns-in_err-drop_links g c =
     let now = now-changed (now-read (now-read now-begin c.find_name.ensures c.in_ok-found.was) c.removal.ensures
-            c.in_ok-is_directory.was) (λ fs. erase fs c.args.directory c.in-Some.found.place) c.free_place.ensures
-            c.in_ok-free_place.was in
+    c.in_ok-is_directory.was) (λ fs. erase fs c.args.directory c.in-Some.found.place) c.free_place.ensures
+    c.in_ok-free_place.was in
     acts-lost now c.drop_links.ensures c.in_err-drop_links.was c.from_residual-in_err-drop_links.ensures.1
 
 pub returns : goal.returns
 returns g c =
     let files = c.args.self.now.files in
     let found = found-parts c.requires.naming.places _ _
-            (sym (c.in_ok-found.ensures.serves.told.1 (naming-folder c.requires.naming)) ∙ c.in-Some.is) in
+    (sym (c.in_ok-found.ensures.serves.told.1 (naming-folder c.requires.naming)) ∙ c.in-Some.is) in
     let node = found-node c.requires.naming _ found in
     let first = now-read now-begin c.find_name.ensures c.in_ok-found.was in
     let goes : removal node.0 ≡ Some c.in-Some-2.is_directory =
-            sym (told-now first _ c.in_ok-is_directory.ensures.serves.told.1 node.0 node.1) ∙ c.in-Some-2.is in
+    sym (told-now first _ c.in_ok-is_directory.ensures.serves.told.1 node.0 node.1) ∙ c.in-Some-2.is in
     let less = now-changed (now-read first c.removal.ensures c.in_ok-is_directory.was)
-            (λ fs. erase fs c.args.directory c.in-Some.found.place) c.free_place.ensures c.in_ok-free_place.was in
+    (λ fs. erase fs c.args.directory c.in-Some.found.place) c.free_place.ensures c.in_ok-free_place.was in
     let last = now-changed less (λ fs. dropped fs c.in-Some.found.number c.args.directory c.in-Some-2.is_directory)
-            c.drop_links.ensures c.in_ok-drop_links.was in
+    c.drop_links.ensures c.in_ok-drop_links.was in
     acts-done c.requires.up last (record {
       made = unlinked-done c.requires.naming _ found node.1 _ (sym c.is_dot_name.ensures ∙ c.if-is_dot_name.false) goes
           ∙ ap Some (sym (now-files last));

@@ -5,25 +5,32 @@ use Rattle.tree.proofs.tree.Tree.rewrite.Goals as goal
 use Rattle.tree.proofs.tree.Tree.rewrite.Goals.{in-Ok, in-Err-Device}
 
 pub write_at-requires : goal.write_at-requires
-write_at-requires g c = record
-    { up = up-inside c.self.view_is c.requires.up;
-    node = held-some (inside-holds c.self.invariant c.self.view_is c.requires.up) _ _ c.requires.able.1.here }
+write_at-requires g c = record {
+  up = up-inside c.self.view_is c.requires.up;
+  node = held-some (inside-holds c.self.invariant c.self.view_is c.requires.up) _ _ c.requires.able.1.here;
+}
 
 pub unreachable-requires : goal.unreachable-requires
 unreachable-requires g c =
     never-full (inside-holds c.self.invariant c.self.view_is c.requires.up) c.requires.able.1
-        (inside-room c.self.invariant c.self.view_is c.requires.up) _
-        ((rw c.in-Err-Blocks.field-0-is at c.in-Err-Blocks.ensures).refused refl)
+    (inside-room c.self.invariant c.self.view_is c.requires.up) _
+    ((rw c.in-Err-Blocks.field-0-is at c.in-Err-Blocks.ensures).refused refl)
 
 pub unreachable-requires-in-Err-TooLong : goal.unreachable-requires-in-Err-TooLong
 unreachable-requires-in-Err-TooLong g c =
-    omega (arith, ((rw c.in-Err-TooLong.field-0-is at c.in-Err-TooLong.ensures).refused refl).2,
-    c.requires.able.1.short)
+    omega (
+      arith,
+      ((rw c.in-Err-TooLong.field-0-is at c.in-Err-TooLong.ensures).refused refl).2,
+      c.requires.able.1.short,
+    )
 
 pub unreachable-requires-in-Err-PastEnd : goal.unreachable-requires-in-Err-PastEnd
 unreachable-requires-in-Err-PastEnd g c =
-    omega (arith, rewritten-within (inside-holds c.self.invariant c.self.view_is c.requires.up) c.requires.able.1,
-        ((rw c.in-Err-PastEnd.field-0-is at c.in-Err-PastEnd.ensures).refused refl).1)
+    omega (
+      arith,
+      rewritten-within (inside-holds c.self.invariant c.self.view_is c.requires.up) c.requires.able.1,
+      ((rw c.in-Err-PastEnd.field-0-is at c.in-Err-PastEnd.ensures).refused refl).1,
+    )
 
 pub returns : goal.returns
 returns g c = elim c.match-write_at.branch [

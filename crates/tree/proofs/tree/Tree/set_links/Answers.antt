@@ -3,8 +3,10 @@ use Rattle.tree.proofs.tree.Tree.set_links.Goals as goal
 
 pub set_links-requires : goal.set_links-requires
 set_links-requires g c =
-    record { up = up-inside c.self.view_is c.requires.up;
-    node = held-there (inside-holds c.self.invariant c.self.view_is c.requires.up) _ c.requires.node }
+    record {
+      up = up-inside c.self.view_is c.requires.up;
+      node = held-there (inside-holds c.self.invariant c.self.view_is c.requires.up) _ c.requires.node;
+    }
 
 pub returns : goal.returns
 returns g c = (turns c.self.invariant c.self.view_is c.requires.up c.set_links.ensures

@@ -18,8 +18,10 @@ pub node-requires : goal.node-requires
 node-requires g c =
     let now = now-read now-begin c.reach.ensures c.in_ok-number.was in
     let is = sym c.in_ok-number.ensures.serves.told.1 ∙ ap (option_map _) c.in-Some.is in
-    record { up = now-up now c.requires.up;
-        node = now-node now _ (above-node c.requires.rules _ _ c.requires.directory _ _ is) }
+    record {
+      up = now-up now c.requires.up;
+      node = now-node now _ (above-node c.requires.rules _ _ c.requires.directory _ _ is);
+    }
 
 pub returns-in_err-node : goal.returns-in_err-node
 returns-in_err-node g c =
@@ -31,7 +33,7 @@ returns-then-node-ne-DIRECTORY g c =
     let now = now-read now-begin c.reach.ensures c.in_ok-number.was in
     let is = sym c.in_ok-number.ensures.serves.told.1 ∙ ap (option_map _) c.in-Some.is in
     let none = spot-other c.requires.rules _ _ c.requires.directory _ _ is
-            (told-now now _ c.in_ok-node.ensures.serves.told.1) c.if-node-ne-DIRECTORY.true in
+    (told-now now _ c.in_ok-node.ensures.serves.told.1) c.if-node-ne-DIRECTORY.true in
     acts-not c.requires.up (now-read now c.node.ensures c.in_ok-node.was) refl none.0 none.1
 
 pub returns-then-node-eq0 : goal.returns-then-node-eq0
@@ -39,7 +41,7 @@ returns-then-node-eq0 g c =
     let now = now-read now-begin c.reach.ensures c.in_ok-number.was in
     let is = sym c.in_ok-number.ensures.serves.told.1 ∙ ap (option_map _) c.in-Some.is in
     let none = spot-bare c.requires.rules _ _ c.requires.directory _ _ is
-            (told-now now _ c.in_ok-node.ensures.serves.told.1) c.if-node-ne-DIRECTORY.false c.if-node-eq0.true in
+    (told-now now _ c.in_ok-node.ensures.serves.told.1) c.if-node-ne-DIRECTORY.false c.if-node-eq0.true in
     acts-not c.requires.up (now-read now c.node.ensures c.in_ok-node.was) refl none.0 none.1
 
 pub returns : goal.returns
@@ -47,6 +49,6 @@ returns g c =
     let now = now-read now-begin c.reach.ensures c.in_ok-number.was in
     let is = sym c.in_ok-number.ensures.serves.told.1 ∙ ap (option_map _) c.in-Some.is in
     let live = spot-live c.requires.rules _ _ c.requires.directory _ _ is
-            (told-now now _ c.in_ok-node.ensures.serves.told.1) c.if-node-ne-DIRECTORY.false c.if-node-eq0.false in
+    (told-now now _ c.in_ok-node.ensures.serves.told.1) c.if-node-ne-DIRECTORY.false c.if-node-eq0.false in
     let last = now-read now c.node.ensures c.in_ok-node.was in
     acts-done c.requires.up last (live, now-files last)

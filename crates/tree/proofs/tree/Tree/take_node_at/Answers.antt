@@ -6,8 +6,12 @@ pub take_at-requires : goal.take_at-requires
 take_at-requires g c =
     let holds = inside-holds c.self.invariant c.self.view_is c.requires.up in
     let n = c.requires.number in
-    record { up = up-inside c.self.view_is c.requires.up; low = n.low; high = omega (arith, n.high, length-held holds);
-        free = held-none holds _ n.high n.unused }
+    record {
+      up = up-inside c.self.view_is c.requires.up;
+      low = n.low;
+      high = omega (arith, n.high, length-held holds);
+      free = held-none holds _ n.high n.unused;
+    }
 
 pub returns : goal.returns
 returns g c = (turns c.self.invariant c.self.view_is c.requires.up c.take_at.ensures

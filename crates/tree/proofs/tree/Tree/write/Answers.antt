@@ -6,9 +6,10 @@ use Rattle.tree.proofs.tree.Tree.write.Goals as goal
 use Rattle.tree.proofs.tree.Tree.write.Goals.{in-Err-Blocks, in-Err-Device, in-Err-PastEnd, in-Err-TooLong, in-Ok}
 
 pub write_at-requires : goal.write_at-requires
-write_at-requires g c = record
-    { up = up-inside c.self.view_is c.requires.up;
-    node = held-some (inside-holds c.self.invariant c.self.view_is c.requires.up) _ _ c.requires.file.here }
+write_at-requires g c = record {
+  up = up-inside c.self.view_is c.requires.up;
+  node = held-some (inside-holds c.self.invariant c.self.view_is c.requires.up) _ _ c.requires.file.here;
+}
 
 pub returns : goal.returns
 returns g c = elim c.match-write_at.branch [
