@@ -12,7 +12,7 @@ fn is_of_word(c: u8) -> bool {
 }
 
 /// The word that a row has in a column.
-pub fn word_at(row: &Row, column: usize) -> &str {
+pub(crate) fn word_at(row: &Row, column: usize) -> &str {
     let start = column.saturating_sub(row.line.indent).saturating_sub(1);
     let Some(rest) = row.text.get(start..) else {
         return "";
@@ -25,7 +25,7 @@ pub fn word_at(row: &Row, column: usize) -> &str {
 }
 
 /// The word that was meant where no instruction or directive is called so.
-pub fn meant<'w>(
+pub(crate) fn meant<'w>(
     alloc: Global,
     program: &Program,
     fault: &Fault,

@@ -32,7 +32,7 @@ pub struct Assembler<'a> {
 
 impl<'a> Assembler<'a> {
     /// Nothing yet, of that many files.
-    pub fn new(alloc: Global, units: usize) -> Result<Assembler<'a>, AllocError> {
+    pub(crate) fn new(alloc: Global, units: usize) -> Result<Assembler<'a>, AllocError> {
         Ok(Assembler {
             alloc,
             names: Names::new(alloc, units)?,
@@ -61,12 +61,12 @@ impl<'a> Assembler<'a> {
     }
 
     /// The value of an operand.
-    pub fn value(&self, operand: &Operand) -> Result<Value, Stop> {
+    pub(crate) fn value(&self, operand: &Operand) -> Result<Value, Stop> {
         self.value_where(operand, false)
     }
 
     /// The number that an operand is, of names that are defined above.
-    pub fn early_number(&self, operand: &Operand) -> Result<i64, Stop> {
+    pub(crate) fn early_number(&self, operand: &Operand) -> Result<i64, Stop> {
         let value = self.value_where(operand, true)?;
         match value.base {
             Base::Number => Ok(value.number),
@@ -75,12 +75,12 @@ impl<'a> Assembler<'a> {
     }
 
     /// The value of an operand, of names that are defined above.
-    pub fn early_value(&self, operand: &Operand) -> Result<Value, Stop> {
+    pub(crate) fn early_value(&self, operand: &Operand) -> Result<Value, Stop> {
         self.value_where(operand, true)
     }
 
     /// The number that an operand is, which lies from the one to the other.
-    pub fn number(&self, operand: &Operand, low: i64, high: i64) -> Result<i64, Stop> {
+    pub(crate) fn number(&self, operand: &Operand, low: i64, high: i64) -> Result<i64, Stop> {
         let value = self.value(operand)?;
         if let Base::Section(_, _) = value.base {
             return Err(Stop::Wrong(Wrong::Address, operand.column));
@@ -89,7 +89,7 @@ impl<'a> Assembler<'a> {
     }
 
     /// A number, if it lies from the one to the other.
-    pub fn within(&self, number: i64, low: i64, high: i64, column: usize) -> Result<i64, Stop> {
+    pub(crate) fn within(&self, number: i64, low: i64, high: i64, column: usize) -> Result<i64, Stop> {
         if self.is_last && (number < low || number > high) {
             return Err(Stop::Wrong(Wrong::Range(low, high), column));
         }
@@ -97,13 +97,13 @@ impl<'a> Assembler<'a> {
     }
 
     /// The address or the number that an operand is.
-    pub fn address_of(&self, operand: &Operand) -> Result<i64, Stop> {
+    pub(crate) fn address_of(&self, operand: &Operand) -> Result<i64, Stop> {
         let value = self.value(operand)?;
         Ok(self.layout.address(value))
     }
 
     /// Goes on by an instruction, whose address is noted.
-    pub fn step(&mut self) -> Result<(), Stop> {
+    pub(crate) fn step(&mut self) -> Result<(), Stop> {
         let here = self.layout.here();
         self.address = self.layout.address(here);
         self.layout.advance(4);
@@ -114,7 +114,7 @@ impl<'a> Assembler<'a> {
     }
 
     /// op rd, rs1, rs2
-    pub fn write_registers(
+    pub(crate) fn write_registers(
         &mut self,
         op: &str,
         rd: Register,
@@ -133,7 +133,7 @@ impl<'a> Assembler<'a> {
     }
 
     /// op rd, rs1, n
-    pub fn write_number(
+    pub(crate) fn write_number(
         &mut self,
         op: &str,
         rd: Register,
@@ -145,7 +145,7 @@ impl<'a> Assembler<'a> {
     }
 
     /// op rd, rs1, n, where the step is done.
-    pub fn put_number(
+    pub(crate) fn put_number(
         &mut self,
         op: &str,
         rd: Register,
@@ -163,7 +163,7 @@ impl<'a> Assembler<'a> {
     }
 
     /// op r, n(base), where the step is done.
-    pub fn put_memory(
+    pub(crate) fn put_memory(
         &mut self,
         op: &str,
         register: Register,
@@ -181,7 +181,7 @@ impl<'a> Assembler<'a> {
     }
 
     /// op rd, n, where the step is done.
-    pub fn put_upper(&mut self, op: &str, rd: Register, number: i64) -> Result<(), Stop> {
+    pub(crate) fn put_upper(&mut self, op: &str, rd: Register, number: i64) -> Result<(), Stop> {
         self.output.word(op)?;
         self.output.register(rd)?;
         self.output.comma()?;

@@ -120,7 +120,7 @@ fn kept(c: u8, is_comment: bool) -> u8 {
 }
 
 /// A text with blanks in place of its comments.
-pub fn without_comments(alloc: Global, text: &[u8]) -> Result<Vec<u8>, AllocError> {
+pub(crate) fn without_comments(alloc: Global, text: &[u8]) -> Result<Vec<u8>, AllocError> {
     let mut kept_text = Vec::new(alloc);
     let mut mode = Mode::Code;
     for c in text {
@@ -137,7 +137,7 @@ pub fn without_comments(alloc: Global, text: &[u8]) -> Result<Vec<u8>, AllocErro
 }
 
 /// How many characters of a text without comments come before a mark outside of quotes, or before the line's end.
-pub fn length_before(text: &[u8], mark: u8) -> usize {
+pub(crate) fn length_before(text: &[u8], mark: u8) -> usize {
     let mut mode = Mode::Code;
     for (length, c) in text.iter().enumerate() {
         if *c == b'\n' || *c == mark && mode.is_open() {

@@ -31,7 +31,7 @@ const BRACKETS: [(&str, Bracket); 5] = [
 ];
 
 /// The bracket that a word is.
-pub fn bracket_called(word: &[u8]) -> Option<Bracket> {
+pub(crate) fn bracket_called(word: &[u8]) -> Option<Bracket> {
     for (name, bracket) in &BRACKETS {
         if name.as_bytes().eq_ignore_ascii_case(word) {
             return Some(*bracket);
@@ -51,7 +51,7 @@ pub struct Collector {
 }
 
 impl Collector {
-    pub fn new(alloc: Global, goal: Goal, row: usize, place: Place) -> Collector {
+    pub(crate) fn new(alloc: Global, goal: Goal, row: usize, place: Place) -> Collector {
         Collector {
             goal,
             body: Vec::new(alloc),
@@ -73,7 +73,7 @@ impl Collector {
     }
 
     /// Whether a bracket ends the text. Those within are counted.
-    pub fn is_ended_by(&mut self, bracket: Bracket) -> bool {
+    pub(crate) fn is_ended_by(&mut self, bracket: Bracket) -> bool {
         if self.is_its(bracket, true) {
             if self.nesting == 0 {
                 return true;
@@ -87,12 +87,12 @@ impl Collector {
     }
 
     /// The row that asks for it.
-    pub fn row(&self) -> usize {
+    pub(crate) fn row(&self) -> usize {
         self.row
     }
 
     /// What it is collected for, the text, the row that asks for it, and the line after that.
-    pub fn parts(self) -> (Goal, Vec<u8>, usize, Place) {
+    pub(crate) fn parts(self) -> (Goal, Vec<u8>, usize, Place) {
         let Collector {
             goal,
             body,
@@ -104,12 +104,12 @@ impl Collector {
     }
 
     /// How many lines end in the text.
-    pub fn lines(&self) -> usize {
+    pub(crate) fn lines(&self) -> usize {
         self.body.iter().filter(|c| **c == b'\n').count()
     }
 
     /// Adds a statement, and the character after it.
-    pub fn add(&mut self, text: &[u8], end: u8) -> Result<(), AllocError> {
+    pub(crate) fn add(&mut self, text: &[u8], end: u8) -> Result<(), AllocError> {
         self.body.extend_from_slice(text)?;
         self.body.push(end)?;
         Ok(())

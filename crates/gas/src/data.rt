@@ -81,7 +81,7 @@ impl<'a> Assembler<'a> {
     }
 
     /// Numbers, one after the other.
-    pub fn data(&mut self, width: Width, call: &Call<'_, 'a>) -> Result<(), Stop> {
+    pub(crate) fn data(&mut self, width: Width, call: &Call<'_, 'a>) -> Result<(), Stop> {
         if call.operands.is_empty() {
             return Err(call.misused(NUMBERS));
         }
@@ -154,7 +154,7 @@ impl<'a> Assembler<'a> {
     }
 
     /// Strings, each with a zero after it or not.
-    pub fn texts(&mut self, is_ended: bool, call: &Call<'_, 'a>) -> Result<(), Stop> {
+    pub(crate) fn texts(&mut self, is_ended: bool, call: &Call<'_, 'a>) -> Result<(), Stop> {
         if call.operands.is_empty() {
             return Err(call.misused(STRINGS));
         }
@@ -198,7 +198,7 @@ impl<'a> Assembler<'a> {
     }
 
     /// .space count, and .space count, byte
-    pub fn space(&mut self, call: &Call<'_, 'a>) -> Result<(), Stop> {
+    pub(crate) fn space(&mut self, call: &Call<'_, 'a>) -> Result<(), Stop> {
         match call.operands {
             [count] => {
                 let count = self.count(count)?;
@@ -261,7 +261,7 @@ impl<'a> Assembler<'a> {
     }
 
     /// .align, .p2align, .balign
-    pub fn align(&mut self, is_power: bool, call: &Call<'_, 'a>) -> Result<(), Stop> {
+    pub(crate) fn align(&mut self, is_power: bool, call: &Call<'_, 'a>) -> Result<(), Stop> {
         match call.operands {
             [align] => {
                 let align = self.multiple(is_power, align)?;
@@ -281,7 +281,7 @@ impl<'a> Assembler<'a> {
     }
 
     /// A name for zeros at a multiple.
-    pub fn put_common(
+    pub(crate) fn put_common(
         &mut self,
         name: &'a [u8],
         column: usize,
@@ -299,7 +299,7 @@ impl<'a> Assembler<'a> {
     }
 
     /// Ends the instructions of a file at a multiple of what they lie at.
-    pub fn close_text(&mut self) -> Result<(), AllocError> {
+    pub(crate) fn close_text(&mut self) -> Result<(), AllocError> {
         self.layout.section = Section::Text;
         self.output.go_to(Section::Text);
         self.output.begin(None);

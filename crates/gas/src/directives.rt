@@ -176,7 +176,7 @@ pub fn known_words<'w>(alloc: Global) -> Result<Vec<&'w str>, AllocError> {
 }
 
 /// The directive of a name.
-pub fn directive_called(name: &[u8]) -> Option<Named> {
+pub(crate) fn directive_called(name: &[u8]) -> Option<Named> {
     if let Some(found) = among(&DATA, name) {
         return Some(found);
     }
@@ -246,7 +246,7 @@ impl<'a> Assembler<'a> {
     }
 
     /// Notes what a name stands for; it is a fault if an earlier statement says so, and one of them is a label.
-    pub fn define(&mut self, name: &'a [u8], symbol: Symbol, column: usize) -> Result<(), Stop> {
+    pub(crate) fn define(&mut self, name: &'a [u8], symbol: Symbol, column: usize) -> Result<(), Stop> {
         if let Some(first) = self.names.own(name) {
             let is_label = first.is_label || symbol.is_label;
             if is_label && first.at.row != symbol.at.row {
@@ -269,7 +269,7 @@ impl<'a> Assembler<'a> {
     }
 
     /// A symbol of the file, at a column of the statement.
-    pub fn symbol(&self, value: Value, column: usize, is_label: bool) -> Symbol {
+    pub(crate) fn symbol(&self, value: Value, column: usize, is_label: bool) -> Symbol {
         Symbol {
             value,
             at: Position { column, ..self.at },
@@ -334,7 +334,7 @@ impl<'a> Assembler<'a> {
     }
 
     /// A directive with its operands.
-    pub fn directive(&mut self, directive: Directive, call: &Call<'_, 'a>) -> Result<(), Stop> {
+    pub(crate) fn directive(&mut self, directive: Directive, call: &Call<'_, 'a>) -> Result<(), Stop> {
         match directive {
             Directive::Go(section) => self.go_to(section),
             Directive::Section => self.section(call)?,

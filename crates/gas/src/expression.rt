@@ -218,7 +218,7 @@ impl Stacks {
 }
 
 /// The value of an expression, or what is wrong with it; what ends too early is wrong in that column.
-pub fn evaluate(
+pub(crate) fn evaluate(
     alloc: Global,
     scope: &Scope,
     tokens: &[Token],

@@ -7,7 +7,7 @@ use crate::operands::Operand;
 use crate::registers::Register;
 
 /// The lowest 12 bits of a number, as a signed number.
-pub fn low_part(number: i64) -> i64 {
+pub(crate) fn low_part(number: i64) -> i64 {
     let bits = number.cast_unsigned() % 4096;
     if bits < 2048 {
         bits.cast_signed()
@@ -17,7 +17,7 @@ pub fn low_part(number: i64) -> i64 {
 }
 
 /// The 20 bits above, rounded: with the low part they make the number, up to 32 bits.
-pub fn high_part(number: i64) -> i64 {
+pub(crate) fn high_part(number: i64) -> i64 {
     (number.cast_unsigned().wrapping_add(2048) / 4096 % 0x10_0000).cast_signed()
 }
 
@@ -44,7 +44,7 @@ impl Assembler<'_> {
     }
 
     /// A number of 12 bits, or the low part of an address.
-    pub fn low_field(&mut self, operand: &Operand) -> Result<i64, Stop> {
+    pub(crate) fn low_field(&mut self, operand: &Operand) -> Result<i64, Stop> {
         if operand.tokens.is_empty() {
             return Ok(0);
         }
@@ -59,7 +59,7 @@ impl Assembler<'_> {
     }
 
     /// A number of 20 bits, or the high part of an address.
-    pub fn high_field(&mut self, operand: &Operand) -> Result<i64, Stop> {
+    pub(crate) fn high_field(&mut self, operand: &Operand) -> Result<i64, Stop> {
         let Some((part, target)) = operand.part() else {
             return self.number(operand, 0, 0xf_ffff);
         };
@@ -71,7 +71,7 @@ impl Assembler<'_> {
     }
 
     /// Writes an auipc towards an operand, and returns the low part of the way.
-    pub fn towards(&mut self, rd: Register, operand: &Operand) -> Result<i64, Stop> {
+    pub(crate) fn towards(&mut self, rd: Register, operand: &Operand) -> Result<i64, Stop> {
         self.step()?;
         let way = self.address_of(operand)?.wrapping_sub(self.address);
         self.put_upper("auipc", rd, high_part(way))?;

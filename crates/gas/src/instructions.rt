@@ -47,7 +47,7 @@ impl<'a> Assembler<'a> {
     }
 
     /// An instruction of that form.
-    pub fn instruction(&mut self, form: Form, call: &Call<'_, 'a>) -> Result<(), Stop> {
+    pub(crate) fn instruction(&mut self, form: Form, call: &Call<'_, 'a>) -> Result<(), Stop> {
         match form {
             Form::Registers => self.registers(call),
             Form::Reversed(op) => self.reversed(op, call),

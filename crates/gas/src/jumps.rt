@@ -78,7 +78,7 @@ impl<'a> Assembler<'a> {
     }
 
     /// Whether the expanded text has a label of this name, which is one file's alone.
-    pub fn is_kept(&self, name: &[u8]) -> bool {
+    pub(crate) fn is_kept(&self, name: &[u8]) -> bool {
         is_plain(name) && self.names.is_alone(name)
     }
 
@@ -105,7 +105,7 @@ impl<'a> Assembler<'a> {
     }
 
     /// op rs1, rs2, target
-    pub fn write_branch(
+    pub(crate) fn write_branch(
         &mut self,
         op: &str,
         rs1: Register,
@@ -133,7 +133,7 @@ impl<'a> Assembler<'a> {
     }
 
     /// op rs1, rs2, label
-    pub fn branch(&mut self, call: &Call<'_, 'a>) -> Result<(), Stop> {
+    pub(crate) fn branch(&mut self, call: &Call<'_, 'a>) -> Result<(), Stop> {
         let [rs1, rs2, target] = call.operands else {
             return Err(call.misused(BRANCH));
         };
@@ -141,7 +141,7 @@ impl<'a> Assembler<'a> {
     }
 
     /// The same with the registers in the other order.
-    pub fn swapped_branch(&mut self, op: &str, call: &Call<'_, 'a>) -> Result<(), Stop> {
+    pub(crate) fn swapped_branch(&mut self, op: &str, call: &Call<'_, 'a>) -> Result<(), Stop> {
         let [rs1, rs2, target] = call.operands else {
             return Err(call.misused(BRANCH));
         };
@@ -149,7 +149,7 @@ impl<'a> Assembler<'a> {
     }
 
     /// op rs, label with zero first, or last.
-    pub fn zero_branch(
+    pub(crate) fn zero_branch(
         &mut self,
         op: &str,
         is_first: bool,
@@ -166,7 +166,7 @@ impl<'a> Assembler<'a> {
     }
 
     /// j label
-    pub fn jump(&mut self, call: &Call<'_, 'a>) -> Result<(), Stop> {
+    pub(crate) fn jump(&mut self, call: &Call<'_, 'a>) -> Result<(), Stop> {
         let [target] = call.operands else {
             return Err(call.misused(JUMP));
         };
@@ -174,7 +174,7 @@ impl<'a> Assembler<'a> {
     }
 
     /// jal label, and jal rd, label
-    pub fn jump_and_link(&mut self, call: &Call<'_, 'a>) -> Result<(), Stop> {
+    pub(crate) fn jump_and_link(&mut self, call: &Call<'_, 'a>) -> Result<(), Stop> {
         match call.operands {
             [target] => self.write_jump(RA, target),
             [rd, target] => self.write_jump(rd.register()?, target),
@@ -205,7 +205,7 @@ impl<'a> Assembler<'a> {
     }
 
     /// jr rs, and jr n(rs)
-    pub fn jump_register(&mut self, call: &Call<'_, 'a>) -> Result<(), Stop> {
+    pub(crate) fn jump_register(&mut self, call: &Call<'_, 'a>) -> Result<(), Stop> {
         let [place] = call.operands else {
             return Err(call.misused(ONE_REGISTER));
         };
@@ -213,7 +213,7 @@ impl<'a> Assembler<'a> {
     }
 
     /// jalr rs, jalr rd, rs, jalr rd, n(rs), and jalr rd, rs, n
-    pub fn jump_and_link_register(&mut self, call: &Call<'_, 'a>) -> Result<(), Stop> {
+    pub(crate) fn jump_and_link_register(&mut self, call: &Call<'_, 'a>) -> Result<(), Stop> {
         match call.operands {
             [place] => self.write_jump_to(RA, place),
             [rd, place] => self.write_jump_to(rd.register()?, place),
@@ -235,7 +235,7 @@ impl<'a> Assembler<'a> {
     }
 
     /// call label, and call rd, label
-    pub fn call(&mut self, call: &Call<'_, 'a>) -> Result<(), Stop> {
+    pub(crate) fn call(&mut self, call: &Call<'_, 'a>) -> Result<(), Stop> {
         match call.operands {
             [target] => self.write_far_jump(RA, RA, target),
             [rd, target] => self.write_far_jump(rd.register()?, T1, target),
@@ -244,7 +244,7 @@ impl<'a> Assembler<'a> {
     }
 
     /// tail label, and jump label, rt
-    pub fn tail(&mut self, call: &Call<'_, 'a>) -> Result<(), Stop> {
+    pub(crate) fn tail(&mut self, call: &Call<'_, 'a>) -> Result<(), Stop> {
         match call.operands {
             [target] => self.write_far_jump(ZERO, T1, target),
             [target, rt] => self.write_far_jump(ZERO, rt.register()?, target),

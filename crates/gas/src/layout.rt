@@ -57,7 +57,7 @@ pub fn index_of(section: Section) -> usize
 }
 
 /// How many bytes lead up to a multiple.
-pub fn padding(offset: u64, align: u64) -> u64 {
+pub(crate) fn padding(offset: u64, align: u64) -> u64 {
     if align == 0 {
         return 0;
     }
@@ -67,7 +67,7 @@ pub fn padding(offset: u64, align: u64) -> u64 {
 
 impl Layout {
     /// Nothing yet, of that many files.
-    pub fn new(alloc: Global, count: usize) -> Result<Layout, AllocError> {
+    pub(crate) fn new(alloc: Global, count: usize) -> Result<Layout, AllocError> {
         let mut parts = Vec::new(alloc);
         for _ in 0..count {
             parts.push(Parts([EMPTY; 6]))?;
@@ -80,14 +80,14 @@ impl Layout {
     }
 
     /// Goes to a file, whose instructions lie at multiples of 4.
-    pub fn go_to(&mut self, unit: usize) {
+    pub(crate) fn go_to(&mut self, unit: usize) {
         self.unit = unit;
         self.section = Section::Text;
         self.align(4);
     }
 
     /// A section of a file.
-    pub fn part_of(&self, section: Section, unit: usize) -> Part {
+    pub(crate) fn part_of(&self, section: Section, unit: usize) -> Part {
         match self.parts.get(unit) {
             Some(parts) => parts.0[index_of(section)],
             None => EMPTY,
@@ -95,7 +95,7 @@ impl Layout {
     }
 
     /// A section of the file that is written to.
-    pub fn part(&self, section: Section) -> Part {
+    pub(crate) fn part(&self, section: Section) -> Part {
         self.part_of(section, self.unit)
     }
 
@@ -106,30 +106,30 @@ impl Layout {
     }
 
     /// How far the section has come that is written to.
-    pub fn offset(&self) -> u64 {
+    pub(crate) fn offset(&self) -> u64 {
         self.part(self.section).offset
     }
 
-    pub fn set_offset(&mut self, offset: u64) {
+    pub(crate) fn set_offset(&mut self, offset: u64) {
         let mut part = self.part(self.section);
         part.offset = offset;
         self.set_part(self.section, self.unit, part);
     }
 
     /// Goes on by that many bytes.
-    pub fn advance(&mut self, count: u64) {
+    pub(crate) fn advance(&mut self, count: u64) {
         self.set_offset(self.offset().saturating_add(count));
     }
 
     /// The section lies at a multiple of that, at least.
-    pub fn align(&mut self, align: u64) {
+    pub(crate) fn align(&mut self, align: u64) {
         let mut part = self.part(self.section);
         part.align = part.align.max(align);
         self.set_part(self.section, self.unit, part);
     }
 
     /// Where the section is written to, as a value.
-    pub fn here(&self) -> Value {
+    pub(crate) fn here(&self) -> Value {
         Value {
             base: Base::Section(self.section, self.unit),
             number: self.offset().cast_signed(),
@@ -137,7 +137,7 @@ impl Layout {
     }
 
     /// The address of a value, or the number that it is.
-    pub fn address(&self, value: Value) -> i64 {
+    pub(crate) fn address(&self, value: Value) -> i64 {
         match value.base {
             Base::Section(section, unit) => {
                 let start = self.part_of(section, unit).start.cast_signed();
@@ -162,7 +162,7 @@ impl Layout {
     }
 
     /// Puts the sections one after the other, and returns where the last ends.
-    pub fn place(&mut self) -> u64 {
+    pub(crate) fn place(&mut self) -> u64 {
         let mut end = 0u64;
         for section in &SECTIONS {
             end = self.place_section(*section, end);
@@ -180,7 +180,7 @@ impl Layout {
     }
 
     /// Begins again, with the sections where they lie.
-    pub fn rewind(&mut self) {
+    pub(crate) fn rewind(&mut self) {
         for section in &SECTIONS {
             self.rewind_section(*section);
         }

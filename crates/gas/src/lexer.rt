@@ -208,7 +208,7 @@ fn token_at<'a>(text: &'a [u8]) -> Option<Lexed<'a>> {
 }
 
 /// The tokens of a line after an indent, which has at most as many as characters.
-pub fn tokens_of<'a>(
+pub(crate) fn tokens_of<'a>(
     alloc: Global,
     line: &'a [u8],
     indent: usize,
@@ -242,7 +242,7 @@ pub struct Sentence<'a> {
 }
 
 /// The statements of a program that are not done yet.
-pub fn sentences_of<'a>(
+pub(crate) fn sentences_of<'a>(
     alloc: Global,
     program: &'a Program,
 ) -> Result<Vec<Sentence<'a>>, AllocError> {

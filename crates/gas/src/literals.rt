@@ -58,7 +58,7 @@ impl Assembler<'_> {
     }
 
     /// Any number into a register.
-    pub fn load_number(&mut self, rd: Register, number: i64) -> Result<(), Stop> {
+    pub(crate) fn load_number(&mut self, rd: Register, number: i64) -> Result<(), Stop> {
         if is_short(number) {
             return self.write_number("addi", rd, ZERO, number);
         }

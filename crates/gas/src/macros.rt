@@ -44,7 +44,7 @@ fn after(text: &[u8], count: usize) -> &[u8] {
 }
 
 /// A text without the quotes around it.
-pub fn unquoted(text: &[u8]) -> &[u8] {
+pub(crate) fn unquoted(text: &[u8]) -> &[u8] {
     match text {
         [b'"', inner @ .., b'"'] => inner,
         _ => text,
@@ -52,7 +52,7 @@ pub fn unquoted(text: &[u8]) -> &[u8] {
 }
 
 /// What lies between the commas of a text.
-pub fn arguments<'t>(alloc: Global, text: &'t [u8]) -> Result<Vec<&'t [u8]>, AllocError> {
+pub(crate) fn arguments<'t>(alloc: Global, text: &'t [u8]) -> Result<Vec<&'t [u8]>, AllocError> {
     let mut arguments = Vec::new(alloc);
     let mut rest = text;
     if rest.trim_ascii().is_empty() {
@@ -84,7 +84,7 @@ fn read_parameter(alloc: Global, text: &[u8]) -> Result<Parameter, AllocError> {
 }
 
 /// The parameters that a text lists.
-pub fn parameters(alloc: Global, text: &[u8]) -> Result<Vec<Parameter>, AllocError> {
+pub(crate) fn parameters(alloc: Global, text: &[u8]) -> Result<Vec<Parameter>, AllocError> {
     let mut parameters = Vec::new(alloc);
     for text in &arguments(alloc, text)? {
         parameters.push(read_parameter(alloc, text)?)?;
@@ -93,7 +93,7 @@ pub fn parameters(alloc: Global, text: &[u8]) -> Result<Vec<Parameter>, AllocErr
 }
 
 /// The name of a macro that `.macro` defines, and the text of its parameters.
-pub fn heading(text: &[u8]) -> (&[u8], &[u8]) {
+pub(crate) fn heading(text: &[u8]) -> (&[u8], &[u8]) {
     let text = text.trim_ascii();
     let name = name_at(text);
     match after(text, name.len()).trim_ascii_start() {
@@ -181,7 +181,7 @@ impl Macro {
     }
 
     /// The body with arguments in place of its parameters, up to about that many bytes.
-    pub fn expanded(
+    pub(crate) fn expanded(
         &self,
         alloc: Global,
         arguments: &[&[u8]],
@@ -208,7 +208,7 @@ impl Macro {
 }
 
 /// A text that many times, unless it has too many bytes.
-pub fn repeated(
+pub(crate) fn repeated(
     alloc: Global,
     body: &[u8],
     count: usize,

@@ -74,7 +74,7 @@ pub struct Names<'a> {
 
 impl<'a> Names<'a> {
     /// The names of that many files.
-    pub fn new(alloc: Global, count: usize) -> Result<Names<'a>, AllocError> {
+    pub(crate) fn new(alloc: Global, count: usize) -> Result<Names<'a>, AllocError> {
         let mut units = Vec::new(alloc);
         for _ in 0..count {
             units.push(Unit::new(alloc))?;
@@ -88,22 +88,22 @@ impl<'a> Names<'a> {
     }
 
     /// Goes to a file.
-    pub fn go_to(&mut self, unit: usize) {
+    pub(crate) fn go_to(&mut self, unit: usize) {
         self.unit = unit;
     }
 
     /// The file, by its index.
-    pub fn unit(&self) -> usize {
+    pub(crate) fn unit(&self) -> usize {
         self.unit
     }
 
     /// What a name stands for in the file.
-    pub fn own(&self, name: &[u8]) -> Option<Symbol> {
+    pub(crate) fn own(&self, name: &[u8]) -> Option<Symbol> {
         self.units.get(self.unit)?.symbol(name)
     }
 
     /// What a name stands for in the file, or for all files.
-    pub fn symbol(&self, name: &[u8]) -> Option<Symbol> {
+    pub(crate) fn symbol(&self, name: &[u8]) -> Option<Symbol> {
         match self.own(name) {
             Some(symbol) => Some(symbol),
             None => match self.shared.get(name) {
@@ -114,7 +114,7 @@ impl<'a> Names<'a> {
     }
 
     /// Notes a symbol.
-    pub fn define(&mut self, name: &'a [u8], symbol: Symbol) -> Result<(), AllocError> {
+    pub(crate) fn define(&mut self, name: &'a [u8], symbol: Symbol) -> Result<(), AllocError> {
         if let Some(unit) = self.units.get_mut(self.unit) {
             unit.symbols.insert(name, symbol)?;
         }
@@ -122,7 +122,7 @@ impl<'a> Names<'a> {
     }
 
     /// Notes that all files know a name of the file.
-    pub fn export(&mut self, name: &'a [u8]) -> Result<(), AllocError> {
+    pub(crate) fn export(&mut self, name: &'a [u8]) -> Result<(), AllocError> {
         if let Some(unit) = self.units.get_mut(self.unit) {
             unit.exports.push(name)?;
         }
@@ -145,7 +145,7 @@ impl<'a> Names<'a> {
     }
 
     /// Lets all files know the names that each exports.
-    pub fn share(&mut self) -> Result<(), AllocError> {
+    pub(crate) fn share(&mut self) -> Result<(), AllocError> {
         for unit in 0..self.units.len() {
             self.unit = unit;
             self.share_unit()?;
@@ -154,7 +154,7 @@ impl<'a> Names<'a> {
     }
 
     /// The symbol of that name which all files know, where the file exports the name.
-    pub fn exported(&self, name: &[u8]) -> Option<Symbol> {
+    pub(crate) fn exported(&self, name: &[u8]) -> Option<Symbol> {
         let unit = self.units.get(self.unit)?;
         if !unit.exports.iter().any(|other| *other == name) {
             return None;
@@ -166,7 +166,7 @@ impl<'a> Names<'a> {
     }
 
     /// Whether one file alone has a name.
-    pub fn is_alone(&self, name: &[u8]) -> bool {
+    pub(crate) fn is_alone(&self, name: &[u8]) -> bool {
         let count = self
             .units
             .iter()
@@ -176,7 +176,7 @@ impl<'a> Names<'a> {
     }
 
     /// Notes a numeric label.
-    pub fn define_local(
+    pub(crate) fn define_local(
         &mut self,
         number: u64,
         row: usize,
@@ -197,7 +197,7 @@ impl<'a> Names<'a> {
     }
 
     /// The numeric label that a row means.
-    pub fn local(&self, number: u64, way: Way, row: usize) -> Option<Value> {
+    pub(crate) fn local(&self, number: u64, way: Way, row: usize) -> Option<Value> {
         self.units.get(self.unit)?.local(number, way, row)
     }
 }

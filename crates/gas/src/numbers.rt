@@ -39,7 +39,7 @@ fn some_digits(radix: u64, digits: &[u8]) -> Result<u64, Wrong> {
 }
 
 /// The number that a text writes as C does: decimal, after 0x hexadecimal, after 0b binary, after 0 octal.
-pub fn number_called(text: &[u8]) -> Result<u64, Wrong> {
+pub(crate) fn number_called(text: &[u8]) -> Result<u64, Wrong> {
     match text {
         [b'0', b'x' | b'X', digits @ ..] => some_digits(16, digits),
         [b'0', b'b' | b'B', digits @ ..] => some_digits(2, digits),

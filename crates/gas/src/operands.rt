@@ -22,7 +22,7 @@ pub struct Call<'o, 'a> {
 
 impl Call<'_, '_> {
     /// The fault that the operands aren't of this kind.
-    pub fn misused(&self, usage: Usage) -> Stop {
+    pub(crate) fn misused(&self, usage: Usage) -> Stop {
         Stop::Wrong(Wrong::Takes(self.word, usage), self.column)
     }
 }
@@ -43,7 +43,7 @@ fn register_in(token: &Token) -> Option<Register> {
 
 impl<'a> Operand<'a> {
     /// The register that the operand is.
-    pub fn maybe_register(&self) -> Option<Register> {
+    pub(crate) fn maybe_register(&self) -> Option<Register> {
         match self.tokens {
             [only] => register_in(only),
             _ => None,
@@ -51,7 +51,7 @@ impl<'a> Operand<'a> {
     }
 
     /// The register that the operand has to be.
-    pub fn register(&self) -> Result<Register, Stop> {
+    pub(crate) fn register(&self) -> Result<Register, Stop> {
         match self.maybe_register() {
             Some(register) => Ok(register),
             None => Err(Stop::Wrong(Wrong::Register, self.column)),
@@ -59,7 +59,7 @@ impl<'a> Operand<'a> {
     }
 
     /// A number and a register in parentheses; the number may be left out.
-    pub fn memory(&self) -> Option<Memory<'a>> {
+    pub(crate) fn memory(&self) -> Option<Memory<'a>> {
         match self.tokens {
             [offset @ .., open, base, close] => {
                 if !open.is(Mark::Open) || !close.is(Mark::Close) {
@@ -77,7 +77,7 @@ impl<'a> Operand<'a> {
     }
 
     /// A part of an address: its name, and the expression in parentheses.
-    pub fn part(&self) -> Option<(&'a [u8], Operand<'a>)> {
+    pub(crate) fn part(&self) -> Option<(&'a [u8], Operand<'a>)> {
         match self.tokens {
             [percent, word, tokens @ ..] => {
                 if !percent.is(Mark::Percent) {
@@ -94,7 +94,7 @@ impl<'a> Operand<'a> {
     }
 
     /// The name that the operand is.
-    pub fn name(&self) -> Option<&'a [u8]> {
+    pub(crate) fn name(&self) -> Option<&'a [u8]> {
         match self.tokens {
             [only] => match only.kind {
                 Kind::Name(name) => Some(name),
@@ -106,7 +106,7 @@ impl<'a> Operand<'a> {
 }
 
 /// What lies between the commas of some tokens; nothing where there are none.
-pub fn operands_of<'a>(
+pub(crate) fn operands_of<'a>(
     alloc: Global,
     tokens: &'a [Token<'a>],
     end: usize,

@@ -19,7 +19,7 @@ pub struct Output {
 
 impl Output {
     /// Nothing yet, and what is put isn't kept until it is switched on.
-    pub fn new(alloc: Global) -> Output {
+    pub(crate) fn new(alloc: Global) -> Output {
         Output {
             texts: [
                 Vec::new(alloc),
@@ -43,31 +43,31 @@ impl Output {
         }
     }
 
-    pub fn switch_on(&mut self) {
+    pub(crate) fn switch_on(&mut self) {
         self.is_on = true;
     }
 
-    pub fn go_to(&mut self, section: Section) {
+    pub(crate) fn go_to(&mut self, section: Section) {
         self.section = section;
     }
 
     /// The lines that follow are of a row, or of none.
-    pub fn begin(&mut self, row: Option<usize>) {
+    pub(crate) fn begin(&mut self, row: Option<usize>) {
         self.row = row;
     }
 
     /// What was put into a section.
-    pub fn text(&self, section: Section) -> &[u8] {
+    pub(crate) fn text(&self, section: Section) -> &[u8] {
         &self.texts[index_of(section)]
     }
 
     /// The rows of its lines.
-    pub fn rows(&self, section: Section) -> &[Option<usize>] {
+    pub(crate) fn rows(&self, section: Section) -> &[Option<usize>] {
         &self.rows[index_of(section)]
     }
 
     /// Adds a text, at most up to a line's end.
-    pub fn put(&mut self, text: &[u8]) -> Result<(), AllocError> {
+    pub(crate) fn put(&mut self, text: &[u8]) -> Result<(), AllocError> {
         if !self.is_on {
             return Ok(());
         }
@@ -79,32 +79,32 @@ impl Output {
         Ok(())
     }
 
-    pub fn number(&mut self, number: i64) -> Result<(), AllocError> {
+    pub(crate) fn number(&mut self, number: i64) -> Result<(), AllocError> {
         let mut buffer = Buffer::new();
         self.put(buffer.format(number).as_bytes())
     }
 
     /// Begins a line with a word.
-    pub fn word(&mut self, word: &str) -> Result<(), AllocError> {
+    pub(crate) fn word(&mut self, word: &str) -> Result<(), AllocError> {
         self.put(b"    ")?;
         self.put(word.as_bytes())?;
         self.put(b" ")
     }
 
-    pub fn comma(&mut self) -> Result<(), AllocError> {
+    pub(crate) fn comma(&mut self) -> Result<(), AllocError> {
         self.put(b", ")
     }
 
-    pub fn end(&mut self) -> Result<(), AllocError> {
+    pub(crate) fn end(&mut self) -> Result<(), AllocError> {
         self.put(b"\n")
     }
 
-    pub fn register(&mut self, register: Register) -> Result<(), AllocError> {
+    pub(crate) fn register(&mut self, register: Register) -> Result<(), AllocError> {
         self.put(register.name().as_bytes())
     }
 
     /// A line of a word and a number.
-    pub fn counted(&mut self, word: &str, number: i64) -> Result<(), AllocError> {
+    pub(crate) fn counted(&mut self, word: &str, number: i64) -> Result<(), AllocError> {
         self.word(word)?;
         self.number(number)?;
         self.end()

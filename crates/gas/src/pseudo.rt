@@ -89,7 +89,7 @@ impl<'a> Assembler<'a> {
     }
 
     /// op rd, rs1, rs2, and op rd, rs1, n
-    pub fn registers(&mut self, call: &Call<'_, 'a>) -> Result<(), Stop> {
+    pub(crate) fn registers(&mut self, call: &Call<'_, 'a>) -> Result<(), Stop> {
         let [rd, rs1, last] = call.operands else {
             return Err(call.misused(REGISTERS));
         };
@@ -102,7 +102,7 @@ impl<'a> Assembler<'a> {
     }
 
     /// op rd, rs2, rs1
-    pub fn reversed(&mut self, op: &str, call: &Call<'_, 'a>) -> Result<(), Stop> {
+    pub(crate) fn reversed(&mut self, op: &str, call: &Call<'_, 'a>) -> Result<(), Stop> {
         let [rd, rs2, rs1] = call.operands else {
             return Err(call.misused(REGISTERS));
         };
@@ -110,7 +110,7 @@ impl<'a> Assembler<'a> {
     }
 
     /// op rd, rs1, n
-    pub fn numbered(&mut self, call: &Call<'_, 'a>) -> Result<(), Stop> {
+    pub(crate) fn numbered(&mut self, call: &Call<'_, 'a>) -> Result<(), Stop> {
         let [rd, rs1, number] = call.operands else {
             return Err(call.misused(NUMBER));
         };
@@ -119,7 +119,7 @@ impl<'a> Assembler<'a> {
     }
 
     /// op rd, rs1, n with n up to most
-    pub fn shift(&mut self, most: i64, call: &Call<'_, 'a>) -> Result<(), Stop> {
+    pub(crate) fn shift(&mut self, most: i64, call: &Call<'_, 'a>) -> Result<(), Stop> {
         let [rd, rs1, number] = call.operands else {
             return Err(call.misused(NUMBER));
         };
@@ -128,7 +128,7 @@ impl<'a> Assembler<'a> {
     }
 
     /// op rd, n
-    pub fn upper(&mut self, call: &Call<'_, 'a>) -> Result<(), Stop> {
+    pub(crate) fn upper(&mut self, call: &Call<'_, 'a>) -> Result<(), Stop> {
         let [rd, number] = call.operands else {
             return Err(call.misused(UPPER));
         };
@@ -157,7 +157,7 @@ impl<'a> Assembler<'a> {
     }
 
     /// op rd, n(base), and op rd, label
-    pub fn load(&mut self, call: &Call<'_, 'a>) -> Result<(), Stop> {
+    pub(crate) fn load(&mut self, call: &Call<'_, 'a>) -> Result<(), Stop> {
         let [rd, place] = call.operands else {
             return Err(call.misused(LOAD));
         };
@@ -166,7 +166,7 @@ impl<'a> Assembler<'a> {
     }
 
     /// op rs2, n(base), and op rs2, label, rt
-    pub fn store(&mut self, call: &Call<'_, 'a>) -> Result<(), Stop> {
+    pub(crate) fn store(&mut self, call: &Call<'_, 'a>) -> Result<(), Stop> {
         match call.operands {
             [rs2, place] => {
                 if place.memory().is_none() {
@@ -188,7 +188,7 @@ impl<'a> Assembler<'a> {
     }
 
     /// op rd, rs with a number
-    pub fn pair_with_number(
+    pub(crate) fn pair_with_number(
         &mut self,
         op: &str,
         number: i64,
@@ -199,26 +199,26 @@ impl<'a> Assembler<'a> {
     }
 
     /// op rd, rs, zero
-    pub fn pair_with_zero(&mut self, op: &str, call: &Call<'_, 'a>) -> Result<(), Stop> {
+    pub(crate) fn pair_with_zero(&mut self, op: &str, call: &Call<'_, 'a>) -> Result<(), Stop> {
         let (rd, rs) = self.pair(call)?;
         self.write_registers(op, rd, rs, ZERO)
     }
 
     /// op rd, zero, rs
-    pub fn pair_from_zero(&mut self, op: &str, call: &Call<'_, 'a>) -> Result<(), Stop> {
+    pub(crate) fn pair_from_zero(&mut self, op: &str, call: &Call<'_, 'a>) -> Result<(), Stop> {
         let (rd, rs) = self.pair(call)?;
         self.write_registers(op, rd, ZERO, rs)
     }
 
     /// slli rd, rs, n and op rd, rd, n
-    pub fn extend(&mut self, op: &str, count: i64, call: &Call<'_, 'a>) -> Result<(), Stop> {
+    pub(crate) fn extend(&mut self, op: &str, count: i64, call: &Call<'_, 'a>) -> Result<(), Stop> {
         let (rd, rs) = self.pair(call)?;
         self.write_number("slli", rd, rs, count)?;
         self.write_number(op, rd, rd, count)
     }
 
     /// li rd, n
-    pub fn literal(&mut self, call: &Call<'_, 'a>) -> Result<(), Stop> {
+    pub(crate) fn literal(&mut self, call: &Call<'_, 'a>) -> Result<(), Stop> {
         let [rd, number] = call.operands else {
             return Err(call.misused(LITERAL));
         };
@@ -228,7 +228,7 @@ impl<'a> Assembler<'a> {
     }
 
     /// la rd, label
-    pub fn load_address(&mut self, call: &Call<'_, 'a>) -> Result<(), Stop> {
+    pub(crate) fn load_address(&mut self, call: &Call<'_, 'a>) -> Result<(), Stop> {
         let [rd, label] = call.operands else {
             return Err(call.misused(ADDRESS));
         };

@@ -97,7 +97,7 @@ fn after_backslash(text: &[u8]) -> Option<Written> {
 }
 
 /// The first character of a text between quotes.
-pub fn character_at(text: &[u8]) -> Option<Written> {
+pub(crate) fn character_at(text: &[u8]) -> Option<Written> {
     match text {
         [b'\\', escape @ ..] => after_backslash(escape),
         [byte, ..] => Some(Written {
@@ -109,7 +109,7 @@ pub fn character_at(text: &[u8]) -> Option<Written> {
 }
 
 /// The bytes of a text between quotes.
-pub fn bytes_of(alloc: Global, text: &[u8]) -> Result<Result<Vec<u8>, Wrong>, AllocError> {
+pub(crate) fn bytes_of(alloc: Global, text: &[u8]) -> Result<Result<Vec<u8>, Wrong>, AllocError> {
     let mut bytes = Vec::new(alloc);
     let mut rest = text;
     for _ in 0..text.len() {

@@ -20,7 +20,7 @@ pub const T1: Register = Register(6);
 
 impl Register {
     /// The name that the expanded text has.
-    pub fn name(self) -> &'static str {
+    pub(crate) fn name(self) -> &'static str {
         match NAMES.get(usize::from(self.0)) {
             Some(name) => *name,
             None => "zero",
@@ -59,7 +59,7 @@ fn numbered(digits: &[u8]) -> Option<Register> {
 }
 
 /// The register of a name, in large or small letters: x0 to x31, its other name, or fp.
-pub fn register_called(name: &[u8]) -> Option<Register> {
+pub(crate) fn register_called(name: &[u8]) -> Option<Register> {
     match name {
         [b'x' | b'X', digits @ ..] => numbered(digits),
         [b'f' | b'F', b'p' | b'P'] => Some(Register(8)),

@@ -27,7 +27,7 @@ pub struct Statement {
 
 impl Statement {
     /// The row of the statement.
-    pub fn row(&self, alloc: Global, status: Status) -> Result<Row, AllocError> {
+    pub(crate) fn row(&self, alloc: Global, status: Status) -> Result<Row, AllocError> {
         Ok(Row {
             text: self.text.as_slice().to_vec(alloc)?,
             line: self.line,
@@ -38,17 +38,17 @@ impl Statement {
 
 impl Text {
     /// A file's text, without its comments.
-    pub fn of_file(alloc: Global, text: &[u8], line: Line) -> Result<Text, AllocError> {
+    pub(crate) fn of_file(alloc: Global, text: &[u8], line: Line) -> Result<Text, AllocError> {
         Ok(Text::of_lines(without_comments(alloc, text)?, line))
     }
 
     /// A text without comments, from this line on.
-    pub fn of_lines(bytes: Vec<u8>, line: Line) -> Text {
+    pub(crate) fn of_lines(bytes: Vec<u8>, line: Line) -> Text {
         Text::of_repetition(bytes, line, usize::MAX)
     }
 
     /// A text without comments that repeats that many lines.
-    pub fn of_repetition(bytes: Vec<u8>, line: Line, lines: usize) -> Text {
+    pub(crate) fn of_repetition(bytes: Vec<u8>, line: Line, lines: usize) -> Text {
         Text {
             bytes,
             next: 0,
@@ -58,12 +58,12 @@ impl Text {
         }
     }
 
-    pub fn len(&self) -> usize {
+    pub(crate) fn len(&self) -> usize {
         self.bytes.len()
     }
 
     /// Where the next statement is.
-    pub fn place(&self) -> Place {
+    pub(crate) fn place(&self) -> Place {
         self.line.place
     }
 
@@ -83,7 +83,7 @@ impl Text {
     }
 
     /// The next statement.
-    pub fn statement(&mut self, alloc: Global) -> Result<Option<Statement>, AllocError> {
+    pub(crate) fn statement(&mut self, alloc: Global) -> Result<Option<Statement>, AllocError> {
         let Some(rest) = self.bytes.get(self.next..) else {
             return Ok(None);
         };
@@ -112,7 +112,7 @@ pub struct Parts<'t> {
 }
 
 /// The parts of a statement; none where it has no word.
-pub fn parts_of(alloc: Global, text: &[u8]) -> Result<Option<Parts<'_>>, AllocError> {
+pub(crate) fn parts_of(alloc: Global, text: &[u8]) -> Result<Option<Parts<'_>>, AllocError> {
     let tokens = tokens_of(alloc, text, 0)?;
     let [first, ..] = after_labels(&tokens) else {
         return Ok(None);

@@ -31,7 +31,7 @@ impl<'a> Assembler<'a> {
     }
 
     /// A label.
-    pub fn label(&mut self, name: &'a [u8], column: usize) -> Result<(), Stop> {
+    pub(crate) fn label(&mut self, name: &'a [u8], column: usize) -> Result<(), Stop> {
         let symbol = self.symbol(self.layout.here(), column, true);
         self.define(name, symbol, column)?;
         self.put_label(name)?;
@@ -132,7 +132,7 @@ impl<'a> Assembler<'a> {
     }
 
     /// A statement.
-    pub fn statement(&mut self, sentence: &'a Sentence<'a>) -> Result<(), Stop> {
+    pub(crate) fn statement(&mut self, sentence: &'a Sentence<'a>) -> Result<(), Stop> {
         self.at = Position {
             row: sentence.row,
             column: column_of(&sentence.tokens, 1),

@@ -54,7 +54,7 @@ pub struct Token<'a> {
 
 impl Token<'_> {
     /// Whether the token is that mark.
-    pub fn is(&self, mark: Mark) -> bool {
+    pub(crate) fn is(&self, mark: Mark) -> bool {
         match self.kind {
             Kind::Mark(other) => other == mark,
             _ => false,
@@ -63,7 +63,7 @@ impl Token<'_> {
 }
 
 /// The column of the first of some tokens, or the one that is given.
-pub fn column_of(tokens: &[Token], other: usize) -> usize {
+pub(crate) fn column_of(tokens: &[Token], other: usize) -> usize {
     match tokens {
         [first, ..] => first.column,
         [] => other,
@@ -78,12 +78,12 @@ fn is_label(pair: &[Token]) -> bool {
 }
 
 /// How many labels some tokens begin with.
-pub fn label_count(tokens: &[Token]) -> usize {
+pub(crate) fn label_count(tokens: &[Token]) -> usize {
     tokens.chunks(2).take_while(|pair| is_label(*pair)).count()
 }
 
 /// The tokens after the labels.
-pub fn after_labels<'t, 'a>(tokens: &'t [Token<'a>]) -> &'t [Token<'a>] {
+pub(crate) fn after_labels<'t, 'a>(tokens: &'t [Token<'a>]) -> &'t [Token<'a>] {
     let count = label_count(tokens).saturating_mul(2).min(tokens.len());
     tokens.split_at(count).1
 }

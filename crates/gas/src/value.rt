@@ -34,7 +34,7 @@ pub struct Value {
 }
 
 /// A number as a value.
-pub fn number(number: i64) -> Value {
+pub(crate) fn number(number: i64) -> Value {
     Value {
         base: Base::Number,
         number,
@@ -114,7 +114,7 @@ fn joined(mark: Mark, a: Base, b: Base) -> Result<Base, Wrong> {
 }
 
 /// The value of an operation on two values.
-pub fn binary(mark: Mark, a: Value, b: Value) -> Result<Value, Wrong> {
+pub(crate) fn binary(mark: Mark, a: Value, b: Value) -> Result<Value, Wrong> {
     let base = joined(mark, a.base, b.base)?;
     if base == Base::Unknown {
         return Ok(UNKNOWN);
@@ -126,7 +126,7 @@ pub fn binary(mark: Mark, a: Value, b: Value) -> Result<Value, Wrong> {
 }
 
 /// The value of a sign before a value.
-pub fn unary(mark: Mark, a: Value) -> Result<Value, Wrong> {
+pub(crate) fn unary(mark: Mark, a: Value) -> Result<Value, Wrong> {
     match mark {
         Mark::Plus => Ok(a),
         Mark::Minus => binary(Mark::Minus, number(0), a),

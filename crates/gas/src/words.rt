@@ -196,7 +196,7 @@ fn pseudo_called(word: &[u8]) -> Option<Word> {
 }
 
 /// Adds names.
-pub fn add_names<'w>(words: &mut Vec<&'w str>, names: &[&'static str]) -> Result<(), AllocError> {
+pub(crate) fn add_names<'w>(words: &mut Vec<&'w str>, names: &[&'static str]) -> Result<(), AllocError> {
     for name in names {
         words.push(*name)?;
     }
@@ -243,7 +243,7 @@ fn add_other_forms<'w>(words: &mut Vec<&'w str>) -> Result<(), AllocError> {
 }
 
 /// Adds the names of all instructions.
-pub fn add_instructions<'w>(words: &mut Vec<&'w str>) -> Result<(), AllocError> {
+pub(crate) fn add_instructions<'w>(words: &mut Vec<&'w str>) -> Result<(), AllocError> {
     add_operations(words)?;
     add_transfers(words)?;
     add_branch_forms(words)?;
@@ -252,7 +252,7 @@ pub fn add_instructions<'w>(words: &mut Vec<&'w str>) -> Result<(), AllocError> 
 }
 
 /// The instruction of a name.
-pub fn word_called(word: &[u8]) -> Option<Word> {
+pub(crate) fn word_called(word: &[u8]) -> Option<Word> {
     if let Some(found) = operation_called(word) {
         return Some(found);
     }
@@ -278,7 +278,7 @@ const WITH_NUMBERS: [(&str, &str); 12] = [
 ];
 
 /// The operation on a register and a number that an operation on two registers is for.
-pub fn with_number(name: &str) -> Option<Word> {
+pub(crate) fn with_number(name: &str) -> Option<Word> {
     if is(name.as_bytes(), "sraw") {
         return word_called(b"sraiw");
     }
