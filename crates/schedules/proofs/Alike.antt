@@ -1,13 +1,13 @@
 -- States that are equal except for their clocks go on alike.
 use Rattle.std.proofs.Common.{◌++◌, [], ap, arith, Bool, cond, Err, false, List, None, Ok, Option, refl, Some, subst}
-use Rattle.std.proofs.Common.{sym, true, ℕ, ℤ, ◌%◌, ◌+◌, ◌<◌, ◌^◌, ◌∙◌, ◌∷◌, ◌≡◌}
+use Rattle.std.proofs.Common.{sym, true, ℕ, ℤ, ◌%◌, ◌+◌, ◌-◌, ◌<◌, ◌^◌, ◌∙◌, ◌∷◌, ◌≡◌}
 use Rattle.std.specs.Prelude.{find, if◌then◌else◌, is_some, negsuc, option_map, ◌||◌}
 use Rattle.schedules.proofs.Going.{AfterBack, after-quiet, at-back, begun-back, call-back, changed-back, end-back}
 use Rattle.schedules.proofs.Going.{resume-back}
 use Rattle.schedules.proofs.Rows.{back-places, back-refl, slept-back, zombie-child-back}
 use Rattle.schedules.proofs.SetBack.{running-back, where-back}
-use Rattle.schedules.specs.Alike.{Alike, AreAlike, EventKeepsAlike, HasClock, NeverAsksTime, RunKeepsAlike, asks}
-use Rattle.schedules.specs.Alike.{asks_as, asks_at, asks_in, asks_time, is_uptime, mode_set_back, places_set_back}
+use Rattle.schedules.specs.Alike.{is_sleep, Alike, AreAlike, EventKeepsAlike, HasClock, NeverAsksTime, RunKeepsAlike}
+use Rattle.schedules.specs.Alike.{asks, asks_as, asks_at, asks_in, asks_time, is_uptime, mode_set_back, places_set_back}
 use Rattle.schedules.specs.Alike.{process_set_back, set_back, state_set_back, timeless}
 use Rattle.unixmodel.specs.Calls.{After, call, call_of, quiet}
 use Rattle.unixmodel.specs.Console.{Keyed, key}
@@ -30,21 +30,21 @@ use Rattle.unixmodel.specs.declared.process.Pending.{Pending}
 
 -- ---- turns
 
-go-on-back : (k : ℕ) (s : State) (p : Process) (w : Pending) (number : Call) → s.ticks ≡ k
+go-on-back : (k : ℕ) (s : State) (p : Process) (w : Pending) (number : Call) → s.ticks ≡ k → w.number ≡ number
     → can_go_on (state_set_back k s) (process_set_back k p) (set_back k w) number ≡ can_go_on s p w number
 unfolding state_set_back set_back
-go-on-back k s p w Wait time = ap is_some (zombie-child-back k s p.pid)
-go-on-back k s p w Read time = refl
-go-on-back k s p w Write time = refl
-go-on-back k s p w Sleep time = slept-back k s w time
-go-on-back k s p w _ time = refl
+go-on-back k s p w Wait time same = ap is_some (zombie-child-back k s p.pid)
+go-on-back k s p w Read time same = refl
+go-on-back k s p w Write time same = refl
+go-on-back k s p w Sleep time same = slept-back k s w time same
+go-on-back k s p w _ time same = refl
 
 ready-in-back : (k : ℕ) (s : State) (p : Process) (m : Mode) → s.ticks ≡ k
     → is_ready_in (state_set_back k s) (process_set_back k p) (mode_set_back k m) ≡ is_ready_in s p m
 unfolding set_back
 ready-in-back k s p Running time = refl
 ready-in-back k s p Ready time = refl
-ready-in-back k s p (Waiting w) time = ap (λ b. b || p.killed) (go-on-back k s p w w.number time)
+ready-in-back k s p (Waiting w) time = ap (λ b. b || p.killed) (go-on-back k s p w w.number time refl)
 ready-in-back k s p (Zombie status) time = refl
 
 ready-back : (k : ℕ) (s : State) (i : ℕ) → s.ticks ≡ k → ready (state_set_back k s) i ≡ ready s i
@@ -140,9 +140,17 @@ step-back k s (Some i) time clock other =
 
 -- ---- the clock goes on
 
+again-since : (number : Call) (j k since : ℕ)
+    → (if is_sleep number
+    then (2 ^ 32 - (j + (2 ^ 32 - (if is_sleep number then (2 ^ 32 - (k + (2 ^ 32 - since)) % 2 ^ 32) % 2 ^ 32 else 0)))
+    % 2 ^ 32) % 2 ^ 32 else 0)
+    ≡ (if is_sleep number then (2 ^ 32 - ((k + j) % 2 ^ 32 + (2 ^ 32 - since)) % 2 ^ 32) % 2 ^ 32 else 0)
+again-since Sleep j k since = omega arith
+again-since _ j k since = refl
+
 again : (j k : ℕ) (w : Pending) → set_back j (set_back k w) ≡ set_back ((k + j) % 2 ^ 32) w
 unfolding set_back
-again j k w = ap (λ n. record w { since = n }) (omega arith)
+again j k w = ap (λ n. record w { since = n }) (again-since w.number j k w.since)
 
 mode-again : (j k : ℕ) (m : Mode) → mode_set_back j (mode_set_back k m) ≡ mode_set_back ((k + j) % 2 ^ 32) m
 mode-again j k Running = refl

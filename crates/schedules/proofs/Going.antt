@@ -238,4 +238,4 @@ resume-back k s i p w time =
     back-in k begun (put_process (state_set_back k s) i (process_set_back k (with_mode Running p)))
     (λ t. AfterBack k (settle begun i (goes_on begun i (with_mode Running p) w w.number))
     (settle t i (goes_on t i (process_set_back k (with_mode Running p)) (set_back k w) w.number))) back
-    (settle-back k begun i _ _ time (goes-on-agrees w.number k begun i (with_mode Running p) w time))
+    (settle-back k begun i _ _ time (goes-on-agrees w.number k begun i (with_mode Running p) w time refl))

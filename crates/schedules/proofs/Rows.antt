@@ -1,10 +1,11 @@
 -- Each row of the table of calls but that of uptime comes to the same where the clock is set back.
 use Rattle.std.proofs.Common.{[], ap, arith, Bool, false, length, List, nat_le, None, Option, refl, Some, subst, suc}
-use Rattle.std.proofs.Common.{sym, true, zero, ℕ, ℤ, ◌+◌, ◌<◌, ◌^◌, ◌∙◌, ◌∷◌, ◌≡◌}
+use Rattle.std.proofs.Common.{sym, true, zero, ℕ, ℤ, ◌%◌, ◌+◌, ◌-◌, ◌<◌, ◌^◌, ◌∙◌, ◌∷◌, ◌≡◌}
 use Rattle.std.specs.Prelude.{if◌then◌else◌, is_some, option_map, ◌&&◌, ◌==◌, ◌||◌}
 use Rattle.schedules.proofs.SetBack.{change-back, clear-back, free-back, put-back, slot-back, where-back}
 use Rattle.schedules.proofs.SetBack.{frames-back, within-back, zombie-back}
-use Rattle.schedules.specs.Alike.{is_uptime, mode_set_back, places_set_back, process_set_back, set_back, state_set_back}
+use Rattle.schedules.specs.Alike.{is_sleep, is_uptime, mode_set_back, places_set_back, process_set_back, set_back}
+use Rattle.schedules.specs.Alike.{state_set_back, waited}
 use Rattle.unixmodel.specs.Calls.{goes_on, row}
 use Rattle.unixmodel.specs.Console.{Console, Taken}
 use Rattle.unixmodel.specs.Counts.{is_within, page_frames}
@@ -165,6 +166,11 @@ back-put k s i p files opens pipes console next_pid last halted time =
     back-places k s (put s.places i p) (put (places_set_back k s.places) i (process_set_back k p)) files opens pipes
     console next_pid last halted time (put-back k s.places i p)
 
+-- a call with this number, w, that goes on, and the same where the clock is set back
+abbrev pub GoesOnAgrees : (State → ℕ → Process → Pending → Outcome) → Call → Type 0
+GoesOnAgrees on number = (k : ℕ) (s : State) (i : ℕ) (p : Process) (w : Pending) → s.ticks ≡ k → w.number ≡ number
+    → Agrees k (on s i p w) (on (state_set_back k s) i (process_set_back k p) (set_back k w))
+
 -- ---- the rows
 
 -- the rows of a call: those of a process in a state at tick k, and with the clock set back
@@ -322,42 +328,41 @@ wait-for-agrees k s i p w (Some j) u time is = subst
       refl,
     ))
 
-wait-on-agrees : (k : ℕ) (s : State) (i : ℕ) (p : Process) (w : Pending) → s.ticks ≡ k
-    → Agrees k (wait_on s i p w) (wait_on (state_set_back k s) i (process_set_back k p) (set_back k w))
+wait-on-agrees : GoesOnAgrees wait_on Wait
 unfolding wait_on
-wait-on-agrees k s i p w time =
+wait-on-agrees k s i p w time waits =
     wait-for-agrees k s i p w (zombie_child s p.pid) _ time (zombie-child-back k s p.pid)
 
 -- ---- the clock
 
 -- a call that begins now began at 0 where the clock is set back
+began : (number : Call) (k since : ℕ) → since ≡ k → k < 2 ^ 32
+    → 0 ≡ (if is_sleep number then (2 ^ 32 - (k + (2 ^ 32 - since)) % 2 ^ 32) % 2 ^ 32 else 0)
+began Sleep k since now clock = omega (arith, now, clock)
+began _ k since now clock = refl
+
 pub begins-back : (k : ℕ) (s : State) (p : Process) (number : Call) → s.ticks ≡ k → k < 2 ^ 32
     → pending_of number (state_set_back k s) (process_set_back k p) ≡ set_back k (pending_of number s p)
 unfolding state_set_back set_back
-begins-back k s p number time clock = ap
-    (λ n. record (pending_of number s p) { since = n })
-    (let same : s.ticks ≡ k = time in omega (arith, same, clock))
+begins-back k s p number time clock =
+    ap (λ n. record (pending_of number s p) { since = n }) (began number k s.ticks time clock)
 
 -- a sleeper has waited as long
-pub slept-back : (k : ℕ) (s : State) (w : Pending) → s.ticks ≡ k
+pub slept-back : (k : ℕ) (s : State) (w : Pending) → s.ticks ≡ k → w.number ≡ Sleep
     → has_slept (state_set_back k s) (set_back k w) ≡ has_slept s w
 unfolding state_set_back set_back
-slept-back k s w time = ap (λ n. nat_le (sleep_time w) n)
-    (let same : s.ticks ≡ k = time in omega (arith, same))
+slept-back k s w time sleeps =
+    ap (λ c. nat_le (sleep_time w) ((0 + (2 ^ 32 - (if is_sleep c then (2 ^ 32 - waited k w) % 2 ^ 32 else 0)))
+    % 2 ^ 32)) sleeps
+    ∙ ap (λ n. nat_le (sleep_time w) n) (let same : s.ticks ≡ k = time in omega (arith, same))
 
-sleep-on-agrees : (k : ℕ) (s : State) (i : ℕ) (p : Process) (w : Pending) → s.ticks ≡ k
-    → Agrees k (sleep_on s i p w) (sleep_on (state_set_back k s) i (process_set_back k p) (set_back k w))
+sleep-on-agrees : GoesOnAgrees sleep_on Sleep
 unfolding sleep_on
-sleep-on-agrees k s i p w time =
-    agrees-either k (has_slept s w) _ _ _ _ _ (slept-back k s w time) (back-refl k s time, refl, refl)
+sleep-on-agrees k s i p w time sleeps =
+    agrees-either k (has_slept s w) _ _ _ _ _ (slept-back k s w time sleeps) (back-refl k s time, refl, refl)
     (back-refl k s time, refl)
 
 -- ---- read and write
-
--- a call with w that goes on, and the same where the clock is set back
-abbrev pub GoesOnAgrees : (State → ℕ → Process → Pending → Outcome) → Type 0
-GoesOnAgrees on = (k : ℕ) (s : State) (i : ℕ) (p : Process) (w : Pending) → s.ticks ≡ k
-    → Agrees k (on s i p w) (on (state_set_back k s) i (process_set_back k p) (set_back k w))
 
 read-pipe-agrees : (k : ℕ) (s : State) (i : ℕ) (p : Process) (w : Pending) (q : ℕ) (bytes : List ℕ) → s.ticks ≡ k
     → Agrees k (read_pipe s i p w q bytes)
@@ -391,9 +396,9 @@ read-target-agrees k s i p w id f (OnNode n offset) time =
 read-target-agrees k s i p w id f (OnPipe q end) time =
     agrees-given k (slot s.pipes q) _ _ _ refl λ bytes. read-pipe-agrees k s i p w q bytes time
 
-read-on-agrees : GoesOnAgrees read_on
+read-on-agrees : GoesOnAgrees read_on Read
 unfolding read_on state_set_back set_back
-read-on-agrees k s i p w time =
+read-on-agrees k s i p w time reads =
     agrees-given k (descriptor p (pending_arg w 0)) _ _ _ refl λ id.
     agrees-given k (slot s.opens id) _ _ _ refl λ f.
     read-target-agrees k s i p w id f f.target time
@@ -403,13 +408,13 @@ write-file-agrees : (k : ℕ) (s : State) (id : ℕ) (f : OpenFile) (n offset : 
     → Agrees k (write_file s id f n offset new node) (write_file (state_set_back k s) id f n offset new node)
 unfolding state_set_back room_for
 write-file-agrees k s id f n offset new (Device links major minor) time = (back-refl k s time, refl, refl)
-write-file-agrees k s id f n offset new (File links bytes) time = search (agreeing, back-places)
+write-file-agrees k s id f n offset new (File links bytes) time = search agreeing
 write-file-agrees k s id f n offset new (Directory links places) time = tt
 
 write-pipe-agrees : (k : ℕ) (s : State) (w : Pending) (q : ℕ) (held new : List ℕ) → s.ticks ≡ k
     → Agrees k (write_pipe s w q held new) (write_pipe (state_set_back k s) (set_back k w) q held new)
 unfolding state_set_back set_back
-write-pipe-agrees k s w q held new time = search (agreeing, back-places)
+write-pipe-agrees k s w q held new time = search agreeing
 
 write-target-agrees : (k : ℕ) (s : State) (w : Pending) (id : ℕ) (f : OpenFile) (new : List ℕ) (target : Target)
     → s.ticks ≡ k
@@ -421,9 +426,9 @@ write-target-agrees k s w id f new (OnNode n offset) time =
 write-target-agrees k s w id f new (OnPipe q end) time =
     agrees-given k (slot s.pipes q) _ _ _ refl λ held. write-pipe-agrees k s w q held new time
 
-write-on-agrees : GoesOnAgrees write_on
+write-on-agrees : GoesOnAgrees write_on Write
 unfolding write_on state_set_back set_back
-write-on-agrees k s i p w time =
+write-on-agrees k s i p w time writes =
     agrees-given k (descriptor p (pending_arg w 0)) _ _ _ refl λ id.
     agrees-given k (slot s.opens id) _ _ _ refl λ f.
     agrees-given k (read_bytes p.memory (pending_arg w 1) (low (pending_arg w 2))) _ _ _ refl λ new.
@@ -437,11 +442,11 @@ Begins on number = (k : ℕ) (s : State) (i : ℕ) (p : Process) → s.ticks ≡
     → Agrees k (on s i p (pending_of number s p))
     (on (state_set_back k s) i (process_set_back k p) (pending_of number (state_set_back k s) (process_set_back k p)))
 
-begins : (on : State → ℕ → Process → Pending → Outcome) (number : Call) → GoesOnAgrees on → Begins on number
+begins : (on : State → ℕ → Process → Pending → Outcome) (number : Call) → GoesOnAgrees on number → Begins on number
 begins on number agrees k s i p time clock = subst
     (λ v. Agrees k (on s i p (pending_of number s p)) (on (state_set_back k s) i (process_set_back k p) v))
     (sym (begins-back k s p number time clock))
-    (agrees k s i p (pending_of number s p) time)
+    (agrees k s i p (pending_of number s p) time refl)
 
 agrees-unless-empty : (k : ℕ) (s : State) (c : ℕ) (rest more : Outcome) → s.ticks ≡ k → Agrees k rest more
     → Agrees k (unless_empty s c rest) (unless_empty (state_set_back k s) c more)
@@ -502,9 +507,9 @@ row-agrees Unlink other = unlink-agrees
 row-agrees Link other = link-agrees
 row-agrees Mkdir other = mkdir-agrees
 
-pub goes-on-agrees : (number : Call) → GoesOnAgrees (λ s i p w. goes_on s i p w number)
+pub goes-on-agrees : (number : Call) → GoesOnAgrees (λ s i p w. goes_on s i p w number) number
 goes-on-agrees Wait = wait-on-agrees
 goes-on-agrees Sleep = sleep-on-agrees
 goes-on-agrees Read = read-on-agrees
 goes-on-agrees Write = write-on-agrees
-goes-on-agrees _ = λ k s i p w time. tt
+goes-on-agrees _ = λ k s i p w time same. tt

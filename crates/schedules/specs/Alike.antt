@@ -3,18 +3,18 @@
 use Rattle.std.specs.Prelude.{Bool, Err, List, None, Ok, Option, Some, [], false, if◌then◌else◌, map, option_map, true}
 use Rattle.std.specs.Prelude.{ℕ, ⊤, ◌%◌, ◌+◌, ◌-◌, ◌<◌, ◌^◌, ◌∷◌, ◌≡◌}
 use Rattle.unixmodel.specs.declared.call.Call.{Call}
-use Rattle.unixmodel.specs.declared.call.Call.TheVariants.{Uptime}
+use Rattle.unixmodel.specs.declared.call.Call.TheVariants.{Sleep, Uptime}
 use Rattle.unixmodel.specs.declared.event.Event.{Event}
 use Rattle.unixmodel.specs.declared.event.Event.TheVariants.{Key, Step, Tick}
 use Rattle.unixmodel.specs.declared.process.Mode.{Mode}
 use Rattle.unixmodel.specs.declared.process.Mode.TheVariants.{Ready, Running, Waiting, Zombie}
 use Rattle.unixmodel.specs.declared.process.Pending.{Pending}
-use Rattle.unixmodel.specs.Calls.{After, call_of}
+use Rattle.unixmodel.specs.Calls.{After, call_of, quiet}
 use Rattle.unixmodel.specs.Meaning.{Effect}
 use Rattle.unixmodel.specs.Next.{effect_of, is_ecall, next}
 use Rattle.unixmodel.specs.Numbers.{low}
 use Rattle.unixmodel.specs.Process.{Process, arg}
-use Rattle.unixmodel.specs.Run.{UnlessHalted, run}
+use Rattle.unixmodel.specs.Run.{UnlessHalted, picked_by, run}
 use Rattle.unixmodel.specs.State.{State, process_at, running}
 
 -- ---- a state, with its clock set back to 0
@@ -23,9 +23,13 @@ use Rattle.unixmodel.specs.State.{State, process_at, running}
 abbrev pub waited : ℕ → Pending → ℕ
 waited ticks w = (ticks + (2 ^ 32 - w.since)) % 2 ^ 32
 
--- it began as many ticks before 0, modulo 2^32
+abbrev pub is_sleep : Call → Bool
+is_sleep Sleep = true
+is_sleep _ = false
+
+-- a sleep began as many ticks before 0, modulo 2^32; of other calls nobody asks when they began
 unfoldable pub set_back : ℕ → Pending → Pending
-set_back ticks w = record w { since = (2 ^ 32 - waited ticks w) % 2 ^ 32 }
+set_back ticks w = record w { since = if is_sleep w.number then (2 ^ 32 - waited ticks w) % 2 ^ 32 else 0 }
 
 abbrev pub mode_set_back : ℕ → Mode → Mode
 mode_set_back ticks Running = Running
@@ -47,7 +51,7 @@ timeless s = state_set_back s.ticks s
 
 -- ---- alike
 
--- they are equal, except that their clocks differ: each process that waits has waited as long
+-- they are equal, except that their clocks differ: each process that sleeps has slept as long
 abbrev pub Alike : State → State → Type 0
 Alike s t = timeless s ≡ timeless t
 
@@ -105,3 +109,26 @@ EventKeepsAlike = (s t : State) (e : Event) → HasClock s → HasClock t → Al
 abbrev pub RunKeepsAlike : Type 0
 RunKeepsAlike = (s t : State) (events : List Event) → HasClock s → HasClock t → Alike s t → NeverAsksTime s events
     → AreAlike (run s events) (run t events)
+
+-- ---- ticks that change nothing
+
+abbrev pub is_asleep_in : Mode → Bool
+is_asleep_in Running = false
+is_asleep_in Ready = false
+is_asleep_in (Waiting w) = is_sleep w.number
+is_asleep_in (Zombie status) = false
+
+-- no process waits in sleep
+abbrev pub NoneSleeps : State → Type 0
+NoneSleeps s = (i : ℕ) (p : Process) → process_at s i ≡ Some p → is_asleep_in p.mode ≡ false
+
+-- a tick where no process runs and none sleeps
+abbrev pub IdleTickChangesNothing : Type 0
+IdleTickChangesNothing = (s : State) → HasClock s → running s ≡ None → NoneSleeps s → AreAlike (quiet s) (next s Tick)
+
+-- a tick, and the turn after it, at which the process that ran is picked again
+abbrev pub TickBackChangesNothing : Type 0
+TickBackChangesNothing = (s : State) (i : ℕ) (p : Process) → HasClock s → s.halted ≡ None → running s ≡ Some i
+    → process_at s i ≡ Some p → p.killed ≡ false → s.last ≡ i → NoneSleeps s
+    → picked_by (next s Tick).state Step ≡ Some i
+    → AreAlike (quiet s) (run s (Tick ∷ Step ∷ []))
