@@ -7,4 +7,4 @@ mod terminal;
 mod watch;
 
 pub use terminal::{Given, MOST_KEYS, Mood, Move, Terminal};
-pub use watch::{Nobody, Watch};
+pub use watch::{Detail, Nobody, Watch};

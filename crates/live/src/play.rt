@@ -7,7 +7,7 @@ ghost use Rattle.unixmodel.specs.Next.{next};
 ghost use Rattle.unixmodel.specs.declared.event.Event.TheVariants.{Key};
 ghost use Rattle.live.specs.Plays.{RunWrites, events_of, script_events};
 
-use crate::watch::Watch;
+use crate::watch::{Detail, Watch};
 use blockdev::BlockDev;
 use console::{Out, Writer};
 use machine::{Halt, Machine};
@@ -65,6 +65,58 @@ fn each<D: BlockDev, T: Translate, V: Watch, W: Out>(
     Ok(())
 }
 
+/// The first of that many steps, as many as are done in one go where calls, faults and turns are seen: instructions up to
+/// a call or a fault and that, or a turn, or all where no process runs and none is ready. Returns how many they were,
+/// with the one at which the machine halted.
+pub fn advance_seen<D: BlockDev, T: Translate, V: Watch, W: Out>(
+    machine: &mut Machine<D, T>,
+    most: u32,
+    watch: &mut V,
+    out: &mut W,
+) -> (u32, Result<(), Halt>)
+    requires up { IsUp machine.old }
+    requires some { 0 < most }
+    ensures gives { RunGivesTo W.contents W.failures machine.old machine.new out.old out.new (replicate result.0 Step)
+        result.1 }
+    ensures within { (0 < result.0) × (result.0 ≤ most) }
+    ensures later { W.failures out.old ≤ W.failures out.new }
+{
+    let passed = machine.compute(most, &[]);
+    if passed > 0 {
+        watch.passed(machine, passed);
+    }
+    if passed == most {
+        return (most, Ok(()));
+    }
+    if machine.is_idle() {
+        let ended = machine.steps(most - passed, out);
+        watch.passed(machine, most - passed);
+        return (most, ended);
+    }
+    (passed + 1, step(machine, Event::Step, watch, out))
+}
+
+// That many steps, of which calls, faults and turns are seen.
+fn steps_seen<D: BlockDev, T: Translate, V: Watch, W: Out>(
+    machine: &mut Machine<D, T>,
+    times: u32,
+    watch: &mut V,
+    out: &mut W,
+) -> Result<(), Halt>
+    requires { IsUp machine.old }
+    ensures gives { RunGivesTo W.contents W.failures machine.old machine.new out.old out.new (replicate times Step)
+        result }
+    ensures later { W.failures out.old ≤ W.failures out.new }
+{
+    let mut done = 0;
+    while done < times {
+        let (more, ended) = advance_seen(machine, times - done, watch, out);
+        ended?;
+        done += more;
+    }
+    Ok(())
+}
+
 // The same event, so many times, with nothing between: steps that nobody looks at go in one loop.
 fn batch<D: BlockDev, T: Translate, V: Watch, W: Out>(
     machine: &mut Machine<D, T>,
@@ -78,8 +130,9 @@ fn batch<D: BlockDev, T: Translate, V: Watch, W: Out>(
         result }
     ensures later { W.failures out.old ≤ W.failures out.new }
 {
-    match event {
-        Event::Step if times >= LOOP && !watch.sees_steps() => machine.steps(times, out),
+    match (event, watch.detail()) {
+        (Event::Step, Detail::Nothing) if times >= LOOP => machine.steps(times, out),
+        (Event::Step, Detail::Calls) => steps_seen(machine, times, watch, out),
         _ => each(machine, event, times, watch, out),
     }
 }

@@ -7,7 +7,8 @@ ghost use Rattle.player.specs.Played.{PlaysTo, halts};
 use crate::tail::Tail;
 use blockdev::BlockDev;
 use console::Out;
-use live::Watch;
+use live::play::advance_seen;
+use live::{Detail, Watch};
 use machine::{Halt, Machine};
 use playtext::{Act, Clock, Deed, Goal, Place, Play};
 use scripts::Command;
@@ -143,22 +144,7 @@ fn tick_if<D: BlockDev, T: Translate, R: Record, V: Watch, W: Write>(
     }
 }
 
-// A step, and a tick where the clock strikes.
-fn pace<D: BlockDev, T: Translate, R: Record, V: Watch, W: Write>(
-    machine: &mut Machine<D, T>,
-    clock: &mut Clock,
-    keeper: &mut R,
-    watch: &mut V,
-    out: &mut Tail<W>,
-) -> Result<(), Halt>
-    requires { IsUp machine.old }
-    ensures { PlaysTo W.contents R.kept machine.old machine.new out.old.out out.new.out keeper.old keeper.new result }
-{
-    give(machine, Event::Step, keeper, watch, out)?;
-    tick_if(machine, clock.strikes(), keeper, watch, out)
-}
-
-// The first of so many steps behind none of which the clock strikes, and at none of which anybody looks on: as many as
+// The first of that many steps after none of which the clock strikes, and at none of which anybody looks on: as many as
 // are done in one go, and all where no process runs and none is ready; and how many they were.
 fn stride<D: BlockDev, T: Translate, R: Record, W: Write>(
     machine: &mut Machine<D, T>,
@@ -183,12 +169,59 @@ fn stride<D: BlockDev, T: Translate, R: Record, W: Write>(
     Ok(most)
 }
 
-// Whether somebody looks at each of the next steps. Where nobody is ready they change nothing, and aren't looked at.
-fn looks_at<D: BlockDev, T: Translate, V: Watch>(machine: &Machine<D, T>, watch: &V) -> bool {
-    watch.sees_steps() && !machine.is_idle()
+// The same where somebody looks on at calls, faults and turns.
+fn stride_seen<D: BlockDev, T: Translate, R: Record, V: Watch, W: Write>(
+    machine: &mut Machine<D, T>,
+    most: u32,
+    keeper: &mut R,
+    watch: &mut V,
+    out: &mut Tail<W>,
+) -> Result<u32, Halt>
+    requires up { IsUp machine.old }
+    requires some { 0 < most }
+    ensures plays { PlaysTo W.contents R.kept machine.old machine.new out.old.out out.new.out keeper.old keeper.new
+        (halts result) }
+    ensures within { IfOk result (λ made. (0 < made) × (made ≤ most)) }
+{
+    let (made, ended) = advance_seen(machine, most, watch, out);
+    keeper.note_steps(made);
+    ended?;
+    Ok(made)
 }
 
-// The first of so many steps, with a tick where the clock strikes behind it; and how many they were. Where nobody looks
+// A step. Where somebody looks on at calls, faults and turns alone, an instruction isn't looked at.
+fn pass_step<D: BlockDev, T: Translate, R: Record, V: Watch, W: Write>(
+    machine: &mut Machine<D, T>,
+    keeper: &mut R,
+    watch: &mut V,
+    out: &mut Tail<W>,
+) -> Result<(), Halt>
+    requires { IsUp machine.old }
+    ensures { PlaysTo W.contents R.kept machine.old machine.new out.old.out out.new.out keeper.old keeper.new result }
+{
+    if watch.detail() == Detail::Calls {
+        stride_seen(machine, 1, keeper, watch, out)?;
+        return Ok(());
+    }
+    give(machine, Event::Step, keeper, watch, out)
+}
+
+// A step, and a tick where the clock strikes.
+fn pace<D: BlockDev, T: Translate, R: Record, V: Watch, W: Write>(
+    machine: &mut Machine<D, T>,
+    clock: &mut Clock,
+    keeper: &mut R,
+    watch: &mut V,
+    out: &mut Tail<W>,
+) -> Result<(), Halt>
+    requires { IsUp machine.old }
+    ensures { PlaysTo W.contents R.kept machine.old machine.new out.old.out out.new.out keeper.old keeper.new result }
+{
+    pass_step(machine, keeper, watch, out)?;
+    tick_if(machine, clock.strikes(), keeper, watch, out)
+}
+
+// The first of that many steps, with a tick where the clock strikes after it; and how many they were. Where nobody looks
 // on at each step they are as many as are done in one go.
 fn go_on<D: BlockDev, T: Translate, R: Record, V: Watch, W: Write>(
     machine: &mut Machine<D, T>,
@@ -205,15 +238,16 @@ fn go_on<D: BlockDev, T: Translate, R: Record, V: Watch, W: Write>(
     ensures within { IfOk result (λ made. (0 < made) × (made ≤ most)) }
 {
     let quiet = clock.quiet_steps().min(most);
-    if quiet < LOOP || looks_at(machine, watch) {
-        pace(machine, clock, keeper, watch, out)?;
-        return Ok(1);
-    }
-    let made = stride(machine, quiet, keeper, out)?;
+    let made = match watch.detail() {
+        Detail::Nothing if quiet >= LOOP => stride(machine, quiet, keeper, out)?,
+        Detail::Calls if quiet > 0 => stride_seen(machine, quiet, keeper, watch, out)?,
+        Detail::Steps if quiet > 0 && machine.is_idle() => stride_seen(machine, quiet, keeper, watch, out)?,
+        _ => {
+            pace(machine, clock, keeper, watch, out)?;
+            return Ok(1);
+        }
+    };
     clock.pass(made);
-    if watch.sees_steps() {
-        watch.idled(machine, made);
-    }
     Ok(made)
 }
 

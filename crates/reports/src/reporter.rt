@@ -191,8 +191,8 @@ impl Reporter {
         }
     }
 
-    /// Whether it looks at each step. The pages of a process alone are looked at when no more events come.
-    pub fn sees_steps(&self) -> bool {
+    /// Whether it looks at calls, faults and turns. The pages of a process alone are looked at when no more events come.
+    pub fn sees_calls(&self) -> bool {
         let wanted = self.wanted;
         wanted.report || wanted.json || wanted.registers.is_some()
     }
@@ -266,7 +266,7 @@ impl Reporter {
     }
 
     pub(crate) fn who(&self, pid: u32) -> Who {
-        let name = if self.sees_steps() {
+        let name = if self.sees_calls() {
             self.programs.name(pid)
         } else {
             None
@@ -384,13 +384,13 @@ impl Reporter {
         }
     }
 
-    /// Counts steps of a machine on which no process ran and none was ready: they changed nothing.
-    pub fn idled(&mut self, steps: u32) {
+    /// Counts steps at which no process called or faulted and none got the hart.
+    pub fn passed(&mut self, steps: u32) {
         self.counts.steps = self.counts.steps.saturating_add(u64::from(steps));
         self.ended = Ok(());
     }
 
-    /// Looks at the machine before an event.
+    /// Looks at the machine before an event. Steps that were counted may be left out.
     pub fn before<D: BlockDev, T: Translate>(&mut self, machine: &Machine<D, T>, event: Event) {
         self.count(event);
         self.next = match event {

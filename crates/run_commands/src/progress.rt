@@ -2,7 +2,7 @@
 
 use blockdev::BlockDev;
 use hosts::Screen;
-use live::Watch;
+use live::{Detail, Watch};
 use machine::{Halt, Machine};
 use std::cell::Cell;
 use std::io::Write;
@@ -189,6 +189,11 @@ pub struct Gauge<'a, S> {
 
 impl<S: Screen> Watch for Gauge<'_, S> {
     #[inline]
+    fn detail(&self) -> Detail {
+        Detail::Nothing
+    }
+
+    #[inline]
     fn before<D: BlockDev, T: Translate>(&mut self, _machine: &Machine<D, T>, _event: Event) {}
 
     #[inline]
@@ -200,9 +205,7 @@ impl<S: Screen> Watch for Gauge<'_, S> {
     ) {}
 
     #[inline]
-    fn sees_steps(&self) -> bool {
-        false
-    }
+    fn passed<D: BlockDev, T: Translate>(&mut self, _machine: &Machine<D, T>, _steps: u32) {}
 
     fn written_out(&mut self, event: Event, made: u32) {
         let more = if event == Event::Step { made } else { 0 };

@@ -189,9 +189,9 @@ fn run_with<D: BlockDev, T: Translate, V: Watch, W: Write + Drop>(
     })
 }
 
-/// The translator of runs at each of whose events somebody looks on. It is a type of its own, so that the code of other
+/// The translator of runs at whose calls or steps somebody looks on. It is a type of its own, so that the code of other
 /// runs is compiled without them; the output is the same over every translator.
-type Watched = Tlb<32>;
+type Watched = Recent<Tlb<32>>;
 
 // How a flat run ended, or why there was none.
 fn ended<'a, W>(ran: Result<(End, &mut W), BootFault>) -> Result<End, Failure<'a>> {
@@ -257,7 +257,7 @@ pub fn flat_watched<'a, H: Host, V: Watch, W: Write>(
     let (program, bytes) = read_flat(host, &words)?;
     let script = script_of(alloc, words.script, bytes.as_slice())?;
     let (program, script) = (program.as_slice(), script.as_slice());
-    let cache = Watched::new();
+    let cache = Watched::new(Tlb::new());
     ended(run_flat(alloc, program, cache, words.frames, script, watch, stdout))
 }
 
@@ -293,7 +293,7 @@ pub fn run_watched_over<'a, V: Watch, W: Write>(
     watch: &mut V,
     stdout: &mut W,
 ) -> Result<(End, Option<MemDisk>), Failure<'a>> {
-    let cache = Watched::new();
+    let cache = Watched::new(Tlb::new());
     match run_with(alloc, disk, cache, &words, script, watch, stdout) {
         Ok(ran) => Ok((ran.end, ran.disk)),
         Err(fault) => Err(Failure::Boot(fault)),

@@ -3,7 +3,7 @@
 use blockdev::BlockDev;
 use commandline::Telling;
 use hosts::{End, Failure, Host, write};
-use live::Watch;
+use live::{Detail, Watch};
 use machine::{Halt, Machine};
 use reports::{Looked, Outcome, PlayEnd, Reporter, Told, Wanted};
 use std::alloc::{AllocError, Global};
@@ -55,6 +55,14 @@ impl Teller {
 }
 
 impl Watch for Teller {
+    fn detail(&self) -> Detail {
+        if self.reporter.sees_calls() {
+            Detail::Calls
+        } else {
+            Detail::Nothing
+        }
+    }
+
     fn before<D: BlockDev, T: Translate>(&mut self, machine: &Machine<D, T>, event: Event) {
         self.reporter.before(machine, event);
     }
@@ -68,12 +76,8 @@ impl Watch for Teller {
         self.reporter.after(machine, ended);
     }
 
-    fn sees_steps(&self) -> bool {
-        self.reporter.sees_steps()
-    }
-
-    fn idled<D: BlockDev, T: Translate>(&mut self, _machine: &Machine<D, T>, steps: u32) {
-        self.reporter.idled(steps);
+    fn passed<D: BlockDev, T: Translate>(&mut self, _machine: &Machine<D, T>, steps: u32) {
+        self.reporter.passed(steps);
     }
 
     fn end<D: BlockDev, T: Translate>(&mut self, machine: &Machine<D, T>) {
@@ -89,6 +93,10 @@ pub struct Both<A, B> {
 }
 
 impl<A: Watch, B: Watch> Watch for Both<A, B> {
+    fn detail(&self) -> Detail {
+        self.first.detail().max(self.second.detail())
+    }
+
     fn before<D: BlockDev, T: Translate>(&mut self, machine: &Machine<D, T>, event: Event) {
         self.first.before(machine, event);
         self.second.before(machine, event);
@@ -104,13 +112,9 @@ impl<A: Watch, B: Watch> Watch for Both<A, B> {
         self.second.after(machine, event, ended);
     }
 
-    fn idled<D: BlockDev, T: Translate>(&mut self, machine: &Machine<D, T>, steps: u32) {
-        self.first.idled(machine, steps);
-        self.second.idled(machine, steps);
-    }
-
-    fn sees_steps(&self) -> bool {
-        self.first.sees_steps() || self.second.sees_steps()
+    fn passed<D: BlockDev, T: Translate>(&mut self, machine: &Machine<D, T>, steps: u32) {
+        self.first.passed(machine, steps);
+        self.second.passed(machine, steps);
     }
 
     fn written_out(&mut self, event: Event, made: u32) {

@@ -1,4 +1,4 @@
-//! The tracer: looks at a machine before and behind each event, and writes what it did.
+//! The tracer: looks at a machine before and after its events, and writes what it did.
 
 mod beginning;
 mod drawing;
@@ -15,7 +15,7 @@ use arrayvec::ArrayVec;
 use blockdev::BlockDev;
 use causes::{fault_of, word};
 use jsonrows::Handed;
-use live::Watch;
+use live::{Detail, Watch};
 use machine::{Call, Halt, Machine, ProcessState, Seen};
 use std::alloc::{AllocError, Global};
 use sv39::Translate;
@@ -346,6 +346,21 @@ impl<S: Sinks + Drop> Tracer<S> {
         }
     }
 
+    // Goes on to an event. Those up to it did nothing that shows: where what is shown begins or ends among them, that is
+    // written.
+    fn pass_to<D: BlockDev, T: Translate>(&mut self, machine: &Machine<D, T>, last: u64) {
+        let (from, to) = (self.wanted.from, self.wanted.to);
+        if self.number() <= from && from <= last {
+            self.at = from.saturating_sub(1);
+            self.log_all(machine);
+        }
+        if !self.is_over && to <= last {
+            self.at = to;
+            self.close();
+        }
+        self.at = last;
+    }
+
     // Writes what is left where all events that are shown have passed.
     fn close(&mut self) {
         if self.is_over {
@@ -358,6 +373,15 @@ impl<S: Sinks + Drop> Tracer<S> {
 }
 
 impl<S: Sinks + Drop> Watch for Tracer<S> {
+    // Only the log of commits has each instruction.
+    fn detail(&self) -> Detail {
+        if self.pen.has(Form::Commits) && !self.is_over {
+            Detail::Steps
+        } else {
+            Detail::Calls
+        }
+    }
+
     fn before<D: BlockDev, T: Translate>(&mut self, machine: &Machine<D, T>, event: Event) {
         if !self.is_begun {
             self.begin(machine);
@@ -384,6 +408,13 @@ impl<S: Sinks + Drop> Watch for Tracer<S> {
         if is_last {
             self.close();
         }
+    }
+
+    fn passed<D: BlockDev, T: Translate>(&mut self, machine: &Machine<D, T>, steps: u32) {
+        if !self.is_begun {
+            self.begin(machine);
+        }
+        self.pass_to(machine, self.at.saturating_add(u64::from(steps)));
     }
 
     fn end<D: BlockDev, T: Translate>(&mut self, _machine: &Machine<D, T>) {
