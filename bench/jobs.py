@@ -127,8 +127,8 @@ def image_of(files, size=2000, inodes=200):
 
 @dataclasses.dataclass(frozen=True)
 class Booted:
-    """An image and a script on `xv6 run`. A function makes the image, and tells what `xv6 check` says of it. Where `saves` is
-    set, that is said of the saved image too."""
+    """An image and a script on `xv6 run`, or another of its commands. A function makes the image, and returns what `xv6 check`
+    says of it. Where `saves` is set, that is said of the saved image too."""
 
     image: typing.Callable
     script: str = TO_THE_END
@@ -136,6 +136,7 @@ class Booted:
     stdout: bytes = b""
     end: str = ENDED
     saves: bool = False
+    by: tuple = ("run",)
 
     def command(self, place):
         folder = place.new_folder()
@@ -143,7 +144,7 @@ class Booted:
         (folder / "image").write_bytes(content)
         (folder / "script").write_text(self.script)
         saving = ["--save", "saved"] if self.saves else []
-        words = [place.xv6, "run", "--frames", str(self.frames), *saving, "image", "script"]
+        words = [place.xv6, *self.by, "--frames", str(self.frames), *saving, "image", "script"]
         then = Command([place.xv6, "check", "saved"], folder, told) if self.saves else None
         return Command(words, folder, self.stdout, self.end, then)
 

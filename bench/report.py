@@ -67,6 +67,20 @@ def steps(place):
     return text, first["tight loop"]
 
 
+# ---- who looks on
+
+
+def looking_on(place):
+    """Seconds of a run at which somebody looks on, and the ratio to the same run without."""
+    looked = list(rows.looking_rows())
+    alone = looked[0].beside[0].job
+    jobs = [alone, *(row.job for row in looked)]
+    took = [it.seconds for it in compare([job.command(place) for job in jobs], TURNS)]
+    lines = [[f"`{' '.join(job.by)}`", f"{seconds:.3f}", f"{seconds / took[0]:.2f}"] for job, seconds in zip(jobs, took)]
+    text = "A run of 10,000,000 steps with 1000 calls: seconds of processor time, the least of "
+    return text + f"{TURNS} turns, and the ratio to the run that nobody looks on at:\n\n" + table(["by", "seconds", "ratio"], lines)
+
+
 # ---- units
 
 
@@ -252,7 +266,8 @@ def main():
     first = None
     with tempfile.TemporaryDirectory() as folder:
         place = compile_plain(Place(pathlib.Path(folder), given.program.resolve()))
-        makers = {"Steps": lambda: steps(place), "Calls and other units": lambda: units(place), "Tools": lambda: tools(place),
+        makers = {"Steps": lambda: steps(place), "Looking on": lambda: looking_on(place),
+                  "Calls and other units": lambda: units(place), "Tools": lambda: tools(place),
                   "Sizes": library, "Lines": lambda: counted, "Gate and build": lambda: noted_text}
         parts = {}
         for name, make in makers.items():

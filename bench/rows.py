@@ -6,7 +6,7 @@ import typing
 
 import images
 import texts
-from jobs import HERE, PLAIN, RUNNING, TWIN, Assembled, Booted, Check, Compiled, Flat, Mkfs, Program, image_of
+from jobs import ENDED, HERE, PLAIN, RUNNING, TWIN, Assembled, Booted, Check, Compiled, Flat, Mkfs, Program, image_of
 
 USER = HERE.parent / "user"
 
@@ -115,6 +115,27 @@ def multiply_rows():
         ]
         routine = Beside("by a routine in place of mul", by_routine)
         yield beside_plain(name, by_mul, routine, count=count, unit="multiplication")
+
+
+# ---- who looks on
+
+LOOKS = [
+    ("run", "--report"),
+    ("run", "--json", "json"),
+    ("trace", "--text", "text"),
+    ("trace", "--text", "text", "--perfetto", "spans"),
+    ("trace", "--text", "text", "--jsonl", "events"),
+]
+
+
+def looking_rows():
+    """A run of 10,000,000 steps with 1000 calls, at which somebody looks on, beside the same without."""
+    alone = Booted(image_of({"init": Program("seldom", CALLS=1000, ROUNDS=4997)}))
+    for words in LOOKS:
+        # What a report prints is before the end.
+        looked = dataclasses.replace(alone, by=words, end=rf"[^\0]*{ENDED}")
+        name = f"10000000 steps with 1000 calls by `{' '.join(words)}`"
+        yield Row(name, looked, 10_000_000, "step", (Beside("by `run`", alone, 1.3),))
 
 
 # ---- memory and processes
@@ -311,6 +332,6 @@ def text_rows():
 
 def all_rows():
     """Every row, in the order in which they are run."""
-    machines = [hart_rows, c_rows, multiply_rows, page_rows, process_rows, turn_rows, byte_rows]
+    machines = [hart_rows, c_rows, multiply_rows, looking_rows, page_rows, process_rows, turn_rows, byte_rows]
     for group in [*machines, rewriting_rows, large_rows, name_rows, making_rows, checking_rows, text_rows]:
         yield from group()

@@ -1,3 +1,4 @@
 mod Common
 pub mod EventLemmas
+mod SeenLemmas
 pub mod SessionLemmas

@@ -1,10 +1,10 @@
 //! Gives a machine the events of a script.
-ghost use Rattle.std.specs.Prelude.{◌≤◌, map, replicate};
+ghost use Rattle.std.specs.Prelude.{◌<◌, ◌≤◌, map, replicate};
 ghost use Rattle.std.specs.Io.KnownBytes.{Keeps};
 ghost use Rattle.machine.specs.Gives.{RunGivesTo, StepGivesTo};
 ghost use Rattle.machine.specs.View.{IsUp};
 ghost use Rattle.unixmodel.specs.Next.{next};
-ghost use Rattle.unixmodel.specs.declared.event.Event.TheVariants.{Key};
+ghost use Rattle.unixmodel.specs.declared.event.Event.TheVariants.{Key, Step};
 ghost use Rattle.live.specs.Plays.{RunWrites, events_of, script_events};
 
 use crate::watch::{Detail, Watch};
@@ -74,8 +74,7 @@ pub fn advance_seen<D: BlockDev, T: Translate, V: Watch, W: Out>(
     watch: &mut V,
     out: &mut W,
 ) -> (u32, Result<(), Halt>)
-    requires up { IsUp machine.old }
-    requires some { 0 < most }
+    requires { 0 < most }
     ensures gives { RunGivesTo W.contents W.failures machine.old machine.new out.old out.new (replicate result.0 Step)
         result.1 }
     ensures within { (0 < result.0) × (result.0 ≤ most) }

@@ -101,7 +101,7 @@ pub(crate) fn disk_of(alloc: Global, image: &[u8]) -> Option<MemDisk> {
 #[derive(Drop)]
 pub(crate) struct Run<T: Translate> {
     pub(crate) machine: Machine<MemDisk, T>,
-    out: Writer<Vec<u8>>,
+    pub(crate) out: Writer<Vec<u8>>,
 }
 
 /// A machine that goes through its events in one piece.

@@ -472,24 +472,60 @@ fn booted(alloc: Global, init: &str) -> Option<Whole> {
     run_on(alloc, image, Plain::new(), FRAMES)
 }
 
-// The same event, so many times, up to the first at which the machine halts.
-fn play(run: &mut Whole, reporter: &mut Reporter, event: Event, times: u32) {
+/// Which steps a reporter is shown: each, or calls, faults and turns, between which it is told how many passed.
+#[derive(Clone, Copy, PartialEq, Eq)]
+enum Shown {
+    Each,
+    Calls,
+}
+
+// An event that a reporter is shown; whether the machine goes on.
+fn give(run: &mut Whole, reporter: &mut Reporter, event: Event) -> bool {
+    reporter.before(&run.machine, event);
+    let ended = run.event(event);
+    reporter.after(&run.machine, ended);
+    ended.is_ok()
+}
+
+// Instructions that a reporter isn't shown: how many of that many steps are left.
+fn pass(run: &mut Whole, reporter: &mut Reporter, shown: Shown, left: u32) -> u32 {
+    if shown == Shown::Each {
+        return left;
+    }
+    let passed = run.machine.compute(left, &[]);
+    if passed > 0 {
+        reporter.passed(passed);
+    }
+    left.saturating_sub(passed)
+}
+
+// That many steps, up to the first at which the machine halts.
+fn steps(run: &mut Whole, reporter: &mut Reporter, shown: Shown, times: u32) {
+    let mut left = times;
+    for _piece in 0..times {
+        left = pass(run, reporter, shown, left);
+        if left == 0 || !give(run, reporter, Event::Step) {
+            return;
+        }
+        left = left.saturating_sub(1);
+    }
+}
+
+// That many ticks.
+fn ticks(run: &mut Whole, reporter: &mut Reporter, times: u32) {
     for _made in 0..times {
-        reporter.before(&run.machine, event);
-        let ended = run.event(event);
-        reporter.after(&run.machine, ended);
-        if ended.is_err() {
+        if !give(run, reporter, Event::Tick) {
             return;
         }
     }
 }
 
 // What is printed of a row's run.
-fn told_of(alloc: Global, run: &mut Whole, row: &Row) -> Option<Told> {
+fn told_of(alloc: Global, run: &mut Whole, row: &Row, shown: Shown) -> Option<Told> {
     let mut reporter = Reporter::new(alloc, b"/init", wanted_of(&row.asked));
     for _round in 0..row.rounds {
-        play(run, &mut reporter, Event::Step, row.steps);
-        play(run, &mut reporter, Event::Tick, row.ticks);
+        steps(run, &mut reporter, shown, row.steps);
+        ticks(run, &mut reporter, row.ticks);
     }
     let looked = reporter.look(alloc, &run.machine).ok()?;
     reporter.tell(alloc, &looked, row.outcome).ok()
@@ -504,8 +540,8 @@ fn has_parts(text: Option<&str>, parts: &[&str]) -> bool {
 }
 
 // Whether that is what the row says; of registers the text has more.
-fn tells(alloc: Global, run: &mut Whole, row: &Row) -> Option<bool> {
-    let told = told_of(alloc, run, row)?;
+fn tells(alloc: Global, run: &mut Whole, row: &Row, shown: Shown) -> Option<bool> {
+    let told = told_of(alloc, run, row, shown)?;
     let text = told.text.as_str();
     let is_text = match row.asked {
         Asked::Registers(_) => text.starts_with(row.text),
@@ -514,9 +550,9 @@ fn tells(alloc: Global, run: &mut Whole, row: &Row) -> Option<bool> {
     Some(is_text && has_parts(told.json.as_deref(), row.json))
 }
 
-fn holds(alloc: Global, row: &Row) -> Option<bool> {
+fn holds(alloc: Global, row: &Row, shown: Shown) -> Option<bool> {
     let mut run = booted(alloc, row.init)?;
-    let holds = tells(alloc, &mut run, row);
+    let holds = tells(alloc, &mut run, row, shown);
     run.end();
     holds
 }
@@ -524,6 +560,7 @@ fn holds(alloc: Global, row: &Row) -> Option<bool> {
 #[test]
 fn reports_tell_why(rt: HostRuntime) {
     for row in &ROWS {
-        expect_row(&rt, row.name, holds(rt.alloc(), row));
+        expect_row(&rt, row.name, holds(rt.alloc(), row, Shown::Each));
+        expect_row(&rt, row.name, holds(rt.alloc(), row, Shown::Calls));
     }
 }

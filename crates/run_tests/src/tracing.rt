@@ -4,6 +4,7 @@ use crate::disks::{Given, Whole, expect_row, image_with, run_on};
 use crate::samples::{CAT, ECHO, FAULTS, FORKS, GROWS, SHELL, SLEEPER};
 use crate::shape::is_well_shaped;
 use live::Watch;
+use live::play::advance_seen;
 use std::alloc::Global;
 use sv39::Plain;
 use traces::{CallSet, Form, SinkFault, Sinks, Tracer, Trouble, Wanted};
@@ -60,15 +61,49 @@ fn give(run: &mut Whole, tracer: &mut Tracer<Pages>, event: Event) -> bool {
     ended.is_ok()
 }
 
-// Three rounds of 300 steps and a tick, up to the end of process 1.
-fn play(run: &mut Whole, tracer: &mut Tracer<Pages>) {
-    for round in 1..=903 {
-        let event = if round % 301 == 0 {
-            Event::Tick
-        } else {
-            Event::Step
+/// Which steps of a run a tracer is shown.
+#[derive(Clone, Copy, PartialEq, Eq)]
+enum Shown {
+    /// Each.
+    Each,
+    /// Calls, faults and turns, between which it is told how many passed.
+    Calls,
+}
+
+/// How many steps there are before each tick.
+const ROUND: u32 = 300;
+
+// The first of that many steps, one or as many as are done in one go: how many they are. `None`: the machine halts.
+fn advance(run: &mut Whole, tracer: &mut Tracer<Pages>, shown: Shown, most: u32) -> Option<u32> {
+    match shown {
+        Shown::Each => give(run, tracer, Event::Step).then_some(1),
+        Shown::Calls if most > 0 => {
+            let (made, ended) = advance_seen(&mut run.machine, most, tracer, &mut run.out);
+            ended.is_ok().then_some(made)
+        }
+        Shown::Calls => None,
+    }
+}
+
+// Steps up to the next tick; whether the machine goes on.
+fn play_round(run: &mut Whole, tracer: &mut Tracer<Pages>, shown: Shown) -> bool {
+    let mut left = ROUND;
+    for _piece in 0..ROUND {
+        if left == 0 {
+            break;
+        }
+        let Some(made) = advance(run, tracer, shown, left) else {
+            return false;
         };
-        if !give(run, tracer, event) {
+        left = left.saturating_sub(made);
+    }
+    true
+}
+
+// Three rounds of steps and a tick, up to the end of process 1.
+fn play(run: &mut Whole, tracer: &mut Tracer<Pages>, shown: Shown) {
+    for _round in 0..3 {
+        if !play_round(run, tracer, shown) || !give(run, tracer, Event::Tick) {
             break;
         }
     }
@@ -374,13 +409,14 @@ static CASES: [Case; 8] = [
     },
 ];
 
-// What is wanted of a run.
-fn wanted_of(case: &Case) -> Option<Wanted> {
+// What is wanted of a run. The log of commits has each step.
+fn wanted_of(case: &Case, shown: Shown) -> Option<Wanted> {
     let mut wanted = match case.part {
         Part::Whole => FORMS,
         Part::Calls => PART,
         Part::Later => LATER,
     };
+    wanted.commits = shown == Shown::Each;
     if case.part == Part::Calls {
         wanted.calls = CallSet::parse("read,write").ok()?;
     }
@@ -394,11 +430,16 @@ fn booted(alloc: Global, case: &Case) -> Option<Whole> {
 }
 
 // What is written of a run, and whether it is the whole.
-fn traced(alloc: Global, run: &mut Whole, case: &Case) -> Option<(Pages, Result<(), Trouble>)> {
-    let wanted = wanted_of(case)?;
+fn traced(
+    alloc: Global,
+    run: &mut Whole,
+    case: &Case,
+    shown: Shown,
+) -> Option<(Pages, Result<(), Trouble>)> {
+    let wanted = wanted_of(case, shown)?;
     let pages = Pages::new(alloc, case.is_text_full);
     let mut tracer = Tracer::new(alloc, wanted, pages).ok()?;
-    play(run, &mut tracer);
+    play(run, &mut tracer, shown);
     Some(tracer.finish())
 }
 
@@ -444,17 +485,25 @@ fn are_right(alloc: Global, case: &Case, pages: &Pages) -> bool {
         && has_events(case, pages.events.as_str())
 }
 
-// Whether what is written of a run is as the case says.
-fn tells(alloc: Global, run: &mut Whole, case: &Case) -> Option<bool> {
-    let (pages, done) = traced(alloc, run, case)?;
-    Some(ends(case, done) && are_right(alloc, case, &pages))
+// Whether two have the same bytes, except for the log of commits.
+fn are_same(one: &Pages, other: &Pages) -> bool {
+    one.text == other.text && one.spans == other.spans && one.events == other.events
 }
 
-fn holds(alloc: Global, case: &Case) -> Option<bool> {
+// What is written of a run that is shown so, from its boot to its end.
+fn pages_of(alloc: Global, case: &Case, shown: Shown) -> Option<(Pages, Result<(), Trouble>)> {
     let mut run = booted(alloc, case)?;
-    let holds = tells(alloc, &mut run, case);
+    let traced = traced(alloc, &mut run, case, shown);
     run.end();
-    holds
+    traced
+}
+
+// Whether what is written of a run is as the case says, and the same where calls alone are shown.
+fn holds(alloc: Global, case: &Case) -> Option<bool> {
+    let (pages, done) = pages_of(alloc, case, Shown::Each)?;
+    let (seen, seen_done) = pages_of(alloc, case, Shown::Calls)?;
+    let is_right = ends(case, done) && are_right(alloc, case, &pages);
+    Some(is_right && ends(case, seen_done) && are_same(&pages, &seen))
 }
 
 #[test]
