@@ -221,8 +221,8 @@ fn pace<D: BlockDev, T: Translate, R: Record, V: Watch, W: Write>(
     tick_if(machine, clock.strikes(), keeper, watch, out)
 }
 
-// The first of that many steps, with a tick where the clock strikes after it; and how many they were. Where nobody looks
-// on at each step they are as many as are done in one go.
+// The first of that many steps, with a tick where the clock strikes after it; and how many they were. Where nobody
+// looks on at each step they are as many as are done in one go.
 fn go_on<D: BlockDev, T: Translate, R: Record, V: Watch, W: Write>(
     machine: &mut Machine<D, T>,
     most: u32,
@@ -241,7 +241,9 @@ fn go_on<D: BlockDev, T: Translate, R: Record, V: Watch, W: Write>(
     let made = match watch.detail() {
         Detail::Nothing if quiet >= LOOP => stride(machine, quiet, keeper, out)?,
         Detail::Calls if quiet > 0 => stride_seen(machine, quiet, keeper, watch, out)?,
-        Detail::Steps if quiet > 0 && machine.is_idle() => stride_seen(machine, quiet, keeper, watch, out)?,
+        Detail::Steps if quiet > 0 && machine.is_idle() => stride_seen(
+            machine, quiet, keeper, watch, out,
+        )?,
         _ => {
             pace(machine, clock, keeper, watch, out)?;
             return Ok(1);

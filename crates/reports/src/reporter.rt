@@ -191,7 +191,7 @@ impl Reporter {
         }
     }
 
-    /// Whether it looks at calls, faults and turns. The pages of a process alone are looked at when no more events come.
+    /// Whether it looks at calls, faults and turns. The pages of a process alone are looked at after the last event.
     pub fn sees_calls(&self) -> bool {
         let wanted = self.wanted;
         wanted.report || wanted.json || wanted.registers.is_some()

@@ -472,7 +472,7 @@ fn booted(alloc: Global, init: &str) -> Option<Whole> {
     run_on(alloc, image, Plain::new(), FRAMES)
 }
 
-/// Which steps a reporter is shown: each, or calls, faults and turns, between which it is told how many passed.
+/// Which steps a reporter is shown: each, or calls, faults and turns, with the number of those between.
 #[derive(Clone, Copy, PartialEq, Eq)]
 enum Shown {
     Each,

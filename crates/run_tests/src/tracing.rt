@@ -66,7 +66,7 @@ fn give(run: &mut Whole, tracer: &mut Tracer<Pages>, event: Event) -> bool {
 enum Shown {
     /// Each.
     Each,
-    /// Calls, faults and turns, between which it is told how many passed.
+    /// Calls, faults and turns, with the number of those between.
     Calls,
 }
 

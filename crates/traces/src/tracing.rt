@@ -346,8 +346,8 @@ impl<S: Sinks + Drop> Tracer<S> {
         }
     }
 
-    // Goes on to an event. Those up to it did nothing that shows: where what is shown begins or ends among them, that is
-    // written.
+    // Goes on to an event. Those up to it did nothing that shows; where what is shown begins or ends among them, that
+    // is written.
     fn pass_to<D: BlockDev, T: Translate>(&mut self, machine: &Machine<D, T>, last: u64) {
         let (from, to) = (self.wanted.from, self.wanted.to);
         if self.number() <= from && from <= last {
