@@ -1,11 +1,14 @@
 -- Instructions that are computed are a part of a run.
-use Rattle.live.proofs.Common.{◌≡◌, ◌∙◌, ◌<◌, ◌+◌, ℕ, Err, List, None, Ok, Option, Some, ap, arith, replicate, replicate_more}
-use Rattle.live.proofs.Common.{SoFar, Step, suc, sym, true, zero}
+use Rattle.live.proofs.Common.{◌≡◌, ◌∙◌, ◌<◌, ◌≤◌, ◌+◌, ◌++◌, ◌-◌, ◌∷◌, [], ℕ, Err, Event, List, None, Ok, Option}
+use Rattle.live.proofs.Common.{Result, Some, ap, arith, false, inl, inr, refl, replicate, replicate-append-replicate}
+use Rattle.live.proofs.Common.{replicate_more, runs_on, SoFar, Step, step-runs, subst, suc, sym, true, zero}
+use Rattle.calls.specs.declared.halt.Halt.{Halt}
+use Rattle.machine.specs.Gives.{RunGives, StepGives}
 use Rattle.calls.proofs.Pieces.{run-more}
 use Rattle.calls.specs.Computing.{Computes, after_steps, computes, computes_as, is_done}
 use Rattle.machine.specs.View.{IsUp, View}
 use Rattle.std.proofs.KnownBytes.{Appends-nil}
-use Rattle.std.specs.Prelude.{option_and_then}
+use Rattle.std.specs.Prelude.{Bool, option_and_then, ℤ, ◌⊎◌}
 use Rattle.unixmodel.specs.Calls.{After}
 use Rattle.unixmodel.specs.Meaning.{Effect}
 use Rattle.unixmodel.specs.Next.{acted, effect_of, execute, execute_at, next, step}
@@ -50,7 +53,7 @@ goes-all (suc n) s goes done =
 
 -- ---- a run
 
-pub computed : {old new : View} {most count : ℕ} {stops : List ℕ} {at : Option (List ℕ)} → IsUp old
+computed : {old new : View} {most count : ℕ} {stops : List ℕ} {at : Option (List ℕ)} → IsUp old
     → Computes old.state new.state stops most count → new ≡ record old { state = new.state }
     → SoFar old new (replicate count Step) at at
 computed {old} {new} {most} {count} {stops} {at} up c same = record {
@@ -64,3 +67,63 @@ computed {old} {new} {most} {count} {stops} {at} up c same = record {
     later = let e = ap (λ (v : View). v.failures) same in omega (arith, e);
   };
 }
+
+-- ---- what may have stopped before
+
+up-in : (m : View) (failed : Bool) (halted : Option ℤ) → m.failed ≡ failed → m.state.halted ≡ halted
+    → IsUp m ⊎ (IsUp m → ⊥)
+up-in m false None sound goes = inl (record { sound = sound; goes = goes })
+up-in m false (Some status) sound over = inr (λ up. let goes = up.goes in absurd cc)
+up-in m true halted failed over = inr (λ up. let sound = up.sound in absurd cc)
+
+-- that many instructions passed, or the machine had stopped
+abbrev pub Passed : View → View → ℕ → Option (List ℕ) → Type 0
+Passed old mid count at = SoFar old mid (replicate count Step) at at ⊎ ((count ≡ 0) × (mid ≡ old))
+
+module _ {old mid : View} {most count : ℕ} {stops : List ℕ}
+    (computes : IsUp old → Computes old.state mid.state stops most count)
+    (stopped : (IsUp old → ⊥) → (count ≡ 0) × (mid ≡ old)) where
+  pub passed : (at : Option (List ℕ)) → mid ≡ record old { state = mid.state } → Passed old mid count at
+  passed at same = elim (up-in old old.failed old.state.halted refl refl) [
+    | inl up ↦ inl (computed up (computes up) same)
+    | inr not ↦ inr (stopped not)
+  ]
+
+  pub passed-within : count ≤ most
+  passed-within = elim (up-in old old.failed old.state.halted refl refl) [
+    | inl up ↦ (computes up).within
+    | inr not ↦ let none = (stopped not).0 in omega (arith, none)
+  ]
+
+module _ {old mid : View} {count : ℕ} {at : Option (List ℕ)} where
+  -- all of them
+  pub passed-all : {most : ℕ} {rises : Type 0} → Passed old mid count at → count ≡ most → 0 < most
+      → RunGives old mid (replicate most Step) at at rises (Ok tt)
+  passed-all (inl h) same some = rw (← same) (h.began, h.done)
+  passed-all (inr none) same some = absurd (let zero = none.0 in omega (arith, zero, same, some))
+
+  -- what comes after them
+  passed-then : {new : View} {ys : List Event} {after : Option (List ℕ)} {rises : Type 0}
+      {r : Result (Unit {0}) Halt} → Passed old mid count at → RunGives mid new ys at after rises r
+      → RunGives old new (replicate count Step ++ ys) at after rises r
+  passed-then {new} {ys} {after} {rises} {r} (inl h) gives =
+      runs_on old mid new (replicate count Step) ys at at after rises rises r h (λ x. x) gives
+  passed-then {new} {ys} {after} {rises} {r} (inr none) gives =
+      rw none.0 (subst (λ (v : View). RunGives v new ys at after rises r) none.1 gives)
+
+  pub passed-one : {new : View} {after : Option (List ℕ)} {rises : Type 0} {r : Result (Unit {0}) Halt}
+      → Passed old mid count at → StepGives mid new (next mid.state Step) at after rises r
+      → RunGives old new (replicate (count + 1) Step) at after rises r
+  passed-one {new} {after} {rises} {r} h gives =
+      subst (λ (es : List Event). RunGives old new es at after rises r) (replicate_more count Step)
+      (passed-then h (step-runs mid new Step at after rises r gives))
+
+  pub passed-rest : {most : ℕ} {new : View} {after : Option (List ℕ)} {rises : Type 0}
+      {r : Result (Unit {0}) Halt} → Passed old mid count at → count ≤ most
+      → RunGives mid new (replicate (most - count) Step) at after rises r
+      → RunGives old new (replicate most Step) at after rises r
+  passed-rest {most} {new} {after} {rises} {r} h within gives =
+      let whole : count + (most - count) ≡ most = omega (arith, within) in
+      subst (λ n. RunGives old new (replicate n Step) at after rises r) whole
+      (subst (λ (es : List Event). RunGives old new es at after rises r)
+      (replicate-append-replicate count (most - count) Step) (passed-then h gives))

@@ -66,8 +66,8 @@ fn each<D: BlockDev, T: Translate, V: Watch, W: Out>(
 }
 
 /// The first of that many steps, as many as are done in one go where calls, faults and turns are seen: instructions up
-/// to a call or a fault and that, or a turn, or all where no process runs and none is ready. Returns how many they were,
-/// with the one at which the machine halted.
+/// to a call or a fault and that, or a turn, or all where no process runs and none is ready. Returns how many they
+/// were, with the one at which the machine halted.
 pub fn advance_seen<D: BlockDev, T: Translate, V: Watch, W: Out>(
     machine: &mut Machine<D, T>,
     most: u32,

@@ -64,7 +64,9 @@ impl Watch for Teller {
     }
 
     fn before<D: BlockDev, T: Translate>(&mut self, machine: &Machine<D, T>, event: Event) {
-        self.reporter.before(machine, event);
+        if self.reporter.sees_calls() {
+            self.reporter.before(machine, event);
+        }
     }
 
     fn after<D: BlockDev, T: Translate>(
@@ -73,7 +75,9 @@ impl Watch for Teller {
         _event: Event,
         ended: Result<(), Halt>,
     ) {
-        self.reporter.after(machine, ended);
+        if self.reporter.sees_calls() {
+            self.reporter.after(machine, ended);
+        }
     }
 
     fn passed<D: BlockDev, T: Translate>(&mut self, _machine: &Machine<D, T>, steps: u32) {

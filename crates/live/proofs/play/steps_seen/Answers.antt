@@ -1,5 +1,5 @@
 use Rattle.live.proofs.Common.{arith, replicate-append-replicate, err_from_is_err_and, Rises-later, so_far_at_first}
-use Rattle.live.proofs.Common.{up_now, ends_with, goes_on_by, Step, stops_in}
+use Rattle.live.proofs.Common.{ends_with, goes_on_by, Step, stops_in}
 use Rattle.live.proofs.EventLemmas.{batch-whole}
 use Rattle.live.proofs.play.steps_seen.Goals as goal
 
@@ -7,9 +7,7 @@ pub loop-done-init : goal.loop-done-init
 loop-done-init g c = record { so_far = so_far_at_first _ _ c.requires; later = omega arith; within = omega arith }
 
 pub advance_seen-more-requires : goal.advance_seen-more-requires
-advance_seen-more-requires g c =
-    let t = c.loop-done-test.true in
-    record { up = up_now _ _ _ _ _ c.loop-done.invariant.so_far; some = omega (arith, t) }
+advance_seen-more-requires g c = let t = c.loop-done-test.true in omega (arith, t)
 
 pub returns-in_err-ended-clause-gives : goal.returns-in_err-ended-clause-gives
 returns-in_err-ended-clause-gives g c =
