@@ -3,7 +3,7 @@ use Rattle.live.proofs.Common.{◌≡◌, ◌∙◌, ◌<◌, ◌≤◌, ◌+◌
 use Rattle.live.proofs.Common.{Result, Some, ap, arith, false, inl, inr, refl, replicate, replicate-append-replicate}
 use Rattle.live.proofs.Common.{replicate_more, runs_on, SoFar, Step, step-runs, subst, suc, sym, true, zero}
 use Rattle.calls.specs.declared.halt.Halt.{Halt}
-use Rattle.machine.specs.Gives.{RunGives, StepGives}
+use Rattle.machine.specs.Gives.{IsDone, RunGives, StepGives}
 use Rattle.calls.proofs.Pieces.{run-more}
 use Rattle.calls.specs.Computing.{Computes, after_steps, computes, computes_as, is_done}
 use Rattle.machine.specs.View.{IsUp, View}
@@ -49,7 +49,7 @@ goes-all (suc n) s goes done =
     ≡ after_bytes (run s (replicate n Step)).bytes (next (after_steps s n) Step) =
     ap (λ k. run s (replicate k Step)) last ∙ ap (run s) (sym (replicate_more n Step))
     ∙ run-more (replicate n Step) Step s goes before in
-    rw on (goes-one (after_steps s n) before (done n (omega arith)))
+    ap (λ (a : After). a.state.halted) on ∙ goes-one (after_steps s n) before (done n (omega arith))
 
 -- ---- a run
 
@@ -95,35 +95,39 @@ module _ {old mid : View} {most count : ℕ} {stops : List ℕ}
     | inr not ↦ let none = (stopped not).0 in omega (arith, none)
   ]
 
-module _ {old mid : View} {count : ℕ} {at : Option (List ℕ)} where
+module _ {old mid : View} {count : ℕ} {at : Option (List ℕ)} (h : Passed old mid count at) where
   -- all of them
-  pub passed-all : {most : ℕ} {rises : Type 0} → Passed old mid count at → count ≡ most → 0 < most
-      → RunGives old mid (replicate most Step) at at rises (Ok tt)
-  passed-all (inl h) same some = rw (← same) (h.began, h.done)
-  passed-all (inr none) same some = absurd (let zero = none.0 in omega (arith, zero, same, some))
+  pub passed-all : {most : ℕ} → count ≡ most → 0 < most
+      → IsUp old × IsDone old mid (run old.state (replicate most Step)) at at None
+  passed-all {most} same some = elim h [
+    | inl all ↦
+        subst (λ n. IsUp old × IsDone old mid (run old.state (replicate n Step)) at at None) same
+        (all.began, all.done)
+    | inr none ↦ absurd (let zero = none.0 in omega (arith, zero, same, some))
+  ]
 
-  -- what comes after them
-  passed-then : {new : View} {ys : List Event} {after : Option (List ℕ)} {rises : Type 0}
-      {r : Result (Unit {0}) Halt} → Passed old mid count at → RunGives mid new ys at after rises r
-      → RunGives old new (replicate count Step ++ ys) at after rises r
-  passed-then {new} {ys} {after} {rises} {r} (inl h) gives =
-      runs_on old mid new (replicate count Step) ys at at after rises rises r h (λ x. x) gives
-  passed-then {new} {ys} {after} {rises} {r} (inr none) gives =
-      rw none.0 (subst (λ (v : View). RunGives v new ys at after rises r) none.1 gives)
+  module _ (rises : Type 0) (new : View) (after : Option (List ℕ)) (r : Result (Unit {0}) Halt) where
+    -- what comes after them
+    passed-then : (ys : List Event) → RunGives mid new ys at after rises r
+        → RunGives old new (replicate count Step ++ ys) at after rises r
+    passed-then ys gives = elim h [
+      | inl all ↦ runs_on old mid new (replicate count Step) ys at at after rises rises r all (λ x. x) gives
+      | inr none ↦
+          subst (λ n. RunGives old new (replicate n Step ++ ys) at after rises r) (sym none.0)
+          (subst (λ (v : View). RunGives v new ys at after rises r) none.1 gives)
+    ]
 
-  pub passed-one : {new : View} {after : Option (List ℕ)} {rises : Type 0} {r : Result (Unit {0}) Halt}
-      → Passed old mid count at → StepGives mid new (next mid.state Step) at after rises r
-      → RunGives old new (replicate (count + 1) Step) at after rises r
-  passed-one {new} {after} {rises} {r} h gives =
-      subst (λ (es : List Event). RunGives old new es at after rises r) (replicate_more count Step)
-      (passed-then h (step-runs mid new Step at after rises r gives))
+    pub passed-one : StepGives mid new (next mid.state Step) at after rises r
+        → RunGives old new (replicate (count + 1) Step) at after rises r
+    passed-one gives =
+        subst (λ (es : List Event). RunGives old new es at after rises r) (replicate_more count Step)
+        (passed-then (Step ∷ []) (step-runs mid new Step at after rises r gives))
 
-  pub passed-rest : {most : ℕ} {new : View} {after : Option (List ℕ)} {rises : Type 0}
-      {r : Result (Unit {0}) Halt} → Passed old mid count at → count ≤ most
-      → RunGives mid new (replicate (most - count) Step) at after rises r
-      → RunGives old new (replicate most Step) at after rises r
-  passed-rest {most} {new} {after} {rises} {r} h within gives =
-      let whole : count + (most - count) ≡ most = omega (arith, within) in
-      subst (λ n. RunGives old new (replicate n Step) at after rises r) whole
-      (subst (λ (es : List Event). RunGives old new es at after rises r)
-      (replicate-append-replicate count (most - count) Step) (passed-then h gives))
+    pub passed-rest : {most : ℕ} → count ≤ most → RunGives mid new (replicate (most - count) Step) at after rises r
+        → RunGives old new (replicate most Step) at after rises r
+    passed-rest {most} within gives =
+        let whole : count + (most - count) ≡ most = omega (arith, within) in
+        subst (λ n. RunGives old new (replicate n Step) at after rises r) whole
+        (subst (λ (es : List Event). RunGives old new es at after rises r)
+        (replicate-append-replicate count (most - count) Step)
+        (passed-then (replicate (most - count) Step) gives))
